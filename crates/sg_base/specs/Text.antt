@@ -1,0 +1,10 @@
+-- Which bytes a text may have.
+use Rattle.std.specs.Prelude.{ℕ, Bool, ◌==◌, ◌&&◌, nat_le, not}
+
+-- printable ASCII without the double quote
+abbrev pub is_text_byte : ℕ → Bool
+is_text_byte b = nat_le 0x20 b && nat_le b 0x7E && not (b == 0x22)
+
+-- any other byte
+abbrev pub is_bad_byte : ℕ → Bool
+is_bad_byte b = not (is_text_byte b)

@@ -1,0 +1,26 @@
+//! The values that every other crate speaks of: numbers and texts, calls and replies, lists of them, and the points
+//! of a run at which a service may stop.
+//!
+//! - `memory`: want of memory (`NoMemory`), and copies that may want it (`TryCopy`)
+//! - `list`: the list (`ListOf`) and the names of its kinds; `room`: lists that grow without memory
+//! - `text`, `value`, `call`, `reply`: what a client hands over and what it gets back
+//! - `stops`: the points of a run (`Point`), and who says at which the service stops (`Stops`)
+#![tactic(auto)]
+
+mod call;
+mod list;
+mod memory;
+mod reply;
+mod room;
+mod stops;
+mod text;
+mod value;
+
+pub use call::Call;
+pub use list::{Args, Bytes, IdList, ListOf, PairList, Path, PointList, Words};
+pub use memory::{NoMemory, TryCopy};
+pub use reply::{Code, Good, Reply, ReplyRoom};
+pub use room::{ListRoom, RoomyList};
+pub use stops::{Point, Stops};
+pub use text::{Text, TextFault};
+pub use value::Value;

@@ -1,0 +1,79 @@
+// What a client gets back.
+ghost use Rattle.std.specs.Prelude.{◌≡◌, IfOk};
+ghost use Rattle.sg_base.specs.Reply.{FitsReplyRoom};
+
+use crate::{Bytes, ListRoom, NoMemory, TryCopy, Words};
+use std::alloc::Global;
+
+/// What a call that was done gives: a descriptor (0 for none), words and bytes.
+#[derive(Debug, Drop)]
+pub struct Good {
+    pub desc: u64,
+    pub words: Words,
+    pub bytes: Bytes,
+}
+
+/// The reply to a call.
+#[derive(Debug, Drop)]
+pub enum Reply {
+    Ok(Good),
+    Refused(Code),
+}
+
+/// Why a call was refused. The first five come from the guard, which looks at the tracked rows alone; the others
+/// from a service.
+#[derive(Clone, Copy, Debug, PartialEq, Eq)]
+pub enum Code {
+    /// No live descriptor has the id.
+    NoDesc = 1,
+    /// No live descriptor that may be the parent has the id.
+    NoParent = 2,
+    /// The function may not be called in the descriptor's state.
+    BadState = 3,
+    /// The descriptor has live children.
+    HasChildren = 4,
+    /// As many descriptors as may be are live.
+    Full = 5,
+    /// Another client owns the descriptor.
+    NotOwner = 6,
+    /// The descriptor is owned.
+    Held = 7,
+    /// The place is taken.
+    Occupied = 8,
+    /// Nothing was found.
+    NotFound = 9,
+    /// The count would pass its greatest number.
+    Overflow = 10,
+    /// The place is behind the end of the file.
+    Gap = 11,
+    /// The number of bytes, or the place, is above its limit.
+    TooBig = 12,
+    /// The name is empty, too long, or has a slash.
+    BadName = 13,
+}
+
+impl TryCopy for Good {
+    fn copy(&self, alloc: Global) -> Result<Self, NoMemory> {
+        Ok(Good {
+            desc: self.desc,
+            words: self.words.copy(alloc)?,
+            bytes: self.bytes.copy(alloc)?,
+        })
+    }
+}
+
+impl TryCopy for Reply {
+    fn copy(&self, alloc: Global) -> Result<Self, NoMemory> {
+        match self {
+            Reply::Ok(good) => Ok(Reply::Ok(good.copy(alloc)?)),
+            Reply::Refused(code) => Ok(Reply::Refused(*code)),
+        }
+    }
+}
+
+/// Room for a reply, taken ahead so that a copy needs no memory later.
+#[derive(Debug, Drop)]
+pub struct ReplyRoom {
+    words: ListRoom<u64>,
+    bytes: ListRoom<u8>,
+}
