@@ -1,1 +1,4 @@
+pub mod Reply
+pub mod Room
+pub mod Stops
 pub mod Text

@@ -1,11 +1,9 @@
 // What a client asks of a service.
-ghost use Rattle.std.specs.Prelude.{◌≡◌, IfOk};
-
 use crate::{Args, NoMemory, TryCopy};
 use std::alloc::Global;
 
 /// A call of one client.
-#[derive(Debug, Drop)]
+#[derive(Debug, PartialEq, Eq, Drop)]
 pub struct Call {
     /// The client, from 1 to 64.
     pub client: u8,

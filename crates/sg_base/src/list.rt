@@ -94,6 +94,15 @@ impl<E> ListOf<E> {
     }
 }
 
+impl<E> ListOf<E> {
+    // A list of what a vector has.
+    pub(crate) fn from_vec(items: Vec<E>) -> Self
+        ensures { result ≡ items.items }
+    {
+        ListOf { items }
+    }
+}
+
 impl<E: Copy> ListOf<E> {
     /// A list of these elements.
     pub fn from_slice(alloc: Global, items: &[E]) -> Result<Self, NoMemory>
@@ -102,6 +111,15 @@ impl<E: Copy> ListOf<E> {
         Ok(ListOf {
             items: Vec::from_slice(alloc, items)?,
         })
+    }
+
+    /// Adds these elements at the end. After `NoMemory` the list is as before.
+    pub fn extend_from_slice(&mut self, more: &[E]) -> Result<(), NoMemory>
+        ensures ok { OnOk result (self.new ≡ self.old ++ more.now) }
+        ensures err { OnErr result (self.new ≡ self.old) }
+    {
+        self.items.extend_from_slice(more)?;
+        Ok(())
     }
 }
 
@@ -113,4 +131,22 @@ impl<E: TryCopy + Drop> TryCopy for ListOf<E> {
         }
         Ok(ListOf { items })
     }
+}
+
+impl<E: PartialEq> PartialEq for ListOf<E> {
+    ghost use Rattle.std.specs.Cmp.Lexicographic.{pointwise, lists_per};
+
+    ghost eq = { λ x y. pointwise E.eq x y };
+
+    ghost laws = { lists_per E.laws };
+
+    fn eq(&self, other: &Self) -> bool {
+        self.items.as_slice() == other.items.as_slice()
+    }
+}
+
+impl<E: Eq> Eq for ListOf<E> {
+    ghost use Rattle.std.specs.Cmp.Lexicographic.{lists_equiv};
+
+    ghost laws = { lists_equiv E.Eq.laws };
 }

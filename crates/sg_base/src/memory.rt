@@ -40,3 +40,9 @@ impl TryCopy for u64 {
         Ok(*self)
     }
 }
+
+impl TryCopy for (u8, u8) {
+    fn copy(&self, _: Global) -> Result<Self, NoMemory> {
+        Ok(*self)
+    }
+}

@@ -1,12 +1,11 @@
 // What a client gets back.
-ghost use Rattle.std.specs.Prelude.{◌≡◌, IfOk};
-ghost use Rattle.sg_base.specs.Reply.{FitsReplyRoom};
+ghost use Rattle.std.specs.Prelude.{◌≡◌, ◌≤◌};
 
 use crate::{Bytes, ListRoom, NoMemory, TryCopy, Words};
 use std::alloc::Global;
 
 /// What a call that was done gives: a descriptor (0 for none), words and bytes.
-#[derive(Debug, Drop)]
+#[derive(Debug, PartialEq, Eq, Drop)]
 pub struct Good {
     pub desc: u64,
     pub words: Words,
@@ -14,7 +13,7 @@ pub struct Good {
 }
 
 /// The reply to a call.
-#[derive(Debug, Drop)]
+#[derive(Debug, PartialEq, Eq, Drop)]
 pub enum Reply {
     Ok(Good),
     Refused(Code),
@@ -71,9 +70,40 @@ impl TryCopy for Reply {
     }
 }
 
-/// Room for a reply, taken ahead so that a copy needs no memory later.
+/// Room for a reply of at most 4 words and 256 bytes, which is used up when the reply is made.
 #[derive(Debug, Drop)]
 pub struct ReplyRoom {
     words: ListRoom<u64>,
     bytes: ListRoom<u8>,
+    ghost words_fit: { 4 ≤ words },
+    ghost bytes_fit: { 256 ≤ bytes },
+}
+
+impl Reply {
+    /// Room for a reply, taken ahead so that a copy of it needs no memory later.
+    pub fn room(alloc: Global) -> Result<ReplyRoom, NoMemory> {
+        Ok(ReplyRoom {
+            words: ListRoom::new(alloc, 4)?,
+            bytes: ListRoom::new(alloc, 256)?,
+        })
+    }
+}
+
+impl ReplyRoom {
+    ghost use Rattle.sg_base.specs.Reply.{FitsReplyRoom};
+
+    /// An equal reply, without memory.
+    pub fn fill(self, from: &Reply) -> Reply
+        requires { FitsReplyRoom from.now }
+        ensures { result ≡ from.now }
+    {
+        match from {
+            Reply::Ok(good) => Reply::Ok(Good {
+                desc: good.desc,
+                words: self.words.fill(good.words.as_slice()),
+                bytes: self.bytes.fill(good.bytes.as_slice()),
+            }),
+            Reply::Refused(code) => Reply::Refused(*code),
+        }
+    }
 }

@@ -1,5 +1,6 @@
 // Printable texts.
-ghost use Rattle.std.specs.Prelude.{◌≡◌, ◌↔◌, ◌<◌, ◌≤◌, ℕ, length, position, IfOk, IsTrue, list_all};
+ghost use Rattle.std.specs.Prelude.{◌≡◌, ◌↔◌, ◌<◌, ◌≤◌, ℕ, length, position, IfOk, IsTrue};
+ghost use Rattle.std.specs.List.{list_all};
 ghost use Rattle.sg_base.specs.Text.{is_text_byte, is_bad_byte};
 
 use crate::{NoMemory, TryCopy};
@@ -54,7 +55,7 @@ impl Text {
         if bytes.len() > Text::MOST {
             return Err(TextFault::TooLong);
         }
-        if let Some(at) = bytes.iter().position(|byte| !is_text_byte(*byte)) {
+        if let Some(at) = first_bad_byte(bytes) {
             return Err(TextFault::BadByte { at });
         }
         match Vec::from_slice(alloc, bytes) {
@@ -79,6 +80,33 @@ impl TryCopy for Text {
             bytes: Vec::from_slice(alloc, &self.bytes)?,
         })
     }
+}
+
+impl PartialEq for Text {
+    ghost use Rattle.std.specs.Prelude.{nat_eq};
+    ghost use Rattle.std.specs.Cmp.{partial_equiv_from_equiv};
+    ghost use Rattle.std.specs.Cmp.Lexicographic.{pointwise, nat_list_eq_equiv};
+
+    ghost eq = { pointwise nat_eq };
+
+    ghost laws = { partial_equiv_from_equiv nat_list_eq_equiv };
+
+    fn eq(&self, other: &Self) -> bool {
+        self.bytes.as_slice() == other.bytes.as_slice()
+    }
+}
+
+impl Eq for Text {
+    ghost use Rattle.std.specs.Cmp.Lexicographic.{nat_list_eq_equiv};
+
+    ghost laws = { nat_list_eq_equiv };
+}
+
+// The place of the first byte that no text has.
+fn first_bad_byte(bytes: &[u8]) -> Option<usize>
+    ensures { result ≡ position is_bad_byte bytes.now }
+{
+    bytes.iter().position(|byte| !is_text_byte(*byte))
 }
 
 // Whether a text may have this byte.

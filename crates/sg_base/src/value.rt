@@ -3,7 +3,7 @@ use crate::{NoMemory, Text, TryCopy};
 use std::alloc::Global;
 
 /// An argument of a call or a field of a row: a number or a text.
-#[derive(Debug, Drop)]
+#[derive(Debug, PartialEq, Eq, Drop)]
 pub enum Value {
     Word(u64),
     Text(Text),
