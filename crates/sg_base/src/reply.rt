@@ -1,5 +1,5 @@
 // What a client gets back.
-ghost use Rattle.std.specs.Prelude.{◌≡◌, ◌≤◌};
+ghost use Rattle.std.specs.Prelude.{◌≡◌, ◌≤◌, IfOk};
 
 use crate::{Bytes, ListRoom, NoMemory, TryCopy, Words};
 use std::alloc::Global;
@@ -73,15 +73,18 @@ impl TryCopy for Reply {
 /// Room for a reply of at most 4 words and 256 bytes, which is used up when the reply is made.
 #[derive(Debug, Drop)]
 pub struct ReplyRoom {
-    words: ListRoom<u64>,
-    bytes: ListRoom<u8>,
+    pub words: ListRoom<u64>,
+    pub bytes: ListRoom<u8>,
     ghost words_fit: { 4 ≤ words },
     ghost bytes_fit: { 256 ≤ bytes },
 }
 
 impl Reply {
     /// Room for a reply, taken ahead so that a copy of it needs no memory later.
-    pub fn room(alloc: Global) -> Result<ReplyRoom, NoMemory> {
+    pub fn room(alloc: Global) -> Result<ReplyRoom, NoMemory>
+        ensures words { IfOk result (λ room. 4 ≤ room.words) }
+        ensures bytes { IfOk result (λ room. 256 ≤ room.bytes) }
+    {
         Ok(ReplyRoom {
             words: ListRoom::new(alloc, 4)?,
             bytes: ListRoom::new(alloc, 256)?,

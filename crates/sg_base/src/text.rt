@@ -3,7 +3,7 @@ ghost use Rattle.std.specs.Prelude.{◌≡◌, ◌↔◌, ◌<◌, ◌≤◌, �
 ghost use Rattle.std.specs.List.{list_all};
 ghost use Rattle.sg_base.specs.Text.{is_text_byte, is_bad_byte};
 
-use crate::{NoMemory, TryCopy};
+use crate::{Bytes, ListRoom, NoMemory, TryCopy};
 use std::alloc::Global;
 use std::marker::Model;
 use thiserror::Error;
@@ -11,7 +11,7 @@ use thiserror::Error;
 /// A text: at most 256 bytes of printable ASCII (0x20 to 0x7E) without the double quote. Contracts see its bytes.
 #[derive(Debug, Drop)]
 pub struct Text {
-    bytes: Vec<u8>,
+    bytes: Bytes,
 }
 
 /// Why bytes are no text.
@@ -35,9 +35,9 @@ impl Model for Text {
 
     ghost Value = { List ℕ };
 
-    ghost view = { λ t. t.bytes.items };
+    ghost view = { λ t. t.bytes };
 
-    ghost invariant = { λ t. (length t.bytes.items ≤ 256) × (list_all is_text_byte t.bytes.items ≡ true) };
+    ghost invariant = { λ t. (length t.bytes ≤ 256) × (list_all is_text_byte t.bytes ≡ true) };
 }
 
 impl Text {
@@ -58,10 +58,19 @@ impl Text {
         if let Some(at) = first_bad_byte(bytes) {
             return Err(TextFault::BadByte { at });
         }
-        match Vec::from_slice(alloc, bytes) {
+        match Bytes::from_slice(alloc, bytes) {
             Ok(bytes) => Ok(Text { bytes }),
             Err(_) => Err(TextFault::NoMemory),
         }
+    }
+
+    /// Room for any text, taken ahead so that a copy needs no memory later.
+    pub fn room(alloc: Global) -> Result<TextRoom, NoMemory>
+        ensures { IfOk result (λ room. 256 ≤ room.bytes) }
+    {
+        Ok(TextRoom {
+            bytes: ListRoom::new(alloc, Text::MOST)?,
+        })
     }
 
     /// The bytes, lent.
@@ -74,10 +83,28 @@ impl Text {
     }
 }
 
+/// Room for one text, which is used up when the text is made.
+#[derive(Debug, Drop)]
+pub struct TextRoom {
+    pub bytes: ListRoom<u8>,
+    ghost fits: { 256 ≤ bytes },
+}
+
+impl TextRoom {
+    /// An equal text, without memory.
+    pub fn fill(self, from: &Text) -> Text
+        ensures { result ≡ from.now }
+    {
+        Text {
+            bytes: self.bytes.fill(from.bytes()),
+        }
+    }
+}
+
 impl TryCopy for Text {
     fn copy(&self, alloc: Global) -> Result<Self, NoMemory> {
         Ok(Text {
-            bytes: Vec::from_slice(alloc, &self.bytes)?,
+            bytes: Bytes::from_slice(alloc, self.bytes.as_slice())?,
         })
     }
 }

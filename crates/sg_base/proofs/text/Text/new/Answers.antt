@@ -7,6 +7,6 @@ use Rattle.sg_base.proofs.text.Text.new.Goals as goal
 
 pub invariant_of-result : goal.invariant_of-result
 invariant_of-result c =
-    let bytes = c.in-Ok.ensures.items in
+    let bytes = c.in-Ok.ensures in
     let none = none_bad c.args.bytes.now (sym c.in_default.ensures) in
     (omega (arith, ap length bytes, c.if-bytes-gt-MOST.false), ap (list_all is_text_byte) bytes ∙ none)
