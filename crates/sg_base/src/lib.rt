@@ -13,6 +13,8 @@ mod memory;
 mod reply;
 mod room;
 mod stops;
+#[cfg(test)]
+mod tests;
 mod text;
 mod value;
 
