@@ -1,0 +1,131 @@
+-- The facts of a service as plain data, and what they say of each function.
+use Rattle.std.specs.Prelude.{ℕ, zero, suc, ◌==◌, Bool, true, false, ◌||◌, List, [], map, slice_get, unwrap_or}
+use Rattle.std.specs.List.{list_any}
+use Rattle.std.specs.Int.{bit_at}
+use Rattle.sg_facts.specs.declared.shape.Shape.{Shape}
+use Rattle.sg_facts.specs.declared.shape.FunShape.{FunShape}
+use Rattle.sg_facts.specs.declared.shape.FieldShape.{FieldShape}
+use Rattle.sg_facts.specs.declared.shape.Parents.{Parents}
+use Rattle.sg_facts.specs.declared.shape.Kind.{Kind}
+use Rattle.sg_facts.specs.declared.shape.Kind.TheVariants.{Desc, Parent}
+use Rattle.sg_facts.specs.declared.shape.Leaves.{Leaves}
+use Rattle.sg_facts.specs.declared.shape.Leaves.TheVariants.{Own, Same, Of}
+use Rattle.sg_facts.specs.declared.shape.Effect.{Effect}
+
+-- a function: its parameters after the caller, its flags, the state that it leaves, and what it does to the fields
+pub record Fun : Type 0 where
+  pub name : List ℕ
+  pub kinds : List Kind
+  pub creation : Bool
+  pub terminal : Bool
+  pub block : Bool
+  pub wakeup : Bool
+  pub query : Bool
+  pub all : Bool
+  pub uses_file : Bool
+  pub leaves : Leaves
+  pub effects : List (ℕ × Effect)
+
+-- a field: its name, and whether it is a text
+pub record Field : Type 0 where
+  pub name : List ℕ
+  pub text : Bool
+
+-- the facts of a service
+pub record Facts : Type 0 where
+  pub name : List ℕ
+  pub parents : Parents
+  pub subtree : Bool
+  pub global : Bool
+  pub block : Bool
+  pub has_data : Bool
+  pub resc_data : Bool
+  pub fields : List Field
+  pub funs : List Fun
+  pub moves : List (ℕ × ℕ)
+  pub steps : List (ℕ × ℕ)
+
+-- whether a sum of flags has the flag of a bit
+abbrev pub has_flag : ℕ → ℕ → Bool
+has_flag flags bit = bit_at flags bit == 1
+
+-- a function of a shape, as plain data
+abbrev pub fun_of_shape : FunShape → Fun
+fun_of_shape f = record {
+    name = f.name.now;
+    kinds = f.kinds.now;
+    creation = has_flag f.flags 0;
+    terminal = has_flag f.flags 1;
+    block = has_flag f.flags 2;
+    wakeup = has_flag f.flags 3;
+    query = has_flag f.flags 4;
+    all = has_flag f.flags 5;
+    uses_file = has_flag f.flags 6;
+    leaves = f.leaves;
+    effects = map (λ p. (p.0, p.1)) f.effects.now;
+  }
+
+-- a shape, as plain data
+abbrev pub facts_of : Shape → Facts
+facts_of s = record {
+    name = s.name.now;
+    parents = s.parents;
+    subtree = s.subtree;
+    global = s.global;
+    block = s.block;
+    has_data = s.has_data;
+    resc_data = s.resc_data;
+    fields = map (λ f. record { name = f.name.now; text = f.text }) s.fields.now;
+    funs = map fun_of_shape s.funs.now;
+    moves = map (λ p. (p.0, p.1)) s.moves.now;
+    steps = map (λ p. (p.0, p.1)) s.steps.now;
+  }
+
+-- a function without parameters and effects, which stands where a number names none
+abbrev pub no_fun : Fun
+no_fun = record {
+    name = [];
+    kinds = [];
+    creation = false;
+    terminal = false;
+    block = false;
+    wakeup = false;
+    query = false;
+    all = false;
+    uses_file = false;
+    leaves = Own;
+    effects = [];
+  }
+
+-- the function of a number, from 1
+abbrev pub fun_at : List Fun → ℕ → Fun
+fun_at funs zero = no_fun
+fun_at funs (suc n) = unwrap_or (slice_get funs n) no_fun
+
+abbrev pub is_desc : Kind → Bool
+is_desc Desc = true
+is_desc _ = false
+
+abbrev pub is_parent : Kind → Bool
+is_parent Parent = true
+is_parent _ = false
+
+-- whether a function is called on a descriptor, or takes a parent
+abbrev pub takes_desc : Fun → Bool
+takes_desc f = list_any is_desc f.kinds
+
+abbrev pub takes_parent : Fun → Bool
+takes_parent f = list_any is_parent f.kinds
+
+-- the state after a function that is called in a state
+abbrev pub left_by : Leaves → ℕ → ℕ → ℕ
+left_by Own fun state = fun
+left_by Same fun state = state
+left_by (Of other) fun state = other
+
+abbrev pub state_after : Facts → ℕ → ℕ → ℕ
+state_after facts fun state = left_by (fun_at facts.funs fun).leaves fun state
+
+-- whether a call of the function is visible to other clients before it returns
+abbrev pub is_visible : Facts → ℕ → Bool
+is_visible facts fun = facts.global || (fun_at facts.funs fun).uses_file || (fun_at facts.funs fun).creation

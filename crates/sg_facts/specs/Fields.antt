@@ -1,0 +1,20 @@
+-- Which fields of a row are set.
+use Rattle.std.specs.Prelude.{ℕ, zero, suc, ◌+◌, ◌*◌, Bool, true, false, if◌then◌else◌, List, [], ◌∷◌, map}
+use Rattle.sg_base.specs.declared.value.Value.{Value}
+use Rattle.sg_base.specs.declared.value.Value.TheVariants.{Word, Text}
+
+-- a value that isn't 0 or empty
+abbrev pub is_set : Value → Bool
+is_set (Word zero) = false
+is_set (Word (suc n)) = true
+is_set (Text []) = false
+is_set (Text (b ∷ bs)) = true
+
+-- a set of fields as a number: bit i for field i
+abbrev pub number_of : List Bool → ℕ
+number_of [] = 0
+number_of (b ∷ bs) = (if b then 1 else 0) + 2 * number_of bs
+
+-- the fields that are set, as a number
+abbrev pub mask_of : List Value → ℕ
+mask_of fields = number_of (map is_set fields)

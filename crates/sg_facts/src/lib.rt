@@ -1,0 +1,27 @@
+//! What a service is: the finite facts of its interface, its rows, and the trait that every service meets.
+//!
+//! - `shape`: the facts of a service (`Shape`, `FunShape`, `FieldShape`, `Effect` and their parts)
+//! - `interface`: what an interface declares of a shape (`Interface`)
+//! - `row`: a tracked descriptor (`Row`, `Fields`)
+//! - `entry`: a call with its reply (`Entry`)
+//! - `outcome`: what asking a service gives (`Outcome`, `Patch`)
+//! - `service`: the trait `Service`
+//!
+//! The definitions that contracts cite stand in `specs/`: the tracked rows (`Track`), the object (`Object`), the guard
+//! (`Guard`), legal histories (`Legal`), needs (`Needs`), walks (`Walks`), interfaces that fit (`Fits`), sound objects
+//! (`Sound`), what asking does (`Invoke`) and the laws of a service (`Laws`).
+#![tactic(auto)]
+
+mod entry;
+mod interface;
+mod outcome;
+mod row;
+//mod service;
+mod shape;
+
+pub use entry::Entry;
+pub use interface::Interface;
+pub use outcome::{Outcome, Patch};
+pub use row::{Fields, Row};
+//pub use service::Service;
+pub use shape::{Effect, FieldShape, FunShape, Kind, Leaves, Parents, Shape};

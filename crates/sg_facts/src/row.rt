@@ -1,0 +1,150 @@
+// A tracked descriptor.
+ghost use Rattle.std.specs.Prelude.{◌≡◌, ◌↔◌, ◌^◌, ◌<◌, ◌≤◌, [], ◌∷◌, ◌++◌, length, take, IsTrue, IfSome, IfNone, OnOk, OnErr, slice_get};
+ghost use Rattle.std.specs.Option.{option_copied};
+ghost use Rattle.sg_facts.specs.Fields.{is_set, mask_of};
+
+use sg_base::{ListOf, NoMemory, TryCopy, Value};
+use std::alloc::Global;
+use std::marker::Model;
+
+/// The fields of a row, by their numbers from 0. Contracts see the list of their values.
+#[derive(Debug, PartialEq, Eq, Drop)]
+pub struct Fields {
+    values: ListOf<Value>,
+}
+
+impl Model for Fields {
+    ghost use Rattle.std.specs.Prelude.{List};
+    ghost use Rattle.sg_base.specs.declared.value.Value.{Value as FieldValue};
+
+    ghost Value = { List FieldValue };
+
+    ghost view = { λ f. f.values };
+
+    ghost inverse = { λ values. record { values = values } };
+}
+
+impl Fields {
+    /// No field. It takes no memory.
+    pub fn new(alloc: Global) -> Fields
+        ensures { result ≡ [] }
+    {
+        Fields {
+            values: ListOf::new(alloc),
+        }
+    }
+
+    /// Adds a field. After `NoMemory` the fields are as before.
+    pub fn push(&mut self, value: Value) -> Result<(), NoMemory>
+        ensures ok { OnOk result (self.new ≡ self.old ++ value ∷ []) }
+        ensures err { OnErr result (self.new ≡ self.old) }
+    {
+        self.values.push(value)
+    }
+
+    /// Takes the last field away; None exactly where there is none.
+    pub fn pop(&mut self) -> Option<Value>
+        ensures some { IfSome result (λ last. self.old ≡ self.new ++ last ∷ []) }
+        ensures none { (result ≡ None) ↔ (self.old ≡ []) }
+        ensures empty { IfNone result (self.new ≡ []) }
+    {
+        self.values.pop()
+    }
+
+    /// The number of fields.
+    pub fn len(&self) -> usize
+        ensures { result ≡ length self.now }
+    {
+        self.values.len()
+    }
+
+    /// Whether there is no field.
+    pub fn is_empty(&self) -> bool
+        ensures { IsTrue result ↔ (self.now ≡ []) }
+    {
+        self.values.is_empty()
+    }
+
+    /// The field of a number; None exactly where there is none.
+    pub fn get(&self, at: usize) -> Option<&Value>
+        ensures { option_copied result ≡ slice_get self.now at }
+    {
+        self.values.get(at)
+    }
+
+    /// The fields, lent.
+    pub fn as_slice(&self) -> &[Value]
+        ensures { result.now ≡ self.now }
+    {
+        self.values.as_slice()
+    }
+}
+
+impl TryCopy for Fields {
+    fn copy(&self, alloc: Global) -> Result<Self, NoMemory> {
+        Ok(Fields {
+            values: self.values.copy(alloc)?,
+        })
+    }
+}
+
+/// A tracked descriptor.
+#[derive(Debug, PartialEq, Eq, Drop)]
+pub struct Row {
+    /// Its id, from 1.
+    pub id: u64,
+    /// The creation function that made it.
+    pub made: u8,
+    /// The client that made it.
+    pub creator: u8,
+    /// The id of its parent, 0 for none.
+    pub parent: u64,
+    /// The function that names its state.
+    pub state: u8,
+    pub fields: Fields,
+}
+
+impl Row {
+    /// Which fields aren't 0 or empty: bit i for field i, of the first eight.
+    pub fn mask(&self) -> u8
+        ensures { result ≡ mask_of (take 8 self.now.fields) }
+    {
+        let values = self.fields.as_slice();
+        mask_of(&values[..values.len().min(8)])
+    }
+}
+
+// The set values as a number: bit i for value i.
+fn mask_of(values: &[Value]) -> u8
+    requires { length values.now ≤ 8 }
+    ensures value { result ≡ mask_of values.now }
+    ensures bound { result < 2 ^ length values.now }
+{
+    match values {
+        [] => 0,
+        [value, rest @ ..] => u8::from(is_set(value)) + 2 * mask_of(rest),
+    }
+}
+
+// Whether a value isn't 0 or empty.
+fn is_set(value: &Value) -> bool
+    ensures { result ≡ is_set value.now }
+{
+    match value {
+        Value::Word(word) => *word != 0,
+        Value::Text(text) => !text.bytes().is_empty(),
+    }
+}
+
+impl TryCopy for Row {
+    fn copy(&self, alloc: Global) -> Result<Self, NoMemory> {
+        Ok(Row {
+            fields: self.fields.copy(alloc)?,
+            id: self.id,
+            made: self.made,
+            creator: self.creator,
+            parent: self.parent,
+            state: self.state,
+        })
+    }
+}

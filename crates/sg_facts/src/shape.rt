@@ -1,0 +1,116 @@
+// The finite facts of a service.
+
+/// Which parents a descriptor may have.
+#[derive(Clone, Copy, Debug, PartialEq, Eq)]
+pub enum Parents {
+    /// None.
+    Never,
+    /// A descriptor of the same client, or none: it is a root then.
+    Same,
+    /// A descriptor of any client.
+    Cross,
+}
+
+/// What a parameter after the caller is.
+#[derive(Clone, Copy, Debug, PartialEq, Eq)]
+pub enum Kind {
+    /// The descriptor that the function is called on.
+    Desc,
+    /// The parent of the descriptor that the function makes.
+    Parent,
+    /// A number.
+    Word,
+    /// A text.
+    Text,
+}
+
+/// The state that an Ok of a function leaves. States are named by functions.
+#[derive(Clone, Copy, Debug, PartialEq, Eq)]
+pub enum Leaves {
+    /// The function's own; also of a terminal function and of a query, which leave none.
+    Own,
+    /// The one before the call.
+    Same,
+    /// That of another function.
+    Of(u8),
+}
+
+/// What an Ok of a function does to a field.
+#[derive(Clone, Copy, Debug, PartialEq, Eq)]
+pub enum Effect {
+    /// Sets it to the caller.
+    SetCaller,
+    /// Sets it to an argument. The arguments of a call count from 0; its descriptor or parent is none of them.
+    SetArg(u8),
+    /// Adds an argument.
+    AddArg(u8),
+    /// Sets it to the first word of the reply.
+    SetRet,
+    /// Adds the first word of the reply.
+    AddRet,
+    /// Sets it to 0, or to the empty text.
+    Clear,
+    /// Subtracts one.
+    SubOne,
+}
+
+/// A field of a service's rows.
+#[derive(Clone, Copy, Debug)]
+pub struct FieldShape {
+    pub name: &'static [u8],
+    /// Whether it is a text; else it is a word.
+    pub text: bool,
+}
+
+/// A function of a service.
+#[derive(Clone, Copy, Debug)]
+pub struct FunShape {
+    pub name: &'static [u8],
+    /// The parameters after the caller.
+    pub kinds: &'static [Kind],
+    /// The sum of the flags that it has: `CREATION` to `DATA`.
+    pub flags: u8,
+    pub leaves: Leaves,
+    /// What an Ok does to each field, by field numbers from 0, ascending. A field without a pair stays.
+    pub effects: &'static [(u8, Effect)],
+}
+
+impl FunShape {
+    /// It makes a descriptor.
+    pub const CREATION: u8 = 1;
+    /// It ends its descriptor.
+    pub const TERMINAL: u8 = 2;
+    /// It may block.
+    pub const BLOCK: u8 = 4;
+    /// Its Ok wakes those who are blocked on its descriptor.
+    pub const WAKEUP: u8 = 8;
+    /// It changes no descriptor.
+    pub const QUERY: u8 = 16;
+    /// It looks at all live rows.
+    pub const ALL: u8 = 32;
+    /// It reads or writes the file of its descriptor.
+    pub const DATA: u8 = 64;
+}
+
+/// The facts of a service. Functions are numbered from 1 in the order of `funs`, fields from 0 in that of `fields`.
+#[derive(Clone, Copy, Debug)]
+pub struct Shape {
+    pub name: &'static [u8],
+    pub parents: Parents,
+    /// Whether a terminal function takes the descendants along; else it is refused while there are children.
+    pub subtree: bool,
+    /// Whether every client may use every descriptor; else each client uses those that it made.
+    pub global: bool,
+    /// Whether some function may block.
+    pub block: bool,
+    /// Whether rows have fields.
+    pub has_data: bool,
+    /// Whether descriptors have files.
+    pub resc_data: bool,
+    pub fields: &'static [FieldShape],
+    pub funs: &'static [FunShape],
+    /// The pairs of a state and a function that may be called in it.
+    pub moves: &'static [(u8, u8)],
+    /// The pairs of a state and a function that may be replayed in it.
+    pub steps: &'static [(u8, u8)],
+}
