@@ -4,7 +4,6 @@ use Rattle.std.specs.List.{list_any}
 use Rattle.std.specs.Int.{bit_at}
 use Rattle.sg_facts.specs.declared.shape.Shape.{Shape}
 use Rattle.sg_facts.specs.declared.shape.FunShape.{FunShape}
-use Rattle.sg_facts.specs.declared.shape.FieldShape.{FieldShape}
 use Rattle.sg_facts.specs.declared.shape.Parents.{Parents}
 use Rattle.sg_facts.specs.declared.shape.Kind.{Kind}
 use Rattle.sg_facts.specs.declared.shape.Kind.TheVariants.{Desc, Parent}
@@ -52,50 +51,50 @@ has_flag flags bit = bit_at flags bit == 1
 -- a function of a shape, as plain data
 abbrev pub fun_of_shape : FunShape → Fun
 fun_of_shape f = record {
-    name = f.name.now;
-    kinds = f.kinds.now;
-    creation = has_flag f.flags 0;
-    terminal = has_flag f.flags 1;
-    block = has_flag f.flags 2;
-    wakeup = has_flag f.flags 3;
-    query = has_flag f.flags 4;
-    all = has_flag f.flags 5;
-    uses_file = has_flag f.flags 6;
-    leaves = f.leaves;
-    effects = map (λ p. (p.0, p.1)) f.effects.now;
-  }
+  name = f.name.now;
+  kinds = f.kinds.now;
+  creation = has_flag f.flags 0;
+  terminal = has_flag f.flags 1;
+  block = has_flag f.flags 2;
+  wakeup = has_flag f.flags 3;
+  query = has_flag f.flags 4;
+  all = has_flag f.flags 5;
+  uses_file = has_flag f.flags 6;
+  leaves = f.leaves;
+  effects = map (λ p. (p.0, p.1)) f.effects.now;
+}
 
 -- a shape, as plain data
 abbrev pub facts_of : Shape → Facts
 facts_of s = record {
-    name = s.name.now;
-    parents = s.parents;
-    subtree = s.subtree;
-    global = s.global;
-    block = s.block;
-    has_data = s.has_data;
-    resc_data = s.resc_data;
-    fields = map (λ f. record { name = f.name.now; text = f.text }) s.fields.now;
-    funs = map fun_of_shape s.funs.now;
-    moves = map (λ p. (p.0, p.1)) s.moves.now;
-    steps = map (λ p. (p.0, p.1)) s.steps.now;
-  }
+  name = s.name.now;
+  parents = s.parents;
+  subtree = s.subtree;
+  global = s.global;
+  block = s.block;
+  has_data = s.has_data;
+  resc_data = s.resc_data;
+  fields = map (λ f. record { name = f.name.now; text = f.text }) s.fields.now;
+  funs = map fun_of_shape s.funs.now;
+  moves = map (λ p. (p.0, p.1)) s.moves.now;
+  steps = map (λ p. (p.0, p.1)) s.steps.now;
+}
 
 -- a function without parameters and effects, which stands where a number names none
 abbrev pub no_fun : Fun
 no_fun = record {
-    name = [];
-    kinds = [];
-    creation = false;
-    terminal = false;
-    block = false;
-    wakeup = false;
-    query = false;
-    all = false;
-    uses_file = false;
-    leaves = Own;
-    effects = [];
-  }
+  name = [];
+  kinds = [];
+  creation = false;
+  terminal = false;
+  block = false;
+  wakeup = false;
+  query = false;
+  all = false;
+  uses_file = false;
+  leaves = Own;
+  effects = [];
+}
 
 -- the function of a number, from 1
 abbrev pub fun_at : List Fun → ℕ → Fun

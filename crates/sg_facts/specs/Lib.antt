@@ -1,3 +1,17 @@
+pub mod Alike
+pub mod Allowed
+pub mod Counted
 pub mod Facts
 pub mod Fields
+pub mod Fits
+pub mod Guard
 pub mod Interface
+pub mod Invoke
+pub mod Kinds
+pub mod Laws
+pub mod Legal
+pub mod Needs
+pub mod Object
+pub mod Sound
+pub mod Track
+pub mod Walks

@@ -11,7 +11,7 @@ use Rattle.sg_base.specs.declared.reply.Reply.TheVariants.{Ok, Refused}
 use Rattle.sg_facts.specs.declared.row.Row.{Row}
 use Rattle.sg_facts.specs.declared.shape.Effect.{Effect}
 use Rattle.sg_facts.specs.declared.shape.Effect.TheVariants.{SetCaller, SetArg, AddArg, SetRet, AddRet, Clear, SubOne}
-use Rattle.sg_facts.specs.Facts.{Facts, Field, Fun, fun_at, takes_parent, state_after}
+use Rattle.sg_facts.specs.Facts.{Facts, Field, fun_at, takes_parent, state_after}
 
 -- ---- look-ups
 
@@ -96,24 +96,24 @@ empty_field f = if f.text then Text [] else Word 0
 -- the row that a creation makes
 abbrev pub new_row : Facts → Call → Good → Row
 new_row facts call good = record {
-    id = good.desc;
-    made = call.fun;
-    creator = call.client;
-    parent = if takes_parent (fun_at facts.funs call.fun) then call.desc else 0;
-    state = state_after facts call.fun call.fun;
-    fields = fields_after call good (fun_at facts.funs call.fun).effects (map empty_field facts.fields);
-  }
+  id = good.desc;
+  made = call.fun;
+  creator = call.client;
+  parent = if takes_parent (fun_at facts.funs call.fun) then call.desc else 0;
+  state = state_after facts call.fun call.fun;
+  fields = fields_after call good (fun_at facts.funs call.fun).effects (map empty_field facts.fields);
+}
 
 -- its row after a call of a function that neither makes nor ends it
 abbrev pub row_after : Facts → Call → Good → Row → Row
 row_after facts call good r = record r {
-    state = state_after facts call.fun r.state;
-    fields = fields_after call good (fun_at facts.funs call.fun).effects r.fields;
-  }
+  state = state_after facts call.fun r.state;
+  fields = fields_after call good (fun_at facts.funs call.fun).effects r.fields;
+}
 
--- whether the end of a descriptor takes a row along
-abbrev pub goes_with : Facts → List Row → ℕ → Row → Bool
-goes_with facts rows id r = (r.id == id) || (facts.subtree && is_ancestor rows id r.id)
+-- whether the end of a descriptor ends another: its own, and under subtree those below it
+abbrev pub ends_with : Facts → List Row → ℕ → ℕ → Bool
+ends_with facts rows id other = (other == id) || (facts.subtree && is_ancestor rows id other)
 
 -- the rows after an Ok: a query leaves them, a creation adds one, a terminal function removes its own (and under
 -- subtree all below it), any other function changes its own
@@ -122,7 +122,7 @@ rows_after facts rows call good =
     let f = fun_at facts.funs call.fun in
     if f.query then rows
     else if f.creation then rows ++ new_row facts call good ∷ []
-    else if f.terminal then filter (λ r. not (goes_with facts rows call.desc r)) rows
+    else if f.terminal then filter (λ r. not (ends_with facts rows call.desc r.id)) rows
     else map (λ r. if r.id == call.desc then row_after facts call good r else r) rows
 
 -- the rows after an answered call; a refusal leaves them

@@ -16,12 +16,12 @@ mod entry;
 mod interface;
 mod outcome;
 mod row;
-//mod service;
+mod service;
 mod shape;
 
 pub use entry::Entry;
 pub use interface::Interface;
 pub use outcome::{Outcome, Patch};
 pub use row::{Fields, Row};
-//pub use service::Service;
+pub use service::Service;
 pub use shape::{Effect, FieldShape, FunShape, Kind, Leaves, Parents, Shape};

@@ -1,0 +1,97 @@
+-- What every shape keeps to.
+use Rattle.std.specs.Prelude.{ℕ, zero, suc, ◌+◌, ◌==◌, Bool, true, false, ◌&&◌, ◌||◌, not, List, [], ◌∷◌, None, Some, length, count_by, slice_get}
+use Rattle.std.specs.declared.option.Option.{Option}
+use Rattle.std.specs.List.{list_any, list_all}
+use Rattle.sg_base.specs.declared.reply.Code.{Code}
+use Rattle.sg_base.specs.declared.reply.Code.TheVariants.{NoDesc, NoParent, BadState, HasChildren, Full}
+use Rattle.sg_facts.specs.declared.shape.Kind.{Kind}
+use Rattle.sg_facts.specs.declared.shape.Kind.TheVariants.{Desc, Parent}
+use Rattle.sg_facts.specs.declared.shape.Leaves.{Leaves}
+use Rattle.sg_facts.specs.declared.shape.Leaves.TheVariants.{Own, Same, Of}
+use Rattle.sg_facts.specs.declared.shape.Parents.{Parents}
+use Rattle.sg_facts.specs.declared.shape.Parents.TheVariants.{Never, Same as SameClient, Cross}
+use Rattle.sg_facts.specs.declared.shape.Effect.{Effect}
+use Rattle.sg_facts.specs.Facts.{Facts, Field, Fun, fun_at, takes_desc, takes_parent}
+use Rattle.sg_facts.specs.Counted.{takes_word}
+use Rattle.sg_facts.specs.Walks.{carries_arg}
+
+abbrev pub is_cross : Parents → Bool
+is_cross Cross = true
+is_cross Never = false
+is_cross SameClient = false
+
+-- one test implies another
+abbrev pub implies : Bool → Bool → Bool
+implies a b = not a || b
+
+-- a private service has no parents of other clients, and no function that looks at all rows
+abbrev pub keeps_private : Facts → Bool
+keeps_private facts = implies (not facts.global) (not (is_cross facts.parents) && list_all (λ f. not f.all) facts.funs)
+
+abbrev pub text_in : Option Field → Bool
+text_in None = false
+text_in (Some f) = f.text
+
+-- whether the field of a number is a text
+abbrev pub is_text_field : List Field → ℕ → Bool
+is_text_field fields x = text_in (slice_get fields x)
+
+abbrev pub is_own_state : Leaves → Bool
+is_own_state Own = true
+is_own_state _ = false
+
+-- the function whose state another leaves leaves its own
+abbrev pub leaves_own : List Fun → Leaves → Bool
+leaves_own funs Own = true
+leaves_own funs Same = true
+leaves_own funs (Of other) = is_own_state (fun_at funs other).leaves
+
+-- the number of arguments beside descriptor and parent
+abbrev pub count_args : List Kind → ℕ
+count_args [] = 0
+count_args (Desc ∷ kinds) = count_args kinds
+count_args (Parent ∷ kinds) = count_args kinds
+count_args (_ ∷ kinds) = 1 + count_args kinds
+
+-- each of so many arguments goes into one field
+abbrev pub each_arg : List (ℕ × Effect) → ℕ → Bool
+each_arg effects zero = true
+each_arg effects (suc k) = (count_by (λ e. carries_arg k e.1) effects == 1) && each_arg effects k
+
+-- a function keeps to this: a query takes neither descriptor nor parent; one that uses a file has a descriptor, in a
+-- service with files; only a creation sets a text; one that may block neither makes nor ends a descriptor
+abbrev pub keeps_to : Facts → Fun → Bool
+keeps_to facts f =
+    implies f.query (not (takes_desc f) && not (takes_parent f))
+    && implies f.uses_file (facts.resc_data && takes_desc f)
+    && (f.creation || list_all (λ e. not (is_text_field facts.fields e.0)) f.effects)
+    && implies f.block (not f.creation && not f.terminal)
+    && leaves_own facts.funs f.leaves
+
+-- a function is replayed: it makes a descriptor, or is a recover step
+abbrev pub is_replayed : Facts → ℕ → Bool
+is_replayed facts fun = (fun_at facts.funs fun).creation || list_any (λ s. s.1 == fun) facts.steps
+
+-- the replayed functions among so many carry each argument into one field
+abbrev pub replays_all : Facts → ℕ → Bool
+replays_all facts zero = true
+replays_all facts (suc n) =
+    implies (is_replayed facts (suc n)) (each_arg (fun_at facts.funs (suc n)).effects (count_args (fun_at facts.funs (suc n)).kinds))
+    && replays_all facts n
+
+-- what a shape keeps to
+abbrev pub is_allowed : Facts → Bool
+is_allowed facts = keeps_private facts && list_all (keeps_to facts) facts.funs && replays_all facts (length facts.funs)
+
+-- whether a code is one of the guard's
+abbrev pub is_guards : Code → Bool
+is_guards NoDesc = true
+is_guards NoParent = true
+is_guards BadState = true
+is_guards HasChildren = true
+is_guards Full = true
+is_guards _ = false
+
+-- whether a function takes a returned word into a field
+abbrev pub wants_word : Fun → Bool
+wants_word f = list_any (λ e. takes_word e.1) f.effects

@@ -1,0 +1,33 @@
+-- Legal histories: those of a service that never failed.
+use Rattle.std.specs.Prelude.{◌≡◌, List, [], ◌∷◌, ◌++◌, None, Some}
+use Rattle.std.specs.declared.option.Option.{Option}
+use Rattle.sg_base.specs.declared.call.Call.{Call}
+use Rattle.sg_base.specs.declared.reply.Code.{Code}
+use Rattle.sg_base.specs.declared.reply.Reply.{Reply}
+use Rattle.sg_base.specs.declared.reply.Reply.TheVariants.{Refused}
+use Rattle.sg_facts.specs.declared.entry.Entry.{Entry}
+use Rattle.sg_facts.specs.Interface.{Declared}
+use Rattle.sg_facts.specs.Object.{Object, after, object_of}
+use Rattle.sg_facts.specs.Guard.{guard}
+
+-- a service's table: what it answers a call at an object, None where the caller has to wait
+abbrev pub Table : Type 0
+Table = Object → Call → Option Reply
+
+abbrev pub refused_or : Option Code → Option Reply → Option Reply
+refused_or (Some code) asked = Some (Refused code)
+refused_or None asked = asked
+
+-- the guard's refusal where there is one, else the service's answer
+abbrev pub answer : Declared → Table → Object → Call → Option Reply
+answer i ask o call = refused_or (guard i o call) (ask o call)
+
+-- a history is legal: the reply at each place is the answer at the object of the entries before it
+abbrev pub IsLegal : Declared → Table → List Entry → Type 0
+IsLegal i ask history = (before : List Entry) (e : Entry) (rest : List Entry) → history ≡ before ++ e ∷ rest
+    → answer i ask (object_of i.facts before) e.call ≡ Some e.reply
+
+-- the same from the front on, from an object
+abbrev pub LegalFrom : Declared → Table → Object → List Entry → Type 0
+LegalFrom i ask o [] = Unit {0}
+LegalFrom i ask o (e ∷ history) = (answer i ask o e.call ≡ Some e.reply) × LegalFrom i ask (after i.facts o e.call e.reply) history

@@ -1,0 +1,10 @@
+-- The others stay in their order.
+use Rattle.std.proofs.Common.{sym, subst}
+use Rattle.sg_slots.specs.Slots.{AreIds}
+use Rattle.sg_slots.proofs.Ids.{ids_without}
+use Rattle.sg_slots.proofs.decision.remove.Goals as goal
+
+pub invariant_of-slots : goal.invariant_of-slots
+invariant_of-slots g c =
+    let s = c.slots.inside in
+    subst (AreIds 0 s.given) (sym c.shift_remove.ensures.entries) (ids_without 0 s.given c.args.id s.entries.entries c.slots.invariant)

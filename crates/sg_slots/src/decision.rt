@@ -1,0 +1,194 @@
+// What a service decides, and how it is done.
+ghost use Rattle.std.specs.Prelude.{◌≡◌, ◌<◌, ◌^◌, ℕ, nat_eq, None, IfOk, IsSome};
+ghost use Rattle.std.specs.Map.{lookup};
+ghost use Rattle.indexmap.specs.IndexMap.{spare};
+ghost use Rattle.sg_slots.specs.declared.decision.Decision.TheVariants.{Make, Set, Remove};
+ghost use Rattle.sg_slots.specs.Slots.{entry_at, set_entry};
+ghost use Rattle.sg_slots.specs.Carry.{Carries, AnswersOnly, IsAbout, words_of, ok_with};
+
+use crate::Slots;
+use indexmap::IndexMap;
+use sg_base::{Bytes, Code, Good, NoMemory, Point, Reply, Stops, Words};
+use sg_facts::Outcome;
+use std::alloc::Global;
+
+/// What a service decides to do with a call.
+#[derive(Debug, Drop)]
+pub enum Decision<E> {
+    /// Refuse it.
+    Refuse(Code),
+    /// Let the caller wait.
+    Block,
+    /// Make a descriptor with this entry, in two parts, and answer its id and the word.
+    Make { entry: E, word: Option<u64> },
+    /// Set the descriptor's entry, in one part, and answer the word.
+    Set { entry: E, word: Option<u64> },
+    /// Answer a descriptor and the word, and change nothing.
+    Keep { desc: u64, word: Option<u64> },
+    /// End the descriptor, in one part.
+    Remove,
+}
+
+/// Carries a decision on the descriptor of an id out. The memory for the entry and the reply is taken first, then each
+/// part is asked before its change.
+pub fn carry_out<E: Drop, T: Stops>(
+    slots: &mut Slots<E>,
+    alloc: Global,
+    stops: &mut T,
+    id: u64,
+    decision: Decision<E>,
+) -> Outcome
+    requires there { IsAbout slots.old id decision }
+    requires room { slots.old.given < 2 ^ 63 }
+    ensures outcome { Carries slots.old id decision
+        (record { asked = T.asked stops.old; struck = T.struck stops.old }) result
+        slots.new (record { asked = T.asked stops.new; struck = T.struck stops.new }) }
+    ensures plan { T.plan stops.new ≡ T.plan stops.old }
+    ensures test { T.test (T.asked stops.old) (T.struck stops.old) (T.plan stops.old)
+        → T.test (T.asked stops.new) (T.struck stops.new) (T.plan stops.new) }
+{
+    match decision {
+        Decision::Refuse(code) => replied(Reply::Refused(code)),
+        Decision::Block => Outcome::Blocks,
+        Decision::Make { entry, word } => make(slots, alloc, stops, entry, word),
+        Decision::Set { entry, word } => set(slots, alloc, stops, id, entry, word),
+        Decision::Keep { desc, word } => keep(alloc, desc, word),
+        Decision::Remove => remove(slots, alloc, stops, id),
+    }
+}
+
+// Makes a descriptor: the first part gives its id, the second its entry.
+fn make<E: Drop, T: Stops>(
+    slots: &mut Slots<E>,
+    alloc: Global,
+    stops: &mut T,
+    entry: E,
+    word: Option<u64>,
+) -> Outcome
+    requires { slots.old.given < 2 ^ 63 }
+    ensures outcome { (id : ℕ) → Carries slots.old id (Make entry word)
+        (record { asked = T.asked stops.old; struck = T.struck stops.old }) result
+        slots.new (record { asked = T.asked stops.new; struck = T.struck stops.new }) }
+    ensures plan { T.plan stops.new ≡ T.plan stops.old }
+    ensures test { T.test (T.asked stops.old) (T.struck stops.old) (T.plan stops.old)
+        → T.test (T.asked stops.new) (T.struck stops.new) (T.plan stops.new) }
+{
+    if slots.entries.reserve(1).is_err() {
+        return Outcome::NoMemory;
+    }
+    match good(alloc, slots.given + 1, word) {
+        Ok(reply) => {
+            if stops.strikes(Point::Part(1)) {
+                return Outcome::Stopped;
+            }
+            slots.given += 1;
+            if stops.strikes(Point::Part(2)) {
+                return Outcome::Stopped;
+            }
+            put(&mut slots.entries, slots.given, entry);
+            replied(reply)
+        }
+        Err(_) => Outcome::NoMemory,
+    }
+}
+
+// Sets the entry of a descriptor.
+fn set<E: Drop, T: Stops>(
+    slots: &mut Slots<E>,
+    alloc: Global,
+    stops: &mut T,
+    id: u64,
+    entry: E,
+    word: Option<u64>,
+) -> Outcome
+    requires { IsSome (entry_at slots.old.entries id) }
+    ensures outcome { Carries slots.old id (Set entry word)
+        (record { asked = T.asked stops.old; struck = T.struck stops.old }) result
+        slots.new (record { asked = T.asked stops.new; struck = T.struck stops.new }) }
+    ensures plan { T.plan stops.new ≡ T.plan stops.old }
+    ensures test { T.test (T.asked stops.old) (T.struck stops.old) (T.plan stops.old)
+        → T.test (T.asked stops.new) (T.struck stops.new) (T.plan stops.new) }
+{
+    match good(alloc, 0, word) {
+        Ok(reply) => {
+            if stops.strikes(Point::Part(1)) {
+                return Outcome::Stopped;
+            }
+            put(&mut slots.entries, id, entry);
+            replied(reply)
+        }
+        Err(_) => Outcome::NoMemory,
+    }
+}
+
+// Answers a descriptor and a word.
+fn keep(alloc: Global, desc: u64, word: Option<u64>) -> Outcome
+    ensures { AnswersOnly (ok_with desc word) result }
+{
+    match good(alloc, desc, word) {
+        Ok(reply) => replied(reply),
+        Err(_) => Outcome::NoMemory,
+    }
+}
+
+// Ends a descriptor.
+fn remove<E: Drop, T: Stops>(slots: &mut Slots<E>, alloc: Global, stops: &mut T, id: u64) -> Outcome
+    requires { IsSome (entry_at slots.old.entries id) }
+    ensures outcome { Carries slots.old id Remove
+        (record { asked = T.asked stops.old; struck = T.struck stops.old }) result
+        slots.new (record { asked = T.asked stops.new; struck = T.struck stops.new }) }
+    ensures plan { T.plan stops.new ≡ T.plan stops.old }
+    ensures test { T.test (T.asked stops.old) (T.struck stops.old) (T.plan stops.old)
+        → T.test (T.asked stops.new) (T.struck stops.new) (T.plan stops.new) }
+{
+    match good(alloc, 0, None) {
+        Ok(reply) => {
+            if stops.strikes(Point::Part(1)) {
+                return Outcome::Stopped;
+            }
+            let _ = slots.entries.shift_remove(&id);
+            replied(reply)
+        }
+        Err(_) => Outcome::NoMemory,
+    }
+}
+
+// Sets the entry of an id, which is there already or has room.
+fn put<E: Drop>(entries: &mut IndexMap<u64, E>, id: u64, entry: E)
+    requires { lookup (nat_eq id) entries.old.entries ≡ None → 0 < spare entries.old }
+    ensures { entries.new.entries ≡ set_entry entries.old.entries id entry }
+{
+    match entries.insert(id, entry) {
+        Ok(_) => {}
+        Err(_) => unreachable!(),
+    }
+}
+
+// A reply, without a patch.
+fn replied(reply: Reply) -> Outcome
+    ensures { result ≡ Outcome.Replied reply None }
+{
+    Outcome::Replied { reply, patch: None }
+}
+
+// An Ok with a descriptor and a word.
+fn good(alloc: Global, desc: u64, word: Option<u64>) -> Result<Reply, NoMemory>
+    ensures { IfOk result (λ reply. reply ≡ ok_with desc word) }
+{
+    Ok(Reply::Ok(Good {
+        desc,
+        words: words_of(alloc, word)?,
+        bytes: Bytes::new(alloc),
+    }))
+}
+
+// A word, or none.
+fn words_of(alloc: Global, word: Option<u64>) -> Result<Words, NoMemory>
+    ensures { IfOk result (λ words. words ≡ words_of word) }
+{
+    let mut words = Words::new(alloc);
+    if let Some(word) = word {
+        words.push(word)?;
+    }
+    Ok(words)
+}

@@ -1,0 +1,47 @@
+// Entries by service id.
+ghost use Rattle.std.specs.Prelude.{◌≡◌, [], OnOk, OnErr};
+ghost use Rattle.std.specs.Option.{option_copied};
+ghost use Rattle.sg_slots.specs.Slots.{entry_at};
+
+use indexmap::IndexMap;
+use sg_base::NoMemory;
+use std::alloc::Global;
+use std::marker::Model;
+
+/// The entries of a service's live descriptors, each under its service id, in the order of the ids, and the number of
+/// ids given. Ids are given from 1 on, and none comes again. An entry is found by its id without a scan.
+#[derive(Debug, Drop)]
+pub struct Slots<E> {
+    pub(crate) entries: IndexMap<u64, E>,
+    pub(crate) given: u64,
+}
+
+impl<E> Model for Slots<E> {
+    ghost use Rattle.sg_slots.specs.Slots.{Held, AreIds};
+
+    ghost Value = { Held E };
+
+    ghost view = { λ s. record { entries = s.entries.entries; given = s.given } };
+
+    ghost invariant = { λ s. AreIds 0 s.given s.entries.entries };
+}
+
+impl<E> Slots<E> {
+    /// No entry, and no id given. It takes no memory.
+    pub fn new(alloc: Global) -> Self
+        ensures entries { result.entries ≡ [] }
+        ensures given { result.given ≡ 0 }
+    {
+        Slots {
+            entries: IndexMap::new(alloc),
+            given: 0,
+        }
+    }
+
+    /// The entry of an id; None where no entry has it.
+    pub fn get(&self, id: u64) -> Option<&E>
+        ensures { option_copied result ≡ entry_at self.now.entries id }
+    {
+        self.entries.get(&id)
+    }
+}
