@@ -1,1 +1,3 @@
 pub mod Ids
+pub mod Invoked
+pub mod Rows

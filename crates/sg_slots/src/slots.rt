@@ -1,7 +1,7 @@
 // Entries by service id.
 ghost use Rattle.std.specs.Prelude.{◌≡◌, [], OnOk, OnErr};
 ghost use Rattle.std.specs.Option.{option_copied};
-ghost use Rattle.sg_slots.specs.Slots.{entry_at};
+ghost use Rattle.sg_slots.specs.Slots.{entry_at, AreIds};
 
 use indexmap::IndexMap;
 use sg_base::NoMemory;
@@ -40,7 +40,8 @@ impl<E> Slots<E> {
 
     /// The entry of an id; None where no entry has it.
     pub fn get(&self, id: u64) -> Option<&E>
-        ensures { option_copied result ≡ entry_at self.now.entries id }
+        ensures entry { option_copied result ≡ entry_at self.now.entries id }
+        ensures ascending { AreIds 0 self.now.given self.now.entries }
     {
         self.entries.get(&id)
     }

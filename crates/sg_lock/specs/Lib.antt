@@ -1,0 +1,4 @@
+pub mod LockDecision
+pub mod LockFacts
+pub mod LockRow
+pub mod LockTable

@@ -1,0 +1,47 @@
+-- What the lock service answers.
+use Rattle.std.specs.Prelude.{ℕ, zero, suc, ◌+◌, ◌==◌, if◌then◌else◌, [], None, Some}
+use Rattle.std.specs.declared.option.Option.{Option}
+use Rattle.sg_base.specs.declared.reply.Code.TheVariants.{Held, NotOwner}
+use Rattle.sg_base.specs.declared.reply.Reply.{Reply}
+use Rattle.sg_base.specs.declared.reply.Reply.TheVariants.{Ok, Refused}
+use Rattle.sg_facts.specs.declared.row.Row.{Row}
+use Rattle.sg_facts.specs.Track.{row_at, word_of, field_at}
+use Rattle.sg_facts.specs.Legal.{Table}
+
+-- the owner of a lock, 0 where it is free
+abbrev pub owner_in : Option Row → ℕ
+owner_in None = 0
+owner_in (Some r) = word_of (field_at r.fields 0)
+
+-- an Ok with a descriptor, without words and bytes
+abbrev pub done : ℕ → Option Reply
+done desc = Some (Ok (record { desc = desc; words = []; bytes = [] }))
+
+-- a take is refused to the owner and blocks while another owns the lock
+abbrev pub take_answer : ℕ → ℕ → Option Reply
+take_answer owner client = if owner == client then Some (Refused Held) else if owner == 0 then done 0 else None
+
+-- a release is the owner's alone
+abbrev pub release_answer : ℕ → ℕ → Option Reply
+release_answer owner client = if owner == client then done 0 else Some (Refused NotOwner)
+
+-- a lock that is owned isn't freed
+abbrev pub free_answer : ℕ → Option Reply
+free_answer owner = if owner == 0 then done 0 else Some (Refused Held)
+
+-- the answer by the function's number: 1 lock_alloc, 2 lock_take, 3 lock_release, 4 lock_free
+abbrev pub lock_answer : ℕ → ℕ → ℕ → ℕ → Option Reply
+lock_answer zero given owner client = None
+lock_answer (suc zero) given owner client = done (given + 1)
+lock_answer (suc (suc zero)) given owner client = take_answer owner client
+lock_answer (suc (suc (suc zero))) given owner client = release_answer owner client
+lock_answer (suc (suc (suc (suc n)))) given owner client = free_answer owner
+
+abbrev pub lock_table : Table
+lock_table o call = lock_answer call.fun o.given (owner_in (row_at o.rows call.desc)) call.client
+
+-- the parts of an Ok: two of lock_alloc, one of the others
+abbrev pub lock_parts : ℕ → ℕ
+lock_parts zero = 0
+lock_parts (suc zero) = 2
+lock_parts (suc (suc n)) = 1

@@ -1,0 +1,13 @@
+//! Locks: each is free or owned by one client.
+//!
+//! - `shape`: the facts of the service, those of its standard interface
+//! - `lock`: one lock (`Lock`)
+//! - `service`: the service (`LockService`)
+#![tactic(auto)]
+
+mod lock;
+mod service;
+mod shape;
+
+pub use lock::Lock;
+//pub use service::LockService;

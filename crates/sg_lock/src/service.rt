@@ -1,0 +1,90 @@
+// The lock service.
+ghost use Rattle.std.specs.Prelude.{◌≡◌, ◌<◌, ◌≤◌, ℕ, Some};
+ghost use Rattle.std.specs.List.{list_any};
+ghost use Rattle.sg_facts.specs.Kinds.{MayAsk};
+ghost use Rattle.sg_slots.specs.Slots.{entry_at, object_of};
+ghost use Rattle.sg_slots.specs.Decide.{Decides};
+ghost use Rattle.sg_lock.specs.LockFacts.{lock_facts};
+ghost use Rattle.sg_lock.specs.LockTable.{lock_table, lock_parts};
+ghost use Rattle.sg_lock.specs.LockRow.{lock_body};
+ghost use Rattle.sg_lock.specs.LockDecision.{on_allocate, on_take, on_release, on_free, set_owner};
+
+use crate::Lock;
+use sg_base::{Call, Code};
+use sg_slots::{Decision, Slots};
+
+// What to do with a call.
+fn decide(locks: &Slots<Lock>, call: &Call) -> Decision<Lock>
+    requires { MayAsk lock_facts (object_of lock_body locks.now) call.now }
+    ensures { Decides lock_facts lock_table lock_parts lock_body locks.now call.now result }
+{
+    if call.fun == 1 {
+        return allocate(call.client);
+    }
+    match locks.get(call.desc) {
+        Some(lock) => match call.fun {
+            2 => take(lock, call.client),
+            3 => release(lock, call.client),
+            _ => free(lock),
+        },
+        None => unreachable!(),
+    }
+}
+
+// Makes a free lock.
+fn allocate(client: u8) -> Decision<Lock>
+    ensures { result ≡ on_allocate client }
+{
+    Decision::Make {
+        entry: Lock {
+            creator: client,
+            owner: 0,
+        },
+        word: None,
+    }
+}
+
+// Takes a lock: refused to its owner, and put off while another owns it.
+fn take(lock: &Lock, client: u8) -> Decision<Lock>
+    ensures { result ≡ on_take lock.now client }
+{
+    if lock.owner == client {
+        Decision::Refuse(Code::Held)
+    } else if lock.owner == 0 {
+        owned_by(lock, client)
+    } else {
+        Decision::Block
+    }
+}
+
+// Releases a lock, for its owner alone.
+fn release(lock: &Lock, client: u8) -> Decision<Lock>
+    ensures { result ≡ on_release lock.now client }
+{
+    if lock.owner == client {
+        owned_by(lock, 0)
+    } else {
+        Decision::Refuse(Code::NotOwner)
+    }
+}
+
+// Ends a lock that nobody owns.
+fn free(lock: &Lock) -> Decision<Lock>
+    ensures { result ≡ on_free lock.now }
+{
+    if lock.owner == 0 {
+        Decision::Remove
+    } else {
+        Decision::Refuse(Code::Held)
+    }
+}
+
+// Sets the owner of a lock, 0 for none.
+fn owned_by(lock: &Lock, owner: u8) -> Decision<Lock>
+    ensures { result ≡ set_owner lock.now owner }
+{
+    Decision::Set {
+        entry: Lock { owner, ..*lock },
+        word: None,
+    }
+}

@@ -1,0 +1,65 @@
+// The facts of the lock service, those of its standard interface.
+ghost use Rattle.std.specs.Prelude.{◌≡◌};
+ghost use Rattle.sg_facts.specs.Facts.{facts_of};
+ghost use Rattle.sg_lock.specs.LockFacts.{lock_facts};
+
+use sg_facts::{Effect, FieldShape, FunShape, Kind, Leaves, Parents, Shape};
+
+static FIELDS: [FieldShape; 1] = [FieldShape {
+    name: b"owner",
+    text: false,
+}];
+
+static FUNS: [FunShape; 4] = [
+    FunShape {
+        name: b"lock_alloc",
+        kinds: &[],
+        flags: FunShape::CREATION,
+        leaves: Leaves::Own,
+        effects: &[],
+    },
+    FunShape {
+        name: b"lock_take",
+        kinds: &[Kind::Desc],
+        flags: FunShape::BLOCK,
+        leaves: Leaves::Own,
+        effects: &[(0, Effect::SetCaller)],
+    },
+    FunShape {
+        name: b"lock_release",
+        kinds: &[Kind::Desc],
+        flags: FunShape::WAKEUP,
+        leaves: Leaves::Of(1),
+        effects: &[(0, Effect::Clear)],
+    },
+    FunShape {
+        name: b"lock_free",
+        kinds: &[Kind::Desc],
+        flags: FunShape::TERMINAL,
+        leaves: Leaves::Own,
+        effects: &[],
+    },
+];
+
+static MOVES: [(u8, u8); 5] = [(1, 2), (1, 4), (2, 2), (2, 3), (2, 4)];
+
+static STEPS: [(u8, u8); 1] = [(1, 2)];
+
+/// The shape of the lock service.
+pub fn lock_shape() -> Shape
+    ensures { facts_of result ≡ lock_facts }
+{
+    Shape {
+        name: b"lock",
+        parents: Parents::Never,
+        subtree: false,
+        global: true,
+        block: true,
+        has_data: true,
+        resc_data: false,
+        fields: &FIELDS,
+        funs: &FUNS,
+        moves: &MOVES,
+        steps: &STEPS,
+    }
+}
