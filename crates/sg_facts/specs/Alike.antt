@@ -15,9 +15,10 @@ abbrev pub named : List (ℕ × ℕ) → ℕ → ℕ
 named [] id = 0
 named (n ∷ names) id = if n.0 == id then n.1 else named names id
 
--- no two ids have one service id, and none but 0 stands for 0
-abbrev pub AreNames : List (ℕ × ℕ) → Type 0
-AreNames names = (a b : ℕ) → named names a ≡ named names b → (named names a ≡ 0) ⊎ (a ≡ b)
+-- names: none stands for no id, and no two ids have one service id
+pub record AreNames (names : List (ℕ × ℕ)) : Type 0 where
+  pub none : named names 0 ≡ 0
+  pub apart : (a b : ℕ) → named names a ≡ named names b → (named names a ≡ 0) ⊎ (a ≡ b)
 
 -- a row of the service is as a client's row, creators aside
 pub record IsAlike (names : List (ℕ × ℕ)) (r v : Row) : Type 0 where

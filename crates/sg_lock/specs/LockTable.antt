@@ -1,7 +1,7 @@
 -- What the lock service answers.
 use Rattle.std.specs.Prelude.{ℕ, zero, suc, ◌+◌, ◌==◌, if◌then◌else◌, [], None, Some}
 use Rattle.std.specs.declared.option.Option.{Option}
-use Rattle.sg_base.specs.declared.reply.Code.TheVariants.{Held, NotOwner}
+use Rattle.sg_base.specs.declared.reply.Code.TheVariants.{Held, NotOwner, NotFound}
 use Rattle.sg_base.specs.declared.reply.Reply.{Reply}
 use Rattle.sg_base.specs.declared.reply.Reply.TheVariants.{Ok, Refused}
 use Rattle.sg_facts.specs.declared.row.Row.{Row}
@@ -29,13 +29,13 @@ release_answer owner client = if owner == client then done 0 else Some (Refused 
 abbrev pub free_answer : ℕ → Option Reply
 free_answer owner = if owner == 0 then done 0 else Some (Refused Held)
 
--- the answer by the function's number: 1 lock_alloc, 2 lock_take, 3 lock_release, 4 lock_free
+-- the answer by the function's number: 1 lock_alloc, 2 lock_take, 3 lock_release, 4 lock_free; there is no other
 abbrev pub lock_answer : ℕ → ℕ → ℕ → ℕ → Option Reply
-lock_answer zero given owner client = None
 lock_answer (suc zero) given owner client = done (given + 1)
 lock_answer (suc (suc zero)) given owner client = take_answer owner client
 lock_answer (suc (suc (suc zero))) given owner client = release_answer owner client
-lock_answer (suc (suc (suc (suc n)))) given owner client = free_answer owner
+lock_answer (suc (suc (suc (suc zero)))) given owner client = free_answer owner
+lock_answer _ given owner client = Some (Refused NotFound)
 
 abbrev pub lock_table : Table
 lock_table o call = lock_answer call.fun o.given (owner_in (row_at o.rows call.desc)) call.client
