@@ -15,6 +15,8 @@ mod sink;
 mod source;
 mod standard;
 mod stops;
+#[cfg(test)]
+mod tests;
 
 pub use gate::{Gate, OpenGate};
 pub use memory::{MemSink, MemSource};
