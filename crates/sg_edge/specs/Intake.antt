@@ -11,9 +11,9 @@ use Rattle.sg_edge.specs.declared.source.ReadError.{ReadError}
 use Rattle.sg_edge.specs.declared.source.ReadError.TheVariants.{NoMemory, Failed}
 
 -- all bytes and the end, at most the limit; or one byte more than the limit; or, where memory is wanted or a read
--- failed, no more than that
+-- failed, no more than the limit
 abbrev pub TakesIn : ℕ → Option (List ℕ) → Option (List ℕ) → Result Intake ReadError → Type 0
 TakesIn limit old new (Ok (Whole bytes)) = (length bytes ≤ limit) × Consumes old new bytes × IsAtEnd new
 TakesIn limit old new (Ok TooLong) = ConsumesJust (limit + 1) old new
-TakesIn limit old new (Err NoMemory) = ConsumesAtMost (limit + 1) old new
+TakesIn limit old new (Err NoMemory) = ConsumesAtMost limit old new
 TakesIn limit old new (Err Failed) = ConsumesAtMost limit old new
