@@ -5,7 +5,7 @@ ghost use Rattle.sg_facts.specs.Object.{Object, empty_object};
 ghost use Rattle.sg_facts.specs.Legal.{Table};
 ghost use Rattle.sg_facts.specs.Kinds.{MayAsk};
 ghost use Rattle.sg_facts.specs.Invoke.{Invokes, FitsRoom, loaded};
-ghost use Rattle.sg_facts.specs.Laws.{AnswersAndKeeps, CountsSlowly};
+ghost use Rattle.sg_facts.specs.Laws.{AnswersAndKeeps, AnswersAlike, BlockedStays, ShapeAllows, CountsSlowly};
 
 use crate::{Outcome, Shape};
 use sg_base::{Call, NoMemory, Path, Stops};
@@ -57,6 +57,15 @@ pub trait Service: Sized + Drop {
 
     /// It answers each call that the guard lets pass so that what it holds stays sound.
     ghost answers_and_keeps: { AnswersAndKeeps facts ask sound };
+
+    /// It answers alike from whatever serves a call, under other ids too.
+    ghost answers_alike: { AnswersAlike facts ask sound };
+
+    /// Who is blocked stays so until a wake-up on the same descriptor, or its end.
+    ghost blocked_stays: { BlockedStays facts ask sound };
+
+    /// Its shape and its answers keep to what every shape allows.
+    ghost shape_allows: { ShapeAllows facts ask };
 
     /// The words that it gives stay far from the end of their type.
     ghost counts_slowly: { CountsSlowly facts ask sound };

@@ -1,3 +1,5 @@
+pub mod LockAlikeLaw
+pub mod LockBlockedLaw
 pub mod LockDecision
 pub mod LockFacts
 pub mod LockRow

@@ -10,4 +10,4 @@ mod service;
 mod shape;
 
 pub use lock::Lock;
-//pub use service::LockService;
+pub use service::LockService;

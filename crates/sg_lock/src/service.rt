@@ -7,11 +7,66 @@ ghost use Rattle.sg_slots.specs.Decide.{Decides};
 ghost use Rattle.sg_lock.specs.LockFacts.{lock_facts};
 ghost use Rattle.sg_lock.specs.LockTable.{lock_table, lock_parts};
 ghost use Rattle.sg_lock.specs.LockRow.{lock_body};
+ghost use Rattle.sg_lock.specs.LockAlikeLaw.{lock_answers_alike};
+ghost use Rattle.sg_lock.specs.LockBlockedLaw.{lock_blocked_stays};
+ghost use Rattle.sg_lock.specs.LockShapeLaw.{lock_shape_allows, lock_counts_slowly};
+ghost use Rattle.sg_lock.specs.LockSound.{IsLockSound};
+ghost use Rattle.sg_lock.specs.LockSoundLaw.{lock_answers_and_keeps};
 ghost use Rattle.sg_lock.specs.LockDecision.{on_allocate, on_take, on_release, on_free, set_owner};
 
 use crate::Lock;
-use sg_base::{Call, Code};
-use sg_slots::{Decision, Slots};
+use crate::shape::lock_shape;
+use sg_base::{Call, Code, NoMemory, Path, Stops};
+use sg_facts::{Outcome, Service, Shape};
+use sg_slots::{Decision, Slots, carry_out};
+use std::alloc::Global;
+
+/// The lock service: it makes, takes, releases and ends locks, and blocks who takes a lock that another client owns.
+#[derive(Debug, Drop)]
+pub struct LockService {
+    locks: Slots<Lock>,
+}
+
+impl Service for LockService {
+    ghost facts = { lock_facts };
+
+    ghost object = { λ s. object_of lock_body s.locks };
+
+    ghost ask = { lock_table };
+
+    ghost parts = { lock_parts };
+
+    ghost sound = { IsLockSound };
+
+    ghost answers_and_keeps = { lock_answers_and_keeps };
+
+    ghost answers_alike = { lock_answers_alike };
+
+    ghost blocked_stays = { lock_blocked_stays };
+
+    ghost shape_allows = { lock_shape_allows };
+
+    ghost counts_slowly = { lock_counts_slowly };
+
+    fn shape() -> Shape {
+        lock_shape()
+    }
+
+    fn fresh(alloc: Global) -> Self {
+        LockService {
+            locks: Slots::new(alloc),
+        }
+    }
+
+    fn invoke<T: Stops>(&mut self, alloc: Global, stops: &mut T, call: &Call) -> Outcome {
+        let decision = decide(&self.locks, call);
+        carry_out(&mut self.locks, alloc, stops, call.desc, decision)
+    }
+
+    fn load(&mut self, _: Global, _: &Path, _: &[u8]) -> Result<(), NoMemory> {
+        Ok(())
+    }
+}
 
 // What to do with a call.
 fn decide(locks: &Slots<Lock>, call: &Call) -> Decision<Lock>
