@@ -1,6 +1,6 @@
 -- The laws of a service, each by its name. They speak of the interface that declares all of the service: a call that a
 -- narrower interface lets pass passes there too.
-use Rattle.std.specs.Prelude.{ℕ, ◌≡◌, ◌+◌, ◌-◌, ◌^◌, ◌<◌, ◌≤◌, ◌==◌, Bool, true, false, ◌&&◌, not, if◌then◌else◌, max, List, [], ◌∷◌, None, Some, length}
+use Rattle.std.specs.Prelude.{ℕ, ◌≡◌, ◌+◌, ◌-◌, ◌^◌, ◌<◌, ◌≤◌, ◌==◌, Bool, true, false, ◌&&◌, not, if◌then◌else◌, max, List, [], ◌∷◌, ◌++◌, None, Some, length}
 use Rattle.std.specs.declared.option.Option.{Option}
 use Rattle.sg_base.specs.declared.call.Call.{Call}
 use Rattle.sg_base.specs.declared.reply.Code.{Code}
@@ -15,7 +15,10 @@ use Rattle.sg_facts.specs.declared.row.Row.{Row}
 use Rattle.sg_facts.specs.declared.shape.Effect.{Effect}
 use Rattle.sg_facts.specs.declared.shape.Effect.TheVariants.{SetArg}
 use Rattle.sg_facts.specs.Track.{row_at, ends_with, word_of, arg_at}
-use Rattle.sg_facts.specs.Kinds.{IsCall, IsWithin, MayAsk}
+use Rattle.sg_facts.specs.Kinds.{FitsKinds, IsCall, IsWithin, MayAsk}
+use Rattle.sg_facts.specs.Fits.{Fits}
+use Rattle.sg_facts.specs.Held.{HoldsPart, IsAt, AreReachable, ParentIsWhole, set_of}
+use Rattle.sg_facts.specs.Walks.{IsWalkOf, replayed_call}
 use Rattle.sg_facts.specs.Counted.{most_counted, is_counted}
 use Rattle.sg_facts.specs.Alike.{Serves, SameReply, under_names}
 use Rattle.sg_facts.specs.Allowed.{implies, is_allowed, is_guards, is_replayed, wants_word}
@@ -50,6 +53,38 @@ pub record AnswersAndKeeps (facts : Facts) (ask : Table) (sound : Object → Typ
 pub record AnswersAlike (facts : Facts) (ask : Table) (sound : Object → Type 0) : Type 0 where
   pub alike : (names : List (ℕ × ℕ)) (o held : Object) (call : Call) → sound o → Passes facts o call → Serves facts names o held call
       → SameReply names (fun_at facts.funs call.fun).creation (ask o call) (ask held (under_names names call))
+
+-- ---- a walk goes on
+
+abbrev pub is_none : List ℕ → Bool
+is_none [] = true
+is_none (n ∷ ns) = false
+
+-- the next replayed call of a row, under the service's ids
+abbrev pub next_call : Facts → List (ℕ × ℕ) → Row → List ℕ → ℕ → Call
+next_call facts names r done fun = under_names names (replayed_call facts r (is_none done) fun)
+
+-- the names after it: a creation gives the row its name
+abbrev pub names_after : List (ℕ × ℕ) → Row → List ℕ → Good → List (ℕ × ℕ)
+names_after names r done good = if is_none done then (r.id, good.desc) ∷ names else names
+
+-- the next replayed call is a client's, fits its function, is answered Ok, and brings the row one step on
+pub record GoesOn (i : Declared) (ask : Table) (names : List (ℕ × ℕ)) (o held : Object) (r : Row) (done : List ℕ) (fun : ℕ) : Type 0 where
+  pub client_first : 1 ≤ (next_call i.facts names r done fun).client
+  pub client_last : (next_call i.facts names r done fun).client ≤ 64
+  pub fits : FitsKinds i.facts (next_call i.facts names r done fun)
+  pub good : Good
+  pub answered : ask held (next_call i.facts names r done fun) ≡ Some (Ok good)
+  pub holds : HoldsPart i (names_after names r done good) o (after i.facts held (next_call i.facts names r done fun) (Ok good))
+  pub further : IsAt i (names_after names r done good) (after i.facts held (next_call i.facts names r done fun) (Ok good)) r (done ++ fun ∷ [])
+
+-- in every interface that fits: where a service holds rows of a sound object, each whole or as far as its walk has gone,
+-- the next call of the walk of a row whose parent is whole goes on
+pub record WalkGoesOn (facts : Facts) (ask : Table) (sound : Object → Type 0) : Type 0 where
+  pub goes_on : (i : Declared) (names : List (ℕ × ℕ)) (o held : Object) (r : Row) (done rest : List ℕ) (fun : ℕ)
+      → i.facts ≡ facts → Fits i → sound o → AreReachable i o.rows → HoldsPart i names o held → held.given < 2 ^ 63
+      → row_at o.rows r.id ≡ Some r → IsWalkOf i (done ++ fun ∷ rest) r.made r.state (set_of r) → IsAt i names held r done
+      → ParentIsWhole names o held r → GoesOn i ask names o held r done fun
 
 -- ---- who is blocked stays blocked
 

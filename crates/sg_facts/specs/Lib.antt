@@ -5,6 +5,7 @@ pub mod Facts
 pub mod Fields
 pub mod Fits
 pub mod Guard
+pub mod Held
 pub mod Interface
 pub mod Invoke
 pub mod Kinds

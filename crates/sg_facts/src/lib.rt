@@ -6,6 +6,7 @@
 //! - `entry`: a call with its reply (`Entry`)
 //! - `outcome`: what asking a service gives (`Outcome`, `Patch`)
 //! - `service`: the trait `Service`
+//! - `laws`: laws of the definitions (`legal_from_the_front`)
 //!
 //! The definitions that contracts cite stand in `specs/`: the tracked rows (`Track`), the object (`Object`), the guard
 //! (`Guard`), legal histories (`Legal`), needs (`Needs`), walks (`Walks`), interfaces that fit (`Fits`), sound objects
@@ -14,6 +15,7 @@
 
 mod entry;
 mod interface;
+mod laws;
 mod outcome;
 mod row;
 mod service;
@@ -21,6 +23,7 @@ mod shape;
 
 pub use entry::Entry;
 pub use interface::Interface;
+pub use laws::legal_from_the_front;
 pub use outcome::{Outcome, Patch};
 pub use row::{Fields, Row};
 pub use service::Service;
