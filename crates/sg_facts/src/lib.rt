@@ -5,6 +5,7 @@
 //! - `row`: a tracked descriptor (`Row`, `Fields`)
 //! - `entry`: a call with its reply (`Entry`)
 //! - `outcome`: what asking a service gives (`Outcome`, `Patch`)
+//! - `trace`: what was done to a service, boot by boot (`Trace`, `BootLog`, `Item`, `Tag`)
 //! - `service`: the trait `Service`
 //! - `laws`: laws of the definitions (`legal_from_the_front`)
 //!
@@ -20,6 +21,7 @@ mod outcome;
 mod row;
 mod service;
 mod shape;
+mod trace;
 
 pub use entry::Entry;
 pub use interface::Interface;
@@ -28,3 +30,4 @@ pub use outcome::{Outcome, Patch};
 pub use row::{Fields, Row};
 pub use service::Service;
 pub use shape::{Effect, FieldShape, FunShape, Kind, Leaves, Parents, Shape};
+pub use trace::{BootList, BootLog, Item, ItemList, Tag, Trace};

@@ -1,0 +1,12 @@
+//! Histories and how runs end.
+//!
+//! - `history`: the calls that were done, with their replies (`History`, `Entry`)
+//! - `ended`: how each client ended, and what a whole run came to (`End`, `Ended`)
+#![tactic(auto)]
+
+mod ended;
+mod history;
+
+pub use ended::{End, EndList, Ended};
+pub use history::History;
+pub use sg_facts::Entry;
