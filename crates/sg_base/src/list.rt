@@ -95,8 +95,8 @@ impl<E> ListOf<E> {
 }
 
 impl<E> ListOf<E> {
-    // A list of what a vector has.
-    pub(crate) fn from_vec(items: Vec<E>) -> Self
+    /// A list of what a vector has. It takes no memory.
+    pub fn from_vec(items: Vec<E>) -> Self
         ensures { result ≡ items.items }
     {
         ListOf { items }

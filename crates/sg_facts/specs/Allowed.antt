@@ -83,15 +83,6 @@ replays_all facts (suc n) =
 abbrev pub is_allowed : Facts → Bool
 is_allowed facts = keeps_private facts && list_all (keeps_to facts) facts.funs && replays_all facts (length facts.funs)
 
--- whether a code is one of the guard's
-abbrev pub is_guards : Code → Bool
-is_guards NoDesc = true
-is_guards NoParent = true
-is_guards BadState = true
-is_guards HasChildren = true
-is_guards Full = true
-is_guards _ = false
-
 -- whether a function takes a returned word into a field
 abbrev pub wants_word : Fun → Bool
 wants_word f = list_any (λ e. takes_word e.1) f.effects

@@ -1,9 +1,11 @@
 -- What is refused by the rows alone, before a service is asked.
-use Rattle.std.specs.Prelude.{ℕ, ◌==◌, Bool, true, false, ◌&&◌, ◌||◌, not, nat_le, if◌then◌else◌, None, Some, length}
+use Rattle.std.specs.Prelude.{◌≡◌, ℕ, ◌==◌, Bool, true, false, ◌&&◌, ◌||◌, not, nat_le, if◌then◌else◌, None, Some, length}
 use Rattle.std.specs.declared.option.Option.{Option}
 use Rattle.sg_base.specs.declared.call.Call.{Call}
 use Rattle.sg_base.specs.declared.reply.Code.{Code}
 use Rattle.sg_base.specs.declared.reply.Code.TheVariants.{NoDesc, NoParent, BadState, HasChildren, Full}
+use Rattle.sg_base.specs.declared.reply.Reply.{Reply}
+use Rattle.sg_base.specs.declared.reply.Reply.TheVariants.{Ok, Refused}
 use Rattle.sg_facts.specs.declared.row.Row.{Row}
 use Rattle.sg_facts.specs.declared.shape.Parents.{Parents}
 use Rattle.sg_facts.specs.declared.shape.Parents.TheVariants.{Never, Same, Cross}
@@ -53,3 +55,17 @@ refusal i f o call =
 -- the guard: a query passes
 abbrev pub guard : Declared → Object → Call → Option Code
 guard i o call = let f = fun_at i.facts.funs call.fun in if f.query then None else refusal i f o call
+
+-- whether a code is one of the guard's
+abbrev pub is_guards : Code → Bool
+is_guards NoDesc = true
+is_guards NoParent = true
+is_guards BadState = true
+is_guards HasChildren = true
+is_guards Full = true
+is_guards _ = false
+
+-- a reply is a refusal by the guard
+abbrev pub IsGuardRefusal : Reply → Type 0
+IsGuardRefusal (Refused code) = is_guards code ≡ true
+IsGuardRefusal (Ok good) = ⊥

@@ -9,7 +9,7 @@ use Rattle.sg_base.specs.declared.reply.Reply.TheVariants.{Ok, Refused}
 use Rattle.sg_facts.specs.Facts.{Facts, fun_at}
 use Rattle.sg_facts.specs.Interface.{Declared}
 use Rattle.sg_facts.specs.Object.{Object, empty_object, after}
-use Rattle.sg_facts.specs.Guard.{guard}
+use Rattle.sg_facts.specs.Guard.{guard, is_guards}
 use Rattle.sg_facts.specs.Legal.{Table}
 use Rattle.sg_facts.specs.declared.row.Row.{Row}
 use Rattle.sg_facts.specs.declared.shape.Effect.{Effect}
@@ -21,7 +21,7 @@ use Rattle.sg_facts.specs.Held.{HoldsPart, IsAt, AreReachable, ParentIsWhole, se
 use Rattle.sg_facts.specs.Walks.{IsWalkOf, replayed_call}
 use Rattle.sg_facts.specs.Counted.{most_counted, is_counted}
 use Rattle.sg_facts.specs.Alike.{Serves, SameReply, under_names}
-use Rattle.sg_facts.specs.Allowed.{implies, is_allowed, is_guards, is_replayed, wants_word}
+use Rattle.sg_facts.specs.Allowed.{implies, is_allowed, is_replayed, wants_word}
 use Rattle.sg_facts.specs.Sound.{IsSoundFor}
 
 -- the interface that declares all of a service

@@ -137,6 +137,9 @@ restores_at (Some s) state set = (s.state == state) && restores_fields s.marks s
 abbrev pub restores : Declared → List ℕ → ℕ → List Bool → Bool
 restores i walk state set = restores_at (spot_of i walk) state set
 
+abbrev pub Restores : Declared → List ℕ → ℕ → List Bool → Type 0
+Restores i walk state set = restores i walk state set ≡ true
+
 -- the function with which a walk begins, 0 where there is none
 abbrev pub begin_of : List ℕ → ℕ
 begin_of [] = 0

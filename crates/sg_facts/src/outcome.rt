@@ -1,5 +1,7 @@
 // What asking a service gives.
-use sg_base::{Bytes, NoMemory, Path, Reply, TryCopy};
+ghost use Rattle.std.specs.Prelude.{◌≡◌, ◌≤◌, IfOk, length};
+
+use sg_base::{Bytes, ListRoom, NoMemory, Path, Reply, TryCopy};
 use std::alloc::Global;
 
 /// Bytes that were written into a file.
@@ -32,5 +34,42 @@ impl TryCopy for Patch {
             from: self.from,
             bytes: self.bytes.copy(alloc)?,
         })
+    }
+}
+
+/// Room for one patch with a key and bytes of at most 256 bytes each, which is used up when the patch is made.
+#[derive(Debug, Drop)]
+pub struct PatchRoom {
+    pub key: ListRoom<u8>,
+    pub bytes: ListRoom<u8>,
+    ghost key_fits: { 256 ≤ key },
+    ghost bytes_fit: { 256 ≤ bytes },
+}
+
+impl Patch {
+    /// Room for a patch, taken ahead so that a copy of it needs no memory later.
+    pub fn room(alloc: Global) -> Result<PatchRoom, NoMemory>
+        ensures key { IfOk result (λ room. 256 ≤ room.key) }
+        ensures bytes { IfOk result (λ room. 256 ≤ room.bytes) }
+    {
+        Ok(PatchRoom {
+            key: ListRoom::new(alloc, 256)?,
+            bytes: ListRoom::new(alloc, 256)?,
+        })
+    }
+}
+
+impl PatchRoom {
+    /// An equal patch, without memory.
+    pub fn fill(self, from: &Patch) -> Patch
+        requires key { length from.now.key ≤ 256 }
+        requires bytes { length from.now.bytes ≤ 256 }
+        ensures { result ≡ from.now }
+    {
+        Patch {
+            key: self.key.fill(from.key.as_slice()),
+            from: from.from,
+            bytes: self.bytes.fill(from.bytes.as_slice()),
+        }
     }
 }

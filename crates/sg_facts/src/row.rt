@@ -1,9 +1,9 @@
 // A tracked descriptor.
-ghost use Rattle.std.specs.Prelude.{◌≡◌, ◌↔◌, ◌^◌, ◌<◌, ◌≤◌, [], ◌∷◌, ◌++◌, length, take, IsTrue, IfSome, IfNone, OnOk, OnErr, slice_get};
+ghost use Rattle.std.specs.Prelude.{◌≡◌, ◌↔◌, ◌^◌, ◌<◌, ◌≤◌, [], ◌∷◌, ◌++◌, length, take, IsTrue, IfSome, IfNone, IfOk, OnOk, OnErr, slice_get, vec_capacity};
 ghost use Rattle.std.specs.Option.{option_copied};
 ghost use Rattle.sg_facts.specs.Fields.{is_set, mask_of};
 
-use sg_base::{ListOf, NoMemory, TryCopy, Value};
+use sg_base::{ListOf, NoMemory, Text, TextRoom, TryCopy, Value};
 use std::alloc::Global;
 use std::marker::Model;
 
@@ -85,6 +85,65 @@ impl TryCopy for Fields {
         Ok(Fields {
             values: self.values.copy(alloc)?,
         })
+    }
+}
+
+/// Room for the fields of one row, with a text of 256 bytes in each, which is used up when the fields are made.
+#[derive(Debug, Drop)]
+pub struct FieldsRoom {
+    values: Vec<Value>,
+    texts: Vec<TextRoom>,
+    ghost is_empty: { values.items ≡ [] },
+    ghost has_room: { 8 ≤ vec_capacity values },
+    ghost has_texts: { length texts.items ≡ 8 },
+}
+
+impl Fields {
+    /// The greatest number of fields of a row.
+    pub const MOST: usize = 8;
+
+    /// Room for the fields of a row, taken ahead so that a copy of them needs no memory later.
+    pub fn room(alloc: Global) -> Result<FieldsRoom, NoMemory> {
+        Ok(FieldsRoom {
+            values: Vec::with_capacity(alloc, Fields::MOST)?,
+            texts: text_rooms(alloc)?,
+        })
+    }
+}
+
+// Room for as many texts as a row has fields.
+fn text_rooms(alloc: Global) -> Result<Vec<TextRoom>, NoMemory>
+    ensures { IfOk result (λ rooms. length rooms.items ≡ 8) }
+{
+    let mut rooms = Vec::with_capacity(alloc, Fields::MOST)?;
+    'rooms: for _ in 0..Fields::MOST {
+        rooms.push(Text::room(alloc)?)?;
+    }
+    Ok(rooms)
+}
+
+impl FieldsRoom {
+    /// Equal fields, without memory.
+    pub fn fill(self, from: &Fields) -> Fields
+        requires { length from.now ≤ 8 }
+        ensures { result ≡ from.now }
+    {
+        let FieldsRoom {
+            mut values,
+            mut texts,
+        } = self;
+        for value in from.as_slice() {
+            match value {
+                Value::Word(word) => values.push_reserved(Value::Word(*word)),
+                Value::Text(text) => match texts.pop() {
+                    Some(room) => values.push_reserved(Value::Text(room.fill(text))),
+                    None => unreachable!(),
+                },
+            }
+        }
+        Fields {
+            values: ListOf::from_vec(values),
+        }
     }
 }
 

@@ -9,7 +9,8 @@ use Rattle.sg_base.specs.declared.reply.Reply.{Reply}
 use Rattle.sg_base.specs.declared.reply.Reply.TheVariants.{Ok, Refused}
 use Rattle.sg_facts.specs.declared.row.Row.{Row}
 use Rattle.sg_facts.specs.Facts.{fun_at}
-use Rattle.sg_facts.specs.Allowed.{is_guards, wants_word}
+use Rattle.sg_facts.specs.Allowed.{wants_word}
+use Rattle.sg_facts.specs.Guard.{is_guards}
 use Rattle.sg_facts.specs.Counted.{takes_word, is_counted, most_in, most_counted}
 use Rattle.sg_facts.specs.Track.{row_at, word_of}
 use Rattle.sg_facts.specs.Object.{after}
