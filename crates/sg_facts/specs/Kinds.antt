@@ -27,6 +27,12 @@ pub record FitsKinds (facts : Facts) (call : Call) : Type 0 where
   pub args : kinds_fit (fun_at facts.funs call.fun).kinds call.args ≡ true
   pub desc : takes_desc (fun_at facts.funs call.fun) ≡ false → takes_parent (fun_at facts.funs call.fun) ≡ false → call.desc ≡ 0
 
+-- the numbers among values are those of their type
+abbrev pub AreWords : List Value → Type 0
+AreWords [] = Unit {0}
+AreWords (Word n ∷ values) = (n < 2 ^ 64) × AreWords values
+AreWords (Text bytes ∷ values) = AreWords values
+
 -- the function is one of the service's, and the call fits it
 pub record IsCall (facts : Facts) (call : Call) : Type 0 where
   pub first : 1 ≤ call.fun

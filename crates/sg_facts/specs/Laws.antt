@@ -15,7 +15,7 @@ use Rattle.sg_facts.specs.declared.row.Row.{Row}
 use Rattle.sg_facts.specs.declared.shape.Effect.{Effect}
 use Rattle.sg_facts.specs.declared.shape.Effect.TheVariants.{SetArg}
 use Rattle.sg_facts.specs.Track.{row_at, ends_with, word_of, arg_at}
-use Rattle.sg_facts.specs.Kinds.{FitsKinds, IsCall, IsWithin, MayAsk}
+use Rattle.sg_facts.specs.Kinds.{AreWords, FitsKinds, IsCall, IsWithin, MayAsk}
 use Rattle.sg_facts.specs.Fits.{Fits}
 use Rattle.sg_facts.specs.Held.{HoldsPart, IsAt, AreReachable, ParentIsWhole, set_of}
 use Rattle.sg_facts.specs.Walks.{IsWalkOf, replayed_call}
@@ -31,6 +31,7 @@ whole facts = record { facts = facts; declared = 2 ^ length facts.funs - 1; move
 -- a call of a client that passes the guard at an object
 pub record Passes (facts : Facts) (o : Object) (call : Call) : Type 0 where
   pub is_call : IsCall facts call
+  pub words : AreWords call.args
   pub within : IsWithin facts o call
   pub guarded : guard (whole facts) o call ≡ None
 

@@ -2,6 +2,7 @@ pub mod LockAlikeLaw
 pub mod LockBlockedLaw
 pub mod LockDecision
 pub mod LockFacts
+pub mod LockObject
 pub mod LockRow
 pub mod LockShapeLaw
 pub mod LockSound

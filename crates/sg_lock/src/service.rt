@@ -1,8 +1,9 @@
 // The lock service.
-ghost use Rattle.std.specs.Prelude.{◌≡◌, ◌<◌, ◌≤◌, ℕ, Some};
-ghost use Rattle.std.specs.List.{list_any};
+ghost use Rattle.std.specs.Prelude.{◌≡◌, ◌<◌, ℕ, false, length, IsSome};
 ghost use Rattle.sg_facts.specs.Kinds.{MayAsk};
-ghost use Rattle.sg_slots.specs.Slots.{entry_at, object_of};
+ghost use Rattle.std.specs.Option.{option_map, option_copied};
+ghost use Rattle.sg_facts.specs.Track.{row_at, has_child};
+ghost use Rattle.sg_slots.specs.Slots.{row_with, entry_at, object_of};
 ghost use Rattle.sg_slots.specs.Decide.{Decides};
 ghost use Rattle.sg_lock.specs.LockFacts.{lock_facts};
 ghost use Rattle.sg_lock.specs.LockTable.{lock_table, lock_parts};
@@ -27,10 +28,32 @@ pub struct LockService {
     locks: Slots<Lock>,
 }
 
+impl LockService {
+    ghost use Rattle.sg_lock.specs.LockObject.{lock_object};
+
+    /// The lock of an id, lent; None where no lock has it. Ids count from 1.
+    pub fn lock(&self, id: u64) -> Option<&Lock>
+        ensures row { row_at (lock_object self.now).rows id ≡ option_map (λ l. row_with id (lock_body l)) (option_copied result) }
+        ensures id { IsSome result → 0 < id }
+        ensures childless { (parent : ℕ) → 0 < parent → has_child (lock_object self.now).rows parent ≡ false }
+    {
+        self.locks.get(id)
+    }
+
+    /// The number of locks.
+    pub fn live(&self) -> usize
+        ensures { result ≡ length (lock_object self.now).rows }
+    {
+        self.locks.len()
+    }
+}
+
 impl Service for LockService {
+    ghost use Rattle.sg_lock.specs.LockObject.{lock_object};
+
     ghost facts = { lock_facts };
 
-    ghost object = { λ s. object_of lock_body s.locks };
+    ghost object = { lock_object };
 
     ghost ask = { lock_table };
 

@@ -1,5 +1,5 @@
 -- Ascending ids when an entry comes, is set or goes.
-use Rattle.std.proofs.Common.{◌≡◌, ℕ, ◌<◌, ◌≤◌, false, cond, nat_eq, List, [], ◌∷◌, ◌++◌, None, Some, IsSome, refl, sym, ◌∙◌, ap, subst, inl, inr, arith}
+use Rattle.std.proofs.Common.{◌≡◌, ℕ, ◌<◌, ◌≤◌, true, false, cond, nat_eq, List, [], ◌∷◌, ◌++◌, None, Some, IsSome, is_some, refl, sym, ◌∙◌, ap, subst, inl, inr, arith}
 use Rattle.std.proofs.lemmas.Bool.Decides.{nat_tests}
 use Rattle.std.proofs.lemmas.Bool.{cases_Bool}
 use Rattle.sg_slots.specs.Slots.{AreIds, entry_at, set_entry, without}
@@ -45,3 +45,13 @@ module _ {E : Type 0} where
     | inl here ↦ subst (λ b. AreIds low high (cond b es (e ∷ without es id))) (sym here) (wider e.0 low high high es (omega (arith, ids.0)) (omega arith) ids.2)
     | inr other ↦ subst (λ b. AreIds low high (cond b es (e ∷ without es id))) (sym other) (ids.0, ids.1, ids_without e.0 high id es ids.2)
   ]
+
+-- an id that is there is above the range's lower end
+pub above_low : {E : Type 0} (low high id : ℕ) (es : List (ℕ × E)) → AreIds low high es → is_some (entry_at es id) ≡ true → low < id
+above_low low high id [] ids there = absurd (cc there)
+above_low low high id (e ∷ es) ids there = elim (cases_Bool (nat_eq id e.0)) [
+  | inl here ↦ let one : id ≡ e.0 = grind (arith, nat_tests) in omega (arith, ids.0, one)
+  | inr other ↦
+      let rest = above_low e.0 high id es ids.2 (ap (λ b. is_some (cond b (Some e.1) (entry_at es id))) (sym other) ∙ there) in
+      omega (arith, ids.0, rest)
+]

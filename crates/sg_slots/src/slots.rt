@@ -1,5 +1,5 @@
 // Entries by service id.
-ghost use Rattle.std.specs.Prelude.{◌≡◌, [], OnOk, OnErr};
+ghost use Rattle.std.specs.Prelude.{◌≡◌, ◌↔◌, [], length, IsTrue, OnOk, OnErr};
 ghost use Rattle.std.specs.Option.{option_copied};
 ghost use Rattle.sg_slots.specs.Slots.{entry_at, AreIds};
 
@@ -44,5 +44,19 @@ impl<E> Slots<E> {
         ensures ascending { AreIds 0 self.now.given self.now.entries }
     {
         self.entries.get(&id)
+    }
+
+    /// The number of entries.
+    pub fn len(&self) -> usize
+        ensures { result ≡ length self.now.entries }
+    {
+        self.entries.len()
+    }
+
+    /// Whether there is no entry.
+    pub fn is_empty(&self) -> bool
+        ensures { IsTrue result ↔ (self.now.entries ≡ []) }
+    {
+        self.entries.len() == 0
     }
 }
