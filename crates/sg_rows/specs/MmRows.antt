@@ -31,3 +31,11 @@ page_refusals =
     entry (call_of 1 1 2 0 (Word 1 ∷ Word 4096 ∷ [])) (refused NoParent)
     ∷ entry (call_of 1 2 4 0 (Word 1 ∷ Word 0 ∷ [])) (refused NotFound)
     ∷ []
+
+-- client 2 makes a page of its own from that of client 1, and releases it
+abbrev pub alias_released : List Entry
+alias_released =
+    entry (call_of 1 1 1 0 (Word 4096 ∷ [])) (ok_at 1)
+    ∷ entry (call_of 2 1 2 1 (Word 2 ∷ Word 8192 ∷ [])) (ok_at 2)
+    ∷ entry (call_of 2 2 3 2 []) ok
+    ∷ []

@@ -23,6 +23,10 @@ ok_at desc = Ok (record { desc = desc; words = []; bytes = [] })
 abbrev pub ok_with : ℕ → ℕ → Reply
 ok_with desc word = Ok (record { desc = desc; words = word ∷ []; bytes = [] })
 
+-- an Ok with a word and bytes
+abbrev pub ok_bytes : ℕ → List ℕ → Reply
+ok_bytes word bytes = Ok (record { desc = 0; words = word ∷ []; bytes = bytes })
+
 -- a refusal
 abbrev pub refused : Code → Reply
 refused code = Refused code

@@ -12,8 +12,8 @@ mod locks;
 mod pages;
 mod threads;
 
-pub use events::overflow;
-pub use files::file_refusals;
+pub use events::{one_waits, overflow};
+pub use files::{file_refusals, one_file, own_alone};
 pub use locks::{blocked, four_calls, lock_refusals, owner_alone, release_wakes};
-pub use pages::{occupied, page_refusals, subtree_goes};
-pub use threads::thread_refusals;
+pub use pages::{alias_released, occupied, page_refusals, subtree_goes};
+pub use threads::{queue, thread_refusals, woken};

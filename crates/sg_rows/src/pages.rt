@@ -1,10 +1,11 @@
 // Pages.
+ghost use Rattle.sg_base.specs.declared.reply.Code.TheVariants.{NoParent};
 ghost use Rattle.sg_facts.specs.Laws.{whole};
 ghost use Rattle.sg_facts.specs.Legal.{IsLegal};
 ghost use Rattle.sg_mm.specs.MmFacts.{mm_facts};
 ghost use Rattle.sg_mm.specs.MmTable.{mm_table};
-ghost use Rattle.sg_rows.specs.Written.{ok, ok_at, with_reply};
-ghost use Rattle.sg_rows.specs.MmRows.{occupied, subtree_goes, page_refusals};
+ghost use Rattle.sg_rows.specs.Written.{ok, ok_at, refused, with_reply};
+ghost use Rattle.sg_rows.specs.MmRows.{occupied, subtree_goes, page_refusals, alias_released};
 
 /// One address of a space has one page.
 pub fn occupied()
@@ -23,4 +24,10 @@ pub fn subtree_goes()
 pub fn page_refusals()
     ensures legal { IsLegal (whole mm_facts) mm_table page_refusals }
     ensures wrong { IsLegal (whole mm_facts) mm_table (with_reply 1 ok page_refusals) → ⊥ }
+{}
+
+/// A client makes a page from that of another client, and releases it.
+pub fn alias_released()
+    ensures legal { IsLegal (whole mm_facts) mm_table alias_released }
+    ensures wrong { IsLegal (whole mm_facts) mm_table (with_reply 1 (refused NoParent) alias_released) → ⊥ }
 {}

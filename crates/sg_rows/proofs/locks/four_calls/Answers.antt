@@ -1,20 +1,13 @@
 -- The replies compute, and the other one doesn't.
-use Rattle.std.proofs.Common.{◌≡◌, ℕ, Some, refl, ap}
-use Rattle.std.specs.declared.option.Option.{Option}
-use Rattle.sg_base.specs.declared.reply.Reply.{Reply}
-use Rattle.sg_base.specs.declared.reply.Reply.TheVariants.{Ok}
+use Rattle.std.proofs.Common.{◌≡◌, Some, refl, ap}
 use Rattle.sg_facts.specs.Laws.{whole}
 use Rattle.sg_lock.specs.LockFacts.{lock_facts}
 use Rattle.sg_lock.specs.LockTable.{lock_table}
 use Rattle.sg_rows.specs.Written.{ok_at, with_reply}
 use Rattle.sg_rows.specs.LockRows.{four_calls}
 use Rattle.sg_rows.proofs.Legal.{is_legal-legal_from, legal_from-is_legal}
+use Rattle.sg_rows.proofs.Replies.{desc_in}
 use Rattle.sg_rows.proofs.locks.four_calls.Goals as goal
-
--- the descriptor of an answer
-abbrev desc_in : Option Reply → ℕ
-desc_in (Some (Ok good)) = good.desc
-desc_in _ = 0
 
 pub returns-clause-legal : goal.returns-clause-legal
 returns-clause-legal c = is_legal-legal_from (whole lock_facts) lock_table four_calls (refl, (refl, (refl, (refl, tt))))
