@@ -1,0 +1,47 @@
+-- What the event service answers.
+use Rattle.std.specs.Prelude.{ℕ, zero, suc, ◌+◌, ◌==◌, nat_lt, if◌then◌else◌, [], None, Some}
+use Rattle.std.specs.declared.option.Option.{Option}
+use Rattle.sg_base.specs.declared.reply.Code.TheVariants.{NotFound, Overflow}
+use Rattle.sg_base.specs.declared.reply.Reply.{Reply}
+use Rattle.sg_base.specs.declared.reply.Reply.TheVariants.{Ok, Refused}
+use Rattle.sg_facts.specs.declared.row.Row.{Row}
+use Rattle.sg_facts.specs.Track.{row_at, word_of, field_at, arg_at}
+use Rattle.sg_facts.specs.Legal.{Table}
+
+-- the greatest count, the greatest 32-bit number
+abbrev pub most_count : ℕ
+most_count = 4294967295
+
+-- the count of an event, 0 where there is none
+abbrev pub count_in : Option Row → ℕ
+count_in None = 0
+count_in (Some r) = word_of (field_at r.fields 0)
+
+-- an Ok with a descriptor, without words and bytes
+abbrev pub done : ℕ → Option Reply
+done desc = Some (Ok (record { desc = desc; words = []; bytes = [] }))
+
+-- a wait blocks while the count is 0
+abbrev pub wait_answer : ℕ → Option Reply
+wait_answer count = if count == 0 then None else done 0
+
+-- a trigger is refused where the count would pass its greatest number
+abbrev pub trigger_answer : ℕ → ℕ → Option Reply
+trigger_answer count n = if nat_lt most_count (count + n) then Some (Refused Overflow) else done 0
+
+-- the answer by the function's number: 1 evt_split, 2 evt_wait, 3 evt_trigger, 4 evt_free; there is no other
+abbrev pub event_answer : ℕ → ℕ → ℕ → ℕ → Option Reply
+event_answer (suc zero) given count n = done (given + 1)
+event_answer (suc (suc zero)) given count n = wait_answer count
+event_answer (suc (suc (suc zero))) given count n = trigger_answer count n
+event_answer (suc (suc (suc (suc zero)))) given count n = done 0
+event_answer _ given count n = Some (Refused NotFound)
+
+abbrev pub event_table : Table
+event_table o call = event_answer call.fun o.given (count_in (row_at o.rows call.desc)) (word_of (arg_at call 0))
+
+-- the parts of an Ok: two of evt_split, one of the others
+abbrev pub event_parts : ℕ → ℕ
+event_parts zero = 0
+event_parts (suc zero) = 2
+event_parts (suc (suc n)) = 1

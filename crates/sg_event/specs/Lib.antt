@@ -1,0 +1,3 @@
+pub mod EventFacts
+pub mod EventSound
+pub mod EventTable

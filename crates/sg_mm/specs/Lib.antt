@@ -1,0 +1,3 @@
+pub mod MmFacts
+pub mod MmSound
+pub mod MmTable

@@ -1,0 +1,63 @@
+-- What the memory mapping service answers.
+use Rattle.std.specs.Prelude.{ℕ, zero, suc, ◌+◌, ◌==◌, Bool, ◌&&◌, if◌then◌else◌, min, List, [], None, Some, map, filter}
+use Rattle.std.specs.declared.option.Option.{Option}
+use Rattle.std.specs.List.{list_any, reduce}
+use Rattle.sg_base.specs.declared.call.Call.{Call}
+use Rattle.sg_base.specs.declared.reply.Code.TheVariants.{Occupied, NotFound}
+use Rattle.sg_base.specs.declared.reply.Reply.{Reply}
+use Rattle.sg_base.specs.declared.reply.Reply.TheVariants.{Ok, Refused}
+use Rattle.sg_facts.specs.declared.row.Row.{Row}
+use Rattle.sg_facts.specs.Track.{word_of, field_at, arg_at}
+use Rattle.sg_facts.specs.Object.{Object}
+use Rattle.sg_facts.specs.Legal.{Table}
+
+-- the space of a page, and its address there
+abbrev pub space_of : Row → ℕ
+space_of r = word_of (field_at r.fields 0)
+
+abbrev pub addr_of : Row → ℕ
+addr_of r = word_of (field_at r.fields 1)
+
+-- whether a page is in a space at an address
+abbrev pub is_at : ℕ → ℕ → Row → Bool
+is_at space addr r = (space_of r == space) && (addr_of r == addr)
+
+-- an Ok with a descriptor, without words and bytes
+abbrev pub done : ℕ → Option Reply
+done desc = Some (Ok (record { desc = desc; words = []; bytes = [] }))
+
+-- a new page is refused where its place is taken
+abbrev pub page_answer : List Row → ℕ → ℕ → ℕ → Option Reply
+page_answer rows given space addr = if list_any (is_at space addr) rows then Some (Refused Occupied) else done (given + 1)
+
+-- the least id of a page in a space at an address
+abbrev pub page_at : List Row → ℕ → ℕ → Option ℕ
+page_at rows space addr = reduce min (map (λ r. r.id) (filter (is_at space addr) rows))
+
+-- a page that was found, or none
+abbrev pub find_answer : Option ℕ → Option Reply
+find_answer None = Some (Refused NotFound)
+find_answer (Some id) = done id
+
+-- the number that is an argument
+abbrev pub number_at : Call → ℕ → ℕ
+number_at call k = word_of (arg_at call k)
+
+-- the answer by the function's number: 1 mman_get_page, 2 mman_alias_page, 3 mman_release_page, 4 mman_find; there is no
+-- other
+abbrev pub mm_answer : ℕ → Object → Call → Option Reply
+mm_answer (suc zero) o call = page_answer o.rows o.given call.client (number_at call 0)
+mm_answer (suc (suc zero)) o call = page_answer o.rows o.given (number_at call 0) (number_at call 1)
+mm_answer (suc (suc (suc zero))) o call = done 0
+mm_answer (suc (suc (suc (suc zero)))) o call = find_answer (page_at o.rows (number_at call 0) (number_at call 1))
+mm_answer _ o call = Some (Refused NotFound)
+
+abbrev pub mm_table : Table
+mm_table o call = mm_answer call.fun o call
+
+-- the parts of an Ok: three of mman_alias_page, none of mman_find, two of the others
+abbrev pub mm_parts : ℕ → ℕ
+mm_parts (suc zero) = 2
+mm_parts (suc (suc zero)) = 3
+mm_parts (suc (suc (suc zero))) = 2
+mm_parts _ = 0

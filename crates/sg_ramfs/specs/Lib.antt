@@ -1,0 +1,3 @@
+pub mod RamfsFacts
+pub mod RamfsSound
+pub mod RamfsTable

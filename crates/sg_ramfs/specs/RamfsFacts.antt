@@ -1,0 +1,103 @@
+-- The facts of the file service, as its standard interface states them.
+use Rattle.std.specs.Prelude.{true, false, [], ◌∷◌, codes}
+use Rattle.sg_facts.specs.Facts.{Facts, Fun}
+use Rattle.sg_facts.specs.declared.shape.Parents.TheVariants.{Same as SameClient}
+use Rattle.sg_facts.specs.declared.shape.Kind.TheVariants.{Desc, Parent, Word, Text}
+use Rattle.sg_facts.specs.declared.shape.Leaves.TheVariants.{Own, Same}
+use Rattle.sg_facts.specs.declared.shape.Effect.TheVariants.{SetArg, AddRet}
+
+-- tsplit(parent, name) makes a descriptor of a file, below another or as a root
+abbrev pub tsplit : Fun
+tsplit = record {
+  name = codes "tsplit";
+  kinds = Parent ∷ Text ∷ [];
+  creation = true;
+  terminal = false;
+  block = false;
+  wakeup = false;
+  query = false;
+  all = false;
+  uses_file = false;
+  leaves = Own;
+  effects = (0, SetArg 0) ∷ [];
+}
+
+-- tread(id, n) reads at most n bytes, and moves its place behind them
+abbrev pub tread : Fun
+tread = record {
+  name = codes "tread";
+  kinds = Desc ∷ Word ∷ [];
+  creation = false;
+  terminal = false;
+  block = false;
+  wakeup = false;
+  query = false;
+  all = false;
+  uses_file = true;
+  leaves = Same;
+  effects = (1, AddRet) ∷ [];
+}
+
+-- twrite(id, bytes) writes bytes, and moves its place behind them
+abbrev pub twrite : Fun
+twrite = record {
+  name = codes "twrite";
+  kinds = Desc ∷ Text ∷ [];
+  creation = false;
+  terminal = false;
+  block = false;
+  wakeup = false;
+  query = false;
+  all = false;
+  uses_file = true;
+  leaves = Same;
+  effects = (1, AddRet) ∷ [];
+}
+
+-- tseek(id, offset) sets its place
+abbrev pub tseek : Fun
+tseek = record {
+  name = codes "tseek";
+  kinds = Desc ∷ Word ∷ [];
+  creation = false;
+  terminal = false;
+  block = false;
+  wakeup = false;
+  query = false;
+  all = false;
+  uses_file = false;
+  leaves = Same;
+  effects = (1, SetArg 0) ∷ [];
+}
+
+-- trelease(id) ends it
+abbrev pub trelease : Fun
+trelease = record {
+  name = codes "trelease";
+  kinds = Desc ∷ [];
+  creation = false;
+  terminal = true;
+  block = false;
+  wakeup = false;
+  query = false;
+  all = false;
+  uses_file = false;
+  leaves = Own;
+  effects = [];
+}
+
+-- the facts of the service: a private one, whose descriptors may have parents of the same client, and files
+abbrev pub ramfs_facts : Facts
+ramfs_facts = record {
+  name = codes "ramfs";
+  parents = SameClient;
+  subtree = false;
+  global = false;
+  block = false;
+  has_data = true;
+  resc_data = true;
+  fields = record { name = codes "name"; text = true } ∷ record { name = codes "offset"; text = false } ∷ [];
+  funs = tsplit ∷ tread ∷ twrite ∷ tseek ∷ trelease ∷ [];
+  moves = (1, 2) ∷ (1, 3) ∷ (1, 4) ∷ (1, 5) ∷ [];
+  steps = (1, 4) ∷ [];
+}

@@ -1,0 +1,85 @@
+-- What the file service answers.
+use Rattle.std.specs.Prelude.{ℕ, zero, suc, ◌+◌, ◌==◌, Bool, ◌||◌, nat_lt, if◌then◌else◌, List, [], ◌∷◌, ◌++◌, Some, length, take, drop}
+use Rattle.std.specs.declared.option.Option.{Option}
+use Rattle.std.specs.List.{list_any}
+use Rattle.sg_base.specs.declared.call.Call.{Call}
+use Rattle.sg_base.specs.declared.reply.Code.TheVariants.{NotFound, Gap, TooBig, BadName}
+use Rattle.sg_base.specs.declared.reply.Reply.{Reply}
+use Rattle.sg_base.specs.declared.reply.Reply.TheVariants.{Ok, Refused}
+use Rattle.sg_facts.specs.Track.{row_at, word_of, arg_at}
+use Rattle.sg_facts.specs.Object.{Object, first_text, path_of, file_at, place_of}
+use Rattle.sg_facts.specs.Legal.{Table}
+use Rattle.sg_ramfs.specs.RamfsFacts.{tread, twrite}
+
+-- the greatest length of a name, of a path, of what is read at once, and of a file
+abbrev pub most_name : ℕ
+most_name = 64
+
+abbrev pub most_path : ℕ
+most_path = 256
+
+abbrev pub most_read : ℕ
+most_read = 256
+
+abbrev pub most_file : ℕ
+most_file = 65536
+
+-- whether a name is empty, too long, or has a slash
+abbrev pub is_bad_name : List ℕ → Bool
+is_bad_name name = (length name == 0) || nat_lt most_name (length name) || list_any (λ b. b == 47) name
+
+-- an Ok with a descriptor, without words and bytes
+abbrev pub done : ℕ → Option Reply
+done desc = Some (Ok (record { desc = desc; words = []; bytes = [] }))
+
+-- an Ok with a number of bytes as its word, and bytes
+abbrev pub moved : ℕ → List ℕ → Option Reply
+moved count bytes = Some (Ok (record { desc = 0; words = count ∷ []; bytes = bytes }))
+
+-- a new descriptor is refused where its name is bad, or its path, that of its parent, a slash and the name, too long
+abbrev pub split_answer : ℕ → List ℕ → List ℕ → Option Reply
+split_answer given path name =
+    if is_bad_name name then Some (Refused BadName)
+    else if nat_lt most_path (length (path ++ 47 ∷ name)) then Some (Refused TooBig)
+    else done (given + 1)
+
+-- the bytes of a file from a place on, at most so many; none past its end
+abbrev pub read_answer : List ℕ → ℕ → ℕ → Option Reply
+read_answer file from n =
+    let bytes = take n (drop from file) in
+    if nat_lt most_read n then Some (Refused TooBig) else moved (length bytes) bytes
+
+-- bytes are written from a place on that isn't past the file's end, where they end within the greatest length
+abbrev pub write_answer : List ℕ → ℕ → List ℕ → Option Reply
+write_answer file from bytes =
+    if nat_lt (length file) from then Some (Refused Gap)
+    else if nat_lt most_file (from + length bytes) then Some (Refused TooBig)
+    else moved (length bytes) []
+
+-- a place is at most the greatest length of a file
+abbrev pub seek_answer : ℕ → Option Reply
+seek_answer place = if nat_lt most_file place then Some (Refused TooBig) else done 0
+
+-- the file of a descriptor
+abbrev pub file_of : Object → ℕ → List ℕ
+file_of o id = file_at o.files (path_of o.rows id)
+
+-- the answer by the function's number: 1 tsplit, 2 tread, 3 twrite, 4 tseek, 5 trelease; there is no other
+abbrev pub ramfs_answer : ℕ → Object → Call → Option Reply
+ramfs_answer (suc zero) o call = split_answer o.given (path_of o.rows call.desc) (first_text call.args)
+ramfs_answer (suc (suc zero)) o call = read_answer (file_of o call.desc) (place_of tread (row_at o.rows call.desc)) (word_of (arg_at call 0))
+ramfs_answer (suc (suc (suc zero))) o call = write_answer (file_of o call.desc) (place_of twrite (row_at o.rows call.desc)) (first_text call.args)
+ramfs_answer (suc (suc (suc (suc zero)))) o call = seek_answer (word_of (arg_at call 0))
+ramfs_answer (suc (suc (suc (suc (suc zero))))) o call = done 0
+ramfs_answer _ o call = Some (Refused NotFound)
+
+abbrev pub ramfs_table : Table
+ramfs_table o call = ramfs_answer call.fun o call
+
+-- the parts of an Ok: two of tsplit and twrite, one of the others
+abbrev pub ramfs_parts : ℕ → ℕ
+ramfs_parts zero = 0
+ramfs_parts (suc zero) = 2
+ramfs_parts (suc (suc zero)) = 1
+ramfs_parts (suc (suc (suc zero))) = 2
+ramfs_parts (suc (suc (suc (suc n)))) = 1

@@ -1,0 +1,15 @@
+-- The replies compute, and the other one doesn't.
+use Rattle.std.proofs.Common.{refl}
+use Rattle.sg_facts.specs.Laws.{whole}
+use Rattle.sg_event.specs.EventFacts.{event_facts}
+use Rattle.sg_event.specs.EventTable.{event_table}
+use Rattle.sg_rows.specs.Written.{ok, with_reply}
+use Rattle.sg_rows.specs.EventRows.{overflow}
+use Rattle.sg_rows.proofs.Legal.{is_legal-legal_from, legal_from-is_legal}
+use Rattle.sg_rows.proofs.events.overflow.Goals as goal
+
+pub returns-clause-legal : goal.returns-clause-legal
+returns-clause-legal c = is_legal-legal_from (whole event_facts) event_table overflow (refl, (refl, (refl, tt)))
+
+pub returns-clause-wrong : goal.returns-clause-wrong
+returns-clause-wrong c legal = cc ((legal_from-is_legal (whole event_facts) event_table (with_reply 2 ok overflow) legal).1.1.0)

@@ -1,0 +1,14 @@
+-- The replies compute, and the other one doesn't.
+use Rattle.std.proofs.Common.{refl}
+use Rattle.sg_facts.specs.Laws.{whole}
+use Rattle.sg_sched.specs.SchedFacts.{sched_facts}
+use Rattle.sg_sched.specs.SchedTable.{sched_table}
+use Rattle.sg_rows.specs.SchedRows.{woken, not_woken}
+use Rattle.sg_rows.proofs.Legal.{is_legal-legal_from, legal_from-is_legal}
+use Rattle.sg_rows.proofs.threads.woken.Goals as goal
+
+pub returns-clause-legal : goal.returns-clause-legal
+returns-clause-legal c = is_legal-legal_from (whole sched_facts) sched_table woken (refl, (refl, (refl, (refl, tt))))
+
+pub returns-clause-wrong : goal.returns-clause-wrong
+returns-clause-wrong c legal = cc ((legal_from-is_legal (whole sched_facts) sched_table not_woken legal).1.1.0)

@@ -1,0 +1,3 @@
+pub mod SchedFacts
+pub mod SchedSound
+pub mod SchedTable

@@ -1,0 +1,23 @@
+-- The objects that the thread service can come to.
+use Rattle.std.specs.Prelude.{◌≡◌, ◌≤◌, ◌==◌, false, List, [], ◌∷◌}
+use Rattle.std.specs.List.{list_any}
+use Rattle.sg_facts.specs.declared.row.Row.{Row}
+use Rattle.sg_facts.specs.Object.{Object}
+use Rattle.sg_facts.specs.Sound.{IsSoundFor, AreRows}
+use Rattle.sg_sched.specs.SchedFacts.{sched_facts}
+use Rattle.sg_sched.specs.SchedTable.{rank_of}
+
+-- a rank is at least 1
+abbrev pub IsRanked : Row → Type 0
+IsRanked r = 1 ≤ rank_of r
+
+-- no two threads have one rank
+abbrev pub AreApart : List Row → Type 0
+AreApart [] = Unit {0}
+AreApart (r ∷ rows) = (list_any (λ s. rank_of s == rank_of r) rows ≡ false) × AreApart rows
+
+-- a sound object of the thread service
+pub record IsSchedSound (o : Object) : Type 0 where
+  pub general : IsSoundFor sched_facts o
+  pub ranked : AreRows IsRanked 0 o.given o.rows
+  pub apart : AreApart o.rows
