@@ -3,7 +3,7 @@ use Rattle.std.specs.Prelude.{◌≤◌}
 use Rattle.sg_facts.specs.declared.row.Row.{Row}
 use Rattle.sg_facts.specs.Track.{word_of, field_at}
 use Rattle.sg_facts.specs.Object.{Object}
-use Rattle.sg_facts.specs.Sound.{IsSoundFor, AreRows}
+use Rattle.sg_facts.specs.Sound.{IsSound, AreRows}
 use Rattle.sg_event.specs.EventFacts.{event_facts}
 use Rattle.sg_event.specs.EventTable.{most_count}
 
@@ -13,5 +13,5 @@ IsCounted r = word_of (field_at r.fields 0) ≤ most_count
 
 -- a sound object of the event service
 pub record IsEventSound (o : Object) : Type 0 where
-  pub general : IsSoundFor event_facts o
+  pub general : IsSound event_facts o
   pub counted : AreRows IsCounted 0 o.given o.rows

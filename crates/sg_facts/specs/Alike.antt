@@ -9,7 +9,7 @@ use Rattle.sg_facts.specs.Facts.{Facts}
 use Rattle.sg_facts.specs.Track.{row_at, is_live}
 use Rattle.sg_facts.specs.Object.{Object, path_of, file_at}
 use Rattle.sg_facts.specs.Needs.{is_needed, needs}
-use Rattle.sg_facts.specs.Sound.{IsSoundFor}
+use Rattle.sg_facts.specs.Sound.{IsSound}
 
 -- the service's id of a client's id, 0 where it has none: pairs of a client's id and a service's
 abbrev pub named : List (ℕ × ℕ) → ℕ → ℕ
@@ -55,7 +55,7 @@ SameFile o held id real (Some path) = (path_of held.rows real ≡ path) × (file
 -- needs is there and alike
 pub record Serves (facts : Facts) (names : List (ℕ × ℕ)) (o held : Object) (call : Call) : Type 0 where
   pub names_are : AreNames names
-  pub held_sound : IsSoundFor facts held
+  pub held_sound : IsSound facts held
   pub each : EachStands names o.rows held.rows
   pub needed : (r : Row) → row_at o.rows r.id ≡ Some r → is_needed facts o.rows call r ≡ true → HasAlike names held r
   pub file : SameFile o held call.desc (named names call.desc) (needs facts o call).file

@@ -8,7 +8,7 @@ use Rattle.sg_facts.specs.Interface.{Declared}
 use Rattle.sg_facts.specs.Track.{row_at, cleared}
 use Rattle.sg_facts.specs.Object.{Object}
 use Rattle.sg_facts.specs.Walks.{Mark, unset, good, unknown, Spot, spot_of, IsReachable, IsWalkOf}
-use Rattle.sg_facts.specs.Sound.{IsSoundFor}
+use Rattle.sg_facts.specs.Sound.{IsSound}
 use Rattle.sg_facts.specs.Alike.{named, AreNames, IsAlike, HasAlike}
 
 -- two values of one kind
@@ -71,7 +71,7 @@ EachHeld i names o held (w ∷ ws) = IsHeld i names o held w × EachHeld i names
 -- whole parent
 pub record HoldsPart (i : Declared) (names : List (ℕ × ℕ)) (o held : Object) : Type 0 where
   pub names_are : AreNames names
-  pub held_sound : IsSoundFor i.facts held
+  pub held_sound : IsSound i.facts held
   pub each : EachHeld i names o held held.rows
 
 -- so much of a row's walk is done in a service: nothing, where it has no row for it

@@ -22,7 +22,7 @@ use Rattle.sg_facts.specs.Walks.{IsWalkOf, replayed_call}
 use Rattle.sg_facts.specs.Counted.{most_counted, is_counted}
 use Rattle.sg_facts.specs.Alike.{Serves, SameReply, under_names}
 use Rattle.sg_facts.specs.Allowed.{implies, is_allowed, is_replayed, wants_word}
-use Rattle.sg_facts.specs.Sound.{IsSoundFor}
+use Rattle.sg_facts.specs.Sound.{IsSound}
 
 -- the interface that declares all of a service
 abbrev pub whole : Facts → Declared
@@ -41,7 +41,7 @@ pub record Passes (facts : Facts) (o : Object) (call : Call) : Type 0 where
 -- of a creation has the next id
 pub record AnswersAndKeeps (facts : Facts) (ask : Table) (sound : Object → Type 0) : Type 0 where
   pub empty : sound empty_object
-  pub general : (o : Object) → sound o → IsSoundFor facts o
+  pub general : (o : Object) → sound o → IsSound facts o
   pub keeps : (o : Object) (call : Call) (good : Good) → sound o → Passes facts o call → ask o call ≡ Some (Ok good)
       → sound (after facts o call (Ok good))
   pub next : (o : Object) (call : Call) (good : Good) → sound o → Passes facts o call → ask o call ≡ Some (Ok good)

@@ -44,6 +44,6 @@ AreFiles (f ∷ files) = HasNoFile files f.0 × AreFiles files
 
 -- a sound object, for every service: its rows are rows of the service under ids from 1 to the number given, and no two
 -- files have one path
-pub record IsSoundFor (facts : Facts) (o : Object) : Type 0 where
+pub record IsSound (facts : Facts) (o : Object) : Type 0 where
   pub rows : AreRows (IsRow facts o.rows) 0 o.given o.rows
   pub files : AreFiles o.files

@@ -3,7 +3,7 @@ use Rattle.std.specs.Prelude.{ℕ, ◌≡◌, ◌==◌, Bool, true, ◌&&◌, na
 use Rattle.sg_facts.specs.declared.row.Row.{Row}
 use Rattle.sg_facts.specs.Track.{word_of, field_at}
 use Rattle.sg_facts.specs.Object.{Object}
-use Rattle.sg_facts.specs.Sound.{IsSoundFor, AreRows}
+use Rattle.sg_facts.specs.Sound.{IsSound, AreRows}
 use Rattle.sg_lock.specs.LockFacts.{lock_facts}
 
 -- an owner is 0 in the state that lock_alloc leaves, and else a client
@@ -15,5 +15,5 @@ IsOwned r = is_owner_in r.state (word_of (field_at r.fields 0)) ≡ true
 
 -- a sound object of the lock service
 pub record IsLockSound (o : Object) : Type 0 where
-  pub general : IsSoundFor lock_facts o
+  pub general : IsSound lock_facts o
   pub owned : AreRows IsOwned 0 o.given o.rows

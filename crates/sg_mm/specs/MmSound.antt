@@ -3,7 +3,7 @@ use Rattle.std.specs.Prelude.{◌≡◌, ◌==◌, true, false, ◌&&◌, nat_le
 use Rattle.std.specs.List.{list_any}
 use Rattle.sg_facts.specs.declared.row.Row.{Row}
 use Rattle.sg_facts.specs.Object.{Object}
-use Rattle.sg_facts.specs.Sound.{IsSoundFor, AreRows}
+use Rattle.sg_facts.specs.Sound.{IsSound, AreRows}
 use Rattle.sg_facts.specs.Allowed.{implies}
 use Rattle.sg_mm.specs.MmFacts.{mm_facts}
 use Rattle.sg_mm.specs.MmTable.{space_of, addr_of, is_at}
@@ -19,6 +19,6 @@ AreApart (r ∷ rows) = (list_any (is_at (space_of r) (addr_of r)) rows ≡ fals
 
 -- a sound object of the memory mapping service
 pub record IsMmSound (o : Object) : Type 0 where
-  pub general : IsSoundFor mm_facts o
+  pub general : IsSound mm_facts o
   pub of_clients : AreRows IsOfClient 0 o.given o.rows
   pub apart : AreApart o.rows

@@ -4,7 +4,7 @@ use Rattle.std.specs.List.{AllByRecursion}
 use Rattle.sg_facts.specs.declared.row.Row.{Row}
 use Rattle.sg_facts.specs.Track.{word_of, field_at}
 use Rattle.sg_facts.specs.Object.{Object, first_text, path_of}
-use Rattle.sg_facts.specs.Sound.{IsSoundFor, AreRows}
+use Rattle.sg_facts.specs.Sound.{IsSound, AreRows}
 use Rattle.sg_ramfs.specs.RamfsFacts.{ramfs_facts}
 use Rattle.sg_ramfs.specs.RamfsTable.{most_path, most_file, is_bad_name}
 
@@ -21,6 +21,6 @@ IsFile f = (length f.0 ≤ most_path) × (length f.1 ≤ most_file)
 
 -- a sound object of the file service
 pub record IsRamfsSound (o : Object) : Type 0 where
-  pub general : IsSoundFor ramfs_facts o
+  pub general : IsSound ramfs_facts o
   pub placed : AreRows (IsPlaced o.rows) 0 o.given o.rows
   pub files : AllByRecursion IsFile o.files

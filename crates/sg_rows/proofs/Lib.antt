@@ -1,2 +1,1 @@
-pub mod Legal
 pub mod Replies

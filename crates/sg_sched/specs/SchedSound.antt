@@ -3,7 +3,7 @@ use Rattle.std.specs.Prelude.{◌≡◌, ◌≤◌, ◌==◌, false, List, [], �
 use Rattle.std.specs.List.{list_any}
 use Rattle.sg_facts.specs.declared.row.Row.{Row}
 use Rattle.sg_facts.specs.Object.{Object}
-use Rattle.sg_facts.specs.Sound.{IsSoundFor, AreRows}
+use Rattle.sg_facts.specs.Sound.{IsSound, AreRows}
 use Rattle.sg_sched.specs.SchedFacts.{sched_facts}
 use Rattle.sg_sched.specs.SchedTable.{rank_of}
 
@@ -18,6 +18,6 @@ AreApart (r ∷ rows) = (list_any (λ s. rank_of s == rank_of r) rows ≡ false)
 
 -- a sound object of the thread service
 pub record IsSchedSound (o : Object) : Type 0 where
-  pub general : IsSoundFor sched_facts o
+  pub general : IsSound sched_facts o
   pub ranked : AreRows IsRanked 0 o.given o.rows
   pub apart : AreApart o.rows

@@ -4,11 +4,11 @@ use Rattle.sg_facts.specs.Laws.{whole}
 use Rattle.sg_event.specs.EventFacts.{event_facts}
 use Rattle.sg_event.specs.EventTable.{event_table}
 use Rattle.sg_rows.specs.EventRows.{one_waits, both_waits}
-use Rattle.sg_rows.proofs.Legal.{is_legal-legal_from, legal_from-is_legal}
+use Rattle.sg_facts.proofs.Legality.{IsLegal-from, LegalFrom-is}
 use Rattle.sg_rows.proofs.events.one_waits.Goals as goal
 
 pub returns-clause-legal : goal.returns-clause-legal
-returns-clause-legal c = is_legal-legal_from (whole event_facts) event_table one_waits (refl, (refl, (refl, tt)))
+returns-clause-legal c = IsLegal-from (whole event_facts) event_table one_waits (refl, (refl, (refl, tt)))
 
 pub returns-clause-wrong : goal.returns-clause-wrong
-returns-clause-wrong c legal = cc ((legal_from-is_legal (whole event_facts) event_table both_waits legal).1.1.1.0)
+returns-clause-wrong c legal = cc ((LegalFrom-is (whole event_facts) event_table both_waits legal).1.1.1.0)

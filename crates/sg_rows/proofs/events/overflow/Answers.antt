@@ -5,11 +5,11 @@ use Rattle.sg_event.specs.EventFacts.{event_facts}
 use Rattle.sg_event.specs.EventTable.{event_table}
 use Rattle.sg_rows.specs.Written.{ok, with_reply}
 use Rattle.sg_rows.specs.EventRows.{overflow}
-use Rattle.sg_rows.proofs.Legal.{is_legal-legal_from, legal_from-is_legal}
+use Rattle.sg_facts.proofs.Legality.{IsLegal-from, LegalFrom-is}
 use Rattle.sg_rows.proofs.events.overflow.Goals as goal
 
 pub returns-clause-legal : goal.returns-clause-legal
-returns-clause-legal c = is_legal-legal_from (whole event_facts) event_table overflow (refl, (refl, (refl, tt)))
+returns-clause-legal c = IsLegal-from (whole event_facts) event_table overflow (refl, (refl, (refl, tt)))
 
 pub returns-clause-wrong : goal.returns-clause-wrong
-returns-clause-wrong c legal = cc ((legal_from-is_legal (whole event_facts) event_table (with_reply 2 ok overflow) legal).1.1.0)
+returns-clause-wrong c legal = cc ((LegalFrom-is (whole event_facts) event_table (with_reply 2 ok overflow) legal).1.1.0)

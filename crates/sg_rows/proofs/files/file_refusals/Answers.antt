@@ -5,11 +5,11 @@ use Rattle.sg_ramfs.specs.RamfsFacts.{ramfs_facts}
 use Rattle.sg_ramfs.specs.RamfsTable.{ramfs_table}
 use Rattle.sg_rows.specs.Written.{ok_with, with_reply}
 use Rattle.sg_rows.specs.RamfsRows.{file_refusals}
-use Rattle.sg_rows.proofs.Legal.{is_legal-legal_from, legal_from-is_legal}
+use Rattle.sg_facts.proofs.Legality.{IsLegal-from, LegalFrom-is}
 use Rattle.sg_rows.proofs.files.file_refusals.Goals as goal
 
 pub returns-clause-legal : goal.returns-clause-legal
-returns-clause-legal c = is_legal-legal_from (whole ramfs_facts) ramfs_table file_refusals (refl, (refl, (refl, (refl, (refl, (refl, (refl, tt)))))))
+returns-clause-legal c = IsLegal-from (whole ramfs_facts) ramfs_table file_refusals (refl, (refl, (refl, (refl, (refl, (refl, (refl, tt)))))))
 
 pub returns-clause-wrong : goal.returns-clause-wrong
-returns-clause-wrong c legal = cc ((legal_from-is_legal (whole ramfs_facts) ramfs_table (with_reply 5 (ok_with 0 0) file_refusals) legal).1.1.1.1.1.0)
+returns-clause-wrong c legal = cc ((LegalFrom-is (whole ramfs_facts) ramfs_table (with_reply 5 (ok_with 0 0) file_refusals) legal).1.1.1.1.1.0)

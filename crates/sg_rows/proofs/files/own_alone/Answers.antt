@@ -6,11 +6,11 @@ use Rattle.sg_ramfs.specs.RamfsFacts.{ramfs_facts}
 use Rattle.sg_ramfs.specs.RamfsTable.{ramfs_table}
 use Rattle.sg_rows.specs.Written.{ok_bytes, with_reply}
 use Rattle.sg_rows.specs.RamfsRows.{own_alone}
-use Rattle.sg_rows.proofs.Legal.{is_legal-legal_from, legal_from-is_legal}
+use Rattle.sg_facts.proofs.Legality.{IsLegal-from, LegalFrom-is}
 use Rattle.sg_rows.proofs.files.own_alone.Goals as goal
 
 pub returns-clause-legal : goal.returns-clause-legal
-returns-clause-legal c = is_legal-legal_from (whole ramfs_facts) ramfs_table own_alone (refl, (refl, (refl, (refl, (refl, tt)))))
+returns-clause-legal c = IsLegal-from (whole ramfs_facts) ramfs_table own_alone (refl, (refl, (refl, (refl, (refl, tt)))))
 
 pub returns-clause-wrong : goal.returns-clause-wrong
-returns-clause-wrong c legal = cc ((legal_from-is_legal (whole ramfs_facts) ramfs_table (with_reply 1 (ok_bytes 0 []) own_alone) legal).1.0)
+returns-clause-wrong c legal = cc ((LegalFrom-is (whole ramfs_facts) ramfs_table (with_reply 1 (ok_bytes 0 []) own_alone) legal).1.0)

@@ -5,11 +5,11 @@ use Rattle.sg_lock.specs.LockFacts.{lock_facts}
 use Rattle.sg_lock.specs.LockTable.{lock_table}
 use Rattle.sg_rows.specs.Written.{ok, with_reply}
 use Rattle.sg_rows.specs.LockRows.{lock_refusals}
-use Rattle.sg_rows.proofs.Legal.{is_legal-legal_from, legal_from-is_legal}
+use Rattle.sg_facts.proofs.Legality.{IsLegal-from, LegalFrom-is}
 use Rattle.sg_rows.proofs.locks.lock_refusals.Goals as goal
 
 pub returns-clause-legal : goal.returns-clause-legal
-returns-clause-legal c = is_legal-legal_from (whole lock_facts) lock_table lock_refusals (refl, (refl, (refl, (refl, tt))))
+returns-clause-legal c = IsLegal-from (whole lock_facts) lock_table lock_refusals (refl, (refl, (refl, (refl, tt))))
 
 pub returns-clause-wrong : goal.returns-clause-wrong
-returns-clause-wrong c legal = cc ((legal_from-is_legal (whole lock_facts) lock_table (with_reply 0 ok lock_refusals) legal).0)
+returns-clause-wrong c legal = cc ((LegalFrom-is (whole lock_facts) lock_table (with_reply 0 ok lock_refusals) legal).0)

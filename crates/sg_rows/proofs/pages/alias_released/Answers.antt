@@ -6,11 +6,11 @@ use Rattle.sg_mm.specs.MmFacts.{mm_facts}
 use Rattle.sg_mm.specs.MmTable.{mm_table}
 use Rattle.sg_rows.specs.Written.{refused, with_reply}
 use Rattle.sg_rows.specs.MmRows.{alias_released}
-use Rattle.sg_rows.proofs.Legal.{is_legal-legal_from, legal_from-is_legal}
+use Rattle.sg_facts.proofs.Legality.{IsLegal-from, LegalFrom-is}
 use Rattle.sg_rows.proofs.pages.alias_released.Goals as goal
 
 pub returns-clause-legal : goal.returns-clause-legal
-returns-clause-legal c = is_legal-legal_from (whole mm_facts) mm_table alias_released (refl, (refl, (refl, tt)))
+returns-clause-legal c = IsLegal-from (whole mm_facts) mm_table alias_released (refl, (refl, (refl, tt)))
 
 pub returns-clause-wrong : goal.returns-clause-wrong
-returns-clause-wrong c legal = cc ((legal_from-is_legal (whole mm_facts) mm_table (with_reply 1 (refused NoParent) alias_released) legal).1.0)
+returns-clause-wrong c legal = cc ((LegalFrom-is (whole mm_facts) mm_table (with_reply 1 (refused NoParent) alias_released) legal).1.0)

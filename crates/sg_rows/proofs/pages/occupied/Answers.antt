@@ -5,11 +5,11 @@ use Rattle.sg_mm.specs.MmFacts.{mm_facts}
 use Rattle.sg_mm.specs.MmTable.{mm_table}
 use Rattle.sg_rows.specs.Written.{ok_at, with_reply}
 use Rattle.sg_rows.specs.MmRows.{occupied}
-use Rattle.sg_rows.proofs.Legal.{is_legal-legal_from, legal_from-is_legal}
+use Rattle.sg_facts.proofs.Legality.{IsLegal-from, LegalFrom-is}
 use Rattle.sg_rows.proofs.pages.occupied.Goals as goal
 
 pub returns-clause-legal : goal.returns-clause-legal
-returns-clause-legal c = is_legal-legal_from (whole mm_facts) mm_table occupied (refl, (refl, tt))
+returns-clause-legal c = IsLegal-from (whole mm_facts) mm_table occupied (refl, (refl, tt))
 
 pub returns-clause-wrong : goal.returns-clause-wrong
-returns-clause-wrong c legal = cc ((legal_from-is_legal (whole mm_facts) mm_table (with_reply 1 (ok_at 2) occupied) legal).1.0)
+returns-clause-wrong c legal = cc ((LegalFrom-is (whole mm_facts) mm_table (with_reply 1 (ok_at 2) occupied) legal).1.0)

@@ -5,15 +5,15 @@ use Rattle.sg_sched.specs.SchedFacts.{sched_facts}
 use Rattle.sg_sched.specs.SchedTable.{sched_table}
 use Rattle.sg_rows.specs.Written.{ok_at, with_reply}
 use Rattle.sg_rows.specs.SchedRows.{queue}
-use Rattle.sg_rows.proofs.Legal.{is_legal-legal_from, legal_from-is_legal}
+use Rattle.sg_facts.proofs.Legality.{IsLegal-from, LegalFrom-is}
 use Rattle.sg_rows.proofs.Replies.{desc_in}
 use Rattle.sg_rows.proofs.threads.queue.Goals as goal
 
 pub returns-clause-legal : goal.returns-clause-legal
-returns-clause-legal c = is_legal-legal_from (whole sched_facts) sched_table queue (refl, (refl, (refl, (refl, (refl, (refl, tt))))))
+returns-clause-legal c = IsLegal-from (whole sched_facts) sched_table queue (refl, (refl, (refl, (refl, (refl, (refl, tt))))))
 
 pub returns-clause-wrong : goal.returns-clause-wrong
 returns-clause-wrong c legal =
-    let is : Some (ok_at 3) ≡ Some (ok_at 2) = (legal_from-is_legal (whole sched_facts) sched_table (with_reply 5 (ok_at 2) queue) legal).1.1.1.1.1.0 in
+    let is : Some (ok_at 3) ≡ Some (ok_at 2) = (LegalFrom-is (whole sched_facts) sched_table (with_reply 5 (ok_at 2) queue) legal).1.1.1.1.1.0 in
     let ids : 3 ≡ 2 = ap desc_in is in
     cc ids

@@ -5,11 +5,11 @@ use Rattle.sg_sched.specs.SchedFacts.{sched_facts}
 use Rattle.sg_sched.specs.SchedTable.{sched_table}
 use Rattle.sg_rows.specs.Written.{ok, with_reply}
 use Rattle.sg_rows.specs.SchedRows.{thread_refusals}
-use Rattle.sg_rows.proofs.Legal.{is_legal-legal_from, legal_from-is_legal}
+use Rattle.sg_facts.proofs.Legality.{IsLegal-from, LegalFrom-is}
 use Rattle.sg_rows.proofs.threads.thread_refusals.Goals as goal
 
 pub returns-clause-legal : goal.returns-clause-legal
-returns-clause-legal c = is_legal-legal_from (whole sched_facts) sched_table thread_refusals (refl, (refl, (refl, tt)))
+returns-clause-legal c = IsLegal-from (whole sched_facts) sched_table thread_refusals (refl, (refl, (refl, tt)))
 
 pub returns-clause-wrong : goal.returns-clause-wrong
-returns-clause-wrong c legal = cc ((legal_from-is_legal (whole sched_facts) sched_table (with_reply 0 ok thread_refusals) legal).0)
+returns-clause-wrong c legal = cc ((LegalFrom-is (whole sched_facts) sched_table (with_reply 0 ok thread_refusals) legal).0)

@@ -4,11 +4,11 @@ use Rattle.sg_facts.specs.Laws.{whole}
 use Rattle.sg_sched.specs.SchedFacts.{sched_facts}
 use Rattle.sg_sched.specs.SchedTable.{sched_table}
 use Rattle.sg_rows.specs.SchedRows.{woken, not_woken}
-use Rattle.sg_rows.proofs.Legal.{is_legal-legal_from, legal_from-is_legal}
+use Rattle.sg_facts.proofs.Legality.{IsLegal-from, LegalFrom-is}
 use Rattle.sg_rows.proofs.threads.woken.Goals as goal
 
 pub returns-clause-legal : goal.returns-clause-legal
-returns-clause-legal c = is_legal-legal_from (whole sched_facts) sched_table woken (refl, (refl, (refl, (refl, tt))))
+returns-clause-legal c = IsLegal-from (whole sched_facts) sched_table woken (refl, (refl, (refl, (refl, tt))))
 
 pub returns-clause-wrong : goal.returns-clause-wrong
-returns-clause-wrong c legal = cc ((legal_from-is_legal (whole sched_facts) sched_table not_woken legal).1.1.0)
+returns-clause-wrong c legal = cc ((LegalFrom-is (whole sched_facts) sched_table not_woken legal).1.1.0)
