@@ -146,3 +146,12 @@ id_of_row (x ∷ rows) id r there = at (x.id == id) (λ is. grind (arith, nat_te
     at : (b : Bool) → (b ≡ true → x.id ≡ id) → cond b (Some x) (row_at rows id) ≡ Some r → (row_at rows id ≡ Some r → r.id ≡ id) → r.id ≡ id
     at true is there rest = let one : x ≡ r = cc there in sym (ap (λ v. v.id) one) ∙ is refl
     at false is there rest = rest there
+
+-- an id with a row is live
+pub live_of_row : (rows : List Row) (id : ℕ) (r : Row) → row_at rows id ≡ Some r → is_live rows id ≡ true
+live_of_row [] id r there = absurd (cc there)
+live_of_row (x ∷ rows) id r there = at (x.id == id) there (live_of_row rows id r)
+  where
+    at : (b : Bool) → cond b (Some x) (row_at rows id) ≡ Some r → (row_at rows id ≡ Some r → is_live rows id ≡ true) → (b || is_live rows id) ≡ true
+    at true there rest = refl
+    at false there rest = rest there

@@ -20,7 +20,7 @@ use Rattle.sg_lock.specs.LockTable.{lock_table, lock_answer, owner_in, take_answ
 use Rattle.sg_lock.specs.LockSound.{IsLockSound}
 
 -- the first cause of a refusal that looks at the row doesn't apply to a call that passes
-there : (found : Option Row) {A : Type 0} (x : A) (rest : Option A) → cond (not (is_there found)) (Some x) rest ≡ None → (r : Row) × (found ≡ Some r)
+pub there : (found : Option Row) {A : Type 0} (x : A) (rest : Option A) → cond (not (is_there found)) (Some x) rest ≡ None → (r : Row) × (found ≡ Some r)
 there None x rest is = absurd (cc is)
 there (Some r) x rest is = (r, refl)
 

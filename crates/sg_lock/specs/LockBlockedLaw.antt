@@ -41,7 +41,7 @@ unowned owner client good is = at (owner == client) (owner == 0) is
     at false false is = absurd (cc is)
 
 -- only a take blocks
-is_take : (fun given owner client : ℕ) → lock_answer fun given owner client ≡ None → take_answer owner client ≡ None
+pub is_take : (fun given owner client : ℕ) → lock_answer fun given owner client ≡ None → take_answer owner client ≡ None
 is_take zero given owner client is = absurd (cc is)
 is_take (suc zero) given owner client is = absurd (cc is)
 is_take (suc (suc zero)) given owner client is = is

@@ -90,7 +90,7 @@ none_in : (x : ℕ) (fields : List Value) → most_in lock_facts x fields ≡ 0
 none_in x [] = refl
 none_in x (v ∷ fields) = ap (λ b. max (cond b (word_of v) 0) (most_in lock_facts (x + 1) fields)) (none_counted x) ∙ ap (λ n. max 0 n) (none_in (x + 1) fields)
 
-none_in_rows : (rows : List Row) → most_counted lock_facts rows ≡ 0
+pub none_in_rows : (rows : List Row) → most_counted lock_facts rows ≡ 0
 none_in_rows [] = refl
 none_in_rows (r ∷ rows) = ap (λ n. max n (most_counted lock_facts rows)) (none_in 0 r.fields) ∙ ap (λ n. max 0 n) (none_in_rows rows)
 

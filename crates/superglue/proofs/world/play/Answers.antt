@@ -1,0 +1,27 @@
+-- The run goes on call by call, and is legal in the end.
+use Rattle.std.proofs.Common.{take, get_or, sym, subst, arith}
+use Rattle.std.proofs.lemmas.List.{take_more}
+use Rattle.sg_facts.proofs.Legality.{IsLegal-from}
+use Rattle.sg_facts.specs.Laws.{whole}
+use Rattle.sg_lock.specs.LockFacts.{lock_facts}
+use Rattle.sg_lock.specs.LockTable.{lock_table}
+use Rattle.sg_lock.specs.LockObject.{lock_object}
+use Rattle.sg_opening.specs.declared.step.Step.TheVariants.{Alloc}
+use Rattle.sg_opening.specs.Script.{IsBack}
+use Rattle.superglue.specs.World.{IsRun}
+use Rattle.superglue.proofs.Runs.{back-take, back-at}
+use Rattle.superglue.proofs.world.play.Goals as goal
+
+pub loop-step-preserved : goal.loop-step-preserved
+loop-step-preserved c =
+    let steps = c.args.steps.now in
+    let n = c.loop-step.step-index in
+    let own = subst (λ k. IsBack k (get_or steps n Alloc)) (omega (arith, c.loop-step.invariant.count)) (back-at 1 steps n Alloc c.requires.back c.loop-step-test.true) in
+    record {
+      run = subst (IsRun c.turn.new.history.items (lock_object c.turn.new.locks)) (sym (take_more steps n Alloc c.loop-step-test.true))
+        (c.in_ok-turn.ensures.goes_on (take n steps) c.loop-step.invariant.run (back-take 1 steps n c.requires.back) own);
+      count = omega (arith, c.in_ok-turn.ensures.more, c.loop-step.invariant.count);
+    }
+
+pub returns-clause-legal : goal.returns-clause-legal
+returns-clause-legal c = IsLegal-from (whole lock_facts) lock_table c.loop-step.history.items c.loop-step.invariant.run.legal
