@@ -20,6 +20,8 @@ mod outcome;
 mod row;
 mod service;
 mod shape;
+#[cfg(test)]
+mod tests;
 
 pub use entry::Entry;
 pub use interface::Interface;
