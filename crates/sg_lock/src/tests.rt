@@ -184,11 +184,7 @@ fn serves_one_lock(rt: HostRuntime) -> Result<(), Fail> {
     };
     assert_eq!(rt; make(&mut service, alloc, &mut stops, 1)?.desc, 1);
     let code = refusal(&mut service, alloc, &mut stops, 1, 3, free)?;
-    assert_eq!(rt;
-        code,
-        Some(Code::NotOwner),
-        "the maker of a free lock doesn't own it"
-    );
+    assert_eq!(rt; code, Some(Code::NotOwner), "released while free");
     assert_eq!(rt;
         change(&mut service, alloc, &mut stops, 2, 2, free)?.desc,
         0
