@@ -21,6 +21,8 @@ mod outcome;
 mod row;
 mod service;
 mod shape;
+#[cfg(test)]
+mod tests;
 mod trace;
 
 pub use entry::Entry;

@@ -9,6 +9,8 @@
 mod decision;
 mod entry;
 mod slots;
+#[cfg(test)]
+mod tests;
 
 pub use decision::{Decision, carry_out};
 pub use entry::Entry;

@@ -1,0 +1,240 @@
+// What no clause says: that calls are answered where there is memory, and stopped where a point strikes.
+ghost use Rattle.std.specs.Prelude.{◌≡◌, ◌≤◌, ◌<◌, ◌==◌, if◌then◌else◌, [], ◌∷◌, OnOk};
+ghost use Rattle.sg_facts.specs.Object.{empty_object};
+ghost use Rattle.sg_facts.specs.Kinds.{MayAsk};
+ghost use Rattle.sg_facts.specs.Invoke.{Invokes};
+ghost use Rattle.sg_slots.specs.Slots.{object_of};
+ghost use Rattle.sg_lock.specs.LockRow.{lock_body};
+
+use crate::{Lock, LockService};
+use sg_base::{Args, Call, Code, Good, Path, Point, Reply, Stops};
+use sg_facts::{Outcome, Service};
+use std::alloc::Global;
+use std::test::Fail;
+
+// Stops once, at the point of a number; at none where the number is 0.
+#[derive(Debug, Drop)]
+struct Once {
+    point: u64,
+    asked: u64,
+    struck: Option<u64>,
+}
+
+impl Once {
+    fn new(point: u64) -> Once {
+        Once {
+            point,
+            asked: 0,
+            struck: None,
+        }
+    }
+}
+
+impl Stops for Once {
+    ghost use Rattle.std.specs.Prelude.{[]};
+    ghost use Rattle.sg_slots.specs.Carry.{words_of};
+
+    ghost asked = { λ once. once.asked };
+
+    ghost struck = { λ once. words_of once.struck };
+
+    ghost plan = { λ once. [] };
+
+    ghost test = { λ asked struck plan. Unit {0} };
+
+    ghost starts = { λ plan. tt };
+
+    fn strikes(&mut self, _: Point) -> bool {
+        if self.asked == u64::MAX {
+            return false;
+        }
+        self.asked += 1;
+        if self.struck.is_none() && self.asked == self.point {
+            self.struck = Some(self.asked);
+            return true;
+        }
+        false
+    }
+
+    fn asked(&self) -> u64 {
+        self.asked
+    }
+}
+
+// Asks a service through its bound alone.
+fn ask<S: Service, T: Stops>(service: &mut S, alloc: Global, stops: &mut T, call: &Call) -> Outcome
+    requires { MayAsk S.facts (S.object service.old) call.now }
+    ensures { Invokes S.facts S.ask S.parts (S.object service.old) call.now
+        (record { asked = T.asked stops.old; struck = T.struck stops.old }) result
+        (S.object service.new) (record { asked = T.asked stops.new; struck = T.struck stops.new }) }
+{
+    service.invoke(alloc, stops, call)
+}
+
+// A call without arguments.
+fn call(alloc: Global, client: u8, fun: u8, desc: u64) -> Call
+    ensures { result ≡ record { client = client; seq = 1; fun = fun; desc = desc; args = [] } }
+{
+    Call {
+        client,
+        seq: 1,
+        fun,
+        desc,
+        args: Args::new(alloc),
+    }
+}
+
+// Makes the first lock.
+fn make(
+    service: &mut LockService,
+    alloc: Global,
+    stops: &mut Once,
+    client: u8,
+) -> Result<Good, Outcome>
+    requires fresh { object_of lock_body service.old.locks ≡ empty_object }
+    requires client_first { 1 ≤ client }
+    requires client_last { client ≤ 64 }
+    ensures { OnOk result (object_of lock_body service.new.locks
+        ≡ object_of lock_body (record { entries = (1, record { creator = client; owner = 0 }) ∷ []; given = 1 })) }
+{
+    let call = call(alloc, client, 1, 0);
+    match ask(service, alloc, stops, &call) {
+        Outcome::Replied { reply, patch } => match reply {
+            Reply::Ok(good) => Ok(good),
+            refused => Err(Outcome::Replied {
+                reply: refused,
+                patch,
+            }),
+        },
+        other => Err(other),
+    }
+}
+
+// Asks for a change of the one lock, which is as told.
+fn change(
+    service: &mut LockService,
+    alloc: Global,
+    stops: &mut Once,
+    client: u8,
+    fun: u8,
+    lock: Lock,
+) -> Result<Good, Outcome>
+    requires lock { object_of lock_body service.old.locks ≡ object_of lock_body (record { entries = (1, lock) ∷ []; given = 1 }) }
+    requires client_first { 1 ≤ client }
+    requires client_last { client ≤ 64 }
+    requires fun_first { 2 ≤ fun }
+    requires fun_last { fun ≤ 4 }
+    ensures { OnOk result (fun < 4 → object_of lock_body service.new.locks
+        ≡ object_of lock_body (record { entries = (1, record { creator = lock.creator; owner = if fun == 2 then client else 0 }) ∷ []; given = 1 })) }
+{
+    let call = call(alloc, client, fun, 1);
+    match ask(service, alloc, stops, &call) {
+        Outcome::Replied { reply, patch } => match reply {
+            Reply::Ok(good) => Ok(good),
+            refused => Err(Outcome::Replied {
+                reply: refused,
+                patch,
+            }),
+        },
+        other => Err(other),
+    }
+}
+
+// Asks for what changes nothing: the refusal of a call on the one lock, which is as told, or None where the caller
+// waits.
+fn refusal(
+    service: &mut LockService,
+    alloc: Global,
+    stops: &mut Once,
+    client: u8,
+    fun: u8,
+    lock: Lock,
+) -> Result<Option<Code>, Outcome>
+    requires lock { object_of lock_body service.old.locks ≡ object_of lock_body (record { entries = (1, lock) ∷ []; given = 1 }) }
+    requires client_first { 1 ≤ client }
+    requires client_last { client ≤ 64 }
+    requires fun_first { 2 ≤ fun }
+    requires fun_last { fun ≤ 4 }
+    ensures { OnOk result (object_of lock_body service.new.locks ≡ object_of lock_body service.old.locks) }
+{
+    let call = call(alloc, client, fun, 1);
+    match ask(service, alloc, stops, &call) {
+        Outcome::Replied {
+            reply: Reply::Refused(code),
+            ..
+        } => Ok(Some(code)),
+        Outcome::Blocks => Ok(None),
+        other => Err(other),
+    }
+}
+
+#[test]
+fn serves_one_lock(rt: HostRuntime) -> Result<(), Fail> {
+    let alloc = rt.alloc();
+    let mut stops = Once::new(0);
+    let mut service = LockService::fresh(alloc);
+    service.load(alloc, &Path::new(alloc), b"a file")?;
+    let free = Lock {
+        creator: 1,
+        owner: 0,
+    };
+    let taken = Lock {
+        creator: 1,
+        owner: 2,
+    };
+    assert_eq!(rt; make(&mut service, alloc, &mut stops, 1)?.desc, 1);
+    let code = refusal(&mut service, alloc, &mut stops, 1, 3, free)?;
+    assert_eq!(rt; code, Some(Code::NotOwner), "released while free");
+    assert_eq!(rt;
+        change(&mut service, alloc, &mut stops, 2, 2, free)?.desc,
+        0
+    );
+    let code = refusal(&mut service, alloc, &mut stops, 2, 2, taken)?;
+    assert_eq!(rt; code, Some(Code::Held), "taken by its owner");
+    let code = refusal(&mut service, alloc, &mut stops, 1, 2, taken)?;
+    assert_eq!(rt; code, None, "taken by another");
+    let code = refusal(&mut service, alloc, &mut stops, 1, 3, taken)?;
+    assert_eq!(rt; code, Some(Code::NotOwner), "released by another");
+    let code = refusal(&mut service, alloc, &mut stops, 2, 4, taken)?;
+    assert_eq!(rt; code, Some(Code::Held), "freed while it is owned");
+    assert_eq!(rt;
+        change(&mut service, alloc, &mut stops, 2, 3, taken)?.desc,
+        0
+    );
+    assert_eq!(rt;
+        change(&mut service, alloc, &mut stops, 64, 4, free)?.desc,
+        0
+    );
+    assert_eq!(rt; stops.asked(), 5);
+    Ok(())
+}
+
+#[test]
+fn stops_at_each_part(rt: HostRuntime) -> Result<(), Fail> {
+    let alloc = rt.alloc();
+    for point in [1, 2] {
+        let mut stops = Once::new(point);
+        let mut service = LockService::fresh(alloc);
+        let stopped = make(&mut service, alloc, &mut stops, 1).err();
+        assert!(rt; matches!(stopped, Some(Outcome::Stopped)), "at {point}");
+        assert_eq!(rt; stops.asked(), point);
+    }
+    let mut stops = Once::new(3);
+    let mut service = LockService::fresh(alloc);
+    make(&mut service, alloc, &mut stops, 1)?;
+    let free = Lock {
+        creator: 1,
+        owner: 0,
+    };
+    let stopped = change(&mut service, alloc, &mut stops, 2, 2, free).err();
+    assert!(rt; matches!(stopped, Some(Outcome::Stopped)));
+    Ok(())
+}
+
+#[test]
+fn names_its_functions(rt: HostRuntime) {
+    let shape = <LockService as Service>::shape();
+    assert_eq!(rt; shape.name, b"lock".as_slice());
+    assert_eq!(rt; shape.funs.len(), 4);
+    assert!(rt; shape.global);
+}
