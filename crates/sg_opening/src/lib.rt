@@ -1,0 +1,12 @@
+//! The one form of input of the first program: the standard lock interface, and a script of one client's calls.
+//!
+//! - `pieces`: a word in front or behind, and a number before its closing bracket
+//! - `step`: one call of a script (`Step`, `Arg`)
+//! - `script`: a whole script, and a whole input (`read`)
+#![tactic(auto)]
+
+mod pieces;
+mod step;
+
+pub use step::{Arg, Step};
+
