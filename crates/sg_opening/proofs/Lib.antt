@@ -1,2 +1,4 @@
+pub mod Inputs
 pub mod Numbers
+pub mod Scripts
 pub mod Steps

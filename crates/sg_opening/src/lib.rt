@@ -5,8 +5,11 @@
 //! - `script`: a whole script, and a whole input (`read`)
 #![tactic(auto)]
 
+mod head;
 mod pieces;
+mod script;
 mod step;
 
+pub use script::read;
 pub use step::{Arg, Step};
 

@@ -1,0 +1,23 @@
+-- The head, and the script behind it with or without the end of its line.
+use Rattle.std.proofs.Common.{inl, inr}
+use Rattle.sg_opening.proofs.Inputs.{with_end, no_end_of_line, is_read, none_read}
+use Rattle.sg_opening.proofs.script.read.Goals as goal
+
+pub returns-in_default-clause-none : goal.returns-in_default-clause-none
+returns-in_default-clause-none c steps is = c.in_default.ensures is.script is.whole
+
+pub returns-in-Some-before-clause-some : goal.returns-in-Some-before-clause-some
+returns-in-Some-before-clause-some c =
+    is_read (λ v. v.items) _ _ _ c.steps_of_body.result c.in-Some.ensures (λ steps text. inr (c.in-Some-before.body.now, c.in-Some-before.ensures, text)) c.steps_of_body.ensures.some
+
+pub returns-in-Some-before-clause-none : goal.returns-in-Some-before-clause-none
+returns-in-Some-before-clause-none c =
+    none_read _ _ _ c.steps_of_body.result c.in-Some.ensures (λ steps. with_end _ _ steps c.in-Some-before.ensures) c.steps_of_body.ensures.none
+
+pub returns-in-None-clause-some : goal.returns-in-None-clause-some
+returns-in-None-clause-some c =
+    is_read (λ v. v.items) _ _ _ c.steps_of_body-in-None.result c.in-Some.ensures (λ steps text. inl text) c.steps_of_body-in-None.ensures.some
+
+pub returns-in-None-clause-none : goal.returns-in-None-clause-none
+returns-in-None-clause-none c =
+    none_read _ _ _ c.steps_of_body-in-None.result c.in-Some.ensures (λ steps. no_end_of_line _ steps c.in-None.ensures) c.steps_of_body-in-None.ensures.none
