@@ -1,6 +1,5 @@
 -- Digits end at the first `)`.
-use Rattle.std.proofs.Common.{◌≡◌, ◌≢◌, ℕ, ◌+◌, ◌<◌, ◌≤◌, List, [], ◌∷◌, ◌++◌, length, get_or, refl, sym, ap, ◌∙◌, inl, inr, arith, length-append}
-use Rattle.std.proofs.lemmas.Grind.{common_steps}
+use Rattle.std.proofs.Common.{◌≡◌, ◌≢◌, ℕ, ◌<◌, ◌≤◌, List, [], ◌∷◌, ◌++◌, length, get_or, refl, sym, ap, ◌∙◌, inl, inr, arith, length-append}
 use Rattle.std.proofs.lemmas.List.{get_or_append_left, get_or-append-add}
 use Rattle.std.proofs.lemmas.Bool.{cases_lt}
 use Rattle.sg_opening.specs.Numeral.{IsNumeral}
@@ -23,7 +22,7 @@ close_is : (digits rest : List ℕ) (n place : ℕ) → IsNumeral digits n
     → place ≤ length (digits ++ 41 ∷ rest) → place ≡ length digits
 close_is digits rest n place numeral before found within =
     let here : get_or (digits ++ 41 ∷ rest) (length digits) 0 ≡ 41 =
-        ap (λ k. get_or (digits ++ 41 ∷ rest) k 0) (omega arith) ∙ get_or-append-add digits (41 ∷ rest) 0 0 in
+    ap (λ k. get_or (digits ++ 41 ∷ rest) k 0) (omega arith) ∙ get_or-append-add digits (41 ∷ rest) 0 0 in
     let long = length-append digits (41 ∷ rest) in
     elim (cases_lt place (length digits)) [
       | inl low ↦ absurd (let at = found (omega (arith, long)) in omega (arith, sym (get_or_append_left digits (41 ∷ rest) 0 place low) ∙ at, (numeral.all place low).1))

@@ -1,3 +1,4 @@
 pub mod Input
+pub mod Interface
 pub mod Numeral
 pub mod Script

@@ -1,7 +1,7 @@
 // What stands before each script.
 
-/// The standard lock interface, and the line of `%%` behind it.
-pub const HEAD: &[u8] = b"service_global_info = {
+// The standard lock interface, and the line of `%%` behind it.
+pub(crate) const HEAD: &[u8] = b"service_global_info = {
     service = lock,
     desc_has_parent = none,
     desc_close = refuse,

@@ -9,7 +9,8 @@ mod head;
 mod pieces;
 mod script;
 mod step;
+#[cfg(test)]
+mod tests;
 
 pub use script::read;
 pub use step::{Arg, Step};
-

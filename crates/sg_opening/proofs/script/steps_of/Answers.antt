@@ -1,10 +1,9 @@
 -- Each call is read, and none is passed over.
-use Rattle.std.proofs.Common.{◌≡◌, ℕ, ◌+◌, ◌<◌, [], ◌∷◌, ◌++◌, length, sym, ap, ◌∙◌, subst, true, arith, length-append}
+use Rattle.std.proofs.Common.{◌≡◌, ◌+◌, ◌<◌, [], ◌∷◌, ◌++◌, length, sym, ap, ◌∙◌, subst, true, arith, length-append}
 use Rattle.std.specs.Vec.{vec_len}
-use Rattle.std.proofs.lemmas.Grind.{common_steps}
 use Rattle.std.proofs.lemmas.Bool.{true≢false}
 use Rattle.std.proofs.lemmas.Bool.Decides.{nat_tests}
-use Rattle.sg_opening.specs.Script.{StepsText, IsBack, AreBack}
+use Rattle.sg_opening.specs.Script.{IsBack, AreBack}
 use Rattle.sg_opening.proofs.Scripts.{joins_more, next, only_more, back_more, back_at, ended}
 use Rattle.sg_opening.proofs.script.steps_of.Goals as goal
 use Rattle.sg_opening.proofs.script.steps_of.Goals.{then-len-eq-MOST-via-then-len-eq-MOST, then-len-eq-MOST-via-else-len-eq-MOST+then-not-is_back}

@@ -1,5 +1,5 @@
 -- Each call is read by its name, and no other name fits.
-use Rattle.std.proofs.Common.{◌++◌, codes, sym, ap, ◌∙◌, arith}
+use Rattle.std.proofs.Common.{◌++◌, codes, ap, ◌∙◌, arith}
 use Rattle.sg_opening.specs.declared.step.Step.TheVariants.{Alloc, Take, Release, Free}
 use Rattle.sg_opening.proofs.Steps.{apart}
 use Rattle.sg_opening.proofs.step.step_at.Goals as goal
