@@ -1,5 +1,6 @@
 // What no clause says: that scripts are read where there is memory, and values from outside.
 use crate::{Arg, Step, read};
+use sg_base::NoMemory;
 use std::alloc::{AllocError, Global};
 use std::process::Abort;
 use std::test::Fail;
@@ -38,6 +39,12 @@ fn input(alloc: Global, head: &[u8], script: &[u8]) -> Result<Vec<u8>, AllocErro
     let mut input = Vec::from_slice(alloc, head)?;
     input.extend_from_slice(script)?;
     Ok(input)
+}
+
+// Whether one call is read behind a head.
+fn is_read_behind(alloc: Global, head: &[u8]) -> Result<bool, NoMemory> {
+    let input = input(alloc, head, b"client 1 { lock_alloc(); }\n")?;
+    Ok(read(alloc, &input)?.is_some())
 }
 
 #[test]
@@ -142,22 +149,24 @@ fn takes_a_thousand_calls(rt: HostRuntime) -> Result<(), Fail> {
 fn wants_the_whole_interface(rt: HostRuntime) -> Result<(), Fail> {
     let alloc = rt.alloc();
     let whole = INTERFACE.len();
-    let mut changed = Vec::from_slice(alloc, INTERFACE)?;
-    changed[400] ^= 1;
-    let longer = input(alloc, b"\n", INTERFACE)?;
-    let script = b"client 1 { lock_alloc(); }\n";
-    for head in [
-        b"".as_slice(),
-        b"%%\n",
-        &INTERFACE[..whole - 3],
-        &INTERFACE[..whole - 1],
-        &INTERFACE[1..],
-        changed.as_slice(),
-        longer.as_slice(),
+    for (from, to) in [
+        (0, 0),
+        (whole - 3, whole),
+        (0, whole - 3),
+        (0, whole - 1),
+        (1, whole),
     ] {
-        let input = input(alloc, head, script)?;
-        let found = read(alloc, &input)?;
-        assert!(rt; found.is_none(), "a head of {} bytes", head.len());
+        let is_read = is_read_behind(alloc, &INTERFACE[from..to])?;
+        assert!(rt; !is_read, "the head from {from} to {to}");
     }
+    let mut head = Vec::from_slice(alloc, INTERFACE)?;
+    let is_read = is_read_behind(alloc, &head)?;
+    assert!(rt; is_read, "the interface as it is");
+    head[400] ^= 1;
+    let is_read = is_read_behind(alloc, &head)?;
+    assert!(rt; !is_read, "another byte");
+    let head = input(alloc, b"\n", INTERFACE)?;
+    let is_read = is_read_behind(alloc, &head)?;
+    assert!(rt; !is_read, "a byte more in front");
     Ok(())
 }
