@@ -1,8 +1,8 @@
 -- The first calls are played.
 use Rattle.std.proofs.Common.{◌≡◌, take, length}
 use Rattle.sg_lock.specs.LockObject.{lock_object}
-use Rattle.superglue.specs.World.{IsRun}
-use Rattle.superglue.proofs.world.play.Given as goal
+use Rattle.sg_sim.specs.Run.{IsRun}
+use Rattle.sg_sim.proofs.turns.play.Given as goal
 
 abbrev pub invariant-loop-step : goal.invariant-loop-step
 invariant-loop-step l = record {

@@ -13,7 +13,7 @@ use Rattle.sg_lock.specs.LockFacts.{lock_facts}
 use Rattle.sg_lock.specs.LockTable.{lock_table}
 use Rattle.sg_lock.specs.LockSound.{IsLockSound}
 use Rattle.sg_opening.specs.declared.step.Step.{Step}
-use Rattle.superglue.specs.Script.{AreCalls}
+use Rattle.sg_sim.specs.Script.{AreCalls}
 use Rattle.sg_opening.specs.Script.{AreBack, IsBack}
 
 -- a lock is free or owned by client 1

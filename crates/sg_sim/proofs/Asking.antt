@@ -26,7 +26,7 @@ use Rattle.sg_lock.specs.LockSound.{IsLockSound}
 use Rattle.sg_lock.specs.LockShapeLaw.{none_in_rows}
 use Rattle.sg_lock.specs.LockAlikeLaw.{there}
 use Rattle.sg_lock.specs.LockBlockedLaw.{is_take}
-use Rattle.superglue.specs.World.{IsAtMostFirst, IsOfFirst, MayMake}
+use Rattle.sg_sim.specs.Run.{IsAtMostFirst, IsOfFirst, MayMake}
 
 -- ---- what the guard shows
 

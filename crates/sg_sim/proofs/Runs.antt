@@ -28,10 +28,10 @@ use Rattle.sg_opening.specs.declared.step.Arg.{Arg}
 use Rattle.sg_opening.specs.declared.step.Arg.TheVariants.{Number, Back}
 use Rattle.sg_opening.specs.declared.step.Step.{Step}
 use Rattle.sg_opening.specs.declared.step.Step.TheVariants.{Alloc, Take, Release, Free}
-use Rattle.superglue.specs.Script.{resolved_call, fun_of, desc_of, desc_given, id_of_call, AreCalls}
+use Rattle.sg_sim.specs.Script.{resolved_call, fun_of, desc_of, desc_given, id_of_call, AreCalls}
 use Rattle.sg_opening.specs.Script.{AreBack, IsBack}
-use Rattle.superglue.specs.World.{IsAtMostFirst, IsOfFirst, MayMake, IsRun}
-use Rattle.superglue.proofs.Asking.{passes}
+use Rattle.sg_sim.specs.Run.{IsAtMostFirst, IsOfFirst, MayMake, IsRun}
+use Rattle.sg_sim.proofs.Asking.{passes}
 
 -- ---- owners
 

@@ -9,8 +9,8 @@ ghost use Rattle.sg_lock.specs.LockFacts.{lock_facts};
 ghost use Rattle.sg_lock.specs.LockTable.{lock_table};
 ghost use Rattle.sg_lock.specs.LockObject.{lock_object};
 ghost use Rattle.sg_opening.specs.Script.{AreBack};
-ghost use Rattle.superglue.specs.Script.{AreCalls, arg_value, desc_of, fun_of, id_of_call, resolved_call};
-ghost use Rattle.superglue.specs.World.{GoesOn, IsOfFirst, MayMake};
+ghost use Rattle.sg_sim.specs.Script.{AreCalls, arg_value, desc_of, fun_of, id_of_call, resolved_call};
+ghost use Rattle.sg_sim.specs.Run.{GoesOn, IsOfFirst, MayMake};
 
 use sg_base::{Args, Call, Code, NoMemory, Reply};
 use sg_edge::Never;

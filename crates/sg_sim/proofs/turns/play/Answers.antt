@@ -8,9 +8,9 @@ use Rattle.sg_lock.specs.LockTable.{lock_table}
 use Rattle.sg_lock.specs.LockObject.{lock_object}
 use Rattle.sg_opening.specs.declared.step.Step.TheVariants.{Alloc}
 use Rattle.sg_opening.specs.Script.{IsBack}
-use Rattle.superglue.specs.World.{IsRun}
-use Rattle.superglue.proofs.Runs.{back-take, back-at}
-use Rattle.superglue.proofs.world.play.Goals as goal
+use Rattle.sg_sim.specs.Run.{IsRun}
+use Rattle.sg_sim.proofs.Runs.{back-take, back-at}
+use Rattle.sg_sim.proofs.turns.play.Goals as goal
 
 pub loop-step-preserved : goal.loop-step-preserved
 loop-step-preserved c =

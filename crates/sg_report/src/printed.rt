@@ -3,7 +3,7 @@ ghost use Rattle.std.specs.Prelude.{◌≡◌, ◌++◌, ◌==◌, ◌≤◌, �
 ghost use Rattle.std.specs.Fmt.{decimal};
 ghost use Rattle.std.specs.List.{flat_map};
 ghost use Rattle.sg_facts.specs.Facts.{facts_of, fun_at, takes_desc};
-ghost use Rattle.superglue.specs.Report.{code_name, call_text, answer_text, entry_line, report_of};
+ghost use Rattle.sg_report.specs.Report.{code_name, call_text, answer_text, entry_line, report_of};
 ghost use Rattle.sg_lock.specs.LockFacts.{lock_facts};
 
 use sg_base::{Bytes, Call, Code, Good, NoMemory, Reply};

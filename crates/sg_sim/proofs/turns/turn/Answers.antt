@@ -7,10 +7,10 @@ use Rattle.sg_facts.specs.Object.{after}
 use Rattle.sg_lock.specs.LockFacts.{lock_facts}
 use Rattle.sg_lock.specs.LockTable.{lock_table}
 use Rattle.sg_lock.specs.LockObject.{lock_object}
-use Rattle.superglue.specs.Script.{resolved_call}
-use Rattle.superglue.specs.World.{MayMake, IsRun}
-use Rattle.superglue.proofs.Runs.{may_make, goes_on}
-use Rattle.superglue.proofs.world.turn.Goals as goal
+use Rattle.sg_sim.specs.Script.{resolved_call}
+use Rattle.sg_sim.specs.Run.{MayMake, IsRun}
+use Rattle.sg_sim.proofs.Runs.{may_make, goes_on}
+use Rattle.sg_sim.proofs.turns.turn.Goals as goal
 
 pub answer-requires : goal.answer-requires
 answer-requires c =
