@@ -6,6 +6,8 @@
 
 mod ended;
 mod history;
+#[cfg(test)]
+mod tests;
 
 pub use ended::{End, EndList, Ended};
 pub use history::History;

@@ -6,5 +6,7 @@
 #![tactic(auto)]
 
 mod printed;
+#[cfg(test)]
+mod tests;
 
 pub use printed::report;

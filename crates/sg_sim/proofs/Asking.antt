@@ -66,25 +66,25 @@ module _ (o : Object) (client seq desc : ℕ) (args : List Value) where
 
 pub may_ask : (o : Object) (call : Call) → MayMake o call → guard (whole lock_facts) o call ≡ None → MayAsk lock_facts o call
 may_ask o call may guarded = record {
-    is_call = may.is_call;
-    within = record {
-      client_first = omega (arith, may.client);
-      client_last = omega (arith, may.client);
-      counted = omega (arith, none_in_rows o.rows);
-      given = may.given;
-    };
-    desc = live_at o call.client call.seq call.desc call.args call.fun guarded;
-    parent = λ takes. absurd (no_parent o call.client call.seq call.desc call.args call.fun takes);
-    children = λ ends refuses. childless_at o call.client call.seq call.desc call.args call.fun guarded ends;
-  }
+  is_call = may.is_call;
+  within = record {
+    client_first = omega (arith, may.client);
+    client_last = omega (arith, may.client);
+    counted = omega (arith, none_in_rows o.rows);
+    given = may.given;
+  };
+  desc = live_at o call.client call.seq call.desc call.args call.fun guarded;
+  parent = λ takes. absurd (no_parent o call.client call.seq call.desc call.args call.fun takes);
+  children = λ ends refuses. childless_at o call.client call.seq call.desc call.args call.fun guarded ends;
+}
 
 pub passes : (o : Object) (call : Call) → MayMake o call → guard (whole lock_facts) o call ≡ None → Passes lock_facts o call
 passes o call may guarded = record {
-    is_call = may.is_call;
-    words = subst AreWords (sym may.plain) tt;
-    within = (may_ask o call may guarded).within;
-    guarded = guarded;
-  }
+  is_call = may.is_call;
+  words = subst AreWords (sym may.plain) tt;
+  within = (may_ask o call may guarded).within;
+  guarded = guarded;
+}
 
 -- ---- it never waits
 

@@ -93,9 +93,9 @@ of_first_after o call (Ok good) may is = at (guard (whole lock_facts) o call) re
     at : (found : Option Code) → guard (whole lock_facts) o call ≡ found → refused_or found (lock_table o call) ≡ Some (Ok good) → IsOfFirst (after lock_facts o call (Ok good))
     at (Some code) guarded is = absurd (cc is)
     at None guarded is = record {
-        sound = lock_answers_and_keeps.keeps o call good may.of_first.sound (passes o call may guarded) is;
-        owners = owners_at o call.client call.seq call.desc call.args may.client call.fun good may.of_first.owners is;
-      }
+      sound = lock_answers_and_keeps.keeps o call good may.of_first.sound (passes o call may guarded) is;
+      owners = owners_at o call.client call.seq call.desc call.args may.client call.fun good may.of_first.owners is;
+    }
 
 one_more : (b : Bool) (n : ℕ) → cond b (n + 1) n ≤ n + 1
 one_more true n = omega arith
@@ -161,12 +161,12 @@ is_call history seq (Free arg) = record { first = omega arith; last = omega arit
 
 pub may_make : (history : List Entry) (o : Object) (seq : ℕ) (step : Step) → IsOfFirst o → o.given ≤ length history → length history < 2 ^ 31 → MayMake o (resolved_call history seq step)
 may_make history o seq step of_first given few = record {
-    of_first = of_first;
-    is_call = is_call history seq step;
-    client = refl;
-    plain = refl;
-    given = omega (arith, given);
-  }
+  of_first = of_first;
+  is_call = is_call history seq step;
+  client = refl;
+  plain = refl;
+  given = omega (arith, given);
+}
 
 -- the run goes on by the next call
 pub goes_on : (history : List Entry) (o o' : Object) (steps : List Step) (step : Step) (reply : Reply) → IsRun history o steps → length history < 2 ^ 31
@@ -184,7 +184,7 @@ goes_on history o o' steps step reply run few back own answered is =
       of_first = subst IsOfFirst (sym is) (of_first_after o call reply may answered);
       given = omega (arith, ap (λ x. x.given) is, given_after-le o call reply, run.given, length-append history (e ∷ []));
       calls = calls-append (history ++ e ∷ []) 1 history steps e step (calls-kept history e 1 history steps back (omega arith) run.calls)
-        (sym (resolved-append history e (length history + 1) (length history + 1) step own (omega arith)) ∙ ap (λ n. resolved_call (history ++ e ∷ []) n step) (omega arith));
+          (sym (resolved-append history e (length history + 1) (length history + 1) step own (omega arith)) ∙ ap (λ n. resolved_call (history ++ e ∷ []) n step) (omega arith));
     }
 
 -- ---- the steps of a script

@@ -5,6 +5,8 @@
 //! `specs/Script.antt` has what a script's calls come to when they are made, `specs/Run.antt` what a run keeps.
 #![tactic(auto)]
 
+#[cfg(test)]
+mod tests;
 mod turns;
 
 pub use turns::play;

@@ -19,7 +19,7 @@ loop-step-preserved c =
     let own = subst (λ k. IsBack k (get_or steps n Alloc)) (omega (arith, c.loop-step.invariant.count)) (back-at 1 steps n Alloc c.requires.back c.loop-step-test.true) in
     record {
       run = subst (IsRun c.turn.new.history.items (lock_object c.turn.new.locks)) (sym (take_more steps n Alloc c.loop-step-test.true))
-        (c.in_ok-turn.ensures.goes_on (take n steps) c.loop-step.invariant.run (back-take 1 steps n c.requires.back) own);
+          (c.in_ok-turn.ensures.goes_on (take n steps) c.loop-step.invariant.run (back-take 1 steps n c.requires.back) own);
       count = omega (arith, c.in_ok-turn.ensures.more, c.loop-step.invariant.count);
     }
 

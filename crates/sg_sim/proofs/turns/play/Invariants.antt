@@ -6,6 +6,6 @@ use Rattle.sg_sim.proofs.turns.play.Given as goal
 
 abbrev pub invariant-loop-step : goal.invariant-loop-step
 invariant-loop-step l = record {
-    run : IsRun l.history.items (lock_object l.locks) (take l.step-index l.steps);
-    count : length l.history.items ≡ l.step-index
-  }
+  run : IsRun l.history.items (lock_object l.locks) (take l.step-index l.steps);
+  count : length l.history.items ≡ l.step-index;
+}

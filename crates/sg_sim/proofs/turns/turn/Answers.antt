@@ -27,5 +27,5 @@ returns-clause-goes_on c steps run back own =
     let pushed = c.in_ok-push.ensures.ok ∙ ap (λ (x : Call). history ++ record { call = x; reply = reply } ∷ []) is in
     subst (λ h. IsRun h (lock_object c.answer.new.locks) (steps ++ c.args.step ∷ [])) (sym pushed)
     (goes_on history o (lock_object c.answer.new.locks) steps c.args.step reply run c.requires.few back own
-      (ap (answer (whole lock_facts) lock_table o) (sym is) ∙ c.in_ok-reply.ensures.answered)
-      (c.in_ok-reply.ensures.changed ∙ ap (λ x. after lock_facts o x reply) is))
+    (ap (answer (whole lock_facts) lock_table o) (sym is) ∙ c.in_ok-reply.ensures.answered)
+    (c.in_ok-reply.ensures.changed ∙ ap (λ x. after lock_facts o x reply) is))
