@@ -24,7 +24,7 @@ no_child (e ∷ es) parent some =
 
 pub returns : goal.returns
 returns c = record {
-    row = row_at-rows_of lock_body c.args.self.now.locks.entries c.args.id ∙ ap (option_map (λ l. row_with c.args.id (lock_body l))) (sym c.get.ensures.entry);
-    id = λ some. above_low 0 c.args.self.now.locks.given c.args.id c.args.self.now.locks.entries c.get.ensures.ascending (ap is_some (sym c.get.ensures.entry) ∙ copied_some c.get.result some);
-    childless = no_child c.args.self.now.locks.entries;
-  }
+  row = row_at-rows_of lock_body c.args.self.now.locks.entries c.args.id ∙ ap (option_map (λ l. row_with c.args.id (lock_body l))) (sym c.get.ensures.entry);
+  id = λ some. above_low 0 c.args.self.now.locks.given c.args.id c.args.self.now.locks.entries c.get.ensures.ascending (ap is_some (sym c.get.ensures.entry) ∙ copied_some c.get.result some);
+  childless = no_child c.args.self.now.locks.entries;
+}
