@@ -127,7 +127,7 @@ fn plays_nothing(rt: HostRuntime) -> Result<(), Fail> {
     let alloc = rt.alloc();
     let (status, ran, sink) = played(alloc, INTERFACE)?;
     assert_eq!(rt; status, 0);
-    assert!(rt; ran && sink.written() == b"calls 0 boots 1 replays 0\n");
+    assert!(rt; ran && sink.written() == b"calls 0 boots 1 replays 0\n".as_slice());
     Ok(())
 }
 
