@@ -18,12 +18,6 @@ module _ {E : Type 0} where
       ap (λ b. cond b (Some e.1) (entry_at es id)) other ∙ absent e.0 high id es ids.2 above
 
   -- a new id goes last
-  pub set_entry-new : (low high id : ℕ) (es : List (ℕ × E)) (new : E) → AreIds low high es → high < id → set_entry es id new ≡ es ++ (id, new) ∷ []
-  set_entry-new low high id [] new ids above = refl
-  set_entry-new low high id (e ∷ es) new ids above =
-      let other : nat_eq id e.0 ≡ false = grind (arith, nat_tests, ids.1) in
-      ap (λ b. cond b ((e.0, new) ∷ es) (e ∷ set_entry es id new)) other ∙ ap (λ l. e ∷ l) (set_entry-new e.0 high id es new ids.2 above)
-
   pub ids_more : (low high id : ℕ) (es : List (ℕ × E)) (new : E) → AreIds low high es → low < id → high < id → AreIds low id (es ++ (id, new) ∷ [])
   ids_more low high id [] new ids below above = (below, omega arith, tt)
   ids_more low high id (e ∷ es) new ids below above = (ids.0, omega (arith, ids.1), ids_more e.0 high id es new ids.2 (omega (arith, ids.1)) above)
@@ -47,6 +41,16 @@ module _ {E : Type 0} where
   ]
 
 -- an id that is there is above the range's lower end
+pub above_front : {E : Type 0} (low high id : ℕ) (es : List (ℕ × E)) → AreIds low high es → IsSome (entry_at es id) → low < id
+above_front low high id [] ids there = absurd (cc there)
+above_front low high id (e ∷ es) ids there = elim (cases_Bool (nat_eq id e.0)) [
+  | inl here ↦ let one : id ≡ e.0 = grind (arith, nat_tests) in omega (arith, ids.0, one)
+  | inr other ↦
+      let rest = above_front e.0 high id es ids.2 (subst (λ b. IsSome (cond b (Some e.1) (entry_at es id))) other there) in
+      omega (arith, ids.0, rest)
+]
+
+-- the same, by the test
 pub above_low : {E : Type 0} (low high id : ℕ) (es : List (ℕ × E)) → AreIds low high es → is_some (entry_at es id) ≡ true → low < id
 above_low low high id [] ids there = absurd (cc there)
 above_low low high id (e ∷ es) ids there = elim (cases_Bool (nat_eq id e.0)) [

@@ -87,3 +87,13 @@ module _ {E : Type 0} where
   IsAbout held id (Set e word) = IsSome (entry_at held.entries id)
   IsAbout held id Remove = IsSome (entry_at held.entries id)
   IsAbout held id _ = Unit {0}
+
+  -- what adding an entry under the next id, in two parts, does, by its outcome
+  abbrev pub Adds : List (ℕ × E) → ℕ → E → Reply → Points → Outcome → List (ℕ × E) → ℕ → Points → Type 0
+  Adds old given e reply points (Replied other None) new last later =
+      (other ≡ reply) × (new ≡ old ++ (given + 1, e) ∷ []) × (last ≡ given + 1) × (later.asked ≡ asked_after points.asked 2) × (later.struck ≡ points.struck)
+  Adds old given e reply points (Replied other (Some patch)) new last later = ⊥
+  Adds old given e reply points Blocks new last later = ⊥
+  Adds old given e reply points Stopped new last later =
+      (points.asked < later.asked) × (later.asked ≤ points.asked + 2) × (later.struck ≡ points.struck ++ later.asked ∷ [])
+  Adds old given e reply points NoMemory new last later = (new ≡ old) × (last ≡ given) × (later ≡ points)

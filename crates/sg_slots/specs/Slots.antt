@@ -1,7 +1,6 @@
 -- What contracts see of slots: entries under ids, and the object that they stand for.
 use Rattle.std.specs.Prelude.{ℕ, ◌<◌, ◌≤◌, nat_eq, List, [], ◌∷◌, map}
-use Rattle.std.specs.Map.{lookup}
-use Rattle.indexmap.specs.IndexMap.{insert_entry, shift_remove_entry}
+use Rattle.std.specs.Map.{lookup, remove_entry, set_value}
 use Rattle.std.specs.declared.option.Option.{Option}
 use Rattle.sg_base.specs.declared.value.Value.{Value}
 use Rattle.sg_facts.specs.declared.row.Row.{Row}
@@ -35,11 +34,11 @@ entry_at es id = lookup (nat_eq id) es
 
 -- the entries with that of an id set
 abbrev pub set_entry : {E : Type 0} → List (ℕ × E) → ℕ → E → List (ℕ × E)
-set_entry es id e = insert_entry nat_eq es id e
+set_entry es id e = set_value (nat_eq id) es e
 
 -- the entries without that of an id
 abbrev pub without : {E : Type 0} → List (ℕ × E) → ℕ → List (ℕ × E)
-without es id = shift_remove_entry (nat_eq id) es
+without es id = remove_entry (nat_eq id) es
 
 module _ {E : Type 0} (body : E → Body) where
   -- the rows that entries stand for

@@ -1,16 +1,15 @@
 // What a service decides, and how it is done.
-ghost use Rattle.std.specs.Prelude.{◌≡◌, ◌<◌, ◌^◌, ℕ, nat_eq, None, IfOk, IsSome};
-ghost use Rattle.std.specs.Map.{lookup};
-ghost use Rattle.indexmap.specs.IndexMap.{spare};
+ghost use Rattle.std.specs.Prelude.{◌≡◌, ◌<◌, ◌^◌, ℕ, IfOk, IsSome};
 ghost use Rattle.sg_slots.specs.declared.decision.Decision.TheVariants.{Make, Set, Remove};
-ghost use Rattle.sg_slots.specs.Slots.{entry_at, set_entry};
-ghost use Rattle.sg_slots.specs.Carry.{Carries, AnswersOnly, IsAbout, words_of, ok_with};
+ghost use Rattle.sg_slots.specs.Slots.{entry_at, set_entry, AreIds};
+ghost use Rattle.sg_slots.specs.Carry.{Adds, Carries, AnswersOnly, IsAbout, words_of, ok_with};
 
 use crate::Slots;
-use indexmap::IndexMap;
 use sg_base::{Bytes, Code, Good, NoMemory, Point, Reply, Stops, Words};
 use sg_facts::Outcome;
 use std::alloc::Global;
+use std::collections::BTreeMap;
+use std::collections::btree_map::Entry;
 
 /// What a service decides to do with a call.
 #[derive(Debug, Drop)]
@@ -73,21 +72,43 @@ fn make<E: Drop, T: Stops>(
     ensures test { T.test (T.asked stops.old) (T.struck stops.old) (T.plan stops.old)
         → T.test (T.asked stops.new) (T.struck stops.new) (T.plan stops.new) }
 {
-    if slots.entries.reserve(1).is_err() {
-        return Outcome::NoMemory;
-    }
     match good(alloc, slots.given + 1, word) {
-        Ok(reply) => {
+        Ok(reply) => add(&mut slots.entries, &mut slots.given, stops, entry, reply),
+        Err(_) => Outcome::NoMemory,
+    }
+}
+
+// Adds an entry under the id after the last one given, and answers a reply. Its room is taken first.
+fn add<E: Drop, T: Stops>(
+    entries: &mut BTreeMap<u64, E>,
+    given: &mut u64,
+    stops: &mut T,
+    entry: E,
+    reply: Reply,
+) -> Outcome
+    requires ids { AreIds 0 given.old entries.old.entries }
+    requires room { given.old < 2 ^ 63 }
+    ensures outcome { Adds entries.old.entries given.old entry reply
+        (record { asked = T.asked stops.old; struck = T.struck stops.old }) result
+        entries.new.entries given.new (record { asked = T.asked stops.new; struck = T.struck stops.new }) }
+    ensures ids { AreIds 0 given.new entries.new.entries }
+    ensures plan { T.plan stops.new ≡ T.plan stops.old }
+    ensures test { T.test (T.asked stops.old) (T.struck stops.old) (T.plan stops.old)
+        → T.test (T.asked stops.new) (T.struck stops.new) (T.plan stops.new) }
+{
+    match entries.entry(*given + 1) {
+        Ok(Entry::Vacant(place)) => {
             if stops.strikes(Point::Part(1)) {
                 return Outcome::Stopped;
             }
-            slots.given += 1;
+            *given += 1;
             if stops.strikes(Point::Part(2)) {
                 return Outcome::Stopped;
             }
-            put(&mut slots.entries, slots.given, entry);
+            place.insert(entry);
             replied(reply)
         }
+        Ok(Entry::Occupied(_)) => unreachable!(),
         Err(_) => Outcome::NoMemory,
     }
 }
@@ -114,7 +135,7 @@ fn set<E: Drop, T: Stops>(
             if stops.strikes(Point::Part(1)) {
                 return Outcome::Stopped;
             }
-            put(&mut slots.entries, id, entry);
+            put(&mut slots.entries, slots.given, id, entry);
             replied(reply)
         }
         Err(_) => Outcome::NoMemory,
@@ -146,16 +167,17 @@ fn remove<E: Drop, T: Stops>(slots: &mut Slots<E>, alloc: Global, stops: &mut T,
             if stops.strikes(Point::Part(1)) {
                 return Outcome::Stopped;
             }
-            let _ = slots.entries.shift_remove(&id);
+            let _ = slots.entries.remove(&id);
             replied(reply)
         }
         Err(_) => Outcome::NoMemory,
     }
 }
 
-// Sets the entry of an id, which is there already or has room.
-fn put<E: Drop>(entries: &mut IndexMap<u64, E>, id: u64, entry: E)
-    requires { lookup (nat_eq id) entries.old.entries ≡ None → 0 < spare entries.old }
+// Sets the entry of an id that is there.
+fn put<E: Drop>(entries: &mut BTreeMap<u64, E>, given: u64, id: u64, entry: E)
+    requires ids { AreIds 0 given entries.old.entries }
+    requires there { IsSome (entry_at entries.old.entries id) }
     ensures { entries.new.entries ≡ set_entry entries.old.entries id entry }
 {
     match entries.insert(id, entry) {

@@ -3,16 +3,16 @@ ghost use Rattle.std.specs.Prelude.{◌≡◌, ◌↔◌, [], length, IsTrue, On
 ghost use Rattle.std.specs.Option.{option_copied};
 ghost use Rattle.sg_slots.specs.Slots.{entry_at, AreIds};
 
-use indexmap::IndexMap;
-use sg_base::NoMemory;
 use std::alloc::Global;
+use std::collections::BTreeMap;
 use std::marker::Model;
 
 /// The entries of a service's live descriptors, each under its service id, in the order of the ids, and the number of
-/// ids given. Ids are given from 1 on, and none comes again. An entry is found by its id without a scan.
+/// ids given. Ids are given from 1 on, and none comes again. An entry is found, set and ended in time that grows with the
+/// logarithm of the live entries.
 #[derive(Debug, Drop)]
 pub struct Slots<E> {
-    pub(crate) entries: IndexMap<u64, E>,
+    pub(crate) entries: BTreeMap<u64, E>,
     pub(crate) given: u64,
 }
 
@@ -33,7 +33,7 @@ impl<E> Slots<E> {
         ensures given { result.given ≡ 0 }
     {
         Slots {
-            entries: IndexMap::new(alloc),
+            entries: BTreeMap::new(alloc),
             given: 0,
         }
     }
