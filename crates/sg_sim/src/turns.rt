@@ -1,27 +1,21 @@
 // The run of one client of the lock service, without stops.
-ghost use Rattle.std.specs.Prelude.{◌≡◌, ◌+◌, ◌^◌, ◌<◌, ◌≤◌, None, Some, IfOk, OnOk, length};
-ghost use Rattle.sg_facts.specs.Object.{after};
-ghost use Rattle.sg_facts.specs.Guard.{guard as the_guard};
+ghost use Rattle.std.specs.Prelude.{◌≡◌, ◌+◌, ◌^◌, ◌<◌, ◌≤◌, IfOk, OnOk, length};
 ghost use Rattle.sg_facts.specs.Laws.{whole};
-ghost use Rattle.sg_facts.specs.Legal.{IsLegal, answer as the_answer};
-ghost use Rattle.sg_facts.specs.Kinds.{IsCall};
+ghost use Rattle.sg_facts.specs.Legal.{IsLegal};
 ghost use Rattle.sg_lock.specs.LockFacts.{lock_facts};
 ghost use Rattle.sg_lock.specs.LockTable.{lock_table};
 ghost use Rattle.sg_lock.specs.LockObject.{lock_object};
 ghost use Rattle.sg_opening.specs.Script.{AreBack};
 ghost use Rattle.sg_sim.specs.Script.{AreCalls, arg_value, desc_of, fun_of, id_of_call, resolved_call};
-ghost use Rattle.sg_sim.specs.Run.{GoesOn, IsOfFirst, MayMake};
+ghost use Rattle.sg_sim.specs.declared.world.Phase.TheVariants.{Idle};
+ghost use Rattle.sg_sim.specs.Run.{GoesOn, IsOfFirst};
 
-use sg_base::{Args, Call, Code, NoMemory, Reply};
-use sg_edge::Never;
-use sg_facts::{Entry, Outcome, Service};
+use crate::world::World;
+use sg_base::{Args, Call, NoMemory, Reply};
+use sg_facts::Entry;
 use sg_hist::History;
-use sg_lock::LockService;
 use sg_opening::{Arg, Step};
 use std::alloc::Global;
-
-// The greatest number of live locks.
-const MOST_LIVE: usize = 1024;
 
 /// Plays the calls of client 1, one after the other.
 pub fn play(alloc: Global, steps: &[Step]) -> Result<History, NoMemory>
@@ -30,30 +24,29 @@ pub fn play(alloc: Global, steps: &[Step]) -> Result<History, NoMemory>
     ensures legal { IfOk result (λ history. IsLegal (whole lock_facts) lock_table history.items) }
     ensures calls { IfOk result (λ history. AreCalls history.items 1 history.items steps.now) }
 {
-    let mut locks = LockService::fresh(alloc);
-    let mut history = History::new(alloc);
+    let mut world = World::new(alloc);
     for step in steps {
-        turn(&mut locks, &mut history, alloc, *step)?;
+        turns(&mut world, alloc, *step)?;
     }
-    Ok(history)
+    Ok(world.history)
 }
 
-// Makes the next call.
-fn turn(
-    locks: &mut LockService,
-    history: &mut History,
-    alloc: Global,
-    step: Step,
-) -> Result<(), NoMemory>
-    requires of_first { IsOfFirst (lock_object locks.old) }
-    requires given { (lock_object locks.old).given ≤ length history.old.items }
-    requires few { length history.old.items < 2 ^ 31 }
-    ensures more { OnOk result (length history.new.items ≡ length history.old.items + 1) }
-    ensures goes_on { OnOk result (GoesOn history.old.items (lock_object locks.old) step history.new.items (lock_object locks.new)) }
+// The turns of the next call: it is offered, and steps are made until it is answered.
+fn turns(world: &mut World, alloc: Global, step: Step) -> Result<(), NoMemory>
+    requires idle { world.old.phase ≡ Idle }
+    requires of_first { IsOfFirst (lock_object world.old.locks) }
+    requires given { (lock_object world.old.locks).given ≤ length world.old.history.items }
+    requires few { length world.old.history.items < 2 ^ 31 }
+    ensures idle { OnOk result (world.new.phase ≡ Idle) }
+    ensures more { OnOk result (length world.new.history.items ≡ length world.old.history.items + 1) }
+    ensures goes_on { OnOk result (GoesOn world.old.history.items (lock_object world.old.locks) step
+        world.new.history.items (lock_object world.new.locks)) }
 {
-    let call = call_of(alloc, history.as_slice(), step);
-    let reply = answer(locks, alloc, &call)?;
-    history.push(Entry { call, reply })?;
+    let call = call_of(alloc, world.history.as_slice(), step);
+    world.offer(call);
+    'steps: while !world.is_idle() {
+        world.step(alloc)?;
+    }
     Ok(())
 }
 
@@ -116,55 +109,5 @@ fn id_of_call(done: &[Entry], call: u32) -> u64
             Reply::Refused(_) => 0,
         },
         None => 0,
-    }
-}
-
-// Answers a call: the guard's refusal where there is one, else the service's reply.
-fn answer(locks: &mut LockService, alloc: Global, call: &Call) -> Result<Reply, NoMemory>
-    requires { MayMake (lock_object locks.old) call.now }
-    ensures answered { IfOk result (λ reply. the_answer (whole lock_facts) lock_table (lock_object locks.old) call.now ≡ Some reply) }
-    ensures changed { IfOk result (λ reply. lock_object locks.new ≡ after lock_facts (lock_object locks.old) call.now reply) }
-{
-    match guard(locks, call) {
-        Some(code) => Ok(Reply::Refused(code)),
-        None => ask(locks, alloc, call),
-    }
-}
-
-// Asks the service what the guard lets pass.
-fn ask(locks: &mut LockService, alloc: Global, call: &Call) -> Result<Reply, NoMemory>
-    requires may { MayMake (lock_object locks.old) call.now }
-    requires guarded { the_guard (whole lock_facts) (lock_object locks.old) call.now ≡ None }
-    ensures answered { IfOk result (λ reply. lock_table (lock_object locks.old) call.now ≡ Some reply) }
-    ensures changed { IfOk result (λ reply. lock_object locks.new ≡ after lock_facts (lock_object locks.old) call.now reply) }
-{
-    let mut stops = Never::new();
-    match locks.invoke(alloc, &mut stops, call) {
-        Outcome::Replied { reply, patch } => {
-            drop(patch);
-            Ok(reply)
-        }
-        Outcome::NoMemory => Err(NoMemory),
-        Outcome::Blocks => unreachable!(),
-        Outcome::Stopped => unreachable!(),
-    }
-}
-
-// What the rows alone refuse.
-fn guard(locks: &LockService, call: &Call) -> Option<Code>
-    requires { IsCall lock_facts call.now }
-    ensures { result ≡ the_guard (whole lock_facts) (lock_object locks.now) call.now }
-{
-    if call.fun == 1 {
-        return if locks.live() >= MOST_LIVE {
-            Some(Code::Full)
-        } else {
-            None
-        };
-    }
-    match locks.lock(call.desc) {
-        None => Some(Code::NoDesc),
-        Some(lock) if lock.owner == 0 && call.fun == 3 => Some(Code::BadState),
-        Some(_) => None,
     }
 }

@@ -1,7 +1,7 @@
 -- The call may be asked, and is answered.
 
 use Rattle.sg_sim.proofs.Asking.{may_ask, never_waits}
-use Rattle.sg_sim.proofs.turns.ask.Goals as goal
+use Rattle.sg_sim.proofs.world.ask.Goals as goal
 
 pub invoke-requires : goal.invoke-requires
 invoke-requires c = may_ask _ _ c.requires.may c.requires.guarded

@@ -1,0 +1,15 @@
+-- The offered call comes to its answer.
+use Rattle.std.proofs.Common.{length, ◌+◌}
+use Rattle.sg_lock.specs.LockObject.{lock_object}
+use Rattle.sg_sim.specs.Script.{resolved_call}
+use Rattle.sg_sim.specs.World.{IsUnderWay, steps_left}
+use Rattle.sg_sim.proofs.turns.turns.Given as goal
+
+abbrev pub invariant-steps : goal.invariant-steps
+invariant-steps l =
+    let done = l.fn.world.history.items in
+    IsUnderWay (record { phase = l.fn.world.phase; history = done; object = lock_object l.fn.world.locks }) (resolved_call done (length done + 1) l.fn.step) l.world.phase
+    (record { phase = l.world.phase; history = l.world.history.items; object = lock_object l.world.locks })
+
+abbrev pub decreases-steps : goal.decreases-steps
+decreases-steps l = steps_left l.world.phase
