@@ -3,6 +3,7 @@ use crate::top::{Answer, serial, superglue};
 use sg_base::NoMemory;
 use sg_edge::{MemSink, MemSource, OpenGate};
 use std::alloc::{AllocError, Global};
+use std::fmt::Write;
 use std::test::Fail;
 
 // The standard lock interface, and the line of `%%`.
@@ -62,12 +63,59 @@ fn sim(alloc: Global) -> Result<Vec<String>, AllocError> {
     Ok(words)
 }
 
-// What an input comes to: the status, whether there is a run, and what is written.
-fn played(alloc: Global, input: &[u8]) -> Result<(u8, bool, MemSink), NoMemory> {
-    let mut source = MemSource::new(alloc, input, 4096, &[])?;
-    let mut sink = MemSink::new(alloc, 4096, &[])?;
+// An input, the read and the write that fail (from 1, where 0 is none), and what that comes to.
+#[derive(Clone, Copy)]
+struct Case<'a> {
+    what: &'a str,
+    input: &'a [u8],
+    read: u32,
+    write: u32,
+    status: u8,
+    written: &'a [u8],
+}
+
+// An input that is refused.
+fn refused<'a>(what: &'a str, input: &'a [u8]) -> Case<'a> {
+    Case {
+        what,
+        input,
+        read: 0,
+        write: 0,
+        status: 2,
+        written: REFUSAL,
+    }
+}
+
+// Whether a case comes to what it should, and whether there is a run just where one came to its end.
+fn holds(alloc: Global, case: &Case) -> Result<bool, NoMemory> {
+    let mut source = MemSource::new(alloc, case.input, 400, &[case.read])?;
+    let mut sink = MemSink::new(alloc, 10, &[case.write])?;
     let answer = serial(alloc, sim(alloc)?.as_slice(), &mut source, &mut sink);
-    Ok((answer.status, answer.ended.is_some(), sink))
+    let ran = matches!(case.status, 0 | 5);
+    Ok(
+        answer.status == case.status
+            && answer.ended.is_some() == ran
+            && sink.written() == case.written,
+    )
+}
+
+// A script of so many calls.
+fn script_of(alloc: Global, calls: usize) -> Result<Vec<u8>, AllocError> {
+    let mut script = Vec::from_slice(alloc, b"client 1 {")?;
+    for _ in 0..calls {
+        script.extend_from_slice(b" lock_take(1);")?;
+    }
+    script.extend_from_slice(b" }\n")?;
+    Ok(script)
+}
+
+// An input of so many bytes: a good one, and blanks behind it.
+fn padded(alloc: Global, length: usize) -> Result<Vec<u8>, AllocError> {
+    let mut input = input(alloc, SCRIPT)?;
+    for _ in 0..length.saturating_sub(input.len()) {
+        input.push(b' ')?;
+    }
+    Ok(input)
 }
 
 #[test]
@@ -90,101 +138,104 @@ fn plays_a_script(rt: HostRuntime) -> Result<(), Fail> {
 }
 
 #[test]
-fn refuses_other_inputs(rt: HostRuntime) -> Result<(), Fail> {
+fn answers_bad_inputs_and_faults(rt: HostRuntime) -> Result<(), Fail> {
     let alloc = rt.alloc();
-    for script in [
-        b" ".as_slice(),
-        b"\0",
-        b"\r\n",
-        b"\n\n",
-        b"client 1 { lock_take($1); }\n",
-        b"client 1 { lock_take($0); }\n",
-        b"client 1 { lock_alloc(); }\r\n",
-        b"client 1 { lock_alloc(); }\n ",
-        b"client 1 { lock_alloc(); }\n\0",
-        b"client 2 { lock_alloc(); }\n",
-        b"stop 1\n",
+    let good = input(alloc, SCRIPT)?;
+    let same_call = input(alloc, b"client 1 { lock_take($1); }\n")?;
+    let no_call = input(alloc, b"client 1 { lock_take($0); }\n")?;
+    let carriage_return = input(alloc, b"client 1 { lock_alloc(); }\r\n")?;
+    let nul = input(alloc, b"client 1 { lock_alloc(); }\n\0")?;
+    let second_client = input(alloc, b"client 2 { lock_alloc(); }\n")?;
+    let many = input(alloc, &script_of(alloc, 1001)?)?;
+    let longest = padded(alloc, 32768)?;
+    let too_long = padded(alloc, 32769)?;
+    let far_too_long = padded(alloc, 40000)?;
+    let no_divider = INTERFACE.get(..INTERFACE.len() - 3).ok_or("short")?;
+    let fault = |what, read, write, status, written| Case {
+        what,
+        input: &good,
+        read,
+        write,
+        status,
+        written,
+    };
+    for case in [
+        refused("no line of %%", no_divider),
+        refused("an empty input", b""),
+        refused("a line of %% alone", b"%%\n"),
+        refused("a call that takes its own descriptor", &same_call),
+        refused("a call that takes that of call 0", &no_call),
+        refused("1,001 calls", &many),
+        refused("CR LF", &carriage_return),
+        refused("a NUL", &nul),
+        refused("another client", &second_client),
+        refused("32,768 bytes", &longest),
+        refused("32,769 bytes", &too_long),
+        refused("40,000 bytes", &far_too_long),
+        fault("no fault", 0, 0, 0, REPORT),
+        fault("the first read fails", 1, 0, 4, b"".as_slice()),
+        fault("the second read fails", 2, 0, 4, b""),
+        fault("the first read and the first write fail", 1, 1, 4, b""),
+        fault("the first write fails", 0, 1, 5, b""),
+        fault(
+            "the second write of ten bytes fails",
+            0,
+            2,
+            5,
+            b"c1.1 lock_",
+        ),
+        fault("the third write fails", 0, 3, 5, b"c1.1 lock_alloc() = "),
     ] {
-        let (status, ran, sink) = played(alloc, &input(alloc, script)?)?;
-        assert_eq!(rt; status, 2, "{script:?}");
-        assert!(rt; !ran && sink.written() == REFUSAL);
-    }
-    for whole in [
-        b"".as_slice(),
-        b"\n",
-        b"%%\n",
-        INTERFACE.get(..INTERFACE.len() - 3).ok_or("short")?,
-    ] {
-        let (status, ran, sink) = played(alloc, whole)?;
-        assert_eq!(rt; status, 2);
-        assert!(rt; !ran && sink.written() == REFUSAL);
+        assert!(rt; holds(alloc, &case)?, "{}", case.what);
     }
     Ok(())
 }
 
 #[test]
-fn plays_nothing(rt: HostRuntime) -> Result<(), Fail> {
+fn refuses_a_byte_more_anywhere(rt: HostRuntime) -> Result<(), Fail> {
     let alloc = rt.alloc();
-    let (status, ran, sink) = played(alloc, INTERFACE)?;
-    assert_eq!(rt; status, 0);
-    assert!(rt; ran && sink.written() == b"calls 0 boots 1 replays 0\n".as_slice());
+    let good = input(alloc, SCRIPT)?;
+    for at in 0..good.len() + 1 {
+        for byte in [b' ', b'\n', b'1', 0] {
+            let mut longer = Vec::from_slice(alloc, good.get(..at).ok_or("no front")?)?;
+            longer.push(byte)?;
+            longer.extend_from_slice(good.get(at..).ok_or("no rest")?)?;
+            assert!(rt;
+                holds(alloc, &refused("a byte more", &longer))?,
+                "{byte} at {at}"
+            );
+        }
+    }
     Ok(())
 }
 
 #[test]
 fn takes_a_thousand_calls(rt: HostRuntime) -> Result<(), Fail> {
     let alloc = rt.alloc();
-    for (calls, want) in [(1000, 0), (1001, 2)] {
-        let mut script = Vec::from_slice(alloc, b"client 1 {")?;
-        for _ in 0..calls {
-            script.extend_from_slice(b" lock_take(1);")?;
-        }
-        script.extend_from_slice(b" }\n")?;
-        let (status, ran, _) = played(alloc, &input(alloc, &script)?)?;
-        assert_eq!(rt; status, want);
-        assert_eq!(rt; ran, want == 0);
+    let whole = input(alloc, &script_of(alloc, 1000)?)?;
+    let mut report = String::new(alloc);
+    for call in 1..1001 {
+        writeln!(report, "c1.{call} lock_take(1) = refused NoDesc")?;
     }
+    report.push_str("client 1 done\ncalls 1000 boots 1 replays 0\n")?;
+    let case = Case {
+        status: 0,
+        written: report.as_bytes(),
+        ..refused("1,000 calls", &whole)
+    };
+    assert!(rt; holds(alloc, &case)?);
     Ok(())
 }
 
 #[test]
-fn refuses_long_inputs(rt: HostRuntime) -> Result<(), Fail> {
+fn plays_nothing(rt: HostRuntime) -> Result<(), Fail> {
     let alloc = rt.alloc();
-    for length in [32768_usize, 32769, 40000] {
-        let mut input = input(alloc, SCRIPT)?;
-        for _ in 0..length.saturating_sub(input.len()) {
-            input.push(b' ')?;
-        }
-        let (status, ran, sink) = played(alloc, &input)?;
-        assert_eq!(rt; status, 2);
-        assert!(rt; !ran && sink.written() == REFUSAL);
-    }
-    Ok(())
-}
-
-#[test]
-fn answers_faults(rt: HostRuntime) -> Result<(), Fail> {
-    let alloc = rt.alloc();
-    let words = sim(alloc)?;
-    let input = input(alloc, SCRIPT)?;
-    // The number of the read and of the write that fails, where 0 is none, the status, and how much is written.
-    for (read, write, want, count) in [
-        (0, 0, 0, REPORT.len()),
-        (1, 0, 4, 0),
-        (2, 0, 4, 0),
-        (1, 1, 4, 0),
-        (0, 1, 5, 0),
-        (0, 2, 5, 10),
-        (0, 3, 5, 20),
-    ] {
-        let mut source = MemSource::new(alloc, &input, 400, &[read])?;
-        let mut sink = MemSink::new(alloc, 10, &[write])?;
-        let answer = serial(alloc, &words, &mut source, &mut sink);
-        assert_eq!(rt; answer.status, want, "read {read} and write {write} fail");
-        assert_eq!(rt; answer.ended.is_some(), want != 4);
-        let front = REPORT.get(..count).ok_or("more than there is")?;
-        assert!(rt; sink.written() == front);
-    }
+    let case = Case {
+        status: 0,
+        written: b"calls 0 boots 1 replays 0\n",
+        ..refused("an empty script", INTERFACE)
+    };
+    assert!(rt; holds(alloc, &case)?);
     Ok(())
 }
 

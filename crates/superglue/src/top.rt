@@ -1,5 +1,6 @@
 // The top call.
 ghost use Rattle.std.specs.Prelude.{◌≡◌, ◌↔◌, ◌≤◌, ◌<◌, ◌++◌, List, ℕ, [], ◌∷◌, if◌then◌else◌, IsTrue, IfOk, None, length};
+ghost use Rattle.sg_edge.specs.Edge.{ConsumesAtMost};
 ghost use Rattle.sg_lock.specs.LockFacts.{lock_facts};
 ghost use Rattle.sg_report.specs.Report.{report_of};
 ghost use Rattle.superglue.specs.Answer.{IsSim, IsRunOf, IsAnswer, IsOutput, IsPlainTrace, IsPlayed, IsWritten};
@@ -43,10 +44,11 @@ pub fn superglue<R: Threads + Wait + Sync, I: Source, O: Sink, G: Gate>(
     output: &mut O,
     _: &G,
 ) -> Answer
-    ensures { IsAnswer (IsSim words.now)
+    ensures answer { IsAnswer (IsSim words.now)
         (record { told = I.left input.old; faults = I.faults input.old }) (record { told = I.left input.new; faults = I.faults input.new })
         (record { told = O.written output.old; faults = O.faults output.old }) (record { told = O.written output.new; faults = O.faults output.new })
         result.status result.ended }
+    ensures most_read { ConsumesAtMost 32769 (I.left input.old) (I.left input.new) }
 {
     serial(alloc, words, input, output)
 }
@@ -58,10 +60,11 @@ pub fn serial<I: Source, O: Sink>(
     input: &mut I,
     output: &mut O,
 ) -> Answer
-    ensures { IsAnswer (IsSim words.now)
+    ensures answer { IsAnswer (IsSim words.now)
         (record { told = I.left input.old; faults = I.faults input.old }) (record { told = I.left input.new; faults = I.faults input.new })
         (record { told = O.written output.old; faults = O.faults output.old }) (record { told = O.written output.new; faults = O.faults output.new })
         result.status result.ended }
+    ensures most_read { ConsumesAtMost 32769 (I.left input.old) (I.left input.new) }
 {
     if !is_sim(words) {
         return without_run(1);
