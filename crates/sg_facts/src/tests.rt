@@ -238,6 +238,19 @@ fn copies_are_equal(rt: HostRuntime) -> Result<(), Fail> {
 }
 
 #[test]
+fn fills_the_room_that_it_takes(rt: HostRuntime) -> Result<(), Fail> {
+    let alloc = rt.alloc();
+    let mut fields = row(alloc, &[5, 0, 7])?.fields;
+    fields.push(Value::Text(Text::new(alloc, b"name")?))?;
+    assert!(rt; fields.len() <= Fields::MOST);
+    assert_eq!(rt; Fields::room(alloc)?.fill(&fields), fields);
+    let patch = patch(alloc)?;
+    assert!(rt; patch.key.len() <= 256 && patch.bytes.len() <= 256);
+    assert_eq!(rt; Patch::room(alloc)?.fill(&patch), patch);
+    Ok(())
+}
+
+#[test]
 fn tells_values_apart(rt: HostRuntime) -> Result<(), Fail> {
     let alloc = rt.alloc();
     let row = row(alloc, &[5, 0])?;
