@@ -1,0 +1,2 @@
+pub mod KnownEnds
+pub mod Marks

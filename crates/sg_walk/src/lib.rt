@@ -1,0 +1,13 @@
+//! The walks by which a descriptor is rebuilt: whether a walk restores a state, and the least walk that does.
+//!
+//! - `restores`: whether a walk restores a state and a set of fields (`restores`)
+//! - `shortest`: the least walk that does (`shortest`)
+//! - `search`: the first walk of a given length
+//! - `ends`: from where a search is known to find nothing (`DeadEnds`)
+//! - `steps`: how a walk begins and goes on
+//! - `spot`: where a walk has come to (`Spot`, `Mark`), and what is sought (`Goal`)
+#![tactic(auto)]
+
+mod ends;
+mod spot;
+mod steps;

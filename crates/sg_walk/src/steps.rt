@@ -1,0 +1,1 @@
+// How a walk begins and goes on.
