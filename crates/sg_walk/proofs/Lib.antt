@@ -1,2 +1,3 @@
 pub mod KnownEnds
 pub mod Marks
+pub mod Sets

@@ -2,7 +2,7 @@
 use Rattle.std.specs.Prelude.{ℕ, ◌+◌, ◌*◌, ◌/◌, ◌%◌, ◌==◌, Bool, true, false, ◌&&◌, List, [], ◌∷◌, None, Some, length, map, take}
 use Rattle.std.specs.declared.option.Option.{Option}
 use Rattle.sg_facts.specs.Interface.{Declared}
-use Rattle.sg_facts.specs.Walks.{Mark as Known, unset, good, unknown, Spot as Place, restores_field, spot_from}
+use Rattle.sg_facts.specs.Walks.{Mark as Known, unset, good, unknown, Spot as Place, restores_field, spot_from, spot_of}
 use Rattle.sg_walk.specs.declared.spot.Mark.{Mark}
 use Rattle.sg_walk.specs.declared.spot.Mark.TheVariants.{Unset, Good, Unknown}
 use Rattle.sg_walk.specs.declared.spot.Spot.{Spot}
@@ -37,3 +37,7 @@ is_goal_at (Some s) goal = is_goal s goal
 -- whether these functions, called from a spot on, lead to what is sought
 abbrev pub leads : Declared → Place → List ℕ → Goal → Bool
 leads i s walk goal = is_goal_at (spot_from i s walk) goal
+
+-- whether a walk leads to what is sought
+abbrev pub reaches : Declared → List ℕ → Goal → Bool
+reaches i walk goal = is_goal_at (spot_of i walk) goal

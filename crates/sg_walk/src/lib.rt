@@ -1,7 +1,7 @@
 //! The walks by which a descriptor is rebuilt: whether a walk restores a state, and the least walk that does.
 //!
-//! - `restores`: whether a walk restores a state and a set of fields (`restores`)
-//! - `shortest`: the least walk that does (`shortest`)
+//! - `restoring`: whether a walk restores a state and a set of fields (`restores`)
+//! - `least`: the least walk that does (`shortest`)
 //! - `search`: the first walk of a given length
 //! - `ends`: from where a search is known to find nothing (`DeadEnds`)
 //! - `steps`: how a walk begins and goes on
@@ -9,5 +9,8 @@
 #![tactic(auto)]
 
 mod ends;
+mod restoring;
 mod spot;
 mod steps;
+
+pub use restoring::restores;
