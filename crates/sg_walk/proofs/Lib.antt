@@ -1,3 +1,4 @@
 pub mod KnownEnds
 pub mod Marks
+pub mod Searching
 pub mod Sets

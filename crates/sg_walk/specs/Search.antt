@@ -1,5 +1,5 @@
 -- What a search by exact length finds.
-use Rattle.std.specs.Prelude.{ℕ, ◌≡◌, ◌<◌, true, false, List, ◌∷◌, length}
+use Rattle.std.specs.Prelude.{ℕ, ◌≡◌, ◌+◌, ◌<◌, true, false, List, ◌∷◌, ◌++◌, length}
 use Rattle.std.specs.List.{Contains}
 use Rattle.sg_facts.specs.Interface.{Declared}
 use Rattle.sg_facts.specs.Walks.{Spot as Place, no_later}
@@ -7,18 +7,29 @@ use Rattle.sg_walk.specs.declared.spot.Goal.{Goal}
 use Rattle.sg_walk.specs.declared.ends.DeadEnd.{DeadEnd}
 use Rattle.sg_walk.specs.Spots.{shown, leads}
 
--- these functions lead to what is sought, and none goes before them of as many that do
-pub record IsFirst (i : Declared) (s : Place) (goal : Goal) (walk : List ℕ) : Type 0 where
-  pub arrives : leads i s walk goal ≡ true
-  pub first : (other : List ℕ) → length other ≡ length walk → leads i s other goal ≡ true → no_later walk other ≡ true
+-- a walk goes on from another by so many functions that lead to what is sought, and none as many goes before them that does
+pub record GoesOn (i : Declared) (s : Place) (goal : Goal) (walk : List ℕ) (left : ℕ) (found : List ℕ) : Type 0 where
+  pub rest : List ℕ
+  pub is : found ≡ walk ++ rest
+  pub count : length rest ≡ left
+  pub arrives : leads i s rest goal ≡ true
+  pub first : (other : List ℕ) → length other ≡ left → leads i s other goal ≡ true → no_later rest other ≡ true
+
+-- so, of those that go on by one function first
+pub record GoesOnBy (i : Declared) (s : Place) (goal : Goal) (walk : List ℕ) (left fun : ℕ) (found : List ℕ) : Type 0 where
+  pub rest : List ℕ
+  pub is : found ≡ walk ++ fun ∷ rest
+  pub count : length rest + 1 ≡ left
+  pub arrives : leads i s (fun ∷ rest) goal ≡ true
+  pub first : (other : List ℕ) → length other + 1 ≡ left → leads i s (fun ∷ other) goal ≡ true → no_later rest other ≡ true
 
 -- so many functions never lead to what is sought
 abbrev pub LeadsNowhere : Declared → Place → Goal → ℕ → Type 0
-LeadsNowhere i s goal n = (walk : List ℕ) → length walk ≡ n → leads i s walk goal ≡ false
+LeadsNowhere i s goal left = (walk : List ℕ) → length walk ≡ left → leads i s walk goal ≡ false
 
--- nor where they begin with this one
+-- nor do so many of which this one is the first
 abbrev pub LeadsNowhereBy : Declared → Place → Goal → ℕ → ℕ → Type 0
-LeadsNowhereBy i s goal n fun = (walk : List ℕ) → length walk ≡ n → leads i s (fun ∷ walk) goal ≡ false
+LeadsNowhereBy i s goal left fun = (walk : List ℕ) → length walk + 1 ≡ left → leads i s (fun ∷ walk) goal ≡ false
 
 -- each dead end is one
 abbrev pub AreDead : Declared → Goal → List DeadEnd → Type 0

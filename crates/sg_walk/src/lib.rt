@@ -10,6 +10,7 @@
 
 mod ends;
 mod restoring;
+mod search;
 mod spot;
 mod steps;
 
