@@ -75,9 +75,10 @@ is_found xs a there =
     list_any_at (eq-value.it a) xs there.0 a there.1 at
 
 pub has_it : (xs now : List DeadEnd) (a : DeadEnd) (r : Bool) → r ≡ list_any (eq-value.it a) xs → xs ≡ now → IsTrue r ↔ Contains now a
-has_it xs now a r is same =
-    (λ t. subst (λ ks. Contains ks a) same (is_among xs a (sym is ∙ t)),
-     λ h. is ∙ is_found xs a (subst (λ ks. Contains ks a) (sym same) h))
+has_it xs now a r is same = (
+  λ t. subst (λ ks. Contains ks a) same (is_among xs a (sym is ∙ t)),
+  λ h. is ∙ is_found xs a (subst (λ ks. Contains ks a) (sym same) h),
+)
 
 -- whether an end is the new one
 is_new : (old new : List DeadEnd) (a q : DeadEnd) → list_any (eq-value.it q) new ≡ (if eq-value.it a q then true else list_any (eq-value.it q) old)
@@ -88,14 +89,15 @@ is_new old new a q is = elim (cases_Bool (eq-value.it a q)) [
       let there : list_any (eq-value.it q) new ≡ true = rw same at is in
       (λ h. inr (sym one), λ h. is_among new q there)
   | inr apart ↦
-      let kept : list_any (eq-value.it q) new ≡ list_any (eq-value.it q) old = rw apart at is in
-      (λ h. inl (is_among old q (sym kept ∙ is_found new q h)),
-       λ h. elim h [
-         | inl there ↦ is_among new q (kept ∙ is_found old q there)
-         | inr e ↦
-             let itself : eq-value.it a q ≡ true = subst (λ x. eq-value.it a x ≡ true) (sym e) (end_itself a) in
-             absurd (cc (apart, itself))
-       ])
+      let kept : list_any (eq-value.it q) new ≡ list_any (eq-value.it q) old = rw apart at is in (
+        λ h. inl (is_among old q (sym kept ∙ is_found new q h)),
+        λ h. elim h [
+          | inl there ↦ is_among new q (kept ∙ is_found old q there)
+          | inr e ↦
+              let itself : eq-value.it a q ≡ true = subst (λ x. eq-value.it a x ≡ true) (sym e) (end_itself a) in
+              absurd (cc (apart, itself))
+        ],
+      )
 ]
 
 pub gains : (old now new : List DeadEnd) (a : DeadEnd) → ((q : DeadEnd) → list_any (eq-value.it q) new ≡ (if eq-value.it a q then true else list_any (eq-value.it q) old))

@@ -36,7 +36,7 @@ undeclared i fun small past =
 no_way : (i : Declared) (s : Place) (goal : Goal) (fun : ℕ) (walk : List ℕ) → declares i fun ≡ false → leads i s (fun ∷ walk) goal ≡ false
 no_way i s goal fun walk no_fun =
     let stuck : may_go_on i s fun ≡ false =
-        ap (λ b. b && steps_on i s.state fun && not (fun_at i.facts.funs fun).terminal && not (fun_at i.facts.funs fun).query) no_fun
+    ap (λ b. b && steps_on i s.state fun && not (fun_at i.facts.funs fun).terminal && not (fun_at i.facts.funs fun).query) no_fun
     in ap (λ b. is_goal_at (if b then spot_from i (next_spot i.facts fun s) walk else None) goal) stuck
 
 -- no function leads on
@@ -47,6 +47,7 @@ none_left i s goal left small some tried (fun ∷ walk) count = by (within fun)
   where
     within : (n : ℕ) → (n < 33) ⊎ (33 ≤ n)
     within n = cases_lt n 33
+
     by : (fun < 33) ⊎ (33 ≤ fun) → leads i s (fun ∷ walk) goal ≡ false
     by (inl low) = tried fun low walk (omega (arith, count))
     by (inr high) = no_way i s goal fun walk (undeclared i fun small high)

@@ -61,6 +61,7 @@ goal_reached (Some s) goal set number is =
 pub restored : (i : Declared) (walk lent : List ℕ) (goal : Goal) (r : Bool) → lent ≡ walk → r ≡ reaches i lent goal
     → IsTrue r ↔ ((set : List Bool) × (number_of set ≡ goal.mask) × Restores i walk goal.state set)
 restored i walk lent goal r same is =
-    let it : r ≡ reaches i walk goal = is ∙ ap (λ w. reaches i w goal) same in
-    (λ t. goal_restores (spot_of i walk) goal (sym it ∙ t),
-     λ h. it ∙ goal_reached (spot_of i walk) goal h.0 h.1 h.2)
+    let it : r ≡ reaches i walk goal = is ∙ ap (λ w. reaches i w goal) same in (
+      λ t. goal_restores (spot_of i walk) goal (sym it ∙ t),
+      λ h. it ∙ goal_reached (spot_of i walk) goal h.0 h.1 h.2,
+    )

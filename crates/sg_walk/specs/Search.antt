@@ -1,11 +1,11 @@
 -- What a search by exact length finds.
-use Rattle.std.specs.Prelude.{ℕ, ◌≡◌, ◌+◌, ◌<◌, true, false, List, ◌∷◌, ◌++◌, length}
+use Rattle.std.specs.Prelude.{ℕ, ◌≡◌, ◌+◌, ◌<◌, ◌≤◌, true, false, List, ◌∷◌, ◌++◌, length}
 use Rattle.std.specs.List.{Contains}
 use Rattle.sg_facts.specs.Interface.{Declared}
-use Rattle.sg_facts.specs.Walks.{Spot as Place, no_later}
+use Rattle.sg_facts.specs.Walks.{Spot as Place, no_later, no_worse, begin_of, most_calls, may_begin, first_spot}
 use Rattle.sg_walk.specs.declared.spot.Goal.{Goal}
 use Rattle.sg_walk.specs.declared.ends.DeadEnd.{DeadEnd}
-use Rattle.sg_walk.specs.Spots.{shown, leads}
+use Rattle.sg_walk.specs.Spots.{shown, leads, reaches}
 
 -- a walk goes on from another by so many functions that lead to what is sought, and none as many goes before them that does
 pub record GoesOn (i : Declared) (s : Place) (goal : Goal) (walk : List ℕ) (left : ℕ) (found : List ℕ) : Type 0 where
@@ -34,3 +34,14 @@ LeadsNowhereBy i s goal left fun = (walk : List ℕ) → length walk + 1 ≡ lef
 -- each dead end is one
 abbrev pub AreDead : Declared → Goal → List DeadEnd → Type 0
 AreDead i goal ends = (end : DeadEnd) → Contains ends end → LeadsNowhere i (shown (length i.facts.fields) end.spot) goal end.left
+
+-- a walk is the least from a creation on that leads to what is sought
+pub record IsLeast (i : Declared) (made : ℕ) (goal : Goal) (walk : List ℕ) : Type 0 where
+  pub begins : begin_of walk ≡ made
+  pub reached : reaches i walk goal ≡ true
+  pub short : length walk ≤ most_calls
+  pub least : (other : List ℕ) → begin_of other ≡ made → reaches i other goal ≡ true → no_worse walk other ≡ true
+
+-- no walk of at most 8 calls that begins with a creation leads to what is sought
+abbrev pub IsUnreached : Declared → ℕ → Goal → Type 0
+IsUnreached i made goal = (walk : List ℕ) → begin_of walk ≡ made → length walk ≤ most_calls → reaches i walk goal ≡ false

@@ -9,9 +9,11 @@
 #![tactic(auto)]
 
 mod ends;
+mod least;
 mod restoring;
 mod search;
 mod spot;
 mod steps;
 
+pub use least::shortest;
 pub use restoring::restores;

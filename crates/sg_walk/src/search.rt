@@ -14,7 +14,14 @@ use sg_facts::{Interface, Walk};
 /// numbers; None exactly where there is none. From where nothing was found is added to the dead ends. It calls itself at
 /// most 8 deep.
 #[cycle(search)]
-pub fn search(iface: &Interface, goal: Goal, ends: &mut DeadEnds, spot: Spot, walk: Walk, left: usize) -> Result<Option<Walk>, NoMemory>
+pub fn search(
+    iface: &Interface,
+    goal: Goal,
+    ends: &mut DeadEnds,
+    spot: Spot,
+    walk: Walk,
+    left: usize,
+) -> Result<Option<Walk>, NoMemory>
     requires few { HasFewFields iface.now }
     requires room { length walk + left ≤ 8 }
     requires dead { AreDead iface.now goal ends.old }
@@ -23,7 +30,11 @@ pub fn search(iface: &Interface, goal: Goal, ends: &mut DeadEnds, spot: Spot, wa
     ensures none { IfOk result (λ found. IfNone found (LeadsNowhere iface.now (shown (length iface.now.facts.fields) spot) goal left)) }
 {
     if left == 0 {
-        return Ok(if is_goal(iface, spot, goal) { Some(walk) } else { None });
+        return Ok(if is_goal(iface, spot, goal) {
+            Some(walk)
+        } else {
+            None
+        });
     }
     let end = DeadEnd { spot, left };
     if ends.has(end) {
@@ -40,7 +51,14 @@ pub fn search(iface: &Interface, goal: Goal, ends: &mut DeadEnds, spot: Spot, wa
 
 // So, by each function in turn.
 #[cycle(search)]
-fn search_each(iface: &Interface, goal: Goal, ends: &mut DeadEnds, spot: Spot, walk: Walk, left: usize) -> Result<Option<Walk>, NoMemory>
+fn search_each(
+    iface: &Interface,
+    goal: Goal,
+    ends: &mut DeadEnds,
+    spot: Spot,
+    walk: Walk,
+    left: usize,
+) -> Result<Option<Walk>, NoMemory>
     requires few { HasFewFields iface.now }
     requires some { 0 < left }
     requires room { length walk + left ≤ 8 }
@@ -60,7 +78,15 @@ fn search_each(iface: &Interface, goal: Goal, ends: &mut DeadEnds, spot: Spot, w
 
 // So, by one function first.
 #[cycle(search)]
-fn search_by(iface: &Interface, goal: Goal, ends: &mut DeadEnds, spot: Spot, walk: Walk, left: usize, fun: u8) -> Result<Option<Walk>, NoMemory>
+fn search_by(
+    iface: &Interface,
+    goal: Goal,
+    ends: &mut DeadEnds,
+    spot: Spot,
+    walk: Walk,
+    left: usize,
+    fun: u8,
+) -> Result<Option<Walk>, NoMemory>
     requires few { HasFewFields iface.now }
     requires some { 0 < left }
     requires room { length walk + left ≤ 8 }

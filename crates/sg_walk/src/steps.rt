@@ -41,7 +41,11 @@ pub fn go_on(iface: &Interface, spot: Spot, next: u8) -> Option<Spot>
         (λ new. (may_go_on iface.now s next ≡ true) × (shown (length iface.now.facts.fields) new ≡ next_spot iface.now.facts next s)) }
 {
     let fun = fun_at(iface, next);
-    if !(iface.declares(next) && iface.steps_on(spot.state, next) && !fun.is_terminal() && !fun.is_query()) {
+    if !(iface.declares(next)
+        && iface.steps_on(spot.state, next)
+        && !fun.is_terminal()
+        && !fun.is_query())
+    {
         return None;
     }
     Some(Spot {
