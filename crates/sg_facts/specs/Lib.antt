@@ -15,4 +15,5 @@ pub mod Needs
 pub mod Object
 pub mod Sound
 pub mod Track
+pub mod WalkArray
 pub mod Walks

@@ -96,9 +96,10 @@ next_spot facts fun s = record {
   marks = marks_after (fun_at facts.funs fun).effects s.marks;
 }
 
--- whether a walk may begin with a function: a declared creation
+-- whether a walk may begin with a function: a declared creation that is neither terminal nor a query
 abbrev pub may_begin : Declared → ℕ → Bool
-may_begin i fun = declares i fun && (fun_at i.facts.funs fun).creation
+may_begin i fun =
+    declares i fun && (fun_at i.facts.funs fun).creation && not (fun_at i.facts.funs fun).terminal && not (fun_at i.facts.funs fun).query
 
 -- whether a walk may go on with a function: a declared recover step that is neither terminal nor a query
 abbrev pub may_go_on : Declared → Spot → ℕ → Bool

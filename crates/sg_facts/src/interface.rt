@@ -2,7 +2,7 @@
 ghost use Rattle.std.specs.Prelude.{◌≡◌, ◌+◌, ◌<◌, ◌^◌, ◌||◌, ◌==◌, map};
 ghost use Rattle.std.specs.Int.{bit_at};
 ghost use Rattle.sg_facts.specs.Facts.{is_visible, fun_at, fun_of_shape, has_flag};
-ghost use Rattle.sg_facts.specs.Interface.{declares, moves_on, has_pair};
+ghost use Rattle.sg_facts.specs.Interface.{declares, moves_on, steps_on, has_pair};
 
 use crate::{FunShape, Shape};
 use sg_base::PairList;
@@ -44,6 +44,13 @@ impl Interface {
         has_pair(self.moves.as_slice(), state, fun)
     }
 
+    /// Whether a function may be replayed in a state.
+    pub fn steps_on(&self, state: u8, fun: u8) -> bool
+        ensures { result ≡ steps_on self.now state fun }
+    {
+        has_pair(self.steps.as_slice(), state, fun)
+    }
+
     /// Whether a call of a function is visible to other clients before it returns: the service is global, or the
     /// function uses its descriptor's file, or it makes a descriptor.
     pub fn visible(&self, fun: u8) -> bool
@@ -79,7 +86,7 @@ fn shows(funs: &[FunShape], at: usize) -> bool
 }
 
 // Whether a sum of flags has the flag of a bit.
-fn has_flag(flags: u8, bit: u8) -> bool
+pub(crate) fn has_flag(flags: u8, bit: u8) -> bool
     requires { bit < 8 }
     ensures { result ≡ has_flag flags bit }
 {

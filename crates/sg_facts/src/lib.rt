@@ -6,6 +6,7 @@
 //! - `entry`: a call with its reply (`Entry`)
 //! - `outcome`: what asking a service gives (`Outcome`, `Patch`)
 //! - `trace`: what was done to a service, boot by boot (`Trace`, `BootLog`, `Item`, `Tag`)
+//! - `walk`: the functions whose calls rebuild a descriptor (`Walk`)
 //! - `service`: the trait `Service`
 //! - `laws`: laws of the definitions (`legal_from_the_front`)
 //!
@@ -24,6 +25,7 @@ mod shape;
 #[cfg(test)]
 mod tests;
 mod trace;
+mod walk;
 
 pub use entry::Entry;
 pub use interface::Interface;
@@ -33,3 +35,4 @@ pub use row::{Fields, FieldsRoom, Row};
 pub use service::Service;
 pub use shape::{Effect, FieldShape, FunShape, Kind, Leaves, Parents, Shape};
 pub use trace::{BootList, BootLog, Item, ItemList, Tag, Trace};
+pub use walk::Walk;

@@ -1,4 +1,8 @@
 // The finite facts of a service.
+ghost use Rattle.std.specs.Prelude.{◌≡◌};
+ghost use Rattle.sg_facts.specs.Facts.{fun_of_shape};
+
+use crate::interface::has_flag;
 
 /// Which parents a descriptor may have.
 #[derive(Clone, Copy, Debug, PartialEq, Eq)]
@@ -90,6 +94,27 @@ impl FunShape {
     pub const ALL: u8 = 32;
     /// It reads or writes the file of its descriptor.
     pub const DATA: u8 = 64;
+
+    /// Whether it makes a descriptor.
+    pub fn is_creation(&self) -> bool
+        ensures { result ≡ (fun_of_shape self.now).creation }
+    {
+        has_flag(self.flags, 0)
+    }
+
+    /// Whether it ends its descriptor.
+    pub fn is_terminal(&self) -> bool
+        ensures { result ≡ (fun_of_shape self.now).terminal }
+    {
+        has_flag(self.flags, 1)
+    }
+
+    /// Whether it changes no descriptor.
+    pub fn is_query(&self) -> bool
+        ensures { result ≡ (fun_of_shape self.now).query }
+    {
+        has_flag(self.flags, 4)
+    }
 }
 
 /// The facts of a service. Functions are numbered from 1 in the order of `funs`, fields from 0 in that of `fields`.

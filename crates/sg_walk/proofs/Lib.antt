@@ -1,0 +1,5 @@
+pub mod KnownEnds
+pub mod LeastWalks
+pub mod Marks
+pub mod Searching
+pub mod Sets

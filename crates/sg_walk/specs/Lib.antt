@@ -1,0 +1,4 @@
+pub mod Limits
+pub mod Ends
+pub mod Search
+pub mod Spots

@@ -1,0 +1,71 @@
+// The least walk that restores a state and a set of fields.
+ghost use Rattle.std.specs.Prelude.{◌≡◌, ◌≤◌, Bool, true, false, List, ℕ, length, IfOk, IfSome, IfNone};
+ghost use Rattle.sg_facts.specs.Fields.{number_of};
+ghost use Rattle.sg_facts.specs.Walks.{IsWalkOf, begin_of, restores, most_calls, may_begin, first_spot};
+ghost use Rattle.sg_walk.specs.Limits.{HasFewFields};
+ghost use Rattle.sg_walk.specs.Spots.{shown};
+ghost use Rattle.sg_walk.specs.Search.{IsLeast, IsUnreached};
+
+use crate::ends::DeadEnds;
+use crate::search::search;
+use crate::spot::{Goal, Spot};
+use crate::steps::begin;
+use sg_base::NoMemory;
+use sg_facts::{Interface, Walk};
+use std::alloc::Global;
+
+/// The walk of what a function made, in a state, with the set of fields that has a number (bit i for field i): of the walks
+/// that restore these the shortest, and of those as long the first by function numbers. None exactly where no walk of at
+/// most 8 calls restores them. Rows have at most 8 fields.
+pub fn shortest(
+    alloc: Global,
+    iface: &Interface,
+    made: u8,
+    state: u8,
+    mask: u8,
+) -> Result<Option<Walk>, NoMemory>
+    requires { HasFewFields iface.now }
+    ensures least { IfOk result (λ found. IfSome found (λ walk.
+        (set : List Bool) × (number_of set ≡ mask) × IsWalkOf iface.now walk made state set)) }
+    ensures none { IfOk result (λ found. IfNone found ((walk : List ℕ) (set : List Bool) → begin_of walk ≡ made
+        → length walk ≤ most_calls → number_of set ≡ mask → restores iface.now walk state set ≡ false)) }
+{
+    least(alloc, iface, made, Goal { state, mask })
+}
+
+// The least walk from a creation on that leads to what is sought.
+fn least(alloc: Global, iface: &Interface, made: u8, goal: Goal) -> Result<Option<Walk>, NoMemory>
+    requires { HasFewFields iface.now }
+    ensures least { IfOk result (λ found. IfSome found (IsLeast iface.now made goal)) }
+    ensures none { IfOk result (λ found. IfNone found (IsUnreached iface.now made goal)) }
+{
+    match begin(iface, made) {
+        Some(spot) => least_from(alloc, iface, made, spot, goal),
+        None => Ok(None),
+    }
+}
+
+// So, from where the walk has come to after the creation.
+fn least_from(
+    alloc: Global,
+    iface: &Interface,
+    made: u8,
+    spot: Spot,
+    goal: Goal,
+) -> Result<Option<Walk>, NoMemory>
+    requires few { HasFewFields iface.now }
+    requires begins { may_begin iface.now made ≡ true }
+    requires spot { shown (length iface.now.facts.fields) spot ≡ first_spot iface.now.facts made }
+    ensures least { IfOk result (λ found. IfSome found (IsLeast iface.now made goal)) }
+    ensures none { IfOk result (λ found. IfNone found (IsUnreached iface.now made goal)) }
+{
+    let mut walk = Walk::new();
+    walk.push(made)?;
+    let mut ends = DeadEnds::new(alloc);
+    'lengths: for left in 0..Walk::MOST {
+        if let Some(found) = search(iface, goal, &mut ends, spot, walk, left)? {
+            return Ok(Some(found));
+        }
+    }
+    Ok(None)
+}

@@ -1,0 +1,92 @@
+// Where a walk has come to.
+ghost use Rattle.std.specs.Prelude.{◌≡◌, ◌≤◌, length, map};
+ghost use Rattle.sg_facts.specs.Walks.{mark_after, marks_after, restores_field};
+ghost use Rattle.sg_walk.specs.Spots.{known_of, shown_marks, restores_number};
+
+use sg_facts::Effect;
+
+/// What is known of a field when a walk has come so far.
+#[derive(Clone, Copy, Debug, PartialEq, Eq, Hash)]
+pub enum Mark {
+    /// It is 0 or empty.
+    Unset,
+    /// It has the row's value.
+    Good,
+    /// Nothing.
+    Unknown,
+}
+
+/// A state, and a mark for each of at most 8 fields; those past the last are `Unset`.
+#[derive(Clone, Copy, Debug, PartialEq, Eq, Hash)]
+pub struct Spot {
+    pub state: u8,
+    pub marks: [Mark; 8],
+}
+
+/// The state that is sought, and the number of the set of fields.
+#[derive(Clone, Copy, Debug)]
+pub struct Goal {
+    pub state: u8,
+    pub mask: u8,
+}
+
+impl Mark {
+    /// The mark after an effect.
+    pub fn after(self, effect: Effect) -> Mark
+        ensures { known_of result ≡ mark_after effect (known_of self) }
+    {
+        match effect {
+            Effect::SetCaller | Effect::SetArg(_) => Mark::Good,
+            Effect::AddArg(_) => match self {
+                Mark::Unset => Mark::Good,
+                Mark::Good | Mark::Unknown => Mark::Unknown,
+            },
+            Effect::SetRet | Effect::AddRet | Effect::SubOne => Mark::Unknown,
+            Effect::Clear => Mark::Unset,
+        }
+    }
+
+    /// Whether a field with this mark is restored, by whether it is to be set.
+    pub fn restores(self, is_set: bool) -> bool
+        ensures { result ≡ restores_field (known_of self) is_set }
+    {
+        match self {
+            Mark::Unset => !is_set,
+            Mark::Good => true,
+            Mark::Unknown => false,
+        }
+    }
+}
+
+/// The marks after a function's effects, where rows have so many fields.
+pub fn marked(marks: [Mark; 8], count: usize, effects: &[(u8, Effect)]) -> [Mark; 8]
+    requires { count ≤ 8 }
+    ensures { shown_marks count result ≡ marks_after (map (λ p. (p.0, p.1)) effects.now) (shown_marks count marks) }
+{
+    let mut marked = marks;
+    mark_each(&mut marked[..count], effects);
+    marked
+}
+
+// Marks the fields that effects name.
+fn mark_each(marks: &mut [Mark], effects: &[(u8, Effect)])
+    ensures len { length marks.new ≡ length marks.old }
+    ensures marked { map known_of marks.new ≡ marks_after (map (λ p. (p.0, p.1)) effects.now) (map known_of marks.old) }
+{
+    'effects: for (field, effect) in effects {
+        let at = usize::from(*field);
+        if at < marks.len() {
+            marks[at] = marks[at].after(*effect);
+        }
+    }
+}
+
+/// Whether marks restore the set of fields that has a number: bit i for field i.
+pub fn restores_number(marks: &[Mark], number: u8) -> bool
+    ensures { result ≡ restores_number (map known_of marks.now) number }
+{
+    match marks {
+        [] => number == 0,
+        [mark, rest @ ..] => mark.restores(number % 2 == 1) && restores_number(rest, number / 2),
+    }
+}
