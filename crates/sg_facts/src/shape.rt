@@ -1,6 +1,6 @@
 // The finite facts of a service.
-ghost use Rattle.std.specs.Prelude.{◌≡◌};
-ghost use Rattle.sg_facts.specs.Facts.{fun_of_shape};
+ghost use Rattle.std.specs.Prelude.{◌≡◌, ◌+◌, ◌<◌, ◌^◌, map};
+ghost use Rattle.sg_facts.specs.Facts.{facts_of, fun_at, fun_of_shape, left_by};
 
 use crate::interface::has_flag;
 
@@ -138,4 +138,49 @@ pub struct Shape {
     pub moves: &'static [(u8, u8)],
     /// The pairs of a state and a function that may be replayed in it.
     pub steps: &'static [(u8, u8)],
+}
+
+impl Leaves {
+    /// The state after a function that is called in a state.
+    pub fn state_after(self, fun: u8, state: u8) -> u8
+        ensures { result ≡ left_by self fun state }
+    {
+        match self {
+            Leaves::Own => fun,
+            Leaves::Same => state,
+            Leaves::Of(other) => other,
+        }
+    }
+}
+
+// What stands for a function that a shape hasn't.
+const NO_FUN: FunShape = FunShape {
+    name: &[],
+    kinds: &[],
+    flags: 0,
+    leaves: Leaves::Own,
+    effects: &[],
+};
+
+impl Shape {
+    /// The function of a number, from 1; one without a name, parameters, flags and effects where there is none.
+    pub fn fun(&self, number: u8) -> FunShape
+        ensures { fun_of_shape result ≡ fun_at (facts_of self.now).funs number }
+    {
+        if number == 0 {
+            return NO_FUN;
+        }
+        fun_in(self.funs, usize::from(number) - 1)
+    }
+}
+
+// The function at a place, from 0.
+fn fun_in(funs: &[FunShape], at: usize) -> FunShape
+    requires { at < 2 ^ 8 }
+    ensures { fun_of_shape result ≡ fun_at (map fun_of_shape funs.now) (at + 1) }
+{
+    match funs.get(at) {
+        Some(fun) => *fun,
+        None => NO_FUN,
+    }
 }
