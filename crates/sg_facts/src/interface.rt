@@ -37,6 +37,13 @@ impl Interface {
         fun > 0 && has_bit(self.declared, fun - 1)
     }
 
+    /// The function of a number, from 1; one without a name, parameters, flags and effects where the shape has none.
+    pub fn fun(&self, number: u8) -> FunShape
+        ensures { fun_of_shape result ≡ fun_at self.now.facts.funs number }
+    {
+        self.shape.fun(number)
+    }
+
     /// Whether a function may be called in a state.
     pub fn moves_on(&self, state: u8, fun: u8) -> bool
         ensures { result ≡ moves_on self.now state fun }

@@ -1,27 +1,35 @@
 -- What descriptors can come to, by a state and the number of the set of fields.
 use Rattle.std.specs.Prelude.{ℕ, suc, ◌≡◌, ◌+◌, ◌*◌, ◌^◌, ◌<◌, ◌≤◌, ◌⊎◌, ◌↔◌, Bool, true, false, List, [], ◌∷◌, ◌++◌, Some, length}
 use Rattle.std.specs.List.{Contains, slice_index_or}
+use Rattle.sg_facts.specs.declared.shape.Effect.{Effect}
 use Rattle.sg_facts.specs.Facts.{fun_at, state_after}
 use Rattle.sg_facts.specs.Fields.{number_of}
 use Rattle.sg_facts.specs.Interface.{Declared, declares, moves_on}
-use Rattle.sg_facts.specs.Walks.{IsReachable, may_lead, none_set}
+use Rattle.sg_facts.specs.Walks.{IsReachable, may_lead}
 use Rattle.sg_reach.specs.declared.place.Place.{Place}
 use Rattle.sg_reach.specs.declared.place.Triple.{Triple}
-use Rattle.sg_reach.specs.Bits.{set_of}
+use Rattle.sg_reach.specs.Bits.{bits, set_of}
 
 -- a descriptor that a function made can be in a state with the set of fields that has a number
 abbrev pub IsReached : Declared → Triple → Type 0
 IsReached i t = (set : List Bool) × (number_of set ≡ t.mask) × IsReachable i t.made t.state set
 
+-- effects lead from one set of so many fields to a place in a state
+abbrev pub IsLed : List (ℕ × Effect) → ℕ → ℕ → ℕ → Place → Type 0
+IsLed effects count old state q =
+    (q.state ≡ state) × (q.mask < 2 ^ count) × (may_lead effects 0 (bits count old) (bits count q.mask) ≡ true)
+
 -- a place that a creation leads to
-abbrev pub Begins : Declared → ℕ → Place → Type 0
-Begins i fun p = (declares i fun ≡ true) × ((fun_at i.facts.funs fun).creation ≡ true) × (p.state ≡ state_after i.facts fun fun) × (p.mask < 2 ^ length i.facts.fields)
-    × (may_lead (fun_at i.facts.funs fun).effects 0 (none_set i.facts.fields) (set_of i p.mask) ≡ true)
+pub record Begins (i : Declared) (fun : ℕ) (q : Place) : Type 0 where
+  pub declared : declares i fun ≡ true
+  pub creation : (fun_at i.facts.funs fun).creation ≡ true
+  pub led : IsLed (fun_at i.facts.funs fun).effects (length i.facts.fields) 0 (state_after i.facts fun fun) q
 
 -- a place that one call of a function leads to from another
-abbrev pub LeadsBy : Declared → ℕ → Place → Place → Type 0
-LeadsBy i fun p q = (moves_on i p.state fun ≡ true) × ((fun_at i.facts.funs fun).terminal ≡ false) × (q.state ≡ state_after i.facts fun p.state) × (q.mask < 2 ^ length i.facts.fields)
-    × (may_lead (fun_at i.facts.funs fun).effects 0 (set_of i p.mask) (set_of i q.mask) ≡ true)
+pub record LeadsBy (i : Declared) (fun : ℕ) (p q : Place) : Type 0 where
+  pub moves : moves_on i p.state fun ≡ true
+  pub goes_on : (fun_at i.facts.funs fun).terminal ≡ false
+  pub led : IsLed (fun_at i.facts.funs fun).effects (length i.facts.fields) p.mask (state_after i.facts fun p.state) q
 
 -- the cell of a place in the table of marks
 abbrev pub cell_of : Place → ℕ
@@ -44,18 +52,17 @@ pub record AreMarked (marks : List Bool) (places : List Place) : Type 0 where
 abbrev pub AddsOnce : List Place → List Place → Place → Type 0
 AddsOnce old new p = (Contains old p × (new ≡ old)) ⊎ ((Contains old p → ⊥) × (new ≡ old ++ p ∷ []))
 
--- places were added behind others
-abbrev pub Extends : List Place → List Place → Type 0
-Extends old new = (more : List Place) × (new ≡ old ++ more)
+-- places were added behind others: all that have a property, and no other
+pub record AddsJust (P : Place → Type 0) (old new : List Place) : Type 0 where
+  pub more : List Place
+  pub behind : new ≡ old ++ more
+  pub all : (q : Place) → P q → Contains new q
+  pub only : (q : Place) → Contains new q → Contains old q ⊎ P q
 
--- each is a place that descriptors which a function made can come to
-abbrev pub AllReached : Declared → ℕ → List Place → Type 0
-AllReached i made places = (p : Place) → Contains places p → IsReachable i made p.state (set_of i p.mask)
+-- a place that one call leads to from another
+abbrev pub IsNext : Declared → Place → Place → Type 0
+IsNext i p q = (fun : ℕ) × LeadsBy i fun p q
 
--- all that one call leads to from a place was found
-abbrev pub HasNext : Declared → List Place → Place → Type 0
-HasNext i places p = (fun : ℕ) (q : Place) → LeadsBy i fun p q → Contains places q
-
--- so for each place that was found
-abbrev pub IsClosed : Declared → List Place → Type 0
-IsClosed i places = (p : Place) → Contains places p → HasNext i places p
+-- the places that descriptors which a function made can come to
+abbrev pub IsPlace : Declared → ℕ → Place → Type 0
+IsPlace i made p = (p.mask < 2 ^ length i.facts.fields) × IsReachable i made p.state (set_of i p.mask)

@@ -4,8 +4,10 @@
 //! - `place`: a state with a set of fields (`Place`), and with the creation (`Triple`)
 //! - `effects`: what a function's effects can make of a set of fields
 //! - `found`: the places that were found (`Found`)
+//! - `closing`: the places that declared calls lead to
 #![tactic(auto)]
 
+mod closing;
 mod effects;
 mod found;
 mod place;
