@@ -1,3 +1,8 @@
 pub mod Marks
 pub mod Adding
 pub mod Leading
+pub mod Moves
+pub mod Closure
+pub mod Sets
+pub mod Reaching
+pub mod Triples

@@ -66,3 +66,17 @@ IsNext i p q = (fun : ℕ) × LeadsBy i fun p q
 -- the places that descriptors which a function made can come to
 abbrev pub IsPlace : Declared → ℕ → Place → Type 0
 IsPlace i made p = (p.mask < 2 ^ length i.facts.fields) × IsReachable i made p.state (set_of i p.mask)
+
+-- each is a place that descriptors which a function made can come to
+abbrev pub AreReached : Declared → ℕ → List Place → Type 0
+AreReached i made places = (p : Place) → Contains places p → IsPlace i made p
+
+-- all that one call leads to from a place was found, whichever was found
+abbrev pub IsClosed : Declared → List Place → Type 0
+IsClosed i places = (p q : Place) → Contains places p → IsNext i p q → Contains places q
+
+-- the triples of a function are those of the places, and the others are as before
+pub record AddsTriples (made : ℕ) (places : List Place) (old new : List Triple) : Type 0 where
+  pub all : (p : Place) → Contains places p → Contains new (record { made = made; state = p.state; mask = p.mask })
+  pub kept : (t : Triple) → Contains old t → Contains new t
+  pub only : (t : Triple) → Contains new t → Contains old t ⊎ ((t.made ≡ made) × Contains places (record { state = t.state; mask = t.mask }))

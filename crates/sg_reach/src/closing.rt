@@ -1,11 +1,11 @@
 // The places that declared calls lead to.
-ghost use Rattle.std.specs.Prelude.{◌≡◌, ◌+◌, ◌<◌, ◌≤◌, ◌^◌, ◌↔◌, [], true, false, length, map, IfOk, OnOk};
+ghost use Rattle.std.specs.Prelude.{◌≡◌, ◌≤◌, ◌^◌, ℕ, true, length, map, OnOk};
 ghost use Rattle.std.specs.List.{Contains};
 ghost use Rattle.sg_facts.specs.Facts.{fun_at};
 ghost use Rattle.sg_facts.specs.Interface.{moves_on};
 ghost use Rattle.sg_reach.specs.Limits.{HasFourFields};
 ghost use Rattle.sg_reach.specs.declared.place.Place.{Place as OnePlace};
-ghost use Rattle.sg_reach.specs.Places.{AddsJust, Begins, IsLed, IsNext, IsPlace, LeadsBy};
+ghost use Rattle.sg_reach.specs.Places.{AddsJust, AreReached, Begins, IsClosed, IsLed, IsNext, LeadsBy};
 
 use crate::effects::may_lead;
 use crate::found::Found;
@@ -60,6 +60,41 @@ fn add_by(
     if !called.is_terminal() {
         let state = called.leaves.state_after(fun, place.state);
         add_led(found, called.effects, field_count(iface), place.mask, state)?;
+    }
+    Ok(())
+}
+
+// Adds the places that one call leads to from another.
+fn add_next(
+    iface: &Interface,
+    moves: &[(u8, u8)],
+    place: Place,
+    found: &mut Found,
+) -> Result<(), NoMemory>
+    requires few { HasFourFields iface.now }
+    requires moves { moves.now ≡ iface.now.moves }
+    ensures { OnOk result (AddsJust (IsNext iface.now place) found.old found.new) }
+{
+    'moves: for (state, fun) in moves {
+        if *state == place.state {
+            add_by(iface, *fun, place, found)?;
+        }
+    }
+    Ok(())
+}
+
+/// Adds all places that calls lead to from those that were found.
+pub fn close(iface: &Interface, found: &mut Found) -> Result<(), NoMemory>
+    requires few { HasFourFields iface.now }
+    ensures closed { OnOk result (IsClosed iface.now found.new) }
+    ensures kept { OnOk result ((p : OnePlace) → Contains found.old p → Contains found.new p) }
+    ensures reached { OnOk result ((made : ℕ) → AreReached iface.now made found.old → AreReached iface.now made found.new) }
+{
+    let mut next = 0;
+    'places: while let Some(place) = found.get(next) {
+        let place = *place;
+        add_next(iface, iface.moves.as_slice(), place, found)?;
+        next += 1;
     }
     Ok(())
 }

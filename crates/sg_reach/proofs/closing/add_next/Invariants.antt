@@ -1,0 +1,8 @@
+-- What the first transitions lead to was added.
+use Rattle.std.proofs.Common.{take, map}
+use Rattle.sg_reach.specs.Places.{AddsJust}
+use Rattle.sg_reach.proofs.Moves.{IsNextIn}
+use Rattle.sg_reach.proofs.closing.add_next.Given as goal
+
+abbrev pub invariant-moves : goal.invariant-moves
+invariant-moves l = AddsJust (IsNextIn l.iface (take l.state-index l.moves) l.place) l.initial.found l.found

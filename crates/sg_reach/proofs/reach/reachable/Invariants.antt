@@ -1,0 +1,12 @@
+-- What descriptors of the first functions can come to.
+use Rattle.std.proofs.Common.{◌<◌}
+use Rattle.std.specs.List.{Contains}
+use Rattle.sg_reach.specs.declared.place.Triple.{Triple}
+use Rattle.sg_reach.specs.Places.{IsReached}
+use Rattle.sg_reach.proofs.reach.reachable.Given as goal
+
+abbrev pub invariant-made : goal.invariant-made
+invariant-made l = record {
+  only : (t : Triple) → Contains l.triples t → IsReached l.iface t;
+  all : (t : Triple) → t.made < l.made → IsReached l.iface t → Contains l.triples t;
+}
