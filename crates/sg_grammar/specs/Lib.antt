@@ -1,0 +1,5 @@
+pub mod Named
+pub mod Parses
+pub mod Pieces
+pub mod Sentence
+pub mod Words
