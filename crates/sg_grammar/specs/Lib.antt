@@ -2,4 +2,5 @@ pub mod Named
 pub mod Parses
 pub mod Pieces
 pub mod Sentence
+pub mod States
 pub mod Words
