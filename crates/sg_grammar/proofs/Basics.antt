@@ -155,6 +155,12 @@ sort-fits_word sort w token n h g =
     or_left false b e = refl
     or_left true b e = absurd (let f : true ≡ false = e in cc)
 
+pub word-has_sort : (sort : Sort) (w : List ℕ) (token : Lexeme) → IsPiece token (word w) → is_of sort w ≡ false → has_sort sort token ≡ false
+word-has_sort sort w token h g = ap (λ k. is_word k && is_of sort token.bytes) h.0 ∙ ap (is_of sort) h.1 ∙ g
+
+pub word-fits_word : (w other : List ℕ) (token : Lexeme) → IsPiece token (word w) → pointwise nat_eq w other ≡ false → fits (word other) token ≡ false
+word-fits_word w other token h g = ap (λ k. is_word k && pointwise nat_eq token.bytes other) h.0 ∙ ap (λ v. pointwise nat_eq v other) h.1 ∙ g
+
 -- tests of tokens that are one piece answer alike
 pub alike : (p : Piece) (one other : Lexeme) → IsPiece one p → IsPiece other p → (one.kind ≡ other.kind) × (one.bytes ≡ other.bytes)
 alike (word w) one other h g = (h.0 ∙ sym g.0, h.1 ∙ sym g.1)

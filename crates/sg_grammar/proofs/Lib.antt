@@ -1,3 +1,4 @@
 pub mod Basics
 pub mod Parts
+pub mod Protos
 pub mod Rests
