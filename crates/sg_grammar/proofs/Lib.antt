@@ -1,5 +1,7 @@
+pub mod Alive
 pub mod Basics
 pub mod Parts
 pub mod Protos
 pub mod Rests
+pub mod Runs
 pub mod Steps
