@@ -5,6 +5,8 @@
 //! - `lexer`: what gives the tokens in order (`Lexer`)
 #![tactic(auto)]
 
+mod bytes;
+mod front;
 mod lexer;
 mod token;
 

@@ -1,0 +1,3 @@
+pub mod Closes
+pub mod Fronts
+pub mod Steps
