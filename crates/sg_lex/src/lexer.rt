@@ -1,5 +1,5 @@
 // What gives the tokens of a text in order.
-ghost use Rattle.std.specs.Prelude.{◌≡◌, ◌+◌, ◌≤◌, ℕ, length, drop, take};
+ghost use Rattle.std.specs.Prelude.{◌≡◌, ◌+◌, ◌≤◌, ℕ, length, drop, take, slice_get};
 ghost use Rattle.std.specs.Iterator.{YieldsFirst, item_count};
 ghost use Rattle.sg_lex.specs.Fronts.{front_of, front_len, IsNoGap};
 ghost use Rattle.sg_lex.specs.Tokens.{answers_of, answers_behind};
@@ -69,6 +69,13 @@ impl<'a> Iterator for Lexer<'a> {
 }
 
 impl<'a> FusedIterator for Lexer<'a> {}
+
+/// The first answer on a text: its token lends from the text, so it outlives the lexer that gave it.
+pub fn first_token(text: &[u8]) -> Option<Result<Token<'_>, LexFault>>
+    ensures { result ≡ slice_get (answers_of text.now) 0 }
+{
+    Lexer::new(text).next()
+}
 
 // The token of this kind and so many bytes at this place.
 fn token_at(text: &[u8], kind: TokenKind, at: usize, len: usize) -> Token<'_>
