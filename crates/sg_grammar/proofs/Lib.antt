@@ -1,0 +1,5 @@
+pub mod Basics
+pub mod Parts
+pub mod Protos
+pub mod Rests
+pub mod Steps
