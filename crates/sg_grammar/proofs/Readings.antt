@@ -18,25 +18,25 @@ use Rattle.sg_grammar.proofs.Runs.{Runs, runs-append, one_end, reached, sentence
 
 -- ---- reading
 
-pub read-token : (length : ℕ) (s next : State) (token : Lexeme) (behind : List Answer) → step s token ≡ Some next → read_from length s (Ok token ∷ behind) ≡ read_from length next behind
+pub read_token : (length : ℕ) (s next : State) (token : Lexeme) (behind : List Answer) → step s token ≡ Some next → read_from length s (Ok token ∷ behind) ≡ read_from length next behind
 unfolding read_from
-read-token length s next token behind e = ap (λ v. option_map_or (λ next. read_from length next behind) v (Err (Syntax token.at))) e
+read_token length s next token behind e = ap (λ v. option_map_or (λ next. read_from length next behind) v (Err (Syntax token.at))) e
 
-pub read-stuck : (length : ℕ) (s : State) (token : Lexeme) (behind : List Answer) → step s token ≡ None → read_from length s (Ok token ∷ behind) ≡ Err (Syntax token.at)
+pub read_stuck : (length : ℕ) (s : State) (token : Lexeme) (behind : List Answer) → step s token ≡ None → read_from length s (Ok token ∷ behind) ≡ Err (Syntax token.at)
 unfolding read_from
-read-stuck length s token behind e = ap (λ v. option_map_or (λ next. read_from length next behind) v (Err (Syntax token.at))) e
+read_stuck length s token behind e = ap (λ v. option_map_or (λ next. read_from length next behind) v (Err (Syntax token.at))) e
 
-pub read-fault : (length : ℕ) (s : State) (fault : LexFault) (behind : List Answer) → read_from length s (Err fault ∷ behind) ≡ Err (Lex fault.at)
+pub read_fault : (length : ℕ) (s : State) (fault : LexFault) (behind : List Answer) → read_from length s (Err fault ∷ behind) ≡ Err (Lex fault.at)
 unfolding read_from
-read-fault length s fault behind = refl
+read_fault length s fault behind = refl
 
-pub read-nothing : (length : ℕ) (s : State) → read_from length s [] ≡ ended length (tree_at s)
+pub read_nothing : (length : ℕ) (s : State) → read_from length s [] ≡ ended length (tree_at s)
 unfolding read_from
-read-nothing length s = refl
+read_nothing length s = refl
 
 reads : (length : ℕ) (s end : State) (tokens : List Lexeme) (behind : List Answer) → Runs s tokens end → read_from length s (answered tokens ++ behind) ≡ read_from length end behind
 reads length s end [] behind h = ap (λ v. read_from length v behind) h
-reads length s end (t ∷ ts) behind h = read-token length s h.0 t (answered ts ++ behind) h.1 ∙ reads length h.0 end ts behind h.2
+reads length s end (t ∷ ts) behind h = read_token length s h.0 t (answered ts ++ behind) h.1 ∙ reads length h.0 end ts behind h.2
 
 answered-append : (xs ys : List Lexeme) → answered (xs ++ ys) ≡ answered xs ++ answered ys
 answered-append [] ys = refl
@@ -69,10 +69,10 @@ answer_at_end length whole s before all h (Some tree) e = record { tokens = befo
 answers_from : (length : ℕ) (whole : List Answer) (s : State) (before : List Lexeme) (behind : List Answer) → whole ≡ answered before ++ behind → Runs start before s
     → ParsesTo whole length (read_from length s behind)
 answers_from length whole s before [] all h =
-    subst (ParsesTo whole length) (sym (read-nothing length s))
+    subst (ParsesTo whole length) (sym (read_nothing length s))
         (answer_at_end length whole s before (all ∙ append-nil (answered before)) h (tree_at s) refl)
 answers_from length whole s before (Err fault ∷ behind) all h =
-    subst (ParsesTo whole length) (sym (read-fault length s fault behind))
+    subst (ParsesTo whole length) (sym (read_fault length s fault behind))
         (record { tokens = before; behind = behind; all = all; begin = begins_of before s h })
 answers_from length whole s before (Ok token ∷ behind) all h =
     by (λ next e. answers_from length whole next (before ++ token ∷ []) behind
@@ -81,14 +81,14 @@ answers_from length whole s before (Ok token ∷ behind) all h =
         (step s token) refl
   where
     by : ((next : State) → step s token ≡ Some next → ParsesTo whole length (read_from length next behind)) → (o : Option State) → step s token ≡ o → ParsesTo whole length (read_from length s (Ok token ∷ behind))
-    by go None e = subst (ParsesTo whole length) (sym (read-stuck length s token behind e))
+    by go None e = subst (ParsesTo whole length) (sym (read_stuck length s token behind e))
         (inl (record { tokens = before; token = token; behind = behind; all = all; place_of = refl; begin = begins_of before s h;
           ends = λ more.
             let b = begun (before ++ token ∷ []) more in
             let c = cut start b.end before (token ∷ []) b.runs in
             let same : c.mid ≡ s = one_end start c.mid s before c.first h in
             let f = sym e ∙ ap (λ v. step v token) (sym same) ∙ c.second.1 in cc }))
-    by go (Some next) e = subst (ParsesTo whole length) (sym (read-token length s next token behind e)) (go next e)
+    by go (Some next) e = subst (ParsesTo whole length) (sym (read_token length s next token behind e)) (go next e)
 
 pub may_answer : (length : ℕ) (answers : List Answer) → ParsesTo answers length (read_from length start answers)
 may_answer length answers = answers_from length answers start [] answers refl refl
@@ -100,12 +100,12 @@ pub only_answer : (length : ℕ) (answers : List Answer) (other : Result Tree Pa
 only_answer length answers (Ok tree) h n =
     let r = reached h.tokens tree h.sentence in
     ap (read_from length start) (h.all ∙ sym (append-nil (answered h.tokens)))
-    ∙ reads length start r.end h.tokens [] r.runs ∙ read-nothing length r.end ∙ ap (ended length) r.is
+    ∙ reads length start r.end h.tokens [] r.runs ∙ read_nothing length r.end ∙ ap (ended length) r.is
 only_answer length answers (Err NoMemory) h n = absurd (n refl)
 only_answer length answers (Err (Lex place)) h n =
     let b = begun h.tokens h.begin in
     ap (read_from length start) h.all ∙ reads length start b.end h.tokens (Err (record { at = place }) ∷ h.behind) b.runs
-    ∙ read-fault length b.end (record { at = place }) h.behind
+    ∙ read_fault length b.end (record { at = place }) h.behind
 only_answer length answers (Err (Syntax place)) h n =
     elim h [ inl f ↦ at_token f | inr f ↦ at_end f ]
   where
@@ -113,7 +113,7 @@ only_answer length answers (Err (Syntax place)) h n =
     at_token f =
         let b = begun f.tokens f.begin in
         ap (read_from length start) f.all ∙ reads length start b.end f.tokens (Ok f.token ∷ f.behind) b.runs
-        ∙ read-stuck length b.end f.token f.behind (stuck b.end b.runs (step b.end f.token) refl) ∙ ap (λ v. Err (Syntax v)) f.place_of
+        ∙ read_stuck length b.end f.token f.behind (stuck b.end b.runs (step b.end f.token) refl) ∙ ap (λ v. Err (Syntax v)) f.place_of
       where
         stuck : (end : State) → Runs start f.tokens end → (o : Option State) → step end f.token ≡ o → step end f.token ≡ None
         stuck end runs None e = e
@@ -124,7 +124,7 @@ only_answer length answers (Err (Syntax place)) h n =
     at_end f =
         let b = begun f.tokens f.begin in
         ap (read_from length start) (f.all ∙ sym (append-nil (answered f.tokens)))
-        ∙ reads length start b.end f.tokens [] b.runs ∙ read-nothing length b.end
+        ∙ reads length start b.end f.tokens [] b.runs ∙ read_nothing length b.end
         ∙ ap (ended length) (open_ended b.end b.runs (tree_at b.end) refl) ∙ ap (λ v. Err (Syntax v)) (sym f.place_of)
       where
         open_ended : (end : State) → Runs start f.tokens end → (o : Option Tree) → tree_at end ≡ o → tree_at end ≡ None

@@ -1,0 +1,123 @@
+// The tokens of a text, the next of which can be looked at.
+ghost use Rattle.std.specs.Prelude.{◌≡◌, ◌≤◌, ◌<◌, ◌+◌, ℕ, [], ◌∷◌, length, true, false, IsTrue, IfOk, IfErr, IfSome, OnOk, MatchOption, MatchBool, None as no_token, Ok as answered};
+ghost use Rattle.sg_lex.specs.Tokens.{answers_of};
+ghost use Rattle.sg_grammar.specs.Words.{is_of};
+ghost use Rattle.sg_grammar.specs.States.{State, Reading, read, read_from, has_sort, fits};
+ghost use Rattle.sg_grammar.specs.Pieces.{mark};
+ghost use Rattle.sg_parse.specs.Ahead.{with_ahead, Off, named_token, IsMarked};
+
+use sg_grammar::{Name, ParseError, Sort};
+use sg_lex::{Lexer, Token, TokenKind};
+use std::marker::Model;
+
+/// What is still to be read of a text. Contracts see the lexer's answers that are to come, and the text's length.
+#[derive(Debug, Drop)]
+pub struct Reader<'a> {
+    lexer: Lexer<'a>,
+    // a token that was looked at and left
+    ahead: Option<Token<'a>>,
+    end: usize,
+}
+
+impl<'a> Model for Reader<'a> {
+    ghost use Rattle.std.specs.Prelude.{length, ◌≤◌};
+    ghost use Rattle.sg_grammar.specs.States.{Reading};
+    ghost use Rattle.sg_parse.specs.Ahead.{with_ahead};
+
+    ghost Value = { Reading };
+
+    ghost view = { λ r. record { rest = with_ahead r.ahead r.lexer; end = r.end } };
+
+    ghost invariant = { λ r. length (with_ahead r.ahead r.lexer) ≤ r.end };
+}
+
+impl<'a> Reader<'a> {
+    /// A reader at the front of a text.
+    pub fn new(text: &'a [u8]) -> Reader<'a>
+        ensures { result ≡ record { rest = answers_of text.now; end = length text.now } }
+    {
+        Reader {
+            lexer: Lexer::new(text),
+            ahead: None,
+            end: text.len(),
+        }
+    }
+
+    /// Takes the next token; None at the end of the text. A byte that begins none is a `Lex` error.
+    pub fn next(&mut self) -> Result<Option<Token<'a>>, ParseError>
+        ensures token { IfOk result (λ next. MatchOption next ((self.old.rest ≡ []) × (self.new.rest ≡ []))
+            (λ token. self.old.rest ≡ answered token ∷ self.new.rest)) }
+        ensures fault { IfErr result (λ error. (s : State) → read s self.old ≡ Err error) }
+        ensures end { self.new.end ≡ self.old.end }
+    {
+        next_token(&mut self.ahead, &mut self.lexer)
+    }
+
+    /// Takes the next token where it is a word of this sort; None, and nothing is taken, where it isn't or the text ends.
+    pub fn take_word(&mut self, sort: Sort) -> Result<Option<Name<'a>>, ParseError>
+        ensures word { IfOk result (λ word. MatchOption word ((self.new ≡ self.old) × Off (has_sort sort) self.old.rest)
+            (λ name. (self.old.rest ≡ answered (named_token name) ∷ self.new.rest) × (is_of sort name.bytes ≡ true))) }
+        ensures fault { IfErr result (λ error. (s : State) → read s self.old ≡ Err error) }
+        ensures end { self.new.end ≡ self.old.end }
+    {
+        match next_token(&mut self.ahead, &mut self.lexer)? {
+            Some(token) if is_word(&token, sort) => Ok(Some(Name {
+                slice: token.slice,
+                at: token.at,
+            })),
+            other => {
+                self.ahead = other;
+                Ok(None)
+            }
+        }
+    }
+
+    /// Takes the next token where it is this mark, and says whether it was; else nothing is taken.
+    pub fn take_mark(&mut self, byte: u8) -> Result<bool, ParseError>
+        ensures mark { IfOk result (λ taken. MatchBool taken (IsMarked byte self.old.rest self.new.rest)
+            ((self.new ≡ self.old) × Off (fits (mark byte)) self.old.rest)) }
+        ensures fault { IfErr result (λ error. (s : State) → read s self.old ≡ Err error) }
+        ensures end { self.new.end ≡ self.old.end }
+    {
+        match next_token(&mut self.ahead, &mut self.lexer)? {
+            Some(token) if is_mark(&token, byte) => Ok(true),
+            other => {
+                self.ahead = other;
+                Ok(false)
+            }
+        }
+    }
+}
+
+// Takes the token that was looked at, or else the next of the lexer.
+#[tactic(auto, using(sg_grammar::proofs::Readings::read_fault))]
+fn next_token<'a>(ahead: &mut Option<Token<'a>>, lexer: &mut Lexer<'a>) -> Result<Option<Token<'a>>, ParseError>
+    ensures taken { ahead.new ≡ no_token }
+    ensures token { IfOk result (λ next. (with_ahead ahead.old lexer.old ≡ with_ahead next lexer.new)
+        × (next ≡ no_token → lexer.new ≡ [])) }
+    ensures fewer { length (with_ahead ahead.new lexer.new) ≤ length (with_ahead ahead.old lexer.old) }
+    ensures fault { IfErr result (λ error. (s : State) (end : ℕ) → read_from end s (with_ahead ahead.old lexer.old) ≡ Err error) }
+{
+    if let Some(token) = ahead.take() {
+        return Ok(Some(token));
+    }
+    match lexer.next() {
+        None => Ok(None),
+        Some(Ok(token)) => Ok(Some(token)),
+        Some(Err(fault)) => Err(ParseError::Lex { at: fault.at }),
+    }
+}
+
+// Whether a token is a word of this sort.
+fn is_word(token: &Token<'_>, sort: Sort) -> bool
+    ensures { result ≡ has_sort sort token.now }
+{
+    matches!(token.kind, TokenKind::Word) && sort.has(token.slice)
+}
+
+// Whether a token is this mark.
+fn is_mark(token: &Token<'_>, byte: u8) -> bool
+    ensures { result ≡ fits (mark byte) token.now }
+{
+    matches!(token.kind, TokenKind::Mark) && token.slice == [byte].as_slice()
+}
