@@ -24,5 +24,7 @@ abbrev pub named_token : Named → Lexeme
 named_token n = record { kind = Word; bytes = n.bytes; at = n.at }
 
 -- a token that is this mark came first
-abbrev pub IsMarked : ℕ → List Answer → List Answer → Type 0
-IsMarked byte old new = (token : Lexeme) × (old ≡ Ok token ∷ new) × (fits (mark byte) token ≡ true)
+pub record IsMarked (byte : ℕ) (old new : List Answer) : Type 0 where
+  pub token : Lexeme
+  pub all : old ≡ Ok token ∷ new
+  pub is : fits (mark byte) token ≡ true

@@ -2,7 +2,9 @@
 ghost use Rattle.std.specs.Prelude.{◌≡◌, ◌≤◌, ◌<◌, ◌+◌, ℕ, [], ◌∷◌, length, true, false, IsTrue, IfOk, IfErr, IfSome, OnOk, MatchOption, MatchBool, None as no_token, Ok as answered};
 ghost use Rattle.sg_lex.specs.Tokens.{answers_of};
 ghost use Rattle.sg_grammar.specs.Words.{is_of};
-ghost use Rattle.sg_grammar.specs.States.{State, Reading, read, read_from, has_sort, fits};
+ghost use Rattle.sg_grammar.specs.Named.{Named};
+ghost use Rattle.sg_grammar.specs.States.{State, dead, due, want, Reading, read, read_from, has_sort, fits};
+ghost use Rattle.sg_parse.specs.Leads.{Leads};
 ghost use Rattle.sg_grammar.specs.Pieces.{mark};
 ghost use Rattle.sg_parse.specs.Ahead.{with_ahead, Off, named_token, IsMarked};
 
@@ -85,6 +87,46 @@ impl<'a> Reader<'a> {
                 self.ahead = other;
                 Ok(false)
             }
+        }
+    }
+}
+
+/// What a part of the grammar says of reading: its value and the state behind it, or why there is none.
+impl<'a> Reader<'a> {
+    /// The error where no token may come that comes next, or where the text may not end.
+    #[tactic(auto, using(crate::proofs::ByToken::dead_token, crate::proofs::ByToken::dead_end))]
+    pub fn unexpected(&mut self) -> ParseError
+        ensures error { read dead self.old ≡ Err result }
+    {
+        match self.next() {
+            Ok(Some(token)) => ParseError::Syntax { at: token.at },
+            Ok(None) => ParseError::Syntax { at: self.end },
+            Err(error) => error,
+        }
+    }
+
+    /// Takes this mark.
+    #[tactic(auto, using(crate::proofs::ByToken::mark_came, crate::proofs::ByToken::mark_missing))]
+    pub fn mark(&mut self, byte: u8) -> Result<(), ParseError>
+        ensures leads { (k : State) → Leads (read (due (mark byte) k) self.old) result (λ _. k) self.new }
+        ensures fewer { OnOk result (length self.new.rest ≤ length self.old.rest) }
+    {
+        if self.take_mark(byte)? {
+            Ok(())
+        } else {
+            Err(self.unexpected())
+        }
+    }
+
+    /// Takes a word of this sort.
+    #[tactic(auto, using(crate::proofs::ByToken::word_came, crate::proofs::ByToken::word_missing))]
+    pub fn word(&mut self, sort: Sort) -> Result<Name<'a>, ParseError>
+        ensures leads { (k : Named → State) → Leads (read (want sort k) self.old) result k self.new }
+        ensures fewer { OnOk result (length self.new.rest ≤ length self.old.rest) }
+    {
+        match self.take_word(sort)? {
+            Some(name) => Ok(name),
+            None => Err(self.unexpected()),
         }
     }
 }
