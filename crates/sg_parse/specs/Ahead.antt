@@ -5,7 +5,7 @@ use Rattle.sg_lex.specs.declared.token.TokenKind.TheVariants.{Word, Mark}
 use Rattle.sg_lex.specs.Lexeme.{Lexeme}
 use Rattle.sg_lex.specs.Tokens.{Answer}
 use Rattle.sg_grammar.specs.Named.{Named}
-use Rattle.sg_grammar.specs.Pieces.{mark}
+use Rattle.sg_grammar.specs.Pieces.{Piece}
 use Rattle.sg_grammar.specs.States.{fits}
 
 -- the token that was looked at and left comes first
@@ -23,8 +23,8 @@ Off test (Err fault ∷ answers) = ⊥
 abbrev pub named_token : Named → Lexeme
 named_token n = record { kind = Word; bytes = n.bytes; at = n.at }
 
--- a token that is this mark came first
-pub record IsMarked (byte : ℕ) (old new : List Answer) : Type 0 where
+-- a token that is this piece came first
+pub record Came (piece : Piece) (old new : List Answer) : Type 0 where
   pub token : Lexeme
   pub all : old ≡ Ok token ∷ new
-  pub is : fits (mark byte) token ≡ true
+  pub is : fits piece token ≡ true

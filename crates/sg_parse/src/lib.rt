@@ -6,6 +6,7 @@
 #![tactic(auto)]
 
 mod reader;
+mod types;
 
 pub use sg_grammar::{
     Facts, Name, NameList, Param, ParamList, ParseError, Ret, Statement, StatementList, Tree,

@@ -5,8 +5,8 @@ ghost use Rattle.sg_grammar.specs.Words.{is_of};
 ghost use Rattle.sg_grammar.specs.Named.{Named};
 ghost use Rattle.sg_grammar.specs.States.{State, dead, due, want, Reading, read, read_from, has_sort, fits};
 ghost use Rattle.sg_parse.specs.Leads.{Leads};
-ghost use Rattle.sg_grammar.specs.Pieces.{mark};
-ghost use Rattle.sg_parse.specs.Ahead.{with_ahead, Off, named_token, IsMarked};
+ghost use Rattle.sg_grammar.specs.Pieces.{mark, word};
+ghost use Rattle.sg_parse.specs.Ahead.{with_ahead, Off, named_token, Came};
 
 use sg_grammar::{Name, ParseError, Sort};
 use sg_lex::{Lexer, Token, TokenKind};
@@ -76,7 +76,7 @@ impl<'a> Reader<'a> {
 
     /// Takes the next token where it is this mark, and says whether it was; else nothing is taken.
     pub fn take_mark(&mut self, byte: u8) -> Result<bool, ParseError>
-        ensures mark { IfOk result (λ taken. MatchBool taken (IsMarked byte self.old.rest self.new.rest)
+        ensures mark { IfOk result (λ taken. MatchBool taken (Came (mark byte) self.old.rest self.new.rest)
             ((self.new ≡ self.old) × Off (fits (mark byte)) self.old.rest)) }
         ensures fault { IfErr result (λ error. (s : State) → read s self.old ≡ Err error) }
         ensures end { self.new.end ≡ self.old.end }
@@ -88,6 +88,32 @@ impl<'a> Reader<'a> {
                 Ok(false)
             }
         }
+    }
+}
+
+impl<'a> Reader<'a> {
+    /// Takes the next token where it is this word, and says whether it was; else nothing is taken.
+    pub fn take_fixed(&mut self, bytes: &[u8]) -> Result<bool, ParseError>
+        ensures word { IfOk result (λ taken. MatchBool taken (Came (word bytes.now) self.old.rest self.new.rest)
+            ((self.new ≡ self.old) × Off (fits (word bytes.now)) self.old.rest)) }
+        ensures fault { IfErr result (λ error. (s : State) → read s self.old ≡ Err error) }
+        ensures end { self.new.end ≡ self.old.end }
+    {
+        match next_token(&mut self.ahead, &mut self.lexer)? {
+            Some(token) if is_fixed(&token, bytes) => Ok(true),
+            other => {
+                self.ahead = other;
+                Ok(false)
+            }
+        }
+    }
+
+    /// The length of the text; no more answers of the lexer are to come.
+    pub fn end(&self) -> usize
+        ensures end { result ≡ self.now.end }
+        ensures room { length self.now.rest ≤ result }
+    {
+        self.end
     }
 }
 
@@ -106,12 +132,25 @@ impl<'a> Reader<'a> {
     }
 
     /// Takes this mark.
-    #[tactic(auto, using(crate::proofs::ByToken::mark_came, crate::proofs::ByToken::mark_missing))]
+    #[tactic(auto, using(crate::proofs::ByToken::due_came, crate::proofs::ByToken::due_missing))]
     pub fn mark(&mut self, byte: u8) -> Result<(), ParseError>
         ensures leads { (k : State) → Leads (read (due (mark byte) k) self.old) result (λ _. k) self.new }
         ensures fewer { OnOk result (length self.new.rest ≤ length self.old.rest) }
     {
         if self.take_mark(byte)? {
+            Ok(())
+        } else {
+            Err(self.unexpected())
+        }
+    }
+
+    /// Takes this word.
+    #[tactic(auto, using(crate::proofs::ByToken::due_came, crate::proofs::ByToken::due_missing))]
+    pub fn fixed(&mut self, bytes: &[u8]) -> Result<(), ParseError>
+        ensures leads { (k : State) → Leads (read (due (word bytes.now) k) self.old) result (λ _. k) self.new }
+        ensures fewer { OnOk result (length self.new.rest ≤ length self.old.rest) }
+    {
+        if self.take_fixed(bytes)? {
             Ok(())
         } else {
             Err(self.unexpected())
@@ -151,7 +190,7 @@ fn next_token<'a>(ahead: &mut Option<Token<'a>>, lexer: &mut Lexer<'a>) -> Resul
 }
 
 // Whether a token is a word of this sort.
-fn is_word(token: &Token<'_>, sort: Sort) -> bool
+pub fn is_word(token: &Token<'_>, sort: Sort) -> bool
     ensures { result ≡ has_sort sort token.now }
 {
     matches!(token.kind, TokenKind::Word) && sort.has(token.slice)
@@ -162,4 +201,11 @@ fn is_mark(token: &Token<'_>, byte: u8) -> bool
     ensures { result ≡ fits (mark byte) token.now }
 {
     matches!(token.kind, TokenKind::Mark) && token.slice == [byte].as_slice()
+}
+
+// Whether a token is this word.
+pub fn is_fixed(token: &Token<'_>, bytes: &[u8]) -> bool
+    ensures { result ≡ fits (word bytes.now) token.now }
+{
+    matches!(token.kind, TokenKind::Word) && token.slice == bytes
 }
