@@ -1,19 +1,22 @@
 -- What is read from a state, by the token that comes next.
 use Rattle.std.proofs.Common.{◌≡◌, ℕ, zero, suc, ◌+◌, ◌==◌, ◌&&◌, if◌then◌else◌, length, Bool, true, false, List, [], ◌∷◌, ◌++◌, refl, sym, ap, ◌∙◌, nat_eq}
-use Rattle.std.specs.Prelude.{None, Some, Ok, Err}
+use Rattle.std.specs.Prelude.{None, Some, Ok, Err, codes}
 use Rattle.std.specs.declared.option.Option.{Option}
 use Rattle.std.specs.Option.{option_map_or}
 use Rattle.sg_lex.specs.Lexeme.{Lexeme}
 use Rattle.sg_lex.specs.Tokens.{Answer}
 use Rattle.sg_grammar.specs.declared.error.ParseError.TheVariants.{NoMemory, Lex, Syntax}
-use Rattle.sg_grammar.specs.States.{State, dead, due, want, names, stars, either, listed, param, declared, type_of, Reading, has_sort, fits, named_by, read, read_from, step, tree_at, ended}
+use Rattle.sg_grammar.specs.States.{State, dead, due, want, names, stars, either, listed, statements, param, declared, type_of, with_statement, statement_behind, one_rest, two_rest, plain_rest, returned_rest, Reading, has_sort, fits, named_by, read, read_from, step, tree_at, ended}
 use Rattle.sg_grammar.proofs.Basics.{if_then, if_else}
 use Rattle.sg_grammar.proofs.Readings.{read_token, read_stuck, read_fault, read_nothing}
 use Rattle.std.proofs.Math.Dec.{eqb-suc-zero}
+use Rattle.sg_grammar.specs.declared.tree.Facts.{Facts}
+use Rattle.sg_grammar.specs.declared.tree.Ret.TheVariants.{Set, Add}
+use Rattle.sg_grammar.specs.declared.tree.Statement.{Statement}
 use Rattle.sg_grammar.specs.declared.tree.TypeName.{TypeName}
 use Rattle.sg_grammar.specs.declared.tree.Param.{Param}
 use Rattle.sg_grammar.specs.declared.words.Sort.{Sort}
-use Rattle.sg_grammar.specs.declared.words.Sort.TheVariants.{Name, Form}
+use Rattle.sg_grammar.specs.declared.words.Sort.TheVariants.{Name, Form, One as one_word, Two as two_word}
 use Rattle.sg_grammar.specs.Sentence.{star, comma, close_bracket}
 use Rattle.sg_grammar.specs.Named.{Named}
 use Rattle.sg_grammar.specs.Words.{is_of}
@@ -172,3 +175,57 @@ declared_starred go front last n old h =
     some : (n : ℕ) → (n ≡ 0 → ⊥) → (n == 0) ≡ false
     some zero h = absurd (h refl)
     some (suc n) h = eqb-suc-zero n
+
+-- ---- statements
+
+pub statement_came : (facts : Facts) (before : List Statement) (old new : Reading) (token : Lexeme) → old.rest ≡ Ok token ∷ new.rest → new.end ≡ old.end
+    → read (statements facts before) old ≡ read_on (statement_behind (with_statement facts before) token) token new
+unfolding step
+statement_came facts before old new token e g = read_next (statements facts before) old new token e g
+
+pub statement_end : (facts : Facts) (before : List Statement) (old : Reading) → old.rest ≡ [] → read (statements facts before) old ≡ Ok (record { facts = facts; statements = before })
+unfolding tree_at
+statement_end facts before old e = read_end (statements facts before) old e
+
+-- behind the first token of a statement, by the tests that fail and the one that holds
+
+pub is_one : (go : Statement → State) (token : Lexeme) (r : Reading) → has_sort one_word token ≡ true
+    → read_on (statement_behind go token) token r ≡ read (one_rest go (named_by token)) r
+is_one go token r h = ap (λ v. read_on v token r) (if_then (has_sort one_word token) _ _ h)
+
+pub is_two : (go : Statement → State) (token : Lexeme) (r : Reading) → has_sort one_word token ≡ false → has_sort two_word token ≡ true
+    → read_on (statement_behind go token) token r ≡ read (two_rest go (named_by token)) r
+is_two go token r a h = ap (λ v. read_on v token r) (if_else (has_sort one_word token) _ _ a ∙ if_then (has_sort two_word token) _ _ h)
+
+pub is_set : (go : Statement → State) (token : Lexeme) (r : Reading) → has_sort one_word token ≡ false → has_sort two_word token ≡ false
+    → fits (word (codes "desc_data_retval")) token ≡ true
+    → read_on (statement_behind go token) token r ≡ read (returned_rest go Set) r
+is_set go token r a b h =
+    ap (λ v. read_on v token r) (if_else (has_sort one_word token) _ _ a ∙ if_else (has_sort two_word token) _ _ b
+        ∙ if_then (fits (word (codes "desc_data_retval")) token) _ _ h)
+
+pub is_add : (go : Statement → State) (token : Lexeme) (r : Reading) → has_sort one_word token ≡ false → has_sort two_word token ≡ false
+    → fits (word (codes "desc_data_retval")) token ≡ false → fits (word (codes "desc_data_retval_add")) token ≡ true
+    → read_on (statement_behind go token) token r ≡ read (returned_rest go Add) r
+is_add go token r a b c h =
+    ap (λ v. read_on v token r) (if_else (has_sort one_word token) _ _ a ∙ if_else (has_sort two_word token) _ _ b
+        ∙ if_else (fits (word (codes "desc_data_retval")) token) _ _ c
+        ∙ if_then (fits (word (codes "desc_data_retval_add")) token) _ _ h)
+
+pub is_plain : (go : Statement → State) (token : Lexeme) (r : Reading) → has_sort one_word token ≡ false → has_sort two_word token ≡ false
+    → fits (word (codes "desc_data_retval")) token ≡ false → fits (word (codes "desc_data_retval_add")) token ≡ false → has_sort Name token ≡ true
+    → read_on (statement_behind go token) token r ≡ read (plain_rest go (named_by token)) r
+is_plain go token r a b c d h =
+    ap (λ v. read_on v token r) (if_else (has_sort one_word token) _ _ a ∙ if_else (has_sort two_word token) _ _ b
+        ∙ if_else (fits (word (codes "desc_data_retval")) token) _ _ c
+        ∙ if_else (fits (word (codes "desc_data_retval_add")) token) _ _ d
+        ∙ if_then (has_sort Name token) _ _ h)
+
+pub is_none : (go : Statement → State) (token : Lexeme) (r : Reading) → has_sort one_word token ≡ false → has_sort two_word token ≡ false
+    → fits (word (codes "desc_data_retval")) token ≡ false → fits (word (codes "desc_data_retval_add")) token ≡ false → has_sort Name token ≡ false
+    → read_on (statement_behind go token) token r ≡ Err (Syntax token.at)
+is_none go token r a b c d h =
+    ap (λ v. read_on v token r) (if_else (has_sort one_word token) _ _ a ∙ if_else (has_sort two_word token) _ _ b
+        ∙ if_else (fits (word (codes "desc_data_retval")) token) _ _ c
+        ∙ if_else (fits (word (codes "desc_data_retval_add")) token) _ _ d
+        ∙ if_else (has_sort Name token) (Some (plain_rest go (named_by token))) None h)

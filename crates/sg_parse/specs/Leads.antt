@@ -19,3 +19,7 @@ read_on (Some s) token reading = read s reading
 abbrev pub Leads : {V : Type 0} → Result Tree ParseError → Result V ParseError → (V → State) → Reading → Type 0
 Leads before (Ok value) go new = before ≡ read (go value) new
 Leads before (Err error) go new = error ≢ NoMemory → before ≡ Err error
+
+-- an answer is what was to be read, or want of memory
+abbrev pub Answers : Result Tree ParseError → Result Tree ParseError → Type 0
+Answers before result = result ≢ Err NoMemory → before ≡ result

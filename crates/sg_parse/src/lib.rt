@@ -5,8 +5,14 @@
 //! - `parser`: the whole (`parse`)
 #![tactic(auto)]
 
+mod head;
+mod params;
+mod parser;
 mod reader;
+mod statements;
 mod types;
+
+pub use parser::parse;
 
 pub use sg_grammar::{
     Facts, Name, NameList, Param, ParamList, ParseError, Ret, Statement, StatementList, Tree,

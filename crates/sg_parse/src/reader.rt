@@ -3,7 +3,7 @@ ghost use Rattle.std.specs.Prelude.{◌≡◌, ◌≤◌, ◌<◌, ◌+◌, ℕ,
 ghost use Rattle.sg_lex.specs.Tokens.{answers_of};
 ghost use Rattle.sg_grammar.specs.Words.{is_of};
 ghost use Rattle.sg_grammar.specs.Named.{Named};
-ghost use Rattle.sg_grammar.specs.States.{State, dead, due, want, Reading, read, read_from, has_sort, fits};
+ghost use Rattle.sg_grammar.specs.States.{State, dead, due, want, Reading, read, read_from, has_sort, fits, named_by};
 ghost use Rattle.sg_parse.specs.Leads.{Leads};
 ghost use Rattle.sg_grammar.specs.Pieces.{mark, word};
 ghost use Rattle.sg_parse.specs.Ahead.{with_ahead, Off, named_token, Came};
@@ -63,10 +63,7 @@ impl<'a> Reader<'a> {
         ensures end { self.new.end ≡ self.old.end }
     {
         match next_token(&mut self.ahead, &mut self.lexer)? {
-            Some(token) if is_word(&token, sort) => Ok(Some(Name {
-                slice: token.slice,
-                at: token.at,
-            })),
+            Some(token) if is_word(&token, sort) => Ok(Some(name_of(token))),
             other => {
                 self.ahead = other;
                 Ok(None)
@@ -186,6 +183,16 @@ fn next_token<'a>(ahead: &mut Option<Token<'a>>, lexer: &mut Lexer<'a>) -> Resul
         None => Ok(None),
         Some(Ok(token)) => Ok(Some(token)),
         Some(Err(fault)) => Err(ParseError::Lex { at: fault.at }),
+    }
+}
+
+/// The name that a token is.
+pub fn name_of(token: Token<'_>) -> Name<'_>
+    ensures { result ≡ named_by token.entry }
+{
+    Name {
+        slice: token.slice,
+        at: token.at,
     }
 }
 
