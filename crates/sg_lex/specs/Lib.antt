@@ -1,3 +1,6 @@
 pub mod Bytes
+pub mod Fronts
 pub mod Lexeme
+pub mod Reading
+pub mod Table
 pub mod Tokens

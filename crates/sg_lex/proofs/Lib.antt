@@ -1,0 +1,10 @@
+pub mod Classes
+pub mod Closes
+pub mod Comments
+pub mod Firsts
+pub mod Forward
+pub mod Fronts
+pub mod Meanings
+pub mod Readings
+pub mod Runs
+pub mod Steps

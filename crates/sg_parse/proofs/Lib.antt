@@ -1,0 +1,4 @@
+
+pub mod ByToken
+pub mod Lengths
+pub mod Whole
