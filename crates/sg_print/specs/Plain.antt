@@ -1,7 +1,6 @@
 -- Trees without the places of their names.
-use Rattle.std.specs.Prelude.{ℕ, List, None, Some, map}
+use Rattle.std.specs.Prelude.{map}
 use Rattle.std.specs.Option.{option_map}
-use Rattle.std.specs.declared.option.Option.{Option}
 use Rattle.sg_grammar.specs.declared.tree.Facts.{Facts}
 use Rattle.sg_grammar.specs.declared.tree.Statement.{Statement}
 use Rattle.sg_grammar.specs.declared.tree.Statement.TheVariants.{One, Two, Proto}

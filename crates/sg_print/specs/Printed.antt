@@ -1,6 +1,6 @@
 -- The canonical text of a tree.
 use Rattle.std.specs.Prelude.{ℕ, ◌==◌, if◌then◌else◌, List, [], ◌∷◌, ◌++◌, None, Some, codes, replicate}
-use Rattle.std.specs.List.{concat, flat_map}
+use Rattle.std.specs.List.{concat, flat_map, join_by}
 use Rattle.std.specs.declared.option.Option.{Option}
 use Rattle.sg_grammar.specs.declared.tree.Facts.{Facts}
 use Rattle.sg_grammar.specs.declared.tree.Statement.{Statement}
@@ -18,8 +18,7 @@ new_line = 0x0A ∷ []
 
 -- names, with a space between two
 abbrev pub names_text : List Named → List ℕ
-names_text [] = []
-names_text (n ∷ ns) = n.bytes ++ flat_map (λ m. 0x20 ∷ m.bytes) ns
+names_text names = join_by (λ n. n.bytes) (codes " ") names
 
 -- a space, and then stars
 abbrev pub stars_text : ℕ → List ℕ
@@ -43,8 +42,7 @@ param_text p = type_text p.ty ++ form_text p.form p.name
 
 -- parameters, with a comma and a space between two
 abbrev pub params_text : List Param → List ℕ
-params_text [] = []
-params_text (p ∷ ps) = param_text p ++ flat_map (λ q. codes ", " ++ param_text q) ps
+params_text params = join_by param_text (codes ", ") params
 
 -- what becomes of a returned word, with its type and its field; a space stands behind it
 abbrev pub returned_text : List ℕ → TypeName → Named → List ℕ

@@ -1,0 +1,4 @@
+pub mod Back
+pub mod Law
+pub mod Leads
+pub mod Texts
