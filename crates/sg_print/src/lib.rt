@@ -13,3 +13,6 @@ mod types;
 
 pub use laws::prints_parse_back;
 pub use statements::print;
+
+#[cfg(test)]
+mod tests;
