@@ -3,7 +3,7 @@
 //! - `statements`: the text of a tree (`print`)
 //! - `types`: the texts of types, parameters and returns
 //! - `parts`: texts in a row
-//! - `laws`: a printed tree reads back
+//! - `laws`: a printed tree reads back, and places are not printed
 #![tactic(auto)]
 
 mod laws;
@@ -11,7 +11,7 @@ mod parts;
 mod statements;
 mod types;
 
-pub use laws::prints_parse_back;
+pub use laws::{places_are_not_printed, prints_parse_back};
 pub use statements::print;
 
 #[cfg(test)]

@@ -8,7 +8,7 @@ use sg_base::{Bytes, NoMemory};
 use sg_grammar::{Facts, Statement, Tree};
 use std::alloc::Global;
 
-/// The canonical text of a tree.
+/// The canonical text of a tree. `NoMemory` only where there is no memory for it.
 pub fn print(alloc: Global, tree: &Tree<'_>) -> Result<Bytes, NoMemory>
     ensures { IfOk result (λ text. text ≡ printed tree.now) }
 {
