@@ -55,3 +55,11 @@ line_exact (b ∷ bs) behind e f =
     let more : prefix_len (λ c. not (c == 0x0A)) (bs ++ behind) ≡ length bs
     = line_exact bs behind (and_parts (not (b == 0x0A)) (list_all (λ c. not (c == 0x0A)) bs) e).1 f in
     rw (here, more) (omega arith)
+
+-- where all are of the class, all are counted
+pub all_whole : (p : ℕ → Bool) (bs : List ℕ) → list_all p bs ≡ true → prefix_len p (bs ++ []) ≡ length bs
+all_whole p [] e = refl
+all_whole p (b ∷ bs) e =
+    let here : p b ≡ true = (and_parts (p b) (list_all p bs) e).0 in
+    let more : prefix_len p (bs ++ []) ≡ length bs = all_whole p bs (and_parts (p b) (list_all p bs) e).1 in
+    rw (here, more) (omega arith)

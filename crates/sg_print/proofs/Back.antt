@@ -1,0 +1,451 @@
+-- Tokens that are like the pieces of a tree are the pieces of a tree that is equal but for places.
+use Rattle.std.proofs.Common.{ℕ, zero, suc, ◌≡◌, ◌≢◌, true, List, [], ◌∷◌, ◌++◌, Option, None, Some, map, replicate, codes, length, refl, sym, ap, ◌∙◌, subst, arith, append_assoc}
+use Rattle.std.specs.Prelude.{All}
+use Rattle.std.specs.List.{flat_map}
+use Rattle.std.specs.Option.{option_map}
+use Rattle.std.proofs.lemmas.List.Elements.{All-head, All-tail, All-cons}
+use Rattle.sg_lex.specs.Lexeme.{Lexeme}
+use Rattle.sg_grammar.specs.declared.tree.Facts.{Facts}
+use Rattle.sg_grammar.specs.declared.tree.Statement.{Statement}
+use Rattle.sg_grammar.specs.declared.tree.Statement.TheVariants.{One, Two, Proto}
+use Rattle.sg_grammar.specs.declared.tree.Ret.{Ret}
+use Rattle.sg_grammar.specs.declared.tree.Ret.TheVariants.{Plain, Set, Add}
+use Rattle.sg_grammar.specs.declared.tree.TypeName.{TypeName}
+use Rattle.sg_grammar.specs.declared.tree.Param.{Param}
+use Rattle.sg_grammar.specs.declared.tree.Tree.{Tree}
+use Rattle.sg_grammar.specs.declared.words.Sort.{Sort}
+use Rattle.sg_grammar.specs.declared.words.Sort.TheVariants.{Name, One as one_word, Two as two_word, Form, Parents, Closing, Flag}
+use Rattle.sg_grammar.specs.Named.{Named}
+use Rattle.sg_grammar.specs.Words.{is_of}
+use Rattle.sg_grammar.specs.Pieces.{Piece, word, mark, name, ArePieces}
+use Rattle.sg_grammar.specs.Sentence.{open_brace, equals, open_bracket, close_bracket, comma, semicolon, star, fact_pieces, facts_pieces, type_pieces, form_pieces, param_pieces, more_params, params_pieces, returned_pieces, ret_pieces, statement_pieces, tree_pieces, IsType, IsRet, IsStatement, IsWellFormed}
+use Rattle.sg_print.specs.Plain.{plain_name, plain_type, plain_param, plain_ret, plain_statement, plain_facts, plain}
+use Rattle.sg_print.proofs.Leads.{AreLike}
+
+-- tokens begin with what is like the pieces of a part: they begin with the pieces of an equal part, but for places
+record Again {X : Type 0} (pieces_of : X → List Piece) (plain_of : X → X) (Good : X → Type 0) (x : X) (tokens : List Lexeme) (more : List Piece) : Type 0 where
+  again : X
+  behind : List Lexeme
+  left : AreLike behind more
+  back : (ps : List Piece) → ArePieces behind ps → ArePieces tokens (pieces_of again ++ ps)
+  same : plain_of again ≡ plain_of x
+  kept : Good x → Good again
+
+-- the same of a part without names
+record Past (fixed : List Piece) (tokens : List Lexeme) (more : List Piece) : Type 0 where
+  behind : List Lexeme
+  left : AreLike behind more
+  back : (ps : List Piece) → ArePieces behind ps → ArePieces tokens (fixed ++ ps)
+
+abbrev Any : {X : Type 0} → X → Type 0
+Any x = Unit {0}
+
+word_back : (w : List ℕ) (more : List Piece) (tokens : List Lexeme) → AreLike tokens (word w ∷ more) → Past (word w ∷ []) tokens more
+word_back w more [] l = absurd l
+word_back w more (t ∷ ts) l = record { behind = ts; left = l.1; back = λ ps h. (l.0, h) }
+
+mark_back : (m : ℕ) (more : List Piece) (tokens : List Lexeme) → AreLike tokens (mark m ∷ more) → Past (mark m ∷ []) tokens more
+mark_back m more [] l = absurd l
+mark_back m more (t ∷ ts) l = record { behind = ts; left = l.1; back = λ ps h. (l.0, h) }
+
+stars_back : (k : ℕ) (more : List Piece) (tokens : List Lexeme) → AreLike tokens (replicate k star ++ more) → Past (replicate k star) tokens more
+stars_back zero more tokens l = record { behind = tokens; left = l; back = λ ps h. h }
+stars_back (suc k) more tokens l =
+    let r = mark_back 0x2A (replicate k star ++ more) tokens l in
+    let s = stars_back k more r.behind r.left in
+    record { behind = s.behind; left = s.left; back = λ ps h. r.back (replicate k star ++ ps) (s.back ps h) }
+
+name_back : (sort : Sort) (n : Named) (more : List Piece) (tokens : List Lexeme) → AreLike tokens (name sort n ∷ more)
+    → Again (λ m. name sort m ∷ []) plain_name Any n tokens more
+name_back sort n more [] l = absurd l
+name_back sort n more (t ∷ ts) l = record {
+  again = record { bytes = t.bytes; at = t.at };
+  behind = ts;
+  left = l.1;
+  back = λ ps h. ((l.0.0, refl, refl, subst (λ b. is_of sort b ≡ true) (sym l.0.1) l.0.2), h);
+  same = ap (λ (b : List ℕ). plain_name (record { bytes = b; at = 0 })) l.0.1;
+  kept = λ h. h;
+}
+
+-- ---- types
+
+abbrev Some_of : {X : Type 0} → List X → Type 0
+Some_of xs = xs ≢ []
+
+occupied : {X : Type 0} (x : X) (xs : List X) → x ∷ xs ≢ []
+occupied x xs e = let long : suc (length xs) ≡ 0 = ap length e in omega arith
+
+names_back : (ns : List Named) (more : List Piece) (tokens : List Lexeme) → AreLike tokens (map (name Name) ns ++ more)
+    → Again (map (name Name)) (map plain_name) Some_of ns tokens more
+names_back [] more tokens l = record { again = []; behind = tokens; left = l; back = λ ps h. h; same = refl; kept = λ h. h }
+names_back (n ∷ ns) more tokens l =
+    let r = name_back Name n (map (name Name) ns ++ more) tokens l in
+    let s = names_back ns more r.behind r.left in
+    record {
+      again = r.again ∷ s.again;
+      behind = s.behind;
+      left = s.left;
+      back = λ ps h. r.back (map (name Name) s.again ++ ps) (s.back ps h);
+      same = ap (λ m. m ∷ map plain_name s.again) r.same ∙ ap (λ ms. plain_name n ∷ ms) s.same;
+      kept = λ h. occupied r.again s.again;
+    }
+
+type_back : (ty : TypeName) (more : List Piece) (tokens : List Lexeme) → AreLike tokens (type_pieces ty ++ more)
+    → Again type_pieces plain_type IsType ty tokens more
+type_back ty more tokens l =
+    let stars : List Piece = replicate ty.stars star in
+    let r = names_back ty.names (stars ++ more) tokens (subst (AreLike tokens) (append_assoc (map (name Name) ty.names) stars more) l) in
+    let s = stars_back ty.stars more r.behind r.left in
+    record {
+      again = record { names = r.again; stars = ty.stars };
+      behind = s.behind;
+      left = s.left;
+      back = λ ps h. subst (ArePieces tokens) (sym (append_assoc (map (name Name) r.again) stars ps)) (r.back (stars ++ ps) (s.back ps h));
+      same = ap (λ (ns : List Named). record { names = ns; stars = ty.stars }) r.same;
+      kept = r.kept;
+    }
+
+-- ---- parameters
+
+abbrev pair_pieces : Option Named × Named → List Piece
+pair_pieces f = form_pieces f.0 f.1
+
+abbrev plain_pair : Option Named × Named → Option Named × Named
+plain_pair f = (option_map plain_name f.0, plain_name f.1)
+
+form_back : (form : Option Named) (n : Named) (more : List Piece) (tokens : List Lexeme) → AreLike tokens (form_pieces form n ++ more)
+    → Again pair_pieces plain_pair Any (form, n) tokens more
+form_back None n more tokens l =
+    let r = name_back Name n more tokens l in
+    record {
+      again = (None, r.again);
+      behind = r.behind;
+      left = r.left;
+      back = r.back;
+      same = ap (λ (m : Named). let p : Option Named × Named = (None, m) in p) r.same;
+      kept = λ h. h;
+    }
+form_back (Some form) n more tokens l =
+    let r = name_back Form form (open_bracket ∷ name Name n ∷ close_bracket ∷ more) tokens l in
+    let o = mark_back 0x28 (name Name n ∷ close_bracket ∷ more) r.behind r.left in
+    let s = name_back Name n (close_bracket ∷ more) o.behind o.left in
+    let c = mark_back 0x29 more s.behind s.left in
+    record {
+      again = (Some r.again, s.again);
+      behind = c.behind;
+      left = c.left;
+      back = λ ps h. r.back (open_bracket ∷ name Name s.again ∷ close_bracket ∷ ps) (o.back (name Name s.again ∷ close_bracket ∷ ps)
+          (s.back (close_bracket ∷ ps) (c.back ps h)));
+      same = ap (λ (m : Named). let p : Option Named × Named = (Some m, plain_name s.again) in p) r.same
+          ∙ ap (λ (m : Named). let p : Option Named × Named = (Some (plain_name form), m) in p) s.same;
+      kept = λ h. h;
+    }
+
+abbrev HasType : Param → Type 0
+HasType p = IsType p.ty
+
+param_back : (p : Param) (more : List Piece) (tokens : List Lexeme) → AreLike tokens (param_pieces p ++ more)
+    → Again param_pieces plain_param HasType p tokens more
+param_back p more tokens l =
+    let form : List Piece = form_pieces p.form p.name in
+    let r = type_back p.ty (form ++ more) tokens (subst (AreLike tokens) (append_assoc (type_pieces p.ty) form more) l) in
+    let s = form_back p.form p.name more r.behind r.left in
+    record {
+      again = record { ty = r.again; form = s.again.0; name = s.again.1 };
+      behind = s.behind;
+      left = s.left;
+      back = λ ps h. subst (ArePieces tokens) (sym (append_assoc (type_pieces r.again) (pair_pieces s.again) ps))
+          (r.back (pair_pieces s.again ++ ps) (s.back ps h));
+      same = ap (λ (ty : TypeName). let q : Param = record { ty = ty; form = option_map plain_name s.again.0; name = plain_name s.again.1 } in q) r.same
+          ∙ ap (λ (f : Option Named × Named). let q : Param = record { ty = plain_type p.ty; form = f.0; name = f.1 } in q) s.same;
+      kept = r.kept;
+    }
+
+more_back : (params : List Param) (more : List Piece) (tokens : List Lexeme) → AreLike tokens (more_params params ++ more)
+    → Again more_params (map plain_param) (All HasType) params tokens more
+more_back [] more tokens l = record { again = []; behind = tokens; left = l; back = λ ps h. h; same = refl; kept = λ h. h }
+more_back (p ∷ params) more tokens l =
+    let o = mark_back 0x2C (param_pieces p ++ (more_params params ++ more)) tokens
+    (subst (AreLike tokens) (append_assoc (comma ∷ param_pieces p) (more_params params) more) l) in
+    let r = param_back p (more_params params ++ more) o.behind o.left in
+    let s = more_back params more r.behind r.left in
+    record {
+      again = r.again ∷ s.again;
+      behind = s.behind;
+      left = s.left;
+      back = λ ps h. subst (ArePieces tokens) (sym (append_assoc (comma ∷ param_pieces r.again) (more_params s.again) ps))
+          (o.back (param_pieces r.again ++ (more_params s.again ++ ps)) (r.back (more_params s.again ++ ps) (s.back ps h)));
+      same = ap (λ q. q ∷ map plain_param s.again) r.same ∙ ap (λ qs. plain_param p ∷ qs) s.same;
+      kept = λ h. All-cons HasType r.again s.again (r.kept (All-head HasType p params h)) (s.kept (All-tail HasType p params h));
+    }
+
+abbrev AreParams : List Param → Type 0
+AreParams params = (params ≢ []) × All HasType params
+
+params_back : (params : List Param) (more : List Piece) (tokens : List Lexeme) → AreLike tokens (params_pieces params ++ more)
+    → Again params_pieces (map plain_param) AreParams params tokens more
+params_back [] more tokens l = record { again = []; behind = tokens; left = l; back = λ ps h. h; same = refl; kept = λ h. h }
+params_back (p ∷ params) more tokens l =
+    let r = param_back p (more_params params ++ more) tokens (subst (AreLike tokens) (append_assoc (param_pieces p) (more_params params) more) l) in
+    let s = more_back params more r.behind r.left in
+    record {
+      again = r.again ∷ s.again;
+      behind = s.behind;
+      left = s.left;
+      back = λ ps h. subst (ArePieces tokens) (sym (append_assoc (param_pieces r.again) (more_params s.again) ps))
+          (r.back (more_params s.again ++ ps) (s.back ps h));
+      same = ap (λ q. q ∷ map plain_param s.again) r.same ∙ ap (λ qs. plain_param p ∷ qs) s.same;
+      kept = λ h. (
+        occupied r.again s.again,
+        All-cons HasType r.again s.again (r.kept (All-head HasType p params h.1)) (s.kept (All-tail HasType p params h.1)),
+      );
+    }
+
+-- ---- returns
+
+abbrev Returned : Type 0
+Returned = TypeName × Named
+
+abbrev pair_of : List ℕ → Returned → List Piece
+pair_of what f = returned_pieces what f.0 f.1
+
+abbrev plain_returned : Returned → Returned
+plain_returned f = (plain_type f.0, plain_name f.1)
+
+abbrev ReturnsType : Returned → Type 0
+ReturnsType f = IsType f.0
+
+returned_back : (what : List ℕ) (ty : TypeName) (field : Named) (more : List Piece) (tokens : List Lexeme)
+    → AreLike tokens (returned_pieces what ty field ++ more) → Again (pair_of what) plain_returned ReturnsType (ty, field) tokens more
+returned_back what ty field more tokens l =
+    let last : List Piece = comma ∷ name Name field ∷ close_bracket ∷ [] in
+    let w = word_back what (open_bracket ∷ (type_pieces ty ++ (last ++ more))) tokens
+    (subst (λ xs. AreLike tokens (word what ∷ open_bracket ∷ xs)) (append_assoc (type_pieces ty) last more) l) in
+    let o = mark_back 0x28 (type_pieces ty ++ (last ++ more)) w.behind w.left in
+    let r = type_back ty (last ++ more) o.behind o.left in
+    let d = mark_back 0x2C (name Name field ∷ close_bracket ∷ more) r.behind r.left in
+    let s = name_back Name field (close_bracket ∷ more) d.behind d.left in
+    let c = mark_back 0x29 more s.behind s.left in
+    record {
+      again = (r.again, s.again);
+      behind = c.behind;
+      left = c.left;
+      back = λ ps h.
+          let tail : ArePieces r.behind (comma ∷ name Name s.again ∷ close_bracket ∷ ps)
+          = d.back (name Name s.again ∷ close_bracket ∷ ps) (s.back (close_bracket ∷ ps) (c.back ps h)) in
+          subst (λ xs. ArePieces tokens (word what ∷ open_bracket ∷ xs))
+          (sym (append_assoc (type_pieces r.again) (comma ∷ name Name s.again ∷ close_bracket ∷ []) ps))
+          (w.back (open_bracket ∷ (type_pieces r.again ++ (comma ∷ name Name s.again ∷ close_bracket ∷ ps)))
+          (o.back (type_pieces r.again ++ (comma ∷ name Name s.again ∷ close_bracket ∷ ps))
+          (r.back (comma ∷ name Name s.again ∷ close_bracket ∷ ps) tail)));
+      same = ap (λ (t : TypeName). let f : Returned = (t, plain_name s.again) in f) r.same
+          ∙ ap (λ (m : Named). let f : Returned = (plain_type ty, m) in f) s.same;
+      kept = r.kept;
+    }
+
+ret_back : (ret : Ret) (more : List Piece) (tokens : List Lexeme) → AreLike tokens (ret_pieces ret ++ more)
+    → Again ret_pieces plain_ret IsRet ret tokens more
+ret_back (Plain ty) more tokens l =
+    let r = type_back ty more tokens l in
+    record { again = Plain r.again; behind = r.behind; left = r.left; back = r.back; same = ap Plain r.same; kept = r.kept }
+ret_back (Set ty field) more tokens l =
+    let r = returned_back (codes "desc_data_retval") ty field more tokens l in
+    record {
+      again = Set r.again.0 r.again.1;
+      behind = r.behind;
+      left = r.left;
+      back = r.back;
+      same = ap (λ (f : Returned). Set f.0 f.1) r.same;
+      kept = r.kept;
+    }
+ret_back (Add ty field) more tokens l =
+    let r = returned_back (codes "desc_data_retval_add") ty field more tokens l in
+    record {
+      again = Add r.again.0 r.again.1;
+      behind = r.behind;
+      left = r.left;
+      back = r.back;
+      same = ap (λ (f : Returned). Add f.0 f.1) r.same;
+      kept = r.kept;
+    }
+
+-- ---- statements
+
+statement_back : (s : Statement) (more : List Piece) (tokens : List Lexeme) → AreLike tokens (statement_pieces s ++ more)
+    → Again statement_pieces plain_statement IsStatement s tokens more
+statement_back (One w fun) more tokens l =
+    let a = name_back one_word w (open_bracket ∷ name Name fun ∷ close_bracket ∷ semicolon ∷ more) tokens l in
+    let o = mark_back 0x28 (name Name fun ∷ close_bracket ∷ semicolon ∷ more) a.behind a.left in
+    let b = name_back Name fun (close_bracket ∷ semicolon ∷ more) o.behind o.left in
+    let c = mark_back 0x29 (semicolon ∷ more) b.behind b.left in
+    let e = mark_back 0x3B more c.behind c.left in
+    record {
+      again = One a.again b.again;
+      behind = e.behind;
+      left = e.left;
+      back = λ ps h. a.back (open_bracket ∷ name Name b.again ∷ close_bracket ∷ semicolon ∷ ps)
+          (o.back (name Name b.again ∷ close_bracket ∷ semicolon ∷ ps)
+          (b.back (close_bracket ∷ semicolon ∷ ps) (c.back (semicolon ∷ ps) (e.back ps h))));
+      same = ap (λ m. One m (plain_name b.again)) a.same ∙ ap (λ m. One (plain_name w) m) b.same;
+      kept = λ h. h;
+    }
+statement_back (Two w first second) more tokens l =
+    let a = name_back two_word w (open_bracket ∷ name Name first ∷ comma ∷ name Name second ∷ close_bracket ∷ semicolon ∷ more) tokens l in
+    let o = mark_back 0x28 (name Name first ∷ comma ∷ name Name second ∷ close_bracket ∷ semicolon ∷ more) a.behind a.left in
+    let b = name_back Name first (comma ∷ name Name second ∷ close_bracket ∷ semicolon ∷ more) o.behind o.left in
+    let d = mark_back 0x2C (name Name second ∷ close_bracket ∷ semicolon ∷ more) b.behind b.left in
+    let g = name_back Name second (close_bracket ∷ semicolon ∷ more) d.behind d.left in
+    let c = mark_back 0x29 (semicolon ∷ more) g.behind g.left in
+    let e = mark_back 0x3B more c.behind c.left in
+    record {
+      again = Two a.again b.again g.again;
+      behind = e.behind;
+      left = e.left;
+      back = λ ps h. a.back (open_bracket ∷ name Name b.again ∷ comma ∷ name Name g.again ∷ close_bracket ∷ semicolon ∷ ps)
+          (o.back (name Name b.again ∷ comma ∷ name Name g.again ∷ close_bracket ∷ semicolon ∷ ps)
+          (b.back (comma ∷ name Name g.again ∷ close_bracket ∷ semicolon ∷ ps)
+          (d.back (name Name g.again ∷ close_bracket ∷ semicolon ∷ ps)
+          (g.back (close_bracket ∷ semicolon ∷ ps) (c.back (semicolon ∷ ps) (e.back ps h))))));
+      same = ap (λ m. Two m (plain_name b.again) (plain_name g.again)) a.same
+          ∙ (ap (λ m. Two (plain_name w) m (plain_name g.again)) b.same ∙ ap (λ m. Two (plain_name w) (plain_name first) m) g.same);
+      kept = λ h. h;
+    }
+statement_back (Proto ret n params) more tokens l =
+    let last : List Piece = close_bracket ∷ semicolon ∷ [] in
+    let all : List Piece = name Name n ∷ open_bracket ∷ (params_pieces params ++ (last ++ more)) in
+    let whole : AreLike tokens (ret_pieces ret ++ all)
+    = subst (λ xs. AreLike tokens (ret_pieces ret ++ name Name n ∷ open_bracket ∷ xs)) (append_assoc (params_pieces params) last more)
+    (subst (AreLike tokens) (append_assoc (ret_pieces ret) (name Name n ∷ open_bracket ∷ (params_pieces params ++ last)) more) l) in
+    let r = ret_back ret all tokens whole in
+    let a = name_back Name n (open_bracket ∷ (params_pieces params ++ (last ++ more))) r.behind r.left in
+    let o = mark_back 0x28 (params_pieces params ++ (last ++ more)) a.behind a.left in
+    let b = params_back params (last ++ more) o.behind o.left in
+    let c = mark_back 0x29 (semicolon ∷ more) b.behind b.left in
+    let e = mark_back 0x3B more c.behind c.left in
+    record {
+      again = Proto r.again a.again b.again;
+      behind = e.behind;
+      left = e.left;
+      back = λ ps h.
+          let tail : ArePieces o.behind (params_pieces b.again ++ (last ++ ps)) = b.back (last ++ ps) (c.back (semicolon ∷ ps) (e.back ps h)) in
+          let front : ArePieces tokens (ret_pieces r.again ++ (name Name a.again ∷ open_bracket ∷ (params_pieces b.again ++ (last ++ ps))))
+          = r.back (name Name a.again ∷ open_bracket ∷ (params_pieces b.again ++ (last ++ ps)))
+          (a.back (open_bracket ∷ (params_pieces b.again ++ (last ++ ps))) (o.back (params_pieces b.again ++ (last ++ ps)) tail)) in
+          subst (ArePieces tokens) (sym (append_assoc (ret_pieces r.again) (name Name a.again ∷ open_bracket ∷ (params_pieces b.again ++ last)) ps))
+          (subst (λ xs. ArePieces tokens (ret_pieces r.again ++ name Name a.again ∷ open_bracket ∷ xs))
+          (sym (append_assoc (params_pieces b.again) last ps)) front);
+      same = ap (λ m. Proto m (plain_name a.again) (map plain_param b.again)) r.same
+          ∙ (ap (λ m. Proto (plain_ret ret) m (map plain_param b.again)) a.same ∙ ap (λ ms. Proto (plain_ret ret) (plain_name n) ms) b.same);
+      kept = λ h. (r.kept h.0, (b.kept (h.1, h.2)).0, (b.kept (h.1, h.2)).1);
+    }
+
+record AgainAll (ss : List Statement) (tokens : List Lexeme) : Type 0 where
+  again : List Statement
+  pieces : ArePieces tokens (flat_map statement_pieces again)
+  same : map plain_statement again ≡ map plain_statement ss
+  kept : All IsStatement ss → All IsStatement again
+
+none_left : (tokens : List Lexeme) → AreLike tokens [] → ArePieces tokens []
+none_left [] l = tt
+none_left (t ∷ ts) l = absurd l
+
+statements_back : (ss : List Statement) (tokens : List Lexeme) → AreLike tokens (flat_map statement_pieces ss) → AgainAll ss tokens
+statements_back [] tokens l = record { again = []; pieces = none_left tokens l; same = refl; kept = λ h. h }
+statements_back (s ∷ ss) tokens l =
+    let r = statement_back s (flat_map statement_pieces ss) tokens l in
+    let q = statements_back ss r.behind r.left in
+    record {
+      again = r.again ∷ q.again;
+      pieces = r.back (flat_map statement_pieces q.again) q.pieces;
+      same = ap (λ x. x ∷ map plain_statement q.again) r.same ∙ ap (λ xs. plain_statement s ∷ xs) q.same;
+      kept = λ h. All-cons IsStatement r.again q.again (r.kept (All-head IsStatement s ss h)) (q.kept (All-tail IsStatement s ss h));
+    }
+
+-- ---- facts
+
+record AgainFact (what : List ℕ) (sort : Sort) (end : ℕ) (value : Named) (tokens : List Lexeme) (more : List Piece) : Type 0 where
+  again : Named
+  behind : List Lexeme
+  left : AreLike behind more
+  back : (ps : List Piece) → ArePieces behind ps → ArePieces tokens (fact_pieces what sort again (mark end) ps)
+  same : plain_name again ≡ plain_name value
+
+fact_back : (what : List ℕ) (sort : Sort) (end : ℕ) (value : Named) (more : List Piece) (tokens : List Lexeme)
+    → AreLike tokens (fact_pieces what sort value (mark end) more) → AgainFact what sort end value tokens more
+fact_back what sort end value more tokens l =
+    let w = word_back what (equals ∷ name sort value ∷ mark end ∷ more) tokens l in
+    let q = mark_back 0x3D (name sort value ∷ mark end ∷ more) w.behind w.left in
+    let v = name_back sort value (mark end ∷ more) q.behind q.left in
+    let e = mark_back end more v.behind v.left in
+    record {
+      again = v.again;
+      behind = e.behind;
+      left = e.left;
+      back = λ ps h. w.back (equals ∷ name sort v.again ∷ mark end ∷ ps) (q.back (name sort v.again ∷ mark end ∷ ps)
+          (v.back (mark end ∷ ps) (e.back ps h)));
+      same = v.same;
+    }
+
+record AgainFacts (f : Facts) (tokens : List Lexeme) (more : List Piece) : Type 0 where
+  again : Facts
+  behind : List Lexeme
+  left : AreLike behind more
+  back : (ps : List Piece) → ArePieces behind ps → ArePieces tokens (facts_pieces again ps)
+  same : plain_facts again ≡ plain_facts f
+
+abbrev facts_of : Named → Named → Named → Named → Named → Named → Named → Facts
+facts_of a b c d e g h = record { service = a; parent = b; close = c; global = d; block = e; has_data = g; resc_data = h }
+
+-- facts are equal where each of their names is
+same_facts : {a b c d e g h a' b' c' d' e' g' h' : Named} → a ≡ a' → b ≡ b' → c ≡ c' → d ≡ d' → e ≡ e' → g ≡ g' → h ≡ h'
+    → facts_of a b c d e g h ≡ facts_of a' b' c' d' e' g' h'
+same_facts p q r s t u v = cc
+
+facts_back : (f : Facts) (more : List Piece) (tokens : List Lexeme) → AreLike tokens (facts_pieces f more) → AgainFacts f tokens more
+facts_back f more tokens l =
+    let m7 : List Piece = semicolon ∷ more in
+    let m6 : List Piece = fact_pieces (codes "resc_has_data") Flag f.resc_data (mark 0x7D) m7 in
+    let m5 : List Piece = fact_pieces (codes "desc_has_data") Flag f.has_data comma m6 in
+    let m4 : List Piece = fact_pieces (codes "desc_block") Flag f.block comma m5 in
+    let m3 : List Piece = fact_pieces (codes "desc_is_global") Flag f.global comma m4 in
+    let m2 : List Piece = fact_pieces (codes "desc_close") Closing f.close comma m3 in
+    let m1 : List Piece = fact_pieces (codes "desc_has_parent") Parents f.parent comma m2 in
+    let m0 : List Piece = fact_pieces (codes "service") Name f.service comma m1 in
+    let w = word_back (codes "service_global_info") (equals ∷ open_brace ∷ m0) tokens l in
+    let q = mark_back 0x3D (open_brace ∷ m0) w.behind w.left in
+    let o = mark_back 0x7B m0 q.behind q.left in
+    let v1 = fact_back (codes "service") Name 0x2C f.service m1 o.behind o.left in
+    let v2 = fact_back (codes "desc_has_parent") Parents 0x2C f.parent m2 v1.behind v1.left in
+    let v3 = fact_back (codes "desc_close") Closing 0x2C f.close m3 v2.behind v2.left in
+    let v4 = fact_back (codes "desc_is_global") Flag 0x2C f.global m4 v3.behind v3.left in
+    let v5 = fact_back (codes "desc_block") Flag 0x2C f.block m5 v4.behind v4.left in
+    let v6 = fact_back (codes "desc_has_data") Flag 0x2C f.has_data m6 v5.behind v5.left in
+    let v7 = fact_back (codes "resc_has_data") Flag 0x7D f.resc_data m7 v6.behind v6.left in
+    let e = mark_back 0x3B more v7.behind v7.left in
+    record {
+      again = record { service = v1.again; parent = v2.again; close = v3.again; global = v4.again; block = v5.again; has_data = v6.again; resc_data = v7.again };
+      behind = e.behind;
+      left = e.left;
+      back = λ ps h. w.back _ (q.back _ (o.back _ (v1.back _ (v2.back _ (v3.back _ (v4.back _ (v5.back _ (v6.back _ (v7.back _ (e.back ps h))))))))));
+      same = same_facts v1.same v2.same v3.same v4.same v5.same v6.same v7.same;
+    }
+
+-- ---- trees
+
+pub record AgainTree (tree : Tree) (tokens : List Lexeme) : Type 0 where
+  pub again : Tree
+  pub pieces : ArePieces tokens (tree_pieces again)
+  pub same : plain again ≡ plain tree
+  pub kept : IsWellFormed tree → IsWellFormed again
+
+pub tree_back : (tree : Tree) (tokens : List Lexeme) → AreLike tokens (tree_pieces tree) → AgainTree tree tokens
+tree_back tree tokens l =
+    let f = facts_back tree.facts (flat_map statement_pieces tree.statements) tokens l in
+    let s = statements_back tree.statements f.behind f.left in
+    record {
+      again = record { facts = f.again; statements = s.again };
+      pieces = f.back (flat_map statement_pieces s.again) s.pieces;
+      same = ap (λ (x : Facts). let t : Tree = record { facts = x; statements = map plain_statement s.again } in t) f.same
+          ∙ ap (λ (xs : List Statement). let t : Tree = record { facts = plain_facts tree.facts; statements = xs } in t) s.same;
+      kept = s.kept;
+    }

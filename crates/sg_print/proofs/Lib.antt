@@ -1,0 +1,5 @@
+pub mod Back
+pub mod Law
+pub mod Leads
+pub mod Places
+pub mod Texts

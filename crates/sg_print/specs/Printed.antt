@@ -1,0 +1,79 @@
+-- The canonical text of a tree.
+use Rattle.std.specs.Prelude.{ℕ, ◌==◌, if◌then◌else◌, List, [], ◌∷◌, ◌++◌, None, Some, codes, replicate}
+use Rattle.std.specs.List.{concat, flat_map, join_by}
+use Rattle.std.specs.declared.option.Option.{Option}
+use Rattle.sg_grammar.specs.declared.tree.Facts.{Facts}
+use Rattle.sg_grammar.specs.declared.tree.Statement.{Statement}
+use Rattle.sg_grammar.specs.declared.tree.Statement.TheVariants.{One, Two, Proto}
+use Rattle.sg_grammar.specs.declared.tree.Ret.{Ret}
+use Rattle.sg_grammar.specs.declared.tree.Ret.TheVariants.{Plain, Set, Add}
+use Rattle.sg_grammar.specs.declared.tree.TypeName.{TypeName}
+use Rattle.sg_grammar.specs.declared.tree.Param.{Param}
+use Rattle.sg_grammar.specs.declared.tree.Tree.{Tree}
+use Rattle.sg_grammar.specs.Named.{Named}
+
+-- each line ends with a line feed
+abbrev pub new_line : List ℕ
+new_line = 0x0A ∷ []
+
+-- names, with a space between two
+abbrev pub names_text : List Named → List ℕ
+names_text names = join_by (λ n. n.bytes) (codes " ") names
+
+-- a space, and then stars
+abbrev pub stars_text : ℕ → List ℕ
+stars_text n = 0x20 ∷ replicate n 0x2A
+
+-- a type before a name or a form: a space stands behind its names, and its stars directly before what follows
+abbrev pub type_text : TypeName → List ℕ
+type_text ty = names_text ty.names ++ stars_text ty.stars
+
+-- a type before a comma: no space stands behind its names where it has no stars
+abbrev pub type_before_comma : TypeName → List ℕ
+type_before_comma ty = names_text ty.names ++ (if ty.stars == 0 then [] else stars_text ty.stars)
+
+-- a name, in the brackets of its form where it has one
+abbrev pub form_text : Option Named → Named → List ℕ
+form_text None n = n.bytes
+form_text (Some form) n = concat (form.bytes ∷ codes "(" ∷ n.bytes ∷ codes ")" ∷ [])
+
+abbrev pub param_text : Param → List ℕ
+param_text p = type_text p.ty ++ form_text p.form p.name
+
+-- parameters, with a comma and a space between two
+abbrev pub params_text : List Param → List ℕ
+params_text params = join_by param_text (codes ", ") params
+
+-- what becomes of a returned word, with its type and its field; a space stands behind it
+abbrev pub returned_text : List ℕ → TypeName → Named → List ℕ
+returned_text what ty field = concat (what ∷ codes "(" ∷ type_before_comma ty ∷ codes ", " ∷ field.bytes ∷ codes ") " ∷ [])
+
+abbrev pub ret_text : Ret → List ℕ
+ret_text (Plain ty) = type_text ty
+ret_text (Set ty field) = returned_text (codes "desc_data_retval") ty field
+ret_text (Add ty field) = returned_text (codes "desc_data_retval_add") ty field
+
+-- the line of a statement
+abbrev pub statement_text : Statement → List ℕ
+statement_text (One word fun) = concat (word.bytes ∷ codes "(" ∷ fun.bytes ∷ codes ");" ∷ new_line ∷ [])
+statement_text (Two word first second) =
+    concat (word.bytes ∷ codes "(" ∷ first.bytes ∷ codes ", " ∷ second.bytes ∷ codes ");" ∷ new_line ∷ [])
+statement_text (Proto ret n params) =
+    concat (ret_text ret ∷ n.bytes ∷ codes "(" ∷ params_text params ∷ codes ");" ∷ new_line ∷ [])
+
+-- the lines of the facts: each fact stands behind four spaces
+abbrev pub facts_text : Facts → List ℕ
+facts_text f = concat (
+    codes "service_global_info = {" ∷ new_line
+    ∷ codes "    service = " ∷ f.service.bytes ∷ codes "," ∷ new_line
+    ∷ codes "    desc_has_parent = " ∷ f.parent.bytes ∷ codes "," ∷ new_line
+    ∷ codes "    desc_close = " ∷ f.close.bytes ∷ codes "," ∷ new_line
+    ∷ codes "    desc_is_global = " ∷ f.global.bytes ∷ codes "," ∷ new_line
+    ∷ codes "    desc_block = " ∷ f.block.bytes ∷ codes "," ∷ new_line
+    ∷ codes "    desc_has_data = " ∷ f.has_data.bytes ∷ codes "," ∷ new_line
+    ∷ codes "    resc_has_data = " ∷ f.resc_data.bytes ∷ new_line
+    ∷ codes "};" ∷ new_line ∷ [])
+
+-- the facts, and then each statement on a line of its own, in order
+abbrev pub printed : Tree → List ℕ
+printed tree = facts_text tree.facts ++ flat_map statement_text tree.statements

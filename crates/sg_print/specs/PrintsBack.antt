@@ -1,0 +1,12 @@
+-- A printed tree reads back.
+use Rattle.std.specs.Prelude.{◌≡◌, Ok}
+use Rattle.sg_grammar.specs.declared.tree.Tree.{Tree}
+use Rattle.sg_grammar.specs.Parses.{Parses}
+use Rattle.sg_print.specs.Plain.{plain}
+use Rattle.sg_print.specs.Printed.{printed}
+
+-- its text is a sentence, whose tree is equal to it but for places
+pub record PrintsBack (tree : Tree) : Type 0 where
+  pub again : Tree
+  pub parses : Parses (printed tree) (Ok again)
+  pub same : plain again ≡ plain tree

@@ -1,0 +1,17 @@
+// Laws of the canonical text.
+ghost use Rattle.std.specs.Prelude.{◌≡◌, Ok, List, ℕ};
+ghost use Rattle.sg_grammar.specs.declared.tree.Tree.{Tree};
+ghost use Rattle.sg_grammar.specs.Parses.{Parses};
+ghost use Rattle.sg_print.specs.Plain.{plain};
+ghost use Rattle.sg_print.specs.Printed.{printed};
+ghost use Rattle.sg_print.specs.PrintsBack.{PrintsBack};
+
+/// The canonical text of the tree of a text is a sentence, and its tree is that tree but for the places of names.
+pub fn prints_parse_back()
+    ensures { (text : List ℕ) (tree : Tree) → Parses text (Ok tree) → PrintsBack tree }
+{}
+
+/// Trees that are equal but for the places of names have one canonical text.
+pub fn places_are_not_printed()
+    ensures { (one other : Tree) → plain one ≡ plain other → printed one ≡ printed other }
+{}

@@ -1,0 +1,25 @@
+// Texts in a row.
+ghost use Rattle.std.specs.Prelude.{◌≡◌, ◌++◌, ◌∷◌, OnOk, replicate};
+ghost use Rattle.std.specs.List.{flat_map};
+
+use sg_base::{Bytes, NoMemory};
+
+/// Adds these parts at the end, one behind the other.
+pub fn put(out: &mut Bytes, parts: &[&[u8]]) -> Result<(), NoMemory>
+    ensures { OnOk result (out.new ≡ out.old ++ flat_map (λ part. part.now) parts.now) }
+{
+    for part in parts {
+        out.extend_from_slice(part)?;
+    }
+    Ok(())
+}
+
+/// Adds so many stars at the end.
+pub fn put_stars(out: &mut Bytes, stars: usize) -> Result<(), NoMemory>
+    ensures { OnOk result (out.new ≡ out.old ++ replicate stars 0x2A) }
+{
+    for _ in 0..stars {
+        out.push(b'*')?;
+    }
+    Ok(())
+}
