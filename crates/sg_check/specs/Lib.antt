@@ -1,0 +1,5 @@
+pub mod Says
+pub mod Params
+pub mod Effects
+pub mod Flaws
+pub mod Faults

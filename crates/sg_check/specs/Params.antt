@@ -1,0 +1,45 @@
+-- Which parameters a function's prototype is to have.
+use Rattle.std.specs.Prelude.{ℕ, ◌-◌, ◌==◌, Bool, true, false, ◌&&◌, ◌||◌, not, if◌then◌else◌, List, [], ◌∷◌, None, Some, codes, length, slice_get, map}
+use Rattle.std.specs.declared.option.Option.{Option}
+use Rattle.std.specs.List.{list_any}
+use Rattle.std.specs.Str.{bytes_eq}
+use Rattle.sg_facts.specs.declared.shape.Kind.{Kind}
+use Rattle.sg_facts.specs.declared.shape.Kind.TheVariants.{Desc, Parent, Word, Text}
+use Rattle.sg_facts.specs.Facts.{Fun}
+use Rattle.sg_grammar.specs.declared.tree.Param.{Param}
+use Rattle.sg_grammar.specs.declared.tree.TypeName.{TypeName}
+use Rattle.sg_grammar.specs.Named.{Named}
+
+-- whether a name, where there is one, is this word
+abbrev pub is_word : Option Named → List ℕ → Bool
+is_word None w = false
+is_word (Some n) w = bytes_eq n.bytes w
+
+-- a client type has no star, and its last name is one of these
+abbrev pub is_client : TypeName → Bool
+is_client ty =
+    let last = slice_get ty.names (length ty.names - 1) in
+    (ty.stars == 0) && (is_word last (codes "spdid_t") || is_word last (codes "componentid_t"))
+
+-- the first parameter is a client, and is neither descriptor nor parent, nor added to a field
+abbrev pub is_caller : Param → Bool
+is_caller p = is_client p.ty && not (is_word p.form (codes "desc") || is_word p.form (codes "parent_desc") || is_word p.form (codes "desc_data_add"))
+
+-- whether a later parameter is of a kind: a descriptor or a parent by its form, and then no text; else a text exactly
+-- where its type has a star
+abbrev pub is_of_kind : Param → Kind → Bool
+is_of_kind p Desc = is_word p.form (codes "desc") && (p.ty.stars == 0)
+is_of_kind p Parent = is_word p.form (codes "parent_desc") && (p.ty.stars == 0)
+is_of_kind p Word = not (is_word p.form (codes "desc")) && not (is_word p.form (codes "parent_desc")) && (p.ty.stars == 0)
+is_of_kind p Text = not (is_word p.form (codes "desc")) && not (is_word p.form (codes "parent_desc")) && not (p.ty.stars == 0)
+
+abbrev pub are_of_kinds : List Param → List Kind → Bool
+are_of_kinds [] [] = true
+are_of_kinds [] (k ∷ kinds) = false
+are_of_kinds (p ∷ params) [] = false
+are_of_kinds (p ∷ params) (k ∷ kinds) = is_of_kind p k && are_of_kinds params kinds
+
+-- whether parameters are those of a function
+abbrev pub fit_params : Fun → List Param → Bool
+fit_params f [] = false
+fit_params f (p ∷ params) = is_caller p && are_of_kinds params f.kinds

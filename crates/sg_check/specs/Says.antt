@@ -1,0 +1,50 @@
+-- What the statements of a text say of functions, by their names.
+use Rattle.std.specs.Prelude.{ℕ, ◌+◌, ◌==◌, Bool, true, false, ◌&&◌, if◌then◌else◌, List, [], ◌∷◌, None, Some, codes}
+use Rattle.std.specs.declared.option.Option.{Option}
+use Rattle.std.specs.List.{list_any}
+use Rattle.std.specs.Str.{bytes_eq}
+use Rattle.sg_facts.specs.Facts.{Facts, Fun}
+use Rattle.sg_grammar.specs.declared.tree.Statement.{Statement}
+use Rattle.sg_grammar.specs.declared.tree.Statement.TheVariants.{One, Two, Proto}
+
+-- whether a statement is a prototype of a function
+abbrev pub is_proto : List ℕ → Statement → Bool
+is_proto f (One word fun) = false
+is_proto f (Two word first second) = false
+is_proto f (Proto ret name params) = bytes_eq name.bytes f
+
+-- whether a statement says a word of a function
+abbrev pub is_one : List ℕ → List ℕ → Statement → Bool
+is_one w f (One word fun) = bytes_eq word.bytes w && bytes_eq fun.bytes f
+is_one w f (Two word first second) = false
+is_one w f (Proto ret name params) = false
+
+-- whether a statement says a word of a function and another name
+abbrev pub is_two : List ℕ → List ℕ → List ℕ → Statement → Bool
+is_two w f g (One word fun) = false
+is_two w f g (Two word first second) = bytes_eq word.bytes w && bytes_eq first.bytes f && bytes_eq second.bytes g
+is_two w f g (Proto ret name params) = false
+
+-- whether some statement does
+abbrev pub has_proto : List Statement → List ℕ → Bool
+has_proto statements f = list_any (is_proto f) statements
+
+abbrev pub says : List Statement → List ℕ → List ℕ → Bool
+says statements w f = list_any (is_one w f) statements
+
+abbrev pub says_of : List Statement → List ℕ → List ℕ → List ℕ → Bool
+says_of statements w f g = list_any (is_two w f g) statements
+
+-- the number, from one on, of the first function with a name
+abbrev pub number_from : ℕ → List Fun → List ℕ → Option ℕ
+number_from n [] name = None
+number_from n (f ∷ funs) name = if bytes_eq f.name name then Some n else number_from (n + 1) funs name
+
+-- the number of the function of a name
+abbrev pub number_of : List Fun → List ℕ → Option ℕ
+number_of funs name = number_from 1 funs name
+
+-- the service of a name
+abbrev pub service_of : List Facts → List ℕ → Option Facts
+service_of [] name = None
+service_of (s ∷ services) name = if bytes_eq s.name name then Some s else service_of services name
