@@ -1,8 +1,10 @@
 //! Which interfaces are accepted: those whose every descriptor can be recovered in every state that it can come to.
 //!
 //! - `fault`: what is wrong with an interface, and where (`CheckKind`, `CheckFault`, `CheckError`)
+//! - `judge`: what can be wrong with a statement by itself, and the first that is
 #![tactic(auto)]
 
 mod fault;
+mod judge;
 
 pub use fault::{CheckError, CheckFault, CheckKind};
