@@ -1,6 +1,6 @@
 -- Statements without a flaw, and the first with one.
 use Rattle.std.proofs.Common.{◌≡◌, ◌⊎◌, ℕ, zero, suc, ◌+◌, ◌<◌, List, [], ◌∷◌, ◌++◌, None, Some, length, take, drop, get_or, refl, sym, ◌∙◌, ap, subst, inl, inr, arith, append_assoc}
-use Rattle.std.proofs.lemmas.List.{take_more}
+use Rattle.std.proofs.lemmas.List.{take_more, take-append-drop}
 use Rattle.sg_grammar.specs.declared.tree.Statement.{Statement}
 use Rattle.sg_check.specs.Faults.{IsFirst, NoneOf}
 
@@ -34,3 +34,14 @@ module _ (Flaw : List Statement → Statement → ℕ → Type 0) where
   -- where one is first, some have a flaw
   pub not_none : (xs : List Statement) (place : ℕ) → IsFirst Flaw xs place → NoneOf Flaw xs → ⊥
   not_none xs place first none = none first.before first.one first.after place first.split first.flaw
+
+  -- the statement at a place is the first
+  pub first_here : (xs : List Statement) (n : ℕ) (x : Statement) (place : ℕ) → n < length xs → get_or xs n x ≡ x → NoneOf Flaw (take n xs) → Flaw (take n xs) x place → IsFirst Flaw xs place
+  first_here xs n x place within is none flaw = record {
+    before = take n xs;
+    one = x;
+    after = drop (n + 1) xs;
+    split = sym (take-append-drop (n + 1) xs) ∙ ap (λ l. l ++ drop (n + 1) xs) (take_more xs n x within ∙ ap (λ y. take n xs ++ y ∷ []) is) ∙ append_assoc (take n xs) (x ∷ []) (drop (n + 1) xs);
+    flaw = flaw;
+    none = none;
+  }

@@ -5,6 +5,10 @@
 #![tactic(auto)]
 
 mod fault;
+mod flags;
+mod funs;
 mod judge;
+mod params;
+mod says;
 
 pub use fault::{CheckError, CheckFault, CheckKind};

@@ -109,6 +109,34 @@ impl FunShape {
         has_flag(self.flags, 1)
     }
 
+    /// Whether it may block.
+    pub fn may_block(&self) -> bool
+        ensures { result ≡ (fun_of_shape self.now).block }
+    {
+        has_flag(self.flags, 2)
+    }
+
+    /// Whether its Ok wakes those who are blocked on its descriptor.
+    pub fn wakes(&self) -> bool
+        ensures { result ≡ (fun_of_shape self.now).wakeup }
+    {
+        has_flag(self.flags, 3)
+    }
+
+    /// Whether it looks at all live rows.
+    pub fn looks_at_all(&self) -> bool
+        ensures { result ≡ (fun_of_shape self.now).all }
+    {
+        has_flag(self.flags, 5)
+    }
+
+    /// Whether it reads or writes the file of its descriptor.
+    pub fn uses_file(&self) -> bool
+        ensures { result ≡ (fun_of_shape self.now).uses_file }
+    {
+        has_flag(self.flags, 6)
+    }
+
     /// Whether it changes no descriptor.
     pub fn is_query(&self) -> bool
         ensures { result ≡ (fun_of_shape self.now).query }
