@@ -1,5 +1,8 @@
+pub mod Alive
 pub mod Basics
 pub mod Parts
 pub mod Protos
+pub mod Readings
 pub mod Rests
+pub mod Runs
 pub mod Steps

@@ -1,0 +1,15 @@
+-- The stars so far were read, and each was one of the tokens that were still to come.
+use Rattle.std.proofs.Common.{◌≡◌, ◌+◌, ◌≤◌, List, ℕ, length}
+use Rattle.sg_grammar.specs.Named.{Named}
+use Rattle.sg_grammar.specs.States.{State, stars, read}
+use Rattle.sg_parse.proofs.reader.Reader.stars.Given as goal
+
+abbrev pub invariant-stars : goal.invariant-stars
+invariant-stars l = record {
+  read_so_far : (front : List Named) (last : Named) (k : List Named → Named → ℕ → State) →
+      read (stars front last 0 k) l.fn.self ≡ read (stars front last l.count k) l.self;
+  counted : l.count + length l.self.rest ≤ l.most;
+  fewer : length l.self.rest ≤ length l.fn.self.rest }
+
+abbrev pub decreases-stars : goal.decreases-stars
+decreases-stars l = length l.self.rest

@@ -1,0 +1,37 @@
+// The whole of a text.
+ghost use Rattle.std.specs.Prelude.{◌≡◌, ◌≢◌, ◌⊎◌, length, Err as failed};
+ghost use Rattle.std.specs.declared.result.Result.{Result as Answered};
+ghost use Rattle.sg_lex.specs.Tokens.{answers_of};
+ghost use Rattle.sg_grammar.specs.declared.error.ParseError.{ParseError as Fault};
+ghost use Rattle.sg_grammar.specs.declared.tree.Tree.{Tree as Whole};
+ghost use Rattle.sg_grammar.specs.Parses.{Parses};
+ghost use Rattle.sg_grammar.specs.States.{start, read};
+ghost use Rattle.sg_parse.specs.Leads.{Answers};
+
+use crate::reader::Reader;
+use sg_grammar::{ParseError, Tree};
+use std::alloc::Global;
+
+/// The tree of a text. Its names are lent from the text.
+///
+/// `Lex` where the tokens before the place begin a sentence and the lexer finds no token there. `Syntax` where the tokens
+/// before the place begin a sentence and those with the token at it don't; or, at the text's length, where the text's tokens
+/// begin a sentence and are none. `NoMemory` where there was no memory for the tree; nothing else is told then.
+#[tactic(auto, using(crate::proofs::Whole::may, crate::proofs::Whole::only))]
+pub fn parse<'a>(alloc: Global, text: &'a [u8]) -> Result<Tree<'a>, ParseError>
+    ensures answer { Parses text.now result }
+    // No other answer may be given, want of memory aside.
+    ensures only { (other : Answered Whole Fault) → Parses text.now other → other ≢ failed ParseError.NoMemory →
+        (result ≡ other) ⊎ (result ≡ failed ParseError.NoMemory) }
+{
+    tree_of(alloc, text)
+}
+
+// The tree that is read, or why there is none.
+fn tree_of<'a>(alloc: Global, text: &'a [u8]) -> Result<Tree<'a>, ParseError>
+    ensures { Answers (read start (record { rest = answers_of text.now; end = length text.now })) result }
+{
+    let mut reader = Reader::new(text);
+    let facts = reader.facts()?;
+    reader.statements(alloc, facts)
+}
