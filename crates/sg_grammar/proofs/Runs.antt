@@ -15,7 +15,7 @@ use Rattle.sg_grammar.specs.declared.words.Sort.TheVariants.{Name, Form, Parents
 use Rattle.sg_grammar.specs.Named.{Named}
 use Rattle.sg_grammar.specs.Pieces.{Piece, word, mark, name, IsPiece, ArePieces}
 use Rattle.sg_grammar.specs.Sentence.{star, comma, close_bracket, close_brace, open_brace, equals, semicolon, more_params, fact_pieces, facts_pieces, tree_pieces, statement_pieces, ret_pieces, IsType, IsStatement, IsWellFormed, IsSentence, Begins}
-use Rattle.sg_grammar.specs.States.{State, dead, due, want, names, stars, either, listed, statements, fact, start, step, tree_at}
+use Rattle.sg_grammar.specs.States.{State, dead, due, want, names, stars, either, listed, statements, fact, head1, head2, head3, head4, head5, head6, head7, start, step, tree_at}
 use Rattle.sg_grammar.proofs.Rests.{Off, Rest, DueRest, NameRest, front_of, last_of}
 use Rattle.sg_grammar.proofs.Steps.{back, forth}
 use Rattle.sg_grammar.proofs.Alive.{Alive, completed, alive_behind, start_alive}
@@ -161,28 +161,6 @@ fact_forth what sort end go tree value qs r =
       rest = record { behind = name sort value ∷ end ∷ qs; all = refl;
         rest = record { value = value; behind = end ∷ qs; all = refl;
           rest = record { behind = qs; all = refl; rest = r } } } }
-
--- the states behind each fact of the head, from the last to the first
-abbrev head7 : (a b c d e f g : Named) → State
-head7 a b c d e f g = due semicolon (statements (record { service = a; parent = b; close = c; global = d; block = e; has_data = f; resc_data = g }) [])
-
-abbrev head6 : (a b c d e f : Named) → State
-head6 a b c d e f = fact (codes "resc_has_data") Flag close_brace (head7 a b c d e f)
-
-abbrev head5 : (a b c d e : Named) → State
-head5 a b c d e = fact (codes "desc_has_data") Flag comma (head6 a b c d e)
-
-abbrev head4 : (a b c d : Named) → State
-head4 a b c d = fact (codes "desc_block") Flag comma (head5 a b c d)
-
-abbrev head3 : (a b c : Named) → State
-head3 a b c = fact (codes "desc_is_global") Flag comma (head4 a b c)
-
-abbrev head2 : (a b : Named) → State
-head2 a b = fact (codes "desc_close") Closing comma (head3 a b)
-
-abbrev head1 : Named → State
-head1 a = fact (codes "desc_has_parent") Parents comma (head2 a)
 
 start_back : (tree : Tree) (ps : List Piece) → Rest start ps tree → (ps ≡ tree_pieces tree) × IsWellFormed tree
 start_back tree ps r =

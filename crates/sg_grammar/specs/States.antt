@@ -147,20 +147,31 @@ with_statement facts before statement = statements facts (before ++ statement �
 abbrev pub fact : List ℕ → Sort → Piece → (Named → State) → State
 fact what sort end go = due (word what) (due equals (want sort (λ value. due end (go value))))
 
+-- the states behind each fact of the head, from the last to the first
+abbrev pub head7 : (a b c d e f g : Named) → State
+head7 a b c d e f g = due semicolon (statements (record { service = a; parent = b; close = c; global = d; block = e; has_data = f; resc_data = g }) [])
+
+abbrev pub head6 : (a b c d e f : Named) → State
+head6 a b c d e f = fact (codes "resc_has_data") Flag close_brace (head7 a b c d e f)
+
+abbrev pub head5 : (a b c d e : Named) → State
+head5 a b c d e = fact (codes "desc_has_data") Flag comma (head6 a b c d e)
+
+abbrev pub head4 : (a b c d : Named) → State
+head4 a b c d = fact (codes "desc_block") Flag comma (head5 a b c d)
+
+abbrev pub head3 : (a b c : Named) → State
+head3 a b c = fact (codes "desc_is_global") Flag comma (head4 a b c)
+
+abbrev pub head2 : (a b : Named) → State
+head2 a b = fact (codes "desc_close") Closing comma (head3 a b)
+
+abbrev pub head1 : Named → State
+head1 a = fact (codes "desc_has_parent") Parents comma (head2 a)
+
 -- before the first token
 abbrev pub start : State
-start =
-    due (word (codes "service_global_info")) (due equals (due open_brace (
-    fact (codes "service") Name comma (λ service.
-    fact (codes "desc_has_parent") Parents comma (λ parent.
-    fact (codes "desc_close") Closing comma (λ close.
-    fact (codes "desc_is_global") Flag comma (λ global.
-    fact (codes "desc_block") Flag comma (λ block.
-    fact (codes "desc_has_data") Flag comma (λ has_data.
-    fact (codes "resc_has_data") Flag close_brace (λ resc_data.
-    due semicolon (statements (record {
-        service = service; parent = parent; close = close; global = global;
-        block = block; has_data = has_data; resc_data = resc_data }) [])))))))))))
+start = due (word (codes "service_global_info")) (due equals (due open_brace (fact (codes "service") Name comma head1)))
 
 -- ---- steps
 

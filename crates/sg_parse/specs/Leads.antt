@@ -7,6 +7,7 @@ use Rattle.sg_lex.specs.Lexeme.{Lexeme}
 use Rattle.sg_grammar.specs.declared.error.ParseError.{ParseError}
 use Rattle.sg_grammar.specs.declared.error.ParseError.TheVariants.{NoMemory, Syntax}
 use Rattle.sg_grammar.specs.declared.tree.Tree.{Tree}
+use Rattle.sg_grammar.specs.Named.{Named}
 use Rattle.sg_grammar.specs.States.{State, Reading, read}
 
 -- what is read, if the state behind this token is that one
@@ -23,3 +24,8 @@ Leads before (Err error) go new = error ≢ NoMemory → before ≡ Err error
 -- an answer is what was to be read, or want of memory
 abbrev pub Answers : Result Tree ParseError → Result Tree ParseError → Type 0
 Answers before result = result ≢ Err NoMemory → before ≡ result
+
+-- the state behind a form that may have come
+abbrev pub either_of : (Named → State) → State → Option Named → State
+either_of k s None = s
+either_of k s (Some form) = k form

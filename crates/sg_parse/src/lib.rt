@@ -10,6 +10,8 @@ mod params;
 mod parser;
 mod reader;
 mod statements;
+#[cfg(test)]
+mod tests;
 mod types;
 
 pub use parser::parse;

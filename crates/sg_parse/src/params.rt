@@ -1,10 +1,11 @@
 // Parameters of a prototype.
-ghost use Rattle.std.specs.Prelude.{◌≡◌, ◌≤◌, List, [], ◌∷◌, ◌++◌, length, OnOk, Some as with_form};
+ghost use Rattle.std.specs.Prelude.{◌≡◌, ◌≤◌, List, [], ◌∷◌, ◌++◌, length, OnOk, Some as with_form, None as without};
 ghost use Rattle.sg_grammar.specs.declared.tree.Param.{Param as Declared};
 ghost use Rattle.sg_grammar.specs.declared.words.Sort.TheVariants.{Name as a_name};
+ghost use Rattle.sg_grammar.specs.Named.{Named};
 ghost use Rattle.sg_grammar.specs.Sentence.{open_bracket, close_bracket};
-ghost use Rattle.sg_grammar.specs.States.{State, due, want, listed, param, with_param, type_of, read};
-ghost use Rattle.sg_parse.specs.Leads.{Leads};
+ghost use Rattle.sg_grammar.specs.States.{State, due, want, either, listed, declared, param, with_param, type_of, read};
+ghost use Rattle.sg_parse.specs.Leads.{Leads, either_of};
 
 use crate::reader::Reader;
 use crate::types::Spelled;
@@ -28,7 +29,6 @@ impl<'a> Reader<'a> {
     }
 
     /// A parameter, behind others.
-    #[tactic(auto, using(crate::proofs::ByToken::form_came, crate::proofs::ByToken::form_missing))]
     fn param(&mut self, alloc: Global) -> Result<Param<'a>, ParseError>
         ensures leads { (params : List Declared) (k : List Declared → State) →
             Leads (read (param k params) self.old) result (λ p. listed (params ++ p ∷ []) k) self.new }
@@ -36,17 +36,34 @@ impl<'a> Reader<'a> {
     {
         let first = self.word(Sort::Name)?;
         let spelled = self.spelled(alloc, first)?;
-        match self.take_word(Sort::Form)? {
+        match self.form()? {
             Some(form) => self.formed(spelled, form),
-            None => {
-                let (ty, name) = self.declared(spelled)?;
-                Ok(Param {
-                    ty,
-                    form: None,
-                    name,
-                })
-            }
+            None => self.unformed(spelled),
         }
+    }
+
+    /// The form of a parameter, if one comes.
+    #[tactic(auto, using(crate::proofs::ByToken::form_came, crate::proofs::ByToken::form_missing))]
+    fn form(&mut self) -> Result<Option<Name<'a>>, ParseError>
+        ensures leads { (k : Named → State) (s : State) → Leads (read (either k s) self.old) result (either_of k s) self.new }
+        ensures fewer { OnOk result (length self.new.rest ≤ length self.old.rest) }
+    {
+        self.take_word(Sort::Form)
+    }
+
+    /// A parameter behind its type, where no form comes.
+    fn unformed(&mut self, spelled: Spelled<'a>) -> Result<Param<'a>, ParseError>
+        ensures leads { (params : List Declared) (k : List Declared → State) →
+            Leads (read (declared (λ ty n. with_param k params ty without n) spelled.entry.front spelled.entry.last spelled.entry.stars) self.old)
+            result (λ p. listed (params ++ p ∷ []) k) self.new }
+        ensures fewer { OnOk result (length self.new.rest ≤ length self.old.rest) }
+    {
+        let (ty, name) = self.declared(spelled)?;
+        Ok(Param {
+            ty,
+            form: None,
+            name,
+        })
     }
 
     /// A parameter behind its type and its form: its name in brackets.
