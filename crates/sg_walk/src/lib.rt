@@ -13,7 +13,10 @@ mod least;
 mod restoring;
 mod search;
 mod spot;
+mod step_set;
 mod steps;
+#[cfg(test)]
+mod tests;
 
 pub use least::shortest;
 pub use restoring::restores;
