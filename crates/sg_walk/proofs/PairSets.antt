@@ -24,7 +24,7 @@ either false false = refl
 
 pub one_more : (pairs : List (ℕ × ℕ)) (k : ℕ) (d : ℕ × ℕ) (old new : List (ℕ × ℕ)) → k < length pairs
     → ((q : ℕ × ℕ) → list_any (λ p. (q.0 == p.0) && (q.1 == p.1)) new
-        ≡ (if ((get_or pairs k d).0 == q.0) && ((get_or pairs k d).1 == q.1) then true else list_any (λ p. (q.0 == p.0) && (q.1 == p.1)) old))
+    ≡ (if ((get_or pairs k d).0 == q.0) && ((get_or pairs k d).1 == q.1) then true else list_any (λ p. (q.0 == p.0) && (q.1 == p.1)) old))
     → SamePairs (take k pairs) old → SamePairs (take (k + 1) pairs) new
 one_more pairs k d old new in' put before state fun =
     let here : Bool = ((get_or pairs k d).0 == state) && ((get_or pairs k d).1 == fun) in

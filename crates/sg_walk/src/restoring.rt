@@ -39,7 +39,7 @@ fn leads(iface: &Interface, from: Spot, walk: &[u8], goal: Goal) -> bool
 {
     let mut spot = from;
     'walk: for fun in walk {
-        match go_on(iface, spot, *fun) {
+        match go_on(iface, spot, *fun, iface.steps_on(spot.state, *fun)) {
             Some(next) => spot = next,
             None => return false,
         }

@@ -6,6 +6,6 @@ use Rattle.sg_walk.proofs.least.least_from.Given as goal
 -- no walk of a length that was tried leads to what is sought
 abbrev pub invariant-lengths : goal.invariant-lengths
 invariant-lengths l = record {
-  dead : AreDead l.iface l.goal l.ends;
-  tried : (left : ℕ) → left < l.left → LeadsNowhere l.iface (shown (length l.iface.facts.fields) l.spot) l.goal left;
+  dead : AreDead l.iface l.fn.goal l.ends;
+  tried : (left : ℕ) → left < l.left → LeadsNowhere l.iface (shown (length l.iface.facts.fields) l.spot) l.fn.goal left;
 }

@@ -15,6 +15,6 @@ decreases-search_by l = 3 * l.left
 -- no walk goes on by a function that was tried
 abbrev pub invariant-search_each-funs : goal.invariant-search_each-funs
 invariant-search_each-funs l = record {
-  dead : AreDead l.iface l.goal l.ends;
-  tried : (fun : ℕ) → fun < l.fun → LeadsNowhereBy l.iface (shown (length l.iface.facts.fields) l.spot) l.goal l.left fun;
+  dead : AreDead l.sought.iface.now l.sought.goal l.ends;
+  tried : (fun : ℕ) → fun < l.fun → LeadsNowhereBy l.sought.iface.now (shown (length l.sought.iface.now.facts.fields) l.spot) l.sought.goal l.left fun;
 }
