@@ -70,7 +70,7 @@ fn interface(
 }
 
 // What was made, its state, the set of fields, and the walk that is to be found.
-type Case<'a> = (u8, u8, u8, Option<&'a [u8]>);
+type Case = (u8, u8, u8, Option<&'static [u8]>);
 
 // Asks for the walk of each case, and whether it restores.
 fn finds(rt: &impl Abort, alloc: Global, iface: &Interface, cases: &[Case]) -> Result<(), NoMemory>
@@ -94,23 +94,20 @@ static LOCK: [FunShape; 4] = [
     fun!(FunShape::TERMINAL, Leaves::Own, &[]),
 ];
 
+static LOCK_CASES: [Case; 7] = [
+    (1, 1, 0, Some(&[1])),
+    (1, 2, 1, Some(&[1, 2])),
+    (1, 1, 1, None),
+    (1, 3, 0, None),
+    (1, 4, 0, None),
+    (2, 2, 1, None),
+    (1, 1, 2, None),
+];
+
 #[test]
 fn walks_of_locks(rt: HostRuntime) -> Result<(), Fail> {
     let lock = interface(rt.alloc(), &ONE_FIELD, &LOCK, 0b1111, &[(1, 2)])?;
-    finds(
-        &rt,
-        rt.alloc(),
-        &lock,
-        &[
-            (1, 1, 0, Some(&[1])),
-            (1, 2, 1, Some(&[1, 2])),
-            (1, 1, 1, None),
-            (1, 3, 0, None),
-            (1, 4, 0, None),
-            (2, 2, 1, None),
-            (1, 1, 2, None),
-        ],
-    )?;
+    finds(&rt, rt.alloc(), &lock, &LOCK_CASES)?;
     Ok(())
 }
 
@@ -121,19 +118,16 @@ static EVENT: [FunShape; 4] = [
     fun!(FunShape::TERMINAL, Leaves::Own, &[]),
 ];
 
+static EVENT_CASES: [Case; 3] = [
+    (1, 1, 0, Some(&[1])),
+    (1, 1, 1, Some(&[1, 3])),
+    (1, 3, 1, None),
+];
+
 #[test]
 fn walks_of_events(rt: HostRuntime) -> Result<(), Fail> {
     let event = interface(rt.alloc(), &ONE_FIELD, &EVENT, 0b1111, &[(1, 3)])?;
-    finds(
-        &rt,
-        rt.alloc(),
-        &event,
-        &[
-            (1, 1, 0, Some(&[1])),
-            (1, 1, 1, Some(&[1, 3])),
-            (1, 3, 1, None),
-        ],
-    )?;
+    finds(&rt, rt.alloc(), &event, &EVENT_CASES)?;
     Ok(())
 }
 
@@ -152,23 +146,20 @@ static MM: [FunShape; 4] = [
     fun!(FunShape::QUERY, Leaves::Own, &[]),
 ];
 
+static MM_CASES: [Case; 7] = [
+    (1, 1, 3, Some(&[1])),
+    (1, 1, 1, Some(&[1])),
+    (2, 2, 3, Some(&[2])),
+    (2, 2, 0, Some(&[2])),
+    (1, 2, 3, None),
+    (3, 3, 0, None),
+    (4, 4, 0, None),
+];
+
 #[test]
 fn walks_of_pages(rt: HostRuntime) -> Result<(), Fail> {
     let mm = interface(rt.alloc(), &TWO_FIELDS, &MM, 0b1111, &[])?;
-    finds(
-        &rt,
-        rt.alloc(),
-        &mm,
-        &[
-            (1, 1, 3, Some(&[1])),
-            (1, 1, 1, Some(&[1])),
-            (2, 2, 3, Some(&[2])),
-            (2, 2, 0, Some(&[2])),
-            (1, 2, 3, None),
-            (3, 3, 0, None),
-            (4, 4, 0, None),
-        ],
-    )?;
+    finds(&rt, rt.alloc(), &mm, &MM_CASES)?;
     Ok(())
 }
 
@@ -180,19 +171,16 @@ static RAMFS: [FunShape; 5] = [
     fun!(FunShape::TERMINAL, Leaves::Own, &[]),
 ];
 
+static RAMFS_CASES: [Case; 3] = [
+    (1, 1, 1, Some(&[1])),
+    (1, 1, 3, Some(&[1, 4])),
+    (1, 4, 3, None),
+];
+
 #[test]
 fn walks_of_files(rt: HostRuntime) -> Result<(), Fail> {
     let ramfs = interface(rt.alloc(), &TWO_FIELDS, &RAMFS, 0b11111, &[(1, 4)])?;
-    finds(
-        &rt,
-        rt.alloc(),
-        &ramfs,
-        &[
-            (1, 1, 1, Some(&[1])),
-            (1, 1, 3, Some(&[1, 4])),
-            (1, 4, 3, None),
-        ],
-    )?;
+    finds(&rt, rt.alloc(), &ramfs, &RAMFS_CASES)?;
     Ok(())
 }
 
@@ -211,40 +199,24 @@ static SCHED: [FunShape; 8] = [
     fun!(FunShape::TERMINAL, Leaves::Own, &[]),
 ];
 
+static SCHED_STEPS: [(u8, u8); 2] = [(1, 3), (1, 7)];
+
 // The rank is a returned value, so it has to be placed even where it is 0.
+static SCHED_CASES: [Case; 4] = [
+    (1, 1, 3, Some(&[1, 7])),
+    (1, 1, 1, Some(&[1, 7])),
+    (1, 3, 3, Some(&[1, 7, 3])),
+    (1, 6, 3, None),
+];
+
+static UNPLACED_CASES: [Case; 3] = [(1, 1, 3, None), (1, 1, 1, None), (1, 3, 3, None)];
+
 #[test]
 fn walks_of_threads(rt: HostRuntime) -> Result<(), Fail> {
-    let sched = interface(
-        rt.alloc(),
-        &TWO_FIELDS,
-        &SCHED,
-        0b1111_1111,
-        &[(1, 3), (1, 7)],
-    )?;
-    finds(
-        &rt,
-        rt.alloc(),
-        &sched,
-        &[
-            (1, 1, 3, Some(&[1, 7])),
-            (1, 1, 1, Some(&[1, 7])),
-            (1, 3, 3, Some(&[1, 7, 3])),
-            (1, 6, 3, None),
-        ],
-    )?;
-    let unplaced = interface(
-        rt.alloc(),
-        &TWO_FIELDS,
-        &SCHED,
-        0b1011_1111,
-        &[(1, 3), (1, 7)],
-    )?;
-    finds(
-        &rt,
-        rt.alloc(),
-        &unplaced,
-        &[(1, 1, 3, None), (1, 1, 1, None), (1, 3, 3, None)],
-    )?;
+    let sched = interface(rt.alloc(), &TWO_FIELDS, &SCHED, 0b1111_1111, &SCHED_STEPS)?;
+    finds(&rt, rt.alloc(), &sched, &SCHED_CASES)?;
+    let unplaced = interface(rt.alloc(), &TWO_FIELDS, &SCHED, 0b1011_1111, &SCHED_STEPS)?;
+    finds(&rt, rt.alloc(), &unplaced, &UNPLACED_CASES)?;
     Ok(())
 }
 
@@ -260,29 +232,27 @@ static CHAIN: [FunShape; 9] = [
     fun!(0, Leaves::Own, &[]),
 ];
 
+static CHAIN_STEPS: [(u8, u8); 8] = [
+    (1, 2),
+    (2, 3),
+    (3, 4),
+    (4, 5),
+    (5, 6),
+    (6, 7),
+    (7, 8),
+    (8, 9),
+];
+
+static CHAIN_CASES: [Case; 3] = [
+    (1, 7, 0, Some(&[1, 2, 3, 4, 5, 6, 7])),
+    (1, 8, 0, Some(&[1, 2, 3, 4, 5, 6, 7, 8])),
+    (1, 9, 0, None),
+];
+
 #[test]
 fn walks_have_at_most_eight_calls(rt: HostRuntime) -> Result<(), Fail> {
-    let steps = [
-        (1, 2),
-        (2, 3),
-        (3, 4),
-        (4, 5),
-        (5, 6),
-        (6, 7),
-        (7, 8),
-        (8, 9),
-    ];
-    let chain = interface(rt.alloc(), &NO_FIELDS, &CHAIN, 0b1_1111_1111, &steps)?;
-    finds(
-        &rt,
-        rt.alloc(),
-        &chain,
-        &[
-            (1, 7, 0, Some(&[1, 2, 3, 4, 5, 6, 7])),
-            (1, 8, 0, Some(&[1, 2, 3, 4, 5, 6, 7, 8])),
-            (1, 9, 0, None),
-        ],
-    )?;
+    let chain = interface(rt.alloc(), &NO_FIELDS, &CHAIN, 0b1_1111_1111, &CHAIN_STEPS)?;
+    finds(&rt, rt.alloc(), &chain, &CHAIN_CASES)?;
     Ok(())
 }
 
@@ -298,35 +268,29 @@ static FORKS: [FunShape; 9] = [
     fun!(FunShape::QUERY, Leaves::Of(6), &[]),
 ];
 
-// Of walks as long the first place decides; a shorter walk goes before by whatever functions.
+// Of walks as long the first place decides.
+static TWO_STEPS: [(u8, u8); 4] = [(1, 3), (3, 4), (1, 2), (2, 5)];
+
+static TWO_CASES: [Case; 1] = [(1, 6, 0, Some(&[1, 2, 5]))];
+
+// A shorter walk goes before, by whatever functions.
+static SHORTER_STEPS: [(u8, u8); 3] = [(1, 2), (2, 5), (1, 7)];
+
+static SHORTER_CASES: [Case; 1] = [(1, 6, 0, Some(&[1, 7]))];
+
+// A terminal function and a query stand in no walk.
+static BARRED_STEPS: [(u8, u8); 2] = [(1, 8), (1, 9)];
+
+static BARRED_CASES: [Case; 1] = [(1, 6, 0, None)];
+
 #[test]
 fn takes_the_least_walk(rt: HostRuntime) -> Result<(), Fail> {
-    let alloc = rt.alloc();
-    let two = interface(
-        alloc,
-        &NO_FIELDS,
-        &FORKS,
-        0b1111_1111,
-        &[(1, 3), (3, 4), (1, 2), (2, 5)],
-    )?;
-    finds(&rt, alloc, &two, &[(1, 6, 0, Some(&[1, 2, 5]))])?;
-    let longer = interface(
-        alloc,
-        &NO_FIELDS,
-        &FORKS,
-        0b1111_1111,
-        &[(1, 2), (2, 5), (1, 7)],
-    )?;
-    finds(&rt, alloc, &longer, &[(1, 6, 0, Some(&[1, 7]))])?;
-    let barred = interface(alloc, &NO_FIELDS, &FORKS, u32::MAX, &[(1, 8), (1, 9)])?;
-    finds(&rt, alloc, &barred, &[(1, 6, 0, None)])?;
-    let undeclared = interface(alloc, &NO_FIELDS, &FORKS, 0b11, &[(1, 7), (1, 2)])?;
-    finds(
-        &rt,
-        alloc,
-        &undeclared,
-        &[(1, 6, 0, None), (1, 2, 0, Some(&[1, 2]))],
-    )?;
+    let two = interface(rt.alloc(), &NO_FIELDS, &FORKS, u32::MAX, &TWO_STEPS)?;
+    finds(&rt, rt.alloc(), &two, &TWO_CASES)?;
+    let shorter = interface(rt.alloc(), &NO_FIELDS, &FORKS, u32::MAX, &SHORTER_STEPS)?;
+    finds(&rt, rt.alloc(), &shorter, &SHORTER_CASES)?;
+    let barred = interface(rt.alloc(), &NO_FIELDS, &FORKS, u32::MAX, &BARRED_STEPS)?;
+    finds(&rt, rt.alloc(), &barred, &BARRED_CASES)?;
     Ok(())
 }
 
@@ -341,33 +305,31 @@ fn walk(funs: &[u8]) -> Result<Walk, NoMemory>
     Ok(walk)
 }
 
+static LOCK_STEPS: [(u8, u8); 3] = [(1, 2), (2, 3), (2, 4)];
+
+// A walk, the state and the set of fields that are asked for, and whether it restores them.
+static RESTORED: [(&[u8], u8, u8, bool); 11] = [
+    (&[], 0, 0, false),
+    (&[1], 1, 0, true),
+    (&[1], 2, 0, false),
+    (&[1, 2], 2, 1, true),
+    (&[1, 2], 2, 0, true),
+    (&[1, 2], 2, 2, false),
+    (&[1, 2, 3], 1, 0, true),
+    (&[1, 2, 3], 1, 1, false),
+    (&[1, 2, 4], 4, 1, false),
+    (&[1, 3], 1, 0, false),
+    (&[2], 2, 1, false),
+];
+
 #[test]
 fn tells_which_walks_restore(rt: HostRuntime) -> Result<(), Fail> {
-    let lock = interface(
-        rt.alloc(),
-        &ONE_FIELD,
-        &LOCK,
-        0b1111,
-        &[(1, 2), (2, 3), (2, 4)],
-    )?;
-    for (funs, state, mask, want) in [
-        ([].as_slice(), 0, 0, false),
-        (&[1], 1, 0, true),
-        (&[1], 2, 0, false),
-        (&[1, 2], 2, 1, true),
-        (&[1, 2], 2, 0, true),
-        (&[1, 2], 2, 2, false),
-        (&[1, 2, 3], 1, 0, true),
-        (&[1, 2, 3], 1, 1, false),
-        (&[1, 2, 4], 4, 1, false),
-        (&[1, 3], 1, 0, false),
-        (&[2], 2, 1, false),
-    ] {
-        assert_eq!(rt;
-            restores(&lock, &walk(funs)?, state, mask),
-            want,
-            "{funs:?} in {state} with {mask}"
-        );
+    let lock = interface(rt.alloc(), &ONE_FIELD, &LOCK, 0b1111, &LOCK_STEPS)?;
+    for (funs, state, mask, want) in &RESTORED {
+        if funs.len() <= Walk::MOST {
+            let got = restores(&lock, &walk(funs)?, *state, *mask);
+            assert_eq!(rt; got, *want, "{funs:?} in {state} with {mask}");
+        }
     }
     Ok(())
 }
