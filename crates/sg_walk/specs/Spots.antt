@@ -1,5 +1,5 @@
 -- Where a walk has come to, as the code holds it, and whether that is what is sought.
-use Rattle.std.specs.Prelude.{ℕ, ◌+◌, ◌*◌, ◌/◌, ◌%◌, ◌==◌, Bool, true, false, ◌&&◌, List, [], ◌∷◌, None, Some, length, map, take}
+use Rattle.std.specs.Prelude.{ℕ, ◌/◌, ◌%◌, ◌==◌, Bool, false, ◌&&◌, List, [], ◌∷◌, None, Some, map, take}
 use Rattle.std.specs.declared.option.Option.{Option}
 use Rattle.sg_facts.specs.Interface.{Declared}
 use Rattle.sg_facts.specs.Walks.{Mark as Known, unset, good, unknown, Spot as Place, restores_field, spot_from, spot_of}

@@ -1,4 +1,4 @@
-use Rattle.std.proofs.Common.{rules, ◌≡◌, ◌<◌, ◌^◌, ℕ, length, ap, arith}
+use Rattle.std.proofs.Common.{◌≡◌, ◌<◌, ◌^◌, length, ap, arith}
 use Rattle.sg_facts.specs.Interface.{Declared}
 use Rattle.sg_walk.specs.Spots.{shown}
 use Rattle.sg_walk.specs.Search.{LeadsNowhere}

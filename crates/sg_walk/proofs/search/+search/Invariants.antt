@@ -1,4 +1,4 @@
-use Rattle.std.proofs.Common.{◌≡◌, ℕ, ◌+◌, ◌*◌, ◌<◌, ◌≤◌, length}
+use Rattle.std.proofs.Common.{ℕ, ◌+◌, ◌*◌, ◌<◌, length}
 use Rattle.sg_walk.specs.Spots.{shown}
 use Rattle.sg_walk.specs.Search.{LeadsNowhereBy, AreDead}
 use Rattle.sg_walk.proofs.search.+search.Given as goal
