@@ -33,7 +33,7 @@ LeadsNowhereBy i s goal left fun = (walk : List ℕ) → length walk + 1 ≡ lef
 
 -- each dead end is one
 abbrev pub AreDead : Declared → Goal → List DeadEnd → Type 0
-AreDead i goal ends = (end : DeadEnd) → Contains ends end → LeadsNowhere i (shown (length i.facts.fields) end.spot) goal end.left
+AreDead i goal ends = (end : DeadEnd) → Contains ends end → LeadsNowhere i (shown i end.spot) goal end.left
 
 -- a walk is the least from a creation on that leads to what is sought
 pub record IsLeast (i : Declared) (made : ℕ) (goal : Goal) (walk : List ℕ) : Type 0 where

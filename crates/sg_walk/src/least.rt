@@ -56,7 +56,7 @@ fn least_from(
 ) -> Result<Option<Walk>, NoMemory>
     requires few { HasFewFields iface.now }
     requires begins { may_begin iface.now made ≡ true }
-    requires spot { shown (length iface.now.facts.fields) spot ≡ first_spot iface.now.facts made }
+    requires spot { shown iface.now spot ≡ first_spot iface.now.facts made }
     ensures least { IfOk result (λ found. IfSome found (IsLeast iface.now made goal)) }
     ensures none { IfOk result (λ found. IfNone found (IsUnreached iface.now made goal)) }
 {

@@ -12,6 +12,9 @@ use crate::steps::{go_on, is_goal};
 use sg_base::NoMemory;
 use sg_facts::{Interface, Walk};
 
+// The greatest number of a function that an interface can declare.
+const MOST_FUNS: u8 = 32;
+
 /// What is sought, and by which recover steps.
 #[derive(Clone, Copy, Debug)]
 pub struct Sought<'a> {
@@ -22,8 +25,8 @@ pub struct Sought<'a> {
 }
 
 /// Goes on from a walk that has come to a spot, by exactly `left` calls to what is sought: the first such walk by function
-/// numbers; None exactly where there is none. From where nothing was found is added to the dead ends. It calls itself at
-/// most 8 deep.
+/// numbers; None exactly where there is none. A spot from where nothing was found joins the dead ends. The calls nest at most
+/// 8 deep.
 #[cycle(search)]
 pub fn search(
     sought: &Sought<'_>,
@@ -37,8 +40,8 @@ pub fn search(
     requires room { length walk + left ≤ 8 }
     requires dead { AreDead sought.now.iface.now sought.now.goal ends.old }
     ensures dead { OnOk result (AreDead sought.now.iface.now sought.now.goal ends.new) }
-    ensures found { IfOk result (λ found. IfSome found (GoesOn sought.now.iface.now (shown (length sought.now.iface.now.facts.fields) spot) sought.now.goal walk left)) }
-    ensures none { IfOk result (λ found. IfNone found (LeadsNowhere sought.now.iface.now (shown (length sought.now.iface.now.facts.fields) spot) sought.now.goal left)) }
+    ensures found { IfOk result (λ found. IfSome found (GoesOn sought.now.iface.now (shown sought.now.iface.now spot) sought.now.goal walk left)) }
+    ensures none { IfOk result (λ found. IfNone found (LeadsNowhere sought.now.iface.now (shown sought.now.iface.now spot) sought.now.goal left)) }
 {
     if left == 0 {
         return Ok(if is_goal(sought.iface, spot, sought.goal) {
@@ -75,12 +78,12 @@ fn search_each(
     requires room { length walk + left ≤ 8 }
     requires dead { AreDead sought.now.iface.now sought.now.goal ends.old }
     ensures dead { OnOk result (AreDead sought.now.iface.now sought.now.goal ends.new) }
-    ensures found { IfOk result (λ found. IfSome found (GoesOn sought.now.iface.now (shown (length sought.now.iface.now.facts.fields) spot) sought.now.goal walk left)) }
-    ensures none { IfOk result (λ found. IfNone found (LeadsNowhere sought.now.iface.now (shown (length sought.now.iface.now.facts.fields) spot) sought.now.goal left)) }
+    ensures found { IfOk result (λ found. IfSome found (GoesOn sought.now.iface.now (shown sought.now.iface.now spot) sought.now.goal walk left)) }
+    ensures none { IfOk result (λ found. IfNone found (LeadsNowhere sought.now.iface.now (shown sought.now.iface.now spot) sought.now.goal left)) }
 {
     let iface = sought.iface;
     let _declared = iface.declared;
-    'funs: for fun in 1..33 {
+    'funs: for fun in 1..MOST_FUNS + 1 {
         if let Some(found) = search_by(sought, ends, spot, walk, left, fun)? {
             return Ok(Some(found));
         }
@@ -104,8 +107,8 @@ fn search_by(
     requires room { length walk + left ≤ 8 }
     requires dead { AreDead sought.now.iface.now sought.now.goal ends.old }
     ensures dead { OnOk result (AreDead sought.now.iface.now sought.now.goal ends.new) }
-    ensures found { IfOk result (λ found. IfSome found (GoesOnBy sought.now.iface.now (shown (length sought.now.iface.now.facts.fields) spot) sought.now.goal walk left fun)) }
-    ensures none { IfOk result (λ found. IfNone found (LeadsNowhereBy sought.now.iface.now (shown (length sought.now.iface.now.facts.fields) spot) sought.now.goal left fun)) }
+    ensures found { IfOk result (λ found. IfSome found (GoesOnBy sought.now.iface.now (shown sought.now.iface.now spot) sought.now.goal walk left fun)) }
+    ensures none { IfOk result (λ found. IfNone found (LeadsNowhereBy sought.now.iface.now (shown sought.now.iface.now spot) sought.now.goal left fun)) }
 {
     let is_step = sought.steps.has(spot.state, fun);
     match go_on(sought.iface, spot, fun, is_step) {

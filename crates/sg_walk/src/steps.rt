@@ -22,7 +22,7 @@ const NO_FUN: FunShape = FunShape {
 pub fn begin(iface: &Interface, made: u8) -> Option<Spot>
     requires { HasFewFields iface.now }
     ensures { MatchOption result (may_begin iface.now made ≡ false)
-        (λ spot. (may_begin iface.now made ≡ true) × (shown (length iface.now.facts.fields) spot ≡ first_spot iface.now.facts made)) }
+        (λ spot. (may_begin iface.now made ≡ true) × (shown iface.now spot ≡ first_spot iface.now.facts made)) }
 {
     let fun = fun_at(iface, made);
     if !(iface.declares(made) && fun.is_creation() && !fun.is_terminal() && !fun.is_query()) {
@@ -39,9 +39,9 @@ pub fn begin(iface: &Interface, made: u8) -> Option<Spot>
 pub fn go_on(iface: &Interface, spot: Spot, next: u8, is_step: bool) -> Option<Spot>
     requires few { HasFewFields iface.now }
     requires step { is_step ≡ steps_on iface.now spot.state next }
-    ensures { let s = shown (length iface.now.facts.fields) spot in
+    ensures { let s = shown iface.now spot in
         MatchOption result (may_go_on iface.now s next ≡ false)
-        (λ new. (may_go_on iface.now s next ≡ true) × (shown (length iface.now.facts.fields) new ≡ next_spot iface.now.facts next s)) }
+        (λ new. (may_go_on iface.now s next ≡ true) × (shown iface.now new ≡ next_spot iface.now.facts next s)) }
 {
     if !(is_step && iface.declares(next)) {
         return None;
@@ -59,7 +59,7 @@ pub fn go_on(iface: &Interface, spot: Spot, next: u8, is_step: bool) -> Option<S
 /// Whether a spot is where the sought state and fields are restored.
 pub fn is_goal(iface: &Interface, spot: Spot, goal: Goal) -> bool
     requires { HasFewFields iface.now }
-    ensures { result ≡ is_goal (shown (length iface.now.facts.fields) spot) goal }
+    ensures { result ≡ is_goal (shown iface.now spot) goal }
 {
     spot.state == goal.state && restores_number(&spot.marks[..field_count(iface)], goal.mask)
 }

@@ -1,4 +1,4 @@
-use Rattle.std.proofs.Common.{ℕ, ◌<◌, length}
+use Rattle.std.proofs.Common.{ℕ, ◌<◌}
 use Rattle.sg_walk.specs.Spots.{shown}
 use Rattle.sg_walk.specs.Search.{LeadsNowhere, AreDead}
 use Rattle.sg_walk.proofs.least.least_from.Given as goal
@@ -7,5 +7,5 @@ use Rattle.sg_walk.proofs.least.least_from.Given as goal
 abbrev pub invariant-lengths : goal.invariant-lengths
 invariant-lengths l = record {
   dead : AreDead l.iface l.fn.goal l.ends;
-  tried : (left : ℕ) → left < l.left → LeadsNowhere l.iface (shown (length l.iface.facts.fields) l.spot) l.fn.goal left;
+  tried : (left : ℕ) → left < l.left → LeadsNowhere l.iface (shown l.iface l.spot) l.fn.goal left;
 }
