@@ -1,7 +1,7 @@
 // What no clause says: that each call does its work where there is memory, and values from outside.
 use crate::{
     Effect, Entry, FieldShape, Fields, FunShape, Interface, Kind, Leaves, Parents, Patch, Row,
-    Shape, legal_from_the_front,
+    Shape, Walk, legal_from_the_front,
 };
 use sg_base::{
     Args, Bytes, Call, Code, Good, NoMemory, PairList, Path, Reply, Text, TryCopy, Value, Words,
@@ -272,6 +272,53 @@ fn tells_values_apart(rt: HostRuntime) -> Result<(), Fail> {
     let mut other = patch(alloc)?;
     other.from = 8;
     assert_ne!(rt; other, patch(alloc)?);
+    Ok(())
+}
+
+#[test]
+fn keeps_functions_in_order(rt: HostRuntime) -> Result<(), Fail> {
+    let mut walk = Walk::new();
+    assert!(rt; walk.is_empty());
+    assert_eq!(rt; walk.pop(), None);
+    walk.push(3)?;
+    walk.push(0)?;
+    walk.push(255)?;
+    let copy = walk;
+    assert_eq!(rt; walk.len(), 3);
+    assert_eq!(rt; walk.as_slice(), [3, 0, 255].as_slice());
+    assert_eq!(rt; walk.get(2), Some(&255));
+    assert_eq!(rt; walk.get(3), None);
+    assert_eq!(rt; walk.pop(), Some(255));
+    assert_eq!(rt; walk.as_slice(), [3, 0].as_slice());
+    assert_ne!(rt; walk, copy);
+    walk.push(255)?;
+    assert_eq!(rt; walk, copy);
+    Ok(())
+}
+
+#[test]
+fn holds_eight_functions(rt: HostRuntime) -> Result<(), Fail> {
+    let mut walk = Walk::new();
+    for fun in 1..9 {
+        if walk.len() < Walk::MOST {
+            walk.push(fun)?;
+        }
+    }
+    assert_eq!(rt; walk.as_slice(), [1, 2, 3, 4, 5, 6, 7, 8].as_slice());
+    Ok(())
+}
+
+#[test]
+fn tells_flags_and_recover_steps(rt: HostRuntime) -> Result<(), Fail> {
+    assert!(rt; FUNS[0].is_creation() && !FUNS[0].is_terminal() && !FUNS[0].is_query());
+    assert!(rt; !FUNS[2].is_creation() && FUNS[2].is_terminal() && !FUNS[2].is_query());
+    assert!(rt; !FUNS[3].is_creation() && !FUNS[3].is_terminal() && FUNS[3].is_query());
+    let mut some = interface(rt.alloc(), false, 0b1011)?;
+    assert!(rt; !some.steps_on(1, 2));
+    some.steps = PairList::from_slice(rt.alloc(), &[(1, 2), (2, 2)])?;
+    for (state, fun, want) in [(1, 2, true), (2, 2, true), (2, 1, false), (1, 1, false)] {
+        assert_eq!(rt; some.steps_on(state, fun), want, "{state} to {fun}");
+    }
     Ok(())
 }
 

@@ -1,8 +1,7 @@
 -- Dead ends told apart, and lists of them.
-use Rattle.std.proofs.Common.{◌≡◌, ◌⊎◌, ℕ, ◌<◌, Bool, true, false, ◌&&◌, List, [], ◌∷◌, length, get_or, refl, sym, ◌∙◌, ap, subst, inl, inr, arith, rules}
+use Rattle.std.proofs.Common.{◌≡◌, ◌⊎◌, Bool, true, ◌&&◌, List, [], ◌∷◌, get_or, refl, sym, ◌∙◌, subst, inl, inr, arith}
 use Rattle.std.specs.Prelude.{◌↔◌, ◌==◌, if◌then◌else◌, IsTrue}
 use Rattle.std.specs.List.{Contains, list_any}
-use Rattle.std.specs.Bool.{Decides}
 use Rattle.std.specs.Cmp.Lexicographic.{pointwise}
 use Rattle.std.proofs.lemmas.Bool.{cases_Bool, and_parts}
 use Rattle.std.proofs.lemmas.Bool.Decides.{nat_tests}
@@ -10,7 +9,6 @@ use Rattle.std.proofs.lemmas.List.Folds.{list_any_at}
 use Rattle.std.proofs.lemmas.List.Elements.{Contains-append_right}
 use Rattle.sg_walk.specs.declared.spot.Mark.{Mark}
 use Rattle.sg_walk.specs.declared.spot.Mark.TheVariants.{Unset, Good, Unknown}
-use Rattle.sg_walk.specs.declared.spot.Spot.{Spot}
 use Rattle.sg_walk.specs.declared.ends.DeadEnd.{DeadEnd}
 use Rattle.sg_walk.specs.Ends.{Gains}
 use Rattle.sg_walk.specs.contracts.ends.DeadEndPartialEq.TheImpl.{eq-value}

@@ -3,3 +3,4 @@ pub mod LeastWalks
 pub mod Marks
 pub mod Searching
 pub mod Sets
+pub mod PairSets

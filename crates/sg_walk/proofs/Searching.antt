@@ -1,8 +1,6 @@
 -- What a search by exact length has shown when it goes on.
-use Rattle.std.proofs.Common.{◌≡◌, ◌⊎◌, ℕ, ◌+◌, ◌-◌, ◌<◌, ◌≤◌, ◌^◌, Bool, true, false, cond, ◌&&◌, List, [], ◌∷◌, ◌++◌, length, None, Some, refl, sym, ◌∙◌, ap, subst, inl, inr, arith}
+use Rattle.std.proofs.Common.{◌≡◌, ◌⊎◌, ℕ, ◌-◌, ◌<◌, ◌≤◌, ◌^◌, Bool, true, false, ◌&&◌, List, [], ◌∷◌, None, refl, sym, ◌∙◌, ap, subst, inl, inr, arith}
 use Rattle.std.specs.Prelude.{◌==◌, if◌then◌else◌, nat_le, not}
-use Rattle.std.specs.List.{Contains}
-use Rattle.std.specs.Int.{bit_at}
 use Rattle.std.proofs.lemmas.Bool.{cases_lt}
 use Rattle.std.proofs.lemmas.Nat.Bits.{bit_at_above}
 use Rattle.sg_facts.specs.Facts.{fun_at}
@@ -16,11 +14,11 @@ use Rattle.sg_walk.specs.Search.{LeadsNowhere, LeadsNowhereBy, AreDead}
 
 -- one dead end more
 pub dead_more : (i : Declared) (goal : Goal) (old new : List DeadEnd) (end : DeadEnd) → AreDead i goal old
-    → LeadsNowhere i (shown (length i.facts.fields) end.spot) goal end.left → Gains old new end → AreDead i goal new
+    → LeadsNowhere i (shown i end.spot) goal end.left → Gains old new end → AreDead i goal new
 dead_more i goal old new end dead nowhere gains other there = elim ((gains other).0 there) [
   | inl before ↦ dead other before
   | inr same ↦
-      let P : DeadEnd → Type 0 = λ e. LeadsNowhere i (shown (length i.facts.fields) e.spot) goal e.left in
+      let P : DeadEnd → Type 0 = λ e. LeadsNowhere i (shown i e.spot) goal e.left in
       subst P (sym same) nowhere
 ]
 

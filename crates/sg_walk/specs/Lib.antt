@@ -2,3 +2,4 @@ pub mod Limits
 pub mod Ends
 pub mod Search
 pub mod Spots
+pub mod StepSets

@@ -1,8 +1,8 @@
 -- What a search by exact length finds.
-use Rattle.std.specs.Prelude.{ℕ, ◌≡◌, ◌+◌, ◌<◌, ◌≤◌, true, false, List, ◌∷◌, ◌++◌, length}
+use Rattle.std.specs.Prelude.{ℕ, ◌≡◌, ◌+◌, ◌≤◌, true, false, List, ◌∷◌, ◌++◌, length}
 use Rattle.std.specs.List.{Contains}
 use Rattle.sg_facts.specs.Interface.{Declared}
-use Rattle.sg_facts.specs.Walks.{Spot as Place, no_later, no_worse, begin_of, most_calls, may_begin, first_spot}
+use Rattle.sg_facts.specs.Walks.{Spot as Place, no_later, no_worse, begin_of, most_calls}
 use Rattle.sg_walk.specs.declared.spot.Goal.{Goal}
 use Rattle.sg_walk.specs.declared.ends.DeadEnd.{DeadEnd}
 use Rattle.sg_walk.specs.Spots.{shown, leads, reaches}
@@ -33,7 +33,7 @@ LeadsNowhereBy i s goal left fun = (walk : List ℕ) → length walk + 1 ≡ lef
 
 -- each dead end is one
 abbrev pub AreDead : Declared → Goal → List DeadEnd → Type 0
-AreDead i goal ends = (end : DeadEnd) → Contains ends end → LeadsNowhere i (shown (length i.facts.fields) end.spot) goal end.left
+AreDead i goal ends = (end : DeadEnd) → Contains ends end → LeadsNowhere i (shown i end.spot) goal end.left
 
 -- a walk is the least from a creation on that leads to what is sought
 pub record IsLeast (i : Declared) (made : ℕ) (goal : Goal) (walk : List ℕ) : Type 0 where

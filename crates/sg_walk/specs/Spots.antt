@@ -1,5 +1,5 @@
 -- Where a walk has come to, as the code holds it, and whether that is what is sought.
-use Rattle.std.specs.Prelude.{ℕ, ◌+◌, ◌*◌, ◌/◌, ◌%◌, ◌==◌, Bool, true, false, ◌&&◌, List, [], ◌∷◌, None, Some, length, map, take}
+use Rattle.std.specs.Prelude.{ℕ, ◌/◌, ◌%◌, ◌==◌, Bool, false, ◌&&◌, List, [], ◌∷◌, None, Some, length, map, take}
 use Rattle.std.specs.declared.option.Option.{Option}
 use Rattle.sg_facts.specs.Interface.{Declared}
 use Rattle.sg_facts.specs.Walks.{Mark as Known, unset, good, unknown, Spot as Place, restores_field, spot_from, spot_of}
@@ -17,9 +17,9 @@ known_of Unknown = unknown
 abbrev pub shown_marks : ℕ → List Mark → List Known
 shown_marks count marks = map known_of (take count marks)
 
--- a spot of rows with so many fields
-abbrev pub shown : ℕ → Spot → Place
-shown count s = record { state = s.state; marks = shown_marks count s.marks }
+-- a spot, with a mark for each field of the interface's rows
+abbrev pub shown : Declared → Spot → Place
+shown i s = record { state = s.state; marks = shown_marks (length i.facts.fields) s.marks }
 
 -- whether marks restore the set of fields that has a number
 abbrev pub restores_number : List Known → ℕ → Bool

@@ -7,8 +7,9 @@ ghost use Rattle.sg_walk.specs.Spots.{shown};
 ghost use Rattle.sg_walk.specs.Search.{IsLeast, IsUnreached};
 
 use crate::ends::DeadEnds;
-use crate::search::search;
+use crate::search::{Sought, search};
 use crate::spot::{Goal, Spot};
+use crate::step_set::StepSet;
 use crate::steps::begin;
 use sg_base::NoMemory;
 use sg_facts::{Interface, Walk};
@@ -55,15 +56,21 @@ fn least_from(
 ) -> Result<Option<Walk>, NoMemory>
     requires few { HasFewFields iface.now }
     requires begins { may_begin iface.now made ≡ true }
-    requires spot { shown (length iface.now.facts.fields) spot ≡ first_spot iface.now.facts made }
+    requires spot { shown iface.now spot ≡ first_spot iface.now.facts made }
     ensures least { IfOk result (λ found. IfSome found (IsLeast iface.now made goal)) }
     ensures none { IfOk result (λ found. IfNone found (IsUnreached iface.now made goal)) }
 {
     let mut walk = Walk::new();
     walk.push(made)?;
+    let steps = StepSet::new(alloc, iface.steps.as_slice())?;
+    let sought = Sought {
+        iface,
+        steps: &steps,
+        goal,
+    };
     let mut ends = DeadEnds::new(alloc);
     'lengths: for left in 0..Walk::MOST {
-        if let Some(found) = search(iface, goal, &mut ends, spot, walk, left)? {
+        if let Some(found) = search(&sought, &mut ends, spot, walk, left)? {
             return Ok(Some(found));
         }
     }

@@ -5,6 +5,7 @@
 //! - `search`: the first walk of a given length
 //! - `ends`: from where a search is known to find nothing (`DeadEnds`)
 //! - `steps`: how a walk begins and goes on
+//! - `step_set`: recover steps, to be looked up (`StepSet`)
 //! - `spot`: where a walk has come to (`Spot`, `Mark`), and what is sought (`Goal`)
 #![tactic(auto)]
 
@@ -13,7 +14,10 @@ mod least;
 mod restoring;
 mod search;
 mod spot;
+mod step_set;
 mod steps;
+#[cfg(test)]
+mod tests;
 
 pub use least::shortest;
 pub use restoring::restores;

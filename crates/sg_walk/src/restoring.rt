@@ -35,11 +35,11 @@ fn reaches(iface: &Interface, walk: &[u8], goal: Goal) -> bool
 // Whether these functions lead from a spot to what is sought.
 fn leads(iface: &Interface, from: Spot, walk: &[u8], goal: Goal) -> bool
     requires { HasFewFields iface.now }
-    ensures { result ≡ leads iface.now (shown (length iface.now.facts.fields) from) walk.now goal }
+    ensures { result ≡ leads iface.now (shown iface.now from) walk.now goal }
 {
     let mut spot = from;
     'walk: for fun in walk {
-        match go_on(iface, spot, *fun) {
+        match go_on(iface, spot, *fun, iface.steps_on(spot.state, *fun)) {
             Some(next) => spot = next,
             None => return false,
         }

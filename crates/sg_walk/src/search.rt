@@ -2,35 +2,49 @@
 ghost use Rattle.std.specs.Prelude.{◌≡◌, ◌+◌, ◌<◌, ◌≤◌, ℕ, length, IfOk, IfSome, IfNone, OnOk};
 ghost use Rattle.sg_walk.specs.Limits.{HasFewFields};
 ghost use Rattle.sg_walk.specs.Spots.{shown};
+ghost use Rattle.sg_walk.specs.StepSets.{SamePairs};
 ghost use Rattle.sg_walk.specs.Search.{GoesOn, GoesOnBy, LeadsNowhere, LeadsNowhereBy, AreDead};
 
 use crate::ends::{DeadEnd, DeadEnds};
 use crate::spot::{Goal, Spot};
+use crate::step_set::StepSet;
 use crate::steps::{go_on, is_goal};
 use sg_base::NoMemory;
 use sg_facts::{Interface, Walk};
 
+// The greatest number of a function that an interface can declare.
+const MOST_FUNS: u8 = 32;
+
+/// What is sought, and by which recover steps.
+#[derive(Clone, Copy, Debug)]
+pub struct Sought<'a> {
+    pub iface: &'a Interface,
+    /// The interface's recover steps.
+    pub steps: &'a StepSet,
+    pub goal: Goal,
+}
+
 /// Goes on from a walk that has come to a spot, by exactly `left` calls to what is sought: the first such walk by function
-/// numbers; None exactly where there is none. From where nothing was found is added to the dead ends. It calls itself at
-/// most 8 deep.
+/// numbers; None exactly where there is none. A spot from where nothing was found joins the dead ends. The calls nest at most
+/// 8 deep.
 #[cycle(search)]
 pub fn search(
-    iface: &Interface,
-    goal: Goal,
+    sought: &Sought<'_>,
     ends: &mut DeadEnds,
     spot: Spot,
     walk: Walk,
     left: usize,
 ) -> Result<Option<Walk>, NoMemory>
-    requires few { HasFewFields iface.now }
+    requires few { HasFewFields sought.now.iface.now }
+    requires steps { SamePairs sought.now.iface.now.steps sought.now.steps.now }
     requires room { length walk + left ≤ 8 }
-    requires dead { AreDead iface.now goal ends.old }
-    ensures dead { OnOk result (AreDead iface.now goal ends.new) }
-    ensures found { IfOk result (λ found. IfSome found (GoesOn iface.now (shown (length iface.now.facts.fields) spot) goal walk left)) }
-    ensures none { IfOk result (λ found. IfNone found (LeadsNowhere iface.now (shown (length iface.now.facts.fields) spot) goal left)) }
+    requires dead { AreDead sought.now.iface.now sought.now.goal ends.old }
+    ensures dead { OnOk result (AreDead sought.now.iface.now sought.now.goal ends.new) }
+    ensures found { IfOk result (λ found. IfSome found (GoesOn sought.now.iface.now (shown sought.now.iface.now spot) sought.now.goal walk left)) }
+    ensures none { IfOk result (λ found. IfNone found (LeadsNowhere sought.now.iface.now (shown sought.now.iface.now spot) sought.now.goal left)) }
 {
     if left == 0 {
-        return Ok(if is_goal(iface, spot, goal) {
+        return Ok(if is_goal(sought.iface, spot, sought.goal) {
             Some(walk)
         } else {
             None
@@ -40,7 +54,7 @@ pub fn search(
     if ends.has(end) {
         return Ok(None);
     }
-    match search_each(iface, goal, ends, spot, walk, left)? {
+    match search_each(sought, ends, spot, walk, left)? {
         Some(found) => Ok(Some(found)),
         None => {
             ends.add(end)?;
@@ -52,24 +66,25 @@ pub fn search(
 // So, by each function in turn.
 #[cycle(search)]
 fn search_each(
-    iface: &Interface,
-    goal: Goal,
+    sought: &Sought<'_>,
     ends: &mut DeadEnds,
     spot: Spot,
     walk: Walk,
     left: usize,
 ) -> Result<Option<Walk>, NoMemory>
-    requires few { HasFewFields iface.now }
+    requires few { HasFewFields sought.now.iface.now }
+    requires steps { SamePairs sought.now.iface.now.steps sought.now.steps.now }
     requires some { 0 < left }
     requires room { length walk + left ≤ 8 }
-    requires dead { AreDead iface.now goal ends.old }
-    ensures dead { OnOk result (AreDead iface.now goal ends.new) }
-    ensures found { IfOk result (λ found. IfSome found (GoesOn iface.now (shown (length iface.now.facts.fields) spot) goal walk left)) }
-    ensures none { IfOk result (λ found. IfNone found (LeadsNowhere iface.now (shown (length iface.now.facts.fields) spot) goal left)) }
+    requires dead { AreDead sought.now.iface.now sought.now.goal ends.old }
+    ensures dead { OnOk result (AreDead sought.now.iface.now sought.now.goal ends.new) }
+    ensures found { IfOk result (λ found. IfSome found (GoesOn sought.now.iface.now (shown sought.now.iface.now spot) sought.now.goal walk left)) }
+    ensures none { IfOk result (λ found. IfNone found (LeadsNowhere sought.now.iface.now (shown sought.now.iface.now spot) sought.now.goal left)) }
 {
+    let iface = sought.iface;
     let _declared = iface.declared;
-    'funs: for fun in 1..33 {
-        if let Some(found) = search_by(iface, goal, ends, spot, walk, left, fun)? {
+    'funs: for fun in 1..MOST_FUNS + 1 {
+        if let Some(found) = search_by(sought, ends, spot, walk, left, fun)? {
             return Ok(Some(found));
         }
     }
@@ -79,27 +94,28 @@ fn search_each(
 // So, by one function first.
 #[cycle(search)]
 fn search_by(
-    iface: &Interface,
-    goal: Goal,
+    sought: &Sought<'_>,
     ends: &mut DeadEnds,
     spot: Spot,
     walk: Walk,
     left: usize,
     fun: u8,
 ) -> Result<Option<Walk>, NoMemory>
-    requires few { HasFewFields iface.now }
+    requires few { HasFewFields sought.now.iface.now }
+    requires steps { SamePairs sought.now.iface.now.steps sought.now.steps.now }
     requires some { 0 < left }
     requires room { length walk + left ≤ 8 }
-    requires dead { AreDead iface.now goal ends.old }
-    ensures dead { OnOk result (AreDead iface.now goal ends.new) }
-    ensures found { IfOk result (λ found. IfSome found (GoesOnBy iface.now (shown (length iface.now.facts.fields) spot) goal walk left fun)) }
-    ensures none { IfOk result (λ found. IfNone found (LeadsNowhereBy iface.now (shown (length iface.now.facts.fields) spot) goal left fun)) }
+    requires dead { AreDead sought.now.iface.now sought.now.goal ends.old }
+    ensures dead { OnOk result (AreDead sought.now.iface.now sought.now.goal ends.new) }
+    ensures found { IfOk result (λ found. IfSome found (GoesOnBy sought.now.iface.now (shown sought.now.iface.now spot) sought.now.goal walk left fun)) }
+    ensures none { IfOk result (λ found. IfNone found (LeadsNowhereBy sought.now.iface.now (shown sought.now.iface.now spot) sought.now.goal left fun)) }
 {
-    match go_on(iface, spot, fun) {
+    let is_step = sought.steps.has(spot.state, fun);
+    match go_on(sought.iface, spot, fun, is_step) {
         Some(next) => {
             let mut longer = walk;
             longer.push(fun)?;
-            search(iface, goal, ends, next, longer, left - 1)
+            search(sought, ends, next, longer, left - 1)
         }
         None => Ok(None),
     }

@@ -1,6 +1,7 @@
 // How a walk begins and goes on.
 ghost use Rattle.std.specs.Prelude.{◌≡◌, ◌+◌, ◌^◌, ◌<◌, true, false, length, map, MatchOption};
 ghost use Rattle.sg_facts.specs.Facts.{fun_at, fun_of_shape, left_by};
+ghost use Rattle.sg_facts.specs.Interface.{steps_on};
 ghost use Rattle.sg_facts.specs.Walks.{unset, may_begin, may_go_on, first_spot, next_spot};
 ghost use Rattle.sg_walk.specs.Limits.{HasFewFields};
 ghost use Rattle.sg_walk.specs.Spots.{shown, shown_marks, is_goal};
@@ -21,7 +22,7 @@ const NO_FUN: FunShape = FunShape {
 pub fn begin(iface: &Interface, made: u8) -> Option<Spot>
     requires { HasFewFields iface.now }
     ensures { MatchOption result (may_begin iface.now made ≡ false)
-        (λ spot. (may_begin iface.now made ≡ true) × (shown (length iface.now.facts.fields) spot ≡ first_spot iface.now.facts made)) }
+        (λ spot. (may_begin iface.now made ≡ true) × (shown iface.now spot ≡ first_spot iface.now.facts made)) }
 {
     let fun = fun_at(iface, made);
     if !(iface.declares(made) && fun.is_creation() && !fun.is_terminal() && !fun.is_query()) {
@@ -33,19 +34,20 @@ pub fn begin(iface: &Interface, made: u8) -> Option<Spot>
     })
 }
 
-/// Where a walk has come to after one more function; None exactly where it can't go on with this one.
-pub fn go_on(iface: &Interface, spot: Spot, next: u8) -> Option<Spot>
-    requires { HasFewFields iface.now }
-    ensures { let s = shown (length iface.now.facts.fields) spot in
+/// Where a walk has come to after one more function, by whether that is a recover step there; None exactly where the walk
+/// can't go on with it.
+pub fn go_on(iface: &Interface, spot: Spot, next: u8, is_step: bool) -> Option<Spot>
+    requires few { HasFewFields iface.now }
+    requires step { is_step ≡ steps_on iface.now spot.state next }
+    ensures { let s = shown iface.now spot in
         MatchOption result (may_go_on iface.now s next ≡ false)
-        (λ new. (may_go_on iface.now s next ≡ true) × (shown (length iface.now.facts.fields) new ≡ next_spot iface.now.facts next s)) }
+        (λ new. (may_go_on iface.now s next ≡ true) × (shown iface.now new ≡ next_spot iface.now.facts next s)) }
 {
+    if !(is_step && iface.declares(next)) {
+        return None;
+    }
     let fun = fun_at(iface, next);
-    if !(iface.declares(next)
-        && iface.steps_on(spot.state, next)
-        && !fun.is_terminal()
-        && !fun.is_query())
-    {
+    if fun.is_terminal() || fun.is_query() {
         return None;
     }
     Some(Spot {
@@ -57,7 +59,7 @@ pub fn go_on(iface: &Interface, spot: Spot, next: u8) -> Option<Spot>
 /// Whether a spot is where the sought state and fields are restored.
 pub fn is_goal(iface: &Interface, spot: Spot, goal: Goal) -> bool
     requires { HasFewFields iface.now }
-    ensures { result ≡ is_goal (shown (length iface.now.facts.fields) spot) goal }
+    ensures { result ≡ is_goal (shown iface.now spot) goal }
 {
     spot.state == goal.state && restores_number(&spot.marks[..field_count(iface)], goal.mask)
 }

@@ -1,4 +1,4 @@
-use Rattle.std.proofs.Common.{ℕ, ◌<◌, length, ◌≡◌, ◌∷◌, []}
+use Rattle.std.proofs.Common.{ℕ, ◌<◌}
 use Rattle.sg_walk.specs.Spots.{shown}
 use Rattle.sg_walk.specs.Search.{LeadsNowhere, AreDead}
 use Rattle.sg_walk.proofs.least.least_from.Given as goal
@@ -6,6 +6,6 @@ use Rattle.sg_walk.proofs.least.least_from.Given as goal
 -- no walk of a length that was tried leads to what is sought
 abbrev pub invariant-lengths : goal.invariant-lengths
 invariant-lengths l = record {
-  dead : AreDead l.iface l.goal l.ends;
-  tried : (left : ℕ) → left < l.left → LeadsNowhere l.iface (shown (length l.iface.facts.fields) l.spot) l.goal left;
+  dead : AreDead l.iface l.fn.goal l.ends;
+  tried : (left : ℕ) → left < l.left → LeadsNowhere l.iface (shown l.iface l.spot) l.fn.goal left;
 }

@@ -1,4 +1,4 @@
-use Rattle.std.proofs.Common.{◌≡◌, ℕ, ◌+◌, ◌*◌, ◌<◌, ◌≤◌, length}
+use Rattle.std.proofs.Common.{ℕ, ◌+◌, ◌*◌, ◌<◌}
 use Rattle.sg_walk.specs.Spots.{shown}
 use Rattle.sg_walk.specs.Search.{LeadsNowhereBy, AreDead}
 use Rattle.sg_walk.proofs.search.+search.Given as goal
@@ -15,6 +15,6 @@ decreases-search_by l = 3 * l.left
 -- no walk goes on by a function that was tried
 abbrev pub invariant-search_each-funs : goal.invariant-search_each-funs
 invariant-search_each-funs l = record {
-  dead : AreDead l.iface l.goal l.ends;
-  tried : (fun : ℕ) → fun < l.fun → LeadsNowhereBy l.iface (shown (length l.iface.facts.fields) l.spot) l.goal l.left fun;
+  dead : AreDead l.sought.iface.now l.sought.goal l.ends;
+  tried : (fun : ℕ) → fun < l.fun → LeadsNowhereBy l.sought.iface.now (shown l.sought.iface.now l.spot) l.sought.goal l.left fun;
 }

@@ -1,4 +1,3 @@
-use Rattle.std.proofs.Common.{arith}
 use Rattle.sg_walk.proofs.Marks.{effect_written, effect_passed}
 use Rattle.sg_walk.proofs.spot.mark_each.Goals as goal
 use Rattle.sg_walk.proofs.spot.mark_each.Goals.{then-at-marks, else-at-marks}

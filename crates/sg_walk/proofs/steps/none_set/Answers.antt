@@ -1,4 +1,3 @@
-use Rattle.std.proofs.Common.{length}
 use Rattle.sg_walk.proofs.Marks.{all_unset}
 use Rattle.sg_walk.proofs.steps.none_set.Goals as goal
 
