@@ -1,5 +1,5 @@
 -- Closing under what one call leads to.
-use Rattle.std.proofs.Common.{◌≡◌, ◌⊎◌, ℕ, zero, suc, ◌+◌, ◌^◌, ◌<◌, ◌≤◌, List, [], ◌∷◌, ◌++◌, None, Some, length, get_or, refl, sym, ◌∙◌, ap, subst, inl, inr, arith, length-append}
+use Rattle.std.proofs.Common.{◌≡◌, ℕ, zero, suc, ◌+◌, ◌<◌, ◌≤◌, List, [], ◌∷◌, ◌++◌, None, Some, length, refl, sym, ◌∙◌, ap, subst, inl, inr, arith, length-append}
 use Rattle.std.specs.Prelude.{slice_get}
 use Rattle.std.specs.List.{Contains}
 use Rattle.std.proofs.lemmas.Bool.Decides.{eqb_tells}
@@ -30,9 +30,11 @@ ended (x ∷ xs) (suc k) is = omega (arith, ended xs k is)
 
 -- one call leads from a place of descriptors to a place of them
 pub next_reached : (i : Declared) (made : ℕ) (p q : Place) → IsPlace i made p → IsNext i p q → IsPlace i made q
-next_reached i made p q (within, reached) (fun, leads) =
-    (leads.led.1, subst (λ s. IsReachable i made s (set_of i q.mask)) (sym leads.led.0)
-        (moved made fun p.state (set_of i p.mask) (set_of i q.mask) reached leads.moves leads.goes_on leads.led.2))
+next_reached i made p q (within, reached) (fun, leads) = (
+  leads.led.1,
+  subst (λ s. IsReachable i made s (set_of i q.mask)) (sym leads.led.0)
+      (moved made fun p.state (set_of i p.mask) (set_of i q.mask) reached leads.moves leads.goes_on leads.led.2),
+)
 
 module _ (i : Declared) (place : Place) (n : ℕ) (old new : List Place) (adds : AddsJust (IsNext i place) old new) (is : slice_get old n ≡ Some place) where
   within : n < length old

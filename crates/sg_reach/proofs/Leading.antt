@@ -1,5 +1,5 @@
 -- The places to which effects lead, mask by mask.
-use Rattle.std.proofs.Common.{◌≡◌, ◌⊎◌, ℕ, ◌+◌, ◌*◌, ◌^◌, ◌<◌, Bool, true, false, List, length, refl, sym, ◌∙◌, ap, subst, inl, inr, arith}
+use Rattle.std.proofs.Common.{◌≡◌, ℕ, ◌+◌, ◌^◌, ◌<◌, true, false, List, length, sym, ◌∙◌, ap, subst, inl, inr, arith}
 use Rattle.sg_facts.specs.declared.shape.Effect.{Effect}
 use Rattle.sg_facts.specs.Facts.{Fun, fun_at, left_by}
 use Rattle.sg_facts.specs.Interface.{Declared, declares, moves_on}
@@ -34,8 +34,10 @@ module _ (effects : List (ℕ × Effect)) (count old state : ℕ) where
       ])
       (λ q is. elim is [
         | inl below ↦ (below.0, omega (arith, below.1))
-        | inr same ↦ ((ap (λ p. p.state) same, subst (λ n. n < 2 ^ count) (sym (ap (λ p. p.mask) same)) within, ap (λ p. may_lead effects 0 (bits count old) (bits count p.mask)) same ∙ leads),
-            omega (arith, ap (λ p. p.mask) same))
+        | inr same ↦ (
+          (ap (λ p. p.state) same, subst (λ n. n < 2 ^ count) (sym (ap (λ p. p.mask) same)) within, ap (λ p. may_lead effects 0 (bits count old) (bits count p.mask)) same ∙ leads),
+          omega (arith, ap (λ p. p.mask) same),
+        )
       ])
 
   -- one more mask isn't
@@ -56,8 +58,8 @@ pub adds_begins : (i : Declared) (fun : ℕ) (f : Fun) (count state : ℕ) (a b 
     → state ≡ left_by f.leaves fun fun → declares i fun ≡ true → f.creation ≡ true → AddsJust (IsLed f.effects count 0 state) a b → AddsJust (Begins i fun) a b
 adds_begins i fun f count state a b f_is count_is state_is declared creation adds =
     let same : (q : Place) → IsLed f.effects count 0 state q ≡ IsLed (fun_at i.facts.funs fun).effects (length i.facts.fields) 0 (left_by (fun_at i.facts.funs fun).leaves fun fun) q =
-        λ q. ap (λ n. IsLed f.effects n 0 state q) count_is ∙ ap (λ n. IsLed f.effects (length i.facts.fields) 0 n q) state_is
-            ∙ ap (λ g. IsLed g.effects (length i.facts.fields) 0 (left_by g.leaves fun fun) q) f_is in
+    λ q. ap (λ n. IsLed f.effects n 0 state q) count_is ∙ ap (λ n. IsLed f.effects (length i.facts.fields) 0 n q) state_is
+    ∙ ap (λ g. IsLed g.effects (length i.facts.fields) 0 (left_by g.leaves fun fun) q) f_is in
     adds_same (IsLed f.effects count 0 state) (Begins i fun) a b adds (λ q is. coe 0 1 (k. sym (same q) k) is.led)
     (λ q is. record { declared = declared; creation = sym (ap (λ g. g.creation) f_is) ∙ creation; led = coe 0 1 (k. same q k) is })
 
@@ -65,7 +67,7 @@ pub adds_by : (i : Declared) (fun : ℕ) (p : Place) (f : Fun) (count state : �
     → state ≡ left_by f.leaves fun p.state → moves_on i p.state fun ≡ true → f.terminal ≡ false → AddsJust (IsLed f.effects count p.mask state) a b → AddsJust (LeadsBy i fun p) a b
 adds_by i fun p f count state a b f_is count_is state_is moves goes_on adds =
     let same : (q : Place) → IsLed f.effects count p.mask state q ≡ IsLed (fun_at i.facts.funs fun).effects (length i.facts.fields) p.mask (left_by (fun_at i.facts.funs fun).leaves fun p.state) q =
-        λ q. ap (λ n. IsLed f.effects n p.mask state q) count_is ∙ ap (λ n. IsLed f.effects (length i.facts.fields) p.mask n q) state_is
-            ∙ ap (λ g. IsLed g.effects (length i.facts.fields) p.mask (left_by g.leaves fun p.state) q) f_is in
+    λ q. ap (λ n. IsLed f.effects n p.mask state q) count_is ∙ ap (λ n. IsLed f.effects (length i.facts.fields) p.mask n q) state_is
+    ∙ ap (λ g. IsLed g.effects (length i.facts.fields) p.mask (left_by g.leaves fun p.state) q) f_is in
     adds_same (IsLed f.effects count p.mask state) (LeadsBy i fun p) a b adds (λ q is. coe 0 1 (k. sym (same q) k) is.led)
     (λ q is. record { moves = moves; goes_on = sym (ap (λ g. g.terminal) f_is) ∙ goes_on; led = coe 0 1 (k. same q k) is })

@@ -1,5 +1,5 @@
 -- The table of marks, when a place is found.
-use Rattle.std.proofs.Common.{◌≡◌, ◌≢◌, ◌⊎◌, ℕ, zero, suc, ◌+◌, ◌*◌, ◌<◌, ◌≤◌, Bool, true, false, List, [], ◌∷◌, ◌++◌, length, get_or, refl, sym, ◌∙◌, ap, subst, inl, inr, arith, length-append}
+use Rattle.std.proofs.Common.{◌≡◌, ℕ, zero, suc, ◌+◌, ◌<◌, Bool, true, false, List, [], ◌∷◌, ◌++◌, length, get_or, refl, sym, ◌∙◌, ap, subst, inl, inr, arith, length-append}
 use Rattle.std.specs.Prelude.{◌↔◌, replicate}
 use Rattle.std.specs.List.{Contains}
 use Rattle.std.proofs.Math.ListN.{set}
@@ -60,16 +60,18 @@ module _ (marks : List Bool) (places : List Place) (p : Place) (are : AreMarked 
   told_at : (q : Place) → q.state < 256 → q.mask < 16 → (get_or marked (cell_of q) false ≡ true) ↔ Contains longer q
   told_at q s' m' = elim (eqb_tells (cell_of q) (cell_of p)) [
     | inl (is, same) ↦
-        let q_is : q ≡ p = same_place q p (omega (arith, same, m, m')) (omega (arith, same, m, m')) in
-        (λ marked_is. subst (Contains longer) (sym q_is) (Contains-append_right places (p ∷ []) p (itself p)),
-            λ has. ap (λ k. get_or marked k false) same ∙ get_or-set_same marks (cell_of p) true false inside)
+        let q_is : q ≡ p = same_place q p (omega (arith, same, m, m')) (omega (arith, same, m, m')) in (
+          λ marked_is. subst (Contains longer) (sym q_is) (Contains-append_right places (p ∷ []) p (itself p)),
+          λ has. ap (λ k. get_or marked k false) same ∙ get_or-set_same marks (cell_of p) true false inside,
+        )
     | inr (is, other) ↦
-        let kept : get_or marked (cell_of q) false ≡ get_or marks (cell_of q) false = get_or-set_other marks (cell_of p) (cell_of q) true false other in
-        (λ marked_is. Contains-append_left places (p ∷ []) q ((are.told q s' m').0 (sym kept ∙ marked_is)),
-            λ has. elim (Contains-append_cases places (p ∷ []) q has) [
-              | inl before ↦ kept ∙ (are.told q s' m').1 before
-              | inr last ↦ absurd (other (ap cell_of (only p q last)))
-            ])
+        let kept : get_or marked (cell_of q) false ≡ get_or marks (cell_of q) false = get_or-set_other marks (cell_of p) (cell_of q) true false other in (
+          λ marked_is. Contains-append_left places (p ∷ []) q ((are.told q s' m').0 (sym kept ∙ marked_is)),
+          λ has. elim (Contains-append_cases places (p ∷ []) q has) [
+            | inl before ↦ kept ∙ (are.told q s' m').1 before
+            | inr last ↦ absurd (other (ap cell_of (only p q last)))
+          ],
+        )
   ]
 
   small_at : (q : Place) → Contains longer q → (q.state < 256) × (q.mask < 16)

@@ -1,5 +1,5 @@
 -- All that descriptors can come to is found.
-use Rattle.std.proofs.Common.{◌≡◌, ◌⊎◌, ℕ, ◌+◌, ◌^◌, ◌<◌, ◌≤◌, Bool, true, false, List, [], ◌∷◌, length, map, refl, sym, ◌∙◌, ap, subst, inl, inr, arith}
+use Rattle.std.proofs.Common.{◌≡◌, ℕ, ◌^◌, ◌<◌, Bool, true, List, [], ◌∷◌, length, refl, sym, ◌∙◌, ap, subst, arith}
 use Rattle.std.specs.List.{Contains}
 use Rattle.sg_facts.specs.Facts.{Field, fun_at, state_after}
 use Rattle.sg_facts.specs.Fields.{number_of}
@@ -8,7 +8,7 @@ use Rattle.sg_facts.specs.Walks.{IsReachable, made, moved, may_lead, none_set}
 use Rattle.sg_reach.specs.declared.place.Place.{Place}
 use Rattle.sg_reach.specs.declared.place.Triple.{Triple}
 use Rattle.sg_reach.specs.Bits.{bits, set_of}
-use Rattle.sg_reach.specs.Places.{AddsJust, AreReached, Begins, IsClosed, IsNext, IsPlace, IsReached}
+use Rattle.sg_reach.specs.Places.{Begins, IsClosed, IsPlace, IsReached}
 use Rattle.sg_reach.proofs.Sets.{bits-none, bits-number_of, length-led, number_of-bits, number_of-small}
 
 length-none : (fields : List Field) → length (none_set fields) ≡ length fields
@@ -32,9 +32,11 @@ place_reached i by state set reached =
 
 -- what begins is reached
 pub begun_reached : (i : Declared) (fun : ℕ) (q : Place) → Begins i fun q → IsPlace i fun q
-begun_reached i fun q b =
-    (b.led.1, subst (λ s. IsReachable i fun s (set_of i q.mask)) (sym b.led.0)
-        (made fun (set_of i q.mask) b.declared b.creation (ap (λ l. may_lead (fun_at i.facts.funs fun).effects 0 l (set_of i q.mask)) (sym (bits-none i.facts.fields)) ∙ b.led.2)))
+begun_reached i fun q b = (
+  b.led.1,
+  subst (λ s. IsReachable i fun s (set_of i q.mask)) (sym b.led.0)
+      (made fun (set_of i q.mask) b.declared b.creation (ap (λ l. may_lead (fun_at i.facts.funs fun).effects 0 l (set_of i q.mask)) (sym (bits-none i.facts.fields)) ∙ b.led.2)),
+)
 
 module _ (i : Declared) (places : List Place) (closed : IsClosed i places) where
   -- all that is reached was found
@@ -45,21 +47,29 @@ module _ (i : Declared) (places : List Place) (closed : IsClosed i places) where
       begun (record { state = state_after i.facts fun fun; mask = number_of set' }) (record {
         declared = declared;
         creation = creation;
-        led = (refl, subst (λ n. number_of set' < 2 ^ n) l (number_of-small set'),
-            ap (λ s. may_lead (fun_at i.facts.funs fun).effects 0 s (set_of i (number_of set'))) (bits-none i.facts.fields)
-            ∙ ap (λ s. may_lead (fun_at i.facts.funs fun).effects 0 (none_set i.facts.fields) s) (set_back i set' l) ∙ leads);
+        led = (
+          refl,
+          subst (λ n. number_of set' < 2 ^ n) l (number_of-small set'),
+          ap (λ s. may_lead (fun_at i.facts.funs fun).effects 0 s (set_of i (number_of set'))) (bits-none i.facts.fields)
+              ∙ ap (λ s. may_lead (fun_at i.facts.funs fun).effects 0 (none_set i.facts.fields) s) (set_back i set' l) ∙ leads,
+        );
       })
   all_by by state set begun (moved by' fun state' old new reached moves goes_on leads) =
       let lo : length old ≡ length i.facts.fields = length-reached i by' state' old reached in
       let ln : length new ≡ length i.facts.fields = length-led _ 0 old new leads ∙ lo in
-      closed (record { state = state'; mask = number_of old }) (record { state = state_after i.facts fun state'; mask = number_of new }) (all_by by' state' old begun reached)
-      (fun, record {
-        moves = moves;
-        goes_on = goes_on;
-        led = (refl, subst (λ n. number_of new < 2 ^ n) ln (number_of-small new),
+      closed (record { state = state'; mask = number_of old }) (record { state = state_after i.facts fun state'; mask = number_of new }) (all_by by' state' old begun reached) (
+        fun,
+        record {
+          moves = moves;
+          goes_on = goes_on;
+          led = (
+            refl,
+            subst (λ n. number_of new < 2 ^ n) ln (number_of-small new),
             ap (λ s. may_lead (fun_at i.facts.funs fun).effects 0 s (set_of i (number_of new))) (set_back i old lo)
-            ∙ ap (λ s. may_lead (fun_at i.facts.funs fun).effects 0 old s) (set_back i new ln) ∙ leads);
-      })
+                ∙ ap (λ s. may_lead (fun_at i.facts.funs fun).effects 0 old s) (set_back i new ln) ∙ leads,
+          );
+        },
+      )
 
   pub all_found : (by : ℕ) (p : Place) → ((q : Place) → Begins i by q → Contains places q) → IsPlace i by p → Contains places p
   all_found by p begun (small, reached) =

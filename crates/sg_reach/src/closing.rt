@@ -46,12 +46,7 @@ pub fn add_begins(iface: &Interface, made: u8, found: &mut Found) -> Result<(), 
 }
 
 // Adds the places that one call of a function leads to from another.
-fn add_by(
-    iface: &Interface,
-    fun: u8,
-    place: Place,
-    found: &mut Found,
-) -> Result<(), NoMemory>
+fn add_by(iface: &Interface, fun: u8, place: Place, found: &mut Found) -> Result<(), NoMemory>
     requires few { HasFourFields iface.now }
     requires moves { moves_on iface.now place.state fun ≡ true }
     ensures { OnOk result (AddsJust (LeadsBy iface.now fun place) found.old found.new) }

@@ -1,22 +1,12 @@
 // How a walk begins and goes on.
-ghost use Rattle.std.specs.Prelude.{◌≡◌, ◌+◌, ◌^◌, ◌<◌, true, false, length, map, MatchOption};
-ghost use Rattle.sg_facts.specs.Facts.{fun_at, fun_of_shape, left_by};
+ghost use Rattle.std.specs.Prelude.{◌≡◌, true, false, length, map, MatchOption};
 ghost use Rattle.sg_facts.specs.Interface.{steps_on};
 ghost use Rattle.sg_facts.specs.Walks.{unset, may_begin, may_go_on, first_spot, next_spot};
 ghost use Rattle.sg_walk.specs.Limits.{HasFewFields};
 ghost use Rattle.sg_walk.specs.Spots.{shown, shown_marks, is_goal};
 
 use crate::spot::{Goal, Mark, Spot, marked, restores_number};
-use sg_facts::{FunShape, Interface, Leaves};
-
-// What stands for a function that a shape hasn't.
-const NO_FUN: FunShape = FunShape {
-    name: &[],
-    kinds: &[],
-    flags: 0,
-    leaves: Leaves::Own,
-    effects: &[],
-};
+use sg_facts::Interface;
 
 /// Where a walk has come to after its creation; None exactly where no walk begins with this function.
 pub fn begin(iface: &Interface, made: u8) -> Option<Spot>
@@ -24,12 +14,12 @@ pub fn begin(iface: &Interface, made: u8) -> Option<Spot>
     ensures { MatchOption result (may_begin iface.now made ≡ false)
         (λ spot. (may_begin iface.now made ≡ true) × (shown iface.now spot ≡ first_spot iface.now.facts made)) }
 {
-    let fun = fun_at(iface, made);
+    let fun = iface.fun(made);
     if !(iface.declares(made) && fun.is_creation() && !fun.is_terminal() && !fun.is_query()) {
         return None;
     }
     Some(Spot {
-        state: left_by(fun.leaves, made, made),
+        state: fun.leaves.state_after(made, made),
         marks: marked(none_set(iface), field_count(iface), fun.effects),
     })
 }
@@ -46,12 +36,12 @@ pub fn go_on(iface: &Interface, spot: Spot, next: u8, is_step: bool) -> Option<S
     if !(is_step && iface.declares(next)) {
         return None;
     }
-    let fun = fun_at(iface, next);
+    let fun = iface.fun(next);
     if fun.is_terminal() || fun.is_query() {
         return None;
     }
     Some(Spot {
-        state: left_by(fun.leaves, next, spot.state),
+        state: fun.leaves.state_after(next, spot.state),
         marks: marked(spot.marks, field_count(iface), fun.effects),
     })
 }
@@ -77,36 +67,4 @@ fn field_count(iface: &Interface) -> usize
     ensures { result ≡ length iface.now.facts.fields }
 {
     iface.shape.fields.len()
-}
-
-// The function of a number, from 1.
-fn fun_at(iface: &Interface, fun: u8) -> FunShape
-    ensures { fun_of_shape result ≡ fun_at iface.now.facts.funs fun }
-{
-    if fun == 0 {
-        return NO_FUN;
-    }
-    fun_in(iface.shape.funs, usize::from(fun) - 1)
-}
-
-// The function at a place, from 0.
-fn fun_in(funs: &[FunShape], at: usize) -> FunShape
-    requires { at < 2 ^ 8 }
-    ensures { fun_of_shape result ≡ fun_at (map fun_of_shape funs.now) (at + 1) }
-{
-    match funs.get(at) {
-        Some(fun) => *fun,
-        None => NO_FUN,
-    }
-}
-
-// The state after a function that is called in a state.
-fn left_by(leaves: Leaves, fun: u8, state: u8) -> u8
-    ensures { result ≡ left_by leaves fun state }
-{
-    match leaves {
-        Leaves::Own => fun,
-        Leaves::Same => state,
-        Leaves::Of(other) => other,
-    }
 }

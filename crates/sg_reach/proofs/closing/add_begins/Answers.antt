@@ -9,10 +9,10 @@ use Rattle.sg_reach.proofs.closing.add_begins.Goals.{else-declares-via-then-decl
 
 pub returns-else-declares : goal.returns-else-declares
 returns-else-declares c = adds_none (Begins c.args.iface.now c.args.made) c.args.found.now (λ q is. elim c.else-declares.branch [
-    | else-declares-via-then-declares+else-is_creation w ↦
-        let no : false ≡ true = sym w.if-is_creation.false ∙ w.is_creation.ensures ∙ ap (λ f. f.creation) c.fun-fun.ensures ∙ is.creation in cc no
-    | else-declares-via-else-declares w ↦ let no : false ≡ true = sym w.if-declares.false ∙ c.declares.ensures ∙ is.declared in cc no
-  ])
+  | else-declares-via-then-declares+else-is_creation w ↦
+      let no : false ≡ true = sym w.if-is_creation.false ∙ w.is_creation.ensures ∙ ap (λ f. f.creation) c.fun-fun.ensures ∙ is.creation in cc no
+  | else-declares-via-else-declares w ↦ let no : false ≡ true = sym w.if-declares.false ∙ c.declares.ensures ∙ is.declared in cc no
+])
 
 pub returns-in_ok-add_led : goal.returns-in_ok-add_led
 returns-in_ok-add_led c =

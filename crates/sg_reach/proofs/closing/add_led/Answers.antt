@@ -1,5 +1,5 @@
 -- Mask by mask.
-use Rattle.std.proofs.Common.{◌≡◌, ◌+◌, ◌<◌, ◌≤◌, ◌^◌, ◌∙◌, sym, subst, map, arith}
+use Rattle.std.proofs.Common.{◌+◌, ◌<◌, ◌^◌, ◌∙◌, sym, subst, map, arith}
 use Rattle.sg_reach.specs.Places.{AddsJust}
 use Rattle.sg_reach.proofs.Leading.{Below, below_none, below_more, below_same, below_all}
 use Rattle.sg_reach.proofs.closing.add_led.Goals as goal

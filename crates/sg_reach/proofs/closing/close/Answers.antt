@@ -1,5 +1,5 @@
 -- Place by place.
-use Rattle.std.proofs.Common.{◌≡◌, ◌≤◌, Some, None, length, sym, ◌∙◌, ap, arith}
+use Rattle.std.proofs.Common.{◌≡◌, Some, sym}
 use Rattle.std.specs.Prelude.{slice_get}
 use Rattle.sg_reach.specs.Places.{IsNext}
 use Rattle.sg_reach.proofs.Adding.{adds_keeps}
