@@ -1,19 +1,18 @@
 -- Tests of tokens and what they say.
-use Rattle.std.proofs.Common.{◌≡◌, ℕ, ◌==◌, ◌&&◌, ◌||◌, Bool, true, false, not, if◌then◌else◌, List, [], ◌∷◌, ◌++◌, refl, sym, ap, subst, ◌∙◌, nat_eq, arith}
+use Rattle.std.proofs.Common.{◌≡◌, ℕ, ◌==◌, ◌&&◌, ◌||◌, Bool, true, false, not, if◌then◌else◌, List, [], ◌∷◌, refl, sym, ap, ◌∙◌, nat_eq}
 use Rattle.std.specs.Prelude.{None, Some}
 use Rattle.std.specs.declared.option.Option.{Option}
-use Rattle.std.specs.List.{list_any, list_all}
+use Rattle.std.specs.List.{list_all}
 use Rattle.std.specs.Cmp.Lexicographic.{pointwise, bytes_decides}
 use Rattle.std.proofs.lemmas.Bool.{eq-eqb, eqb-true}
 use Rattle.sg_lex.specs.declared.token.TokenKind.{TokenKind}
 use Rattle.sg_lex.specs.declared.token.TokenKind.TheVariants.{Word, Number, Text, Mark}
 use Rattle.sg_lex.specs.Lexeme.{Lexeme}
 use Rattle.sg_grammar.specs.declared.words.Sort.{Sort}
-use Rattle.sg_grammar.specs.declared.words.Sort.TheVariants.{Name, One, Two, Form}
+use Rattle.sg_grammar.specs.declared.words.Sort.TheVariants.{Name}
 use Rattle.sg_grammar.specs.Named.{Named}
-use Rattle.sg_grammar.specs.Words.{is_in, is_of, one_words, two_words, form_words, reserved_words}
+use Rattle.sg_grammar.specs.Words.{is_in, is_of, reserved_words}
 use Rattle.sg_grammar.specs.Pieces.{Piece, word, mark, name, IsPiece}
-use Rattle.sg_grammar.specs.Sentence.{star, comma, close_bracket}
 use Rattle.sg_grammar.specs.States.{is_word, is_mark, has_sort, fits, named_by}
 
 -- ---- tests
@@ -21,6 +20,12 @@ use Rattle.sg_grammar.specs.States.{is_word, is_mark, has_sort, fits, named_by}
 pub by_test : {X : Type 0} (b : Bool) → (b ≡ true → X) → (b ≡ false → X) → X
 by_test true hit miss = hit refl
 by_test false hit miss = miss refl
+
+pub some_is : {X : Type 0} (x y : X) → Some x ≡ Some y → x ≡ y
+some_is x y e = cc
+
+pub none_is : {X : Type 0} (Y : Type 0) (x : X) (o : Option X) → o ≡ None → o ≡ Some x → Y
+none_is Y x o e g = absurd (let f = sym e ∙ g in cc)
 
 pub if_then : {X : Type 0} (b : Bool) (x y : X) → b ≡ true → (if b then x else y) ≡ x
 if_then true x y h = refl

@@ -1,8 +1,8 @@
 -- Statements: from the state before one, and as pieces.
-use Rattle.std.proofs.Common.{◌≡◌, ◌≢◌, ℕ, ◌&&◌, Bool, true, false, if◌then◌else◌, List, [], ◌∷◌, ◌++◌, map, refl, sym, ap, subst, ◌∙◌, nat_eq, append_assoc}
+use Rattle.std.proofs.Common.{◌≡◌, ◌≢◌, ℕ, true, if◌then◌else◌, List, [], ◌∷◌, ◌++◌, refl, sym, ap, subst, ◌∙◌, append_assoc}
 use Rattle.std.specs.Prelude.{None, Some, All, codes}
 use Rattle.std.specs.declared.option.Option.{Option}
-use Rattle.std.proofs.lemmas.List.Elements.{All-cons, All-head, All-tail, All-nil}
+use Rattle.std.proofs.lemmas.List.Elements.{All-cons, All-head, All-tail}
 use Rattle.sg_lex.specs.Lexeme.{Lexeme}
 use Rattle.sg_grammar.specs.declared.tree.Statement.{Statement}
 use Rattle.sg_grammar.specs.declared.tree.Statement.TheVariants.{One, Two, Proto}
@@ -14,12 +14,12 @@ use Rattle.sg_grammar.specs.declared.tree.Tree.{Tree}
 use Rattle.sg_grammar.specs.declared.words.Sort.TheVariants.{Name, One as one_word, Two as two_word}
 use Rattle.sg_grammar.specs.Named.{Named}
 use Rattle.sg_grammar.specs.Words.{one_words, two_words}
-use Rattle.sg_grammar.specs.Pieces.{Piece, word, mark, name, IsPiece}
+use Rattle.sg_grammar.specs.Pieces.{Piece, word, name, IsPiece}
 use Rattle.sg_grammar.specs.Sentence.{comma, semicolon, open_bracket, close_bracket, type_pieces, param_pieces, more_params, params_pieces, returned_pieces, ret_pieces, statement_pieces, IsType, IsRet, IsStatement}
-use Rattle.sg_grammar.specs.States.{State, due, want, names, listed, has_sort, fits, named_by, type_of, declared, param, one_rest, two_rest, proto_rest, returned_behind, returned_rest, plain_rest, statement_behind}
-use Rattle.sg_grammar.proofs.Basics.{by_test, if_then, if_else, has_sort-is, is-has_sort, named, fits-is, is-fits, sort-has_sort, sort-fits_word, word-has_sort, word-fits_word, apart, name_apart}
-use Rattle.sg_grammar.proofs.Rests.{Off, Rest, TypeRest, Whole, whole_of, Closed, closed-star, closed-sort}
-use Rattle.sg_grammar.proofs.Parts.{declared_back, declared_forth, param_back, param_forth, type_forth, Ends, ends, listed_closed}
+use Rattle.sg_grammar.specs.States.{State, due, want, has_sort, fits, named_by, type_of, declared, param, one_rest, two_rest, proto_rest, returned_behind, returned_rest, plain_rest, statement_behind}
+use Rattle.sg_grammar.proofs.Basics.{some_is, none_is, by_test, if_then, if_else, has_sort-is, is-has_sort, named, fits-is, is-fits, sort-has_sort, sort-fits_word, word-has_sort, word-fits_word, apart, name_apart}
+use Rattle.sg_grammar.proofs.Rests.{Rest, Whole, whole_of, closed-star, closed-sort}
+use Rattle.sg_grammar.proofs.Parts.{declared_back, declared_forth, param_back, param_forth, type_forth, ends, listed_closed}
 
 pub head_is : {X : Type 0} {x y : X} {xs ys : List X} → x ∷ xs ≡ y ∷ ys → x ≡ y
 head_is e = cc
@@ -44,13 +44,15 @@ proto_back go ret n tree ps r =
     let more = p.rest in
     let last = more.rest in
     record {
-      params = p.value ∷ more.more; behind = last.behind;
+      params = p.value ∷ more.more;
+      behind = last.behind;
       all = r.all ∙ ap (λ v. open_bracket ∷ v)
           (p.all ∙ ap (λ v. param_pieces p.value ++ v) (more.all ∙ ap (λ v. more_params more.more ++ close_bracket ∷ v) last.all)
           ∙ sym (append_assoc (param_pieces p.value) (more_params more.more) (close_bracket ∷ semicolon ∷ last.behind)));
       full = λ e. cc;
       types = All-cons (λ q. IsType q.ty) p.value more.more p.is_type more.types;
-      rest = last.rest }
+      rest = last.rest;
+    }
 
 proto_forth : (go : Statement → State) (ret : Ret) (n : Named) (tree : Tree) (params : List Param) (qs : List Piece)
     → params ≢ [] → All (λ p. IsType p.ty) params → Rest (go (Proto ret n params)) qs tree
@@ -60,12 +62,18 @@ proto_forth go ret n tree (p ∷ more) qs full types r =
     let end : List Piece = close_bracket ∷ semicolon ∷ qs in
     let k = λ (params : List Param). due semicolon (go (Proto ret n params)) in
     let whole = param_forth k [] tree p (more_params more ++ end) (All-head (λ q. IsType q.ty) p more types) (listed_closed more (semicolon ∷ qs))
-        (record {
-          more = more; behind = semicolon ∷ qs; all = refl; types = All-tail (λ q. IsType q.ty) p more types;
-          rest = record { behind = qs; all = refl; rest = r } }) in
+    (record {
+      more = more;
+      behind = semicolon ∷ qs;
+      all = refl;
+      types = All-tail (λ q. IsType q.ty) p more types;
+      rest = record { behind = qs; all = refl; rest = r };
+    }) in
     record {
-      behind = params_pieces (p ∷ more) ++ end; all = refl;
-      rest = subst (λ v. Rest (param k []) v tree) (sym (append_assoc (param_pieces p) (more_params more) end)) whole }
+      behind = params_pieces (p ∷ more) ++ end;
+      all = refl;
+      rest = subst (λ v. Rest (param k []) v tree) (sym (append_assoc (param_pieces p) (more_params more) end)) whole;
+    }
 
 -- the pieces of a prototype with what follows them
 proto_all : (ret : Ret) (n : Named) (params : List Param) (qs : List Piece)
@@ -90,22 +98,28 @@ one_back : (go : Statement → State) (tree : Tree) (token : Lexeme) (ps : List 
 one_back go tree token ps h r =
     let fun = r.rest in let close = fun.rest in let end = close.rest in
     record {
-      piece = name one_word (named_by token); statement = One (named_by token) fun.value; behind = end.behind;
+      piece = name one_word (named_by token);
+      statement = One (named_by token) fun.value;
+      behind = end.behind;
       is = has_sort-is one_word token h;
       all = ap (λ v. name one_word (named_by token) ∷ v) (r.all ∙ ap (λ v. open_bracket ∷ v) (fun.all ∙ ap (λ v. name Name fun.value ∷ v) (close.all ∙ ap (λ v. close_bracket ∷ v) end.all)));
       is_statement = tt;
-      rest = end.rest }
+      rest = end.rest;
+    }
 
 two_back : (go : Statement → State) (tree : Tree) (token : Lexeme) (ps : List Piece) → has_sort two_word token ≡ true → Rest (two_rest go (named_by token)) ps tree → Spelled go tree token ps
 two_back go tree token ps h r =
     let first = r.rest in let sep = first.rest in let second = sep.rest in let close = second.rest in let end = close.rest in
     record {
-      piece = name two_word (named_by token); statement = Two (named_by token) first.value second.value; behind = end.behind;
+      piece = name two_word (named_by token);
+      statement = Two (named_by token) first.value second.value;
+      behind = end.behind;
       is = has_sort-is two_word token h;
       all = ap (λ v. name two_word (named_by token) ∷ v) (r.all ∙ ap (λ v. open_bracket ∷ v) (first.all ∙ ap (λ v. name Name first.value ∷ v)
           (sep.all ∙ ap (λ v. comma ∷ v) (second.all ∙ ap (λ v. name Name second.value ∷ v) (close.all ∙ ap (λ v. close_bracket ∷ v) end.all)))));
       is_statement = tt;
-      rest = end.rest }
+      rest = end.rest;
+    }
 
 plain_back : (go : Statement → State) (tree : Tree) (token : Lexeme) (ps : List Piece) → has_sort Name token ≡ true → Rest (plain_rest go (named_by token)) ps tree → Spelled go tree token ps
 plain_back go tree token ps h r =
@@ -114,11 +128,14 @@ plain_back go tree token ps h r =
     let d = declared_back then_proto tree w.front w.last w.count (name Name (named_by token) ∷ ps) w.behind w.all w.rest in
     let p = proto_back go (Plain d.ty) d.value tree d.behind d.rest in
     record {
-      piece = name Name (named_by token); statement = Proto (Plain d.ty) d.value p.params; behind = p.behind;
+      piece = name Name (named_by token);
+      statement = Proto (Plain d.ty) d.value p.params;
+      behind = p.behind;
       is = has_sort-is Name token h;
       all = d.all ∙ ap (λ v. type_pieces d.ty ++ name Name d.value ∷ v) p.all ∙ proto_all (Plain d.ty) d.value p.params p.behind;
       is_statement = (d.is_type, p.full, p.types);
-      rest = p.rest }
+      rest = p.rest;
+    }
 
 returned_back : (go : Statement → State) (tree : Tree) (token : Lexeme) (ps : List Piece) (what : List ℕ) (make : TypeName → Named → Ret)
     → ((ty : TypeName) (field : Named) → ret_pieces (make ty field) ≡ returned_pieces what ty field)
@@ -132,25 +149,22 @@ returned_back go tree token ps what make pieces is_ret h r =
     let p = proto_back go (make ty field.value) n.value tree n.behind n.rest in
     let tail = name Name n.value ∷ open_bracket ∷ (params_pieces p.params ++ close_bracket ∷ semicolon ∷ p.behind) in
     record {
-      piece = word what; statement = Proto (make ty field.value) n.value p.params; behind = p.behind;
+      piece = word what;
+      statement = Proto (make ty field.value) n.value p.params;
+      behind = p.behind;
       is = fits-is (word what) token h;
       all = ap (λ v. word what ∷ v) (r.all ∙ ap (λ v. open_bracket ∷ v) (first.all ∙ w.all ∙ ap (λ v. type_pieces ty ++ v)
-              (sep.all ∙ ap (λ v. comma ∷ v) (field.all ∙ ap (λ v. name Name field.value ∷ v) (close.all ∙ ap (λ v. close_bracket ∷ v) (n.all ∙ ap (λ v. name Name n.value ∷ v) p.all))))
-              ∙ sym (append_assoc (type_pieces ty) (comma ∷ name Name field.value ∷ close_bracket ∷ []) tail)))
+          (sep.all ∙ ap (λ v. comma ∷ v) (field.all ∙ ap (λ v. name Name field.value ∷ v) (close.all ∙ ap (λ v. close_bracket ∷ v) (n.all ∙ ap (λ v. name Name n.value ∷ v) p.all))))
+          ∙ sym (append_assoc (type_pieces ty) (comma ∷ name Name field.value ∷ close_bracket ∷ []) tail)))
           ∙ ap (λ v. v ++ tail) (sym (pieces ty field.value))
           ∙ proto_all (make ty field.value) n.value p.params p.behind;
       is_statement = (is_ret ty field.value (full w.front w.last), p.full, p.types);
-      rest = p.rest }
+      rest = p.rest;
+    }
   where
     full : (front : List Named) (last : Named) → front ++ last ∷ [] ≢ []
     full [] last e = cc
     full (x ∷ xs) last e = cc
-
-some_is : {X : Type 0} (x y : X) → Some x ≡ Some y → x ≡ y
-some_is x y e = cc
-
-none_is : {X : Type 0} (Y : Type 0) (x : X) (o : Option X) → o ≡ None → o ≡ Some x → Y
-none_is Y x o e g = absurd (let f = sym e ∙ g in cc)
 
 pub statement_back : (go : Statement → State) (tree : Tree) (token : Lexeme) (next : State) (ps : List Piece)
     → statement_behind go token ≡ Some next → Rest next ps tree → Spelled go tree token ps
@@ -163,16 +177,16 @@ statement_back go tree token next ps e r =
     (λ h2. let e2 = sym (if_else (has_sort two_word token) _ _ h2) ∙ e1 in
     by_test (fits (word (codes "desc_data_retval")) token)
     (λ h. returned_back go tree token ps (codes "desc_data_retval") Set (λ ty field. refl) (λ ty field t. t) h
-        (along (returned_rest go Set) (sym (if_then (fits (word (codes "desc_data_retval")) token) _ _ h) ∙ e2)))
+    (along (returned_rest go Set) (sym (if_then (fits (word (codes "desc_data_retval")) token) _ _ h) ∙ e2)))
     (λ h3. let e3 = sym (if_else (fits (word (codes "desc_data_retval")) token) _ _ h3) ∙ e2 in
     by_test (fits (word (codes "desc_data_retval_add")) token)
     (λ h. returned_back go tree token ps (codes "desc_data_retval_add") Add (λ ty field. refl) (λ ty field t. t) h
-        (along (returned_rest go Add) (sym (if_then (fits (word (codes "desc_data_retval_add")) token) _ _ h) ∙ e3)))
+    (along (returned_rest go Add) (sym (if_then (fits (word (codes "desc_data_retval_add")) token) _ _ h) ∙ e3)))
     (λ h4. let e4 = sym (if_else (fits (word (codes "desc_data_retval_add")) token) _ _ h4) ∙ e3 in
     by_test (has_sort Name token)
     (λ h. plain_back go tree token ps h (along (plain_rest go (named_by token)) (sym (if_then (has_sort Name token) _ _ h) ∙ e4)))
     (λ h5. none_is (Spelled go tree token ps) next (if has_sort Name token then Some (plain_rest go (named_by token)) else None)
-        (if_else (has_sort Name token) (Some (plain_rest go (named_by token))) None h5) e4)))))
+    (if_else (has_sort Name token) (Some (plain_rest go (named_by token))) None h5) e4)))))
   where
     along : (s : State) → Some s ≡ Some next → Rest s ps tree
     along s g = subst (λ v. Rest v ps tree) (sym (some_is s next g)) r
@@ -189,28 +203,57 @@ one_forth : (go : Statement → State) (tree : Tree) (token : Lexeme) (w fun : N
     → IsPiece token (name one_word w) → Rest (go (One w fun)) qs tree
     → Follows (statement_behind go token) (open_bracket ∷ name Name fun ∷ close_bracket ∷ semicolon ∷ qs) tree
 one_forth go tree token w fun qs is r = record {
-    next = one_rest go (named_by token);
-    is = if_then (has_sort one_word token) _ _ (is-has_sort one_word token w is);
-    rest = subst (λ v. Rest (one_rest go v) (open_bracket ∷ name Name fun ∷ close_bracket ∷ semicolon ∷ qs) tree) (sym (named one_word token w is))
-        (record { behind = name Name fun ∷ close_bracket ∷ semicolon ∷ qs; all = refl;
-          rest = record { value = fun; behind = close_bracket ∷ semicolon ∷ qs; all = refl;
-            rest = record { behind = semicolon ∷ qs; all = refl;
-              rest = record { behind = qs; all = refl; rest = r } } } }) }
+  next = one_rest go (named_by token);
+  is = if_then (has_sort one_word token) _ _ (is-has_sort one_word token w is);
+  rest = subst (λ v. Rest (one_rest go v) (open_bracket ∷ name Name fun ∷ close_bracket ∷ semicolon ∷ qs) tree) (sym (named one_word token w is))
+      (record {
+        behind = name Name fun ∷ close_bracket ∷ semicolon ∷ qs;
+        all = refl;
+        rest = record {
+          value = fun;
+          behind = close_bracket ∷ semicolon ∷ qs;
+          all = refl;
+          rest = record {
+            behind = semicolon ∷ qs;
+            all = refl;
+            rest = record { behind = qs; all = refl; rest = r };
+          };
+        };
+      });
+}
 
 two_forth : (go : Statement → State) (tree : Tree) (token : Lexeme) (w first second : Named) (qs : List Piece)
     → IsPiece token (name two_word w) → Rest (go (Two w first second)) qs tree
     → Follows (statement_behind go token) (open_bracket ∷ name Name first ∷ comma ∷ name Name second ∷ close_bracket ∷ semicolon ∷ qs) tree
 two_forth go tree token w first second qs is r = record {
-    next = two_rest go (named_by token);
-    is = if_else (has_sort one_word token) _ _ (sort-has_sort two_word one_word token w is (apart two_words one_words w.bytes refl is.3))
-        ∙ if_then (has_sort two_word token) _ _ (is-has_sort two_word token w is);
-    rest = subst (λ v. Rest (two_rest go v) (open_bracket ∷ name Name first ∷ comma ∷ name Name second ∷ close_bracket ∷ semicolon ∷ qs) tree) (sym (named two_word token w is))
-        (record { behind = name Name first ∷ comma ∷ name Name second ∷ close_bracket ∷ semicolon ∷ qs; all = refl;
-          rest = record { value = first; behind = comma ∷ name Name second ∷ close_bracket ∷ semicolon ∷ qs; all = refl;
-            rest = record { behind = name Name second ∷ close_bracket ∷ semicolon ∷ qs; all = refl;
-              rest = record { value = second; behind = close_bracket ∷ semicolon ∷ qs; all = refl;
-                rest = record { behind = semicolon ∷ qs; all = refl;
-                  rest = record { behind = qs; all = refl; rest = r } } } } } }) }
+  next = two_rest go (named_by token);
+  is = if_else (has_sort one_word token) _ _ (sort-has_sort two_word one_word token w is (apart two_words one_words w.bytes refl is.3))
+      ∙ if_then (has_sort two_word token) _ _ (is-has_sort two_word token w is);
+  rest = subst (λ v. Rest (two_rest go v) (open_bracket ∷ name Name first ∷ comma ∷ name Name second ∷ close_bracket ∷ semicolon ∷ qs) tree) (sym (named two_word token w is))
+      (record {
+        behind = name Name first ∷ comma ∷ name Name second ∷ close_bracket ∷ semicolon ∷ qs;
+        all = refl;
+        rest = record {
+          value = first;
+          behind = comma ∷ name Name second ∷ close_bracket ∷ semicolon ∷ qs;
+          all = refl;
+          rest = record {
+            behind = name Name second ∷ close_bracket ∷ semicolon ∷ qs;
+            all = refl;
+            rest = record {
+              value = second;
+              behind = close_bracket ∷ semicolon ∷ qs;
+              all = refl;
+              rest = record {
+                behind = semicolon ∷ qs;
+                all = refl;
+                rest = record { behind = qs; all = refl; rest = r };
+              };
+            };
+          };
+        };
+      });
+}
 
 -- the first token of a plain return is none of the words before it
 plain_is : (go : Statement → State) (token : Lexeme) (n : Named) → IsPiece token (name Name n) → statement_behind go token ≡ Some (plain_rest go (named_by token))
@@ -225,13 +268,13 @@ plain_is go token n is =
 typed_forth : (go : Statement → State) (tree : Tree) (ty : TypeName) (n : Named) (params : List Param) (qs : List Piece)
     → IsType ty → params ≢ [] → All (λ p. IsType p.ty) params → Rest (go (Proto (Plain ty) n params)) qs tree
     → Rest (want Name (λ first. plain_rest go first))
-        (type_pieces ty ++ (name Name n ∷ open_bracket ∷ (params_pieces params ++ close_bracket ∷ semicolon ∷ qs))) tree
+    (type_pieces ty ++ (name Name n ∷ open_bracket ∷ (params_pieces params ++ close_bracket ∷ semicolon ∷ qs))) tree
 typed_forth go tree ty n params qs is_type full types r =
     let k = λ (ty : TypeName) (n : Named). proto_rest go (Plain ty) n in
     let tail : List Piece = open_bracket ∷ (params_pieces params ++ close_bracket ∷ semicolon ∷ qs) in
     type_forth (declared k) tree ty (name Name n ∷ tail) is_type
-        (declared_forth k tree (λ f l c rs. Rest (declared k f l c) rs tree) (λ f l c rs off d. d) ty n tail is_type refl
-            (proto_forth go (Plain ty) n tree params qs full types r))
+    (declared_forth k tree (λ f l c rs. Rest (declared k f l c) rs tree) (λ f l c rs off d. d) ty n tail is_type refl
+    (proto_forth go (Plain ty) n tree params qs full types r))
 
 plain_forth : (go : Statement → State) (tree : Tree) (token : Lexeme) (p : Piece) (ps : List Piece) (ty : TypeName) (n : Named) (params : List Param) (qs : List Piece)
     → IsPiece token p → p ∷ ps ≡ statement_pieces (Proto (Plain ty) n params) ++ qs
@@ -246,7 +289,8 @@ plain_forth go tree token p ps ty n params qs is all is_type full types r =
     record {
       next = plain_rest go (named_by token);
       is = plain_is go token w.value is1;
-      rest = subst (λ v. Rest (plain_rest go v) ps tree) (sym (named Name token w.value is1)) (subst (λ v. Rest (plain_rest go w.value) v tree) e1 w.rest) }
+      rest = subst (λ v. Rest (plain_rest go v) ps tree) (sym (named Name token w.value is1)) (subst (λ v. Rest (plain_rest go w.value) v tree) e1 w.rest);
+    }
 
 returned_forth : (go : Statement → State) (tree : Tree) (what : List ℕ) (make : TypeName → Named → Ret) (ty : TypeName) (field n : Named) (params : List Param) (qs : List Piece)
     → IsType ty → params ≢ [] → All (λ q. IsType q.ty) params → Rest (go (Proto (make ty field) n params)) qs tree
@@ -257,22 +301,40 @@ returned_forth go tree what make ty field n params qs is_type full types r =
     let t = ends ty.names is_type in
     let same : ty ≡ type_of t.front t.last ty.stars = ap (λ v. record { names = v; stars = ty.stars }) t.all in
     let w : Whole (λ f l c rs. Rest (returned_behind go make f l c) rs tree) (type_pieces ty ++ behind) = record {
-        front = t.front; last = t.last; count = ty.stars; behind = behind;
-        all = ap (λ v. type_pieces v ++ behind) same;
-        off_star = closed-star behind refl;
-        off_name = λ _. closed-sort Name behind refl;
-        rest = record { behind = name Name field ∷ close_bracket ∷ name Name n ∷ tail; all = refl;
-          rest = record { value = field; behind = close_bracket ∷ name Name n ∷ tail; all = refl;
-            rest = record { behind = name Name n ∷ tail; all = refl;
-              rest = record { value = n; behind = tail; all = refl;
-                rest = subst (λ v. Rest (proto_rest go (make v field) n) tail tree) same (proto_forth go (make ty field) n tree params qs full types r) } } } } } in
+      front = t.front;
+      last = t.last;
+      count = ty.stars;
+      behind = behind;
+      all = ap (λ v. type_pieces v ++ behind) same;
+      off_star = closed-star behind refl;
+      off_name = λ _. closed-sort Name behind refl;
+      rest = record {
+        behind = name Name field ∷ close_bracket ∷ name Name n ∷ tail;
+        all = refl;
+        rest = record {
+          value = field;
+          behind = close_bracket ∷ name Name n ∷ tail;
+          all = refl;
+          rest = record {
+            behind = name Name n ∷ tail;
+            all = refl;
+            rest = record {
+              value = n;
+              behind = tail;
+              all = refl;
+              rest = subst (λ v. Rest (proto_rest go (make v field) n) tail tree) same (proto_forth go (make ty field) n tree params qs full types r);
+            };
+          };
+        };
+      };
+    } in
     record { behind = type_pieces ty ++ behind; all = refl; rest = type_forth (returned_behind go make) tree ty behind is_type w }
 
 -- the pieces of a return that sets a field, with what follows them
 returned_all : (what : List ℕ) (make : TypeName → Named → Ret) (ty : TypeName) (field n : Named) (params : List Param) (qs : List Piece)
     → ret_pieces (make ty field) ≡ returned_pieces what ty field
     → statement_pieces (Proto (make ty field) n params) ++ qs
-        ≡ word what ∷ open_bracket ∷ (type_pieces ty ++ (comma ∷ name Name field ∷ close_bracket ∷ name Name n ∷ open_bracket ∷ (params_pieces params ++ close_bracket ∷ semicolon ∷ qs)))
+    ≡ word what ∷ open_bracket ∷ (type_pieces ty ++ (comma ∷ name Name field ∷ close_bracket ∷ name Name n ∷ open_bracket ∷ (params_pieces params ++ close_bracket ∷ semicolon ∷ qs)))
 returned_all what make ty field n params qs pieces =
     let tail : List Piece = name Name n ∷ open_bracket ∷ (params_pieces params ++ close_bracket ∷ semicolon ∷ qs) in
     sym (proto_all (make ty field) n params qs) ∙ ap (λ v. v ++ tail) pieces

@@ -1,5 +1,5 @@
 -- What is read on a text is the one answer that a parser may give, want of memory aside.
-use Rattle.std.proofs.Common.{◌≡◌, ◌≢◌, ℕ, ◌⊎◌, inl, inr, List, [], ◌∷◌, ◌++◌, map, refl, sym, ap, subst, ◌∙◌, append_assoc}
+use Rattle.std.proofs.Common.{◌≡◌, ◌≢◌, ℕ, inl, inr, List, [], ◌∷◌, ◌++◌, refl, sym, ap, subst, ◌∙◌, append_assoc}
 use Rattle.std.specs.Prelude.{None, Some, Ok, Err}
 use Rattle.std.specs.declared.option.Option.{Option}
 use Rattle.std.specs.declared.result.Result.{Result}
@@ -11,8 +11,8 @@ use Rattle.sg_lex.specs.Tokens.{Answer}
 use Rattle.sg_grammar.specs.declared.error.ParseError.{ParseError}
 use Rattle.sg_grammar.specs.declared.error.ParseError.TheVariants.{NoMemory, Lex, Syntax}
 use Rattle.sg_grammar.specs.declared.tree.Tree.{Tree}
-use Rattle.sg_grammar.specs.Sentence.{IsSentence, Begins}
-use Rattle.sg_grammar.specs.Parses.{answered, Accepts, FailsAtByte, FailsAtToken, FailsAtEnd, ParsesTo}
+use Rattle.sg_grammar.specs.Sentence.{IsSentence}
+use Rattle.sg_grammar.specs.Parses.{answered, FailsAtToken, FailsAtEnd, ParsesTo}
 use Rattle.sg_grammar.specs.States.{State, start, step, tree_at, ended, read_from}
 use Rattle.sg_grammar.proofs.Runs.{Runs, runs-append, one_end, reached, sentence_of, begins_of, begun}
 
@@ -59,35 +59,46 @@ cut s end (x ∷ xs) ys h =
 answer_at_end : (length : ℕ) (whole : List Answer) (s : State) (before : List Lexeme) → whole ≡ answered before → Runs start before s
     → (o : Option Tree) → tree_at s ≡ o → ParsesTo whole length (ended length o)
 answer_at_end length whole s before all h None e = inr (record {
-    tokens = before; all = all; place_of = refl; begin = begins_of before s h;
-    none = λ tree is.
-        let r = reached before tree is in
-        let same : r.end ≡ s = one_end start r.end s before r.runs h in
-        let f = sym e ∙ ap tree_at (sym same) ∙ r.is in cc })
+  tokens = before;
+  all = all;
+  place_of = refl;
+  begin = begins_of before s h;
+  none = λ tree is.
+      let r = reached before tree is in
+      let same : r.end ≡ s = one_end start r.end s before r.runs h in
+      let f = sym e ∙ ap tree_at (sym same) ∙ r.is in cc;
+})
 answer_at_end length whole s before all h (Some tree) e = record { tokens = before; all = all; sentence = sentence_of before tree s h e }
 
 answers_from : (length : ℕ) (whole : List Answer) (s : State) (before : List Lexeme) (behind : List Answer) → whole ≡ answered before ++ behind → Runs start before s
     → ParsesTo whole length (read_from length s behind)
 answers_from length whole s before [] all h =
     subst (ParsesTo whole length) (sym (read_nothing length s))
-        (answer_at_end length whole s before (all ∙ append-nil (answered before)) h (tree_at s) refl)
+    (answer_at_end length whole s before (all ∙ append-nil (answered before)) h (tree_at s) refl)
 answers_from length whole s before (Err fault ∷ behind) all h =
     subst (ParsesTo whole length) (sym (read_fault length s fault behind))
-        (record { tokens = before; behind = behind; all = all; begin = begins_of before s h })
+    (record { tokens = before; behind = behind; all = all; begin = begins_of before s h })
 answers_from length whole s before (Ok token ∷ behind) all h =
     by (λ next e. answers_from length whole next (before ++ token ∷ []) behind
-        (all ∙ sym (append_assoc (answered before) (Ok token ∷ []) behind) ∙ ap (λ v. v ++ behind) (sym (answered-append before (token ∷ []))))
-        (runs-append start s next before (token ∷ []) h (next, e, refl)))
-        (step s token) refl
+    (all ∙ sym (append_assoc (answered before) (Ok token ∷ []) behind) ∙ ap (λ v. v ++ behind) (sym (answered-append before (token ∷ []))))
+    (runs-append start s next before (token ∷ []) h (next, e, refl)))
+    (step s token) refl
   where
     by : ((next : State) → step s token ≡ Some next → ParsesTo whole length (read_from length next behind)) → (o : Option State) → step s token ≡ o → ParsesTo whole length (read_from length s (Ok token ∷ behind))
     by go None e = subst (ParsesTo whole length) (sym (read_stuck length s token behind e))
-        (inl (record { tokens = before; token = token; behind = behind; all = all; place_of = refl; begin = begins_of before s h;
+        (inl (record {
+          tokens = before;
+          token = token;
+          behind = behind;
+          all = all;
+          place_of = refl;
+          begin = begins_of before s h;
           ends = λ more.
-            let b = begun (before ++ token ∷ []) more in
-            let c = cut start b.end before (token ∷ []) b.runs in
-            let same : c.mid ≡ s = one_end start c.mid s before c.first h in
-            let f = sym e ∙ ap (λ v. step v token) (sym same) ∙ c.second.1 in cc }))
+              let b = begun (before ++ token ∷ []) more in
+              let c = cut start b.end before (token ∷ []) b.runs in
+              let same : c.mid ≡ s = one_end start c.mid s before c.first h in
+              let f = sym e ∙ ap (λ v. step v token) (sym same) ∙ c.second.1 in cc;
+        }))
     by go (Some next) e = subst (ParsesTo whole length) (sym (read_token length s next token behind e)) (go next e)
 
 pub may_answer : (length : ℕ) (answers : List Answer) → ParsesTo answers length (read_from length start answers)

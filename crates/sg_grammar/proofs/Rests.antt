@@ -1,25 +1,20 @@
 -- From each state, what the rest of a sentence is.
-use Rattle.std.proofs.Common.{◌≡◌, ◌≢◌, ℕ, zero, suc, ◌+◌, ◌==◌, ◌&&◌, ◌⊎◌, inl, inr, Bool, true, false, not, if◌then◌else◌, List, [], ◌∷◌, ◌++◌, length, map, refl, sym, ap, subst, ◌∙◌, nat_eq, append_assoc, arith}
-use Rattle.std.specs.Prelude.{None, Some, replicate, All}
-use Rattle.std.specs.declared.option.Option.{Option}
+use Rattle.std.proofs.Common.{◌≡◌, ℕ, ◌+◌, ◌⊎◌, Bool, false, List, [], ◌∷◌, ◌++◌, map, refl, sym, ap, subst, ◌∙◌, nat_eq, append_assoc}
+use Rattle.std.specs.Prelude.{replicate, All}
 use Rattle.std.specs.List.{flat_map}
 use Rattle.std.specs.Cmp.Lexicographic.{pointwise}
-use Rattle.std.proofs.lemmas.List.{append-nil, map-append}
-use Rattle.std.proofs.lemmas.Bool.{eqb-true, eq-eqb}
-use Rattle.sg_lex.specs.declared.token.TokenKind.TheVariants.{Word, Mark}
 use Rattle.sg_lex.specs.Lexeme.{Lexeme}
 use Rattle.sg_grammar.specs.declared.tree.Statement.{Statement}
-use Rattle.sg_grammar.specs.declared.tree.TypeName.{TypeName}
 use Rattle.sg_grammar.specs.declared.tree.Param.{Param}
 use Rattle.sg_grammar.specs.declared.tree.Tree.{Tree}
 use Rattle.sg_grammar.specs.declared.words.Sort.{Sort}
 use Rattle.sg_grammar.specs.declared.words.Sort.TheVariants.{Name, Form}
 use Rattle.sg_grammar.specs.Named.{Named}
-use Rattle.sg_grammar.specs.Words.{is_of, form_words}
+use Rattle.sg_grammar.specs.Words.{form_words}
 use Rattle.sg_grammar.specs.Pieces.{Piece, word, mark, name, IsPiece}
-use Rattle.sg_grammar.specs.Sentence.{star, comma, open_bracket, close_bracket, type_pieces, param_pieces, form_pieces, more_params, statement_pieces, IsType, IsStatement}
-use Rattle.sg_grammar.specs.States.{State, dead, due, want, names, stars, either, listed, statements, has_sort, fits, type_of, declared, param_behind, with_param, param}
-use Rattle.sg_grammar.proofs.Basics.{by_test, if_then, if_else, mark-has_sort, word-fits_mark, mark-fits_mark, sort-has_sort, name_apart, reserved_apart}
+use Rattle.sg_grammar.specs.Sentence.{star, close_bracket, type_pieces, more_params, statement_pieces, IsType, IsStatement}
+use Rattle.sg_grammar.specs.States.{State, dead, due, want, names, stars, either, listed, statements, has_sort, fits, type_of}
+use Rattle.sg_grammar.proofs.Basics.{mark-has_sort, word-fits_mark, mark-fits_mark, sort-has_sort, name_apart, reserved_apart}
 
 -- the test fails at the first of these pieces
 abbrev pub Off : (Lexeme → Bool) → List Piece → Type 0
@@ -122,11 +117,17 @@ whole_of P first ps r =
     let last = last_of first r.more in
     let split : front ++ last ∷ [] ≡ first ∷ r.more = front-last [] first r.more in
     record {
-      front = front; last = last; count = r.count; behind = r.behind;
+      front = front;
+      last = last;
+      count = r.count;
+      behind = r.behind;
       all = ap (λ v. name Name first ∷ v) r.all
           ∙ sym (append_assoc (map (name Name) (first ∷ r.more)) (replicate r.count star) r.behind)
           ∙ ap (λ v. (map (name Name) v ++ replicate r.count star) ++ r.behind) (sym split);
-      off_star = r.off_star; off_name = r.off_name; rest = r.rest }
+      off_star = r.off_star;
+      off_name = r.off_name;
+      rest = r.rest;
+    }
 
 pub type_rest_of : (P : List Named → Named → ℕ → List Piece → Type 0) (first : Named) (ps : List Piece) → Whole P (name Name first ∷ ps) → TypeRest P [] first ps
 type_rest_of P first ps w = by w.front refl
@@ -134,23 +135,33 @@ type_rest_of P first ps w = by w.front refl
     by : (front : List Named) → w.front ≡ front → TypeRest P [] first ps
     by [] e =
         let all : name Name first ∷ ps ≡ name Name w.last ∷ (replicate w.count star ++ w.behind) =
-            w.all ∙ ap (λ v. type_pieces (type_of v w.last w.count) ++ w.behind) e in
+        w.all ∙ ap (λ v. type_pieces (type_of v w.last w.count) ++ w.behind) e in
         let same : first ≡ w.last = cc in
         let rest : ps ≡ replicate w.count star ++ w.behind = cc in
         record {
-          more = []; count = w.count; behind = w.behind; all = rest; off_star = w.off_star; off_name = w.off_name;
-          rest = subst (λ v. P [] v w.count w.behind) (sym same) (subst (λ v. P v w.last w.count w.behind) e w.rest) }
+          more = [];
+          count = w.count;
+          behind = w.behind;
+          all = rest;
+          off_star = w.off_star;
+          off_name = w.off_name;
+          rest = subst (λ v. P [] v w.count w.behind) (sym same) (subst (λ v. P v w.last w.count w.behind) e w.rest);
+        }
     by (x ∷ xs) e =
         let all : name Name first ∷ ps ≡ name Name x ∷ ((map (name Name) (xs ++ w.last ∷ []) ++ replicate w.count star) ++ w.behind) =
-            w.all ∙ ap (λ v. type_pieces (type_of v w.last w.count) ++ w.behind) e in
+        w.all ∙ ap (λ v. type_pieces (type_of v w.last w.count) ++ w.behind) e in
         let same : first ≡ x = cc in
         let rest : ps ≡ (map (name Name) (xs ++ w.last ∷ []) ++ replicate w.count star) ++ w.behind = cc in
         let p1 = subst (λ v. P v w.last w.count w.behind) (e ∙ ap (λ v. v ∷ xs) (sym same) ∙ sym (front-snoc [] first xs w.last)) w.rest in
         record {
-          more = xs ++ w.last ∷ []; count = w.count; behind = w.behind;
+          more = xs ++ w.last ∷ [];
+          count = w.count;
+          behind = w.behind;
           all = rest ∙ append_assoc (map (name Name) (xs ++ w.last ∷ [])) (replicate w.count star) w.behind;
-          off_star = w.off_star; off_name = w.off_name;
-          rest = subst (λ v. P (front_of [] first (xs ++ w.last ∷ [])) v w.count w.behind) (sym (last-snoc first xs w.last)) p1 }
+          off_star = w.off_star;
+          off_name = w.off_name;
+          rest = subst (λ v. P (front_of [] first (xs ++ w.last ∷ [])) v w.count w.behind) (sym (last-snoc first xs w.last)) p1;
+        }
 
 -- ---- what may follow a type
 

@@ -1,22 +1,20 @@
 -- Tokens read one after another, and the sentences that they are.
-use Rattle.std.proofs.Common.{◌≡◌, ◌≢◌, ℕ, zero, suc, ◌+◌, ◌⊎◌, inl, inr, Bool, true, false, List, [], ◌∷◌, ◌++◌, map, refl, sym, ap, subst, ◌∙◌, append_assoc, arith}
-use Rattle.std.specs.Prelude.{None, Some, All, codes, replicate}
-use Rattle.std.specs.declared.option.Option.{Option}
+use Rattle.std.proofs.Common.{◌≡◌, ℕ, zero, suc, ◌+◌, inl, inr, false, List, [], ◌∷◌, ◌++◌, map, refl, sym, ap, subst, ◌∙◌, arith}
+use Rattle.std.specs.Prelude.{None, Some, codes, replicate}
 use Rattle.std.specs.List.{flat_map}
 use Rattle.std.proofs.lemmas.List.{append-nil}
 use Rattle.std.proofs.lemmas.List.Elements.{All-nil}
 use Rattle.sg_lex.specs.Lexeme.{Lexeme}
 use Rattle.sg_grammar.specs.declared.tree.Facts.{Facts}
 use Rattle.sg_grammar.specs.declared.tree.Statement.{Statement}
-use Rattle.sg_grammar.specs.declared.tree.Param.{Param}
 use Rattle.sg_grammar.specs.declared.tree.Tree.{Tree}
 use Rattle.sg_grammar.specs.declared.words.Sort.{Sort}
 use Rattle.sg_grammar.specs.declared.words.Sort.TheVariants.{Name, Form, Parents, Closing, Flag}
 use Rattle.sg_grammar.specs.Named.{Named}
-use Rattle.sg_grammar.specs.Pieces.{Piece, word, mark, name, IsPiece, ArePieces}
-use Rattle.sg_grammar.specs.Sentence.{star, comma, close_bracket, close_brace, open_brace, equals, semicolon, more_params, fact_pieces, facts_pieces, tree_pieces, statement_pieces, ret_pieces, IsType, IsStatement, IsWellFormed, IsSentence, Begins}
+use Rattle.sg_grammar.specs.Pieces.{Piece, word, name, ArePieces}
+use Rattle.sg_grammar.specs.Sentence.{star, comma, close_bracket, close_brace, open_brace, equals, semicolon, more_params, fact_pieces, tree_pieces, statement_pieces, ret_pieces, IsStatement, IsWellFormed, IsSentence, Begins}
 use Rattle.sg_grammar.specs.States.{State, dead, due, want, names, stars, either, listed, statements, fact, head1, head2, head3, head4, head5, head6, head7, start, step, tree_at}
-use Rattle.sg_grammar.proofs.Rests.{Off, Rest, DueRest, NameRest, front_of, last_of}
+use Rattle.sg_grammar.proofs.Rests.{Rest, front_of, last_of}
 use Rattle.sg_grammar.proofs.Steps.{back, forth}
 use Rattle.sg_grammar.proofs.Alive.{Alive, completed, alive_behind, start_alive}
 
@@ -46,13 +44,22 @@ done_back (want sort k) tree e = absurd cc
 done_back (names front last k) tree e =
     record { more = []; count = 0; behind = []; all = refl; off_star = tt; off_name = λ _. tt; rest = done_back (k front last 0) tree e }
 done_back (stars front last n k) tree e =
-    record { count = 0; behind = []; all = refl; off_star = tt;
-      rest = subst (λ v. Rest (k front last v) [] tree) (let f : n ≡ n + 0 = omega arith in f) (done_back (k front last n) tree e) }
+    record {
+      count = 0;
+      behind = [];
+      all = refl;
+      off_star = tt;
+      rest = subst (λ v. Rest (k front last v) [] tree) (let f : n ≡ n + 0 = omega arith in f) (done_back (k front last n) tree e);
+    }
 done_back (either k s) tree e = inr (tt, done_back s tree e)
 done_back (listed params k) tree e = absurd cc
 done_back (statements facts before) tree e =
-    record { more = []; all = refl; each = All-nil IsStatement;
-      is = (let f : record { facts = facts; statements = before } ≡ tree = cc in sym f) ∙ ap (λ v. record { facts = facts; statements = v }) (sym (append-nil before)) }
+    record {
+      more = [];
+      all = refl;
+      each = All-nil IsStatement;
+      is = (let f : record { facts = facts; statements = before } ≡ tree = cc in sym f) ∙ ap (λ v. record { facts = facts; statements = v }) (sym (append-nil before));
+    }
 
 cons_some : {X : Type 0} (Y : Type 0) (xs ys : List X) (y : X) → [] ≡ xs ++ (y ∷ ys) → Y
 cons_some Y [] ys y e = absurd cc
@@ -79,19 +86,20 @@ done_forth (names front last k) tree r =
     let a = no_front (map (name Name) r.more) (replicate r.count star ++ r.behind) r.all in
     let b = no_front (replicate r.count star) r.behind a.1 in
     done_forth (k front last 0) tree
-        (subst (λ v. Rest (k front last 0) v tree) (sym b.1)
-        (subst (λ v. Rest (k front last v) r.behind tree) (no_copies r.count b.0)
-        (subst (λ v. Rest (k (front_of front last v) (last_of last v) r.count) r.behind tree) (no_map r.more a.0) r.rest)))
+    (subst (λ v. Rest (k front last 0) v tree) (sym b.1)
+    (subst (λ v. Rest (k front last v) r.behind tree) (no_copies r.count b.0)
+    (subst (λ v. Rest (k (front_of front last v) (last_of last v) r.count) r.behind tree) (no_map r.more a.0) r.rest)))
 done_forth (stars front last n k) tree r =
     let b = no_front (replicate r.count star) r.behind r.all in
     let c = no_copies r.count b.0 in
     done_forth (k front last n) tree
-        (subst (λ v. Rest (k front last n) v tree) (sym b.1)
-        (subst (λ v. Rest (k front last v) r.behind tree) (let f : n + r.count ≡ n = omega arith in f) r.rest))
+    (subst (λ v. Rest (k front last n) v tree) (sym b.1)
+    (subst (λ v. Rest (k front last v) r.behind tree) (let f : n + r.count ≡ n = omega arith in f) r.rest))
 done_forth (either k s) tree r =
     elim r [
-      inl f ↦ absurd (let e : [] ≡ name Form f.value ∷ f.behind = f.all in cc)
-    | inr f ↦ done_forth s tree f.1 ]
+      | inl f ↦ absurd (let e : [] ≡ name Form f.value ∷ f.behind = f.all in cc)
+      | inr f ↦ done_forth s tree f.1
+    ]
 done_forth (listed params k) tree r = cons_some (None ≡ Some tree) (more_params r.more) r.behind close_bracket r.all
 done_forth (statements facts before) tree r =
     let e = no_statements r.more r.all in
@@ -150,17 +158,30 @@ fact_back : (what : List ℕ) (sort : Sort) (end : Piece) (go : Named → State)
     → FactRest (λ n qs. Rest (go n) qs tree) what sort end ps
 fact_back what sort end go tree ps r =
     let a = r.rest in let b = a.rest in let c = b.rest in
-    record { value = b.value; behind = c.behind;
+    record {
+      value = b.value;
+      behind = c.behind;
       all = r.all ∙ ap (λ v. word what ∷ v) (a.all ∙ ap (λ v. equals ∷ v) (b.all ∙ ap (λ v. name sort b.value ∷ v) c.all));
-      rest = c.rest }
+      rest = c.rest;
+    }
 
 fact_forth : (what : List ℕ) (sort : Sort) (end : Piece) (go : Named → State) (tree : Tree) (value : Named) (qs : List Piece) → Rest (go value) qs tree
     → Rest (fact what sort end go) (fact_pieces what sort value end qs) tree
 fact_forth what sort end go tree value qs r =
-    record { behind = equals ∷ name sort value ∷ end ∷ qs; all = refl;
-      rest = record { behind = name sort value ∷ end ∷ qs; all = refl;
-        rest = record { value = value; behind = end ∷ qs; all = refl;
-          rest = record { behind = qs; all = refl; rest = r } } } }
+    record {
+      behind = equals ∷ name sort value ∷ end ∷ qs;
+      all = refl;
+      rest = record {
+        behind = name sort value ∷ end ∷ qs;
+        all = refl;
+        rest = record {
+          value = value;
+          behind = end ∷ qs;
+          all = refl;
+          rest = record { behind = qs; all = refl; rest = r };
+        };
+      };
+    }
 
 start_back : (tree : Tree) (ps : List Piece) → Rest start ps tree → (ps ≡ tree_pieces tree) × IsWellFormed tree
 start_back tree ps r =
@@ -174,18 +195,19 @@ start_back tree ps r =
     let g = fact_back (codes "resc_has_data") Flag close_brace (head7 a.value b.value c.value d.value e.value f.value) tree f.behind f.rest in
     let s = g.rest.rest in
     let facts : Facts = record { service = a.value; parent = b.value; close = c.value; global = d.value; block = e.value; has_data = f.value; resc_data = g.value } in
-    let is : tree ≡ record { facts = facts; statements = s.more } = s.is in
-    (r.all ∙ ap (λ v. word (codes "service_global_info") ∷ v) (r.rest.all ∙ ap (λ v. equals ∷ v) (o.all ∙ ap (λ v. open_brace ∷ v)
-        (a.all ∙ ap (fact_pieces (codes "service") Name a.value comma)
-        (b.all ∙ ap (fact_pieces (codes "desc_has_parent") Parents b.value comma)
-        (c.all ∙ ap (fact_pieces (codes "desc_close") Closing c.value comma)
-        (d.all ∙ ap (fact_pieces (codes "desc_is_global") Flag d.value comma)
-        (e.all ∙ ap (fact_pieces (codes "desc_block") Flag e.value comma)
-        (f.all ∙ ap (fact_pieces (codes "desc_has_data") Flag f.value comma)
-        (g.all ∙ ap (fact_pieces (codes "resc_has_data") Flag g.value close_brace)
-        (g.rest.all ∙ ap (λ v. semicolon ∷ v) s.all))))))))))
-    ∙ ap tree_pieces (sym is),
-    subst IsWellFormed (sym is) s.each)
+    let is : tree ≡ record { facts = facts; statements = s.more } = s.is in (
+      r.all ∙ ap (λ v. word (codes "service_global_info") ∷ v) (r.rest.all ∙ ap (λ v. equals ∷ v) (o.all ∙ ap (λ v. open_brace ∷ v)
+          (a.all ∙ ap (fact_pieces (codes "service") Name a.value comma)
+          (b.all ∙ ap (fact_pieces (codes "desc_has_parent") Parents b.value comma)
+          (c.all ∙ ap (fact_pieces (codes "desc_close") Closing c.value comma)
+          (d.all ∙ ap (fact_pieces (codes "desc_is_global") Flag d.value comma)
+          (e.all ∙ ap (fact_pieces (codes "desc_block") Flag e.value comma)
+          (f.all ∙ ap (fact_pieces (codes "desc_has_data") Flag f.value comma)
+          (g.all ∙ ap (fact_pieces (codes "resc_has_data") Flag g.value close_brace)
+          (g.rest.all ∙ ap (λ v. semicolon ∷ v) s.all))))))))))
+          ∙ ap tree_pieces (sym is),
+      subst IsWellFormed (sym is) s.each,
+    )
 
 start_forth : (tree : Tree) → IsWellFormed tree → Rest start (tree_pieces tree) tree
 start_forth tree h =
@@ -198,8 +220,11 @@ start_forth tree h =
     let p3 = fact_pieces (codes "desc_close") Closing q.close comma p4 in
     let p2 = fact_pieces (codes "desc_has_parent") Parents q.parent comma p3 in
     let r8 : Rest (head7 q.service q.parent q.close q.global q.block q.has_data q.resc_data) last tree =
-        record { behind = flat_map statement_pieces tree.statements; all = refl;
-          rest = record { more = tree.statements; all = refl; each = h; is = refl } } in
+    record {
+      behind = flat_map statement_pieces tree.statements;
+      all = refl;
+      rest = record { more = tree.statements; all = refl; each = h; is = refl };
+    } in
     let r7 = fact_forth (codes "resc_has_data") Flag close_brace (head7 q.service q.parent q.close q.global q.block q.has_data) tree q.resc_data last r8 in
     let r6 = fact_forth (codes "desc_has_data") Flag comma (head6 q.service q.parent q.close q.global q.block) tree q.has_data p7 r7 in
     let r5 = fact_forth (codes "desc_block") Flag comma (head5 q.service q.parent q.close q.global) tree q.block p6 r6 in
@@ -208,9 +233,15 @@ start_forth tree h =
     let r2 = fact_forth (codes "desc_has_parent") Parents comma (head2 q.service) tree q.parent p3 r3 in
     let r1 = fact_forth (codes "service") Name comma head1 tree q.service p2 r2 in
     let p1 = fact_pieces (codes "service") Name q.service comma p2 in
-    record { behind = equals ∷ open_brace ∷ p1; all = refl;
-      rest = record { behind = open_brace ∷ p1; all = refl;
-        rest = record { behind = p1; all = refl; rest = r1 } } }
+    record {
+      behind = equals ∷ open_brace ∷ p1;
+      all = refl;
+      rest = record {
+        behind = open_brace ∷ p1;
+        all = refl;
+        rest = record { behind = p1; all = refl; rest = r1 };
+      };
+    }
 
 -- ---- sentences
 

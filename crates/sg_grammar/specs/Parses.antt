@@ -1,7 +1,6 @@
 -- What a parser has to answer on a text.
 use Rattle.std.specs.Prelude.{◌≡◌, ◌⊎◌, ℕ, List, [], ◌∷◌, ◌++◌, Ok, Err, map, length}
 use Rattle.std.specs.declared.result.Result.{Result}
-use Rattle.sg_lex.specs.declared.token.LexFault.{LexFault}
 use Rattle.sg_lex.specs.Lexeme.{Lexeme}
 use Rattle.sg_lex.specs.Tokens.{Answer, answers_of}
 use Rattle.sg_grammar.specs.declared.error.ParseError.{ParseError}

@@ -1,5 +1,5 @@
 -- Which tokens are a sentence of the grammar, and of which tree.
-use Rattle.std.specs.Prelude.{◌≡◌, ◌≢◌, ℕ, List, [], ◌∷◌, ◌++◌, None, Some, codes, map, replicate, All}
+use Rattle.std.specs.Prelude.{◌≢◌, ℕ, List, [], ◌∷◌, ◌++◌, None, Some, codes, map, replicate, All}
 use Rattle.std.specs.List.{flat_map}
 use Rattle.std.specs.declared.option.Option.{Option}
 use Rattle.sg_lex.specs.Lexeme.{Lexeme}

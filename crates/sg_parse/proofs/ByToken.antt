@@ -1,14 +1,13 @@
 -- What is read from a state, by the token that comes next.
-use Rattle.std.proofs.Common.{◌≡◌, ℕ, zero, suc, ◌+◌, ◌==◌, ◌&&◌, if◌then◌else◌, length, Bool, true, false, List, [], ◌∷◌, ◌++◌, refl, sym, ap, ◌∙◌, nat_eq}
+use Rattle.std.proofs.Common.{◌≡◌, ℕ, zero, suc, ◌+◌, ◌==◌, if◌then◌else◌, length, Bool, true, false, List, [], ◌∷◌, ◌++◌, refl, sym, ap, ◌∙◌}
 use Rattle.std.specs.Prelude.{None, Some, Ok, Err, codes}
 use Rattle.std.specs.declared.option.Option.{Option}
-use Rattle.std.specs.Option.{option_map_or}
 use Rattle.sg_lex.specs.Lexeme.{Lexeme}
 use Rattle.sg_lex.specs.Tokens.{Answer}
-use Rattle.sg_grammar.specs.declared.error.ParseError.TheVariants.{NoMemory, Lex, Syntax}
+use Rattle.sg_grammar.specs.declared.error.ParseError.TheVariants.{Syntax}
 use Rattle.sg_grammar.specs.States.{State, dead, due, want, names, stars, either, listed, statements, param, declared, type_of, with_statement, statement_behind, one_rest, two_rest, plain_rest, returned_rest, Reading, has_sort, fits, named_by, read, read_from, step, tree_at, ended}
 use Rattle.sg_grammar.proofs.Basics.{if_then, if_else}
-use Rattle.sg_grammar.proofs.Readings.{read_token, read_stuck, read_fault, read_nothing}
+use Rattle.sg_grammar.proofs.Readings.{read_token, read_stuck, read_nothing}
 use Rattle.std.proofs.Math.Dec.{eqb-suc-zero}
 use Rattle.sg_grammar.specs.declared.tree.Facts.{Facts}
 use Rattle.sg_grammar.specs.declared.tree.Ret.TheVariants.{Set, Add}
@@ -20,7 +19,7 @@ use Rattle.sg_grammar.specs.declared.words.Sort.TheVariants.{Name, Form, One as 
 use Rattle.sg_grammar.specs.Sentence.{star, comma, close_bracket}
 use Rattle.sg_grammar.specs.Named.{Named}
 use Rattle.sg_grammar.specs.Words.{is_of}
-use Rattle.sg_grammar.specs.Pieces.{Piece, word, mark}
+use Rattle.sg_grammar.specs.Pieces.{Piece, word}
 use Rattle.sg_parse.specs.Ahead.{Off, Came, named_token}
 use Rattle.sg_parse.specs.Leads.{read_on}
 
@@ -107,8 +106,8 @@ pub names_over : (front : List Named) (last : Named) (k : List Named → Named �
 unfolding step tree_at
 names_over front last k old o =
     alike (names front last k) (stars front last 0 k) (has_sort Name) old
-        (λ token h. if_else (has_sort Name token) (Some (names (front ++ last ∷ []) (named_by token) k))
-            (if fits star token then Some (stars front last 1 k) else step (k front last 0) token) h) refl o
+    (λ token h. if_else (has_sort Name token) (Some (names (front ++ last ∷ []) (named_by token) k))
+    (if fits star token then Some (stars front last 1 k) else step (k front last 0) token) h) refl o
 
 pub star_came : (front : List Named) (last : Named) (n : ℕ) (k : List Named → Named → ℕ → State) (old new : Reading)
     → Came star old.rest new.rest → new.end ≡ old.end → read (stars front last n k) old ≡ read (stars front last (n + 1) k) new
@@ -122,7 +121,7 @@ pub stars_over : (front : List Named) (last : Named) (n : ℕ) (k : List Named �
 unfolding step tree_at
 stars_over front last n k old o =
     alike (stars front last n k) (k front last n) (fits star) old
-        (λ token h. if_else (fits star token) (Some (stars front last (n + 1) k)) (step (k front last n) token) h) refl o
+    (λ token h. if_else (fits star token) (Some (stars front last (n + 1) k)) (step (k front last n) token) h) refl o
 
 pub form_came : (k : Named → State) (s : State) (n : Named) (old new : Reading) → old.rest ≡ Ok (named_token n) ∷ new.rest → is_of Form n.bytes ≡ true → new.end ≡ old.end
     → read (either k s) old ≡ read (k n) new
@@ -148,7 +147,7 @@ pub comma_missing : (params : List Param) (k : List Param → State) (old : Read
 unfolding step tree_at
 comma_missing params k old o =
     alike (listed params k) (due close_bracket (k params)) (fits comma) old
-        (λ token h. if_else (fits comma token) (Some (param k params)) (if fits close_bracket token then Some (k params) else None) h) refl o
+    (λ token h. if_else (fits comma token) (Some (param k params)) (if fits close_bracket token then Some (k params) else None) h) refl o
 
 -- ---- a type and a name
 
@@ -202,30 +201,30 @@ pub is_set : (go : Statement → State) (token : Lexeme) (r : Reading) → has_s
     → read_on (statement_behind go token) token r ≡ read (returned_rest go Set) r
 is_set go token r a b h =
     ap (λ v. read_on v token r) (if_else (has_sort one_word token) _ _ a ∙ if_else (has_sort two_word token) _ _ b
-        ∙ if_then (fits (word (codes "desc_data_retval")) token) _ _ h)
+    ∙ if_then (fits (word (codes "desc_data_retval")) token) _ _ h)
 
 pub is_add : (go : Statement → State) (token : Lexeme) (r : Reading) → has_sort one_word token ≡ false → has_sort two_word token ≡ false
     → fits (word (codes "desc_data_retval")) token ≡ false → fits (word (codes "desc_data_retval_add")) token ≡ true
     → read_on (statement_behind go token) token r ≡ read (returned_rest go Add) r
 is_add go token r a b c h =
     ap (λ v. read_on v token r) (if_else (has_sort one_word token) _ _ a ∙ if_else (has_sort two_word token) _ _ b
-        ∙ if_else (fits (word (codes "desc_data_retval")) token) _ _ c
-        ∙ if_then (fits (word (codes "desc_data_retval_add")) token) _ _ h)
+    ∙ if_else (fits (word (codes "desc_data_retval")) token) _ _ c
+    ∙ if_then (fits (word (codes "desc_data_retval_add")) token) _ _ h)
 
 pub is_plain : (go : Statement → State) (token : Lexeme) (r : Reading) → has_sort one_word token ≡ false → has_sort two_word token ≡ false
     → fits (word (codes "desc_data_retval")) token ≡ false → fits (word (codes "desc_data_retval_add")) token ≡ false → has_sort Name token ≡ true
     → read_on (statement_behind go token) token r ≡ read (plain_rest go (named_by token)) r
 is_plain go token r a b c d h =
     ap (λ v. read_on v token r) (if_else (has_sort one_word token) _ _ a ∙ if_else (has_sort two_word token) _ _ b
-        ∙ if_else (fits (word (codes "desc_data_retval")) token) _ _ c
-        ∙ if_else (fits (word (codes "desc_data_retval_add")) token) _ _ d
-        ∙ if_then (has_sort Name token) _ _ h)
+    ∙ if_else (fits (word (codes "desc_data_retval")) token) _ _ c
+    ∙ if_else (fits (word (codes "desc_data_retval_add")) token) _ _ d
+    ∙ if_then (has_sort Name token) _ _ h)
 
 pub is_none : (go : Statement → State) (token : Lexeme) (r : Reading) → has_sort one_word token ≡ false → has_sort two_word token ≡ false
     → fits (word (codes "desc_data_retval")) token ≡ false → fits (word (codes "desc_data_retval_add")) token ≡ false → has_sort Name token ≡ false
     → read_on (statement_behind go token) token r ≡ Err (Syntax token.at)
 is_none go token r a b c d h =
     ap (λ v. read_on v token r) (if_else (has_sort one_word token) _ _ a ∙ if_else (has_sort two_word token) _ _ b
-        ∙ if_else (fits (word (codes "desc_data_retval")) token) _ _ c
-        ∙ if_else (fits (word (codes "desc_data_retval_add")) token) _ _ d
-        ∙ if_else (has_sort Name token) (Some (plain_rest go (named_by token))) None h)
+    ∙ if_else (fits (word (codes "desc_data_retval")) token) _ _ c
+    ∙ if_else (fits (word (codes "desc_data_retval_add")) token) _ _ d
+    ∙ if_else (has_sort Name token) (Some (plain_rest go (named_by token))) None h)

@@ -1,5 +1,5 @@
 -- A lexer answers no more often than a text has bytes.
-use Rattle.std.proofs.Common.{◌≡◌, ℕ, zero, suc, ◌+◌, ◌-◌, ◌≤◌, List, [], ◌∷◌, length, arith, le_refl}
+use Rattle.std.proofs.Common.{ℕ, zero, suc, ◌+◌, ◌-◌, ◌≤◌, List, [], ◌∷◌, length, arith}
 use Rattle.sg_lex.specs.declared.front.Front.{Front}
 use Rattle.sg_lex.specs.declared.front.Front.TheVariants.{Ended, Gap, Token, Fault}
 use Rattle.sg_lex.specs.Fronts.{front_of}

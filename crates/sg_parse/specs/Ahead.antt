@@ -1,7 +1,7 @@
 -- What is to come behind a token that was looked at, and tests of what is to come.
-use Rattle.std.specs.Prelude.{◌≡◌, ℕ, Bool, true, false, List, [], ◌∷◌, None, Some, Ok, Err}
+use Rattle.std.specs.Prelude.{◌≡◌, Bool, true, false, List, [], ◌∷◌, None, Some, Ok, Err}
 use Rattle.std.specs.declared.option.Option.{Option}
-use Rattle.sg_lex.specs.declared.token.TokenKind.TheVariants.{Word, Mark}
+use Rattle.sg_lex.specs.declared.token.TokenKind.TheVariants.{Word}
 use Rattle.sg_lex.specs.Lexeme.{Lexeme}
 use Rattle.sg_lex.specs.Tokens.{Answer}
 use Rattle.sg_grammar.specs.Named.{Named}

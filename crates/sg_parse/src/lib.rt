@@ -15,7 +15,6 @@ mod tests;
 mod types;
 
 pub use parser::parse;
-
 pub use sg_grammar::{
     Facts, Name, NameList, Param, ParamList, ParseError, Ret, Statement, StatementList, Tree,
     TypeName,

@@ -70,7 +70,7 @@ impl<'a> Reader<'a> {
     fn formed(&mut self, spelled: Spelled<'a>, form: Name<'a>) -> Result<Param<'a>, ParseError>
         ensures leads { (params : List Declared) (k : List Declared → State) →
             Leads (read (due open_bracket (want a_name (λ n. due close_bracket
-                (with_param k params (type_of spelled.entry.front spelled.entry.last spelled.entry.stars) (with_form form.entry) n)))) self.old)
+            (with_param k params (type_of spelled.entry.front spelled.entry.last spelled.entry.stars) (with_form form.entry) n)))) self.old)
             result (λ p. listed (params ++ p ∷ []) k) self.new }
         ensures fewer { OnOk result (length self.new.rest ≤ length self.old.rest) }
     {

@@ -169,7 +169,10 @@ impl<'a> Reader<'a> {
 
 // Takes the token that was looked at, or else the next of the lexer.
 #[tactic(auto, using(sg_grammar::proofs::Readings::read_fault))]
-fn next_token<'a>(ahead: &mut Option<Token<'a>>, lexer: &mut Lexer<'a>) -> Result<Option<Token<'a>>, ParseError>
+fn next_token<'a>(
+    ahead: &mut Option<Token<'a>>,
+    lexer: &mut Lexer<'a>,
+) -> Result<Option<Token<'a>>, ParseError>
     ensures taken { ahead.new ≡ no_token }
     ensures token { IfOk result (λ next. (with_ahead ahead.old lexer.old ≡ with_ahead next lexer.new)
         × (next ≡ no_token → lexer.new ≡ [])) }

@@ -9,9 +9,7 @@ ghost use Rattle.sg_grammar.specs.States.{State, want, statements, statement_beh
 ghost use Rattle.sg_parse.specs.Leads.{Leads, Answers, read_on};
 
 use crate::reader::{Reader, is_fixed, is_word, name_of};
-use sg_grammar::{
-    Facts, Name, ParseError, Ret, Sort, Statement, StatementList, Tree, TypeName,
-};
+use sg_grammar::{Facts, Name, ParseError, Ret, Sort, Statement, StatementList, Tree, TypeName};
 use sg_lex::Token;
 use std::alloc::Global;
 
@@ -130,7 +128,12 @@ impl<'a> Reader<'a> {
     }
 
     /// A prototype behind its return and its name.
-    fn proto(&mut self, alloc: Global, ret: Ret<'a>, name: Name<'a>) -> Result<Statement<'a>, ParseError>
+    fn proto(
+        &mut self,
+        alloc: Global,
+        ret: Ret<'a>,
+        name: Name<'a>,
+    ) -> Result<Statement<'a>, ParseError>
         ensures leads { (go : Stated → State) → Leads (read (proto_rest go ret.entry name.entry) self.old) result go self.new }
         ensures fewer { OnOk result (length self.new.rest ≤ length self.old.rest) }
     {

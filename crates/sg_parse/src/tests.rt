@@ -107,14 +107,35 @@ fn fails_at_the_first_token_that_cannot_go_on(rt: HostRuntime) {
         (b"service_global_info = {".as_slice(), Answer::Syntax(23)),
         (b"service_global_info = #".as_slice(), Answer::Lex(22)),
         (b" # service".as_slice(), Answer::Lex(1)),
-        (b"service service_global_info #".as_slice(), Answer::Syntax(0)),
+        (
+            b"service service_global_info #".as_slice(),
+            Answer::Syntax(0),
+        ),
         (b"service_global_info == {".as_slice(), Answer::Syntax(21)),
-        (b"service_global_info={service=sm_keep".as_slice(), Answer::Syntax(29)),
-        (b"service_global_info={service=desc".as_slice(), Answer::Syntax(29)),
-        (b"service_global_info={service=x,desc_has_parent=x".as_slice(), Answer::Syntax(47)),
-        (b"service_global_info={service=x,desc_close=refuse".as_slice(), Answer::Syntax(31)),
-        (b"service_global_info={service=17".as_slice(), Answer::Syntax(29)),
-        (b"service_global_info={service=x /* never".as_slice(), Answer::Lex(31)),
+        (
+            b"service_global_info={service=sm_keep".as_slice(),
+            Answer::Syntax(29),
+        ),
+        (
+            b"service_global_info={service=desc".as_slice(),
+            Answer::Syntax(29),
+        ),
+        (
+            b"service_global_info={service=x,desc_has_parent=x".as_slice(),
+            Answer::Syntax(47),
+        ),
+        (
+            b"service_global_info={service=x,desc_close=refuse".as_slice(),
+            Answer::Syntax(31),
+        ),
+        (
+            b"service_global_info={service=17".as_slice(),
+            Answer::Syntax(29),
+        ),
+        (
+            b"service_global_info={service=x /* never".as_slice(),
+            Answer::Lex(31),
+        ),
     ] {
         assert_eq!(rt; answer_on(alloc, text), wanted, "on {text:?}");
     }
@@ -126,8 +147,14 @@ fn reads_each_form_of_a_statement(rt: HostRuntime) -> Result<(), Fail> {
     for (tail, wanted) in [
         (b"".as_slice(), Answer::Tree),
         (b"sm_block(f); sm_block(f);".as_slice(), Answer::Tree),
-        (b"resc_data(f); sm_needs_all(f); sm_query(f); sm_keep(f); sm_wakeup(f);".as_slice(), Answer::Tree),
-        (b"sm_state(f, g);desc_data_clear(f, x);desc_data_sub(f, x);sm_recover(f,g);".as_slice(), Answer::Tree),
+        (
+            b"resc_data(f); sm_needs_all(f); sm_query(f); sm_keep(f); sm_wakeup(f);".as_slice(),
+            Answer::Tree,
+        ),
+        (
+            b"sm_state(f, g);desc_data_clear(f, x);desc_data_sub(f, x);sm_recover(f,g);".as_slice(),
+            Answer::Tree,
+        ),
         (b"sm_block(f, g);".as_slice(), Answer::Syntax(10)),
         (b"sm_state(f);".as_slice(), Answer::Syntax(10)),
         (b"sm_block(sm_block);".as_slice(), Answer::Syntax(9)),
@@ -147,20 +174,47 @@ fn reads_each_form_of_a_statement(rt: HostRuntime) -> Result<(), Fail> {
         (b"int f(c);".as_slice(), Answer::Syntax(7)),
         (b"int f(a b c d);".as_slice(), Answer::Tree),
         (b"int f(a b,);".as_slice(), Answer::Syntax(10)),
-        (b"int f(a desc(x), a b parent_desc(y), a *desc_data(z), a **desc_data_add(w));".as_slice(), Answer::Tree),
+        (
+            b"int f(a desc(x), a b parent_desc(y), a *desc_data(z), a **desc_data_add(w));".as_slice(),
+            Answer::Tree,
+        ),
         (b"int f(desc(x));".as_slice(), Answer::Syntax(6)),
         (b"int f(a desc x);".as_slice(), Answer::Syntax(13)),
         (b"int f(a desc(desc));".as_slice(), Answer::Syntax(13)),
-        (b"int f(a desc_data_retval(x));".as_slice(), Answer::Syntax(8)),
+        (
+            b"int f(a desc_data_retval(x));".as_slice(),
+            Answer::Syntax(8),
+        ),
         (b"int f(a *b c);".as_slice(), Answer::Syntax(11)),
         (b"int f(a * * *b);".as_slice(), Answer::Tree),
-        (b"desc_data_retval(long, x) f(a b);".as_slice(), Answer::Tree),
-        (b"desc_data_retval_add(char *, x) f(a b);".as_slice(), Answer::Tree),
-        (b"desc_data_retval(a b * *, x) f(a b);".as_slice(), Answer::Tree),
-        (b"desc_data_retval(*, x) f(a b);".as_slice(), Answer::Syntax(17)),
-        (b"desc_data_retval(long x) f(a b);".as_slice(), Answer::Syntax(23)),
-        (b"desc_data_retval(long, x) int f(a b);".as_slice(), Answer::Syntax(30)),
-        (b"desc_data_retval_sub(long, x) f(a b);".as_slice(), Answer::Syntax(20)),
+        (
+            b"desc_data_retval(long, x) f(a b);".as_slice(),
+            Answer::Tree,
+        ),
+        (
+            b"desc_data_retval_add(char *, x) f(a b);".as_slice(),
+            Answer::Tree,
+        ),
+        (
+            b"desc_data_retval(a b * *, x) f(a b);".as_slice(),
+            Answer::Tree,
+        ),
+        (
+            b"desc_data_retval(*, x) f(a b);".as_slice(),
+            Answer::Syntax(17),
+        ),
+        (
+            b"desc_data_retval(long x) f(a b);".as_slice(),
+            Answer::Syntax(23),
+        ),
+        (
+            b"desc_data_retval(long, x) int f(a b);".as_slice(),
+            Answer::Syntax(30),
+        ),
+        (
+            b"desc_data_retval_sub(long, x) f(a b);".as_slice(),
+            Answer::Syntax(20),
+        ),
         (b"desc_data f(a b);".as_slice(), Answer::Syntax(0)),
     ] {
         assert_eq!(rt; behind_head(alloc, tail)?, wanted, "on {tail:?}");
@@ -197,11 +251,13 @@ fn keeps_words_fields_and_stars(rt: HostRuntime) -> Result<(), Fail> {
         _ => assert!(rt; false, "a statement over one function"),
     }
     match tree.statements.get(11) {
-        Some(Statement::Two {
-            word,
-            first,
-            second,
-        }) => {
+        Some(
+            Statement::Two {
+                word,
+                first,
+                second,
+            },
+        ) => {
             assert_eq!(rt; word.slice, b"sm_recover".as_slice());
             assert_eq!(rt; first.slice, b"tsplit".as_slice());
             assert_eq!(rt; second.slice, b"tseek".as_slice());
@@ -209,11 +265,13 @@ fn keeps_words_fields_and_stars(rt: HostRuntime) -> Result<(), Fail> {
         _ => assert!(rt; false, "a statement over two functions"),
     }
     match tree.statements.get(12) {
-        Some(Statement::Proto {
-            ret: Ret::Plain(ty),
-            name,
-            params,
-        }) => {
+        Some(
+            Statement::Proto {
+                ret: Ret::Plain(ty),
+                name,
+                params,
+            },
+        ) => {
             assert_eq!(rt; ty.names.len(), 2);
             assert_eq!(rt; name.slice, b"tsplit".as_slice());
             assert_eq!(rt; params.len(), 3);
@@ -222,11 +280,13 @@ fn keeps_words_fields_and_stars(rt: HostRuntime) -> Result<(), Fail> {
         _ => assert!(rt; false, "a plain prototype"),
     }
     match tree.statements.get(13) {
-        Some(Statement::Proto {
-            ret: Ret::Add { ty, field },
-            name,
-            ..
-        }) => {
+        Some(
+            Statement::Proto {
+                ret: Ret::Add { ty, field },
+                name,
+                ..
+            },
+        ) => {
             assert_eq!(rt; ty.stars, 0);
             assert_eq!(rt; field.slice, b"offset".as_slice());
             assert_eq!(rt; field.at, 607);

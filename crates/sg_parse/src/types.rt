@@ -47,7 +47,11 @@ impl<'a> Reader<'a> {
 
     /// The names of a type whose first name was taken, the last apart.
     #[tactic(auto, using(crate::proofs::ByToken::name_came, crate::proofs::ByToken::names_over))]
-    fn names(&mut self, alloc: Global, first: Name<'a>) -> Result<(NameList<'a>, Name<'a>), ParseError>
+    fn names(
+        &mut self,
+        alloc: Global,
+        first: Name<'a>,
+    ) -> Result<(NameList<'a>, Name<'a>), ParseError>
         ensures leads { (k : List Named → Named → ℕ → State) →
             Leads (read (names [] first.entry k) self.old) result (λ r. stars r.0 r.1 0 k) self.new }
         ensures fewer { OnOk result (length self.new.rest ≤ length self.old.rest) }

@@ -7,7 +7,8 @@ use Rattle.sg_parse.proofs.reader.Reader.names.Given as goal
 abbrev pub invariant-names : goal.invariant-names
 invariant-names l = record {
   read_so_far : (k : List Named → Named → ℕ → State) → read (names [] l.fn.first k) l.fn.self ≡ read (names l.front l.last k) l.self;
-  fewer : length l.self.rest ≤ length l.fn.self.rest }
+  fewer : length l.self.rest ≤ length l.fn.self.rest;
+}
 
 abbrev pub decreases-names : goal.decreases-names
 decreases-names l = length l.self.rest

@@ -15,6 +15,6 @@ returns-in_err-param-2-clause-leads c = λ k.
     let new = c.take_mark.new.self in
     let came = on_true (Came comma old.rest new.rest) ((new ≡ old) × Off (fits comma) old.rest) c.in_ok-take_mark.field-0 c.in_ok-take_mark.ensures.mark c.if-branch.true in
     rw (p.1, p.2) (λ ne.
-        c.params.invariant.read_so_far k
-        ∙ comma_came c.params.params k old new came c.in_ok-take_mark.ensures.end
-        ∙ c.in_err-param-2.ensures.leads c.params.params k ne)
+    c.params.invariant.read_so_far k
+    ∙ comma_came c.params.params k old new came c.in_ok-take_mark.ensures.end
+    ∙ c.in_err-param-2.ensures.leads c.params.params k ne)

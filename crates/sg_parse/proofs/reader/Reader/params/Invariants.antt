@@ -7,7 +7,8 @@ use Rattle.sg_parse.proofs.reader.Reader.params.Given as goal
 abbrev pub invariant-params : goal.invariant-params
 invariant-params l = record {
   read_so_far : (k : List Param → State) → read (param k []) l.fn.self ≡ read (listed l.params k) l.self;
-  fewer : length l.self.rest ≤ length l.fn.self.rest }
+  fewer : length l.self.rest ≤ length l.fn.self.rest;
+}
 
 abbrev pub decreases-params : goal.decreases-params
 decreases-params l = length l.self.rest

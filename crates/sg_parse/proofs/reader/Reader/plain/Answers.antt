@@ -10,12 +10,12 @@ pub returns-in_err-ty-clause-leads : goal.returns-in_err-ty-clause-leads
 returns-in_err-ty-clause-leads c = λ go.
     let p = err_from_is_err_and c.from_residual-in_err-ty.result c.from_residual-in_err-ty.ensures.1 in
     rw (p.1, p.2) (λ ne.
-        c.in_ok-spelled.ensures.leads (declared (λ ty n. proto_rest go (Plain ty) n))
-        ∙ c.in_err-ty.ensures.leads (λ ty n. proto_rest go (Plain ty) n) ne)
+    c.in_ok-spelled.ensures.leads (declared (λ ty n. proto_rest go (Plain ty) n))
+    ∙ c.in_err-ty.ensures.leads (λ ty n. proto_rest go (Plain ty) n) ne)
 
 pub returns-clause-leads : goal.returns-clause-leads
 returns-clause-leads c = λ go.
     leads_along _ _ c.proto.result go c.proto.new.self
-        (c.in_ok-spelled.ensures.leads (declared (λ ty n. proto_rest go (Plain ty) n))
-        ∙ c.in_ok-ty.ensures.leads (λ ty n. proto_rest go (Plain ty) n))
-        (c.proto.ensures.leads go)
+    (c.in_ok-spelled.ensures.leads (declared (λ ty n. proto_rest go (Plain ty) n))
+    ∙ c.in_ok-ty.ensures.leads (λ ty n. proto_rest go (Plain ty) n))
+    (c.proto.ensures.leads go)

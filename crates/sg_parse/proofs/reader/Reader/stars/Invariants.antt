@@ -9,7 +9,8 @@ invariant-stars l = record {
   read_so_far : (front : List Named) (last : Named) (k : List Named → Named → ℕ → State) →
       read (stars front last 0 k) l.fn.self ≡ read (stars front last l.count k) l.self;
   counted : l.count + length l.self.rest ≤ l.most;
-  fewer : length l.self.rest ≤ length l.fn.self.rest }
+  fewer : length l.self.rest ≤ length l.fn.self.rest;
+}
 
 abbrev pub decreases-stars : goal.decreases-stars
 decreases-stars l = length l.self.rest

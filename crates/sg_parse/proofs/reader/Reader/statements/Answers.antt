@@ -1,5 +1,5 @@
 -- The statements so far, and the next.
-use Rattle.std.proofs.Common.{◌≡◌, ◌∙◌, [], ◌∷◌, ◌++◌, ap, sym}
+use Rattle.std.proofs.Common.{◌≡◌, ◌∙◌, [], ◌∷◌, ap, sym}
 use Rattle.std.specs.Prelude.{Ok, Err}
 use Rattle.std.proofs.lemmas.Result.{err_from_is_err_and}
 use Rattle.sg_lex.specs.Lexeme.{Lexeme}
@@ -15,9 +15,9 @@ returns-in_err-statement c =
     let new = c.next.new.self in
     let came = on_some ((old.rest ≡ []) × (new.rest ≡ [])) (λ (token : Lexeme). old.rest ≡ Ok token ∷ new.rest) c.in_ok-token.field-0 c.in-Some.token c.in_ok-token.ensures.token c.in-Some.is in
     rw (p.1, p.2) (λ ne.
-        c.statements.invariant
-        ∙ statement_came c.args.facts c.statements.statements old new c.in-Some.token came c.in_ok-token.ensures.end
-        ∙ c.in_err-statement.ensures.leads (with_statement c.args.facts c.statements.statements) (λ e. ne (ap Err e)))
+    c.statements.invariant
+    ∙ statement_came c.args.facts c.statements.statements old new c.in-Some.token came c.in_ok-token.ensures.end
+    ∙ c.in_err-statement.ensures.leads (with_statement c.args.facts c.statements.statements) (λ e. ne (ap Err e)))
 
 pub statements-preserved : goal.statements-preserved
 statements-preserved c =
