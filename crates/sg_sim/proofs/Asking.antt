@@ -1,32 +1,26 @@
 -- Client 1 alone may ask what the guard lets pass, and never waits.
-use Rattle.std.proofs.Common.{◌≡◌, ℕ, zero, suc, ◌+◌, ◌<◌, ◌≤◌, ◌^◌, Bool, true, false, cond, not, List, [], ◌∷◌, ◌++◌, None, Some, map, filter, refl, sym, ◌∙◌, ap, subst, arith}
-use Rattle.std.specs.Prelude.{◌==◌, ◌&&◌, ◌||◌, if◌then◌else◌}
-use Rattle.std.specs.declared.option.Option.{Option}
+use Rattle.std.proofs.Common.{◌≡◌, ℕ, zero, suc, ◌≤◌, Bool, true, false, cond, List, [], ◌∷◌, None, Some, refl, sym, subst, arith}
+use Rattle.std.specs.Prelude.{◌==◌, ◌||◌}
 use Rattle.std.proofs.lemmas.Bool.Decides.{nat_tests}
 use Rattle.sg_base.specs.declared.value.Value.{Value}
-use Rattle.sg_base.specs.declared.value.Value.TheVariants.{Word, Text}
 use Rattle.sg_base.specs.declared.call.Call.{Call}
-use Rattle.sg_base.specs.declared.reply.Code.{Code}
 use Rattle.sg_base.specs.declared.reply.Code.TheVariants.{NoDesc, BadState, HasChildren, Held}
-use Rattle.sg_base.specs.declared.reply.Good.{Good}
-use Rattle.sg_base.specs.declared.reply.Reply.{Reply}
 use Rattle.sg_base.specs.declared.reply.Reply.TheVariants.{Ok, Refused}
 use Rattle.sg_facts.specs.declared.row.Row.{Row}
 use Rattle.sg_facts.specs.Facts.{fun_at, takes_desc, takes_parent}
-use Rattle.sg_facts.specs.Track.{row_at, is_live, has_child, row_after, new_row, ends_with, word_of, field_at, fields_after}
-use Rattle.sg_facts.specs.Object.{Object, after}
+use Rattle.sg_facts.specs.Track.{row_at, is_live, has_child}
+use Rattle.sg_facts.specs.Object.{Object}
 use Rattle.sg_facts.specs.Sound.{AreRows}
 use Rattle.sg_facts.specs.Guard.{guard}
 use Rattle.sg_facts.specs.Kinds.{MayAsk, AreWords}
 use Rattle.sg_facts.specs.Laws.{whole, Passes}
-use Rattle.sg_facts.proofs.RowLists.{more, changed, left, live_of_row}
+use Rattle.sg_facts.proofs.RowLists.{live_of_row}
 use Rattle.sg_lock.specs.LockFacts.{lock_facts}
-use Rattle.sg_lock.specs.LockTable.{lock_table, lock_answer, take_answer, owner_in}
-use Rattle.sg_lock.specs.LockSound.{IsLockSound}
+use Rattle.sg_lock.specs.LockTable.{lock_table, take_answer, owner_in}
 use Rattle.sg_lock.specs.LockShapeLaw.{none_in_rows}
 use Rattle.sg_lock.specs.LockAlikeLaw.{there}
 use Rattle.sg_lock.specs.LockBlockedLaw.{is_take}
-use Rattle.sg_sim.specs.Run.{IsAtMostFirst, IsOfFirst, MayMake}
+use Rattle.sg_sim.specs.Run.{IsAtMostFirst, MayMake}
 
 -- ---- what the guard shows
 

@@ -1,5 +1,5 @@
 -- How a run goes on by one call.
-use Rattle.std.proofs.Common.{◌≡◌, ℕ, zero, suc, ◌+◌, ◌<◌, ◌≤◌, ◌^◌, Bool, true, false, cond, not, List, [], ◌∷◌, ◌++◌, None, Some, length, take, get_or, map, filter, refl, sym, ◌∙◌, ap, subst, arith, length-append}
+use Rattle.std.proofs.Common.{◌≡◌, ℕ, zero, suc, ◌+◌, ◌<◌, ◌≤◌, ◌^◌, Bool, true, false, cond, not, List, [], ◌∷◌, ◌++◌, None, Some, length, take, get_or, refl, sym, ◌∙◌, ap, subst, arith, length-append}
 use Rattle.std.specs.Prelude.{◌==◌, if◌then◌else◌, slice_get}
 use Rattle.std.specs.declared.option.Option.{Option}
 use Rattle.sg_base.specs.declared.value.Value.{Value}
@@ -11,24 +11,22 @@ use Rattle.sg_base.specs.declared.reply.Reply.{Reply}
 use Rattle.sg_base.specs.declared.reply.Reply.TheVariants.{Ok, Refused}
 use Rattle.sg_facts.specs.declared.row.Row.{Row}
 use Rattle.sg_facts.specs.declared.entry.Entry.{Entry}
-use Rattle.sg_facts.specs.Facts.{fun_at, takes_desc, takes_parent}
+use Rattle.sg_facts.specs.Facts.{fun_at}
 use Rattle.sg_facts.specs.Track.{row_at, row_after, new_row, ends_with, word_of, field_at, fields_after}
-use Rattle.sg_facts.specs.Object.{Object, after, object_from, object_of, empty_object}
+use Rattle.sg_facts.specs.Object.{Object, after, object_from, empty_object}
 use Rattle.sg_facts.specs.Sound.{AreRows}
 use Rattle.sg_facts.specs.Guard.{guard}
-use Rattle.sg_facts.specs.Kinds.{IsCall, kinds_fit}
+use Rattle.sg_facts.specs.Kinds.{IsCall}
 use Rattle.sg_facts.specs.Legal.{answer, refused_or, LegalFrom}
 use Rattle.sg_facts.specs.Laws.{whole}
 use Rattle.sg_facts.proofs.RowLists.{more, changed, left}
 use Rattle.sg_lock.specs.LockFacts.{lock_facts}
 use Rattle.sg_lock.specs.LockTable.{lock_table, lock_answer, owner_in}
-use Rattle.sg_lock.specs.LockSound.{IsLockSound}
 use Rattle.sg_lock.specs.LockSoundLaw.{lock_answers_and_keeps}
-use Rattle.sg_opening.specs.declared.step.Arg.{Arg}
 use Rattle.sg_opening.specs.declared.step.Arg.TheVariants.{Number, Back}
 use Rattle.sg_opening.specs.declared.step.Step.{Step}
 use Rattle.sg_opening.specs.declared.step.Step.TheVariants.{Alloc, Take, Release, Free}
-use Rattle.sg_sim.specs.Script.{resolved_call, fun_of, desc_of, desc_given, id_of_call, AreCalls}
+use Rattle.sg_sim.specs.Script.{resolved_call, desc_given, id_of_call, AreCalls}
 use Rattle.sg_opening.specs.Script.{AreBack, IsBack}
 use Rattle.sg_sim.specs.Run.{IsAtMostFirst, IsOfFirst, MayMake, IsRun}
 use Rattle.sg_sim.proofs.Asking.{passes}

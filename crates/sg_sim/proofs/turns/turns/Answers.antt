@@ -1,10 +1,5 @@
 -- The call may be made, comes to its answer, and the run goes on by it.
-use Rattle.std.proofs.Common.{◌≡◌, ◌+◌, ◌++◌, [], ◌∷◌, length, rules, sym, ◌∙◌, ap, subst}
-use Rattle.sg_facts.specs.Laws.{whole}
-use Rattle.sg_facts.specs.Legal.{answer}
-use Rattle.sg_facts.specs.Object.{after}
-use Rattle.sg_lock.specs.LockFacts.{lock_facts}
-use Rattle.sg_lock.specs.LockTable.{lock_table}
+use Rattle.std.proofs.Common.{◌≡◌, ◌+◌, ◌++◌, [], ◌∷◌, length, rules, sym, subst}
 use Rattle.sg_lock.specs.LockObject.{lock_object}
 use Rattle.sg_sim.specs.declared.world.Phase.TheVariants.{Idle}
 use Rattle.sg_sim.specs.Script.{resolved_call}

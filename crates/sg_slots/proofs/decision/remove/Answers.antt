@@ -1,5 +1,5 @@
 -- The others stay in their order.
-use Rattle.std.proofs.Common.{◌∙◌, ap, sym, subst}
+use Rattle.std.proofs.Common.{◌∙◌, sym, subst}
 use Rattle.sg_slots.specs.Slots.{AreIds}
 use Rattle.sg_slots.proofs.Ids.{ids_without}
 use Rattle.sg_slots.proofs.Maps.{remove-ids}
