@@ -142,6 +142,20 @@ only_answer length answers (Err (Syntax place)) h n =
         open_ended end runs None e = e
         open_ended end runs (Some tree) e = absurd (f.none tree (sentence_of f.tokens tree end runs e))
 
+-- reading never wants memory
+pub reads_no_memory : (length : ℕ) (s : State) (answers : List Answer) → read_from length s answers ≢ Err NoMemory
+reads_no_memory length s [] e = by (tree_at s) (sym (read_nothing length s) ∙ e)
+  where
+    by : (o : Option Tree) → ended length o ≡ Err NoMemory → ⊥
+    by None g = cc
+    by (Some tree) g = cc
+reads_no_memory length s (Err fault ∷ behind) e = let f = sym (read_fault length s fault behind) ∙ e in cc
+reads_no_memory length s (Ok token ∷ behind) e = by (λ next g. reads_no_memory length next behind g) (step s token) refl
+  where
+    by : ((next : State) → read_from length next behind ≡ Err NoMemory → ⊥) → (o : Option State) → step s token ≡ o → ⊥
+    by deeper None g = let f = sym (read_stuck length s token behind g) ∙ e in cc
+    by deeper (Some next) g = deeper next (sym (read_token length s next token behind g) ∙ e)
+
 -- tokens are a sentence of one tree at most
 pub one_tree : (tokens : List Lexeme) (one other : Tree) → IsSentence tokens one → IsSentence tokens other → one ≡ other
 one_tree tokens one other h g =

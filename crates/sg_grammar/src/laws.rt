@@ -6,15 +6,16 @@ ghost use Rattle.sg_grammar.specs.declared.error.ParseError.{ParseError};
 ghost use Rattle.sg_grammar.specs.declared.error.ParseError.TheVariants.{NoMemory as no_memory};
 ghost use Rattle.sg_grammar.specs.declared.tree.Tree.{Tree};
 ghost use Rattle.sg_grammar.specs.Parses.{Parses};
-ghost use Rattle.sg_grammar.specs.Sentence.{IsSentence, Begins};
+ghost use Rattle.sg_grammar.specs.Sentence.{IsSentence};
 
 /// A sentence has one tree.
 pub fn one_tree()
     ensures { (tokens : List Lexeme) (one other : Tree) → IsSentence tokens one → IsSentence tokens other → one ≡ other }
 {}
 
-/// A text has one answer, want of memory aside: the tree of a sentence, or the one error at the one place.
+/// A text has just one answer, want of memory aside: the tree of a sentence, or the one error at the one place.
 pub fn one_answer()
-    ensures { (text : List ℕ) (one other : Result Tree ParseError) → Parses text one → Parses text other →
+    ensures some { (text : List ℕ) → (answer : Result Tree ParseError) × Parses text answer × (answer ≢ failed no_memory) }
+    ensures alone { (text : List ℕ) (one other : Result Tree ParseError) → Parses text one → Parses text other →
         one ≢ failed no_memory → other ≢ failed no_memory → one ≡ other }
 {}

@@ -1,7 +1,7 @@
 //! The parser of the interface language: the tree of a text, or the place at which the text ceases to be one.
 //!
 //! - `reader`: the tokens of a text, the next of which can be looked at (`Reader`)
-//! - `words`: what is read token by token; `types`, `statements`, `head`: the parts of the grammar
+//! - `head`, `types`, `params`, `statements`: the parts of the grammar
 //! - `parser`: the whole (`parse`)
 #![tactic(auto)]
 
