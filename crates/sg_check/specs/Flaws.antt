@@ -124,13 +124,16 @@ fit_flags statements f fun =
     && agree fun.query (says statements (codes "sm_query") f) && agree fun.all (says statements (codes "sm_needs_all") f)
     && agree fun.uses_file (says statements (codes "resc_data") f)
 
+-- whether the flags and the state of the function of a name are declared as the service has them
+unfoldable pub is_declared : Facts → List Statement → List ℕ → Bool
+is_declared facts statements f =
+    fit_flags statements f (fun_named facts f) && fit_leaves facts statements f (fun_named facts f).leaves
+
 -- a prototype of a function whose flags, or whose state, are declared otherwise
 abbrev pub wrong_flag : Facts → List Statement → Statement → Option ℕ
 wrong_flag facts statements (One word fun) = None
 wrong_flag facts statements (Two word first second) = None
-wrong_flag facts statements (Proto ret name params) =
-    let fun = fun_named facts name.bytes in
-    flaw_if (not (fit_flags statements name.bytes fun && fit_leaves facts statements name.bytes fun.leaves)) name.at
+wrong_flag facts statements (Proto ret name params) = flaw_if (not (is_declared facts statements name.bytes)) name.at
 
 -- one whose effects are
 abbrev pub wrong_effect : Facts → List Statement → Statement → Option ℕ

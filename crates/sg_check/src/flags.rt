@@ -2,7 +2,8 @@
 ghost use Rattle.std.specs.Prelude.{◌≡◌, codes};
 ghost use Rattle.std.specs.List.{list_any};
 ghost use Rattle.sg_facts.specs.Facts.{facts_of, fun_of_shape};
-ghost use Rattle.sg_check.specs.Flaws.{fit_flags, fit_leaves, leaves_another, leaves_some};
+ghost use Rattle.sg_check.specs.Says.{says};
+ghost use Rattle.sg_check.specs.Flaws.{agree, fit_flags, fit_leaves, is_declared, leaves_another, leaves_some};
 
 use crate::funs::fun_named;
 use crate::judge::Judge;
@@ -25,10 +26,7 @@ impl Judge for Flags<'_> {
         match statement {
             Statement::One { .. } | Statement::Two { .. } => None,
             Statement::Proto { name, .. } => {
-                let fun = fun_named(self.shape, name.slice);
-                if fit_flags(self.statements, name.slice, &fun)
-                    && fit_leaves(self.shape, self.statements, name.slice, fun.leaves)
-                {
+                if is_declared(self.shape, self.statements, name.slice) {
                     None
                 } else {
                     Some(name.at)
@@ -38,17 +36,33 @@ impl Judge for Flags<'_> {
     }
 }
 
+// Whether the flags and the state of the function of a name are declared.
+#[tactic(auto, unfolding(crate::specs::Flaws::is_declared))]
+fn is_declared(shape: &Shape, statements: &[Statement], name: &[u8]) -> bool
+    ensures { result ≡ is_declared (facts_of shape.now) statements.now name.now }
+{
+    let fun = fun_named(shape, name);
+    fit_flags(statements, name, &fun) && fit_leaves(shape, statements, name, fun.leaves)
+}
+
+// Whether a flag is declared exactly where the function has it.
+fn agrees(has: bool, statements: &[Statement], word: &[u8], name: &[u8]) -> bool
+    ensures { result ≡ agree has (says statements.now word.now name.now) }
+{
+    has == says(statements, word, name)
+}
+
 // Whether the flags of a function are declared.
 fn fit_flags(statements: &[Statement], name: &[u8], fun: &FunShape) -> bool
     ensures { result ≡ fit_flags statements.now name.now (fun_of_shape fun.now) }
 {
-    fun.is_creation() == says(statements, b"sm_creation", name)
-        && fun.is_terminal() == says(statements, b"sm_terminal", name)
-        && fun.may_block() == says(statements, b"sm_block", name)
-        && fun.wakes() == says(statements, b"sm_wakeup", name)
-        && fun.is_query() == says(statements, b"sm_query", name)
-        && fun.looks_at_all() == says(statements, b"sm_needs_all", name)
-        && fun.uses_file() == says(statements, b"resc_data", name)
+    agrees(fun.is_creation(), statements, b"sm_creation", name)
+        && agrees(fun.is_terminal(), statements, b"sm_terminal", name)
+        && agrees(fun.may_block(), statements, b"sm_block", name)
+        && agrees(fun.wakes(), statements, b"sm_wakeup", name)
+        && agrees(fun.is_query(), statements, b"sm_query", name)
+        && agrees(fun.looks_at_all(), statements, b"sm_needs_all", name)
+        && agrees(fun.uses_file(), statements, b"resc_data", name)
 }
 
 // Whether the state that a function leaves is declared.

@@ -82,12 +82,12 @@ pub fn is_word(name: &Option<Name>, word: &[u8]) -> bool
 fn are_of_kinds(params: &[Param], kinds: &[Kind]) -> bool
     ensures { result ≡ are_of_kinds params.now kinds.now }
 {
-    match (params, kinds) {
-        ([], []) => true,
-        ([param, params @ ..], [kind, kinds @ ..]) => {
-            is_of_kind(param, *kind) && are_of_kinds(params, kinds)
-        }
-        _ => false,
+    match params {
+        [] => kinds.is_empty(),
+        [param, params @ ..] => match kinds {
+            [] => false,
+            [kind, kinds @ ..] => is_of_kind(param, *kind) && are_of_kinds(params, kinds),
+        },
     }
 }
 
