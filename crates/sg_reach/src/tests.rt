@@ -79,7 +79,14 @@ fn comes_to(
     let found = reachable(alloc, iface)?;
     assert_eq!(rt; found.len(), all.len());
     for (triple, (made, state, mask)) in found.as_slice().iter().zip(all) {
-        assert_eq!(rt; *triple, Triple { made: *made, state: *state, mask: *mask });
+        assert_eq!(rt;
+            *triple,
+            Triple {
+                made: *made,
+                state: *state,
+                mask: *mask
+            }
+        );
     }
     Ok(())
 }
