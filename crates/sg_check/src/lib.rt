@@ -7,7 +7,9 @@
 mod fault;
 mod flags;
 mod funs;
+mod heads;
 mod judge;
+mod pairs;
 mod params;
 mod says;
 
