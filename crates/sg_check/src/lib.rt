@@ -4,11 +4,15 @@
 //! - `judge`: what can be wrong with a statement by itself, and the first that is
 #![tactic(auto)]
 
+mod change;
+mod declared;
+mod effects;
 mod fault;
 mod flags;
 mod funs;
 mod heads;
 mod judge;
+mod names;
 mod pairs;
 mod params;
 mod says;
