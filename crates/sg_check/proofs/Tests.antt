@@ -69,10 +69,12 @@ all_of_service p facts f effects is =
 -- ---- the judge
 
 -- effects that aren't the function's are the flaw of its prototype
-pub judged : (facts : Facts) (statements : List Statement) (ret : Ret) (name : Named) (params : List Param) (s : Statement) (f : Fun) (fit : Bool)
-    → s ≡ Proto ret name params → f ≡ fun_named facts name.bytes
-    → fit ≡ same_effects (declared_effects statements name.bytes ret params) (service_effects facts f)
-    → flaw_if (not fit) name.at ≡ wrong_effect facts statements s
-judged facts statements ret name params s f fit is own same =
-    ap (λ b. flaw_if (not b) name.at) (same ∙ ap (λ g. same_effects (declared_effects statements name.bytes ret params) (service_effects facts g)) own)
-    ∙ ap (wrong_effect facts statements) (sym is)
+pub judged : (facts : Facts) (statements : List Statement) (ret : Ret) (name : Named) (params : List Param) (s : Statement) (f : Fun) (fit : Bool) (slice : List ℕ) (at : ℕ) (own : List Param)
+    → s ≡ Proto ret name params → record { bytes = slice; at = at } ≡ name → own ≡ params → f ≡ fun_named facts slice
+    → fit ≡ same_effects (declared_effects statements slice ret own) (service_effects facts f)
+    → flaw_if (not fit) at ≡ wrong_effect facts statements s
+judged facts statements ret name params s f fit slice at own is told lent found same =
+    let named : s ≡ Proto ret (record { bytes = slice; at = at }) own =
+        is ∙ ap (λ n. Proto ret n params) (sym told) ∙ ap (λ l. Proto ret (record { bytes = slice; at = at }) l) (sym lent) in
+    ap (λ b. flaw_if (not b) at) (same ∙ ap (λ g. same_effects (declared_effects statements slice ret own) (service_effects facts g)) found)
+    ∙ ap (wrong_effect facts statements) (sym named)

@@ -4,3 +4,4 @@ pub mod Effects
 pub mod Changes
 pub mod Flaws
 pub mod Faults
+pub mod Names

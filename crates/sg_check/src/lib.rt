@@ -15,6 +15,7 @@ mod judge;
 mod names;
 mod pairs;
 mod params;
+mod protos;
 mod says;
 
 pub use fault::{CheckError, CheckFault, CheckKind};

@@ -1,6 +1,6 @@
 // Sets of names.
 ghost use Rattle.std.specs.Prelude.{◌≡◌, ◌||◌, ℕ, List, [], OnOk, OnErr};
-ghost use Rattle.std.specs.List.{list_any};
+ghost use Rattle.sg_check.specs.Names.{has_name};
 ghost use Rattle.std.specs.Str.{bytes_eq};
 
 use sg_base::NoMemory;
@@ -34,15 +34,14 @@ impl<'a> Names<'a> {
 
     /// Whether the set has a name.
     pub fn has(&self, name: &[u8]) -> bool
-        ensures { result ≡ list_any (λ n. bytes_eq n name.now) self.now }
+        ensures { result ≡ has_name self.now name.now }
     {
         self.names.contains(name)
     }
 
     /// Adds a name. After `NoMemory` the set is as before.
     pub fn add(&mut self, name: &'a [u8]) -> Result<(), NoMemory>
-        ensures ok { OnOk result ((other : List ℕ) → list_any (λ n. bytes_eq n other) self.new
-            ≡ (bytes_eq name.now other || list_any (λ n. bytes_eq n other) self.old)) }
+        ensures ok { OnOk result ((other : List ℕ) → has_name self.new other ≡ (bytes_eq name.now other || has_name self.old other)) }
         ensures err { OnErr result (self.new ≡ self.old) }
     {
         self.names.insert(name)?;

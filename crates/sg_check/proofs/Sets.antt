@@ -1,0 +1,51 @@
+-- Sets of names by their bytes.
+use Rattle.std.proofs.Common.{◌≡◌, ℕ, Bool, true, false, ◌||◌, List, [], ◌∷◌, ◌++◌, map, Bor, refl, sym, ◌∙◌, ap}
+use Rattle.std.specs.Prelude.{if◌then◌else◌}
+use Rattle.std.specs.List.{list_any}
+use Rattle.std.specs.Str.{bytes_eq}
+use Rattle.std.proofs.lemmas.Bool.Decides.{same_from_decides}
+use Rattle.std.proofs.lemmas.Slice.Eq.{bytes_eq-Decides}
+use Rattle.std.proofs.lemmas.List.Folds.{list_any-append}
+use Rattle.sg_grammar.specs.declared.tree.Statement.{Statement}
+use Rattle.sg_check.specs.Names.{AreOf, has_name}
+use Rattle.sg_check.specs.Says.{has_proto, is_proto}
+
+other_way : (xs ys : List ℕ) → bytes_eq xs ys ≡ bytes_eq ys xs
+other_way xs ys =
+    let d = bytes_eq-Decides ys xs in
+    same_from_decides (bytes_eq xs ys) (bytes_eq ys xs) (bytes_eq-Decides xs ys) (λ t. sym (d.0 t), λ e. d.1 (sym e))
+
+-- the set's own test, by bytes
+pub by_bytes : (keys : List (Bor (List ℕ))) (name : List ℕ) → list_any (λ k. bytes_eq name k.now) keys ≡ has_name (map (λ k. k.now) keys) name
+by_bytes [] name = refl
+by_bytes (k ∷ keys) name = ap (λ b. b || list_any (λ q. bytes_eq name q.now) keys) (other_way name k.now) ∙ ap (λ b. bytes_eq k.now name || b) (by_bytes keys name)
+
+pub has_it : (keys : List (Bor (List ℕ))) (names : List (List ℕ)) (name : List ℕ) (r : Bool) → r ≡ list_any (λ k. bytes_eq name k.now) keys → map (λ k. k.now) keys ≡ names
+    → r ≡ has_name names name
+has_it keys names name r is same = is ∙ by_bytes keys name ∙ ap (λ l. has_name l name) same
+
+if_or : (a b : Bool) → (if a then true else b) ≡ (a || b)
+if_or true b = refl
+if_or false b = refl
+
+-- a set with one name more
+pub gains : (old new : List (Bor (List ℕ))) (names : List (List ℕ)) (name : List ℕ) (other : List ℕ)
+    → list_any (λ k. bytes_eq other k.now) new ≡ (if bytes_eq name other then true else list_any (λ k. bytes_eq other k.now) old) → map (λ k. k.now) old ≡ names
+    → has_name (map (λ k. k.now) new) other ≡ (bytes_eq name other || has_name names other)
+gains old new names name other is same =
+    sym (by_bytes new other) ∙ is ∙ if_or (bytes_eq name other) (list_any (λ k. bytes_eq other k.now) old)
+    ∙ ap (λ b. bytes_eq name other || b) (by_bytes old other ∙ ap (λ l. has_name l other) same)
+
+-- ---- prototypes
+
+turned : (a b : Bool) → (a || b) ≡ (b || (a || false))
+turned true true = refl
+turned true false = refl
+turned false true = refl
+turned false false = refl
+
+-- the names of prototypes, after one statement more
+pub of_more : (names new : List (List ℕ)) (before : List Statement) (s : Statement) → AreOf names before
+    → ((f : List ℕ) → has_name new f ≡ (is_proto f s || has_name names f)) → AreOf new (before ++ s ∷ [])
+of_more names new before s are more f =
+    more f ∙ ap (λ b. is_proto f s || b) (are f) ∙ turned (is_proto f s) (has_proto before f) ∙ sym (list_any-append (is_proto f) before (s ∷ []))
