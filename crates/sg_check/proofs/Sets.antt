@@ -7,6 +7,11 @@ use Rattle.std.proofs.lemmas.Bool.Decides.{same_from_decides}
 use Rattle.std.proofs.lemmas.Slice.Eq.{bytes_eq-Decides}
 use Rattle.std.proofs.lemmas.List.Folds.{list_any-append}
 use Rattle.sg_grammar.specs.declared.tree.Statement.{Statement}
+use Rattle.sg_grammar.specs.Named.{Named}
+use Rattle.sg_grammar.specs.declared.tree.Param.{Param}
+use Rattle.sg_grammar.specs.declared.tree.Ret.{Ret}
+use Rattle.sg_grammar.specs.declared.tree.Statement.TheVariants.{Proto}
+use Rattle.sg_check.specs.Flaws.{duplicate, flaw_if}
 use Rattle.sg_check.specs.Names.{AreOf, has_name}
 use Rattle.sg_check.specs.Says.{has_proto, is_proto}
 
@@ -49,3 +54,11 @@ pub of_more : (names new : List (List ℕ)) (before : List Statement) (s : State
     → ((f : List ℕ) → has_name new f ≡ (is_proto f s || has_name names f)) → AreOf new (before ++ s ∷ [])
 of_more names new before s are more f =
     more f ∙ ap (λ b. is_proto f s || b) (are f) ∙ turned (is_proto f s) (has_proto before f) ∙ sym (list_any-append (is_proto f) before (s ∷ []))
+
+-- a prototype of a function that is among the names of those before
+pub second : (names : List (List ℕ)) (before : List Statement) (s : Statement) (ret : Ret) (name : Named) (params : List Param) (slice : List ℕ) (at : ℕ) (r : Bool)
+    → AreOf names before → s ≡ Proto ret name params → record { bytes = slice; at = at } ≡ name → r ≡ has_name names slice
+    → flaw_if r at ≡ duplicate before s
+second names before s ret name params slice at r are is told same =
+    ap (λ b. flaw_if b at) (same ∙ are slice)
+    ∙ ap (duplicate before) (ap (λ n. Proto ret n params) told ∙ sym is)

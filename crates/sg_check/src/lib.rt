@@ -17,5 +17,6 @@ mod pairs;
 mod params;
 mod protos;
 mod says;
+mod unknown;
 
 pub use fault::{CheckError, CheckFault, CheckKind};
