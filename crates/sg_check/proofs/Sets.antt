@@ -1,6 +1,9 @@
 -- Sets of names by their bytes.
 use Rattle.std.proofs.Common.{◌≡◌, ℕ, Bool, true, false, ◌||◌, List, [], ◌∷◌, ◌++◌, map, Bor, refl, sym, ◌∙◌, ap}
-use Rattle.std.specs.Prelude.{if◌then◌else◌}
+use Rattle.std.specs.Prelude.{if◌then◌else◌, ◌&&◌, not, None, Some}
+use Rattle.std.specs.declared.option.Option.{Option}
+use Rattle.std.specs.Option.{option_or}
+use Rattle.sg_facts.specs.Facts.{Facts}
 use Rattle.std.specs.List.{list_any}
 use Rattle.std.specs.Str.{bytes_eq}
 use Rattle.std.proofs.lemmas.Bool.Decides.{same_from_decides}
@@ -10,8 +13,8 @@ use Rattle.sg_grammar.specs.declared.tree.Statement.{Statement}
 use Rattle.sg_grammar.specs.Named.{Named}
 use Rattle.sg_grammar.specs.declared.tree.Param.{Param}
 use Rattle.sg_grammar.specs.declared.tree.Ret.{Ret}
-use Rattle.sg_grammar.specs.declared.tree.Statement.TheVariants.{Proto}
-use Rattle.sg_check.specs.Flaws.{duplicate, flaw_if}
+use Rattle.sg_grammar.specs.declared.tree.Statement.TheVariants.{Proto, Two}
+use Rattle.sg_check.specs.Flaws.{duplicate, flaw_if, names_two, or_else, unknown}
 use Rattle.sg_check.specs.Names.{AreOf, has_name}
 use Rattle.sg_check.specs.Says.{has_proto, is_proto}
 
@@ -62,3 +65,20 @@ pub second : (names : List (List ℕ)) (before : List Statement) (s : Statement)
 second names before s ret name params slice at r are is told same =
     ap (λ b. flaw_if b at) (same ∙ are slice)
     ∙ ap (duplicate before) (ap (λ n. Proto ret n params) told ∙ sym is)
+
+-- ---- unknown names
+
+either : (a b : Option ℕ) → option_or a b ≡ or_else a b
+either None b = refl
+either (Some x) b = refl
+
+-- the first of two names that has no prototype
+pub two_names : (facts : Facts) (statements : List Statement) (s : Statement) (word first last : Named) (slice : List ℕ) (at : ℕ) (r one other : Option ℕ)
+    → r ≡ option_or one other → one ≡ flaw_if (not (has_proto statements first.bytes)) first.at
+    → other ≡ flaw_if (names_two slice && not (has_proto statements last.bytes)) last.at → record { bytes = slice; at = at } ≡ word → s ≡ Two word first last
+    → r ≡ unknown facts statements s
+two_names facts statements s word first last slice at r one other both here there told is =
+    let same : slice ≡ word.bytes = ap (λ n. n.bytes) told in
+    both ∙ either one other ∙ ap (λ a. or_else a other) here
+    ∙ ap (λ b. or_else (flaw_if (not (has_proto statements first.bytes)) first.at) b) (there ∙ ap (λ w. flaw_if (names_two w && not (has_proto statements last.bytes)) last.at) same)
+    ∙ ap (unknown facts statements) (sym is)
