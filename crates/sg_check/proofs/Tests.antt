@@ -40,7 +40,7 @@ last_two false b c = refl
 
 pub any_of_declared : (p : Named_effect → Bool) (statements : List Statement) (f : List ℕ) (ret : Ret) (params : List Param)
     → list_any p (declared_effects statements f ret params)
-        ≡ ((list_any p (caller_effects params) || list_any p (later_effects params)) || (list_any p (ret_effects ret) || list_any (λ s. list_any p (statement_effects f s)) statements))
+    ≡ ((list_any p (caller_effects params) || list_any p (later_effects params)) || (list_any p (ret_effects ret) || list_any (λ s. list_any p (statement_effects f s)) statements))
 any_of_declared p statements f ret params =
     let A : List Named_effect = caller_effects params in
     let B : List Named_effect = later_effects params in
@@ -75,6 +75,13 @@ pub judged : (facts : Facts) (statements : List Statement) (ret : Ret) (name : N
     → flaw_if (not fit) at ≡ wrong_effect facts statements s
 judged facts statements ret name params s f fit slice at own is told lent found same =
     let named : s ≡ Proto ret (record { bytes = slice; at = at }) own =
-        is ∙ ap (λ n. Proto ret n params) (sym told) ∙ ap (λ l. Proto ret (record { bytes = slice; at = at }) l) (sym lent) in
+    is ∙ ap (λ n. Proto ret n params) (sym told) ∙ ap (λ l. Proto ret (record { bytes = slice; at = at }) l) (sym lent) in
     ap (λ b. flaw_if (not b) at) (same ∙ ap (λ g. same_effects (declared_effects statements slice ret own) (service_effects facts g)) found)
     ∙ ap (wrong_effect facts statements) (sym named)
+
+-- ---- pairs
+
+-- pairs of a shape as plain data
+pub same_pairs : (pairs : List (ℕ × ℕ)) → map (λ p. (p.0, p.1)) pairs ≡ pairs
+same_pairs [] = refl
+same_pairs (p ∷ pairs) = ap (λ l. p ∷ l) (same_pairs pairs)

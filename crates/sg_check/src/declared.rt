@@ -41,7 +41,7 @@ pub fn any_declared<T: Test>(test: &T, proto: &Proto) -> bool
 fn any_by_parts<T: Test>(test: &T, proto: &Proto) -> bool
     ensures { result ≡ ((list_any (T.passes test.now) (caller_effects proto.now.params.now) || list_any (T.passes test.now) (later_effects proto.now.params.now))
         || (list_any (T.passes test.now) (ret_effects proto.now.ret.now)
-            || list_any (λ s. list_any (T.passes test.now) (statement_effects proto.now.name.now s)) proto.now.statements.now)) }
+        || list_any (λ s. list_any (T.passes test.now) (statement_effects proto.now.name.now s)) proto.now.statements.now)) }
 {
     any_by_params(test, proto.params)
         || any_by_ret(test, proto.ret)

@@ -1,5 +1,7 @@
 // Whether the effects of a function are declared as the service has them.
-ghost use Rattle.std.specs.Prelude.{◌≡◌, ◌&&◌};
+ghost use Rattle.std.specs.Prelude.{◌≡◌, ◌&&◌, Some, MatchOption};
+ghost use Rattle.sg_check.specs.Faults.{IsFirst, NoneOf};
+ghost use Rattle.sg_check.specs.Flaws.{wrong_effect};
 ghost use Rattle.std.specs.List.{list_any, list_all};
 ghost use Rattle.std.specs.Str.{bytes_eq};
 ghost use Rattle.sg_facts.specs.Facts.{facts_of, fun_of_shape};
@@ -7,21 +9,20 @@ ghost use Rattle.sg_check.specs.Changes.{effect_of};
 ghost use Rattle.sg_check.specs.Effects.{declared_effects, field_name, has_effect, same_effect, same_effects, service_effects};
 
 use crate::change::Change;
-use crate::declared::{any_declared, Proto, Test};
+use crate::declared::{Proto, Test, any_declared};
 use crate::funs::fun_named;
-use crate::judge::Judge;
+use crate::judge::{Judge, first_flaw};
 use sg_facts::{Effect, FunShape, Shape};
 use sg_grammar::Statement;
 
 /// Looks for prototypes of functions whose effects are declared otherwise.
+#[derive(Clone, Copy)]
 pub struct Effects<'a> {
     pub shape: &'a Shape,
     pub statements: &'a [Statement<'a>],
 }
 
 impl Judge for Effects<'_> {
-    ghost use Rattle.sg_check.specs.Flaws.{wrong_effect};
-
     ghost flaw = { λ j s. wrong_effect (facts_of j.shape.now) j.statements.now s };
 
     fn flaw_in(&self, statement: &Statement) -> Option<usize> {
@@ -43,6 +44,15 @@ impl Judge for Effects<'_> {
             }
         }
     }
+}
+
+/// The place of the first prototype whose effects aren't its function's.
+pub fn wrong_effect_in(shape: &Shape, statements: &[Statement]) -> Option<usize>
+    ensures { MatchOption result
+        (NoneOf (λ before s p. wrong_effect (facts_of shape.now) statements.now s ≡ Some p) statements.now)
+        (IsFirst (λ before s p. wrong_effect (facts_of shape.now) statements.now s ≡ Some p) statements.now) }
+{
+    first_flaw(&Effects { shape, statements }, statements)
 }
 
 // Whether the effects that are declared are those of the function.
@@ -77,9 +87,7 @@ fn all_declared(shape: &Shape, effects: &[(u8, Effect)], proto: &Proto) -> bool
         (declared_effects proto.now.statements.now proto.now.name.now proto.now.ret.now proto.now.params.now)
         (field_name (facts_of shape.now).fields e.0, e.1)) effects.now }
 {
-    effects
-        .iter()
-        .all(|effect| is_declared(field_name(shape, effect.0), effect.1, proto))
+    effects.iter().all(|effect| is_declared(field_name(shape, effect.0), effect.1, proto))
 }
 
 // Whether an effect is declared.
@@ -102,9 +110,7 @@ fn has_effect(shape: &Shape, fun: &FunShape, field: &[u8], change: Change) -> bo
 fn is_among(shape: &Shape, effects: &[(u8, Effect)], field: &[u8], change: Change) -> bool
     ensures { result ≡ list_any (λ e. bytes_eq (field_name (facts_of shape.now).fields e.0) field.now && same_effect e.1 (effect_of change)) effects.now }
 {
-    effects
-        .iter()
-        .any(|effect| field_name(shape, effect.0) == field && change.is(effect.1))
+    effects.iter().any(|effect| field_name(shape, effect.0) == field && change.is(effect.1))
 }
 
 // The name of a field, or none.

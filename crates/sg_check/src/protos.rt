@@ -14,12 +14,12 @@ use std::marker::Model;
 
 /// The functions that have a prototype among statements. Contracts see the statements.
 #[derive(Drop)]
-pub struct Protos<'a> {
-    statements: &'a [Statement<'a>],
+pub struct Protos<'s, 'a> {
+    statements: &'s [Statement<'a>],
     names: Names<'a>,
 }
 
-impl<'a> Model for Protos<'a> {
+impl<'s, 'a> Model for Protos<'s, 'a> {
     ghost use Rattle.std.specs.Prelude.{List};
     ghost use Rattle.sg_check.specs.Names.{AreOf};
     ghost use Rattle.sg_grammar.specs.declared.tree.Statement.{Statement as One};
@@ -31,9 +31,9 @@ impl<'a> Model for Protos<'a> {
     ghost invariant = { λ p. AreOf p.names p.statements.now };
 }
 
-impl<'a> Protos<'a> {
+impl<'s, 'a> Protos<'s, 'a> {
     /// Those of statements.
-    pub fn of(alloc: Global, statements: &'a [Statement<'a>]) -> Result<Protos<'a>, NoMemory>
+    pub fn of(alloc: Global, statements: &'s [Statement<'a>]) -> Result<Protos<'s, 'a>, NoMemory>
         ensures { IfOk result (λ p. p ≡ statements.now) }
     {
         let names = names_of(alloc, statements)?;

@@ -1,24 +1,26 @@
 // Whether the functions that statements name are declared, and those that are declared the service's.
-ghost use Rattle.std.specs.Prelude.{◌≡◌, ◌&&◌, not, codes};
+ghost use Rattle.std.specs.Prelude.{◌≡◌, ◌&&◌, not, Some, IfOk, MatchOption, codes};
+ghost use Rattle.sg_check.specs.Faults.{IsFirst, NoneOf};
 ghost use Rattle.sg_facts.specs.Facts.{facts_of};
-ghost use Rattle.sg_check.specs.Flaws.{flaw_if, names_two};
+ghost use Rattle.sg_check.specs.Flaws.{flaw_if, names_two, unknown};
 ghost use Rattle.sg_check.specs.Says.{has_proto};
 
 use crate::funs::number_of;
-use crate::judge::Judge;
+use crate::judge::{Judge, first_flaw};
 use crate::protos::Protos;
+use sg_base::NoMemory;
 use sg_facts::Shape;
 use sg_grammar::{Name, Statement};
+use std::alloc::Global;
 
 /// Looks for names of functions that have no prototype, and for prototypes of functions that the service hasn't.
-pub struct Unknown<'a> {
-    pub shape: &'a Shape,
-    pub protos: &'a Protos<'a>,
+#[derive(Clone, Copy)]
+pub struct Unknown<'p, 's, 'a> {
+    pub shape: &'p Shape,
+    pub protos: &'p Protos<'s, 'a>,
 }
 
-impl Judge for Unknown<'_> {
-    ghost use Rattle.sg_check.specs.Flaws.{unknown};
-
+impl Judge for Unknown<'_, '_, '_> {
     ghost flaw = { λ j s. unknown (facts_of j.shape.now) j.protos.now s };
 
     fn flaw_in(&self, statement: &Statement) -> Option<usize> {
@@ -66,4 +68,24 @@ fn names_two(word: &[u8]) -> bool
     word == b"sm_state".as_slice()
         || word == b"sm_transition".as_slice()
         || word == b"sm_recover".as_slice()
+}
+
+/// The place of the first name of a function that has no prototype, or prototype of a function that the service hasn't.
+pub fn unknown_in(
+    alloc: Global,
+    shape: &Shape,
+    statements: &[Statement],
+) -> Result<Option<usize>, NoMemory>
+    ensures { IfOk result (λ r. MatchOption r
+        (NoneOf (λ before s p. unknown (facts_of shape.now) statements.now s ≡ Some p) statements.now)
+        (IsFirst (λ before s p. unknown (facts_of shape.now) statements.now s ≡ Some p) statements.now)) }
+{
+    let protos = Protos::of(alloc, statements)?;
+    Ok(first_flaw(
+        &Unknown {
+            shape,
+            protos: &protos,
+        },
+        statements,
+    ))
 }

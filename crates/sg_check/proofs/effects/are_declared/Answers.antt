@@ -8,4 +8,4 @@ use Rattle.sg_check.proofs.effects.are_declared.Goals as goal
 pub returns : goal.returns
 returns c = c.all_declared.ensures
     ∙ sym (all_of_service (has_effect (declared_effects c.args.proto.now.statements.now c.args.proto.now.name.now c.args.proto.now.ret.now c.args.proto.now.params.now))
-        (facts_of c.args.shape.now) (fun_of_shape c.args.fun.now) c.args.fun.now.effects.now refl)
+    (facts_of c.args.shape.now) (fun_of_shape c.args.fun.now) c.args.fun.now.effects.now refl)

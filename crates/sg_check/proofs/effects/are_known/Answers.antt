@@ -8,4 +8,4 @@ use Rattle.sg_check.proofs.effects.are_known.Goals as goal
 pub returns : goal.returns
 returns c = ap not c.any_declared.ensures
     ∙ sym (all_by_any (has_effect (service_effects (facts_of c.args.shape.now) (fun_of_shape c.args.fun.now)))
-        (declared_effects c.args.proto.now.statements.now c.args.proto.now.name.now c.args.proto.now.ret.now c.args.proto.now.params.now))
+    (declared_effects c.args.proto.now.statements.now c.args.proto.now.name.now c.args.proto.now.ret.now c.args.proto.now.params.now))
