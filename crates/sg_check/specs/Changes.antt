@@ -1,5 +1,4 @@
 -- What the code says of a change of a field, as an effect.
-use Rattle.std.specs.Prelude.{ℕ}
 use Rattle.sg_facts.specs.declared.shape.Effect.{Effect}
 use Rattle.sg_facts.specs.declared.shape.Effect.TheVariants.{SetCaller, SetArg, AddArg, SetRet, AddRet, Clear, SubOne}
 use Rattle.sg_check.specs.declared.change.Change.{Change}

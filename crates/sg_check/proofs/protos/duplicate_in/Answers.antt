@@ -1,5 +1,5 @@
 -- Statement by statement.
-use Rattle.std.proofs.Common.{◌≡◌, ◌+◌, ◌||◌, None, Some, take, get_or, sym, ◌∙◌, ap, subst}
+use Rattle.std.proofs.Common.{◌≡◌, ◌||◌, None, Some, take, get_or, sym, ◌∙◌, ap, subst}
 use Rattle.std.proofs.lemmas.List.{take_more}
 use Rattle.sg_check.specs.Faults.{NoneOf}
 use Rattle.sg_check.specs.Flaws.{duplicate}

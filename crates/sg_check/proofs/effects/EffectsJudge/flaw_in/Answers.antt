@@ -1,5 +1,5 @@
 -- The flaw of a prototype.
-use Rattle.std.proofs.Common.{true, false, None, Some, not, ◌∙◌, sym, ap}
+use Rattle.std.proofs.Common.{not, ◌∙◌, sym, ap}
 use Rattle.sg_facts.specs.Facts.{facts_of, fun_of_shape}
 use Rattle.sg_check.specs.Flaws.{flaw_if}
 use Rattle.sg_check.proofs.Tests.{judged}
