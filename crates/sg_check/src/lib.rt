@@ -12,6 +12,8 @@ mod flags;
 mod funs;
 mod heads;
 mod judge;
+#[cfg(test)]
+mod name_tests;
 mod names;
 mod pairs;
 mod params;
