@@ -1,5 +1,5 @@
 // The effects that a text declares for a function, gone over one by one.
-ghost use Rattle.std.specs.Prelude.{◌≡◌, ◌+◌, ◌<◌, ◌^◌, ◌||◌, if◌then◌else◌, false, [], ◌∷◌, codes, length, Bool};
+ghost use Rattle.std.specs.Prelude.{◌≡◌, ◌+◌, ◌||◌, if◌then◌else◌, false, [], ◌∷◌, codes, Bool};
 ghost use Rattle.std.specs.List.{list_any, flat_map};
 ghost use Rattle.sg_check.specs.Effects.{Named_effect, arg_effects, caller_effects, declared_effects, later_effects, ret_effects, statement_effects};
 ghost use Rattle.sg_check.specs.Changes.{effect_of};
@@ -54,7 +54,7 @@ fn any_by_params<T: Test>(test: &T, params: &[Param]) -> bool
 {
     match params {
         [] => false,
-        [caller, later @ ..] => by_caller(test, caller) || any_by_args(test, 0, later),
+        [caller, later @ ..] => by_caller(test, caller) || any_by_args(test, later),
     }
 }
 
@@ -65,16 +65,21 @@ fn by_caller<T: Test>(test: &T, caller: &Param) -> bool
     is_word(&caller.form, b"desc_data") && test.has(caller.name.slice, Change::Caller)
 }
 
-// Whether one of later parameters does, of which the first argument has this number.
-fn any_by_args<T: Test>(test: &T, number: usize, params: &[Param]) -> bool
-    requires { number + length params.now < 2 ^ 64 }
-    ensures { result ≡ list_any (T.passes test.now) (arg_effects number params.now) }
+// Whether one of later parameters does.
+fn any_by_args<T: Test>(test: &T, params: &[Param]) -> bool
+    ensures { result ≡ list_any (T.passes test.now) (arg_effects 0 params.now) }
 {
-    match params {
-        [] => false,
-        [param, rest @ ..] if is_desc(param) => any_by_args(test, number, rest),
-        [param, rest @ ..] => by_arg(test, number, param) || any_by_args(test, number + 1, rest),
+    let mut number = 0;
+    'params: for param in params {
+        if is_desc(param) {
+            continue;
+        }
+        if by_arg(test, number, param) {
+            return true;
+        }
+        number += 1;
     }
+    false
 }
 
 // Whether a parameter is a descriptor or a parent.
