@@ -1,3 +1,3 @@
 pub mod Firsts
-pub mod Tests
+pub mod Judged
 pub mod Sets

@@ -16,13 +16,13 @@ mod flags;
 mod funs;
 mod heads;
 mod judge;
-#[cfg(test)]
-mod name_tests;
 mod names;
 mod pairs;
 mod params;
 mod protos;
 mod says;
+#[cfg(test)]
+mod tests;
 mod unknown;
 
 pub use fault::{CheckError, CheckFault, CheckKind};

@@ -1,6 +1,6 @@
 -- Part by part.
 use Rattle.std.proofs.Common.{sym, ◌∙◌}
-use Rattle.sg_check.proofs.Tests.{any_of_declared}
+use Rattle.sg_check.proofs.Judged.{any_of_declared}
 use Rattle.sg_check.proofs.declared.any_declared.Goals as goal
 
 pub returns : goal.returns

@@ -2,7 +2,7 @@
 use Rattle.std.proofs.Common.{refl, sym, ◌∙◌}
 use Rattle.sg_facts.specs.Facts.{facts_of, fun_of_shape}
 use Rattle.sg_check.specs.Effects.{declared_effects, has_effect}
-use Rattle.sg_check.proofs.Tests.{all_of_service}
+use Rattle.sg_check.proofs.Judged.{all_of_service}
 use Rattle.sg_check.proofs.effects.are_declared.Goals as goal
 
 pub returns : goal.returns

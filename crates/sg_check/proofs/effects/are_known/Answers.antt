@@ -2,7 +2,7 @@
 use Rattle.std.proofs.Common.{not, sym, ◌∙◌, ap}
 use Rattle.sg_facts.specs.Facts.{facts_of, fun_of_shape}
 use Rattle.sg_check.specs.Effects.{declared_effects, has_effect, service_effects}
-use Rattle.sg_check.proofs.Tests.{all_by_any}
+use Rattle.sg_check.proofs.Judged.{all_by_any}
 use Rattle.sg_check.proofs.effects.are_known.Goals as goal
 
 pub returns : goal.returns

@@ -2,7 +2,7 @@
 use Rattle.std.proofs.Common.{refl, sym, ◌∙◌}
 use Rattle.sg_facts.specs.Facts.{facts_of, fun_of_shape}
 use Rattle.sg_check.specs.Changes.{effect_of}
-use Rattle.sg_check.proofs.Tests.{service_has}
+use Rattle.sg_check.proofs.Judged.{service_has}
 use Rattle.sg_check.proofs.effects.has_effect.Goals as goal
 
 pub returns : goal.returns

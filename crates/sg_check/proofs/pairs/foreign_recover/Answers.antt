@@ -4,7 +4,7 @@ use Rattle.std.specs.Prelude.{MatchOption}
 use Rattle.sg_facts.specs.Facts.{facts_of}
 use Rattle.sg_check.specs.Faults.{IsFirst, NoneOf}
 use Rattle.sg_check.specs.Flaws.{foreign}
-use Rattle.sg_check.proofs.Tests.{same_pairs}
+use Rattle.sg_check.proofs.Judged.{same_pairs}
 use Rattle.sg_check.proofs.pairs.foreign_recover.Goals as goal
 
 pub returns : goal.returns

@@ -2,7 +2,7 @@
 use Rattle.std.proofs.Common.{not, ◌∙◌, sym, ap}
 use Rattle.sg_facts.specs.Facts.{facts_of, fun_of_shape}
 use Rattle.sg_check.specs.Flaws.{flaw_if}
-use Rattle.sg_check.proofs.Tests.{judged}
+use Rattle.sg_check.proofs.Judged.{judged}
 use Rattle.sg_check.proofs.effects.EffectsJudge.flaw_in.Goals as goal
 
 pub returns-then-fit_effects : goal.returns-then-fit_effects
