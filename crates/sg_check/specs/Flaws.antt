@@ -1,5 +1,5 @@
 -- What can be wrong with a statement, or with the facts, of a text, and at which place.
-use Rattle.std.specs.Prelude.{ℕ, ◌≡◌, ◌≤◌, ◌==◌, Bool, true, false, ◌&&◌, ◌||◌, not, if◌then◌else◌, List, [], ◌∷◌, None, Some, codes, length, unwrap_or}
+use Rattle.std.specs.Prelude.{ℕ, ◌≡◌, ◌≤◌, Bool, true, false, ◌&&◌, ◌||◌, not, if◌then◌else◌, List, None, Some, codes, length, unwrap_or}
 use Rattle.std.specs.declared.option.Option.{Option}
 use Rattle.std.specs.List.{list_any}
 use Rattle.std.specs.Option.{is_none}
@@ -16,7 +16,7 @@ use Rattle.sg_grammar.specs.Named.{Named}
 use Rattle.sg_grammar.specs.declared.tree.Facts.{Facts as Head}
 use Rattle.sg_grammar.specs.declared.tree.Statement.{Statement}
 use Rattle.sg_grammar.specs.declared.tree.Statement.TheVariants.{One, Two, Proto}
-use Rattle.sg_check.specs.Says.{has_proto, is_two, number_of, says, says_of}
+use Rattle.sg_check.specs.Says.{has_proto, number_of, says, says_of}
 use Rattle.sg_check.specs.Params.{fit_params}
 use Rattle.sg_check.specs.Effects.{declared_effects, same_effects, service_effects}
 

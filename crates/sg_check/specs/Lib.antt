@@ -1,5 +1,7 @@
 pub mod Says
 pub mod Params
 pub mod Effects
+pub mod Changes
 pub mod Flaws
 pub mod Faults
+pub mod Names

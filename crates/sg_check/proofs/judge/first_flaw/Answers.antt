@@ -1,7 +1,7 @@
 -- Statement by statement.
-use Rattle.std.proofs.Common.{◌≡◌, ◌+◌, ◌++◌, ◌∷◌, [], None, Some, take, drop, length, get_or, sym, ◌∙◌, ap, subst, arith}
+use Rattle.std.proofs.Common.{◌≡◌, None, Some, take, sym, ◌∙◌, ap, subst}
 use Rattle.std.proofs.lemmas.List.{take_more, take_all}
-use Rattle.sg_check.specs.Faults.{IsFirst, NoneOf}
+use Rattle.sg_check.specs.Faults.{NoneOf}
 use Rattle.sg_check.proofs.Firsts.{none_more, none_at_all, first_here}
 use Rattle.sg_check.proofs.judge.first_flaw.Goals as goal
 
