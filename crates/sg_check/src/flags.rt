@@ -1,25 +1,25 @@
 // Whether the flags of a function, and the state that it leaves, are declared as the service has them.
-ghost use Rattle.std.specs.Prelude.{◌≡◌, codes};
+ghost use Rattle.std.specs.Prelude.{◌≡◌, Some, MatchOption, codes};
 ghost use Rattle.std.specs.List.{list_any};
 ghost use Rattle.sg_facts.specs.Facts.{facts_of, fun_of_shape};
 ghost use Rattle.sg_check.specs.Says.{says};
-ghost use Rattle.sg_check.specs.Flaws.{agree, fit_flags, fit_leaves, is_declared, leaves_another, leaves_some};
+ghost use Rattle.sg_check.specs.Faults.{IsFirst, NoneOf};
+ghost use Rattle.sg_check.specs.Flaws.{wrong_flag, agree, fit_flags, fit_leaves, is_declared, leaves_another, leaves_some};
 
 use crate::funs::fun_named;
-use crate::judge::Judge;
+use crate::judge::{Judge, first_flaw};
 use crate::says::{says, says_of};
 use sg_facts::{FunShape, Leaves, Shape};
 use sg_grammar::Statement;
 
 /// Looks for prototypes of functions whose flags, or whose state, are declared otherwise.
+#[derive(Clone, Copy)]
 pub struct Flags<'a> {
     pub shape: &'a Shape,
     pub statements: &'a [Statement<'a>],
 }
 
 impl Judge for Flags<'_> {
-    ghost use Rattle.sg_check.specs.Flaws.{wrong_flag};
-
     ghost flaw = { λ j s. wrong_flag (facts_of j.shape.now) j.statements.now s };
 
     fn flaw_in(&self, statement: &Statement) -> Option<usize> {
@@ -34,6 +34,15 @@ impl Judge for Flags<'_> {
             }
         }
     }
+}
+
+/// The place of the first prototype whose function's flags, or whose state, are declared otherwise.
+pub fn wrong_flag_in(shape: &Shape, statements: &[Statement]) -> Option<usize>
+    ensures { MatchOption result
+        (NoneOf (λ before s p. wrong_flag (facts_of shape.now) statements.now s ≡ Some p) statements.now)
+        (IsFirst (λ before s p. wrong_flag (facts_of shape.now) statements.now s ≡ Some p) statements.now) }
+{
+    first_flaw(&Flags { shape, statements }, statements)
 }
 
 // Whether the flags and the state of the function of a name are declared.

@@ -2,6 +2,8 @@
 //!
 //! - `fault`: what is wrong with an interface, and where (`CheckKind`, `CheckFault`, `CheckError`)
 //! - `judge`: what can be wrong with a statement by itself, and the first that is
+//! - `services`: the service of a name; that a text makes no descriptor
+//! - `params`, `flags`: prototypes whose parameters, or whose flags and states, are declared otherwise
 //! - `heads`: the first fact that isn't the service's
 //! - `effects`: effects that are declared otherwise; `declared` goes over those that are, `change` is one of them
 //! - `pairs`: transitions and recover steps that the service hasn't
@@ -21,6 +23,7 @@ mod pairs;
 mod params;
 mod protos;
 mod says;
+mod services;
 #[cfg(test)]
 mod tests;
 mod unknown;

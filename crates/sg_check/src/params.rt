@@ -1,21 +1,22 @@
 // Whether a prototype has the parameters of its function.
-ghost use Rattle.std.specs.Prelude.{◌≡◌, codes};
+ghost use Rattle.std.specs.Prelude.{◌≡◌, Some, MatchOption, codes};
 ghost use Rattle.sg_facts.specs.Facts.{facts_of, fun_of_shape};
+ghost use Rattle.sg_check.specs.Faults.{IsFirst, NoneOf};
+ghost use Rattle.sg_check.specs.Flaws.{bad_params};
 ghost use Rattle.sg_check.specs.Params.{are_of_kinds, fit_params, is_caller, is_client, is_of_kind, is_word};
 
 use crate::funs::fun_named;
-use crate::judge::Judge;
+use crate::judge::{Judge, first_flaw};
 use sg_facts::{FunShape, Kind, Shape};
 use sg_grammar::{Name, Param, Statement, TypeName};
 
 /// Looks for prototypes whose parameters aren't their function's.
+#[derive(Clone, Copy)]
 pub struct Parameters<'a> {
     pub shape: &'a Shape,
 }
 
 impl Judge for Parameters<'_> {
-    ghost use Rattle.sg_check.specs.Flaws.{bad_params};
-
     ghost flaw = { λ j s. bad_params (facts_of j.shape.now) s };
 
     fn flaw_in(&self, statement: &Statement) -> Option<usize> {
@@ -31,6 +32,15 @@ impl Judge for Parameters<'_> {
             }
         }
     }
+}
+
+/// The place of the first prototype whose parameters aren't its function's.
+pub fn bad_params_in(shape: &Shape, statements: &[Statement]) -> Option<usize>
+    ensures { MatchOption result
+        (NoneOf (λ before s p. bad_params (facts_of shape.now) s ≡ Some p) statements.now)
+        (IsFirst (λ before s p. bad_params (facts_of shape.now) s ≡ Some p) statements.now) }
+{
+    first_flaw(&Parameters { shape }, statements)
 }
 
 // Whether parameters are those of a function.
