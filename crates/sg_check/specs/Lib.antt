@@ -4,4 +4,5 @@ pub mod Effects
 pub mod Changes
 pub mod Flaws
 pub mod Faults
+pub mod Stages
 pub mod Names

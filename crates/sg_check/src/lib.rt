@@ -24,6 +24,7 @@ mod params;
 mod protos;
 mod says;
 mod services;
+mod stages;
 #[cfg(test)]
 mod tests;
 mod unknown;
