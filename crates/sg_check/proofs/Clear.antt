@@ -1,5 +1,5 @@
 -- One kind after the other.
-use Rattle.std.proofs.Common.{◌≡◌, ◌⊎◌, ℕ, ◌+◌, ◌<◌, ◌≤◌, ◌==◌, if◌then◌else◌, List, None, Some, Ok, Err, Bor, refl, sym, ◌∙◌, ap, subst, inl, inr, arith}
+use Rattle.std.proofs.Common.{◌≡◌, ℕ, ◌+◌, ◌==◌, if◌then◌else◌, List, None, Some, Ok, Err, Bor, refl, sym, ◌∙◌, ap, subst, inl, inr, arith}
 use Rattle.std.proofs.Math.Nat.{eq-or-lt_of_le}
 use Rattle.std.specs.declared.option.Option.{Option}
 use Rattle.std.specs.declared.result.Result.{Result}
@@ -13,7 +13,7 @@ use Rattle.sg_check.specs.declared.fault.CheckError.{CheckError}
 use Rattle.sg_check.specs.declared.fault.CheckError.TheVariants.{Fault}
 use Rattle.sg_check.specs.declared.fault.CheckKind.{CheckKind}
 use Rattle.sg_check.specs.declared.fault.CheckKind.TheVariants.{UnknownService, DuplicateName, UnknownFunction, BadParams, WrongFact, WrongFlag, WrongEffect, ForeignTransition, ForeignRecover, NoCreation, Unreached, NoWalk}
-use Rattle.sg_check.specs.Faults.{FirstOf, IsFault, IsFirst, IsOf, NoneOf, rank}
+use Rattle.sg_check.specs.Faults.{FirstOf, IsFirst, IsOf, NoneOf, rank}
 use Rattle.sg_check.specs.Stages.{IsClear, IsFirstFault}
 use Rattle.sg_check.proofs.Firsts.{not_none}
 
@@ -60,7 +60,7 @@ module _ (services : List Facts) (tree : Tree) where
   -- what a stage answers
   pub stage : (shape : Shape) (kind : CheckKind) (flaw : Option ℕ) → IsClear services tree (facts_of shape) (rank kind)
       → MatchOption flaw ((at : ℕ) → FirstOf services tree kind at → ⊥) (FirstOf services tree kind) → (r : Result (Bor Shape) CheckError)
-      → MatchResult r (λ s. (s.now ≡ shape) × (flaw ≡ None)) (λ error. (at : ℕ) × (flaw ≡ Some at) × (error ≡ Fault (record { kind = kind; at = at; })))
+      → MatchResult r (λ s. (s.now ≡ shape) × (flaw ≡ None)) (λ error. (at : ℕ) × (flaw ≡ Some at) × (error ≡ Fault (record { kind = kind; at = at })))
       → MatchResult r (λ s. IsClear services tree (facts_of s.now) (rank kind + 1)) (IsFirstFault services tree)
   stage shape kind flaw clear told (Ok s) (same, none) =
       subst (λ x. IsClear services tree (facts_of x) (rank kind + 1)) (sym same)
@@ -91,7 +91,7 @@ module _ (services : List Facts) (tree : Tree) where
   pub each_statement : (Flaw : List Statement → Facts → List Statement → Statement → ℕ → Type 0) (facts : Facts) (flaw : Option ℕ) → IsOf services tree facts
       → (own : List Statement) → own ≡ tree.statements → MatchOption flaw (NoneOf (Flaw own facts) own) (IsFirst (Flaw own facts) own)
       → MatchOption flaw ((at : ℕ) → ((f : Facts) × IsOf services tree f × IsFirst (Flaw tree.statements f) tree.statements at) → ⊥)
-        (λ at. (f : Facts) × IsOf services tree f × IsFirst (Flaw tree.statements f) tree.statements at)
+      (λ at. (f : Facts) × IsOf services tree f × IsFirst (Flaw tree.statements f) tree.statements at)
   each_statement Flaw facts flaw is own same told =
       each_of_tree (Flaw tree.statements) facts flaw is (subst (λ l. MatchOption flaw (NoneOf (Flaw l facts) l) (IsFirst (Flaw l facts) l)) same told)
 

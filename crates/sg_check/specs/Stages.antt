@@ -1,5 +1,5 @@
 -- How far a text is found to be good.
-use Rattle.std.specs.Prelude.{ℕ, ◌≡◌, ◌<◌, List}
+use Rattle.std.specs.Prelude.{ℕ, ◌<◌, List}
 use Rattle.sg_facts.specs.Facts.{Facts}
 use Rattle.sg_grammar.specs.declared.tree.Tree.{Tree}
 use Rattle.sg_check.specs.declared.fault.CheckError.{CheckError}

@@ -21,7 +21,7 @@ use std::alloc::Global;
 // The service again, where there is no flaw of a kind.
 fn unless(shape: &Shape, kind: CheckKind, flaw: Option<usize>) -> Result<&Shape, CheckError>
     ensures { MatchResult result (λ s. (s.now ≡ shape.now) × (flaw ≡ None))
-        (λ error. (at : ℕ) × (flaw ≡ Some at) × (error ≡ Fault (record { kind = kind; at = at; }))) }
+        (λ error. (at : ℕ) × (flaw ≡ Some at) × (error ≡ Fault (record { kind = kind; at = at }))) }
 {
     match flaw {
         None => Ok(shape),
@@ -44,27 +44,51 @@ fn service_of<'a>(services: &'a [Shape], tree: &Tree) -> Result<&'a Shape, Check
 }
 
 // It, where no function has a second prototype.
-fn named_once<'a>(alloc: Global, services: &'a [Shape], tree: &Tree) -> Result<&'a Shape, CheckError>
+fn named_once<'a>(
+    alloc: Global,
+    services: &'a [Shape],
+    tree: &Tree,
+) -> Result<&'a Shape, CheckError>
     ensures { MatchResult result (λ s. IsClear (map facts_of services.now) tree.now (facts_of s.now) 2) (IsFirstFault (map facts_of services.now) tree.now) }
 {
     let shape = service_of(services, tree)?;
-    unless(shape, CheckKind::DuplicateName, duplicate_in(alloc, tree.statements.as_slice())?)
+    unless(
+        shape,
+        CheckKind::DuplicateName,
+        duplicate_in(alloc, tree.statements.as_slice())?,
+    )
 }
 
 // It, where the functions that are named are declared, and the service's.
-fn names_known<'a>(alloc: Global, services: &'a [Shape], tree: &Tree) -> Result<&'a Shape, CheckError>
+fn names_known<'a>(
+    alloc: Global,
+    services: &'a [Shape],
+    tree: &Tree,
+) -> Result<&'a Shape, CheckError>
     ensures { MatchResult result (λ s. IsClear (map facts_of services.now) tree.now (facts_of s.now) 3) (IsFirstFault (map facts_of services.now) tree.now) }
 {
     let shape = named_once(alloc, services, tree)?;
-    unless(shape, CheckKind::UnknownFunction, unknown_in(alloc, shape, tree.statements.as_slice())?)
+    unless(
+        shape,
+        CheckKind::UnknownFunction,
+        unknown_in(alloc, shape, tree.statements.as_slice())?,
+    )
 }
 
 // It, where prototypes have the parameters of their functions.
-fn params_fit<'a>(alloc: Global, services: &'a [Shape], tree: &Tree) -> Result<&'a Shape, CheckError>
+fn params_fit<'a>(
+    alloc: Global,
+    services: &'a [Shape],
+    tree: &Tree,
+) -> Result<&'a Shape, CheckError>
     ensures { MatchResult result (λ s. IsClear (map facts_of services.now) tree.now (facts_of s.now) 4) (IsFirstFault (map facts_of services.now) tree.now) }
 {
     let shape = names_known(alloc, services, tree)?;
-    unless(shape, CheckKind::BadParams, bad_params_in(shape, tree.statements.as_slice()))
+    unless(
+        shape,
+        CheckKind::BadParams,
+        bad_params_in(shape, tree.statements.as_slice()),
+    )
 }
 
 // It, where the facts at the head are its own.
@@ -80,15 +104,27 @@ fn flags_fit<'a>(alloc: Global, services: &'a [Shape], tree: &Tree) -> Result<&'
     ensures { MatchResult result (λ s. IsClear (map facts_of services.now) tree.now (facts_of s.now) 6) (IsFirstFault (map facts_of services.now) tree.now) }
 {
     let shape = facts_fit(alloc, services, tree)?;
-    unless(shape, CheckKind::WrongFlag, wrong_flag_in(shape, tree.statements.as_slice()))
+    unless(
+        shape,
+        CheckKind::WrongFlag,
+        wrong_flag_in(shape, tree.statements.as_slice()),
+    )
 }
 
 // It, where effects are.
-fn effects_fit<'a>(alloc: Global, services: &'a [Shape], tree: &Tree) -> Result<&'a Shape, CheckError>
+fn effects_fit<'a>(
+    alloc: Global,
+    services: &'a [Shape],
+    tree: &Tree,
+) -> Result<&'a Shape, CheckError>
     ensures { MatchResult result (λ s. IsClear (map facts_of services.now) tree.now (facts_of s.now) 7) (IsFirstFault (map facts_of services.now) tree.now) }
 {
     let shape = flags_fit(alloc, services, tree)?;
-    unless(shape, CheckKind::WrongEffect, wrong_effect_in(shape, tree.statements.as_slice()))
+    unless(
+        shape,
+        CheckKind::WrongEffect,
+        wrong_effect_in(shape, tree.statements.as_slice()),
+    )
 }
 
 // It, where it has the transitions.
@@ -96,7 +132,11 @@ fn moves_fit<'a>(alloc: Global, services: &'a [Shape], tree: &Tree) -> Result<&'
     ensures { MatchResult result (λ s. IsClear (map facts_of services.now) tree.now (facts_of s.now) 8) (IsFirstFault (map facts_of services.now) tree.now) }
 {
     let shape = effects_fit(alloc, services, tree)?;
-    unless(shape, CheckKind::ForeignTransition, foreign_transition(shape, tree.statements.as_slice()))
+    unless(
+        shape,
+        CheckKind::ForeignTransition,
+        foreign_transition(shape, tree.statements.as_slice()),
+    )
 }
 
 // It, where it has the recover steps.
@@ -104,13 +144,25 @@ fn steps_fit<'a>(alloc: Global, services: &'a [Shape], tree: &Tree) -> Result<&'
     ensures { MatchResult result (λ s. IsClear (map facts_of services.now) tree.now (facts_of s.now) 9) (IsFirstFault (map facts_of services.now) tree.now) }
 {
     let shape = moves_fit(alloc, services, tree)?;
-    unless(shape, CheckKind::ForeignRecover, foreign_recover(shape, tree.statements.as_slice()))
+    unless(
+        shape,
+        CheckKind::ForeignRecover,
+        foreign_recover(shape, tree.statements.as_slice()),
+    )
 }
 
 /// The service of a text, where some function makes a descriptor, and nothing of the kinds before is wrong with the text.
-pub fn fit_one_by_one<'a>(alloc: Global, services: &'a [Shape], tree: &Tree) -> Result<&'a Shape, CheckError>
+pub fn fit_one_by_one<'a>(
+    alloc: Global,
+    services: &'a [Shape],
+    tree: &Tree,
+) -> Result<&'a Shape, CheckError>
     ensures { MatchResult result (λ s. IsClear (map facts_of services.now) tree.now (facts_of s.now) 10) (IsFirstFault (map facts_of services.now) tree.now) }
 {
     let shape = steps_fit(alloc, services, tree)?;
-    unless(shape, CheckKind::NoCreation, no_creation(shape, tree.statements.as_slice()))
+    unless(
+        shape,
+        CheckKind::NoCreation,
+        no_creation(shape, tree.statements.as_slice()),
+    )
 }

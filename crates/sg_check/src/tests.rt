@@ -1,8 +1,13 @@
 // What no clause says: that duplicates and unknown names are found where there is memory.
+use crate::fault::{CheckError, CheckFault, CheckKind};
 use crate::protos::duplicate_in;
+use crate::stages::fit_one_by_one;
 use crate::unknown::unknown_in;
+use sg_base::NoMemory;
 use sg_facts::{FunShape, Leaves, Parents, Shape};
-use sg_grammar::{Name, NameList, ParamList, Ret, Statement, TypeName};
+use sg_grammar::{
+    Facts, Name, NameList, Param, ParamList, Ret, Statement, StatementList, Tree, TypeName,
+};
 use std::alloc::Global;
 use std::test::Fail;
 
@@ -77,5 +82,135 @@ fn unknown_names(rt: HostRuntime) -> Result<(), Fail> {
     assert_eq!(rt; unknown_in(alloc, &shape(), &bare)?, Some(5));
     let foreign = [proto(alloc, b"g", 3), one(b"g", 5)];
     assert_eq!(rt; unknown_in(alloc, &shape(), &foreign)?, Some(3));
+    Ok(())
+}
+
+// A service with one creation, f.
+static CREATION: [FunShape; 1] = [FunShape {
+    name: b"f",
+    kinds: &[],
+    flags: FunShape::CREATION,
+    leaves: Leaves::Own,
+    effects: &[],
+}];
+
+// Services of these names, of which the second has the creation.
+fn services() -> [Shape; 2] {
+    let first = Shape {
+        name: b"r",
+        ..shape()
+    };
+    let second = Shape {
+        funs: &CREATION,
+        ..shape()
+    };
+    [first, second]
+}
+
+// A name that stands somewhere.
+fn name<'a>(slice: &'a [u8], at: usize) -> Name<'a> {
+    Name { slice, at }
+}
+
+// The prototype of a function that takes its caller alone.
+fn called<'a>(alloc: Global, fun: &'a [u8], at: usize) -> Result<Statement<'a>, NoMemory> {
+    let mut names = NameList::new(alloc);
+    names.push(name(b"spdid_t", 0))?;
+    let mut params = ParamList::new(alloc);
+    params.push(Param {
+        ty: TypeName { names, stars: 0 },
+        form: None,
+        name: name(b"spdid", 0),
+    })?;
+    Ok(Statement::Proto {
+        ret: Ret::Plain(TypeName {
+            names: NameList::new(alloc),
+            stars: 0,
+        }),
+        name: name(fun, at),
+        params,
+    })
+}
+
+// A text of the service of a name that stands at 2, with this word for `desc_block` at 4, and these statements.
+fn text<'a>(service: &'a [u8], block: &'a [u8], statements: StatementList<'a>) -> Tree<'a> {
+    Tree {
+        facts: Facts {
+            service: name(service, 2),
+            parent: name(b"none", 3),
+            close: name(b"refuse", 3),
+            global: name(b"false", 3),
+            block: name(block, 4),
+            has_data: name(b"false", 5),
+            resc_data: name(b"false", 5),
+        },
+        statements,
+    }
+}
+
+// The statements that declare f, with a prototype at each of these places.
+fn declared(alloc: Global, places: &[usize]) -> Result<StatementList<'static>, NoMemory> {
+    let mut statements = StatementList::new(alloc);
+    statements.push(one(b"f", 6))?;
+    for at in places {
+        statements.push(called(alloc, b"f", *at)?)?;
+    }
+    Ok(statements)
+}
+
+// What is first wrong with a text; nothing where it is the second service's, or there was no memory.
+fn first_fault(alloc: Global, tree: &Tree) -> Option<CheckFault> {
+    match fit_one_by_one(alloc, &services(), tree) {
+        Ok(_) | Err(CheckError::NoMemory) => None,
+        Err(CheckError::Fault(fault)) => Some(fault),
+    }
+}
+
+#[test]
+fn kinds_go_before_places(rt: HostRuntime) -> Result<(), Fail> {
+    let alloc = rt.alloc();
+    let good = text(b"s", b"false", declared(alloc, &[7])?);
+    assert!(rt; fit_one_by_one(alloc, &services(), &good).is_ok());
+    let cases = [
+        (
+            text(b"t", b"true", declared(alloc, &[7, 8])?),
+            CheckKind::UnknownService,
+            2,
+        ),
+        (
+            text(b"s", b"true", declared(alloc, &[7, 8])?),
+            CheckKind::DuplicateName,
+            8,
+        ),
+        (
+            text(b"s", b"true", declared(alloc, &[])?),
+            CheckKind::UnknownFunction,
+            6,
+        ),
+        (
+            text(b"s", b"true", declared(alloc, &[7])?),
+            CheckKind::WrongFact,
+            4,
+        ),
+        (
+            text(b"r", b"false", declared(alloc, &[7])?),
+            CheckKind::WrongFlag,
+            7,
+        ),
+        (
+            text(b"s", b"false", StatementList::new(alloc)),
+            CheckKind::NoCreation,
+            0,
+        ),
+    ];
+    for (tree, kind, at) in &cases {
+        assert_eq!(rt;
+            first_fault(alloc, tree),
+            Some(CheckFault {
+                kind: *kind,
+                at: *at
+            })
+        );
+    }
     Ok(())
 }

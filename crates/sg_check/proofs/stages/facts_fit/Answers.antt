@@ -1,5 +1,5 @@
 -- One kind more is clear, or the first flaw of that kind is the first of all.
-use Rattle.std.proofs.Common.{◌≡◌, Some, codes, map}
+use Rattle.std.proofs.Common.{map}
 use Rattle.sg_facts.specs.Facts.{facts_of}
 use Rattle.sg_check.specs.declared.fault.CheckKind.TheVariants.{WrongFact}
 use Rattle.sg_check.specs.Flaws.{wrong_fact}

@@ -1,5 +1,5 @@
 -- One kind more is clear, or the first flaw of that kind is the first of all.
-use Rattle.std.proofs.Common.{◌≡◌, ◌∙◌, Some, ap, codes, map}
+use Rattle.std.proofs.Common.{◌≡◌, Some, map}
 use Rattle.sg_facts.specs.Facts.{facts_of}
 use Rattle.sg_check.specs.declared.fault.CheckKind.TheVariants.{WrongFlag}
 use Rattle.sg_check.specs.Flaws.{wrong_flag}
