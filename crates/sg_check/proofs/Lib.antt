@@ -1,4 +1,9 @@
-pub mod Firsts
-pub mod Clear
-pub mod Judged
-pub mod Sets
+pub mod Bits
+pub mod Marked
+pub mod Calls
+pub mod Gaining
+pub mod Listing
+pub mod Seeking
+pub mod Unique
+pub mod Fitting
+pub mod Stages

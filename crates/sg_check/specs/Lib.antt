@@ -1,8 +1,6 @@
-pub mod Says
-pub mod Params
-pub mod Effects
-pub mod Changes
-pub mod Flaws
-pub mod Faults
-pub mod Stages
-pub mod Names
+pub mod Shapes
+pub mod Numbers
+pub mod Reached
+pub mod Stuck
+pub mod Candidates
+pub mod Answers

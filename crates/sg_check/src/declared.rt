@@ -1,143 +1,77 @@
-// The effects that a text declares for a function, gone over one by one.
-ghost use Rattle.std.specs.Prelude.{◌≡◌, ◌+◌, ◌||◌, if◌then◌else◌, false, [], ◌∷◌, codes, Bool};
-ghost use Rattle.std.specs.List.{list_any, flat_map};
-ghost use Rattle.sg_check.specs.Effects.{Named_effect, arg_effects, caller_effects, declared_effects, later_effects, ret_effects, statement_effects};
-ghost use Rattle.sg_check.specs.Changes.{effect_of};
-ghost use Rattle.sg_check.specs.Params.{is_word as has_word};
-ghost use Rattle.sg_facts.specs.declared.shape.Effect.TheVariants.{SetArg, AddArg};
+// The interface that a text declares.
+ghost use Rattle.std.specs.Prelude.{◌≡◌, ◌≤◌, ◌<◌, ◌^◌, length, map, filter, IfOk, codes};
+ghost use Rattle.sg_facts.specs.Facts.{facts_of, fun_at, fun_of_shape};
+ghost use Rattle.sg_facts.specs.Fields.{number_of};
+ghost use Rattle.sg_flaws.specs.Faults.{interface_of};
+ghost use Rattle.sg_flaws.specs.Says.{has_proto, says_of};
 
-use crate::change::Change;
-use crate::params::is_word;
-use sg_grammar::{Param, Ret, Statement};
+use sg_base::{NoMemory, PairList};
+use sg_facts::{FunShape, Interface, Shape};
+use sg_flaws::{Protos, says_of};
+use sg_grammar::Statement;
+use std::alloc::Global;
 
-/// A test of effects.
-pub trait Test {
-    /// Which effects pass.
-    ghost passes: { Self → Named_effect → Bool };
-
-    /// Whether a change of the field of this name passes.
-    fn has(&self, field: &[u8], change: Change) -> bool
-        ensures { result ≡ passes self.now (field.now, effect_of change) };
-}
-
-/// A prototype, with the statements beside it.
-#[derive(Clone, Copy)]
-pub struct Proto<'a> {
-    pub statements: &'a [Statement<'a>],
-    pub name: &'a [u8],
-    pub ret: &'a Ret<'a>,
-    pub params: &'a [Param<'a>],
-}
-
-/// Whether some effect that is declared for a function passes.
-pub fn any_declared<T: Test>(test: &T, proto: &Proto) -> bool
-    ensures { result ≡ list_any (T.passes test.now)
-        (declared_effects proto.now.statements.now proto.now.name.now proto.now.ret.now proto.now.params.now) }
+/// The interface that statements declare of a shape: the functions that have a prototype, and those of the shape's
+/// transitions and recover steps that a statement names. A shape has at most 32 functions.
+pub fn interface_of(
+    alloc: Global,
+    shape: &Shape,
+    statements: &[Statement],
+) -> Result<Interface, NoMemory>
+    requires { length shape.now.funs.now ≤ 32 }
+    ensures { IfOk result (λ i. i ≡ interface_of (facts_of shape.now) statements.now) }
 {
-    any_by_parts(test, proto)
+    let protos = Protos::of(alloc, statements)?;
+    Ok(Interface {
+        shape: *shape,
+        declared: declared_in(shape.funs, &protos),
+        moves: listed(alloc, shape, shape.moves, b"sm_transition", statements)?,
+        steps: listed(alloc, shape, shape.steps, b"sm_recover", statements)?,
+    })
 }
 
-// The same, part by part.
-fn any_by_parts<T: Test>(test: &T, proto: &Proto) -> bool
-    ensures { result ≡ ((list_any (T.passes test.now) (caller_effects proto.now.params.now) || list_any (T.passes test.now) (later_effects proto.now.params.now))
-        || (list_any (T.passes test.now) (ret_effects proto.now.ret.now)
-        || list_any (λ s. list_any (T.passes test.now) (statement_effects proto.now.name.now s)) proto.now.statements.now)) }
+// Those of at most 32 functions that have a prototype: bit f - 1 for function f.
+fn declared_in(funs: &[FunShape], protos: &Protos) -> u32
+    requires { length funs.now ≤ 32 }
+    ensures declared { result ≡ number_of (map (λ f. has_proto protos.now f.name) (map fun_of_shape funs.now)) }
+    ensures bound { result < 2 ^ length funs.now }
 {
-    any_by_params(test, proto.params)
-        || any_by_ret(test, proto.ret)
-        || any_by_statements(test, proto.name, proto.statements)
-}
-
-// Whether one that parameters declare does.
-fn any_by_params<T: Test>(test: &T, params: &[Param]) -> bool
-    ensures { result ≡ (list_any (T.passes test.now) (caller_effects params.now) || list_any (T.passes test.now) (later_effects params.now)) }
-{
-    match params {
-        [] => false,
-        [caller, later @ ..] => by_caller(test, caller) || any_by_args(test, later),
+    match funs {
+        [] => 0,
+        [fun, rest @ ..] => u32::from(protos.has(fun.name)) + 2 * declared_in(rest, protos),
     }
 }
 
-// Whether that of the first parameter does.
-fn by_caller<T: Test>(test: &T, caller: &Param) -> bool
-    ensures { result ≡ list_any (T.passes test.now) (caller_effects (caller.now ∷ [])) }
+// Those of a shape's pairs that a statement names under a word.
+fn listed(
+    alloc: Global,
+    shape: &Shape,
+    pairs: &[(u8, u8)],
+    word: &[u8],
+    statements: &[Statement],
+) -> Result<PairList, NoMemory>
+    ensures { let funs = (facts_of shape.now).funs in
+        IfOk result (λ list. list ≡ filter (λ p. says_of statements.now word.now (fun_at funs p.0).name (fun_at funs p.1).name) pairs.now) }
 {
-    is_word(&caller.form, b"desc_data") && test.has(caller.name.slice, Change::Caller)
-}
-
-// Whether one of later parameters does.
-fn any_by_args<T: Test>(test: &T, params: &[Param]) -> bool
-    ensures { result ≡ list_any (T.passes test.now) (arg_effects 0 params.now) }
-{
-    let mut number = 0;
-    'params: for param in params {
-        if is_desc(param) {
-            continue;
+    let mut list = PairList::new(alloc);
+    'pairs: for pair in pairs {
+        if is_listed(shape, *pair, word, statements) {
+            list.push(*pair)?;
         }
-        if by_arg(test, number, param) {
-            return true;
-        }
-        number += 1;
     }
-    false
+    Ok(list)
 }
 
-// Whether a parameter is a descriptor or a parent.
-fn is_desc(param: &Param) -> bool
-    ensures { result ≡ (has_word param.now.form (codes "desc") || has_word param.now.form (codes "parent_desc")) }
+// Whether a statement names a pair of a shape's functions under a word.
+fn is_listed(shape: &Shape, pair: (u8, u8), word: &[u8], statements: &[Statement]) -> bool
+    ensures { let funs = (facts_of shape.now).funs in
+        result ≡ says_of statements.now word.now (fun_at funs pair.0).name (fun_at funs pair.1).name }
 {
-    is_word(&param.form, b"desc") || is_word(&param.form, b"parent_desc")
-}
-
-// Whether the effect of an argument does.
-fn by_arg<T: Test>(test: &T, number: usize, param: &Param) -> bool
-    ensures { result ≡ (if has_word param.now.form (codes "desc_data") then T.passes test.now (param.now.name.bytes, SetArg number)
-        else (if has_word param.now.form (codes "desc_data_add") then T.passes test.now (param.now.name.bytes, AddArg number) else false)) }
-{
-    if is_word(&param.form, b"desc_data") {
-        test.has(param.name.slice, Change::Arg(number))
-    } else {
-        is_word(&param.form, b"desc_data_add")
-            && test.has(param.name.slice, Change::MoreArg(number))
-    }
-}
-
-// Whether that of the return does.
-fn any_by_ret<T: Test>(test: &T, ret: &Ret) -> bool
-    ensures { result ≡ list_any (T.passes test.now) (ret_effects ret.now) }
-{
-    match ret {
-        Ret::Plain(_) => false,
-        Ret::Set { field, .. } => test.has(field.slice, Change::Ret),
-        Ret::Add { field, .. } => test.has(field.slice, Change::MoreRet),
-    }
-}
-
-// Whether one of statements of their own does.
-fn any_by_statements<T: Test>(test: &T, fun: &[u8], statements: &[Statement]) -> bool
-    ensures { result ≡ list_any (λ s. list_any (T.passes test.now) (statement_effects fun.now s)) statements.now }
-{
-    statements
-        .iter()
-        .any(|statement| by_statement(test, fun, statement))
-}
-
-// Whether that of a statement does.
-fn by_statement<T: Test>(test: &T, fun: &[u8], statement: &Statement) -> bool
-    ensures { result ≡ list_any (T.passes test.now) (statement_effects fun.now statement.now) }
-{
-    match statement {
-        Statement::Two {
-            word,
-            first,
-            second,
-        } if first.slice == fun => {
-            if word.slice == b"desc_data_clear".as_slice() {
-                test.has(second.slice, Change::Nothing)
-            } else {
-                word.slice == b"desc_data_sub".as_slice() && test.has(second.slice, Change::Less)
-            }
-        }
-        _ => false,
-    }
+    let (first, second) = pair;
+    says_of(
+        statements,
+        word,
+        shape.fun(first).name,
+        shape.fun(second).name,
+    )
 }

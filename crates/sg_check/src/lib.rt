@@ -1,32 +1,28 @@
 //! Which interfaces are accepted: those whose every descriptor can be recovered in every state that it can come to.
 //!
-//! - `fault`: what is wrong with an interface, and where (`CheckKind`, `CheckFault`, `CheckError`)
-//! - `judge`: what can be wrong with a statement by itself, and the first that is
-//! - `services`: the service of a name; that a text makes no descriptor
-//! - `params`, `flags`: prototypes whose parameters, or whose flags and states, are declared otherwise
-//! - `heads`: the first fact that isn't the service's
-//! - `effects`: effects that are declared otherwise; `declared` goes over those that are, `change` is one of them
-//! - `pairs`: transitions and recover steps that the service hasn't
-//! - `unknown`: names without a prototype; `protos`: the prototypes, and one that is there twice; `names`: sets of names
+//! - `checking`: whether a text is accepted (`check`)
+//! - `accepted`: an interface that is (`Accepted`)
+//! - `declared`: the interface that a text declares; `candidate`: that with what its descriptors come to (`Candidate`)
+//! - `reached`: the functions that can't be reached
+//! - `stuck`: the states that have no walk
+//! - `protos`: the first prototype of one of some functions; `numbers`: sets of function numbers
+//! - `laws`: laws of the definitions (`one_fault`)
+//!
+//! What a text may have wrong, kind by kind, and what it is to be accepted, is said in `sg_flaws`, in `specs/Flaws.antt` and
+//! `specs/Faults.antt`; what shapes a text may be checked against, here, in `specs/Shapes.antt`.
 #![tactic(auto)]
 
-mod change;
+mod accepted;
+mod candidate;
+mod checking;
 mod declared;
-mod effects;
-mod fault;
-mod flags;
-mod funs;
-mod heads;
-mod judge;
-mod names;
-mod pairs;
-mod params;
+mod laws;
+mod numbers;
 mod protos;
-mod says;
-mod services;
-mod stages;
-#[cfg(test)]
-mod tests;
-mod unknown;
+mod reached;
+mod stuck;
 
-pub use fault::{CheckError, CheckFault, CheckKind};
+pub use accepted::Accepted;
+pub use checking::check;
+pub use laws::one_fault;
+pub use sg_flaws::{CheckError, CheckFault, CheckKind};

@@ -1,3 +1,4 @@
+pub mod Halving
 pub mod Legality
 pub mod RowLists
 pub mod WalkLists

@@ -14,6 +14,7 @@ pub mod Legal
 pub mod Needs
 pub mod Object
 pub mod Sound
+pub mod Tables
 pub mod Track
 pub mod WalkArray
 pub mod Walks

@@ -5,7 +5,8 @@ ghost use Rattle.sg_facts.specs.Facts.{is_visible, fun_at, fun_of_shape, has_fla
 ghost use Rattle.sg_facts.specs.Interface.{declares, moves_on, steps_on, has_pair};
 
 use crate::{FunShape, Shape};
-use sg_base::PairList;
+use sg_base::{NoMemory, PairList, TryCopy};
+use std::alloc::Global;
 use std::marker::Model;
 
 /// What an interface declares of a service's shape. Contracts see the shape as plain data, and the other fields.
@@ -64,6 +65,17 @@ impl Interface {
         ensures { result ≡ is_visible self.now.facts fun }
     {
         self.shape.global || (fun > 0 && shows(self.shape.funs, usize::from(fun) - 1))
+    }
+}
+
+impl TryCopy for Interface {
+    fn copy(&self, alloc: Global) -> Result<Self, NoMemory> {
+        Ok(Interface {
+            shape: self.shape,
+            declared: self.declared,
+            moves: self.moves.copy(alloc)?,
+            steps: self.steps.copy(alloc)?,
+        })
     }
 }
 

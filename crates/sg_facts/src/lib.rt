@@ -6,6 +6,7 @@
 //! - `entry`: a call with its reply (`Entry`)
 //! - `outcome`: what asking a service gives (`Outcome`, `Patch`)
 //! - `trace`: what was done to a service, boot by boot (`Trace`, `BootLog`, `Item`, `Tag`)
+//! - `tables`: an interface with its walks (`Tables`, `WalkLine`)
 //! - `walk`: the functions whose calls rebuild a descriptor (`Walk`)
 //! - `service`: the trait `Service`
 //! - `laws`: laws of the definitions (`legal_from_the_front`)
@@ -22,6 +23,7 @@ mod outcome;
 mod row;
 mod service;
 mod shape;
+mod tables;
 #[cfg(test)]
 mod tests;
 mod trace;
@@ -34,5 +36,6 @@ pub use outcome::{Outcome, Patch, PatchRoom};
 pub use row::{Fields, FieldsRoom, Row};
 pub use service::Service;
 pub use shape::{Effect, FieldShape, FunShape, Kind, Leaves, Parents, Shape};
+pub use tables::{Tables, WalkLine, WalkList};
 pub use trace::{BootList, BootLog, Item, ItemList, Tag, Trace};
 pub use walk::Walk;

@@ -3,3 +3,4 @@ pub mod Law
 pub mod Leads
 pub mod Places
 pub mod Texts
+pub mod Numbers

@@ -1,18 +1,22 @@
-//! The canonical text of a tree of the interface language. It reads back as the tree that it is of.
+//! The canonical text of a tree of the interface language, which reads back as the tree that it is of; and the text of tables.
 //!
 //! - `statements`: the text of a tree (`print`)
 //! - `types`: the texts of types, parameters and returns
+//! - `tables`: the text of tables (`print_tables`); `funs`: the lines of functions
 //! - `parts`: texts in a row
 //! - `laws`: a printed tree reads back, and places are not printed
 #![tactic(auto)]
 
+mod funs;
 mod laws;
 mod parts;
 mod statements;
+mod tables;
 mod types;
 
 pub use laws::{places_are_not_printed, prints_parse_back};
 pub use statements::print;
+pub use tables::print_tables;
 
 #[cfg(test)]
 mod tests;

@@ -12,7 +12,7 @@ use Rattle.sg_facts.specs.Track.{row_at, is_live, has_child}
 use Rattle.sg_facts.specs.Object.{Object}
 use Rattle.sg_facts.specs.Sound.{AreRows}
 use Rattle.sg_facts.specs.Guard.{guard}
-use Rattle.sg_facts.specs.Kinds.{MayAsk, AreWords}
+use Rattle.sg_facts.specs.Kinds.{AreWords, IsCall, MayAsk, kinds_fit}
 use Rattle.sg_facts.specs.Laws.{whole, Passes}
 use Rattle.sg_facts.proofs.RowLists.{live_of_row}
 use Rattle.sg_lock.specs.LockFacts.{lock_facts}
@@ -72,10 +72,26 @@ may_ask o call may guarded = record {
   children = λ ends refuses. childless_at o call.client call.seq call.desc call.args call.fun guarded ends;
 }
 
+-- no function takes another argument than a descriptor
+none : (args : List Value) → kinds_fit [] args ≡ true → args ≡ []
+none [] fits = refl
+none (v ∷ args) fits = absurd (cc fits)
+
+plain_at : (fun : ℕ) (args : List Value) → 1 ≤ fun → fun ≤ 4 → kinds_fit (fun_at lock_facts.funs fun).kinds args ≡ true → args ≡ []
+plain_at zero args first last fits = absurd (omega arith)
+plain_at (suc zero) args first last fits = none args fits
+plain_at (suc (suc zero)) args first last fits = none args fits
+plain_at (suc (suc (suc zero))) args first last fits = none args fits
+plain_at (suc (suc (suc (suc zero)))) args first last fits = none args fits
+plain_at (suc (suc (suc (suc (suc n))))) args first last fits = absurd (omega arith)
+
+plain : (call : Call) → IsCall lock_facts call → call.args ≡ []
+plain call is = plain_at call.fun call.args is.first is.last is.fits.args
+
 pub passes : (o : Object) (call : Call) → MayMake o call → guard (whole lock_facts) o call ≡ None → Passes lock_facts o call
 passes o call may guarded = record {
   is_call = may.is_call;
-  words = subst AreWords (sym may.plain) tt;
+  words = subst AreWords (sym (plain call may.is_call)) tt;
   within = (may_ask o call may guarded).within;
   guarded = guarded;
 }

@@ -1,9 +1,12 @@
 -- How a run goes on by one call.
 use Rattle.std.proofs.Common.{◌≡◌, ℕ, zero, suc, ◌+◌, ◌<◌, ◌≤◌, ◌^◌, Bool, true, false, cond, not, List, [], ◌∷◌, ◌++◌, None, Some, length, take, get_or, refl, sym, ◌∙◌, ap, subst, arith, length-append}
-use Rattle.std.specs.Prelude.{◌==◌, if◌then◌else◌, slice_get}
+use Rattle.std.specs.Prelude.{◌==◌, ◌&&◌, if◌then◌else◌, nat_le, slice_get}
+use Rattle.std.specs.List.{list_any}
+use Rattle.std.proofs.lemmas.Bool.{and_parts}
+use Rattle.std.proofs.lemmas.Bool.Decides.{nat_tests}
 use Rattle.std.specs.declared.option.Option.{Option}
 use Rattle.sg_base.specs.declared.value.Value.{Value}
-use Rattle.sg_base.specs.declared.value.Value.TheVariants.{Word, Text}
+use Rattle.sg_base.specs.declared.value.Value.TheVariants.{Word, Text as text}
 use Rattle.sg_base.specs.declared.call.Call.{Call}
 use Rattle.sg_base.specs.declared.reply.Code.{Code}
 use Rattle.sg_base.specs.declared.reply.Good.{Good}
@@ -11,25 +14,28 @@ use Rattle.sg_base.specs.declared.reply.Reply.{Reply}
 use Rattle.sg_base.specs.declared.reply.Reply.TheVariants.{Ok, Refused}
 use Rattle.sg_facts.specs.declared.row.Row.{Row}
 use Rattle.sg_facts.specs.declared.entry.Entry.{Entry}
-use Rattle.sg_facts.specs.Facts.{fun_at}
+use Rattle.sg_facts.specs.declared.shape.Kind.{Kind}
+use Rattle.sg_facts.specs.declared.shape.Kind.TheVariants.{Desc, Parent, Word as IsWord, Text as IsText}
+use Rattle.sg_facts.specs.Facts.{Facts, fun_at, is_desc, is_parent}
+use Rattle.sg_facts.specs.Interface.{Declared, declares}
+use Rattle.sg_facts.specs.Fits.{Fits}
 use Rattle.sg_facts.specs.Track.{row_at, row_after, new_row, ends_with, word_of, field_at, fields_after}
 use Rattle.sg_facts.specs.Object.{Object, after, object_from, empty_object}
 use Rattle.sg_facts.specs.Sound.{AreRows}
 use Rattle.sg_facts.specs.Guard.{guard}
-use Rattle.sg_facts.specs.Kinds.{IsCall}
+use Rattle.sg_facts.specs.Kinds.{IsCall, kinds_fit}
 use Rattle.sg_facts.specs.Legal.{answer, refused_or, LegalFrom}
-use Rattle.sg_facts.specs.Laws.{whole}
 use Rattle.sg_facts.proofs.RowLists.{more, changed, left}
 use Rattle.sg_lock.specs.LockFacts.{lock_facts}
 use Rattle.sg_lock.specs.LockTable.{lock_table, lock_answer, owner_in}
 use Rattle.sg_lock.specs.LockSoundLaw.{lock_answers_and_keeps}
-use Rattle.sg_opening.specs.declared.step.Arg.TheVariants.{Number, Back}
-use Rattle.sg_opening.specs.declared.step.Step.{Step}
-use Rattle.sg_opening.specs.declared.step.Step.TheVariants.{Alloc, Take, Release, Free}
-use Rattle.sg_sim.specs.Script.{resolved_call, desc_given, id_of_call, AreCalls}
-use Rattle.sg_opening.specs.Script.{AreBack, IsBack}
+use Rattle.sg_script.specs.declared.script.Arg.{Arg}
+use Rattle.sg_script.specs.declared.script.Arg.TheVariants.{Number, Text, Back}
+use Rattle.sg_script.specs.declared.script.ScriptCall.{ScriptCall}
+use Rattle.sg_sim.specs.Script.{AreCalls, arg_fits, arg_value, args_fit, call_fits, calls_fit, desc_given, desc_of, id_of_call, resolved_call, value_of, values_of}
 use Rattle.sg_sim.specs.Run.{IsAtMostFirst, IsOfFirst, MayMake, IsRun}
 use Rattle.sg_sim.proofs.Asking.{passes}
+use Rattle.sg_sim.proofs.Narrower.{passes_whole}
 
 -- ---- owners
 
@@ -40,7 +46,7 @@ take_owner (v ∷ fields) call good one = omega (arith, one)
 release_owner : (fields : List Value) (call : Call) (good : Good) → word_of (field_at (fields_after call good (fun_at lock_facts.funs 3).effects fields) 0) ≤ 1
 release_owner [] call good = omega arith
 release_owner (Word n ∷ fields) call good = omega arith
-release_owner (Text bytes ∷ fields) call good = omega arith
+release_owner (text bytes ∷ fields) call good = omega arith
 
 module _ (o : Object) (client seq desc : ℕ) (args : List Value) (one : client ≡ 1) where
   abbrev call_of : ℕ → Call
@@ -84,14 +90,15 @@ module _ (o : Object) (client seq desc : ℕ) (args : List Value) (one : client 
 -- ---- one answer
 
 -- an answer leaves locks of client 1 alone
-of_first_after : (o : Object) (call : Call) (reply : Reply) → MayMake o call → answer (whole lock_facts) lock_table o call ≡ Some reply → IsOfFirst (after lock_facts o call reply)
-of_first_after o call (Refused code) may is = may.of_first
-of_first_after o call (Ok good) may is = at (guard (whole lock_facts) o call) refl is
+of_first_after : (i : Declared) (o : Object) (call : Call) (reply : Reply) → i.facts ≡ lock_facts → Fits i → MayMake o call
+    → answer i lock_table o call ≡ Some reply → IsOfFirst (after lock_facts o call reply)
+of_first_after i o call (Refused code) facts fits may is = may.of_first
+of_first_after i o call (Ok good) facts fits may is = at (guard i o call) refl is
   where
-    at : (found : Option Code) → guard (whole lock_facts) o call ≡ found → refused_or found (lock_table o call) ≡ Some (Ok good) → IsOfFirst (after lock_facts o call (Ok good))
+    at : (found : Option Code) → guard i o call ≡ found → refused_or found (lock_table o call) ≡ Some (Ok good) → IsOfFirst (after lock_facts o call (Ok good))
     at (Some code) guarded is = absurd (cc is)
     at None guarded is = record {
-      sound = lock_answers_and_keeps.keeps o call good may.of_first.sound (passes o call may guarded) is;
+      sound = lock_answers_and_keeps.keeps o call good may.of_first.sound (passes o call may (passes_whole lock_facts i o call facts fits guarded)) is;
       owners = owners_at o call.client call.seq call.desc call.args may.client call.fun good may.of_first.owners is;
     }
 
@@ -105,14 +112,14 @@ given_after-le o call (Ok good) = one_more (fun_at lock_facts.funs call.fun).cre
 
 -- ---- histories that go on
 
-object_from-append : (o : Object) (history : List Entry) (e : Entry) → object_from lock_facts o (history ++ e ∷ []) ≡ after lock_facts (object_from lock_facts o history) e.call e.reply
-object_from-append o [] e = refl
-object_from-append o (x ∷ history) e = object_from-append (after lock_facts o x.call x.reply) history e
+object_from-append : (facts : Facts) (o : Object) (history : List Entry) (e : Entry) → object_from facts o (history ++ e ∷ []) ≡ after facts (object_from facts o history) e.call e.reply
+object_from-append facts o [] e = refl
+object_from-append facts o (x ∷ history) e = object_from-append facts (after facts o x.call x.reply) history e
 
-legal-append : (o : Object) (history : List Entry) (e : Entry) → LegalFrom (whole lock_facts) lock_table o history
-    → answer (whole lock_facts) lock_table (object_from lock_facts o history) e.call ≡ Some e.reply → LegalFrom (whole lock_facts) lock_table o (history ++ e ∷ [])
-legal-append o [] e legal is = (is, tt)
-legal-append o (x ∷ history) e legal is = (legal.0, legal-append (after lock_facts o x.call x.reply) history e legal.1 is)
+legal-append : (i : Declared) (o : Object) (history : List Entry) (e : Entry) → LegalFrom i lock_table o history
+    → answer i lock_table (object_from i.facts o history) e.call ≡ Some e.reply → LegalFrom i lock_table o (history ++ e ∷ [])
+legal-append i o [] e legal is = (is, tt)
+legal-append i o (x ∷ history) e legal is = (legal.0, legal-append i (after i.facts o x.call x.reply) history e legal.1 is)
 
 get-append : (history : List Entry) (e : Entry) (k : ℕ) → k < length history → slice_get (history ++ e ∷ []) k ≡ slice_get history k
 get-append [] e k within = absurd (omega arith)
@@ -123,77 +130,161 @@ id_of_call-append : (history : List Entry) (e : Entry) (k : ℕ) → k ≤ lengt
 id_of_call-append history e zero within = refl
 id_of_call-append history e (suc k) within = ap desc_given (get-append history e k (omega arith))
 
-resolved-append : (history : List Entry) (e : Entry) (seq own : ℕ) (step : Step) → IsBack own step → own ≤ length history + 1 → resolved_call (history ++ e ∷ []) seq step ≡ resolved_call history seq step
-resolved-append history e seq own Alloc back within = refl
-resolved-append history e seq own (Take (Number n)) back within = refl
-resolved-append history e seq own (Take (Back k)) back within = ap (λ d. record { client = 1; seq = seq; fun = 2; desc = d; args = [] }) (id_of_call-append history e k (omega (arith, back)))
-resolved-append history e seq own (Release (Number n)) back within = refl
-resolved-append history e seq own (Release (Back k)) back within = ap (λ d. record { client = 1; seq = seq; fun = 3; desc = d; args = [] }) (id_of_call-append history e k (omega (arith, back)))
-resolved-append history e seq own (Free (Number n)) back within = refl
-resolved-append history e seq own (Free (Back k)) back within = ap (λ d. record { client = 1; seq = seq; fun = 4; desc = d; args = [] }) (id_of_call-append history e k (omega (arith, back)))
+-- ---- calls that fit, resolved by a history that goes on
+
+-- `$k` names an earlier call
+back_below : (own : ℕ) (kind : Kind) (k : ℕ) → arg_fits own kind (Back k) ≡ true → k < own
+back_below own Desc k fits = grind (arith, nat_tests)
+back_below own Parent k fits = grind (arith, nat_tests)
+back_below own IsWord k fits = grind (arith, nat_tests)
+back_below own IsText k fits = absurd (cc fits)
+
+arg_value-append : (history : List Entry) (e : Entry) (own : ℕ) (kind : Kind) (a : Arg) → arg_fits own kind a ≡ true → own ≤ length history + 1
+    → arg_value (history ++ e ∷ []) a ≡ arg_value history a
+arg_value-append history e own kind (Number n) fits within = refl
+arg_value-append history e own kind (Text t) fits within = refl
+arg_value-append history e own kind (Back k) fits within = id_of_call-append history e k (omega (arith, back_below own kind k fits))
+
+value_of-append : (history : List Entry) (e : Entry) (own : ℕ) (kind : Kind) (a : Arg) → arg_fits own kind a ≡ true → own ≤ length history + 1
+    → value_of (history ++ e ∷ []) a ≡ value_of history a
+value_of-append history e own kind (Number n) fits within = refl
+value_of-append history e own kind (Text t) fits within = refl
+value_of-append history e own kind (Back k) fits within = ap (λ n. Word n) (id_of_call-append history e k (omega (arith, back_below own kind k fits)))
+
+desc_of-append : (history : List Entry) (e : Entry) (own : ℕ) (kinds : List Kind) (args : List Arg) → args_fit own kinds args ≡ true → own ≤ length history + 1
+    → desc_of (history ++ e ∷ []) kinds args ≡ desc_of history kinds args
+desc_of-append history e own [] args fits within = refl
+desc_of-append history e own (k ∷ kinds) [] fits within = refl
+desc_of-append history e own (Desc ∷ kinds) (a ∷ args) fits within = arg_value-append history e own Desc a (and_parts _ _ fits).0 within
+desc_of-append history e own (Parent ∷ kinds) (a ∷ args) fits within = arg_value-append history e own Parent a (and_parts _ _ fits).0 within
+desc_of-append history e own (IsWord ∷ kinds) (a ∷ args) fits within = desc_of-append history e own kinds args (and_parts (arg_fits own IsWord a) _ fits).1 within
+desc_of-append history e own (IsText ∷ kinds) (a ∷ args) fits within = desc_of-append history e own kinds args (and_parts (arg_fits own IsText a) _ fits).1 within
+
+values_of-append : (history : List Entry) (e : Entry) (own : ℕ) (kinds : List Kind) (args : List Arg) → args_fit own kinds args ≡ true → own ≤ length history + 1
+    → values_of (history ++ e ∷ []) kinds args ≡ values_of history kinds args
+values_of-append history e own [] args fits within = refl
+values_of-append history e own (k ∷ kinds) [] fits within = refl
+values_of-append history e own (Desc ∷ kinds) (a ∷ args) fits within = values_of-append history e own kinds args (and_parts (arg_fits own Desc a) _ fits).1 within
+values_of-append history e own (Parent ∷ kinds) (a ∷ args) fits within = values_of-append history e own kinds args (and_parts (arg_fits own Parent a) _ fits).1 within
+values_of-append history e own (IsWord ∷ kinds) (a ∷ args) fits within =
+    ap (λ v. v ∷ values_of (history ++ e ∷ []) kinds args) (value_of-append history e own IsWord a (and_parts _ _ fits).0 within)
+    ∙ ap (λ vs. value_of history a ∷ vs) (values_of-append history e own kinds args (and_parts (arg_fits own IsWord a) _ fits).1 within)
+values_of-append history e own (IsText ∷ kinds) (a ∷ args) fits within =
+    ap (λ v. v ∷ values_of (history ++ e ∷ []) kinds args) (value_of-append history e own IsText a (and_parts _ _ fits).0 within)
+    ∙ ap (λ vs. value_of history a ∷ vs) (values_of-append history e own kinds args (and_parts (arg_fits own IsText a) _ fits).1 within)
+
+resolved-append : (i : Declared) (history : List Entry) (e : Entry) (seq own : ℕ) (c : ScriptCall) → call_fits i own c ≡ true → own ≤ length history + 1
+    → resolved_call i.facts (history ++ e ∷ []) seq c ≡ resolved_call i.facts history seq c
+resolved-append i history e seq own c fits within =
+    let kinds = (fun_at i.facts.funs c.fun).kinds in
+    let args = (and_parts (declares i c.fun) (args_fit own kinds c.args) fits).1 in
+    ap (λ d. record { client = 1; seq = seq; fun = c.fun; desc = d; args = values_of (history ++ e ∷ []) kinds c.args }) (desc_of-append history e own kinds c.args args within)
+    ∙ ap (λ vs. record { client = 1; seq = seq; fun = c.fun; desc = desc_of history kinds c.args; args = vs }) (values_of-append history e own kinds c.args args within)
 
 -- the calls so far stay resolved
-calls-kept : (history : List Entry) (x : Entry) (seq : ℕ) (es : List Entry) (steps : List Step) → AreBack seq steps → seq + length es ≤ length history + 1
-    → AreCalls history seq es steps → AreCalls (history ++ x ∷ []) seq es steps
-calls-kept history x seq [] [] back within are = tt
-calls-kept history x seq (e ∷ es) (step ∷ steps) back within are =
-    (are.0 ∙ sym (resolved-append history x seq seq step back.0 (omega (arith, within))), calls-kept history x (seq + 1) es steps back.1 (omega (arith, within)) are.1)
-calls-kept history x seq [] (step ∷ steps) back within are = absurd are
-calls-kept history x seq (e ∷ es) [] back within are = absurd are
+calls-kept : (i : Declared) (history : List Entry) (x : Entry) (seq : ℕ) (es : List Entry) (calls : List ScriptCall) → calls_fit i seq calls ≡ true
+    → seq + length es ≤ length history + 1 → AreCalls i.facts history seq es calls → AreCalls i.facts (history ++ x ∷ []) seq es calls
+calls-kept i history x seq [] [] fit within are = tt
+calls-kept i history x seq (e ∷ es) (c ∷ calls) fit within are =
+    let fits = (and_parts (call_fits i seq c) (calls_fit i (seq + 1) calls) fit).0 in
+    let rest = (and_parts (call_fits i seq c) (calls_fit i (seq + 1) calls) fit).1 in
+    (are.0 ∙ sym (resolved-append i history x seq seq c fits (omega (arith, within))), calls-kept i history x (seq + 1) es calls rest (omega (arith, within)) are.1)
+calls-kept i history x seq [] (c ∷ calls) fit within are = absurd are
+calls-kept i history x seq (e ∷ es) [] fit within are = absurd are
 
-calls-append : (history : List Entry) (seq : ℕ) (es : List Entry) (steps : List Step) (e : Entry) (step : Step) → AreCalls history seq es steps
-    → e.call ≡ resolved_call history (seq + length es) step → AreCalls history seq (es ++ e ∷ []) (steps ++ step ∷ [])
-calls-append history seq [] [] e step are is = (is ∙ ap (λ n. resolved_call history n step) (omega arith), tt)
-calls-append history seq (x ∷ es) (s ∷ steps) e step are is =
-    (are.0, calls-append history (seq + 1) es steps e step are.1 (is ∙ ap (λ n. resolved_call history n step) (omega arith)))
-calls-append history seq [] (s ∷ steps) e step are is = absurd are
-calls-append history seq (x ∷ es) [] e step are is = absurd are
+calls-append : (facts : Facts) (history : List Entry) (seq : ℕ) (es : List Entry) (calls : List ScriptCall) (e : Entry) (c : ScriptCall)
+    → AreCalls facts history seq es calls → e.call ≡ resolved_call facts history (seq + length es) c → AreCalls facts history seq (es ++ e ∷ []) (calls ++ c ∷ [])
+calls-append facts history seq [] [] e c are is = (is ∙ ap (λ n. resolved_call facts history n c) (omega arith), tt)
+calls-append facts history seq (x ∷ es) (d ∷ calls) e c are is =
+    (are.0, calls-append facts history (seq + 1) es calls e c are.1 (is ∙ ap (λ n. resolved_call facts history n c) (omega arith)))
+calls-append facts history seq [] (d ∷ calls) e c are is = absurd are
+calls-append facts history seq (x ∷ es) [] e c are is = absurd are
 
 -- ---- the next call
 
-is_call : (history : List Entry) (seq : ℕ) (step : Step) → IsCall lock_facts (resolved_call history seq step)
-is_call history seq Alloc = record { first = omega arith; last = omega arith; fits = record { args = refl; desc = λ d p. refl } }
-is_call history seq (Take arg) = record { first = omega arith; last = omega arith; fits = record { args = refl; desc = λ d p. absurd (cc d) } }
-is_call history seq (Release arg) = record { first = omega arith; last = omega arith; fits = record { args = refl; desc = λ d p. absurd (cc d) } }
-is_call history seq (Free arg) = record { first = omega arith; last = omega arith; fits = record { args = refl; desc = λ d p. absurd (cc d) } }
+-- the other arguments are of the function's kinds
+kinds_of : (history : List Entry) (own : ℕ) (kinds : List Kind) (args : List Arg) → args_fit own kinds args ≡ true → kinds_fit kinds (values_of history kinds args) ≡ true
+kinds_of history own [] [] fits = refl
+kinds_of history own [] (a ∷ args) fits = absurd (cc fits)
+kinds_of history own (k ∷ kinds) [] fits = absurd (cc fits)
+kinds_of history own (Desc ∷ kinds) (a ∷ args) fits = kinds_of history own kinds args (and_parts (arg_fits own Desc a) _ fits).1
+kinds_of history own (Parent ∷ kinds) (a ∷ args) fits = kinds_of history own kinds args (and_parts (arg_fits own Parent a) _ fits).1
+kinds_of history own (IsWord ∷ kinds) (Number n ∷ args) fits = kinds_of history own kinds args fits
+kinds_of history own (IsWord ∷ kinds) (Text t ∷ args) fits = absurd (cc fits)
+kinds_of history own (IsWord ∷ kinds) (Back k ∷ args) fits = kinds_of history own kinds args (and_parts (arg_fits own IsWord (Back k)) _ fits).1
+kinds_of history own (IsText ∷ kinds) (Number n ∷ args) fits = absurd (cc fits)
+kinds_of history own (IsText ∷ kinds) (Text t ∷ args) fits = kinds_of history own kinds args fits
+kinds_of history own (IsText ∷ kinds) (Back k ∷ args) fits = absurd (cc fits)
 
-pub may_make : (history : List Entry) (o : Object) (seq : ℕ) (step : Step) → IsOfFirst o → o.given ≤ length history → length history < 2 ^ 31 → MayMake o (resolved_call history seq step)
-may_make history o seq step of_first given few = record {
+-- without a parameter that is a descriptor or parent there is none
+no_desc : (history : List Entry) (kinds : List Kind) (args : List Arg) → list_any is_desc kinds ≡ false → list_any is_parent kinds ≡ false → desc_of history kinds args ≡ 0
+no_desc history [] args desc parent = refl
+no_desc history (k ∷ kinds) [] desc parent = refl
+no_desc history (Desc ∷ kinds) (a ∷ args) desc parent = absurd (cc desc)
+no_desc history (Parent ∷ kinds) (a ∷ args) desc parent = absurd (cc parent)
+no_desc history (IsWord ∷ kinds) (a ∷ args) desc parent = no_desc history kinds args desc parent
+no_desc history (IsText ∷ kinds) (a ∷ args) desc parent = no_desc history kinds args desc parent
+
+at_least_one : (fun : ℕ) (b : Bool) → (nat_le 1 fun && b) ≡ true → 1 ≤ fun
+at_least_one zero b is = absurd (cc is)
+at_least_one (suc n) b is = omega arith
+
+is_call : (i : Declared) (history : List Entry) (seq own : ℕ) (c : ScriptCall) → Fits i → call_fits i own c ≡ true → IsCall i.facts (resolved_call i.facts history seq c)
+is_call i history seq own c fits is =
+    let kinds = (fun_at i.facts.funs c.fun).kinds in
+    let declared = (and_parts (declares i c.fun) (args_fit own kinds c.args) is).0 in
+    record {
+      first = at_least_one c.fun _ declared;
+      last = fits.funs c.fun declared;
+      fits = record {
+        args = kinds_of history own kinds c.args (and_parts (declares i c.fun) (args_fit own kinds c.args) is).1;
+        desc = no_desc history kinds c.args;
+      };
+    }
+
+pub may_make : (i : Declared) (history : List Entry) (o : Object) (seq own : ℕ) (c : ScriptCall) → i.facts ≡ lock_facts → Fits i → call_fits i own c ≡ true
+    → IsOfFirst o → o.given ≤ length history → length history < 2 ^ 31 → MayMake o (resolved_call i.facts history seq c)
+may_make i history o seq own c facts fits is of_first given few = record {
   of_first = of_first;
-  is_call = is_call history seq step;
+  is_call = subst (λ f. IsCall f (resolved_call i.facts history seq c)) facts (is_call i history seq own c fits is);
   client = refl;
-  plain = refl;
   given = omega (arith, given);
 }
 
 -- the run goes on by the next call
-pub goes_on : (history : List Entry) (o o' : Object) (steps : List Step) (step : Step) (reply : Reply) → IsRun history o steps → length history < 2 ^ 31
-    → AreBack 1 steps → IsBack (length history + 1) step
-    → answer (whole lock_facts) lock_table o (resolved_call history (length history + 1) step) ≡ Some reply
-    → o' ≡ after lock_facts o (resolved_call history (length history + 1) step) reply
-    → IsRun (history ++ record { call = resolved_call history (length history + 1) step; reply = reply } ∷ []) o' (steps ++ step ∷ [])
-goes_on history o o' steps step reply run few back own answered is =
-    let call = resolved_call history (length history + 1) step in
+pub goes_on : (i : Declared) (history : List Entry) (o o' : Object) (calls : List ScriptCall) (c : ScriptCall) (reply : Reply) → i.facts ≡ lock_facts → Fits i
+    → IsRun i history o calls → length history < 2 ^ 31 → calls_fit i 1 calls ≡ true → call_fits i (length history + 1) c ≡ true
+    → answer i lock_table o (resolved_call i.facts history (length history + 1) c) ≡ Some reply
+    → o' ≡ after lock_facts o (resolved_call i.facts history (length history + 1) c) reply
+    → IsRun i (history ++ record { call = resolved_call i.facts history (length history + 1) c; reply = reply } ∷ []) o' (calls ++ c ∷ [])
+goes_on i history o o' calls c reply facts fits run few fit is_next answered is =
+    let call = resolved_call i.facts history (length history + 1) c in
     let e : Entry = record { call = call; reply = reply } in
-    let may = may_make history o (length history + 1) step run.of_first run.given few in
+    let may = may_make i history o (length history + 1) (length history + 1) c facts fits is_next run.of_first run.given few in
     record {
-      object = is ∙ ap (λ x. after lock_facts x call reply) run.object ∙ sym (object_from-append empty_object history e);
-      legal = legal-append empty_object history e run.legal (ap (λ x. answer (whole lock_facts) lock_table x call) (sym run.object) ∙ answered);
-      of_first = subst IsOfFirst (sym is) (of_first_after o call reply may answered);
+      object = is ∙ ap (λ f. after f o call reply) (sym facts) ∙ ap (λ x. after i.facts x call reply) run.object ∙ sym (object_from-append i.facts empty_object history e);
+      legal = legal-append i empty_object history e run.legal (ap (λ x. answer i lock_table x call) (sym run.object) ∙ answered);
+      of_first = subst IsOfFirst (sym is) (of_first_after i o call reply facts fits may answered);
       given = omega (arith, ap (λ x. x.given) is, given_after-le o call reply, run.given, length-append history (e ∷ []));
-      calls = calls-append (history ++ e ∷ []) 1 history steps e step (calls-kept history e 1 history steps back (omega arith) run.calls)
-          (sym (resolved-append history e (length history + 1) (length history + 1) step own (omega arith)) ∙ ap (λ n. resolved_call (history ++ e ∷ []) n step) (omega arith));
+      calls = calls-append i.facts (history ++ e ∷ []) 1 history calls e c (calls-kept i history e 1 history calls fit (omega arith) run.calls)
+          (sym (resolved-append i history e (length history + 1) (length history + 1) c is_next (omega arith)) ∙ ap (λ n. resolved_call i.facts (history ++ e ∷ []) n c) (omega arith));
     }
 
--- ---- the steps of a script
+-- ---- the calls of a script
 
-pub back-take : (own : ℕ) (steps : List Step) (n : ℕ) → AreBack own steps → AreBack own (take n steps)
-back-take own [] zero back = tt
-back-take own [] (suc n) back = tt
-back-take own (s ∷ steps) zero back = tt
-back-take own (s ∷ steps) (suc n) back = (back.0, back-take (own + 1) steps n back.1)
+pub fit-take : (i : Declared) (own : ℕ) (calls : List ScriptCall) (n : ℕ) → calls_fit i own calls ≡ true → calls_fit i own (take n calls) ≡ true
+fit-take i own [] zero fit = refl
+fit-take i own [] (suc n) fit = refl
+fit-take i own (c ∷ calls) zero fit = refl
+fit-take i own (c ∷ calls) (suc n) fit =
+    ap (λ b. b && calls_fit i (own + 1) (take n calls)) (and_parts (call_fits i own c) (calls_fit i (own + 1) calls) fit).0
+    ∙ fit-take i (own + 1) calls n (and_parts (call_fits i own c) (calls_fit i (own + 1) calls) fit).1
 
-pub back-at : (own : ℕ) (steps : List Step) (n : ℕ) (d : Step) → AreBack own steps → n < length steps → IsBack (own + n) (get_or steps n d)
-back-at own [] n d back within = absurd (omega arith)
-back-at own (s ∷ steps) zero d back within = subst (λ k. IsBack k s) (omega arith) back.0
-back-at own (s ∷ steps) (suc n) d back within = subst (λ k. IsBack k (get_or steps n d)) (omega arith) (back-at (own + 1) steps n d back.1 (omega arith))
+pub fits-at : (i : Declared) (own : ℕ) (calls : List ScriptCall) (n : ℕ) (d : ScriptCall) → calls_fit i own calls ≡ true → n < length calls
+    → call_fits i (own + n) (get_or calls n d) ≡ true
+fits-at i own [] n d fit within = absurd (omega arith)
+fits-at i own (c ∷ calls) zero d fit within =
+    subst (λ k. call_fits i k c ≡ true) (omega arith) (and_parts (call_fits i own c) (calls_fit i (own + 1) calls) fit).0
+fits-at i own (c ∷ calls) (suc n) d fit within =
+    subst (λ k. call_fits i k (get_or calls n d) ≡ true) (omega arith)
+    (fits-at i (own + 1) calls n d (and_parts (call_fits i own c) (calls_fit i (own + 1) calls) fit).1 (omega arith))

@@ -1,14 +1,49 @@
--- The calls of a script, and what they come to when they are made.
-use Rattle.std.specs.Prelude.{ℕ, zero, suc, ◌≡◌, ◌+◌, List, [], ◌∷◌, None, Some, slice_get}
+-- The calls of a script: which of them fit an interface, and what they come to when they are made.
+use Rattle.std.specs.Prelude.{ℕ, zero, suc, ◌≡◌, ◌+◌, ◌&&◌, Bool, true, false, nat_le, nat_lt, List, [], ◌∷◌, None, Some, slice_get}
 use Rattle.std.specs.declared.option.Option.{Option}
+use Rattle.sg_base.specs.declared.value.Value.{Value}
+use Rattle.sg_base.specs.declared.value.Value.TheVariants.{Word as word, Text as text}
 use Rattle.sg_base.specs.declared.call.Call.{Call}
 use Rattle.sg_base.specs.declared.reply.Reply.{Reply}
 use Rattle.sg_base.specs.declared.reply.Reply.TheVariants.{Ok, Refused}
 use Rattle.sg_facts.specs.declared.entry.Entry.{Entry}
-use Rattle.sg_opening.specs.declared.step.Arg.{Arg}
-use Rattle.sg_opening.specs.declared.step.Arg.TheVariants.{Number, Back}
-use Rattle.sg_opening.specs.declared.step.Step.{Step}
-use Rattle.sg_opening.specs.declared.step.Step.TheVariants.{Alloc, Take, Release, Free}
+use Rattle.sg_facts.specs.declared.shape.Kind.{Kind}
+use Rattle.sg_facts.specs.declared.shape.Kind.TheVariants.{Desc, Parent, Word, Text as IsText}
+use Rattle.sg_facts.specs.Facts.{Facts, fun_at}
+use Rattle.sg_facts.specs.Interface.{Declared, declares}
+use Rattle.sg_script.specs.declared.script.Arg.{Arg}
+use Rattle.sg_script.specs.declared.script.Arg.TheVariants.{Number, Text, Back}
+use Rattle.sg_script.specs.declared.script.ScriptCall.{ScriptCall}
+
+-- ---- which calls fit
+
+-- whether an argument may stand for a parameter, in the call that is its client's call of this number: a text for a text, and
+-- a number for anything else, or `$k` of a call from 1 to below the own
+abbrev pub arg_fits : ℕ → Kind → Arg → Bool
+arg_fits own IsText (Text t) = true
+arg_fits own IsText (Number n) = false
+arg_fits own IsText (Back k) = false
+arg_fits own _ (Text t) = false
+arg_fits own _ (Number n) = true
+arg_fits own _ (Back k) = nat_le 1 k && nat_lt k own
+
+-- whether arguments may stand for parameters, one for each
+abbrev pub args_fit : ℕ → List Kind → List Arg → Bool
+args_fit own [] [] = true
+args_fit own [] (a ∷ args) = false
+args_fit own (k ∷ kinds) [] = false
+args_fit own (k ∷ kinds) (a ∷ args) = arg_fits own k a && args_fit own kinds args
+
+-- whether a call fits an interface: its function is declared, and its arguments stand for the function's parameters
+abbrev pub call_fits : Declared → ℕ → ScriptCall → Bool
+call_fits i own c = declares i c.fun && args_fit own (fun_at i.facts.funs c.fun).kinds c.args
+
+-- whether calls fit, numbered from a number on
+abbrev pub calls_fit : Declared → ℕ → List ScriptCall → Bool
+calls_fit i own [] = true
+calls_fit i own (c ∷ calls) = call_fits i own c && calls_fit i (own + 1) calls
+
+-- ---- what they come to
 
 -- the descriptor that a reply gives, 0 for none
 abbrev pub desc_in : Reply → ℕ
@@ -27,28 +62,46 @@ id_of_call history (suc k) = desc_given (slice_get history k)
 -- an argument as a number: `$k` is the descriptor that the k-th call was given
 abbrev pub arg_value : List Entry → Arg → ℕ
 arg_value history (Number n) = n
+arg_value history (Text t) = 0
 arg_value history (Back k) = id_of_call history k
 
--- the function and the descriptor of a script's call
-abbrev pub fun_of : Step → ℕ
-fun_of Alloc = 1
-fun_of (Take arg) = 2
-fun_of (Release arg) = 3
-fun_of (Free arg) = 4
+-- an argument as a value
+abbrev pub value_of : List Entry → Arg → Value
+value_of history (Number n) = word n
+value_of history (Text t) = text t
+value_of history (Back k) = word (id_of_call history k)
 
-abbrev pub desc_of : List Entry → Step → ℕ
-desc_of history Alloc = 0
-desc_of history (Take arg) = arg_value history arg
-desc_of history (Release arg) = arg_value history arg
-desc_of history (Free arg) = arg_value history arg
+-- the descriptor or parent among arguments, 0 where no parameter is one
+abbrev pub desc_of : List Entry → List Kind → List Arg → ℕ
+desc_of history [] args = 0
+desc_of history (k ∷ kinds) [] = 0
+desc_of history (Desc ∷ kinds) (a ∷ args) = arg_value history a
+desc_of history (Parent ∷ kinds) (a ∷ args) = arg_value history a
+desc_of history (Word ∷ kinds) (a ∷ args) = desc_of history kinds args
+desc_of history (IsText ∷ kinds) (a ∷ args) = desc_of history kinds args
 
--- a script's call of a number, resolved by a history
-abbrev pub resolved_call : List Entry → ℕ → Step → Call
-resolved_call history seq step = record { client = 1; seq = seq; fun = fun_of step; desc = desc_of history step; args = [] }
+-- the other arguments, in their order
+abbrev pub values_of : List Entry → List Kind → List Arg → List Value
+values_of history [] args = []
+values_of history (k ∷ kinds) [] = []
+values_of history (Desc ∷ kinds) (a ∷ args) = values_of history kinds args
+values_of history (Parent ∷ kinds) (a ∷ args) = values_of history kinds args
+values_of history (Word ∷ kinds) (a ∷ args) = value_of history a ∷ values_of history kinds args
+values_of history (IsText ∷ kinds) (a ∷ args) = value_of history a ∷ values_of history kinds args
+
+-- a script's call of client 1, of a number, resolved by a history
+abbrev pub resolved_call : Facts → List Entry → ℕ → ScriptCall → Call
+resolved_call facts history seq c = record {
+  client = 1;
+  seq = seq;
+  fun = c.fun;
+  desc = desc_of history (fun_at facts.funs c.fun).kinds c.args;
+  args = values_of history (fun_at facts.funs c.fun).kinds c.args;
+}
 
 -- entries are, one by one, the calls of a script from a number on, resolved by a history
-abbrev pub AreCalls : List Entry → ℕ → List Entry → List Step → Type 0
-AreCalls history seq [] [] = Unit {0}
-AreCalls history seq (e ∷ es) (step ∷ steps) = (e.call ≡ resolved_call history seq step) × AreCalls history (seq + 1) es steps
-AreCalls history seq [] (step ∷ steps) = ⊥
-AreCalls history seq (e ∷ es) [] = ⊥
+abbrev pub AreCalls : Facts → List Entry → ℕ → List Entry → List ScriptCall → Type 0
+AreCalls facts history seq [] [] = Unit {0}
+AreCalls facts history seq (e ∷ es) (c ∷ calls) = (e.call ≡ resolved_call facts history seq c) × AreCalls facts history (seq + 1) es calls
+AreCalls facts history seq [] (c ∷ calls) = ⊥
+AreCalls facts history seq (e ∷ es) [] = ⊥

@@ -7,7 +7,7 @@ use Rattle.sg_base.specs.declared.reply.Reply.TheVariants.{Refused}
 use Rattle.sg_facts.specs.declared.entry.Entry.{Entry}
 use Rattle.sg_facts.specs.Object.{Object, after}
 use Rattle.sg_facts.specs.Guard.{guard}
-use Rattle.sg_facts.specs.Laws.{whole}
+use Rattle.sg_facts.specs.Interface.{Declared}
 use Rattle.sg_facts.specs.Legal.{answer}
 use Rattle.sg_lock.specs.LockFacts.{lock_facts}
 use Rattle.sg_lock.specs.LockTable.{lock_table}
@@ -35,34 +35,34 @@ pub record Commits (w : State) (call : Call) (reply : Reply) (w' : State) : Type
   pub object : w'.object ≡ after lock_facts w.object call reply
 
 -- a reply is handed over: one that the service gave before, or the guard's refusal of the offered call
-abbrev pub HandsOver : State → Phase → State → Type 0
-HandsOver w Idle w' = ⊥
-HandsOver w (Asked call) w' = (code : Code) × (guard (whole lock_facts) w.object call ≡ Some code) × Commits w call (Refused code) w'
-HandsOver w Receipted w' = (w'.history ≡ w.history) × (w'.object ≡ w.object)
+abbrev pub HandsOver : Declared → State → Phase → State → Type 0
+HandsOver i w Idle w' = ⊥
+HandsOver i w (Asked call) w' = (code : Code) × (guard i w.object call ≡ Some code) × Commits w call (Refused code) w'
+HandsOver i w Receipted w' = (w'.history ≡ w.history) × (w'.object ≡ w.object)
 
 -- the service answers the offered call, which the guard lets pass
-abbrev pub Serves : State → Phase → State → Type 0
-Serves w Idle w' = ⊥
-Serves w (Asked call) w' = (guard (whole lock_facts) w.object call ≡ None) × (reply : Reply) × (lock_table w.object call ≡ Some reply) × Commits w call reply w'
-Serves w Receipted w' = ⊥
+abbrev pub Serves : Declared → State → Phase → State → Type 0
+Serves i w Idle w' = ⊥
+Serves i w (Asked call) w' = (guard i w.object call ≡ None) × (reply : Reply) × (lock_table w.object call ≡ Some reply) × Commits w call reply w'
+Serves i w Receipted w' = ⊥
 
--- what a step does, by what it answers
-abbrev pub Steps : State → Did → State → Type 0
-Steps w Skipped w' = (w.phase ≡ Idle) × (w' ≡ w)
-Steps w Served w' = Serves w w.phase w' × (w'.phase ≡ Receipted)
-Steps w Answered w' = HandsOver w w.phase w' × (w'.phase ≡ Idle)
+-- what a step does under an interface, by what it answers
+abbrev pub Steps : Declared → State → Did → State → Type 0
+Steps i w Skipped w' = (w.phase ≡ Idle) × (w' ≡ w)
+Steps i w Served w' = Serves i w w.phase w' × (w'.phase ≡ Receipted)
+Steps i w Answered w' = HandsOver i w w.phase w' × (w'.phase ≡ Idle)
 
 -- a call was answered: by the guard or the service, with its entry last and the locks as after it
-pub record IsAnswered (w : State) (call : Call) (w' : State) : Type 0 where
+pub record IsAnswered (i : Declared) (w : State) (call : Call) (w' : State) : Type 0 where
   pub reply : Reply
-  pub answered : answer (whole lock_facts) lock_table w.object call ≡ Some reply
+  pub answered : answer i lock_table w.object call ≡ Some reply
   pub commits : Commits w call reply w'
 
 -- how far an offered call has come
-abbrev pub IsUnderWay : State → Call → Phase → State → Type 0
-IsUnderWay w call Idle w' = IsAnswered w call w'
-IsUnderWay w call (Asked other) w' = (other ≡ call) × (w'.history ≡ w.history) × (w'.object ≡ w.object)
-IsUnderWay w call Receipted w' = IsAnswered w call w'
+abbrev pub IsUnderWay : Declared → State → Call → Phase → State → Type 0
+IsUnderWay i w call Idle w' = IsAnswered i w call w'
+IsUnderWay i w call (Asked other) w' = (other ≡ call) × (w'.history ≡ w.history) × (w'.object ≡ w.object)
+IsUnderWay i w call Receipted w' = IsAnswered i w call w'
 
 -- how many steps a call needs at most
 abbrev pub steps_left : Phase → ℕ

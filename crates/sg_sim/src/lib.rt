@@ -1,14 +1,14 @@
-//! The play of one client of the lock service, in one thread and without stops: the first form of it.
+//! The play of one client of the lock service, in one thread and without stops, under any interface of locks.
 //!
 //! - `turns`: plays a script's calls, one after the other (`play`)
+//! - `calls`: the call that a script's call comes to
 //! - `world`: the locks, the history and the client's phase, and a step of the call that is under way
 //!
-//! `specs/Script.antt` has what a script's calls come to when they are made, `specs/World.antt` what a step does,
+//! `specs/Script.antt` has which calls fit an interface and what they come to, `specs/World.antt` what a step does,
 //! `specs/Run.antt` what a run keeps.
 #![tactic(auto)]
 
-#[cfg(test)]
-mod tests;
+mod calls;
 mod turns;
 mod world;
 

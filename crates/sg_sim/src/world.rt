@@ -1,25 +1,32 @@
 // The world of one client on the lock service, without stops.
 ghost use Rattle.std.specs.Prelude.{◌≡◌, ◌↔◌, ◌<◌, IsTrue, IsOk, IfOk, OnErr, None, []};
 ghost use Rattle.sg_facts.specs.Object.{after, empty_object};
+ghost use Rattle.sg_facts.specs.Fits.{Fits};
 ghost use Rattle.sg_facts.specs.Guard.{guard as the_guard};
 ghost use Rattle.sg_facts.specs.Laws.{whole};
 ghost use Rattle.sg_facts.specs.Kinds.{IsCall};
 ghost use Rattle.sg_lock.specs.LockFacts.{lock_facts};
 ghost use Rattle.sg_lock.specs.LockTable.{lock_table};
 ghost use Rattle.sg_lock.specs.LockObject.{lock_object};
+ghost use Rattle.sg_lock.specs.LockRow.{lock_body};
 ghost use Rattle.sg_sim.specs.Run.{MayMake};
 ghost use Rattle.sg_sim.specs.World.{MayStep, Steps, Serves};
 
 use sg_base::{Call, Code, NoMemory, Reply};
 use sg_edge::Never;
-use sg_facts::{Entry, Outcome, Service};
+use sg_facts::{Entry, Interface, Outcome, Service};
 use sg_hist::History;
-use sg_lock::LockService;
+use sg_lock::{Lock, LockService};
 use std::alloc::Global;
 use std::mem;
 
 // The greatest number of live locks.
 const MOST_LIVE: usize = 1024;
+
+// The functions that make and take a lock, which also name its states.
+const ALLOC: u8 = 1;
+
+const TAKE: u8 = 2;
 
 /// What the client is at.
 #[derive(Debug, Drop)]
@@ -80,10 +87,12 @@ impl World {
         self.phase = Phase::Asked(call);
     }
 
-    /// Makes one step of the call that is under way. After `NoMemory` all is as before.
-    pub fn step(&mut self, alloc: Global) -> Result<Did, NoMemory>
-        requires { MayStep self.old.phase (lock_object self.old.locks) }
-        ensures steps { IfOk result (λ did. Steps
+    /// Makes one step of the call that is under way, under an interface. After `NoMemory` all is as before.
+    pub fn step(&mut self, alloc: Global, iface: &Interface) -> Result<Did, NoMemory>
+        requires facts { iface.now.facts ≡ lock_facts }
+        requires fits { Fits iface.now }
+        requires may { MayStep self.old.phase (lock_object self.old.locks) }
+        ensures steps { IfOk result (λ did. Steps iface.now
             (record { phase = self.old.phase; history = self.old.history.items; object = lock_object self.old.locks }) did
             (record { phase = self.new.phase; history = self.new.history.items; object = lock_object self.new.locks })) }
         ensures err { OnErr result ((self.new.phase ≡ self.old.phase) × (self.new.history.items ≡ self.old.history.items)
@@ -97,23 +106,25 @@ impl World {
         match mem::replace(&mut self.phase, Phase::Idle) {
             Phase::Idle => Ok(Did::Skipped),
             Phase::Receipted => Ok(Did::Answered),
-            Phase::Asked(call) => match guard(&self.locks, &call) {
+            Phase::Asked(call) => match guard(iface, &self.locks, &call) {
                 Some(code) => {
                     let reply = Reply::Refused(code);
                     self.history.add(Entry { call, reply });
                     Ok(Did::Answered)
                 }
-                None => self.serve(alloc, call),
+                None => self.serve(alloc, iface, call),
             },
         }
     }
 
     // Asks the service the call that was offered.
-    fn serve(&mut self, alloc: Global, call: Call) -> Result<Did, NoMemory>
+    fn serve(&mut self, alloc: Global, iface: &Interface, call: Call) -> Result<Did, NoMemory>
+        requires facts { iface.now.facts ≡ lock_facts }
+        requires fits { Fits iface.now }
         requires may { MayMake (lock_object self.old.locks) call }
-        requires guarded { the_guard (whole lock_facts) (lock_object self.old.locks) call ≡ None }
+        requires guarded { the_guard iface.now (lock_object self.old.locks) call ≡ None }
         requires room { 0 < self.old.history.room }
-        ensures ok { IfOk result (λ did. (did ≡ Did.Served) × (self.new.phase ≡ Phase.Receipted) × Serves
+        ensures ok { IfOk result (λ did. (did ≡ Did.Served) × (self.new.phase ≡ Phase.Receipted) × Serves iface.now
             (record { phase = Phase.Asked call; history = self.old.history.items; object = lock_object self.old.locks }) (Phase.Asked call)
             (record { phase = self.new.phase; history = self.new.history.items; object = lock_object self.new.locks })) }
         ensures err { OnErr result ((self.new.phase ≡ Phase.Asked call) × (self.new.history.items ≡ self.old.history.items)
@@ -153,12 +164,13 @@ fn ask(locks: &mut LockService, alloc: Global, call: &Call) -> Result<Reply, NoM
     }
 }
 
-// What the rows alone refuse.
-fn guard(locks: &LockService, call: &Call) -> Option<Code>
-    requires { IsCall lock_facts call.now }
-    ensures { result ≡ the_guard (whole lock_facts) (lock_object locks.now) call.now }
+// What the rows alone refuse under an interface.
+fn guard(iface: &Interface, locks: &LockService, call: &Call) -> Option<Code>
+    requires facts { iface.now.facts ≡ lock_facts }
+    requires call { IsCall lock_facts call.now }
+    ensures { result ≡ the_guard iface.now (lock_object locks.now) call.now }
 {
-    if call.fun == 1 {
+    if call.fun == ALLOC {
         return if locks.live() >= MOST_LIVE {
             Some(Code::Full)
         } else {
@@ -167,7 +179,14 @@ fn guard(locks: &LockService, call: &Call) -> Option<Code>
     }
     match locks.lock(call.desc) {
         None => Some(Code::NoDesc),
-        Some(lock) if lock.owner == 0 && call.fun == 3 => Some(Code::BadState),
+        Some(lock) if !iface.moves_on(state_of(lock), call.fun) => Some(Code::BadState),
         Some(_) => None,
     }
+}
+
+// The state of a lock: that of its last taking while it is owned, and of its making while it is free.
+fn state_of(lock: &Lock) -> u8
+    ensures { result ≡ (lock_body lock.now).state }
+{
+    if lock.owner == 0 { ALLOC } else { TAKE }
 }

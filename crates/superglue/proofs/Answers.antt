@@ -1,178 +1,240 @@
--- An input that was read, and what was done with it, make the answer.
-use Rattle.std.proofs.Common.{◌≡◌, ℕ, suc, ◌+◌, ◌*◌, ◌<◌, ◌≤◌, ◌⊎◌, Bool, true, false, List, [], ◌∷◌, ◌++◌, None, Some, IfSome, length, take, refl, sym, ◌∙◌, ap, subst, inl, inr, arith, append-nil, length-append}
+-- What was read, and what was written of it, make the answer.
+use Rattle.std.proofs.Common.{◌≡◌, ℕ, suc, ◌+◌, ◌*◌, ◌<◌, ◌≤◌, ◌⊎◌, List, [], ◌∷◌, ◌++◌, None, Some, IsSome, IfSome, length, refl, sym, ◌∙◌, ap, subst, inl, inr, arith, append-nil, length-append}
 use Rattle.std.specs.Prelude.{codes}
 use Rattle.std.specs.declared.option.Option.{Option}
-use Rattle.std.specs.Io.KnownBytes.{Appends, Consumes, IsAtEnd}
+use Rattle.std.specs.Io.KnownBytes.{Consumes, IsAtEnd}
 use Rattle.sg_edge.specs.Edge.{Rose, ConsumesJust}
 use Rattle.sg_hist.specs.declared.ended.Ended.{Ended}
-use Rattle.sg_opening.specs.declared.step.Arg.{Arg}
-use Rattle.sg_opening.specs.declared.step.Arg.TheVariants.{Number, Back}
-use Rattle.sg_opening.specs.declared.step.Step.{Step}
-use Rattle.sg_opening.specs.declared.step.Step.TheVariants.{Alloc, Take, Release, Free}
-use Rattle.sg_opening.specs.Interface.{interface}
-use Rattle.sg_opening.specs.Numeral.{IsNumeral}
-use Rattle.sg_opening.specs.Script.{ArgText, CallText, StepText, StepsText, BodyText, ScriptText}
-use Rattle.sg_opening.specs.Input.{IsInput}
-use Rattle.superglue.specs.Answer.{Ends, HasRead, IsAnswer, IsOutput, IsPlayed, IsUntouched, IsWritten, refusal_line, status_of}
+use Rattle.superglue.specs.declared.command.Command.{Command}
+use Rattle.superglue.specs.declared.command.Command.TheVariants.{Sim, Check, Compile}
+use Rattle.superglue.specs.Answer.{Ends, HasRead, IsAnswer, IsOutput, IsRefusal, IsUntouched, most_bytes, too_long_line}
+use Rattle.superglue.specs.Delivery.{IsCarriedOut, IsWritten}
+
+-- ---- what is told of a source
 
 -- what is told of a source that was read to its end is what was read
-told_refused : (told told' : Option (List ℕ)) (bytes : List ℕ) → Consumes told told' bytes → IsAtEnd told' → ((steps : List Step) → IsInput bytes steps → ⊥)
-    → IfSome told (λ b. (steps : List Step) → IsInput b steps → ⊥)
-told_refused None told' bytes consumed at_end refused = tt
-told_refused (Some b) None bytes consumed at_end refused = absurd consumed
-told_refused (Some b) (Some b') bytes consumed at_end refused =
-    subst (λ l. (steps : List Step) → IsInput l steps → ⊥) (sym (consumed ∙ ap (λ l. bytes ++ l) at_end ∙ append-nil bytes)) refused
+told_whole : (P : List ℕ → Type 0) (told told' : Option (List ℕ)) (bytes : List ℕ) → Consumes told told' bytes → IsAtEnd told' → P bytes → IfSome told P
+told_whole P None told' bytes consumed at_end holds = tt
+told_whole P (Some b) None bytes consumed at_end holds = absurd consumed
+told_whole P (Some b) (Some b') bytes consumed at_end holds = subst P (sym (consumed ∙ ap (λ l. bytes ++ l) at_end ∙ append-nil bytes)) holds
 
-played_answer : (is_sim : Type 0) (source source' sink sink' : Ends) (status : ℕ) (ended : Option Ended) (bytes : List ℕ) → is_sim
-    → (length bytes ≤ 32768) × Consumes source.told source'.told bytes × IsAtEnd source'.told → IsPlayed bytes sink sink' status ended → source.faults ≤ source'.faults → sink.faults ≤ sink'.faults
-    → IsAnswer is_sim source source' sink sink' status ended
-played_answer is_sim source source' sink sink' status None bytes sim (short, consumed, at_end) (inl (output, of_input, inl written)) reads writes = record {
-  known = inr (inr (inl written.0));
-  words = λ is. absurd (omega (arith, is, written.0));
-  other_words = λ other. absurd (other sim);
-  done = λ is. absurd (omega (arith, is, written.0));
-  refused = λ is. (refl, subst (Appends sink.told sink'.told) of_input.1 written.1, told_refused source.told source'.told bytes consumed at_end of_input.0);
-  read_fault = λ is. absurd (omega (arith, is, written.0));
-  write_fault = λ is. absurd (omega (arith, is, written.0));
-  no_memory = λ is. absurd (omega (arith, is, written.0));
+-- what is told of one that was read in part is no shorter than what was read
+told_more : (P : List ℕ → Type 0) (told told' : Option (List ℕ)) (bytes : List ℕ) → Consumes told told' bytes → ((b : List ℕ) → length bytes ≤ length b → P b) → IfSome told P
+told_more P None told' bytes consumed all = tt
+told_more P (Some b) None bytes consumed all = absurd consumed
+told_more P (Some b) (Some b') bytes consumed all =
+    let l : length b ≡ length bytes + length b' = ap length consumed ∙ length-append bytes b' in
+    let longer : length bytes ≤ length b = omega (arith, l) in
+    all b longer
+
+-- what `HasRead` says
+abbrev Read : Command → Option (List ℕ) → Option (List ℕ) → Option Ended → ℕ → List ℕ → Type 0
+Read command told told' ended status output =
+    ((bytes : List ℕ) × (length bytes ≤ most_bytes command) × Consumes told told' bytes × IsAtEnd told' × IsOutput command bytes ended status output)
+    ⊎ ((bytes : List ℕ) × (length bytes ≡ most_bytes command + 1) × Consumes told told' bytes × (ended ≡ None) × (status ≡ 2) × (output ≡ too_long_line))
+
+-- ---- refusals
+
+-- more bytes than an input may have are refused
+too_long : (command : Command) (bytes : List ℕ) → most_bytes command < length bytes → IsRefusal command bytes too_long_line
+too_long command bytes long = inr (long, refl)
+
+-- an output with status 2 refuses the input, and no run came to its end
+refusal : (command : Command) (bytes : List ℕ) (ended : Option Ended) (status : ℕ) (output : List ℕ) → status ≡ 2 → length bytes ≤ most_bytes command
+    → IsOutput command bytes ended status output → (ended ≡ None) × IsRefusal command bytes output
+refusal Sim bytes None status output two short is = (refl, inl (short, is.1))
+refusal Sim bytes (Some e) status output two short is = absurd (omega (arith, two, is.0))
+refusal Check bytes ended status output two short (none, inl accepted) = absurd (omega (arith, two, accepted.0))
+refusal Compile bytes ended status output two short (none, inl accepted) = absurd (omega (arith, two, accepted.0))
+refusal Check bytes ended status output two short (none, inr refused) = (none, inl (short, refused.1))
+refusal Compile bytes ended status output two short (none, inr refused) = (none, inl (short, refused.1))
+
+refused_by : (command : Command) (told told' : Option (List ℕ)) (ended : Option Ended) (status : ℕ) (output : List ℕ) → status ≡ 2
+    → Read command told told' ended status output → (ended ≡ None) × IfSome told (λ bytes. IsRefusal command bytes output)
+refused_by command told told' ended status output two (inl (bytes, short, consumed, at_end, is)) =
+    let all = refusal command bytes ended status output two short is in
+    (all.0, told_whole (λ b. IsRefusal command b output) told told' bytes consumed at_end all.1)
+refused_by command told told' ended status output two (inr (bytes, count, consumed, none, is_two, line)) = (
+  none,
+  told_more (λ b. IsRefusal command b output) told told' bytes consumed
+      (λ b longer. subst (IsRefusal command b) (sym line) (too_long command b (omega (arith, count, longer)))),
+)
+
+told_refused : (command : Command) (source source' : Ends) (ended : Option Ended) (status : ℕ) (output : List ℕ) → status ≡ 2
+    → HasRead command source source' ended status output → (ended ≡ None) × IfSome source.told (λ bytes. IsRefusal command bytes output)
+told_refused command source source' ended status output two has = refused_by command source.told source'.told ended status output two has.read
+
+-- ---- statuses and runs
+
+output_status : (command : Command) (bytes : List ℕ) (ended : Option Ended) (status : ℕ) (output : List ℕ)
+    → IsOutput command bytes ended status output → (status ≡ 0) ⊎ (status ≡ 2)
+output_status Sim bytes None status output is = inr is.0
+output_status Sim bytes (Some e) status output is = inl is.0
+output_status Check bytes ended status output (none, inl accepted) = inl accepted.0
+output_status Compile bytes ended status output (none, inl accepted) = inl accepted.0
+output_status Check bytes ended status output (none, inr refused) = inr refused.0
+output_status Compile bytes ended status output (none, inr refused) = inr refused.0
+
+status_by : (command : Command) (told told' : Option (List ℕ)) (ended : Option Ended) (status : ℕ) (output : List ℕ)
+    → Read command told told' ended status output → (status ≡ 0) ⊎ (status ≡ 2)
+status_by command told told' ended status output (inl (bytes, short, consumed, at_end, is)) = output_status command bytes ended status output is
+status_by command told told' ended status output (inr (bytes, count, consumed, none, is_two, line)) = inr is_two
+
+-- an output's status is 0 or 2
+status_is : (command : Command) (source source' : Ends) (ended : Option Ended) (status : ℕ) (output : List ℕ)
+    → HasRead command source source' ended status output → (status ≡ 0) ⊎ (status ≡ 2)
+status_is command source source' ended status output has = status_by command source.told source'.told ended status output has.read
+
+output_run : (command : Command) (bytes : List ℕ) (ended : Option Ended) (status : ℕ) (output : List ℕ) → status ≡ 0 → command ≡ Sim
+    → IsOutput command bytes ended status output → IsSome ended
+output_run Sim bytes None status output zero sim is = absurd (omega (arith, zero, is.0))
+output_run Sim bytes (Some e) status output zero sim is = refl
+output_run Check bytes ended status output zero sim is = cc
+output_run Compile bytes ended status output zero sim is = cc
+
+run_by : (command : Command) (told told' : Option (List ℕ)) (ended : Option Ended) (status : ℕ) (output : List ℕ) → status ≡ 0 → command ≡ Sim
+    → Read command told told' ended status output → IsSome ended
+run_by command told told' ended status output zero sim (inl (bytes, short, consumed, at_end, is)) = output_run command bytes ended status output zero sim is
+run_by command told told' ended status output zero sim (inr (bytes, count, consumed, none, is_two, line)) = absurd (omega (arith, zero, is_two))
+
+-- a play that is done has a run
+done_run : (command : Command) (source source' : Ends) (ended : Option Ended) (status : ℕ) (output : List ℕ) → status ≡ 0 → command ≡ Sim
+    → HasRead command source source' ended status output → IsSome ended
+done_run command source source' ended status output zero sim has = run_by command source.told source'.told ended status output zero sim has.read
+
+no_run : (ended : Option Ended) → ended ≡ None → IsSome ended → ⊥
+no_run None none some = cc
+no_run (Some e) none some = cc
+
+output_sim : (command : Command) (bytes : List ℕ) (ended : Option Ended) (status : ℕ) (output : List ℕ)
+    → IsOutput command bytes ended status output → IsSome ended → command ≡ Sim
+output_sim Sim bytes ended status output is some = refl
+output_sim Check bytes ended status output is some = absurd (no_run ended is.0 some)
+output_sim Compile bytes ended status output is some = absurd (no_run ended is.0 some)
+
+sim_by : (command : Command) (told told' : Option (List ℕ)) (ended : Option Ended) (status : ℕ) (output : List ℕ)
+    → Read command told told' ended status output → IsSome ended → command ≡ Sim
+sim_by command told told' ended status output (inl (bytes, short, consumed, at_end, is)) some = output_sim command bytes ended status output is some
+sim_by command told told' ended status output (inr (bytes, count, consumed, none, is_two, line)) some = absurd (no_run ended none some)
+
+-- only a play has one
+run_sim : (command : Command) (source source' : Ends) (ended : Option Ended) (status : ℕ) (output : List ℕ)
+    → HasRead command source source' ended status output → IsSome ended → command ≡ Sim
+run_sim command source source' ended status output has some = sim_by command source.told source'.told ended status output has.read some
+
+-- ---- answers
+
+-- at most one command is said
+abbrev pub IsOne : (Command → Type 0) → Type 0
+IsOne said = (a b : Command) → said a → said b → a ≡ b
+
+answered : (said : Command → Type 0) (source source' sink sink' : Ends) (status : ℕ) (ended : Option Ended) (command : Command) (wanted : ℕ) (output : List ℕ)
+    → IsOne said → said command → HasRead command source source' ended wanted output → IsWritten sink sink' output wanted status
+    → source.faults ≤ source'.faults → sink.faults ≤ sink'.faults → (wanted ≡ 0) ⊎ (wanted ≡ 2) → IsAnswer said source source' sink sink' status ended
+answered said source source' sink sink' status ended command wanted output one is_said has (inl written) reads writes (inl zero) = record {
+  known = inl (written.0 ∙ zero);
+  words = λ is. absurd (omega (arith, is, written.0, zero));
+  other_words = λ other. absurd (other command is_said);
+  done = λ is. (command, is_said, output, subst (λ w. HasRead command source source' ended w output) zero has, written.1);
+  refused = λ is. absurd (omega (arith, is, written.0, zero));
+  read_fault = λ is. absurd (omega (arith, is, written.0, zero));
+  write_fault = λ is. absurd (omega (arith, is, written.0, zero));
+  no_memory = λ is. absurd (omega (arith, is, written.0, zero));
+  played = λ is sim. done_run command source source' ended wanted output zero (one command Sim is_said sim) has;
+  only_played = λ some. subst said (run_sim command source source' ended wanted output has some) is_said;
   reads = reads;
   writes = writes;
 }
-played_answer is_sim source source' sink sink' status (Some e) bytes sim (short, consumed, at_end) (inl (output, of_input, inl written)) reads writes = record {
-  known = inl written.0;
-  words = λ is. absurd (omega (arith, is, written.0));
-  other_words = λ other. absurd (other sim);
-  done = λ is. (e, refl, output, record { read = inl (bytes, consumed, at_end, of_input) }, written.1);
-  refused = λ is. absurd (omega (arith, is, written.0));
-  read_fault = λ is. absurd (omega (arith, is, written.0));
-  write_fault = λ is. absurd (omega (arith, is, written.0));
-  no_memory = λ is. absurd (omega (arith, is, written.0));
-  reads = reads;
-  writes = writes;
-}
-played_answer is_sim source source' sink sink' status ended bytes sim (short, consumed, at_end) (inl (output, of_input, inr cut)) reads writes = record {
+answered said source source' sink sink' status ended command wanted output one is_said has (inl written) reads writes (inr two) =
+    let no_run = told_refused command source source' ended wanted output two has in record {
+      known = inr (inr (inl (written.0 ∙ two)));
+      words = λ is. absurd (omega (arith, is, written.0, two));
+      other_words = λ other. absurd (other command is_said);
+      done = λ is. absurd (omega (arith, is, written.0, two));
+      refused = λ is. (no_run.0, (command, is_said, output, subst (λ w. HasRead command source source' ended w output) two has, written.1, no_run.1));
+      read_fault = λ is. absurd (omega (arith, is, written.0, two));
+      write_fault = λ is. absurd (omega (arith, is, written.0, two));
+      no_memory = λ is. absurd (omega (arith, is, written.0, two));
+      played = λ is sim. absurd (omega (arith, is, written.0, two));
+      only_played = λ some. subst said (run_sim command source source' ended wanted output has some) is_said;
+      reads = reads;
+      writes = writes;
+    }
+answered said source source' sink sink' status ended command wanted output one is_said has (inr cut) reads writes zero_or_two = record {
   known = inr (inr (inr (inr (inl cut.0))));
   words = λ is. absurd (omega (arith, is, cut.0));
-  other_words = λ other. absurd (other sim);
+  other_words = λ other. absurd (other command is_said);
   done = λ is. absurd (omega (arith, is, cut.0));
   refused = λ is. absurd (omega (arith, is, cut.0));
   read_fault = λ is. absurd (omega (arith, is, cut.0));
-  write_fault = λ is. (cut.1, (output, cut.2.0, record { read = inl (bytes, consumed, at_end, of_input) }, cut.2.1, cut.2.2));
+  write_fault = λ is. (cut.1, (command, is_said, output, wanted, cut.2.0, has, cut.2.1, cut.2.2));
   no_memory = λ is. absurd (omega (arith, is, cut.0));
+  played = λ is sim. absurd (omega (arith, is, cut.0));
+  only_played = λ some. subst said (run_sim command source source' ended wanted output has some) is_said;
   reads = reads;
   writes = writes;
 }
-played_answer is_sim source source' sink sink' status ended bytes sim (short, consumed, at_end) (inr without) reads writes = record {
+
+-- a read failed
+pub read_failed : (said : Command → Type 0) (source source' sink : Ends) (status : ℕ) (ended : Option Ended) (command : Command) → said command
+    → status ≡ 4 → ended ≡ None → Rose source.faults source'.faults → source.faults ≤ source'.faults → IsAnswer said source source' sink sink status ended
+read_failed said source source' sink status ended command is_said four none rose reads = record {
+  known = inr (inr (inr (inl four)));
+  words = λ is. absurd (omega (arith, is, four));
+  other_words = λ other. absurd (other command is_said);
+  done = λ is. absurd (omega (arith, is, four));
+  refused = λ is. absurd (omega (arith, is, four));
+  read_fault = λ is. (none, rose, record { told = refl; faults = refl });
+  write_fault = λ is. absurd (omega (arith, is, four));
+  no_memory = λ is. absurd (omega (arith, is, four));
+  played = λ is sim. absurd (omega (arith, is, four));
+  only_played = λ some. absurd (no_run ended none some);
+  reads = reads;
+  writes = omega arith;
+}
+
+-- there was no memory
+pub without_memory : (said : Command → Type 0) (source source' sink sink' : Ends) (status : ℕ) (ended : Option Ended) (command : Command) → said command
+    → (status ≡ 6) × (ended ≡ None) × IsUntouched sink sink' → source.faults ≤ source'.faults → sink.faults ≤ sink'.faults → IsAnswer said source source' sink sink' status ended
+without_memory said source source' sink sink' status ended command is_said without reads writes = record {
   known = inr (inr (inr (inr (inr without.0))));
   words = λ is. absurd (omega (arith, is, without.0));
-  other_words = λ other. absurd (other sim);
+  other_words = λ other. absurd (other command is_said);
   done = λ is. absurd (omega (arith, is, without.0));
   refused = λ is. absurd (omega (arith, is, without.0));
   read_fault = λ is. absurd (omega (arith, is, without.0));
   write_fault = λ is. absurd (omega (arith, is, without.0));
   no_memory = λ is. (without.1, without.2);
+  played = λ is sim. absurd (omega (arith, is, without.0));
+  only_played = λ some. absurd (no_run ended without.1 some);
   reads = reads;
   writes = writes;
 }
 
--- the same, where what was played is shown under another name
-pub whole_answer : (is_sim : Type 0) (source source' sink sink' : Ends) (status : ℕ) (ended : Option Ended) (bytes shown : List ℕ) → shown ≡ bytes → is_sim
-    → (length bytes ≤ 32768) × Consumes source.told source'.told bytes × IsAtEnd source'.told → IsPlayed shown sink sink' status ended
-    → source.faults ≤ source'.faults → sink.faults ≤ sink'.faults → IsAnswer is_sim source source' sink sink' status ended
-whole_answer is_sim source source' sink sink' status ended bytes shown same sim taken played =
-    played_answer is_sim source source' sink sink' status ended bytes sim taken (subst (λ b. IsPlayed b sink sink' status ended) same played)
+-- an input that was read, and what was done with it, make the answer
+carried_out : (said : Command → Type 0) (source source' sink sink' : Ends) (status : ℕ) (ended : Option Ended) (command : Command) (bytes : List ℕ) → IsOne said → said command
+    → (length bytes ≤ most_bytes command) × Consumes source.told source'.told bytes × IsAtEnd source'.told → IsCarriedOut command bytes sink sink' status ended
+    → source.faults ≤ source'.faults → sink.faults ≤ sink'.faults → IsAnswer said source source' sink sink' status ended
+carried_out said source source' sink sink' status ended command bytes one is_said (short, consumed, at_end) (inl (output, wanted, is, written)) reads writes =
+    let has : HasRead command source source' ended wanted output = record { read = inl (bytes, short, consumed, at_end, is) } in
+    answered said source source' sink sink' status ended command wanted output one is_said has written reads writes (status_is command source source' ended wanted output has)
+carried_out said source source' sink sink' status ended command bytes one is_said taken (inr without) reads writes =
+    without_memory said source source' sink sink' status ended command is_said without reads writes
 
--- an input isn't longer than the program reads
-arg_short : (text : List ℕ) (a : Arg) → ArgText text a → length text ≤ 6
-arg_short text (Number n) is = omega (arith, is.few)
-arg_short text (Back k) (digits, is_text, is) =
-    let l : length text ≡ suc (length digits) = ap length is_text in
-    omega (arith, l, is.few)
+-- the same, where the bytes and the limit are shown under other names
+pub whole_answer : (said : Command → Type 0) (source source' sink sink' : Ends) (status : ℕ) (ended : Option Ended) (command : Command) (bytes shown : List ℕ) (limit : ℕ)
+    → shown ≡ bytes → limit ≡ most_bytes command → IsOne said → said command
+    → (length bytes ≤ limit) × Consumes source.told source'.told bytes × IsAtEnd source'.told → IsCarriedOut command shown sink sink' status ended
+    → source.faults ≤ source'.faults → sink.faults ≤ sink'.faults → IsAnswer said source source' sink sink' status ended
+whole_answer said source source' sink sink' status ended command bytes shown limit same most one is_said (short, consumed, at_end) done =
+    carried_out said source source' sink sink' status ended command bytes one is_said (subst (λ n. length bytes ≤ n) most short, consumed, at_end)
+    (subst (λ b. IsCarriedOut command b sink sink' status ended) same done)
 
-call_short : (name text : List ℕ) (a : Arg) → length name ≤ 14 → CallText name text a → length text ≤ 22
-call_short name text a few (arg, is_arg, is) =
-    let l : length text ≡ length name + (length arg + 2) = ap length is ∙ length-append name (arg ++ codes ");") ∙ ap (λ n. length name + n) (length-append arg (codes ");")) in
-    omega (arith, l, few, arg_short arg a is_arg)
-
-step_short : (text : List ℕ) (s : Step) → StepText text s → length text ≤ 22
-step_short text Alloc is =
-    let l : length text ≡ 14 = ap length is in
-    omega (arith, l)
-step_short text (Take a) is =
-    let l : 11 ≤ 14 = omega (arith) in
-    call_short (codes " lock_take(") text a l is
-step_short text (Release a) is =
-    let l : 14 ≤ 14 = omega (arith) in
-    call_short (codes " lock_release(") text a l is
-step_short text (Free a) is =
-    let l : 11 ≤ 14 = omega (arith) in
-    call_short (codes " lock_free(") text a l is
-
-steps_short : (text : List ℕ) (steps : List Step) → StepsText text steps → length text ≤ 22 * length steps
-steps_short text [] is =
-    let l : length text ≡ 0 = ap length is in
-    omega (arith, l)
-steps_short text (s ∷ ss) (one, rest, is_one, is_rest, is) =
-    let l : length text ≡ length one + length rest = ap length is ∙ length-append one rest in
-    let n : length (s ∷ ss) ≡ suc (length ss) = refl in
-    omega (arith, l, n, step_short one s is_one, steps_short rest ss is_rest)
-
-body_short : (body : List ℕ) (steps : List Step) → length steps ≤ 1000 → BodyText body steps → length body ≤ 22012
-body_short body steps few (inl (empty, none)) =
-    let l : length body ≡ 0 = ap length empty in
-    omega (arith, l)
-body_short body steps few (inr (text, is, texts)) =
-    let l : length body ≡ 10 + (length text + 2) =
-    ap length is ∙ length-append (codes "client 1 {") (text ++ codes " }") ∙ ap (λ n. 10 + n) (length-append text (codes " }")) in
-    omega (arith, l, few, steps_short text steps texts)
-
-script_short : (script : List ℕ) (steps : List Step) → length steps ≤ 1000 → ScriptText script steps → length script ≤ 22013
-script_short script steps few (inl body) = omega (arith, body_short script steps few body)
-script_short script steps few (inr (body, is, is_body)) =
-    let l : length script ≡ length body + 1 = ap length is ∙ length-append body (10 ∷ []) in
-    omega (arith, l, body_short body steps few is_body)
-
-interface_length : length interface ≡ 816
-unfolding interface
-interface_length = refl
-
-input_short : (input : List ℕ) (steps : List Step) → IsInput input steps → length input ≤ 32768
-input_short input steps is =
-    let l : length input ≡ 816 + length is.script = ap length is.whole ∙ length-append interface is.script ∙ ap (λ n. n + length is.script) interface_length in
-    omega (arith, l, script_short is.script steps is.few is.text)
-
-told_too_long : (told told' : Option (List ℕ)) (bytes : List ℕ) → length bytes ≡ 32769 → Consumes told told' bytes
-    → IfSome told (λ b. (steps : List Step) → IsInput b steps → ⊥)
-told_too_long None told' bytes count consumed = tt
-told_too_long (Some b) None bytes count consumed = absurd consumed
-told_too_long (Some b) (Some b') bytes count consumed = λ steps is.
-    let l : length b ≡ length bytes + length b' = ap length consumed ∙ length-append bytes b' in
-    absurd (omega (arith, l, count, input_short b steps is))
-
-pub refused_answer : (is_sim : Type 0) (source source' sink sink' : Ends) (status : ℕ) (ended : Option Ended) → is_sim
-    → ConsumesJust 32769 source.told source'.told → ended ≡ None → IsWritten sink sink' refusal_line 2 status
-    → source.faults ≤ source'.faults → sink.faults ≤ sink'.faults → IsAnswer is_sim source source' sink sink' status ended
-refused_answer is_sim source source' sink sink' status ended sim (bytes, count, consumed) none (inl written) reads writes = record {
-  known = inr (inr (inl written.0));
-  words = λ is. absurd (omega (arith, is, written.0));
-  other_words = λ other. absurd (other sim);
-  done = λ is. absurd (omega (arith, is, written.0));
-  refused = λ is. (none, written.1, told_too_long source.told source'.told bytes count consumed);
-  read_fault = λ is. absurd (omega (arith, is, written.0));
-  write_fault = λ is. absurd (omega (arith, is, written.0));
-  no_memory = λ is. absurd (omega (arith, is, written.0));
-  reads = reads;
-  writes = writes;
-}
-refused_answer is_sim source source' sink sink' status ended sim (bytes, count, consumed) none (inr cut) reads writes = record {
-  known = inr (inr (inr (inr (inl cut.0))));
-  words = λ is. absurd (omega (arith, is, cut.0));
-  other_words = λ other. absurd (other sim);
-  done = λ is. absurd (omega (arith, is, cut.0));
-  refused = λ is. absurd (omega (arith, is, cut.0));
-  read_fault = λ is. absurd (omega (arith, is, cut.0));
-  write_fault = λ is. (cut.1, (refusal_line, cut.2.0, record { read = inr (bytes, count, consumed, none, refl) }, cut.2.1, cut.2.2));
-  no_memory = λ is. absurd (omega (arith, is, cut.0));
-  reads = reads;
-  writes = writes;
-}
+-- one byte more was read than an input may have, and that is refused
+pub too_long_answer : (said : Command → Type 0) (source source' sink sink' : Ends) (status : ℕ) (ended : Option Ended) (command : Command) (line : List ℕ) (limit : ℕ)
+    → line ≡ too_long_line → limit ≡ most_bytes command → IsOne said → said command
+    → ConsumesJust (limit + 1) source.told source'.told → ended ≡ None → IsWritten sink sink' line 2 status
+    → source.faults ≤ source'.faults → sink.faults ≤ sink'.faults → IsAnswer said source source' sink sink' status ended
+too_long_answer said source source' sink sink' status ended command line limit same most one is_said (bytes, count, consumed) none written reads writes =
+    answered said source source' sink sink' status ended command 2 line one is_said
+    (record { read = inr (bytes, count ∙ ap (λ n. n + 1) most, consumed, none, refl, same) }) written reads writes (inr refl)

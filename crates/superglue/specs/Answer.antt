@@ -1,63 +1,94 @@
 -- What the program answers.
-use Rattle.std.specs.Prelude.{ℕ, ◌≡◌, ◌+◌, ◌<◌, ◌≤◌, ◌⊎◌, List, [], ◌∷◌, ◌++◌, None, Some, IfSome, length, take, codes, string_bytes}
+use Rattle.std.specs.Prelude.{ℕ, ◌≡◌, ◌+◌, ◌<◌, ◌≤◌, ◌⊎◌, List, [], ◌∷◌, ◌++◌, None, Some, IsSome, IfSome, length, take, codes, string_bytes}
 use Rattle.std.specs.declared.option.Option.{Option}
-use Rattle.std.specs.Io.KnownBytes.{Appends, Consumes, Keeps, IsAtEnd}
+use Rattle.std.specs.Io.KnownBytes.{Appends, Consumes, IsAtEnd}
 use Rattle.std.specs.declared.string.String.{String}
 use Rattle.std.specs.declared.alloc.Global.{Global}
-use Rattle.sg_facts.specs.declared.entry.Entry.{Entry}
-use Rattle.sg_facts.specs.declared.trace.Trace.{Trace}
-use Rattle.sg_facts.specs.Laws.{whole}
-use Rattle.sg_facts.specs.Legal.{IsLegal}
-use Rattle.sg_edge.specs.Edge.{Rose}
-use Rattle.sg_hist.specs.declared.ended.End.{End}
-use Rattle.sg_hist.specs.declared.ended.End.TheVariants.{Done}
+use Rattle.sg_facts.specs.Facts.{Facts}
+use Rattle.sg_edge.specs.Edge.{Rose, ConsumesAtMost}
 use Rattle.sg_hist.specs.declared.ended.Ended.{Ended}
-use Rattle.sg_hist.specs.Clients.{calls_of}
 use Rattle.sg_lock.specs.LockFacts.{lock_facts}
-use Rattle.sg_lock.specs.LockTable.{lock_table}
-use Rattle.sg_opening.specs.declared.step.Step.{Step}
-use Rattle.sg_opening.specs.Input.{IsInput}
-use Rattle.sg_sim.specs.Script.{AreCalls}
 use Rattle.sg_report.specs.Report.{report_of}
+use Rattle.sg_verdict.specs.declared.outcome.Verdict.{Verdict}
+use Rattle.sg_verdict.specs.declared.outcome.Verdict.TheVariants.{Accepted, Refused}
+use Rattle.sg_verdict.specs.Verdicts.{IsCompiled, IsVerdict}
+use Rattle.superglue.specs.Runs.{IsNotPlayed, IsRunOfInput}
+use Rattle.superglue.specs.declared.command.Command.{Command}
+use Rattle.superglue.specs.declared.command.Command.TheVariants.{Sim, Check, Compile}
 
 -- ---- words
 
--- the words are the one command that there is
-abbrev pub IsSim : List (String Global) → Type 0
-IsSim [] = ⊥
-IsSim (word ∷ []) = string_bytes word ≡ codes "sim"
-IsSim (word ∷ other ∷ words) = ⊥
+-- the one word of a command
+abbrev pub word_of : Command → List ℕ
+word_of Sim = codes "sim"
+word_of Check = codes "check"
+word_of Compile = codes "compile"
 
--- ---- runs
+-- the words are one word, and this one
+abbrev pub IsWord : List ℕ → List (String Global) → Type 0
+IsWord text [] = ⊥
+IsWord text (word ∷ []) = string_bytes word ≡ text
+IsWord text (word ∷ other ∷ words) = ⊥
 
--- how clients end: client 1, where it has a call, is done, and each of its calls is in the history
-abbrev pub AreEnds : List Step → List Entry → List (ℕ × End) → Type 0
-AreEnds [] history ends = ends ≡ []
-AreEnds (step ∷ steps) history ends = (ends ≡ (1, Done) ∷ []) × (length (calls_of history 1) ≡ length (step ∷ steps))
+-- the words are those of a command
+abbrev pub IsCommand : List (String Global) → Command → Type 0
+IsCommand words command = IsWord (word_of command) words
 
--- one boot, in which nothing of the service was traced and no point was asked
-pub record IsPlainTrace (trace : Trace) : Type 0 where
-  pub boots : trace.boots ≡ record { items = []; stop = None } ∷ []
-  pub points : trace.points ≡ 0
+-- ---- limits
 
--- a run of a script: its history is legal, its entries are the script's calls in their order, each client is done, and
--- the service was booted once
-pub record IsRunOf (steps : List Step) (ended : Ended) : Type 0 where
-  pub legal : IsLegal (whole lock_facts) lock_table ended.history.items
-  pub calls : AreCalls ended.history.items 1 ended.history.items steps
-  pub ends : AreEnds steps ended.history.items ended.ends
-  pub trace : IsPlainTrace ended.trace
+-- the greatest number of bytes of a command's input
+abbrev pub most_bytes : Command → ℕ
+most_bytes Sim = 4259844
+most_bytes Check = 65536
+most_bytes Compile = 65536
+
+-- the line of an input with more bytes than that
+abbrev pub too_long_line : List ℕ
+too_long_line = codes "input refused: TooLong" ++ 10 ∷ []
 
 -- ---- outputs
 
--- the line of a refused input
-abbrev pub refusal_line : List ℕ
-refusal_line = codes "input refused: NotYet" ++ 10 ∷ []
+-- the services whose interfaces may be accepted
+abbrev pub services : List Facts
+services = lock_facts ∷ []
 
--- the output for an input, and the run where there was one: the report of its run, or the refusal where it is no input
-abbrev pub IsOutput : List ℕ → Option Ended → List ℕ → Type 0
-IsOutput bytes None output = ((steps : List Step) → IsInput bytes steps → ⊥) × (output ≡ refusal_line)
-IsOutput bytes (Some ended) output = (steps : List Step) × IsInput bytes steps × IsRunOf steps ended × (output ≡ report_of lock_facts ended.history.items)
+-- the output of a play, and its status: the report of the run of an input that is played, 0; or the line of one that isn't, 2
+abbrev pub IsPlayed : List ℕ → Option Ended → ℕ → List ℕ → Type 0
+IsPlayed bytes None status output = (status ≡ 2) × IsNotPlayed services bytes output
+IsPlayed bytes (Some ended) status output = (status ≡ 0) × IsRunOfInput services bytes ended × (output ≡ report_of lock_facts ended.history.items)
+
+-- the output of a check, and its status: the line of a text that is accepted, 0; or of one that is refused, 2
+abbrev pub IsChecked : List ℕ → ℕ → List ℕ → Type 0
+IsChecked text status output =
+    ((status ≡ 0) × IsVerdict services text (Accepted output)) ⊎ ((status ≡ 2) × IsVerdict services text (Refused output))
+
+-- that of a compilation: the text of the tables of a text that is accepted, 0; or the line of one that is refused, 2
+abbrev pub IsTabled : List ℕ → ℕ → List ℕ → Type 0
+IsTabled text status output =
+    ((status ≡ 0) × IsCompiled services text (Accepted output)) ⊎ ((status ≡ 2) × IsCompiled services text (Refused output))
+
+-- an output says this of a text, with the status that belongs to it
+abbrev pub IsSaid : Verdict → ℕ → List ℕ → Type 0
+IsSaid (Accepted text) status output = (status ≡ 0) × (output ≡ text)
+IsSaid (Refused line) status output = (status ≡ 2) × (output ≡ line)
+
+-- the output of a command for an input, its status, and the run where there was one: only a play has one
+abbrev pub IsOutput : Command → List ℕ → Option Ended → ℕ → List ℕ → Type 0
+IsOutput Sim bytes ended status output = IsPlayed bytes ended status output
+IsOutput Check bytes ended status output = (ended ≡ None) × IsChecked bytes status output
+IsOutput Compile bytes ended status output = (ended ≡ None) × IsTabled bytes status output
+
+-- the line with which a command refuses bytes that aren't too many
+abbrev pub IsRefusedAs : Command → List ℕ → List ℕ → Type 0
+IsRefusedAs Sim bytes output = IsNotPlayed services bytes output
+IsRefusedAs Check bytes output = IsVerdict services bytes (Refused output)
+IsRefusedAs Compile bytes output = IsVerdict services bytes (Refused output)
+
+-- the output of a command that refuses these bytes: as an input, or as more bytes than one may have
+abbrev pub IsRefusal : Command → List ℕ → List ℕ → Type 0
+IsRefusal command bytes output =
+    ((length bytes ≤ most_bytes command) × IsRefusedAs command bytes output)
+    ⊎ ((most_bytes command < length bytes) × (output ≡ too_long_line))
 
 -- ---- answers
 
@@ -66,53 +97,47 @@ pub record Ends : Type 0 where
   pub told : Option (List ℕ)
   pub faults : ℕ
 
--- an input was read to its end, and an output for it is to be written; or more bytes than an input may have were read
-pub record HasRead (before after : Ends) (ended : Option Ended) (output : List ℕ) : Type 0 where
-  pub read : ((bytes : List ℕ) × Consumes before.told after.told bytes × IsAtEnd after.told × IsOutput bytes ended output)
-      ⊎ ((bytes : List ℕ) × (length bytes ≡ 32769) × Consumes before.told after.told bytes × (ended ≡ None) × (output ≡ refusal_line))
+-- an input was read to its end, and an output for it is to be written with this status; or one byte more than an input may
+-- have was read, and that is refused
+pub record HasRead (command : Command) (before after : Ends) (ended : Option Ended) (status : ℕ) (output : List ℕ) : Type 0 where
+  pub read : ((bytes : List ℕ) × (length bytes ≤ most_bytes command) × Consumes before.told after.told bytes × IsAtEnd after.told × IsOutput command bytes ended status output)
+      ⊎ ((bytes : List ℕ) × (length bytes ≡ most_bytes command + 1) × Consumes before.told after.told bytes × (ended ≡ None) × (status ≡ 2) × (output ≡ too_long_line))
 
 -- a source or sink is as it was
 pub record IsUntouched (before after : Ends) : Type 0 where
   pub told : after.told ≡ before.told
   pub faults : after.faults ≡ before.faults
 
--- the status of an output that is written whole
-abbrev pub status_of : Option Ended → ℕ
-status_of None = 2
-status_of (Some ended) = 0
-
--- an output was written whole, with the status that belongs to it; or a write failed, and what is written is a proper
--- front of it
-abbrev pub IsWritten : Ends → Ends → List ℕ → ℕ → ℕ → Type 0
-IsWritten sink sink' output wanted status =
-    ((status ≡ wanted) × Appends sink.told sink'.told output)
-    ⊎ ((status ≡ 5) × Rose sink.faults sink'.faults × ((written : ℕ) × (written < length output) × Appends sink.told sink'.told (take written output)))
-
--- the bytes of an input were played: their output was written, or there was no memory and nothing is written
-abbrev pub IsPlayed : List ℕ → Ends → Ends → ℕ → Option Ended → Type 0
-IsPlayed bytes sink sink' status ended =
-    ((output : List ℕ) × IsOutput bytes ended output × IsWritten sink sink' output (status_of ended) status)
-    ⊎ ((status ≡ 6) × (ended ≡ None) × IsUntouched sink sink')
-
--- what an answer says, by its status
-pub record IsAnswer (is_sim : Type 0) (source source' sink sink' : Ends) (status : ℕ) (ended : Option Ended) : Type 0 where
+-- what an answer says, by its status, where the words say this command
+pub record IsAnswer (said : Command → Type 0) (source source' sink sink' : Ends) (status : ℕ) (ended : Option Ended) : Type 0 where
   -- the statuses that there are
   pub known : (status ≡ 0) ⊎ (status ≡ 1) ⊎ (status ≡ 2) ⊎ (status ≡ 4) ⊎ (status ≡ 5) ⊎ (status ≡ 6)
   -- 1 exactly for other words; nothing is read or written then
-  pub words : status ≡ 1 → (is_sim → ⊥) × IsUntouched source source' × IsUntouched sink sink' × (ended ≡ None)
-  pub other_words : (is_sim → ⊥) → status ≡ 1
-  -- 0: the run of the input is done, and its report is written
-  pub done : status ≡ 0 → (e : Ended) × (ended ≡ Some e) × (output : List ℕ) × HasRead source source' ended output × Appends sink.told sink'.told output
+  pub words : status ≡ 1 → ((command : Command) → said command → ⊥) × IsUntouched source source' × IsUntouched sink sink' × (ended ≡ None)
+  pub other_words : ((command : Command) → said command → ⊥) → status ≡ 1
+  -- 0: the input is played, accepted or compiled, and its report, line or tables are written
+  pub done : status ≡ 0 → (command : Command) × said command × (output : List ℕ) × HasRead command source source' ended 0 output × Appends sink.told sink'.told output
   -- 2: the input is refused, and the refusal is written
-  pub refused : status ≡ 2 → (ended ≡ None) × Appends sink.told sink'.told refusal_line
-      × IfSome source.told (λ bytes. (steps : List Step) → IsInput bytes steps → ⊥)
+  pub refused : status ≡ 2 → (ended ≡ None)
+      × ((command : Command) × said command × (output : List ℕ) × HasRead command source source' ended 2 output × Appends sink.told sink'.told output
+      × IfSome source.told (λ bytes. IsRefusal command bytes output))
   -- 4: a read failed, and nothing is written
   pub read_fault : status ≡ 4 → (ended ≡ None) × Rose source.faults source'.faults × IsUntouched sink sink'
   -- 5: a write failed, and what is written is a proper front of the output
   pub write_fault : status ≡ 5 → Rose sink.faults sink'.faults
-      × ((output : List ℕ) × (written : ℕ) × HasRead source source' ended output × (written < length output) × Appends sink.told sink'.told (take written output))
+      × ((command : Command) × said command × (output : List ℕ) × (wanted written : ℕ) × HasRead command source source' ended wanted output
+      × (written < length output) × Appends sink.told sink'.told (take written output))
   -- 6: there was no memory, and nothing is written
   pub no_memory : status ≡ 6 → (ended ≡ None) × IsUntouched sink sink'
+  -- a run is there where a play is done, and never of another command
+  pub played : status ≡ 0 → said Sim → IsSome ended
+  pub only_played : IsSome ended → said Sim
   -- the counts of faults never fall
   pub reads : source.faults ≤ source'.faults
   pub writes : sink.faults ≤ sink'.faults
+
+-- at most one byte more was read than an input of the command may have, and nothing for other words
+abbrev pub ReadsInput : (Command → Type 0) → Option (List ℕ) → Option (List ℕ) → Type 0
+ReadsInput said told told' =
+    ((command : Command) × said command × ConsumesAtMost (most_bytes command + 1) told told')
+    ⊎ (((command : Command) → said command → ⊥) × (told' ≡ told))

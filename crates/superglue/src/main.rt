@@ -1,12 +1,18 @@
-//! The program: reads an interface and a script, plays it, and prints every reply.
+//! The program: reads an interface and a script, plays it, and prints every reply; or says whether an interface is accepted.
 //!
 //! - `top`: what the words, the source and the sink come to (`superglue`, `serial`, `Answer`)
+//! - `command`: what the words ask for (`Command`)
+//! - `output`: what a command makes of its input (`Output`, `output_of`)
+//! - `runs`: which scripts are played, and their runs (`played_of`)
 //! - `played`: a run that was played (`Played`)
 //!
 //! `specs/Answer.antt` says what is promised of an answer, status by status.
 #![tactic(auto)]
 
+mod command;
+mod output;
 mod played;
+mod runs;
 #[cfg(test)]
 mod tests;
 mod top;
@@ -17,7 +23,7 @@ use std::io::{Error, ErrorKind};
 use std::process::ExitCode;
 use top::superglue;
 
-// Plays what standard input holds, and ends with the status.
+// Does with standard input what the words say, and ends with the status.
 fn main(rt: HostRuntime) -> ExitCode {
     match words(&rt) {
         Ok(words) => {

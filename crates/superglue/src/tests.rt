@@ -1,4 +1,4 @@
-// What no clause says: that an input is played where there is memory. And what is answered, value by value.
+// What no clause says: that an input is played, or checked, where there is memory. And what is answered, value by value.
 use crate::top::{Answer, serial, superglue};
 use sg_base::NoMemory;
 use sg_edge::{MemSink, MemSource, OpenGate};
@@ -56,17 +56,18 @@ fn input(alloc: Global, script: &[u8]) -> Result<Vec<u8>, AllocError> {
     Ok(input)
 }
 
-// The one word that there is.
-fn sim(alloc: Global) -> Result<Vec<String>, AllocError> {
+// One word.
+fn one_word(alloc: Global, word: &str) -> Result<Vec<String>, AllocError> {
     let mut words = Vec::new(alloc);
-    words.push("sim".to_string(alloc)?)?;
+    words.push(word.to_string(alloc)?)?;
     Ok(words)
 }
 
-// An input, the read and the write that fail (from 1, where 0 is none), and what that comes to.
+// A command and its input, the read and the write that fail (from 1, where 0 is none), and what that comes to.
 #[derive(Clone, Copy)]
 struct Case<'a> {
     what: &'a str,
+    command: &'a str,
     input: &'a [u8],
     read: u32,
     write: u32,
@@ -74,10 +75,11 @@ struct Case<'a> {
     written: &'a [u8],
 }
 
-// An input that is refused.
+// An input that is no play.
 fn refused<'a>(what: &'a str, input: &'a [u8]) -> Case<'a> {
     Case {
         what,
+        command: "sim",
         input,
         read: 0,
         write: 0,
@@ -86,12 +88,34 @@ fn refused<'a>(what: &'a str, input: &'a [u8]) -> Case<'a> {
     }
 }
 
-// Whether a case comes to what it should, and whether there is a run just where one came to its end.
+// A text that is checked.
+fn checked<'a>(what: &'a str, input: &'a [u8], status: u8, written: &'a [u8]) -> Case<'a> {
+    Case {
+        what,
+        command: "check",
+        input,
+        read: 0,
+        write: 0,
+        status,
+        written,
+    }
+}
+
+// A text that is compiled.
+fn compiled<'a>(what: &'a str, input: &'a [u8], status: u8, written: &'a [u8]) -> Case<'a> {
+    Case {
+        command: "compile",
+        ..checked(what, input, status, written)
+    }
+}
+
+// Whether a case comes to what it should, and whether there is a run just where a play came to its end.
 fn holds(alloc: Global, case: &Case) -> Result<bool, NoMemory> {
     let mut source = MemSource::new(alloc, case.input, 400, &[case.read])?;
     let mut sink = MemSink::new(alloc, 10, &[case.write])?;
-    let answer = serial(alloc, sim(alloc)?.as_slice(), &mut source, &mut sink);
-    let ran = matches!(case.status, 0 | 5);
+    let words = one_word(alloc, case.command)?;
+    let answer = serial(alloc, words.as_slice(), &mut source, &mut sink);
+    let ran = case.command == "sim" && matches!(case.status, 0 | 5);
     Ok(
         answer.status == case.status
             && answer.ended.is_some() == ran
@@ -123,7 +147,7 @@ fn plays_a_script(rt: HostRuntime) -> Result<(), Fail> {
     let alloc = rt.alloc();
     let mut source = MemSource::new(alloc, &input(alloc, SCRIPT)?, 7, &[])?;
     let mut sink = MemSink::new(alloc, 5, &[])?;
-    let words = sim(alloc)?;
+    let words = one_word(alloc, "sim")?;
     let answer = superglue(&rt, alloc, &words, &mut source, &mut sink, &OpenGate);
     assert_eq!(rt; answer.status, 0);
     assert!(rt; sink.written() == REPORT);
@@ -153,6 +177,7 @@ fn answers_bad_inputs_and_faults(rt: HostRuntime) -> Result<(), Fail> {
     let no_divider = INTERFACE.get(..INTERFACE.len() - 3).ok_or("short")?;
     let fault = |what, read, write, status, written| Case {
         what,
+        command: "sim",
         input: &good,
         read,
         write,
@@ -250,7 +275,7 @@ fn other(alloc: Global, words: &[String]) -> Result<(Answer, MemSource, MemSink)
 #[test]
 fn touches_nothing_at_other_words(rt: HostRuntime) -> Result<(), Fail> {
     let alloc = rt.alloc();
-    for text in ["", "sim ", "SIM", "sim trace", "check", "run"] {
+    for text in ["", "sim ", "SIM", "sim trace", "check ", "run"] {
         let mut words = Vec::new(alloc);
         if !text.is_empty() {
             words.push(text.to_string(alloc)?)?;
@@ -259,10 +284,169 @@ fn touches_nothing_at_other_words(rt: HostRuntime) -> Result<(), Fail> {
         assert_eq!(rt; answer.status, 1, "{text}");
         assert!(rt; answer.ended.is_none() && sink.written().is_empty());
     }
-    let mut words = sim(alloc)?;
-    words.push("trace".to_string(alloc)?)?;
-    let (answer, _, sink) = other(alloc, &words)?;
-    assert_eq!(rt; answer.status, 1);
-    assert!(rt; sink.written().is_empty());
+    for (first, second) in [("sim", "trace"), ("check", "check")] {
+        let mut words = one_word(alloc, first)?;
+        words.push(second.to_string(alloc)?)?;
+        let (answer, _, sink) = other(alloc, &words)?;
+        assert_eq!(rt; answer.status, 1);
+        assert!(rt; sink.written().is_empty());
+    }
+    Ok(())
+}
+
+// The text of the standard lock interface.
+fn lock_text() -> Option<&'static [u8]> {
+    INTERFACE.get(..INTERFACE.len() - 3)
+}
+
+// The standard lock interface and blanks, so many bytes.
+fn padded_text(alloc: Global, length: usize) -> Result<Vec<u8>, AllocError> {
+    let mut text = Vec::from_slice(alloc, lock_text().unwrap_or(b""))?;
+    for _ in 0..length.saturating_sub(text.len()) {
+        text.push(b' ')?;
+    }
+    Ok(text)
+}
+
+#[test]
+fn accepts_the_lock_interface(rt: HostRuntime) -> Result<(), Fail> {
+    let alloc = rt.alloc();
+    let lock = lock_text().ok_or("short")?;
+    let longest = padded_text(alloc, 65536)?;
+    let accepted = checked("the lock interface", lock, 0, b"accepted lock\n");
+    for case in [
+        accepted,
+        checked("65,536 bytes", &longest, 0, b"accepted lock\n"),
+        Case {
+            what: "the first read fails",
+            read: 1,
+            status: 4,
+            written: b"",
+            ..accepted
+        },
+        Case {
+            what: "the second read fails",
+            read: 2,
+            status: 4,
+            written: b"",
+            ..accepted
+        },
+        Case {
+            what: "the first write fails",
+            write: 1,
+            status: 5,
+            written: b"",
+            ..accepted
+        },
+        Case {
+            what: "the second write of ten bytes fails",
+            write: 2,
+            status: 5,
+            written: b"accepted l",
+            ..accepted
+        },
+    ] {
+        assert!(rt; holds(alloc, &case)?, "{}", case.what);
+    }
+    Ok(())
+}
+
+#[test]
+fn refuses_texts(rt: HostRuntime) -> Result<(), Fail> {
+    let alloc = rt.alloc();
+    let too_long = padded_text(alloc, 65537)?;
+    let far_too_long = padded_text(alloc, 70000)?;
+    let lock = lock_text().ok_or("short")?;
+    let mut other_service = Vec::from_slice(alloc, lock.get(..38).ok_or("short")?)?;
+    other_service.extend_from_slice(b"door")?;
+    other_service.extend_from_slice(lock.get(42..).ok_or("short")?)?;
+    for case in [
+        checked("65,537 bytes", &too_long, 2, b"input refused: TooLong\n"),
+        checked(
+            "70,000 bytes",
+            &far_too_long,
+            2,
+            b"input refused: TooLong\n",
+        ),
+        checked("no bytes", b"", 2, b"interface refused at 1:1: Syntax\n"),
+        checked(
+            "no token",
+            b"service_global_info = #",
+            2,
+            b"interface refused at 1:23: Lex\n",
+        ),
+        checked(
+            "an early end",
+            b"service_global_info = {",
+            2,
+            b"interface refused at 1:24: Syntax\n",
+        ),
+        checked(
+            "an early end behind a line",
+            b"service_global_info =\n",
+            2,
+            b"interface refused at 2:1: Syntax\n",
+        ),
+        checked(
+            "a script behind it",
+            INTERFACE,
+            2,
+            b"interface refused at 26:1: Lex\n",
+        ),
+        checked(
+            "another service",
+            &other_service,
+            2,
+            b"interface refused at 2:15: UnknownService\n",
+        ),
+    ] {
+        assert!(rt; holds(alloc, &case)?, "{}", case.what);
+    }
+    Ok(())
+}
+
+static LOCK_TABLES: &[u8] = b"service lock
+facts parent=none close=refuse global=true block=true desc_data=true resc_data=false
+fun 1 lock_alloc creation -> lock_alloc
+fun 2 lock_take desc block -> lock_take owner=caller
+fun 3 lock_release desc wakeup -> lock_alloc owner=0
+fun 4 lock_free desc terminal -> end
+move lock_alloc lock_take
+move lock_alloc lock_free
+move lock_take lock_take
+move lock_take lock_release
+move lock_take lock_free
+step lock_alloc lock_take
+walk lock_alloc lock_alloc - : lock_alloc
+walk lock_alloc lock_take owner : lock_alloc lock_take
+";
+
+#[test]
+fn compiles_texts(rt: HostRuntime) -> Result<(), Fail> {
+    let alloc = rt.alloc();
+    let too_long = padded_text(alloc, 65537)?;
+    let lock = lock_text().ok_or("short")?;
+    let whole = compiled("locks", lock, 0, LOCK_TABLES);
+    for case in [
+        compiled("65,537 bytes", &too_long, 2, b"input refused: TooLong\n"),
+        compiled("no bytes", b"", 2, b"interface refused at 1:1: Syntax\n"),
+        Case {
+            what: "a failed read",
+            read: 1,
+            status: 4,
+            written: b"",
+            ..whole
+        },
+        Case {
+            what: "the second write of ten bytes fails",
+            write: 2,
+            status: 5,
+            written: b"service lo",
+            ..whole
+        },
+        whole,
+    ] {
+        assert!(rt; holds(alloc, &case)?, "{}", case.what);
+    }
     Ok(())
 }

@@ -5,9 +5,9 @@ use Rattle.sg_sim.specs.declared.world.Phase.TheVariants.{Idle}
 use Rattle.sg_sim.specs.Run.{IsRun}
 use Rattle.sg_sim.proofs.turns.play.Given as goal
 
-abbrev pub invariant-loop-step : goal.invariant-loop-step
-invariant-loop-step l = record {
-  run : IsRun l.world.history.items (lock_object l.world.locks) (take l.step-index l.steps);
-  count : length l.world.history.items ≡ l.step-index;
+abbrev pub invariant-loop-call : goal.invariant-loop-call
+invariant-loop-call l = record {
+  run : IsRun l.iface l.world.history.items (lock_object l.world.locks) (take l.call-index l.calls);
+  count : length l.world.history.items ≡ l.call-index;
   idle : l.world.phase ≡ Idle;
 }

@@ -8,7 +8,8 @@ use Rattle.sg_sim.proofs.turns.turns.Given as goal
 abbrev pub invariant-steps : goal.invariant-steps
 invariant-steps l =
     let done = l.fn.world.history.items in
-    IsUnderWay (record { phase = l.fn.world.phase; history = done; object = lock_object l.fn.world.locks }) (resolved_call done (length done + 1) l.fn.step) l.world.phase
+    IsUnderWay l.iface (record { phase = l.fn.world.phase; history = done; object = lock_object l.fn.world.locks })
+    (resolved_call l.iface.facts done (length done + 1) l.fn.call) l.world.phase
     (record { phase = l.world.phase; history = l.world.history.items; object = lock_object l.world.locks })
 
 abbrev pub decreases-steps : goal.decreases-steps

@@ -1,17 +1,29 @@
 -- What was read, and what was done with it, is the answer.
-use Rattle.std.proofs.Common.{◌≡◌, ◌∙◌, ap, subst, Ok}
+use Rattle.std.proofs.Common.{◌∙◌, ap, subst, refl, Ok, Err, arith}
 use Rattle.sg_edge.specs.Intake.{TakesIn}
-use Rattle.superglue.proofs.Answers.{whole_answer, refused_answer}
+use Rattle.superglue.proofs.Answers.{whole_answer, too_long_answer, read_failed, without_memory}
+use Rattle.superglue.proofs.Commands.{one_command}
 use Rattle.superglue.proofs.top.serial.Goals as goal
 
 pub returns-in-Ok-Whole-clause-answer : goal.returns-in-Ok-Whole-clause-answer
 returns-in-Ok-Whole-clause-answer g c =
-    whole_answer _ _ _ _ _ _ _ _ _ c.as_slice.ensures (c.is_sim.ensures.0 c.if-not-is_sim.false)
-    (subst (TakesIn 32768 _ _) (c.in-Ok-Whole.is ∙ ap Ok c.in-Ok-Whole.field-0-is) c.read_all.ensures.taken)
-    c.simulate.ensures.played c.read_all.ensures.count c.simulate.ensures.count
+    whole_answer _ _ _ _ _ _ _ _ _ _ _ c.as_slice.ensures c.most_bytes.ensures (one_command c.args.words.now) c.in-Some.ensures
+    (subst (TakesIn c.most_bytes.result _ _) (c.in-Ok-Whole.is ∙ ap Ok c.in-Ok-Whole.field-0-is) c.read_all.ensures.taken)
+    c.carry_out.ensures.done c.read_all.ensures.count c.carry_out.ensures.count
 
 pub returns-in-Ok-TooLong-clause-answer : goal.returns-in-Ok-TooLong-clause-answer
 returns-in-Ok-TooLong-clause-answer g c =
-    refused_answer _ _ _ _ _ _ _ (c.is_sim.ensures.0 c.if-not-is_sim.false)
-    (subst (TakesIn 32768 _ _) (c.in-Ok-TooLong.is ∙ ap Ok c.in-Ok-TooLong.field-0-is) c.read_all.ensures.taken)
+    too_long_answer _ _ _ _ _ _ _ _ _ _ refl c.most_bytes.ensures (one_command c.args.words.now) c.in-Some.ensures
+    (subst (TakesIn c.most_bytes.result _ _) (c.in-Ok-TooLong.is ∙ ap Ok c.in-Ok-TooLong.field-0-is) c.read_all.ensures.taken)
     c.deliver.ensures.ended c.deliver.ensures.written c.read_all.ensures.count c.deliver.ensures.count
+
+pub returns-in-Err-Failed-clause-answer : goal.returns-in-Err-Failed-clause-answer
+returns-in-Err-Failed-clause-answer g c =
+    read_failed _ _ _ _ _ _ _ c.in-Some.ensures c.without_run-in-Err-Failed.ensures.status c.without_run-in-Err-Failed.ensures.ended
+    (c.read_all.ensures.cause (c.in-Err-Failed.is ∙ ap Err c.in-Err-Failed.field-0-is)) c.read_all.ensures.count
+
+pub returns-in-Err-NoMemory-clause-answer : goal.returns-in-Err-NoMemory-clause-answer
+returns-in-Err-NoMemory-clause-answer g c =
+    without_memory _ _ _ _ _ _ _ _ c.in-Some.ensures
+    (c.without_run-in-Err-NoMemory.ensures.status, c.without_run-in-Err-NoMemory.ensures.ended, record { told = refl; faults = refl })
+    c.read_all.ensures.count (omega arith)

@@ -1,0 +1,57 @@
+-- The bits of the functions that are declared.
+use Rattle.std.proofs.Common.{◌≡◌, ℕ, zero, suc, ◌+◌, ◌-◌, ◌*◌, ◌/◌, ◌%◌, ◌<◌, Bool, true, false, List, [], ◌∷◌, map, length, get_or, refl, sym, ◌∙◌, ap, arith}
+use Rattle.std.specs.Prelude.{◌==◌, if◌then◌else◌, nat_le}
+use Rattle.std.specs.Int.{bit_at}
+use Rattle.std.proofs.lemmas.Bool.Decides.{nat_tests}
+use Rattle.std.proofs.lemmas.Nat.Bits.{bit_at-suc, bit_at-zero, bit_at_lowest}
+use Rattle.sg_facts.specs.Facts.{Facts, Fun, fun_at}
+use Rattle.sg_facts.specs.Fields.{number_of}
+use Rattle.sg_facts.specs.Interface.{declares}
+use Rattle.sg_grammar.specs.declared.tree.Statement.{Statement}
+use Rattle.sg_flaws.specs.Faults.{interface_of}
+use Rattle.sg_flaws.specs.Says.{has_proto}
+
+first_bit : (b : Bool) (rest : ℕ) → (((if b then 1 else 0) + 2 * rest) % 2 == 1) ≡ b
+first_bit true rest = let one : (1 + 2 * rest) % 2 ≡ 1 = omega arith in rw one
+first_bit false rest = let none : (0 + 2 * rest) % 2 ≡ 0 = omega arith in rw none
+
+other_bits : (b : Bool) (rest : ℕ) → ((if b then 1 else 0) + 2 * rest) / 2 ≡ rest
+other_bits true rest = omega arith
+other_bits false rest = omega arith
+
+-- a bit of a set's number
+bit_of : (set : List Bool) (k : ℕ) → (bit_at (number_of set) k == 1) ≡ get_or set k false
+bit_of [] k = ap (λ n. n == 1) (bit_at-zero k)
+bit_of (b ∷ set) zero = ap (λ n. n == 1) (bit_at_lowest (number_of (b ∷ set))) ∙ first_bit b (number_of set)
+bit_of (b ∷ set) (suc k) =
+    ap (λ n. n == 1) (bit_at-suc (number_of (b ∷ set)) k ∙ ap (λ n. bit_at n k) (other_bits b (number_of set))) ∙ bit_of set k
+
+-- tests of functions, one by one
+module _ (test : Fun → Bool) where
+  pub passed : (funs : List Fun) (n : ℕ) → get_or (map test funs) n false ≡ true → (n < length funs) × (test (fun_at funs (suc n)) ≡ true)
+  passed [] n is = absurd (cc is)
+  passed (f ∷ funs) zero is = (omega arith, is)
+  passed (f ∷ funs) (suc n) is = let rest = passed funs n is in (omega (arith, rest.0), rest.1)
+
+  pub pass : (funs : List Fun) (n : ℕ) → n < length funs → test (fun_at funs (suc n)) ≡ true → get_or (map test funs) n false ≡ true
+  pass [] n within is = absurd (omega (arith, within))
+  pass (f ∷ funs) zero within is = is
+  pass (f ∷ funs) (suc n) within is = pass funs n (omega (arith, within)) is
+
+module _ (facts : Facts) (statements : List Statement) where
+  declared_bit : (n : ℕ) → declares (interface_of facts statements) (suc n) ≡ get_or (map (λ f. has_proto statements f.name) facts.funs) n false
+  declared_bit n =
+      let before : suc n - 1 ≡ n = omega arith in
+      let first : nat_le 1 (suc n) ≡ true = grind (arith, nat_tests) in
+      rw (first, before) (bit_of (map (λ f. has_proto statements f.name) facts.funs) n)
+
+  -- a function that is declared is one of the service, and has a prototype
+  pub declared_one : (fun : ℕ) → declares (interface_of facts statements) fun ≡ true
+      → (n : ℕ) × (fun ≡ suc n) × (n < length facts.funs) × (has_proto statements (fun_at facts.funs fun).name ≡ true)
+  declared_one zero is = absurd (cc is)
+  declared_one (suc n) is = let it = passed (λ f. has_proto statements f.name) facts.funs n (sym (declared_bit n) ∙ is) in (n, refl, it.0, it.1)
+
+  -- and the other way round
+  pub one_declared : (n : ℕ) → n < length facts.funs → has_proto statements (fun_at facts.funs (suc n)).name ≡ true
+      → declares (interface_of facts statements) (suc n) ≡ true
+  one_declared n within is = declared_bit n ∙ pass (λ f. has_proto statements f.name) facts.funs n within is

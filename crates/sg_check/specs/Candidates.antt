@@ -1,0 +1,30 @@
+-- How far what a text declares is found to be good.
+use Rattle.std.specs.Prelude.{ℕ, ◌≡◌, ◌⊎◌, Bool, true, List}
+use Rattle.sg_facts.specs.Facts.{Facts, facts_of}
+use Rattle.sg_facts.specs.Fits.{IsReached}
+use Rattle.sg_facts.specs.Interface.{Declared}
+use Rattle.sg_facts.specs.Walks.{IsReachable}
+use Rattle.sg_grammar.specs.declared.tree.Tree.{Tree}
+use Rattle.sg_flaws.specs.Faults.{interface_of}
+use Rattle.sg_flaws.specs.Flaws.{HasNoWalk}
+use Rattle.sg_flaws.specs.Stages.{IsClear}
+use Rattle.sg_check.specs.declared.candidate.Candidate.{Candidate}
+use Rattle.sg_check.specs.Reached.{AreTriples}
+use Rattle.sg_check.specs.Shapes.{is_shape}
+use Rattle.sg_check.specs.Stuck.{HasWalk}
+
+-- what a text declares of its service, with all that descriptors can come to; none of the first kinds of flaws is there
+pub record IsCandidate (services : List Facts) (tree : Tree) (c : Candidate) (kinds : ℕ) : Type 0 where
+  pub clear : IsClear services tree (facts_of c.shape) kinds
+  pub shape : is_shape (facts_of c.shape) ≡ true
+  pub declared : c.iface ≡ interface_of (facts_of c.shape) tree.statements
+  pub triples : AreTriples c.iface c.triples
+
+-- it is known of each function whether it is reached
+abbrev pub HasReach : Declared → Type 0
+HasReach i = (fun : ℕ) → IsReached i fun ⊎ (IsReached i fun → ⊥)
+
+-- it is known of each state whether all that descriptors can come to in it has a walk
+pub record HasWalks (i : Declared) : Type 0 where
+  pub known : (state : ℕ) → HasNoWalk i state ⊎ (HasNoWalk i state → ⊥)
+  pub walks : (made state : ℕ) (set : List Bool) → IsReachable i made state set → (HasNoWalk i state → ⊥) → HasWalk i made state set

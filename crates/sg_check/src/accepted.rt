@@ -1,0 +1,46 @@
+// An interface that is accepted.
+use sg_facts::Interface;
+use std::marker::Model;
+
+/// An accepted interface: what a text declares, and nothing else. Every descriptor can be recovered in every state that it
+/// can come to. Only the checker makes one. Its shape has at most 32 functions and 4 fields. Contracts see the interface.
+#[derive(Debug, Drop)]
+pub struct Accepted {
+    iface: Interface,
+}
+
+impl Model for Accepted {
+    ghost use Rattle.sg_facts.specs.Fits.{Fits};
+    ghost use Rattle.sg_facts.specs.Interface.{Declared};
+    ghost use Rattle.sg_check.specs.Shapes.{IsSmall};
+
+    ghost Value = { Declared };
+
+    ghost view = { λ a. a.iface };
+
+    ghost invariant = { λ a. Fits a.iface × IsSmall a.iface };
+}
+
+impl Accepted {
+    ghost use Rattle.std.specs.Prelude.{◌≡◌};
+    ghost use Rattle.sg_facts.specs.Fits.{Fits};
+    ghost use Rattle.sg_check.specs.Shapes.{IsSmall};
+
+    // The interface, accepted.
+    pub(crate) fn new(iface: Interface) -> Accepted
+        requires fits { Fits iface }
+        requires small { IsSmall iface }
+        ensures { result ≡ iface }
+    {
+        Accepted { iface }
+    }
+
+    /// The interface, lent.
+    pub fn interface(&self) -> &Interface
+        ensures same { result.now ≡ self.now }
+        ensures fits { Fits result.now }
+        ensures small { IsSmall result.now }
+    {
+        &self.iface
+    }
+}

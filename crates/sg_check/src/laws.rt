@@ -1,0 +1,12 @@
+// Laws of the definitions.
+ghost use Rattle.std.specs.Prelude.{◌≡◌, ℕ, List};
+ghost use Rattle.sg_facts.specs.Facts.{Facts};
+ghost use Rattle.sg_grammar.specs.declared.tree.Tree.{Tree};
+ghost use Rattle.sg_flaws.specs.Faults.{IsFault};
+ghost use Rattle.sg_flaws.specs.declared.fault.CheckKind.{CheckKind};
+
+/// Of a text at most one thing is first wrong, at one place.
+pub fn one_fault()
+    ensures { (services : List Facts) (tree : Tree) (one other : CheckKind) (here there : ℕ)
+        → IsFault services tree one here → IsFault services tree other there → (one ≡ other) × (here ≡ there) }
+{}

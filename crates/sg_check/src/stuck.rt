@@ -1,0 +1,37 @@
+// The states that have no walk.
+ghost use Rattle.std.specs.Prelude.{◌≡◌, ◌≤◌, length, IfOk};
+ghost use Rattle.sg_reach.specs.Limits.{HasFourFields};
+ghost use Rattle.sg_check.specs.Reached.{AreTriples};
+ghost use Rattle.sg_check.specs.Stuck.{AreStuck, IsTold};
+
+use crate::numbers::Numbers;
+use sg_base::NoMemory;
+use sg_facts::Interface;
+use sg_reach::Triple;
+use sg_walk::shortest;
+use std::alloc::Global;
+
+/// The states in which some descriptor has no walk, where descriptors come to these triples. It looks for one walk for each
+/// triple.
+pub fn stuck_of(alloc: Global, iface: &Interface, triples: &[Triple]) -> Result<Numbers, NoMemory>
+    requires few { HasFourFields iface.now }
+    requires all { AreTriples iface.now triples.now }
+    ensures { IfOk result (AreStuck iface.now) }
+{
+    let mut stuck = Numbers::new(alloc);
+    'triples: for triple in triples {
+        if !has_walk(alloc, iface, triple)? {
+            stuck.add(usize::from(triple.state))?;
+        }
+    }
+    Ok(stuck)
+}
+
+// Whether some walk restores a triple.
+fn has_walk(alloc: Global, iface: &Interface, triple: &Triple) -> Result<bool, NoMemory>
+    requires few { HasFourFields iface.now }
+    ensures { IfOk result (IsTold iface.now triple.now) }
+{
+    let walk = shortest(alloc, iface, triple.made, triple.state, triple.mask)?;
+    Ok(walk.is_some())
+}

@@ -1,0 +1,4 @@
+pub mod Firsts
+pub mod Clear
+pub mod Judged
+pub mod Sets

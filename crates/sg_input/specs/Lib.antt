@@ -1,0 +1,3 @@
+pub mod Divider
+pub mod Inputs
+pub mod Lines

@@ -1,0 +1,32 @@
+-- The lines that refuse an input.
+use Rattle.std.specs.Prelude.{ℕ, List, [], ◌∷◌, ◌++◌, codes}
+use Rattle.std.specs.Fmt.{decimal}
+use Rattle.sg_script.specs.declared.fault.ScriptKind.{ScriptKind}
+use Rattle.sg_script.specs.declared.fault.ScriptKind.TheVariants.{Syntax, UnknownFunction, BadArgs, BadClient, Twice, NotAscending, Blocking, Limit}
+use Rattle.sg_script.specs.declared.fault.ScriptFault.{ScriptFault}
+use Rattle.sg_verdict.specs.Lines.{line_of, column_of}
+
+-- no line is `%%` alone
+abbrev pub no_divider_line : List ℕ
+no_divider_line = codes "input refused: NoDivider" ++ 10 ∷ []
+
+-- the input, its interface or its script is too long
+abbrev pub too_long_line : List ℕ
+too_long_line = codes "input refused: TooLong" ++ 10 ∷ []
+
+-- the name of a kind of fault of a script
+abbrev pub kind_name : ScriptKind → List ℕ
+kind_name Syntax = codes "Syntax"
+kind_name UnknownFunction = codes "UnknownFunction"
+kind_name BadArgs = codes "BadArgs"
+kind_name BadClient = codes "BadClient"
+kind_name Twice = codes "Twice"
+kind_name NotAscending = codes "NotAscending"
+kind_name Blocking = codes "Blocking"
+kind_name Limit = codes "Limit"
+
+-- a fault of a script, with the line of its place and the byte in that line
+abbrev pub script_line : List ℕ → ScriptFault → List ℕ
+script_line script f =
+    codes "script refused at " ++ decimal (line_of script f.at) ++ codes ":" ++ decimal (column_of script f.at)
+    ++ codes ": " ++ kind_name f.kind ++ 10 ∷ []

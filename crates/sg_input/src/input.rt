@@ -1,0 +1,13 @@
+// What an input is.
+use sg_base::Bytes;
+use sg_check::Accepted;
+use sg_script::Script;
+
+/// What an input is.
+#[derive(Debug, Drop)]
+pub enum Input {
+    /// It is refused, with this line.
+    Refused(Bytes),
+    /// An interface that is accepted, and a script for it without a flaw.
+    Ready(Accepted, Script),
+}

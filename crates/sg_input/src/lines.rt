@@ -1,0 +1,41 @@
+// The lines that refuse an input.
+ghost use Rattle.std.specs.Prelude.{◌≡◌, IfOk};
+ghost use Rattle.sg_input.specs.Lines.{kind_name, script_line};
+
+use sg_base::{Bytes, NoMemory};
+use sg_script::{ScriptFault, ScriptKind};
+use sg_verdict::{column_of, line_of};
+use std::alloc::Global;
+
+/// The line of an input without a line of `%%` alone.
+pub const NO_DIVIDER: &[u8] = b"input refused: NoDivider\n";
+
+/// The line of an input that is too long, or of which a part is.
+pub const TOO_LONG: &[u8] = b"input refused: TooLong\n";
+
+/// The line of a script that has this fault.
+pub fn script_line(alloc: Global, script: &[u8], fault: ScriptFault) -> Result<Bytes, NoMemory>
+    ensures { IfOk result (λ line. line ≡ script_line script.now fault) }
+{
+    let line = line_of(script, fault.at);
+    let column = column_of(script, fault.at);
+    let kind = kind_name(fault.kind);
+    let said = format!(in alloc; "script refused at {line}:{column}: {kind}\n")?;
+    Ok(Bytes::from_vec(said.into_bytes()))
+}
+
+// The name of a kind of fault.
+fn kind_name(kind: ScriptKind) -> &'static str
+    ensures { result.now ≡ kind_name kind }
+{
+    match kind {
+        ScriptKind::Syntax => "Syntax",
+        ScriptKind::UnknownFunction => "UnknownFunction",
+        ScriptKind::BadArgs => "BadArgs",
+        ScriptKind::BadClient => "BadClient",
+        ScriptKind::Twice => "Twice",
+        ScriptKind::NotAscending => "NotAscending",
+        ScriptKind::Blocking => "Blocking",
+        ScriptKind::Limit => "Limit",
+    }
+}

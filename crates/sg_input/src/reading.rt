@@ -1,0 +1,59 @@
+// What an input is, or why it is refused.
+ghost use Rattle.std.specs.Prelude.{◌≡◌, ◌≤◌, ℕ, List, map, length, true, IfOk};
+ghost use Rattle.sg_facts.specs.Facts.{Facts, facts_of};
+ghost use Rattle.sg_check.specs.Shapes.{are_shapes};
+ghost use Rattle.sg_verdict.specs.Examined.{IsExamined};
+ghost use Rattle.sg_verdict.specs.declared.examined.Examined.TheVariants.{Accepted as accepted_as};
+ghost use Rattle.sg_input.specs.Inputs.{AreTexts, IsInputOf};
+
+use crate::Input;
+use crate::divider::cut;
+use crate::lines::{NO_DIVIDER, TOO_LONG, script_line};
+use sg_base::{Bytes, NoMemory};
+use sg_check::Accepted;
+use sg_facts::Shape;
+use sg_script::{ScriptError, read};
+use sg_verdict::{Examined, examine};
+use std::alloc::Global;
+
+// The greatest number of bytes of an interface.
+const MOST_INTERFACE: usize = 65536;
+
+// The greatest number of bytes of a script.
+const MOST_SCRIPT: usize = 4194304;
+
+/// What an input is, where its interface may be of one of these shapes: an interface that is accepted with a script for it
+/// without a flaw, or else the line that refuses it, by the first of these that applies. `input refused: NoDivider`: no line is
+/// `%%` alone. `input refused: TooLong`: more than 65,536 bytes stand before the first such line, or more than 4,194,304 behind
+/// it. `interface refused at L:C: KIND`: as `verdict` says. `script refused at L:C: KIND`: the script's first flaw. L and C are
+/// the line and the byte in the line, from 1, in that text alone. The shapes are as for `verdict`. The only error is want of
+/// memory.
+pub fn read_input(alloc: Global, input: &[u8], shapes: &[Shape]) -> Result<Input, NoMemory>
+    requires { are_shapes (map facts_of shapes.now) ≡ true }
+    ensures { IfOk result (IsInputOf (map facts_of shapes.now) input.now) }
+{
+    let Some((interface, script)) = cut(input) else {
+        return Ok(Input::Refused(Bytes::from_slice(alloc, NO_DIVIDER)?));
+    };
+    if interface.len() > MOST_INTERFACE || script.len() > MOST_SCRIPT {
+        return Ok(Input::Refused(Bytes::from_slice(alloc, TOO_LONG)?));
+    }
+    match examine(alloc, interface, shapes)? {
+        Examined::Accepted(accepted) => read_script(alloc, accepted, script),
+        Examined::Refused(line) => Ok(Input::Refused(line)),
+    }
+}
+
+// The same of a script, behind an interface that is accepted.
+fn read_script(alloc: Global, accepted: Accepted, script: &[u8]) -> Result<Input, NoMemory>
+    ensures { IfOk result (λ made. (input interface : List ℕ) (services : List Facts) → AreTexts input interface script.now
+        → IsExamined services interface (accepted_as accepted) → IsInputOf services input made) }
+{
+    match read(alloc, script, accepted.interface()) {
+        Ok(script) => Ok(Input::Ready(accepted, script)),
+        Err(ScriptError::NoMemory) => Err(NoMemory),
+        Err(ScriptError::Fault(fault)) => {
+            Ok(Input::Refused(script_line(alloc, script, fault)?))
+        }
+    }
+}

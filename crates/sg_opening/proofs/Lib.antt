@@ -1,4 +1,0 @@
-pub mod Inputs
-pub mod Numbers
-pub mod Scripts
-pub mod Steps

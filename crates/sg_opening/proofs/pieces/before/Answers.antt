@@ -1,7 +1,0 @@
--- What std says of a word behind.
-use Rattle.std.proofs.lemmas.Slice.Eq.{strip_suffix_is}
-use Rattle.std.proofs.lemmas.Bool.Decides.{Decides-eqb}
-use Rattle.sg_opening.proofs.pieces.before.Goals as goal
-
-pub returns : goal.returns
-returns c = strip_suffix_is Decides-eqb _ _ _ c.strip_suffix.ensures.cases

@@ -1,6 +1,0 @@
--- No byte so far is a `)`.
-use Rattle.std.proofs.Common.{◌≡◌, ℕ, ◌<◌, get_or}
-use Rattle.sg_opening.proofs.pieces.first_close.Given as goal
-
-abbrev pub invariant-loop-at : goal.invariant-loop-at
-invariant-loop-at l = (k : ℕ) → k < l.at → get_or l.bytes k 0 ≡ 41 → ⊥

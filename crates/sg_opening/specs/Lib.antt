@@ -1,4 +1,0 @@
-pub mod Input
-pub mod Interface
-pub mod Numeral
-pub mod Script

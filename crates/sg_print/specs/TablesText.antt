@@ -1,0 +1,158 @@
+-- The text of tables.
+use Rattle.std.specs.Prelude.{ℕ, zero, suc, ◌+◌, ◌/◌, ◌%◌, ◌==◌, Bool, true, false, if◌then◌else◌, List, [], ◌∷◌, ◌++◌, codes, slice_get, unwrap_or}
+use Rattle.std.specs.Fmt.{decimal}
+use Rattle.std.specs.List.{concat, flat_map}
+use Rattle.std.specs.Option.{option_map}
+use Rattle.sg_facts.specs.declared.shape.Effect.{Effect}
+use Rattle.sg_facts.specs.declared.shape.Effect.TheVariants.{SetCaller, SetArg, AddArg, SetRet, AddRet, Clear, SubOne}
+use Rattle.sg_facts.specs.declared.shape.Kind.{Kind}
+use Rattle.sg_facts.specs.declared.shape.Kind.TheVariants.{Desc, Parent, Word, Text}
+use Rattle.sg_facts.specs.declared.shape.Leaves.{Leaves}
+use Rattle.sg_facts.specs.declared.shape.Leaves.TheVariants.{Own, Same, Of}
+use Rattle.sg_facts.specs.declared.shape.Parents.{Parents}
+use Rattle.sg_facts.specs.declared.shape.Parents.TheVariants.{Never, Same as SameClient, Cross}
+use Rattle.sg_facts.specs.declared.tables.WalkLine.{WalkLine}
+use Rattle.sg_facts.specs.Facts.{Facts, Field, Fun, fun_at}
+use Rattle.sg_facts.specs.Interface.{Declared, declares, has_pair}
+use Rattle.sg_facts.specs.Tables.{Compiled}
+use Rattle.sg_print.specs.Printed.{new_line}
+
+-- ---- facts
+
+abbrev pub parents_word : Parents → List ℕ
+parents_word Never = codes "none"
+parents_word SameClient = codes "same"
+parents_word Cross = codes "cross"
+
+abbrev pub flag_word : Bool → List ℕ
+flag_word true = codes "true"
+flag_word false = codes "false"
+
+abbrev pub facts_lines : Facts → List ℕ
+facts_lines f = concat (
+    codes "service " ∷ f.name ∷ new_line
+    ∷ codes "facts parent=" ∷ parents_word f.parents ∷ codes " close=" ∷ (if f.subtree then codes "subtree" else codes "refuse")
+    ∷ codes " global=" ∷ flag_word f.global ∷ codes " block=" ∷ flag_word f.block ∷ codes " desc_data=" ∷ flag_word f.has_data
+    ∷ codes " resc_data=" ∷ flag_word f.resc_data ∷ new_line ∷ [])
+
+-- ---- functions
+
+abbrev pub kind_word : Kind → List ℕ
+kind_word Desc = codes "desc"
+kind_word Parent = codes "parent"
+kind_word Word = codes "word"
+kind_word Text = codes "text"
+
+-- what parameters are, each behind a space
+abbrev pub kinds_text : List Kind → List ℕ
+kinds_text kinds = flat_map (λ kind. codes " " ++ kind_word kind) kinds
+
+-- a word behind a space, where a function has a flag
+abbrev pub flag_piece : Bool → List ℕ → List ℕ
+flag_piece true word = codes " " ++ word
+flag_piece false word = []
+
+unfoldable pub flag_pieces : Fun → List ℕ
+flag_pieces f = concat (
+    flag_piece f.creation (codes "creation") ∷ flag_piece f.terminal (codes "terminal") ∷ flag_piece f.block (codes "block")
+    ∷ flag_piece f.wakeup (codes "wakeup") ∷ flag_piece f.query (codes "query") ∷ flag_piece f.all (codes "all") ∷ flag_piece f.uses_file (codes "data") ∷ [])
+
+-- the state that a function leaves, by its name
+abbrev pub leaves_word : List Fun → Fun → Leaves → List ℕ
+leaves_word funs f Own = f.name
+leaves_word funs f Same = codes "same"
+leaves_word funs f (Of other) = (fun_at funs other).name
+
+-- a terminal function leaves none, since it ends its descriptor, and a query changes none
+unfoldable pub state_word : List Fun → Fun → List ℕ
+state_word funs f = if f.terminal then codes "end" else (if f.query then codes "none" else leaves_word funs f f.leaves)
+
+-- the number, among the parameters after the caller and from one on, of the argument that counts from 0 without descriptor
+-- and parent
+abbrev pub param_number : ℕ → List Kind → ℕ → ℕ
+param_number at [] k = at
+param_number at (Desc ∷ kinds) k = param_number (at + 1) kinds k
+param_number at (Parent ∷ kinds) k = param_number (at + 1) kinds k
+param_number at (Word ∷ kinds) zero = at
+param_number at (Word ∷ kinds) (suc k) = param_number (at + 1) kinds k
+param_number at (Text ∷ kinds) zero = at
+param_number at (Text ∷ kinds) (suc k) = param_number (at + 1) kinds k
+
+-- what is done to a field
+abbrev pub effect_word : List Kind → Effect → List ℕ
+effect_word kinds SetCaller = codes "=caller"
+effect_word kinds (SetArg k) = codes "=arg" ++ decimal (param_number 1 kinds k)
+effect_word kinds (AddArg k) = codes "+arg" ++ decimal (param_number 1 kinds k)
+effect_word kinds SetRet = codes "=ret"
+effect_word kinds AddRet = codes "+ret"
+effect_word kinds Clear = codes "=0"
+effect_word kinds SubOne = codes "-1"
+
+abbrev pub field_name : List Field → ℕ → List ℕ
+field_name fields x = unwrap_or (option_map (λ f. f.name) (slice_get fields x)) []
+
+abbrev pub effect_piece : List Field → List Kind → ℕ × Effect → List ℕ
+effect_piece fields kinds e = concat (codes " " ∷ field_name fields e.0 ∷ effect_word kinds e.1 ∷ [])
+
+-- what a function does to fields, each behind a space
+unfoldable pub effects_text : List Field → Fun → List ℕ
+effects_text fields f = flat_map (effect_piece fields f.kinds) f.effects
+
+-- the line of a function with its number: what it is called with, and what it leaves
+abbrev pub called_text : ℕ → Fun → List ℕ
+called_text n f = concat (codes "fun " ∷ decimal n ∷ codes " " ∷ f.name ∷ kinds_text f.kinds ∷ flag_pieces f ∷ [])
+
+abbrev pub left_text : Facts → Fun → List ℕ
+left_text facts f = concat (codes " -> " ∷ state_word facts.funs f ∷ effects_text facts.fields f ∷ new_line ∷ [])
+
+abbrev pub fun_line : Facts → ℕ → Fun → List ℕ
+fun_line facts n f = called_text n f ++ left_text facts f
+
+-- ---- all lines
+
+-- the numbers that functions can have, so many of them from a number on; the greatest is 32
+abbrev pub numbers_from : ℕ → ℕ → List ℕ
+numbers_from n zero = []
+numbers_from n (suc count) = n ∷ numbers_from (n + 1) count
+
+unfoldable pub numbers : List ℕ
+numbers = numbers_from 1 32
+
+-- the lines of the functions that are declared
+abbrev pub fun_lines : Declared → List ℕ
+fun_lines i = flat_map (λ n. if declares i n then fun_line i.facts n (fun_at i.facts.funs n) else []) numbers
+
+-- the line of a pair of functions, and those of all that are listed, by the first and then by the second number
+abbrev pub pair_line : List ℕ → List Fun → ℕ → ℕ → List ℕ
+pair_line word funs a b = concat (word ∷ codes " " ∷ (fun_at funs a).name ∷ codes " " ∷ (fun_at funs b).name ∷ new_line ∷ [])
+
+abbrev pub pairs_behind : List ℕ → List Fun → List (ℕ × ℕ) → ℕ → List ℕ
+pairs_behind word funs pairs a = flat_map (λ b. if has_pair pairs a b then pair_line word funs a b else []) numbers
+
+abbrev pub pair_lines : List ℕ → List Fun → List (ℕ × ℕ) → List ℕ
+pair_lines word funs pairs = flat_map (pairs_behind word funs pairs) numbers
+
+-- the names of the fields of a set, by its number
+abbrev pub set_names : List Field → ℕ → List (List ℕ)
+set_names [] mask = []
+set_names (f ∷ fields) mask = if mask % 2 == 1 then f.name ∷ set_names fields (mask / 2) else set_names fields (mask / 2)
+
+-- joined by commas, or a dash for the empty set
+abbrev pub set_word : List (List ℕ) → List ℕ
+set_word [] = codes "-"
+set_word (name ∷ names) = name ++ flat_map (λ n. codes "," ++ n) names
+
+-- the names of functions, each behind a space
+abbrev pub names_text : List Fun → List ℕ → List ℕ
+names_text funs walk = flat_map (λ n. codes " " ++ (fun_at funs n).name) walk
+
+abbrev pub walk_line : Facts → WalkLine → List ℕ
+walk_line facts line = concat (
+    codes "walk " ∷ (fun_at facts.funs line.made).name ∷ codes " " ∷ (fun_at facts.funs line.state).name
+    ∷ codes " " ∷ set_word (set_names facts.fields line.mask) ∷ codes " :" ∷ names_text facts.funs line.walk ∷ new_line ∷ [])
+
+-- the text of tables: the facts; the declared functions; the transitions, and the recover steps; the walks in their order
+abbrev pub tables_text : Compiled → List ℕ
+tables_text t = concat (
+    facts_lines t.iface.facts ∷ fun_lines t.iface ∷ pair_lines (codes "move") t.iface.facts.funs t.iface.moves
+    ∷ pair_lines (codes "step") t.iface.facts.funs t.iface.steps ∷ flat_map (walk_line t.iface.facts) t.walks ∷ [])

@@ -1,0 +1,6 @@
+pub mod Firsts
+pub mod Flaws
+pub mod Fronts
+pub mod Numbers
+pub mod Reads
+pub mod Scripts

@@ -1,0 +1,86 @@
+-- What a script stands for, where nothing is wrong with it.
+use Rattle.std.specs.Prelude.{ℕ, ◌+◌, ◌&&◌, nat_lt, if◌then◌else◌, List, [], ◌∷◌, map, None, Some, unwrap_or}
+use Rattle.std.specs.declared.option.Option.{Option}
+use Rattle.std.specs.List.{flat_map, fold}
+use Rattle.std.specs.Str.{bytes_eq}
+use Rattle.sg_facts.specs.Facts.{Fun}
+use Rattle.sg_facts.specs.Interface.{Declared, declares}
+use Rattle.sg_script_grammar.specs.Spelling.{Spelling}
+use Rattle.sg_script_grammar.specs.declared.tree.WrittenArg.{WrittenArg}
+use Rattle.sg_script_grammar.specs.declared.tree.WrittenArg.TheVariants.{Number as number, Text as text, Back as back}
+use Rattle.sg_script_grammar.specs.declared.tree.WrittenCall.{WrittenCall}
+use Rattle.sg_script_grammar.specs.declared.tree.Part.{Part}
+use Rattle.sg_script_grammar.specs.declared.tree.Part.TheVariants.{Setup, Client, Schedule, Stop}
+use Rattle.sg_script.specs.declared.script.Arg.{Arg}
+use Rattle.sg_script.specs.declared.script.Arg.TheVariants.{Number, Text, Back}
+use Rattle.sg_script.specs.declared.script.ScriptCall.{ScriptCall}
+use Rattle.sg_script.specs.declared.script.Script.{Script}
+use Rattle.sg_script.specs.Numbers.{counts_as, unquoted}
+
+-- ---- functions by name
+
+-- the number of the declared function that has a name, where functions are numbered from n on
+abbrev pub number_from : Declared → List ℕ → ℕ → List Fun → Option ℕ
+number_from i name n [] = None
+number_from i name n (f ∷ funs) = if bytes_eq f.name name && declares i n then Some n else number_from i name (n + 1) funs
+
+-- the number of the declared function of a name; None where there is none
+abbrev pub fun_named : Declared → List ℕ → Option ℕ
+fun_named i name = number_from i name 1 i.facts.funs
+
+-- ---- calls
+
+abbrev pub arg_of : WrittenArg → Arg
+arg_of (number n) = Number (counts_as n.bytes)
+arg_of (text t) = Text (unquoted t.bytes)
+arg_of (back n) = Back (counts_as n.bytes)
+
+abbrev pub call_of : Declared → WrittenCall → ScriptCall
+call_of i c = record { fun = unwrap_or (fun_named i c.name.bytes) 0; args = map arg_of c.args }
+
+-- ---- parts
+
+-- the calls of a part that is a setup
+abbrev pub calls_of_setup : Part → List WrittenCall
+calls_of_setup (Setup at calls) = calls
+calls_of_setup (Client at n calls) = []
+calls_of_setup (Schedule at numbers) = []
+calls_of_setup (Stop at numbers) = []
+
+-- the turns that a part gives, and its stops
+abbrev pub turns_of : Part → List Spelling
+turns_of (Setup at calls) = []
+turns_of (Client at n calls) = []
+turns_of (Schedule at numbers) = numbers
+turns_of (Stop at numbers) = []
+
+abbrev pub stops_of : Part → List Spelling
+stops_of (Setup at calls) = []
+stops_of (Client at n calls) = []
+stops_of (Schedule at numbers) = []
+stops_of (Stop at numbers) = numbers
+
+-- a client with its calls, in its place among others in ascending numbers
+abbrev pub placed : ℕ → List ScriptCall → List (ℕ × List ScriptCall) → List (ℕ × List ScriptCall)
+placed n calls [] = (n, calls) ∷ []
+placed n calls (c ∷ clients) = if nat_lt c.0 n then c ∷ placed n calls clients else (n, calls) ∷ c ∷ clients
+
+-- with the client of a part among them
+abbrev pub with_client : Declared → Part → List (ℕ × List ScriptCall) → List (ℕ × List ScriptCall)
+with_client i (Setup at calls) clients = clients
+with_client i (Client at n calls) clients = placed (counts_as n.bytes) (map (call_of i) calls) clients
+with_client i (Schedule at numbers) clients = clients
+with_client i (Stop at numbers) clients = clients
+
+-- the clients of parts, in ascending numbers
+abbrev pub clients_of : Declared → List Part → List (ℕ × List ScriptCall)
+clients_of i parts = fold (λ clients p. with_client i p clients) [] parts
+
+-- the script of parts for an interface
+abbrev pub script_of : Declared → List Part → Script
+script_of i parts = record {
+  setup = map (call_of i) (flat_map calls_of_setup parts);
+  clients = clients_of i parts;
+  schedule = map (λ n. counts_as n.bytes) (flat_map turns_of parts);
+  stops = map (λ n. counts_as n.bytes) (flat_map stops_of parts);
+}

@@ -1,0 +1,80 @@
+// The first of the flaws that were noted.
+ghost use Rattle.std.specs.Prelude.{◌≡◌, ◌++◌, ◌∷◌, [], None};
+ghost use Rattle.sg_script.specs.Flaws.{flaw_if, rank};
+ghost use Rattle.sg_script.specs.Firsts.{earlier, first_behind, is_not_after};
+
+use crate::fault::{ScriptFault, ScriptKind};
+use std::marker::Model;
+
+/// The first of the flaws that were noted. Contracts see it; None where none was.
+#[derive(Drop)]
+pub struct First {
+    fault: Option<ScriptFault>,
+}
+
+impl Model for First {
+    ghost use Rattle.std.specs.declared.option.Option.{Option as Maybe};
+    ghost use Rattle.sg_script.specs.declared.fault.ScriptFault.{ScriptFault as OneFault};
+
+    ghost Value = { Maybe OneFault };
+
+    ghost view = { λ f. f.fault };
+}
+
+impl First {
+    /// None so far.
+    pub fn new() -> Self
+        ensures { result ≡ None }
+    {
+        First { fault: None }
+    }
+
+    /// The first of them.
+    pub fn fault(&self) -> Option<ScriptFault>
+        ensures { result ≡ self.now }
+    {
+        self.fault
+    }
+
+    /// Notes a flaw of a kind at a place, where there is one.
+    pub fn note_if(&mut self, flawed: bool, kind: ScriptKind, at: usize)
+        ensures { self.new ≡ first_behind self.old (flaw_if flawed kind at) }
+    {
+        if flawed {
+            self.fault = Some(earlier(self.fault, ScriptFault { at, kind }));
+        }
+    }
+}
+
+// The first of a flaw before, where there is one, and another.
+fn earlier(before: Option<ScriptFault>, next: ScriptFault) -> ScriptFault
+    ensures { result ≡ earlier before next }
+{
+    match before {
+        Some(fault) if is_not_after(fault, next) => fault,
+        _ => next,
+    }
+}
+
+// Whether a flaw comes before another, or is the same.
+fn is_not_after(fault: ScriptFault, next: ScriptFault) -> bool
+    ensures { result ≡ is_not_after fault next }
+{
+    fault.at < next.at || (fault.at == next.at && rank(fault.kind) <= rank(next.kind))
+}
+
+// The place of a kind in the order of kinds at one place.
+fn rank(kind: ScriptKind) -> u8
+    ensures { result ≡ rank kind }
+{
+    match kind {
+        ScriptKind::Syntax => 0,
+        ScriptKind::UnknownFunction => 1,
+        ScriptKind::BadArgs => 2,
+        ScriptKind::BadClient => 3,
+        ScriptKind::Twice => 4,
+        ScriptKind::NotAscending => 5,
+        ScriptKind::Blocking => 6,
+        ScriptKind::Limit => 7,
+    }
+}

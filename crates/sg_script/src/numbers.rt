@@ -1,0 +1,79 @@
+// What numbers and texts of a script stand for.
+ghost use Rattle.std.specs.Prelude.{◌≡◌, ◌+◌, ◌*◌, ◌-◌};
+ghost use Rattle.std.specs.List.{list_all};
+ghost use Rattle.sg_script.specs.Numbers.{bounded, counts_as, is_above, is_client, is_text, number_of, unquoted};
+ghost use Rattle.sg_base.specs.Text.{is_text_byte};
+
+use sg_base::Text;
+
+/// What digits count as: a number above the greatest of 64 bits counts as that one.
+pub fn counts_as(digits: &[u8]) -> u64
+    ensures { result ≡ counts_as digits.now }
+{
+    number_of(digits).unwrap_or(u64::MAX)
+}
+
+/// Whether digits stand for a number above the greatest of 64 bits.
+pub fn is_above(digits: &[u8]) -> bool
+    ensures { result ≡ is_above digits.now }
+{
+    number_of(digits).is_none()
+}
+
+/// Whether a number is a client's.
+pub fn is_client(number: u64) -> bool
+    ensures { result ≡ is_client number }
+{
+    matches!(number, 1..=64)
+}
+
+/// What stands between the quotes of a text.
+pub fn unquoted(quoted: &[u8]) -> &[u8]
+    ensures { result.now ≡ unquoted quoted.now }
+{
+    match quoted {
+        [_, inner @ .., _] => inner,
+        _ => &[],
+    }
+}
+
+/// Whether these bytes are a text as calls take it.
+pub fn is_text(bytes: &[u8]) -> bool
+    ensures { result ≡ is_text bytes.now }
+{
+    bytes.len() <= Text::MOST && are_text_bytes(bytes)
+}
+
+// What digits stand for; None where that is above the greatest number of 64 bits.
+fn number_of(digits: &[u8]) -> Option<u64>
+    ensures { result ≡ number_of digits.now }
+{
+    let mut value = 0;
+    'digits: for digit in digits {
+        value = with_digit(value, *digit)?;
+    }
+    Some(value)
+}
+
+// A number with one digit more behind it; None where that is above the greatest of 64 bits.
+fn with_digit(value: u64, digit: u8) -> Option<u64>
+    ensures { result ≡ bounded (10 * value + (digit - 48)) }
+{
+    value
+        .checked_mul(10)?
+        .checked_add(u64::from(digit.saturating_sub(b'0')))
+}
+
+// Whether a text may have these bytes.
+fn are_text_bytes(bytes: &[u8]) -> bool
+    ensures { result ≡ list_all is_text_byte bytes.now }
+{
+    bytes.iter().all(|byte| is_text_byte(*byte))
+}
+
+// Whether a text may have this byte.
+fn is_text_byte(byte: u8) -> bool
+    ensures { result ≡ is_text_byte byte }
+{
+    matches!(byte, 0x20..=0x7E) && byte != b'"'
+}

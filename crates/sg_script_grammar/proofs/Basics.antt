@@ -1,0 +1,98 @@
+-- Tests of tokens and what they say.
+use Rattle.std.proofs.Common.{◌≡◌, ℕ, ◌&&◌, Bool, true, false, if◌then◌else◌, List, [], ◌∷◌, refl, nat_eq}
+use Rattle.std.specs.Prelude.{None, Some}
+use Rattle.std.specs.declared.option.Option.{Option}
+use Rattle.std.specs.Cmp.Lexicographic.{pointwise, bytes_decides}
+use Rattle.sg_lex.specs.declared.token.TokenKind.{TokenKind}
+use Rattle.sg_lex.specs.declared.token.TokenKind.TheVariants.{Word, Number, Text, Mark}
+use Rattle.sg_lex.specs.Lexeme.{Lexeme}
+use Rattle.sg_script_grammar.specs.Spelling.{Spelling}
+use Rattle.sg_script_grammar.specs.Pieces.{Piece, fixed, word, number, quoted, mark, IsSpelt, IsPiece}
+use Rattle.sg_script_grammar.specs.States.{same_kind, is_of, is_mark, is_fixed, spelt_by}
+
+-- ---- tests
+
+pub some_is : {X : Type 0} (x y : X) → Some x ≡ Some y → x ≡ y
+some_is x y e = cc
+
+-- nothing is not something
+pub none_some : {X : Type 0} (Y : Type 0) (x : X) → None ≡ Some x → Y
+none_some Y x e = absurd (let f = e in cc)
+
+pub if_then : {X : Type 0} (b : Bool) (x y : X) → b ≡ true → (if b then x else y) ≡ x
+if_then true x y h = refl
+if_then false x y h = absurd (let e : false ≡ true = h in cc)
+
+pub if_else : {X : Type 0} (b : Bool) (x y : X) → b ≡ false → (if b then x else y) ≡ y
+if_else false x y h = refl
+if_else true x y h = absurd (let e : true ≡ false = h in cc)
+
+-- a choice whose outcome is known
+pub chosen : {X : Type 0} (Y : Type 0) (b : Bool) (x : X) (o : Option X) (next : X) → (if b then Some x else o) ≡ Some next
+    → (b ≡ true → x ≡ next → Y) → (b ≡ false → o ≡ Some next → Y) → Y
+chosen Y true x o next e hit miss = hit refl (some_is x next e)
+chosen Y false x o next e hit miss = miss refl e
+
+pub both_left : (a b : Bool) → (a && b) ≡ true → a ≡ true
+both_left true b h = refl
+both_left false b h = h
+
+pub both_right : (a b : Bool) → (a && b) ≡ true → b ≡ true
+both_right true b h = h
+both_right false b h = absurd (let e : false ≡ true = h in cc)
+
+-- ---- tokens and pieces
+
+pub same_bytes : (a b : List ℕ) → pointwise nat_eq a b ≡ true → a ≡ b
+same_bytes a b h = (bytes_decides a b).0 h
+
+pub bytes_same : (a : List ℕ) → pointwise nat_eq a a ≡ true
+bytes_same a = (bytes_decides a a).1 refl
+
+pub kind_is : (kind other : TokenKind) → same_kind kind other ≡ true → kind ≡ other
+kind_is Word Word h = refl
+kind_is Number Number h = refl
+kind_is Text Text h = refl
+kind_is Mark Mark h = refl
+kind_is Word Number h = absurd (let e : false ≡ true = h in cc)
+kind_is Word Text h = absurd (let e : false ≡ true = h in cc)
+kind_is Word Mark h = absurd (let e : false ≡ true = h in cc)
+kind_is Number Word h = absurd (let e : false ≡ true = h in cc)
+kind_is Number Text h = absurd (let e : false ≡ true = h in cc)
+kind_is Number Mark h = absurd (let e : false ≡ true = h in cc)
+kind_is Text Word h = absurd (let e : false ≡ true = h in cc)
+kind_is Text Number h = absurd (let e : false ≡ true = h in cc)
+kind_is Text Mark h = absurd (let e : false ≡ true = h in cc)
+kind_is Mark Word h = absurd (let e : false ≡ true = h in cc)
+kind_is Mark Number h = absurd (let e : false ≡ true = h in cc)
+kind_is Mark Text h = absurd (let e : false ≡ true = h in cc)
+
+-- a token of a kind is spelt as it is
+pub of-is : (kind : TokenKind) (token : Lexeme) → is_of kind token ≡ true → IsSpelt kind token (spelt_by token)
+of-is kind token h = (kind_is token.kind kind h, refl, refl)
+
+pub mark-is : (byte : ℕ) (token : Lexeme) → is_mark byte token ≡ true → IsPiece token (mark byte)
+mark-is byte token h =
+    (kind_is token.kind Mark (both_left _ _ h), same_bytes token.bytes (byte ∷ []) (both_right (is_of Mark token) _ h))
+
+pub fixed-is : (bytes : List ℕ) (token : Lexeme) → is_fixed bytes token ≡ true → IsPiece token (fixed bytes token.at)
+fixed-is bytes token h =
+    (kind_is token.kind Word (both_left _ _ h), same_bytes token.bytes bytes (both_right (is_of Word token) _ h), refl)
+
+-- the token that is a piece; a mark may stand at any place
+abbrev pub made : Piece → ℕ → Lexeme
+made (fixed bytes at) place = record { kind = Word; bytes = bytes; at = at }
+made (word s) place = record { kind = Word; bytes = s.bytes; at = s.at }
+made (number s) place = record { kind = Number; bytes = s.bytes; at = s.at }
+made (quoted s) place = record { kind = Text; bytes = s.bytes; at = s.at }
+made (mark byte) place = record { kind = Mark; bytes = byte ∷ []; at = place }
+
+spelt_made : (kind : TokenKind) (token : Lexeme) (s : Spelling) → IsSpelt kind token s → token ≡ record { kind = kind; bytes = s.bytes; at = s.at }
+spelt_made kind token s h = let a = h.0 in let b = h.1 in let c = h.2 in let e : record { kind = token.kind; bytes = token.bytes; at = token.at } ≡ record { kind = kind; bytes = s.bytes; at = s.at } = cc in e
+
+pub is_made : (token : Lexeme) (p : Piece) → IsPiece token p → token ≡ made p token.at
+is_made token (fixed bytes at) h = spelt_made Word token (record { bytes = bytes; at = at }) h
+is_made token (word s) h = spelt_made Word token s h
+is_made token (number s) h = spelt_made Number token s h
+is_made token (quoted s) h = spelt_made Text token s h
+is_made token (mark byte) h = spelt_made Mark token (record { bytes = byte ∷ []; at = token.at }) (h.0, h.1, refl)

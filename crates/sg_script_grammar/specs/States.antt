@@ -1,0 +1,162 @@
+-- How far a script has been read: an automaton over tokens, whose states carry the parts so far. Nothing public rests on
+-- it; it is proved to read exactly the scripts, and says in what steps the parser goes.
+use Rattle.std.specs.Prelude.{ℕ, ◌&&◌, Bool, true, false, if◌then◌else◌, List, [], ◌∷◌, ◌++◌, None, Some, Ok, Err, codes, nat_eq}
+use Rattle.std.specs.declared.option.Option.{Option}
+use Rattle.std.specs.declared.result.Result.{Result}
+use Rattle.std.specs.Option.{option_map_or}
+use Rattle.std.specs.Cmp.Lexicographic.{pointwise}
+use Rattle.sg_lex.specs.declared.token.TokenKind.{TokenKind}
+use Rattle.sg_lex.specs.declared.token.TokenKind.TheVariants.{Word, Number, Text, Mark}
+use Rattle.sg_lex.specs.Lexeme.{Lexeme}
+use Rattle.sg_lex.specs.Tokens.{Answer}
+use Rattle.sg_script_grammar.specs.declared.error.ParseError.{ParseError}
+use Rattle.sg_script_grammar.specs.declared.error.ParseError.TheVariants.{Syntax}
+use Rattle.sg_script_grammar.specs.declared.tree.WrittenArg.{WrittenArg}
+use Rattle.sg_script_grammar.specs.declared.tree.WrittenArg.TheVariants.{Number as number_arg, Text as text_arg, Back as back_arg}
+use Rattle.sg_script_grammar.specs.declared.tree.WrittenCall.{WrittenCall}
+use Rattle.sg_script_grammar.specs.declared.tree.Part.{Part}
+use Rattle.sg_script_grammar.specs.declared.tree.Part.TheVariants.{Setup, Client, Schedule, Stop}
+use Rattle.sg_script_grammar.specs.Spelling.{Spelling}
+
+-- ---- tests of tokens
+
+-- two kinds are one
+abbrev pub same_kind : TokenKind → TokenKind → Bool
+same_kind Word Word = true
+same_kind Number Number = true
+same_kind Text Text = true
+same_kind Mark Mark = true
+same_kind kind other = false
+
+-- a token is of a kind
+abbrev pub is_of : TokenKind → Lexeme → Bool
+is_of kind token = same_kind token.kind kind
+
+-- a token is this mark
+abbrev pub is_mark : ℕ → Lexeme → Bool
+is_mark byte token = is_of Mark token && pointwise nat_eq token.bytes (byte ∷ [])
+
+-- a token is this word
+abbrev pub is_fixed : List ℕ → Lexeme → Bool
+is_fixed bytes token = is_of Word token && pointwise nat_eq token.bytes bytes
+
+-- what a token spells
+abbrev pub spelt_by : Lexeme → Spelling
+spelt_by token = record { bytes = token.bytes; at = token.at }
+
+-- ---- states
+
+pub data State : Type 0 where
+  -- no token may come
+  dead : State
+  -- this mark, and then the state
+  due : ℕ → State → State
+  -- a number, and then the state of it
+  want : (Spelling → State) → State
+  -- an argument, and then the state of it
+  argument : (WrittenArg → State) → State
+  -- behind `(`: arguments or none, `)`, and then the state of them
+  bracketed : (List WrittenArg → State) → State
+  -- behind an argument: a comma and a further one, or `)` and then the state of them all
+  listed : List WrittenArg → (List WrittenArg → State) → State
+  -- behind `{` and calls: a further one, or `}` and then the state of them all
+  body : List WrittenCall → (List WrittenCall → State) → State
+  -- behind numbers: a further one, or `;` and then the state of them all
+  counts : List Spelling → (List Spelling → State) → State
+  -- before a part or the end
+  script : List Part → State
+
+-- behind the first token of an argument
+abbrev pub argument_behind : (WrittenArg → State) → Lexeme → Option State
+argument_behind k token =
+    if is_mark 0x24 token then Some (want (λ n. k (back_arg n)))
+    else (if is_of Text token then Some (k (text_arg (spelt_by token)))
+    else (if is_of Number token then Some (k (number_arg (spelt_by token)))
+    else None))
+
+-- behind a call's name
+abbrev pub call_rest : (WrittenCall → State) → Spelling → State
+call_rest k name = due 0x28 (bracketed (λ args. due 0x3B (k (record { name = name; args = args }))))
+
+-- calls in braces
+abbrev pub braced : (List WrittenCall → State) → State
+braced k = due 0x7B (body [] k)
+
+-- behind the first word of a part
+abbrev pub setup_rest : (Part → State) → ℕ → State
+setup_rest go at = braced (λ calls. go (Setup at calls))
+
+abbrev pub client_rest : (Part → State) → ℕ → State
+client_rest go at = want (λ n. braced (λ calls. go (Client at n calls)))
+
+abbrev pub schedule_rest : (Part → State) → ℕ → State
+schedule_rest go at = counts [] (λ numbers. go (Schedule at numbers))
+
+abbrev pub stop_rest : (Part → State) → ℕ → State
+stop_rest go at = counts [] (λ numbers. go (Stop at numbers))
+
+-- behind the first token of a part
+abbrev pub part_behind : (Part → State) → Lexeme → Option State
+part_behind go token =
+    if is_fixed (codes "setup") token then Some (setup_rest go token.at)
+    else (if is_fixed (codes "client") token then Some (client_rest go token.at)
+    else (if is_fixed (codes "schedule") token then Some (schedule_rest go token.at)
+    else (if is_fixed (codes "stop") token then Some (stop_rest go token.at)
+    else None)))
+
+-- with one part more
+abbrev pub with_part : List Part → Part → State
+with_part parts part = script (parts ++ part ∷ [])
+
+-- before the first token
+abbrev pub start : State
+start = script []
+
+-- ---- steps
+
+-- the state behind a token; None where the token may not come
+unfoldable pub step : State → Lexeme → Option State
+step dead token = None
+step (due byte s) token = if is_mark byte token then Some s else None
+step (want k) token = if is_of Number token then Some (k (spelt_by token)) else None
+step (argument k) token = argument_behind k token
+step (bracketed k) token =
+    if is_mark 0x29 token then Some (k []) else argument_behind (λ a. listed (a ∷ []) k) token
+step (listed args k) token =
+    if is_mark 0x2C token then Some (argument (λ a. listed (args ++ a ∷ []) k))
+    else (if is_mark 0x29 token then Some (k args)
+    else None)
+step (body calls k) token =
+    if is_of Word token then Some (call_rest (λ c. body (calls ++ c ∷ []) k) (spelt_by token))
+    else (if is_mark 0x7D token then Some (k calls)
+    else None)
+step (counts numbers k) token =
+    if is_of Number token then Some (counts (numbers ++ spelt_by token ∷ []) k)
+    else (if is_mark 0x3B token then Some (k numbers)
+    else None)
+step (script parts) token = part_behind (with_part parts) token
+
+-- the parts, where the text may end here
+unfoldable pub parts_at : State → Option (List Part)
+parts_at (script parts) = Some parts
+parts_at s = None
+
+-- the answer at the end of a text of that length
+abbrev pub ended : ℕ → Option (List Part) → Result (List Part) ParseError
+ended end None = Err (Syntax end)
+ended end (Some parts) = Ok parts
+
+-- the answer where a lexer goes on with these answers, on a text of that length
+unfoldable pub read_from : ℕ → State → List Answer → Result (List Part) ParseError
+read_from end s [] = ended end (parts_at s)
+read_from end s (Err fault ∷ behind) = Err (Syntax fault.at)
+read_from end s (Ok token ∷ behind) = option_map_or (λ next. read_from end next behind) (step s token) (Err (Syntax token.at))
+
+-- what is still to be read: the answers of the lexer that are to come, and the length of the text
+pub record Reading : Type 0 where
+  pub rest : List Answer
+  pub end : ℕ
+
+-- the answer where reading goes on from a state
+abbrev pub read : State → Reading → Result (List Part) ParseError
+read s reading = read_from reading.end s reading.rest

@@ -1,0 +1,21 @@
+// Laws of scripts and of what a parser has to answer.
+ghost use Rattle.std.specs.Prelude.{◌≡◌, ◌≢◌, ℕ, List, Err as failed};
+ghost use Rattle.std.specs.declared.result.Result.{Result};
+ghost use Rattle.sg_lex.specs.Lexeme.{Lexeme};
+ghost use Rattle.sg_script_grammar.specs.declared.error.ParseError.{ParseError};
+ghost use Rattle.sg_script_grammar.specs.declared.error.ParseError.TheVariants.{NoMemory as no_memory};
+ghost use Rattle.sg_script_grammar.specs.declared.tree.Part.{Part};
+ghost use Rattle.sg_script_grammar.specs.Parses.{Parses};
+ghost use Rattle.sg_script_grammar.specs.Sentence.{IsSentence};
+
+/// A script has one list of parts.
+pub fn one_list_of_parts()
+    ensures { (tokens : List Lexeme) (one other : List Part) → IsSentence tokens one → IsSentence tokens other → one ≡ other }
+{}
+
+/// A text has just one answer, want of memory aside: the parts of a script, or the one error at the one place.
+pub fn one_answer()
+    ensures some { (text : List ℕ) → (answer : Result (List Part) ParseError) × Parses text answer × (answer ≢ failed no_memory) }
+    ensures alone { (text : List ℕ) (one other : Result (List Part) ParseError) → Parses text one → Parses text other →
+        one ≢ failed no_memory → other ≢ failed no_memory → one ≡ other }
+{}

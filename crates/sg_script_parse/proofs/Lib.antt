@@ -1,0 +1,3 @@
+pub mod ByToken
+pub mod Chains
+pub mod Whole

@@ -1,0 +1,6 @@
+-- What is read is the one answer.
+use Rattle.sg_script_parse.proofs.Whole.{only}
+use Rattle.sg_script_parse.proofs.parser.parse.Goals as goal
+
+pub returns-clause-only : goal.returns-clause-only
+returns-clause-only c = λ other. only c.args.text.now c.parts_of.result other c.parts_of.ensures

@@ -1,0 +1,14 @@
+-- The arguments so far were read.
+use Rattle.std.proofs.Common.{◌≡◌, ◌≤◌, List, length}
+use Rattle.sg_script_grammar.specs.declared.tree.WrittenArg.{WrittenArg}
+use Rattle.sg_script_grammar.specs.States.{State, bracketed, listed, read}
+use Rattle.sg_script_parse.proofs.reader.Reader.bracketed.Given as goal
+
+abbrev pub invariant-commas : goal.invariant-commas
+invariant-commas l = record {
+  read_so_far : (k : List WrittenArg → State) → read (bracketed k) l.fn.self ≡ read (listed l.args k) l.self;
+  fewer : length l.self.rest ≤ length l.fn.self.rest;
+}
+
+abbrev pub decreases-commas : goal.decreases-commas
+decreases-commas l = length l.self.rest

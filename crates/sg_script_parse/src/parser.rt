@@ -1,0 +1,36 @@
+// The whole of a script.
+ghost use Rattle.std.specs.Prelude.{◌≡◌, ◌≢◌, ◌⊎◌, List, length, Err as failed};
+ghost use Rattle.std.specs.declared.result.Result.{Result as Answered};
+ghost use Rattle.sg_lex.specs.Tokens.{answers_of};
+ghost use Rattle.sg_script_grammar.specs.declared.error.ParseError.{ParseError as Fault};
+ghost use Rattle.sg_script_grammar.specs.declared.tree.Part.{Part as Written};
+ghost use Rattle.sg_script_grammar.specs.Parses.{Parses};
+ghost use Rattle.sg_script_grammar.specs.States.{start, read};
+ghost use Rattle.sg_script_parse.specs.Leads.{Answers};
+
+use crate::reader::Reader;
+use sg_script_grammar::{ParseError, PartList};
+use std::alloc::Global;
+
+/// The parts of a script. What they spell is lent from the text.
+///
+/// `Syntax` where the tokens before the place begin a script and those with the token at it don't; or where they begin one
+/// and no token begins at the place, or a text or a comment without an end; or, at the text's length, where the text's
+/// tokens begin a script and are none. `NoMemory` where there was no memory for the parts; nothing else is told then.
+#[tactic(auto, using(crate::proofs::Whole::may, crate::proofs::Whole::only))]
+pub fn parse<'a>(alloc: Global, text: &'a [u8]) -> Result<PartList<'a>, ParseError>
+    ensures answer { Parses text.now result }
+    // No other answer may be given, want of memory aside.
+    ensures only { (other : Answered (List Written) Fault) → Parses text.now other → other ≢ failed ParseError.NoMemory →
+        (result ≡ other) ⊎ (result ≡ failed ParseError.NoMemory) }
+{
+    parts_of(alloc, text)
+}
+
+// The parts that are read, or why there are none.
+fn parts_of<'a>(alloc: Global, text: &'a [u8]) -> Result<PartList<'a>, ParseError>
+    ensures { Answers (read start (record { rest = answers_of text.now; end = length text.now })) result }
+{
+    let mut reader = Reader::new(text);
+    reader.parts(alloc)
+}

@@ -1,0 +1,2 @@
+pub mod TripleSets
+pub mod Before

@@ -1,0 +1,101 @@
+// The lines of tables, in order.
+ghost use Rattle.std.specs.Prelude.{◌≡◌, ◌≤◌, ◌<◌, ◌+◌, true, IfOk, OnOk, length};
+ghost use Rattle.sg_facts.specs.Tables.{AreTables};
+ghost use Rattle.sg_reach.specs.Limits.{HasFourFields};
+ghost use Rattle.sg_check.specs.Shapes.{IsSmall};
+ghost use Rattle.sg_facts.specs.Fits.{Fits};
+ghost use Rattle.sg_stub.specs.Lines.{AreBefore, IsLineOf};
+ghost use Rattle.sg_stub.specs.Triples.{AreIn, IsReachedBy};
+
+use crate::triples::TripleSet;
+use sg_base::NoMemory;
+use sg_facts::{Interface, WalkLine, WalkList};
+use sg_walk::shortest;
+use std::alloc::Global;
+
+// One more than the greatest number of a function.
+const END_OF_FUNS: u8 = 33;
+
+// One more than the greatest number of a set of at most four fields.
+const END_OF_SETS: u8 = 16;
+
+/// A line for each of these triples, which are all that descriptors of an interface can come to.
+pub fn lines_of(alloc: Global, iface: &Interface, triples: &TripleSet) -> Result<WalkList, NoMemory>
+    requires fits { Fits iface.now }
+    requires small { IsSmall iface.now }
+    requires triples { AreIn iface.now triples.now }
+    ensures { IfOk result (AreTables iface.now) }
+{
+    let mut lines = WalkList::new(alloc);
+    'made: for made in 1..END_OF_FUNS {
+        add_states(alloc, iface, triples, made, &mut lines)?;
+    }
+    Ok(lines)
+}
+
+// Adds the lines of one creation.
+fn add_states(
+    alloc: Global,
+    iface: &Interface,
+    triples: &TripleSet,
+    made: u8,
+    lines: &mut WalkList,
+) -> Result<(), NoMemory>
+    requires fits { Fits iface.now }
+    requires small { IsSmall iface.now }
+    requires triples { AreIn iface.now triples.now }
+    requires before { AreBefore iface.now lines.old made 1 0 }
+    ensures { OnOk result (AreBefore iface.now lines.new made 33 0) }
+{
+    'states: for state in 1..END_OF_FUNS {
+        add_sets(alloc, iface, triples, made, state, lines)?;
+    }
+    Ok(())
+}
+
+// Adds those of one state.
+fn add_sets(
+    alloc: Global,
+    iface: &Interface,
+    triples: &TripleSet,
+    made: u8,
+    state: u8,
+    lines: &mut WalkList,
+) -> Result<(), NoMemory>
+    requires fits { Fits iface.now }
+    requires small { IsSmall iface.now }
+    requires triples { AreIn iface.now triples.now }
+    requires before { AreBefore iface.now lines.old made state 0 }
+    ensures { OnOk result (AreBefore iface.now lines.new made (state + 1) 0) }
+{
+    'sets: for mask in 0..END_OF_SETS {
+        if triples.has(made, state, mask) {
+            lines.push(line_of(alloc, iface, made, state, mask)?)?;
+        }
+    }
+    Ok(())
+}
+
+// The line of what descriptors can come to.
+fn line_of(
+    alloc: Global,
+    iface: &Interface,
+    made: u8,
+    state: u8,
+    mask: u8,
+) -> Result<WalkLine, NoMemory>
+    requires fits { Fits iface.now }
+    requires small { IsSmall iface.now }
+    requires reached { IsReachedBy iface.now made state mask }
+    ensures { IfOk result (IsLineOf iface.now made state mask) }
+{
+    match shortest(alloc, iface, made, state, mask)? {
+        Some(walk) => Ok(WalkLine {
+            made,
+            state,
+            mask,
+            walk,
+        }),
+        None => unreachable!(),
+    }
+}

@@ -1,0 +1,12 @@
+// What comes of a text before anything is said of it.
+use sg_base::Bytes;
+use sg_check::Accepted;
+
+/// What comes of a text before anything is said of it.
+#[derive(Debug, Drop)]
+pub enum Examined {
+    /// It is accepted, with this interface.
+    Accepted(Accepted),
+    /// It is refused, with this line.
+    Refused(Bytes),
+}

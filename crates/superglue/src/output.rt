@@ -1,0 +1,111 @@
+// What a command makes of its input.
+ghost use Rattle.std.specs.Prelude.{◌≡◌, ◌≤◌, ℕ, List, true, length, IfOk, None};
+ghost use Rattle.sg_facts.specs.Fits.{Fits};
+ghost use Rattle.sg_input.specs.Inputs.{IsReady};
+ghost use Rattle.sg_lock.specs.LockFacts.{lock_facts};
+ghost use Rattle.sg_sim.specs.Script.{calls_fit};
+ghost use Rattle.superglue.specs.Runs.{first_calls, is_plain};
+ghost use Rattle.superglue.specs.Answer.{IsChecked, IsOutput, IsPlayed, IsSaid, IsTabled, services};
+
+use crate::command::{Command, NOT_YET};
+use crate::played::Played;
+use crate::runs::{first_calls, is_plain, played_of};
+use sg_base::{Bytes, NoMemory};
+use sg_facts::{Interface, Service};
+use sg_input::{Input, read_input};
+use sg_lock::LockService;
+use sg_script::Script;
+use sg_verdict::{Verdict, compiled, verdict};
+use std::alloc::Global;
+
+/// What a command makes of an input: the bytes to be written, the status where they are written whole, and the run of a play
+/// that came to its end.
+#[derive(Debug, Drop)]
+pub struct Output {
+    pub text: Bytes,
+    pub status: u8,
+    pub ended: Option<Played>,
+}
+
+/// What a command makes of an input.
+pub fn output_of(alloc: Global, command: Command, bytes: &[u8]) -> Result<Output, NoMemory>
+    ensures { IfOk result (λ o. IsOutput command bytes.now o.ended o.status o.text) }
+{
+    match command {
+        Command::Sim => simulated(alloc, bytes),
+        Command::Check => checked(alloc, bytes),
+        Command::Compile => tabled(alloc, bytes),
+    }
+}
+
+// The line of a text, with 0 where it is accepted and 2 where it is refused.
+fn checked(alloc: Global, text: &[u8]) -> Result<Output, NoMemory>
+    ensures ended { IfOk result (λ o. o.ended ≡ None) }
+    ensures line { IfOk result (λ o. IsChecked text.now o.status o.text) }
+{
+    let said = verdict(alloc, text, &[LockService::shape()])?;
+    Ok(output_saying(said))
+}
+
+// The text of the tables of a text that is accepted, with 0, and else the line that refuses it, with 2.
+fn tabled(alloc: Global, text: &[u8]) -> Result<Output, NoMemory>
+    ensures ended { IfOk result (λ o. o.ended ≡ None) }
+    ensures tables { IfOk result (λ o. IsTabled text.now o.status o.text) }
+{
+    let said = compiled(alloc, text, &[LockService::shape()])?;
+    Ok(output_saying(said))
+}
+
+// What is said of a text, with 0 where it is accepted and 2 where it is refused.
+fn output_saying(said: Verdict) -> Output
+    ensures ended { result.ended ≡ None }
+    ensures said { IsSaid said result.status result.text }
+{
+    let (text, status) = match said {
+        Verdict::Accepted(text) => (text, 0),
+        Verdict::Refused(line) => (line, 2),
+    };
+    Output {
+        text,
+        status,
+        ended: None,
+    }
+}
+
+// The run of an input that is played with its report and 0, or the line of one that isn't and 2.
+#[tactic(auto, using(crate::proofs::Fitting::lock_interface, crate::proofs::Fitting::first_fit, crate::proofs::Fitting::first_few))]
+fn simulated(alloc: Global, bytes: &[u8]) -> Result<Output, NoMemory>
+    ensures { IfOk result (λ o. IsPlayed bytes.now o.ended o.status o.text) }
+{
+    match read_input(alloc, bytes, &[LockService::shape()])? {
+        Input::Ready(accepted, script) => run_of(alloc, accepted.interface(), &script),
+        Input::Refused(text) => Ok(Output {
+            text,
+            status: 2,
+            ended: None,
+        }),
+    }
+}
+
+// The run of a script that is played with its report and 0, or the line of one that isn't yet and 2.
+fn run_of(alloc: Global, iface: &Interface, script: &Script) -> Result<Output, NoMemory>
+    requires facts { iface.now.facts ≡ lock_facts }
+    requires fits { Fits iface.now }
+    requires calls { is_plain script.now ≡ true → calls_fit iface.now 1 (first_calls script.now.clients) ≡ true }
+    requires few { is_plain script.now ≡ true → length (first_calls script.now.clients) ≤ 65536 }
+    ensures { IfOk result (λ o. (bytes : List ℕ) → IsReady services bytes iface.now script.now → IsPlayed bytes o.ended o.status o.text) }
+{
+    if !is_plain(script) {
+        return Ok(Output {
+            text: Bytes::from_slice(alloc, NOT_YET)?,
+            status: 2,
+            ended: None,
+        });
+    }
+    let (played, text) = played_of(alloc, iface, first_calls(script.clients.as_slice()))?;
+    Ok(Output {
+        text,
+        status: 0,
+        ended: Some(played),
+    })
+}
