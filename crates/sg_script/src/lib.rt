@@ -11,6 +11,7 @@ mod fault;
 mod first;
 mod front;
 mod judging;
+mod making;
 mod names;
 mod numbers;
 mod reading;

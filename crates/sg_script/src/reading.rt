@@ -1,20 +1,43 @@
-// STUB
+// The whole of a script for an interface.
 ghost use Rattle.std.specs.Prelude.{◌≡◌, ◌≢◌, ◌⊎◌, Err as failed};
 ghost use Rattle.std.specs.declared.result.Result.{Result as Answered};
 ghost use Rattle.sg_script.specs.declared.fault.ScriptError.{ScriptError as Fault};
 ghost use Rattle.sg_script.specs.declared.script.Script.{Script as Whole};
 ghost use Rattle.sg_script.specs.Reads.{Reads};
 
-use crate::{Script, ScriptError};
+use crate::judging::judge;
+use crate::making::script_of;
+use crate::{Script, ScriptError, ScriptFault, ScriptKind};
 use sg_facts::Interface;
+use sg_script_grammar::ParseError;
+use sg_script_parse::parse;
 use std::alloc::Global;
 
-/// STUB
-pub fn read(_: Global, text: &[u8], iface: &Interface) -> Result<Script, ScriptError>
+/// The script of a text for an interface.
+///
+/// `Fault` with the first that is wrong: with kind `Syntax` and its place exactly where the text is no script of the grammar,
+/// and else with the flaw at the first place, and of the first kind at that place. `NoMemory` where there was no memory;
+/// nothing else is told then.
+pub fn read(alloc: Global, text: &[u8], iface: &Interface) -> Result<Script, ScriptError>
     ensures answer { Reads iface.now text.now result }
     // No other answer may be given, want of memory aside.
     ensures only { (other : Answered Whole Fault) → Reads iface.now text.now other → other ≢ failed ScriptError.NoMemory →
         (result ≡ other) ⊎ (result ≡ failed ScriptError.NoMemory) }
 {
-    Err(ScriptError::NoMemory)
+    let parts = match parse(alloc, text) {
+        Ok(parts) => parts,
+        Err(ParseError::NoMemory) => return Err(ScriptError::NoMemory),
+        Err(ParseError::Syntax { at }) => return Err(fault_of(at, ScriptKind::Syntax)),
+    };
+    match judge(parts.as_slice(), iface) {
+        Some(fault) => Err(ScriptError::Fault(fault)),
+        None => Ok(script_of(alloc, iface, parts.as_slice())?),
+    }
+}
+
+// The error of a flaw.
+fn fault_of(at: usize, kind: ScriptKind) -> ScriptError
+    ensures { result ≡ ScriptError.Fault (record { at = at; kind = kind }) }
+{
+    ScriptError::Fault(ScriptFault { at, kind })
 }

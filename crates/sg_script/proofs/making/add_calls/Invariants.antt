@@ -1,0 +1,9 @@
+-- The calls so far.
+use Rattle.std.proofs.Common.{◌≡◌, ◌++◌, map, take}
+use Rattle.sg_script.specs.Scripts.{call_of}
+use Rattle.sg_script.proofs.making.add_calls.Given as goal
+
+abbrev pub invariant-each : goal.invariant-each
+invariant-each l = record {
+  made : l.made.items ≡ l.fn.made.items ++ map (call_of l.iface) (take l.call-index l.calls);
+}

@@ -1,0 +1,9 @@
+-- The stops so far.
+use Rattle.std.proofs.Common.{◌≡◌, ◌++◌, map, take}
+use Rattle.sg_script.specs.Numbers.{counts_as}
+use Rattle.sg_script.proofs.making.add_stops.Given as goal
+
+abbrev pub invariant-each : goal.invariant-each
+invariant-each l = record {
+  made : l.made.items ≡ l.fn.made.items ++ map (λ n. counts_as n.bytes) (take l.number-index l.numbers);
+}

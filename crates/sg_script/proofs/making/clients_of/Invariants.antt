@@ -1,0 +1,10 @@
+-- What the parts that are left add to the clients so far.
+use Rattle.std.proofs.Common.{◌≡◌, drop}
+use Rattle.std.specs.List.{fold}
+use Rattle.sg_script.specs.Scripts.{clients_of, with_client}
+use Rattle.sg_script.proofs.making.clients_of.Given as goal
+
+abbrev pub invariant-each : goal.invariant-each
+invariant-each l = record {
+  left : fold (λ clients p. with_client l.iface p clients) l.made.items (drop l.part-index l.parts) ≡ clients_of l.iface l.parts;
+}
