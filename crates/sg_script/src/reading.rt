@@ -18,11 +18,19 @@ use std::alloc::Global;
 /// `Fault` with the first that is wrong: with kind `Syntax` and its place exactly where the text is no script of the grammar,
 /// and else with the flaw at the first place, and of the first kind at that place. `NoMemory` where there was no memory;
 /// nothing else is told then.
+#[tactic(auto, using(crate::proofs::Unique::only))]
 pub fn read(alloc: Global, text: &[u8], iface: &Interface) -> Result<Script, ScriptError>
     ensures answer { Reads iface.now text.now result }
     // No other answer may be given, want of memory aside.
     ensures only { (other : Answered Whole Fault) → Reads iface.now text.now other → other ≢ failed ScriptError.NoMemory →
         (result ≡ other) ⊎ (result ≡ failed ScriptError.NoMemory) }
+{
+    script_in(alloc, text, iface)
+}
+
+// The script of a text, or the first that is wrong with it.
+fn script_in(alloc: Global, text: &[u8], iface: &Interface) -> Result<Script, ScriptError>
+    ensures { Reads iface.now text.now result }
 {
     let parts = match parse(alloc, text) {
         Ok(parts) => parts,

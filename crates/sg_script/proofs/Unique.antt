@@ -1,0 +1,86 @@
+-- A text has one answer, want of memory aside.
+use Rattle.std.proofs.Common.{◌≡◌, ◌≢◌, ◌⊎◌, inl, inr, ℕ, List, [], ◌∷◌, length, Ok, Err, refl, sym, ◌∙◌, ap, subst, arith}
+use Rattle.std.specs.declared.result.Result.{Result}
+use Rattle.std.specs.List.{Contains}
+use Rattle.sg_facts.specs.Interface.{Declared}
+use Rattle.sg_lex.specs.Tokens.{answers_of}
+use Rattle.sg_script_grammar.specs.declared.error.ParseError.{ParseError}
+use Rattle.sg_script_grammar.specs.declared.error.ParseError.TheVariants.{NoMemory as no_memory, Syntax as syntax}
+use Rattle.sg_script_grammar.specs.declared.tree.Part.{Part}
+use Rattle.sg_script_grammar.specs.Parses.{Parses}
+use Rattle.sg_script_grammar.proofs.Readings.{only_answer}
+use Rattle.sg_script.specs.declared.script.Script.{Script}
+use Rattle.sg_script.specs.declared.fault.ScriptFault.{ScriptFault}
+use Rattle.sg_script.specs.declared.fault.ScriptError.{ScriptError}
+use Rattle.sg_script.specs.declared.fault.ScriptError.TheVariants.{NoMemory, Fault}
+use Rattle.sg_script.specs.Flaws.{IsFirst, flaws_of}
+use Rattle.sg_script.specs.Reads.{IsFlawed, IsNoScript, IsScript, Reads}
+use Rattle.sg_script.specs.Scripts.{script_of}
+use Rattle.sg_script.proofs.Earliest.{one_at_most}
+
+abbrev Parsed : Type 0
+Parsed = Result (List Part) ParseError
+
+one_parse : (text : List ℕ) (a b : Parsed) → Parses text a → Parses text b → a ≢ Err no_memory → b ≢ Err no_memory → a ≡ b
+one_parse text a b h g n m = sym (only_answer (length text) (answers_of text) a h n) ∙ only_answer (length text) (answers_of text) b g m
+
+read_parts : (parts : List Part) → ◌≡◌ {A = Parsed} (Ok parts) (Err no_memory) → ⊥
+read_parts parts e = absurd cc
+
+failed_there : (at : ℕ) → ◌≡◌ {A = Parsed} (Err (syntax at)) (Err no_memory) → ⊥
+failed_there at e = absurd cc
+
+one_list : (text : List ℕ) (one other : List Part) → Parses text (Ok one) → Parses text (Ok other) → one ≡ other
+one_list text one other h g =
+    let same : ◌≡◌ {A = Parsed} (Ok one) (Ok other) = one_parse text (Ok one) (Ok other) h g (read_parts one) (read_parts other) in cc same
+
+one_place : (text : List ℕ) (here there : ℕ) → Parses text (Err (syntax here)) → Parses text (Err (syntax there)) → here ≡ there
+one_place text here there h g =
+    let same : ◌≡◌ {A = Parsed} (Err (syntax here)) (Err (syntax there)) = one_parse text (Err (syntax here)) (Err (syntax there)) h g (failed_there here) (failed_there there) in cc same
+
+not_both : (text : List ℕ) (parts : List Part) (at : ℕ) → Parses text (Ok parts) → Parses text (Err (syntax at)) → ⊥
+not_both text parts at h g =
+    let same : ◌≡◌ {A = Parsed} (Ok parts) (Err (syntax at)) = one_parse text (Ok parts) (Err (syntax at)) h g (read_parts parts) (failed_there at) in absurd cc
+
+none_there : (f : ScriptFault) → Contains [] f → ⊥
+none_there f (k, within, is) = omega (arith, within)
+
+not_flawless : (i : Declared) (text : List ℕ) (script : Script) (f : ScriptFault) → IsScript i text script → IsFlawed i text f → ⊥
+not_flawless i text script f good bad =
+    let same : good.parts ≡ bad.parts = one_list text good.parts bad.parts good.parses bad.parses in
+    none_there f (subst (λ flaws. Contains flaws f) (ap (flaws_of i) (sym same) ∙ good.flawless) bad.first.there)
+
+same_fault : (f g : ScriptFault) → f.kind ≡ g.kind → f.at ≡ g.at → f ≡ g
+same_fault f g kind at = ap (λ a. record { at = a; kind = f.kind }) at ∙ ap (λ k. record { at = g.at; kind = k }) kind
+
+one_fault : (i : Declared) (text : List ℕ) (f g : ScriptFault) → IsNoScript text f ⊎ IsFlawed i text f → IsNoScript text g ⊎ IsFlawed i text g → f ≡ g
+one_fault i text f g (inl a) (inl b) = same_fault f g (a.kind ∙ sym b.kind) (one_place text f.at g.at a.parses b.parses)
+one_fault i text f g (inl a) (inr b) = absurd (not_both text b.parts f.at b.parses a.parses)
+one_fault i text f g (inr a) (inl b) = absurd (not_both text a.parts g.at a.parses b.parses)
+one_fault i text f g (inr a) (inr b) =
+    let same : a.parts ≡ b.parts = one_list text a.parts b.parts a.parses b.parses in
+    one_at_most (flaws_of i b.parts) f g (subst (λ parts. IsFirst (flaws_of i parts) f) same a.first) b.first
+
+not_fault : (i : Declared) (text : List ℕ) (script : Script) (f : ScriptFault) → IsScript i text script → IsNoScript text f ⊎ IsFlawed i text f → ⊥
+not_fault i text script f good (inl bad) = not_both text good.parts f.at good.parses bad.parses
+not_fault i text script f good (inr bad) = not_flawless i text script f good bad
+
+-- two answers on one text are one
+pub one_reading : (i : Declared) (text : List ℕ) (one other : Result Script ScriptError) → Reads i text one → Reads i text other
+    → one ≢ Err NoMemory → other ≢ Err NoMemory → one ≡ other
+one_reading i text (Ok s) (Ok t) a b n m =
+    let same : a.parts ≡ b.parts = one_list text a.parts b.parts a.parses b.parses in
+    ap Ok (a.is ∙ ap (script_of i) same ∙ sym b.is)
+one_reading i text (Ok s) (Err NoMemory) a b n m = absurd (m refl)
+one_reading i text (Ok s) (Err (Fault f)) a b n m = absurd (not_fault i text s f a b)
+one_reading i text (Err NoMemory) other a b n m = absurd (n refl)
+one_reading i text (Err (Fault f)) (Ok t) a b n m = absurd (not_fault i text t f b a)
+one_reading i text (Err (Fault f)) (Err NoMemory) a b n m = absurd (m refl)
+one_reading i text (Err (Fault f)) (Err (Fault g)) a b n m = ap (λ h. Err (Fault h)) (one_fault i text f g a b)
+
+-- an answer is the one that may be given, or there was no memory
+pub only : (i : Declared) (text : List ℕ) (one other : Result Script ScriptError) → Reads i text one → Reads i text other
+    → other ≢ Err NoMemory → (one ≡ other) ⊎ (one ≡ Err NoMemory)
+only i text (Ok s) other a b m = inl (one_reading i text (Ok s) other a b (λ e. absurd cc) m)
+only i text (Err NoMemory) other a b m = inr refl
+only i text (Err (Fault f)) other a b m = inl (one_reading i text (Err (Fault f)) other a b (λ e. absurd cc) m)
