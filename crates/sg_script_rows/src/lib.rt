@@ -1,0 +1,25 @@
+//! Scripts, read for the standard interfaces.
+//!
+//! The tests:
+//! - `answers`: what is answered on a script (`answer`, `try_each`)
+//! - `calls`, `parts`, `numbers`, `syntax`: what can be wrong, by its kind; `order`: several flaws in one script
+//! - `limits`: as many calls, stops and bytes of a text as a script may have, and one more
+//! - `meanings`: what scripts stand for
+#![tactic(auto)]
+
+#[cfg(test)]
+mod answers;
+#[cfg(test)]
+mod calls;
+#[cfg(test)]
+mod limits;
+#[cfg(test)]
+mod meanings;
+#[cfg(test)]
+mod numbers;
+#[cfg(test)]
+mod order;
+#[cfg(test)]
+mod parts;
+#[cfg(test)]
+mod syntax;
