@@ -62,8 +62,8 @@ pub no_cut : (input : List ℕ) (at : ℕ) (rest : List ℕ) → ((b c : List �
 no_cut input at rest first r none no_lf b c d =
     let e = ends_at input at b c d (first b c d) (λ line behind i h. none line behind i (r ∙ h)) in
     no_lf e.j
-      (omega (arith, ap length r ∙ length-drop at input, e.within))
-      (ap (λ v. get_or v e.j 0) r ∙ get_or-drop at input e.j 0 ∙ e.is)
+    (omega (arith, ap length r ∙ length-drop at input, e.within))
+    (ap (λ v. get_or v e.j 0) r ∙ get_or-drop at input e.j 0 ∙ e.is)
 
 -- the next line begins behind the next LF, and no such line stands before it
 pub next_line : (input : List ℕ) (at : ℕ) (rest : List ℕ) (j : ℕ) → at ≤ length input → ((b c : List ℕ) → Divides input b c → at ≤ length b) → rest ≡ drop at input
@@ -74,15 +74,17 @@ next_line input at rest j le first r none lt lf before =
     let n = ap length r ∙ length-drop at input in
     let here : get_or input (at + j) 0 ≡ 10 = sym (get_or-drop at input j 0) ∙ ap (λ v. get_or v j 0) (sym r) ∙ lf in
     let within : at + j < length input = omega (arith, n, lt, le) in
-    let s : at + (j + 1) ≡ suc (at + j) = omega arith in
-    (omega (arith, within),
-     inr (take (at + j) input, ap (λ v. take v input) s ∙ take-suc input (at + j) 0 within ∙ ap (λ v. take (at + j) input ++ v ∷ []) here),
-     λ b c d.
-       let e = ends_at input at b c d (first b c d) (λ line behind i h. none line behind i (r ∙ h)) in
-       later b e (first_lf b e))
+    let s : at + (j + 1) ≡ suc (at + j) = omega arith in (
+      omega (arith, within),
+      inr (take (at + j) input, ap (λ v. take v input) s ∙ take-suc input (at + j) 0 within ∙ ap (λ v. take (at + j) input ++ v ∷ []) here),
+      λ b c d.
+          let e = ends_at input at b c d (first b c d) (λ line behind i h. none line behind i (r ∙ h)) in
+          later b e (first_lf b e),
+    )
   where
     -- the LF before it isn't before the next one
     first_lf : (b : List ℕ) (e : EndsAt input at b) → e.j < j → ⊥
     first_lf b e k = before e.j k (ap (λ v. get_or v e.j 0) r ∙ get_or-drop at input e.j 0 ∙ e.is)
+
     later : (b : List ℕ) (e : EndsAt input at b) → (e.j < j → ⊥) → at + (j + 1) ≤ length b
     later b e not_first = omega (arith, e.long, not_first)

@@ -17,6 +17,6 @@ pub last_line : (rest : List ℕ) (found : Option (Bor (List ℕ)))
     → ((r : List ℕ) → rest ≢ codes "%%\n" ++ r) → ((r : List ℕ) → rest ≢ codes "%%\r\n" ++ r)
     → MatchOption found (rest ≢ codes "%%") (λ behind. (rest ≡ codes "%%") × (behind.now ≡ []))
     → MatchOption found ((line behind : List ℕ) → IsDivider line behind → rest ≢ line ++ behind)
-      (λ behind. (line : List ℕ) × IsDivider line behind.now × (rest ≡ line ++ behind.now))
+    (λ behind. (line : List ℕ) × IsDivider line behind.now × (rest ≡ line ++ behind.now))
 last_line rest None a b m = λ line behind d. no_divider rest line behind a b m d
 last_line rest (Some behind) a b m = (codes "%%", inr (inr (refl, m.1)), m.0 ∙ ap (λ l. codes "%%" ++ l) (sym m.1))

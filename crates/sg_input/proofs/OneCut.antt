@@ -32,7 +32,8 @@ same_length input b c b' c' k k' = omega (arith, k.first b' c' k'.divides, k'.fi
 
 pub one_cut : (input b c b' c' : List ℕ) → IsCut input b c → IsCut input b' c' → (b ≡ b') × (c ≡ c')
 one_cut input b c b' c' k k' =
-    let n = same_length input b c b' c' k k' in
-    (sym (front_of input b c k.divides) ∙ ap (λ v. take v input) n ∙ front_of input b' c' k'.divides,
-     same_behind k.divides.line c k'.divides.line c' k.divides.divider k'.divides.divider
-       (sym (behind_lines input b c k.divides) ∙ ap (λ v. drop v input) n ∙ behind_lines input b' c' k'.divides))
+    let n = same_length input b c b' c' k k' in (
+      sym (front_of input b c k.divides) ∙ ap (λ v. take v input) n ∙ front_of input b' c' k'.divides,
+      same_behind k.divides.line c k'.divides.line c' k.divides.divider k'.divides.divider
+          (sym (behind_lines input b c k.divides) ∙ ap (λ v. drop v input) n ∙ behind_lines input b' c' k'.divides),
+    )

@@ -15,6 +15,8 @@ mod input;
 mod laws;
 mod lines;
 mod reading;
+#[cfg(test)]
+mod tests;
 
 pub use divider::cut;
 pub use input::Input;

@@ -183,7 +183,7 @@ clients_good : (i : Declared) (setup : ℕ) (front parts : List Part) (clients :
 clients_good i setup front [] clients le e all = all
 clients_good i setup front (p ∷ parts) clients le e all =
     let inner : inner_flaws i setup (length (flat_map calls_in front)) p ≡ [] =
-      back_none _ (inner_flaws i setup (length (flat_map calls_in front)) p) (front_none (part_flaws i setup front p) (flaws_behind i setup (front ++ p ∷ []) parts) e) in
+    back_none _ (inner_flaws i setup (length (flat_map calls_in front)) p) (front_none (part_flaws i setup front p) (flaws_behind i setup (front ++ p ∷ []) parts) e) in
     let few : length (flat_map calls_in front) + length (calls_in p) ≤ 65536 = part_few i setup (length (flat_map calls_in front)) p le inner in
     clients_good i setup (front ++ p ∷ []) parts (with_client i p clients) (subst (λ v. v ≤ 65536) (sym (counted front p)) few)
     (back_none (part_flaws i setup front p) (flaws_behind i setup (front ++ p ∷ []) parts) e)
@@ -217,7 +217,7 @@ pub plain_good : (i : Declared) (text : List ℕ) (script : Script) → IsScript
 plain_good i text script is plain =
     let setup = length (flat_map calls_of_setup is.parts) in
     let no_setup = no_length (call_of i) (flat_map calls_of_setup is.parts)
-      (subst (λ s. length s.setup == 0 ≡ true) is.is (left _ _ (left _ _ (left _ _ plain)))) in
+    (subst (λ s. length s.setup == 0 ≡ true) is.is (left _ _ (left _ _ (left _ _ plain)))) in
     let none : length (flat_map calls_in []) ≤ 65536 = omega arith in
     let all = clients_good i setup [] is.parts [] none is.flawless tt in
     subst (λ s. (calls_fit i 1 (first_calls s.clients) ≡ true) × (length (first_calls s.clients) ≤ 65536)) (sym is.is)

@@ -1,4 +1,4 @@
-// What no clause says: that an input is played, or checked, where there is memory. And what is answered, value by value.
+// What no clause says: that an input is played, checked or compiled where there is memory. And what is answered, value by value.
 use crate::top::{Answer, serial, superglue};
 use sg_base::NoMemory;
 use sg_edge::{MemSink, MemSource, OpenGate};
@@ -47,13 +47,30 @@ client 1 done
 calls 4 boots 1 replays 0
 ";
 
-const REFUSAL: &[u8] = b"input refused: NotYet\n";
+// The report of a script without calls.
+const NOTHING: &[u8] = b"calls 0 boots 1 replays 0\n";
+
+const NO_DIVIDER: &[u8] = b"input refused: NoDivider\n";
+
+const TOO_LONG: &[u8] = b"input refused: TooLong\n";
+
+const NOT_YET: &[u8] = b"input refused: NotYet\n";
+
+// The text of the standard lock interface.
+fn lock_text() -> &'static [u8] {
+    INTERFACE.strip_suffix(b"%%\n").unwrap_or(b"")
+}
+
+// Bytes behind others.
+fn joined(alloc: Global, front: &[u8], back: &[u8]) -> Result<Vec<u8>, AllocError> {
+    let mut bytes = Vec::from_slice(alloc, front)?;
+    bytes.extend_from_slice(back)?;
+    Ok(bytes)
+}
 
 // A script behind the interface.
 fn input(alloc: Global, script: &[u8]) -> Result<Vec<u8>, AllocError> {
-    let mut input = Vec::from_slice(alloc, INTERFACE)?;
-    input.extend_from_slice(script)?;
-    Ok(input)
+    joined(alloc, INTERFACE, script)
 }
 
 // One word.
@@ -66,7 +83,6 @@ fn one_word(alloc: Global, word: &str) -> Result<Vec<String>, AllocError> {
 // A command and its input, the read and the write that fail (from 1, where 0 is none), and what that comes to.
 #[derive(Clone, Copy)]
 struct Case<'a> {
-    what: &'a str,
     command: &'a str,
     input: &'a [u8],
     read: u32,
@@ -75,24 +91,10 @@ struct Case<'a> {
     written: &'a [u8],
 }
 
-// An input that is no play.
-fn refused<'a>(what: &'a str, input: &'a [u8]) -> Case<'a> {
+// An input that is played, or isn't.
+fn simulated<'a>(input: &'a [u8], status: u8, written: &'a [u8]) -> Case<'a> {
     Case {
-        what,
         command: "sim",
-        input,
-        read: 0,
-        write: 0,
-        status: 2,
-        written: REFUSAL,
-    }
-}
-
-// A text that is checked.
-fn checked<'a>(what: &'a str, input: &'a [u8], status: u8, written: &'a [u8]) -> Case<'a> {
-    Case {
-        what,
-        command: "check",
         input,
         read: 0,
         write: 0,
@@ -101,11 +103,19 @@ fn checked<'a>(what: &'a str, input: &'a [u8], status: u8, written: &'a [u8]) ->
     }
 }
 
+// A text that is checked.
+fn checked<'a>(input: &'a [u8], status: u8, written: &'a [u8]) -> Case<'a> {
+    Case {
+        command: "check",
+        ..simulated(input, status, written)
+    }
+}
+
 // A text that is compiled.
-fn compiled<'a>(what: &'a str, input: &'a [u8], status: u8, written: &'a [u8]) -> Case<'a> {
+fn compiled<'a>(input: &'a [u8], status: u8, written: &'a [u8]) -> Case<'a> {
     Case {
         command: "compile",
-        ..checked(what, input, status, written)
+        ..simulated(input, status, written)
     }
 }
 
@@ -123,24 +133,19 @@ fn holds(alloc: Global, case: &Case) -> Result<bool, NoMemory> {
     )
 }
 
-// A script of so many calls.
-fn script_of(alloc: Global, calls: usize) -> Result<Vec<u8>, AllocError> {
-    let mut script = Vec::from_slice(alloc, b"client 1 {")?;
-    for _ in 0..calls {
-        script.extend_from_slice(b" lock_take(1);")?;
-    }
-    script.extend_from_slice(b" }\n")?;
-    Ok(script)
+// Whether a script behind the interface comes to this.
+fn comes_to(alloc: Global, script: &[u8], status: u8, written: &[u8]) -> Result<bool, NoMemory> {
+    let whole = input(alloc, script)?;
+    holds(alloc, &simulated(&whole, status, written))
 }
 
-// An input of so many bytes: a good one, and blanks behind it.
-fn padded(alloc: Global, length: usize) -> Result<Vec<u8>, AllocError> {
-    let mut input = input(alloc, SCRIPT)?;
-    for _ in 0..length.saturating_sub(input.len()) {
-        input.push(b' ')?;
-    }
-    Ok(input)
+// Whether a script is refused with this place and kind.
+fn is_refused(alloc: Global, script: &str, fault: &str) -> Result<bool, NoMemory> {
+    let line = format!(in alloc; "script refused at {fault}\n")?;
+    comes_to(alloc, script.as_bytes(), 2, line.as_bytes())
 }
+
+// ---- plays
 
 #[test]
 fn plays_a_script(rt: HostRuntime) -> Result<(), Fail> {
@@ -162,107 +167,365 @@ fn plays_a_script(rt: HostRuntime) -> Result<(), Fail> {
 }
 
 #[test]
-fn answers_bad_inputs_and_faults(rt: HostRuntime) -> Result<(), Fail> {
+fn answers_faults(rt: HostRuntime) -> Result<(), Fail> {
     let alloc = rt.alloc();
     let good = input(alloc, SCRIPT)?;
-    let same_call = input(alloc, b"client 1 { lock_take($1); }\n")?;
-    let no_call = input(alloc, b"client 1 { lock_take($0); }\n")?;
-    let carriage_return = input(alloc, b"client 1 { lock_alloc(); }\r\n")?;
-    let nul = input(alloc, b"client 1 { lock_alloc(); }\n\0")?;
-    let second_client = input(alloc, b"client 2 { lock_alloc(); }\n")?;
-    let many = input(alloc, &script_of(alloc, 1001)?)?;
-    let longest = padded(alloc, 32768)?;
-    let too_long = padded(alloc, 32769)?;
-    let far_too_long = padded(alloc, 40000)?;
-    let no_divider = INTERFACE.get(..INTERFACE.len() - 3).ok_or("short")?;
-    let fault = |what, read, write, status, written| Case {
-        what,
-        command: "sim",
-        input: &good,
-        read,
-        write,
-        status,
-        written,
-    };
-    for case in [
-        refused("no line of %%", no_divider),
-        refused("an empty input", b""),
-        refused("a line of %% alone", b"%%\n"),
-        refused("a call that takes its own descriptor", &same_call),
-        refused("a call that takes that of call 0", &no_call),
-        refused("1,001 calls", &many),
-        refused("CR LF", &carriage_return),
-        refused("a NUL", &nul),
-        refused("another client", &second_client),
-        refused("32,768 bytes", &longest),
-        refused("32,769 bytes", &too_long),
-        refused("40,000 bytes", &far_too_long),
-        fault("no fault", 0, 0, 0, REPORT),
-        fault("the first read fails", 1, 0, 4, b"".as_slice()),
-        fault("the second read fails", 2, 0, 4, b""),
-        fault("the first read and the first write fail", 1, 1, 4, b""),
-        fault("the first write fails", 0, 1, 5, b""),
-        fault(
-            "the second write of ten bytes fails",
-            0,
-            2,
-            5,
-            b"c1.1 lock_",
-        ),
-        fault("the third write fails", 0, 3, 5, b"c1.1 lock_alloc() = "),
+    for (read, write, status, written) in [
+        (0, 0, 0, REPORT),
+        // the read of this number fails
+        (1, 0, 4, b"".as_slice()),
+        (2, 0, 4, b""),
+        (3, 0, 4, b""),
+        (1, 1, 4, b""),
+        // the write of this number fails
+        (0, 1, 5, b""),
+        (0, 2, 5, b"c1.1 lock_"),
+        (0, 3, 5, b"c1.1 lock_alloc() = "),
     ] {
-        assert!(rt; holds(alloc, &case)?, "{}", case.what);
+        let case = Case {
+            read,
+            write,
+            ..simulated(&good, status, written)
+        };
+        assert!(rt; holds(alloc, &case)?, "{read} {write}");
     }
     Ok(())
 }
 
 #[test]
-fn refuses_a_byte_more_anywhere(rt: HostRuntime) -> Result<(), Fail> {
+fn plays_scripts_in_any_spelling(rt: HostRuntime) -> Result<(), Fail> {
     let alloc = rt.alloc();
-    let good = input(alloc, SCRIPT)?;
-    for at in 0..good.len() + 1 {
-        for byte in [b' ', b'\n', b'1', 0] {
-            let mut longer = Vec::from_slice(alloc, good.get(..at).ok_or("no front")?)?;
-            longer.push(byte)?;
-            longer.extend_from_slice(good.get(at..).ok_or("no rest")?)?;
-            assert!(rt;
-                holds(alloc, &refused("a byte more", &longer))?,
-                "{byte} at {at}"
-            );
-        }
+    for script in [
+        "client 1{lock_alloc();lock_take($1);lock_release($1);lock_free($1);}",
+        "client\t1\r\n{\r\n lock_alloc ( ) ;\r\n lock_take($ 1);lock_release($1); lock_free($1);}\r\n",
+        "/* of */client/**/1{// one\nlock_alloc();lock_take($1)/*;*/;lock_release($1);lock_free($1);}//",
+        "client 01 { lock_alloc(); lock_take(1); lock_release($001); lock_free(0001); }",
+        "schedule; stop ;\nclient 1 { lock_alloc(); lock_take(1); lock_release(1); lock_free(1); } setup { }",
+        "client 1 { lock_alloc(); lock_take(1);\n/*\n%%\n*/\nlock_release(1); lock_free(1); }",
+    ] {
+        assert!(rt; comes_to(alloc, script.as_bytes(), 0, REPORT)?, "{script}");
     }
-    Ok(())
-}
-
-#[test]
-fn takes_a_thousand_calls(rt: HostRuntime) -> Result<(), Fail> {
-    let alloc = rt.alloc();
-    let whole = input(alloc, &script_of(alloc, 1000)?)?;
-    let mut report = String::new(alloc);
-    for call in 1..1001 {
-        writeln!(report, "c1.{call} lock_take(1) = refused NoDesc")?;
-    }
-    report.push_str("client 1 done\ncalls 1000 boots 1 replays 0\n")?;
-    let case = Case {
-        status: 0,
-        written: report.as_bytes(),
-        ..refused("1,000 calls", &whole)
-    };
-    assert!(rt; holds(alloc, &case)?);
     Ok(())
 }
 
 #[test]
 fn plays_nothing(rt: HostRuntime) -> Result<(), Fail> {
     let alloc = rt.alloc();
-    let case = Case {
-        status: 0,
-        written: b"calls 0 boots 1 replays 0\n",
-        ..refused("an empty script", INTERFACE)
-    };
-    assert!(rt; holds(alloc, &case)?);
+    for script in [
+        "",
+        " \t\r\n",
+        "// client 1 { lock_alloc(); }",
+        "setup { }",
+        "client 1 { }",
+        "schedule ;",
+        "stop;",
+        "stop; client 1{} schedule; setup{}",
+    ] {
+        assert!(rt; comes_to(alloc, script.as_bytes(), 0, NOTHING)?, "{script}");
+    }
     Ok(())
 }
+
+#[test]
+fn plays_calls_that_are_refused(rt: HostRuntime) -> Result<(), Fail> {
+    let alloc = rt.alloc();
+    let script = b"client 1 { lock_free(9); lock_take($1); lock_alloc(); lock_release($3); }\n";
+    let report = b"c1.1 lock_free(9) = refused NoDesc
+c1.2 lock_take(0) = refused NoDesc
+c1.3 lock_alloc() = ok #1
+c1.4 lock_release(1) = refused BadState
+client 1 done
+calls 4 boots 1 replays 0
+";
+    assert!(rt; comes_to(alloc, script, 0, report)?);
+    let greatest = b"client 1 { lock_free(18446744073709551615); }\n";
+    let report = b"c1.1 lock_free(18446744073709551615) = refused NoDesc
+client 1 done
+calls 1 boots 1 replays 0
+";
+    assert!(rt; comes_to(alloc, greatest, 0, report)?);
+    Ok(())
+}
+
+// ---- scripts that aren't played yet
+
+#[test]
+fn does_not_play_yet(rt: HostRuntime) -> Result<(), Fail> {
+    let alloc = rt.alloc();
+    for script in [
+        "setup { lock_alloc(); }",
+        "setup { lock_alloc(); } client 1 { lock_free($1); }",
+        "client 1 { lock_free($1); } setup { lock_alloc(); }",
+        "schedule 1;",
+        "client 1 { lock_alloc(); } schedule 1 1;",
+        "schedule 64;",
+        "stop 1;",
+        "client 1 { lock_alloc(); } stop 9;",
+        "stop 18446744073709551615;",
+        "client 2 { }",
+        "client 2 { lock_alloc(); }",
+        "client 64 { }",
+        "client 1 { lock_alloc(); } client 2 { }",
+        "client 2 { } client 1 { lock_alloc(); }",
+        "setup { lock_alloc(); } client 1 { lock_take(1); } client 2 { lock_take(1); } schedule 1 2;",
+    ] {
+        assert!(rt; comes_to(alloc, script.as_bytes(), 2, NOT_YET)?, "{script}");
+    }
+    Ok(())
+}
+
+// ---- scripts that are refused
+
+#[test]
+fn refuses_what_is_no_script(rt: HostRuntime) -> Result<(), Fail> {
+    let alloc = rt.alloc();
+    for (script, fault) in [
+        ("x", "1:1: Syntax"),
+        ("%%\n", "1:1: Syntax"),
+        ("client 1 {", "1:11: Syntax"),
+        ("client 1 {\n", "2:1: Syntax"),
+        ("client 1 { lock_alloc() }", "1:25: Syntax"),
+        ("client 1 { lock_alloc(); }\n\n \0", "3:2: Syntax"),
+        ("stop 1; 2", "1:9: Syntax"),
+        ("/* no end", "1:1: Syntax"),
+        ("client 1 { lock_free(\"a); }", "1:22: Syntax"),
+        // before any other kind
+        ("client 65 { } setup { lock_take(1); } x", "1:39: Syntax"),
+    ] {
+        assert!(rt; is_refused(alloc, script, fault)?, "{script}");
+    }
+    Ok(())
+}
+
+#[test]
+fn refuses_calls(rt: HostRuntime) -> Result<(), Fail> {
+    let alloc = rt.alloc();
+    for (script, fault) in [
+        (
+            "client 1 { lock_free(1); lock_steal(); }",
+            "1:26: UnknownFunction",
+        ),
+        ("client 1 { desc(1); }", "1:12: UnknownFunction"),
+        ("client 1 { lock_free(); }", "1:12: BadArgs"),
+        ("client 1 { lock_free(1, 2); }", "1:12: BadArgs"),
+        ("client 1 { lock_free(\"a\"); }", "1:12: BadArgs"),
+        ("client 1 { lock_take($0); }", "1:12: BadArgs"),
+        ("client 1 { lock_take($1); }", "1:12: BadArgs"),
+        ("client 1 { lock_alloc(); lock_take($2); }", "1:26: BadArgs"),
+        (
+            "client 2 { lock_take($1); } setup { lock_alloc(); }",
+            "1:12: BadArgs",
+        ),
+        (
+            "\r\n\r\nclient 1 {\r\n\tlock_free(1, 2);\r\n}",
+            "4:2: BadArgs",
+        ),
+        ("setup { lock_take(1); }", "1:9: Blocking"),
+        (
+            "client 1 { lock_free(18446744073709551616); }",
+            "1:22: Limit",
+        ),
+        (
+            "client 1 { lock_free(0018446744073709551616); }",
+            "1:22: Limit",
+        ),
+    ] {
+        assert!(rt; is_refused(alloc, script, fault)?, "{script}");
+    }
+    Ok(())
+}
+
+#[test]
+fn refuses_parts(rt: HostRuntime) -> Result<(), Fail> {
+    let alloc = rt.alloc();
+    for (script, fault) in [
+        ("client 65 { }", "1:8: BadClient"),
+        ("client 0 { }", "1:8: BadClient"),
+        ("client 18446744073709551616 { }", "1:8: BadClient"),
+        ("schedule 1 65;", "1:12: BadClient"),
+        ("schedule 0;", "1:10: BadClient"),
+        ("setup { } setup { }", "1:11: Twice"),
+        ("client 1 { } client 01 { }", "1:14: Twice"),
+        ("schedule; schedule;", "1:11: Twice"),
+        ("stop 3; stop 4;", "1:9: Twice"),
+        ("stop 0;", "1:6: NotAscending"),
+        ("stop 5 5;", "1:8: NotAscending"),
+        ("stop 18446744073709551616;", "1:6: Limit"),
+        (
+            "stop 18446744073709551615 18446744073709551616;",
+            "1:27: NotAscending",
+        ),
+        // the first place, and before what isn't played yet
+        ("setup { } stop 5 5; client 65 { }", "1:18: NotAscending"),
+        ("client 65 { lock_steal(); }", "1:8: BadClient"),
+    ] {
+        assert!(rt; is_refused(alloc, script, fault)?, "{script}");
+    }
+    Ok(())
+}
+
+// ---- limits of scripts
+
+// A script of so many calls, each on a line of its own behind the first.
+fn script_of(alloc: Global, calls: usize) -> Result<Vec<u8>, AllocError> {
+    let mut script = Vec::from_slice(alloc, b"client 1 {\n")?;
+    for _ in 0..calls {
+        script.extend_from_slice(b"lock_free(1);\n")?;
+    }
+    script.extend_from_slice(b"}\n")?;
+    Ok(script)
+}
+
+#[test]
+fn takes_65536_calls(rt: HostRuntime) -> Result<(), Fail> {
+    let alloc = rt.alloc();
+    let mut report = String::new(alloc);
+    for call in 1..65537 {
+        writeln!(report, "c1.{call} lock_free(1) = refused NoDesc")?;
+    }
+    report.push_str("client 1 done\ncalls 65536 boots 1 replays 0\n")?;
+    let most = script_of(alloc, 65536)?;
+    assert!(rt; comes_to(alloc, &most, 0, report.as_bytes())?);
+    Ok(())
+}
+
+#[test]
+fn refuses_a_call_more(rt: HostRuntime) -> Result<(), Fail> {
+    let alloc = rt.alloc();
+    let more = script_of(alloc, 65537)?;
+    let line = b"script refused at 65538:1: Limit\n";
+    assert!(rt; comes_to(alloc, &more, 2, line)?);
+    Ok(())
+}
+
+#[test]
+fn takes_64_stops(rt: HostRuntime) -> Result<(), Fail> {
+    let alloc = rt.alloc();
+    let mut script = String::new(alloc);
+    script.push_str("stop")?;
+    for stop in 1..65 {
+        write!(script, " {stop}")?;
+    }
+    let more = format!(in alloc; "{script} 65;")?;
+    assert!(rt; is_refused(alloc, &more, "1:189: Limit")?);
+    script.push_str(";")?;
+    assert!(rt; comes_to(alloc, script.as_bytes(), 2, NOT_YET)?);
+    Ok(())
+}
+
+#[test]
+fn takes_64_clients(rt: HostRuntime) -> Result<(), Fail> {
+    let alloc = rt.alloc();
+    let mut script = String::new(alloc);
+    for client in 1..65 {
+        writeln!(script, "client {client} {{ }}")?;
+    }
+    assert!(rt; comes_to(alloc, script.as_bytes(), 2, NOT_YET)?);
+    script.push_str("client 65 { }")?;
+    assert!(rt; is_refused(alloc, &script, "65:8: BadClient")?);
+    Ok(())
+}
+
+// ---- inputs
+
+#[test]
+fn divides_inputs(rt: HostRuntime) -> Result<(), Fail> {
+    let alloc = rt.alloc();
+    for (behind, status, written) in [
+        (
+            b"%%\r\nclient 1 { lock_alloc(); lock_take(1); lock_release(1); lock_free(1); }".as_slice(),
+            0,
+            REPORT,
+        ),
+        (b"\r\n%%\r\n", 0, NOTHING),
+        (b"%%", 0, NOTHING),
+        (b"%%\n%%\n", 2, b"script refused at 1:1: Syntax\n"),
+        (b"%%\n\n%%", 2, b"script refused at 2:1: Syntax\n"),
+        (b"/*\n%%\n*/", 2, b"interface refused at 26:1: Lex\n"),
+        (b"%%\r", 2, NO_DIVIDER),
+        (b"%% \n", 2, NO_DIVIDER),
+        (b" %%\n", 2, NO_DIVIDER),
+        (b"%%%\n", 2, NO_DIVIDER),
+        (b"//%%\n", 2, NO_DIVIDER),
+        (b"", 2, NO_DIVIDER),
+    ] {
+        let whole = joined(alloc, lock_text(), behind)?;
+        assert!(rt;
+            holds(alloc, &simulated(&whole, status, written))?,
+            "{behind:?}"
+        );
+    }
+    Ok(())
+}
+
+#[test]
+fn refuses_inputs_in_order(rt: HostRuntime) -> Result<(), Fail> {
+    let alloc = rt.alloc();
+    for (input, line) in [
+        (b"".as_slice(), NO_DIVIDER),
+        (b"x", NO_DIVIDER),
+        (b"%%\n", b"interface refused at 1:1: Syntax\n"),
+        (b"%%\nx", b"interface refused at 1:1: Syntax\n"),
+        (
+            b"service_global_info = {\n%%\nsetup { } stop 5 5;",
+            b"interface refused at 2:1: Syntax\n",
+        ),
+        (
+            b"service_global_info = #\n%%\nstop 1;",
+            b"interface refused at 1:23: Lex\n",
+        ),
+    ] {
+        assert!(rt; holds(alloc, &simulated(input, 2, line))?, "{input:?}");
+    }
+    Ok(())
+}
+
+// Adds so many blanks.
+fn pad(bytes: &mut Vec<u8>, blanks: usize) -> Result<(), AllocError> {
+    for _ in 0..blanks {
+        bytes.push(b' ')?;
+    }
+    Ok(())
+}
+
+// An interface of so many bytes, a divider of 4, and a script of so many.
+fn long_input(alloc: Global, interface: usize, script: usize) -> Result<Vec<u8>, AllocError> {
+    let mut input = padded_text(alloc, interface.saturating_sub(1))?;
+    input.extend_from_slice(b"\n%%\r\n")?;
+    pad(&mut input, script)?;
+    Ok(input)
+}
+
+#[test]
+fn takes_the_longest_input(rt: HostRuntime) -> Result<(), Fail> {
+    let alloc = rt.alloc();
+    let longest = long_input(alloc, 65536, 4194304)?;
+    assert_eq!(rt; longest.len(), 4259844);
+    assert!(rt; holds(alloc, &simulated(&longest, 0, NOTHING))?);
+    Ok(())
+}
+
+#[test]
+fn refuses_longer_inputs(rt: HostRuntime) -> Result<(), Fail> {
+    let alloc = rt.alloc();
+    let longer = long_input(alloc, 65536, 4194305)?;
+    let long_script = long_input(alloc, 1000, 4194305)?;
+    let long_interface = long_input(alloc, 65537, 0)?;
+    let mut no_divider = padded_text(alloc, 4259844)?;
+    assert!(rt; holds(alloc, &simulated(&no_divider, 2, NO_DIVIDER))?);
+    no_divider.push(b' ')?;
+    for (what, input) in [
+        ("a byte more", &longer),
+        ("a longer script", &long_script),
+        ("a longer interface", &long_interface),
+        ("a byte more, no divider", &no_divider),
+    ] {
+        assert!(rt; holds(alloc, &simulated(input, 2, TOO_LONG))?, "{what}");
+    }
+    Ok(())
+}
+
+// ---- other words
 
 // What other words come to.
 fn other(alloc: Global, words: &[String]) -> Result<(Answer, MemSource, MemSink), NoMemory> {
@@ -294,59 +557,91 @@ fn touches_nothing_at_other_words(rt: HostRuntime) -> Result<(), Fail> {
     Ok(())
 }
 
-// The text of the standard lock interface.
-fn lock_text() -> Option<&'static [u8]> {
-    INTERFACE.get(..INTERFACE.len() - 3)
-}
+// ---- texts of interfaces
 
 // The standard lock interface and blanks, so many bytes.
 fn padded_text(alloc: Global, length: usize) -> Result<Vec<u8>, AllocError> {
-    let mut text = Vec::from_slice(alloc, lock_text().unwrap_or(b""))?;
-    for _ in 0..length.saturating_sub(text.len()) {
-        text.push(b' ')?;
+    let mut text = Vec::from_slice(alloc, lock_text())?;
+    let blanks = length.saturating_sub(text.len());
+    pad(&mut text, blanks)?;
+    Ok(text)
+}
+
+// The standard lock interface without the lines in which a word stands.
+fn text_without(alloc: Global, word: &str) -> Result<String, AllocError> {
+    let mut text = String::new(alloc);
+    for line in str::from_utf8(lock_text()).unwrap_or("").lines() {
+        if !line.contains(word) {
+            text.push_str(line)?;
+            text.push_str("\n")?;
+        }
     }
     Ok(text)
 }
 
 #[test]
+fn checks_narrower_interfaces(rt: HostRuntime) -> Result<(), Fail> {
+    let alloc = rt.alloc();
+    for (word, status, line) in [
+        ("lock_free", 0, b"accepted lock\n".as_slice()),
+        ("sm_recover", 2, b"interface refused at 21:5: NoWalk\n"),
+        ("sm_wakeup", 2, b"interface refused at 22:5: WrongFlag\n"),
+    ] {
+        let text = text_without(alloc, word)?;
+        assert!(rt;
+            holds(alloc, &checked(text.as_bytes(), status, line))?,
+            "{word}"
+        );
+    }
+    Ok(())
+}
+
+#[test]
+fn plays_on_a_narrower_interface(rt: HostRuntime) -> Result<(), Fail> {
+    let alloc = rt.alloc();
+    let text = text_without(alloc, "lock_free")?;
+    for (script, status, written) in [
+        (
+            b"client 1 { lock_free(1); }".as_slice(),
+            2,
+            b"script refused at 1:12: UnknownFunction\n".as_slice(),
+        ),
+        (
+            b"client 1 { lock_alloc(); }",
+            0,
+            b"c1.1 lock_alloc() = ok #1\nclient 1 done\ncalls 1 boots 1 replays 0\n",
+        ),
+    ] {
+        let front = joined(alloc, text.as_bytes(), b"%%\n")?;
+        let whole = joined(alloc, &front, script)?;
+        assert!(rt;
+            holds(alloc, &simulated(&whole, status, written))?,
+            "{script:?}"
+        );
+    }
+    Ok(())
+}
+
+#[test]
 fn accepts_the_lock_interface(rt: HostRuntime) -> Result<(), Fail> {
     let alloc = rt.alloc();
-    let lock = lock_text().ok_or("short")?;
     let longest = padded_text(alloc, 65536)?;
-    let accepted = checked("the lock interface", lock, 0, b"accepted lock\n");
-    for case in [
-        accepted,
-        checked("65,536 bytes", &longest, 0, b"accepted lock\n"),
-        Case {
-            what: "the first read fails",
-            read: 1,
-            status: 4,
-            written: b"",
-            ..accepted
-        },
-        Case {
-            what: "the second read fails",
-            read: 2,
-            status: 4,
-            written: b"",
-            ..accepted
-        },
-        Case {
-            what: "the first write fails",
-            write: 1,
-            status: 5,
-            written: b"",
-            ..accepted
-        },
-        Case {
-            what: "the second write of ten bytes fails",
-            write: 2,
-            status: 5,
-            written: b"accepted l",
-            ..accepted
-        },
+    assert!(rt; holds(alloc, &checked(&longest, 0, b"accepted lock\n"))?);
+    for (read, write, status, written) in [
+        (0, 0, 0, b"accepted lock\n".as_slice()),
+        // the read of this number fails
+        (1, 0, 4, b""),
+        (2, 0, 4, b""),
+        // the write of this number fails
+        (0, 1, 5, b""),
+        (0, 2, 5, b"accepted l"),
     ] {
-        assert!(rt; holds(alloc, &case)?, "{}", case.what);
+        let case = Case {
+            read,
+            write,
+            ..checked(lock_text(), status, written)
+        };
+        assert!(rt; holds(alloc, &case)?, "{read} {write}");
     }
     Ok(())
 }
@@ -354,54 +649,47 @@ fn accepts_the_lock_interface(rt: HostRuntime) -> Result<(), Fail> {
 #[test]
 fn refuses_texts(rt: HostRuntime) -> Result<(), Fail> {
     let alloc = rt.alloc();
-    let too_long = padded_text(alloc, 65537)?;
-    let far_too_long = padded_text(alloc, 70000)?;
-    let lock = lock_text().ok_or("short")?;
-    let mut other_service = Vec::from_slice(alloc, lock.get(..38).ok_or("short")?)?;
-    other_service.extend_from_slice(b"door")?;
-    other_service.extend_from_slice(lock.get(42..).ok_or("short")?)?;
-    for case in [
-        checked("65,537 bytes", &too_long, 2, b"input refused: TooLong\n"),
-        checked(
-            "70,000 bytes",
-            &far_too_long,
-            2,
-            b"input refused: TooLong\n",
-        ),
-        checked("no bytes", b"", 2, b"interface refused at 1:1: Syntax\n"),
-        checked(
-            "no token",
-            b"service_global_info = #",
-            2,
-            b"interface refused at 1:23: Lex\n",
-        ),
-        checked(
-            "an early end",
-            b"service_global_info = {",
-            2,
-            b"interface refused at 1:24: Syntax\n",
-        ),
-        checked(
-            "an early end behind a line",
-            b"service_global_info =\n",
-            2,
-            b"interface refused at 2:1: Syntax\n",
-        ),
-        checked(
-            "a script behind it",
-            INTERFACE,
-            2,
-            b"interface refused at 26:1: Lex\n",
-        ),
-        checked(
-            "another service",
-            &other_service,
-            2,
-            b"interface refused at 2:15: UnknownService\n",
-        ),
+    for (text, fault) in [
+        ("", "1:1: Syntax"),
+        ("service_global_info = #", "1:23: Lex"),
+        ("service_global_info = {", "1:24: Syntax"),
+        ("service_global_info =\n", "2:1: Syntax"),
     ] {
-        assert!(rt; holds(alloc, &case)?, "{}", case.what);
+        let line = format!(in alloc; "interface refused at {fault}\n")?;
+        assert!(rt;
+            holds(alloc, &checked(text.as_bytes(), 2, line.as_bytes()))?,
+            "{text}"
+        );
+        assert!(rt;
+            holds(alloc, &compiled(text.as_bytes(), 2, line.as_bytes()))?,
+            "{text}"
+        );
     }
+    // what stands behind it in an input of `sim`
+    let line = b"interface refused at 26:1: Lex\n";
+    assert!(rt; holds(alloc, &checked(INTERFACE, 2, line))?);
+    Ok(())
+}
+
+#[test]
+fn refuses_longer_texts(rt: HostRuntime) -> Result<(), Fail> {
+    let alloc = rt.alloc();
+    for length in [65537, 70000] {
+        let text = padded_text(alloc, length)?;
+        assert!(rt; holds(alloc, &checked(&text, 2, TOO_LONG))?, "{length}");
+        assert!(rt; holds(alloc, &compiled(&text, 2, TOO_LONG))?, "{length}");
+    }
+    Ok(())
+}
+
+#[test]
+fn refuses_another_service(rt: HostRuntime) -> Result<(), Fail> {
+    let alloc = rt.alloc();
+    let front = b"service_global_info = {\n    service = ";
+    let rest = lock_text().get(front.len() + 4..).ok_or("short")?;
+    let text = joined(alloc, &joined(alloc, front, b"door")?, rest)?;
+    let line = b"interface refused at 2:15: UnknownService\n";
+    assert!(rt; holds(alloc, &checked(&text, 2, line))?);
     Ok(())
 }
 
@@ -424,29 +712,20 @@ walk lock_alloc lock_take owner : lock_alloc lock_take
 #[test]
 fn compiles_texts(rt: HostRuntime) -> Result<(), Fail> {
     let alloc = rt.alloc();
-    let too_long = padded_text(alloc, 65537)?;
-    let lock = lock_text().ok_or("short")?;
-    let whole = compiled("locks", lock, 0, LOCK_TABLES);
-    for case in [
-        compiled("65,537 bytes", &too_long, 2, b"input refused: TooLong\n"),
-        compiled("no bytes", b"", 2, b"interface refused at 1:1: Syntax\n"),
-        Case {
-            what: "a failed read",
-            read: 1,
-            status: 4,
-            written: b"",
-            ..whole
-        },
-        Case {
-            what: "the second write of ten bytes fails",
-            write: 2,
-            status: 5,
-            written: b"service lo",
-            ..whole
-        },
-        whole,
+    for (read, write, status, written) in [
+        (0, 0, 0, LOCK_TABLES),
+        // the read of this number fails
+        (1, 0, 4, b""),
+        // the write of this number fails
+        (0, 1, 5, b""),
+        (0, 2, 5, b"service lo"),
     ] {
-        assert!(rt; holds(alloc, &case)?, "{}", case.what);
+        let case = Case {
+            read,
+            write,
+            ..compiled(lock_text(), status, written)
+        };
+        assert!(rt; holds(alloc, &case)?, "{read} {write}");
     }
     Ok(())
 }

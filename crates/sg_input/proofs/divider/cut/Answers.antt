@@ -9,7 +9,7 @@ pub returns-in-Some : goal.returns-in-Some
 returns-in-Some c =
     let d = c.in-Some.ensures in
     cut_at c.args.input.now c.lines.at c.split_at.result.0.now c.split_at.result.1.now d.0 c.in-Some.behind.now
-      c.lines.invariant.0 c.lines.invariant.1 c.lines.invariant.2 c.split_at.ensures.front c.split_at.ensures.back c.split_at.ensures.front_len d.1 d.2
+    c.lines.invariant.0 c.lines.invariant.1 c.lines.invariant.2 c.split_at.ensures.front c.split_at.ensures.back c.split_at.ensures.front_len d.1 d.2
 
 pub returns-in_err-at : goal.returns-in_err-at
 returns-in_err-at c =
@@ -23,7 +23,7 @@ lines-preserved c =
     let n = c.in_ok-at.ensures in
     subst
     (λ n. (c.lines.at + n ≤ length c.args.input.now) × AreLines (take (c.lines.at + n) c.args.input.now)
-      × ((before behind : List ℕ) → Divides c.args.input.now before behind → c.lines.at + n ≤ length before))
+    × ((before behind : List ℕ) → Divides c.args.input.now before behind → c.lines.at + n ≤ length before))
     (sym n.1)
     (next_line c.args.input.now c.lines.at c.split_at.result.1.now n.0 c.lines.invariant.0 c.lines.invariant.2 c.split_at.ensures.back
-      c.in_default.ensures n.2 n.3 n.4)
+    c.in_default.ensures n.2 n.3 n.4)

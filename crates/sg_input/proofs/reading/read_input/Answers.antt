@@ -14,6 +14,6 @@ returns-in-Accepted c =
       script_fits = omega (arith, c.if-script-gt-MOST_SCRIPT.false);
     } in
     IfOk-weaker c.read_script.result _ (IsInputOf (map facts_of c.args.shapes.now) c.args.input.now)
-      (λ made h. h c.args.input.now c.in-Some.interface.now (map facts_of c.args.shapes.now) texts
-        (subst (IsExamined (map facts_of c.args.shapes.now) c.in-Some.interface.now) c.in-Accepted.is c.in_ok-accepted.ensures))
-      c.read_script.ensures
+    (λ made h. h c.args.input.now c.in-Some.interface.now (map facts_of c.args.shapes.now) texts
+    (subst (IsExamined (map facts_of c.args.shapes.now) c.in-Some.interface.now) c.in-Accepted.is c.in_ok-accepted.ensures))
+    c.read_script.ensures
