@@ -4,20 +4,8 @@ use Rattle.std.proofs.lemmas.Result.{IfOk-weaker}
 use Rattle.sg_facts.specs.Facts.{facts_of}
 use Rattle.sg_input.specs.Inputs.{IsReady}
 use Rattle.superglue.specs.Answer.{IsPlayed, services}
-use Rattle.superglue.proofs.Fitting.{first_few, first_fit, lock_interface, ready_for_locks}
+use Rattle.superglue.proofs.Fitting.{ready_for_locks}
 use Rattle.superglue.proofs.output.simulated.Goals as goal
-
-pub run_of-requires-clause-calls : goal.run_of-requires-clause-calls
-run_of-requires-clause-calls c =
-    first_fit c.args.bytes.now c.interface.result.now c.in-Ready.script
-    (ready_for_locks c.args.bytes.now (facts_of c.shape.result) c.in_ok-accepted.field-0 c.in-Ready.accepted c.interface.result.now c.in-Ready.script
-    c.shape.ensures c.in-Ready.is c.interface.ensures.same c.in_ok-accepted.ensures)
-
-pub run_of-requires-clause-few : goal.run_of-requires-clause-few
-run_of-requires-clause-few c =
-    first_few c.args.bytes.now c.interface.result.now c.in-Ready.script
-    (ready_for_locks c.args.bytes.now (facts_of c.shape.result) c.in_ok-accepted.field-0 c.in-Ready.accepted c.interface.result.now c.in-Ready.script
-    c.shape.ensures c.in-Ready.is c.interface.ensures.same c.in_ok-accepted.ensures)
 
 pub returns-in-Ready : goal.returns-in-Ready
 returns-in-Ready c =
