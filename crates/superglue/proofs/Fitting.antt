@@ -22,14 +22,16 @@ use Rattle.sg_script.specs.declared.script.ScriptCall.{ScriptCall}
 use Rattle.sg_script.specs.declared.script.Script.{Script}
 use Rattle.sg_script.specs.Numbers.{counts_as}
 use Rattle.sg_script.specs.Scripts.{arg_of, call_of, calls_of_setup, clients_of, fun_named, number_from, placed, script_of, with_client}
-use Rattle.sg_script.specs.Flaws.{args_fit as written_fit, call_flaws, calls_before, calls_flaws, calls_in, flaw_if, flaws_behind, flaws_of, fun_flaws, inner_flaws, part_flaws}
+use Rattle.sg_script.specs.Flaws.{args_fit as written_fit, call_flaws, calls_before, calls_flaws, calls_in, client_flaws, flaw_if, flaws_behind, flaws_of, fun_flaws, inner_flaws, part_flaws}
 use Rattle.sg_sim.specs.Script.{args_fit, call_fits, calls_fit}
 use Rattle.sg_facts.specs.Facts.{Facts}
 use Rattle.sg_script.specs.declared.fault.ScriptKind.TheVariants.{Limit}
 use Rattle.sg_script.specs.Reads.{IsScript}
 use Rattle.sg_flaws.specs.Says.{service_of}
 use Rattle.sg_lock.specs.LockFacts.{lock_facts}
-use Rattle.sg_input.specs.Inputs.{IsReady}
+use Rattle.sg_input.specs.declared.input.Input.{Input}
+use Rattle.sg_input.specs.declared.input.Input.TheVariants.{Ready}
+use Rattle.sg_input.specs.Inputs.{IsInputOf, IsReady}
 use Rattle.superglue.specs.Answer.{services}
 use Rattle.superglue.specs.Runs.{first_calls, has_one_client, is_plain}
 
@@ -85,11 +87,13 @@ right false b e = absurd cc
 -- a function that is found by its name is declared
 found_declared : (i : Declared) (name : List ℕ) (n : ℕ) (funs : List Fun) (f : ℕ) → number_from i name n funs ≡ Some f → declares i f ≡ true
 found_declared i name n [] f e = absurd cc
-found_declared i name n (g ∷ funs) f e = by (pick (bytes_eq g.name name && declares i n) n f (number_from i name (n + 1) funs) e)
+found_declared i name n (g ∷ funs) f e =
+    by (pick (bytes_eq g.name name && declares i n) n f (number_from i name (n + 1) funs) e) (found_declared i name (n + 1) funs f)
   where
-    by : ((bytes_eq g.name name && declares i n ≡ true) × (n ≡ f)) ⊎ (number_from i name (n + 1) funs ≡ Some f) → declares i f ≡ true
-    by (inl (is, same)) = subst (λ v. declares i v ≡ true) same (right (bytes_eq g.name name) (declares i n) is)
-    by (inr later) = found_declared i name (n + 1) funs f later
+    by : ((bytes_eq g.name name && declares i n ≡ true) × (n ≡ f)) ⊎ (number_from i name (n + 1) funs ≡ Some f)
+        → (number_from i name (n + 1) funs ≡ Some f → declares i f ≡ true) → declares i f ≡ true
+    by (inl (is, same)) later = subst (λ v. declares i v ≡ true) same (right (bytes_eq g.name name) (declares i n) is)
+    by (inr found) later = later found
 
 fun_fits : (i : Declared) (in_setup : Bool) (own : ℕ) (c : WrittenCall) (found : Option ℕ) → fun_named i c.name.bytes ≡ found → fun_flaws i in_setup own c found ≡ []
     → call_fits i own (call_of i c) ≡ true
@@ -127,7 +131,7 @@ calls_few i in_setup nth own (c ∷ calls) le e =
 -- ---- parts
 
 -- a fact of each element
-Each : {A : Type 0} → (A → Type 0) → List A → Type 0
+abbrev Each : {A : Type 0} → (A → Type 0) → List A → Type 0
 Each P [] = Unit {0}
 Each P (x ∷ xs) = P x × Each P xs
 
@@ -139,23 +143,24 @@ record IsGood (i : Declared) (setup : ℕ) (c : ℕ × List ScriptCall) : Type 0
 placed_good : (P : ℕ × List ScriptCall → Type 0) (n : ℕ) (calls : List ScriptCall) (clients : List (ℕ × List ScriptCall))
     → P (n, calls) → Each P clients → Each P (placed n calls clients)
 placed_good P n calls [] good all = (good, tt)
-placed_good P n calls (c ∷ clients) good all = by (nat_lt c.0 n)
+placed_good P n calls (c ∷ clients) good all = by (nat_lt c.0 n) (placed_good P n calls clients good all.1)
   where
-    by : (b : Bool) → Each P (cond b (c ∷ placed n calls clients) ((n, calls) ∷ c ∷ clients))
-    by true = (all.0, placed_good P n calls clients good all.1)
-    by false = (good, all)
+    by : (b : Bool) → Each P (placed n calls clients) → Each P (cond b (c ∷ placed n calls clients) ((n, calls) ∷ c ∷ clients))
+    by true rest = (all.0, rest)
+    by false rest = (good, all)
 
 part_good : (i : Declared) (setup before : ℕ) (p : Part) (clients : List (ℕ × List ScriptCall)) → before ≤ 65536 → inner_flaws i setup before p ≡ []
     → Each (IsGood i setup) clients → Each (IsGood i setup) (with_client i p clients)
 part_good i setup before (Setup at calls) clients le e all = all
 part_good i setup before (Client at n calls) clients le e all =
-    let none : calls_flaws i false (before + 1) (calls_before setup (counts_as n.bytes) + 1) calls ≡ [] = back_none _ _ e in
+    let none : calls_flaws i false (before + 1) (calls_before setup (counts_as n.bytes) + 1) calls ≡ [] =
+    back_none (client_flaws n) (calls_flaws i false (before + 1) (calls_before setup (counts_as n.bytes) + 1) calls) e in
     let more : before + 1 ≤ 65537 = omega (arith, le) in
     let few : before + 1 + length calls ≤ 65537 = calls_few i false (before + 1) (calls_before setup (counts_as n.bytes) + 1) calls more none in
     placed_good (IsGood i setup) (counts_as n.bytes) (map (call_of i) calls) clients
     (record {
       fit = calls_all_fit i false (before + 1) (calls_before setup (counts_as n.bytes) + 1) calls none;
-      few = omega (arith, few, length-map (call_of i) calls);
+      few = omega (arith, few, length-map calls (call_of i));
     }) all
 part_good i setup before (Schedule at numbers) clients le e all = all
 part_good i setup before (Stop at numbers) clients le e all = all
@@ -167,8 +172,10 @@ part_few i setup before (Setup at calls) le e =
     let few : before + 1 + length calls ≤ 65537 = calls_few i true (before + 1) 1 calls more e in
     omega (arith, few)
 part_few i setup before (Client at n calls) le e =
+    let none : calls_flaws i false (before + 1) (calls_before setup (counts_as n.bytes) + 1) calls ≡ [] =
+    back_none (client_flaws n) (calls_flaws i false (before + 1) (calls_before setup (counts_as n.bytes) + 1) calls) e in
     let more : before + 1 ≤ 65537 = omega (arith, le) in
-    let few : before + 1 + length calls ≤ 65537 = calls_few i false (before + 1) (calls_before setup (counts_as n.bytes) + 1) calls more (back_none _ _ e) in
+    let few : before + 1 + length calls ≤ 65537 = calls_few i false (before + 1) (calls_before setup (counts_as n.bytes) + 1) calls more none in
     omega (arith, few)
 part_few i setup before (Schedule at numbers) le e = omega (arith, le)
 part_few i setup before (Stop at numbers) le e = omega (arith, le)
@@ -191,9 +198,21 @@ clients_good i setup front (p ∷ parts) clients le e all =
 
 -- ---- scripts of one client
 
+is_zero : (n : ℕ) → n == 0 ≡ true → n ≡ 0
+is_zero n e = grind (arith, nat_tests, e)
+
 no_length : {A B : Type 0} (f : A → B) (xs : List A) → length (map f xs) == 0 ≡ true → length xs ≡ 0
-no_length f [] e = refl
-no_length f (x ∷ xs) e = absurd cc
+no_length f xs e =
+    let zero : length (map f xs) ≡ 0 = is_zero (length (map f xs)) e in
+    omega (arith, zero, length-map xs f)
+
+-- without a setup a client's own calls are the first
+none_before : (setup client : ℕ) → setup ≡ 0 → calls_before setup client + 1 ≡ 1
+none_before setup client none = ap (λ (v : ℕ). v + 1) (by (client == 1))
+  where
+    by : (b : Bool) → cond b setup 0 ≡ 0
+    by true = none
+    by false = refl
 
 left : (a b : Bool) → a && b ≡ true → a ≡ true
 left true b e = refl
@@ -202,13 +221,7 @@ left false b e = absurd cc
 first_good : (i : Declared) (setup : ℕ) (clients : List (ℕ × List ScriptCall)) → setup ≡ 0 → has_one_client clients ≡ true → Each (IsGood i setup) clients
     → (calls_fit i 1 (first_calls clients) ≡ true) × (length (first_calls clients) ≤ 65536)
 first_good i setup [] none one all = (refl, omega arith)
-first_good i setup (c ∷ []) none one all =
-    let own : calls_before setup c.0 + 1 ≡ 1 = ap (λ v. calls_before v c.0 + 1) none ∙ ap (λ v. v + 1) (nothing (c.0 == 1)) in
-    (subst (λ v. calls_fit i v c.1 ≡ true) own all.0.fit, all.0.few)
-  where
-    nothing : (b : Bool) → cond b 0 0 ≡ 0
-    nothing true = refl
-    nothing false = refl
+first_good i setup (c ∷ []) none one all = (subst (λ v. calls_fit i v c.1 ≡ true) (none_before setup c.0 none) all.0.fit, all.0.few)
 first_good i setup (c ∷ other ∷ clients) none one all = absurd cc
 
 -- a script without a flaw that is played has calls that fit, and few enough
@@ -233,10 +246,17 @@ only_service name facts e = by (bytes_eq lock_facts.name name) e
     by true e = let g : lock_facts ≡ facts = cc in sym g
     by false e = absurd cc
 
+-- an input that is ready for locks, whose interface and facts are shown under other names
+pub ready_for_locks : (bytes : List ℕ) (facts : Facts) (made : Input) (i j : Declared) (script : Script) → facts ≡ lock_facts → made ≡ Ready i script → j ≡ i
+    → IsInputOf (facts ∷ []) bytes made → IsReady services bytes j script
+ready_for_locks bytes facts made i j script locks is same all =
+    let ready : IsReady (facts ∷ []) bytes i script = subst (IsInputOf (facts ∷ []) bytes) is all in
+    subst (λ v. IsReady services bytes v script) (sym same) (subst (λ f. IsReady (f ∷ []) bytes i script) locks ready)
+
 pub lock_interface : (bytes : List ℕ) (i : Declared) (script : Script) → IsReady services bytes i script → i.facts ≡ lock_facts
 lock_interface bytes i script ready =
     let accepted = ready.accepted.2 in
-    ap (λ v. v.facts) accepted.declared ∙ only_service _ accepted.facts accepted.service
+    ap (λ v. v.facts) accepted.declared ∙ only_service ready.accepted.0.facts.service.bytes accepted.facts accepted.service
 
 pub first_fit : (bytes : List ℕ) (i : Declared) (script : Script) → IsReady services bytes i script → is_plain script ≡ true
     → calls_fit i 1 (first_calls script.clients) ≡ true
