@@ -1,3 +1,4 @@
 pub mod Dividers
 pub mod Cuts
 pub mod OneCut
+pub mod OneInput

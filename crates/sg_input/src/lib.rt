@@ -4,7 +4,7 @@
 //! - `input`: an input that is refused or ready (`Input`)
 //! - `divider`: the two texts before and behind the first line of `%%` alone (`cut`)
 //! - `lines`: the lines that refuse an input
-//! - `laws`: an input is divided in one way
+//! - `laws`: an input is divided in one way, and is one thing
 //!
 //! `specs/Divider.antt` says where an input is divided, `specs/Lines.antt` which lines there are, and `specs/Inputs.antt` when
 //! which is the right one.
@@ -20,5 +20,5 @@ mod tests;
 
 pub use divider::cut;
 pub use input::Input;
-pub use laws::one_cut;
+pub use laws::{one_cut, one_input};
 pub use reading::read_input;

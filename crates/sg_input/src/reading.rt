@@ -4,6 +4,7 @@ ghost use Rattle.sg_facts.specs.Facts.{Facts, facts_of};
 ghost use Rattle.sg_check.specs.Shapes.{are_shapes};
 ghost use Rattle.sg_verdict.specs.Examined.{IsExamined};
 ghost use Rattle.sg_verdict.specs.declared.examined.Examined.TheVariants.{Accepted as accepted_as};
+ghost use Rattle.sg_input.specs.declared.input.Input.{Input as OneInput};
 ghost use Rattle.sg_input.specs.Inputs.{AreTexts, IsInputOf};
 
 use crate::Input;
@@ -29,6 +30,16 @@ const MOST_SCRIPT: usize = 4194304;
 /// the line and the byte in the line, from 1, in that text alone. The shapes are as for `verdict`. The only error is want of
 /// memory.
 pub fn read_input(alloc: Global, input: &[u8], shapes: &[Shape]) -> Result<Input, NoMemory>
+    requires { are_shapes (map facts_of shapes.now) ≡ true }
+    ensures input { IfOk result (IsInputOf (map facts_of shapes.now) input.now) }
+    // Nothing else may be answered.
+    ensures only { (other : OneInput) → IsInputOf (map facts_of shapes.now) input.now other → IfOk result (λ made. made ≡ other) }
+{
+    input_of(alloc, input, shapes)
+}
+
+// What `read_input` answers.
+fn input_of(alloc: Global, input: &[u8], shapes: &[Shape]) -> Result<Input, NoMemory>
     requires { are_shapes (map facts_of shapes.now) ≡ true }
     ensures { IfOk result (IsInputOf (map facts_of shapes.now) input.now) }
 {
