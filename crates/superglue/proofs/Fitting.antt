@@ -1,5 +1,5 @@
 -- What a script without a flaw has: its calls fit the interface, and there aren't too many.
-use Rattle.std.proofs.Common.{◌≡◌, ◌⊎◌, inl, inr, ℕ, zero, suc, ◌+◌, ◌<◌, ◌≤◌, Bool, true, false, not, ◌&&◌, List, [], ◌∷◌, ◌++◌, None, Some, cond, length, map, refl, sym, ◌∙◌, ap, subst, arith, length-append, append-nil}
+use Rattle.std.proofs.Common.{◌≡◌, ◌⊎◌, inl, inr, ℕ, ◌+◌, ◌≤◌, Bool, true, false, not, ◌&&◌, List, [], ◌∷◌, ◌++◌, None, Some, cond, length, map, refl, sym, ◌∙◌, ap, subst, arith, length-append, append-nil}
 use Rattle.std.proofs.lemmas.List.{length-map}
 use Rattle.std.specs.Prelude.{nat_le, nat_lt, unwrap_or, ◌==◌}
 use Rattle.std.specs.Str.{bytes_eq}
@@ -17,12 +17,11 @@ use Rattle.sg_script_grammar.specs.declared.tree.WrittenCall.{WrittenCall}
 use Rattle.sg_script_grammar.specs.declared.tree.Part.{Part}
 use Rattle.sg_script_grammar.specs.declared.tree.Part.TheVariants.{Setup, Client, Schedule, Stop}
 use Rattle.sg_script.specs.declared.fault.ScriptKind.{ScriptKind}
-use Rattle.sg_script.specs.declared.fault.ScriptFault.{ScriptFault}
 use Rattle.sg_script.specs.declared.script.ScriptCall.{ScriptCall}
 use Rattle.sg_script.specs.declared.script.Script.{Script}
 use Rattle.sg_script.specs.Numbers.{counts_as}
-use Rattle.sg_script.specs.Scripts.{arg_of, call_of, calls_of_setup, clients_of, fun_named, number_from, placed, script_of, with_client}
-use Rattle.sg_script.specs.Flaws.{args_fit as written_fit, call_flaws, calls_before, calls_flaws, calls_in, client_flaws, flaw_if, flaws_behind, flaws_of, fun_flaws, inner_flaws, part_flaws}
+use Rattle.sg_script.specs.Scripts.{arg_of, call_of, calls_of_setup, clients_of, fun_named, number_from, placed, with_client}
+use Rattle.sg_script.specs.Flaws.{args_fit as written_fit, call_flaws, calls_before, calls_flaws, calls_in, client_flaws, flaw_if, flaws_behind, fun_flaws, inner_flaws, part_flaws}
 use Rattle.sg_sim.specs.Script.{args_fit, call_fits, calls_fit}
 use Rattle.sg_facts.specs.Facts.{Facts}
 use Rattle.sg_script.specs.declared.fault.ScriptKind.TheVariants.{Limit}

@@ -1,5 +1,4 @@
 -- A script that is ready is played, or isn't yet.
-use Rattle.std.proofs.Common.{subst}
 use Rattle.std.proofs.lemmas.Result.{IfOk-weaker}
 use Rattle.sg_facts.specs.Facts.{facts_of}
 use Rattle.sg_input.specs.Inputs.{IsReady}
