@@ -10,5 +10,5 @@ pub returns-in-Ready : goal.returns-in-Ready
 returns-in-Ready c =
     let ready : IsReady services c.args.bytes.now c.interface.result.now c.in-Ready.script =
     ready_for_locks c.args.bytes.now (facts_of c.shape.result) c.in_ok-accepted.field-0 c.in-Ready.accepted c.interface.result.now c.in-Ready.script
-    c.shape.ensures c.in-Ready.is c.interface.ensures.same c.in_ok-accepted.ensures in
+    c.shape.ensures c.in-Ready.is c.interface.ensures.same c.in_ok-accepted.ensures.input in
     IfOk-weaker c.run_of.result _ (λ o. IsPlayed c.args.bytes.now o.ended o.status o.text) (λ o all. all c.args.bytes.now ready) c.run_of.ensures
