@@ -63,6 +63,6 @@ fn read_script(alloc: Global, accepted: Accepted, script: &[u8]) -> Result<Input
     match read(alloc, script, accepted.interface()) {
         Ok(script) => Ok(Input::Ready(accepted, script)),
         Err(ScriptError::NoMemory) => Err(NoMemory),
-        Err(ScriptError::Fault(fault)) => { Ok(Input::Refused(script_line(alloc, script, fault)?)) }
+        Err(ScriptError::Fault(fault)) => Ok(Input::Refused(script_line(alloc, script, fault)?)),
     }
 }
