@@ -1,8 +1,8 @@
 -- Lines that divide.
-use Rattle.std.proofs.Common.{◌≡◌, ◌≢◌, ◌⊎◌, inl, inr, ℕ, zero, suc, ◌+◌, ◌<◌, ◌≤◌, List, [], ◌∷◌, ◌++◌, refl, sym, ap, ◌∙◌, append-nil, Bor, length, take, drop, slice_index, arith}
+use Rattle.std.proofs.Common.{◌≡◌, ◌≢◌, inl, inr, ℕ, List, [], ◌++◌, refl, sym, ap, ◌∙◌, Bor}
 use Rattle.std.specs.Prelude.{codes, MatchOption, None, Some}
 use Rattle.std.specs.declared.option.Option.{Option}
-use Rattle.sg_input.specs.Divider.{AreLines, Divides, IsDivider}
+use Rattle.sg_input.specs.Divider.{IsDivider}
 
 -- no line of `%%` alone stands in front, where none of the three does
 pub no_divider : (rest line behind : List ℕ)

@@ -1,7 +1,7 @@
 -- What flawless parts have room for.
-use Rattle.std.proofs.Common.{◌≡◌, ℕ, zero, suc, ◌+◌, ◌<◌, ◌≤◌, Bool, true, false, not, ◌&&◌, List, [], ◌∷◌, ◌++◌, None, Some, Option, cond, length, refl, sym, ◌∙◌, ap, subst, arith, length-append, append-nil}
-use Rattle.std.specs.Prelude.{nat_le, nat_lt, position, ◌==◌, ◌^◌}
-use Rattle.std.specs.List.{flat_map, list_all, position_or_len, prefix_len}
+use Rattle.std.proofs.Common.{◌≡◌, ℕ, ◌+◌, ◌≤◌, Bool, true, false, not, ◌&&◌, List, [], ◌∷◌, ◌++◌, None, Some, Option, cond, length, refl, sym, ◌∙◌, ap, subst, arith, length-append, append-nil}
+use Rattle.std.specs.Prelude.{nat_le, nat_lt, position, ◌==◌}
+use Rattle.std.specs.List.{flat_map, list_all, position_or_len}
 use Rattle.std.proofs.lemmas.Bool.Decides.{nat_tests}
 use Rattle.std.proofs.lemmas.Grind.{flat_map-append}
 use Rattle.sg_base.specs.Text.{is_bad_byte, is_text_byte}
@@ -17,8 +17,7 @@ use Rattle.sg_script_grammar.specs.declared.tree.Part.{Part}
 use Rattle.sg_script_grammar.specs.declared.tree.Part.TheVariants.{Setup, Client, Schedule, Stop}
 use Rattle.sg_script.specs.declared.fault.ScriptKind.{ScriptKind}
 use Rattle.sg_script.specs.declared.fault.ScriptKind.TheVariants.{BadClient, Limit}
-use Rattle.sg_script.specs.declared.fault.ScriptFault.{ScriptFault}
-use Rattle.sg_script.specs.Numbers.{counts_as, is_client, is_text, unquoted}
+use Rattle.sg_script.specs.Numbers.{counts_as, is_text}
 use Rattle.sg_script.specs.Scripts.{calls_of_setup, fun_named}
 use Rattle.sg_script.specs.Flaws.{arg_fits, arg_flaws, args_fit, call_flaws, calls_before, calls_flaws, calls_in, client_flaws, flaw_if, flaws_behind, flaws_of, fun_flaws, inner_flaws, part_flaws}
 use Rattle.sg_script.specs.Held.{is_client_number, is_held, is_held_arg, is_held_call}
@@ -51,8 +50,8 @@ not_below n = grind (arith, nat_tests)
 pub no_bad_byte : (bytes : List ℕ) (at : ℕ) → list_all is_text_byte bytes ≡ true → position is_bad_byte bytes ≡ Some at → ⊥
 no_bad_byte bytes at all found =
     let none : position is_bad_byte bytes ≡ None =
-      ap (λ n. cond (nat_lt n (length bytes)) (Some n) None) (all_before bytes all)
-      ∙ ap (λ t. cond t (Some (length bytes)) None) (not_below (length bytes)) in
+    ap (λ n. cond (nat_lt n (length bytes)) (Some n) None) (all_before bytes all)
+    ∙ ap (λ t. cond t (Some (length bytes)) None) (not_below (length bytes)) in
     absurd cc
 
 pub is_no_text : (bytes : List ℕ) (at : ℕ) → is_text bytes ≡ true → position is_bad_byte bytes ≡ Some at → ⊥
@@ -138,10 +137,10 @@ all_few i setup front (p ∷ parts) le e =
     let few : length (flat_map calls_in front) + length (calls_in p) ≤ 65536 = part_few i setup (length (flat_map calls_in front)) p le inner in
     let more : length (flat_map calls_in (front ++ p ∷ [])) ≤ 65536 = subst (λ v. v ≤ 65536) (sym (counted front p)) few in
     let rest : length (flat_map calls_in (front ++ p ∷ [])) + length (flat_map calls_of_setup parts) ≤ 65536 =
-      all_few i setup (front ++ p ∷ []) parts more (behind_none i setup front p parts e) in
+    all_few i setup (front ++ p ∷ []) parts more (behind_none i setup front p parts e) in
     let own : length (calls_of_setup p) ≤ length (calls_in p) = setups_few p in
     let sum : length (flat_map calls_of_setup (p ∷ parts)) ≡ length (calls_of_setup p) + length (flat_map calls_of_setup parts) =
-      length-append (calls_of_setup p) (flat_map calls_of_setup parts) in
+    length-append (calls_of_setup p) (flat_map calls_of_setup parts) in
     omega (arith, rest, own, sum, counted front p)
 
 -- ---- what has room

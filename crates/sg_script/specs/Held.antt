@@ -1,5 +1,5 @@
 -- Parts whose numbers and texts have room in the types of a script.
-use Rattle.std.specs.Prelude.{ℕ, ◌&&◌, ◌^◌, Bool, true, nat_lt, List}
+use Rattle.std.specs.Prelude.{◌&&◌, ◌^◌, Bool, true, nat_lt}
 use Rattle.std.specs.List.{list_all}
 use Rattle.sg_script_grammar.specs.Spelling.{Spelling}
 use Rattle.sg_script_grammar.specs.declared.tree.WrittenArg.{WrittenArg}

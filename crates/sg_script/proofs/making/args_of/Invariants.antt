@@ -1,5 +1,5 @@
 -- The arguments so far.
-use Rattle.std.proofs.Common.{◌≡◌, ◌++◌, true, drop, map, take}
+use Rattle.std.proofs.Common.{◌≡◌, true, drop, map, take}
 use Rattle.std.specs.List.{list_all}
 use Rattle.sg_script.specs.Scripts.{arg_of}
 use Rattle.sg_script.specs.Held.{is_held_arg}

@@ -1,5 +1,5 @@
 -- The turns so far.
-use Rattle.std.proofs.Common.{◌≡◌, ◌++◌, true, drop, map, take}
+use Rattle.std.proofs.Common.{◌≡◌, true, drop, map, take}
 use Rattle.std.specs.List.{flat_map, list_all}
 use Rattle.sg_script.specs.Numbers.{counts_as}
 use Rattle.sg_script.specs.Scripts.{turns_of}

@@ -1,5 +1,5 @@
 -- The calls so far.
-use Rattle.std.proofs.Common.{◌≡◌, ◌++◌, true, drop, map, take}
+use Rattle.std.proofs.Common.{◌≡◌, true, drop, map, take}
 use Rattle.std.specs.List.{flat_map, list_all}
 use Rattle.sg_script.specs.Scripts.{call_of, calls_of_setup}
 use Rattle.sg_script.specs.Held.{is_held}
