@@ -1,5 +1,5 @@
 -- An input is one thing: its two texts are one pair, and each of them has one reading.
-use Rattle.std.proofs.Common.{◌≡◌, ◌≢◌, ◌⊎◌, inl, inr, ℕ, ◌<◌, ◌≤◌, List, Some, IfOk, length, refl, sym, ◌∙◌, ap, subst, arith}
+use Rattle.std.proofs.Common.{◌≡◌, inl, inr, ℕ, ◌<◌, ◌≤◌, List, Some, IfOk, length, refl, sym, ◌∙◌, ap, subst, arith}
 use Rattle.std.specs.Prelude.{Ok, Err}
 use Rattle.std.specs.declared.result.Result.{Result}
 use Rattle.sg_base.specs.declared.memory.NoMemory.{NoMemory}
@@ -7,7 +7,6 @@ use Rattle.sg_lex.specs.Tokens.{answers_of}
 use Rattle.sg_facts.specs.Facts.{Facts}
 use Rattle.sg_facts.specs.Interface.{Declared}
 use Rattle.sg_grammar.specs.declared.error.ParseError.{ParseError}
-use Rattle.sg_grammar.specs.declared.error.ParseError.TheVariants.{NoMemory as no_memory}
 use Rattle.sg_grammar.specs.declared.tree.Tree.{Tree}
 use Rattle.sg_grammar.specs.Parses.{Parses}
 use Rattle.sg_grammar.proofs.Readings.{only_answer}
@@ -24,8 +23,7 @@ use Rattle.sg_script.specs.Reads.{Reads}
 use Rattle.sg_script.proofs.Unique.{one_reading}
 use Rattle.sg_input.specs.declared.input.Input.{Input}
 use Rattle.sg_input.specs.declared.input.Input.TheVariants.{Refused, Ready}
-use Rattle.sg_input.specs.Divider.{Divides, IsCut}
-use Rattle.sg_input.specs.Lines.{no_divider_line, script_line, too_long_line}
+use Rattle.sg_input.specs.Lines.{script_line}
 use Rattle.sg_input.specs.Inputs.{AreTexts, HasLongText, HasNoDivider, IsBadInterface, IsBadScript, IsInputOf, IsInterface, IsReady, most_interface, most_script}
 use Rattle.sg_input.proofs.OneCut.{one_cut}
 
@@ -59,7 +57,7 @@ Parsed = Result Tree ParseError
 one_tree : (text : List ℕ) (one other : Tree) → Parses text (Ok one) → Parses text (Ok other) → one ≡ other
 one_tree text one other p q =
     let same : ◌≡◌ {A = Parsed} (Ok one) (Ok other) =
-      sym (only_answer (length text) (answers_of text) (Ok one) p (λ e. cc)) ∙ only_answer (length text) (answers_of text) (Ok other) q (λ e. cc) in cc same
+    sym (only_answer (length text) (answers_of text) (Ok one) p (λ e. cc)) ∙ only_answer (length text) (answers_of text) (Ok other) q (λ e. cc) in cc same
 
 one_declared : (services : List Facts) (tree : Tree) (i j : Declared) → IsAccepted services tree i → IsAccepted services tree j → i ≡ j
 one_declared services tree i j a b =
@@ -74,7 +72,7 @@ one_interface services text i j (tree, p, is) (tree', q, is') =
 not_refused : (services : List Facts) (text : List ℕ) (i : Declared) (line : List ℕ) → IsInterface services text i → IsVerdict services text (refused line) → ⊥
 not_refused services text i line (tree, p, is) said =
     let same : ◌≡◌ {A = Verdict} (accepted (accepted_line i.facts.name)) (refused line) =
-      one_verdict services text (accepted (accepted_line i.facts.name)) (refused line) (tree, i, p, is, refl) said in absurd cc
+    one_verdict services text (accepted (accepted_line i.facts.name)) (refused line) (tree, i, p, is, refl) said in absurd cc
 
 -- ---- the script
 
@@ -162,11 +160,11 @@ one_line services input line line' (inr (inr (inr bad))) (inr (inr (inr bad'))) 
 one_ready : (services : List Facts) (input : List ℕ) (i j : Declared) (script script' : Script) → IsReady services input i script → IsReady services input j script'
     → (i ≡ j) × (script ≡ script')
 one_ready services input i j script script' a b = (
-      one_interface services a.interface i j a.accepted
+  one_interface services a.interface i j a.accepted
       (subst (λ v. IsInterface services v j) (sym (same_interface input a.interface a.script b.interface b.script a.texts b.texts)) b.accepted),
-      one_script i a.script script script' a.reads
+  one_script i a.script script script' a.reads
       (moved services input a.interface a.script b.interface b.script i j (Ok script') a.texts b.texts a.accepted b.accepted b.reads),
-    )
+)
 
 pub one_input : (services : List Facts) (input : List ℕ) (one other : Input) → IsInputOf services input one → IsInputOf services input other → one ≡ other
 one_input services input (Refused line) (Refused line') a b = ap Refused (one_line services input line line' a b)

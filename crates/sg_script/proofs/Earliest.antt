@@ -1,13 +1,13 @@
 -- The first of flaws: it is what is kept, and there is one at most.
-use Rattle.std.proofs.Common.{◌≡◌, ◌⊎◌, ℕ, suc, zero, ◌<◌, ◌≤◌, Bool, true, false, if◌then◌else◌, ◌==◌, List, [], ◌∷◌, length, get_or, None, Some, Option, refl, sym, ◌∙◌, ap, subst, inl, inr, arith}
+use Rattle.std.proofs.Common.{◌≡◌, ◌⊎◌, ℕ, suc, zero, true, false, if◌then◌else◌, ◌==◌, List, [], ◌∷◌, None, Some, Option, refl, sym, ◌∙◌, ap, subst, inl, inr, arith}
 use Rattle.std.specs.Prelude.{MatchOption}
-use Rattle.std.specs.List.{Contains, fold}
+use Rattle.std.specs.List.{Contains}
 use Rattle.std.proofs.lemmas.Bool.{cases_order}
 use Rattle.std.proofs.lemmas.Bool.Decides.{leb_tells, nat_tests}
 use Rattle.sg_script.specs.declared.fault.ScriptFault.{ScriptFault}
 use Rattle.sg_script.specs.declared.fault.ScriptKind.{ScriptKind}
 use Rattle.sg_script.specs.declared.fault.ScriptKind.TheVariants.{Syntax, UnknownFunction, BadArgs, BadClient, Twice, NotAscending, Blocking, Limit}
-use Rattle.sg_script.specs.Firsts.{earlier, first_behind, is_not_after}
+use Rattle.sg_script.specs.Firsts.{first_behind, is_not_after}
 use Rattle.sg_script.specs.Flaws.{IsFirst, IsNotAfter, rank}
 
 -- ---- the order
@@ -105,20 +105,24 @@ gives_way f x xs g le one = record {
 }
 
 kept_is_first : (f : ScriptFault) (xs : List ScriptFault) → (g : ScriptFault) × (first_behind (Some f) xs ≡ Some g) × IsFirst (f ∷ xs) g
-kept_is_first f [] = (f, refl, record {
-  there = at_front f [];
-  first = λ h there. elim (in_front f [] h there) [
-    | inl same ↦ subst (λ k. IsNotAfter f k) same (inr (refl, omega arith))
-    | inr later ↦ absurd (omega (arith, later.1))
-  ];
-})
+kept_is_first f [] = (
+  f,
+  refl,
+  record {
+    there = at_front f [];
+    first = λ h there. elim (in_front f [] h there) [
+      | inl same ↦ subst (λ k. IsNotAfter f k) same (inr (refl, omega arith))
+      | inr later ↦ absurd (omega (arith, later.1))
+    ];
+  },
+)
 kept_is_first f (x ∷ xs) = elim (one_first f x) [
   | inl le ↦
-    let more = kept_is_first f xs in
-    (more.0, ap (λ b. first_behind (Some (if b then f else x)) xs) le.0 ∙ more.1, passes f x xs more.0 le.1 more.2)
+      let more = kept_is_first f xs in
+      (more.0, ap (λ b. first_behind (Some (if b then f else x)) xs) le.0 ∙ more.1, passes f x xs more.0 le.1 more.2)
   | inr ge ↦
-    let more = kept_is_first x xs in
-    (more.0, ap (λ b. first_behind (Some (if b then f else x)) xs) ge.0 ∙ more.1, gives_way f x xs more.0 ge.1 more.2)
+      let more = kept_is_first x xs in
+      (more.0, ap (λ b. first_behind (Some (if b then f else x)) xs) ge.0 ∙ more.1, gives_way f x xs more.0 ge.1 more.2)
 ]
 
 abbrev no_flaw : List ScriptFault

@@ -1,4 +1,5 @@
 pub mod Digits
 pub mod Earliest
+pub mod Held
 pub mod Naming
 pub mod Unique

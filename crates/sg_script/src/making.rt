@@ -1,14 +1,15 @@
 // What a script stands for.
-ghost use Rattle.std.specs.Prelude.{◌≡◌, ◌≤◌, ◌++◌, List, length, map, IfOk, OnOk};
-ghost use Rattle.std.specs.List.{flat_map, insert};
+ghost use Rattle.std.specs.Prelude.{◌≡◌, ◌≤◌, ◌++◌, List, length, map, true, IfOk, OnOk};
+ghost use Rattle.std.specs.List.{flat_map, insert, list_all};
 ghost use Rattle.sg_script.specs.declared.script.ScriptCall.{ScriptCall as OneCall};
-ghost use Rattle.sg_script.specs.Numbers.{counts_as};
+ghost use Rattle.sg_script.specs.Held.{is_client_number, is_held, is_held_arg, is_held_call};
+ghost use Rattle.sg_script.specs.Numbers.{counts_as, is_text};
 ghost use Rattle.sg_script.specs.Scripts.{arg_of, call_of, calls_of_setup, clients_of, placed, script_of, stops_of, turns_of, with_client};
 
 use crate::names::fun_named;
 use crate::numbers::{counts_as, unquoted};
 use crate::script::{Arg, ArgList, CallList, ClientList, Script, ScriptCall, TurnList};
-use sg_base::{NoMemory, PointList, Text};
+use sg_base::{NoMemory, PointList, Text, TextFault};
 use sg_facts::Interface;
 use sg_script_grammar::{Part, Spelled, WrittenArg, WrittenCall};
 use std::alloc::Global;
@@ -16,41 +17,43 @@ use std::alloc::Global;
 // ---- numbers
 
 // The number of a client.
-fn client_of(number: &Spelled) -> Result<u8, NoMemory>
-    ensures { IfOk result (λ n. n ≡ counts_as number.now.bytes) }
+fn client_of(number: &Spelled) -> u8
+    requires { is_client_number number.now ≡ true }
+    ensures { result ≡ counts_as number.now.bytes }
 {
-    u8::try_from(counts_as(number.slice)).map_err(|_| NoMemory)
-}
-
-// The number of a call.
-fn back_of(number: &Spelled) -> Result<u32, NoMemory>
-    ensures { IfOk result (λ n. n ≡ counts_as number.now.bytes) }
-{
-    u32::try_from(counts_as(number.slice)).map_err(|_| NoMemory)
+    counts_as(number.slice) as u8
 }
 
 // ---- calls
 
 // What an argument stands for.
 fn arg_of(alloc: Global, arg: &WrittenArg) -> Result<Arg, NoMemory>
+    requires { is_held_arg arg.now ≡ true }
     ensures { IfOk result (λ made. made ≡ arg_of arg.now) }
 {
     match arg {
         WrittenArg::Number(number) => Ok(Arg::Number(counts_as(number.slice))),
         WrittenArg::Text(text) => Ok(Arg::Text(text_of(alloc, unquoted(text.slice))?)),
-        WrittenArg::Back(number) => Ok(Arg::Back(back_of(number)?)),
+        WrittenArg::Back(number) => Ok(Arg::Back(counts_as(number.slice) as u32)),
     }
 }
 
 // The text of these bytes.
 fn text_of(alloc: Global, bytes: &[u8]) -> Result<Text, NoMemory>
+    requires { is_text bytes.now ≡ true }
     ensures { IfOk result (λ text. text ≡ bytes.now) }
 {
-    Text::new(alloc, bytes).map_err(|_| NoMemory)
+    match Text::new(alloc, bytes) {
+        Ok(text) => Ok(text),
+        Err(TextFault::NoMemory) => Err(NoMemory),
+        Err(TextFault::BadByte { .. }) => unreachable!(),
+        Err(TextFault::TooLong) => unreachable!(),
+    }
 }
 
 // What arguments stand for.
 fn args_of(alloc: Global, args: &[WrittenArg]) -> Result<ArgList, NoMemory>
+    requires { list_all is_held_arg args.now ≡ true }
     ensures { IfOk result (λ made. made ≡ map arg_of args.now) }
 {
     let mut made = Vec::with_capacity(alloc, args.len())?;
@@ -62,6 +65,7 @@ fn args_of(alloc: Global, args: &[WrittenArg]) -> Result<ArgList, NoMemory>
 
 // What a call stands for.
 fn call_of(alloc: Global, iface: &Interface, call: &WrittenCall) -> Result<ScriptCall, NoMemory>
+    requires { is_held_call call.now ≡ true }
     ensures { IfOk result (λ made. made ≡ call_of iface.now call.now) }
 {
     Ok(ScriptCall {
@@ -77,6 +81,7 @@ fn add_calls(
     calls: &[WrittenCall],
     made: &mut Vec<ScriptCall>,
 ) -> Result<(), NoMemory>
+    requires { list_all is_held_call calls.now ≡ true }
     ensures { OnOk result (made.new.items ≡ made.old.items ++ map (call_of iface.now) calls.now) }
 {
     made.reserve_exact(calls.len())?;
@@ -88,6 +93,7 @@ fn add_calls(
 
 // The calls of setups.
 fn setup_of(alloc: Global, iface: &Interface, parts: &[Part]) -> Result<CallList, NoMemory>
+    requires { list_all is_held parts.now ≡ true }
     ensures { IfOk result (λ made. made ≡ map (call_of iface.now) (flat_map calls_of_setup parts.now)) }
 {
     let mut made = Vec::new(alloc);
@@ -132,18 +138,20 @@ fn add_part(
     part: &Part,
     clients: &mut Vec<(u8, CallList)>,
 ) -> Result<(), NoMemory>
+    requires { is_held part.now ≡ true }
     ensures { OnOk result (clients.new.items ≡ with_client iface.now part.now clients.old.items) }
 {
     if let Part::Client { number, calls, .. } = part {
         let mut made = Vec::new(alloc);
         add_calls(alloc, iface, calls.as_slice(), &mut made)?;
-        add_client(client_of(number)?, CallList::from_vec(made), clients)?;
+        add_client(client_of(number), CallList::from_vec(made), clients)?;
     }
     Ok(())
 }
 
 // The clients of parts, in ascending numbers.
 fn clients_of(alloc: Global, iface: &Interface, parts: &[Part]) -> Result<ClientList, NoMemory>
+    requires { list_all is_held parts.now ≡ true }
     ensures { IfOk result (λ made. made ≡ clients_of iface.now parts.now) }
 {
     let mut made = Vec::new(alloc);
@@ -157,17 +165,19 @@ fn clients_of(alloc: Global, iface: &Interface, parts: &[Part]) -> Result<Client
 
 // Puts turns behind others.
 fn add_turns(numbers: &[Spelled], made: &mut Vec<u8>) -> Result<(), NoMemory>
+    requires { list_all is_client_number numbers.now ≡ true }
     ensures { OnOk result (made.new.items ≡ made.old.items ++ map (λ n. counts_as n.bytes) numbers.now) }
 {
     made.reserve_exact(numbers.len())?;
     'each: for number in numbers {
-        made.push(client_of(number)?)?;
+        made.push(client_of(number))?;
     }
     Ok(())
 }
 
 // The turns of schedules.
 fn schedule_of(alloc: Global, parts: &[Part]) -> Result<TurnList, NoMemory>
+    requires { list_all is_held parts.now ≡ true }
     ensures { IfOk result (λ made. made ≡ map (λ n. counts_as n.bytes) (flat_map turns_of parts.now)) }
 {
     let mut made = Vec::new(alloc);
@@ -205,8 +215,9 @@ fn stops_of(alloc: Global, parts: &[Part]) -> Result<PointList, NoMemory>
 
 // ---- the script
 
-/// The script of parts for an interface.
+/// The script of parts for an interface. Their numbers and texts have room in it, as those of flawless parts have.
 pub fn script_of(alloc: Global, iface: &Interface, parts: &[Part]) -> Result<Script, NoMemory>
+    requires { list_all is_held parts.now ≡ true }
     ensures { IfOk result (λ script. script ≡ script_of iface.now parts.now) }
 {
     Ok(Script {

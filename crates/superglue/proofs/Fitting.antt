@@ -1,9 +1,8 @@
 -- What a script without a flaw has: its calls fit the interface, and there aren't too many.
-use Rattle.std.proofs.Common.{◌≡◌, ◌⊎◌, inl, inr, ℕ, ◌+◌, ◌≤◌, Bool, true, false, not, ◌&&◌, List, [], ◌∷◌, ◌++◌, None, Some, cond, length, map, refl, sym, ◌∙◌, ap, subst, arith, length-append, append-nil}
+use Rattle.std.proofs.Common.{◌≡◌, ◌⊎◌, inl, inr, ℕ, ◌+◌, ◌≤◌, Bool, true, false, ◌&&◌, List, [], ◌∷◌, ◌++◌, None, Some, cond, length, map, refl, sym, ◌∙◌, ap, subst, arith}
 use Rattle.std.proofs.lemmas.List.{length-map}
 use Rattle.std.specs.Prelude.{nat_le, nat_lt, unwrap_or, ◌==◌}
 use Rattle.std.specs.Str.{bytes_eq}
-use Rattle.std.proofs.lemmas.Grind.{flat_map-append}
 use Rattle.std.proofs.lemmas.Bool.Decides.{nat_tests}
 use Rattle.std.specs.declared.option.Option.{Option}
 use Rattle.std.specs.List.{flat_map, fold}
@@ -16,15 +15,14 @@ use Rattle.sg_script_grammar.specs.declared.tree.WrittenArg.TheVariants.{Number,
 use Rattle.sg_script_grammar.specs.declared.tree.WrittenCall.{WrittenCall}
 use Rattle.sg_script_grammar.specs.declared.tree.Part.{Part}
 use Rattle.sg_script_grammar.specs.declared.tree.Part.TheVariants.{Setup, Client, Schedule, Stop}
-use Rattle.sg_script.specs.declared.fault.ScriptKind.{ScriptKind}
 use Rattle.sg_script.specs.declared.script.ScriptCall.{ScriptCall}
 use Rattle.sg_script.specs.declared.script.Script.{Script}
 use Rattle.sg_script.specs.Numbers.{counts_as}
 use Rattle.sg_script.specs.Scripts.{arg_of, call_of, calls_of_setup, clients_of, fun_named, number_from, placed, with_client}
-use Rattle.sg_script.specs.Flaws.{args_fit as written_fit, call_flaws, calls_before, calls_flaws, calls_in, client_flaws, flaw_if, flaws_behind, fun_flaws, inner_flaws, part_flaws}
+use Rattle.sg_script.specs.Flaws.{args_fit as written_fit, call_flaws, calls_before, calls_flaws, calls_in, client_flaws, flaws_behind, fun_flaws, inner_flaws, part_flaws}
+use Rattle.sg_script.proofs.Held.{back_none, both, calls_few, counted, front_none, is_true, not_flawed, part_few}
 use Rattle.sg_sim.specs.Script.{args_fit, call_fits, calls_fit}
 use Rattle.sg_facts.specs.Facts.{Facts}
-use Rattle.sg_script.specs.declared.fault.ScriptKind.TheVariants.{Limit}
 use Rattle.sg_script.specs.Reads.{IsScript}
 use Rattle.sg_flaws.specs.Says.{service_of}
 use Rattle.sg_lock.specs.LockFacts.{lock_facts}
@@ -33,27 +31,6 @@ use Rattle.sg_input.specs.declared.input.Input.TheVariants.{Ready}
 use Rattle.sg_input.specs.Inputs.{IsInputOf, IsReady}
 use Rattle.superglue.specs.Answer.{services}
 use Rattle.superglue.specs.Runs.{first_calls, has_one_client, is_plain}
-
--- ---- no flaws
-
-front_none : {A : Type 0} (xs ys : List A) → xs ++ ys ≡ [] → xs ≡ []
-front_none [] ys e = refl
-front_none (x ∷ xs) ys e = absurd cc
-
-back_none : {A : Type 0} (xs ys : List A) → xs ++ ys ≡ [] → ys ≡ []
-back_none [] ys e = e
-back_none (x ∷ xs) ys e = absurd cc
-
-not_flawed : (b : Bool) (kind : ScriptKind) (at : ℕ) → flaw_if b kind at ≡ [] → b ≡ false
-not_flawed true kind at e = absurd cc
-not_flawed false kind at e = refl
-
-is_true : (b : Bool) → not b ≡ false → b ≡ true
-is_true true e = refl
-is_true false e = absurd cc
-
-both : (a b : Bool) → a ≡ true → b ≡ true → a && b ≡ true
-both a b x y = ap (λ v. v && b) x ∙ y
 
 -- ---- calls
 
@@ -112,21 +89,6 @@ calls_all_fit i in_setup nth own [] e = refl
 calls_all_fit i in_setup nth own (c ∷ calls) e =
     both (call_fits i own (call_of i c)) _ (call_fit i in_setup nth own c (front_none _ _ e)) (calls_all_fit i in_setup (nth + 1) (own + 1) calls (back_none _ _ e))
 
--- where a call isn't the first that is one too many, one more may come
-not_last : (nth : ℕ) → nth == 65537 ≡ false → nth ≤ 65537 → nth + 1 ≤ 65537
-not_last nth e le = grind (arith, nat_tests, e, le)
-
-calls_few : (i : Declared) (in_setup : Bool) (nth own : ℕ) (calls : List WrittenCall) → nth ≤ 65537 → calls_flaws i in_setup nth own calls ≡ []
-    → nth + length calls ≤ 65537
-calls_few i in_setup nth own [] le e = omega (arith, le)
-calls_few i in_setup nth own (c ∷ calls) le e =
-    let one : call_flaws i in_setup nth own c ≡ [] = front_none (call_flaws i in_setup nth own c) (calls_flaws i in_setup (nth + 1) (own + 1) calls) e in
-    let rest : calls_flaws i in_setup (nth + 1) (own + 1) calls ≡ [] = back_none (call_flaws i in_setup nth own c) (calls_flaws i in_setup (nth + 1) (own + 1) calls) e in
-    let last : nth == 65537 ≡ false = not_flawed (nth == 65537) Limit c.name.at (back_none (fun_flaws i in_setup own c (fun_named i c.name.bytes)) _ (front_none _ _ one)) in
-    let more : nth + 1 ≤ 65537 = not_last nth last le in
-    let few : nth + 1 + length calls ≤ 65537 = calls_few i in_setup (nth + 1) (own + 1) calls more rest in
-    omega (arith, few)
-
 -- ---- parts
 
 -- a fact of each element
@@ -163,26 +125,6 @@ part_good i setup before (Client at n calls) clients le e all =
     }) all
 part_good i setup before (Schedule at numbers) clients le e all = all
 part_good i setup before (Stop at numbers) clients le e all = all
-
--- no part brings the calls above the most
-part_few : (i : Declared) (setup before : ℕ) (p : Part) → before ≤ 65536 → inner_flaws i setup before p ≡ [] → before + length (calls_in p) ≤ 65536
-part_few i setup before (Setup at calls) le e =
-    let more : before + 1 ≤ 65537 = omega (arith, le) in
-    let few : before + 1 + length calls ≤ 65537 = calls_few i true (before + 1) 1 calls more e in
-    omega (arith, few)
-part_few i setup before (Client at n calls) le e =
-    let none : calls_flaws i false (before + 1) (calls_before setup (counts_as n.bytes) + 1) calls ≡ [] =
-    back_none (client_flaws n) (calls_flaws i false (before + 1) (calls_before setup (counts_as n.bytes) + 1) calls) e in
-    let more : before + 1 ≤ 65537 = omega (arith, le) in
-    let few : before + 1 + length calls ≤ 65537 = calls_few i false (before + 1) (calls_before setup (counts_as n.bytes) + 1) calls more none in
-    omega (arith, few)
-part_few i setup before (Schedule at numbers) le e = omega (arith, le)
-part_few i setup before (Stop at numbers) le e = omega (arith, le)
-
-counted : (front : List Part) (p : Part) → length (flat_map calls_in (front ++ p ∷ [])) ≡ length (flat_map calls_in front) + length (calls_in p)
-counted front p =
-    ap length (flat_map-append calls_in front (p ∷ []) ∙ ap (λ v. flat_map calls_in front ++ v) (append-nil (calls_in p)))
-    ∙ length-append (flat_map calls_in front) (calls_in p)
 
 clients_good : (i : Declared) (setup : ℕ) (front parts : List Part) (clients : List (ℕ × List ScriptCall)) → length (flat_map calls_in front) ≤ 65536
     → flaws_behind i setup front parts ≡ [] → Each (IsGood i setup) clients → Each (IsGood i setup) (fold (λ clients p. with_client i p clients) clients parts)

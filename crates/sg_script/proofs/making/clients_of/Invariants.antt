@@ -1,10 +1,12 @@
 -- What the parts that are left add to the clients so far.
-use Rattle.std.proofs.Common.{◌≡◌, drop}
-use Rattle.std.specs.List.{fold}
+use Rattle.std.proofs.Common.{◌≡◌, true, drop}
+use Rattle.std.specs.List.{fold, list_all}
 use Rattle.sg_script.specs.Scripts.{clients_of, with_client}
+use Rattle.sg_script.specs.Held.{is_held}
 use Rattle.sg_script.proofs.making.clients_of.Given as goal
 
 abbrev pub invariant-each : goal.invariant-each
 invariant-each l = record {
   left : fold (λ clients p. with_client l.iface p clients) l.made.items (drop l.part-index l.parts) ≡ clients_of l.iface l.parts;
+  held : list_all is_held (drop l.part-index l.parts) ≡ true;
 }

@@ -1,5 +1,5 @@
 -- The stops so far.
-use Rattle.std.proofs.Common.{◌≡◌, ◌++◌, map, take}
+use Rattle.std.proofs.Common.{◌≡◌, map, take}
 use Rattle.std.specs.List.{flat_map}
 use Rattle.sg_script.specs.Numbers.{counts_as}
 use Rattle.sg_script.specs.Scripts.{stops_of}
