@@ -1,0 +1,5 @@
+pub mod EventRuns
+pub mod LockRuns
+pub mod MmRuns
+pub mod RamfsRuns
+pub mod SchedRuns
