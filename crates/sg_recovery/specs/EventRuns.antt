@@ -35,17 +35,17 @@ trigger_not_twice_ends = (1, Done) ∷ (2, Blocked (call_of 2 2 2 1)) ∷ []
 abbrev pub trigger_not_twice : Trace
 trigger_not_twice = record {
   boots =
-    boot (
+      boot (
       called (call_of 1 1 1 0) 0 4 (replied (ok_at 1))
       ∷ called (call_with 1 2 3 1 ((word 1) ∷ [])) 1 8 (replied (ok))
       ∷ []) (Some 9)
-    ∷ boot (
+      ∷ boot (
       walked 1 1 2 (call_of 1 0 1 0) 0 13 (replied (ok_at 1))
       ∷ walked 1 2 2 (call_with 1 0 3 1 ((word 1) ∷ [])) 1 16 (replied (ok))
       ∷ called (call_of 2 1 2 1) 1 19 (replied (ok))
       ∷ called (call_of 2 2 2 1) 1 21 Blocks
       ∷ []) None
-    ∷ [];
+      ∷ [];
   points = 21;
 }
 
@@ -63,15 +63,15 @@ blocked_redone_ends = (1, Done) ∷ (2, Done) ∷ []
 abbrev pub blocked_redone : Trace
 blocked_redone = record {
   boots =
-    boot (
+      boot (
       called (call_of 1 1 1 0) 0 4 (replied (ok_at 1))
       ∷ called (call_of 2 1 2 1) 1 6 Blocks
       ∷ []) (Some 7)
-    ∷ boot (
+      ∷ boot (
       walked 1 1 2 (call_of 1 0 1 0) 0 11 (replied (ok_at 1))
       ∷ called (call_with 1 2 3 1 ((word 1) ∷ [])) 1 14 (replied (ok))
       ∷ called (call_of 2 1 2 1) 1 18 (replied (ok))
       ∷ []) None
-    ∷ [];
+      ∷ [];
   points = 19;
 }

@@ -36,17 +36,17 @@ stop_after_take_ends = (1, Done) ∷ []
 abbrev pub stop_after_take : Trace
 stop_after_take = record {
   boots =
-    boot (
+      boot (
       called (call_of 1 1 1 0) 0 4 (replied (ok_at 1))
       ∷ called (call_of 1 2 2 1) 1 8 (replied (ok))
       ∷ []) (Some 9)
-    ∷ boot (
+      ∷ boot (
       walked 1 1 1 (call_of 1 0 1 0) 0 13 (replied (ok_at 1))
       ∷ walked 1 2 1 (call_of 1 0 2 1) 1 16 (replied (ok))
       ∷ called (call_of 1 3 3 1) 1 19 (replied (ok))
       ∷ called (call_of 1 4 4 1) 1 23 (replied (ok))
       ∷ []) None
-    ∷ [];
+      ∷ [];
   points = 24;
 }
 
@@ -65,17 +65,17 @@ stop_before_storage_ends = (1, Done) ∷ []
 abbrev pub stop_before_storage : Trace
 stop_before_storage = record {
   boots =
-    boot (
+      boot (
       called (call_of 1 1 1 0) 0 4 (replied (ok_at 1))
       ∷ called (call_of 1 2 2 1) 1 8 Stopped
       ∷ []) (Some 8)
-    ∷ boot (
+      ∷ boot (
       walked 1 1 1 (call_of 1 0 1 0) 0 12 (replied (ok_at 1))
       ∷ called (call_of 1 2 2 1) 1 15 (replied (ok))
       ∷ called (call_of 1 3 3 1) 1 19 (replied (ok))
       ∷ called (call_of 1 4 4 1) 1 23 (replied (ok))
       ∷ []) None
-    ∷ [];
+      ∷ [];
   points = 24;
 }
 
@@ -94,20 +94,271 @@ stop_in_walk_ends = (1, Done) ∷ []
 abbrev pub stop_in_walk : Trace
 stop_in_walk = record {
   boots =
-    boot (
+      boot (
       called (call_of 1 1 1 0) 0 4 (replied (ok_at 1))
       ∷ called (call_of 1 2 2 1) 1 8 (replied (ok))
       ∷ []) (Some 9)
-    ∷ boot (
+      ∷ boot (
       walked 1 1 1 (call_of 1 0 1 0) 0 13 (replied (ok_at 1))
       ∷ walked 1 2 1 (call_of 1 0 2 1) 1 15 Stopped
       ∷ []) (Some 15)
-    ∷ boot (
+      ∷ boot (
       walked 1 1 1 (call_of 1 0 1 0) 0 19 (replied (ok_at 1))
       ∷ walked 1 2 1 (call_of 1 0 2 1) 1 22 (replied (ok))
       ∷ called (call_of 1 3 3 1) 1 25 (replied (ok))
       ∷ called (call_of 1 4 4 1) 1 29 (replied (ok))
       ∷ []) None
-    ∷ [];
+      ∷ [];
   points = 30;
+}
+
+-- ---- runs that do not recover
+
+-- the service says another id than its table gives
+abbrev pub another_id : Trace
+another_id = record {
+  boots =
+      boot (
+      called (call_of 1 1 1 0) 0 4 (replied (ok_at 2))
+      ∷ called (call_of 1 2 2 1) 2 8 (replied (ok))
+      ∷ []) (Some 9)
+      ∷ boot (
+      walked 1 1 1 (call_of 1 0 1 0) 0 13 (replied (ok_at 1))
+      ∷ walked 1 2 1 (call_of 1 0 2 1) 1 16 (replied (ok))
+      ∷ called (call_of 1 3 3 1) 1 19 (replied (ok))
+      ∷ called (call_of 1 4 4 1) 1 23 (replied (ok))
+      ∷ []) None
+      ∷ [];
+  points = 24;
+}
+
+-- the service is booted again, though it never stopped
+abbrev pub boot_without_a_stop : Trace
+boot_without_a_stop = record {
+  boots =
+      boot (
+      called (call_of 1 1 1 0) 0 4 (replied (ok_at 1))
+      ∷ called (call_of 1 2 2 1) 1 8 (replied (ok))
+      ∷ []) None
+      ∷ boot (
+      walked 1 1 1 (call_of 1 0 1 0) 0 13 (replied (ok_at 1))
+      ∷ walked 1 2 1 (call_of 1 0 2 1) 1 16 (replied (ok))
+      ∷ called (call_of 1 3 3 1) 1 19 (replied (ok))
+      ∷ called (call_of 1 4 4 1) 1 23 (replied (ok))
+      ∷ []) None
+      ∷ [];
+  points = 24;
+}
+
+-- the service is asked though it has stopped
+abbrev pub asked_after_a_stop : Trace
+asked_after_a_stop = record {
+  boots =
+      boot (
+      called (call_of 1 1 1 0) 0 4 (replied (ok_at 1))
+      ∷ called (call_of 1 2 2 1) 1 8 Stopped
+      ∷ called (call_of 1 2 2 1) 1 11 (replied (ok))
+      ∷ []) (Some 8)
+      ∷ boot (
+      walked 1 1 1 (call_of 1 0 1 0) 0 12 (replied (ok_at 1))
+      ∷ called (call_of 1 3 3 1) 1 15 (replied (ok))
+      ∷ called (call_of 1 4 4 1) 1 19 (replied (ok))
+      ∷ []) None
+      ∷ [];
+  points = 24;
+}
+
+-- the last reply was given without the service
+abbrev pub reply_without_an_item : Trace
+reply_without_an_item = record {
+  boots =
+      boot (
+      called (call_of 1 1 1 0) 0 4 (replied (ok_at 1))
+      ∷ called (call_of 1 2 2 1) 1 8 (replied (ok))
+      ∷ []) (Some 9)
+      ∷ boot (
+      walked 1 1 1 (call_of 1 0 1 0) 0 13 (replied (ok_at 1))
+      ∷ walked 1 2 1 (call_of 1 0 2 1) 1 16 (replied (ok))
+      ∷ called (call_of 1 3 3 1) 1 19 (replied (ok))
+      ∷ []) None
+      ∷ [];
+  points = 20;
+}
+
+-- a take that was committed is served again
+abbrev pub taken_twice : Trace
+taken_twice = record {
+  boots =
+      boot (
+      called (call_of 1 1 1 0) 0 4 (replied (ok_at 1))
+      ∷ called (call_of 1 2 2 1) 1 8 (replied (ok))
+      ∷ []) (Some 9)
+      ∷ boot (
+      walked 1 1 1 (call_of 1 0 1 0) 0 13 (replied (ok_at 1))
+      ∷ called (call_of 1 2 2 1) 1 16 (replied (ok))
+      ∷ called (call_of 1 3 3 1) 1 20 (replied (ok))
+      ∷ called (call_of 1 4 4 1) 1 24 (replied (ok))
+      ∷ []) None
+      ∷ [];
+  points = 24;
+}
+
+-- a lock is taken again without being made
+abbrev pub walk_from_its_middle : Trace
+walk_from_its_middle = record {
+  boots =
+      boot (
+      called (call_of 1 1 1 0) 0 4 (replied (ok_at 1))
+      ∷ called (call_of 1 2 2 1) 1 8 (replied (ok))
+      ∷ []) (Some 9)
+      ∷ boot (
+      walked 1 2 1 (call_of 1 0 2 1) 1 12 (replied (ok))
+      ∷ called (call_of 1 3 3 1) 1 15 (replied (ok))
+      ∷ called (call_of 1 4 4 1) 1 19 (replied (ok))
+      ∷ []) None
+      ∷ [];
+  points = 20;
+}
+
+-- a lock is made again for another owner
+abbrev pub walk_by_another : Trace
+walk_by_another = record {
+  boots =
+      boot (
+      called (call_of 1 1 1 0) 0 4 (replied (ok_at 1))
+      ∷ called (call_of 1 2 2 1) 1 8 (replied (ok))
+      ∷ []) (Some 9)
+      ∷ boot (
+      walked 1 1 1 (call_of 1 0 1 0) 0 13 (replied (ok_at 1))
+      ∷ walked 1 2 1 (call_of 2 0 2 1) 1 16 (replied (ok))
+      ∷ called (call_of 1 3 3 1) 1 19 (replied (ok))
+      ∷ called (call_of 1 4 4 1) 1 23 (replied (ok))
+      ∷ []) None
+      ∷ [];
+  points = 24;
+}
+
+-- a lock that is whole is taken once more
+abbrev pub walk_too_long : Trace
+walk_too_long = record {
+  boots =
+      boot (
+      called (call_of 1 1 1 0) 0 4 (replied (ok_at 1))
+      ∷ called (call_of 1 2 2 1) 1 8 (replied (ok))
+      ∷ []) (Some 9)
+      ∷ boot (
+      walked 1 1 1 (call_of 1 0 1 0) 0 13 (replied (ok_at 1))
+      ∷ walked 1 2 1 (call_of 1 0 2 1) 1 16 (replied (ok))
+      ∷ walked 1 3 1 (call_of 1 0 2 1) 1 19 (replied (ok))
+      ∷ called (call_of 1 3 3 1) 1 22 (replied (ok))
+      ∷ called (call_of 1 4 4 1) 1 26 (replied (ok))
+      ∷ []) None
+      ∷ [];
+  points = 27;
+}
+
+-- a lock is rebuilt for a client that has no call
+abbrev pub rebuilt_for_nobody : Trace
+rebuilt_for_nobody = record {
+  boots =
+      boot (
+      called (call_of 1 1 1 0) 0 4 (replied (ok_at 1))
+      ∷ called (call_of 1 2 2 1) 1 8 (replied (ok))
+      ∷ []) (Some 9)
+      ∷ boot (
+      walked 1 1 2 (call_of 1 0 1 0) 0 13 (replied (ok_at 1))
+      ∷ walked 1 2 1 (call_of 1 0 2 1) 1 16 (replied (ok))
+      ∷ called (call_of 1 3 3 1) 1 19 (replied (ok))
+      ∷ called (call_of 1 4 4 1) 1 23 (replied (ok))
+      ∷ []) None
+      ∷ [];
+  points = 24;
+}
+
+-- a lock is rebuilt once nobody needs it any more
+abbrev pub rebuilt_too_late : Trace
+rebuilt_too_late = record {
+  boots =
+      boot (
+      called (call_of 1 1 1 0) 0 4 (replied (ok_at 1))
+      ∷ called (call_of 1 2 2 1) 1 8 (replied (ok))
+      ∷ []) (Some 9)
+      ∷ boot (
+      walked 1 1 1 (call_of 1 0 1 0) 0 13 (replied (ok_at 1))
+      ∷ walked 1 2 1 (call_of 1 0 2 1) 1 16 (replied (ok))
+      ∷ called (call_of 1 3 3 1) 1 19 (replied (ok))
+      ∷ called (call_of 1 4 4 1) 1 23 (replied (ok))
+      ∷ walked 1 1 1 (call_of 1 0 1 0) 0 28 (replied (ok_at 2))
+      ∷ []) None
+      ∷ [];
+  points = 28;
+}
+
+-- a release reaches a service that hasn't the lock
+abbrev pub served_without_a_walk : Trace
+served_without_a_walk = record {
+  boots =
+      boot (
+      called (call_of 1 1 1 0) 0 4 (replied (ok_at 1))
+      ∷ called (call_of 1 2 2 1) 1 8 (replied (ok))
+      ∷ []) (Some 9)
+      ∷ boot (
+      called (call_of 1 3 3 1) 1 12 (replied (ok))
+      ∷ called (call_of 1 4 4 1) 1 16 (replied (ok))
+      ∷ []) None
+      ∷ [];
+  points = 17;
+}
+
+-- a release reaches a lock that was made and not taken
+abbrev pub half_a_walk : Trace
+half_a_walk = record {
+  boots =
+      boot (
+      called (call_of 1 1 1 0) 0 4 (replied (ok_at 1))
+      ∷ called (call_of 1 2 2 1) 1 8 (replied (ok))
+      ∷ []) (Some 9)
+      ∷ boot (
+      walked 1 1 1 (call_of 1 0 1 0) 0 13 (replied (ok_at 1))
+      ∷ called (call_of 1 3 3 1) 1 16 (replied (ok))
+      ∷ called (call_of 1 4 4 1) 1 20 (replied (ok))
+      ∷ []) None
+      ∷ [];
+  points = 21;
+}
+
+-- the first boot ends at a point that wasn't asked
+abbrev pub stop_at_another_number : Trace
+stop_at_another_number = record {
+  boots =
+      boot (
+      called (call_of 1 1 1 0) 0 4 (replied (ok_at 1))
+      ∷ called (call_of 1 2 2 1) 1 8 (replied (ok))
+      ∷ []) (Some 11)
+      ∷ boot (
+      walked 1 1 1 (call_of 1 0 1 0) 0 15 (replied (ok_at 1))
+      ∷ walked 1 2 1 (call_of 1 0 2 1) 1 18 (replied (ok))
+      ∷ called (call_of 1 3 3 1) 1 21 (replied (ok))
+      ∷ called (call_of 1 4 4 1) 1 25 (replied (ok))
+      ∷ []) None
+      ∷ [];
+  points = 26;
+}
+
+-- an item has fewer points than its parts
+abbrev pub point_left_out : Trace
+point_left_out = record {
+  boots =
+      boot (
+      called (call_of 1 1 1 0) 0 3 (replied (ok_at 1))
+      ∷ called (call_of 1 2 2 1) 1 8 (replied (ok))
+      ∷ []) (Some 9)
+      ∷ boot (
+      walked 1 1 1 (call_of 1 0 1 0) 0 13 (replied (ok_at 1))
+      ∷ walked 1 2 1 (call_of 1 0 2 1) 1 16 (replied (ok))
+      ∷ called (call_of 1 3 3 1) 1 19 (replied (ok))
+      ∷ called (call_of 1 4 4 1) 1 23 (replied (ok))
+      ∷ []) None
+      ∷ [];
+  points = 24;
 }

@@ -40,16 +40,16 @@ parent_first_ends = (1, Done) ∷ (2, Done) ∷ []
 abbrev pub parent_first : Trace
 parent_first = record {
   boots =
-    boot (
+      boot (
       called (call_with 1 1 1 0 ((word 4096) ∷ [])) 0 4 (replied (ok_at 1))
       ∷ called (call_with 2 1 2 1 ((word 2) ∷ (word 8192) ∷ [])) 1 10 (replied (ok_at 2))
       ∷ []) (Some 12)
-    ∷ boot (
+      ∷ boot (
       walked 1 1 2 (call_with 1 0 1 0 ((word 4096) ∷ [])) 0 16 (replied (ok_at 1))
       ∷ walked 2 1 2 (call_with 2 0 2 1 ((word 2) ∷ (word 8192) ∷ [])) 1 21 (replied (ok_at 2))
       ∷ called (call_of 2 2 3 2) 2 25 (replied (ok))
       ∷ []) None
-    ∷ [];
+      ∷ [];
   points = 26;
 }
 
@@ -66,14 +66,14 @@ occupied_after_stop_ends = (1, Done) ∷ []
 abbrev pub occupied_after_stop : Trace
 occupied_after_stop = record {
   boots =
-    boot (
+      boot (
       called (call_with 1 1 1 0 ((word 4096) ∷ [])) 0 4 (replied (ok_at 1))
       ∷ []) (Some 6)
-    ∷ boot (
+      ∷ boot (
       walked 1 1 1 (call_with 1 0 1 0 ((word 4096) ∷ [])) 0 10 (replied (ok_at 1))
       ∷ called (call_with 1 2 1 0 ((word 4096) ∷ [])) 0 12 (replied (Refused Occupied))
       ∷ []) None
-    ∷ [];
+      ∷ [];
   points = 13;
 }
 
@@ -95,17 +95,36 @@ subtree_ends = (1, Done) ∷ (2, Done) ∷ []
 abbrev pub subtree : Trace
 subtree = record {
   boots =
-    boot (
+      boot (
       called (call_with 1 1 1 0 ((word 4096) ∷ [])) 0 4 (replied (ok_at 1))
       ∷ called (call_with 1 2 2 1 ((word 1) ∷ (word 8192) ∷ [])) 1 10 (replied (ok_at 2))
       ∷ called (call_with 1 3 2 1 ((word 1) ∷ (word 12288) ∷ [])) 1 16 (replied (ok_at 3))
       ∷ []) (Some 18)
-    ∷ boot (
+      ∷ boot (
       walked 1 1 2 (call_with 1 0 1 0 ((word 4096) ∷ [])) 0 22 (replied (ok_at 1))
       ∷ walked 2 1 2 (call_with 1 0 2 1 ((word 1) ∷ (word 8192) ∷ [])) 1 27 (replied (ok_at 2))
       ∷ called (call_of 1 4 3 1) 1 31 (replied (ok))
       ∷ called (call_with 2 1 4 0 ((word 1) ∷ (word 8192) ∷ [])) 0 34 (replied (Refused NotFound))
       ∷ []) None
-    ∷ [];
+      ∷ [];
   points = 35;
+}
+
+-- ---- runs that do not recover
+
+-- a page is rebuilt before the page that it was made from
+abbrev pub child_first : Trace
+child_first = record {
+  boots =
+      boot (
+      called (call_with 1 1 1 0 ((word 4096) ∷ [])) 0 4 (replied (ok_at 1))
+      ∷ called (call_with 2 1 2 1 ((word 2) ∷ (word 8192) ∷ [])) 1 10 (replied (ok_at 2))
+      ∷ []) (Some 12)
+      ∷ boot (
+      walked 2 1 2 (call_with 2 0 2 1 ((word 2) ∷ (word 8192) ∷ [])) 0 17 (replied (ok_at 1))
+      ∷ walked 1 1 2 (call_with 1 0 1 0 ((word 4096) ∷ [])) 0 21 (replied (ok_at 2))
+      ∷ called (call_of 2 2 3 2) 1 25 (replied (ok))
+      ∷ []) None
+      ∷ [];
+  points = 26;
 }

@@ -41,11 +41,11 @@ file_loaded_ends = (1, Done) ∷ (2, Done) ∷ []
 abbrev pub file_loaded : Trace
 file_loaded = record {
   boots =
-    boot (
+      boot (
       called (call_with 1 1 1 0 ((text (codes "a")) ∷ [])) 0 4 (replied (ok_at 1))
       ∷ called (call_with 1 2 3 1 ((text (codes "hello")) ∷ [])) 1 9 (written (ok_with 0 5) (codes "/a") 0 (codes "hello"))
       ∷ []) (Some 10)
-    ∷ boot (
+      ∷ boot (
       called (call_with 2 1 1 0 ((text (codes "a")) ∷ [])) 0 14 (replied (ok_at 1))
       ∷ brought (codes "/a") 2 16 (written ok (codes "/a") 0 (codes "hello"))
       ∷ called (call_with 2 2 2 2 ((word 16) ∷ [])) 1 19 (replied (ok_bytes 5 (codes "hello")))
@@ -54,7 +54,7 @@ file_loaded = record {
       ∷ called (call_with 1 3 4 1 ((word 9) ∷ [])) 2 30 (replied (ok))
       ∷ called (call_with 1 4 3 1 ((text (codes "x")) ∷ [])) 2 32 (replied (Refused Gap))
       ∷ []) None
-    ∷ [];
+      ∷ [];
   points = 33;
 }
 
@@ -74,16 +74,40 @@ held_lost_ends = (1, Done) ∷ (2, Done) ∷ []
 abbrev pub held_lost : Trace
 held_lost = record {
   boots =
-    boot (
+      boot (
       called (call_with 1 1 1 0 ((text (codes "a")) ∷ [])) 0 4 (replied (ok_at 1))
       ∷ called (call_with 1 2 4 1 ((word 4) ∷ [])) 1 8 (replied (ok))
       ∷ []) (Some 9)
-    ∷ boot (
+      ∷ boot (
       walked 1 1 1 (call_with 1 0 1 0 ((text (codes "a")) ∷ [])) 0 13 (replied (ok_at 1))
       ∷ called (call_with 2 2 1 0 ((text (codes "b")) ∷ [])) 0 17 (replied (ok_at 2))
       ∷ called (call_with 1 2 4 1 ((word 4) ∷ [])) 1 21 (replied (ok))
       ∷ called (call_with 1 3 2 1 ((word 8) ∷ [])) 1 24 (replied (ok_with 0 0))
       ∷ []) None
-    ∷ [];
+      ∷ [];
   points = 25;
+}
+
+-- ---- runs that do not recover
+
+-- a file is loaded that was loaded in this boot
+abbrev pub loaded_twice : Trace
+loaded_twice = record {
+  boots =
+      boot (
+      called (call_with 1 1 1 0 ((text (codes "a")) ∷ [])) 0 4 (replied (ok_at 1))
+      ∷ called (call_with 1 2 3 1 ((text (codes "hello")) ∷ [])) 1 9 (written (ok_with 0 5) (codes "/a") 0 (codes "hello"))
+      ∷ []) (Some 10)
+      ∷ boot (
+      called (call_with 2 1 1 0 ((text (codes "a")) ∷ [])) 0 14 (replied (ok_at 1))
+      ∷ brought (codes "/a") 2 16 (written ok (codes "/a") 0 (codes "hello"))
+      ∷ brought (codes "/a") 2 17 (written ok (codes "/a") 0 (codes "hello"))
+      ∷ called (call_with 2 2 2 2 ((word 16) ∷ [])) 1 20 (replied (ok_bytes 5 (codes "hello")))
+      ∷ walked 1 1 1 (call_with 1 0 1 0 ((text (codes "a")) ∷ [])) 0 25 (replied (ok_at 2))
+      ∷ walked 1 2 1 (call_with 1 0 4 1 ((word 5) ∷ [])) 2 28 (replied (ok))
+      ∷ called (call_with 1 3 4 1 ((word 9) ∷ [])) 2 31 (replied (ok))
+      ∷ called (call_with 1 4 3 1 ((text (codes "x")) ∷ [])) 2 33 (replied (Refused Gap))
+      ∷ []) None
+      ∷ [];
+  points = 34;
 }

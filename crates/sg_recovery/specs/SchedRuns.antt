@@ -44,21 +44,21 @@ ranks_kept_ends = (1, Done) ∷ []
 abbrev pub ranks_kept : Trace
 ranks_kept = record {
   boots =
-    boot (
+      boot (
       called (call_with 1 1 1 0 ((word 5) ∷ [])) 0 4 (replied (ok_with 1 1))
       ∷ called (call_with 1 2 1 0 ((word 5) ∷ [])) 0 9 (replied (ok_with 2 2))
       ∷ called (call_with 1 3 1 0 ((word 5) ∷ [])) 0 14 (replied (ok_with 3 3))
       ∷ called (call_of 1 4 8 1) 1 18 (replied (ok))
       ∷ called (call_of 1 5 2 2) 2 22 (replied (ok_with 0 4))
       ∷ []) (Some 24)
-    ∷ boot (
+      ∷ boot (
       walked 2 1 1 (call_with 1 0 1 0 ((word 5) ∷ [])) 0 28 (replied (ok_with 1 1))
       ∷ walked 2 2 1 (call_with 1 0 7 2 ((word 4) ∷ [])) 1 31 (replied (ok))
       ∷ walked 3 1 1 (call_with 1 0 1 0 ((word 5) ∷ [])) 0 35 (replied (ok_with 2 5))
       ∷ walked 3 2 1 (call_with 1 0 7 3 ((word 3) ∷ [])) 2 38 (replied (ok))
       ∷ called (call_of 1 6 6 0) 0 40 (replied (ok_at 2))
       ∷ []) None
-    ∷ [];
+      ∷ [];
   points = 41;
 }
 
@@ -77,18 +77,18 @@ one_walk_two_clients_ends = (1, Done) ∷ (2, Done) ∷ []
 abbrev pub one_walk_two_clients : Trace
 one_walk_two_clients = record {
   boots =
-    boot (
+      boot (
       called (call_with 1 1 1 0 ((word 3) ∷ [])) 0 4 (replied (ok_with 1 1))
       ∷ called (call_of 1 2 3 1) 1 8 (replied (ok))
       ∷ called (call_of 1 3 5 1) 1 10 Blocks
       ∷ []) (Some 11)
-    ∷ boot (
+      ∷ boot (
       walked 1 1 1 (call_with 1 0 1 0 ((word 3) ∷ [])) 0 15 (replied (ok_with 1 1))
       ∷ walked 1 2 2 (call_with 1 0 7 1 ((word 1) ∷ [])) 1 18 (replied (ok))
       ∷ walked 1 3 1 (call_of 1 0 3 1) 1 21 (replied (ok))
       ∷ called (call_of 2 1 4 1) 1 24 (replied (ok))
       ∷ called (call_of 1 3 5 1) 1 27 (replied (ok))
       ∷ []) None
-    ∷ [];
+      ∷ [];
   points = 28;
 }

@@ -1,5 +1,5 @@
 // Runs of locks.
-ghost use Rattle.sg_recovery.specs.LockRuns.{lock_stubs, stop_after_take, stop_after_take_ends, stop_after_take_history, stop_before_storage, stop_before_storage_ends, stop_before_storage_history, stop_in_walk, stop_in_walk_ends, stop_in_walk_history};
+ghost use Rattle.sg_recovery.specs.LockRuns.{lock_stubs, another_id, boot_without_a_stop, asked_after_a_stop, reply_without_an_item, taken_twice, walk_from_its_middle, walk_by_another, walk_too_long, rebuilt_for_nobody, rebuilt_too_late, served_without_a_walk, half_a_walk, stop_at_another_number, point_left_out, stop_after_take, stop_after_take_ends, stop_after_take_history, stop_before_storage, stop_before_storage_ends, stop_before_storage_history, stop_in_walk, stop_in_walk_ends, stop_in_walk_history};
 ghost use Rattle.sg_recovery.specs.Recovered.{IsRecovered};
 
 /// The service stops once a take is committed: the lock is made and taken again before its release.
@@ -15,4 +15,74 @@ pub fn stop_before_storage()
 /// It stops again while the lock is rebuilt, and is rebuilt from the first call on.
 pub fn stop_in_walk()
     ensures recovered { IsRecovered lock_stubs stop_in_walk_history stop_in_walk stop_in_walk_ends }
+{}
+
+/// It doesn't recover where the service says another id than its table gives.
+pub fn another_id()
+    ensures wrong { IsRecovered lock_stubs stop_after_take_history another_id stop_after_take_ends → ⊥ }
+{}
+
+/// It doesn't recover where the service is booted again, though it never stopped.
+pub fn boot_without_a_stop()
+    ensures wrong { IsRecovered lock_stubs stop_after_take_history boot_without_a_stop stop_after_take_ends → ⊥ }
+{}
+
+/// It doesn't recover where the service is asked though it has stopped.
+pub fn asked_after_a_stop()
+    ensures wrong { IsRecovered lock_stubs stop_before_storage_history asked_after_a_stop stop_before_storage_ends → ⊥ }
+{}
+
+/// It doesn't recover where the last reply was given without the service.
+pub fn reply_without_an_item()
+    ensures wrong { IsRecovered lock_stubs stop_after_take_history reply_without_an_item stop_after_take_ends → ⊥ }
+{}
+
+/// It doesn't recover where a take that was committed is served again.
+pub fn taken_twice()
+    ensures wrong { IsRecovered lock_stubs stop_after_take_history taken_twice stop_after_take_ends → ⊥ }
+{}
+
+/// It doesn't recover where a lock is taken again without being made.
+pub fn walk_from_its_middle()
+    ensures wrong { IsRecovered lock_stubs stop_after_take_history walk_from_its_middle stop_after_take_ends → ⊥ }
+{}
+
+/// It doesn't recover where a lock is made again for another owner.
+pub fn walk_by_another()
+    ensures wrong { IsRecovered lock_stubs stop_after_take_history walk_by_another stop_after_take_ends → ⊥ }
+{}
+
+/// It doesn't recover where a lock that is whole is taken once more.
+pub fn walk_too_long()
+    ensures wrong { IsRecovered lock_stubs stop_after_take_history walk_too_long stop_after_take_ends → ⊥ }
+{}
+
+/// It doesn't recover where a lock is rebuilt for a client that has no call.
+pub fn rebuilt_for_nobody()
+    ensures wrong { IsRecovered lock_stubs stop_after_take_history rebuilt_for_nobody stop_after_take_ends → ⊥ }
+{}
+
+/// It doesn't recover where a lock is rebuilt once nobody needs it any more.
+pub fn rebuilt_too_late()
+    ensures wrong { IsRecovered lock_stubs stop_after_take_history rebuilt_too_late stop_after_take_ends → ⊥ }
+{}
+
+/// It doesn't recover where a release reaches a service that hasn't the lock.
+pub fn served_without_a_walk()
+    ensures wrong { IsRecovered lock_stubs stop_after_take_history served_without_a_walk stop_after_take_ends → ⊥ }
+{}
+
+/// It doesn't recover where a release reaches a lock that was made and not taken.
+pub fn half_a_walk()
+    ensures wrong { IsRecovered lock_stubs stop_after_take_history half_a_walk stop_after_take_ends → ⊥ }
+{}
+
+/// It doesn't recover where the first boot ends at a point that wasn't asked.
+pub fn stop_at_another_number()
+    ensures wrong { IsRecovered lock_stubs stop_after_take_history stop_at_another_number stop_after_take_ends → ⊥ }
+{}
+
+/// It doesn't recover where an item has fewer points than its parts.
+pub fn point_left_out()
+    ensures wrong { IsRecovered lock_stubs stop_after_take_history point_left_out stop_after_take_ends → ⊥ }
 {}

@@ -1,5 +1,5 @@
 // Runs of pages.
-ghost use Rattle.sg_recovery.specs.MmRuns.{mm_stubs, parent_first, parent_first_ends, parent_first_history, occupied_after_stop, occupied_after_stop_ends, occupied_after_stop_history, subtree, subtree_ends, subtree_history};
+ghost use Rattle.sg_recovery.specs.MmRuns.{mm_stubs, child_first, parent_first, parent_first_ends, parent_first_history, occupied_after_stop, occupied_after_stop_ends, occupied_after_stop_history, subtree, subtree_ends, subtree_history};
 ghost use Rattle.sg_recovery.specs.Recovered.{IsRecovered};
 
 /// A page is rebuilt after the page that it was made from.
@@ -15,4 +15,9 @@ pub fn occupied_after_stop()
 /// A page goes with the pages made from it, of which one was never rebuilt.
 pub fn subtree()
     ensures recovered { IsRecovered mm_stubs subtree_history subtree subtree_ends }
+{}
+
+/// It doesn't recover where a page is rebuilt before the page that it was made from.
+pub fn child_first()
+    ensures wrong { IsRecovered mm_stubs parent_first_history child_first parent_first_ends → ⊥ }
 {}

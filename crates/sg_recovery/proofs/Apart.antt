@@ -1,0 +1,29 @@
+-- What can't be.
+use Rattle.std.proofs.Common.{◌≡◌, ◌⊎◌, inl, inr, ℕ, Bool, true, false, List, [], ◌∷◌, None, Some, Option, arith}
+use Rattle.sg_base.specs.declared.call.Call.{Call}
+use Rattle.sg_base.specs.declared.reply.Reply.{Reply}
+use Rattle.sg_recovery.specs.Reading.{desc_of}
+
+pub false_true : false ≡ true → ⊥
+false_true e = absurd cc
+
+pub true_false : true ≡ false → ⊥
+true_false e = absurd cc
+
+pub none_some : {A : Type 0} {x : A} → None ≡ Some x → ⊥
+none_some e = absurd cc
+
+pub not_empty : {A : Type 0} {x : A} {xs : List A} → x ∷ xs ≡ [] → ⊥
+not_empty e = absurd cc
+
+abbrev pub desc_given : Option Reply → ℕ
+desc_given None = 0
+desc_given (Some reply) = desc_of reply
+
+abbrev pub caller_of : Option Call → ℕ
+caller_of None = 0
+caller_of (Some call) = call.client
+
+pub neither : {A B : Type 0} → (A × ◌≡◌ {A = ℕ} 11 9) ⊎ (B × ◌≡◌ {A = ℕ} 11 10) → ⊥
+neither (inl both) = omega (arith, both.1)
+neither (inr both) = omega (arith, both.1)
