@@ -24,6 +24,10 @@ abbrev pub caller_of : Option Call → ℕ
 caller_of None = 0
 caller_of (Some call) = call.client
 
+abbrev pub id_in : Option ℕ → ℕ
+id_in None = 0
+id_in (Some id) = id
+
 pub neither : {A B : Type 0} → (A × ◌≡◌ {A = ℕ} 11 9) ⊎ (B × ◌≡◌ {A = ℕ} 11 10) → ⊥
 neither (inl both) = omega (arith, both.1)
 neither (inr both) = omega (arith, both.1)

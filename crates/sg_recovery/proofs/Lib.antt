@@ -6,4 +6,5 @@ pub mod MmFaults
 pub mod MmRuns
 pub mod RamfsFaults
 pub mod RamfsRuns
+pub mod SchedFaults
 pub mod SchedRuns

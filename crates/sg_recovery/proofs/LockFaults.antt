@@ -1,8 +1,36 @@
 -- The runs of the lock service that do not recover: what each of them lacks.
 use Rattle.std.proofs.Common.{◌≡◌, ap, arith, refl}
-use Rattle.sg_recovery.specs.LockRuns.{lock_stubs, another_id, boot_without_a_stop, asked_after_a_stop, reply_without_an_item, taken_twice, walk_from_its_middle, walk_by_another, walk_too_long, rebuilt_for_nobody, rebuilt_too_late, served_without_a_walk, half_a_walk, stop_at_another_number, point_left_out, stop_after_take_ends, stop_after_take_history, stop_before_storage_ends, stop_before_storage_history}
-use Rattle.sg_recovery.specs.Recovered.{IsRecovered}
-use Rattle.sg_recovery.proofs.Apart.{caller_of, desc_given, false_true, neither, none_some, not_empty}
+use Rattle.std.specs.Prelude.{ℕ, ◌&&◌, nat_le, nat_lt, true, not, Some, [], ◌∷◌, find}
+use Rattle.std.proofs.Common.{subst, sym}
+use Rattle.std.proofs.lemmas.Bool.Decides.{nat_tests}
+use Rattle.sg_base.specs.declared.call.Call.{Call}
+use Rattle.sg_recovery.specs.LockRuns.{lock_stubs, another_id, boot_without_a_stop, asked_after_a_stop, reply_without_an_item, taken_twice, walk_from_its_middle, walk_by_another, walk_too_long, rebuilt_for_nobody, rebuilt_too_late, served_without_a_walk, half_a_walk, stop_at_another_number, point_left_out, rebuilt_needlessly, stop_after_take_ends, stop_after_take_history, stop_before_storage_ends, stop_before_storage_history, two_locks_ends, two_locks_history}
+use Rattle.sg_recovery.specs.Recovered.{IsRebuiltFor, IsRecovered, call_numbered}
+use Rattle.sg_recovery.specs.Reading.{Place, is_whole_at, object_before}
+use Rattle.sg_recovery.specs.Written.{call_of, called, ok, ok_at, replied, walked}
+use Rattle.sg_facts.specs.Needs.{needs}
+use Rattle.sg_recovery.proofs.Apart.{caller_of, desc_given, false_true, id_in, neither, none_some, not_empty}
+
+-- the third call alone may be under way
+third : (seq : ℕ) → nat_lt 1 seq && (nat_lt 2 seq && true) ≡ true → nat_le seq 3 && true ≡ true → seq ≡ 3
+third seq above first = grind (arith, nat_tests, above, first)
+
+abbrev place : Place
+place = record {
+  older = called (call_of 1 1 1 0) 0 4 (replied (ok_at 1)) ∷ called (call_of 1 2 1 0) 0 9 (replied (ok_at 2)) ∷ [];
+  front = [];
+  item = walked 2 1 1 (call_of 1 0 1 0) 0 15 (replied (ok_at 1));
+  rest = walked 1 1 1 (call_of 1 0 1 0) 0 19 (replied (ok_at 2)) ∷ called (call_of 1 3 2 1) 2 22 (replied ok) ∷ [];
+  newer = [];
+}
+
+not_least : IsRebuiltFor lock_stubs.facts lock_stubs.walks two_locks_history two_locks_ends place 1 2 → ⊥
+not_least d =
+    let seq = third d.call.seq d.under_way.above d.under_way.first in
+    let its : Some (call_of 1 3 2 1) ≡ Some d.call = subst (λ s. call_numbered two_locks_history two_locks_ends 1 s ≡ Some d.call) seq d.under_way.its in
+    let call : call_of 1 3 2 1 ≡ d.call = cc in
+    let e : 1 ≡ 2 = ap id_in (subst (λ c. find (λ i. not (is_whole_at lock_stubs.facts lock_stubs.walks two_locks_history place i)) (needs lock_stubs.facts (object_before lock_stubs.facts two_locks_history place) c).ids ≡ Some 2) (sym call) d.least) in
+    omega (arith, e)
 
 pub another_id-wrong : IsRecovered lock_stubs stop_after_take_history another_id stop_after_take_ends → ⊥
 another_id-wrong r = let e : 1 ≡ 2 = ap desc_given r.reboots.table.0.0 in omega (arith, e)
@@ -45,3 +73,6 @@ stop_at_another_number-wrong r = neither (r.points refl).1
 
 pub point_left_out-wrong : IsRecovered lock_stubs stop_after_take_history point_left_out stop_after_take_ends → ⊥
 point_left_out-wrong r = let e : 3 ≡ 4 = (r.points refl).0.0 in omega (arith, e)
+
+pub rebuilt_needlessly-wrong : IsRecovered lock_stubs two_locks_history rebuilt_needlessly two_locks_ends → ⊥
+rebuilt_needlessly-wrong r = not_least r.on_demand.1.1.0

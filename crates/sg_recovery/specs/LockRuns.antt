@@ -114,6 +114,17 @@ stop_in_walk = record {
 
 -- ---- runs that do not recover
 
+-- client 1 makes two locks and takes the first
+abbrev pub two_locks_history : List Entry
+two_locks_history =
+    entry (call_of 1 1 1 0) (ok_at 1)
+    ∷ entry (call_of 1 2 1 0) (ok_at 2)
+    ∷ entry (call_of 1 3 2 1) (ok)
+    ∷ []
+
+abbrev pub two_locks_ends : List (ℕ × End)
+two_locks_ends = (1, Done) ∷ []
+
 -- the service says another id than its table gives
 abbrev pub another_id : Trace
 another_id = record {
@@ -361,4 +372,21 @@ point_left_out = record {
       ∷ []) None
       ∷ [];
   points = 24;
+}
+
+-- a lock is rebuilt that the call doesn't need
+abbrev pub rebuilt_needlessly : Trace
+rebuilt_needlessly = record {
+  boots =
+      boot (
+      called (call_of 1 1 1 0) 0 4 (replied (ok_at 1))
+      ∷ called (call_of 1 2 1 0) 0 9 (replied (ok_at 2))
+      ∷ []) (Some 11)
+      ∷ boot (
+      walked 2 1 1 (call_of 1 0 1 0) 0 15 (replied (ok_at 1))
+      ∷ walked 1 1 1 (call_of 1 0 1 0) 0 19 (replied (ok_at 2))
+      ∷ called (call_of 1 3 2 1) 2 22 (replied (ok))
+      ∷ []) None
+      ∷ [];
+  points = 23;
 }

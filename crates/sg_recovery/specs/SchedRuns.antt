@@ -92,3 +92,41 @@ one_walk_two_clients = record {
       ∷ [];
   points = 28;
 }
+
+-- ---- runs that do not recover
+
+-- the last call is answered by the id that the thread has in the service
+abbrev pub shown_id_history : List Entry
+shown_id_history =
+    entry (call_with 1 1 1 0 ((word 5) ∷ [])) (ok_with 1 1)
+    ∷ entry (call_with 1 2 1 0 ((word 5) ∷ [])) (ok_with 2 2)
+    ∷ entry (call_with 1 3 1 0 ((word 5) ∷ [])) (ok_with 3 3)
+    ∷ entry (call_of 1 4 8 1) (ok)
+    ∷ entry (call_of 1 5 2 2) (ok_with 0 4)
+    ∷ entry (call_of 1 6 6 0) (ok_at 2)
+    ∷ []
+
+abbrev pub shown_id_ends : List (ℕ × End)
+shown_id_ends = (1, Done) ∷ []
+
+-- a client is told the id of the service
+abbrev pub service_id_shown : Trace
+service_id_shown = record {
+  boots =
+      boot (
+      called (call_with 1 1 1 0 ((word 5) ∷ [])) 0 4 (replied (ok_with 1 1))
+      ∷ called (call_with 1 2 1 0 ((word 5) ∷ [])) 0 9 (replied (ok_with 2 2))
+      ∷ called (call_with 1 3 1 0 ((word 5) ∷ [])) 0 14 (replied (ok_with 3 3))
+      ∷ called (call_of 1 4 8 1) 1 18 (replied (ok))
+      ∷ called (call_of 1 5 2 2) 2 22 (replied (ok_with 0 4))
+      ∷ []) (Some 24)
+      ∷ boot (
+      walked 2 1 1 (call_with 1 0 1 0 ((word 5) ∷ [])) 0 28 (replied (ok_with 1 1))
+      ∷ walked 2 2 1 (call_with 1 0 7 2 ((word 4) ∷ [])) 1 31 (replied (ok))
+      ∷ walked 3 1 1 (call_with 1 0 1 0 ((word 5) ∷ [])) 0 35 (replied (ok_with 2 5))
+      ∷ walked 3 2 1 (call_with 1 0 7 3 ((word 3) ∷ [])) 2 38 (replied (ok))
+      ∷ called (call_of 1 6 6 0) 0 40 (replied (ok_at 2))
+      ∷ []) None
+      ∷ [];
+  points = 41;
+}

@@ -1,5 +1,5 @@
 // Runs of locks.
-ghost use Rattle.sg_recovery.specs.LockRuns.{lock_stubs, another_id, boot_without_a_stop, asked_after_a_stop, reply_without_an_item, taken_twice, walk_from_its_middle, walk_by_another, walk_too_long, rebuilt_for_nobody, rebuilt_too_late, served_without_a_walk, half_a_walk, stop_at_another_number, point_left_out, stop_after_take, stop_after_take_ends, stop_after_take_history, stop_before_storage, stop_before_storage_ends, stop_before_storage_history, stop_in_walk, stop_in_walk_ends, stop_in_walk_history};
+ghost use Rattle.sg_recovery.specs.LockRuns.{lock_stubs, another_id, boot_without_a_stop, asked_after_a_stop, reply_without_an_item, taken_twice, walk_from_its_middle, walk_by_another, walk_too_long, rebuilt_for_nobody, rebuilt_too_late, served_without_a_walk, half_a_walk, stop_at_another_number, point_left_out, rebuilt_needlessly, two_locks_ends, two_locks_history, stop_after_take, stop_after_take_ends, stop_after_take_history, stop_before_storage, stop_before_storage_ends, stop_before_storage_history, stop_in_walk, stop_in_walk_ends, stop_in_walk_history};
 ghost use Rattle.sg_recovery.specs.Recovered.{IsRecovered};
 
 /// The service stops once a take is committed: the lock is made and taken again before its release.
@@ -85,4 +85,9 @@ pub fn stop_at_another_number()
 /// It doesn't recover where an item has fewer points than its parts.
 pub fn point_left_out()
     ensures wrong { IsRecovered lock_stubs stop_after_take_history point_left_out stop_after_take_ends → ⊥ }
+{}
+
+/// It doesn't recover where a lock is rebuilt that the call doesn't need.
+pub fn rebuilt_needlessly()
+    ensures wrong { IsRecovered lock_stubs two_locks_history rebuilt_needlessly two_locks_ends → ⊥ }
 {}
