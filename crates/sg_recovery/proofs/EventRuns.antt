@@ -1,5 +1,5 @@
 -- The runs of the event service, computed.
-use Rattle.std.proofs.Common.{inl, inr, refl, arith}
+use Rattle.std.proofs.Common.{inl, inr, refl}
 use Rattle.sg_recovery.specs.EventRuns.{event_stubs, trigger_not_twice, trigger_not_twice_ends, trigger_not_twice_history, blocked_redone, blocked_redone_ends, blocked_redone_history}
 use Rattle.sg_recovery.specs.Reading.{Each, places_of}
 use Rattle.sg_recovery.specs.Recovered.{ArePointsOf, IsDemanded, IsRebooted, IsRecovered, IsServed, IsTrackedAt, IsWalked}

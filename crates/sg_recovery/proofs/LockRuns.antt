@@ -1,5 +1,5 @@
 -- The runs of the lock service, computed.
-use Rattle.std.proofs.Common.{inl, inr, refl, arith}
+use Rattle.std.proofs.Common.{inl, refl, arith}
 use Rattle.sg_recovery.specs.LockRuns.{lock_stubs, stop_after_take, stop_after_take_ends, stop_after_take_history, stop_before_storage, stop_before_storage_ends, stop_before_storage_history, stop_in_walk, stop_in_walk_ends, stop_in_walk_history}
 use Rattle.sg_recovery.specs.Reading.{Each, places_of}
 use Rattle.sg_recovery.specs.Recovered.{ArePointsOf, IsDemanded, IsRebooted, IsRecovered, IsServed, IsTrackedAt, IsWalked}

@@ -1,6 +1,6 @@
 -- The runs of the mm service, computed.
-use Rattle.std.proofs.Common.{inl, inr, refl, arith}
-use Rattle.std.specs.Prelude.{[], ◌∷◌, codes}
+use Rattle.std.proofs.Common.{inr, refl}
+use Rattle.std.specs.Prelude.{[], ◌∷◌}
 use Rattle.sg_recovery.specs.MmRuns.{mm_stubs, parent_first, parent_first_ends, parent_first_history, occupied_after_stop, occupied_after_stop_ends, occupied_after_stop_history, subtree, subtree_ends, subtree_history}
 use Rattle.sg_recovery.specs.Reading.{Each, places_of}
 use Rattle.sg_recovery.specs.Recovered.{ArePointsOf, IsDemanded, IsRebooted, IsRecovered, IsServed, IsTrackedAt, IsWalked}

@@ -1,6 +1,6 @@
 -- The runs of the ramfs service, computed.
-use Rattle.std.proofs.Common.{inl, inr, refl, arith}
-use Rattle.std.specs.Prelude.{[], ◌∷◌, codes}
+use Rattle.std.proofs.Common.{inl, inr, refl}
+use Rattle.std.specs.Prelude.{[], ◌∷◌}
 use Rattle.sg_recovery.specs.RamfsRuns.{ramfs_stubs, file_loaded, file_loaded_ends, file_loaded_history, held_lost, held_lost_ends, held_lost_history}
 use Rattle.sg_recovery.specs.Reading.{Each, places_of}
 use Rattle.sg_recovery.specs.Recovered.{ArePointsOf, IsDemanded, IsRebooted, IsRecovered, IsServed, IsTrackedAt, IsWalked}

@@ -1,5 +1,5 @@
 -- The runs of the sched service, computed.
-use Rattle.std.proofs.Common.{inl, inr, refl, arith}
+use Rattle.std.proofs.Common.{inr, refl}
 use Rattle.sg_recovery.specs.SchedRuns.{sched_stubs, ranks_kept, ranks_kept_ends, ranks_kept_history, one_walk_two_clients, one_walk_two_clients_ends, one_walk_two_clients_history}
 use Rattle.sg_recovery.specs.Reading.{Each, places_of}
 use Rattle.sg_recovery.specs.Recovered.{ArePointsOf, IsDemanded, IsRebooted, IsRecovered, IsServed, IsTrackedAt, IsWalked}

@@ -3,14 +3,12 @@ use Rattle.std.specs.Prelude.{ℕ, ◌≡◌, ◌≢◌, ◌⊎◌, ◌+◌, ◌
 use Rattle.std.specs.declared.option.Option.{Option}
 use Rattle.std.specs.List.{list_all, list_any}
 use Rattle.sg_base.specs.declared.call.Call.{Call}
-use Rattle.sg_base.specs.declared.reply.Good.{Good}
 use Rattle.sg_base.specs.declared.reply.Reply.{Reply}
 use Rattle.sg_base.specs.declared.reply.Reply.TheVariants.{Ok, Refused}
 use Rattle.std.specs.Str.{bytes_eq}
 use Rattle.sg_facts.specs.declared.entry.Entry.{Entry}
 use Rattle.sg_facts.specs.declared.outcome.Outcome.{Outcome}
 use Rattle.sg_facts.specs.declared.outcome.Outcome.TheVariants.{Replied, Blocks, Stopped, NoMemory}
-use Rattle.sg_facts.specs.declared.outcome.Patch.{Patch}
 use Rattle.sg_facts.specs.declared.row.Row.{Row}
 use Rattle.sg_facts.specs.declared.tables.WalkLine.{WalkLine}
 use Rattle.sg_facts.specs.declared.trace.BootLog.{BootLog}
@@ -19,8 +17,7 @@ use Rattle.sg_facts.specs.declared.trace.Tag.{Tag}
 use Rattle.sg_facts.specs.declared.trace.Tag.TheVariants.{Walk, Load, Client}
 use Rattle.sg_facts.specs.declared.trace.Trace.{Trace}
 use Rattle.sg_facts.specs.Alike.{IsAlike, SameFile, named}
-use Rattle.sg_facts.specs.Facts.{Facts, fun_at, is_visible}
-use Rattle.sg_facts.specs.Interface.{Declared}
+use Rattle.sg_facts.specs.Facts.{Facts, is_visible}
 use Rattle.sg_facts.specs.Legal.{Table}
 use Rattle.sg_facts.specs.Needs.{is_needed, needs}
 use Rattle.sg_facts.specs.Object.{Object, file_at, patch_of}
@@ -29,7 +26,7 @@ use Rattle.sg_facts.specs.Walks.{replayed_call}
 use Rattle.sg_hist.specs.declared.ended.End.{End}
 use Rattle.sg_hist.specs.declared.ended.End.TheVariants.{Done, Blocked}
 use Rattle.sg_hist.specs.Clients.{calls_of}
-use Rattle.sg_recovery.specs.Reading.{Each, Place, When, behind, entries_before, is_by_guard, is_made, is_of, is_ok, is_tagged, is_whole_at, item_of, names_at, object_before, past, places_of, service_call, stands_before, value_at, walk_in}
+use Rattle.sg_recovery.specs.Reading.{Each, Place, When, behind, is_by_guard, is_made, is_of, is_whole_at, item_of, names_at, object_before, places_of, service_call, stands_before, value_at, walk_in}
 
 -- ---- the calls of clients
 
