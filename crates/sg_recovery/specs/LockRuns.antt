@@ -25,9 +25,9 @@ lock_stubs = record { facts = lock_facts; ask = lock_table; parts = lock_parts; 
 abbrev pub stop_after_take_history : List Entry
 stop_after_take_history =
     entry (call_of 1 1 1 0) (ok_at 1)
-    ∷ entry (call_of 1 2 2 1) (ok)
-    ∷ entry (call_of 1 3 3 1) (ok)
-    ∷ entry (call_of 1 4 4 1) (ok)
+    ∷ entry (call_of 1 2 2 1) ok
+    ∷ entry (call_of 1 3 3 1) ok
+    ∷ entry (call_of 1 4 4 1) ok
     ∷ []
 
 abbrev pub stop_after_take_ends : List (ℕ × End)
@@ -38,13 +38,13 @@ stop_after_take = record {
   boots =
       boot (
       called (call_of 1 1 1 0) 0 4 (replied (ok_at 1))
-      ∷ called (call_of 1 2 2 1) 1 8 (replied (ok))
+      ∷ called (call_of 1 2 2 1) 1 8 (replied ok)
       ∷ []) (Some 9)
       ∷ boot (
       walked 1 1 1 (call_of 1 0 1 0) 0 13 (replied (ok_at 1))
-      ∷ walked 1 2 1 (call_of 1 0 2 1) 1 16 (replied (ok))
-      ∷ called (call_of 1 3 3 1) 1 19 (replied (ok))
-      ∷ called (call_of 1 4 4 1) 1 23 (replied (ok))
+      ∷ walked 1 2 1 (call_of 1 0 2 1) 1 16 (replied ok)
+      ∷ called (call_of 1 3 3 1) 1 19 (replied ok)
+      ∷ called (call_of 1 4 4 1) 1 23 (replied ok)
       ∷ []) None
       ∷ [];
   points = 24;
@@ -54,9 +54,9 @@ stop_after_take = record {
 abbrev pub stop_before_storage_history : List Entry
 stop_before_storage_history =
     entry (call_of 1 1 1 0) (ok_at 1)
-    ∷ entry (call_of 1 2 2 1) (ok)
-    ∷ entry (call_of 1 3 3 1) (ok)
-    ∷ entry (call_of 1 4 4 1) (ok)
+    ∷ entry (call_of 1 2 2 1) ok
+    ∷ entry (call_of 1 3 3 1) ok
+    ∷ entry (call_of 1 4 4 1) ok
     ∷ []
 
 abbrev pub stop_before_storage_ends : List (ℕ × End)
@@ -71,9 +71,9 @@ stop_before_storage = record {
       ∷ []) (Some 8)
       ∷ boot (
       walked 1 1 1 (call_of 1 0 1 0) 0 12 (replied (ok_at 1))
-      ∷ called (call_of 1 2 2 1) 1 15 (replied (ok))
-      ∷ called (call_of 1 3 3 1) 1 19 (replied (ok))
-      ∷ called (call_of 1 4 4 1) 1 23 (replied (ok))
+      ∷ called (call_of 1 2 2 1) 1 15 (replied ok)
+      ∷ called (call_of 1 3 3 1) 1 19 (replied ok)
+      ∷ called (call_of 1 4 4 1) 1 23 (replied ok)
       ∷ []) None
       ∷ [];
   points = 24;
@@ -83,9 +83,9 @@ stop_before_storage = record {
 abbrev pub stop_in_walk_history : List Entry
 stop_in_walk_history =
     entry (call_of 1 1 1 0) (ok_at 1)
-    ∷ entry (call_of 1 2 2 1) (ok)
-    ∷ entry (call_of 1 3 3 1) (ok)
-    ∷ entry (call_of 1 4 4 1) (ok)
+    ∷ entry (call_of 1 2 2 1) ok
+    ∷ entry (call_of 1 3 3 1) ok
+    ∷ entry (call_of 1 4 4 1) ok
     ∷ []
 
 abbrev pub stop_in_walk_ends : List (ℕ × End)
@@ -96,7 +96,7 @@ stop_in_walk = record {
   boots =
       boot (
       called (call_of 1 1 1 0) 0 4 (replied (ok_at 1))
-      ∷ called (call_of 1 2 2 1) 1 8 (replied (ok))
+      ∷ called (call_of 1 2 2 1) 1 8 (replied ok)
       ∷ []) (Some 9)
       ∷ boot (
       walked 1 1 1 (call_of 1 0 1 0) 0 13 (replied (ok_at 1))
@@ -104,9 +104,9 @@ stop_in_walk = record {
       ∷ []) (Some 15)
       ∷ boot (
       walked 1 1 1 (call_of 1 0 1 0) 0 19 (replied (ok_at 1))
-      ∷ walked 1 2 1 (call_of 1 0 2 1) 1 22 (replied (ok))
-      ∷ called (call_of 1 3 3 1) 1 25 (replied (ok))
-      ∷ called (call_of 1 4 4 1) 1 29 (replied (ok))
+      ∷ walked 1 2 1 (call_of 1 0 2 1) 1 22 (replied ok)
+      ∷ called (call_of 1 3 3 1) 1 25 (replied ok)
+      ∷ called (call_of 1 4 4 1) 1 29 (replied ok)
       ∷ []) None
       ∷ [];
   points = 30;
@@ -119,7 +119,7 @@ abbrev pub two_locks_history : List Entry
 two_locks_history =
     entry (call_of 1 1 1 0) (ok_at 1)
     ∷ entry (call_of 1 2 1 0) (ok_at 2)
-    ∷ entry (call_of 1 3 2 1) (ok)
+    ∷ entry (call_of 1 3 2 1) ok
     ∷ []
 
 abbrev pub two_locks_ends : List (ℕ × End)
@@ -131,13 +131,13 @@ another_id = record {
   boots =
       boot (
       called (call_of 1 1 1 0) 0 4 (replied (ok_at 2))
-      ∷ called (call_of 1 2 2 1) 2 8 (replied (ok))
+      ∷ called (call_of 1 2 2 1) 2 8 (replied ok)
       ∷ []) (Some 9)
       ∷ boot (
       walked 1 1 1 (call_of 1 0 1 0) 0 13 (replied (ok_at 1))
-      ∷ walked 1 2 1 (call_of 1 0 2 1) 1 16 (replied (ok))
-      ∷ called (call_of 1 3 3 1) 1 19 (replied (ok))
-      ∷ called (call_of 1 4 4 1) 1 23 (replied (ok))
+      ∷ walked 1 2 1 (call_of 1 0 2 1) 1 16 (replied ok)
+      ∷ called (call_of 1 3 3 1) 1 19 (replied ok)
+      ∷ called (call_of 1 4 4 1) 1 23 (replied ok)
       ∷ []) None
       ∷ [];
   points = 24;
@@ -149,13 +149,13 @@ boot_without_a_stop = record {
   boots =
       boot (
       called (call_of 1 1 1 0) 0 4 (replied (ok_at 1))
-      ∷ called (call_of 1 2 2 1) 1 8 (replied (ok))
+      ∷ called (call_of 1 2 2 1) 1 8 (replied ok)
       ∷ []) None
       ∷ boot (
       walked 1 1 1 (call_of 1 0 1 0) 0 13 (replied (ok_at 1))
-      ∷ walked 1 2 1 (call_of 1 0 2 1) 1 16 (replied (ok))
-      ∷ called (call_of 1 3 3 1) 1 19 (replied (ok))
-      ∷ called (call_of 1 4 4 1) 1 23 (replied (ok))
+      ∷ walked 1 2 1 (call_of 1 0 2 1) 1 16 (replied ok)
+      ∷ called (call_of 1 3 3 1) 1 19 (replied ok)
+      ∷ called (call_of 1 4 4 1) 1 23 (replied ok)
       ∷ []) None
       ∷ [];
   points = 24;
@@ -168,12 +168,12 @@ asked_after_a_stop = record {
       boot (
       called (call_of 1 1 1 0) 0 4 (replied (ok_at 1))
       ∷ called (call_of 1 2 2 1) 1 8 Stopped
-      ∷ called (call_of 1 2 2 1) 1 11 (replied (ok))
+      ∷ called (call_of 1 2 2 1) 1 11 (replied ok)
       ∷ []) (Some 8)
       ∷ boot (
       walked 1 1 1 (call_of 1 0 1 0) 0 12 (replied (ok_at 1))
-      ∷ called (call_of 1 3 3 1) 1 15 (replied (ok))
-      ∷ called (call_of 1 4 4 1) 1 19 (replied (ok))
+      ∷ called (call_of 1 3 3 1) 1 15 (replied ok)
+      ∷ called (call_of 1 4 4 1) 1 19 (replied ok)
       ∷ []) None
       ∷ [];
   points = 24;
@@ -185,12 +185,12 @@ reply_without_an_item = record {
   boots =
       boot (
       called (call_of 1 1 1 0) 0 4 (replied (ok_at 1))
-      ∷ called (call_of 1 2 2 1) 1 8 (replied (ok))
+      ∷ called (call_of 1 2 2 1) 1 8 (replied ok)
       ∷ []) (Some 9)
       ∷ boot (
       walked 1 1 1 (call_of 1 0 1 0) 0 13 (replied (ok_at 1))
-      ∷ walked 1 2 1 (call_of 1 0 2 1) 1 16 (replied (ok))
-      ∷ called (call_of 1 3 3 1) 1 19 (replied (ok))
+      ∷ walked 1 2 1 (call_of 1 0 2 1) 1 16 (replied ok)
+      ∷ called (call_of 1 3 3 1) 1 19 (replied ok)
       ∷ []) None
       ∷ [];
   points = 20;
@@ -202,13 +202,13 @@ taken_twice = record {
   boots =
       boot (
       called (call_of 1 1 1 0) 0 4 (replied (ok_at 1))
-      ∷ called (call_of 1 2 2 1) 1 8 (replied (ok))
+      ∷ called (call_of 1 2 2 1) 1 8 (replied ok)
       ∷ []) (Some 9)
       ∷ boot (
       walked 1 1 1 (call_of 1 0 1 0) 0 13 (replied (ok_at 1))
-      ∷ called (call_of 1 2 2 1) 1 16 (replied (ok))
-      ∷ called (call_of 1 3 3 1) 1 20 (replied (ok))
-      ∷ called (call_of 1 4 4 1) 1 24 (replied (ok))
+      ∷ called (call_of 1 2 2 1) 1 16 (replied ok)
+      ∷ called (call_of 1 3 3 1) 1 20 (replied ok)
+      ∷ called (call_of 1 4 4 1) 1 24 (replied ok)
       ∷ []) None
       ∷ [];
   points = 24;
@@ -220,12 +220,12 @@ walk_from_its_middle = record {
   boots =
       boot (
       called (call_of 1 1 1 0) 0 4 (replied (ok_at 1))
-      ∷ called (call_of 1 2 2 1) 1 8 (replied (ok))
+      ∷ called (call_of 1 2 2 1) 1 8 (replied ok)
       ∷ []) (Some 9)
       ∷ boot (
-      walked 1 2 1 (call_of 1 0 2 1) 1 12 (replied (ok))
-      ∷ called (call_of 1 3 3 1) 1 15 (replied (ok))
-      ∷ called (call_of 1 4 4 1) 1 19 (replied (ok))
+      walked 1 2 1 (call_of 1 0 2 1) 1 12 (replied ok)
+      ∷ called (call_of 1 3 3 1) 1 15 (replied ok)
+      ∷ called (call_of 1 4 4 1) 1 19 (replied ok)
       ∷ []) None
       ∷ [];
   points = 20;
@@ -237,13 +237,13 @@ walk_by_another = record {
   boots =
       boot (
       called (call_of 1 1 1 0) 0 4 (replied (ok_at 1))
-      ∷ called (call_of 1 2 2 1) 1 8 (replied (ok))
+      ∷ called (call_of 1 2 2 1) 1 8 (replied ok)
       ∷ []) (Some 9)
       ∷ boot (
       walked 1 1 1 (call_of 1 0 1 0) 0 13 (replied (ok_at 1))
-      ∷ walked 1 2 1 (call_of 2 0 2 1) 1 16 (replied (ok))
-      ∷ called (call_of 1 3 3 1) 1 19 (replied (ok))
-      ∷ called (call_of 1 4 4 1) 1 23 (replied (ok))
+      ∷ walked 1 2 1 (call_of 2 0 2 1) 1 16 (replied ok)
+      ∷ called (call_of 1 3 3 1) 1 19 (replied ok)
+      ∷ called (call_of 1 4 4 1) 1 23 (replied ok)
       ∷ []) None
       ∷ [];
   points = 24;
@@ -255,14 +255,14 @@ walk_too_long = record {
   boots =
       boot (
       called (call_of 1 1 1 0) 0 4 (replied (ok_at 1))
-      ∷ called (call_of 1 2 2 1) 1 8 (replied (ok))
+      ∷ called (call_of 1 2 2 1) 1 8 (replied ok)
       ∷ []) (Some 9)
       ∷ boot (
       walked 1 1 1 (call_of 1 0 1 0) 0 13 (replied (ok_at 1))
-      ∷ walked 1 2 1 (call_of 1 0 2 1) 1 16 (replied (ok))
-      ∷ walked 1 3 1 (call_of 1 0 2 1) 1 19 (replied (ok))
-      ∷ called (call_of 1 3 3 1) 1 22 (replied (ok))
-      ∷ called (call_of 1 4 4 1) 1 26 (replied (ok))
+      ∷ walked 1 2 1 (call_of 1 0 2 1) 1 16 (replied ok)
+      ∷ walked 1 3 1 (call_of 1 0 2 1) 1 19 (replied ok)
+      ∷ called (call_of 1 3 3 1) 1 22 (replied ok)
+      ∷ called (call_of 1 4 4 1) 1 26 (replied ok)
       ∷ []) None
       ∷ [];
   points = 27;
@@ -274,13 +274,13 @@ rebuilt_for_nobody = record {
   boots =
       boot (
       called (call_of 1 1 1 0) 0 4 (replied (ok_at 1))
-      ∷ called (call_of 1 2 2 1) 1 8 (replied (ok))
+      ∷ called (call_of 1 2 2 1) 1 8 (replied ok)
       ∷ []) (Some 9)
       ∷ boot (
       walked 1 1 2 (call_of 1 0 1 0) 0 13 (replied (ok_at 1))
-      ∷ walked 1 2 1 (call_of 1 0 2 1) 1 16 (replied (ok))
-      ∷ called (call_of 1 3 3 1) 1 19 (replied (ok))
-      ∷ called (call_of 1 4 4 1) 1 23 (replied (ok))
+      ∷ walked 1 2 1 (call_of 1 0 2 1) 1 16 (replied ok)
+      ∷ called (call_of 1 3 3 1) 1 19 (replied ok)
+      ∷ called (call_of 1 4 4 1) 1 23 (replied ok)
       ∷ []) None
       ∷ [];
   points = 24;
@@ -292,13 +292,13 @@ rebuilt_too_late = record {
   boots =
       boot (
       called (call_of 1 1 1 0) 0 4 (replied (ok_at 1))
-      ∷ called (call_of 1 2 2 1) 1 8 (replied (ok))
+      ∷ called (call_of 1 2 2 1) 1 8 (replied ok)
       ∷ []) (Some 9)
       ∷ boot (
       walked 1 1 1 (call_of 1 0 1 0) 0 13 (replied (ok_at 1))
-      ∷ walked 1 2 1 (call_of 1 0 2 1) 1 16 (replied (ok))
-      ∷ called (call_of 1 3 3 1) 1 19 (replied (ok))
-      ∷ called (call_of 1 4 4 1) 1 23 (replied (ok))
+      ∷ walked 1 2 1 (call_of 1 0 2 1) 1 16 (replied ok)
+      ∷ called (call_of 1 3 3 1) 1 19 (replied ok)
+      ∷ called (call_of 1 4 4 1) 1 23 (replied ok)
       ∷ walked 1 1 1 (call_of 1 0 1 0) 0 28 (replied (ok_at 2))
       ∷ []) None
       ∷ [];
@@ -311,11 +311,11 @@ served_without_a_walk = record {
   boots =
       boot (
       called (call_of 1 1 1 0) 0 4 (replied (ok_at 1))
-      ∷ called (call_of 1 2 2 1) 1 8 (replied (ok))
+      ∷ called (call_of 1 2 2 1) 1 8 (replied ok)
       ∷ []) (Some 9)
       ∷ boot (
-      called (call_of 1 3 3 1) 1 12 (replied (ok))
-      ∷ called (call_of 1 4 4 1) 1 16 (replied (ok))
+      called (call_of 1 3 3 1) 1 12 (replied ok)
+      ∷ called (call_of 1 4 4 1) 1 16 (replied ok)
       ∷ []) None
       ∷ [];
   points = 17;
@@ -327,12 +327,12 @@ half_a_walk = record {
   boots =
       boot (
       called (call_of 1 1 1 0) 0 4 (replied (ok_at 1))
-      ∷ called (call_of 1 2 2 1) 1 8 (replied (ok))
+      ∷ called (call_of 1 2 2 1) 1 8 (replied ok)
       ∷ []) (Some 9)
       ∷ boot (
       walked 1 1 1 (call_of 1 0 1 0) 0 13 (replied (ok_at 1))
-      ∷ called (call_of 1 3 3 1) 1 16 (replied (ok))
-      ∷ called (call_of 1 4 4 1) 1 20 (replied (ok))
+      ∷ called (call_of 1 3 3 1) 1 16 (replied ok)
+      ∷ called (call_of 1 4 4 1) 1 20 (replied ok)
       ∷ []) None
       ∷ [];
   points = 21;
@@ -344,13 +344,13 @@ stop_at_another_number = record {
   boots =
       boot (
       called (call_of 1 1 1 0) 0 4 (replied (ok_at 1))
-      ∷ called (call_of 1 2 2 1) 1 8 (replied (ok))
+      ∷ called (call_of 1 2 2 1) 1 8 (replied ok)
       ∷ []) (Some 11)
       ∷ boot (
       walked 1 1 1 (call_of 1 0 1 0) 0 15 (replied (ok_at 1))
-      ∷ walked 1 2 1 (call_of 1 0 2 1) 1 18 (replied (ok))
-      ∷ called (call_of 1 3 3 1) 1 21 (replied (ok))
-      ∷ called (call_of 1 4 4 1) 1 25 (replied (ok))
+      ∷ walked 1 2 1 (call_of 1 0 2 1) 1 18 (replied ok)
+      ∷ called (call_of 1 3 3 1) 1 21 (replied ok)
+      ∷ called (call_of 1 4 4 1) 1 25 (replied ok)
       ∷ []) None
       ∷ [];
   points = 26;
@@ -362,13 +362,13 @@ point_left_out = record {
   boots =
       boot (
       called (call_of 1 1 1 0) 0 3 (replied (ok_at 1))
-      ∷ called (call_of 1 2 2 1) 1 8 (replied (ok))
+      ∷ called (call_of 1 2 2 1) 1 8 (replied ok)
       ∷ []) (Some 9)
       ∷ boot (
       walked 1 1 1 (call_of 1 0 1 0) 0 13 (replied (ok_at 1))
-      ∷ walked 1 2 1 (call_of 1 0 2 1) 1 16 (replied (ok))
-      ∷ called (call_of 1 3 3 1) 1 19 (replied (ok))
-      ∷ called (call_of 1 4 4 1) 1 23 (replied (ok))
+      ∷ walked 1 2 1 (call_of 1 0 2 1) 1 16 (replied ok)
+      ∷ called (call_of 1 3 3 1) 1 19 (replied ok)
+      ∷ called (call_of 1 4 4 1) 1 23 (replied ok)
       ∷ []) None
       ∷ [];
   points = 24;
@@ -385,7 +385,7 @@ rebuilt_needlessly = record {
       ∷ boot (
       walked 2 1 1 (call_of 1 0 1 0) 0 15 (replied (ok_at 1))
       ∷ walked 1 1 1 (call_of 1 0 1 0) 0 19 (replied (ok_at 2))
-      ∷ called (call_of 1 3 2 1) 2 22 (replied (ok))
+      ∷ called (call_of 1 3 2 1) 2 22 (replied ok)
       ∷ []) None
       ∷ [];
   points = 23;

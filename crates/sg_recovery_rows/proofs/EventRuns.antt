@@ -1,0 +1,80 @@
+-- The runs of the event service, computed.
+use Rattle.std.proofs.Common.{inl, inr, refl}
+use Rattle.sg_recovery_rows.specs.EventRuns.{event_stubs, trigger_not_twice, trigger_not_twice_ends, trigger_not_twice_history, blocked_redone, blocked_redone_ends, blocked_redone_history}
+use Rattle.sg_recovery.specs.Reading.{Each, places_of}
+use Rattle.sg_recovery.specs.Recovered.{ArePointsOf, IsDemanded, IsRebooted, IsRecovered, IsServed, IsTrackedAt, IsWalked}
+use Rattle.sg_recovery.specs.Written.{call_of}
+
+trigger_not_twice-reboots : IsRebooted event_stubs.facts event_stubs.ask trigger_not_twice
+trigger_not_twice-reboots = record {
+  table = ((refl, refl), ((refl, refl), ((refl, refl), ((refl, refl), ((refl, refl), (refl, tt))))));
+  stopped = (refl, tt);
+  last = (tt, (tt, (tt, (tt, (tt, (tt, tt))))));
+}
+
+trigger_not_twice-served : IsServed event_stubs.facts trigger_not_twice_history trigger_not_twice trigger_not_twice_ends
+trigger_not_twice-served = record {
+  calls = (refl, (refl, (tt, (tt, (refl, (refl, tt))))));
+  items = ((refl, (refl, refl, refl)), ((refl, (refl, refl, refl)), ((refl, (refl, refl, refl)), tt)));
+  committed = (refl, (refl, (tt, (tt, (refl, (tt, tt))))));
+  order = (refl, (refl, (refl, tt)));
+}
+
+trigger_not_twice-walks : Each (λ p. IsWalked event_stubs.facts event_stubs.walks trigger_not_twice_history p p.item.tag) (places_of trigger_not_twice)
+trigger_not_twice-walks = (tt, (tt, (record { unmade = refl; next = refl; parent = refl; call = refl; real = refl; outcome = tt }, (record { unmade = refl; next = refl; parent = refl; call = refl; real = refl; outcome = tt }, (tt, (tt, tt))))))
+
+trigger_not_twice-demanded : Each (λ p. IsDemanded event_stubs.facts event_stubs.walks trigger_not_twice_history trigger_not_twice_ends p p.item.tag) (places_of trigger_not_twice)
+trigger_not_twice-demanded = (tt, (tt, (record { call = call_of 2 1 2 1; under_way = record { its = refl; above = refl; first = refl }; least = refl }, (record { call = call_of 2 1 2 1; under_way = record { its = refl; above = refl; first = refl }; least = refl }, (tt, (tt, tt))))))
+
+trigger_not_twice-tracked : Each (λ p. IsTrackedAt event_stubs.facts event_stubs.walks trigger_not_twice_history p p.item.tag) (places_of trigger_not_twice)
+trigger_not_twice-tracked = (record { whole = refl; rows = tt; real = refl; file = tt }, (record { whole = refl; rows = (record { id = refl; made = refl; parent = refl; state = refl; fields = refl }, tt); real = refl; file = tt }, (tt, (tt, (record { whole = refl; rows = (record { id = refl; made = refl; parent = refl; state = refl; fields = refl }, tt); real = refl; file = tt }, (record { whole = refl; rows = (record { id = refl; made = refl; parent = refl; state = refl; fields = refl }, tt); real = refl; file = tt }, tt))))))
+
+trigger_not_twice-points : ArePointsOf event_stubs.facts event_stubs.parts 0 trigger_not_twice.boots trigger_not_twice.points
+trigger_not_twice-points = ((refl, (refl, tt)), inl (refl, refl), ((refl, (refl, (refl, (refl, tt)))), refl, refl))
+
+pub trigger_not_twice-recovered : IsRecovered event_stubs trigger_not_twice_history trigger_not_twice trigger_not_twice_ends
+trigger_not_twice-recovered = record {
+  reboots = trigger_not_twice-reboots;
+  served = trigger_not_twice-served;
+  walks = trigger_not_twice-walks;
+  on_demand = trigger_not_twice-demanded;
+  tracked_state = trigger_not_twice-tracked;
+  points = λ below. trigger_not_twice-points;
+}
+
+blocked_redone-reboots : IsRebooted event_stubs.facts event_stubs.ask blocked_redone
+blocked_redone-reboots = record {
+  table = ((refl, refl), (refl, ((refl, refl), ((refl, refl), ((refl, refl), tt)))));
+  stopped = (refl, tt);
+  last = (tt, (tt, (tt, (tt, (tt, tt)))));
+}
+
+blocked_redone-served : IsServed event_stubs.facts blocked_redone_history blocked_redone blocked_redone_ends
+blocked_redone-served = record {
+  calls = (refl, (refl, (tt, (refl, (refl, tt)))));
+  items = ((refl, (refl, refl, refl)), ((refl, (refl, refl, refl)), ((refl, (refl, refl, refl)), tt)));
+  committed = (refl, (tt, (tt, (refl, (refl, tt)))));
+  order = (refl, (refl, (refl, tt)));
+}
+
+blocked_redone-walks : Each (λ p. IsWalked event_stubs.facts event_stubs.walks blocked_redone_history p p.item.tag) (places_of blocked_redone)
+blocked_redone-walks = (tt, (tt, (record { unmade = refl; next = refl; parent = refl; call = refl; real = refl; outcome = tt }, (tt, (tt, tt)))))
+
+blocked_redone-demanded : Each (λ p. IsDemanded event_stubs.facts event_stubs.walks blocked_redone_history blocked_redone_ends p p.item.tag) (places_of blocked_redone)
+blocked_redone-demanded = (tt, (tt, (record { call = call_of 2 1 2 1; under_way = record { its = refl; above = refl; first = refl }; least = refl }, (tt, (tt, tt)))))
+
+blocked_redone-tracked : Each (λ p. IsTrackedAt event_stubs.facts event_stubs.walks blocked_redone_history p p.item.tag) (places_of blocked_redone)
+blocked_redone-tracked = (record { whole = refl; rows = tt; real = refl; file = tt }, (record { whole = refl; rows = (record { id = refl; made = refl; parent = refl; state = refl; fields = refl }, tt); real = refl; file = tt }, (tt, (record { whole = refl; rows = (record { id = refl; made = refl; parent = refl; state = refl; fields = refl }, tt); real = refl; file = tt }, (record { whole = refl; rows = (record { id = refl; made = refl; parent = refl; state = refl; fields = refl }, tt); real = refl; file = tt }, tt)))))
+
+blocked_redone-points : ArePointsOf event_stubs.facts event_stubs.parts 0 blocked_redone.boots blocked_redone.points
+blocked_redone-points = ((refl, (refl, tt)), inr (refl, refl), ((refl, (refl, (refl, tt))), refl, refl))
+
+pub blocked_redone-recovered : IsRecovered event_stubs blocked_redone_history blocked_redone blocked_redone_ends
+blocked_redone-recovered = record {
+  reboots = blocked_redone-reboots;
+  served = blocked_redone-served;
+  walks = blocked_redone-walks;
+  on_demand = blocked_redone-demanded;
+  tracked_state = blocked_redone-tracked;
+  points = λ below. blocked_redone-points;
+}

@@ -1,0 +1,4 @@
+pub mod EventRuns
+pub mod MmRuns
+pub mod RamfsRuns
+pub mod SchedRuns
