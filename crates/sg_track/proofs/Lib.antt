@@ -1,0 +1,3 @@
+pub mod DraftLists
+pub mod Halving
+pub mod KeptLists

@@ -1,0 +1,34 @@
+-- What a tracker keeps.
+use Rattle.std.specs.Prelude.{ℕ, ◌≡◌, ◌<◌, Bool, true, false, if◌then◌else◌, List, Some, None, length, map, slice_get, vec_capacity, vec_len}
+use Rattle.std.specs.declared.option.Option.{Option}
+use Rattle.std.specs.Option.{is_some}
+use Rattle.sg_facts.specs.declared.row.Row.{Row}
+use Rattle.sg_facts.specs.Sound.{AreRows}
+use Rattle.sg_facts.specs.Track.{row_at}
+use Rattle.sg_track.specs.declared.room.RowRoom.{RowRoom}
+use Rattle.sg_track.specs.declared.tracker.Kept.{Kept}
+use Rattle.sg_track.specs.declared.tracker.Tracker.TheInside.{Inside}
+use Rattle.sg_track.specs.Tracked.{AreTracked, HasLowerParent}
+
+-- the rows
+abbrev pub rows_of : List Kept → List Row
+rows_of kept = map (λ k. k.row) kept
+
+-- room for one row, or for none
+abbrev pub spare_of : Option RowRoom → ℕ
+spare_of room = if is_some room then 1 else 0
+
+-- rows in ascending ids
+pub record Ascends (kept : List Kept) : Type 0 where
+  pub most : ℕ
+  pub tracked : AreTracked most (rows_of kept)
+
+-- the row of an id stands at a place
+pub record HasRow (kept : List Kept) (at id : ℕ) : Type 0 where
+  pub within : at < length kept
+  pub there : row_at (rows_of kept) id ≡ slice_get (rows_of kept) at
+
+-- the rows are tracked, and where there is room for a row, its place is there too
+pub record IsKept (t : Inside) : Type 0 where
+  pub tracked : AreTracked t.given (rows_of t.kept.items)
+  pub room : is_some t.room ≡ true → vec_len t.kept < vec_capacity t.kept

@@ -1,0 +1,39 @@
+// A row as a tracker keeps it.
+ghost use Rattle.std.specs.Prelude.{◌≡◌};
+
+use sg_base::Value;
+use std::marker::Model;
+
+/// A tracked descriptor, as a tracker keeps it: its words are set in place, which needs no memory. Contracts see its
+/// `Row`.
+#[derive(Debug, Drop)]
+pub struct KeptRow {
+    /// Its id, from 1.
+    pub id: u64,
+    /// The creation function that made it.
+    pub made: u8,
+    /// The client that made it.
+    pub creator: u8,
+    /// The id of its parent, 0 for none.
+    pub parent: u64,
+    /// The function that names its state.
+    pub state: u8,
+    pub(crate) values: Vec<Value>,
+}
+
+impl Model for KeptRow {
+    ghost use Rattle.sg_facts.specs.declared.row.Row.{Row};
+
+    ghost Value = { Row };
+
+    ghost view = { λ r. record { id = r.id; made = r.made; creator = r.creator; parent = r.parent; state = r.state; fields = r.values.items } };
+}
+
+impl KeptRow {
+    /// The fields, by their numbers from 0.
+    pub fn fields(&self) -> &[Value]
+        ensures { result.now ≡ self.now.fields }
+    {
+        self.values.as_slice()
+    }
+}
