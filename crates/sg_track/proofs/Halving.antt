@@ -74,7 +74,7 @@ module _ (P : Row → Type 0) where
   at_head : (b : Bool) (k : Kept) (kept : List Kept) (id : ℕ) → (k.row.id == id) ≡ b → row_at (rows_of (k ∷ kept)) id ≡ cond b (Some k.row) (row_at (rows_of kept) id)
   at_head b k kept id is = ap (λ t. cond t (Some k.row) (row_at (rows_of kept) id)) is
 
-  found : (low high id : ℕ) (kept : List Kept) (n : ℕ) (d : Kept) → AreRows P low high (rows_of kept) → n < length kept → (get_or kept n d).row.id ≡ id
+  pub found : (low high id : ℕ) (kept : List Kept) (n : ℕ) (d : Kept) → AreRows P low high (rows_of kept) → n < length kept → (get_or kept n d).row.id ≡ id
       → row_at (rows_of kept) id ≡ slice_get (rows_of kept) n
   found low high id [] n d are within is = absurd (omega arith)
   found low high id (k ∷ kept) zero d are within is = elim (eqb_tells k.row.id id) [

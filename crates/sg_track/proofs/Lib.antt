@@ -1,3 +1,5 @@
 pub mod DraftLists
 pub mod Halving
 pub mod KeptLists
+pub mod Above
+pub mod Ends

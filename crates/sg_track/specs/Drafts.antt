@@ -1,10 +1,11 @@
 -- Fields of a row before it is made, and the values that effects give.
-use Rattle.std.specs.Prelude.{ℕ, ◌^◌, ◌<◌, List, [], ◌∷◌, slice_set}
+use Rattle.std.specs.Prelude.{ℕ, ◌^◌, ◌<◌, if◌then◌else◌, List, [], ◌∷◌, slice_set}
 use Rattle.sg_base.specs.declared.value.Value.{Value}
 use Rattle.sg_base.specs.declared.value.Value.TheVariants.{Word, Text}
 use Rattle.sg_base.specs.declared.call.Call.{Call}
 use Rattle.sg_base.specs.declared.reply.Good.{Good}
 use Rattle.sg_facts.specs.declared.shape.Effect.{Effect}
+use Rattle.sg_facts.specs.declared.shape.FieldShape.{FieldShape}
 use Rattle.sg_facts.specs.Track.{arg_at, effect_of, field_at}
 use Rattle.sg_track.specs.declared.draft.Draft.{Draft}
 use Rattle.sg_track.specs.declared.draft.Draft.TheVariants.{Number, Blank, Arg}
@@ -14,6 +15,14 @@ abbrev pub drafted : Call → Draft → Value
 drafted call (Number n) = Word n
 drafted call Blank = Text []
 drafted call (Arg k) = arg_at call k
+
+-- 0, or the empty text, as a field is when its row is made
+abbrev pub blank_draft : FieldShape → Draft
+blank_draft f = if f.text then Blank else Number 0
+
+-- the same as a value
+abbrev pub empty_shape : FieldShape → Value
+empty_shape f = if f.text then Text [] else Word 0
 
 -- a value is a number of its type
 abbrev pub IsNumber : Value → Type 0

@@ -1,10 +1,10 @@
 -- What a tracker keeps.
-use Rattle.std.specs.Prelude.{ℕ, ◌≡◌, ◌<◌, Bool, true, false, if◌then◌else◌, List, Some, None, length, map, slice_get, vec_capacity, vec_len}
+use Rattle.std.specs.Prelude.{ℕ, ◌≡◌, ◌<◌, ◌==◌, ◌||◌, Bool, true, false, if◌then◌else◌, List, [], ◌∷◌, Some, None, length, map, slice_get, slice_index_or, vec_capacity, vec_len}
 use Rattle.std.specs.declared.option.Option.{Option}
 use Rattle.std.specs.Option.{is_some}
 use Rattle.sg_facts.specs.declared.row.Row.{Row}
 use Rattle.sg_facts.specs.Sound.{AreRows}
-use Rattle.sg_facts.specs.Track.{row_at}
+use Rattle.sg_facts.specs.Track.{is_ancestor, row_at}
 use Rattle.sg_track.specs.declared.room.RowRoom.{RowRoom}
 use Rattle.sg_track.specs.declared.tracker.Kept.{Kept}
 use Rattle.sg_track.specs.declared.tracker.Tracker.TheInside.{Inside}
@@ -32,3 +32,20 @@ pub record HasRow (kept : List Kept) (at id : ℕ) : Type 0 where
 pub record IsKept (t : Inside) : Type 0 where
   pub tracked : AreTracked t.given (rows_of t.kept.items)
   pub room : is_some t.room ≡ true → vec_len t.kept < vec_capacity t.kept
+
+-- each kept row meets a condition
+abbrev pub Each : (Kept → Type 0) → List Kept → Type 0
+Each P [] = Unit {0}
+Each P (k ∷ kept) = P k × Each P kept
+
+-- whether an id ends with another, under subtree
+abbrev pub ends_below : List Row → ℕ → ℕ → Bool
+ends_below rows id other = (other == id) || is_ancestor rows id other
+
+-- a test tells whether the row at a place ends with an id
+abbrev pub TellsAt : ℕ → List Kept → ℕ → Bool → Type 0
+TellsAt id kept at test = (d : Kept) → test ≡ ends_below (rows_of kept) id (slice_index_or kept at d).row.id
+
+-- what was told of the row at a place
+abbrev pub IsTold : ℕ → List Kept → ℕ → Type 0
+IsTold id kept at = (d : Kept) → (slice_index_or kept at d).ends ≡ ends_below (rows_of kept) id (slice_index_or kept at d).row.id

@@ -1,5 +1,5 @@
 -- What contracts see of a tracker, and when an answered call may be tracked.
-use Rattle.std.specs.Prelude.{ℕ, ◌≡◌, ◌+◌, ◌-◌, ◌<◌, ◌≤◌, ◌==◌, Bool, true, false, ◌||◌, if◌then◌else◌, List, None, Some, length, map}
+use Rattle.std.specs.Prelude.{ℕ, ◌≡◌, ◌+◌, ◌-◌, ◌<◌, ◌≤◌, ◌==◌, Bool, true, false, ◌||◌, ◌&&◌, not, if◌then◌else◌, List, [], ◌∷◌, ◌++◌, None, Some, filter, length, map}
 use Rattle.sg_base.specs.declared.call.Call.{Call}
 use Rattle.sg_base.specs.declared.reply.Good.{Good}
 use Rattle.sg_base.specs.declared.reply.Reply.{Reply}
@@ -7,7 +7,7 @@ use Rattle.sg_base.specs.declared.reply.Reply.TheVariants.{Ok, Refused}
 use Rattle.sg_facts.specs.declared.row.Row.{Row}
 use Rattle.sg_facts.specs.Facts.{Facts, fun_at, takes_parent}
 use Rattle.sg_facts.specs.Sound.{AreRows}
-use Rattle.sg_facts.specs.Track.{empty_field, is_live, row_at}
+use Rattle.sg_facts.specs.Track.{empty_field, is_ancestor, is_live, new_row, row_after, row_at}
 use Rattle.sg_track.specs.Drafts.{EachNew, IsNumber, IsValue}
 
 -- the rows in ascending ids, how many ids were given, and for how many more rows there is room
@@ -28,6 +28,18 @@ AreTracked given rows = AreRows HasLowerParent 0 given rows
 abbrev pub spare_after : Facts → ℕ → Call → Reply → ℕ
 spare_after facts spare call (Ok good) = if (fun_at facts.funs call.fun).creation then spare - 1 else spare
 spare_after facts spare call (Refused code) = spare
+
+-- the rows after an Ok of a creation
+abbrev pub made_rows : Facts → List Row → Call → Good → List Row
+made_rows facts rows call good = if (fun_at facts.funs call.fun).query then rows else rows ++ new_row facts call good ∷ []
+
+-- the rows after an Ok of a function that changes its row
+abbrev pub changed_rows : Facts → List Row → Call → Good → List Row
+changed_rows facts rows call good = map (λ r. if r.id == call.desc then row_after facts call good r else r) rows
+
+-- the rows after an Ok of a terminal function
+abbrev pub left_rows : Bool → List Row → ℕ → List Row
+left_rows subtree rows id = filter (λ r. not ((r.id == id) || (subtree && is_ancestor rows id r.id))) rows
 
 -- an Ok of a creation may be tracked: there is room for its row, its parent is 0 or live, its descriptor is the next id,
 -- rows have at most 8 fields, and its fields come to numbers of their type or texts

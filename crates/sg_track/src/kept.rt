@@ -1,7 +1,12 @@
 // A row as a tracker keeps it.
 ghost use Rattle.std.specs.Prelude.{◌≡◌};
+ghost use Rattle.sg_facts.specs.Facts.{fun_at};
+ghost use Rattle.sg_facts.specs.Track.{row_after};
+ghost use Rattle.sg_track.specs.Drafts.{EachNew, IsNumber};
 
-use sg_base::Value;
+use crate::words::set_words;
+use sg_base::{Call, Good, Value};
+use sg_facts::Interface;
 use std::marker::Model;
 
 /// A tracked descriptor, as a tracker keeps it: its words are set in place, which needs no memory. Contracts see its
@@ -35,5 +40,15 @@ impl KeptRow {
         ensures { result.now ≡ self.now.fields }
     {
         self.values.as_slice()
+    }
+
+    // Does what an Ok of a function does that changes its row. It takes no memory.
+    pub(crate) fn change(&mut self, interface: &Interface, call: &Call, good: &Good)
+        requires { EachNew IsNumber call.now good.now (fun_at interface.now.facts.funs call.now.fun).effects self.old.fields }
+        ensures { self.new ≡ row_after interface.now.facts call.now good.now self.old }
+    {
+        let fun = interface.fun(call.fun);
+        self.state = fun.leaves.state_after(call.fun, self.state);
+        set_words(self.values.as_mut_slice(), fun.effects, call, good);
     }
 }

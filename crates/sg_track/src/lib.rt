@@ -8,6 +8,7 @@
 
 mod draft;
 mod kept;
+mod make;
 mod room;
 mod tracker;
 mod words;

@@ -1,14 +1,15 @@
 // The tracked rows of all descriptors.
-ghost use Rattle.std.specs.Prelude.{◌≡◌, ◌≤◌, ◌<◌, ◌+◌, [], ◌∷◌, ◌++◌, length, map, None, OnOk, OnErr, MatchOption, slice_get, vec_capacity, vec_len};
+ghost use Rattle.std.specs.Prelude.{◌≡◌, ◌≤◌, ◌<◌, ◌+◌, ◌-◌, ℕ, [], length, filter, not, None, OnOk, OnErr, MatchOption, vec_capacity, vec_len};
 ghost use Rattle.std.specs.Option.{option_copied};
 ghost use Rattle.sg_facts.specs.Object.{given_after};
-ghost use Rattle.sg_facts.specs.Track.{new_row, row_at, track};
+ghost use Rattle.sg_facts.specs.Track.{row_at, rows_after, track};
 ghost use Rattle.std.specs.Ordering.{nat_cmp};
-ghost use Rattle.sg_track.specs.Kept.{Ascends, HasRow, rows_of};
-ghost use Rattle.sg_track.specs.Tracked.{MayTrack, spare_after};
+ghost use Rattle.sg_track.specs.Kept.{Ascends, Each, HasRow, IsTold, TellsAt, ends_below, rows_of};
+ghost use Rattle.sg_track.specs.Tracked.{MayChange, MayMake, MayTrack, MayTrackOk, changed_rows, left_rows, made_rows, spare_after};
 
+use crate::KeptRow;
+use crate::make::made_row;
 use crate::room::RowRoom;
-use crate::{KeptRow, words};
 use sg_base::{Call, Good, NoMemory, Reply};
 use sg_facts::{FunShape, Interface, Kind, Tables};
 use std::alloc::Global;
@@ -72,6 +73,84 @@ impl Tracker {
         Ok(())
     }
 
+    /// Does to the rows what an answered call does. It takes no memory: a creation fills the room that was taken for it, and
+    /// other functions set words in place.
+    pub fn track(&mut self, tables: &Tables, call: &Call, reply: &Reply)
+        requires { MayTrack tables.now.iface.facts self.old call.now reply.now }
+        ensures rows { self.new.rows ≡ track tables.now.iface.facts self.old.rows call.now reply.now }
+        ensures given { self.new.given ≡ given_after tables.now.iface.facts self.old.given call.now reply.now }
+        ensures spare { self.new.spare ≡ spare_after tables.now.iface.facts self.old.spare call.now reply.now }
+    {
+        match reply {
+            Reply::Ok(good) => self.track_ok(tables.interface(), call, good),
+            Reply::Refused(_) => {}
+        }
+    }
+
+    // Does to the rows what an Ok does.
+    fn track_ok(&mut self, interface: &Interface, call: &Call, good: &Good)
+        requires { MayTrackOk interface.now.facts self.old call.now good.now }
+        ensures rows { self.new.rows ≡ rows_after interface.now.facts self.old.rows call.now good.now }
+        ensures given { self.new.given ≡ given_after interface.now.facts self.old.given call.now (Reply.Ok good.now) }
+        ensures spare { self.new.spare ≡ spare_after interface.now.facts self.old.spare call.now (Reply.Ok good.now) }
+    {
+        let fun = interface.fun(call.fun);
+        if fun.is_creation() {
+            self.make(interface, call, good)
+        } else if fun.is_query() {} else if fun.is_terminal() {
+            self.end(interface.shape.subtree, call.desc)
+        } else {
+            self.change(interface, call, good)
+        }
+    }
+
+    // Adds the row that a creation makes; none where the creation is a query too.
+    fn make(&mut self, interface: &Interface, call: &Call, good: &Good)
+        requires { MayMake interface.now.facts self.old call.now good.now }
+        ensures rows { self.new.rows ≡ made_rows interface.now.facts self.old.rows call.now good.now }
+        ensures given { self.new.given ≡ self.old.given + 1 }
+        ensures spare { self.new.spare ≡ self.old.spare - 1 }
+    {
+        match self.room.take() {
+            Some(room) => {
+                self.given = good.desc;
+                if !interface.fun(call.fun).is_query() {
+                    self.kept.push_reserved(Kept {
+                        row: made_row(interface, call, good, room),
+                        ends: false,
+                    });
+                }
+            }
+            None => unreachable!(),
+        }
+    }
+
+    // Removes the row of an id, and under subtree all below it.
+    fn end(&mut self, subtree: bool, id: u64)
+        ensures rows { self.new.rows ≡ left_rows subtree self.old.rows id }
+        ensures given { self.new.given ≡ self.old.given }
+        ensures spare { self.new.spare ≡ self.old.spare }
+    {
+        if subtree {
+            mark_below(self.kept.as_mut_slice(), id);
+            close_up(&mut self.kept);
+        } else if let Some(place) = place_of(self.kept.as_slice(), id) {
+            self.kept.remove(place);
+        }
+    }
+
+    // Changes the row of the call's descriptor.
+    fn change(&mut self, interface: &Interface, call: &Call, good: &Good)
+        requires { MayChange interface.now.facts self.old call.now good.now }
+        ensures rows { self.new.rows ≡ changed_rows interface.now.facts self.old.rows call.now good.now }
+        ensures given { self.new.given ≡ self.old.given }
+        ensures spare { self.new.spare ≡ self.old.spare }
+    {
+        if let Some(place) = place_of(self.kept.as_slice(), call.desc) {
+            self.kept[place].row.change(interface, call, good);
+        }
+    }
+
     /// The row of an id; None exactly where no live row has the id.
     pub fn row(&self, id: u64) -> Option<&KeptRow>
         ensures { option_copied result ≡ row_at self.now.rows id }
@@ -103,4 +182,43 @@ fn place_of(kept: &[Kept], id: u64) -> Option<usize>
         Ok(place) => Some(place),
         Err(_) => None,
     }
+}
+
+// Tells of each row whether it ends with an id: it is the id's, or below it. Each row is looked at once, after its parent.
+fn mark_below(kept: &mut [Kept], id: u64)
+    requires { Ascends kept.old }
+    ensures len { length kept.new ≡ length kept.old }
+    ensures rows { rows_of kept.new ≡ rows_of kept.old }
+    ensures marked { Each (λ k. k.ends ≡ ends_below (rows_of kept.old) id k.row.id) kept.new }
+{
+    'rows: for at in 0..kept.len() {
+        let ends = ends_below(kept, at, id);
+        kept[at].ends = ends;
+    }
+}
+
+// Whether the row at a place ends with an id, where this was told of those before it.
+fn ends_below(kept: &[Kept], at: usize, id: u64) -> bool
+    requires within { at < length kept.now }
+    requires ascends { Ascends kept.now }
+    requires before { (k : ℕ) → k < at → IsTold id kept.now k }
+    ensures { TellsAt id kept.now at result }
+{
+    let row = &kept[at].row;
+    row.id == id
+        || (row.parent != 0
+            && (row.parent == id
+                || match place_of(kept, row.parent) {
+                    Some(place) => kept[place].ends,
+                    None => false,
+                }))
+}
+
+// Removes the rows that end.
+fn close_up(kept: &mut Vec<Kept>)
+    ensures items { kept.new.items ≡ filter (λ k. not k.ends) kept.old.items }
+    ensures len { vec_len kept.new ≤ vec_len kept.old }
+    ensures capacity { vec_capacity kept.new ≡ vec_capacity kept.old }
+{
+    kept.retain(|one| !one.ends);
 }
