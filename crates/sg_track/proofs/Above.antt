@@ -1,5 +1,5 @@
 -- Ancestors, one by one: a parent is below its child, so the ancestors of a row are its parent and those of its parent.
-use Rattle.std.proofs.Common.{◌≡◌, ◌≢◌, ℕ, zero, suc, ◌-◌, ◌<◌, ◌≤◌, Bool, true, false, cond, not, ◌&&◌, ◌||◌, List, [], ◌∷◌, None, Some, refl, sym, ◌∙◌, ap, arith}
+use Rattle.std.proofs.Common.{◌≡◌, ◌≢◌, ℕ, zero, suc, ◌-◌, ◌<◌, ◌≤◌, Bool, true, false, cond, not, ◌&&◌, ◌||◌, List, [], ◌∷◌, ◌++◌, None, Some, refl, sym, ◌∙◌, ap, arith, append_assoc}
 use Rattle.std.specs.Prelude.{◌==◌}
 use Rattle.std.specs.declared.option.Option.{Option}
 use Rattle.std.specs.List.{list_any}
@@ -89,3 +89,24 @@ module _ (low high : ℕ) (rows : List Row) (are : AreRows HasLowerParent low hi
   -- an id ends with itself
   pub ends_itself : (id other : ℕ) → (other == id) ≡ true → ends_below rows id other ≡ true
   ends_itself id other same = ap (λ b. b || is_ancestor rows id other) same
+
+-- an id and its ancestors; none for 0
+abbrev pub up_from : List Row → ℕ → List ℕ
+up_from rows id = cond (id == 0) [] (id ∷ ancestors rows id)
+
+-- the ancestors of an id are those from its parent on
+pub from_parent : (low high id : ℕ) (rows : List Row) → AreRows HasLowerParent low high rows → ancestors rows id ≡ up_from rows (parent_in (row_at rows id))
+from_parent low high id rows are = at (parent_in (row_at rows id) == 0) refl
+  where
+    at : (b : Bool) → (parent_in (row_at rows id) == 0) ≡ b → ancestors rows id ≡ cond b [] (parent_in (row_at rows id) ∷ ancestors rows (parent_in (row_at rows id)))
+    at true is = root low high rows are id (grind (arith, nat_tests))
+    at false is = child low high rows are id is
+
+-- one step up
+pub one_up : (low high id : ℕ) (rows : List Row) (above : List ℕ) → AreRows HasLowerParent low high rows → (id ≡ 0 → ⊥)
+    → (above ++ id ∷ []) ++ up_from rows (parent_in (row_at rows id)) ≡ above ++ up_from rows id
+one_up low high id rows above are some =
+    let test : (id == 0) ≡ false = grind (arith, nat_tests, some) in
+    append_assoc above (id ∷ []) (up_from rows (parent_in (row_at rows id)))
+    ∙ ap (λ l. above ++ id ∷ l) (sym (from_parent low high id rows are))
+    ∙ ap (λ b. above ++ cond b [] (id ∷ ancestors rows id)) (sym test)

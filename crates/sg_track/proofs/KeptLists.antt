@@ -1,6 +1,7 @@
 -- Lists of kept rows.
 use Rattle.std.proofs.Common.{◌≡◌, ℕ, zero, suc, ◌<◌, ◌≤◌, Bool, true, false, cond, ◌||◌, List, [], ◌∷◌, ◌++◌, None, Some, length, map, get_or, refl, sym, ◌∙◌, ap, arith}
 use Rattle.std.specs.Prelude.{◌==◌, if◌then◌else◌, slice_get}
+use Rattle.std.specs.List.{list_any}
 use Rattle.std.proofs.Math.ListN.{set}
 use Rattle.std.proofs.lemmas.Bool.Decides.{nat_tests}
 use Rattle.sg_facts.specs.declared.row.Row.{Row}
@@ -8,7 +9,7 @@ use Rattle.sg_facts.specs.Sound.{AreRows}
 use Rattle.sg_base.specs.declared.call.Call.{Call}
 use Rattle.sg_base.specs.declared.reply.Good.{Good}
 use Rattle.sg_facts.specs.Facts.{Facts, fun_at, takes_parent}
-use Rattle.sg_facts.specs.Track.{is_live, new_row, row_at}
+use Rattle.sg_facts.specs.Track.{has_child, is_live, new_row, row_at}
 use Rattle.sg_track.specs.Tracked.{AreTracked, HasLowerParent, MayMake, Tracked}
 use Rattle.sg_facts.proofs.RowLists.{changed as keep_changed, id_of_row}
 use Rattle.sg_track.specs.declared.tracker.Kept.{Kept}
@@ -106,3 +107,7 @@ are_changed change id same_id same_parent low high rows are =
     either_lower : (b : Bool) (r : Row) → HasLowerParent r → HasLowerParent (cond b (change r) r)
     either_lower true r lower = omega (arith, same_id r, same_parent r, lower)
     either_lower false r lower = lower
+
+pub child-rows : (kept : List Kept) (id : ℕ) → list_any (λ k. k.row.parent == id) kept ≡ has_child (rows_of kept) id
+child-rows [] id = refl
+child-rows (k ∷ kept) id = ap (λ b. (k.row.parent == id) || b) (child-rows kept id)

@@ -1,8 +1,9 @@
 // The tracked rows of all descriptors.
-ghost use Rattle.std.specs.Prelude.{◌≡◌, ◌≤◌, ◌<◌, ◌+◌, ◌-◌, ℕ, [], length, filter, not, None, OnOk, OnErr, MatchOption, vec_capacity, vec_len};
+ghost use Rattle.std.specs.Prelude.{◌≡◌, ◌==◌, ◌≤◌, ◌<◌, ◌+◌, ◌-◌, ℕ, [], length, filter, not, None, IfOk, OnOk, OnErr, MatchOption, vec_capacity, vec_len};
+ghost use Rattle.std.specs.List.{list_any};
 ghost use Rattle.std.specs.Option.{option_copied};
 ghost use Rattle.sg_facts.specs.Object.{given_after};
-ghost use Rattle.sg_facts.specs.Track.{row_at, rows_after, track};
+ghost use Rattle.sg_facts.specs.Track.{ancestors, has_child, parent_in, row_at, rows_after, track};
 ghost use Rattle.std.specs.Ordering.{nat_cmp};
 ghost use Rattle.sg_track.specs.Kept.{Ascends, Each, HasRow, IsTold, TellsAt, ends_below, rows_of};
 ghost use Rattle.sg_track.specs.Tracked.{MayChange, MayMake, MayTrack, MayTrackOk, changed_rows, left_rows, made_rows, spare_after};
@@ -10,7 +11,7 @@ ghost use Rattle.sg_track.specs.Tracked.{MayChange, MayMake, MayTrack, MayTrackO
 use crate::KeptRow;
 use crate::make::made_row;
 use crate::room::RowRoom;
-use sg_base::{Call, Good, NoMemory, Reply};
+use sg_base::{Call, Good, IdList, NoMemory, Reply};
 use sg_facts::{FunShape, Interface, Kind, Tables};
 use std::alloc::Global;
 use std::cmp::Ordering;
@@ -161,6 +162,20 @@ impl Tracker {
         }
     }
 
+    /// The ancestors of an id, nearest first: its parent, the parent of that, and so on. None of them is 0.
+    pub fn ancestors(&self, alloc: Global, id: u64) -> Result<IdList, NoMemory>
+        ensures { IfOk result (λ above. above ≡ ancestors self.now.rows id) }
+    {
+        ancestors_in(alloc, self.kept.as_slice(), id)
+    }
+
+    /// Whether a live row has the id as its parent.
+    pub fn has_children(&self, id: u64) -> bool
+        ensures { result ≡ has_child self.now.rows id }
+    {
+        has_child(self.kept.as_slice(), id)
+    }
+
     /// The number of live rows.
     pub fn live(&self) -> usize
         ensures { result ≡ length self.now.rows }
@@ -221,4 +236,39 @@ fn close_up(kept: &mut Vec<Kept>)
     ensures capacity { vec_capacity kept.new ≡ vec_capacity kept.old }
 {
     kept.retain(|one| !one.ends);
+}
+
+// The ancestors of an id, nearest first.
+fn ancestors_in(alloc: Global, kept: &[Kept], id: u64) -> Result<IdList, NoMemory>
+    requires { Ascends kept.now }
+    ensures { IfOk result (λ above. above ≡ ancestors (rows_of kept.now) id) }
+{
+    let mut above = IdList::new(alloc);
+    let mut parent = parent_of(kept, id);
+    'up: while parent != 0 {
+        above.push(parent)?;
+        parent = parent_of(kept, parent);
+    }
+    Ok(above)
+}
+
+// The parent of an id; 0 where there is no row.
+fn parent_of(kept: &[Kept], id: u64) -> u64
+    requires { Ascends kept.now }
+    ensures { result ≡ parent_in (row_at (rows_of kept.now) id) }
+{
+    match place_of(kept, id) {
+        Some(place) => {
+            let row = &kept[place].row;
+            row.parent
+        }
+        None => 0,
+    }
+}
+
+// Whether some row has the id as its parent.
+fn has_child(kept: &[Kept], id: u64) -> bool
+    ensures { result ≡ list_any (λ k. k.row.parent == id) kept.now }
+{
+    kept.iter().any(|one| one.row.parent == id)
 }
