@@ -7,7 +7,6 @@ use Rattle.sg_base.specs.declared.call.Call.{Call}
 use Rattle.sg_base.specs.declared.reply.Good.{Good}
 use Rattle.sg_facts.specs.declared.shape.Effect.{Effect}
 use Rattle.sg_facts.specs.declared.shape.FieldShape.{FieldShape}
-use Rattle.sg_facts.specs.Facts.{Field}
 use Rattle.sg_facts.specs.Track.{effect_of, empty_field, field_at}
 use Rattle.sg_base.specs.declared.value.Value.TheVariants.{Word, Text}
 use Rattle.sg_track.specs.declared.draft.Draft.{Draft}

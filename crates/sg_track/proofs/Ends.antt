@@ -1,17 +1,17 @@
 -- Which kept rows end with an id, and what is left of the rest.
-use Rattle.std.proofs.Common.{◌≡◌, ◌≢◌, ◌⊎◌, ℕ, zero, suc, ◌+◌, ◌<◌, ◌≤◌, Bool, true, false, cond, not, ◌&&◌, ◌||◌, List, [], ◌∷◌, ◌++◌, None, Some, length, map, filter, get_or, refl, sym, ◌∙◌, ap, subst, inl, inr, arith, below_more}
-use Rattle.std.specs.Prelude.{◌==◌, remove, slice_get}
+use Rattle.std.proofs.Common.{◌≡◌, ℕ, zero, suc, ◌+◌, ◌<◌, ◌≤◌, Bool, true, false, cond, not, ◌&&◌, ◌||◌, List, [], ◌∷◌, None, Some, length, filter, get_or, refl, sym, ◌∙◌, ap, inl, inr, arith}
+use Rattle.std.specs.Prelude.{◌==◌, remove}
 use Rattle.std.proofs.Math.ListN.{set}
 use Rattle.std.proofs.lemmas.Bool.{cases_lt}
 use Rattle.std.proofs.lemmas.Bool.Decides.{eqb_tells, nat_tests}
-use Rattle.std.proofs.lemmas.List.{get_or_default, get_or-set_other, get_or-set_same, length-map}
+use Rattle.std.proofs.lemmas.List.{get_or-set_other, get_or-set_same}
 use Rattle.sg_facts.specs.declared.row.Row.{Row}
 use Rattle.sg_facts.specs.Sound.{AreRows}
-use Rattle.sg_facts.specs.Track.{is_ancestor, row_at}
+use Rattle.sg_facts.specs.Track.{row_at}
 use Rattle.sg_facts.proofs.RowLists.{id_of_row}
 use Rattle.sg_track.specs.declared.tracker.Kept.{Kept}
 use Rattle.sg_track.specs.Kept.{Each, HasRow, IsTold, TellsAt, ends_below, rows_of}
-use Rattle.sg_track.specs.Tracked.{HasLowerParent, left_rows}
+use Rattle.sg_track.specs.Tracked.{HasLowerParent}
 use Rattle.sg_track.proofs.Above.{ends_child, ends_itself, ends_nowhere, ends_root}
 use Rattle.sg_track.proofs.Halving.{above, found, later}
 use Rattle.sg_track.proofs.KeptLists.{read, row_read}
@@ -21,7 +21,7 @@ use Rattle.sg_track.proofs.KeptLists.{read, row_read}
 pub same_test : (m n : ℕ) → m ≡ n → (m == n) ≡ true
 same_test m n is = elim (eqb_tells m n) [ inl same ↦ same.0 | inr apart ↦ absurd (apart.1 is) ]
 
-other_test : (m n : ℕ) → (m ≡ n → ⊥) → (m == n) ≡ false
+pub other_test : (m n : ℕ) → (m ≡ n → ⊥) → (m == n) ≡ false
 other_test m n isn't = elim (eqb_tells m n) [ inl same ↦ absurd (isn't same.1) | inr apart ↦ apart.0 ]
 
 module _ (high : ℕ) (kept : List Kept) (are : AreRows HasLowerParent 0 high (rows_of kept)) (at id : ℕ) (within : at < length kept) (r : Row) (is : (d : Kept) → r ≡ (get_or kept at d).row)
@@ -77,28 +77,28 @@ lower_at low high (k ∷ kept) (suc n) d are within = lower_at k.row.id high kep
 
 -- ---- what is told of each row
 
-pub rows-told : (kept : List Kept) (at : ℕ) (d : Kept) (ends : Bool) → at < length kept → rows_of (set kept at (record { row = (get_or kept at d).row; ends = ends })) ≡ rows_of kept
+pub rows-told : (kept : List Kept) (at : ℕ) (d : Kept) (ends : Bool) → at < length kept → rows_of (set kept at (record { row = (get_or kept at d).row; children = (get_or kept at d).children; ends = ends })) ≡ rows_of kept
 rows-told [] at d ends within = refl
 rows-told (k ∷ kept) zero d ends within = refl
 rows-told (k ∷ kept) (suc at) d ends within = ap (λ l. k.row ∷ l) (rows-told kept at d ends (omega arith))
 
 -- one more row is told
 pub told_more : (id : ℕ) (kept : List Kept) (at : ℕ) (d : Kept) (ends : Bool) → at < length kept → TellsAt id kept at ends → ((k : ℕ) → k < at → IsTold id kept k)
-    → (k : ℕ) → k < at + 1 → IsTold id (set kept at (record { row = (get_or kept at d).row; ends = ends })) k
+    → (k : ℕ) → k < at + 1 → IsTold id (set kept at (record { row = (get_or kept at d).row; children = (get_or kept at d).children; ends = ends })) k
 told_more id kept at d ends within tells before k less e = elim (eqb_tells k at) [
   | inl same ↦
-      let here = get_or-set_same kept at (record { row = (get_or kept at d).row; ends = ends }) e within in
+      let here = get_or-set_same kept at (record { row = (get_or kept at d).row; children = (get_or kept at d).children; ends = ends }) e within in
       ap (λ n. (get_or new n e).ends) same.1 ∙ ap (λ x. x.ends) here ∙ tells d
       ∙ ap (λ rows. ends_below rows id (get_or kept at d).row.id) (sym rows_same)
       ∙ ap (λ x. ends_below (rows_of new) id x.row.id) (sym here) ∙ ap (λ n. ends_below (rows_of new) id (get_or new n e).row.id) (sym same.1)
   | inr other ↦
-      let there = get_or-set_other kept at k (record { row = (get_or kept at d).row; ends = ends }) e other.1 in
+      let there = get_or-set_other kept at k (record { row = (get_or kept at d).row; children = (get_or kept at d).children; ends = ends }) e other.1 in
       ap (λ x. x.ends) there ∙ before k (omega (arith, less, other.1)) e
       ∙ ap (λ rows. ends_below rows id (get_or kept k e).row.id) (sym rows_same) ∙ ap (λ x. ends_below (rows_of new) id x.row.id) (sym there)
 ]
   where
     new : List Kept
-    new = set kept at (record { row = (get_or kept at d).row; ends = ends })
+    new = set kept at (record { row = (get_or kept at d).row; children = (get_or kept at d).children; ends = ends })
 
     rows_same : rows_of new ≡ rows_of kept
     rows_same = rows-told kept at d ends within

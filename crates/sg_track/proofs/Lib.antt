@@ -3,3 +3,5 @@ pub mod Halving
 pub mod KeptLists
 pub mod Above
 pub mod Ends
+pub mod Counts
+pub mod Keeps

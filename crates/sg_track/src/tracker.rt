@@ -1,11 +1,11 @@
 // The tracked rows of all descriptors.
-ghost use Rattle.std.specs.Prelude.{◌≡◌, ◌==◌, ◌≤◌, ◌<◌, ◌+◌, ◌-◌, ℕ, [], length, filter, not, None, IfOk, OnOk, OnErr, MatchOption, vec_capacity, vec_len};
+ghost use Rattle.std.specs.Prelude.{◌≡◌, ◌==◌, ◌≤◌, ◌<◌, ◌+◌, ◌-◌, ◌^◌, ℕ, [], length, filter, not, None, IfOk, OnOk, OnErr, MatchOption, vec_capacity, vec_len};
 ghost use Rattle.std.specs.List.{list_any};
 ghost use Rattle.std.specs.Option.{option_copied};
 ghost use Rattle.sg_facts.specs.Object.{given_after};
 ghost use Rattle.sg_facts.specs.Track.{ancestors, has_child, parent_in, row_at, rows_after, track};
 ghost use Rattle.std.specs.Ordering.{nat_cmp};
-ghost use Rattle.sg_track.specs.Kept.{Ascends, Each, HasRow, IsTold, TellsAt, ends_below, rows_of};
+ghost use Rattle.sg_track.specs.Kept.{Ascends, Counts, Each, HasRow, IsTold, TellsAt, children_of, ends_below, less_at, more_at, others_of, rows_of};
 ghost use Rattle.sg_track.specs.Tracked.{MayChange, MayMake, MayTrack, MayTrackOk, changed_rows, left_rows, made_rows, spare_after};
 
 use crate::KeptRow;
@@ -30,6 +30,8 @@ pub struct Tracker {
 #[derive(Debug, Drop)]
 pub(crate) struct Kept {
     pub(crate) row: KeptRow,
+    /// The number of live rows with its id as their parent.
+    pub(crate) children: u64,
     /// Whether it ends with the descriptor that ends; told at each end.
     pub(crate) ends: bool,
 }
@@ -116,8 +118,11 @@ impl Tracker {
             Some(room) => {
                 self.given = good.desc;
                 if !interface.fun(call.fun).is_query() {
+                    let row = made_row(interface, call, good, room);
+                    count_child(&mut self.kept, row.parent);
                     self.kept.push_reserved(Kept {
-                        row: made_row(interface, call, good, room),
+                        row,
+                        children: 0,
                         ends: false,
                     });
                 }
@@ -132,6 +137,7 @@ impl Tracker {
         ensures given { self.new.given ≡ self.old.given }
         ensures spare { self.new.spare ≡ self.old.spare }
     {
+        discount_row(&mut self.kept, id);
         if subtree {
             mark_below(self.kept.as_mut_slice(), id);
             close_up(&mut self.kept);
@@ -169,11 +175,14 @@ impl Tracker {
         ancestors_in(alloc, self.kept.as_slice(), id)
     }
 
-    /// Whether a live row has the id as its parent.
+    /// Whether a live row has the id as its parent. Where the id is live this looks at the number beside its row.
     pub fn has_children(&self, id: u64) -> bool
         ensures { result ≡ has_child self.now.rows id }
     {
-        has_child(self.kept.as_slice(), id)
+        match place_of(self.kept.as_slice(), id) {
+            Some(place) => self.kept[place].children > 0,
+            None => has_child(self.kept.as_slice(), id),
+        }
     }
 
     /// The number of live rows.
@@ -205,6 +214,7 @@ fn mark_below(kept: &mut [Kept], id: u64)
     ensures len { length kept.new ≡ length kept.old }
     ensures rows { rows_of kept.new ≡ rows_of kept.old }
     ensures marked { Each (λ k. k.ends ≡ ends_below (rows_of kept.old) id k.row.id) kept.new }
+    ensures counts { (number : ℕ → ℕ) → Counts number kept.old → Counts number kept.new }
 {
     'rows: for at in 0..kept.len() {
         let ends = ends_below(kept, at, id);
@@ -227,6 +237,46 @@ fn ends_below(kept: &[Kept], at: usize, id: u64) -> bool
                     Some(place) => kept[place].ends,
                     None => false,
                 }))
+}
+
+// Counts one more child of the row of an id; nothing where there is no row.
+fn count_child(kept: &mut Vec<Kept>, id: u64)
+    requires ascends { Ascends kept.old.items }
+    requires few { Each (λ k. k.children + 1 < 2 ^ 64) kept.old.items }
+    ensures len { vec_len kept.new ≡ vec_len kept.old }
+    ensures capacity { vec_capacity kept.new ≡ vec_capacity kept.old }
+    ensures rows { rows_of kept.new.items ≡ rows_of kept.old.items }
+    ensures counts { (number : ℕ → ℕ) → Counts number kept.old.items → Counts (more_at id number) kept.new.items }
+{
+    if let Some(place) = place_of(kept.as_slice(), id) {
+        kept[place].children += 1;
+    }
+}
+
+// Counts one child less of the row of an id; nothing where there is no row.
+fn discount_child(kept: &mut Vec<Kept>, id: u64)
+    requires { Ascends kept.old.items }
+    ensures len { vec_len kept.new ≡ vec_len kept.old }
+    ensures capacity { vec_capacity kept.new ≡ vec_capacity kept.old }
+    ensures rows { rows_of kept.new.items ≡ rows_of kept.old.items }
+    ensures counts { (number : ℕ → ℕ) → Counts number kept.old.items → Counts (less_at id number) kept.new.items }
+{
+    if let Some(place) = place_of(kept.as_slice(), id) {
+        let children = kept[place].children;
+        kept[place].children = children.saturating_sub(1);
+    }
+}
+
+// Takes the row of an id out of its parent's count.
+fn discount_row(kept: &mut Vec<Kept>, id: u64)
+    requires { Ascends kept.old.items }
+    ensures len { vec_len kept.new ≡ vec_len kept.old }
+    ensures capacity { vec_capacity kept.new ≡ vec_capacity kept.old }
+    ensures rows { rows_of kept.new.items ≡ rows_of kept.old.items }
+    ensures counts { Counts (children_of (rows_of kept.old.items)) kept.old.items → Counts (others_of id (rows_of kept.old.items)) kept.new.items }
+{
+    let parent = parent_of(kept.as_slice(), id);
+    discount_child(kept, parent);
 }
 
 // Removes the rows that end.

@@ -1,5 +1,5 @@
 -- The drafts begin blank, and come to what the effects make of them.
-use Rattle.std.proofs.Common.{◌≡◌, ◌∙◌, ap, subst, sym, length, map, take, drop}
+use Rattle.std.proofs.Common.{◌≡◌, ◌∙◌, ap, subst, sym, length, map, drop}
 use Rattle.std.proofs.lemmas.List.{length-map}
 use Rattle.sg_facts.specs.Facts.{fun_of_shape}
 use Rattle.sg_facts.specs.Track.{fields_after}

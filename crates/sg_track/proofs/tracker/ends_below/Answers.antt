@@ -1,8 +1,7 @@
 -- A row ends with its parent.
 use Rattle.std.proofs.Common.{◌≡◌, ◌∙◌, ap, sym, subst, get_or}
-use Rattle.std.specs.Prelude.{◌==◌, not}
+use Rattle.std.specs.Prelude.{not}
 use Rattle.std.proofs.lemmas.List.{get_or_default}
-use Rattle.sg_facts.specs.declared.row.Row.{Row}
 use Rattle.sg_track.specs.declared.tracker.Kept.{Kept}
 use Rattle.sg_facts.specs.Track.{row_at}
 use Rattle.sg_track.specs.Kept.{HasRow, TellsAt, rows_of}

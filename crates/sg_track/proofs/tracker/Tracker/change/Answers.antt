@@ -1,12 +1,11 @@
 -- The row is changed at its place, under its id.
-use Rattle.std.proofs.Common.{◌≡◌, ◌∙◌, ap, subst, sym, refl, map}
+use Rattle.std.proofs.Common.{◌∙◌, ap, subst, sym, refl, map}
 use Rattle.std.specs.Prelude.{◌==◌, if◌then◌else◌}
-use Rattle.sg_facts.specs.declared.row.Row.{Row}
 use Rattle.sg_facts.specs.Track.{row_after, row_at}
-use Rattle.sg_facts.proofs.RowLists.{changed as keep}
 use Rattle.sg_track.specs.Kept.{HasRow, rows_of}
-use Rattle.sg_track.specs.Tracked.{AreTracked, HasLowerParent, changed_rows}
-use Rattle.sg_track.proofs.KeptLists.{are_changed, changed, none_changed}
+use Rattle.sg_track.specs.Tracked.{HasLowerParent}
+use Rattle.sg_track.proofs.Keeps.{kept_changed}
+use Rattle.sg_track.proofs.KeptLists.{changed, none_changed}
 use Rattle.sg_track.proofs.tracker.Tracker.change.Goals as goal
 
 pub invariant_of-self : goal.invariant_of-self
@@ -15,13 +14,9 @@ invariant_of-self c =
     let change = row_after c.args.interface.now.facts c.args.call.now c.args.good.now in
     let id = c.args.call.now.desc in
     let has = subst (λ kept. HasRow kept c.in-Some.place id) c.as_slice.ensures.value c.in-Some.ensures in
-    record {
-      tracked =
-          subst (AreTracked s.given)
-          (sym (changed HasLowerParent change id s.given s.kept.items c.in-Some.place _ c.index_mut.result.now c.index_mut.result.now c.self.invariant.tracked has c.index_mut.ensures.value c.change.ensures))
-          (are_changed change id (λ r. refl) (λ r. refl) 0 s.given (rows_of s.kept.items) c.self.invariant.tracked);
-      room = c.self.invariant.room;
-    }
+    let are = kept_changed change id (λ r. refl) (λ r. refl) s.given s.kept.items c.in-Some.place _ c.index_mut.result.now
+    (record { tracked = c.self.invariant.tracked; counted = c.self.invariant.counted }) has c.index_mut.ensures.value c.change.ensures refl in
+    record { tracked = are.tracked; counted = are.counted; room = c.self.invariant.room }
 
 pub returns-in-Some-clause-rows : goal.returns-in-Some-clause-rows
 returns-in-Some-clause-rows c =
