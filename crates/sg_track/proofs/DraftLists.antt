@@ -3,6 +3,7 @@ use Rattle.std.proofs.Common.{◌≡◌, ℕ, zero, suc, ◌<◌, Bool, true, fa
 use Rattle.std.proofs.Math.ListN.{set}
 use Rattle.std.proofs.lemmas.Grind.{common_steps}
 use Rattle.std.proofs.lemmas.List.{map-set}
+use Rattle.sg_base.specs.declared.value.Value.{Value}
 use Rattle.sg_base.specs.declared.call.Call.{Call}
 use Rattle.sg_base.specs.declared.reply.Good.{Good}
 use Rattle.sg_facts.specs.declared.shape.Effect.{Effect}
@@ -11,7 +12,7 @@ use Rattle.sg_facts.specs.Track.{effect_of, empty_field, field_at}
 use Rattle.sg_base.specs.declared.value.Value.TheVariants.{Word, Text}
 use Rattle.sg_track.specs.declared.draft.Draft.{Draft}
 use Rattle.sg_track.specs.declared.draft.Draft.TheVariants.{Number, Blank}
-use Rattle.sg_track.specs.Drafts.{blank_draft, drafted, empty_shape}
+use Rattle.sg_track.specs.Drafts.{EachNew, blank_draft, drafted, empty_shape}
 
 pub seen_at : (call : Call) (drafts : List Draft) (at : ℕ) (d : Draft) → at < length drafts → field_at (map (drafted call) drafts) at ≡ drafted call (get_or drafts at d)
 seen_at call [] at d in' = absurd (omega arith)
@@ -42,3 +43,8 @@ empty_fields (f ∷ fields) = ap (λ l. empty_shape f ∷ l) (empty_fields field
 -- what was put before a rest
 pub front_again : {A : Type 0} (n : ℕ) (xs ys : List A) → length xs ≡ n → take n (xs ++ ys) ≡ xs
 front_again n xs ys is = grind (arith, common_steps, is)
+
+-- without effects there is no new value
+pub none_new : (P : Value → Type 0) (call : Call) (good : Good) (effects : List (ℕ × Effect)) (fields : List Value) → effects ≡ [] → EachNew P call good effects fields
+none_new P call good [] fields none = tt
+none_new P call good (e ∷ effects) fields none = absurd (cc none)

@@ -1,5 +1,5 @@
 -- Lists of kept rows.
-use Rattle.std.proofs.Common.{◌≡◌, ℕ, zero, suc, ◌<◌, ◌≤◌, Bool, true, false, cond, ◌||◌, List, [], ◌∷◌, ◌++◌, None, Some, length, map, get_or, refl, sym, ◌∙◌, ap, arith}
+use Rattle.std.proofs.Common.{◌≡◌, ℕ, zero, suc, ◌<◌, ◌≤◌, Bool, true, false, cond, ◌||◌, List, [], ◌∷◌, ◌++◌, None, Some, is_some, length, map, get_or, refl, sym, ◌∙◌, ap, arith}
 use Rattle.std.specs.Prelude.{◌==◌, if◌then◌else◌, slice_get}
 use Rattle.std.specs.List.{list_any}
 use Rattle.std.proofs.Math.ListN.{set}
@@ -111,3 +111,12 @@ are_changed change id same_id same_parent low high rows are =
 pub child-rows : (kept : List Kept) (id : ℕ) → list_any (λ k. k.row.parent == id) kept ≡ has_child (rows_of kept) id
 child-rows [] id = refl
 child-rows (k ∷ kept) id = ap (λ b. (k.row.parent == id) || b) (child-rows kept id)
+
+-- an id with a row is live
+pub live_if : (rows : List Row) (id : ℕ) → is_some (row_at rows id) ≡ is_live rows id
+live_if [] id = refl
+live_if (r ∷ rows) id = at (r.id == id) (live_if rows id)
+  where
+    at : (b : Bool) → is_some (row_at rows id) ≡ is_live rows id → is_some (cond b (Some r) (row_at rows id)) ≡ (b || is_live rows id)
+    at true rest = refl
+    at false rest = rest

@@ -10,6 +10,8 @@ mod draft;
 mod kept;
 mod make;
 mod room;
+#[cfg(test)]
+mod tests;
 mod tracker;
 mod words;
 

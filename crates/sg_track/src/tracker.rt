@@ -91,7 +91,7 @@ impl Tracker {
     }
 
     // Does to the rows what an Ok does.
-    fn track_ok(&mut self, interface: &Interface, call: &Call, good: &Good)
+    pub(crate) fn track_ok(&mut self, interface: &Interface, call: &Call, good: &Good)
         requires { MayTrackOk interface.now.facts self.old call.now good.now }
         ensures rows { self.new.rows ≡ rows_after interface.now.facts self.old.rows call.now good.now }
         ensures given { self.new.given ≡ given_after interface.now.facts self.old.given call.now (Reply.Ok good.now) }
