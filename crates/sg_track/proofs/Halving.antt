@@ -10,7 +10,7 @@ use Rattle.std.proofs.lemmas.Bool.Decides.{eqb_tells}
 use Rattle.sg_facts.specs.Sound.{AreRows}
 use Rattle.sg_facts.specs.Track.{row_at}
 use Rattle.sg_facts.specs.declared.row.Row.{Row}
-use Rattle.sg_track.specs.declared.tracker.Kept.{Kept}
+use Rattle.sg_track.specs.declared.kept.Kept.{Kept}
 use Rattle.sg_track.specs.Kept.{HasRow, rows_of}
 
 compared : (x y : ℕ) → ((nat_cmp x y ≡ Less) × (x < y)) ⊎ (((nat_cmp x y ≡ Equal) × (x ≡ y)) ⊎ ((nat_cmp x y ≡ Greater) × (y < x)))

@@ -12,7 +12,7 @@ use Rattle.sg_facts.specs.Facts.{Facts, fun_at, takes_parent}
 use Rattle.sg_facts.specs.Track.{has_child, is_live, new_row, row_at}
 use Rattle.sg_track.specs.Tracked.{AreTracked, HasLowerParent, MayMake, Tracked}
 use Rattle.sg_facts.proofs.RowLists.{changed as keep_changed, id_of_row}
-use Rattle.sg_track.specs.declared.tracker.Kept.{Kept}
+use Rattle.sg_track.specs.declared.kept.Kept.{Kept}
 use Rattle.sg_track.specs.Kept.{HasRow, rows_of}
 use Rattle.sg_track.proofs.Halving.{above}
 

@@ -5,7 +5,7 @@ use Rattle.std.specs.Option.{is_some}
 use Rattle.sg_facts.specs.declared.row.Row.{Row}
 use Rattle.sg_facts.specs.Track.{is_ancestor, row_at}
 use Rattle.sg_track.specs.declared.room.RowRoom.{RowRoom}
-use Rattle.sg_track.specs.declared.tracker.Kept.{Kept}
+use Rattle.sg_track.specs.declared.kept.Kept.{Kept}
 use Rattle.sg_track.specs.declared.tracker.Tracker.TheInside.{Inside}
 use Rattle.sg_track.specs.Tracked.{AreTracked}
 

@@ -3,13 +3,19 @@
 //!
 //! - `tracker`: the rows, and what a call makes of them (`Tracker`)
 //! - `kept`: a row as the tracker keeps it (`KeptRow`)
-//! - `draft`: the fields of a row to be made; `words`: the words that effects set; `room`: room for a row
+//! - `make`, `draft`, `room`: the row that a creation makes, in the room that was taken for it; `words`: the words that
+//!   other functions set in place
+//! - `places`: where a row stands; `tally`: the number of children beside each row; `subtree`: the end of a row with all
+//!   below it
 #![tactic(auto)]
 
 mod draft;
 mod kept;
 mod make;
+mod places;
 mod room;
+mod subtree;
+mod tally;
 #[cfg(test)]
 mod tests;
 mod tracker;

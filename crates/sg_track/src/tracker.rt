@@ -1,20 +1,20 @@
 // The tracked rows of all descriptors.
-ghost use Rattle.std.specs.Prelude.{◌≡◌, ◌==◌, ◌≤◌, ◌<◌, ◌+◌, ◌-◌, ◌^◌, ℕ, [], length, filter, not, None, IfOk, OnOk, OnErr, MatchOption, vec_capacity, vec_len};
-ghost use Rattle.std.specs.List.{list_any};
+ghost use Rattle.std.specs.Prelude.{◌≡◌, ◌≤◌, ◌+◌, ◌-◌, [], length, IfOk, OnOk, OnErr};
 ghost use Rattle.std.specs.Option.{option_copied};
 ghost use Rattle.sg_facts.specs.Object.{given_after};
-ghost use Rattle.sg_facts.specs.Track.{ancestors, has_child, parent_in, row_at, rows_after, track};
-ghost use Rattle.std.specs.Ordering.{nat_cmp};
-ghost use Rattle.sg_track.specs.Kept.{Ascends, Counts, Each, HasRow, IsTold, TellsAt, children_of, ends_below, less_at, more_at, others_of, rows_of};
+ghost use Rattle.sg_facts.specs.Track.{ancestors, has_child, row_at, rows_after, track};
 ghost use Rattle.sg_track.specs.Tracked.{MayChange, MayMake, MayTrack, MayTrackOk, changed_rows, left_rows, made_rows, spare_after};
 
 use crate::KeptRow;
+use crate::kept::Kept;
 use crate::make::made_row;
+use crate::places::{ancestors_in, has_child, place_of};
 use crate::room::RowRoom;
+use crate::subtree::{close_up, mark_below};
+use crate::tally::{count_child, discount_row};
 use sg_base::{Call, Good, IdList, NoMemory, Reply};
-use sg_facts::{FunShape, Interface, Kind, Tables};
+use sg_facts::{Interface, Tables};
 use std::alloc::Global;
-use std::cmp::Ordering;
 use std::marker::Model;
 
 /// The tracked rows of all descriptors: what the answered calls so far make of them. Contracts see the rows in ascending
@@ -24,16 +24,6 @@ pub struct Tracker {
     pub(crate) kept: Vec<Kept>,
     pub(crate) given: u64,
     pub(crate) room: Option<RowRoom>,
-}
-
-/// A row with what is kept beside it.
-#[derive(Debug, Drop)]
-pub(crate) struct Kept {
-    pub(crate) row: KeptRow,
-    /// The number of live rows with its id as their parent.
-    pub(crate) children: u64,
-    /// Whether it ends with the descriptor that ends; told at each end.
-    pub(crate) ends: bool,
 }
 
 impl Model for Tracker {
@@ -99,8 +89,12 @@ impl Tracker {
     {
         let fun = interface.fun(call.fun);
         if fun.is_creation() {
-            self.make(interface, call, good)
-        } else if fun.is_query() {} else if fun.is_terminal() {
+            return self.make(interface, call, good);
+        }
+        if fun.is_query() {
+            return;
+        }
+        if fun.is_terminal() {
             self.end(interface.shape.subtree, call.desc)
         } else {
             self.change(interface, call, good)
@@ -191,134 +185,4 @@ impl Tracker {
     {
         self.kept.len()
     }
-}
-
-// The place of an id among rows in ascending ids; None exactly where no row has it.
-fn place_of(kept: &[Kept], id: u64) -> Option<usize>
-    requires { Ascends kept.now }
-    ensures { MatchOption result (row_at (rows_of kept.now) id ≡ None) (λ at. HasRow kept.now at id) }
-{
-    match kept.binary_search_by(
-        move |one| -> Ordering
-            ensures { result ≡ nat_cmp one.now.row.id id }
-        { one.row.id.cmp(&id) },
-    ) {
-        Ok(place) => Some(place),
-        Err(_) => None,
-    }
-}
-
-// Tells of each row whether it ends with an id: it is the id's, or below it. Each row is looked at once, after its parent.
-fn mark_below(kept: &mut [Kept], id: u64)
-    requires { Ascends kept.old }
-    ensures len { length kept.new ≡ length kept.old }
-    ensures rows { rows_of kept.new ≡ rows_of kept.old }
-    ensures marked { Each (λ k. k.ends ≡ ends_below (rows_of kept.old) id k.row.id) kept.new }
-    ensures counts { (number : ℕ → ℕ) → Counts number kept.old → Counts number kept.new }
-{
-    'rows: for at in 0..kept.len() {
-        let ends = ends_below(kept, at, id);
-        kept[at].ends = ends;
-    }
-}
-
-// Whether the row at a place ends with an id, where this was told of those before it.
-fn ends_below(kept: &[Kept], at: usize, id: u64) -> bool
-    requires within { at < length kept.now }
-    requires ascends { Ascends kept.now }
-    requires before { (k : ℕ) → k < at → IsTold id kept.now k }
-    ensures { TellsAt id kept.now at result }
-{
-    let row = &kept[at].row;
-    row.id == id
-        || (row.parent != 0
-            && (row.parent == id
-                || match place_of(kept, row.parent) {
-                    Some(place) => kept[place].ends,
-                    None => false,
-                }))
-}
-
-// Counts one more child of the row of an id; nothing where there is no row.
-fn count_child(kept: &mut Vec<Kept>, id: u64)
-    requires ascends { Ascends kept.old.items }
-    requires few { Each (λ k. k.children + 1 < 2 ^ 64) kept.old.items }
-    ensures len { vec_len kept.new ≡ vec_len kept.old }
-    ensures capacity { vec_capacity kept.new ≡ vec_capacity kept.old }
-    ensures rows { rows_of kept.new.items ≡ rows_of kept.old.items }
-    ensures counts { (number : ℕ → ℕ) → Counts number kept.old.items → Counts (more_at id number) kept.new.items }
-{
-    if let Some(place) = place_of(kept.as_slice(), id) {
-        kept[place].children += 1;
-    }
-}
-
-// Counts one child less of the row of an id; nothing where there is no row.
-fn discount_child(kept: &mut Vec<Kept>, id: u64)
-    requires { Ascends kept.old.items }
-    ensures len { vec_len kept.new ≡ vec_len kept.old }
-    ensures capacity { vec_capacity kept.new ≡ vec_capacity kept.old }
-    ensures rows { rows_of kept.new.items ≡ rows_of kept.old.items }
-    ensures counts { (number : ℕ → ℕ) → Counts number kept.old.items → Counts (less_at id number) kept.new.items }
-{
-    if let Some(place) = place_of(kept.as_slice(), id) {
-        let children = kept[place].children;
-        kept[place].children = children.saturating_sub(1);
-    }
-}
-
-// Takes the row of an id out of its parent's count.
-fn discount_row(kept: &mut Vec<Kept>, id: u64)
-    requires { Ascends kept.old.items }
-    ensures len { vec_len kept.new ≡ vec_len kept.old }
-    ensures capacity { vec_capacity kept.new ≡ vec_capacity kept.old }
-    ensures rows { rows_of kept.new.items ≡ rows_of kept.old.items }
-    ensures counts { Counts (children_of (rows_of kept.old.items)) kept.old.items → Counts (others_of id (rows_of kept.old.items)) kept.new.items }
-{
-    let parent = parent_of(kept.as_slice(), id);
-    discount_child(kept, parent);
-}
-
-// Removes the rows that end.
-fn close_up(kept: &mut Vec<Kept>)
-    ensures items { kept.new.items ≡ filter (λ k. not k.ends) kept.old.items }
-    ensures len { vec_len kept.new ≤ vec_len kept.old }
-    ensures capacity { vec_capacity kept.new ≡ vec_capacity kept.old }
-{
-    kept.retain(|one| !one.ends);
-}
-
-// The ancestors of an id, nearest first.
-fn ancestors_in(alloc: Global, kept: &[Kept], id: u64) -> Result<IdList, NoMemory>
-    requires { Ascends kept.now }
-    ensures { IfOk result (λ above. above ≡ ancestors (rows_of kept.now) id) }
-{
-    let mut above = IdList::new(alloc);
-    let mut parent = parent_of(kept, id);
-    'up: while parent != 0 {
-        above.push(parent)?;
-        parent = parent_of(kept, parent);
-    }
-    Ok(above)
-}
-
-// The parent of an id; 0 where there is no row.
-fn parent_of(kept: &[Kept], id: u64) -> u64
-    requires { Ascends kept.now }
-    ensures { result ≡ parent_in (row_at (rows_of kept.now) id) }
-{
-    match place_of(kept, id) {
-        Some(place) => {
-            let row = &kept[place].row;
-            row.parent
-        }
-        None => 0,
-    }
-}
-
-// Whether some row has the id as its parent.
-fn has_child(kept: &[Kept], id: u64) -> bool
-    ensures { result ≡ list_any (λ k. k.row.parent == id) kept.now }
-{
-    kept.iter().any(|one| one.row.parent == id)
 }

@@ -1,7 +1,7 @@
 -- The rows stay, and it was told of the first ones.
 use Rattle.std.proofs.Common.{◌≡◌, ℕ, ◌<◌, length}
 use Rattle.sg_track.specs.Kept.{Counts, IsTold, rows_of}
-use Rattle.sg_track.proofs.tracker.mark_below.Given as goal
+use Rattle.sg_track.proofs.subtree.mark_below.Given as goal
 
 abbrev pub invariant-rows : goal.invariant-rows
 invariant-rows l = record {

@@ -3,7 +3,7 @@ use Rattle.std.proofs.lemmas.Fn.{always_returns_same}
 use Rattle.std.specs.Ordering.{nat_cmp}
 use Rattle.sg_track.specs.Tracked.{HasLowerParent}
 use Rattle.sg_track.proofs.Halving.{has_row, has_no_row, rises}
-use Rattle.sg_track.proofs.tracker.place_of.Goals as goal
+use Rattle.sg_track.proofs.places.place_of.Goals as goal
 
 pub returns-in-Ok : goal.returns-in-Ok
 returns-in-Ok c =

@@ -2,11 +2,11 @@
 use Rattle.std.proofs.Common.{◌≡◌, ◌∙◌, ap, sym, subst, get_or}
 use Rattle.std.specs.Prelude.{not}
 use Rattle.std.proofs.lemmas.List.{get_or_default}
-use Rattle.sg_track.specs.declared.tracker.Kept.{Kept}
+use Rattle.sg_track.specs.declared.kept.Kept.{Kept}
 use Rattle.sg_facts.specs.Track.{row_at}
 use Rattle.sg_track.specs.Kept.{HasRow, TellsAt, rows_of}
 use Rattle.sg_track.proofs.Ends.{lower_at, same_test, tells_below, tells_child, tells_orphan, tells_root}
-use Rattle.sg_track.proofs.tracker.ends_below.Goals as goal
+use Rattle.sg_track.proofs.subtree.ends_below.Goals as goal
 
 pub returns-then-row-id-2 : goal.returns-then-row-id-2
 returns-then-row-id-2 c =

@@ -4,7 +4,7 @@ use Rattle.std.proofs.lemmas.List.{get_or_default}
 use Rattle.sg_facts.specs.Track.{row_at}
 use Rattle.sg_track.specs.Kept.{HasRow, less_at, rows_of}
 use Rattle.sg_track.proofs.Counts.{counts_at, counts_elsewhere, less_here, less_other, rows_same}
-use Rattle.sg_track.proofs.tracker.discount_child.Goals as goal
+use Rattle.sg_track.proofs.tally.discount_child.Goals as goal
 
 pub returns-in-Some-clause-rows : goal.returns-in-Some-clause-rows
 returns-in-Some-clause-rows c = rows_same c.args.kept.now.items c.in-Some.place _ c.index_mut.result.now (ap (λ x. x.row) c.index_mut.ensures.value)

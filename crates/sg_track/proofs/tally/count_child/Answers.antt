@@ -3,7 +3,7 @@ use Rattle.std.proofs.Common.{◌≡◌, ◌+◌, ◌∙◌, ap, sym, subst}
 use Rattle.sg_facts.specs.Track.{row_at}
 use Rattle.sg_track.specs.Kept.{HasRow, more_at, rows_of}
 use Rattle.sg_track.proofs.Counts.{counts_at, counts_elsewhere, more_here, more_other, rows_same}
-use Rattle.sg_track.proofs.tracker.count_child.Goals as goal
+use Rattle.sg_track.proofs.tally.count_child.Goals as goal
 
 pub returns-in-Some-clause-rows : goal.returns-in-Some-clause-rows
 returns-in-Some-clause-rows c = rows_same c.args.kept.now.items c.in-Some.place _ c.index_mut.result.now (ap (λ x. x.row) c.index_mut.ensures.value)

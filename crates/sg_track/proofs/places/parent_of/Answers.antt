@@ -2,7 +2,7 @@
 use Rattle.std.proofs.Common.{◌∙◌, ap, sym}
 use Rattle.sg_facts.specs.Track.{parent_in}
 use Rattle.sg_track.proofs.KeptLists.{row_read}
-use Rattle.sg_track.proofs.tracker.parent_of.Goals as goal
+use Rattle.sg_track.proofs.places.parent_of.Goals as goal
 
 pub returns-in-Some : goal.returns-in-Some
 returns-in-Some c =

@@ -2,7 +2,7 @@
 use Rattle.std.proofs.Common.{◌∙◌, ◌++◌, [], ◌∷◌, ap, sym, arith}
 use Rattle.sg_track.specs.Kept.{rows_of}
 use Rattle.sg_track.proofs.Above.{from_parent, one_up, parent_below, up_from}
-use Rattle.sg_track.proofs.tracker.ancestors_in.Goals as goal
+use Rattle.sg_track.proofs.places.ancestors_in.Goals as goal
 
 pub up-init : goal.up-init
 up-init c =

@@ -4,7 +4,7 @@ use Rattle.std.proofs.lemmas.List.{length-set}
 use Rattle.sg_track.specs.Kept.{ends_below, rows_of}
 use Rattle.sg_track.proofs.Counts.{counts_beside}
 use Rattle.sg_track.proofs.Ends.{rows-told, told_each, told_more}
-use Rattle.sg_track.proofs.tracker.mark_below.Goals as goal
+use Rattle.sg_track.proofs.subtree.mark_below.Goals as goal
 
 pub rows-preserved : goal.rows-preserved
 rows-preserved c = record {

@@ -4,7 +4,7 @@ use Rattle.sg_facts.specs.Track.{parent_in, row_at}
 use Rattle.sg_track.specs.Kept.{children_of, less_at, others_of, rows_of}
 use Rattle.sg_track.specs.Tracked.{AreTracked, HasLowerParent}
 use Rattle.sg_track.proofs.Counts.{counts_as, others_are}
-use Rattle.sg_track.proofs.tracker.discount_row.Goals as goal
+use Rattle.sg_track.proofs.tally.discount_row.Goals as goal
 
 pub returns-clause-counts : goal.returns-clause-counts
 returns-clause-counts c counts =
