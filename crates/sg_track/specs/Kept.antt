@@ -1,0 +1,75 @@
+-- What a tracker keeps.
+use Rattle.std.specs.Prelude.{ℕ, ◌≡◌, ◌+◌, ◌-◌, ◌<◌, ◌==◌, ◌&&◌, ◌||◌, not, Bool, true, if◌then◌else◌, List, [], ◌∷◌, length, map, slice_get, slice_index_or, vec_capacity, vec_len}
+use Rattle.std.specs.declared.option.Option.{Option}
+use Rattle.std.specs.Option.{is_some}
+use Rattle.sg_facts.specs.declared.row.Row.{Row}
+use Rattle.sg_facts.specs.Track.{is_ancestor, row_at}
+use Rattle.sg_track.specs.declared.room.RowRoom.{RowRoom}
+use Rattle.sg_track.specs.declared.kept.Kept.{Kept}
+use Rattle.sg_track.specs.declared.tracker.Tracker.TheInside.{Inside}
+use Rattle.sg_track.specs.Tracked.{AreTracked}
+
+-- the rows
+abbrev pub rows_of : List Kept → List Row
+rows_of kept = map (λ k. k.row) kept
+
+-- room for one row, or for none
+abbrev pub spare_of : Option RowRoom → ℕ
+spare_of room = if is_some room then 1 else 0
+
+-- rows in ascending ids
+pub record Ascends (kept : List Kept) : Type 0 where
+  pub most : ℕ
+  pub tracked : AreTracked most (rows_of kept)
+
+-- the row of an id stands at a place
+pub record HasRow (kept : List Kept) (at id : ℕ) : Type 0 where
+  pub within : at < length kept
+  pub there : row_at (rows_of kept) id ≡ slice_get (rows_of kept) at
+
+-- each kept row meets a condition
+abbrev pub Each : (Kept → Type 0) → List Kept → Type 0
+Each P [] = Unit {0}
+Each P (k ∷ kept) = P k × Each P kept
+
+-- each count is the number that is told of the row's id
+abbrev pub Counts : (ℕ → ℕ) → List Kept → Type 0
+Counts number kept = Each (λ k. k.children ≡ number k.row.id) kept
+
+-- the number of rows that pass a test
+abbrev pub count_rows : (Row → Bool) → List Row → ℕ
+count_rows test [] = 0
+count_rows test (r ∷ rows) = (if test r then 1 else 0) + count_rows test rows
+
+-- the number of rows with an id as their parent
+abbrev pub children_of : List Row → ℕ → ℕ
+children_of rows id = count_rows (λ r. r.parent == id) rows
+
+-- the same without the row of an id that ends
+abbrev pub others_of : ℕ → List Row → ℕ → ℕ
+others_of gone rows id = count_rows (λ r. (r.parent == id) && not (r.id == gone)) rows
+
+-- one more, or one less, for one id
+abbrev pub more_at : ℕ → (ℕ → ℕ) → ℕ → ℕ
+more_at one number id = if id == one then number id + 1 else number id
+
+abbrev pub less_at : ℕ → (ℕ → ℕ) → ℕ → ℕ
+less_at one number id = if id == one then number id - 1 else number id
+
+-- the rows are tracked, each with the number of its children, and where there is room for a row, its place is there too
+pub record IsKept (t : Inside) : Type 0 where
+  pub tracked : AreTracked t.given (rows_of t.kept.items)
+  pub counted : Counts (children_of (rows_of t.kept.items)) t.kept.items
+  pub room : is_some t.room ≡ true → vec_len t.kept < vec_capacity t.kept
+
+-- whether an id ends with another, under subtree
+abbrev pub ends_below : List Row → ℕ → ℕ → Bool
+ends_below rows id other = (other == id) || is_ancestor rows id other
+
+-- a test tells whether the row at a place ends with an id
+abbrev pub TellsAt : ℕ → List Kept → ℕ → Bool → Type 0
+TellsAt id kept at test = (d : Kept) → test ≡ ends_below (rows_of kept) id (slice_index_or kept at d).row.id
+
+-- what was told of the row at a place
+abbrev pub IsTold : ℕ → List Kept → ℕ → Type 0
+IsTold id kept at = (d : Kept) → (slice_index_or kept at d).ends ≡ ends_below (rows_of kept) id (slice_index_or kept at d).row.id

@@ -1,0 +1,25 @@
+//! The stubs' memory: the tracked rows of all descriptors, kept so that what an answered call makes of them needs no
+//! memory.
+//!
+//! - `tracker`: the rows, and what a call makes of them (`Tracker`)
+//! - `kept`: a row as the tracker keeps it (`KeptRow`)
+//! - `make`, `draft`, `room`: the row that a creation makes, in the room that was taken for it; `words`: the words that
+//!   other functions set in place
+//! - `places`: where a row stands; `tally`: the number of children beside each row; `subtree`: the end of a row with all
+//!   below it
+#![tactic(auto)]
+
+mod draft;
+mod kept;
+mod make;
+mod places;
+mod room;
+mod subtree;
+mod tally;
+#[cfg(test)]
+mod tests;
+mod tracker;
+mod words;
+
+pub use kept::KeptRow;
+pub use tracker::Tracker;

@@ -1,0 +1,188 @@
+// The tracked rows of all descriptors.
+ghost use Rattle.std.specs.Prelude.{◌≡◌, ◌≤◌, ◌+◌, ◌-◌, [], length, IfOk, OnOk, OnErr};
+ghost use Rattle.std.specs.Option.{option_copied};
+ghost use Rattle.sg_facts.specs.Object.{given_after};
+ghost use Rattle.sg_facts.specs.Track.{ancestors, has_child, row_at, rows_after, track};
+ghost use Rattle.sg_track.specs.Tracked.{MayChange, MayMake, MayTrack, MayTrackOk, changed_rows, left_rows, made_rows, spare_after};
+
+use crate::KeptRow;
+use crate::kept::Kept;
+use crate::make::made_row;
+use crate::places::{ancestors_in, has_child, place_of};
+use crate::room::RowRoom;
+use crate::subtree::{close_up, mark_below};
+use crate::tally::{count_child, discount_row};
+use sg_base::{Call, Good, IdList, NoMemory, Reply};
+use sg_facts::{Interface, Tables};
+use std::alloc::Global;
+use std::marker::Model;
+
+/// The tracked rows of all descriptors: what the answered calls so far make of them. Contracts see the rows in ascending
+/// ids, the number of ids given, and for how many more rows there is room. A row is found by halving.
+#[derive(Debug, Drop)]
+pub struct Tracker {
+    pub(crate) kept: Vec<Kept>,
+    pub(crate) given: u64,
+    pub(crate) room: Option<RowRoom>,
+}
+
+impl Model for Tracker {
+    ghost use Rattle.sg_track.specs.Tracked.{Tracked};
+
+    ghost Value = { Tracked };
+
+    ghost use Rattle.sg_track.specs.Kept.{rows_of, spare_of, IsKept};
+
+    ghost view = { λ t. record { rows = rows_of t.kept.items; given = t.given; spare = spare_of t.room } };
+
+    ghost invariant = { λ t. IsKept t };
+}
+
+impl Tracker {
+    /// No row, no id given, and no room. It takes no memory.
+    pub fn new(alloc: Global) -> Tracker
+        ensures rows { result.rows ≡ [] }
+        ensures given { result.given ≡ 0 }
+        ensures spare { result.spare ≡ 0 }
+    {
+        Tracker {
+            kept: Vec::new(alloc),
+            given: 0,
+            room: None,
+        }
+    }
+
+    /// Takes the memory for one more row, its fields and a text of 256 bytes in each. The rows stay, whatever the answer.
+    pub fn reserve(&mut self, alloc: Global) -> Result<(), NoMemory>
+        ensures rows { self.new.rows ≡ self.old.rows }
+        ensures given { self.new.given ≡ self.old.given }
+        ensures ok { OnOk result (1 ≤ self.new.spare) }
+        ensures err { OnErr result (self.new.spare ≡ self.old.spare) }
+    {
+        if self.room.is_none() {
+            self.kept.reserve(1)?;
+            self.room = Some(RowRoom::new(alloc)?);
+        }
+        Ok(())
+    }
+
+    /// Does to the rows what an answered call does. It takes no memory: a creation fills the room that was taken for it, and
+    /// other functions set words in place.
+    pub fn track(&mut self, tables: &Tables, call: &Call, reply: &Reply)
+        requires { MayTrack tables.now.iface.facts self.old call.now reply.now }
+        ensures rows { self.new.rows ≡ track tables.now.iface.facts self.old.rows call.now reply.now }
+        ensures given { self.new.given ≡ given_after tables.now.iface.facts self.old.given call.now reply.now }
+        ensures spare { self.new.spare ≡ spare_after tables.now.iface.facts self.old.spare call.now reply.now }
+    {
+        match reply {
+            Reply::Ok(good) => self.track_ok(tables.interface(), call, good),
+            Reply::Refused(_) => {}
+        }
+    }
+
+    // Does to the rows what an Ok does.
+    pub(crate) fn track_ok(&mut self, interface: &Interface, call: &Call, good: &Good)
+        requires { MayTrackOk interface.now.facts self.old call.now good.now }
+        ensures rows { self.new.rows ≡ rows_after interface.now.facts self.old.rows call.now good.now }
+        ensures given { self.new.given ≡ given_after interface.now.facts self.old.given call.now (Reply.Ok good.now) }
+        ensures spare { self.new.spare ≡ spare_after interface.now.facts self.old.spare call.now (Reply.Ok good.now) }
+    {
+        let fun = interface.fun(call.fun);
+        if fun.is_creation() {
+            return self.make(interface, call, good);
+        }
+        if fun.is_query() {
+            return;
+        }
+        if fun.is_terminal() {
+            self.end(interface.shape.subtree, call.desc)
+        } else {
+            self.change(interface, call, good)
+        }
+    }
+
+    // Adds the row that a creation makes; none where the creation is a query too.
+    fn make(&mut self, interface: &Interface, call: &Call, good: &Good)
+        requires { MayMake interface.now.facts self.old call.now good.now }
+        ensures rows { self.new.rows ≡ made_rows interface.now.facts self.old.rows call.now good.now }
+        ensures given { self.new.given ≡ self.old.given + 1 }
+        ensures spare { self.new.spare ≡ self.old.spare - 1 }
+    {
+        match self.room.take() {
+            Some(room) => {
+                self.given = good.desc;
+                if !interface.fun(call.fun).is_query() {
+                    let row = made_row(interface, call, good, room);
+                    count_child(&mut self.kept, row.parent);
+                    self.kept.push_reserved(Kept {
+                        row,
+                        children: 0,
+                        ends: false,
+                    });
+                }
+            }
+            None => unreachable!(),
+        }
+    }
+
+    // Removes the row of an id, and under subtree all below it.
+    fn end(&mut self, subtree: bool, id: u64)
+        ensures rows { self.new.rows ≡ left_rows subtree self.old.rows id }
+        ensures given { self.new.given ≡ self.old.given }
+        ensures spare { self.new.spare ≡ self.old.spare }
+    {
+        discount_row(&mut self.kept, id);
+        if subtree {
+            mark_below(self.kept.as_mut_slice(), id);
+            close_up(&mut self.kept);
+        } else if let Some(place) = place_of(self.kept.as_slice(), id) {
+            self.kept.remove(place);
+        }
+    }
+
+    // Changes the row of the call's descriptor.
+    fn change(&mut self, interface: &Interface, call: &Call, good: &Good)
+        requires { MayChange interface.now.facts self.old call.now good.now }
+        ensures rows { self.new.rows ≡ changed_rows interface.now.facts self.old.rows call.now good.now }
+        ensures given { self.new.given ≡ self.old.given }
+        ensures spare { self.new.spare ≡ self.old.spare }
+    {
+        if let Some(place) = place_of(self.kept.as_slice(), call.desc) {
+            self.kept[place].row.change(interface, call, good);
+        }
+    }
+
+    /// The row of an id; None exactly where no live row has the id.
+    pub fn row(&self, id: u64) -> Option<&KeptRow>
+        ensures { option_copied result ≡ row_at self.now.rows id }
+    {
+        match place_of(self.kept.as_slice(), id) {
+            Some(place) => Some(&self.kept[place].row),
+            None => None,
+        }
+    }
+
+    /// The ancestors of an id, nearest first: its parent, the parent of that, and so on. None of them is 0.
+    pub fn ancestors(&self, alloc: Global, id: u64) -> Result<IdList, NoMemory>
+        ensures { IfOk result (λ above. above ≡ ancestors self.now.rows id) }
+    {
+        ancestors_in(alloc, self.kept.as_slice(), id)
+    }
+
+    /// Whether a live row has the id as its parent. Where the id is live this looks at the number beside its row.
+    pub fn has_children(&self, id: u64) -> bool
+        ensures { result ≡ has_child self.now.rows id }
+    {
+        match place_of(self.kept.as_slice(), id) {
+            Some(place) => self.kept[place].children > 0,
+            None => has_child(self.kept.as_slice(), id),
+        }
+    }
+
+    /// The number of live rows.
+    pub fn live(&self) -> usize
+        ensures { result ≡ length self.now.rows }
+    {
+        self.kept.len()
+    }
+}
