@@ -1,5 +1,5 @@
 -- Fields of a row before it is made, and the values that effects give.
-use Rattle.std.specs.Prelude.{ℕ, ◌^◌, ◌<◌, if◌then◌else◌, List, [], ◌∷◌, slice_set}
+use Rattle.std.specs.Prelude.{ℕ, ◌^◌, ◌<◌, if◌then◌else◌, List, [], ◌∷◌, length, slice_set}
 use Rattle.sg_base.specs.declared.value.Value.{Value}
 use Rattle.sg_base.specs.declared.value.Value.TheVariants.{Word, Text}
 use Rattle.sg_base.specs.declared.call.Call.{Call}
@@ -34,8 +34,9 @@ abbrev pub IsValue : Value → Type 0
 IsValue (Word n) = n < 2 ^ 64
 IsValue (Text bytes) = Unit {0}
 
--- each new value of a field meets a condition, effect by effect
+-- each new value of a field that there is meets a condition, effect by effect
 abbrev pub EachNew : (Value → Type 0) → Call → Good → List (ℕ × Effect) → List Value → Type 0
 EachNew P call good [] fields = Unit {0}
 EachNew P call good (e ∷ es) fields =
-    P (effect_of call good e.1 (field_at fields e.0)) × EachNew P call good es (slice_set fields e.0 (effect_of call good e.1 (field_at fields e.0)))
+    (e.0 < length fields → P (effect_of call good e.1 (field_at fields e.0)))
+    × EachNew P call good es (slice_set fields e.0 (effect_of call good e.1 (field_at fields e.0)))
