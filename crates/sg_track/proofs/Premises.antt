@@ -166,17 +166,12 @@ module _ (facts : Facts) (t : Tracked) (call : Call) (good : Good) (given : ℕ)
       → ((fun_at facts.funs call.fun).creation ≡ false → sets_no_text facts (fun_at facts.funs call.fun).effects ≡ true)
       → ((fun_at facts.funs call.fun).creation ≡ true → HasPlace facts t call good) → MayTrackOk facts t call good
   may_track are once keeps place = record {
-    makes = λ is.
-        let has = place is in
-        record {
-          room = has.room;
-          parent = has.parent;
-          next = has.next;
-          few = has.few;
-          values = λ row.
-              let rows_is : rows_after facts t.rows call good ≡ t.rows ++ new_row facts call good ∷ [] = rw (row, is) refl in
-              made once (met_last (IsRow facts all) 0 given t.rows (new_row facts call good) (subst (AreRows (IsRow facts all) 0 given) rows_is are));
-        };
+    makes = λ is. record {
+      place = place is;
+      values = λ row.
+          let rows_is : rows_after facts t.rows call good ≡ t.rows ++ new_row facts call good ∷ [] = rw (row, is) refl in
+          made once (met_last (IsRow facts all) 0 given t.rows (new_row facts call good) (subst (AreRows (IsRow facts all) 0 given) rows_is are));
+    };
     changes = λ row makes ends r there.
         let rows_is : rows_after facts t.rows call good ≡ changed_rows facts t.rows call good = rw (row, makes, ends) refl in
         changed r once (keeps makes)

@@ -45,13 +45,17 @@ changed_rows facts rows call good = map (λ r. if r.id == call.desc then row_aft
 abbrev pub left_rows : Bool → List Row → ℕ → List Row
 left_rows subtree rows id = filter (λ r. not ((r.id == id) || (subtree && is_ancestor rows id r.id))) rows
 
--- an Ok of a creation may be tracked: there is room for its row, its parent is 0 or live, its descriptor is the next id,
--- rows have at most 8 fields, and its fields come to numbers of their type or texts
-pub record MayMake (facts : Facts) (t : Tracked) (call : Call) (good : Good) : Type 0 where
+-- there is a place for what an Ok of a creation makes: room for its row, a parent that is 0 or live, the next id as its
+-- descriptor, and at most 8 fields
+pub record HasPlace (facts : Facts) (t : Tracked) (call : Call) (good : Good) : Type 0 where
   pub room : 1 ≤ t.spare
   pub parent : takes_parent (fun_at facts.funs call.fun) ≡ true → ((call.desc == 0) || is_live t.rows call.desc) ≡ true
   pub next : good.desc ≡ t.given + 1
   pub few : length facts.fields ≤ 8
+
+-- an Ok of a creation may be tracked: there is a place for its row, and its fields come to numbers of their type or texts
+pub record MayMake (facts : Facts) (t : Tracked) (call : Call) (good : Good) : Type 0 where
+  pub place : HasPlace facts t call good
   pub values : (fun_at facts.funs call.fun).query ≡ false → EachNew IsValue call good (fun_at facts.funs call.fun).effects (map empty_field facts.fields)
 
 -- an Ok of a function that changes its row may be tracked: the fields that it sets come to numbers of their type
@@ -72,14 +76,6 @@ MayTrack facts t call (Refused code) = Unit {0}
 -- effects set no text
 abbrev pub sets_no_text : Facts → List (ℕ × Effect) → Bool
 sets_no_text facts effects = list_all (λ e. not (is_text_field facts.fields e.0)) effects
-
--- what an Ok of a creation asks for beside the values of its fields: room, a parent that is 0 or live, the next id as its descriptor, and at
--- most 8 fields
-pub record HasPlace (facts : Facts) (t : Tracked) (call : Call) (good : Good) : Type 0 where
-  pub room : 1 ≤ t.spare
-  pub parent : takes_parent (fun_at facts.funs call.fun) ≡ true → ((call.desc == 0) || is_live t.rows call.desc) ≡ true
-  pub next : good.desc ≡ t.given + 1
-  pub few : length facts.fields ≤ 8
 
 -- an Ok may be tracked where the rows after it are a sound object's, its function sets no field twice and, unless it makes
 -- a descriptor, no text
