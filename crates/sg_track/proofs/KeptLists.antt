@@ -10,7 +10,7 @@ use Rattle.sg_base.specs.declared.call.Call.{Call}
 use Rattle.sg_base.specs.declared.reply.Good.{Good}
 use Rattle.sg_facts.specs.Facts.{Facts, fun_at, takes_parent}
 use Rattle.sg_facts.specs.Track.{has_child, is_live, new_row, row_at}
-use Rattle.sg_track.specs.Tracked.{AreTracked, HasLowerParent, MayMake, Tracked}
+use Rattle.sg_track.specs.Tracked.{AreTracked, HasLowerParent, HasPlace, Tracked}
 use Rattle.sg_facts.proofs.RowLists.{changed as keep_changed, id_of_row}
 use Rattle.sg_track.specs.declared.kept.Kept.{Kept}
 use Rattle.sg_track.specs.Kept.{HasRow, rows_of}
@@ -83,7 +83,7 @@ live_within P low high id (r ∷ rows) are live = at (r.id == id) (λ is. grind 
     at false is live rest = rest live
 
 -- the row that a creation makes is above its parent
-pub below_next : (facts : Facts) (t : Tracked) (call : Call) (good : Good) → MayMake facts t call good → AreTracked t.given t.rows → HasLowerParent (new_row facts call good)
+pub below_next : (facts : Facts) (t : Tracked) (call : Call) (good : Good) → HasPlace facts t call good → AreTracked t.given t.rows → HasLowerParent (new_row facts call good)
 below_next facts t call good may are = at (takes_parent (fun_at facts.funs call.fun)) may.parent
   where
     within : (b : Bool) → (b ≡ true → call.desc ≡ 0) → (b || is_live t.rows call.desc) ≡ true → call.desc ≤ t.given

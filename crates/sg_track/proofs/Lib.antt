@@ -5,3 +5,4 @@ pub mod Above
 pub mod Ends
 pub mod Counts
 pub mod Keeps
+pub mod Premises

@@ -1,5 +1,6 @@
 -- Fields of a row before it is made, and the values that effects give.
-use Rattle.std.specs.Prelude.{ℕ, ◌^◌, ◌<◌, if◌then◌else◌, List, [], ◌∷◌, slice_set}
+use Rattle.std.specs.Prelude.{ℕ, ◌^◌, ◌<◌, ◌==◌, ◌&&◌, not, Bool, true, if◌then◌else◌, List, [], ◌∷◌, length, slice_set}
+use Rattle.std.specs.List.{list_any}
 use Rattle.sg_base.specs.declared.value.Value.{Value}
 use Rattle.sg_base.specs.declared.value.Value.TheVariants.{Word, Text}
 use Rattle.sg_base.specs.declared.call.Call.{Call}
@@ -24,6 +25,11 @@ blank_draft f = if f.text then Blank else Number 0
 abbrev pub empty_shape : FieldShape → Value
 empty_shape f = if f.text then Text [] else Word 0
 
+-- effects set no field twice
+abbrev pub sets_once : List (ℕ × Effect) → Bool
+sets_once [] = true
+sets_once (e ∷ es) = not (list_any (λ other. other.0 == e.0) es) && sets_once es
+
 -- a value is a number of its type
 abbrev pub IsNumber : Value → Type 0
 IsNumber (Word n) = n < 2 ^ 64
@@ -34,8 +40,9 @@ abbrev pub IsValue : Value → Type 0
 IsValue (Word n) = n < 2 ^ 64
 IsValue (Text bytes) = Unit {0}
 
--- each new value of a field meets a condition, effect by effect
+-- each new value of a field that there is meets a condition, effect by effect
 abbrev pub EachNew : (Value → Type 0) → Call → Good → List (ℕ × Effect) → List Value → Type 0
 EachNew P call good [] fields = Unit {0}
 EachNew P call good (e ∷ es) fields =
-    P (effect_of call good e.1 (field_at fields e.0)) × EachNew P call good es (slice_set fields e.0 (effect_of call good e.1 (field_at fields e.0)))
+    (e.0 < length fields → P (effect_of call good e.1 (field_at fields e.0)))
+    × EachNew P call good es (slice_set fields e.0 (effect_of call good e.1 (field_at fields e.0)))

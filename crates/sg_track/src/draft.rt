@@ -1,5 +1,5 @@
 // The fields of a row before it is made.
-ghost use Rattle.std.specs.Prelude.{◌≡◌, length, map, slice_set};
+ghost use Rattle.std.specs.Prelude.{◌≡◌, ◌<◌, length, map, slice_set};
 ghost use Rattle.sg_facts.specs.Track.{cleared, effect_of, field_at, fields_after, word_of};
 ghost use Rattle.sg_track.specs.Drafts.{EachNew, IsValue, drafted};
 
@@ -35,7 +35,7 @@ pub(crate) fn draft_each(drafts: &mut [Draft], effects: &[(u8, Effect)], call: &
 
 // Does to a field what an effect does; nothing where there is no such field.
 fn draft_one(drafts: &mut [Draft], at: usize, effect: Effect, call: &Call, good: &Good)
-    requires { IsValue (effect_of call.now good.now effect (field_at (map (drafted call.now) drafts.old) at)) }
+    requires { at < length drafts.old → IsValue (effect_of call.now good.now effect (field_at (map (drafted call.now) drafts.old) at)) }
     ensures len { length drafts.new ≡ length drafts.old }
     ensures set { map (drafted call.now) drafts.new ≡ slice_set (map (drafted call.now) drafts.old) at (effect_of call.now good.now effect (field_at (map (drafted call.now) drafts.old) at)) }
 {

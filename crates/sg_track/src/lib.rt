@@ -7,10 +7,12 @@
 //!   other functions set in place
 //! - `places`: where a row stands; `tally`: the number of children beside each row; `subtree`: the end of a row with all
 //!   below it
+//! - `laws`: what may be tracked (`sound_oks_are_tracked`)
 #![tactic(auto)]
 
 mod draft;
 mod kept;
+mod laws;
 mod make;
 mod places;
 mod room;
@@ -22,4 +24,5 @@ mod tracker;
 mod words;
 
 pub use kept::KeptRow;
+pub use laws::sound_oks_are_tracked;
 pub use tracker::Tracker;

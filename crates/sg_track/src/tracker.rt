@@ -3,7 +3,7 @@ ghost use Rattle.std.specs.Prelude.{◌≡◌, ◌≤◌, ◌+◌, ◌-◌, [], 
 ghost use Rattle.std.specs.Option.{option_copied};
 ghost use Rattle.sg_facts.specs.Object.{given_after};
 ghost use Rattle.sg_facts.specs.Track.{ancestors, has_child, row_at, rows_after, track};
-ghost use Rattle.sg_track.specs.Tracked.{MayChange, MayMake, MayTrack, MayTrackOk, changed_rows, left_rows, made_rows, spare_after};
+ghost use Rattle.sg_track.specs.Tracked.{AreTracked, MayChange, MayMake, MayTrack, MayTrackOk, changed_rows, left_rows, made_rows, spare_after};
 
 use crate::KeptRow;
 use crate::kept::Kept;
@@ -181,7 +181,8 @@ impl Tracker {
 
     /// The number of live rows.
     pub fn live(&self) -> usize
-        ensures { result ≡ length self.now.rows }
+        ensures count { result ≡ length self.now.rows }
+        ensures tracked { AreTracked self.now.given self.now.rows }
     {
         self.kept.len()
     }

@@ -1,5 +1,5 @@
 // The words that effects set.
-ghost use Rattle.std.specs.Prelude.{◌≡◌, length, map, slice_set};
+ghost use Rattle.std.specs.Prelude.{◌≡◌, ◌<◌, length, map, slice_set};
 ghost use Rattle.sg_base.specs.declared.value.Value.TheVariants.{Word};
 ghost use Rattle.sg_facts.specs.Track.{arg_at, effect_of, field_at, fields_after, first_word, word_of};
 ghost use Rattle.sg_track.specs.Drafts.{EachNew, IsNumber};
@@ -54,7 +54,7 @@ pub(crate) fn set_words(values: &mut [Value], effects: &[(u8, Effect)], call: &C
 
 // Does to a field what an effect does; nothing where there is no such field.
 fn set_word(values: &mut [Value], at: usize, effect: Effect, call: &Call, good: &Good)
-    requires { IsNumber (effect_of call.now good.now effect (field_at values.old at)) }
+    requires { at < length values.old → IsNumber (effect_of call.now good.now effect (field_at values.old at)) }
     ensures len { length values.new ≡ length values.old }
     ensures set { values.new ≡ slice_set values.old at (effect_of call.now good.now effect (field_at values.old at)) }
 {

@@ -19,9 +19,9 @@ invariant_of-self c =
     let s = c.self.inside in
     let given : s.given ≡ c.args.self.now.given = ap (λ t. t.given) c.self.view_is in
     let id = ap (λ r. r.id) c.made_row-row.ensures in
-    let next : s.given < c.made_row-row.result.id = omega (arith, id, c.requires.next, given) in
+    let next : s.given < c.made_row-row.result.id = omega (arith, id, c.requires.place.next, given) in
     let lower : HasLowerParent c.made_row-row.result = subst HasLowerParent (sym c.made_row-row.ensures)
-    (below_next c.args.interface.now.facts c.args.self.now c.args.call.now c.args.good.now c.requires (subst (λ t. AreTracked t.given t.rows) c.self.view_is c.self.invariant.tracked)) in
+    (below_next c.args.interface.now.facts c.args.self.now c.args.call.now c.args.good.now c.requires.place (subst (λ t. AreTracked t.given t.rows) c.self.view_is c.self.invariant.tracked)) in
     let rows = rows_of s.kept.items in
     let counts = subst (λ parent. Counts (more_at parent (children_of rows)) c.count_child.new.kept.items) (ap (λ r. r.parent) c.row.view_is)
     (c.count_child.ensures.counts (children_of rows) c.self.invariant.counted) in
@@ -39,7 +39,7 @@ invariant_of-self-else-not-is_query c = record {
   tracked =
       let s = c.self.inside in
       let given : s.given ≡ c.args.self.now.given = ap (λ t. t.given) c.self.view_is in
-      wider HasLowerParent 0 0 s.given c.args.good.now.desc (rows_of s.kept.items) (omega arith) (omega (arith, given, c.requires.next)) c.self.invariant.tracked;
+      wider HasLowerParent 0 0 s.given c.args.good.now.desc (rows_of s.kept.items) (omega arith) (omega (arith, given, c.requires.place.next)) c.self.invariant.tracked;
   counted = c.self.invariant.counted;
   room = λ there. absurd (let gone : false ≡ true = sym (ap is_some c.take.ensures.after) ∙ there in cc gone);
 }
