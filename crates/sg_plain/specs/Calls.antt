@@ -1,0 +1,77 @@
+-- The calls of a script's clients, and how clients end.
+use Rattle.std.specs.Prelude.{ℕ, zero, suc, ◌≡◌, ◌+◌, ◌-◌, ◌==◌, not, if◌then◌else◌, List, [], ◌∷◌, ◌++◌, None, Some, filter, length, map, slice_get}
+use Rattle.std.specs.declared.option.Option.{Option}
+use Rattle.sg_base.specs.declared.call.Call.{Call}
+use Rattle.sg_facts.specs.declared.entry.Entry.{Entry}
+use Rattle.sg_facts.specs.Facts.{Facts, fun_at}
+use Rattle.sg_facts.specs.Interface.{Declared}
+use Rattle.sg_facts.specs.Legal.{Table, answer}
+use Rattle.sg_facts.specs.Object.{object_of}
+use Rattle.sg_hist.specs.declared.ended.End.{End}
+use Rattle.sg_hist.specs.declared.ended.End.TheVariants.{Done, Blocked}
+use Rattle.sg_hist.specs.Clients.{calls_of}
+use Rattle.sg_script.specs.declared.script.Script.{Script}
+use Rattle.sg_script.specs.declared.script.ScriptCall.{ScriptCall}
+use Rattle.sg_sim.specs.Script.{desc_of, values_of}
+
+-- ---- the calls of a client
+
+-- the calls of a client's part
+abbrev pub part_of : ℕ → List (ℕ × List ScriptCall) → List ScriptCall
+part_of client [] = []
+part_of client (c ∷ clients) = if c.0 == client then c.1 else part_of client clients
+
+-- all its calls: for client 1 those of the setup come first
+abbrev pub script_calls : Script → ℕ → List ScriptCall
+script_calls script client = (if client == 1 then script.setup else []) ++ part_of client script.clients
+
+-- a call of a client with its number, where `$k` is the descriptor that a history gives to the client's k-th call
+abbrev pub resolved_by : Facts → List Entry → ℕ → ℕ → ScriptCall → Call
+resolved_by facts history client seq c = record {
+  client = client;
+  seq = seq;
+  fun = c.fun;
+  desc = desc_of (calls_of history client) (fun_at facts.funs c.fun).kinds c.args;
+  args = values_of (calls_of history client) (fun_at facts.funs c.fun).kinds c.args;
+}
+
+-- the same of a call that there may be
+abbrev pub resolved : Facts → List Entry → ℕ → ℕ → Option ScriptCall → Option Call
+resolved facts history client seq None = None
+resolved facts history client seq (Some c) = Some (resolved_by facts history client seq c)
+
+-- the call that a client makes when so many of its calls are done
+abbrev pub next_call : Facts → Script → List Entry → ℕ → ℕ → Option Call
+next_call facts script history client done = resolved facts history client (done + 1) (slice_get (script_calls script client) done)
+
+-- ---- how clients end
+
+-- the greatest number of a client that has a part, at least 1
+abbrev pub most_client : List (ℕ × List ScriptCall) → ℕ
+most_client [] = 1
+most_client (c ∷ []) = c.0
+most_client (c ∷ other ∷ clients) = most_client (other ∷ clients)
+
+-- numbers from one on
+abbrev pub numbers_from : ℕ → ℕ → List ℕ
+numbers_from n zero = []
+numbers_from n (suc count) = n ∷ numbers_from (n + 1) count
+
+-- the clients that have a call, ascending
+abbrev pub callers : Script → List ℕ
+callers script = filter (λ c. not (length (script_calls script c) == 0)) (numbers_from 1 (most_client script.clients))
+
+-- a client is done: each of its calls is in the history; or it waits in its next call, which the service can't answer yet
+abbrev pub IsEnd : Declared → Table → List Entry → Script → ℕ → End → Type 0
+IsEnd i ask history script client Done = length (calls_of history client) ≡ length (script_calls script client)
+IsEnd i ask history script client (Blocked call) =
+    (next_call i.facts script history client (length (calls_of history client)) ≡ Some call) × (answer i ask (object_of i.facts history) call ≡ None)
+
+abbrev pub EachEnd : Declared → Table → List Entry → Script → List (ℕ × End) → Type 0
+EachEnd i ask history script [] = Unit {0}
+EachEnd i ask history script (e ∷ ends) = IsEnd i ask history script e.0 e.1 × EachEnd i ask history script ends
+
+-- each client with a call has its end, and no other client has one
+pub record AreEnds (i : Declared) (ask : Table) (history : List Entry) (script : Script) (ends : List (ℕ × End)) : Type 0 where
+  pub clients : map (λ e. e.0) ends ≡ callers script
+  pub each : EachEnd i ask history script ends

@@ -1,0 +1,4 @@
+pub mod Calls
+pub mod FilePlays
+pub mod LockPlays
+pub mod Plain

@@ -1,0 +1,196 @@
+-- The play of a script without stops, turn by turn.
+use Rattle.std.specs.Prelude.{ℕ, zero, suc, ◌≡◌, ◌+◌, ◌-◌, ◌==◌, Bool, true, false, ◌&&◌, ◌||◌, not, nat_lt, if◌then◌else◌, List, [], ◌∷◌, ◌++◌, None, Some, length, map, slice_get, slice_set, unwrap_or}
+use Rattle.std.specs.declared.option.Option.{Option}
+use Rattle.sg_base.specs.declared.call.Call.{Call}
+use Rattle.sg_base.specs.declared.reply.Code.{Code}
+use Rattle.sg_base.specs.declared.reply.Reply.{Reply}
+use Rattle.sg_base.specs.declared.reply.Reply.TheVariants.{Ok, Refused}
+use Rattle.sg_facts.specs.declared.entry.Entry.{Entry}
+use Rattle.sg_facts.specs.declared.row.Row.{Row}
+use Rattle.sg_facts.specs.Facts.{Facts, fun_at, is_visible}
+use Rattle.sg_facts.specs.Guard.{guard}
+use Rattle.sg_facts.specs.Interface.{Declared}
+use Rattle.sg_facts.specs.Legal.{Table}
+use Rattle.sg_facts.specs.Object.{Object, object_of}
+use Rattle.sg_facts.specs.Track.{ends_with}
+use Rattle.sg_script.specs.declared.script.Script.{Script}
+use Rattle.sg_plain.specs.Calls.{most_client, next_call, numbers_from, script_calls}
+
+-- ---- clients
+
+-- what a client is at: it has a next call; its visible call was answered; it holds a reply that isn't committed; it is blocked; or
+-- it has no call left
+pub data Phase : Type 0 where
+  ready : Phase
+  replied : Phase
+  holding : Reply → Phase
+  blocked : Phase
+  through : Phase
+
+-- how many of its calls are done, and what it is at
+pub record Player : Type 0 where
+  pub done : ℕ
+  pub phase : Phase
+
+-- the history so far, the clients from 1 on, the turns that the schedule still gives, and the client of the last turn, 0 before
+-- the first
+pub record Stage : Type 0 where
+  pub history : List Entry
+  pub players : List Player
+  pub schedule : List ℕ
+  pub last : ℕ
+
+-- a client with so many calls done
+abbrev pub player_at : Script → ℕ → ℕ → Player
+player_at script client done = record { done = done; phase = if nat_lt done (length (script_calls script client)) then ready else through }
+
+-- the beginning
+abbrev pub start : Script → Stage
+start script = record {
+  history = [];
+  players = map (λ client. player_at script client 0) (numbers_from 1 (most_client script.clients));
+  schedule = script.schedule;
+  last = 0;
+}
+
+-- the client of a number, from 1
+abbrev pub player_of : Stage → ℕ → Player
+player_of s client = unwrap_or (slice_get s.players (client - 1)) (record { done = 0; phase = through })
+
+abbrev pub with_player : Stage → ℕ → Player → Stage
+with_player s client p = record s { players = slice_set s.players (client - 1) p }
+
+-- ---- commits
+
+-- whether an answered call wakes who waits on a descriptor: an Ok of a wake-up on it, or of a call that ends it
+abbrev pub wakes : Facts → List Row → Call → Reply → ℕ → Bool
+wakes facts rows call (Refused code) id = false
+wakes facts rows call (Ok good) id =
+    ((fun_at facts.funs call.fun).wakeup && (call.desc == id)) || ((fun_at facts.funs call.fun).terminal && ends_with facts rows call.desc id)
+
+abbrev pub waits_on : Option Call → ℕ
+waits_on None = 0
+waits_on (Some call) = call.desc
+
+abbrev pub woken : Bool → Phase → Phase
+woken true blocked = ready
+woken false blocked = blocked
+woken woke ready = ready
+woken woke replied = replied
+woken woke (holding reply) = holding reply
+woken woke through = through
+
+-- the clients, numbered from one on, after an answered call
+abbrev pub after_wakes : Facts → Script → List Entry → List Row → Call → Reply → ℕ → List Player → List Player
+after_wakes facts script history rows call reply client [] = []
+after_wakes facts script history rows call reply client (p ∷ players) =
+    record p { phase = woken (wakes facts rows call reply (waits_on (next_call facts script history client p.done))) p.phase }
+    ∷ after_wakes facts script history rows call reply (client + 1) players
+
+-- an answered call is appended to the history, and who waited for it is ready again
+abbrev pub appended : Facts → Script → Stage → Call → Reply → Stage
+appended facts script s call reply = record s {
+  history = s.history ++ record { call = call; reply = reply } ∷ [];
+  players = after_wakes facts script s.history (object_of facts s.history).rows call reply 1 s.players;
+}
+
+-- a client goes on to its next call
+abbrev pub gone_on : Script → ℕ → Stage → Stage
+gone_on script client s = with_player s client (player_at script client ((player_of s client).done + 1))
+
+abbrev pub at_phase : ℕ → Phase → Stage → Stage
+at_phase client phase s = with_player s client (record (player_of s client) { phase = phase })
+
+-- ---- turns
+
+-- a call that passes the guard: who can't be answered waits; a visible reply is appended at once, and any other is held
+abbrev pub served : Facts → Script → ℕ → Stage → Call → Option Reply → Stage
+served facts script client s call None = at_phase client blocked s
+served facts script client s call (Some reply) =
+    if is_visible facts call.fun then at_phase client replied (appended facts script s call reply) else at_phase client (holding reply) s
+
+abbrev pub asked : Declared → Table → Script → ℕ → Stage → Call → Option Code → Stage
+asked i ask script client s call (Some code) = gone_on script client (appended i.facts script s call (Refused code))
+asked i ask script client s call None = served i.facts script client s call (ask (object_of i.facts s.history) call)
+
+abbrev pub called : Declared → Table → Script → ℕ → Stage → Option Call → Stage
+called i ask script client s None = s
+called i ask script client s (Some call) = asked i ask script client s call (guard i (object_of i.facts s.history) call)
+
+abbrev pub handed_over : Facts → Script → ℕ → Stage → Reply → Option Call → Stage
+handed_over facts script client s reply None = s
+handed_over facts script client s reply (Some call) = gone_on script client (appended facts script s call reply)
+
+-- what a client's turn does, by what it is at
+abbrev pub turned : Declared → Table → Script → ℕ → Stage → Phase → Stage
+turned i ask script client s ready = called i ask script client s (next_call i.facts script s.history client (player_of s client).done)
+turned i ask script client s replied = gone_on script client s
+turned i ask script client s (holding reply) =
+    handed_over i.facts script client s reply (next_call i.facts script s.history client (player_of s client).done)
+turned i ask script client s blocked = s
+turned i ask script client s through = s
+
+-- ---- whose turn it is
+
+abbrev pub is_under_way : Phase → Bool
+is_under_way ready = true
+is_under_way replied = true
+is_under_way (holding reply) = true
+is_under_way blocked = false
+is_under_way through = false
+
+abbrev pub may_turn : Stage → ℕ → Bool
+may_turn s client = is_under_way (player_of s client).phase
+
+-- a client whose turn it is, with what the schedule gives after it
+abbrev pub first_of : Stage → List ℕ → Option ℕ
+first_of s [] = None
+first_of s (client ∷ clients) = if may_turn s client then Some client else first_of s clients
+
+-- the turns behind those that are passed over, and the one that is taken
+abbrev pub behind_first : Stage → List ℕ → List ℕ
+behind_first s [] = []
+behind_first s (client ∷ schedule) = if may_turn s client then schedule else behind_first s schedule
+
+-- in ascending numbers behind the last turn, and then from 1 on
+abbrev pub in_a_circle : Stage → List ℕ
+in_a_circle s = numbers_from (s.last + 1) (length s.players - s.last) ++ numbers_from 1 s.last
+
+abbrev pub or_else : Option ℕ → Option ℕ → Option ℕ
+or_else (Some n) other = Some n
+or_else None other = other
+
+-- client 1 until its setup calls are done, then who the schedule says and can, then who is next and can
+abbrev pub next_turn : Script → Stage → Option ℕ
+next_turn script s =
+    if nat_lt (player_of s 1).done (length script.setup) then Some 1
+    else or_else (first_of s s.schedule) (first_of s (in_a_circle s))
+
+-- the schedule behind that turn
+abbrev pub left_schedule : Script → Stage → List ℕ
+left_schedule script s = if nat_lt (player_of s 1).done (length script.setup) then s.schedule else behind_first s s.schedule
+
+abbrev pub after_turn : Declared → Table → Script → Stage → Option ℕ → Stage
+after_turn i ask script s None = s
+after_turn i ask script s (Some client) =
+    turned i ask script client (record s { schedule = left_schedule script s; last = client }) (player_of s client).phase
+
+-- ---- the play
+
+-- the stage after one turn more
+abbrev pub next_stage : Declared → Table → Script → Stage → Stage
+next_stage i ask script s = after_turn i ask script s (next_turn script s)
+
+-- the stage that so many turns lead to
+abbrev pub stage_from : Declared → Table → Script → Stage → ℕ → Stage
+stage_from i ask script s zero = s
+stage_from i ask script s (suc turns) = stage_from i ask script (next_stage i ask script s) turns
+
+abbrev pub stage_after : Declared → Table → Script → ℕ → Stage
+stage_after i ask script turns = stage_from i ask script (start script) turns
+
+-- the play of a script: after some number of turns nobody can take one, and this is the history
+pub record IsPlainPlay (i : Declared) (ask : Table) (script : Script) (history : List Entry) : Type 0 where
+  pub turns : ℕ
+  pub over : next_turn script (stage_after i ask script turns) ≡ None
+  pub is : history ≡ (stage_after i ask script turns).history

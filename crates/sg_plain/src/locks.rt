@@ -1,0 +1,30 @@
+// Plays of locks.
+ghost use Rattle.sg_facts.specs.Laws.{whole};
+ghost use Rattle.sg_lock.specs.LockFacts.{lock_facts};
+ghost use Rattle.sg_lock.specs.LockTable.{lock_table};
+ghost use Rattle.sg_plain.specs.Calls.{AreEnds};
+ghost use Rattle.sg_plain.specs.LockPlays.{both_done, four_calls, four_calls_history, release_wakes, release_wakes_history, second_blocked, second_first, second_first_history, stays_blocked, stays_blocked_history};
+ghost use Rattle.sg_plain.specs.Plain.{IsPlainPlay};
+
+/// One client makes four calls, one after the other.
+pub fn four_calls()
+    ensures play { IsPlainPlay (whole lock_facts) lock_table four_calls four_calls_history }
+{}
+
+/// A client that waits for a lock is answered after its release; both are done.
+pub fn release_wakes()
+    ensures play { IsPlainPlay (whole lock_facts) lock_table release_wakes release_wakes_history }
+    ensures ends { AreEnds (whole lock_facts) lock_table release_wakes_history release_wakes both_done }
+{}
+
+/// A client that waits for a lock which nobody releases stays blocked, and isn't done.
+pub fn stays_blocked()
+    ensures play { IsPlainPlay (whole lock_facts) lock_table stays_blocked stays_blocked_history }
+    ensures ends { AreEnds (whole lock_facts) lock_table stays_blocked_history stays_blocked second_blocked }
+    ensures wrong { AreEnds (whole lock_facts) lock_table stays_blocked_history stays_blocked both_done → ⊥ }
+{}
+
+/// The schedule lets the other client come first.
+pub fn second_first()
+    ensures play { IsPlainPlay (whole lock_facts) lock_table second_first second_first_history }
+{}
