@@ -1,8 +1,7 @@
 -- A script of files, and its play. The functions: 1 tsplit, 2 tread, 3 twrite, 4 tseek, 5 trelease.
 use Rattle.std.specs.Prelude.{List, [], ◌∷◌, codes}
 use Rattle.sg_base.specs.declared.reply.Code.TheVariants.{NoDesc}
-use Rattle.sg_base.specs.declared.reply.Reply.{Reply}
-use Rattle.sg_base.specs.declared.reply.Reply.TheVariants.{Ok, Refused}
+use Rattle.sg_base.specs.declared.reply.Reply.TheVariants.{Refused}
 use Rattle.sg_base.specs.declared.value.Value.TheVariants.{Word as word, Text as text}
 use Rattle.sg_facts.specs.declared.entry.Entry.{Entry}
 use Rattle.sg_script.specs.declared.script.Arg.TheVariants.{Number, Text, Back}

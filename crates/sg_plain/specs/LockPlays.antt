@@ -87,3 +87,15 @@ second_first_history =
     ∷ entry (call_of 1 2 2 1) (ok_at 0)
     ∷ entry (call_of 1 3 3 1) (ok_at 0)
     ∷ []
+
+-- each client names its own calls
+abbrev pub own_backs : Script
+own_backs = record {
+  setup = [];
+  clients = (1, made 1 [] ∷ []) ∷ (2, made 1 [] ∷ made 2 (Back 1 ∷ []) ∷ []) ∷ [];
+  schedule = [];
+  stops = [];
+}
+
+abbrev pub own_backs_history : List Entry
+own_backs_history = entry (call_of 1 1 1 0) (ok_at 1) ∷ entry (call_of 2 1 1 0) (ok_at 2) ∷ entry (call_of 2 2 2 2) (ok_at 0) ∷ []

@@ -1,5 +1,5 @@
 -- The play of a script without stops, turn by turn.
-use Rattle.std.specs.Prelude.{ℕ, zero, suc, ◌≡◌, ◌+◌, ◌-◌, ◌==◌, Bool, true, false, ◌&&◌, ◌||◌, not, nat_lt, if◌then◌else◌, List, [], ◌∷◌, ◌++◌, None, Some, length, map, slice_get, slice_set, unwrap_or}
+use Rattle.std.specs.Prelude.{ℕ, zero, suc, ◌≡◌, ◌+◌, ◌-◌, ◌==◌, Bool, true, false, ◌&&◌, ◌||◌, nat_lt, if◌then◌else◌, List, [], ◌∷◌, ◌++◌, None, Some, length, map, slice_get, slice_set, unwrap_or}
 use Rattle.std.specs.declared.option.Option.{Option}
 use Rattle.sg_base.specs.declared.call.Call.{Call}
 use Rattle.sg_base.specs.declared.reply.Code.{Code}
@@ -11,7 +11,7 @@ use Rattle.sg_facts.specs.Facts.{Facts, fun_at, is_visible}
 use Rattle.sg_facts.specs.Guard.{guard}
 use Rattle.sg_facts.specs.Interface.{Declared}
 use Rattle.sg_facts.specs.Legal.{Table}
-use Rattle.sg_facts.specs.Object.{Object, object_of}
+use Rattle.sg_facts.specs.Object.{object_of}
 use Rattle.sg_facts.specs.Track.{ends_with}
 use Rattle.sg_script.specs.declared.script.Script.{Script}
 use Rattle.sg_plain.specs.Calls.{most_client, next_call, numbers_from, script_calls}

@@ -3,7 +3,7 @@ ghost use Rattle.sg_facts.specs.Laws.{whole};
 ghost use Rattle.sg_lock.specs.LockFacts.{lock_facts};
 ghost use Rattle.sg_lock.specs.LockTable.{lock_table};
 ghost use Rattle.sg_plain.specs.Calls.{AreEnds};
-ghost use Rattle.sg_plain.specs.LockPlays.{both_done, four_calls, four_calls_history, release_wakes, release_wakes_history, second_blocked, second_first, second_first_history, stays_blocked, stays_blocked_history};
+ghost use Rattle.sg_plain.specs.LockPlays.{both_done, four_calls, four_calls_history, own_backs, own_backs_history, release_wakes, release_wakes_history, second_blocked, second_first, second_first_history, stays_blocked, stays_blocked_history};
 ghost use Rattle.sg_plain.specs.Plain.{IsPlainPlay};
 
 /// One client makes four calls, one after the other.
@@ -27,4 +27,9 @@ pub fn stays_blocked()
 /// The schedule lets the other client come first.
 pub fn second_first()
     ensures play { IsPlainPlay (whole lock_facts) lock_table second_first second_first_history }
+{}
+
+/// A client's `$1` is what its own first call was given.
+pub fn own_backs()
+    ensures play { IsPlainPlay (whole lock_facts) lock_table own_backs own_backs_history }
 {}

@@ -2,6 +2,8 @@
 use Rattle.std.proofs.Common.{◌≡◌, ◌⊎◌, inl, inr, ℕ, true, false, List, [], ◌∷◌, None, Some, Option, arith}
 use Rattle.sg_base.specs.declared.call.Call.{Call}
 use Rattle.sg_base.specs.declared.reply.Reply.{Reply}
+use Rattle.sg_base.specs.declared.value.Value.{Value}
+use Rattle.sg_base.specs.declared.value.Value.TheVariants.{Word, Text}
 use Rattle.sg_recovery.specs.Reading.{desc_of}
 
 pub false_true : false ≡ true → ⊥
@@ -27,6 +29,16 @@ caller_of (Some call) = call.client
 abbrev pub id_in : Option ℕ → ℕ
 id_in None = 0
 id_in (Some id) = id
+
+abbrev pub arg_in : List Value → ℕ
+arg_in [] = 0
+arg_in (Word n ∷ args) = n
+arg_in (Text bytes ∷ args) = 0
+
+-- the first argument of a call
+abbrev pub first_in : Option Call → ℕ
+first_in None = 0
+first_in (Some call) = arg_in call.args
 
 pub neither : {A B : Type 0} → (A × ◌≡◌ {A = ℕ} 11 9) ⊎ (B × ◌≡◌ {A = ℕ} 11 10) → ⊥
 neither (inl both) = omega (arith, both.1)

@@ -1,7 +1,7 @@
 -- What it means that a run recovers: six things that hold of its history, its trace and the ends of its clients.
 use Rattle.std.specs.Prelude.{ℕ, ◌≡◌, ◌≢◌, ◌⊎◌, ◌+◌, ◌-◌, ◌≤◌, ◌==◌, Bool, true, false, ◌&&◌, ◌||◌, not, nat_le, nat_lt, if◌then◌else◌, List, [], ◌∷◌, ◌++◌, None, Some, IsSome, length, filter, find, slice_get, unwrap_or}
 use Rattle.std.specs.declared.option.Option.{Option}
-use Rattle.std.specs.List.{list_all, list_any}
+use Rattle.std.specs.List.{flat_map, list_all, list_any}
 use Rattle.sg_base.specs.declared.call.Call.{Call}
 use Rattle.sg_base.specs.declared.reply.Reply.{Reply}
 use Rattle.sg_base.specs.declared.reply.Reply.TheVariants.{Ok, Refused}
@@ -318,6 +318,14 @@ ArePointsOf facts parts asked (b ∷ boots) points =
 -- the greatest number of 64 bits, at which counts stand still
 abbrev pub greatest : ℕ
 greatest = 18446744073709551615
+
+-- the points at which a service stopped, boot by boot
+abbrev pub stop_in : Option ℕ → List ℕ
+stop_in None = []
+stop_in (Some stop) = stop ∷ []
+
+abbrev pub struck_in : Trace → List ℕ
+struck_in trace = flat_map (λ b. stop_in b.stop) trace.boots
 
 -- ---- a run recovers
 

@@ -1,6 +1,7 @@
 // Runs of locks.
+ghost use Rattle.std.specs.Prelude.{◌≡◌, ◌∷◌, []};
 ghost use Rattle.sg_recovery.specs.LockRuns.{lock_stubs, another_id, boot_without_a_stop, asked_after_a_stop, reply_without_an_item, taken_twice, walk_from_its_middle, walk_by_another, walk_too_long, rebuilt_for_nobody, rebuilt_too_late, served_without_a_walk, half_a_walk, stop_at_another_number, point_left_out, rebuilt_needlessly, two_locks_ends, two_locks_history, stop_after_take, stop_after_take_ends, stop_after_take_history, stop_before_storage, stop_before_storage_ends, stop_before_storage_history, stop_in_walk, stop_in_walk_ends, stop_in_walk_history};
-ghost use Rattle.sg_recovery.specs.Recovered.{IsRecovered};
+ghost use Rattle.sg_recovery.specs.Recovered.{IsRecovered, struck_in};
 
 /// The service stops once a take is committed: the lock is made and taken again before its release.
 pub fn stop_after_take()
@@ -15,6 +16,7 @@ pub fn stop_before_storage()
 /// It stops again while the lock is rebuilt, and is rebuilt from the first call on.
 pub fn stop_in_walk()
     ensures recovered { IsRecovered lock_stubs stop_in_walk_history stop_in_walk stop_in_walk_ends }
+    ensures struck { struck_in stop_in_walk ≡ 9 ∷ 15 ∷ [] }
 {}
 
 /// It doesn't recover where the service says another id than its table gives.

@@ -1,6 +1,6 @@
 -- The runs of the event service, computed.
 use Rattle.std.proofs.Common.{inl, inr, refl}
-use Rattle.sg_recovery_rows.specs.EventRuns.{event_stubs, trigger_not_twice, trigger_not_twice_ends, trigger_not_twice_history, blocked_redone, blocked_redone_ends, blocked_redone_history}
+use Rattle.sg_recovery_rows.specs.EventRuns.{event_stubs, trigger_not_twice, trigger_not_twice_ends, trigger_not_twice_history, present_value, present_value_ends, present_value_history, blocked_redone, blocked_redone_ends, blocked_redone_history}
 use Rattle.sg_recovery.specs.Reading.{Each, places_of}
 use Rattle.sg_recovery.specs.Recovered.{ArePointsOf, IsDemanded, IsRebooted, IsRecovered, IsServed, IsTrackedAt, IsWalked}
 use Rattle.sg_recovery.specs.Written.{call_of}
@@ -40,6 +40,43 @@ trigger_not_twice-recovered = record {
   on_demand = trigger_not_twice-demanded;
   tracked_state = trigger_not_twice-tracked;
   points = λ below. trigger_not_twice-points;
+}
+
+present_value-reboots : IsRebooted event_stubs.facts event_stubs.ask present_value
+present_value-reboots = record {
+  table = ((refl, refl), ((refl, refl), ((refl, refl), ((refl, refl), ((refl, refl), ((refl, refl), ((refl, refl), tt)))))));
+  stopped = (refl, tt);
+  last = (tt, (tt, (tt, (tt, (tt, (tt, (tt, tt)))))));
+}
+
+present_value-served : IsServed event_stubs.facts present_value_history present_value present_value_ends
+present_value-served = record {
+  calls = (refl, (refl, (refl, (refl, (tt, (tt, (refl, tt)))))));
+  items = ((refl, (refl, refl, refl)), ((refl, (refl, refl, refl)), ((refl, (refl, refl, refl)), ((refl, (refl, refl, refl)), ((refl, (refl, refl, refl)), tt)))));
+  committed = (refl, (refl, (refl, (refl, (tt, (tt, (refl, tt)))))));
+  order = (refl, (refl, (refl, (refl, (refl, tt)))));
+}
+
+present_value-walks : Each (λ p. IsWalked event_stubs.facts event_stubs.walks present_value_history p p.item.tag) (places_of present_value)
+present_value-walks = (tt, (tt, (tt, (tt, (record { unmade = refl; next = refl; parent = refl; call = refl; real = refl; outcome = tt }, (record { unmade = refl; next = refl; parent = refl; call = refl; real = refl; outcome = tt }, (tt, tt)))))))
+
+present_value-demanded : Each (λ p. IsDemanded event_stubs.facts event_stubs.walks present_value_history present_value_ends p p.item.tag) (places_of present_value)
+present_value-demanded = (tt, (tt, (tt, (tt, (record { call = call_of 1 5 2 1; under_way = record { its = refl; above = refl; first = refl }; least = refl }, (record { call = call_of 1 5 2 1; under_way = record { its = refl; above = refl; first = refl }; least = refl }, (tt, tt)))))))
+
+present_value-tracked : Each (λ p. IsTrackedAt event_stubs.facts event_stubs.walks present_value_history p p.item.tag) (places_of present_value)
+present_value-tracked = (record { whole = refl; rows = tt; real = refl; file = tt }, (record { whole = refl; rows = (record { id = refl; made = refl; parent = refl; state = refl; fields = refl }, tt); real = refl; file = tt }, (record { whole = refl; rows = (record { id = refl; made = refl; parent = refl; state = refl; fields = refl }, tt); real = refl; file = tt }, (record { whole = refl; rows = (record { id = refl; made = refl; parent = refl; state = refl; fields = refl }, tt); real = refl; file = tt }, (tt, (tt, (record { whole = refl; rows = (record { id = refl; made = refl; parent = refl; state = refl; fields = refl }, tt); real = refl; file = tt }, tt)))))))
+
+present_value-points : ArePointsOf event_stubs.facts event_stubs.parts 0 present_value.boots present_value.points
+present_value-points = ((refl, (refl, (refl, (refl, tt)))), inr (refl, refl), ((refl, (refl, (refl, tt))), refl, refl))
+
+pub present_value-recovered : IsRecovered event_stubs present_value_history present_value present_value_ends
+present_value-recovered = record {
+  reboots = present_value-reboots;
+  served = present_value-served;
+  walks = present_value-walks;
+  on_demand = present_value-demanded;
+  tracked_state = present_value-tracked;
+  points = λ below. present_value-points;
 }
 
 blocked_redone-reboots : IsRebooted event_stubs.facts event_stubs.ask blocked_redone

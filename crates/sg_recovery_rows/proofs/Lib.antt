@@ -1,3 +1,4 @@
+pub mod EventFaults
 pub mod EventRuns
 pub mod MmFaults
 pub mod MmRuns

@@ -49,6 +49,37 @@ trigger_not_twice = record {
   points = 21;
 }
 
+-- an event comes back with the count that is left, and not with the one that was triggered
+abbrev pub present_value_history : List Entry
+present_value_history =
+    entry (call_of 1 1 1 0) (ok_at 1)
+    ∷ entry (call_with 1 2 3 1 ((word 5) ∷ [])) ok
+    ∷ entry (call_of 1 3 2 1) ok
+    ∷ entry (call_of 1 4 2 1) ok
+    ∷ entry (call_of 1 5 2 1) ok
+    ∷ []
+
+abbrev pub present_value_ends : List (ℕ × End)
+present_value_ends = (1, Done) ∷ []
+
+abbrev pub present_value : Trace
+present_value = record {
+  boots =
+      boot (
+      called (call_of 1 1 1 0) 0 4 (replied (ok_at 1))
+      ∷ called (call_with 1 2 3 1 ((word 5) ∷ [])) 1 8 (replied ok)
+      ∷ called (call_of 1 3 2 1) 1 12 (replied ok)
+      ∷ called (call_of 1 4 2 1) 1 16 (replied ok)
+      ∷ []) (Some 18)
+      ∷ boot (
+      walked 1 1 1 (call_of 1 0 1 0) 0 22 (replied (ok_at 1))
+      ∷ walked 1 2 1 (call_with 1 0 3 1 ((word 3) ∷ [])) 1 25 (replied ok)
+      ∷ called (call_of 1 5 2 1) 1 28 (replied ok)
+      ∷ []) None
+      ∷ [];
+  points = 29;
+}
+
 -- a client is blocked when the service stops, and its call is done again
 abbrev pub blocked_redone_history : List Entry
 blocked_redone_history =
@@ -74,4 +105,25 @@ blocked_redone = record {
       ∷ []) None
       ∷ [];
   points = 19;
+}
+
+-- ---- runs that do not recover
+
+-- an event comes back with the count that was triggered
+abbrev pub earlier_value : Trace
+earlier_value = record {
+  boots =
+      boot (
+      called (call_of 1 1 1 0) 0 4 (replied (ok_at 1))
+      ∷ called (call_with 1 2 3 1 ((word 5) ∷ [])) 1 8 (replied ok)
+      ∷ called (call_of 1 3 2 1) 1 12 (replied ok)
+      ∷ called (call_of 1 4 2 1) 1 16 (replied ok)
+      ∷ []) (Some 18)
+      ∷ boot (
+      walked 1 1 1 (call_of 1 0 1 0) 0 22 (replied (ok_at 1))
+      ∷ walked 1 2 1 (call_with 1 0 3 1 ((word 5) ∷ [])) 1 25 (replied ok)
+      ∷ called (call_of 1 5 2 1) 1 28 (replied ok)
+      ∷ []) None
+      ∷ [];
+  points = 29;
 }

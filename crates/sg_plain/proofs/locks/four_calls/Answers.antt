@@ -1,4 +1,4 @@
-use Rattle.std.proofs.Common.{◌≡◌, refl, arith}
+use Rattle.std.proofs.Common.{refl}
 use Rattle.sg_plain.proofs.locks.four_calls.Goals as goal
 
 pub returns : goal.returns

@@ -1,4 +1,4 @@
-use Rattle.std.proofs.Common.{◌≡◌, refl, arith}
+use Rattle.std.proofs.Common.{refl}
 use Rattle.sg_plain.proofs.locks.release_wakes.Goals as goal
 
 pub returns : goal.returns
