@@ -1,3 +1,4 @@
+pub mod Growing
 pub mod LockRuns
 pub mod Reading
 pub mod Recovered
