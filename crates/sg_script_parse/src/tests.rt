@@ -95,79 +95,122 @@ fn takes_scripts(rt: HostRuntime) {
     }
 }
 
-#[test]
-fn fails_at_the_first_token_that_cannot_go_on(rt: HostRuntime) {
-    let alloc = rt.alloc();
-    for (text, place) in [
-        // where a part begins
-        (b"{".as_slice(), 0),
-        (b"x".as_slice(), 0),
-        (b"1".as_slice(), 0),
-        (b"\"setup\"".as_slice(), 0),
-        (b"desc".as_slice(), 0),
-        (b"setup { } }".as_slice(), 10),
-        (b"setup { } desc".as_slice(), 10),
-        (b"stop 1; 2".as_slice(), 8),
-        // before the brace
-        (b"setup".as_slice(), 5),
-        (b"setup ".as_slice(), 6),
-        (b"setup 1 { }".as_slice(), 6),
-        (b"setup ;".as_slice(), 6),
-        (b"client".as_slice(), 6),
-        (b"client {".as_slice(), 7),
-        (b"client x { }".as_slice(), 7),
-        (b"client $1 { }".as_slice(), 7),
-        (b"client 1".as_slice(), 8),
-        (b"client 1 lock".as_slice(), 9),
-        // in the braces
-        (b"setup {".as_slice(), 7),
-        (b"setup { 1(); }".as_slice(), 8),
-        (b"setup { { } }".as_slice(), 8),
-        (b"setup { f".as_slice(), 9),
-        (b"setup { f }".as_slice(), 10),
-        (b"setup { f()".as_slice(), 11),
-        (b"setup { f() }".as_slice(), 12),
-        (b"setup { f();".as_slice(), 12),
-        (b"setup { f(); ; }".as_slice(), 13),
-        (b"setup { f(); g }".as_slice(), 15),
-        // in the brackets
-        (b"setup { f(".as_slice(), 10),
-        (b"setup { f(x); }".as_slice(), 10),
-        (b"setup { f(,1); }".as_slice(), 10),
-        (b"setup { f( }".as_slice(), 11),
-        (b"setup { f(1".as_slice(), 11),
-        (b"setup { f($".as_slice(), 11),
-        (b"setup { f($); }".as_slice(), 11),
-        (b"setup { f($\"a\"); }".as_slice(), 11),
-        (b"setup { f($$1); }".as_slice(), 11),
-        (b"setup { f(1,".as_slice(), 12),
-        (b"setup { f(1 2); }".as_slice(), 12),
-        (b"setup { f(1,); }".as_slice(), 12),
-        // among numbers
-        (b"schedule".as_slice(), 8),
-        (b"schedule 1".as_slice(), 10),
-        (b"schedule a;".as_slice(), 9),
-        (b"schedule 1, 2;".as_slice(), 10),
-        (b"stop \"x\";".as_slice(), 5),
-        (b"stop 1 2".as_slice(), 8),
-        (b"stop 1 \n".as_slice(), 8),
-        (b"schedule 1 // no end".as_slice(), 20),
-        // where no token begins
-        (b"%".as_slice(), 0),
-        (b"setup % {".as_slice(), 6),
-        (b"setup { /* }".as_slice(), 8),
-        (b"setup { f(\"a); }".as_slice(), 10),
-        (b"setup { f(1) /".as_slice(), 13),
-        (b"client 1 { f(1\xFF); }".as_slice(), 14),
-        (b"schedule 1 %".as_slice(), 11),
-        (b"schedule a; %".as_slice(), 9),
-    ] {
+// A text and the place at which it fails.
+type Failing = (&'static [u8], usize);
+
+// Asserts that each of these texts fails at its place.
+fn assert_failing(rt: &impl Abort, alloc: Global, cases: &[Failing]) {
+    for (text, place) in cases {
         assert_eq!(rt;
             answer_on(alloc, text),
-            Answer::Syntax(place),
+            Answer::Syntax(*place),
             "on {text:?}"
         );
     }
+}
+
+static AT_A_PART: [Failing; 8] = [
+    (b"{", 0),
+    (b"x", 0),
+    (b"1", 0),
+    (b"\"setup\"", 0),
+    (b"desc", 0),
+    (b"setup { } }", 10),
+    (b"setup { } desc", 10),
+    (b"stop 1; 2", 8),
+];
+
+#[test]
+fn fails_where_a_part_begins(rt: HostRuntime) {
+    assert_failing(&rt, rt.alloc(), &AT_A_PART);
+}
+
+static BEFORE_A_BRACE: [Failing; 10] = [
+    (b"setup", 5),
+    (b"setup ", 6),
+    (b"setup 1 { }", 6),
+    (b"setup ;", 6),
+    (b"client", 6),
+    (b"client {", 7),
+    (b"client x { }", 7),
+    (b"client $1 { }", 7),
+    (b"client 1", 8),
+    (b"client 1 lock", 9),
+];
+
+#[test]
+fn fails_before_the_brace(rt: HostRuntime) {
+    assert_failing(&rt, rt.alloc(), &BEFORE_A_BRACE);
+}
+
+static IN_BRACES: [Failing; 10] = [
+    (b"setup {", 7),
+    (b"setup { 1(); }", 8),
+    (b"setup { { } }", 8),
+    (b"setup { f", 9),
+    (b"setup { f }", 10),
+    (b"setup { f()", 11),
+    (b"setup { f() }", 12),
+    (b"setup { f();", 12),
+    (b"setup { f(); ; }", 13),
+    (b"setup { f(); g }", 15),
+];
+
+#[test]
+fn fails_in_the_braces(rt: HostRuntime) {
+    assert_failing(&rt, rt.alloc(), &IN_BRACES);
+}
+
+static IN_BRACKETS: [Failing; 12] = [
+    (b"setup { f(", 10),
+    (b"setup { f(x); }", 10),
+    (b"setup { f(,1); }", 10),
+    (b"setup { f( }", 11),
+    (b"setup { f(1", 11),
+    (b"setup { f($", 11),
+    (b"setup { f($); }", 11),
+    (b"setup { f($\"a\"); }", 11),
+    (b"setup { f($$1); }", 11),
+    (b"setup { f(1,", 12),
+    (b"setup { f(1 2); }", 12),
+    (b"setup { f(1,); }", 12),
+];
+
+#[test]
+fn fails_in_the_brackets(rt: HostRuntime) {
+    assert_failing(&rt, rt.alloc(), &IN_BRACKETS);
+}
+
+static AMONG_NUMBERS: [Failing; 8] = [
+    (b"schedule", 8),
+    (b"schedule 1", 10),
+    (b"schedule a;", 9),
+    (b"schedule 1, 2;", 10),
+    (b"stop \"x\";", 5),
+    (b"stop 1 2", 8),
+    (b"stop 1 \n", 8),
+    (b"schedule 1 // no end", 20),
+];
+
+#[test]
+fn fails_among_numbers(rt: HostRuntime) {
+    assert_failing(&rt, rt.alloc(), &AMONG_NUMBERS);
+}
+
+static WITHOUT_A_TOKEN: [Failing; 8] = [
+    (b"%", 0),
+    (b"setup % {", 6),
+    (b"setup { /* }", 8),
+    (b"setup { f(\"a); }", 10),
+    (b"setup { f(1) /", 13),
+    (b"client 1 { f(1\xFF); }", 14),
+    (b"schedule 1 %", 11),
+    (b"schedule a; %", 9),
+];
+
+#[test]
+fn fails_where_no_token_begins(rt: HostRuntime) {
+    assert_failing(&rt, rt.alloc(), &WITHOUT_A_TOKEN);
 }
 
 // The answer on the first so many bytes of a script.

@@ -15,13 +15,13 @@ pub type Answer = Option<(usize, ScriptKind)>;
 pub type Case = (&'static [u8], Answer);
 
 /// A standard interface.
-pub fn standard(alloc: Global, text: &[u8]) -> Result<Accepted, Fail> {
+pub(crate) fn standard(alloc: Global, text: &[u8]) -> Result<Accepted, Fail> {
     let tree = parse(alloc, text)?;
     Ok(check(alloc, &tree, &standard_shapes())?)
 }
 
 /// The answer on a script.
-pub fn answer(alloc: Global, script: &[u8], iface: &Interface) -> Result<Answer, Fail> {
+pub(crate) fn answer(alloc: Global, script: &[u8], iface: &Interface) -> Result<Answer, Fail> {
     match read(alloc, script, iface) {
         Ok(_) => Ok(None),
         Err(ScriptError::Fault(fault)) => Ok(Some((fault.at, fault.kind))),
@@ -30,7 +30,12 @@ pub fn answer(alloc: Global, script: &[u8], iface: &Interface) -> Result<Answer,
 }
 
 /// Each of these scripts has its answer, for a standard interface.
-pub fn try_each(rt: &impl Abort, alloc: Global, text: &[u8], cases: &[Case]) -> Result<(), Fail> {
+pub(crate) fn try_each(
+    rt: &impl Abort,
+    alloc: Global,
+    text: &[u8],
+    cases: &[Case],
+) -> Result<(), Fail> {
     let accepted = standard(alloc, text)?;
     for (script, want) in cases {
         let given = answer(alloc, script, accepted.interface())?;

@@ -13,7 +13,7 @@ use std::test::Fail;
 type Line = (u8, u8, u8, &'static [u8]);
 
 /// The tables of a standard interface.
-pub fn tables_of(alloc: Global, text: &[u8]) -> Result<Tables, Fail> {
+pub(crate) fn tables_of(alloc: Global, text: &[u8]) -> Result<Tables, Fail> {
     let tree = parse(alloc, text)?;
     let accepted = check(alloc, &tree, &standard_shapes())?;
     Ok(compile(alloc, &accepted)?)
