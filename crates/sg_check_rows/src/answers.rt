@@ -31,7 +31,7 @@ fn line_and_byte(text: &[u8], at: usize) -> (usize, usize) {
 }
 
 /// The answer on a text.
-pub fn answer(alloc: Global, text: &[u8], shapes: &[Shape]) -> Result<Answer, Fail>
+pub(crate) fn answer(alloc: Global, text: &[u8], shapes: &[Shape]) -> Result<Answer, Fail>
     requires { are_shapes (map facts_of shapes.now) ≡ true }
 {
     let tree = parse(alloc, text)?;
@@ -46,7 +46,12 @@ pub fn answer(alloc: Global, text: &[u8], shapes: &[Shape]) -> Result<Answer, Fa
 }
 
 /// Each of these changes of a text gives its answer.
-pub fn try_each(rt: &impl Abort, alloc: Global, base: &[u8], cases: &[Case]) -> Result<(), Fail> {
+pub(crate) fn try_each(
+    rt: &impl Abort,
+    alloc: Global,
+    base: &[u8],
+    cases: &[Case],
+) -> Result<(), Fail> {
     let shapes = standard_shapes();
     for (edits, want) in cases {
         let text = edited(alloc, base, edits)?;

@@ -51,7 +51,7 @@ fn add_line(text: &mut Vec<u8>, line: &[u8]) -> Result<(), AllocError> {
 }
 
 /// A text with these changes; of those of a line the first is made.
-pub fn edited(alloc: Global, base: &[u8], edits: &[Edit]) -> Result<Vec<u8>, AllocError> {
+pub(crate) fn edited(alloc: Global, base: &[u8], edits: &[Edit]) -> Result<Vec<u8>, AllocError> {
     let mut text = Vec::new(alloc);
     for (before, line) in base.split_inclusive(|byte| *byte == b'\n').enumerate() {
         let number = before.saturating_add(1);
@@ -64,7 +64,7 @@ pub fn edited(alloc: Global, base: &[u8], edits: &[Edit]) -> Result<Vec<u8>, All
 }
 
 /// A text with a carriage return before each line feed.
-pub fn with_returns(alloc: Global, base: &[u8]) -> Result<Vec<u8>, AllocError> {
+pub(crate) fn with_returns(alloc: Global, base: &[u8]) -> Result<Vec<u8>, AllocError> {
     let mut text = Vec::new(alloc);
     for byte in base {
         if *byte == b'\n' {
@@ -76,7 +76,7 @@ pub fn with_returns(alloc: Global, base: &[u8]) -> Result<Vec<u8>, AllocError> {
 }
 
 /// A text on one line: with a blank for each line feed.
-pub fn with_blanks(alloc: Global, base: &[u8]) -> Result<Vec<u8>, AllocError> {
+pub(crate) fn with_blanks(alloc: Global, base: &[u8]) -> Result<Vec<u8>, AllocError> {
     let mut text = Vec::new(alloc);
     for byte in base {
         text.push(if *byte == b'\n' { b' ' } else { *byte })?;

@@ -141,85 +141,86 @@ fn fails_at_the_first_token_that_cannot_go_on(rt: HostRuntime) {
     }
 }
 
-#[test]
-fn reads_each_form_of_a_statement(rt: HostRuntime) -> Result<(), Fail> {
-    let alloc = rt.alloc();
-    for (tail, wanted) in [
-        (b"".as_slice(), Answer::Tree),
-        (b"sm_block(f); sm_block(f);".as_slice(), Answer::Tree),
-        (
-            b"resc_data(f); sm_needs_all(f); sm_query(f); sm_keep(f); sm_wakeup(f);".as_slice(),
-            Answer::Tree,
-        ),
-        (
-            b"sm_state(f, g);desc_data_clear(f, x);desc_data_sub(f, x);sm_recover(f,g);".as_slice(),
-            Answer::Tree,
-        ),
-        (b"sm_block(f, g);".as_slice(), Answer::Syntax(10)),
-        (b"sm_state(f);".as_slice(), Answer::Syntax(10)),
-        (b"sm_block(sm_block);".as_slice(), Answer::Syntax(9)),
-        (b"sm_block(desc_data);".as_slice(), Answer::Syntax(9)),
-        (b"sm_block(f)".as_slice(), Answer::Syntax(11)),
-        (b"desc(f);".as_slice(), Answer::Syntax(0)),
-        (b"service_global_info".as_slice(), Answer::Syntax(0)),
-        (b"= 1".as_slice(), Answer::Syntax(0)),
-        (b"int f(spdid_t c);".as_slice(), Answer::Tree),
-        (b"f(spdid_t c);".as_slice(), Answer::Syntax(1)),
-        (b"int *f(spdid_t c);".as_slice(), Answer::Tree),
-        (b"int * * f(spdid_t c);".as_slice(), Answer::Tree),
-        (b"int *f g(spdid_t c);".as_slice(), Answer::Syntax(7)),
-        (b"int *(spdid_t c);".as_slice(), Answer::Syntax(5)),
-        (b"int desc(spdid_t c);".as_slice(), Answer::Syntax(4)),
-        (b"int f();".as_slice(), Answer::Syntax(6)),
-        (b"int f(c);".as_slice(), Answer::Syntax(7)),
-        (b"int f(a b c d);".as_slice(), Answer::Tree),
-        (b"int f(a b,);".as_slice(), Answer::Syntax(10)),
-        (
-            b"int f(a desc(x), a b parent_desc(y), a *desc_data(z), a **desc_data_add(w));".as_slice(),
-            Answer::Tree,
-        ),
-        (b"int f(desc(x));".as_slice(), Answer::Syntax(6)),
-        (b"int f(a desc x);".as_slice(), Answer::Syntax(13)),
-        (b"int f(a desc(desc));".as_slice(), Answer::Syntax(13)),
-        (
-            b"int f(a desc_data_retval(x));".as_slice(),
-            Answer::Syntax(8),
-        ),
-        (b"int f(a *b c);".as_slice(), Answer::Syntax(11)),
-        (b"int f(a * * *b);".as_slice(), Answer::Tree),
-        (
-            b"desc_data_retval(long, x) f(a b);".as_slice(),
-            Answer::Tree,
-        ),
-        (
-            b"desc_data_retval_add(char *, x) f(a b);".as_slice(),
-            Answer::Tree,
-        ),
-        (
-            b"desc_data_retval(a b * *, x) f(a b);".as_slice(),
-            Answer::Tree,
-        ),
-        (
-            b"desc_data_retval(*, x) f(a b);".as_slice(),
-            Answer::Syntax(17),
-        ),
-        (
-            b"desc_data_retval(long x) f(a b);".as_slice(),
-            Answer::Syntax(23),
-        ),
-        (
-            b"desc_data_retval(long, x) int f(a b);".as_slice(),
-            Answer::Syntax(30),
-        ),
-        (
-            b"desc_data_retval_sub(long, x) f(a b);".as_slice(),
-            Answer::Syntax(20),
-        ),
-        (b"desc_data f(a b);".as_slice(), Answer::Syntax(0)),
-    ] {
-        assert_eq!(rt; behind_head(alloc, tail)?, wanted, "on {tail:?}");
+// What stands behind the facts of an interface, and how the text is answered.
+type Behind = (&'static [u8], Answer);
+
+// Asserts that each of these is answered so.
+fn assert_behind(rt: &impl Abort, alloc: Global, cases: &[Behind]) -> Result<(), Fail> {
+    for (tail, wanted) in cases {
+        assert_eq!(rt; behind_head(alloc, tail)?, *wanted, "on {tail:?}");
     }
     Ok(())
+}
+
+static OVER_FUNCTIONS: [Behind; 12] = [
+    (b"", Answer::Tree),
+    (b"sm_block(f); sm_block(f);", Answer::Tree),
+    (
+        b"resc_data(f); sm_needs_all(f); sm_query(f); sm_keep(f); sm_wakeup(f);",
+        Answer::Tree,
+    ),
+    (
+        b"sm_state(f, g);desc_data_clear(f, x);desc_data_sub(f, x);sm_recover(f,g);",
+        Answer::Tree,
+    ),
+    (b"sm_block(f, g);", Answer::Syntax(10)),
+    (b"sm_state(f);", Answer::Syntax(10)),
+    (b"sm_block(sm_block);", Answer::Syntax(9)),
+    (b"sm_block(desc_data);", Answer::Syntax(9)),
+    (b"sm_block(f)", Answer::Syntax(11)),
+    (b"desc(f);", Answer::Syntax(0)),
+    (b"service_global_info", Answer::Syntax(0)),
+    (b"= 1", Answer::Syntax(0)),
+];
+
+#[test]
+fn reads_statements_over_functions(rt: HostRuntime) -> Result<(), Fail> {
+    assert_behind(&rt, rt.alloc(), &OVER_FUNCTIONS)
+}
+
+static PROTOTYPES: [Behind; 18] = [
+    (b"int f(spdid_t c);", Answer::Tree),
+    (b"f(spdid_t c);", Answer::Syntax(1)),
+    (b"int *f(spdid_t c);", Answer::Tree),
+    (b"int * * f(spdid_t c);", Answer::Tree),
+    (b"int *f g(spdid_t c);", Answer::Syntax(7)),
+    (b"int *(spdid_t c);", Answer::Syntax(5)),
+    (b"int desc(spdid_t c);", Answer::Syntax(4)),
+    (b"int f();", Answer::Syntax(6)),
+    (b"int f(c);", Answer::Syntax(7)),
+    (b"int f(a b c d);", Answer::Tree),
+    (b"int f(a b,);", Answer::Syntax(10)),
+    (
+        b"int f(a desc(x), a b parent_desc(y), a *desc_data(z), a **desc_data_add(w));",
+        Answer::Tree,
+    ),
+    (b"int f(desc(x));", Answer::Syntax(6)),
+    (b"int f(a desc x);", Answer::Syntax(13)),
+    (b"int f(a desc(desc));", Answer::Syntax(13)),
+    (b"int f(a desc_data_retval(x));", Answer::Syntax(8)),
+    (b"int f(a *b c);", Answer::Syntax(11)),
+    (b"int f(a * * *b);", Answer::Tree),
+];
+
+#[test]
+fn reads_prototypes(rt: HostRuntime) -> Result<(), Fail> {
+    assert_behind(&rt, rt.alloc(), &PROTOTYPES)
+}
+
+static RETURNS: [Behind; 8] = [
+    (b"desc_data_retval(long, x) f(a b);", Answer::Tree),
+    (b"desc_data_retval_add(char *, x) f(a b);", Answer::Tree),
+    (b"desc_data_retval(a b * *, x) f(a b);", Answer::Tree),
+    (b"desc_data_retval(*, x) f(a b);", Answer::Syntax(17)),
+    (b"desc_data_retval(long x) f(a b);", Answer::Syntax(23)),
+    (b"desc_data_retval(long, x) int f(a b);", Answer::Syntax(30)),
+    (b"desc_data_retval_sub(long, x) f(a b);", Answer::Syntax(20)),
+    (b"desc_data f(a b);", Answer::Syntax(0)),
+];
+
+#[test]
+fn reads_what_prototypes_return(rt: HostRuntime) -> Result<(), Fail> {
+    assert_behind(&rt, rt.alloc(), &RETURNS)
 }
 
 #[test]
@@ -240,7 +241,7 @@ fn parses_the_standard_interfaces(rt: HostRuntime) -> Result<(), Fail> {
 }
 
 #[test]
-fn keeps_words_fields_and_stars(rt: HostRuntime) -> Result<(), Fail> {
+fn keeps_words(rt: HostRuntime) -> Result<(), Fail> {
     let alloc = rt.alloc();
     let tree = parse(alloc, RAMFS)?;
     match tree.statements.get(5) {
@@ -264,6 +265,13 @@ fn keeps_words_fields_and_stars(rt: HostRuntime) -> Result<(), Fail> {
         }
         _ => assert!(rt; false, "a statement over two functions"),
     }
+    Ok(())
+}
+
+#[test]
+fn keeps_fields_and_stars(rt: HostRuntime) -> Result<(), Fail> {
+    let alloc = rt.alloc();
+    let tree = parse(alloc, RAMFS)?;
     match tree.statements.get(12) {
         Some(
             Statement::Proto {
