@@ -24,5 +24,5 @@ pub use memory::{NoMemory, TryCopy};
 pub use reply::{Code, Good, Reply, ReplyRoom};
 pub use room::{ListRoom, RoomyList};
 pub use stops::{Point, Stops};
-pub use text::{Text, TextFault, TextRoom};
+pub use text::{Text, TextFault, TextRoom, is_text_byte};
 pub use value::Value;

@@ -1,5 +1,5 @@
 // The list that every list type of the project is, or is made of.
-ghost use Rattle.std.specs.Prelude.{◌≡◌, ◌↔◌, ◌+◌, ◌<◌, [], ◌∷◌, ◌++◌, length, IsTrue, IfOk, IfSome, IfNone, OnOk, OnErr, slice_get};
+ghost use Rattle.std.specs.Prelude.{◌≡◌, ◌↔◌, ◌+◌, ◌<◌, [], ◌∷◌, ◌++◌, length, IsTrue, IfOk, IfSome, IfNone, OnOk, OnErr, slice_get, slice_set};
 ghost use Rattle.std.specs.Option.{option_copied};
 
 use crate::{NoMemory, TryCopy, Value};
@@ -84,6 +84,16 @@ impl<E> ListOf<E> {
         ensures { option_copied result ≡ slice_get self.now at }
     {
         self.items.get(at)
+    }
+
+    /// Puts an element in the place of another, counted from 0. It takes no memory.
+    pub fn set(&mut self, at: usize, item: E)
+    where
+        E: Drop,
+        requires { at < length self.old }
+        ensures { self.new ≡ slice_set self.old at item }
+    {
+        self.items[at] = item;
     }
 
     /// The elements, lent.

@@ -80,7 +80,9 @@ fn keeps_lists_in_order(rt: HostRuntime) -> Result<(), Fail> {
         assert_eq!(rt; list.get(at).copied(), want, "at {at}");
     }
     assert_eq!(rt; list.pop(), Some(11));
-    assert_eq!(rt; list, Words::from_slice(rt.alloc(), &[7, 8, 9, 10])?);
+    assert!(rt; list.len() > 1);
+    list.set(1, 12);
+    assert_eq!(rt; list, Words::from_slice(rt.alloc(), &[7, 12, 9, 10])?);
     Ok(())
 }
 

@@ -136,8 +136,8 @@ fn first_bad_byte(bytes: &[u8]) -> Option<usize>
     bytes.iter().position(|byte| !is_text_byte(*byte))
 }
 
-// Whether a text may have this byte.
-fn is_text_byte(byte: u8) -> bool
+/// Whether a text may have this byte.
+pub fn is_text_byte(byte: u8) -> bool
     ensures { result ≡ is_text_byte byte }
 {
     matches!(byte, 0x20..=0x7E) && byte != b'"'

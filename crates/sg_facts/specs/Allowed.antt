@@ -1,5 +1,5 @@
 -- What every shape keeps to.
-use Rattle.std.specs.Prelude.{ℕ, zero, suc, ◌+◌, ◌==◌, Bool, true, false, ◌&&◌, ◌||◌, not, List, [], ◌∷◌, None, Some, length, count_by, slice_get}
+use Rattle.std.specs.Prelude.{ℕ, zero, suc, ◌+◌, ◌==◌, Bool, true, false, ◌&&◌, ◌||◌, not, List, [], ◌∷◌, None, Some, length, count_by, nat_le, slice_get}
 use Rattle.std.specs.declared.option.Option.{Option}
 use Rattle.std.specs.List.{list_any, list_all}
 use Rattle.sg_facts.specs.declared.shape.Kind.{Kind}
@@ -56,13 +56,20 @@ abbrev pub each_arg : List (ℕ × Effect) → ℕ → Bool
 each_arg effects zero = true
 each_arg effects (suc k) = (count_by (λ e. carries_arg k e.1) effects == 1) && each_arg effects k
 
+-- effects change no field twice
+abbrev pub sets_once : List (ℕ × Effect) → Bool
+sets_once [] = true
+sets_once (e ∷ es) = not (list_any (λ other. other.0 == e.0) es) && sets_once es
+
 -- a function keeps to this: a query takes neither descriptor nor parent; one that uses a file has a descriptor, in a
--- service with files; only a creation sets a text; one that may block neither makes nor ends a descriptor
+-- service with files; only a creation sets a text; none changes a field twice; one that may block neither makes nor ends a
+-- descriptor
 abbrev pub keeps_to : Facts → Fun → Bool
 keeps_to facts f =
     implies f.query (not (takes_desc f) && not (takes_parent f))
     && implies f.uses_file (facts.resc_data && takes_desc f)
     && (f.creation || list_all (λ e. not (is_text_field facts.fields e.0)) f.effects)
+    && sets_once f.effects
     && implies f.block (not f.creation && not f.terminal)
     && leaves_own facts.funs f.leaves
 
@@ -77,9 +84,9 @@ replays_all facts (suc n) =
     implies (is_replayed facts (suc n)) (each_arg (fun_at facts.funs (suc n)).effects (count_args (fun_at facts.funs (suc n)).kinds))
     && replays_all facts n
 
--- what a shape keeps to
+-- what a shape keeps to; it has at most 8 fields
 abbrev pub is_allowed : Facts → Bool
-is_allowed facts = keeps_private facts && list_all (keeps_to facts) facts.funs && replays_all facts (length facts.funs)
+is_allowed facts = nat_le (length facts.fields) 8 && keeps_private facts && list_all (keeps_to facts) facts.funs && replays_all facts (length facts.funs)
 
 -- whether a function takes a returned word into a field
 abbrev pub wants_word : Fun → Bool

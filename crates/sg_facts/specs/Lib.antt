@@ -15,6 +15,7 @@ pub mod Needs
 pub mod Object
 pub mod Sound
 pub mod Tables
+pub mod Trace
 pub mod Track
 pub mod WalkArray
 pub mod Walks

@@ -1,5 +1,5 @@
 // A tracked descriptor.
-ghost use Rattle.std.specs.Prelude.{◌≡◌, ◌↔◌, ◌^◌, ◌<◌, ◌≤◌, [], ◌∷◌, ◌++◌, length, take, IsTrue, IfSome, IfNone, IfOk, OnOk, OnErr, slice_get, vec_capacity};
+ghost use Rattle.std.specs.Prelude.{◌≡◌, ◌↔◌, ◌^◌, ◌<◌, ◌≤◌, [], ◌∷◌, ◌++◌, length, take, IsTrue, IfSome, IfNone, IfOk, OnOk, OnErr, slice_get, slice_set, vec_capacity};
 ghost use Rattle.std.specs.Option.{option_copied};
 ghost use Rattle.sg_facts.specs.Fields.{is_set, mask_of};
 
@@ -72,6 +72,23 @@ impl Fields {
         self.values.get(at)
     }
 
+    /// Fields of these values. It takes no memory.
+    pub fn from_vec(values: Vec<Value>) -> Fields
+        ensures { result ≡ values.items }
+    {
+        Fields {
+            values: ListOf::from_vec(values),
+        }
+    }
+
+    /// Puts a value in the place of another. It takes no memory.
+    pub fn set(&mut self, at: usize, value: Value)
+        requires { at < length self.old }
+        ensures { self.new ≡ slice_set self.old at value }
+    {
+        self.values.set(at, value)
+    }
+
     /// The fields, lent.
     pub fn as_slice(&self) -> &[Value]
         ensures { result.now ≡ self.now }
@@ -91,8 +108,8 @@ impl TryCopy for Fields {
 /// Room for the fields of one row, with a text of 256 bytes in each, which is used up when the fields are made.
 #[derive(Debug, Drop)]
 pub struct FieldsRoom {
-    values: Vec<Value>,
-    texts: Vec<TextRoom>,
+    pub values: Vec<Value>,
+    pub texts: Vec<TextRoom>,
     ghost is_empty: { values.items ≡ [] },
     ghost has_room: { 8 ≤ vec_capacity values },
     ghost has_texts: { length texts.items ≡ 8 },
@@ -103,7 +120,10 @@ impl Fields {
     pub const MOST: usize = 8;
 
     /// Room for the fields of a row, taken ahead so that a copy of them needs no memory later.
-    pub fn room(alloc: Global) -> Result<FieldsRoom, NoMemory> {
+    pub fn room(alloc: Global) -> Result<FieldsRoom, NoMemory>
+        ensures values { IfOk result (λ room. 8 ≤ vec_capacity room.values) }
+        ensures texts { IfOk result (λ room. length room.texts.items ≡ 8) }
+    {
         Ok(FieldsRoom {
             values: Vec::with_capacity(alloc, Fields::MOST)?,
             texts: text_rooms(alloc)?,
@@ -141,9 +161,7 @@ impl FieldsRoom {
                 },
             }
         }
-        Fields {
-            values: ListOf::from_vec(values),
-        }
+        Fields::from_vec(values)
     }
 }
 

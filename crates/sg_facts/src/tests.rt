@@ -148,6 +148,9 @@ fn keeps_fields_in_order(rt: HostRuntime) -> Result<(), Fail> {
         Some(Value::Text(Text::new(rt.alloc(), b"a")?))
     );
     assert_eq!(rt; fields.len(), 1);
+    fields.set(0, Value::Word(9));
+    let one = Vec::from_array(rt.alloc(), [Value::Word(9)])?;
+    assert_eq!(rt; fields, Fields::from_vec(one));
     Ok(())
 }
 

@@ -1,6 +1,6 @@
 // What was done to a service, boot by boot.
 use crate::Outcome;
-use sg_base::{Call, ListOf, Path};
+use sg_base::{Call, Path, RoomyList};
 
 /// Why the service was asked.
 #[derive(Debug, PartialEq, Eq, Drop)]
@@ -27,8 +27,8 @@ pub struct Item {
     pub outcome: Outcome,
 }
 
-/// The askings of one boot.
-pub type ItemList = ListOf<Item>;
+/// The askings of one boot, with room for more.
+pub type ItemList = RoomyList<Item>;
 
 /// What was done between two boots.
 #[derive(Debug, Drop)]
@@ -38,8 +38,8 @@ pub struct BootLog {
     pub stop: Option<u64>,
 }
 
-/// The boots of a run.
-pub type BootList = ListOf<BootLog>;
+/// The boots of a run, with room for more.
+pub type BootList = RoomyList<BootLog>;
 
 /// What was done to the service in a run.
 #[derive(Debug, Drop)]

@@ -5,6 +5,8 @@ ghost use Rattle.std.specs.Char.{is_ascii_digit};
 ghost use Rattle.sg_base.specs.Text.{is_text_byte};
 ghost use Rattle.sg_lex.specs.Bytes.{is_blank, begins_word, is_in_word, is_mark};
 
+use sg_base::is_text_byte;
+
 /// Whether this byte stands between tokens.
 pub fn is_blank(byte: u8) -> bool
     ensures { result ≡ is_blank byte }
@@ -31,13 +33,6 @@ pub fn is_mark(byte: u8) -> bool
     ensures { result ≡ is_mark byte }
 {
     b"{}()=,;*$".contains(&byte)
-}
-
-// Whether a text may have this byte between its quotes.
-fn is_text_byte(byte: u8) -> bool
-    ensures { result ≡ is_text_byte byte }
-{
-    matches!(byte, 0x20..=0x7E) && byte != b'"'
 }
 
 /// How many bytes at the front a word goes on with.

@@ -4,7 +4,7 @@ ghost use Rattle.std.specs.List.{list_all};
 ghost use Rattle.sg_script.specs.Numbers.{bounded, counts_as, is_above, is_client, is_text, number_of, unquoted};
 ghost use Rattle.sg_base.specs.Text.{is_text_byte};
 
-use sg_base::Text;
+use sg_base::{Text, is_text_byte};
 
 /// What digits count as: a number above the greatest of 64 bits counts as that one.
 pub fn counts_as(digits: &[u8]) -> u64
@@ -69,11 +69,4 @@ fn are_text_bytes(bytes: &[u8]) -> bool
     ensures { result ≡ list_all is_text_byte bytes.now }
 {
     bytes.iter().all(|byte| is_text_byte(*byte))
-}
-
-// Whether a text may have this byte.
-fn is_text_byte(byte: u8) -> bool
-    ensures { result ≡ is_text_byte byte }
-{
-    matches!(byte, 0x20..=0x7E) && byte != b'"'
 }

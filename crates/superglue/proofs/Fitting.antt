@@ -6,6 +6,7 @@ use Rattle.std.specs.Str.{bytes_eq}
 use Rattle.std.proofs.lemmas.Bool.Decides.{nat_tests}
 use Rattle.std.specs.declared.option.Option.{Option}
 use Rattle.std.specs.List.{flat_map, fold}
+use Rattle.sg_base.specs.Lists.{Each}
 use Rattle.sg_facts.specs.declared.shape.Kind.{Kind}
 use Rattle.sg_facts.specs.declared.shape.Kind.TheVariants.{Desc, Parent, Word, Text as IsText}
 use Rattle.sg_facts.specs.Facts.{Fun, fun_at}
@@ -90,11 +91,6 @@ calls_all_fit i in_setup nth own (c ∷ calls) e =
     both (call_fits i own (call_of i c)) _ (call_fit i in_setup nth own c (front_none _ _ e)) (calls_all_fit i in_setup (nth + 1) (own + 1) calls (back_none _ _ e))
 
 -- ---- parts
-
--- a fact of each element
-abbrev Each : {A : Type 0} → (A → Type 0) → List A → Type 0
-Each P [] = Unit {0}
-Each P (x ∷ xs) = P x × Each P xs
 
 -- the calls of a client fit, behind so many setup calls, and there aren't too many
 record IsGood (i : Declared) (setup : ℕ) (c : ℕ × List ScriptCall) : Type 0 where

@@ -5,6 +5,7 @@ use Rattle.sg_facts.specs.declared.trace.Trace.{Trace}
 use Rattle.sg_facts.specs.Facts.{Facts}
 use Rattle.sg_facts.specs.Interface.{Declared}
 use Rattle.sg_facts.specs.Legal.{IsLegal}
+use Rattle.sg_facts.specs.Trace.{run_of}
 use Rattle.sg_hist.specs.declared.ended.End.{End}
 use Rattle.sg_hist.specs.declared.ended.End.TheVariants.{Done}
 use Rattle.sg_hist.specs.declared.ended.Ended.{Ended}
@@ -42,9 +43,8 @@ AreEnds [] history ends = ends ≡ []
 AreEnds (c ∷ calls) history ends = (ends ≡ (1, Done) ∷ []) × (length (calls_of history 1) ≡ length (c ∷ calls))
 
 -- one boot, in which nothing of the service was traced and no point was asked
-pub record IsPlainTrace (trace : Trace) : Type 0 where
-  pub boots : trace.boots ≡ record { items = []; stop = None } ∷ []
-  pub points : trace.points ≡ 0
+abbrev pub IsPlainTrace : Trace → Type 0
+IsPlainTrace trace = run_of trace ≡ record { boots = record { items = []; stop = None } ∷ []; points = 0 }
 
 -- a run of one client's calls under an interface: its history is legal, its entries are the calls in their order, the client is
 -- done, and the service was booted once

@@ -8,8 +8,8 @@ ghost use Rattle.sg_sim.specs.Script.{calls_fit};
 ghost use Rattle.superglue.specs.Runs.{IsPlainTrace, IsRunOf, first_calls, has_one_client, is_plain};
 
 use crate::played::Played;
-use sg_base::{Bytes, ListOf, NoMemory};
-use sg_facts::{BootLog, Interface, Trace};
+use sg_base::{Bytes, NoMemory};
+use sg_facts::{BootList, BootLog, Interface, ItemList, Trace};
 use sg_hist::{End, EndList, Ended};
 use sg_report::report;
 use sg_script::{CallList, Script, ScriptCall};
@@ -74,11 +74,12 @@ pub fn played_of(
 fn plain_trace(alloc: Global) -> Result<Trace, NoMemory>
     ensures { IfOk result IsPlainTrace }
 {
-    let mut boots = ListOf::new(alloc);
-    boots.push(BootLog {
-        items: ListOf::new(alloc),
+    let mut boots = BootList::new(alloc);
+    boots.reserve(1)?;
+    boots.add(BootLog {
+        items: ItemList::new(alloc),
         stop: None,
-    })?;
+    });
     Ok(Trace { boots, points: 0 })
 }
 
