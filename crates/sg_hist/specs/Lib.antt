@@ -1,1 +1,4 @@
 pub mod Clients
+pub mod Growing
+pub mod Reading
+pub mod Recovered

@@ -1,0 +1,5 @@
+use Rattle.sg_hist.proofs.Growing.{entries_before-committed, entries_before-more, entries_before-refused}
+use Rattle.sg_hist.proofs.laws.entries_stay.Goals as goal
+
+pub returns : goal.returns
+returns c = record { noted = entries_before-more; committed = entries_before-committed; refused = entries_before-refused }

@@ -1,0 +1,196 @@
+-- How the trace of a run is read: which item is whose, what was committed before an item, and what the service held at it.
+use Rattle.std.specs.Prelude.{ℕ, ◌==◌, Bool, true, false, ◌&&◌, ◌||◌, not, if◌then◌else◌, List, [], ◌∷◌, ◌++◌, None, Some, length, filter, find, reverse}
+use Rattle.std.specs.declared.option.Option.{Option}
+use Rattle.std.specs.List.{flat_map, fold, list_any}
+use Rattle.sg_base.specs.declared.call.Call.{Call}
+use Rattle.sg_base.specs.declared.reply.Reply.{Reply}
+use Rattle.sg_base.specs.declared.reply.Reply.TheVariants.{Ok, Refused}
+use Rattle.sg_facts.specs.declared.entry.Entry.{Entry}
+use Rattle.sg_facts.specs.declared.outcome.Outcome.{Outcome}
+use Rattle.sg_facts.specs.declared.outcome.Outcome.TheVariants.{Replied, Blocks, Stopped, NoMemory}
+use Rattle.sg_facts.specs.declared.outcome.Patch.{Patch}
+use Rattle.sg_facts.specs.declared.row.Row.{Row}
+use Rattle.sg_facts.specs.declared.tables.WalkLine.{WalkLine}
+use Rattle.sg_facts.specs.declared.trace.Item.{Item}
+use Rattle.sg_facts.specs.declared.trace.Tag.{Tag}
+use Rattle.sg_facts.specs.declared.trace.Tag.TheVariants.{Walk, Load, Client}
+use Rattle.sg_facts.specs.Facts.{Facts, fun_at}
+use Rattle.sg_facts.specs.Fields.{mask_of}
+use Rattle.sg_facts.specs.Guard.{is_guards}
+use Rattle.sg_facts.specs.Object.{Object, after, empty_object, object_of, set_file}
+use Rattle.sg_facts.specs.Tables.{walk_of}
+use Rattle.sg_facts.specs.Trace.{Boot, Run}
+use Rattle.sg_facts.specs.Track.{row_at}
+
+-- ---- places
+
+-- an item in its place: the items of the boots before, the earlier items of its boot, itself, the later items of its boot, and
+-- those of the boots behind
+pub record Place : Type 0 where
+  pub older : List Item
+  pub front : List Item
+  pub item : Item
+  pub rest : List Item
+  pub newer : List Item
+
+-- all items before it, and it with all behind it
+abbrev pub past : Place → List Item
+past p = p.older ++ p.front
+
+abbrev pub behind : Place → List Item
+behind p = p.rest ++ p.newer
+
+-- the places in a boot
+abbrev pub places_in : List Item → List Item → List Item → List Item → List Place
+places_in older front [] newer = []
+places_in older front (item ∷ rest) newer =
+    record { older = older; front = front; item = item; rest = rest; newer = newer } ∷ places_in older (front ++ item ∷ []) rest newer
+
+abbrev pub items_of : List Boot → List Item
+items_of boots = flat_map (λ b. b.items) boots
+
+-- the places in boots, behind others
+abbrev pub places_from : List Item → List Boot → List Place
+places_from older [] = []
+places_from older (b ∷ boots) = places_in older [] b.items (items_of boots) ++ places_from (older ++ b.items) boots
+
+-- the places of a run, boot by boot
+abbrev pub places_of : Run → List Place
+places_of run = places_from [] run.boots
+
+-- ---- items of entries
+
+-- whether an item is of the call of a number of a client
+abbrev pub is_tagged : ℕ → ℕ → Tag → Bool
+is_tagged client seq (Walk id k c) = false
+is_tagged client seq (Load key c) = false
+is_tagged client seq (Client c s) = (c == client) && (s == seq)
+
+abbrev pub is_of : Entry → Item → Bool
+is_of e item = is_tagged e.call.client e.call.seq item.tag
+
+-- the place of an entry's item: the last that is of its call
+abbrev pub item_of : Run → Entry → Option Place
+item_of run e = find (λ p. is_of e p.item) (reverse (places_of run))
+
+-- whether a reply is a refusal by the guard, which the service wasn't asked for
+abbrev pub is_by_guard : Reply → Bool
+is_by_guard (Ok good) = false
+is_by_guard (Refused code) = is_guards code
+
+-- whether an entry's item stands before a place
+abbrev pub stands_before : Place → Entry → Bool
+stands_before p e = not (is_by_guard e.reply) && list_any (is_of e) (past p) && not (list_any (is_of e) (p.item ∷ behind p))
+
+-- the entries whose items stand before a place, in the order of the history
+abbrev pub entries_before : List Entry → Place → List Entry
+entries_before history p = filter (stands_before p) history
+
+-- the fault-free object that these entries make
+abbrev pub object_before : Facts → List Entry → Place → Object
+object_before facts history p = object_of facts (entries_before history p)
+
+-- ---- what the service holds
+
+-- the call that the service was asked, under its own ids
+abbrev pub service_call : Item → Call
+service_call item = record item.shown { desc = item.real }
+
+-- a loaded file is set whole
+abbrev pub with_file : Object → Option Patch → Object
+with_file o None = o
+with_file o (Some p) = record o { files = set_file o.files p.key p.bytes }
+
+-- a load sets its file, and a call does what its reply says; what has no reply changes nothing that is known
+abbrev pub given_by : Facts → Object → Tag → Call → Outcome → Object
+given_by facts o (Load key client) call (Replied reply patch) = with_file o patch
+given_by facts o (Walk id k client) call (Replied reply patch) = after facts o call reply
+given_by facts o (Client client seq) call (Replied reply patch) = after facts o call reply
+given_by facts o tag call Blocks = o
+given_by facts o tag call Stopped = o
+given_by facts o tag call NoMemory = o
+
+abbrev pub after_item : Facts → Object → Item → Object
+after_item facts o item = given_by facts o item.tag (service_call item) item.outcome
+
+-- what the service holds behind items of one boot
+abbrev pub value_at : Facts → List Item → Object
+value_at facts front = fold (after_item facts) empty_object front
+
+-- ---- names
+
+-- the descriptor of a reply, 0 for none
+abbrev pub desc_of : Reply → ℕ
+desc_of (Ok good) = good.desc
+desc_of (Refused code) = 0
+
+abbrev pub desc_in : Option Entry → ℕ
+desc_in None = 0
+desc_in (Some e) = desc_of e.reply
+
+-- the descriptor that the call of a number was given
+abbrev pub id_given : List Entry → ℕ → ℕ → ℕ
+id_given history client seq = desc_in (find (λ e. (e.call.client == client) && (e.call.seq == seq)) history)
+
+-- a client's id with the service's id, where the service replied an Ok
+abbrev pub pair_of : ℕ → Outcome → List (ℕ × ℕ)
+pair_of id (Replied (Ok good) patch) = (id, good.desc) ∷ []
+pair_of id (Replied (Refused code) patch) = []
+pair_of id Blocks = []
+pair_of id Stopped = []
+pair_of id NoMemory = []
+
+-- the pair that an item gives: the first call of a walk, and a creation
+abbrev pub names_in : Facts → List Entry → ℕ → Tag → Outcome → List (ℕ × ℕ)
+names_in facts history fun (Walk id k client) outcome = if k == 1 then pair_of id outcome else []
+names_in facts history fun (Load key client) outcome = []
+names_in facts history fun (Client client seq) outcome =
+    if (fun_at facts.funs fun).creation then pair_of (id_given history client seq) outcome else []
+
+-- the pairs of client ids and service ids behind items of one boot
+abbrev pub names_at : Facts → List Entry → List Item → List (ℕ × ℕ)
+names_at facts history front = flat_map (λ item. names_in facts history item.shown.fun item.tag item.outcome) front
+
+-- ---- what is whole
+
+-- whether an outcome is an Ok
+abbrev pub is_ok : Outcome → Bool
+is_ok (Replied (Ok good) patch) = true
+is_ok (Replied (Refused code) patch) = false
+is_ok Blocks = false
+is_ok Stopped = false
+is_ok NoMemory = false
+
+-- whether an item made an id for an entry
+abbrev pub made_by : Facts → List Entry → ℕ → ℕ → Tag → Bool
+made_by facts history id fun (Walk i k client) = false
+made_by facts history id fun (Load key client) = false
+made_by facts history id fun (Client client seq) = (fun_at facts.funs fun).creation && (id_given history client seq == id)
+
+abbrev pub is_made : Facts → List Entry → ℕ → Item → Bool
+is_made facts history id item = is_ok item.outcome && made_by facts history id item.shown.fun item.tag
+
+-- the walk of a row
+abbrev pub walk_in : List WalkLine → Option Row → Option (List ℕ)
+walk_in walks None = None
+walk_in walks (Some r) = walk_of walks r.made r.state (mask_of r.fields)
+
+abbrev pub has_length : ℕ → Option (List ℕ) → Bool
+has_length n None = false
+has_length n (Some walk) = length walk == n
+
+-- whether an item is the last call of the walk of an id
+abbrev pub ends_walk : Facts → List WalkLine → List Entry → ℕ → Place → Tag → Bool
+ends_walk facts walks history id p (Walk i k client) =
+    (i == id) && has_length k (walk_in walks (row_at (object_before facts history p).rows id))
+ends_walk facts walks history id p (Load key client) = false
+ends_walk facts walks history id p (Client client seq) = false
+
+abbrev pub is_rebuilt_at : Facts → List WalkLine → List Entry → ℕ → Place → Bool
+is_rebuilt_at facts walks history id p = is_ok p.item.outcome && ends_walk facts walks history id p p.item.tag
+
+-- whether an id is whole at a place: earlier in the boot an item made it for an entry, or all calls of its walk replied
+abbrev pub is_whole_at : Facts → List WalkLine → List Entry → Place → ℕ → Bool
+is_whole_at facts walks history p id =
+    list_any (is_made facts history id) p.front
+    || list_any (is_rebuilt_at facts walks history id) (places_in p.older [] p.front (p.item ∷ behind p))

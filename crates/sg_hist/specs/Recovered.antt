@@ -1,0 +1,365 @@
+-- What it means that a run recovers: six things that hold of its history, of what its trace tells, and of the calls that aren't
+-- answered in it.
+use Rattle.std.specs.Prelude.{ℕ, ◌≡◌, ◌≢◌, ◌⊎◌, ◌+◌, ◌-◌, ◌≤◌, ◌==◌, Bool, true, false, ◌&&◌, ◌||◌, not, nat_le, nat_lt, if◌then◌else◌, List, [], ◌∷◌, ◌++◌, None, Some, IsSome, length, filter, find, map, slice_get, unwrap_or}
+use Rattle.std.specs.declared.option.Option.{Option}
+use Rattle.std.specs.List.{Contains, flat_map, list_all, list_any}
+use Rattle.sg_base.specs.Lists.{Each, When}
+use Rattle.sg_base.specs.declared.call.Call.{Call}
+use Rattle.sg_base.specs.declared.reply.Reply.{Reply}
+use Rattle.sg_base.specs.declared.reply.Reply.TheVariants.{Ok, Refused}
+use Rattle.std.specs.Str.{bytes_eq}
+use Rattle.sg_facts.specs.declared.entry.Entry.{Entry}
+use Rattle.sg_facts.specs.declared.outcome.Outcome.{Outcome}
+use Rattle.sg_facts.specs.declared.outcome.Outcome.TheVariants.{Replied, Blocks, Stopped, NoMemory}
+use Rattle.sg_facts.specs.declared.row.Row.{Row}
+use Rattle.sg_facts.specs.declared.tables.WalkLine.{WalkLine}
+use Rattle.sg_facts.specs.declared.trace.Item.{Item}
+use Rattle.sg_facts.specs.declared.trace.Tag.{Tag}
+use Rattle.sg_facts.specs.declared.trace.Tag.TheVariants.{Walk, Load, Client}
+use Rattle.sg_facts.specs.Alike.{IsAlike, SameFile, named}
+use Rattle.sg_facts.specs.Facts.{Facts, is_visible}
+use Rattle.sg_facts.specs.Legal.{Table}
+use Rattle.sg_facts.specs.Needs.{is_needed, needs}
+use Rattle.sg_facts.specs.Object.{Object, file_at, patch_of}
+use Rattle.sg_facts.specs.Trace.{Boot, Run}
+use Rattle.sg_facts.specs.Track.{row_at}
+use Rattle.sg_facts.specs.Walks.{replayed_call}
+use Rattle.sg_hist.specs.declared.ended.End.{End}
+use Rattle.sg_hist.specs.declared.ended.End.TheVariants.{Done, Blocked}
+use Rattle.sg_hist.specs.Clients.{calls_of}
+use Rattle.sg_hist.specs.Reading.{Place, behind, is_by_guard, is_made, is_of, is_whole_at, item_of, names_at, object_before, places_of, service_call, stands_before, value_at, walk_in}
+
+-- ---- the calls of clients
+
+-- the calls that clients made: those of the entries, and those that aren't answered. In a run that ended these are the calls in
+-- which clients wait
+abbrev pub calls_made : List Entry → List Call → List Call
+calls_made history unanswered = map (λ e. e.call) history ++ unanswered
+
+abbrev pub waiting_in : End → List Call
+waiting_in Done = []
+waiting_in (Blocked call) = call ∷ []
+
+-- the calls in which clients wait
+abbrev pub waiting : List (ℕ × End) → List Call
+waiting ends = flat_map (λ e. waiting_in e.1) ends
+
+-- a call is one that a client made
+pub record IsCallOf (history : List Entry) (unanswered : List Call) (client : ℕ) (call : Call) : Type 0 where
+  pub its : call.client ≡ client
+  pub made : Contains (calls_made history unanswered) call
+
+-- ---- reboots
+
+-- the service answered by its table, from what it held in this boot: no item has a reply that a fresh service, asked the same
+-- calls since its boot, wouldn't give
+abbrev pub IsByTable : Facts → Table → Object → Call → Outcome → Type 0
+IsByTable facts ask held call (Replied reply patch) = (ask held call ≡ Some reply) × (patch ≡ patch_of facts held call reply)
+IsByTable facts ask held call Blocks = ask held call ≡ None
+IsByTable facts ask held call Stopped = Unit {0}
+IsByTable facts ask held call NoMemory = ⊥
+
+abbrev pub AskedAs : Facts → Table → Place → Tag → Type 0
+AskedAs facts ask p (Load key client) = Unit {0}
+AskedAs facts ask p (Walk id k client) = IsByTable facts ask (value_at facts p.front) (service_call p.item) p.item.outcome
+AskedAs facts ask p (Client client seq) = IsByTable facts ask (value_at facts p.front) (service_call p.item) p.item.outcome
+
+-- each boot but the last was stopped
+abbrev pub AreStopped : List Boot → Type 0
+AreStopped [] = Unit {0}
+AreStopped (b ∷ []) = Unit {0}
+AreStopped (b ∷ c ∷ boots) = IsSome b.stop × AreStopped (c ∷ boots)
+
+-- nothing is asked of a service that stopped
+abbrev pub IsLastIfStopped : List Item → Outcome → Type 0
+IsLastIfStopped rest Stopped = rest ≡ []
+IsLastIfStopped rest (Replied reply patch) = Unit {0}
+IsLastIfStopped rest Blocks = Unit {0}
+IsLastIfStopped rest NoMemory = Unit {0}
+
+pub record IsRebooted (facts : Facts) (ask : Table) (run : Run) : Type 0 where
+  pub table : Each (λ p. AskedAs facts ask p p.item.tag) (places_of run)
+  pub stopped : AreStopped run.boots
+  pub last : Each (λ p. IsLastIfStopped p.rest p.item.outcome) (places_of run)
+
+-- ---- served
+
+-- the item of a client is its call of that number: no call is served that nobody made
+abbrev pub IsItsCall : List Entry → List Call → Call → Tag → Type 0
+IsItsCall history unanswered shown (Client client seq) = IsCallOf history unanswered client shown × (shown.seq ≡ seq)
+IsItsCall history unanswered shown (Walk id k client) = Unit {0}
+IsItsCall history unanswered shown (Load key client) = Unit {0}
+
+-- whether a client's id stands for a service's, 0 for none
+abbrev pub is_renamed : List (ℕ × ℕ) → ℕ → ℕ → Bool
+is_renamed names id real = if real == 0 then id == 0 else named names id == real
+
+-- a reply of the service is that of the entry, under the client's ids
+abbrev pub IsRenamed : List (ℕ × ℕ) → Reply → Reply → Type 0
+IsRenamed names (Ok real) (Ok good) = (good.words ≡ real.words) × (good.bytes ≡ real.bytes) × (is_renamed names good.desc real.desc ≡ true)
+IsRenamed names (Refused real) (Refused code) = code ≡ real
+IsRenamed names (Ok real) (Refused code) = ⊥
+IsRenamed names (Refused real) (Ok good) = ⊥
+
+abbrev pub IsReplyOf : List (ℕ × ℕ) → Outcome → Reply → Type 0
+IsReplyOf names (Replied real patch) reply = IsRenamed names real reply
+IsReplyOf names Blocks reply = ⊥
+IsReplyOf names Stopped reply = ⊥
+IsReplyOf names NoMemory reply = ⊥
+
+-- an entry has its item, with its call and its reply: no reply is given that the service didn't give
+abbrev pub IsAt : Facts → List Entry → Entry → Option Place → Type 0
+IsAt facts history e None = ⊥
+IsAt facts history e (Some p) = (p.item.shown ≡ e.call) × IsReplyOf (names_at facts history (p.front ++ p.item ∷ [])) p.item.outcome e.reply
+
+abbrev pub HasItem : Facts → List Entry → Run → Entry → Type 0
+HasItem facts history run e = When (not (is_by_guard e.reply)) (IsAt facts history e (item_of run e))
+
+-- whether an item is of a client's visible call that replied
+abbrev pub is_replied : Outcome → Bool
+is_replied (Replied reply patch) = true
+is_replied Blocks = false
+is_replied Stopped = false
+is_replied NoMemory = false
+
+abbrev pub is_clients : Tag → Bool
+is_clients (Client client seq) = true
+is_clients (Walk id k client) = false
+is_clients (Load key client) = false
+
+abbrev pub is_visible_reply : Facts → Item → Bool
+is_visible_reply facts item = is_clients item.tag && is_visible facts item.shown.fun && is_replied item.outcome
+
+-- whether an item is that of an entry: it is of its call, and no later one is
+abbrev pub is_entered : List Entry → Place → Bool
+is_entered history p = list_any (λ e. not (is_by_guard e.reply) && is_of e p.item && not (list_any (is_of e) (behind p))) history
+
+-- a visible reply is committed: none is given twice, and none is lost
+abbrev pub IsCommitted : Facts → List Entry → Place → Type 0
+IsCommitted facts history p = When (is_visible_reply facts p.item) (is_entered history p ≡ true)
+
+abbrev pub ComeBefore : List Entry → Option Place → Type 0
+ComeBefore earlier None = Unit {0}
+ComeBefore earlier (Some p) = list_all (λ e. is_by_guard e.reply || stands_before p e) earlier ≡ true
+
+-- the items of visible calls stand in the order of the history
+abbrev pub AreInOrder : Facts → Run → List Entry → List Entry → Type 0
+AreInOrder facts run earlier [] = Unit {0}
+AreInOrder facts run earlier (e ∷ later) =
+    When (is_visible facts e.call.fun && not (is_by_guard e.reply)) (ComeBefore earlier (item_of run e))
+    × AreInOrder facts run (earlier ++ e ∷ []) later
+
+pub record IsServed (facts : Facts) (history : List Entry) (run : Run) (unanswered : List Call) : Type 0 where
+  pub calls : Each (λ p. IsItsCall history unanswered p.item.shown p.item.tag) (places_of run)
+  pub items : Each (HasItem facts history run) history
+  pub committed : Each (IsCommitted facts history) (places_of run)
+  pub order : AreInOrder facts run [] history
+
+-- ---- walks
+
+abbrev pub is_walk_of : ℕ → Tag → Bool
+is_walk_of id (Walk i k client) = i == id
+is_walk_of id (Load key client) = false
+is_walk_of id (Client client seq) = false
+
+-- the k-th call of the walk of a row
+abbrev pub call_in : Facts → Row → ℕ → Option (List ℕ) → Option Call
+call_in facts r k None = None
+call_in facts r k (Some walk) = numbered (slice_get walk (k - 1))
+  where
+    numbered : Option ℕ → Option Call
+    numbered None = None
+    numbered (Some fun) = Some (replayed_call facts r (k == 1) fun)
+
+abbrev pub IsOkOrStopped : Outcome → Type 0
+IsOkOrStopped (Replied (Ok good) patch) = Unit {0}
+IsOkOrStopped (Replied (Refused code) patch) = ⊥
+IsOkOrStopped Blocks = ⊥
+IsOkOrStopped Stopped = Unit {0}
+IsOkOrStopped NoMemory = ⊥
+
+-- a row is rebuilt by the next call of its shortest walk, from its present values, once its parent is whole
+pub record IsNextCall (facts : Facts) (walks : List WalkLine) (history : List Entry) (p : Place) (id k : ℕ) (r : Row) : Type 0 where
+  pub unmade : list_any (is_made facts history id) p.front ≡ false
+  pub next : length (filter (λ item. is_walk_of id item.tag) p.front) + 1 ≡ k
+  pub parent : (r.parent == 0) || is_whole_at facts walks history p r.parent ≡ true
+  pub call : call_in facts r k (walk_in walks (Some r)) ≡ Some p.item.shown
+  pub real : p.item.real ≡ named (names_at facts history p.front) p.item.shown.desc
+  pub outcome : IsOkOrStopped p.item.outcome
+
+abbrev pub IsCallOfRow : Facts → List WalkLine → List Entry → Place → ℕ → ℕ → Option Row → Type 0
+IsCallOfRow facts walks history p id k None = ⊥
+IsCallOfRow facts walks history p id k (Some r) = IsNextCall facts walks history p id k r
+
+abbrev pub IsWalked : Facts → List WalkLine → List Entry → Place → Tag → Type 0
+IsWalked facts walks history p (Walk id k client) = IsCallOfRow facts walks history p id k (row_at (object_before facts history p).rows id)
+IsWalked facts walks history p (Load key client) = Unit {0}
+IsWalked facts walks history p (Client client seq) = Unit {0}
+
+-- ---- on demand
+
+-- a client's call that is under way at a place: its number is above those that were answered before, and not above those that
+-- are answered later
+pub record IsUnderWay (history : List Entry) (unanswered : List Call) (p : Place) (client : ℕ) (call : Call) : Type 0 where
+  pub its : IsCallOf history unanswered client call
+  pub above : list_all (λ e. not (stands_before p e) || nat_lt e.call.seq call.seq) (calls_of history client) ≡ true
+  pub first : list_all (λ e. is_by_guard e.reply || stands_before p e || nat_le call.seq e.call.seq) (calls_of history client) ≡ true
+
+-- whether an item brought a file into this boot: a load of it, or a write that was committed
+abbrev pub is_patch_at : List ℕ → Outcome → Bool
+is_patch_at key (Replied reply (Some patch)) = bytes_eq patch.key key
+is_patch_at key (Replied reply None) = false
+is_patch_at key Blocks = false
+is_patch_at key Stopped = false
+is_patch_at key NoMemory = false
+
+-- the whole file of a key is loaded
+abbrev pub IsLoad : Object → List ℕ → Outcome → Type 0
+IsLoad o key (Replied reply (Some patch)) = (patch.key ≡ key) × (patch.from ≡ 0) × (patch.bytes ≡ file_at o.files key) × (patch.bytes ≢ [])
+IsLoad o key (Replied reply None) = ⊥
+IsLoad o key Blocks = ⊥
+IsLoad o key Stopped = ⊥
+IsLoad o key NoMemory = ⊥
+
+-- what is rebuilt is needed by a call of the client in whose turn it is rebuilt, and is the least that isn't whole
+pub record IsRebuiltFor (facts : Facts) (walks : List WalkLine) (history : List Entry) (unanswered : List Call) (p : Place) (client id : ℕ) : Type 0 where
+  pub call : Call
+  pub under_way : IsUnderWay history unanswered p client call
+  pub least : find (λ i. not (is_whole_at facts walks history p i)) (needs facts (object_before facts history p) call).ids ≡ Some id
+
+-- what is loaded is needed, once all needed rows are whole, isn't empty, and isn't in this boot yet
+pub record IsLoadedFor (facts : Facts) (walks : List WalkLine) (history : List Entry) (unanswered : List Call) (p : Place) (client : ℕ) (key : List ℕ) : Type 0 where
+  pub call : Call
+  pub under_way : IsUnderWay history unanswered p client call
+  pub rows : list_all (is_whole_at facts walks history p) (needs facts (object_before facts history p) call).ids ≡ true
+  pub file : (needs facts (object_before facts history p) call).file ≡ Some key
+  pub absent : list_any (λ item. is_patch_at key item.outcome) p.front ≡ false
+  pub whole : IsLoad (object_before facts history p) key p.item.outcome
+
+abbrev pub IsDemanded : Facts → List WalkLine → List Entry → List Call → Place → Tag → Type 0
+IsDemanded facts walks history unanswered p (Walk id k client) = IsRebuiltFor facts walks history unanswered p client id
+IsDemanded facts walks history unanswered p (Load key client) = IsLoadedFor facts walks history unanswered p client key
+IsDemanded facts walks history unanswered p (Client client seq) = Unit {0}
+
+-- ---- tracked state
+
+abbrev pub IsAlikeTo : List (ℕ × ℕ) → Row → Option Row → Type 0
+IsAlikeTo names r None = ⊥
+IsAlikeTo names r (Some v) = IsAlike names r v
+
+-- when a client's call reaches the service, all that it needs is whole there and as it is tracked
+pub record IsTracked (facts : Facts) (walks : List WalkLine) (history : List Entry) (p : Place) : Type 0 where
+  pub whole : list_all (is_whole_at facts walks history p) (needs facts (object_before facts history p) p.item.shown).ids ≡ true
+  pub rows : Each (λ r. IsAlikeTo (names_at facts history p.front) r (row_at (value_at facts p.front).rows (named (names_at facts history p.front) r.id)))
+      (filter (is_needed facts (object_before facts history p).rows p.item.shown) (object_before facts history p).rows)
+  pub real : p.item.real ≡ named (names_at facts history p.front) p.item.shown.desc
+  pub file : SameFile (object_before facts history p) (value_at facts p.front) p.item.shown.desc p.item.real (needs facts (object_before facts history p) p.item.shown).file
+
+abbrev pub IsTrackedAt : Facts → List WalkLine → List Entry → Place → Tag → Type 0
+IsTrackedAt facts walks history p (Client client seq) = IsTracked facts walks history p
+IsTrackedAt facts walks history p (Walk id k client) = Unit {0}
+IsTrackedAt facts walks history p (Load key client) = Unit {0}
+
+-- ---- points
+
+-- a number of points is a sum. It is only at least the sum where it isn't exact: where points were asked by a step that then got no
+-- memory, and asked them again
+abbrev pub IsCount : Bool → ℕ → ℕ → Type 0
+IsCount true points sum = points ≡ sum
+IsCount false points sum = sum ≤ points
+
+-- the number of an item's last point, where so many were asked before: one for the use of the service; then the parts of an Ok
+-- and one for its reply. A stop strikes at one of these behind the first
+abbrev pub IsPointOfCall : Bool → (ℕ → ℕ) → ℕ → ℕ → Outcome → ℕ → Type 0
+IsPointOfCall exact parts asked fun (Replied (Ok good) patch) points = IsCount exact points (asked + 2 + parts fun)
+IsPointOfCall exact parts asked fun (Replied (Refused code) patch) points = IsCount exact points (asked + 2)
+IsPointOfCall exact parts asked fun Blocks points = IsCount exact points (asked + 1)
+IsPointOfCall exact parts asked fun Stopped points = (asked + 2 ≤ points) × When exact (points ≤ asked + 2 + parts fun)
+IsPointOfCall exact parts asked fun NoMemory points = ⊥
+
+abbrev pub IsPointOf : Bool → (ℕ → ℕ) → ℕ → Tag → ℕ → Outcome → ℕ → Type 0
+IsPointOf exact parts asked (Load key client) fun outcome points = IsCount exact points (asked + 1)
+IsPointOf exact parts asked (Walk id k client) fun outcome points = IsPointOfCall exact parts asked fun outcome points
+IsPointOf exact parts asked (Client client seq) fun outcome points = IsPointOfCall exact parts asked fun outcome points
+
+-- how many points were asked behind an item: one more where a visible call was committed
+abbrev pub asked_behind : Facts → Item → ℕ
+asked_behind facts item = if is_visible_reply facts item then item.points + 1 else item.points
+
+abbrev pub ArePoints : Bool → Facts → (ℕ → ℕ) → ℕ → List Item → Type 0
+ArePoints exact facts parts asked [] = Unit {0}
+ArePoints exact facts parts asked (item ∷ items) =
+    IsPointOf exact parts asked item.tag item.shown.fun item.outcome item.points × ArePoints exact facts parts (asked_behind facts item) items
+
+abbrev pub asked_in : Facts → ℕ → List Item → ℕ
+asked_in facts asked [] = asked
+asked_in facts asked (item ∷ items) = asked_in facts (asked_behind facts item) items
+
+abbrev pub is_stopped : Outcome → Bool
+is_stopped Stopped = true
+is_stopped (Replied reply patch) = false
+is_stopped Blocks = false
+is_stopped NoMemory = false
+
+-- whether the last item of a boot stopped, and whether it is a visible reply
+abbrev pub ends_stopped : List Item → Bool
+ends_stopped [] = false
+ends_stopped (item ∷ []) = is_stopped item.outcome
+ends_stopped (item ∷ other ∷ items) = ends_stopped (other ∷ items)
+
+abbrev pub ends_committed : Facts → List Item → Bool
+ends_committed facts [] = false
+ends_committed facts (item ∷ []) = is_visible_reply facts item
+ends_committed facts (item ∷ other ∷ items) = ends_committed facts (other ∷ items)
+
+-- a boot stopped at its last point: that of the item that stopped; that of the commit before; or the next, at which the service
+-- was about to be used
+abbrev pub IsStopOf : Bool → Facts → List Item → ℕ → Option ℕ → Type 0
+IsStopOf exact facts items asked None = ends_stopped items ≡ false
+IsStopOf exact facts items asked (Some stop) =
+    ((ends_stopped items || ends_committed facts items ≡ true) × (stop ≡ asked)) ⊎ ((ends_stopped items ≡ false) × IsCount exact stop (asked + 1))
+
+abbrev pub ArePointsOf : Bool → Facts → (ℕ → ℕ) → ℕ → List Boot → ℕ → Type 0
+ArePointsOf exact facts parts asked [] points = IsCount exact points asked
+ArePointsOf exact facts parts asked (b ∷ boots) points =
+    ArePoints exact facts parts asked b.items
+    × IsStopOf exact facts b.items (asked_in facts asked b.items) b.stop
+    × ArePointsOf exact facts parts (unwrap_or b.stop (asked_in facts asked b.items)) boots points
+
+-- the greatest number of 64 bits, at which counts stand still
+abbrev pub greatest : ℕ
+greatest = 18446744073709551615
+
+-- the points at which a service stopped, boot by boot
+abbrev pub stop_in : Option ℕ → List ℕ
+stop_in None = []
+stop_in (Some stop) = stop ∷ []
+
+abbrev pub struck_in : Run → List ℕ
+struck_in run = flat_map (λ b. stop_in b.stop) run.boots
+
+-- ---- a run recovers
+
+-- a service's shape and table, the number of parts of an Ok of each of its functions, and the walks of its tables
+pub record Stubs : Type 0 where
+  pub facts : Facts
+  pub ask : Table
+  pub parts : ℕ → ℕ
+  pub walks : List WalkLine
+
+-- a run recovers, where the clients made these calls that aren't answered in it
+pub record IsRecovered (s : Stubs) (history : List Entry) (run : Run) (unanswered : List Call) : Type 0 where
+  -- no reply of the service is another than a fresh one would give that was asked the same since its boot; nothing is asked of one
+  -- that stopped; none is booted that didn't stop
+  pub reboots : IsRebooted s.facts s.ask run
+  -- no call is served that nobody made, or once more than it is answered; no reply is given that the service didn't give; no effect
+  -- that others saw is lost or comes out of its order
+  pub served : IsServed s.facts history run unanswered
+  -- no row is rebuilt by other calls, from other values, for another caller or before its parent
+  pub walks : Each (λ p. IsWalked s.facts s.walks history p p.item.tag) (places_of run)
+  -- no row and no file is brought back that no call needs then, or that is there
+  pub on_demand : Each (λ p. IsDemanded s.facts s.walks history unanswered p p.item.tag) (places_of run)
+  -- no call reaches the service where what it needs is missing there, or isn't as it is tracked
+  pub tracked_state : Each (λ p. IsTrackedAt s.facts s.walks history p p.item.tag) (places_of run)
+  -- no point is left out or asked twice, and no stop is at another than the last that was asked
+  pub points : (nat_lt run.points greatest ≡ true) → ArePointsOf true s.facts s.parts 0 run.boots run.points

@@ -1,0 +1,14 @@
+//! Runs of locks with stops, written out: some recover, and some don't.
+//!
+//! Each function does nothing; its clause says that the run recovers, or that it doesn't, and is proved by computing.
+//! `specs/Written.antt` has the words in which runs are written out.
+#![tactic(auto)]
+
+mod locks;
+
+pub use locks::{
+    another_id, asked_after_a_stop, boot_without_a_stop, half_a_walk, point_left_out,
+    rebuilt_for_nobody, rebuilt_needlessly, rebuilt_too_late, reply_without_an_item,
+    served_without_a_walk, stop_after_take, stop_at_another_number, stop_before_storage,
+    stop_in_walk, taken_twice, walk_by_another, walk_from_its_middle, walk_too_long,
+};

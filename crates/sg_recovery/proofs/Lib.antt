@@ -1,4 +1,0 @@
-pub mod Apart
-pub mod Growing
-pub mod LockFaults
-pub mod LockRuns

@@ -1,5 +1,0 @@
-use Rattle.sg_recovery.proofs.Growing.{entries_before-committed, entries_before-more, entries_before-refused}
-use Rattle.sg_recovery.proofs.laws.entries_stay.Goals as goal
-
-pub returns : goal.returns
-returns c = record { noted = entries_before-more; committed = entries_before-committed; refused = entries_before-refused }

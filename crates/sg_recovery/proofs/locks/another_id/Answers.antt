@@ -1,5 +1,0 @@
-use Rattle.sg_recovery.proofs.LockFaults.{another_id-wrong}
-use Rattle.sg_recovery.proofs.locks.another_id.Goals as goal
-
-pub returns : goal.returns
-returns c = record { wrong = another_id-wrong }
