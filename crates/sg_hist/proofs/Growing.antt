@@ -11,7 +11,7 @@ use Rattle.sg_facts.specs.Legal.{IsLegal, LegalFrom, Table, answer}
 use Rattle.sg_facts.specs.Object.{Object, after, empty_object, object_from, object_of}
 use Rattle.sg_facts.proofs.Legality.{IsLegal-from, LegalFrom-is}
 use Rattle.sg_facts.specs.Trace.{Boot}
-use Rattle.sg_hist.specs.Growing.{AreGrown, HasOneMore, IsGrown, IsLast, NoneOf, booted, noted, struck}
+use Rattle.sg_hist.specs.Growing.{AreGrown, HasOneMore, IsGrown, NoneOf, booted, noted, place_behind, struck}
 use Rattle.sg_hist.specs.Reading.{Place, after_item, behind, entries_before, is_by_guard, is_of, items_of, names_at, names_in, past, places_from, places_in, stands_before, value_at}
 
 -- ---- an entry more
@@ -100,33 +100,53 @@ pub entries_before-refused : (p : Place) (history : List Entry) (e : Entry) → 
 entries_before-refused p history e guards =
     filter_more (stands_before p) history e (ap (λ b. not b && list_any (is_of e) (past p) && not (list_any (is_of e) (p.item ∷ behind p))) guards)
 
+-- a held reply that is committed stands before the places behind its item
+pub entries_before-held : (p : Place) (history : List Entry) (e : Entry) → stands_before p e ≡ true → entries_before (history ++ e ∷ []) p ≡ entries_before history p ++ e ∷ []
+entries_before-held p [] e before = ap (λ b. cond b (e ∷ []) []) before
+entries_before-held p (x ∷ history) e before = by (entries_before-held p history e before) (stands_before p x)
+  where
+    by : entries_before (history ++ e ∷ []) p ≡ entries_before history p ++ e ∷ [] → (b : Bool)
+        → cond b (x ∷ entries_before (history ++ e ∷ []) p) (entries_before (history ++ e ∷ []) p) ≡ cond b (x ∷ entries_before history p) (entries_before history p) ++ e ∷ []
+    by rest true = ap (λ v. x ∷ v) rest
+    by rest false = rest
+
+-- and before no other
+pub entries_before-not_yet : (p : Place) (history : List Entry) (e : Entry) → stands_before p e ≡ false → entries_before (history ++ e ∷ []) p ≡ entries_before history p
+entries_before-not_yet p history e before = filter_more (stands_before p) history e before
+
 -- ---- an item more
 
-in_boot : (older front items newer : List Item) (item : Item) → newer ≡ []
-    → HasOneMore item (older ++ (front ++ items)) (places_in older front items newer) (places_in older front (items ++ item ∷ []) newer)
-in_boot older front [] newer item none = record {
+-- the place of an item behind those of its boot
+abbrev last_in : List Item → List Item → Item → Place
+last_in older front item = record { older = older; front = front; item = item; rest = []; newer = [] }
+
+in_boot : (older front items : List Item) (item : Item)
+    → HasOneMore item (last_in older (front ++ items) item) (places_in older front items []) (places_in older front (items ++ item ∷ []) [])
+in_boot older front [] item = record {
   grown = [];
-  last = record { older = older; front = front; item = item; rest = []; newer = newer };
-  are = refl;
+  are = ap (λ v. last_in older v item ∷ []) (sym (append-nil front));
   each = tt;
-  is_last = record { own = refl; past_it = ap (λ v. older ++ v) (sym (append-nil front)); rest = refl; newer = none };
 }
-in_boot older front (x ∷ items) newer item none =
-    let more = in_boot older (front ++ x ∷ []) items newer item none in
+in_boot older front (x ∷ items) item =
+    let more = in_boot older (front ++ x ∷ []) items item in
+    let own : Place = record { older = older; front = front; item = x; rest = items ++ item ∷ []; newer = [] } in
     record {
-      grown = record { older = older; front = front; item = x; rest = items ++ item ∷ []; newer = newer } ∷ more.grown;
-      last = more.last;
-      are = ap (λ v. record { older = older; front = front; item = x; rest = items ++ item ∷ []; newer = newer } ∷ v) more.are;
-      each = (record { older = refl; front = refl; own = refl; behind_it = last_boot items item newer none }, more.each);
-      is_last = subst (λ v. IsLast item (older ++ v) more.last) (append_assoc front (x ∷ []) items) more.is_last;
+      grown = own ∷ more.grown;
+      are = ap (λ v. own ∷ v) more.are
+          ∙ ap (λ v. own ∷ more.grown ++ last_in older v item ∷ []) (append_assoc front (x ∷ []) items);
+      each = (
+        record {
+          older = refl;
+          front = refl;
+          own = refl;
+          behind_it = append-nil (items ++ item ∷ []) ∙ ap (λ v. v ++ item ∷ []) (sym (append-nil items));
+        },
+        more.each,
+      );
     }
-  where
-    last_boot : (items : List Item) (item : Item) (newer : List Item) → newer ≡ [] → (items ++ item ∷ []) ++ newer ≡ (items ++ newer) ++ item ∷ []
-    last_boot items item newer none =
-        ap (λ v. (items ++ item ∷ []) ++ v) none ∙ append-nil (items ++ item ∷ []) ∙ ap (λ v. v ++ item ∷ []) (sym (append-nil items) ∙ ap (λ v. items ++ v) (sym none))
 
 -- places of a boot grow where an item is noted in a later one
-in_older : (older front items newer : List Item) (item : Item)
+pub in_older : (older front items newer : List Item) (item : Item)
     → AreGrown item (places_in older front items newer) (places_in older front items (newer ++ item ∷ []))
 in_older older front [] newer item = tt
 in_older older front (x ∷ items) newer item = (
@@ -134,7 +154,7 @@ in_older older front (x ∷ items) newer item = (
   in_older older (front ++ x ∷ []) items newer item,
 )
 
-both_grown : (item : Item) (ps qs ps' qs' : List Place) → AreGrown item ps qs → AreGrown item ps' qs' → AreGrown item (ps ++ ps') (qs ++ qs')
+pub both_grown : (item : Item) (ps qs ps' qs' : List Place) → AreGrown item ps qs → AreGrown item ps' qs' → AreGrown item (ps ++ ps') (qs ++ qs')
 both_grown item [] [] ps' qs' one other = other
 both_grown item [] (q ∷ qs) ps' qs' one other = absurd one
 both_grown item (p ∷ ps) [] ps' qs' one other = absurd one
@@ -146,29 +166,31 @@ items_more b (c ∷ boots) item = ap (λ v. b.items ++ v) (items_more c boots it
 
 -- the places of boots, one of which there is, are those before with an item more behind each, and its own
 pub places-more : (older : List Item) (b : Boot) (boots : List Boot) (item : Item)
-    → HasOneMore item (older ++ items_of (b ∷ boots)) (places_from older (b ∷ boots)) (places_from older (noted (b ∷ boots) item))
+    → HasOneMore item (place_behind older (b ∷ boots) item) (places_from older (b ∷ boots)) (places_from older (noted (b ∷ boots) item))
 places-more older b [] item =
-    let more = in_boot older [] b.items [] item refl in
+    let more = in_boot older [] b.items item in
     record {
       grown = more.grown;
-      last = more.last;
       are = append-nil (places_in older [] (b.items ++ item ∷ []) []) ∙ more.are;
       each = subst (λ ps. AreGrown item ps more.grown) (sym (append-nil (places_in older [] b.items []))) more.each;
-      is_last = subst (λ v. IsLast item (older ++ v) more.last) (sym (append-nil b.items)) more.is_last;
     }
 places-more older b (c ∷ boots) item =
     let more = places-more (older ++ b.items) c boots item in
     let items = items_more c boots item in
     let here = places_in older [] b.items (items_of (c ∷ boots) ++ item ∷ []) in
+    let last = place_behind older (b ∷ c ∷ boots) item in
     record {
       grown = here ++ more.grown;
-      last = more.last;
       are = ap (λ v. places_in older [] b.items v ++ places_from (older ++ b.items) (noted (c ∷ boots) item)) items
-          ∙ ap (λ v. here ++ v) more.are ∙ sym (append_assoc here more.grown (more.last ∷ []));
+          ∙ ap (λ v. here ++ v) more.are ∙ sym (append_assoc here more.grown (last ∷ []));
       each = both_grown item (places_in older [] b.items (items_of (c ∷ boots))) here (places_from (older ++ b.items) (c ∷ boots)) more.grown
           (in_older older [] b.items (items_of (c ∷ boots)) item) more.each;
-      is_last = subst (λ v. IsLast item v more.last) (append_assoc older b.items (items_of (c ∷ boots))) more.is_last;
     }
+
+-- behind all items of the boots stands the place of the item that is noted last
+pub past_all : (older : List Item) (b : Boot) (boots : List Boot) (item : Item) → past (place_behind older (b ∷ boots) item) ≡ older ++ items_of (b ∷ boots)
+past_all older b [] item = ap (λ v. older ++ v) (sym (append-nil b.items))
+past_all older b (c ∷ boots) item = past_all (older ++ b.items) c boots item ∙ append_assoc older b.items (items_of (c ∷ boots))
 
 -- ---- a boot more
 

@@ -1,2 +1,9 @@
+pub mod Events
+pub mod Given
 pub mod Growing
 pub mod Lists
+pub mod Onward
+pub mod Points
+pub mod Same
+pub mod Served
+pub mod Stays

@@ -1,9 +1,18 @@
--- How a run grows: an item is noted in its last boot, a boot is stopped, and the service is booted again.
-use Rattle.std.specs.Prelude.{ℕ, ◌≡◌, false, ◌++◌, List, [], ◌∷◌, None, Some}
+-- How a run grows: an item is noted in its last boot, the boot is stopped, and the service is booted again; a call is made, and
+-- an entry is appended.
+use Rattle.std.specs.Prelude.{ℕ, ◌≡◌, ◌≤◌, false, true, ◌++◌, List, [], ◌∷◌, None, Some, unwrap_or}
+use Rattle.std.specs.declared.option.Option.{Option}
+use Rattle.std.specs.List.{Contains}
+use Rattle.sg_base.specs.Lists.{Each}
+use Rattle.sg_base.specs.declared.call.Call.{Call}
 use Rattle.sg_facts.specs.declared.trace.Item.{Item}
 use Rattle.sg_facts.specs.declared.entry.Entry.{Entry}
-use Rattle.sg_facts.specs.Trace.{Boot}
-use Rattle.sg_hist.specs.Reading.{Place, behind, is_of}
+use Rattle.sg_facts.specs.Facts.{Facts, is_visible}
+use Rattle.sg_facts.specs.Trace.{Boot, Run}
+use Rattle.sg_hist.specs.Reading.{Place, behind, is_by_guard, is_of, item_of, names_at, places_of}
+use Rattle.sg_hist.specs.Recovered.{AskedAs, IsAt, IsDemanded, IsItsCall, IsRebooted, IsReplyOf, IsServed, IsTrackedAt, IsWalked, Stubs, asked_in, calls_made, ends_stopped}
+
+-- ---- boots and places
 
 -- an item more in the last boot
 abbrev pub noted : List Boot → Item → List Boot
@@ -21,6 +30,18 @@ struck (b ∷ c ∷ boots) stop = b ∷ struck (c ∷ boots) stop
 abbrev pub booted : List Boot → List Boot
 booted boots = boots ++ record { items = []; stop = None } ∷ []
 
+-- the place of an item that is noted in the last boot, behind others
+abbrev pub place_behind : List Item → List Boot → Item → Place
+place_behind older [] item = record { older = older; front = []; item = item; rest = []; newer = [] }
+place_behind older (b ∷ []) item = record { older = older; front = b.items; item = item; rest = []; newer = [] }
+place_behind older (b ∷ c ∷ boots) item = place_behind (older ++ b.items) (c ∷ boots) item
+
+-- the stop of the last boot
+abbrev pub last_stop : List Boot → Option ℕ
+last_stop [] = None
+last_stop (b ∷ []) = b.stop
+last_stop (b ∷ c ∷ boots) = last_stop (c ∷ boots)
+
 -- a place is the same but that an item more stands behind it
 pub record IsGrown (item : Item) (p q : Place) : Type 0 where
   pub older : q.older ≡ p.older
@@ -35,22 +56,64 @@ AreGrown item (p ∷ ps) (q ∷ qs) = IsGrown item p q × AreGrown item ps qs
 AreGrown item [] (q ∷ qs) = ⊥
 AreGrown item (p ∷ ps) [] = ⊥
 
--- the place of an item that was noted last
-pub record IsLast (item : Item) (items : List Item) (q : Place) : Type 0 where
-  pub own : q.item ≡ item
-  pub past_it : q.older ++ q.front ≡ items
-  pub rest : q.rest ≡ []
-  pub newer : q.newer ≡ []
-
--- places are those before, each grown, and the last behind them
-pub record HasOneMore (item : Item) (items : List Item) (before now : List Place) : Type 0 where
+-- places are those before, each grown, and one behind them
+pub record HasOneMore (item : Item) (last : Place) (before now : List Place) : Type 0 where
   pub grown : List Place
-  pub last : Place
   pub are : now ≡ grown ++ last ∷ []
   pub each : AreGrown item before grown
-  pub is_last : IsLast item items last
 
 -- no entry is of an item
 abbrev pub NoneOf : Item → List Entry → Type 0
 NoneOf item [] = Unit {0}
 NoneOf item (e ∷ history) = (is_of e item ≡ false) × NoneOf item history
+
+-- ---- what is kept step by step
+
+-- all that holds of a run that recovers, its points aside
+pub record IsRecovering (s : Stubs) (history : List Entry) (run : Run) (unanswered : List Call) : Type 0 where
+  pub reboots : IsRebooted s.facts s.ask run
+  pub served : IsServed s.facts history run unanswered
+  pub walks : Each (λ p. IsWalked s.facts s.walks history p p.item.tag) (places_of run)
+  pub on_demand : Each (λ p. IsDemanded s.facts s.walks history unanswered p p.item.tag) (places_of run)
+  pub tracked_state : Each (λ p. IsTrackedAt s.facts s.walks history p p.item.tag) (places_of run)
+
+-- an item is the next call of a walk, is needed, and finds what it needs as it is tracked, each where it is asked of it
+pub record IsSettled (s : Stubs) (history : List Entry) (unanswered : List Call) (p : Place) : Type 0 where
+  pub walk : IsWalked s.facts s.walks history p p.item.tag
+  pub demand : IsDemanded s.facts s.walks history unanswered p p.item.tag
+  pub state : IsTrackedAt s.facts s.walks history p p.item.tag
+
+-- what is asked of an item when it is noted: it is noted in a boot that wasn't stopped, answered by the table, and settled
+pub record IsNext (s : Stubs) (history : List Entry) (unanswered : List Call) (p : Place) : Type 0 where
+  pub running : ends_stopped p.front ≡ false
+  pub table : AskedAs s.facts s.ask p p.item.tag
+  pub call : IsItsCall history unanswered p.item.shown p.item.tag
+  pub settled : IsSettled s history unanswered p
+
+-- the calls that were made are still among those made
+abbrev pub AreKept : List Entry → List Call → List Entry → List Call → Type 0
+AreKept history unanswered later left = (call : Call) → Contains (calls_made history unanswered) call → Contains (calls_made later left) call
+
+-- no call that a client made has a greater number than that of its next entry
+abbrev pub IsLastCall : List Entry → List Call → Call → Type 0
+IsLastCall history unanswered last = (call : Call) → Contains (calls_made history unanswered) call → call.client ≡ last.client → call.seq ≤ last.seq
+
+-- an item is that of an entry that is appended with it: it has its call and its reply
+pub record IsItemOf (facts : Facts) (history : List Entry) (p : Place) (e : Entry) : Type 0 where
+  pub tagged : is_of e p.item ≡ true
+  pub served : is_by_guard e.reply ≡ false
+  pub shown : p.item.shown ≡ e.call
+  pub reply : IsReplyOf (names_at facts (history ++ e ∷ []) (p.front ++ p.item ∷ [])) p.item.outcome e.reply
+
+-- an entry is appended behind its item, as a held reply is: it isn't visible, and its item has its call and its reply
+pub record IsHeld (facts : Facts) (history : List Entry) (run : Run) (e : Entry) : Type 0 where
+  pub hidden : is_visible facts e.call.fun ≡ false
+  pub served : is_by_guard e.reply ≡ false
+  pub own : IsAt facts (history ++ e ∷ []) e (item_of run e)
+
+-- ---- points
+
+-- how many points were asked behind boots, where so many were asked before
+abbrev pub asked_over : Facts → ℕ → List Boot → ℕ
+asked_over facts asked [] = asked
+asked_over facts asked (b ∷ boots) = asked_over facts (unwrap_or b.stop (asked_in facts asked b.items)) boots

@@ -16,5 +16,7 @@ mod tests;
 
 pub use ended::{End, EndList, Ended};
 pub use history::History;
-pub use laws::{entries_stay, legal_stays, places_grow, values_grow};
+pub use laws::{
+    entries_stay, legal_stays, places_grow, points_go_on, recovering_goes_on, values_grow,
+};
 pub use sg_facts::Entry;
