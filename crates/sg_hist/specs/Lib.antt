@@ -1,4 +1,3 @@
 pub mod Clients
-pub mod Growing
 pub mod Reading
 pub mod Recovered

@@ -3,7 +3,7 @@ use Rattle.std.proofs.Common.{◌≡◌, ap, arith, refl}
 use Rattle.std.specs.Prelude.{ℕ, ◌&&◌, nat_le, nat_lt, true, not, Some, [], ◌∷◌, find}
 use Rattle.std.proofs.Common.{subst, sym, ◌∙◌}
 use Rattle.sg_base.specs.Lists.{Each}
-use Rattle.sg_hist.proofs.Lists.{each_contains}
+use Rattle.sg_recovering.proofs.Lists.{each_contains}
 use Rattle.std.proofs.lemmas.Bool.Decides.{nat_tests}
 use Rattle.sg_lock_runs.specs.LockRuns.{lock_stubs, another_id, boot_without_a_stop, asked_after_a_stop, reply_without_an_item, taken_twice, walk_from_its_middle, walk_by_another, walk_too_long, rebuilt_for_nobody, rebuilt_too_late, served_without_a_walk, half_a_walk, stop_at_another_number, point_left_out, rebuilt_needlessly, stop_after_take_ends, stop_after_take_history, stop_before_storage_ends, stop_before_storage_history, two_locks_ends, two_locks_history}
 use Rattle.sg_hist.specs.Recovered.{IsRebuiltFor, IsRecovered, calls_made, waiting}

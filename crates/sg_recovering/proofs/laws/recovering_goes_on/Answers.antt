@@ -1,5 +1,5 @@
-use Rattle.sg_hist.proofs.Onward.{booted_stays, committed_stays, held_stays, made_stays, noted_stays, nothing_yet, refused_stays, struck_stays}
-use Rattle.sg_hist.proofs.laws.recovering_goes_on.Goals as goal
+use Rattle.sg_recovering.proofs.Onward.{booted_stays, committed_stays, held_stays, made_stays, noted_stays, nothing_yet, refused_stays, struck_stays}
+use Rattle.sg_recovering.proofs.laws.recovering_goes_on.Goals as goal
 
 pub returns : goal.returns
 returns c = record {

@@ -11,7 +11,7 @@ use Rattle.sg_facts.specs.Legal.{IsLegal, LegalFrom, Table, answer}
 use Rattle.sg_facts.specs.Object.{Object, after, empty_object, object_from, object_of}
 use Rattle.sg_facts.proofs.Legality.{IsLegal-from, LegalFrom-is}
 use Rattle.sg_facts.specs.Trace.{Boot}
-use Rattle.sg_hist.specs.Growing.{AreGrown, HasOneMore, IsGrown, NoneOf, booted, noted, place_behind, struck}
+use Rattle.sg_recovering.specs.Growing.{AreGrown, HasOneMore, IsGrown, NoneOf, booted, noted, place_behind, struck}
 use Rattle.sg_hist.specs.Reading.{Place, after_item, behind, entries_before, is_by_guard, is_of, items_of, names_at, names_in, past, places_from, places_in, stands_before, value_at}
 
 -- ---- an entry more

@@ -1,5 +1,5 @@
-use Rattle.sg_hist.proofs.Growing.{entries_before-committed, entries_before-held, entries_before-more, entries_before-not_yet, entries_before-refused}
-use Rattle.sg_hist.proofs.laws.entries_stay.Goals as goal
+use Rattle.sg_recovering.proofs.Growing.{entries_before-committed, entries_before-held, entries_before-more, entries_before-not_yet, entries_before-refused}
+use Rattle.sg_recovering.proofs.laws.entries_stay.Goals as goal
 
 pub returns : goal.returns
 returns c = record {

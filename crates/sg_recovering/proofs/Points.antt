@@ -6,7 +6,7 @@ use Rattle.sg_facts.specs.declared.outcome.Outcome.TheVariants.{Replied, Blocks,
 use Rattle.sg_facts.specs.declared.trace.Item.{Item}
 use Rattle.sg_facts.specs.Facts.{Facts, is_visible}
 use Rattle.sg_facts.specs.Trace.{Boot}
-use Rattle.sg_hist.specs.Growing.{asked_over, booted, last_stop, noted, place_behind, struck}
+use Rattle.sg_recovering.specs.Growing.{asked_over, booted, last_stop, noted, place_behind, struck}
 use Rattle.sg_hist.specs.Recovered.{ArePoints, ArePointsOf, IsCount, IsPointOf, IsStopOf, asked_behind, asked_in, ends_committed, ends_stopped, is_clients, is_replied, is_stopped}
 
 -- ---- an item more in a boot

@@ -1,0 +1,12 @@
+//! How a run grows, and that one that recovers goes on to do so.
+//!
+//! `specs/Growing.antt` says how a run grows.
+//!
+//! - `laws`: what stays as it is where a run grows
+#![tactic(auto)]
+
+mod laws;
+
+pub use laws::{
+    entries_stay, legal_stays, places_grow, points_go_on, recovering_goes_on, values_grow,
+};
