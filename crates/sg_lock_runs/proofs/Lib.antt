@@ -1,3 +1,4 @@
 pub mod Apart
 pub mod LockFaults
 pub mod LockRuns
+pub mod Steps

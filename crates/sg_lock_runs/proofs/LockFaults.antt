@@ -1,12 +1,12 @@
 -- The runs of the lock service that do not recover: what each of them lacks.
-use Rattle.std.proofs.Common.{◌≡◌, ap, arith, refl}
-use Rattle.std.specs.Prelude.{ℕ, ◌&&◌, nat_le, nat_lt, true, not, Some, [], ◌∷◌, find}
+use Rattle.std.proofs.Common.{◌≡◌, ap, arith, inl, refl}
+use Rattle.std.specs.Prelude.{ℕ, ◌&&◌, nat_le, nat_lt, false, true, not, Some, [], ◌∷◌, find}
 use Rattle.std.proofs.Common.{subst, sym, ◌∙◌}
 use Rattle.sg_base.specs.Lists.{Each}
 use Rattle.sg_recovering.proofs.Lists.{each_contains}
 use Rattle.std.proofs.lemmas.Bool.Decides.{nat_tests}
-use Rattle.sg_lock_runs.specs.LockRuns.{lock_stubs, another_id, boot_without_a_stop, asked_after_a_stop, reply_without_an_item, taken_twice, walk_from_its_middle, walk_by_another, walk_too_long, rebuilt_for_nobody, rebuilt_too_late, served_without_a_walk, half_a_walk, stop_at_another_number, point_left_out, rebuilt_needlessly, stop_after_take_ends, stop_after_take_history, stop_before_storage_ends, stop_before_storage_history, two_locks_ends, two_locks_history}
-use Rattle.sg_hist.specs.Recovered.{IsRebuiltFor, IsRecovered, calls_made, waiting}
+use Rattle.sg_lock_runs.specs.LockRuns.{lock_stubs, another_id, boot_without_a_stop, asked_after_a_stop, reply_without_an_item, taken_twice, walk_from_its_middle, walk_by_another, walk_too_long, rebuilt_for_nobody, rebuilt_too_late, served_without_a_walk, half_a_walk, stop_at_another_number, point_asked_in_vain, point_left_out, rebuilt_needlessly, stop_after_take_ends, stop_after_take_history, stop_before_storage_ends, stop_before_storage_history, two_locks_ends, two_locks_history}
+use Rattle.sg_hist.specs.Recovered.{ArePointsOf, IsRebuiltFor, IsRecovered, calls_made, waiting}
 use Rattle.sg_hist.specs.Reading.{Place, is_whole_at, object_before}
 use Rattle.sg_lock_runs.specs.Written.{call_of, called, ok, ok_at, replied, walked}
 use Rattle.sg_facts.specs.Needs.{needs}
@@ -83,3 +83,10 @@ point_left_out-wrong r = let e : 3 ≡ 4 = (r.points refl).0.0 in omega (arith, 
 
 pub rebuilt_needlessly-wrong : IsRecovered lock_stubs two_locks_history rebuilt_needlessly (waiting two_locks_ends) → ⊥
 rebuilt_needlessly-wrong r = not_least r.on_demand.1.1.0
+
+pub point_asked_in_vain-wrong : IsRecovered lock_stubs stop_after_take_history point_asked_in_vain (waiting stop_after_take_ends) → ⊥
+point_asked_in_vain-wrong r = let e : 9 ≡ 8 = (r.points refl).0.1.0 in omega (arith, e)
+
+pub point_asked_in_vain-counted : ArePointsOf false lock_stubs.facts lock_stubs.parts 0 point_asked_in_vain.boots point_asked_in_vain.points
+point_asked_in_vain-counted =
+    ((omega arith, (omega arith, tt)), inl (refl, refl), ((omega arith, (omega arith, (omega arith, (omega arith, tt)))), refl, omega arith))

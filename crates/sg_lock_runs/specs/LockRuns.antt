@@ -374,6 +374,24 @@ point_left_out = record {
   points = 24;
 }
 
+-- before the take a point was asked in vain, by a step that got no memory
+abbrev pub point_asked_in_vain : Run
+point_asked_in_vain = record {
+  boots =
+      boot (
+      called (call_of 1 1 1 0) 0 4 (replied (ok_at 1))
+      ∷ called (call_of 1 2 2 1) 1 9 (replied ok)
+      ∷ []) (Some 10)
+      ∷ boot (
+      walked 1 1 1 (call_of 1 0 1 0) 0 14 (replied (ok_at 1))
+      ∷ walked 1 2 1 (call_of 1 0 2 1) 1 17 (replied ok)
+      ∷ called (call_of 1 3 3 1) 1 20 (replied ok)
+      ∷ called (call_of 1 4 4 1) 1 24 (replied ok)
+      ∷ []) None
+      ∷ [];
+  points = 25;
+}
+
 -- a lock is rebuilt that the call doesn't need
 abbrev pub rebuilt_needlessly : Run
 rebuilt_needlessly = record {
@@ -389,4 +407,14 @@ rebuilt_needlessly = record {
       ∷ []) None
       ∷ [];
   points = 23;
+}
+
+-- a lock was made, the service stopped and was booted again, and the lock is made again for a take
+abbrev pub rebuilt_for_take : Run
+rebuilt_for_take = record {
+  boots =
+      boot (called (call_of 1 1 1 0) 0 4 (replied (ok_at 1)) ∷ []) (Some 5)
+      ∷ boot (walked 1 1 1 (call_of 1 0 1 0) 0 9 (replied (ok_at 1)) ∷ []) None
+      ∷ [];
+  points = 9;
 }

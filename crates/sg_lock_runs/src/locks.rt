@@ -1,7 +1,9 @@
 // Runs of locks.
-ghost use Rattle.std.specs.Prelude.{◌≡◌, ◌∷◌, []};
-ghost use Rattle.sg_lock_runs.specs.LockRuns.{lock_stubs, another_id, boot_without_a_stop, asked_after_a_stop, reply_without_an_item, taken_twice, walk_from_its_middle, walk_by_another, walk_too_long, rebuilt_for_nobody, rebuilt_too_late, served_without_a_walk, half_a_walk, stop_at_another_number, point_left_out, rebuilt_needlessly, two_locks_ends, two_locks_history, stop_after_take, stop_after_take_ends, stop_after_take_history, stop_before_storage, stop_before_storage_ends, stop_before_storage_history, stop_in_walk, stop_in_walk_ends, stop_in_walk_history};
-ghost use Rattle.sg_hist.specs.Recovered.{IsRecovered, struck_in, waiting};
+ghost use Rattle.std.specs.Prelude.{◌≡◌, ◌∷◌, [], false};
+ghost use Rattle.sg_lock_runs.specs.LockRuns.{lock_stubs, point_asked_in_vain, rebuilt_for_take, another_id, boot_without_a_stop, asked_after_a_stop, reply_without_an_item, taken_twice, walk_from_its_middle, walk_by_another, walk_too_long, rebuilt_for_nobody, rebuilt_too_late, served_without_a_walk, half_a_walk, stop_at_another_number, point_left_out, rebuilt_needlessly, two_locks_ends, two_locks_history, stop_after_take, stop_after_take_ends, stop_after_take_history, stop_before_storage, stop_before_storage_ends, stop_before_storage_history, stop_in_walk, stop_in_walk_ends, stop_in_walk_history};
+ghost use Rattle.sg_hist.specs.Recovered.{ArePointsOf, IsRecovered, struck_in, waiting};
+ghost use Rattle.sg_recovering.specs.Growing.{IsRecovering};
+ghost use Rattle.sg_lock_runs.specs.Written.{call_of, entry, ok_at};
 
 /// The service stops once a take is committed: the lock is made and taken again before its release.
 pub fn stop_after_take()
@@ -92,4 +94,16 @@ pub fn point_left_out()
 /// It doesn't recover where a lock is rebuilt that the call doesn't need.
 pub fn rebuilt_needlessly()
     ensures wrong { IsRecovered lock_stubs two_locks_history rebuilt_needlessly (waiting two_locks_ends) → ⊥ }
+{}
+
+/// A point that was asked in vain is told by the exact count, and allowed by the other.
+pub fn point_asked_in_vain()
+    ensures wrong { IsRecovered lock_stubs stop_after_take_history point_asked_in_vain (waiting stop_after_take_ends) → ⊥ }
+    ensures counted { ArePointsOf false lock_stubs.facts lock_stubs.parts 0 point_asked_in_vain.boots point_asked_in_vain.points }
+{}
+
+/// A run recovers so far, shown step by step: a lock is made, the service stops and is booted again, and the lock is made again
+/// for a take that isn't answered yet.
+pub fn rebuilt_for_take()
+    ensures recovering { IsRecovering lock_stubs (entry (call_of 1 1 1 0) (ok_at 1) ∷ []) rebuilt_for_take (call_of 1 2 2 1 ∷ []) }
 {}
