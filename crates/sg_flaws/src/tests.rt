@@ -166,51 +166,41 @@ fn first_fault(alloc: Global, tree: &Tree) -> Option<CheckFault> {
     }
 }
 
+// Whether a kind at a place is what is first wrong with a text.
+fn is_first(alloc: Global, tree: &Tree, kind: CheckKind, at: usize) -> bool {
+    first_fault(alloc, tree) == Some(CheckFault { kind, at })
+}
+
 #[test]
-fn kinds_go_before_places(rt: HostRuntime) -> Result<(), Fail> {
+fn finds_nothing_wrong(rt: HostRuntime) -> Result<(), Fail> {
     let alloc = rt.alloc();
     let good = text(b"s", b"false", declared(alloc, &[7])?);
     assert!(rt; fit_one_by_one(alloc, &services(), &good).is_ok());
-    let cases = [
-        (
-            text(b"t", b"true", declared(alloc, &[7, 8])?),
-            CheckKind::UnknownService,
-            2,
-        ),
-        (
-            text(b"s", b"true", declared(alloc, &[7, 8])?),
-            CheckKind::DuplicateName,
-            8,
-        ),
-        (
-            text(b"s", b"true", declared(alloc, &[])?),
-            CheckKind::UnknownFunction,
-            6,
-        ),
-        (
-            text(b"s", b"true", declared(alloc, &[7])?),
-            CheckKind::WrongFact,
-            4,
-        ),
-        (
-            text(b"r", b"false", declared(alloc, &[7])?),
-            CheckKind::WrongFlag,
-            7,
-        ),
-        (
-            text(b"s", b"false", StatementList::new(alloc)),
-            CheckKind::NoCreation,
-            0,
-        ),
+    Ok(())
+}
+
+#[test]
+fn kinds_go_before_places(rt: HostRuntime) -> Result<(), Fail> {
+    let alloc = rt.alloc();
+    let cases: [(&[u8], &[usize], CheckKind, usize); 4] = [
+        (b"t", &[7, 8], CheckKind::UnknownService, 2),
+        (b"s", &[7, 8], CheckKind::DuplicateName, 8),
+        (b"s", &[], CheckKind::UnknownFunction, 6),
+        (b"s", &[7], CheckKind::WrongFact, 4),
     ];
-    for (tree, kind, at) in &cases {
-        assert_eq!(rt;
-            first_fault(alloc, tree),
-            Some(CheckFault {
-                kind: *kind,
-                at: *at
-            })
-        );
+    for (service, places, kind, at) in cases {
+        let tree = text(service, b"true", declared(alloc, places)?);
+        assert!(rt; is_first(alloc, &tree, kind, at), "{kind:?} at {at}");
     }
+    Ok(())
+}
+
+#[test]
+fn finds_flags_and_missing_creations(rt: HostRuntime) -> Result<(), Fail> {
+    let alloc = rt.alloc();
+    let tree = text(b"r", b"false", declared(alloc, &[7])?);
+    assert!(rt; is_first(alloc, &tree, CheckKind::WrongFlag, 7));
+    let tree = text(b"s", b"false", StatementList::new(alloc));
+    assert!(rt; is_first(alloc, &tree, CheckKind::NoCreation, 0));
     Ok(())
 }
