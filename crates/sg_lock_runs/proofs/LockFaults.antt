@@ -5,7 +5,7 @@ use Rattle.std.proofs.Common.{subst, sym, ◌∙◌}
 use Rattle.sg_base.specs.Lists.{Each}
 use Rattle.sg_recovering.proofs.Lists.{each_contains}
 use Rattle.std.proofs.lemmas.Bool.Decides.{nat_tests}
-use Rattle.sg_lock_runs.specs.LockRuns.{lock_stubs, another_id, boot_without_a_stop, asked_after_a_stop, reply_without_an_item, taken_twice, walk_from_its_middle, walk_by_another, walk_too_long, rebuilt_for_nobody, rebuilt_too_late, served_without_a_walk, half_a_walk, stop_at_another_number, point_asked_in_vain, point_left_out, rebuilt_needlessly, stop_after_take_ends, stop_after_take_history, stop_before_storage_ends, stop_before_storage_history, two_locks_ends, two_locks_history}
+use Rattle.sg_lock_runs.specs.LockRuns.{lock_stubs, out_of_order, two_makers_ends, two_makers_history, another_id, boot_without_a_stop, asked_after_a_stop, reply_without_an_item, taken_twice, walk_from_its_middle, walk_by_another, walk_too_long, rebuilt_for_nobody, rebuilt_too_late, served_without_a_walk, half_a_walk, stop_at_another_number, point_asked_in_vain, point_left_out, rebuilt_needlessly, stop_after_take_ends, stop_after_take_history, stop_before_storage_ends, stop_before_storage_history, two_locks_ends, two_locks_history}
 use Rattle.sg_hist.specs.Recovered.{ArePointsOf, IsRebuiltFor, IsRecovered, calls_made, waiting}
 use Rattle.sg_hist.specs.Reading.{Place, is_whole_at, object_before}
 use Rattle.sg_lock_runs.specs.Written.{call_of, called, ok, ok_at, replied, walked}
@@ -90,3 +90,6 @@ point_asked_in_vain-wrong r = let e : 9 ≡ 8 = (r.points refl).0.1.0 in omega (
 pub point_asked_in_vain-counted : ArePointsOf false lock_stubs.facts lock_stubs.parts 0 point_asked_in_vain.boots point_asked_in_vain.points
 point_asked_in_vain-counted =
     ((omega arith, (omega arith, tt)), inl (refl, refl), ((omega arith, (omega arith, (omega arith, (omega arith, tt)))), refl, omega arith))
+
+pub out_of_order-wrong : IsRecovered lock_stubs two_makers_history out_of_order (waiting two_makers_ends) → ⊥
+out_of_order-wrong r = false_true r.served.order.1.0

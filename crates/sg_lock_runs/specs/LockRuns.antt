@@ -409,6 +409,24 @@ rebuilt_needlessly = record {
   points = 23;
 }
 
+-- two clients each make a lock, and the second is served first
+abbrev pub two_makers_history : List Entry
+two_makers_history = entry (call_of 1 1 1 0) (ok_at 1) ∷ entry (call_of 2 1 1 0) (ok_at 2) ∷ []
+
+abbrev pub two_makers_ends : List (ℕ × End)
+two_makers_ends = (1, Done) ∷ (2, Done) ∷ []
+
+abbrev pub out_of_order : Run
+out_of_order = record {
+  boots =
+      boot (
+      called (call_of 2 1 1 0) 0 4 (replied (ok_at 1))
+      ∷ called (call_of 1 1 1 0) 0 9 (replied (ok_at 2))
+      ∷ []) None
+      ∷ [];
+  points = 10;
+}
+
 -- a lock was made, the service stopped and was booted again, and the lock is made again for a take
 abbrev pub rebuilt_for_take : Run
 rebuilt_for_take = record {

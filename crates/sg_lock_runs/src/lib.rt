@@ -7,9 +7,9 @@
 mod locks;
 
 pub use locks::{
-    another_id, asked_after_a_stop, boot_without_a_stop, half_a_walk, point_asked_in_vain,
-    point_left_out, rebuilt_for_nobody, rebuilt_for_take, rebuilt_needlessly, rebuilt_too_late,
-    reply_without_an_item, served_without_a_walk, stop_after_take, stop_at_another_number,
-    stop_before_storage, stop_in_walk, taken_twice, walk_by_another, walk_from_its_middle,
-    walk_too_long,
+    another_id, asked_after_a_stop, boot_without_a_stop, half_a_walk, out_of_order,
+    point_asked_in_vain, point_left_out, rebuilt_for_nobody, rebuilt_for_take, rebuilt_needlessly,
+    rebuilt_too_late, reply_without_an_item, served_without_a_walk, stop_after_take,
+    stop_at_another_number, stop_before_storage, stop_in_walk, taken_twice, walk_by_another,
+    walk_from_its_middle, walk_too_long,
 };

@@ -1,6 +1,6 @@
 // Runs of locks.
 ghost use Rattle.std.specs.Prelude.{◌≡◌, ◌∷◌, [], false};
-ghost use Rattle.sg_lock_runs.specs.LockRuns.{lock_stubs, point_asked_in_vain, rebuilt_for_take, another_id, boot_without_a_stop, asked_after_a_stop, reply_without_an_item, taken_twice, walk_from_its_middle, walk_by_another, walk_too_long, rebuilt_for_nobody, rebuilt_too_late, served_without_a_walk, half_a_walk, stop_at_another_number, point_left_out, rebuilt_needlessly, two_locks_ends, two_locks_history, stop_after_take, stop_after_take_ends, stop_after_take_history, stop_before_storage, stop_before_storage_ends, stop_before_storage_history, stop_in_walk, stop_in_walk_ends, stop_in_walk_history};
+ghost use Rattle.sg_lock_runs.specs.LockRuns.{lock_stubs, out_of_order, two_makers_ends, two_makers_history, point_asked_in_vain, rebuilt_for_take, another_id, boot_without_a_stop, asked_after_a_stop, reply_without_an_item, taken_twice, walk_from_its_middle, walk_by_another, walk_too_long, rebuilt_for_nobody, rebuilt_too_late, served_without_a_walk, half_a_walk, stop_at_another_number, point_left_out, rebuilt_needlessly, two_locks_ends, two_locks_history, stop_after_take, stop_after_take_ends, stop_after_take_history, stop_before_storage, stop_before_storage_ends, stop_before_storage_history, stop_in_walk, stop_in_walk_ends, stop_in_walk_history};
 ghost use Rattle.sg_hist.specs.Recovered.{ArePointsOf, IsRecovered, struck_in, waiting};
 ghost use Rattle.sg_recovering.specs.Growing.{IsRecovering};
 ghost use Rattle.sg_lock_runs.specs.Written.{call_of, entry, ok_at};
@@ -94,6 +94,11 @@ pub fn point_left_out()
 /// It doesn't recover where a lock is rebuilt that the call doesn't need.
 pub fn rebuilt_needlessly()
     ensures wrong { IsRecovered lock_stubs two_locks_history rebuilt_needlessly (waiting two_locks_ends) → ⊥ }
+{}
+
+/// It doesn't recover where two visible calls are served in another order than their entries have.
+pub fn out_of_order()
+    ensures wrong { IsRecovered lock_stubs two_makers_history out_of_order (waiting two_makers_ends) → ⊥ }
 {}
 
 /// A point that was asked in vain is told by the exact count, and allowed by the other.

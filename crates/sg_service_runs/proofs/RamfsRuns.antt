@@ -2,7 +2,7 @@
 use Rattle.std.proofs.Common.{arith, inl, inr, refl, true}
 use Rattle.sg_base.specs.Lists.{Each}
 use Rattle.std.specs.Prelude.{[], ◌∷◌}
-use Rattle.sg_service_runs.specs.RamfsRuns.{ramfs_stubs, file_loaded, file_loaded_ends, file_loaded_history, held_lost, held_lost_ends, held_lost_history}
+use Rattle.sg_service_runs.specs.RamfsRuns.{ramfs_stubs, file_loaded, file_loaded_ends, file_loaded_history, held_behind, held_behind_ends, held_behind_history, held_lost, held_lost_ends, held_lost_history}
 use Rattle.sg_hist.specs.Reading.{places_of}
 use Rattle.sg_hist.specs.Recovered.{ArePointsOf, IsDemanded, IsRebooted, IsRecovered, IsServed, IsTrackedAt, IsWalked, waiting}
 use Rattle.sg_lock_runs.specs.Written.{call_with, word}
@@ -79,4 +79,41 @@ held_lost-recovered = record {
   on_demand = held_lost-demanded;
   tracked_state = held_lost-tracked;
   points = λ below. held_lost-points;
+}
+
+held_behind-reboots : IsRebooted ramfs_stubs.facts ramfs_stubs.ask held_behind
+held_behind-reboots = record {
+  table = ((refl, refl), ((refl, refl), ((refl, refl), ((refl, refl), tt))));
+  stopped = tt;
+  last = (tt, (tt, (tt, (tt, tt))));
+}
+
+held_behind-served : IsServed ramfs_stubs.facts held_behind_history held_behind (waiting held_behind_ends)
+held_behind-served = record {
+  calls = ((record { its = refl; made = (0, omega arith, refl) }, refl), ((record { its = refl; made = (2, omega arith, refl) }, refl), ((record { its = refl; made = (1, omega arith, refl) }, refl), ((record { its = refl; made = (3, omega arith, refl) }, refl), tt))));
+  items = ((refl, (refl, refl, refl)), ((refl, (refl, refl, refl)), ((refl, (refl, refl, refl)), ((refl, (refl, refl, refl)), tt))));
+  committed = (refl, (tt, (refl, (refl, tt))));
+  order = (refl, (refl, (tt, (refl, tt))));
+}
+
+held_behind-walks : Each (λ p. IsWalked ramfs_stubs.facts ramfs_stubs.walks held_behind_history p p.item.tag) (places_of held_behind)
+held_behind-walks = (tt, (tt, (tt, (tt, tt))))
+
+held_behind-demanded : Each (λ p. IsDemanded ramfs_stubs.facts ramfs_stubs.walks held_behind_history (waiting held_behind_ends) p p.item.tag) (places_of held_behind)
+held_behind-demanded = (tt, (tt, (tt, (tt, tt))))
+
+held_behind-tracked : Each (λ p. IsTrackedAt ramfs_stubs.facts ramfs_stubs.walks held_behind_history p p.item.tag) (places_of held_behind)
+held_behind-tracked = (record { whole = refl; rows = tt; real = refl; file = tt }, (record { whole = refl; rows = (record { id = refl; made = refl; parent = refl; state = refl; fields = refl }, tt); real = refl; file = tt }, (record { whole = refl; rows = tt; real = refl; file = tt }, (record { whole = refl; rows = (record { id = refl; made = refl; parent = refl; state = refl; fields = refl }, tt); real = refl; file = (refl, refl) }, tt))))
+
+held_behind-points : ArePointsOf true ramfs_stubs.facts ramfs_stubs.parts 0 held_behind.boots held_behind.points
+held_behind-points = ((refl, (refl, (refl, (refl, tt)))), refl, refl)
+
+pub held_behind-recovered : IsRecovered ramfs_stubs held_behind_history held_behind (waiting held_behind_ends)
+held_behind-recovered = record {
+  reboots = held_behind-reboots;
+  served = held_behind-served;
+  walks = held_behind-walks;
+  on_demand = held_behind-demanded;
+  tracked_state = held_behind-tracked;
+  points = λ below. held_behind-points;
 }

@@ -88,6 +88,31 @@ held_lost = record {
   points = 25;
 }
 
+-- a reply that others don't see is committed behind a creation that was asked for later
+abbrev pub held_behind_history : List Entry
+held_behind_history =
+    entry (call_with 1 1 1 0 ((text (codes "a")) ∷ [])) (ok_at 1)
+    ∷ entry (call_with 2 1 1 0 ((text (codes "b")) ∷ [])) (ok_at 2)
+    ∷ entry (call_with 1 2 4 1 ((word 0) ∷ [])) ok
+    ∷ entry (call_with 1 3 2 1 ((word 8) ∷ [])) (ok_with 0 0)
+    ∷ []
+
+abbrev pub held_behind_ends : List (ℕ × End)
+held_behind_ends = (1, Done) ∷ (2, Done) ∷ []
+
+abbrev pub held_behind : Run
+held_behind = record {
+  boots =
+      boot (
+      called (call_with 1 1 1 0 ((text (codes "a")) ∷ [])) 0 4 (replied (ok_at 1))
+      ∷ called (call_with 1 2 4 1 ((word 0) ∷ [])) 1 8 (replied ok)
+      ∷ called (call_with 2 1 1 0 ((text (codes "b")) ∷ [])) 0 12 (replied (ok_at 2))
+      ∷ called (call_with 1 3 2 1 ((word 8) ∷ [])) 1 16 (replied (ok_with 0 0))
+      ∷ []) None
+      ∷ [];
+  points = 17;
+}
+
 -- ---- runs that do not recover
 
 -- a file is loaded that was loaded in this boot

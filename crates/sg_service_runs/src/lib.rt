@@ -9,6 +9,6 @@ mod pages;
 mod threads;
 
 pub use events::{blocked_redone, earlier_value, present_value, trigger_not_twice};
-pub use files::{file_loaded, held_lost, loaded_twice};
+pub use files::{file_loaded, held_behind, held_lost, loaded_twice};
 pub use pages::{child_first, occupied_after_stop, parent_first, subtree};
 pub use threads::{one_walk_two_clients, ranks_kept, service_id_shown};
