@@ -1,14 +1,57 @@
 -- The printed run.
-use Rattle.std.specs.Prelude.{ℕ, ◌==◌, if◌then◌else◌, List, [], ◌∷◌, ◌++◌, length, codes}
+use Rattle.std.specs.Prelude.{ℕ, ◌+◌, ◌==◌, Bool, true, false, ◌&&◌, ◌||◌, if◌then◌else◌, List, [], ◌∷◌, ◌++◌, None, Some, length, filter, min, codes}
+use Rattle.std.specs.declared.option.Option.{Option}
 use Rattle.std.specs.Fmt.{decimal}
 use Rattle.std.specs.List.{flat_map}
+use Rattle.std.specs.Str.{bytes_eq}
 use Rattle.sg_base.specs.declared.call.Call.{Call}
 use Rattle.sg_base.specs.declared.reply.Code.{Code}
 use Rattle.sg_base.specs.declared.reply.Code.TheVariants.{NoDesc, NoParent, BadState, HasChildren, Full, NotOwner, Held, Occupied, NotFound, Overflow, Gap, TooBig, BadName}
+use Rattle.sg_base.specs.declared.reply.Good.{Good}
 use Rattle.sg_base.specs.declared.reply.Reply.{Reply}
 use Rattle.sg_base.specs.declared.reply.Reply.TheVariants.{Ok, Refused}
+use Rattle.sg_base.specs.declared.value.Value.{Value}
+use Rattle.sg_base.specs.declared.value.Value.TheVariants.{Word, Text}
 use Rattle.sg_facts.specs.declared.entry.Entry.{Entry}
-use Rattle.sg_facts.specs.Facts.{Facts, fun_at, takes_desc}
+use Rattle.sg_facts.specs.declared.outcome.Outcome.{Outcome}
+use Rattle.sg_facts.specs.declared.outcome.Outcome.TheVariants.{Replied, Blocks, Stopped, NoMemory}
+use Rattle.sg_facts.specs.declared.trace.Item.{Item}
+use Rattle.sg_facts.specs.declared.trace.Tag.{Tag}
+use Rattle.sg_facts.specs.declared.trace.Tag.TheVariants.{Walk, Load, Client}
+use Rattle.sg_facts.specs.Facts.{Facts, Fun, fun_at, takes_desc, takes_parent}
+use Rattle.sg_facts.specs.Trace.{Boot, Run, run_of}
+use Rattle.sg_hist.specs.declared.ended.End.{End}
+use Rattle.sg_hist.specs.declared.ended.End.TheVariants.{Done, Blocked}
+use Rattle.sg_hist.specs.declared.ended.Ended.{Ended}
+use Rattle.sg_hist.specs.Reading.{items_of}
+
+-- ---- words
+
+-- the end of a line
+abbrev pub line_end : List ℕ
+line_end = 10 ∷ []
+
+-- bytes in double quotes
+abbrev pub quoted : List ℕ → List ℕ
+quoted bytes = 34 ∷ bytes ++ 34 ∷ []
+
+-- a number in decimal, or a text in double quotes
+abbrev pub value_text : Value → List ℕ
+value_text (Word n) = decimal n
+value_text (Text bytes) = quoted bytes
+
+-- a value behind others
+abbrev pub next_value : Value → List ℕ
+next_value v = codes ", " ++ value_text v
+
+-- values with a comma and a space between them
+abbrev pub listed : List Value → List ℕ
+listed [] = []
+listed (v ∷ values) = value_text v ++ flat_map next_value values
+
+-- whether a function takes a descriptor or a parent
+abbrev pub takes_id : Facts → ℕ → Bool
+takes_id facts fun = takes_desc (fun_at facts.funs fun) || takes_parent (fun_at facts.funs fun)
 
 -- the name of a code
 abbrev pub code_name : Code → List ℕ
@@ -26,30 +69,104 @@ code_name Gap = codes "Gap"
 code_name TooBig = codes "TooBig"
 code_name BadName = codes "BadName"
 
--- a call without other arguments: its function's name, and its descriptor where the function takes one
+-- ---- calls and replies
+
+-- a call: its function's name, and in brackets the descriptor or parent, where the function takes one, and the arguments
 abbrev pub call_text : Facts → Call → List ℕ
 call_text facts call =
     (fun_at facts.funs call.fun).name ++ codes "("
-    ++ (if takes_desc (fun_at facts.funs call.fun) then decimal call.desc else [])
+    ++ listed (if takes_id facts call.fun then Word call.desc ∷ call.args else call.args)
     ++ codes ")"
 
--- a reply without bytes
-abbrev pub answer_text : Reply → List ℕ
-answer_text (Refused code) = codes "refused " ++ code_name code
-answer_text (Ok good) =
+-- whether a function's Ok shows its bytes: the one that reads a file
+abbrev pub shows_bytes : Fun → Bool
+shows_bytes f = bytes_eq f.name (codes "tread")
+
+-- an Ok of a function: its descriptor, where it has one, its words, and its bytes where they are shown
+abbrev pub good_text : Fun → Good → List ℕ
+good_text f good =
     codes "ok" ++ (if good.desc == 0 then [] else codes " #" ++ decimal good.desc)
     ++ flat_map (λ word. codes " " ++ decimal word) good.words
+    ++ (if shows_bytes f then codes " " ++ quoted good.bytes else [])
+
+-- a reply to a function
+abbrev pub reply_text : Fun → Reply → List ℕ
+reply_text f (Refused code) = codes "refused " ++ code_name code
+reply_text f (Ok good) = good_text f good
 
 -- the line of an entry
 abbrev pub entry_line : Facts → Entry → List ℕ
 entry_line facts e =
     codes "c" ++ decimal e.call.client ++ codes "." ++ decimal e.call.seq ++ codes " "
-    ++ call_text facts e.call ++ codes " = " ++ answer_text e.reply ++ 10 ∷ []
+    ++ call_text facts e.call ++ codes " = " ++ reply_text (fun_at facts.funs e.call.fun) e.reply ++ line_end
 
--- the run of one client that is done, in one boot: a line for each entry, a line for the client where it has a call, and
--- the counts
-abbrev pub report_of : Facts → List Entry → List ℕ
-report_of facts history =
-    flat_map (entry_line facts) history
-    ++ (if length history == 0 then [] else codes "client 1 done" ++ 10 ∷ [])
-    ++ codes "calls " ++ decimal (length history) ++ codes " boots 1 replays 0" ++ 10 ∷ []
+-- how a client ended
+abbrev pub end_text : Facts → End → List ℕ
+end_text facts Done = codes " done"
+end_text facts (Blocked call) = codes " blocked " ++ call_text facts call
+
+-- its line
+abbrev pub end_line : Facts → ℕ × End → List ℕ
+end_line facts e = codes "client " ++ decimal e.0 ++ end_text facts e.1 ++ line_end
+
+-- ---- the trace
+
+abbrev pub outcome_text : Outcome → List ℕ
+outcome_text (Replied reply patch) = codes " replied"
+outcome_text Blocks = codes " blocked"
+outcome_text Stopped = codes " stopped"
+outcome_text NoMemory = codes " without memory"
+
+-- an item: a call of a walk, with the client in whose turn and the one in whose name it was made; a load; or a client's call
+abbrev pub item_text : Facts → Tag → Call → Outcome → List ℕ
+item_text facts (Walk id k client) shown outcome =
+    codes "walk " ++ decimal id ++ codes "." ++ decimal k ++ codes " for c" ++ decimal client ++ codes " by c" ++ decimal shown.client
+    ++ codes " " ++ call_text facts shown ++ outcome_text outcome
+item_text facts (Load key client) shown outcome = codes "load " ++ key ++ codes " for c" ++ decimal client
+item_text facts (Client client seq) shown outcome =
+    codes "call c" ++ decimal client ++ codes "." ++ decimal seq ++ codes " " ++ call_text facts shown ++ outcome_text outcome
+
+abbrev pub item_line : Facts → Item → List ℕ
+item_line facts item = item_text facts item.tag item.shown item.outcome ++ line_end
+
+-- the line of a stop, where a boot had one
+abbrev pub stop_line : Option ℕ → List ℕ
+stop_line None = []
+stop_line (Some point) = codes "stop " ++ decimal point ++ line_end
+
+-- a boot under its number
+abbrev pub boot_lines : Facts → ℕ → Boot → List ℕ
+boot_lines facts number b = codes "boot " ++ decimal number ++ line_end ++ flat_map (item_line facts) b.items ++ stop_line b.stop
+
+-- boots, numbered from this one on
+abbrev pub boots_lines : Facts → ℕ → List Boot → List ℕ
+boots_lines facts number [] = []
+boots_lines facts number (b ∷ boots) = boot_lines facts number b ++ boots_lines facts (number + 1) boots
+
+abbrev pub trace_lines : Facts → Run → List ℕ
+trace_lines facts run = boots_lines facts 1 run.boots ++ codes "points " ++ decimal run.points ++ line_end
+
+-- ---- the run
+
+-- whether an item is a call of a walk that replied
+abbrev pub is_replay : Tag → Outcome → Bool
+is_replay (Walk id k client) (Replied reply patch) = true
+is_replay tag outcome = false
+
+-- how many there are, up to the greatest number of 64 bits
+abbrev pub replays_of : List Item → ℕ
+replays_of items = min (length (filter (λ item. is_replay item.tag item.outcome) items)) 18446744073709551615
+
+-- the counts: entries, boots, and calls of walks that replied
+abbrev pub counts_line : List Entry → Run → List ℕ
+counts_line history run =
+    codes "calls " ++ decimal (length history) ++ codes " boots " ++ decimal (length run.boots)
+    ++ codes " replays " ++ decimal (replays_of (items_of run.boots)) ++ line_end
+
+-- a run: a line for each entry, a line for each client that has a call, the counts, and the trace where it is asked for
+abbrev pub report_of : Facts → Ended → Bool → List ℕ
+report_of facts ended with_trace =
+    flat_map (entry_line facts) ended.history.items
+    ++ flat_map (end_line facts) ended.ends
+    ++ counts_line ended.history.items (run_of ended.trace)
+    ++ (if with_trace then trace_lines facts (run_of ended.trace) else [])

@@ -1,6 +1,8 @@
 //! The printed run.
 //!
-//! - `printed`: a line for each reply, one for the client, and the totals (`report`)
+//! - `printed`: a line for each reply, one for each client, the counts, and the trace where it is asked for (`text`)
+//! - `words`: calls, replies and values as they are printed
+//! - `traced`: the trace, boot by boot
 //!
 //! `specs/Report.antt` has the lines as they are printed, apart from the code.
 #![tactic(auto)]
@@ -8,5 +10,7 @@
 mod printed;
 #[cfg(test)]
 mod tests;
+mod traced;
+mod words;
 
-pub use printed::report;
+pub use printed::text;

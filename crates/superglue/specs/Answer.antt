@@ -1,5 +1,5 @@
 -- What the program answers.
-use Rattle.std.specs.Prelude.{ℕ, ◌≡◌, ◌+◌, ◌<◌, ◌≤◌, ◌⊎◌, List, [], ◌∷◌, ◌++◌, None, Some, IsSome, IfSome, length, take, codes, string_bytes}
+use Rattle.std.specs.Prelude.{ℕ, ◌≡◌, ◌+◌, ◌<◌, ◌≤◌, ◌⊎◌, false, List, [], ◌∷◌, ◌++◌, None, Some, IsSome, IfSome, length, take, codes, string_bytes}
 use Rattle.std.specs.declared.option.Option.{Option}
 use Rattle.std.specs.Io.KnownBytes.{Appends, Consumes, IsAtEnd}
 use Rattle.std.specs.declared.string.String.{String}
@@ -55,7 +55,7 @@ services = lock_facts ∷ []
 -- the output of a play, and its status: the report of the run of an input that is played, 0; or the line of one that isn't, 2
 abbrev pub IsPlayed : List ℕ → Option Ended → ℕ → List ℕ → Type 0
 IsPlayed bytes None status output = (status ≡ 2) × IsNotPlayed services bytes output
-IsPlayed bytes (Some ended) status output = (status ≡ 0) × IsRunOfInput services bytes ended × (output ≡ report_of lock_facts ended.history.items)
+IsPlayed bytes (Some ended) status output = (status ≡ 0) × IsRunOfInput services bytes ended × (output ≡ report_of lock_facts ended false)
 
 -- the output of a check, and its status: the line of a text that is accepted, 0; or of one that is refused, 2
 abbrev pub IsChecked : List ℕ → ℕ → List ℕ → Type 0

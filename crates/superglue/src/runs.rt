@@ -1,5 +1,5 @@
 // Which scripts are played, and their runs.
-ghost use Rattle.std.specs.Prelude.{◌≡◌, ◌≤◌, [], ◌∷◌, true, if◌then◌else◌, IfOk, length};
+ghost use Rattle.std.specs.Prelude.{◌≡◌, ◌≤◌, [], ◌∷◌, false, true, if◌then◌else◌, IfOk, length};
 ghost use Rattle.sg_facts.specs.Fits.{Fits};
 ghost use Rattle.sg_hist.specs.declared.ended.End.TheVariants.{Done};
 ghost use Rattle.sg_lock.specs.LockFacts.{lock_facts};
@@ -11,7 +11,7 @@ use crate::played::Played;
 use sg_base::{Bytes, NoMemory};
 use sg_facts::{BootList, BootLog, Interface, ItemList, Trace};
 use sg_hist::{End, EndList, Ended};
-use sg_report::report;
+use sg_report::text;
 use sg_script::{CallList, Script, ScriptCall};
 use sg_sim::play;
 use std::alloc::Global;
@@ -58,15 +58,14 @@ pub fn played_of(
     requires few { length calls.now ≤ 65536 }
     requires calls { calls_fit iface.now 1 calls.now ≡ true }
     ensures run { IfOk result (λ p. IsRunOf iface.now calls.now p.0) }
-    ensures report { IfOk result (λ p. p.1 ≡ report_of lock_facts p.0.history.items) }
+    ensures report { IfOk result (λ p. p.1 ≡ report_of lock_facts p.0 false) }
 {
-    let history = play(alloc, iface, calls)?;
-    let text = report(alloc, history.as_slice())?;
     let ended = Ended {
-        history,
+        history: play(alloc, iface, calls)?,
         trace: plain_trace(alloc)?,
         ends: ends_of(alloc, calls.is_empty())?,
     };
+    let text = text(alloc, iface, &ended, false)?;
     Ok((Played::new(ended), text))
 }
 

@@ -3,7 +3,7 @@ use Rattle.std.proofs.Common.{◌≡◌, ◌++◌, take}
 use Rattle.std.specs.Prelude.{codes}
 use Rattle.std.specs.Fmt.{decimal}
 use Rattle.std.specs.List.{flat_map}
-use Rattle.sg_report.proofs.printed.push_words.Given as goal
+use Rattle.sg_report.proofs.words.push_words.Given as goal
 
 abbrev pub invariant-loop-word : goal.invariant-loop-word
 invariant-loop-word l = l.out ≡ l.initial.out ++ flat_map (λ word. codes " " ++ decimal word) (take l.word-index l.words)

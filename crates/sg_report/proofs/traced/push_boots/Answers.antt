@@ -1,0 +1,24 @@
+-- A boot more is printed under the next number.
+use Rattle.std.proofs.Common.{◌≡◌, ◌+◌, ◌++◌, [], ◌∷◌, ℕ, List, length, map, take, sym, ◌∙◌, ap, append_assoc, arith}
+use Rattle.std.proofs.lemmas.List.{length-map, length-take, map-append, take_more}
+use Rattle.sg_facts.specs.declared.trace.BootLog.{BootLog}
+use Rattle.sg_facts.specs.Trace.{Boot, boot_of}
+use Rattle.sg_report.proofs.Boots.{boots_push}
+use Rattle.sg_report.specs.Report.{boot_lines, boots_lines}
+use Rattle.sg_report.proofs.traced.push_boots.Goals as goal
+
+pub boots-preserved : goal.boots-preserved
+boots-preserved c =
+    let facts = c.args.iface.now.facts in
+    let boots : List BootLog = c.args.boots.now in
+    let n : ℕ = c.boots.at in
+    let b : BootLog = c.index-boots-at.result in
+    let before : List Boot = map boot_of (take n boots) in
+    let more : take (n + 1) boots ≡ take n boots ++ b ∷ []
+    = take_more boots n b c.boots-test.true ∙ ap (λ x. take n boots ++ x ∷ []) (sym c.index-boots-at.is) in
+    let count : 1 + length before ≡ n + 1 = grind (arith, length-map (take n boots) boot_of, length-take n boots, c.boots-test.true) in
+    let next : boots_lines facts 1 (map boot_of (take (n + 1) boots)) ≡ boots_lines facts 1 before ++ boot_lines facts (n + 1) (boot_of b)
+    = ap (λ v. boots_lines facts 1 (map boot_of v)) more ∙ ap (boots_lines facts 1) (map-append boot_of (take n boots) (b ∷ []))
+    ∙ boots_push facts 1 before (boot_of b) ∙ ap (λ k. boots_lines facts 1 before ++ boot_lines facts k (boot_of b)) count in
+    c.in_ok-push_boot.ensures ∙ ap (λ v. v ++ boot_lines facts (n + 1) (boot_of b)) c.boots.invariant
+    ∙ append_assoc c.args.out.now (boots_lines facts 1 before) (boot_lines facts (n + 1) (boot_of b)) ∙ ap (λ v. c.args.out.now ++ v) (sym next)

@@ -1,0 +1,194 @@
+// The trace, boot by boot.
+ghost use Rattle.std.specs.Prelude.{◌≡◌, ◌++◌, ◌+◌, [], OnOk, filter, length, map, min, codes};
+ghost use Rattle.std.specs.Fmt.{decimal};
+ghost use Rattle.std.specs.List.{flat_map};
+ghost use Rattle.sg_facts.specs.Trace.{boot_of, run_of};
+ghost use Rattle.sg_hist.specs.Reading.{items_of};
+ghost use Rattle.sg_report.specs.Report.{boot_lines, boots_lines, call_text, is_replay, item_line, item_text, outcome_text, replays_of, stop_line, trace_lines};
+
+use crate::words::{push_call, push_number};
+use sg_base::{Bytes, Call, NoMemory};
+use sg_facts::{BootLog, Interface, Item, Outcome, Tag, Trace};
+use std::alloc::Global;
+
+/// What was done to the service, boot by boot, and the number of points asked.
+pub fn push_trace(
+    out: &mut Bytes,
+    alloc: Global,
+    iface: &Interface,
+    trace: &Trace,
+) -> Result<(), NoMemory>
+    ensures { OnOk result (out.new ≡ out.old ++ trace_lines iface.now.facts (run_of trace.now)) }
+{
+    push_boots(out, alloc, iface, trace.boots.as_slice())?;
+    out.extend_from_slice(b"points ")?;
+    push_number(out, alloc, trace.points)?;
+    out.extend_from_slice(b"\n")
+}
+
+// The boots, numbered from 1.
+fn push_boots(
+    out: &mut Bytes,
+    alloc: Global,
+    iface: &Interface,
+    boots: &[BootLog],
+) -> Result<(), NoMemory>
+    ensures { OnOk result (out.new ≡ out.old ++ boots_lines iface.now.facts 1 (map boot_of boots.now)) }
+{
+    'boots: for (at, boot) in boots.iter().enumerate() {
+        push_boot(out, alloc, iface, at as u64 + 1, boot)?;
+    }
+    Ok(())
+}
+
+// A boot under its number.
+fn push_boot(
+    out: &mut Bytes,
+    alloc: Global,
+    iface: &Interface,
+    number: u64,
+    boot: &BootLog,
+) -> Result<(), NoMemory>
+    ensures { OnOk result (out.new ≡ out.old ++ boot_lines iface.now.facts number (boot_of boot.now)) }
+{
+    out.extend_from_slice(b"boot ")?;
+    push_number(out, alloc, number)?;
+    out.extend_from_slice(b"\n")?;
+    push_items(out, alloc, iface, boot.items.as_slice())?;
+    push_stop(out, alloc, boot.stop)
+}
+
+// A line for each item.
+fn push_items(
+    out: &mut Bytes,
+    alloc: Global,
+    iface: &Interface,
+    items: &[Item],
+) -> Result<(), NoMemory>
+    ensures { OnOk result (out.new ≡ out.old ++ flat_map (item_line iface.now.facts) items.now) }
+{
+    for item in items {
+        push_item(out, alloc, iface, item)?;
+        out.extend_from_slice(b"\n")?;
+    }
+    Ok(())
+}
+
+// An item: why the service was asked, for whom, and how it ended.
+fn push_item(out: &mut Bytes, alloc: Global, iface: &Interface, item: &Item) -> Result<(), NoMemory>
+    ensures { OnOk result (out.new ≡ out.old ++ item_text iface.now.facts item.now.tag item.now.shown item.now.outcome) }
+{
+    match &item.tag {
+        Tag::Walk { id, k, client } => {
+            push_walk(out, alloc, *id, *k, *client, item.shown.client)?;
+            push_asked(out, alloc, iface, &item.shown, &item.outcome)
+        }
+        Tag::Load { key, client } => {
+            out.extend_from_slice(b"load ")?;
+            out.extend_from_slice(key.as_slice())?;
+            out.extend_from_slice(b" for c")?;
+            push_number(out, alloc, u64::from(*client))
+        }
+        Tag::Client { client, seq } => {
+            out.extend_from_slice(b"call c")?;
+            push_number(out, alloc, u64::from(*client))?;
+            out.extend_from_slice(b".")?;
+            push_number(out, alloc, u64::from(*seq))?;
+            push_asked(out, alloc, iface, &item.shown, &item.outcome)
+        }
+    }
+}
+
+// A call of a walk: its row and place in it, in whose turn and in whose name it was made.
+fn push_walk(
+    out: &mut Bytes,
+    alloc: Global,
+    id: u64,
+    k: u8,
+    client: u8,
+    caller: u8,
+) -> Result<(), NoMemory>
+    ensures { OnOk result (out.new ≡ out.old ++ codes "walk " ++ decimal id ++ codes "." ++ decimal k ++ codes " for c" ++ decimal client
+        ++ codes " by c" ++ decimal caller) }
+{
+    out.extend_from_slice(b"walk ")?;
+    push_number(out, alloc, id)?;
+    out.extend_from_slice(b".")?;
+    push_number(out, alloc, u64::from(k))?;
+    out.extend_from_slice(b" for c")?;
+    push_number(out, alloc, u64::from(client))?;
+    out.extend_from_slice(b" by c")?;
+    push_number(out, alloc, u64::from(caller))
+}
+
+// A call behind a space, and how it ended.
+fn push_asked(
+    out: &mut Bytes,
+    alloc: Global,
+    iface: &Interface,
+    shown: &Call,
+    outcome: &Outcome,
+) -> Result<(), NoMemory>
+    ensures { OnOk result (out.new ≡ out.old ++ codes " " ++ call_text iface.now.facts shown.now ++ outcome_text outcome.now) }
+{
+    out.extend_from_slice(b" ")?;
+    push_call(out, alloc, iface, shown)?;
+    out.extend_from_slice(outcome_word(outcome))
+}
+
+// How an item ended.
+fn outcome_word(outcome: &Outcome) -> &'static [u8]
+    ensures { result.now ≡ outcome_text outcome.now }
+{
+    match outcome {
+        Outcome::Replied { .. } => b" replied",
+        Outcome::Blocks => b" blocked",
+        Outcome::Stopped => b" stopped",
+        Outcome::NoMemory => b" without memory",
+    }
+}
+
+// The line of a stop.
+fn push_stop(out: &mut Bytes, alloc: Global, stop: Option<u64>) -> Result<(), NoMemory>
+    ensures { OnOk result (out.new ≡ out.old ++ stop_line stop) }
+{
+    match stop {
+        None => Ok(()),
+        Some(point) => {
+            out.extend_from_slice(b"stop ")?;
+            push_number(out, alloc, point)?;
+            out.extend_from_slice(b"\n")
+        }
+    }
+}
+
+/// How many calls of walks replied, up to the greatest number of 64 bits.
+pub fn replays_in(boots: &[BootLog]) -> u64
+    ensures { result ≡ replays_of (items_of (map boot_of boots.now)) }
+{
+    let mut count = 0;
+    'boots: for boot in boots {
+        count = replays_after(count, boot.items.as_slice());
+    }
+    count
+}
+
+// How many replied, where so many did before.
+fn replays_after(before: u64, items: &[Item]) -> u64
+    ensures { result ≡ min (before + length (filter (λ item. is_replay item.tag item.outcome) items.now)) 18446744073709551615 }
+{
+    let mut count = before;
+    'items: for item in items {
+        if is_replay(item) {
+            count = count.saturating_add(1);
+        }
+    }
+    count
+}
+
+// Whether an item is a call of a walk that replied.
+fn is_replay(item: &Item) -> bool
+    ensures { result ≡ is_replay item.now.tag item.now.outcome }
+{
+    matches!(item.tag, Tag::Walk { .. }) && matches!(item.outcome, Outcome::Replied { .. })
+}

@@ -1,0 +1,172 @@
+// Calls, replies and values as they are printed.
+ghost use Rattle.std.specs.Prelude.{◌≡◌, ◌++◌, ◌==◌, ◌||◌, if◌then◌else◌, [], ◌∷◌, OnOk, codes};
+ghost use Rattle.std.specs.Fmt.{decimal};
+ghost use Rattle.std.specs.List.{flat_map};
+ghost use Rattle.std.specs.Str.{bytes_eq};
+ghost use Rattle.sg_base.specs.declared.value.Value.TheVariants.{Word};
+ghost use Rattle.sg_facts.specs.Facts.{fun_at, fun_of_shape, takes_desc, takes_parent};
+ghost use Rattle.sg_report.specs.Report.{call_text, code_name, good_text, listed, next_value, quoted, reply_text, value_text};
+
+use sg_base::{Bytes, Call, Code, Good, NoMemory, Reply, Value};
+use sg_facts::{FunShape, Interface, Kind};
+use std::alloc::Global;
+
+/// A call: its function's name, and in brackets its descriptor or parent, where the function takes one, and its arguments.
+pub fn push_call(
+    out: &mut Bytes,
+    alloc: Global,
+    iface: &Interface,
+    call: &Call,
+) -> Result<(), NoMemory>
+    ensures { OnOk result (out.new ≡ out.old ++ call_text iface.now.facts call.now) }
+{
+    let fun = iface.fun(call.fun);
+    out.extend_from_slice(fun.name)?;
+    out.extend_from_slice(b"(")?;
+    if takes_id(&fun) {
+        push_number(out, alloc, call.desc)?;
+        push_more(out, alloc, call.args.as_slice())?;
+    } else {
+        push_listed(out, alloc, call.args.as_slice())?;
+    }
+    out.extend_from_slice(b")")
+}
+
+// Whether a function takes a descriptor or a parent.
+fn takes_id(fun: &FunShape) -> bool
+    ensures { result ≡ (takes_desc (fun_of_shape fun.now) || takes_parent (fun_of_shape fun.now)) }
+{
+    takes_desc(fun) || takes_parent(fun)
+}
+
+// Whether it takes a descriptor.
+fn takes_desc(fun: &FunShape) -> bool
+    ensures { result ≡ takes_desc (fun_of_shape fun.now) }
+{
+    fun.kinds.iter().any(|kind| matches!(kind, Kind::Desc))
+}
+
+// Whether it takes a parent.
+fn takes_parent(fun: &FunShape) -> bool
+    ensures { result ≡ takes_parent (fun_of_shape fun.now) }
+{
+    fun.kinds.iter().any(|kind| matches!(kind, Kind::Parent))
+}
+
+// Values with a comma and a space between them.
+fn push_listed(out: &mut Bytes, alloc: Global, values: &[Value]) -> Result<(), NoMemory>
+    ensures { OnOk result (out.new ≡ out.old ++ listed values.now) }
+{
+    match values {
+        [] => Ok(()),
+        [first, more @ ..] => {
+            push_value(out, alloc, first)?;
+            push_more(out, alloc, more)
+        }
+    }
+}
+
+// Values behind others.
+fn push_more(out: &mut Bytes, alloc: Global, values: &[Value]) -> Result<(), NoMemory>
+    ensures { OnOk result (out.new ≡ out.old ++ flat_map next_value values.now) }
+{
+    for value in values {
+        out.extend_from_slice(b", ")?;
+        push_value(out, alloc, value)?;
+    }
+    Ok(())
+}
+
+// A number in decimal, or a text in double quotes.
+fn push_value(out: &mut Bytes, alloc: Global, value: &Value) -> Result<(), NoMemory>
+    ensures { OnOk result (out.new ≡ out.old ++ value_text value.now) }
+{
+    match value {
+        Value::Word(word) => push_number(out, alloc, *word),
+        Value::Text(text) => push_quoted(out, text.bytes()),
+    }
+}
+
+// Bytes in double quotes.
+fn push_quoted(out: &mut Bytes, bytes: &[u8]) -> Result<(), NoMemory>
+    ensures { OnOk result (out.new ≡ out.old ++ quoted bytes.now) }
+{
+    out.extend_from_slice(b"\"")?;
+    out.extend_from_slice(bytes)?;
+    out.extend_from_slice(b"\"")
+}
+
+/// A reply to a function.
+pub fn push_answer(
+    out: &mut Bytes,
+    alloc: Global,
+    fun: &FunShape,
+    reply: &Reply,
+) -> Result<(), NoMemory>
+    ensures { OnOk result (out.new ≡ out.old ++ reply_text (fun_of_shape fun.now) reply.now) }
+{
+    match reply {
+        Reply::Refused(code) => {
+            out.extend_from_slice(b"refused ")?;
+            out.extend_from_slice(code_name(*code))
+        }
+        Reply::Ok(good) => push_good(out, alloc, fun, good),
+    }
+}
+
+// An Ok: its descriptor, where it has one, its words, and its bytes, where the function shows them.
+fn push_good(out: &mut Bytes, alloc: Global, fun: &FunShape, good: &Good) -> Result<(), NoMemory>
+    ensures { OnOk result (out.new ≡ out.old ++ good_text (fun_of_shape fun.now) good.now) }
+{
+    out.extend_from_slice(b"ok")?;
+    if good.desc != 0 {
+        out.extend_from_slice(b" #")?;
+        push_number(out, alloc, good.desc)?;
+    }
+    push_words(out, alloc, good.words.as_slice())?;
+    if fun.name == b"tread".as_slice() {
+        out.extend_from_slice(b" ")?;
+        push_quoted(out, good.bytes.as_slice())?;
+    }
+    Ok(())
+}
+
+// Words, each behind a space.
+fn push_words(out: &mut Bytes, alloc: Global, words: &[u64]) -> Result<(), NoMemory>
+    ensures { OnOk result (out.new ≡ out.old ++ flat_map (λ word. codes " " ++ decimal word) words.now) }
+{
+    for word in words {
+        out.extend_from_slice(b" ")?;
+        push_number(out, alloc, *word)?;
+    }
+    Ok(())
+}
+
+/// A number in decimal.
+pub fn push_number(out: &mut Bytes, alloc: Global, number: u64) -> Result<(), NoMemory>
+    ensures { OnOk result (out.new ≡ out.old ++ decimal number) }
+{
+    let digits = number.to_string(alloc)?;
+    out.extend_from_slice(digits.as_bytes())
+}
+
+// The name of a code.
+fn code_name(code: Code) -> &'static [u8]
+    ensures { result.now ≡ code_name code }
+{
+    match code {
+        Code::NoDesc => b"NoDesc",
+        Code::NoParent => b"NoParent",
+        Code::BadState => b"BadState",
+        Code::HasChildren => b"HasChildren",
+        Code::Full => b"Full",
+        Code::NotOwner => b"NotOwner",
+        Code::Held => b"Held",
+        Code::Occupied => b"Occupied",
+        Code::NotFound => b"NotFound",
+        Code::Overflow => b"Overflow",
+        Code::Gap => b"Gap",
+        Code::TooBig => b"TooBig",
+        Code::BadName => b"BadName",
+    }
+}
