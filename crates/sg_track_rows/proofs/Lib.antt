@@ -1,3 +1,4 @@
-pub mod Locks
-pub mod Pages
+pub mod Carried
+pub mod LockCalls
+pub mod PageCalls
 pub mod Services

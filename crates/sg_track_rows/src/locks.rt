@@ -10,7 +10,6 @@ use sg_lock::LockService;
 use sg_texts::LOCK;
 use sg_track::Tracker;
 use std::alloc::Global;
-use std::process::Abort;
 use std::test::Fail;
 
 // What is seen of the row of a lock.
@@ -71,22 +70,23 @@ fn owner_of(tracker: &Tracker, id: u64) -> Option<u64>
 
 // Tracks that a client released a lock that is there.
 fn release(
-    rt: &impl Abort,
     alloc: Global,
     tracker: &mut Tracker,
     tables: &Tables,
     client: u8,
     id: u64,
-) -> Result<(), NoMemory>
+) -> Result<(), Fail>
     requires { tables.now.iface.facts ≡ lock_facts }
     ensures { OnOk result (tracker.new.given ≡ tracker.old.given) }
 {
     let call = call(alloc, client, 3, id, &[])?;
     match owner_of(tracker, id) {
-        Some(_) => tracker.track(tables, &call, &done(alloc, 0)),
-        None => panic!(rt; "no lock {id}"),
+        Some(_) => {
+            tracker.track(tables, &call, &done(alloc, 0));
+            Ok(())
+        }
+        None => Err(Fail::new("no lock")),
     }
-    Ok(())
 }
 
 // Tracks that a client ended a lock.
@@ -135,28 +135,57 @@ fn taken_by(owner: u64, creator: u8) -> Option<LockRow> {
     })
 }
 
-#[test]
-fn locks_are_taken_released_and_ended(rt: HostRuntime) -> Result<(), Fail> {
-    let alloc = rt.alloc();
-    let tables = tables_of(alloc, LOCK, LockService::shape())?;
+// Two locks, of clients 1 and 64.
+fn two(alloc: Global, tables: &Tables) -> Result<Tracker, Fail>
+    requires { tables.now.iface.facts ≡ lock_facts }
+{
     let mut tracker = Tracker::new(alloc);
     tracker.reserve(alloc)?;
-    make(alloc, &mut tracker, &tables, 1, 1)?;
+    make(alloc, &mut tracker, tables, 1, 1)?;
     tracker.reserve(alloc)?;
-    make(alloc, &mut tracker, &tables, 64, 2)?;
-    assert_eq!(rt; seen(&tracker, 1), free_of(1));
-    take(alloc, &mut tracker, &tables, 2, 1)?;
-    assert_eq!(rt; seen(&tracker, 1), taken_by(2, 1));
-    release(&rt, alloc, &mut tracker, &tables, 2, 1)?;
-    assert_eq!(rt; seen(&tracker, 1), free_of(1));
-    take(alloc, &mut tracker, &tables, 64, 1)?;
-    assert_eq!(rt; seen(&tracker, 1), taken_by(64, 1));
+    make(alloc, &mut tracker, tables, 64, 2)?;
+    Ok(tracker)
+}
+
+// What is seen of the first lock when it is made, taken, released and taken by another client.
+fn first_seen(
+    alloc: Global,
+    tracker: &mut Tracker,
+    tables: &Tables,
+) -> Result<[Option<LockRow>; 4], Fail>
+    requires { tables.now.iface.facts ≡ lock_facts }
+{
+    let made = seen(tracker, 1);
+    take(alloc, tracker, tables, 2, 1)?;
+    let taken = seen(tracker, 1);
+    release(alloc, tracker, tables, 2, 1)?;
+    let released = seen(tracker, 1);
+    take(alloc, tracker, tables, 64, 1)?;
+    Ok([made, taken, released, seen(tracker, 1)])
+}
+
+#[test]
+fn locks_are_taken_and_released(rt: HostRuntime) -> Result<(), Fail> {
+    let tables = tables_of(rt.alloc(), LOCK, LockService::shape())?;
+    let mut tracker = two(rt.alloc(), &tables)?;
+    let [made, taken, released, again] = first_seen(rt.alloc(), &mut tracker, &tables)?;
+    assert_eq!(rt; made, free_of(1));
+    assert_eq!(rt; taken, taken_by(2, 1));
+    assert_eq!(rt; released, free_of(1));
+    assert_eq!(rt; again, taken_by(64, 1));
     assert_eq!(rt; seen(&tracker, 2), free_of(64));
-    free(alloc, &mut tracker, &tables, 3, 2)?;
-    assert!(rt; seen(&tracker, 2).is_none());
-    assert!(rt; seen(&tracker, 3).is_none());
+    Ok(())
+}
+
+#[test]
+fn locks_end_alone(rt: HostRuntime) -> Result<(), Fail> {
+    let tables = tables_of(rt.alloc(), LOCK, LockService::shape())?;
+    let mut tracker = two(rt.alloc(), &tables)?;
+    free(rt.alloc(), &mut tracker, &tables, 3, 1)?;
+    assert!(rt; seen(&tracker, 1).is_none());
+    assert_eq!(rt; seen(&tracker, 2), free_of(64));
     assert_eq!(rt; tracker.live(), 1);
-    assert!(rt; !tracker.has_children(1));
-    assert!(rt; tracker.ancestors(alloc, 1)?.is_empty());
+    assert!(rt; !tracker.has_children(2));
+    assert!(rt; tracker.ancestors(rt.alloc(), 2)?.is_empty());
     Ok(())
 }

@@ -9,7 +9,6 @@ use sg_facts::Tables;
 use sg_texts::MM;
 use sg_track::Tracker;
 use std::alloc::Global;
-use std::process::Abort;
 use std::test::Fail;
 
 // Tracks that a client got a page at an address.
@@ -33,25 +32,27 @@ fn get(
 
 // Tracks that a page was made below another that is there, at an address of a space.
 fn alias(
-    rt: &impl Abort,
     alloc: Global,
     tracker: &mut Tracker,
     tables: &Tables,
     parent: u64,
-    place: (u64, u64),
+    space: u64,
+    addr: u64,
     id: u64,
-) -> Result<(), NoMemory>
+) -> Result<(), Fail>
     requires pages { tables.now.iface.facts ≡ mm_facts }
     requires room { 1 ≤ tracker.old.spare }
     requires next { tracker.old.given + 1 ≡ id }
     ensures { OnOk result (tracker.new.given ≡ id) }
 {
-    let call = call(alloc, 9, 2, parent, &[place.0, place.1])?;
+    let call = call(alloc, 9, 2, parent, &[space, addr])?;
     match tracker.row(parent) {
-        Some(_) => tracker.track(tables, &call, &done(alloc, id)),
-        None => panic!(rt; "no page {parent}"),
+        Some(_) => {
+            tracker.track(tables, &call, &done(alloc, id));
+            Ok(())
+        }
+        None => Err(Fail::new("no page")),
     }
-    Ok(())
 }
 
 // Tracks that a page was released.
@@ -75,7 +76,7 @@ fn find(alloc: Global, tracker: &mut Tracker, tables: &Tables, id: u64) -> Resul
 }
 
 // Four pages: 2 below 1, 3 below 2, and 4 beside.
-fn four(rt: &impl Abort, alloc: Global, tables: &Tables) -> Result<Tracker, NoMemory>
+fn four(alloc: Global, tables: &Tables) -> Result<Tracker, Fail>
     requires { tables.now.iface.facts ≡ mm_facts }
     ensures { IfOk result (λ tracker. tracker.given ≡ 4) }
 {
@@ -83,9 +84,9 @@ fn four(rt: &impl Abort, alloc: Global, tables: &Tables) -> Result<Tracker, NoMe
     tracker.reserve(alloc)?;
     get(alloc, &mut tracker, tables, 7, 4096, 1)?;
     tracker.reserve(alloc)?;
-    alias(rt, alloc, &mut tracker, tables, 1, (8, 0), 2)?;
+    alias(alloc, &mut tracker, tables, 1, 8, 0, 2)?;
     tracker.reserve(alloc)?;
-    alias(rt, alloc, &mut tracker, tables, 2, (0, 8192), 3)?;
+    alias(alloc, &mut tracker, tables, 2, 0, 8192, 3)?;
     tracker.reserve(alloc)?;
     get(alloc, &mut tracker, tables, 64, u64::MAX, 4)?;
     Ok(tracker)
@@ -115,54 +116,73 @@ fn is_page(
     }
 }
 
+// Whether the four are as they were made.
+fn are_four(tracker: &Tracker) -> bool {
+    tracker.live() == 4
+        && is_page(tracker, 1, (1, 7), 0, [7, 4096], 3)
+        && is_page(tracker, 2, (2, 9), 1, [8, 0], 1)
+        && is_page(tracker, 3, (2, 9), 2, [0, 8192], 2)
+        && is_page(tracker, 4, (1, 64), 0, [64, u64::MAX], 3)
+}
+
+// Whether an id has these ancestors, nearest first.
+fn is_below(alloc: Global, tracker: &Tracker, id: u64, want: &[u64]) -> Result<bool, NoMemory> {
+    let above = tracker.ancestors(alloc, id)?;
+    Ok(above.as_slice() == want)
+}
+
 #[test]
 fn pages_stand_below_others(rt: HostRuntime) -> Result<(), Fail> {
-    let alloc = rt.alloc();
-    let tables = tables_of(alloc, MM, mm_shape())?;
-    let tracker = four(&rt, alloc, &tables)?;
-    assert_eq!(rt; tracker.live(), 4);
-    assert!(rt; is_page(&tracker, 1, (1, 7), 0, [7, 4096], 3));
-    assert!(rt; is_page(&tracker, 2, (2, 9), 1, [8, 0], 1));
-    assert!(rt; is_page(&tracker, 3, (2, 9), 2, [0, 8192], 2));
-    assert!(rt; is_page(&tracker, 4, (1, 64), 0, [64, u64::MAX], 3));
-    assert_eq!(rt; tracker.ancestors(alloc, 3)?.as_slice(), [2, 1].as_slice());
-    assert!(rt; tracker.ancestors(alloc, 4)?.is_empty());
-    for (id, want) in [(1, true), (2, true), (3, false), (4, false)] {
-        assert_eq!(rt; tracker.has_children(id), want, "children of {id}");
-    }
+    let tables = tables_of(rt.alloc(), MM, mm_shape())?;
+    let tracker = four(rt.alloc(), &tables)?;
+    assert!(rt; are_four(&tracker));
+    assert!(rt; is_below(rt.alloc(), &tracker, 3, &[2, 1])?);
+    assert!(rt; is_below(rt.alloc(), &tracker, 4, &[])?);
+    assert!(rt; tracker.has_children(1) && tracker.has_children(2));
+    assert!(rt; !tracker.has_children(3) && !tracker.has_children(4));
     Ok(())
+}
+
+// The four, after the end of the first.
+fn one_left(alloc: Global, tables: &Tables) -> Result<Tracker, Fail>
+    requires { tables.now.iface.facts ≡ mm_facts }
+{
+    let mut tracker = four(alloc, tables)?;
+    release(alloc, &mut tracker, tables, 1)?;
+    Ok(tracker)
 }
 
 #[test]
 fn pages_end_with_all_below_them(rt: HostRuntime) -> Result<(), Fail> {
-    let alloc = rt.alloc();
-    let tables = tables_of(alloc, MM, mm_shape())?;
-    let mut tracker = four(&rt, alloc, &tables)?;
-    release(alloc, &mut tracker, &tables, 1)?;
+    let tables = tables_of(rt.alloc(), MM, mm_shape())?;
+    let tracker = one_left(rt.alloc(), &tables)?;
     assert_eq!(rt; tracker.live(), 1);
-    for id in [1, 2, 3] {
-        assert!(rt; tracker.row(id).is_none(), "{id} is there");
-        assert!(rt; !tracker.has_children(id), "children of {id}");
-    }
     assert!(rt; is_page(&tracker, 4, (1, 64), 0, [64, u64::MAX], 3));
+    assert!(rt; tracker.row(1).is_none() && tracker.row(2).is_none() && tracker.row(3).is_none());
     Ok(())
+}
+
+// The four, after a refusal and a query, with room that was taken twice.
+fn four_with_room(alloc: Global, tables: &Tables) -> Result<Tracker, Fail>
+    requires { tables.now.iface.facts ≡ mm_facts }
+    ensures room { IfOk result (λ tracker. 1 ≤ tracker.spare) }
+    ensures given { IfOk result (λ tracker. tracker.given ≡ 4) }
+{
+    let mut tracker = four(alloc, tables)?;
+    tracker.reserve(alloc)?;
+    tracker.reserve(alloc)?;
+    let again = call(alloc, 7, 1, 0, &[4096])?;
+    tracker.track(tables, &again, &Reply::Refused(Code::Occupied));
+    find(alloc, &mut tracker, tables, 2)?;
+    Ok(tracker)
 }
 
 #[test]
 fn refusals_and_queries_leave_the_rows(rt: HostRuntime) -> Result<(), Fail> {
-    let alloc = rt.alloc();
-    let tables = tables_of(alloc, MM, mm_shape())?;
-    let mut tracker = four(&rt, alloc, &tables)?;
-    tracker.reserve(alloc)?;
-    tracker.reserve(alloc)?;
-    let again = call(alloc, 7, 1, 0, &[4096])?;
-    tracker.track(&tables, &again, &Reply::Refused(Code::Occupied));
-    find(alloc, &mut tracker, &tables, 2)?;
-    assert_eq!(rt; tracker.live(), 4);
-    assert!(rt; is_page(&tracker, 1, (1, 7), 0, [7, 4096], 3));
-    assert!(rt; is_page(&tracker, 2, (2, 9), 1, [8, 0], 1));
-    get(alloc, &mut tracker, &tables, 7, 0, 5)?;
-    assert_eq!(rt; tracker.live(), 5);
+    let tables = tables_of(rt.alloc(), MM, mm_shape())?;
+    let mut tracker = four_with_room(rt.alloc(), &tables)?;
+    assert!(rt; are_four(&tracker));
+    get(rt.alloc(), &mut tracker, &tables, 7, 0, 5)?;
     assert!(rt; is_page(&tracker, 5, (1, 7), 0, [7, 0], 1));
     Ok(())
 }

@@ -11,7 +11,7 @@ use Rattle.sg_track_rows.specs.Answered.{HasOwner, asked, done}
 
 pub may_make : (t : Tracked) (client id : ℕ) → 1 ≤ t.spare → t.given + 1 ≡ id → MayTrack lock_facts t (asked client 1 0 []) (done id)
 may_make t client id room next = record {
-  makes = λ is. record { place = record { room = room; parent = λ takes. cc takes; next = sym next }; few = omega arith; values = λ row. tt };
+  makes = λ is. record { place = record { room = room; parent = λ takes. cc; next = sym next }; few = omega arith; values = λ row. tt };
   changes = λ query makes. cc makes;
 }
 

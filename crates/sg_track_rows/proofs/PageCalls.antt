@@ -12,7 +12,7 @@ pub may_get : (t : Tracked) (client addr id : ℕ) → client < 2 ^ 64 → addr 
     → MayTrack mm_facts t (asked client 1 0 (Word addr ∷ [])) (done id)
 may_get t client addr id client_fits addr_fits room next = record {
   makes = λ is. record {
-    place = record { room = room; parent = λ takes. cc takes; next = sym next };
+    place = record { room = room; parent = λ takes. cc; next = sym next };
     few = omega arith;
     values = λ row. (λ within. client_fits, (λ within. addr_fits, tt));
   };
