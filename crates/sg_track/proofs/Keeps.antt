@@ -6,7 +6,8 @@ use Rattle.sg_facts.specs.declared.row.Row.{Row}
 use Rattle.sg_facts.specs.Track.{row_at}
 use Rattle.sg_facts.proofs.RowLists.{left, more}
 use Rattle.sg_track.specs.declared.kept.Kept.{Kept}
-use Rattle.sg_track.specs.Kept.{Counts, Each, HasRow, children_of, ends_below, more_at, others_of, rows_of}
+use Rattle.sg_base.specs.Lists.{Each}
+use Rattle.sg_track.specs.Kept.{Counts, HasRow, children_of, ends_below, more_at, others_of, rows_of}
 use Rattle.sg_track.specs.Tracked.{AreTracked, HasLowerParent}
 use Rattle.sg_track.proofs.Counts.{children-changed, children-left, children-more, children-none, children-removed, counts_as, counts_beside, counts_left, counts_removed, each_more, more_other, no_children}
 use Rattle.sg_track.proofs.Ends.{removed, rows-left}

@@ -1,10 +1,10 @@
 -- An Ok may be tracked where the rows after it are the service's: their fields are of their kinds, and so each field that
 -- was set once came to a value of its kind.
-use Rattle.std.proofs.Common.{◌≡◌, ℕ, zero, suc, ◌<◌, Bool, true, false, cond, not, ◌&&◌, ◌||◌, List, [], ◌∷◌, ◌++◌, Some, length, map, refl, sym, ◌∙◌, ap, subst, inl, inr, arith}
-use Rattle.std.specs.Prelude.{◌==◌, if◌then◌else◌}
+use Rattle.std.proofs.Common.{◌≡◌, ℕ, zero, suc, ◌<◌, ◌≤◌, Bool, true, false, cond, not, ◌&&◌, ◌||◌, List, [], ◌∷◌, ◌++◌, Some, length, map, refl, sym, ◌∙◌, ap, subst, inl, inr, arith}
+use Rattle.std.specs.Prelude.{◌==◌, if◌then◌else◌, nat_le}
 use Rattle.std.specs.List.{list_all, list_any}
 use Rattle.std.proofs.Math.ListN.{set}
-use Rattle.std.proofs.lemmas.Bool.Decides.{eqb_tells}
+use Rattle.std.proofs.lemmas.Bool.Decides.{eqb_tells, nat_tests}
 use Rattle.std.proofs.lemmas.List.{length-set}
 use Rattle.sg_base.specs.declared.value.Value.{Value}
 use Rattle.sg_base.specs.declared.value.Value.TheVariants.{Word, Text}
@@ -12,12 +12,12 @@ use Rattle.sg_base.specs.declared.call.Call.{Call}
 use Rattle.sg_base.specs.declared.reply.Good.{Good}
 use Rattle.sg_facts.specs.declared.row.Row.{Row}
 use Rattle.sg_facts.specs.declared.shape.Effect.{Effect}
-use Rattle.sg_facts.specs.Allowed.{is_text_field}
-use Rattle.sg_facts.specs.Facts.{Facts, Field, fun_at}
+use Rattle.sg_facts.specs.Allowed.{implies, is_allowed, is_text_field, keeps_private, keeps_to, leaves_own, replays_all, sets_once}
+use Rattle.sg_facts.specs.Facts.{Facts, Field, Fun, fun_at, no_fun, takes_desc, takes_parent}
 use Rattle.sg_facts.specs.Sound.{AreFields, AreRows, IsOfField, IsRow}
 use Rattle.sg_facts.specs.Track.{effect_of, empty_field, field_at, fields_after, new_row, row_after, row_at, rows_after}
-use Rattle.sg_track.specs.Drafts.{EachNew, IsNumber, IsValue, sets_once}
-use Rattle.sg_track.specs.Tracked.{HasPlace, MayTrackOk, Tracked, changed_rows, sets_no_text}
+use Rattle.sg_track.specs.Drafts.{EachNew, IsNumber, IsValue}
+use Rattle.sg_track.specs.Tracked.{HasPlace, MayTrackOk, Tracked, changed_rows}
 use Rattle.sg_track.proofs.Ends.{same_test}
 
 -- ---- fields that were set once
@@ -111,6 +111,47 @@ no_text fs (e ∷ es) x all any =
       | inr apart ↦ no_text fs es x parts.1 (sym (ap (λ b. b || list_any (λ o. o.0 == x) es) apart.0) ∙ any)
     ]
 
+-- ---- what a shape keeps to
+
+parts_of : (facts : Facts) → is_allowed facts ≡ true → (nat_le (length facts.fields) 8 ≡ true) × (list_all (keeps_to facts) facts.funs ≡ true)
+parts_of facts allowed =
+    let few = nat_le (length facts.fields) 8 in
+    let all = list_all (keeps_to facts) facts.funs in
+    let front = (both_true (few && keeps_private facts && all) (replays_all facts (length facts.funs)) allowed).0 in
+    let two = both_true (few && keeps_private facts) all front in
+    ((both_true few (keeps_private facts) two.0).0, two.1)
+
+few_fields : (facts : Facts) → is_allowed facts ≡ true → length facts.fields ≤ 8
+few_fields facts allowed = let few = (parts_of facts allowed).0 in grind (arith, nat_tests, few)
+
+abbrev sets_no_text : Facts → Fun → Bool
+sets_no_text facts f = list_all (λ e. not (is_text_field facts.fields e.0)) f.effects
+
+-- a function sets no field twice and, unless it makes a descriptor, no text
+record Keeps (facts : Facts) (f : Fun) : Type 0 where
+  once : sets_once f.effects ≡ true
+  no_text : f.creation ≡ false → sets_no_text facts f ≡ true
+
+each_fun : (test : Fun → Bool) (funs : List Fun) (n : ℕ) → list_all test funs ≡ true → test no_fun ≡ true → test (fun_at funs n) ≡ true
+each_fun test funs zero all none = none
+each_fun test [] (suc n) all none = none
+each_fun test (f ∷ funs) (suc zero) all none = (both_true (test f) (list_all test funs) all).0
+each_fun test (f ∷ funs) (suc (suc n)) all none = each_fun test funs (suc n) (both_true (test f) (list_all test funs) all).1 none
+
+keeps : (facts : Facts) (n : ℕ) → is_allowed facts ≡ true → Keeps facts (fun_at facts.funs n)
+keeps facts n allowed = told (fun_at facts.funs n) (each_fun (keeps_to facts) facts.funs n (parts_of facts allowed).1 refl)
+  where
+    told : (f : Fun) → keeps_to facts f ≡ true → Keeps facts f
+    told f is =
+        let two = implies f.query (not (takes_desc f) && not (takes_parent f)) && implies f.uses_file (facts.resc_data && takes_desc f) in
+        let text = f.creation || sets_no_text facts f in
+        let block = implies f.block (not f.creation && not f.terminal) in
+        let five = (both_true (two && text && sets_once f.effects && block) (leaves_own facts.funs f.leaves) is).0 in
+        let four = both_true (two && text && sets_once f.effects) block five in
+        let parts = both_true (two && text) (sets_once f.effects) four.0 in
+        let texts = (both_true two text parts.0).1 in
+        record { once = parts.1; no_text = λ makes. sym (ap (λ b. b || sets_no_text facts f) makes) ∙ texts }
+
 -- ---- rows of the service
 
 met : (P : Row → Type 0) (low high id : ℕ) (rows : List Row) (r : Row) → AreRows P low high rows → row_at rows id ≡ Some r → P r
@@ -153,28 +194,27 @@ module _ (facts : Facts) (t : Tracked) (call : Call) (good : Good) (given : ℕ)
       (λ x within touched. value_at facts.fields (fields_after call good es fields) x is.fields (omega (arith, within, length_after call good es fields)))
 
   -- the row that a function changes
-  changed : (r : Row) → sets_once (fun_at facts.funs call.fun).effects ≡ true → sets_no_text facts (fun_at facts.funs call.fun).effects ≡ true
+  changed : (r : Row) → sets_once (fun_at facts.funs call.fun).effects ≡ true → sets_no_text facts (fun_at facts.funs call.fun) ≡ true
       → IsRow facts all (row_after facts call good r) → EachNew IsNumber call good (fun_at facts.funs call.fun).effects r.fields
   changed r once keeps is =
       let es = (fun_at facts.funs call.fun).effects in
       final_new IsNumber call good es r.fields once
       (λ x within touched. number_at facts.fields (fields_after call good es r.fields) x is.fields (omega (arith, within, length_after call good es r.fields)) (no_text facts.fields es x keeps touched))
 
-  -- an Ok may be tracked where the rows after it are the service's, the function sets no field twice and, unless it makes
-  -- a descriptor, no text
-  pub may_track : AreRows (IsRow facts all) 0 given (rows_after facts t.rows call good) → sets_once (fun_at facts.funs call.fun).effects ≡ true
-      → ((fun_at facts.funs call.fun).creation ≡ false → sets_no_text facts (fun_at facts.funs call.fun).effects ≡ true)
+  -- an Ok may be tracked where the shape is allowed and the rows after it are the service's
+  pub may_track : is_allowed facts ≡ true → AreRows (IsRow facts all) 0 given (rows_after facts t.rows call good)
       → ((fun_at facts.funs call.fun).creation ≡ true → HasPlace facts t call good) → MayTrackOk facts t call good
-  may_track are once keeps place = record {
+  may_track allowed are place = record {
     makes = λ is. record {
       place = place is;
+      few = few_fields facts allowed;
       values = λ row.
           let rows_is : rows_after facts t.rows call good ≡ t.rows ++ new_row facts call good ∷ [] = rw (row, is) refl in
-          made once (met_last (IsRow facts all) 0 given t.rows (new_row facts call good) (subst (AreRows (IsRow facts all) 0 given) rows_is are));
+          made (keeps facts call.fun allowed).once (met_last (IsRow facts all) 0 given t.rows (new_row facts call good) (subst (AreRows (IsRow facts all) 0 given) rows_is are));
     };
     changes = λ row makes ends r there.
         let rows_is : rows_after facts t.rows call good ≡ changed_rows facts t.rows call good = rw (row, makes, ends) refl in
-        changed r once (keeps makes)
+        changed r (keeps facts call.fun allowed).once ((keeps facts call.fun allowed).no_text makes)
         (met (IsRow facts all) 0 given call.desc (changed_rows facts t.rows call good) (row_after facts call good r) (subst (AreRows (IsRow facts all) 0 given) rows_is are)
         (changed_there (row_after facts call good) (λ x. refl) t.rows call.desc r there));
   }

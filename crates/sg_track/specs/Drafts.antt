@@ -1,6 +1,5 @@
 -- Fields of a row before it is made, and the values that effects give.
-use Rattle.std.specs.Prelude.{ℕ, ◌^◌, ◌<◌, ◌==◌, ◌&&◌, not, Bool, true, if◌then◌else◌, List, [], ◌∷◌, length, slice_set}
-use Rattle.std.specs.List.{list_any}
+use Rattle.std.specs.Prelude.{ℕ, ◌^◌, ◌<◌, if◌then◌else◌, List, [], ◌∷◌, length, slice_set}
 use Rattle.sg_base.specs.declared.value.Value.{Value}
 use Rattle.sg_base.specs.declared.value.Value.TheVariants.{Word, Text}
 use Rattle.sg_base.specs.declared.call.Call.{Call}
@@ -24,11 +23,6 @@ blank_draft f = if f.text then Blank else Number 0
 -- the same as a value
 abbrev pub empty_shape : FieldShape → Value
 empty_shape f = if f.text then Text [] else Word 0
-
--- effects set no field twice
-abbrev pub sets_once : List (ℕ × Effect) → Bool
-sets_once [] = true
-sets_once (e ∷ es) = not (list_any (λ other. other.0 == e.0) es) && sets_once es
 
 -- a value is a number of its type
 abbrev pub IsNumber : Value → Type 0

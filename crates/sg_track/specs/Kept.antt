@@ -2,6 +2,7 @@
 use Rattle.std.specs.Prelude.{ℕ, ◌≡◌, ◌+◌, ◌-◌, ◌<◌, ◌==◌, ◌&&◌, ◌||◌, not, Bool, true, if◌then◌else◌, List, [], ◌∷◌, length, map, slice_get, slice_index_or, vec_capacity, vec_len}
 use Rattle.std.specs.declared.option.Option.{Option}
 use Rattle.std.specs.Option.{is_some}
+use Rattle.sg_base.specs.Lists.{Each}
 use Rattle.sg_facts.specs.declared.row.Row.{Row}
 use Rattle.sg_facts.specs.Track.{is_ancestor, row_at}
 use Rattle.sg_track.specs.declared.room.RowRoom.{RowRoom}
@@ -26,11 +27,6 @@ pub record Ascends (kept : List Kept) : Type 0 where
 pub record HasRow (kept : List Kept) (at id : ℕ) : Type 0 where
   pub within : at < length kept
   pub there : row_at (rows_of kept) id ≡ slice_get (rows_of kept) at
-
--- each kept row meets a condition
-abbrev pub Each : (Kept → Type 0) → List Kept → Type 0
-Each P [] = Unit {0}
-Each P (k ∷ kept) = P k × Each P kept
 
 -- each count is the number that is told of the row's id
 abbrev pub Counts : (ℕ → ℕ) → List Kept → Type 0

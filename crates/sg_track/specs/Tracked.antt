@@ -6,13 +6,11 @@ use Rattle.sg_base.specs.declared.reply.Reply.{Reply}
 use Rattle.sg_base.specs.declared.reply.Reply.TheVariants.{Ok, Refused}
 use Rattle.sg_facts.specs.declared.row.Row.{Row}
 use Rattle.sg_facts.specs.Facts.{Facts, fun_at, takes_parent}
-use Rattle.sg_facts.specs.Allowed.{is_text_field}
+use Rattle.sg_facts.specs.Allowed.{is_allowed}
 use Rattle.sg_facts.specs.Object.{Object}
 use Rattle.sg_facts.specs.Sound.{AreRows, IsSound}
-use Rattle.sg_facts.specs.declared.shape.Effect.{Effect}
-use Rattle.std.specs.List.{list_all}
 use Rattle.sg_facts.specs.Track.{empty_field, is_ancestor, is_live, new_row, row_after, row_at, rows_after}
-use Rattle.sg_track.specs.Drafts.{EachNew, IsNumber, IsValue, sets_once}
+use Rattle.sg_track.specs.Drafts.{EachNew, IsNumber, IsValue}
 
 -- the rows in ascending ids, how many ids were given, and for how many more rows there is room
 pub record Tracked : Type 0 where
@@ -45,17 +43,18 @@ changed_rows facts rows call good = map (λ r. if r.id == call.desc then row_aft
 abbrev pub left_rows : Bool → List Row → ℕ → List Row
 left_rows subtree rows id = filter (λ r. not ((r.id == id) || (subtree && is_ancestor rows id r.id))) rows
 
--- there is a place for what an Ok of a creation makes: room for its row, a parent that is 0 or live, the next id as its
--- descriptor, and at most 8 fields
+-- there is a place for what an Ok of a creation makes: room for its row, a parent that is 0 or live, and the next id as
+-- its descriptor
 pub record HasPlace (facts : Facts) (t : Tracked) (call : Call) (good : Good) : Type 0 where
   pub room : 1 ≤ t.spare
   pub parent : takes_parent (fun_at facts.funs call.fun) ≡ true → ((call.desc == 0) || is_live t.rows call.desc) ≡ true
   pub next : good.desc ≡ t.given + 1
-  pub few : length facts.fields ≤ 8
 
--- an Ok of a creation may be tracked: there is a place for its row, and its fields come to numbers of their type or texts
+-- an Ok of a creation may be tracked: there is a place for its row, and its fields, at most 8, come to numbers of their
+-- type or texts
 pub record MayMake (facts : Facts) (t : Tracked) (call : Call) (good : Good) : Type 0 where
   pub place : HasPlace facts t call good
+  pub few : length facts.fields ≤ 8
   pub values : (fun_at facts.funs call.fun).query ≡ false → EachNew IsValue call good (fun_at facts.funs call.fun).effects (map empty_field facts.fields)
 
 -- an Ok of a function that changes its row may be tracked: the fields that it sets come to numbers of their type
@@ -73,14 +72,9 @@ abbrev pub MayTrack : Facts → Tracked → Call → Reply → Type 0
 MayTrack facts t call (Ok good) = MayTrackOk facts t call good
 MayTrack facts t call (Refused code) = Unit {0}
 
--- effects set no text
-abbrev pub sets_no_text : Facts → List (ℕ × Effect) → Bool
-sets_no_text facts effects = list_all (λ e. not (is_text_field facts.fields e.0)) effects
-
--- an Ok may be tracked where the rows after it are a sound object's, its function sets no field twice and, unless it makes
--- a descriptor, no text
+-- an Ok of a service of an allowed shape may be tracked where the rows after it are a sound object's and, for a creation,
+-- there is a place for its row
 abbrev pub TracksSound : Facts → Tracked → Call → Good → Object → Type 0
 TracksSound facts t call good o =
-    IsSound facts o → o.rows ≡ rows_after facts t.rows call good → sets_once (fun_at facts.funs call.fun).effects ≡ true
-    → ((fun_at facts.funs call.fun).creation ≡ false → sets_no_text facts (fun_at facts.funs call.fun).effects ≡ true)
+    is_allowed facts ≡ true → IsSound facts o → o.rows ≡ rows_after facts t.rows call good
     → ((fun_at facts.funs call.fun).creation ≡ true → HasPlace facts t call good) → MayTrackOk facts t call good

@@ -2,7 +2,7 @@
 //! memory.
 //!
 //! - `tracker`: the rows, and what a call makes of them (`Tracker`)
-//! - `kept`: a row as the tracker keeps it (`KeptRow`)
+//! - `kept`: a row with what is kept beside it
 //! - `make`, `draft`, `room`: the row that a creation makes, in the room that was taken for it; `words`: the words that
 //!   other functions set in place
 //! - `places`: where a row stands; `tally`: the number of children beside each row; `subtree`: the end of a row with all
@@ -23,6 +23,5 @@ mod tests;
 mod tracker;
 mod words;
 
-pub use kept::KeptRow;
 pub use laws::sound_oks_are_tracked;
 pub use tracker::Tracker;

@@ -4,28 +4,27 @@ ghost use Rattle.sg_facts.specs.Facts.{fun_at, fun_of_shape, takes_parent};
 ghost use Rattle.sg_facts.specs.Track.{empty_field, fields_after, new_row};
 ghost use Rattle.sg_track.specs.Drafts.{EachNew, IsValue, blank_draft, empty_shape};
 
-use crate::KeptRow;
 use crate::draft::{Draft, draft_each};
 use crate::room::RowRoom;
-use sg_base::{Call, Good, Value};
-use sg_facts::{FieldShape, FunShape, Interface, Kind};
+use sg_base::{Call, Good};
+use sg_facts::{FieldShape, Fields, FunShape, Interface, Kind, Row};
 
 /// The row that an Ok of a creation makes, in the room for it.
-pub(crate) fn made_row(interface: &Interface, call: &Call, good: &Good, room: RowRoom) -> KeptRow
+pub(crate) fn made_row(interface: &Interface, call: &Call, good: &Good, room: RowRoom) -> Row
     requires few { length interface.now.facts.fields ≤ 8 }
     requires values { EachNew IsValue call.now good.now (fun_at interface.now.facts.funs call.now.fun).effects (map empty_field interface.now.facts.fields) }
     ensures { result ≡ new_row interface.now.facts call.now good.now }
 {
     let fun = interface.fun(call.fun);
-    let values = made_values(interface.shape.fields, &fun, call, good, room);
+    let fields = made_fields(interface.shape.fields, &fun, call, good, room);
     let parent = if takes_parent(&fun) { call.desc } else { 0 };
-    KeptRow {
+    Row {
         id: good.desc,
         made: call.fun,
         creator: call.client,
         parent,
         state: fun.leaves.state_after(call.fun, call.fun),
-        values,
+        fields,
     }
 }
 
@@ -37,16 +36,16 @@ fn takes_parent(fun: &FunShape) -> bool
 }
 
 // The fields of the row that a creation makes.
-fn made_values(
+fn made_fields(
     fields: &[FieldShape],
     fun: &FunShape,
     call: &Call,
     good: &Good,
     room: RowRoom,
-) -> Vec<Value>
+) -> Fields
     requires few { length fields.now ≤ 8 }
     requires values { EachNew IsValue call.now good.now (fun_of_shape fun.now).effects (map empty_shape fields.now) }
-    ensures { result.items ≡ fields_after call.now good.now (fun_of_shape fun.now).effects (map empty_shape fields.now) }
+    ensures { result ≡ fields_after call.now good.now (fun_of_shape fun.now).effects (map empty_shape fields.now) }
 {
     let mut drafts = blank_drafts(fields);
     let count = fields.len();

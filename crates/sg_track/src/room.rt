@@ -30,9 +30,9 @@ impl RowRoom {
     }
 
     /// The fields as they were drafted, without memory.
-    pub(crate) fn fill(self, drafts: &[Draft], call: &Call) -> Vec<Value>
+    pub(crate) fn fill(self, drafts: &[Draft], call: &Call) -> Fields
         requires { length drafts.now ≤ 8 }
-        ensures { result.items ≡ map (drafted call.now) drafts.now }
+        ensures { result ≡ map (drafted call.now) drafts.now }
     {
         let RowRoom {
             mut values,
@@ -45,7 +45,7 @@ impl RowRoom {
                 None => unreachable!(),
             }
         }
-        values
+        Fields::from_vec(values)
     }
 }
 

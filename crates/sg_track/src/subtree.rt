@@ -1,6 +1,7 @@
 // The end of a row with all below it.
 ghost use Rattle.std.specs.Prelude.{◌≡◌, ◌<◌, ◌≤◌, ℕ, filter, length, not, vec_capacity, vec_len};
-ghost use Rattle.sg_track.specs.Kept.{Ascends, Counts, Each, IsTold, TellsAt, ends_below, rows_of};
+ghost use Rattle.sg_base.specs.Lists.{Each};
+ghost use Rattle.sg_track.specs.Kept.{Ascends, Counts, IsTold, TellsAt, ends_below, rows_of};
 
 use crate::kept::Kept;
 use crate::places::place_of;

@@ -1,6 +1,7 @@
 // The number of children that is kept beside each row.
 ghost use Rattle.std.specs.Prelude.{◌≡◌, ◌+◌, ◌<◌, ◌^◌, ℕ, vec_capacity, vec_len};
-ghost use Rattle.sg_track.specs.Kept.{Ascends, Counts, Each, children_of, less_at, more_at, others_of, rows_of};
+ghost use Rattle.sg_base.specs.Lists.{Each};
+ghost use Rattle.sg_track.specs.Kept.{Ascends, Counts, children_of, less_at, more_at, others_of, rows_of};
 
 use crate::kept::Kept;
 use crate::places::{parent_of, place_of};

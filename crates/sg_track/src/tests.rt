@@ -166,7 +166,7 @@ fn keeps_a_tree(rt: HostRuntime) -> Result<(), Fail> {
     match tracker.row(4) {
         Some(row) => {
             assert_eq!(rt; (row.id, row.made, row.creator), (4, 1, 7));
-            assert_eq!(rt; (row.parent, row.state, row.fields().len()), (2, 1, 0));
+            assert_eq!(rt; (row.parent, row.state, row.fields.len()), (2, 1, 0));
         }
         None => panic!(rt; "no 4"),
     }

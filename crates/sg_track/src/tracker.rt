@@ -5,15 +5,14 @@ ghost use Rattle.sg_facts.specs.Object.{given_after};
 ghost use Rattle.sg_facts.specs.Track.{ancestors, has_child, row_at, rows_after, track};
 ghost use Rattle.sg_track.specs.Tracked.{AreTracked, MayChange, MayMake, MayTrack, MayTrackOk, changed_rows, left_rows, made_rows, spare_after};
 
-use crate::KeptRow;
-use crate::kept::Kept;
+use crate::kept::{Kept, change_row};
 use crate::make::made_row;
 use crate::places::{ancestors_in, has_child, place_of};
 use crate::room::RowRoom;
 use crate::subtree::{close_up, mark_below};
 use crate::tally::{count_child, discount_row};
 use sg_base::{Call, Good, IdList, NoMemory, Reply};
-use sg_facts::{Interface, Tables};
+use sg_facts::{Interface, Row, Tables};
 use std::alloc::Global;
 use std::marker::Model;
 
@@ -148,12 +147,12 @@ impl Tracker {
         ensures spare { self.new.spare ≡ self.old.spare }
     {
         if let Some(place) = place_of(self.kept.as_slice(), call.desc) {
-            self.kept[place].row.change(interface, call, good);
+            change_row(&mut self.kept[place].row, interface, call, good);
         }
     }
 
     /// The row of an id; None exactly where no live row has the id.
-    pub fn row(&self, id: u64) -> Option<&KeptRow>
+    pub fn row(&self, id: u64) -> Option<&Row>
         ensures { option_copied result ≡ row_at self.now.rows id }
     {
         match place_of(self.kept.as_slice(), id) {

@@ -5,7 +5,7 @@ ghost use Rattle.sg_facts.specs.Track.{arg_at, effect_of, field_at, fields_after
 ghost use Rattle.sg_track.specs.Drafts.{EachNew, IsNumber};
 
 use sg_base::{Call, Good, Value};
-use sg_facts::Effect;
+use sg_facts::{Effect, Fields};
 
 /// The number in a value; 0 for a text.
 pub(crate) fn word_of(value: &Value) -> u64
@@ -38,29 +38,27 @@ pub(crate) fn first_word(good: &Good) -> u64
 }
 
 /// Does to the fields of a row what effects do, where these come to numbers alone. It takes no memory.
-pub(crate) fn set_words(values: &mut [Value], effects: &[(u8, Effect)], call: &Call, good: &Good)
-    requires { EachNew IsNumber call.now good.now (map (λ p. (p.0, p.1)) effects.now) values.old }
-    ensures len { length values.new ≡ length values.old }
-    ensures set { values.new ≡ fields_after call.now good.now (map (λ p. (p.0, p.1)) effects.now) values.old }
+pub(crate) fn set_words(fields: &mut Fields, effects: &[(u8, Effect)], call: &Call, good: &Good)
+    requires { EachNew IsNumber call.now good.now (map (λ p. (p.0, p.1)) effects.now) fields.old }
+    ensures { fields.new ≡ fields_after call.now good.now (map (λ p. (p.0, p.1)) effects.now) fields.old }
 {
     match effects {
         [] => {}
         [(field, effect), rest @ ..] => {
-            set_word(values, usize::from(*field), *effect, call, good);
-            set_words(values, rest, call, good)
+            set_word(fields, usize::from(*field), *effect, call, good);
+            set_words(fields, rest, call, good)
         }
     }
 }
 
 // Does to a field what an effect does; nothing where there is no such field.
-fn set_word(values: &mut [Value], at: usize, effect: Effect, call: &Call, good: &Good)
-    requires { at < length values.old → IsNumber (effect_of call.now good.now effect (field_at values.old at)) }
-    ensures len { length values.new ≡ length values.old }
-    ensures set { values.new ≡ slice_set values.old at (effect_of call.now good.now effect (field_at values.old at)) }
+fn set_word(fields: &mut Fields, at: usize, effect: Effect, call: &Call, good: &Good)
+    requires { at < length fields.old → IsNumber (effect_of call.now good.now effect (field_at fields.old at)) }
+    ensures { fields.new ≡ slice_set fields.old at (effect_of call.now good.now effect (field_at fields.old at)) }
 {
-    if at < values.len() {
-        let word = new_word(&values[at], effect, call, good);
-        values[at] = Value::Word(word);
+    if at < fields.len() {
+        let word = new_word(&fields.as_slice()[at], effect, call, good);
+        fields.set(at, Value::Word(word));
     }
 }
 

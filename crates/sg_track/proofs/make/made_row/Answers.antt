@@ -8,8 +8,8 @@ use Rattle.sg_track.proofs.DraftLists.{empty_fields}
 use Rattle.sg_track.proofs.make.made_row.Goals as goal
 use Rattle.sg_track.proofs.make.made_row.Goals.{then-takes_parent, else-takes_parent}
 
-pub made_values-values-requires-clause-values : goal.made_values-values-requires-clause-values
-made_values-values-requires-clause-values c =
+pub made_fields-fields-requires-clause-values : goal.made_fields-fields-requires-clause-values
+made_fields-fields-requires-clause-values c =
     let begun = sym (empty_fields c.interface.inside.shape.fields.now) ∙ ap (λ i. map empty_field i.facts.fields) c.interface.view_is in
     subst (λ fields. EachNew IsValue c.args.call.now c.args.good.now (fun_of_shape c.fun-fun.result).effects fields) (sym begun)
     (subst (λ f. EachNew IsValue c.args.call.now c.args.good.now f.effects (map empty_field c.args.interface.now.facts.fields)) (sym c.fun-fun.ensures) c.requires.values)
@@ -19,7 +19,7 @@ returns c =
     let call = c.args.call.now in
     let f = fun_at c.args.interface.now.facts.funs call.fun in
     let begun = sym (empty_fields c.interface.inside.shape.fields.now) ∙ ap (λ i. map empty_field i.facts.fields) c.interface.view_is in
-    let fields_is = c.made_values-values.ensures
+    let fields_is = c.made_fields-fields.ensures
     ∙ ap (λ g. fields_after call c.args.good.now g.effects (map empty_shape c.interface.inside.shape.fields.now)) c.fun-fun.ensures
     ∙ ap (fields_after call c.args.good.now f.effects) begun in
     let state_is = c.state_after.ensures ∙ ap (λ g. left_by g.leaves call.fun call.fun) c.fun-fun.ensures in

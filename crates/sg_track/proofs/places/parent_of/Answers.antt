@@ -6,5 +6,5 @@ use Rattle.sg_track.proofs.places.parent_of.Goals as goal
 
 pub returns-in-Some : goal.returns-in-Some
 returns-in-Some c =
-    ap (λ r. r.parent) c.row.view_is ∙ ap (λ k. k.row.parent) (sym c.index-kept-place.is)
+    ap (λ k. k.row.parent) (sym c.index-kept-place.is)
     ∙ ap parent_in (sym (row_read c.args.kept.now c.in-Some.place c.args.id c.index-kept-place.result c.index-kept-place.result c.in-Some.ensures c.index-kept-place.is))

@@ -1,10 +1,9 @@
 -- A row ends with its parent.
-use Rattle.std.proofs.Common.{◌≡◌, ◌∙◌, ap, sym, subst, get_or}
+use Rattle.std.proofs.Common.{◌≡◌, ap, sym, subst, get_or}
 use Rattle.std.specs.Prelude.{not}
 use Rattle.std.proofs.lemmas.List.{get_or_default}
 use Rattle.sg_track.specs.declared.kept.Kept.{Kept}
-use Rattle.sg_facts.specs.Track.{row_at}
-use Rattle.sg_track.specs.Kept.{HasRow, TellsAt, rows_of}
+use Rattle.sg_track.specs.Kept.{TellsAt}
 use Rattle.sg_track.proofs.Ends.{lower_at, same_test, tells_below, tells_child, tells_orphan, tells_root}
 use Rattle.sg_track.proofs.subtree.ends_below.Goals as goal
 
@@ -15,10 +14,7 @@ returns-then-row-id-2 c =
     let r = (get_or kept c.args.at k).row in
     let is : (d : Kept) → r ≡ (get_or kept c.args.at d).row = λ d. ap (λ x. x.row) (get_or_default kept c.args.at k d c.requires.within) in
     let at = tells_child c.requires.ascends.most kept c.requires.ascends.tracked c.args.at c.args.id c.requires.within r is in
-    let parent = ap (λ x. x.parent) c.row.view_is in
-    let id = ap (λ x. x.id) c.row.view_is in
-    subst (TellsAt c.args.id kept c.args.at) (sym (same_test c.row.inside.parent c.args.id c.if-row-id-2.true))
-    (at (λ same. c.if-row-id.false (id ∙ same)) (λ none. c.if-row-ne0.true (parent ∙ none)) (sym parent ∙ c.if-row-id-2.true))
+    subst (TellsAt c.args.id kept c.args.at) (sym (same_test r.parent c.args.id c.if-row-id-2.true)) (at c.if-row-id.false c.if-row-ne0.true c.if-row-id-2.true)
 
 pub returns-in-Some : goal.returns-in-Some
 returns-in-Some c =
@@ -27,11 +23,8 @@ returns-in-Some c =
     let r = (get_or kept c.args.at k).row in
     let is : (d : Kept) → r ≡ (get_or kept c.args.at d).row = λ d. ap (λ x. x.row) (get_or_default kept c.args.at k d c.requires.within) in
     let at = tells_below c.requires.ascends.most kept c.requires.ascends.tracked c.args.at c.args.id c.requires.within r is in
-    let parent = ap (λ x. x.parent) c.row.view_is in
-    let id = ap (λ x. x.id) c.row.view_is in
-    let has = subst (HasRow kept c.in-Some.place) parent c.in-Some.ensures in
     subst (TellsAt c.args.id kept c.args.at) (ap (λ x. x.ends) c.index-kept-place.is)
-    (at (λ same. c.if-row-id.false (id ∙ same)) (λ none. c.if-row-ne0.true (parent ∙ none)) c.in-Some.place c.index-kept-place.result has c.index-kept-place.is
+    (at c.if-row-id.false c.if-row-ne0.true c.in-Some.place c.index-kept-place.result c.in-Some.ensures c.index-kept-place.is
     (lower_at 0 c.requires.ascends.most kept c.args.at k c.requires.ascends.tracked c.requires.within) c.requires.before)
 
 pub returns-in-None : goal.returns-in-None
@@ -41,10 +34,7 @@ returns-in-None c =
     let r = (get_or kept c.args.at k).row in
     let is : (d : Kept) → r ≡ (get_or kept c.args.at d).row = λ d. ap (λ x. x.row) (get_or_default kept c.args.at k d c.requires.within) in
     let at = tells_orphan c.requires.ascends.most kept c.requires.ascends.tracked c.args.at c.args.id c.requires.within r is in
-    let parent = ap (λ x. x.parent) c.row.view_is in
-    let id = ap (λ x. x.id) c.row.view_is in
-    at (λ same. c.if-row-id.false (id ∙ same)) (λ none. c.if-row-ne0.true (parent ∙ none)) (λ same. c.if-row-id-2.false (parent ∙ same))
-    (ap (row_at (rows_of kept)) (sym parent) ∙ c.in-None.ensures)
+    at c.if-row-id.false c.if-row-ne0.true c.if-row-id-2.false c.in-None.ensures
 
 pub returns-else-row-ne0 : goal.returns-else-row-ne0
 returns-else-row-ne0 c =
@@ -53,7 +43,4 @@ returns-else-row-ne0 c =
     let r = (get_or kept c.args.at k).row in
     let is : (d : Kept) → r ≡ (get_or kept c.args.at d).row = λ d. ap (λ x. x.row) (get_or_default kept c.args.at k d c.requires.within) in
     let at = tells_root c.requires.ascends.most kept c.requires.ascends.tracked c.args.at c.args.id c.requires.within r is in
-    let parent = ap (λ x. x.parent) c.row.view_is in
-    let id = ap (λ x. x.id) c.row.view_is in
-    subst (λ b. TellsAt c.args.id kept c.args.at (not b)) (sym (same_test c.row.inside.parent 0 c.if-row-ne0.false))
-    (at (λ same. c.if-row-id.false (id ∙ same)) (sym parent ∙ c.if-row-ne0.false))
+    subst (λ b. TellsAt c.args.id kept c.args.at (not b)) (sym (same_test r.parent 0 c.if-row-ne0.false)) (at c.if-row-id.false c.if-row-ne0.false)

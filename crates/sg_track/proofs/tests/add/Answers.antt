@@ -11,8 +11,8 @@ track_ok-requires c = record {
       room = c.requires.room;
       parent = λ takes. c.requires.stands;
       next = ap (λ n. n + 1) (ap (λ t. t.given) c.tracker.view_is);
-      few = subst (λ fields. length fields ≤ 8) (sym c.requires.bare) (omega arith);
     };
+    few = subst (λ fields. length fields ≤ 8) (sym c.requires.bare) (omega arith);
     values = λ row. none_new IsValue (record { client = 7; seq = 1; fun = 1; desc = c.args.parent; args = c.new.result })
         (record { desc = c.tracker.inside.given + 1; words = c.new-2.result; bytes = c.new-3.result }) _ _ c.requires.still;
   };

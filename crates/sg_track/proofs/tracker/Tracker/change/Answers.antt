@@ -15,7 +15,7 @@ invariant_of-self c =
     let id = c.args.call.now.desc in
     let has = subst (λ kept. HasRow kept c.in-Some.place id) c.as_slice.ensures.value c.in-Some.ensures in
     let are = kept_changed change id (λ r. refl) (λ r. refl) s.given s.kept.items c.in-Some.place _ c.index_mut.result.now
-    (record { tracked = c.self.invariant.tracked; counted = c.self.invariant.counted }) has c.index_mut.ensures.value c.change.ensures refl in
+    (record { tracked = c.self.invariant.tracked; counted = c.self.invariant.counted }) has c.index_mut.ensures.value c.change_row.ensures refl in
     record { tracked = are.tracked; counted = are.counted; room = c.self.invariant.room }
 
 pub returns-in-Some-clause-rows : goal.returns-in-Some-clause-rows
@@ -24,7 +24,7 @@ returns-in-Some-clause-rows c =
     let change = row_after c.args.interface.now.facts c.args.call.now c.args.good.now in
     let id = c.args.call.now.desc in
     let has = subst (λ kept. HasRow kept c.in-Some.place id) c.as_slice.ensures.value c.in-Some.ensures in
-    changed HasLowerParent change id s.given s.kept.items c.in-Some.place _ c.index_mut.result.now c.index_mut.result.now c.self.invariant.tracked has c.index_mut.ensures.value c.change.ensures
+    changed HasLowerParent change id s.given s.kept.items c.in-Some.place _ c.index_mut.result.now c.index_mut.result.now c.self.invariant.tracked has c.index_mut.ensures.value c.change_row.ensures
     ∙ ap (λ t. map (λ r. if r.id == id then change r else r) t.rows) c.self.view_is
 
 pub returns-in_default-clause-rows : goal.returns-in_default-clause-rows

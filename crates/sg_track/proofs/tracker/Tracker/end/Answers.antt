@@ -1,7 +1,8 @@
 -- What is left when a row ends.
 use Rattle.std.proofs.Common.{◌≡◌, ◌∙◌, ap, subst, sym, arith, false, not, drop, filter, length}
 use Rattle.sg_facts.specs.Track.{is_ancestor, row_at}
-use Rattle.sg_track.specs.Kept.{Counts, Each, HasRow, ends_below, others_of, rows_of}
+use Rattle.sg_base.specs.Lists.{Each}
+use Rattle.sg_track.specs.Kept.{Counts, HasRow, ends_below, others_of, rows_of}
 use Rattle.sg_track.specs.Tracked.{AreTracked, left_rows}
 use Rattle.sg_track.proofs.DraftLists.{front_again}
 use Rattle.sg_track.proofs.Ends.{left_all, removed, rows-left}

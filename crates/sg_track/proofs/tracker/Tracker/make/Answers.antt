@@ -1,6 +1,6 @@
 -- The new id is above all that are there, and above its parent.
 use Rattle.std.proofs.Common.{◌≡◌, ◌<◌, ◌+◌, ◌^◌, ◌∙◌, ap, subst, sym, refl, true, false, is_some, arith}
-use Rattle.sg_track.specs.Kept.{Counts, children_of, more_at, rows_of}
+use Rattle.sg_track.specs.Kept.{children_of, rows_of}
 use Rattle.sg_track.specs.Tracked.{AreTracked, HasLowerParent}
 use Rattle.sg_facts.proofs.RowLists.{wider}
 use Rattle.sg_track.proofs.Counts.{each_as, few_children}
@@ -23,8 +23,7 @@ invariant_of-self c =
     let lower : HasLowerParent c.made_row-row.result = subst HasLowerParent (sym c.made_row-row.ensures)
     (below_next c.args.interface.now.facts c.args.self.now c.args.call.now c.args.good.now c.requires.place (subst (λ t. AreTracked t.given t.rows) c.self.view_is c.self.invariant.tracked)) in
     let rows = rows_of s.kept.items in
-    let counts = subst (λ parent. Counts (more_at parent (children_of rows)) c.count_child.new.kept.items) (ap (λ r. r.parent) c.row.view_is)
-    (c.count_child.ensures.counts (children_of rows) c.self.invariant.counted) in
+    let counts = c.count_child.ensures.counts (children_of rows) c.self.invariant.counted in
     let are = subst (AreKept c.made_row-row.result.id) (sym c.push_reserved.ensures.items)
     (kept_more s.given s.kept.items c.count_child.new.kept.items (record { row = c.made_row-row.result; children = 0; ends = false }) c.self.invariant.tracked c.count_child.ensures.rows
     counts next lower refl) in

@@ -5,7 +5,7 @@ use Rattle.sg_facts.specs.Facts.{fun_of_shape}
 use Rattle.sg_facts.specs.Track.{fields_after}
 use Rattle.sg_track.specs.Drafts.{EachNew, IsValue, blank_draft, drafted}
 use Rattle.sg_track.proofs.DraftLists.{blank_values, front_again}
-use Rattle.sg_track.proofs.make.made_values.Goals as goal
+use Rattle.sg_track.proofs.make.made_fields.Goals as goal
 
 pub draft_each-requires : goal.draft_each-requires
 draft_each-requires c =

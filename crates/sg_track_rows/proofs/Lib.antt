@@ -1,0 +1,4 @@
+pub mod Carried
+pub mod LockCalls
+pub mod PageCalls
+pub mod Services
