@@ -60,8 +60,9 @@ pub fn played_of(
     ensures run { IfOk result (λ p. IsRunOf iface.now calls.now p.0) }
     ensures report { IfOk result (λ p. p.1 ≡ report_of lock_facts p.0 false) }
 {
+    let history = play(alloc, iface, calls)?;
     let ended = Ended {
-        history: play(alloc, iface, calls)?,
+        history,
         trace: plain_trace(alloc)?,
         ends: ends_of(alloc, calls.is_empty())?,
     };

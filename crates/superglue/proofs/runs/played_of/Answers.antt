@@ -12,10 +12,9 @@ returns-clause-run c =
     let history = c.in_ok-history.history.items in
     let ends = c.in_ok-ends_of.ensures ∙ ap (λ b. cond b [] ((1, Done) ∷ [])) c.is_empty.ensures in
     subst (IsRunOf i calls) (sym c.new.ensures)
-    (subst (λ h. IsRunOf i calls (record { history = h; trace = c.in_ok-plain_trace.field-0; ends = c.in_ok-ends_of.field-0 })) (sym c.history.view_is)
     (record {
       legal = c.in_ok-history.ensures.legal;
       calls = c.in_ok-history.ensures.calls;
       ends = are_ends i.facts calls history c.in_ok-ends_of.field-0 c.in_ok-history.ensures.calls ends;
       trace = c.in_ok-plain_trace.ensures;
-    }))
+    })
