@@ -8,8 +8,8 @@ use Rattle.sg_facts.specs.Facts.{Facts, Fun, fun_at}
 use Rattle.sg_facts.specs.Fields.{number_of}
 use Rattle.sg_facts.specs.Interface.{declares}
 use Rattle.sg_grammar.specs.declared.tree.Statement.{Statement}
-use Rattle.sg_flaws.specs.Faults.{interface_of}
-use Rattle.sg_flaws.specs.Says.{has_proto}
+use Rattle.sg_check_statements.specs.Faults.{interface_of}
+use Rattle.sg_check_statements.specs.Says.{has_proto}
 
 first_bit : (b : Bool) (rest : ℕ) → (((if b then 1 else 0) + 2 * rest) % 2 == 1) ≡ b
 first_bit true rest = let one : (1 + 2 * rest) % 2 ≡ 1 = omega arith in rw one

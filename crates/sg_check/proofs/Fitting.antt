@@ -19,13 +19,13 @@ use Rattle.sg_grammar.specs.declared.tree.Ret.{Ret}
 use Rattle.sg_grammar.specs.declared.tree.Statement.{Statement}
 use Rattle.sg_grammar.specs.declared.tree.Statement.TheVariants.{One, Two, Proto}
 use Rattle.sg_grammar.specs.declared.tree.Tree.{Tree}
-use Rattle.sg_flaws.specs.declared.fault.CheckKind.TheVariants.{NoCreation, NoWalk, UnknownFunction, Unreached, WrongFlag}
-use Rattle.sg_flaws.specs.Faults.{IsFirst, NoneOf, interface_of}
-use Rattle.sg_flaws.specs.Flaws.{HasNoWalk, IsProtoWhere, IsUnreached, fit_flags, fit_leaves, flaw_if, fun_named, is_declared, leaves_another, names_two, or_else, unknown, wrong_flag}
-use Rattle.sg_flaws.specs.Names.{has_name}
-use Rattle.sg_flaws.specs.Says.{has_proto, is_proto, is_two, number_from, number_of, says, says_of}
-use Rattle.sg_flaws.specs.Stages.{IsClear}
-use Rattle.sg_flaws.proofs.Firsts.{none_at_all, none_more}
+use Rattle.sg_check_statements.specs.declared.fault.CheckKind.TheVariants.{NoCreation, NoWalk, UnknownFunction, Unreached, WrongFlag}
+use Rattle.sg_check_statements.specs.Faults.{IsFirst, NoneOf, interface_of}
+use Rattle.sg_check_statements.specs.Flaws.{HasNoWalk, IsProtoWhere, IsUnreached, fit_flags, fit_leaves, flaw_if, fun_named, is_declared, leaves_another, names_two, or_else, unknown, wrong_flag}
+use Rattle.sg_check_statements.specs.Names.{has_name}
+use Rattle.sg_check_statements.specs.Says.{has_proto, is_proto, is_two, number_from, number_of, says, says_of}
+use Rattle.sg_check_statements.specs.Stages.{IsClear}
+use Rattle.sg_check_statements.proofs.Firsts.{none_at_all, none_more}
 use Rattle.sg_check.specs.Candidates.{HasReach, HasWalks}
 use Rattle.sg_check.specs.Shapes.{all_differ, are_funs, is_fun, is_shape, leaves_fun}
 use Rattle.sg_check.proofs.Bits.{declared_one, one_declared}

@@ -7,9 +7,9 @@ use Rattle.sg_facts.specs.Facts.{facts_of, fun_at, fun_of_shape}
 use Rattle.sg_facts.specs.Fields.{number_of}
 use Rattle.sg_facts.specs.Interface.{Declared}
 use Rattle.sg_grammar.specs.declared.tree.Statement.{Statement}
-use Rattle.sg_flaws.specs.Faults.{interface_of}
-use Rattle.sg_flaws.specs.Says.{has_proto, says_of}
-use Rattle.sg_flaws.proofs.Judged.{same_pairs}
+use Rattle.sg_check_statements.specs.Faults.{interface_of}
+use Rattle.sg_check_statements.specs.Says.{has_proto, says_of}
+use Rattle.sg_check_statements.proofs.Judged.{same_pairs}
 
 -- one pair more is listed, or passed over
 module _ (p : ℕ × ℕ → Bool) (pairs : List (ℕ × ℕ)) (k : ℕ) (d : ℕ × ℕ) (within : k < length pairs) (old : List (ℕ × ℕ)) (are : old ≡ filter p (take k pairs)) where

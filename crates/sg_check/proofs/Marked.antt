@@ -6,9 +6,9 @@ use Rattle.std.specs.Str.{bytes_eq}
 use Rattle.sg_facts.specs.Facts.{Facts, Fun}
 use Rattle.sg_grammar.specs.declared.tree.Statement.{Statement}
 use Rattle.sg_grammar.specs.declared.tree.Statement.TheVariants.{One, Two, Proto}
-use Rattle.sg_flaws.specs.Faults.{IsFirst, NoneOf}
-use Rattle.sg_flaws.specs.Flaws.{IsProtoWhere, flaw_if}
-use Rattle.sg_flaws.specs.Says.{number_from, number_of}
+use Rattle.sg_check_statements.specs.Faults.{IsFirst, NoneOf}
+use Rattle.sg_check_statements.specs.Flaws.{IsProtoWhere, flaw_if}
+use Rattle.sg_check_statements.specs.Says.{number_from, number_of}
 use Rattle.sg_check.specs.Numbers.{has_number, marked}
 
 -- the number of a function is at most that of the last

@@ -17,7 +17,7 @@ use Rattle.std.proofs.lemmas.Option.{slice_get-get_or}
 use Rattle.sg_reach.proofs.Closure.{there}
 use Rattle.sg_reach.proofs.Marks.{itself, only}
 use Rattle.sg_reach.proofs.Sets.{length-led}
-use Rattle.sg_flaws.specs.Flaws.{HasNoWalk}
+use Rattle.sg_check_statements.specs.Flaws.{HasNoWalk}
 use Rattle.sg_check.specs.Candidates.{HasWalks}
 use Rattle.sg_check.specs.Numbers.{Gains, has_number}
 use Rattle.sg_check.specs.Reached.{AreStates, AreTriples}

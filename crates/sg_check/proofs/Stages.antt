@@ -18,15 +18,15 @@ use Rattle.sg_grammar.specs.declared.tree.Tree.{Tree}
 use Rattle.sg_reach.specs.declared.place.Triple.{Triple}
 use Rattle.sg_reach.specs.Places.{IsReached}
 use Rattle.sg_reach.proofs.Reaching.{made_declared}
-use Rattle.sg_flaws.specs.declared.fault.CheckError.{CheckError}
-use Rattle.sg_flaws.specs.declared.fault.CheckError.TheVariants.{NoMemory, Fault}
-use Rattle.sg_flaws.specs.declared.fault.CheckKind.{CheckKind}
-use Rattle.sg_flaws.specs.declared.fault.CheckKind.TheVariants.{UnknownService, DuplicateName, UnknownFunction, BadParams, WrongFact, WrongFlag, WrongEffect, ForeignTransition, ForeignRecover, NoCreation, Unreached, NoWalk}
-use Rattle.sg_flaws.specs.Faults.{FirstOf, IsAccepted, IsFault, IsFirst, NoneOf, interface_of, rank}
-use Rattle.sg_flaws.proofs.Clear.{clear_more, each_statement}
-use Rattle.sg_flaws.specs.Flaws.{HasNoWalk, IsProtoWhere, IsUnreached}
-use Rattle.sg_flaws.specs.Says.{service_of}
-use Rattle.sg_flaws.specs.Stages.{IsFirstFault}
+use Rattle.sg_check_statements.specs.declared.fault.CheckError.{CheckError}
+use Rattle.sg_check_statements.specs.declared.fault.CheckError.TheVariants.{NoMemory, Fault}
+use Rattle.sg_check_statements.specs.declared.fault.CheckKind.{CheckKind}
+use Rattle.sg_check_statements.specs.declared.fault.CheckKind.TheVariants.{UnknownService, DuplicateName, UnknownFunction, BadParams, WrongFact, WrongFlag, WrongEffect, ForeignTransition, ForeignRecover, NoCreation, Unreached, NoWalk}
+use Rattle.sg_check_statements.specs.Faults.{FirstOf, IsAccepted, IsFault, IsFirst, NoneOf, interface_of, rank}
+use Rattle.sg_check_statements.proofs.Clear.{clear_more, each_statement}
+use Rattle.sg_check_statements.specs.Flaws.{HasNoWalk, IsProtoWhere, IsUnreached}
+use Rattle.sg_check_statements.specs.Says.{service_of}
+use Rattle.sg_check_statements.specs.Stages.{IsFirstFault}
 use Rattle.sg_check.specs.declared.candidate.Candidate.{Candidate}
 use Rattle.sg_check.specs.Answers.{IsThisFault}
 use Rattle.sg_check.specs.Candidates.{HasReach, HasWalks, IsCandidate}

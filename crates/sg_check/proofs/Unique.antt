@@ -8,11 +8,11 @@ use Rattle.sg_facts.specs.Facts.{Facts}
 use Rattle.sg_grammar.specs.declared.tree.Statement.{Statement}
 use Rattle.sg_grammar.specs.declared.tree.Statement.TheVariants.{One, Two, Proto}
 use Rattle.sg_grammar.specs.declared.tree.Tree.{Tree}
-use Rattle.sg_flaws.specs.declared.fault.CheckKind.{CheckKind}
-use Rattle.sg_flaws.specs.declared.fault.CheckKind.TheVariants.{UnknownService, DuplicateName, UnknownFunction, BadParams, WrongFact, WrongFlag, WrongEffect, ForeignTransition, ForeignRecover, NoCreation, Unreached, NoWalk}
-use Rattle.sg_flaws.specs.Faults.{FirstOf, IsFault, IsFirst, IsOf, interface_of, rank}
-use Rattle.sg_flaws.specs.Flaws.{HasNoWalk, IsProtoWhere, IsUnreached, bad_params, duplicate, foreign, no_creation, unknown, wrong_effect, wrong_fact, wrong_flag}
-use Rattle.sg_flaws.proofs.Clear.{one_service, same_kind}
+use Rattle.sg_check_statements.specs.declared.fault.CheckKind.{CheckKind}
+use Rattle.sg_check_statements.specs.declared.fault.CheckKind.TheVariants.{UnknownService, DuplicateName, UnknownFunction, BadParams, WrongFact, WrongFlag, WrongEffect, ForeignTransition, ForeignRecover, NoCreation, Unreached, NoWalk}
+use Rattle.sg_check_statements.specs.Faults.{FirstOf, IsFault, IsFirst, IsOf, interface_of, rank}
+use Rattle.sg_check_statements.specs.Flaws.{HasNoWalk, IsProtoWhere, IsUnreached, bad_params, duplicate, foreign, no_creation, unknown, wrong_effect, wrong_fact, wrong_flag}
+use Rattle.sg_check_statements.proofs.Clear.{one_service, same_kind}
 
 -- two places at which one list is split are one, or one is before the other
 two_splits : (before after before' after' : List Statement) (one other : Statement) → before ++ one ∷ after ≡ before' ++ other ∷ after'

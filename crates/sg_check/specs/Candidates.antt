@@ -5,9 +5,9 @@ use Rattle.sg_facts.specs.Fits.{IsReached}
 use Rattle.sg_facts.specs.Interface.{Declared}
 use Rattle.sg_facts.specs.Walks.{IsReachable}
 use Rattle.sg_grammar.specs.declared.tree.Tree.{Tree}
-use Rattle.sg_flaws.specs.Faults.{interface_of}
-use Rattle.sg_flaws.specs.Flaws.{HasNoWalk}
-use Rattle.sg_flaws.specs.Stages.{IsClear}
+use Rattle.sg_check_statements.specs.Faults.{interface_of}
+use Rattle.sg_check_statements.specs.Flaws.{HasNoWalk}
+use Rattle.sg_check_statements.specs.Stages.{IsClear}
 use Rattle.sg_check.specs.declared.candidate.Candidate.{Candidate}
 use Rattle.sg_check.specs.Reached.{AreTriples}
 use Rattle.sg_check.specs.Shapes.{is_shape}

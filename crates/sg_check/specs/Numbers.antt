@@ -5,8 +5,8 @@ use Rattle.std.specs.List.{list_any}
 use Rattle.sg_facts.specs.Facts.{Facts}
 use Rattle.sg_grammar.specs.declared.tree.Statement.{Statement}
 use Rattle.sg_grammar.specs.declared.tree.Statement.TheVariants.{One, Two, Proto}
-use Rattle.sg_flaws.specs.Flaws.{flaw_if}
-use Rattle.sg_flaws.specs.Says.{number_of}
+use Rattle.sg_check_statements.specs.Flaws.{flaw_if}
+use Rattle.sg_check_statements.specs.Says.{number_of}
 
 -- whether a number is among these
 abbrev pub has_number : List ℕ → ℕ → Bool

@@ -5,7 +5,7 @@ use Rattle.sg_facts.specs.Fits.{IsReached, needs_reach}
 use Rattle.sg_facts.specs.Interface.{Declared}
 use Rattle.sg_reach.specs.declared.place.Triple.{Triple}
 use Rattle.sg_reach.specs.Places.{IsReached as IsTripleOf}
-use Rattle.sg_flaws.specs.Flaws.{IsUnreached}
+use Rattle.sg_check_statements.specs.Flaws.{IsUnreached}
 use Rattle.sg_check.specs.Numbers.{has_number}
 
 -- these are all triples that descriptors can come to

@@ -5,7 +5,7 @@ use Rattle.sg_facts.specs.Fields.{number_of}
 use Rattle.sg_facts.specs.Interface.{Declared}
 use Rattle.sg_facts.specs.Walks.{IsReachable, begin_of, most_calls, restores}
 use Rattle.sg_reach.specs.declared.place.Triple.{Triple}
-use Rattle.sg_flaws.specs.Flaws.{HasNoWalk}
+use Rattle.sg_check_statements.specs.Flaws.{HasNoWalk}
 use Rattle.sg_check.specs.Numbers.{has_number}
 
 -- some walk restores a state with a set of fields of what a function made

@@ -2,12 +2,12 @@
 ghost use Rattle.std.specs.Prelude.{◌≡◌, ◌≤◌, ◌<◌, ◌^◌, length, map, filter, IfOk, codes};
 ghost use Rattle.sg_facts.specs.Facts.{facts_of, fun_at, fun_of_shape};
 ghost use Rattle.sg_facts.specs.Fields.{number_of};
-ghost use Rattle.sg_flaws.specs.Faults.{interface_of};
-ghost use Rattle.sg_flaws.specs.Says.{has_proto, says_of};
+ghost use Rattle.sg_check_statements.specs.Faults.{interface_of};
+ghost use Rattle.sg_check_statements.specs.Says.{has_proto, says_of};
 
 use sg_base::{NoMemory, PairList};
+use sg_check_statements::{Protos, says_of};
 use sg_facts::{FunShape, Interface, Shape};
-use sg_flaws::{Protos, says_of};
 use sg_grammar::Statement;
 use std::alloc::Global;
 

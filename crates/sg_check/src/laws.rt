@@ -2,8 +2,8 @@
 ghost use Rattle.std.specs.Prelude.{◌≡◌, ℕ, List};
 ghost use Rattle.sg_facts.specs.Facts.{Facts};
 ghost use Rattle.sg_grammar.specs.declared.tree.Tree.{Tree};
-ghost use Rattle.sg_flaws.specs.Faults.{IsFault};
-ghost use Rattle.sg_flaws.specs.declared.fault.CheckKind.{CheckKind};
+ghost use Rattle.sg_check_statements.specs.Faults.{IsFault};
+ghost use Rattle.sg_check_statements.specs.declared.fault.CheckKind.{CheckKind};
 
 /// Of a text at most one thing is first wrong, at one place.
 pub fn one_fault()

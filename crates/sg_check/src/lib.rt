@@ -8,7 +8,7 @@
 //! - `protos`: the first prototype of one of some functions; `numbers`: sets of function numbers
 //! - `laws`: laws of the definitions (`one_fault`)
 //!
-//! What a text may have wrong, kind by kind, and what it is to be accepted, is said in `sg_flaws`, in `specs/Flaws.antt` and
+//! What a text may have wrong, kind by kind, and what it is to be accepted, is said in `sg_check_statements`, in `specs/Flaws.antt` and
 //! `specs/Faults.antt`; what shapes a text may be checked against, here, in `specs/Shapes.antt`.
 #![tactic(auto)]
 
@@ -25,4 +25,4 @@ mod stuck;
 pub use accepted::Accepted;
 pub use checking::check;
 pub use laws::one_fault;
-pub use sg_flaws::{CheckError, CheckFault, CheckKind};
+pub use sg_check_statements::{CheckError, CheckFault, CheckKind};

@@ -1,12 +1,12 @@
 // The first prototype of one of some functions.
 ghost use Rattle.std.specs.Prelude.{◌≡◌, Some, MatchOption};
 ghost use Rattle.sg_facts.specs.Facts.{facts_of};
-ghost use Rattle.sg_flaws.specs.Faults.{IsFirst, NoneOf};
+ghost use Rattle.sg_check_statements.specs.Faults.{IsFirst, NoneOf};
 ghost use Rattle.sg_check.specs.Numbers.{marked};
 
 use crate::numbers::Numbers;
+use sg_check_statements::{Judge, first_flaw, number_of};
 use sg_facts::Shape;
-use sg_flaws::{Judge, first_flaw, number_of};
 use sg_grammar::Statement;
 
 /// Looks for prototypes of functions whose numbers are in a set.

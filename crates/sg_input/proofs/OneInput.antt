@@ -10,11 +10,11 @@ use Rattle.sg_grammar.specs.declared.error.ParseError.{ParseError}
 use Rattle.sg_grammar.specs.declared.tree.Tree.{Tree}
 use Rattle.sg_grammar.specs.Parses.{Parses}
 use Rattle.sg_grammar.proofs.Readings.{only_answer}
-use Rattle.sg_flaws.specs.Faults.{IsAccepted, interface_of}
-use Rattle.sg_verdict.specs.declared.outcome.Verdict.{Verdict}
-use Rattle.sg_verdict.specs.declared.outcome.Verdict.TheVariants.{Accepted as accepted, Refused as refused}
-use Rattle.sg_verdict.specs.Verdicts.{IsVerdict, accepted_line}
-use Rattle.sg_verdict.proofs.OneVerdict.{one_verdict}
+use Rattle.sg_check_statements.specs.Faults.{IsAccepted, interface_of}
+use Rattle.sg_diagnose.specs.declared.outcome.Verdict.{Verdict}
+use Rattle.sg_diagnose.specs.declared.outcome.Verdict.TheVariants.{Accepted as accepted, Refused as refused}
+use Rattle.sg_diagnose.specs.Verdicts.{IsVerdict, accepted_line}
+use Rattle.sg_diagnose.proofs.OneVerdict.{one_verdict}
 use Rattle.sg_script.specs.declared.fault.ScriptError.{ScriptError}
 use Rattle.sg_script.specs.declared.fault.ScriptError.TheVariants.{NoMemory as no_room, Fault}
 use Rattle.sg_script.specs.declared.fault.ScriptFault.{ScriptFault}

@@ -4,9 +4,9 @@ use Rattle.sg_facts.specs.Facts.{Facts}
 use Rattle.sg_facts.specs.Interface.{Declared}
 use Rattle.sg_grammar.specs.declared.tree.Tree.{Tree}
 use Rattle.sg_grammar.specs.Parses.{Parses}
-use Rattle.sg_flaws.specs.Faults.{IsAccepted}
-use Rattle.sg_verdict.specs.declared.outcome.Verdict.TheVariants.{Refused as refused}
-use Rattle.sg_verdict.specs.Verdicts.{IsVerdict}
+use Rattle.sg_check_statements.specs.Faults.{IsAccepted}
+use Rattle.sg_diagnose.specs.declared.outcome.Verdict.TheVariants.{Refused as refused}
+use Rattle.sg_diagnose.specs.Verdicts.{IsVerdict}
 use Rattle.sg_script.specs.declared.fault.ScriptError.TheVariants.{Fault}
 use Rattle.sg_script.specs.declared.fault.ScriptFault.{ScriptFault}
 use Rattle.sg_script.specs.declared.script.Script.{Script}

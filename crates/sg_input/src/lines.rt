@@ -3,8 +3,8 @@ ghost use Rattle.std.specs.Prelude.{◌≡◌, IfOk};
 ghost use Rattle.sg_input.specs.Lines.{kind_name, script_line};
 
 use sg_base::{Bytes, NoMemory};
+use sg_diagnose::{column_of, line_of};
 use sg_script::{ScriptFault, ScriptKind};
-use sg_verdict::{column_of, line_of};
 use std::alloc::Global;
 
 /// The line of an input without a line of `%%` alone.

@@ -2,8 +2,8 @@
 ghost use Rattle.std.specs.Prelude.{◌≡◌, ◌≤◌, ℕ, List, map, length, true, IfOk};
 ghost use Rattle.sg_facts.specs.Facts.{Facts, facts_of};
 ghost use Rattle.sg_check.specs.Shapes.{are_shapes};
-ghost use Rattle.sg_verdict.specs.Examined.{IsExamined};
-ghost use Rattle.sg_verdict.specs.declared.examined.Examined.TheVariants.{Accepted as accepted_as};
+ghost use Rattle.sg_diagnose.specs.Examined.{IsExamined};
+ghost use Rattle.sg_diagnose.specs.declared.examined.Examined.TheVariants.{Accepted as accepted_as};
 ghost use Rattle.sg_input.specs.declared.input.Input.{Input as OneInput};
 ghost use Rattle.sg_input.specs.Inputs.{AreTexts, IsInputOf};
 
@@ -12,9 +12,9 @@ use crate::divider::cut;
 use crate::lines::{NO_DIVIDER, TOO_LONG, script_line};
 use sg_base::{Bytes, NoMemory};
 use sg_check::Accepted;
+use sg_diagnose::{Examined, examine};
 use sg_facts::Shape;
 use sg_script::{ScriptError, read};
-use sg_verdict::{Examined, examine};
 use std::alloc::Global;
 
 // The greatest number of bytes of an interface.

@@ -25,7 +25,7 @@ use Rattle.sg_script.proofs.Held.{back_none, both, calls_few, counted, front_non
 use Rattle.sg_sim.specs.Script.{args_fit, call_fits, calls_fit}
 use Rattle.sg_facts.specs.Facts.{Facts}
 use Rattle.sg_script.specs.Reads.{IsScript}
-use Rattle.sg_flaws.specs.Says.{service_of}
+use Rattle.sg_check_statements.specs.Says.{service_of}
 use Rattle.sg_lock.specs.LockFacts.{lock_facts}
 use Rattle.sg_input.specs.declared.input.Input.{Input}
 use Rattle.sg_input.specs.declared.input.Input.TheVariants.{Ready}

@@ -9,9 +9,9 @@ use Rattle.sg_edge.specs.Edge.{Rose, ConsumesAtMost}
 use Rattle.sg_hist.specs.declared.ended.Ended.{Ended}
 use Rattle.sg_lock.specs.LockFacts.{lock_facts}
 use Rattle.sg_report.specs.Report.{report_of}
-use Rattle.sg_verdict.specs.declared.outcome.Verdict.{Verdict}
-use Rattle.sg_verdict.specs.declared.outcome.Verdict.TheVariants.{Accepted, Refused}
-use Rattle.sg_verdict.specs.Verdicts.{IsCompiled, IsVerdict}
+use Rattle.sg_diagnose.specs.declared.outcome.Verdict.{Verdict}
+use Rattle.sg_diagnose.specs.declared.outcome.Verdict.TheVariants.{Accepted, Refused}
+use Rattle.sg_diagnose.specs.Verdicts.{IsCompiled, IsVerdict}
 use Rattle.superglue.specs.Runs.{IsNotPlayed, IsRunOfInput}
 use Rattle.superglue.specs.declared.command.Command.{Command}
 use Rattle.superglue.specs.declared.command.Command.TheVariants.{Sim, Check, Compile}

@@ -11,11 +11,11 @@ use crate::command::{Command, NOT_YET};
 use crate::played::Played;
 use crate::runs::{first_calls, is_plain, played_of};
 use sg_base::{Bytes, NoMemory};
+use sg_diagnose::{Verdict, compiled, verdict};
 use sg_facts::{Interface, Service};
 use sg_input::{Input, read_input};
 use sg_lock::LockService;
 use sg_script::Script;
-use sg_verdict::{Verdict, compiled, verdict};
 use std::alloc::Global;
 
 /// What a command makes of an input: the bytes to be written, the status where they are written whole, and the run of a play

@@ -1,7 +1,7 @@
 -- At most one thing is first wrong, and an accepted text has nothing wrong.
 use Rattle.std.proofs.Common.{map}
 use Rattle.sg_facts.specs.Facts.{facts_of}
-use Rattle.sg_flaws.specs.Faults.{IsAccepted}
+use Rattle.sg_check_statements.specs.Faults.{IsAccepted}
 use Rattle.sg_check.proofs.Stages.{told_fault}
 use Rattle.sg_check.proofs.checking.check.Goals as goal
 

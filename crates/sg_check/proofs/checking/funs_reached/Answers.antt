@@ -1,7 +1,7 @@
 -- One kind more is clear, or its first flaw is the first of all.
 use Rattle.std.proofs.Common.{map}
 use Rattle.sg_facts.specs.Facts.{facts_of}
-use Rattle.sg_flaws.specs.declared.fault.CheckKind.TheVariants.{Unreached}
+use Rattle.sg_check_statements.specs.declared.fault.CheckKind.TheVariants.{Unreached}
 use Rattle.sg_check.specs.Candidates.{HasReach}
 use Rattle.sg_check.proofs.Stages.{and_known, stage, unreached_told}
 use Rattle.sg_check.proofs.checking.funs_reached.Goals as goal

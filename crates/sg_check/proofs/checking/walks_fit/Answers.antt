@@ -1,7 +1,7 @@
 -- One kind more is clear, or its first flaw is the first of all.
 use Rattle.std.proofs.Common.{map}
 use Rattle.sg_facts.specs.Facts.{facts_of}
-use Rattle.sg_flaws.specs.declared.fault.CheckKind.TheVariants.{NoWalk}
+use Rattle.sg_check_statements.specs.declared.fault.CheckKind.TheVariants.{NoWalk}
 use Rattle.sg_check.specs.Candidates.{HasReach, HasWalks}
 use Rattle.sg_check.proofs.Seeking.{walks_known}
 use Rattle.sg_check.proofs.Stages.{both_known, stage, stuck_told}

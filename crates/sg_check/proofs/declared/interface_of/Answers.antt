@@ -2,7 +2,7 @@
 use Rattle.std.proofs.Common.{◌∙◌, ap, map}
 use Rattle.sg_facts.specs.Facts.{fun_of_shape}
 use Rattle.sg_facts.specs.Fields.{number_of}
-use Rattle.sg_flaws.specs.Says.{has_proto}
+use Rattle.sg_check_statements.specs.Says.{has_proto}
 use Rattle.sg_check.proofs.Listing.{whole}
 use Rattle.sg_check.proofs.declared.interface_of.Goals as goal
 

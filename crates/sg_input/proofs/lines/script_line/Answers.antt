@@ -3,7 +3,7 @@ use Rattle.std.proofs.Common.{◌≡◌, ℕ, List, [], ◌∷◌, ◌++◌, ◌
 use Rattle.std.specs.Prelude.{codes}
 use Rattle.std.specs.Fmt.{decimal}
 use Rattle.sg_input.specs.Lines.{kind_name}
-use Rattle.sg_verdict.specs.Lines.{line_of, column_of}
+use Rattle.sg_diagnose.specs.Lines.{line_of, column_of}
 use Rattle.sg_input.proofs.lines.script_line.Goals as goal
 
 -- the line, from its end on

@@ -1,0 +1,6 @@
+-- One kind fewer is left.
+use Rattle.std.proofs.Common.{length}
+use Rattle.sg_check_statements.proofs.params.+are_of_kinds.Given as goal
+
+abbrev pub decreases-are_of_kinds : goal.decreases-are_of_kinds
+decreases-are_of_kinds l = length l.kinds.now

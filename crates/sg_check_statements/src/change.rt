@@ -1,0 +1,44 @@
+// What a text says is done to a field.
+ghost use Rattle.std.specs.Prelude.{◌≡◌};
+ghost use Rattle.sg_check_statements.specs.Effects.{same_effect};
+ghost use Rattle.sg_check_statements.specs.Changes.{effect_of};
+
+use sg_facts::Effect;
+
+/// What a text says is done to a field. The number of an argument isn't bounded, as that of an `Effect` is.
+#[derive(Clone, Copy)]
+pub enum Change {
+    /// It is set to the caller.
+    Caller,
+    /// It is set to an argument. The arguments count from 0.
+    Arg(usize),
+    /// An argument is added.
+    MoreArg(usize),
+    /// It is set to the returned word.
+    Ret,
+    /// The returned word is added.
+    MoreRet,
+    /// It is set to nothing.
+    Nothing,
+    /// One is subtracted.
+    Less,
+}
+
+impl Change {
+    /// Whether this is an effect of the service.
+    pub fn is(self, effect: Effect) -> bool
+        ensures same { result ≡ same_effect effect (effect_of self) }
+        ensures back { result ≡ same_effect (effect_of self) effect }
+    {
+        match (effect, self) {
+            (Effect::SetCaller, Change::Caller) => true,
+            (Effect::SetArg(own), Change::Arg(number)) => usize::from(own) == number,
+            (Effect::AddArg(own), Change::MoreArg(number)) => usize::from(own) == number,
+            (Effect::SetRet, Change::Ret) => true,
+            (Effect::AddRet, Change::MoreRet) => true,
+            (Effect::Clear, Change::Nothing) => true,
+            (Effect::SubOne, Change::Less) => true,
+            _ => false,
+        }
+    }
+}

@@ -1,0 +1,143 @@
+// The effects that a text declares for a function, gone over one by one.
+ghost use Rattle.std.specs.Prelude.{◌≡◌, ◌+◌, ◌||◌, if◌then◌else◌, false, [], ◌∷◌, codes, Bool};
+ghost use Rattle.std.specs.List.{list_any, flat_map};
+ghost use Rattle.sg_check_statements.specs.Effects.{Named_effect, arg_effects, caller_effects, declared_effects, later_effects, ret_effects, statement_effects};
+ghost use Rattle.sg_check_statements.specs.Changes.{effect_of};
+ghost use Rattle.sg_check_statements.specs.Params.{is_word as has_word};
+ghost use Rattle.sg_facts.specs.declared.shape.Effect.TheVariants.{SetArg, AddArg};
+
+use crate::change::Change;
+use crate::params::is_word;
+use sg_grammar::{Param, Ret, Statement};
+
+/// A test of effects.
+pub trait Test {
+    /// Which effects pass.
+    ghost passes: { Self → Named_effect → Bool };
+
+    /// Whether a change of the field of this name passes.
+    fn has(&self, field: &[u8], change: Change) -> bool
+        ensures { result ≡ passes self.now (field.now, effect_of change) };
+}
+
+/// A prototype, with the statements beside it.
+#[derive(Clone, Copy)]
+pub struct Proto<'a> {
+    pub statements: &'a [Statement<'a>],
+    pub name: &'a [u8],
+    pub ret: &'a Ret<'a>,
+    pub params: &'a [Param<'a>],
+}
+
+/// Whether some effect that is declared for a function passes.
+pub fn any_declared<T: Test>(test: &T, proto: &Proto) -> bool
+    ensures { result ≡ list_any (T.passes test.now)
+        (declared_effects proto.now.statements.now proto.now.name.now proto.now.ret.now proto.now.params.now) }
+{
+    any_by_parts(test, proto)
+}
+
+// The same, part by part.
+fn any_by_parts<T: Test>(test: &T, proto: &Proto) -> bool
+    ensures { result ≡ ((list_any (T.passes test.now) (caller_effects proto.now.params.now) || list_any (T.passes test.now) (later_effects proto.now.params.now))
+        || (list_any (T.passes test.now) (ret_effects proto.now.ret.now)
+        || list_any (λ s. list_any (T.passes test.now) (statement_effects proto.now.name.now s)) proto.now.statements.now)) }
+{
+    any_by_params(test, proto.params)
+        || any_by_ret(test, proto.ret)
+        || any_by_statements(test, proto.name, proto.statements)
+}
+
+// Whether one that parameters declare does.
+fn any_by_params<T: Test>(test: &T, params: &[Param]) -> bool
+    ensures { result ≡ (list_any (T.passes test.now) (caller_effects params.now) || list_any (T.passes test.now) (later_effects params.now)) }
+{
+    match params {
+        [] => false,
+        [caller, later @ ..] => by_caller(test, caller) || any_by_args(test, later),
+    }
+}
+
+// Whether that of the first parameter does.
+fn by_caller<T: Test>(test: &T, caller: &Param) -> bool
+    ensures { result ≡ list_any (T.passes test.now) (caller_effects (caller.now ∷ [])) }
+{
+    is_word(&caller.form, b"desc_data") && test.has(caller.name.slice, Change::Caller)
+}
+
+// Whether one of later parameters does.
+fn any_by_args<T: Test>(test: &T, params: &[Param]) -> bool
+    ensures { result ≡ list_any (T.passes test.now) (arg_effects 0 params.now) }
+{
+    let mut number = 0;
+    'params: for param in params {
+        if is_desc(param) {
+            continue;
+        }
+        if by_arg(test, number, param) {
+            return true;
+        }
+        number += 1;
+    }
+    false
+}
+
+// Whether a parameter is a descriptor or a parent.
+fn is_desc(param: &Param) -> bool
+    ensures { result ≡ (has_word param.now.form (codes "desc") || has_word param.now.form (codes "parent_desc")) }
+{
+    is_word(&param.form, b"desc") || is_word(&param.form, b"parent_desc")
+}
+
+// Whether the effect of an argument does.
+fn by_arg<T: Test>(test: &T, number: usize, param: &Param) -> bool
+    ensures { result ≡ (if has_word param.now.form (codes "desc_data") then T.passes test.now (param.now.name.bytes, SetArg number)
+        else (if has_word param.now.form (codes "desc_data_add") then T.passes test.now (param.now.name.bytes, AddArg number) else false)) }
+{
+    if is_word(&param.form, b"desc_data") {
+        test.has(param.name.slice, Change::Arg(number))
+    } else {
+        is_word(&param.form, b"desc_data_add")
+            && test.has(param.name.slice, Change::MoreArg(number))
+    }
+}
+
+// Whether that of the return does.
+fn any_by_ret<T: Test>(test: &T, ret: &Ret) -> bool
+    ensures { result ≡ list_any (T.passes test.now) (ret_effects ret.now) }
+{
+    match ret {
+        Ret::Plain(_) => false,
+        Ret::Set { field, .. } => test.has(field.slice, Change::Ret),
+        Ret::Add { field, .. } => test.has(field.slice, Change::MoreRet),
+    }
+}
+
+// Whether one of statements of their own does.
+fn any_by_statements<T: Test>(test: &T, fun: &[u8], statements: &[Statement]) -> bool
+    ensures { result ≡ list_any (λ s. list_any (T.passes test.now) (statement_effects fun.now s)) statements.now }
+{
+    statements
+        .iter()
+        .any(|statement| by_statement(test, fun, statement))
+}
+
+// Whether that of a statement does.
+fn by_statement<T: Test>(test: &T, fun: &[u8], statement: &Statement) -> bool
+    ensures { result ≡ list_any (T.passes test.now) (statement_effects fun.now statement.now) }
+{
+    match statement {
+        Statement::Two {
+            word,
+            first,
+            second,
+        } if first.slice == fun => {
+            if word.slice == b"desc_data_clear".as_slice() {
+                test.has(second.slice, Change::Nothing)
+            } else {
+                word.slice == b"desc_data_sub".as_slice() && test.has(second.slice, Change::Less)
+            }
+        }
+        _ => false,
+    }
+}

@@ -1,0 +1,56 @@
+// Whether the facts at the head of a text are the service's.
+ghost use Rattle.std.specs.Prelude.{◌≡◌, codes};
+ghost use Rattle.sg_facts.specs.Facts.{facts_of};
+ghost use Rattle.sg_check_statements.specs.Flaws.{close_word, flag_word, other_value, parents_word, wrong_fact};
+
+use sg_facts::{Parents, Shape};
+use sg_grammar::{Facts, Name};
+
+/// The place of the first fact that isn't the service's.
+pub fn wrong_fact(shape: &Shape, facts: &Facts) -> Option<usize>
+    ensures { result ≡ wrong_fact (facts_of shape.now) facts.now }
+{
+    let parent = other_value(&facts.parent, parents_word(shape.parents));
+    let close = other_value(&facts.close, close_word(shape.subtree));
+    let global = other_value(&facts.global, flag_word(shape.global));
+    let block = other_value(&facts.block, flag_word(shape.block));
+    let has_data = other_value(&facts.has_data, flag_word(shape.has_data));
+    let resc_data = other_value(&facts.resc_data, flag_word(shape.resc_data));
+    parent.or(close.or(global.or(block.or(has_data.or(resc_data)))))
+}
+
+// The place of a value that isn't this word.
+fn other_value(value: &Name, word: &[u8]) -> Option<usize>
+    ensures { result ≡ other_value value.now word.now }
+{
+    if value.slice == word {
+        None
+    } else {
+        Some(value.at)
+    }
+}
+
+// The word for which parents there may be.
+fn parents_word(parents: Parents) -> &'static [u8]
+    ensures { result.now ≡ parents_word parents }
+{
+    match parents {
+        Parents::Never => b"none",
+        Parents::Same => b"same",
+        Parents::Cross => b"cross",
+    }
+}
+
+// The word for whether a terminal function takes the descendants along.
+fn close_word(subtree: bool) -> &'static [u8]
+    ensures { result.now ≡ close_word subtree }
+{
+    if subtree { b"subtree" } else { b"refuse" }
+}
+
+// The word for a flag.
+fn flag_word(flag: bool) -> &'static [u8]
+    ensures { result.now ≡ flag_word flag }
+{
+    if flag { b"true" } else { b"false" }
+}

@@ -1,0 +1,30 @@
+// What can be wrong with a statement by itself, and the first that is.
+ghost use Rattle.std.specs.Prelude.{◌≡◌, ℕ, List, Some, MatchOption};
+ghost use Rattle.std.specs.declared.option.Option.{Option as Maybe};
+ghost use Rattle.sg_grammar.specs.declared.tree.Statement.{Statement as One};
+ghost use Rattle.sg_check_statements.specs.Faults.{IsFirst, NoneOf};
+
+use sg_grammar::Statement;
+
+/// What looks for one kind of flaw in a statement.
+pub trait Judge {
+    /// The place of the flaw in a statement, where it has one.
+    ghost flaw: { Self → One → Maybe ℕ };
+
+    /// The place of the flaw, where the statement has one.
+    fn flaw_in(&self, statement: &Statement) -> Option<usize>
+        ensures { result ≡ flaw self.now statement.now };
+}
+
+/// The place of the first flaw of its kind.
+pub fn first_flaw<J: Judge>(judge: &J, statements: &[Statement]) -> Option<usize>
+    ensures { MatchOption result (NoneOf (λ before s p. J.flaw judge.now s ≡ Some p) statements.now)
+        (IsFirst (λ before s p. J.flaw judge.now s ≡ Some p) statements.now) }
+{
+    'statements: for statement in statements {
+        if let Some(at) = judge.flaw_in(statement) {
+            return Some(at);
+        }
+    }
+    None
+}

@@ -1,7 +1,0 @@
--- No statement so far has a flaw.
-use Rattle.std.proofs.Common.{◌≡◌, Some, take}
-use Rattle.sg_flaws.specs.Faults.{NoneOf}
-use Rattle.sg_flaws.proofs.judge.first_flaw.Given as goal
-
-abbrev pub invariant-statements : goal.invariant-statements
-invariant-statements g l = NoneOf (λ before s p. g.J.Judge.flaw l.judge s ≡ Some p) (take l.statement-index l.statements)

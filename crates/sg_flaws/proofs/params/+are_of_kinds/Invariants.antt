@@ -1,6 +1,0 @@
--- One kind fewer is left.
-use Rattle.std.proofs.Common.{length}
-use Rattle.sg_flaws.proofs.params.+are_of_kinds.Given as goal
-
-abbrev pub decreases-are_of_kinds : goal.decreases-are_of_kinds
-decreases-are_of_kinds l = length l.kinds.now

@@ -1,9 +1,0 @@
--- The names so far, and none of them twice.
-use Rattle.std.proofs.Common.{◌≡◌, Some, take}
-use Rattle.sg_flaws.specs.Faults.{NoneOf}
-use Rattle.sg_flaws.specs.Flaws.{duplicate}
-use Rattle.sg_flaws.specs.Names.{AreOf}
-use Rattle.sg_flaws.proofs.protos.duplicate_in.Given as goal
-
-abbrev pub invariant-statements : goal.invariant-statements
-invariant-statements l = AreOf l.names (take l.statement-index l.statements) × NoneOf (λ before s p. duplicate before s ≡ Some p) (take l.statement-index l.statements)

@@ -1,7 +1,0 @@
--- The names so far.
-use Rattle.std.proofs.Common.{take}
-use Rattle.sg_flaws.specs.Names.{AreOf}
-use Rattle.sg_flaws.proofs.protos.names_of.Given as goal
-
-abbrev pub invariant-statements : goal.invariant-statements
-invariant-statements l = AreOf l.names (take l.statement-index l.statements)

@@ -1,6 +1,0 @@
--- One service fewer is left.
-use Rattle.std.proofs.Common.{length}
-use Rattle.sg_flaws.proofs.services.+service_in.Given as goal
-
-abbrev pub decreases-service_in : goal.decreases-service_in
-decreases-service_in l = length l.services.now

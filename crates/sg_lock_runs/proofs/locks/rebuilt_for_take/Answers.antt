@@ -1,5 +1,0 @@
-use Rattle.sg_lock_runs.proofs.Steps.{rebuilt_for_take-recovering}
-use Rattle.sg_lock_runs.proofs.locks.rebuilt_for_take.Goals as goal
-
-pub returns : goal.returns
-returns c = record { recovering = rebuilt_for_take-recovering }

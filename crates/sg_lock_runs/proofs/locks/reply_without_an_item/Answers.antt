@@ -1,5 +1,0 @@
-use Rattle.sg_lock_runs.proofs.LockFaults.{reply_without_an_item-wrong}
-use Rattle.sg_lock_runs.proofs.locks.reply_without_an_item.Goals as goal
-
-pub returns : goal.returns
-returns c = record { wrong = reply_without_an_item-wrong }

@@ -1,5 +1,0 @@
-use Rattle.sg_lock_runs.proofs.LockFaults.{served_without_a_walk-wrong}
-use Rattle.sg_lock_runs.proofs.locks.served_without_a_walk.Goals as goal
-
-pub returns : goal.returns
-returns c = record { wrong = served_without_a_walk-wrong }

@@ -1,5 +1,0 @@
-use Rattle.sg_lock_runs.proofs.LockFaults.{walk_by_another-wrong}
-use Rattle.sg_lock_runs.proofs.locks.walk_by_another.Goals as goal
-
-pub returns : goal.returns
-returns c = record { wrong = walk_by_another-wrong }

@@ -1,5 +1,0 @@
-use Rattle.sg_lock_runs.proofs.LockFaults.{walk_from_its_middle-wrong}
-use Rattle.sg_lock_runs.proofs.locks.walk_from_its_middle.Goals as goal
-
-pub returns : goal.returns
-returns c = record { wrong = walk_from_its_middle-wrong }

@@ -1,5 +1,0 @@
-use Rattle.sg_recovering.proofs.Growing.{places-booted, places-more, places-struck}
-use Rattle.sg_recovering.proofs.laws.places_grow.Goals as goal
-
-pub returns : goal.returns
-returns c = record { noted = places-more; stopped = places-struck; again = places-booted }

@@ -1,0 +1,107 @@
+// What stays as it is where a run grows: an entry more, an item more, a stop, a boot.
+ghost use Rattle.std.specs.Prelude.{◌≡◌, ◌⊎◌, ◌+◌, ◌++◌, ◌∷◌, [], ℕ, Bool, List, None, Some, IsSome, false, true};
+ghost use Rattle.sg_base.specs.Lists.{Each};
+ghost use Rattle.sg_base.specs.declared.call.Call.{Call};
+ghost use Rattle.sg_facts.specs.declared.entry.Entry.{Entry};
+ghost use Rattle.sg_facts.specs.declared.trace.Item.{Item};
+ghost use Rattle.sg_facts.specs.Facts.{Facts};
+ghost use Rattle.sg_facts.specs.Interface.{Declared};
+ghost use Rattle.sg_facts.specs.Legal.{IsLegal, Table, answer};
+ghost use Rattle.sg_facts.specs.Object.{object_of};
+ghost use Rattle.sg_facts.specs.Trace.{Boot, Run};
+ghost use Rattle.sg_recovery_laws.specs.Growing.{AreKept, HasOneMore, IsGrown, IsHeld, IsItemOf, IsLastCall, IsNext, IsRecovering, IsSettled, NoneOf, asked_over, booted, last_stop, noted, place_behind, struck};
+ghost use Rattle.sg_hist.specs.Reading.{Place, after_item, entries_before, is_by_guard, is_of, names_at, names_in, places_from, places_of, stands_before, value_at};
+ghost use Rattle.sg_hist.specs.Recovered.{ArePointsOf, IsCount, IsPointOf, Stubs, asked_behind, ends_committed, is_stopped, is_visible_reply};
+
+/// A legal history stays so with an entry that is the answer behind it.
+pub fn legal_stays()
+    ensures { (i : Declared) (ask : Table) (history : List Entry) (e : Entry) → IsLegal i ask history
+        → answer i ask (object_of i.facts history) e.call ≡ Some e.reply → IsLegal i ask (history ++ e ∷ []) }
+{}
+
+/// The entries before a place stay: where an item is noted that is none of theirs; where it is noted together with its entry;
+/// and where a refusal by the guard is appended. An entry that is appended behind its item, as a held reply is, is among those
+/// before the places behind that item, and before no other.
+pub fn entries_stay()
+    ensures noted { (item : Item) (p q : Place) (history : List Entry) → IsGrown item p q → NoneOf item history
+        → entries_before history q ≡ entries_before history p }
+    ensures committed { (item : Item) (p q : Place) (history : List Entry) (e : Entry) → IsGrown item p q → NoneOf item history → is_of e item ≡ true
+        → entries_before (history ++ e ∷ []) q ≡ entries_before history p }
+    ensures refused { (p : Place) (history : List Entry) (e : Entry) → is_by_guard e.reply ≡ true
+        → entries_before (history ++ e ∷ []) p ≡ entries_before history p }
+    ensures held { (p : Place) (history : List Entry) (e : Entry) → stands_before p e ≡ true
+        → entries_before (history ++ e ∷ []) p ≡ entries_before history p ++ e ∷ [] }
+    ensures not_yet { (p : Place) (history : List Entry) (e : Entry) → stands_before p e ≡ false
+        → entries_before (history ++ e ∷ []) p ≡ entries_before history p }
+{}
+
+/// Where an item is noted, each place has it behind it, and it has a place of its own. A stop and a boot change no place.
+pub fn places_grow()
+    ensures noted { (older : List Item) (b : Boot) (boots : List Boot) (item : Item)
+        → HasOneMore item (place_behind older (b ∷ boots) item) (places_from older (b ∷ boots)) (places_from older (noted (b ∷ boots) item)) }
+    ensures stopped { (older : List Item) (boots : List Boot) (stop : ℕ) → places_from older (struck boots stop) ≡ places_from older boots }
+    ensures again { (older : List Item) (boots : List Boot) → places_from older (booted boots) ≡ places_from older boots }
+{}
+
+/// What the service holds, and the names, behind an item more.
+pub fn values_grow()
+    ensures value { (facts : Facts) (front : List Item) (item : Item) → value_at facts (front ++ item ∷ []) ≡ after_item facts (value_at facts front) item }
+    ensures names { (facts : Facts) (history : List Entry) (front : List Item) (item : Item)
+        → names_at facts history (front ++ item ∷ []) ≡ names_at facts history front ++ names_in facts history item.shown.fun item.tag item.outcome }
+{}
+
+/// A run that recovers goes on to do so. It begins with a boot in which nothing was asked. An item is noted that is of no entry: a client's call that wasn't committed, a call of
+/// a walk, or a load. An item is noted together with its entry. A refusal by the guard is appended. A held reply is committed:
+/// then what stands behind its item is to be settled anew. A call is made. The service stops, and is booted again. Beside that,
+/// what each item must meet is asked of it when it is noted, and never again.
+pub fn recovering_goes_on()
+    ensures begins { (s : Stubs) → IsRecovering s [] (record { boots = booted []; points = 0 }) [] }
+    ensures noted { (s : Stubs) (h : List Entry) (b : Boot) (boots : List Boot) (points later : ℕ) (u u' : List Call) (item : Item)
+        → NoneOf item h → is_visible_reply s.facts item ≡ false → AreKept h u h u' → IsNext s h u' (place_behind [] (b ∷ boots) item)
+        → IsRecovering s h (record { boots = b ∷ boots; points = points }) u
+        → IsRecovering s h (record { boots = noted (b ∷ boots) item; points = later }) u' }
+    ensures committed { (s : Stubs) (h : List Entry) (b : Boot) (boots : List Boot) (points later : ℕ) (u u' : List Call) (item : Item) (e : Entry)
+        → NoneOf item h → IsItemOf s.facts h (place_behind [] (b ∷ boots) item) e → IsLastCall h u e.call → AreKept h u (h ++ e ∷ []) u'
+        → IsNext s (h ++ e ∷ []) u' (place_behind [] (b ∷ boots) item)
+        → IsRecovering s h (record { boots = b ∷ boots; points = points }) u
+        → IsRecovering s (h ++ e ∷ []) (record { boots = noted (b ∷ boots) item; points = later }) u' }
+    ensures refused { (s : Stubs) (h : List Entry) (run : Run) (u u' : List Call) (e : Entry) → is_by_guard e.reply ≡ true
+        → AreKept h u (h ++ e ∷ []) u' → IsRecovering s h run u → IsRecovering s (h ++ e ∷ []) run u' }
+    ensures held { (s : Stubs) (h : List Entry) (run : Run) (u u' : List Call) (e : Entry) → IsHeld s.facts h run e → IsLastCall h u e.call
+        → AreKept h u (h ++ e ∷ []) u' → Each (λ p. stands_before p e ≡ true → IsSettled s (h ++ e ∷ []) u' p) (places_of run)
+        → IsRecovering s h run u → IsRecovering s (h ++ e ∷ []) run u' }
+    ensures made { (s : Stubs) (h : List Entry) (run : Run) (u u' : List Call) → AreKept h u h u' → IsRecovering s h run u → IsRecovering s h run u' }
+    ensures stopped { (s : Stubs) (h : List Entry) (boots : List Boot) (points later stop : ℕ) (u : List Call)
+        → IsRecovering s h (record { boots = boots; points = points }) u → IsRecovering s h (record { boots = struck boots stop; points = later }) u }
+    ensures again { (s : Stubs) (h : List Entry) (b : Boot) (boots : List Boot) (points later : ℕ) (u : List Call) → IsSome (last_stop (b ∷ boots))
+        → IsRecovering s h (record { boots = b ∷ boots; points = points }) u
+        → IsRecovering s h (record { boots = booted (b ∷ boots); points = later }) u }
+{}
+
+/// Points stay counted: where an item is noted that has its points; where it stopped; where the service stops at the point of the
+/// commit before, or at the next; where it is booted again; and where points were asked that belong to no item.
+pub fn points_go_on()
+    ensures begins { (exact : Bool) (facts : Facts) (parts : ℕ → ℕ) → ArePointsOf exact facts parts 0 (booted []) 0 }
+    ensures noted { (exact : Bool) (facts : Facts) (parts : ℕ → ℕ) (asked : ℕ) (b : Boot) (boots : List Boot) (points later : ℕ) (item : Item)
+        → last_stop (b ∷ boots) ≡ None → is_stopped item.outcome ≡ false
+        → IsPointOf exact parts (asked_over facts asked (b ∷ boots)) item.tag item.shown.fun item.outcome item.points
+        → IsCount exact later (asked_behind facts item)
+        → ArePointsOf exact facts parts asked (b ∷ boots) points → ArePointsOf exact facts parts asked (noted (b ∷ boots) item) later }
+    ensures within { (exact : Bool) (facts : Facts) (parts : ℕ → ℕ) (asked : ℕ) (b : Boot) (boots : List Boot) (points later : ℕ) (item : Item)
+        → last_stop (b ∷ boots) ≡ None → is_stopped item.outcome ≡ true
+        → IsPointOf exact parts (asked_over facts asked (b ∷ boots)) item.tag item.shown.fun item.outcome item.points
+        → IsCount exact later item.points
+        → ArePointsOf exact facts parts asked (b ∷ boots) points
+        → ArePointsOf exact facts parts asked (struck (noted (b ∷ boots) item) item.points) later }
+    ensures between { (exact : Bool) (facts : Facts) (parts : ℕ → ℕ) (asked : ℕ) (b : Boot) (boots : List Boot) (points later stop : ℕ) (item : Item)
+        → last_stop (b ∷ boots) ≡ None
+        → ((ends_committed facts (place_behind [] (b ∷ boots) item).front ≡ true) × (stop ≡ asked_over facts asked (b ∷ boots)))
+        ⊎ IsCount exact stop (asked_over facts asked (b ∷ boots) + 1)
+        → IsCount exact later stop
+        → ArePointsOf exact facts parts asked (b ∷ boots) points → ArePointsOf exact facts parts asked (struck (b ∷ boots) stop) later }
+    ensures again { (exact : Bool) (facts : Facts) (parts : ℕ → ℕ) (asked : ℕ) (b : Boot) (boots : List Boot) (points : ℕ)
+        → ArePointsOf exact facts parts asked (b ∷ boots) points → ArePointsOf exact facts parts asked (booted (b ∷ boots)) points }
+    ensures counted { (exact : Bool) (facts : Facts) (parts : ℕ → ℕ) (asked : ℕ) (boots : List Boot) (points later : ℕ)
+        → IsCount exact later (asked_over facts asked boots)
+        → ArePointsOf exact facts parts asked boots points → ArePointsOf exact facts parts asked boots later }
+{}

@@ -1,7 +1,0 @@
--- The call may be tracked.
-use Rattle.sg_track_rows.proofs.Carried.{carried}
-use Rattle.sg_track_rows.proofs.LockCalls.{may_make}
-use Rattle.sg_track_rows.proofs.locks.make.Goals as goal
-
-pub track-requires : goal.track-requires
-track-requires c = carried c.args.tracker.now c.requires.locks c.in_ok-call.ensures c.done.ensures (may_make c.args.tracker.now c.args.client c.args.id c.requires.room c.requires.next)

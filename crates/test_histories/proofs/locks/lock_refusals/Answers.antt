@@ -1,0 +1,15 @@
+-- The replies compute, and the other one doesn't.
+use Rattle.std.proofs.Common.{refl}
+use Rattle.sg_facts.specs.Laws.{whole}
+use Rattle.sg_lock.specs.LockFacts.{lock_facts}
+use Rattle.sg_lock.specs.LockTable.{lock_table}
+use Rattle.test_histories.specs.Written.{ok, with_reply}
+use Rattle.test_histories.specs.LockRows.{lock_refusals}
+use Rattle.sg_facts.proofs.Legality.{IsLegal-from, LegalFrom-is}
+use Rattle.test_histories.proofs.locks.lock_refusals.Goals as goal
+
+pub returns-clause-legal : goal.returns-clause-legal
+returns-clause-legal c = IsLegal-from (whole lock_facts) lock_table lock_refusals (refl, (refl, (refl, (refl, tt))))
+
+pub returns-clause-wrong : goal.returns-clause-wrong
+returns-clause-wrong c legal = cc ((LegalFrom-is (whole lock_facts) lock_table (with_reply 0 ok lock_refusals) legal).0)

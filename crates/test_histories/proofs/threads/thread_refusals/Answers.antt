@@ -1,0 +1,15 @@
+-- The replies compute, and the other one doesn't.
+use Rattle.std.proofs.Common.{refl}
+use Rattle.sg_facts.specs.Laws.{whole}
+use Rattle.sg_sched.specs.SchedFacts.{sched_facts}
+use Rattle.sg_sched.specs.SchedTable.{sched_table}
+use Rattle.test_histories.specs.Written.{ok, with_reply}
+use Rattle.test_histories.specs.SchedRows.{thread_refusals}
+use Rattle.sg_facts.proofs.Legality.{IsLegal-from, LegalFrom-is}
+use Rattle.test_histories.proofs.threads.thread_refusals.Goals as goal
+
+pub returns-clause-legal : goal.returns-clause-legal
+returns-clause-legal c = IsLegal-from (whole sched_facts) sched_table thread_refusals (refl, (refl, (refl, tt)))
+
+pub returns-clause-wrong : goal.returns-clause-wrong
+returns-clause-wrong c legal = cc ((LegalFrom-is (whole sched_facts) sched_table (with_reply 0 ok thread_refusals) legal).0)

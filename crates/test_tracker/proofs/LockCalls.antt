@@ -1,0 +1,31 @@
+-- Which answered calls of locks may be tracked.
+use Rattle.std.proofs.Common.{◌≡◌, ℕ, ◌+◌, ◌<◌, ◌≤◌, [], Some, sym, ◌∙◌, ap, subst, arith}
+use Rattle.std.specs.Prelude.{◌^◌}
+use Rattle.std.specs.Option.{option_map}
+use Rattle.sg_base.specs.declared.value.Value.TheVariants.{Word}
+use Rattle.sg_facts.specs.Track.{cleared, field_at}
+use Rattle.sg_lock.specs.LockFacts.{lock_facts}
+use Rattle.sg_track.specs.Drafts.{IsNumber}
+use Rattle.sg_track.specs.Tracked.{MayTrack, Tracked}
+use Rattle.test_tracker.specs.Answered.{HasOwner, asked, done}
+
+pub may_make : (t : Tracked) (client id : ℕ) → 1 ≤ t.spare → t.given + 1 ≡ id → MayTrack lock_facts t (asked client 1 0 []) (done id)
+may_make t client id room next = record {
+  makes = λ is. record { place = record { room = room; parent = λ takes. cc; next = sym next }; few = omega arith; values = λ row. tt };
+  changes = λ query makes. cc makes;
+}
+
+pub may_take : (t : Tracked) (client id : ℕ) → client < 2 ^ 64 → MayTrack lock_facts t (asked client 2 id []) (done 0)
+may_take t client id fits = record { makes = λ is. cc is; changes = λ query makes ends r there. (λ within. fits, tt) }
+
+pub may_release : (t : Tracked) (client id owner : ℕ) → HasOwner t.rows id owner → MayTrack lock_facts t (asked client 3 id []) (done 0)
+may_release t client id owner has = record {
+  makes = λ is. cc is;
+  changes = λ query makes ends r there.
+      let found : Some (field_at r.fields 0) ≡ Some (Word owner) = ap (option_map (λ x. field_at x.fields 0)) (sym there) ∙ has in
+      let number : field_at r.fields 0 ≡ Word owner = cc found in
+      (λ within. subst (λ v. IsNumber (cleared v)) (sym number) (omega arith), tt);
+}
+
+pub may_free : (t : Tracked) (client id : ℕ) → MayTrack lock_facts t (asked client 4 id []) (done 0)
+may_free t client id = record { makes = λ is. cc is; changes = λ query makes ends. cc ends }

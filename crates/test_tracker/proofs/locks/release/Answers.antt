@@ -1,0 +1,7 @@
+-- The call may be tracked.
+use Rattle.test_tracker.proofs.Carried.{carried}
+use Rattle.test_tracker.proofs.LockCalls.{may_release}
+use Rattle.test_tracker.proofs.locks.release.Goals as goal
+
+pub track-requires : goal.track-requires
+track-requires c = carried c.args.tracker.now c.requires c.in_ok-call.ensures c.done.ensures (may_release c.args.tracker.now c.args.client c.args.id c.in-Some.field-0 c.in-Some.ensures)

@@ -1,0 +1,58 @@
+// Tables, calls and replies.
+ghost use Rattle.std.specs.Prelude.{◌≡◌, true, map, IfOk};
+ghost use Rattle.sg_base.specs.declared.value.Value.TheVariants.{Word};
+ghost use Rattle.sg_facts.specs.Facts.{facts_of};
+ghost use Rattle.sg_check.specs.Shapes.{is_shape};
+ghost use Rattle.test_tracker.specs.Answered.{asked, done};
+
+use sg_base::{Args, Bytes, Call, Good, NoMemory, Reply, Value, Words};
+use sg_check::check;
+use sg_facts::{Shape, Tables};
+use sg_parse::parse;
+use sg_stub::compile;
+use std::alloc::Global;
+use std::test::Fail;
+
+/// The tables of an interface text for a shape.
+pub(crate) fn tables_of(alloc: Global, text: &[u8], shape: Shape) -> Result<Tables, Fail>
+    requires { is_shape (facts_of shape) ≡ true }
+    ensures { IfOk result (λ tables. tables.iface.facts ≡ facts_of shape) }
+{
+    let tree = parse(alloc, text)?;
+    let accepted = check(alloc, &tree, &[shape])?;
+    Ok(compile(alloc, &accepted)?)
+}
+
+/// A client's call of a function, with words.
+pub(crate) fn call(
+    alloc: Global,
+    client: u8,
+    fun: u8,
+    desc: u64,
+    words: &[u64],
+) -> Result<Call, NoMemory>
+    ensures { IfOk result (λ call. call ≡ asked client fun desc (map (λ n. Word n) words.now)) }
+{
+    let mut args = Args::new(alloc);
+    'words: for word in words {
+        args.push(Value::Word(*word))?;
+    }
+    Ok(Call {
+        client,
+        seq: 1,
+        fun,
+        desc,
+        args,
+    })
+}
+
+/// An Ok with a descriptor, 0 for none.
+pub(crate) fn done(alloc: Global, desc: u64) -> Reply
+    ensures { result ≡ done desc }
+{
+    Reply::Ok(Good {
+        desc,
+        words: Words::new(alloc),
+        bytes: Bytes::new(alloc),
+    })
+}
