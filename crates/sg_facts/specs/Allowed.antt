@@ -1,5 +1,5 @@
 -- What every shape keeps to.
-use Rattle.std.specs.Prelude.{ℕ, zero, suc, ◌+◌, ◌==◌, Bool, true, false, ◌&&◌, ◌||◌, not, List, [], ◌∷◌, None, Some, length, count_by, nat_le, slice_get}
+use Rattle.std.specs.Prelude.{ℕ, zero, suc, ◌+◌, ◌==◌, Bool, true, false, ◌&&◌, ◌||◌, not, List, [], ◌∷◌, None, Some, length, count_by, nat_le, nat_lt, slice_get}
 use Rattle.std.specs.declared.option.Option.{Option}
 use Rattle.std.specs.List.{list_any, list_all}
 use Rattle.sg_facts.specs.declared.shape.Kind.{Kind}
@@ -9,9 +9,16 @@ use Rattle.sg_facts.specs.declared.shape.Leaves.TheVariants.{Own, Same, Of}
 use Rattle.sg_facts.specs.declared.shape.Parents.{Parents}
 use Rattle.sg_facts.specs.declared.shape.Parents.TheVariants.{Never, Same as SameClient, Cross}
 use Rattle.sg_facts.specs.declared.shape.Effect.{Effect}
+use Rattle.sg_facts.specs.declared.shape.Effect.TheVariants.{SetCaller, SetArg, AddArg, Clear}
 use Rattle.sg_facts.specs.Facts.{Facts, Field, Fun, fun_at, takes_desc, takes_parent}
 use Rattle.sg_facts.specs.Counted.{takes_word}
-use Rattle.sg_facts.specs.Walks.{carries_arg}
+use Rattle.sg_facts.specs.Walks.{carries_arg, sets_caller}
+use Rattle.sg_facts.specs.Object.{writes}
+
+abbrev pub is_never : Parents → Bool
+is_never Never = true
+is_never SameClient = false
+is_never Cross = false
 
 abbrev pub is_cross : Parents → Bool
 is_cross Cross = true
@@ -84,9 +91,52 @@ replays_all facts (suc n) =
     implies (is_replayed facts (suc n)) (each_arg (fun_at facts.funs (suc n)).effects (count_args (fun_at facts.funs (suc n)).kinds))
     && replays_all facts n
 
+-- a function that makes a descriptor is no query, ends none, and is called on none; one that neither makes one nor asks is
+-- called on one, and takes no parent; none takes a parent where descriptors have none
+abbrev pub acts_on_one : Facts → Fun → Bool
+acts_on_one facts f =
+    implies f.creation (not f.query && not f.terminal && not (takes_desc f))
+    && (f.creation || f.query || (takes_desc f && not (takes_parent f)))
+    && implies (is_never facts.parents) (not (takes_parent f))
+
+-- an argument that an effect takes is one of so many
+abbrev pub takes_among : ℕ → Effect → Bool
+takes_among most (SetArg k) = nat_lt k most
+takes_among most (AddArg k) = nat_lt k most
+takes_among most _ = true
+
+-- an effect leaves what the row tells, or nothing
+abbrev pub leaves_known : Effect → Bool
+leaves_known SetCaller = true
+leaves_known (SetArg k) = true
+leaves_known Clear = true
+leaves_known _ = false
+
+-- no row has a parent
+abbrev pub has_no_parents : Facts → Bool
+has_no_parents facts = list_all (λ f. not (takes_parent f)) facts.funs
+
+-- a replayed function writes no file, takes no other arguments than it has, sets one field at most to its caller, and where
+-- rows have parents leaves fields that are known
+abbrev pub replays_well : Facts → Fun → Bool
+replays_well facts f =
+    not (writes f) && list_all (λ e. takes_among (count_args f.kinds) e.1) f.effects && nat_le (count_by (λ e. sets_caller e.1) f.effects) 1
+    && (has_no_parents facts || list_all (λ e. leaves_known e.1) f.effects)
+
+-- the replayed functions among so many do
+abbrev pub each_replays_well : Facts → ℕ → Bool
+each_replays_well facts zero = true
+each_replays_well facts (suc n) = implies (is_replayed facts (suc n)) (replays_well facts (fun_at facts.funs (suc n))) && each_replays_well facts n
+
+-- no recover step makes a descriptor
+abbrev pub steps_make_none : Facts → Bool
+steps_make_none facts = list_all (λ s. not (fun_at facts.funs s.1).creation) facts.steps
+
 -- what a shape keeps to; it has at most 8 fields
 abbrev pub is_allowed : Facts → Bool
-is_allowed facts = nat_le (length facts.fields) 8 && keeps_private facts && list_all (keeps_to facts) facts.funs && replays_all facts (length facts.funs)
+is_allowed facts =
+    nat_le (length facts.fields) 8 && keeps_private facts && list_all (keeps_to facts) facts.funs && replays_all facts (length facts.funs)
+    && list_all (acts_on_one facts) facts.funs && each_replays_well facts (length facts.funs) && steps_make_none facts
 
 -- whether a function takes a returned word into a field
 abbrev pub wants_word : Fun → Bool

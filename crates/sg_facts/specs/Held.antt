@@ -1,5 +1,5 @@
 -- What a service holds in the middle of a recovery: some rows whole, and some as far as their walks have gone.
-use Rattle.std.specs.Prelude.{ℕ, ◌≡◌, ◌⊎◌, Bool, List, [], ◌∷◌, ◌++◌, Some, map}
+use Rattle.std.specs.Prelude.{ℕ, ◌≡◌, ◌≤◌, ◌⊎◌, Bool, List, [], ◌∷◌, ◌++◌, Some, map}
 use Rattle.sg_base.specs.declared.value.Value.{Value}
 use Rattle.sg_base.specs.declared.value.Value.TheVariants.{Word, Text}
 use Rattle.sg_facts.specs.declared.row.Row.{Row}
@@ -71,6 +71,7 @@ EachHeld i names o held (w ∷ ws) = IsHeld i names o held w × EachHeld i names
 -- whole parent
 pub record HoldsPart (i : Declared) (names : List (ℕ × ℕ)) (o held : Object) : Type 0 where
   pub names_are : AreNames names
+  pub given : (id : ℕ) → named names id ≤ held.given
   pub held_sound : IsSound i.facts held
   pub each : EachHeld i names o held held.rows
 

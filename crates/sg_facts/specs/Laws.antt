@@ -15,11 +15,11 @@ use Rattle.sg_facts.specs.declared.row.Row.{Row}
 use Rattle.sg_facts.specs.declared.shape.Effect.{Effect}
 use Rattle.sg_facts.specs.declared.shape.Effect.TheVariants.{SetArg}
 use Rattle.sg_facts.specs.Track.{row_at, ends_with, word_of, arg_at}
-use Rattle.sg_facts.specs.Kinds.{AreWords, FitsKinds, IsCall, IsWithin, MayAsk}
+use Rattle.sg_facts.specs.Kinds.{AreWords, IsCall, IsWithin, MayAsk}
 use Rattle.sg_facts.specs.Fits.{Fits}
 use Rattle.sg_facts.specs.Held.{HoldsPart, IsAt, AreReachable, ParentIsWhole, set_of}
 use Rattle.sg_facts.specs.Walks.{IsWalkOf, replayed_call}
-use Rattle.sg_facts.specs.Counted.{most_counted, is_counted}
+use Rattle.sg_facts.specs.Counted.{CountedBelow, most_counted, is_counted}
 use Rattle.sg_facts.specs.Alike.{Serves, SameReply, under_names}
 use Rattle.sg_facts.specs.Allowed.{implies, is_allowed, is_replayed, wants_word}
 use Rattle.sg_facts.specs.Sound.{IsSound}
@@ -44,8 +44,7 @@ pub record AnswersAndKeeps (facts : Facts) (ask : Table) (sound : Object → Typ
   pub general : (o : Object) → sound o → IsSound facts o
   pub keeps : (o : Object) (call : Call) (good : Good) → sound o → Passes facts o call → ask o call ≡ Some (Ok good)
       → sound (after facts o call (Ok good))
-  pub next : (o : Object) (call : Call) (good : Good) → sound o → Passes facts o call → ask o call ≡ Some (Ok good)
-      → (fun_at facts.funs call.fun).creation ≡ true → good.desc ≡ o.given + 1
+  pub next : (o : Object) (call : Call) (good : Good) → ask o call ≡ Some (Ok good) → (fun_at facts.funs call.fun).creation ≡ true → good.desc ≡ o.given + 1
 
 -- ---- it answers alike
 
@@ -71,9 +70,7 @@ names_after names r done good = if is_none done then (r.id, good.desc) ∷ names
 
 -- the next replayed call is a client's, fits its function, is answered Ok, and brings the row one step on
 pub record GoesOn (i : Declared) (ask : Table) (names : List (ℕ × ℕ)) (o held : Object) (r : Row) (done : List ℕ) (fun : ℕ) : Type 0 where
-  pub client_first : 1 ≤ (next_call i.facts names r done fun).client
-  pub client_last : (next_call i.facts names r done fun).client ≤ 64
-  pub fits : FitsKinds i.facts (next_call i.facts names r done fun)
+  pub may_ask : MayAsk i.facts held (next_call i.facts names r done fun)
   pub good : Good
   pub answered : ask held (next_call i.facts names r done fun) ≡ Some (Ok good)
   pub holds : HoldsPart i (names_after names r done good) o (after i.facts held (next_call i.facts names r done fun) (Ok good))
@@ -83,7 +80,7 @@ pub record GoesOn (i : Declared) (ask : Table) (names : List (ℕ × ℕ)) (o he
 -- the next call of the walk of a row whose parent is whole goes on
 pub record WalkGoesOn (facts : Facts) (ask : Table) (sound : Object → Type 0) : Type 0 where
   pub goes_on : (i : Declared) (names : List (ℕ × ℕ)) (o held : Object) (r : Row) (done rest : List ℕ) (fun : ℕ)
-      → i.facts ≡ facts → Fits i → sound o → AreReachable i o.rows → HoldsPart i names o held → held.given < 2 ^ 63
+      → i.facts ≡ facts → Fits i → sound o → AreReachable i o.rows → HoldsPart i names o held → CountedBelow (2 ^ 63) facts held.rows → held.given < 2 ^ 63
       → row_at o.rows r.id ≡ Some r → IsWalkOf i (done ++ fun ∷ rest) r.made r.state (set_of r) → IsAt i names held r done
       → ParentIsWhole names o held r → GoesOn i ask names o held r done fun
 

@@ -1,9 +1,10 @@
 -- Objects that a service can come to.
-use Rattle.std.specs.Prelude.{ℕ, ◌≡◌, ◌≢◌, ◌^◌, ◌<◌, ◌≤◌, ◌==◌, true, false, ◌||◌, nat_lt, ◌&&◌, List, [], ◌∷◌}
+use Rattle.std.specs.Prelude.{ℕ, ◌≡◌, ◌≢◌, ◌^◌, ◌<◌, ◌≤◌, ◌==◌, Bool, true, false, ◌||◌, not, nat_lt, ◌&&◌, if◌then◌else◌, List, [], ◌∷◌}
 use Rattle.sg_base.specs.declared.value.Value.{Value}
 use Rattle.sg_base.specs.declared.value.Value.TheVariants.{Word, Text}
 use Rattle.sg_facts.specs.declared.row.Row.{Row}
-use Rattle.sg_facts.specs.Facts.{Facts, Field}
+use Rattle.sg_facts.specs.Facts.{Facts, Field, fun_at, takes_parent}
+use Rattle.sg_facts.specs.Kinds.{may_be_root}
 use Rattle.sg_facts.specs.Track.{is_live}
 use Rattle.sg_facts.specs.Object.{Object}
 
@@ -19,12 +20,17 @@ AreFields (f ∷ fs) (v ∷ vs) = IsOfField f v × AreFields fs vs
 AreFields [] (v ∷ vs) = ⊥
 AreFields (f ∷ fs) [] = ⊥
 
--- a row among live rows: its creator is a client, its parent is 0 or a live row of a smaller id, its fields are the
--- service's
+-- a row has a parent where its creation takes one and it may not be a root, and none where its creation takes none
+abbrev pub has_its_parent : Facts → Row → Bool
+has_its_parent facts r = if takes_parent (fun_at facts.funs r.made) then may_be_root facts.parents || not (r.parent == 0) else r.parent == 0
+
+-- a row among live rows: its creator is a client, its parent is 0 or a live row of a smaller id, and as its creation takes
+-- one; its fields are the service's
 pub record IsRow (facts : Facts) (rows : List Row) (r : Row) : Type 0 where
   pub creator_first : 1 ≤ r.creator
   pub creator_last : r.creator ≤ 64
   pub parent : ((r.parent == 0) || (nat_lt r.parent r.id && is_live rows r.parent)) ≡ true
+  pub its_parent : has_its_parent facts r ≡ true
   pub fields : AreFields facts.fields r.fields
 
 -- rows whose ids ascend above one number and up to another, and of which each meets a condition

@@ -239,7 +239,7 @@ pub record IsLoadedFor (facts : Facts) (walks : List WalkLine) (history : List E
 abbrev pub IsDemanded : Facts → List WalkLine → List Entry → List Call → Place → Tag → Type 0
 IsDemanded facts walks history unanswered p (Walk id k client) = IsRebuiltFor facts walks history unanswered p client id
 IsDemanded facts walks history unanswered p (Load key client) = IsLoadedFor facts walks history unanswered p client key
-IsDemanded facts walks history unanswered p (Client client seq) = Unit {0}
+IsDemanded facts walks history unanswered p (Client client seq) = IsUnderWay history unanswered p client p.item.shown
 
 -- ---- tracked state
 

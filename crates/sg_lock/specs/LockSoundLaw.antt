@@ -9,7 +9,8 @@ use Rattle.sg_base.specs.declared.reply.Code.TheVariants.{NoDesc, BadState, HasC
 use Rattle.sg_base.specs.declared.reply.Good.{Good}
 use Rattle.sg_base.specs.declared.reply.Reply.TheVariants.{Ok}
 use Rattle.sg_facts.specs.declared.row.Row.{Row}
-use Rattle.sg_facts.specs.Facts.{fun_at}
+use Rattle.sg_facts.specs.Facts.{fun_at, takes_parent}
+use Rattle.sg_facts.specs.Kinds.{may_be_root}
 use Rattle.sg_facts.specs.Track.{row_at, is_live, has_child, ends_with, row_after, new_row, fields_after, word_of, field_at}
 use Rattle.sg_facts.specs.Object.{Object, after}
 use Rattle.sg_facts.specs.Sound.{IsRow, AreRows, AreFields}
@@ -57,14 +58,18 @@ module _ (o : Object) (client seq desc : ℕ) (args : List Value) where
   abbrev call_of : ℕ → Call
   call_of fun = record { client = client; seq = seq; fun = fun; desc = desc; args = args }
 
+  abbrev has_at : ℕ → ℕ → Bool
+  has_at m p = if takes_parent (fun_at lock_facts.funs m) then may_be_root lock_facts.parents || not (p == 0) else p == 0
+
   -- a row of another row's id, parent and creator is a row, where its fields are
-  changed_row : (rows rows' : List Row) (r r' : Row) → (is_live rows r.parent ≡ true → is_live rows' r.parent ≡ true) → r'.id ≡ r.id → r'.parent ≡ r.parent → r'.creator ≡ r.creator
+  changed_row : (rows rows' : List Row) (r r' : Row) → (is_live rows r.parent ≡ true → is_live rows' r.parent ≡ true) → r'.id ≡ r.id → r'.parent ≡ r.parent → r'.creator ≡ r.creator → r'.made ≡ r.made
       → AreFields lock_facts.fields r'.fields → IsRow lock_facts rows r → IsRow lock_facts rows' r'
-  changed_row rows rows' r r' stays same_id same_parent same_creator fields are = record {
+  changed_row rows rows' r r' stays same_id same_parent same_creator same_made fields are = record {
     creator_first = omega (arith, same_creator, are.creator_first);
     creator_last = omega (arith, same_creator, are.creator_last);
     parent = ap (λ p. (p == 0) || (nat_lt p r'.id && is_live rows' p)) same_parent ∙ ap (λ n. (r.parent == 0) || (nat_lt r.parent n && is_live rows' r.parent)) same_id
         ∙ parent_stays rows rows' r stays are.parent;
+    its_parent = ap (λ m. has_at m r'.parent) same_made ∙ ap (λ p. has_at r.made p) same_parent ∙ are.its_parent;
     fields = fields;
   }
 
@@ -87,8 +92,8 @@ module _ (o : Object) (client seq desc : ℕ) (args : List Value) where
       stays live = is_live-changed (change fun good) (change_id fun good) rows r.parent ∙ live
 
       at : (b : Bool) → IsRow lock_facts (map (change fun good) rows) (cond b (row_after lock_facts (call_of fun) good r) r)
-      at true = changed_row rows (map (change fun good) rows) r (row_after lock_facts (call_of fun) good r) stays refl refl refl (fields r.fields are.fields) are
-      at false = changed_row rows (map (change fun good) rows) r r stays refl refl refl are.fields are
+      at true = changed_row rows (map (change fun good) rows) r (row_after lock_facts (call_of fun) good r) stays refl refl refl refl (fields r.fields are.fields) are
+      at false = changed_row rows (map (change fun good) rows) r r stays refl refl refl refl are.fields are
 
   -- the last cause of a refusal doesn't apply to a call that passes
   no_child : (a b c : Bool) {A : Type 0} (x y z : A) → cond a (Some x) (cond b (Some y) (cond c (Some z) None)) ≡ None → c ≡ false
@@ -114,10 +119,10 @@ module _ (o : Object) (client seq desc : ℕ) (args : List Value) where
       let id : o.given + 1 ≡ good.desc = ap (λ g. g.desc) one in
       let new = new_row lock_facts (call_of 1) good in
       let fresh : IsRow lock_facts (o.rows ++ new ∷ []) new =
-      record { creator_first = passes.within.client_first; creator_last = passes.within.client_last; parent = refl; fields = ((refl, omega arith), tt) } in
+      record { creator_first = passes.within.client_first; creator_last = passes.within.client_last; parent = refl; its_parent = refl; fields = ((refl, omega arith), tt) } in
       let rows = more (IsRow lock_facts (o.rows ++ new ∷ [])) 0 o.given o.rows new
       (other (IsRow lock_facts o.rows) (IsRow lock_facts (o.rows ++ new ∷ []))
-      (λ r are. changed_row o.rows (o.rows ++ new ∷ []) r r (is_live-more o.rows new r.parent) refl refl refl are.fields are) 0 o.given o.rows sound.general.rows)
+      (λ r are. changed_row o.rows (o.rows ++ new ∷ []) r r (is_live-more o.rows new r.parent) refl refl refl refl are.fields are) 0 o.given o.rows sound.general.rows)
       (omega (arith, id)) (omega (arith, id)) fresh in
       let owned = more IsOwned 0 o.given o.rows new sound.owned (omega (arith, id)) (omega (arith, id)) refl in
       record {
@@ -143,7 +148,7 @@ module _ (o : Object) (client seq desc : ℕ) (args : List Value) where
       λ r apart live. is_live-left test o.rows r.parent (ap (λ b. not (b || false)) apart) ∙ live in
       let rows = left (IsRow lock_facts (filter (λ r. test r.id) o.rows)) (λ r. test r.id) 0 o.given o.rows
       (other (λ r. IsRow lock_facts o.rows r × ((r.parent == desc) ≡ false)) (IsRow lock_facts (filter (λ r. test r.id) o.rows))
-      (λ r are. changed_row o.rows (filter (λ x. test x.id) o.rows) r r (stays r are.1) refl refl refl are.0.fields are.0) 0 o.given o.rows
+      (λ r are. changed_row o.rows (filter (λ x. test x.id) o.rows) r r (stays r are.1) refl refl refl refl are.0.fields are.0) 0 o.given o.rows
       (none_pass (IsRow lock_facts o.rows) (λ r. r.parent == desc) 0 o.given o.rows childless sound.general.rows)) in
       record { general = record { rows = rows; files = sound.general.files }; owned = left IsOwned (λ r. test r.id) 0 o.given o.rows sound.owned }
   keeps_at (suc (suc (suc (suc (suc n))))) good sound passes is = absurd (cc is)
@@ -163,5 +168,5 @@ lock_answers_and_keeps = record {
   empty = record { general = record { rows = tt; files = tt }; owned = tt };
   general = λ o sound. sound.general;
   keeps = λ o call good sound passes is. keeps_at o call.client call.seq call.desc call.args call.fun good sound passes is;
-  next = λ o call good sound passes is makes. next_at call.fun o.given (owner_in (row_at o.rows call.desc)) call.client good is makes;
+  next = λ o call good is makes. next_at call.fun o.given (owner_in (row_at o.rows call.desc)) call.client good is makes;
 }

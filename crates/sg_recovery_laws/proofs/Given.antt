@@ -82,7 +82,7 @@ pub id_more : (h : List Entry) (e : Entry) (client seq : ℕ) → list_any (is_n
 id_more h e client seq any = ap desc_in (find_more (is_numbered client seq) h e any)
 
 -- a creation is visible
-made_visible : (facts : Facts) (fun : ℕ) → (fun_at facts.funs fun).creation ≡ true → is_visible facts fun ≡ true
+pub made_visible : (facts : Facts) (fun : ℕ) → (fun_at facts.funs fun).creation ≡ true → is_visible facts fun ≡ true
 made_visible facts fun made = by facts.global (fun_at facts.funs fun).uses_file (fun_at facts.funs fun).creation made
   where
     by : (a b c : Bool) → c ≡ true → a || b || c ≡ true
@@ -91,7 +91,7 @@ made_visible facts fun made = by facts.global (fun_at facts.funs fun).uses_file 
     by false false c is = is
 
 -- the id of a creation that replied is the same in two histories
-abbrev IsSameFor : Facts → List Entry → List Entry → ℕ → Tag → Outcome → Type 0
+abbrev pub IsSameFor : Facts → List Entry → List Entry → ℕ → Tag → Outcome → Type 0
 IsSameFor facts h h' fun (Client client seq) (Replied (Ok good) patch) = (fun_at facts.funs fun).creation ≡ true → id_given h' client seq ≡ id_given h client seq
 IsSameFor facts h h' fun (Client client seq) (Replied (Refused code) patch) = Unit {0}
 IsSameFor facts h h' fun (Client client seq) Blocks = Unit {0}

@@ -117,10 +117,10 @@ entries_before-not_yet p history e before = filter_more (stands_before p) histor
 -- ---- an item more
 
 -- the place of an item behind those of its boot
-abbrev last_in : List Item → List Item → Item → Place
+abbrev pub last_in : List Item → List Item → Item → Place
 last_in older front item = record { older = older; front = front; item = item; rest = []; newer = [] }
 
-in_boot : (older front items : List Item) (item : Item)
+pub in_boot : (older front items : List Item) (item : Item)
     → HasOneMore item (last_in older (front ++ items) item) (places_in older front items []) (places_in older front (items ++ item ∷ []) [])
 in_boot older front [] item = record {
   grown = [];

@@ -338,7 +338,7 @@ made_stays s h run u u' kept r = record {
           absent = d.absent;
           whole = d.whole;
         }
-        by (Client client seq) d = tt
+        by (Client client seq) d = under p client p.item.shown d
 
 order_places : (facts : Facts) (run later : Run) (earlier es : List Entry) → places_of later ≡ places_of run → AreInOrder facts run earlier es → AreInOrder facts later earlier es
 order_places facts run later earlier [] same order = tt

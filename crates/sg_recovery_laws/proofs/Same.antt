@@ -97,7 +97,7 @@ demanded_same facts walks h u h' u' p r n same d = by p.item.tag d
       absent = d.absent;
       whole = subst (λ o. IsLoad o key p.item.outcome) (sym same.object) d.whole;
     }
-    by (Client client seq) d = tt
+    by (Client client seq) d = same.under_way client p.item.shown d
 
 pub tracked_same : (facts : Facts) (walks : List WalkLine) (h : List Entry) (u : List Call) (h' : List Entry) (u' : List Call) (p : Place) (r n : List Item)
     → IsSame facts walks h u h' u' p r n → IsTrackedAt facts walks h p p.item.tag → IsTrackedAt facts walks h' (again p r n) p.item.tag

@@ -186,7 +186,7 @@ or_assoc true b c = refl
 or_assoc false b c = refl
 
 -- what doesn't stand before a place doesn't stand before an earlier one of its boot
-earlier_place : (e : Entry) (older done : List Item) (item : Item) (items newer : List Item)
+pub earlier_place : (e : Entry) (older done : List Item) (item : Item) (items newer : List Item)
     → not (is_by_guard e.reply) && list_any (is_of e) (older ++ (done ++ item ∷ items)) && not (list_any (is_of e) newer) ≡ false
     → stands_before (record { older = older; front = done; item = item; rest = items; newer = newer }) e ≡ false
 earlier_place e older done item items newer is =

@@ -12,7 +12,7 @@ use Rattle.sg_base.specs.declared.call.Call.{Call}
 use Rattle.sg_base.specs.declared.reply.Good.{Good}
 use Rattle.sg_facts.specs.declared.row.Row.{Row}
 use Rattle.sg_facts.specs.declared.shape.Effect.{Effect}
-use Rattle.sg_facts.specs.Allowed.{implies, is_allowed, is_text_field, keeps_private, keeps_to, leaves_own, replays_all, sets_once}
+use Rattle.sg_facts.specs.Allowed.{acts_on_one, each_replays_well, steps_make_none, implies, is_allowed, is_text_field, keeps_private, keeps_to, leaves_own, replays_all, sets_once}
 use Rattle.sg_facts.specs.Facts.{Facts, Field, Fun, fun_at, no_fun, takes_desc, takes_parent}
 use Rattle.sg_facts.specs.Sound.{AreFields, AreRows, IsOfField, IsRow}
 use Rattle.sg_facts.specs.Track.{effect_of, empty_field, field_at, fields_after, new_row, row_after, row_at, rows_after}
@@ -22,20 +22,20 @@ use Rattle.sg_track.proofs.Ends.{same_test}
 
 -- ---- fields that were set once
 
-set_other : (fields : List Value) (i x : ℕ) (v : Value) → (i ≡ x → ⊥) → field_at (set fields i v) x ≡ field_at fields x
+pub set_other : (fields : List Value) (i x : ℕ) (v : Value) → (i ≡ x → ⊥) → field_at (set fields i v) x ≡ field_at fields x
 set_other [] i x v apart = refl
 set_other (f ∷ fields) zero zero v apart = absurd (apart refl)
 set_other (f ∷ fields) zero (suc x) v apart = refl
 set_other (f ∷ fields) (suc i) zero v apart = refl
 set_other (f ∷ fields) (suc i) (suc x) v apart = set_other fields i x v (λ same. apart (ap suc same))
 
-set_same : (fields : List Value) (x : ℕ) (v : Value) → x < length fields → field_at (set fields x v) x ≡ v
+pub set_same : (fields : List Value) (x : ℕ) (v : Value) → x < length fields → field_at (set fields x v) x ≡ v
 set_same [] x v within = absurd (omega arith)
 set_same (f ∷ fields) zero v within = refl
 set_same (f ∷ fields) (suc x) v within = set_same fields x v (omega arith)
 
 -- a field that no effect sets stays
-untouched : (call : Call) (good : Good) (es : List (ℕ × Effect)) (fields : List Value) (x : ℕ) → list_any (λ e. e.0 == x) es ≡ false → field_at (fields_after call good es fields) x ≡ field_at fields x
+pub untouched : (call : Call) (good : Good) (es : List (ℕ × Effect)) (fields : List Value) (x : ℕ) → list_any (λ e. e.0 == x) es ≡ false → field_at (fields_after call good es fields) x ≡ field_at fields x
 untouched call good [] fields x none = refl
 untouched call good (e ∷ es) fields x none =
     let v = effect_of call good e.1 (field_at fields e.0) in
@@ -73,7 +73,7 @@ final_new P call good (e ∷ es) fields once final =
           final x (omega (arith, within, length-set fields e.0 v)) (either_true (e.0 == x) (list_any (λ o. o.0 == x) es) touched)),
     )
 
-length_after : (call : Call) (good : Good) (es : List (ℕ × Effect)) (fields : List Value) → length (fields_after call good es fields) ≡ length fields
+pub length_after : (call : Call) (good : Good) (es : List (ℕ × Effect)) (fields : List Value) → length (fields_after call good es fields) ≡ length fields
 length_after call good [] fields = refl
 length_after call good (e ∷ es) fields = length_after call good es (set fields e.0 (effect_of call good e.1 (field_at fields e.0))) ∙ length-set fields e.0 (effect_of call good e.1 (field_at fields e.0))
 
@@ -117,7 +117,11 @@ parts_of : (facts : Facts) → is_allowed facts ≡ true → (nat_le (length fac
 parts_of facts allowed =
     let few = nat_le (length facts.fields) 8 in
     let all = list_all (keeps_to facts) facts.funs in
-    let front = (both_true (few && keeps_private facts && all) (replays_all facts (length facts.funs)) allowed).0 in
+    let n = length facts.funs in
+    let six = (both_true (few && keeps_private facts && all && replays_all facts n && list_all (acts_on_one facts) facts.funs && each_replays_well facts n) (steps_make_none facts) allowed).0 in
+    let five = (both_true (few && keeps_private facts && all && replays_all facts n && list_all (acts_on_one facts) facts.funs) (each_replays_well facts n) six).0 in
+    let four = (both_true (few && keeps_private facts && all && replays_all facts n) (list_all (acts_on_one facts) facts.funs) five).0 in
+    let front = (both_true (few && keeps_private facts && all) (replays_all facts n) four).0 in
     let two = both_true (few && keeps_private facts) all front in
     ((both_true few (keeps_private facts) two.0).0, two.1)
 

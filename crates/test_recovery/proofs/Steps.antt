@@ -42,7 +42,7 @@ committed = committed_stays lock_stubs [] (record { items = []; stop = None }) [
       running = refl;
       table = (refl, refl);
       call = (record { its = refl; made = (0, omega arith, refl) }, refl);
-      settled = record { walk = tt; demand = tt; state = record { whole = refl; rows = tt; real = refl; file = tt } };
+      settled = record { walk = tt; demand = record { its = record { its = refl; made = (0, omega arith, refl) }; above = refl; first = refl }; state = record { whole = refl; rows = tt; real = refl; file = tt } };
     }
 
 -- the service stops once it is committed, and is booted again; a take is made

@@ -25,7 +25,7 @@ trigger_not_twice-walks : Each (λ p. IsWalked event_stubs.facts event_stubs.wal
 trigger_not_twice-walks = (tt, (tt, (record { unmade = refl; next = refl; parent = refl; call = refl; real = refl; outcome = tt }, (record { unmade = refl; next = refl; parent = refl; call = refl; real = refl; outcome = tt }, (tt, (tt, tt))))))
 
 trigger_not_twice-demanded : Each (λ p. IsDemanded event_stubs.facts event_stubs.walks trigger_not_twice_history (waiting trigger_not_twice_ends) p p.item.tag) (places_of trigger_not_twice)
-trigger_not_twice-demanded = (tt, (tt, (record { call = call_of 2 1 2 1; under_way = record { its = record { its = refl; made = (2, omega arith, refl) }; above = refl; first = refl }; least = refl }, (record { call = call_of 2 1 2 1; under_way = record { its = record { its = refl; made = (2, omega arith, refl) }; above = refl; first = refl }; least = refl }, (tt, (tt, tt))))))
+trigger_not_twice-demanded = (record { its = record { its = refl; made = (0, omega arith, refl) }; above = refl; first = refl }, (record { its = record { its = refl; made = (1, omega arith, refl) }; above = refl; first = refl }, (record { call = call_of 2 1 2 1; under_way = record { its = record { its = refl; made = (2, omega arith, refl) }; above = refl; first = refl }; least = refl }, (record { call = call_of 2 1 2 1; under_way = record { its = record { its = refl; made = (2, omega arith, refl) }; above = refl; first = refl }; least = refl }, (record { its = record { its = refl; made = (2, omega arith, refl) }; above = refl; first = refl }, (record { its = record { its = refl; made = (3, omega arith, refl) }; above = refl; first = refl }, tt))))))
 
 trigger_not_twice-tracked : Each (λ p. IsTrackedAt event_stubs.facts event_stubs.walks trigger_not_twice_history p p.item.tag) (places_of trigger_not_twice)
 trigger_not_twice-tracked = (record { whole = refl; rows = tt; real = refl; file = tt }, (record { whole = refl; rows = (record { id = refl; made = refl; parent = refl; state = refl; fields = refl }, tt); real = refl; file = tt }, (tt, (tt, (record { whole = refl; rows = (record { id = refl; made = refl; parent = refl; state = refl; fields = refl }, tt); real = refl; file = tt }, (record { whole = refl; rows = (record { id = refl; made = refl; parent = refl; state = refl; fields = refl }, tt); real = refl; file = tt }, tt))))))
@@ -62,7 +62,7 @@ present_value-walks : Each (λ p. IsWalked event_stubs.facts event_stubs.walks p
 present_value-walks = (tt, (tt, (tt, (tt, (record { unmade = refl; next = refl; parent = refl; call = refl; real = refl; outcome = tt }, (record { unmade = refl; next = refl; parent = refl; call = refl; real = refl; outcome = tt }, (tt, tt)))))))
 
 present_value-demanded : Each (λ p. IsDemanded event_stubs.facts event_stubs.walks present_value_history (waiting present_value_ends) p p.item.tag) (places_of present_value)
-present_value-demanded = (tt, (tt, (tt, (tt, (record { call = call_of 1 5 2 1; under_way = record { its = record { its = refl; made = (4, omega arith, refl) }; above = refl; first = refl }; least = refl }, (record { call = call_of 1 5 2 1; under_way = record { its = record { its = refl; made = (4, omega arith, refl) }; above = refl; first = refl }; least = refl }, (tt, tt)))))))
+present_value-demanded = (record { its = record { its = refl; made = (0, omega arith, refl) }; above = refl; first = refl }, (record { its = record { its = refl; made = (1, omega arith, refl) }; above = refl; first = refl }, (record { its = record { its = refl; made = (2, omega arith, refl) }; above = refl; first = refl }, (record { its = record { its = refl; made = (3, omega arith, refl) }; above = refl; first = refl }, (record { call = call_of 1 5 2 1; under_way = record { its = record { its = refl; made = (4, omega arith, refl) }; above = refl; first = refl }; least = refl }, (record { call = call_of 1 5 2 1; under_way = record { its = record { its = refl; made = (4, omega arith, refl) }; above = refl; first = refl }; least = refl }, (record { its = record { its = refl; made = (4, omega arith, refl) }; above = refl; first = refl }, tt)))))))
 
 present_value-tracked : Each (λ p. IsTrackedAt event_stubs.facts event_stubs.walks present_value_history p p.item.tag) (places_of present_value)
 present_value-tracked = (record { whole = refl; rows = tt; real = refl; file = tt }, (record { whole = refl; rows = (record { id = refl; made = refl; parent = refl; state = refl; fields = refl }, tt); real = refl; file = tt }, (record { whole = refl; rows = (record { id = refl; made = refl; parent = refl; state = refl; fields = refl }, tt); real = refl; file = tt }, (record { whole = refl; rows = (record { id = refl; made = refl; parent = refl; state = refl; fields = refl }, tt); real = refl; file = tt }, (tt, (tt, (record { whole = refl; rows = (record { id = refl; made = refl; parent = refl; state = refl; fields = refl }, tt); real = refl; file = tt }, tt)))))))
@@ -99,7 +99,7 @@ blocked_redone-walks : Each (λ p. IsWalked event_stubs.facts event_stubs.walks 
 blocked_redone-walks = (tt, (tt, (record { unmade = refl; next = refl; parent = refl; call = refl; real = refl; outcome = tt }, (tt, (tt, tt)))))
 
 blocked_redone-demanded : Each (λ p. IsDemanded event_stubs.facts event_stubs.walks blocked_redone_history (waiting blocked_redone_ends) p p.item.tag) (places_of blocked_redone)
-blocked_redone-demanded = (tt, (tt, (record { call = call_of 2 1 2 1; under_way = record { its = record { its = refl; made = (2, omega arith, refl) }; above = refl; first = refl }; least = refl }, (tt, (tt, tt)))))
+blocked_redone-demanded = (record { its = record { its = refl; made = (0, omega arith, refl) }; above = refl; first = refl }, (record { its = record { its = refl; made = (2, omega arith, refl) }; above = refl; first = refl }, (record { call = call_of 2 1 2 1; under_way = record { its = record { its = refl; made = (2, omega arith, refl) }; above = refl; first = refl }; least = refl }, (record { its = record { its = refl; made = (1, omega arith, refl) }; above = refl; first = refl }, (record { its = record { its = refl; made = (2, omega arith, refl) }; above = refl; first = refl }, tt)))))
 
 blocked_redone-tracked : Each (λ p. IsTrackedAt event_stubs.facts event_stubs.walks blocked_redone_history p p.item.tag) (places_of blocked_redone)
 blocked_redone-tracked = (record { whole = refl; rows = tt; real = refl; file = tt }, (record { whole = refl; rows = (record { id = refl; made = refl; parent = refl; state = refl; fields = refl }, tt); real = refl; file = tt }, (tt, (record { whole = refl; rows = (record { id = refl; made = refl; parent = refl; state = refl; fields = refl }, tt); real = refl; file = tt }, (record { whole = refl; rows = (record { id = refl; made = refl; parent = refl; state = refl; fields = refl }, tt); real = refl; file = tt }, tt)))))

@@ -26,7 +26,7 @@ parent_first-walks : Each (λ p. IsWalked mm_stubs.facts mm_stubs.walks parent_f
 parent_first-walks = (tt, (tt, (record { unmade = refl; next = refl; parent = refl; call = refl; real = refl; outcome = tt }, (record { unmade = refl; next = refl; parent = refl; call = refl; real = refl; outcome = tt }, (tt, tt)))))
 
 parent_first-demanded : Each (λ p. IsDemanded mm_stubs.facts mm_stubs.walks parent_first_history (waiting parent_first_ends) p p.item.tag) (places_of parent_first)
-parent_first-demanded = (tt, (tt, (record { call = call_of 2 2 3 2; under_way = record { its = record { its = refl; made = (2, omega arith, refl) }; above = refl; first = refl }; least = refl }, (record { call = call_of 2 2 3 2; under_way = record { its = record { its = refl; made = (2, omega arith, refl) }; above = refl; first = refl }; least = refl }, (tt, tt)))))
+parent_first-demanded = (record { its = record { its = refl; made = (0, omega arith, refl) }; above = refl; first = refl }, (record { its = record { its = refl; made = (1, omega arith, refl) }; above = refl; first = refl }, (record { call = call_of 2 2 3 2; under_way = record { its = record { its = refl; made = (2, omega arith, refl) }; above = refl; first = refl }; least = refl }, (record { call = call_of 2 2 3 2; under_way = record { its = record { its = refl; made = (2, omega arith, refl) }; above = refl; first = refl }; least = refl }, (record { its = record { its = refl; made = (2, omega arith, refl) }; above = refl; first = refl }, tt)))))
 
 parent_first-tracked : Each (λ p. IsTrackedAt mm_stubs.facts mm_stubs.walks parent_first_history p p.item.tag) (places_of parent_first)
 parent_first-tracked = (record { whole = refl; rows = tt; real = refl; file = tt }, (record { whole = refl; rows = (record { id = refl; made = refl; parent = refl; state = refl; fields = refl }, tt); real = refl; file = tt }, (tt, (tt, (record { whole = refl; rows = (record { id = refl; made = refl; parent = refl; state = refl; fields = refl }, (record { id = refl; made = refl; parent = refl; state = refl; fields = refl }, tt)); real = refl; file = tt }, tt)))))
@@ -63,7 +63,7 @@ occupied_after_stop-walks : Each (λ p. IsWalked mm_stubs.facts mm_stubs.walks o
 occupied_after_stop-walks = (tt, (record { unmade = refl; next = refl; parent = refl; call = refl; real = refl; outcome = tt }, (tt, tt)))
 
 occupied_after_stop-demanded : Each (λ p. IsDemanded mm_stubs.facts mm_stubs.walks occupied_after_stop_history (waiting occupied_after_stop_ends) p p.item.tag) (places_of occupied_after_stop)
-occupied_after_stop-demanded = (tt, (record { call = call_with 1 2 1 0 ((word 4096) ∷ []); under_way = record { its = record { its = refl; made = (1, omega arith, refl) }; above = refl; first = refl }; least = refl }, (tt, tt)))
+occupied_after_stop-demanded = (record { its = record { its = refl; made = (0, omega arith, refl) }; above = refl; first = refl }, (record { call = call_with 1 2 1 0 ((word 4096) ∷ []); under_way = record { its = record { its = refl; made = (1, omega arith, refl) }; above = refl; first = refl }; least = refl }, (record { its = record { its = refl; made = (1, omega arith, refl) }; above = refl; first = refl }, tt)))
 
 occupied_after_stop-tracked : Each (λ p. IsTrackedAt mm_stubs.facts mm_stubs.walks occupied_after_stop_history p p.item.tag) (places_of occupied_after_stop)
 occupied_after_stop-tracked = (record { whole = refl; rows = tt; real = refl; file = tt }, (tt, (record { whole = refl; rows = (record { id = refl; made = refl; parent = refl; state = refl; fields = refl }, tt); real = refl; file = tt }, tt)))
@@ -100,7 +100,7 @@ subtree-walks : Each (λ p. IsWalked mm_stubs.facts mm_stubs.walks subtree_histo
 subtree-walks = (tt, (tt, (tt, (record { unmade = refl; next = refl; parent = refl; call = refl; real = refl; outcome = tt }, (record { unmade = refl; next = refl; parent = refl; call = refl; real = refl; outcome = tt }, (tt, (tt, tt)))))))
 
 subtree-demanded : Each (λ p. IsDemanded mm_stubs.facts mm_stubs.walks subtree_history (waiting subtree_ends) p p.item.tag) (places_of subtree)
-subtree-demanded = (tt, (tt, (tt, (record { call = call_with 2 1 4 0 ((word 1) ∷ (word 8192) ∷ []); under_way = record { its = record { its = refl; made = (4, omega arith, refl) }; above = refl; first = refl }; least = refl }, (record { call = call_with 2 1 4 0 ((word 1) ∷ (word 8192) ∷ []); under_way = record { its = record { its = refl; made = (4, omega arith, refl) }; above = refl; first = refl }; least = refl }, (tt, (tt, tt)))))))
+subtree-demanded = (record { its = record { its = refl; made = (0, omega arith, refl) }; above = refl; first = refl }, (record { its = record { its = refl; made = (1, omega arith, refl) }; above = refl; first = refl }, (record { its = record { its = refl; made = (2, omega arith, refl) }; above = refl; first = refl }, (record { call = call_with 2 1 4 0 ((word 1) ∷ (word 8192) ∷ []); under_way = record { its = record { its = refl; made = (4, omega arith, refl) }; above = refl; first = refl }; least = refl }, (record { call = call_with 2 1 4 0 ((word 1) ∷ (word 8192) ∷ []); under_way = record { its = record { its = refl; made = (4, omega arith, refl) }; above = refl; first = refl }; least = refl }, (record { its = record { its = refl; made = (3, omega arith, refl) }; above = refl; first = refl }, (record { its = record { its = refl; made = (4, omega arith, refl) }; above = refl; first = refl }, tt)))))))
 
 subtree-tracked : Each (λ p. IsTrackedAt mm_stubs.facts mm_stubs.walks subtree_history p p.item.tag) (places_of subtree)
 subtree-tracked = (record { whole = refl; rows = tt; real = refl; file = tt }, (record { whole = refl; rows = (record { id = refl; made = refl; parent = refl; state = refl; fields = refl }, tt); real = refl; file = tt }, (record { whole = refl; rows = (record { id = refl; made = refl; parent = refl; state = refl; fields = refl }, (record { id = refl; made = refl; parent = refl; state = refl; fields = refl }, tt)); real = refl; file = tt }, (tt, (tt, (record { whole = refl; rows = (record { id = refl; made = refl; parent = refl; state = refl; fields = refl }, tt); real = refl; file = tt }, (record { whole = refl; rows = tt; real = refl; file = tt }, tt)))))))

@@ -26,7 +26,7 @@ file_loaded-walks : Each (λ p. IsWalked ramfs_stubs.facts ramfs_stubs.walks fil
 file_loaded-walks = (tt, (tt, (tt, (tt, (tt, (record { unmade = refl; next = refl; parent = refl; call = refl; real = refl; outcome = tt }, (record { unmade = refl; next = refl; parent = refl; call = refl; real = refl; outcome = tt }, (tt, (tt, tt)))))))))
 
 file_loaded-demanded : Each (λ p. IsDemanded ramfs_stubs.facts ramfs_stubs.walks file_loaded_history (waiting file_loaded_ends) p p.item.tag) (places_of file_loaded)
-file_loaded-demanded = (tt, (tt, (tt, (record { call = call_with 2 2 2 2 ((word 16) ∷ []); under_way = record { its = record { its = refl; made = (3, omega arith, refl) }; above = refl; first = refl }; rows = refl; file = refl; absent = refl; whole = (refl, refl, refl, λ e. cc) }, (tt, (record { call = call_with 1 3 4 1 ((word 9) ∷ []); under_way = record { its = record { its = refl; made = (4, omega arith, refl) }; above = refl; first = refl }; least = refl }, (record { call = call_with 1 3 4 1 ((word 9) ∷ []); under_way = record { its = record { its = refl; made = (4, omega arith, refl) }; above = refl; first = refl }; least = refl }, (tt, (tt, tt)))))))))
+file_loaded-demanded = (record { its = record { its = refl; made = (0, omega arith, refl) }; above = refl; first = refl }, (record { its = record { its = refl; made = (1, omega arith, refl) }; above = refl; first = refl }, (record { its = record { its = refl; made = (2, omega arith, refl) }; above = refl; first = refl }, (record { call = call_with 2 2 2 2 ((word 16) ∷ []); under_way = record { its = record { its = refl; made = (3, omega arith, refl) }; above = refl; first = refl }; rows = refl; file = refl; absent = refl; whole = (refl, refl, refl, λ e. cc) }, (record { its = record { its = refl; made = (3, omega arith, refl) }; above = refl; first = refl }, (record { call = call_with 1 3 4 1 ((word 9) ∷ []); under_way = record { its = record { its = refl; made = (4, omega arith, refl) }; above = refl; first = refl }; least = refl }, (record { call = call_with 1 3 4 1 ((word 9) ∷ []); under_way = record { its = record { its = refl; made = (4, omega arith, refl) }; above = refl; first = refl }; least = refl }, (record { its = record { its = refl; made = (4, omega arith, refl) }; above = refl; first = refl }, (record { its = record { its = refl; made = (5, omega arith, refl) }; above = refl; first = refl }, tt)))))))))
 
 file_loaded-tracked : Each (λ p. IsTrackedAt ramfs_stubs.facts ramfs_stubs.walks file_loaded_history p p.item.tag) (places_of file_loaded)
 file_loaded-tracked = (record { whole = refl; rows = tt; real = refl; file = tt }, (record { whole = refl; rows = (record { id = refl; made = refl; parent = refl; state = refl; fields = refl }, tt); real = refl; file = (refl, refl) }, (record { whole = refl; rows = tt; real = refl; file = tt }, (tt, (record { whole = refl; rows = (record { id = refl; made = refl; parent = refl; state = refl; fields = refl }, tt); real = refl; file = (refl, refl) }, (tt, (tt, (record { whole = refl; rows = (record { id = refl; made = refl; parent = refl; state = refl; fields = refl }, tt); real = refl; file = tt }, (record { whole = refl; rows = (record { id = refl; made = refl; parent = refl; state = refl; fields = refl }, tt); real = refl; file = (refl, refl) }, tt)))))))))
@@ -63,7 +63,7 @@ held_lost-walks : Each (λ p. IsWalked ramfs_stubs.facts ramfs_stubs.walks held_
 held_lost-walks = (tt, (tt, (record { unmade = refl; next = refl; parent = refl; call = refl; real = refl; outcome = tt }, (tt, (tt, (tt, tt))))))
 
 held_lost-demanded : Each (λ p. IsDemanded ramfs_stubs.facts ramfs_stubs.walks held_lost_history (waiting held_lost_ends) p p.item.tag) (places_of held_lost)
-held_lost-demanded = (tt, (tt, (record { call = call_with 1 2 4 1 ((word 4) ∷ []); under_way = record { its = record { its = refl; made = (3, omega arith, refl) }; above = refl; first = refl }; least = refl }, (tt, (tt, (tt, tt))))))
+held_lost-demanded = (record { its = record { its = refl; made = (0, omega arith, refl) }; above = refl; first = refl }, (record { its = record { its = refl; made = (3, omega arith, refl) }; above = refl; first = refl }, (record { call = call_with 1 2 4 1 ((word 4) ∷ []); under_way = record { its = record { its = refl; made = (3, omega arith, refl) }; above = refl; first = refl }; least = refl }, (record { its = record { its = refl; made = (2, omega arith, refl) }; above = refl; first = refl }, (record { its = record { its = refl; made = (3, omega arith, refl) }; above = refl; first = refl }, (record { its = record { its = refl; made = (4, omega arith, refl) }; above = refl; first = refl }, tt))))))
 
 held_lost-tracked : Each (λ p. IsTrackedAt ramfs_stubs.facts ramfs_stubs.walks held_lost_history p p.item.tag) (places_of held_lost)
 held_lost-tracked = (record { whole = refl; rows = tt; real = refl; file = tt }, (record { whole = refl; rows = (record { id = refl; made = refl; parent = refl; state = refl; fields = refl }, tt); real = refl; file = tt }, (tt, (record { whole = refl; rows = tt; real = refl; file = tt }, (record { whole = refl; rows = (record { id = refl; made = refl; parent = refl; state = refl; fields = refl }, tt); real = refl; file = tt }, (record { whole = refl; rows = (record { id = refl; made = refl; parent = refl; state = refl; fields = refl }, tt); real = refl; file = (refl, refl) }, tt))))))
@@ -100,7 +100,7 @@ held_behind-walks : Each (λ p. IsWalked ramfs_stubs.facts ramfs_stubs.walks hel
 held_behind-walks = (tt, (tt, (tt, (tt, tt))))
 
 held_behind-demanded : Each (λ p. IsDemanded ramfs_stubs.facts ramfs_stubs.walks held_behind_history (waiting held_behind_ends) p p.item.tag) (places_of held_behind)
-held_behind-demanded = (tt, (tt, (tt, (tt, tt))))
+held_behind-demanded = (record { its = record { its = refl; made = (0, omega arith, refl) }; above = refl; first = refl }, (record { its = record { its = refl; made = (2, omega arith, refl) }; above = refl; first = refl }, (record { its = record { its = refl; made = (1, omega arith, refl) }; above = refl; first = refl }, (record { its = record { its = refl; made = (3, omega arith, refl) }; above = refl; first = refl }, tt))))
 
 held_behind-tracked : Each (λ p. IsTrackedAt ramfs_stubs.facts ramfs_stubs.walks held_behind_history p p.item.tag) (places_of held_behind)
 held_behind-tracked = (record { whole = refl; rows = tt; real = refl; file = tt }, (record { whole = refl; rows = (record { id = refl; made = refl; parent = refl; state = refl; fields = refl }, tt); real = refl; file = tt }, (record { whole = refl; rows = tt; real = refl; file = tt }, (record { whole = refl; rows = (record { id = refl; made = refl; parent = refl; state = refl; fields = refl }, tt); real = refl; file = (refl, refl) }, tt))))
