@@ -1,74 +1,32 @@
 -- The facts of the event service, as its standard interface states them.
 use Rattle.std.specs.Prelude.{true, false, [], ◌∷◌, codes}
-use Rattle.sg_facts.specs.Facts.{Facts, Fun}
+use Rattle.sg_facts.specs.Facts.{Facts, Fun, no_fun}
 use Rattle.sg_facts.specs.declared.shape.Parents.TheVariants.{Never}
 use Rattle.sg_facts.specs.declared.shape.Kind.TheVariants.{Desc, Word}
-use Rattle.sg_facts.specs.declared.shape.Leaves.TheVariants.{Own, Same}
+use Rattle.sg_facts.specs.declared.shape.Leaves.TheVariants.{Same}
 use Rattle.sg_facts.specs.declared.shape.Effect.TheVariants.{AddArg, SubOne}
 
 -- evt_split() makes an event that nobody triggered
 abbrev pub evt_split : Fun
-evt_split = record {
-  name = codes "evt_split";
-  kinds = [];
-  creation = true;
-  terminal = false;
-  block = false;
-  wakeup = false;
-  query = false;
-  all = false;
-  uses_file = false;
-  leaves = Own;
-  effects = [];
-}
+evt_split = record no_fun { name = codes "evt_split"; creation = true }
 
 -- evt_wait(id) takes one from its count, and may block
 abbrev pub evt_wait : Fun
-evt_wait = record {
-  name = codes "evt_wait";
-  kinds = Desc ∷ [];
-  creation = false;
-  terminal = false;
-  block = true;
-  wakeup = false;
-  query = false;
-  all = false;
-  uses_file = false;
-  leaves = Same;
-  effects = (0, SubOne) ∷ [];
-}
+evt_wait = record no_fun { name = codes "evt_wait"; kinds = Desc ∷ []; block = true; leaves = Same; effects = (0, SubOne) ∷ [] }
 
 -- evt_trigger(id, n) adds n to its count, and wakes who waits for it
 abbrev pub evt_trigger : Fun
-evt_trigger = record {
+evt_trigger = record no_fun {
   name = codes "evt_trigger";
   kinds = Desc ∷ Word ∷ [];
-  creation = false;
-  terminal = false;
-  block = false;
   wakeup = true;
-  query = false;
-  all = false;
-  uses_file = false;
   leaves = Same;
   effects = (0, AddArg 0) ∷ [];
 }
 
 -- evt_free(id) ends it
 abbrev pub evt_free : Fun
-evt_free = record {
-  name = codes "evt_free";
-  kinds = Desc ∷ [];
-  creation = false;
-  terminal = true;
-  block = false;
-  wakeup = false;
-  query = false;
-  all = false;
-  uses_file = false;
-  leaves = Own;
-  effects = [];
-}
+evt_free = record no_fun { name = codes "evt_free"; kinds = Desc ∷ []; terminal = true }
 
 -- the facts of the service: a global one, without parents and files
 abbrev pub event_facts : Facts

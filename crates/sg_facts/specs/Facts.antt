@@ -48,18 +48,41 @@ pub record Facts : Type 0 where
 abbrev pub has_flag : ℕ → ℕ → Bool
 has_flag flags bit = bit_at flags bit == 1
 
+-- the bits of a function's flags: it makes a descriptor; it ends its own; it may block; its Ok wakes who is blocked on its descriptor;
+-- it changes no descriptor; it looks at all live rows; it reads or writes the file of its descriptor
+abbrev pub creation_bit : ℕ
+creation_bit = 0
+
+abbrev pub terminal_bit : ℕ
+terminal_bit = 1
+
+abbrev pub block_bit : ℕ
+block_bit = 2
+
+abbrev pub wakeup_bit : ℕ
+wakeup_bit = 3
+
+abbrev pub query_bit : ℕ
+query_bit = 4
+
+abbrev pub all_bit : ℕ
+all_bit = 5
+
+abbrev pub uses_file_bit : ℕ
+uses_file_bit = 6
+
 -- a function of a shape, as plain data
 abbrev pub fun_of_shape : FunShape → Fun
 fun_of_shape f = record {
   name = f.name.now;
   kinds = f.kinds.now;
-  creation = has_flag f.flags 0;
-  terminal = has_flag f.flags 1;
-  block = has_flag f.flags 2;
-  wakeup = has_flag f.flags 3;
-  query = has_flag f.flags 4;
-  all = has_flag f.flags 5;
-  uses_file = has_flag f.flags 6;
+  creation = has_flag f.flags creation_bit;
+  terminal = has_flag f.flags terminal_bit;
+  block = has_flag f.flags block_bit;
+  wakeup = has_flag f.flags wakeup_bit;
+  query = has_flag f.flags query_bit;
+  all = has_flag f.flags all_bit;
+  uses_file = has_flag f.flags uses_file_bit;
   leaves = f.leaves;
   effects = map (λ p. (p.0, p.1)) f.effects.now;
 }

@@ -12,11 +12,8 @@ use Rattle.sg_facts.specs.declared.shape.Parents.TheVariants.{Never, Same, Cross
 use Rattle.sg_facts.specs.Facts.{Facts, Fun, fun_at, takes_desc, takes_parent}
 use Rattle.sg_facts.specs.Interface.{Declared, moves_on}
 use Rattle.sg_facts.specs.Track.{row_at, has_child}
+use Rattle.sg_facts.specs.Limits.{most_live}
 use Rattle.sg_facts.specs.Object.{Object}
-
--- the greatest number of live rows
-abbrev pub most_live : ℕ
-most_live = 1024
 
 -- whether a row is live, and made by the client
 abbrev pub is_own : Option Row → ℕ → Bool

@@ -11,6 +11,7 @@ use Rattle.sg_facts.specs.declared.outcome.Outcome.{Outcome}
 use Rattle.sg_facts.specs.declared.outcome.Outcome.TheVariants.{Replied, Blocks, Stopped, NoMemory}
 use Rattle.sg_facts.specs.declared.outcome.Patch.{Patch}
 use Rattle.sg_facts.specs.Facts.{Facts}
+use Rattle.sg_facts.specs.Limits.{most_file, most_path, most_written}
 use Rattle.sg_facts.specs.Object.{Object, after, patch_of, file_at, set_file}
 use Rattle.sg_facts.specs.Legal.{Table}
 
@@ -54,10 +55,10 @@ Invokes facts ask parts old call points NoMemory new later = Stays old points ne
 
 -- a patch is at a path of at most 256 bytes, has at most 256 bytes, begins within the file and ends at most at 65,536
 pub record FitsFile (o : Object) (p : Patch) : Type 0 where
-  pub key : length p.key ≤ 256
-  pub bytes : length p.bytes ≤ 256
+  pub key : length p.key ≤ most_path
+  pub bytes : length p.bytes ≤ most_written
   pub within : p.from ≤ length (file_at o.files p.key)
-  pub end : p.from + length p.bytes ≤ 65536
+  pub end : p.from + length p.bytes ≤ most_file
 
 abbrev pub IfPatch : Object → Option Patch → Type 0
 IfPatch o None = Unit {0}

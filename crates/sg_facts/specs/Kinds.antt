@@ -8,6 +8,7 @@ use Rattle.sg_facts.specs.declared.shape.Kind.TheVariants.{Desc, Parent, Word as
 use Rattle.sg_facts.specs.declared.shape.Parents.{Parents}
 use Rattle.sg_facts.specs.declared.shape.Parents.TheVariants.{Never, Same, Cross}
 use Rattle.sg_facts.specs.Facts.{Facts, fun_at, takes_desc, takes_parent}
+use Rattle.sg_facts.specs.Limits.{end_of_counts, last_client}
 use Rattle.sg_facts.specs.Track.{is_live, has_child}
 use Rattle.sg_facts.specs.Object.{Object}
 use Rattle.sg_facts.specs.Counted.{CountedBelow}
@@ -43,9 +44,9 @@ pub record IsCall (facts : Facts) (call : Call) : Type 0 where
 -- the ids given come near 2^64
 pub record IsWithin (facts : Facts) (o : Object) (call : Call) : Type 0 where
   pub client_first : 1 ≤ call.client
-  pub client_last : call.client ≤ 64
-  pub counted : CountedBelow (2 ^ 63) facts o.rows
-  pub given : o.given < 2 ^ 63
+  pub client_last : call.client ≤ last_client
+  pub counted : CountedBelow end_of_counts facts o.rows
+  pub given : o.given < end_of_counts
 
 abbrev pub may_be_root : Parents → Bool
 may_be_root Same = true

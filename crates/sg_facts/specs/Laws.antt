@@ -8,6 +8,7 @@ use Rattle.sg_base.specs.declared.reply.Good.{Good}
 use Rattle.sg_base.specs.declared.reply.Reply.TheVariants.{Ok, Refused}
 use Rattle.sg_facts.specs.Facts.{Facts, fun_at}
 use Rattle.sg_facts.specs.Interface.{Declared}
+use Rattle.sg_facts.specs.Limits.{end_of_counts}
 use Rattle.sg_facts.specs.Object.{Object, empty_object, after}
 use Rattle.sg_facts.specs.Guard.{guard, is_guards}
 use Rattle.sg_facts.specs.Legal.{Table}
@@ -80,7 +81,7 @@ pub record GoesOn (i : Declared) (ask : Table) (names : List (ℕ × ℕ)) (o he
 -- the next call of the walk of a row whose parent is whole goes on
 pub record WalkGoesOn (facts : Facts) (ask : Table) (sound : Object → Type 0) : Type 0 where
   pub goes_on : (i : Declared) (names : List (ℕ × ℕ)) (o held : Object) (r : Row) (done rest : List ℕ) (fun : ℕ)
-      → i.facts ≡ facts → Fits i → sound o → AreReachable i o.rows → HoldsPart i names o held → CountedBelow (2 ^ 63) facts held.rows → held.given < 2 ^ 63
+      → i.facts ≡ facts → Fits i → sound o → AreReachable i o.rows → HoldsPart i names o held → CountedBelow end_of_counts facts held.rows → held.given < end_of_counts
       → row_at o.rows r.id ≡ Some r → IsWalkOf i (done ++ fun ∷ rest) r.made r.state (set_of r) → IsAt i names held r done
       → ParentIsWhole names o held r → GoesOn i ask names o held r done fun
 

@@ -11,6 +11,7 @@ pub mod Invoke
 pub mod Kinds
 pub mod Laws
 pub mod Legal
+pub mod Limits
 pub mod Needs
 pub mod Object
 pub mod Sound
@@ -19,3 +20,4 @@ pub mod Trace
 pub mod Track
 pub mod WalkArray
 pub mod Walks
+pub mod Words

@@ -5,6 +5,7 @@ use Rattle.sg_base.specs.declared.value.Value.TheVariants.{Word, Text}
 use Rattle.sg_facts.specs.declared.row.Row.{Row}
 use Rattle.sg_facts.specs.Facts.{Facts, Field, fun_at, takes_parent}
 use Rattle.sg_facts.specs.Kinds.{may_be_root}
+use Rattle.sg_facts.specs.Limits.{last_client}
 use Rattle.sg_facts.specs.Track.{is_live}
 use Rattle.sg_facts.specs.Object.{Object}
 
@@ -28,7 +29,7 @@ has_its_parent facts r = if takes_parent (fun_at facts.funs r.made) then may_be_
 -- one; its fields are the service's
 pub record IsRow (facts : Facts) (rows : List Row) (r : Row) : Type 0 where
   pub creator_first : 1 ≤ r.creator
-  pub creator_last : r.creator ≤ 64
+  pub creator_last : r.creator ≤ last_client
   pub parent : ((r.parent == 0) || (nat_lt r.parent r.id && is_live rows r.parent)) ≡ true
   pub its_parent : has_its_parent facts r ≡ true
   pub fields : AreFields facts.fields r.fields

@@ -4,6 +4,7 @@ ghost use Rattle.std.specs.Int.{bit_at};
 ghost use Rattle.sg_facts.specs.Facts.{is_visible, fun_at, fun_of_shape, has_flag};
 ghost use Rattle.sg_facts.specs.Interface.{declares, moves_on, steps_on, has_pair};
 
+use crate::shape::{CREATION_BIT, DATA_BIT};
 use crate::{FunShape, Shape};
 use sg_base::{NoMemory, PairList, TryCopy};
 use std::alloc::Global;
@@ -99,7 +100,7 @@ fn shows(funs: &[FunShape], at: usize) -> bool
     ensures { let f = fun_at (map fun_of_shape funs.now) (at + 1) in result ≡ (f.uses_file || f.creation) }
 {
     match funs.get(at) {
-        Some(fun) => has_flag(fun.flags, 6) || has_flag(fun.flags, 0),
+        Some(fun) => has_flag(fun.flags, DATA_BIT) || has_flag(fun.flags, CREATION_BIT),
         None => false,
     }
 }

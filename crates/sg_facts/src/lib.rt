@@ -9,6 +9,8 @@
 //! - `tables`: an interface with its walks (`Tables`, `WalkLine`)
 //! - `walk`: the functions whose calls rebuild a descriptor (`Walk`)
 //! - `service`: the trait `Service`
+//! - `words`: the words of the interface language for facts (`parents_word`, `close_word`, `flag_word`)
+//! - `limits`: the limits of every run
 //! - `laws`: laws of the definitions (`legal_from_the_front`)
 //!
 //! The definitions that contracts cite stand in `specs/`: the tracked rows (`Track`), the object (`Object`), the guard
@@ -19,19 +21,20 @@
 mod entry;
 mod interface;
 mod laws;
+mod limits;
 mod outcome;
 mod row;
 mod service;
 mod shape;
 mod tables;
-#[cfg(test)]
-mod tests;
 mod trace;
 mod walk;
+mod words;
 
 pub use entry::Entry;
 pub use interface::Interface;
 pub use laws::legal_from_the_front;
+pub use limits::{LAST_CLIENT, MOST_LIVE, MOST_PATH, MOST_WRITTEN};
 pub use outcome::{Outcome, Patch, PatchRoom};
 pub use row::{Fields, FieldsRoom, Row};
 pub use service::Service;
@@ -39,3 +42,4 @@ pub use shape::{Effect, FieldShape, FunShape, Kind, Leaves, Parents, Shape};
 pub use tables::{Tables, WalkLine, WalkList};
 pub use trace::{BootList, BootLog, Item, ItemList, Tag, Trace};
 pub use walk::Walk;
+pub use words::{close_word, flag_word, parents_word};

@@ -1,6 +1,8 @@
 // What asking a service gives.
 ghost use Rattle.std.specs.Prelude.{◌≡◌, ◌≤◌, IfOk, length};
+ghost use Rattle.sg_facts.specs.Limits.{most_path, most_written};
 
+use crate::{MOST_PATH, MOST_WRITTEN};
 use sg_base::{Bytes, ListRoom, NoMemory, Path, Reply, TryCopy};
 use std::alloc::Global;
 
@@ -42,19 +44,19 @@ impl TryCopy for Patch {
 pub struct PatchRoom {
     pub key: ListRoom<u8>,
     pub bytes: ListRoom<u8>,
-    ghost key_fits: { 256 ≤ key },
-    ghost bytes_fit: { 256 ≤ bytes },
+    ghost key_fits: { most_path ≤ key },
+    ghost bytes_fit: { most_written ≤ bytes },
 }
 
 impl Patch {
     /// Room for a patch, taken ahead so that a copy of it needs no memory later.
     pub fn room(alloc: Global) -> Result<PatchRoom, NoMemory>
-        ensures key { IfOk result (λ room. 256 ≤ room.key) }
-        ensures bytes { IfOk result (λ room. 256 ≤ room.bytes) }
+        ensures key { IfOk result (λ room. most_path ≤ room.key) }
+        ensures bytes { IfOk result (λ room. most_written ≤ room.bytes) }
     {
         Ok(PatchRoom {
-            key: ListRoom::new(alloc, 256)?,
-            bytes: ListRoom::new(alloc, 256)?,
+            key: ListRoom::new(alloc, MOST_PATH)?,
+            bytes: ListRoom::new(alloc, MOST_WRITTEN)?,
         })
     }
 }
@@ -62,8 +64,8 @@ impl Patch {
 impl PatchRoom {
     /// An equal patch, without memory.
     pub fn fill(self, from: &Patch) -> Patch
-        requires key { length from.now.key ≤ 256 }
-        requires bytes { length from.now.bytes ≤ 256 }
+        requires key { length from.now.key ≤ most_path }
+        requires bytes { length from.now.bytes ≤ most_written }
         ensures { result ≡ from.now }
     {
         Patch {

@@ -79,6 +79,21 @@ pub struct FunShape {
     pub effects: &'static [(u8, Effect)],
 }
 
+// The bits of a function's flags.
+pub(crate) const CREATION_BIT: u8 = 0;
+
+const TERMINAL_BIT: u8 = 1;
+
+const BLOCK_BIT: u8 = 2;
+
+const WAKEUP_BIT: u8 = 3;
+
+const QUERY_BIT: u8 = 4;
+
+const ALL_BIT: u8 = 5;
+
+pub(crate) const DATA_BIT: u8 = 6;
+
 impl FunShape {
     /// It makes a descriptor.
     pub const CREATION: u8 = 1;
@@ -99,49 +114,49 @@ impl FunShape {
     pub fn is_creation(&self) -> bool
         ensures { result ≡ (fun_of_shape self.now).creation }
     {
-        has_flag(self.flags, 0)
+        has_flag(self.flags, CREATION_BIT)
     }
 
     /// Whether it ends its descriptor.
     pub fn is_terminal(&self) -> bool
         ensures { result ≡ (fun_of_shape self.now).terminal }
     {
-        has_flag(self.flags, 1)
+        has_flag(self.flags, TERMINAL_BIT)
     }
 
     /// Whether it may block.
     pub fn may_block(&self) -> bool
         ensures { result ≡ (fun_of_shape self.now).block }
     {
-        has_flag(self.flags, 2)
+        has_flag(self.flags, BLOCK_BIT)
     }
 
     /// Whether its Ok wakes those who are blocked on its descriptor.
     pub fn wakes(&self) -> bool
         ensures { result ≡ (fun_of_shape self.now).wakeup }
     {
-        has_flag(self.flags, 3)
+        has_flag(self.flags, WAKEUP_BIT)
     }
 
     /// Whether it looks at all live rows.
     pub fn looks_at_all(&self) -> bool
         ensures { result ≡ (fun_of_shape self.now).all }
     {
-        has_flag(self.flags, 5)
+        has_flag(self.flags, ALL_BIT)
     }
 
     /// Whether it reads or writes the file of its descriptor.
     pub fn uses_file(&self) -> bool
         ensures { result ≡ (fun_of_shape self.now).uses_file }
     {
-        has_flag(self.flags, 6)
+        has_flag(self.flags, DATA_BIT)
     }
 
     /// Whether it changes no descriptor.
     pub fn is_query(&self) -> bool
         ensures { result ≡ (fun_of_shape self.now).query }
     {
-        has_flag(self.flags, 4)
+        has_flag(self.flags, QUERY_BIT)
     }
 }
 

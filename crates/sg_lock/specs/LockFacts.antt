@@ -1,74 +1,32 @@
 -- The facts of the lock service, as its standard interface states them.
 use Rattle.std.specs.Prelude.{true, false, [], ◌∷◌, codes}
-use Rattle.sg_facts.specs.Facts.{Facts, Fun}
+use Rattle.sg_facts.specs.Facts.{Facts, Fun, no_fun}
 use Rattle.sg_facts.specs.declared.shape.Parents.TheVariants.{Never}
 use Rattle.sg_facts.specs.declared.shape.Kind.TheVariants.{Desc}
-use Rattle.sg_facts.specs.declared.shape.Leaves.TheVariants.{Own, Of}
+use Rattle.sg_facts.specs.declared.shape.Leaves.TheVariants.{Of}
 use Rattle.sg_facts.specs.declared.shape.Effect.TheVariants.{SetCaller, Clear}
 
 -- lock_alloc() makes a free lock
 abbrev pub lock_alloc : Fun
-lock_alloc = record {
-  name = codes "lock_alloc";
-  kinds = [];
-  creation = true;
-  terminal = false;
-  block = false;
-  wakeup = false;
-  query = false;
-  all = false;
-  uses_file = false;
-  leaves = Own;
-  effects = [];
-}
+lock_alloc = record no_fun { name = codes "lock_alloc"; creation = true }
 
 -- lock_take(id) makes the caller its owner, and may block
 abbrev pub lock_take : Fun
-lock_take = record {
-  name = codes "lock_take";
-  kinds = Desc ∷ [];
-  creation = false;
-  terminal = false;
-  block = true;
-  wakeup = false;
-  query = false;
-  all = false;
-  uses_file = false;
-  leaves = Own;
-  effects = (0, SetCaller) ∷ [];
-}
+lock_take = record no_fun { name = codes "lock_take"; kinds = Desc ∷ []; block = true; effects = (0, SetCaller) ∷ [] }
 
 -- lock_release(id) frees it, and wakes who waits for it
 abbrev pub lock_release : Fun
-lock_release = record {
+lock_release = record no_fun {
   name = codes "lock_release";
   kinds = Desc ∷ [];
-  creation = false;
-  terminal = false;
-  block = false;
   wakeup = true;
-  query = false;
-  all = false;
-  uses_file = false;
   leaves = Of 1;
   effects = (0, Clear) ∷ [];
 }
 
 -- lock_free(id) ends it
 abbrev pub lock_free : Fun
-lock_free = record {
-  name = codes "lock_free";
-  kinds = Desc ∷ [];
-  creation = false;
-  terminal = true;
-  block = false;
-  wakeup = false;
-  query = false;
-  all = false;
-  uses_file = false;
-  leaves = Own;
-  effects = [];
-}
+lock_free = record no_fun { name = codes "lock_free"; kinds = Desc ∷ []; terminal = true }
 
 -- the facts of the service: a global one, without parents and files
 abbrev pub lock_facts : Facts

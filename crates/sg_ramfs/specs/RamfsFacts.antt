@@ -1,38 +1,20 @@
 -- The facts of the file service, as its standard interface states them.
 use Rattle.std.specs.Prelude.{true, false, [], ◌∷◌, codes}
-use Rattle.sg_facts.specs.Facts.{Facts, Fun}
+use Rattle.sg_facts.specs.Facts.{Facts, Fun, no_fun}
 use Rattle.sg_facts.specs.declared.shape.Parents.TheVariants.{Same as SameClient}
 use Rattle.sg_facts.specs.declared.shape.Kind.TheVariants.{Desc, Parent, Word, Text}
-use Rattle.sg_facts.specs.declared.shape.Leaves.TheVariants.{Own, Same}
+use Rattle.sg_facts.specs.declared.shape.Leaves.TheVariants.{Same}
 use Rattle.sg_facts.specs.declared.shape.Effect.TheVariants.{SetArg, AddRet}
 
 -- tsplit(parent, name) makes a descriptor of a file, below another or as a root
 abbrev pub tsplit : Fun
-tsplit = record {
-  name = codes "tsplit";
-  kinds = Parent ∷ Text ∷ [];
-  creation = true;
-  terminal = false;
-  block = false;
-  wakeup = false;
-  query = false;
-  all = false;
-  uses_file = false;
-  leaves = Own;
-  effects = (0, SetArg 0) ∷ [];
-}
+tsplit = record no_fun { name = codes "tsplit"; kinds = Parent ∷ Text ∷ []; creation = true; effects = (0, SetArg 0) ∷ [] }
 
 -- tread(id, n) reads at most n bytes, and moves its place behind them
 abbrev pub tread : Fun
-tread = record {
+tread = record no_fun {
   name = codes "tread";
   kinds = Desc ∷ Word ∷ [];
-  creation = false;
-  terminal = false;
-  block = false;
-  wakeup = false;
-  query = false;
-  all = false;
   uses_file = true;
   leaves = Same;
   effects = (1, AddRet) ∷ [];
@@ -40,15 +22,9 @@ tread = record {
 
 -- twrite(id, bytes) writes bytes, and moves its place behind them
 abbrev pub twrite : Fun
-twrite = record {
+twrite = record no_fun {
   name = codes "twrite";
   kinds = Desc ∷ Text ∷ [];
-  creation = false;
-  terminal = false;
-  block = false;
-  wakeup = false;
-  query = false;
-  all = false;
   uses_file = true;
   leaves = Same;
   effects = (1, AddRet) ∷ [];
@@ -56,35 +32,11 @@ twrite = record {
 
 -- tseek(id, offset) sets its place
 abbrev pub tseek : Fun
-tseek = record {
-  name = codes "tseek";
-  kinds = Desc ∷ Word ∷ [];
-  creation = false;
-  terminal = false;
-  block = false;
-  wakeup = false;
-  query = false;
-  all = false;
-  uses_file = false;
-  leaves = Same;
-  effects = (1, SetArg 0) ∷ [];
-}
+tseek = record no_fun { name = codes "tseek"; kinds = Desc ∷ Word ∷ []; leaves = Same; effects = (1, SetArg 0) ∷ [] }
 
 -- trelease(id) ends it
 abbrev pub trelease : Fun
-trelease = record {
-  name = codes "trelease";
-  kinds = Desc ∷ [];
-  creation = false;
-  terminal = true;
-  block = false;
-  wakeup = false;
-  query = false;
-  all = false;
-  uses_file = false;
-  leaves = Own;
-  effects = [];
-}
+trelease = record no_fun { name = codes "trelease"; kinds = Desc ∷ []; terminal = true }
 
 -- the facts of the service: a private one, whose descriptors may have parents of the same client, and files
 abbrev pub ramfs_facts : Facts

@@ -1,0 +1,26 @@
+-- The words of the interface language that stand for facts of a service.
+use Rattle.std.specs.Prelude.{ℕ, Bool, true, false, List, [], codes, unwrap_or, slice_get}
+use Rattle.std.specs.Option.{option_map}
+use Rattle.sg_facts.specs.declared.shape.Parents.{Parents}
+use Rattle.sg_facts.specs.declared.shape.Parents.TheVariants.{Never, Same as SameClient, Cross}
+use Rattle.sg_facts.specs.Facts.{Field}
+
+-- which parents descriptors may have
+abbrev pub parents_word : Parents → List ℕ
+parents_word Never = codes "none"
+parents_word SameClient = codes "same"
+parents_word Cross = codes "cross"
+
+-- whether the end of a descriptor takes its descendants along
+abbrev pub close_word : Bool → List ℕ
+close_word true = codes "subtree"
+close_word false = codes "refuse"
+
+-- whether a fact holds
+abbrev pub flag_word : Bool → List ℕ
+flag_word true = codes "true"
+flag_word false = codes "false"
+
+-- the name of the field of a number, from 0; empty where there is none
+abbrev pub field_name : List Field → ℕ → List ℕ
+field_name fields x = unwrap_or (option_map (λ f. f.name) (slice_get fields x)) []

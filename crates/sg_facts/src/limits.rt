@@ -1,0 +1,13 @@
+// The limits of every run that code speaks of.
+
+/// The greatest number of a client; the first is 1.
+pub const LAST_CLIENT: u8 = 64;
+
+/// The greatest number of live rows.
+pub const MOST_LIVE: usize = 1024;
+
+/// The greatest number of bytes of a file's path.
+pub const MOST_PATH: usize = 256;
+
+/// The greatest number of bytes that a call writes into a file.
+pub const MOST_WRITTEN: usize = 256;
