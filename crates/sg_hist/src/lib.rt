@@ -8,8 +8,6 @@
 
 mod ended;
 mod history;
-#[cfg(test)]
-mod tests;
 
 pub use ended::{End, EndList, Ended};
 pub use history::History;

@@ -8,8 +8,6 @@
 mod lock;
 mod service;
 mod shape;
-#[cfg(test)]
-mod tests;
 
 pub use lock::Lock;
 pub use service::LockService;

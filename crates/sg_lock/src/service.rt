@@ -16,7 +16,7 @@ ghost use Rattle.sg_lock.specs.LockSoundLaw.{lock_answers_and_keeps};
 ghost use Rattle.sg_lock.specs.LockDecision.{on_allocate, on_take, on_release, on_free, set_owner};
 
 use crate::Lock;
-use crate::shape::lock_shape;
+use crate::shape::{ALLOC, RELEASE, TAKE, lock_shape};
 use sg_base::{Call, Code, NoMemory, Path, Stops};
 use sg_facts::{Outcome, Service, Shape};
 use sg_slots::{Decision, Slots, carry_out};
@@ -96,13 +96,13 @@ fn decide(locks: &Slots<Lock>, call: &Call) -> Decision<Lock>
     requires { MayAsk lock_facts (object_of lock_body locks.now) call.now }
     ensures { Decides lock_facts lock_table lock_parts lock_body locks.now call.now result }
 {
-    if call.fun == 1 {
+    if call.fun == ALLOC {
         return allocate(call.client);
     }
     match locks.get(call.desc) {
         Some(lock) => match call.fun {
-            2 => take(lock, call.client),
-            3 => release(lock, call.client),
+            TAKE => take(lock, call.client),
+            RELEASE => release(lock, call.client),
             _ => free(lock),
         },
         None => unreachable!(),

@@ -5,6 +5,18 @@ ghost use Rattle.sg_lock.specs.LockFacts.{lock_facts};
 
 use sg_facts::{Effect, FieldShape, FunShape, Kind, Leaves, Parents, Shape};
 
+/// `lock_alloc`: makes a free lock.
+pub(crate) const ALLOC: u8 = 1;
+
+/// `lock_take`: makes the caller its owner.
+pub(crate) const TAKE: u8 = 2;
+
+/// `lock_release`: frees it.
+pub(crate) const RELEASE: u8 = 3;
+
+/// `lock_free`: ends it.
+pub(crate) const FREE: u8 = 4;
+
 static FIELDS: [FieldShape; 1] = [FieldShape {
     name: b"owner",
     text: false,
@@ -29,7 +41,7 @@ static FUNS: [FunShape; 4] = [
         name: b"lock_release",
         kinds: &[Kind::Desc],
         flags: FunShape::WAKEUP,
-        leaves: Leaves::Of(1),
+        leaves: Leaves::Of(ALLOC),
         effects: &[(0, Effect::Clear)],
     },
     FunShape {
@@ -41,9 +53,15 @@ static FUNS: [FunShape; 4] = [
     },
 ];
 
-static MOVES: [(u8, u8); 5] = [(1, 2), (1, 4), (2, 2), (2, 3), (2, 4)];
+static MOVES: [(u8, u8); 5] = [
+    (ALLOC, TAKE),
+    (ALLOC, FREE),
+    (TAKE, TAKE),
+    (TAKE, RELEASE),
+    (TAKE, FREE),
+];
 
-static STEPS: [(u8, u8); 1] = [(1, 2)];
+static STEPS: [(u8, u8); 1] = [(ALLOC, TAKE)];
 
 /// The shape of the lock service.
 pub fn lock_shape() -> Shape

@@ -9,8 +9,6 @@
 mod decision;
 mod entry;
 mod slots;
-#[cfg(test)]
-mod tests;
 
 pub use decision::{Decision, carry_out};
 pub use entry::Entry;

@@ -53,6 +53,13 @@ impl<E> Slots<E> {
         self.entries.len()
     }
 
+    /// The number of ids given.
+    pub fn given(&self) -> u64
+        ensures { result ≡ self.now.given }
+    {
+        self.given
+    }
+
     /// Whether there is no entry.
     pub fn is_empty(&self) -> bool
         ensures { IsTrue result ↔ (self.now.entries ≡ []) }

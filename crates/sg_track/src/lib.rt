@@ -18,8 +18,6 @@ mod places;
 mod room;
 mod subtree;
 mod tally;
-#[cfg(test)]
-mod tests;
 mod tracker;
 mod words;
 

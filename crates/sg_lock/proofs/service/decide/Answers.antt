@@ -19,7 +19,7 @@ pub unreachable-requires : goal.unreachable-requires
 unreachable-requires c =
     let call = c.args.call.now in
     let last : call.fun ≤ 4 = c.requires.is_call.last in
-    let live = c.requires.desc (on_lock call.fun c.if-call-eq1.false c.requires.is_call.first last) in
+    let live = c.requires.desc (on_lock call.fun c.if-call-eq-ALLOC.false c.requires.is_call.first last) in
     let there : is_some (entry_at c.args.locks.now.entries call.desc) ≡ true = sym (is_live-rows_of lock_body c.args.locks.now.entries call.desc) ∙ live in
     let none = ap is_some c.in-None.ensures.entry ∙ there in
     cc none

@@ -1,9 +1,12 @@
 // What no clause says: that entries and ends are taken where there is memory.
-use crate::{End, EndList, History};
 use sg_base::{Args, Call, Code, NoMemory, Reply, TryCopy};
 use sg_facts::Entry;
+use sg_hist::{End, EndList, History};
 use std::alloc::Global;
 use std::test::Fail;
+
+// As many calls as a script may have.
+const MOST_CALLS: u32 = 65_536;
 
 // A call of a client, which makes nothing.
 fn call(alloc: Global, client: u8, seq: u32) -> Call {
@@ -24,46 +27,37 @@ fn refused(alloc: Global, client: u8, seq: u32) -> Entry {
     }
 }
 
-// Three calls of two clients.
-fn three(alloc: Global) -> Result<History, NoMemory> {
+// Refused calls of two clients in turn.
+fn entries(alloc: Global, count: u32) -> Result<History, NoMemory> {
     let mut history = History::new(alloc);
-    history.push(refused(alloc, 1, 1))?;
-    history.push(refused(alloc, 2, 1))?;
-    history.push(refused(alloc, 1, 2))?;
+    history.reserve(1)?;
+    for seq in 0..count {
+        let client = if seq % 2 == 0 { 1 } else { 2 };
+        history.push(refused(alloc, client, seq))?;
+    }
     Ok(history)
 }
 
 #[test]
-fn has_the_entries_of_each_client(rt: HostRuntime) -> Result<(), Fail> {
+fn entries_are_kept(rt: HostRuntime) -> Result<(), Fail> {
     let alloc = rt.alloc();
-    let history = three(alloc)?;
+    let mut history = entries(alloc, 3)?;
     for (client, calls) in [(1, 2), (2, 1), (3, 0)] {
         let own = history.of_client(alloc, client)?;
         assert_eq!(rt; own.len(), calls);
         assert_eq!(rt; own.is_empty(), calls == 0);
     }
-    assert_eq!(rt;
-        history.of_client(alloc, 2)?.get(0),
-        Some(&refused(alloc, 2, 1))
-    );
+    assert_eq!(rt; history.get(1), Some(&refused(alloc, 2, 1)));
     assert_eq!(rt; history.get(3), None);
-    Ok(())
-}
-
-#[test]
-fn takes_entries_back(rt: HostRuntime) -> Result<(), Fail> {
-    let alloc = rt.alloc();
-    let mut history = three(alloc)?;
     assert_eq!(rt; history.pop(), Some(refused(alloc, 1, 2)));
-    assert_eq!(rt; history.len(), 2);
-    history.reserve(1)?;
-    history.push(refused(alloc, 3, 1))?;
-    assert_eq!(rt; history.as_slice().len(), 3);
+    assert_eq!(rt; history.as_slice().len(), 2);
+    let many = entries(alloc, MOST_CALLS)?;
+    assert_eq!(rt; many.len(), 65_536);
     Ok(())
 }
 
 #[test]
-fn copies_ends(rt: HostRuntime) -> Result<(), Fail> {
+fn ends_are_copied(rt: HostRuntime) -> Result<(), Fail> {
     let alloc = rt.alloc();
     let mut ends = EndList::new(alloc);
     ends.push((1, End::Done))?;

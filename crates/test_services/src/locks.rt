@@ -6,60 +6,12 @@ ghost use Rattle.sg_facts.specs.Invoke.{Invokes};
 ghost use Rattle.sg_slots.specs.Slots.{object_of};
 ghost use Rattle.sg_lock.specs.LockRow.{lock_body};
 
-use crate::{Lock, LockService};
-use sg_base::{Args, Call, Code, Good, Path, Point, Reply, Stops};
+use crate::once::Once;
+use sg_base::{Args, Call, Code, Good, Path, Reply, Stops};
 use sg_facts::{Outcome, Service};
+use sg_lock::{Lock, LockService};
 use std::alloc::Global;
 use std::test::Fail;
-
-// Stops once, at the point of a number; at none where the number is 0.
-#[derive(Debug, Drop)]
-struct Once {
-    point: u64,
-    asked: u64,
-    struck: Option<u64>,
-}
-
-impl Once {
-    fn new(point: u64) -> Once {
-        Once {
-            point,
-            asked: 0,
-            struck: None,
-        }
-    }
-}
-
-impl Stops for Once {
-    ghost use Rattle.std.specs.Prelude.{[]};
-    ghost use Rattle.sg_slots.specs.Carry.{words_of};
-
-    ghost asked = { λ once. once.asked };
-
-    ghost struck = { λ once. words_of once.struck };
-
-    ghost plan = { λ once. [] };
-
-    ghost test = { λ asked struck plan. Unit {0} };
-
-    ghost starts = { λ plan. tt };
-
-    fn strikes(&mut self, _: Point) -> bool {
-        if self.asked == u64::MAX {
-            return false;
-        }
-        self.asked += 1;
-        if self.struck.is_none() && self.asked == self.point {
-            self.struck = Some(self.asked);
-            return true;
-        }
-        false
-    }
-
-    fn asked(&self) -> u64 {
-        self.asked
-    }
-}
 
 // Asks a service through its bound alone.
 fn ask<S: Service, T: Stops>(service: &mut S, alloc: Global, stops: &mut T, call: &Call) -> Outcome
@@ -229,12 +181,4 @@ fn stops_at_each_part(rt: HostRuntime) -> Result<(), Fail> {
     let stopped = change(&mut service, alloc, &mut stops, 2, 2, free).err();
     assert!(rt; matches!(stopped, Some(Outcome::Stopped)));
     Ok(())
-}
-
-#[test]
-fn names_its_functions(rt: HostRuntime) {
-    let shape = <LockService as Service>::shape();
-    assert_eq!(rt; shape.name, b"lock".as_slice());
-    assert_eq!(rt; shape.funs.len(), 4);
-    assert!(rt; shape.global);
 }

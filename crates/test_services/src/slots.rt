@@ -1,7 +1,8 @@
 // What no clause says: that each decision is carried out where there is memory.
-use crate::{Decision, Entry, Slots, carry_out};
-use sg_base::{Code, Point, Reply, Stops};
+use crate::once::Once;
+use sg_base::{Code, Reply, Stops};
 use sg_facts::Outcome;
+use sg_slots::{Decision, Entry, Slots, carry_out};
 use std::alloc::Global;
 use std::process::Abort;
 use std::test::Fail;
@@ -18,55 +19,6 @@ impl Entry for Seat {
     ghost body = { λ seat. record { made = 1; creator = seat.guest; parent = 0; state = 1; fields = [] } };
 }
 
-// Stops once, at the point of a number; at none where the number is 0.
-#[derive(Debug, Drop)]
-struct Once {
-    point: u64,
-    asked: u64,
-    struck: Option<u64>,
-}
-
-impl Once {
-    fn new(point: u64) -> Once {
-        Once {
-            point,
-            asked: 0,
-            struck: None,
-        }
-    }
-}
-
-impl Stops for Once {
-    ghost use Rattle.std.specs.Prelude.{[]};
-    ghost use Rattle.sg_slots.specs.Carry.{words_of};
-
-    ghost asked = { λ once. once.asked };
-
-    ghost struck = { λ once. words_of once.struck };
-
-    ghost plan = { λ once. [] };
-
-    ghost test = { λ asked struck plan. Unit {0} };
-
-    ghost starts = { λ plan. tt };
-
-    fn strikes(&mut self, _: Point) -> bool {
-        if self.asked == u64::MAX {
-            return false;
-        }
-        self.asked += 1;
-        if self.struck.is_none() && self.asked == self.point {
-            self.struck = Some(self.asked);
-            return true;
-        }
-        false
-    }
-
-    fn asked(&self) -> u64 {
-        self.asked
-    }
-}
-
 // Makes a seat through the bound alone.
 fn make<T: Stops>(
     rt: &impl Abort,
@@ -75,7 +27,7 @@ fn make<T: Stops>(
     stops: &mut T,
     guest: u8,
 ) -> Outcome {
-    assert!(rt; slots.given < 1000);
+    assert!(rt; slots.given() < 2000);
     let entry = Seat { guest };
     carry_out(
         slots,
@@ -98,7 +50,7 @@ fn set<T: Stops>(
     id: u64,
     guest: u8,
 ) -> Outcome {
-    assert!(rt; slots.given < 1000);
+    assert!(rt; slots.given() < 2000);
     assert!(rt; slots.get(id).is_some());
     let entry = Seat { guest };
     carry_out(slots, alloc, stops, id, Decision::Set { entry, word: None })
@@ -112,7 +64,7 @@ fn remove<T: Stops>(
     stops: &mut T,
     id: u64,
 ) -> Outcome {
-    assert!(rt; slots.given < 1000);
+    assert!(rt; slots.given() < 2000);
     assert!(rt; slots.get(id).is_some());
     carry_out(slots, alloc, stops, id, Decision::Remove)
 }
@@ -147,8 +99,14 @@ fn carries_decisions_out(rt: HostRuntime) -> Result<(), Fail> {
     for (id, want) in [(0, None), (1, None), (2, Some(8)), (3, Some(7)), (4, None)] {
         assert_eq!(rt; slots.get(id).map(|seat| seat.guest), want, "at {id}");
     }
-    let outcome = make(&rt, &mut slots, alloc, &mut stops, 9);
-    assert!(rt; is_ok(&outcome, 4, &[70]), "no id comes again: {outcome:?}");
+    for id in 4..1025 {
+        let outcome = make(&rt, &mut slots, alloc, &mut stops, 9);
+        assert!(rt;
+            is_ok(&outcome, id, &[70]),
+            "no id comes again: {outcome:?}"
+        );
+    }
+    assert_eq!(rt; slots.len(), 1023);
     Ok(())
 }
 

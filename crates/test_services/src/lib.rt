@@ -1,0 +1,21 @@
+//! What services and what speaks of them stand on, tried from outside: facts, rows, walks, slots, locks and histories.
+//!
+//! - `once`: a service that stops at one point (`Once`)
+//!
+//! The tests:
+//! - `facts`: facts of a service, rows and patches, walks
+//! - `slots`: decisions on many slots, and stops at each part
+//! - `locks`: one lock, and stops at each part
+//! - `histories`: entries, ends, and as many entries as a script has calls
+#![tactic(auto)]
+
+#[cfg(test)]
+mod facts;
+#[cfg(test)]
+mod histories;
+#[cfg(test)]
+mod locks;
+#[cfg(test)]
+mod once;
+#[cfg(test)]
+mod slots;
