@@ -16,6 +16,3 @@ mod token;
 pub use laws::{answers_are_the_reading, tokens_are_slices};
 pub use lexer::{Lexer, first_token};
 pub use token::{LexFault, Token, TokenKind};
-
-#[cfg(test)]
-mod tests;

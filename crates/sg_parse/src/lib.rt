@@ -10,8 +10,6 @@ mod params;
 mod parser;
 mod reader;
 mod statements;
-#[cfg(test)]
-mod tests;
 mod types;
 
 pub use parser::parse;

@@ -17,6 +17,3 @@ mod types;
 pub use laws::{places_are_not_printed, prints_parse_back};
 pub use statements::print;
 pub use tables::print_tables;
-
-#[cfg(test)]
-mod tests;

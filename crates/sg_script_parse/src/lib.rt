@@ -9,8 +9,6 @@ mod calls;
 mod parser;
 mod parts;
 mod reader;
-#[cfg(test)]
-mod tests;
 
 pub use parser::parse;
 pub use sg_script_grammar::{

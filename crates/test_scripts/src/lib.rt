@@ -5,6 +5,7 @@
 //! - `calls`, `parts`, `numbers`, `syntax`: what can be wrong, by its kind; `order`: several flaws in one script
 //! - `limits`: as many calls, stops and bytes of a text as a script may have, and one more
 //! - `meanings`: what scripts stand for
+//! - `parses`: which texts are scripts of the grammar, and what their parts keep
 #![tactic(auto)]
 
 #[cfg(test)]
@@ -19,6 +20,8 @@ mod meanings;
 mod numbers;
 #[cfg(test)]
 mod order;
+#[cfg(test)]
+mod parses;
 #[cfg(test)]
 mod parts;
 #[cfg(test)]

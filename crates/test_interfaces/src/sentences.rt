@@ -1,0 +1,138 @@
+// Which texts are sentences of the interface language, and where the others fail.
+use crate::sentences::Answer::{Lex, NoMemory, Syntax, Tree};
+use crate::{EVENT, LOCK, MM, RAMFS, SCHED};
+use sg_parse::{ParseError, parse};
+use std::alloc::Global;
+use std::process::Abort;
+use std::test::Fail;
+
+// How a text is answered.
+#[derive(Clone, Copy, Debug, PartialEq, Eq)]
+enum Answer {
+    Tree,
+    NoMemory,
+    Lex(usize),
+    Syntax(usize),
+}
+
+fn answer_on(alloc: Global, text: &[u8]) -> Answer {
+    match parse(alloc, text) {
+        Ok(_) => Tree,
+        Err(ParseError::NoMemory) => NoMemory,
+        Err(ParseError::Lex { at }) => Lex(at),
+        Err(ParseError::Syntax { at }) => Syntax(at),
+    }
+}
+
+// What stands behind a front, and how the whole is answered; places count from the end of the front.
+type Case = (&'static [u8], Answer);
+
+static ALONE: [Case; 12] = [
+    (b"", Syntax(0)),
+    (b"service_global_info = {", Syntax(23)),
+    (b"service_global_info = #", Lex(22)),
+    (b" # service", Lex(1)),
+    (b"service service_global_info #", Syntax(0)),
+    (b"service_global_info == {", Syntax(21)),
+    (b"service_global_info={service=sm_keep", Syntax(29)),
+    (b"service_global_info={service=desc", Syntax(29)),
+    (b"service_global_info={service=x,desc_has_parent=x", Syntax(47)),
+    (b"service_global_info={service=x,desc_close=refuse", Syntax(31)),
+    (b"service_global_info={service=17", Syntax(29)),
+    (b"service_global_info={service=x /* never", Lex(31)),
+];
+
+// The number of bytes of the facts of locks, which stand before the first statement.
+const HEAD: usize = 202;
+
+static BEHIND_FACTS: [Case; 38] = [
+    (b"", Tree),
+    (b"sm_block(f); sm_block(f);", Tree),
+    (b"resc_data(f); sm_needs_all(f); sm_query(f); sm_keep(f); sm_wakeup(f);", Tree),
+    (b"sm_state(f, g);desc_data_clear(f, x);desc_data_sub(f, x);sm_recover(f,g);", Tree),
+    (b"sm_block(f, g);", Syntax(10)),
+    (b"sm_state(f);", Syntax(10)),
+    (b"sm_block(sm_block);", Syntax(9)),
+    (b"sm_block(desc_data);", Syntax(9)),
+    (b"sm_block(f)", Syntax(11)),
+    (b"desc(f);", Syntax(0)),
+    (b"service_global_info", Syntax(0)),
+    (b"= 1", Syntax(0)),
+    (b"int f(spdid_t c);", Tree),
+    (b"f(spdid_t c);", Syntax(1)),
+    (b"int *f(spdid_t c);", Tree),
+    (b"int * * f(spdid_t c);", Tree),
+    (b"int *f g(spdid_t c);", Syntax(7)),
+    (b"int *(spdid_t c);", Syntax(5)),
+    (b"int desc(spdid_t c);", Syntax(4)),
+    (b"int f();", Syntax(6)),
+    (b"int f(c);", Syntax(7)),
+    (b"int f(a b c d);", Tree),
+    (b"int f(a b,);", Syntax(10)),
+    (b"int f(a desc(x), a b parent_desc(y), a *desc_data(z), a **desc_data_add(w));", Tree),
+    (b"int f(desc(x));", Syntax(6)),
+    (b"int f(a desc x);", Syntax(13)),
+    (b"int f(a desc(desc));", Syntax(13)),
+    (b"int f(a desc_data_retval(x));", Syntax(8)),
+    (b"int f(a *b c);", Syntax(11)),
+    (b"int f(a * * *b);", Tree),
+    (b"desc_data_retval(long, x) f(a b);", Tree),
+    (b"desc_data_retval_add(char *, x) f(a b);", Tree),
+    (b"desc_data_retval(a b * *, x) f(a b);", Tree),
+    (b"desc_data_retval(*, x) f(a b);", Syntax(17)),
+    (b"desc_data_retval(long x) f(a b);", Syntax(23)),
+    (b"desc_data_retval(long, x) int f(a b);", Syntax(30)),
+    (b"desc_data_retval_sub(long, x) f(a b);", Syntax(20)),
+    (b"desc_data f(a b);", Syntax(0)),
+];
+
+// Asserts that each case is answered so behind the front.
+fn try_each(rt: &impl Abort, alloc: Global, front: &[u8], cases: &[Case]) -> Result<(), Fail> {
+    for (tail, want) in cases {
+        let mut text = Vec::from_slice(alloc, front)?;
+        text.extend_from_slice(tail)?;
+        let given = match answer_on(alloc, text.as_slice()) {
+            Lex(at) => Lex(at.saturating_sub(front.len())),
+            Syntax(at) => Syntax(at.saturating_sub(front.len())),
+            other => other,
+        };
+        assert!(rt; given == *want, "{given:?} on {tail:?}");
+    }
+    Ok(())
+}
+
+#[test]
+fn fails_at_the_first_token_that_cannot_go_on(rt: HostRuntime) -> Result<(), Fail> {
+    try_each(&rt, rt.alloc(), b"", &ALONE)?;
+    let facts = LOCK.get(..HEAD).ok_or("no facts")?;
+    try_each(&rt, rt.alloc(), facts, &BEHIND_FACTS)
+}
+
+// A front of a standard interface is a sentence just where it ends with a statement, or with the line of one.
+fn ends_a_statement(front: &[u8]) -> bool {
+    matches!(front, [.., b';'] | [.., b';', b'\n'])
+}
+
+#[test]
+fn fronts_are_sentences_where_a_statement_ends(rt: HostRuntime) -> Result<(), Fail> {
+    for text in [LOCK, EVENT, MM, RAMFS, SCHED] {
+        for at in 0..text.len() + 1 {
+            let front = text.get(..at).ok_or("no front")?;
+            match answer_on(rt.alloc(), front) {
+                Tree => assert!(rt; ends_a_statement(front), "at {at}"),
+                Syntax(_) => assert!(rt; !ends_a_statement(front), "at {at}"),
+                _ => assert!(rt; false, "another answer at {at}"),
+            }
+        }
+    }
+    Ok(())
+}
+
+#[test]
+fn long_texts_of_one_kind_are_refused(rt: HostRuntime) -> Result<(), Fail> {
+    for (byte, want) in [(b'a', 0), (b'7', 0), (b'(', 0), (b' ', 65536)] {
+        let text = vec![in rt.alloc(); byte; 65536]?;
+        assert!(rt; answer_on(rt.alloc(), text.as_slice()) == Syntax(want), "on {byte}");
+    }
+    Ok(())
+}
