@@ -4,6 +4,7 @@ use Rattle.std.specs.Prelude.{ℕ, ◌≡◌, ◌≢◌, ◌⊎◌, ◌+◌, ◌
 use Rattle.std.specs.declared.option.Option.{Option}
 use Rattle.std.specs.List.{Contains, flat_map, list_all, list_any}
 use Rattle.sg_base.specs.Lists.{Each, When}
+use Rattle.sg_base.specs.Stops.{most_asked}
 use Rattle.sg_base.specs.declared.call.Call.{Call}
 use Rattle.sg_base.specs.declared.reply.Reply.{Reply}
 use Rattle.sg_base.specs.declared.reply.Reply.TheVariants.{Ok, Refused}
@@ -36,6 +37,7 @@ use Rattle.sg_hist.specs.Reading.{Place, behind, is_by_guard, is_made, is_of, is
 abbrev pub calls_made : List Entry → List Call → List Call
 calls_made history unanswered = map (λ e. e.call) history ++ unanswered
 
+-- the call in which a client waits at its end, if there is one
 abbrev pub waiting_in : End → List Call
 waiting_in Done = []
 waiting_in (Blocked call) = call ∷ []
@@ -59,6 +61,7 @@ IsByTable facts ask held call Blocks = ask held call ≡ None
 IsByTable facts ask held call Stopped = Unit {0}
 IsByTable facts ask held call NoMemory = ⊥
 
+-- what was asked of the service for an item, by its tag: a call of a walk or of a client; a load is asked of no table
 abbrev pub AskedAs : Facts → Table → Place → Tag → Type 0
 AskedAs facts ask p (Load key client) = Unit {0}
 AskedAs facts ask p (Walk id k client) = IsByTable facts ask (value_at facts p.front) (service_call p.item) p.item.outcome
@@ -77,6 +80,8 @@ IsLastIfStopped rest (Replied reply patch) = Unit {0}
 IsLastIfStopped rest Blocks = Unit {0}
 IsLastIfStopped rest NoMemory = Unit {0}
 
+-- each boot is of a fresh service: its answers are those of its table since the boot, the next boot comes only after a stop, and
+-- nothing is asked behind a stop
 pub record IsRebooted (facts : Facts) (ask : Table) (run : Run) : Type 0 where
   pub table : Each (λ p. AskedAs facts ask p p.item.tag) (places_of run)
   pub stopped : AreStopped run.boots
@@ -101,32 +106,36 @@ IsRenamed names (Refused real) (Refused code) = code ≡ real
 IsRenamed names (Ok real) (Refused code) = ⊥
 IsRenamed names (Refused real) (Ok good) = ⊥
 
+-- an outcome is the reply of an entry, under the client's ids
 abbrev pub IsReplyOf : List (ℕ × ℕ) → Outcome → Reply → Type 0
 IsReplyOf names (Replied real patch) reply = IsRenamed names real reply
 IsReplyOf names Blocks reply = ⊥
 IsReplyOf names Stopped reply = ⊥
 IsReplyOf names NoMemory reply = ⊥
 
--- an entry has its item, with its call and its reply: no reply is given that the service didn't give
-abbrev pub IsAt : Facts → List Entry → Entry → Option Place → Type 0
-IsAt facts history e None = ⊥
-IsAt facts history e (Some p) = (p.item.shown ≡ e.call) × IsReplyOf (names_at facts history (p.front ++ p.item ∷ [])) p.item.outcome e.reply
+-- the item at a place has the call and the reply of an entry
+abbrev pub GivesEntry : Facts → List Entry → Entry → Option Place → Type 0
+GivesEntry facts history e None = ⊥
+GivesEntry facts history e (Some p) = (p.item.shown ≡ e.call) × IsReplyOf (names_at facts history (p.front ++ p.item ∷ [])) p.item.outcome e.reply
 
+-- an entry has its item, unless the guard refused its call: no reply is given that the service didn't give
 abbrev pub HasItem : Facts → List Entry → Run → Entry → Type 0
-HasItem facts history run e = When (not (is_by_guard e.reply)) (IsAt facts history e (item_of run e))
+HasItem facts history run e = When (not (is_by_guard e.reply)) (GivesEntry facts history e (item_of run e))
 
--- whether an item is of a client's visible call that replied
+-- whether the service replied
 abbrev pub is_replied : Outcome → Bool
 is_replied (Replied reply patch) = true
 is_replied Blocks = false
 is_replied Stopped = false
 is_replied NoMemory = false
 
+-- whether an item is of a client's call
 abbrev pub is_clients : Tag → Bool
 is_clients (Client client seq) = true
 is_clients (Walk id k client) = false
 is_clients (Load key client) = false
 
+-- whether an item is of a client's visible call that replied
 abbrev pub is_visible_reply : Facts → Item → Bool
 is_visible_reply facts item = is_clients item.tag && is_visible facts item.shown.fun && is_replied item.outcome
 
@@ -138,6 +147,7 @@ is_entered history p = list_any (λ e. not (is_by_guard e.reply) && is_of e p.it
 abbrev pub IsCommitted : Facts → List Entry → Place → Type 0
 IsCommitted facts history p = When (is_visible_reply facts p.item) (is_entered history p ≡ true)
 
+-- the items of earlier entries stand before the place of a later one
 abbrev pub ComeBefore : List Entry → Option Place → Type 0
 ComeBefore earlier None = Unit {0}
 ComeBefore earlier (Some p) = list_all (λ e. is_by_guard e.reply || stands_before p e) earlier ≡ true
@@ -149,6 +159,8 @@ AreInOrder facts run earlier (e ∷ later) =
     When (is_visible facts e.call.fun && not (is_by_guard e.reply)) (ComeBefore earlier (item_of run e))
     × AreInOrder facts run (earlier ++ e ∷ []) later
 
+-- clients are served: each item of a client is a call that the client made, each entry has its item, each visible reply is
+-- committed, and visible items stand in the order of the history
 pub record IsServed (facts : Facts) (history : List Entry) (run : Run) (unanswered : List Call) : Type 0 where
   pub calls : Each (λ p. IsItsCall history unanswered p.item.shown p.item.tag) (places_of run)
   pub items : Each (HasItem facts history run) history
@@ -157,6 +169,7 @@ pub record IsServed (facts : Facts) (history : List Entry) (run : Run) (unanswer
 
 -- ---- walks
 
+-- whether an item is a call of the walk of an id
 abbrev pub is_walk_of : ℕ → Tag → Bool
 is_walk_of id (Walk i k client) = i == id
 is_walk_of id (Load key client) = false
@@ -171,6 +184,7 @@ call_in facts r k (Some walk) = numbered (slice_get walk (k - 1))
     numbered None = None
     numbered (Some fun) = Some (replayed_call facts r (k == 1) fun)
 
+-- a call of a walk is answered Ok, or the service stopped in it
 abbrev pub IsOkOrStopped : Outcome → Type 0
 IsOkOrStopped (Replied (Ok good) patch) = Unit {0}
 IsOkOrStopped (Replied (Refused code) patch) = ⊥
@@ -187,10 +201,12 @@ pub record IsNextCall (facts : Facts) (walks : List WalkLine) (history : List En
   pub real : p.item.real ≡ named (names_at facts history p.front) p.item.shown.desc
   pub outcome : IsOkOrStopped p.item.outcome
 
+-- an item is the next call of the walk of a row, which is live
 abbrev pub IsCallOfRow : Facts → List WalkLine → List Entry → Place → ℕ → ℕ → Option Row → Type 0
 IsCallOfRow facts walks history p id k None = ⊥
 IsCallOfRow facts walks history p id k (Some r) = IsNextCall facts walks history p id k r
 
+-- an item that rebuilds a row is the next call of that row's walk; nothing is asked here of other items
 abbrev pub IsWalked : Facts → List WalkLine → List Entry → Place → Tag → Type 0
 IsWalked facts walks history p (Walk id k client) = IsCallOfRow facts walks history p id k (row_at (object_before facts history p).rows id)
 IsWalked facts walks history p (Load key client) = Unit {0}
@@ -236,6 +252,8 @@ pub record IsLoadedFor (facts : Facts) (walks : List WalkLine) (history : List E
   pub absent : list_any (λ item. is_patch_at key item.outcome) p.front ≡ false
   pub whole : IsLoad (object_before facts history p) key p.item.outcome
 
+-- an item was due: a row or a file was brought back because a call under way needs it, and a client's call is the one that is
+-- under way, so that each client's items stand in its own order
 abbrev pub IsDemanded : Facts → List WalkLine → List Entry → List Call → Place → Tag → Type 0
 IsDemanded facts walks history unanswered p (Walk id k client) = IsRebuiltFor facts walks history unanswered p client id
 IsDemanded facts walks history unanswered p (Load key client) = IsLoadedFor facts walks history unanswered p client key
@@ -243,6 +261,7 @@ IsDemanded facts walks history unanswered p (Client client seq) = IsUnderWay his
 
 -- ---- tracked state
 
+-- the service has a row for a tracked one, and it is as that is
 abbrev pub IsAlikeTo : List (ℕ × ℕ) → Row → Option Row → Type 0
 IsAlikeTo names r None = ⊥
 IsAlikeTo names r (Some v) = IsAlike names r v
@@ -255,6 +274,7 @@ pub record IsTracked (facts : Facts) (walks : List WalkLine) (history : List Ent
   pub real : p.item.real ≡ named (names_at facts history p.front) p.item.shown.desc
   pub file : SameFile (object_before facts history p) (value_at facts p.front) p.item.shown.desc p.item.real (needs facts (object_before facts history p) p.item.shown).file
 
+-- an item of a client reached the service where what it needs is as tracked; nothing is asked here of other items
 abbrev pub IsTrackedAt : Facts → List WalkLine → List Entry → Place → Tag → Type 0
 IsTrackedAt facts walks history p (Client client seq) = IsTracked facts walks history p
 IsTrackedAt facts walks history p (Walk id k client) = Unit {0}
@@ -277,6 +297,7 @@ IsPointOfCall exact parts asked fun Blocks points = IsCount exact points (asked 
 IsPointOfCall exact parts asked fun Stopped points = (asked + 2 ≤ points) × When exact (points ≤ asked + 2 + parts fun)
 IsPointOfCall exact parts asked fun NoMemory points = ⊥
 
+-- the number of an item's last point, by its tag: a load has one point, for the use of the service; a call has those of a call
 abbrev pub IsPointOf : Bool → (ℕ → ℕ) → ℕ → Tag → ℕ → Outcome → ℕ → Type 0
 IsPointOf exact parts asked (Load key client) fun outcome points = IsCount exact points (asked + 1)
 IsPointOf exact parts asked (Walk id k client) fun outcome points = IsPointOfCall exact parts asked fun outcome points
@@ -286,27 +307,31 @@ IsPointOf exact parts asked (Client client seq) fun outcome points = IsPointOfCa
 abbrev pub asked_behind : Facts → Item → ℕ
 asked_behind facts item = if is_visible_reply facts item then item.points + 1 else item.points
 
+-- the points of the items of a boot, one after the other, where so many were asked before
 abbrev pub ArePoints : Bool → Facts → (ℕ → ℕ) → ℕ → List Item → Type 0
 ArePoints exact facts parts asked [] = Unit {0}
 ArePoints exact facts parts asked (item ∷ items) =
     IsPointOf exact parts asked item.tag item.shown.fun item.outcome item.points × ArePoints exact facts parts (asked_behind facts item) items
 
+-- how many points were asked behind the items of a boot
 abbrev pub asked_in : Facts → ℕ → List Item → ℕ
 asked_in facts asked [] = asked
 asked_in facts asked (item ∷ items) = asked_in facts (asked_behind facts item) items
 
+-- whether the service stopped within a call
 abbrev pub is_stopped : Outcome → Bool
 is_stopped Stopped = true
 is_stopped (Replied reply patch) = false
 is_stopped Blocks = false
 is_stopped NoMemory = false
 
--- whether the last item of a boot stopped, and whether it is a visible reply
+-- whether the service stopped within the last item of a boot
 abbrev pub ends_stopped : List Item → Bool
 ends_stopped [] = false
 ends_stopped (item ∷ []) = is_stopped item.outcome
 ends_stopped (item ∷ other ∷ items) = ends_stopped (other ∷ items)
 
+-- whether the last item of a boot is a visible reply
 abbrev pub ends_committed : Facts → List Item → Bool
 ends_committed facts [] = false
 ends_committed facts (item ∷ []) = is_visible_reply facts item
@@ -319,6 +344,8 @@ IsStopOf exact facts items asked None = ends_stopped items ≡ false
 IsStopOf exact facts items asked (Some stop) =
     ((ends_stopped items || ends_committed facts items ≡ true) × (stop ≡ asked)) ⊎ ((ends_stopped items ≡ false) × IsCount exact stop (asked + 1))
 
+-- the points of a run, boot by boot, where so many were asked before: each item has its points, each stop is at the last point
+-- asked, and the sum is the run's number of points
 abbrev pub ArePointsOf : Bool → Facts → (ℕ → ℕ) → ℕ → List Boot → ℕ → Type 0
 ArePointsOf exact facts parts asked [] points = IsCount exact points asked
 ArePointsOf exact facts parts asked (b ∷ boots) points =
@@ -326,15 +353,12 @@ ArePointsOf exact facts parts asked (b ∷ boots) points =
     × IsStopOf exact facts b.items (asked_in facts asked b.items) b.stop
     × ArePointsOf exact facts parts (unwrap_or b.stop (asked_in facts asked b.items)) boots points
 
--- the greatest number of 64 bits, at which counts stand still
-abbrev pub greatest : ℕ
-greatest = 18446744073709551615
-
--- the points at which a service stopped, boot by boot
+-- the point at which a boot stopped, if it did
 abbrev pub stop_in : Option ℕ → List ℕ
 stop_in None = []
 stop_in (Some stop) = stop ∷ []
 
+-- the points at which the service stopped, boot by boot
 abbrev pub struck_in : Run → List ℕ
 struck_in run = flat_map (λ b. stop_in b.stop) run.boots
 
@@ -362,4 +386,4 @@ pub record IsRecovered (s : Stubs) (history : List Entry) (run : Run) (unanswere
   -- no call reaches the service where what it needs is missing there, or isn't as it is tracked
   pub tracked_state : Each (λ p. IsTrackedAt s.facts s.walks history p p.item.tag) (places_of run)
   -- no point is left out or asked twice, and no stop is at another than the last that was asked
-  pub points : (nat_lt run.points greatest ≡ true) → ArePointsOf true s.facts s.parts 0 run.boots run.points
+  pub points : (nat_lt run.points most_asked ≡ true) → ArePointsOf true s.facts s.parts 0 run.boots run.points

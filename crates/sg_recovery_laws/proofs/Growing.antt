@@ -11,7 +11,7 @@ use Rattle.sg_facts.specs.Legal.{IsLegal, LegalFrom, Table, answer}
 use Rattle.sg_facts.specs.Object.{Object, after, empty_object, object_from, object_of}
 use Rattle.sg_facts.proofs.Legality.{IsLegal-from, LegalFrom-is}
 use Rattle.sg_facts.specs.Trace.{Boot}
-use Rattle.sg_recovery_laws.specs.Growing.{AreGrown, HasOneMore, IsGrown, NoneOf, booted, noted, place_behind, struck}
+use Rattle.sg_recovery_laws.specs.Growing.{AreGrown, HasOneMore, IsGrown, IsOfNoEntry, booted, noted, place_behind, struck}
 use Rattle.sg_hist.specs.Reading.{Place, after_item, behind, entries_before, is_by_guard, is_of, items_of, names_at, names_in, past, places_from, places_in, stands_before, value_at}
 
 -- ---- an entry more
@@ -78,7 +78,7 @@ stands_before-own item p q e g one =
     nothing false b c = refl
 
 -- the entries before a place stay where an item is noted that is none of theirs
-pub entries_before-more : (item : Item) (p q : Place) (history : List Entry) → IsGrown item p q → NoneOf item history
+pub entries_before-more : (item : Item) (p q : Place) (history : List Entry) → IsGrown item p q → IsOfNoEntry item history
     → entries_before history q ≡ entries_before history p
 entries_before-more item p q [] g none = refl
 entries_before-more item p q (e ∷ history) g none =
@@ -90,7 +90,7 @@ filter_more test [] e none = ap (λ b. cond b (e ∷ []) []) none
 filter_more test (x ∷ history) e none = ap (λ v. cond (test x) (x ∷ v) v) (filter_more test history e none)
 
 -- they stay where an item is noted together with its entry
-pub entries_before-committed : (item : Item) (p q : Place) (history : List Entry) (e : Entry) → IsGrown item p q → NoneOf item history → is_of e item ≡ true
+pub entries_before-committed : (item : Item) (p q : Place) (history : List Entry) (e : Entry) → IsGrown item p q → IsOfNoEntry item history → is_of e item ≡ true
     → entries_before (history ++ e ∷ []) q ≡ entries_before history p
 entries_before-committed item p q history e g none own =
     filter_more (stands_before q) history e (stands_before-own item p q e g own) ∙ entries_before-more item p q history g none

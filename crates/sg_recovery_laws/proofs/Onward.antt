@@ -19,9 +19,9 @@ use Rattle.sg_recovery_laws.proofs.Lists.{each_both, each_map, each_push}
 use Rattle.sg_recovery_laws.proofs.Same.{IsSame, again_is, demanded_same, tracked_same, walked_same}
 use Rattle.sg_recovery_laws.proofs.Served.{IsNamed, committed_stay, entered_later, item_of-own, items_stay, committed_later, has_same, order_push, order_stays}
 use Rattle.sg_recovery_laws.proofs.Stays.{same_committed, same_held, same_noted, same_refused}
-use Rattle.sg_recovery_laws.specs.Growing.{AreKept, HasOneMore, IsGrown, IsHeld, IsItemOf, IsLastCall, IsNext, IsRecovering, IsSettled, NoneOf, booted, last_stop, noted, place_behind, struck}
+use Rattle.sg_recovery_laws.specs.Growing.{AreKept, HasOneMore, IsGrown, IsHeldReply, IsItemOf, IsLastCall, IsNextItem, IsRecovering, IsSettled, IsOfNoEntry, booted, last_stop, noted, place_behind, struck}
 use Rattle.sg_hist.specs.Reading.{Place, behind, is_by_guard, is_of, item_of, items_of, past, places_from, places_in, places_of, stands_before}
-use Rattle.sg_hist.specs.Recovered.{AreInOrder, AreStopped, ComeBefore, HasItem, IsAt, IsCommitted, AskedAs, IsDemanded, IsItsCall, IsLastIfStopped, IsTrackedAt, IsUnderWay, IsWalked, Stubs, is_entered, is_visible_reply}
+use Rattle.sg_hist.specs.Recovered.{AreInOrder, AreStopped, ComeBefore, HasItem, GivesEntry, IsCommitted, AskedAs, IsDemanded, IsItsCall, IsLastIfStopped, IsTrackedAt, IsUnderWay, IsWalked, Stubs, is_entered, is_visible_reply}
 
 -- ---- calls
 
@@ -38,7 +38,7 @@ its_again h u h' u' item p q kept g its = subst (λ i. IsItsCall h' u' i.shown i
 -- ---- an item that is of no entry
 
 pub noted_stays : (s : Stubs) (h : List Entry) (b : Boot) (boots : List Boot) (points later : ℕ) (u u' : List Call) (item : Item)
-    → NoneOf item h → is_visible_reply s.facts item ≡ false → AreKept h u h u' → IsNext s h u' (place_behind [] (b ∷ boots) item)
+    → IsOfNoEntry item h → is_visible_reply s.facts item ≡ false → AreKept h u h u' → IsNextItem s h u' (place_behind [] (b ∷ boots) item)
     → IsRecovering s h (record { boots = b ∷ boots; points = points }) u
     → IsRecovering s h (record { boots = noted (b ∷ boots) item; points = later }) u'
 noted_stays s h b boots points later u u' item none hidden kept next r =
@@ -104,18 +104,18 @@ found_any test (p ∷ ps) found = by (found_any test ps) (test p) found
     by rest true found = refl
     by rest false found = rest found
 
-was_found : (facts : Facts) (h : List Entry) (e : Entry) (o : Option Place) → IsAt facts h e o → IsFound o
+was_found : (facts : Facts) (h : List Entry) (e : Entry) (o : Option Place) → GivesEntry facts h e o → IsFound o
 was_found facts h e None a = a
 was_found facts h e (Some p) a = tt
 
 has_any : (facts : Facts) (h : List Entry) (b : Boot) (boots : List Boot) (points : ℕ) (e : Entry)
-    → IsAt facts h e (item_of (record { boots = b ∷ boots; points = points }) e) → list_any (is_of e) (items_of (b ∷ boots)) ≡ true
+    → GivesEntry facts h e (item_of (record { boots = b ∷ boots; points = points }) e) → list_any (is_of e) (items_of (b ∷ boots)) ≡ true
 has_any facts h b boots points e a =
     let ps : List Place = places_from [] (b ∷ boots) in
     sym (any_places e [] (b ∷ boots)) ∙ list_any-IsPermutation (λ p. is_of e p.item) ps (reverse ps) (IsPermutation-reverse ps)
     ∙ found_any (λ p. is_of e p.item) (reverse ps) (was_found facts h e (find (λ p. is_of e p.item) (reverse ps)) a)
 
-come_last : (facts : Facts) (h : List Entry) (b : Boot) (boots : List Boot) (points : ℕ) (item : Item) (es : List Entry) → NoneOf item es
+come_last : (facts : Facts) (h : List Entry) (b : Boot) (boots : List Boot) (points : ℕ) (item : Item) (es : List Entry) → IsOfNoEntry item es
     → Each (HasItem facts h (record { boots = b ∷ boots; points = points })) es → ComeBefore es (Some (place_behind [] (b ∷ boots) item))
 come_last facts h b boots points item [] none has = refl
 come_last facts h b boots points item (e ∷ es) none has =
@@ -130,7 +130,7 @@ come_last facts h b boots points item (e ∷ es) none has =
     none_at = ap (λ i. is_of e i || list_any (is_of e) (behind last_of)) (own_item [] b boots item)
         ∙ ap (λ v. is_of e item || list_any (is_of e) v) (no_behind [] b boots item) ∙ ap (λ v. v || false) none.0
 
-    by : (g : Bool) → When (not g) (IsAt facts h e (item_of (record { boots = b ∷ boots; points = points }) e))
+    by : (g : Bool) → When (not g) (GivesEntry facts h e (item_of (record { boots = b ∷ boots; points = points }) e))
         → g || (not g && list_any (is_of e) (past last_of) && not (is_of e last_of.item || list_any (is_of e) (behind last_of))) ≡ true
     by true a = refl
     by false a = ap (λ v. v && not (is_of e last_of.item || list_any (is_of e) (behind last_of)))
@@ -138,8 +138,8 @@ come_last facts h b boots points item (e ∷ es) none has =
         ∙ ap not none_at
 
 pub committed_stays : (s : Stubs) (h : List Entry) (b : Boot) (boots : List Boot) (points later : ℕ) (u u' : List Call) (item : Item) (e : Entry)
-    → NoneOf item h → IsItemOf s.facts h (place_behind [] (b ∷ boots) item) e → IsLastCall h u e.call → AreKept h u (h ++ e ∷ []) u'
-    → IsNext s (h ++ e ∷ []) u' (place_behind [] (b ∷ boots) item)
+    → IsOfNoEntry item h → IsItemOf s.facts h (place_behind [] (b ∷ boots) item) e → IsLastCall h u e.call → AreKept h u (h ++ e ∷ []) u'
+    → IsNextItem s (h ++ e ∷ []) u' (place_behind [] (b ∷ boots) item)
     → IsRecovering s h (record { boots = b ∷ boots; points = points }) u
     → IsRecovering s (h ++ e ∷ []) (record { boots = noted (b ∷ boots) item; points = later }) u'
 committed_stays s h b boots points later u u' item e none of_it last_call kept next r =
@@ -166,7 +166,7 @@ committed_stays s h b boots points later u u' item e none of_it last_call kept n
             (items_stay s.facts h h' item last old new h more own none
             (each_map (λ p. Each (IsGiven s.facts h) p.front × IsGiven s.facts h p.item) (IsNamed s.facts h h') before named
             (each_both (λ p. Each (IsGiven s.facts h) p.front) (λ p. IsGiven s.facts h p.item) before fronts given)) r.served.items)
-            (subst (λ v. When (not v) (IsAt s.facts h' e (item_of new e))) (sym of_it.served) (subst (IsAt s.facts h' e) (sym its) (of_it.shown, of_it.reply)));
+            (subst (λ v. When (not v) (GivesEntry s.facts h' e (item_of new e))) (sym of_it.served) (subst (GivesEntry s.facts h' e) (sym its) (of_it.shown, of_it.reply)));
         committed = with_last item last (IsCommitted s.facts h) (IsCommitted s.facts h') before now more
             (λ p q g c. committed_stay s.facts item h (e ∷ []) p q g none c) (last_entered last of_it.tagged (no_behind [] b boots item)) r.served.committed;
         order = order_push s.facts new [] h e (order_stays s.facts item last old new [] h more own tt none r.served.order)
@@ -226,7 +226,7 @@ refused_stays s h run u u' e guards kept r =
         calls = each_map (λ p. IsItsCall h u p.item.shown p.item.tag) (λ p. IsItsCall h' u' p.item.shown p.item.tag) (places_of run)
             (λ p its. its_kept h u h' u' p.item.shown kept p.item.tag its) r.served.calls;
         items = each_push (HasItem s.facts h' run) h e (each_map (HasItem s.facts h run) (HasItem s.facts h' run) h (has_same s.facts h h' run (named_refused s.facts h e guards (places_of run))) r.served.items)
-            (subst (λ v. When (not v) (IsAt s.facts h' e (item_of run e))) (sym guards) tt);
+            (subst (λ v. When (not v) (GivesEntry s.facts h' e (item_of run e))) (sym guards) tt);
         committed = each_map (IsCommitted s.facts h) (IsCommitted s.facts h') (places_of run) (committed_later s.facts h (e ∷ [])) r.served.committed;
         order = order_push s.facts run [] h e r.served.order (unasked (is_visible s.facts e.call.fun));
       };
@@ -256,7 +256,7 @@ given_named : (facts : Facts) (h : List Entry) (e : Entry) (p : Place) → Each 
 given_named facts h e p both = names_same facts h (h ++ e ∷ []) (p.front ++ p.item ∷ [])
     (each_map (IsGiven facts h) (IsSameId facts h (h ++ e ∷ [])) (p.front ++ p.item ∷ []) (given_same facts h e) (each_push (IsGiven facts h) p.front p.item both.0 both.1))
 
-pub held_stays : (s : Stubs) (h : List Entry) (run : Run) (u u' : List Call) (e : Entry) → IsHeld s.facts h run e → IsLastCall h u e.call → AreKept h u (h ++ e ∷ []) u'
+pub held_stays : (s : Stubs) (h : List Entry) (run : Run) (u u' : List Call) (e : Entry) → IsHeldReply s.facts h run e → IsLastCall h u e.call → AreKept h u (h ++ e ∷ []) u'
     → Each (λ p. stands_before p e ≡ true → IsSettled s (h ++ e ∷ []) u' p) (places_of run) → IsRecovering s h run u → IsRecovering s (h ++ e ∷ []) run u'
 held_stays s h run u u' e held last kept behind_it r =
     let h' : List Entry = h ++ e ∷ [] in
@@ -276,7 +276,7 @@ held_stays s h run u u' e held last kept behind_it r =
         calls = each_map (λ p. IsItsCall h u p.item.shown p.item.tag) (λ p. IsItsCall h' u' p.item.shown p.item.tag) ps
             (λ p its. its_kept h u h' u' p.item.shown kept p.item.tag its) r.served.calls;
         items = each_push (HasItem s.facts h' run) h e (each_map (HasItem s.facts h run) (HasItem s.facts h' run) h (has_same s.facts h h' run named) r.served.items)
-            (subst (λ v. When (not v) (IsAt s.facts h' e (item_of run e))) (sym held.served) held.own);
+            (subst (λ v. When (not v) (GivesEntry s.facts h' e (item_of run e))) (sym held.served) held.own);
         committed = each_map (IsCommitted s.facts h) (IsCommitted s.facts h') ps (committed_later s.facts h (e ∷ [])) r.served.committed;
         order = order_push s.facts run [] h e r.served.order
             (subst (λ v. When (v && not (is_by_guard e.reply)) (ComeBefore h (item_of run e))) (sym held.hidden) tt);
@@ -359,7 +359,7 @@ same_places s h run later u same stopped r = record {
   served = record {
     calls = subst (Each (λ p. IsItsCall h u p.item.shown p.item.tag)) (sym same) r.served.calls;
     items = each_map (HasItem s.facts h run) (HasItem s.facts h later) h
-        (λ e has. subst (λ ps. When (not (is_by_guard e.reply)) (IsAt s.facts h e (find (λ p. is_of e p.item) (reverse ps)))) (sym same) has) r.served.items;
+        (λ e has. subst (λ ps. When (not (is_by_guard e.reply)) (GivesEntry s.facts h e (find (λ p. is_of e p.item) (reverse ps)))) (sym same) has) r.served.items;
     committed = subst (Each (IsCommitted s.facts h)) (sym same) r.served.committed;
     order = order_places s.facts run later [] h same r.served.order;
   };

@@ -12,9 +12,9 @@ use Rattle.sg_facts.specs.Trace.{Run}
 use Rattle.sg_recovery_laws.proofs.Growing.{both_grown}
 use Rattle.sg_recovery_laws.proofs.Lists.{each_push}
 use Rattle.sg_recovery_laws.proofs.Stays.{stands_each}
-use Rattle.sg_recovery_laws.specs.Growing.{AreGrown, HasOneMore, IsGrown, NoneOf}
+use Rattle.sg_recovery_laws.specs.Growing.{AreGrown, HasOneMore, IsGrown, IsOfNoEntry}
 use Rattle.sg_hist.specs.Reading.{Place, behind, is_by_guard, is_of, item_of, names_at, places_of, stands_before}
-use Rattle.sg_hist.specs.Recovered.{AreInOrder, ComeBefore, HasItem, IsAt, IsCommitted, IsReplyOf, is_entered, is_visible_reply}
+use Rattle.sg_hist.specs.Recovered.{AreInOrder, ComeBefore, HasItem, GivesEntry, IsCommitted, IsReplyOf, is_entered, is_visible_reply}
 
 -- ---- lists from behind
 
@@ -101,7 +101,7 @@ has_item : (facts : Facts) (h h' : List Entry) (item : Item) (e : Entry) (run la
     → Has (IsNamed facts h h') (item_of run e) → HasItem facts h run e → HasItem facts h' later e
 has_item facts h h' item e run later grown named has = by (not (is_by_guard e.reply)) has
   where
-    at : (p q : Option Place) → IsGrownTo item p q → Has (IsNamed facts h h') p → IsAt facts h e p → IsAt facts h' e q
+    at : (p q : Option Place) → IsGrownTo item p q → Has (IsNamed facts h h') p → GivesEntry facts h e p → GivesEntry facts h' e q
     at None None g named a = a
     at None (Some q) g named a = absurd g
     at (Some p) None g named a = absurd g
@@ -112,12 +112,12 @@ has_item facts h h' item e run later grown named has = by (not (is_by_guard e.re
           (subst (λ ns. IsReplyOf ns p.item.outcome e.reply) (sym named) a.1)),
     )
 
-    by : (b : Bool) → When b (IsAt facts h e (item_of run e)) → When b (IsAt facts h' e (item_of later e))
+    by : (b : Bool) → When b (GivesEntry facts h e (item_of run e)) → When b (GivesEntry facts h' e (item_of later e))
     by true a = at (item_of run e) (item_of later e) grown named a
     by false a = tt
 
 pub items_stay : (facts : Facts) (h h' : List Entry) (item : Item) (last : Place) (run later : Run) (es : List Entry)
-    → HasOneMore item last (places_of run) (places_of later) → last.item ≡ item → NoneOf item es → Each (IsNamed facts h h') (places_of run)
+    → HasOneMore item last (places_of run) (places_of later) → last.item ≡ item → IsOfNoEntry item es → Each (IsNamed facts h h') (places_of run)
     → Each (HasItem facts h run) es → Each (HasItem facts h' later) es
 items_stay facts h h' item last run later [] more own none named has = tt
 items_stay facts h h' item last run later (e ∷ es) more own none named has = (
@@ -131,11 +131,11 @@ pub has_same : (facts : Facts) (h h' : List Entry) (run : Run) → Each (IsNamed
 has_same facts h h' run named e has =
     by (found_has (IsNamed facts h h') (λ p. is_of e p.item) (reverse (places_of run)) (each_reverse (IsNamed facts h h') (places_of run) named)) (not (is_by_guard e.reply)) has
   where
-    at : (p : Option Place) → Has (IsNamed facts h h') p → IsAt facts h e p → IsAt facts h' e p
+    at : (p : Option Place) → Has (IsNamed facts h h') p → GivesEntry facts h e p → GivesEntry facts h' e p
     at None named a = a
     at (Some p) named a = (a.0, subst (λ ns. IsReplyOf ns p.item.outcome e.reply) (sym named) a.1)
 
-    by : Has (IsNamed facts h h') (item_of run e) → (b : Bool) → When b (IsAt facts h e (item_of run e)) → When b (IsAt facts h' e (item_of run e))
+    by : Has (IsNamed facts h h') (item_of run e) → (b : Bool) → When b (GivesEntry facts h e (item_of run e)) → When b (GivesEntry facts h' e (item_of run e))
     by own true a = at (item_of run e) own a
     by own false a = tt
 
@@ -156,7 +156,7 @@ behind_more item p q e g none =
     or_none true = refl
     or_none false = refl
 
-entered_more : (item : Item) (p q : Place) (h : List Entry) → IsGrown item p q → NoneOf item h → is_entered h q ≡ is_entered h p
+entered_more : (item : Item) (p q : Place) (h : List Entry) → IsGrown item p q → IsOfNoEntry item h → is_entered h q ≡ is_entered h p
 entered_more item p q [] g none = refl
 entered_more item p q (e ∷ h) g none =
     ap (λ b. b || is_entered h q) (behind_more item p q e g none.0)
@@ -167,7 +167,7 @@ pub entered_later : (p : Place) (h es : List Entry) → is_entered h p ≡ true 
 entered_later p h es is =
     list_any-append (λ e. not (is_by_guard e.reply) && is_of e p.item && not (list_any (is_of e) (behind p))) h es ∙ ap (λ b. b || is_entered es p) is
 
-pub committed_stay : (facts : Facts) (item : Item) (h es : List Entry) (p q : Place) → IsGrown item p q → NoneOf item h → IsCommitted facts h p → IsCommitted facts (h ++ es) q
+pub committed_stay : (facts : Facts) (item : Item) (h es : List Entry) (p q : Place) → IsGrown item p q → IsOfNoEntry item h → IsCommitted facts h p → IsCommitted facts (h ++ es) q
 committed_stay facts item h es p q g none committed =
     subst (λ i. When (is_visible_reply facts i) (is_entered (h ++ es) q ≡ true)) (sym g.own) (by (is_visible_reply facts p.item) committed)
   where
@@ -191,18 +191,18 @@ earlier_stay item p q (e ∷ es) same =
     ap (λ b. (is_by_guard e.reply || b) && list_all (λ x. is_by_guard x.reply || stands_before q x) es) same.0
     ∙ ap (λ b. (is_by_guard e.reply || stands_before p e) && b) (earlier_stay item p q es same.1)
 
-come_stay : (item : Item) (earlier : List Entry) (p q : Option Place) → NoneOf item earlier → IsGrownTo item p q → ComeBefore earlier p → ComeBefore earlier q
+come_stay : (item : Item) (earlier : List Entry) (p q : Option Place) → IsOfNoEntry item earlier → IsGrownTo item p q → ComeBefore earlier p → ComeBefore earlier q
 come_stay item earlier None None none g come = come
 come_stay item earlier None (Some q) none g come = absurd g
 come_stay item earlier (Some p) None none g come = absurd g
 come_stay item earlier (Some p) (Some q) none g come = earlier_stay item p q earlier (stands_each item p q earlier none g) ∙ come
 
-none_push : (item : Item) (h : List Entry) (e : Entry) → NoneOf item h → is_of e item ≡ false → NoneOf item (h ++ e ∷ [])
+none_push : (item : Item) (h : List Entry) (e : Entry) → IsOfNoEntry item h → is_of e item ≡ false → IsOfNoEntry item (h ++ e ∷ [])
 none_push item [] e none one = (one, tt)
 none_push item (x ∷ h) e none one = (none.0, none_push item h e none.1 one)
 
 pub order_stays : (facts : Facts) (item : Item) (last : Place) (run later : Run) (earlier es : List Entry) → HasOneMore item last (places_of run) (places_of later)
-    → last.item ≡ item → NoneOf item earlier → NoneOf item es → AreInOrder facts run earlier es → AreInOrder facts later earlier es
+    → last.item ≡ item → IsOfNoEntry item earlier → IsOfNoEntry item es → AreInOrder facts run earlier es → AreInOrder facts later earlier es
 order_stays facts item last run later earlier [] more own before none order = tt
 order_stays facts item last run later earlier (e ∷ es) more own before none order = (
   by (is_visible facts e.call.fun && not (is_by_guard e.reply)) order.0,

@@ -16,7 +16,7 @@ use Rattle.sg_recovery_laws.proofs.Growing.{entries_before-committed, entries_be
 use Rattle.sg_recovery_laws.proofs.Lists.{each_map}
 use Rattle.sg_recovery_laws.proofs.Same.{IsSame, again, any_rebuilt, any_same, rebuilt_again}
 use Rattle.sg_hist.specs.Clients.{calls_of}
-use Rattle.sg_recovery_laws.specs.Growing.{AreKept, IsGrown, IsLastCall, NoneOf}
+use Rattle.sg_recovery_laws.specs.Growing.{AreKept, IsGrown, IsLastCall, IsOfNoEntry}
 use Rattle.sg_hist.specs.Reading.{Place, behind, entries_before, is_by_guard, is_made, is_of, is_rebuilt_at, is_whole_at, past, places_in, stands_before}
 use Rattle.sg_hist.specs.Recovered.{IsUnderWay, calls_made}
 
@@ -59,7 +59,7 @@ all_more f client (x ∷ h) e own = by (all_more f client h e own) (x.call.clien
     by rest false = rest
 
 -- entries stand before a place as they did before it grew
-pub stands_each : (item : Item) (p q : Place) (h : List Entry) → NoneOf item h → IsGrown item p q → Each (λ e. stands_before q e ≡ stands_before p e) h
+pub stands_each : (item : Item) (p q : Place) (h : List Entry) → IsOfNoEntry item h → IsGrown item p q → Each (λ e. stands_before q e ≡ stands_before p e) h
 stands_each item p q [] none g = tt
 stands_each item p q (e ∷ h) none g = (stands_before-more item p q e g none.0, stands_each item p q h none.1 g)
 
@@ -75,7 +75,7 @@ first_each p q call h same =
     each_map (λ e. stands_before q e ≡ stands_before p e) (λ e. (is_by_guard e.reply || stands_before q e || nat_le call.seq e.call.seq) ≡ (is_by_guard e.reply || stands_before p e || nat_le call.seq e.call.seq)) h
     (λ e is. ap (λ b. is_by_guard e.reply || b || nat_le call.seq e.call.seq) is) same
 
-under_noted : (item : Item) (p q : Place) (h : List Entry) (u u' : List Call) → NoneOf item h → IsGrown item p q → AreKept h u h u'
+under_noted : (item : Item) (p q : Place) (h : List Entry) (u u' : List Call) → IsOfNoEntry item h → IsGrown item p q → AreKept h u h u'
     → (client : ℕ) (call : Call) → IsUnderWay h u p client call → IsUnderWay h u' q client call
 under_noted item p q h u u' none g kept client call w =
     let same = stands_each item p q h none g in
@@ -109,7 +109,7 @@ under_more h e u u' q stands last kept client call w = record {
 -- ---- what an item rests on
 
 pub same_noted : (facts : Facts) (walks : List WalkLine) (h : List Entry) (u u' : List Call) (item : Item) (p : Place) (r n : List Item)
-    → NoneOf item h → r ++ n ≡ behind p ++ item ∷ [] → AreKept h u h u' → IsSame facts walks h u h u' p r n
+    → IsOfNoEntry item h → r ++ n ≡ behind p ++ item ∷ [] → AreKept h u h u' → IsSame facts walks h u h u' p r n
 same_noted facts walks h u u' item p r n none more kept =
     let g : IsGrown item p (again p r n) = record { older = refl; front = refl; own = refl; behind_it = more } in
     record {
@@ -121,7 +121,7 @@ same_noted facts walks h u u' item p r n none more kept =
     }
 
 pub same_committed : (facts : Facts) (walks : List WalkLine) (h : List Entry) (u u' : List Call) (e : Entry) (item : Item) (p : Place) (r n : List Item)
-    → NoneOf item h → is_of e item ≡ true → r ++ n ≡ behind p ++ item ∷ [] → AreKept h u (h ++ e ∷ []) u'
+    → IsOfNoEntry item h → is_of e item ≡ true → r ++ n ≡ behind p ++ item ∷ [] → AreKept h u (h ++ e ∷ []) u'
     → ((call : Call) → Contains (calls_made h u) call → call.client ≡ e.call.client → call.seq ≤ e.call.seq)
     → Each (IsGiven facts h) p.front → IsSame facts walks h u (h ++ e ∷ []) u' p r n
 same_committed facts walks h u u' e item p r n none own more kept last given =

@@ -10,7 +10,7 @@ use Rattle.sg_facts.specs.declared.entry.Entry.{Entry}
 use Rattle.sg_facts.specs.Facts.{Facts, is_visible}
 use Rattle.sg_facts.specs.Trace.{Boot, Run}
 use Rattle.sg_hist.specs.Reading.{Place, behind, is_by_guard, is_of, item_of, names_at, places_of}
-use Rattle.sg_hist.specs.Recovered.{AskedAs, IsAt, IsDemanded, IsItsCall, IsRebooted, IsReplyOf, IsServed, IsTrackedAt, IsWalked, Stubs, asked_in, calls_made, ends_stopped}
+use Rattle.sg_hist.specs.Recovered.{AskedAs, GivesEntry, IsDemanded, IsItsCall, IsRebooted, IsReplyOf, IsServed, IsTrackedAt, IsWalked, Stubs, asked_in, calls_made, ends_stopped}
 
 -- ---- boots and places
 
@@ -49,7 +49,7 @@ pub record IsGrown (item : Item) (p q : Place) : Type 0 where
   pub own : q.item ≡ p.item
   pub behind_it : behind q ≡ behind p ++ item ∷ []
 
--- so are places, one by one
+-- places are the same, one by one, but that an item more stands behind each
 abbrev pub AreGrown : Item → List Place → List Place → Type 0
 AreGrown item [] [] = Unit {0}
 AreGrown item (p ∷ ps) (q ∷ qs) = IsGrown item p q × AreGrown item ps qs
@@ -63,9 +63,9 @@ pub record HasOneMore (item : Item) (last : Place) (before now : List Place) : T
   pub each : AreGrown item before grown
 
 -- no entry is of an item
-abbrev pub NoneOf : Item → List Entry → Type 0
-NoneOf item [] = Unit {0}
-NoneOf item (e ∷ history) = (is_of e item ≡ false) × NoneOf item history
+abbrev pub IsOfNoEntry : Item → List Entry → Type 0
+IsOfNoEntry item [] = Unit {0}
+IsOfNoEntry item (e ∷ history) = (is_of e item ≡ false) × IsOfNoEntry item history
 
 -- ---- what is kept step by step
 
@@ -84,7 +84,7 @@ pub record IsSettled (s : Stubs) (history : List Entry) (unanswered : List Call)
   pub state : IsTrackedAt s.facts s.walks history p p.item.tag
 
 -- what is asked of an item when it is noted: it is noted in a boot that wasn't stopped, answered by the table, and settled
-pub record IsNext (s : Stubs) (history : List Entry) (unanswered : List Call) (p : Place) : Type 0 where
+pub record IsNextItem (s : Stubs) (history : List Entry) (unanswered : List Call) (p : Place) : Type 0 where
   pub running : ends_stopped p.front ≡ false
   pub table : AskedAs s.facts s.ask p p.item.tag
   pub call : IsItsCall history unanswered p.item.shown p.item.tag
@@ -106,10 +106,10 @@ pub record IsItemOf (facts : Facts) (history : List Entry) (p : Place) (e : Entr
   pub reply : IsReplyOf (names_at facts (history ++ e ∷ []) (p.front ++ p.item ∷ [])) p.item.outcome e.reply
 
 -- an entry is appended behind its item, as a held reply is: it isn't visible, and its item has its call and its reply
-pub record IsHeld (facts : Facts) (history : List Entry) (run : Run) (e : Entry) : Type 0 where
+pub record IsHeldReply (facts : Facts) (history : List Entry) (run : Run) (e : Entry) : Type 0 where
   pub hidden : is_visible facts e.call.fun ≡ false
   pub served : is_by_guard e.reply ≡ false
-  pub own : IsAt facts (history ++ e ∷ []) e (item_of run e)
+  pub own : GivesEntry facts (history ++ e ∷ []) e (item_of run e)
 
 -- ---- points
 

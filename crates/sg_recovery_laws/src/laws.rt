@@ -9,7 +9,7 @@ ghost use Rattle.sg_facts.specs.Interface.{Declared};
 ghost use Rattle.sg_facts.specs.Legal.{IsLegal, Table, answer};
 ghost use Rattle.sg_facts.specs.Object.{object_of};
 ghost use Rattle.sg_facts.specs.Trace.{Boot, Run};
-ghost use Rattle.sg_recovery_laws.specs.Growing.{AreKept, HasOneMore, IsGrown, IsHeld, IsItemOf, IsLastCall, IsNext, IsRecovering, IsSettled, NoneOf, asked_over, booted, last_stop, noted, place_behind, struck};
+ghost use Rattle.sg_recovery_laws.specs.Growing.{AreKept, HasOneMore, IsGrown, IsHeldReply, IsItemOf, IsLastCall, IsNextItem, IsRecovering, IsSettled, IsOfNoEntry, asked_over, booted, last_stop, noted, place_behind, struck};
 ghost use Rattle.sg_hist.specs.Reading.{Place, after_item, entries_before, is_by_guard, is_of, names_at, names_in, places_from, places_of, stands_before, value_at};
 ghost use Rattle.sg_hist.specs.Recovered.{ArePointsOf, IsCount, IsPointOf, Stubs, asked_behind, ends_committed, is_stopped, is_visible_reply};
 
@@ -23,9 +23,9 @@ pub fn legal_stays()
 /// and where a refusal by the guard is appended. An entry that is appended behind its item, as a held reply is, is among those
 /// before the places behind that item, and before no other.
 pub fn entries_stay()
-    ensures noted { (item : Item) (p q : Place) (history : List Entry) → IsGrown item p q → NoneOf item history
+    ensures noted { (item : Item) (p q : Place) (history : List Entry) → IsGrown item p q → IsOfNoEntry item history
         → entries_before history q ≡ entries_before history p }
-    ensures committed { (item : Item) (p q : Place) (history : List Entry) (e : Entry) → IsGrown item p q → NoneOf item history → is_of e item ≡ true
+    ensures committed { (item : Item) (p q : Place) (history : List Entry) (e : Entry) → IsGrown item p q → IsOfNoEntry item history → is_of e item ≡ true
         → entries_before (history ++ e ∷ []) q ≡ entries_before history p }
     ensures refused { (p : Place) (history : List Entry) (e : Entry) → is_by_guard e.reply ≡ true
         → entries_before (history ++ e ∷ []) p ≡ entries_before history p }
@@ -50,24 +50,25 @@ pub fn values_grow()
         → names_at facts history (front ++ item ∷ []) ≡ names_at facts history front ++ names_in facts history item.shown.fun item.tag item.outcome }
 {}
 
-/// A run that recovers goes on to do so. It begins with a boot in which nothing was asked. An item is noted that is of no entry: a client's call that wasn't committed, a call of
-/// a walk, or a load. An item is noted together with its entry. A refusal by the guard is appended. A held reply is committed:
+/// A run that recovers goes on to do so. It begins with a boot in which nothing was asked. Then these steps are made: an item is
+/// noted that belongs to no entry (a client's call that isn't committed, a call of a walk, or a load); an item is noted together
+/// with its entry. A refusal by the guard is appended. A held reply is committed:
 /// then what stands behind its item is to be settled anew. A call is made. The service stops, and is booted again. Beside that,
 /// what each item must meet is asked of it when it is noted, and never again.
 pub fn recovering_goes_on()
     ensures begins { (s : Stubs) → IsRecovering s [] (record { boots = booted []; points = 0 }) [] }
     ensures noted { (s : Stubs) (h : List Entry) (b : Boot) (boots : List Boot) (points later : ℕ) (u u' : List Call) (item : Item)
-        → NoneOf item h → is_visible_reply s.facts item ≡ false → AreKept h u h u' → IsNext s h u' (place_behind [] (b ∷ boots) item)
+        → IsOfNoEntry item h → is_visible_reply s.facts item ≡ false → AreKept h u h u' → IsNextItem s h u' (place_behind [] (b ∷ boots) item)
         → IsRecovering s h (record { boots = b ∷ boots; points = points }) u
         → IsRecovering s h (record { boots = noted (b ∷ boots) item; points = later }) u' }
     ensures committed { (s : Stubs) (h : List Entry) (b : Boot) (boots : List Boot) (points later : ℕ) (u u' : List Call) (item : Item) (e : Entry)
-        → NoneOf item h → IsItemOf s.facts h (place_behind [] (b ∷ boots) item) e → IsLastCall h u e.call → AreKept h u (h ++ e ∷ []) u'
-        → IsNext s (h ++ e ∷ []) u' (place_behind [] (b ∷ boots) item)
+        → IsOfNoEntry item h → IsItemOf s.facts h (place_behind [] (b ∷ boots) item) e → IsLastCall h u e.call → AreKept h u (h ++ e ∷ []) u'
+        → IsNextItem s (h ++ e ∷ []) u' (place_behind [] (b ∷ boots) item)
         → IsRecovering s h (record { boots = b ∷ boots; points = points }) u
         → IsRecovering s (h ++ e ∷ []) (record { boots = noted (b ∷ boots) item; points = later }) u' }
     ensures refused { (s : Stubs) (h : List Entry) (run : Run) (u u' : List Call) (e : Entry) → is_by_guard e.reply ≡ true
         → AreKept h u (h ++ e ∷ []) u' → IsRecovering s h run u → IsRecovering s (h ++ e ∷ []) run u' }
-    ensures held { (s : Stubs) (h : List Entry) (run : Run) (u u' : List Call) (e : Entry) → IsHeld s.facts h run e → IsLastCall h u e.call
+    ensures held { (s : Stubs) (h : List Entry) (run : Run) (u u' : List Call) (e : Entry) → IsHeldReply s.facts h run e → IsLastCall h u e.call
         → AreKept h u (h ++ e ∷ []) u' → Each (λ p. stands_before p e ≡ true → IsSettled s (h ++ e ∷ []) u' p) (places_of run)
         → IsRecovering s h run u → IsRecovering s (h ++ e ∷ []) run u' }
     ensures made { (s : Stubs) (h : List Entry) (run : Run) (u u' : List Call) → AreKept h u h u' → IsRecovering s h run u → IsRecovering s h run u' }

@@ -8,7 +8,7 @@ use Rattle.test_recovery.specs.LockRuns.{lock_stubs, rebuilt_for_take}
 use Rattle.test_recovery.specs.Written.{call_of, called, entry, ok_at, replied, walked}
 use Rattle.sg_recovery_laws.proofs.Lists.{each_contains}
 use Rattle.sg_recovery_laws.proofs.Onward.{booted_stays, committed_stays, made_stays, noted_stays, nothing_yet, struck_stays}
-use Rattle.sg_recovery_laws.specs.Growing.{IsItemOf, IsNext, IsRecovering, booted, noted, place_behind, struck}
+use Rattle.sg_recovery_laws.specs.Growing.{IsItemOf, IsNextItem, IsRecovering, booted, noted, place_behind, struck}
 
 abbrev alloc : Call
 alloc = call_of 1 1 1 0
@@ -37,7 +37,7 @@ committed = committed_stays lock_stubs [] (record { items = []; stop = None }) [
     its : IsItemOf lock_stubs.facts [] (place_behind [] (booted []) first) made
     its = record { tagged = refl; served = refl; shown = refl; reply = (refl, refl, refl) }
 
-    next : IsNext lock_stubs (made ∷ []) [] (place_behind [] (booted []) first)
+    next : IsNextItem lock_stubs (made ∷ []) [] (place_behind [] (booted []) first)
     next = record {
       running = refl;
       table = (refl, refl);
@@ -57,7 +57,7 @@ pub rebuilt_for_take-recovering : IsRecovering lock_stubs (made ∷ []) rebuilt_
 rebuilt_for_take-recovering = noted_stays lock_stubs (made ∷ []) (record { items = first ∷ []; stop = Some 5 }) (record { items = []; stop = None } ∷ []) 5 9 (take ∷ []) (take ∷ []) again
     (refl, tt) refl (λ call c. c) next rebooted
   where
-    next : IsNext lock_stubs (made ∷ []) (take ∷ []) (place_behind [] (booted (struck (noted (booted []) first) 5)) again)
+    next : IsNextItem lock_stubs (made ∷ []) (take ∷ []) (place_behind [] (booted (struck (noted (booted []) first) 5)) again)
     next = record {
       running = refl;
       table = (refl, refl);
