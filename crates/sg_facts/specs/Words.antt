@@ -1,5 +1,5 @@
--- The words of the interface language that stand for facts of a service.
-use Rattle.std.specs.Prelude.{ℕ, Bool, true, false, List, [], codes, unwrap_or, slice_get}
+-- The words of the interface language that stand for facts of a service, and the end of a printed line.
+use Rattle.std.specs.Prelude.{ℕ, Bool, true, false, List, [], ◌∷◌, codes, unwrap_or, slice_get}
 use Rattle.std.specs.Option.{option_map}
 use Rattle.sg_facts.specs.declared.shape.Parents.{Parents}
 use Rattle.sg_facts.specs.declared.shape.Parents.TheVariants.{Never, Same as SameClient, Cross}
@@ -24,3 +24,7 @@ flag_word false = codes "false"
 -- the name of the field of a number, from 0; empty where there is none
 abbrev pub field_name : List Field → ℕ → List ℕ
 field_name fields x = unwrap_or (option_map (λ f. f.name) (slice_get fields x)) []
+
+-- the byte that ends a line of what is printed
+abbrev pub line_end : List ℕ
+line_end = 10 ∷ []
