@@ -5,7 +5,7 @@ use Rattle.std.specs.declared.option.Option.{Option}
 use Rattle.sg_lex.specs.Lexeme.{Lexeme}
 use Rattle.sg_lex.specs.Tokens.{Answer}
 use Rattle.sg_grammar.specs.declared.error.ParseError.TheVariants.{Syntax}
-use Rattle.sg_grammar.specs.States.{State, dead, due, want, names, stars, either, listed, statements, param, declared, type_of, with_statement, statement_behind, one_rest, two_rest, plain_rest, returned_rest, Reading, has_sort, fits, named_by, read, read_from, step, tree_at, ended}
+use Rattle.sg_grammar.specs.Inside.States.{State, dead, due, want, names, stars, either, listed, statements, param, declared, type_of, with_statement, statement_behind, one_rest, two_rest, plain_rest, returned_rest, Reading, has_sort, fits, named_by, read, read_from, step, tree_at, ended}
 use Rattle.sg_grammar.proofs.Basics.{if_then, if_else}
 use Rattle.sg_grammar.proofs.Readings.{read_token, read_stuck, read_nothing}
 use Rattle.std.proofs.Math.Dec.{eqb-suc-zero}

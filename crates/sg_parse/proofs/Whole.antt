@@ -7,7 +7,7 @@ use Rattle.sg_grammar.specs.declared.error.ParseError.{ParseError}
 use Rattle.sg_grammar.specs.declared.error.ParseError.TheVariants.{NoMemory, Lex, Syntax}
 use Rattle.sg_grammar.specs.declared.tree.Tree.{Tree}
 use Rattle.sg_grammar.specs.Parses.{Parses, ParsesTo}
-use Rattle.sg_grammar.specs.States.{start, read}
+use Rattle.sg_grammar.specs.Inside.States.{start, read}
 use Rattle.sg_grammar.proofs.Readings.{may_answer, only_answer}
 use Rattle.sg_parse.specs.Leads.{Answers}
 

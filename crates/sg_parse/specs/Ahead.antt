@@ -6,7 +6,7 @@ use Rattle.sg_lex.specs.Lexeme.{Lexeme}
 use Rattle.sg_lex.specs.Tokens.{Answer}
 use Rattle.sg_grammar.specs.Named.{Named}
 use Rattle.sg_grammar.specs.Pieces.{Piece}
-use Rattle.sg_grammar.specs.States.{fits}
+use Rattle.sg_grammar.specs.Inside.States.{fits}
 
 -- the token that was looked at and left comes first
 abbrev pub with_ahead : Option Lexeme → List Answer → List Answer

@@ -8,7 +8,7 @@ use Rattle.sg_grammar.specs.declared.error.ParseError.{ParseError}
 use Rattle.sg_grammar.specs.declared.error.ParseError.TheVariants.{NoMemory, Syntax}
 use Rattle.sg_grammar.specs.declared.tree.Tree.{Tree}
 use Rattle.sg_grammar.specs.Named.{Named}
-use Rattle.sg_grammar.specs.States.{State, Reading, read}
+use Rattle.sg_grammar.specs.Inside.States.{State, Reading, read}
 
 -- what is read, if the state behind this token is that one
 abbrev pub read_on : Option State → Lexeme → Reading → Result Tree ParseError

@@ -2,7 +2,7 @@
 ghost use Rattle.std.specs.Prelude.{◌≡◌, ◌≤◌, [], length, OnOk};
 ghost use Rattle.sg_grammar.specs.Named.{Named};
 ghost use Rattle.sg_grammar.specs.Pieces.{mark};
-ghost use Rattle.sg_grammar.specs.States.{State, fact, statements, start, read};
+ghost use Rattle.sg_grammar.specs.Inside.States.{State, fact, statements, start, read};
 ghost use Rattle.sg_parse.specs.Leads.{Leads};
 
 use crate::reader::Reader;

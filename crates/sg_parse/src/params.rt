@@ -4,7 +4,7 @@ ghost use Rattle.sg_grammar.specs.declared.tree.Param.{Param as Declared};
 ghost use Rattle.sg_grammar.specs.declared.words.Sort.TheVariants.{Name as a_name};
 ghost use Rattle.sg_grammar.specs.Named.{Named};
 ghost use Rattle.sg_grammar.specs.Sentence.{open_bracket, close_bracket};
-ghost use Rattle.sg_grammar.specs.States.{State, due, want, either, listed, declared, param, with_param, type_of, read};
+ghost use Rattle.sg_grammar.specs.Inside.States.{State, due, want, either, listed, declared, param, with_param, type_of, read};
 ghost use Rattle.sg_parse.specs.Leads.{Leads, either_of};
 
 use crate::reader::Reader;

@@ -5,7 +5,7 @@ ghost use Rattle.sg_lex.specs.Tokens.{answers_of};
 ghost use Rattle.sg_grammar.specs.declared.error.ParseError.{ParseError as Fault};
 ghost use Rattle.sg_grammar.specs.declared.tree.Tree.{Tree as Whole};
 ghost use Rattle.sg_grammar.specs.Parses.{Parses};
-ghost use Rattle.sg_grammar.specs.States.{start, read};
+ghost use Rattle.sg_grammar.specs.Inside.States.{start, read};
 ghost use Rattle.sg_parse.specs.Leads.{Answers};
 
 use crate::reader::Reader;

@@ -3,7 +3,7 @@ ghost use Rattle.std.specs.Prelude.{◌≡◌, ◌≤◌, ◌<◌, ◌+◌, ℕ,
 ghost use Rattle.sg_lex.specs.Tokens.{answers_of};
 ghost use Rattle.sg_grammar.specs.Words.{is_of};
 ghost use Rattle.sg_grammar.specs.Named.{Named};
-ghost use Rattle.sg_grammar.specs.States.{State, dead, due, want, Reading, read, read_from, has_sort, fits, named_by};
+ghost use Rattle.sg_grammar.specs.Inside.States.{State, dead, due, want, Reading, read, read_from, has_sort, fits, named_by};
 ghost use Rattle.sg_parse.specs.Leads.{Leads};
 ghost use Rattle.sg_grammar.specs.Pieces.{mark, word};
 ghost use Rattle.sg_parse.specs.Ahead.{with_ahead, Off, named_token, Came};
@@ -23,7 +23,7 @@ pub struct Reader<'a> {
 
 impl<'a> Model for Reader<'a> {
     ghost use Rattle.std.specs.Prelude.{length, ◌≤◌};
-    ghost use Rattle.sg_grammar.specs.States.{Reading};
+    ghost use Rattle.sg_grammar.specs.Inside.States.{Reading};
     ghost use Rattle.sg_parse.specs.Ahead.{with_ahead};
 
     ghost Value = { Reading };

@@ -5,7 +5,7 @@ ghost use Rattle.sg_grammar.specs.declared.tree.Statement.{Statement as Stated};
 ghost use Rattle.sg_grammar.specs.declared.tree.TypeName.{TypeName as Typed};
 ghost use Rattle.sg_grammar.specs.declared.words.Sort.TheVariants.{Name as a_name};
 ghost use Rattle.sg_grammar.specs.Named.{Named};
-ghost use Rattle.sg_grammar.specs.States.{State, want, statements, statement_behind, one_rest, two_rest, proto_rest, plain_rest, returned_rest, read};
+ghost use Rattle.sg_grammar.specs.Inside.States.{State, want, statements, statement_behind, one_rest, two_rest, proto_rest, plain_rest, returned_rest, read};
 ghost use Rattle.sg_parse.specs.Leads.{Leads, Answers, read_on};
 
 use crate::reader::{Reader, is_fixed, is_word, name_of};

@@ -2,7 +2,7 @@
 ghost use Rattle.std.specs.Prelude.{◌≡◌, ◌≤◌, ◌<◌, ◌+◌, ℕ, List, [], ◌∷◌, ◌++◌, length, IfOk, OnOk};
 ghost use Rattle.sg_grammar.specs.declared.tree.TypeName.{TypeName as Typed};
 ghost use Rattle.sg_grammar.specs.Named.{Named};
-ghost use Rattle.sg_grammar.specs.States.{State, names, stars, declared, type_of, read};
+ghost use Rattle.sg_grammar.specs.Inside.States.{State, names, stars, declared, type_of, read};
 ghost use Rattle.sg_parse.specs.Leads.{Leads};
 
 use crate::reader::Reader;

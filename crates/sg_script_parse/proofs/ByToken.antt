@@ -11,7 +11,7 @@ use Rattle.sg_script_grammar.specs.declared.tree.WrittenArg.TheVariants.{Number 
 use Rattle.sg_script_grammar.specs.declared.tree.WrittenCall.{WrittenCall}
 use Rattle.sg_script_grammar.specs.declared.tree.Part.{Part}
 use Rattle.sg_script_grammar.specs.Spelling.{Spelling}
-use Rattle.sg_script_grammar.specs.States.{State, dead, due, want, argument, bracketed, listed, body, counts, script, is_of, is_mark, is_fixed, spelt_by, argument_behind, call_rest, setup_rest, client_rest, schedule_rest, stop_rest, part_behind, with_part, Reading, read, read_from, step, parts_at, ended}
+use Rattle.sg_script_grammar.specs.Inside.States.{State, dead, due, want, argument, bracketed, listed, body, counts, script, is_of, is_mark, is_fixed, spelt_by, argument_behind, call_rest, setup_rest, client_rest, schedule_rest, stop_rest, part_behind, with_part, Reading, read, read_from, step, parts_at, ended}
 use Rattle.sg_script_grammar.proofs.Basics.{if_then, if_else}
 use Rattle.sg_script_grammar.proofs.Readings.{read_token, read_stuck, read_nothing}
 use Rattle.sg_script_parse.specs.Ahead.{Off, Came, spelt_token}

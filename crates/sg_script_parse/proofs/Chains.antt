@@ -5,7 +5,7 @@ use Rattle.std.specs.declared.option.Option.{Option}
 use Rattle.std.specs.declared.result.Result.{Result}
 use Rattle.sg_script_grammar.specs.declared.error.ParseError.{ParseError}
 use Rattle.sg_script_grammar.specs.declared.tree.Part.{Part}
-use Rattle.sg_script_grammar.specs.States.{State, Reading}
+use Rattle.sg_script_grammar.specs.Inside.States.{State, Reading}
 use Rattle.sg_script_parse.specs.Leads.{Leads}
 
 pub leads_along : {V : Type 0} (before mid : Result (List Part) ParseError) (r : Result V ParseError) (go : V → State) (new : Reading)

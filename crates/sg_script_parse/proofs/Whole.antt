@@ -7,7 +7,7 @@ use Rattle.sg_script_grammar.specs.declared.error.ParseError.{ParseError}
 use Rattle.sg_script_grammar.specs.declared.error.ParseError.TheVariants.{NoMemory, Syntax}
 use Rattle.sg_script_grammar.specs.declared.tree.Part.{Part}
 use Rattle.sg_script_grammar.specs.Parses.{Parses, ParsesTo}
-use Rattle.sg_script_grammar.specs.States.{start, read}
+use Rattle.sg_script_grammar.specs.Inside.States.{start, read}
 use Rattle.sg_script_grammar.proofs.Readings.{may_answer, only_answer}
 use Rattle.sg_script_parse.specs.Leads.{Answers}
 

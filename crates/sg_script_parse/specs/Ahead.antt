@@ -5,7 +5,7 @@ use Rattle.sg_lex.specs.declared.token.TokenKind.{TokenKind}
 use Rattle.sg_lex.specs.Lexeme.{Lexeme}
 use Rattle.sg_lex.specs.Tokens.{Answer}
 use Rattle.sg_script_grammar.specs.Spelling.{Spelling}
-use Rattle.sg_script_grammar.specs.States.{is_mark}
+use Rattle.sg_script_grammar.specs.Inside.States.{is_mark}
 
 -- the token that was looked at and left comes first
 abbrev pub with_ahead : Option Lexeme → List Answer → List Answer

@@ -7,7 +7,7 @@ use Rattle.sg_lex.specs.Lexeme.{Lexeme}
 use Rattle.sg_script_grammar.specs.declared.error.ParseError.{ParseError}
 use Rattle.sg_script_grammar.specs.declared.error.ParseError.TheVariants.{NoMemory, Syntax}
 use Rattle.sg_script_grammar.specs.declared.tree.Part.{Part}
-use Rattle.sg_script_grammar.specs.States.{State, Reading, read}
+use Rattle.sg_script_grammar.specs.Inside.States.{State, Reading, read}
 
 -- what is read, if the state behind this token is that one
 abbrev pub read_on : Option State → Lexeme → Reading → Result (List Part) ParseError

@@ -2,7 +2,7 @@
 ghost use Rattle.std.specs.Prelude.{◌≡◌, ◌≤◌, List, [], ◌∷◌, length, IfOk, OnOk};
 ghost use Rattle.sg_script_grammar.specs.declared.tree.WrittenArg.{WrittenArg as Arg};
 ghost use Rattle.sg_script_grammar.specs.declared.tree.WrittenCall.{WrittenCall as Call};
-ghost use Rattle.sg_script_grammar.specs.States.{State, argument, bracketed, call_rest, braced, read};
+ghost use Rattle.sg_script_grammar.specs.Inside.States.{State, argument, bracketed, call_rest, braced, read};
 ghost use Rattle.sg_script_parse.specs.Leads.{Leads};
 
 use crate::reader::Reader;

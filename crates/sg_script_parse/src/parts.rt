@@ -2,7 +2,7 @@
 ghost use Rattle.std.specs.Prelude.{◌≡◌, ◌≤◌, List, [], length, OnOk};
 ghost use Rattle.sg_script_grammar.specs.declared.tree.Part.{Part as Written};
 ghost use Rattle.sg_script_grammar.specs.Spelling.{Spelling};
-ghost use Rattle.sg_script_grammar.specs.States.{State, script, counts, part_behind, setup_rest, client_rest, schedule_rest, stop_rest, read};
+ghost use Rattle.sg_script_grammar.specs.Inside.States.{State, script, counts, part_behind, setup_rest, client_rest, schedule_rest, stop_rest, read};
 ghost use Rattle.sg_script_parse.specs.Leads.{Leads, Answers, read_on};
 
 use crate::reader::{Reader, is_fixed};

@@ -2,7 +2,7 @@
 ghost use Rattle.std.specs.Prelude.{◌≡◌, ◌≤◌, ℕ, [], ◌∷◌, length, IfOk, IfErr, OnOk, MatchOption, MatchBool, None as no_token, Ok as answered};
 ghost use Rattle.sg_lex.specs.Tokens.{answers_of};
 ghost use Rattle.sg_script_grammar.specs.Spelling.{Spelling};
-ghost use Rattle.sg_script_grammar.specs.States.{State, dead, due, want, read, read_from, is_of, is_mark, is_fixed, spelt_by};
+ghost use Rattle.sg_script_grammar.specs.Inside.States.{State, dead, due, want, read, read_from, is_of, is_mark, is_fixed, spelt_by};
 ghost use Rattle.sg_script_parse.specs.Leads.{Leads};
 ghost use Rattle.sg_script_parse.specs.Ahead.{with_ahead, Off, spelt_token, Came};
 
@@ -20,7 +20,7 @@ pub struct Reader<'a> {
 }
 
 impl<'a> Model for Reader<'a> {
-    ghost use Rattle.sg_script_grammar.specs.States.{Reading};
+    ghost use Rattle.sg_script_grammar.specs.Inside.States.{Reading};
     ghost use Rattle.sg_script_parse.specs.Ahead.{with_ahead};
 
     ghost Value = { Reading };

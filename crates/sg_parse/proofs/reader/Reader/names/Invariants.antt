@@ -1,7 +1,7 @@
 -- The names so far were read.
 use Rattle.std.proofs.Common.{◌≡◌, ◌≤◌, List, [], ℕ, length}
 use Rattle.sg_grammar.specs.Named.{Named}
-use Rattle.sg_grammar.specs.States.{State, names, read}
+use Rattle.sg_grammar.specs.Inside.States.{State, names, read}
 use Rattle.sg_parse.proofs.reader.Reader.names.Given as goal
 
 abbrev pub invariant-names : goal.invariant-names

@@ -4,7 +4,7 @@ use Rattle.std.specs.Prelude.{None, Some}
 use Rattle.sg_grammar.specs.declared.words.Sort.TheVariants.{Name}
 use Rattle.sg_grammar.specs.Named.{Named}
 use Rattle.sg_grammar.specs.Sentence.{open_bracket, close_bracket}
-use Rattle.sg_grammar.specs.States.{due, want, names, declared, param_behind, with_param, type_of, read}
+use Rattle.sg_grammar.specs.Inside.States.{due, want, names, declared, param_behind, with_param, type_of, read}
 use Rattle.sg_parse.specs.Leads.{either_of}
 use Rattle.sg_parse.proofs.Chains.{leads_along}
 use Rattle.sg_parse.proofs.reader.Reader.param.Goals as goal

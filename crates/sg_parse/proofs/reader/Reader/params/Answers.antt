@@ -2,7 +2,7 @@
 use Rattle.std.proofs.Common.{◌≡◌, ◌∙◌}
 use Rattle.std.proofs.lemmas.Result.{err_from_is_err_and}
 use Rattle.sg_grammar.specs.Sentence.{comma}
-use Rattle.sg_grammar.specs.States.{fits}
+use Rattle.sg_grammar.specs.Inside.States.{fits}
 use Rattle.sg_parse.specs.Ahead.{Came, Off}
 use Rattle.sg_parse.proofs.ByToken.{comma_came}
 use Rattle.sg_parse.proofs.Chains.{on_true}

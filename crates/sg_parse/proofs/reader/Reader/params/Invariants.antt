@@ -1,7 +1,7 @@
 -- The parameters so far were read.
 use Rattle.std.proofs.Common.{◌≡◌, ◌≤◌, List, [], length}
 use Rattle.sg_grammar.specs.declared.tree.Param.{Param}
-use Rattle.sg_grammar.specs.States.{State, listed, param, read}
+use Rattle.sg_grammar.specs.Inside.States.{State, listed, param, read}
 use Rattle.sg_parse.proofs.reader.Reader.params.Given as goal
 
 abbrev pub invariant-params : goal.invariant-params

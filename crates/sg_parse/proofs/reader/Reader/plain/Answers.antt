@@ -2,7 +2,7 @@
 use Rattle.std.proofs.Common.{◌∙◌}
 use Rattle.std.proofs.lemmas.Result.{err_from_is_err_and}
 use Rattle.sg_grammar.specs.declared.tree.Ret.TheVariants.{Plain}
-use Rattle.sg_grammar.specs.States.{declared, proto_rest}
+use Rattle.sg_grammar.specs.Inside.States.{declared, proto_rest}
 use Rattle.sg_parse.proofs.Chains.{leads_along}
 use Rattle.sg_parse.proofs.reader.Reader.plain.Goals as goal
 

@@ -1,7 +1,7 @@
 -- The stars so far were read, and each was one of the tokens that were still to come.
 use Rattle.std.proofs.Common.{◌≡◌, ◌+◌, ◌≤◌, List, ℕ, length}
 use Rattle.sg_grammar.specs.Named.{Named}
-use Rattle.sg_grammar.specs.States.{State, stars, read}
+use Rattle.sg_grammar.specs.Inside.States.{State, stars, read}
 use Rattle.sg_parse.proofs.reader.Reader.stars.Given as goal
 
 abbrev pub invariant-stars : goal.invariant-stars

@@ -1,6 +1,6 @@
 -- The statements so far were read.
 use Rattle.std.proofs.Common.{◌≡◌, [], length}
-use Rattle.sg_grammar.specs.States.{statements, read}
+use Rattle.sg_grammar.specs.Inside.States.{statements, read}
 use Rattle.sg_parse.proofs.reader.Reader.statements.Given as goal
 
 abbrev pub invariant-statements : goal.invariant-statements

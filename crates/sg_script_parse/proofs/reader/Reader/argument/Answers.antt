@@ -2,7 +2,7 @@
 use Rattle.std.proofs.Common.{◌≡◌, ◌∙◌}
 use Rattle.std.proofs.lemmas.Result.{err_from_is_err_and}
 use Rattle.sg_script_grammar.specs.declared.tree.WrittenArg.TheVariants.{Back}
-use Rattle.sg_script_grammar.specs.States.{is_mark}
+use Rattle.sg_script_grammar.specs.Inside.States.{is_mark}
 use Rattle.sg_script_parse.specs.Ahead.{Came, Off}
 use Rattle.sg_script_parse.proofs.ByToken.{dollar_came}
 use Rattle.sg_script_parse.proofs.Chains.{on_true}

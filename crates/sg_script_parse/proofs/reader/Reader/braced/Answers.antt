@@ -5,7 +5,7 @@ use Rattle.std.proofs.lemmas.Grind.{common_steps}
 use Rattle.std.proofs.lemmas.Result.{err_from_is_err_and}
 use Rattle.sg_lex.specs.declared.token.TokenKind.TheVariants.{Word}
 use Rattle.sg_script_grammar.specs.Spelling.{Spelling}
-use Rattle.sg_script_grammar.specs.States.{body, is_of, read}
+use Rattle.sg_script_grammar.specs.Inside.States.{body, is_of, read}
 use Rattle.sg_script_parse.specs.Ahead.{Off, spelt_token}
 use Rattle.sg_script_parse.proofs.ByToken.{with_call, name_came}
 use Rattle.sg_script_parse.proofs.Chains.{on_some}

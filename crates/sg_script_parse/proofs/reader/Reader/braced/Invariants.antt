@@ -1,7 +1,7 @@
 -- The calls so far were read.
 use Rattle.std.proofs.Common.{◌≡◌, ◌≤◌, List, length}
 use Rattle.sg_script_grammar.specs.declared.tree.WrittenCall.{WrittenCall}
-use Rattle.sg_script_grammar.specs.States.{State, braced, body, read}
+use Rattle.sg_script_grammar.specs.Inside.States.{State, braced, body, read}
 use Rattle.sg_script_parse.proofs.reader.Reader.braced.Given as goal
 
 abbrev pub invariant-calls : goal.invariant-calls

@@ -2,7 +2,7 @@
 use Rattle.std.proofs.Common.{◌≡◌, ◌∙◌, [], ◌∷◌, ◌++◌, ap, sym, arith}
 use Rattle.std.proofs.lemmas.Grind.{common_steps}
 use Rattle.std.proofs.lemmas.Result.{err_from_is_err_and}
-use Rattle.sg_script_grammar.specs.States.{listed, is_mark, read}
+use Rattle.sg_script_grammar.specs.Inside.States.{listed, is_mark, read}
 use Rattle.sg_script_parse.specs.Ahead.{Came, Off}
 use Rattle.sg_script_parse.proofs.ByToken.{comma_came}
 use Rattle.sg_script_parse.proofs.Chains.{on_true}

@@ -1,7 +1,7 @@
 -- The arguments so far were read.
 use Rattle.std.proofs.Common.{◌≡◌, ◌≤◌, List, length}
 use Rattle.sg_script_grammar.specs.declared.tree.WrittenArg.{WrittenArg}
-use Rattle.sg_script_grammar.specs.States.{State, bracketed, listed, read}
+use Rattle.sg_script_grammar.specs.Inside.States.{State, bracketed, listed, read}
 use Rattle.sg_script_parse.proofs.reader.Reader.bracketed.Given as goal
 
 abbrev pub invariant-commas : goal.invariant-commas

@@ -1,7 +1,7 @@
 -- The numbers so far were read.
 use Rattle.std.proofs.Common.{◌≡◌, ◌≤◌, List, [], length}
 use Rattle.sg_script_grammar.specs.Spelling.{Spelling}
-use Rattle.sg_script_grammar.specs.States.{State, counts, read}
+use Rattle.sg_script_grammar.specs.Inside.States.{State, counts, read}
 use Rattle.sg_script_parse.proofs.reader.Reader.numbers.Given as goal
 
 abbrev pub invariant-numbers : goal.invariant-numbers

@@ -1,6 +1,6 @@
 -- The parts so far were read.
 use Rattle.std.proofs.Common.{◌≡◌, [], length}
-use Rattle.sg_script_grammar.specs.States.{script, read}
+use Rattle.sg_script_grammar.specs.Inside.States.{script, read}
 use Rattle.sg_script_parse.proofs.reader.Reader.parts.Given as goal
 
 abbrev pub invariant-parts : goal.invariant-parts
