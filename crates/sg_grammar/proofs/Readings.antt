@@ -11,11 +11,11 @@ use Rattle.sg_grammar.specs.declared.error.ParseError.TheVariants.{NoMemory, Lex
 use Rattle.sg_grammar.specs.declared.tree.Tree.{Tree}
 use Rattle.sg_grammar.specs.Sentence.{IsSentence}
 use Rattle.sg_grammar.specs.Parses.{ParsesTo}
-use Rattle.sg_grammar.specs.Inside.States.{State, start, tree_automaton}
+use Rattle.sg_grammar.specs.Inside.States.{State, start, trees}
 use Rattle.sg_grammar.proofs.Runs.{just}
 
-pub may_answer : (length : ℕ) (answers : List Answer) → ParsesTo answers length (read_from tree_automaton length start answers)
-may_answer length answers = any_may tree_automaton IsSentence just answers length (ParsesTo answers length) (record {
+pub may_answer : (length : ℕ) (answers : List Answer) → ParsesTo answers length (read_from trees length start answers)
+may_answer length answers = any_may trees IsSentence just answers length (ParsesTo answers length) (record {
   value = λ tree f. f;
   byte = λ place f. f;
   token = λ place f. inl f;
@@ -23,16 +23,16 @@ may_answer length answers = any_may tree_automaton IsSentence just answers lengt
 })
 
 pub only_answer : (length : ℕ) (answers : List Answer) (other : Result Tree ParseError) → ParsesTo answers length other → other ≢ Err NoMemory
-    → read_from tree_automaton length start answers ≡ other
-only_answer length answers (Ok tree) h n = only_value tree_automaton IsSentence just answers length tree h
+    → read_from trees length start answers ≡ other
+only_answer length answers (Ok tree) h n = only_value trees IsSentence just answers length tree h
 only_answer length answers (Err NoMemory) h n = absurd (n refl)
-only_answer length answers (Err (Lex place)) h n = only_byte tree_automaton IsSentence just answers length place h
+only_answer length answers (Err (Lex place)) h n = only_byte trees IsSentence just answers length place h
 only_answer length answers (Err (Syntax place)) h n =
     elim h [
-      | inl f ↦ only_token tree_automaton IsSentence just answers length place f
-      | inr f ↦ only_end tree_automaton IsSentence just answers length place f
+      | inl f ↦ only_token trees IsSentence just answers length place f
+      | inr f ↦ only_end trees IsSentence just answers length place f
     ]
 
 -- reading is never out of memory
-pub reads_no_memory : (length : ℕ) (s : State) (answers : List Answer) → read_from tree_automaton length s answers ≢ Err NoMemory
-reads_no_memory length s answers = reads_no_other tree_automaton length s answers NoMemory (λ at e. cc) (λ at e. cc)
+pub reads_no_memory : (length : ℕ) (s : State) (answers : List Answer) → read_from trees length s answers ≢ Err NoMemory
+reads_no_memory length s answers = reads_no_other trees length s answers NoMemory (λ at e. cc) (λ at e. cc)

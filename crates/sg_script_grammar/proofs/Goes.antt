@@ -12,13 +12,13 @@ use Rattle.sg_script_grammar.specs.declared.tree.Part.TheVariants.{Setup, Client
 use Rattle.sg_script_grammar.specs.Spelling.{Spelling}
 use Rattle.sg_script_grammar.specs.Pieces.{Piece, fixed, word, number, quoted, mark, ArePieces}
 use Rattle.sg_script_grammar.specs.Sentence.{arg_pieces, open_brace, open_bracket, comma, close_bracket, close_brace, semicolon, dollar}
-use Rattle.sg_script_grammar.specs.Inside.States.{State, due, want, argument, bracketed, listed, body, counts, script, with_part, call_rest, braced, setup_rest, client_rest, schedule_rest, stop_rest, step, script_automaton}
+use Rattle.sg_script_grammar.specs.Inside.States.{State, due, want, argument, bracketed, listed, body, counts, script, with_part, call_rest, braced, setup_rest, client_rest, schedule_rest, stop_rest, step, scripts}
 use Rattle.sg_script_grammar.proofs.Basics.{made, is_made, if_then, bytes_same}
 use Rattle.sg_script_grammar.proofs.Thens.{listed_then, args_then, calls_then, numbers_then, part_then, parts_then}
 
 -- reading tokens that are these pieces leads from the one state to the other
 abbrev pub Goes : State → List Piece → State → Type 0
-Goes s ps end = (tokens : List Lexeme) → ArePieces tokens ps → Runs script_automaton s tokens end
+Goes s ps end = (tokens : List Lexeme) → ArePieces tokens ps → Runs scripts s tokens end
 
 -- one piece, and then others
 one : (s mid end : State) (p : Piece) (ps : List Piece) → ((place : ℕ) → step s (made p place) ≡ Some mid) → Goes mid ps end → Goes s (p ∷ ps) end

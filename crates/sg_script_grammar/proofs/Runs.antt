@@ -12,7 +12,7 @@ use Rattle.sg_script_grammar.specs.declared.tree.Part.{Part}
 use Rattle.sg_script_grammar.specs.Spelling.{Spelling}
 use Rattle.sg_script_grammar.specs.Pieces.{Piece, number, mark, ArePieces}
 use Rattle.sg_script_grammar.specs.Sentence.{close_bracket, close_brace, semicolon, IsSentence}
-use Rattle.sg_script_grammar.specs.Inside.States.{State, dead, due, want, argument, bracketed, listed, body, counts, script, start, step, parts_at, script_automaton}
+use Rattle.sg_script_grammar.specs.Inside.States.{State, dead, due, want, argument, bracketed, listed, body, counts, script, start, step, parts_at, scripts}
 use Rattle.sg_script_grammar.proofs.Basics.{none_some, some_is, made, if_then, bytes_same}
 use Rattle.sg_script_grammar.proofs.Thens.{parts_are}
 use Rattle.sg_script_grammar.proofs.Grown.{HasRead, grown}
@@ -44,14 +44,14 @@ record Spelt (f : List Piece → List Piece) (tokens : List Lexeme) (end : State
   are : ArePieces tokens pieces
   has : HasRead end (λ r. f (pieces ++ r))
 
-spelt : (s end : State) (f : List Piece → List Piece) (tokens : List Lexeme) → HasRead s f → Runs script_automaton s tokens end → Spelt f tokens end
+spelt : (s end : State) (f : List Piece → List Piece) (tokens : List Lexeme) → HasRead s f → Runs scripts s tokens end → Spelt f tokens end
 spelt s end f [] h g = record { pieces = []; are = tt; has = subst (λ v. HasRead v f) g h }
 spelt s end f (t ∷ ts) h g =
     let a = grown s f t g.0 h g.1 in
     let b = spelt g.0 end (λ r. f (a.piece ∷ r)) ts a.has g.2 in
     record { pieces = a.piece ∷ b.pieces; are = (a.is, b.are); has = b.has }
 
-read_to : (tokens : List Lexeme) (end : State) → Runs script_automaton start tokens end → Spelt (λ r. r) tokens end
+read_to : (tokens : List Lexeme) (end : State) → Runs scripts start tokens end → Spelt (λ r. r) tokens end
 read_to tokens end h = spelt start end (λ r. r) tokens (λ r. refl) h
 
 -- ---- every state that is reached can be completed
@@ -59,7 +59,7 @@ read_to tokens end h = spelt start end (λ r. r) tokens (λ r. refl) h
 record Completed (s : State) : Type 0 where
   tokens : List Lexeme
   parts : List Part
-  runs : Runs script_automaton s tokens (script parts)
+  runs : Runs scripts s tokens (script parts)
 
 -- a number, whichever
 any_number : Spelling
@@ -87,24 +87,24 @@ completed (script parts) f h = record { tokens = []; parts = parts; runs = refl 
 
 -- ---- sentences
 
-pub reached : (tokens : List Lexeme) (parts : List Part) → IsSentence tokens parts → Runs script_automaton start tokens (script parts)
+pub reached : (tokens : List Lexeme) (parts : List Part) → IsSentence tokens parts → Runs scripts start tokens (script parts)
 reached tokens parts h = parts_go parts [] tokens (subst (ArePieces tokens) (parts_are parts) h)
 
-pub sentence_of : (tokens : List Lexeme) (parts : List Part) → Runs script_automaton start tokens (script parts) → IsSentence tokens parts
+pub sentence_of : (tokens : List Lexeme) (parts : List Part) → Runs scripts start tokens (script parts) → IsSentence tokens parts
 sentence_of tokens parts h =
     let s = read_to tokens (script parts) h in
     subst (ArePieces tokens) (sym (append-nil s.pieces) ∙ s.has [] ∙ sym (parts_are parts)) s.are
 
 -- what is read begins a sentence
-pub begins_of : (tokens : List Lexeme) (end : State) → Runs script_automaton start tokens end → Begins IsSentence tokens
+pub begins_of : (tokens : List Lexeme) (end : State) → Runs scripts start tokens end → Begins IsSentence tokens
 begins_of tokens end h =
     let c = completed end _ (read_to tokens end h).has in
-    (c.tokens, c.parts, sentence_of (tokens ++ c.tokens) c.parts (runs-append script_automaton start end (script c.parts) tokens c.tokens h c.runs))
+    (c.tokens, c.parts, sentence_of (tokens ++ c.tokens) c.parts (runs-append scripts start end (script c.parts) tokens c.tokens h c.runs))
 
 -- the automaton reads just the scripts
-pub just : ReadsJust State (List Part) ParseError script_automaton IsSentence
+pub just : ReadsJust State (List Part) ParseError scripts IsSentence
 just = record {
   reached = λ tokens parts is. record { end = script parts; runs = reached tokens parts is; is = script_at parts };
-  sentence_of = λ tokens parts end runs is. sentence_of tokens parts (subst (Runs script_automaton start tokens) (at_script end parts is) runs);
+  sentence_of = λ tokens parts end runs is. sentence_of tokens parts (subst (Runs scripts start tokens) (at_script end parts is) runs);
   begins_of = begins_of;
 }

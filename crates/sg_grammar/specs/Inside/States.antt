@@ -202,5 +202,5 @@ tree_at (listed params k) = None
 tree_at (statements facts before) = Some (record { facts = facts; statements = before })
 
 -- how it reads a text
-abbrev pub tree_automaton : Automaton State Tree ParseError
-tree_automaton = record { start = start; step = step; value_at = tree_at; no_token = Lex; no_sentence = Syntax; no_memory = NoMemory }
+abbrev pub trees : Automaton State Tree ParseError
+trees = record { start = start; step = step; value_at = tree_at; no_token = Lex; no_sentence = Syntax; no_memory = NoMemory }

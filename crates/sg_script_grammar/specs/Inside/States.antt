@@ -140,5 +140,5 @@ parts_at (script parts) = Some parts
 parts_at s = None
 
 -- how it reads a text
-abbrev pub script_automaton : Automaton State (List Part) ParseError
-script_automaton = record { start = start; step = step; value_at = parts_at; no_token = Syntax; no_sentence = Syntax; no_memory = NoMemory }
+abbrev pub scripts : Automaton State (List Part) ParseError
+scripts = record { start = start; step = step; value_at = parts_at; no_token = Syntax; no_sentence = Syntax; no_memory = NoMemory }
