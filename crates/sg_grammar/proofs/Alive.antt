@@ -18,7 +18,7 @@ use Rattle.sg_grammar.specs.Named.{Named}
 use Rattle.sg_grammar.specs.Words.{is_of}
 use Rattle.sg_grammar.specs.Pieces.{Piece, word, mark, name, IsPiece, ArePieces}
 use Rattle.sg_grammar.specs.Sentence.{star, comma, close_bracket, IsType, IsStatement}
-use Rattle.sg_grammar.specs.States.{State, dead, due, want, names, stars, either, listed, statements, has_sort, fits, named_by, type_of, declared, with_param, param, one_rest, two_rest, proto_rest, returned_behind, returned_rest, plain_rest, statement_behind, with_statement, start, step}
+use Rattle.sg_grammar.specs.Inside.States.{State, dead, due, want, names, stars, either, listed, statements, has_sort, fits, named_by, type_of, declared, with_param, param, one_rest, two_rest, proto_rest, returned_behind, returned_rest, plain_rest, statement_behind, with_statement, start, step}
 use Rattle.sg_grammar.proofs.Basics.{some_is, none_is, by_test, if_then, if_else, mark-fits_mark}
 use Rattle.sg_grammar.proofs.Rests.{Off, Rest, closed-star, name-star}
 use Rattle.sg_grammar.proofs.Parts.{listed_closed}

@@ -13,7 +13,7 @@ use Rattle.sg_grammar.specs.declared.words.Sort.TheVariants.{Name}
 use Rattle.sg_grammar.specs.Named.{Named}
 use Rattle.sg_grammar.specs.Words.{is_in, is_of, reserved_words}
 use Rattle.sg_grammar.specs.Pieces.{Piece, word, mark, name, IsPiece}
-use Rattle.sg_grammar.specs.States.{is_word, is_mark, has_sort, fits, named_by}
+use Rattle.sg_grammar.specs.Inside.States.{is_word, is_mark, has_sort, fits, named_by}
 
 -- ---- tests
 

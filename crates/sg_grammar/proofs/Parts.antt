@@ -12,7 +12,7 @@ use Rattle.sg_grammar.specs.declared.words.Sort.TheVariants.{Name, Form}
 use Rattle.sg_grammar.specs.Named.{Named}
 use Rattle.sg_grammar.specs.Pieces.{Piece, name}
 use Rattle.sg_grammar.specs.Sentence.{star, open_bracket, close_bracket, type_pieces, param_pieces, form_pieces, more_params, IsType}
-use Rattle.sg_grammar.specs.States.{State, dead, want, names, listed, has_sort, type_of, declared, param_behind, with_param, param}
+use Rattle.sg_grammar.specs.Inside.States.{State, dead, want, names, listed, has_sort, type_of, declared, param_behind, with_param, param}
 use Rattle.sg_grammar.proofs.Basics.{by_test, if_then, if_else}
 use Rattle.sg_grammar.proofs.Rests.{Off, Rest, Whole, whole_of, type_rest_of, Closed, closed-star, closed-sort, name-star, name-form, form-name, front_of, last_of, front-last}
 

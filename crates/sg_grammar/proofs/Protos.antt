@@ -16,7 +16,7 @@ use Rattle.sg_grammar.specs.Named.{Named}
 use Rattle.sg_grammar.specs.Words.{one_words, two_words}
 use Rattle.sg_grammar.specs.Pieces.{Piece, word, name, IsPiece}
 use Rattle.sg_grammar.specs.Sentence.{comma, semicolon, open_bracket, close_bracket, type_pieces, param_pieces, more_params, params_pieces, returned_pieces, ret_pieces, statement_pieces, IsType, IsRet, IsStatement}
-use Rattle.sg_grammar.specs.States.{State, due, want, has_sort, fits, named_by, type_of, declared, param, one_rest, two_rest, proto_rest, returned_behind, returned_rest, plain_rest, statement_behind}
+use Rattle.sg_grammar.specs.Inside.States.{State, due, want, has_sort, fits, named_by, type_of, declared, param, one_rest, two_rest, proto_rest, returned_behind, returned_rest, plain_rest, statement_behind}
 use Rattle.sg_grammar.proofs.Basics.{some_is, none_is, by_test, if_then, if_else, has_sort-is, is-has_sort, named, fits-is, is-fits, sort-has_sort, sort-fits_word, word-has_sort, word-fits_word, apart, name_apart}
 use Rattle.sg_grammar.proofs.Rests.{Rest, Whole, whole_of, closed-star, closed-sort}
 use Rattle.sg_grammar.proofs.Parts.{declared_back, declared_forth, param_back, param_forth, type_forth, ends, listed_closed}

@@ -1,164 +1,38 @@
--- What is read on a text is the one answer that a parser may give, want of memory aside.
-use Rattle.std.proofs.Common.{◌≡◌, ◌≢◌, ℕ, inl, inr, List, [], ◌∷◌, ◌++◌, refl, sym, ap, subst, ◌∙◌, append_assoc}
-use Rattle.std.specs.Prelude.{None, Some, Ok, Err}
-use Rattle.std.specs.declared.option.Option.{Option}
+-- What is read on a text is the one answer that a parser may give, out of memory aside.
+use Rattle.std.proofs.Common.{◌≡◌, ◌≢◌, ℕ, inl, inr, List, refl}
+use Rattle.std.specs.Prelude.{Ok, Err}
 use Rattle.std.specs.declared.result.Result.{Result}
-use Rattle.std.specs.Option.{option_map_or}
-use Rattle.std.proofs.lemmas.List.{append-nil}
-use Rattle.sg_lex.specs.declared.token.LexFault.{LexFault}
-use Rattle.sg_lex.specs.Lexeme.{Lexeme}
 use Rattle.sg_lex.specs.Tokens.{Answer}
+use Rattle.sg_lex.specs.Inside.Automata.{read_from}
+use Rattle.sg_lex.proofs.Automata.{reads_no_other}
+use Rattle.sg_lex.proofs.Answers.{may_answer as any_may, only_value, only_byte, only_token, only_end}
 use Rattle.sg_grammar.specs.declared.error.ParseError.{ParseError}
 use Rattle.sg_grammar.specs.declared.error.ParseError.TheVariants.{NoMemory, Lex, Syntax}
 use Rattle.sg_grammar.specs.declared.tree.Tree.{Tree}
 use Rattle.sg_grammar.specs.Sentence.{IsSentence}
-use Rattle.sg_grammar.specs.Parses.{answered, FailsAtToken, FailsAtEnd, ParsesTo}
-use Rattle.sg_grammar.specs.States.{State, start, step, tree_at, ended, read_from}
-use Rattle.sg_grammar.proofs.Runs.{Runs, runs-append, one_end, reached, sentence_of, begins_of, begun}
+use Rattle.sg_grammar.specs.Parses.{ParsesTo}
+use Rattle.sg_grammar.specs.Inside.States.{State, start, trees}
+use Rattle.sg_grammar.proofs.Runs.{just}
 
--- ---- reading
-
-pub read_token : (length : ℕ) (s next : State) (token : Lexeme) (behind : List Answer) → step s token ≡ Some next → read_from length s (Ok token ∷ behind) ≡ read_from length next behind
-unfolding read_from
-read_token length s next token behind e = ap (λ v. option_map_or (λ next. read_from length next behind) v (Err (Syntax token.at))) e
-
-pub read_stuck : (length : ℕ) (s : State) (token : Lexeme) (behind : List Answer) → step s token ≡ None → read_from length s (Ok token ∷ behind) ≡ Err (Syntax token.at)
-unfolding read_from
-read_stuck length s token behind e = ap (λ v. option_map_or (λ next. read_from length next behind) v (Err (Syntax token.at))) e
-
-pub read_fault : (length : ℕ) (s : State) (fault : LexFault) (behind : List Answer) → read_from length s (Err fault ∷ behind) ≡ Err (Lex fault.at)
-unfolding read_from
-read_fault length s fault behind = refl
-
-pub read_nothing : (length : ℕ) (s : State) → read_from length s [] ≡ ended length (tree_at s)
-unfolding read_from
-read_nothing length s = refl
-
-reads : (length : ℕ) (s end : State) (tokens : List Lexeme) (behind : List Answer) → Runs s tokens end → read_from length s (answered tokens ++ behind) ≡ read_from length end behind
-reads length s end [] behind h = ap (λ v. read_from length v behind) h
-reads length s end (t ∷ ts) behind h = read_token length s h.0 t (answered ts ++ behind) h.1 ∙ reads length h.0 end ts behind h.2
-
-answered-append : (xs ys : List Lexeme) → answered (xs ++ ys) ≡ answered xs ++ answered ys
-answered-append [] ys = refl
-answered-append (x ∷ xs) ys = ap (λ v. Ok x ∷ v) (answered-append xs ys)
-
--- what was read of two lists of tokens was read of the first and then of the second
-record Cut (s end : State) (xs ys : List Lexeme) : Type 0 where
-  mid : State
-  first : Runs s xs mid
-  second : Runs mid ys end
-
-cut : (s end : State) (xs ys : List Lexeme) → Runs s (xs ++ ys) end → Cut s end xs ys
-cut s end [] ys h = record { mid = s; first = refl; second = h }
-cut s end (x ∷ xs) ys h =
-    let c = cut h.0 end xs ys h.2 in
-    record { mid = c.mid; first = (h.0, h.1, c.first); second = c.second }
-
--- ---- what is read may be answered
-
-answer_at_end : (length : ℕ) (whole : List Answer) (s : State) (before : List Lexeme) → whole ≡ answered before → Runs start before s
-    → (o : Option Tree) → tree_at s ≡ o → ParsesTo whole length (ended length o)
-answer_at_end length whole s before all h None e = inr (record {
-  tokens = before;
-  all = all;
-  place_of = refl;
-  begin = begins_of before s h;
-  none = λ tree is.
-      let r = reached before tree is in
-      let same : r.end ≡ s = one_end start r.end s before r.runs h in
-      let f = sym e ∙ ap tree_at (sym same) ∙ r.is in cc;
+pub may_answer : (length : ℕ) (answers : List Answer) → ParsesTo answers length (read_from trees length start answers)
+may_answer length answers = any_may trees IsSentence just answers length (ParsesTo answers length) (record {
+  value = λ tree f. f;
+  byte = λ place f. f;
+  token = λ place f. inl f;
+  end = λ place f. inr f;
 })
-answer_at_end length whole s before all h (Some tree) e = record { tokens = before; all = all; sentence = sentence_of before tree s h e }
-
-answers_from : (length : ℕ) (whole : List Answer) (s : State) (before : List Lexeme) (behind : List Answer) → whole ≡ answered before ++ behind → Runs start before s
-    → ParsesTo whole length (read_from length s behind)
-answers_from length whole s before [] all h =
-    subst (ParsesTo whole length) (sym (read_nothing length s))
-    (answer_at_end length whole s before (all ∙ append-nil (answered before)) h (tree_at s) refl)
-answers_from length whole s before (Err fault ∷ behind) all h =
-    subst (ParsesTo whole length) (sym (read_fault length s fault behind))
-    (record { tokens = before; behind = behind; all = all; begin = begins_of before s h })
-answers_from length whole s before (Ok token ∷ behind) all h =
-    by (λ next e. answers_from length whole next (before ++ token ∷ []) behind
-    (all ∙ sym (append_assoc (answered before) (Ok token ∷ []) behind) ∙ ap (λ v. v ++ behind) (sym (answered-append before (token ∷ []))))
-    (runs-append start s next before (token ∷ []) h (next, e, refl)))
-    (step s token) refl
-  where
-    by : ((next : State) → step s token ≡ Some next → ParsesTo whole length (read_from length next behind)) → (o : Option State) → step s token ≡ o → ParsesTo whole length (read_from length s (Ok token ∷ behind))
-    by go None e = subst (ParsesTo whole length) (sym (read_stuck length s token behind e))
-        (inl (record {
-          tokens = before;
-          token = token;
-          behind = behind;
-          all = all;
-          place_of = refl;
-          begin = begins_of before s h;
-          ends = λ more.
-              let b = begun (before ++ token ∷ []) more in
-              let c = cut start b.end before (token ∷ []) b.runs in
-              let same : c.mid ≡ s = one_end start c.mid s before c.first h in
-              let f = sym e ∙ ap (λ v. step v token) (sym same) ∙ c.second.1 in cc;
-        }))
-    by go (Some next) e = subst (ParsesTo whole length) (sym (read_token length s next token behind e)) (go next e)
-
-pub may_answer : (length : ℕ) (answers : List Answer) → ParsesTo answers length (read_from length start answers)
-may_answer length answers = answers_from length answers start [] answers refl refl
-
--- ---- nothing else may be
 
 pub only_answer : (length : ℕ) (answers : List Answer) (other : Result Tree ParseError) → ParsesTo answers length other → other ≢ Err NoMemory
-    → read_from length start answers ≡ other
-only_answer length answers (Ok tree) h n =
-    let r = reached h.tokens tree h.sentence in
-    ap (read_from length start) (h.all ∙ sym (append-nil (answered h.tokens)))
-    ∙ reads length start r.end h.tokens [] r.runs ∙ read_nothing length r.end ∙ ap (ended length) r.is
+    → read_from trees length start answers ≡ other
+only_answer length answers (Ok tree) h n = only_value trees IsSentence just answers length tree h
 only_answer length answers (Err NoMemory) h n = absurd (n refl)
-only_answer length answers (Err (Lex place)) h n =
-    let b = begun h.tokens h.begin in
-    ap (read_from length start) h.all ∙ reads length start b.end h.tokens (Err (record { at = place }) ∷ h.behind) b.runs
-    ∙ read_fault length b.end (record { at = place }) h.behind
+only_answer length answers (Err (Lex place)) h n = only_byte trees IsSentence just answers length place h
 only_answer length answers (Err (Syntax place)) h n =
-    elim h [ inl f ↦ at_token f | inr f ↦ at_end f ]
-  where
-    at_token : FailsAtToken answers place → read_from length start answers ≡ Err (Syntax place)
-    at_token f =
-        let b = begun f.tokens f.begin in
-        ap (read_from length start) f.all ∙ reads length start b.end f.tokens (Ok f.token ∷ f.behind) b.runs
-        ∙ read_stuck length b.end f.token f.behind (stuck b.end b.runs (step b.end f.token) refl) ∙ ap (λ v. Err (Syntax v)) f.place_of
-      where
-        stuck : (end : State) → Runs start f.tokens end → (o : Option State) → step end f.token ≡ o → step end f.token ≡ None
-        stuck end runs None e = e
-        stuck end runs (Some next) e =
-            absurd (f.ends (begins_of (f.tokens ++ f.token ∷ []) next (runs-append start end next f.tokens (f.token ∷ []) runs (next, e, refl))))
+    elim h [
+      | inl f ↦ only_token trees IsSentence just answers length place f
+      | inr f ↦ only_end trees IsSentence just answers length place f
+    ]
 
-    at_end : FailsAtEnd answers length place → read_from length start answers ≡ Err (Syntax place)
-    at_end f =
-        let b = begun f.tokens f.begin in
-        ap (read_from length start) (f.all ∙ sym (append-nil (answered f.tokens)))
-        ∙ reads length start b.end f.tokens [] b.runs ∙ read_nothing length b.end
-        ∙ ap (ended length) (open_ended b.end b.runs (tree_at b.end) refl) ∙ ap (λ v. Err (Syntax v)) (sym f.place_of)
-      where
-        open_ended : (end : State) → Runs start f.tokens end → (o : Option Tree) → tree_at end ≡ o → tree_at end ≡ None
-        open_ended end runs None e = e
-        open_ended end runs (Some tree) e = absurd (f.none tree (sentence_of f.tokens tree end runs e))
-
--- reading never wants memory
-pub reads_no_memory : (length : ℕ) (s : State) (answers : List Answer) → read_from length s answers ≢ Err NoMemory
-reads_no_memory length s [] e = by (tree_at s) (sym (read_nothing length s) ∙ e)
-  where
-    by : (o : Option Tree) → ended length o ≡ Err NoMemory → ⊥
-    by None g = cc
-    by (Some tree) g = cc
-reads_no_memory length s (Err fault ∷ behind) e = let f = sym (read_fault length s fault behind) ∙ e in cc
-reads_no_memory length s (Ok token ∷ behind) e = by (λ next g. reads_no_memory length next behind g) (step s token) refl
-  where
-    by : ((next : State) → read_from length next behind ≡ Err NoMemory → ⊥) → (o : Option State) → step s token ≡ o → ⊥
-    by deeper None g = let f = sym (read_stuck length s token behind g) ∙ e in cc
-    by deeper (Some next) g = deeper next (sym (read_token length s next token behind g) ∙ e)
-
--- tokens are a sentence of one tree at most
-pub one_tree : (tokens : List Lexeme) (one other : Tree) → IsSentence tokens one → IsSentence tokens other → one ≡ other
-one_tree tokens one other h g =
-    let a = reached tokens one h in
-    let b = reached tokens other g in
-    let e = sym a.is ∙ ap tree_at (one_end start a.end b.end tokens a.runs b.runs) ∙ b.is in cc
+-- reading is never out of memory
+pub reads_no_memory : (length : ℕ) (s : State) (answers : List Answer) → read_from trees length s answers ≢ Err NoMemory
+reads_no_memory length s answers = reads_no_other trees length s answers NoMemory (λ at e. cc) (λ at e. cc)

@@ -13,7 +13,7 @@ use Rattle.sg_grammar.specs.Named.{Named}
 use Rattle.sg_grammar.specs.Words.{form_words}
 use Rattle.sg_grammar.specs.Pieces.{Piece, word, mark, name, IsPiece}
 use Rattle.sg_grammar.specs.Sentence.{star, close_bracket, type_pieces, more_params, statement_pieces, IsType, IsStatement}
-use Rattle.sg_grammar.specs.States.{State, dead, due, want, names, stars, either, listed, statements, has_sort, fits, type_of}
+use Rattle.sg_grammar.specs.Inside.States.{State, dead, due, want, names, stars, either, listed, statements, has_sort, fits, type_of}
 use Rattle.sg_grammar.proofs.Basics.{mark-has_sort, word-fits_mark, mark-fits_mark, sort-has_sort, name_apart, reserved_apart}
 
 -- the test fails at the first of these pieces

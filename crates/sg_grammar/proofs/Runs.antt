@@ -5,6 +5,10 @@ use Rattle.std.specs.List.{flat_map}
 use Rattle.std.proofs.lemmas.List.{append-nil}
 use Rattle.std.proofs.lemmas.List.Elements.{All-nil}
 use Rattle.sg_lex.specs.Lexeme.{Lexeme}
+use Rattle.sg_lex.specs.Sentences.{Begins}
+use Rattle.sg_lex.proofs.Automata.{Runs}
+use Rattle.sg_lex.proofs.Answers.{Reached, ReadsJust}
+use Rattle.sg_grammar.specs.declared.error.ParseError.{ParseError}
 use Rattle.sg_grammar.specs.declared.tree.Facts.{Facts}
 use Rattle.sg_grammar.specs.declared.tree.Statement.{Statement}
 use Rattle.sg_grammar.specs.declared.tree.Tree.{Tree}
@@ -12,27 +16,11 @@ use Rattle.sg_grammar.specs.declared.words.Sort.{Sort}
 use Rattle.sg_grammar.specs.declared.words.Sort.TheVariants.{Name, Form, Parents, Closing, Flag}
 use Rattle.sg_grammar.specs.Named.{Named}
 use Rattle.sg_grammar.specs.Pieces.{Piece, word, name, ArePieces}
-use Rattle.sg_grammar.specs.Sentence.{star, comma, close_bracket, close_brace, open_brace, equals, semicolon, more_params, fact_pieces, tree_pieces, statement_pieces, ret_pieces, IsStatement, IsWellFormed, IsSentence, Begins}
-use Rattle.sg_grammar.specs.States.{State, dead, due, want, names, stars, either, listed, statements, fact, head1, head2, head3, head4, head5, head6, head7, start, step, tree_at}
+use Rattle.sg_grammar.specs.Sentence.{star, comma, close_bracket, close_brace, open_brace, equals, semicolon, more_params, fact_pieces, tree_pieces, statement_pieces, ret_pieces, IsStatement, IsWellFormed, IsSentence}
+use Rattle.sg_grammar.specs.Inside.States.{State, dead, due, want, names, stars, either, listed, statements, fact, head1, head2, head3, head4, head5, head6, head7, start, step, tree_at, trees}
 use Rattle.sg_grammar.proofs.Rests.{Rest, front_of, last_of}
 use Rattle.sg_grammar.proofs.Steps.{back, forth}
 use Rattle.sg_grammar.proofs.Alive.{Alive, completed, alive_behind, start_alive}
-
--- reading the tokens leads from the one state to the other
-abbrev pub Runs : State → List Lexeme → State → Type 0
-Runs s [] end = s ≡ end
-Runs s (token ∷ tokens) end = (next : State) × (step s token ≡ Some next) × Runs next tokens end
-
-pub runs-append : (s mid end : State) (xs ys : List Lexeme) → Runs s xs mid → Runs mid ys end → Runs s (xs ++ ys) end
-runs-append s mid end [] ys h g = subst (λ v. Runs v ys end) (sym h) g
-runs-append s mid end (x ∷ xs) ys h g = (h.0, h.1, runs-append h.0 mid end xs ys h.2 g)
-
--- reading has one end
-pub one_end : (s a b : State) (xs : List Lexeme) → Runs s xs a → Runs s xs b → a ≡ b
-one_end s a b [] h g = sym h ∙ g
-one_end s a b (x ∷ xs) h g =
-    let e : h.0 ≡ g.0 = (let f = sym h.1 ∙ g.1 in cc) in
-    one_end g.0 a b xs (subst (λ v. Runs v xs a) e h.2) g.2
 
 -- ---- at the end
 
@@ -122,7 +110,7 @@ pub record Spelling (s : State) (tokens : List Lexeme) (ps : List Piece) (tree :
   pub are : ArePieces tokens pieces
   pub rest : Rest s (pieces ++ ps) tree
 
-pub spelling : (s end : State) (tokens : List Lexeme) (ps : List Piece) (tree : Tree) → Runs s tokens end → Rest end ps tree → Spelling s tokens ps tree
+pub spelling : (s end : State) (tokens : List Lexeme) (ps : List Piece) (tree : Tree) → Runs trees s tokens end → Rest end ps tree → Spelling s tokens ps tree
 spelling s end [] ps tree h r = record { pieces = []; are = tt; rest = subst (λ v. Rest v ps tree) (sym h) r }
 spelling s end (t ∷ ts) ps tree h r =
     let i = spelling h.0 end ts ps tree h.2 r in
@@ -133,7 +121,7 @@ spelling s end (t ∷ ts) ps tree h r =
 pub record Part (s : State) (tokens more : List Lexeme) (tree : Tree) : Type 0 where
   pub end : State
   pub pieces : List Piece
-  pub runs : Runs s tokens end
+  pub runs : Runs trees s tokens end
   pub are : ArePieces more pieces
   pub rest : Rest end pieces tree
 
@@ -245,12 +233,7 @@ start_forth tree h =
 
 -- ---- sentences
 
-pub record Reached (tokens : List Lexeme) (tree : Tree) : Type 0 where
-  pub end : State
-  pub runs : Runs start tokens end
-  pub is : tree_at end ≡ Some tree
-
-pub reached : (tokens : List Lexeme) (tree : Tree) → IsSentence tokens tree → Reached tokens tree
+pub reached : (tokens : List Lexeme) (tree : Tree) → IsSentence tokens tree → Reached State Tree ParseError trees tokens tree
 reached tokens tree h =
     let p = part start tokens [] (tree_pieces tree) tree (subst (λ v. ArePieces v (tree_pieces tree)) (sym (append-nil tokens)) h.pieces) (start_forth tree h.well_formed) in
     record { end = p.end; runs = p.runs; is = done_forth p.end tree (nothing p.end p.pieces p.are p.rest) }
@@ -259,13 +242,13 @@ reached tokens tree h =
     nothing end [] a r = r
     nothing end (p ∷ ps) a r = absurd a
 
-pub sentence_of : (tokens : List Lexeme) (tree : Tree) (end : State) → Runs start tokens end → tree_at end ≡ Some tree → IsSentence tokens tree
+pub sentence_of : (tokens : List Lexeme) (tree : Tree) (end : State) → Runs trees start tokens end → tree_at end ≡ Some tree → IsSentence tokens tree
 sentence_of tokens tree end h e =
     let s = spelling start end tokens [] tree h (done_back end tree e) in
     let t = start_back tree (s.pieces ++ []) s.rest in
     record { pieces = subst (ArePieces tokens) (sym (append-nil s.pieces) ∙ t.0) s.are; well_formed = t.1 }
 
-alive_end : (s end : State) (tokens : List Lexeme) → Alive false s → Runs s tokens end → Alive false end
+alive_end : (s end : State) (tokens : List Lexeme) → Alive false s → Runs trees s tokens end → Alive false end
 alive_end s end [] a h = subst (Alive false) h a
 alive_end s end (t ∷ ts) a h = alive_end h.0 end ts (alive_behind false s t h.0 a h.1) h.2
 
@@ -276,19 +259,13 @@ are-append (x ∷ xs) ys [] qs a b = absurd a
 are-append (x ∷ xs) ys (p ∷ ps) qs a b = (a.0, are-append xs ys ps qs a.1 b)
 
 -- what is read begins a sentence
-pub begins_of : (tokens : List Lexeme) (end : State) → Runs start tokens end → Begins tokens
+pub begins_of : (tokens : List Lexeme) (end : State) → Runs trees start tokens end → Begins IsSentence tokens
 begins_of tokens end h =
     let c = completed end (alive_end start end tokens start_alive h) in
     let s = spelling start end tokens c.pieces c.tree h c.rest in
     let t = start_back c.tree (s.pieces ++ c.pieces) s.rest in
     (c.tokens, c.tree, record { pieces = subst (ArePieces (tokens ++ c.tokens)) t.0 (are-append tokens c.tokens s.pieces c.pieces s.are c.are); well_formed = t.1 })
 
-pub record Begun (tokens : List Lexeme) : Type 0 where
-  pub end : State
-  pub runs : Runs start tokens end
-
--- what begins a sentence is read
-pub begun : (tokens : List Lexeme) → Begins tokens → Begun tokens
-begun tokens h =
-    let p = part start tokens h.0 (tree_pieces h.1) h.1 h.2.pieces (start_forth h.1 h.2.well_formed) in
-    record { end = p.end; runs = p.runs }
+-- the automaton reads just the sentences
+pub just : ReadsJust State Tree ParseError trees IsSentence
+just = record { reached = reached; sentence_of = sentence_of; begins_of = begins_of }

@@ -12,7 +12,7 @@ use Rattle.sg_grammar.specs.declared.words.Sort.TheVariants.{Name, Form}
 use Rattle.sg_grammar.specs.Named.{Named}
 use Rattle.sg_grammar.specs.Pieces.{Piece, mark, name, IsPiece}
 use Rattle.sg_grammar.specs.Sentence.{star, comma, close_bracket, param_pieces, more_params, statement_pieces, IsType, IsStatement}
-use Rattle.sg_grammar.specs.States.{State, dead, due, want, names, stars, either, listed, statements, has_sort, fits, named_by, param, with_statement, step}
+use Rattle.sg_grammar.specs.Inside.States.{State, dead, due, want, names, stars, either, listed, statements, has_sort, fits, named_by, param, with_statement, step}
 use Rattle.sg_grammar.proofs.Basics.{some_is, none_is, by_test, if_then, if_else, has_sort-is, is-has_sort, named, fits-is, is-fits, alike-has_sort, alike-fits_mark, mark-has_sort, mark-fits_mark}
 use Rattle.sg_grammar.proofs.Rests.{Off, Rest, front_of, last_of}
 use Rattle.sg_grammar.proofs.Parts.{param_back, param_forth, listed_closed}

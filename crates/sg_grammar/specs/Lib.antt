@@ -1,6 +1,6 @@
+pub mod Inside
 pub mod Named
 pub mod Parses
 pub mod Pieces
 pub mod Sentence
-pub mod States
 pub mod Words

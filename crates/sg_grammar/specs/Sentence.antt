@@ -127,7 +127,3 @@ IsWellFormed tree = All IsStatement tree.statements
 pub record IsSentence (tokens : List Lexeme) (tree : Tree) : Type 0 where
   pub pieces : ArePieces tokens (tree_pieces tree)
   pub well_formed : IsWellFormed tree
-
--- the tokens begin a sentence: with some tokens behind them they are one
-abbrev pub Begins : List Lexeme → Type 0
-Begins tokens = (more : List Lexeme) × (tree : Tree) × IsSentence (tokens ++ more) tree

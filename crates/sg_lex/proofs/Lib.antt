@@ -1,3 +1,6 @@
+pub mod Answers
+pub mod Automata
+pub mod Chains
 pub mod Classes
 pub mod Closes
 pub mod Comments

@@ -1,4 +1,3 @@
 pub mod ByToken
-pub mod Chains
 pub mod Lengths
 pub mod Whole

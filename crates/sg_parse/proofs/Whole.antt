@@ -7,17 +7,17 @@ use Rattle.sg_grammar.specs.declared.error.ParseError.{ParseError}
 use Rattle.sg_grammar.specs.declared.error.ParseError.TheVariants.{NoMemory, Lex, Syntax}
 use Rattle.sg_grammar.specs.declared.tree.Tree.{Tree}
 use Rattle.sg_grammar.specs.Parses.{Parses, ParsesTo}
-use Rattle.sg_grammar.specs.States.{start, read}
+use Rattle.sg_grammar.specs.Inside.States.{start, trees}
+use Rattle.sg_lex.specs.Inside.Automata.{read, Answers}
 use Rattle.sg_grammar.proofs.Readings.{may_answer, only_answer}
-use Rattle.sg_parse.specs.Leads.{Answers}
 
-pub may : (text : List ℕ) (answer : Result Tree ParseError) → Answers (read start (record { rest = answers_of text; end = length text })) answer → Parses text answer
+pub may : (text : List ℕ) (answer : Result Tree ParseError) → Answers trees (read trees start (record { rest = answers_of text; end = length text })) answer → Parses text answer
 may text (Ok tree) h = subst (ParsesTo (answers_of text) (length text)) (h (λ e. cc)) (may_answer (length text) (answers_of text))
 may text (Err NoMemory) h = tt
 may text (Err (Lex at)) h = subst (ParsesTo (answers_of text) (length text)) (h (λ e. cc)) (may_answer (length text) (answers_of text))
 may text (Err (Syntax at)) h = subst (ParsesTo (answers_of text) (length text)) (h (λ e. cc)) (may_answer (length text) (answers_of text))
 
-pub only : (text : List ℕ) (answer other : Result Tree ParseError) → Answers (read start (record { rest = answers_of text; end = length text })) answer
+pub only : (text : List ℕ) (answer other : Result Tree ParseError) → Answers trees (read trees start (record { rest = answers_of text; end = length text })) answer
     → Parses text other → other ≢ Err NoMemory → (answer ≡ other) ⊎ (answer ≡ Err NoMemory)
 only text (Ok tree) other h p n = inl (sym (h (λ e. cc)) ∙ only_answer (length text) (answers_of text) other p n)
 only text (Err NoMemory) other h p n = inr refl

@@ -2,8 +2,8 @@
 ghost use Rattle.std.specs.Prelude.{◌≡◌, ◌≤◌, [], length, OnOk};
 ghost use Rattle.sg_grammar.specs.Named.{Named};
 ghost use Rattle.sg_grammar.specs.Pieces.{mark};
-ghost use Rattle.sg_grammar.specs.States.{State, fact, statements, start, read};
-ghost use Rattle.sg_parse.specs.Leads.{Leads};
+ghost use Rattle.sg_grammar.specs.Inside.States.{State, fact, statements, start, trees};
+ghost use Rattle.sg_lex.specs.Inside.Automata.{read, Leads};
 
 use crate::reader::Reader;
 use sg_grammar::{Facts, Name, ParseError, Sort};
@@ -11,7 +11,7 @@ use sg_grammar::{Facts, Name, ParseError, Sort};
 impl<'a> Reader<'a> {
     /// The facts at the head of a text.
     pub fn facts(&mut self) -> Result<Facts<'a>, ParseError>
-        ensures { Leads (read start self.old) result (λ facts. statements facts []) self.new }
+        ensures { Leads trees (read trees start self.old) result (λ facts. statements facts []) self.new }
     {
         self.fixed(b"service_global_info")?;
         self.mark(b'=')?;
@@ -37,7 +37,7 @@ impl<'a> Reader<'a> {
 
     /// A fact: its word, its value of this sort, and the mark behind it.
     fn fact(&mut self, what: &[u8], sort: Sort, end: u8) -> Result<Name<'a>, ParseError>
-        ensures { (go : Named → State) → Leads (read (fact what.now sort (mark end) go) self.old) result go self.new }
+        ensures { (go : Named → State) → Leads trees (read trees (fact what.now sort (mark end) go) self.old) result go self.new }
     {
         self.fixed(what)?;
         self.mark(b'=')?;

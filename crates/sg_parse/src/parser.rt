@@ -5,8 +5,8 @@ ghost use Rattle.sg_lex.specs.Tokens.{answers_of};
 ghost use Rattle.sg_grammar.specs.declared.error.ParseError.{ParseError as Fault};
 ghost use Rattle.sg_grammar.specs.declared.tree.Tree.{Tree as Whole};
 ghost use Rattle.sg_grammar.specs.Parses.{Parses};
-ghost use Rattle.sg_grammar.specs.States.{start, read};
-ghost use Rattle.sg_parse.specs.Leads.{Answers};
+ghost use Rattle.sg_grammar.specs.Inside.States.{start, trees};
+ghost use Rattle.sg_lex.specs.Inside.Automata.{read, Answers};
 
 use crate::reader::Reader;
 use sg_grammar::{ParseError, Tree};
@@ -29,7 +29,7 @@ pub fn parse<'a>(alloc: Global, text: &'a [u8]) -> Result<Tree<'a>, ParseError>
 
 // The tree that is read, or why there is none.
 fn tree_of<'a>(alloc: Global, text: &'a [u8]) -> Result<Tree<'a>, ParseError>
-    ensures { Answers (read start (record { rest = answers_of text.now; end = length text.now })) result }
+    ensures { Answers trees (read trees start (record { rest = answers_of text.now; end = length text.now })) result }
 {
     let mut reader = Reader::new(text);
     let facts = reader.facts()?;

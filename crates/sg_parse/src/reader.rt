@@ -3,10 +3,11 @@ ghost use Rattle.std.specs.Prelude.{◌≡◌, ◌≤◌, ◌<◌, ◌+◌, ℕ,
 ghost use Rattle.sg_lex.specs.Tokens.{answers_of};
 ghost use Rattle.sg_grammar.specs.Words.{is_of};
 ghost use Rattle.sg_grammar.specs.Named.{Named};
-ghost use Rattle.sg_grammar.specs.States.{State, dead, due, want, Reading, read, read_from, has_sort, fits, named_by};
-ghost use Rattle.sg_parse.specs.Leads.{Leads};
+ghost use Rattle.sg_grammar.specs.Inside.States.{State, dead, due, want, has_sort, fits, named_by, trees};
+ghost use Rattle.sg_lex.specs.Inside.Automata.{Reading, read, read_from, Leads};
 ghost use Rattle.sg_grammar.specs.Pieces.{mark, word};
-ghost use Rattle.sg_parse.specs.Ahead.{with_ahead, Off, named_token, Came};
+ghost use Rattle.sg_parse.specs.Inside.{named_token};
+ghost use Rattle.sg_lex.specs.Inside.Ahead.{with_ahead, Off, Came};
 
 use sg_grammar::{Name, ParseError, Sort};
 use sg_lex::{Lexer, Token, TokenKind};
@@ -23,8 +24,8 @@ pub struct Reader<'a> {
 
 impl<'a> Model for Reader<'a> {
     ghost use Rattle.std.specs.Prelude.{length, ◌≤◌};
-    ghost use Rattle.sg_grammar.specs.States.{Reading};
-    ghost use Rattle.sg_parse.specs.Ahead.{with_ahead};
+    ghost use Rattle.sg_lex.specs.Inside.Automata.{Reading};
+    ghost use Rattle.sg_lex.specs.Inside.Ahead.{with_ahead};
 
     ghost Value = { Reading };
 
@@ -49,7 +50,7 @@ impl<'a> Reader<'a> {
     pub fn next(&mut self) -> Result<Option<Token<'a>>, ParseError>
         ensures token { IfOk result (λ next. MatchOption next ((self.old.rest ≡ []) × (self.new.rest ≡ []))
             (λ token. self.old.rest ≡ answered token ∷ self.new.rest)) }
-        ensures fault { IfErr result (λ error. (s : State) → read s self.old ≡ Err error) }
+        ensures fault { IfErr result (λ error. (s : State) → read trees s self.old ≡ Err error) }
         ensures end { self.new.end ≡ self.old.end }
     {
         next_token(&mut self.ahead, &mut self.lexer)
@@ -59,7 +60,7 @@ impl<'a> Reader<'a> {
     pub fn take_word(&mut self, sort: Sort) -> Result<Option<Name<'a>>, ParseError>
         ensures word { IfOk result (λ word. MatchOption word ((self.new ≡ self.old) × Off (has_sort sort) self.old.rest)
             (λ name. (self.old.rest ≡ answered (named_token name) ∷ self.new.rest) × (is_of sort name.bytes ≡ true))) }
-        ensures fault { IfErr result (λ error. (s : State) → read s self.old ≡ Err error) }
+        ensures fault { IfErr result (λ error. (s : State) → read trees s self.old ≡ Err error) }
         ensures end { self.new.end ≡ self.old.end }
     {
         match next_token(&mut self.ahead, &mut self.lexer)? {
@@ -73,9 +74,9 @@ impl<'a> Reader<'a> {
 
     /// Takes the next token where it is this mark, and says whether it was; else nothing is taken.
     pub fn take_mark(&mut self, byte: u8) -> Result<bool, ParseError>
-        ensures mark { IfOk result (λ taken. MatchBool taken (Came (mark byte) self.old.rest self.new.rest)
+        ensures mark { IfOk result (λ taken. MatchBool taken (Came (fits (mark byte)) self.old.rest self.new.rest)
             ((self.new ≡ self.old) × Off (fits (mark byte)) self.old.rest)) }
-        ensures fault { IfErr result (λ error. (s : State) → read s self.old ≡ Err error) }
+        ensures fault { IfErr result (λ error. (s : State) → read trees s self.old ≡ Err error) }
         ensures end { self.new.end ≡ self.old.end }
     {
         match next_token(&mut self.ahead, &mut self.lexer)? {
@@ -91,9 +92,9 @@ impl<'a> Reader<'a> {
 impl<'a> Reader<'a> {
     /// Takes the next token where it is this word, and says whether it was; else nothing is taken.
     pub fn take_fixed(&mut self, bytes: &[u8]) -> Result<bool, ParseError>
-        ensures word { IfOk result (λ taken. MatchBool taken (Came (word bytes.now) self.old.rest self.new.rest)
+        ensures word { IfOk result (λ taken. MatchBool taken (Came (fits (word bytes.now)) self.old.rest self.new.rest)
             ((self.new ≡ self.old) × Off (fits (word bytes.now)) self.old.rest)) }
-        ensures fault { IfErr result (λ error. (s : State) → read s self.old ≡ Err error) }
+        ensures fault { IfErr result (λ error. (s : State) → read trees s self.old ≡ Err error) }
         ensures end { self.new.end ≡ self.old.end }
     {
         match next_token(&mut self.ahead, &mut self.lexer)? {
@@ -119,7 +120,7 @@ impl<'a> Reader<'a> {
     /// The error where no token may come that comes next, or where the text may not end.
     #[tactic(auto, using(crate::proofs::ByToken::dead_token, crate::proofs::ByToken::dead_end))]
     pub fn unexpected(&mut self) -> ParseError
-        ensures error { read dead self.old ≡ Err result }
+        ensures error { read trees dead self.old ≡ Err result }
     {
         match self.next() {
             Ok(Some(token)) => ParseError::Syntax { at: token.at },
@@ -131,7 +132,7 @@ impl<'a> Reader<'a> {
     /// Takes this mark.
     #[tactic(auto, using(crate::proofs::ByToken::due_came, crate::proofs::ByToken::due_missing))]
     pub fn mark(&mut self, byte: u8) -> Result<(), ParseError>
-        ensures leads { (k : State) → Leads (read (due (mark byte) k) self.old) result (λ _. k) self.new }
+        ensures leads { (k : State) → Leads trees (read trees (due (mark byte) k) self.old) result (λ _. k) self.new }
         ensures fewer { OnOk result (length self.new.rest ≤ length self.old.rest) }
     {
         if self.take_mark(byte)? {
@@ -144,7 +145,7 @@ impl<'a> Reader<'a> {
     /// Takes this word.
     #[tactic(auto, using(crate::proofs::ByToken::due_came, crate::proofs::ByToken::due_missing))]
     pub fn fixed(&mut self, bytes: &[u8]) -> Result<(), ParseError>
-        ensures leads { (k : State) → Leads (read (due (word bytes.now) k) self.old) result (λ _. k) self.new }
+        ensures leads { (k : State) → Leads trees (read trees (due (word bytes.now) k) self.old) result (λ _. k) self.new }
         ensures fewer { OnOk result (length self.new.rest ≤ length self.old.rest) }
     {
         if self.take_fixed(bytes)? {
@@ -157,7 +158,7 @@ impl<'a> Reader<'a> {
     /// Takes a word of this sort.
     #[tactic(auto, using(crate::proofs::ByToken::word_came, crate::proofs::ByToken::word_missing))]
     pub fn word(&mut self, sort: Sort) -> Result<Name<'a>, ParseError>
-        ensures leads { (k : Named → State) → Leads (read (want sort k) self.old) result k self.new }
+        ensures leads { (k : Named → State) → Leads trees (read trees (want sort k) self.old) result k self.new }
         ensures fewer { OnOk result (length self.new.rest ≤ length self.old.rest) }
     {
         match self.take_word(sort)? {
@@ -168,7 +169,7 @@ impl<'a> Reader<'a> {
 }
 
 // Takes the token that was looked at, or else the next of the lexer.
-#[tactic(auto, using(sg_grammar::proofs::Readings::read_fault))]
+#[tactic(auto, using(sg_lex::proofs::Automata::read_fault))]
 fn next_token<'a>(
     ahead: &mut Option<Token<'a>>,
     lexer: &mut Lexer<'a>,
@@ -177,7 +178,7 @@ fn next_token<'a>(
     ensures token { IfOk result (λ next. (with_ahead ahead.old lexer.old ≡ with_ahead next lexer.new)
         × (next ≡ no_token → lexer.new ≡ [])) }
     ensures fewer { length (with_ahead ahead.new lexer.new) ≤ length (with_ahead ahead.old lexer.old) }
-    ensures fault { IfErr result (λ error. (s : State) (end : ℕ) → read_from end s (with_ahead ahead.old lexer.old) ≡ Err error) }
+    ensures fault { IfErr result (λ error. (s : State) (end : ℕ) → read_from trees end s (with_ahead ahead.old lexer.old) ≡ Err error) }
 {
     if let Some(token) = ahead.take() {
         return Ok(Some(token));

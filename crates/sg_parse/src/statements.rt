@@ -5,8 +5,8 @@ ghost use Rattle.sg_grammar.specs.declared.tree.Statement.{Statement as Stated};
 ghost use Rattle.sg_grammar.specs.declared.tree.TypeName.{TypeName as Typed};
 ghost use Rattle.sg_grammar.specs.declared.words.Sort.TheVariants.{Name as a_name};
 ghost use Rattle.sg_grammar.specs.Named.{Named};
-ghost use Rattle.sg_grammar.specs.States.{State, want, statements, statement_behind, one_rest, two_rest, proto_rest, plain_rest, returned_rest, read};
-ghost use Rattle.sg_parse.specs.Leads.{Leads, Answers, read_on};
+ghost use Rattle.sg_grammar.specs.Inside.States.{State, want, statements, statement_behind, one_rest, two_rest, proto_rest, plain_rest, returned_rest, trees};
+ghost use Rattle.sg_lex.specs.Inside.Automata.{read, Leads, Answers, read_on};
 
 use crate::reader::{Reader, is_fixed, is_word, name_of};
 use sg_grammar::{Facts, Name, ParseError, Ret, Sort, Statement, StatementList, Tree, TypeName};
@@ -17,7 +17,7 @@ impl<'a> Reader<'a> {
     /// The statements behind the facts, up to the end of the text.
     #[tactic(auto, using(crate::proofs::ByToken::statement_came, crate::proofs::ByToken::statement_end))]
     pub fn statements(&mut self, alloc: Global, facts: Facts<'a>) -> Result<Tree<'a>, ParseError>
-        ensures { Answers (read (statements facts.entry []) self.old) result }
+        ensures { Answers trees (read trees (statements facts.entry []) self.old) result }
     {
         let mut statements = StatementList::new(alloc);
         'statements: while let Some(token) = self.next()? {
@@ -30,7 +30,7 @@ impl<'a> Reader<'a> {
     #[tactic(auto, using(crate::proofs::ByToken::is_one, crate::proofs::ByToken::is_two, crate::proofs::ByToken::is_set, crate::proofs::ByToken::is_add, crate::proofs::ByToken::is_plain, crate::proofs::ByToken::is_none))]
     fn statement(&mut self, alloc: Global, token: Token<'a>) -> Result<Statement<'a>, ParseError>
         ensures leads { (go : Stated → State) →
-            Leads (read_on (statement_behind go token.entry) token.entry self.old) result go self.new }
+            Leads trees (read_on trees (statement_behind go token.entry) token.entry self.old) result go self.new }
         ensures fewer { OnOk result (length self.new.rest ≤ length self.old.rest) }
     {
         if is_word(&token, Sort::One) {
@@ -53,7 +53,7 @@ impl<'a> Reader<'a> {
 
     /// A statement over one function, behind its word.
     fn one(&mut self, word: Name<'a>) -> Result<Statement<'a>, ParseError>
-        ensures leads { (go : Stated → State) → Leads (read (one_rest go word.entry) self.old) result go self.new }
+        ensures leads { (go : Stated → State) → Leads trees (read trees (one_rest go word.entry) self.old) result go self.new }
         ensures fewer { OnOk result (length self.new.rest ≤ length self.old.rest) }
     {
         self.mark(b'(')?;
@@ -65,7 +65,7 @@ impl<'a> Reader<'a> {
 
     /// A statement over two names, behind its word.
     fn two(&mut self, word: Name<'a>) -> Result<Statement<'a>, ParseError>
-        ensures leads { (go : Stated → State) → Leads (read (two_rest go word.entry) self.old) result go self.new }
+        ensures leads { (go : Stated → State) → Leads trees (read trees (two_rest go word.entry) self.old) result go self.new }
         ensures fewer { OnOk result (length self.new.rest ≤ length self.old.rest) }
     {
         self.mark(b'(')?;
@@ -83,7 +83,7 @@ impl<'a> Reader<'a> {
 
     /// A prototype whose return is a type alone, behind the type's first name.
     fn plain(&mut self, alloc: Global, first: Name<'a>) -> Result<Statement<'a>, ParseError>
-        ensures leads { (go : Stated → State) → Leads (read (plain_rest go first.entry) self.old) result go self.new }
+        ensures leads { (go : Stated → State) → Leads trees (read trees (plain_rest go first.entry) self.old) result go self.new }
         ensures fewer { OnOk result (length self.new.rest ≤ length self.old.rest) }
     {
         let spelled = self.spelled(alloc, first)?;
@@ -93,7 +93,7 @@ impl<'a> Reader<'a> {
 
     /// A prototype whose returned word sets a field, behind the word that says so.
     fn set(&mut self, alloc: Global) -> Result<Statement<'a>, ParseError>
-        ensures leads { (go : Stated → State) → Leads (read (returned_rest go Ret.Set) self.old) result go self.new }
+        ensures leads { (go : Stated → State) → Leads trees (read trees (returned_rest go Ret.Set) self.old) result go self.new }
         ensures fewer { OnOk result (length self.new.rest ≤ length self.old.rest) }
     {
         let (ty, field) = self.returned(alloc)?;
@@ -103,7 +103,7 @@ impl<'a> Reader<'a> {
 
     /// A prototype whose returned word is added to a field, behind the word that says so.
     fn add(&mut self, alloc: Global) -> Result<Statement<'a>, ParseError>
-        ensures leads { (go : Stated → State) → Leads (read (returned_rest go Ret.Add) self.old) result go self.new }
+        ensures leads { (go : Stated → State) → Leads trees (read trees (returned_rest go Ret.Add) self.old) result go self.new }
         ensures fewer { OnOk result (length self.new.rest ≤ length self.old.rest) }
     {
         let (ty, field) = self.returned(alloc)?;
@@ -114,7 +114,7 @@ impl<'a> Reader<'a> {
     /// The type and the field, in brackets, of a return that sets a field or adds to it.
     fn returned(&mut self, alloc: Global) -> Result<(TypeName<'a>, Name<'a>), ParseError>
         ensures leads { (go : Stated → State) (make : Typed → Named → Returned) →
-            Leads (read (returned_rest go make) self.old) result (λ r. want a_name (λ n. proto_rest go (make r.0 r.1) n)) self.new }
+            Leads trees (read trees (returned_rest go make) self.old) result (λ r. want a_name (λ n. proto_rest go (make r.0 r.1) n)) self.new }
         ensures fewer { OnOk result (length self.new.rest ≤ length self.old.rest) }
     {
         self.mark(b'(')?;
@@ -134,7 +134,7 @@ impl<'a> Reader<'a> {
         ret: Ret<'a>,
         name: Name<'a>,
     ) -> Result<Statement<'a>, ParseError>
-        ensures leads { (go : Stated → State) → Leads (read (proto_rest go ret.entry name.entry) self.old) result go self.new }
+        ensures leads { (go : Stated → State) → Leads trees (read trees (proto_rest go ret.entry name.entry) self.old) result go self.new }
         ensures fewer { OnOk result (length self.new.rest ≤ length self.old.rest) }
     {
         self.mark(b'(')?;

@@ -2,8 +2,8 @@
 ghost use Rattle.std.specs.Prelude.{◌≡◌, ◌≤◌, ◌<◌, ◌+◌, ℕ, List, [], ◌∷◌, ◌++◌, length, IfOk, OnOk};
 ghost use Rattle.sg_grammar.specs.declared.tree.TypeName.{TypeName as Typed};
 ghost use Rattle.sg_grammar.specs.Named.{Named};
-ghost use Rattle.sg_grammar.specs.States.{State, names, stars, declared, type_of, read};
-ghost use Rattle.sg_parse.specs.Leads.{Leads};
+ghost use Rattle.sg_grammar.specs.Inside.States.{State, names, stars, declared, type_of, trees};
+ghost use Rattle.sg_lex.specs.Inside.Automata.{read, Leads};
 
 use crate::reader::Reader;
 use sg_base::NoMemory;
@@ -37,7 +37,7 @@ impl<'a> Reader<'a> {
     /// The names and the stars of a type whose first name was taken, as far as they go.
     pub fn spelled(&mut self, alloc: Global, first: Name<'a>) -> Result<Spelled<'a>, ParseError>
         ensures leads { (k : List Named → Named → ℕ → State) →
-            Leads (read (names [] first.entry k) self.old) result (λ s. k s.front s.last s.stars) self.new }
+            Leads trees (read trees (names [] first.entry k) self.old) result (λ s. k s.front s.last s.stars) self.new }
         ensures fewer { OnOk result (length self.new.rest ≤ length self.old.rest) }
     {
         let (front, last) = self.names(alloc, first)?;
@@ -53,7 +53,7 @@ impl<'a> Reader<'a> {
         first: Name<'a>,
     ) -> Result<(NameList<'a>, Name<'a>), ParseError>
         ensures leads { (k : List Named → Named → ℕ → State) →
-            Leads (read (names [] first.entry k) self.old) result (λ r. stars r.0 r.1 0 k) self.new }
+            Leads trees (read trees (names [] first.entry k) self.old) result (λ r. stars r.0 r.1 0 k) self.new }
         ensures fewer { OnOk result (length self.new.rest ≤ length self.old.rest) }
     {
         let mut front = NameList::new(alloc);
@@ -69,7 +69,7 @@ impl<'a> Reader<'a> {
     #[tactic(auto, using(crate::proofs::ByToken::star_came, crate::proofs::ByToken::stars_over))]
     fn stars(&mut self) -> Result<usize, ParseError>
         ensures leads { (front : List Named) (last : Named) (k : List Named → Named → ℕ → State) →
-            Leads (read (stars front last 0 k) self.old) result (λ n. k front last n) self.new }
+            Leads trees (read trees (stars front last 0 k) self.old) result (λ n. k front last n) self.new }
         ensures fewer { OnOk result (length self.new.rest ≤ length self.old.rest) }
     {
         let most = self.end();
@@ -85,7 +85,7 @@ impl<'a> Reader<'a> {
     #[tactic(auto, using(crate::proofs::ByToken::declared_none, crate::proofs::ByToken::declared_bare, crate::proofs::ByToken::declared_starred))]
     pub fn declared(&mut self, spelled: Spelled<'a>) -> Result<(TypeName<'a>, Name<'a>), ParseError>
         ensures leads { (go : Typed → Named → State) →
-            Leads (read (declared go spelled.entry.front spelled.entry.last spelled.entry.stars) self.old) result (λ r. go r.0 r.1) self.new }
+            Leads trees (read trees (declared go spelled.entry.front spelled.entry.last spelled.entry.stars) self.old) result (λ r. go r.0 r.1) self.new }
         ensures fewer { OnOk result (length self.new.rest ≤ length self.old.rest) }
     {
         if spelled.stars > 0 {

@@ -8,7 +8,7 @@ use Rattle.sg_lex.specs.declared.token.TokenKind.TheVariants.{Word, Number, Text
 use Rattle.sg_lex.specs.Lexeme.{Lexeme}
 use Rattle.sg_script_grammar.specs.Spelling.{Spelling}
 use Rattle.sg_script_grammar.specs.Pieces.{Piece, fixed, word, number, quoted, mark, IsSpelt, IsPiece}
-use Rattle.sg_script_grammar.specs.States.{same_kind, is_of, is_mark, is_fixed, spelt_by}
+use Rattle.sg_script_grammar.specs.Inside.States.{same_kind, is_of, is_mark, is_fixed, spelt_by}
 
 -- ---- tests
 

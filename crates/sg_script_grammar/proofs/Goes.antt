@@ -3,6 +3,7 @@ use Rattle.std.proofs.Common.{◌≡◌, ℕ, List, [], ◌∷◌, ◌++◌, ref
 use Rattle.std.specs.Prelude.{None, Some, codes}
 use Rattle.std.proofs.lemmas.List.{append-nil}
 use Rattle.sg_lex.specs.Lexeme.{Lexeme}
+use Rattle.sg_lex.proofs.Automata.{Runs}
 use Rattle.sg_script_grammar.specs.declared.tree.WrittenArg.{WrittenArg}
 use Rattle.sg_script_grammar.specs.declared.tree.WrittenArg.TheVariants.{Number as number_arg, Text as text_arg, Back as back_arg}
 use Rattle.sg_script_grammar.specs.declared.tree.WrittenCall.{WrittenCall}
@@ -11,18 +12,13 @@ use Rattle.sg_script_grammar.specs.declared.tree.Part.TheVariants.{Setup, Client
 use Rattle.sg_script_grammar.specs.Spelling.{Spelling}
 use Rattle.sg_script_grammar.specs.Pieces.{Piece, fixed, word, number, quoted, mark, ArePieces}
 use Rattle.sg_script_grammar.specs.Sentence.{arg_pieces, open_brace, open_bracket, comma, close_bracket, close_brace, semicolon, dollar}
-use Rattle.sg_script_grammar.specs.States.{State, due, want, argument, bracketed, listed, body, counts, script, with_part, call_rest, braced, setup_rest, client_rest, schedule_rest, stop_rest, step}
+use Rattle.sg_script_grammar.specs.Inside.States.{State, due, want, argument, bracketed, listed, body, counts, script, with_part, call_rest, braced, setup_rest, client_rest, schedule_rest, stop_rest, step, scripts}
 use Rattle.sg_script_grammar.proofs.Basics.{made, is_made, if_then, bytes_same}
 use Rattle.sg_script_grammar.proofs.Thens.{listed_then, args_then, calls_then, numbers_then, part_then, parts_then}
 
--- reading the tokens leads from the one state to the other
-abbrev pub Runs : State → List Lexeme → State → Type 0
-Runs s [] end = s ≡ end
-Runs s (token ∷ tokens) end = (next : State) × (step s token ≡ Some next) × Runs next tokens end
-
--- tokens that are these pieces do
+-- reading tokens that are these pieces leads from the one state to the other
 abbrev pub Goes : State → List Piece → State → Type 0
-Goes s ps end = (tokens : List Lexeme) → ArePieces tokens ps → Runs s tokens end
+Goes s ps end = (tokens : List Lexeme) → ArePieces tokens ps → Runs scripts s tokens end
 
 -- one piece, and then others
 one : (s mid end : State) (p : Piece) (ps : List Piece) → ((place : ℕ) → step s (made p place) ≡ Some mid) → Goes mid ps end → Goes s (p ∷ ps) end

@@ -12,7 +12,7 @@ use Rattle.sg_script_grammar.specs.declared.tree.Part.TheVariants.{Setup, Client
 use Rattle.sg_script_grammar.specs.Spelling.{Spelling}
 use Rattle.sg_script_grammar.specs.Pieces.{Piece, fixed, word, number, quoted, mark, IsPiece}
 use Rattle.sg_script_grammar.specs.Sentence.{arg_pieces, comma, close_bracket, close_brace, semicolon, dollar}
-use Rattle.sg_script_grammar.specs.States.{State, dead, due, want, argument, bracketed, listed, body, counts, script, is_of, is_mark, is_fixed, spelt_by, argument_behind, part_behind, with_part, call_rest, setup_rest, client_rest, schedule_rest, stop_rest, step}
+use Rattle.sg_script_grammar.specs.Inside.States.{State, dead, due, want, argument, bracketed, listed, body, counts, script, is_of, is_mark, is_fixed, spelt_by, argument_behind, part_behind, with_part, call_rest, setup_rest, client_rest, schedule_rest, stop_rest, step}
 use Rattle.sg_script_grammar.proofs.Basics.{none_some, chosen, of-is, mark-is, fixed-is}
 use Rattle.sg_script_grammar.proofs.Thens.{listed_then, args_then, calls_then, numbers_then, part_then, parts_then, parts_snoc}
 

@@ -3,39 +3,20 @@ use Rattle.std.proofs.Common.{◌≡◌, List, [], ◌∷◌, ◌++◌, refl, sy
 use Rattle.std.specs.Prelude.{None, Some}
 use Rattle.std.proofs.lemmas.List.{append-nil}
 use Rattle.sg_lex.specs.Lexeme.{Lexeme}
+use Rattle.sg_lex.specs.Sentences.{Begins}
+use Rattle.sg_lex.proofs.Automata.{Runs, runs-append}
+use Rattle.sg_lex.proofs.Answers.{ReadsJust}
+use Rattle.sg_script_grammar.specs.declared.error.ParseError.{ParseError}
 use Rattle.sg_script_grammar.specs.declared.tree.WrittenArg.TheVariants.{Number as number_arg}
 use Rattle.sg_script_grammar.specs.declared.tree.Part.{Part}
 use Rattle.sg_script_grammar.specs.Spelling.{Spelling}
 use Rattle.sg_script_grammar.specs.Pieces.{Piece, number, mark, ArePieces}
-use Rattle.sg_script_grammar.specs.Sentence.{close_bracket, close_brace, semicolon, IsSentence, Begins}
-use Rattle.sg_script_grammar.specs.States.{State, dead, due, want, argument, bracketed, listed, body, counts, script, start, step, parts_at}
+use Rattle.sg_script_grammar.specs.Sentence.{close_bracket, close_brace, semicolon, IsSentence}
+use Rattle.sg_script_grammar.specs.Inside.States.{State, dead, due, want, argument, bracketed, listed, body, counts, script, start, step, parts_at, scripts}
 use Rattle.sg_script_grammar.proofs.Basics.{none_some, some_is, made, if_then, bytes_same}
 use Rattle.sg_script_grammar.proofs.Thens.{parts_are}
 use Rattle.sg_script_grammar.proofs.Grown.{HasRead, grown}
-use Rattle.sg_script_grammar.proofs.Goes.{Runs, parts_go}
-
-pub runs-append : (s mid end : State) (xs ys : List Lexeme) → Runs s xs mid → Runs mid ys end → Runs s (xs ++ ys) end
-runs-append s mid end [] ys h g = subst (λ v. Runs v ys end) (sym h) g
-runs-append s mid end (x ∷ xs) ys h g = (h.0, h.1, runs-append h.0 mid end xs ys h.2 g)
-
--- reading has one end
-pub one_end : (s a b : State) (xs : List Lexeme) → Runs s xs a → Runs s xs b → a ≡ b
-one_end s a b [] h g = sym h ∙ g
-one_end s a b (x ∷ xs) h g =
-    let e : h.0 ≡ g.0 = some_is h.0 g.0 (sym h.1 ∙ g.1) in
-    one_end g.0 a b xs (subst (λ v. Runs v xs a) e h.2) g.2
-
--- what was read of two lists of tokens was read of the first and then of the second
-pub record Cut (s end : State) (xs ys : List Lexeme) : Type 0 where
-  pub mid : State
-  pub first : Runs s xs mid
-  pub second : Runs mid ys end
-
-pub cut : (s end : State) (xs ys : List Lexeme) → Runs s (xs ++ ys) end → Cut s end xs ys
-cut s end [] ys h = record { mid = s; first = refl; second = h }
-cut s end (x ∷ xs) ys h =
-    let c = cut h.0 end xs ys h.2 in
-    record { mid = c.mid; first = (h.0, h.1, c.first); second = c.second }
+use Rattle.sg_script_grammar.proofs.Goes.{parts_go}
 
 -- ---- at the end
 
@@ -63,14 +44,14 @@ record Spelt (f : List Piece → List Piece) (tokens : List Lexeme) (end : State
   are : ArePieces tokens pieces
   has : HasRead end (λ r. f (pieces ++ r))
 
-spelt : (s end : State) (f : List Piece → List Piece) (tokens : List Lexeme) → HasRead s f → Runs s tokens end → Spelt f tokens end
+spelt : (s end : State) (f : List Piece → List Piece) (tokens : List Lexeme) → HasRead s f → Runs scripts s tokens end → Spelt f tokens end
 spelt s end f [] h g = record { pieces = []; are = tt; has = subst (λ v. HasRead v f) g h }
 spelt s end f (t ∷ ts) h g =
     let a = grown s f t g.0 h g.1 in
     let b = spelt g.0 end (λ r. f (a.piece ∷ r)) ts a.has g.2 in
     record { pieces = a.piece ∷ b.pieces; are = (a.is, b.are); has = b.has }
 
-read_to : (tokens : List Lexeme) (end : State) → Runs start tokens end → Spelt (λ r. r) tokens end
+read_to : (tokens : List Lexeme) (end : State) → Runs scripts start tokens end → Spelt (λ r. r) tokens end
 read_to tokens end h = spelt start end (λ r. r) tokens (λ r. refl) h
 
 -- ---- every state that is reached can be completed
@@ -78,7 +59,7 @@ read_to tokens end h = spelt start end (λ r. r) tokens (λ r. refl) h
 record Completed (s : State) : Type 0 where
   tokens : List Lexeme
   parts : List Part
-  runs : Runs s tokens (script parts)
+  runs : Runs scripts s tokens (script parts)
 
 -- a number, whichever
 any_number : Spelling
@@ -106,26 +87,24 @@ completed (script parts) f h = record { tokens = []; parts = parts; runs = refl 
 
 -- ---- sentences
 
-pub reached : (tokens : List Lexeme) (parts : List Part) → IsSentence tokens parts → Runs start tokens (script parts)
+pub reached : (tokens : List Lexeme) (parts : List Part) → IsSentence tokens parts → Runs scripts start tokens (script parts)
 reached tokens parts h = parts_go parts [] tokens (subst (ArePieces tokens) (parts_are parts) h)
 
-pub sentence_of : (tokens : List Lexeme) (parts : List Part) → Runs start tokens (script parts) → IsSentence tokens parts
+pub sentence_of : (tokens : List Lexeme) (parts : List Part) → Runs scripts start tokens (script parts) → IsSentence tokens parts
 sentence_of tokens parts h =
     let s = read_to tokens (script parts) h in
     subst (ArePieces tokens) (sym (append-nil s.pieces) ∙ s.has [] ∙ sym (parts_are parts)) s.are
 
 -- what is read begins a sentence
-pub begins_of : (tokens : List Lexeme) (end : State) → Runs start tokens end → Begins tokens
+pub begins_of : (tokens : List Lexeme) (end : State) → Runs scripts start tokens end → Begins IsSentence tokens
 begins_of tokens end h =
     let c = completed end _ (read_to tokens end h).has in
-    (c.tokens, c.parts, sentence_of (tokens ++ c.tokens) c.parts (runs-append start end (script c.parts) tokens c.tokens h c.runs))
+    (c.tokens, c.parts, sentence_of (tokens ++ c.tokens) c.parts (runs-append scripts start end (script c.parts) tokens c.tokens h c.runs))
 
-pub record Begun (tokens : List Lexeme) : Type 0 where
-  pub end : State
-  pub runs : Runs start tokens end
-
--- what begins a sentence is read
-pub begun : (tokens : List Lexeme) → Begins tokens → Begun tokens
-begun tokens h =
-    let c = cut start (script h.1) tokens h.0 (reached (tokens ++ h.0) h.1 h.2) in
-    record { end = c.mid; runs = c.first }
+-- the automaton reads just the scripts
+pub just : ReadsJust State (List Part) ParseError scripts IsSentence
+just = record {
+  reached = λ tokens parts is. record { end = script parts; runs = reached tokens parts is; is = script_at parts };
+  sentence_of = λ tokens parts end runs is. sentence_of tokens parts (subst (Runs scripts start tokens) (at_script end parts is) runs);
+  begins_of = begins_of;
+}

@@ -1,5 +1,5 @@
+pub mod Inside
 pub mod Parses
 pub mod Pieces
 pub mod Sentence
 pub mod Spelling
-pub mod States

@@ -69,7 +69,3 @@ part_pieces (Stop at numbers) = fixed (codes "stop") at ∷ numbers_pieces numbe
 -- the tokens are a script of these parts: they are, one by one, what the parts want
 abbrev pub IsSentence : List Lexeme → List Part → Type 0
 IsSentence tokens parts = ArePieces tokens (flat_map part_pieces parts)
-
--- the tokens begin a script: with some tokens behind them they are one
-abbrev pub Begins : List Lexeme → Type 0
-Begins tokens = (more : List Lexeme) × (parts : List Part) × IsSentence (tokens ++ more) parts

@@ -1,3 +1,2 @@
 pub mod ByToken
-pub mod Chains
 pub mod Whole

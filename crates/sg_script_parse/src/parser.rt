@@ -5,8 +5,8 @@ ghost use Rattle.sg_lex.specs.Tokens.{answers_of};
 ghost use Rattle.sg_script_grammar.specs.declared.error.ParseError.{ParseError as Fault};
 ghost use Rattle.sg_script_grammar.specs.declared.tree.Part.{Part as Written};
 ghost use Rattle.sg_script_grammar.specs.Parses.{Parses};
-ghost use Rattle.sg_script_grammar.specs.States.{start, read};
-ghost use Rattle.sg_script_parse.specs.Leads.{Answers};
+ghost use Rattle.sg_script_grammar.specs.Inside.States.{start, scripts};
+ghost use Rattle.sg_lex.specs.Inside.Automata.{read, Answers};
 
 use crate::reader::Reader;
 use sg_script_grammar::{ParseError, PartList};
@@ -29,7 +29,7 @@ pub fn parse<'a>(alloc: Global, text: &'a [u8]) -> Result<PartList<'a>, ParseErr
 
 // The parts that are read, or why there are none.
 fn parts_of<'a>(alloc: Global, text: &'a [u8]) -> Result<PartList<'a>, ParseError>
-    ensures { Answers (read start (record { rest = answers_of text.now; end = length text.now })) result }
+    ensures { Answers scripts (read scripts start (record { rest = answers_of text.now; end = length text.now })) result }
 {
     let mut reader = Reader::new(text);
     reader.parts(alloc)

@@ -2,9 +2,10 @@
 ghost use Rattle.std.specs.Prelude.{◌≡◌, ◌≤◌, ℕ, [], ◌∷◌, length, IfOk, IfErr, OnOk, MatchOption, MatchBool, None as no_token, Ok as answered};
 ghost use Rattle.sg_lex.specs.Tokens.{answers_of};
 ghost use Rattle.sg_script_grammar.specs.Spelling.{Spelling};
-ghost use Rattle.sg_script_grammar.specs.States.{State, dead, due, want, read, read_from, is_of, is_mark, is_fixed, spelt_by};
-ghost use Rattle.sg_script_parse.specs.Leads.{Leads};
-ghost use Rattle.sg_script_parse.specs.Ahead.{with_ahead, Off, spelt_token, Came};
+ghost use Rattle.sg_script_grammar.specs.Inside.States.{State, dead, due, want, is_of, is_mark, is_fixed, spelt_by, scripts};
+ghost use Rattle.sg_lex.specs.Inside.Automata.{read, read_from, Leads};
+ghost use Rattle.sg_script_parse.specs.Inside.{spelt_token};
+ghost use Rattle.sg_lex.specs.Inside.Ahead.{with_ahead, Off, Came};
 
 use sg_lex::{Lexer, Token, TokenKind};
 use sg_script_grammar::{ParseError, Spelled};
@@ -20,8 +21,8 @@ pub struct Reader<'a> {
 }
 
 impl<'a> Model for Reader<'a> {
-    ghost use Rattle.sg_script_grammar.specs.States.{Reading};
-    ghost use Rattle.sg_script_parse.specs.Ahead.{with_ahead};
+    ghost use Rattle.sg_lex.specs.Inside.Automata.{Reading};
+    ghost use Rattle.sg_lex.specs.Inside.Ahead.{with_ahead};
 
     ghost Value = { Reading };
 
@@ -44,7 +45,7 @@ impl<'a> Reader<'a> {
     pub fn next(&mut self) -> Result<Option<Token<'a>>, ParseError>
         ensures token { IfOk result (λ next. MatchOption next ((self.old.rest ≡ []) × (self.new.rest ≡ []))
             (λ token. self.old.rest ≡ answered token ∷ self.new.rest)) }
-        ensures fault { IfErr result (λ error. (s : State) → read s self.old ≡ Err error) }
+        ensures fault { IfErr result (λ error. (s : State) → read scripts s self.old ≡ Err error) }
         ensures end { self.new.end ≡ self.old.end }
     {
         next_token(&mut self.ahead, &mut self.lexer)
@@ -54,7 +55,7 @@ impl<'a> Reader<'a> {
     pub fn take_spelled(&mut self, kind: TokenKind) -> Result<Option<Spelled<'a>>, ParseError>
         ensures spelling { IfOk result (λ spelled. MatchOption spelled ((self.new ≡ self.old) × Off (is_of kind) self.old.rest)
             (λ s. self.old.rest ≡ answered (spelt_token kind s) ∷ self.new.rest)) }
-        ensures fault { IfErr result (λ error. (s : State) → read s self.old ≡ Err error) }
+        ensures fault { IfErr result (λ error. (s : State) → read scripts s self.old ≡ Err error) }
         ensures end { self.new.end ≡ self.old.end }
     {
         match next_token(&mut self.ahead, &mut self.lexer)? {
@@ -68,9 +69,9 @@ impl<'a> Reader<'a> {
 
     /// Takes the next token where it is this mark, and says whether it was; else nothing is taken.
     pub fn take_mark(&mut self, byte: u8) -> Result<bool, ParseError>
-        ensures mark { IfOk result (λ taken. MatchBool taken (Came byte self.old.rest self.new.rest)
+        ensures mark { IfOk result (λ taken. MatchBool taken (Came (is_mark byte) self.old.rest self.new.rest)
             ((self.new ≡ self.old) × Off (is_mark byte) self.old.rest)) }
-        ensures fault { IfErr result (λ error. (s : State) → read s self.old ≡ Err error) }
+        ensures fault { IfErr result (λ error. (s : State) → read scripts s self.old ≡ Err error) }
         ensures end { self.new.end ≡ self.old.end }
     {
         match next_token(&mut self.ahead, &mut self.lexer)? {
@@ -88,7 +89,7 @@ impl<'a> Reader<'a> {
     /// The error where no token may come that comes next, or where the text may not end.
     #[tactic(auto, using(crate::proofs::ByToken::dead_token, crate::proofs::ByToken::dead_end))]
     pub fn unexpected(&mut self) -> ParseError
-        ensures error { read dead self.old ≡ Err result }
+        ensures error { read scripts dead self.old ≡ Err result }
     {
         match self.next() {
             Ok(Some(token)) => ParseError::Syntax { at: token.at },
@@ -100,7 +101,7 @@ impl<'a> Reader<'a> {
     /// Takes this mark.
     #[tactic(auto, using(crate::proofs::ByToken::due_came, crate::proofs::ByToken::due_missing))]
     pub fn mark(&mut self, byte: u8) -> Result<(), ParseError>
-        ensures leads { (k : State) → Leads (read (due byte k) self.old) result (λ _. k) self.new }
+        ensures leads { (k : State) → Leads scripts (read scripts (due byte k) self.old) result (λ _. k) self.new }
         ensures fewer { OnOk result (length self.new.rest ≤ length self.old.rest) }
     {
         if self.take_mark(byte)? {
@@ -113,7 +114,7 @@ impl<'a> Reader<'a> {
     /// Takes a number.
     #[tactic(auto, using(crate::proofs::ByToken::number_came, crate::proofs::ByToken::number_missing))]
     pub fn number(&mut self) -> Result<Spelled<'a>, ParseError>
-        ensures leads { (k : Spelling → State) → Leads (read (want k) self.old) result k self.new }
+        ensures leads { (k : Spelling → State) → Leads scripts (read scripts (want k) self.old) result k self.new }
         ensures fewer { OnOk result (length self.new.rest ≤ length self.old.rest) }
     {
         match self.take_spelled(TokenKind::Number)? {
@@ -124,7 +125,7 @@ impl<'a> Reader<'a> {
 }
 
 // Takes the token that was looked at, or else the next of the lexer.
-#[tactic(auto, using(sg_script_grammar::proofs::Readings::read_fault))]
+#[tactic(auto, using(sg_lex::proofs::Automata::read_fault))]
 fn next_token<'a>(
     ahead: &mut Option<Token<'a>>,
     lexer: &mut Lexer<'a>,
@@ -132,7 +133,7 @@ fn next_token<'a>(
     ensures taken { ahead.new ≡ no_token }
     ensures token { IfOk result (λ next. (with_ahead ahead.old lexer.old ≡ with_ahead next lexer.new)
         × (next ≡ no_token → lexer.new ≡ [])) }
-    ensures fault { IfErr result (λ error. (s : State) (end : ℕ) → read_from end s (with_ahead ahead.old lexer.old) ≡ Err error) }
+    ensures fault { IfErr result (λ error. (s : State) (end : ℕ) → read_from scripts end s (with_ahead ahead.old lexer.old) ≡ Err error) }
 {
     if let Some(token) = ahead.take() {
         return Ok(Some(token));

@@ -1,12 +1,13 @@
 -- The names so far were read.
 use Rattle.std.proofs.Common.{◌≡◌, ◌≤◌, List, [], ℕ, length}
 use Rattle.sg_grammar.specs.Named.{Named}
-use Rattle.sg_grammar.specs.States.{State, names, read}
+use Rattle.sg_grammar.specs.Inside.States.{State, names, trees}
+use Rattle.sg_lex.specs.Inside.Automata.{read}
 use Rattle.sg_parse.proofs.reader.Reader.names.Given as goal
 
 abbrev pub invariant-names : goal.invariant-names
 invariant-names l = record {
-  read_so_far : (k : List Named → Named → ℕ → State) → read (names [] l.fn.first k) l.fn.self ≡ read (names l.front l.last k) l.self;
+  read_so_far : (k : List Named → Named → ℕ → State) → read trees (names [] l.fn.first k) l.fn.self ≡ read trees (names l.front l.last k) l.self;
   fewer : length l.self.rest ≤ length l.fn.self.rest;
 }
 

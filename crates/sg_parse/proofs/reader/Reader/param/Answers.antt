@@ -4,9 +4,10 @@ use Rattle.std.specs.Prelude.{None, Some}
 use Rattle.sg_grammar.specs.declared.words.Sort.TheVariants.{Name}
 use Rattle.sg_grammar.specs.Named.{Named}
 use Rattle.sg_grammar.specs.Sentence.{open_bracket, close_bracket}
-use Rattle.sg_grammar.specs.States.{due, want, names, declared, param_behind, with_param, type_of, read}
-use Rattle.sg_parse.specs.Leads.{either_of}
-use Rattle.sg_parse.proofs.Chains.{leads_along}
+use Rattle.sg_grammar.specs.Inside.States.{due, want, names, declared, param_behind, with_param, type_of, trees}
+use Rattle.sg_lex.specs.Inside.Automata.{read}
+use Rattle.sg_parse.specs.Inside.{either_of}
+use Rattle.sg_lex.proofs.Automata.{leads_along}
 use Rattle.sg_parse.proofs.reader.Reader.param.Goals as goal
 
 pub returns-in-Some-clause-leads : goal.returns-in-Some-clause-leads
@@ -14,11 +15,11 @@ returns-in-Some-clause-leads c = λ params k.
     let s = c.in_ok-spelled.spelled in
     let with_form = λ (form : Named). due open_bracket (want Name (λ n. due close_bracket (with_param k params (type_of s.front s.last s.stars) (Some form) n))) in
     let without = declared (λ ty n. with_param k params ty None n) s.front s.last s.stars in
-    leads_along _ _ c.formed.result _ c.formed.new.self
+    leads_along trees _ _ c.formed.result _ c.formed.new.self
     (c.in_ok-first.ensures.leads (λ n. names [] n (param_behind k params))
     ∙ c.in_ok-spelled.ensures.leads (param_behind k params)
     ∙ c.in_ok-form.ensures.leads with_form without
-    ∙ ap (λ o. read (either_of with_form without o) c.form.new.self) c.in-Some.is)
+    ∙ ap (λ o. read trees (either_of with_form without o) c.form.new.self) c.in-Some.is)
     (c.formed.ensures.leads params k)
 
 pub returns-in-None-clause-leads : goal.returns-in-None-clause-leads
@@ -26,9 +27,9 @@ returns-in-None-clause-leads c = λ params k.
     let s = c.in_ok-spelled.spelled in
     let with_form = λ (form : Named). due open_bracket (want Name (λ n. due close_bracket (with_param k params (type_of s.front s.last s.stars) (Some form) n))) in
     let without = declared (λ ty n. with_param k params ty None n) s.front s.last s.stars in
-    leads_along _ _ c.unformed.result _ c.unformed.new.self
+    leads_along trees _ _ c.unformed.result _ c.unformed.new.self
     (c.in_ok-first.ensures.leads (λ n. names [] n (param_behind k params))
     ∙ c.in_ok-spelled.ensures.leads (param_behind k params)
     ∙ c.in_ok-form.ensures.leads with_form without
-    ∙ ap (λ o. read (either_of with_form without o) c.form.new.self) c.in-None.is)
+    ∙ ap (λ o. read trees (either_of with_form without o) c.form.new.self) c.in-None.is)
     (c.unformed.ensures.leads params k)

@@ -1,12 +1,13 @@
 -- The parameters so far were read.
 use Rattle.std.proofs.Common.{◌≡◌, ◌≤◌, List, [], length}
 use Rattle.sg_grammar.specs.declared.tree.Param.{Param}
-use Rattle.sg_grammar.specs.States.{State, listed, param, read}
+use Rattle.sg_grammar.specs.Inside.States.{State, listed, param, trees}
+use Rattle.sg_lex.specs.Inside.Automata.{read}
 use Rattle.sg_parse.proofs.reader.Reader.params.Given as goal
 
 abbrev pub invariant-params : goal.invariant-params
 invariant-params l = record {
-  read_so_far : (k : List Param → State) → read (param k []) l.fn.self ≡ read (listed l.params k) l.self;
+  read_so_far : (k : List Param → State) → read trees (param k []) l.fn.self ≡ read trees (listed l.params k) l.self;
   fewer : length l.self.rest ≤ length l.fn.self.rest;
 }
 

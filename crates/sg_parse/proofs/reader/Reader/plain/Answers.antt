@@ -2,8 +2,8 @@
 use Rattle.std.proofs.Common.{◌∙◌}
 use Rattle.std.proofs.lemmas.Result.{err_from_is_err_and}
 use Rattle.sg_grammar.specs.declared.tree.Ret.TheVariants.{Plain}
-use Rattle.sg_grammar.specs.States.{declared, proto_rest}
-use Rattle.sg_parse.proofs.Chains.{leads_along}
+use Rattle.sg_grammar.specs.Inside.States.{declared, proto_rest, trees}
+use Rattle.sg_lex.proofs.Automata.{leads_along}
 use Rattle.sg_parse.proofs.reader.Reader.plain.Goals as goal
 
 pub returns-in_err-ty-clause-leads : goal.returns-in_err-ty-clause-leads
@@ -15,7 +15,7 @@ returns-in_err-ty-clause-leads c = λ go.
 
 pub returns-clause-leads : goal.returns-clause-leads
 returns-clause-leads c = λ go.
-    leads_along _ _ c.proto.result go c.proto.new.self
+    leads_along trees _ _ c.proto.result go c.proto.new.self
     (c.in_ok-spelled.ensures.leads (declared (λ ty n. proto_rest go (Plain ty) n))
     ∙ c.in_ok-ty.ensures.leads (λ ty n. proto_rest go (Plain ty) n))
     (c.proto.ensures.leads go)

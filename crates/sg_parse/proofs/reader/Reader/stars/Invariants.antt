@@ -1,13 +1,14 @@
 -- The stars so far were read, and each was one of the tokens that were still to come.
 use Rattle.std.proofs.Common.{◌≡◌, ◌+◌, ◌≤◌, List, ℕ, length}
 use Rattle.sg_grammar.specs.Named.{Named}
-use Rattle.sg_grammar.specs.States.{State, stars, read}
+use Rattle.sg_grammar.specs.Inside.States.{State, stars, trees}
+use Rattle.sg_lex.specs.Inside.Automata.{read}
 use Rattle.sg_parse.proofs.reader.Reader.stars.Given as goal
 
 abbrev pub invariant-stars : goal.invariant-stars
 invariant-stars l = record {
   read_so_far : (front : List Named) (last : Named) (k : List Named → Named → ℕ → State) →
-      read (stars front last 0 k) l.fn.self ≡ read (stars front last l.count k) l.self;
+      read trees (stars front last 0 k) l.fn.self ≡ read trees (stars front last l.count k) l.self;
   counted : l.count + length l.self.rest ≤ l.most;
   fewer : length l.self.rest ≤ length l.fn.self.rest;
 }

@@ -3,9 +3,10 @@ use Rattle.std.proofs.Common.{◌≡◌, ◌∙◌, [], ◌∷◌, ap, sym}
 use Rattle.std.specs.Prelude.{Ok, Err}
 use Rattle.std.proofs.lemmas.Result.{err_from_is_err_and}
 use Rattle.sg_lex.specs.Lexeme.{Lexeme}
-use Rattle.sg_grammar.specs.States.{statements, with_statement, read}
+use Rattle.sg_grammar.specs.Inside.States.{statements, with_statement, trees}
+use Rattle.sg_lex.specs.Inside.Automata.{read}
 use Rattle.sg_parse.proofs.ByToken.{statement_came}
-use Rattle.sg_parse.proofs.Chains.{on_some}
+use Rattle.sg_lex.proofs.Chains.{on_some}
 use Rattle.sg_parse.proofs.reader.Reader.statements.Goals as goal
 
 pub returns-in_err-statement : goal.returns-in_err-statement
@@ -27,4 +28,4 @@ statements-preserved c =
     c.statements.invariant
     ∙ statement_came c.args.facts c.statements.statements old new c.in-Some.token came c.in_ok-token.ensures.end
     ∙ c.in_ok-statement.ensures.leads (with_statement c.args.facts c.statements.statements)
-    ∙ ap (λ v. read (statements c.args.facts v) c.statement.new.self) (sym c.in_ok-push.ensures.ok)
+    ∙ ap (λ v. read trees (statements c.args.facts v) c.statement.new.self) (sym c.in_ok-push.ensures.ok)

@@ -5,10 +5,12 @@ use Rattle.std.proofs.lemmas.Grind.{common_steps}
 use Rattle.std.proofs.lemmas.Result.{err_from_is_err_and}
 use Rattle.sg_lex.specs.declared.token.TokenKind.TheVariants.{Word}
 use Rattle.sg_script_grammar.specs.Spelling.{Spelling}
-use Rattle.sg_script_grammar.specs.States.{body, is_of, read}
-use Rattle.sg_script_parse.specs.Ahead.{Off, spelt_token}
+use Rattle.sg_script_grammar.specs.Inside.States.{body, is_of, scripts}
+use Rattle.sg_lex.specs.Inside.Automata.{read}
+use Rattle.sg_script_parse.specs.Inside.{spelt_token}
+use Rattle.sg_lex.specs.Inside.Ahead.{Off}
 use Rattle.sg_script_parse.proofs.ByToken.{with_call, name_came}
-use Rattle.sg_script_parse.proofs.Chains.{on_some}
+use Rattle.sg_lex.proofs.Chains.{on_some}
 use Rattle.sg_script_parse.proofs.reader.Reader.braced.Goals as goal
 
 pub returns-in_err-call-clause-leads : goal.returns-in_err-call-clause-leads
@@ -32,6 +34,6 @@ calls-preserved c =
           c.calls.invariant.read_so_far k
           ∙ name_came c.calls.calls k c.in-Some.name old new came c.in_ok-name.ensures.end
           ∙ c.in_ok-call.ensures.leads (with_call c.calls.calls k)
-          ∙ ap (λ v. read (body v k) c.call.new.self) (sym c.in_ok-push.ensures.ok);
+          ∙ ap (λ v. read scripts (body v k) c.call.new.self) (sym c.in_ok-push.ensures.ok);
       fewer = grind (arith, common_steps, came, c.calls.invariant.fewer, c.in_ok-call.ensures.fewer);
     }

@@ -3,9 +3,10 @@ use Rattle.std.proofs.Common.{◌≡◌, ◌∙◌, [], ◌∷◌, ap, sym}
 use Rattle.std.specs.Prelude.{Ok, Err}
 use Rattle.std.proofs.lemmas.Result.{err_from_is_err_and}
 use Rattle.sg_lex.specs.Lexeme.{Lexeme}
-use Rattle.sg_script_grammar.specs.States.{script, with_part, read}
+use Rattle.sg_script_grammar.specs.Inside.States.{script, with_part, scripts}
+use Rattle.sg_lex.specs.Inside.Automata.{read}
 use Rattle.sg_script_parse.proofs.ByToken.{part_came}
-use Rattle.sg_script_parse.proofs.Chains.{on_some}
+use Rattle.sg_lex.proofs.Chains.{on_some}
 use Rattle.sg_script_parse.proofs.reader.Reader.parts.Goals as goal
 
 pub returns-in_err-part : goal.returns-in_err-part
@@ -27,4 +28,4 @@ parts-preserved c =
     c.parts.invariant
     ∙ part_came c.parts.parts old new c.in-Some.token came c.in_ok-token.ensures.end
     ∙ c.in_ok-part.ensures.leads (with_part c.parts.parts)
-    ∙ ap (λ v. read (script v) c.part.new.self) (sym c.in_ok-push.ensures.ok)
+    ∙ ap (λ v. read scripts (script v) c.part.new.self) (sym c.in_ok-push.ensures.ok)

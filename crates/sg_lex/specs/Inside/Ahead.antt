@@ -1,12 +1,8 @@
 -- What is to come behind a token that was looked at, and tests of what is to come.
 use Rattle.std.specs.Prelude.{◌≡◌, Bool, true, false, List, [], ◌∷◌, None, Some, Ok, Err}
 use Rattle.std.specs.declared.option.Option.{Option}
-use Rattle.sg_lex.specs.declared.token.TokenKind.TheVariants.{Word}
 use Rattle.sg_lex.specs.Lexeme.{Lexeme}
 use Rattle.sg_lex.specs.Tokens.{Answer}
-use Rattle.sg_grammar.specs.Named.{Named}
-use Rattle.sg_grammar.specs.Pieces.{Piece}
-use Rattle.sg_grammar.specs.States.{fits}
 
 -- the token that was looked at and left comes first
 abbrev pub with_ahead : Option Lexeme → List Answer → List Answer
@@ -19,12 +15,8 @@ Off test [] = Unit {0}
 Off test (Ok token ∷ answers) = test token ≡ false
 Off test (Err fault ∷ answers) = ⊥
 
--- the word that is a name
-abbrev pub named_token : Named → Lexeme
-named_token n = record { kind = Word; bytes = n.bytes; at = n.at }
-
--- a token that is this piece came first
-pub record Came (piece : Piece) (old new : List Answer) : Type 0 where
+-- a token of which the test holds came first
+pub record Came (test : Lexeme → Bool) (old new : List Answer) : Type 0 where
   pub token : Lexeme
   pub all : old ≡ Ok token ∷ new
-  pub is : fits piece token ≡ true
+  pub is : test token ≡ true

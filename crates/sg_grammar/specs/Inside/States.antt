@@ -2,15 +2,13 @@
 -- it is proved to read exactly the sentences, and says in what steps the parser goes.
 use Rattle.std.specs.Prelude.{ℕ, ◌+◌, ◌==◌, ◌&&◌, Bool, true, false, if◌then◌else◌, List, [], ◌∷◌, ◌++◌, None, Some, Ok, Err, codes, nat_eq, length}
 use Rattle.std.specs.declared.option.Option.{Option}
-use Rattle.std.specs.declared.result.Result.{Result}
-use Rattle.std.specs.Option.{option_map_or}
 use Rattle.std.specs.Cmp.Lexicographic.{pointwise}
 use Rattle.sg_lex.specs.declared.token.TokenKind.{TokenKind}
 use Rattle.sg_lex.specs.declared.token.TokenKind.TheVariants.{Word, Number, Text, Mark}
 use Rattle.sg_lex.specs.Lexeme.{Lexeme}
-use Rattle.sg_lex.specs.Tokens.{Answer}
+use Rattle.sg_lex.specs.Inside.Automata.{Automaton}
 use Rattle.sg_grammar.specs.declared.error.ParseError.{ParseError}
-use Rattle.sg_grammar.specs.declared.error.ParseError.TheVariants.{Lex, Syntax}
+use Rattle.sg_grammar.specs.declared.error.ParseError.TheVariants.{NoMemory, Lex, Syntax}
 use Rattle.sg_grammar.specs.declared.tree.Facts.{Facts}
 use Rattle.sg_grammar.specs.declared.tree.Statement.{Statement}
 use Rattle.sg_grammar.specs.declared.tree.Statement.TheVariants.{One, Two, Proto}
@@ -203,22 +201,6 @@ tree_at (either k s) = tree_at s
 tree_at (listed params k) = None
 tree_at (statements facts before) = Some (record { facts = facts; statements = before })
 
--- the answer at the end of a text of that length
-abbrev pub ended : ℕ → Option Tree → Result Tree ParseError
-ended end None = Err (Syntax end)
-ended end (Some tree) = Ok tree
-
--- the answer where a lexer goes on with these answers, on a text of that length
-unfoldable pub read_from : ℕ → State → List Answer → Result Tree ParseError
-read_from end s [] = ended end (tree_at s)
-read_from end s (Err fault ∷ behind) = Err (Lex fault.at)
-read_from end s (Ok token ∷ behind) = option_map_or (λ next. read_from end next behind) (step s token) (Err (Syntax token.at))
-
--- what is still to be read: the answers of the lexer that are to come, and the length of the text
-pub record Reading : Type 0 where
-  pub rest : List Answer
-  pub end : ℕ
-
--- the answer where reading goes on from a state
-abbrev pub read : State → Reading → Result Tree ParseError
-read s reading = read_from reading.end s reading.rest
+-- how it reads a text
+abbrev pub trees : Automaton State Tree ParseError
+trees = record { start = start; step = step; value_at = tree_at; no_token = Lex; no_sentence = Syntax; no_memory = NoMemory }

@@ -2,15 +2,13 @@
 -- it; it is proved to read exactly the scripts, and says in what steps the parser goes.
 use Rattle.std.specs.Prelude.{ℕ, ◌&&◌, Bool, true, false, if◌then◌else◌, List, [], ◌∷◌, ◌++◌, None, Some, Ok, Err, codes, nat_eq}
 use Rattle.std.specs.declared.option.Option.{Option}
-use Rattle.std.specs.declared.result.Result.{Result}
-use Rattle.std.specs.Option.{option_map_or}
 use Rattle.std.specs.Cmp.Lexicographic.{pointwise}
 use Rattle.sg_lex.specs.declared.token.TokenKind.{TokenKind}
 use Rattle.sg_lex.specs.declared.token.TokenKind.TheVariants.{Word, Number, Text, Mark}
 use Rattle.sg_lex.specs.Lexeme.{Lexeme}
-use Rattle.sg_lex.specs.Tokens.{Answer}
+use Rattle.sg_lex.specs.Inside.Automata.{Automaton}
 use Rattle.sg_script_grammar.specs.declared.error.ParseError.{ParseError}
-use Rattle.sg_script_grammar.specs.declared.error.ParseError.TheVariants.{Syntax}
+use Rattle.sg_script_grammar.specs.declared.error.ParseError.TheVariants.{NoMemory, Syntax}
 use Rattle.sg_script_grammar.specs.declared.tree.WrittenArg.{WrittenArg}
 use Rattle.sg_script_grammar.specs.declared.tree.WrittenArg.TheVariants.{Number as number_arg, Text as text_arg, Back as back_arg}
 use Rattle.sg_script_grammar.specs.declared.tree.WrittenCall.{WrittenCall}
@@ -141,22 +139,6 @@ unfoldable pub parts_at : State → Option (List Part)
 parts_at (script parts) = Some parts
 parts_at s = None
 
--- the answer at the end of a text of that length
-abbrev pub ended : ℕ → Option (List Part) → Result (List Part) ParseError
-ended end None = Err (Syntax end)
-ended end (Some parts) = Ok parts
-
--- the answer where a lexer goes on with these answers, on a text of that length
-unfoldable pub read_from : ℕ → State → List Answer → Result (List Part) ParseError
-read_from end s [] = ended end (parts_at s)
-read_from end s (Err fault ∷ behind) = Err (Syntax fault.at)
-read_from end s (Ok token ∷ behind) = option_map_or (λ next. read_from end next behind) (step s token) (Err (Syntax token.at))
-
--- what is still to be read: the answers of the lexer that are to come, and the length of the text
-pub record Reading : Type 0 where
-  pub rest : List Answer
-  pub end : ℕ
-
--- the answer where reading goes on from a state
-abbrev pub read : State → Reading → Result (List Part) ParseError
-read s reading = read_from reading.end s reading.rest
+-- how it reads a text
+abbrev pub scripts : Automaton State (List Part) ParseError
+scripts = record { start = start; step = step; value_at = parts_at; no_token = Syntax; no_sentence = Syntax; no_memory = NoMemory }

@@ -1,0 +1,8 @@
+-- What the parser's own clauses cite beside the automaton of scripts.
+use Rattle.sg_lex.specs.declared.token.TokenKind.{TokenKind}
+use Rattle.sg_lex.specs.Lexeme.{Lexeme}
+use Rattle.sg_script_grammar.specs.Spelling.{Spelling}
+
+-- the token of a kind that is spelt so
+abbrev pub spelt_token : TokenKind → Spelling → Lexeme
+spelt_token kind s = record { kind = kind; bytes = s.bytes; at = s.at }
