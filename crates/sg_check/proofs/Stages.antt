@@ -16,13 +16,13 @@ use Rattle.sg_facts.specs.Fits.{Fits}
 use Rattle.sg_grammar.specs.declared.tree.Statement.{Statement}
 use Rattle.sg_grammar.specs.declared.tree.Tree.{Tree}
 use Rattle.sg_reach.specs.declared.place.Triple.{Triple}
-use Rattle.sg_reach.specs.Places.{IsReached}
+use Rattle.sg_reach.specs.Places.{IsReachedTriple}
 use Rattle.sg_reach.proofs.Reaching.{made_declared}
 use Rattle.sg_check_statements.specs.declared.fault.CheckError.{CheckError}
 use Rattle.sg_check_statements.specs.declared.fault.CheckError.TheVariants.{NoMemory, Fault}
 use Rattle.sg_check_statements.specs.declared.fault.CheckKind.{CheckKind}
 use Rattle.sg_check_statements.specs.declared.fault.CheckKind.TheVariants.{UnknownService, DuplicateName, UnknownFunction, BadParams, WrongFact, WrongFlag, WrongEffect, ForeignTransition, ForeignRecover, NoCreation, Unreached, NoWalk}
-use Rattle.sg_check_statements.specs.Faults.{FirstOf, IsAccepted, IsFault, IsFirst, NoneOf, interface_of, rank}
+use Rattle.sg_check_statements.specs.Faults.{FirstOf, IsAccepted, IsFault, IsFirstStatement, NoStatement, interface_of, kind_rank}
 use Rattle.sg_check_statements.proofs.Clear.{clear_more, each_statement}
 use Rattle.sg_check_statements.specs.Flaws.{HasNoWalk, IsProtoWhere, IsUnreached}
 use Rattle.sg_check_statements.specs.Says.{service_of}
@@ -67,18 +67,18 @@ module _ (facts : Facts) (shape : is_shape facts ≡ true) where
   few_fields = let l = limits.1 in grind (arith, nat_tests, l)
 
   -- what descriptors can come to was made by a function that is declared
-  pub made_small : (statements : List Statement) (t : Triple) → IsReached (interface_of facts statements) t → t.made ≤ 32
+  pub made_small : (statements : List Statement) (t : Triple) → IsReachedTriple (interface_of facts statements) t → t.made ≤ 32
   made_small statements t (set, number, reached) =
       let it = declared_one facts statements t.made (made_declared (interface_of facts statements) t.made t.state set reached) in
       let few = few_funs in
       omega (arith, it.1, it.2, few)
 
   -- so all that descriptors can come to is listed
-  pub all_triples : (statements : List Statement) (i : Declared) (triples : List Triple) → i ≡ interface_of facts statements → ((t : Triple) → Contains triples t → IsReached i t)
-      → ((t : Triple) → t.made ≤ 32 → IsReached i t → Contains triples t) → AreTriples i triples
+  pub all_triples : (statements : List Statement) (i : Declared) (triples : List Triple) → i ≡ interface_of facts statements → ((t : Triple) → Contains triples t → IsReachedTriple i t)
+      → ((t : Triple) → t.made ≤ 32 → IsReachedTriple i t → Contains triples t) → AreTriples i triples
   all_triples statements i triples is only all = record {
     only = only;
-    all = λ t reached. all t (made_small statements t (subst (λ j. IsReached j t) is reached)) reached;
+    all = λ t reached. all t (made_small statements t (subst (λ j. IsReachedTriple j t) is reached)) reached;
   }
 
 pub shape_funs : (s : Shape) → is_shape (facts_of s) ≡ true → length s.funs.now ≤ 32
@@ -100,13 +100,13 @@ told_fault services tree (Err (Fault f)) Good told none kind at is =
 
 module _ (services : List Facts) (tree : Tree) where
   -- what a stage answers
-  pub stage : (c : Candidate) (kind : CheckKind) (flaw : Option ℕ) → IsCandidate services tree c (rank kind)
+  pub stage : (c : Candidate) (kind : CheckKind) (flaw : Option ℕ) → IsCandidate services tree c (kind_rank kind)
       → MatchOption flaw ((at : ℕ) → FirstOf services tree kind at → ⊥) (FirstOf services tree kind) → (r : Result Candidate CheckError)
       → MatchResult r (λ d. (d ≡ c) × (flaw ≡ None)) (λ error. (at : ℕ) × (flaw ≡ Some at) × (error ≡ Fault (record { kind = kind; at = at })))
-      → MatchResult r (λ d. (d ≡ c) × IsCandidate services tree d (rank kind + 1)) (IsFirstFault services tree)
+      → MatchResult r (λ d. (d ≡ c) × IsCandidate services tree d (kind_rank kind + 1)) (IsFirstFault services tree)
   stage c kind flaw good told (Ok d) (same, none) = (
     same,
-    subst (λ x. IsCandidate services tree x (rank kind + 1)) (sym same) record {
+    subst (λ x. IsCandidate services tree x (kind_rank kind + 1)) (sym same) record {
       clear = clear_more services tree (facts_of c.shape) kind good.clear (subst (λ x. MatchOption x ((at : ℕ) → FirstOf services tree kind at → ⊥) (FirstOf services tree kind)) none told);
       shape = good.shape;
       declared = good.declared;
@@ -122,9 +122,9 @@ module _ (services : List Facts) (tree : Tree) where
 
   -- the first prototype in a set is the first flaw of a kind
   module _ (c : Candidate) (numbers : List ℕ) (flaw : Option ℕ) (own : List Statement) (lent : own ≡ tree.statements)
-      (found : MatchOption flaw (NoneOf (λ before s p. marked (facts_of c.shape) numbers s ≡ Some p) own) (IsFirst (λ before s p. marked (facts_of c.shape) numbers s ≡ Some p) own)) where
-    of_tree : MatchOption flaw (NoneOf (λ before s p. marked (facts_of c.shape) numbers s ≡ Some p) tree.statements) (IsFirst (λ before s p. marked (facts_of c.shape) numbers s ≡ Some p) tree.statements)
-    of_tree = subst (λ l. MatchOption flaw (NoneOf (λ before s p. marked (facts_of c.shape) numbers s ≡ Some p) l) (IsFirst (λ before s p. marked (facts_of c.shape) numbers s ≡ Some p) l)) lent found
+      (found : MatchOption flaw (NoStatement (λ before s p. marked (facts_of c.shape) numbers s ≡ Some p) own) (IsFirstStatement (λ before s p. marked (facts_of c.shape) numbers s ≡ Some p) own)) where
+    of_tree : MatchOption flaw (NoStatement (λ before s p. marked (facts_of c.shape) numbers s ≡ Some p) tree.statements) (IsFirstStatement (λ before s p. marked (facts_of c.shape) numbers s ≡ Some p) tree.statements)
+    of_tree = subst (λ l. MatchOption flaw (NoStatement (λ before s p. marked (facts_of c.shape) numbers s ≡ Some p) l) (IsFirstStatement (λ before s p. marked (facts_of c.shape) numbers s ≡ Some p) l)) lent found
 
     pub unreached_told : IsCandidate services tree c 10 → AreUnreached c.iface numbers → MatchOption flaw ((at : ℕ) → FirstOf services tree Unreached at → ⊥) (FirstOf services tree Unreached)
     unreached_told good are =
@@ -163,7 +163,7 @@ module _ (services : List Facts) (tree : Tree) where
     fields = few_fields (facts_of c.shape) good.shape;
   }
 
-  every_rank : (kind : CheckKind) → rank kind < 12
+  every_rank : (kind : CheckKind) → kind_rank kind < 12
   every_rank UnknownService = omega arith
   every_rank DuplicateName = omega arith
   every_rank UnknownFunction = omega arith

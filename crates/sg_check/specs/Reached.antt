@@ -4,14 +4,14 @@ use Rattle.std.specs.List.{Contains, list_any}
 use Rattle.sg_facts.specs.Fits.{IsReached, needs_reach}
 use Rattle.sg_facts.specs.Interface.{Declared}
 use Rattle.sg_reach.specs.declared.place.Triple.{Triple}
-use Rattle.sg_reach.specs.Places.{IsReached as IsTripleOf}
+use Rattle.sg_reach.specs.Places.{IsReachedTriple}
 use Rattle.sg_check_statements.specs.Flaws.{IsUnreached}
 use Rattle.sg_check.specs.Numbers.{has_number}
 
 -- these are all triples that descriptors can come to
 pub record AreTriples (i : Declared) (triples : List Triple) : Type 0 where
-  pub only : (t : Triple) → Contains triples t → IsTripleOf i t
-  pub all : (t : Triple) → IsTripleOf i t → Contains triples t
+  pub only : (t : Triple) → Contains triples t → IsReachedTriple i t
+  pub all : (t : Triple) → IsReachedTriple i t → Contains triples t
 
 -- these are the states of triples
 abbrev pub AreStates : List Triple → List ℕ → Type 0

@@ -22,9 +22,9 @@ abbrev pub TripleWalk : Declared → Triple → Type 0
 TripleWalk i t = (set : List Bool) × (number_of set ≡ t.mask) × HasWalk i t.made t.state set
 
 -- it is told of a triple whether some walk restores it
-abbrev pub IsTold : Declared → Triple → Bool → Type 0
-IsTold i t true = TripleWalk i t
-IsTold i t false =
+abbrev pub TellsWalk : Declared → Triple → Bool → Type 0
+TellsWalk i t true = TripleWalk i t
+TellsWalk i t false =
     (walk : List ℕ) (set : List Bool) → begin_of walk ≡ t.made → length walk ≤ most_calls → number_of set ≡ t.mask → restores i walk t.state set ≡ false
 
 -- of these triples it is known which have a walk

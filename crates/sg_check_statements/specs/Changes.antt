@@ -5,11 +5,11 @@ use Rattle.sg_check_statements.specs.declared.change.Change.{Change}
 use Rattle.sg_check_statements.specs.declared.change.Change.TheVariants.{Caller, Arg, MoreArg, Ret, MoreRet, Nothing, Less}
 
 -- the effect that a change is; the number of an argument isn't bounded
-abbrev pub effect_of : Change → Effect
-effect_of Caller = SetCaller
-effect_of (Arg k) = SetArg k
-effect_of (MoreArg k) = AddArg k
-effect_of Ret = SetRet
-effect_of MoreRet = AddRet
-effect_of Nothing = Clear
-effect_of Less = SubOne
+abbrev pub change_effect : Change → Effect
+change_effect Caller = SetCaller
+change_effect (Arg k) = SetArg k
+change_effect (MoreArg k) = AddArg k
+change_effect Ret = SetRet
+change_effect MoreRet = AddRet
+change_effect Nothing = Clear
+change_effect Less = SubOne

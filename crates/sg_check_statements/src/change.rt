@@ -1,7 +1,7 @@
 // What a text says is done to a field.
 ghost use Rattle.std.specs.Prelude.{◌≡◌};
 ghost use Rattle.sg_check_statements.specs.Effects.{same_effect};
-ghost use Rattle.sg_check_statements.specs.Changes.{effect_of};
+ghost use Rattle.sg_check_statements.specs.Changes.{change_effect};
 
 use sg_facts::Effect;
 
@@ -27,8 +27,8 @@ pub enum Change {
 impl Change {
     /// Whether this is an effect of the service.
     pub fn is(self, effect: Effect) -> bool
-        ensures same { result ≡ same_effect effect (effect_of self) }
-        ensures back { result ≡ same_effect (effect_of self) effect }
+        ensures same { result ≡ same_effect effect (change_effect self) }
+        ensures back { result ≡ same_effect (change_effect self) effect }
     {
         match (effect, self) {
             (Effect::SetCaller, Change::Caller) => true,

@@ -2,12 +2,12 @@
 ghost use Rattle.std.specs.Prelude.{◌≡◌, ◌+◌, ◌||◌, if◌then◌else◌, false, [], ◌∷◌, codes, Bool};
 ghost use Rattle.std.specs.List.{list_any, flat_map};
 ghost use Rattle.sg_check_statements.specs.Effects.{Named_effect, arg_effects, caller_effects, declared_effects, later_effects, ret_effects, statement_effects};
-ghost use Rattle.sg_check_statements.specs.Changes.{effect_of};
-ghost use Rattle.sg_check_statements.specs.Params.{is_word as has_word};
+ghost use Rattle.sg_check_statements.specs.Changes.{change_effect};
+ghost use Rattle.sg_check_statements.specs.Params.{has_word};
 ghost use Rattle.sg_facts.specs.declared.shape.Effect.TheVariants.{SetArg, AddArg};
 
 use crate::change::Change;
-use crate::params::is_word;
+use crate::params::has_word;
 use sg_grammar::{Param, Ret, Statement};
 
 /// A test of effects.
@@ -17,7 +17,7 @@ pub trait Test {
 
     /// Whether a change of the field of this name passes.
     fn has(&self, field: &[u8], change: Change) -> bool
-        ensures { result ≡ passes self.now (field.now, effect_of change) };
+        ensures { result ≡ passes self.now (field.now, change_effect change) };
 }
 
 /// A prototype, with the statements beside it.
@@ -62,7 +62,7 @@ fn any_by_params<T: Test>(test: &T, params: &[Param]) -> bool
 fn by_caller<T: Test>(test: &T, caller: &Param) -> bool
     ensures { result ≡ list_any (T.passes test.now) (caller_effects (caller.now ∷ [])) }
 {
-    is_word(&caller.form, b"desc_data") && test.has(caller.name.slice, Change::Caller)
+    has_word(&caller.form, b"desc_data") && test.has(caller.name.slice, Change::Caller)
 }
 
 // Whether one of later parameters does.
@@ -86,7 +86,7 @@ fn any_by_args<T: Test>(test: &T, params: &[Param]) -> bool
 fn is_desc(param: &Param) -> bool
     ensures { result ≡ (has_word param.now.form (codes "desc") || has_word param.now.form (codes "parent_desc")) }
 {
-    is_word(&param.form, b"desc") || is_word(&param.form, b"parent_desc")
+    has_word(&param.form, b"desc") || has_word(&param.form, b"parent_desc")
 }
 
 // Whether the effect of an argument does.
@@ -94,10 +94,10 @@ fn by_arg<T: Test>(test: &T, number: usize, param: &Param) -> bool
     ensures { result ≡ (if has_word param.now.form (codes "desc_data") then T.passes test.now (param.now.name.bytes, SetArg number)
         else (if has_word param.now.form (codes "desc_data_add") then T.passes test.now (param.now.name.bytes, AddArg number) else false)) }
 {
-    if is_word(&param.form, b"desc_data") {
+    if has_word(&param.form, b"desc_data") {
         test.has(param.name.slice, Change::Arg(number))
     } else {
-        is_word(&param.form, b"desc_data_add")
+        has_word(&param.form, b"desc_data_add")
             && test.has(param.name.slice, Change::MoreArg(number))
     }
 }

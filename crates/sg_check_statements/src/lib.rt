@@ -11,7 +11,7 @@
 //! - `pairs`: transitions and recover steps that the service hasn't
 //! - `unknown`: names without a prototype; `protos`: the prototypes (`Protos`), and one that is there twice; `names`: sets of
 //!   names
-//! - `says`: what statements say of functions (`says_of`); `funs`: functions by their names (`number_of`)
+//! - `says`: what statements say of functions (`says_of`); `funs`: functions by their names (`fun_number`)
 #![tactic(auto)]
 
 mod change;
@@ -29,12 +29,10 @@ mod protos;
 mod says;
 mod services;
 mod stages;
-#[cfg(test)]
-mod tests;
 mod unknown;
 
 pub use fault::{CheckError, CheckFault, CheckKind};
-pub use funs::number_of;
+pub use funs::fun_number;
 pub use judge::{Judge, first_flaw};
 pub use protos::Protos;
 pub use says::says_of;

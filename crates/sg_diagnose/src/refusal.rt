@@ -1,6 +1,6 @@
 // Why a text is refused.
 ghost use Rattle.std.specs.Prelude.{◌≡◌};
-ghost use Rattle.sg_diagnose.specs.Verdicts.{check_name, kind_name};
+ghost use Rattle.sg_diagnose.specs.Verdicts.{check_name, refusal_name};
 
 use sg_check_statements::CheckKind;
 
@@ -17,7 +17,7 @@ pub enum RefusalKind {
 
 // The name of a kind, as it is written.
 pub(crate) fn name_of(kind: RefusalKind) -> &'static str
-    ensures { result.now ≡ kind_name kind }
+    ensures { result.now ≡ refusal_name kind }
 {
     match kind {
         RefusalKind::Lex => "Lex",

@@ -9,7 +9,7 @@ use Rattle.std.proofs.lemmas.Option.{slice_get_within, get_or_from_slice_get}
 use Rattle.sg_facts.specs.Interface.{Declared, declares}
 use Rattle.sg_reach.specs.declared.place.Place.{Place}
 use Rattle.sg_reach.specs.declared.place.Triple.{Triple}
-use Rattle.sg_reach.specs.Places.{AddsTriples, IsPlace, IsReached}
+use Rattle.sg_reach.specs.Places.{AddsTriples, IsPlace, IsReachedTriple}
 use Rattle.sg_reach.proofs.Marks.{itself, only}
 use Rattle.sg_reach.proofs.Reaching.{made_declared, place_triple, triple_place}
 
@@ -62,20 +62,20 @@ triples_all made n places old new all adds = subst (λ l. AddsTriples made l old
 
 module _ (i : Declared) where
   -- function 0 is no creation
-  pub zero_none : (t : Triple) → t.made < 1 → IsReached i t → ⊥
+  pub zero_none : (t : Triple) → t.made < 1 → IsReachedTriple i t → ⊥
   zero_none t few (set, number, reached) =
       let none : t.made ≡ 0 = omega (arith, few) in
       let d : declares i 0 ≡ true = ap (λ n. declares i n) (sym none) ∙ made_declared i t.made t.state set reached in
       cc d
 
   module _ (made : ℕ) (places : List Place) (old new : List Triple) (adds : AddsTriples made places old new) (are : (p : Place) → Contains places p ↔ IsPlace i made p) where
-    pub only_more : ((t : Triple) → Contains old t → IsReached i t) → (t : Triple) → Contains new t → IsReached i t
+    pub only_more : ((t : Triple) → Contains old t → IsReachedTriple i t) → (t : Triple) → Contains new t → IsReachedTriple i t
     only_more before t has = elim (adds.only t has) [
       | inl first ↦ before t first
       | inr later ↦ place_triple i t (subst (λ m. IsPlace i m (place_in t)) (sym later.0) ((are (place_in t)).0 later.1))
     ]
 
-    pub all_more : ((t : Triple) → t.made < made → IsReached i t → Contains old t) → (t : Triple) → t.made < made + 1 → IsReached i t → Contains new t
+    pub all_more : ((t : Triple) → t.made < made → IsReachedTriple i t → Contains old t) → (t : Triple) → t.made < made + 1 → IsReachedTriple i t → Contains new t
     all_more before t few reached = elim (eqb_tells t.made made) [
       | inl (k, same) ↦
           let place : IsPlace i made (place_in t) = subst (λ m. IsPlace i m (place_in t)) same (triple_place i t reached) in

@@ -8,5 +8,5 @@ bits zero number = []
 bits (suc count) number = (number % 2 == 1) ∷ bits count (number / 2)
 
 -- the set of an interface's fields that has a number
-abbrev pub set_of : Declared → ℕ → List Bool
-set_of i number = bits (length i.facts.fields) number
+abbrev pub set_numbered : Declared → ℕ → List Bool
+set_numbered i number = bits (length i.facts.fields) number

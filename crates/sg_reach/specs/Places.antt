@@ -8,11 +8,11 @@ use Rattle.sg_facts.specs.Interface.{Declared, declares, moves_on}
 use Rattle.sg_facts.specs.Walks.{IsReachable, may_lead}
 use Rattle.sg_reach.specs.declared.place.Place.{Place}
 use Rattle.sg_reach.specs.declared.place.Triple.{Triple}
-use Rattle.sg_reach.specs.Bits.{bits, set_of}
+use Rattle.sg_reach.specs.Bits.{bits, set_numbered}
 
 -- a descriptor that a function made can be in a state with the set of fields that has a number
-abbrev pub IsReached : Declared → Triple → Type 0
-IsReached i t = (set : List Bool) × (number_of set ≡ t.mask) × IsReachable i t.made t.state set
+abbrev pub IsReachedTriple : Declared → Triple → Type 0
+IsReachedTriple i t = (set : List Bool) × (number_of set ≡ t.mask) × IsReachable i t.made t.state set
 
 -- effects lead from one set of so many fields to a place in a state
 abbrev pub IsLed : List (ℕ × Effect) → ℕ → ℕ → ℕ → Place → Type 0
@@ -20,7 +20,7 @@ IsLed effects count old state q =
     (q.state ≡ state) × (q.mask < 2 ^ count) × (may_lead effects 0 (bits count old) (bits count q.mask) ≡ true)
 
 -- a place that a creation leads to
-pub record Begins (i : Declared) (fun : ℕ) (q : Place) : Type 0 where
+pub record IsMadeAt (i : Declared) (fun : ℕ) (q : Place) : Type 0 where
   pub declared : declares i fun ≡ true
   pub creation : (fun_at i.facts.funs fun).creation ≡ true
   pub led : IsLed (fun_at i.facts.funs fun).effects (length i.facts.fields) 0 (state_after i.facts fun fun) q
@@ -60,12 +60,12 @@ pub record AddsJust (P : Place → Type 0) (old new : List Place) : Type 0 where
   pub only : (q : Place) → Contains new q → Contains old q ⊎ P q
 
 -- a place that one call leads to from another
-abbrev pub IsNext : Declared → Place → Place → Type 0
-IsNext i p q = (fun : ℕ) × LeadsBy i fun p q
+abbrev pub LeadsTo : Declared → Place → Place → Type 0
+LeadsTo i p q = (fun : ℕ) × LeadsBy i fun p q
 
 -- the places that descriptors which a function made can come to
 abbrev pub IsPlace : Declared → ℕ → Place → Type 0
-IsPlace i made p = (p.mask < 2 ^ length i.facts.fields) × IsReachable i made p.state (set_of i p.mask)
+IsPlace i made p = (p.mask < 2 ^ length i.facts.fields) × IsReachable i made p.state (set_numbered i p.mask)
 
 -- each is a place that descriptors which a function made can come to
 abbrev pub AreReached : Declared → ℕ → List Place → Type 0
@@ -73,7 +73,7 @@ AreReached i made places = (p : Place) → Contains places p → IsPlace i made 
 
 -- all that one call leads to from a place was found, whichever was found
 abbrev pub IsClosed : Declared → List Place → Type 0
-IsClosed i places = (p q : Place) → Contains places p → IsNext i p q → Contains places q
+IsClosed i places = (p q : Place) → Contains places p → LeadsTo i p q → Contains places q
 
 -- the triples of a function are those of the places, and the others are as before
 pub record AddsTriples (made : ℕ) (places : List Place) (old new : List Triple) : Type 0 where

@@ -4,5 +4,5 @@ use Rattle.std.specs.List.{Contains}
 use Rattle.sg_walk.specs.declared.ends.DeadEnd.{DeadEnd}
 
 -- one dead end more is known, and no other
-abbrev pub Gains : List DeadEnd → List DeadEnd → DeadEnd → Type 0
-Gains old new end = (other : DeadEnd) → Contains new other ↔ (Contains old other ⊎ (other ≡ end))
+abbrev pub GainsEnd : List DeadEnd → List DeadEnd → DeadEnd → Type 0
+GainsEnd old new end = (other : DeadEnd) → Contains new other ↔ (Contains old other ⊎ (other ≡ end))

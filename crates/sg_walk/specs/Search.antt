@@ -8,7 +8,7 @@ use Rattle.sg_walk.specs.declared.ends.DeadEnd.{DeadEnd}
 use Rattle.sg_walk.specs.Spots.{shown, leads, reaches}
 
 -- a walk goes on from another by so many functions that lead to what is sought, and none as many goes before them that does
-pub record GoesOn (i : Declared) (s : Place) (goal : Goal) (walk : List ℕ) (left : ℕ) (found : List ℕ) : Type 0 where
+pub record Extends (i : Declared) (s : Place) (goal : Goal) (walk : List ℕ) (left : ℕ) (found : List ℕ) : Type 0 where
   pub rest : List ℕ
   pub is : found ≡ walk ++ rest
   pub count : length rest ≡ left
@@ -16,7 +16,7 @@ pub record GoesOn (i : Declared) (s : Place) (goal : Goal) (walk : List ℕ) (le
   pub first : (other : List ℕ) → length other ≡ left → leads i s other goal ≡ true → no_later rest other ≡ true
 
 -- so, of those that go on by one function first
-pub record GoesOnBy (i : Declared) (s : Place) (goal : Goal) (walk : List ℕ) (left fun : ℕ) (found : List ℕ) : Type 0 where
+pub record ExtendsBy (i : Declared) (s : Place) (goal : Goal) (walk : List ℕ) (left fun : ℕ) (found : List ℕ) : Type 0 where
   pub rest : List ℕ
   pub is : found ≡ walk ++ fun ∷ rest
   pub count : length rest + 1 ≡ left
@@ -43,5 +43,5 @@ pub record IsLeast (i : Declared) (made : ℕ) (goal : Goal) (walk : List ℕ) :
   pub least : (other : List ℕ) → begin_of other ≡ made → reaches i other goal ≡ true → no_worse walk other ≡ true
 
 -- no walk of at most 8 calls that begins with a creation leads to what is sought
-abbrev pub IsUnreached : Declared → ℕ → Goal → Type 0
-IsUnreached i made goal = (walk : List ℕ) → begin_of walk ≡ made → length walk ≤ most_calls → reaches i walk goal ≡ false
+abbrev pub NoWalkLeads : Declared → ℕ → Goal → Type 0
+NoWalkLeads i made goal = (walk : List ℕ) → begin_of walk ≡ made → length walk ≤ most_calls → reaches i walk goal ≡ false

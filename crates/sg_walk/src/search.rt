@@ -3,7 +3,7 @@ ghost use Rattle.std.specs.Prelude.{◌≡◌, ◌+◌, ◌<◌, ◌≤◌, ℕ,
 ghost use Rattle.sg_walk.specs.Limits.{HasFewFields};
 ghost use Rattle.sg_walk.specs.Spots.{shown};
 ghost use Rattle.sg_walk.specs.StepSets.{SamePairs};
-ghost use Rattle.sg_walk.specs.Search.{GoesOn, GoesOnBy, LeadsNowhere, LeadsNowhereBy, AreDead};
+ghost use Rattle.sg_walk.specs.Search.{Extends, ExtendsBy, LeadsNowhere, LeadsNowhereBy, AreDead};
 
 use crate::ends::{DeadEnd, DeadEnds};
 use crate::spot::{Goal, Spot};
@@ -40,7 +40,7 @@ pub fn search(
     requires room { length walk + left ≤ 8 }
     requires dead { AreDead sought.now.iface.now sought.now.goal ends.old }
     ensures dead { OnOk result (AreDead sought.now.iface.now sought.now.goal ends.new) }
-    ensures found { IfOk result (λ found. IfSome found (GoesOn sought.now.iface.now (shown sought.now.iface.now spot) sought.now.goal walk left)) }
+    ensures found { IfOk result (λ found. IfSome found (Extends sought.now.iface.now (shown sought.now.iface.now spot) sought.now.goal walk left)) }
     ensures none { IfOk result (λ found. IfNone found (LeadsNowhere sought.now.iface.now (shown sought.now.iface.now spot) sought.now.goal left)) }
 {
     if left == 0 {
@@ -78,7 +78,7 @@ fn search_each(
     requires room { length walk + left ≤ 8 }
     requires dead { AreDead sought.now.iface.now sought.now.goal ends.old }
     ensures dead { OnOk result (AreDead sought.now.iface.now sought.now.goal ends.new) }
-    ensures found { IfOk result (λ found. IfSome found (GoesOn sought.now.iface.now (shown sought.now.iface.now spot) sought.now.goal walk left)) }
+    ensures found { IfOk result (λ found. IfSome found (Extends sought.now.iface.now (shown sought.now.iface.now spot) sought.now.goal walk left)) }
     ensures none { IfOk result (λ found. IfNone found (LeadsNowhere sought.now.iface.now (shown sought.now.iface.now spot) sought.now.goal left)) }
 {
     let iface = sought.iface;
@@ -107,7 +107,7 @@ fn search_by(
     requires room { length walk + left ≤ 8 }
     requires dead { AreDead sought.now.iface.now sought.now.goal ends.old }
     ensures dead { OnOk result (AreDead sought.now.iface.now sought.now.goal ends.new) }
-    ensures found { IfOk result (λ found. IfSome found (GoesOnBy sought.now.iface.now (shown sought.now.iface.now spot) sought.now.goal walk left fun)) }
+    ensures found { IfOk result (λ found. IfSome found (ExtendsBy sought.now.iface.now (shown sought.now.iface.now spot) sought.now.goal walk left fun)) }
     ensures none { IfOk result (λ found. IfNone found (LeadsNowhereBy sought.now.iface.now (shown sought.now.iface.now spot) sought.now.goal left fun)) }
 {
     let is_step = sought.steps.has(spot.state, fun);

@@ -1,27 +1,30 @@
-// Large services and long texts. They are checked in a moment; no proof speaks of time.
+// Large services and long texts. No proof speaks of time, nor of memory that there is.
 ghost use Rattle.std.specs.Prelude.{◌≡◌, true};
 ghost use Rattle.sg_facts.specs.Facts.{facts_of};
 ghost use Rattle.sg_check.specs.Shapes.{is_shape};
 
 use crate::answers::answer;
-use crate::shapes::lock_shape;
 use sg_check::CheckKind::NoWalk;
-use sg_facts::{Effect, FieldShape, FunShape, Kind, Leaves, Parents, Shape};
+use sg_check::check;
+use sg_facts::{Effect, FieldShape, FunShape, Kind, Leaves, Parents, Service, Shape};
+use sg_lock::LockService;
+use sg_parse::parse;
+use sg_stub::compile;
 use std::alloc::{AllocError, Global};
 use std::test::Fail;
 use test_interfaces::LOCK;
 
-// All pairs of a function and one of the functions 2 to 32.
+// All pairs of functions.
 macro_rules! pairs {
     ([$($done:tt)*]) => {
         [$($done)*]
     };
     ([$($done:tt)*] $f:tt $($rest:tt)*) => {
-        pairs!([$($done)* ($f, 2), ($f, 3), ($f, 4), ($f, 5), ($f, 6), ($f, 7), ($f, 8), ($f, 9), ($f, 10), ($f, 11), ($f, 12), ($f, 13), ($f, 14), ($f, 15), ($f, 16), ($f, 17), ($f, 18), ($f, 19), ($f, 20), ($f, 21), ($f, 22), ($f, 23), ($f, 24), ($f, 25), ($f, 26), ($f, 27), ($f, 28), ($f, 29), ($f, 30), ($f, 31), ($f, 32),] $($rest)*)
+        pairs!([$($done)* ($f, 1), ($f, 2), ($f, 3), ($f, 4), ($f, 5), ($f, 6), ($f, 7), ($f, 8), ($f, 9), ($f, 10), ($f, 11), ($f, 12), ($f, 13), ($f, 14), ($f, 15), ($f, 16), ($f, 17), ($f, 18), ($f, 19), ($f, 20), ($f, 21), ($f, 22), ($f, 23), ($f, 24), ($f, 25), ($f, 26), ($f, 27), ($f, 28), ($f, 29), ($f, 30), ($f, 31), ($f, 32),] $($rest)*)
     };
 }
 
-static PAIRS: [(u8, u8); 992] =
+static PAIRS: [(u8, u8); 1024] =
     pairs!([] 1 2 3 4 5 6 7 8 9 10 11 12 13 14 15 16 17 18 19 20 21 22 23 24 25 26 27 28 29 30 31 32);
 
 // A function that is called on a descriptor with a word.
@@ -139,6 +142,59 @@ static MARKING: [FunShape; 32] = [
     fun!(b"f32", &[]),
 ];
 
+// A function that makes a descriptor and sets all of its fields.
+macro_rules! setting {
+    ($name:expr) => {
+        FunShape {
+            name: $name,
+            kinds: &[Kind::Word, Kind::Word, Kind::Word, Kind::Word],
+            flags: FunShape::CREATION,
+            leaves: Leaves::Own,
+            effects: &[
+                (0, Effect::SetArg(0)),
+                (1, Effect::SetArg(1)),
+                (2, Effect::SetArg(2)),
+                (3, Effect::SetArg(3)),
+            ],
+        }
+    };
+}
+
+static SETTING: [FunShape; 32] = [
+    setting!(b"f01"),
+    setting!(b"f02"),
+    setting!(b"f03"),
+    setting!(b"f04"),
+    setting!(b"f05"),
+    setting!(b"f06"),
+    setting!(b"f07"),
+    setting!(b"f08"),
+    setting!(b"f09"),
+    setting!(b"f10"),
+    setting!(b"f11"),
+    setting!(b"f12"),
+    setting!(b"f13"),
+    setting!(b"f14"),
+    setting!(b"f15"),
+    setting!(b"f16"),
+    setting!(b"f17"),
+    setting!(b"f18"),
+    setting!(b"f19"),
+    setting!(b"f20"),
+    setting!(b"f21"),
+    setting!(b"f22"),
+    setting!(b"f23"),
+    setting!(b"f24"),
+    setting!(b"f25"),
+    setting!(b"f26"),
+    setting!(b"f27"),
+    setting!(b"f28"),
+    setting!(b"f29"),
+    setting!(b"f30"),
+    setting!(b"f31"),
+    setting!(b"f32"),
+];
+
 // A service of these fields and functions, all of which are joined by transitions and recover steps.
 macro_rules! joined {
     ($fields:expr, $funs:expr) => {
@@ -172,10 +228,18 @@ fn marking_shape() -> Shape
     joined!(&FIELDS, &MARKING)
 }
 
+// Of four fields, which each function sets, and each function makes descriptors.
+fn setting_shape() -> Shape
+    ensures { is_shape (facts_of result) ≡ true }
+{
+    joined!(&FIELDS, &SETTING)
+}
+
 const HEAD: &[u8] =
     b"service_global_info = { service = large, desc_has_parent = none, desc_close = refuse,\n\
-desc_is_global = true, desc_block = false, desc_has_data = true, resc_has_data = false };\n\
-sm_creation(f01);\n\
+desc_is_global = true, desc_block = false, desc_has_data = true, resc_has_data = false };\n";
+
+const CREATION: &[u8] = b"sm_creation(f01);\n\
 long f01(spdid_t s);\n";
 
 // Adds the prototypes of functions without effects.
@@ -226,6 +290,7 @@ fn large_text(
 ) -> Result<Vec<u8>, Fail> {
     let mut text = Vec::new(alloc);
     text.extend_from_slice(HEAD)?;
+    text.extend_from_slice(CREATION)?;
     text.extend_from_slice(first)?;
     add_protos(&mut text, others)?;
     let called = funs.get(1..).ok_or("no functions")?;
@@ -234,26 +299,33 @@ fn large_text(
     Ok(text)
 }
 
-#[test]
-fn plain_service(rt: HostRuntime) -> Result<(), Fail> {
-    let text = large_text(rt.alloc(), b"", &PLAIN[1..], &PLAIN)?;
-    assert_eq!(rt;
-        answer(rt.alloc(), text.as_slice(), &[plain_shape()])?,
-        None
-    );
-    Ok(())
-}
-
 const MARKS: &[u8] = b"int f02(spdid_t s, long desc(id), long desc_data(a));\n\
 int f03(spdid_t s, long desc(id), long desc_data(b));\n\
 desc_data_retval(int, a) f04(spdid_t s, long desc(id), long n);\n";
 
-#[test]
-fn marking_service(rt: HostRuntime) -> Result<(), Fail> {
-    let text = large_text(rt.alloc(), MARKS, &MARKING[4..], &MARKING)?;
-    let given = answer(rt.alloc(), text.as_slice(), &[marking_shape()])?;
-    assert_eq!(rt; given, Some((NoWalk, 7, 26)));
-    Ok(())
+// The text of the functions that set all fields, with their transitions and recover steps.
+fn setting_text(alloc: Global) -> Result<Vec<u8>, Fail> {
+    let mut text = Vec::new(alloc);
+    text.extend_from_slice(HEAD)?;
+    for fun in &SETTING {
+        text.extend_from_slice(b"sm_creation(")?;
+        text.extend_from_slice(fun.name)?;
+        text.extend_from_slice(b");\nlong ")?;
+        text.extend_from_slice(fun.name)?;
+        text.extend_from_slice(b"(spdid_t s, long desc_data(a), long desc_data(b), long desc_data(c), long desc_data(d));\n")?;
+    }
+    add_pairs(&mut text, b"sm_transition(", &SETTING, &SETTING)?;
+    add_pairs(&mut text, b"sm_recover(", &SETTING, &SETTING)?;
+    Ok(text)
+}
+
+// The number of lines of the tables of the widest interface: 32 creations, 32 states and 16 sets of fields.
+fn lines_of_the_widest(alloc: Global) -> Result<usize, Fail> {
+    let text = setting_text(alloc)?;
+    let tree = parse(alloc, text.as_slice())?;
+    let accepted = check(alloc, &tree, &[setting_shape()])?;
+    let tables = compile(alloc, &accepted)?;
+    Ok(tables.lines().len())
 }
 
 // Locks, with a transition again and again, as many as there is room for in so many bytes.
@@ -270,24 +342,21 @@ fn long_text(alloc: Global, bytes: usize) -> Result<Vec<u8>, AllocError> {
 // Whether such a text is accepted.
 fn is_accepted(alloc: Global, bytes: usize) -> Result<bool, Fail> {
     let text = long_text(alloc, bytes)?;
-    let given = answer(alloc, text.as_slice(), &[lock_shape()])?;
+    let given = answer(alloc, text.as_slice(), &[LockService::shape()])?;
     Ok(given.is_none())
 }
 
 #[test]
-fn text_of_16_kib(rt: HostRuntime) -> Result<(), Fail> {
-    assert!(rt; is_accepted(rt.alloc(), 16384)?);
-    Ok(())
-}
-
-#[test]
-fn text_of_32_kib(rt: HostRuntime) -> Result<(), Fail> {
-    assert!(rt; is_accepted(rt.alloc(), 32768)?);
-    Ok(())
-}
-
-#[test]
-fn text_of_64_kib(rt: HostRuntime) -> Result<(), Fail> {
-    assert!(rt; is_accepted(rt.alloc(), 65536)?);
+fn large_services_and_long_texts(rt: HostRuntime) -> Result<(), Fail> {
+    let alloc = rt.alloc();
+    let plain = large_text(alloc, b"", &PLAIN[1..], &PLAIN)?;
+    assert_eq!(rt; answer(alloc, plain.as_slice(), &[plain_shape()])?, None);
+    let marking = large_text(alloc, MARKS, &MARKING[4..], &MARKING)?;
+    let given = answer(alloc, marking.as_slice(), &[marking_shape()])?;
+    assert_eq!(rt; given, Some((NoWalk, 7, 26)));
+    assert_eq!(rt; lines_of_the_widest(alloc)?, 16_384);
+    for bytes in [16_384, 32_768, 65_536] {
+        assert!(rt; is_accepted(alloc, bytes)?, "of {bytes} bytes");
+    }
     Ok(())
 }

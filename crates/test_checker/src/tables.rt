@@ -1,16 +1,51 @@
-// The text of tables.
-use crate::standard::tables_of;
-use sg_print::print_tables;
+// The tables of the standard interfaces, and their text.
+use crate::shapes::standard_shapes;
+use sg_check::check;
+use sg_diagnose::{Verdict, compiled};
+use sg_facts::Tables;
+use sg_parse::parse;
+use sg_stub::compile;
 use std::alloc::Global;
+use std::process::Abort;
 use std::test::Fail;
 use test_interfaces::{EVENT, LOCK, MM, RAMFS, SCHED};
 
-// Whether the tables of a standard interface are printed so.
-fn prints(alloc: Global, text: &[u8], want: &[u8]) -> Result<bool, Fail> {
-    let tables = tables_of(alloc, text)?;
-    let printed = print_tables(alloc, &tables)?;
-    Ok(printed.as_slice() == want)
-}
+// A creation, a state, the number of a set of fields, and the walk.
+type Line = (u8, u8, u8, &'static [u8]);
+
+// A standard text, the lines of its tables, and their text.
+type Table = (&'static [u8], &'static [Line], &'static [u8]);
+
+static LOCK_LINES: [Line; 2] = [(1, 1, 0, &[1]), (1, 2, 1, &[1, 2])];
+
+static EVENT_LINES: [Line; 2] = [(1, 1, 0, &[1]), (1, 1, 1, &[1, 3])];
+
+static MM_LINES: [Line; 6] = [
+    (1, 1, 1, &[1]),
+    (1, 1, 3, &[1]),
+    (2, 2, 0, &[2]),
+    (2, 2, 1, &[2]),
+    (2, 2, 2, &[2]),
+    (2, 2, 3, &[2]),
+];
+
+static RAMFS_LINES: [Line; 4] = [
+    (1, 1, 0, &[1]),
+    (1, 1, 1, &[1]),
+    (1, 1, 2, &[1, 4]),
+    (1, 1, 3, &[1, 4]),
+];
+
+static SCHED_LINES: [Line; 8] = [
+    (1, 1, 0, &[1, 7]),
+    (1, 1, 1, &[1, 7]),
+    (1, 1, 2, &[1, 7]),
+    (1, 1, 3, &[1, 7]),
+    (1, 3, 0, &[1, 7, 3]),
+    (1, 3, 1, &[1, 7, 3]),
+    (1, 3, 2, &[1, 7, 3]),
+    (1, 3, 3, &[1, 7, 3]),
+];
 
 static LOCK_TEXT: &[u8] = b"service lock
 facts parent=none close=refuse global=true block=true desc_data=true resc_data=false
@@ -105,12 +140,70 @@ walk sched_create_thd sched_sleep rank : sched_create_thd sched_place sched_slee
 walk sched_create_thd sched_sleep prio,rank : sched_create_thd sched_place sched_sleep
 ";
 
+// Whether a line stands at a place of tables, from 0.
+fn stands_at(tables: &Tables, at: usize, line: Line) -> bool {
+    let (made, state, mask, walk) = line;
+    match tables.lines().get(at) {
+        Some(own) => {
+            own.made == made
+                && own.state == state
+                && own.mask == mask
+                && own.walk.as_slice() == walk
+        }
+        None => false,
+    }
+}
+
+// Whether its walk is found.
+fn is_found(tables: &Tables, line: Line) -> bool {
+    let (made, state, mask, walk) = line;
+    match tables.walk(made, state, mask) {
+        Some(found) => found.as_slice() == walk,
+        None => false,
+    }
+}
+
+// The tables of a text have just these lines, and each is found.
+fn has_lines(
+    rt: &impl Abort,
+    alloc: Global,
+    text: &[u8],
+    want: &'static [Line],
+) -> Result<(), Fail> {
+    let tree = parse(alloc, text)?;
+    let accepted = check(alloc, &tree, &standard_shapes())?;
+    let tables = compile(alloc, &accepted)?;
+    assert_eq!(rt; tables.lines().len(), want.len());
+    for (at, line) in want.iter().enumerate() {
+        assert!(rt; stands_at(&tables, at, *line));
+        assert!(rt; is_found(&tables, *line));
+    }
+    assert!(rt; tables.walk(0, 0, 0).is_none());
+    assert!(rt; tables.walk(1, 2, 2).is_none());
+    assert!(rt; tables.walk(255, 255, 255).is_none());
+    Ok(())
+}
+
+// Whether the tables of a text are printed so.
+fn prints(alloc: Global, text: &[u8], want: &[u8]) -> Result<bool, Fail> {
+    match compiled(alloc, text, &standard_shapes())? {
+        Verdict::Accepted(printed) => Ok(printed.as_slice() == want),
+        Verdict::Refused(_) => Ok(false),
+    }
+}
+
 #[test]
-fn text_of_the_standard_tables(rt: HostRuntime) -> Result<(), Fail> {
-    assert!(rt; prints(rt.alloc(), LOCK, LOCK_TEXT)?);
-    assert!(rt; prints(rt.alloc(), EVENT, EVENT_TEXT)?);
-    assert!(rt; prints(rt.alloc(), MM, MM_TEXT)?);
-    assert!(rt; prints(rt.alloc(), RAMFS, RAMFS_TEXT)?);
-    assert!(rt; prints(rt.alloc(), SCHED, SCHED_TEXT)?);
+fn tables_of_the_standard_interfaces(rt: HostRuntime) -> Result<(), Fail> {
+    let tables: [Table; 5] = [
+        (LOCK, &LOCK_LINES, LOCK_TEXT),
+        (EVENT, &EVENT_LINES, EVENT_TEXT),
+        (MM, &MM_LINES, MM_TEXT),
+        (RAMFS, &RAMFS_LINES, RAMFS_TEXT),
+        (SCHED, &SCHED_LINES, SCHED_TEXT),
+    ];
+    for (text, lines, printed) in tables {
+        has_lines(&rt, rt.alloc(), text, lines)?;
+        assert!(rt; prints(rt.alloc(), text, printed)?);
+    }
     Ok(())
 }

@@ -1,6 +1,6 @@
 -- One function fewer is left.
 use Rattle.std.proofs.Common.{length}
-use Rattle.sg_check_statements.proofs.funs.+number_from.Given as goal
+use Rattle.sg_check_statements.proofs.funs.+fun_number_from.Given as goal
 
 abbrev pub decreases-number_from : goal.decreases-number_from
 decreases-number_from l = length l.funs.now
