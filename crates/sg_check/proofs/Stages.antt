@@ -1,6 +1,6 @@
 -- The last kinds, one after the other.
 use Rattle.std.proofs.Common.{◌≡◌, ℕ, ◌+◌, ◌<◌, ◌≤◌, Bool, true, false, List, [], ◌∷◌, None, Some, Ok, Err, length, map, refl, sym, ◌∙◌, ap, subst, inl, inr, arith}
-use Rattle.std.specs.Prelude.{◌↔◌, if◌then◌else◌, nat_le, MatchOption}
+use Rattle.std.specs.Prelude.{◌↔◌, if◌then◌else◌, nat_le, MatchOption, OnOk}
 use Rattle.std.specs.declared.option.Option.{Option}
 use Rattle.std.specs.declared.result.Result.{Result}
 use Rattle.std.specs.List.{Contains, list_all}
@@ -98,25 +98,27 @@ told_fault services tree (Err (Fault f)) Good told none kind at is =
 
 -- ---- one kind after the other
 
+-- what is known is known where there is a value
+pub on_ok : {X E : Type 0} (P : Type 0) (r : Result X E) → P → OnOk r P
+on_ok P (Ok x) known = known
+on_ok P (Err e) known = tt
+
 module _ (services : List Facts) (tree : Tree) where
   -- what a stage answers
-  pub stage : (c : Candidate) (kind : CheckKind) (flaw : Option ℕ) → IsCandidate services tree c (kind_rank kind)
-      → MatchOption flaw ((at : ℕ) → FirstOf services tree kind at → ⊥) (FirstOf services tree kind) → (r : Result Candidate CheckError)
-      → MatchResult r (λ d. (d ≡ c) × (flaw ≡ None)) (λ error. (at : ℕ) × (flaw ≡ Some at) × (error ≡ Fault (record { kind = kind; at = at })))
-      → MatchResult r (λ d. (d ≡ c) × IsCandidate services tree d (kind_rank kind + 1)) (IsFirstFault services tree)
-  stage c kind flaw good told (Ok d) (same, none) = (
-    same,
-    subst (λ x. IsCandidate services tree x (kind_rank kind + 1)) (sym same) record {
-      clear = clear_more services tree (facts_of c.shape) kind good.clear (subst (λ x. MatchOption x ((at : ℕ) → FirstOf services tree kind at → ⊥) (FirstOf services tree kind)) none told);
-      shape = good.shape;
-      declared = good.declared;
-      triples = good.triples;
-    },
-  )
+  pub stage : {X : Type 0} (c : Candidate) (kind : CheckKind) (flaw : Option ℕ) → IsCandidate services tree c (kind_rank kind)
+      → MatchOption flaw ((at : ℕ) → FirstOf services tree kind at → ⊥) (FirstOf services tree kind) → (r : Result X CheckError)
+      → MatchResult r (λ x. flaw ≡ None) (λ error. (at : ℕ) × (flaw ≡ Some at) × (error ≡ Fault (record { kind = kind; at = at })))
+      → MatchResult r (λ x. IsCandidate services tree c (kind_rank kind + 1)) (IsFirstFault services tree)
+  stage c kind flaw good told (Ok x) none = record {
+    clear = clear_more services tree (facts_of c.shape) kind good.clear (subst (λ o. MatchOption o ((at : ℕ) → FirstOf services tree kind at → ⊥) (FirstOf services tree kind)) none told);
+    shape = good.shape;
+    declared = good.declared;
+    triples = good.triples;
+  }
   stage c kind flaw good told (Err error) (at, some, is) =
       subst (IsFirstFault services tree) (sym is)
       record {
-        here = subst (λ x. MatchOption x ((at : ℕ) → FirstOf services tree kind at → ⊥) (FirstOf services tree kind)) some told;
+        here = subst (λ o. MatchOption o ((at : ℕ) → FirstOf services tree kind at → ⊥) (FirstOf services tree kind)) some told;
         earliest = good.clear.none;
       }
 
@@ -138,19 +140,6 @@ module _ (services : List Facts) (tree : Tree) where
         each_statement services tree (λ all f before s p. IsProtoWhere f (HasNoWalk (interface_of f all)) s p) (facts_of c.shape) flaw good.clear.service tree.statements refl
         (first_where (facts_of c.shape) numbers (HasNoWalk (interface_of (facts_of c.shape) tree.statements))
         (λ n within. subst (λ i. (has_number numbers n ≡ true) ↔ HasNoWalk i n) good.declared (stuck_same c.iface numbers are n)) flaw tree.statements of_tree)
-
-  -- and what is known then
-  pub and_known : (c : Candidate) (kinds : ℕ) (Known : Declared → Type 0) (r : Result Candidate CheckError) → Known c.iface
-      → MatchResult r (λ d. (d ≡ c) × IsCandidate services tree d kinds) (IsFirstFault services tree)
-      → MatchResult r (λ d. IsCandidate services tree d kinds × Known d.iface) (IsFirstFault services tree)
-  and_known c kinds Known (Ok d) known (same, good) = (good, subst (λ x. Known x.iface) (sym same) known)
-  and_known c kinds Known (Err error) known told = told
-
-  pub both_known : (c : Candidate) (kinds : ℕ) (Known Other : Declared → Type 0) (r : Result Candidate CheckError) → Known c.iface → Other c.iface
-      → MatchResult r (λ d. (d ≡ c) × IsCandidate services tree d kinds) (IsFirstFault services tree)
-      → MatchResult r (λ d. IsCandidate services tree d kinds × Known d.iface × Other d.iface) (IsFirstFault services tree)
-  both_known c kinds Known Other (Ok d) known other (same, good) = (good, subst (λ x. Known x.iface) (sym same) known, subst (λ x. Other x.iface) (sym same) other)
-  both_known c kinds Known Other (Err error) known other told = told
 
   -- an interface in which nothing is wrong fits
   pub candidate_fits : (c : Candidate) → IsCandidate services tree c 12 → HasReach c.iface → HasWalks c.iface → Fits c.iface

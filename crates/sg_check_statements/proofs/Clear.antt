@@ -1,12 +1,11 @@
 -- One kind after the other.
-use Rattle.std.proofs.Common.{◌≡◌, ℕ, ◌+◌, ◌==◌, if◌then◌else◌, List, None, Some, Ok, Err, Bor, refl, sym, ◌∙◌, ap, subst, inl, inr, arith}
+use Rattle.std.proofs.Common.{◌≡◌, ℕ, ◌+◌, ◌==◌, if◌then◌else◌, List, None, Some, Ok, Err, refl, sym, ◌∙◌, ap, subst, inl, inr, arith}
 use Rattle.std.proofs.Math.Nat.{eq-or-lt_of_le}
 use Rattle.std.specs.declared.option.Option.{Option}
 use Rattle.std.specs.declared.result.Result.{Result}
 use Rattle.std.specs.Prelude.{MatchOption}
 use Rattle.std.specs.Result.{MatchResult}
-use Rattle.sg_facts.specs.declared.shape.Shape.{Shape}
-use Rattle.sg_facts.specs.Facts.{Facts, facts_of}
+use Rattle.sg_facts.specs.Facts.{Facts}
 use Rattle.sg_grammar.specs.declared.tree.Statement.{Statement}
 use Rattle.sg_grammar.specs.declared.tree.Tree.{Tree}
 use Rattle.sg_check_statements.specs.declared.fault.CheckError.{CheckError}
@@ -58,17 +57,16 @@ module _ (services : List Facts) (tree : Tree) where
   }
 
   -- what a stage answers
-  pub stage : (shape : Shape) (kind : CheckKind) (flaw : Option ℕ) → IsClear services tree (facts_of shape) (kind_rank kind)
-      → MatchOption flaw ((at : ℕ) → FirstOf services tree kind at → ⊥) (FirstOf services tree kind) → (r : Result (Bor Shape) CheckError)
-      → MatchResult r (λ s. (s.now ≡ shape) × (flaw ≡ None)) (λ error. (at : ℕ) × (flaw ≡ Some at) × (error ≡ Fault (record { kind = kind; at = at })))
-      → MatchResult r (λ s. IsClear services tree (facts_of s.now) (kind_rank kind + 1)) (IsFirstFault services tree)
-  stage shape kind flaw clear told (Ok s) (same, none) =
-      subst (λ x. IsClear services tree (facts_of x) (kind_rank kind + 1)) (sym same)
-      (clear_more (facts_of shape) kind clear (subst (λ x. MatchOption x ((at : ℕ) → FirstOf services tree kind at → ⊥) (FirstOf services tree kind)) none told))
-  stage shape kind flaw clear told (Err error) (at, some, is) =
+  pub stage : {X : Type 0} (facts : Facts) (kind : CheckKind) (flaw : Option ℕ) → IsClear services tree facts (kind_rank kind)
+      → MatchOption flaw ((at : ℕ) → FirstOf services tree kind at → ⊥) (FirstOf services tree kind) → (r : Result X CheckError)
+      → MatchResult r (λ x. flaw ≡ None) (λ error. (at : ℕ) × (flaw ≡ Some at) × (error ≡ Fault (record { kind = kind; at = at })))
+      → MatchResult r (λ x. IsClear services tree facts (kind_rank kind + 1)) (IsFirstFault services tree)
+  stage facts kind flaw clear told (Ok x) none =
+      clear_more facts kind clear (subst (λ o. MatchOption o ((at : ℕ) → FirstOf services tree kind at → ⊥) (FirstOf services tree kind)) none told)
+  stage facts kind flaw clear told (Err error) (at, some, is) =
       subst (IsFirstFault services tree) (sym is)
       record {
-        here = subst (λ x. MatchOption x ((at : ℕ) → FirstOf services tree kind at → ⊥) (FirstOf services tree kind)) some told;
+        here = subst (λ o. MatchOption o ((at : ℕ) → FirstOf services tree kind at → ⊥) (FirstOf services tree kind)) some told;
         earliest = clear.none;
       }
 

@@ -1,8 +1,8 @@
-//! What can be wrong with the text of an interface, up to whether it makes a descriptor at all: the first ten kinds of flaws,
+//! What can be wrong with the text of an interface, up to whether it makes a descriptor at all: the first ten kinds of faults,
 //! one after the other.
 //!
 //! - `fault`: what is wrong with an interface, and where (`CheckKind`, `CheckFault`, `CheckError`)
-//! - `stages`: the kinds in their order (`fit_one_by_one`)
+//! - `stages`: the kinds in their order (`fit_one_by_one`); an error where a fault of a kind is there (`unless`)
 //! - `judge`: what can be wrong with a statement by itself (`Judge`), and the first that is (`first_flaw`)
 //! - `services`: the service of a name; that a text makes no descriptor
 //! - `params`, `flags`: prototypes whose parameters, or whose flags and states, are declared otherwise
@@ -36,4 +36,4 @@ pub use funs::fun_number;
 pub use judge::{Judge, first_flaw};
 pub use protos::Protos;
 pub use says::says_of;
-pub use stages::fit_one_by_one;
+pub use stages::{fit_one_by_one, unless};
