@@ -11,8 +11,8 @@ use Rattle.sg_facts.specs.Interface.{Declared, has_pair}
 use Rattle.sg_facts.specs.Walks.{IsReachable}
 use Rattle.sg_reach.specs.declared.place.Triple.{Triple}
 use Rattle.sg_check_statements.specs.Flaws.{IsUnreached}
-use Rattle.sg_check.specs.Numbers.{GainsNumber, has_number}
-use Rattle.sg_check.specs.Reached.{AreStates, AreTriples, AreUnreached, is_reached, is_unreached}
+use Rattle.sg_check.specs.Inside.Numbers.{GainsNumber, has_number}
+use Rattle.sg_check.specs.Inside.Reached.{AreStates, AreTriples, AreUnreached, is_reached, is_unreached}
 
 pub or_cases : (a b : Bool) → (a || b) ≡ true → (a ≡ true) ⊎ (b ≡ true)
 or_cases true b is = inl refl

@@ -1,7 +1,7 @@
 -- A set to which a number comes.
 use Rattle.std.proofs.Common.{◌≡◌, ℕ, Bool, true, false, ◌||◌, List, refl, ◌∙◌, ap}
 use Rattle.std.specs.Prelude.{◌==◌, if◌then◌else◌}
-use Rattle.sg_check.specs.Numbers.{GainsNumber, has_number}
+use Rattle.sg_check.specs.Inside.Numbers.{GainsNumber, has_number}
 
 either : (b x : Bool) → (if b then true else x) ≡ (x || b)
 either true true = refl

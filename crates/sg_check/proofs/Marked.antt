@@ -9,7 +9,7 @@ use Rattle.sg_grammar.specs.declared.tree.Statement.TheVariants.{One, Two, Proto
 use Rattle.sg_check_statements.specs.Faults.{IsFirstStatement, NoStatement}
 use Rattle.sg_check_statements.specs.Flaws.{IsProtoWhere, place_if}
 use Rattle.sg_check_statements.specs.Says.{fun_number_from, fun_number}
-use Rattle.sg_check.specs.Numbers.{has_number, marked}
+use Rattle.sg_check.specs.Inside.Numbers.{has_number, marked}
 
 -- the number of a function is at most that of the last
 by_name : (b : Bool) (k m n : ℕ) (rest : Option ℕ) → (if b then Some k else rest) ≡ Some n → (rest ≡ Some n → n < suc k + m) → n < k + suc m

@@ -18,10 +18,10 @@ use Rattle.sg_reach.proofs.Closure.{there}
 use Rattle.sg_reach.proofs.Marks.{itself, only}
 use Rattle.sg_reach.proofs.Sets.{length-led}
 use Rattle.sg_check_statements.specs.Flaws.{HasNoWalk}
-use Rattle.sg_check.specs.Candidates.{HasWalks}
-use Rattle.sg_check.specs.Numbers.{GainsNumber, has_number}
-use Rattle.sg_check.specs.Reached.{AreStates, AreTriples}
-use Rattle.sg_check.specs.Stuck.{AreStuck, HasSought, HasWalk, TellsWalk, TripleWalk}
+use Rattle.sg_check.specs.Inside.Candidates.{HasWalks}
+use Rattle.sg_check.specs.Inside.Numbers.{GainsNumber, has_number}
+use Rattle.sg_check.specs.Inside.Reached.{AreStates, AreTriples}
+use Rattle.sg_check.specs.Inside.Stuck.{AreStuck, HasSought, HasWalk, TellsWalk, TripleWalk}
 use Rattle.sg_check.proofs.Calls.{number_same, or_cases, or_left, or_right, same_number}
 
 -- a set keeps what it has, and gains the one

@@ -16,7 +16,7 @@ use Rattle.sg_facts.specs.Fits.{Fits}
 use Rattle.sg_grammar.specs.declared.tree.Statement.{Statement}
 use Rattle.sg_grammar.specs.declared.tree.Tree.{Tree}
 use Rattle.sg_reach.specs.declared.place.Triple.{Triple}
-use Rattle.sg_reach.specs.Places.{IsReachedTriple}
+use Rattle.sg_reach.specs.Triples.{IsReachedTriple}
 use Rattle.sg_reach.proofs.Reaching.{made_declared}
 use Rattle.sg_check_statements.specs.declared.fault.CheckError.{CheckError}
 use Rattle.sg_check_statements.specs.declared.fault.CheckError.TheVariants.{NoMemory, Fault}
@@ -29,10 +29,10 @@ use Rattle.sg_check_statements.specs.Says.{service_of}
 use Rattle.sg_check_statements.specs.Stages.{IsFirstFault}
 use Rattle.sg_check.specs.declared.candidate.Candidate.{Candidate}
 use Rattle.sg_check.specs.Answers.{IsThisFault}
-use Rattle.sg_check.specs.Candidates.{HasReach, HasWalks, IsCandidate}
-use Rattle.sg_check.specs.Numbers.{has_number, marked}
-use Rattle.sg_check.specs.Reached.{AreTriples, AreUnreached}
-use Rattle.sg_check.specs.Stuck.{AreStuck}
+use Rattle.sg_check.specs.Inside.Candidates.{HasReach, HasWalks, IsCandidate}
+use Rattle.sg_check.specs.Inside.Numbers.{has_number, marked}
+use Rattle.sg_check.specs.Inside.Reached.{AreTriples, AreUnreached}
+use Rattle.sg_check.specs.Inside.Stuck.{AreStuck}
 use Rattle.sg_check.specs.Shapes.{IsSmall, all_differ, are_funs, are_shapes, is_shape, leaves_fun}
 use Rattle.sg_check.proofs.Bits.{declared_one}
 use Rattle.sg_check.proofs.Fitting.{all_six, fits}

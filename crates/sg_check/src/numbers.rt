@@ -1,6 +1,6 @@
 // Sets of function numbers.
 ghost use Rattle.std.specs.Prelude.{◌≡◌, [], OnOk, OnErr};
-ghost use Rattle.sg_check.specs.Numbers.{GainsNumber, has_number};
+ghost use Rattle.sg_check.specs.Inside.Numbers.{GainsNumber, has_number};
 
 use sg_base::NoMemory;
 use std::alloc::Global;

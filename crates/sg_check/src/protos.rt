@@ -2,7 +2,7 @@
 ghost use Rattle.std.specs.Prelude.{◌≡◌, Some, MatchOption};
 ghost use Rattle.sg_facts.specs.Facts.{facts_of};
 ghost use Rattle.sg_check_statements.specs.Faults.{IsFirstStatement, NoStatement};
-ghost use Rattle.sg_check.specs.Numbers.{marked};
+ghost use Rattle.sg_check.specs.Inside.Numbers.{marked};
 
 use crate::numbers::Numbers;
 use sg_check_statements::{Judge, first_flaw, fun_number};

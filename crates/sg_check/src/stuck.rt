@@ -1,8 +1,8 @@
 // The states that have no walk.
 ghost use Rattle.std.specs.Prelude.{◌≡◌, ◌≤◌, length, IfOk};
 ghost use Rattle.sg_reach.specs.Limits.{HasFourFields};
-ghost use Rattle.sg_check.specs.Reached.{AreTriples};
-ghost use Rattle.sg_check.specs.Stuck.{AreStuck, TellsWalk};
+ghost use Rattle.sg_check.specs.Inside.Reached.{AreTriples};
+ghost use Rattle.sg_check.specs.Inside.Stuck.{AreStuck, TellsWalk};
 
 use crate::numbers::Numbers;
 use sg_base::NoMemory;

@@ -33,6 +33,7 @@ arg_effects k (p ∷ params) =
     else (if has_word p.form (codes "desc_data_add") then (p.name.bytes, AddArg k) ∷ arg_effects (k + 1) params
     else arg_effects (k + 1) params))
 
+-- by the parameters behind the first
 abbrev pub later_effects : List Param → List Named_effect
 later_effects [] = []
 later_effects (p ∷ params) = arg_effects 0 params
@@ -65,6 +66,7 @@ service_effects facts f = map (λ e. (field_name facts.fields e.0, e.1)) f.effec
 
 -- ---- whether these are the same
 
+-- whether two effects are one
 abbrev pub same_effect : Effect → Effect → Bool
 same_effect SetCaller SetCaller = true
 same_effect (SetArg j) (SetArg k) = j == k
@@ -75,6 +77,7 @@ same_effect Clear Clear = true
 same_effect SubOne SubOne = true
 same_effect _ _ = false
 
+-- whether an effect on a field of this name is among these
 abbrev pub has_effect : List Named_effect → Named_effect → Bool
 has_effect effects e = list_any (λ other. bytes_eq other.0 e.0 && same_effect other.1 e.1) effects
 

@@ -87,7 +87,7 @@ leaves_another f g (One word fun) = false
 leaves_another f g (Two word first second) = bytes_eq word.bytes (codes "sm_state") && bytes_eq first.bytes f && not (bytes_eq second.bytes g)
 leaves_another f g (Proto ret name params) = false
 
--- whether one names a state at all
+-- whether a statement names a state that a function leaves
 abbrev pub leaves_some : List ℕ → Statement → Bool
 leaves_some f (One word fun) = false
 leaves_some f (Two word first second) = bytes_eq word.bytes (codes "sm_state") && bytes_eq first.bytes f
@@ -130,6 +130,7 @@ wrong_effect facts statements (Proto ret name params) =
 
 -- ---- transitions and recover steps
 
+-- whether two functions, where both names are functions', are one of these pairs
 abbrev pub has_pair_at : List (ℕ × ℕ) → Option ℕ → Option ℕ → Bool
 has_pair_at pairs None g = false
 has_pair_at pairs (Some f) None = false

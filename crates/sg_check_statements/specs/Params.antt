@@ -32,6 +32,7 @@ is_of_kind p Parent = has_word p.form (codes "parent_desc") && (p.ty.stars == 0)
 is_of_kind p Word = not (has_word p.form (codes "desc")) && not (has_word p.form (codes "parent_desc")) && (p.ty.stars == 0)
 is_of_kind p Text = not (has_word p.form (codes "desc")) && not (has_word p.form (codes "parent_desc")) && not (p.ty.stars == 0)
 
+-- whether later parameters are of these kinds, one by one
 abbrev pub are_of_kinds : List Param → List Kind → Bool
 are_of_kinds [] [] = true
 are_of_kinds [] (k ∷ kinds) = false

@@ -25,13 +25,15 @@ is_two w f g (One word fun) = false
 is_two w f g (Two word first second) = bytes_eq word.bytes w && bytes_eq first.bytes f && bytes_eq second.bytes g
 is_two w f g (Proto ret name params) = false
 
--- whether some statement does
+-- whether some statement is a prototype of a function
 abbrev pub has_proto : List Statement → List ℕ → Bool
 has_proto statements f = list_any (is_proto f) statements
 
+-- whether some statement says a word of a function
 abbrev pub says : List Statement → List ℕ → List ℕ → Bool
 says statements w f = list_any (is_one w f) statements
 
+-- whether some statement says a word of a function and another name
 abbrev pub says_of : List Statement → List ℕ → List ℕ → List ℕ → Bool
 says_of statements w f g = list_any (is_two w f g) statements
 

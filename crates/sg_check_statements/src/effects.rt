@@ -5,7 +5,7 @@ ghost use Rattle.sg_check_statements.specs.Flaws.{wrong_effect};
 ghost use Rattle.std.specs.List.{list_any, list_all};
 ghost use Rattle.std.specs.Str.{bytes_eq};
 ghost use Rattle.sg_facts.specs.Facts.{facts_of, fun_of_shape};
-ghost use Rattle.sg_check_statements.specs.Changes.{change_effect};
+ghost use Rattle.sg_check_statements.specs.Inside.Changes.{change_effect};
 ghost use Rattle.sg_facts.specs.Words.{field_name};
 ghost use Rattle.sg_check_statements.specs.Effects.{declared_effects, has_effect, same_effect, same_effects, service_effects};
 

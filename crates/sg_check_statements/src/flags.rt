@@ -103,7 +103,7 @@ fn leaves_some(statements: &[Statement], fun: &[u8]) -> bool
     })
 }
 
-// Whether one names another state than this.
+// Whether a statement names a state, other than this, that a function leaves.
 fn leaves_another(statements: &[Statement], fun: &[u8], state: &[u8]) -> bool
     ensures { result ≡ list_any (leaves_another fun.now state.now) statements.now }
 {

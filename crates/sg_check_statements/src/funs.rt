@@ -22,7 +22,7 @@ pub fn fun_number(shape: &Shape, name: &[u8]) -> Option<usize>
     fun_number_from(1, shape.funs, name)
 }
 
-// The same, where the first of these functions has another number.
+// The number of the function of a name, where the first of these functions has this number.
 fn fun_number_from(first: usize, funs: &[FunShape], name: &[u8]) -> Option<usize>
     requires { first + length funs.now < 2 ^ 64 }
     ensures { result ≡ fun_number_from first (map fun_of_shape funs.now) name.now }

@@ -32,7 +32,7 @@ impl<'s, 'a> Model for Protos<'s, 'a> {
 }
 
 impl<'s, 'a> Protos<'s, 'a> {
-    /// Those of statements.
+    /// The functions that have a prototype among these statements.
     pub fn of(alloc: Global, statements: &'s [Statement<'a>]) -> Result<Protos<'s, 'a>, NoMemory>
         ensures { IfOk result (λ p. p ≡ statements.now) }
     {
@@ -84,7 +84,7 @@ pub fn duplicate_in(alloc: Global, statements: &[Statement]) -> Result<Option<us
     Ok(None)
 }
 
-// The place of a prototype of a function that is among these.
+// The place of a prototype of a function that has one before.
 fn second_in(names: &Names, statement: &Statement) -> Option<usize>
     ensures { (before : List One) → AreOf names.now before → result ≡ duplicate before statement.now }
 {

@@ -3,7 +3,8 @@ ghost use Rattle.std.specs.Prelude.{◌≡◌, ℕ, None, Some, map};
 ghost use Rattle.std.specs.Result.{MatchResult};
 ghost use Rattle.sg_facts.specs.Facts.{facts_of};
 ghost use Rattle.sg_check_statements.specs.declared.fault.CheckError.TheVariants.{Fault};
-ghost use Rattle.sg_check_statements.specs.Stages.{IsClear, IsFirstFault, IsStage};
+ghost use Rattle.sg_check_statements.specs.Inside.OneStage.{IsStage};
+ghost use Rattle.sg_check_statements.specs.Stages.{IsClear, IsFirstFault};
 
 use crate::effects::wrong_effect_in;
 use crate::fault::{CheckError, CheckFault, CheckKind};

@@ -50,7 +50,7 @@ fn bare(protos: &Protos, name: &Name) -> Option<usize>
     }
 }
 
-// The same of a second name, where a word says that it is a function's.
+// The place of a second name, where a word says that this is a function's, and the function has no prototype.
 fn bare_second(protos: &Protos, word: &[u8], name: &Name) -> Option<usize>
     ensures { result ≡ place_if (names_two word.now && not (has_proto protos.now name.now.bytes)) name.now.at }
 {

@@ -11,7 +11,7 @@ pub enum RefusalKind {
     Lex,
     /// The tokens can't go on so there, or the text ends there too early.
     Syntax,
-    /// It is a sentence, and its interface isn't accepted.
+    /// The text is a sentence, and its interface isn't accepted.
     Check(CheckKind),
 }
 

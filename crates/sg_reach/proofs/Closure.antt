@@ -7,8 +7,8 @@ use Rattle.std.proofs.lemmas.Option.{slice_get-get_or, slice_get_within, get_or_
 use Rattle.sg_facts.specs.Interface.{Declared}
 use Rattle.sg_facts.specs.Walks.{IsReachable, moved}
 use Rattle.sg_reach.specs.declared.place.Place.{Place}
-use Rattle.sg_reach.specs.Bits.{set_numbered}
-use Rattle.sg_reach.specs.Places.{AddsJust, AreReached, IsClosed, LeadsTo, IsPlace}
+use Rattle.sg_reach.specs.Inside.Bits.{set_numbered}
+use Rattle.sg_reach.specs.Inside.Places.{AddsJust, AreReached, IsClosed, LeadsTo, IsPlace}
 use Rattle.sg_reach.proofs.Adding.{adds_keeps}
 
 get_before : {X : Type 0} (xs ys : List X) (k : ℕ) → k < length xs → slice_get (xs ++ ys) k ≡ slice_get xs k

@@ -5,8 +5,8 @@ use Rattle.sg_facts.specs.Facts.{Fun, fun_at, left_by}
 use Rattle.sg_facts.specs.Interface.{Declared, declares, moves_on}
 use Rattle.sg_facts.specs.Walks.{may_lead}
 use Rattle.sg_reach.specs.declared.place.Place.{Place}
-use Rattle.sg_reach.specs.Bits.{bits}
-use Rattle.sg_reach.specs.Places.{AddsJust, AddsOnce, IsMadeAt, IsLed, LeadsBy}
+use Rattle.sg_reach.specs.Inside.Bits.{bits}
+use Rattle.sg_reach.specs.Inside.Places.{AddsJust, AddsOnce, IsMadeAt, IsLed, LeadsBy}
 use Rattle.sg_reach.proofs.Adding.{adds_none, adds_one, adds_same, adds_then}
 use Rattle.std.proofs.lemmas.Bool.Decides.{eqb_tells}
 

@@ -7,7 +7,7 @@ use Rattle.std.proofs.lemmas.List.{take_more}
 use Rattle.std.proofs.lemmas.List.Folds.{list_any-append}
 use Rattle.sg_facts.specs.Interface.{Declared, has_pair}
 use Rattle.sg_reach.specs.declared.place.Place.{Place}
-use Rattle.sg_reach.specs.Places.{AddsJust, LeadsTo, LeadsBy}
+use Rattle.sg_reach.specs.Inside.Places.{AddsJust, LeadsTo, LeadsBy}
 use Rattle.sg_reach.proofs.Adding.{adds_none, adds_same, adds_then}
 
 -- a place that one of some transitions leads to

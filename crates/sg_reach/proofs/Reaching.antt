@@ -7,8 +7,9 @@ use Rattle.sg_facts.specs.Interface.{Declared, declares}
 use Rattle.sg_facts.specs.Walks.{IsReachable, made, moved, may_lead, none_set}
 use Rattle.sg_reach.specs.declared.place.Place.{Place}
 use Rattle.sg_reach.specs.declared.place.Triple.{Triple}
-use Rattle.sg_reach.specs.Bits.{bits, set_numbered}
-use Rattle.sg_reach.specs.Places.{IsMadeAt, IsClosed, IsPlace, IsReachedTriple}
+use Rattle.sg_reach.specs.Inside.Bits.{bits, set_numbered}
+use Rattle.sg_reach.specs.Inside.Places.{IsMadeAt, IsClosed, IsPlace}
+use Rattle.sg_reach.specs.Triples.{IsReachedTriple}
 use Rattle.sg_reach.proofs.Sets.{bits-none, bits-number_of, length-led, number_of-bits, number_of-small}
 
 length-none : (fields : List Field) → length (none_set fields) ≡ length fields

@@ -5,7 +5,7 @@ ghost use Rattle.sg_facts.specs.Facts.{fun_at};
 ghost use Rattle.sg_facts.specs.Interface.{moves_on};
 ghost use Rattle.sg_reach.specs.Limits.{HasFourFields};
 ghost use Rattle.sg_reach.specs.declared.place.Place.{Place as OnePlace};
-ghost use Rattle.sg_reach.specs.Places.{AddsJust, AreReached, IsMadeAt, IsClosed, IsLed, LeadsTo, LeadsBy};
+ghost use Rattle.sg_reach.specs.Inside.Places.{AddsJust, AreReached, IsMadeAt, IsClosed, IsLed, LeadsTo, LeadsBy};
 
 use crate::effects::may_lead;
 use crate::found::Found;

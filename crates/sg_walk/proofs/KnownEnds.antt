@@ -10,7 +10,7 @@ use Rattle.std.proofs.lemmas.List.Elements.{Contains-append_right}
 use Rattle.sg_walk.specs.declared.spot.Mark.{Mark}
 use Rattle.sg_walk.specs.declared.spot.Mark.TheVariants.{Unset, Good, Unknown}
 use Rattle.sg_walk.specs.declared.ends.DeadEnd.{DeadEnd}
-use Rattle.sg_walk.specs.Ends.{GainsEnd}
+use Rattle.sg_walk.specs.Inside.Ends.{GainsEnd}
 use Rattle.sg_walk.specs.contracts.ends.DeadEndPartialEq.TheImpl.{eq-value}
 use Rattle.sg_walk.specs.contracts.spot.MarkPartialEq.TheImpl.{eq-value as mark-eq}
 

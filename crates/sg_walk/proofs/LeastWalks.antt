@@ -9,8 +9,8 @@ use Rattle.sg_facts.specs.Fields.{number_of}
 use Rattle.sg_facts.specs.Interface.{Declared}
 use Rattle.sg_facts.specs.Walks.{Spot as Place, spot_of, spot_from, may_begin, first_spot, restores, begin_of, no_later, no_worse, most_calls, IsWalkOf}
 use Rattle.sg_walk.specs.declared.spot.Goal.{Goal}
-use Rattle.sg_walk.specs.Spots.{is_goal_at, leads, reaches}
-use Rattle.sg_walk.specs.Search.{Extends, LeadsNowhere, IsLeast, NoWalkLeads}
+use Rattle.sg_walk.specs.Inside.Spots.{is_goal_at, leads, reaches}
+use Rattle.sg_walk.specs.Inside.Search.{Extends, LeadsNowhere, IsLeast, NoWalkLeads}
 use Rattle.sg_walk.proofs.Sets.{goal_restores, goal_reached}
 
 -- a walk leads to where its rest leads to from its creation

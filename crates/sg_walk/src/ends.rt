@@ -1,7 +1,7 @@
 // From where a search is known to find nothing.
 ghost use Rattle.std.specs.Prelude.{◌≡◌, ◌↔◌, [], IsTrue, OnOk, OnErr};
 ghost use Rattle.std.specs.List.{Contains};
-ghost use Rattle.sg_walk.specs.Ends.{GainsEnd};
+ghost use Rattle.sg_walk.specs.Inside.Ends.{GainsEnd};
 
 use crate::spot::Spot;
 use sg_base::NoMemory;

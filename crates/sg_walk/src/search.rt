@@ -1,9 +1,9 @@
 // The first walk of a given length.
 ghost use Rattle.std.specs.Prelude.{◌≡◌, ◌+◌, ◌<◌, ◌≤◌, ℕ, length, IfOk, IfSome, IfNone, OnOk};
 ghost use Rattle.sg_walk.specs.Limits.{HasFewFields};
-ghost use Rattle.sg_walk.specs.Spots.{shown};
-ghost use Rattle.sg_walk.specs.StepSets.{SamePairs};
-ghost use Rattle.sg_walk.specs.Search.{Extends, ExtendsBy, LeadsNowhere, LeadsNowhereBy, AreDead};
+ghost use Rattle.sg_walk.specs.Inside.Spots.{shown};
+ghost use Rattle.sg_walk.specs.Inside.StepSets.{SamePairs};
+ghost use Rattle.sg_walk.specs.Inside.Search.{Extends, ExtendsBy, LeadsNowhere, LeadsNowhereBy, AreDead};
 
 use crate::ends::{DeadEnd, DeadEnds};
 use crate::spot::{Goal, Spot};
@@ -63,7 +63,7 @@ pub fn search(
     }
 }
 
-// So, by each function in turn.
+// The first walk of the length, by each function in turn that may be called next.
 #[cycle(search)]
 fn search_each(
     sought: &Sought<'_>,
@@ -91,7 +91,7 @@ fn search_each(
     Ok(None)
 }
 
-// So, by one function first.
+// The first walk of the length that goes on by this function.
 #[cycle(search)]
 fn search_by(
     sought: &Sought<'_>,

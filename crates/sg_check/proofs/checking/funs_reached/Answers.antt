@@ -1,6 +1,6 @@
 -- One kind more is clear, or the first fault of that kind is the first of all.
 use Rattle.sg_check_statements.specs.declared.fault.CheckKind.TheVariants.{Unreached}
-use Rattle.sg_check.specs.Candidates.{HasReach}
+use Rattle.sg_check.specs.Inside.Candidates.{HasReach}
 use Rattle.sg_check.proofs.Stages.{on_ok, stage, unreached_told}
 use Rattle.sg_check.proofs.checking.funs_reached.Goals as goal
 

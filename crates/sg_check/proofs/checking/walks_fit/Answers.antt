@@ -1,6 +1,6 @@
 -- One kind more is clear, or the first fault of that kind is the first of all.
 use Rattle.sg_check_statements.specs.declared.fault.CheckKind.TheVariants.{NoWalk}
-use Rattle.sg_check.specs.Candidates.{HasWalks}
+use Rattle.sg_check.specs.Inside.Candidates.{HasWalks}
 use Rattle.sg_check.proofs.Seeking.{walks_known}
 use Rattle.sg_check.proofs.Stages.{on_ok, stage, stuck_told}
 use Rattle.sg_check.proofs.checking.walks_fit.Goals as goal

@@ -1,8 +1,8 @@
 -- Triple by triple.
 use Rattle.std.proofs.Common.{subst}
 use Rattle.std.proofs.lemmas.List.{take_all}
-use Rattle.sg_check.specs.Numbers.{GainsNumber}
-use Rattle.sg_check.specs.Reached.{AreStates}
+use Rattle.sg_check.specs.Inside.Numbers.{GainsNumber}
+use Rattle.sg_check.specs.Inside.Reached.{AreStates}
 use Rattle.sg_check.proofs.Seeking.{states_more}
 use Rattle.sg_check.proofs.reached.states_of.Goals as goal
 

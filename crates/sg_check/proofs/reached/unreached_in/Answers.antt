@@ -1,8 +1,8 @@
 -- Function by function.
 use Rattle.std.proofs.Common.{◌≡◌, ℕ, ◌+◌, ◌<◌, true, sym, ◌∙◌, subst}
 use Rattle.std.specs.Prelude.{◌↔◌}
-use Rattle.sg_check.specs.Numbers.{GainsNumber, has_number}
-use Rattle.sg_check.specs.Reached.{is_unreached}
+use Rattle.sg_check.specs.Inside.Numbers.{GainsNumber, has_number}
+use Rattle.sg_check.specs.Inside.Reached.{is_unreached}
 use Rattle.sg_check.proofs.Calls.{more_marked, more_passed, none_marked}
 use Rattle.sg_check.proofs.reached.unreached_in.Goals.{then-is_unreached+in_ok-add, else-is_unreached}
 use Rattle.sg_check.proofs.reached.unreached_in.Goals as goal

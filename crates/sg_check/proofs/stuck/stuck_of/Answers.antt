@@ -1,7 +1,7 @@
 -- Triple by triple.
 use Rattle.std.proofs.Common.{sym, ◌+◌, take, subst}
-use Rattle.sg_check.specs.Numbers.{GainsNumber}
-use Rattle.sg_check.specs.Stuck.{HasSought}
+use Rattle.sg_check.specs.Inside.Numbers.{GainsNumber}
+use Rattle.sg_check.specs.Inside.Stuck.{HasSought}
 use Rattle.sg_check.proofs.Seeking.{all_sought, sought_stuck, sought_walk}
 use Rattle.sg_check.proofs.stuck.stuck_of.Goals.{then-not-branch+in_ok-add, else-not-branch}
 use Rattle.sg_check.proofs.stuck.stuck_of.Goals as goal

@@ -1,7 +1,7 @@
 -- Over the effects of the shape.
 use Rattle.std.proofs.Common.{refl, sym, ◌∙◌}
 use Rattle.sg_facts.specs.Facts.{facts_of, fun_of_shape}
-use Rattle.sg_check_statements.specs.Changes.{change_effect}
+use Rattle.sg_check_statements.specs.Inside.Changes.{change_effect}
 use Rattle.sg_check_statements.proofs.Judged.{service_has}
 use Rattle.sg_check_statements.proofs.effects.has_effect.Goals as goal
 

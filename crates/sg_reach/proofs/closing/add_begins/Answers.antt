@@ -1,7 +1,7 @@
 -- Where a function is no declared creation, nothing begins by it.
 use Rattle.std.proofs.Common.{◌≡◌, true, false, ◌∙◌, sym, ap}
 use Rattle.sg_facts.specs.Facts.{fun_of_shape}
-use Rattle.sg_reach.specs.Places.{IsMadeAt}
+use Rattle.sg_reach.specs.Inside.Places.{IsMadeAt}
 use Rattle.sg_reach.proofs.Adding.{adds_none}
 use Rattle.sg_reach.proofs.Leading.{adds_begins}
 use Rattle.sg_reach.proofs.closing.add_begins.Goals as goal

@@ -1,7 +1,7 @@
 -- Place by place.
 use Rattle.std.proofs.Common.{◌≡◌, Some, sym}
 use Rattle.std.specs.Prelude.{slice_get}
-use Rattle.sg_reach.specs.Places.{LeadsTo}
+use Rattle.sg_reach.specs.Inside.Places.{LeadsTo}
 use Rattle.sg_reach.proofs.Adding.{adds_keeps}
 use Rattle.sg_reach.proofs.Closure.{closed_all, closed_more, ended, longer, reached_more}
 use Rattle.sg_reach.proofs.closing.close.Goals as goal

@@ -6,7 +6,7 @@ use Rattle.sg_facts.specs.Interface.{Declared}
 use Rattle.sg_facts.specs.Walks.{IsReachable, begin_of, most_calls, restores}
 use Rattle.sg_reach.specs.declared.place.Triple.{Triple}
 use Rattle.sg_check_statements.specs.Flaws.{HasNoWalk}
-use Rattle.sg_check.specs.Numbers.{has_number}
+use Rattle.sg_check.specs.Inside.Numbers.{has_number}
 
 -- some walk restores a state with a set of fields of what a function made
 abbrev pub HasWalk : Declared → ℕ → ℕ → List Bool → Type 0
@@ -21,7 +21,7 @@ pub record AreStuck (i : Declared) (states : List ℕ) : Type 0 where
 abbrev pub TripleWalk : Declared → Triple → Type 0
 TripleWalk i t = (set : List Bool) × (number_of set ≡ t.mask) × HasWalk i t.made t.state set
 
--- it is told of a triple whether some walk restores it
+-- whether some walk restores a triple, as a test tells it
 abbrev pub TellsWalk : Declared → Triple → Bool → Type 0
 TellsWalk i t true = TripleWalk i t
 TellsWalk i t false =

@@ -4,9 +4,9 @@ use Rattle.std.specs.List.{Contains, list_any}
 use Rattle.sg_facts.specs.Fits.{IsReached, needs_reach}
 use Rattle.sg_facts.specs.Interface.{Declared}
 use Rattle.sg_reach.specs.declared.place.Triple.{Triple}
-use Rattle.sg_reach.specs.Places.{IsReachedTriple}
+use Rattle.sg_reach.specs.Triples.{IsReachedTriple}
 use Rattle.sg_check_statements.specs.Flaws.{IsUnreached}
-use Rattle.sg_check.specs.Numbers.{has_number}
+use Rattle.sg_check.specs.Inside.Numbers.{has_number}
 
 -- these are all triples that descriptors can come to
 pub record AreTriples (i : Declared) (triples : List Triple) : Type 0 where
@@ -21,6 +21,7 @@ AreStates triples states = (state : ℕ) → (has_number states state ≡ true) 
 abbrev pub is_reached : Declared → List ℕ → ℕ → Bool
 is_reached i states fun = list_any (λ p. p.1 == fun) i.steps || list_any (λ p. (p.1 == fun) && has_number states p.0) i.moves
 
+-- whether a function is to be reached and isn't, where descriptors come to these states
 abbrev pub is_unreached : Declared → List ℕ → ℕ → Bool
 is_unreached i states fun = needs_reach i fun && not (is_reached i states fun)
 

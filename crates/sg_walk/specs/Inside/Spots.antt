@@ -8,6 +8,7 @@ use Rattle.sg_walk.specs.declared.spot.Mark.TheVariants.{Unset, Good, Unknown}
 use Rattle.sg_walk.specs.declared.spot.Spot.{Spot}
 use Rattle.sg_walk.specs.declared.spot.Goal.{Goal}
 
+-- what is known of a field by the mark of the code
 abbrev pub known_of : Mark → Known
 known_of Unset = unset
 known_of Good = good
@@ -30,6 +31,7 @@ restores_number (m ∷ marks) number = restores_field m (number % 2 == 1) && res
 abbrev pub is_goal : Place → Goal → Bool
 is_goal s goal = (s.state == goal.state) && restores_number s.marks goal.mask
 
+-- whether a walk has come to a spot where the sought state and fields are restored
 abbrev pub is_goal_at : Option Place → Goal → Bool
 is_goal_at None goal = false
 is_goal_at (Some s) goal = is_goal s goal

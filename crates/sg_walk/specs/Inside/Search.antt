@@ -5,7 +5,7 @@ use Rattle.sg_facts.specs.Interface.{Declared}
 use Rattle.sg_facts.specs.Walks.{Spot as Place, no_later, no_worse, begin_of, most_calls}
 use Rattle.sg_walk.specs.declared.spot.Goal.{Goal}
 use Rattle.sg_walk.specs.declared.ends.DeadEnd.{DeadEnd}
-use Rattle.sg_walk.specs.Spots.{shown, leads, reaches}
+use Rattle.sg_walk.specs.Inside.Spots.{shown, leads, reaches}
 
 -- a walk goes on from another by so many functions that lead to what is sought, and none as many goes before them that does
 pub record Extends (i : Declared) (s : Place) (goal : Goal) (walk : List ℕ) (left : ℕ) (found : List ℕ) : Type 0 where
@@ -15,7 +15,7 @@ pub record Extends (i : Declared) (s : Place) (goal : Goal) (walk : List ℕ) (l
   pub arrives : leads i s rest goal ≡ true
   pub first : (other : List ℕ) → length other ≡ left → leads i s other goal ≡ true → no_later rest other ≡ true
 
--- so, of those that go on by one function first
+-- a walk goes on from another by this function first, and is the first that leads to what is sought of those as long that do
 pub record ExtendsBy (i : Declared) (s : Place) (goal : Goal) (walk : List ℕ) (left fun : ℕ) (found : List ℕ) : Type 0 where
   pub rest : List ℕ
   pub is : found ≡ walk ++ fun ∷ rest
@@ -27,7 +27,7 @@ pub record ExtendsBy (i : Declared) (s : Place) (goal : Goal) (walk : List ℕ) 
 abbrev pub LeadsNowhere : Declared → Place → Goal → ℕ → Type 0
 LeadsNowhere i s goal left = (walk : List ℕ) → length walk ≡ left → leads i s walk goal ≡ false
 
--- nor do so many of which this one is the first
+-- no functions, so many of them, of which this one is the first, lead to what is sought
 abbrev pub LeadsNowhereBy : Declared → Place → Goal → ℕ → ℕ → Type 0
 LeadsNowhereBy i s goal left fun = (walk : List ℕ) → length walk + 1 ≡ left → leads i s (fun ∷ walk) goal ≡ false
 

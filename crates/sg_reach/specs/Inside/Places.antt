@@ -3,16 +3,12 @@ use Rattle.std.specs.Prelude.{ℕ, suc, ◌≡◌, ◌+◌, ◌*◌, ◌^◌, �
 use Rattle.std.specs.List.{Contains, slice_index_or}
 use Rattle.sg_facts.specs.declared.shape.Effect.{Effect}
 use Rattle.sg_facts.specs.Facts.{fun_at, state_after}
-use Rattle.sg_facts.specs.Fields.{number_of}
 use Rattle.sg_facts.specs.Interface.{Declared, declares, moves_on}
 use Rattle.sg_facts.specs.Walks.{IsReachable, may_lead}
 use Rattle.sg_reach.specs.declared.place.Place.{Place}
 use Rattle.sg_reach.specs.declared.place.Triple.{Triple}
-use Rattle.sg_reach.specs.Bits.{bits, set_numbered}
-
--- a descriptor that a function made can be in a state with the set of fields that has a number
-abbrev pub IsReachedTriple : Declared → Triple → Type 0
-IsReachedTriple i t = (set : List Bool) × (number_of set ≡ t.mask) × IsReachable i t.made t.state set
+use Rattle.sg_reach.specs.Triples.{AreDistinct}
+use Rattle.sg_reach.specs.Inside.Bits.{bits, set_numbered}
 
 -- effects lead from one set of so many fields to a place in a state
 abbrev pub IsLed : List (ℕ × Effect) → ℕ → ℕ → ℕ → Place → Type 0
@@ -47,6 +43,7 @@ pub record AreMarked (marks : List Bool) (places : List Place) : Type 0 where
   pub told : (p : Place) → p.state < 256 → p.mask < 16 → (slice_index_or marks (cell_of p) false ≡ true) ↔ Contains places p
   pub small : (p : Place) → Contains places p → (p.state < 256) × (p.mask < 16)
   pub count : unmarked marks + length places ≡ 4096
+  pub once : AreDistinct places
 
 -- a place was found already, or is found now and goes last
 abbrev pub AddsOnce : List Place → List Place → Place → Type 0
@@ -75,8 +72,10 @@ AreReached i made places = (p : Place) → Contains places p → IsPlace i made 
 abbrev pub IsClosed : Declared → List Place → Type 0
 IsClosed i places = (p q : Place) → Contains places p → LeadsTo i p q → Contains places q
 
--- the triples of a function are those of the places, and the others are as before
+-- the triples of a function are those of the places, and the others are as before; none stands twice, where all before are of
+-- functions before
 pub record AddsTriples (made : ℕ) (places : List Place) (old new : List Triple) : Type 0 where
   pub all : (p : Place) → Contains places p → Contains new (record { made = made; state = p.state; mask = p.mask })
   pub kept : (t : Triple) → Contains old t → Contains new t
   pub only : (t : Triple) → Contains new t → Contains old t ⊎ ((t.made ≡ made) × Contains places (record { state = t.state; mask = t.mask }))
+  pub once : ((t : Triple) → Contains old t → t.made < made) → AreDistinct old → AreDistinct places → AreDistinct new

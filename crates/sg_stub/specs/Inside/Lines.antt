@@ -11,7 +11,7 @@ use Rattle.sg_facts.specs.Walks.{IsReachable, IsWalkOf}
 abbrev pub IsGood : Declared → WalkLine → Type 0
 IsGood i line = (set : List Bool) × (number_of set ≡ line.mask) × IsReachable i line.made line.state set × IsWalkOf i line.walk line.made line.state set
 
--- it is that of a creation, a state and a set's number
+-- a good line is that of a creation, a state and a set's number
 pub record IsLineOf (i : Declared) (made state mask : ℕ) (line : WalkLine) : Type 0 where
   pub made_is : line.made ≡ made
   pub state_is : line.state ≡ state
