@@ -39,7 +39,7 @@ fn triples_that_descriptors_come_to(rt: HostRuntime) -> Result<(), Fail> {
         let found = reachable(rt.alloc(), &declared)?;
         assert_eq!(rt; found.len(), all.len());
         for (triple, of) in found.as_slice().iter().zip(all) {
-            assert!(rt; is_that(triple, of), "{triple:?} for {of:?}");
+            assert!(rt; is_that(triple, of));
         }
     }
     Ok(())
