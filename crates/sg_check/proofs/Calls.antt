@@ -11,8 +11,8 @@ use Rattle.sg_facts.specs.Interface.{Declared, has_pair}
 use Rattle.sg_facts.specs.Walks.{IsReachable}
 use Rattle.sg_reach.specs.declared.place.Triple.{Triple}
 use Rattle.sg_check_statements.specs.Flaws.{IsUnreached}
-use Rattle.sg_check.specs.Numbers.{Gains, has_number}
-use Rattle.sg_check.specs.Reached.{AreStates, AreTriples, AreUnreached, is_reached, is_unreached}
+use Rattle.sg_check.specs.Inside.Numbers.{GainsNumber, has_number}
+use Rattle.sg_check.specs.Inside.Reached.{AreStates, AreTriples, AreUnreached, is_reached, is_unreached}
 
 pub or_cases : (a b : Bool) → (a || b) ≡ true → (a ≡ true) ⊎ (b ≡ true)
 or_cases true b is = inl refl
@@ -137,7 +137,7 @@ module _ (i : Declared) (triples : List Triple) (states : List ℕ) (all : AreTr
 
 -- the functions that were looked at, and one more
 module _ (test : ℕ → Bool) (looked : ℕ) (old : List ℕ) (told : (fun : ℕ) → (has_number old fun ≡ true) ↔ ((fun < looked) × (test fun ≡ true))) where
-  pub more_marked : (new : List ℕ) → Gains old new looked → test looked ≡ true
+  pub more_marked : (new : List ℕ) → GainsNumber old new looked → test looked ≡ true
       → (fun : ℕ) → (has_number new fun ≡ true) ↔ ((fun < looked + 1) × (test fun ≡ true))
   more_marked new gains is fun = (
     λ has. elim (or_cases (has_number old fun) (looked == fun) (sym (gains fun) ∙ has)) [

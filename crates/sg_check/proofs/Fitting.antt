@@ -20,13 +20,13 @@ use Rattle.sg_grammar.specs.declared.tree.Statement.{Statement}
 use Rattle.sg_grammar.specs.declared.tree.Statement.TheVariants.{One, Two, Proto}
 use Rattle.sg_grammar.specs.declared.tree.Tree.{Tree}
 use Rattle.sg_check_statements.specs.declared.fault.CheckKind.TheVariants.{NoCreation, NoWalk, UnknownFunction, Unreached, WrongFlag}
-use Rattle.sg_check_statements.specs.Faults.{IsFirst, NoneOf, interface_of}
-use Rattle.sg_check_statements.specs.Flaws.{HasNoWalk, IsProtoWhere, IsUnreached, fit_flags, fit_leaves, flaw_if, fun_named, is_declared, leaves_another, names_two, or_else, unknown, wrong_flag}
+use Rattle.sg_check_statements.specs.Faults.{IsFirstStatement, NoStatement, interface_of}
+use Rattle.sg_check_statements.specs.Flaws.{HasNoWalk, IsProtoWhere, IsUnreached, fit_flags, fit_leaves, place_if, fun_of_name, is_declared, leaves_another, names_two, first_place, unknown, wrong_flag}
 use Rattle.sg_check_statements.specs.Names.{has_name}
-use Rattle.sg_check_statements.specs.Says.{has_proto, is_proto, is_two, number_from, number_of, says, says_of}
+use Rattle.sg_check_statements.specs.Says.{has_proto, is_proto, is_two, fun_number_from, fun_number, says, says_of}
 use Rattle.sg_check_statements.specs.Stages.{IsClear}
 use Rattle.sg_check_statements.proofs.Firsts.{none_at_all, none_more}
-use Rattle.sg_check.specs.Candidates.{HasReach, HasWalks}
+use Rattle.sg_check.specs.Inside.Candidates.{HasReach, HasWalks}
 use Rattle.sg_check.specs.Shapes.{all_differ, are_funs, is_fun, is_shape, leaves_fun}
 use Rattle.sg_check.proofs.Bits.{declared_one, one_declared}
 use Rattle.sg_check.proofs.Calls.{or_cases, or_right, same_number}
@@ -43,10 +43,10 @@ bytes_same xs ys is = (bytes_eq-Decides xs ys).1 is
 -- ---- statements with a flaw, where it can be told
 
 module _ (Flaw : List Statement → Statement → ℕ → Type 0) (tell : (before : List Statement) (one : Statement) → ((place : ℕ) → Flaw before one place → ⊥) ⊎ ((place : ℕ) × Flaw before one place)) where
-  from_here : (seen rest : List Statement) → NoneOf Flaw seen → NoneOf Flaw (seen ++ rest) ⊎ ((at : ℕ) × IsFirst Flaw (seen ++ rest) at)
-  from_here seen [] none = inl (subst (NoneOf Flaw) (sym (append-nil seen)) none)
+  from_here : (seen rest : List Statement) → NoStatement Flaw seen → NoStatement Flaw (seen ++ rest) ⊎ ((at : ℕ) × IsFirstStatement Flaw (seen ++ rest) at)
+  from_here seen [] none = inl (subst (NoStatement Flaw) (sym (append-nil seen)) none)
   from_here seen (x ∷ rest) none = elim (tell seen x) [
-    | inl sound ↦ subst (λ l. NoneOf Flaw l ⊎ ((at : ℕ) × IsFirst Flaw l at)) (append_assoc seen (x ∷ []) rest) (from_here (seen ++ x ∷ []) rest (none_more Flaw seen x none sound))
+    | inl sound ↦ subst (λ l. NoStatement Flaw l ⊎ ((at : ℕ) × IsFirstStatement Flaw l at)) (append_assoc seen (x ∷ []) rest) (from_here (seen ++ x ∷ []) rest (none_more Flaw seen x none sound))
     | inr found ↦ inr (
       found.0,
       record {
@@ -61,7 +61,7 @@ module _ (Flaw : List Statement → Statement → ℕ → Type 0) (tell : (befor
   ]
 
   -- where none is the first, there is none
-  none_from : (statements : List Statement) → ((at : ℕ) → IsFirst Flaw statements at → ⊥) → NoneOf Flaw statements
+  none_from : (statements : List Statement) → ((at : ℕ) → IsFirstStatement Flaw statements at → ⊥) → NoStatement Flaw statements
   none_from statements clear = elim (from_here [] statements (none_at_all Flaw)) [
     | inl none ↦ none
     | inr first ↦ absurd (clear first.0 first.1)
@@ -75,7 +75,7 @@ tell_proto : (facts : Facts) (P : ℕ → Type 0) → ((n : ℕ) → P n ⊎ (P 
     → ((place : ℕ) → IsProtoWhere facts P one place → ⊥) ⊎ ((place : ℕ) × IsProtoWhere facts P one place)
 tell_proto facts P known (One word fun) = inl (λ place is. is)
 tell_proto facts P known (Two word first second) = inl (λ place is. is)
-tell_proto facts P known (Proto ret name params) = elim (known (unwrap_or (number_of facts.funs name.bytes) 0)) [
+tell_proto facts P known (Proto ret name params) = elim (known (unwrap_or (fun_number facts.funs name.bytes) 0)) [
   | inl is ↦ inr (name.at, (refl, is))
   | inr isn't ↦ inl (λ place (at, is). isn't is)
 ]
@@ -99,11 +99,11 @@ has_at (f ∷ funs) zero name within is = ap (λ b. b || has_name (map (λ g. g.
 has_at (f ∷ funs) (suc n) name within is = or_right (bytes_eq f.name name) (has_name (map (λ g. g.name) funs) name) (has_at funs n name (omega (arith, within)) is)
 
 -- a function is found by its name
-own_number : (funs : List Fun) (n k : ℕ) → all_differ (map (λ f. f.name) funs) ≡ true → n < length funs → number_from k funs (fun_at funs (suc n)).name ≡ Some (k + n)
+own_number : (funs : List Fun) (n k : ℕ) → all_differ (map (λ f. f.name) funs) ≡ true → n < length funs → fun_number_from k funs (fun_at funs (suc n)).name ≡ Some (k + n)
 own_number [] n k differ within = absurd (omega (arith, within))
 own_number (f ∷ funs) zero k differ within =
     let none : k + 0 ≡ k = omega arith in
-    ap (λ b. if b then Some k else number_from (k + 1) funs f.name) (bytes_same f.name f.name refl) ∙ ap Some (sym none)
+    ap (λ b. if b then Some k else fun_number_from (k + 1) funs f.name) (bytes_same f.name f.name refl) ∙ ap Some (sym none)
 own_number (f ∷ funs) (suc n) k differ within =
     let name : List ℕ = (fun_at funs (suc n)).name in
     let parts = and_parts (not (has_name (map (λ g. g.name) funs) f.name)) (all_differ (map (λ g. g.name) funs)) differ in
@@ -114,7 +114,7 @@ own_number (f ∷ funs) (suc n) k differ within =
           let no : not true ≡ true = ap not (sym there) ∙ parts.0 in absurd (cc no)
       | inr isn't ↦ isn't
     ] in
-    ap (λ b. if b then Some k else number_from (k + 1) funs name) other ∙ own_number funs n (k + 1) parts.1 (omega (arith, within)) ∙ ap Some next
+    ap (λ b. if b then Some k else fun_number_from (k + 1) funs name) other ∙ own_number funs n (k + 1) parts.1 (omega (arith, within)) ∙ ap Some next
 
 -- a function that is found by a test
 found_fun : (p : Fun → Bool) (funs : List Fun) → list_any p funs ≡ true → (n : ℕ) × (n < length funs) × (p (fun_at funs (suc n)) ≡ true)
@@ -168,11 +168,11 @@ within_number count (suc m) is =
     let few : suc m ≤ count = grind (arith, nat_tests, (and_parts (nat_le 1 (suc m)) (nat_le (suc m) count) is).1) in
     (m, refl, omega (arith, few))
 
-no_place : (b : Bool) (at : ℕ) → ((place : ℕ) → flaw_if (not b) at ≡ Some place → ⊥) → b ≡ true
+no_place : (b : Bool) (at : ℕ) → ((place : ℕ) → place_if (not b) at ≡ Some place → ⊥) → b ≡ true
 no_place true at none = refl
 no_place false at none = absurd (none at refl)
 
-two_places : (a b c : Bool) (here there : ℕ) → ((place : ℕ) → or_else (flaw_if (not a) here) (flaw_if (b && not c) there) ≡ Some place → ⊥) → b ≡ true → (a ≡ true) × (c ≡ true)
+two_places : (a b c : Bool) (here there : ℕ) → ((place : ℕ) → first_place (place_if (not a) here) (place_if (b && not c) there) ≡ Some place → ⊥) → b ≡ true → (a ≡ true) × (c ≡ true)
 two_places false b c here there none is = absurd (none here refl)
 two_places true true true here there none is = (refl, refl)
 two_places true true false here there none is = absurd (none there refl)
@@ -210,16 +210,16 @@ module _ (services : List Facts) (tree : Tree) (facts : Facts) (shape : is_shape
 
   -- ---- what isn't wrong
 
-  none_unknown : NoneOf (λ before s p. unknown facts tree.statements s ≡ Some p) tree.statements
+  none_unknown : NoStatement (λ before s p. unknown facts tree.statements s ≡ Some p) tree.statements
   none_unknown = none_from (λ before s p. unknown facts tree.statements s ≡ Some p) (λ before s. tell_place (unknown facts tree.statements s)) tree.statements
       (λ at first. clear.none UnknownFunction at (omega arith) (facts, clear.service, first))
 
-  none_wrong : NoneOf (λ before s p. wrong_flag facts tree.statements s ≡ Some p) tree.statements
+  none_wrong : NoStatement (λ before s p. wrong_flag facts tree.statements s ≡ Some p) tree.statements
   none_wrong = none_from (λ before s p. wrong_flag facts tree.statements s ≡ Some p) (λ before s. tell_place (wrong_flag facts tree.statements s)) tree.statements
       (λ at first. clear.none WrongFlag at (omega arith) (facts, clear.service, first))
 
-  none_where : (P : ℕ → Type 0) → ((n : ℕ) → P n ⊎ (P n → ⊥)) → ((at : ℕ) → IsFirst (λ before s p. IsProtoWhere facts P s p) tree.statements at → ⊥)
-      → NoneOf (λ before s p. IsProtoWhere facts P s p) tree.statements
+  none_where : (P : ℕ → Type 0) → ((n : ℕ) → P n ⊎ (P n → ⊥)) → ((at : ℕ) → IsFirstStatement (λ before s p. IsProtoWhere facts P s p) tree.statements at → ⊥)
+      → NoStatement (λ before s p. IsProtoWhere facts P s p) tree.statements
   none_where P known none = none_from (λ before s p. IsProtoWhere facts P s p) (λ before s. tell_proto facts P known s) tree.statements none
 
   -- ---- prototypes
@@ -252,14 +252,14 @@ module _ (services : List Facts) (tree : Tree) (facts : Facts) (shape : is_shape
       proto_from name found.0 found.1 found.2 found.3 found.4
 
   -- a function with a prototype is none of which something holds that no prototype's has
-  not_where : (P : ℕ → Type 0) → NoneOf (λ before s p. IsProtoWhere facts P s p) tree.statements → (fun : ℕ) → declares iface fun ≡ true → P fun → ⊥
+  not_where : (P : ℕ → Type 0) → NoStatement (λ before s p. IsProtoWhere facts P s p) tree.statements → (fun : ℕ) → declares iface fun ≡ true → P fun → ⊥
   not_where P none fun declared holds =
       let it = declared_one facts tree.statements fun declared in
       let name : List ℕ = (fun_at facts.funs fun).name in
       let proto = proto_of name it.3 in
-      let found : number_of facts.funs name ≡ Some fun =
-      ap (λ n. number_of facts.funs (fun_at facts.funs n).name) it.1 ∙ own_number facts.funs it.0 1 parts.2 it.2 ∙ ap Some (omega arith ∙ sym it.1) in
-      let same : unwrap_or (number_of facts.funs proto.named.bytes) 0 ≡ fun = ap (λ b. unwrap_or (number_of facts.funs b) 0) proto.is ∙ ap (λ o. unwrap_or o 0) found in
+      let found : fun_number facts.funs name ≡ Some fun =
+      ap (λ n. fun_number facts.funs (fun_at facts.funs n).name) it.1 ∙ own_number facts.funs it.0 1 parts.2 it.2 ∙ ap Some (omega arith ∙ sym it.1) in
+      let same : unwrap_or (fun_number facts.funs proto.named.bytes) 0 ≡ fun = ap (λ b. unwrap_or (fun_number facts.funs b) 0) proto.is ∙ ap (λ o. unwrap_or o 0) found in
       none proto.before (Proto proto.ret proto.named proto.params) proto.after proto.named.at proto.split (refl, subst P (sym same) holds)
 
   -- ---- names that statements name
@@ -296,7 +296,7 @@ module _ (services : List Facts) (tree : Tree) (facts : Facts) (shape : is_shape
 
   -- ---- states that functions leave
 
-  fun_named_own : (n : ℕ) → n < count → fun_named facts (fun_at facts.funs (suc n)).name ≡ fun_at facts.funs (suc n)
+  fun_named_own : (n : ℕ) → n < count → fun_of_name facts (fun_at facts.funs (suc n)).name ≡ fun_at facts.funs (suc n)
   fun_named_own n within =
       let next : 1 + n ≡ suc n = omega arith in
       ap (λ o. fun_at facts.funs (unwrap_or o 0)) (own_number facts.funs n 1 parts.2 within) ∙ ap (fun_at facts.funs) next
@@ -310,9 +310,9 @@ module _ (services : List Facts) (tree : Tree) (facts : Facts) (shape : is_shape
       (not (list_any (leaves_another name (fun_at facts.funs other).name) tree.statements)) fit in
       number_declared other is (both_declared (codes "sm_state") name (fun_at facts.funs other).name refl says).1
 
-  declared_fits : (name : List ℕ) → is_declared facts tree.statements name ≡ true → fit_leaves facts tree.statements name (fun_named facts name).leaves ≡ true
+  declared_fits : (name : List ℕ) → is_declared facts tree.statements name ≡ true → fit_leaves facts tree.statements name (fun_of_name facts name).leaves ≡ true
   unfolding is_declared
-  declared_fits name is = last_of (fit_flags tree.statements name (fun_named facts name)) (fit_leaves facts tree.statements name (fun_named facts name).leaves) is
+  declared_fits name is = last_of (fit_flags tree.statements name (fun_of_name facts name)) (fit_leaves facts tree.statements name (fun_of_name facts name).leaves) is
 
   leaves_declared : (fun : ℕ) → declares iface fun ≡ true → LeavesDeclared iface (fun_at facts.funs fun).leaves
   leaves_declared fun declared =
@@ -321,7 +321,7 @@ module _ (services : List Facts) (tree : Tree) (facts : Facts) (shape : is_shape
       let proto = proto_of f.name it.3 in
       let fit : is_declared facts tree.statements proto.named.bytes ≡ true =
       no_place (is_declared facts tree.statements proto.named.bytes) proto.named.at (λ place flaw. none_wrong proto.before (Proto proto.ret proto.named proto.params) proto.after place proto.split flaw) in
-      let own : fun_named facts f.name ≡ f = ap (λ n. fun_named facts (fun_at facts.funs n).name) it.1 ∙ fun_named_own it.0 it.2 ∙ ap (fun_at facts.funs) (sym it.1) in
+      let own : fun_of_name facts f.name ≡ f = ap (λ n. fun_of_name facts (fun_at facts.funs n).name) it.1 ∙ fun_named_own it.0 it.2 ∙ ap (fun_at facts.funs) (sym it.1) in
       let leaves : leaves_fun count f.leaves ≡ true = ap (λ n. leaves_fun count (fun_at facts.funs n).leaves) it.1 ∙ all_funs (λ g. leaves_fun count g.leaves) facts.funs it.0 parts.5 it.2 in
       leaves_of f.name f.leaves leaves (ap (λ g. fit_leaves facts tree.statements f.name g.leaves) (sym own) ∙ declared_fits f.name (ap (is_declared facts tree.statements) (sym proto.is) ∙ fit))
 

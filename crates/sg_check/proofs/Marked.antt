@@ -6,30 +6,30 @@ use Rattle.std.specs.Str.{bytes_eq}
 use Rattle.sg_facts.specs.Facts.{Facts, Fun}
 use Rattle.sg_grammar.specs.declared.tree.Statement.{Statement}
 use Rattle.sg_grammar.specs.declared.tree.Statement.TheVariants.{One, Two, Proto}
-use Rattle.sg_check_statements.specs.Faults.{IsFirst, NoneOf}
-use Rattle.sg_check_statements.specs.Flaws.{IsProtoWhere, flaw_if}
-use Rattle.sg_check_statements.specs.Says.{number_from, number_of}
-use Rattle.sg_check.specs.Numbers.{has_number, marked}
+use Rattle.sg_check_statements.specs.Faults.{IsFirstStatement, NoStatement}
+use Rattle.sg_check_statements.specs.Flaws.{IsProtoWhere, place_if}
+use Rattle.sg_check_statements.specs.Says.{fun_number_from, fun_number}
+use Rattle.sg_check.specs.Inside.Numbers.{has_number, marked}
 
 -- the number of a function is at most that of the last
 by_name : (b : Bool) (k m n : ℕ) (rest : Option ℕ) → (if b then Some k else rest) ≡ Some n → (rest ≡ Some n → n < suc k + m) → n < k + suc m
 by_name true k m n rest is later = let same : k ≡ n = cc is in omega (arith, same)
 by_name false k m n rest is later = let l = later is in omega (arith, l)
 
-number_small : (k : ℕ) (funs : List Fun) (name : List ℕ) (n : ℕ) → number_from k funs name ≡ Some n → n < k + length funs
+number_small : (k : ℕ) (funs : List Fun) (name : List ℕ) (n : ℕ) → fun_number_from k funs name ≡ Some n → n < k + length funs
 number_small k [] name n is = absurd (cc is)
 number_small k (f ∷ funs) name n is =
-    by_name (bytes_eq f.name name) k (length funs) n (number_from (k + 1) funs name) is
+    by_name (bytes_eq f.name name) k (length funs) n (fun_number_from (k + 1) funs name) is
     (λ later. let l = number_small (k + 1) funs name n later in omega (arith, l))
 
 small_or_none : (found : Option ℕ) (most : ℕ) → ((n : ℕ) → found ≡ Some n → n < 1 + most) → unwrap_or found 0 ≤ most
 small_or_none None most small = omega arith
 small_or_none (Some n) most small = let l = small n refl in omega (arith, l)
 
-pub number_within : (funs : List Fun) (name : List ℕ) → unwrap_or (number_of funs name) 0 ≤ length funs
-number_within funs name = small_or_none (number_of funs name) (length funs) (number_small 1 funs name)
+pub number_within : (funs : List Fun) (name : List ℕ) → unwrap_or (fun_number funs name) 0 ≤ length funs
+number_within funs name = small_or_none (fun_number funs name) (length funs) (number_small 1 funs name)
 
-if_place : (b : Bool) (at place : ℕ) → flaw_if b at ≡ Some place → (b ≡ true) × (at ≡ place)
+if_place : (b : Bool) (at place : ℕ) → place_if b at ≡ Some place → (b ≡ true) × (at ≡ place)
 if_place true at place is = (refl, cc is)
 if_place false at place is = absurd (cc is)
 
@@ -38,7 +38,7 @@ module _ (facts : Facts) (numbers : List ℕ) (P : ℕ → Type 0) (same : (n : 
   to (One word fun) place is = absurd (cc is)
   to (Two word first second) place is = absurd (cc is)
   to (Proto ret name params) place is =
-      let n = unwrap_or (number_of facts.funs name.bytes) 0 in
+      let n = unwrap_or (fun_number facts.funs name.bytes) 0 in
       let it = if_place (has_number numbers n) name.at place is in
       (it.1, (same n (number_within facts.funs name.bytes)).0 it.0)
 
@@ -46,13 +46,13 @@ module _ (facts : Facts) (numbers : List ℕ) (P : ℕ → Type 0) (same : (n : 
   back (One word fun) place is = absurd is
   back (Two word first second) place is = absurd is
   back (Proto ret name params) place (at, holds) =
-      let n = unwrap_or (number_of facts.funs name.bytes) 0 in
-      ap (λ b. flaw_if b name.at) ((same n (number_within facts.funs name.bytes)).1 holds) ∙ ap Some at
+      let n = unwrap_or (fun_number facts.funs name.bytes) 0 in
+      ap (λ b. place_if b name.at) ((same n (number_within facts.funs name.bytes)).1 holds) ∙ ap Some at
 
   -- the first prototype in the set is the first of which it holds
   pub first_where : (found : Option ℕ) (statements : List Statement)
-      → MatchOption found (NoneOf (λ before s p. marked facts numbers s ≡ Some p) statements) (IsFirst (λ before s p. marked facts numbers s ≡ Some p) statements)
-      → MatchOption found (NoneOf (λ before s p. IsProtoWhere facts P s p) statements) (IsFirst (λ before s p. IsProtoWhere facts P s p) statements)
+      → MatchOption found (NoStatement (λ before s p. marked facts numbers s ≡ Some p) statements) (IsFirstStatement (λ before s p. marked facts numbers s ≡ Some p) statements)
+      → MatchOption found (NoStatement (λ before s p. IsProtoWhere facts P s p) statements) (IsFirstStatement (λ before s p. IsProtoWhere facts P s p) statements)
   first_where None statements none = λ before one after place split is. none before one after place split (back one place is)
   first_where (Some at) statements first = record {
     before = first.before;

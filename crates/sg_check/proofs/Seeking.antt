@@ -18,17 +18,17 @@ use Rattle.sg_reach.proofs.Closure.{there}
 use Rattle.sg_reach.proofs.Marks.{itself, only}
 use Rattle.sg_reach.proofs.Sets.{length-led}
 use Rattle.sg_check_statements.specs.Flaws.{HasNoWalk}
-use Rattle.sg_check.specs.Candidates.{HasWalks}
-use Rattle.sg_check.specs.Numbers.{Gains, has_number}
-use Rattle.sg_check.specs.Reached.{AreStates, AreTriples}
-use Rattle.sg_check.specs.Stuck.{AreStuck, HasSought, HasWalk, IsTold, TripleWalk}
+use Rattle.sg_check.specs.Inside.Candidates.{HasWalks}
+use Rattle.sg_check.specs.Inside.Numbers.{GainsNumber, has_number}
+use Rattle.sg_check.specs.Inside.Reached.{AreStates, AreTriples}
+use Rattle.sg_check.specs.Inside.Stuck.{AreStuck, HasSought, HasWalk, TellsWalk, TripleWalk}
 use Rattle.sg_check.proofs.Calls.{number_same, or_cases, or_left, or_right, same_number}
 
 -- a set keeps what it has, and gains the one
-kept_number : (old new : List ℕ) (n other : ℕ) → Gains old new n → has_number old other ≡ true → has_number new other ≡ true
+kept_number : (old new : List ℕ) (n other : ℕ) → GainsNumber old new n → has_number old other ≡ true → has_number new other ≡ true
 kept_number old new n other gains has = gains other ∙ or_left (has_number old other) (n == other) has
 
-gained_number : (old new : List ℕ) (n other : ℕ) → Gains old new n → n ≡ other → has_number new other ≡ true
+gained_number : (old new : List ℕ) (n other : ℕ) → GainsNumber old new n → n ≡ other → has_number new other ≡ true
 gained_number old new n other gains is = gains other ∙ or_right (has_number old other) (n == other) (number_same n other is)
 
 module _ (triples : List Triple) (k : ℕ) (d : Triple) (within : k < length triples) where
@@ -52,7 +52,7 @@ module _ (triples : List Triple) (k : ℕ) (d : Triple) (within : k < length tri
 
   -- ---- states
 
-  pub states_more : (old new : List ℕ) → AreStates (take k triples) old → Gains old new (get_or triples k d).state → AreStates (take (k + 1) triples) new
+  pub states_more : (old new : List ℕ) → AreStates (take k triples) old → GainsNumber old new (get_or triples k d).state → AreStates (take (k + 1) triples) new
   states_more old new are gains state = (
     λ has. elim (or_cases (has_number old state) ((get_or triples k d).state == state) (sym (gains state) ∙ has)) [
       | inl before ↦ let found = (are state).0 before in (found.0, earlier found.0 found.1, found.2)
@@ -67,9 +67,9 @@ module _ (triples : List Triple) (k : ℕ) (d : Triple) (within : k < length tri
   -- ---- walks
 
   module _ (i : Declared) (all : AreTriples i triples) (old : List ℕ) (sought : HasSought i (take k triples) old) where
-    pub sought_stuck : (new : List ℕ) (told : Bool) → told ≡ false → IsTold i (get_or triples k d) told → Gains old new (get_or triples k d).state → HasSought i (take (k + 1) triples) new
+    pub sought_stuck : (new : List ℕ) (told : Bool) → told ≡ false → TellsWalk i (get_or triples k d) told → GainsNumber old new (get_or triples k d).state → HasSought i (take (k + 1) triples) new
     sought_stuck new told isn't none' gains =
-        let none : IsTold i (get_or triples k d) false = subst (IsTold i (get_or triples k d)) isn't none' in
+        let none : TellsWalk i (get_or triples k d) false = subst (TellsWalk i (get_or triples k d)) isn't none' in
         let reached = all.only (get_or triples k d) inside in
         let stuck : HasNoWalk i (get_or triples k d).state = record {
           made = (get_or triples k d).made;
@@ -91,9 +91,9 @@ module _ (triples : List Triple) (k : ℕ) (d : Triple) (within : k < length tri
           ];
         }
 
-    pub sought_walk : (told : Bool) → told ≡ true → IsTold i (get_or triples k d) told → HasSought i (take (k + 1) triples) old
+    pub sought_walk : (told : Bool) → told ≡ true → TellsWalk i (get_or triples k d) told → HasSought i (take (k + 1) triples) old
     sought_walk told is walk' =
-        let walk : TripleWalk i (get_or triples k d) = subst (IsTold i (get_or triples k d)) is walk' in
+        let walk : TripleWalk i (get_or triples k d) = subst (TellsWalk i (get_or triples k d)) is walk' in
         record {
           only = sought.only;
           others = λ t has. elim (either_one t has) [

@@ -1,6 +1,6 @@
 -- The last kinds, one after the other.
 use Rattle.std.proofs.Common.{◌≡◌, ℕ, ◌+◌, ◌<◌, ◌≤◌, Bool, true, false, List, [], ◌∷◌, None, Some, Ok, Err, length, map, refl, sym, ◌∙◌, ap, subst, inl, inr, arith}
-use Rattle.std.specs.Prelude.{◌↔◌, if◌then◌else◌, nat_le, MatchOption}
+use Rattle.std.specs.Prelude.{◌↔◌, if◌then◌else◌, nat_le, MatchOption, OnOk}
 use Rattle.std.specs.declared.option.Option.{Option}
 use Rattle.std.specs.declared.result.Result.{Result}
 use Rattle.std.specs.List.{Contains, list_all}
@@ -16,23 +16,23 @@ use Rattle.sg_facts.specs.Fits.{Fits}
 use Rattle.sg_grammar.specs.declared.tree.Statement.{Statement}
 use Rattle.sg_grammar.specs.declared.tree.Tree.{Tree}
 use Rattle.sg_reach.specs.declared.place.Triple.{Triple}
-use Rattle.sg_reach.specs.Places.{IsReached}
+use Rattle.sg_reach.specs.Triples.{IsReachedTriple}
 use Rattle.sg_reach.proofs.Reaching.{made_declared}
 use Rattle.sg_check_statements.specs.declared.fault.CheckError.{CheckError}
 use Rattle.sg_check_statements.specs.declared.fault.CheckError.TheVariants.{NoMemory, Fault}
 use Rattle.sg_check_statements.specs.declared.fault.CheckKind.{CheckKind}
 use Rattle.sg_check_statements.specs.declared.fault.CheckKind.TheVariants.{UnknownService, DuplicateName, UnknownFunction, BadParams, WrongFact, WrongFlag, WrongEffect, ForeignTransition, ForeignRecover, NoCreation, Unreached, NoWalk}
-use Rattle.sg_check_statements.specs.Faults.{FirstOf, IsAccepted, IsFault, IsFirst, NoneOf, interface_of, rank}
+use Rattle.sg_check_statements.specs.Faults.{FirstOf, IsAccepted, IsFault, IsFirstStatement, NoStatement, interface_of, kind_rank}
 use Rattle.sg_check_statements.proofs.Clear.{clear_more, each_statement}
 use Rattle.sg_check_statements.specs.Flaws.{HasNoWalk, IsProtoWhere, IsUnreached}
 use Rattle.sg_check_statements.specs.Says.{service_of}
 use Rattle.sg_check_statements.specs.Stages.{IsFirstFault}
 use Rattle.sg_check.specs.declared.candidate.Candidate.{Candidate}
 use Rattle.sg_check.specs.Answers.{IsThisFault}
-use Rattle.sg_check.specs.Candidates.{HasReach, HasWalks, IsCandidate}
-use Rattle.sg_check.specs.Numbers.{has_number, marked}
-use Rattle.sg_check.specs.Reached.{AreTriples, AreUnreached}
-use Rattle.sg_check.specs.Stuck.{AreStuck}
+use Rattle.sg_check.specs.Inside.Candidates.{HasReach, HasWalks, IsCandidate}
+use Rattle.sg_check.specs.Inside.Numbers.{has_number, marked}
+use Rattle.sg_check.specs.Inside.Reached.{AreTriples, AreUnreached}
+use Rattle.sg_check.specs.Inside.Stuck.{AreStuck}
 use Rattle.sg_check.specs.Shapes.{IsSmall, all_differ, are_funs, are_shapes, is_shape, leaves_fun}
 use Rattle.sg_check.proofs.Bits.{declared_one}
 use Rattle.sg_check.proofs.Fitting.{all_six, fits}
@@ -67,18 +67,18 @@ module _ (facts : Facts) (shape : is_shape facts ≡ true) where
   few_fields = let l = limits.1 in grind (arith, nat_tests, l)
 
   -- what descriptors can come to was made by a function that is declared
-  pub made_small : (statements : List Statement) (t : Triple) → IsReached (interface_of facts statements) t → t.made ≤ 32
+  pub made_small : (statements : List Statement) (t : Triple) → IsReachedTriple (interface_of facts statements) t → t.made ≤ 32
   made_small statements t (set, number, reached) =
       let it = declared_one facts statements t.made (made_declared (interface_of facts statements) t.made t.state set reached) in
       let few = few_funs in
       omega (arith, it.1, it.2, few)
 
   -- so all that descriptors can come to is listed
-  pub all_triples : (statements : List Statement) (i : Declared) (triples : List Triple) → i ≡ interface_of facts statements → ((t : Triple) → Contains triples t → IsReached i t)
-      → ((t : Triple) → t.made ≤ 32 → IsReached i t → Contains triples t) → AreTriples i triples
+  pub all_triples : (statements : List Statement) (i : Declared) (triples : List Triple) → i ≡ interface_of facts statements → ((t : Triple) → Contains triples t → IsReachedTriple i t)
+      → ((t : Triple) → t.made ≤ 32 → IsReachedTriple i t → Contains triples t) → AreTriples i triples
   all_triples statements i triples is only all = record {
     only = only;
-    all = λ t reached. all t (made_small statements t (subst (λ j. IsReached j t) is reached)) reached;
+    all = λ t reached. all t (made_small statements t (subst (λ j. IsReachedTriple j t) is reached)) reached;
   }
 
 pub shape_funs : (s : Shape) → is_shape (facts_of s) ≡ true → length s.funs.now ≤ 32
@@ -98,33 +98,35 @@ told_fault services tree (Err (Fault f)) Good told none kind at is =
 
 -- ---- one kind after the other
 
+-- what is known is known where there is a value
+pub on_ok : {X E : Type 0} (P : Type 0) (r : Result X E) → P → OnOk r P
+on_ok P (Ok x) known = known
+on_ok P (Err e) known = tt
+
 module _ (services : List Facts) (tree : Tree) where
   -- what a stage answers
-  pub stage : (c : Candidate) (kind : CheckKind) (flaw : Option ℕ) → IsCandidate services tree c (rank kind)
-      → MatchOption flaw ((at : ℕ) → FirstOf services tree kind at → ⊥) (FirstOf services tree kind) → (r : Result Candidate CheckError)
-      → MatchResult r (λ d. (d ≡ c) × (flaw ≡ None)) (λ error. (at : ℕ) × (flaw ≡ Some at) × (error ≡ Fault (record { kind = kind; at = at })))
-      → MatchResult r (λ d. (d ≡ c) × IsCandidate services tree d (rank kind + 1)) (IsFirstFault services tree)
-  stage c kind flaw good told (Ok d) (same, none) = (
-    same,
-    subst (λ x. IsCandidate services tree x (rank kind + 1)) (sym same) record {
-      clear = clear_more services tree (facts_of c.shape) kind good.clear (subst (λ x. MatchOption x ((at : ℕ) → FirstOf services tree kind at → ⊥) (FirstOf services tree kind)) none told);
-      shape = good.shape;
-      declared = good.declared;
-      triples = good.triples;
-    },
-  )
+  pub stage : {X : Type 0} (c : Candidate) (kind : CheckKind) (flaw : Option ℕ) → IsCandidate services tree c (kind_rank kind)
+      → MatchOption flaw ((at : ℕ) → FirstOf services tree kind at → ⊥) (FirstOf services tree kind) → (r : Result X CheckError)
+      → MatchResult r (λ x. flaw ≡ None) (λ error. (at : ℕ) × (flaw ≡ Some at) × (error ≡ Fault (record { kind = kind; at = at })))
+      → MatchResult r (λ x. IsCandidate services tree c (kind_rank kind + 1)) (IsFirstFault services tree)
+  stage c kind flaw good told (Ok x) none = record {
+    clear = clear_more services tree (facts_of c.shape) kind good.clear (subst (λ o. MatchOption o ((at : ℕ) → FirstOf services tree kind at → ⊥) (FirstOf services tree kind)) none told);
+    shape = good.shape;
+    declared = good.declared;
+    triples = good.triples;
+  }
   stage c kind flaw good told (Err error) (at, some, is) =
       subst (IsFirstFault services tree) (sym is)
       record {
-        here = subst (λ x. MatchOption x ((at : ℕ) → FirstOf services tree kind at → ⊥) (FirstOf services tree kind)) some told;
+        here = subst (λ o. MatchOption o ((at : ℕ) → FirstOf services tree kind at → ⊥) (FirstOf services tree kind)) some told;
         earliest = good.clear.none;
       }
 
   -- the first prototype in a set is the first flaw of a kind
   module _ (c : Candidate) (numbers : List ℕ) (flaw : Option ℕ) (own : List Statement) (lent : own ≡ tree.statements)
-      (found : MatchOption flaw (NoneOf (λ before s p. marked (facts_of c.shape) numbers s ≡ Some p) own) (IsFirst (λ before s p. marked (facts_of c.shape) numbers s ≡ Some p) own)) where
-    of_tree : MatchOption flaw (NoneOf (λ before s p. marked (facts_of c.shape) numbers s ≡ Some p) tree.statements) (IsFirst (λ before s p. marked (facts_of c.shape) numbers s ≡ Some p) tree.statements)
-    of_tree = subst (λ l. MatchOption flaw (NoneOf (λ before s p. marked (facts_of c.shape) numbers s ≡ Some p) l) (IsFirst (λ before s p. marked (facts_of c.shape) numbers s ≡ Some p) l)) lent found
+      (found : MatchOption flaw (NoStatement (λ before s p. marked (facts_of c.shape) numbers s ≡ Some p) own) (IsFirstStatement (λ before s p. marked (facts_of c.shape) numbers s ≡ Some p) own)) where
+    of_tree : MatchOption flaw (NoStatement (λ before s p. marked (facts_of c.shape) numbers s ≡ Some p) tree.statements) (IsFirstStatement (λ before s p. marked (facts_of c.shape) numbers s ≡ Some p) tree.statements)
+    of_tree = subst (λ l. MatchOption flaw (NoStatement (λ before s p. marked (facts_of c.shape) numbers s ≡ Some p) l) (IsFirstStatement (λ before s p. marked (facts_of c.shape) numbers s ≡ Some p) l)) lent found
 
     pub unreached_told : IsCandidate services tree c 10 → AreUnreached c.iface numbers → MatchOption flaw ((at : ℕ) → FirstOf services tree Unreached at → ⊥) (FirstOf services tree Unreached)
     unreached_told good are =
@@ -139,19 +141,6 @@ module _ (services : List Facts) (tree : Tree) where
         (first_where (facts_of c.shape) numbers (HasNoWalk (interface_of (facts_of c.shape) tree.statements))
         (λ n within. subst (λ i. (has_number numbers n ≡ true) ↔ HasNoWalk i n) good.declared (stuck_same c.iface numbers are n)) flaw tree.statements of_tree)
 
-  -- and what is known then
-  pub and_known : (c : Candidate) (kinds : ℕ) (Known : Declared → Type 0) (r : Result Candidate CheckError) → Known c.iface
-      → MatchResult r (λ d. (d ≡ c) × IsCandidate services tree d kinds) (IsFirstFault services tree)
-      → MatchResult r (λ d. IsCandidate services tree d kinds × Known d.iface) (IsFirstFault services tree)
-  and_known c kinds Known (Ok d) known (same, good) = (good, subst (λ x. Known x.iface) (sym same) known)
-  and_known c kinds Known (Err error) known told = told
-
-  pub both_known : (c : Candidate) (kinds : ℕ) (Known Other : Declared → Type 0) (r : Result Candidate CheckError) → Known c.iface → Other c.iface
-      → MatchResult r (λ d. (d ≡ c) × IsCandidate services tree d kinds) (IsFirstFault services tree)
-      → MatchResult r (λ d. IsCandidate services tree d kinds × Known d.iface × Other d.iface) (IsFirstFault services tree)
-  both_known c kinds Known Other (Ok d) known other (same, good) = (good, subst (λ x. Known x.iface) (sym same) known, subst (λ x. Other x.iface) (sym same) other)
-  both_known c kinds Known Other (Err error) known other told = told
-
   -- an interface in which nothing is wrong fits
   pub candidate_fits : (c : Candidate) → IsCandidate services tree c 12 → HasReach c.iface → HasWalks c.iface → Fits c.iface
   candidate_fits c good reach walks =
@@ -163,7 +152,7 @@ module _ (services : List Facts) (tree : Tree) where
     fields = few_fields (facts_of c.shape) good.shape;
   }
 
-  every_rank : (kind : CheckKind) → rank kind < 12
+  every_rank : (kind : CheckKind) → kind_rank kind < 12
   every_rank UnknownService = omega arith
   every_rank DuplicateName = omega arith
   every_rank UnknownFunction = omega arith

@@ -10,7 +10,7 @@ use Rattle.sg_grammar.specs.declared.tree.Statement.TheVariants.{One, Two, Proto
 use Rattle.sg_grammar.specs.declared.tree.Tree.{Tree}
 use Rattle.sg_check_statements.specs.declared.fault.CheckKind.{CheckKind}
 use Rattle.sg_check_statements.specs.declared.fault.CheckKind.TheVariants.{UnknownService, DuplicateName, UnknownFunction, BadParams, WrongFact, WrongFlag, WrongEffect, ForeignTransition, ForeignRecover, NoCreation, Unreached, NoWalk}
-use Rattle.sg_check_statements.specs.Faults.{FirstOf, IsFault, IsFirst, IsOf, interface_of, rank}
+use Rattle.sg_check_statements.specs.Faults.{FirstOf, IsFault, IsFirstStatement, IsOf, interface_of, kind_rank}
 use Rattle.sg_check_statements.specs.Flaws.{HasNoWalk, IsProtoWhere, IsUnreached, bad_params, duplicate, foreign, no_creation, unknown, wrong_effect, wrong_fact, wrong_flag}
 use Rattle.sg_check_statements.proofs.Clear.{one_service, same_kind}
 
@@ -33,7 +33,7 @@ two_splits (x ∷ before) after (y ∷ before') after' one other is =
 
 -- where a statement has a flaw at one place alone, so has a text
 first_once : (Flaw : List Statement → Statement → ℕ → Type 0) → ((before : List Statement) (one : Statement) (here there : ℕ) → Flaw before one here → Flaw before one there → here ≡ there)
-    → (statements : List Statement) (here there : ℕ) → IsFirst Flaw statements here → IsFirst Flaw statements there → here ≡ there
+    → (statements : List Statement) (here there : ℕ) → IsFirstStatement Flaw statements here → IsFirstStatement Flaw statements there → here ≡ there
 first_once Flaw once statements here there first other =
     elim (two_splits first.before first.after other.before other.after first.one other.one (sym first.split ∙ other.split)) [
       | inl (all, both) ↦ once first.before first.one here there first.flaw
@@ -55,11 +55,11 @@ proto_once facts P (Proto ret name params) here there is other = sym is.0 ∙ ot
 module _ (services : List Facts) (tree : Tree) where
   of_one_service : (Flaw : Facts → List Statement → Statement → ℕ → Type 0)
       → ((facts : Facts) (before : List Statement) (one : Statement) (here there : ℕ) → Flaw facts before one here → Flaw facts before one there → here ≡ there)
-      → (here there : ℕ) → ((facts : Facts) × IsOf services tree facts × IsFirst (Flaw facts) tree.statements here)
-      → ((facts : Facts) × IsOf services tree facts × IsFirst (Flaw facts) tree.statements there) → here ≡ there
+      → (here there : ℕ) → ((facts : Facts) × IsOf services tree facts × IsFirstStatement (Flaw facts) tree.statements here)
+      → ((facts : Facts) × IsOf services tree facts × IsFirstStatement (Flaw facts) tree.statements there) → here ≡ there
   of_one_service Flaw once here there (facts, is, first) (facts', is', other) =
       first_once (Flaw facts) (once facts) tree.statements here there first
-      (subst (λ f. IsFirst (Flaw f) tree.statements there) (one_service services tree facts' facts is' is) other)
+      (subst (λ f. IsFirstStatement (Flaw f) tree.statements there) (one_service services tree facts' facts is' is) other)
 
   found_once : (found : Facts → Option ℕ) (here there : ℕ) → ((facts : Facts) × IsOf services tree facts × (found facts ≡ Some here))
       → ((facts : Facts) × IsOf services tree facts × (found facts ≡ Some there)) → here ≡ there
@@ -102,7 +102,7 @@ either_way m n = elim (eqb_tells m n) [
 
 pub same_fault : (services : List Facts) (tree : Tree) (one other : CheckKind) (here there : ℕ) → IsFault services tree one here → IsFault services tree other there
     → (one ≡ other) × (here ≡ there)
-same_fault services tree one other here there is is' = elim (either_way (rank one) (rank other)) [
+same_fault services tree one other here there is is' = elim (either_way (kind_rank one) (kind_rank other)) [
   | inl same ↦
       let kinds : one ≡ other = same_kind one other same in
       (kinds, same_place services tree other here there (subst (λ k. FirstOf services tree k here) kinds is.here) is'.here)

@@ -1,6 +1,3 @@
-pub mod Shapes
-pub mod Numbers
-pub mod Reached
-pub mod Stuck
-pub mod Candidates
 pub mod Answers
+pub mod Inside
+pub mod Shapes

@@ -38,6 +38,6 @@ pub record IsSmall (i : Declared) : Type 0 where
   pub funs : length i.facts.funs ≤ 32
   pub fields : length i.facts.fields ≤ 4
 
--- whether all are
+-- whether all are shapes within the limits
 abbrev pub are_shapes : List Facts → Bool
 are_shapes services = list_all is_shape services

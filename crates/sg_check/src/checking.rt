@@ -1,13 +1,12 @@
 // Whether a text is accepted.
-ghost use Rattle.std.specs.Prelude.{◌≡◌, ℕ, None, Some, true, map};
+ghost use Rattle.std.specs.Prelude.{◌≡◌, ℕ, true, map, OnOk};
 ghost use Rattle.std.specs.Result.{MatchResult};
 ghost use Rattle.sg_facts.specs.Facts.{facts_of};
 ghost use Rattle.sg_check_statements.specs.Faults.{IsAccepted, IsFault};
 ghost use Rattle.sg_check_statements.specs.Stages.{IsFirstFault};
-ghost use Rattle.sg_check_statements.specs.declared.fault.CheckError.TheVariants.{Fault};
 ghost use Rattle.sg_check_statements.specs.declared.fault.CheckKind.{CheckKind as Kind};
 ghost use Rattle.sg_check.specs.Answers.{IsThisFault};
-ghost use Rattle.sg_check.specs.Candidates.{HasReach, HasWalks, IsCandidate};
+ghost use Rattle.sg_check.specs.Inside.Candidates.{HasReach, HasWalks, IsCandidate, IsStageOf};
 ghost use Rattle.sg_check.specs.Shapes.{are_shapes};
 
 use crate::accepted::Accepted;
@@ -16,7 +15,7 @@ use crate::declared::interface_of;
 use crate::protos::first_proto_in;
 use crate::reached::unreached_of;
 use crate::stuck::stuck_of;
-use sg_check_statements::{CheckError, CheckFault, CheckKind, fit_one_by_one};
+use sg_check_statements::{CheckError, CheckKind, fit_one_by_one, unless};
 use sg_facts::Shape;
 use sg_grammar::Tree;
 use sg_reach::reachable;
@@ -24,7 +23,8 @@ use std::alloc::Global;
 
 /// The interface that a text declares of one of these shapes, where nothing is wrong with it; else, of the kinds that are,
 /// the first in the order of `CheckKind`, at its first place in the text. A shape has at most 32 functions and 4 fields, its
-/// numbers name its own functions, and no two of its functions have one name.
+/// numbers name its own functions, and no two of its functions have one name. Where there is no memory for the work, the error
+/// is `NoMemory`.
 pub fn check(alloc: Global, tree: &Tree, shapes: &[Shape]) -> Result<Accepted, CheckError>
     requires { are_shapes (map facts_of shapes.now) ≡ true }
     // An error tells what is first wrong.
@@ -36,16 +36,20 @@ pub fn check(alloc: Global, tree: &Tree, shapes: &[Shape]) -> Result<Accepted, C
     accept(alloc, shapes, tree)
 }
 
-// The same.
+// The interface that a text declares, stage by stage: the faults of its statements, then functions that no descriptor can
+// reach, then states without a walk.
 fn accept(alloc: Global, shapes: &[Shape], tree: &Tree) -> Result<Accepted, CheckError>
     requires { are_shapes (map facts_of shapes.now) ≡ true }
     ensures { MatchResult result (IsAccepted (map facts_of shapes.now) tree.now) (IsFirstFault (map facts_of shapes.now) tree.now) }
 {
-    let candidate = walks_fit(alloc, shapes, tree)?;
+    let candidate = candidate_of(alloc, shapes, tree)?;
+    funs_reached(alloc, &candidate, tree)?;
+    walks_fit(alloc, &candidate, tree)?;
     Ok(Accepted::new(candidate.iface))
 }
 
-// What a text declares of its service, where none of the first ten kinds of flaws is there.
+// What a text declares of its service, with all that descriptors can come to, where none of the first ten kinds of faults is
+// there.
 fn candidate_of(alloc: Global, shapes: &[Shape], tree: &Tree) -> Result<Candidate, CheckError>
     requires { are_shapes (map facts_of shapes.now) ≡ true }
     ensures { MatchResult result (λ c. IsCandidate (map facts_of shapes.now) tree.now c 10) (IsFirstFault (map facts_of shapes.now) tree.now) }
@@ -60,39 +64,22 @@ fn candidate_of(alloc: Global, shapes: &[Shape], tree: &Tree) -> Result<Candidat
     })
 }
 
-// The same again, where there is no flaw of a kind.
-fn unless(
-    candidate: Candidate,
-    kind: CheckKind,
-    flaw: Option<usize>,
-) -> Result<Candidate, CheckError>
-    ensures { MatchResult result (λ c. (c ≡ candidate) × (flaw ≡ None))
-        (λ error. (at : ℕ) × (flaw ≡ Some at) × (error ≡ Fault (record { kind = kind; at = at }))) }
+// Each function that is declared can be reached.
+fn funs_reached(alloc: Global, candidate: &Candidate, tree: &Tree) -> Result<(), CheckError>
+    ensures stage { IsStageOf tree.now candidate.now 10 result }
+    ensures known { OnOk result (HasReach candidate.now.iface) }
 {
-    match flaw {
-        None => Ok(candidate),
-        Some(at) => Err(CheckError::Fault(CheckFault { kind, at })),
-    }
-}
-
-// The same, where each function can be reached, too.
-fn funs_reached(alloc: Global, shapes: &[Shape], tree: &Tree) -> Result<Candidate, CheckError>
-    requires { are_shapes (map facts_of shapes.now) ≡ true }
-    ensures { MatchResult result (λ c. IsCandidate (map facts_of shapes.now) tree.now c 11 × HasReach c.iface) (IsFirstFault (map facts_of shapes.now) tree.now) }
-{
-    let candidate = candidate_of(alloc, shapes, tree)?;
     let unreached = unreached_of(alloc, &candidate.iface, candidate.triples.as_slice())?;
-    let flaw = first_proto_in(&candidate.shape, &unreached, tree.statements.as_slice());
-    unless(candidate, CheckKind::Unreached, flaw)
+    let fault = first_proto_in(&candidate.shape, &unreached, tree.statements.as_slice());
+    unless(CheckKind::Unreached, fault)
 }
 
-// The same, where each state has its walks, too.
-fn walks_fit(alloc: Global, shapes: &[Shape], tree: &Tree) -> Result<Candidate, CheckError>
-    requires { are_shapes (map facts_of shapes.now) ≡ true }
-    ensures { MatchResult result (λ c. IsCandidate (map facts_of shapes.now) tree.now c 12 × HasReach c.iface × HasWalks c.iface) (IsFirstFault (map facts_of shapes.now) tree.now) }
+// Each state that descriptors can come to has its walks.
+fn walks_fit(alloc: Global, candidate: &Candidate, tree: &Tree) -> Result<(), CheckError>
+    ensures stage { IsStageOf tree.now candidate.now 11 result }
+    ensures known { OnOk result (HasWalks candidate.now.iface) }
 {
-    let candidate = funs_reached(alloc, shapes, tree)?;
     let stuck = stuck_of(alloc, &candidate.iface, candidate.triples.as_slice())?;
-    let flaw = first_proto_in(&candidate.shape, &stuck, tree.statements.as_slice());
-    unless(candidate, CheckKind::NoWalk, flaw)
+    let fault = first_proto_in(&candidate.shape, &stuck, tree.statements.as_slice());
+    unless(CheckKind::NoWalk, fault)
 }

@@ -30,7 +30,7 @@ pub fn interface_of(
     })
 }
 
-// Those of at most 32 functions that have a prototype: bit f - 1 for function f.
+// Which of at most 32 functions have a prototype: bit f - 1 for function f.
 fn declared_in(funs: &[FunShape], protos: &Protos) -> u32
     requires { length funs.now ≤ 32 }
     ensures declared { result ≡ number_of (map (λ f. has_proto protos.now f.name) (map fun_of_shape funs.now)) }
@@ -42,7 +42,7 @@ fn declared_in(funs: &[FunShape], protos: &Protos) -> u32
     }
 }
 
-// Those of a shape's pairs that a statement names under a word.
+// The pairs of a shape that a statement names under a word.
 fn listed(
     alloc: Global,
     shape: &Shape,

@@ -1,6 +1,6 @@
 // Sets of function numbers.
 ghost use Rattle.std.specs.Prelude.{◌≡◌, [], OnOk, OnErr};
-ghost use Rattle.sg_check.specs.Numbers.{Gains, has_number};
+ghost use Rattle.sg_check.specs.Inside.Numbers.{GainsNumber, has_number};
 
 use sg_base::NoMemory;
 use std::alloc::Global;
@@ -40,7 +40,7 @@ impl Numbers {
 
     /// Adds a number. After `NoMemory` the set is as before.
     pub fn add(&mut self, number: usize) -> Result<(), NoMemory>
-        ensures ok { OnOk result (Gains self.old self.new number) }
+        ensures ok { OnOk result (GainsNumber self.old self.new number) }
         ensures err { OnErr result (self.new ≡ self.old) }
     {
         self.numbers.insert(number)?;

@@ -1,11 +1,11 @@
 // The first prototype of one of some functions.
 ghost use Rattle.std.specs.Prelude.{◌≡◌, Some, MatchOption};
 ghost use Rattle.sg_facts.specs.Facts.{facts_of};
-ghost use Rattle.sg_check_statements.specs.Faults.{IsFirst, NoneOf};
-ghost use Rattle.sg_check.specs.Numbers.{marked};
+ghost use Rattle.sg_check_statements.specs.Faults.{IsFirstStatement, NoStatement};
+ghost use Rattle.sg_check.specs.Inside.Numbers.{marked};
 
 use crate::numbers::Numbers;
-use sg_check_statements::{Judge, first_flaw, number_of};
+use sg_check_statements::{Judge, first_flaw, fun_number};
 use sg_facts::Shape;
 use sg_grammar::Statement;
 
@@ -23,7 +23,7 @@ impl Judge for Marked<'_> {
         match statement {
             Statement::One { .. } | Statement::Two { .. } => None,
             Statement::Proto { name, .. } => {
-                let number = number_of(self.shape, name.slice).unwrap_or(0);
+                let number = fun_number(self.shape, name.slice).unwrap_or(0);
                 if self.numbers.has(number) {
                     Some(name.at)
                 } else {
@@ -37,8 +37,8 @@ impl Judge for Marked<'_> {
 /// The place of the first prototype of a function whose number is in a set.
 pub fn first_proto_in(shape: &Shape, numbers: &Numbers, statements: &[Statement]) -> Option<usize>
     ensures { MatchOption result
-        (NoneOf (λ before s p. marked (facts_of shape.now) numbers.now s ≡ Some p) statements.now)
-        (IsFirst (λ before s p. marked (facts_of shape.now) numbers.now s ≡ Some p) statements.now) }
+        (NoStatement (λ before s p. marked (facts_of shape.now) numbers.now s ≡ Some p) statements.now)
+        (IsFirstStatement (λ before s p. marked (facts_of shape.now) numbers.now s ≡ Some p) statements.now) }
 {
     first_flaw(&Marked { shape, numbers }, statements)
 }

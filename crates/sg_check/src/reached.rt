@@ -2,8 +2,8 @@
 ghost use Rattle.std.specs.Prelude.{◌≡◌, ◌↔◌, ◌<◌, ◌&&◌, ◌==◌, ℕ, true, IfOk};
 ghost use Rattle.std.specs.List.{list_any};
 ghost use Rattle.sg_facts.specs.Fits.{needs_reach};
-ghost use Rattle.sg_check.specs.Numbers.{has_number};
-ghost use Rattle.sg_check.specs.Reached.{AreStates, AreTriples, AreUnreached, is_reached, is_unreached};
+ghost use Rattle.sg_check.specs.Inside.Numbers.{has_number};
+ghost use Rattle.sg_check.specs.Inside.Reached.{AreStates, AreTriples, AreUnreached, is_reached, is_unreached};
 
 use crate::numbers::Numbers;
 use sg_base::NoMemory;
@@ -24,7 +24,7 @@ pub fn unreached_of(
     Ok(unreached_in(alloc, iface, &states)?)
 }
 
-// The same, where descriptors come to these states.
+// The numbers of the functions that are to be reached and aren't, where descriptors come to these states.
 fn unreached_in(alloc: Global, iface: &Interface, states: &Numbers) -> Result<Numbers, NoMemory>
     ensures { IfOk result (λ numbers. (fun : ℕ) → (has_number numbers fun ≡ true) ↔ ((fun < 33) × (is_unreached iface.now states.now fun ≡ true))) }
 {
@@ -77,7 +77,7 @@ fn is_second(pairs: &[(u8, u8)], fun: u8) -> bool
     pairs.iter().any(|pair| pair.1 == fun)
 }
 
-// Whether it does in one whose first is among these.
+// Whether a function stands second in a pair whose first is one of these states.
 fn is_called(pairs: &[(u8, u8)], states: &Numbers, fun: u8) -> bool
     ensures { result ≡ list_any (λ p. (p.1 == fun) && has_number states.now p.0) pairs.now }
 {

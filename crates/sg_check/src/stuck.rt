@@ -1,8 +1,8 @@
 // The states that have no walk.
 ghost use Rattle.std.specs.Prelude.{◌≡◌, ◌≤◌, length, IfOk};
 ghost use Rattle.sg_reach.specs.Limits.{HasFourFields};
-ghost use Rattle.sg_check.specs.Reached.{AreTriples};
-ghost use Rattle.sg_check.specs.Stuck.{AreStuck, IsTold};
+ghost use Rattle.sg_check.specs.Inside.Reached.{AreTriples};
+ghost use Rattle.sg_check.specs.Inside.Stuck.{AreStuck, TellsWalk};
 
 use crate::numbers::Numbers;
 use sg_base::NoMemory;
@@ -30,7 +30,7 @@ pub fn stuck_of(alloc: Global, iface: &Interface, triples: &[Triple]) -> Result<
 // Whether some walk restores a triple.
 fn has_walk(alloc: Global, iface: &Interface, triple: &Triple) -> Result<bool, NoMemory>
     requires few { HasFourFields iface.now }
-    ensures { IfOk result (IsTold iface.now triple.now) }
+    ensures { IfOk result (TellsWalk iface.now triple.now) }
 {
     let walk = shortest(alloc, iface, triple.made, triple.state, triple.mask)?;
     Ok(walk.is_some())

@@ -2,7 +2,7 @@
 use Rattle.std.proofs.Common.{◌≡◌, ◌⊎◌, ℕ, ◌+◌, ◌<◌, List, [], ◌∷◌, ◌++◌, length, take, drop, get_or, refl, sym, ◌∙◌, ap, subst, inl, inr, append_assoc}
 use Rattle.std.proofs.lemmas.List.{take_more, take-append-drop}
 use Rattle.sg_grammar.specs.declared.tree.Statement.{Statement}
-use Rattle.sg_check_statements.specs.Faults.{IsFirst, NoneOf}
+use Rattle.sg_check_statements.specs.Faults.{IsFirstStatement, NoStatement}
 
 -- a list that ends in one more: the end is that one, or stands before
 last_split : (xs before after : List Statement) (x s : Statement) → xs ++ x ∷ [] ≡ before ++ s ∷ after
@@ -20,23 +20,23 @@ last_split (y ∷ xs) (b ∷ before) after x s is =
     ]
 
 module _ (Flaw : List Statement → Statement → ℕ → Type 0) where
-  pub none_at_all : NoneOf Flaw []
+  pub none_at_all : NoStatement Flaw []
   none_at_all [] one after place is flaw = cc is
   none_at_all (b ∷ before) one after place is flaw = cc is
 
   -- one more without a flaw
-  pub none_more : (xs : List Statement) (x : Statement) → NoneOf Flaw xs → ((place : ℕ) → Flaw xs x place → ⊥) → NoneOf Flaw (xs ++ x ∷ [])
+  pub none_more : (xs : List Statement) (x : Statement) → NoStatement Flaw xs → ((place : ℕ) → Flaw xs x place → ⊥) → NoStatement Flaw (xs ++ x ∷ [])
   none_more xs x none sound before one after place is flaw = elim (last_split xs before after x one is) [
     | inl (all, same) ↦ sound place (subst (λ b. Flaw b x place) all (subst (λ s. Flaw before s place) same flaw))
     | inr (rest, split) ↦ none before one rest place split flaw
   ]
 
   -- where one is first, some have a flaw
-  pub not_none : (xs : List Statement) (place : ℕ) → IsFirst Flaw xs place → NoneOf Flaw xs → ⊥
+  pub not_none : (xs : List Statement) (place : ℕ) → IsFirstStatement Flaw xs place → NoStatement Flaw xs → ⊥
   not_none xs place first none = none first.before first.one first.after place first.split first.flaw
 
   -- the statement at a place is the first
-  pub first_here : (xs : List Statement) (n : ℕ) (x : Statement) (place : ℕ) → n < length xs → get_or xs n x ≡ x → NoneOf Flaw (take n xs) → Flaw (take n xs) x place → IsFirst Flaw xs place
+  pub first_here : (xs : List Statement) (n : ℕ) (x : Statement) (place : ℕ) → n < length xs → get_or xs n x ≡ x → NoStatement Flaw (take n xs) → Flaw (take n xs) x place → IsFirstStatement Flaw xs place
   first_here xs n x place within is none flaw = record {
     before = take n xs;
     one = x;

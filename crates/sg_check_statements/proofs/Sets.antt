@@ -14,7 +14,7 @@ use Rattle.sg_grammar.specs.Named.{Named}
 use Rattle.sg_grammar.specs.declared.tree.Param.{Param}
 use Rattle.sg_grammar.specs.declared.tree.Ret.{Ret}
 use Rattle.sg_grammar.specs.declared.tree.Statement.TheVariants.{Proto, Two}
-use Rattle.sg_check_statements.specs.Flaws.{duplicate, flaw_if, names_two, or_else, unknown}
+use Rattle.sg_check_statements.specs.Flaws.{duplicate, place_if, names_two, first_place, unknown}
 use Rattle.sg_check_statements.specs.Names.{AreOf, has_name}
 use Rattle.sg_check_statements.specs.Says.{has_proto, is_proto}
 
@@ -61,24 +61,24 @@ of_more names new before s are more f =
 -- a prototype of a function that is among the names of those before
 pub second : (names : List (List ℕ)) (before : List Statement) (s : Statement) (ret : Ret) (name : Named) (params : List Param) (slice : List ℕ) (at : ℕ) (r : Bool)
     → AreOf names before → s ≡ Proto ret name params → record { bytes = slice; at = at } ≡ name → r ≡ has_name names slice
-    → flaw_if r at ≡ duplicate before s
+    → place_if r at ≡ duplicate before s
 second names before s ret name params slice at r are is told same =
-    ap (λ b. flaw_if b at) (same ∙ are slice)
+    ap (λ b. place_if b at) (same ∙ are slice)
     ∙ ap (duplicate before) (ap (λ n. Proto ret n params) told ∙ sym is)
 
 -- ---- unknown names
 
-either : (a b : Option ℕ) → option_or a b ≡ or_else a b
+either : (a b : Option ℕ) → option_or a b ≡ first_place a b
 either None b = refl
 either (Some x) b = refl
 
 -- the first of two names that has no prototype
 pub two_names : (facts : Facts) (statements : List Statement) (s : Statement) (word first last : Named) (slice : List ℕ) (at : ℕ) (r one other : Option ℕ)
-    → r ≡ option_or one other → one ≡ flaw_if (not (has_proto statements first.bytes)) first.at
-    → other ≡ flaw_if (names_two slice && not (has_proto statements last.bytes)) last.at → record { bytes = slice; at = at } ≡ word → s ≡ Two word first last
+    → r ≡ option_or one other → one ≡ place_if (not (has_proto statements first.bytes)) first.at
+    → other ≡ place_if (names_two slice && not (has_proto statements last.bytes)) last.at → record { bytes = slice; at = at } ≡ word → s ≡ Two word first last
     → r ≡ unknown facts statements s
 two_names facts statements s word first last slice at r one other both here there told is =
     let same : slice ≡ word.bytes = ap (λ n. n.bytes) told in
-    both ∙ either one other ∙ ap (λ a. or_else a other) here
-    ∙ ap (λ b. or_else (flaw_if (not (has_proto statements first.bytes)) first.at) b) (there ∙ ap (λ w. flaw_if (names_two w && not (has_proto statements last.bytes)) last.at) same)
+    both ∙ either one other ∙ ap (λ a. first_place a other) here
+    ∙ ap (λ b. first_place (place_if (not (has_proto statements first.bytes)) first.at) b) (there ∙ ap (λ w. place_if (names_two w && not (has_proto statements last.bytes)) last.at) same)
     ∙ ap (unknown facts statements) (sym is)

@@ -1,17 +1,17 @@
 -- Which effects a text declares for a function, by the names of the fields.
-use Rattle.std.specs.Prelude.{ℕ, ◌+◌, ◌==◌, Bool, true, false, ◌&&◌, ◌||◌, if◌then◌else◌, List, [], ◌∷◌, ◌++◌, codes, map, slice_get, unwrap_or}
+use Rattle.std.specs.Prelude.{ℕ, ◌+◌, ◌==◌, Bool, true, false, ◌&&◌, ◌||◌, if◌then◌else◌, List, [], ◌∷◌, ◌++◌, codes, map}
 use Rattle.std.specs.List.{list_any, list_all, flat_map}
-use Rattle.std.specs.Option.{option_map}
 use Rattle.std.specs.Str.{bytes_eq}
 use Rattle.sg_facts.specs.declared.shape.Effect.{Effect}
 use Rattle.sg_facts.specs.declared.shape.Effect.TheVariants.{SetCaller, SetArg, AddArg, SetRet, AddRet, Clear, SubOne}
-use Rattle.sg_facts.specs.Facts.{Facts, Field, Fun}
+use Rattle.sg_facts.specs.Facts.{Facts, Fun}
+use Rattle.sg_facts.specs.Words.{field_name}
 use Rattle.sg_grammar.specs.declared.tree.Param.{Param}
 use Rattle.sg_grammar.specs.declared.tree.Ret.{Ret}
 use Rattle.sg_grammar.specs.declared.tree.Ret.TheVariants.{Plain, Set, Add}
 use Rattle.sg_grammar.specs.declared.tree.Statement.{Statement}
 use Rattle.sg_grammar.specs.declared.tree.Statement.TheVariants.{One, Two, Proto}
-use Rattle.sg_check_statements.specs.Params.{is_word}
+use Rattle.sg_check_statements.specs.Params.{has_word}
 
 -- a field's name, and what is done to it
 abbrev pub Named_effect : Type 0
@@ -22,17 +22,18 @@ Named_effect = List ℕ × Effect
 -- by the first parameter
 abbrev pub caller_effects : List Param → List Named_effect
 caller_effects [] = []
-caller_effects (p ∷ params) = if is_word p.form (codes "desc_data") then (p.name.bytes, SetCaller) ∷ [] else []
+caller_effects (p ∷ params) = if has_word p.form (codes "desc_data") then (p.name.bytes, SetCaller) ∷ [] else []
 
 -- by later parameters: descriptor and parent are no arguments, and the others are numbered from one on
 abbrev pub arg_effects : ℕ → List Param → List Named_effect
 arg_effects k [] = []
 arg_effects k (p ∷ params) =
-    if is_word p.form (codes "desc") || is_word p.form (codes "parent_desc") then arg_effects k params
-    else (if is_word p.form (codes "desc_data") then (p.name.bytes, SetArg k) ∷ arg_effects (k + 1) params
-    else (if is_word p.form (codes "desc_data_add") then (p.name.bytes, AddArg k) ∷ arg_effects (k + 1) params
+    if has_word p.form (codes "desc") || has_word p.form (codes "parent_desc") then arg_effects k params
+    else (if has_word p.form (codes "desc_data") then (p.name.bytes, SetArg k) ∷ arg_effects (k + 1) params
+    else (if has_word p.form (codes "desc_data_add") then (p.name.bytes, AddArg k) ∷ arg_effects (k + 1) params
     else arg_effects (k + 1) params))
 
+-- by the parameters behind the first
 abbrev pub later_effects : List Param → List Named_effect
 later_effects [] = []
 later_effects (p ∷ params) = arg_effects 0 params
@@ -59,14 +60,13 @@ declared_effects statements f ret params =
 
 -- ---- what the service has
 
-abbrev pub field_name : List Field → ℕ → List ℕ
-field_name fields x = unwrap_or (option_map (λ f. f.name) (slice_get fields x)) []
-
+-- the effects of a function of the service
 abbrev pub service_effects : Facts → Fun → List Named_effect
 service_effects facts f = map (λ e. (field_name facts.fields e.0, e.1)) f.effects
 
 -- ---- whether these are the same
 
+-- whether two effects are one
 abbrev pub same_effect : Effect → Effect → Bool
 same_effect SetCaller SetCaller = true
 same_effect (SetArg j) (SetArg k) = j == k
@@ -77,6 +77,7 @@ same_effect Clear Clear = true
 same_effect SubOne SubOne = true
 same_effect _ _ = false
 
+-- whether an effect on a field of this name is among these
 abbrev pub has_effect : List Named_effect → Named_effect → Bool
 has_effect effects e = list_any (λ other. bytes_eq other.0 e.0 && same_effect other.1 e.1) effects
 

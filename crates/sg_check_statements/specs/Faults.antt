@@ -22,18 +22,18 @@ interface_of facts statements = record {
 }
 
 -- no statement, judged with those before it, has a flaw
-abbrev pub NoneOf : (List Statement → Statement → ℕ → Type 0) → List Statement → Type 0
-NoneOf Flaw statements =
+abbrev pub NoStatement : (List Statement → Statement → ℕ → Type 0) → List Statement → Type 0
+NoStatement Flaw statements =
     (before : List Statement) (one : Statement) (after : List Statement) (place : ℕ) → statements ≡ before ++ one ∷ after → Flaw before one place → ⊥
 
 -- the first statement with a flaw has it at this place
-pub record IsFirst (Flaw : List Statement → Statement → ℕ → Type 0) (statements : List Statement) (at : ℕ) : Type 0 where
+pub record IsFirstStatement (Flaw : List Statement → Statement → ℕ → Type 0) (statements : List Statement) (at : ℕ) : Type 0 where
   pub before : List Statement
   pub one : Statement
   pub after : List Statement
   pub split : statements ≡ before ++ one ∷ after
   pub flaw : Flaw before one at
-  pub none : NoneOf Flaw before
+  pub none : NoStatement Flaw before
 
 -- the service of a text's name is one of these services
 abbrev pub IsOf : List Facts → Tree → Facts → Type 0
@@ -42,41 +42,41 @@ IsOf services tree facts = service_of services tree.facts.service.bytes ≡ Some
 -- what is wrong of a kind, and its first place in the text
 abbrev pub FirstOf : List Facts → Tree → CheckKind → ℕ → Type 0
 FirstOf services tree UnknownService at = (service_of services tree.facts.service.bytes ≡ None) × (tree.facts.service.at ≡ at)
-FirstOf services tree DuplicateName at = IsFirst (λ before s p. duplicate before s ≡ Some p) tree.statements at
-FirstOf services tree UnknownFunction at = (facts : Facts) × IsOf services tree facts × IsFirst (λ before s p. unknown facts tree.statements s ≡ Some p) tree.statements at
-FirstOf services tree BadParams at = (facts : Facts) × IsOf services tree facts × IsFirst (λ before s p. bad_params facts s ≡ Some p) tree.statements at
+FirstOf services tree DuplicateName at = IsFirstStatement (λ before s p. duplicate before s ≡ Some p) tree.statements at
+FirstOf services tree UnknownFunction at = (facts : Facts) × IsOf services tree facts × IsFirstStatement (λ before s p. unknown facts tree.statements s ≡ Some p) tree.statements at
+FirstOf services tree BadParams at = (facts : Facts) × IsOf services tree facts × IsFirstStatement (λ before s p. bad_params facts s ≡ Some p) tree.statements at
 FirstOf services tree WrongFact at = (facts : Facts) × IsOf services tree facts × (wrong_fact facts tree.facts ≡ Some at)
-FirstOf services tree WrongFlag at = (facts : Facts) × IsOf services tree facts × IsFirst (λ before s p. wrong_flag facts tree.statements s ≡ Some p) tree.statements at
-FirstOf services tree WrongEffect at = (facts : Facts) × IsOf services tree facts × IsFirst (λ before s p. wrong_effect facts tree.statements s ≡ Some p) tree.statements at
+FirstOf services tree WrongFlag at = (facts : Facts) × IsOf services tree facts × IsFirstStatement (λ before s p. wrong_flag facts tree.statements s ≡ Some p) tree.statements at
+FirstOf services tree WrongEffect at = (facts : Facts) × IsOf services tree facts × IsFirstStatement (λ before s p. wrong_effect facts tree.statements s ≡ Some p) tree.statements at
 FirstOf services tree ForeignTransition at =
-    (facts : Facts) × IsOf services tree facts × IsFirst (λ before s p. foreign (codes "sm_transition") facts.moves facts s ≡ Some p) tree.statements at
+    (facts : Facts) × IsOf services tree facts × IsFirstStatement (λ before s p. foreign (codes "sm_transition") facts.moves facts s ≡ Some p) tree.statements at
 FirstOf services tree ForeignRecover at =
-    (facts : Facts) × IsOf services tree facts × IsFirst (λ before s p. foreign (codes "sm_recover") facts.steps facts s ≡ Some p) tree.statements at
+    (facts : Facts) × IsOf services tree facts × IsFirstStatement (λ before s p. foreign (codes "sm_recover") facts.steps facts s ≡ Some p) tree.statements at
 FirstOf services tree NoCreation at = (facts : Facts) × IsOf services tree facts × (no_creation facts tree.statements ≡ Some at)
 FirstOf services tree Unreached at =
-    (facts : Facts) × IsOf services tree facts × IsFirst (λ before s p. IsProtoWhere facts (IsUnreached (interface_of facts tree.statements)) s p) tree.statements at
+    (facts : Facts) × IsOf services tree facts × IsFirstStatement (λ before s p. IsProtoWhere facts (IsUnreached (interface_of facts tree.statements)) s p) tree.statements at
 FirstOf services tree NoWalk at =
-    (facts : Facts) × IsOf services tree facts × IsFirst (λ before s p. IsProtoWhere facts (HasNoWalk (interface_of facts tree.statements)) s p) tree.statements at
+    (facts : Facts) × IsOf services tree facts × IsFirstStatement (λ before s p. IsProtoWhere facts (HasNoWalk (interface_of facts tree.statements)) s p) tree.statements at
 
 -- the place of a kind in the order in which kinds are looked for
-abbrev pub rank : CheckKind → ℕ
-rank UnknownService = 0
-rank DuplicateName = 1
-rank UnknownFunction = 2
-rank BadParams = 3
-rank WrongFact = 4
-rank WrongFlag = 5
-rank WrongEffect = 6
-rank ForeignTransition = 7
-rank ForeignRecover = 8
-rank NoCreation = 9
-rank Unreached = 10
-rank NoWalk = 11
+abbrev pub kind_rank : CheckKind → ℕ
+kind_rank UnknownService = 0
+kind_rank DuplicateName = 1
+kind_rank UnknownFunction = 2
+kind_rank BadParams = 3
+kind_rank WrongFact = 4
+kind_rank WrongFlag = 5
+kind_rank WrongEffect = 6
+kind_rank ForeignTransition = 7
+kind_rank ForeignRecover = 8
+kind_rank NoCreation = 9
+kind_rank Unreached = 10
+kind_rank NoWalk = 11
 
 -- what is first wrong with a text: of the kinds that are wrong the earliest, at its first place
 pub record IsFault (services : List Facts) (tree : Tree) (kind : CheckKind) (at : ℕ) : Type 0 where
   pub here : FirstOf services tree kind at
-  pub earliest : (other : CheckKind) (place : ℕ) → rank other < rank kind → FirstOf services tree other place → ⊥
+  pub earliest : (other : CheckKind) (place : ℕ) → kind_rank other < kind_rank kind → FirstOf services tree other place → ⊥
 
 -- a text is accepted: nothing is wrong with it, this is the interface that it declares, and that can be recovered
 pub record IsAccepted (services : List Facts) (tree : Tree) (i : Declared) : Type 0 where

@@ -6,32 +6,31 @@ use Rattle.std.specs.Option.{is_none}
 use Rattle.std.specs.Str.{bytes_eq}
 use Rattle.sg_facts.specs.declared.shape.Leaves.{Leaves}
 use Rattle.sg_facts.specs.declared.shape.Leaves.TheVariants.{Own, Same, Of}
-use Rattle.sg_facts.specs.declared.shape.Parents.{Parents}
-use Rattle.sg_facts.specs.declared.shape.Parents.TheVariants.{Never, Same as SameClient, Cross}
 use Rattle.sg_facts.specs.Facts.{Facts, Fun, fun_at}
 use Rattle.sg_facts.specs.Fits.{IsReached, needs_reach}
 use Rattle.sg_facts.specs.Interface.{Declared, has_pair}
+use Rattle.sg_facts.specs.Words.{close_word, flag_word, parents_word}
 use Rattle.sg_facts.specs.Walks.{IsReachable, begin_of, most_calls, restores}
 use Rattle.sg_grammar.specs.Named.{Named}
 use Rattle.sg_grammar.specs.declared.tree.Facts.{Facts as Head}
 use Rattle.sg_grammar.specs.declared.tree.Statement.{Statement}
 use Rattle.sg_grammar.specs.declared.tree.Statement.TheVariants.{One, Two, Proto}
-use Rattle.sg_check_statements.specs.Says.{has_proto, number_of, says, says_of}
+use Rattle.sg_check_statements.specs.Says.{has_proto, fun_number, says, says_of}
 use Rattle.sg_check_statements.specs.Params.{fit_params}
 use Rattle.sg_check_statements.specs.Effects.{declared_effects, same_effects, service_effects}
 
 -- a place, where there is a flaw
-abbrev pub flaw_if : Bool → ℕ → Option ℕ
-flaw_if flawed at = if flawed then Some at else None
+abbrev pub place_if : Bool → ℕ → Option ℕ
+place_if flawed at = if flawed then Some at else None
 
 -- the first of two places
-abbrev pub or_else : Option ℕ → Option ℕ → Option ℕ
-or_else None other = other
-or_else (Some at) other = Some at
+abbrev pub first_place : Option ℕ → Option ℕ → Option ℕ
+first_place None other = other
+first_place (Some at) other = Some at
 
 -- the service's function of a name
-abbrev pub fun_named : Facts → List ℕ → Fun
-fun_named facts name = fun_at facts.funs (unwrap_or (number_of facts.funs name) 0)
+abbrev pub fun_of_name : Facts → List ℕ → Fun
+fun_of_name facts name = fun_at facts.funs (unwrap_or (fun_number facts.funs name) 0)
 
 -- ---- names
 
@@ -39,7 +38,7 @@ fun_named facts name = fun_at facts.funs (unwrap_or (number_of facts.funs name) 
 abbrev pub duplicate : List Statement → Statement → Option ℕ
 duplicate before (One word fun) = None
 duplicate before (Two word first second) = None
-duplicate before (Proto ret name params) = flaw_if (has_proto before name.bytes) name.at
+duplicate before (Proto ret name params) = place_if (has_proto before name.bytes) name.at
 
 -- the second name that a statement says is a function's, too
 abbrev pub names_two : List ℕ → Bool
@@ -47,11 +46,11 @@ names_two word = bytes_eq word (codes "sm_state") || bytes_eq word (codes "sm_tr
 
 -- a name of a function that has no prototype, or a prototype of a function that the service hasn't
 abbrev pub unknown : Facts → List Statement → Statement → Option ℕ
-unknown facts statements (One word fun) = flaw_if (not (has_proto statements fun.bytes)) fun.at
+unknown facts statements (One word fun) = place_if (not (has_proto statements fun.bytes)) fun.at
 unknown facts statements (Two word first second) =
-    or_else (flaw_if (not (has_proto statements first.bytes)) first.at)
-    (flaw_if (names_two word.bytes && not (has_proto statements second.bytes)) second.at)
-unknown facts statements (Proto ret name params) = flaw_if (is_none (number_of facts.funs name.bytes)) name.at
+    first_place (place_if (not (has_proto statements first.bytes)) first.at)
+    (place_if (names_two word.bytes && not (has_proto statements second.bytes)) second.at)
+unknown facts statements (Proto ret name params) = place_if (is_none (fun_number facts.funs name.bytes)) name.at
 
 -- ---- parameters and facts
 
@@ -59,33 +58,20 @@ unknown facts statements (Proto ret name params) = flaw_if (is_none (number_of f
 abbrev pub bad_params : Facts → Statement → Option ℕ
 bad_params facts (One word fun) = None
 bad_params facts (Two word first second) = None
-bad_params facts (Proto ret name params) = flaw_if (not (fit_params (fun_named facts name.bytes) params)) name.at
-
-abbrev pub parents_word : Parents → List ℕ
-parents_word Never = codes "none"
-parents_word SameClient = codes "same"
-parents_word Cross = codes "cross"
-
-abbrev pub close_word : Bool → List ℕ
-close_word true = codes "subtree"
-close_word false = codes "refuse"
-
-abbrev pub flag_word : Bool → List ℕ
-flag_word true = codes "true"
-flag_word false = codes "false"
+bad_params facts (Proto ret name params) = place_if (not (fit_params (fun_of_name facts name.bytes) params)) name.at
 
 -- a value that isn't this word
 abbrev pub other_value : Named → List ℕ → Option ℕ
-other_value value word = flaw_if (not (bytes_eq value.bytes word)) value.at
+other_value value word = place_if (not (bytes_eq value.bytes word)) value.at
 
 -- the first fact that isn't the service's
 abbrev pub wrong_fact : Facts → Head → Option ℕ
 wrong_fact facts head =
-    or_else (other_value head.parent (parents_word facts.parents))
-    (or_else (other_value head.close (close_word facts.subtree))
-    (or_else (other_value head.global (flag_word facts.global))
-    (or_else (other_value head.block (flag_word facts.block))
-    (or_else (other_value head.has_data (flag_word facts.has_data))
+    first_place (other_value head.parent (parents_word facts.parents))
+    (first_place (other_value head.close (close_word facts.subtree))
+    (first_place (other_value head.global (flag_word facts.global))
+    (first_place (other_value head.block (flag_word facts.block))
+    (first_place (other_value head.has_data (flag_word facts.has_data))
     (other_value head.resc_data (flag_word facts.resc_data))))))
 
 -- ---- flags, states and effects
@@ -101,7 +87,7 @@ leaves_another f g (One word fun) = false
 leaves_another f g (Two word first second) = bytes_eq word.bytes (codes "sm_state") && bytes_eq first.bytes f && not (bytes_eq second.bytes g)
 leaves_another f g (Proto ret name params) = false
 
--- whether one names a state at all
+-- whether a statement names a state that a function leaves
 abbrev pub leaves_some : List ℕ → Statement → Bool
 leaves_some f (One word fun) = false
 leaves_some f (Two word first second) = bytes_eq word.bytes (codes "sm_state") && bytes_eq first.bytes f
@@ -127,23 +113,24 @@ fit_flags statements f fun =
 -- whether the flags and the state of the function of a name are declared as the service has them
 unfoldable pub is_declared : Facts → List Statement → List ℕ → Bool
 is_declared facts statements f =
-    fit_flags statements f (fun_named facts f) && fit_leaves facts statements f (fun_named facts f).leaves
+    fit_flags statements f (fun_of_name facts f) && fit_leaves facts statements f (fun_of_name facts f).leaves
 
 -- a prototype of a function whose flags, or whose state, are declared otherwise
 abbrev pub wrong_flag : Facts → List Statement → Statement → Option ℕ
 wrong_flag facts statements (One word fun) = None
 wrong_flag facts statements (Two word first second) = None
-wrong_flag facts statements (Proto ret name params) = flaw_if (not (is_declared facts statements name.bytes)) name.at
+wrong_flag facts statements (Proto ret name params) = place_if (not (is_declared facts statements name.bytes)) name.at
 
 -- one whose effects are
 abbrev pub wrong_effect : Facts → List Statement → Statement → Option ℕ
 wrong_effect facts statements (One word fun) = None
 wrong_effect facts statements (Two word first second) = None
 wrong_effect facts statements (Proto ret name params) =
-    flaw_if (not (same_effects (declared_effects statements name.bytes ret params) (service_effects facts (fun_named facts name.bytes)))) name.at
+    place_if (not (same_effects (declared_effects statements name.bytes ret params) (service_effects facts (fun_of_name facts name.bytes)))) name.at
 
 -- ---- transitions and recover steps
 
+-- whether two functions, where both names are functions', are one of these pairs
 abbrev pub has_pair_at : List (ℕ × ℕ) → Option ℕ → Option ℕ → Bool
 has_pair_at pairs None g = false
 has_pair_at pairs (Some f) None = false
@@ -153,14 +140,14 @@ has_pair_at pairs (Some f) (Some g) = has_pair pairs f g
 abbrev pub foreign : List ℕ → List (ℕ × ℕ) → Facts → Statement → Option ℕ
 foreign w pairs facts (One word fun) = None
 foreign w pairs facts (Two word first second) =
-    flaw_if (bytes_eq word.bytes w && not (has_pair_at pairs (number_of facts.funs first.bytes) (number_of facts.funs second.bytes))) first.at
+    place_if (bytes_eq word.bytes w && not (has_pair_at pairs (fun_number facts.funs first.bytes) (fun_number facts.funs second.bytes))) first.at
 foreign w pairs facts (Proto ret name params) = None
 
 -- ---- what descriptors can come to
 
 -- no prototype is of a creation
 abbrev pub no_creation : Facts → List Statement → Option ℕ
-no_creation facts statements = flaw_if (not (list_any (λ f. f.creation && has_proto statements f.name) facts.funs)) 0
+no_creation facts statements = place_if (not (list_any (λ f. f.creation && has_proto statements f.name) facts.funs)) 0
 
 -- the function of this number is to be reached and isn't
 abbrev pub IsUnreached : Declared → ℕ → Type 0
@@ -177,4 +164,4 @@ pub record HasNoWalk (i : Declared) (state : ℕ) : Type 0 where
 abbrev pub IsProtoWhere : Facts → (ℕ → Type 0) → Statement → ℕ → Type 0
 IsProtoWhere facts P (One word fun) at = ⊥
 IsProtoWhere facts P (Two word first second) at = ⊥
-IsProtoWhere facts P (Proto ret name params) at = (name.at ≡ at) × P (unwrap_or (number_of facts.funs name.bytes) 0)
+IsProtoWhere facts P (Proto ret name params) at = (name.at ≡ at) × P (unwrap_or (fun_number facts.funs name.bytes) 0)

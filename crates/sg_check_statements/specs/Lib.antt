@@ -1,8 +1,8 @@
-pub mod Says
-pub mod Params
 pub mod Effects
-pub mod Changes
-pub mod Flaws
 pub mod Faults
-pub mod Stages
+pub mod Flaws
+pub mod Inside
 pub mod Names
+pub mod Params
+pub mod Says
+pub mod Stages

@@ -10,28 +10,29 @@ use Rattle.sg_grammar.specs.declared.tree.TypeName.{TypeName}
 use Rattle.sg_grammar.specs.Named.{Named}
 
 -- whether a name, where there is one, is this word
-abbrev pub is_word : Option Named → List ℕ → Bool
-is_word None w = false
-is_word (Some n) w = bytes_eq n.bytes w
+abbrev pub has_word : Option Named → List ℕ → Bool
+has_word None w = false
+has_word (Some n) w = bytes_eq n.bytes w
 
 -- a client type has no star, and its last name is one of these
-abbrev pub is_client : TypeName → Bool
-is_client ty =
+abbrev pub is_client_type : TypeName → Bool
+is_client_type ty =
     let last = slice_get ty.names (length ty.names - 1) in
-    (ty.stars == 0) && (is_word last (codes "spdid_t") || is_word last (codes "componentid_t"))
+    (ty.stars == 0) && (has_word last (codes "spdid_t") || has_word last (codes "componentid_t"))
 
 -- the first parameter is a client, and is neither descriptor nor parent, nor added to a field
 abbrev pub is_caller : Param → Bool
-is_caller p = is_client p.ty && not (is_word p.form (codes "desc") || is_word p.form (codes "parent_desc") || is_word p.form (codes "desc_data_add"))
+is_caller p = is_client_type p.ty && not (has_word p.form (codes "desc") || has_word p.form (codes "parent_desc") || has_word p.form (codes "desc_data_add"))
 
 -- whether a later parameter is of a kind: a descriptor or a parent by its form, and then no text; else a text exactly
 -- where its type has a star
 abbrev pub is_of_kind : Param → Kind → Bool
-is_of_kind p Desc = is_word p.form (codes "desc") && (p.ty.stars == 0)
-is_of_kind p Parent = is_word p.form (codes "parent_desc") && (p.ty.stars == 0)
-is_of_kind p Word = not (is_word p.form (codes "desc")) && not (is_word p.form (codes "parent_desc")) && (p.ty.stars == 0)
-is_of_kind p Text = not (is_word p.form (codes "desc")) && not (is_word p.form (codes "parent_desc")) && not (p.ty.stars == 0)
+is_of_kind p Desc = has_word p.form (codes "desc") && (p.ty.stars == 0)
+is_of_kind p Parent = has_word p.form (codes "parent_desc") && (p.ty.stars == 0)
+is_of_kind p Word = not (has_word p.form (codes "desc")) && not (has_word p.form (codes "parent_desc")) && (p.ty.stars == 0)
+is_of_kind p Text = not (has_word p.form (codes "desc")) && not (has_word p.form (codes "parent_desc")) && not (p.ty.stars == 0)
 
+-- whether later parameters are of these kinds, one by one
 abbrev pub are_of_kinds : List Param → List Kind → Bool
 are_of_kinds [] [] = true
 are_of_kinds [] (k ∷ kinds) = false

@@ -25,24 +25,26 @@ is_two w f g (One word fun) = false
 is_two w f g (Two word first second) = bytes_eq word.bytes w && bytes_eq first.bytes f && bytes_eq second.bytes g
 is_two w f g (Proto ret name params) = false
 
--- whether some statement does
+-- whether some statement is a prototype of a function
 abbrev pub has_proto : List Statement → List ℕ → Bool
 has_proto statements f = list_any (is_proto f) statements
 
+-- whether some statement says a word of a function
 abbrev pub says : List Statement → List ℕ → List ℕ → Bool
 says statements w f = list_any (is_one w f) statements
 
+-- whether some statement says a word of a function and another name
 abbrev pub says_of : List Statement → List ℕ → List ℕ → List ℕ → Bool
 says_of statements w f g = list_any (is_two w f g) statements
 
 -- the number, from one on, of the first function with a name
-abbrev pub number_from : ℕ → List Fun → List ℕ → Option ℕ
-number_from n [] name = None
-number_from n (f ∷ funs) name = if bytes_eq f.name name then Some n else number_from (n + 1) funs name
+abbrev pub fun_number_from : ℕ → List Fun → List ℕ → Option ℕ
+fun_number_from n [] name = None
+fun_number_from n (f ∷ funs) name = if bytes_eq f.name name then Some n else fun_number_from (n + 1) funs name
 
 -- the number of the function of a name
-abbrev pub number_of : List Fun → List ℕ → Option ℕ
-number_of funs name = number_from 1 funs name
+abbrev pub fun_number : List Fun → List ℕ → Option ℕ
+fun_number funs name = fun_number_from 1 funs name
 
 -- the service of a name
 abbrev pub service_of : List Facts → List ℕ → Option Facts

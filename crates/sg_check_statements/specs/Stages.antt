@@ -5,12 +5,12 @@ use Rattle.sg_grammar.specs.declared.tree.Tree.{Tree}
 use Rattle.sg_check_statements.specs.declared.fault.CheckError.{CheckError}
 use Rattle.sg_check_statements.specs.declared.fault.CheckError.TheVariants.{NoMemory, Fault}
 use Rattle.sg_check_statements.specs.declared.fault.CheckKind.{CheckKind}
-use Rattle.sg_check_statements.specs.Faults.{FirstOf, IsFault, IsOf, rank}
+use Rattle.sg_check_statements.specs.Faults.{FirstOf, IsFault, IsOf, kind_rank}
 
 -- a text is of this service, and nothing is wrong with it of the first kinds, so many of them
 pub record IsClear (services : List Facts) (tree : Tree) (facts : Facts) (kinds : ℕ) : Type 0 where
   pub service : IsOf services tree facts
-  pub none : (kind : CheckKind) (place : ℕ) → rank kind < kinds → FirstOf services tree kind place → ⊥
+  pub none : (kind : CheckKind) (place : ℕ) → kind_rank kind < kinds → FirstOf services tree kind place → ⊥
 
 -- an error tells what is first wrong with a text, or that there is no memory
 abbrev pub IsFirstFault : List Facts → Tree → CheckError → Type 0

@@ -1,34 +1,34 @@
 // What a text says is done to a field.
 ghost use Rattle.std.specs.Prelude.{◌≡◌};
 ghost use Rattle.sg_check_statements.specs.Effects.{same_effect};
-ghost use Rattle.sg_check_statements.specs.Changes.{effect_of};
+ghost use Rattle.sg_check_statements.specs.Inside.Changes.{change_effect};
 
 use sg_facts::Effect;
 
 /// What a text says is done to a field. The number of an argument isn't bounded, as that of an `Effect` is.
 #[derive(Clone, Copy)]
 pub enum Change {
-    /// It is set to the caller.
+    /// The field is set to the caller.
     Caller,
-    /// It is set to an argument. The arguments count from 0.
+    /// The field is set to an argument. The arguments count from 0.
     Arg(usize),
-    /// An argument is added.
+    /// An argument is added to the field. The arguments count from 0.
     MoreArg(usize),
-    /// It is set to the returned word.
+    /// The field is set to the returned word.
     Ret,
-    /// The returned word is added.
+    /// The returned word is added to the field.
     MoreRet,
-    /// It is set to nothing.
+    /// The field is set to 0 or to the empty text.
     Nothing,
-    /// One is subtracted.
+    /// One is subtracted from the field.
     Less,
 }
 
 impl Change {
     /// Whether this is an effect of the service.
     pub fn is(self, effect: Effect) -> bool
-        ensures same { result ≡ same_effect effect (effect_of self) }
-        ensures back { result ≡ same_effect (effect_of self) effect }
+        ensures same { result ≡ same_effect effect (change_effect self) }
+        ensures back { result ≡ same_effect (change_effect self) effect }
     {
         match (effect, self) {
             (Effect::SetCaller, Change::Caller) => true,

@@ -2,12 +2,12 @@
 ghost use Rattle.std.specs.Prelude.{◌≡◌, ◌+◌, ◌||◌, if◌then◌else◌, false, [], ◌∷◌, codes, Bool};
 ghost use Rattle.std.specs.List.{list_any, flat_map};
 ghost use Rattle.sg_check_statements.specs.Effects.{Named_effect, arg_effects, caller_effects, declared_effects, later_effects, ret_effects, statement_effects};
-ghost use Rattle.sg_check_statements.specs.Changes.{effect_of};
-ghost use Rattle.sg_check_statements.specs.Params.{is_word as has_word};
+ghost use Rattle.sg_check_statements.specs.Inside.Changes.{change_effect};
+ghost use Rattle.sg_check_statements.specs.Params.{has_word};
 ghost use Rattle.sg_facts.specs.declared.shape.Effect.TheVariants.{SetArg, AddArg};
 
 use crate::change::Change;
-use crate::params::is_word;
+use crate::params::has_word;
 use sg_grammar::{Param, Ret, Statement};
 
 /// A test of effects.
@@ -17,7 +17,7 @@ pub trait Test {
 
     /// Whether a change of the field of this name passes.
     fn has(&self, field: &[u8], change: Change) -> bool
-        ensures { result ≡ passes self.now (field.now, effect_of change) };
+        ensures { result ≡ passes self.now (field.now, change_effect change) };
 }
 
 /// A prototype, with the statements beside it.
@@ -37,7 +37,7 @@ pub fn any_declared<T: Test>(test: &T, proto: &Proto) -> bool
     any_by_parts(test, proto)
 }
 
-// The same, part by part.
+// Whether some effect that is declared for a function passes, part by part of the declaration.
 fn any_by_parts<T: Test>(test: &T, proto: &Proto) -> bool
     ensures { result ≡ ((list_any (T.passes test.now) (caller_effects proto.now.params.now) || list_any (T.passes test.now) (later_effects proto.now.params.now))
         || (list_any (T.passes test.now) (ret_effects proto.now.ret.now)
@@ -48,7 +48,7 @@ fn any_by_parts<T: Test>(test: &T, proto: &Proto) -> bool
         || any_by_statements(test, proto.name, proto.statements)
 }
 
-// Whether one that parameters declare does.
+// Whether some effect that parameters declare passes.
 fn any_by_params<T: Test>(test: &T, params: &[Param]) -> bool
     ensures { result ≡ (list_any (T.passes test.now) (caller_effects params.now) || list_any (T.passes test.now) (later_effects params.now)) }
 {
@@ -58,14 +58,14 @@ fn any_by_params<T: Test>(test: &T, params: &[Param]) -> bool
     }
 }
 
-// Whether that of the first parameter does.
+// Whether the effect that the first parameter declares passes.
 fn by_caller<T: Test>(test: &T, caller: &Param) -> bool
     ensures { result ≡ list_any (T.passes test.now) (caller_effects (caller.now ∷ [])) }
 {
-    is_word(&caller.form, b"desc_data") && test.has(caller.name.slice, Change::Caller)
+    has_word(&caller.form, b"desc_data") && test.has(caller.name.slice, Change::Caller)
 }
 
-// Whether one of later parameters does.
+// Whether some effect that later parameters declare passes.
 fn any_by_args<T: Test>(test: &T, params: &[Param]) -> bool
     ensures { result ≡ list_any (T.passes test.now) (arg_effects 0 params.now) }
 {
@@ -86,23 +86,23 @@ fn any_by_args<T: Test>(test: &T, params: &[Param]) -> bool
 fn is_desc(param: &Param) -> bool
     ensures { result ≡ (has_word param.now.form (codes "desc") || has_word param.now.form (codes "parent_desc")) }
 {
-    is_word(&param.form, b"desc") || is_word(&param.form, b"parent_desc")
+    has_word(&param.form, b"desc") || has_word(&param.form, b"parent_desc")
 }
 
-// Whether the effect of an argument does.
+// Whether the effect that an argument declares passes.
 fn by_arg<T: Test>(test: &T, number: usize, param: &Param) -> bool
     ensures { result ≡ (if has_word param.now.form (codes "desc_data") then T.passes test.now (param.now.name.bytes, SetArg number)
         else (if has_word param.now.form (codes "desc_data_add") then T.passes test.now (param.now.name.bytes, AddArg number) else false)) }
 {
-    if is_word(&param.form, b"desc_data") {
+    if has_word(&param.form, b"desc_data") {
         test.has(param.name.slice, Change::Arg(number))
     } else {
-        is_word(&param.form, b"desc_data_add")
+        has_word(&param.form, b"desc_data_add")
             && test.has(param.name.slice, Change::MoreArg(number))
     }
 }
 
-// Whether that of the return does.
+// Whether the effect that the return declares passes.
 fn any_by_ret<T: Test>(test: &T, ret: &Ret) -> bool
     ensures { result ≡ list_any (T.passes test.now) (ret_effects ret.now) }
 {
@@ -113,7 +113,7 @@ fn any_by_ret<T: Test>(test: &T, ret: &Ret) -> bool
     }
 }
 
-// Whether one of statements of their own does.
+// Whether some effect that statements of their own declare passes.
 fn any_by_statements<T: Test>(test: &T, fun: &[u8], statements: &[Statement]) -> bool
     ensures { result ≡ list_any (λ s. list_any (T.passes test.now) (statement_effects fun.now s)) statements.now }
 {
@@ -122,7 +122,7 @@ fn any_by_statements<T: Test>(test: &T, fun: &[u8], statements: &[Statement]) ->
         .any(|statement| by_statement(test, fun, statement))
 }
 
-// Whether that of a statement does.
+// Whether the effect that a statement of its own declares passes.
 fn by_statement<T: Test>(test: &T, fun: &[u8], statement: &Statement) -> bool
     ensures { result ≡ list_any (T.passes test.now) (statement_effects fun.now statement.now) }
 {

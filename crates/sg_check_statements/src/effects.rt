@@ -1,16 +1,17 @@
 // Whether the effects of a function are declared as the service has them.
 ghost use Rattle.std.specs.Prelude.{◌≡◌, ◌&&◌, Some, MatchOption};
-ghost use Rattle.sg_check_statements.specs.Faults.{IsFirst, NoneOf};
+ghost use Rattle.sg_check_statements.specs.Faults.{IsFirstStatement, NoStatement};
 ghost use Rattle.sg_check_statements.specs.Flaws.{wrong_effect};
 ghost use Rattle.std.specs.List.{list_any, list_all};
 ghost use Rattle.std.specs.Str.{bytes_eq};
 ghost use Rattle.sg_facts.specs.Facts.{facts_of, fun_of_shape};
-ghost use Rattle.sg_check_statements.specs.Changes.{effect_of};
-ghost use Rattle.sg_check_statements.specs.Effects.{declared_effects, field_name, has_effect, same_effect, same_effects, service_effects};
+ghost use Rattle.sg_check_statements.specs.Inside.Changes.{change_effect};
+ghost use Rattle.sg_facts.specs.Words.{field_name};
+ghost use Rattle.sg_check_statements.specs.Effects.{declared_effects, has_effect, same_effect, same_effects, service_effects};
 
 use crate::change::Change;
 use crate::declared::{Proto, Test, any_declared};
-use crate::funs::fun_named;
+use crate::funs::fun_of_name;
 use crate::judge::{Judge, first_flaw};
 use sg_facts::{Effect, FunShape, Shape};
 use sg_grammar::Statement;
@@ -29,7 +30,7 @@ impl Judge for Effects<'_> {
         match statement {
             Statement::One { .. } | Statement::Two { .. } => None,
             Statement::Proto { ret, name, params } => {
-                let fun = fun_named(self.shape, name.slice);
+                let fun = fun_of_name(self.shape, name.slice);
                 let proto = Proto {
                     statements: self.statements,
                     name: name.slice,
@@ -49,8 +50,8 @@ impl Judge for Effects<'_> {
 /// The place of the first prototype whose effects aren't its function's.
 pub fn wrong_effect_in(shape: &Shape, statements: &[Statement]) -> Option<usize>
     ensures { MatchOption result
-        (NoneOf (λ before s p. wrong_effect (facts_of shape.now) statements.now s ≡ Some p) statements.now)
-        (IsFirst (λ before s p. wrong_effect (facts_of shape.now) statements.now s ≡ Some p) statements.now) }
+        (NoStatement (λ before s p. wrong_effect (facts_of shape.now) statements.now s ≡ Some p) statements.now)
+        (IsFirstStatement (λ before s p. wrong_effect (facts_of shape.now) statements.now s ≡ Some p) statements.now) }
 {
     first_flaw(&Effects { shape, statements }, statements)
 }
@@ -101,14 +102,14 @@ fn is_declared(field: &[u8], effect: Effect, proto: &Proto) -> bool
 
 // Whether a function has an effect.
 fn has_effect(shape: &Shape, fun: &FunShape, field: &[u8], change: Change) -> bool
-    ensures { result ≡ has_effect (service_effects (facts_of shape.now) (fun_of_shape fun.now)) (field.now, effect_of change) }
+    ensures { result ≡ has_effect (service_effects (facts_of shape.now) (fun_of_shape fun.now)) (field.now, change_effect change) }
 {
     is_among(shape, fun.effects, field, change)
 }
 
 // Whether an effect is one of these.
 fn is_among(shape: &Shape, effects: &[(u8, Effect)], field: &[u8], change: Change) -> bool
-    ensures { result ≡ list_any (λ e. bytes_eq (field_name (facts_of shape.now).fields e.0) field.now && same_effect e.1 (effect_of change)) effects.now }
+    ensures { result ≡ list_any (λ e. bytes_eq (field_name (facts_of shape.now).fields e.0) field.now && same_effect e.1 (change_effect change)) effects.now }
 {
     effects.iter().any(|effect| field_name(shape, effect.0) == field && change.is(effect.1))
 }

@@ -3,10 +3,10 @@ ghost use Rattle.std.specs.Prelude.{◌≡◌, Some, MatchOption, codes};
 ghost use Rattle.std.specs.List.{list_any};
 ghost use Rattle.sg_facts.specs.Facts.{facts_of, fun_of_shape};
 ghost use Rattle.sg_check_statements.specs.Says.{says};
-ghost use Rattle.sg_check_statements.specs.Faults.{IsFirst, NoneOf};
+ghost use Rattle.sg_check_statements.specs.Faults.{IsFirstStatement, NoStatement};
 ghost use Rattle.sg_check_statements.specs.Flaws.{wrong_flag, agree, fit_flags, fit_leaves, is_declared, leaves_another, leaves_some};
 
-use crate::funs::fun_named;
+use crate::funs::fun_of_name;
 use crate::judge::{Judge, first_flaw};
 use crate::says::{says, says_of};
 use sg_facts::{FunShape, Leaves, Shape};
@@ -39,8 +39,8 @@ impl Judge for Flags<'_> {
 /// The place of the first prototype whose function's flags, or whose state, are declared otherwise.
 pub fn wrong_flag_in(shape: &Shape, statements: &[Statement]) -> Option<usize>
     ensures { MatchOption result
-        (NoneOf (λ before s p. wrong_flag (facts_of shape.now) statements.now s ≡ Some p) statements.now)
-        (IsFirst (λ before s p. wrong_flag (facts_of shape.now) statements.now s ≡ Some p) statements.now) }
+        (NoStatement (λ before s p. wrong_flag (facts_of shape.now) statements.now s ≡ Some p) statements.now)
+        (IsFirstStatement (λ before s p. wrong_flag (facts_of shape.now) statements.now s ≡ Some p) statements.now) }
 {
     first_flaw(&Flags { shape, statements }, statements)
 }
@@ -50,7 +50,7 @@ pub fn wrong_flag_in(shape: &Shape, statements: &[Statement]) -> Option<usize>
 fn is_declared(shape: &Shape, statements: &[Statement], name: &[u8]) -> bool
     ensures { result ≡ is_declared (facts_of shape.now) statements.now name.now }
 {
-    let fun = fun_named(shape, name);
+    let fun = fun_of_name(shape, name);
     fit_flags(statements, name, &fun) && fit_leaves(shape, statements, name, fun.leaves)
 }
 
@@ -103,7 +103,7 @@ fn leaves_some(statements: &[Statement], fun: &[u8]) -> bool
     })
 }
 
-// Whether one names another state than this.
+// Whether a statement names a state, other than this, that a function leaves.
 fn leaves_another(statements: &[Statement], fun: &[u8], state: &[u8]) -> bool
     ensures { result ≡ list_any (leaves_another fun.now state.now) statements.now }
 {

@@ -1,8 +1,8 @@
 // The functions of a service, by their names.
 ghost use Rattle.std.specs.Prelude.{◌≡◌, ◌+◌, ◌<◌, ◌^◌, length, map, IfSome};
 ghost use Rattle.sg_facts.specs.Facts.{facts_of, fun_at, fun_of_shape};
-ghost use Rattle.sg_check_statements.specs.Says.{number_from, number_of};
-ghost use Rattle.sg_check_statements.specs.Flaws.{fun_named};
+ghost use Rattle.sg_check_statements.specs.Says.{fun_number_from, fun_number};
+ghost use Rattle.sg_check_statements.specs.Flaws.{fun_of_name};
 
 use sg_facts::{FunShape, Leaves, Shape};
 
@@ -16,29 +16,29 @@ const NO_FUN: FunShape = FunShape {
 };
 
 /// The number of the function of a name, from 1.
-pub fn number_of(shape: &Shape, name: &[u8]) -> Option<usize>
-    ensures { result ≡ number_of (facts_of shape.now).funs name.now }
+pub fn fun_number(shape: &Shape, name: &[u8]) -> Option<usize>
+    ensures { result ≡ fun_number (facts_of shape.now).funs name.now }
 {
-    number_from(1, shape.funs, name)
+    fun_number_from(1, shape.funs, name)
 }
 
-// The same, where the first of these functions has another number.
-fn number_from(first: usize, funs: &[FunShape], name: &[u8]) -> Option<usize>
+// The number of the function of a name, where the first of these functions has this number.
+fn fun_number_from(first: usize, funs: &[FunShape], name: &[u8]) -> Option<usize>
     requires { first + length funs.now < 2 ^ 64 }
-    ensures { result ≡ number_from first (map fun_of_shape funs.now) name.now }
+    ensures { result ≡ fun_number_from first (map fun_of_shape funs.now) name.now }
 {
     match funs {
         [] => None,
         [fun, ..] if fun.name == name => Some(first),
-        [_, rest @ ..] => number_from(first + 1, rest, name),
+        [_, rest @ ..] => fun_number_from(first + 1, rest, name),
     }
 }
 
 /// The function of a name; one without a name, parameters, flags and effects where the shape has none.
-pub fn fun_named(shape: &Shape, name: &[u8]) -> FunShape
-    ensures { fun_of_shape result ≡ fun_named (facts_of shape.now) name.now }
+pub fn fun_of_name(shape: &Shape, name: &[u8]) -> FunShape
+    ensures { fun_of_shape result ≡ fun_of_name (facts_of shape.now) name.now }
 {
-    match number_of(shape, name) {
+    match fun_number(shape, name) {
         Some(number) => fun_in(shape.funs, number),
         None => NO_FUN,
     }

@@ -1,9 +1,9 @@
 // Whether the facts at the head of a text are the service's.
-ghost use Rattle.std.specs.Prelude.{◌≡◌, codes};
+ghost use Rattle.std.specs.Prelude.{◌≡◌};
 ghost use Rattle.sg_facts.specs.Facts.{facts_of};
-ghost use Rattle.sg_check_statements.specs.Flaws.{close_word, flag_word, other_value, parents_word, wrong_fact};
+ghost use Rattle.sg_check_statements.specs.Flaws.{other_value, wrong_fact};
 
-use sg_facts::{Parents, Shape};
+use sg_facts::{Shape, close_word, flag_word, parents_word};
 use sg_grammar::{Facts, Name};
 
 /// The place of the first fact that isn't the service's.
@@ -28,29 +28,4 @@ fn other_value(value: &Name, word: &[u8]) -> Option<usize>
     } else {
         Some(value.at)
     }
-}
-
-// The word for which parents there may be.
-fn parents_word(parents: Parents) -> &'static [u8]
-    ensures { result.now ≡ parents_word parents }
-{
-    match parents {
-        Parents::Never => b"none",
-        Parents::Same => b"same",
-        Parents::Cross => b"cross",
-    }
-}
-
-// The word for whether a terminal function takes the descendants along.
-fn close_word(subtree: bool) -> &'static [u8]
-    ensures { result.now ≡ close_word subtree }
-{
-    if subtree { b"subtree" } else { b"refuse" }
-}
-
-// The word for a flag.
-fn flag_word(flag: bool) -> &'static [u8]
-    ensures { result.now ≡ flag_word flag }
-{
-    if flag { b"true" } else { b"false" }
 }

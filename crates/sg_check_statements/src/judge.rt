@@ -2,7 +2,7 @@
 ghost use Rattle.std.specs.Prelude.{◌≡◌, ℕ, List, Some, MatchOption};
 ghost use Rattle.std.specs.declared.option.Option.{Option as Maybe};
 ghost use Rattle.sg_grammar.specs.declared.tree.Statement.{Statement as One};
-ghost use Rattle.sg_check_statements.specs.Faults.{IsFirst, NoneOf};
+ghost use Rattle.sg_check_statements.specs.Faults.{IsFirstStatement, NoStatement};
 
 use sg_grammar::Statement;
 
@@ -18,8 +18,8 @@ pub trait Judge {
 
 /// The place of the first flaw of its kind.
 pub fn first_flaw<J: Judge>(judge: &J, statements: &[Statement]) -> Option<usize>
-    ensures { MatchOption result (NoneOf (λ before s p. J.flaw judge.now s ≡ Some p) statements.now)
-        (IsFirst (λ before s p. J.flaw judge.now s ≡ Some p) statements.now) }
+    ensures { MatchOption result (NoStatement (λ before s p. J.flaw judge.now s ≡ Some p) statements.now)
+        (IsFirstStatement (λ before s p. J.flaw judge.now s ≡ Some p) statements.now) }
 {
     'statements: for statement in statements {
         if let Some(at) = judge.flaw_in(statement) {

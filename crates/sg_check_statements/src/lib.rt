@@ -1,8 +1,8 @@
-//! What can be wrong with the text of an interface, up to whether it makes a descriptor at all: the first ten kinds of flaws,
+//! What can be wrong with the text of an interface, up to whether it makes a descriptor at all: the first ten kinds of faults,
 //! one after the other.
 //!
 //! - `fault`: what is wrong with an interface, and where (`CheckKind`, `CheckFault`, `CheckError`)
-//! - `stages`: the kinds in their order (`fit_one_by_one`)
+//! - `stages`: the kinds in their order (`fit_one_by_one`); an error where a fault of a kind is there (`unless`)
 //! - `judge`: what can be wrong with a statement by itself (`Judge`), and the first that is (`first_flaw`)
 //! - `services`: the service of a name; that a text makes no descriptor
 //! - `params`, `flags`: prototypes whose parameters, or whose flags and states, are declared otherwise
@@ -11,7 +11,7 @@
 //! - `pairs`: transitions and recover steps that the service hasn't
 //! - `unknown`: names without a prototype; `protos`: the prototypes (`Protos`), and one that is there twice; `names`: sets of
 //!   names
-//! - `says`: what statements say of functions (`says_of`); `funs`: functions by their names (`number_of`)
+//! - `says`: what statements say of functions (`says_of`); `funs`: functions by their names (`fun_number`)
 #![tactic(auto)]
 
 mod change;
@@ -29,13 +29,11 @@ mod protos;
 mod says;
 mod services;
 mod stages;
-#[cfg(test)]
-mod tests;
 mod unknown;
 
 pub use fault::{CheckError, CheckFault, CheckKind};
-pub use funs::number_of;
+pub use funs::fun_number;
 pub use judge::{Judge, first_flaw};
 pub use protos::Protos;
 pub use says::says_of;
-pub use stages::fit_one_by_one;
+pub use stages::{fit_one_by_one, unless};

@@ -1,11 +1,11 @@
 // Whether the transitions, or the recover steps, that statements name are the service's.
 ghost use Rattle.std.specs.Prelude.{◌≡◌, Some, MatchOption, codes};
-ghost use Rattle.sg_check_statements.specs.Faults.{IsFirst, NoneOf};
+ghost use Rattle.sg_check_statements.specs.Faults.{IsFirstStatement, NoStatement};
 ghost use Rattle.sg_facts.specs.Facts.{facts_of};
 ghost use Rattle.sg_facts.specs.Interface.{has_pair};
 ghost use Rattle.sg_check_statements.specs.Flaws.{foreign, has_pair_at};
 
-use crate::funs::number_of;
+use crate::funs::fun_number;
 use crate::judge::{Judge, first_flaw};
 use sg_facts::Shape;
 use sg_grammar::Statement;
@@ -40,14 +40,14 @@ impl Judge for Pairs<'_> {
 }
 
 impl Pairs<'_> {
-    ghost use Rattle.sg_check_statements.specs.Says.{number_of};
+    ghost use Rattle.sg_check_statements.specs.Says.{fun_number};
 
     // Whether the functions of these names are a pair.
     fn has(&self, first: &[u8], second: &[u8]) -> bool
         ensures { result ≡ has_pair_at self.now.pairs.now
-            (number_of (facts_of self.now.shape.now).funs first.now) (number_of (facts_of self.now.shape.now).funs second.now) }
+            (fun_number (facts_of self.now.shape.now).funs first.now) (fun_number (facts_of self.now.shape.now).funs second.now) }
     {
-        match (number_of(self.shape, first), number_of(self.shape, second)) {
+        match (fun_number(self.shape, first), fun_number(self.shape, second)) {
             (Some(first), Some(second)) => has_pair(self.pairs, first, second),
             _ => false,
         }
@@ -64,8 +64,8 @@ fn has_pair(pairs: &[(u8, u8)], first: usize, second: usize) -> bool
 /// The place of the first transition that isn't the service's.
 pub fn foreign_transition(shape: &Shape, statements: &[Statement]) -> Option<usize>
     ensures { MatchOption result
-        (NoneOf (λ before s p. foreign (codes "sm_transition") (facts_of shape.now).moves (facts_of shape.now) s ≡ Some p) statements.now)
-        (IsFirst (λ before s p. foreign (codes "sm_transition") (facts_of shape.now).moves (facts_of shape.now) s ≡ Some p) statements.now) }
+        (NoStatement (λ before s p. foreign (codes "sm_transition") (facts_of shape.now).moves (facts_of shape.now) s ≡ Some p) statements.now)
+        (IsFirstStatement (λ before s p. foreign (codes "sm_transition") (facts_of shape.now).moves (facts_of shape.now) s ≡ Some p) statements.now) }
 {
     first_flaw(
         &Pairs {
@@ -80,8 +80,8 @@ pub fn foreign_transition(shape: &Shape, statements: &[Statement]) -> Option<usi
 /// The place of the first recover step that isn't the service's.
 pub fn foreign_recover(shape: &Shape, statements: &[Statement]) -> Option<usize>
     ensures { MatchOption result
-        (NoneOf (λ before s p. foreign (codes "sm_recover") (facts_of shape.now).steps (facts_of shape.now) s ≡ Some p) statements.now)
-        (IsFirst (λ before s p. foreign (codes "sm_recover") (facts_of shape.now).steps (facts_of shape.now) s ≡ Some p) statements.now) }
+        (NoStatement (λ before s p. foreign (codes "sm_recover") (facts_of shape.now).steps (facts_of shape.now) s ≡ Some p) statements.now)
+        (IsFirstStatement (λ before s p. foreign (codes "sm_recover") (facts_of shape.now).steps (facts_of shape.now) s ≡ Some p) statements.now) }
 {
     first_flaw(
         &Pairs {

@@ -1,11 +1,11 @@
 // Whether a prototype has the parameters of its function.
 ghost use Rattle.std.specs.Prelude.{◌≡◌, Some, MatchOption, codes};
 ghost use Rattle.sg_facts.specs.Facts.{facts_of, fun_of_shape};
-ghost use Rattle.sg_check_statements.specs.Faults.{IsFirst, NoneOf};
+ghost use Rattle.sg_check_statements.specs.Faults.{IsFirstStatement, NoStatement};
 ghost use Rattle.sg_check_statements.specs.Flaws.{bad_params};
-ghost use Rattle.sg_check_statements.specs.Params.{are_of_kinds, fit_params, is_caller, is_client, is_of_kind, is_word};
+ghost use Rattle.sg_check_statements.specs.Params.{are_of_kinds, fit_params, is_caller, is_client_type, is_of_kind, has_word};
 
-use crate::funs::fun_named;
+use crate::funs::fun_of_name;
 use crate::judge::{Judge, first_flaw};
 use sg_facts::{FunShape, Kind, Shape};
 use sg_grammar::{Name, Param, Statement, TypeName};
@@ -23,7 +23,7 @@ impl Judge for Parameters<'_> {
         match statement {
             Statement::One { .. } | Statement::Two { .. } => None,
             Statement::Proto { name, params, .. } => {
-                let fun = fun_named(self.shape, name.slice);
+                let fun = fun_of_name(self.shape, name.slice);
                 if fit(&fun, params.as_slice()) {
                     None
                 } else {
@@ -37,8 +37,8 @@ impl Judge for Parameters<'_> {
 /// The place of the first prototype whose parameters aren't its function's.
 pub fn bad_params_in(shape: &Shape, statements: &[Statement]) -> Option<usize>
     ensures { MatchOption result
-        (NoneOf (λ before s p. bad_params (facts_of shape.now) s ≡ Some p) statements.now)
-        (IsFirst (λ before s p. bad_params (facts_of shape.now) s ≡ Some p) statements.now) }
+        (NoStatement (λ before s p. bad_params (facts_of shape.now) s ≡ Some p) statements.now)
+        (IsFirstStatement (λ before s p. bad_params (facts_of shape.now) s ≡ Some p) statements.now) }
 {
     first_flaw(&Parameters { shape }, statements)
 }
@@ -58,15 +58,15 @@ fn fit(fun: &FunShape, params: &[Param]) -> bool
 fn is_caller(param: &Param) -> bool
     ensures { result ≡ is_caller param.now }
 {
-    is_client(&param.ty)
-        && !(is_word(&param.form, b"desc")
-            || is_word(&param.form, b"parent_desc")
-            || is_word(&param.form, b"desc_data_add"))
+    is_client_type(&param.ty)
+        && !(has_word(&param.form, b"desc")
+            || has_word(&param.form, b"parent_desc")
+            || has_word(&param.form, b"desc_data_add"))
 }
 
 // Whether a type is that of a client.
-fn is_client(ty: &TypeName) -> bool
-    ensures { result ≡ is_client ty.now }
+fn is_client_type(ty: &TypeName) -> bool
+    ensures { result ≡ is_client_type ty.now }
 {
     match ty.names.as_slice().last() {
         Some(last) => {
@@ -79,8 +79,8 @@ fn is_client(ty: &TypeName) -> bool
 }
 
 /// Whether a name, where there is one, is this word.
-pub fn is_word(name: &Option<Name>, word: &[u8]) -> bool
-    ensures { result ≡ is_word name.now word.now }
+pub fn has_word(name: &Option<Name>, word: &[u8]) -> bool
+    ensures { result ≡ has_word name.now word.now }
 {
     match name {
         Some(name) => name.slice == word,
@@ -105,8 +105,8 @@ fn are_of_kinds(params: &[Param], kinds: &[Kind]) -> bool
 fn is_of_kind(param: &Param, kind: Kind) -> bool
     ensures { result ≡ is_of_kind param.now kind }
 {
-    let is_desc = is_word(&param.form, b"desc");
-    let is_parent = is_word(&param.form, b"parent_desc");
+    let is_desc = has_word(&param.form, b"desc");
+    let is_parent = has_word(&param.form, b"parent_desc");
     let is_text = param.ty.stars != 0;
     match kind {
         Kind::Desc => is_desc && !is_text,

@@ -1,6 +1,6 @@
 // The functions that have a prototype.
 ghost use Rattle.std.specs.Prelude.{◌≡◌, ◌||◌, ℕ, List, Some, IfOk, OnOk, MatchOption};
-ghost use Rattle.sg_check_statements.specs.Faults.{IsFirst, NoneOf};
+ghost use Rattle.sg_check_statements.specs.Faults.{IsFirstStatement, NoStatement};
 ghost use Rattle.sg_check_statements.specs.Flaws.{duplicate};
 ghost use Rattle.sg_check_statements.specs.Names.{AreOf, has_name};
 ghost use Rattle.sg_check_statements.specs.Says.{has_proto, is_proto};
@@ -32,7 +32,7 @@ impl<'s, 'a> Model for Protos<'s, 'a> {
 }
 
 impl<'s, 'a> Protos<'s, 'a> {
-    /// Those of statements.
+    /// The functions that have a prototype among these statements.
     pub fn of(alloc: Global, statements: &'s [Statement<'a>]) -> Result<Protos<'s, 'a>, NoMemory>
         ensures { IfOk result (λ p. p ≡ statements.now) }
     {
@@ -71,8 +71,8 @@ fn add_proto<'a>(names: &mut Names<'a>, statement: &Statement<'a>) -> Result<(),
 
 /// The place of the first prototype of a function that has one before.
 pub fn duplicate_in(alloc: Global, statements: &[Statement]) -> Result<Option<usize>, NoMemory>
-    ensures { IfOk result (λ r. MatchOption r (NoneOf (λ before s p. duplicate before s ≡ Some p) statements.now)
-        (IsFirst (λ before s p. duplicate before s ≡ Some p) statements.now)) }
+    ensures { IfOk result (λ r. MatchOption r (NoStatement (λ before s p. duplicate before s ≡ Some p) statements.now)
+        (IsFirstStatement (λ before s p. duplicate before s ≡ Some p) statements.now)) }
 {
     let mut names = Names::new(alloc);
     'statements: for statement in statements {
@@ -84,7 +84,7 @@ pub fn duplicate_in(alloc: Global, statements: &[Statement]) -> Result<Option<us
     Ok(None)
 }
 
-// The place of a prototype of a function that is among these.
+// The place of a prototype of a function that has one before.
 fn second_in(names: &Names, statement: &Statement) -> Option<usize>
     ensures { (before : List One) → AreOf names.now before → result ≡ duplicate before statement.now }
 {

@@ -1,8 +1,9 @@
-// The kinds of flaws, one after the other in their order.
+// The kinds of faults up to whether a text makes a descriptor at all, looked for in the order of `CheckKind`.
 ghost use Rattle.std.specs.Prelude.{◌≡◌, ℕ, None, Some, map};
 ghost use Rattle.std.specs.Result.{MatchResult};
 ghost use Rattle.sg_facts.specs.Facts.{facts_of};
 ghost use Rattle.sg_check_statements.specs.declared.fault.CheckError.TheVariants.{Fault};
+ghost use Rattle.sg_check_statements.specs.Inside.OneStage.{IsStage};
 ghost use Rattle.sg_check_statements.specs.Stages.{IsClear, IsFirstFault};
 
 use crate::effects::wrong_effect_in;
@@ -18,18 +19,40 @@ use sg_facts::Shape;
 use sg_grammar::Tree;
 use std::alloc::Global;
 
-// The service again, where there is no flaw of a kind.
-fn unless(shape: &Shape, kind: CheckKind, flaw: Option<usize>) -> Result<&Shape, CheckError>
-    ensures { MatchResult result (λ s. (s.now ≡ shape.now) × (flaw ≡ None))
-        (λ error. (at : ℕ) × (flaw ≡ Some at) × (error ≡ Fault (record { kind = kind; at = at }))) }
+/// The service of a text, where some function makes a descriptor, and nothing of the kinds before is wrong with the text. Else
+/// the error tells, of the first ten kinds that are wrong, the first in the order of `CheckKind`, at its first place.
+pub fn fit_one_by_one<'a>(
+    alloc: Global,
+    services: &'a [Shape],
+    tree: &Tree,
+) -> Result<&'a Shape, CheckError>
+    ensures { MatchResult result (λ s. IsClear (map facts_of services.now) tree.now (facts_of s.now) 10) (IsFirstFault (map facts_of services.now) tree.now) }
 {
-    match flaw {
-        None => Ok(shape),
+    let shape = service_of(services, tree)?;
+    named_once(alloc, shape, tree)?;
+    names_known(alloc, shape, tree)?;
+    params_fit(shape, tree)?;
+    facts_fit(shape, tree)?;
+    flags_fit(shape, tree)?;
+    effects_fit(shape, tree)?;
+    moves_fit(shape, tree)?;
+    steps_fit(shape, tree)?;
+    makes_descriptors(shape, tree)?;
+    Ok(shape)
+}
+
+/// Whether a text goes on to the next kind: an error tells the place of a fault of this kind, where there is one.
+pub fn unless(kind: CheckKind, fault: Option<usize>) -> Result<(), CheckError>
+    ensures { MatchResult result (λ _. fault ≡ None)
+        (λ error. (at : ℕ) × (fault ≡ Some at) × (error ≡ Fault (record { kind = kind; at = at }))) }
+{
+    match fault {
+        None => Ok(()),
         Some(at) => Err(CheckError::Fault(CheckFault { kind, at })),
     }
 }
 
-// The service of a text.
+// The service of a text's name.
 fn service_of<'a>(services: &'a [Shape], tree: &Tree) -> Result<&'a Shape, CheckError>
     ensures { MatchResult result (λ s. IsClear (map facts_of services.now) tree.now (facts_of s.now) 1) (IsFirstFault (map facts_of services.now) tree.now) }
 {
@@ -43,125 +66,88 @@ fn service_of<'a>(services: &'a [Shape], tree: &Tree) -> Result<&'a Shape, Check
     }
 }
 
-// It, where no function has a second prototype.
-fn named_once<'a>(
-    alloc: Global,
-    services: &'a [Shape],
-    tree: &Tree,
-) -> Result<&'a Shape, CheckError>
-    ensures { MatchResult result (λ s. IsClear (map facts_of services.now) tree.now (facts_of s.now) 2) (IsFirstFault (map facts_of services.now) tree.now) }
+// No function has a second prototype.
+fn named_once(alloc: Global, shape: &Shape, tree: &Tree) -> Result<(), CheckError>
+    ensures { IsStage tree.now (facts_of shape.now) 1 result }
 {
-    let shape = service_of(services, tree)?;
     unless(
-        shape,
         CheckKind::DuplicateName,
         duplicate_in(alloc, tree.statements.as_slice())?,
     )
 }
 
-// It, where the functions that are named are declared, and the service's.
-fn names_known<'a>(
-    alloc: Global,
-    services: &'a [Shape],
-    tree: &Tree,
-) -> Result<&'a Shape, CheckError>
-    ensures { MatchResult result (λ s. IsClear (map facts_of services.now) tree.now (facts_of s.now) 3) (IsFirstFault (map facts_of services.now) tree.now) }
+// The functions that statements name are declared, and are the service's.
+fn names_known(alloc: Global, shape: &Shape, tree: &Tree) -> Result<(), CheckError>
+    ensures { IsStage tree.now (facts_of shape.now) 2 result }
 {
-    let shape = named_once(alloc, services, tree)?;
     unless(
-        shape,
         CheckKind::UnknownFunction,
         unknown_in(alloc, shape, tree.statements.as_slice())?,
     )
 }
 
-// It, where prototypes have the parameters of their functions.
-fn params_fit<'a>(
-    alloc: Global,
-    services: &'a [Shape],
-    tree: &Tree,
-) -> Result<&'a Shape, CheckError>
-    ensures { MatchResult result (λ s. IsClear (map facts_of services.now) tree.now (facts_of s.now) 4) (IsFirstFault (map facts_of services.now) tree.now) }
+// Prototypes have the parameters of their functions.
+fn params_fit(shape: &Shape, tree: &Tree) -> Result<(), CheckError>
+    ensures { IsStage tree.now (facts_of shape.now) 3 result }
 {
-    let shape = names_known(alloc, services, tree)?;
     unless(
-        shape,
         CheckKind::BadParams,
         bad_params_in(shape, tree.statements.as_slice()),
     )
 }
 
-// It, where the facts at the head are its own.
-fn facts_fit<'a>(alloc: Global, services: &'a [Shape], tree: &Tree) -> Result<&'a Shape, CheckError>
-    ensures { MatchResult result (λ s. IsClear (map facts_of services.now) tree.now (facts_of s.now) 5) (IsFirstFault (map facts_of services.now) tree.now) }
+// The facts at the head are the service's.
+fn facts_fit(shape: &Shape, tree: &Tree) -> Result<(), CheckError>
+    ensures { IsStage tree.now (facts_of shape.now) 4 result }
 {
-    let shape = params_fit(alloc, services, tree)?;
-    unless(shape, CheckKind::WrongFact, wrong_fact(shape, &tree.facts))
+    unless(CheckKind::WrongFact, wrong_fact(shape, &tree.facts))
 }
 
-// It, where flags and states are declared as it has them.
-fn flags_fit<'a>(alloc: Global, services: &'a [Shape], tree: &Tree) -> Result<&'a Shape, CheckError>
-    ensures { MatchResult result (λ s. IsClear (map facts_of services.now) tree.now (facts_of s.now) 6) (IsFirstFault (map facts_of services.now) tree.now) }
+// Flags and states are declared as the service has them.
+fn flags_fit(shape: &Shape, tree: &Tree) -> Result<(), CheckError>
+    ensures { IsStage tree.now (facts_of shape.now) 5 result }
 {
-    let shape = facts_fit(alloc, services, tree)?;
     unless(
-        shape,
         CheckKind::WrongFlag,
         wrong_flag_in(shape, tree.statements.as_slice()),
     )
 }
 
-// It, where effects are.
-fn effects_fit<'a>(
-    alloc: Global,
-    services: &'a [Shape],
-    tree: &Tree,
-) -> Result<&'a Shape, CheckError>
-    ensures { MatchResult result (λ s. IsClear (map facts_of services.now) tree.now (facts_of s.now) 7) (IsFirstFault (map facts_of services.now) tree.now) }
+// Effects are declared as the service has them.
+fn effects_fit(shape: &Shape, tree: &Tree) -> Result<(), CheckError>
+    ensures { IsStage tree.now (facts_of shape.now) 6 result }
 {
-    let shape = flags_fit(alloc, services, tree)?;
     unless(
-        shape,
         CheckKind::WrongEffect,
         wrong_effect_in(shape, tree.statements.as_slice()),
     )
 }
 
-// It, where it has the transitions.
-fn moves_fit<'a>(alloc: Global, services: &'a [Shape], tree: &Tree) -> Result<&'a Shape, CheckError>
-    ensures { MatchResult result (λ s. IsClear (map facts_of services.now) tree.now (facts_of s.now) 8) (IsFirstFault (map facts_of services.now) tree.now) }
+// The transitions are the service's.
+fn moves_fit(shape: &Shape, tree: &Tree) -> Result<(), CheckError>
+    ensures { IsStage tree.now (facts_of shape.now) 7 result }
 {
-    let shape = effects_fit(alloc, services, tree)?;
     unless(
-        shape,
         CheckKind::ForeignTransition,
         foreign_transition(shape, tree.statements.as_slice()),
     )
 }
 
-// It, where it has the recover steps.
-fn steps_fit<'a>(alloc: Global, services: &'a [Shape], tree: &Tree) -> Result<&'a Shape, CheckError>
-    ensures { MatchResult result (λ s. IsClear (map facts_of services.now) tree.now (facts_of s.now) 9) (IsFirstFault (map facts_of services.now) tree.now) }
+// The recover steps are the service's.
+fn steps_fit(shape: &Shape, tree: &Tree) -> Result<(), CheckError>
+    ensures { IsStage tree.now (facts_of shape.now) 8 result }
 {
-    let shape = moves_fit(alloc, services, tree)?;
     unless(
-        shape,
         CheckKind::ForeignRecover,
         foreign_recover(shape, tree.statements.as_slice()),
     )
 }
 
-/// The service of a text, where some function makes a descriptor, and nothing of the kinds before is wrong with the text.
-pub fn fit_one_by_one<'a>(
-    alloc: Global,
-    services: &'a [Shape],
-    tree: &Tree,
-) -> Result<&'a Shape, CheckError>
-    ensures { MatchResult result (λ s. IsClear (map facts_of services.now) tree.now (facts_of s.now) 10) (IsFirstFault (map facts_of services.now) tree.now) }
+// Some function makes a descriptor.
+fn makes_descriptors(shape: &Shape, tree: &Tree) -> Result<(), CheckError>
+    ensures { IsStage tree.now (facts_of shape.now) 9 result }
 {
-    let shape = steps_fit(alloc, services, tree)?;
     unless(
-        shape,
         CheckKind::NoCreation,
         no_creation(shape, tree.statements.as_slice()),
     )

@@ -1,11 +1,11 @@
 // Whether the functions that statements name are declared, and those that are declared the service's.
 ghost use Rattle.std.specs.Prelude.{◌≡◌, ◌&&◌, not, Some, IfOk, MatchOption, codes};
-ghost use Rattle.sg_check_statements.specs.Faults.{IsFirst, NoneOf};
+ghost use Rattle.sg_check_statements.specs.Faults.{IsFirstStatement, NoStatement};
 ghost use Rattle.sg_facts.specs.Facts.{facts_of};
-ghost use Rattle.sg_check_statements.specs.Flaws.{flaw_if, names_two, unknown};
+ghost use Rattle.sg_check_statements.specs.Flaws.{place_if, names_two, unknown};
 ghost use Rattle.sg_check_statements.specs.Says.{has_proto};
 
-use crate::funs::number_of;
+use crate::funs::fun_number;
 use crate::judge::{Judge, first_flaw};
 use crate::protos::Protos;
 use sg_base::NoMemory;
@@ -31,7 +31,7 @@ impl Judge for Unknown<'_, '_, '_> {
                 first,
                 second,
             } => bare(self.protos, first).or(bare_second(self.protos, word.slice, second)),
-            Statement::Proto { name, .. } => match number_of(self.shape, name.slice) {
+            Statement::Proto { name, .. } => match fun_number(self.shape, name.slice) {
                 Some(_) => None,
                 None => Some(name.at),
             },
@@ -41,7 +41,7 @@ impl Judge for Unknown<'_, '_, '_> {
 
 // The place of the name of a function that has no prototype.
 fn bare(protos: &Protos, name: &Name) -> Option<usize>
-    ensures { result ≡ flaw_if (not (has_proto protos.now name.now.bytes)) name.now.at }
+    ensures { result ≡ place_if (not (has_proto protos.now name.now.bytes)) name.now.at }
 {
     if protos.has(name.slice) {
         None
@@ -50,9 +50,9 @@ fn bare(protos: &Protos, name: &Name) -> Option<usize>
     }
 }
 
-// The same of a second name, where a word says that it is a function's.
+// The place of a second name, where a word says that this is a function's, and the function has no prototype.
 fn bare_second(protos: &Protos, word: &[u8], name: &Name) -> Option<usize>
-    ensures { result ≡ flaw_if (names_two word.now && not (has_proto protos.now name.now.bytes)) name.now.at }
+    ensures { result ≡ place_if (names_two word.now && not (has_proto protos.now name.now.bytes)) name.now.at }
 {
     if names_two(word) {
         bare(protos, name)
@@ -77,8 +77,8 @@ pub fn unknown_in(
     statements: &[Statement],
 ) -> Result<Option<usize>, NoMemory>
     ensures { IfOk result (λ r. MatchOption r
-        (NoneOf (λ before s p. unknown (facts_of shape.now) statements.now s ≡ Some p) statements.now)
-        (IsFirst (λ before s p. unknown (facts_of shape.now) statements.now s ≡ Some p) statements.now)) }
+        (NoStatement (λ before s p. unknown (facts_of shape.now) statements.now s ≡ Some p) statements.now)
+        (IsFirstStatement (λ before s p. unknown (facts_of shape.now) statements.now s ≡ Some p) statements.now)) }
 {
     let protos = Protos::of(alloc, statements)?;
     Ok(first_flaw(

@@ -11,13 +11,19 @@ use Rattle.sg_grammar.specs.declared.error.ParseError.TheVariants.{NoMemory as n
 use Rattle.sg_grammar.specs.declared.tree.Tree.{Tree}
 use Rattle.sg_grammar.specs.Parses.{Parses}
 use Rattle.sg_grammar.proofs.Readings.{only_answer}
-use Rattle.sg_check_statements.specs.Faults.{IsAccepted, IsFault}
+use Rattle.sg_facts.specs.Tables.{AreTables}
+use Rattle.sg_print.specs.TablesText.{tables_text}
+use Rattle.sg_check_statements.specs.Faults.{IsAccepted, IsFault, interface_of}
 use Rattle.sg_check.proofs.Unique.{same_fault}
+use Rattle.sg_stub.proofs.OneTable.{one_table}
+use Rattle.sg_diagnose.specs.declared.examined.Examined.{Examined}
+use Rattle.sg_diagnose.specs.declared.examined.Examined.TheVariants.{Accepted as accepted, Refused as refused}
+use Rattle.sg_diagnose.specs.Examined.{IsExamined}
 use Rattle.sg_diagnose.specs.declared.outcome.Verdict.{Verdict}
 use Rattle.sg_diagnose.specs.declared.outcome.Verdict.TheVariants.{Accepted, Refused}
 use Rattle.sg_diagnose.specs.declared.refusal.RefusalKind.{RefusalKind}
 use Rattle.sg_diagnose.specs.declared.refusal.RefusalKind.TheVariants.{Lex, Syntax, Check}
-use Rattle.sg_diagnose.specs.Verdicts.{IsRefused, IsVerdict, accepted_line, refusal_line}
+use Rattle.sg_diagnose.specs.Verdicts.{IsCompiled, IsRefused, IsVerdict, accepted_line, refusal_line}
 
 -- a text has one answer of the parser, want of memory aside
 one_answer : (text : List ℕ) (one other : Result Tree ParseError) → Parses text one → Parses text other
@@ -64,12 +70,12 @@ one_refusal services text (Check one) (Check other) here there (tree, p, is) (tr
     let both = same_fault services tree one other here there is (subst (λ t. IsFault services t other there) same is') in
     (ap Check both.0, both.1)
 
--- an accepted text is of one service
-one_service : (services : List Facts) (tree : Tree) (i j : Declared) → IsAccepted services tree i → IsAccepted services tree j → i.facts.name ≡ j.facts.name
-one_service services tree i j a b =
+-- an accepted text declares one interface
+one_interface : (services : List Facts) (tree : Tree) (i j : Declared) → IsAccepted services tree i → IsAccepted services tree j → i ≡ j
+one_interface services tree i j a b =
     let found : Some a.facts ≡ Some b.facts = sym a.service ∙ b.service in
     let same : a.facts ≡ b.facts = cc in
-    ap (λ d. d.facts.name) a.declared ∙ ap (λ f. f.name) same ∙ sym (ap (λ d. d.facts.name) b.declared)
+    a.declared ∙ ap (λ f. interface_of f tree.statements) same ∙ sym b.declared
 
 -- an accepted text isn't refused
 not_both : (services : List Facts) (text : List ℕ) (tree : Tree) (i : Declared) (kind : RefusalKind) (at : ℕ)
@@ -83,8 +89,8 @@ pub one_verdict : (services : List Facts) (text : List ℕ) (one other : Verdict
     → IsVerdict services text one → IsVerdict services text other → one ≡ other
 one_verdict services text (Accepted line) (Accepted line') (tree, i, p, is, said) (tree', i', q, is', said') =
     let same = one_tree text tree' tree q p in
-    let name = one_service services tree i i' is (subst (λ t. IsAccepted services t i') same is') in
-    ap Accepted (said ∙ ap accepted_line name ∙ sym said')
+    let own = one_interface services tree i i' is (subst (λ t. IsAccepted services t i') same is') in
+    ap Accepted (said ∙ ap (λ d. accepted_line d.facts.name) own ∙ sym said')
 one_verdict services text (Accepted line) (Refused line') (tree, i, p, is, said) (kind, at, q, said') =
     absurd (not_both services text tree i kind at p is q)
 one_verdict services text (Refused line) (Accepted line') (kind, at, q, said) (tree, i, p, is, said') =
@@ -93,8 +99,34 @@ one_verdict services text (Refused line) (Refused line') (kind, at, p, said) (ki
     let both = one_refusal services text kind kind' at at' p q in
     ap Refused (said ∙ ap (λ k. refusal_line text k at) both.0 ∙ ap (refusal_line text kind') both.1 ∙ sym said')
 
--- where it is answered at all, it is that one
-pub only : (services : List Facts) (text : List ℕ) (answer : Result Verdict NoMemory) → IfOk answer (IsVerdict services text)
-    → (other : Verdict) → IsVerdict services text other → IfOk answer (λ v. v ≡ other)
-only services text (Ok v) is other said = one_verdict services text v other is said
-only services text (Err e) is other said = tt
+pub one_compiled : (services : List Facts) (text : List ℕ) (one other : Verdict)
+    → IsCompiled services text one → IsCompiled services text other → one ≡ other
+one_compiled services text (Accepted output) (Accepted output') (tree, tables, p, is, are, said) (tree', tables', q, is', are', said') =
+    let same = one_tree text tree' tree q p in
+    let own = one_interface services tree tables.iface tables'.iface is (subst (λ t. IsAccepted services t tables'.iface) same is') in
+    let walks = one_table tables.iface tables.walks tables'.walks are (subst (λ i. AreTables i tables'.walks) (sym own) are') in
+    ap Accepted (said ∙ ap (λ i. tables_text (record { iface = i; walks = tables.walks })) own
+    ∙ ap (λ w. tables_text (record { iface = tables'.iface; walks = w })) walks ∙ sym said')
+one_compiled services text (Accepted output) (Refused line) (tree, tables, p, is, are, said) (kind, at, q, said') =
+    absurd (not_both services text tree tables.iface kind at p is q)
+one_compiled services text (Refused line) (Accepted output) (kind, at, q, said) (tree, tables, p, is, are, said') =
+    absurd (not_both services text tree tables.iface kind at p is q)
+one_compiled services text (Refused line) (Refused line') one other = one_verdict services text (Refused line) (Refused line') one other
+
+pub one_examined : (services : List Facts) (text : List ℕ) (one other : Examined)
+    → IsExamined services text one → IsExamined services text other → one ≡ other
+one_examined services text (accepted i) (accepted j) (tree, p, is) (tree', q, is') =
+    let same = one_tree text tree' tree q p in
+    ap accepted (one_interface services tree i j is (subst (λ t. IsAccepted services t j) same is'))
+one_examined services text (accepted i) (refused line) (tree, p, is) (kind, at, q, said) = absurd (not_both services text tree i kind at p is q)
+one_examined services text (refused line) (accepted i) (kind, at, q, said) (tree, p, is) = absurd (not_both services text tree i kind at p is q)
+one_examined services text (refused line) (refused line') one other =
+    let same : Refused line ≡ Refused line' = one_verdict services text (Refused line) (Refused line') one other in
+    let lines : line ≡ line' = cc in
+    ap refused lines
+
+-- where there is an answer, and one value alone answers, the answer is that value
+pub only : {A : Type 0} (Is : A → Type 0) (answer : Result A NoMemory) → ((one other : A) → Is one → Is other → one ≡ other) → IfOk answer Is
+    → (other : A) → Is other → IfOk answer (λ v. v ≡ other)
+only Is (Ok v) one is other said = one v other is said
+only Is (Err e) one is other said = tt

@@ -35,10 +35,10 @@ check_name Unreached = codes "Unreached"
 check_name NoWalk = codes "NoWalk"
 
 -- the name of a kind of refusal
-abbrev pub kind_name : RefusalKind → List ℕ
-kind_name Lex = codes "Lex"
-kind_name Syntax = codes "Syntax"
-kind_name (Check kind) = check_name kind
+abbrev pub refusal_name : RefusalKind → List ℕ
+refusal_name Lex = codes "Lex"
+refusal_name Syntax = codes "Syntax"
+refusal_name (Check kind) = check_name kind
 
 -- the line of a text that is accepted, by its service's name
 abbrev pub accepted_line : List ℕ → List ℕ
@@ -48,7 +48,7 @@ accepted_line service = codes "accepted " ++ service ++ 10 ∷ []
 abbrev pub refusal_line : List ℕ → RefusalKind → ℕ → List ℕ
 refusal_line text kind at =
     codes "interface refused at " ++ decimal (line_of text at) ++ codes ":" ++ decimal (column_of text at) ++ codes ": "
-    ++ kind_name kind ++ 10 ∷ []
+    ++ refusal_name kind ++ 10 ∷ []
 
 -- ---- verdicts
 

@@ -5,8 +5,8 @@ use sg_check::Accepted;
 /// What comes of a text before anything is said of it.
 #[derive(Debug, Drop)]
 pub enum Examined {
-    /// It is accepted, with this interface.
+    /// The text is accepted, with this interface.
     Accepted(Accepted),
-    /// It is refused, with this line.
+    /// The text is refused, with this line.
     Refused(Bytes),
 }

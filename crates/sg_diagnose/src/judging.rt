@@ -4,6 +4,7 @@ ghost use Rattle.sg_facts.specs.Facts.{Facts, facts_of};
 ghost use Rattle.sg_grammar.specs.Parses.{Parses};
 ghost use Rattle.sg_check.specs.Shapes.{are_shapes};
 ghost use Rattle.sg_diagnose.specs.declared.outcome.Verdict.{Verdict as Outcome};
+ghost use Rattle.sg_diagnose.specs.declared.examined.Examined.{Examined as Answer};
 ghost use Rattle.sg_diagnose.specs.Examined.{IsExamined};
 ghost use Rattle.sg_diagnose.specs.Verdicts.{IsCompiled, IsRefused, IsVerdict};
 
@@ -36,23 +37,30 @@ pub fn verdict(alloc: Global, text: &[u8], shapes: &[Shape]) -> Result<Verdict, 
 /// refuses it with. The shapes are as for `verdict`. The only error is want of memory.
 pub fn compiled(alloc: Global, text: &[u8], shapes: &[Shape]) -> Result<Verdict, NoMemory>
     requires { are_shapes (map facts_of shapes.now) ≡ true }
-    ensures { IfOk result (IsCompiled (map facts_of shapes.now) text.now) }
+    ensures verdict { IfOk result (IsCompiled (map facts_of shapes.now) text.now) }
+    // No other verdict may be given.
+    ensures only { (other : Outcome) → IsCompiled (map facts_of shapes.now) text.now other → IfOk result (λ v. v ≡ other) }
 {
-    match examine(alloc, text, shapes)? {
-        Examined::Accepted(accepted) => {
-            let tables = compile(alloc, &accepted)?;
-            Ok(Verdict::Accepted(print_tables(alloc, &tables)?))
-        }
-        Examined::Refused(line) => Ok(Verdict::Refused(line)),
-    }
+    judge_tables(alloc, text, shapes)
 }
 
-// What `verdict` says.
+/// The interface of a text that is accepted, or the line that `verdict` refuses it with. The shapes are as for `verdict`. The
+/// only error is want of memory.
+pub fn examine(alloc: Global, text: &[u8], shapes: &[Shape]) -> Result<Examined, NoMemory>
+    requires { are_shapes (map facts_of shapes.now) ≡ true }
+    ensures answer { IfOk result (IsExamined (map facts_of shapes.now) text.now) }
+    // No other answer may be given.
+    ensures only { (other : Answer) → IsExamined (map facts_of shapes.now) text.now other → IfOk result (λ e. e ≡ other) }
+{
+    examine_text(alloc, text, shapes)
+}
+
+// The line that accepts a text or refuses it, for `verdict`.
 fn judge(alloc: Global, text: &[u8], shapes: &[Shape]) -> Result<Verdict, NoMemory>
     requires { are_shapes (map facts_of shapes.now) ≡ true }
     ensures { IfOk result (IsVerdict (map facts_of shapes.now) text.now) }
 {
-    match examine(alloc, text, shapes)? {
+    match examine_text(alloc, text, shapes)? {
         Examined::Accepted(accepted) => {
             let service = accepted.interface().shape.name;
             Ok(Verdict::Accepted(accepted_line(alloc, service)?))
@@ -61,9 +69,22 @@ fn judge(alloc: Global, text: &[u8], shapes: &[Shape]) -> Result<Verdict, NoMemo
     }
 }
 
-/// The interface of a text that is accepted, or the line that `verdict` refuses it with. The shapes are as for `verdict`. The
-/// only error is want of memory.
-pub fn examine(alloc: Global, text: &[u8], shapes: &[Shape]) -> Result<Examined, NoMemory>
+// The text of the tables of a text, or the line that refuses the text, for `compiled`.
+fn judge_tables(alloc: Global, text: &[u8], shapes: &[Shape]) -> Result<Verdict, NoMemory>
+    requires { are_shapes (map facts_of shapes.now) ≡ true }
+    ensures { IfOk result (IsCompiled (map facts_of shapes.now) text.now) }
+{
+    match examine_text(alloc, text, shapes)? {
+        Examined::Accepted(accepted) => {
+            let tables = compile(alloc, &accepted)?;
+            Ok(Verdict::Accepted(print_tables(alloc, &tables)?))
+        }
+        Examined::Refused(line) => Ok(Verdict::Refused(line)),
+    }
+}
+
+// The interface of a text, or the line that refuses the text, by what the parser answers.
+fn examine_text(alloc: Global, text: &[u8], shapes: &[Shape]) -> Result<Examined, NoMemory>
     requires { are_shapes (map facts_of shapes.now) ≡ true }
     ensures { IfOk result (IsExamined (map facts_of shapes.now) text.now) }
 {
@@ -75,7 +96,7 @@ pub fn examine(alloc: Global, text: &[u8], shapes: &[Shape]) -> Result<Examined,
     }
 }
 
-// The same of a sentence.
+// The interface of a text that is a sentence, or the line that refuses the text, by what the checker answers.
 fn examine_tree(
     alloc: Global,
     text: &[u8],
@@ -95,7 +116,7 @@ fn examine_tree(
     }
 }
 
-// The line of a kind and a place. It is what is said of a text that is refused so, whatever the services.
+// The line of a kind and a place: what is said of a text that is refused for that kind there, whatever the services.
 fn refuse(alloc: Global, text: &[u8], kind: RefusalKind, at: usize) -> Result<Examined, NoMemory>
     ensures { IfOk result (λ e. (services : List Facts) → IsRefused services text.now kind at → IsExamined services text.now e) }
 {

@@ -18,8 +18,6 @@ mod lines;
 mod outcome;
 mod places;
 mod refusal;
-#[cfg(test)]
-mod tests;
 
 pub use examined::Examined;
 pub use judging::{compiled, examine, verdict};

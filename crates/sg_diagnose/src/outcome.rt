@@ -4,8 +4,8 @@ use sg_base::Bytes;
 /// What is said of a text, with the bytes that say it: a line or more, with their LFs.
 #[derive(Debug, Drop)]
 pub enum Verdict {
-    /// It is accepted.
+    /// The text is accepted.
     Accepted(Bytes),
-    /// It is refused.
+    /// The text is refused.
     Refused(Bytes),
 }

@@ -1,6 +1,6 @@
 // Why a text is refused.
 ghost use Rattle.std.specs.Prelude.{◌≡◌};
-ghost use Rattle.sg_diagnose.specs.Verdicts.{check_name, kind_name};
+ghost use Rattle.sg_diagnose.specs.Verdicts.{check_name, refusal_name};
 
 use sg_check_statements::CheckKind;
 
@@ -11,13 +11,13 @@ pub enum RefusalKind {
     Lex,
     /// The tokens can't go on so there, or the text ends there too early.
     Syntax,
-    /// It is a sentence, and its interface isn't accepted.
+    /// The text is a sentence, and its interface isn't accepted.
     Check(CheckKind),
 }
 
 // The name of a kind, as it is written.
 pub(crate) fn name_of(kind: RefusalKind) -> &'static str
-    ensures { result.now ≡ kind_name kind }
+    ensures { result.now ≡ refusal_name kind }
 {
     match kind {
         RefusalKind::Lex => "Lex",

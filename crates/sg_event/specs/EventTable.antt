@@ -22,8 +22,8 @@ abbrev pub done : ℕ → Option Reply
 done desc = Some (Ok (record { desc = desc; words = []; bytes = [] }))
 
 -- a wait blocks while the count is 0
-abbrev pub wait_answer : ℕ → Option Reply
-wait_answer count = if count == 0 then None else done 0
+abbrev pub event_wait_answer : ℕ → Option Reply
+event_wait_answer count = if count == 0 then None else done 0
 
 -- a trigger is refused where the count would pass its greatest number
 abbrev pub trigger_answer : ℕ → ℕ → Option Reply
@@ -32,7 +32,7 @@ trigger_answer count n = if nat_lt most_count (count + n) then Some (Refused Ove
 -- the answer by the function's number: 1 evt_split, 2 evt_wait, 3 evt_trigger, 4 evt_free; there is no other
 abbrev pub event_answer : ℕ → ℕ → ℕ → ℕ → Option Reply
 event_answer (suc zero) given count n = done (given + 1)
-event_answer (suc (suc zero)) given count n = wait_answer count
+event_answer (suc (suc zero)) given count n = event_wait_answer count
 event_answer (suc (suc (suc zero))) given count n = trigger_answer count n
 event_answer (suc (suc (suc (suc zero)))) given count n = done 0
 event_answer _ given count n = Some (Refused NotFound)

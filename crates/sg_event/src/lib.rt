@@ -1,4 +1,10 @@
 //! Events: each has a count, which a trigger raises and a wait takes one from.
 //!
-//! The crate has the facts of the service and its table, in `specs/`. The service itself is still to come.
+//! The facts of the service and its table are in `specs/`. The service itself is still to come.
+//!
+//! - `shape`: the facts of the service, those of its standard interface (`event_shape`)
 #![tactic(auto)]
+
+mod shape;
+
+pub use shape::event_shape;

@@ -13,12 +13,12 @@ abbrev pub IsOfClient : Row → Type 0
 IsOfClient r = implies (r.made == 1) (nat_le 1 (space_of r) && nat_le (space_of r) 64) ≡ true
 
 -- no two pages are in one space at one address
-abbrev pub AreApart : List Row → Type 0
-AreApart [] = Unit {0}
-AreApart (r ∷ rows) = (list_any (is_at (space_of r) (addr_of r)) rows ≡ false) × AreApart rows
+abbrev pub HaveOwnAddresses : List Row → Type 0
+HaveOwnAddresses [] = Unit {0}
+HaveOwnAddresses (r ∷ rows) = (list_any (is_at (space_of r) (addr_of r)) rows ≡ false) × HaveOwnAddresses rows
 
 -- a sound object of the memory mapping service
 pub record IsMmSound (o : Object) : Type 0 where
   pub general : IsSound mm_facts o
   pub of_clients : AreRows IsOfClient 0 o.given o.rows
-  pub apart : AreApart o.rows
+  pub apart : HaveOwnAddresses o.rows

@@ -6,7 +6,8 @@ use Rattle.sg_facts.specs.Track.{word_of, field_at}
 use Rattle.sg_facts.specs.Object.{Object, first_text, path_of}
 use Rattle.sg_facts.specs.Sound.{IsSound, AreRows}
 use Rattle.sg_ramfs.specs.RamfsFacts.{ramfs_facts}
-use Rattle.sg_ramfs.specs.RamfsTable.{most_path, most_file, is_bad_name}
+use Rattle.sg_facts.specs.Limits.{most_file, most_path}
+use Rattle.sg_ramfs.specs.RamfsTable.{is_bad_name}
 
 -- a descriptor among live rows: its name is good, its path no longer than paths may be, its place within what files may
 -- have

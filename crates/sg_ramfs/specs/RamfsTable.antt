@@ -9,20 +9,16 @@ use Rattle.sg_base.specs.declared.reply.Reply.TheVariants.{Ok, Refused}
 use Rattle.sg_facts.specs.Track.{row_at, word_of, arg_at}
 use Rattle.sg_facts.specs.Object.{Object, first_text, path_of, file_at, place_of}
 use Rattle.sg_facts.specs.Legal.{Table}
+use Rattle.sg_facts.specs.Limits.{most_file, most_path}
 use Rattle.sg_ramfs.specs.RamfsFacts.{tread, twrite}
 
--- the greatest length of a name, of a path, of what is read at once, and of a file
+-- the greatest number of bytes of a name
 abbrev pub most_name : ℕ
 most_name = 64
 
-abbrev pub most_path : ℕ
-most_path = 256
-
+-- the greatest number of bytes that a call reads
 abbrev pub most_read : ℕ
 most_read = 256
-
-abbrev pub most_file : ℕ
-most_file = 65536
 
 -- whether a name is empty, too long, or has a slash
 abbrev pub is_bad_name : List ℕ → Bool

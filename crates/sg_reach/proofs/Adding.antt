@@ -3,7 +3,7 @@ use Rattle.std.proofs.Common.{◌≡◌, ◌⊎◌, ℕ, zero, suc, ◌*◌, ◌
 use Rattle.std.specs.List.{Contains}
 use Rattle.std.proofs.lemmas.List.Elements.{Contains-append_left, Contains-append_right, Contains-append_cases}
 use Rattle.sg_reach.specs.declared.place.Place.{Place}
-use Rattle.sg_reach.specs.Places.{AddsJust, AddsOnce}
+use Rattle.sg_reach.specs.Inside.Places.{AddsJust, AddsOnce}
 use Rattle.sg_reach.proofs.Marks.{itself, only}
 
 pub four_fields : (count : ℕ) → count ≤ 4 → 2 ^ count ≤ 16

@@ -7,8 +7,8 @@ use Rattle.std.proofs.lemmas.Option.{slice_get-get_or, slice_get_within, get_or_
 use Rattle.sg_facts.specs.Interface.{Declared}
 use Rattle.sg_facts.specs.Walks.{IsReachable, moved}
 use Rattle.sg_reach.specs.declared.place.Place.{Place}
-use Rattle.sg_reach.specs.Bits.{set_of}
-use Rattle.sg_reach.specs.Places.{AddsJust, AreReached, IsClosed, IsNext, IsPlace}
+use Rattle.sg_reach.specs.Inside.Bits.{set_numbered}
+use Rattle.sg_reach.specs.Inside.Places.{AddsJust, AreReached, IsClosed, LeadsTo, IsPlace}
 use Rattle.sg_reach.proofs.Adding.{adds_keeps}
 
 get_before : {X : Type 0} (xs ys : List X) (k : ℕ) → k < length xs → slice_get (xs ++ ys) k ≡ slice_get xs k
@@ -29,14 +29,14 @@ ended (x ∷ xs) zero is = absurd (cc is)
 ended (x ∷ xs) (suc k) is = omega (arith, ended xs k is)
 
 -- one call leads from a place of descriptors to a place of them
-pub next_reached : (i : Declared) (made : ℕ) (p q : Place) → IsPlace i made p → IsNext i p q → IsPlace i made q
+pub next_reached : (i : Declared) (made : ℕ) (p q : Place) → IsPlace i made p → LeadsTo i p q → IsPlace i made q
 next_reached i made p q (within, reached) (fun, leads) = (
   leads.led.1,
-  subst (λ s. IsReachable i made s (set_of i q.mask)) (sym leads.led.0)
-      (moved made fun p.state (set_of i p.mask) (set_of i q.mask) reached leads.moves leads.goes_on leads.led.2),
+  subst (λ s. IsReachable i made s (set_numbered i q.mask)) (sym leads.led.0)
+      (moved made fun p.state (set_numbered i p.mask) (set_numbered i q.mask) reached leads.moves leads.goes_on leads.led.2),
 )
 
-module _ (i : Declared) (place : Place) (n : ℕ) (old new : List Place) (adds : AddsJust (IsNext i place) old new) (is : slice_get old n ≡ Some place) where
+module _ (i : Declared) (place : Place) (n : ℕ) (old new : List Place) (adds : AddsJust (LeadsTo i place) old new) (is : slice_get old n ≡ Some place) where
   within : n < length old
   within = slice_get_within old n place is
 
@@ -45,8 +45,8 @@ module _ (i : Declared) (place : Place) (n : ℕ) (old new : List Place) (adds :
       let l : length new ≡ length old + length adds.more = ap length adds.behind ∙ length-append old adds.more in
       let w = within in omega (arith, l, w)
 
-  pub closed_more : ((k : ℕ) (p q : Place) → k < n → slice_get old k ≡ Some p → IsNext i p q → Contains old q)
-      → (k : ℕ) (p q : Place) → k < n + 1 → slice_get new k ≡ Some p → IsNext i p q → Contains new q
+  pub closed_more : ((k : ℕ) (p q : Place) → k < n → slice_get old k ≡ Some p → LeadsTo i p q → Contains old q)
+      → (k : ℕ) (p q : Place) → k < n + 1 → slice_get new k ≡ Some p → LeadsTo i p q → Contains new q
   closed_more closed k p q few at next =
       let w = within in
       let inside : k < length old = omega (arith, w, few) in
@@ -54,8 +54,8 @@ module _ (i : Declared) (place : Place) (n : ℕ) (old new : List Place) (adds :
       elim (eqb_tells k n) [
         | inl (t, k_is) ↦
             let p_is : p ≡ place = one_value p place (sym at ∙ same ∙ ap (λ m. slice_get old m) k_is ∙ is) in
-            adds.all q (subst (λ x. IsNext i x q) p_is next)
-        | inr (t, other) ↦ adds_keeps (IsNext i place) old new q adds (closed k p q (omega (arith, few, other)) (sym same ∙ at) next)
+            adds.all q (subst (λ x. LeadsTo i x q) p_is next)
+        | inr (t, other) ↦ adds_keeps (LeadsTo i place) old new q adds (closed k p q (omega (arith, few, other)) (sym same ∙ at) next)
       ]
 
   pub reached_more : (made : ℕ) → AreReached i made old → AreReached i made new
@@ -66,5 +66,5 @@ module _ (i : Declared) (place : Place) (n : ℕ) (old new : List Place) (adds :
 
 -- all were looked at
 pub closed_all : (i : Declared) (places : List Place) (n : ℕ) → length places ≤ n
-    → ((k : ℕ) (p q : Place) → k < n → slice_get places k ≡ Some p → IsNext i p q → Contains places q) → IsClosed i places
+    → ((k : ℕ) (p q : Place) → k < n → slice_get places k ≡ Some p → LeadsTo i p q → Contains places q) → IsClosed i places
 closed_all i places n all closed p q (k, within, is) next = closed k p q (omega (arith, within)) (slice_get-get_or places k p within ∙ ap Some is) next

@@ -5,8 +5,8 @@ use Rattle.sg_facts.specs.Facts.{Fun, fun_at, left_by}
 use Rattle.sg_facts.specs.Interface.{Declared, declares, moves_on}
 use Rattle.sg_facts.specs.Walks.{may_lead}
 use Rattle.sg_reach.specs.declared.place.Place.{Place}
-use Rattle.sg_reach.specs.Bits.{bits}
-use Rattle.sg_reach.specs.Places.{AddsJust, AddsOnce, Begins, IsLed, LeadsBy}
+use Rattle.sg_reach.specs.Inside.Bits.{bits}
+use Rattle.sg_reach.specs.Inside.Places.{AddsJust, AddsOnce, IsMadeAt, IsLed, LeadsBy}
 use Rattle.sg_reach.proofs.Adding.{adds_none, adds_one, adds_same, adds_then}
 use Rattle.std.proofs.lemmas.Bool.Decides.{eqb_tells}
 
@@ -55,12 +55,12 @@ module _ (effects : List (ℕ × Effect)) (count old state : ℕ) where
 
 -- said of the interface's function
 pub adds_begins : (i : Declared) (fun : ℕ) (f : Fun) (count state : ℕ) (a b : List Place) → f ≡ fun_at i.facts.funs fun → count ≡ length i.facts.fields
-    → state ≡ left_by f.leaves fun fun → declares i fun ≡ true → f.creation ≡ true → AddsJust (IsLed f.effects count 0 state) a b → AddsJust (Begins i fun) a b
+    → state ≡ left_by f.leaves fun fun → declares i fun ≡ true → f.creation ≡ true → AddsJust (IsLed f.effects count 0 state) a b → AddsJust (IsMadeAt i fun) a b
 adds_begins i fun f count state a b f_is count_is state_is declared creation adds =
     let same : (q : Place) → IsLed f.effects count 0 state q ≡ IsLed (fun_at i.facts.funs fun).effects (length i.facts.fields) 0 (left_by (fun_at i.facts.funs fun).leaves fun fun) q =
     λ q. ap (λ n. IsLed f.effects n 0 state q) count_is ∙ ap (λ n. IsLed f.effects (length i.facts.fields) 0 n q) state_is
     ∙ ap (λ g. IsLed g.effects (length i.facts.fields) 0 (left_by g.leaves fun fun) q) f_is in
-    adds_same (IsLed f.effects count 0 state) (Begins i fun) a b adds (λ q is. coe 0 1 (k. sym (same q) k) is.led)
+    adds_same (IsLed f.effects count 0 state) (IsMadeAt i fun) a b adds (λ q is. coe 0 1 (k. sym (same q) k) is.led)
     (λ q is. record { declared = declared; creation = sym (ap (λ g. g.creation) f_is) ∙ creation; led = coe 0 1 (k. same q k) is })
 
 pub adds_by : (i : Declared) (fun : ℕ) (p : Place) (f : Fun) (count state : ℕ) (a b : List Place) → f ≡ fun_at i.facts.funs fun → count ≡ length i.facts.fields

@@ -1,5 +1,5 @@
 -- The table of marks, when a place is found.
-use Rattle.std.proofs.Common.{◌≡◌, ℕ, zero, suc, ◌+◌, ◌<◌, Bool, true, false, List, [], ◌∷◌, ◌++◌, length, get_or, refl, sym, ◌∙◌, ap, subst, inl, inr, arith, length-append}
+use Rattle.std.proofs.Common.{◌≡◌, ◌≢◌, ℕ, zero, suc, ◌+◌, ◌<◌, Bool, true, false, List, [], ◌∷◌, ◌++◌, length, get_or, refl, sym, ◌∙◌, ap, subst, inl, inr, arith, length-append}
 use Rattle.std.specs.Prelude.{◌↔◌, replicate}
 use Rattle.std.specs.List.{Contains}
 use Rattle.std.proofs.Math.ListN.{set}
@@ -7,7 +7,9 @@ use Rattle.std.proofs.lemmas.List.{get_or-replicate, length-replicate, length-se
 use Rattle.std.proofs.lemmas.Bool.Decides.{eqb_tells}
 use Rattle.std.proofs.lemmas.List.Elements.{Contains-append_left, Contains-append_right, Contains-append_cases}
 use Rattle.sg_reach.specs.declared.place.Place.{Place}
-use Rattle.sg_reach.specs.Places.{AreMarked, cell_of, unmarked}
+use Rattle.std.proofs.lemmas.List.Quantifiers.{all_pairs_push}
+use Rattle.std.proofs.lemmas.Option.{slice_get-get_or, get_or_from_slice_get}
+use Rattle.sg_reach.specs.Inside.Places.{AreMarked, cell_of, unmarked}
 
 -- the one element of a list of one
 pub only : {X : Type 0} (x y : X) → Contains (x ∷ []) y → y ≡ x
@@ -32,6 +34,10 @@ unmarked-replicate : (n : ℕ) → unmarked (replicate n false) ≡ n
 unmarked-replicate zero = refl
 unmarked-replicate (suc n) = ap suc (unmarked-replicate n)
 
+-- what stands at a place is an element
+pub at_place : {X : Type 0} (xs : List X) (k : ℕ) (d : X) → k < length xs → Contains xs (get_or xs k d)
+at_place xs k d within = (k, within, get_or_from_slice_get xs k (get_or xs k d) (get_or xs k d) (slice_get-get_or xs k d within))
+
 -- nothing is marked
 pub marked_none : AreMarked (replicate 4096 false) []
 marked_none = record {
@@ -41,6 +47,7 @@ marked_none = record {
       (λ is. absurd (cc (is, get_or-replicate 4096 (cell_of p) false false k)), λ has. absurd (none_in p has));
   small = λ p has. absurd (none_in p has);
   count = ap (λ n. n + 0) (unmarked-replicate 4096);
+  once = λ i j d less within. absurd (omega (arith, within));
 }
 
 same_place : (p q : Place) → p.state ≡ q.state → p.mask ≡ q.mask → p ≡ q
@@ -80,10 +87,14 @@ module _ (marks : List Bool) (places : List Place) (p : Place) (are : AreMarked 
     | inr last ↦ subst (λ x. (x.state < 256) × (x.mask < 16)) (sym (only p q last)) (s, m)
   ]
 
+  not_before : Contains places p → ⊥
+  not_before has = cc ((are.told p s m).1 has, new)
+
   pub marked_more : AreMarked marked longer
   marked_more = record {
     cells = length-set marks (cell_of p) true ∙ are.cells;
     told = told_at;
     small = small_at;
     count = omega (arith, are.count, unmarked-set marks (cell_of p) inside new, length-append places (p ∷ []));
+    once = all_pairs_push (λ x y. x ≢ y) places p are.once (λ k d within same. not_before (subst (Contains places) same (at_place places k d within)));
   }

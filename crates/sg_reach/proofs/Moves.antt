@@ -7,7 +7,7 @@ use Rattle.std.proofs.lemmas.List.{take_more}
 use Rattle.std.proofs.lemmas.List.Folds.{list_any-append}
 use Rattle.sg_facts.specs.Interface.{Declared, has_pair}
 use Rattle.sg_reach.specs.declared.place.Place.{Place}
-use Rattle.sg_reach.specs.Places.{AddsJust, IsNext, LeadsBy}
+use Rattle.sg_reach.specs.Inside.Places.{AddsJust, LeadsTo, LeadsBy}
 use Rattle.sg_reach.proofs.Adding.{adds_none, adds_same, adds_then}
 
 -- a place that one of some transitions leads to
@@ -74,7 +74,7 @@ module _ (i : Declared) (moves : List (ℕ × ℕ)) (p : Place) where
       (λ q (other, before, leads). (other, more_pairs moves n p.state other within ∙ or_left _ _ before, leads))
 
   -- all of them
-  pub next_all : (l : List (ℕ × ℕ)) (a b : List Place) → l ≡ i.moves → AddsJust (IsNextIn i l p) a b → AddsJust (IsNext i p) a b
-  next_all l a b all adds = adds_same (IsNextIn i l p) (IsNext i p) a b adds
+  pub next_all : (l : List (ℕ × ℕ)) (a b : List Place) → l ≡ i.moves → AddsJust (IsNextIn i l p) a b → AddsJust (LeadsTo i p) a b
+  next_all l a b all adds = adds_same (IsNextIn i l p) (LeadsTo i p) a b adds
       (λ q (fun, leads). (fun, ap (λ m. has_pair m p.state fun) all ∙ leads.moves, leads))
       (λ q (fun, has, leads). (fun, leads))

@@ -7,8 +7,9 @@ use Rattle.sg_facts.specs.Interface.{Declared, declares}
 use Rattle.sg_facts.specs.Walks.{IsReachable, made, moved, may_lead, none_set}
 use Rattle.sg_reach.specs.declared.place.Place.{Place}
 use Rattle.sg_reach.specs.declared.place.Triple.{Triple}
-use Rattle.sg_reach.specs.Bits.{bits, set_of}
-use Rattle.sg_reach.specs.Places.{Begins, IsClosed, IsPlace, IsReached}
+use Rattle.sg_reach.specs.Inside.Bits.{bits, set_numbered}
+use Rattle.sg_reach.specs.Inside.Places.{IsMadeAt, IsClosed, IsPlace}
+use Rattle.sg_reach.specs.Triples.{IsReachedTriple}
 use Rattle.sg_reach.proofs.Sets.{bits-none, bits-number_of, length-led, number_of-bits, number_of-small}
 
 length-none : (fields : List Field) → length (none_set fields) ≡ length fields
@@ -21,7 +22,7 @@ length-reached i by state set (made fun set' declared creation leads) = length-l
 length-reached i by state set (moved by' fun state' old new reached moves goes_on leads) = length-led _ 0 old new leads ∙ length-reached i by' state' old reached
 
 -- and is that of its number
-set_back : (i : Declared) (set : List Bool) → length set ≡ length i.facts.fields → set_of i (number_of set) ≡ set
+set_back : (i : Declared) (set : List Bool) → length set ≡ length i.facts.fields → set_numbered i (number_of set) ≡ set
 set_back i set l = ap (λ n. bits n (number_of set)) (sym l) ∙ bits-number_of set
 
 -- what is reached by a set is reached by its number
@@ -31,16 +32,16 @@ place_reached i by state set reached =
     (subst (λ n. number_of set < 2 ^ n) l (number_of-small set), subst (IsReachable i by state) (sym (set_back i set l)) reached)
 
 -- what begins is reached
-pub begun_reached : (i : Declared) (fun : ℕ) (q : Place) → Begins i fun q → IsPlace i fun q
+pub begun_reached : (i : Declared) (fun : ℕ) (q : Place) → IsMadeAt i fun q → IsPlace i fun q
 begun_reached i fun q b = (
   b.led.1,
-  subst (λ s. IsReachable i fun s (set_of i q.mask)) (sym b.led.0)
-      (made fun (set_of i q.mask) b.declared b.creation (ap (λ l. may_lead (fun_at i.facts.funs fun).effects 0 l (set_of i q.mask)) (sym (bits-none i.facts.fields)) ∙ b.led.2)),
+  subst (λ s. IsReachable i fun s (set_numbered i q.mask)) (sym b.led.0)
+      (made fun (set_numbered i q.mask) b.declared b.creation (ap (λ l. may_lead (fun_at i.facts.funs fun).effects 0 l (set_numbered i q.mask)) (sym (bits-none i.facts.fields)) ∙ b.led.2)),
 )
 
 module _ (i : Declared) (places : List Place) (closed : IsClosed i places) where
   -- all that is reached was found
-  all_by : (by state : ℕ) (set : List Bool) → ((q : Place) → Begins i by q → Contains places q) → IsReachable i by state set
+  all_by : (by state : ℕ) (set : List Bool) → ((q : Place) → IsMadeAt i by q → Contains places q) → IsReachable i by state set
       → Contains places (record { state = state; mask = number_of set })
   all_by by state set begun (made fun set' declared creation leads) =
       let l : length set' ≡ length i.facts.fields = length-led _ 0 (none_set i.facts.fields) set' leads ∙ length-none i.facts.fields in
@@ -50,7 +51,7 @@ module _ (i : Declared) (places : List Place) (closed : IsClosed i places) where
         led = (
           refl,
           subst (λ n. number_of set' < 2 ^ n) l (number_of-small set'),
-          ap (λ s. may_lead (fun_at i.facts.funs fun).effects 0 s (set_of i (number_of set'))) (bits-none i.facts.fields)
+          ap (λ s. may_lead (fun_at i.facts.funs fun).effects 0 s (set_numbered i (number_of set'))) (bits-none i.facts.fields)
               ∙ ap (λ s. may_lead (fun_at i.facts.funs fun).effects 0 (none_set i.facts.fields) s) (set_back i set' l) ∙ leads,
         );
       })
@@ -65,22 +66,22 @@ module _ (i : Declared) (places : List Place) (closed : IsClosed i places) where
           led = (
             refl,
             subst (λ n. number_of new < 2 ^ n) ln (number_of-small new),
-            ap (λ s. may_lead (fun_at i.facts.funs fun).effects 0 s (set_of i (number_of new))) (set_back i old lo)
+            ap (λ s. may_lead (fun_at i.facts.funs fun).effects 0 s (set_numbered i (number_of new))) (set_back i old lo)
                 ∙ ap (λ s. may_lead (fun_at i.facts.funs fun).effects 0 old s) (set_back i new ln) ∙ leads,
           );
         },
       )
 
-  pub all_found : (by : ℕ) (p : Place) → ((q : Place) → Begins i by q → Contains places q) → IsPlace i by p → Contains places p
+  pub all_found : (by : ℕ) (p : Place) → ((q : Place) → IsMadeAt i by q → Contains places q) → IsPlace i by p → Contains places p
   all_found by p begun (small, reached) =
-      subst (λ m. Contains places (record { state = p.state; mask = m })) (number_of-bits (length i.facts.fields) p.mask small) (all_by by p.state (set_of i p.mask) begun reached)
+      subst (λ m. Contains places (record { state = p.state; mask = m })) (number_of-bits (length i.facts.fields) p.mask small) (all_by by p.state (set_numbered i p.mask) begun reached)
 
 -- a triple is reached just where its place is
-pub triple_place : (i : Declared) (t : Triple) → IsReached i t → IsPlace i t.made (record { state = t.state; mask = t.mask })
+pub triple_place : (i : Declared) (t : Triple) → IsReachedTriple i t → IsPlace i t.made (record { state = t.state; mask = t.mask })
 triple_place i t (set, number, reached) = subst (λ m. IsPlace i t.made (record { state = t.state; mask = m })) number (place_reached i t.made t.state set reached)
 
-pub place_triple : (i : Declared) (t : Triple) → IsPlace i t.made (record { state = t.state; mask = t.mask }) → IsReached i t
-place_triple i t (small, reached) = (set_of i t.mask, number_of-bits (length i.facts.fields) t.mask small, reached)
+pub place_triple : (i : Declared) (t : Triple) → IsPlace i t.made (record { state = t.state; mask = t.mask }) → IsReachedTriple i t
+place_triple i t (small, reached) = (set_numbered i t.mask, number_of-bits (length i.facts.fields) t.mask small, reached)
 
 -- what descriptors of a function can come to, that function is declared
 pub made_declared : (i : Declared) (by state : ℕ) (set : List Bool) → IsReachable i by state set → declares i by ≡ true

@@ -1,3 +1,3 @@
-pub mod Bits
-pub mod Places
+pub mod Inside
 pub mod Limits
+pub mod Triples

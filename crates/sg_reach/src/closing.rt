@@ -5,7 +5,7 @@ ghost use Rattle.sg_facts.specs.Facts.{fun_at};
 ghost use Rattle.sg_facts.specs.Interface.{moves_on};
 ghost use Rattle.sg_reach.specs.Limits.{HasFourFields};
 ghost use Rattle.sg_reach.specs.declared.place.Place.{Place as OnePlace};
-ghost use Rattle.sg_reach.specs.Places.{AddsJust, AreReached, Begins, IsClosed, IsLed, IsNext, LeadsBy};
+ghost use Rattle.sg_reach.specs.Inside.Places.{AddsJust, AreReached, IsMadeAt, IsClosed, IsLed, LeadsTo, LeadsBy};
 
 use crate::effects::may_lead;
 use crate::found::Found;
@@ -35,7 +35,7 @@ fn add_led(
 /// Adds the places that a creation leads to.
 pub fn add_begins(iface: &Interface, made: u8, found: &mut Found) -> Result<(), NoMemory>
     requires few { HasFourFields iface.now }
-    ensures { OnOk result (AddsJust (Begins iface.now made) found.old found.new) }
+    ensures { OnOk result (AddsJust (IsMadeAt iface.now made) found.old found.new) }
 {
     let fun = iface.fun(made);
     if iface.declares(made) && fun.is_creation() {
@@ -68,7 +68,7 @@ fn add_next(
 ) -> Result<(), NoMemory>
     requires few { HasFourFields iface.now }
     requires moves { moves.now ≡ iface.now.moves }
-    ensures { OnOk result (AddsJust (IsNext iface.now place) found.old found.new) }
+    ensures { OnOk result (AddsJust (LeadsTo iface.now place) found.old found.new) }
 {
     'moves: for (state, fun) in moves {
         if *state == place.state {

@@ -1,7 +1,8 @@
 // The places that were found.
 ghost use Rattle.std.specs.Prelude.{◌≡◌, ◌<◌, ◌≤◌, [], length, IfOk, OnOk, OnErr, slice_get};
 ghost use Rattle.std.specs.Option.{option_copied};
-ghost use Rattle.sg_reach.specs.Places.{AddsOnce};
+ghost use Rattle.sg_reach.specs.Inside.Places.{AddsOnce};
+ghost use Rattle.sg_reach.specs.Triples.{AreDistinct};
 
 use crate::place::Place;
 use sg_base::NoMemory;
@@ -19,7 +20,7 @@ pub struct Found {
 impl Model for Found {
     ghost use Rattle.std.specs.Prelude.{List};
     ghost use Rattle.sg_reach.specs.declared.place.Place.{Place};
-    ghost use Rattle.sg_reach.specs.Places.{AreMarked};
+    ghost use Rattle.sg_reach.specs.Inside.Places.{AreMarked};
 
     ghost Value = { List Place };
 
@@ -58,6 +59,7 @@ impl Found {
     pub fn get(&self, at: usize) -> Option<&Place>
         ensures place { option_copied result ≡ slice_get self.now at }
         ensures most { length self.now ≤ 4096 }
+        ensures once { AreDistinct self.now }
     {
         self.places.get(at)
     }

@@ -13,8 +13,6 @@ mod effects;
 mod found;
 mod place;
 mod reach;
-#[cfg(test)]
-mod tests;
 
 pub use place::Triple;
 pub use reach::{TripleList, reachable};

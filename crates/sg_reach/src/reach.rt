@@ -4,7 +4,8 @@ ghost use Rattle.std.specs.List.{Contains};
 ghost use Rattle.sg_reach.specs.Limits.{HasFourFields};
 ghost use Rattle.sg_reach.specs.declared.place.Place.{Place as OnePlace};
 ghost use Rattle.sg_reach.specs.declared.place.Triple.{Triple as OneTriple};
-ghost use Rattle.sg_reach.specs.Places.{AddsTriples, IsPlace, IsReached};
+ghost use Rattle.sg_reach.specs.Inside.Places.{AddsTriples, IsPlace};
+ghost use Rattle.sg_reach.specs.Triples.{AreDistinct, IsReachedTriple};
 
 use crate::closing::{add_begins, close};
 use crate::found::Found;
@@ -20,9 +21,11 @@ pub type TripleList = ListOf<Triple>;
 /// reach by declared calls. The rows have at most 4 fields.
 pub fn reachable(alloc: Global, iface: &Interface) -> Result<TripleList, NoMemory>
     requires few { HasFourFields iface.now }
-    ensures only { IfOk result (λ triples. (t : OneTriple) → Contains triples t → IsReached iface.now t) }
+    ensures only { IfOk result (λ triples. (t : OneTriple) → Contains triples t → IsReachedTriple iface.now t) }
+    // Each is listed once.
+    ensures once { IfOk result AreDistinct }
     // Function numbers are at most 32.
-    ensures all { IfOk result (λ triples. (t : OneTriple) → t.made ≤ 32 → IsReached iface.now t → Contains triples t) }
+    ensures all { IfOk result (λ triples. (t : OneTriple) → t.made ≤ 32 → IsReachedTriple iface.now t → Contains triples t) }
 {
     let mut triples = TripleList::new(alloc);
     'made: for made in 1..33 {
@@ -45,7 +48,8 @@ fn places_of(alloc: Global, iface: &Interface, made: u8) -> Result<Found, NoMemo
 
 // Adds the places of one creation.
 fn add_triples(made: u8, found: &Found, triples: &mut TripleList) -> Result<(), NoMemory>
-    ensures { OnOk result (AddsTriples made found.now triples.old triples.new) }
+    ensures adds { OnOk result (AddsTriples made found.now triples.old triples.new) }
+    ensures places { OnOk result (AreDistinct found.now) }
 {
     let mut at = 0;
     'places: while let Some(place) = found.get(at) {

@@ -12,12 +12,12 @@ abbrev pub IsRanked : Row → Type 0
 IsRanked r = 1 ≤ rank_of r
 
 -- no two threads have one rank
-abbrev pub AreApart : List Row → Type 0
-AreApart [] = Unit {0}
-AreApart (r ∷ rows) = (list_any (λ s. rank_of s == rank_of r) rows ≡ false) × AreApart rows
+abbrev pub HaveOwnRanks : List Row → Type 0
+HaveOwnRanks [] = Unit {0}
+HaveOwnRanks (r ∷ rows) = (list_any (λ s. rank_of s == rank_of r) rows ≡ false) × HaveOwnRanks rows
 
 -- a sound object of the thread service
 pub record IsSchedSound (o : Object) : Type 0 where
   pub general : IsSound sched_facts o
   pub ranked : AreRows IsRanked 0 o.given o.rows
-  pub apart : AreApart o.rows
+  pub apart : HaveOwnRanks o.rows

@@ -29,8 +29,8 @@ goes_before r s =
     nat_lt (prio_of r) (prio_of s)
     || ((prio_of r == prio_of s) && (nat_lt (rank_of r) (rank_of s) || ((rank_of r == rank_of s) && nat_lt r.id s.id)))
 
-abbrev pub earlier : Row → Row → Row
-earlier r s = if goes_before s r then s else r
+abbrev pub next_of : Row → Row → Row
+next_of r s = if goes_before s r then s else r
 
 -- whether a thread is ready: in the state that sched_create_thd leaves
 abbrev pub is_ready : Row → Bool
@@ -38,7 +38,7 @@ is_ready r = r.state == 1
 
 -- the ready thread that goes before all others
 abbrev pub first_ready : List Row → Option Row
-first_ready rows = reduce earlier (filter is_ready rows)
+first_ready rows = reduce next_of (filter is_ready rows)
 
 -- an Ok with a descriptor, without words and bytes
 abbrev pub done : ℕ → Option Reply
@@ -49,8 +49,8 @@ abbrev pub ranked : ℕ → ℕ → Option Reply
 ranked desc rank = Some (Ok (record { desc = desc; words = rank ∷ []; bytes = [] }))
 
 -- a wait blocks in the state that sched_sleep leaves
-abbrev pub wait_answer : ℕ → Option Reply
-wait_answer state = if state == 3 then None else done 0
+abbrev pub sched_wait_answer : ℕ → Option Reply
+sched_wait_answer state = if state == 3 then None else done 0
 
 -- the thread that is next, or none
 abbrev pub next_answer : Option Row → Option Reply
@@ -64,7 +64,7 @@ sched_answer (suc zero) o call = ranked (o.given + 1) (next_rank o.rows)
 sched_answer (suc (suc zero)) o call = ranked 0 (next_rank o.rows)
 sched_answer (suc (suc (suc zero))) o call = done 0
 sched_answer (suc (suc (suc (suc zero)))) o call = done 0
-sched_answer (suc (suc (suc (suc (suc zero))))) o call = wait_answer (state_in (row_at o.rows call.desc))
+sched_answer (suc (suc (suc (suc (suc zero))))) o call = sched_wait_answer (state_in (row_at o.rows call.desc))
 sched_answer (suc (suc (suc (suc (suc (suc zero)))))) o call = next_answer (first_ready o.rows)
 sched_answer (suc (suc (suc (suc (suc (suc (suc zero))))))) o call = done 0
 sched_answer (suc (suc (suc (suc (suc (suc (suc (suc zero)))))))) o call = done 0

@@ -25,8 +25,8 @@ use Rattle.sg_reach.proofs.Marks.{only}
 use Rattle.sg_reach.proofs.Reaching.{made_declared, place_reached}
 use Rattle.sg_check.specs.Shapes.{IsSmall}
 use Rattle.sg_check.proofs.Seeking.{walked_set}
-use Rattle.sg_stub.specs.Lines.{AreBefore, IsBefore, IsGood, IsLineOf}
-use Rattle.sg_stub.specs.Triples.{AreIn, IsReachedBy, has_triple}
+use Rattle.sg_stub.specs.Inside.Lines.{AreBefore, IsBefore, IsGood, IsLineOf}
+use Rattle.sg_stub.specs.Inside.Triples.{AreIn, IsReachedBy, has_triple}
 
 -- ---- what descriptors can come to is within bounds
 

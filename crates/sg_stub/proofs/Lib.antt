@@ -1,2 +1,3 @@
 pub mod TripleSets
 pub mod Before
+pub mod OneTable

@@ -8,9 +8,9 @@ use Rattle.std.proofs.lemmas.List.{take_more}
 use Rattle.std.proofs.lemmas.List.Elements.{Contains-append_cases, Contains-append_left, Contains-append_right}
 use Rattle.sg_facts.specs.Interface.{Declared}
 use Rattle.sg_reach.specs.declared.place.Triple.{Triple}
-use Rattle.sg_reach.specs.Places.{IsReached}
+use Rattle.sg_reach.specs.Triples.{IsReachedTriple}
 use Rattle.sg_reach.proofs.Marks.{itself, only}
-use Rattle.sg_stub.specs.Triples.{AreIn, SameTriples, has_triple}
+use Rattle.sg_stub.specs.Inside.Triples.{AreIn, SameTriples, has_triple}
 
 same_number : (a b : ℕ) → (a == b) ≡ true → a ≡ b
 same_number a b is = elim (eqb_tells a b) [ inl same ↦ same.1 | inr other ↦ absurd (cc (is, other.0)) ]
@@ -64,8 +64,8 @@ module _ (triples : List Triple) (n : ℕ) (d : Triple) (within : n < length tri
   ]
 
 -- what is listed is what descriptors can come to
-pub reached_in : (i : Declared) (triples : List Triple) (set : List (ℕ × ℕ × ℕ)) → SameTriples triples set → ((t : Triple) → Contains triples t → IsReached i t)
-    → ((t : Triple) → IsReached i t → Contains triples t) → AreIn i set
+pub reached_in : (i : Declared) (triples : List Triple) (set : List (ℕ × ℕ × ℕ)) → SameTriples triples set → ((t : Triple) → Contains triples t → IsReachedTriple i t)
+    → ((t : Triple) → IsReachedTriple i t → Contains triples t) → AreIn i set
 reached_in i triples set same only all made state mask =
     let t : Triple = record { made = made; state = state; mask = mask } in
     (λ has. only t ((same t).0 has), λ reached. (same t).1 (all t reached))

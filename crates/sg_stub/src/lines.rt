@@ -4,8 +4,8 @@ ghost use Rattle.sg_facts.specs.Tables.{AreTables};
 ghost use Rattle.sg_reach.specs.Limits.{HasFourFields};
 ghost use Rattle.sg_check.specs.Shapes.{IsSmall};
 ghost use Rattle.sg_facts.specs.Fits.{Fits};
-ghost use Rattle.sg_stub.specs.Lines.{AreBefore, IsLineOf};
-ghost use Rattle.sg_stub.specs.Triples.{AreIn, IsReachedBy};
+ghost use Rattle.sg_stub.specs.Inside.Lines.{AreBefore, IsLineOf};
+ghost use Rattle.sg_stub.specs.Inside.Triples.{AreIn, IsReachedBy};
 
 use crate::triples::TripleSet;
 use sg_base::NoMemory;

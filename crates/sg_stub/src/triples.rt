@@ -1,6 +1,6 @@
 // What descriptors can come to, to be looked up.
 ghost use Rattle.std.specs.Prelude.{◌≡◌, IfOk};
-ghost use Rattle.sg_stub.specs.Triples.{SameTriples, has_triple};
+ghost use Rattle.sg_stub.specs.Inside.Triples.{SameTriples, has_triple};
 
 use sg_base::NoMemory;
 use sg_reach::Triple;

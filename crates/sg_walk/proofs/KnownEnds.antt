@@ -10,7 +10,7 @@ use Rattle.std.proofs.lemmas.List.Elements.{Contains-append_right}
 use Rattle.sg_walk.specs.declared.spot.Mark.{Mark}
 use Rattle.sg_walk.specs.declared.spot.Mark.TheVariants.{Unset, Good, Unknown}
 use Rattle.sg_walk.specs.declared.ends.DeadEnd.{DeadEnd}
-use Rattle.sg_walk.specs.Ends.{Gains}
+use Rattle.sg_walk.specs.Inside.Ends.{GainsEnd}
 use Rattle.sg_walk.specs.contracts.ends.DeadEndPartialEq.TheImpl.{eq-value}
 use Rattle.sg_walk.specs.contracts.spot.MarkPartialEq.TheImpl.{eq-value as mark-eq}
 
@@ -99,5 +99,5 @@ is_new old new a q is = elim (cases_Bool (eq-value.it a q)) [
 ]
 
 pub gains : (old now new : List DeadEnd) (a : DeadEnd) → ((q : DeadEnd) → list_any (eq-value.it q) new ≡ (if eq-value.it a q then true else list_any (eq-value.it q) old))
-    → old ≡ now → Gains now new a
-gains old now new a is same = subst (λ ks. Gains ks new a) same (λ q. is_new old new a q (is q))
+    → old ≡ now → GainsEnd now new a
+gains old now new a is same = subst (λ ks. GainsEnd ks new a) same (λ q. is_new old new a q (is q))

@@ -9,8 +9,8 @@ use Rattle.sg_facts.specs.Fields.{number_of}
 use Rattle.sg_facts.specs.Interface.{Declared}
 use Rattle.sg_facts.specs.Walks.{Spot as Place, spot_of, spot_from, may_begin, first_spot, restores, begin_of, no_later, no_worse, most_calls, IsWalkOf}
 use Rattle.sg_walk.specs.declared.spot.Goal.{Goal}
-use Rattle.sg_walk.specs.Spots.{is_goal_at, leads, reaches}
-use Rattle.sg_walk.specs.Search.{GoesOn, LeadsNowhere, IsLeast, IsUnreached}
+use Rattle.sg_walk.specs.Inside.Spots.{is_goal_at, leads, reaches}
+use Rattle.sg_walk.specs.Inside.Search.{Extends, LeadsNowhere, IsLeast, NoWalkLeads}
 use Rattle.sg_walk.proofs.Sets.{goal_restores, goal_reached}
 
 -- a walk leads to where its rest leads to from its creation
@@ -55,7 +55,7 @@ none_before i made s goal left rest begins same tried count first (m ∷ other) 
 
 -- the first walk of the least length is the least
 pub found_least : (i : Declared) (made : ℕ) (s : Place) (goal : Goal) (walk found : List ℕ) (left : ℕ) → may_begin i made ≡ true → s ≡ first_spot i.facts made
-    → walk ≡ [] ++ made ∷ [] → left < 8 → ((fewer : ℕ) → fewer < left → LeadsNowhere i s goal fewer) → GoesOn i s goal walk left found → IsLeast i made goal found
+    → walk ≡ [] ++ made ∷ [] → left < 8 → ((fewer : ℕ) → fewer < left → LeadsNowhere i s goal fewer) → Extends i s goal walk left found → IsLeast i made goal found
 found_least i made s goal walk found left begins same alone few tried on =
     let whole : found ≡ made ∷ on.rest = on.is ∙ ap (λ w. w ++ on.rest) alone in
     let it : IsLeast i made goal (made ∷ on.rest) = record {
@@ -89,7 +89,7 @@ least_with_set i made state mask (Ok (Some walk)) least = with_set i made state 
 least_with_set i made state mask (Ok None) least = tt
 least_with_set i made state mask (Err e) least = tt
 
-without_set : (i : Declared) (made state mask : ℕ) → IsUnreached i made (record { state = state; mask = mask })
+without_set : (i : Declared) (made state mask : ℕ) → NoWalkLeads i made (record { state = state; mask = mask })
     → (walk : List ℕ) (set : List Bool) → begin_of walk ≡ made → length walk ≤ most_calls → number_of set ≡ mask → restores i walk state set ≡ false
 without_set i made state mask unreached walk set begin short number = elim (cases_Bool (restores i walk state set)) [
   | inl is ↦
@@ -100,7 +100,7 @@ without_set i made state mask unreached walk set begin short number = elim (case
 ]
 
 pub none_with_set : {E : Type 0} (i : Declared) (made state mask : ℕ) (r : Result (Option (List ℕ)) E)
-    → IfOk r (λ found. IfNone found (IsUnreached i made (record { state = state; mask = mask })))
+    → IfOk r (λ found. IfNone found (NoWalkLeads i made (record { state = state; mask = mask })))
     → IfOk r (λ found. IfNone found ((walk : List ℕ) (set : List Bool) → begin_of walk ≡ made → length walk ≤ most_calls → number_of set ≡ mask → restores i walk state set ≡ false))
 none_with_set i made state mask (Ok (Some walk)) unreached = tt
 none_with_set i made state mask (Ok None) unreached = without_set i made state mask unreached

@@ -5,7 +5,7 @@ use Rattle.std.specs.List.{list_any}
 use Rattle.std.proofs.lemmas.Cmp.{nat_eq_equiv}
 use Rattle.std.proofs.lemmas.List.Folds.{list_any_more}
 use Rattle.sg_facts.specs.Interface.{has_pair}
-use Rattle.sg_walk.specs.StepSets.{SamePairs}
+use Rattle.sg_walk.specs.Inside.StepSets.{SamePairs}
 
 -- whether a list has a pair, tested the other way round
 looked_up : (state fun : ℕ) (pairs : List (ℕ × ℕ)) → list_any (λ p. (state == p.0) && (fun == p.1)) pairs ≡ has_pair pairs state fun

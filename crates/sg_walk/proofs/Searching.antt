@@ -8,13 +8,13 @@ use Rattle.sg_facts.specs.Interface.{Declared, declares, steps_on}
 use Rattle.sg_facts.specs.Walks.{Spot as Place, may_go_on, next_spot, spot_from}
 use Rattle.sg_walk.specs.declared.spot.Goal.{Goal}
 use Rattle.sg_walk.specs.declared.ends.DeadEnd.{DeadEnd}
-use Rattle.sg_walk.specs.Spots.{shown, is_goal_at, leads}
-use Rattle.sg_walk.specs.Ends.{Gains}
-use Rattle.sg_walk.specs.Search.{LeadsNowhere, LeadsNowhereBy, AreDead}
+use Rattle.sg_walk.specs.Inside.Spots.{shown, is_goal_at, leads}
+use Rattle.sg_walk.specs.Inside.Ends.{GainsEnd}
+use Rattle.sg_walk.specs.Inside.Search.{LeadsNowhere, LeadsNowhereBy, AreDead}
 
 -- one dead end more
 pub dead_more : (i : Declared) (goal : Goal) (old new : List DeadEnd) (end : DeadEnd) → AreDead i goal old
-    → LeadsNowhere i (shown i end.spot) goal end.left → Gains old new end → AreDead i goal new
+    → LeadsNowhere i (shown i end.spot) goal end.left → GainsEnd old new end → AreDead i goal new
 dead_more i goal old new end dead nowhere gains other there = elim ((gains other).0 there) [
   | inl before ↦ dead other before
   | inr same ↦

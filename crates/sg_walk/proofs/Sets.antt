@@ -9,7 +9,7 @@ use Rattle.sg_facts.specs.Fields.{number_of}
 use Rattle.sg_facts.specs.Interface.{Declared}
 use Rattle.sg_facts.specs.Walks.{Mark as Known, Spot as Place, spot_of, restores_field, restores_fields, restores_at, Restores}
 use Rattle.sg_walk.specs.declared.spot.Goal.{Goal}
-use Rattle.sg_walk.specs.Spots.{restores_number, is_goal_at, reaches}
+use Rattle.sg_walk.specs.Inside.Spots.{restores_number, is_goal_at, reaches}
 
 -- the number of a set with one field before
 number_from : (n rest : ℕ) → rest ≡ n / 2 → (if (n % 2 == 1) then 1 else 0) + 2 * rest ≡ n

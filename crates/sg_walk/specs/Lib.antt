@@ -1,5 +1,2 @@
+pub mod Inside
 pub mod Limits
-pub mod Ends
-pub mod Search
-pub mod Spots
-pub mod StepSets

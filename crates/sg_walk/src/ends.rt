@@ -1,7 +1,7 @@
 // From where a search is known to find nothing.
 ghost use Rattle.std.specs.Prelude.{◌≡◌, ◌↔◌, [], IsTrue, OnOk, OnErr};
 ghost use Rattle.std.specs.List.{Contains};
-ghost use Rattle.sg_walk.specs.Ends.{Gains};
+ghost use Rattle.sg_walk.specs.Inside.Ends.{GainsEnd};
 
 use crate::spot::Spot;
 use sg_base::NoMemory;
@@ -50,7 +50,7 @@ impl DeadEnds {
 
     /// Adds a dead end. After `NoMemory` they are as before.
     pub fn add(&mut self, end: DeadEnd) -> Result<(), NoMemory>
-        ensures ok { OnOk result (Gains self.old self.new end) }
+        ensures ok { OnOk result (GainsEnd self.old self.new end) }
         ensures err { OnErr result (self.new ≡ self.old) }
     {
         self.ends.insert(end)?;

@@ -3,8 +3,8 @@ ghost use Rattle.std.specs.Prelude.{◌≡◌, ◌≤◌, Bool, true, false, Lis
 ghost use Rattle.sg_facts.specs.Fields.{number_of};
 ghost use Rattle.sg_facts.specs.Walks.{IsWalkOf, begin_of, restores, most_calls, may_begin, first_spot};
 ghost use Rattle.sg_walk.specs.Limits.{HasFewFields};
-ghost use Rattle.sg_walk.specs.Spots.{shown};
-ghost use Rattle.sg_walk.specs.Search.{IsLeast, IsUnreached};
+ghost use Rattle.sg_walk.specs.Inside.Spots.{shown};
+ghost use Rattle.sg_walk.specs.Inside.Search.{IsLeast, NoWalkLeads};
 
 use crate::ends::DeadEnds;
 use crate::search::{Sought, search};
@@ -38,7 +38,7 @@ pub fn shortest(
 fn least(alloc: Global, iface: &Interface, made: u8, goal: Goal) -> Result<Option<Walk>, NoMemory>
     requires { HasFewFields iface.now }
     ensures least { IfOk result (λ found. IfSome found (IsLeast iface.now made goal)) }
-    ensures none { IfOk result (λ found. IfNone found (IsUnreached iface.now made goal)) }
+    ensures none { IfOk result (λ found. IfNone found (NoWalkLeads iface.now made goal)) }
 {
     match begin(iface, made) {
         Some(spot) => least_from(alloc, iface, made, spot, goal),
@@ -46,7 +46,7 @@ fn least(alloc: Global, iface: &Interface, made: u8, goal: Goal) -> Result<Optio
     }
 }
 
-// So, from where the walk has come to after the creation.
+// The least walk that leads to what is sought, where the creation has led to this spot.
 fn least_from(
     alloc: Global,
     iface: &Interface,
@@ -58,7 +58,7 @@ fn least_from(
     requires begins { may_begin iface.now made ≡ true }
     requires spot { shown iface.now spot ≡ first_spot iface.now.facts made }
     ensures least { IfOk result (λ found. IfSome found (IsLeast iface.now made goal)) }
-    ensures none { IfOk result (λ found. IfNone found (IsUnreached iface.now made goal)) }
+    ensures none { IfOk result (λ found. IfNone found (NoWalkLeads iface.now made goal)) }
 {
     let mut walk = Walk::new();
     walk.push(made)?;

@@ -16,8 +16,6 @@ mod search;
 mod spot;
 mod step_set;
 mod steps;
-#[cfg(test)]
-mod tests;
 
 pub use least::shortest;
 pub use restoring::restores;

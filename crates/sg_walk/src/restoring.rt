@@ -3,14 +3,14 @@ ghost use Rattle.std.specs.Prelude.{◌≡◌, ◌↔◌, Bool, List, length, Is
 ghost use Rattle.sg_facts.specs.Fields.{number_of};
 ghost use Rattle.sg_facts.specs.Walks.{Restores};
 ghost use Rattle.sg_walk.specs.Limits.{HasFewFields};
-ghost use Rattle.sg_walk.specs.Spots.{shown, leads, reaches};
+ghost use Rattle.sg_walk.specs.Inside.Spots.{shown, leads, reaches};
 
 use crate::spot::{Goal, Spot};
 use crate::steps::{begin, go_on, is_goal};
 use sg_facts::{Interface, Walk};
 
 /// Whether a walk restores a state and the set of fields that has a number: bit i for field i. Rows have at most 8 fields.
-/// It takes no memory.
+/// The function takes no memory.
 pub fn restores(iface: &Interface, walk: &Walk, state: u8, mask: u8) -> bool
     requires { HasFewFields iface.now }
     ensures { IsTrue result ↔ ((set : List Bool) × (number_of set ≡ mask) × Restores iface.now walk.now state set) }

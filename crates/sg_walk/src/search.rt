@@ -1,9 +1,9 @@
 // The first walk of a given length.
 ghost use Rattle.std.specs.Prelude.{◌≡◌, ◌+◌, ◌<◌, ◌≤◌, ℕ, length, IfOk, IfSome, IfNone, OnOk};
 ghost use Rattle.sg_walk.specs.Limits.{HasFewFields};
-ghost use Rattle.sg_walk.specs.Spots.{shown};
-ghost use Rattle.sg_walk.specs.StepSets.{SamePairs};
-ghost use Rattle.sg_walk.specs.Search.{GoesOn, GoesOnBy, LeadsNowhere, LeadsNowhereBy, AreDead};
+ghost use Rattle.sg_walk.specs.Inside.Spots.{shown};
+ghost use Rattle.sg_walk.specs.Inside.StepSets.{SamePairs};
+ghost use Rattle.sg_walk.specs.Inside.Search.{Extends, ExtendsBy, LeadsNowhere, LeadsNowhereBy, AreDead};
 
 use crate::ends::{DeadEnd, DeadEnds};
 use crate::spot::{Goal, Spot};
@@ -40,7 +40,7 @@ pub fn search(
     requires room { length walk + left ≤ 8 }
     requires dead { AreDead sought.now.iface.now sought.now.goal ends.old }
     ensures dead { OnOk result (AreDead sought.now.iface.now sought.now.goal ends.new) }
-    ensures found { IfOk result (λ found. IfSome found (GoesOn sought.now.iface.now (shown sought.now.iface.now spot) sought.now.goal walk left)) }
+    ensures found { IfOk result (λ found. IfSome found (Extends sought.now.iface.now (shown sought.now.iface.now spot) sought.now.goal walk left)) }
     ensures none { IfOk result (λ found. IfNone found (LeadsNowhere sought.now.iface.now (shown sought.now.iface.now spot) sought.now.goal left)) }
 {
     if left == 0 {
@@ -63,7 +63,7 @@ pub fn search(
     }
 }
 
-// So, by each function in turn.
+// The first walk of the length, by each function in turn that may be called next.
 #[cycle(search)]
 fn search_each(
     sought: &Sought<'_>,
@@ -78,7 +78,7 @@ fn search_each(
     requires room { length walk + left ≤ 8 }
     requires dead { AreDead sought.now.iface.now sought.now.goal ends.old }
     ensures dead { OnOk result (AreDead sought.now.iface.now sought.now.goal ends.new) }
-    ensures found { IfOk result (λ found. IfSome found (GoesOn sought.now.iface.now (shown sought.now.iface.now spot) sought.now.goal walk left)) }
+    ensures found { IfOk result (λ found. IfSome found (Extends sought.now.iface.now (shown sought.now.iface.now spot) sought.now.goal walk left)) }
     ensures none { IfOk result (λ found. IfNone found (LeadsNowhere sought.now.iface.now (shown sought.now.iface.now spot) sought.now.goal left)) }
 {
     let iface = sought.iface;
@@ -91,7 +91,7 @@ fn search_each(
     Ok(None)
 }
 
-// So, by one function first.
+// The first walk of the length that goes on by this function.
 #[cycle(search)]
 fn search_by(
     sought: &Sought<'_>,
@@ -107,7 +107,7 @@ fn search_by(
     requires room { length walk + left ≤ 8 }
     requires dead { AreDead sought.now.iface.now sought.now.goal ends.old }
     ensures dead { OnOk result (AreDead sought.now.iface.now sought.now.goal ends.new) }
-    ensures found { IfOk result (λ found. IfSome found (GoesOnBy sought.now.iface.now (shown sought.now.iface.now spot) sought.now.goal walk left fun)) }
+    ensures found { IfOk result (λ found. IfSome found (ExtendsBy sought.now.iface.now (shown sought.now.iface.now spot) sought.now.goal walk left fun)) }
     ensures none { IfOk result (λ found. IfNone found (LeadsNowhereBy sought.now.iface.now (shown sought.now.iface.now spot) sought.now.goal left fun)) }
 {
     let is_step = sought.steps.has(spot.state, fun);

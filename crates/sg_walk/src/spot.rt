@@ -1,16 +1,16 @@
 // Where a walk has come to.
 ghost use Rattle.std.specs.Prelude.{◌≡◌, ◌≤◌, length, map};
 ghost use Rattle.sg_facts.specs.Walks.{mark_after, marks_after, restores_field};
-ghost use Rattle.sg_walk.specs.Spots.{known_of, shown_marks, restores_number};
+ghost use Rattle.sg_walk.specs.Inside.Spots.{known_of, shown_marks, restores_number};
 
 use sg_facts::Effect;
 
 /// What is known of a field when a walk has come so far.
 #[derive(Clone, Copy, Debug, PartialEq, Eq, Hash)]
 pub enum Mark {
-    /// It is 0 or empty.
+    /// The field is 0 or empty.
     Unset,
-    /// It has the row's value.
+    /// The field has the row's value.
     Good,
     /// Nothing.
     Unknown,

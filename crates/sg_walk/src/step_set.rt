@@ -1,7 +1,7 @@
 // Recover steps, to be looked up.
 ghost use Rattle.std.specs.Prelude.{◌≡◌, ℕ, IfOk};
 ghost use Rattle.sg_facts.specs.Interface.{has_pair};
-ghost use Rattle.sg_walk.specs.StepSets.{SamePairs};
+ghost use Rattle.sg_walk.specs.Inside.StepSets.{SamePairs};
 
 use sg_base::NoMemory;
 use std::alloc::Global;

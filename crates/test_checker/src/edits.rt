@@ -1,4 +1,4 @@
-// Texts that are made from others, line by line.
+// Texts that are made from others, line by line, and laid out otherwise.
 use std::alloc::{AllocError, Global};
 
 /// A change of a text, at the line of a number from 1.
@@ -63,23 +63,28 @@ pub(crate) fn edited(alloc: Global, base: &[u8], edits: &[Edit]) -> Result<Vec<u
     Ok(text)
 }
 
-/// A text with a carriage return before each line feed.
-pub(crate) fn with_returns(alloc: Global, base: &[u8]) -> Result<Vec<u8>, AllocError> {
-    let mut text = Vec::new(alloc);
-    for byte in base {
-        if *byte == b'\n' {
-            text.push(b'\r')?;
-        }
-        text.push(*byte)?;
-    }
-    Ok(text)
+/// How a text is laid out.
+#[derive(Clone, Copy, Debug)]
+pub enum Layout {
+    /// As it is.
+    Lines,
+    /// With a carriage return before each line feed.
+    Returns,
+    /// On one line: with a blank for each line feed.
+    OneLine,
 }
 
-/// A text on one line: with a blank for each line feed.
-pub(crate) fn with_blanks(alloc: Global, base: &[u8]) -> Result<Vec<u8>, AllocError> {
-    let mut text = Vec::new(alloc);
-    for byte in base {
-        text.push(if *byte == b'\n' { b' ' } else { *byte })?;
+impl Layout {
+    /// A text, laid out so.
+    pub fn of(self, alloc: Global, base: &[u8]) -> Result<Vec<u8>, AllocError> {
+        let mut text = Vec::new(alloc);
+        for byte in base {
+            match (self, *byte) {
+                (Layout::Returns, b'\n') => text.extend_from_slice(b"\r\n")?,
+                (Layout::OneLine, b'\n') => text.push(b' ')?,
+                (_, byte) => text.push(byte)?,
+            }
+        }
+        Ok(text)
     }
-    Ok(text)
 }

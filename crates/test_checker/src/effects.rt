@@ -1,11 +1,9 @@
 // Effects that are declared otherwise than the service has them.
-use crate::answers::{Case, try_each};
+use crate::answers::Case;
 use crate::edits::Edit::{As, Then, Twice, Without};
 use sg_check::CheckKind::WrongEffect;
-use std::test::Fail;
-use test_interfaces::{EVENT, LOCK, MM, RAMFS, SCHED};
 
-static OF_LOCKS: [Case; 11] = [
+pub static OF_LOCKS: [Case; 11] = [
     // The clear of another field, none, another function's beside it, and in its place.
     (
         &[As(24, b"desc_data_clear(lock_release, holder);")],
@@ -60,12 +58,7 @@ static OF_LOCKS: [Case; 11] = [
     ),
 ];
 
-#[test]
-fn of_locks(rt: HostRuntime) -> Result<(), Fail> {
-    try_each(&rt, rt.alloc(), LOCK, &OF_LOCKS)
-}
-
-static OF_EVENTS: [Case; 5] = [
+pub static OF_EVENTS: [Case; 5] = [
     (&[Without(22)], Some((WrongEffect, 21, 5))),
     (
         &[As(22, b"desc_data_clear(evt_wait, count);")],
@@ -94,12 +87,7 @@ static OF_EVENTS: [Case; 5] = [
     ),
 ];
 
-#[test]
-fn of_events(rt: HostRuntime) -> Result<(), Fail> {
-    try_each(&rt, rt.alloc(), EVENT, &OF_EVENTS)
-}
-
-static OF_PAGES: [Case; 5] = [
+pub static OF_PAGES: [Case; 5] = [
     // Two fields exchanged.
     (
         &[As(
@@ -139,12 +127,7 @@ static OF_PAGES: [Case; 5] = [
     ),
 ];
 
-#[test]
-fn of_pages(rt: HostRuntime) -> Result<(), Fail> {
-    try_each(&rt, rt.alloc(), MM, &OF_PAGES)
-}
-
-static OF_FILES: [Case; 5] = [
+pub static OF_FILES: [Case; 5] = [
     (
         &[As(
             23,
@@ -179,12 +162,7 @@ static OF_FILES: [Case; 5] = [
     ),
 ];
 
-#[test]
-fn of_files(rt: HostRuntime) -> Result<(), Fail> {
-    try_each(&rt, rt.alloc(), RAMFS, &OF_FILES)
-}
-
-static OF_THREADS: [Case; 3] = [
+pub static OF_THREADS: [Case; 3] = [
     (
         &[As(
             31,
@@ -208,12 +186,7 @@ static OF_THREADS: [Case; 3] = [
     ),
 ];
 
-#[test]
-fn of_threads(rt: HostRuntime) -> Result<(), Fail> {
-    try_each(&rt, rt.alloc(), SCHED, &OF_THREADS)
-}
-
-static TOGETHER: [Case; 5] = [
+pub static TOGETHER: [Case; 5] = [
     // The earlier prototype wins, wherever the statements are.
     (
         &[
@@ -240,8 +213,3 @@ static TOGETHER: [Case; 5] = [
     ),
     (&[Without(20), Without(24)], Some((WrongEffect, 22, 5))),
 ];
-
-#[test]
-fn together(rt: HostRuntime) -> Result<(), Fail> {
-    try_each(&rt, rt.alloc(), LOCK, &TOGETHER)
-}

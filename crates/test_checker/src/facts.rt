@@ -1,11 +1,9 @@
 // Facts that aren't the service's.
-use crate::answers::{Case, try_each};
+use crate::answers::Case;
 use crate::edits::Edit::{As, Then, Twice, Without};
 use sg_check::CheckKind::{WrongFact, WrongFlag};
-use std::test::Fail;
-use test_interfaces::{EVENT, LOCK, MM, RAMFS, SCHED};
 
-static OF_LOCKS: [Case; 13] = [
+pub static OF_LOCKS: [Case; 13] = [
     (
         &[As(3, b"    desc_has_parent = same,")],
         Some((WrongFact, 3, 23)),
@@ -74,12 +72,7 @@ static OF_LOCKS: [Case; 13] = [
     ),
 ];
 
-#[test]
-fn of_locks(rt: HostRuntime) -> Result<(), Fail> {
-    try_each(&rt, rt.alloc(), LOCK, &OF_LOCKS)
-}
-
-static OF_PAGES: [Case; 6] = [
+pub static OF_PAGES: [Case; 6] = [
     (
         &[As(3, b"    desc_has_parent = none,")],
         Some((WrongFact, 3, 23)),
@@ -106,12 +99,7 @@ static OF_PAGES: [Case; 6] = [
     ),
 ];
 
-#[test]
-fn of_pages(rt: HostRuntime) -> Result<(), Fail> {
-    try_each(&rt, rt.alloc(), MM, &OF_PAGES)
-}
-
-static OF_FILES: [Case; 5] = [
+pub static OF_FILES: [Case; 5] = [
     (
         &[As(3, b"    desc_has_parent = cross,")],
         Some((WrongFact, 3, 23)),
@@ -134,13 +122,8 @@ static OF_FILES: [Case; 5] = [
     ),
 ];
 
-#[test]
-fn of_files(rt: HostRuntime) -> Result<(), Fail> {
-    try_each(&rt, rt.alloc(), RAMFS, &OF_FILES)
-}
-
 // What `desc_block` says is looked at by itself, whatever flags functions have.
-static ALONE: [Case; 2] = [
+pub static ALONE: [Case; 2] = [
     (
         &[As(6, b"    desc_block = false,"), Without(12)],
         Some((WrongFact, 6, 18)),
@@ -148,12 +131,7 @@ static ALONE: [Case; 2] = [
     (&[Without(12)], Some((WrongFlag, 20, 5))),
 ];
 
-#[test]
-fn alone(rt: HostRuntime) -> Result<(), Fail> {
-    try_each(&rt, rt.alloc(), EVENT, &ALONE)
-}
-
-static OF_THREADS: [Case; 2] = [
+pub static OF_THREADS: [Case; 2] = [
     (
         &[As(3, b"    desc_has_parent = same,")],
         Some((WrongFact, 3, 23)),
@@ -163,8 +141,3 @@ static OF_THREADS: [Case; 2] = [
         Some((WrongFact, 6, 18)),
     ),
 ];
-
-#[test]
-fn of_threads(rt: HostRuntime) -> Result<(), Fail> {
-    try_each(&rt, rt.alloc(), SCHED, &OF_THREADS)
-}

@@ -1,12 +1,10 @@
 // Flags, and states that functions leave, that are declared otherwise than the service has them.
-use crate::answers::{Case, try_each};
+use crate::answers::Case;
 use crate::edits::Edit::{As, Then, Twice, Without};
 use sg_check::CheckKind::WrongFlag;
-use std::test::Fail;
-use test_interfaces::{EVENT, LOCK, MM, RAMFS, SCHED};
 
 // One flag more than the service has.
-static MORE: [Case; 8] = [
+pub static MORE: [Case; 8] = [
     (
         &[Then(10, b"sm_creation(lock_take);")],
         Some((WrongFlag, 23, 5)),
@@ -41,12 +39,7 @@ static MORE: [Case; 8] = [
     ),
 ];
 
-#[test]
-fn one_more(rt: HostRuntime) -> Result<(), Fail> {
-    try_each(&rt, rt.alloc(), LOCK, &MORE)
-}
-
-static STATES: [Case; 11] = [
+pub static STATES: [Case; 11] = [
     // None, another, its own, and another beside the right one.
     (&[Without(14)], Some((WrongFlag, 22, 5))),
     (
@@ -94,12 +87,7 @@ static STATES: [Case; 11] = [
     ),
 ];
 
-#[test]
-fn states(rt: HostRuntime) -> Result<(), Fail> {
-    try_each(&rt, rt.alloc(), LOCK, &STATES)
-}
-
-static KEPT: [Case; 6] = [
+pub static KEPT: [Case; 6] = [
     (&[Without(14)], Some((WrongFlag, 20, 5))),
     (&[Without(15)], Some((WrongFlag, 22, 5))),
     (
@@ -117,36 +105,21 @@ static KEPT: [Case; 6] = [
     ),
 ];
 
-#[test]
-fn kept(rt: HostRuntime) -> Result<(), Fail> {
-    try_each(&rt, rt.alloc(), EVENT, &KEPT)
-}
-
-static OF_PAGES: [Case; 4] = [
+pub static OF_PAGES: [Case; 4] = [
     (&[Without(13)], Some((WrongFlag, 21, 15))),
     (&[Without(14)], Some((WrongFlag, 18, 15))),
     (&[Without(15)], Some((WrongFlag, 19, 15))),
     (&[Without(16)], Some((WrongFlag, 21, 15))),
 ];
 
-#[test]
-fn of_pages(rt: HostRuntime) -> Result<(), Fail> {
-    try_each(&rt, rt.alloc(), MM, &OF_PAGES)
-}
-
-static OF_FILES: [Case; 4] = [
+pub static OF_FILES: [Case; 4] = [
     (&[Without(14)], Some((WrongFlag, 24, 5))),
     (&[Without(15)], Some((WrongFlag, 22, 36))),
     (&[Without(16)], Some((WrongFlag, 23, 36))),
     (&[Then(16, b"resc_data(tseek);")], Some((WrongFlag, 26, 5))),
 ];
 
-#[test]
-fn of_files(rt: HostRuntime) -> Result<(), Fail> {
-    try_each(&rt, rt.alloc(), RAMFS, &OF_FILES)
-}
-
-static OF_THREADS: [Case; 5] = [
+pub static OF_THREADS: [Case; 5] = [
     (&[Without(15)], Some((WrongFlag, 30, 30))),
     (&[Without(16)], Some((WrongFlag, 31, 30))),
     (&[Without(20)], Some((WrongFlag, 36, 5))),
@@ -157,12 +130,7 @@ static OF_THREADS: [Case; 5] = [
     ),
 ];
 
-#[test]
-fn of_threads(rt: HostRuntime) -> Result<(), Fail> {
-    try_each(&rt, rt.alloc(), SCHED, &OF_THREADS)
-}
-
-static TOGETHER: [Case; 6] = [
+pub static TOGETHER: [Case; 6] = [
     // The earlier prototype wins, wherever the statements are.
     (
         &[
@@ -196,8 +164,3 @@ static TOGETHER: [Case; 6] = [
         Some((WrongFlag, 22, 5)),
     ),
 ];
-
-#[test]
-fn together(rt: HostRuntime) -> Result<(), Fail> {
-    try_each(&rt, rt.alloc(), LOCK, &TOGETHER)
-}

@@ -1,43 +1,12 @@
 // Texts that are laid out otherwise: a place counts bytes, whatever stands before it.
-use crate::answers::{Case, answer, try_each};
+use crate::answers::Case;
 use crate::edits::Edit::{As, Then, Without};
-use crate::edits::{edited, with_blanks, with_returns};
-use crate::shapes::standard_shapes;
-use crate::standard::{DOUBLED, LEFT_OUT};
 use sg_check::CheckKind::{ForeignTransition, UnknownFunction, WrongFlag};
-use std::test::Fail;
-use test_interfaces::{EVENT, LOCK, MM, RAMFS, SCHED};
 
-#[test]
-fn carriage_returns_count_for_no_line(rt: HostRuntime) -> Result<(), Fail> {
-    let alloc = rt.alloc();
-    let shapes = standard_shapes();
-    for (edits, want) in LEFT_OUT.iter().chain(DOUBLED.iter()) {
-        let text = edited(alloc, LOCK, edits)?;
-        let returned = with_returns(alloc, text.as_slice())?;
-        assert_eq!(rt; answer(alloc, returned.as_slice(), &shapes)?, *want);
-    }
-    Ok(())
-}
+// A text on one line: a place counts the bytes of the line.
+pub static ON_ONE_LINE: [Case; 1] = [(&[Without(13)], Some((WrongFlag, 1, 644)))];
 
-#[test]
-fn all_on_one_line(rt: HostRuntime) -> Result<(), Fail> {
-    let alloc = rt.alloc();
-    let shapes = standard_shapes();
-    for base in [LOCK, EVENT, MM, RAMFS, SCHED] {
-        let text = with_blanks(alloc, base)?;
-        assert_eq!(rt; answer(alloc, text.as_slice(), &shapes)?, None);
-    }
-    let text = edited(alloc, LOCK, &[Without(13)])?;
-    let joined = with_blanks(alloc, text.as_slice())?;
-    assert_eq!(rt;
-        answer(alloc, joined.as_slice(), &shapes)?,
-        Some((WrongFlag, 1, 644))
-    );
-    Ok(())
-}
-
-static OF_LOCKS: [Case; 11] = [
+pub static OF_LOCKS: [Case; 11] = [
     // Blanks and comments between tokens.
     (
         &[As(10, b"sm_creation /* ( */ ( \t lock_alloc\n)\r\n// )\n;")],
@@ -98,13 +67,8 @@ static OF_LOCKS: [Case; 11] = [
     ),
 ];
 
-#[test]
-fn of_locks(rt: HostRuntime) -> Result<(), Fail> {
-    try_each(&rt, rt.alloc(), LOCK, &OF_LOCKS)
-}
-
 // Prototypes before what is said of their functions.
-static TURNED: [Case; 2] = [
+pub static TURNED: [Case; 2] = [
     (
         &[
             Then(
@@ -130,8 +94,3 @@ static TURNED: [Case; 2] = [
         Some((WrongFlag, 10, 5)),
     ),
 ];
-
-#[test]
-fn prototypes_first(rt: HostRuntime) -> Result<(), Fail> {
-    try_each(&rt, rt.alloc(), LOCK, &TURNED)
-}

@@ -1,11 +1,9 @@
 // Each statement of the standard interfaces but that of locks left out.
-use crate::answers::{Case, try_each};
+use crate::answers::Case;
 use crate::edits::Edit::Without;
 use sg_check::CheckKind::{NoWalk, UnknownFunction, Unreached, WrongEffect, WrongFlag};
-use std::test::Fail;
-use test_interfaces::{EVENT, MM, RAMFS, SCHED};
 
-static OF_EVENTS: [Case; 15] = [
+pub static OF_EVENTS: [Case; 15] = [
     (&[Without(10)], Some((WrongFlag, 19, 15))),
     (&[Without(11)], Some((WrongFlag, 23, 5))),
     (&[Without(12)], Some((WrongFlag, 20, 5))),
@@ -23,12 +21,7 @@ static OF_EVENTS: [Case; 15] = [
     (&[Without(24)], Some((UnknownFunction, 11, 13))),
 ];
 
-#[test]
-fn of_events(rt: HostRuntime) -> Result<(), Fail> {
-    try_each(&rt, rt.alloc(), EVENT, &OF_EVENTS)
-}
-
-static OF_PAGES: [Case; 13] = [
+pub static OF_PAGES: [Case; 13] = [
     (&[Without(10)], Some((WrongFlag, 18, 15))),
     (&[Without(11)], Some((WrongFlag, 19, 15))),
     (&[Without(12)], Some((WrongFlag, 20, 5))),
@@ -44,12 +37,7 @@ static OF_PAGES: [Case; 13] = [
     (&[Without(22)], Some((UnknownFunction, 13, 10))),
 ];
 
-#[test]
-fn of_pages(rt: HostRuntime) -> Result<(), Fail> {
-    try_each(&rt, rt.alloc(), MM, &OF_PAGES)
-}
-
-static OF_FILES: [Case; 17] = [
+pub static OF_FILES: [Case; 17] = [
     (&[Without(10)], Some((WrongFlag, 21, 15))),
     (&[Without(11)], Some((WrongFlag, 25, 5))),
     (&[Without(12)], Some((WrongFlag, 22, 36))),
@@ -69,12 +57,7 @@ static OF_FILES: [Case; 17] = [
     (&[Without(26)], Some((UnknownFunction, 11, 13))),
 ];
 
-#[test]
-fn of_files(rt: HostRuntime) -> Result<(), Fail> {
-    try_each(&rt, rt.alloc(), RAMFS, &OF_FILES)
-}
-
-static OF_THREADS: [Case; 29] = [
+pub static OF_THREADS: [Case; 29] = [
     (&[Without(10)], Some((WrongFlag, 30, 30))),
     (&[Without(11)], Some((WrongFlag, 37, 5))),
     (&[Without(12)], Some((WrongFlag, 34, 5))),
@@ -105,8 +88,3 @@ static OF_THREADS: [Case; 29] = [
     (&[Without(37)], Some((UnknownFunction, 20, 9))),
     (&[Without(38)], Some((UnknownFunction, 11, 13))),
 ];
-
-#[test]
-fn of_threads(rt: HostRuntime) -> Result<(), Fail> {
-    try_each(&rt, rt.alloc(), SCHED, &OF_THREADS)
-}

@@ -1,19 +1,25 @@
-//! The checker, tried on texts: the standard interfaces, and what is wrong with texts that are made from them.
+//! The checker, tried on texts: the standard interfaces, and what is wrong with texts that are made from them. And what stands
+//! on the checker: what descriptors come to, their walks, tables, and what is said of a text.
 //!
-//! - `shapes`: the shapes of the five standard services, against which a text may be checked (`standard_shapes` and each)
+//! - `shapes`: the shapes of the five standard services, against which a text may be checked (`standard_shapes`)
 //!
 //! The tests:
-//! - `edits`: texts that are made from others (`Edit`); `answers`: what is answered on a text (`answer`, `try_each`)
-//! - `standard`: the standard interfaces, and each statement of that of locks left out, and twice
-//! - `left_out`: each statement of the other standard interfaces left out
-//! - `names`, `prototypes`, `facts`, `flags`, `effects`, `pairs`, `reach`: texts of which something is wrong, by its kind
+//! - `changes`: the standard interfaces with changes, each with its answer. `edits` makes the texts (`Edit`, `Layout`), and
+//!   `answers` is the judge (`answer`, `try_each`). The tables of changes: `standard` and `left_out` leave out each statement,
+//!   `layout` has other blanks, comments and line ends, and `names`, `prototypes`, `facts`, `flags`, `effects`, `pairs` and
+//!   `reach` have texts of which something is wrong, by its kind
 //! - `narrower`: what a text declares that declares less than the service has
-//! - `layout`: the same with other blanks, comments and line ends
-//! - `speed`: large services, and long texts
+//! - `given`: against which shapes a text is checked
+//! - `large`: large services, and long texts
+//! - `triples`, `walks`: what descriptors come to and how they are rebuilt, of interfaces that no text declares (`interfaces`)
+//! - `tables`: the tables of the standard interfaces, and their text
+//! - `verdicts`: what is said of a text
 #![tactic(auto)]
 
 #[cfg(test)]
 mod answers;
+#[cfg(test)]
+mod changes;
 #[cfg(test)]
 mod edits;
 #[cfg(test)]
@@ -22,6 +28,12 @@ mod effects;
 mod facts;
 #[cfg(test)]
 mod flags;
+#[cfg(test)]
+mod given;
+#[cfg(test)]
+mod interfaces;
+#[cfg(test)]
+mod large;
 #[cfg(test)]
 mod layout;
 #[cfg(test)]
@@ -38,8 +50,14 @@ mod prototypes;
 mod reach;
 mod shapes;
 #[cfg(test)]
-mod speed;
-#[cfg(test)]
 mod standard;
+#[cfg(test)]
+mod tables;
+#[cfg(test)]
+mod triples;
+#[cfg(test)]
+mod verdicts;
+#[cfg(test)]
+mod walks;
 
-pub use shapes::{event_shape, lock_shape, mm_shape, ramfs_shape, sched_shape, standard_shapes};
+pub use shapes::standard_shapes;

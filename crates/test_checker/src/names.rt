@@ -1,11 +1,9 @@
 // Names: services that there aren't, second prototypes, functions that there aren't.
-use crate::answers::{Case, try_each};
+use crate::answers::Case;
 use crate::edits::Edit::{As, Then, Twice, Without};
 use sg_check::CheckKind::{BadParams, DuplicateName, UnknownFunction, UnknownService, WrongEffect};
-use std::test::Fail;
-use test_interfaces::{EVENT, LOCK};
 
-static SERVICES: [Case; 7] = [
+pub static SERVICES: [Case; 7] = [
     (&[As(2, b"service = locks,")], Some((UnknownService, 2, 11))),
     (
         &[As(2, b"    service = loc,")],
@@ -40,12 +38,7 @@ static SERVICES: [Case; 7] = [
     ),
 ];
 
-#[test]
-fn services(rt: HostRuntime) -> Result<(), Fail> {
-    try_each(&rt, rt.alloc(), LOCK, &SERVICES)
-}
-
-static DUPLICATES: [Case; 10] = [
+pub static DUPLICATES: [Case; 10] = [
     // One that differs: in its parameters, in its return, in an effect.
     (
         &[Then(25, b"int lock_free(spdid_t spdid);")],
@@ -90,12 +83,7 @@ static DUPLICATES: [Case; 10] = [
     ),
 ];
 
-#[test]
-fn duplicates(rt: HostRuntime) -> Result<(), Fail> {
-    try_each(&rt, rt.alloc(), LOCK, &DUPLICATES)
-}
-
-static FUNCTIONS: [Case; 9] = [
+pub static FUNCTIONS: [Case; 9] = [
     // A prototype of a function that the service hasn't.
     (
         &[Then(25, b"int lock_try(spdid_t s, long desc(id));")],
@@ -155,12 +143,7 @@ static FUNCTIONS: [Case; 9] = [
     ),
 ];
 
-#[test]
-fn functions(rt: HostRuntime) -> Result<(), Fail> {
-    try_each(&rt, rt.alloc(), LOCK, &FUNCTIONS)
-}
-
-static SECOND_NAMES: [Case; 9] = [
+pub static SECOND_NAMES: [Case; 9] = [
     (
         &[As(14, b"sm_state(lock_release, nobody);")],
         Some((UnknownFunction, 14, 24)),
@@ -201,12 +184,7 @@ static SECOND_NAMES: [Case; 9] = [
     ),
 ];
 
-#[test]
-fn second_names(rt: HostRuntime) -> Result<(), Fail> {
-    try_each(&rt, rt.alloc(), LOCK, &SECOND_NAMES)
-}
-
-static OF_EVENTS: [Case; 4] = [
+pub static OF_EVENTS: [Case; 4] = [
     (&[Without(20)], Some((UnknownFunction, 10, 13))),
     (&[Without(21)], Some((UnknownFunction, 12, 10))),
     (&[Without(24)], Some((UnknownFunction, 11, 13))),
@@ -220,17 +198,7 @@ static OF_EVENTS: [Case; 4] = [
     ),
 ];
 
-#[test]
-fn of_events(rt: HostRuntime) -> Result<(), Fail> {
-    try_each(&rt, rt.alloc(), EVENT, &OF_EVENTS)
-}
-
-static OF_PARAMETERS: [Case; 1] = [(
+pub static OF_PARAMETERS: [Case; 1] = [(
     &[As(21, b"unsigned long lock_alloc(int spdid);")],
     Some((BadParams, 21, 15)),
 )];
-
-#[test]
-fn alone_it_is_the_parameters(rt: HostRuntime) -> Result<(), Fail> {
-    try_each(&rt, rt.alloc(), LOCK, &OF_PARAMETERS)
-}

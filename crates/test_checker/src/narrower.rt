@@ -1,6 +1,5 @@
 // What an accepted text declares: its functions, and of the service's transitions and recover steps those that it names, in
 // the service's order.
-
 use crate::edits::Edit::{self, Front, Then, Twice, Without};
 use crate::edits::edited;
 use crate::shapes::standard_shapes;
@@ -102,11 +101,6 @@ static OF_LOCKS: [Narrower; 5] = [
     },
 ];
 
-#[test]
-fn of_locks(rt: HostRuntime) -> Result<(), Fail> {
-    declare(&rt, rt.alloc(), LOCK, &OF_LOCKS)
-}
-
 static OF_EVENTS: [Narrower; 2] = [
     // Events that are never waited for.
     Narrower {
@@ -136,11 +130,6 @@ static OF_EVENTS: [Narrower; 2] = [
     },
 ];
 
-#[test]
-fn of_events(rt: HostRuntime) -> Result<(), Fail> {
-    declare(&rt, rt.alloc(), EVENT, &OF_EVENTS)
-}
-
 static OF_PAGES: [Narrower; 2] = [
     // Pages that aren't made from others.
     Narrower {
@@ -157,11 +146,6 @@ static OF_PAGES: [Narrower; 2] = [
         steps: &[],
     },
 ];
-
-#[test]
-fn of_pages(rt: HostRuntime) -> Result<(), Fail> {
-    declare(&rt, rt.alloc(), MM, &OF_PAGES)
-}
 
 static OF_FILES: [Narrower; 1] = [
     // Files that are neither read nor written nor sought in.
@@ -186,11 +170,6 @@ static OF_FILES: [Narrower; 1] = [
     },
 ];
 
-#[test]
-fn of_files(rt: HostRuntime) -> Result<(), Fail> {
-    declare(&rt, rt.alloc(), RAMFS, &OF_FILES)
-}
-
 static OF_THREADS: [Narrower; 1] = [
     // Steps in the service's order, which isn't the text's; without a query.
     Narrower {
@@ -202,6 +181,10 @@ static OF_THREADS: [Narrower; 1] = [
 ];
 
 #[test]
-fn of_threads(rt: HostRuntime) -> Result<(), Fail> {
+fn accepted_texts_declare_what_they_name(rt: HostRuntime) -> Result<(), Fail> {
+    declare(&rt, rt.alloc(), LOCK, &OF_LOCKS)?;
+    declare(&rt, rt.alloc(), EVENT, &OF_EVENTS)?;
+    declare(&rt, rt.alloc(), MM, &OF_PAGES)?;
+    declare(&rt, rt.alloc(), RAMFS, &OF_FILES)?;
     declare(&rt, rt.alloc(), SCHED, &OF_THREADS)
 }

@@ -1,11 +1,9 @@
 // Transitions and recover steps that the service hasn't.
-use crate::answers::{Case, try_each};
+use crate::answers::Case;
 use crate::edits::Edit::{As, Then, Twice, Without};
 use sg_check::CheckKind::{ForeignRecover, ForeignTransition};
-use std::test::Fail;
-use test_interfaces::{EVENT, LOCK, MM, SCHED};
 
-static TRANSITIONS: [Case; 10] = [
+pub static TRANSITIONS: [Case; 10] = [
     // From the terminal function, to the creation, one turned round, one that is missing, one to itself.
     (
         &[Then(15, b"sm_transition(lock_free, lock_take);")],
@@ -59,12 +57,7 @@ static TRANSITIONS: [Case; 10] = [
     ),
 ];
 
-#[test]
-fn transitions(rt: HostRuntime) -> Result<(), Fail> {
-    try_each(&rt, rt.alloc(), LOCK, &TRANSITIONS)
-}
-
-static RECOVER_STEPS: [Case; 8] = [
+pub static RECOVER_STEPS: [Case; 8] = [
     (
         &[Then(20, b"sm_recover(lock_take, lock_release);")],
         Some((ForeignRecover, 21, 12)),
@@ -109,12 +102,7 @@ static RECOVER_STEPS: [Case; 8] = [
     ),
 ];
 
-#[test]
-fn recover_steps(rt: HostRuntime) -> Result<(), Fail> {
-    try_each(&rt, rt.alloc(), LOCK, &RECOVER_STEPS)
-}
-
-static BOTH: [Case; 3] = [
+pub static BOTH: [Case; 3] = [
     // The transition wins, also where it stands later.
     (
         &[
@@ -140,12 +128,7 @@ static BOTH: [Case; 3] = [
     ),
 ];
 
-#[test]
-fn both(rt: HostRuntime) -> Result<(), Fail> {
-    try_each(&rt, rt.alloc(), LOCK, &BOTH)
-}
-
-static OF_EVENTS: [Case; 3] = [
+pub static OF_EVENTS: [Case; 3] = [
     (
         &[Then(18, b"sm_transition(evt_wait, evt_trigger);")],
         Some((ForeignTransition, 19, 15)),
@@ -160,12 +143,7 @@ static OF_EVENTS: [Case; 3] = [
     ),
 ];
 
-#[test]
-fn of_events(rt: HostRuntime) -> Result<(), Fail> {
-    try_each(&rt, rt.alloc(), EVENT, &OF_EVENTS)
-}
-
-static OF_PAGES: [Case; 2] = [
+pub static OF_PAGES: [Case; 2] = [
     (
         &[Then(18, b"sm_transition(mman_get_page, mman_find);")],
         Some((ForeignTransition, 19, 15)),
@@ -176,12 +154,7 @@ static OF_PAGES: [Case; 2] = [
     ),
 ];
 
-#[test]
-fn of_pages(rt: HostRuntime) -> Result<(), Fail> {
-    try_each(&rt, rt.alloc(), MM, &OF_PAGES)
-}
-
-static OF_THREADS: [Case; 3] = [
+pub static OF_THREADS: [Case; 3] = [
     // No transition leads to the function that gives a rank.
     (
         &[Then(28, b"sm_transition(sched_create_thd, sched_place);")],
@@ -196,8 +169,3 @@ static OF_THREADS: [Case; 3] = [
         Some((ForeignRecover, 31, 12)),
     ),
 ];
-
-#[test]
-fn of_threads(rt: HostRuntime) -> Result<(), Fail> {
-    try_each(&rt, rt.alloc(), SCHED, &OF_THREADS)
-}

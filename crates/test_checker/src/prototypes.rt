@@ -1,11 +1,9 @@
 // Prototypes whose parameters aren't the function's.
-use crate::answers::{Case, try_each};
+use crate::answers::Case;
 use crate::edits::Edit::{As, Then, Without};
 use sg_check::CheckKind::{BadParams, WrongEffect};
-use std::test::Fail;
-use test_interfaces::{LOCK, MM, RAMFS, SCHED};
 
-static CALLERS: [Case; 14] = [
+pub static CALLERS: [Case; 14] = [
     // No client, or one with a star.
     (
         &[As(21, b"unsigned long lock_alloc(unsigned long spdid);")],
@@ -71,12 +69,7 @@ static CALLERS: [Case; 14] = [
     (&[As(21, b"const char **lock_alloc(spdid_t spdid);")], None),
 ];
 
-#[test]
-fn callers(rt: HostRuntime) -> Result<(), Fail> {
-    try_each(&rt, rt.alloc(), LOCK, &CALLERS)
-}
-
-static DESCRIPTORS: [Case; 12] = [
+pub static DESCRIPTORS: [Case; 12] = [
     (
         &[As(25, b"int lock_free(spdid_t spdid, char *desc(id));")],
         Some((BadParams, 25, 5)),
@@ -141,12 +134,7 @@ static DESCRIPTORS: [Case; 12] = [
     ),
 ];
 
-#[test]
-fn descriptors(rt: HostRuntime) -> Result<(), Fail> {
-    try_each(&rt, rt.alloc(), LOCK, &DESCRIPTORS)
-}
-
-static OF_PAGES: [Case; 7] = [
+pub static OF_PAGES: [Case; 7] = [
     // A client in a later place is a word.
     (
         &[As(
@@ -201,12 +189,7 @@ static OF_PAGES: [Case; 7] = [
     ),
 ];
 
-#[test]
-fn of_pages(rt: HostRuntime) -> Result<(), Fail> {
-    try_each(&rt, rt.alloc(), MM, &OF_PAGES)
-}
-
-static OF_FILES: [Case; 6] = [
+pub static OF_FILES: [Case; 6] = [
     (
         &[As(
             22,
@@ -251,12 +234,7 @@ static OF_FILES: [Case; 6] = [
     ),
 ];
 
-#[test]
-fn of_files(rt: HostRuntime) -> Result<(), Fail> {
-    try_each(&rt, rt.alloc(), RAMFS, &OF_FILES)
-}
-
-static TOGETHER: [Case; 5] = [
+pub static TOGETHER: [Case; 5] = [
     // The earlier place wins.
     (
         &[
@@ -290,12 +268,7 @@ static TOGETHER: [Case; 5] = [
     ),
 ];
 
-#[test]
-fn together(rt: HostRuntime) -> Result<(), Fail> {
-    try_each(&rt, rt.alloc(), LOCK, &TOGETHER)
-}
-
-static OF_THREADS: [Case; 3] = [
+pub static OF_THREADS: [Case; 3] = [
     (
         &[As(36, b"int sched_next(spdid_t spdid, long n);")],
         Some((BadParams, 36, 5)),
@@ -312,8 +285,3 @@ static OF_THREADS: [Case; 3] = [
         Some((BadParams, 37, 5)),
     ),
 ];
-
-#[test]
-fn of_threads(rt: HostRuntime) -> Result<(), Fail> {
-    try_each(&rt, rt.alloc(), SCHED, &OF_THREADS)
-}

@@ -1,22 +1,10 @@
 // Texts that make no descriptor, functions that can't be reached, states that have no walk.
-use crate::answers::{Case, answer, try_each};
+use crate::answers::Case;
 use crate::edits::Edit::{As, Front, Then, Without};
-use crate::edits::edited;
-use crate::shapes::standard_shapes;
 use sg_check::CheckKind::{ForeignRecover, NoCreation, NoWalk, Unreached};
-use std::test::Fail;
-use test_interfaces::{EVENT, LOCK, MM, RAMFS, SCHED};
 
-#[test]
-fn facts_alone(rt: HostRuntime) -> Result<(), Fail> {
-    let shapes = standard_shapes();
-    for base in [LOCK, EVENT, MM, RAMFS, SCHED] {
-        let text = edited(rt.alloc(), base, &[Front(9)])?;
-        let given = answer(rt.alloc(), text.as_slice(), &shapes)?;
-        assert_eq!(rt; given, Some((NoCreation, 1, 1)));
-    }
-    Ok(())
-}
+// The facts of a service, and no statement. The place is the text's first byte.
+pub static FACTS_ALONE: [Case; 1] = [(&[Front(9)], Some((NoCreation, 1, 1)))];
 
 const END: &[u8] = b"sm_terminal(lock_free);\n\
 int lock_free(spdid_t spdid, unsigned long desc(id));";
@@ -29,7 +17,7 @@ const TAKE_AND_STEP: &[u8] = b"sm_block(lock_take);\n\
 int lock_take(spdid_t desc_data(owner), unsigned long desc(id));\n\
 sm_recover(lock_take, lock_take);";
 
-static NO_CREATIONS: [Case; 4] = [
+pub static NO_CREATIONS: [Case; 4] = [
     // Its place is the text's first byte, also where the facts stand later.
     (
         &[Front(9), As(1, b"\n// Locks.\n\n  service_global_info = {")],
@@ -44,16 +32,11 @@ static NO_CREATIONS: [Case; 4] = [
     ),
 ];
 
-#[test]
-fn no_creation(rt: HostRuntime) -> Result<(), Fail> {
-    try_each(&rt, rt.alloc(), LOCK, &NO_CREATIONS)
-}
-
 const FIND: &[u8] = b"sm_query(mman_find);\n\
 sm_needs_all(mman_find);\n\
 unsigned long mman_find(spdid_t spdid, unsigned long space, unsigned long addr);";
 
-static OF_PAGES: [Case; 5] = [
+pub static OF_PAGES: [Case; 5] = [
     // A query makes nothing.
     (&[Front(9), Then(9, FIND)], Some((NoCreation, 1, 1))),
     // The end of one of the two that are made, of the other, of none.
@@ -71,12 +54,7 @@ static OF_PAGES: [Case; 5] = [
     ),
 ];
 
-#[test]
-fn of_pages(rt: HostRuntime) -> Result<(), Fail> {
-    try_each(&rt, rt.alloc(), MM, &OF_PAGES)
-}
-
-static OF_LOCKS: [Case; 10] = [
+pub static OF_LOCKS: [Case; 10] = [
     // Not called at all; called in a state that no lock comes to; called in the other of two states.
     (&[Without(18)], Some((Unreached, 22, 5))),
     (&[Without(15)], Some((Unreached, 22, 5))),
@@ -118,12 +96,7 @@ static OF_LOCKS: [Case; 10] = [
     ),
 ];
 
-#[test]
-fn of_locks(rt: HostRuntime) -> Result<(), Fail> {
-    try_each(&rt, rt.alloc(), LOCK, &OF_LOCKS)
-}
-
-static OF_EVENTS: [Case; 6] = [
+pub static OF_EVENTS: [Case; 6] = [
     (&[Without(16)], Some((Unreached, 20, 5))),
     (&[Without(18)], Some((Unreached, 23, 5))),
     (&[Without(17), Without(19)], Some((Unreached, 21, 5))),
@@ -145,12 +118,7 @@ static OF_EVENTS: [Case; 6] = [
     ),
 ];
 
-#[test]
-fn of_events(rt: HostRuntime) -> Result<(), Fail> {
-    try_each(&rt, rt.alloc(), EVENT, &OF_EVENTS)
-}
-
-static OF_FILES: [Case; 6] = [
+pub static OF_FILES: [Case; 6] = [
     (&[Without(17)], Some((Unreached, 22, 36))),
     (&[Without(20)], Some((Unreached, 25, 5))),
     (&[Without(19), Without(21)], Some((Unreached, 23, 5))),
@@ -174,12 +142,7 @@ static OF_FILES: [Case; 6] = [
     ),
 ];
 
-#[test]
-fn of_files(rt: HostRuntime) -> Result<(), Fail> {
-    try_each(&rt, rt.alloc(), RAMFS, &OF_FILES)
-}
-
-static OF_THREADS: [Case; 8] = [
+pub static OF_THREADS: [Case; 8] = [
     // A function that only replays call, without its recover step.
     (&[Without(29)], Some((Unreached, 36, 5))),
     // Without its prototype, too, a rank isn't restored.
@@ -206,8 +169,3 @@ static OF_THREADS: [Case; 8] = [
     // Waited for, and ended, in the other of two states alone.
     (&[Without(24), Without(25)], None),
 ];
-
-#[test]
-fn of_threads(rt: HostRuntime) -> Result<(), Fail> {
-    try_each(&rt, rt.alloc(), SCHED, &OF_THREADS)
-}

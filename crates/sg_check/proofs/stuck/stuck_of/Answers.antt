@@ -1,7 +1,7 @@
 -- Triple by triple.
 use Rattle.std.proofs.Common.{sym, ◌+◌, take, subst}
-use Rattle.sg_check.specs.Numbers.{Gains}
-use Rattle.sg_check.specs.Stuck.{HasSought}
+use Rattle.sg_check.specs.Inside.Numbers.{GainsNumber}
+use Rattle.sg_check.specs.Inside.Stuck.{HasSought}
 use Rattle.sg_check.proofs.Seeking.{all_sought, sought_stuck, sought_walk}
 use Rattle.sg_check.proofs.stuck.stuck_of.Goals.{then-not-branch+in_ok-add, else-not-branch}
 use Rattle.sg_check.proofs.stuck.stuck_of.Goals as goal
@@ -11,7 +11,7 @@ triples-preserved c = elim c.if-not-branch.branch [
   | then-not-branch+in_ok-add w ↦
       sought_stuck c.args.triples.now c.triples.triple-index _ c.triples-test.true c.args.iface.now c.requires.all c.triples.stuck c.triples.invariant c.if-not-branch.stuck c.in_ok-has_walk.field-0
       w.if-not-branch.true c.in_ok-has_walk.ensures
-      (subst (λ l. Gains c.triples.stuck l _) (sym w.stuck-is) (subst (Gains c.triples.stuck w.add.new.self) w.from.ensures w.in_ok-add.ensures.ok))
+      (subst (λ l. GainsNumber c.triples.stuck l _) (sym w.stuck-is) (subst (GainsNumber c.triples.stuck w.add.new.self) w.from.ensures w.in_ok-add.ensures.ok))
   | else-not-branch w ↦
       subst (HasSought c.args.iface.now (take (c.triples.triple-index + 1) c.args.triples.now)) (sym w.stuck-is)
       (sought_walk c.args.triples.now c.triples.triple-index _ c.triples-test.true c.args.iface.now c.requires.all c.triples.stuck c.triples.invariant c.in_ok-has_walk.field-0

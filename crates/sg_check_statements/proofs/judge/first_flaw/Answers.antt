@@ -1,7 +1,7 @@
 -- Statement by statement.
 use Rattle.std.proofs.Common.{◌≡◌, None, Some, take, sym, ◌∙◌, ap, subst}
 use Rattle.std.proofs.lemmas.List.{take_more, take_all}
-use Rattle.sg_check_statements.specs.Faults.{NoneOf}
+use Rattle.sg_check_statements.specs.Faults.{NoStatement}
 use Rattle.sg_check_statements.proofs.Firsts.{none_more, none_at_all, first_here}
 use Rattle.sg_check_statements.proofs.judge.first_flaw.Goals as goal
 
@@ -10,7 +10,7 @@ statements-init g c = none_at_all (λ before s p. g.J.Judge.flaw c.args.judge.no
 
 pub statements-preserved : goal.statements-preserved
 statements-preserved g c =
-    subst (NoneOf (λ before s p. g.J.Judge.flaw c.args.judge.now s ≡ Some p)) (sym (take_more c.args.statements.now c.statements.statement-index c.statement-item.result c.statements-test.true))
+    subst (NoStatement (λ before s p. g.J.Judge.flaw c.args.judge.now s ≡ Some p)) (sym (take_more c.args.statements.now c.statements.statement-index c.statement-item.result c.statements-test.true))
     (none_more (λ before s p. g.J.Judge.flaw c.args.judge.now s ≡ Some p) (take c.statements.statement-index c.args.statements.now) _ c.statements.invariant
     (λ place flaw. let no : None ≡ Some place = c.in_default.ensures ∙ ap (λ s. g.J.Judge.flaw c.args.judge.now s) c.statement-item.is ∙ flaw in cc no))
 
@@ -19,4 +19,4 @@ returns-in-Some g c = first_here (λ before s p. g.J.Judge.flaw c.args.judge.now
     c.statements-test.true (sym c.statement-item.is) c.statements.invariant (sym c.in-Some.ensures)
 
 pub returns : goal.returns
-returns g c = subst (NoneOf (λ before s p. g.J.Judge.flaw c.args.judge.now s ≡ Some p)) (take_all c.statements.statement-index c.args.statements.now c.statements-test.false) c.statements.invariant
+returns g c = subst (NoStatement (λ before s p. g.J.Judge.flaw c.args.judge.now s ≡ Some p)) (take_all c.statements.statement-index c.args.statements.now c.statements-test.false) c.statements.invariant

@@ -2,11 +2,11 @@
 use Rattle.std.proofs.Common.{◌≡◌, Some, codes, sym, subst}
 use Rattle.std.specs.Prelude.{MatchOption}
 use Rattle.sg_facts.specs.Facts.{facts_of}
-use Rattle.sg_check_statements.specs.Faults.{IsFirst, NoneOf}
+use Rattle.sg_check_statements.specs.Faults.{IsFirstStatement, NoStatement}
 use Rattle.sg_check_statements.specs.Flaws.{foreign}
 use Rattle.sg_check_statements.proofs.Judged.{same_pairs}
 use Rattle.sg_check_statements.proofs.pairs.foreign_transition.Goals as goal
 
 pub returns : goal.returns
-returns c = subst (λ pairs. MatchOption c.first_flaw.result (NoneOf (λ before s p. foreign (codes "sm_transition") pairs (facts_of c.args.shape.now) s ≡ Some p) c.args.statements.now)
-    (IsFirst (λ before s p. foreign (codes "sm_transition") pairs (facts_of c.args.shape.now) s ≡ Some p) c.args.statements.now)) (sym (same_pairs c.args.shape.now.moves.now)) c.first_flaw.ensures
+returns c = subst (λ pairs. MatchOption c.first_flaw.result (NoStatement (λ before s p. foreign (codes "sm_transition") pairs (facts_of c.args.shape.now) s ≡ Some p) c.args.statements.now)
+    (IsFirstStatement (λ before s p. foreign (codes "sm_transition") pairs (facts_of c.args.shape.now) s ≡ Some p) c.args.statements.now)) (sym (same_pairs c.args.shape.now.moves.now)) c.first_flaw.ensures

@@ -1,7 +1,7 @@
 -- Statement by statement.
 use Rattle.std.proofs.Common.{◌≡◌, ◌||◌, None, Some, take, get_or, sym, ◌∙◌, ap, subst}
 use Rattle.std.proofs.lemmas.List.{take_more}
-use Rattle.sg_check_statements.specs.Faults.{NoneOf}
+use Rattle.sg_check_statements.specs.Faults.{NoStatement}
 use Rattle.sg_check_statements.specs.Flaws.{duplicate}
 use Rattle.sg_check_statements.specs.Names.{AreOf, has_name}
 use Rattle.sg_check_statements.specs.Says.{is_proto}
@@ -18,7 +18,7 @@ statements-preserved c = (
   subst (AreOf c.add_proto.new.names) (sym (take_more c.args.statements.now c.statements.statement-index c.statement-item.result c.statements-test.true))
       (of_more c.statements.names c.add_proto.new.names (take c.statements.statement-index c.args.statements.now) (get_or c.args.statements.now c.statements.statement-index c.statement-item.result) c.statements.invariant.0
       (λ f. c.in_ok-add_proto.ensures f ∙ ap (λ s. is_proto f s || has_name c.statements.names f) c.statement-item.is)),
-  subst (NoneOf (λ before s p. duplicate before s ≡ Some p)) (sym (take_more c.args.statements.now c.statements.statement-index c.statement-item.result c.statements-test.true))
+  subst (NoStatement (λ before s p. duplicate before s ≡ Some p)) (sym (take_more c.args.statements.now c.statements.statement-index c.statement-item.result c.statements-test.true))
       (none_more (λ before s p. duplicate before s ≡ Some p) (take c.statements.statement-index c.args.statements.now) _ c.statements.invariant.1
       (λ place flaw. let none : None ≡ Some place =
       c.in_default.ensures (take c.statements.statement-index c.args.statements.now) c.statements.invariant.0 ∙ ap (duplicate (take c.statements.statement-index c.args.statements.now)) c.statement-item.is ∙ flaw in cc none)),

@@ -1,5 +1,5 @@
--- One kind more is clear, or the first flaw of that kind is the first of all.
-use Rattle.std.proofs.Common.{◌≡◌, Some, map}
+-- One kind more is clear, or the first fault of that kind is the first of all.
+use Rattle.std.proofs.Common.{◌≡◌, Some}
 use Rattle.sg_facts.specs.Facts.{facts_of}
 use Rattle.sg_check_statements.specs.declared.fault.CheckKind.TheVariants.{WrongEffect}
 use Rattle.sg_check_statements.specs.Flaws.{wrong_effect}
@@ -7,8 +7,7 @@ use Rattle.sg_check_statements.proofs.Clear.{each_statement, stage}
 use Rattle.sg_check_statements.proofs.stages.effects_fit.Goals as goal
 
 pub returns : goal.returns
-returns c =
-    let services = map facts_of c.args.services.now in
-    let shape = c.in_ok-shape.shape.now in
-    stage services c.args.tree.now shape WrongEffect c.wrong_effect_in.result c.in_ok-shape.ensures
-    (each_statement services c.args.tree.now (λ own f before s p. wrong_effect f own s ≡ Some p) (facts_of shape) c.wrong_effect_in.result c.in_ok-shape.ensures.service c.as_slice.result.now c.as_slice.ensures c.wrong_effect_in.ensures) c.unless.result c.unless.ensures
+returns c services clear =
+    let facts = facts_of c.args.shape.now in
+    stage services c.args.tree.now facts WrongEffect c.wrong_effect_in.result clear
+    (each_statement services c.args.tree.now (λ own f before s p. wrong_effect f own s ≡ Some p) facts c.wrong_effect_in.result clear.service c.as_slice.result.now c.as_slice.ensures c.wrong_effect_in.ensures) c.unless.result c.unless.ensures

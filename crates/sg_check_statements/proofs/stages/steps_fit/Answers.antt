@@ -1,5 +1,5 @@
--- One kind more is clear, or the first flaw of that kind is the first of all.
-use Rattle.std.proofs.Common.{◌≡◌, Some, codes, map}
+-- One kind more is clear, or the first fault of that kind is the first of all.
+use Rattle.std.proofs.Common.{◌≡◌, Some, codes}
 use Rattle.sg_facts.specs.Facts.{facts_of}
 use Rattle.sg_check_statements.specs.declared.fault.CheckKind.TheVariants.{ForeignRecover}
 use Rattle.sg_check_statements.specs.Flaws.{foreign}
@@ -7,8 +7,7 @@ use Rattle.sg_check_statements.proofs.Clear.{each_statement, stage}
 use Rattle.sg_check_statements.proofs.stages.steps_fit.Goals as goal
 
 pub returns : goal.returns
-returns c =
-    let services = map facts_of c.args.services.now in
-    let shape = c.in_ok-shape.shape.now in
-    stage services c.args.tree.now shape ForeignRecover c.foreign_recover.result c.in_ok-shape.ensures
-    (each_statement services c.args.tree.now (λ own f before s p. foreign (codes "sm_recover") f.steps f s ≡ Some p) (facts_of shape) c.foreign_recover.result c.in_ok-shape.ensures.service c.as_slice.result.now c.as_slice.ensures c.foreign_recover.ensures) c.unless.result c.unless.ensures
+returns c services clear =
+    let facts = facts_of c.args.shape.now in
+    stage services c.args.tree.now facts ForeignRecover c.foreign_recover.result clear
+    (each_statement services c.args.tree.now (λ own f before s p. foreign (codes "sm_recover") f.steps f s ≡ Some p) facts c.foreign_recover.result clear.service c.as_slice.result.now c.as_slice.ensures c.foreign_recover.ensures) c.unless.result c.unless.ensures

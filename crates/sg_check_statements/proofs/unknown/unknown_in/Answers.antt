@@ -2,10 +2,10 @@
 use Rattle.std.proofs.Common.{◌≡◌, Some, subst}
 use Rattle.std.specs.Prelude.{MatchOption}
 use Rattle.sg_facts.specs.Facts.{facts_of}
-use Rattle.sg_check_statements.specs.Faults.{IsFirst, NoneOf}
+use Rattle.sg_check_statements.specs.Faults.{IsFirstStatement, NoStatement}
 use Rattle.sg_check_statements.specs.Flaws.{unknown}
 use Rattle.sg_check_statements.proofs.unknown.unknown_in.Goals as goal
 
 pub returns : goal.returns
-returns c = subst (λ all. MatchOption c.first_flaw.result (NoneOf (λ before s p. unknown (facts_of c.args.shape.now) all s ≡ Some p) c.args.statements.now)
-    (IsFirst (λ before s p. unknown (facts_of c.args.shape.now) all s ≡ Some p) c.args.statements.now)) c.in_ok-protos.ensures c.first_flaw.ensures
+returns c = subst (λ all. MatchOption c.first_flaw.result (NoStatement (λ before s p. unknown (facts_of c.args.shape.now) all s ≡ Some p) c.args.statements.now)
+    (IsFirstStatement (λ before s p. unknown (facts_of c.args.shape.now) all s ≡ Some p) c.args.statements.now)) c.in_ok-protos.ensures c.first_flaw.ensures

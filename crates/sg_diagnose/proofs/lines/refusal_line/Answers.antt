@@ -2,7 +2,7 @@
 use Rattle.std.proofs.Common.{◌≡◌, ℕ, List, [], ◌∷◌, ◌++◌, ◌∙◌, ap, append_assoc}
 use Rattle.std.specs.Prelude.{codes}
 use Rattle.std.specs.Fmt.{decimal}
-use Rattle.sg_diagnose.specs.Verdicts.{kind_name}
+use Rattle.sg_diagnose.specs.Verdicts.{refusal_name}
 use Rattle.sg_diagnose.specs.Lines.{line_of, column_of}
 use Rattle.sg_diagnose.proofs.lines.refusal_line.Goals as goal
 
@@ -24,4 +24,4 @@ pub returns : goal.returns
 returns c =
     c.from_vec.ensures ∙ ap (λ v. v.items) c.into_bytes.ensures.value ∙ c.in_ok-said.ensures.ok
     ∙ same _ _ _ _ _ _ c.line_of-line.ensures c.column_of-column.ensures c.name_of-kind.ensures
-    ∙ regrouped (decimal (line_of c.args.text.now c.args.at)) (decimal (column_of c.args.text.now c.args.at)) (kind_name c.args.kind)
+    ∙ regrouped (decimal (line_of c.args.text.now c.args.at)) (decimal (column_of c.args.text.now c.args.at)) (refusal_name c.args.kind)

@@ -1,14 +1,14 @@
 -- Where a function is no declared creation, nothing begins by it.
 use Rattle.std.proofs.Common.{◌≡◌, true, false, ◌∙◌, sym, ap}
 use Rattle.sg_facts.specs.Facts.{fun_of_shape}
-use Rattle.sg_reach.specs.Places.{Begins}
+use Rattle.sg_reach.specs.Inside.Places.{IsMadeAt}
 use Rattle.sg_reach.proofs.Adding.{adds_none}
 use Rattle.sg_reach.proofs.Leading.{adds_begins}
 use Rattle.sg_reach.proofs.closing.add_begins.Goals as goal
 use Rattle.sg_reach.proofs.closing.add_begins.Goals.{else-declares-via-then-declares+else-is_creation, else-declares-via-else-declares}
 
 pub returns-else-declares : goal.returns-else-declares
-returns-else-declares c = adds_none (Begins c.args.iface.now c.args.made) c.args.found.now (λ q is. elim c.else-declares.branch [
+returns-else-declares c = adds_none (IsMadeAt c.args.iface.now c.args.made) c.args.found.now (λ q is. elim c.else-declares.branch [
   | else-declares-via-then-declares+else-is_creation w ↦
       let no : false ≡ true = sym w.if-is_creation.false ∙ w.is_creation.ensures ∙ ap (λ f. f.creation) c.fun-fun.ensures ∙ is.creation in cc no
   | else-declares-via-else-declares w ↦ let no : false ≡ true = sym w.if-declares.false ∙ c.declares.ensures ∙ is.declared in cc no

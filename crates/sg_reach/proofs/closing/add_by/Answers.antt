@@ -1,7 +1,7 @@
 -- An end leads nowhere, and any other function by its effects.
 use Rattle.std.proofs.Common.{◌≡◌, true, false, ◌∙◌, sym, ap}
 use Rattle.sg_facts.specs.Facts.{fun_of_shape}
-use Rattle.sg_reach.specs.Places.{LeadsBy}
+use Rattle.sg_reach.specs.Inside.Places.{LeadsBy}
 use Rattle.sg_reach.proofs.Adding.{adds_none}
 use Rattle.sg_reach.proofs.Leading.{adds_by}
 use Rattle.sg_reach.proofs.closing.add_by.Goals as goal

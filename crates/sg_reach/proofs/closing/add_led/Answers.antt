@@ -1,6 +1,6 @@
 -- Mask by mask.
 use Rattle.std.proofs.Common.{◌+◌, ◌<◌, ◌^◌, ◌∙◌, sym, subst, map, arith}
-use Rattle.sg_reach.specs.Places.{AddsJust}
+use Rattle.sg_reach.specs.Inside.Places.{AddsJust}
 use Rattle.sg_reach.proofs.Leading.{Below, below_none, below_more, below_same, below_all}
 use Rattle.sg_reach.proofs.closing.add_led.Goals as goal
 use Rattle.sg_reach.proofs.closing.add_led.Goals.{then-may_lead+in_ok-add, else-may_lead}

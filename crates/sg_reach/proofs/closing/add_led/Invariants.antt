@@ -1,6 +1,6 @@
 -- The places of the first masks were added.
 use Rattle.std.proofs.Common.{◌<◌, map}
-use Rattle.sg_reach.specs.Places.{AddsJust, IsLed}
+use Rattle.sg_reach.specs.Inside.Places.{AddsJust, IsLed}
 use Rattle.sg_reach.proofs.closing.add_led.Given as goal
 
 abbrev pub invariant-masks : goal.invariant-masks

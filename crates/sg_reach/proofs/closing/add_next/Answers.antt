@@ -2,7 +2,7 @@
 use Rattle.std.proofs.Common.{◌≡◌, ◌+◌, ◌∙◌, true, take, get_or, sym, subst}
 use Rattle.std.proofs.lemmas.List.{take_all}
 use Rattle.sg_facts.specs.Interface.{has_pair}
-use Rattle.sg_reach.specs.Places.{AddsJust}
+use Rattle.sg_reach.specs.Inside.Places.{AddsJust}
 use Rattle.sg_reach.proofs.Moves.{IsNextIn, next_more, next_same, next_all, pair_at}
 use Rattle.sg_reach.proofs.closing.add_next.Goals as goal
 use Rattle.sg_reach.proofs.closing.add_next.Goals.{then-state-place+in_ok-add_by, else-state-place}

@@ -1,6 +1,6 @@
 -- What the first transitions lead to was added.
 use Rattle.std.proofs.Common.{take}
-use Rattle.sg_reach.specs.Places.{AddsJust}
+use Rattle.sg_reach.specs.Inside.Places.{AddsJust}
 use Rattle.sg_reach.proofs.Moves.{IsNextIn}
 use Rattle.sg_reach.proofs.closing.add_next.Given as goal
 

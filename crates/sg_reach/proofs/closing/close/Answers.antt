@@ -1,7 +1,7 @@
 -- Place by place.
 use Rattle.std.proofs.Common.{◌≡◌, Some, sym}
 use Rattle.std.specs.Prelude.{slice_get}
-use Rattle.sg_reach.specs.Places.{IsNext}
+use Rattle.sg_reach.specs.Inside.Places.{LeadsTo}
 use Rattle.sg_reach.proofs.Adding.{adds_keeps}
 use Rattle.sg_reach.proofs.Closure.{closed_all, closed_more, ended, longer, reached_more}
 use Rattle.sg_reach.proofs.closing.close.Goals as goal
@@ -16,7 +16,7 @@ places-preserved c =
     record {
       closed = closed_more i c.in-Some.place.now c.places.next old new adds is c.places.invariant.closed;
       within = longer i c.in-Some.place.now c.places.next old new adds is;
-      kept = λ p has. adds_keeps (IsNext i c.in-Some.place.now) old new p adds (c.places.invariant.kept p has);
+      kept = λ p has. adds_keeps (LeadsTo i c.in-Some.place.now) old new p adds (c.places.invariant.kept p has);
       reached = λ made first. reached_more i c.in-Some.place.now c.places.next old new adds is made (c.places.invariant.reached made first);
     }
 

@@ -2,11 +2,13 @@
 use Rattle.std.proofs.Common.{◌<◌}
 use Rattle.std.specs.List.{Contains}
 use Rattle.sg_reach.specs.declared.place.Triple.{Triple}
-use Rattle.sg_reach.specs.Places.{IsReached}
+use Rattle.sg_reach.specs.Triples.{AreDistinct, IsReachedTriple}
 use Rattle.sg_reach.proofs.reach.reachable.Given as goal
 
 abbrev pub invariant-made : goal.invariant-made
 invariant-made l = record {
-  only : (t : Triple) → Contains l.triples t → IsReached l.iface t;
-  all : (t : Triple) → t.made < l.made → IsReached l.iface t → Contains l.triples t;
+  only : (t : Triple) → Contains l.triples t → IsReachedTriple l.iface t;
+  all : (t : Triple) → t.made < l.made → IsReachedTriple l.iface t → Contains l.triples t;
+  below : (t : Triple) → Contains l.triples t → t.made < l.made;
+  once : AreDistinct l.triples;
 }

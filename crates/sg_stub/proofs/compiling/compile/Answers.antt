@@ -1,6 +1,6 @@
 -- All that descriptors can come to is in the set.
 use Rattle.std.proofs.Common.{subst}
-use Rattle.sg_stub.specs.Triples.{SameTriples}
+use Rattle.sg_stub.specs.Inside.Triples.{SameTriples}
 use Rattle.sg_stub.proofs.Before.{made_within}
 use Rattle.sg_stub.proofs.TripleSets.{reached_in}
 use Rattle.sg_stub.proofs.compiling.compile.Goals as goal

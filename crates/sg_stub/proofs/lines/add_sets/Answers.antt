@@ -1,6 +1,6 @@
 -- Set by set.
 use Rattle.std.proofs.Common.{◌≡◌, ◌+◌, sym, ◌∙◌, subst, arith}
-use Rattle.sg_stub.specs.Lines.{AreBefore}
+use Rattle.sg_stub.specs.Inside.Lines.{AreBefore}
 use Rattle.sg_stub.proofs.Before.{line_added, next_state, none_added, not_reached}
 use Rattle.sg_stub.proofs.lines.add_sets.Goals.{then-has+in_ok-line_of+in_ok-push, else-has}
 use Rattle.sg_stub.proofs.lines.add_sets.Goals as goal

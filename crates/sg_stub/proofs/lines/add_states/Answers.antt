@@ -1,6 +1,6 @@
 -- State by state.
 use Rattle.std.proofs.Common.{◌≡◌, subst, arith}
-use Rattle.sg_stub.specs.Lines.{AreBefore}
+use Rattle.sg_stub.specs.Inside.Lines.{AreBefore}
 use Rattle.sg_stub.proofs.lines.add_states.Goals as goal
 
 pub returns : goal.returns

@@ -1,6 +1,6 @@
 -- Creation by creation.
 use Rattle.std.proofs.Common.{◌≡◌, sym, subst, arith}
-use Rattle.sg_stub.specs.Lines.{AreBefore}
+use Rattle.sg_stub.specs.Inside.Lines.{AreBefore}
 use Rattle.sg_stub.proofs.Before.{all_made, next_made, none_before}
 use Rattle.sg_stub.proofs.lines.lines_of.Goals as goal
 

@@ -1,5 +1,5 @@
 -- The lines of the first creations.
-use Rattle.sg_stub.specs.Lines.{AreBefore}
+use Rattle.sg_stub.specs.Inside.Lines.{AreBefore}
 use Rattle.sg_stub.proofs.lines.lines_of.Given as goal
 
 abbrev pub invariant-made : goal.invariant-made

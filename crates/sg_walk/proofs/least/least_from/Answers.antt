@@ -1,5 +1,5 @@
 use Rattle.std.proofs.Common.{◌∷◌, [], ◌++◌, ◌∙◌, ap, arith}
-use Rattle.sg_walk.specs.Spots.{shown}
+use Rattle.sg_walk.specs.Inside.Spots.{shown}
 use Rattle.sg_walk.proofs.LeastWalks.{found_least}
 use Rattle.sg_walk.proofs.least.least_from.Goals as goal
 

@@ -1,6 +1,6 @@
 use Rattle.std.proofs.Common.{ℕ, ◌<◌}
-use Rattle.sg_walk.specs.Spots.{shown}
-use Rattle.sg_walk.specs.Search.{LeadsNowhere, AreDead}
+use Rattle.sg_walk.specs.Inside.Spots.{shown}
+use Rattle.sg_walk.specs.Inside.Search.{LeadsNowhere, AreDead}
 use Rattle.sg_walk.proofs.least.least_from.Given as goal
 
 -- no walk of a length that was tried leads to what is sought

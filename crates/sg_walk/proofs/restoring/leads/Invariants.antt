@@ -1,5 +1,5 @@
 use Rattle.std.proofs.Common.{◌≡◌, drop}
-use Rattle.sg_walk.specs.Spots.{shown, leads}
+use Rattle.sg_walk.specs.Inside.Spots.{shown, leads}
 use Rattle.sg_walk.proofs.restoring.leads.Given as goal
 
 -- what is left of the walk leads to the same

@@ -1,7 +1,7 @@
 use Rattle.std.proofs.Common.{◌≡◌, ◌<◌, ◌^◌, ap, arith}
 use Rattle.sg_facts.specs.Interface.{Declared}
-use Rattle.sg_walk.specs.Spots.{shown}
-use Rattle.sg_walk.specs.Search.{LeadsNowhere}
+use Rattle.sg_walk.specs.Inside.Spots.{shown}
+use Rattle.sg_walk.specs.Inside.Search.{LeadsNowhere}
 use Rattle.sg_walk.proofs.Searching.{dead_more, none_left}
 use Rattle.sg_walk.proofs.search.+search.Goals as goal
 

@@ -1,6 +1,6 @@
 use Rattle.std.proofs.Common.{ℕ, ◌+◌, ◌*◌, ◌<◌}
-use Rattle.sg_walk.specs.Spots.{shown}
-use Rattle.sg_walk.specs.Search.{LeadsNowhereBy, AreDead}
+use Rattle.sg_walk.specs.Inside.Spots.{shown}
+use Rattle.sg_walk.specs.Inside.Search.{LeadsNowhereBy, AreDead}
 use Rattle.sg_walk.proofs.search.+search.Given as goal
 
 abbrev pub decreases-search : goal.decreases-search

@@ -1,6 +1,6 @@
 -- A place that wasn't found is marked, and goes last.
 use Rattle.std.proofs.Common.{◌≡◌, ◌<◌, ◌+◌, ◌*◌, false, get_or, sym, ◌∙◌, ap, arith}
-use Rattle.sg_reach.specs.Places.{cell_of}
+use Rattle.sg_reach.specs.Inside.Places.{cell_of}
 use Rattle.sg_reach.proofs.Marks.{marked_more}
 use Rattle.sg_reach.proofs.found.Found.add.Goals as goal
 

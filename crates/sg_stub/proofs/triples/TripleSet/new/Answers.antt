@@ -1,7 +1,7 @@
 -- Triple by triple.
 use Rattle.std.proofs.Common.{subst}
 use Rattle.std.proofs.lemmas.List.{take_all}
-use Rattle.sg_stub.specs.Triples.{SameTriples}
+use Rattle.sg_stub.specs.Inside.Triples.{SameTriples}
 use Rattle.sg_stub.proofs.TripleSets.{one_in}
 use Rattle.sg_stub.proofs.triples.TripleSet.new.Goals as goal
 

@@ -1,6 +1,6 @@
 -- The triples so far.
 use Rattle.std.proofs.Common.{take}
-use Rattle.sg_stub.specs.Triples.{SameTriples}
+use Rattle.sg_stub.specs.Inside.Triples.{SameTriples}
 use Rattle.sg_stub.proofs.triples.TripleSet.new.Given as goal
 
 abbrev pub invariant-triples : goal.invariant-triples

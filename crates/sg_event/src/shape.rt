@@ -1,0 +1,65 @@
+// The facts of the event service, those of its standard interface.
+ghost use Rattle.std.specs.Prelude.{◌≡◌};
+ghost use Rattle.sg_facts.specs.Facts.{facts_of};
+ghost use Rattle.sg_event.specs.EventFacts.{event_facts};
+
+use sg_facts::{Effect, FieldShape, FunShape, Kind, Leaves, Parents, Shape};
+
+static FIELDS: [FieldShape; 1] = [FieldShape {
+    name: b"count",
+    text: false,
+}];
+
+static FUNS: [FunShape; 4] = [
+    FunShape {
+        name: b"evt_split",
+        kinds: &[],
+        flags: FunShape::CREATION,
+        leaves: Leaves::Own,
+        effects: &[],
+    },
+    FunShape {
+        name: b"evt_wait",
+        kinds: &[Kind::Desc],
+        flags: FunShape::BLOCK,
+        leaves: Leaves::Same,
+        effects: &[(0, Effect::SubOne)],
+    },
+    FunShape {
+        name: b"evt_trigger",
+        kinds: &[Kind::Desc, Kind::Word],
+        flags: FunShape::WAKEUP,
+        leaves: Leaves::Same,
+        effects: &[(0, Effect::AddArg(0))],
+    },
+    FunShape {
+        name: b"evt_free",
+        kinds: &[Kind::Desc],
+        flags: FunShape::TERMINAL,
+        leaves: Leaves::Own,
+        effects: &[],
+    },
+];
+
+static MOVES: [(u8, u8); 3] = [(1, 2), (1, 3), (1, 4)];
+
+static STEPS: [(u8, u8); 1] = [(1, 3)];
+
+/// The shape of the event service.
+pub fn event_shape() -> Shape
+    ensures { facts_of result ≡ event_facts }
+{
+    Shape {
+        name: b"event",
+        parents: Parents::Never,
+        subtree: false,
+        global: true,
+        block: true,
+        has_data: true,
+        resc_data: false,
+        fields: &FIELDS,
+        funs: &FUNS,
+        moves: &MOVES,
+        steps: &STEPS,
+    }
+}

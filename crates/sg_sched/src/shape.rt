@@ -1,0 +1,99 @@
+// The facts of the thread service, those of its standard interface.
+ghost use Rattle.std.specs.Prelude.{◌≡◌};
+ghost use Rattle.sg_facts.specs.Facts.{facts_of};
+ghost use Rattle.sg_sched.specs.SchedFacts.{sched_facts};
+
+use sg_facts::{Effect, FieldShape, FunShape, Kind, Leaves, Parents, Shape};
+
+static FIELDS: [FieldShape; 2] = [
+    FieldShape {
+        name: b"prio",
+        text: false,
+    },
+    FieldShape {
+        name: b"rank",
+        text: false,
+    },
+];
+
+static FUNS: [FunShape; 8] = [
+    FunShape {
+        name: b"sched_create_thd",
+        kinds: &[Kind::Word],
+        flags: FunShape::CREATION + FunShape::ALL,
+        leaves: Leaves::Own,
+        effects: &[(0, Effect::SetArg(0)), (1, Effect::SetRet)],
+    },
+    FunShape {
+        name: b"sched_yield",
+        kinds: &[Kind::Desc],
+        flags: FunShape::ALL,
+        leaves: Leaves::Same,
+        effects: &[(1, Effect::SetRet)],
+    },
+    FunShape {
+        name: b"sched_sleep",
+        kinds: &[Kind::Desc],
+        flags: 0,
+        leaves: Leaves::Own,
+        effects: &[],
+    },
+    FunShape {
+        name: b"sched_wakeup",
+        kinds: &[Kind::Desc],
+        flags: FunShape::WAKEUP,
+        leaves: Leaves::Of(1),
+        effects: &[],
+    },
+    FunShape {
+        name: b"sched_wait",
+        kinds: &[Kind::Desc],
+        flags: FunShape::BLOCK,
+        leaves: Leaves::Same,
+        effects: &[],
+    },
+    FunShape {
+        name: b"sched_next",
+        kinds: &[],
+        flags: FunShape::QUERY + FunShape::ALL,
+        leaves: Leaves::Own,
+        effects: &[],
+    },
+    FunShape {
+        name: b"sched_place",
+        kinds: &[Kind::Desc, Kind::Word],
+        flags: 0,
+        leaves: Leaves::Same,
+        effects: &[(1, Effect::SetArg(0))],
+    },
+    FunShape {
+        name: b"sched_exit",
+        kinds: &[Kind::Desc],
+        flags: FunShape::TERMINAL,
+        leaves: Leaves::Own,
+        effects: &[],
+    },
+];
+
+static MOVES: [(u8, u8); 7] = [(1, 2), (1, 3), (1, 5), (1, 8), (3, 4), (3, 5), (3, 8)];
+
+static STEPS: [(u8, u8); 2] = [(1, 3), (1, 7)];
+
+/// The shape of the thread service.
+pub fn sched_shape() -> Shape
+    ensures { facts_of result ≡ sched_facts }
+{
+    Shape {
+        name: b"sched",
+        parents: Parents::Never,
+        subtree: false,
+        global: true,
+        block: true,
+        has_data: true,
+        resc_data: false,
+        fields: &FIELDS,
+        funs: &FUNS,
+        moves: &MOVES,
+        steps: &STEPS,
+    }
+}

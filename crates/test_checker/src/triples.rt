@@ -1,0 +1,46 @@
+// What descriptors come to: the creation, the state and the set of fields.
+use crate::interfaces::{Pairs, interface};
+use sg_event::event_shape;
+use sg_facts::{Service, Shape};
+use sg_lock::LockService;
+use sg_ramfs::ramfs_shape;
+use sg_reach::{Triple, reachable};
+use std::test::Fail;
+
+// A shape, the functions and transitions that are declared, and all that descriptors come to.
+type Case = (Shape, u32, Pairs, &'static [(u8, u8, u8)]);
+
+// Whether a triple is that of a creation, a state and a set of fields.
+fn is_that(triple: &Triple, of: &(u8, u8, u8)) -> bool {
+    (triple.made, triple.state, triple.mask) == *of
+}
+
+#[test]
+fn triples_that_descriptors_come_to(rt: HostRuntime) -> Result<(), Fail> {
+    let locks = LockService::shape();
+    let files = ramfs_shape();
+    let cases: [Case; 6] = [
+        (locks, 0b1111, locks.moves, &[(1, 1, 0), (1, 2, 1)]),
+        // Never taken, and never made.
+        (locks, 0b1001, &[(1, 4)], &[(1, 1, 0)]),
+        (locks, 0b1110, &[(2, 3)], &[]),
+        (event_shape(), 0b1111, &[(1, 2)], &[(1, 1, 0)]),
+        (
+            files,
+            0b11111,
+            files.moves,
+            &[(1, 1, 0), (1, 1, 1), (1, 1, 2), (1, 1, 3)],
+        ),
+        // Only freed.
+        (files, 0b10001, &[(1, 5)], &[(1, 1, 0), (1, 1, 1)]),
+    ];
+    for (shape, declared, moves, all) in cases {
+        let declared = interface(rt.alloc(), shape, declared, moves, &[])?;
+        let found = reachable(rt.alloc(), &declared)?;
+        assert_eq!(rt; found.len(), all.len());
+        for (triple, of) in found.as_slice().iter().zip(all) {
+            assert!(rt; is_that(triple, of));
+        }
+    }
+    Ok(())
+}

@@ -1,0 +1,83 @@
+// What is said of a text, line by line.
+use crate::shapes::standard_shapes;
+use sg_diagnose::{Examined, Verdict, compiled, examine, verdict};
+use std::alloc::Global;
+use std::test::Fail;
+use test_interfaces::{LOCK, SCHED};
+
+// Whether a text is refused by a line, whatever is asked of it.
+fn is_refused(alloc: Global, text: &[u8], line: &[u8]) -> Result<bool, Fail> {
+    let shapes = standard_shapes();
+    let said = match verdict(alloc, text, &shapes)? {
+        Verdict::Accepted(_) => false,
+        Verdict::Refused(said) => said.as_slice() == line,
+    };
+    let told = match compiled(alloc, text, &shapes)? {
+        Verdict::Accepted(_) => false,
+        Verdict::Refused(said) => said.as_slice() == line,
+    };
+    Ok(said && told)
+}
+
+// Whether a text is accepted by a line.
+fn is_accepted(alloc: Global, text: &[u8], line: &[u8]) -> Result<bool, Fail> {
+    match verdict(alloc, text, &standard_shapes())? {
+        Verdict::Accepted(said) => Ok(said.as_slice() == line),
+        Verdict::Refused(_) => Ok(false),
+    }
+}
+
+// The name of the service of a text that is accepted.
+fn service_of(alloc: Global, text: &[u8]) -> Result<Option<&'static [u8]>, Fail> {
+    match examine(alloc, text, &standard_shapes())? {
+        Examined::Accepted(accepted) => Ok(Some(accepted.interface().shape.name)),
+        Examined::Refused(_) => Ok(None),
+    }
+}
+
+// The facts of a service at the head of a text.
+const HEAD: &[u8] = b"service_global_info = {
+    service = door,
+    desc_has_parent = none,
+    desc_close = refuse,
+    desc_is_global = true,
+    desc_block = true,
+    desc_has_data = true,
+    resc_has_data = false
+};
+";
+
+// A text, and the line that refuses it.
+static REFUSED: [(&[u8], &[u8]); 7] = [
+    (b"", b"interface refused at 1:1: Syntax\n"),
+    (b"\n", b"interface refused at 2:1: Syntax\n"),
+    (
+        b"service_global_info = {",
+        b"interface refused at 1:24: Syntax\n",
+    ),
+    (
+        b"service_global_info = #",
+        b"interface refused at 1:23: Lex\n",
+    ),
+    (
+        b"service_global_info =\n\n  #",
+        b"interface refused at 3:3: Lex\n",
+    ),
+    (
+        b"service_global_info =\r\n=",
+        b"interface refused at 2:1: Syntax\n",
+    ),
+    (HEAD, b"interface refused at 2:15: UnknownService\n"),
+];
+
+#[test]
+fn what_is_said_of_a_text(rt: HostRuntime) -> Result<(), Fail> {
+    for (text, line) in &REFUSED {
+        assert!(rt; is_refused(rt.alloc(), text, line)?);
+    }
+    assert!(rt; is_accepted(rt.alloc(), LOCK, b"accepted lock\n")?);
+    assert!(rt; is_accepted(rt.alloc(), SCHED, b"accepted sched\n")?);
+    assert!(rt; service_of(rt.alloc(), LOCK)? == Some(b"lock".as_slice()));
+    assert!(rt; service_of(rt.alloc(), HEAD)?.is_none());
+    Ok(())
+}

@@ -1,0 +1,210 @@
+// The walks by which descriptors are rebuilt.
+ghost use Rattle.std.specs.Prelude.{◌≤◌, length};
+
+use crate::interfaces::{Pairs, interface};
+use sg_base::NoMemory;
+use sg_event::event_shape;
+use sg_facts::{FunShape, Leaves, Parents, Service, Shape, Walk};
+use sg_lock::LockService;
+use sg_mm::mm_shape;
+use sg_ramfs::ramfs_shape;
+use sg_sched::sched_shape;
+use sg_walk::{restores, shortest};
+use std::test::Fail;
+
+// What was made, its state, the set of fields, and the walk that is to be found.
+type Case = (u8, u8, u8, Option<&'static [u8]>);
+
+// A shape, the functions and recover steps that are declared, and what is to be found.
+type Table = (Shape, u32, Pairs, &'static [Case]);
+
+static LOCK_CASES: [Case; 7] = [
+    (1, 1, 0, Some(&[1])),
+    (1, 2, 1, Some(&[1, 2])),
+    (1, 1, 1, None),
+    (1, 3, 0, None),
+    (1, 4, 0, None),
+    (2, 2, 1, None),
+    (1, 1, 2, None),
+];
+
+static EVENT_CASES: [Case; 3] = [
+    (1, 1, 0, Some(&[1])),
+    (1, 1, 1, Some(&[1, 3])),
+    (1, 3, 1, None),
+];
+
+static MM_CASES: [Case; 7] = [
+    (1, 1, 3, Some(&[1])),
+    (1, 1, 1, Some(&[1])),
+    (2, 2, 3, Some(&[2])),
+    (2, 2, 0, Some(&[2])),
+    (1, 2, 3, None),
+    (3, 3, 0, None),
+    (4, 4, 0, None),
+];
+
+static RAMFS_CASES: [Case; 3] = [
+    (1, 1, 1, Some(&[1])),
+    (1, 1, 3, Some(&[1, 4])),
+    (1, 4, 3, None),
+];
+
+// The rank is a returned value, so it has to be placed even where it is 0.
+static SCHED_CASES: [Case; 4] = [
+    (1, 1, 3, Some(&[1, 7])),
+    (1, 1, 1, Some(&[1, 7])),
+    (1, 3, 3, Some(&[1, 7, 3])),
+    (1, 6, 3, None),
+];
+
+// Where no function places it, nothing is found.
+static UNPLACED_CASES: [Case; 3] = [(1, 1, 3, None), (1, 1, 1, None), (1, 3, 3, None)];
+
+// A function without a name and parameters.
+macro_rules! fun {
+    ($flags:expr, $leaves:expr) => {
+        FunShape {
+            name: &[],
+            kinds: &[],
+            flags: $flags,
+            leaves: $leaves,
+            effects: &[],
+        }
+    };
+}
+
+// A shape of these functions, whose descriptors have no fields.
+fn bare(funs: &'static [FunShape]) -> Shape {
+    Shape {
+        name: &[],
+        parents: Parents::Never,
+        subtree: false,
+        global: true,
+        block: false,
+        has_data: true,
+        resc_data: false,
+        fields: &[],
+        funs,
+        moves: &[],
+        steps: &[],
+    }
+}
+
+static CHAIN: [FunShape; 9] = [
+    fun!(FunShape::CREATION, Leaves::Own),
+    fun!(0, Leaves::Own),
+    fun!(0, Leaves::Own),
+    fun!(0, Leaves::Own),
+    fun!(0, Leaves::Own),
+    fun!(0, Leaves::Own),
+    fun!(0, Leaves::Own),
+    fun!(0, Leaves::Own),
+    fun!(0, Leaves::Own),
+];
+
+static CHAIN_STEPS: [(u8, u8); 8] = [
+    (1, 2),
+    (2, 3),
+    (3, 4),
+    (4, 5),
+    (5, 6),
+    (6, 7),
+    (7, 8),
+    (8, 9),
+];
+
+static CHAIN_CASES: [Case; 3] = [
+    (1, 7, 0, Some(&[1, 2, 3, 4, 5, 6, 7])),
+    (1, 8, 0, Some(&[1, 2, 3, 4, 5, 6, 7, 8])),
+    (1, 9, 0, None),
+];
+
+static FORKS: [FunShape; 9] = [
+    fun!(FunShape::CREATION, Leaves::Own),
+    fun!(0, Leaves::Own),
+    fun!(0, Leaves::Own),
+    fun!(0, Leaves::Of(6)),
+    fun!(0, Leaves::Of(6)),
+    fun!(0, Leaves::Own),
+    fun!(0, Leaves::Of(6)),
+    fun!(FunShape::TERMINAL, Leaves::Of(6)),
+    fun!(FunShape::QUERY, Leaves::Of(6)),
+];
+
+// Of walks as long the first place decides.
+static TWO_STEPS: [(u8, u8); 4] = [(1, 3), (3, 4), (1, 2), (2, 5)];
+
+static TWO_CASES: [Case; 1] = [(1, 6, 0, Some(&[1, 2, 5]))];
+
+// A shorter walk goes before, by whatever functions.
+static SHORTER_STEPS: [(u8, u8); 3] = [(1, 2), (2, 5), (1, 7)];
+
+static SHORTER_CASES: [Case; 1] = [(1, 6, 0, Some(&[1, 7]))];
+
+// A terminal function and a query stand in no walk.
+static BARRED_STEPS: [(u8, u8); 2] = [(1, 8), (1, 9)];
+
+static BARRED_CASES: [Case; 1] = [(1, 6, 0, None)];
+
+// A walk of these functions.
+fn walk(funs: &[u8]) -> Result<Walk, NoMemory>
+    requires { length funs.now ≤ 8 }
+{
+    let mut walk = Walk::new();
+    'funs: for fun in funs {
+        walk.push(*fun)?;
+    }
+    Ok(walk)
+}
+
+static LOCK_STEPS: [(u8, u8); 3] = [(1, 2), (2, 3), (2, 4)];
+
+// A walk of locks, the state and the set of fields that are asked for, and whether the walk restores them.
+static RESTORED: [(&[u8], u8, u8, bool); 11] = [
+    (&[], 0, 0, false),
+    (&[1], 1, 0, true),
+    (&[1], 2, 0, false),
+    (&[1, 2], 2, 1, true),
+    (&[1, 2], 2, 0, true),
+    (&[1, 2], 2, 2, false),
+    (&[1, 2, 3], 1, 0, true),
+    (&[1, 2, 3], 1, 1, false),
+    (&[1, 2, 4], 4, 1, false),
+    (&[1, 3], 1, 0, false),
+    (&[2], 2, 1, false),
+];
+
+#[test]
+fn the_least_walk_is_found(rt: HostRuntime) -> Result<(), Fail> {
+    let chain = bare(&CHAIN);
+    let forks = bare(&FORKS);
+    let tables: [Table; 10] = [
+        (LockService::shape(), 0b1111, &[(1, 2)], &LOCK_CASES),
+        (event_shape(), 0b1111, &[(1, 3)], &EVENT_CASES),
+        (mm_shape(), 0b1111, &[], &MM_CASES),
+        (ramfs_shape(), 0b11111, &[(1, 4)], &RAMFS_CASES),
+        (sched_shape(), 0b1111_1111, &[(1, 3), (1, 7)], &SCHED_CASES),
+        (sched_shape(), 0b1011_1111, &[(1, 3), (1, 7)], &UNPLACED_CASES),
+        (chain, u32::MAX, &CHAIN_STEPS, &CHAIN_CASES),
+        (forks, u32::MAX, &TWO_STEPS, &TWO_CASES),
+        (forks, u32::MAX, &SHORTER_STEPS, &SHORTER_CASES),
+        (forks, u32::MAX, &BARRED_STEPS, &BARRED_CASES),
+    ];
+    for (shape, declared, steps, cases) in tables {
+        let declared = interface(rt.alloc(), shape, declared, &[], steps)?;
+        for (made, state, mask, want) in cases {
+            let found = shortest(rt.alloc(), &declared, *made, *state, *mask)?;
+            let calls = found.as_ref().map(|walk| walk.as_slice());
+            assert_eq!(rt; calls, *want, "made by {made}, in {state}, with {mask}");
+        }
+    }
+    let locks = interface(rt.alloc(), LockService::shape(), 0b1111, &[], &LOCK_STEPS)?;
+    for (funs, state, mask, want) in &RESTORED {
+        if funs.len() <= Walk::MOST {
+            let got = restores(&locks, &walk(funs)?, *state, *mask);
+            assert_eq!(rt; got, *want, "{funs:?} in {state} with {mask}");
+        }
+    }
+    Ok(())
+}
