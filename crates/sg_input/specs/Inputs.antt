@@ -1,5 +1,5 @@
 -- What an input is, or why it is refused.
-use Rattle.std.specs.Prelude.{ℕ, ◌≡◌, ◌<◌, ◌≤◌, ◌⊎◌, List, Ok, Err, length}
+use Rattle.std.specs.Prelude.{ℕ, ◌≡◌, ◌+◌, ◌<◌, ◌≤◌, ◌⊎◌, List, Ok, Err, length}
 use Rattle.sg_facts.specs.Facts.{Facts}
 use Rattle.sg_facts.specs.Interface.{Declared}
 use Rattle.sg_grammar.specs.declared.tree.Tree.{Tree}
@@ -10,18 +10,27 @@ use Rattle.sg_diagnose.specs.Verdicts.{IsVerdict}
 use Rattle.sg_script.specs.declared.fault.ScriptError.TheVariants.{Fault}
 use Rattle.sg_script.specs.declared.fault.ScriptFault.{ScriptFault}
 use Rattle.sg_script.specs.declared.script.Script.{Script}
-use Rattle.sg_script.specs.Reads.{Reads}
+use Rattle.sg_script.specs.Reads.{IsReadingOf}
 use Rattle.sg_input.specs.declared.input.Input.{Input}
 use Rattle.sg_input.specs.declared.input.Input.TheVariants.{Refused, Ready}
 use Rattle.sg_input.specs.Divider.{Divides, IsCut}
 use Rattle.sg_input.specs.Lines.{no_divider_line, script_line, too_long_line}
 
--- the greatest numbers of bytes of an interface and of a script
+-- the greatest number of bytes of an interface
 abbrev pub most_interface : ℕ
 most_interface = 65536
 
+-- the greatest number of bytes of the line that divides an input: `%%`, CR and LF
+abbrev pub most_divider : ℕ
+most_divider = 4
+
+-- the greatest number of bytes of a script
 abbrev pub most_script : ℕ
 most_script = 4194304
+
+-- the greatest number of bytes of an input
+abbrev pub most_input : ℕ
+most_input = most_interface + most_divider + most_script
 
 -- ---- the two texts
 
@@ -63,7 +72,7 @@ pub record IsBadScript (services : List Facts) (input : List ℕ) (line : List �
   pub i : Declared
   pub accepted : IsInterface services interface i
   pub fault : ScriptFault
-  pub reads : Reads i script (Err (Fault fault))
+  pub reads : IsReadingOf i script (Err (Fault fault))
   pub says : line ≡ script_line script fault
 
 -- an interface is accepted, and this is a script for it
@@ -72,7 +81,7 @@ pub record IsReady (services : List Facts) (input : List ℕ) (i : Declared) (re
   pub script : List ℕ
   pub texts : AreTexts input interface script
   pub accepted : IsInterface services interface i
-  pub reads : Reads i script (Ok read)
+  pub reads : IsReadingOf i script (Ok read)
 
 -- an input is refused with this line, or ready with this interface and script
 abbrev pub IsInputOf : List Facts → List ℕ → Input → Type 0
