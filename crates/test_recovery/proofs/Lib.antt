@@ -1,4 +1,12 @@
 pub mod Apart
+pub mod EventFaults
+pub mod EventRuns
 pub mod LockFaults
 pub mod LockRuns
+pub mod MmFaults
+pub mod MmRuns
+pub mod RamfsFaults
+pub mod RamfsRuns
+pub mod SchedFaults
+pub mod SchedRuns
 pub mod Steps

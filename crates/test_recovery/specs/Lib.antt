@@ -1,2 +1,6 @@
+pub mod EventRuns
 pub mod LockRuns
+pub mod MmRuns
+pub mod RamfsRuns
+pub mod SchedRuns
 pub mod Written

@@ -1,11 +1,17 @@
-//! Runs of locks with stops, written out: some recover, and some don't.
+//! Runs with stops of the five services, written out: some recover, and some don't.
 //!
 //! Each function does nothing; its clause says that the run recovers, or that it doesn't, and is proved by computing.
 //! `specs/Written.antt` has the words in which runs are written out.
 #![tactic(auto)]
 
+mod events;
+mod files;
 mod locks;
+mod pages;
+mod threads;
 
+pub use events::{blocked_redone, earlier_value, present_value, trigger_not_twice};
+pub use files::{file_loaded, held_behind, held_lost, loaded_twice};
 pub use locks::{
     another_id, asked_after_a_stop, boot_without_a_stop, half_a_walk, out_of_order,
     point_asked_in_vain, point_left_out, rebuilt_for_nobody, rebuilt_for_take, rebuilt_needlessly,
@@ -13,3 +19,5 @@ pub use locks::{
     stop_at_another_number, stop_before_storage, stop_in_walk, taken_twice, walk_by_another,
     walk_from_its_middle, walk_too_long,
 };
+pub use pages::{child_first, occupied_after_stop, parent_first, subtree};
+pub use threads::{one_walk_two_clients, ranks_kept, service_id_shown};

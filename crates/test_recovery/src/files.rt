@@ -1,0 +1,23 @@
+// Runs of files.
+ghost use Rattle.test_recovery.specs.RamfsRuns.{ramfs_stubs, loaded_twice, file_loaded, file_loaded_ends, file_loaded_history, held_behind, held_behind_ends, held_behind_history, held_lost, held_lost_ends, held_lost_history};
+ghost use Rattle.sg_hist.specs.Recovered.{IsRecovered, waiting};
+
+/// A file that was written before the stop is loaded before it is read.
+pub fn file_loaded()
+    ensures recovered { IsRecovered ramfs_stubs file_loaded_history file_loaded (waiting file_loaded_ends) }
+{}
+
+/// A reply that wasn't committed is lost with the service, and its call is done again.
+pub fn held_lost()
+    ensures recovered { IsRecovered ramfs_stubs held_lost_history held_lost (waiting held_lost_ends) }
+{}
+
+/// A reply that others don't see is committed behind a creation that was asked for later.
+pub fn held_behind()
+    ensures recovered { IsRecovered ramfs_stubs held_behind_history held_behind (waiting held_behind_ends) }
+{}
+
+/// It doesn't recover where a file is loaded that was loaded in this boot.
+pub fn loaded_twice()
+    ensures wrong { IsRecovered ramfs_stubs file_loaded_history loaded_twice (waiting file_loaded_ends) → ⊥ }
+{}

@@ -1,5 +1,0 @@
-use Rattle.test_recovery_services.proofs.EventRuns.{blocked_redone-recovered}
-use Rattle.test_recovery_services.proofs.events.blocked_redone.Goals as goal
-
-pub returns : goal.returns
-returns c = record { recovered = blocked_redone-recovered }

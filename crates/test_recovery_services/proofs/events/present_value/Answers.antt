@@ -1,5 +1,0 @@
-use Rattle.test_recovery_services.proofs.EventRuns.{present_value-recovered}
-use Rattle.test_recovery_services.proofs.events.present_value.Goals as goal
-
-pub returns : goal.returns
-returns c = record { recovered = present_value-recovered }

@@ -1,5 +1,0 @@
-use Rattle.test_recovery_services.proofs.EventRuns.{trigger_not_twice-recovered}
-use Rattle.test_recovery_services.proofs.events.trigger_not_twice.Goals as goal
-
-pub returns : goal.returns
-returns c = record { recovered = trigger_not_twice-recovered }

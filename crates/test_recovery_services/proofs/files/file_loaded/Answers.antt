@@ -1,5 +1,0 @@
-use Rattle.test_recovery_services.proofs.RamfsRuns.{file_loaded-recovered}
-use Rattle.test_recovery_services.proofs.files.file_loaded.Goals as goal
-
-pub returns : goal.returns
-returns c = record { recovered = file_loaded-recovered }

@@ -1,5 +1,0 @@
-use Rattle.test_recovery_services.proofs.MmRuns.{parent_first-recovered}
-use Rattle.test_recovery_services.proofs.pages.parent_first.Goals as goal
-
-pub returns : goal.returns
-returns c = record { recovered = parent_first-recovered }

@@ -1,5 +1,0 @@
-use Rattle.test_recovery_services.proofs.SchedRuns.{ranks_kept-recovered}
-use Rattle.test_recovery_services.proofs.threads.ranks_kept.Goals as goal
-
-pub returns : goal.returns
-returns c = record { recovered = ranks_kept-recovered }

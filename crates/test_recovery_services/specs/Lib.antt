@@ -1,4 +1,0 @@
-pub mod EventRuns
-pub mod MmRuns
-pub mod RamfsRuns
-pub mod SchedRuns
