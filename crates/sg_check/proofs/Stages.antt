@@ -146,8 +146,8 @@ module _ (services : List Facts) (tree : Tree) where
   candidate_fits c good reach walks =
       subst Fits (sym good.declared) (fits services tree (facts_of c.shape) good.shape good.clear (subst HasReach good.declared reach) (subst HasWalks good.declared walks))
 
-  pub candidate_small : (c : Candidate) → IsCandidate services tree c 12 → IsSmall c.iface
-  candidate_small c good = subst IsSmall (sym good.declared) record {
+  pub candidate_small : (c : Candidate) (kinds : ℕ) → IsCandidate services tree c kinds → IsSmall c.iface
+  candidate_small c kinds good = subst IsSmall (sym good.declared) record {
     funs = few_funs (facts_of c.shape) good.shape;
     fields = few_fields (facts_of c.shape) good.shape;
   }

@@ -2,10 +2,12 @@
 ghost use Rattle.std.specs.Prelude.{◌≡◌, ℕ, true, map, OnOk};
 ghost use Rattle.std.specs.Result.{MatchResult};
 ghost use Rattle.sg_facts.specs.Facts.{facts_of};
+ghost use Rattle.sg_reach.specs.Limits.{HasFourFields};
 ghost use Rattle.sg_check_statements.specs.Faults.{IsAccepted, IsFault};
 ghost use Rattle.sg_check_statements.specs.Stages.{IsFirstFault};
 ghost use Rattle.sg_check_statements.specs.declared.fault.CheckKind.{CheckKind as Kind};
 ghost use Rattle.sg_check.specs.Answers.{IsThisFault};
+ghost use Rattle.sg_check.specs.Inside.Reached.{AreTriples};
 ghost use Rattle.sg_check.specs.Inside.Candidates.{HasReach, HasWalks, IsCandidate, IsStageOf};
 ghost use Rattle.sg_check.specs.Shapes.{are_shapes};
 
@@ -66,6 +68,7 @@ fn candidate_of(alloc: Global, shapes: &[Shape], tree: &Tree) -> Result<Candidat
 
 // Each function that is declared can be reached.
 fn funs_reached(alloc: Global, candidate: &Candidate, tree: &Tree) -> Result<(), CheckError>
+    requires triples { AreTriples candidate.now.iface candidate.now.triples }
     ensures stage { IsStageOf tree.now candidate.now 10 result }
     ensures known { OnOk result (HasReach candidate.now.iface) }
 {
@@ -76,6 +79,8 @@ fn funs_reached(alloc: Global, candidate: &Candidate, tree: &Tree) -> Result<(),
 
 // Each state that descriptors can come to has its walks.
 fn walks_fit(alloc: Global, candidate: &Candidate, tree: &Tree) -> Result<(), CheckError>
+    requires few { HasFourFields candidate.now.iface }
+    requires triples { AreTriples candidate.now.iface candidate.now.triples }
     ensures stage { IsStageOf tree.now candidate.now 11 result }
     ensures known { OnOk result (HasWalks candidate.now.iface) }
 {

@@ -1,22 +1,28 @@
 -- What is clear of all kinds fits.
-use Rattle.std.proofs.Common.{map, sym, subst}
+use Rattle.std.proofs.Common.{map, rules, sym, subst}
 use Rattle.sg_facts.specs.Facts.{facts_of}
 use Rattle.sg_check_statements.specs.Faults.{IsAccepted}
 use Rattle.sg_check.proofs.Stages.{candidate_accepted, candidate_fits, candidate_small}
 use Rattle.sg_check.proofs.checking.accept.Goals as goal
 
+pub walks_fit-requires-clause-few : goal.walks_fit-requires-clause-few
+walks_fit-requires-clause-few c = (candidate_small (map facts_of c.args.shapes.now) c.args.tree.now c.in_ok-candidate.candidate 10 c.in_ok-candidate.ensures).fields
+
 pub returns-in_err-funs_reached : goal.returns-in_err-funs_reached
-returns-in_err-funs_reached c = c.in_err-funs_reached.ensures.stage (map facts_of c.args.shapes.now) c.in_ok-candidate.ensures
+returns-in_err-funs_reached c =
+    let told = c.in_err-funs_reached.ensures.stage (map facts_of c.args.shapes.now) c.in_ok-candidate.ensures in
+    search rules
 
 pub returns-in_err-walks_fit : goal.returns-in_err-walks_fit
 returns-in_err-walks_fit c =
     let services = map facts_of c.args.shapes.now in
-    c.in_err-walks_fit.ensures.stage services (c.in_ok-funs_reached.ensures.stage services c.in_ok-candidate.ensures)
+    let told = c.in_err-walks_fit.ensures.stage services (c.in_ok-funs_reached.ensures.stage services c.in_ok-candidate.ensures) in
+    search rules
 
 pub new-requires-clause-small : goal.new-requires-clause-small
 new-requires-clause-small c =
     let services = map facts_of c.args.shapes.now in
-    candidate_small services c.args.tree.now c.in_ok-candidate.candidate (c.in_ok-walks_fit.ensures.stage services (c.in_ok-funs_reached.ensures.stage services c.in_ok-candidate.ensures))
+    candidate_small services c.args.tree.now c.in_ok-candidate.candidate 12 (c.in_ok-walks_fit.ensures.stage services (c.in_ok-funs_reached.ensures.stage services c.in_ok-candidate.ensures))
 
 pub new-requires-clause-fits : goal.new-requires-clause-fits
 new-requires-clause-fits c =
