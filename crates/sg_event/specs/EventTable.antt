@@ -1,12 +1,12 @@
 -- What the event service answers.
-use Rattle.std.specs.Prelude.{ℕ, zero, suc, ◌+◌, ◌==◌, nat_lt, if◌then◌else◌, [], None, Some}
+use Rattle.std.specs.Prelude.{ℕ, zero, suc, ◌+◌, ◌==◌, nat_lt, None, Some}
 use Rattle.std.specs.declared.option.Option.{Option}
 use Rattle.sg_base.specs.declared.reply.Code.TheVariants.{NotFound, Overflow}
 use Rattle.sg_base.specs.declared.reply.Reply.{Reply}
 use Rattle.sg_base.specs.declared.reply.Reply.TheVariants.{Ok, Refused}
 use Rattle.sg_facts.specs.declared.row.Row.{Row}
 use Rattle.sg_facts.specs.Track.{row_at, word_of, field_at, arg_at}
-use Rattle.sg_facts.specs.Legal.{Table}
+use Rattle.sg_facts.specs.Legal.{Table, done}
 
 -- the greatest count, the greatest 32-bit number
 abbrev pub most_count : ℕ
@@ -16,10 +16,6 @@ most_count = 4294967295
 abbrev pub count_in : Option Row → ℕ
 count_in None = 0
 count_in (Some r) = word_of (field_at r.fields 0)
-
--- an Ok with a descriptor, without words and bytes
-abbrev pub done : ℕ → Option Reply
-done desc = Some (Ok (record { desc = desc; words = []; bytes = [] }))
 
 -- a wait blocks while the count is 0
 abbrev pub event_wait_answer : ℕ → Option Reply

@@ -1,10 +1,10 @@
 -- Legal histories: those of a service that never failed.
-use Rattle.std.specs.Prelude.{◌≡◌, List, [], ◌∷◌, ◌++◌, None, Some}
+use Rattle.std.specs.Prelude.{ℕ, ◌≡◌, List, [], ◌∷◌, ◌++◌, None, Some}
 use Rattle.std.specs.declared.option.Option.{Option}
 use Rattle.sg_base.specs.declared.call.Call.{Call}
 use Rattle.sg_base.specs.declared.reply.Code.{Code}
 use Rattle.sg_base.specs.declared.reply.Reply.{Reply}
-use Rattle.sg_base.specs.declared.reply.Reply.TheVariants.{Refused}
+use Rattle.sg_base.specs.declared.reply.Reply.TheVariants.{Ok, Refused}
 use Rattle.sg_facts.specs.declared.entry.Entry.{Entry}
 use Rattle.sg_facts.specs.Interface.{Declared}
 use Rattle.sg_facts.specs.Object.{Object, after, object_of}
@@ -14,6 +14,11 @@ use Rattle.sg_facts.specs.Guard.{guard}
 abbrev pub Table : Type 0
 Table = Object → Call → Option Reply
 
+-- an Ok with a descriptor, 0 for none, without words and bytes
+abbrev pub done : ℕ → Option Reply
+done desc = Some (Ok (record { desc = desc; words = []; bytes = [] }))
+
+-- a refusal where there is one, else an answer
 abbrev pub refused_or : Option Code → Option Reply → Option Reply
 refused_or (Some code) asked = Some (Refused code)
 refused_or None asked = asked

@@ -1,21 +1,17 @@
 -- What the lock service answers.
-use Rattle.std.specs.Prelude.{ℕ, zero, suc, ◌+◌, ◌==◌, if◌then◌else◌, [], None, Some}
+use Rattle.std.specs.Prelude.{ℕ, zero, suc, ◌+◌, ◌==◌, None, Some}
 use Rattle.std.specs.declared.option.Option.{Option}
 use Rattle.sg_base.specs.declared.reply.Code.TheVariants.{Held, NotOwner, NotFound}
 use Rattle.sg_base.specs.declared.reply.Reply.{Reply}
 use Rattle.sg_base.specs.declared.reply.Reply.TheVariants.{Ok, Refused}
 use Rattle.sg_facts.specs.declared.row.Row.{Row}
 use Rattle.sg_facts.specs.Track.{row_at, word_of, field_at}
-use Rattle.sg_facts.specs.Legal.{Table}
+use Rattle.sg_facts.specs.Legal.{Table, done}
 
 -- the owner of a lock, 0 where it is free
 abbrev pub owner_in : Option Row → ℕ
 owner_in None = 0
 owner_in (Some r) = word_of (field_at r.fields 0)
-
--- an Ok with a descriptor, without words and bytes
-abbrev pub done : ℕ → Option Reply
-done desc = Some (Ok (record { desc = desc; words = []; bytes = [] }))
 
 -- a take is refused to the owner and blocks while another owns the lock
 abbrev pub take_answer : ℕ → ℕ → Option Reply

@@ -1,5 +1,5 @@
 -- What the memory mapping service answers.
-use Rattle.std.specs.Prelude.{ℕ, zero, suc, ◌+◌, ◌==◌, Bool, ◌&&◌, if◌then◌else◌, min, List, [], None, Some, map, filter}
+use Rattle.std.specs.Prelude.{ℕ, zero, suc, ◌+◌, ◌==◌, Bool, ◌&&◌, min, List, None, Some, map, filter}
 use Rattle.std.specs.declared.option.Option.{Option}
 use Rattle.std.specs.List.{list_any, reduce}
 use Rattle.sg_base.specs.declared.call.Call.{Call}
@@ -9,7 +9,7 @@ use Rattle.sg_base.specs.declared.reply.Reply.TheVariants.{Ok, Refused}
 use Rattle.sg_facts.specs.declared.row.Row.{Row}
 use Rattle.sg_facts.specs.Track.{word_of, field_at, arg_at}
 use Rattle.sg_facts.specs.Object.{Object}
-use Rattle.sg_facts.specs.Legal.{Table}
+use Rattle.sg_facts.specs.Legal.{Table, done}
 
 -- the space of a page, and its address there
 abbrev pub space_of : Row → ℕ
@@ -21,10 +21,6 @@ addr_of r = word_of (field_at r.fields 1)
 -- whether a page is in a space at an address
 abbrev pub is_at : ℕ → ℕ → Row → Bool
 is_at space addr r = (space_of r == space) && (addr_of r == addr)
-
--- an Ok with a descriptor, without words and bytes
-abbrev pub done : ℕ → Option Reply
-done desc = Some (Ok (record { desc = desc; words = []; bytes = [] }))
 
 -- a new page is refused where its place is taken
 abbrev pub page_answer : List Row → ℕ → ℕ → ℕ → Option Reply

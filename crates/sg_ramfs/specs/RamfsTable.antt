@@ -1,5 +1,5 @@
 -- What the file service answers.
-use Rattle.std.specs.Prelude.{ℕ, zero, suc, ◌+◌, ◌==◌, Bool, ◌||◌, nat_lt, if◌then◌else◌, List, [], ◌∷◌, ◌++◌, Some, length, take, drop}
+use Rattle.std.specs.Prelude.{ℕ, zero, suc, ◌+◌, ◌==◌, Bool, ◌||◌, nat_lt, List, [], ◌∷◌, ◌++◌, Some, length, take, drop}
 use Rattle.std.specs.declared.option.Option.{Option}
 use Rattle.std.specs.List.{list_any}
 use Rattle.sg_base.specs.declared.call.Call.{Call}
@@ -8,7 +8,7 @@ use Rattle.sg_base.specs.declared.reply.Reply.{Reply}
 use Rattle.sg_base.specs.declared.reply.Reply.TheVariants.{Ok, Refused}
 use Rattle.sg_facts.specs.Track.{row_at, word_of, arg_at}
 use Rattle.sg_facts.specs.Object.{Object, first_text, path_of, file_at, place_of}
-use Rattle.sg_facts.specs.Legal.{Table}
+use Rattle.sg_facts.specs.Legal.{Table, done}
 use Rattle.sg_facts.specs.Limits.{most_file, most_path}
 use Rattle.sg_ramfs.specs.RamfsFacts.{tread, twrite}
 
@@ -23,10 +23,6 @@ most_read = 256
 -- whether a name is empty, too long, or has a slash
 abbrev pub is_bad_name : List ℕ → Bool
 is_bad_name name = (length name == 0) || nat_lt most_name (length name) || list_any (λ b. b == 47) name
-
--- an Ok with a descriptor, without words and bytes
-abbrev pub done : ℕ → Option Reply
-done desc = Some (Ok (record { desc = desc; words = []; bytes = [] }))
 
 -- an Ok with a number of bytes as its word, and bytes
 abbrev pub moved : ℕ → List ℕ → Option Reply

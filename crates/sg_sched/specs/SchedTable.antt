@@ -1,5 +1,5 @@
 -- What the thread service answers.
-use Rattle.std.specs.Prelude.{ℕ, zero, suc, ◌+◌, ◌==◌, Bool, ◌&&◌, ◌||◌, nat_lt, if◌then◌else◌, max, List, [], ◌∷◌, None, Some, map, filter}
+use Rattle.std.specs.Prelude.{ℕ, zero, suc, ◌+◌, ◌==◌, Bool, ◌&&◌, ◌||◌, nat_lt, max, List, [], ◌∷◌, None, Some, map, filter}
 use Rattle.std.specs.declared.option.Option.{Option}
 use Rattle.std.specs.List.{fold, reduce}
 use Rattle.sg_base.specs.declared.call.Call.{Call}
@@ -9,7 +9,7 @@ use Rattle.sg_base.specs.declared.reply.Reply.TheVariants.{Ok, Refused}
 use Rattle.sg_facts.specs.declared.row.Row.{Row}
 use Rattle.sg_facts.specs.Track.{row_at, word_of, field_at}
 use Rattle.sg_facts.specs.Object.{Object}
-use Rattle.sg_facts.specs.Legal.{Table}
+use Rattle.sg_facts.specs.Legal.{Table, done}
 use Rattle.sg_facts.specs.Laws.{state_in}
 
 -- the priority of a thread, and its rank in the queue
@@ -39,10 +39,6 @@ is_ready r = r.state == 1
 -- the ready thread that goes before all others
 abbrev pub first_ready : List Row → Option Row
 first_ready rows = reduce next_of (filter is_ready rows)
-
--- an Ok with a descriptor, without words and bytes
-abbrev pub done : ℕ → Option Reply
-done desc = Some (Ok (record { desc = desc; words = []; bytes = [] }))
 
 -- an Ok with a descriptor and a rank as its word
 abbrev pub ranked : ℕ → ℕ → Option Reply

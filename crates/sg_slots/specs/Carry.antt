@@ -17,8 +17,8 @@ words_of None = []
 words_of (Some word) = word ∷ []
 
 -- an Ok with a descriptor and a word, or none
-abbrev pub ok_with : ℕ → Option ℕ → Reply
-ok_with desc word = Ok (record { desc = desc; words = words_of word; bytes = [] })
+abbrev pub ok_reply : ℕ → Option ℕ → Reply
+ok_reply desc word = Ok (record { desc = desc; words = words_of word; bytes = [] })
 
 -- a reply alone, or want of memory
 abbrev pub AnswersOnly : Reply → Outcome → Type 0
@@ -33,10 +33,10 @@ module _ {E : Type 0} where
   abbrev pub reply_to : Held E → Decision E → Option Reply
   reply_to held (Refuse code) = Some (Refused code)
   reply_to held Block = None
-  reply_to held (Make e word) = Some (ok_with (held.given + 1) word)
-  reply_to held (Set e word) = Some (ok_with 0 word)
-  reply_to held (Keep desc word) = Some (ok_with desc word)
-  reply_to held Remove = Some (ok_with 0 None)
+  reply_to held (Make e word) = Some (ok_reply (held.given + 1) word)
+  reply_to held (Set e word) = Some (ok_reply 0 word)
+  reply_to held (Keep desc word) = Some (ok_reply desc word)
+  reply_to held Remove = Some (ok_reply 0 None)
 
   -- what slots hold after a decision on an id was carried out
   abbrev pub held_after : Held E → ℕ → Decision E → Held E

@@ -2,7 +2,7 @@
 ghost use Rattle.std.specs.Prelude.{◌≡◌, ◌<◌, ◌^◌, ℕ, IfOk, IsSome};
 ghost use Rattle.sg_slots.specs.declared.decision.Decision.TheVariants.{Make, Set, Remove};
 ghost use Rattle.sg_slots.specs.Slots.{entry_at, set_entry, AreIds};
-ghost use Rattle.sg_slots.specs.Carry.{Adds, Carries, AnswersOnly, IsAbout, words_of, ok_with};
+ghost use Rattle.sg_slots.specs.Carry.{Adds, Carries, AnswersOnly, IsAbout, words_of, ok_reply};
 
 use crate::Slots;
 use sg_base::{Bytes, Code, Good, NoMemory, Point, Reply, Stops, Words};
@@ -144,7 +144,7 @@ fn set<E: Drop, T: Stops>(
 
 // Answers a descriptor and a word.
 fn keep(alloc: Global, desc: u64, word: Option<u64>) -> Outcome
-    ensures { AnswersOnly (ok_with desc word) result }
+    ensures { AnswersOnly (ok_reply desc word) result }
 {
     match good(alloc, desc, word) {
         Ok(reply) => replied(reply),
@@ -195,7 +195,7 @@ fn replied(reply: Reply) -> Outcome
 
 // An Ok with a descriptor and a word.
 fn good(alloc: Global, desc: u64, word: Option<u64>) -> Result<Reply, NoMemory>
-    ensures { IfOk result (λ reply. reply ≡ ok_with desc word) }
+    ensures { IfOk result (λ reply. reply ≡ ok_reply desc word) }
 {
     Ok(Reply::Ok(Good {
         desc,

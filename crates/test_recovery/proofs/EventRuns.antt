@@ -4,7 +4,7 @@ use Rattle.sg_base.specs.Lists.{Each}
 use Rattle.test_recovery.specs.EventRuns.{event_stubs, trigger_not_twice, trigger_not_twice_ends, trigger_not_twice_history, present_value, present_value_ends, present_value_history, blocked_redone, blocked_redone_ends, blocked_redone_history}
 use Rattle.sg_hist.specs.Reading.{places_of}
 use Rattle.sg_hist.specs.Recovered.{ArePointsOf, IsDemanded, IsRebooted, IsRecovered, IsServed, IsTrackedAt, IsWalked, waiting}
-use Rattle.test_recovery.specs.Written.{call_of}
+use Rattle.test_recovery.specs.Written.{bare_call}
 
 trigger_not_twice-reboots : IsRebooted event_stubs.facts event_stubs.ask trigger_not_twice
 trigger_not_twice-reboots = record {
@@ -25,7 +25,7 @@ trigger_not_twice-walks : Each (λ p. IsWalked event_stubs.facts event_stubs.wal
 trigger_not_twice-walks = (tt, (tt, (record { unmade = refl; next = refl; parent = refl; call = refl; real = refl; outcome = tt }, (record { unmade = refl; next = refl; parent = refl; call = refl; real = refl; outcome = tt }, (tt, (tt, tt))))))
 
 trigger_not_twice-demanded : Each (λ p. IsDemanded event_stubs.facts event_stubs.walks trigger_not_twice_history (waiting trigger_not_twice_ends) p p.item.tag) (places_of trigger_not_twice)
-trigger_not_twice-demanded = (record { its = record { its = refl; made = (0, omega arith, refl) }; above = refl; first = refl }, (record { its = record { its = refl; made = (1, omega arith, refl) }; above = refl; first = refl }, (record { call = call_of 2 1 2 1; under_way = record { its = record { its = refl; made = (2, omega arith, refl) }; above = refl; first = refl }; least = refl }, (record { call = call_of 2 1 2 1; under_way = record { its = record { its = refl; made = (2, omega arith, refl) }; above = refl; first = refl }; least = refl }, (record { its = record { its = refl; made = (2, omega arith, refl) }; above = refl; first = refl }, (record { its = record { its = refl; made = (3, omega arith, refl) }; above = refl; first = refl }, tt))))))
+trigger_not_twice-demanded = (record { its = record { its = refl; made = (0, omega arith, refl) }; above = refl; first = refl }, (record { its = record { its = refl; made = (1, omega arith, refl) }; above = refl; first = refl }, (record { call = bare_call 2 1 2 1; under_way = record { its = record { its = refl; made = (2, omega arith, refl) }; above = refl; first = refl }; least = refl }, (record { call = bare_call 2 1 2 1; under_way = record { its = record { its = refl; made = (2, omega arith, refl) }; above = refl; first = refl }; least = refl }, (record { its = record { its = refl; made = (2, omega arith, refl) }; above = refl; first = refl }, (record { its = record { its = refl; made = (3, omega arith, refl) }; above = refl; first = refl }, tt))))))
 
 trigger_not_twice-tracked : Each (λ p. IsTrackedAt event_stubs.facts event_stubs.walks trigger_not_twice_history p p.item.tag) (places_of trigger_not_twice)
 trigger_not_twice-tracked = (record { whole = refl; rows = tt; real = refl; file = tt }, (record { whole = refl; rows = (record { id = refl; made = refl; parent = refl; state = refl; fields = refl }, tt); real = refl; file = tt }, (tt, (tt, (record { whole = refl; rows = (record { id = refl; made = refl; parent = refl; state = refl; fields = refl }, tt); real = refl; file = tt }, (record { whole = refl; rows = (record { id = refl; made = refl; parent = refl; state = refl; fields = refl }, tt); real = refl; file = tt }, tt))))))
@@ -62,7 +62,7 @@ present_value-walks : Each (λ p. IsWalked event_stubs.facts event_stubs.walks p
 present_value-walks = (tt, (tt, (tt, (tt, (record { unmade = refl; next = refl; parent = refl; call = refl; real = refl; outcome = tt }, (record { unmade = refl; next = refl; parent = refl; call = refl; real = refl; outcome = tt }, (tt, tt)))))))
 
 present_value-demanded : Each (λ p. IsDemanded event_stubs.facts event_stubs.walks present_value_history (waiting present_value_ends) p p.item.tag) (places_of present_value)
-present_value-demanded = (record { its = record { its = refl; made = (0, omega arith, refl) }; above = refl; first = refl }, (record { its = record { its = refl; made = (1, omega arith, refl) }; above = refl; first = refl }, (record { its = record { its = refl; made = (2, omega arith, refl) }; above = refl; first = refl }, (record { its = record { its = refl; made = (3, omega arith, refl) }; above = refl; first = refl }, (record { call = call_of 1 5 2 1; under_way = record { its = record { its = refl; made = (4, omega arith, refl) }; above = refl; first = refl }; least = refl }, (record { call = call_of 1 5 2 1; under_way = record { its = record { its = refl; made = (4, omega arith, refl) }; above = refl; first = refl }; least = refl }, (record { its = record { its = refl; made = (4, omega arith, refl) }; above = refl; first = refl }, tt)))))))
+present_value-demanded = (record { its = record { its = refl; made = (0, omega arith, refl) }; above = refl; first = refl }, (record { its = record { its = refl; made = (1, omega arith, refl) }; above = refl; first = refl }, (record { its = record { its = refl; made = (2, omega arith, refl) }; above = refl; first = refl }, (record { its = record { its = refl; made = (3, omega arith, refl) }; above = refl; first = refl }, (record { call = bare_call 1 5 2 1; under_way = record { its = record { its = refl; made = (4, omega arith, refl) }; above = refl; first = refl }; least = refl }, (record { call = bare_call 1 5 2 1; under_way = record { its = record { its = refl; made = (4, omega arith, refl) }; above = refl; first = refl }; least = refl }, (record { its = record { its = refl; made = (4, omega arith, refl) }; above = refl; first = refl }, tt)))))))
 
 present_value-tracked : Each (λ p. IsTrackedAt event_stubs.facts event_stubs.walks present_value_history p p.item.tag) (places_of present_value)
 present_value-tracked = (record { whole = refl; rows = tt; real = refl; file = tt }, (record { whole = refl; rows = (record { id = refl; made = refl; parent = refl; state = refl; fields = refl }, tt); real = refl; file = tt }, (record { whole = refl; rows = (record { id = refl; made = refl; parent = refl; state = refl; fields = refl }, tt); real = refl; file = tt }, (record { whole = refl; rows = (record { id = refl; made = refl; parent = refl; state = refl; fields = refl }, tt); real = refl; file = tt }, (tt, (tt, (record { whole = refl; rows = (record { id = refl; made = refl; parent = refl; state = refl; fields = refl }, tt); real = refl; file = tt }, tt)))))))
@@ -99,7 +99,7 @@ blocked_redone-walks : Each (λ p. IsWalked event_stubs.facts event_stubs.walks 
 blocked_redone-walks = (tt, (tt, (record { unmade = refl; next = refl; parent = refl; call = refl; real = refl; outcome = tt }, (tt, (tt, tt)))))
 
 blocked_redone-demanded : Each (λ p. IsDemanded event_stubs.facts event_stubs.walks blocked_redone_history (waiting blocked_redone_ends) p p.item.tag) (places_of blocked_redone)
-blocked_redone-demanded = (record { its = record { its = refl; made = (0, omega arith, refl) }; above = refl; first = refl }, (record { its = record { its = refl; made = (2, omega arith, refl) }; above = refl; first = refl }, (record { call = call_of 2 1 2 1; under_way = record { its = record { its = refl; made = (2, omega arith, refl) }; above = refl; first = refl }; least = refl }, (record { its = record { its = refl; made = (1, omega arith, refl) }; above = refl; first = refl }, (record { its = record { its = refl; made = (2, omega arith, refl) }; above = refl; first = refl }, tt)))))
+blocked_redone-demanded = (record { its = record { its = refl; made = (0, omega arith, refl) }; above = refl; first = refl }, (record { its = record { its = refl; made = (2, omega arith, refl) }; above = refl; first = refl }, (record { call = bare_call 2 1 2 1; under_way = record { its = record { its = refl; made = (2, omega arith, refl) }; above = refl; first = refl }; least = refl }, (record { its = record { its = refl; made = (1, omega arith, refl) }; above = refl; first = refl }, (record { its = record { its = refl; made = (2, omega arith, refl) }; above = refl; first = refl }, tt)))))
 
 blocked_redone-tracked : Each (λ p. IsTrackedAt event_stubs.facts event_stubs.walks blocked_redone_history p p.item.tag) (places_of blocked_redone)
 blocked_redone-tracked = (record { whole = refl; rows = tt; real = refl; file = tt }, (record { whole = refl; rows = (record { id = refl; made = refl; parent = refl; state = refl; fields = refl }, tt); real = refl; file = tt }, (tt, (record { whole = refl; rows = (record { id = refl; made = refl; parent = refl; state = refl; fields = refl }, tt); real = refl; file = tt }, (record { whole = refl; rows = (record { id = refl; made = refl; parent = refl; state = refl; fields = refl }, tt); real = refl; file = tt }, tt)))))

@@ -8,7 +8,8 @@ use Rattle.std.proofs.lemmas.Bool.Decides.{nat_tests}
 use Rattle.test_recovery.specs.LockRuns.{lock_stubs, out_of_order, two_makers_ends, two_makers_history, another_id, boot_without_a_stop, asked_after_a_stop, reply_without_an_item, taken_twice, walk_from_its_middle, walk_by_another, walk_too_long, rebuilt_for_nobody, rebuilt_too_late, served_without_a_walk, half_a_walk, stop_at_another_number, point_asked_in_vain, point_left_out, rebuilt_needlessly, stop_after_take_ends, stop_after_take_history, stop_before_storage_ends, stop_before_storage_history, two_locks_ends, two_locks_history}
 use Rattle.sg_hist.specs.Recovered.{ArePointsOf, IsRebuiltFor, IsRecovered, calls_made, waiting}
 use Rattle.sg_hist.specs.Reading.{Place, is_whole_at, object_before}
-use Rattle.test_recovery.specs.Written.{call_of, called, ok, ok_at, replied, walked}
+use Rattle.test_histories.specs.Written.{ok, ok_at}
+use Rattle.test_recovery.specs.Written.{bare_call, called, replied, walked}
 use Rattle.sg_facts.specs.Needs.{needs}
 use Rattle.test_recovery.proofs.Apart.{caller_of, desc_given, false_true, id_in, neither, none_some, not_empty}
 
@@ -18,21 +19,21 @@ third seq above first = grind (arith, nat_tests, above, first)
 
 abbrev place : Place
 place = record {
-  older = called (call_of 1 1 1 0) 0 4 (replied (ok_at 1)) ∷ called (call_of 1 2 1 0) 0 9 (replied (ok_at 2)) ∷ [];
+  older = called (bare_call 1 1 1 0) 0 4 (replied (ok_at 1)) ∷ called (bare_call 1 2 1 0) 0 9 (replied (ok_at 2)) ∷ [];
   front = [];
-  item = walked 2 1 1 (call_of 1 0 1 0) 0 15 (replied (ok_at 1));
-  rest = walked 1 1 1 (call_of 1 0 1 0) 0 19 (replied (ok_at 2)) ∷ called (call_of 1 3 2 1) 2 22 (replied ok) ∷ [];
+  item = walked 2 1 1 (bare_call 1 0 1 0) 0 15 (replied (ok_at 1));
+  rest = walked 1 1 1 (bare_call 1 0 1 0) 0 19 (replied (ok_at 2)) ∷ called (bare_call 1 3 2 1) 2 22 (replied ok) ∷ [];
   newer = [];
 }
 
 -- that is the take of the first lock
-own : Each (λ c. c.seq ≡ 3 → c ≡ call_of 1 3 2 1) (calls_made two_locks_history (waiting two_locks_ends))
+own : Each (λ c. c.seq ≡ 3 → c ≡ bare_call 1 3 2 1) (calls_made two_locks_history (waiting two_locks_ends))
 own = ((λ e. absurd (omega (arith, e))), ((λ e. absurd (omega (arith, e))), ((λ e. refl), tt)))
 
 not_least : IsRebuiltFor lock_stubs.facts lock_stubs.walks two_locks_history (waiting two_locks_ends) place 1 2 → ⊥
 not_least d =
     let seq = third d.call.seq d.under_way.above d.under_way.first in
-    let call : call_of 1 3 2 1 ≡ d.call = sym (each_contains (λ c. c.seq ≡ 3 → c ≡ call_of 1 3 2 1) (calls_made two_locks_history (waiting two_locks_ends)) d.call own d.under_way.its.made seq) in
+    let call : bare_call 1 3 2 1 ≡ d.call = sym (each_contains (λ c. c.seq ≡ 3 → c ≡ bare_call 1 3 2 1) (calls_made two_locks_history (waiting two_locks_ends)) d.call own d.under_way.its.made seq) in
     let e : 1 ≡ 2 = ap id_in (subst (λ c. find (λ i. not (is_whole_at lock_stubs.facts lock_stubs.walks two_locks_history place i)) (needs lock_stubs.facts (object_before lock_stubs.facts two_locks_history place) c).ids ≡ Some 2) (sym call) d.least) in
     omega (arith, e)
 

@@ -4,7 +4,7 @@ use Rattle.sg_base.specs.Lists.{Each}
 use Rattle.test_recovery.specs.LockRuns.{lock_stubs, stop_after_take, stop_after_take_ends, stop_after_take_history, stop_before_storage, stop_before_storage_ends, stop_before_storage_history, stop_in_walk, stop_in_walk_ends, stop_in_walk_history}
 use Rattle.sg_hist.specs.Reading.{places_of}
 use Rattle.sg_hist.specs.Recovered.{ArePointsOf, IsDemanded, IsRebooted, IsRecovered, IsServed, IsTrackedAt, IsWalked, waiting}
-use Rattle.test_recovery.specs.Written.{call_of}
+use Rattle.test_recovery.specs.Written.{bare_call}
 
 stop_after_take-reboots : IsRebooted lock_stubs.facts lock_stubs.ask stop_after_take
 stop_after_take-reboots = record {
@@ -25,7 +25,7 @@ stop_after_take-walks : Each (λ p. IsWalked lock_stubs.facts lock_stubs.walks s
 stop_after_take-walks = (tt, (tt, (record { unmade = refl; next = refl; parent = refl; call = refl; real = refl; outcome = tt }, (record { unmade = refl; next = refl; parent = refl; call = refl; real = refl; outcome = tt }, (tt, (tt, tt))))))
 
 stop_after_take-demanded : Each (λ p. IsDemanded lock_stubs.facts lock_stubs.walks stop_after_take_history (waiting stop_after_take_ends) p p.item.tag) (places_of stop_after_take)
-stop_after_take-demanded = (record { its = record { its = refl; made = (0, omega arith, refl) }; above = refl; first = refl }, (record { its = record { its = refl; made = (1, omega arith, refl) }; above = refl; first = refl }, (record { call = call_of 1 3 3 1; under_way = record { its = record { its = refl; made = (2, omega arith, refl) }; above = refl; first = refl }; least = refl }, (record { call = call_of 1 3 3 1; under_way = record { its = record { its = refl; made = (2, omega arith, refl) }; above = refl; first = refl }; least = refl }, (record { its = record { its = refl; made = (2, omega arith, refl) }; above = refl; first = refl }, (record { its = record { its = refl; made = (3, omega arith, refl) }; above = refl; first = refl }, tt))))))
+stop_after_take-demanded = (record { its = record { its = refl; made = (0, omega arith, refl) }; above = refl; first = refl }, (record { its = record { its = refl; made = (1, omega arith, refl) }; above = refl; first = refl }, (record { call = bare_call 1 3 3 1; under_way = record { its = record { its = refl; made = (2, omega arith, refl) }; above = refl; first = refl }; least = refl }, (record { call = bare_call 1 3 3 1; under_way = record { its = record { its = refl; made = (2, omega arith, refl) }; above = refl; first = refl }; least = refl }, (record { its = record { its = refl; made = (2, omega arith, refl) }; above = refl; first = refl }, (record { its = record { its = refl; made = (3, omega arith, refl) }; above = refl; first = refl }, tt))))))
 
 stop_after_take-tracked : Each (λ p. IsTrackedAt lock_stubs.facts lock_stubs.walks stop_after_take_history p p.item.tag) (places_of stop_after_take)
 stop_after_take-tracked = (record { whole = refl; rows = tt; real = refl; file = tt }, (record { whole = refl; rows = (record { id = refl; made = refl; parent = refl; state = refl; fields = refl }, tt); real = refl; file = tt }, (tt, (tt, (record { whole = refl; rows = (record { id = refl; made = refl; parent = refl; state = refl; fields = refl }, tt); real = refl; file = tt }, (record { whole = refl; rows = (record { id = refl; made = refl; parent = refl; state = refl; fields = refl }, tt); real = refl; file = tt }, tt))))))
@@ -62,7 +62,7 @@ stop_before_storage-walks : Each (λ p. IsWalked lock_stubs.facts lock_stubs.wal
 stop_before_storage-walks = (tt, (tt, (record { unmade = refl; next = refl; parent = refl; call = refl; real = refl; outcome = tt }, (tt, (tt, (tt, tt))))))
 
 stop_before_storage-demanded : Each (λ p. IsDemanded lock_stubs.facts lock_stubs.walks stop_before_storage_history (waiting stop_before_storage_ends) p p.item.tag) (places_of stop_before_storage)
-stop_before_storage-demanded = (record { its = record { its = refl; made = (0, omega arith, refl) }; above = refl; first = refl }, (record { its = record { its = refl; made = (1, omega arith, refl) }; above = refl; first = refl }, (record { call = call_of 1 2 2 1; under_way = record { its = record { its = refl; made = (1, omega arith, refl) }; above = refl; first = refl }; least = refl }, (record { its = record { its = refl; made = (1, omega arith, refl) }; above = refl; first = refl }, (record { its = record { its = refl; made = (2, omega arith, refl) }; above = refl; first = refl }, (record { its = record { its = refl; made = (3, omega arith, refl) }; above = refl; first = refl }, tt))))))
+stop_before_storage-demanded = (record { its = record { its = refl; made = (0, omega arith, refl) }; above = refl; first = refl }, (record { its = record { its = refl; made = (1, omega arith, refl) }; above = refl; first = refl }, (record { call = bare_call 1 2 2 1; under_way = record { its = record { its = refl; made = (1, omega arith, refl) }; above = refl; first = refl }; least = refl }, (record { its = record { its = refl; made = (1, omega arith, refl) }; above = refl; first = refl }, (record { its = record { its = refl; made = (2, omega arith, refl) }; above = refl; first = refl }, (record { its = record { its = refl; made = (3, omega arith, refl) }; above = refl; first = refl }, tt))))))
 
 stop_before_storage-tracked : Each (λ p. IsTrackedAt lock_stubs.facts lock_stubs.walks stop_before_storage_history p p.item.tag) (places_of stop_before_storage)
 stop_before_storage-tracked = (record { whole = refl; rows = tt; real = refl; file = tt }, (record { whole = refl; rows = (record { id = refl; made = refl; parent = refl; state = refl; fields = refl }, tt); real = refl; file = tt }, (tt, (record { whole = refl; rows = (record { id = refl; made = refl; parent = refl; state = refl; fields = refl }, tt); real = refl; file = tt }, (record { whole = refl; rows = (record { id = refl; made = refl; parent = refl; state = refl; fields = refl }, tt); real = refl; file = tt }, (record { whole = refl; rows = (record { id = refl; made = refl; parent = refl; state = refl; fields = refl }, tt); real = refl; file = tt }, tt))))))
@@ -99,7 +99,7 @@ stop_in_walk-walks : Each (λ p. IsWalked lock_stubs.facts lock_stubs.walks stop
 stop_in_walk-walks = (tt, (tt, (record { unmade = refl; next = refl; parent = refl; call = refl; real = refl; outcome = tt }, (record { unmade = refl; next = refl; parent = refl; call = refl; real = refl; outcome = tt }, (record { unmade = refl; next = refl; parent = refl; call = refl; real = refl; outcome = tt }, (record { unmade = refl; next = refl; parent = refl; call = refl; real = refl; outcome = tt }, (tt, (tt, tt))))))))
 
 stop_in_walk-demanded : Each (λ p. IsDemanded lock_stubs.facts lock_stubs.walks stop_in_walk_history (waiting stop_in_walk_ends) p p.item.tag) (places_of stop_in_walk)
-stop_in_walk-demanded = (record { its = record { its = refl; made = (0, omega arith, refl) }; above = refl; first = refl }, (record { its = record { its = refl; made = (1, omega arith, refl) }; above = refl; first = refl }, (record { call = call_of 1 3 3 1; under_way = record { its = record { its = refl; made = (2, omega arith, refl) }; above = refl; first = refl }; least = refl }, (record { call = call_of 1 3 3 1; under_way = record { its = record { its = refl; made = (2, omega arith, refl) }; above = refl; first = refl }; least = refl }, (record { call = call_of 1 3 3 1; under_way = record { its = record { its = refl; made = (2, omega arith, refl) }; above = refl; first = refl }; least = refl }, (record { call = call_of 1 3 3 1; under_way = record { its = record { its = refl; made = (2, omega arith, refl) }; above = refl; first = refl }; least = refl }, (record { its = record { its = refl; made = (2, omega arith, refl) }; above = refl; first = refl }, (record { its = record { its = refl; made = (3, omega arith, refl) }; above = refl; first = refl }, tt))))))))
+stop_in_walk-demanded = (record { its = record { its = refl; made = (0, omega arith, refl) }; above = refl; first = refl }, (record { its = record { its = refl; made = (1, omega arith, refl) }; above = refl; first = refl }, (record { call = bare_call 1 3 3 1; under_way = record { its = record { its = refl; made = (2, omega arith, refl) }; above = refl; first = refl }; least = refl }, (record { call = bare_call 1 3 3 1; under_way = record { its = record { its = refl; made = (2, omega arith, refl) }; above = refl; first = refl }; least = refl }, (record { call = bare_call 1 3 3 1; under_way = record { its = record { its = refl; made = (2, omega arith, refl) }; above = refl; first = refl }; least = refl }, (record { call = bare_call 1 3 3 1; under_way = record { its = record { its = refl; made = (2, omega arith, refl) }; above = refl; first = refl }; least = refl }, (record { its = record { its = refl; made = (2, omega arith, refl) }; above = refl; first = refl }, (record { its = record { its = refl; made = (3, omega arith, refl) }; above = refl; first = refl }, tt))))))))
 
 stop_in_walk-tracked : Each (λ p. IsTrackedAt lock_stubs.facts lock_stubs.walks stop_in_walk_history p p.item.tag) (places_of stop_in_walk)
 stop_in_walk-tracked = (record { whole = refl; rows = tt; real = refl; file = tt }, (record { whole = refl; rows = (record { id = refl; made = refl; parent = refl; state = refl; fields = refl }, tt); real = refl; file = tt }, (tt, (tt, (tt, (tt, (record { whole = refl; rows = (record { id = refl; made = refl; parent = refl; state = refl; fields = refl }, tt); real = refl; file = tt }, (record { whole = refl; rows = (record { id = refl; made = refl; parent = refl; state = refl; fields = refl }, tt); real = refl; file = tt }, tt))))))))

@@ -5,7 +5,7 @@ use Rattle.std.specs.Prelude.{[], ◌∷◌}
 use Rattle.test_recovery.specs.MmRuns.{mm_stubs, parent_first, parent_first_ends, parent_first_history, occupied_after_stop, occupied_after_stop_ends, occupied_after_stop_history, subtree, subtree_ends, subtree_history}
 use Rattle.sg_hist.specs.Reading.{places_of}
 use Rattle.sg_hist.specs.Recovered.{ArePointsOf, IsDemanded, IsRebooted, IsRecovered, IsServed, IsTrackedAt, IsWalked, waiting}
-use Rattle.test_recovery.specs.Written.{call_of, call_with, word}
+use Rattle.test_recovery.specs.Written.{bare_call, call_with, word}
 
 parent_first-reboots : IsRebooted mm_stubs.facts mm_stubs.ask parent_first
 parent_first-reboots = record {
@@ -26,7 +26,7 @@ parent_first-walks : Each (λ p. IsWalked mm_stubs.facts mm_stubs.walks parent_f
 parent_first-walks = (tt, (tt, (record { unmade = refl; next = refl; parent = refl; call = refl; real = refl; outcome = tt }, (record { unmade = refl; next = refl; parent = refl; call = refl; real = refl; outcome = tt }, (tt, tt)))))
 
 parent_first-demanded : Each (λ p. IsDemanded mm_stubs.facts mm_stubs.walks parent_first_history (waiting parent_first_ends) p p.item.tag) (places_of parent_first)
-parent_first-demanded = (record { its = record { its = refl; made = (0, omega arith, refl) }; above = refl; first = refl }, (record { its = record { its = refl; made = (1, omega arith, refl) }; above = refl; first = refl }, (record { call = call_of 2 2 3 2; under_way = record { its = record { its = refl; made = (2, omega arith, refl) }; above = refl; first = refl }; least = refl }, (record { call = call_of 2 2 3 2; under_way = record { its = record { its = refl; made = (2, omega arith, refl) }; above = refl; first = refl }; least = refl }, (record { its = record { its = refl; made = (2, omega arith, refl) }; above = refl; first = refl }, tt)))))
+parent_first-demanded = (record { its = record { its = refl; made = (0, omega arith, refl) }; above = refl; first = refl }, (record { its = record { its = refl; made = (1, omega arith, refl) }; above = refl; first = refl }, (record { call = bare_call 2 2 3 2; under_way = record { its = record { its = refl; made = (2, omega arith, refl) }; above = refl; first = refl }; least = refl }, (record { call = bare_call 2 2 3 2; under_way = record { its = record { its = refl; made = (2, omega arith, refl) }; above = refl; first = refl }; least = refl }, (record { its = record { its = refl; made = (2, omega arith, refl) }; above = refl; first = refl }, tt)))))
 
 parent_first-tracked : Each (λ p. IsTrackedAt mm_stubs.facts mm_stubs.walks parent_first_history p p.item.tag) (places_of parent_first)
 parent_first-tracked = (record { whole = refl; rows = tt; real = refl; file = tt }, (record { whole = refl; rows = (record { id = refl; made = refl; parent = refl; state = refl; fields = refl }, tt); real = refl; file = tt }, (tt, (tt, (record { whole = refl; rows = (record { id = refl; made = refl; parent = refl; state = refl; fields = refl }, (record { id = refl; made = refl; parent = refl; state = refl; fields = refl }, tt)); real = refl; file = tt }, tt)))))

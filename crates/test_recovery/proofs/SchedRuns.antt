@@ -4,7 +4,7 @@ use Rattle.sg_base.specs.Lists.{Each}
 use Rattle.test_recovery.specs.SchedRuns.{sched_stubs, ranks_kept, ranks_kept_ends, ranks_kept_history, one_walk_two_clients, one_walk_two_clients_ends, one_walk_two_clients_history}
 use Rattle.sg_hist.specs.Reading.{places_of}
 use Rattle.sg_hist.specs.Recovered.{ArePointsOf, IsDemanded, IsRebooted, IsRecovered, IsServed, IsTrackedAt, IsWalked, waiting}
-use Rattle.test_recovery.specs.Written.{call_of}
+use Rattle.test_recovery.specs.Written.{bare_call}
 
 ranks_kept-reboots : IsRebooted sched_stubs.facts sched_stubs.ask ranks_kept
 ranks_kept-reboots = record {
@@ -25,7 +25,7 @@ ranks_kept-walks : Each (λ p. IsWalked sched_stubs.facts sched_stubs.walks rank
 ranks_kept-walks = (tt, (tt, (tt, (tt, (tt, (record { unmade = refl; next = refl; parent = refl; call = refl; real = refl; outcome = tt }, (record { unmade = refl; next = refl; parent = refl; call = refl; real = refl; outcome = tt }, (record { unmade = refl; next = refl; parent = refl; call = refl; real = refl; outcome = tt }, (record { unmade = refl; next = refl; parent = refl; call = refl; real = refl; outcome = tt }, (tt, tt))))))))))
 
 ranks_kept-demanded : Each (λ p. IsDemanded sched_stubs.facts sched_stubs.walks ranks_kept_history (waiting ranks_kept_ends) p p.item.tag) (places_of ranks_kept)
-ranks_kept-demanded = (record { its = record { its = refl; made = (0, omega arith, refl) }; above = refl; first = refl }, (record { its = record { its = refl; made = (1, omega arith, refl) }; above = refl; first = refl }, (record { its = record { its = refl; made = (2, omega arith, refl) }; above = refl; first = refl }, (record { its = record { its = refl; made = (3, omega arith, refl) }; above = refl; first = refl }, (record { its = record { its = refl; made = (4, omega arith, refl) }; above = refl; first = refl }, (record { call = call_of 1 6 6 0; under_way = record { its = record { its = refl; made = (5, omega arith, refl) }; above = refl; first = refl }; least = refl }, (record { call = call_of 1 6 6 0; under_way = record { its = record { its = refl; made = (5, omega arith, refl) }; above = refl; first = refl }; least = refl }, (record { call = call_of 1 6 6 0; under_way = record { its = record { its = refl; made = (5, omega arith, refl) }; above = refl; first = refl }; least = refl }, (record { call = call_of 1 6 6 0; under_way = record { its = record { its = refl; made = (5, omega arith, refl) }; above = refl; first = refl }; least = refl }, (record { its = record { its = refl; made = (5, omega arith, refl) }; above = refl; first = refl }, tt))))))))))
+ranks_kept-demanded = (record { its = record { its = refl; made = (0, omega arith, refl) }; above = refl; first = refl }, (record { its = record { its = refl; made = (1, omega arith, refl) }; above = refl; first = refl }, (record { its = record { its = refl; made = (2, omega arith, refl) }; above = refl; first = refl }, (record { its = record { its = refl; made = (3, omega arith, refl) }; above = refl; first = refl }, (record { its = record { its = refl; made = (4, omega arith, refl) }; above = refl; first = refl }, (record { call = bare_call 1 6 6 0; under_way = record { its = record { its = refl; made = (5, omega arith, refl) }; above = refl; first = refl }; least = refl }, (record { call = bare_call 1 6 6 0; under_way = record { its = record { its = refl; made = (5, omega arith, refl) }; above = refl; first = refl }; least = refl }, (record { call = bare_call 1 6 6 0; under_way = record { its = record { its = refl; made = (5, omega arith, refl) }; above = refl; first = refl }; least = refl }, (record { call = bare_call 1 6 6 0; under_way = record { its = record { its = refl; made = (5, omega arith, refl) }; above = refl; first = refl }; least = refl }, (record { its = record { its = refl; made = (5, omega arith, refl) }; above = refl; first = refl }, tt))))))))))
 
 ranks_kept-tracked : Each (λ p. IsTrackedAt sched_stubs.facts sched_stubs.walks ranks_kept_history p p.item.tag) (places_of ranks_kept)
 ranks_kept-tracked = (record { whole = refl; rows = tt; real = refl; file = tt }, (record { whole = refl; rows = (record { id = refl; made = refl; parent = refl; state = refl; fields = refl }, tt); real = refl; file = tt }, (record { whole = refl; rows = (record { id = refl; made = refl; parent = refl; state = refl; fields = refl }, (record { id = refl; made = refl; parent = refl; state = refl; fields = refl }, tt)); real = refl; file = tt }, (record { whole = refl; rows = (record { id = refl; made = refl; parent = refl; state = refl; fields = refl }, tt); real = refl; file = tt }, (record { whole = refl; rows = (record { id = refl; made = refl; parent = refl; state = refl; fields = refl }, (record { id = refl; made = refl; parent = refl; state = refl; fields = refl }, tt)); real = refl; file = tt }, (tt, (tt, (tt, (tt, (record { whole = refl; rows = (record { id = refl; made = refl; parent = refl; state = refl; fields = refl }, (record { id = refl; made = refl; parent = refl; state = refl; fields = refl }, tt)); real = refl; file = tt }, tt))))))))))
@@ -62,7 +62,7 @@ one_walk_two_clients-walks : Each (λ p. IsWalked sched_stubs.facts sched_stubs.
 one_walk_two_clients-walks = (tt, (tt, (tt, (record { unmade = refl; next = refl; parent = refl; call = refl; real = refl; outcome = tt }, (record { unmade = refl; next = refl; parent = refl; call = refl; real = refl; outcome = tt }, (record { unmade = refl; next = refl; parent = refl; call = refl; real = refl; outcome = tt }, (tt, (tt, tt))))))))
 
 one_walk_two_clients-demanded : Each (λ p. IsDemanded sched_stubs.facts sched_stubs.walks one_walk_two_clients_history (waiting one_walk_two_clients_ends) p p.item.tag) (places_of one_walk_two_clients)
-one_walk_two_clients-demanded = (record { its = record { its = refl; made = (0, omega arith, refl) }; above = refl; first = refl }, (record { its = record { its = refl; made = (1, omega arith, refl) }; above = refl; first = refl }, (record { its = record { its = refl; made = (3, omega arith, refl) }; above = refl; first = refl }, (record { call = call_of 1 3 5 1; under_way = record { its = record { its = refl; made = (3, omega arith, refl) }; above = refl; first = refl }; least = refl }, (record { call = call_of 2 1 4 1; under_way = record { its = record { its = refl; made = (2, omega arith, refl) }; above = refl; first = refl }; least = refl }, (record { call = call_of 1 3 5 1; under_way = record { its = record { its = refl; made = (3, omega arith, refl) }; above = refl; first = refl }; least = refl }, (record { its = record { its = refl; made = (2, omega arith, refl) }; above = refl; first = refl }, (record { its = record { its = refl; made = (3, omega arith, refl) }; above = refl; first = refl }, tt))))))))
+one_walk_two_clients-demanded = (record { its = record { its = refl; made = (0, omega arith, refl) }; above = refl; first = refl }, (record { its = record { its = refl; made = (1, omega arith, refl) }; above = refl; first = refl }, (record { its = record { its = refl; made = (3, omega arith, refl) }; above = refl; first = refl }, (record { call = bare_call 1 3 5 1; under_way = record { its = record { its = refl; made = (3, omega arith, refl) }; above = refl; first = refl }; least = refl }, (record { call = bare_call 2 1 4 1; under_way = record { its = record { its = refl; made = (2, omega arith, refl) }; above = refl; first = refl }; least = refl }, (record { call = bare_call 1 3 5 1; under_way = record { its = record { its = refl; made = (3, omega arith, refl) }; above = refl; first = refl }; least = refl }, (record { its = record { its = refl; made = (2, omega arith, refl) }; above = refl; first = refl }, (record { its = record { its = refl; made = (3, omega arith, refl) }; above = refl; first = refl }, tt))))))))
 
 one_walk_two_clients-tracked : Each (λ p. IsTrackedAt sched_stubs.facts sched_stubs.walks one_walk_two_clients_history p p.item.tag) (places_of one_walk_two_clients)
 one_walk_two_clients-tracked = (record { whole = refl; rows = tt; real = refl; file = tt }, (record { whole = refl; rows = (record { id = refl; made = refl; parent = refl; state = refl; fields = refl }, tt); real = refl; file = tt }, (record { whole = refl; rows = (record { id = refl; made = refl; parent = refl; state = refl; fields = refl }, tt); real = refl; file = tt }, (tt, (tt, (tt, (record { whole = refl; rows = (record { id = refl; made = refl; parent = refl; state = refl; fields = refl }, tt); real = refl; file = tt }, (record { whole = refl; rows = (record { id = refl; made = refl; parent = refl; state = refl; fields = refl }, tt); real = refl; file = tt }, tt))))))))

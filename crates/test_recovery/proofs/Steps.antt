@@ -5,16 +5,17 @@ use Rattle.sg_base.specs.declared.call.Call.{Call}
 use Rattle.sg_facts.specs.declared.entry.Entry.{Entry}
 use Rattle.sg_facts.specs.declared.trace.Item.{Item}
 use Rattle.test_recovery.specs.LockRuns.{lock_stubs, rebuilt_for_take}
-use Rattle.test_recovery.specs.Written.{call_of, called, entry, ok_at, replied, walked}
+use Rattle.test_histories.specs.Written.{entry, ok_at}
+use Rattle.test_recovery.specs.Written.{bare_call, called, replied, walked}
 use Rattle.sg_recovery_laws.proofs.Lists.{each_contains}
 use Rattle.sg_recovery_laws.proofs.Onward.{booted_stays, committed_stays, made_stays, noted_stays, nothing_yet, struck_stays}
 use Rattle.sg_recovery_laws.specs.Growing.{IsItemOf, IsNextItem, IsRecovering, booted, noted, place_behind, struck}
 
 abbrev alloc : Call
-alloc = call_of 1 1 1 0
+alloc = bare_call 1 1 1 0
 
 abbrev take : Call
-take = call_of 1 2 2 1
+take = bare_call 1 2 2 1
 
 abbrev made : Entry
 made = entry alloc (ok_at 1)
@@ -23,7 +24,7 @@ abbrev first : Item
 first = called alloc 0 4 (replied (ok_at 1))
 
 abbrev again : Item
-again = walked 1 1 1 (call_of 1 0 1 0) 0 9 (replied (ok_at 1))
+again = walked 1 1 1 (bare_call 1 0 1 0) 0 9 (replied (ok_at 1))
 
 -- the call is made
 offered : IsRecovering lock_stubs [] (record { boots = booted []; points = 0 }) (alloc ∷ [])

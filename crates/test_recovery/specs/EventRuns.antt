@@ -9,7 +9,8 @@ use Rattle.sg_hist.specs.declared.ended.End.TheVariants.{Blocked, Done}
 use Rattle.sg_event.specs.EventFacts.{event_facts}
 use Rattle.sg_event.specs.EventTable.{event_parts, event_table}
 use Rattle.sg_hist.specs.Recovered.{Stubs}
-use Rattle.test_recovery.specs.Written.{boot, call_of, call_with, called, entry, ok, ok_at, replied, walked, word}
+use Rattle.test_histories.specs.Written.{entry, ok, ok_at}
+use Rattle.test_recovery.specs.Written.{boot, bare_call, call_with, called, replied, walked, word}
 
 -- the walks of its tables
 abbrev pub event_walks : List WalkLine
@@ -24,26 +25,26 @@ event_stubs = record { facts = event_facts; ask = event_table; parts = event_par
 -- a trigger is committed before the stop, and the other client gets its count once
 abbrev pub trigger_not_twice_history : List Entry
 trigger_not_twice_history =
-    entry (call_of 1 1 1 0) (ok_at 1)
+    entry (bare_call 1 1 1 0) (ok_at 1)
     ∷ entry (call_with 1 2 3 1 ((word 1) ∷ [])) ok
-    ∷ entry (call_of 2 1 2 1) ok
+    ∷ entry (bare_call 2 1 2 1) ok
     ∷ []
 
 abbrev pub trigger_not_twice_ends : List (ℕ × End)
-trigger_not_twice_ends = (1, Done) ∷ (2, Blocked (call_of 2 2 2 1)) ∷ []
+trigger_not_twice_ends = (1, Done) ∷ (2, Blocked (bare_call 2 2 2 1)) ∷ []
 
 abbrev pub trigger_not_twice : Run
 trigger_not_twice = record {
   boots =
       boot (
-      called (call_of 1 1 1 0) 0 4 (replied (ok_at 1))
+      called (bare_call 1 1 1 0) 0 4 (replied (ok_at 1))
       ∷ called (call_with 1 2 3 1 ((word 1) ∷ [])) 1 8 (replied ok)
       ∷ []) (Some 9)
       ∷ boot (
-      walked 1 1 2 (call_of 1 0 1 0) 0 13 (replied (ok_at 1))
+      walked 1 1 2 (bare_call 1 0 1 0) 0 13 (replied (ok_at 1))
       ∷ walked 1 2 2 (call_with 1 0 3 1 ((word 1) ∷ [])) 1 16 (replied ok)
-      ∷ called (call_of 2 1 2 1) 1 19 (replied ok)
-      ∷ called (call_of 2 2 2 1) 1 21 Blocks
+      ∷ called (bare_call 2 1 2 1) 1 19 (replied ok)
+      ∷ called (bare_call 2 2 2 1) 1 21 Blocks
       ∷ []) None
       ∷ [];
   points = 21;
@@ -52,11 +53,11 @@ trigger_not_twice = record {
 -- an event comes back with the count that is left, and not with the one that was triggered
 abbrev pub present_value_history : List Entry
 present_value_history =
-    entry (call_of 1 1 1 0) (ok_at 1)
+    entry (bare_call 1 1 1 0) (ok_at 1)
     ∷ entry (call_with 1 2 3 1 ((word 5) ∷ [])) ok
-    ∷ entry (call_of 1 3 2 1) ok
-    ∷ entry (call_of 1 4 2 1) ok
-    ∷ entry (call_of 1 5 2 1) ok
+    ∷ entry (bare_call 1 3 2 1) ok
+    ∷ entry (bare_call 1 4 2 1) ok
+    ∷ entry (bare_call 1 5 2 1) ok
     ∷ []
 
 abbrev pub present_value_ends : List (ℕ × End)
@@ -66,15 +67,15 @@ abbrev pub present_value : Run
 present_value = record {
   boots =
       boot (
-      called (call_of 1 1 1 0) 0 4 (replied (ok_at 1))
+      called (bare_call 1 1 1 0) 0 4 (replied (ok_at 1))
       ∷ called (call_with 1 2 3 1 ((word 5) ∷ [])) 1 8 (replied ok)
-      ∷ called (call_of 1 3 2 1) 1 12 (replied ok)
-      ∷ called (call_of 1 4 2 1) 1 16 (replied ok)
+      ∷ called (bare_call 1 3 2 1) 1 12 (replied ok)
+      ∷ called (bare_call 1 4 2 1) 1 16 (replied ok)
       ∷ []) (Some 18)
       ∷ boot (
-      walked 1 1 1 (call_of 1 0 1 0) 0 22 (replied (ok_at 1))
+      walked 1 1 1 (bare_call 1 0 1 0) 0 22 (replied (ok_at 1))
       ∷ walked 1 2 1 (call_with 1 0 3 1 ((word 3) ∷ [])) 1 25 (replied ok)
-      ∷ called (call_of 1 5 2 1) 1 28 (replied ok)
+      ∷ called (bare_call 1 5 2 1) 1 28 (replied ok)
       ∷ []) None
       ∷ [];
   points = 29;
@@ -83,9 +84,9 @@ present_value = record {
 -- a client is blocked when the service stops, and its call is done again
 abbrev pub blocked_redone_history : List Entry
 blocked_redone_history =
-    entry (call_of 1 1 1 0) (ok_at 1)
+    entry (bare_call 1 1 1 0) (ok_at 1)
     ∷ entry (call_with 1 2 3 1 ((word 1) ∷ [])) ok
-    ∷ entry (call_of 2 1 2 1) ok
+    ∷ entry (bare_call 2 1 2 1) ok
     ∷ []
 
 abbrev pub blocked_redone_ends : List (ℕ × End)
@@ -95,13 +96,13 @@ abbrev pub blocked_redone : Run
 blocked_redone = record {
   boots =
       boot (
-      called (call_of 1 1 1 0) 0 4 (replied (ok_at 1))
-      ∷ called (call_of 2 1 2 1) 1 6 Blocks
+      called (bare_call 1 1 1 0) 0 4 (replied (ok_at 1))
+      ∷ called (bare_call 2 1 2 1) 1 6 Blocks
       ∷ []) (Some 7)
       ∷ boot (
-      walked 1 1 2 (call_of 1 0 1 0) 0 11 (replied (ok_at 1))
+      walked 1 1 2 (bare_call 1 0 1 0) 0 11 (replied (ok_at 1))
       ∷ called (call_with 1 2 3 1 ((word 1) ∷ [])) 1 14 (replied ok)
-      ∷ called (call_of 2 1 2 1) 1 18 (replied ok)
+      ∷ called (bare_call 2 1 2 1) 1 18 (replied ok)
       ∷ []) None
       ∷ [];
   points = 19;
@@ -114,15 +115,15 @@ abbrev pub earlier_value : Run
 earlier_value = record {
   boots =
       boot (
-      called (call_of 1 1 1 0) 0 4 (replied (ok_at 1))
+      called (bare_call 1 1 1 0) 0 4 (replied (ok_at 1))
       ∷ called (call_with 1 2 3 1 ((word 5) ∷ [])) 1 8 (replied ok)
-      ∷ called (call_of 1 3 2 1) 1 12 (replied ok)
-      ∷ called (call_of 1 4 2 1) 1 16 (replied ok)
+      ∷ called (bare_call 1 3 2 1) 1 12 (replied ok)
+      ∷ called (bare_call 1 4 2 1) 1 16 (replied ok)
       ∷ []) (Some 18)
       ∷ boot (
-      walked 1 1 1 (call_of 1 0 1 0) 0 22 (replied (ok_at 1))
+      walked 1 1 1 (bare_call 1 0 1 0) 0 22 (replied (ok_at 1))
       ∷ walked 1 2 1 (call_with 1 0 3 1 ((word 5) ∷ [])) 1 25 (replied ok)
-      ∷ called (call_of 1 5 2 1) 1 28 (replied ok)
+      ∷ called (bare_call 1 5 2 1) 1 28 (replied ok)
       ∷ []) None
       ∷ [];
   points = 29;

@@ -9,7 +9,8 @@ use Rattle.sg_hist.specs.declared.ended.End.TheVariants.{Done}
 use Rattle.sg_lock.specs.LockFacts.{lock_facts}
 use Rattle.sg_lock.specs.LockTable.{lock_parts, lock_table}
 use Rattle.sg_hist.specs.Recovered.{Stubs}
-use Rattle.test_recovery.specs.Written.{boot, call_of, called, entry, ok, ok_at, replied, walked}
+use Rattle.test_histories.specs.Written.{entry, ok, ok_at}
+use Rattle.test_recovery.specs.Written.{boot, bare_call, called, replied, walked}
 
 -- the walks of its tables
 abbrev pub lock_walks : List WalkLine
@@ -24,10 +25,10 @@ lock_stubs = record { facts = lock_facts; ask = lock_table; parts = lock_parts; 
 -- the service stops once a take is committed: the lock is made and taken again before its release
 abbrev pub stop_after_take_history : List Entry
 stop_after_take_history =
-    entry (call_of 1 1 1 0) (ok_at 1)
-    ∷ entry (call_of 1 2 2 1) ok
-    ∷ entry (call_of 1 3 3 1) ok
-    ∷ entry (call_of 1 4 4 1) ok
+    entry (bare_call 1 1 1 0) (ok_at 1)
+    ∷ entry (bare_call 1 2 2 1) ok
+    ∷ entry (bare_call 1 3 3 1) ok
+    ∷ entry (bare_call 1 4 4 1) ok
     ∷ []
 
 abbrev pub stop_after_take_ends : List (ℕ × End)
@@ -37,14 +38,14 @@ abbrev pub stop_after_take : Run
 stop_after_take = record {
   boots =
       boot (
-      called (call_of 1 1 1 0) 0 4 (replied (ok_at 1))
-      ∷ called (call_of 1 2 2 1) 1 8 (replied ok)
+      called (bare_call 1 1 1 0) 0 4 (replied (ok_at 1))
+      ∷ called (bare_call 1 2 2 1) 1 8 (replied ok)
       ∷ []) (Some 9)
       ∷ boot (
-      walked 1 1 1 (call_of 1 0 1 0) 0 13 (replied (ok_at 1))
-      ∷ walked 1 2 1 (call_of 1 0 2 1) 1 16 (replied ok)
-      ∷ called (call_of 1 3 3 1) 1 19 (replied ok)
-      ∷ called (call_of 1 4 4 1) 1 23 (replied ok)
+      walked 1 1 1 (bare_call 1 0 1 0) 0 13 (replied (ok_at 1))
+      ∷ walked 1 2 1 (bare_call 1 0 2 1) 1 16 (replied ok)
+      ∷ called (bare_call 1 3 3 1) 1 19 (replied ok)
+      ∷ called (bare_call 1 4 4 1) 1 23 (replied ok)
       ∷ []) None
       ∷ [];
   points = 24;
@@ -53,10 +54,10 @@ stop_after_take = record {
 -- it stops before the take is committed: the lock is made again, and taken once
 abbrev pub stop_before_storage_history : List Entry
 stop_before_storage_history =
-    entry (call_of 1 1 1 0) (ok_at 1)
-    ∷ entry (call_of 1 2 2 1) ok
-    ∷ entry (call_of 1 3 3 1) ok
-    ∷ entry (call_of 1 4 4 1) ok
+    entry (bare_call 1 1 1 0) (ok_at 1)
+    ∷ entry (bare_call 1 2 2 1) ok
+    ∷ entry (bare_call 1 3 3 1) ok
+    ∷ entry (bare_call 1 4 4 1) ok
     ∷ []
 
 abbrev pub stop_before_storage_ends : List (ℕ × End)
@@ -66,14 +67,14 @@ abbrev pub stop_before_storage : Run
 stop_before_storage = record {
   boots =
       boot (
-      called (call_of 1 1 1 0) 0 4 (replied (ok_at 1))
-      ∷ called (call_of 1 2 2 1) 1 8 Stopped
+      called (bare_call 1 1 1 0) 0 4 (replied (ok_at 1))
+      ∷ called (bare_call 1 2 2 1) 1 8 Stopped
       ∷ []) (Some 8)
       ∷ boot (
-      walked 1 1 1 (call_of 1 0 1 0) 0 12 (replied (ok_at 1))
-      ∷ called (call_of 1 2 2 1) 1 15 (replied ok)
-      ∷ called (call_of 1 3 3 1) 1 19 (replied ok)
-      ∷ called (call_of 1 4 4 1) 1 23 (replied ok)
+      walked 1 1 1 (bare_call 1 0 1 0) 0 12 (replied (ok_at 1))
+      ∷ called (bare_call 1 2 2 1) 1 15 (replied ok)
+      ∷ called (bare_call 1 3 3 1) 1 19 (replied ok)
+      ∷ called (bare_call 1 4 4 1) 1 23 (replied ok)
       ∷ []) None
       ∷ [];
   points = 24;
@@ -82,10 +83,10 @@ stop_before_storage = record {
 -- it stops again while the lock is rebuilt, and is rebuilt from the first call on
 abbrev pub stop_in_walk_history : List Entry
 stop_in_walk_history =
-    entry (call_of 1 1 1 0) (ok_at 1)
-    ∷ entry (call_of 1 2 2 1) ok
-    ∷ entry (call_of 1 3 3 1) ok
-    ∷ entry (call_of 1 4 4 1) ok
+    entry (bare_call 1 1 1 0) (ok_at 1)
+    ∷ entry (bare_call 1 2 2 1) ok
+    ∷ entry (bare_call 1 3 3 1) ok
+    ∷ entry (bare_call 1 4 4 1) ok
     ∷ []
 
 abbrev pub stop_in_walk_ends : List (ℕ × End)
@@ -95,18 +96,18 @@ abbrev pub stop_in_walk : Run
 stop_in_walk = record {
   boots =
       boot (
-      called (call_of 1 1 1 0) 0 4 (replied (ok_at 1))
-      ∷ called (call_of 1 2 2 1) 1 8 (replied ok)
+      called (bare_call 1 1 1 0) 0 4 (replied (ok_at 1))
+      ∷ called (bare_call 1 2 2 1) 1 8 (replied ok)
       ∷ []) (Some 9)
       ∷ boot (
-      walked 1 1 1 (call_of 1 0 1 0) 0 13 (replied (ok_at 1))
-      ∷ walked 1 2 1 (call_of 1 0 2 1) 1 15 Stopped
+      walked 1 1 1 (bare_call 1 0 1 0) 0 13 (replied (ok_at 1))
+      ∷ walked 1 2 1 (bare_call 1 0 2 1) 1 15 Stopped
       ∷ []) (Some 15)
       ∷ boot (
-      walked 1 1 1 (call_of 1 0 1 0) 0 19 (replied (ok_at 1))
-      ∷ walked 1 2 1 (call_of 1 0 2 1) 1 22 (replied ok)
-      ∷ called (call_of 1 3 3 1) 1 25 (replied ok)
-      ∷ called (call_of 1 4 4 1) 1 29 (replied ok)
+      walked 1 1 1 (bare_call 1 0 1 0) 0 19 (replied (ok_at 1))
+      ∷ walked 1 2 1 (bare_call 1 0 2 1) 1 22 (replied ok)
+      ∷ called (bare_call 1 3 3 1) 1 25 (replied ok)
+      ∷ called (bare_call 1 4 4 1) 1 29 (replied ok)
       ∷ []) None
       ∷ [];
   points = 30;
@@ -117,9 +118,9 @@ stop_in_walk = record {
 -- client 1 makes two locks and takes the first
 abbrev pub two_locks_history : List Entry
 two_locks_history =
-    entry (call_of 1 1 1 0) (ok_at 1)
-    ∷ entry (call_of 1 2 1 0) (ok_at 2)
-    ∷ entry (call_of 1 3 2 1) ok
+    entry (bare_call 1 1 1 0) (ok_at 1)
+    ∷ entry (bare_call 1 2 1 0) (ok_at 2)
+    ∷ entry (bare_call 1 3 2 1) ok
     ∷ []
 
 abbrev pub two_locks_ends : List (ℕ × End)
@@ -130,14 +131,14 @@ abbrev pub another_id : Run
 another_id = record {
   boots =
       boot (
-      called (call_of 1 1 1 0) 0 4 (replied (ok_at 2))
-      ∷ called (call_of 1 2 2 1) 2 8 (replied ok)
+      called (bare_call 1 1 1 0) 0 4 (replied (ok_at 2))
+      ∷ called (bare_call 1 2 2 1) 2 8 (replied ok)
       ∷ []) (Some 9)
       ∷ boot (
-      walked 1 1 1 (call_of 1 0 1 0) 0 13 (replied (ok_at 1))
-      ∷ walked 1 2 1 (call_of 1 0 2 1) 1 16 (replied ok)
-      ∷ called (call_of 1 3 3 1) 1 19 (replied ok)
-      ∷ called (call_of 1 4 4 1) 1 23 (replied ok)
+      walked 1 1 1 (bare_call 1 0 1 0) 0 13 (replied (ok_at 1))
+      ∷ walked 1 2 1 (bare_call 1 0 2 1) 1 16 (replied ok)
+      ∷ called (bare_call 1 3 3 1) 1 19 (replied ok)
+      ∷ called (bare_call 1 4 4 1) 1 23 (replied ok)
       ∷ []) None
       ∷ [];
   points = 24;
@@ -148,14 +149,14 @@ abbrev pub boot_without_a_stop : Run
 boot_without_a_stop = record {
   boots =
       boot (
-      called (call_of 1 1 1 0) 0 4 (replied (ok_at 1))
-      ∷ called (call_of 1 2 2 1) 1 8 (replied ok)
+      called (bare_call 1 1 1 0) 0 4 (replied (ok_at 1))
+      ∷ called (bare_call 1 2 2 1) 1 8 (replied ok)
       ∷ []) None
       ∷ boot (
-      walked 1 1 1 (call_of 1 0 1 0) 0 13 (replied (ok_at 1))
-      ∷ walked 1 2 1 (call_of 1 0 2 1) 1 16 (replied ok)
-      ∷ called (call_of 1 3 3 1) 1 19 (replied ok)
-      ∷ called (call_of 1 4 4 1) 1 23 (replied ok)
+      walked 1 1 1 (bare_call 1 0 1 0) 0 13 (replied (ok_at 1))
+      ∷ walked 1 2 1 (bare_call 1 0 2 1) 1 16 (replied ok)
+      ∷ called (bare_call 1 3 3 1) 1 19 (replied ok)
+      ∷ called (bare_call 1 4 4 1) 1 23 (replied ok)
       ∷ []) None
       ∷ [];
   points = 24;
@@ -166,14 +167,14 @@ abbrev pub asked_after_a_stop : Run
 asked_after_a_stop = record {
   boots =
       boot (
-      called (call_of 1 1 1 0) 0 4 (replied (ok_at 1))
-      ∷ called (call_of 1 2 2 1) 1 8 Stopped
-      ∷ called (call_of 1 2 2 1) 1 11 (replied ok)
+      called (bare_call 1 1 1 0) 0 4 (replied (ok_at 1))
+      ∷ called (bare_call 1 2 2 1) 1 8 Stopped
+      ∷ called (bare_call 1 2 2 1) 1 11 (replied ok)
       ∷ []) (Some 8)
       ∷ boot (
-      walked 1 1 1 (call_of 1 0 1 0) 0 12 (replied (ok_at 1))
-      ∷ called (call_of 1 3 3 1) 1 15 (replied ok)
-      ∷ called (call_of 1 4 4 1) 1 19 (replied ok)
+      walked 1 1 1 (bare_call 1 0 1 0) 0 12 (replied (ok_at 1))
+      ∷ called (bare_call 1 3 3 1) 1 15 (replied ok)
+      ∷ called (bare_call 1 4 4 1) 1 19 (replied ok)
       ∷ []) None
       ∷ [];
   points = 24;
@@ -184,13 +185,13 @@ abbrev pub reply_without_an_item : Run
 reply_without_an_item = record {
   boots =
       boot (
-      called (call_of 1 1 1 0) 0 4 (replied (ok_at 1))
-      ∷ called (call_of 1 2 2 1) 1 8 (replied ok)
+      called (bare_call 1 1 1 0) 0 4 (replied (ok_at 1))
+      ∷ called (bare_call 1 2 2 1) 1 8 (replied ok)
       ∷ []) (Some 9)
       ∷ boot (
-      walked 1 1 1 (call_of 1 0 1 0) 0 13 (replied (ok_at 1))
-      ∷ walked 1 2 1 (call_of 1 0 2 1) 1 16 (replied ok)
-      ∷ called (call_of 1 3 3 1) 1 19 (replied ok)
+      walked 1 1 1 (bare_call 1 0 1 0) 0 13 (replied (ok_at 1))
+      ∷ walked 1 2 1 (bare_call 1 0 2 1) 1 16 (replied ok)
+      ∷ called (bare_call 1 3 3 1) 1 19 (replied ok)
       ∷ []) None
       ∷ [];
   points = 20;
@@ -201,14 +202,14 @@ abbrev pub taken_twice : Run
 taken_twice = record {
   boots =
       boot (
-      called (call_of 1 1 1 0) 0 4 (replied (ok_at 1))
-      ∷ called (call_of 1 2 2 1) 1 8 (replied ok)
+      called (bare_call 1 1 1 0) 0 4 (replied (ok_at 1))
+      ∷ called (bare_call 1 2 2 1) 1 8 (replied ok)
       ∷ []) (Some 9)
       ∷ boot (
-      walked 1 1 1 (call_of 1 0 1 0) 0 13 (replied (ok_at 1))
-      ∷ called (call_of 1 2 2 1) 1 16 (replied ok)
-      ∷ called (call_of 1 3 3 1) 1 20 (replied ok)
-      ∷ called (call_of 1 4 4 1) 1 24 (replied ok)
+      walked 1 1 1 (bare_call 1 0 1 0) 0 13 (replied (ok_at 1))
+      ∷ called (bare_call 1 2 2 1) 1 16 (replied ok)
+      ∷ called (bare_call 1 3 3 1) 1 20 (replied ok)
+      ∷ called (bare_call 1 4 4 1) 1 24 (replied ok)
       ∷ []) None
       ∷ [];
   points = 24;
@@ -219,13 +220,13 @@ abbrev pub walk_from_its_middle : Run
 walk_from_its_middle = record {
   boots =
       boot (
-      called (call_of 1 1 1 0) 0 4 (replied (ok_at 1))
-      ∷ called (call_of 1 2 2 1) 1 8 (replied ok)
+      called (bare_call 1 1 1 0) 0 4 (replied (ok_at 1))
+      ∷ called (bare_call 1 2 2 1) 1 8 (replied ok)
       ∷ []) (Some 9)
       ∷ boot (
-      walked 1 2 1 (call_of 1 0 2 1) 1 12 (replied ok)
-      ∷ called (call_of 1 3 3 1) 1 15 (replied ok)
-      ∷ called (call_of 1 4 4 1) 1 19 (replied ok)
+      walked 1 2 1 (bare_call 1 0 2 1) 1 12 (replied ok)
+      ∷ called (bare_call 1 3 3 1) 1 15 (replied ok)
+      ∷ called (bare_call 1 4 4 1) 1 19 (replied ok)
       ∷ []) None
       ∷ [];
   points = 20;
@@ -236,14 +237,14 @@ abbrev pub walk_by_another : Run
 walk_by_another = record {
   boots =
       boot (
-      called (call_of 1 1 1 0) 0 4 (replied (ok_at 1))
-      ∷ called (call_of 1 2 2 1) 1 8 (replied ok)
+      called (bare_call 1 1 1 0) 0 4 (replied (ok_at 1))
+      ∷ called (bare_call 1 2 2 1) 1 8 (replied ok)
       ∷ []) (Some 9)
       ∷ boot (
-      walked 1 1 1 (call_of 1 0 1 0) 0 13 (replied (ok_at 1))
-      ∷ walked 1 2 1 (call_of 2 0 2 1) 1 16 (replied ok)
-      ∷ called (call_of 1 3 3 1) 1 19 (replied ok)
-      ∷ called (call_of 1 4 4 1) 1 23 (replied ok)
+      walked 1 1 1 (bare_call 1 0 1 0) 0 13 (replied (ok_at 1))
+      ∷ walked 1 2 1 (bare_call 2 0 2 1) 1 16 (replied ok)
+      ∷ called (bare_call 1 3 3 1) 1 19 (replied ok)
+      ∷ called (bare_call 1 4 4 1) 1 23 (replied ok)
       ∷ []) None
       ∷ [];
   points = 24;
@@ -254,15 +255,15 @@ abbrev pub walk_too_long : Run
 walk_too_long = record {
   boots =
       boot (
-      called (call_of 1 1 1 0) 0 4 (replied (ok_at 1))
-      ∷ called (call_of 1 2 2 1) 1 8 (replied ok)
+      called (bare_call 1 1 1 0) 0 4 (replied (ok_at 1))
+      ∷ called (bare_call 1 2 2 1) 1 8 (replied ok)
       ∷ []) (Some 9)
       ∷ boot (
-      walked 1 1 1 (call_of 1 0 1 0) 0 13 (replied (ok_at 1))
-      ∷ walked 1 2 1 (call_of 1 0 2 1) 1 16 (replied ok)
-      ∷ walked 1 3 1 (call_of 1 0 2 1) 1 19 (replied ok)
-      ∷ called (call_of 1 3 3 1) 1 22 (replied ok)
-      ∷ called (call_of 1 4 4 1) 1 26 (replied ok)
+      walked 1 1 1 (bare_call 1 0 1 0) 0 13 (replied (ok_at 1))
+      ∷ walked 1 2 1 (bare_call 1 0 2 1) 1 16 (replied ok)
+      ∷ walked 1 3 1 (bare_call 1 0 2 1) 1 19 (replied ok)
+      ∷ called (bare_call 1 3 3 1) 1 22 (replied ok)
+      ∷ called (bare_call 1 4 4 1) 1 26 (replied ok)
       ∷ []) None
       ∷ [];
   points = 27;
@@ -273,14 +274,14 @@ abbrev pub rebuilt_for_nobody : Run
 rebuilt_for_nobody = record {
   boots =
       boot (
-      called (call_of 1 1 1 0) 0 4 (replied (ok_at 1))
-      ∷ called (call_of 1 2 2 1) 1 8 (replied ok)
+      called (bare_call 1 1 1 0) 0 4 (replied (ok_at 1))
+      ∷ called (bare_call 1 2 2 1) 1 8 (replied ok)
       ∷ []) (Some 9)
       ∷ boot (
-      walked 1 1 2 (call_of 1 0 1 0) 0 13 (replied (ok_at 1))
-      ∷ walked 1 2 1 (call_of 1 0 2 1) 1 16 (replied ok)
-      ∷ called (call_of 1 3 3 1) 1 19 (replied ok)
-      ∷ called (call_of 1 4 4 1) 1 23 (replied ok)
+      walked 1 1 2 (bare_call 1 0 1 0) 0 13 (replied (ok_at 1))
+      ∷ walked 1 2 1 (bare_call 1 0 2 1) 1 16 (replied ok)
+      ∷ called (bare_call 1 3 3 1) 1 19 (replied ok)
+      ∷ called (bare_call 1 4 4 1) 1 23 (replied ok)
       ∷ []) None
       ∷ [];
   points = 24;
@@ -291,15 +292,15 @@ abbrev pub rebuilt_too_late : Run
 rebuilt_too_late = record {
   boots =
       boot (
-      called (call_of 1 1 1 0) 0 4 (replied (ok_at 1))
-      ∷ called (call_of 1 2 2 1) 1 8 (replied ok)
+      called (bare_call 1 1 1 0) 0 4 (replied (ok_at 1))
+      ∷ called (bare_call 1 2 2 1) 1 8 (replied ok)
       ∷ []) (Some 9)
       ∷ boot (
-      walked 1 1 1 (call_of 1 0 1 0) 0 13 (replied (ok_at 1))
-      ∷ walked 1 2 1 (call_of 1 0 2 1) 1 16 (replied ok)
-      ∷ called (call_of 1 3 3 1) 1 19 (replied ok)
-      ∷ called (call_of 1 4 4 1) 1 23 (replied ok)
-      ∷ walked 1 1 1 (call_of 1 0 1 0) 0 28 (replied (ok_at 2))
+      walked 1 1 1 (bare_call 1 0 1 0) 0 13 (replied (ok_at 1))
+      ∷ walked 1 2 1 (bare_call 1 0 2 1) 1 16 (replied ok)
+      ∷ called (bare_call 1 3 3 1) 1 19 (replied ok)
+      ∷ called (bare_call 1 4 4 1) 1 23 (replied ok)
+      ∷ walked 1 1 1 (bare_call 1 0 1 0) 0 28 (replied (ok_at 2))
       ∷ []) None
       ∷ [];
   points = 28;
@@ -310,12 +311,12 @@ abbrev pub served_without_a_walk : Run
 served_without_a_walk = record {
   boots =
       boot (
-      called (call_of 1 1 1 0) 0 4 (replied (ok_at 1))
-      ∷ called (call_of 1 2 2 1) 1 8 (replied ok)
+      called (bare_call 1 1 1 0) 0 4 (replied (ok_at 1))
+      ∷ called (bare_call 1 2 2 1) 1 8 (replied ok)
       ∷ []) (Some 9)
       ∷ boot (
-      called (call_of 1 3 3 1) 1 12 (replied ok)
-      ∷ called (call_of 1 4 4 1) 1 16 (replied ok)
+      called (bare_call 1 3 3 1) 1 12 (replied ok)
+      ∷ called (bare_call 1 4 4 1) 1 16 (replied ok)
       ∷ []) None
       ∷ [];
   points = 17;
@@ -326,13 +327,13 @@ abbrev pub half_a_walk : Run
 half_a_walk = record {
   boots =
       boot (
-      called (call_of 1 1 1 0) 0 4 (replied (ok_at 1))
-      ∷ called (call_of 1 2 2 1) 1 8 (replied ok)
+      called (bare_call 1 1 1 0) 0 4 (replied (ok_at 1))
+      ∷ called (bare_call 1 2 2 1) 1 8 (replied ok)
       ∷ []) (Some 9)
       ∷ boot (
-      walked 1 1 1 (call_of 1 0 1 0) 0 13 (replied (ok_at 1))
-      ∷ called (call_of 1 3 3 1) 1 16 (replied ok)
-      ∷ called (call_of 1 4 4 1) 1 20 (replied ok)
+      walked 1 1 1 (bare_call 1 0 1 0) 0 13 (replied (ok_at 1))
+      ∷ called (bare_call 1 3 3 1) 1 16 (replied ok)
+      ∷ called (bare_call 1 4 4 1) 1 20 (replied ok)
       ∷ []) None
       ∷ [];
   points = 21;
@@ -343,14 +344,14 @@ abbrev pub stop_at_another_number : Run
 stop_at_another_number = record {
   boots =
       boot (
-      called (call_of 1 1 1 0) 0 4 (replied (ok_at 1))
-      ∷ called (call_of 1 2 2 1) 1 8 (replied ok)
+      called (bare_call 1 1 1 0) 0 4 (replied (ok_at 1))
+      ∷ called (bare_call 1 2 2 1) 1 8 (replied ok)
       ∷ []) (Some 11)
       ∷ boot (
-      walked 1 1 1 (call_of 1 0 1 0) 0 15 (replied (ok_at 1))
-      ∷ walked 1 2 1 (call_of 1 0 2 1) 1 18 (replied ok)
-      ∷ called (call_of 1 3 3 1) 1 21 (replied ok)
-      ∷ called (call_of 1 4 4 1) 1 25 (replied ok)
+      walked 1 1 1 (bare_call 1 0 1 0) 0 15 (replied (ok_at 1))
+      ∷ walked 1 2 1 (bare_call 1 0 2 1) 1 18 (replied ok)
+      ∷ called (bare_call 1 3 3 1) 1 21 (replied ok)
+      ∷ called (bare_call 1 4 4 1) 1 25 (replied ok)
       ∷ []) None
       ∷ [];
   points = 26;
@@ -361,14 +362,14 @@ abbrev pub point_left_out : Run
 point_left_out = record {
   boots =
       boot (
-      called (call_of 1 1 1 0) 0 3 (replied (ok_at 1))
-      ∷ called (call_of 1 2 2 1) 1 8 (replied ok)
+      called (bare_call 1 1 1 0) 0 3 (replied (ok_at 1))
+      ∷ called (bare_call 1 2 2 1) 1 8 (replied ok)
       ∷ []) (Some 9)
       ∷ boot (
-      walked 1 1 1 (call_of 1 0 1 0) 0 13 (replied (ok_at 1))
-      ∷ walked 1 2 1 (call_of 1 0 2 1) 1 16 (replied ok)
-      ∷ called (call_of 1 3 3 1) 1 19 (replied ok)
-      ∷ called (call_of 1 4 4 1) 1 23 (replied ok)
+      walked 1 1 1 (bare_call 1 0 1 0) 0 13 (replied (ok_at 1))
+      ∷ walked 1 2 1 (bare_call 1 0 2 1) 1 16 (replied ok)
+      ∷ called (bare_call 1 3 3 1) 1 19 (replied ok)
+      ∷ called (bare_call 1 4 4 1) 1 23 (replied ok)
       ∷ []) None
       ∷ [];
   points = 24;
@@ -379,14 +380,14 @@ abbrev pub point_asked_in_vain : Run
 point_asked_in_vain = record {
   boots =
       boot (
-      called (call_of 1 1 1 0) 0 4 (replied (ok_at 1))
-      ∷ called (call_of 1 2 2 1) 1 9 (replied ok)
+      called (bare_call 1 1 1 0) 0 4 (replied (ok_at 1))
+      ∷ called (bare_call 1 2 2 1) 1 9 (replied ok)
       ∷ []) (Some 10)
       ∷ boot (
-      walked 1 1 1 (call_of 1 0 1 0) 0 14 (replied (ok_at 1))
-      ∷ walked 1 2 1 (call_of 1 0 2 1) 1 17 (replied ok)
-      ∷ called (call_of 1 3 3 1) 1 20 (replied ok)
-      ∷ called (call_of 1 4 4 1) 1 24 (replied ok)
+      walked 1 1 1 (bare_call 1 0 1 0) 0 14 (replied (ok_at 1))
+      ∷ walked 1 2 1 (bare_call 1 0 2 1) 1 17 (replied ok)
+      ∷ called (bare_call 1 3 3 1) 1 20 (replied ok)
+      ∷ called (bare_call 1 4 4 1) 1 24 (replied ok)
       ∷ []) None
       ∷ [];
   points = 25;
@@ -397,13 +398,13 @@ abbrev pub rebuilt_needlessly : Run
 rebuilt_needlessly = record {
   boots =
       boot (
-      called (call_of 1 1 1 0) 0 4 (replied (ok_at 1))
-      ∷ called (call_of 1 2 1 0) 0 9 (replied (ok_at 2))
+      called (bare_call 1 1 1 0) 0 4 (replied (ok_at 1))
+      ∷ called (bare_call 1 2 1 0) 0 9 (replied (ok_at 2))
       ∷ []) (Some 11)
       ∷ boot (
-      walked 2 1 1 (call_of 1 0 1 0) 0 15 (replied (ok_at 1))
-      ∷ walked 1 1 1 (call_of 1 0 1 0) 0 19 (replied (ok_at 2))
-      ∷ called (call_of 1 3 2 1) 2 22 (replied ok)
+      walked 2 1 1 (bare_call 1 0 1 0) 0 15 (replied (ok_at 1))
+      ∷ walked 1 1 1 (bare_call 1 0 1 0) 0 19 (replied (ok_at 2))
+      ∷ called (bare_call 1 3 2 1) 2 22 (replied ok)
       ∷ []) None
       ∷ [];
   points = 23;
@@ -411,7 +412,7 @@ rebuilt_needlessly = record {
 
 -- two clients each make a lock, and the second is served first
 abbrev pub two_makers_history : List Entry
-two_makers_history = entry (call_of 1 1 1 0) (ok_at 1) ∷ entry (call_of 2 1 1 0) (ok_at 2) ∷ []
+two_makers_history = entry (bare_call 1 1 1 0) (ok_at 1) ∷ entry (bare_call 2 1 1 0) (ok_at 2) ∷ []
 
 abbrev pub two_makers_ends : List (ℕ × End)
 two_makers_ends = (1, Done) ∷ (2, Done) ∷ []
@@ -420,8 +421,8 @@ abbrev pub out_of_order : Run
 out_of_order = record {
   boots =
       boot (
-      called (call_of 2 1 1 0) 0 4 (replied (ok_at 1))
-      ∷ called (call_of 1 1 1 0) 0 9 (replied (ok_at 2))
+      called (bare_call 2 1 1 0) 0 4 (replied (ok_at 1))
+      ∷ called (bare_call 1 1 1 0) 0 9 (replied (ok_at 2))
       ∷ []) None
       ∷ [];
   points = 10;
@@ -431,8 +432,8 @@ out_of_order = record {
 abbrev pub rebuilt_for_take : Run
 rebuilt_for_take = record {
   boots =
-      boot (called (call_of 1 1 1 0) 0 4 (replied (ok_at 1)) ∷ []) (Some 5)
-      ∷ boot (walked 1 1 1 (call_of 1 0 1 0) 0 9 (replied (ok_at 1)) ∷ []) None
+      boot (called (bare_call 1 1 1 0) 0 4 (replied (ok_at 1)) ∷ []) (Some 5)
+      ∷ boot (walked 1 1 1 (bare_call 1 0 1 0) 0 9 (replied (ok_at 1)) ∷ []) None
       ∷ [];
   points = 9;
 }

@@ -10,7 +10,8 @@ use Rattle.sg_hist.specs.declared.ended.End.TheVariants.{Done}
 use Rattle.sg_mm.specs.MmFacts.{mm_facts}
 use Rattle.sg_mm.specs.MmTable.{mm_parts, mm_table}
 use Rattle.sg_hist.specs.Recovered.{Stubs}
-use Rattle.test_recovery.specs.Written.{boot, call_of, call_with, called, entry, ok, ok_at, replied, walked, word}
+use Rattle.test_histories.specs.Written.{entry, ok, ok_at}
+use Rattle.test_recovery.specs.Written.{boot, bare_call, call_with, called, replied, walked, word}
 
 -- the walks of its tables
 abbrev pub mm_walks : List WalkLine
@@ -31,7 +32,7 @@ abbrev pub parent_first_history : List Entry
 parent_first_history =
     entry (call_with 1 1 1 0 ((word 4096) ∷ [])) (ok_at 1)
     ∷ entry (call_with 2 1 2 1 ((word 2) ∷ (word 8192) ∷ [])) (ok_at 2)
-    ∷ entry (call_of 2 2 3 2) ok
+    ∷ entry (bare_call 2 2 3 2) ok
     ∷ []
 
 abbrev pub parent_first_ends : List (ℕ × End)
@@ -47,7 +48,7 @@ parent_first = record {
       ∷ boot (
       walked 1 1 2 (call_with 1 0 1 0 ((word 4096) ∷ [])) 0 16 (replied (ok_at 1))
       ∷ walked 2 1 2 (call_with 2 0 2 1 ((word 2) ∷ (word 8192) ∷ [])) 1 21 (replied (ok_at 2))
-      ∷ called (call_of 2 2 3 2) 2 25 (replied ok)
+      ∷ called (bare_call 2 2 3 2) 2 25 (replied ok)
       ∷ []) None
       ∷ [];
   points = 26;
@@ -83,10 +84,10 @@ subtree_history =
     entry (call_with 1 1 1 0 ((word 4096) ∷ [])) (ok_at 1)
     ∷ entry (call_with 1 2 2 1 ((word 1) ∷ (word 8192) ∷ [])) (ok_at 2)
     ∷ entry (call_with 1 3 2 1 ((word 1) ∷ (word 12288) ∷ [])) (ok_at 3)
-    ∷ entry (call_of 1 4 3 1) ok
+    ∷ entry (bare_call 1 4 3 1) ok
     ∷ entry (call_with 2 1 4 0 ((word 1) ∷ (word 8192) ∷ [])) (Refused NotFound)
-    ∷ entry (call_of 1 5 3 2) (Refused NoDesc)
-    ∷ entry (call_of 1 6 3 3) (Refused NoDesc)
+    ∷ entry (bare_call 1 5 3 2) (Refused NoDesc)
+    ∷ entry (bare_call 1 6 3 3) (Refused NoDesc)
     ∷ []
 
 abbrev pub subtree_ends : List (ℕ × End)
@@ -103,7 +104,7 @@ subtree = record {
       ∷ boot (
       walked 1 1 2 (call_with 1 0 1 0 ((word 4096) ∷ [])) 0 22 (replied (ok_at 1))
       ∷ walked 2 1 2 (call_with 1 0 2 1 ((word 1) ∷ (word 8192) ∷ [])) 1 27 (replied (ok_at 2))
-      ∷ called (call_of 1 4 3 1) 1 31 (replied ok)
+      ∷ called (bare_call 1 4 3 1) 1 31 (replied ok)
       ∷ called (call_with 2 1 4 0 ((word 1) ∷ (word 8192) ∷ [])) 0 34 (replied (Refused NotFound))
       ∷ []) None
       ∷ [];
@@ -123,7 +124,7 @@ child_first = record {
       ∷ boot (
       walked 2 1 2 (call_with 2 0 2 1 ((word 2) ∷ (word 8192) ∷ [])) 0 17 (replied (ok_at 1))
       ∷ walked 1 1 2 (call_with 1 0 1 0 ((word 4096) ∷ [])) 0 21 (replied (ok_at 2))
-      ∷ called (call_of 2 2 3 2) 1 25 (replied ok)
+      ∷ called (bare_call 2 2 3 2) 1 25 (replied ok)
       ∷ []) None
       ∷ [];
   points = 26;

@@ -10,7 +10,8 @@ use Rattle.sg_hist.specs.declared.ended.End.TheVariants.{Done}
 use Rattle.sg_ramfs.specs.RamfsFacts.{ramfs_facts}
 use Rattle.sg_ramfs.specs.RamfsTable.{ramfs_parts, ramfs_table}
 use Rattle.sg_hist.specs.Recovered.{Stubs}
-use Rattle.test_recovery.specs.Written.{boot, brought, call_with, called, entry, ok, ok_at, ok_bytes, ok_with, replied, text, walked, word, written}
+use Rattle.test_histories.specs.Written.{entry, ok, ok_at, ok_bytes, ok_with}
+use Rattle.test_recovery.specs.Written.{boot, brought, call_with, called, replied, text, walked, word, written}
 
 -- the walks of its tables
 abbrev pub ramfs_walks : List WalkLine

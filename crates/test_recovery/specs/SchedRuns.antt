@@ -9,7 +9,8 @@ use Rattle.sg_hist.specs.declared.ended.End.TheVariants.{Done}
 use Rattle.sg_sched.specs.SchedFacts.{sched_facts}
 use Rattle.sg_sched.specs.SchedTable.{sched_parts, sched_table}
 use Rattle.sg_hist.specs.Recovered.{Stubs}
-use Rattle.test_recovery.specs.Written.{boot, call_of, call_with, called, entry, ok, ok_at, ok_with, replied, walked, word}
+use Rattle.test_histories.specs.Written.{entry, ok, ok_at, ok_with}
+use Rattle.test_recovery.specs.Written.{boot, bare_call, call_with, called, replied, walked, word}
 
 -- the walks of its tables
 abbrev pub sched_walks : List WalkLine
@@ -33,9 +34,9 @@ ranks_kept_history =
     entry (call_with 1 1 1 0 ((word 5) ∷ [])) (ok_with 1 1)
     ∷ entry (call_with 1 2 1 0 ((word 5) ∷ [])) (ok_with 2 2)
     ∷ entry (call_with 1 3 1 0 ((word 5) ∷ [])) (ok_with 3 3)
-    ∷ entry (call_of 1 4 8 1) ok
-    ∷ entry (call_of 1 5 2 2) (ok_with 0 4)
-    ∷ entry (call_of 1 6 6 0) (ok_at 3)
+    ∷ entry (bare_call 1 4 8 1) ok
+    ∷ entry (bare_call 1 5 2 2) (ok_with 0 4)
+    ∷ entry (bare_call 1 6 6 0) (ok_at 3)
     ∷ []
 
 abbrev pub ranks_kept_ends : List (ℕ × End)
@@ -48,15 +49,15 @@ ranks_kept = record {
       called (call_with 1 1 1 0 ((word 5) ∷ [])) 0 4 (replied (ok_with 1 1))
       ∷ called (call_with 1 2 1 0 ((word 5) ∷ [])) 0 9 (replied (ok_with 2 2))
       ∷ called (call_with 1 3 1 0 ((word 5) ∷ [])) 0 14 (replied (ok_with 3 3))
-      ∷ called (call_of 1 4 8 1) 1 18 (replied ok)
-      ∷ called (call_of 1 5 2 2) 2 22 (replied (ok_with 0 4))
+      ∷ called (bare_call 1 4 8 1) 1 18 (replied ok)
+      ∷ called (bare_call 1 5 2 2) 2 22 (replied (ok_with 0 4))
       ∷ []) (Some 24)
       ∷ boot (
       walked 2 1 1 (call_with 1 0 1 0 ((word 5) ∷ [])) 0 28 (replied (ok_with 1 1))
       ∷ walked 2 2 1 (call_with 1 0 7 2 ((word 4) ∷ [])) 1 31 (replied ok)
       ∷ walked 3 1 1 (call_with 1 0 1 0 ((word 5) ∷ [])) 0 35 (replied (ok_with 2 5))
       ∷ walked 3 2 1 (call_with 1 0 7 3 ((word 3) ∷ [])) 2 38 (replied ok)
-      ∷ called (call_of 1 6 6 0) 0 40 (replied (ok_at 2))
+      ∷ called (bare_call 1 6 6 0) 0 40 (replied (ok_at 2))
       ∷ []) None
       ∷ [];
   points = 41;
@@ -66,9 +67,9 @@ ranks_kept = record {
 abbrev pub one_walk_two_clients_history : List Entry
 one_walk_two_clients_history =
     entry (call_with 1 1 1 0 ((word 3) ∷ [])) (ok_with 1 1)
-    ∷ entry (call_of 1 2 3 1) ok
-    ∷ entry (call_of 2 1 4 1) ok
-    ∷ entry (call_of 1 3 5 1) ok
+    ∷ entry (bare_call 1 2 3 1) ok
+    ∷ entry (bare_call 2 1 4 1) ok
+    ∷ entry (bare_call 1 3 5 1) ok
     ∷ []
 
 abbrev pub one_walk_two_clients_ends : List (ℕ × End)
@@ -79,15 +80,15 @@ one_walk_two_clients = record {
   boots =
       boot (
       called (call_with 1 1 1 0 ((word 3) ∷ [])) 0 4 (replied (ok_with 1 1))
-      ∷ called (call_of 1 2 3 1) 1 8 (replied ok)
-      ∷ called (call_of 1 3 5 1) 1 10 Blocks
+      ∷ called (bare_call 1 2 3 1) 1 8 (replied ok)
+      ∷ called (bare_call 1 3 5 1) 1 10 Blocks
       ∷ []) (Some 11)
       ∷ boot (
       walked 1 1 1 (call_with 1 0 1 0 ((word 3) ∷ [])) 0 15 (replied (ok_with 1 1))
       ∷ walked 1 2 2 (call_with 1 0 7 1 ((word 1) ∷ [])) 1 18 (replied ok)
-      ∷ walked 1 3 1 (call_of 1 0 3 1) 1 21 (replied ok)
-      ∷ called (call_of 2 1 4 1) 1 24 (replied ok)
-      ∷ called (call_of 1 3 5 1) 1 27 (replied ok)
+      ∷ walked 1 3 1 (bare_call 1 0 3 1) 1 21 (replied ok)
+      ∷ called (bare_call 2 1 4 1) 1 24 (replied ok)
+      ∷ called (bare_call 1 3 5 1) 1 27 (replied ok)
       ∷ []) None
       ∷ [];
   points = 28;
@@ -101,9 +102,9 @@ shown_id_history =
     entry (call_with 1 1 1 0 ((word 5) ∷ [])) (ok_with 1 1)
     ∷ entry (call_with 1 2 1 0 ((word 5) ∷ [])) (ok_with 2 2)
     ∷ entry (call_with 1 3 1 0 ((word 5) ∷ [])) (ok_with 3 3)
-    ∷ entry (call_of 1 4 8 1) ok
-    ∷ entry (call_of 1 5 2 2) (ok_with 0 4)
-    ∷ entry (call_of 1 6 6 0) (ok_at 2)
+    ∷ entry (bare_call 1 4 8 1) ok
+    ∷ entry (bare_call 1 5 2 2) (ok_with 0 4)
+    ∷ entry (bare_call 1 6 6 0) (ok_at 2)
     ∷ []
 
 abbrev pub shown_id_ends : List (ℕ × End)
@@ -117,15 +118,15 @@ service_id_shown = record {
       called (call_with 1 1 1 0 ((word 5) ∷ [])) 0 4 (replied (ok_with 1 1))
       ∷ called (call_with 1 2 1 0 ((word 5) ∷ [])) 0 9 (replied (ok_with 2 2))
       ∷ called (call_with 1 3 1 0 ((word 5) ∷ [])) 0 14 (replied (ok_with 3 3))
-      ∷ called (call_of 1 4 8 1) 1 18 (replied ok)
-      ∷ called (call_of 1 5 2 2) 2 22 (replied (ok_with 0 4))
+      ∷ called (bare_call 1 4 8 1) 1 18 (replied ok)
+      ∷ called (bare_call 1 5 2 2) 2 22 (replied (ok_with 0 4))
       ∷ []) (Some 24)
       ∷ boot (
       walked 2 1 1 (call_with 1 0 1 0 ((word 5) ∷ [])) 0 28 (replied (ok_with 1 1))
       ∷ walked 2 2 1 (call_with 1 0 7 2 ((word 4) ∷ [])) 1 31 (replied ok)
       ∷ walked 3 1 1 (call_with 1 0 1 0 ((word 5) ∷ [])) 0 35 (replied (ok_with 2 5))
       ∷ walked 3 2 1 (call_with 1 0 7 3 ((word 3) ∷ [])) 2 38 (replied ok)
-      ∷ called (call_of 1 6 6 0) 0 40 (replied (ok_at 2))
+      ∷ called (bare_call 1 6 6 0) 0 40 (replied (ok_at 2))
       ∷ []) None
       ∷ [];
   points = 41;

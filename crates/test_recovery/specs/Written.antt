@@ -5,8 +5,6 @@ use Rattle.sg_base.specs.declared.value.Value.TheVariants.{Word, Text}
 use Rattle.std.specs.declared.option.Option.{Option}
 use Rattle.sg_base.specs.declared.call.Call.{Call}
 use Rattle.sg_base.specs.declared.reply.Reply.{Reply}
-use Rattle.sg_base.specs.declared.reply.Reply.TheVariants.{Ok}
-use Rattle.sg_facts.specs.declared.entry.Entry.{Entry}
 use Rattle.sg_facts.specs.declared.outcome.Outcome.{Outcome}
 use Rattle.sg_facts.specs.declared.outcome.Outcome.TheVariants.{Replied}
 use Rattle.sg_facts.specs.declared.trace.Item.{Item}
@@ -14,8 +12,8 @@ use Rattle.sg_facts.specs.declared.trace.Tag.TheVariants.{Walk, Load, Client}
 use Rattle.sg_facts.specs.Trace.{Boot}
 
 -- a call without arguments: its client, its number among the client's, the function's number, the descriptor or parent
-abbrev pub call_of : ℕ → ℕ → ℕ → ℕ → Call
-call_of client seq fun desc = record { client = client; seq = seq; fun = fun; desc = desc; args = [] }
+abbrev pub bare_call : ℕ → ℕ → ℕ → ℕ → Call
+bare_call client seq fun desc = record { client = client; seq = seq; fun = fun; desc = desc; args = [] }
 
 -- a call with arguments
 abbrev pub call_with : ℕ → ℕ → ℕ → ℕ → List Value → Call
@@ -26,25 +24,6 @@ word n = Word n
 
 abbrev pub text : List ℕ → Value
 text bytes = Text bytes
-
--- an Ok without descriptor, words and bytes
-abbrev pub ok : Reply
-ok = Ok (record { desc = 0; words = []; bytes = [] })
-
--- an Ok with a descriptor
-abbrev pub ok_at : ℕ → Reply
-ok_at desc = Ok (record { desc = desc; words = []; bytes = [] })
-
--- an Ok with a descriptor, 0 for none, and a word
-abbrev pub ok_with : ℕ → ℕ → Reply
-ok_with desc n = Ok (record { desc = desc; words = n ∷ []; bytes = [] })
-
--- an Ok with a word and bytes
-abbrev pub ok_bytes : ℕ → List ℕ → Reply
-ok_bytes n bytes = Ok (record { desc = 0; words = n ∷ []; bytes = bytes })
-
-abbrev pub entry : Call → Reply → Entry
-entry call reply = record { call = call; reply = reply }
 
 -- the item of a client's call: under which id of the service, at which point it ended, and how
 abbrev pub called : Call → ℕ → ℕ → Outcome → Item
@@ -67,7 +46,7 @@ written reply key place bytes = Replied reply (Some (record { key = key; from = 
 -- the item of a load, for a client
 abbrev pub brought : List ℕ → ℕ → ℕ → Outcome → Item
 brought key client points outcome =
-    record { tag = Load key client; shown = call_of client 0 0 0; real = 0; points = points; outcome = outcome }
+    record { tag = Load key client; shown = bare_call client 0 0 0; real = 0; points = points; outcome = outcome }
 
 abbrev pub boot : List Item → Option ℕ → Boot
 boot items stop = record { items = items; stop = stop }

@@ -7,18 +7,19 @@ use Rattle.sg_facts.specs.Track.{cleared, field_at}
 use Rattle.sg_lock.specs.LockFacts.{lock_facts}
 use Rattle.sg_track.specs.Drafts.{IsNumber}
 use Rattle.sg_track.specs.Tracked.{MayTrack, Tracked}
-use Rattle.test_tracker.specs.Answered.{HasOwner, asked, done}
+use Rattle.test_tracker.specs.Answered.{HasOwner, asked}
+use Rattle.test_histories.specs.Written.{ok_at}
 
-pub may_make : (t : Tracked) (client id : ℕ) → 1 ≤ t.spare → t.given + 1 ≡ id → MayTrack lock_facts t (asked client 1 0 []) (done id)
+pub may_make : (t : Tracked) (client id : ℕ) → 1 ≤ t.spare → t.given + 1 ≡ id → MayTrack lock_facts t (asked client 1 0 []) (ok_at id)
 may_make t client id room next = record {
   makes = λ is. record { place = record { room = room; parent = λ takes. cc; next = sym next }; few = omega arith; values = λ row. tt };
   changes = λ query makes. cc makes;
 }
 
-pub may_take : (t : Tracked) (client id : ℕ) → client < 2 ^ 64 → MayTrack lock_facts t (asked client 2 id []) (done 0)
+pub may_take : (t : Tracked) (client id : ℕ) → client < 2 ^ 64 → MayTrack lock_facts t (asked client 2 id []) (ok_at 0)
 may_take t client id fits = record { makes = λ is. cc is; changes = λ query makes ends r there. (λ within. fits, tt) }
 
-pub may_release : (t : Tracked) (client id owner : ℕ) → HasOwner t.rows id owner → MayTrack lock_facts t (asked client 3 id []) (done 0)
+pub may_release : (t : Tracked) (client id owner : ℕ) → HasOwner t.rows id owner → MayTrack lock_facts t (asked client 3 id []) (ok_at 0)
 may_release t client id owner has = record {
   makes = λ is. cc is;
   changes = λ query makes ends r there.
@@ -27,5 +28,5 @@ may_release t client id owner has = record {
       (λ within. subst (λ v. IsNumber (cleared v)) (sym number) (omega arith), tt);
 }
 
-pub may_free : (t : Tracked) (client id : ℕ) → MayTrack lock_facts t (asked client 4 id []) (done 0)
+pub may_free : (t : Tracked) (client id : ℕ) → MayTrack lock_facts t (asked client 4 id []) (ok_at 0)
 may_free t client id = record { makes = λ is. cc is; changes = λ query makes ends. cc ends }

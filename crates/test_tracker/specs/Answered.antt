@@ -1,21 +1,15 @@
 -- Calls and their replies, and what stands in a row.
-use Rattle.std.specs.Prelude.{ℕ, ◌≡◌, List, [], Some}
+use Rattle.std.specs.Prelude.{ℕ, ◌≡◌, List, Some}
 use Rattle.std.specs.Option.{option_map}
 use Rattle.sg_base.specs.declared.value.Value.{Value}
 use Rattle.sg_base.specs.declared.value.Value.TheVariants.{Word}
 use Rattle.sg_base.specs.declared.call.Call.{Call}
-use Rattle.sg_base.specs.declared.reply.Reply.{Reply}
-use Rattle.sg_base.specs.declared.reply.Reply.TheVariants.{Ok}
 use Rattle.sg_facts.specs.declared.row.Row.{Row}
 use Rattle.sg_facts.specs.Track.{field_at, row_at}
 
 -- a client's call
 abbrev pub asked : ℕ → ℕ → ℕ → List Value → Call
 asked client fun desc args = record { client = client; seq = 1; fun = fun; desc = desc; args = args }
-
--- an Ok with a descriptor, 0 for none
-abbrev pub done : ℕ → Reply
-done desc = Ok (record { desc = desc; words = []; bytes = [] })
 
 -- there is a row of an id, whose first field is a number
 abbrev pub HasOwner : List Row → ℕ → ℕ → Type 0

@@ -3,7 +3,8 @@ ghost use Rattle.std.specs.Prelude.{◌≡◌, true, map, IfOk};
 ghost use Rattle.sg_base.specs.declared.value.Value.TheVariants.{Word};
 ghost use Rattle.sg_facts.specs.Facts.{facts_of};
 ghost use Rattle.sg_check.specs.Shapes.{is_shape};
-ghost use Rattle.test_tracker.specs.Answered.{asked, done};
+ghost use Rattle.test_histories.specs.Written.{ok_at};
+ghost use Rattle.test_tracker.specs.Answered.{asked};
 
 use sg_base::{Args, Bytes, Call, Good, NoMemory, Reply, Value, Words};
 use sg_check::check;
@@ -48,7 +49,7 @@ pub(crate) fn call(
 
 /// An Ok with a descriptor, 0 for none.
 pub(crate) fn done(alloc: Global, desc: u64) -> Reply
-    ensures { result ≡ done desc }
+    ensures { result ≡ ok_at desc }
 {
     Reply::Ok(Good {
         desc,

@@ -5,10 +5,10 @@ ghost use Rattle.sg_mm.specs.MmFacts.{mm_facts};
 use crate::calls::{call, done, tables_of};
 use sg_base::{Code, NoMemory, Reply, Value};
 use sg_facts::Tables;
+use sg_mm::mm_shape;
 use sg_track::Tracker;
 use std::alloc::Global;
 use std::test::Fail;
-use test_checker::mm_shape;
 use test_interfaces::MM;
 
 // Tracks that a client got a page at an address.
