@@ -4,12 +4,12 @@ use Rattle.sg_lex.specs.declared.token.TokenKind.TheVariants.{Word}
 use Rattle.sg_lex.specs.Lexeme.{Lexeme}
 use Rattle.sg_lex.specs.Table.{IsToken}
 use Rattle.sg_lex.specs.Tokens.{Answer, answers_of}
+use Rattle.sg_lex.specs.Sentences.{Accepts, answered}
 use Rattle.sg_lex.specs.Reading.{IsReading, ends, passes, gives, faults}
 use Rattle.sg_lex.proofs.Readings.{reads}
 use Rattle.sg_grammar.specs.declared.tree.Tree.{Tree}
 use Rattle.sg_grammar.specs.Pieces.{Piece, word, mark, name, IsPiece, ArePieces}
-use Rattle.sg_grammar.specs.Sentence.{tree_pieces}
-use Rattle.sg_grammar.specs.Parses.{Accepts, answered}
+use Rattle.sg_grammar.specs.Sentence.{tree_pieces, IsSentence}
 use Rattle.sg_print.specs.Printed.{printed}
 use Rattle.sg_print.specs.PrintsBack.{PrintsBack}
 use Rattle.sg_print.proofs.Leads.{Leads, IsProper, AreProper}
@@ -50,7 +50,7 @@ proper [] (p ∷ ps) h l = absurd l
 proper (t ∷ ts) [] h l = absurd l
 proper (t ∷ ts) (p ∷ ps) h l = (piece_proper t p h.0 l.0, proper ts ps h.1 l.1)
 
-pub prints_back : (text : List ℕ) (tree : Tree) → Accepts (answers_of text) tree → PrintsBack tree
+pub prints_back : (text : List ℕ) (tree : Tree) → Accepts Tree IsSentence (answers_of text) tree → PrintsBack tree
 prints_back text tree a =
     let are : AreTokens a.tokens = tokens_are (reads text) a.tokens a.all in
     let led : Leads (printed tree) (tree_pieces tree)
