@@ -16,7 +16,8 @@ use Rattle.sg_grammar.specs.declared.words.Sort.{Sort}
 use Rattle.sg_grammar.specs.declared.words.Sort.TheVariants.{Name, One, Two, Form, Parents, Closing, Flag}
 use Rattle.sg_grammar.specs.Named.{Named}
 use Rattle.sg_grammar.specs.Words.{is_of}
-use Rattle.sg_grammar.specs.Pieces.{Piece, word, mark, name, IsPiece, ArePieces}
+use Rattle.sg_grammar.specs.Pieces.{Piece, word, mark, name, IsPiece}
+use Rattle.sg_lex.specs.Sentences.{ArePieces}
 use Rattle.sg_grammar.specs.Sentence.{star, comma, close_bracket, IsType, IsStatement}
 use Rattle.sg_grammar.specs.Inside.States.{State, dead, due, want, names, stars, either, listed, statements, has_sort, fits, named_by, type_of, declared, with_param, param, one_rest, two_rest, proto_rest, returned_behind, returned_rest, plain_rest, statement_behind, with_statement, start, step}
 use Rattle.sg_grammar.proofs.Basics.{some_is, none_is, by_test, if_then, if_else, mark-fits_mark}
@@ -95,7 +96,7 @@ pub record Completed (s : State) : Type 0 where
   pub tokens : List Lexeme
   pub pieces : List Piece
   pub tree : Tree
-  pub are : ArePieces tokens pieces
+  pub are : ArePieces IsPiece tokens pieces
   pub rest : Rest s pieces tree
 
 -- a completion has a first piece, or is of the state before a statement

@@ -5,7 +5,7 @@ use Rattle.std.specs.List.{flat_map}
 use Rattle.std.proofs.lemmas.List.{append-nil}
 use Rattle.std.proofs.lemmas.List.Elements.{All-nil}
 use Rattle.sg_lex.specs.Lexeme.{Lexeme}
-use Rattle.sg_lex.specs.Sentences.{Begins}
+use Rattle.sg_lex.specs.Sentences.{Begins, ArePieces}
 use Rattle.sg_lex.proofs.Automata.{Runs}
 use Rattle.sg_lex.proofs.Answers.{Reached, ReadsJust}
 use Rattle.sg_grammar.specs.declared.error.ParseError.{ParseError}
@@ -15,7 +15,7 @@ use Rattle.sg_grammar.specs.declared.tree.Tree.{Tree}
 use Rattle.sg_grammar.specs.declared.words.Sort.{Sort}
 use Rattle.sg_grammar.specs.declared.words.Sort.TheVariants.{Name, Form, Parents, Closing, Flag}
 use Rattle.sg_grammar.specs.Named.{Named}
-use Rattle.sg_grammar.specs.Pieces.{Piece, word, name, ArePieces}
+use Rattle.sg_grammar.specs.Pieces.{Piece, word, name, IsPiece}
 use Rattle.sg_grammar.specs.Sentence.{star, comma, close_bracket, close_brace, open_brace, equals, semicolon, more_params, fact_pieces, tree_pieces, statement_pieces, ret_pieces, IsStatement, IsWellFormed, IsSentence}
 use Rattle.sg_grammar.specs.Inside.States.{State, dead, due, want, names, stars, either, listed, statements, fact, head1, head2, head3, head4, head5, head6, head7, start, step, tree_at, trees}
 use Rattle.sg_grammar.proofs.Rests.{Rest, front_of, last_of}
@@ -107,7 +107,7 @@ done_forth (statements facts before) tree r =
 -- the pieces that tokens are, where reading them leads to a state
 pub record Spelling (s : State) (tokens : List Lexeme) (ps : List Piece) (tree : Tree) : Type 0 where
   pub pieces : List Piece
-  pub are : ArePieces tokens pieces
+  pub are : ArePieces IsPiece tokens pieces
   pub rest : Rest s (pieces ++ ps) tree
 
 pub spelling : (s end : State) (tokens : List Lexeme) (ps : List Piece) (tree : Tree) → Runs trees s tokens end → Rest end ps tree → Spelling s tokens ps tree
@@ -122,10 +122,10 @@ pub record Part (s : State) (tokens more : List Lexeme) (tree : Tree) : Type 0 w
   pub end : State
   pub pieces : List Piece
   pub runs : Runs trees s tokens end
-  pub are : ArePieces more pieces
+  pub are : ArePieces IsPiece more pieces
   pub rest : Rest end pieces tree
 
-pub part : (s : State) (tokens more : List Lexeme) (ps : List Piece) (tree : Tree) → ArePieces (tokens ++ more) ps → Rest s ps tree → Part s tokens more tree
+pub part : (s : State) (tokens more : List Lexeme) (ps : List Piece) (tree : Tree) → ArePieces IsPiece (tokens ++ more) ps → Rest s ps tree → Part s tokens more tree
 part s [] more ps tree a r = record { end = s; pieces = ps; runs = refl; are = a; rest = r }
 part s (t ∷ ts) more [] tree a r = absurd a
 part s (t ∷ ts) more (p ∷ ps) tree a r =
@@ -235,10 +235,10 @@ start_forth tree h =
 
 pub reached : (tokens : List Lexeme) (tree : Tree) → IsSentence tokens tree → Reached State Tree ParseError trees tokens tree
 reached tokens tree h =
-    let p = part start tokens [] (tree_pieces tree) tree (subst (λ v. ArePieces v (tree_pieces tree)) (sym (append-nil tokens)) h.pieces) (start_forth tree h.well_formed) in
+    let p = part start tokens [] (tree_pieces tree) tree (subst (λ v. ArePieces IsPiece v (tree_pieces tree)) (sym (append-nil tokens)) h.pieces) (start_forth tree h.well_formed) in
     record { end = p.end; runs = p.runs; is = done_forth p.end tree (nothing p.end p.pieces p.are p.rest) }
   where
-    nothing : (end : State) (ps : List Piece) → ArePieces [] ps → Rest end ps tree → Rest end [] tree
+    nothing : (end : State) (ps : List Piece) → ArePieces IsPiece [] ps → Rest end ps tree → Rest end [] tree
     nothing end [] a r = r
     nothing end (p ∷ ps) a r = absurd a
 
@@ -246,13 +246,13 @@ pub sentence_of : (tokens : List Lexeme) (tree : Tree) (end : State) → Runs tr
 sentence_of tokens tree end h e =
     let s = spelling start end tokens [] tree h (done_back end tree e) in
     let t = start_back tree (s.pieces ++ []) s.rest in
-    record { pieces = subst (ArePieces tokens) (sym (append-nil s.pieces) ∙ t.0) s.are; well_formed = t.1 }
+    record { pieces = subst (ArePieces IsPiece tokens) (sym (append-nil s.pieces) ∙ t.0) s.are; well_formed = t.1 }
 
 alive_end : (s end : State) (tokens : List Lexeme) → Alive false s → Runs trees s tokens end → Alive false end
 alive_end s end [] a h = subst (Alive false) h a
 alive_end s end (t ∷ ts) a h = alive_end h.0 end ts (alive_behind false s t h.0 a h.1) h.2
 
-are-append : (xs ys : List Lexeme) (ps qs : List Piece) → ArePieces xs ps → ArePieces ys qs → ArePieces (xs ++ ys) (ps ++ qs)
+are-append : (xs ys : List Lexeme) (ps qs : List Piece) → ArePieces IsPiece xs ps → ArePieces IsPiece ys qs → ArePieces IsPiece (xs ++ ys) (ps ++ qs)
 are-append [] ys [] qs a b = b
 are-append [] ys (p ∷ ps) qs a b = absurd a
 are-append (x ∷ xs) ys [] qs a b = absurd a
@@ -264,7 +264,7 @@ begins_of tokens end h =
     let c = completed end (alive_end start end tokens start_alive h) in
     let s = spelling start end tokens c.pieces c.tree h c.rest in
     let t = start_back c.tree (s.pieces ++ c.pieces) s.rest in
-    (c.tokens, c.tree, record { pieces = subst (ArePieces (tokens ++ c.tokens)) t.0 (are-append tokens c.tokens s.pieces c.pieces s.are c.are); well_formed = t.1 })
+    (c.tokens, c.tree, record { pieces = subst (ArePieces IsPiece (tokens ++ c.tokens)) t.0 (are-append tokens c.tokens s.pieces c.pieces s.are c.are); well_formed = t.1 })
 
 -- the automaton reads just the sentences
 pub just : ReadsJust State Tree ParseError trees IsSentence

@@ -8,7 +8,7 @@ use Rattle.sg_grammar.specs.declared.error.ParseError.TheVariants.{NoMemory, Lex
 use Rattle.sg_grammar.specs.declared.tree.Tree.{Tree}
 use Rattle.sg_grammar.specs.Sentence.{IsSentence}
 
--- what may be answered where a lexer answers so on a text of that length; want of memory may come at any time
+-- what may be answered where a lexer answers so on a text of that length; out of memory may be answered at any time
 abbrev pub ParsesTo : List Answer → ℕ → Result Tree ParseError → Type 0
 ParsesTo answers end (Ok tree) = Accepts Tree IsSentence answers tree
 ParsesTo answers end (Err NoMemory) = Unit {0}

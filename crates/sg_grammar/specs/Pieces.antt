@@ -18,10 +18,3 @@ IsPiece token (word bytes) = (token.kind ≡ Word) × (token.bytes ≡ bytes)
 IsPiece token (mark byte) = (token.kind ≡ Mark) × (token.bytes ≡ byte ∷ [])
 IsPiece token (name sort n) =
     (token.kind ≡ Word) × (token.bytes ≡ n.bytes) × (token.at ≡ n.at) × (is_of sort n.bytes ≡ true)
-
--- tokens are such pieces, one by one
-abbrev pub ArePieces : List Lexeme → List Piece → Type 0
-ArePieces [] [] = Unit {0}
-ArePieces (token ∷ tokens) (piece ∷ pieces) = IsPiece token piece × ArePieces tokens pieces
-ArePieces [] (piece ∷ pieces) = ⊥
-ArePieces (token ∷ tokens) [] = ⊥

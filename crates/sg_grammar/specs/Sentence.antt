@@ -14,33 +14,35 @@ use Rattle.sg_grammar.specs.declared.tree.Tree.{Tree}
 use Rattle.sg_grammar.specs.declared.words.Sort.{Sort}
 use Rattle.sg_grammar.specs.declared.words.Sort.TheVariants.{Name, One as one_word, Two as two_word, Form, Parents, Closing, Flag}
 use Rattle.sg_grammar.specs.Named.{Named}
-use Rattle.sg_grammar.specs.Pieces.{Piece, word, mark, name, ArePieces}
+use Rattle.sg_grammar.specs.Pieces.{Piece, word, mark, name, IsPiece}
+use Rattle.sg_lex.specs.Sentences.{ArePieces}
+use Rattle.sg_lex.specs.Marks.{open_brace_byte, close_brace_byte, open_bracket_byte, close_bracket_byte, equals_byte, comma_byte, semicolon_byte, star_byte}
 
 -- ---- the marks
 
 abbrev pub open_brace : Piece
-open_brace = mark 0x7B
+open_brace = mark open_brace_byte
 
 abbrev pub close_brace : Piece
-close_brace = mark 0x7D
+close_brace = mark close_brace_byte
 
 abbrev pub open_bracket : Piece
-open_bracket = mark 0x28
+open_bracket = mark open_bracket_byte
 
 abbrev pub close_bracket : Piece
-close_bracket = mark 0x29
+close_bracket = mark close_bracket_byte
 
 abbrev pub equals : Piece
-equals = mark 0x3D
+equals = mark equals_byte
 
 abbrev pub comma : Piece
-comma = mark 0x2C
+comma = mark comma_byte
 
 abbrev pub semicolon : Piece
-semicolon = mark 0x3B
+semicolon = mark semicolon_byte
 
 abbrev pub star : Piece
-star = mark 0x2A
+star = mark star_byte
 
 -- ---- the pieces of a tree, in order
 
@@ -125,5 +127,5 @@ IsWellFormed tree = All IsStatement tree.statements
 
 -- the tokens are a sentence, and this is its tree: they are, one by one, what the tree wants
 pub record IsSentence (tokens : List Lexeme) (tree : Tree) : Type 0 where
-  pub pieces : ArePieces tokens (tree_pieces tree)
+  pub pieces : ArePieces IsPiece tokens (tree_pieces tree)
   pub well_formed : IsWellFormed tree

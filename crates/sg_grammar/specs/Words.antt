@@ -15,16 +15,16 @@ one_words =
     codes "sm_creation" ∷ codes "sm_terminal" ∷ codes "sm_block" ∷ codes "sm_wakeup" ∷ codes "sm_query"
     ∷ codes "sm_keep" ∷ codes "sm_needs_all" ∷ codes "resc_data" ∷ []
 
--- of those over two functions, or over a function and a field
+-- the words of the statements over two functions, or over a function and a field
 abbrev pub two_words : List (List ℕ)
 two_words =
     codes "sm_state" ∷ codes "sm_transition" ∷ codes "sm_recover" ∷ codes "desc_data_clear" ∷ codes "desc_data_sub" ∷ []
 
--- of the parameters that have a form
+-- the words of the forms that a parameter can have
 abbrev pub form_words : List (List ℕ)
 form_words = codes "desc" ∷ codes "parent_desc" ∷ codes "desc_data" ∷ codes "desc_data_add" ∷ []
 
--- all that is reserved
+-- the words that no name may be
 abbrev pub reserved_words : List (List ℕ)
 reserved_words =
     codes "service_global_info" ∷ codes "desc_data_retval" ∷ codes "desc_data_retval_add"

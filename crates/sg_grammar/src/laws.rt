@@ -13,7 +13,7 @@ pub fn one_tree()
     ensures { (tokens : List Lexeme) (one other : Tree) → IsSentence tokens one → IsSentence tokens other → one ≡ other }
 {}
 
-/// A text has just one answer, want of memory aside: the tree of a sentence, or the one error at the one place.
+/// A text has just one answer, out of memory aside: the tree of a sentence, or the one error at the one place.
 pub fn one_answer()
     ensures some { (text : List ℕ) → (answer : Result Tree ParseError) × Parses text answer × (answer ≢ failed no_memory) }
     ensures alone { (text : List ℕ) (one other : Result Tree ParseError) → Parses text one → Parses text other →

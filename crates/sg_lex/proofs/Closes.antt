@@ -24,7 +24,7 @@ closed_at (b ∷ c ∷ bs) (suc i) l e h =
     let behind : closed_after (c ∷ bs) ≡ Some (i + 2) = closed_at (c ∷ bs) i (omega arith) e (λ k l. h (suc k) (omega arith)) in
     rw (here, behind) (ap Some (omega arith))
 
--- the same, by the place of the `/`
+-- where the first `*/` stands, by the place of the `/`
 pub closed_before : (xs : List ℕ) (i : ℕ) → 1 ≤ i → i < length xs → get_or xs (i - 1) 0 ≡ 0x2A → get_or xs i 0 ≡ 0x2F
     → ((k : ℕ) → suc k < i → closes xs k ≡ false) → closed_after xs ≡ Some (i + 1)
 closed_before xs zero a l d e h = absurd (omega arith)

@@ -72,7 +72,7 @@ closed_is (b ∷ c ∷ bs) n e =
       | inr f ↦ closed_more b c bs n f (λ m g. closed_is (c ∷ bs) m g) (closed_after (c ∷ bs)) refl (rw f at e)
     ]
 
--- and where it does, that many bytes are counted
+-- where a `*/` stands, the bytes up to it and with it are counted
 pub closed_first : (inner behind : List ℕ) → HasNoClose (inner ++ 0x2A ∷ [])
     → closed_after (inner ++ 0x2A ∷ 0x2F ∷ behind) ≡ Some (length inner + 2)
 closed_first [] behind h = refl

@@ -58,7 +58,7 @@ one_kind Mark Number b e f = absurd (both_ways (is_ascii_digit b) (mark_not_digi
 one_kind Mark Text b e f = absurd (quote_starts is_mark b refl e f)
 one_kind Mark Mark b e f = refl
 
--- so the tokens at the front of a text are of the kind that its first byte begins
+-- the tokens at the front of a text are of the kind that its first byte begins
 pub at_most : (own : TokenKind) (n b : ℕ) (bs : List ℕ) → Starts own b
     → ((cs behind : List ℕ) → bs ≡ cs ++ behind → IsToken own (b ∷ cs) → length (b ∷ cs) ≤ n) → AtMost n (b ∷ bs)
 at_most own n b bs s h kind [] behind e t = omega arith
@@ -75,7 +75,7 @@ begins_none b bs w d m h Number cs behind e t = both_ways (is_ascii_digit b) d (
 begins_none b bs w d m h Text cs behind e t = h cs behind e t
 begins_none b bs w d m h Mark cs behind e t = both_ways (is_mark b) m (token_starts Mark b cs t)
 
--- and there is none where its first byte begins none
+-- no token stands at the front of a text whose first byte begins none
 pub no_token : (b : ℕ) (bs : List ℕ) → begins_word b ≡ false → is_ascii_digit b ≡ false → is_mark b ≡ false
     → ((cs behind : List ℕ) → bs ≡ cs ++ behind → IsToken Text (b ∷ cs) → ⊥)
     → (kind : TokenKind) (bytes behind : List ℕ) → b ∷ bs ≡ bytes ++ behind → IsToken kind bytes → ⊥

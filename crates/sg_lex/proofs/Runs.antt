@@ -11,7 +11,7 @@ take_one n b bs = let e : 1 + n ≡ suc n = omega arith in rw e refl
 pub drop_one : (n b : ℕ) (bs : List ℕ) → drop (1 + n) (b ∷ bs) ≡ drop n bs
 drop_one n b bs = let e : 1 + n ≡ suc n = omega arith in rw e refl
 
--- they are all of the class
+-- the bytes of the run are all of the class
 pub all_front : (p : ℕ → Bool) (bs : List ℕ) → list_all p (take (prefix_len p bs) bs) ≡ true
 all_front p [] = refl
 all_front p (b ∷ bs) =
@@ -28,7 +28,7 @@ all_longest p (b ∷ bs) behind e =
     let more : length bs ≤ prefix_len p (bs ++ behind) = all_longest p bs behind (and_parts (p b) (list_all p bs) e).1 in
     rw here (omega arith)
 
--- they end where a byte is not of the class
+-- the run ends where a byte is not of the class
 pub all_exact : (p : ℕ → Bool) (bs : List ℕ) (c : ℕ) (behind : List ℕ) → list_all p bs ≡ true → p c ≡ false
     → prefix_len p (bs ++ c ∷ behind) ≡ length bs
 all_exact p [] c behind e f = rw f refl

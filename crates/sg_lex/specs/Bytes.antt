@@ -11,7 +11,7 @@ is_blank b = (b == 0x20) || (b == 0x09) || (b == 0x0D) || (b == 0x0A)
 abbrev pub begins_word : ℕ → Bool
 begins_word b = is_ascii_alphabetic b || (b == 0x5F)
 
--- and goes on with these and digits
+-- a word goes on with letters, underscores and digits
 abbrev pub is_in_word : ℕ → Bool
 is_in_word b = begins_word b || is_ascii_digit b
 

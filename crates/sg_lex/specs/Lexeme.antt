@@ -2,7 +2,7 @@
 use Rattle.std.specs.Prelude.{ℕ, List}
 use Rattle.sg_lex.specs.declared.token.TokenKind.{TokenKind}
 
--- its kind, its bytes, and the place of the first of them in the text
+-- a token: its kind, its bytes, and the place of the first of them in the text
 pub record Lexeme : Type 0 where
   pub kind : TokenKind
   pub bytes : List ℕ

@@ -8,6 +8,13 @@ use Rattle.sg_lex.specs.Tokens.{Answer}
 abbrev pub answered : List Lexeme → List Answer
 answered tokens = map Ok tokens
 
+-- tokens are the pieces that a grammar wants, one by one
+abbrev pub ArePieces : {P : Type 0} → (Lexeme → P → Type 0) → List Lexeme → List P → Type 0
+ArePieces IsPiece [] [] = Unit {0}
+ArePieces IsPiece (token ∷ tokens) (piece ∷ pieces) = IsPiece token piece × ArePieces IsPiece tokens pieces
+ArePieces IsPiece [] (piece ∷ pieces) = ⊥
+ArePieces IsPiece (token ∷ tokens) [] = ⊥
+
 -- the tokens begin a sentence: with some tokens behind them they are one
 abbrev pub Begins : {V : Type 0} → (List Lexeme → V → Type 0) → List Lexeme → Type 0
 Begins {V = V} IsSentence tokens = (more : List Lexeme) × (value : V) × IsSentence (tokens ++ more) value

@@ -10,9 +10,9 @@ use crate::{TokenKind, bytes};
 pub enum Front {
     /// Nothing: the text is empty.
     Ended,
-    /// So many bytes between tokens.
+    /// Bytes between tokens, by their number.
     Gap(usize),
-    /// A token of a kind, of so many bytes.
+    /// A token, by its kind and the number of its bytes.
     Token(TokenKind, usize),
     /// A byte that begins no token, or a text or a comment without an end.
     Fault,

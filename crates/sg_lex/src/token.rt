@@ -14,13 +14,13 @@ pub enum TokenKind {
     Mark,
 }
 
-/// A token. Contracts see its kind, its bytes and its place.
+/// A token of a text. Contracts see its kind, its bytes and its place.
 #[derive(Debug, Drop)]
 pub struct Token<'a> {
     pub kind: TokenKind,
-    /// Its bytes, lent from the text.
+    /// The bytes of the token, lent from the text.
     pub slice: &'a [u8],
-    /// The place of its first byte in the text, counted from 0.
+    /// The place of the first byte in the text, counted from 0.
     pub at: usize,
 }
 

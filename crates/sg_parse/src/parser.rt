@@ -20,7 +20,7 @@ use std::alloc::Global;
 #[tactic(auto, using(crate::proofs::Whole::may, crate::proofs::Whole::only))]
 pub fn parse<'a>(alloc: Global, text: &'a [u8]) -> Result<Tree<'a>, ParseError>
     ensures answer { Parses text.now result }
-    // No other answer may be given, want of memory aside.
+    // No other answer may be given, out of memory aside.
     ensures only { (other : Answered Whole Fault) → Parses text.now other → other ≢ failed ParseError.NoMemory →
         (result ≡ other) ⊎ (result ≡ failed ParseError.NoMemory) }
 {

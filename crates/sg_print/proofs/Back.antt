@@ -17,7 +17,8 @@ use Rattle.sg_grammar.specs.declared.words.Sort.{Sort}
 use Rattle.sg_grammar.specs.declared.words.Sort.TheVariants.{Name, One as one_word, Two as two_word, Form, Parents, Closing, Flag}
 use Rattle.sg_grammar.specs.Named.{Named}
 use Rattle.sg_grammar.specs.Words.{is_of}
-use Rattle.sg_grammar.specs.Pieces.{Piece, word, mark, name, ArePieces}
+use Rattle.sg_grammar.specs.Pieces.{Piece, word, mark, name, IsPiece}
+use Rattle.sg_lex.specs.Sentences.{ArePieces}
 use Rattle.sg_grammar.specs.Sentence.{open_brace, equals, open_bracket, close_bracket, comma, semicolon, star, fact_pieces, facts_pieces, type_pieces, form_pieces, param_pieces, more_params, params_pieces, returned_pieces, ret_pieces, statement_pieces, tree_pieces, IsType, IsRet, IsStatement, IsWellFormed}
 use Rattle.sg_print.specs.Plain.{plain_name, plain_type, plain_param, plain_ret, plain_statement, plain_facts, plain}
 use Rattle.sg_print.proofs.Leads.{AreLike}
@@ -27,15 +28,15 @@ record Again {X : Type 0} (pieces_of : X → List Piece) (plain_of : X → X) (G
   again : X
   behind : List Lexeme
   left : AreLike behind more
-  back : (ps : List Piece) → ArePieces behind ps → ArePieces tokens (pieces_of again ++ ps)
+  back : (ps : List Piece) → ArePieces IsPiece behind ps → ArePieces IsPiece tokens (pieces_of again ++ ps)
   same : plain_of again ≡ plain_of x
   kept : Good x → Good again
 
--- the same of a part without names
+-- a part without names reads back as the part itself
 record Past (fixed : List Piece) (tokens : List Lexeme) (more : List Piece) : Type 0 where
   behind : List Lexeme
   left : AreLike behind more
-  back : (ps : List Piece) → ArePieces behind ps → ArePieces tokens (fixed ++ ps)
+  back : (ps : List Piece) → ArePieces IsPiece behind ps → ArePieces IsPiece tokens (fixed ++ ps)
 
 abbrev Any : {X : Type 0} → X → Type 0
 Any x = Unit {0}
@@ -100,7 +101,7 @@ type_back ty more tokens l =
       again = record { names = r.again; stars = ty.stars };
       behind = s.behind;
       left = s.left;
-      back = λ ps h. subst (ArePieces tokens) (sym (append_assoc (map (name Name) r.again) stars ps)) (r.back (stars ++ ps) (s.back ps h));
+      back = λ ps h. subst (ArePieces IsPiece tokens) (sym (append_assoc (map (name Name) r.again) stars ps)) (r.back (stars ++ ps) (s.back ps h));
       same = ap (λ (ns : List Named). record { names = ns; stars = ty.stars }) r.same;
       kept = r.kept;
     }
@@ -154,7 +155,7 @@ param_back p more tokens l =
       again = record { ty = r.again; form = s.again.0; name = s.again.1 };
       behind = s.behind;
       left = s.left;
-      back = λ ps h. subst (ArePieces tokens) (sym (append_assoc (type_pieces r.again) (pair_pieces s.again) ps))
+      back = λ ps h. subst (ArePieces IsPiece tokens) (sym (append_assoc (type_pieces r.again) (pair_pieces s.again) ps))
           (r.back (pair_pieces s.again ++ ps) (s.back ps h));
       same = ap (λ (ty : TypeName). let q : Param = record { ty = ty; form = option_map plain_name s.again.0; name = plain_name s.again.1 } in q) r.same
           ∙ ap (λ (f : Option Named × Named). let q : Param = record { ty = plain_type p.ty; form = f.0; name = f.1 } in q) s.same;
@@ -173,7 +174,7 @@ more_back (p ∷ params) more tokens l =
       again = r.again ∷ s.again;
       behind = s.behind;
       left = s.left;
-      back = λ ps h. subst (ArePieces tokens) (sym (append_assoc (comma ∷ param_pieces r.again) (more_params s.again) ps))
+      back = λ ps h. subst (ArePieces IsPiece tokens) (sym (append_assoc (comma ∷ param_pieces r.again) (more_params s.again) ps))
           (o.back (param_pieces r.again ++ (more_params s.again ++ ps)) (r.back (more_params s.again ++ ps) (s.back ps h)));
       same = ap (λ q. q ∷ map plain_param s.again) r.same ∙ ap (λ qs. plain_param p ∷ qs) s.same;
       kept = λ h. All-cons HasType r.again s.again (r.kept (All-head HasType p params h)) (s.kept (All-tail HasType p params h));
@@ -192,7 +193,7 @@ params_back (p ∷ params) more tokens l =
       again = r.again ∷ s.again;
       behind = s.behind;
       left = s.left;
-      back = λ ps h. subst (ArePieces tokens) (sym (append_assoc (param_pieces r.again) (more_params s.again) ps))
+      back = λ ps h. subst (ArePieces IsPiece tokens) (sym (append_assoc (param_pieces r.again) (more_params s.again) ps))
           (r.back (more_params s.again ++ ps) (s.back ps h));
       same = ap (λ q. q ∷ map plain_param s.again) r.same ∙ ap (λ qs. plain_param p ∷ qs) s.same;
       kept = λ h. (
@@ -231,9 +232,9 @@ returned_back what ty field more tokens l =
       behind = c.behind;
       left = c.left;
       back = λ ps h.
-          let tail : ArePieces r.behind (comma ∷ name Name s.again ∷ close_bracket ∷ ps)
+          let tail : ArePieces IsPiece r.behind (comma ∷ name Name s.again ∷ close_bracket ∷ ps)
           = d.back (name Name s.again ∷ close_bracket ∷ ps) (s.back (close_bracket ∷ ps) (c.back ps h)) in
-          subst (λ xs. ArePieces tokens (word what ∷ open_bracket ∷ xs))
+          subst (λ xs. ArePieces IsPiece tokens (word what ∷ open_bracket ∷ xs))
           (sym (append_assoc (type_pieces r.again) (comma ∷ name Name s.again ∷ close_bracket ∷ []) ps))
           (w.back (open_bracket ∷ (type_pieces r.again ++ (comma ∷ name Name s.again ∷ close_bracket ∷ ps)))
           (o.back (type_pieces r.again ++ (comma ∷ name Name s.again ∷ close_bracket ∷ ps))
@@ -327,12 +328,12 @@ statement_back (Proto ret n params) more tokens l =
       behind = e.behind;
       left = e.left;
       back = λ ps h.
-          let tail : ArePieces o.behind (params_pieces b.again ++ (last ++ ps)) = b.back (last ++ ps) (c.back (semicolon ∷ ps) (e.back ps h)) in
-          let front : ArePieces tokens (ret_pieces r.again ++ (name Name a.again ∷ open_bracket ∷ (params_pieces b.again ++ (last ++ ps))))
+          let tail : ArePieces IsPiece o.behind (params_pieces b.again ++ (last ++ ps)) = b.back (last ++ ps) (c.back (semicolon ∷ ps) (e.back ps h)) in
+          let front : ArePieces IsPiece tokens (ret_pieces r.again ++ (name Name a.again ∷ open_bracket ∷ (params_pieces b.again ++ (last ++ ps))))
           = r.back (name Name a.again ∷ open_bracket ∷ (params_pieces b.again ++ (last ++ ps)))
           (a.back (open_bracket ∷ (params_pieces b.again ++ (last ++ ps))) (o.back (params_pieces b.again ++ (last ++ ps)) tail)) in
-          subst (ArePieces tokens) (sym (append_assoc (ret_pieces r.again) (name Name a.again ∷ open_bracket ∷ (params_pieces b.again ++ last)) ps))
-          (subst (λ xs. ArePieces tokens (ret_pieces r.again ++ name Name a.again ∷ open_bracket ∷ xs))
+          subst (ArePieces IsPiece tokens) (sym (append_assoc (ret_pieces r.again) (name Name a.again ∷ open_bracket ∷ (params_pieces b.again ++ last)) ps))
+          (subst (λ xs. ArePieces IsPiece tokens (ret_pieces r.again ++ name Name a.again ∷ open_bracket ∷ xs))
           (sym (append_assoc (params_pieces b.again) last ps)) front);
       same = ap (λ m. Proto m (plain_name a.again) (map plain_param b.again)) r.same
           ∙ (ap (λ m. Proto (plain_ret ret) m (map plain_param b.again)) a.same ∙ ap (λ ms. Proto (plain_ret ret) (plain_name n) ms) b.same);
@@ -341,11 +342,11 @@ statement_back (Proto ret n params) more tokens l =
 
 record AgainAll (ss : List Statement) (tokens : List Lexeme) : Type 0 where
   again : List Statement
-  pieces : ArePieces tokens (flat_map statement_pieces again)
+  pieces : ArePieces IsPiece tokens (flat_map statement_pieces again)
   same : map plain_statement again ≡ map plain_statement ss
   kept : All IsStatement ss → All IsStatement again
 
-none_left : (tokens : List Lexeme) → AreLike tokens [] → ArePieces tokens []
+none_left : (tokens : List Lexeme) → AreLike tokens [] → ArePieces IsPiece tokens []
 none_left [] l = tt
 none_left (t ∷ ts) l = absurd l
 
@@ -367,7 +368,7 @@ record AgainFact (what : List ℕ) (sort : Sort) (end : ℕ) (value : Named) (to
   again : Named
   behind : List Lexeme
   left : AreLike behind more
-  back : (ps : List Piece) → ArePieces behind ps → ArePieces tokens (fact_pieces what sort again (mark end) ps)
+  back : (ps : List Piece) → ArePieces IsPiece behind ps → ArePieces IsPiece tokens (fact_pieces what sort again (mark end) ps)
   same : plain_name again ≡ plain_name value
 
 fact_back : (what : List ℕ) (sort : Sort) (end : ℕ) (value : Named) (more : List Piece) (tokens : List Lexeme)
@@ -390,7 +391,7 @@ record AgainFacts (f : Facts) (tokens : List Lexeme) (more : List Piece) : Type 
   again : Facts
   behind : List Lexeme
   left : AreLike behind more
-  back : (ps : List Piece) → ArePieces behind ps → ArePieces tokens (facts_pieces again ps)
+  back : (ps : List Piece) → ArePieces IsPiece behind ps → ArePieces IsPiece tokens (facts_pieces again ps)
   same : plain_facts again ≡ plain_facts f
 
 abbrev facts_of : Named → Named → Named → Named → Named → Named → Named → Facts
@@ -434,7 +435,7 @@ facts_back f more tokens l =
 
 pub record AgainTree (tree : Tree) (tokens : List Lexeme) : Type 0 where
   pub again : Tree
-  pub pieces : ArePieces tokens (tree_pieces again)
+  pub pieces : ArePieces IsPiece tokens (tree_pieces again)
   pub same : plain again ≡ plain tree
   pub kept : IsWellFormed tree → IsWellFormed again
 

@@ -4,12 +4,12 @@ use Rattle.sg_lex.specs.declared.token.TokenKind.TheVariants.{Word}
 use Rattle.sg_lex.specs.Lexeme.{Lexeme}
 use Rattle.sg_lex.specs.Table.{IsToken}
 use Rattle.sg_lex.specs.Tokens.{Answer, answers_of}
+use Rattle.sg_lex.specs.Sentences.{Accepts, answered, ArePieces}
 use Rattle.sg_lex.specs.Reading.{IsReading, ends, passes, gives, faults}
 use Rattle.sg_lex.proofs.Readings.{reads}
 use Rattle.sg_grammar.specs.declared.tree.Tree.{Tree}
-use Rattle.sg_grammar.specs.Pieces.{Piece, word, mark, name, IsPiece, ArePieces}
-use Rattle.sg_grammar.specs.Sentence.{tree_pieces}
-use Rattle.sg_grammar.specs.Parses.{Accepts, answered}
+use Rattle.sg_grammar.specs.Pieces.{Piece, word, mark, name, IsPiece}
+use Rattle.sg_grammar.specs.Sentence.{tree_pieces, IsSentence}
 use Rattle.sg_print.specs.Printed.{printed}
 use Rattle.sg_print.specs.PrintsBack.{PrintsBack}
 use Rattle.sg_print.proofs.Leads.{Leads, IsProper, AreProper}
@@ -38,19 +38,19 @@ tokens_are (gives at kind bytes behind answers t most r) (u ∷ us) e =
 tokens_are (faults at text occupied none) [] e = absurd (cc)
 tokens_are (faults at text occupied none) (u ∷ us) e = absurd (cc)
 
--- so the names of a sentence's tree are words of their sorts
+-- the names of a sentence's tree are words of their sorts
 piece_proper : (t : Lexeme) (p : Piece) → IsToken t.kind t.bytes → IsPiece t p → IsProper p
 piece_proper t (word bytes) h l = tt
 piece_proper t (mark byte) h l = tt
 piece_proper t (name sort n) h l = (subst (λ b. IsToken Word b) l.1 (subst (λ k. IsToken k t.bytes) l.0 h), l.3)
 
-proper : (tokens : List Lexeme) (pieces : List Piece) → AreTokens tokens → ArePieces tokens pieces → AreProper pieces
+proper : (tokens : List Lexeme) (pieces : List Piece) → AreTokens tokens → ArePieces IsPiece tokens pieces → AreProper pieces
 proper [] [] h l = tt
 proper [] (p ∷ ps) h l = absurd l
 proper (t ∷ ts) [] h l = absurd l
 proper (t ∷ ts) (p ∷ ps) h l = (piece_proper t p h.0 l.0, proper ts ps h.1 l.1)
 
-pub prints_back : (text : List ℕ) (tree : Tree) → Accepts (answers_of text) tree → PrintsBack tree
+pub prints_back : (text : List ℕ) (tree : Tree) → Accepts Tree IsSentence (answers_of text) tree → PrintsBack tree
 prints_back text tree a =
     let are : AreTokens a.tokens = tokens_are (reads text) a.tokens a.all in
     let led : Leads (printed tree) (tree_pieces tree)

@@ -5,7 +5,7 @@ use Rattle.sg_grammar.specs.Parses.{Parses}
 use Rattle.sg_print.specs.Plain.{plain}
 use Rattle.sg_print.specs.Printed.{printed}
 
--- its text is a sentence, whose tree is equal to it but for places
+-- the tree's text is a sentence, whose tree is equal to the printed one but for places
 pub record PrintsBack (tree : Tree) : Type 0 where
   pub again : Tree
   pub parses : Parses (printed tree) (Ok again)

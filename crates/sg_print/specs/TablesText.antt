@@ -1,42 +1,33 @@
 -- The text of tables.
-use Rattle.std.specs.Prelude.{ℕ, zero, suc, ◌+◌, ◌/◌, ◌%◌, ◌==◌, Bool, true, false, if◌then◌else◌, List, [], ◌∷◌, ◌++◌, codes, slice_get, unwrap_or}
+use Rattle.std.specs.Prelude.{ℕ, zero, suc, ◌+◌, ◌/◌, ◌%◌, ◌==◌, Bool, true, false, if◌then◌else◌, List, [], ◌∷◌, ◌++◌, codes}
 use Rattle.std.specs.Fmt.{decimal}
 use Rattle.std.specs.List.{concat, flat_map}
-use Rattle.std.specs.Option.{option_map}
 use Rattle.sg_facts.specs.declared.shape.Effect.{Effect}
 use Rattle.sg_facts.specs.declared.shape.Effect.TheVariants.{SetCaller, SetArg, AddArg, SetRet, AddRet, Clear, SubOne}
 use Rattle.sg_facts.specs.declared.shape.Kind.{Kind}
 use Rattle.sg_facts.specs.declared.shape.Kind.TheVariants.{Desc, Parent, Word, Text}
 use Rattle.sg_facts.specs.declared.shape.Leaves.{Leaves}
 use Rattle.sg_facts.specs.declared.shape.Leaves.TheVariants.{Own, Same, Of}
-use Rattle.sg_facts.specs.declared.shape.Parents.{Parents}
-use Rattle.sg_facts.specs.declared.shape.Parents.TheVariants.{Never, Same as SameClient, Cross}
 use Rattle.sg_facts.specs.declared.tables.WalkLine.{WalkLine}
 use Rattle.sg_facts.specs.Facts.{Facts, Field, Fun, fun_at}
 use Rattle.sg_facts.specs.Interface.{Declared, declares, has_pair}
 use Rattle.sg_facts.specs.Tables.{Compiled}
+use Rattle.sg_facts.specs.Words.{parents_word, close_word, flag_word, field_name}
 use Rattle.sg_print.specs.Printed.{new_line}
 
 -- ---- facts
 
-abbrev pub parents_word : Parents → List ℕ
-parents_word Never = codes "none"
-parents_word SameClient = codes "same"
-parents_word Cross = codes "cross"
-
-abbrev pub flag_word : Bool → List ℕ
-flag_word true = codes "true"
-flag_word false = codes "false"
-
+-- the lines of the service and of its facts
 abbrev pub facts_lines : Facts → List ℕ
 facts_lines f = concat (
     codes "service " ∷ f.name ∷ new_line
-    ∷ codes "facts parent=" ∷ parents_word f.parents ∷ codes " close=" ∷ (if f.subtree then codes "subtree" else codes "refuse")
+    ∷ codes "facts parent=" ∷ parents_word f.parents ∷ codes " close=" ∷ close_word f.subtree
     ∷ codes " global=" ∷ flag_word f.global ∷ codes " block=" ∷ flag_word f.block ∷ codes " desc_data=" ∷ flag_word f.has_data
     ∷ codes " resc_data=" ∷ flag_word f.resc_data ∷ new_line ∷ [])
 
 -- ---- functions
 
+-- what a parameter is
 abbrev pub kind_word : Kind → List ℕ
 kind_word Desc = codes "desc"
 kind_word Parent = codes "parent"
@@ -88,9 +79,7 @@ effect_word kinds AddRet = codes "+ret"
 effect_word kinds Clear = codes "=0"
 effect_word kinds SubOne = codes "-1"
 
-abbrev pub field_name : List Field → ℕ → List ℕ
-field_name fields x = unwrap_or (option_map (λ f. f.name) (slice_get fields x)) []
-
+-- what is done to one field, behind a space
 abbrev pub effect_piece : List Field → List Kind → ℕ × Effect → List ℕ
 effect_piece fields kinds e = concat (codes " " ∷ field_name fields e.0 ∷ effect_word kinds e.1 ∷ [])
 
@@ -98,37 +87,42 @@ effect_piece fields kinds e = concat (codes " " ∷ field_name fields e.0 ∷ ef
 unfoldable pub effects_text : List Field → Fun → List ℕ
 effects_text fields f = flat_map (effect_piece fields f.kinds) f.effects
 
--- the line of a function with its number: what it is called with, and what it leaves
+-- what a function of a number is called with, and its flags
 abbrev pub called_text : ℕ → Fun → List ℕ
 called_text n f = concat (codes "fun " ∷ decimal n ∷ codes " " ∷ f.name ∷ kinds_text f.kinds ∷ flag_pieces f ∷ [])
 
+-- what a function leaves: its state, and what it does to fields
 abbrev pub left_text : Facts → Fun → List ℕ
 left_text facts f = concat (codes " -> " ∷ state_word facts.funs f ∷ effects_text facts.fields f ∷ new_line ∷ [])
 
+-- the line of a function with its number
 abbrev pub fun_line : Facts → ℕ → Fun → List ℕ
 fun_line facts n f = called_text n f ++ left_text facts f
 
 -- ---- all lines
 
--- the numbers that functions can have, so many of them from a number on; the greatest is 32
-abbrev pub numbers_from : ℕ → ℕ → List ℕ
-numbers_from n zero = []
-numbers_from n (suc count) = n ∷ numbers_from (n + 1) count
+-- so many numbers of functions, from a number on
+abbrev pub fun_numbers_from : ℕ → ℕ → List ℕ
+fun_numbers_from n zero = []
+fun_numbers_from n (suc count) = n ∷ fun_numbers_from (n + 1) count
 
+-- the numbers that functions can have
 unfoldable pub numbers : List ℕ
-numbers = numbers_from 1 32
+numbers = fun_numbers_from 1 32
 
 -- the lines of the functions that are declared
 abbrev pub fun_lines : Declared → List ℕ
 fun_lines i = flat_map (λ n. if declares i n then fun_line i.facts n (fun_at i.facts.funs n) else []) numbers
 
--- the line of a pair of functions, and those of all that are listed, by the first and then by the second number
+-- the line of a pair of functions behind a word
 abbrev pub pair_line : List ℕ → List Fun → ℕ → ℕ → List ℕ
 pair_line word funs a b = concat (word ∷ codes " " ∷ (fun_at funs a).name ∷ codes " " ∷ (fun_at funs b).name ∷ new_line ∷ [])
 
+-- the lines of the listed pairs with this first function, by the second number
 abbrev pub pairs_behind : List ℕ → List Fun → List (ℕ × ℕ) → ℕ → List ℕ
 pairs_behind word funs pairs a = flat_map (λ b. if has_pair pairs a b then pair_line word funs a b else []) numbers
 
+-- the lines of all listed pairs, by the first and then by the second number
 abbrev pub pair_lines : List ℕ → List Fun → List (ℕ × ℕ) → List ℕ
 pair_lines word funs pairs = flat_map (pairs_behind word funs pairs) numbers
 
@@ -137,19 +131,20 @@ abbrev pub set_names : List Field → ℕ → List (List ℕ)
 set_names [] mask = []
 set_names (f ∷ fields) mask = if mask % 2 == 1 then f.name ∷ set_names fields (mask / 2) else set_names fields (mask / 2)
 
--- joined by commas, or a dash for the empty set
+-- the names joined by commas, or a dash for the empty set
 abbrev pub set_word : List (List ℕ) → List ℕ
 set_word [] = codes "-"
 set_word (name ∷ names) = name ++ flat_map (λ n. codes "," ++ n) names
 
 -- the names of functions, each behind a space
-abbrev pub names_text : List Fun → List ℕ → List ℕ
-names_text funs walk = flat_map (λ n. codes " " ++ (fun_at funs n).name) walk
+abbrev pub walk_names : List Fun → List ℕ → List ℕ
+walk_names funs walk = flat_map (λ n. codes " " ++ (fun_at funs n).name) walk
 
+-- the line of a walk
 abbrev pub walk_line : Facts → WalkLine → List ℕ
 walk_line facts line = concat (
     codes "walk " ∷ (fun_at facts.funs line.made).name ∷ codes " " ∷ (fun_at facts.funs line.state).name
-    ∷ codes " " ∷ set_word (set_names facts.fields line.mask) ∷ codes " :" ∷ names_text facts.funs line.walk ∷ new_line ∷ [])
+    ∷ codes " " ∷ set_word (set_names facts.fields line.mask) ∷ codes " :" ∷ walk_names facts.funs line.walk ∷ new_line ∷ [])
 
 -- the text of tables: the facts; the declared functions; the transitions, and the recover steps; the walks in their order
 abbrev pub tables_text : Compiled → List ℕ

@@ -2,7 +2,8 @@
 ghost use Rattle.std.specs.Prelude.{◌≡◌, ◌++◌, ◌+◌, ◌<◌, ◌^◌, length, map, OnOk};
 ghost use Rattle.std.specs.Fmt.{decimal};
 ghost use Rattle.sg_facts.specs.Facts.{facts_of, fun_at, fun_of_shape};
-ghost use Rattle.sg_print.specs.TablesText.{called_text, effect_piece, effect_word, effects_text, field_name, flag_piece, flag_pieces, fun_line, kind_word, kinds_text, left_text, param_number, state_word};
+ghost use Rattle.sg_facts.specs.Words.{field_name};
+ghost use Rattle.sg_print.specs.TablesText.{called_text, effect_piece, effect_word, effects_text, flag_piece, flag_pieces, fun_line, kind_word, kinds_text, left_text, param_number, state_word};
 
 use crate::parts::put;
 use sg_base::{Bytes, NoMemory};
@@ -41,7 +42,7 @@ fn put_called(out: &mut Bytes, alloc: Global, number: u8, fun: &FunShape) -> Res
     put_flags(out, fun)
 }
 
-// Adds what it leaves.
+// Adds what a function leaves.
 fn put_left(out: &mut Bytes, alloc: Global, shape: &Shape, fun: &FunShape) -> Result<(), NoMemory>
     ensures { OnOk result (out.new ≡ out.old ++ left_text (facts_of shape.now) (fun_of_shape fun.now)) }
 {
@@ -150,7 +151,7 @@ fn put_effect(
     put_change(out, alloc, kinds, change)
 }
 
-// Adds what is done to it.
+// Adds what is done to a field.
 fn put_change(
     out: &mut Bytes,
     alloc: Global,
@@ -198,7 +199,7 @@ fn param_number(first: usize, kinds: &[Kind], arg: u8) -> usize
     }
 }
 
-// The name of a field; none where there is no such field.
+// The name of a field; empty where there is no such field.
 fn field_name(fields: &[FieldShape], field: u8) -> &'static [u8]
     ensures { result.now ≡ field_name (map (λ f. record { name = f.name.now; text = f.text }) fields.now) field }
 {

@@ -3,12 +3,14 @@ ghost use Rattle.std.specs.Prelude.{◌≡◌, ◌++◌, map, OnOk, IfOk};
 ghost use Rattle.std.specs.List.{flat_map};
 ghost use Rattle.sg_facts.specs.Facts.{facts_of, fun_at, fun_of_shape};
 ghost use Rattle.sg_facts.specs.Interface.{has_pair};
-ghost use Rattle.sg_print.specs.TablesText.{facts_lines, flag_word, fun_lines, names_text, pair_line, pair_lines, pairs_behind, parents_word, set_names, set_word, tables_text, walk_line};
+ghost use Rattle.sg_print.specs.TablesText.{facts_lines, fun_lines, walk_names, pair_line, pair_lines, pairs_behind, set_names, set_word, tables_text, walk_line};
 
 use crate::funs::put_fun;
 use crate::parts::put;
 use sg_base::{Bytes, NoMemory};
-use sg_facts::{FieldShape, Interface, Parents, Shape, Tables, WalkLine};
+use sg_facts::{
+    FieldShape, Interface, Shape, Tables, WalkLine, close_word, flag_word, parents_word,
+};
 use std::alloc::Global;
 
 // One more than the greatest number of a function.
@@ -40,7 +42,7 @@ fn put_facts(out: &mut Bytes, shape: &Shape) -> Result<(), NoMemory>
             b"facts parent=",
             parents_word(shape.parents),
             b" close=",
-            if shape.subtree { b"subtree" } else { b"refuse" },
+            close_word(shape.subtree),
             b" global=",
             flag_word(shape.global),
             b" block=",
@@ -52,24 +54,6 @@ fn put_facts(out: &mut Bytes, shape: &Shape) -> Result<(), NoMemory>
             b"\n",
         ],
     )
-}
-
-// Which parents a descriptor may have.
-fn parents_word(parents: Parents) -> &'static [u8]
-    ensures { result.now ≡ parents_word parents }
-{
-    match parents {
-        Parents::Never => b"none",
-        Parents::Same => b"same",
-        Parents::Cross => b"cross",
-    }
-}
-
-// Whether a fact holds.
-fn flag_word(flag: bool) -> &'static [u8]
-    ensures { result.now ≡ flag_word flag }
-{
-    if flag { b"true" } else { b"false" }
 }
 
 // Adds the lines of the declared functions.
@@ -99,7 +83,7 @@ fn put_pairs(
     Ok(())
 }
 
-// Adds those whose first is a function.
+// Adds the lines of the listed pairs with this first function.
 fn put_pairs_behind(
     out: &mut Bytes,
     word: &[u8],
@@ -171,7 +155,7 @@ fn put_walk(out: &mut Bytes, alloc: Global, shape: &Shape, line: &WalkLine) -> R
 
 // Adds the names of functions, each behind a space.
 fn put_names(out: &mut Bytes, shape: &Shape, walk: &[u8]) -> Result<(), NoMemory>
-    ensures { OnOk result (out.new ≡ out.old ++ names_text (facts_of shape.now).funs walk.now) }
+    ensures { OnOk result (out.new ≡ out.old ++ walk_names (facts_of shape.now).funs walk.now) }
 {
     for fun in walk {
         put(out, &[b" ", shape.fun(*fun).name])?;

@@ -7,8 +7,8 @@ use Rattle.sg_lex.specs.declared.token.TokenKind.{TokenKind}
 use Rattle.sg_lex.specs.declared.token.TokenKind.TheVariants.{Word, Number, Text, Mark}
 use Rattle.sg_lex.specs.Lexeme.{Lexeme}
 use Rattle.sg_script_grammar.specs.Spelling.{Spelling}
-use Rattle.sg_script_grammar.specs.Pieces.{Piece, fixed, word, number, quoted, mark, IsSpelt, IsPiece}
-use Rattle.sg_script_grammar.specs.Inside.States.{same_kind, is_of, is_mark, is_fixed, spelt_by}
+use Rattle.sg_script_grammar.specs.Pieces.{ScriptPiece, fixed, word, number, quoted, mark, IsSpelt, IsScriptPiece}
+use Rattle.sg_script_grammar.specs.Inside.States.{same_kind, has_kind, is_this_mark, is_fixed, spelt_by}
 
 -- ---- tests
 
@@ -68,19 +68,19 @@ kind_is Mark Number h = absurd (let e : false ≡ true = h in cc)
 kind_is Mark Text h = absurd (let e : false ≡ true = h in cc)
 
 -- a token of a kind is spelt as it is
-pub of-is : (kind : TokenKind) (token : Lexeme) → is_of kind token ≡ true → IsSpelt kind token (spelt_by token)
+pub of-is : (kind : TokenKind) (token : Lexeme) → has_kind kind token ≡ true → IsSpelt kind token (spelt_by token)
 of-is kind token h = (kind_is token.kind kind h, refl, refl)
 
-pub mark-is : (byte : ℕ) (token : Lexeme) → is_mark byte token ≡ true → IsPiece token (mark byte)
+pub mark-is : (byte : ℕ) (token : Lexeme) → is_this_mark byte token ≡ true → IsScriptPiece token (mark byte)
 mark-is byte token h =
-    (kind_is token.kind Mark (both_left _ _ h), same_bytes token.bytes (byte ∷ []) (both_right (is_of Mark token) _ h))
+    (kind_is token.kind Mark (both_left _ _ h), same_bytes token.bytes (byte ∷ []) (both_right (has_kind Mark token) _ h))
 
-pub fixed-is : (bytes : List ℕ) (token : Lexeme) → is_fixed bytes token ≡ true → IsPiece token (fixed bytes token.at)
+pub fixed-is : (bytes : List ℕ) (token : Lexeme) → is_fixed bytes token ≡ true → IsScriptPiece token (fixed bytes token.at)
 fixed-is bytes token h =
-    (kind_is token.kind Word (both_left _ _ h), same_bytes token.bytes bytes (both_right (is_of Word token) _ h), refl)
+    (kind_is token.kind Word (both_left _ _ h), same_bytes token.bytes bytes (both_right (has_kind Word token) _ h), refl)
 
 -- the token that is a piece; a mark may stand at any place
-abbrev pub made : Piece → ℕ → Lexeme
+abbrev pub made : ScriptPiece → ℕ → Lexeme
 made (fixed bytes at) place = record { kind = Word; bytes = bytes; at = at }
 made (word s) place = record { kind = Word; bytes = s.bytes; at = s.at }
 made (number s) place = record { kind = Number; bytes = s.bytes; at = s.at }
@@ -90,7 +90,7 @@ made (mark byte) place = record { kind = Mark; bytes = byte ∷ []; at = place }
 spelt_made : (kind : TokenKind) (token : Lexeme) (s : Spelling) → IsSpelt kind token s → token ≡ record { kind = kind; bytes = s.bytes; at = s.at }
 spelt_made kind token s h = let a = h.0 in let b = h.1 in let c = h.2 in let e : record { kind = token.kind; bytes = token.bytes; at = token.at } ≡ record { kind = kind; bytes = s.bytes; at = s.at } = cc in e
 
-pub is_made : (token : Lexeme) (p : Piece) → IsPiece token p → token ≡ made p token.at
+pub is_made : (token : Lexeme) (p : ScriptPiece) → IsScriptPiece token p → token ≡ made p token.at
 is_made token (fixed bytes at) h = spelt_made Word token (record { bytes = bytes; at = at }) h
 is_made token (word s) h = spelt_made Word token s h
 is_made token (number s) h = spelt_made Number token s h

@@ -9,32 +9,32 @@ use Rattle.sg_lex.proofs.Answers.{may_answer as any_may, only_value, only_byte, 
 use Rattle.sg_script_grammar.specs.declared.error.ParseError.{ParseError}
 use Rattle.sg_script_grammar.specs.declared.error.ParseError.TheVariants.{NoMemory, Syntax}
 use Rattle.sg_script_grammar.specs.declared.tree.Part.{Part}
-use Rattle.sg_script_grammar.specs.Sentence.{IsSentence}
-use Rattle.sg_script_grammar.specs.Parses.{ParsesTo}
-use Rattle.sg_script_grammar.specs.Inside.States.{State, start, scripts}
+use Rattle.sg_script_grammar.specs.Sentence.{IsScript}
+use Rattle.sg_script_grammar.specs.Parses.{ScriptParsesTo}
+use Rattle.sg_script_grammar.specs.Inside.States.{ScriptState, script_start, scripts}
 use Rattle.sg_script_grammar.proofs.Runs.{just}
 
-pub may_answer : (length : ℕ) (answers : List Answer) → ParsesTo answers length (read_from scripts length start answers)
-may_answer length answers = any_may scripts IsSentence just answers length (ParsesTo answers length) (record {
+pub may_answer : (length : ℕ) (answers : List Answer) → ScriptParsesTo answers length (read_from scripts length script_start answers)
+may_answer length answers = any_may scripts IsScript just answers length (ScriptParsesTo answers length) (record {
   value = λ parts f. f;
   byte = λ place f. inl f;
   token = λ place f. inr (inl f);
   end = λ place f. inr (inr f);
 })
 
-pub only_answer : (length : ℕ) (answers : List Answer) (other : Result (List Part) ParseError) → ParsesTo answers length other → other ≢ Err NoMemory
-    → read_from scripts length start answers ≡ other
-only_answer length answers (Ok parts) h n = only_value scripts IsSentence just answers length parts h
+pub only_answer : (length : ℕ) (answers : List Answer) (other : Result (List Part) ParseError) → ScriptParsesTo answers length other → other ≢ Err NoMemory
+    → read_from scripts length script_start answers ≡ other
+only_answer length answers (Ok parts) h n = only_value scripts IsScript just answers length parts h
 only_answer length answers (Err NoMemory) h n = absurd (n refl)
 only_answer length answers (Err (Syntax place)) h n =
     elim h [
-      | inl f ↦ only_byte scripts IsSentence just answers length place f
+      | inl f ↦ only_byte scripts IsScript just answers length place f
       | inr g ↦ elim g [
-        | inl f ↦ only_token scripts IsSentence just answers length place f
-        | inr f ↦ only_end scripts IsSentence just answers length place f
+        | inl f ↦ only_token scripts IsScript just answers length place f
+        | inr f ↦ only_end scripts IsScript just answers length place f
       ]
     ]
 
 -- reading is never out of memory
-pub reads_no_memory : (length : ℕ) (s : State) (answers : List Answer) → read_from scripts length s answers ≢ Err NoMemory
+pub reads_no_memory : (length : ℕ) (s : ScriptState) (answers : List Answer) → read_from scripts length s answers ≢ Err NoMemory
 reads_no_memory length s answers = reads_no_other scripts length s answers NoMemory (λ at e. cc) (λ at e. cc)

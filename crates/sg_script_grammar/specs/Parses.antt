@@ -6,15 +6,15 @@ use Rattle.sg_lex.specs.Tokens.{Answer, answers_of}
 use Rattle.sg_script_grammar.specs.declared.error.ParseError.{ParseError}
 use Rattle.sg_script_grammar.specs.declared.error.ParseError.TheVariants.{NoMemory, Syntax}
 use Rattle.sg_script_grammar.specs.declared.tree.Part.{Part}
-use Rattle.sg_script_grammar.specs.Sentence.{IsSentence}
+use Rattle.sg_script_grammar.specs.Sentence.{IsScript}
 
--- what may be answered where a lexer answers so on a text of that length; want of memory may come at any time
-abbrev pub ParsesTo : List Answer → ℕ → Result (List Part) ParseError → Type 0
-ParsesTo answers end (Ok parts) = Accepts (List Part) IsSentence answers parts
-ParsesTo answers end (Err NoMemory) = Unit {0}
-ParsesTo answers end (Err (Syntax place)) =
-    FailsAtByte (List Part) IsSentence answers place ⊎ (FailsAtToken (List Part) IsSentence answers place ⊎ FailsAtEnd (List Part) IsSentence answers end place)
+-- what may be answered where a lexer answers so on a text of that length; out of memory may be answered at any time
+abbrev pub ScriptParsesTo : List Answer → ℕ → Result (List Part) ParseError → Type 0
+ScriptParsesTo answers end (Ok parts) = Accepts (List Part) IsScript answers parts
+ScriptParsesTo answers end (Err NoMemory) = Unit {0}
+ScriptParsesTo answers end (Err (Syntax place)) =
+    FailsAtByte (List Part) IsScript answers place ⊎ (FailsAtToken (List Part) IsScript answers place ⊎ FailsAtEnd (List Part) IsScript answers end place)
 
 -- what a parser may answer on a text
 abbrev pub Parses : List ℕ → Result (List Part) ParseError → Type 0
-Parses text answer = ParsesTo (answers_of text) (length text) answer
+Parses text answer = ScriptParsesTo (answers_of text) (length text) answer

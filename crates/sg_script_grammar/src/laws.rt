@@ -6,14 +6,14 @@ ghost use Rattle.sg_script_grammar.specs.declared.error.ParseError.{ParseError};
 ghost use Rattle.sg_script_grammar.specs.declared.error.ParseError.TheVariants.{NoMemory as no_memory};
 ghost use Rattle.sg_script_grammar.specs.declared.tree.Part.{Part};
 ghost use Rattle.sg_script_grammar.specs.Parses.{Parses};
-ghost use Rattle.sg_script_grammar.specs.Sentence.{IsSentence};
+ghost use Rattle.sg_script_grammar.specs.Sentence.{IsScript};
 
 /// A script has one list of parts.
 pub fn one_list_of_parts()
-    ensures { (tokens : List Lexeme) (one other : List Part) → IsSentence tokens one → IsSentence tokens other → one ≡ other }
+    ensures { (tokens : List Lexeme) (one other : List Part) → IsScript tokens one → IsScript tokens other → one ≡ other }
 {}
 
-/// A text has just one answer, want of memory aside: the parts of a script, or the one error at the one place.
+/// A text has just one answer, out of memory aside: the parts of a script, or the one error at the one place.
 pub fn one_answer()
     ensures some { (text : List ℕ) → (answer : Result (List Part) ParseError) × Parses text answer × (answer ≢ failed no_memory) }
     ensures alone { (text : List ℕ) (one other : Result (List Part) ParseError) → Parses text one → Parses text other →

@@ -2,7 +2,7 @@
 ghost use Rattle.std.specs.Prelude.{◌≡◌, ◌≤◌, List, [], ◌∷◌, length, IfOk, OnOk};
 ghost use Rattle.sg_script_grammar.specs.declared.tree.WrittenArg.{WrittenArg as Arg};
 ghost use Rattle.sg_script_grammar.specs.declared.tree.WrittenCall.{WrittenCall as Call};
-ghost use Rattle.sg_script_grammar.specs.Inside.States.{State, argument, bracketed, call_rest, braced, scripts};
+ghost use Rattle.sg_script_grammar.specs.Inside.States.{ScriptState, argument, bracketed, call_rest, braced, scripts};
 ghost use Rattle.sg_lex.specs.Inside.Automata.{read, Leads};
 
 use crate::reader::Reader;
@@ -17,7 +17,7 @@ impl<'a> Reader<'a> {
     /// Calls in braces.
     #[tactic(auto, using(crate::proofs::ByToken::name_came, crate::proofs::ByToken::name_missing))]
     pub fn braced(&mut self, alloc: Global) -> Result<WrittenCallList<'a>, ParseError>
-        ensures leads { (k : List Call → State) → Leads scripts (read scripts (braced k) self.old) result k self.new }
+        ensures leads { (k : List Call → ScriptState) → Leads scripts (read scripts (braced k) self.old) result k self.new }
         ensures fewer { OnOk result (length self.new.rest ≤ length self.old.rest) }
     {
         self.mark(b'{')?;
@@ -31,7 +31,7 @@ impl<'a> Reader<'a> {
 
     /// A call whose name was taken.
     fn call(&mut self, alloc: Global, name: Spelled<'a>) -> Result<WrittenCall<'a>, ParseError>
-        ensures leads { (k : Call → State) → Leads scripts (read scripts (call_rest k name.entry) self.old) result k self.new }
+        ensures leads { (k : Call → ScriptState) → Leads scripts (read scripts (call_rest k name.entry) self.old) result k self.new }
         ensures fewer { OnOk result (length self.new.rest ≤ length self.old.rest) }
     {
         self.mark(b'(')?;
@@ -43,7 +43,7 @@ impl<'a> Reader<'a> {
     /// The arguments behind the bracket that opens them, and the bracket that closes them.
     #[tactic(auto, using(crate::proofs::ByToken::no_argument, crate::proofs::ByToken::some_argument, crate::proofs::ByToken::comma_came, crate::proofs::ByToken::comma_missing))]
     fn bracketed(&mut self, alloc: Global) -> Result<WrittenArgList<'a>, ParseError>
-        ensures leads { (k : List Arg → State) → Leads scripts (read scripts (bracketed k) self.old) result k self.new }
+        ensures leads { (k : List Arg → ScriptState) → Leads scripts (read scripts (bracketed k) self.old) result k self.new }
         ensures fewer { OnOk result (length self.new.rest ≤ length self.old.rest) }
     {
         if self.take_mark(b')')? {
@@ -60,7 +60,7 @@ impl<'a> Reader<'a> {
     /// An argument.
     #[tactic(auto, using(crate::proofs::ByToken::dollar_came, crate::proofs::ByToken::text_came, crate::proofs::ByToken::neither_came))]
     fn argument(&mut self) -> Result<WrittenArg<'a>, ParseError>
-        ensures leads { (k : Arg → State) → Leads scripts (read scripts (argument k) self.old) result k self.new }
+        ensures leads { (k : Arg → ScriptState) → Leads scripts (read scripts (argument k) self.old) result k self.new }
         ensures fewer { OnOk result (length self.new.rest ≤ length self.old.rest) }
     {
         if self.take_mark(b'$')? {

@@ -5,7 +5,7 @@ ghost use Rattle.sg_lex.specs.Tokens.{answers_of};
 ghost use Rattle.sg_script_grammar.specs.declared.error.ParseError.{ParseError as Fault};
 ghost use Rattle.sg_script_grammar.specs.declared.tree.Part.{Part as Written};
 ghost use Rattle.sg_script_grammar.specs.Parses.{Parses};
-ghost use Rattle.sg_script_grammar.specs.Inside.States.{start, scripts};
+ghost use Rattle.sg_script_grammar.specs.Inside.States.{script_start, scripts};
 ghost use Rattle.sg_lex.specs.Inside.Automata.{read, Answers};
 
 use crate::reader::Reader;
@@ -20,7 +20,7 @@ use std::alloc::Global;
 #[tactic(auto, using(crate::proofs::Whole::may, crate::proofs::Whole::only))]
 pub fn parse<'a>(alloc: Global, text: &'a [u8]) -> Result<PartList<'a>, ParseError>
     ensures answer { Parses text.now result }
-    // No other answer may be given, want of memory aside.
+    // No other answer may be given, out of memory aside.
     ensures only { (other : Answered (List Written) Fault) → Parses text.now other → other ≢ failed ParseError.NoMemory →
         (result ≡ other) ⊎ (result ≡ failed ParseError.NoMemory) }
 {
@@ -29,7 +29,7 @@ pub fn parse<'a>(alloc: Global, text: &'a [u8]) -> Result<PartList<'a>, ParseErr
 
 // The parts that are read, or why there are none.
 fn parts_of<'a>(alloc: Global, text: &'a [u8]) -> Result<PartList<'a>, ParseError>
-    ensures { Answers scripts (read scripts start (record { rest = answers_of text.now; end = length text.now })) result }
+    ensures { Answers scripts (read scripts script_start (record { rest = answers_of text.now; end = length text.now })) result }
 {
     let mut reader = Reader::new(text);
     reader.parts(alloc)

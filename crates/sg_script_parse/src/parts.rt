@@ -2,7 +2,7 @@
 ghost use Rattle.std.specs.Prelude.{◌≡◌, ◌≤◌, List, [], length, OnOk};
 ghost use Rattle.sg_script_grammar.specs.declared.tree.Part.{Part as Written};
 ghost use Rattle.sg_script_grammar.specs.Spelling.{Spelling};
-ghost use Rattle.sg_script_grammar.specs.Inside.States.{State, script, counts, part_behind, setup_rest, client_rest, schedule_rest, stop_rest, scripts};
+ghost use Rattle.sg_script_grammar.specs.Inside.States.{ScriptState, script, counts, part_behind, setup_rest, client_rest, schedule_rest, stop_rest, scripts};
 ghost use Rattle.sg_lex.specs.Inside.Automata.{read, Leads, Answers, read_on};
 
 use crate::reader::{Reader, is_fixed};
@@ -26,7 +26,7 @@ impl<'a> Reader<'a> {
     /// A part whose first token was taken.
     #[tactic(auto, using(crate::proofs::ByToken::is_setup, crate::proofs::ByToken::is_client, crate::proofs::ByToken::is_schedule, crate::proofs::ByToken::is_stop, crate::proofs::ByToken::is_no_part))]
     fn part(&mut self, alloc: Global, token: Token<'a>) -> Result<Part<'a>, ParseError>
-        ensures leads { (go : Written → State) →
+        ensures leads { (go : Written → ScriptState) →
             Leads scripts (read_on scripts (part_behind go token.entry) token.entry self.old) result go self.new }
         ensures fewer { OnOk result (length self.new.rest ≤ length self.old.rest) }
     {
@@ -47,7 +47,7 @@ impl<'a> Reader<'a> {
 
     /// The calls of the setup, behind its word at this place.
     fn setup(&mut self, alloc: Global, at: usize) -> Result<Part<'a>, ParseError>
-        ensures leads { (go : Written → State) → Leads scripts (read scripts (setup_rest go at) self.old) result go self.new }
+        ensures leads { (go : Written → ScriptState) → Leads scripts (read scripts (setup_rest go at) self.old) result go self.new }
         ensures fewer { OnOk result (length self.new.rest ≤ length self.old.rest) }
     {
         let calls = self.braced(alloc)?;
@@ -56,7 +56,7 @@ impl<'a> Reader<'a> {
 
     /// The number and the calls of a client, behind the word at this place.
     fn client(&mut self, alloc: Global, at: usize) -> Result<Part<'a>, ParseError>
-        ensures leads { (go : Written → State) → Leads scripts (read scripts (client_rest go at) self.old) result go self.new }
+        ensures leads { (go : Written → ScriptState) → Leads scripts (read scripts (client_rest go at) self.old) result go self.new }
         ensures fewer { OnOk result (length self.new.rest ≤ length self.old.rest) }
     {
         let number = self.number()?;
@@ -66,7 +66,7 @@ impl<'a> Reader<'a> {
 
     /// The numbers of the schedule, behind its word at this place.
     fn schedule(&mut self, alloc: Global, at: usize) -> Result<Part<'a>, ParseError>
-        ensures leads { (go : Written → State) → Leads scripts (read scripts (schedule_rest go at) self.old) result go self.new }
+        ensures leads { (go : Written → ScriptState) → Leads scripts (read scripts (schedule_rest go at) self.old) result go self.new }
         ensures fewer { OnOk result (length self.new.rest ≤ length self.old.rest) }
     {
         let numbers = self.numbers(alloc)?;
@@ -75,7 +75,7 @@ impl<'a> Reader<'a> {
 
     /// The numbers of the stops, behind the word at this place.
     fn stop(&mut self, alloc: Global, at: usize) -> Result<Part<'a>, ParseError>
-        ensures leads { (go : Written → State) → Leads scripts (read scripts (stop_rest go at) self.old) result go self.new }
+        ensures leads { (go : Written → ScriptState) → Leads scripts (read scripts (stop_rest go at) self.old) result go self.new }
         ensures fewer { OnOk result (length self.new.rest ≤ length self.old.rest) }
     {
         let numbers = self.numbers(alloc)?;
@@ -85,7 +85,7 @@ impl<'a> Reader<'a> {
     /// Numbers up to a semicolon.
     #[tactic(auto, using(crate::proofs::ByToken::count_came, crate::proofs::ByToken::count_missing))]
     fn numbers(&mut self, alloc: Global) -> Result<SpelledList<'a>, ParseError>
-        ensures leads { (k : List Spelling → State) → Leads scripts (read scripts (counts [] k) self.old) result k self.new }
+        ensures leads { (k : List Spelling → ScriptState) → Leads scripts (read scripts (counts [] k) self.old) result k self.new }
         ensures fewer { OnOk result (length self.new.rest ≤ length self.old.rest) }
     {
         let mut numbers = SpelledList::new(alloc);

@@ -2,7 +2,7 @@
 ghost use Rattle.std.specs.Prelude.{◌≡◌, ◌≤◌, ℕ, [], ◌∷◌, length, IfOk, IfErr, OnOk, MatchOption, MatchBool, None as no_token, Ok as answered};
 ghost use Rattle.sg_lex.specs.Tokens.{answers_of};
 ghost use Rattle.sg_script_grammar.specs.Spelling.{Spelling};
-ghost use Rattle.sg_script_grammar.specs.Inside.States.{State, dead, due, want, is_of, is_mark, is_fixed, spelt_by, scripts};
+ghost use Rattle.sg_script_grammar.specs.Inside.States.{ScriptState, dead, due, want, has_kind, is_this_mark, is_fixed, spelt_by, scripts};
 ghost use Rattle.sg_lex.specs.Inside.Automata.{read, read_from, Leads};
 ghost use Rattle.sg_script_parse.specs.Inside.{spelt_token};
 ghost use Rattle.sg_lex.specs.Inside.Ahead.{with_ahead, Off, Came};
@@ -45,7 +45,7 @@ impl<'a> Reader<'a> {
     pub fn next(&mut self) -> Result<Option<Token<'a>>, ParseError>
         ensures token { IfOk result (λ next. MatchOption next ((self.old.rest ≡ []) × (self.new.rest ≡ []))
             (λ token. self.old.rest ≡ answered token ∷ self.new.rest)) }
-        ensures fault { IfErr result (λ error. (s : State) → read scripts s self.old ≡ Err error) }
+        ensures fault { IfErr result (λ error. (s : ScriptState) → read scripts s self.old ≡ Err error) }
         ensures end { self.new.end ≡ self.old.end }
     {
         next_token(&mut self.ahead, &mut self.lexer)
@@ -53,13 +53,13 @@ impl<'a> Reader<'a> {
 
     /// Takes the next token where it is of this kind; None, and nothing is taken, where it isn't or the text ends.
     pub fn take_spelled(&mut self, kind: TokenKind) -> Result<Option<Spelled<'a>>, ParseError>
-        ensures spelling { IfOk result (λ spelled. MatchOption spelled ((self.new ≡ self.old) × Off (is_of kind) self.old.rest)
+        ensures spelling { IfOk result (λ spelled. MatchOption spelled ((self.new ≡ self.old) × Off (has_kind kind) self.old.rest)
             (λ s. self.old.rest ≡ answered (spelt_token kind s) ∷ self.new.rest)) }
-        ensures fault { IfErr result (λ error. (s : State) → read scripts s self.old ≡ Err error) }
+        ensures fault { IfErr result (λ error. (s : ScriptState) → read scripts s self.old ≡ Err error) }
         ensures end { self.new.end ≡ self.old.end }
     {
         match next_token(&mut self.ahead, &mut self.lexer)? {
-            Some(token) if is_of(&token, kind) => Ok(Some(spelled_of(token))),
+            Some(token) if has_kind(&token, kind) => Ok(Some(spelled_of(token))),
             other => {
                 self.ahead = other;
                 Ok(None)
@@ -69,13 +69,13 @@ impl<'a> Reader<'a> {
 
     /// Takes the next token where it is this mark, and says whether it was; else nothing is taken.
     pub fn take_mark(&mut self, byte: u8) -> Result<bool, ParseError>
-        ensures mark { IfOk result (λ taken. MatchBool taken (Came (is_mark byte) self.old.rest self.new.rest)
-            ((self.new ≡ self.old) × Off (is_mark byte) self.old.rest)) }
-        ensures fault { IfErr result (λ error. (s : State) → read scripts s self.old ≡ Err error) }
+        ensures mark { IfOk result (λ taken. MatchBool taken (Came (is_this_mark byte) self.old.rest self.new.rest)
+            ((self.new ≡ self.old) × Off (is_this_mark byte) self.old.rest)) }
+        ensures fault { IfErr result (λ error. (s : ScriptState) → read scripts s self.old ≡ Err error) }
         ensures end { self.new.end ≡ self.old.end }
     {
         match next_token(&mut self.ahead, &mut self.lexer)? {
-            Some(token) if is_mark(&token, byte) => Ok(true),
+            Some(token) if is_this_mark(&token, byte) => Ok(true),
             other => {
                 self.ahead = other;
                 Ok(false)
@@ -101,7 +101,7 @@ impl<'a> Reader<'a> {
     /// Takes this mark.
     #[tactic(auto, using(crate::proofs::ByToken::due_came, crate::proofs::ByToken::due_missing))]
     pub fn mark(&mut self, byte: u8) -> Result<(), ParseError>
-        ensures leads { (k : State) → Leads scripts (read scripts (due byte k) self.old) result (λ _. k) self.new }
+        ensures leads { (k : ScriptState) → Leads scripts (read scripts (due byte k) self.old) result (λ _. k) self.new }
         ensures fewer { OnOk result (length self.new.rest ≤ length self.old.rest) }
     {
         if self.take_mark(byte)? {
@@ -114,7 +114,7 @@ impl<'a> Reader<'a> {
     /// Takes a number.
     #[tactic(auto, using(crate::proofs::ByToken::number_came, crate::proofs::ByToken::number_missing))]
     pub fn number(&mut self) -> Result<Spelled<'a>, ParseError>
-        ensures leads { (k : Spelling → State) → Leads scripts (read scripts (want k) self.old) result k self.new }
+        ensures leads { (k : Spelling → ScriptState) → Leads scripts (read scripts (want k) self.old) result k self.new }
         ensures fewer { OnOk result (length self.new.rest ≤ length self.old.rest) }
     {
         match self.take_spelled(TokenKind::Number)? {
@@ -133,7 +133,7 @@ fn next_token<'a>(
     ensures taken { ahead.new ≡ no_token }
     ensures token { IfOk result (λ next. (with_ahead ahead.old lexer.old ≡ with_ahead next lexer.new)
         × (next ≡ no_token → lexer.new ≡ [])) }
-    ensures fault { IfErr result (λ error. (s : State) (end : ℕ) → read_from scripts end s (with_ahead ahead.old lexer.old) ≡ Err error) }
+    ensures fault { IfErr result (λ error. (s : ScriptState) (end : ℕ) → read_from scripts end s (with_ahead ahead.old lexer.old) ≡ Err error) }
 {
     if let Some(token) = ahead.take() {
         return Ok(Some(token));
@@ -156,8 +156,8 @@ fn spelled_of(token: Token<'_>) -> Spelled<'_>
 }
 
 // Whether a token is of this kind.
-fn is_of(token: &Token<'_>, kind: TokenKind) -> bool
-    ensures { result ≡ is_of kind token.now }
+fn has_kind(token: &Token<'_>, kind: TokenKind) -> bool
+    ensures { result ≡ has_kind kind token.now }
 {
     match kind {
         TokenKind::Word => matches!(token.kind, TokenKind::Word),
@@ -168,8 +168,8 @@ fn is_of(token: &Token<'_>, kind: TokenKind) -> bool
 }
 
 // Whether a token is this mark.
-fn is_mark(token: &Token<'_>, byte: u8) -> bool
-    ensures { result ≡ is_mark byte token.now }
+fn is_this_mark(token: &Token<'_>, byte: u8) -> bool
+    ensures { result ≡ is_this_mark byte token.now }
 {
     matches!(token.kind, TokenKind::Mark) && token.slice == [byte].as_slice()
 }

@@ -1,5 +1,5 @@
--- How far a text has been read: an automaton over tokens, whose states carry the tree so far. Nothing public rests on it;
--- it is proved to read exactly the sentences, and says in what steps the parser goes.
+-- How far a text has been read: an automaton over tokens, whose states carry the tree so far. Nothing public rests on the automaton;
+-- the automaton is proved to read exactly the sentences, and says in what steps the parser goes.
 use Rattle.std.specs.Prelude.{ℕ, ◌+◌, ◌==◌, ◌&&◌, Bool, true, false, if◌then◌else◌, List, [], ◌∷◌, ◌++◌, None, Some, Ok, Err, codes, nat_eq, length}
 use Rattle.std.specs.declared.option.Option.{Option}
 use Rattle.std.specs.Cmp.Lexicographic.{pointwise}
@@ -26,26 +26,26 @@ use Rattle.sg_grammar.specs.Sentence.{open_brace, close_brace, open_bracket, clo
 
 -- ---- tests of tokens
 
-abbrev pub is_word : TokenKind → Bool
-is_word Word = true
-is_word Number = false
-is_word Text = false
-is_word Mark = false
+abbrev pub is_word_kind : TokenKind → Bool
+is_word_kind Word = true
+is_word_kind Number = false
+is_word_kind Text = false
+is_word_kind Mark = false
 
-abbrev pub is_mark : TokenKind → Bool
-is_mark Word = false
-is_mark Number = false
-is_mark Text = false
-is_mark Mark = true
+abbrev pub is_mark_kind : TokenKind → Bool
+is_mark_kind Word = false
+is_mark_kind Number = false
+is_mark_kind Text = false
+is_mark_kind Mark = true
 
 -- a token is a word of a sort
 abbrev pub has_sort : Sort → Lexeme → Bool
-has_sort sort token = is_word token.kind && is_of sort token.bytes
+has_sort sort token = is_word_kind token.kind && is_of sort token.bytes
 
 -- a token is this piece
 abbrev pub fits : Piece → Lexeme → Bool
-fits (word bytes) token = is_word token.kind && pointwise nat_eq token.bytes bytes
-fits (mark byte) token = is_mark token.kind && pointwise nat_eq token.bytes (byte ∷ [])
+fits (word bytes) token = is_word_kind token.kind && pointwise nat_eq token.bytes bytes
+fits (mark byte) token = is_mark_kind token.kind && pointwise nat_eq token.bytes (byte ∷ [])
 fits (name sort n) token = has_sort sort token && (pointwise nat_eq token.bytes n.bytes && (token.at == n.at))
 
 -- the name that a token is
@@ -201,6 +201,6 @@ tree_at (either k s) = tree_at s
 tree_at (listed params k) = None
 tree_at (statements facts before) = Some (record { facts = facts; statements = before })
 
--- how it reads a text
+-- how the automaton reads a text
 abbrev pub trees : Automaton State Tree ParseError
 trees = record { start = start; step = step; value_at = tree_at; no_token = Lex; no_sentence = Syntax; no_memory = NoMemory }

@@ -1,5 +1,5 @@
 -- How far a script has been read: an automaton over tokens, whose states carry the parts so far. Nothing public rests on
--- it; it is proved to read exactly the scripts, and says in what steps the parser goes.
+-- the automaton, which is proved to read exactly the scripts, and says in what steps the parser goes.
 use Rattle.std.specs.Prelude.{ℕ, ◌&&◌, Bool, true, false, if◌then◌else◌, List, [], ◌∷◌, ◌++◌, None, Some, Ok, Err, codes, nat_eq}
 use Rattle.std.specs.declared.option.Option.{Option}
 use Rattle.std.specs.Cmp.Lexicographic.{pointwise}
@@ -15,6 +15,7 @@ use Rattle.sg_script_grammar.specs.declared.tree.WrittenCall.{WrittenCall}
 use Rattle.sg_script_grammar.specs.declared.tree.Part.{Part}
 use Rattle.sg_script_grammar.specs.declared.tree.Part.TheVariants.{Setup, Client, Schedule, Stop}
 use Rattle.sg_script_grammar.specs.Spelling.{Spelling}
+use Rattle.sg_lex.specs.Marks.{dollar_byte, open_bracket_byte, semicolon_byte, open_brace_byte, close_bracket_byte, comma_byte, close_brace_byte}
 
 -- ---- tests of tokens
 
@@ -27,16 +28,16 @@ same_kind Mark Mark = true
 same_kind kind other = false
 
 -- a token is of a kind
-abbrev pub is_of : TokenKind → Lexeme → Bool
-is_of kind token = same_kind token.kind kind
+abbrev pub has_kind : TokenKind → Lexeme → Bool
+has_kind kind token = same_kind token.kind kind
 
 -- a token is this mark
-abbrev pub is_mark : ℕ → Lexeme → Bool
-is_mark byte token = is_of Mark token && pointwise nat_eq token.bytes (byte ∷ [])
+abbrev pub is_this_mark : ℕ → Lexeme → Bool
+is_this_mark byte token = has_kind Mark token && pointwise nat_eq token.bytes (byte ∷ [])
 
 -- a token is this word
 abbrev pub is_fixed : List ℕ → Lexeme → Bool
-is_fixed bytes token = is_of Word token && pointwise nat_eq token.bytes bytes
+is_fixed bytes token = has_kind Word token && pointwise nat_eq token.bytes bytes
 
 -- what a token spells
 abbrev pub spelt_by : Lexeme → Spelling
@@ -44,57 +45,57 @@ spelt_by token = record { bytes = token.bytes; at = token.at }
 
 -- ---- states
 
-pub data State : Type 0 where
+pub data ScriptState : Type 0 where
   -- no token may come
-  dead : State
+  dead : ScriptState
   -- this mark, and then the state
-  due : ℕ → State → State
+  due : ℕ → ScriptState → ScriptState
   -- a number, and then the state of it
-  want : (Spelling → State) → State
+  want : (Spelling → ScriptState) → ScriptState
   -- an argument, and then the state of it
-  argument : (WrittenArg → State) → State
+  argument : (WrittenArg → ScriptState) → ScriptState
   -- behind `(`: arguments or none, `)`, and then the state of them
-  bracketed : (List WrittenArg → State) → State
+  bracketed : (List WrittenArg → ScriptState) → ScriptState
   -- behind an argument: a comma and a further one, or `)` and then the state of them all
-  listed : List WrittenArg → (List WrittenArg → State) → State
+  listed : List WrittenArg → (List WrittenArg → ScriptState) → ScriptState
   -- behind `{` and calls: a further one, or `}` and then the state of them all
-  body : List WrittenCall → (List WrittenCall → State) → State
+  body : List WrittenCall → (List WrittenCall → ScriptState) → ScriptState
   -- behind numbers: a further one, or `;` and then the state of them all
-  counts : List Spelling → (List Spelling → State) → State
+  counts : List Spelling → (List Spelling → ScriptState) → ScriptState
   -- before a part or the end
-  script : List Part → State
+  script : List Part → ScriptState
 
 -- behind the first token of an argument
-abbrev pub argument_behind : (WrittenArg → State) → Lexeme → Option State
+abbrev pub argument_behind : (WrittenArg → ScriptState) → Lexeme → Option ScriptState
 argument_behind k token =
-    if is_mark 0x24 token then Some (want (λ n. k (back_arg n)))
-    else (if is_of Text token then Some (k (text_arg (spelt_by token)))
-    else (if is_of Number token then Some (k (number_arg (spelt_by token)))
+    if is_this_mark dollar_byte token then Some (want (λ n. k (back_arg n)))
+    else (if has_kind Text token then Some (k (text_arg (spelt_by token)))
+    else (if has_kind Number token then Some (k (number_arg (spelt_by token)))
     else None))
 
 -- behind a call's name
-abbrev pub call_rest : (WrittenCall → State) → Spelling → State
-call_rest k name = due 0x28 (bracketed (λ args. due 0x3B (k (record { name = name; args = args }))))
+abbrev pub call_rest : (WrittenCall → ScriptState) → Spelling → ScriptState
+call_rest k name = due open_bracket_byte (bracketed (λ args. due semicolon_byte (k (record { name = name; args = args }))))
 
 -- calls in braces
-abbrev pub braced : (List WrittenCall → State) → State
-braced k = due 0x7B (body [] k)
+abbrev pub braced : (List WrittenCall → ScriptState) → ScriptState
+braced k = due open_brace_byte (body [] k)
 
 -- behind the first word of a part
-abbrev pub setup_rest : (Part → State) → ℕ → State
+abbrev pub setup_rest : (Part → ScriptState) → ℕ → ScriptState
 setup_rest go at = braced (λ calls. go (Setup at calls))
 
-abbrev pub client_rest : (Part → State) → ℕ → State
+abbrev pub client_rest : (Part → ScriptState) → ℕ → ScriptState
 client_rest go at = want (λ n. braced (λ calls. go (Client at n calls)))
 
-abbrev pub schedule_rest : (Part → State) → ℕ → State
+abbrev pub schedule_rest : (Part → ScriptState) → ℕ → ScriptState
 schedule_rest go at = counts [] (λ numbers. go (Schedule at numbers))
 
-abbrev pub stop_rest : (Part → State) → ℕ → State
+abbrev pub stop_rest : (Part → ScriptState) → ℕ → ScriptState
 stop_rest go at = counts [] (λ numbers. go (Stop at numbers))
 
 -- behind the first token of a part
-abbrev pub part_behind : (Part → State) → Lexeme → Option State
+abbrev pub part_behind : (Part → ScriptState) → Lexeme → Option ScriptState
 part_behind go token =
     if is_fixed (codes "setup") token then Some (setup_rest go token.at)
     else (if is_fixed (codes "client") token then Some (client_rest go token.at)
@@ -103,42 +104,42 @@ part_behind go token =
     else None)))
 
 -- with one part more
-abbrev pub with_part : List Part → Part → State
+abbrev pub with_part : List Part → Part → ScriptState
 with_part parts part = script (parts ++ part ∷ [])
 
 -- before the first token
-abbrev pub start : State
-start = script []
+abbrev pub script_start : ScriptState
+script_start = script []
 
 -- ---- steps
 
 -- the state behind a token; None where the token may not come
-unfoldable pub step : State → Lexeme → Option State
+unfoldable pub step : ScriptState → Lexeme → Option ScriptState
 step dead token = None
-step (due byte s) token = if is_mark byte token then Some s else None
-step (want k) token = if is_of Number token then Some (k (spelt_by token)) else None
+step (due byte s) token = if is_this_mark byte token then Some s else None
+step (want k) token = if has_kind Number token then Some (k (spelt_by token)) else None
 step (argument k) token = argument_behind k token
 step (bracketed k) token =
-    if is_mark 0x29 token then Some (k []) else argument_behind (λ a. listed (a ∷ []) k) token
+    if is_this_mark close_bracket_byte token then Some (k []) else argument_behind (λ a. listed (a ∷ []) k) token
 step (listed args k) token =
-    if is_mark 0x2C token then Some (argument (λ a. listed (args ++ a ∷ []) k))
-    else (if is_mark 0x29 token then Some (k args)
+    if is_this_mark comma_byte token then Some (argument (λ a. listed (args ++ a ∷ []) k))
+    else (if is_this_mark close_bracket_byte token then Some (k args)
     else None)
 step (body calls k) token =
-    if is_of Word token then Some (call_rest (λ c. body (calls ++ c ∷ []) k) (spelt_by token))
-    else (if is_mark 0x7D token then Some (k calls)
+    if has_kind Word token then Some (call_rest (λ c. body (calls ++ c ∷ []) k) (spelt_by token))
+    else (if is_this_mark close_brace_byte token then Some (k calls)
     else None)
 step (counts numbers k) token =
-    if is_of Number token then Some (counts (numbers ++ spelt_by token ∷ []) k)
-    else (if is_mark 0x3B token then Some (k numbers)
+    if has_kind Number token then Some (counts (numbers ++ spelt_by token ∷ []) k)
+    else (if is_this_mark semicolon_byte token then Some (k numbers)
     else None)
 step (script parts) token = part_behind (with_part parts) token
 
 -- the parts, where the text may end here
-unfoldable pub parts_at : State → Option (List Part)
+unfoldable pub parts_at : ScriptState → Option (List Part)
 parts_at (script parts) = Some parts
 parts_at s = None
 
--- how it reads a text
-abbrev pub scripts : Automaton State (List Part) ParseError
-scripts = record { start = start; step = step; value_at = parts_at; no_token = Syntax; no_sentence = Syntax; no_memory = NoMemory }
+-- how the automaton reads a text
+abbrev pub scripts : Automaton ScriptState (List Part) ParseError
+scripts = record { start = script_start; step = step; value_at = parts_at; no_token = Syntax; no_sentence = Syntax; no_memory = NoMemory }

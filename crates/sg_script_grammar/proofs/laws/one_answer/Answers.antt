@@ -2,13 +2,13 @@
 use Rattle.std.proofs.Common.{sym, ◌∙◌, length}
 use Rattle.sg_lex.specs.Tokens.{answers_of}
 use Rattle.sg_lex.specs.Inside.Automata.{read_from}
-use Rattle.sg_script_grammar.specs.Inside.States.{start, scripts}
+use Rattle.sg_script_grammar.specs.Inside.States.{script_start, scripts}
 use Rattle.sg_script_grammar.proofs.Readings.{may_answer, only_answer, reads_no_memory}
 use Rattle.sg_script_grammar.proofs.laws.one_answer.Goals as goal
 
 pub returns-clause-some : goal.returns-clause-some
 returns-clause-some c = λ text.
-    (read_from scripts (length text) start (answers_of text), may_answer (length text) (answers_of text), reads_no_memory (length text) start (answers_of text))
+    (read_from scripts (length text) script_start (answers_of text), may_answer (length text) (answers_of text), reads_no_memory (length text) script_start (answers_of text))
 
 pub returns-clause-alone : goal.returns-clause-alone
 returns-clause-alone c = λ text one other h g n m.

@@ -5,7 +5,7 @@ use Rattle.std.proofs.lemmas.Grind.{common_steps}
 use Rattle.std.proofs.lemmas.Result.{err_from_is_err_and}
 use Rattle.sg_lex.specs.declared.token.TokenKind.TheVariants.{Word}
 use Rattle.sg_script_grammar.specs.Spelling.{Spelling}
-use Rattle.sg_script_grammar.specs.Inside.States.{body, is_of, scripts}
+use Rattle.sg_script_grammar.specs.Inside.States.{body, has_kind, scripts}
 use Rattle.sg_lex.specs.Inside.Automata.{read}
 use Rattle.sg_script_parse.specs.Inside.{spelt_token}
 use Rattle.sg_lex.specs.Inside.Ahead.{Off}
@@ -18,7 +18,7 @@ returns-in_err-call-clause-leads c = λ k.
     let p = err_from_is_err_and c.from_residual-in_err-call.result c.from_residual-in_err-call.ensures.1 in
     let old = c.calls.self in
     let new = c.take_spelled.new.self in
-    let came = on_some ((new ≡ old) × Off (is_of Word) old.rest) (λ (s : Spelling). old.rest ≡ Ok (spelt_token Word s) ∷ new.rest) c.in_ok-name.field-0 c.in-Some.name c.in_ok-name.ensures.spelling c.in-Some.is in
+    let came = on_some ((new ≡ old) × Off (has_kind Word) old.rest) (λ (s : Spelling). old.rest ≡ Ok (spelt_token Word s) ∷ new.rest) c.in_ok-name.field-0 c.in-Some.name c.in_ok-name.ensures.spelling c.in-Some.is in
     rw (p.1, p.2) (λ ne.
     c.calls.invariant.read_so_far k
     ∙ name_came c.calls.calls k c.in-Some.name old new came c.in_ok-name.ensures.end
@@ -28,7 +28,7 @@ pub calls-preserved : goal.calls-preserved
 calls-preserved c =
     let old = c.calls.self in
     let new = c.take_spelled.new.self in
-    let came = on_some ((new ≡ old) × Off (is_of Word) old.rest) (λ (s : Spelling). old.rest ≡ Ok (spelt_token Word s) ∷ new.rest) c.in_ok-name.field-0 c.in-Some.name c.in_ok-name.ensures.spelling c.in-Some.is in
+    let came = on_some ((new ≡ old) × Off (has_kind Word) old.rest) (λ (s : Spelling). old.rest ≡ Ok (spelt_token Word s) ∷ new.rest) c.in_ok-name.field-0 c.in-Some.name c.in_ok-name.ensures.spelling c.in-Some.is in
     record {
       read_so_far = λ k.
           c.calls.invariant.read_so_far k

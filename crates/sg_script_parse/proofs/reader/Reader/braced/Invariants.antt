@@ -1,13 +1,13 @@
 -- The calls so far were read.
 use Rattle.std.proofs.Common.{◌≡◌, ◌≤◌, List, length}
 use Rattle.sg_script_grammar.specs.declared.tree.WrittenCall.{WrittenCall}
-use Rattle.sg_script_grammar.specs.Inside.States.{State, braced, body, scripts}
+use Rattle.sg_script_grammar.specs.Inside.States.{ScriptState, braced, body, scripts}
 use Rattle.sg_lex.specs.Inside.Automata.{read}
 use Rattle.sg_script_parse.proofs.reader.Reader.braced.Given as goal
 
 abbrev pub invariant-calls : goal.invariant-calls
 invariant-calls l = record {
-  read_so_far : (k : List WrittenCall → State) → read scripts (braced k) l.fn.self ≡ read scripts (body l.calls k) l.self;
+  read_so_far : (k : List WrittenCall → ScriptState) → read scripts (braced k) l.fn.self ≡ read scripts (body l.calls k) l.self;
   fewer : length l.self.rest ≤ length l.fn.self.rest;
 }
 

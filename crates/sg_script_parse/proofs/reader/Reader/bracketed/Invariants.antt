@@ -1,13 +1,13 @@
 -- The arguments so far were read.
 use Rattle.std.proofs.Common.{◌≡◌, ◌≤◌, List, length}
 use Rattle.sg_script_grammar.specs.declared.tree.WrittenArg.{WrittenArg}
-use Rattle.sg_script_grammar.specs.Inside.States.{State, bracketed, listed, scripts}
+use Rattle.sg_script_grammar.specs.Inside.States.{ScriptState, bracketed, listed, scripts}
 use Rattle.sg_lex.specs.Inside.Automata.{read}
 use Rattle.sg_script_parse.proofs.reader.Reader.bracketed.Given as goal
 
 abbrev pub invariant-commas : goal.invariant-commas
 invariant-commas l = record {
-  read_so_far : (k : List WrittenArg → State) → read scripts (bracketed k) l.fn.self ≡ read scripts (listed l.args k) l.self;
+  read_so_far : (k : List WrittenArg → ScriptState) → read scripts (bracketed k) l.fn.self ≡ read scripts (listed l.args k) l.self;
   fewer : length l.self.rest ≤ length l.fn.self.rest;
 }
 

@@ -1,13 +1,13 @@
 -- The numbers so far were read.
 use Rattle.std.proofs.Common.{◌≡◌, ◌≤◌, List, [], length}
 use Rattle.sg_script_grammar.specs.Spelling.{Spelling}
-use Rattle.sg_script_grammar.specs.Inside.States.{State, counts, scripts}
+use Rattle.sg_script_grammar.specs.Inside.States.{ScriptState, counts, scripts}
 use Rattle.sg_lex.specs.Inside.Automata.{read}
 use Rattle.sg_script_parse.proofs.reader.Reader.numbers.Given as goal
 
 abbrev pub invariant-numbers : goal.invariant-numbers
 invariant-numbers l = record {
-  read_so_far : (k : List Spelling → State) → read scripts (counts [] k) l.fn.self ≡ read scripts (counts l.numbers k) l.self;
+  read_so_far : (k : List Spelling → ScriptState) → read scripts (counts [] k) l.fn.self ≡ read scripts (counts l.numbers k) l.self;
   fewer : length l.self.rest ≤ length l.fn.self.rest;
 }
 

@@ -1,0 +1,29 @@
+-- The bytes of the marks, by name.
+use Rattle.std.specs.Prelude.{ℕ}
+
+abbrev pub open_brace_byte : ℕ
+open_brace_byte = 0x7B
+
+abbrev pub close_brace_byte : ℕ
+close_brace_byte = 0x7D
+
+abbrev pub open_bracket_byte : ℕ
+open_bracket_byte = 0x28
+
+abbrev pub close_bracket_byte : ℕ
+close_bracket_byte = 0x29
+
+abbrev pub equals_byte : ℕ
+equals_byte = 0x3D
+
+abbrev pub comma_byte : ℕ
+comma_byte = 0x2C
+
+abbrev pub semicolon_byte : ℕ
+semicolon_byte = 0x3B
+
+abbrev pub star_byte : ℕ
+star_byte = 0x2A
+
+abbrev pub dollar_byte : ℕ
+dollar_byte = 0x24
