@@ -1,5 +1,5 @@
 -- What the event service answers.
-use Rattle.std.specs.Prelude.{ℕ, zero, suc, ◌+◌, ◌==◌, nat_lt, None, Some}
+use Rattle.std.specs.Prelude.{ℕ, zero, suc, ◌+◌, ◌==◌, nat_lt, if◌then◌else◌, None, Some}
 use Rattle.std.specs.declared.option.Option.{Option}
 use Rattle.sg_base.specs.declared.reply.Code.TheVariants.{NotFound, Overflow}
 use Rattle.sg_base.specs.declared.reply.Reply.{Reply}
@@ -25,13 +25,33 @@ event_wait_answer count = if count == 0 then None else done 0
 abbrev pub trigger_answer : ℕ → ℕ → Option Reply
 trigger_answer count n = if nat_lt most_count (count + n) then Some (Refused Overflow) else done 0
 
--- the answer by the function's number: 1 evt_split, 2 evt_wait, 3 evt_trigger, 4 evt_free; there is no other
+-- the functions of the service, and a number that is none of theirs
+pub data EventFun : Type 0 where
+  event_split_fun : EventFun
+  event_wait_fun : EventFun
+  event_trigger_fun : EventFun
+  event_free_fun : EventFun
+  no_event_fun : EventFun
+
+-- the function of a number: 1 evt_split, 2 evt_wait, 3 evt_trigger, 4 evt_free
+abbrev pub event_fun : ℕ → EventFun
+event_fun (suc zero) = event_split_fun
+event_fun (suc (suc zero)) = event_wait_fun
+event_fun (suc (suc (suc zero))) = event_trigger_fun
+event_fun (suc (suc (suc (suc zero)))) = event_free_fun
+event_fun _ = no_event_fun
+
+-- what is answered by each function
+abbrev pub event_answer_of : EventFun → ℕ → ℕ → ℕ → Option Reply
+event_answer_of event_split_fun given count n = done (given + 1)
+event_answer_of event_wait_fun given count n = event_wait_answer count
+event_answer_of event_trigger_fun given count n = trigger_answer count n
+event_answer_of event_free_fun given count n = done 0
+event_answer_of no_event_fun given count n = Some (Refused NotFound)
+
+-- the answer by the function's number
 abbrev pub event_answer : ℕ → ℕ → ℕ → ℕ → Option Reply
-event_answer (suc zero) given count n = done (given + 1)
-event_answer (suc (suc zero)) given count n = event_wait_answer count
-event_answer (suc (suc (suc zero))) given count n = trigger_answer count n
-event_answer (suc (suc (suc (suc zero)))) given count n = done 0
-event_answer _ given count n = Some (Refused NotFound)
+event_answer fun given count n = event_answer_of (event_fun fun) given count n
 
 abbrev pub event_table : Table
 event_table o call = event_answer call.fun o.given (count_in (row_at o.rows call.desc)) (word_of (arg_at call 0))

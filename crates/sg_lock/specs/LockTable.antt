@@ -1,5 +1,5 @@
 -- What the lock service answers.
-use Rattle.std.specs.Prelude.{ℕ, zero, suc, ◌+◌, ◌==◌, None, Some}
+use Rattle.std.specs.Prelude.{ℕ, zero, suc, ◌+◌, ◌==◌, if◌then◌else◌, None, Some}
 use Rattle.std.specs.declared.option.Option.{Option}
 use Rattle.sg_base.specs.declared.reply.Code.TheVariants.{Held, NotOwner, NotFound}
 use Rattle.sg_base.specs.declared.reply.Reply.{Reply}
@@ -25,13 +25,33 @@ release_answer owner client = if owner == client then done 0 else Some (Refused 
 abbrev pub free_answer : ℕ → Option Reply
 free_answer owner = if owner == 0 then done 0 else Some (Refused Held)
 
--- the answer by the function's number: 1 lock_alloc, 2 lock_take, 3 lock_release, 4 lock_free; there is no other
+-- the functions of the service, and a number that is none of theirs
+pub data LockFun : Type 0 where
+  lock_alloc_fun : LockFun
+  lock_take_fun : LockFun
+  lock_release_fun : LockFun
+  lock_free_fun : LockFun
+  no_lock_fun : LockFun
+
+-- the function of a number: 1 lock_alloc, 2 lock_take, 3 lock_release, 4 lock_free
+abbrev pub lock_fun : ℕ → LockFun
+lock_fun (suc zero) = lock_alloc_fun
+lock_fun (suc (suc zero)) = lock_take_fun
+lock_fun (suc (suc (suc zero))) = lock_release_fun
+lock_fun (suc (suc (suc (suc zero)))) = lock_free_fun
+lock_fun _ = no_lock_fun
+
+-- what is answered by each function
+abbrev pub lock_answer_of : LockFun → ℕ → ℕ → ℕ → Option Reply
+lock_answer_of lock_alloc_fun given owner client = done (given + 1)
+lock_answer_of lock_take_fun given owner client = take_answer owner client
+lock_answer_of lock_release_fun given owner client = release_answer owner client
+lock_answer_of lock_free_fun given owner client = free_answer owner
+lock_answer_of no_lock_fun given owner client = Some (Refused NotFound)
+
+-- the answer by the function's number
 abbrev pub lock_answer : ℕ → ℕ → ℕ → ℕ → Option Reply
-lock_answer (suc zero) given owner client = done (given + 1)
-lock_answer (suc (suc zero)) given owner client = take_answer owner client
-lock_answer (suc (suc (suc zero))) given owner client = release_answer owner client
-lock_answer (suc (suc (suc (suc zero)))) given owner client = free_answer owner
-lock_answer _ given owner client = Some (Refused NotFound)
+lock_answer fun given owner client = lock_answer_of (lock_fun fun) given owner client
 
 abbrev pub lock_table : Table
 lock_table o call = lock_answer call.fun o.given (owner_in (row_at o.rows call.desc)) call.client

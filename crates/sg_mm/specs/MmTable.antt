@@ -1,5 +1,5 @@
 -- What the memory mapping service answers.
-use Rattle.std.specs.Prelude.{ℕ, zero, suc, ◌+◌, ◌==◌, Bool, ◌&&◌, min, List, None, Some, map, filter}
+use Rattle.std.specs.Prelude.{ℕ, zero, suc, ◌+◌, ◌==◌, Bool, ◌&&◌, if◌then◌else◌, min, List, None, Some, map, filter}
 use Rattle.std.specs.declared.option.Option.{Option}
 use Rattle.std.specs.List.{list_any, reduce}
 use Rattle.sg_base.specs.declared.call.Call.{Call}
@@ -39,14 +39,33 @@ find_answer (Some id) = done id
 abbrev pub number_at : Call → ℕ → ℕ
 number_at call k = word_of (arg_at call k)
 
--- the answer by the function's number: 1 mman_get_page, 2 mman_alias_page, 3 mman_release_page, 4 mman_find; there is no
--- other
+-- the functions of the service, and a number that is none of theirs
+pub data MmFun : Type 0 where
+  mm_get_page_fun : MmFun
+  mm_alias_page_fun : MmFun
+  mm_release_page_fun : MmFun
+  mm_find_fun : MmFun
+  no_mm_fun : MmFun
+
+-- the function of a number: 1 mman_get_page, 2 mman_alias_page, 3 mman_release_page, 4 mman_find
+abbrev pub mm_fun : ℕ → MmFun
+mm_fun (suc zero) = mm_get_page_fun
+mm_fun (suc (suc zero)) = mm_alias_page_fun
+mm_fun (suc (suc (suc zero))) = mm_release_page_fun
+mm_fun (suc (suc (suc (suc zero)))) = mm_find_fun
+mm_fun _ = no_mm_fun
+
+-- what is answered by each function
+abbrev pub mm_answer_of : MmFun → Object → Call → Option Reply
+mm_answer_of mm_get_page_fun o call = page_answer o.rows o.given call.client (number_at call 0)
+mm_answer_of mm_alias_page_fun o call = page_answer o.rows o.given (number_at call 0) (number_at call 1)
+mm_answer_of mm_release_page_fun o call = done 0
+mm_answer_of mm_find_fun o call = find_answer (page_at o.rows (number_at call 0) (number_at call 1))
+mm_answer_of no_mm_fun o call = Some (Refused NotFound)
+
+-- the answer by the function's number
 abbrev pub mm_answer : ℕ → Object → Call → Option Reply
-mm_answer (suc zero) o call = page_answer o.rows o.given call.client (number_at call 0)
-mm_answer (suc (suc zero)) o call = page_answer o.rows o.given (number_at call 0) (number_at call 1)
-mm_answer (suc (suc (suc zero))) o call = done 0
-mm_answer (suc (suc (suc (suc zero)))) o call = find_answer (page_at o.rows (number_at call 0) (number_at call 1))
-mm_answer _ o call = Some (Refused NotFound)
+mm_answer fun o call = mm_answer_of (mm_fun fun) o call
 
 abbrev pub mm_table : Table
 mm_table o call = mm_answer call.fun o call

@@ -1,5 +1,5 @@
 -- What the file service answers.
-use Rattle.std.specs.Prelude.{ℕ, zero, suc, ◌+◌, ◌==◌, Bool, ◌||◌, nat_lt, List, [], ◌∷◌, ◌++◌, Some, length, take, drop}
+use Rattle.std.specs.Prelude.{ℕ, zero, suc, ◌+◌, ◌==◌, Bool, ◌||◌, nat_lt, if◌then◌else◌, List, [], ◌∷◌, ◌++◌, Some, length, take, drop}
 use Rattle.std.specs.declared.option.Option.{Option}
 use Rattle.std.specs.List.{list_any}
 use Rattle.sg_base.specs.declared.call.Call.{Call}
@@ -9,7 +9,6 @@ use Rattle.sg_base.specs.declared.reply.Reply.TheVariants.{Ok, Refused}
 use Rattle.sg_facts.specs.Track.{row_at, word_of, arg_at}
 use Rattle.sg_facts.specs.Object.{Object, first_text, path_of, file_at, place_of}
 use Rattle.sg_facts.specs.Legal.{Table, done}
-use Rattle.sg_facts.specs.Limits.{most_file, most_path}
 use Rattle.sg_ramfs.specs.RamfsFacts.{tread, twrite}
 
 -- the greatest number of bytes of a name
@@ -56,14 +55,36 @@ seek_answer place = if nat_lt most_file place then Some (Refused TooBig) else do
 abbrev pub file_of : Object → ℕ → List ℕ
 file_of o id = file_at o.files (path_of o.rows id)
 
--- the answer by the function's number: 1 tsplit, 2 tread, 3 twrite, 4 tseek, 5 trelease; there is no other
+-- the functions of the service, and a number that is none of theirs
+pub data RamfsFun : Type 0 where
+  ramfs_split_fun : RamfsFun
+  ramfs_read_fun : RamfsFun
+  ramfs_write_fun : RamfsFun
+  ramfs_seek_fun : RamfsFun
+  ramfs_release_fun : RamfsFun
+  no_ramfs_fun : RamfsFun
+
+-- the function of a number: 1 tsplit, 2 tread, 3 twrite, 4 tseek, 5 trelease
+abbrev pub ramfs_fun : ℕ → RamfsFun
+ramfs_fun (suc zero) = ramfs_split_fun
+ramfs_fun (suc (suc zero)) = ramfs_read_fun
+ramfs_fun (suc (suc (suc zero))) = ramfs_write_fun
+ramfs_fun (suc (suc (suc (suc zero)))) = ramfs_seek_fun
+ramfs_fun (suc (suc (suc (suc (suc zero))))) = ramfs_release_fun
+ramfs_fun _ = no_ramfs_fun
+
+-- what is answered by each function
+abbrev pub ramfs_answer_of : RamfsFun → Object → Call → Option Reply
+ramfs_answer_of ramfs_split_fun o call = split_answer o.given (path_of o.rows call.desc) (first_text call.args)
+ramfs_answer_of ramfs_read_fun o call = read_answer (file_of o call.desc) (place_of tread (row_at o.rows call.desc)) (word_of (arg_at call 0))
+ramfs_answer_of ramfs_write_fun o call = write_answer (file_of o call.desc) (place_of twrite (row_at o.rows call.desc)) (first_text call.args)
+ramfs_answer_of ramfs_seek_fun o call = seek_answer (word_of (arg_at call 0))
+ramfs_answer_of ramfs_release_fun o call = done 0
+ramfs_answer_of no_ramfs_fun o call = Some (Refused NotFound)
+
+-- the answer by the function's number
 abbrev pub ramfs_answer : ℕ → Object → Call → Option Reply
-ramfs_answer (suc zero) o call = split_answer o.given (path_of o.rows call.desc) (first_text call.args)
-ramfs_answer (suc (suc zero)) o call = read_answer (file_of o call.desc) (place_of tread (row_at o.rows call.desc)) (word_of (arg_at call 0))
-ramfs_answer (suc (suc (suc zero))) o call = write_answer (file_of o call.desc) (place_of twrite (row_at o.rows call.desc)) (first_text call.args)
-ramfs_answer (suc (suc (suc (suc zero)))) o call = seek_answer (word_of (arg_at call 0))
-ramfs_answer (suc (suc (suc (suc (suc zero))))) o call = done 0
-ramfs_answer _ o call = Some (Refused NotFound)
+ramfs_answer fun o call = ramfs_answer_of (ramfs_fun fun) o call
 
 abbrev pub ramfs_table : Table
 ramfs_table o call = ramfs_answer call.fun o call

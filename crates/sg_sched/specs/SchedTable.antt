@@ -1,5 +1,5 @@
 -- What the thread service answers.
-use Rattle.std.specs.Prelude.{ℕ, zero, suc, ◌+◌, ◌==◌, Bool, ◌&&◌, ◌||◌, nat_lt, max, List, [], ◌∷◌, None, Some, map, filter}
+use Rattle.std.specs.Prelude.{ℕ, zero, suc, ◌+◌, ◌==◌, Bool, ◌&&◌, ◌||◌, nat_lt, if◌then◌else◌, max, List, [], ◌∷◌, None, Some, map, filter}
 use Rattle.std.specs.declared.option.Option.{Option}
 use Rattle.std.specs.List.{fold, reduce}
 use Rattle.sg_base.specs.declared.call.Call.{Call}
@@ -53,18 +53,45 @@ abbrev pub next_answer : Option Row → Option Reply
 next_answer None = Some (Refused NotFound)
 next_answer (Some r) = done r.id
 
--- the answer by the function's number: 1 sched_create_thd, 2 sched_yield, 3 sched_sleep, 4 sched_wakeup, 5 sched_wait,
--- 6 sched_next, 7 sched_place, 8 sched_exit; there is no other
+-- the functions of the service, and a number that is none of theirs
+pub data SchedFun : Type 0 where
+  sched_create_thd_fun : SchedFun
+  sched_yield_fun : SchedFun
+  sched_sleep_fun : SchedFun
+  sched_wakeup_fun : SchedFun
+  sched_wait_fun : SchedFun
+  sched_next_fun : SchedFun
+  sched_place_fun : SchedFun
+  sched_exit_fun : SchedFun
+  no_sched_fun : SchedFun
+
+-- the function of a number: 1 sched_create_thd, 2 sched_yield, 3 sched_sleep, 4 sched_wakeup, 5 sched_wait, 6 sched_next, 7 sched_place, 8 sched_exit
+abbrev pub sched_fun : ℕ → SchedFun
+sched_fun (suc zero) = sched_create_thd_fun
+sched_fun (suc (suc zero)) = sched_yield_fun
+sched_fun (suc (suc (suc zero))) = sched_sleep_fun
+sched_fun (suc (suc (suc (suc zero)))) = sched_wakeup_fun
+sched_fun (suc (suc (suc (suc (suc zero))))) = sched_wait_fun
+sched_fun (suc (suc (suc (suc (suc (suc zero)))))) = sched_next_fun
+sched_fun (suc (suc (suc (suc (suc (suc (suc zero))))))) = sched_place_fun
+sched_fun (suc (suc (suc (suc (suc (suc (suc (suc zero)))))))) = sched_exit_fun
+sched_fun _ = no_sched_fun
+
+-- what is answered by each function
+abbrev pub sched_answer_of : SchedFun → Object → Call → Option Reply
+sched_answer_of sched_create_thd_fun o call = ranked (o.given + 1) (next_rank o.rows)
+sched_answer_of sched_yield_fun o call = ranked 0 (next_rank o.rows)
+sched_answer_of sched_sleep_fun o call = done 0
+sched_answer_of sched_wakeup_fun o call = done 0
+sched_answer_of sched_wait_fun o call = sched_wait_answer (state_in (row_at o.rows call.desc))
+sched_answer_of sched_next_fun o call = next_answer (first_ready o.rows)
+sched_answer_of sched_place_fun o call = done 0
+sched_answer_of sched_exit_fun o call = done 0
+sched_answer_of no_sched_fun o call = Some (Refused NotFound)
+
+-- the answer by the function's number
 abbrev pub sched_answer : ℕ → Object → Call → Option Reply
-sched_answer (suc zero) o call = ranked (o.given + 1) (next_rank o.rows)
-sched_answer (suc (suc zero)) o call = ranked 0 (next_rank o.rows)
-sched_answer (suc (suc (suc zero))) o call = done 0
-sched_answer (suc (suc (suc (suc zero)))) o call = done 0
-sched_answer (suc (suc (suc (suc (suc zero))))) o call = sched_wait_answer (state_in (row_at o.rows call.desc))
-sched_answer (suc (suc (suc (suc (suc (suc zero)))))) o call = next_answer (first_ready o.rows)
-sched_answer (suc (suc (suc (suc (suc (suc (suc zero))))))) o call = done 0
-sched_answer (suc (suc (suc (suc (suc (suc (suc (suc zero)))))))) o call = done 0
-sched_answer _ o call = Some (Refused NotFound)
+sched_answer fun o call = sched_answer_of (sched_fun fun) o call
 
 abbrev pub sched_table : Table
 sched_table o call = sched_answer call.fun o call
