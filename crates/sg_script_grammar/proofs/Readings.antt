@@ -9,13 +9,13 @@ use Rattle.sg_lex.proofs.Answers.{may_answer as any_may, only_value, only_byte, 
 use Rattle.sg_script_grammar.specs.declared.error.ParseError.{ParseError}
 use Rattle.sg_script_grammar.specs.declared.error.ParseError.TheVariants.{NoMemory, Syntax}
 use Rattle.sg_script_grammar.specs.declared.tree.Part.{Part}
-use Rattle.sg_script_grammar.specs.Sentence.{IsScript}
+use Rattle.sg_script_grammar.specs.Sentence.{IsScriptSentence}
 use Rattle.sg_script_grammar.specs.Parses.{ScriptParsesTo}
 use Rattle.sg_script_grammar.specs.Inside.States.{ScriptState, script_start, scripts}
 use Rattle.sg_script_grammar.proofs.Runs.{just}
 
 pub may_answer : (length : ℕ) (answers : List Answer) → ScriptParsesTo answers length (read_from scripts length script_start answers)
-may_answer length answers = any_may scripts IsScript just answers length (ScriptParsesTo answers length) (record {
+may_answer length answers = any_may scripts IsScriptSentence just answers length (ScriptParsesTo answers length) (record {
   value = λ parts f. f;
   byte = λ place f. inl f;
   token = λ place f. inr (inl f);
@@ -24,14 +24,14 @@ may_answer length answers = any_may scripts IsScript just answers length (Script
 
 pub only_answer : (length : ℕ) (answers : List Answer) (other : Result (List Part) ParseError) → ScriptParsesTo answers length other → other ≢ Err NoMemory
     → read_from scripts length script_start answers ≡ other
-only_answer length answers (Ok parts) h n = only_value scripts IsScript just answers length parts h
+only_answer length answers (Ok parts) h n = only_value scripts IsScriptSentence just answers length parts h
 only_answer length answers (Err NoMemory) h n = absurd (n refl)
 only_answer length answers (Err (Syntax place)) h n =
     elim h [
-      | inl f ↦ only_byte scripts IsScript just answers length place f
+      | inl f ↦ only_byte scripts IsScriptSentence just answers length place f
       | inr g ↦ elim g [
-        | inl f ↦ only_token scripts IsScript just answers length place f
-        | inr f ↦ only_end scripts IsScript just answers length place f
+        | inl f ↦ only_token scripts IsScriptSentence just answers length place f
+        | inr f ↦ only_end scripts IsScriptSentence just answers length place f
       ]
     ]
 

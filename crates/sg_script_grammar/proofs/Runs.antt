@@ -11,7 +11,7 @@ use Rattle.sg_script_grammar.specs.declared.tree.WrittenArg.TheVariants.{Number 
 use Rattle.sg_script_grammar.specs.declared.tree.Part.{Part}
 use Rattle.sg_script_grammar.specs.Spelling.{Spelling}
 use Rattle.sg_script_grammar.specs.Pieces.{ScriptPiece, number, mark, IsScriptPiece}
-use Rattle.sg_script_grammar.specs.Sentence.{IsScript}
+use Rattle.sg_script_grammar.specs.Sentence.{IsScriptSentence}
 use Rattle.sg_script_grammar.specs.Inside.States.{ScriptState, dead, due, want, argument, bracketed, listed, body, counts, script, script_start, step, parts_at, scripts}
 use Rattle.sg_script_grammar.proofs.Basics.{none_some, some_is, made, if_then, bytes_same}
 use Rattle.sg_script_grammar.proofs.Thens.{parts_are}
@@ -88,22 +88,22 @@ completed (script parts) f h = record { tokens = []; parts = parts; runs = refl 
 
 -- ---- sentences
 
-pub reached : (tokens : List Lexeme) (parts : List Part) → IsScript tokens parts → Runs scripts script_start tokens (script parts)
+pub reached : (tokens : List Lexeme) (parts : List Part) → IsScriptSentence tokens parts → Runs scripts script_start tokens (script parts)
 reached tokens parts h = parts_go parts [] tokens (subst (ArePieces IsScriptPiece tokens) (parts_are parts) h)
 
-pub sentence_of : (tokens : List Lexeme) (parts : List Part) → Runs scripts script_start tokens (script parts) → IsScript tokens parts
+pub sentence_of : (tokens : List Lexeme) (parts : List Part) → Runs scripts script_start tokens (script parts) → IsScriptSentence tokens parts
 sentence_of tokens parts h =
     let s = read_to tokens (script parts) h in
     subst (ArePieces IsScriptPiece tokens) (sym (append-nil s.pieces) ∙ s.has [] ∙ sym (parts_are parts)) s.are
 
 -- what is read begins a sentence
-pub begins_of : (tokens : List Lexeme) (end : ScriptState) → Runs scripts script_start tokens end → Begins IsScript tokens
+pub begins_of : (tokens : List Lexeme) (end : ScriptState) → Runs scripts script_start tokens end → Begins IsScriptSentence tokens
 begins_of tokens end h =
     let c = completed end _ (read_to tokens end h).has in
     (c.tokens, c.parts, sentence_of (tokens ++ c.tokens) c.parts (runs-append scripts script_start end (script c.parts) tokens c.tokens h c.runs))
 
 -- the automaton reads just the scripts
-pub just : ReadsJust ScriptState (List Part) ParseError scripts IsScript
+pub just : ReadsJust ScriptState (List Part) ParseError scripts IsScriptSentence
 just = record {
   reached = λ tokens parts is. record { end = script parts; runs = reached tokens parts is; is = script_at parts };
   sentence_of = λ tokens parts end runs is. sentence_of tokens parts (subst (Runs scripts script_start tokens) (at_script end parts is) runs);

@@ -6,14 +6,14 @@ use Rattle.sg_lex.specs.Tokens.{Answer, answers_of}
 use Rattle.sg_script_grammar.specs.declared.error.ParseError.{ParseError}
 use Rattle.sg_script_grammar.specs.declared.error.ParseError.TheVariants.{NoMemory, Syntax}
 use Rattle.sg_script_grammar.specs.declared.tree.Part.{Part}
-use Rattle.sg_script_grammar.specs.Sentence.{IsScript}
+use Rattle.sg_script_grammar.specs.Sentence.{IsScriptSentence}
 
 -- what may be answered where a lexer answers so on a text of that length; out of memory may be answered at any time
 abbrev pub ScriptParsesTo : List Answer → ℕ → Result (List Part) ParseError → Type 0
-ScriptParsesTo answers end (Ok parts) = Accepts (List Part) IsScript answers parts
+ScriptParsesTo answers end (Ok parts) = Accepts (List Part) IsScriptSentence answers parts
 ScriptParsesTo answers end (Err NoMemory) = Unit {0}
 ScriptParsesTo answers end (Err (Syntax place)) =
-    FailsAtByte (List Part) IsScript answers place ⊎ (FailsAtToken (List Part) IsScript answers place ⊎ FailsAtEnd (List Part) IsScript answers end place)
+    FailsAtByte (List Part) IsScriptSentence answers place ⊎ (FailsAtToken (List Part) IsScriptSentence answers place ⊎ FailsAtEnd (List Part) IsScriptSentence answers end place)
 
 -- what a parser may answer on a text
 abbrev pub Parses : List ℕ → Result (List Part) ParseError → Type 0

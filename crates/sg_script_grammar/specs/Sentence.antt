@@ -46,5 +46,5 @@ part_pieces (Stop at numbers) = fixed (codes "stop") at ∷ numbers_pieces numbe
 -- ---- scripts
 
 -- the tokens are a script of these parts: they are, one by one, what the parts want
-abbrev pub IsScript : List Lexeme → List Part → Type 0
-IsScript tokens parts = ArePieces IsScriptPiece tokens (flat_map part_pieces parts)
+abbrev pub IsScriptSentence : List Lexeme → List Part → Type 0
+IsScriptSentence tokens parts = ArePieces IsScriptPiece tokens (flat_map part_pieces parts)

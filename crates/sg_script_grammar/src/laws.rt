@@ -6,11 +6,11 @@ ghost use Rattle.sg_script_grammar.specs.declared.error.ParseError.{ParseError};
 ghost use Rattle.sg_script_grammar.specs.declared.error.ParseError.TheVariants.{NoMemory as no_memory};
 ghost use Rattle.sg_script_grammar.specs.declared.tree.Part.{Part};
 ghost use Rattle.sg_script_grammar.specs.Parses.{Parses};
-ghost use Rattle.sg_script_grammar.specs.Sentence.{IsScript};
+ghost use Rattle.sg_script_grammar.specs.Sentence.{IsScriptSentence};
 
 /// A script has one list of parts.
 pub fn one_list_of_parts()
-    ensures { (tokens : List Lexeme) (one other : List Part) → IsScript tokens one → IsScript tokens other → one ≡ other }
+    ensures { (tokens : List Lexeme) (one other : List Part) → IsScriptSentence tokens one → IsScriptSentence tokens other → one ≡ other }
 {}
 
 /// A text has just one answer, out of memory aside: the parts of a script, or the one error at the one place.
