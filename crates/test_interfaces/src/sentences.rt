@@ -36,8 +36,14 @@ static ALONE: [Case; 12] = [
     (b"service_global_info == {", Syntax(21)),
     (b"service_global_info={service=sm_keep", Syntax(29)),
     (b"service_global_info={service=desc", Syntax(29)),
-    (b"service_global_info={service=x,desc_has_parent=x", Syntax(47)),
-    (b"service_global_info={service=x,desc_close=refuse", Syntax(31)),
+    (
+        b"service_global_info={service=x,desc_has_parent=x",
+        Syntax(47),
+    ),
+    (
+        b"service_global_info={service=x,desc_close=refuse",
+        Syntax(31),
+    ),
     (b"service_global_info={service=17", Syntax(29)),
     (b"service_global_info={service=x /* never", Lex(31)),
 ];
@@ -48,8 +54,14 @@ const HEAD: usize = 202;
 static BEHIND_FACTS: [Case; 38] = [
     (b"", Tree),
     (b"sm_block(f); sm_block(f);", Tree),
-    (b"resc_data(f); sm_needs_all(f); sm_query(f); sm_keep(f); sm_wakeup(f);", Tree),
-    (b"sm_state(f, g);desc_data_clear(f, x);desc_data_sub(f, x);sm_recover(f,g);", Tree),
+    (
+        b"resc_data(f); sm_needs_all(f); sm_query(f); sm_keep(f); sm_wakeup(f);",
+        Tree,
+    ),
+    (
+        b"sm_state(f, g);desc_data_clear(f, x);desc_data_sub(f, x);sm_recover(f,g);",
+        Tree,
+    ),
     (b"sm_block(f, g);", Syntax(10)),
     (b"sm_state(f);", Syntax(10)),
     (b"sm_block(sm_block);", Syntax(9)),
@@ -69,7 +81,10 @@ static BEHIND_FACTS: [Case; 38] = [
     (b"int f(c);", Syntax(7)),
     (b"int f(a b c d);", Tree),
     (b"int f(a b,);", Syntax(10)),
-    (b"int f(a desc(x), a b parent_desc(y), a *desc_data(z), a **desc_data_add(w));", Tree),
+    (
+        b"int f(a desc(x), a b parent_desc(y), a *desc_data(z), a **desc_data_add(w));",
+        Tree,
+    ),
     (b"int f(desc(x));", Syntax(6)),
     (b"int f(a desc x);", Syntax(13)),
     (b"int f(a desc(desc));", Syntax(13)),
@@ -132,7 +147,10 @@ fn fronts_are_sentences_where_a_statement_ends(rt: HostRuntime) -> Result<(), Fa
 fn long_texts_of_one_kind_are_refused(rt: HostRuntime) -> Result<(), Fail> {
     for (byte, want) in [(b'a', 0), (b'7', 0), (b'(', 0), (b' ', 65536)] {
         let text = vec![in rt.alloc(); byte; 65536]?;
-        assert!(rt; answer_on(rt.alloc(), text.as_slice()) == Syntax(want), "on {byte}");
+        assert!(rt;
+            answer_on(rt.alloc(), text.as_slice()) == Syntax(want),
+            "on {byte}"
+        );
     }
     Ok(())
 }

@@ -19,8 +19,22 @@ static TOKENS: [Case; 16] = [
     (b"007", &[(Number, 0, 3)], None),
     (b"12ab", &[(Number, 0, 2), (Word, 2, 2)], None),
     (b"1_", &[(Number, 0, 1), (Word, 1, 1)], None),
-    (b"{}()", &[(Mark, 0, 1), (Mark, 1, 1), (Mark, 2, 1), (Mark, 3, 1)], None),
-    (b"f(a);", &[(Word, 0, 1), (Mark, 1, 1), (Word, 2, 1), (Mark, 3, 1), (Mark, 4, 1)], None),
+    (
+        b"{}()",
+        &[(Mark, 0, 1), (Mark, 1, 1), (Mark, 2, 1), (Mark, 3, 1)],
+        None,
+    ),
+    (
+        b"f(a);",
+        &[
+            (Word, 0, 1),
+            (Mark, 1, 1),
+            (Word, 2, 1),
+            (Mark, 3, 1),
+            (Mark, 4, 1),
+        ],
+        None,
+    ),
     (b"\"\"", &[(Text, 0, 2)], None),
     (b"\"// ~\\\"x", &[(Text, 0, 7), (Word, 7, 1)], None),
     (b"a \"b", &[(Word, 0, 1)], Some(2)),
@@ -70,7 +84,10 @@ fn try_each(rt: &impl Abort, cases: &[Case]) {
             let faults = matches!(lexer.next(), Some(Err(LexFault { at })) if at == *place);
             assert!(rt; faults, "a fault at {place} of {text:?}");
         }
-        assert!(rt; lexer.next().is_none() && lexer.next().is_none(), "nothing more of {text:?}");
+        assert!(rt;
+            lexer.next().is_none() && lexer.next().is_none(),
+            "nothing more of {text:?}"
+        );
     }
 }
 

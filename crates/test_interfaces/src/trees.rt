@@ -32,7 +32,10 @@ fn canonical_texts_come_back(rt: HostRuntime) -> Result<(), Fail> {
         (SCHED, 29),
     ] {
         let tree = parse(rt.alloc(), text)?;
-        assert!(rt; tree.statements.len() == count, "a text of {count} statements");
+        assert!(rt;
+            tree.statements.len() == count,
+            "a text of {count} statements"
+        );
         let printed = print(rt.alloc(), &tree)?;
         assert!(rt; printed.as_slice() == text, "a text of {count} statements");
     }
@@ -53,11 +56,13 @@ fn comments_and_blanks_are_dropped(rt: HostRuntime) -> Result<(), Fail> {
 #[test]
 fn names_keep_their_bytes_and_places(rt: HostRuntime) -> Result<(), Fail> {
     let tree = parse(rt.alloc(), RAMFS)?;
-    let Some(Statement::Proto {
-        ret: Ret::Add { ty, field },
-        name,
-        ..
-    }) = tree.statements.get(13)
+    let Some(
+        Statement::Proto {
+            ret: Ret::Add { ty, field },
+            name,
+            ..
+        },
+    ) = tree.statements.get(13)
     else {
         return Err("no prototype that adds")?;
     };

@@ -25,9 +25,15 @@ static CASES: [Case; 46] = [
     (b"stop;", Some(Ok(1))),
     (b"setup { f(\"a\", $2, 007); }", Some(Ok(1))),
     (b"setup { f(/* none */); } // done", Some(Ok(1))),
-    (b"setup { setup(); desc(); client(1); stop(); schedule(); }", Some(Ok(1))),
+    (
+        b"setup { setup(); desc(); client(1); stop(); schedule(); }",
+        Some(Ok(1)),
+    ),
     (b"stop 1; setup { } setup { }", Some(Ok(3))),
-    (b"setup { } client 1 { } client 2 { f(); } schedule 1 2; stop 3;", Some(Ok(5))),
+    (
+        b"setup { } client 1 { } client 2 { f(); } schedule 1 2; stop 3;",
+        Some(Ok(5)),
+    ),
     (b"{", Some(Err(0))),
     (b"\"setup\"", Some(Err(0))),
     (b"setup { } }", Some(Err(10))),
@@ -91,11 +97,10 @@ fn try_spelt(rt: &impl Abort, spelt: &[&Spelled<'_>], want: &[(&'static [u8], us
 fn parts_keep_what_is_spelt_and_where(rt: HostRuntime) -> Result<(), Fail> {
     let text = b" client 64 { f(\"a b\", $2, 007); }schedule 1 002;";
     let parts = parse(rt.alloc(), text)?;
-    let (
-        Some(Part::Client { at, number, calls }),
-        Some(Part::Schedule { at: place, numbers }),
-    ) = (parts.get(0), parts.get(1))
-    else {
+    let (Some(Part::Client { at, number, calls }), Some(Part::Schedule { at: place, numbers })) = (
+        parts.get(0),
+        parts.get(1),
+    ) else {
         return Err("other parts")?;
     };
     assert!(rt; *at == 1 && *place == 34);
@@ -104,8 +109,7 @@ fn parts_keep_what_is_spelt_and_where(rt: HostRuntime) -> Result<(), Fail> {
         Some(WrittenArg::Text(first)),
         Some(WrittenArg::Back(second)),
         Some(WrittenArg::Number(third)),
-    ) = (call.args.get(0), call.args.get(1), call.args.get(2))
-    else {
+    ) = (call.args.get(0), call.args.get(1), call.args.get(2)) else {
         return Err("other arguments")?;
     };
     try_spelt(&rt, &[number, &call.name], &[(b"64", 8), (b"f", 13)]);
