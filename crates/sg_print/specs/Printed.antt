@@ -11,10 +11,7 @@ use Rattle.sg_grammar.specs.declared.tree.TypeName.{TypeName}
 use Rattle.sg_grammar.specs.declared.tree.Param.{Param}
 use Rattle.sg_grammar.specs.declared.tree.Tree.{Tree}
 use Rattle.sg_grammar.specs.Named.{Named}
-
--- each line ends with a line feed
-abbrev pub new_line : List ℕ
-new_line = 0x0A ∷ []
+use Rattle.sg_facts.specs.Words.{line_end}
 
 -- names, with a space between two
 abbrev pub names_text : List Named → List ℕ
@@ -55,24 +52,24 @@ ret_text (Add ty field) = returned_text (codes "desc_data_retval_add") ty field
 
 -- the line of a statement
 abbrev pub statement_text : Statement → List ℕ
-statement_text (One word fun) = concat (word.bytes ∷ codes "(" ∷ fun.bytes ∷ codes ");" ∷ new_line ∷ [])
+statement_text (One word fun) = concat (word.bytes ∷ codes "(" ∷ fun.bytes ∷ codes ");" ∷ line_end ∷ [])
 statement_text (Two word first second) =
-    concat (word.bytes ∷ codes "(" ∷ first.bytes ∷ codes ", " ∷ second.bytes ∷ codes ");" ∷ new_line ∷ [])
+    concat (word.bytes ∷ codes "(" ∷ first.bytes ∷ codes ", " ∷ second.bytes ∷ codes ");" ∷ line_end ∷ [])
 statement_text (Proto ret n params) =
-    concat (ret_text ret ∷ n.bytes ∷ codes "(" ∷ params_text params ∷ codes ");" ∷ new_line ∷ [])
+    concat (ret_text ret ∷ n.bytes ∷ codes "(" ∷ params_text params ∷ codes ");" ∷ line_end ∷ [])
 
 -- the lines of the facts: each fact stands behind four spaces
 abbrev pub facts_text : Facts → List ℕ
 facts_text f = concat (
-    codes "service_global_info = {" ∷ new_line
-    ∷ codes "    service = " ∷ f.service.bytes ∷ codes "," ∷ new_line
-    ∷ codes "    desc_has_parent = " ∷ f.parent.bytes ∷ codes "," ∷ new_line
-    ∷ codes "    desc_close = " ∷ f.close.bytes ∷ codes "," ∷ new_line
-    ∷ codes "    desc_is_global = " ∷ f.global.bytes ∷ codes "," ∷ new_line
-    ∷ codes "    desc_block = " ∷ f.block.bytes ∷ codes "," ∷ new_line
-    ∷ codes "    desc_has_data = " ∷ f.has_data.bytes ∷ codes "," ∷ new_line
-    ∷ codes "    resc_has_data = " ∷ f.resc_data.bytes ∷ new_line
-    ∷ codes "};" ∷ new_line ∷ [])
+    codes "service_global_info = {" ∷ line_end
+    ∷ codes "    service = " ∷ f.service.bytes ∷ codes "," ∷ line_end
+    ∷ codes "    desc_has_parent = " ∷ f.parent.bytes ∷ codes "," ∷ line_end
+    ∷ codes "    desc_close = " ∷ f.close.bytes ∷ codes "," ∷ line_end
+    ∷ codes "    desc_is_global = " ∷ f.global.bytes ∷ codes "," ∷ line_end
+    ∷ codes "    desc_block = " ∷ f.block.bytes ∷ codes "," ∷ line_end
+    ∷ codes "    desc_has_data = " ∷ f.has_data.bytes ∷ codes "," ∷ line_end
+    ∷ codes "    resc_has_data = " ∷ f.resc_data.bytes ∷ line_end
+    ∷ codes "};" ∷ line_end ∷ [])
 
 -- the facts, and then each statement on a line of its own, in order
 abbrev pub printed : Tree → List ℕ

@@ -12,18 +12,17 @@ use Rattle.sg_facts.specs.declared.tables.WalkLine.{WalkLine}
 use Rattle.sg_facts.specs.Facts.{Facts, Field, Fun, fun_at}
 use Rattle.sg_facts.specs.Interface.{Declared, declares, has_pair}
 use Rattle.sg_facts.specs.Tables.{Compiled}
-use Rattle.sg_facts.specs.Words.{parents_word, close_word, flag_word, field_name}
-use Rattle.sg_print.specs.Printed.{new_line}
+use Rattle.sg_facts.specs.Words.{parents_word, close_word, flag_word, field_name, line_end}
 
 -- ---- facts
 
 -- the lines of the service and of its facts
 abbrev pub facts_lines : Facts → List ℕ
 facts_lines f = concat (
-    codes "service " ∷ f.name ∷ new_line
+    codes "service " ∷ f.name ∷ line_end
     ∷ codes "facts parent=" ∷ parents_word f.parents ∷ codes " close=" ∷ close_word f.subtree
     ∷ codes " global=" ∷ flag_word f.global ∷ codes " block=" ∷ flag_word f.block ∷ codes " desc_data=" ∷ flag_word f.has_data
-    ∷ codes " resc_data=" ∷ flag_word f.resc_data ∷ new_line ∷ [])
+    ∷ codes " resc_data=" ∷ flag_word f.resc_data ∷ line_end ∷ [])
 
 -- ---- functions
 
@@ -93,7 +92,7 @@ called_text n f = concat (codes "fun " ∷ decimal n ∷ codes " " ∷ f.name �
 
 -- what a function leaves: its state, and what it does to fields
 abbrev pub left_text : Facts → Fun → List ℕ
-left_text facts f = concat (codes " -> " ∷ state_word facts.funs f ∷ effects_text facts.fields f ∷ new_line ∷ [])
+left_text facts f = concat (codes " -> " ∷ state_word facts.funs f ∷ effects_text facts.fields f ∷ line_end ∷ [])
 
 -- the line of a function with its number
 abbrev pub fun_line : Facts → ℕ → Fun → List ℕ
@@ -116,7 +115,7 @@ fun_lines i = flat_map (λ n. if declares i n then fun_line i.facts n (fun_at i.
 
 -- the line of a pair of functions behind a word
 abbrev pub pair_line : List ℕ → List Fun → ℕ → ℕ → List ℕ
-pair_line word funs a b = concat (word ∷ codes " " ∷ (fun_at funs a).name ∷ codes " " ∷ (fun_at funs b).name ∷ new_line ∷ [])
+pair_line word funs a b = concat (word ∷ codes " " ∷ (fun_at funs a).name ∷ codes " " ∷ (fun_at funs b).name ∷ line_end ∷ [])
 
 -- the lines of the listed pairs with this first function, by the second number
 abbrev pub pairs_behind : List ℕ → List Fun → List (ℕ × ℕ) → ℕ → List ℕ
@@ -144,7 +143,7 @@ walk_names funs walk = flat_map (λ n. codes " " ++ (fun_at funs n).name) walk
 abbrev pub walk_line : Facts → WalkLine → List ℕ
 walk_line facts line = concat (
     codes "walk " ∷ (fun_at facts.funs line.made).name ∷ codes " " ∷ (fun_at facts.funs line.state).name
-    ∷ codes " " ∷ set_word (set_names facts.fields line.mask) ∷ codes " :" ∷ walk_names facts.funs line.walk ∷ new_line ∷ [])
+    ∷ codes " " ∷ set_word (set_names facts.fields line.mask) ∷ codes " :" ∷ walk_names facts.funs line.walk ∷ line_end ∷ [])
 
 -- the text of tables: the facts; the declared functions; the transitions, and the recover steps; the walks in their order
 abbrev pub tables_text : Compiled → List ℕ

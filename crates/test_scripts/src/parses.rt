@@ -103,7 +103,7 @@ fn parts_keep_what_is_spelt_and_where(rt: HostRuntime) -> Result<(), Fail> {
     ) else {
         return Err("other parts")?;
     };
-    assert!(rt; *at == 1 && *place == 34);
+    assert!(rt; *at == 1 && *place == 33);
     let call = calls.get(0).ok_or("no call")?;
     let (
         Some(WrittenArg::Text(first)),
@@ -121,6 +121,6 @@ fn parts_keep_what_is_spelt_and_where(rt: HostRuntime) -> Result<(), Fail> {
     let (Some(one), Some(two)) = (numbers.get(0), numbers.get(1)) else {
         return Err("other numbers")?;
     };
-    try_spelt(&rt, &[one, two], &[(b"1", 43), (b"002", 45)]);
+    try_spelt(&rt, &[one, two], &[(b"1", 42), (b"002", 44)]);
     Ok(())
 }
