@@ -47,7 +47,10 @@ impl Pairs<'_> {
         ensures { result ≡ has_pair_at self.now.pairs.now
             (fun_number (facts_of self.now.shape.now).funs first.now) (fun_number (facts_of self.now.shape.now).funs second.now) }
     {
-        match (fun_number(self.shape, first), fun_number(self.shape, second)) {
+        match (
+            fun_number(self.shape, first),
+            fun_number(self.shape, second),
+        ) {
             (Some(first), Some(second)) => has_pair(self.pairs, first, second),
             _ => false,
         }

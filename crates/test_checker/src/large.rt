@@ -312,7 +312,9 @@ fn setting_text(alloc: Global) -> Result<Vec<u8>, Fail> {
         text.extend_from_slice(fun.name)?;
         text.extend_from_slice(b");\nlong ")?;
         text.extend_from_slice(fun.name)?;
-        text.extend_from_slice(b"(spdid_t s, long desc_data(a), long desc_data(b), long desc_data(c), long desc_data(d));\n")?;
+        text.extend_from_slice(
+            b"(spdid_t s, long desc_data(a), long desc_data(b), long desc_data(c), long desc_data(d));\n",
+        )?;
     }
     add_pairs(&mut text, b"sm_transition(", &SETTING, &SETTING)?;
     add_pairs(&mut text, b"sm_recover(", &SETTING, &SETTING)?;

@@ -2,7 +2,9 @@
 
 use crate::answers::Case;
 use crate::edits::Edit::{Twice, Without};
-use sg_check::CheckKind::{DuplicateName, NoWalk, UnknownFunction, Unreached, WrongEffect, WrongFlag};
+use sg_check::CheckKind::{
+    DuplicateName, NoWalk, UnknownFunction, Unreached, WrongEffect, WrongFlag,
+};
 
 /// A standard interface as it is.
 pub static AS_IT_IS: [Case; 1] = [(&[], None)];

@@ -185,7 +185,12 @@ fn the_least_walk_is_found(rt: HostRuntime) -> Result<(), Fail> {
         (mm_shape(), 0b1111, &[], &MM_CASES),
         (ramfs_shape(), 0b11111, &[(1, 4)], &RAMFS_CASES),
         (sched_shape(), 0b1111_1111, &[(1, 3), (1, 7)], &SCHED_CASES),
-        (sched_shape(), 0b1011_1111, &[(1, 3), (1, 7)], &UNPLACED_CASES),
+        (
+            sched_shape(),
+            0b1011_1111,
+            &[(1, 3), (1, 7)],
+            &UNPLACED_CASES,
+        ),
         (chain, u32::MAX, &CHAIN_STEPS, &CHAIN_CASES),
         (forks, u32::MAX, &TWO_STEPS, &TWO_CASES),
         (forks, u32::MAX, &SHORTER_STEPS, &SHORTER_CASES),
