@@ -13,8 +13,6 @@ mod memory;
 mod reply;
 mod room;
 mod stops;
-#[cfg(test)]
-mod tests;
 mod text;
 mod value;
 

@@ -1,5 +1,5 @@
 -- What a call does to the count of faults and to the bytes of a source or a sink.
-use Rattle.std.specs.Prelude.{ℕ, ◌-◌, ◌^◌, ◌<◌, ◌≤◌, ◌≡◌, ◌⊎◌, List, length}
+use Rattle.std.specs.Prelude.{ℕ, ◌+◌, ◌-◌, ◌^◌, ◌<◌, ◌≤◌, ◌≡◌, ◌⊎◌, List, length, min}
 use Rattle.std.specs.Io.KnownBytes.{Consumes}
 use Rattle.std.specs.declared.option.Option.{Option}
 
@@ -7,7 +7,11 @@ use Rattle.std.specs.declared.option.Option.{Option}
 abbrev pub last_count : ℕ
 last_count = 2 ^ 64 - 1
 
--- the count rose; at its end it counts as risen
+-- one more, up to the end of the count
+abbrev pub one_more : ℕ → ℕ
+one_more count = min (count + 1) last_count
+
+-- the count rose; at the end of the count every number counts as risen
 abbrev pub Rose : ℕ → ℕ → Type 0
 Rose old new = (old < new) ⊎ (last_count ≤ new)
 

@@ -1,7 +1,7 @@
 -- What contracts see of a source and a sink in memory, and what each call makes of it.
 use Rattle.std.specs.Prelude.{ℕ, ◌≡◌, ◌+◌, ◌==◌, Bool, List, ◌++◌, min, length, take, drop}
 use Rattle.std.specs.List.{list_any}
-use Rattle.sg_edge.specs.Edge.{last_count}
+use Rattle.sg_edge.specs.Edge.{one_more}
 
 -- how calls go: at most so many bytes each, the numbers of those that fail, how many were made, and how many failed
 pub record Calls : Type 0 where
@@ -13,10 +13,6 @@ pub record Calls : Type 0 where
 -- before the first call
 abbrev pub fresh_calls : ℕ → List ℕ → Calls
 fresh_calls most failing = record { most = most; failing = failing; made = 0; faults = 0 }
-
--- one more, up to the end of the count
-abbrev pub one_more : ℕ → ℕ
-one_more count = min (count + 1) last_count
 
 -- whether the next call is one of those that fail
 abbrev pub next_fails : Calls → Bool

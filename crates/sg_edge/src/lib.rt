@@ -15,8 +15,6 @@ mod sink;
 mod source;
 mod standard;
 mod stops;
-#[cfg(test)]
-mod tests;
 
 pub use gate::{Gate, OpenGate};
 pub use memory::{MemSink, MemSource};

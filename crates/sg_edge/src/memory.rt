@@ -1,9 +1,9 @@
 // A source and a sink in memory, with calls that fail on purpose.
-ghost use Rattle.std.specs.Prelude.{◌≡◌, ◌==◌, ◌↔◌, ◌<◌, ◌≤◌, ◌++◌, [], true, Some, IfOk, IsErr, OnOk, OnErr, length, take, drop, min};
+ghost use Rattle.std.specs.Prelude.{◌≡◌, ◌==◌, ◌↔◌, ◌<◌, ◌≤◌, ◌++◌, [], true, false, Some, IfOk, IsOk, IsErr, OnOk, OnErr, length, take, drop, min};
 ghost use Rattle.std.specs.List.{list_any};
 ghost use Rattle.std.specs.Io.{ReadsAtMost};
 ghost use Rattle.std.specs.Io.KnownBytes.{ReadConsumes, WriteAppends};
-ghost use Rattle.sg_edge.specs.Edge.{Rose, TakesSome, last_count};
+ghost use Rattle.sg_edge.specs.Edge.{Rose, TakesSome, last_count, one_more};
 ghost use Rattle.sg_edge.specs.Memory.{Calls, fresh_calls, next_fails, passed, failed, ReadsFront, WritesFront};
 
 use crate::{Failed, Sink, Source};
@@ -82,7 +82,7 @@ fn is_listed(numbers: &[u32], number: u64) -> bool
     numbers.iter().any(|n| u64::from(*n) == number)
 }
 
-/// A source in memory. It tells its bytes. Contracts see the bytes that are left, and how its reads go.
+/// A source in memory, which tells its bytes. Contracts see the bytes that are left, and how its reads go.
 #[derive(Debug, Drop)]
 pub struct MemSource {
     bytes: Vec<u8>,
@@ -135,6 +135,8 @@ impl Source for MemSource {
         ensures bytes { ReadConsumes (Some self.old.left) (Some self.new.left) result buf.new }
         ensures count { self.old.calls.faults ≤ self.new.calls.faults }
         ensures cause { OnErr result (Rose self.old.calls.faults self.new.calls.faults) }
+        ensures steady { OnOk result (self.new.calls.faults ≡ self.old.calls.faults) }
+        ensures once { OnErr result (self.new.calls.faults ≡ one_more self.old.calls.faults) }
     {
         self.calls.start()?;
         let count = copy_front(&self.bytes[self.at..], buf, self.calls.most());
@@ -156,7 +158,7 @@ fn copy_front(from: &[u8], to: &mut [u8], most: usize) -> usize
     count
 }
 
-/// A sink in memory. It tells its bytes. Contracts see the bytes written, and how its writes go.
+/// A sink in memory, which tells its bytes. Contracts see the bytes written, and how its writes go.
 #[derive(Debug, Drop)]
 pub struct MemSink {
     bytes: Vec<u8>,
@@ -200,16 +202,19 @@ impl Sink for MemSink {
 
     ghost faults = { λ s. s.calls.faults };
 
-    /// Takes as many bytes as it may. It fails at the listed writes and where there is no memory for the bytes, and
-    /// then takes none.
+    /// Takes as many bytes as it may. A listed write fails, and another only where there is no memory for the bytes,
+    /// which an empty piece never needs; a write that fails takes none.
     fn write(&mut self, piece: &[u8]) -> Result<usize, Failed>
         ensures fails { next_fails self.old.calls ≡ true → IsErr result }
+        ensures nothing { next_fails self.old.calls ≡ false → piece.now ≡ [] → IsOk result }
         ensures ok { IfOk result (λ n. WritesFront self.old piece.now n self.new) }
         ensures err { OnErr result (self.new ≡ record { written = self.old.written; calls = failed self.old.calls }) }
         ensures bound { IfOk result (TakesSome piece.now) }
         ensures bytes { WriteAppends (Some self.old.written) (Some self.new.written) result piece.now }
         ensures count { self.old.calls.faults ≤ self.new.calls.faults }
         ensures cause { OnErr result (Rose self.old.calls.faults self.new.calls.faults) }
+        ensures steady { OnOk result (self.new.calls.faults ≡ self.old.calls.faults) }
+        ensures once { OnErr result (self.new.calls.faults ≡ one_more self.old.calls.faults) }
     {
         self.calls.start()?;
         let count = piece.len().min(self.calls.most());

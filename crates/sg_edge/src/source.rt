@@ -1,9 +1,9 @@
 // Where bytes come from.
-ghost use Rattle.std.specs.Prelude.{◌≡◌, ◌+◌, ◌-◌, ◌^◌, ◌<◌, ◌≤◌, ℕ, List, OnErr, IfOk, length};
+ghost use Rattle.std.specs.Prelude.{◌≡◌, ◌≢◌, ◌+◌, ◌-◌, ◌^◌, ◌<◌, ◌≤◌, ℕ, List, OnOk, OnErr, IfOk, length};
 ghost use Rattle.std.specs.declared.option.Option.{Option};
 ghost use Rattle.std.specs.Io.{ReadsAtMost};
 ghost use Rattle.std.specs.Io.KnownBytes.{ReadConsumes, Consumes, IsAtEnd};
-ghost use Rattle.sg_edge.specs.Edge.{Rose, ConsumesAtMost};
+ghost use Rattle.sg_edge.specs.Edge.{Rose, ConsumesAtMost, one_more};
 ghost use Rattle.sg_edge.specs.Intake.{TakesIn};
 
 use sg_base::{Bytes, NoMemory};
@@ -18,16 +18,18 @@ pub trait Source {
     /// The bytes that are still to come, where they are told.
     ghost left: { Self → Option (List ℕ) };
 
-    /// How often it failed: a number that never falls.
+    /// How often a read failed, up to the greatest u64: a number that never falls.
     ghost faults: { Self → ℕ };
 
     /// Reads some bytes to the front of `buf`, and says how many. None for a `buf` with room is the end. After
-    /// `Failed`, for which the count of faults rose, no byte is gone.
+    /// `Failed`, which counts as one fault, no byte is gone. An Ok leaves the count of faults as it was.
     fn read(&mut self, buf: &mut [u8]) -> Result<usize, Failed>
         ensures bound { ReadsAtMost result buf.new }
         ensures bytes { ReadConsumes (left self.old) (left self.new) result buf.new }
         ensures count { faults self.old ≤ faults self.new }
-        ensures cause { OnErr result (Rose (faults self.old) (faults self.new)) };
+        ensures cause { OnErr result (Rose (faults self.old) (faults self.new)) }
+        ensures steady { OnOk result (faults self.new ≡ faults self.old) }
+        ensures once { OnErr result (faults self.new ≡ one_more (faults self.old)) };
 }
 
 /// What was taken in from a source.
@@ -73,11 +75,13 @@ const CHUNK: usize = 4096;
 
 /// Reads a source to its end, up to a limit in bytes: `Whole` with all that it had, at most `limit` bytes; or
 /// `TooLong` once it has given one byte more than `limit`, and no further byte is read. The first failed read ends the
-/// call.
+/// call with `Failed`; after any other answer the count of faults is as it was.
 pub fn read_all<S: Source>(alloc: Global, source: &mut S, limit: usize) -> Result<Intake, ReadError>
     ensures taken { TakesIn limit (S.left source.old) (S.left source.new) result }
     ensures count { S.faults source.old ≤ S.faults source.new }
     ensures cause { result ≡ Err ReadError.Failed → Rose (S.faults source.old) (S.faults source.new) }
+    ensures steady { result ≢ Err ReadError.Failed → S.faults source.new ≡ S.faults source.old }
+    ensures once { result ≡ Err ReadError.Failed → S.faults source.new ≡ one_more (S.faults source.old) }
 {
     let mut bytes = Bytes::new(alloc);
     let mut chunk = [0; CHUNK];

@@ -1,14 +1,14 @@
 // A source and a sink over std's reader and writer: the trusted edge.
-ghost use Rattle.std.specs.Prelude.{◌≡◌, ◌≤◌, ◌+◌, IfOk, OnOk, OnErr, min};
+ghost use Rattle.std.specs.Prelude.{◌≡◌, ◌≤◌, IfOk, OnOk, OnErr};
 ghost use Rattle.std.specs.Io.{ReadsAtMost};
 ghost use Rattle.std.specs.Io.KnownBytes.{ReadConsumes, WriteAppends, Keeps};
-ghost use Rattle.sg_edge.specs.Edge.{Rose, TakesSome, last_count};
+ghost use Rattle.sg_edge.specs.Edge.{Rose, TakesSome, one_more};
 
 use crate::{Failed, Sink, Source};
 use std::io::{Read, Write};
 use std::marker::Model;
 
-/// A source over a reader. It tells what the reader tells. Each read that the reader fails, an interrupted one too, is
+/// A source over a reader, which tells what the reader tells. Each read that the reader fails, an interrupted one too, is
 /// a fault. Contracts see the reader and the number of faults.
 #[derive(Debug, Drop)]
 pub struct StdSource<R> {
@@ -25,7 +25,7 @@ impl<R> Model for StdSource<R> {
 }
 
 impl<R: Read> StdSource<R> {
-    /// Over this reader, without a fault so far.
+    /// A source over this reader, without a fault so far.
     pub fn new(inner: R) -> Self
         ensures { result ≡ record { inner = inner; faults = 0 } }
     {
@@ -41,10 +41,10 @@ impl<R: Read> Source for StdSource<R> {
     fn read(&mut self, buf: &mut [u8]) -> Result<usize, Failed>
         ensures bound { ReadsAtMost result buf.new }
         ensures bytes { ReadConsumes (R.remaining self.old.inner) (R.remaining self.new.inner) result buf.new }
-        ensures ok { OnOk result (self.new.faults ≡ self.old.faults) }
-        ensures err { OnErr result (self.new.faults ≡ min (self.old.faults + 1) last_count) }
         ensures count { self.old.faults ≤ self.new.faults }
         ensures cause { OnErr result (Rose self.old.faults self.new.faults) }
+        ensures steady { OnOk result (self.new.faults ≡ self.old.faults) }
+        ensures once { OnErr result (self.new.faults ≡ one_more self.old.faults) }
     {
         match self.inner.read(buf) {
             Ok(count) => Ok(count),
@@ -56,7 +56,7 @@ impl<R: Read> Source for StdSource<R> {
     }
 }
 
-/// A sink over a writer. It tells what the writer tells. Each write that the writer fails, and each that takes nothing
+/// A sink over a writer, which tells what the writer tells. Each write that the writer fails, and each that takes nothing
 /// of a piece that isn't empty, is a fault. Contracts see the writer and the number of faults.
 #[derive(Debug, Drop)]
 pub struct StdSink<W> {
@@ -73,7 +73,7 @@ impl<W> Model for StdSink<W> {
 }
 
 impl<W: Write> StdSink<W> {
-    /// Over this writer, without a fault so far.
+    /// A sink over this writer, without a fault so far.
     pub fn new(inner: W) -> Self
         ensures { result ≡ record { inner = inner; faults = 0 } }
     {
@@ -83,8 +83,8 @@ impl<W: Write> StdSink<W> {
     /// Hands on what the writer still holds back. A flush that fails is a fault.
     pub fn flush(&mut self) -> Result<(), Failed>
         ensures bytes { Keeps (W.contents self.old.inner) (W.contents self.new.inner) }
-        ensures ok { OnOk result (self.new.faults ≡ self.old.faults) }
-        ensures err { OnErr result (self.new.faults ≡ min (self.old.faults + 1) last_count) }
+        ensures steady { OnOk result (self.new.faults ≡ self.old.faults) }
+        ensures once { OnErr result (self.new.faults ≡ one_more self.old.faults) }
     {
         match self.inner.flush() {
             Ok(()) => Ok(()),
@@ -104,10 +104,10 @@ impl<W: Write> Sink for StdSink<W> {
     fn write(&mut self, piece: &[u8]) -> Result<usize, Failed>
         ensures bound { IfOk result (TakesSome piece.now) }
         ensures bytes { WriteAppends (W.contents self.old.inner) (W.contents self.new.inner) result piece.now }
-        ensures ok { OnOk result (self.new.faults ≡ self.old.faults) }
-        ensures err { OnErr result (self.new.faults ≡ min (self.old.faults + 1) last_count) }
         ensures count { self.old.faults ≤ self.new.faults }
         ensures cause { OnErr result (Rose self.old.faults self.new.faults) }
+        ensures steady { OnOk result (self.new.faults ≡ self.old.faults) }
+        ensures once { OnErr result (self.new.faults ≡ one_more self.old.faults) }
     {
         match self.inner.write(piece) {
             Ok(count) if count > 0 || piece.is_empty() => Ok(count),

@@ -18,5 +18,5 @@ pieces-preserved g c =
     record {
       within = grind (arith, common_steps);
       front = subst (Appends (g.S.Sink.written c.args.sink.now) (g.S.Sink.written c.write.new.self)) more (Appends-trans _ _ _ _ _ c.pieces.invariant.front c.in-Ok.ensures.bytes);
-      count = omega (arith, c.pieces.invariant.count, c.write.ensures.count);
+      steady = c.in-Ok.ensures.steady ∙ c.pieces.invariant.steady;
     }
