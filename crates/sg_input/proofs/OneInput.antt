@@ -69,7 +69,7 @@ one_interface : (services : List Facts) (text : List ℕ) (i j : Declared) → I
 one_interface services text i j (tree, p, is) (tree', q, is') =
     one_declared services tree i j is (subst (λ t. IsAccepted services t j) (one_tree text tree' tree q p) is')
 
-not_refused : (services : List Facts) (text : List ℕ) (i : Declared) (line : List ℕ) → IsInterface services text i → IsVerdict services text (refused line) → ⊥
+pub not_refused : (services : List Facts) (text : List ℕ) (i : Declared) (line : List ℕ) → IsInterface services text i → IsVerdict services text (refused line) → ⊥
 not_refused services text i line (tree, p, is) said =
     let same : ◌≡◌ {A = Verdict} (accepted (accepted_line i.facts.name)) (refused line) =
     one_verdict services text (accepted (accepted_line i.facts.name)) (refused line) (tree, i, p, is, refl) said in absurd cc
@@ -128,7 +128,7 @@ not_bad_script services input line i script bad ready =
     (moved services input bad.interface bad.script ready.interface ready.script bad.i i (Ok script) bad.texts ready.texts bad.accepted ready.accepted ready.reads)
     bad.reads
 
-never_ready : (services : List Facts) (input line : List ℕ) (i : Declared) (script : Script) → IsInputOf services input (Refused line) → IsReady services input i script → ⊥
+pub never_ready : (services : List Facts) (input line : List ℕ) (i : Declared) (script : Script) → IsInputOf services input (Refused line) → IsReady services input i script → ⊥
 never_ready services input line i script (inl (none, is)) ready = not_divided input ready.interface ready.script none ready.texts
 never_ready services input line i script (inr (inl (long, is))) ready = not_long input ready.interface ready.script long ready.texts
 never_ready services input line i script (inr (inr (inl bad))) ready =
@@ -157,7 +157,7 @@ one_line services input line line' (inr (inr (inr bad))) (inr (inr (inl bad'))) 
     absurd (not_bad services input line' bad.interface bad.script bad.i bad' bad.texts bad.accepted)
 one_line services input line line' (inr (inr (inr bad))) (inr (inr (inr bad'))) = bad_scripts services input line line' bad bad'
 
-one_ready : (services : List Facts) (input : List ℕ) (i j : Declared) (script script' : Script) → IsReady services input i script → IsReady services input j script'
+pub one_ready : (services : List Facts) (input : List ℕ) (i j : Declared) (script script' : Script) → IsReady services input i script → IsReady services input j script'
     → (i ≡ j) × (script ≡ script')
 one_ready services input i j script script' a b = (
   one_interface services a.interface i j a.accepted

@@ -1,5 +1,5 @@
 -- What an input is, or why it is refused.
-use Rattle.std.specs.Prelude.{ℕ, ◌≡◌, ◌<◌, ◌≤◌, ◌⊎◌, List, Ok, Err, length}
+use Rattle.std.specs.Prelude.{ℕ, ◌≡◌, ◌+◌, ◌<◌, ◌≤◌, ◌⊎◌, List, Ok, Err, length}
 use Rattle.sg_facts.specs.Facts.{Facts}
 use Rattle.sg_facts.specs.Interface.{Declared}
 use Rattle.sg_grammar.specs.declared.tree.Tree.{Tree}
@@ -16,12 +16,21 @@ use Rattle.sg_input.specs.declared.input.Input.TheVariants.{Refused, Ready}
 use Rattle.sg_input.specs.Divider.{Divides, IsCut}
 use Rattle.sg_input.specs.Lines.{no_divider_line, script_line, too_long_line}
 
--- the greatest numbers of bytes of an interface and of a script
+-- the greatest number of bytes of an interface
 abbrev pub most_interface : ℕ
 most_interface = 65536
 
+-- the greatest number of bytes of the line that divides an input: `%%`, CR and LF
+abbrev pub most_divider : ℕ
+most_divider = 4
+
+-- the greatest number of bytes of a script
 abbrev pub most_script : ℕ
 most_script = 4194304
+
+-- the greatest number of bytes of an input
+abbrev pub most_input : ℕ
+most_input = most_interface + most_divider + most_script
 
 -- ---- the two texts
 

@@ -3,6 +3,7 @@
 //! - `reading`: what an input is, or the line that refuses it (`read_input`)
 //! - `input`: an input that is refused or ready (`Input`)
 //! - `divider`: the two texts before and behind the first line of `%%` alone (`cut`)
+//! - `limits`: the greatest numbers of bytes
 //! - `lines`: the lines that refuse an input
 //! - `laws`: an input is divided in one way, and is one thing
 //!
@@ -13,12 +14,13 @@
 mod divider;
 mod input;
 mod laws;
+mod limits;
 mod lines;
 mod reading;
-#[cfg(test)]
-mod tests;
 
 pub use divider::cut;
 pub use input::Input;
 pub use laws::{one_cut, one_input};
+pub use limits::{MOST_DIVIDER, MOST_INPUT, MOST_INTERFACE, MOST_SCRIPT};
+pub use lines::TOO_LONG;
 pub use reading::read_input;

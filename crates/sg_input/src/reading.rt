@@ -9,6 +9,7 @@ ghost use Rattle.sg_input.specs.Inputs.{AreTexts, IsInputOf};
 
 use crate::Input;
 use crate::divider::cut;
+use crate::limits::{MOST_INTERFACE, MOST_SCRIPT};
 use crate::lines::{NO_DIVIDER, TOO_LONG, script_line};
 use sg_base::{Bytes, NoMemory};
 use sg_check::Accepted;
@@ -16,12 +17,6 @@ use sg_diagnose::{Examined, examine};
 use sg_facts::Shape;
 use sg_script::{ScriptError, read};
 use std::alloc::Global;
-
-// The greatest number of bytes of an interface.
-const MOST_INTERFACE: usize = 65536;
-
-// The greatest number of bytes of a script.
-const MOST_SCRIPT: usize = 4194304;
 
 /// What an input is, where its interface may be of one of these shapes: an interface that is accepted with a script for it
 /// without a flaw, or else the line that refuses it, by the first of these that applies. `input refused: NoDivider`: no line is
@@ -55,7 +50,7 @@ fn input_of(alloc: Global, input: &[u8], shapes: &[Shape]) -> Result<Input, NoMe
     }
 }
 
-// The same of a script, behind an interface that is accepted.
+// What an input with this script is, whose interface is accepted.
 fn read_script(alloc: Global, accepted: Accepted, script: &[u8]) -> Result<Input, NoMemory>
     ensures { IfOk result (λ made. (input interface : List ℕ) (services : List Facts) → AreTexts input interface script.now
         → IsExamined services interface (accepted_as accepted) → IsInputOf services input made) }

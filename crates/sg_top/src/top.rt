@@ -1,12 +1,14 @@
 // The top call.
 ghost use Rattle.std.specs.Prelude.{◌≡◌, ◌≤◌, None};
-ghost use Rattle.superglue.specs.Answer.{IsAnswer, IsCommand, ReadsInput};
-ghost use Rattle.superglue.specs.Delivery.{IsCarriedOut, IsWritten};
+ghost use Rattle.sg_top.specs.Answer.{IsAnswer, IsCommand, ReadsInput};
+ghost use Rattle.sg_top.specs.Inside.Delivery.{IsCarriedOut, IsWritten};
 
-use crate::command::{Command, TOO_LONG};
+use crate::command::Command;
 use crate::output::{Output, output_of};
 use crate::played::Played;
+use crate::status::Status;
 use sg_edge::{Gate, Intake, ReadError, Sink, Source, read_all, write_all};
+use sg_input::TOO_LONG;
 use std::alloc::Global;
 use std::sync::Wait;
 use std::thread::Threads;
@@ -14,16 +16,17 @@ use std::thread::Threads;
 /// What a call of the program came to.
 #[derive(Debug, Drop)]
 pub struct Answer {
-    /// 0 done, accepted or compiled, 1 other words, 2 the input is refused, 4 a read failed, 5 a write failed, 6 no memory.
-    pub status: u8,
-    /// The run of a play, where it came to its end and the status is 0 or 5.
+    /// How the call ended.
+    pub status: Status,
+    /// The run of a play that came to its end, where the status is `Done` or `WriteFault`.
     pub ended: Option<Played>,
 }
 
 /// Does what the words after the program's name say: `sim` plays the input, `check` says whether it is the text of an
-/// interface that is accepted, `compile` prints the tables of such a text, and any other words answer 1. It reads at most one
-/// byte more than the command's input may have, 4,259,845 bytes for `sim` and 65,537 for the others, makes its whole output
-/// before it writes any of it, and ends with the statuses of `Answer`.
+/// interface that is accepted, `compile` prints the tables of such a text, and any other words are answered by `OtherWords`.
+/// It reads at most one byte more than the command's input may have, makes its whole output before it writes any of it, and
+/// answers with the status that says how it ended, and with the run of a play. The handle and the gate are for plays in threads,
+/// which aren't built yet.
 pub fn superglue<R: Threads + Wait + Sync, I: Source, O: Sink, G: Gate>(
     _: &R,
     alloc: Global,
@@ -41,7 +44,7 @@ pub fn superglue<R: Threads + Wait + Sync, I: Source, O: Sink, G: Gate>(
     serial(alloc, words, input, output)
 }
 
-/// The same in one thread, for all words that need no other. It always returns.
+/// What `superglue` does, in one thread and with no handle, for all words that need no other thread. It always returns.
 pub fn serial<I: Source, O: Sink>(
     alloc: Global,
     words: &[String],
@@ -55,13 +58,13 @@ pub fn serial<I: Source, O: Sink>(
     ensures most_read { ReadsInput (IsCommand words.now) (I.left input.old) (I.left input.new) }
 {
     let Some(command) = Command::of_words(words) else {
-        return without_run(1);
+        return without_run(Status::OtherWords);
     };
     match read_all(alloc, input, command.most_bytes()) {
         Ok(Intake::Whole(bytes)) => carry_out(alloc, command, bytes.as_slice(), output),
-        Ok(Intake::TooLong) => deliver(output, TOO_LONG, 2, None),
-        Err(ReadError::Failed) => without_run(4),
-        Err(ReadError::NoMemory) => without_run(6),
+        Ok(Intake::TooLong) => deliver(output, TOO_LONG, Status::Refused, None),
+        Err(ReadError::Failed) => without_run(Status::ReadFault),
+        Err(ReadError::NoMemory) => without_run(Status::NoMemory),
     }
 }
 
@@ -81,12 +84,12 @@ fn carry_out<O: Sink>(alloc: Global, command: Command, bytes: &[u8], output: &mu
             } = made;
             deliver(output, text.as_slice(), status, ended)
         }
-        Err(_) => without_run(6),
+        Err(_) => without_run(Status::NoMemory),
     }
 }
 
-// Writes an output, and answers its status, or 5 where a write failed.
-fn deliver<O: Sink>(output: &mut O, text: &[u8], status: u8, ended: Option<Played>) -> Answer
+// Writes an output, and answers its status, or a write fault where a write failed.
+fn deliver<O: Sink>(output: &mut O, text: &[u8], status: Status, ended: Option<Played>) -> Answer
     ensures ended { result.ended ≡ ended }
     ensures written { IsWritten
         (record { told = O.written output.old; faults = O.faults output.old }) (record { told = O.written output.new; faults = O.faults output.new })
@@ -95,12 +98,15 @@ fn deliver<O: Sink>(output: &mut O, text: &[u8], status: u8, ended: Option<Playe
 {
     match write_all(output, text) {
         Ok(()) => Answer { status, ended },
-        Err(_) => Answer { status: 5, ended },
+        Err(_) => Answer {
+            status: Status::WriteFault,
+            ended,
+        },
     }
 }
 
 // An answer without a run.
-fn without_run(status: u8) -> Answer
+fn without_run(status: Status) -> Answer
     ensures status { result.status ≡ status }
     ensures ended { result.ended ≡ None }
 {

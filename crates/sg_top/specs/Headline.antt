@@ -1,4 +1,4 @@
--- Which inputs are played, and what a run of one comes to.
+-- What a play promises, and which inputs are played.
 use Rattle.std.specs.Prelude.{ℕ, ◌≡◌, ◌==◌, ◌⊎◌, ◌&&◌, Bool, true, false, List, [], ◌∷◌, ◌++◌, None, codes, length}
 use Rattle.sg_facts.specs.declared.entry.Entry.{Entry}
 use Rattle.sg_facts.specs.declared.trace.Trace.{Trace}
@@ -11,11 +11,36 @@ use Rattle.sg_hist.specs.declared.ended.End.TheVariants.{Done}
 use Rattle.sg_hist.specs.declared.ended.Ended.{Ended}
 use Rattle.sg_hist.specs.Clients.{calls_of}
 use Rattle.sg_lock.specs.LockTable.{lock_table}
+use Rattle.sg_report.specs.Report.{report_of}
 use Rattle.sg_script.specs.declared.script.ScriptCall.{ScriptCall}
 use Rattle.sg_script.specs.declared.script.Script.{Script}
 use Rattle.sg_sim.specs.Script.{AreCalls}
 use Rattle.sg_input.specs.declared.input.Input.TheVariants.{Refused}
 use Rattle.sg_input.specs.Inputs.{IsInputOf, IsReady}
+
+-- ---- the headline
+
+-- how the client of a play ends: client 1, where it has a call, is done, and each of its calls is in the history
+abbrev pub IsClientEnd : List ScriptCall → List Entry → List (ℕ × End) → Type 0
+IsClientEnd [] history ends = ends ≡ []
+IsClientEnd (c ∷ calls) history ends = (ends ≡ (1, Done) ∷ []) × (length (calls_of history 1) ≡ length (c ∷ calls))
+
+-- one boot, in which nothing of the service was traced, and at no point was it asked whether the service stops
+abbrev pub IsPlainTrace : Trace → Type 0
+IsPlainTrace trace = run_of trace ≡ record { boots = record { items = []; stop = None } ∷ []; points = 0 }
+
+-- a play of one client's calls under an interface came to this end, and this is its output
+pub record IsRunOf (i : Declared) (made : List ScriptCall) (ended : Ended) (written : List ℕ) : Type 0 where
+  -- the replies stand in a history that the service could give with no fault at all
+  pub legal : IsLegal i lock_table ended.history.items
+  -- the history's entries are the client's calls, each once and in the script's order
+  pub calls : AreCalls i.facts ended.history.items 1 ended.history.items made
+  -- the service was booted once, and never stopped
+  pub stops : IsPlainTrace ended.trace
+  -- the client is done
+  pub ends : IsClientEnd made ended.history.items ended.ends
+  -- the bytes written are the report of the play
+  pub output : written ≡ report_of i.facts ended false
 
 -- ---- scripts of one client
 
@@ -30,29 +55,10 @@ abbrev pub is_plain : Script → Bool
 is_plain script =
     (length script.setup == 0) && (length script.schedule == 0) && (length script.stops == 0) && has_one_client script.clients
 
--- the calls of its client
+-- the calls of the script's first client
 abbrev pub first_calls : List (ℕ × List ScriptCall) → List ScriptCall
 first_calls [] = []
 first_calls (c ∷ clients) = c.1
-
--- ---- runs
-
--- how clients end: client 1, where it has a call, is done, and each of its calls is in the history
-abbrev pub AreEnds : List ScriptCall → List Entry → List (ℕ × End) → Type 0
-AreEnds [] history ends = ends ≡ []
-AreEnds (c ∷ calls) history ends = (ends ≡ (1, Done) ∷ []) × (length (calls_of history 1) ≡ length (c ∷ calls))
-
--- one boot, in which nothing of the service was traced and no point was asked
-abbrev pub IsPlainTrace : Trace → Type 0
-IsPlainTrace trace = run_of trace ≡ record { boots = record { items = []; stop = None } ∷ []; points = 0 }
-
--- a run of one client's calls under an interface: its history is legal, its entries are the calls in their order, the client is
--- done, and the service was booted once
-pub record IsRunOf (i : Declared) (made : List ScriptCall) (ended : Ended) : Type 0 where
-  pub legal : IsLegal i lock_table ended.history.items
-  pub calls : AreCalls i.facts ended.history.items 1 ended.history.items made
-  pub ends : AreEnds made ended.history.items ended.ends
-  pub trace : IsPlainTrace ended.trace
 
 -- ---- inputs
 
@@ -60,13 +66,13 @@ pub record IsRunOf (i : Declared) (made : List ScriptCall) (ended : Ended) : Typ
 abbrev pub not_yet_line : List ℕ
 not_yet_line = codes "input refused: NotYet" ++ 10 ∷ []
 
--- an input is ready, its script is one that is played, and this is a run of it
-pub record IsRunOfInput (services : List Facts) (bytes : List ℕ) (ended : Ended) : Type 0 where
+-- an input is ready, its script is one that is played, and this is a run of it with its output
+pub record IsRunOfInput (services : List Facts) (bytes : List ℕ) (ended : Ended) (written : List ℕ) : Type 0 where
   pub i : Declared
   pub script : Script
   pub ready : IsReady services bytes i script
   pub plain : is_plain script ≡ true
-  pub run : IsRunOf i (first_calls script.clients) ended
+  pub run : IsRunOf i (first_calls script.clients) ended written
 
 -- an input is ready, and its script isn't one that is played
 pub record IsNotYet (services : List Facts) (bytes : List ℕ) : Type 0 where

@@ -1,11 +1,10 @@
 // Which scripts are played, and their runs.
-ghost use Rattle.std.specs.Prelude.{◌≡◌, ◌≤◌, [], ◌∷◌, false, true, if◌then◌else◌, IfOk, length};
+ghost use Rattle.std.specs.Prelude.{◌≡◌, ◌≤◌, [], ◌∷◌, true, if◌then◌else◌, IfOk, length};
 ghost use Rattle.sg_facts.specs.Fits.{Fits};
 ghost use Rattle.sg_hist.specs.declared.ended.End.TheVariants.{Done};
 ghost use Rattle.sg_lock.specs.LockFacts.{lock_facts};
-ghost use Rattle.sg_report.specs.Report.{report_of};
 ghost use Rattle.sg_sim.specs.Script.{calls_fit};
-ghost use Rattle.superglue.specs.Runs.{IsPlainTrace, IsRunOf, first_calls, has_one_client, is_plain};
+ghost use Rattle.sg_top.specs.Headline.{IsPlainTrace, IsRunOf, first_calls, has_one_client, is_plain};
 
 use crate::played::Played;
 use sg_base::{Bytes, NoMemory};
@@ -57,8 +56,7 @@ pub fn played_of(
     requires fits { Fits iface.now }
     requires few { length calls.now ≤ 65536 }
     requires calls { calls_fit iface.now 1 calls.now ≡ true }
-    ensures run { IfOk result (λ p. IsRunOf iface.now calls.now p.0) }
-    ensures report { IfOk result (λ p. p.1 ≡ report_of lock_facts p.0 false) }
+    ensures { IfOk result (λ p. IsRunOf iface.now calls.now p.0 p.1) }
 {
     let history = play(alloc, iface, calls)?;
     let ended = Ended {

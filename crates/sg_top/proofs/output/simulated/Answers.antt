@@ -2,9 +2,9 @@
 use Rattle.std.proofs.lemmas.Result.{IfOk-weaker}
 use Rattle.sg_facts.specs.Facts.{facts_of}
 use Rattle.sg_input.specs.Inputs.{IsReady}
-use Rattle.superglue.specs.Answer.{IsPlayed, services}
-use Rattle.superglue.proofs.Fitting.{ready_for_locks}
-use Rattle.superglue.proofs.output.simulated.Goals as goal
+use Rattle.sg_top.specs.Answer.{IsPlayed, services}
+use Rattle.sg_top.proofs.Fitting.{ready_for_locks}
+use Rattle.sg_top.proofs.output.simulated.Goals as goal
 
 pub returns-in-Ready : goal.returns-in-Ready
 returns-in-Ready c =

@@ -1,9 +1,9 @@
 -- What was read, and what was done with it, is the answer.
 use Rattle.std.proofs.Common.{◌∙◌, ap, subst, refl, Ok, Err, arith}
 use Rattle.sg_edge.specs.Intake.{TakesIn}
-use Rattle.superglue.proofs.Answers.{whole_answer, too_long_answer, read_failed, without_memory}
-use Rattle.superglue.proofs.Commands.{one_command}
-use Rattle.superglue.proofs.top.serial.Goals as goal
+use Rattle.sg_top.proofs.Answers.{whole_answer, too_long_answer, read_failed, without_memory}
+use Rattle.sg_top.proofs.Commands.{one_command}
+use Rattle.sg_top.proofs.top.serial.Goals as goal
 
 pub returns-in-Ok-Whole-clause-answer : goal.returns-in-Ok-Whole-clause-answer
 returns-in-Ok-Whole-clause-answer g c =

@@ -30,8 +30,8 @@ use Rattle.sg_lock.specs.LockFacts.{lock_facts}
 use Rattle.sg_input.specs.declared.input.Input.{Input}
 use Rattle.sg_input.specs.declared.input.Input.TheVariants.{Ready}
 use Rattle.sg_input.specs.Inputs.{IsInputOf, IsReady}
-use Rattle.superglue.specs.Answer.{services}
-use Rattle.superglue.specs.Runs.{first_calls, has_one_client, is_plain}
+use Rattle.sg_top.specs.Answer.{services}
+use Rattle.sg_top.specs.Headline.{first_calls, has_one_client, is_plain}
 
 -- ---- calls
 

@@ -3,15 +3,15 @@ use Rattle.std.proofs.Common.{◌≡◌, ℕ, List, [], ◌∷◌, length, refl,
 use Rattle.std.specs.Prelude.{codes, string_bytes}
 use Rattle.std.specs.declared.string.String.{String}
 use Rattle.std.specs.declared.alloc.Global.{Global}
-use Rattle.superglue.specs.declared.command.Command.{Command}
-use Rattle.superglue.specs.declared.command.Command.TheVariants.{Sim, Check, Compile}
-use Rattle.superglue.specs.Answer.{IsCommand, word_of}
+use Rattle.sg_top.specs.declared.command.Command.{Command}
+use Rattle.sg_top.specs.declared.command.Command.TheVariants.{Sim, Check, Compile}
+use Rattle.sg_top.specs.Answer.{IsCommand, command_name}
 
 -- words of other lengths differ
 differ : (word one other : List ℕ) → (length one ≡ length other → ⊥) → word ≡ one → word ≡ other → ⊥
 differ word one other apart is isn't = apart (ap length (sym is ∙ isn't))
 
-one_word : (word : List ℕ) (a b : Command) → word ≡ word_of a → word ≡ word_of b → a ≡ b
+one_word : (word : List ℕ) (a b : Command) → word ≡ command_name a → word ≡ command_name b → a ≡ b
 one_word word Sim Sim x y = refl
 one_word word Check Check x y = refl
 one_word word Compile Compile x y = refl

@@ -9,7 +9,7 @@ use Rattle.sg_hist.specs.Clients.{calls_of}
 use Rattle.sg_facts.specs.Facts.{Facts}
 use Rattle.sg_script.specs.declared.script.ScriptCall.{ScriptCall}
 use Rattle.sg_sim.specs.Script.{AreCalls}
-use Rattle.superglue.specs.Runs.{AreEnds}
+use Rattle.sg_top.specs.Headline.{IsClientEnd}
 
 -- all entries are client 1's, and there is one for each call
 count_calls : (facts : Facts) (history : List Entry) (seq : ℕ) (es : List Entry) (steps : List ScriptCall) → AreCalls facts history seq es steps → length (calls_of es 1) ≡ length steps
@@ -24,6 +24,6 @@ some_call : (n : ℕ) → (suc n == 0) ≡ false
 some_call n = grind (arith, nat_tests)
 
 pub are_ends : (facts : Facts) (steps : List ScriptCall) (history : List Entry) (ends : List (ℕ × End)) → AreCalls facts history 1 history steps
-    → ends ≡ (if length steps == 0 then [] else (1, Done) ∷ []) → AreEnds steps history ends
+    → ends ≡ (if length steps == 0 then [] else (1, Done) ∷ []) → IsClientEnd steps history ends
 are_ends facts [] history ends are is = is
 are_ends facts (s ∷ steps) history ends are is = (is ∙ ap (λ b. cond b [] ((1, Done) ∷ [])) (some_call (length steps)), count_calls facts history 1 history (s ∷ steps) are)

@@ -4,12 +4,14 @@ ghost use Rattle.sg_facts.specs.Fits.{Fits};
 ghost use Rattle.sg_input.specs.Inputs.{IsReady};
 ghost use Rattle.sg_lock.specs.LockFacts.{lock_facts};
 ghost use Rattle.sg_sim.specs.Script.{calls_fit};
-ghost use Rattle.superglue.specs.Runs.{first_calls, is_plain};
-ghost use Rattle.superglue.specs.Answer.{IsChecked, IsOutput, IsPlayed, IsSaid, IsTabled, services};
+ghost use Rattle.sg_top.specs.Headline.{first_calls, is_plain};
+ghost use Rattle.sg_top.specs.Answer.{IsChecked, IsOutput, IsPlayed, IsTabled, services};
+ghost use Rattle.sg_top.specs.Inside.Delivery.{IsSaid};
 
-use crate::command::{Command, NOT_YET};
+use crate::command::Command;
 use crate::played::Played;
 use crate::runs::{first_calls, is_plain, played_of};
+use crate::status::Status;
 use sg_base::{Bytes, NoMemory};
 use sg_diagnose::{Verdict, compiled, verdict};
 use sg_facts::{Interface, Service};
@@ -18,12 +20,15 @@ use sg_lock::LockService;
 use sg_script::Script;
 use std::alloc::Global;
 
+// The line of an input that is ready, and whose script isn't played yet.
+const NOT_YET: &[u8] = b"input refused: NotYet\n";
+
 /// What a command makes of an input: the bytes to be written, the status where they are written whole, and the run of a play
 /// that came to its end.
 #[derive(Debug, Drop)]
 pub struct Output {
     pub text: Bytes,
-    pub status: u8,
+    pub status: Status,
     pub ended: Option<Played>,
 }
 
@@ -38,7 +43,7 @@ pub fn output_of(alloc: Global, command: Command, bytes: &[u8]) -> Result<Output
     }
 }
 
-// The line of a text, with 0 where it is accepted and 2 where it is refused.
+// The line of a text, which says that it is accepted or why it is refused.
 fn checked(alloc: Global, text: &[u8]) -> Result<Output, NoMemory>
     ensures ended { IfOk result (λ o. o.ended ≡ None) }
     ensures line { IfOk result (λ o. IsChecked text.now o.status o.text) }
@@ -47,7 +52,7 @@ fn checked(alloc: Global, text: &[u8]) -> Result<Output, NoMemory>
     Ok(output_saying(said))
 }
 
-// The text of the tables of a text that is accepted, with 0, and else the line that refuses it, with 2.
+// The text of the tables of an interface that is accepted, or else the line that refuses it.
 fn tabled(alloc: Global, text: &[u8]) -> Result<Output, NoMemory>
     ensures ended { IfOk result (λ o. o.ended ≡ None) }
     ensures tables { IfOk result (λ o. IsTabled text.now o.status o.text) }
@@ -56,14 +61,14 @@ fn tabled(alloc: Global, text: &[u8]) -> Result<Output, NoMemory>
     Ok(output_saying(said))
 }
 
-// What is said of a text, with 0 where it is accepted and 2 where it is refused.
+// The output that says this of a text, with the status that belongs to it.
 fn output_saying(said: Verdict) -> Output
     ensures ended { result.ended ≡ None }
     ensures said { IsSaid said result.status result.text }
 {
     let (text, status) = match said {
-        Verdict::Accepted(text) => (text, 0),
-        Verdict::Refused(line) => (line, 2),
+        Verdict::Accepted(text) => (text, Status::Done),
+        Verdict::Refused(line) => (line, Status::Refused),
     };
     Output {
         text,
@@ -72,7 +77,7 @@ fn output_saying(said: Verdict) -> Output
     }
 }
 
-// The run of an input that is played with its report and 0, or the line of one that isn't and 2.
+// The run of an input that is played, with its report; or the line of an input that isn't played.
 #[tactic(auto, using(crate::proofs::Fitting::lock_interface, crate::proofs::Fitting::first_fit, crate::proofs::Fitting::first_few))]
 fn simulated(alloc: Global, bytes: &[u8]) -> Result<Output, NoMemory>
     ensures { IfOk result (λ o. IsPlayed bytes.now o.ended o.status o.text) }
@@ -81,13 +86,13 @@ fn simulated(alloc: Global, bytes: &[u8]) -> Result<Output, NoMemory>
         Input::Ready(accepted, script) => run_of(alloc, accepted.interface(), &script),
         Input::Refused(text) => Ok(Output {
             text,
-            status: 2,
+            status: Status::Refused,
             ended: None,
         }),
     }
 }
 
-// The run of a script that is played with its report and 0, or the line of one that isn't yet and 2.
+// The run of a script that is played, with its report; or the line of a script that isn't played yet.
 fn run_of(alloc: Global, iface: &Interface, script: &Script) -> Result<Output, NoMemory>
     requires facts { iface.now.facts ≡ lock_facts }
     requires fits { Fits iface.now }
@@ -98,14 +103,14 @@ fn run_of(alloc: Global, iface: &Interface, script: &Script) -> Result<Output, N
     if !is_plain(script) {
         return Ok(Output {
             text: Bytes::from_slice(alloc, NOT_YET)?,
-            status: 2,
+            status: Status::Refused,
             ended: None,
         });
     }
     let (played, text) = played_of(alloc, iface, first_calls(script.clients.as_slice()))?;
     Ok(Output {
         text,
-        status: 0,
+        status: Status::Done,
         ended: Some(played),
     })
 }

@@ -1,4 +1,5 @@
 // What the words after the program's name ask for.
+use sg_input::{MOST_INPUT, MOST_INTERFACE};
 
 /// A command of the program.
 #[derive(Clone, Copy, Debug, PartialEq, Eq)]
@@ -7,14 +8,14 @@ pub enum Command {
     Sim,
     /// `check`: says whether an input is the text of an interface that is accepted.
     Check,
-    /// `compile`: prints the tables of such a text.
+    /// `compile`: prints the tables of the text of an interface that is accepted.
     Compile,
 }
 
 impl Command {
     ghost use Rattle.std.specs.Prelude.{◌≡◌, MatchOption};
-    ghost use Rattle.superglue.specs.declared.command.Command.{Command as Asked};
-    ghost use Rattle.superglue.specs.Answer.{IsCommand, most_bytes, word_of};
+    ghost use Rattle.sg_top.specs.declared.command.Command.{Command as Asked};
+    ghost use Rattle.sg_top.specs.Answer.{IsCommand, command_name, most_bytes};
 
     /// The command of these words; None where they are no command's.
     pub fn of_words(words: &[String]) -> Option<Command>
@@ -28,7 +29,7 @@ impl Command {
 
     // The command of a word; None where it is no command's.
     fn of_word(word: &str) -> Option<Command>
-        ensures { MatchOption result ((command : Asked) → word.now ≡ word_of command → ⊥) (λ command. word.now ≡ word_of command) }
+        ensures { MatchOption result ((command : Asked) → word.now ≡ command_name command → ⊥) (λ command. word.now ≡ command_name command) }
     {
         match word {
             "sim" => Some(Command::Sim),
@@ -38,19 +39,13 @@ impl Command {
         }
     }
 
-    /// The greatest number of bytes of its input.
+    /// The greatest number of bytes of the command's input.
     pub fn most_bytes(self) -> usize
         ensures { result ≡ most_bytes self }
     {
         match self {
-            Command::Sim => 4_259_844,
-            Command::Check | Command::Compile => 65_536,
+            Command::Sim => MOST_INPUT,
+            Command::Check | Command::Compile => MOST_INTERFACE,
         }
     }
 }
-
-/// The line that refuses an input with more bytes than its command takes.
-pub const TOO_LONG: &[u8] = b"input refused: TooLong\n";
-
-/// The line of an input that is ready, and whose script isn't played yet.
-pub const NOT_YET: &[u8] = b"input refused: NotYet\n";

@@ -1,0 +1,13 @@
+// The limits of an input, in bytes.
+
+/// The greatest number of bytes of an interface.
+pub const MOST_INTERFACE: usize = 65_536;
+
+/// The greatest number of bytes of the line that divides an input: `%%`, CR and LF.
+pub const MOST_DIVIDER: usize = 4;
+
+/// The greatest number of bytes of a script.
+pub const MOST_SCRIPT: usize = 4_194_304;
+
+/// The greatest number of bytes of an input.
+pub const MOST_INPUT: usize = MOST_INTERFACE + MOST_DIVIDER + MOST_SCRIPT;

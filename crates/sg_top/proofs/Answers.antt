@@ -1,0 +1,281 @@
+-- What was read, and what was written of it, make the answer.
+use Rattle.std.proofs.Common.{◌≡◌, ℕ, ◌+◌, ◌<◌, ◌≤◌, ◌⊎◌, List, ◌++◌, None, Some, IsSome, IfSome, length, refl, sym, ◌∙◌, ap, subst, inl, inr, arith, append-nil, length-append}
+use Rattle.std.specs.declared.option.Option.{Option}
+use Rattle.std.specs.Io.KnownBytes.{Consumes, IsAtEnd}
+use Rattle.sg_edge.specs.Edge.{Rose, ConsumesJust}
+use Rattle.sg_hist.specs.declared.ended.Ended.{Ended}
+use Rattle.sg_top.specs.declared.command.Command.{Command}
+use Rattle.sg_top.specs.declared.command.Command.TheVariants.{Sim, Check, Compile}
+use Rattle.sg_top.specs.declared.status.Status.{Status}
+use Rattle.sg_top.specs.declared.status.Status.TheVariants.{Done, OtherWords, Refused, ReadFault, WriteFault, NoMemory}
+use Rattle.sg_input.specs.Lines.{too_long_line}
+use Rattle.sg_top.specs.Answer.{Ends, HasRead, IsAnswer, IsOutput, IsRefusal, IsUntouched, SaysRefused, most_bytes}
+use Rattle.sg_top.specs.Inside.Delivery.{IsCarriedOut, IsWritten}
+use Rattle.sg_top.proofs.Refusals.{never_refused}
+
+-- ---- what is told of a source
+
+-- what is told of a source that was read to its end is what was read
+told_whole : (P : List ℕ → Type 0) (told told' : Option (List ℕ)) (bytes : List ℕ) → Consumes told told' bytes → IsAtEnd told' → P bytes → IfSome told P
+told_whole P None told' bytes consumed at_end holds = tt
+told_whole P (Some b) None bytes consumed at_end holds = absurd consumed
+told_whole P (Some b) (Some b') bytes consumed at_end holds = subst P (sym (consumed ∙ ap (λ l. bytes ++ l) at_end ∙ append-nil bytes)) holds
+
+-- what is told of one that was read in part is no shorter than what was read
+told_more : (P : List ℕ → Type 0) (told told' : Option (List ℕ)) (bytes : List ℕ) → Consumes told told' bytes → ((b : List ℕ) → length bytes ≤ length b → P b) → IfSome told P
+told_more P None told' bytes consumed all = tt
+told_more P (Some b) None bytes consumed all = absurd consumed
+told_more P (Some b) (Some b') bytes consumed all =
+    let l : length b ≡ length bytes + length b' = ap length consumed ∙ length-append bytes b' in
+    let longer : length bytes ≤ length b = omega (arith, l) in
+    all b longer
+
+-- what `HasRead` says
+abbrev Read : Command → Option (List ℕ) → Option (List ℕ) → Option Ended → Status → List ℕ → Type 0
+Read command told told' ended status output =
+    ((bytes : List ℕ) × (length bytes ≤ most_bytes command) × Consumes told told' bytes × IsAtEnd told' × IsOutput command bytes ended status output)
+    ⊎ ((bytes : List ℕ) × (length bytes ≡ most_bytes command + 1) × Consumes told told' bytes × (ended ≡ None) × (status ≡ Refused) × (output ≡ too_long_line))
+
+-- ---- refusals
+
+-- more bytes than an input may have are refused
+too_long : (command : Command) (bytes : List ℕ) → most_bytes command < length bytes → IsRefusal command bytes too_long_line
+too_long command bytes long = inr (long, refl)
+
+-- an output with status 2 refuses the input, and no run came to its end
+refusal : (command : Command) (bytes : List ℕ) (ended : Option Ended) (status : Status) (output : List ℕ) → status ≡ Refused → length bytes ≤ most_bytes command
+    → IsOutput command bytes ended status output → (ended ≡ None) × IsRefusal command bytes output
+refusal Sim bytes None status output two short is = (refl, inl (short, is.1))
+refusal Sim bytes (Some e) status output two short is = absurd (cc (two, is.0))
+refusal Check bytes ended status output two short (none, inl accepted) = absurd (cc (two, accepted.0))
+refusal Compile bytes ended status output two short (none, inl accepted) = absurd (cc (two, accepted.0))
+refusal Check bytes ended status output two short (none, inr refused) = (none, inl (short, refused.1))
+refusal Compile bytes ended status output two short (none, inr refused) = (none, inl (short, refused.1))
+
+refused_by : (command : Command) (told told' : Option (List ℕ)) (ended : Option Ended) (status : Status) (output : List ℕ) → status ≡ Refused
+    → Read command told told' ended status output → (ended ≡ None) × IfSome told (λ bytes. IsRefusal command bytes output)
+refused_by command told told' ended status output two (inl (bytes, short, consumed, at_end, is)) =
+    let all = refusal command bytes ended status output two short is in
+    (all.0, told_whole (λ b. IsRefusal command b output) told told' bytes consumed at_end all.1)
+refused_by command told told' ended status output two (inr (bytes, count, consumed, none, is_two, line)) = (
+  none,
+  told_more (λ b. IsRefusal command b output) told told' bytes consumed
+      (λ b longer. subst (IsRefusal command b) (sym line) (too_long command b (omega (arith, count, longer)))),
+)
+
+told_refused : (command : Command) (source source' : Ends) (ended : Option Ended) (status : Status) (output : List ℕ) → status ≡ Refused
+    → HasRead command source source' ended status output → (ended ≡ None) × IfSome source.told (λ bytes. IsRefusal command bytes output)
+told_refused command source source' ended status output two has = refused_by command source.told source'.told ended status output two has.read
+
+-- ---- statuses and runs
+
+output_status : (command : Command) (bytes : List ℕ) (ended : Option Ended) (status : Status) (output : List ℕ)
+    → IsOutput command bytes ended status output → (status ≡ Done) ⊎ (status ≡ Refused)
+output_status Sim bytes None status output is = inr is.0
+output_status Sim bytes (Some e) status output is = inl is.0
+output_status Check bytes ended status output (none, inl accepted) = inl accepted.0
+output_status Compile bytes ended status output (none, inl accepted) = inl accepted.0
+output_status Check bytes ended status output (none, inr refused) = inr refused.0
+output_status Compile bytes ended status output (none, inr refused) = inr refused.0
+
+status_by : (command : Command) (told told' : Option (List ℕ)) (ended : Option Ended) (status : Status) (output : List ℕ)
+    → Read command told told' ended status output → (status ≡ Done) ⊎ (status ≡ Refused)
+status_by command told told' ended status output (inl (bytes, short, consumed, at_end, is)) = output_status command bytes ended status output is
+status_by command told told' ended status output (inr (bytes, count, consumed, none, is_two, line)) = inr is_two
+
+-- an output's status is 0 or 2
+status_is : (command : Command) (source source' : Ends) (ended : Option Ended) (status : Status) (output : List ℕ)
+    → HasRead command source source' ended status output → (status ≡ Done) ⊎ (status ≡ Refused)
+status_is command source source' ended status output has = status_by command source.told source'.told ended status output has.read
+
+output_run : (command : Command) (bytes : List ℕ) (ended : Option Ended) (status : Status) (output : List ℕ) → status ≡ Done → command ≡ Sim
+    → IsOutput command bytes ended status output → IsSome ended
+output_run Sim bytes None status output zero sim is = absurd (cc (zero, is.0))
+output_run Sim bytes (Some e) status output zero sim is = refl
+output_run Check bytes ended status output zero sim is = cc
+output_run Compile bytes ended status output zero sim is = cc
+
+run_by : (command : Command) (told told' : Option (List ℕ)) (ended : Option Ended) (status : Status) (output : List ℕ) → status ≡ Done → command ≡ Sim
+    → Read command told told' ended status output → IsSome ended
+run_by command told told' ended status output zero sim (inl (bytes, short, consumed, at_end, is)) = output_run command bytes ended status output zero sim is
+run_by command told told' ended status output zero sim (inr (bytes, count, consumed, none, is_two, line)) = absurd (cc (zero, is_two))
+
+-- a play that is done has a run
+done_run : (command : Command) (source source' : Ends) (ended : Option Ended) (status : Status) (output : List ℕ) → status ≡ Done → command ≡ Sim
+    → HasRead command source source' ended status output → IsSome ended
+done_run command source source' ended status output zero sim has = run_by command source.told source'.told ended status output zero sim has.read
+
+no_run : (ended : Option Ended) → ended ≡ None → IsSome ended → ⊥
+no_run None none some = cc
+no_run (Some e) none some = cc
+
+output_sim : (command : Command) (bytes : List ℕ) (ended : Option Ended) (status : Status) (output : List ℕ)
+    → IsOutput command bytes ended status output → IsSome ended → command ≡ Sim
+output_sim Sim bytes ended status output is some = refl
+output_sim Check bytes ended status output is some = absurd (no_run ended is.0 some)
+output_sim Compile bytes ended status output is some = absurd (no_run ended is.0 some)
+
+sim_by : (command : Command) (told told' : Option (List ℕ)) (ended : Option Ended) (status : Status) (output : List ℕ)
+    → Read command told told' ended status output → IsSome ended → command ≡ Sim
+sim_by command told told' ended status output (inl (bytes, short, consumed, at_end, is)) some = output_sim command bytes ended status output is some
+sim_by command told told' ended status output (inr (bytes, count, consumed, none, is_two, line)) some = absurd (no_run ended none some)
+
+-- only a play has one
+run_sim : (command : Command) (source source' : Ends) (ended : Option Ended) (status : Status) (output : List ℕ)
+    → HasRead command source source' ended status output → IsSome ended → command ≡ Sim
+run_sim command source source' ended status output has some = sim_by command source.told source'.told ended status output has.read some
+
+-- ---- answers
+
+-- at most one command is said
+abbrev pub IsOne : (Command → Type 0) → Type 0
+IsOne said = (a b : Command) → said a → said b → a ≡ b
+
+-- what is told of a source has what all bytes have
+told_any : (P : List ℕ → Type 0) (told : Option (List ℕ)) → ((bytes : List ℕ) → P bytes) → IfSome told P
+told_any P None all = tt
+told_any P (Some bytes) all = all bytes
+
+-- any status but `Done` and `OtherWords` will do for bytes that may be refused
+pub says_refused : (command : Command) (told : Option (List ℕ)) (status : Status)
+    → (status ≡ Refused) ⊎ (status ≡ ReadFault) ⊎ (status ≡ WriteFault) ⊎ (status ≡ NoMemory) → IfSome told (SaysRefused command status)
+says_refused command told status is = told_any (SaysRefused command status) told (λ bytes output refusal. is)
+
+says_by : (command : Command) (told told' : Option (List ℕ)) (ended : Option Ended) (status wanted : Status) (output : List ℕ) → wanted ≡ Done
+    → Read command told told' ended wanted output → IfSome told (SaysRefused command status)
+says_by command told told' ended status wanted output done (inl (bytes, short, consumed, at_end, is)) =
+    told_whole (SaysRefused command status) told told' bytes consumed at_end
+    (λ line refusal. absurd (never_refused command bytes ended wanted output line done short is refusal))
+says_by command told told' ended status wanted output done (inr (bytes, count, consumed, none, is_refused, line)) = absurd (cc (done, is_refused))
+
+-- where an output is done, what is told isn't refused
+says_done : (command : Command) (source source' : Ends) (ended : Option Ended) (status wanted : Status) (output : List ℕ) → wanted ≡ Done
+    → HasRead command source source' ended wanted output → IfSome source.told (SaysRefused command status)
+says_done command source source' ended status wanted output done has = says_by command source.told source'.told ended status wanted output done has.read
+
+-- a count that is as it was didn't rise
+no_rise : {P : Type 0} (old new : ℕ) → new ≡ old → old < new → P
+no_rise old new same rose = absurd (omega (arith, same, rose))
+
+answered : (said : Command → Type 0) (source source' sink sink' : Ends) (status : Status) (ended : Option Ended) (command : Command) (wanted : Status) (output : List ℕ)
+    → IsOne said → said command → HasRead command source source' ended wanted output → IsWritten sink sink' output wanted status
+    → source'.faults ≡ source.faults → sink.faults ≤ sink'.faults → (wanted ≡ Done) ⊎ (wanted ≡ Refused) → IsAnswer said source source' sink sink' status ended
+answered said source source' sink sink' status ended command wanted output one is_said has (inl written) steady writes (inl done) =
+    let is_done : status ≡ Done = written.0 ∙ done in record {
+      words = λ is. absurd (cc (is, is_done));
+      other_words = λ other. absurd (other command is_said);
+      done = λ is. (command, is_said, output, subst (λ w. HasRead command source source' ended w output) done has, written.1);
+      refused = λ is. absurd (cc (is, is_done));
+      refuses = λ c said_c. subst (λ v. IfSome source.told (SaysRefused v status)) (one command c is_said said_c) (says_done command source source' ended status wanted output done has);
+      read_fault = λ is. absurd (cc (is, is_done));
+      only_read_fault = λ rose. no_rise source.faults source'.faults steady rose;
+      write_fault = λ is. absurd (cc (is, is_done));
+      only_write_fault = λ rose. no_rise sink.faults sink'.faults written.2 rose;
+      no_memory = λ is. absurd (cc (is, is_done));
+      played = λ is sim. done_run command source source' ended wanted output done (one command Sim is_said sim) has;
+      only_played = λ some. subst said (run_sim command source source' ended wanted output has some) is_said;
+      reads = omega (arith, steady);
+      writes = writes;
+    }
+answered said source source' sink sink' status ended command wanted output one is_said has (inl written) steady writes (inr two) =
+    let is_refused : status ≡ Refused = written.0 ∙ two in
+    let no_run = told_refused command source source' ended wanted output two has in record {
+      words = λ is. absurd (cc (is, is_refused));
+      other_words = λ other. absurd (other command is_said);
+      done = λ is. absurd (cc (is, is_refused));
+      refused = λ is. (no_run.0, (command, is_said, output, subst (λ w. HasRead command source source' ended w output) two has, written.1, no_run.1));
+      refuses = λ c said_c. says_refused c source.told status (inl is_refused);
+      read_fault = λ is. absurd (cc (is, is_refused));
+      only_read_fault = λ rose. no_rise source.faults source'.faults steady rose;
+      write_fault = λ is. absurd (cc (is, is_refused));
+      only_write_fault = λ rose. no_rise sink.faults sink'.faults written.2 rose;
+      no_memory = λ is. absurd (cc (is, is_refused));
+      played = λ is sim. absurd (cc (is, is_refused));
+      only_played = λ some. subst said (run_sim command source source' ended wanted output has some) is_said;
+      reads = omega (arith, steady);
+      writes = writes;
+    }
+answered said source source' sink sink' status ended command wanted output one is_said has (inr cut) steady writes done_or_refused = record {
+  words = λ is. absurd (cc (is, cut.0));
+  other_words = λ other. absurd (other command is_said);
+  done = λ is. absurd (cc (is, cut.0));
+  refused = λ is. absurd (cc (is, cut.0));
+  refuses = λ c said_c. says_refused c source.told status (inr (inr (inl cut.0)));
+  read_fault = λ is. absurd (cc (is, cut.0));
+  only_read_fault = λ rose. no_rise source.faults source'.faults steady rose;
+  write_fault = λ is. (cut.1, (command, is_said, output, wanted, cut.2.0, has, cut.2.1, cut.2.2));
+  only_write_fault = λ rose. cut.0;
+  no_memory = λ is. absurd (cc (is, cut.0));
+  played = λ is sim. absurd (cc (is, cut.0));
+  only_played = λ some. subst said (run_sim command source source' ended wanted output has some) is_said;
+  reads = omega (arith, steady);
+  writes = writes;
+}
+
+-- a read failed
+pub read_failed : (said : Command → Type 0) (source source' sink : Ends) (status : Status) (ended : Option Ended) (command : Command) → said command
+    → status ≡ ReadFault → ended ≡ None → Rose source.faults source'.faults → source.faults ≤ source'.faults → IsAnswer said source source' sink sink status ended
+read_failed said source source' sink status ended command is_said failed none rose reads = record {
+  words = λ is. absurd (cc (is, failed));
+  other_words = λ other. absurd (other command is_said);
+  done = λ is. absurd (cc (is, failed));
+  refused = λ is. absurd (cc (is, failed));
+  refuses = λ c said_c. says_refused c source.told status (inr (inl failed));
+  read_fault = λ is. (none, rose, record { told = refl; faults = refl });
+  only_read_fault = λ more. failed;
+  write_fault = λ is. absurd (cc (is, failed));
+  only_write_fault = λ more. no_rise sink.faults sink.faults refl more;
+  no_memory = λ is. absurd (cc (is, failed));
+  played = λ is sim. absurd (cc (is, failed));
+  only_played = λ some. absurd (no_run ended none some);
+  reads = reads;
+  writes = omega arith;
+}
+
+-- there was no memory
+pub without_memory : (said : Command → Type 0) (source source' sink sink' : Ends) (status : Status) (ended : Option Ended) (command : Command) → said command
+    → (status ≡ NoMemory) × (ended ≡ None) × IsUntouched sink sink' → source'.faults ≡ source.faults → IsAnswer said source source' sink sink' status ended
+without_memory said source source' sink sink' status ended command is_said without steady = record {
+  words = λ is. absurd (cc (is, without.0));
+  other_words = λ other. absurd (other command is_said);
+  done = λ is. absurd (cc (is, without.0));
+  refused = λ is. absurd (cc (is, without.0));
+  refuses = λ c said_c. says_refused c source.told status (inr (inr (inr without.0)));
+  read_fault = λ is. absurd (cc (is, without.0));
+  only_read_fault = λ rose. no_rise source.faults source'.faults steady rose;
+  write_fault = λ is. absurd (cc (is, without.0));
+  only_write_fault = λ rose. no_rise sink.faults sink'.faults without.2.faults rose;
+  no_memory = λ is. (without.1, without.2);
+  played = λ is sim. absurd (cc (is, without.0));
+  only_played = λ some. absurd (no_run ended without.1 some);
+  reads = omega (arith, steady);
+  writes = omega (arith, without.2.faults);
+}
+
+-- an input that was read, and what was done with it, make the answer
+carried_out : (said : Command → Type 0) (source source' sink sink' : Ends) (status : Status) (ended : Option Ended) (command : Command) (bytes : List ℕ) → IsOne said → said command
+    → (length bytes ≤ most_bytes command) × Consumes source.told source'.told bytes × IsAtEnd source'.told → IsCarriedOut command bytes sink sink' status ended
+    → source'.faults ≡ source.faults → sink.faults ≤ sink'.faults → IsAnswer said source source' sink sink' status ended
+carried_out said source source' sink sink' status ended command bytes one is_said (short, consumed, at_end) (inl (output, wanted, is, written)) steady writes =
+    let has : HasRead command source source' ended wanted output = record { read = inl (bytes, short, consumed, at_end, is) } in
+    answered said source source' sink sink' status ended command wanted output one is_said has written steady writes (status_is command source source' ended wanted output has)
+carried_out said source source' sink sink' status ended command bytes one is_said taken (inr without) steady writes =
+    without_memory said source source' sink sink' status ended command is_said without steady
+
+-- an input that was read, and what was done with it, make the answer, where the bytes and the limit are shown under other names
+pub whole_answer : (said : Command → Type 0) (source source' sink sink' : Ends) (status : Status) (ended : Option Ended) (command : Command) (bytes shown : List ℕ) (limit : ℕ)
+    → shown ≡ bytes → limit ≡ most_bytes command → IsOne said → said command
+    → (length bytes ≤ limit) × Consumes source.told source'.told bytes × IsAtEnd source'.told → IsCarriedOut command shown sink sink' status ended
+    → source'.faults ≡ source.faults → sink.faults ≤ sink'.faults → IsAnswer said source source' sink sink' status ended
+whole_answer said source source' sink sink' status ended command bytes shown limit same most one is_said (short, consumed, at_end) done =
+    carried_out said source source' sink sink' status ended command bytes one is_said (subst (λ n. length bytes ≤ n) most short, consumed, at_end)
+    (subst (λ b. IsCarriedOut command b sink sink' status ended) same done)
+
+-- one byte more was read than an input may have, and that is refused
+pub too_long_answer : (said : Command → Type 0) (source source' sink sink' : Ends) (status : Status) (ended : Option Ended) (command : Command) (line : List ℕ) (limit : ℕ)
+    → line ≡ too_long_line → limit ≡ most_bytes command → IsOne said → said command
+    → ConsumesJust (limit + 1) source.told source'.told → ended ≡ None → IsWritten sink sink' line Refused status
+    → source'.faults ≡ source.faults → sink.faults ≤ sink'.faults → IsAnswer said source source' sink sink' status ended
+too_long_answer said source source' sink sink' status ended command line limit same most one is_said (bytes, count, consumed) none written steady writes =
+    answered said source source' sink sink' status ended command Refused line one is_said
+    (record { read = inr (bytes, count ∙ ap (λ n. n + 1) most, consumed, none, refl, same) }) written steady writes (inr refl)

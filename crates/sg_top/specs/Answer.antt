@@ -1,0 +1,147 @@
+-- What the program answers: by which words, with which status, and why.
+use Rattle.std.specs.Prelude.{ℕ, ◌≡◌, ◌+◌, ◌<◌, ◌≤◌, ◌⊎◌, List, [], ◌∷◌, None, Some, IsSome, IfSome, length, take, codes, string_bytes}
+use Rattle.std.specs.declared.option.Option.{Option}
+use Rattle.std.specs.Io.KnownBytes.{Appends, Consumes, IsAtEnd}
+use Rattle.std.specs.declared.string.String.{String}
+use Rattle.std.specs.declared.alloc.Global.{Global}
+use Rattle.sg_facts.specs.Facts.{Facts}
+use Rattle.sg_edge.specs.Edge.{Rose, ConsumesAtMost}
+use Rattle.sg_hist.specs.declared.ended.Ended.{Ended}
+use Rattle.sg_lock.specs.LockFacts.{lock_facts}
+use Rattle.sg_diagnose.specs.declared.outcome.Verdict.{Verdict}
+use Rattle.sg_diagnose.specs.declared.outcome.Verdict.TheVariants.{Accepted as accepted, Refused as refused}
+use Rattle.sg_diagnose.specs.Verdicts.{IsCompiled, IsVerdict}
+use Rattle.sg_input.specs.Inputs.{most_input, most_interface}
+use Rattle.sg_input.specs.Lines.{too_long_line}
+use Rattle.sg_top.specs.Headline.{IsNotPlayed, IsRunOfInput}
+use Rattle.sg_top.specs.declared.command.Command.{Command}
+use Rattle.sg_top.specs.declared.command.Command.TheVariants.{Sim, Check, Compile}
+use Rattle.sg_top.specs.declared.status.Status.{Status}
+use Rattle.sg_top.specs.declared.status.Status.TheVariants.{Done, OtherWords, Refused, ReadFault, WriteFault, NoMemory}
+
+-- ---- words
+
+-- the name of a command
+abbrev pub command_name : Command → List ℕ
+command_name Sim = codes "sim"
+command_name Check = codes "check"
+command_name Compile = codes "compile"
+
+-- the words are one word, and the word is this text
+abbrev pub IsOneWord : List ℕ → List (String Global) → Type 0
+IsOneWord text [] = ⊥
+IsOneWord text (word ∷ []) = string_bytes word ≡ text
+IsOneWord text (word ∷ other ∷ words) = ⊥
+
+-- the words are the name of a command
+abbrev pub IsCommand : List (String Global) → Command → Type 0
+IsCommand words command = IsOneWord (command_name command) words
+
+-- ---- limits
+
+-- the greatest number of bytes of a command's input
+abbrev pub most_bytes : Command → ℕ
+most_bytes Sim = most_input
+most_bytes Check = most_interface
+most_bytes Compile = most_interface
+
+-- ---- outputs
+
+-- the services whose interfaces may be accepted
+abbrev pub services : List Facts
+services = lock_facts ∷ []
+
+-- the output of a play, and its status: the report of the run of an input that is played, or the line of an input that isn't
+abbrev pub IsPlayed : List ℕ → Option Ended → Status → List ℕ → Type 0
+IsPlayed bytes None status output = (status ≡ Refused) × IsNotPlayed services bytes output
+IsPlayed bytes (Some ended) status output = (status ≡ Done) × IsRunOfInput services bytes ended output
+
+-- the output of a check, and its status: the line of a text that is accepted, or of a text that is refused
+abbrev pub IsChecked : List ℕ → Status → List ℕ → Type 0
+IsChecked text status output =
+    ((status ≡ Done) × IsVerdict services text (accepted output)) ⊎ ((status ≡ Refused) × IsVerdict services text (refused output))
+
+-- the output of a compilation, and its status: the text of the tables of an interface that is accepted, or the line of a text
+-- that is refused
+abbrev pub IsTabled : List ℕ → Status → List ℕ → Type 0
+IsTabled text status output =
+    ((status ≡ Done) × IsCompiled services text (accepted output)) ⊎ ((status ≡ Refused) × IsCompiled services text (refused output))
+
+-- the output of a command for an input, its status, and the run where there was one: only a play has one
+abbrev pub IsOutput : Command → List ℕ → Option Ended → Status → List ℕ → Type 0
+IsOutput Sim bytes ended status output = IsPlayed bytes ended status output
+IsOutput Check bytes ended status output = (ended ≡ None) × IsChecked bytes status output
+IsOutput Compile bytes ended status output = (ended ≡ None) × IsTabled bytes status output
+
+-- the line with which a command refuses bytes that aren't too many
+abbrev pub IsRefusedAs : Command → List ℕ → List ℕ → Type 0
+IsRefusedAs Sim bytes output = IsNotPlayed services bytes output
+IsRefusedAs Check bytes output = IsVerdict services bytes (refused output)
+IsRefusedAs Compile bytes output = IsVerdict services bytes (refused output)
+
+-- the output of a command that refuses these bytes: as an input, or as more bytes than an input may have
+abbrev pub IsRefusal : Command → List ℕ → List ℕ → Type 0
+IsRefusal command bytes output =
+    ((length bytes ≤ most_bytes command) × IsRefusedAs command bytes output)
+    ⊎ ((most_bytes command < length bytes) × (output ≡ too_long_line))
+
+-- a status for bytes that a command may refuse: where it refuses them the status says so, or that there was a fault or no memory
+abbrev pub SaysRefused : Command → Status → List ℕ → Type 0
+SaysRefused command status bytes =
+    (output : List ℕ) → IsRefusal command bytes output
+    → (status ≡ Refused) ⊎ (status ≡ ReadFault) ⊎ (status ≡ WriteFault) ⊎ (status ≡ NoMemory)
+
+-- ---- answers
+
+-- the bytes of a source, as far as they are told, and how often it failed; those of a sink likewise
+pub record Ends : Type 0 where
+  pub told : Option (List ℕ)
+  pub faults : ℕ
+
+-- an input was read to its end, and an output for it is to be written with this status; or one byte more than an input may
+-- have was read, and the input is refused
+pub record HasRead (command : Command) (before after : Ends) (ended : Option Ended) (status : Status) (output : List ℕ) : Type 0 where
+  pub read : ((bytes : List ℕ) × (length bytes ≤ most_bytes command) × Consumes before.told after.told bytes × IsAtEnd after.told × IsOutput command bytes ended status output)
+      ⊎ ((bytes : List ℕ) × (length bytes ≡ most_bytes command + 1) × Consumes before.told after.told bytes × (ended ≡ None) × (status ≡ Refused) × (output ≡ too_long_line))
+
+-- a source or sink is as it was
+pub record IsUntouched (before after : Ends) : Type 0 where
+  pub told : after.told ≡ before.told
+  pub faults : after.faults ≡ before.faults
+
+-- what an answer says, by its status, where the words say this command
+pub record IsAnswer (said : Command → Type 0) (source source' sink sink' : Ends) (status : Status) (ended : Option Ended) : Type 0 where
+  -- other words: they are no command's, and nothing is read or written
+  pub words : status ≡ OtherWords → ((command : Command) → said command → ⊥) × IsUntouched source source' × IsUntouched sink sink' × (ended ≡ None)
+  pub other_words : ((command : Command) → said command → ⊥) → status ≡ OtherWords
+  -- done: the input is played, accepted or compiled, and its report, line or tables are written
+  pub done : status ≡ Done → (command : Command) × said command × (output : List ℕ) × HasRead command source source' ended Done output × Appends sink.told sink'.told output
+  -- refused: the input is refused, and the line that refuses it is written
+  pub refused : status ≡ Refused → (ended ≡ None)
+      × ((command : Command) × said command × (output : List ℕ) × HasRead command source source' ended Refused output × Appends sink.told sink'.told output
+      × IfSome source.told (λ bytes. IsRefusal command bytes output))
+  -- an input that is refused is never answered as done
+  pub refuses : (command : Command) → said command → IfSome source.told (SaysRefused command status)
+  -- a read fault: a read failed, and nothing is written; no other status is answered where the source's count of faults rose
+  pub read_fault : status ≡ ReadFault → (ended ≡ None) × Rose source.faults source'.faults × IsUntouched sink sink'
+  pub only_read_fault : source.faults < source'.faults → status ≡ ReadFault
+  -- a write fault: a write failed, and what is written is a proper prefix of the output; no other status is answered where the
+  -- sink's count of faults rose
+  pub write_fault : status ≡ WriteFault → Rose sink.faults sink'.faults
+      × ((command : Command) × said command × (output : List ℕ) × (wanted : Status) × (written : ℕ) × HasRead command source source' ended wanted output
+      × (written < length output) × Appends sink.told sink'.told (take written output))
+  pub only_write_fault : sink.faults < sink'.faults → status ≡ WriteFault
+  -- no memory: nothing is written
+  pub no_memory : status ≡ NoMemory → (ended ≡ None) × IsUntouched sink sink'
+  -- a run is there where a play is done, and never of another command
+  pub played : status ≡ Done → said Sim → IsSome ended
+  pub only_played : IsSome ended → said Sim
+  -- the counts of faults never fall
+  pub reads : source.faults ≤ source'.faults
+  pub writes : sink.faults ≤ sink'.faults
+
+-- at most one byte more was read than an input of the command may have, and nothing for other words
+abbrev pub ReadsInput : (Command → Type 0) → Option (List ℕ) → Option (List ℕ) → Type 0
+ReadsInput said told told' =
+    ((command : Command) × said command × ConsumesAtMost (most_bytes command + 1) told told')
+    ⊎ (((command : Command) → said command → ⊥) × (told' ≡ told))

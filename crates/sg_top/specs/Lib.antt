@@ -1,0 +1,4 @@
+pub mod Answer
+pub mod Headline
+pub mod Inside
+pub mod Status

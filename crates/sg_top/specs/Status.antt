@@ -1,0 +1,20 @@
+-- The numbers of statuses, and the status of a program whose words can't be had.
+use Rattle.std.specs.Prelude.{ℕ}
+use Rattle.std_io.specs.declared.io.error.ErrorKind.{ErrorKind}
+use Rattle.std_io.specs.declared.io.error.ErrorKind.TheVariants.{OutOfMemory}
+use Rattle.sg_top.specs.declared.status.Status.{Status}
+use Rattle.sg_top.specs.declared.status.Status.TheVariants.{Done, OtherWords, Refused, ReadFault, WriteFault, NoMemory}
+
+-- the number that a process ends with
+abbrev pub status_number : Status → ℕ
+status_number Done = 0
+status_number OtherWords = 1
+status_number Refused = 2
+status_number ReadFault = 4
+status_number WriteFault = 5
+status_number NoMemory = 6
+
+-- the status where the words can't be had: of want of memory, or of anything else
+abbrev pub status_without_words : ErrorKind → Status
+status_without_words OutOfMemory = NoMemory
+status_without_words _ = OtherWords

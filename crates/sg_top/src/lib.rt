@@ -1,0 +1,24 @@
+//! The program as a call: reads an interface and a script, plays it, and writes every reply; or says whether an interface is
+//! accepted, or prints its tables.
+//!
+//! - `top`: what the words, the source and the sink come to (`superglue`, `serial`, `Answer`)
+//! - `status`: how a call ends, and the number of that (`Status`)
+//! - `command`: what the words ask for (`Command`)
+//! - `output`: what a command makes of its input
+//! - `runs`: which scripts are played, and their runs
+//! - `played`: a run that was played (`Played`)
+//!
+//! `specs/Headline.antt` says what a play promises, and `specs/Answer.antt` what an answer promises, status by status.
+#![tactic(auto)]
+
+mod command;
+mod output;
+mod played;
+mod runs;
+mod status;
+mod top;
+
+pub use command::Command;
+pub use played::Played;
+pub use status::Status;
+pub use top::{Answer, serial, superglue};
