@@ -19,7 +19,7 @@ use Rattle.sg_script.specs.declared.fault.ScriptError.{ScriptError}
 use Rattle.sg_script.specs.declared.fault.ScriptError.TheVariants.{NoMemory as no_room, Fault}
 use Rattle.sg_script.specs.declared.fault.ScriptFault.{ScriptFault}
 use Rattle.sg_script.specs.declared.script.Script.{Script}
-use Rattle.sg_script.specs.Reads.{Reads}
+use Rattle.sg_script.specs.Reads.{IsReadingOf}
 use Rattle.sg_script.proofs.Unique.{one_reading}
 use Rattle.sg_input.specs.declared.input.Input.{Input}
 use Rattle.sg_input.specs.declared.input.Input.TheVariants.{Refused, Ready}
@@ -85,24 +85,24 @@ read_well script e = absurd cc
 read_ill : (fault : ScriptFault) → ◌≡◌ {A = Answer} (Err (Fault fault)) (Err no_room) → ⊥
 read_ill fault e = absurd cc
 
-one_script : (i : Declared) (text : List ℕ) (one other : Script) → Reads i text (Ok one) → Reads i text (Ok other) → one ≡ other
+one_script : (i : Declared) (text : List ℕ) (one other : Script) → IsReadingOf i text (Ok one) → IsReadingOf i text (Ok other) → one ≡ other
 one_script i text one other r s =
     let same : ◌≡◌ {A = Answer} (Ok one) (Ok other) = one_reading i text (Ok one) (Ok other) r s (read_well one) (read_well other) in cc same
 
-one_fault : (i : Declared) (text : List ℕ) (one other : ScriptFault) → Reads i text (Err (Fault one)) → Reads i text (Err (Fault other)) → one ≡ other
+one_fault : (i : Declared) (text : List ℕ) (one other : ScriptFault) → IsReadingOf i text (Err (Fault one)) → IsReadingOf i text (Err (Fault other)) → one ≡ other
 one_fault i text one other r s =
     let same : ◌≡◌ {A = Answer} (Err (Fault one)) (Err (Fault other)) = one_reading i text (Err (Fault one)) (Err (Fault other)) r s (read_ill one) (read_ill other) in cc same
 
-not_faulty : (i : Declared) (text : List ℕ) (script : Script) (fault : ScriptFault) → Reads i text (Ok script) → Reads i text (Err (Fault fault)) → ⊥
+not_faulty : (i : Declared) (text : List ℕ) (script : Script) (fault : ScriptFault) → IsReadingOf i text (Ok script) → IsReadingOf i text (Err (Fault fault)) → ⊥
 not_faulty i text script fault r s =
     let same : ◌≡◌ {A = Answer} (Ok script) (Err (Fault fault)) = one_reading i text (Ok script) (Err (Fault fault)) r s (read_well script) (read_ill fault) in absurd cc
 
 -- readings of the two texts of one input are readings of one script for one interface
 moved : (services : List Facts) (input : List ℕ) (a b a' b' : List ℕ) (i j : Declared) (answer : Answer) → AreTexts input a b → AreTexts input a' b'
-    → IsInterface services a i → IsInterface services a' j → Reads j b' answer → Reads i b answer
+    → IsInterface services a i → IsInterface services a' j → IsReadingOf j b' answer → IsReadingOf i b answer
 moved services input a b a' b' i j answer t t' is is' reads =
     let one : i ≡ j = one_interface services a i j is (subst (λ v. IsInterface services v j) (sym (same_interface input a b a' b' t t')) is') in
-    subst (λ v. Reads v b answer) (sym one) (subst (λ v. Reads j v answer) (sym (same_script input a b a' b' t t')) reads)
+    subst (λ v. IsReadingOf v b answer) (sym one) (subst (λ v. IsReadingOf j v answer) (sym (same_script input a b a' b' t t')) reads)
 
 -- ---- the input
 

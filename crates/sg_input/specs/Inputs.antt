@@ -10,7 +10,7 @@ use Rattle.sg_diagnose.specs.Verdicts.{IsVerdict}
 use Rattle.sg_script.specs.declared.fault.ScriptError.TheVariants.{Fault}
 use Rattle.sg_script.specs.declared.fault.ScriptFault.{ScriptFault}
 use Rattle.sg_script.specs.declared.script.Script.{Script}
-use Rattle.sg_script.specs.Reads.{Reads}
+use Rattle.sg_script.specs.Reads.{IsReadingOf}
 use Rattle.sg_input.specs.declared.input.Input.{Input}
 use Rattle.sg_input.specs.declared.input.Input.TheVariants.{Refused, Ready}
 use Rattle.sg_input.specs.Divider.{Divides, IsCut}
@@ -72,7 +72,7 @@ pub record IsBadScript (services : List Facts) (input : List ℕ) (line : List �
   pub i : Declared
   pub accepted : IsInterface services interface i
   pub fault : ScriptFault
-  pub reads : Reads i script (Err (Fault fault))
+  pub reads : IsReadingOf i script (Err (Fault fault))
   pub says : line ≡ script_line script fault
 
 -- an interface is accepted, and this is a script for it
@@ -81,7 +81,7 @@ pub record IsReady (services : List Facts) (input : List ℕ) (i : Declared) (re
   pub script : List ℕ
   pub texts : AreTexts input interface script
   pub accepted : IsInterface services interface i
-  pub reads : Reads i script (Ok read)
+  pub reads : IsReadingOf i script (Ok read)
 
 -- an input is refused with this line, or ready with this interface and script
 abbrev pub IsInputOf : List Facts → List ℕ → Input → Type 0

@@ -15,18 +15,18 @@ abbrev pub too_long_line : List ℕ
 too_long_line = codes "input refused: TooLong" ++ 10 ∷ []
 
 -- the name of a kind of fault of a script
-abbrev pub kind_name : ScriptKind → List ℕ
-kind_name Syntax = codes "Syntax"
-kind_name UnknownFunction = codes "UnknownFunction"
-kind_name BadArgs = codes "BadArgs"
-kind_name BadClient = codes "BadClient"
-kind_name Twice = codes "Twice"
-kind_name NotAscending = codes "NotAscending"
-kind_name Blocking = codes "Blocking"
-kind_name Limit = codes "Limit"
+abbrev pub script_kind_name : ScriptKind → List ℕ
+script_kind_name Syntax = codes "Syntax"
+script_kind_name UnknownFunction = codes "UnknownFunction"
+script_kind_name BadArgs = codes "BadArgs"
+script_kind_name BadClient = codes "BadClient"
+script_kind_name Twice = codes "Twice"
+script_kind_name NotAscending = codes "NotAscending"
+script_kind_name Blocking = codes "Blocking"
+script_kind_name Limit = codes "Limit"
 
 -- a fault of a script, with the line of its place and the byte in that line
 abbrev pub script_line : List ℕ → ScriptFault → List ℕ
 script_line script f =
     codes "script refused at " ++ decimal (line_of script f.at) ++ codes ":" ++ decimal (column_of script f.at)
-    ++ codes ": " ++ kind_name f.kind ++ 10 ∷ []
+    ++ codes ": " ++ script_kind_name f.kind ++ 10 ∷ []

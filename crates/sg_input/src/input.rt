@@ -6,7 +6,7 @@ use sg_script::Script;
 /// What an input is.
 #[derive(Debug, Drop)]
 pub enum Input {
-    /// It is refused, with this line.
+    /// The input is refused, with this line.
     Refused(Bytes),
     /// An interface that is accepted, and a script for it without a flaw.
     Ready(Accepted, Script),

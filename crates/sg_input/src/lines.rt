@@ -1,6 +1,6 @@
 // The lines that refuse an input.
 ghost use Rattle.std.specs.Prelude.{◌≡◌, IfOk};
-ghost use Rattle.sg_input.specs.Lines.{kind_name, script_line};
+ghost use Rattle.sg_input.specs.Lines.{script_kind_name, script_line};
 
 use sg_base::{Bytes, NoMemory};
 use sg_diagnose::{column_of, line_of};
@@ -19,14 +19,14 @@ pub fn script_line(alloc: Global, script: &[u8], fault: ScriptFault) -> Result<B
 {
     let line = line_of(script, fault.at);
     let column = column_of(script, fault.at);
-    let kind = kind_name(fault.kind);
+    let kind = script_kind_name(fault.kind);
     let said = format!(in alloc; "script refused at {line}:{column}: {kind}\n")?;
     Ok(Bytes::from_vec(said.into_bytes()))
 }
 
 // The name of a kind of fault.
-fn kind_name(kind: ScriptKind) -> &'static str
-    ensures { result.now ≡ kind_name kind }
+fn script_kind_name(kind: ScriptKind) -> &'static str
+    ensures { result.now ≡ script_kind_name kind }
 {
     match kind {
         ScriptKind::Syntax => "Syntax",

@@ -12,7 +12,7 @@ use Rattle.sg_hist.specs.declared.ended.End.TheVariants.{Done, Blocked}
 use Rattle.sg_hist.specs.Clients.{calls_of}
 use Rattle.sg_script.specs.declared.script.Script.{Script}
 use Rattle.sg_script.specs.declared.script.ScriptCall.{ScriptCall}
-use Rattle.sg_sim.specs.Script.{desc_of, values_of}
+use Rattle.sg_sim.specs.Script.{desc_among, values_of}
 
 -- ---- the calls of a client
 
@@ -31,18 +31,18 @@ resolved_by facts history client seq c = record {
   client = client;
   seq = seq;
   fun = c.fun;
-  desc = desc_of (calls_of history client) (fun_at facts.funs c.fun).kinds c.args;
+  desc = desc_among (calls_of history client) (fun_at facts.funs c.fun).kinds c.args;
   args = values_of (calls_of history client) (fun_at facts.funs c.fun).kinds c.args;
 }
 
--- the same of a call that there may be
+-- a call of a client with its number, where the client has one more
 abbrev pub resolved : Facts → List Entry → ℕ → ℕ → Option ScriptCall → Option Call
 resolved facts history client seq None = None
 resolved facts history client seq (Some c) = Some (resolved_by facts history client seq c)
 
 -- the call that a client makes when so many of its calls are done
-abbrev pub next_call : Facts → Script → List Entry → ℕ → ℕ → Option Call
-next_call facts script history client done = resolved facts history client (done + 1) (slice_get (script_calls script client) done)
+abbrev pub call_after : Facts → Script → List Entry → ℕ → ℕ → Option Call
+call_after facts script history client done = resolved facts history client (done + 1) (slice_get (script_calls script client) done)
 
 -- ---- how clients end
 
@@ -53,19 +53,19 @@ most_client (c ∷ []) = c.0
 most_client (c ∷ other ∷ clients) = most_client (other ∷ clients)
 
 -- numbers from one on
-abbrev pub numbers_from : ℕ → ℕ → List ℕ
-numbers_from n zero = []
-numbers_from n (suc count) = n ∷ numbers_from (n + 1) count
+abbrev pub ascending_from : ℕ → ℕ → List ℕ
+ascending_from n zero = []
+ascending_from n (suc count) = n ∷ ascending_from (n + 1) count
 
 -- the clients that have a call, ascending
 abbrev pub callers : Script → List ℕ
-callers script = filter (λ c. not (length (script_calls script c) == 0)) (numbers_from 1 (most_client script.clients))
+callers script = filter (λ c. not (length (script_calls script c) == 0)) (ascending_from 1 (most_client script.clients))
 
 -- a client is done: each of its calls is in the history; or it waits in its next call, which the service can't answer yet
 abbrev pub IsEnd : Declared → Table → List Entry → Script → ℕ → End → Type 0
 IsEnd i ask history script client Done = length (calls_of history client) ≡ length (script_calls script client)
 IsEnd i ask history script client (Blocked call) =
-    (next_call i.facts script history client (length (calls_of history client)) ≡ Some call) × (answer i ask (object_of i.facts history) call ≡ None)
+    (call_after i.facts script history client (length (calls_of history client)) ≡ Some call) × (answer i ask (object_of i.facts history) call ≡ None)
 
 abbrev pub EachEnd : Declared → Table → List Entry → Script → List (ℕ × End) → Type 0
 EachEnd i ask history script [] = Unit {0}

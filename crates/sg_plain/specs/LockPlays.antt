@@ -14,18 +14,18 @@ use Rattle.sg_script.specs.declared.script.ScriptCall.{ScriptCall}
 abbrev pub made : ℕ → List Arg → ScriptCall
 made fun args = record { fun = fun; args = args }
 
-abbrev pub call_of : ℕ → ℕ → ℕ → ℕ → Call
-call_of client seq fun desc = record { client = client; seq = seq; fun = fun; desc = desc; args = [] }
+abbrev pub lock_call : ℕ → ℕ → ℕ → ℕ → Call
+lock_call client seq fun desc = record { client = client; seq = seq; fun = fun; desc = desc; args = [] }
 
-abbrev pub ok_at : ℕ → Reply
-ok_at desc = Ok (record { desc = desc; words = []; bytes = [] })
+abbrev pub ok_with : ℕ → Reply
+ok_with desc = Ok (record { desc = desc; words = []; bytes = [] })
 
-abbrev pub entry : Call → Reply → Entry
-entry call reply = record { call = call; reply = reply }
+abbrev pub entry_of : Call → Reply → Entry
+entry_of call reply = record { call = call; reply = reply }
 
 -- client 1 makes a lock, takes it, releases it and frees it
-abbrev pub four_calls : Script
-four_calls = record {
+abbrev pub four_lock_calls : Script
+four_lock_calls = record {
   setup = [];
   clients = (1, made 1 [] ∷ made 2 (Back 1 ∷ []) ∷ made 3 (Back 1 ∷ []) ∷ made 4 (Back 1 ∷ []) ∷ []) ∷ [];
   schedule = [];
@@ -34,11 +34,11 @@ four_calls = record {
 
 abbrev pub four_calls_history : List Entry
 four_calls_history =
-    entry (call_of 1 1 1 0) (ok_at 1) ∷ entry (call_of 1 2 2 1) (ok_at 0) ∷ entry (call_of 1 3 3 1) (ok_at 0) ∷ entry (call_of 1 4 4 1) (ok_at 0) ∷ []
+    entry_of (lock_call 1 1 1 0) (ok_with 1) ∷ entry_of (lock_call 1 2 2 1) (ok_with 0) ∷ entry_of (lock_call 1 3 3 1) (ok_with 0) ∷ entry_of (lock_call 1 4 4 1) (ok_with 0) ∷ []
 
 -- two clients take and release a lock that the setup makes; client 2 waits for the first release
-abbrev pub release_wakes : Script
-release_wakes = record {
+abbrev pub wait_and_wake : Script
+wait_and_wake = record {
   setup = made 1 [] ∷ [];
   clients =
       (1, made 2 (Number 1 ∷ []) ∷ made 3 (Number 1 ∷ []) ∷ [])
@@ -50,11 +50,11 @@ release_wakes = record {
 
 abbrev pub release_wakes_history : List Entry
 release_wakes_history =
-    entry (call_of 1 1 1 0) (ok_at 1)
-    ∷ entry (call_of 1 2 2 1) (ok_at 0)
-    ∷ entry (call_of 1 3 3 1) (ok_at 0)
-    ∷ entry (call_of 2 1 2 1) (ok_at 0)
-    ∷ entry (call_of 2 2 3 1) (ok_at 0)
+    entry_of (lock_call 1 1 1 0) (ok_with 1)
+    ∷ entry_of (lock_call 1 2 2 1) (ok_with 0)
+    ∷ entry_of (lock_call 1 3 3 1) (ok_with 0)
+    ∷ entry_of (lock_call 2 1 2 1) (ok_with 0)
+    ∷ entry_of (lock_call 2 2 3 1) (ok_with 0)
     ∷ []
 
 abbrev pub both_done : List (ℕ × End)
@@ -70,22 +70,22 @@ stays_blocked = record {
 }
 
 abbrev pub stays_blocked_history : List Entry
-stays_blocked_history = entry (call_of 1 1 1 0) (ok_at 1) ∷ entry (call_of 1 2 2 1) (ok_at 0) ∷ []
+stays_blocked_history = entry_of (lock_call 1 1 1 0) (ok_with 1) ∷ entry_of (lock_call 1 2 2 1) (ok_with 0) ∷ []
 
 abbrev pub second_blocked : List (ℕ × End)
-second_blocked = (1, Done) ∷ (2, Blocked (call_of 2 1 2 1)) ∷ []
+second_blocked = (1, Done) ∷ (2, Blocked (lock_call 2 1 2 1)) ∷ []
 
 -- the schedule lets client 2 come first
 abbrev pub second_first : Script
-second_first = record release_wakes { schedule = 2 ∷ [] }
+second_first = record wait_and_wake { schedule = 2 ∷ [] }
 
 abbrev pub second_first_history : List Entry
 second_first_history =
-    entry (call_of 1 1 1 0) (ok_at 1)
-    ∷ entry (call_of 2 1 2 1) (ok_at 0)
-    ∷ entry (call_of 2 2 3 1) (ok_at 0)
-    ∷ entry (call_of 1 2 2 1) (ok_at 0)
-    ∷ entry (call_of 1 3 3 1) (ok_at 0)
+    entry_of (lock_call 1 1 1 0) (ok_with 1)
+    ∷ entry_of (lock_call 2 1 2 1) (ok_with 0)
+    ∷ entry_of (lock_call 2 2 3 1) (ok_with 0)
+    ∷ entry_of (lock_call 1 2 2 1) (ok_with 0)
+    ∷ entry_of (lock_call 1 3 3 1) (ok_with 0)
     ∷ []
 
 -- each client names its own calls
@@ -98,4 +98,4 @@ own_backs = record {
 }
 
 abbrev pub own_backs_history : List Entry
-own_backs_history = entry (call_of 1 1 1 0) (ok_at 1) ∷ entry (call_of 2 1 1 0) (ok_at 2) ∷ entry (call_of 2 2 2 2) (ok_at 0) ∷ []
+own_backs_history = entry_of (lock_call 1 1 1 0) (ok_with 1) ∷ entry_of (lock_call 2 1 1 0) (ok_with 2) ∷ entry_of (lock_call 2 2 2 2) (ok_with 0) ∷ []

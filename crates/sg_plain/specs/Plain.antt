@@ -14,7 +14,7 @@ use Rattle.sg_facts.specs.Legal.{Table}
 use Rattle.sg_facts.specs.Object.{object_of}
 use Rattle.sg_facts.specs.Track.{ends_with}
 use Rattle.sg_script.specs.declared.script.Script.{Script}
-use Rattle.sg_plain.specs.Calls.{most_client, next_call, numbers_from, script_calls}
+use Rattle.sg_plain.specs.Calls.{most_client, call_after, ascending_from, script_calls}
 
 -- ---- clients
 
@@ -45,10 +45,10 @@ abbrev pub player_at : Script → ℕ → ℕ → Player
 player_at script client done = record { done = done; phase = if nat_lt done (length (script_calls script client)) then ready else through }
 
 -- the beginning
-abbrev pub start : Script → Stage
-start script = record {
+abbrev pub first_stage : Script → Stage
+first_stage script = record {
   history = [];
-  players = map (λ client. player_at script client 0) (numbers_from 1 (most_client script.clients));
+  players = map (λ client. player_at script client 0) (ascending_from 1 (most_client script.clients));
   schedule = script.schedule;
   last = 0;
 }
@@ -72,19 +72,19 @@ abbrev pub waits_on : Option Call → ℕ
 waits_on None = 0
 waits_on (Some call) = call.desc
 
-abbrev pub woken : Bool → Phase → Phase
-woken true blocked = ready
-woken false blocked = blocked
-woken woke ready = ready
-woken woke replied = replied
-woken woke (holding reply) = holding reply
-woken woke through = through
+abbrev pub woken_phase : Bool → Phase → Phase
+woken_phase true blocked = ready
+woken_phase false blocked = blocked
+woken_phase woke ready = ready
+woken_phase woke replied = replied
+woken_phase woke (holding reply) = holding reply
+woken_phase woke through = through
 
 -- the clients, numbered from one on, after an answered call
 abbrev pub after_wakes : Facts → Script → List Entry → List Row → Call → Reply → ℕ → List Player → List Player
 after_wakes facts script history rows call reply client [] = []
 after_wakes facts script history rows call reply client (p ∷ players) =
-    record p { phase = woken (wakes facts rows call reply (waits_on (next_call facts script history client p.done))) p.phase }
+    record p { phase = woken_phase (wakes facts rows call reply (waits_on (call_after facts script history client p.done))) p.phase }
     ∷ after_wakes facts script history rows call reply (client + 1) players
 
 -- an answered call is appended to the history, and who waited for it is ready again
@@ -109,13 +109,13 @@ served facts script client s call None = at_phase client blocked s
 served facts script client s call (Some reply) =
     if is_visible facts call.fun then at_phase client replied (appended facts script s call reply) else at_phase client (holding reply) s
 
-abbrev pub asked : Declared → Table → Script → ℕ → Stage → Call → Option Code → Stage
-asked i ask script client s call (Some code) = gone_on script client (appended i.facts script s call (Refused code))
-asked i ask script client s call None = served i.facts script client s call (ask (object_of i.facts s.history) call)
+abbrev pub after_guard : Declared → Table → Script → ℕ → Stage → Call → Option Code → Stage
+after_guard i ask script client s call (Some code) = gone_on script client (appended i.facts script s call (Refused code))
+after_guard i ask script client s call None = served i.facts script client s call (ask (object_of i.facts s.history) call)
 
-abbrev pub called : Declared → Table → Script → ℕ → Stage → Option Call → Stage
-called i ask script client s None = s
-called i ask script client s (Some call) = asked i ask script client s call (guard i (object_of i.facts s.history) call)
+abbrev pub after_call : Declared → Table → Script → ℕ → Stage → Option Call → Stage
+after_call i ask script client s None = s
+after_call i ask script client s (Some call) = after_guard i ask script client s call (guard i (object_of i.facts s.history) call)
 
 abbrev pub handed_over : Facts → Script → ℕ → Stage → Reply → Option Call → Stage
 handed_over facts script client s reply None = s
@@ -123,10 +123,10 @@ handed_over facts script client s reply (Some call) = gone_on script client (app
 
 -- what a client's turn does, by what it is at
 abbrev pub turned : Declared → Table → Script → ℕ → Stage → Phase → Stage
-turned i ask script client s ready = called i ask script client s (next_call i.facts script s.history client (player_of s client).done)
+turned i ask script client s ready = after_call i ask script client s (call_after i.facts script s.history client (player_of s client).done)
 turned i ask script client s replied = gone_on script client s
 turned i ask script client s (holding reply) =
-    handed_over i.facts script client s reply (next_call i.facts script s.history client (player_of s client).done)
+    handed_over i.facts script client s reply (call_after i.facts script s.history client (player_of s client).done)
 turned i ask script client s blocked = s
 turned i ask script client s through = s
 
@@ -154,17 +154,17 @@ behind_first s (client ∷ schedule) = if may_turn s client then schedule else b
 
 -- in ascending numbers behind the last turn, and then from 1 on
 abbrev pub in_a_circle : Stage → List ℕ
-in_a_circle s = numbers_from (s.last + 1) (length s.players - s.last) ++ numbers_from 1 s.last
+in_a_circle s = ascending_from (s.last + 1) (length s.players - s.last) ++ ascending_from 1 s.last
 
-abbrev pub or_else : Option ℕ → Option ℕ → Option ℕ
-or_else (Some n) other = Some n
-or_else None other = other
+abbrev pub some_or : Option ℕ → Option ℕ → Option ℕ
+some_or (Some n) other = Some n
+some_or None other = other
 
 -- client 1 until its setup calls are done, then who the schedule says and can, then who is next and can
 abbrev pub next_turn : Script → Stage → Option ℕ
 next_turn script s =
     if nat_lt (player_of s 1).done (length script.setup) then Some 1
-    else or_else (first_of s s.schedule) (first_of s (in_a_circle s))
+    else some_or (first_of s s.schedule) (first_of s (in_a_circle s))
 
 -- the schedule behind that turn
 abbrev pub left_schedule : Script → Stage → List ℕ
@@ -187,7 +187,7 @@ stage_from i ask script s zero = s
 stage_from i ask script s (suc turns) = stage_from i ask script (next_stage i ask script s) turns
 
 abbrev pub stage_after : Declared → Table → Script → ℕ → Stage
-stage_after i ask script turns = stage_from i ask script (start script) turns
+stage_after i ask script turns = stage_from i ask script (first_stage script) turns
 
 -- the play of a script: after some number of turns nobody can take one, and this is the history
 pub record IsPlainPlay (i : Declared) (ask : Table) (script : Script) (history : List Entry) : Type 0 where

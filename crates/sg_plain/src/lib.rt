@@ -9,4 +9,4 @@ mod files;
 mod locks;
 
 pub use files::held_reply;
-pub use locks::{four_calls, own_backs, release_wakes, second_first, stays_blocked};
+pub use locks::{four_lock_calls, own_backs, wait_and_wake, second_first, stays_blocked};

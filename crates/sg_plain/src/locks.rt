@@ -3,18 +3,18 @@ ghost use Rattle.sg_facts.specs.Laws.{whole};
 ghost use Rattle.sg_lock.specs.LockFacts.{lock_facts};
 ghost use Rattle.sg_lock.specs.LockTable.{lock_table};
 ghost use Rattle.sg_plain.specs.Calls.{AreEnds};
-ghost use Rattle.sg_plain.specs.LockPlays.{both_done, four_calls, four_calls_history, own_backs, own_backs_history, release_wakes, release_wakes_history, second_blocked, second_first, second_first_history, stays_blocked, stays_blocked_history};
+ghost use Rattle.sg_plain.specs.LockPlays.{both_done, four_lock_calls, four_calls_history, own_backs, own_backs_history, wait_and_wake, release_wakes_history, second_blocked, second_first, second_first_history, stays_blocked, stays_blocked_history};
 ghost use Rattle.sg_plain.specs.Plain.{IsPlainPlay};
 
 /// One client makes four calls, one after the other.
-pub fn four_calls()
-    ensures play { IsPlainPlay (whole lock_facts) lock_table four_calls four_calls_history }
+pub fn four_lock_calls()
+    ensures play { IsPlainPlay (whole lock_facts) lock_table four_lock_calls four_calls_history }
 {}
 
 /// A client that waits for a lock is answered after its release; both are done.
-pub fn release_wakes()
-    ensures play { IsPlainPlay (whole lock_facts) lock_table release_wakes release_wakes_history }
-    ensures ends { AreEnds (whole lock_facts) lock_table release_wakes_history release_wakes both_done }
+pub fn wait_and_wake()
+    ensures play { IsPlainPlay (whole lock_facts) lock_table wait_and_wake release_wakes_history }
+    ensures ends { AreEnds (whole lock_facts) lock_table release_wakes_history wait_and_wake both_done }
 {}
 
 /// A client that waits for a lock which nobody releases stays blocked, and isn't done.

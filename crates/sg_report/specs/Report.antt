@@ -1,5 +1,5 @@
 -- The printed run.
-use Rattle.std.specs.Prelude.{ℕ, ◌+◌, ◌==◌, Bool, true, false, ◌||◌, if◌then◌else◌, List, [], ◌∷◌, ◌++◌, None, Some, length, filter, min, codes}
+use Rattle.std.specs.Prelude.{ℕ, ◌+◌, ◌-◌, ◌^◌, ◌==◌, Bool, true, false, ◌||◌, if◌then◌else◌, List, [], ◌∷◌, ◌++◌, None, Some, length, filter, min, codes}
 use Rattle.std.specs.declared.option.Option.{Option}
 use Rattle.std.specs.Fmt.{decimal}
 use Rattle.std.specs.List.{flat_map}
@@ -105,12 +105,13 @@ abbrev pub end_text : Facts → End → List ℕ
 end_text facts Done = codes " done"
 end_text facts (Blocked call) = codes " blocked " ++ call_text facts call
 
--- its line
+-- the line of how a client ended
 abbrev pub end_line : Facts → ℕ × End → List ℕ
 end_line facts e = codes "client " ++ decimal e.0 ++ end_text facts e.1 ++ line_end
 
 -- ---- the trace
 
+-- how an item ended
 abbrev pub outcome_text : Outcome → List ℕ
 outcome_text (Replied reply patch) = codes " replied"
 outcome_text Blocks = codes " blocked"
@@ -126,6 +127,7 @@ item_text facts (Load key client) shown outcome = codes "load " ++ key ++ codes 
 item_text facts (Client client seq) shown outcome =
     codes "call c" ++ decimal client ++ codes "." ++ decimal seq ++ codes " " ++ call_text facts shown ++ outcome_text outcome
 
+-- the line of an item
 abbrev pub item_line : Facts → Item → List ℕ
 item_line facts item = item_text facts item.tag item.shown item.outcome ++ line_end
 
@@ -143,6 +145,7 @@ abbrev pub boots_lines : Facts → ℕ → List Boot → List ℕ
 boots_lines facts number [] = []
 boots_lines facts number (b ∷ boots) = boot_lines facts number b ++ boots_lines facts (number + 1) boots
 
+-- the trace: the boots, and the number of points that were asked
 abbrev pub trace_lines : Facts → Run → List ℕ
 trace_lines facts run = boots_lines facts 1 run.boots ++ codes "points " ++ decimal run.points ++ line_end
 
@@ -153,9 +156,13 @@ abbrev pub is_replay : Tag → Outcome → Bool
 is_replay (Walk id k client) (Replied reply patch) = true
 is_replay tag outcome = false
 
--- how many there are, up to the greatest number of 64 bits
+-- the greatest number of 64 bits, at which counts stand still
+abbrev pub greatest_count : ℕ
+greatest_count = 2 ^ 64 - 1
+
+-- how many calls of walks replied, up to the greatest number of 64 bits
 abbrev pub replays_of : List Item → ℕ
-replays_of items = min (length (filter (λ item. is_replay item.tag item.outcome) items)) 18446744073709551615
+replays_of items = min (length (filter (λ item. is_replay item.tag item.outcome) items)) greatest_count
 
 -- the counts: entries, boots, and calls of walks that replied
 abbrev pub counts_line : List Entry → Run → List ℕ

@@ -4,7 +4,7 @@ ghost use Rattle.std.specs.Fmt.{decimal};
 ghost use Rattle.std.specs.List.{flat_map};
 ghost use Rattle.sg_facts.specs.Trace.{boot_of, run_of};
 ghost use Rattle.sg_hist.specs.Reading.{items_of};
-ghost use Rattle.sg_report.specs.Report.{boot_lines, boots_lines, call_text, is_replay, item_line, item_text, outcome_text, replays_of, stop_line, trace_lines};
+ghost use Rattle.sg_report.specs.Report.{boot_lines, boots_lines, call_text, greatest_count, is_replay, item_line, item_text, outcome_text, replays_of, stop_line, trace_lines};
 
 use crate::words::{push_call, push_number};
 use sg_base::{Bytes, Call, NoMemory};
@@ -173,9 +173,9 @@ pub fn replays_in(boots: &[BootLog]) -> u64
     count
 }
 
-// How many replied, where so many did before.
+// How many calls of walks replied, where so many did before these items.
 fn replays_after(before: u64, items: &[Item]) -> u64
-    ensures { result ≡ min (before + length (filter (λ item. is_replay item.tag item.outcome) items.now)) 18446744073709551615 }
+    ensures { result ≡ min (before + length (filter (λ item. is_replay item.tag item.outcome) items.now)) greatest_count }
 {
     let mut count = before;
     'items: for item in items {

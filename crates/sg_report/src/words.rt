@@ -39,14 +39,14 @@ fn takes_id(fun: &FunShape) -> bool
     takes_desc(fun) || takes_parent(fun)
 }
 
-// Whether it takes a descriptor.
+// Whether a function takes a descriptor.
 fn takes_desc(fun: &FunShape) -> bool
     ensures { result ≡ takes_desc (fun_of_shape fun.now) }
 {
     fun.kinds.iter().any(|kind| matches!(kind, Kind::Desc))
 }
 
-// Whether it takes a parent.
+// Whether a function takes a parent.
 fn takes_parent(fun: &FunShape) -> bool
     ensures { result ≡ takes_parent (fun_of_shape fun.now) }
 {

@@ -7,15 +7,15 @@ use Rattle.std.proofs.lemmas.Bool.Decides.{leb_tells, nat_tests}
 use Rattle.sg_script.specs.declared.fault.ScriptFault.{ScriptFault}
 use Rattle.sg_script.specs.declared.fault.ScriptKind.{ScriptKind}
 use Rattle.sg_script.specs.declared.fault.ScriptKind.TheVariants.{Syntax, UnknownFunction, BadArgs, BadClient, Twice, NotAscending, Blocking, Limit}
-use Rattle.sg_script.specs.Firsts.{first_behind, is_not_after}
-use Rattle.sg_script.specs.Flaws.{IsFirst, IsNotAfter, rank}
+use Rattle.sg_script.specs.Inside.Firsts.{first_behind, is_not_after}
+use Rattle.sg_script.specs.Flaws.{IsFirstFlaw, IsNotAfter, kind_rank}
 
 -- ---- the order
 
 -- of two flaws one isn't after the other
 one_first : (f g : ScriptFault) → ((is_not_after f g ≡ true) × IsNotAfter f g) ⊎ ((is_not_after f g ≡ false) × IsNotAfter g f)
 one_first f g = elim (cases_order f.at g.at) [
-  | inl same ↦ elim (leb_tells (rank f.kind) (rank g.kind)) [
+  | inl same ↦ elim (leb_tells (kind_rank f.kind) (kind_rank g.kind)) [
     | inl le ↦ inl (grind (arith, nat_tests), inr (same, le.1))
     | inr gt ↦ inr (grind (arith, nat_tests), inr (sym same, omega arith))
   ]
@@ -38,7 +38,7 @@ kind_at n =
     if n == 0 then Syntax else (if n == 1 then UnknownFunction else (if n == 2 then BadArgs else (if n == 3 then BadClient
     else (if n == 4 then Twice else (if n == 5 then NotAscending else (if n == 6 then Blocking else Limit))))))
 
-at_rank : (kind : ScriptKind) → kind_at (rank kind) ≡ kind
+at_rank : (kind : ScriptKind) → kind_at (kind_rank kind) ≡ kind
 unfolding kind_at
 at_rank Syntax = refl
 at_rank UnknownFunction = refl
@@ -49,10 +49,10 @@ at_rank NotAscending = refl
 at_rank Blocking = refl
 at_rank Limit = refl
 
-same_kind : (a b : ScriptKind) → rank a ≡ rank b → a ≡ b
+same_kind : (a b : ScriptKind) → kind_rank a ≡ kind_rank b → a ≡ b
 same_kind a b same = sym (at_rank a) ∙ ap kind_at same ∙ at_rank b
 
-same_fault : (f g : ScriptFault) → f.at ≡ g.at → rank f.kind ≡ rank g.kind → f ≡ g
+same_fault : (f g : ScriptFault) → f.at ≡ g.at → kind_rank f.kind ≡ kind_rank g.kind → f ≡ g
 same_fault f g at kind =
     ap (λ a. record { at = a; kind = f.kind }) at ∙ ap (λ k. record { at = g.at; kind = k }) (same_kind f.kind g.kind kind)
 
@@ -63,7 +63,7 @@ both_ways f g (inr a) (inl b) = absurd (omega (arith, a.0))
 both_ways f g (inr a) (inr b) = same_fault f g a.0 (omega (arith, a.1, b.1))
 
 -- no two flaws are the first
-pub one_at_most : (flaws : List ScriptFault) (f g : ScriptFault) → IsFirst flaws f → IsFirst flaws g → f ≡ g
+pub one_at_most : (flaws : List ScriptFault) (f g : ScriptFault) → IsFirstFlaw flaws f → IsFirstFlaw flaws g → f ≡ g
 one_at_most flaws f g one other = both_ways f g (one.first g other.there) (other.first f one.there)
 
 -- ---- what is kept
@@ -79,7 +79,7 @@ at_front : (x : ScriptFault) (xs : List ScriptFault) → Contains (x ∷ xs) x
 at_front x xs = (0, omega arith, refl)
 
 -- the first of one and some, where the next isn't before the one
-passes : (f x : ScriptFault) (xs : List ScriptFault) (g : ScriptFault) → IsNotAfter f x → IsFirst (f ∷ xs) g → IsFirst (f ∷ x ∷ xs) g
+passes : (f x : ScriptFault) (xs : List ScriptFault) (g : ScriptFault) → IsNotAfter f x → IsFirstFlaw (f ∷ xs) g → IsFirstFlaw (f ∷ x ∷ xs) g
 passes f x xs g le one = record {
   there = elim (in_front f xs g one.there) [
     | inl same ↦ subst (λ h. Contains (f ∷ x ∷ xs) h) same (at_front f (x ∷ xs))
@@ -94,8 +94,8 @@ passes f x xs g le one = record {
   ];
 }
 
--- the same, where it is
-gives_way : (f x : ScriptFault) (xs : List ScriptFault) (g : ScriptFault) → IsNotAfter x f → IsFirst (x ∷ xs) g → IsFirst (f ∷ x ∷ xs) g
+-- the first of flaws, where there is one, is
+gives_way : (f x : ScriptFault) (xs : List ScriptFault) (g : ScriptFault) → IsNotAfter x f → IsFirstFlaw (x ∷ xs) g → IsFirstFlaw (f ∷ x ∷ xs) g
 gives_way f x xs g le one = record {
   there = behind f (x ∷ xs) g one.there;
   first = λ h there. elim (in_front f (x ∷ xs) h there) [
@@ -104,7 +104,7 @@ gives_way f x xs g le one = record {
   ];
 }
 
-kept_is_first : (f : ScriptFault) (xs : List ScriptFault) → (g : ScriptFault) × (first_behind (Some f) xs ≡ Some g) × IsFirst (f ∷ xs) g
+kept_is_first : (f : ScriptFault) (xs : List ScriptFault) → (g : ScriptFault) × (first_behind (Some f) xs ≡ Some g) × IsFirstFlaw (f ∷ xs) g
 kept_is_first f [] = (
   f,
   refl,
@@ -129,8 +129,8 @@ abbrev no_flaw : List ScriptFault
 no_flaw = []
 
 -- what is kept of flaws is the first of them
-pub judged : (first : Option ScriptFault) (flaws : List ScriptFault) → first ≡ first_behind None flaws → MatchOption first (flaws ≡ []) (IsFirst flaws)
-judged first [] is = subst (λ o. MatchOption o (no_flaw ≡ no_flaw) (IsFirst no_flaw)) (sym is) refl
+pub judged : (first : Option ScriptFault) (flaws : List ScriptFault) → first ≡ first_behind None flaws → MatchOption first (flaws ≡ []) (IsFirstFlaw flaws)
+judged first [] is = subst (λ o. MatchOption o (no_flaw ≡ no_flaw) (IsFirstFlaw no_flaw)) (sym is) refl
 judged first (x ∷ xs) is =
     let kept = kept_is_first x xs in
-    subst (λ o. MatchOption o ((x ∷ xs) ≡ []) (IsFirst (x ∷ xs))) (sym (is ∙ kept.1)) kept.2
+    subst (λ o. MatchOption o ((x ∷ xs) ≡ []) (IsFirstFlaw (x ∷ xs))) (sym (is ∙ kept.1)) kept.2

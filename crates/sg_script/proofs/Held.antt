@@ -18,9 +18,9 @@ use Rattle.sg_script_grammar.specs.declared.tree.Part.TheVariants.{Setup, Client
 use Rattle.sg_script.specs.declared.fault.ScriptKind.{ScriptKind}
 use Rattle.sg_script.specs.declared.fault.ScriptKind.TheVariants.{BadClient, Limit}
 use Rattle.sg_script.specs.Numbers.{counts_as, is_text}
-use Rattle.sg_script.specs.Scripts.{calls_of_setup, fun_named}
-use Rattle.sg_script.specs.Flaws.{arg_fits, arg_flaws, args_fit, call_flaws, calls_before, calls_flaws, calls_in, client_flaws, flaw_if, flaws_behind, flaws_of, fun_flaws, inner_flaws, part_flaws}
-use Rattle.sg_script.specs.Held.{is_client_number, is_held, is_held_arg, is_held_call}
+use Rattle.sg_script.specs.Scripts.{calls_of_setup, declared_fun}
+use Rattle.sg_script.specs.Flaws.{written_arg_fits, arg_flaws, written_args_fit, call_flaws, calls_before, calls_flaws, calls_in, client_flaws, script_flaw_if, flaws_behind, flaws_of, fun_flaws, inner_flaws, part_flaws}
+use Rattle.sg_script.specs.Inside.Held.{is_client_number, is_held, is_held_arg, is_held_call}
 
 -- ---- texts
 
@@ -67,7 +67,7 @@ pub back_none : {A : Type 0} (xs ys : List A) → xs ++ ys ≡ [] → ys ≡ []
 back_none [] ys e = e
 back_none (x ∷ xs) ys e = absurd cc
 
-pub not_flawed : (b : Bool) (kind : ScriptKind) (at : ℕ) → flaw_if b kind at ≡ [] → b ≡ false
+pub not_flawed : (b : Bool) (kind : ScriptKind) (at : ℕ) → script_flaw_if b kind at ≡ [] → b ≡ false
 not_flawed true kind at e = absurd cc
 not_flawed false kind at e = refl
 
@@ -90,7 +90,7 @@ calls_few i in_setup nth own [] le e = omega (arith, le)
 calls_few i in_setup nth own (c ∷ calls) le e =
     let one : call_flaws i in_setup nth own c ≡ [] = front_none (call_flaws i in_setup nth own c) (calls_flaws i in_setup (nth + 1) (own + 1) calls) e in
     let rest : calls_flaws i in_setup (nth + 1) (own + 1) calls ≡ [] = back_none (call_flaws i in_setup nth own c) (calls_flaws i in_setup (nth + 1) (own + 1) calls) e in
-    let last : nth == 65537 ≡ false = not_flawed (nth == 65537) Limit c.name.at (back_none (fun_flaws i in_setup own c (fun_named i c.name.bytes)) _ (front_none _ _ one)) in
+    let last : nth == 65537 ≡ false = not_flawed (nth == 65537) Limit c.name.at (back_none (fun_flaws i in_setup own c (declared_fun i c.name.bytes)) _ (front_none _ _ one)) in
     let more : nth + 1 ≤ 65537 = not_last nth last le in
     let few : nth + 1 + length calls ≤ 65537 = calls_few i in_setup (nth + 1) (own + 1) calls more rest in
     omega (arith, few)
@@ -151,7 +151,7 @@ least n own e le = below (both_right (nat_le 1 n) (nat_lt n own) e)
     below : nat_lt n own ≡ true → nat_lt n 4294967296 ≡ true
     below lt = grind (arith, nat_tests, lt, le)
 
-arg_held : (own : ℕ) (k : Kind) (a : WrittenArg) → own ≤ 4294967296 → arg_fits own k a ≡ true → arg_flaws a ≡ [] → is_held_arg a ≡ true
+arg_held : (own : ℕ) (k : Kind) (a : WrittenArg) → own ≤ 4294967296 → written_arg_fits own k a ≡ true → arg_flaws a ≡ [] → is_held_arg a ≡ true
 arg_held own k (Number n) le fits e = refl
 arg_held own k (Text t) le fits e = is_true _ (not_flawed _ Limit t.at e)
 arg_held own Desc (Back n) le fits e = least (counts_as n.bytes) own fits le
@@ -159,14 +159,14 @@ arg_held own Parent (Back n) le fits e = least (counts_as n.bytes) own fits le
 arg_held own Word (Back n) le fits e = least (counts_as n.bytes) own fits le
 arg_held own IsText (Back n) le fits e = absurd cc
 
-args_held : (own : ℕ) (kinds : List Kind) (args : List WrittenArg) → own ≤ 4294967296 → args_fit own kinds args ≡ true → flat_map arg_flaws args ≡ []
+args_held : (own : ℕ) (kinds : List Kind) (args : List WrittenArg) → own ≤ 4294967296 → written_args_fit own kinds args ≡ true → flat_map arg_flaws args ≡ []
     → list_all is_held_arg args ≡ true
 args_held own [] [] le fits e = refl
 args_held own [] (a ∷ args) le fits e = absurd cc
 args_held own (k ∷ kinds) [] le fits e = absurd cc
 args_held own (k ∷ kinds) (a ∷ args) le fits e =
-    both (is_held_arg a) _ (arg_held own k a le (both_left (arg_fits own k a) _ fits) (front_none (arg_flaws a) (flat_map arg_flaws args) e))
-    (args_held own kinds args le (both_right (arg_fits own k a) _ fits) (back_none (arg_flaws a) (flat_map arg_flaws args) e))
+    both (is_held_arg a) _ (arg_held own k a le (both_left (written_arg_fits own k a) _ fits) (front_none (arg_flaws a) (flat_map arg_flaws args) e))
+    (args_held own kinds args le (both_right (written_arg_fits own k a) _ fits) (back_none (arg_flaws a) (flat_map arg_flaws args) e))
 
 fun_held : (i : Declared) (in_setup : Bool) (own : ℕ) (c : WrittenCall) (found : Option ℕ) → own ≤ 4294967296 → fun_flaws i in_setup own c found ≡ []
     → flat_map arg_flaws c.args ≡ [] → is_held_call c ≡ true
@@ -176,7 +176,7 @@ fun_held i in_setup own c (Some f) le e args =
 
 call_held : (i : Declared) (in_setup : Bool) (nth own : ℕ) (c : WrittenCall) → own ≤ 4294967296 → call_flaws i in_setup nth own c ≡ [] → is_held_call c ≡ true
 call_held i in_setup nth own c le e =
-    fun_held i in_setup own c (fun_named i c.name.bytes) le (front_none _ _ (front_none _ _ e)) (back_none _ (flat_map arg_flaws c.args) e)
+    fun_held i in_setup own c (declared_fun i c.name.bytes) le (front_none _ _ (front_none _ _ e)) (back_none _ (flat_map arg_flaws c.args) e)
 
 calls_held : (i : Declared) (in_setup : Bool) (nth own : ℕ) (calls : List WrittenCall) → own + length calls ≤ 4294967296 → calls_flaws i in_setup nth own calls ≡ []
     → list_all is_held_call calls ≡ true

@@ -13,8 +13,8 @@ use Rattle.sg_script.specs.declared.script.Script.{Script}
 use Rattle.sg_script.specs.declared.fault.ScriptFault.{ScriptFault}
 use Rattle.sg_script.specs.declared.fault.ScriptError.{ScriptError}
 use Rattle.sg_script.specs.declared.fault.ScriptError.TheVariants.{NoMemory, Fault}
-use Rattle.sg_script.specs.Flaws.{IsFirst, flaws_of}
-use Rattle.sg_script.specs.Reads.{IsFlawed, IsNoScript, IsScript, Reads}
+use Rattle.sg_script.specs.Flaws.{IsFirstFlaw, flaws_of}
+use Rattle.sg_script.specs.Reads.{IsFlawed, IsNoScript, IsScript, IsReadingOf}
 use Rattle.sg_script.specs.Scripts.{script_of}
 use Rattle.sg_script.proofs.Earliest.{one_at_most}
 
@@ -59,14 +59,14 @@ one_fault i text f g (inl a) (inr b) = absurd (not_both text b.parts f.at b.pars
 one_fault i text f g (inr a) (inl b) = absurd (not_both text a.parts g.at a.parses b.parses)
 one_fault i text f g (inr a) (inr b) =
     let same : a.parts ≡ b.parts = one_list text a.parts b.parts a.parses b.parses in
-    one_at_most (flaws_of i b.parts) f g (subst (λ parts. IsFirst (flaws_of i parts) f) same a.first) b.first
+    one_at_most (flaws_of i b.parts) f g (subst (λ parts. IsFirstFlaw (flaws_of i parts) f) same a.first) b.first
 
 not_fault : (i : Declared) (text : List ℕ) (script : Script) (f : ScriptFault) → IsScript i text script → IsNoScript text f ⊎ IsFlawed i text f → ⊥
 not_fault i text script f good (inl bad) = not_both text good.parts f.at good.parses bad.parses
 not_fault i text script f good (inr bad) = not_flawless i text script f good bad
 
 -- two answers on one text are one
-pub one_reading : (i : Declared) (text : List ℕ) (one other : Result Script ScriptError) → Reads i text one → Reads i text other
+pub one_reading : (i : Declared) (text : List ℕ) (one other : Result Script ScriptError) → IsReadingOf i text one → IsReadingOf i text other
     → one ≢ Err NoMemory → other ≢ Err NoMemory → one ≡ other
 one_reading i text (Ok s) (Ok t) a b n m =
     let same : a.parts ≡ b.parts = one_list text a.parts b.parts a.parses b.parses in
@@ -79,7 +79,7 @@ one_reading i text (Err (Fault f)) (Err NoMemory) a b n m = absurd (m refl)
 one_reading i text (Err (Fault f)) (Err (Fault g)) a b n m = ap (λ h. Err (Fault h)) (one_fault i text f g a b)
 
 -- an answer is the one that may be given, or there was no memory
-pub only : (i : Declared) (text : List ℕ) (one other : Result Script ScriptError) → Reads i text one → Reads i text other
+pub only : (i : Declared) (text : List ℕ) (one other : Result Script ScriptError) → IsReadingOf i text one → IsReadingOf i text other
     → other ≢ Err NoMemory → (one ≡ other) ⊎ (one ≡ Err NoMemory)
 only i text (Ok s) other a b m = inl (one_reading i text (Ok s) other a b (λ e. absurd cc) m)
 only i text (Err NoMemory) other a b m = inr refl

@@ -15,54 +15,54 @@ use Rattle.sg_script_grammar.specs.declared.tree.Part.TheVariants.{Setup, Client
 use Rattle.sg_script.specs.declared.fault.ScriptKind.{ScriptKind}
 use Rattle.sg_script.specs.declared.fault.ScriptKind.TheVariants.{Syntax, UnknownFunction, BadArgs, BadClient, Twice, NotAscending, Blocking, Limit}
 use Rattle.sg_script.specs.declared.fault.ScriptFault.{ScriptFault}
-use Rattle.sg_script.specs.Numbers.{counts_as, is_above, is_client, is_text, unquoted}
-use Rattle.sg_script.specs.Scripts.{calls_of_setup, fun_named}
+use Rattle.sg_script.specs.Numbers.{counts_as, is_above, is_known_client, is_text, unquoted}
+use Rattle.sg_script.specs.Scripts.{calls_of_setup, declared_fun}
 
 -- a flaw of a kind at a place, where there is one
-abbrev pub flaw_if : Bool → ScriptKind → ℕ → List ScriptFault
-flaw_if flawed kind at = if flawed then record { at = at; kind = kind } ∷ [] else []
+abbrev pub script_flaw_if : Bool → ScriptKind → ℕ → List ScriptFault
+script_flaw_if flawed kind at = if flawed then record { at = at; kind = kind } ∷ [] else []
 
 -- ---- numbers and texts
 
 -- a number above the greatest of 64 bits
 abbrev pub number_flaws : Spelling → List ScriptFault
-number_flaws n = flaw_if (is_above n.bytes) Limit n.at
+number_flaws n = script_flaw_if (is_above n.bytes) Limit n.at
 
 -- a client's number
 abbrev pub client_flaws : Spelling → List ScriptFault
-client_flaws n = flaw_if (not (is_client (counts_as n.bytes))) BadClient n.at ++ number_flaws n
+client_flaws n = script_flaw_if (not (is_known_client (counts_as n.bytes))) BadClient n.at ++ number_flaws n
 
 -- an argument by itself
 abbrev pub arg_flaws : WrittenArg → List ScriptFault
 arg_flaws (Number n) = number_flaws n
-arg_flaws (Text t) = flaw_if (not (is_text (unquoted t.bytes))) Limit t.at
+arg_flaws (Text t) = script_flaw_if (not (is_text (unquoted t.bytes))) Limit t.at
 arg_flaws (Back n) = number_flaws n
 
 -- ---- calls
 
 -- whether an argument may stand for a parameter, in the call that is its client's call of this number: a text for a text, and
 -- a number for anything else, or a `$` number from 1 to below the call's own
-abbrev pub arg_fits : ℕ → Kind → WrittenArg → Bool
-arg_fits own IsText (Text t) = true
-arg_fits own IsText (Number n) = false
-arg_fits own IsText (Back n) = false
-arg_fits own _ (Text t) = false
-arg_fits own _ (Number n) = true
-arg_fits own _ (Back n) = nat_le 1 (counts_as n.bytes) && nat_lt (counts_as n.bytes) own
+abbrev pub written_arg_fits : ℕ → Kind → WrittenArg → Bool
+written_arg_fits own IsText (Text t) = true
+written_arg_fits own IsText (Number n) = false
+written_arg_fits own IsText (Back n) = false
+written_arg_fits own _ (Text t) = false
+written_arg_fits own _ (Number n) = true
+written_arg_fits own _ (Back n) = nat_le 1 (counts_as n.bytes) && nat_lt (counts_as n.bytes) own
 
 -- whether arguments may stand for parameters, one for each
-abbrev pub args_fit : ℕ → List Kind → List WrittenArg → Bool
-args_fit own [] [] = true
-args_fit own [] (a ∷ args) = false
-args_fit own (k ∷ kinds) [] = false
-args_fit own (k ∷ kinds) (a ∷ args) = arg_fits own k a && args_fit own kinds args
+abbrev pub written_args_fit : ℕ → List Kind → List WrittenArg → Bool
+written_args_fit own [] [] = true
+written_args_fit own [] (a ∷ args) = false
+written_args_fit own (k ∷ kinds) [] = false
+written_args_fit own (k ∷ kinds) (a ∷ args) = written_arg_fits own k a && written_args_fit own kinds args
 
 -- a call by its function, where the interface declares one of its name
 abbrev pub fun_flaws : Declared → Bool → ℕ → WrittenCall → Option ℕ → List ScriptFault
-fun_flaws i in_setup own c None = flaw_if true UnknownFunction c.name.at
+fun_flaws i in_setup own c None = script_flaw_if true UnknownFunction c.name.at
 fun_flaws i in_setup own c (Some f) =
-    flaw_if (not (args_fit own (fun_at i.facts.funs f).kinds c.args)) BadArgs c.name.at
-    ++ flaw_if (in_setup && (fun_at i.facts.funs f).block) Blocking c.name.at
+    script_flaw_if (not (written_args_fit own (fun_at i.facts.funs f).kinds c.args)) BadArgs c.name.at
+    ++ script_flaw_if (in_setup && (fun_at i.facts.funs f).block) Blocking c.name.at
 
 -- the number of the first call that is one too many
 abbrev pub too_many_calls : ℕ
@@ -71,8 +71,8 @@ too_many_calls = 65537
 -- a call: whether it stands in a setup, its number among all calls of the text, and its number among its client's
 abbrev pub call_flaws : Declared → Bool → ℕ → ℕ → WrittenCall → List ScriptFault
 call_flaws i in_setup nth own c =
-    fun_flaws i in_setup own c (fun_named i c.name.bytes)
-    ++ flaw_if (nth == too_many_calls) Limit c.name.at
+    fun_flaws i in_setup own c (declared_fun i c.name.bytes)
+    ++ script_flaw_if (nth == too_many_calls) Limit c.name.at
     ++ flat_map arg_flaws c.args
 
 -- calls that follow one another, the first of which has these numbers
@@ -90,8 +90,8 @@ too_many_stops = 65
 abbrev pub stops_flaws : ℕ → ℕ → List Spelling → List ScriptFault
 stops_flaws nth before [] = []
 stops_flaws nth before (n ∷ numbers) =
-    flaw_if (nat_le (counts_as n.bytes) before) NotAscending n.at
-    ++ flaw_if (nth == too_many_stops) Limit n.at
+    script_flaw_if (nat_le (counts_as n.bytes) before) NotAscending n.at
+    ++ script_flaw_if (nth == too_many_stops) Limit n.at
     ++ number_flaws n
     ++ stops_flaws (nth + 1) (counts_as n.bytes) numbers
 
@@ -136,16 +136,16 @@ calls_before setup client = if client == 1 then setup else 0
 -- whether a part is a second `setup`, `schedule` or `stop`, or a second part of one client, behind others
 abbrev pub comes_again : List Part → Part → Bool
 comes_again front (Setup at calls) = list_any is_setup front
-comes_again front (Client at n calls) = is_client (counts_as n.bytes) && list_any (is_of_client (counts_as n.bytes)) front
+comes_again front (Client at n calls) = is_known_client (counts_as n.bytes) && list_any (is_of_client (counts_as n.bytes)) front
 comes_again front (Schedule at numbers) = list_any is_schedule front
 comes_again front (Stop at numbers) = list_any is_stop front
 
 -- the place of its first word
-abbrev pub place_of : Part → ℕ
-place_of (Setup at calls) = at
-place_of (Client at n calls) = at
-place_of (Schedule at numbers) = at
-place_of (Stop at numbers) = at
+abbrev pub part_place : Part → ℕ
+part_place (Setup at calls) = at
+part_place (Client at n calls) = at
+part_place (Schedule at numbers) = at
+part_place (Stop at numbers) = at
 
 -- what is wrong within a part, behind so many calls of the text, in a script whose setup has so many calls
 abbrev pub inner_flaws : Declared → ℕ → ℕ → Part → List ScriptFault
@@ -158,7 +158,7 @@ inner_flaws i setup before (Stop at numbers) = stops_flaws 1 0 numbers
 -- a part behind others
 abbrev pub part_flaws : Declared → ℕ → List Part → Part → List ScriptFault
 part_flaws i setup front p =
-    flaw_if (comes_again front p) Twice (place_of p) ++ inner_flaws i setup (length (flat_map calls_in front)) p
+    script_flaw_if (comes_again front p) Twice (part_place p) ++ inner_flaws i setup (length (flat_map calls_in front)) p
 
 -- parts behind others
 abbrev pub flaws_behind : Declared → ℕ → List Part → List Part → List ScriptFault
@@ -172,21 +172,21 @@ flaws_of i parts = flaws_behind i (length (flat_map calls_of_setup parts)) [] pa
 -- ---- the first of them
 
 -- the order of kinds at one place
-abbrev pub rank : ScriptKind → ℕ
-rank Syntax = 0
-rank UnknownFunction = 1
-rank BadArgs = 2
-rank BadClient = 3
-rank Twice = 4
-rank NotAscending = 5
-rank Blocking = 6
-rank Limit = 7
+abbrev pub kind_rank : ScriptKind → ℕ
+kind_rank Syntax = 0
+kind_rank UnknownFunction = 1
+kind_rank BadArgs = 2
+kind_rank BadClient = 3
+kind_rank Twice = 4
+kind_rank NotAscending = 5
+kind_rank Blocking = 6
+kind_rank Limit = 7
 
 -- a flaw comes before another, or is the same: at an earlier place, or at one place and of no later kind
 abbrev pub IsNotAfter : ScriptFault → ScriptFault → Type 0
-IsNotAfter f g = (f.at < g.at) ⊎ ((f.at ≡ g.at) × (rank f.kind ≤ rank g.kind))
+IsNotAfter f g = (f.at < g.at) ⊎ ((f.at ≡ g.at) × (kind_rank f.kind ≤ kind_rank g.kind))
 
 -- a flaw is the first of some
-pub record IsFirst (flaws : List ScriptFault) (f : ScriptFault) : Type 0 where
+pub record IsFirstFlaw (flaws : List ScriptFault) (f : ScriptFault) : Type 0 where
   pub there : Contains flaws f
   pub first : (g : ScriptFault) → Contains flaws g → IsNotAfter f g

@@ -1,7 +1,5 @@
-pub mod Firsts
 pub mod Flaws
-pub mod Fronts
-pub mod Held
+pub mod Inside
 pub mod Numbers
 pub mod Reads
 pub mod Scripts

@@ -10,7 +10,7 @@ use Rattle.sg_script.specs.declared.fault.ScriptKind.TheVariants.{Syntax}
 use Rattle.sg_script.specs.declared.fault.ScriptFault.{ScriptFault}
 use Rattle.sg_script.specs.declared.fault.ScriptError.{ScriptError}
 use Rattle.sg_script.specs.declared.fault.ScriptError.TheVariants.{NoMemory, Fault}
-use Rattle.sg_script.specs.Flaws.{IsFirst, flaws_of}
+use Rattle.sg_script.specs.Flaws.{IsFirstFlaw, flaws_of}
 use Rattle.sg_script.specs.Scripts.{script_of}
 
 -- a text is a script of the grammar, nothing is wrong with it, and this is what it stands for
@@ -24,7 +24,7 @@ pub record IsScript (i : Declared) (text : List ℕ) (script : Script) : Type 0 
 pub record IsFlawed (i : Declared) (text : List ℕ) (f : ScriptFault) : Type 0 where
   pub parts : List Part
   pub parses : Parses text (Ok parts)
-  pub first : IsFirst (flaws_of i parts) f
+  pub first : IsFirstFlaw (flaws_of i parts) f
 
 -- a text is no script of the grammar, and fails at this place
 pub record IsNoScript (text : List ℕ) (f : ScriptFault) : Type 0 where
@@ -32,7 +32,7 @@ pub record IsNoScript (text : List ℕ) (f : ScriptFault) : Type 0 where
   pub parses : Parses text (Err (syntax f.at))
 
 -- what may be answered; want of memory may come at any time
-abbrev pub Reads : Declared → List ℕ → Result Script ScriptError → Type 0
-Reads i text (Ok script) = IsScript i text script
-Reads i text (Err NoMemory) = Unit {0}
-Reads i text (Err (Fault f)) = IsNoScript text f ⊎ IsFlawed i text f
+abbrev pub IsReadingOf : Declared → List ℕ → Result Script ScriptError → Type 0
+IsReadingOf i text (Ok script) = IsScript i text script
+IsReadingOf i text (Err NoMemory) = Unit {0}
+IsReadingOf i text (Err (Fault f)) = IsNoScript text f ⊎ IsFlawed i text f

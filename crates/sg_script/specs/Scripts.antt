@@ -20,13 +20,13 @@ use Rattle.sg_script.specs.Numbers.{counts_as, unquoted}
 -- ---- functions by name
 
 -- the number of the declared function that has a name, where functions are numbered from n on
-abbrev pub number_from : Declared → List ℕ → ℕ → List Fun → Option ℕ
-number_from i name n [] = None
-number_from i name n (f ∷ funs) = if bytes_eq f.name name && declares i n then Some n else number_from i name (n + 1) funs
+abbrev pub declared_from : Declared → List ℕ → ℕ → List Fun → Option ℕ
+declared_from i name n [] = None
+declared_from i name n (f ∷ funs) = if bytes_eq f.name name && declares i n then Some n else declared_from i name (n + 1) funs
 
 -- the number of the declared function of a name; None where there is none
-abbrev pub fun_named : Declared → List ℕ → Option ℕ
-fun_named i name = number_from i name 1 i.facts.funs
+abbrev pub declared_fun : Declared → List ℕ → Option ℕ
+declared_fun i name = declared_from i name 1 i.facts.funs
 
 -- ---- calls
 
@@ -35,8 +35,8 @@ arg_of (number n) = Number (counts_as n.bytes)
 arg_of (text t) = Text (unquoted t.bytes)
 arg_of (back n) = Back (counts_as n.bytes)
 
-abbrev pub call_of : Declared → WrittenCall → ScriptCall
-call_of i c = record { fun = unwrap_or (fun_named i c.name.bytes) 0; args = map arg_of c.args }
+abbrev pub script_call_of : Declared → WrittenCall → ScriptCall
+script_call_of i c = record { fun = unwrap_or (declared_fun i c.name.bytes) 0; args = map arg_of c.args }
 
 -- ---- parts
 
@@ -68,7 +68,7 @@ placed n calls (c ∷ clients) = if nat_lt c.0 n then c ∷ placed n calls clien
 -- with the client of a part among them
 abbrev pub with_client : Declared → Part → List (ℕ × List ScriptCall) → List (ℕ × List ScriptCall)
 with_client i (Setup at calls) clients = clients
-with_client i (Client at n calls) clients = placed (counts_as n.bytes) (map (call_of i) calls) clients
+with_client i (Client at n calls) clients = placed (counts_as n.bytes) (map (script_call_of i) calls) clients
 with_client i (Schedule at numbers) clients = clients
 with_client i (Stop at numbers) clients = clients
 
@@ -79,7 +79,7 @@ clients_of i parts = fold (λ clients p. with_client i p clients) [] parts
 -- the script of parts for an interface
 abbrev pub script_of : Declared → List Part → Script
 script_of i parts = record {
-  setup = map (call_of i) (flat_map calls_of_setup parts);
+  setup = map (script_call_of i) (flat_map calls_of_setup parts);
   clients = clients_of i parts;
   schedule = map (λ n. counts_as n.bytes) (flat_map turns_of parts);
   stops = map (λ n. counts_as n.bytes) (flat_map stops_of parts);

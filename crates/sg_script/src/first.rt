@@ -1,7 +1,7 @@
 // The first of the flaws that were noted.
 ghost use Rattle.std.specs.Prelude.{◌≡◌, ◌++◌, ◌∷◌, [], None};
-ghost use Rattle.sg_script.specs.Flaws.{flaw_if, rank};
-ghost use Rattle.sg_script.specs.Firsts.{earlier, first_behind, is_not_after};
+ghost use Rattle.sg_script.specs.Flaws.{script_flaw_if, kind_rank};
+ghost use Rattle.sg_script.specs.Inside.Firsts.{first_of_two, first_behind, is_not_after};
 
 use crate::fault::{ScriptFault, ScriptKind};
 use std::marker::Model;
@@ -22,14 +22,14 @@ impl Model for First {
 }
 
 impl First {
-    /// None so far.
+    /// No flaw so far.
     pub fn new() -> Self
         ensures { result ≡ None }
     {
         First { fault: None }
     }
 
-    /// The first of them.
+    /// The first of the flaws that were noted.
     pub fn fault(&self) -> Option<ScriptFault>
         ensures { result ≡ self.now }
     {
@@ -38,17 +38,17 @@ impl First {
 
     /// Notes a flaw of a kind at a place, where there is one.
     pub fn note_if(&mut self, flawed: bool, kind: ScriptKind, at: usize)
-        ensures { self.new ≡ first_behind self.old (flaw_if flawed kind at) }
+        ensures { self.new ≡ first_behind self.old (script_flaw_if flawed kind at) }
     {
         if flawed {
-            self.fault = Some(earlier(self.fault, ScriptFault { at, kind }));
+            self.fault = Some(first_of_two(self.fault, ScriptFault { at, kind }));
         }
     }
 }
 
 // The first of a flaw before, where there is one, and another.
-fn earlier(before: Option<ScriptFault>, next: ScriptFault) -> ScriptFault
-    ensures { result ≡ earlier before next }
+fn first_of_two(before: Option<ScriptFault>, next: ScriptFault) -> ScriptFault
+    ensures { result ≡ first_of_two before next }
 {
     match before {
         Some(fault) if is_not_after(fault, next) => fault,
@@ -60,12 +60,12 @@ fn earlier(before: Option<ScriptFault>, next: ScriptFault) -> ScriptFault
 fn is_not_after(fault: ScriptFault, next: ScriptFault) -> bool
     ensures { result ≡ is_not_after fault next }
 {
-    fault.at < next.at || (fault.at == next.at && rank(fault.kind) <= rank(next.kind))
+    fault.at < next.at || (fault.at == next.at && kind_rank(fault.kind) <= kind_rank(next.kind))
 }
 
 // The place of a kind in the order of kinds at one place.
-fn rank(kind: ScriptKind) -> u8
-    ensures { result ≡ rank kind }
+fn kind_rank(kind: ScriptKind) -> u8
+    ensures { result ≡ kind_rank kind }
 {
     match kind {
         ScriptKind::Syntax => 0,

@@ -2,10 +2,10 @@
 ghost use Rattle.std.specs.Prelude.{◌≡◌, ◌≤◌, ◌<◌, ◌+◌, ◌++◌, ◌∷◌, ◌^◌, ◌&&◌, [], List, false, true, slice_index_or, slice_set};
 ghost use Rattle.sg_script_grammar.specs.declared.tree.Part.{Part as OnePart};
 ghost use Rattle.sg_script.specs.Flaws.{comes_again};
-ghost use Rattle.sg_script.specs.Numbers.{is_client};
-ghost use Rattle.sg_script.specs.Fronts.{IsFront};
+ghost use Rattle.sg_script.specs.Numbers.{is_known_client};
+ghost use Rattle.sg_script.specs.Inside.Fronts.{IsFront};
 
-use crate::numbers::{counts_as, is_client};
+use crate::numbers::{counts_as, is_known_client};
 use sg_script_grammar::Part;
 
 /// What is kept of the parts of a script that were judged.
@@ -13,13 +13,13 @@ use sg_script_grammar::Part;
 pub struct Front {
     /// Whether there was a `setup`.
     pub setup: bool,
-    /// Which clients had a part, by their numbers up to 64.
+    /// Which clients had a part, by their numbers up to the last.
     pub clients: [bool; 65],
     /// Whether there was a `schedule`.
     pub schedule: bool,
     /// Whether there was a `stop`.
     pub stop: bool,
-    /// The number of their calls. No sum of lengths is too long for it.
+    /// The number of the calls of all parts. No sum of lengths is too great for the type.
     pub calls: u128,
 }
 
@@ -38,7 +38,7 @@ impl Front {
         }
     }
 
-    /// Whether a part comes a second time behind them.
+    /// Whether a part comes a second time behind these parts.
     pub fn comes_again(&self, part: &Part) -> bool
         ensures { (parts : List OnePart) → IsFront self.now parts → result ≡ comes_again parts part.now }
     {
@@ -52,12 +52,12 @@ impl Front {
 
     // Whether there was a part of the client of a number.
     fn had(&self, number: u64) -> bool
-        ensures { result ≡ (is_client number && slice_index_or self.now.clients number false) }
+        ensures { result ≡ (is_known_client number && slice_index_or self.now.clients number false) }
     {
-        is_client(number) && self.clients[number as usize]
+        is_known_client(number) && self.clients[number as usize]
     }
 
-    /// Puts a part behind them.
+    /// Puts a part behind these parts.
     pub fn add(&mut self, part: &Part)
         requires { self.old.calls + 2 ^ 64 < 2 ^ 128 }
         ensures front { (parts : List OnePart) → IsFront self.old parts → IsFront self.new (parts ++ part.now ∷ []) }

@@ -2,17 +2,17 @@
 ghost use Rattle.std.specs.Prelude.{◌≡◌, ◌<◌, ◌+◌, ◌^◌, ◌&&◌, [], None, List, length, nat_le, nat_lt, MatchOption};
 ghost use Rattle.std.specs.List.{flat_map};
 ghost use Rattle.sg_script_grammar.specs.declared.tree.Part.{Part as OnePart};
-ghost use Rattle.sg_script.specs.Firsts.{first_behind};
-ghost use Rattle.sg_script.specs.Fronts.{IsFront};
-ghost use Rattle.sg_script.specs.Flaws.{IsFirst, arg_fits, arg_flaws, args_fit, call_flaws, calls_before, calls_flaws, client_flaws, flaws_behind, flaws_of, fun_flaws, inner_flaws, number_flaws, part_flaws, place_of, stops_flaws};
-ghost use Rattle.sg_script.specs.Scripts.{calls_of_setup, fun_named};
+ghost use Rattle.sg_script.specs.Inside.Firsts.{first_behind};
+ghost use Rattle.sg_script.specs.Inside.Fronts.{IsFront};
+ghost use Rattle.sg_script.specs.Flaws.{IsFirstFlaw, written_arg_fits, arg_flaws, written_args_fit, call_flaws, calls_before, calls_flaws, client_flaws, flaws_behind, flaws_of, fun_flaws, inner_flaws, number_flaws, part_flaws, part_place, stops_flaws};
+ghost use Rattle.sg_script.specs.Scripts.{calls_of_setup, declared_fun};
 ghost use Rattle.sg_script.specs.Numbers.{counts_as};
 
 use crate::fault::{ScriptFault, ScriptKind};
 use crate::first::First;
 use crate::front::Front;
-use crate::names::fun_named;
-use crate::numbers::{counts_as, is_above, is_client, is_text, unquoted};
+use crate::names::declared_fun;
+use crate::numbers::{counts_as, is_above, is_known_client, is_text, unquoted};
 use sg_facts::{Interface, Kind};
 use sg_script_grammar::{Part, Spelled, WrittenArg, WrittenCall};
 
@@ -35,7 +35,7 @@ fn judge_number(first: &mut First, number: &Spelled)
 fn judge_client(first: &mut First, number: &Spelled)
     ensures { first.new ≡ first_behind first.old (client_flaws number.now) }
 {
-    let known = is_client(counts_as(number.slice));
+    let known = is_known_client(counts_as(number.slice));
     first.note_if(!known, ScriptKind::BadClient, number.at);
     judge_number(first, number);
 }
@@ -73,8 +73,8 @@ fn judge_args(first: &mut First, args: &[WrittenArg])
 // ---- calls
 
 // Whether an argument may stand for a parameter, in the call that is its client's call of this number.
-fn arg_fits(own: u128, kind: Kind, arg: &WrittenArg) -> bool
-    ensures { result ≡ arg_fits own kind arg.now }
+fn written_arg_fits(own: u128, kind: Kind, arg: &WrittenArg) -> bool
+    ensures { result ≡ written_arg_fits own kind arg.now }
 {
     match arg {
         WrittenArg::Text(_) => kind == Kind::Text,
@@ -92,28 +92,28 @@ fn is_earlier(own: u128, number: &Spelled) -> bool
 }
 
 // Whether arguments may stand for parameters, one for each.
-fn args_fit(own: u128, kinds: &[Kind], args: &[WrittenArg]) -> bool
-    ensures { result ≡ args_fit own kinds.now args.now }
+fn written_args_fit(own: u128, kinds: &[Kind], args: &[WrittenArg]) -> bool
+    ensures { result ≡ written_args_fit own kinds.now args.now }
 {
     match kinds {
         [] => args.is_empty(),
         [kind, kinds @ ..] => match args {
             [] => false,
-            [arg, args @ ..] => arg_fits(own, *kind, arg) && args_fit(own, kinds, args),
+            [arg, args @ ..] => written_arg_fits(own, *kind, arg) && written_args_fit(own, kinds, args),
         },
     }
 }
 
 // Notes what is wrong with a call by its function.
 fn judge_fun(first: &mut First, iface: &Interface, in_setup: bool, own: u128, call: &WrittenCall)
-    ensures { first.new ≡ first_behind first.old (fun_flaws iface.now in_setup own call.now (fun_named iface.now call.now.name.bytes)) }
+    ensures { first.new ≡ first_behind first.old (fun_flaws iface.now in_setup own call.now (declared_fun iface.now call.now.name.bytes)) }
 {
     let at = call.name.at;
-    match fun_named(iface, call.name.slice) {
+    match declared_fun(iface, call.name.slice) {
         None => first.note_if(true, ScriptKind::UnknownFunction, at),
         Some(number) => {
             let fun = iface.fun(number);
-            let fits = args_fit(own, fun.kinds, call.args.as_slice());
+            let fits = written_args_fit(own, fun.kinds, call.args.as_slice());
             first.note_if(!fits, ScriptKind::BadArgs, at);
             first.note_if(in_setup && fun.may_block(), ScriptKind::Blocking, at);
         }
@@ -175,8 +175,8 @@ fn judge_stops(first: &mut First, stops: &[Spelled])
 // ---- parts
 
 // The place of the first word of a part.
-fn place_of(part: &Part) -> usize
-    ensures { result ≡ place_of part.now }
+fn part_place(part: &Part) -> usize
+    ensures { result ≡ part_place part.now }
 {
     match part {
         Part::Setup { at, .. }
@@ -219,7 +219,7 @@ fn judge_part(first: &mut First, iface: &Interface, setup: u128, front: &Front, 
     requires before { front.now.calls + 2 ^ 65 < 2 ^ 128 }
     ensures { (parts : List OnePart) → IsFront front.now parts → first.new ≡ first_behind first.old (part_flaws iface.now setup parts part.now) }
 {
-    first.note_if(front.comes_again(part), ScriptKind::Twice, place_of(part));
+    first.note_if(front.comes_again(part), ScriptKind::Twice, part_place(part));
     judge_inside(first, iface, setup, front.calls, part);
 }
 
@@ -253,7 +253,7 @@ fn first_in(parts: &[Part], iface: &Interface) -> First
 
 /// What is first wrong with the parts of a script; None exactly where nothing is.
 pub fn judge(parts: &[Part], iface: &Interface) -> Option<ScriptFault>
-    ensures { MatchOption result (flaws_of iface.now parts.now ≡ []) (IsFirst (flaws_of iface.now parts.now)) }
+    ensures { MatchOption result (flaws_of iface.now parts.now ≡ []) (IsFirstFlaw (flaws_of iface.now parts.now)) }
 {
     first_in(parts, iface).fault()
 }

@@ -1,7 +1,7 @@
 //! Scripts: who calls what of a service, in which turns, and at which points the service stops.
 //!
 //! - `script`: a script for an interface (`Script`), its calls (`ScriptCall`) and what these are given (`Arg`)
-//! - `fault`: why a text is none (`ScriptError`), and what is first wrong with it (`ScriptFault`, `ScriptKind`)
+//! - `fault`: why a text is no script (`ScriptError`), and what is first wrong with a text (`ScriptFault`, `ScriptKind`)
 //!
 //! `specs/Flaws.antt` says what can be wrong with a script, `specs/Scripts.antt` what a script without a flaw is, and
 //! `specs/Reads.antt` what is answered on a text.

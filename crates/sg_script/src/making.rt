@@ -2,11 +2,11 @@
 ghost use Rattle.std.specs.Prelude.{◌≡◌, ◌≤◌, ◌++◌, List, length, map, true, IfOk, OnOk};
 ghost use Rattle.std.specs.List.{flat_map, insert, list_all};
 ghost use Rattle.sg_script.specs.declared.script.ScriptCall.{ScriptCall as OneCall};
-ghost use Rattle.sg_script.specs.Held.{is_client_number, is_held, is_held_arg, is_held_call};
+ghost use Rattle.sg_script.specs.Inside.Held.{is_client_number, is_held, is_held_arg, is_held_call};
 ghost use Rattle.sg_script.specs.Numbers.{counts_as, is_text};
-ghost use Rattle.sg_script.specs.Scripts.{arg_of, call_of, calls_of_setup, clients_of, placed, script_of, stops_of, turns_of, with_client};
+ghost use Rattle.sg_script.specs.Scripts.{arg_of, script_call_of, calls_of_setup, clients_of, placed, script_of, stops_of, turns_of, with_client};
 
-use crate::names::fun_named;
+use crate::names::declared_fun;
 use crate::numbers::{counts_as, unquoted};
 use crate::script::{Arg, ArgList, CallList, ClientList, Script, ScriptCall, TurnList};
 use sg_base::{NoMemory, PointList, Text, TextFault};
@@ -64,12 +64,12 @@ fn args_of(alloc: Global, args: &[WrittenArg]) -> Result<ArgList, NoMemory>
 }
 
 // What a call stands for.
-fn call_of(alloc: Global, iface: &Interface, call: &WrittenCall) -> Result<ScriptCall, NoMemory>
+fn script_call_of(alloc: Global, iface: &Interface, call: &WrittenCall) -> Result<ScriptCall, NoMemory>
     requires { is_held_call call.now ≡ true }
-    ensures { IfOk result (λ made. made ≡ call_of iface.now call.now) }
+    ensures { IfOk result (λ made. made ≡ script_call_of iface.now call.now) }
 {
     Ok(ScriptCall {
-        fun: fun_named(iface, call.name.slice).unwrap_or(0),
+        fun: declared_fun(iface, call.name.slice).unwrap_or(0),
         args: args_of(alloc, call.args.as_slice())?,
     })
 }
@@ -82,11 +82,11 @@ fn add_calls(
     made: &mut Vec<ScriptCall>,
 ) -> Result<(), NoMemory>
     requires { list_all is_held_call calls.now ≡ true }
-    ensures { OnOk result (made.new.items ≡ made.old.items ++ map (call_of iface.now) calls.now) }
+    ensures { OnOk result (made.new.items ≡ made.old.items ++ map (script_call_of iface.now) calls.now) }
 {
     made.reserve_exact(calls.len())?;
     'each: for call in calls {
-        made.push(call_of(alloc, iface, call)?)?;
+        made.push(script_call_of(alloc, iface, call)?)?;
     }
     Ok(())
 }
@@ -94,7 +94,7 @@ fn add_calls(
 // The calls of setups.
 fn setup_of(alloc: Global, iface: &Interface, parts: &[Part]) -> Result<CallList, NoMemory>
     requires { list_all is_held parts.now ≡ true }
-    ensures { IfOk result (λ made. made ≡ map (call_of iface.now) (flat_map calls_of_setup parts.now)) }
+    ensures { IfOk result (λ made. made ≡ map (script_call_of iface.now) (flat_map calls_of_setup parts.now)) }
 {
     let mut made = Vec::new(alloc);
     'each: for part in parts {

@@ -1,7 +1,7 @@
 // The declared functions of an interface, by their names.
 ghost use Rattle.std.specs.Prelude.{◌≡◌, ◌≤◌, map};
 ghost use Rattle.sg_facts.specs.Facts.{fun_of_shape};
-ghost use Rattle.sg_script.specs.Scripts.{fun_named, number_from};
+ghost use Rattle.sg_script.specs.Scripts.{declared_fun, declared_from};
 
 use sg_facts::{FunShape, Interface};
 
@@ -9,15 +9,16 @@ use sg_facts::{FunShape, Interface};
 const LAST: u8 = 32;
 
 /// The number of the declared function of a name; None where there is none.
-pub fn fun_named(iface: &Interface, name: &[u8]) -> Option<u8>
-    ensures { result ≡ fun_named iface.now name.now }
+pub fn declared_fun(iface: &Interface, name: &[u8]) -> Option<u8>
+    ensures { result ≡ declared_fun iface.now name.now }
 {
-    number_from(iface, name, 1, iface.shape.funs)
+    declared_from(iface, name, 1, iface.shape.funs)
 }
 
-// The same, where the first of these functions has another number.
-fn number_from(iface: &Interface, name: &[u8], first: u8, funs: &[FunShape]) -> Option<u8>
-    ensures { result ≡ number_from iface.now name.now first (map fun_of_shape funs.now) }
+// The number of the declared function of a name among these functions, the first of which has this number; None where there is
+// none.
+fn declared_from(iface: &Interface, name: &[u8], first: u8, funs: &[FunShape]) -> Option<u8>
+    ensures { result ≡ declared_from iface.now name.now first (map fun_of_shape funs.now) }
 {
     if first > LAST {
         prove!(iface.declared <= u32::MAX);
@@ -26,6 +27,6 @@ fn number_from(iface: &Interface, name: &[u8], first: u8, funs: &[FunShape]) -> 
     match funs {
         [] => None,
         [fun, ..] if fun.name == name && iface.declares(first) => Some(first),
-        [_, rest @ ..] => number_from(iface, name, first + 1, rest),
+        [_, rest @ ..] => declared_from(iface, name, first + 1, rest),
     }
 }

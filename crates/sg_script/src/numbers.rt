@@ -1,30 +1,31 @@
 // What numbers and texts of a script stand for.
 ghost use Rattle.std.specs.Prelude.{◌≡◌, ◌+◌, ◌*◌, ◌-◌};
 ghost use Rattle.std.specs.List.{list_all};
-ghost use Rattle.sg_script.specs.Numbers.{bounded, counts_as, is_above, is_client, is_text, number_of, unquoted};
+ghost use Rattle.sg_script.specs.Numbers.{bounded, counts_as, is_above, is_known_client, is_text, number_of_digits, unquoted};
 ghost use Rattle.sg_base.specs.Text.{is_text_byte};
 
 use sg_base::{Text, is_text_byte};
+use sg_facts::LAST_CLIENT;
 
-/// What digits count as: a number above the greatest of 64 bits counts as that one.
+/// What digits count as: a number above the greatest of 64 bits counts as the greatest.
 pub fn counts_as(digits: &[u8]) -> u64
     ensures { result ≡ counts_as digits.now }
 {
-    number_of(digits).unwrap_or(u64::MAX)
+    number_of_digits(digits).unwrap_or(u64::MAX)
 }
 
 /// Whether digits stand for a number above the greatest of 64 bits.
 pub fn is_above(digits: &[u8]) -> bool
     ensures { result ≡ is_above digits.now }
 {
-    number_of(digits).is_none()
+    number_of_digits(digits).is_none()
 }
 
 /// Whether a number is a client's.
-pub fn is_client(number: u64) -> bool
-    ensures { result ≡ is_client number }
+pub fn is_known_client(number: u64) -> bool
+    ensures { result ≡ is_known_client number }
 {
-    matches!(number, 1..=64)
+    number >= 1 && number <= u64::from(LAST_CLIENT)
 }
 
 /// What stands between the quotes of a text.
@@ -45,8 +46,8 @@ pub fn is_text(bytes: &[u8]) -> bool
 }
 
 // What digits stand for; None where that is above the greatest number of 64 bits.
-fn number_of(digits: &[u8]) -> Option<u64>
-    ensures { result ≡ number_of digits.now }
+fn number_of_digits(digits: &[u8]) -> Option<u64>
+    ensures { result ≡ number_of_digits digits.now }
 {
     let mut value = 0;
     'digits: for digit in digits {

@@ -3,7 +3,7 @@ ghost use Rattle.std.specs.Prelude.{◌≡◌, ◌≢◌, ◌⊎◌, Err as fail
 ghost use Rattle.std.specs.declared.result.Result.{Result as Answered};
 ghost use Rattle.sg_script.specs.declared.fault.ScriptError.{ScriptError as Fault};
 ghost use Rattle.sg_script.specs.declared.script.Script.{Script as Whole};
-ghost use Rattle.sg_script.specs.Reads.{Reads};
+ghost use Rattle.sg_script.specs.Reads.{IsReadingOf};
 
 use crate::judging::judge;
 use crate::making::script_of;
@@ -20,9 +20,9 @@ use std::alloc::Global;
 /// nothing else is told then.
 #[tactic(auto, using(crate::proofs::Unique::only))]
 pub fn read(alloc: Global, text: &[u8], iface: &Interface) -> Result<Script, ScriptError>
-    ensures answer { Reads iface.now text.now result }
+    ensures answer { IsReadingOf iface.now text.now result }
     // No other answer may be given, want of memory aside.
-    ensures only { (other : Answered Whole Fault) → Reads iface.now text.now other → other ≢ failed ScriptError.NoMemory →
+    ensures only { (other : Answered Whole Fault) → IsReadingOf iface.now text.now other → other ≢ failed ScriptError.NoMemory →
         (result ≡ other) ⊎ (result ≡ failed ScriptError.NoMemory) }
 {
     script_in(alloc, text, iface)
@@ -30,7 +30,7 @@ pub fn read(alloc: Global, text: &[u8], iface: &Interface) -> Result<Script, Scr
 
 // The script of a text, or the first that is wrong with it.
 fn script_in(alloc: Global, text: &[u8], iface: &Interface) -> Result<Script, ScriptError>
-    ensures { Reads iface.now text.now result }
+    ensures { IsReadingOf iface.now text.now result }
 {
     let parts = match parse(alloc, text) {
         Ok(parts) => parts,

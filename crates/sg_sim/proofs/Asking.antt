@@ -20,7 +20,7 @@ use Rattle.sg_lock.specs.LockTable.{lock_table, take_answer, owner_in}
 use Rattle.sg_lock.specs.LockShapeLaw.{none_in_rows}
 use Rattle.sg_lock.specs.LockAlikeLaw.{there}
 use Rattle.sg_lock.specs.LockBlockedLaw.{is_take}
-use Rattle.sg_sim.specs.Run.{IsAtMostFirst, MayMake}
+use Rattle.sg_sim.specs.Inside.Run.{IsAtMostFirst, MayCall}
 
 -- ---- what the guard shows
 
@@ -58,7 +58,7 @@ module _ (o : Object) (client seq desc : ℕ) (args : List Value) where
   childless_at (suc (suc (suc (suc zero)))) guarded ends = no_child _ _ _ NoDesc BadState HasChildren guarded
   childless_at (suc (suc (suc (suc (suc n))))) guarded ends = absurd (cc ends)
 
-pub may_ask : (o : Object) (call : Call) → MayMake o call → guard (whole lock_facts) o call ≡ None → MayAsk lock_facts o call
+pub may_ask : (o : Object) (call : Call) → MayCall o call → guard (whole lock_facts) o call ≡ None → MayAsk lock_facts o call
 may_ask o call may guarded = record {
   is_call = may.is_call;
   within = record {
@@ -88,7 +88,7 @@ plain_at (suc (suc (suc (suc (suc n))))) args first last fits = absurd (omega ar
 plain : (call : Call) → IsCall lock_facts call → call.args ≡ []
 plain call is = plain_at call.fun call.args is.first is.last is.fits.args
 
-pub passes : (o : Object) (call : Call) → MayMake o call → guard (whole lock_facts) o call ≡ None → Passes lock_facts o call
+pub passes : (o : Object) (call : Call) → MayCall o call → guard (whole lock_facts) o call ≡ None → Passes lock_facts o call
 passes o call may guarded = record {
   is_call = may.is_call;
   words = subst AreWords (sym (plain call may.is_call)) tt;
@@ -96,7 +96,7 @@ passes o call may guarded = record {
   guarded = guarded;
 }
 
--- ---- it never waits
+-- ---- the service never waits
 
 owner_at_most : (low high id : ℕ) (rows : List Row) → AreRows IsAtMostFirst low high rows → owner_in (row_at rows id) ≤ 1
 owner_at_most low high id [] are = omega arith
@@ -114,7 +114,7 @@ first_takes owner client small is blocks = at (owner == client) (owner == 0) blo
     at false true blocks one = cc blocks
     at false false blocks one = cc one
 
-pub never_waits : (o : Object) (call : Call) → MayMake o call → lock_table o call ≡ None → ⊥
+pub never_waits : (o : Object) (call : Call) → MayCall o call → lock_table o call ≡ None → ⊥
 never_waits o call may blocks =
     first_takes (owner_in (row_at o.rows call.desc)) call.client (owner_at_most 0 o.given call.desc o.rows may.of_first.owners) may.client
     (is_take call.fun o.given (owner_in (row_at o.rows call.desc)) call.client blocks)

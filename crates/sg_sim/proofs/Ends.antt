@@ -4,9 +4,9 @@ use Rattle.std.specs.Prelude.{◌⊎◌}
 use Rattle.sg_facts.specs.declared.entry.Entry.{Entry}
 use Rattle.sg_facts.specs.declared.shape.Kind.{Kind}
 use Rattle.sg_script.specs.declared.script.Arg.{Arg}
-use Rattle.sg_sim.specs.Script.{desc_of, values_of}
+use Rattle.sg_sim.specs.Script.{desc_among, values_of}
 
-pub no_more_desc : (history : List Entry) (kinds : List Kind) (args : List Arg) → (length kinds ≡ 0) ⊎ (length args ≡ 0) → desc_of history kinds args ≡ 0
+pub no_more_desc : (history : List Entry) (kinds : List Kind) (args : List Arg) → (length kinds ≡ 0) ⊎ (length args ≡ 0) → desc_among history kinds args ≡ 0
 no_more_desc history [] args ends = refl
 no_more_desc history (k ∷ kinds) [] ends = refl
 no_more_desc history (k ∷ kinds) (a ∷ args) (inl none) = absurd (omega arith)

@@ -38,6 +38,6 @@ narrower i o call fits is = at (fun_at i.facts.funs call.fun).query is
     at true is = refl
     at false is = no_cause _ _ _ _ (in_state i (row_at o.rows call.desc) call.fun) (in_state (whole i.facts) (row_at o.rows call.desc) call.fun) _ (in_whole i (row_at o.rows call.desc) call.fun fits) is
 
--- the same of the service whose facts the interface has
+-- what holds under a narrower interface, for the service whose facts the interface has
 pub passes_whole : (facts : Facts) (i : Declared) (o : Object) (call : Call) → i.facts ≡ facts → Fits i → guard i o call ≡ None → guard (whole facts) o call ≡ None
 passes_whole facts i o call same fits is = subst (λ f. guard (whole f) o call ≡ None) same (narrower i o call fits is)

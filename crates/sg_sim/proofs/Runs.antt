@@ -32,8 +32,9 @@ use Rattle.sg_lock.specs.LockSoundLaw.{lock_answers_and_keeps}
 use Rattle.sg_script.specs.declared.script.Arg.{Arg}
 use Rattle.sg_script.specs.declared.script.Arg.TheVariants.{Number, Text, Back}
 use Rattle.sg_script.specs.declared.script.ScriptCall.{ScriptCall}
-use Rattle.sg_sim.specs.Script.{AreCalls, arg_fits, arg_value, args_fit, call_fits, calls_fit, desc_given, desc_of, id_of_call, resolved_call, value_of, values_of}
-use Rattle.sg_sim.specs.Run.{IsAtMostFirst, IsOfFirst, MayMake, IsRun}
+use Rattle.sg_hist.specs.Reading.{desc_in}
+use Rattle.sg_sim.specs.Script.{AreCalls, arg_fits, arg_value, args_fit, call_fits, calls_fit, desc_among, id_of_call, resolved_call, value_of, values_of}
+use Rattle.sg_sim.specs.Inside.Run.{IsAtMostFirst, IsOfFirst, MayCall, IsRun}
 use Rattle.sg_sim.proofs.Asking.{passes}
 use Rattle.sg_sim.proofs.Narrower.{passes_whole}
 
@@ -90,7 +91,7 @@ module _ (o : Object) (client seq desc : ℕ) (args : List Value) (one : client 
 -- ---- one answer
 
 -- an answer leaves locks of client 1 alone
-of_first_after : (i : Declared) (o : Object) (call : Call) (reply : Reply) → i.facts ≡ lock_facts → Fits i → MayMake o call
+of_first_after : (i : Declared) (o : Object) (call : Call) (reply : Reply) → i.facts ≡ lock_facts → Fits i → MayCall o call
     → answer i lock_table o call ≡ Some reply → IsOfFirst (after lock_facts o call reply)
 of_first_after i o call (Refused code) facts fits may is = may.of_first
 of_first_after i o call (Ok good) facts fits may is = at (guard i o call) refl is
@@ -128,7 +129,7 @@ get-append (x ∷ history) e (suc k) within = get-append history e k (omega arit
 
 id_of_call-append : (history : List Entry) (e : Entry) (k : ℕ) → k ≤ length history → id_of_call (history ++ e ∷ []) k ≡ id_of_call history k
 id_of_call-append history e zero within = refl
-id_of_call-append history e (suc k) within = ap desc_given (get-append history e k (omega arith))
+id_of_call-append history e (suc k) within = ap desc_in (get-append history e k (omega arith))
 
 -- ---- calls that fit, resolved by a history that goes on
 
@@ -151,14 +152,14 @@ value_of-append history e own kind (Number n) fits within = refl
 value_of-append history e own kind (Text t) fits within = refl
 value_of-append history e own kind (Back k) fits within = ap (λ n. Word n) (id_of_call-append history e k (omega (arith, back_below own kind k fits)))
 
-desc_of-append : (history : List Entry) (e : Entry) (own : ℕ) (kinds : List Kind) (args : List Arg) → args_fit own kinds args ≡ true → own ≤ length history + 1
-    → desc_of (history ++ e ∷ []) kinds args ≡ desc_of history kinds args
-desc_of-append history e own [] args fits within = refl
-desc_of-append history e own (k ∷ kinds) [] fits within = refl
-desc_of-append history e own (Desc ∷ kinds) (a ∷ args) fits within = arg_value-append history e own Desc a (and_parts _ _ fits).0 within
-desc_of-append history e own (Parent ∷ kinds) (a ∷ args) fits within = arg_value-append history e own Parent a (and_parts _ _ fits).0 within
-desc_of-append history e own (IsWord ∷ kinds) (a ∷ args) fits within = desc_of-append history e own kinds args (and_parts (arg_fits own IsWord a) _ fits).1 within
-desc_of-append history e own (IsText ∷ kinds) (a ∷ args) fits within = desc_of-append history e own kinds args (and_parts (arg_fits own IsText a) _ fits).1 within
+desc_among-append : (history : List Entry) (e : Entry) (own : ℕ) (kinds : List Kind) (args : List Arg) → args_fit own kinds args ≡ true → own ≤ length history + 1
+    → desc_among (history ++ e ∷ []) kinds args ≡ desc_among history kinds args
+desc_among-append history e own [] args fits within = refl
+desc_among-append history e own (k ∷ kinds) [] fits within = refl
+desc_among-append history e own (Desc ∷ kinds) (a ∷ args) fits within = arg_value-append history e own Desc a (and_parts _ _ fits).0 within
+desc_among-append history e own (Parent ∷ kinds) (a ∷ args) fits within = arg_value-append history e own Parent a (and_parts _ _ fits).0 within
+desc_among-append history e own (IsWord ∷ kinds) (a ∷ args) fits within = desc_among-append history e own kinds args (and_parts (arg_fits own IsWord a) _ fits).1 within
+desc_among-append history e own (IsText ∷ kinds) (a ∷ args) fits within = desc_among-append history e own kinds args (and_parts (arg_fits own IsText a) _ fits).1 within
 
 values_of-append : (history : List Entry) (e : Entry) (own : ℕ) (kinds : List Kind) (args : List Arg) → args_fit own kinds args ≡ true → own ≤ length history + 1
     → values_of (history ++ e ∷ []) kinds args ≡ values_of history kinds args
@@ -178,8 +179,8 @@ resolved-append : (i : Declared) (history : List Entry) (e : Entry) (seq own : �
 resolved-append i history e seq own c fits within =
     let kinds = (fun_at i.facts.funs c.fun).kinds in
     let args = (and_parts (declares i c.fun) (args_fit own kinds c.args) fits).1 in
-    ap (λ d. record { client = 1; seq = seq; fun = c.fun; desc = d; args = values_of (history ++ e ∷ []) kinds c.args }) (desc_of-append history e own kinds c.args args within)
-    ∙ ap (λ vs. record { client = 1; seq = seq; fun = c.fun; desc = desc_of history kinds c.args; args = vs }) (values_of-append history e own kinds c.args args within)
+    ap (λ d. record { client = 1; seq = seq; fun = c.fun; desc = d; args = values_of (history ++ e ∷ []) kinds c.args }) (desc_among-append history e own kinds c.args args within)
+    ∙ ap (λ vs. record { client = 1; seq = seq; fun = c.fun; desc = desc_among history kinds c.args; args = vs }) (values_of-append history e own kinds c.args args within)
 
 -- the calls so far stay resolved
 calls-kept : (i : Declared) (history : List Entry) (x : Entry) (seq : ℕ) (es : List Entry) (calls : List ScriptCall) → calls_fit i seq calls ≡ true
@@ -217,7 +218,7 @@ kinds_of history own (IsText ∷ kinds) (Text t ∷ args) fits = kinds_of histor
 kinds_of history own (IsText ∷ kinds) (Back k ∷ args) fits = absurd (cc fits)
 
 -- without a parameter that is a descriptor or parent there is none
-no_desc : (history : List Entry) (kinds : List Kind) (args : List Arg) → list_any is_desc kinds ≡ false → list_any is_parent kinds ≡ false → desc_of history kinds args ≡ 0
+no_desc : (history : List Entry) (kinds : List Kind) (args : List Arg) → list_any is_desc kinds ≡ false → list_any is_parent kinds ≡ false → desc_among history kinds args ≡ 0
 no_desc history [] args desc parent = refl
 no_desc history (k ∷ kinds) [] desc parent = refl
 no_desc history (Desc ∷ kinds) (a ∷ args) desc parent = absurd (cc desc)
@@ -243,7 +244,7 @@ is_call i history seq own c fits is =
     }
 
 pub may_make : (i : Declared) (history : List Entry) (o : Object) (seq own : ℕ) (c : ScriptCall) → i.facts ≡ lock_facts → Fits i → call_fits i own c ≡ true
-    → IsOfFirst o → o.given ≤ length history → length history < 2 ^ 31 → MayMake o (resolved_call i.facts history seq c)
+    → IsOfFirst o → o.given ≤ length history → length history < 2 ^ 31 → MayCall o (resolved_call i.facts history seq c)
 may_make i history o seq own c facts fits is of_first given few = record {
   of_first = of_first;
   is_call = subst (λ f. IsCall f (resolved_call i.facts history seq c)) facts (is_call i history seq own c fits is);

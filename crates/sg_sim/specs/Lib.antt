@@ -1,3 +1,2 @@
-pub mod Run
+pub mod Inside
 pub mod Script
-pub mod World

@@ -1,16 +1,14 @@
 -- The calls of a script: which of them fit an interface, and what they come to when they are made.
-use Rattle.std.specs.Prelude.{ℕ, zero, suc, ◌≡◌, ◌+◌, ◌&&◌, Bool, true, false, nat_le, nat_lt, List, [], ◌∷◌, None, Some, slice_get}
-use Rattle.std.specs.declared.option.Option.{Option}
+use Rattle.std.specs.Prelude.{ℕ, zero, suc, ◌≡◌, ◌+◌, ◌&&◌, Bool, true, false, nat_le, nat_lt, List, [], ◌∷◌, slice_get}
 use Rattle.sg_base.specs.declared.value.Value.{Value}
 use Rattle.sg_base.specs.declared.value.Value.TheVariants.{Word as word, Text as text}
 use Rattle.sg_base.specs.declared.call.Call.{Call}
-use Rattle.sg_base.specs.declared.reply.Reply.{Reply}
-use Rattle.sg_base.specs.declared.reply.Reply.TheVariants.{Ok, Refused}
 use Rattle.sg_facts.specs.declared.entry.Entry.{Entry}
 use Rattle.sg_facts.specs.declared.shape.Kind.{Kind}
 use Rattle.sg_facts.specs.declared.shape.Kind.TheVariants.{Desc, Parent, Word, Text as IsText}
 use Rattle.sg_facts.specs.Facts.{Facts, fun_at}
 use Rattle.sg_facts.specs.Interface.{Declared, declares}
+use Rattle.sg_hist.specs.Reading.{desc_in}
 use Rattle.sg_script.specs.declared.script.Arg.{Arg}
 use Rattle.sg_script.specs.declared.script.Arg.TheVariants.{Number, Text, Back}
 use Rattle.sg_script.specs.declared.script.ScriptCall.{ScriptCall}
@@ -45,19 +43,10 @@ calls_fit i own (c ∷ calls) = call_fits i own c && calls_fit i (own + 1) calls
 
 -- ---- what they come to
 
--- the descriptor that a reply gives, 0 for none
-abbrev pub desc_in : Reply → ℕ
-desc_in (Ok good) = good.desc
-desc_in (Refused code) = 0
-
-abbrev pub desc_given : Option Entry → ℕ
-desc_given None = 0
-desc_given (Some e) = desc_in e.reply
-
 -- the descriptor that the call of a number, from 1, was given
 abbrev pub id_of_call : List Entry → ℕ → ℕ
 id_of_call history zero = 0
-id_of_call history (suc k) = desc_given (slice_get history k)
+id_of_call history (suc k) = desc_in (slice_get history k)
 
 -- an argument as a number: `$k` is the descriptor that the k-th call was given
 abbrev pub arg_value : List Entry → Arg → ℕ
@@ -72,13 +61,13 @@ value_of history (Text t) = text t
 value_of history (Back k) = word (id_of_call history k)
 
 -- the descriptor or parent among arguments, 0 where no parameter is one
-abbrev pub desc_of : List Entry → List Kind → List Arg → ℕ
-desc_of history [] args = 0
-desc_of history (k ∷ kinds) [] = 0
-desc_of history (Desc ∷ kinds) (a ∷ args) = arg_value history a
-desc_of history (Parent ∷ kinds) (a ∷ args) = arg_value history a
-desc_of history (Word ∷ kinds) (a ∷ args) = desc_of history kinds args
-desc_of history (IsText ∷ kinds) (a ∷ args) = desc_of history kinds args
+abbrev pub desc_among : List Entry → List Kind → List Arg → ℕ
+desc_among history [] args = 0
+desc_among history (k ∷ kinds) [] = 0
+desc_among history (Desc ∷ kinds) (a ∷ args) = arg_value history a
+desc_among history (Parent ∷ kinds) (a ∷ args) = arg_value history a
+desc_among history (Word ∷ kinds) (a ∷ args) = desc_among history kinds args
+desc_among history (IsText ∷ kinds) (a ∷ args) = desc_among history kinds args
 
 -- the other arguments, in their order
 abbrev pub values_of : List Entry → List Kind → List Arg → List Value
@@ -95,7 +84,7 @@ resolved_call facts history seq c = record {
   client = 1;
   seq = seq;
   fun = c.fun;
-  desc = desc_of history (fun_at facts.funs c.fun).kinds c.args;
+  desc = desc_among history (fun_at facts.funs c.fun).kinds c.args;
   args = values_of history (fun_at facts.funs c.fun).kinds c.args;
 }
 

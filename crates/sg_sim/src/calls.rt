@@ -1,6 +1,6 @@
 // The call that a script's call comes to.
 ghost use Rattle.std.specs.Prelude.{◌≡◌, ◌+◌, ◌^◌, ◌<◌, IfOk, length};
-ghost use Rattle.sg_sim.specs.Script.{arg_value, desc_of, id_of_call, resolved_call, value_of, values_of};
+ghost use Rattle.sg_sim.specs.Script.{arg_value, desc_among, id_of_call, resolved_call, value_of, values_of};
 
 use sg_base::{Args, Call, NoMemory, Reply, TryCopy, Value};
 use sg_facts::{Entry, Interface, Kind};
@@ -24,13 +24,13 @@ pub fn call_of(
         client: 1,
         seq: done.len() as u32 + 1,
         fun: call.fun,
-        desc: desc_of(done, kinds, args),
+        desc: desc_among(done, kinds, args),
     })
 }
 
 // The descriptor or parent among arguments, 0 where no parameter is one.
-fn desc_of(done: &[Entry], kinds: &[Kind], args: &[Arg]) -> u64
-    ensures { result ≡ desc_of done.now kinds.now args.now }
+fn desc_among(done: &[Entry], kinds: &[Kind], args: &[Arg]) -> u64
+    ensures { result ≡ desc_among done.now kinds.now args.now }
 {
     for (kind, arg) in kinds.iter().zip(args) {
         match kind {

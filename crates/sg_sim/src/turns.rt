@@ -7,7 +7,7 @@ ghost use Rattle.sg_lock.specs.LockTable.{lock_table};
 ghost use Rattle.sg_lock.specs.LockObject.{lock_object};
 ghost use Rattle.sg_sim.specs.Script.{AreCalls, call_fits, calls_fit};
 ghost use Rattle.sg_sim.specs.declared.world.Phase.TheVariants.{Idle};
-ghost use Rattle.sg_sim.specs.Run.{GoesOn, IsOfFirst};
+ghost use Rattle.sg_sim.specs.Inside.Run.{GoesOnBy, IsOfFirst};
 
 use crate::calls::call_of;
 use crate::world::World;
@@ -49,7 +49,7 @@ fn turns(
     requires call { call_fits iface.now (length world.old.history.items + 1) call.now ≡ true }
     ensures idle { OnOk result (world.new.phase ≡ Idle) }
     ensures more { OnOk result (length world.new.history.items ≡ length world.old.history.items + 1) }
-    ensures goes_on { OnOk result (GoesOn iface.now world.old.history.items (lock_object world.old.locks) call.now
+    ensures goes_on { OnOk result (GoesOnBy iface.now world.old.history.items (lock_object world.old.locks) call.now
         world.new.history.items (lock_object world.new.locks)) }
 {
     let call = call_of(alloc, iface, world.history.as_slice(), call)?;

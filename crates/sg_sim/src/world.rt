@@ -9,33 +9,31 @@ ghost use Rattle.sg_lock.specs.LockFacts.{lock_facts};
 ghost use Rattle.sg_lock.specs.LockTable.{lock_table};
 ghost use Rattle.sg_lock.specs.LockObject.{lock_object};
 ghost use Rattle.sg_lock.specs.LockRow.{lock_body};
-ghost use Rattle.sg_sim.specs.Run.{MayMake};
-ghost use Rattle.sg_sim.specs.World.{MayStep, Steps, Serves};
+ghost use Rattle.sg_sim.specs.Inside.Run.{MayCall};
+ghost use Rattle.sg_sim.specs.Inside.World.{MayStep, Steps, ServesCall};
 
 use sg_base::{Call, Code, NoMemory, Reply};
 use sg_edge::Never;
-use sg_facts::{Entry, Interface, Outcome, Service};
+use sg_facts::{Entry, Interface, MOST_LIVE, Outcome, Service};
 use sg_hist::History;
 use sg_lock::{Lock, LockService};
 use std::alloc::Global;
 use std::mem;
 
-// The greatest number of live locks.
-const MOST_LIVE: usize = 1024;
-
-// The functions that make and take a lock, which also name its states.
+// The function that makes a lock, whose number is also that of the state of a free lock.
 const ALLOC: u8 = 1;
 
+// The function that takes a lock, whose number is also that of the state of an owned lock.
 const TAKE: u8 = 2;
 
 /// What the client is at.
 #[derive(Debug, Drop)]
 pub enum Phase {
-    /// No call of it is under way.
+    /// No call of the client is under way.
     Idle,
-    /// It offered this call, which isn't answered.
+    /// The client offered this call, which isn't answered.
     Asked(Call),
-    /// The service answered its call, whose entry is the last; the reply isn't handed over.
+    /// The service answered the client's call, whose entry is the last; the reply isn't handed over.
     Receipted,
 }
 
@@ -46,7 +44,7 @@ pub enum Did {
     Skipped,
     /// The service answered the offered call.
     Served,
-    /// The reply was handed over: it is that of the last entry.
+    /// The reply of the last entry was handed over.
     Answered,
 }
 
@@ -121,10 +119,10 @@ impl World {
     fn serve(&mut self, alloc: Global, iface: &Interface, call: Call) -> Result<Did, NoMemory>
         requires facts { iface.now.facts ≡ lock_facts }
         requires fits { Fits iface.now }
-        requires may { MayMake (lock_object self.old.locks) call }
+        requires may { MayCall (lock_object self.old.locks) call }
         requires guarded { the_guard iface.now (lock_object self.old.locks) call ≡ None }
         requires room { 0 < self.old.history.room }
-        ensures ok { IfOk result (λ did. (did ≡ Did.Served) × (self.new.phase ≡ Phase.Receipted) × Serves iface.now
+        ensures ok { IfOk result (λ did. (did ≡ Did.Served) × (self.new.phase ≡ Phase.Receipted) × ServesCall iface.now
             (record { phase = Phase.Asked call; history = self.old.history.items; object = lock_object self.old.locks }) (Phase.Asked call)
             (record { phase = self.new.phase; history = self.new.history.items; object = lock_object self.new.locks })) }
         ensures err { OnErr result ((self.new.phase ≡ Phase.Asked call) × (self.new.history.items ≡ self.old.history.items)
@@ -146,7 +144,7 @@ impl World {
 
 // Asks the service what the guard lets pass.
 fn ask(locks: &mut LockService, alloc: Global, call: &Call) -> Result<Reply, NoMemory>
-    requires may { MayMake (lock_object locks.old) call.now }
+    requires may { MayCall (lock_object locks.old) call.now }
     requires guarded { the_guard (whole lock_facts) (lock_object locks.old) call.now ≡ None }
     ensures answered { IfOk result (λ reply. lock_table (lock_object locks.old) call.now ≡ Some reply) }
     ensures changed { IfOk result (λ reply. lock_object locks.new ≡ after lock_facts (lock_object locks.old) call.now reply) }

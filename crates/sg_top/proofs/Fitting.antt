@@ -19,8 +19,8 @@ use Rattle.sg_script_grammar.specs.declared.tree.Part.TheVariants.{Setup, Client
 use Rattle.sg_script.specs.declared.script.ScriptCall.{ScriptCall}
 use Rattle.sg_script.specs.declared.script.Script.{Script}
 use Rattle.sg_script.specs.Numbers.{counts_as}
-use Rattle.sg_script.specs.Scripts.{arg_of, call_of, calls_of_setup, clients_of, fun_named, number_from, placed, with_client}
-use Rattle.sg_script.specs.Flaws.{args_fit as written_fit, call_flaws, calls_before, calls_flaws, calls_in, client_flaws, flaws_behind, fun_flaws, inner_flaws, part_flaws}
+use Rattle.sg_script.specs.Scripts.{arg_of, script_call_of, calls_of_setup, clients_of, declared_fun, declared_from, placed, with_client}
+use Rattle.sg_script.specs.Flaws.{written_args_fit as written_fit, call_flaws, calls_before, calls_flaws, calls_in, client_flaws, flaws_behind, fun_flaws, inner_flaws, part_flaws}
 use Rattle.sg_script.proofs.Held.{back_none, both, calls_few, counted, front_none, is_true, not_flawed, part_few}
 use Rattle.sg_sim.specs.Script.{args_fit, call_fits, calls_fit}
 use Rattle.sg_facts.specs.Facts.{Facts}
@@ -62,33 +62,33 @@ right true b e = e
 right false b e = absurd cc
 
 -- a function that is found by its name is declared
-found_declared : (i : Declared) (name : List ℕ) (n : ℕ) (funs : List Fun) (f : ℕ) → number_from i name n funs ≡ Some f → declares i f ≡ true
+found_declared : (i : Declared) (name : List ℕ) (n : ℕ) (funs : List Fun) (f : ℕ) → declared_from i name n funs ≡ Some f → declares i f ≡ true
 found_declared i name n [] f e = absurd cc
 found_declared i name n (g ∷ funs) f e =
-    by (pick (bytes_eq g.name name && declares i n) n f (number_from i name (n + 1) funs) e) (found_declared i name (n + 1) funs f)
+    by (pick (bytes_eq g.name name && declares i n) n f (declared_from i name (n + 1) funs) e) (found_declared i name (n + 1) funs f)
   where
-    by : ((bytes_eq g.name name && declares i n ≡ true) × (n ≡ f)) ⊎ (number_from i name (n + 1) funs ≡ Some f)
-        → (number_from i name (n + 1) funs ≡ Some f → declares i f ≡ true) → declares i f ≡ true
+    by : ((bytes_eq g.name name && declares i n ≡ true) × (n ≡ f)) ⊎ (declared_from i name (n + 1) funs ≡ Some f)
+        → (declared_from i name (n + 1) funs ≡ Some f → declares i f ≡ true) → declares i f ≡ true
     by (inl (is, same)) later = subst (λ v. declares i v ≡ true) same (right (bytes_eq g.name name) (declares i n) is)
     by (inr found) later = later found
 
-fun_fits : (i : Declared) (in_setup : Bool) (own : ℕ) (c : WrittenCall) (found : Option ℕ) → fun_named i c.name.bytes ≡ found → fun_flaws i in_setup own c found ≡ []
-    → call_fits i own (call_of i c) ≡ true
+fun_fits : (i : Declared) (in_setup : Bool) (own : ℕ) (c : WrittenCall) (found : Option ℕ) → declared_fun i c.name.bytes ≡ found → fun_flaws i in_setup own c found ≡ []
+    → call_fits i own (script_call_of i c) ≡ true
 fun_fits i in_setup own c None is e = absurd cc
 fun_fits i in_setup own c (Some f) is e =
     let fit = is_true _ (not_flawed _ _ _ (front_none _ _ e)) in
-    let n : unwrap_or (fun_named i c.name.bytes) 0 ≡ f = ap (λ v. unwrap_or v 0) is in
+    let n : unwrap_or (declared_fun i c.name.bytes) 0 ≡ f = ap (λ v. unwrap_or v 0) is in
     ap (λ v. declares i v && args_fit own (fun_at i.facts.funs v).kinds (map arg_of c.args)) n
     ∙ both (declares i f) _ (found_declared i c.name.bytes 1 i.facts.funs f is) (same_fit own (fun_at i.facts.funs f).kinds c.args ∙ fit)
 
-call_fit : (i : Declared) (in_setup : Bool) (nth own : ℕ) (c : WrittenCall) → call_flaws i in_setup nth own c ≡ [] → call_fits i own (call_of i c) ≡ true
-call_fit i in_setup nth own c e = fun_fits i in_setup own c (fun_named i c.name.bytes) refl (front_none _ _ (front_none _ _ e))
+call_fit : (i : Declared) (in_setup : Bool) (nth own : ℕ) (c : WrittenCall) → call_flaws i in_setup nth own c ≡ [] → call_fits i own (script_call_of i c) ≡ true
+call_fit i in_setup nth own c e = fun_fits i in_setup own c (declared_fun i c.name.bytes) refl (front_none _ _ (front_none _ _ e))
 
 calls_all_fit : (i : Declared) (in_setup : Bool) (nth own : ℕ) (calls : List WrittenCall) → calls_flaws i in_setup nth own calls ≡ []
-    → calls_fit i own (map (call_of i) calls) ≡ true
+    → calls_fit i own (map (script_call_of i) calls) ≡ true
 calls_all_fit i in_setup nth own [] e = refl
 calls_all_fit i in_setup nth own (c ∷ calls) e =
-    both (call_fits i own (call_of i c)) _ (call_fit i in_setup nth own c (front_none _ _ e)) (calls_all_fit i in_setup (nth + 1) (own + 1) calls (back_none _ _ e))
+    both (call_fits i own (script_call_of i c)) _ (call_fit i in_setup nth own c (front_none _ _ e)) (calls_all_fit i in_setup (nth + 1) (own + 1) calls (back_none _ _ e))
 
 -- ---- parts
 
@@ -114,10 +114,10 @@ part_good i setup before (Client at n calls) clients le e all =
     back_none (client_flaws n) (calls_flaws i false (before + 1) (calls_before setup (counts_as n.bytes) + 1) calls) e in
     let more : before + 1 ≤ 65537 = omega (arith, le) in
     let few : before + 1 + length calls ≤ 65537 = calls_few i false (before + 1) (calls_before setup (counts_as n.bytes) + 1) calls more none in
-    placed_good (IsGood i setup) (counts_as n.bytes) (map (call_of i) calls) clients
+    placed_good (IsGood i setup) (counts_as n.bytes) (map (script_call_of i) calls) clients
     (record {
       fit = calls_all_fit i false (before + 1) (calls_before setup (counts_as n.bytes) + 1) calls none;
-      few = omega (arith, few, length-map calls (call_of i));
+      few = omega (arith, few, length-map calls (script_call_of i));
     }) all
 part_good i setup before (Schedule at numbers) clients le e all = all
 part_good i setup before (Stop at numbers) clients le e all = all
@@ -166,7 +166,7 @@ pub plain_good : (i : Declared) (text : List ℕ) (script : Script) → IsScript
     → (calls_fit i 1 (first_calls script.clients) ≡ true) × (length (first_calls script.clients) ≤ 65536)
 plain_good i text script is plain =
     let setup = length (flat_map calls_of_setup is.parts) in
-    let no_setup = no_length (call_of i) (flat_map calls_of_setup is.parts)
+    let no_setup = no_length (script_call_of i) (flat_map calls_of_setup is.parts)
     (subst (λ s. length s.setup == 0 ≡ true) is.is (left _ _ (left _ _ (left _ _ plain)))) in
     let none : length (flat_map calls_in []) ≤ 65536 = omega arith in
     let all = clients_good i setup [] is.parts [] none is.flawless tt in

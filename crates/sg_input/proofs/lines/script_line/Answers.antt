@@ -2,7 +2,7 @@
 use Rattle.std.proofs.Common.{◌≡◌, ℕ, List, [], ◌∷◌, ◌++◌, ◌∙◌, ap, append_assoc}
 use Rattle.std.specs.Prelude.{codes}
 use Rattle.std.specs.Fmt.{decimal}
-use Rattle.sg_input.specs.Lines.{kind_name}
+use Rattle.sg_input.specs.Lines.{script_kind_name}
 use Rattle.sg_diagnose.specs.Lines.{line_of, column_of}
 use Rattle.sg_input.proofs.lines.script_line.Goals as goal
 
@@ -23,5 +23,5 @@ same line line' column column' name name' l c n =
 pub returns : goal.returns
 returns c =
     c.from_vec.ensures ∙ ap (λ v. v.items) c.into_bytes.ensures.value ∙ c.in_ok-said.ensures.ok
-    ∙ same _ _ _ _ _ _ c.line_of-line.ensures c.column_of-column.ensures c.kind_name-kind.ensures
-    ∙ regrouped (decimal (line_of c.args.script.now c.args.fault.at)) (decimal (column_of c.args.script.now c.args.fault.at)) (kind_name c.args.fault.kind)
+    ∙ same _ _ _ _ _ _ c.line_of-line.ensures c.column_of-column.ensures c.script_kind_name-kind.ensures
+    ∙ regrouped (decimal (line_of c.args.script.now c.args.fault.at)) (decimal (column_of c.args.script.now c.args.fault.at)) (script_kind_name c.args.fault.kind)

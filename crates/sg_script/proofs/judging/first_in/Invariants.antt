@@ -1,7 +1,7 @@
 -- What the parts that are left add to the flaws so far.
 use Rattle.std.proofs.Common.{◌≡◌, ◌≤◌, ◌*◌, [], None, drop, take}
-use Rattle.sg_script.specs.Firsts.{first_behind}
-use Rattle.sg_script.specs.Fronts.{IsFront}
+use Rattle.sg_script.specs.Inside.Firsts.{first_behind}
+use Rattle.sg_script.specs.Inside.Fronts.{IsFront}
 use Rattle.sg_script.specs.Flaws.{flaws_behind}
 use Rattle.sg_script.proofs.judging.first_in.Given as goal
 

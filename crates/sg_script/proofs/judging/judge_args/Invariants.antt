@@ -1,7 +1,7 @@
 -- What the arguments that are left add to the flaws so far.
 use Rattle.std.proofs.Common.{◌≡◌, drop}
 use Rattle.std.specs.List.{flat_map}
-use Rattle.sg_script.specs.Firsts.{first_behind}
+use Rattle.sg_script.specs.Inside.Firsts.{first_behind}
 use Rattle.sg_script.specs.Flaws.{arg_flaws}
 use Rattle.sg_script.proofs.judging.judge_args.Given as goal
 

@@ -1,7 +1,7 @@
 -- What the numbers that are left add to the flaws so far.
 use Rattle.std.proofs.Common.{◌≡◌, drop}
 use Rattle.std.specs.List.{flat_map}
-use Rattle.sg_script.specs.Firsts.{first_behind}
+use Rattle.sg_script.specs.Inside.Firsts.{first_behind}
 use Rattle.sg_script.specs.Flaws.{client_flaws}
 use Rattle.sg_script.proofs.judging.judge_clients.Given as goal
 

@@ -1,6 +1,6 @@
 -- What the stops that are left add to the flaws so far.
 use Rattle.std.proofs.Common.{◌≡◌, ◌+◌, drop}
-use Rattle.sg_script.specs.Firsts.{first_behind}
+use Rattle.sg_script.specs.Inside.Firsts.{first_behind}
 use Rattle.sg_script.specs.Flaws.{stops_flaws}
 use Rattle.sg_script.proofs.judging.judge_stops.Given as goal
 

@@ -2,7 +2,7 @@
 use Rattle.std.proofs.Common.{◌≡◌, ◌++◌, true, drop, map, take}
 use Rattle.std.specs.List.{list_all}
 use Rattle.sg_script.specs.Numbers.{counts_as}
-use Rattle.sg_script.specs.Held.{is_client_number}
+use Rattle.sg_script.specs.Inside.Held.{is_client_number}
 use Rattle.sg_script.proofs.making.add_turns.Given as goal
 
 abbrev pub invariant-each : goal.invariant-each

@@ -2,7 +2,7 @@
 use Rattle.std.proofs.Common.{◌≡◌, true, drop}
 use Rattle.std.specs.List.{fold, list_all}
 use Rattle.sg_script.specs.Scripts.{clients_of, with_client}
-use Rattle.sg_script.specs.Held.{is_held}
+use Rattle.sg_script.specs.Inside.Held.{is_held}
 use Rattle.sg_script.proofs.making.clients_of.Given as goal
 
 abbrev pub invariant-each : goal.invariant-each

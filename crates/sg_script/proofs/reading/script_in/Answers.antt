@@ -1,7 +1,7 @@
 -- A script is made of flawless parts alone.
 use Rattle.std.proofs.Common.{◌≡◌, ◌∙◌, true, subst, sym}
 use Rattle.std.specs.List.{list_all}
-use Rattle.sg_script.specs.Held.{is_held}
+use Rattle.sg_script.specs.Inside.Held.{is_held}
 use Rattle.sg_script.proofs.Held.{flawless_held}
 use Rattle.sg_script.proofs.reading.script_in.Goals as goal
 

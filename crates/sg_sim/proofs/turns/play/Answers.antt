@@ -5,7 +5,7 @@ use Rattle.sg_facts.proofs.Legality.{IsLegal-from}
 use Rattle.sg_lock.specs.LockTable.{lock_table}
 use Rattle.sg_lock.specs.LockObject.{lock_object}
 use Rattle.sg_sim.specs.Script.{call_fits}
-use Rattle.sg_sim.specs.Run.{IsRun}
+use Rattle.sg_sim.specs.Inside.Run.{IsRun}
 use Rattle.sg_sim.proofs.Runs.{fit-take, fits-at}
 use Rattle.sg_sim.proofs.turns.play.Goals as goal
 

@@ -2,7 +2,7 @@
 use Rattle.std.proofs.Common.{◌≡◌, take, length}
 use Rattle.sg_lock.specs.LockObject.{lock_object}
 use Rattle.sg_sim.specs.declared.world.Phase.TheVariants.{Idle}
-use Rattle.sg_sim.specs.Run.{IsRun}
+use Rattle.sg_sim.specs.Inside.Run.{IsRun}
 use Rattle.sg_sim.proofs.turns.play.Given as goal
 
 abbrev pub invariant-loop-call : goal.invariant-loop-call

@@ -3,8 +3,8 @@ use Rattle.std.proofs.Common.{◌≡◌, ◌+◌, ◌++◌, [], ◌∷◌, lengt
 use Rattle.sg_lock.specs.LockObject.{lock_object}
 use Rattle.sg_sim.specs.declared.world.Phase.TheVariants.{Idle}
 use Rattle.sg_sim.specs.Script.{resolved_call}
-use Rattle.sg_sim.specs.Run.{IsRun}
-use Rattle.sg_sim.specs.World.{IsAnswered, IsUnderWay, State}
+use Rattle.sg_sim.specs.Inside.Run.{IsRun}
+use Rattle.sg_sim.specs.Inside.World.{IsAnswered, IsPartlyDone, WorldState}
 use Rattle.sg_sim.proofs.Runs.{goes_on}
 use Rattle.sg_sim.proofs.turns.turns.Goals as goal
 
@@ -15,8 +15,8 @@ returns-clause-goes_on c calls run fit =
     let o = lock_object c.args.world.now.locks in
     let call = resolved_call i.facts history (length history + 1) c.args.call.now in
     let idle : c.steps.world.phase ≡ Idle = search rules in
-    let v : State = record { phase = c.steps.world.phase; history = c.steps.world.history.items; object = lock_object c.steps.world.locks } in
-    let w : State = record { phase = c.args.world.now.phase; history = history; object = o } in
-    let answered : IsAnswered i w call v = subst (λ p. IsUnderWay i w call p v) idle c.steps.invariant in
+    let v : WorldState = record { phase = c.steps.world.phase; history = c.steps.world.history.items; object = lock_object c.steps.world.locks } in
+    let w : WorldState = record { phase = c.args.world.now.phase; history = history; object = o } in
+    let answered : IsAnswered i w call v = subst (λ p. IsPartlyDone i w call p v) idle c.steps.invariant in
     subst (λ h. IsRun i h (lock_object c.steps.world.locks) (calls ++ c.args.call.now ∷ [])) (sym answered.commits.history)
     (goes_on i history o (lock_object c.steps.world.locks) calls c.args.call.now answered.reply c.requires.facts c.requires.fits run c.requires.few fit c.requires.call answered.answered answered.commits.object)

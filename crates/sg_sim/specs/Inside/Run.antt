@@ -25,7 +25,7 @@ pub record IsOfFirst (o : Object) : Type 0 where
   pub owners : AreRows IsAtMostFirst 0 o.given o.rows
 
 -- a call that client 1 may make of them
-pub record MayMake (o : Object) (call : Call) : Type 0 where
+pub record MayCall (o : Object) (call : Call) : Type 0 where
   pub of_first : IsOfFirst o
   pub is_call : IsCall lock_facts call
   pub client : call.client ≡ 1
@@ -40,6 +40,6 @@ pub record IsRun (i : Declared) (history : List Entry) (o : Object) (script : Li
   pub calls : AreCalls i.facts history 1 history script
 
 -- a run goes on by one call
-abbrev pub GoesOn : Declared → List Entry → Object → ScriptCall → List Entry → Object → Type 0
-GoesOn i history o call history' o' = (calls : List ScriptCall) → IsRun i history o calls → calls_fit i 1 calls ≡ true
+abbrev pub GoesOnBy : Declared → List Entry → Object → ScriptCall → List Entry → Object → Type 0
+GoesOnBy i history o call history' o' = (calls : List ScriptCall) → IsRun i history o calls → calls_fit i 1 calls ≡ true
     → IsRun i history' o' (calls ++ call ∷ [])

@@ -3,7 +3,7 @@ use Rattle.std.proofs.Common.{◌≡◌, length, inl, inr, sym, ◌∙◌}
 use Rattle.std.specs.Prelude.{◌⊎◌}
 use Rattle.std.specs.Slice.Iter.{iter_rest}
 use Rattle.sg_sim.proofs.Ends.{no_more_desc}
-use Rattle.sg_sim.proofs.calls.desc_of.Goals as goal
+use Rattle.sg_sim.proofs.calls.desc_among.Goals as goal
 
 pub returns : goal.returns
 returns c =

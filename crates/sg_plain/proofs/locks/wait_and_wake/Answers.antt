@@ -1,5 +1,5 @@
 use Rattle.std.proofs.Common.{refl}
-use Rattle.sg_plain.proofs.locks.release_wakes.Goals as goal
+use Rattle.sg_plain.proofs.locks.wait_and_wake.Goals as goal
 
 pub returns : goal.returns
 returns c = record {

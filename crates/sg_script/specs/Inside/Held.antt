@@ -7,11 +7,11 @@ use Rattle.sg_script_grammar.specs.declared.tree.WrittenArg.TheVariants.{Number,
 use Rattle.sg_script_grammar.specs.declared.tree.WrittenCall.{WrittenCall}
 use Rattle.sg_script_grammar.specs.declared.tree.Part.{Part}
 use Rattle.sg_script_grammar.specs.declared.tree.Part.TheVariants.{Setup, Client, Schedule, Stop}
-use Rattle.sg_script.specs.Numbers.{counts_as, is_client, is_text, unquoted}
+use Rattle.sg_script.specs.Numbers.{counts_as, is_known_client, is_text, unquoted}
 
 -- whether digits count as a client's number
 abbrev pub is_client_number : Spelling → Bool
-is_client_number n = is_client (counts_as n.bytes)
+is_client_number n = is_known_client (counts_as n.bytes)
 
 -- whether a text is one that calls take, and a `$` number has 32 bits at most
 abbrev pub is_held_arg : WrittenArg → Bool

@@ -2,7 +2,7 @@
 use Rattle.std.proofs.Common.{map, ap, arith}
 use Rattle.sg_facts.specs.Facts.{fun_of_shape}
 use Rattle.sg_script.proofs.Naming.{none_beyond}
-use Rattle.sg_script.proofs.names.+number_from.Goals as goal
+use Rattle.sg_script.proofs.names.+declared_from.Goals as goal
 
 pub returns-then-first-gt-LAST : goal.returns-then-first-gt-LAST
 returns-then-first-gt-LAST t c =

@@ -5,7 +5,7 @@ use Rattle.sg_script_grammar.specs.declared.tree.Part.{Part}
 use Rattle.sg_script.specs.declared.front.Front.{Front}
 use Rattle.sg_script.specs.Flaws.{calls_in, is_of_client, is_schedule, is_setup, is_stop}
 
--- it is kept of these parts: whether there was a setup, schedule or stop part among them, which clients had one, and how many
+-- what is kept of these parts: whether there was a setup, schedule or stop part among them, which clients had one, and how many
 -- calls they have
 pub record IsFront (front : Front) (parts : List Part) : Type 0 where
   pub setup : front.setup ≡ list_any is_setup parts

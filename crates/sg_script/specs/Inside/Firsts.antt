@@ -3,17 +3,17 @@ use Rattle.std.specs.Prelude.{◌==◌, ◌&&◌, ◌||◌, Bool, nat_le, nat_lt
 use Rattle.std.specs.declared.option.Option.{Option}
 use Rattle.std.specs.List.{fold}
 use Rattle.sg_script.specs.declared.fault.ScriptFault.{ScriptFault}
-use Rattle.sg_script.specs.Flaws.{rank}
+use Rattle.sg_script.specs.Flaws.{kind_rank}
 
 -- whether a flaw comes before another, or is the same
 abbrev pub is_not_after : ScriptFault → ScriptFault → Bool
-is_not_after f g = nat_lt f.at g.at || (f.at == g.at && nat_le (rank f.kind) (rank g.kind))
+is_not_after f g = nat_lt f.at g.at || (f.at == g.at && nat_le (kind_rank f.kind) (kind_rank g.kind))
 
 -- the first of a flaw before, where there is one, and another
-abbrev pub earlier : Option ScriptFault → ScriptFault → ScriptFault
-earlier None g = g
-earlier (Some f) g = if is_not_after f g then f else g
+abbrev pub first_of_two : Option ScriptFault → ScriptFault → ScriptFault
+first_of_two None g = g
+first_of_two (Some f) g = if is_not_after f g then f else g
 
 -- the first of a flaw before, where there is one, and some more
 abbrev pub first_behind : Option ScriptFault → List ScriptFault → Option ScriptFault
-first_behind before flaws = fold (λ first g. Some (earlier first g)) before flaws
+first_behind before flaws = fold (λ first g. Some (first_of_two first g)) before flaws

@@ -1,6 +1,0 @@
--- One function fewer is left.
-use Rattle.std.proofs.Common.{length}
-use Rattle.sg_script.proofs.names.+number_from.Given as goal
-
-abbrev pub decreases-number_from : goal.decreases-number_from
-decreases-number_from l = length l.funs.now

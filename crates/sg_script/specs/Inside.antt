@@ -1,0 +1,4 @@
+-- What the contracts of private functions cite.
+pub mod Firsts
+pub mod Fronts
+pub mod Held
