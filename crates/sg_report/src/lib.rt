@@ -8,8 +8,6 @@
 #![tactic(auto)]
 
 mod printed;
-#[cfg(test)]
-mod tests;
 mod traced;
 mod words;
 

@@ -94,7 +94,7 @@ passes f x xs g le one = record {
   ];
 }
 
--- the first of flaws, where there is one, is
+-- a flaw that another is not after may stand before the others: the first stays
 gives_way : (f x : ScriptFault) (xs : List ScriptFault) (g : ScriptFault) → IsNotAfter x f → IsFirstFlaw (x ∷ xs) g → IsFirstFlaw (f ∷ x ∷ xs) g
 gives_way f x xs g le one = record {
   there = behind f (x ∷ xs) g one.there;

@@ -1,11 +1,11 @@
-// What no clause says: that a run is printed where there is memory. And what it looks like.
-use crate::text;
+// Printed runs. No clause says that a run is printed where there is memory, nor what a whole report looks like.
 use sg_base::{Args, Bytes, Call, Code, Good, NoMemory, PairList, Path, Reply, Text, Value, Words};
 use sg_facts::{
     BootList, BootLog, Entry, FunShape, Interface, Item, ItemList, Kind, Leaves, Outcome, Parents,
     Shape, Tag, Trace,
 };
 use sg_hist::{End, EndList, Ended, History};
+use sg_report::text;
 use std::alloc::Global;
 use std::test::Fail;
 
@@ -178,23 +178,6 @@ fn ends(alloc: Global) -> Result<EndList, NoMemory> {
     Ok(ends)
 }
 
-#[test]
-fn prints_each_reply_and_end(rt: HostRuntime) -> Result<(), Fail> {
-    let alloc = rt.alloc();
-    let ended = run(alloc, entries(alloc)?, Vec::new(alloc), ends(alloc)?)?;
-    let printed = text(alloc, &files(alloc), &ended, false)?;
-    let want = b"c1.1 tsplit(0, \"a\") = ok #1
-c2.1 tread(1, 16) = ok 5 \"hello\"
-c1.2 twrite(1, \"x\") = refused Gap
-c1.3 look() = ok 7 8
-client 1 done
-client 2 blocked tread(1, 16)
-calls 4 boots 0 replays 0
-";
-    assert!(rt; printed.as_slice() == want.as_slice());
-    Ok(())
-}
-
 // The items of a run: a call, a call of a walk that replied and one that stopped, a load, and a call that blocks.
 fn items(alloc: Global) -> Result<[Item; 5], Fail> {
     Ok([
@@ -237,17 +220,26 @@ fn items(alloc: Global) -> Result<[Item; 5], Fail> {
     ])
 }
 
-#[test]
-fn prints_a_trace(rt: HostRuntime) -> Result<(), Fail> {
-    let alloc = rt.alloc();
+// The boots of a trace: one for each item, and all but the last end by a stop.
+fn logs(alloc: Global) -> Result<Vec<BootLog>, Fail> {
     let mut logs = Vec::new(alloc);
     for (at, item) in items(alloc)?.into_iter().enumerate() {
         let stop = if at < 4 { Some(10 + at as u64) } else { None };
         logs.push(boot(alloc, item, stop)?)?;
     }
-    let ended = run(alloc, Vec::new(alloc), logs, EndList::new(alloc))?;
-    let printed = text(alloc, &files(alloc), &ended, true)?;
-    let want = b"calls 0 boots 5 replays 1
+    Ok(logs)
+}
+
+static REPLIES: &[u8] = b"c1.1 tsplit(0, \"a\") = ok #1
+c2.1 tread(1, 16) = ok 5 \"hello\"
+c1.2 twrite(1, \"x\") = refused Gap
+c1.3 look() = ok 7 8
+client 1 done
+client 2 blocked tread(1, 16)
+calls 4 boots 0 replays 0
+";
+
+static TRACE: &[u8] = b"calls 0 boots 5 replays 1
 boot 1
 call c1.1 tsplit(0, \"a\") replied
 stop 10
@@ -264,15 +256,17 @@ boot 5
 call c2.1 tread(1, 16) blocked
 points 33
 ";
-    assert!(rt; printed.as_slice() == want.as_slice());
-    Ok(())
-}
 
 #[test]
-fn prints_a_run_without_calls(rt: HostRuntime) -> Result<(), Fail> {
+fn prints_runs(rt: HostRuntime) -> Result<(), Fail> {
     let alloc = rt.alloc();
-    let ended = run(alloc, Vec::new(alloc), Vec::new(alloc), EndList::new(alloc))?;
-    let printed = text(alloc, &files(alloc), &ended, true)?;
-    assert!(rt; printed.as_slice() == b"calls 0 boots 0 replays 0\npoints 33\n".as_slice());
+    let replies = run(alloc, entries(alloc)?, Vec::new(alloc), ends(alloc)?)?;
+    let trace = run(alloc, Vec::new(alloc), logs(alloc)?, EndList::new(alloc))?;
+    let nothing = run(alloc, Vec::new(alloc), Vec::new(alloc), EndList::new(alloc))?;
+    let iface = files(alloc);
+    assert!(rt; text(alloc, &iface, &replies, false)?.as_slice() == REPLIES);
+    assert!(rt; text(alloc, &iface, &trace, true)?.as_slice() == TRACE);
+    let counts = b"calls 0 boots 0 replays 0\npoints 33\n".as_slice();
+    assert!(rt; text(alloc, &iface, &nothing, true)?.as_slice() == counts);
     Ok(())
 }

@@ -1,0 +1,290 @@
+// What commands answer: tables of inputs, statuses and outputs. No clause says that an input is played where there is memory.
+use sg_base::NoMemory;
+use sg_edge::{MemSink, MemSource};
+use sg_top::Status::{Done, ReadFault, Refused, WriteFault};
+use sg_top::{Status, serial};
+use std::alloc::{AllocError, Global};
+use std::process::Abort;
+use std::test::Fail;
+use test_interfaces::LOCK;
+
+/// What stands behind a text in an input, and the status and the output that the input comes to.
+pub type Case = (&'static [u8], Status, &'static [u8]);
+
+/// The line that divides an input.
+pub static DIVIDER: &[u8] = b"%%\n";
+
+/// The report of a script without calls.
+pub static NOTHING: &[u8] = b"calls 0 boots 1 replays 0\n";
+
+/// A script of each call on locks, and its report.
+pub static SCRIPT: &[u8] =
+    b"client 1 { lock_alloc(); lock_take($1); lock_release($1); lock_free($1); }\n";
+
+pub static REPORT: &[u8] = b"c1.1 lock_alloc() = ok #1
+c1.2 lock_take(1) = ok
+c1.3 lock_release(1) = ok
+c1.4 lock_free(1) = ok
+client 1 done
+calls 4 boots 1 replays 0
+";
+
+static NO_DIVIDER: &[u8] = b"input refused: NoDivider\n";
+
+static NOT_YET: &[u8] = b"input refused: NotYet\n";
+
+static ACCEPTED: &[u8] = b"accepted lock\n";
+
+/// Bytes behind others.
+pub fn joined(alloc: Global, front: &[u8], back: &[u8]) -> Result<Vec<u8>, AllocError> {
+    let mut bytes = Vec::from_slice(alloc, front)?;
+    bytes.extend_from_slice(back)?;
+    Ok(bytes)
+}
+
+/// A list of one word.
+pub fn one_word(alloc: Global, word: &str) -> Result<Vec<String>, AllocError> {
+    let mut words = Vec::new(alloc);
+    words.push(word.to_string(alloc)?)?;
+    Ok(words)
+}
+
+// A command, and the numbers of the read and the write that fail, from 1; 0 for none.
+type Ask<'a> = (&'a str, u32, u32);
+
+// Whether an input comes to this status and this output, and there is a run just where a play came to its end.
+fn comes_to(
+    alloc: Global,
+    ask: Ask,
+    input: &[u8],
+    status: Status,
+    written: &[u8],
+) -> Result<bool, NoMemory> {
+    let (command, read, write) = ask;
+    let mut source = MemSource::new(alloc, input, 400, &[read])?;
+    let mut sink = MemSink::new(alloc, 10, &[write])?;
+    let words = one_word(alloc, command)?;
+    let answer = serial(alloc, &words, &mut source, &mut sink);
+    let ran = command == "sim" && (status == Done || status == WriteFault);
+    Ok(answer.status == status && answer.ended.is_some() == ran && sink.written() == written)
+}
+
+/// Whether an input comes to this status and this output by a command whose reads and writes don't fail.
+pub fn answers(
+    alloc: Global,
+    command: &str,
+    input: &[u8],
+    status: Status,
+    written: &[u8],
+) -> Result<bool, NoMemory> {
+    comes_to(alloc, (command, 0, 0), input, status, written)
+}
+
+// Each case behind this text comes to its status and its output.
+fn try_each(
+    rt: &impl Abort,
+    alloc: Global,
+    command: &str,
+    text: &[u8],
+    cases: &[Case],
+) -> Result<(), Fail> {
+    for (behind, status, written) in cases {
+        let input = joined(alloc, text, behind)?;
+        assert!(rt; answers(alloc, command, &input, *status, written)?, "{command} {behind:?}");
+    }
+    Ok(())
+}
+
+// Behind the interface of locks and the divider.
+static SCRIPTS: [Case; 30] = [
+    // one script in several spellings
+    (b"client 1{lock_alloc();lock_take($1);lock_release($1);lock_free($1);}", Done, REPORT),
+    (b"client\t1\r\n{\r\n lock_alloc ( ) ;\r\n lock_take($ 1);lock_release($1); lock_free($1);}\r\n", Done, REPORT),
+    (b"/* of */client/**/1{// one\nlock_alloc();lock_take($1)/*;*/;lock_release($1);lock_free($1);}//", Done, REPORT),
+    (b"client 01 { lock_alloc(); lock_take(1); lock_release($001); lock_free(0001); }", Done, REPORT),
+    (b"schedule; stop ;\nclient 1 { lock_alloc(); lock_take(1); lock_release(1); lock_free(1); } setup { }", Done, REPORT),
+    (b"client 1 { lock_alloc(); lock_take(1);\n/*\n%%\n*/\nlock_release(1); lock_free(1); }", Done, REPORT),
+    // scripts without calls
+    (b"", Done, NOTHING),
+    (b"// client 1 { lock_alloc(); }", Done, NOTHING),
+    (b"stop; client 1{} schedule; setup{}", Done, NOTHING),
+    // calls that are refused
+    (
+        b"client 1 { lock_free(9); lock_take($1); lock_alloc(); lock_release($3); }\n",
+        Done,
+        b"c1.1 lock_free(9) = refused NoDesc
+c1.2 lock_take(0) = refused NoDesc
+c1.3 lock_alloc() = ok #1
+c1.4 lock_release(1) = refused BadState
+client 1 done
+calls 4 boots 1 replays 0
+",
+    ),
+    (
+        b"client 1 { lock_free(18446744073709551615); }\n",
+        Done,
+        b"c1.1 lock_free(18446744073709551615) = refused NoDesc
+client 1 done
+calls 1 boots 1 replays 0
+",
+    ),
+    // scripts that aren't played yet
+    (b"setup { lock_alloc(); }", Refused, NOT_YET),
+    (b"client 1 { lock_free($1); } setup { lock_alloc(); }", Refused, NOT_YET),
+    (b"schedule 64;", Refused, NOT_YET),
+    (b"client 1 { lock_alloc(); } stop 9;", Refused, NOT_YET),
+    (b"client 2 { }", Refused, NOT_YET),
+    (b"client 1 { lock_alloc(); } client 2 { }", Refused, NOT_YET),
+    // what is no script, and each kind of flaw, with its line and the byte in the line
+    (b"%%\n", Refused, b"script refused at 1:1: Syntax\n"),
+    (b"\n%%", Refused, b"script refused at 2:1: Syntax\n"),
+    (b"client 1 { lock_alloc(); }\n\n \0", Refused, b"script refused at 3:2: Syntax\n"),
+    (b"client 65 { } setup { lock_take(1); } x", Refused, b"script refused at 1:39: Syntax\n"),
+    (b"client 1 { lock_free(1); lock_steal(); }", Refused, b"script refused at 1:26: UnknownFunction\n"),
+    (b"\r\n\r\nclient 1 {\r\n\tlock_free(1, 2);\r\n}", Refused, b"script refused at 4:2: BadArgs\n"),
+    (b"client 65 { lock_steal(); }", Refused, b"script refused at 1:8: BadClient\n"),
+    (b"client 1 { } client 01 { }", Refused, b"script refused at 1:14: Twice\n"),
+    (b"setup { } stop 5 5; client 65 { }", Refused, b"script refused at 1:18: NotAscending\n"),
+    (b"setup { lock_take(1); }", Refused, b"script refused at 1:9: Blocking\n"),
+    (b"client 1 { lock_free(18446744073709551616); }", Refused, b"script refused at 1:22: Limit\n"),
+    (b"stop 18446744073709551616;", Refused, b"script refused at 1:6: Limit\n"),
+    (b"client 2 { lock_take($1); } setup { lock_alloc(); }", Refused, b"script refused at 1:12: BadArgs\n"),
+];
+
+// Behind the interface of locks.
+static DIVIDED: [Case; 9] = [
+    (b"%%\r\nclient 1 { lock_alloc(); lock_take(1); lock_release(1); lock_free(1); }", Done, REPORT),
+    (b"\r\n%%\r\n", Done, NOTHING),
+    (b"%%", Done, NOTHING),
+    (b"/*\n%%\n*/", Refused, b"interface refused at 26:1: Lex\n"),
+    (b"%%\r", Refused, NO_DIVIDER),
+    (b"%% \n", Refused, NO_DIVIDER),
+    (b" %%\n", Refused, NO_DIVIDER),
+    (b"//%%\n", Refused, NO_DIVIDER),
+    (b"", Refused, NO_DIVIDER),
+];
+
+// Whole inputs, and the first reason why each is refused.
+static REFUSED_FIRST: [Case; 5] = [
+    (b"x", Refused, NO_DIVIDER),
+    (b"%%\n", Refused, b"interface refused at 1:1: Syntax\n"),
+    (b"%%\nx", Refused, b"interface refused at 1:1: Syntax\n"),
+    (b"service_global_info = {\n%%\nsetup { } stop 5 5;", Refused, b"interface refused at 2:1: Syntax\n"),
+    (b"service_global_info = #\n%%\nstop 1;", Refused, b"interface refused at 1:23: Lex\n"),
+];
+
+#[test]
+fn plays_inputs(rt: HostRuntime) -> Result<(), Fail> {
+    let alloc = rt.alloc();
+    let front = joined(alloc, LOCK, DIVIDER)?;
+    try_each(&rt, alloc, "sim", &front, &SCRIPTS)?;
+    try_each(&rt, alloc, "sim", LOCK, &DIVIDED)?;
+    try_each(&rt, alloc, "sim", b"", &REFUSED_FIRST)
+}
+
+// Whole texts that are refused, whatever is asked of them.
+static TEXTS: [Case; 4] = [
+    (b"", Refused, b"interface refused at 1:1: Syntax\n"),
+    (b"service_global_info = #", Refused, b"interface refused at 1:23: Lex\n"),
+    (b"service_global_info =\n", Refused, b"interface refused at 2:1: Syntax\n"),
+    (
+        b"service_global_info = {\n    service = door,\n    desc_has_parent = none,\n    desc_close = refuse,\n    desc_is_global = true,\n    desc_block = true,\n    desc_has_data = true,\n    resc_has_data = false\n};\n",
+        Refused,
+        b"interface refused at 2:15: UnknownService\n",
+    ),
+];
+
+// Behind the interface of locks, where `check` reads the text.
+static CHECKED: [Case; 2] = [
+    (b"", Done, ACCEPTED),
+    (b"%%\n", Refused, b"interface refused at 26:1: Lex\n"),
+];
+
+// A word, and what the text of locks comes to without the lines in which the word stands.
+static NARROWER: [Case; 3] = [
+    (b"lock_free", Done, ACCEPTED),
+    (b"sm_recover", Refused, b"interface refused at 21:5: NoWalk\n"),
+    (b"sm_wakeup", Refused, b"interface refused at 22:5: WrongFlag\n"),
+];
+
+// Behind the interface of locks without `lock_free`, and the divider.
+static NARROWER_SCRIPTS: [Case; 2] = [
+    (b"client 1 { lock_free(1); }", Refused, b"script refused at 1:12: UnknownFunction\n"),
+    (b"client 1 { lock_alloc(); }", Done, b"c1.1 lock_alloc() = ok #1\nclient 1 done\ncalls 1 boots 1 replays 0\n"),
+];
+
+// The interface of locks without the lines in which a word stands.
+fn text_without(alloc: Global, word: &[u8]) -> Result<Vec<u8>, Fail> {
+    let word = str::from_utf8(word).unwrap_or("");
+    let mut text = String::new(alloc);
+    for line in str::from_utf8(LOCK).unwrap_or("").lines() {
+        if !line.contains(word) {
+            text.push_str(line)?;
+            text.push_str("\n")?;
+        }
+    }
+    Ok(text.into_bytes())
+}
+
+#[test]
+fn checks_texts(rt: HostRuntime) -> Result<(), Fail> {
+    let alloc = rt.alloc();
+    try_each(&rt, alloc, "check", b"", &TEXTS)?;
+    try_each(&rt, alloc, "compile", b"", &TEXTS)?;
+    try_each(&rt, alloc, "check", LOCK, &CHECKED)?;
+    for (word, status, written) in &NARROWER {
+        let text = text_without(alloc, word)?;
+        assert!(rt; answers(alloc, "check", &text, *status, written)?, "{word:?}");
+    }
+    let front = joined(alloc, &text_without(alloc, b"lock_free")?, DIVIDER)?;
+    try_each(&rt, alloc, "sim", &front, &NARROWER_SCRIPTS)
+}
+
+static TABLES: &[u8] = b"service lock
+facts parent=none close=refuse global=true block=true desc_data=true resc_data=false
+fun 1 lock_alloc creation -> lock_alloc
+fun 2 lock_take desc block -> lock_take owner=caller
+fun 3 lock_release desc wakeup -> lock_alloc owner=0
+fun 4 lock_free desc terminal -> end
+move lock_alloc lock_take
+move lock_alloc lock_free
+move lock_take lock_take
+move lock_take lock_release
+move lock_take lock_free
+step lock_alloc lock_take
+walk lock_alloc lock_alloc - : lock_alloc
+walk lock_alloc lock_take owner : lock_alloc lock_take
+";
+
+// A command, the numbers of the read and the write that fail, and the status and the output.
+static FAULTS: [(&str, u32, u32, Status, &[u8]); 16] = [
+    ("sim", 0, 0, Done, REPORT),
+    ("sim", 1, 0, ReadFault, b""),
+    ("sim", 3, 0, ReadFault, b""),
+    ("sim", 1, 1, ReadFault, b""),
+    ("sim", 0, 1, WriteFault, b""),
+    ("sim", 0, 2, WriteFault, b"c1.1 lock_"),
+    ("sim", 0, 3, WriteFault, b"c1.1 lock_alloc() = "),
+    ("check", 0, 0, Done, ACCEPTED),
+    ("check", 1, 0, ReadFault, b""),
+    ("check", 2, 0, ReadFault, b""),
+    ("check", 0, 1, WriteFault, b""),
+    ("check", 0, 2, WriteFault, b"accepted l"),
+    ("compile", 0, 0, Done, TABLES),
+    ("compile", 1, 0, ReadFault, b""),
+    ("compile", 0, 1, WriteFault, b""),
+    ("compile", 0, 2, WriteFault, b"service lo"),
+];
+
+#[test]
+fn answers_faults(rt: HostRuntime) -> Result<(), Fail> {
+    let alloc = rt.alloc();
+    let front = joined(alloc, LOCK, DIVIDER)?;
+    let play = joined(alloc, &front, SCRIPT)?;
+    for (command, read, write, status, written) in &FAULTS {
+        let input = if *command == "sim" { play.as_slice() } else { LOCK };
+        let ask = (*command, *read, *write);
+        assert!(rt; comes_to(alloc, ask, input, *status, written)?, "{command} {read} {write}");
+    }
+    Ok(())
+}

@@ -1,0 +1,66 @@
+// Other words, a run as it is given, and the numbers of statuses.
+use crate::answers::{DIVIDER, REPORT, SCRIPT, joined, one_word};
+use sg_edge::{MemSink, MemSource, OpenGate};
+use sg_top::{Command, Status, serial, superglue};
+use std::io::ErrorKind;
+use std::test::Fail;
+use test_interfaces::LOCK;
+
+// Words that are no command's, with blanks between them.
+static OTHER_WORDS: [&str; 7] = ["", "SIM", "checks", "sim trace", "sim sim", "check check", "run"];
+
+#[test]
+fn touches_nothing_at_other_words(rt: HostRuntime) -> Result<(), Fail> {
+    let alloc = rt.alloc();
+    for text in OTHER_WORDS {
+        let mut words = Vec::new(alloc);
+        for word in text.split_ascii_whitespace() {
+            words.push(word.to_string(alloc)?)?;
+        }
+        assert!(rt; Command::of_words(&words).is_none());
+        let mut source = MemSource::new(alloc, LOCK, 400, &[1])?;
+        let mut sink = MemSink::new(alloc, 400, &[1])?;
+        let answer = serial(alloc, &words, &mut source, &mut sink);
+        assert_eq!(rt; answer.status, Status::OtherWords, "{text}");
+        assert!(rt; answer.ended.is_none() && sink.written().is_empty());
+    }
+    Ok(())
+}
+
+#[test]
+fn gives_the_run(rt: HostRuntime) -> Result<(), Fail> {
+    let alloc = rt.alloc();
+    let input = joined(alloc, &joined(alloc, LOCK, DIVIDER)?, SCRIPT)?;
+    let mut source = MemSource::new(alloc, &input, 7, &[])?;
+    let mut sink = MemSink::new(alloc, 5, &[])?;
+    let words = one_word(alloc, "sim")?;
+    let answer = superglue(&rt, alloc, &words, &mut source, &mut sink, &OpenGate);
+    assert_eq!(rt; answer.status, Status::Done);
+    assert!(rt; sink.written() == REPORT);
+    let Some(played) = answer.ended else {
+        return Err("no run")?;
+    };
+    let ended = played.ended();
+    assert_eq!(rt; ended.history.len(), 4);
+    assert_eq!(rt; ended.trace.boots.len(), 1);
+    assert_eq!(rt; ended.ends.len(), 1);
+    Ok(())
+}
+
+static NUMBERS: [(Status, u8); 6] = [
+    (Status::Done, 0),
+    (Status::OtherWords, 1),
+    (Status::Refused, 2),
+    (Status::ReadFault, 4),
+    (Status::WriteFault, 5),
+    (Status::NoMemory, 6),
+];
+
+#[test]
+fn numbers_statuses(rt: HostRuntime) {
+    for (status, number) in NUMBERS {
+        assert_eq!(rt; status.number(), number);
+    }
+    assert_eq!(rt; Status::without_words(ErrorKind::OutOfMemory), Status::NoMemory);
+    assert_eq!(rt; Status::without_words(ErrorKind::InvalidData), Status::OtherWords);
+}

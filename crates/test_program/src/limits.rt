@@ -1,0 +1,85 @@
+// The longest inputs, texts and scripts, and longer ones.
+use crate::answers::{DIVIDER, NOTHING, answers, joined};
+use sg_input::{MOST_DIVIDER, MOST_INPUT, MOST_INTERFACE, MOST_SCRIPT};
+use sg_top::Command;
+use sg_top::Status::{Done, Refused};
+use std::alloc::{AllocError, Global};
+use std::fmt::Write;
+use std::test::Fail;
+use test_interfaces::LOCK;
+
+static TOO_LONG: &[u8] = b"input refused: TooLong\n";
+
+static NO_DIVIDER: &[u8] = b"input refused: NoDivider\n";
+
+// Bytes, and blanks behind them up to this length.
+fn padded(alloc: Global, bytes: &[u8], length: usize) -> Result<Vec<u8>, AllocError> {
+    let mut padded = Vec::from_slice(alloc, bytes)?;
+    for _ in bytes.len()..length {
+        padded.push(b' ')?;
+    }
+    Ok(padded)
+}
+
+// An interface of so many bytes, a divider of 4, and so many blanks.
+fn input_of(alloc: Global, interface: usize, script: usize) -> Result<Vec<u8>, AllocError> {
+    let text = padded(alloc, LOCK, interface.saturating_sub(1))?;
+    let front = joined(alloc, &text, b"\n%%\r\n")?;
+    padded(alloc, &front, front.len().saturating_add(script))
+}
+
+#[test]
+fn takes_the_longest_input(rt: HostRuntime) -> Result<(), Fail> {
+    let alloc = rt.alloc();
+    assert_eq!(rt; MOST_INPUT, MOST_INTERFACE + MOST_DIVIDER + MOST_SCRIPT);
+    assert_eq!(rt; Command::Sim.most_bytes(), 4_259_844);
+    assert_eq!(rt; Command::Check.most_bytes(), 65_536);
+    let longest = input_of(alloc, 65_536, 4_194_304)?;
+    assert_eq!(rt; longest.len(), 4_259_844);
+    assert!(rt; answers(alloc, "sim", &longest, Done, NOTHING)?);
+    let text = padded(alloc, LOCK, 65_536)?;
+    assert!(rt; answers(alloc, "check", &text, Done, b"accepted lock\n")?);
+    Ok(())
+}
+
+#[test]
+fn refuses_longer_inputs(rt: HostRuntime) -> Result<(), Fail> {
+    let alloc = rt.alloc();
+    for (interface, script) in [(65_536, 4_194_305), (1_000, 4_194_305), (65_537, 0)] {
+        let input = input_of(alloc, interface, script)?;
+        assert!(rt; answers(alloc, "sim", &input, Refused, TOO_LONG)?, "{interface} {script}");
+    }
+    let undivided = padded(alloc, LOCK, 4_259_844)?;
+    assert!(rt; answers(alloc, "sim", &undivided, Refused, NO_DIVIDER)?);
+    for (command, length) in [("sim", 4_259_845), ("check", 65_537), ("compile", 65_537), ("check", 70_000)] {
+        let input = padded(alloc, LOCK, length)?;
+        assert!(rt; answers(alloc, command, &input, Refused, TOO_LONG)?, "{command} {length}");
+    }
+    Ok(())
+}
+
+// The input of so many calls, each on a line of its own behind the first.
+fn input_of_calls(alloc: Global, calls: usize) -> Result<Vec<u8>, AllocError> {
+    let front = joined(alloc, LOCK, DIVIDER)?;
+    let mut input = joined(alloc, &front, b"client 1 {\n")?;
+    for _ in 0..calls {
+        input.extend_from_slice(b"lock_free(1);\n")?;
+    }
+    joined(alloc, &input, b"}\n")
+}
+
+#[test]
+fn takes_65536_calls(rt: HostRuntime) -> Result<(), Fail> {
+    let alloc = rt.alloc();
+    let mut report = String::new(alloc);
+    for call in 1..65_537 {
+        writeln!(report, "c1.{call} lock_free(1) = refused NoDesc")?;
+    }
+    report.push_str("client 1 done\ncalls 65536 boots 1 replays 0\n")?;
+    let most = input_of_calls(alloc, 65_536)?;
+    assert!(rt; answers(alloc, "sim", &most, Done, report.as_bytes())?);
+    let more = input_of_calls(alloc, 65_537)?;
+    let line = b"script refused at 65538:1: Limit\n";
+    assert!(rt; answers(alloc, "sim", &more, Refused, line)?);
+    Ok(())
+}

@@ -1,0 +1,47 @@
+//! Tests of the program: of the call that it makes, of its inputs and of what it prints. As a program it is the program itself,
+//! whose stored run here is one that is refused.
+//!
+//! - `answers`: what commands answer, as tables of inputs, statuses and outputs
+//! - `limits`: the longest inputs and scripts, and longer ones
+//! - `calls`: other words, a run as it is given, and the numbers of statuses
+//! - `inputs`: where inputs are divided, and in which order they are refused
+//! - `reports`: printed runs
+#![tactic(auto)]
+
+#[cfg(test)]
+mod answers;
+#[cfg(test)]
+mod calls;
+#[cfg(test)]
+mod inputs;
+#[cfg(test)]
+mod limits;
+#[cfg(test)]
+mod reports;
+
+use sg_edge::{OpenGate, StdSink, StdSource};
+use sg_top::{Status, superglue};
+use std::env;
+use std::io::Error;
+use std::process::ExitCode;
+
+// Does with standard input what the words say, and ends with the number of the status.
+fn main(rt: HostRuntime) -> ExitCode {
+    ExitCode::from(status(&rt).number())
+}
+
+// The status of the program's words, standard input and standard output.
+fn status(rt: &HostRuntime) -> Status {
+    let words = match words(rt) {
+        Ok(words) => words,
+        Err(error) => return Status::without_words(error.kind()),
+    };
+    let mut input = StdSource::new(rt.stdin());
+    let mut output = StdSink::new(rt.stdout());
+    superglue(rt, rt.alloc(), &words, &mut input, &mut output, &OpenGate).status
+}
+
+// The words after the program's name.
+fn words(rt: &HostRuntime) -> Result<Vec<String>, Error> {
+    Ok(env::args(rt)?.skip(1).collect(rt.alloc())?)
+}
