@@ -1,4 +1,2 @@
 pub mod Calls
-pub mod FilePlays
-pub mod LockPlays
 pub mod Plain

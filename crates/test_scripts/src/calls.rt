@@ -1,10 +1,8 @@
-// Calls: functions that there aren't, and arguments that don't fit.
-use crate::answers::{Case, try_each};
+// Calls of functions that there aren't, and with arguments that don't fit.
+use crate::answers::Case;
 use sg_script::ScriptKind::{BadArgs, Blocking, UnknownFunction};
-use std::test::Fail;
-use test_interfaces::{EVENT, LOCK, RAMFS};
 
-static OF_LOCKS: [Case; 14] = [
+pub static OF_LOCKS: [Case; 14] = [
     (b"client 1 { lock_tak(1); }", Some((11, UnknownFunction))),
     (b"client 1 { lock_take_(1); }", Some((11, UnknownFunction))),
     (
@@ -42,12 +40,7 @@ static OF_LOCKS: [Case; 14] = [
     ),
 ];
 
-#[test]
-fn of_locks(rt: HostRuntime) -> Result<(), Fail> {
-    try_each(&rt, rt.alloc(), LOCK, &OF_LOCKS)
-}
-
-static OF_FILES: [Case; 9] = [
+pub static OF_FILES: [Case; 9] = [
     (b"client 1 { tsplit(0, 1); }", Some((11, BadArgs))),
     (b"client 1 { tsplit(\"0\", \"a\"); }", Some((11, BadArgs))),
     (
@@ -74,12 +67,7 @@ static OF_FILES: [Case; 9] = [
     ),
 ];
 
-#[test]
-fn of_files(rt: HostRuntime) -> Result<(), Fail> {
-    try_each(&rt, rt.alloc(), RAMFS, &OF_FILES)
-}
-
-static OF_EVENTS: [Case; 3] = [
+pub static OF_EVENTS: [Case; 3] = [
     (
         b"setup { evt_split(); evt_wait($1); }",
         Some((21, Blocking)),
@@ -88,12 +76,7 @@ static OF_EVENTS: [Case; 3] = [
     (b"client 1 { evt_trigger($1, 1); }", Some((11, BadArgs))),
 ];
 
-#[test]
-fn of_others(rt: HostRuntime) -> Result<(), Fail> {
-    try_each(&rt, rt.alloc(), EVENT, &OF_EVENTS)
-}
-
-static BACKS: [Case; 8] = [
+pub static BACKS: [Case; 8] = [
     (
         b"client 1 { lock_alloc(); lock_take($0); }",
         Some((25, BadArgs)),
@@ -125,12 +108,7 @@ static BACKS: [Case; 8] = [
     ),
 ];
 
-#[test]
-fn backs(rt: HostRuntime) -> Result<(), Fail> {
-    try_each(&rt, rt.alloc(), LOCK, &BACKS)
-}
-
-static BEHIND_A_SETUP: [Case; 8] = [
+pub static BEHIND_A_SETUP: [Case; 8] = [
     (b"setup { lock_alloc(); } client 1 { lock_take($1); }", None),
     (b"client 1 { lock_take($1); } setup { lock_alloc(); }", None),
     (
@@ -158,8 +136,3 @@ static BEHIND_A_SETUP: [Case; 8] = [
         Some((8, BadArgs)),
     ),
 ];
-
-#[test]
-fn backs_behind_a_setup(rt: HostRuntime) -> Result<(), Fail> {
-    try_each(&rt, rt.alloc(), LOCK, &BEHIND_A_SETUP)
-}

@@ -2,7 +2,8 @@
 //!
 //! The tests:
 //! - `answers`: what is answered on a script (`answer`, `try_each`)
-//! - `calls`, `parts`, `numbers`, `syntax`: what can be wrong, by its kind; `order`: several flaws in one script
+//! - `flaws`: what is first wrong with a script, by the tables `calls`, `parts`, `numbers` and `syntax`, one for each kind of
+//!   flaw, and `order`, with several flaws in one script
 //! - `limits`: as many calls, stops and bytes of a text as a script may have, and one more
 //! - `meanings`: what scripts stand for
 #![tactic(auto)]
@@ -11,6 +12,8 @@
 mod answers;
 #[cfg(test)]
 mod calls;
+#[cfg(test)]
+mod flaws;
 #[cfg(test)]
 mod limits;
 #[cfg(test)]

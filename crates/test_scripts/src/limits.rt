@@ -32,15 +32,6 @@ fn on_calls(alloc: Global, calls: usize) -> Result<Answer, Fail> {
     answer_on(alloc, LOCK, script.as_slice())
 }
 
-#[test]
-fn calls_of_one_client(rt: HostRuntime) -> Result<(), Fail> {
-    assert_eq!(rt; on_calls(rt.alloc(), 65_536)?, None);
-    // Each call has 14 bytes, the blank before it among them.
-    assert_eq!(rt; on_calls(rt.alloc(), 65_537)?, Some((917_515, Limit)));
-    assert_eq!(rt; on_calls(rt.alloc(), 65_538)?, Some((917_515, Limit)));
-    Ok(())
-}
-
 // The answer on so many calls in a setup behind 1,000 of client 7.
 fn on_parts(alloc: Global, calls: usize) -> Result<Answer, Fail> {
     let mut script = repeated(alloc, b"client 7 {", b" lock_alloc();", 1_000, b" }")?;
@@ -50,7 +41,11 @@ fn on_parts(alloc: Global, calls: usize) -> Result<Answer, Fail> {
 }
 
 #[test]
-fn calls_of_several_parts(rt: HostRuntime) -> Result<(), Fail> {
+fn of_calls(rt: HostRuntime) -> Result<(), Fail> {
+    assert_eq!(rt; on_calls(rt.alloc(), 65_536)?, None);
+    // Each call has 14 bytes, the blank before it among them.
+    assert_eq!(rt; on_calls(rt.alloc(), 65_537)?, Some((917_515, Limit)));
+    assert_eq!(rt; on_calls(rt.alloc(), 65_538)?, Some((917_515, Limit)));
     assert_eq!(rt; on_parts(rt.alloc(), 64_536)?, None);
     assert_eq!(rt; on_parts(rt.alloc(), 64_537)?, Some((917_526, Limit)));
     Ok(())
@@ -60,14 +55,6 @@ fn calls_of_several_parts(rt: HostRuntime) -> Result<(), Fail> {
 fn on_text(alloc: Global, bytes: usize) -> Result<Answer, Fail> {
     let script = repeated(alloc, b"client 1 { tsplit(0, \"", b"~", bytes, b"\"); }")?;
     answer_on(alloc, RAMFS, script.as_slice())
-}
-
-#[test]
-fn texts(rt: HostRuntime) -> Result<(), Fail> {
-    assert_eq!(rt; on_text(rt.alloc(), 0)?, None);
-    assert_eq!(rt; on_text(rt.alloc(), 256)?, None);
-    assert_eq!(rt; on_text(rt.alloc(), 257)?, Some((21, Limit)));
-    Ok(())
 }
 
 static TEN: &[u8] = b" 10 11 12 13 14 15 16 17 18 19";
@@ -85,7 +72,10 @@ fn on_stops(alloc: Global, before: &[u8], behind: &[u8]) -> Result<Answer, Fail>
 }
 
 #[test]
-fn stops(rt: HostRuntime) -> Result<(), Fail> {
+fn of_texts_and_stops(rt: HostRuntime) -> Result<(), Fail> {
+    assert_eq!(rt; on_text(rt.alloc(), 0)?, None);
+    assert_eq!(rt; on_text(rt.alloc(), 256)?, None);
+    assert_eq!(rt; on_text(rt.alloc(), 257)?, Some((21, Limit)));
     assert_eq!(rt; on_stops(rt.alloc(), b"stop 1 2 3", b";")?, None);
     assert_eq!(rt; on_stops(rt.alloc(), b"stop 1 2 3", b" 70;")?, None);
     assert_eq!(rt;

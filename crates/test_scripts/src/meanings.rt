@@ -39,17 +39,7 @@ fn is_back(call: Option<&ScriptCall>, fun: u8, number: u32) -> bool {
 static ALL_PARTS: &[u8] = b"stop 3 5; client 9 { lock_take(7); } schedule 9 1 9;\n\
 setup { lock_alloc(); lock_free(4); } client 1 { lock_take($1); lock_release($3); } client 2 { }";
 
-#[test]
-fn all_parts(rt: HostRuntime) -> Result<(), Fail> {
-    let script = script_on(rt.alloc(), LOCK, ALL_PARTS)?;
-    assert_eq!(rt; script.stops.as_slice(), [3, 5].as_slice());
-    assert_eq!(rt; script.schedule.as_slice(), [9, 1, 9].as_slice());
-    assert_eq!(rt; script.setup.len(), 2);
-    assert!(rt; is_number(script.setup.get(1), 4, 4));
-    Ok(())
-}
-
-// The calls of the client at a place: its number, how many they are, and whether the last is as wanted.
+// The client at a place has this number and so many calls.
 fn assert_client(rt: &impl Abort, script: &Script, at: usize, number: u8, calls: usize) {
     match script.clients.get(at) {
         Some((own, made)) => {
@@ -61,8 +51,12 @@ fn assert_client(rt: &impl Abort, script: &Script, at: usize, number: u8, calls:
 }
 
 #[test]
-fn clients_in_ascending_numbers(rt: HostRuntime) -> Result<(), Fail> {
+fn of_all_parts(rt: HostRuntime) -> Result<(), Fail> {
     let script = script_on(rt.alloc(), LOCK, ALL_PARTS)?;
+    assert_eq!(rt; script.stops.as_slice(), [3, 5].as_slice());
+    assert_eq!(rt; script.schedule.as_slice(), [9, 1, 9].as_slice());
+    assert_eq!(rt; script.setup.len(), 2);
+    assert!(rt; is_number(script.setup.get(1), 4, 4));
     assert_eq!(rt; script.clients.len(), 3);
     assert_client(&rt, &script, 0, 1, 2);
     assert_client(&rt, &script, 1, 2, 0);
@@ -78,7 +72,7 @@ fn clients_in_ascending_numbers(rt: HostRuntime) -> Result<(), Fail> {
 }
 
 #[test]
-fn texts_without_their_quotes(rt: HostRuntime) -> Result<(), Fail> {
+fn of_texts(rt: HostRuntime) -> Result<(), Fail> {
     let script = script_on(
         rt.alloc(),
         RAMFS,
@@ -96,7 +90,7 @@ fn texts_without_their_quotes(rt: HostRuntime) -> Result<(), Fail> {
 }
 
 #[test]
-fn greatest_numbers(rt: HostRuntime) -> Result<(), Fail> {
+fn of_the_greatest_numbers_and_of_nothing(rt: HostRuntime) -> Result<(), Fail> {
     let script = script_on(
         rt.alloc(),
         LOCK,
@@ -108,15 +102,8 @@ fn greatest_numbers(rt: HostRuntime) -> Result<(), Fail> {
         assert!(rt; is_number(calls.get(0), 2, u64::MAX));
         assert!(rt; is_number(calls.get(1), 2, 7));
     }
-    Ok(())
-}
-
-#[test]
-fn nothing(rt: HostRuntime) -> Result<(), Fail> {
-    let script = script_on(rt.alloc(), LOCK, b" // nothing")?;
-    assert!(rt; script.setup.is_empty());
-    assert!(rt; script.clients.is_empty());
-    assert!(rt; script.schedule.is_empty());
-    assert!(rt; script.stops.is_empty());
+    let nothing = script_on(rt.alloc(), LOCK, b" // nothing")?;
+    assert!(rt; nothing.setup.is_empty() && nothing.clients.is_empty());
+    assert!(rt; nothing.schedule.is_empty() && nothing.stops.is_empty());
     Ok(())
 }

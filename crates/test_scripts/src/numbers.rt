@@ -1,10 +1,8 @@
 // Numbers up to the greatest of 64 bits.
-use crate::answers::{Case, try_each};
+use crate::answers::Case;
 use sg_script::ScriptKind::Limit;
-use std::test::Fail;
-use test_interfaces::{LOCK, RAMFS};
 
-static NUMBERS: [Case; 6] = [
+pub static NUMBERS: [Case; 6] = [
     (
         b"client 1 { lock_take(18446744073709551616); }",
         Some((21, Limit)),
@@ -28,12 +26,7 @@ static NUMBERS: [Case; 6] = [
     ),
 ];
 
-#[test]
-fn numbers(rt: HostRuntime) -> Result<(), Fail> {
-    try_each(&rt, rt.alloc(), LOCK, &NUMBERS)
-}
-
-static OF_FILES: [Case; 3] = [
+pub static OF_FILES: [Case; 3] = [
     (
         b"client 1 { tsplit(0, \"a\"); tread($1, 18446744073709551616); }",
         Some((37, Limit)),
@@ -47,8 +40,3 @@ static OF_FILES: [Case; 3] = [
         None,
     ),
 ];
-
-#[test]
-fn numbers_of_files(rt: HostRuntime) -> Result<(), Fail> {
-    try_each(&rt, rt.alloc(), RAMFS, &OF_FILES)
-}

@@ -1,12 +1,10 @@
 // Several flaws in one script: the first place comes first, and at one place the first kind.
-use crate::answers::{Case, try_each};
+use crate::answers::Case;
 use sg_script::ScriptKind::{
     BadArgs, BadClient, Blocking, Limit, NotAscending, Syntax, Twice, UnknownFunction,
 };
-use std::test::Fail;
-use test_interfaces::LOCK;
 
-static ONE_PLACE: [Case; 4] = [
+pub static ONE_PLACE: [Case; 4] = [
     (b"setup { lock_take(); }", Some((8, BadArgs))),
     (
         b"setup { lock_alloc(); lock_take($2); }",
@@ -16,12 +14,7 @@ static ONE_PLACE: [Case; 4] = [
     (b"client 18446744073709551616 { }", Some((7, BadClient))),
 ];
 
-#[test]
-fn one_place(rt: HostRuntime) -> Result<(), Fail> {
-    try_each(&rt, rt.alloc(), LOCK, &ONE_PLACE)
-}
-
-static EARLIER: [Case; 16] = [
+pub static EARLIER: [Case; 16] = [
     (
         b"client 1 { lock_tak(); lock_take(); }",
         Some((11, UnknownFunction)),
@@ -64,12 +57,7 @@ static EARLIER: [Case; 16] = [
     ),
 ];
 
-#[test]
-fn earlier_place(rt: HostRuntime) -> Result<(), Fail> {
-    try_each(&rt, rt.alloc(), LOCK, &EARLIER)
-}
-
-static SYNTAX_FIRST: [Case; 4] = [
+pub static SYNTAX_FIRST: [Case; 4] = [
     (b"client 0 { lock_tak(); } stop 0 ", Some((32, Syntax))),
     (b"client 1 { lock_tak(); lock_alloc() }", Some((36, Syntax))),
     (b"setup { lock_take(1); } setup { } ;", Some((34, Syntax))),
@@ -78,8 +66,3 @@ static SYNTAX_FIRST: [Case; 4] = [
         Some((36, Syntax)),
     ),
 ];
-
-#[test]
-fn syntax_first(rt: HostRuntime) -> Result<(), Fail> {
-    try_each(&rt, rt.alloc(), LOCK, &SYNTAX_FIRST)
-}

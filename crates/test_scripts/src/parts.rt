@@ -1,10 +1,8 @@
 // Parts: clients, second parts, and stops.
-use crate::answers::{Case, try_each};
+use crate::answers::Case;
 use sg_script::ScriptKind::{BadClient, Limit, NotAscending, Twice};
-use std::test::Fail;
-use test_interfaces::LOCK;
 
-static CLIENTS: [Case; 11] = [
+pub static CLIENTS: [Case; 11] = [
     (b"client 0 { }", Some((7, BadClient))),
     (b"client 65 { }", Some((7, BadClient))),
     (b"client 00 { }", Some((7, BadClient))),
@@ -18,12 +16,7 @@ static CLIENTS: [Case; 11] = [
     (b"client 64 { } client 1 { } schedule 1 64 2 063;", None),
 ];
 
-#[test]
-fn clients(rt: HostRuntime) -> Result<(), Fail> {
-    try_each(&rt, rt.alloc(), LOCK, &CLIENTS)
-}
-
-static TWICE: [Case; 8] = [
+pub static TWICE: [Case; 8] = [
     (b"setup { } setup { }", Some((10, Twice))),
     (b"client 1 { } client 2 { } client 1 { }", Some((26, Twice))),
     (b"client 1 { } client 01 { }", Some((13, Twice))),
@@ -40,12 +33,7 @@ static TWICE: [Case; 8] = [
     ),
 ];
 
-#[test]
-fn twice(rt: HostRuntime) -> Result<(), Fail> {
-    try_each(&rt, rt.alloc(), LOCK, &TWICE)
-}
-
-static STOPS: [Case; 9] = [
+pub static STOPS: [Case; 9] = [
     (b"stop 0;", Some((5, NotAscending))),
     (b"stop 3 3;", Some((7, NotAscending))),
     (b"stop 5 6 4;", Some((9, NotAscending))),
@@ -62,8 +50,3 @@ static STOPS: [Case; 9] = [
     ),
     (b"stop 1 2 03 18446744073709551615;", None),
 ];
-
-#[test]
-fn stops(rt: HostRuntime) -> Result<(), Fail> {
-    try_each(&rt, rt.alloc(), LOCK, &STOPS)
-}

@@ -1,10 +1,8 @@
 // Texts that are no scripts of the grammar, and some that are.
-use crate::answers::{Case, try_each};
+use crate::answers::Case;
 use sg_script::ScriptKind::Syntax;
-use std::test::Fail;
-use test_interfaces::{LOCK, RAMFS};
 
-static MARKS: [Case; 13] = [
+pub static MARKS: [Case; 13] = [
     (b"client 1 { lock_alloc() }", Some((24, Syntax))),
     (b"client 1 { lock_alloc(;", Some((22, Syntax))),
     (b"client 1 { lock_alloc ; }", Some((22, Syntax))),
@@ -20,12 +18,7 @@ static MARKS: [Case; 13] = [
     (b"stop 1 \"a\";", Some((7, Syntax))),
 ];
 
-#[test]
-fn marks(rt: HostRuntime) -> Result<(), Fail> {
-    try_each(&rt, rt.alloc(), LOCK, &MARKS)
-}
-
-static WORDS: [Case; 7] = [
+pub static WORDS: [Case; 7] = [
     (b"lock_alloc();", Some((0, Syntax))),
     (b"client { }", Some((7, Syntax))),
     (b"setup 1 { }", Some((6, Syntax))),
@@ -35,12 +28,7 @@ static WORDS: [Case; 7] = [
     (b"1", Some((0, Syntax))),
 ];
 
-#[test]
-fn words(rt: HostRuntime) -> Result<(), Fail> {
-    try_each(&rt, rt.alloc(), LOCK, &WORDS)
-}
-
-static ENDS: [Case; 8] = [
+pub static ENDS: [Case; 8] = [
     (b"client", Some((6, Syntax))),
     (b"client 1 ", Some((9, Syntax))),
     (b"client 1 {", Some((10, Syntax))),
@@ -51,12 +39,7 @@ static ENDS: [Case; 8] = [
     (b"setup { } /* { } */ setup ", Some((26, Syntax))),
 ];
 
-#[test]
-fn ends(rt: HostRuntime) -> Result<(), Fail> {
-    try_each(&rt, rt.alloc(), LOCK, &ENDS)
-}
-
-static BYTES: [Case; 7] = [
+pub static BYTES: [Case; 7] = [
     (b"client 1 { # }", Some((11, Syntax))),
     (b"client 1 { tsplit(0, \"a); }", Some((21, Syntax))),
     (b"client 1 { } /* { }", Some((13, Syntax))),
@@ -66,12 +49,7 @@ static BYTES: [Case; 7] = [
     (b"stop 1; -1", Some((8, Syntax))),
 ];
 
-#[test]
-fn bytes(rt: HostRuntime) -> Result<(), Fail> {
-    try_each(&rt, rt.alloc(), RAMFS, &BYTES)
-}
-
-static FAULTLESS: [Case; 8] = [
+pub static FAULTLESS: [Case; 8] = [
     (b"", None),
     (b" \t\r\n", None),
     (b"// client 0 { }", None),
@@ -81,8 +59,3 @@ static FAULTLESS: [Case; 8] = [
     (b"client/**/1{lock_alloc();lock_take/*$*/($ 1);}", None),
     (b"schedule 1 1\n1;", None),
 ];
-
-#[test]
-fn without_a_fault(rt: HostRuntime) -> Result<(), Fail> {
-    try_each(&rt, rt.alloc(), LOCK, &FAULTLESS)
-}

@@ -1,5 +1,0 @@
-use Rattle.std.proofs.Common.{refl}
-use Rattle.sg_plain.proofs.locks.second_first.Goals as goal
-
-pub returns : goal.returns
-returns c = record { play = record { turns = 12; over = refl; is = refl } }

@@ -1,8 +1,0 @@
-use Rattle.std.proofs.Common.{refl}
-use Rattle.sg_plain.proofs.locks.wait_and_wake.Goals as goal
-
-pub returns : goal.returns
-returns c = record {
-  play = record { turns = 11; over = refl; is = refl };
-  ends = record { clients = refl; each = (refl, (refl, tt)) };
-}

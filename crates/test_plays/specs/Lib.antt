@@ -1,0 +1,2 @@
+pub mod FilePlays
+pub mod LockPlays
