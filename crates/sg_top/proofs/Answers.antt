@@ -42,7 +42,7 @@ Read command told told' ended status output =
 too_long : (command : Command) (bytes : List ℕ) → most_bytes command < length bytes → IsRefusal command bytes too_long_line
 too_long command bytes long = inr (long, refl)
 
--- an output with status 2 refuses the input, and no run came to its end
+-- an output of an input that is refused has its refusal, and no run came to its end
 refusal : (command : Command) (bytes : List ℕ) (ended : Option Ended) (status : Status) (output : List ℕ) → status ≡ Refused → length bytes ≤ most_bytes command
     → IsOutput command bytes ended status output → (ended ≡ None) × IsRefusal command bytes output
 refusal Sim bytes None status output two short is = (refl, inl (short, is.1))
@@ -83,7 +83,7 @@ status_by : (command : Command) (told told' : Option (List ℕ)) (ended : Option
 status_by command told told' ended status output (inl (bytes, short, consumed, at_end, is)) = output_status command bytes ended status output is
 status_by command told told' ended status output (inr (bytes, count, consumed, none, is_two, line)) = inr is_two
 
--- an output's status is 0 or 2
+-- an output is of an input that is done or refused
 status_is : (command : Command) (source source' : Ends) (ended : Option Ended) (status : Status) (output : List ℕ)
     → HasRead command source source' ended status output → (status ≡ Done) ⊎ (status ≡ Refused)
 status_is command source source' ended status output has = status_by command source.told source'.told ended status output has.read
@@ -120,7 +120,7 @@ sim_by : (command : Command) (told told' : Option (List ℕ)) (ended : Option En
 sim_by command told told' ended status output (inl (bytes, short, consumed, at_end, is)) some = output_sim command bytes ended status output is some
 sim_by command told told' ended status output (inr (bytes, count, consumed, none, is_two, line)) some = absurd (no_run ended none some)
 
--- only a play has one
+-- only a play has a run
 run_sim : (command : Command) (source source' : Ends) (ended : Option Ended) (status : Status) (output : List ℕ)
     → HasRead command source source' ended status output → IsSome ended → command ≡ Sim
 run_sim command source source' ended status output has some = sim_by command source.told source'.told ended status output has.read some

@@ -90,7 +90,10 @@ fn try_each(
 ) -> Result<(), Fail> {
     for (behind, status, written) in cases {
         let input = joined(alloc, text, behind)?;
-        assert!(rt; answers(alloc, command, &input, *status, written)?, "{command} {behind:?}");
+        assert!(rt;
+            answers(alloc, command, &input, *status, written)?,
+            "{command} {behind:?}"
+        );
     }
     Ok(())
 }
@@ -98,12 +101,36 @@ fn try_each(
 // Behind the interface of locks and the divider.
 static SCRIPTS: [Case; 30] = [
     // one script in several spellings
-    (b"client 1{lock_alloc();lock_take($1);lock_release($1);lock_free($1);}", Done, REPORT),
-    (b"client\t1\r\n{\r\n lock_alloc ( ) ;\r\n lock_take($ 1);lock_release($1); lock_free($1);}\r\n", Done, REPORT),
-    (b"/* of */client/**/1{// one\nlock_alloc();lock_take($1)/*;*/;lock_release($1);lock_free($1);}//", Done, REPORT),
-    (b"client 01 { lock_alloc(); lock_take(1); lock_release($001); lock_free(0001); }", Done, REPORT),
-    (b"schedule; stop ;\nclient 1 { lock_alloc(); lock_take(1); lock_release(1); lock_free(1); } setup { }", Done, REPORT),
-    (b"client 1 { lock_alloc(); lock_take(1);\n/*\n%%\n*/\nlock_release(1); lock_free(1); }", Done, REPORT),
+    (
+        b"client 1{lock_alloc();lock_take($1);lock_release($1);lock_free($1);}",
+        Done,
+        REPORT,
+    ),
+    (
+        b"client\t1\r\n{\r\n lock_alloc ( ) ;\r\n lock_take($ 1);lock_release($1); lock_free($1);}\r\n",
+        Done,
+        REPORT,
+    ),
+    (
+        b"/* of */client/**/1{// one\nlock_alloc();lock_take($1)/*;*/;lock_release($1);lock_free($1);}//",
+        Done,
+        REPORT,
+    ),
+    (
+        b"client 01 { lock_alloc(); lock_take(1); lock_release($001); lock_free(0001); }",
+        Done,
+        REPORT,
+    ),
+    (
+        b"schedule; stop ;\nclient 1 { lock_alloc(); lock_take(1); lock_release(1); lock_free(1); } setup { }",
+        Done,
+        REPORT,
+    ),
+    (
+        b"client 1 { lock_alloc(); lock_take(1);\n/*\n%%\n*/\nlock_release(1); lock_free(1); }",
+        Done,
+        REPORT,
+    ),
     // scripts without calls
     (b"", Done, NOTHING),
     (b"// client 1 { lock_alloc(); }", Done, NOTHING),
@@ -130,7 +157,11 @@ calls 1 boots 1 replays 0
     ),
     // scripts that aren't played yet
     (b"setup { lock_alloc(); }", Refused, NOT_YET),
-    (b"client 1 { lock_free($1); } setup { lock_alloc(); }", Refused, NOT_YET),
+    (
+        b"client 1 { lock_free($1); } setup { lock_alloc(); }",
+        Refused,
+        NOT_YET,
+    ),
     (b"schedule 64;", Refused, NOT_YET),
     (b"client 1 { lock_alloc(); } stop 9;", Refused, NOT_YET),
     (b"client 2 { }", Refused, NOT_YET),
@@ -138,22 +169,70 @@ calls 1 boots 1 replays 0
     // what is no script, and each kind of flaw, with its line and the byte in the line
     (b"%%\n", Refused, b"script refused at 1:1: Syntax\n"),
     (b"\n%%", Refused, b"script refused at 2:1: Syntax\n"),
-    (b"client 1 { lock_alloc(); }\n\n \0", Refused, b"script refused at 3:2: Syntax\n"),
-    (b"client 65 { } setup { lock_take(1); } x", Refused, b"script refused at 1:39: Syntax\n"),
-    (b"client 1 { lock_free(1); lock_steal(); }", Refused, b"script refused at 1:26: UnknownFunction\n"),
-    (b"\r\n\r\nclient 1 {\r\n\tlock_free(1, 2);\r\n}", Refused, b"script refused at 4:2: BadArgs\n"),
-    (b"client 65 { lock_steal(); }", Refused, b"script refused at 1:8: BadClient\n"),
-    (b"client 1 { } client 01 { }", Refused, b"script refused at 1:14: Twice\n"),
-    (b"setup { } stop 5 5; client 65 { }", Refused, b"script refused at 1:18: NotAscending\n"),
-    (b"setup { lock_take(1); }", Refused, b"script refused at 1:9: Blocking\n"),
-    (b"client 1 { lock_free(18446744073709551616); }", Refused, b"script refused at 1:22: Limit\n"),
-    (b"stop 18446744073709551616;", Refused, b"script refused at 1:6: Limit\n"),
-    (b"client 2 { lock_take($1); } setup { lock_alloc(); }", Refused, b"script refused at 1:12: BadArgs\n"),
+    (
+        b"client 1 { lock_alloc(); }\n\n \0",
+        Refused,
+        b"script refused at 3:2: Syntax\n",
+    ),
+    (
+        b"client 65 { } setup { lock_take(1); } x",
+        Refused,
+        b"script refused at 1:39: Syntax\n",
+    ),
+    (
+        b"client 1 { lock_free(1); lock_steal(); }",
+        Refused,
+        b"script refused at 1:26: UnknownFunction\n",
+    ),
+    (
+        b"\r\n\r\nclient 1 {\r\n\tlock_free(1, 2);\r\n}",
+        Refused,
+        b"script refused at 4:2: BadArgs\n",
+    ),
+    (
+        b"client 65 { lock_steal(); }",
+        Refused,
+        b"script refused at 1:8: BadClient\n",
+    ),
+    (
+        b"client 1 { } client 01 { }",
+        Refused,
+        b"script refused at 1:14: Twice\n",
+    ),
+    (
+        b"setup { } stop 5 5; client 65 { }",
+        Refused,
+        b"script refused at 1:18: NotAscending\n",
+    ),
+    (
+        b"setup { lock_take(1); }",
+        Refused,
+        b"script refused at 1:9: Blocking\n",
+    ),
+    (
+        b"client 1 { lock_free(18446744073709551616); }",
+        Refused,
+        b"script refused at 1:22: Limit\n",
+    ),
+    (
+        b"stop 18446744073709551616;",
+        Refused,
+        b"script refused at 1:6: Limit\n",
+    ),
+    (
+        b"client 2 { lock_take($1); } setup { lock_alloc(); }",
+        Refused,
+        b"script refused at 1:12: BadArgs\n",
+    ),
 ];
 
 // Behind the interface of locks.
 static DIVIDED: [Case; 9] = [
-    (b"%%\r\nclient 1 { lock_alloc(); lock_take(1); lock_release(1); lock_free(1); }", Done, REPORT),
+    (
+        b"%%\r\nclient 1 { lock_alloc(); lock_take(1); lock_release(1); lock_free(1); }",
+        Done,
+        REPORT,
+    ),
     (b"\r\n%%\r\n", Done, NOTHING),
     (b"%%", Done, NOTHING),
     (b"/*\n%%\n*/", Refused, b"interface refused at 26:1: Lex\n"),
@@ -169,8 +248,16 @@ static REFUSED_FIRST: [Case; 5] = [
     (b"x", Refused, NO_DIVIDER),
     (b"%%\n", Refused, b"interface refused at 1:1: Syntax\n"),
     (b"%%\nx", Refused, b"interface refused at 1:1: Syntax\n"),
-    (b"service_global_info = {\n%%\nsetup { } stop 5 5;", Refused, b"interface refused at 2:1: Syntax\n"),
-    (b"service_global_info = #\n%%\nstop 1;", Refused, b"interface refused at 1:23: Lex\n"),
+    (
+        b"service_global_info = {\n%%\nsetup { } stop 5 5;",
+        Refused,
+        b"interface refused at 2:1: Syntax\n",
+    ),
+    (
+        b"service_global_info = #\n%%\nstop 1;",
+        Refused,
+        b"interface refused at 1:23: Lex\n",
+    ),
 ];
 
 #[test]
@@ -183,16 +270,22 @@ fn plays_inputs(rt: HostRuntime) -> Result<(), Fail> {
 }
 
 // Whole texts that are refused, whatever is asked of them.
-static TEXTS: [Case; 4] = [
+static TEXTS: [Case; 3] = [
     (b"", Refused, b"interface refused at 1:1: Syntax\n"),
-    (b"service_global_info = #", Refused, b"interface refused at 1:23: Lex\n"),
-    (b"service_global_info =\n", Refused, b"interface refused at 2:1: Syntax\n"),
     (
-        b"service_global_info = {\n    service = door,\n    desc_has_parent = none,\n    desc_close = refuse,\n    desc_is_global = true,\n    desc_block = true,\n    desc_has_data = true,\n    resc_has_data = false\n};\n",
+        b"service_global_info = #",
         Refused,
-        b"interface refused at 2:15: UnknownService\n",
+        b"interface refused at 1:23: Lex\n",
+    ),
+    (
+        b"service_global_info =\n",
+        Refused,
+        b"interface refused at 2:1: Syntax\n",
     ),
 ];
+
+// The beginning of the interface of locks, for a service that there isn't.
+static DOOR: &[u8] = b"service_global_info = {\n    service = door";
 
 // Behind the interface of locks, where `check` reads the text.
 static CHECKED: [Case; 2] = [
@@ -203,14 +296,30 @@ static CHECKED: [Case; 2] = [
 // A word, and what the text of locks comes to without the lines in which the word stands.
 static NARROWER: [Case; 3] = [
     (b"lock_free", Done, ACCEPTED),
-    (b"sm_recover", Refused, b"interface refused at 21:5: NoWalk\n"),
-    (b"sm_wakeup", Refused, b"interface refused at 22:5: WrongFlag\n"),
+    (
+        b"sm_recover",
+        Refused,
+        b"interface refused at 21:5: NoWalk\n",
+    ),
+    (
+        b"sm_wakeup",
+        Refused,
+        b"interface refused at 22:5: WrongFlag\n",
+    ),
 ];
 
 // Behind the interface of locks without `lock_free`, and the divider.
 static NARROWER_SCRIPTS: [Case; 2] = [
-    (b"client 1 { lock_free(1); }", Refused, b"script refused at 1:12: UnknownFunction\n"),
-    (b"client 1 { lock_alloc(); }", Done, b"c1.1 lock_alloc() = ok #1\nclient 1 done\ncalls 1 boots 1 replays 0\n"),
+    (
+        b"client 1 { lock_free(1); }",
+        Refused,
+        b"script refused at 1:12: UnknownFunction\n",
+    ),
+    (
+        b"client 1 { lock_alloc(); }",
+        Done,
+        b"c1.1 lock_alloc() = ok #1\nclient 1 done\ncalls 1 boots 1 replays 0\n",
+    ),
 ];
 
 // The interface of locks without the lines in which a word stands.
@@ -234,8 +343,14 @@ fn checks_texts(rt: HostRuntime) -> Result<(), Fail> {
     try_each(&rt, alloc, "check", LOCK, &CHECKED)?;
     for (word, status, written) in &NARROWER {
         let text = text_without(alloc, word)?;
-        assert!(rt; answers(alloc, "check", &text, *status, written)?, "{word:?}");
+        assert!(rt;
+            answers(alloc, "check", &text, *status, written)?,
+            "{word:?}"
+        );
     }
+    let door = joined(alloc, DOOR, LOCK.get(DOOR.len()..).unwrap_or(b""))?;
+    let line = b"interface refused at 2:15: UnknownService\n";
+    assert!(rt; answers(alloc, "check", &door, Refused, line)?);
     let front = joined(alloc, &text_without(alloc, b"lock_free")?, DIVIDER)?;
     try_each(&rt, alloc, "sim", &front, &NARROWER_SCRIPTS)
 }
@@ -282,9 +397,16 @@ fn answers_faults(rt: HostRuntime) -> Result<(), Fail> {
     let front = joined(alloc, LOCK, DIVIDER)?;
     let play = joined(alloc, &front, SCRIPT)?;
     for (command, read, write, status, written) in &FAULTS {
-        let input = if *command == "sim" { play.as_slice() } else { LOCK };
+        let input = if *command == "sim" {
+            play.as_slice()
+        } else {
+            LOCK
+        };
         let ask = (*command, *read, *write);
-        assert!(rt; comes_to(alloc, ask, input, *status, written)?, "{command} {read} {write}");
+        assert!(rt;
+            comes_to(alloc, ask, input, *status, written)?,
+            "{command} {read} {write}"
+        );
     }
     Ok(())
 }

@@ -7,7 +7,15 @@ use std::test::Fail;
 use test_interfaces::LOCK;
 
 // Words that are no command's, with blanks between them.
-static OTHER_WORDS: [&str; 7] = ["", "SIM", "checks", "sim trace", "sim sim", "check check", "run"];
+static OTHER_WORDS: [&str; 7] = [
+    "",
+    "SIM",
+    "checks",
+    "sim trace",
+    "sim sim",
+    "check check",
+    "run",
+];
 
 #[test]
 fn touches_nothing_at_other_words(rt: HostRuntime) -> Result<(), Fail> {
@@ -61,6 +69,12 @@ fn numbers_statuses(rt: HostRuntime) {
     for (status, number) in NUMBERS {
         assert_eq!(rt; status.number(), number);
     }
-    assert_eq!(rt; Status::without_words(ErrorKind::OutOfMemory), Status::NoMemory);
-    assert_eq!(rt; Status::without_words(ErrorKind::InvalidData), Status::OtherWords);
+    assert_eq!(rt;
+        Status::without_words(ErrorKind::OutOfMemory),
+        Status::NoMemory
+    );
+    assert_eq!(rt;
+        Status::without_words(ErrorKind::InvalidData),
+        Status::OtherWords
+    );
 }

@@ -80,7 +80,10 @@ static REFUSED: [(&[u8], &[u8]); 5] = [
     (b"", b"input refused: NoDivider\n"),
     (b"service_global_info = #", b"input refused: NoDivider\n"),
     (b"%%\n#", b"interface refused at 1:1: Syntax\n"),
-    (b"service_global_info = #\n%%\n%%", b"interface refused at 1:23: Lex\n"),
+    (
+        b"service_global_info = #\n%%\n%%",
+        b"interface refused at 1:23: Lex\n",
+    ),
     (b"/* a\n%%\nb */", b"interface refused at 1:1: Lex\n"),
 ];
 

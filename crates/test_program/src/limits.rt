@@ -47,13 +47,24 @@ fn refuses_longer_inputs(rt: HostRuntime) -> Result<(), Fail> {
     let alloc = rt.alloc();
     for (interface, script) in [(65_536, 4_194_305), (1_000, 4_194_305), (65_537, 0)] {
         let input = input_of(alloc, interface, script)?;
-        assert!(rt; answers(alloc, "sim", &input, Refused, TOO_LONG)?, "{interface} {script}");
+        assert!(rt;
+            answers(alloc, "sim", &input, Refused, TOO_LONG)?,
+            "{interface} {script}"
+        );
     }
     let undivided = padded(alloc, LOCK, 4_259_844)?;
     assert!(rt; answers(alloc, "sim", &undivided, Refused, NO_DIVIDER)?);
-    for (command, length) in [("sim", 4_259_845), ("check", 65_537), ("compile", 65_537), ("check", 70_000)] {
+    for (command, length) in [
+        ("sim", 4_259_845),
+        ("check", 65_537),
+        ("compile", 65_537),
+        ("check", 70_000),
+    ] {
         let input = padded(alloc, LOCK, length)?;
-        assert!(rt; answers(alloc, command, &input, Refused, TOO_LONG)?, "{command} {length}");
+        assert!(rt;
+            answers(alloc, command, &input, Refused, TOO_LONG)?,
+            "{command} {length}"
+        );
     }
     Ok(())
 }
