@@ -12,16 +12,16 @@ use test_interfaces::LOCK;
 pub type Case = (&'static [u8], Status, &'static [u8]);
 
 /// The line that divides an input.
-pub static DIVIDER: &[u8] = b"%%\n";
+pub const DIVIDER: &[u8] = b"%%\n";
 
 /// The report of a script without calls.
-pub static NOTHING: &[u8] = b"calls 0 boots 1 replays 0\n";
+pub const NOTHING: &[u8] = b"calls 0 boots 1 replays 0\n";
 
 /// A script of each call on locks, and its report.
-pub static SCRIPT: &[u8] =
+pub const SCRIPT: &[u8] =
     b"client 1 { lock_alloc(); lock_take($1); lock_release($1); lock_free($1); }\n";
 
-pub static REPORT: &[u8] = b"c1.1 lock_alloc() = ok #1
+pub const REPORT: &[u8] = b"c1.1 lock_alloc() = ok #1
 c1.2 lock_take(1) = ok
 c1.3 lock_release(1) = ok
 c1.4 lock_free(1) = ok
@@ -29,11 +29,11 @@ client 1 done
 calls 4 boots 1 replays 0
 ";
 
-static NO_DIVIDER: &[u8] = b"input refused: NoDivider\n";
+const NO_DIVIDER: &[u8] = b"input refused: NoDivider\n";
 
-static NOT_YET: &[u8] = b"input refused: NotYet\n";
+const NOT_YET: &[u8] = b"input refused: NotYet\n";
 
-static ACCEPTED: &[u8] = b"accepted lock\n";
+const ACCEPTED: &[u8] = b"accepted lock\n";
 
 /// Bytes behind others.
 pub fn joined(alloc: Global, front: &[u8], back: &[u8]) -> Result<Vec<u8>, AllocError> {
@@ -285,7 +285,7 @@ static TEXTS: [Case; 3] = [
 ];
 
 // The beginning of the interface of locks, for a service that there isn't.
-static DOOR: &[u8] = b"service_global_info = {\n    service = door";
+const DOOR: &[u8] = b"service_global_info = {\n    service = door";
 
 // Behind the interface of locks, where `check` reads the text.
 static CHECKED: [Case; 2] = [
@@ -355,7 +355,7 @@ fn checks_texts(rt: HostRuntime) -> Result<(), Fail> {
     try_each(&rt, alloc, "sim", &front, &NARROWER_SCRIPTS)
 }
 
-static TABLES: &[u8] = b"service lock
+const TABLES: &[u8] = b"service lock
 facts parent=none close=refuse global=true block=true desc_data=true resc_data=false
 fun 1 lock_alloc creation -> lock_alloc
 fun 2 lock_take desc block -> lock_take owner=caller

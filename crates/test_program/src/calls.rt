@@ -2,34 +2,44 @@
 use crate::answers::{DIVIDER, REPORT, SCRIPT, joined, one_word};
 use sg_edge::{MemSink, MemSource, OpenGate};
 use sg_top::{Command, Status, serial, superglue};
+use std::alloc::{AllocError, Global};
 use std::io::ErrorKind;
 use std::test::Fail;
 use test_interfaces::LOCK;
 
-// Words that are no command's, with blanks between them.
-static OTHER_WORDS: [&str; 7] = [
-    "",
-    "SIM",
-    "checks",
-    "sim trace",
-    "sim sim",
-    "check check",
-    "run",
+// Words that are no command's, up to two of them; an empty one isn't given.
+static OTHER_WORDS: [[&str; 2]; 8] = [
+    ["", ""],
+    ["sim ", ""],
+    ["SIM", ""],
+    ["sim trace", ""],
+    ["checks", ""],
+    ["run", ""],
+    ["sim", "trace"],
+    ["check", "check"],
 ];
+
+// The words that aren't empty.
+fn words_of(alloc: Global, texts: &[&str]) -> Result<Vec<String>, AllocError> {
+    let mut words = Vec::new(alloc);
+    for text in texts {
+        if !text.is_empty() {
+            words.push(text.to_string(alloc)?)?;
+        }
+    }
+    Ok(words)
+}
 
 #[test]
 fn touches_nothing_at_other_words(rt: HostRuntime) -> Result<(), Fail> {
     let alloc = rt.alloc();
-    for text in OTHER_WORDS {
-        let mut words = Vec::new(alloc);
-        for word in text.split_ascii_whitespace() {
-            words.push(word.to_string(alloc)?)?;
-        }
+    for texts in &OTHER_WORDS {
+        let words = words_of(alloc, texts)?;
         assert!(rt; Command::of_words(&words).is_none());
         let mut source = MemSource::new(alloc, LOCK, 400, &[1])?;
         let mut sink = MemSink::new(alloc, 400, &[1])?;
         let answer = serial(alloc, &words, &mut source, &mut sink);
-        assert_eq!(rt; answer.status, Status::OtherWords, "{text}");
+        assert_eq!(rt; answer.status, Status::OtherWords, "{texts:?}");
         assert!(rt; answer.ended.is_none() && sink.written().is_empty());
     }
     Ok(())
@@ -66,8 +76,8 @@ static NUMBERS: [(Status, u8); 6] = [
 
 #[test]
 fn numbers_statuses(rt: HostRuntime) {
-    for (status, number) in NUMBERS {
-        assert_eq!(rt; status.number(), number);
+    for (status, number) in &NUMBERS {
+        assert_eq!(rt; status.number(), *number);
     }
     assert_eq!(rt;
         Status::without_words(ErrorKind::OutOfMemory),

@@ -4,67 +4,74 @@ use sg_input::{Input, cut, one_cut, one_input, read_input};
 use std::alloc::Global;
 use std::test::Fail;
 
-// An input, and the texts before and behind its first divider; None where no line divides it.
-type Case = (&'static [u8], Option<(&'static [u8], &'static [u8])>);
-
-static CUTS: [Case; 38] = [
-    (b"a\n%%\nb", Some((b"a\n", b"b"))),
-    (b"%%\nb\n", Some((b"", b"b\n"))),
-    (b"\n\n%%\n\n", Some((b"\n\n", b"\n"))),
+// An input, and the texts before and behind its first divider.
+static CUTS: [(&[u8], &[u8], &[u8]); 15] = [
+    (b"a\n%%\nb", b"a\n", b"b"),
+    (b"%%\nb\n", b"", b"b\n"),
+    (b"\n\n%%\n\n", b"\n\n", b"\n"),
     // CR LF
-    (b"a\r\n%%\r\nb\r\n", Some((b"a\r\n", b"b\r\n"))),
-    (b"%%\r\n", Some((b"", b""))),
+    (b"a\r\n%%\r\nb\r\n", b"a\r\n", b"b\r\n"),
+    (b"%%\r\n", b"", b""),
     // at the end of the input
-    (b"a\n%%", Some((b"a\n", b""))),
-    (b"%%", Some((b"", b""))),
+    (b"a\n%%", b"a\n", b""),
+    (b"%%", b"", b""),
     // twice
-    (b"a\n%%\nb\n%%\nc\n", Some((b"a\n", b"b\n%%\nc\n"))),
-    (b"%%\n%%\n", Some((b"", b"%%\n"))),
-    (b"%%\r\n%%", Some((b"", b"%%"))),
+    (b"a\n%%\nb\n%%\nc\n", b"a\n", b"b\n%%\nc\n"),
+    (b"%%\n%%\n", b"", b"%%\n"),
+    (b"%%\r\n%%", b"", b"%%"),
     // within a comment and within a text
-    (b"/* a\n%%\nb */", Some((b"/* a\n", b"b */"))),
-    (b"\"a\n%%\nb\"", Some((b"\"a\n", b"b\""))),
+    (b"/* a\n%%\nb */", b"/* a\n", b"b */"),
+    (b"\"a\n%%\nb\"", b"\"a\n", b"b\""),
     // behind lines that aren't dividers
-    (b"%%%\n %%\n%% \n%%\nb", Some((b"%%%\n %%\n%% \n", b"b"))),
-    (b"%%\r\r\n%\n%%\r\nb", Some((b"%%\r\r\n%\n", b"b"))),
-    (b"//%%\n%%b\n%%\n", Some((b"//%%\n%%b\n", b""))),
-    // no divider
-    (b"", None),
-    (b"\n", None),
-    (b"a\nb\n", None),
-    (b"----\n", None),
-    (b"%", None),
-    (b"%\n%\n", None),
-    (b"% %\n", None),
-    (b"%%%", None),
-    (b"%%%\n", None),
-    (b"%%%%\n", None),
-    (b" %%", None),
-    (b" %%\n", None),
-    (b"\t%%\n", None),
-    (b"%% ", None),
-    (b"%% \n", None),
-    (b"a%%\n", None),
-    (b"%%a\n", None),
-    (b"//%%\n", None),
-    (b"/*%%*/\n", None),
-    // a CR that no LF follows, and one before the divider
-    (b"%%\r", None),
-    (b"%%\ra\n", None),
-    (b"a\r%%\n", None),
-    (b"%%\0\n", None),
+    (b"%%%\n %%\n%% \n%%\nb", b"%%%\n %%\n%% \n", b"b"),
+    (b"%%\r\r\n%\n%%\r\nb", b"%%\r\r\n%\n", b"b"),
+    (b"//%%\n%%b\n%%\n", b"//%%\n%%b\n", b""),
 ];
+
+// Inputs that no line divides.
+static UNCUT: [&[u8]; 23] = [
+    b"",
+    b"\n",
+    b"a\nb\n",
+    b"----\n",
+    b"%",
+    b"%\n%\n",
+    b"% %\n",
+    b"%%%",
+    b"%%%\n",
+    b"%%%%\n",
+    b" %%",
+    b" %%\n",
+    b"\t%%\n",
+    b"%% ",
+    b"%% \n",
+    b"a%%\n",
+    b"%%a\n",
+    b"//%%\n",
+    b"/*%%*/\n",
+    // a CR that no LF follows, and one before the divider
+    b"%%\r",
+    b"%%\ra\n",
+    b"a\r%%\n",
+    b"%%\0\n",
+];
+
+// Whether an input is divided into these two texts.
+fn is_cut(input: &[u8], before: &[u8], behind: &[u8]) -> bool {
+    match cut(input) {
+        Some((front, rest)) => front == before && rest == behind,
+        None => false,
+    }
+}
 
 #[test]
 fn divides_at_the_first_divider(rt: HostRuntime) {
     one_cut();
-    for (input, want) in &CUTS {
-        let holds = match (cut(input), want) {
-            (Some((front, rest)), Some((before, behind))) => front == *before && rest == *behind,
-            (None, None) => true,
-            _ => false,
-        };
-        assert!(rt; holds, "on {input:?}");
+    for (input, before, behind) in &CUTS {
+        assert!(rt; is_cut(input, before, behind), "on {input:?}");
+    }
+    for input in &UNCUT {
+        assert!(rt; cut(input).is_none(), "on {input:?}");
     }
 }
 

@@ -8,9 +8,9 @@ use std::fmt::Write;
 use std::test::Fail;
 use test_interfaces::LOCK;
 
-static TOO_LONG: &[u8] = b"input refused: TooLong\n";
+const TOO_LONG: &[u8] = b"input refused: TooLong\n";
 
-static NO_DIVIDER: &[u8] = b"input refused: NoDivider\n";
+const NO_DIVIDER: &[u8] = b"input refused: NoDivider\n";
 
 // Bytes, and blanks behind them up to this length.
 fn padded(alloc: Global, bytes: &[u8], length: usize) -> Result<Vec<u8>, AllocError> {

@@ -257,6 +257,8 @@ call c2.1 tread(1, 16) blocked
 points 33
 ";
 
+static COUNTS: &[u8] = b"calls 0 boots 0 replays 0\npoints 33\n";
+
 #[test]
 fn prints_runs(rt: HostRuntime) -> Result<(), Fail> {
     let alloc = rt.alloc();
@@ -264,9 +266,11 @@ fn prints_runs(rt: HostRuntime) -> Result<(), Fail> {
     let trace = run(alloc, Vec::new(alloc), logs(alloc)?, EndList::new(alloc))?;
     let nothing = run(alloc, Vec::new(alloc), Vec::new(alloc), EndList::new(alloc))?;
     let iface = files(alloc);
-    assert!(rt; text(alloc, &iface, &replies, false)?.as_slice() == REPLIES);
-    assert!(rt; text(alloc, &iface, &trace, true)?.as_slice() == TRACE);
-    let counts = b"calls 0 boots 0 replays 0\npoints 33\n".as_slice();
-    assert!(rt; text(alloc, &iface, &nothing, true)?.as_slice() == counts);
+    let printed = text(alloc, &iface, &replies, false)?;
+    assert!(rt; printed.as_slice() == REPLIES);
+    let printed = text(alloc, &iface, &trace, true)?;
+    assert!(rt; printed.as_slice() == TRACE);
+    let printed = text(alloc, &iface, &nothing, true)?;
+    assert!(rt; printed.as_slice() == COUNTS);
     Ok(())
 }

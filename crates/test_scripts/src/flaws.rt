@@ -1,30 +1,27 @@
 // What is first wrong with scripts, by the tables of each kind of flaw.
-use crate::answers::{Case, try_each};
+use crate::answers::try_each;
 use crate::{calls, numbers, order, parts, syntax};
 use std::test::Fail;
 use test_interfaces::{EVENT, LOCK, RAMFS};
 
-// The tables of scripts for locks.
-static OF_LOCKS: [&[Case]; 14] = [
-    &calls::OF_LOCKS,
-    &calls::BACKS,
-    &calls::BEHIND_A_SETUP,
-    &parts::CLIENTS,
-    &parts::TWICE,
-    &parts::STOPS,
-    &numbers::NUMBERS,
-    &order::ONE_PLACE,
-    &order::EARLIER,
-    &order::SYNTAX_FIRST,
-    &syntax::MARKS,
-    &syntax::WORDS,
-    &syntax::ENDS,
-    &syntax::FAULTLESS,
-];
-
 #[test]
 fn of_scripts_for_locks(rt: HostRuntime) -> Result<(), Fail> {
-    for cases in OF_LOCKS {
+    for cases in [
+        calls::OF_LOCKS.as_slice(),
+        calls::BACKS.as_slice(),
+        calls::BEHIND_A_SETUP.as_slice(),
+        parts::CLIENTS.as_slice(),
+        parts::TWICE.as_slice(),
+        parts::STOPS.as_slice(),
+        numbers::NUMBERS.as_slice(),
+        order::ONE_PLACE.as_slice(),
+        order::EARLIER.as_slice(),
+        order::SYNTAX_FIRST.as_slice(),
+        syntax::MARKS.as_slice(),
+        syntax::WORDS.as_slice(),
+        syntax::ENDS.as_slice(),
+        syntax::FAULTLESS.as_slice(),
+    ] {
         try_each(&rt, rt.alloc(), LOCK, cases)?;
     }
     Ok(())
