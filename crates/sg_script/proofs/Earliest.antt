@@ -8,14 +8,14 @@ use Rattle.sg_script.specs.declared.fault.ScriptFault.{ScriptFault}
 use Rattle.sg_script.specs.declared.fault.ScriptKind.{ScriptKind}
 use Rattle.sg_script.specs.declared.fault.ScriptKind.TheVariants.{Syntax, UnknownFunction, BadArgs, BadClient, Twice, NotAscending, Blocking, Limit}
 use Rattle.sg_script.specs.Inside.Firsts.{first_behind, is_not_after}
-use Rattle.sg_script.specs.Flaws.{IsFirstFlaw, IsNotAfter, kind_rank}
+use Rattle.sg_script.specs.Flaws.{IsFirstFlaw, IsNotAfter, script_kind_rank}
 
 -- ---- the order
 
 -- of two flaws one isn't after the other
 one_first : (f g : ScriptFault) → ((is_not_after f g ≡ true) × IsNotAfter f g) ⊎ ((is_not_after f g ≡ false) × IsNotAfter g f)
 one_first f g = elim (cases_order f.at g.at) [
-  | inl same ↦ elim (leb_tells (kind_rank f.kind) (kind_rank g.kind)) [
+  | inl same ↦ elim (leb_tells (script_kind_rank f.kind) (script_kind_rank g.kind)) [
     | inl le ↦ inl (grind (arith, nat_tests), inr (same, le.1))
     | inr gt ↦ inr (grind (arith, nat_tests), inr (sym same, omega arith))
   ]
@@ -38,7 +38,7 @@ kind_at n =
     if n == 0 then Syntax else (if n == 1 then UnknownFunction else (if n == 2 then BadArgs else (if n == 3 then BadClient
     else (if n == 4 then Twice else (if n == 5 then NotAscending else (if n == 6 then Blocking else Limit))))))
 
-at_rank : (kind : ScriptKind) → kind_at (kind_rank kind) ≡ kind
+at_rank : (kind : ScriptKind) → kind_at (script_kind_rank kind) ≡ kind
 unfolding kind_at
 at_rank Syntax = refl
 at_rank UnknownFunction = refl
@@ -49,10 +49,10 @@ at_rank NotAscending = refl
 at_rank Blocking = refl
 at_rank Limit = refl
 
-same_kind : (a b : ScriptKind) → kind_rank a ≡ kind_rank b → a ≡ b
+same_kind : (a b : ScriptKind) → script_kind_rank a ≡ script_kind_rank b → a ≡ b
 same_kind a b same = sym (at_rank a) ∙ ap kind_at same ∙ at_rank b
 
-same_fault : (f g : ScriptFault) → f.at ≡ g.at → kind_rank f.kind ≡ kind_rank g.kind → f ≡ g
+same_fault : (f g : ScriptFault) → f.at ≡ g.at → script_kind_rank f.kind ≡ script_kind_rank g.kind → f ≡ g
 same_fault f g at kind =
     ap (λ a. record { at = a; kind = f.kind }) at ∙ ap (λ k. record { at = g.at; kind = k }) (same_kind f.kind g.kind kind)
 

@@ -172,19 +172,19 @@ flaws_of i parts = flaws_behind i (length (flat_map calls_of_setup parts)) [] pa
 -- ---- the first of them
 
 -- the order of kinds at one place
-abbrev pub kind_rank : ScriptKind → ℕ
-kind_rank Syntax = 0
-kind_rank UnknownFunction = 1
-kind_rank BadArgs = 2
-kind_rank BadClient = 3
-kind_rank Twice = 4
-kind_rank NotAscending = 5
-kind_rank Blocking = 6
-kind_rank Limit = 7
+abbrev pub script_kind_rank : ScriptKind → ℕ
+script_kind_rank Syntax = 0
+script_kind_rank UnknownFunction = 1
+script_kind_rank BadArgs = 2
+script_kind_rank BadClient = 3
+script_kind_rank Twice = 4
+script_kind_rank NotAscending = 5
+script_kind_rank Blocking = 6
+script_kind_rank Limit = 7
 
 -- a flaw comes before another, or is the same: at an earlier place, or at one place and of no later kind
 abbrev pub IsNotAfter : ScriptFault → ScriptFault → Type 0
-IsNotAfter f g = (f.at < g.at) ⊎ ((f.at ≡ g.at) × (kind_rank f.kind ≤ kind_rank g.kind))
+IsNotAfter f g = (f.at < g.at) ⊎ ((f.at ≡ g.at) × (script_kind_rank f.kind ≤ script_kind_rank g.kind))
 
 -- a flaw is the first of some
 pub record IsFirstFlaw (flaws : List ScriptFault) (f : ScriptFault) : Type 0 where

@@ -1,6 +1,6 @@
 // The first of the flaws that were noted.
 ghost use Rattle.std.specs.Prelude.{◌≡◌, ◌++◌, ◌∷◌, [], None};
-ghost use Rattle.sg_script.specs.Flaws.{script_flaw_if, kind_rank};
+ghost use Rattle.sg_script.specs.Flaws.{script_flaw_if, script_kind_rank};
 ghost use Rattle.sg_script.specs.Inside.Firsts.{first_of_two, first_behind, is_not_after};
 
 use crate::fault::{ScriptFault, ScriptKind};
@@ -60,12 +60,13 @@ fn first_of_two(before: Option<ScriptFault>, next: ScriptFault) -> ScriptFault
 fn is_not_after(fault: ScriptFault, next: ScriptFault) -> bool
     ensures { result ≡ is_not_after fault next }
 {
-    fault.at < next.at || (fault.at == next.at && kind_rank(fault.kind) <= kind_rank(next.kind))
+    fault.at < next.at
+        || (fault.at == next.at && script_kind_rank(fault.kind) <= script_kind_rank(next.kind))
 }
 
 // The place of a kind in the order of kinds at one place.
-fn kind_rank(kind: ScriptKind) -> u8
-    ensures { result ≡ kind_rank kind }
+fn script_kind_rank(kind: ScriptKind) -> u8
+    ensures { result ≡ script_kind_rank kind }
 {
     match kind {
         ScriptKind::Syntax => 0,

@@ -99,7 +99,8 @@ fn written_args_fit(own: u128, kinds: &[Kind], args: &[WrittenArg]) -> bool
         [] => args.is_empty(),
         [kind, kinds @ ..] => match args {
             [] => false,
-            [arg, args @ ..] => written_arg_fits(own, *kind, arg) && written_args_fit(own, kinds, args),
+            [arg, args @ ..] => written_arg_fits(own, *kind, arg)
+                && written_args_fit(own, kinds, args),
         },
     }
 }

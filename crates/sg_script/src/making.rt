@@ -64,7 +64,11 @@ fn args_of(alloc: Global, args: &[WrittenArg]) -> Result<ArgList, NoMemory>
 }
 
 // What a call stands for.
-fn script_call_of(alloc: Global, iface: &Interface, call: &WrittenCall) -> Result<ScriptCall, NoMemory>
+fn script_call_of(
+    alloc: Global,
+    iface: &Interface,
+    call: &WrittenCall,
+) -> Result<ScriptCall, NoMemory>
     requires { is_held_call call.now ≡ true }
     ensures { IfOk result (λ made. made ≡ script_call_of iface.now call.now) }
 {

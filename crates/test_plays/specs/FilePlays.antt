@@ -6,7 +6,7 @@ use Rattle.sg_base.specs.declared.value.Value.TheVariants.{Word as word, Text as
 use Rattle.sg_facts.specs.declared.entry.Entry.{Entry}
 use Rattle.sg_script.specs.declared.script.Arg.TheVariants.{Number, Text, Back}
 use Rattle.sg_script.specs.declared.script.Script.{Script}
-use Rattle.test_plays.specs.LockPlays.{entry_of, made, ok_with}
+use Rattle.test_plays.specs.LockPlays.{entry_of, made, ok_desc}
 
 -- client 1 seeks in a file, which is held till it returns; client 2 may not read it, and makes one of its own meanwhile
 abbrev pub held_reply : Script
@@ -22,8 +22,8 @@ held_reply = record {
 
 abbrev pub held_reply_history : List Entry
 held_reply_history =
-    entry_of (record { client = 1; seq = 1; fun = 1; desc = 0; args = text (codes "a") ∷ [] }) (ok_with 1)
+    entry_of (record { client = 1; seq = 1; fun = 1; desc = 0; args = text (codes "a") ∷ [] }) (ok_desc 1)
     ∷ entry_of (record { client = 2; seq = 1; fun = 2; desc = 1; args = word 8 ∷ [] }) (Refused NoDesc)
-    ∷ entry_of (record { client = 2; seq = 2; fun = 1; desc = 0; args = text (codes "b") ∷ [] }) (ok_with 2)
-    ∷ entry_of (record { client = 1; seq = 2; fun = 4; desc = 1; args = word 4 ∷ [] }) (ok_with 0)
+    ∷ entry_of (record { client = 2; seq = 2; fun = 1; desc = 0; args = text (codes "b") ∷ [] }) (ok_desc 2)
+    ∷ entry_of (record { client = 1; seq = 2; fun = 4; desc = 1; args = word 4 ∷ [] }) (ok_desc 0)
     ∷ []

@@ -17,8 +17,8 @@ made fun args = record { fun = fun; args = args }
 abbrev pub lock_call : ℕ → ℕ → ℕ → ℕ → Call
 lock_call client seq fun desc = record { client = client; seq = seq; fun = fun; desc = desc; args = [] }
 
-abbrev pub ok_with : ℕ → Reply
-ok_with desc = Ok (record { desc = desc; words = []; bytes = [] })
+abbrev pub ok_desc : ℕ → Reply
+ok_desc desc = Ok (record { desc = desc; words = []; bytes = [] })
 
 abbrev pub entry_of : Call → Reply → Entry
 entry_of call reply = record { call = call; reply = reply }
@@ -34,7 +34,7 @@ four_lock_calls = record {
 
 abbrev pub four_lock_calls_history : List Entry
 four_lock_calls_history =
-    entry_of (lock_call 1 1 1 0) (ok_with 1) ∷ entry_of (lock_call 1 2 2 1) (ok_with 0) ∷ entry_of (lock_call 1 3 3 1) (ok_with 0) ∷ entry_of (lock_call 1 4 4 1) (ok_with 0) ∷ []
+    entry_of (lock_call 1 1 1 0) (ok_desc 1) ∷ entry_of (lock_call 1 2 2 1) (ok_desc 0) ∷ entry_of (lock_call 1 3 3 1) (ok_desc 0) ∷ entry_of (lock_call 1 4 4 1) (ok_desc 0) ∷ []
 
 -- two clients take and release a lock that the setup makes; client 2 waits for the first release
 abbrev pub wait_and_wake : Script
@@ -50,11 +50,11 @@ wait_and_wake = record {
 
 abbrev pub wait_and_wake_history : List Entry
 wait_and_wake_history =
-    entry_of (lock_call 1 1 1 0) (ok_with 1)
-    ∷ entry_of (lock_call 1 2 2 1) (ok_with 0)
-    ∷ entry_of (lock_call 1 3 3 1) (ok_with 0)
-    ∷ entry_of (lock_call 2 1 2 1) (ok_with 0)
-    ∷ entry_of (lock_call 2 2 3 1) (ok_with 0)
+    entry_of (lock_call 1 1 1 0) (ok_desc 1)
+    ∷ entry_of (lock_call 1 2 2 1) (ok_desc 0)
+    ∷ entry_of (lock_call 1 3 3 1) (ok_desc 0)
+    ∷ entry_of (lock_call 2 1 2 1) (ok_desc 0)
+    ∷ entry_of (lock_call 2 2 3 1) (ok_desc 0)
     ∷ []
 
 abbrev pub both_done : List (ℕ × End)
@@ -70,7 +70,7 @@ stays_blocked = record {
 }
 
 abbrev pub stays_blocked_history : List Entry
-stays_blocked_history = entry_of (lock_call 1 1 1 0) (ok_with 1) ∷ entry_of (lock_call 1 2 2 1) (ok_with 0) ∷ []
+stays_blocked_history = entry_of (lock_call 1 1 1 0) (ok_desc 1) ∷ entry_of (lock_call 1 2 2 1) (ok_desc 0) ∷ []
 
 abbrev pub second_blocked : List (ℕ × End)
 second_blocked = (1, Done) ∷ (2, Blocked (lock_call 2 1 2 1)) ∷ []
@@ -81,11 +81,11 @@ second_first = record wait_and_wake { schedule = 2 ∷ [] }
 
 abbrev pub second_first_history : List Entry
 second_first_history =
-    entry_of (lock_call 1 1 1 0) (ok_with 1)
-    ∷ entry_of (lock_call 2 1 2 1) (ok_with 0)
-    ∷ entry_of (lock_call 2 2 3 1) (ok_with 0)
-    ∷ entry_of (lock_call 1 2 2 1) (ok_with 0)
-    ∷ entry_of (lock_call 1 3 3 1) (ok_with 0)
+    entry_of (lock_call 1 1 1 0) (ok_desc 1)
+    ∷ entry_of (lock_call 2 1 2 1) (ok_desc 0)
+    ∷ entry_of (lock_call 2 2 3 1) (ok_desc 0)
+    ∷ entry_of (lock_call 1 2 2 1) (ok_desc 0)
+    ∷ entry_of (lock_call 1 3 3 1) (ok_desc 0)
     ∷ []
 
 -- each client names its own calls
@@ -98,4 +98,4 @@ own_backs = record {
 }
 
 abbrev pub own_backs_history : List Entry
-own_backs_history = entry_of (lock_call 1 1 1 0) (ok_with 1) ∷ entry_of (lock_call 2 1 1 0) (ok_with 2) ∷ entry_of (lock_call 2 2 2 2) (ok_with 0) ∷ []
+own_backs_history = entry_of (lock_call 1 1 1 0) (ok_desc 1) ∷ entry_of (lock_call 2 1 1 0) (ok_desc 2) ∷ entry_of (lock_call 2 2 2 2) (ok_desc 0) ∷ []

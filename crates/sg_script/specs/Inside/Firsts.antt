@@ -3,11 +3,11 @@ use Rattle.std.specs.Prelude.{◌==◌, ◌&&◌, ◌||◌, Bool, nat_le, nat_lt
 use Rattle.std.specs.declared.option.Option.{Option}
 use Rattle.std.specs.List.{fold}
 use Rattle.sg_script.specs.declared.fault.ScriptFault.{ScriptFault}
-use Rattle.sg_script.specs.Flaws.{kind_rank}
+use Rattle.sg_script.specs.Flaws.{script_kind_rank}
 
 -- whether a flaw comes before another, or is the same
 abbrev pub is_not_after : ScriptFault → ScriptFault → Bool
-is_not_after f g = nat_lt f.at g.at || (f.at == g.at && nat_le (kind_rank f.kind) (kind_rank g.kind))
+is_not_after f g = nat_lt f.at g.at || (f.at == g.at && nat_le (script_kind_rank f.kind) (script_kind_rank g.kind))
 
 -- the first of a flaw before, where there is one, and another
 abbrev pub first_of_two : Option ScriptFault → ScriptFault → ScriptFault
