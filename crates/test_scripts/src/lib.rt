@@ -6,6 +6,7 @@
 //!   flaw, and `order`, with several flaws in one script
 //! - `limits`: as many calls, stops and bytes of a text as a script may have, and one more
 //! - `meanings`: what scripts stand for
+//! - `shapes`: the shapes of the services that scripts are read for
 #![tactic(auto)]
 
 #[cfg(test)]
@@ -24,5 +25,7 @@ mod numbers;
 mod order;
 #[cfg(test)]
 mod parts;
+#[cfg(test)]
+mod shapes;
 #[cfg(test)]
 mod syntax;
