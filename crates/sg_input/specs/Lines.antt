@@ -30,4 +30,4 @@ script_kind_name Limit = codes "Limit"
 abbrev pub script_line : List ℕ → ScriptFault → List ℕ
 script_line script f =
     codes "script refused at " ++ decimal (line_of script f.at) ++ codes ":" ++ decimal (column_of script f.at)
-    ++ codes ": " ++ script_kind_name f.kind ++ 10 ∷ []
+    ++ codes ": " ++ script_kind_name f.kind ++ line_end

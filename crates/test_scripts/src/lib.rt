@@ -6,6 +6,7 @@
 //!   flaw, and `order`, with several flaws in one script
 //! - `limits`: as many calls, stops and bytes of a text as a script may have, and one more
 //! - `meanings`: what scripts stand for
+//! - `parses`: which texts are scripts of the grammar, and what their parts keep
 //! - `shapes`: the shapes of the services that scripts are read for
 #![tactic(auto)]
 
