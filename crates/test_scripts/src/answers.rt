@@ -1,4 +1,5 @@
 // What is answered on a script, and what is to be.
+use crate::shapes::known_shapes;
 use sg_check::{Accepted, check};
 use sg_facts::Interface;
 use sg_parse::parse;
@@ -6,7 +7,6 @@ use sg_script::{ScriptError, ScriptKind, read};
 use std::alloc::Global;
 use std::process::Abort;
 use std::test::Fail;
-use test_checker::standard_shapes;
 
 /// What is first wrong with a script, at its place, counted in bytes from 0; None where nothing is.
 pub type Answer = Option<(usize, ScriptKind)>;
@@ -17,7 +17,7 @@ pub type Case = (&'static [u8], Answer);
 /// A standard interface.
 pub(crate) fn standard(alloc: Global, text: &[u8]) -> Result<Accepted, Fail> {
     let tree = parse(alloc, text)?;
-    Ok(check(alloc, &tree, &standard_shapes())?)
+    Ok(check(alloc, &tree, &known_shapes())?)
 }
 
 /// The answer on a script.

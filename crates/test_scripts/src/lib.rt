@@ -7,6 +7,7 @@
 //! - `limits`: as many calls, stops and bytes of a text as a script may have, and one more
 //! - `meanings`: what scripts stand for
 //! - `parses`: which texts are scripts of the grammar, and what their parts keep
+//! - `shapes`: the shapes of the services that scripts are read for
 #![tactic(auto)]
 
 #[cfg(test)]
@@ -27,5 +28,7 @@ mod order;
 mod parses;
 #[cfg(test)]
 mod parts;
+#[cfg(test)]
+mod shapes;
 #[cfg(test)]
 mod syntax;
