@@ -1,6 +1,7 @@
 -- What is said of a text.
-use Rattle.std.specs.Prelude.{ℕ, ◌≡◌, List, [], ◌∷◌, ◌++◌, Ok, Err, codes}
+use Rattle.std.specs.Prelude.{ℕ, ◌≡◌, List, ◌++◌, Ok, Err, codes}
 use Rattle.std.specs.Fmt.{decimal}
+use Rattle.sg_facts.specs.Words.{line_end}
 use Rattle.sg_facts.specs.Facts.{Facts}
 use Rattle.sg_facts.specs.Interface.{Declared}
 use Rattle.sg_facts.specs.Tables.{AreTables, Compiled}
@@ -42,13 +43,13 @@ refusal_name (Check kind) = check_name kind
 
 -- the line of a text that is accepted, by its service's name
 abbrev pub accepted_line : List ℕ → List ℕ
-accepted_line service = codes "accepted " ++ service ++ 10 ∷ []
+accepted_line service = codes "accepted " ++ service ++ line_end
 
 -- the line of a text that is refused for a kind at a place
 abbrev pub refusal_line : List ℕ → RefusalKind → ℕ → List ℕ
 refusal_line text kind at =
     codes "interface refused at " ++ decimal (line_of text at) ++ codes ":" ++ decimal (column_of text at) ++ codes ": "
-    ++ refusal_name kind ++ 10 ∷ []
+    ++ refusal_name kind ++ line_end
 
 -- ---- verdicts
 

@@ -66,12 +66,12 @@ is_tagged client seq (Walk id k c) = false
 is_tagged client seq (Load key c) = false
 is_tagged client seq (Client c s) = (c == client) && (s == seq)
 
-abbrev pub is_of : Entry → Item → Bool
-is_of e item = is_tagged e.call.client e.call.seq item.tag
+abbrev pub is_item_of : Entry → Item → Bool
+is_item_of e item = is_tagged e.call.client e.call.seq item.tag
 
 -- the place of an entry's item: the last that is of its call
 abbrev pub item_of : Run → Entry → Option Place
-item_of run e = find (λ p. is_of e p.item) (reverse (places_of run))
+item_of run e = find (λ p. is_item_of e p.item) (reverse (places_of run))
 
 -- whether a reply is a refusal by the guard, which the service wasn't asked for
 abbrev pub is_by_guard : Reply → Bool
@@ -80,7 +80,7 @@ is_by_guard (Refused code) = is_guards code
 
 -- whether an entry's item stands before a place
 abbrev pub stands_before : Place → Entry → Bool
-stands_before p e = not (is_by_guard e.reply) && list_any (is_of e) (past p) && not (list_any (is_of e) (p.item ∷ behind p))
+stands_before p e = not (is_by_guard e.reply) && list_any (is_item_of e) (past p) && not (list_any (is_item_of e) (p.item ∷ behind p))
 
 -- the entries whose items stand before a place, in the order of the history
 abbrev pub entries_before : List Entry → Place → List Entry

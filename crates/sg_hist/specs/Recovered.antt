@@ -28,7 +28,7 @@ use Rattle.sg_facts.specs.Walks.{replayed_call}
 use Rattle.sg_hist.specs.declared.ended.End.{End}
 use Rattle.sg_hist.specs.declared.ended.End.TheVariants.{Done, Blocked}
 use Rattle.sg_hist.specs.Clients.{calls_of}
-use Rattle.sg_hist.specs.Reading.{Place, behind, is_by_guard, is_made, is_of, is_whole_at, item_of, names_at, object_before, places_of, service_call, stands_before, value_at, walk_in}
+use Rattle.sg_hist.specs.Reading.{Place, behind, is_by_guard, is_made, is_item_of, is_whole_at, item_of, names_at, object_before, places_of, service_call, stands_before, value_at, walk_in}
 
 -- ---- the calls of clients
 
@@ -141,7 +141,7 @@ is_visible_reply facts item = is_clients item.tag && is_visible facts item.shown
 
 -- whether an item is that of an entry: it is of its call, and no later one is
 abbrev pub is_entered : List Entry → Place → Bool
-is_entered history p = list_any (λ e. not (is_by_guard e.reply) && is_of e p.item && not (list_any (is_of e) (behind p))) history
+is_entered history p = list_any (λ e. not (is_by_guard e.reply) && is_item_of e p.item && not (list_any (is_item_of e) (behind p))) history
 
 -- a visible reply is committed: none is given twice, and none is lost
 abbrev pub IsCommitted : Facts → List Entry → Place → Type 0

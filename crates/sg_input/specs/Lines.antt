@@ -1,5 +1,6 @@
 -- The lines that refuse an input.
-use Rattle.std.specs.Prelude.{ℕ, List, [], ◌∷◌, ◌++◌, codes}
+use Rattle.sg_facts.specs.Words.{line_end}
+use Rattle.std.specs.Prelude.{ℕ, List, ◌++◌, codes}
 use Rattle.std.specs.Fmt.{decimal}
 use Rattle.sg_script.specs.declared.fault.ScriptKind.{ScriptKind}
 use Rattle.sg_script.specs.declared.fault.ScriptKind.TheVariants.{Syntax, UnknownFunction, BadArgs, BadClient, Twice, NotAscending, Blocking, Limit}
@@ -8,11 +9,11 @@ use Rattle.sg_diagnose.specs.Lines.{line_of, column_of}
 
 -- no line is `%%` alone
 abbrev pub no_divider_line : List ℕ
-no_divider_line = codes "input refused: NoDivider" ++ 10 ∷ []
+no_divider_line = codes "input refused: NoDivider" ++ line_end
 
 -- the input, its interface or its script is too long
 abbrev pub too_long_line : List ℕ
-too_long_line = codes "input refused: TooLong" ++ 10 ∷ []
+too_long_line = codes "input refused: TooLong" ++ line_end
 
 -- the name of a kind of fault of a script
 abbrev pub script_kind_name : ScriptKind → List ℕ
@@ -29,4 +30,4 @@ script_kind_name Limit = codes "Limit"
 abbrev pub script_line : List ℕ → ScriptFault → List ℕ
 script_line script f =
     codes "script refused at " ++ decimal (line_of script f.at) ++ codes ":" ++ decimal (column_of script f.at)
-    ++ codes ": " ++ script_kind_name f.kind ++ 10 ∷ []
+    ++ codes ": " ++ script_kind_name f.kind ++ line_end

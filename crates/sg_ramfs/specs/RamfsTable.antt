@@ -9,6 +9,7 @@ use Rattle.sg_base.specs.declared.reply.Reply.TheVariants.{Ok, Refused}
 use Rattle.sg_facts.specs.Track.{row_at, word_of, arg_at}
 use Rattle.sg_facts.specs.Object.{Object, first_text, path_of, file_at, place_of}
 use Rattle.sg_facts.specs.Legal.{Table, done}
+use Rattle.sg_facts.specs.Limits.{most_file, most_path}
 use Rattle.sg_ramfs.specs.RamfsFacts.{tread, twrite}
 
 -- the greatest number of bytes of a name

@@ -12,7 +12,7 @@ use Rattle.sg_facts.specs.Object.{Object, after, empty_object, object_from, obje
 use Rattle.sg_facts.proofs.Legality.{IsLegal-from, LegalFrom-is}
 use Rattle.sg_facts.specs.Trace.{Boot}
 use Rattle.sg_recovery_laws.specs.Growing.{AreGrown, HasOneMore, IsGrown, IsOfNoEntry, booted, noted, place_behind, struck}
-use Rattle.sg_hist.specs.Reading.{Place, after_item, behind, entries_before, is_by_guard, is_of, items_of, names_at, names_in, past, places_from, places_in, stands_before, value_at}
+use Rattle.sg_hist.specs.Reading.{Place, after_item, behind, entries_before, is_by_guard, is_item_of, items_of, names_at, names_in, past, places_from, places_in, stands_before, value_at}
 
 -- ---- an entry more
 
@@ -55,21 +55,21 @@ past_same : (item : Item) (p q : Place) → IsGrown item p q → past q ≡ past
 past_same item p q g = ap (λ v. v ++ q.front) g.older ∙ ap (λ v. p.older ++ v) g.front
 
 -- an entry whose item isn't the one that was noted stands before a place as it did
-pub stands_before-more : (item : Item) (p q : Place) (e : Entry) → IsGrown item p q → is_of e item ≡ false → stands_before q e ≡ stands_before p e
+pub stands_before-more : (item : Item) (p q : Place) (e : Entry) → IsGrown item p q → is_item_of e item ≡ false → stands_before q e ≡ stands_before p e
 stands_before-more item p q e g none =
-    let earlier : list_any (is_of e) (past q) ≡ list_any (is_of e) (past p) = ap (list_any (is_of e)) (past_same item p q g) in
-    let own : is_of e q.item ≡ is_of e p.item = ap (is_of e) g.own in
-    let later : list_any (is_of e) (behind q) ≡ list_any (is_of e) (behind p) = ap (list_any (is_of e)) g.behind_it ∙ any_more (is_of e) (behind p) item none in
-    ap (λ b. not (is_by_guard e.reply) && b && not (is_of e q.item || list_any (is_of e) (behind q))) earlier
-    ∙ ap (λ b. not (is_by_guard e.reply) && list_any (is_of e) (past p) && not (b || list_any (is_of e) (behind q))) own
-    ∙ ap (λ b. not (is_by_guard e.reply) && list_any (is_of e) (past p) && not (is_of e p.item || b)) later
+    let earlier : list_any (is_item_of e) (past q) ≡ list_any (is_item_of e) (past p) = ap (list_any (is_item_of e)) (past_same item p q g) in
+    let own : is_item_of e q.item ≡ is_item_of e p.item = ap (is_item_of e) g.own in
+    let later : list_any (is_item_of e) (behind q) ≡ list_any (is_item_of e) (behind p) = ap (list_any (is_item_of e)) g.behind_it ∙ any_more (is_item_of e) (behind p) item none in
+    ap (λ b. not (is_by_guard e.reply) && b && not (is_item_of e q.item || list_any (is_item_of e) (behind q))) earlier
+    ∙ ap (λ b. not (is_by_guard e.reply) && list_any (is_item_of e) (past p) && not (b || list_any (is_item_of e) (behind q))) own
+    ∙ ap (λ b. not (is_by_guard e.reply) && list_any (is_item_of e) (past p) && not (is_item_of e p.item || b)) later
 
 -- the entry of the item that was noted doesn't stand before any place that was there
-pub stands_before-own : (item : Item) (p q : Place) (e : Entry) → IsGrown item p q → is_of e item ≡ true → stands_before q e ≡ false
+pub stands_before-own : (item : Item) (p q : Place) (e : Entry) → IsGrown item p q → is_item_of e item ≡ true → stands_before q e ≡ false
 stands_before-own item p q e g one =
-    let later : list_any (is_of e) (behind q) ≡ true = ap (list_any (is_of e)) g.behind_it ∙ any_last (is_of e) (behind p) item one in
-    ap (λ b. not (is_by_guard e.reply) && list_any (is_of e) (past q) && not (is_of e q.item || b)) later
-    ∙ nothing (not (is_by_guard e.reply)) (list_any (is_of e) (past q)) (is_of e q.item)
+    let later : list_any (is_item_of e) (behind q) ≡ true = ap (list_any (is_item_of e)) g.behind_it ∙ any_last (is_item_of e) (behind p) item one in
+    ap (λ b. not (is_by_guard e.reply) && list_any (is_item_of e) (past q) && not (is_item_of e q.item || b)) later
+    ∙ nothing (not (is_by_guard e.reply)) (list_any (is_item_of e) (past q)) (is_item_of e q.item)
   where
     nothing : (a b c : Bool) → a && b && not (c || true) ≡ false
     nothing true true true = refl
@@ -90,7 +90,7 @@ filter_more test [] e none = ap (λ b. cond b (e ∷ []) []) none
 filter_more test (x ∷ history) e none = ap (λ v. cond (test x) (x ∷ v) v) (filter_more test history e none)
 
 -- they stay where an item is noted together with its entry
-pub entries_before-committed : (item : Item) (p q : Place) (history : List Entry) (e : Entry) → IsGrown item p q → IsOfNoEntry item history → is_of e item ≡ true
+pub entries_before-committed : (item : Item) (p q : Place) (history : List Entry) (e : Entry) → IsGrown item p q → IsOfNoEntry item history → is_item_of e item ≡ true
     → entries_before (history ++ e ∷ []) q ≡ entries_before history p
 entries_before-committed item p q history e g none own =
     filter_more (stands_before q) history e (stands_before-own item p q e g own) ∙ entries_before-more item p q history g none
@@ -98,7 +98,7 @@ entries_before-committed item p q history e g none own =
 -- they stay where a refusal by the guard is appended, for which nothing was noted
 pub entries_before-refused : (p : Place) (history : List Entry) (e : Entry) → is_by_guard e.reply ≡ true → entries_before (history ++ e ∷ []) p ≡ entries_before history p
 entries_before-refused p history e guards =
-    filter_more (stands_before p) history e (ap (λ b. not b && list_any (is_of e) (past p) && not (list_any (is_of e) (p.item ∷ behind p))) guards)
+    filter_more (stands_before p) history e (ap (λ b. not b && list_any (is_item_of e) (past p) && not (list_any (is_item_of e) (p.item ∷ behind p))) guards)
 
 -- a held reply that is committed stands before the places behind its item
 pub entries_before-held : (p : Place) (history : List Entry) (e : Entry) → stands_before p e ≡ true → entries_before (history ++ e ∷ []) p ≡ entries_before history p ++ e ∷ []

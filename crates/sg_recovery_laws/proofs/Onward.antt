@@ -20,7 +20,7 @@ use Rattle.sg_recovery_laws.proofs.Same.{IsSame, again_is, demanded_same, tracke
 use Rattle.sg_recovery_laws.proofs.Served.{IsNamed, committed_stay, entered_later, item_of-own, items_stay, committed_later, has_same, order_push, order_stays}
 use Rattle.sg_recovery_laws.proofs.Stays.{same_committed, same_held, same_noted, same_refused}
 use Rattle.sg_recovery_laws.specs.Growing.{AreKept, HasOneMore, IsGrown, IsHeldReply, IsItemOf, IsLastCall, IsNextItem, IsRecovering, IsSettled, IsOfNoEntry, booted, last_stop, noted, place_behind, struck}
-use Rattle.sg_hist.specs.Reading.{Place, behind, is_by_guard, is_of, item_of, items_of, past, places_from, places_in, places_of, stands_before}
+use Rattle.sg_hist.specs.Reading.{Place, behind, is_by_guard, is_item_of, item_of, items_of, past, places_from, places_in, places_of, stands_before}
 use Rattle.sg_hist.specs.Recovered.{AreInOrder, AreStopped, ComeBefore, HasItem, GivesEntry, IsCommitted, AskedAs, IsDemanded, IsItsCall, IsLastIfStopped, IsTrackedAt, IsUnderWay, IsWalked, Stubs, is_entered, is_visible_reply}
 
 -- ---- calls
@@ -80,17 +80,17 @@ noted_stays s h b boots points later u u' item none hidden kept next r =
 -- ---- an item with its entry
 
 -- the entries that came before have their items before the last place
-any_in : (e : Entry) (older front items newer : List Item) → list_any (λ p. is_of e p.item) (places_in older front items newer) ≡ list_any (is_of e) items
+any_in : (e : Entry) (older front items newer : List Item) → list_any (λ p. is_item_of e p.item) (places_in older front items newer) ≡ list_any (is_item_of e) items
 any_in e older front [] newer = refl
-any_in e older front (x ∷ items) newer = ap (λ b. is_of e x || b) (any_in e older (front ++ x ∷ []) items newer)
+any_in e older front (x ∷ items) newer = ap (λ b. is_item_of e x || b) (any_in e older (front ++ x ∷ []) items newer)
 
-any_places : (e : Entry) (older : List Item) (boots : List Boot) → list_any (λ p. is_of e p.item) (places_from older boots) ≡ list_any (is_of e) (items_of boots)
+any_places : (e : Entry) (older : List Item) (boots : List Boot) → list_any (λ p. is_item_of e p.item) (places_from older boots) ≡ list_any (is_item_of e) (items_of boots)
 any_places e older [] = refl
 any_places e older (b ∷ boots) =
-    list_any-append (λ p. is_of e p.item) (places_in older [] b.items (items_of boots)) (places_from (older ++ b.items) boots)
-    ∙ ap (λ v. v || list_any (λ p. is_of e p.item) (places_from (older ++ b.items) boots)) (any_in e older [] b.items (items_of boots))
-    ∙ ap (λ v. list_any (is_of e) b.items || v) (any_places e (older ++ b.items) boots)
-    ∙ sym (list_any-append (is_of e) b.items (items_of boots))
+    list_any-append (λ p. is_item_of e p.item) (places_in older [] b.items (items_of boots)) (places_from (older ++ b.items) boots)
+    ∙ ap (λ v. v || list_any (λ p. is_item_of e p.item) (places_from (older ++ b.items) boots)) (any_in e older [] b.items (items_of boots))
+    ∙ ap (λ v. list_any (is_item_of e) b.items || v) (any_places e (older ++ b.items) boots)
+    ∙ sym (list_any-append (is_item_of e) b.items (items_of boots))
 
 abbrev IsFound : Option Place → Type 0
 IsFound None = ⊥
@@ -109,11 +109,11 @@ was_found facts h e None a = a
 was_found facts h e (Some p) a = tt
 
 has_any : (facts : Facts) (h : List Entry) (b : Boot) (boots : List Boot) (points : ℕ) (e : Entry)
-    → GivesEntry facts h e (item_of (record { boots = b ∷ boots; points = points }) e) → list_any (is_of e) (items_of (b ∷ boots)) ≡ true
+    → GivesEntry facts h e (item_of (record { boots = b ∷ boots; points = points }) e) → list_any (is_item_of e) (items_of (b ∷ boots)) ≡ true
 has_any facts h b boots points e a =
     let ps : List Place = places_from [] (b ∷ boots) in
-    sym (any_places e [] (b ∷ boots)) ∙ list_any-IsPermutation (λ p. is_of e p.item) ps (reverse ps) (IsPermutation-reverse ps)
-    ∙ found_any (λ p. is_of e p.item) (reverse ps) (was_found facts h e (find (λ p. is_of e p.item) (reverse ps)) a)
+    sym (any_places e [] (b ∷ boots)) ∙ list_any-IsPermutation (λ p. is_item_of e p.item) ps (reverse ps) (IsPermutation-reverse ps)
+    ∙ found_any (λ p. is_item_of e p.item) (reverse ps) (was_found facts h e (find (λ p. is_item_of e p.item) (reverse ps)) a)
 
 come_last : (facts : Facts) (h : List Entry) (b : Boot) (boots : List Boot) (points : ℕ) (item : Item) (es : List Entry) → IsOfNoEntry item es
     → Each (HasItem facts h (record { boots = b ∷ boots; points = points })) es → ComeBefore es (Some (place_behind [] (b ∷ boots) item))
@@ -126,15 +126,15 @@ come_last facts h b boots points item (e ∷ es) none has =
     last_of : Place
     last_of = place_behind [] (b ∷ boots) item
 
-    none_at : is_of e last_of.item || list_any (is_of e) (behind last_of) ≡ false
-    none_at = ap (λ i. is_of e i || list_any (is_of e) (behind last_of)) (own_item [] b boots item)
-        ∙ ap (λ v. is_of e item || list_any (is_of e) v) (no_behind [] b boots item) ∙ ap (λ v. v || false) none.0
+    none_at : is_item_of e last_of.item || list_any (is_item_of e) (behind last_of) ≡ false
+    none_at = ap (λ i. is_item_of e i || list_any (is_item_of e) (behind last_of)) (own_item [] b boots item)
+        ∙ ap (λ v. is_item_of e item || list_any (is_item_of e) v) (no_behind [] b boots item) ∙ ap (λ v. v || false) none.0
 
     by : (g : Bool) → When (not g) (GivesEntry facts h e (item_of (record { boots = b ∷ boots; points = points }) e))
-        → g || (not g && list_any (is_of e) (past last_of) && not (is_of e last_of.item || list_any (is_of e) (behind last_of))) ≡ true
+        → g || (not g && list_any (is_item_of e) (past last_of) && not (is_item_of e last_of.item || list_any (is_item_of e) (behind last_of))) ≡ true
     by true a = refl
-    by false a = ap (λ v. v && not (is_of e last_of.item || list_any (is_of e) (behind last_of)))
-        (ap (list_any (is_of e)) (past_all [] b boots item) ∙ has_any facts h b boots points e a)
+    by false a = ap (λ v. v && not (is_item_of e last_of.item || list_any (is_item_of e) (behind last_of)))
+        (ap (list_any (is_item_of e)) (past_all [] b boots item) ∙ has_any facts h b boots points e a)
         ∙ ap not none_at
 
 pub committed_stays : (s : Stubs) (h : List Entry) (b : Boot) (boots : List Boot) (points later : ℕ) (u u' : List Call) (item : Item) (e : Entry)
@@ -151,7 +151,7 @@ committed_stays s h b boots points later u u' item e none of_it last_call kept n
     let h' : List Entry = h ++ e ∷ [] in
     let old : Run = record { boots = b ∷ boots; points = points } in
     let new : Run = record { boots = noted (b ∷ boots) item; points = later } in
-    let tagged : is_of e item ≡ true = ap (is_of e) (sym own) ∙ of_it.tagged in
+    let tagged : is_item_of e item ≡ true = ap (is_item_of e) (sym own) ∙ of_it.tagged in
     let given : Each (λ p. IsGiven s.facts h p.item) before = each_map (IsCommitted s.facts h) (λ p. IsGiven s.facts h p.item) before (committed_given s.facts h) r.served.committed in
     let fronts : Each (λ p. Each (IsGiven s.facts h) p.front) before = each_front (IsGiven s.facts h) [] (b ∷ boots) given in
     let same : (p q : Place) → IsGrown item p q → Each (IsGiven s.facts h) p.front → IsSame s.facts s.walks h u h' u' p q.rest q.newer
@@ -195,13 +195,13 @@ committed_stays s h b boots points later u u' item e none of_it last_call kept n
     either true = refl
     either false = refl
 
-    last_entered : (last : Place) → is_of e last.item ≡ true → behind last ≡ [] → IsCommitted s.facts (h ++ e ∷ []) last
+    last_entered : (last : Place) → is_item_of e last.item ≡ true → behind last ≡ [] → IsCommitted s.facts (h ++ e ∷ []) last
     last_entered last tagged nothing =
-        let own : not (is_by_guard e.reply) && is_of e last.item && not (list_any (is_of e) (behind last)) ≡ true
-        = ap (λ v. not v && is_of e last.item && not (list_any (is_of e) (behind last))) of_it.served
-        ∙ ap (λ v. v && not (list_any (is_of e) (behind last))) tagged ∙ ap (λ v. not (list_any (is_of e) v)) nothing in
+        let own : not (is_by_guard e.reply) && is_item_of e last.item && not (list_any (is_item_of e) (behind last)) ≡ true
+        = ap (λ v. not v && is_item_of e last.item && not (list_any (is_item_of e) (behind last))) of_it.served
+        ∙ ap (λ v. v && not (list_any (is_item_of e) (behind last))) tagged ∙ ap (λ v. not (list_any (is_item_of e) v)) nothing in
         always (is_visible_reply s.facts last.item)
-        (list_any-append (λ x. not (is_by_guard x.reply) && is_of x last.item && not (list_any (is_of x) (behind last))) h (e ∷ [])
+        (list_any-append (λ x. not (is_by_guard x.reply) && is_item_of x last.item && not (list_any (is_item_of x) (behind last))) h (e ∷ [])
         ∙ ap (λ v. is_entered h last || (v || false)) own ∙ either (is_entered h last))
 
 -- ---- a refusal by the guard
@@ -343,7 +343,7 @@ made_stays s h run u u' kept r = record {
 order_places : (facts : Facts) (run later : Run) (earlier es : List Entry) → places_of later ≡ places_of run → AreInOrder facts run earlier es → AreInOrder facts later earlier es
 order_places facts run later earlier [] same order = tt
 order_places facts run later earlier (e ∷ es) same order = (
-  subst (λ ps. When (is_visible facts e.call.fun && not (is_by_guard e.reply)) (ComeBefore earlier (find (λ p. is_of e p.item) (reverse ps)))) (sym same) order.0,
+  subst (λ ps. When (is_visible facts e.call.fun && not (is_by_guard e.reply)) (ComeBefore earlier (find (λ p. is_item_of e p.item) (reverse ps)))) (sym same) order.0,
   order_places facts run later (earlier ++ e ∷ []) es same order.1,
 )
 
@@ -359,7 +359,7 @@ same_places s h run later u same stopped r = record {
   served = record {
     calls = subst (Each (λ p. IsItsCall h u p.item.shown p.item.tag)) (sym same) r.served.calls;
     items = each_map (HasItem s.facts h run) (HasItem s.facts h later) h
-        (λ e has. subst (λ ps. When (not (is_by_guard e.reply)) (GivesEntry s.facts h e (find (λ p. is_of e p.item) (reverse ps)))) (sym same) has) r.served.items;
+        (λ e has. subst (λ ps. When (not (is_by_guard e.reply)) (GivesEntry s.facts h e (find (λ p. is_item_of e p.item) (reverse ps)))) (sym same) has) r.served.items;
     committed = subst (Each (IsCommitted s.facts h)) (sym same) r.served.committed;
     order = order_places s.facts run later [] h same r.served.order;
   };

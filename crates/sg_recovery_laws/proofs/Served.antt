@@ -13,7 +13,7 @@ use Rattle.sg_recovery_laws.proofs.Growing.{both_grown}
 use Rattle.sg_recovery_laws.proofs.Lists.{each_push}
 use Rattle.sg_recovery_laws.proofs.Stays.{stands_each}
 use Rattle.sg_recovery_laws.specs.Growing.{AreGrown, HasOneMore, IsGrown, IsOfNoEntry}
-use Rattle.sg_hist.specs.Reading.{Place, behind, is_by_guard, is_of, item_of, names_at, places_of, stands_before}
+use Rattle.sg_hist.specs.Reading.{Place, behind, is_by_guard, is_item_of, item_of, names_at, places_of, stands_before}
 use Rattle.sg_hist.specs.Recovered.{AreInOrder, ComeBefore, HasItem, GivesEntry, IsCommitted, IsReplyOf, is_entered, is_visible_reply}
 
 -- ---- lists from behind
@@ -57,38 +57,38 @@ IsGrownTo item (Some p) (Some q) = IsGrown item p q
 IsGrownTo item None (Some q) = ⊥
 IsGrownTo item (Some p) None = ⊥
 
-found_grown : (item : Item) (e : Entry) (ps qs : List Place) → AreGrown item ps qs → IsGrownTo item (find (λ p. is_of e p.item) ps) (find (λ p. is_of e p.item) qs)
+found_grown : (item : Item) (e : Entry) (ps qs : List Place) → AreGrown item ps qs → IsGrownTo item (find (λ p. is_item_of e p.item) ps) (find (λ p. is_item_of e p.item) qs)
 found_grown item e [] [] g = tt
 found_grown item e [] (q ∷ qs) g = absurd g
 found_grown item e (p ∷ ps) [] g = absurd g
 found_grown item e (p ∷ ps) (q ∷ qs) g =
-    subst (λ i. IsGrownTo item (find (λ x. is_of e x.item) (p ∷ ps)) (cond (is_of e i) (Some q) (find (λ x. is_of e x.item) qs))) (sym g.0.own)
-    (by (found_grown item e ps qs g.1) (is_of e p.item))
+    subst (λ i. IsGrownTo item (find (λ x. is_item_of e x.item) (p ∷ ps)) (cond (is_item_of e i) (Some q) (find (λ x. is_item_of e x.item) qs))) (sym g.0.own)
+    (by (found_grown item e ps qs g.1) (is_item_of e p.item))
   where
-    by : IsGrownTo item (find (λ x. is_of e x.item) ps) (find (λ x. is_of e x.item) qs) → (b : Bool)
-        → IsGrownTo item (cond b (Some p) (find (λ x. is_of e x.item) ps)) (cond b (Some q) (find (λ x. is_of e x.item) qs))
+    by : IsGrownTo item (find (λ x. is_item_of e x.item) ps) (find (λ x. is_item_of e x.item) qs) → (b : Bool)
+        → IsGrownTo item (cond b (Some p) (find (λ x. is_item_of e x.item) ps)) (cond b (Some q) (find (λ x. is_item_of e x.item) qs))
     by rest true = g.0
     by rest false = rest
 
 -- of places one of which was added behind, the item of an entry is the last one's, or it is where it was
-find_last : (e : Entry) (grown : List Place) (last : Place) → find (λ p. is_of e p.item) (reverse (grown ++ last ∷ []))
-    ≡ cond (is_of e last.item) (Some last) (find (λ p. is_of e p.item) (reverse grown))
-find_last e grown last = ap (find (λ p. is_of e p.item)) (reverse_push grown last)
+find_last : (e : Entry) (grown : List Place) (last : Place) → find (λ p. is_item_of e p.item) (reverse (grown ++ last ∷ []))
+    ≡ cond (is_item_of e last.item) (Some last) (find (λ p. is_item_of e p.item) (reverse grown))
+find_last e grown last = ap (find (λ p. is_item_of e p.item)) (reverse_push grown last)
 
 pub item_of-more : (item : Item) (e : Entry) (last : Place) (run later : Run) → HasOneMore item last (places_of run) (places_of later) → last.item ≡ item
-    → is_of e item ≡ false → IsGrownTo item (item_of run e) (item_of later e)
+    → is_item_of e item ≡ false → IsGrownTo item (item_of run e) (item_of later e)
 item_of-more item e last run later more own none =
-    let is : item_of later e ≡ find (λ p. is_of e p.item) (reverse more.grown)
-    = ap (λ ps. find (λ p. is_of e p.item) (reverse ps)) more.are ∙ find_last e more.grown last
-    ∙ ap (λ b. cond b (Some last) (find (λ p. is_of e p.item) (reverse more.grown))) (ap (is_of e) own ∙ none) in
+    let is : item_of later e ≡ find (λ p. is_item_of e p.item) (reverse more.grown)
+    = ap (λ ps. find (λ p. is_item_of e p.item) (reverse ps)) more.are ∙ find_last e more.grown last
+    ∙ ap (λ b. cond b (Some last) (find (λ p. is_item_of e p.item) (reverse more.grown))) (ap (is_item_of e) own ∙ none) in
     subst (IsGrownTo item (item_of run e)) (sym is)
     (found_grown item e (reverse (places_of run)) (reverse more.grown) (reverse_grown item (places_of run) more.grown more.each))
 
 pub item_of-own : (item : Item) (e : Entry) (last : Place) (run later : Run) → HasOneMore item last (places_of run) (places_of later) → last.item ≡ item
-    → is_of e item ≡ true → item_of later e ≡ Some last
+    → is_item_of e item ≡ true → item_of later e ≡ Some last
 item_of-own item e last run later more own one =
-    ap (λ ps. find (λ p. is_of e p.item) (reverse ps)) more.are ∙ find_last e more.grown last
-    ∙ ap (λ b. cond b (Some last) (find (λ p. is_of e p.item) (reverse more.grown))) (ap (is_of e) own ∙ one)
+    ap (λ ps. find (λ p. is_item_of e p.item) (reverse ps)) more.are ∙ find_last e more.grown last
+    ∙ ap (λ b. cond b (Some last) (find (λ p. is_item_of e p.item) (reverse more.grown))) (ap (is_item_of e) own ∙ one)
 
 -- ---- entries have their items
 
@@ -122,14 +122,14 @@ pub items_stay : (facts : Facts) (h h' : List Entry) (item : Item) (last : Place
 items_stay facts h h' item last run later [] more own none named has = tt
 items_stay facts h h' item last run later (e ∷ es) more own none named has = (
   has_item facts h h' item e run later (item_of-more item e last run later more own none.0)
-      (found_has (IsNamed facts h h') (λ p. is_of e p.item) (reverse (places_of run)) (each_reverse (IsNamed facts h h') (places_of run) named)) has.0,
+      (found_has (IsNamed facts h h') (λ p. is_item_of e p.item) (reverse (places_of run)) (each_reverse (IsNamed facts h h') (places_of run) named)) has.0,
   items_stay facts h h' item last run later es more own none.1 named has.1,
 )
 
 -- in the same run
 pub has_same : (facts : Facts) (h h' : List Entry) (run : Run) → Each (IsNamed facts h h') (places_of run) → (e : Entry) → HasItem facts h run e → HasItem facts h' run e
 has_same facts h h' run named e has =
-    by (found_has (IsNamed facts h h') (λ p. is_of e p.item) (reverse (places_of run)) (each_reverse (IsNamed facts h h') (places_of run) named)) (not (is_by_guard e.reply)) has
+    by (found_has (IsNamed facts h h') (λ p. is_item_of e p.item) (reverse (places_of run)) (each_reverse (IsNamed facts h h') (places_of run) named)) (not (is_by_guard e.reply)) has
   where
     at : (p : Option Place) → Has (IsNamed facts h h') p → GivesEntry facts h e p → GivesEntry facts h' e p
     at None named a = a
@@ -142,15 +142,15 @@ has_same facts h h' run named e has =
 -- ---- visible replies have their entries
 
 -- no item more is of an entry that has another
-behind_more : (item : Item) (p q : Place) (e : Entry) → IsGrown item p q → is_of e item ≡ false
-    → (not (is_by_guard e.reply) && is_of e q.item && not (list_any (is_of e) (behind q)))
-    ≡ (not (is_by_guard e.reply) && is_of e p.item && not (list_any (is_of e) (behind p)))
+behind_more : (item : Item) (p q : Place) (e : Entry) → IsGrown item p q → is_item_of e item ≡ false
+    → (not (is_by_guard e.reply) && is_item_of e q.item && not (list_any (is_item_of e) (behind q)))
+    ≡ (not (is_by_guard e.reply) && is_item_of e p.item && not (list_any (is_item_of e) (behind p)))
 behind_more item p q e g none =
-    let later : list_any (is_of e) (behind q) ≡ list_any (is_of e) (behind p)
-    = ap (list_any (is_of e)) g.behind_it ∙ list_any-append (is_of e) (behind p) (item ∷ []) ∙ ap (λ b. list_any (is_of e) (behind p) || (b || false)) none
-    ∙ or_none (list_any (is_of e) (behind p)) in
-    ap (λ i. not (is_by_guard e.reply) && is_of e i && not (list_any (is_of e) (behind q))) g.own
-    ∙ ap (λ b. not (is_by_guard e.reply) && is_of e p.item && not b) later
+    let later : list_any (is_item_of e) (behind q) ≡ list_any (is_item_of e) (behind p)
+    = ap (list_any (is_item_of e)) g.behind_it ∙ list_any-append (is_item_of e) (behind p) (item ∷ []) ∙ ap (λ b. list_any (is_item_of e) (behind p) || (b || false)) none
+    ∙ or_none (list_any (is_item_of e) (behind p)) in
+    ap (λ i. not (is_by_guard e.reply) && is_item_of e i && not (list_any (is_item_of e) (behind q))) g.own
+    ∙ ap (λ b. not (is_by_guard e.reply) && is_item_of e p.item && not b) later
   where
     or_none : (b : Bool) → b || (false || false) ≡ b
     or_none true = refl
@@ -160,12 +160,12 @@ entered_more : (item : Item) (p q : Place) (h : List Entry) → IsGrown item p q
 entered_more item p q [] g none = refl
 entered_more item p q (e ∷ h) g none =
     ap (λ b. b || is_entered h q) (behind_more item p q e g none.0)
-    ∙ ap (λ b. (not (is_by_guard e.reply) && is_of e p.item && not (list_any (is_of e) (behind p))) || b) (entered_more item p q h g none.1)
+    ∙ ap (λ b. (not (is_by_guard e.reply) && is_item_of e p.item && not (list_any (is_item_of e) (behind p))) || b) (entered_more item p q h g none.1)
 
 -- what was entered is so with entries more
 pub entered_later : (p : Place) (h es : List Entry) → is_entered h p ≡ true → is_entered (h ++ es) p ≡ true
 entered_later p h es is =
-    list_any-append (λ e. not (is_by_guard e.reply) && is_of e p.item && not (list_any (is_of e) (behind p))) h es ∙ ap (λ b. b || is_entered es p) is
+    list_any-append (λ e. not (is_by_guard e.reply) && is_item_of e p.item && not (list_any (is_item_of e) (behind p))) h es ∙ ap (λ b. b || is_entered es p) is
 
 pub committed_stay : (facts : Facts) (item : Item) (h es : List Entry) (p q : Place) → IsGrown item p q → IsOfNoEntry item h → IsCommitted facts h p → IsCommitted facts (h ++ es) q
 committed_stay facts item h es p q g none committed =
@@ -197,7 +197,7 @@ come_stay item earlier None (Some q) none g come = absurd g
 come_stay item earlier (Some p) None none g come = absurd g
 come_stay item earlier (Some p) (Some q) none g come = earlier_stay item p q earlier (stands_each item p q earlier none g) ∙ come
 
-none_push : (item : Item) (h : List Entry) (e : Entry) → IsOfNoEntry item h → is_of e item ≡ false → IsOfNoEntry item (h ++ e ∷ [])
+none_push : (item : Item) (h : List Entry) (e : Entry) → IsOfNoEntry item h → is_item_of e item ≡ false → IsOfNoEntry item (h ++ e ∷ [])
 none_push item [] e none one = (one, tt)
 none_push item (x ∷ h) e none one = (none.0, none_push item h e none.1 one)
 

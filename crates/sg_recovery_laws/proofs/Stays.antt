@@ -17,7 +17,7 @@ use Rattle.sg_recovery_laws.proofs.Lists.{each_map}
 use Rattle.sg_recovery_laws.proofs.Same.{IsSame, again, any_rebuilt, any_same, rebuilt_again}
 use Rattle.sg_hist.specs.Clients.{calls_of}
 use Rattle.sg_recovery_laws.specs.Growing.{AreKept, IsGrown, IsLastCall, IsOfNoEntry}
-use Rattle.sg_hist.specs.Reading.{Place, behind, entries_before, is_by_guard, is_made, is_of, is_rebuilt_at, is_whole_at, past, places_in, stands_before}
+use Rattle.sg_hist.specs.Reading.{Place, behind, entries_before, is_by_guard, is_made, is_item_of, is_rebuilt_at, is_whole_at, past, places_in, stands_before}
 use Rattle.sg_hist.specs.Recovered.{IsUnderWay, calls_made}
 
 -- ---- what is whole
@@ -121,7 +121,7 @@ same_noted facts walks h u u' item p r n none more kept =
     }
 
 pub same_committed : (facts : Facts) (walks : List WalkLine) (h : List Entry) (u u' : List Call) (e : Entry) (item : Item) (p : Place) (r n : List Item)
-    → IsOfNoEntry item h → is_of e item ≡ true → r ++ n ≡ behind p ++ item ∷ [] → AreKept h u (h ++ e ∷ []) u'
+    → IsOfNoEntry item h → is_item_of e item ≡ true → r ++ n ≡ behind p ++ item ∷ [] → AreKept h u (h ++ e ∷ []) u'
     → ((call : Call) → Contains (calls_made h u) call → call.client ≡ e.call.client → call.seq ≤ e.call.seq)
     → Each (IsGiven facts h) p.front → IsSame facts walks h u (h ++ e ∷ []) u' p r n
 same_committed facts walks h u u' e item p r n none own more kept last given =
@@ -155,7 +155,7 @@ same_refused facts walks h u u' e p guards kept =
           ∙ ap (λ b. list_any (is_made facts h id) p.front || b)
           (any_same (is_rebuilt_at facts walks (h ++ e ∷ []) id) (is_rebuilt_at facts walks h id) (places_in p.older [] p.front (p.item ∷ behind p))
           (λ x. rebuilt_again facts walks h (h ++ e ∷ []) id x x.rest x.newer (ap (object_of facts) (entries_before-refused x h e guards))));
-      under_way = under_more h e u u' p (ap (λ b. not b && list_any (is_of e) (past p) && not (list_any (is_of e) (p.item ∷ behind p))) guards)
+      under_way = under_more h e u u' p (ap (λ b. not b && list_any (is_item_of e) (past p) && not (list_any (is_item_of e) (p.item ∷ behind p))) guards)
           (λ made has its. ap (λ b. b || nat_le made.seq e.call.seq) guards) kept;
     }
   where
@@ -187,21 +187,21 @@ or_assoc false b c = refl
 
 -- what doesn't stand before a place doesn't stand before an earlier one of its boot
 pub earlier_place : (e : Entry) (older done : List Item) (item : Item) (items newer : List Item)
-    → not (is_by_guard e.reply) && list_any (is_of e) (older ++ (done ++ item ∷ items)) && not (list_any (is_of e) newer) ≡ false
+    → not (is_by_guard e.reply) && list_any (is_item_of e) (older ++ (done ++ item ∷ items)) && not (list_any (is_item_of e) newer) ≡ false
     → stands_before (record { older = older; front = done; item = item; rest = items; newer = newer }) e ≡ false
 earlier_place e older done item items newer is =
-    let test : Item → Bool = is_of e in
+    let test : Item → Bool = is_item_of e in
     let all : list_any test (older ++ (done ++ item ∷ items)) ≡ list_any test older || (list_any test done || list_any test (item ∷ items))
     = list_any-append test older (done ++ item ∷ items) ∙ ap (λ b. list_any test older || b) (list_any-append test done (item ∷ items)) in
-    let later : is_of e item || list_any test (items ++ newer) ≡ list_any test (item ∷ items) || list_any test newer
-    = ap (λ b. is_of e item || b) (list_any-append test items newer) ∙ or_assoc (is_of e item) (list_any test items) (list_any test newer) in
-    ap (λ b. not (is_by_guard e.reply) && b && not (is_of e item || list_any test (items ++ newer))) (list_any-append test older done)
+    let later : is_item_of e item || list_any test (items ++ newer) ≡ list_any test (item ∷ items) || list_any test newer
+    = ap (λ b. is_item_of e item || b) (list_any-append test items newer) ∙ or_assoc (is_item_of e item) (list_any test items) (list_any test newer) in
+    ap (λ b. not (is_by_guard e.reply) && b && not (is_item_of e item || list_any test (items ++ newer))) (list_any-append test older done)
     ∙ ap (λ b. not (is_by_guard e.reply) && (list_any test older || list_any test done) && not b) later
     ∙ not_earlier (not (is_by_guard e.reply)) (list_any test older) (list_any test done) (list_any test (item ∷ items)) (list_any test newer)
     (ap (λ b. not (is_by_guard e.reply) && b && not (list_any test newer)) (sym all) ∙ is)
 
 rebuilt_earlier : (facts : Facts) (walks : List WalkLine) (h : List Entry) (e : Entry) (id : ℕ) (older done items newer : List Item)
-    → not (is_by_guard e.reply) && list_any (is_of e) (older ++ (done ++ items)) && not (list_any (is_of e) newer) ≡ false
+    → not (is_by_guard e.reply) && list_any (is_item_of e) (older ++ (done ++ items)) && not (list_any (is_item_of e) newer) ≡ false
     → list_any (is_rebuilt_at facts walks (h ++ e ∷ []) id) (places_in older done items newer) ≡ list_any (is_rebuilt_at facts walks h id) (places_in older done items newer)
 rebuilt_earlier facts walks h e id older done [] newer is = refl
 rebuilt_earlier facts walks h e id older done (x ∷ items) newer is =
@@ -210,7 +210,7 @@ rebuilt_earlier facts walks h e id older done (x ∷ items) newer is =
     = rebuilt_again facts walks h (h ++ e ∷ []) id p items newer (ap (object_of facts) (entries_before-not_yet p h e (earlier_place e older done x items newer is))) in
     let rest : list_any (is_rebuilt_at facts walks (h ++ e ∷ []) id) (places_in older (done ++ x ∷ []) items newer) ≡ list_any (is_rebuilt_at facts walks h id) (places_in older (done ++ x ∷ []) items newer)
     = rebuilt_earlier facts walks h e id older (done ++ x ∷ []) items newer
-    (ap (λ v. not (is_by_guard e.reply) && list_any (is_of e) (older ++ v) && not (list_any (is_of e) newer)) (append_assoc done (x ∷ []) items) ∙ is) in
+    (ap (λ v. not (is_by_guard e.reply) && list_any (is_item_of e) (older ++ v) && not (list_any (is_item_of e) newer)) (append_assoc done (x ∷ []) items) ∙ is) in
     ap (λ b. b || list_any (is_rebuilt_at facts walks (h ++ e ∷ []) id) (places_in older (done ++ x ∷ []) items newer)) one
     ∙ ap (λ b. is_rebuilt_at facts walks h id p || b) rest
 

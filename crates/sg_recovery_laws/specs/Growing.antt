@@ -9,7 +9,7 @@ use Rattle.sg_facts.specs.declared.trace.Item.{Item}
 use Rattle.sg_facts.specs.declared.entry.Entry.{Entry}
 use Rattle.sg_facts.specs.Facts.{Facts, is_visible}
 use Rattle.sg_facts.specs.Trace.{Boot, Run}
-use Rattle.sg_hist.specs.Reading.{Place, behind, is_by_guard, is_of, item_of, names_at, places_of}
+use Rattle.sg_hist.specs.Reading.{Place, behind, is_by_guard, is_item_of, item_of, names_at, places_of}
 use Rattle.sg_hist.specs.Recovered.{AskedAs, GivesEntry, IsDemanded, IsItsCall, IsRebooted, IsReplyOf, IsServed, IsTrackedAt, IsWalked, Stubs, asked_in, calls_made, ends_stopped}
 
 -- ---- boots and places
@@ -65,7 +65,7 @@ pub record HasOneMore (item : Item) (last : Place) (before now : List Place) : T
 -- no entry is of an item
 abbrev pub IsOfNoEntry : Item → List Entry → Type 0
 IsOfNoEntry item [] = Unit {0}
-IsOfNoEntry item (e ∷ history) = (is_of e item ≡ false) × IsOfNoEntry item history
+IsOfNoEntry item (e ∷ history) = (is_item_of e item ≡ false) × IsOfNoEntry item history
 
 -- ---- what is kept step by step
 
@@ -100,7 +100,7 @@ IsLastCall history unanswered last = (call : Call) → Contains (calls_made hist
 
 -- an item is that of an entry that is appended with it: it has its call and its reply
 pub record IsItemOf (facts : Facts) (history : List Entry) (p : Place) (e : Entry) : Type 0 where
-  pub tagged : is_of e p.item ≡ true
+  pub tagged : is_item_of e p.item ≡ true
   pub served : is_by_guard e.reply ≡ false
   pub shown : p.item.shown ≡ e.call
   pub reply : IsReplyOf (names_at facts (history ++ e ∷ []) (p.front ++ p.item ∷ [])) p.item.outcome e.reply

@@ -12,6 +12,7 @@ use Rattle.sg_base.specs.declared.reply.Reply.{Reply}
 use Rattle.sg_base.specs.declared.reply.Reply.TheVariants.{Ok, Refused}
 use Rattle.sg_base.specs.declared.value.Value.{Value}
 use Rattle.sg_base.specs.declared.value.Value.TheVariants.{Word, Text}
+use Rattle.sg_facts.specs.Words.{line_end}
 use Rattle.sg_facts.specs.declared.entry.Entry.{Entry}
 use Rattle.sg_facts.specs.declared.outcome.Outcome.{Outcome}
 use Rattle.sg_facts.specs.declared.outcome.Outcome.TheVariants.{Replied, Blocks, Stopped, NoMemory}
@@ -26,10 +27,6 @@ use Rattle.sg_hist.specs.declared.ended.Ended.{Ended}
 use Rattle.sg_hist.specs.Reading.{items_of}
 
 -- ---- words
-
--- the end of a line
-abbrev pub line_end : List ℕ
-line_end = 10 ∷ []
 
 -- bytes in double quotes
 abbrev pub quoted : List ℕ → List ℕ

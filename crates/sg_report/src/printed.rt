@@ -3,7 +3,8 @@ ghost use Rattle.std.specs.Prelude.{◌≡◌, ◌++◌, if◌then◌else◌, []
 ghost use Rattle.std.specs.Fmt.{decimal};
 ghost use Rattle.std.specs.List.{flat_map};
 ghost use Rattle.sg_facts.specs.Trace.{run_of};
-ghost use Rattle.sg_report.specs.Report.{counts_line, end_line, end_text, entry_line, line_end, report_of};
+ghost use Rattle.sg_facts.specs.Words.{line_end};
+ghost use Rattle.sg_report.specs.Report.{counts_line, end_line, end_text, entry_line, report_of};
 
 use crate::traced::{push_trace, replays_in};
 use crate::words::{push_answer, push_call, push_number};

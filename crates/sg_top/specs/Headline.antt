@@ -1,5 +1,6 @@
 -- What a play promises, and which inputs are played.
 use Rattle.std.specs.Prelude.{ℕ, ◌≡◌, ◌==◌, ◌⊎◌, ◌&&◌, Bool, true, false, List, [], ◌∷◌, ◌++◌, None, codes, length}
+use Rattle.sg_facts.specs.Words.{line_end}
 use Rattle.sg_facts.specs.declared.entry.Entry.{Entry}
 use Rattle.sg_facts.specs.declared.trace.Trace.{Trace}
 use Rattle.sg_facts.specs.Facts.{Facts}
@@ -64,7 +65,7 @@ first_calls (c ∷ clients) = c.1
 
 -- the line of an input that is ready, and whose script isn't played yet
 abbrev pub not_yet_line : List ℕ
-not_yet_line = codes "input refused: NotYet" ++ 10 ∷ []
+not_yet_line = codes "input refused: NotYet" ++ line_end
 
 -- an input is ready, its script is one that is played, and this is a run of it with its output
 pub record IsRunOfInput (services : List Facts) (bytes : List ℕ) (ended : Ended) (written : List ℕ) : Type 0 where

@@ -16,7 +16,7 @@ use Rattle.sg_facts.specs.Allowed.{acts_on_one, each_replays_well, steps_make_no
 use Rattle.sg_facts.specs.Facts.{Facts, Field, Fun, fun_at, no_fun, takes_desc, takes_parent}
 use Rattle.sg_facts.specs.Sound.{AreFields, AreRows, IsOfField, IsRow}
 use Rattle.sg_facts.specs.Track.{effect_of, empty_field, field_at, fields_after, new_row, row_after, row_at, rows_after}
-use Rattle.sg_track.specs.Drafts.{EachNew, IsNumber, IsValue}
+use Rattle.sg_track.specs.Drafts.{EachNew, IsDraftWord, IsValue}
 use Rattle.sg_track.specs.Tracked.{HasPlace, MayTrackOk, Tracked, changed_rows}
 use Rattle.sg_track.proofs.Ends.{same_test}
 
@@ -79,7 +79,7 @@ length_after call good (e ∷ es) fields = length_after call good es (set fields
 
 -- ---- fields of their kinds
 
-of_field : (f : Field) (v : Value) → IsOfField f v → f.text ≡ false → IsNumber v
+of_field : (f : Field) (v : Value) → IsOfField f v → f.text ≡ false → IsDraftWord v
 of_field f (Word n) is number = is.1
 of_field f (Text bytes) is number = absurd (let wrong : true ≡ false = sym is ∙ number in cc wrong)
 
@@ -87,7 +87,7 @@ of_any : (f : Field) (v : Value) → IsOfField f v → IsValue v
 of_any f (Word n) is = is.1
 of_any f (Text bytes) is = tt
 
-number_at : (fs : List Field) (vs : List Value) (x : ℕ) → AreFields fs vs → x < length vs → is_text_field fs x ≡ false → IsNumber (field_at vs x)
+number_at : (fs : List Field) (vs : List Value) (x : ℕ) → AreFields fs vs → x < length vs → is_text_field fs x ≡ false → IsDraftWord (field_at vs x)
 number_at [] [] x are within number = absurd (omega arith)
 number_at [] (v ∷ vs) x are within number = absurd are
 number_at (f ∷ fs) [] x are within number = absurd are
@@ -199,10 +199,10 @@ module _ (facts : Facts) (t : Tracked) (call : Call) (good : Good) (given : ℕ)
 
   -- the row that a function changes
   changed : (r : Row) → sets_once (fun_at facts.funs call.fun).effects ≡ true → sets_no_text facts (fun_at facts.funs call.fun) ≡ true
-      → IsRow facts all (row_after facts call good r) → EachNew IsNumber call good (fun_at facts.funs call.fun).effects r.fields
+      → IsRow facts all (row_after facts call good r) → EachNew IsDraftWord call good (fun_at facts.funs call.fun).effects r.fields
   changed r once keeps is =
       let es = (fun_at facts.funs call.fun).effects in
-      final_new IsNumber call good es r.fields once
+      final_new IsDraftWord call good es r.fields once
       (λ x within touched. number_at facts.fields (fields_after call good es r.fields) x is.fields (omega (arith, within, length_after call good es r.fields)) (no_text facts.fields es x keeps touched))
 
   -- an Ok may be tracked where the shape is allowed and the rows after it are the service's

@@ -25,9 +25,9 @@ abbrev pub empty_shape : FieldShape → Value
 empty_shape f = if f.text then Text [] else Word 0
 
 -- a value is a number of its type
-abbrev pub IsNumber : Value → Type 0
-IsNumber (Word n) = n < 2 ^ 64
-IsNumber (Text bytes) = ⊥
+abbrev pub IsDraftWord : Value → Type 0
+IsDraftWord (Word n) = n < 2 ^ 64
+IsDraftWord (Text bytes) = ⊥
 
 -- a value is a number of its type, or a text
 abbrev pub IsValue : Value → Type 0

@@ -10,7 +10,7 @@ use Rattle.sg_facts.specs.Allowed.{is_allowed}
 use Rattle.sg_facts.specs.Object.{Object}
 use Rattle.sg_facts.specs.Sound.{AreRows, IsSound}
 use Rattle.sg_facts.specs.Track.{empty_field, is_ancestor, is_live, new_row, row_after, row_at, rows_after}
-use Rattle.sg_track.specs.Drafts.{EachNew, IsNumber, IsValue}
+use Rattle.sg_track.specs.Drafts.{EachNew, IsDraftWord, IsValue}
 
 -- the rows in ascending ids, how many ids were given, and for how many more rows there is room
 pub record Tracked : Type 0 where
@@ -59,7 +59,7 @@ pub record MayMake (facts : Facts) (t : Tracked) (call : Call) (good : Good) : T
 
 -- an Ok of a function that changes its row may be tracked: the fields that it sets come to numbers of their type
 abbrev pub MayChange : Facts → Tracked → Call → Good → Type 0
-MayChange facts t call good = (r : Row) → row_at t.rows call.desc ≡ Some r → EachNew IsNumber call good (fun_at facts.funs call.fun).effects r.fields
+MayChange facts t call good = (r : Row) → row_at t.rows call.desc ≡ Some r → EachNew IsDraftWord call good (fun_at facts.funs call.fun).effects r.fields
 
 -- an Ok may be tracked, by what its function does. A query and a terminal function ask for nothing
 pub record MayTrackOk (facts : Facts) (t : Tracked) (call : Call) (good : Good) : Type 0 where

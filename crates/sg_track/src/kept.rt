@@ -2,7 +2,7 @@
 ghost use Rattle.std.specs.Prelude.{◌≡◌};
 ghost use Rattle.sg_facts.specs.Facts.{fun_at};
 ghost use Rattle.sg_facts.specs.Track.{row_after};
-ghost use Rattle.sg_track.specs.Drafts.{EachNew, IsNumber};
+ghost use Rattle.sg_track.specs.Drafts.{EachNew, IsDraftWord};
 
 use crate::words::set_words;
 use sg_base::{Call, Good};
@@ -20,7 +20,7 @@ pub(crate) struct Kept {
 
 /// Does to a row what an Ok of a function does that changes it. It takes no memory.
 pub(crate) fn change_row(row: &mut Row, interface: &Interface, call: &Call, good: &Good)
-    requires { EachNew IsNumber call.now good.now (fun_at interface.now.facts.funs call.now.fun).effects row.old.fields }
+    requires { EachNew IsDraftWord call.now good.now (fun_at interface.now.facts.funs call.now.fun).effects row.old.fields }
     ensures { row.new ≡ row_after interface.now.facts call.now good.now row.old }
 {
     let fun = interface.fun(call.fun);

@@ -2,7 +2,7 @@
 ghost use Rattle.std.specs.Prelude.{◌≡◌, ◌<◌, length, map, slice_set};
 ghost use Rattle.sg_base.specs.declared.value.Value.TheVariants.{Word};
 ghost use Rattle.sg_facts.specs.Track.{arg_at, effect_of, field_at, fields_after, first_word, word_of};
-ghost use Rattle.sg_track.specs.Drafts.{EachNew, IsNumber};
+ghost use Rattle.sg_track.specs.Drafts.{EachNew, IsDraftWord};
 
 use sg_base::{Call, Good, Value};
 use sg_facts::{Effect, Fields};
@@ -39,7 +39,7 @@ pub(crate) fn first_word(good: &Good) -> u64
 
 /// Does to the fields of a row what effects do, where these come to numbers alone. It takes no memory.
 pub(crate) fn set_words(fields: &mut Fields, effects: &[(u8, Effect)], call: &Call, good: &Good)
-    requires { EachNew IsNumber call.now good.now (map (λ p. (p.0, p.1)) effects.now) fields.old }
+    requires { EachNew IsDraftWord call.now good.now (map (λ p. (p.0, p.1)) effects.now) fields.old }
     ensures { fields.new ≡ fields_after call.now good.now (map (λ p. (p.0, p.1)) effects.now) fields.old }
 {
     match effects {
@@ -53,7 +53,7 @@ pub(crate) fn set_words(fields: &mut Fields, effects: &[(u8, Effect)], call: &Ca
 
 // Does to a field what an effect does; nothing where there is no such field.
 fn set_word(fields: &mut Fields, at: usize, effect: Effect, call: &Call, good: &Good)
-    requires { at < length fields.old → IsNumber (effect_of call.now good.now effect (field_at fields.old at)) }
+    requires { at < length fields.old → IsDraftWord (effect_of call.now good.now effect (field_at fields.old at)) }
     ensures { fields.new ≡ slice_set fields.old at (effect_of call.now good.now effect (field_at fields.old at)) }
 {
     if at < fields.len() {
@@ -64,7 +64,7 @@ fn set_word(fields: &mut Fields, at: usize, effect: Effect, call: &Call, good: &
 
 // The number that an effect makes of a field.
 fn new_word(old: &Value, effect: Effect, call: &Call, good: &Good) -> u64
-    requires { IsNumber (effect_of call.now good.now effect old.now) }
+    requires { IsDraftWord (effect_of call.now good.now effect old.now) }
     ensures { Word result ≡ effect_of call.now good.now effect old.now }
 {
     match effect {

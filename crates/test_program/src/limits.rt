@@ -69,12 +69,12 @@ fn refuses_longer_inputs(rt: HostRuntime) -> Result<(), Fail> {
     Ok(())
 }
 
-// The input of so many calls, each on a line of its own behind the first.
-fn input_of_calls(alloc: Global, calls: usize) -> Result<Vec<u8>, AllocError> {
+// The input of a call so many times, each on a line of its own behind the first.
+fn input_of_calls(alloc: Global, call: &[u8], calls: usize) -> Result<Vec<u8>, AllocError> {
     let front = joined(alloc, LOCK, DIVIDER)?;
     let mut input = joined(alloc, &front, b"client 1 {\n")?;
     for _ in 0..calls {
-        input.extend_from_slice(b"lock_free(1);\n")?;
+        input.extend_from_slice(call)?;
     }
     joined(alloc, &input, b"}\n")
 }
@@ -87,10 +87,24 @@ fn takes_65536_calls(rt: HostRuntime) -> Result<(), Fail> {
         writeln!(report, "c1.{call} lock_free(1) = refused NoDesc")?;
     }
     report.push_str("client 1 done\ncalls 65536 boots 1 replays 0\n")?;
-    let most = input_of_calls(alloc, 65_536)?;
+    let most = input_of_calls(alloc, b"lock_free(1);\n", 65_536)?;
     assert!(rt; answers(alloc, "sim", &most, Done, report.as_bytes())?);
-    let more = input_of_calls(alloc, 65_537)?;
+    let more = input_of_calls(alloc, b"lock_free(1);\n", 65_537)?;
     let line = b"script refused at 65538:1: Limit\n";
     assert!(rt; answers(alloc, "sim", &more, Refused, line)?);
+    Ok(())
+}
+
+#[test]
+fn refuses_the_1025th_lock(rt: HostRuntime) -> Result<(), Fail> {
+    let alloc = rt.alloc();
+    let mut report = String::new(alloc);
+    for call in 1..1_025 {
+        writeln!(report, "c1.{call} lock_alloc() = ok #{call}")?;
+    }
+    report.push_str("c1.1025 lock_alloc() = refused Full\n")?;
+    report.push_str("client 1 done\ncalls 1025 boots 1 replays 0\n")?;
+    let input = input_of_calls(alloc, b"lock_alloc();\n", 1_025)?;
+    assert!(rt; answers(alloc, "sim", &input, Done, report.as_bytes())?);
     Ok(())
 }
