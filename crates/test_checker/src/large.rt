@@ -4,11 +4,12 @@ ghost use Rattle.sg_facts.specs.Facts.{facts_of};
 ghost use Rattle.sg_check.specs.Shapes.{is_shape};
 
 use crate::answers::answer;
-use crate::interfaces::interface;
 use sg_check::CheckKind::NoWalk;
+use sg_check::check;
 use sg_facts::{Effect, FieldShape, FunShape, Kind, Leaves, Parents, Service, Shape};
 use sg_lock::LockService;
-use sg_reach::reachable;
+use sg_parse::parse;
+use sg_stub::compile;
 use std::alloc::{AllocError, Global};
 use std::test::Fail;
 use test_interfaces::LOCK;
@@ -302,12 +303,31 @@ const MARKS: &[u8] = b"int f02(spdid_t s, long desc(id), long desc_data(a));\n\
 int f03(spdid_t s, long desc(id), long desc_data(b));\n\
 desc_data_retval(int, a) f04(spdid_t s, long desc(id), long n);\n";
 
-// The number of triples of an interface that declares the first two of these functions, and all transitions: 2 creations, 32
-// states and 16 sets of fields.
-fn triples_of_two_creations(alloc: Global) -> Result<usize, Fail> {
-    let declared = interface(alloc, setting_shape(), 0b11, &PAIRS, &[])?;
-    let triples = reachable(alloc, &declared)?;
-    Ok(triples.len())
+// The text of the functions that set all fields, with their transitions and recover steps.
+fn setting_text(alloc: Global) -> Result<Vec<u8>, Fail> {
+    let mut text = Vec::new(alloc);
+    text.extend_from_slice(HEAD)?;
+    for fun in &SETTING {
+        text.extend_from_slice(b"sm_creation(")?;
+        text.extend_from_slice(fun.name)?;
+        text.extend_from_slice(b");\nlong ")?;
+        text.extend_from_slice(fun.name)?;
+        text.extend_from_slice(
+            b"(spdid_t s, long desc_data(a), long desc_data(b), long desc_data(c), long desc_data(d));\n",
+        )?;
+    }
+    add_pairs(&mut text, b"sm_transition(", &SETTING, &SETTING)?;
+    add_pairs(&mut text, b"sm_recover(", &SETTING, &SETTING)?;
+    Ok(text)
+}
+
+// The number of lines of the tables of the widest interface: 32 creations, 32 states and 16 sets of fields.
+fn lines_of_the_widest(alloc: Global) -> Result<usize, Fail> {
+    let text = setting_text(alloc)?;
+    let tree = parse(alloc, text.as_slice())?;
+    let accepted = check(alloc, &tree, &[setting_shape()])?;
+    let tables = compile(alloc, &accepted)?;
+    Ok(tables.lines().len())
 }
 
 // Locks, with a transition again and again, as many as there is room for in so many bytes.
@@ -336,7 +356,7 @@ fn large_services_and_long_texts(rt: HostRuntime) -> Result<(), Fail> {
     let marking = large_text(alloc, MARKS, &MARKING[4..], &MARKING)?;
     let given = answer(alloc, marking.as_slice(), &[marking_shape()])?;
     assert_eq!(rt; given, Some((NoWalk, 7, 26)));
-    assert_eq!(rt; triples_of_two_creations(alloc)?, 1024);
+    assert_eq!(rt; lines_of_the_widest(alloc)?, 16_384);
     for bytes in [16_384, 32_768, 65_536] {
         assert!(rt; is_accepted(alloc, bytes)?, "of {bytes} bytes");
     }
