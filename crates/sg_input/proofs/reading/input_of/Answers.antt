@@ -15,5 +15,5 @@ returns-in-Accepted c =
     } in
     IfOk-weaker c.read_script.result _ (IsInputOf (map facts_of c.args.shapes.now) c.args.input.now)
     (λ made h. h c.args.input.now c.in-Some.interface.now (map facts_of c.args.shapes.now) texts
-    (subst (IsExamined (map facts_of c.args.shapes.now) c.in-Some.interface.now) c.in-Accepted.is c.in_ok-accepted.ensures))
+    (subst (IsExamined (map facts_of c.args.shapes.now) c.in-Some.interface.now) c.in-Accepted.is c.in_ok-accepted.ensures.answer))
     c.read_script.ensures
