@@ -212,6 +212,26 @@ answered said source source' sink sink' status ended command wanted output one i
   writes = writes;
 }
 
+-- the words are no command's
+pub other_answer : (said : Command → Type 0) (source sink : Ends) (status : Status) (ended : Option Ended) → ((command : Command) → said command → ⊥)
+    → status ≡ OtherWords → ended ≡ None → IsAnswer said source source sink sink status ended
+other_answer said source sink status ended nothing other none = record {
+  words = λ is. (nothing, record { told = refl; faults = refl }, record { told = refl; faults = refl }, none);
+  other_words = λ unsaid. other;
+  done = λ is. absurd (cc (is, other));
+  refused = λ is. absurd (cc (is, other));
+  refuses = λ c said_c. absurd (nothing c said_c);
+  read_fault = λ is. absurd (cc (is, other));
+  only_read_fault = λ rose. no_rise source.faults source.faults refl rose;
+  write_fault = λ is. absurd (cc (is, other));
+  only_write_fault = λ rose. no_rise sink.faults sink.faults refl rose;
+  no_memory = λ is. absurd (cc (is, other));
+  played = λ is sim. absurd (cc (is, other));
+  only_played = λ some. absurd (no_run ended none some);
+  reads = omega arith;
+  writes = omega arith;
+}
+
 -- a read failed
 pub read_failed : (said : Command → Type 0) (source source' sink : Ends) (status : Status) (ended : Option Ended) (command : Command) → said command
     → status ≡ ReadFault → ended ≡ None → Rose source.faults source'.faults → source.faults ≤ source'.faults → IsAnswer said source source' sink sink status ended

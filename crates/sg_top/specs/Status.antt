@@ -1,7 +1,7 @@
 -- The numbers of statuses, and the status of a program whose words can't be had.
 use Rattle.std.specs.Prelude.{ℕ}
-use Rattle.std_io.specs.declared.io.error.ErrorKind.{ErrorKind}
-use Rattle.std_io.specs.declared.io.error.ErrorKind.TheVariants.{OutOfMemory}
+use Rattle.std.specs.declared.io.ErrorKind.{ErrorKind}
+use Rattle.std.specs.declared.io.ErrorKind.TheVariants.{OutOfMemory}
 use Rattle.sg_top.specs.declared.status.Status.{Status}
 use Rattle.sg_top.specs.declared.status.Status.TheVariants.{Done, OtherWords, Refused, ReadFault, WriteFault, NoMemory}
 

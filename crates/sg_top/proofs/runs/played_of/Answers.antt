@@ -1,7 +1,6 @@
 -- The run is as played, the client is done, and the report is that of the run.
-use Rattle.std.proofs.Common.{false, cond, [], ◌∷◌, sym, ◌∙◌, ap, subst}
+use Rattle.std.proofs.Common.{cond, [], ◌∷◌, sym, ◌∙◌, ap, subst}
 use Rattle.sg_hist.specs.declared.ended.End.TheVariants.{Done}
-use Rattle.sg_report.specs.Report.{report_of}
 use Rattle.sg_top.specs.Headline.{IsRunOf}
 use Rattle.sg_top.proofs.Ended.{are_ends}
 use Rattle.sg_top.proofs.runs.played_of.Goals as goal

@@ -1,9 +1,12 @@
 -- What was read, and what was done with it, is the answer.
 use Rattle.std.proofs.Common.{◌∙◌, ap, subst, refl, Ok, Err}
 use Rattle.sg_edge.specs.Intake.{TakesIn}
-use Rattle.sg_top.proofs.Answers.{whole_answer, too_long_answer, read_failed, without_memory}
+use Rattle.sg_top.proofs.Answers.{other_answer, whole_answer, too_long_answer, read_failed, without_memory}
 use Rattle.sg_top.proofs.Commands.{one_command}
 use Rattle.sg_top.proofs.top.serial.Goals as goal
+
+pub returns-in_default-clause-answer : goal.returns-in_default-clause-answer
+returns-in_default-clause-answer g c = other_answer _ _ _ _ _ c.in_default.ensures c.without_run.ensures.status c.without_run.ensures.ended
 
 pub returns-in-Ok-Whole-clause-answer : goal.returns-in-Ok-Whole-clause-answer
 returns-in-Ok-Whole-clause-answer g c =
