@@ -10,18 +10,16 @@ use std::process::ExitCode;
 
 // Does with standard input what the words say, and ends with the number of the status.
 fn main(rt: HostRuntime) -> ExitCode {
-    ExitCode::from(status(&rt).number())
-}
-
-// The status of the program's words, standard input and standard output.
-fn status(rt: &HostRuntime) -> Status {
-    let words = match words(rt) {
-        Ok(words) => words,
-        Err(error) => return Status::without_words(error.kind()),
+    let status = match words(&rt) {
+        Ok(words) => {
+            let mut input = StdSource::new(rt.stdin());
+            let mut output = StdSink::new(rt.stdout());
+            let answer = superglue(&rt, rt.alloc(), &words, &mut input, &mut output, &OpenGate);
+            answer.status
+        }
+        Err(error) => Status::without_words(error.kind()),
     };
-    let mut input = StdSource::new(rt.stdin());
-    let mut output = StdSink::new(rt.stdout());
-    superglue(rt, rt.alloc(), &words, &mut input, &mut output, &OpenGate).status
+    ExitCode::from(status.number())
 }
 
 // The words after the program's name.
