@@ -1,6 +1,4 @@
 // The walks by which descriptors are rebuilt.
-ghost use Rattle.std.specs.Prelude.{◌≤◌, length};
-
 use crate::interfaces::{Pairs, interface};
 use sg_base::NoMemory;
 use sg_event::event_shape;
@@ -147,13 +145,13 @@ static BARRED_STEPS: [(u8, u8); 2] = [(1, 8), (1, 9)];
 
 static BARRED_CASES: [Case; 1] = [(1, 6, 0, None)];
 
-// A walk of these functions.
-fn walk(funs: &[u8]) -> Result<Walk, NoMemory>
-    requires { length funs.now ≤ 8 }
-{
+// A walk of the first eight of these functions.
+fn walk(funs: &[u8]) -> Result<Walk, NoMemory> {
     let mut walk = Walk::new();
-    'funs: for fun in funs {
-        walk.push(*fun)?;
+    for fun in funs {
+        if walk.len() < Walk::MOST {
+            walk.push(*fun)?;
+        }
     }
     Ok(walk)
 }
