@@ -5,7 +5,7 @@ use Rattle.std.specs.Option.{option_map}
 use Rattle.sg_base.specs.declared.value.Value.TheVariants.{Word}
 use Rattle.sg_facts.specs.Track.{cleared, field_at}
 use Rattle.sg_lock.specs.LockFacts.{lock_facts}
-use Rattle.sg_track.specs.Drafts.{IsNumber}
+use Rattle.sg_track.specs.Drafts.{IsDraftWord}
 use Rattle.sg_track.specs.Tracked.{MayTrack, Tracked}
 use Rattle.test_tracker.specs.Answered.{HasOwner, asked}
 use Rattle.test_histories.specs.Written.{ok_at}
@@ -25,7 +25,7 @@ may_release t client id owner has = record {
   changes = λ query makes ends r there.
       let found : Some (field_at r.fields 0) ≡ Some (Word owner) = ap (option_map (λ x. field_at x.fields 0)) (sym there) ∙ has in
       let number : field_at r.fields 0 ≡ Word owner = cc found in
-      (λ within. subst (λ v. IsNumber (cleared v)) (sym number) (omega arith), tt);
+      (λ within. subst (λ v. IsDraftWord (cleared v)) (sym number) (omega arith), tt);
 }
 
 pub may_free : (t : Tracked) (client id : ℕ) → MayTrack lock_facts t (asked client 4 id []) (ok_at 0)
