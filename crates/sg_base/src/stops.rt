@@ -1,6 +1,7 @@
 // The points of a run, and who says at which of them the service stops.
 ghost use Rattle.std.specs.Prelude.{◌≡◌, ◌+◌, ◌≤◌, ℕ, List, [], false};
-ghost use Rattle.sg_base.specs.Stops.{most_asked, asked_after, struck_after};
+ghost use Rattle.sg_base.specs.Counts.{last_count};
+ghost use Rattle.sg_base.specs.Stops.{asked_after, struck_after};
 
 /// A point of a run at which a service may stop.
 #[derive(Clone, Copy, Debug, PartialEq, Eq)]
@@ -35,7 +36,7 @@ pub trait Stops: Drop {
     fn strikes(&mut self, point: Point) -> bool
         ensures asked { asked self.new ≡ asked_after (asked self.old) 1 }
         ensures struck { struck self.new ≡ struck_after (struck self.old) (asked self.new) result }
-        ensures last { most_asked ≤ asked self.old → result ≡ false }
+        ensures last { last_count ≤ asked self.old → result ≡ false }
         ensures plan { plan self.new ≡ plan self.old }
         ensures test { test (asked self.old) (struck self.old) (plan self.old) → test (asked self.new) (struck self.new) (plan self.new) };
 

@@ -5,6 +5,7 @@ use Rattle.sg_facts.specs.declared.shape.Leaves.{Leaves}
 use Rattle.sg_facts.specs.declared.shape.Leaves.TheVariants.{Own, Same, Of}
 use Rattle.sg_facts.specs.Facts.{Facts}
 use Rattle.sg_facts.specs.Interface.{Declared}
+use Rattle.sg_facts.specs.Limits.{most_fields, most_funs}
 use Rattle.sg_check_statements.specs.Names.{has_name}
 
 -- whether a number is that of one of so many functions
@@ -26,17 +27,17 @@ abbrev pub all_differ : List (List ℕ) → Bool
 all_differ [] = true
 all_differ (name ∷ names) = not (has_name names name) && all_differ names
 
--- whether a shape is within the limits, 32 functions and 4 fields, and its numbers and names name its own functions
+-- whether a shape is within the limits of functions and fields, and its numbers and names name its own functions
 abbrev pub is_shape : Facts → Bool
 is_shape facts =
     let count = length facts.funs in
-    nat_le count 32 && nat_le (length facts.fields) 4 && all_differ (map (λ f. f.name) facts.funs)
+    nat_le count most_funs && nat_le (length facts.fields) most_fields && all_differ (map (λ f. f.name) facts.funs)
     && list_all (are_funs count) facts.moves && list_all (are_funs count) facts.steps && list_all (λ f. leaves_fun count f.leaves) facts.funs
 
 -- an interface is of a shape within the limits
 pub record IsSmall (i : Declared) : Type 0 where
-  pub funs : length i.facts.funs ≤ 32
-  pub fields : length i.facts.fields ≤ 4
+  pub funs : length i.facts.funs ≤ most_funs
+  pub fields : length i.facts.fields ≤ most_fields
 
 -- whether all are shapes within the limits
 abbrev pub are_shapes : List Facts → Bool

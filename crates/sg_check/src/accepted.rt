@@ -3,7 +3,7 @@ use sg_facts::Interface;
 use std::marker::Model;
 
 /// An accepted interface: what a text declares, and nothing else. Every descriptor can be recovered in every state that it
-/// can come to. Only the checker makes one. Its shape has at most 32 functions and 4 fields. Contracts see the interface.
+/// can come to. Only the checker makes one. Its shape has at most `MOST_FUNS` functions and `MOST_FIELDS` fields. Contracts see the interface.
 #[derive(Debug, Drop)]
 pub struct Accepted {
     iface: Interface,

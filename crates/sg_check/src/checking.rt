@@ -24,7 +24,7 @@ use sg_reach::reachable;
 use std::alloc::Global;
 
 /// The interface that a text declares of one of these shapes, where nothing is wrong with it; else, of the kinds that are,
-/// the first in the order of `CheckKind`, at its first place in the text. A shape has at most 32 functions and 4 fields, its
+/// the first in the order of `CheckKind`, at its first place in the text. A shape has at most `MOST_FUNS` functions and `MOST_FIELDS` fields, its
 /// numbers name its own functions, and no two of its functions have one name. Where there is no memory for the work, the error
 /// is `NoMemory`.
 pub fn check(alloc: Global, tree: &Tree, shapes: &[Shape]) -> Result<Accepted, CheckError>

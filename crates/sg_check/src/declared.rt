@@ -2,6 +2,7 @@
 ghost use Rattle.std.specs.Prelude.{◌≡◌, ◌≤◌, ◌<◌, ◌^◌, length, map, filter, IfOk, codes};
 ghost use Rattle.sg_facts.specs.Facts.{facts_of, fun_at, fun_of_shape};
 ghost use Rattle.sg_facts.specs.Fields.{number_of};
+ghost use Rattle.sg_facts.specs.Limits.{most_funs};
 ghost use Rattle.sg_check_statements.specs.Faults.{interface_of};
 ghost use Rattle.sg_check_statements.specs.Says.{has_proto, says_of};
 
@@ -12,13 +13,13 @@ use sg_grammar::Statement;
 use std::alloc::Global;
 
 /// The interface that statements declare of a shape: the functions that have a prototype, and those of the shape's
-/// transitions and recover steps that a statement names. A shape has at most 32 functions.
+/// transitions and recover steps that a statement names. A shape has at most `MOST_FUNS` functions.
 pub fn interface_of(
     alloc: Global,
     shape: &Shape,
     statements: &[Statement],
 ) -> Result<Interface, NoMemory>
-    requires { length shape.now.funs.now ≤ 32 }
+    requires { length shape.now.funs.now ≤ most_funs }
     ensures { IfOk result (λ i. i ≡ interface_of (facts_of shape.now) statements.now) }
 {
     let protos = Protos::of(alloc, statements)?;
@@ -30,9 +31,9 @@ pub fn interface_of(
     })
 }
 
-// Which of at most 32 functions have a prototype: bit f - 1 for function f.
+// Which of at most `MOST_FUNS` functions have a prototype: bit f - 1 for function f.
 fn declared_in(funs: &[FunShape], protos: &Protos) -> u32
-    requires { length funs.now ≤ 32 }
+    requires { length funs.now ≤ most_funs }
     ensures declared { result ≡ number_of (map (λ f. has_proto protos.now f.name) (map fun_of_shape funs.now)) }
     ensures bound { result < 2 ^ length funs.now }
 {

@@ -1,11 +1,8 @@
 -- What a call does to the count of faults and to the bytes of a source or a sink.
-use Rattle.std.specs.Prelude.{ℕ, ◌+◌, ◌-◌, ◌^◌, ◌<◌, ◌≤◌, ◌≡◌, ◌⊎◌, List, length, min}
+use Rattle.std.specs.Prelude.{ℕ, ◌+◌, ◌<◌, ◌≤◌, ◌≡◌, ◌⊎◌, List, length, min}
 use Rattle.std.specs.Io.KnownBytes.{Consumes}
 use Rattle.std.specs.declared.option.Option.{Option}
-
--- the end of a count, at which it stands still
-abbrev pub last_count : ℕ
-last_count = 2 ^ 64 - 1
+use Rattle.sg_base.specs.Counts.{last_count}
 
 -- one more, up to the end of the count
 abbrev pub one_more : ℕ → ℕ

@@ -3,7 +3,8 @@ ghost use Rattle.std.specs.Prelude.{◌≡◌, ◌==◌, ◌↔◌, ◌<◌, ◌
 ghost use Rattle.std.specs.List.{list_any};
 ghost use Rattle.std.specs.Io.{ReadsAtMost};
 ghost use Rattle.std.specs.Io.KnownBytes.{ReadConsumes, WriteAppends};
-ghost use Rattle.sg_edge.specs.Edge.{Rose, TakesSome, last_count, one_more};
+ghost use Rattle.sg_base.specs.Counts.{last_count};
+ghost use Rattle.sg_edge.specs.Edge.{Rose, TakesSome, one_more};
 ghost use Rattle.sg_edge.specs.Memory.{Calls, fresh_calls, next_fails, passed, failed, ReadsFront, WritesFront};
 
 use crate::{Failed, Sink, Source};

@@ -1,3 +1,4 @@
 pub mod EventFacts
 pub mod EventSound
 pub mod EventTable
+pub mod EventWalkLaw

@@ -1,6 +1,14 @@
 -- The limits of every run, each by its name.
 use Rattle.std.specs.Prelude.{ℕ, ◌^◌}
 
+-- the greatest number of functions of a service
+abbrev pub most_funs : ℕ
+most_funs = 32
+
+-- the greatest number of fields of a row
+abbrev pub most_fields : ℕ
+most_fields = 4
+
 -- the greatest number of a client; the first is 1
 abbrev pub last_client : ℕ
 last_client = 64

@@ -34,7 +34,7 @@ mod words;
 pub use entry::Entry;
 pub use interface::Interface;
 pub use laws::legal_from_the_front;
-pub use limits::{LAST_CLIENT, MOST_LIVE, MOST_PATH, MOST_WRITTEN};
+pub use limits::{LAST_CLIENT, MOST_FIELDS, MOST_FUNS, MOST_LIVE, MOST_PATH, MOST_WRITTEN};
 pub use outcome::{Outcome, Patch, PatchRoom};
 pub use row::{Fields, FieldsRoom, Row};
 pub use service::Service;

@@ -1,5 +1,11 @@
 // The limits of every run that code speaks of.
 
+/// The greatest number of functions of a service.
+pub const MOST_FUNS: u8 = 32;
+
+/// The greatest number of fields of a row.
+pub const MOST_FIELDS: u8 = 4;
+
 /// The greatest number of a client; the first is 1.
 pub const LAST_CLIENT: u8 = 64;
 

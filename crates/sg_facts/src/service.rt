@@ -5,7 +5,7 @@ ghost use Rattle.sg_facts.specs.Object.{Object, empty_object};
 ghost use Rattle.sg_facts.specs.Legal.{Table};
 ghost use Rattle.sg_facts.specs.Kinds.{MayAsk};
 ghost use Rattle.sg_facts.specs.Invoke.{Invokes, FitsRoom, loaded};
-ghost use Rattle.sg_facts.specs.Laws.{AnswersAndKeeps, AnswersAlike, BlockedStays, ShapeAllows, CountsSlowly};
+ghost use Rattle.sg_facts.specs.Laws.{AnswersAndKeeps, AnswersAlike, BlockedStays, ShapeAllows, CountsSlowly, WalkGoesOn};
 
 use crate::{Outcome, Shape};
 use sg_base::{Call, NoMemory, Path, Stops};
@@ -60,6 +60,9 @@ pub trait Service: Sized + Drop {
 
     /// It answers alike from whatever serves a call, under other ids too.
     ghost answers_alike: { AnswersAlike facts ask sound };
+
+    /// The next call of a walk is answered Ok, and brings its row one step on.
+    ghost walk_goes_on: { WalkGoesOn facts ask sound };
 
     /// Who is blocked stays so until a wake-up on the same descriptor, or its end.
     ghost blocked_stays: { BlockedStays facts ask sound };

@@ -4,7 +4,7 @@ use Rattle.std.specs.Prelude.{ℕ, ◌≡◌, ◌≢◌, ◌⊎◌, ◌+◌, ◌
 use Rattle.std.specs.declared.option.Option.{Option}
 use Rattle.std.specs.List.{Contains, flat_map, list_all, list_any}
 use Rattle.sg_base.specs.Lists.{Each, When}
-use Rattle.sg_base.specs.Stops.{most_asked}
+use Rattle.sg_base.specs.Counts.{last_count}
 use Rattle.sg_base.specs.declared.call.Call.{Call}
 use Rattle.sg_base.specs.declared.reply.Reply.{Reply}
 use Rattle.sg_base.specs.declared.reply.Reply.TheVariants.{Ok, Refused}
@@ -386,4 +386,4 @@ pub record IsRecovered (s : Stubs) (history : List Entry) (run : Run) (unanswere
   -- no call reaches the service where what it needs is missing there, or isn't as it is tracked
   pub tracked_state : Each (λ p. IsTrackedAt s.facts s.walks history p p.item.tag) (places_of run)
   -- no point is left out or asked twice, and no stop is at another than the last that was asked
-  pub points : (nat_lt run.points most_asked ≡ true) → ArePointsOf true s.facts s.parts 0 run.boots run.points
+  pub points : (nat_lt run.points last_count ≡ true) → ArePointsOf true s.facts s.parts 0 run.boots run.points

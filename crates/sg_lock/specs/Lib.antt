@@ -8,3 +8,4 @@ pub mod LockShapeLaw
 pub mod LockSound
 pub mod LockSoundLaw
 pub mod LockTable
+pub mod LockWalkLaw

@@ -13,6 +13,7 @@ ghost use Rattle.sg_lock.specs.LockBlockedLaw.{lock_blocked_stays};
 ghost use Rattle.sg_lock.specs.LockShapeLaw.{lock_shape_allows, lock_counts_slowly};
 ghost use Rattle.sg_lock.specs.LockSound.{IsLockSound};
 ghost use Rattle.sg_lock.specs.LockSoundLaw.{lock_answers_and_keeps};
+ghost use Rattle.sg_lock.specs.LockWalkLaw.{lock_walk_goes_on};
 ghost use Rattle.sg_lock.specs.LockDecision.{on_allocate, on_take, on_release, on_free, set_owner};
 
 use crate::Lock;
@@ -64,6 +65,8 @@ impl Service for LockService {
     ghost answers_and_keeps = { lock_answers_and_keeps };
 
     ghost answers_alike = { lock_answers_alike };
+
+    ghost walk_goes_on = { lock_walk_goes_on };
 
     ghost blocked_stays = { lock_blocked_stays };
 

@@ -1,3 +1,4 @@
 pub mod MmFacts
 pub mod MmSound
 pub mod MmTable
+pub mod MmWalkLaw

@@ -1,3 +1,4 @@
 pub mod RamfsFacts
 pub mod RamfsSound
 pub mod RamfsTable
+pub mod RamfsWalkLaw

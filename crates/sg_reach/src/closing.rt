@@ -3,6 +3,7 @@ ghost use Rattle.std.specs.Prelude.{◌≡◌, ◌≤◌, ◌^◌, ℕ, true, le
 ghost use Rattle.std.specs.List.{Contains};
 ghost use Rattle.sg_facts.specs.Facts.{fun_at};
 ghost use Rattle.sg_facts.specs.Interface.{moves_on};
+ghost use Rattle.sg_facts.specs.Limits.{most_fields};
 ghost use Rattle.sg_reach.specs.Limits.{HasFourFields};
 ghost use Rattle.sg_reach.specs.declared.place.Place.{Place as OnePlace};
 ghost use Rattle.sg_reach.specs.Inside.Places.{AddsJust, AreReached, IsMadeAt, IsClosed, IsLed, LeadsTo, LeadsBy};
@@ -21,7 +22,7 @@ fn add_led(
     old: u8,
     state: u8,
 ) -> Result<(), NoMemory>
-    requires { count ≤ 4 }
+    requires { count ≤ most_fields }
     ensures { OnOk result (AddsJust (IsLed (map (λ p. (p.0, p.1)) effects.now) count old state) found.old found.new) }
 {
     'masks: for mask in 0..set_count(count) {
@@ -104,7 +105,7 @@ fn field_count(iface: &Interface) -> u8
 
 // The number of sets of so many fields.
 fn set_count(fields: u8) -> u8
-    requires { fields ≤ 4 }
+    requires { fields ≤ most_fields }
     ensures value { result ≡ 2 ^ fields }
     ensures few { result ≤ 16 }
 {

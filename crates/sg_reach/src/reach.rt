@@ -1,6 +1,7 @@
 // All that descriptors can come to.
 ghost use Rattle.std.specs.Prelude.{◌≡◌, ◌↔◌, ◌≤◌, IfOk, OnOk, OnErr};
 ghost use Rattle.std.specs.List.{Contains};
+ghost use Rattle.sg_facts.specs.Limits.{most_funs};
 ghost use Rattle.sg_reach.specs.Limits.{HasFourFields};
 ghost use Rattle.sg_reach.specs.declared.place.Place.{Place as OnePlace};
 ghost use Rattle.sg_reach.specs.declared.place.Triple.{Triple as OneTriple};
@@ -18,14 +19,14 @@ use std::alloc::Global;
 pub type TripleList = ListOf<Triple>;
 
 /// All that descriptors can come to: each declared creation, with each state and each set of fields that its descriptors
-/// reach by declared calls. The rows have at most 4 fields.
+/// reach by declared calls. The rows have at most `MOST_FIELDS` fields.
 pub fn reachable(alloc: Global, iface: &Interface) -> Result<TripleList, NoMemory>
     requires few { HasFourFields iface.now }
     ensures only { IfOk result (λ triples. (t : OneTriple) → Contains triples t → IsReachedTriple iface.now t) }
     // Each is listed once.
     ensures once { IfOk result AreDistinct }
-    // Function numbers are at most 32.
-    ensures all { IfOk result (λ triples. (t : OneTriple) → t.made ≤ 32 → IsReachedTriple iface.now t → Contains triples t) }
+    // Function numbers are at most `MOST_FUNS`.
+    ensures all { IfOk result (λ triples. (t : OneTriple) → t.made ≤ most_funs → IsReachedTriple iface.now t → Contains triples t) }
 {
     let mut triples = TripleList::new(alloc);
     'made: for made in 1..33 {

@@ -1,3 +1,4 @@
 pub mod SchedFacts
 pub mod SchedSound
 pub mod SchedTable
+pub mod SchedWalkLaw

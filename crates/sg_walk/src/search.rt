@@ -10,10 +10,7 @@ use crate::spot::{Goal, Spot};
 use crate::step_set::StepSet;
 use crate::steps::{go_on, is_goal};
 use sg_base::NoMemory;
-use sg_facts::{Interface, Walk};
-
-// The greatest number of a function that an interface can declare.
-const MOST_FUNS: u8 = 32;
+use sg_facts::{Interface, MOST_FUNS, Walk};
 
 /// What is sought, and by which recover steps.
 #[derive(Clone, Copy, Debug)]

@@ -3,6 +3,7 @@ use Rattle.std.specs.Prelude.{ℕ, ◌≡◌, ◌≤◌, ◌==◌, ◌↔◌, �
 use Rattle.std.specs.List.{Contains, list_any}
 use Rattle.sg_facts.specs.Fits.{IsReached, needs_reach}
 use Rattle.sg_facts.specs.Interface.{Declared}
+use Rattle.sg_facts.specs.Limits.{most_funs}
 use Rattle.sg_reach.specs.declared.place.Triple.{Triple}
 use Rattle.sg_reach.specs.Triples.{IsReachedTriple}
 use Rattle.sg_check_statements.specs.Flaws.{IsUnreached}
@@ -25,8 +26,8 @@ is_reached i states fun = list_any (λ p. p.1 == fun) i.steps || list_any (λ p.
 abbrev pub is_unreached : Declared → List ℕ → ℕ → Bool
 is_unreached i states fun = needs_reach i fun && not (is_reached i states fun)
 
--- these are, of the numbers up to 32, those of the functions that are to be reached and aren't; and it is known of each
+-- these are, of the numbers that a function may have, those of the functions that are to be reached and aren't; and it is known of each
 -- function whether it is reached
 pub record AreUnreached (i : Declared) (numbers : List ℕ) : Type 0 where
-  pub are : (fun : ℕ) → fun ≤ 32 → (has_number numbers fun ≡ true) ↔ IsUnreached i fun
+  pub are : (fun : ℕ) → fun ≤ most_funs → (has_number numbers fun ≡ true) ↔ IsUnreached i fun
   pub known : (fun : ℕ) → IsReached i fun ⊎ (IsReached i fun → ⊥)
