@@ -1,2 +1,3 @@
 pub mod LastLine
 pub mod OneVerdict
+pub mod PlacedLine

@@ -1,7 +1,6 @@
 -- The facts of the event service, as its standard interface states them.
 use Rattle.std.specs.Prelude.{true, false, [], ◌∷◌, codes}
-use Rattle.sg_facts.specs.Facts.{Facts, Fun, no_fun}
-use Rattle.sg_facts.specs.declared.shape.Parents.TheVariants.{Never}
+use Rattle.sg_facts.specs.Facts.{Facts, Fun, no_facts, no_fun}
 use Rattle.sg_facts.specs.declared.shape.Kind.TheVariants.{Desc, Word}
 use Rattle.sg_facts.specs.declared.shape.Leaves.TheVariants.{Same}
 use Rattle.sg_facts.specs.declared.shape.Effect.TheVariants.{AddArg, SubOne}
@@ -30,14 +29,10 @@ evt_free = record no_fun { name = codes "evt_free"; kinds = Desc ∷ []; termina
 
 -- the facts of the service: a global one, without parents and files
 abbrev pub event_facts : Facts
-event_facts = record {
+event_facts = record no_facts {
   name = codes "event";
-  parents = Never;
-  subtree = false;
-  global = true;
   block = true;
   has_data = true;
-  resc_data = false;
   fields = record { name = codes "count"; text = false } ∷ [];
   funs = evt_split ∷ evt_wait ∷ evt_trigger ∷ evt_free ∷ [];
   moves = (1, 2) ∷ (1, 3) ∷ (1, 4) ∷ [];

@@ -5,6 +5,7 @@ use Rattle.std.specs.Int.{bit_at}
 use Rattle.sg_facts.specs.declared.shape.Shape.{Shape}
 use Rattle.sg_facts.specs.declared.shape.FunShape.{FunShape}
 use Rattle.sg_facts.specs.declared.shape.Parents.{Parents}
+use Rattle.sg_facts.specs.declared.shape.Parents.TheVariants.{Never}
 use Rattle.sg_facts.specs.declared.shape.Kind.{Kind}
 use Rattle.sg_facts.specs.declared.shape.Kind.TheVariants.{Desc, Parent}
 use Rattle.sg_facts.specs.declared.shape.Leaves.{Leaves}
@@ -117,6 +118,22 @@ no_fun = record {
   uses_file = false;
   leaves = Own;
   effects = [];
+}
+
+-- a service without functions: a global one, which blocks nobody, and whose descriptors have neither parents nor fields nor files
+abbrev pub no_facts : Facts
+no_facts = record {
+  name = [];
+  parents = Never;
+  subtree = false;
+  global = true;
+  block = false;
+  has_data = false;
+  resc_data = false;
+  fields = [];
+  funs = [];
+  moves = [];
+  steps = [];
 }
 
 -- the function of a number, from 1

@@ -1,7 +1,6 @@
 -- The facts of the lock service, as its standard interface states them.
 use Rattle.std.specs.Prelude.{true, false, [], ◌∷◌, codes}
-use Rattle.sg_facts.specs.Facts.{Facts, Fun, no_fun}
-use Rattle.sg_facts.specs.declared.shape.Parents.TheVariants.{Never}
+use Rattle.sg_facts.specs.Facts.{Facts, Fun, no_facts, no_fun}
 use Rattle.sg_facts.specs.declared.shape.Kind.TheVariants.{Desc}
 use Rattle.sg_facts.specs.declared.shape.Leaves.TheVariants.{Of}
 use Rattle.sg_facts.specs.declared.shape.Effect.TheVariants.{SetCaller, Clear}
@@ -30,14 +29,10 @@ lock_free = record no_fun { name = codes "lock_free"; kinds = Desc ∷ []; termi
 
 -- the facts of the service: a global one, without parents and files
 abbrev pub lock_facts : Facts
-lock_facts = record {
+lock_facts = record no_facts {
   name = codes "lock";
-  parents = Never;
-  subtree = false;
-  global = true;
   block = true;
   has_data = true;
-  resc_data = false;
   fields = record { name = codes "owner"; text = false } ∷ [];
   funs = lock_alloc ∷ lock_take ∷ lock_release ∷ lock_free ∷ [];
   moves = (1, 2) ∷ (1, 4) ∷ (2, 2) ∷ (2, 3) ∷ (2, 4) ∷ [];

@@ -1,6 +1,6 @@
 -- The facts of the memory mapping service, as its standard interface states them.
 use Rattle.std.specs.Prelude.{true, false, [], ◌∷◌, codes}
-use Rattle.sg_facts.specs.Facts.{Facts, Fun, no_fun}
+use Rattle.sg_facts.specs.Facts.{Facts, Fun, no_facts, no_fun}
 use Rattle.sg_facts.specs.declared.shape.Parents.TheVariants.{Cross}
 use Rattle.sg_facts.specs.declared.shape.Kind.TheVariants.{Desc, Parent, Word}
 use Rattle.sg_facts.specs.declared.shape.Effect.TheVariants.{SetCaller, SetArg}
@@ -35,16 +35,12 @@ mman_find = record no_fun { name = codes "mman_find"; kinds = Word ∷ Word ∷ 
 
 -- the facts of the service: a global one, whose pages may have parents of any client, which they go with; without files
 abbrev pub mm_facts : Facts
-mm_facts = record {
+mm_facts = record no_facts {
   name = codes "mm";
   parents = Cross;
   subtree = true;
-  global = true;
-  block = false;
   has_data = true;
-  resc_data = false;
   fields = record { name = codes "space"; text = false } ∷ record { name = codes "addr"; text = false } ∷ [];
   funs = mman_get_page ∷ mman_alias_page ∷ mman_release_page ∷ mman_find ∷ [];
   moves = (1, 3) ∷ (2, 3) ∷ [];
-  steps = [];
 }

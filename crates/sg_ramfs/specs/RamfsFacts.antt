@@ -1,6 +1,6 @@
 -- The facts of the file service, as its standard interface states them.
 use Rattle.std.specs.Prelude.{true, false, [], ◌∷◌, codes}
-use Rattle.sg_facts.specs.Facts.{Facts, Fun, no_fun}
+use Rattle.sg_facts.specs.Facts.{Facts, Fun, no_facts, no_fun}
 use Rattle.sg_facts.specs.declared.shape.Parents.TheVariants.{Same as SameClient}
 use Rattle.sg_facts.specs.declared.shape.Kind.TheVariants.{Desc, Parent, Word, Text}
 use Rattle.sg_facts.specs.declared.shape.Leaves.TheVariants.{Same}
@@ -40,12 +40,10 @@ trelease = record no_fun { name = codes "trelease"; kinds = Desc ∷ []; termina
 
 -- the facts of the service: a private one, whose descriptors may have parents of the same client, and files
 abbrev pub ramfs_facts : Facts
-ramfs_facts = record {
+ramfs_facts = record no_facts {
   name = codes "ramfs";
   parents = SameClient;
-  subtree = false;
   global = false;
-  block = false;
   has_data = true;
   resc_data = true;
   fields = record { name = codes "name"; text = true } ∷ record { name = codes "offset"; text = false } ∷ [];

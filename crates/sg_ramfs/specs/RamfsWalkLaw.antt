@@ -14,13 +14,14 @@ use Rattle.sg_facts.specs.Held.{set_of}
 use Rattle.sg_facts.specs.Interface.{Declared, has_pair}
 use Rattle.sg_facts.specs.Kinds.{kinds_fit}
 use Rattle.sg_facts.specs.Laws.{AnswersAndKeeps, WalkGoesOn, next_call}
+use Rattle.sg_facts.specs.Limits.{most_file, most_path}
 use Rattle.sg_facts.specs.Object.{Object}
 use Rattle.sg_facts.specs.Sound.{AreFields, IsRow}
 use Rattle.sg_facts.specs.Track.{empty_field, field_at, fields_after, row_at, word_of}
 use Rattle.sg_base.specs.declared.reply.Code.TheVariants.{BadName, TooBig}
 use Rattle.sg_facts.specs.Object.{first_text, path_of}
 use Rattle.sg_ramfs.specs.RamfsFacts.{ramfs_facts}
-use Rattle.sg_ramfs.specs.RamfsTable.{is_bad_name, most_file, most_path, ramfs_table, seek_answer, split_answer}
+use Rattle.sg_ramfs.specs.RamfsTable.{is_bad_name, ramfs_table, seek_answer, split_answer}
 use Rattle.sg_ramfs.specs.RamfsSound.{IsPlaced, IsRamfsSound}
 use Rattle.sg_walk_laws.proofs.Paths.{path_below}
 use Rattle.sg_walk_laws.specs.Replays.{AnswersCreations, AnswersReplays, AnswersSteps, IsAnsweredOk}

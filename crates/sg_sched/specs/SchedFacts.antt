@@ -1,7 +1,6 @@
 -- The facts of the thread service, as its standard interface states them.
 use Rattle.std.specs.Prelude.{true, false, [], ◌∷◌, codes}
-use Rattle.sg_facts.specs.Facts.{Facts, Fun, no_fun}
-use Rattle.sg_facts.specs.declared.shape.Parents.TheVariants.{Never}
+use Rattle.sg_facts.specs.Facts.{Facts, Fun, no_facts, no_fun}
 use Rattle.sg_facts.specs.declared.shape.Kind.TheVariants.{Desc, Word}
 use Rattle.sg_facts.specs.declared.shape.Leaves.TheVariants.{Same, Of}
 use Rattle.sg_facts.specs.declared.shape.Effect.TheVariants.{SetArg, SetRet}
@@ -52,14 +51,10 @@ sched_exit = record no_fun { name = codes "sched_exit"; kinds = Desc ∷ []; ter
 
 -- the facts of the service: a global one, without parents and files
 abbrev pub sched_facts : Facts
-sched_facts = record {
+sched_facts = record no_facts {
   name = codes "sched";
-  parents = Never;
-  subtree = false;
-  global = true;
   block = true;
   has_data = true;
-  resc_data = false;
   fields = record { name = codes "prio"; text = false } ∷ record { name = codes "rank"; text = false } ∷ [];
   funs = sched_create_thd ∷ sched_yield ∷ sched_sleep ∷ sched_wakeup ∷ sched_wait ∷ sched_next ∷ sched_place ∷ sched_exit ∷ [];
   moves = (1, 2) ∷ (1, 3) ∷ (1, 5) ∷ (1, 8) ∷ (3, 4) ∷ (3, 5) ∷ (3, 8) ∷ [];

@@ -61,7 +61,7 @@ pub fn serial<I: Source, O: Sink>(
         return without_run(Status::OtherWords);
     };
     match read_all(alloc, input, command.most_bytes()) {
-        Ok(Intake::Whole(bytes)) => carry_out(alloc, command, bytes.as_slice(), output),
+        Ok(Intake::Whole(bytes)) => run_command(alloc, command, bytes.as_slice(), output),
         Ok(Intake::TooLong) => deliver(output, TOO_LONG, Status::Refused, None),
         Err(ReadError::Failed) => without_run(Status::ReadFault),
         Err(ReadError::NoMemory) => without_run(Status::NoMemory),
@@ -69,7 +69,7 @@ pub fn serial<I: Source, O: Sink>(
 }
 
 // Writes what a command makes of an input.
-fn carry_out<O: Sink>(alloc: Global, command: Command, bytes: &[u8], output: &mut O) -> Answer
+fn run_command<O: Sink>(alloc: Global, command: Command, bytes: &[u8], output: &mut O) -> Answer
     ensures done { IsCarriedOut command bytes.now
         (record { told = O.written output.old; faults = O.faults output.old }) (record { told = O.written output.new; faults = O.faults output.new })
         result.status result.ended }

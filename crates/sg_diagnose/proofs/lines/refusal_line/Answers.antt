@@ -1,27 +1,14 @@
 -- What was printed is the line.
-use Rattle.std.proofs.Common.{◌≡◌, ℕ, List, [], ◌∷◌, ◌++◌, ◌∙◌, ap, append_assoc}
+use Rattle.std.proofs.Common.{◌∙◌, ap}
 use Rattle.std.specs.Prelude.{codes}
 use Rattle.std.specs.Fmt.{decimal}
 use Rattle.sg_diagnose.specs.Verdicts.{refusal_name}
 use Rattle.sg_diagnose.specs.Lines.{line_of, column_of}
+use Rattle.sg_diagnose.proofs.PlacedLine.{regrouped, same_line}
 use Rattle.sg_diagnose.proofs.lines.refusal_line.Goals as goal
-
--- the line, from its end on
-abbrev printed : List ℕ → List ℕ → List ℕ → List ℕ
-printed line column name = codes "interface refused at " ++ (line ++ (codes ":" ++ (column ++ (codes ": " ++ (name ++ 10 ∷ [])))))
-
-regrouped : (line column name : List ℕ) → printed line column name
-    ≡ codes "interface refused at " ++ line ++ codes ":" ++ column ++ codes ": " ++ name ++ 10 ∷ []
-regrouped line column name = simp append_assoc
-
-same : (line line' column column' : ℕ) (name name' : List ℕ) → line ≡ line' → column ≡ column' → name ≡ name'
-    → printed (decimal line) (decimal column) name ≡ printed (decimal line') (decimal column') name'
-same line line' column column' name name' l c n =
-    ap (λ x. printed (decimal x) (decimal column) name) l ∙ ap (λ x. printed (decimal line') (decimal x) name) c
-    ∙ ap (λ x. printed (decimal line') (decimal column') x) n
 
 pub returns : goal.returns
 returns c =
     c.from_vec.ensures ∙ ap (λ v. v.items) c.into_bytes.ensures.value ∙ c.in_ok-said.ensures.ok
-    ∙ same _ _ _ _ _ _ c.line_of-line.ensures c.column_of-column.ensures c.name_of-kind.ensures
-    ∙ regrouped (decimal (line_of c.args.text.now c.args.at)) (decimal (column_of c.args.text.now c.args.at)) (refusal_name c.args.kind)
+    ∙ same_line (codes "interface refused at ") _ _ _ _ _ _ c.line_of-line.ensures c.column_of-column.ensures c.name_of-kind.ensures
+    ∙ regrouped (codes "interface refused at ") (decimal (line_of c.args.text.now c.args.at)) (decimal (column_of c.args.text.now c.args.at)) (refusal_name c.args.kind)

@@ -12,7 +12,7 @@ pub returns-in-Ok-Whole-clause-answer : goal.returns-in-Ok-Whole-clause-answer
 returns-in-Ok-Whole-clause-answer g c =
     whole_answer _ _ _ _ _ _ _ _ _ _ _ c.as_slice.ensures c.most_bytes.ensures (one_command c.args.words.now) c.in-Some.ensures
     (subst (TakesIn c.most_bytes.result _ _) (c.in-Ok-Whole.is ∙ ap Ok c.in-Ok-Whole.field-0-is) c.read_all.ensures.taken)
-    c.carry_out.ensures.done (c.read_all.ensures.steady (λ failed. absurd (cc (failed, c.in-Ok-Whole.is)))) c.carry_out.ensures.count
+    c.run_command.ensures.done (c.read_all.ensures.steady (λ failed. absurd (cc (failed, c.in-Ok-Whole.is)))) c.run_command.ensures.count
 
 pub returns-in-Ok-TooLong-clause-answer : goal.returns-in-Ok-TooLong-clause-answer
 returns-in-Ok-TooLong-clause-answer g c =
