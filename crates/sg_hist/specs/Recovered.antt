@@ -1,4 +1,4 @@
--- What it means that a run recovers: six things that hold of its history, of what its trace tells, and of the calls that aren't
+-- What it means that a run recovers: seven things that hold of its history, of what its trace tells, and of the calls that aren't
 -- answered in it.
 use Rattle.std.specs.Prelude.{ℕ, ◌≡◌, ◌≢◌, ◌⊎◌, ◌+◌, ◌-◌, ◌≤◌, ◌==◌, Bool, true, false, ◌&&◌, ◌||◌, not, nat_le, nat_lt, if◌then◌else◌, List, [], ◌∷◌, ◌++◌, None, Some, IsSome, length, filter, find, map, slice_get, unwrap_or}
 use Rattle.std.specs.declared.option.Option.{Option}
@@ -19,9 +19,12 @@ use Rattle.sg_facts.specs.declared.trace.Tag.{Tag}
 use Rattle.sg_facts.specs.declared.trace.Tag.TheVariants.{Walk, Load, Client}
 use Rattle.sg_facts.specs.Alike.{IsAlike, SameFile, named}
 use Rattle.sg_facts.specs.Facts.{Facts, is_visible}
+use Rattle.sg_facts.specs.Guard.{guard}
+use Rattle.sg_facts.specs.Interface.{Declared}
 use Rattle.sg_facts.specs.Legal.{Table}
 use Rattle.sg_facts.specs.Needs.{is_needed, needs}
 use Rattle.sg_facts.specs.Object.{Object, file_at, patch_of}
+use Rattle.sg_facts.specs.Tables.{AreTables}
 use Rattle.sg_facts.specs.Trace.{Boot, Run}
 use Rattle.sg_facts.specs.Track.{row_at}
 use Rattle.sg_facts.specs.Walks.{replayed_call}
@@ -54,11 +57,11 @@ pub record IsCallOf (history : List Entry) (unanswered : List Call) (client : �
 -- ---- reboots
 
 -- the service answered by its table, from what it held in this boot: no item has a reply that a fresh service, asked the same
--- calls since its boot, wouldn't give
+-- calls since its boot, wouldn't give, and it stopped only within a call that it would have answered
 abbrev pub IsByTable : Facts → Table → Object → Call → Outcome → Type 0
 IsByTable facts ask held call (Replied reply patch) = (ask held call ≡ Some reply) × (patch ≡ patch_of facts held call reply)
 IsByTable facts ask held call Blocks = ask held call ≡ None
-IsByTable facts ask held call Stopped = Unit {0}
+IsByTable facts ask held call Stopped = IsSome (ask held call)
 IsByTable facts ask held call NoMemory = ⊥
 
 -- what was asked of the service for an item, by its tag: a call of a walk or of a client; a load is asked of no table
@@ -80,9 +83,10 @@ IsLastIfStopped rest (Replied reply patch) = Unit {0}
 IsLastIfStopped rest Blocks = Unit {0}
 IsLastIfStopped rest NoMemory = Unit {0}
 
--- each boot is of a fresh service: its answers are those of its table since the boot, the next boot comes only after a stop, and
--- nothing is asked behind a stop
+-- there is a boot, and each is of a fresh service: its answers are those of its table since the boot, the next boot comes only
+-- after a stop, and nothing is asked behind a stop
 pub record IsRebooted (facts : Facts) (ask : Table) (run : Run) : Type 0 where
+  pub booted : run.boots ≢ []
   pub table : Each (λ p. AskedAs facts ask p p.item.tag) (places_of run)
   pub stopped : AreStopped run.boots
   pub last : Each (λ p. IsLastIfStopped p.rest p.item.outcome) (places_of run)
@@ -221,6 +225,11 @@ pub record IsUnderWay (history : List Entry) (unanswered : List Call) (p : Place
   pub above : list_all (λ e. not (stands_before p e) || nat_lt e.call.seq call.seq) (calls_of history client) ≡ true
   pub first : list_all (λ e. is_by_guard e.reply || stands_before p e || nat_le call.seq e.call.seq) (calls_of history client) ≡ true
 
+-- a client's call is admitted at a place: it is under way there, and the guard lets it pass
+pub record IsAdmitted (i : Declared) (history : List Entry) (unanswered : List Call) (p : Place) (client : ℕ) (call : Call) : Type 0 where
+  pub under_way : IsUnderWay history unanswered p client call
+  pub guarded : guard i (object_before i.facts history p) call ≡ None
+
 -- whether an item brought a file into this boot: a load of it, or a write that was committed
 abbrev pub is_patch_at : List ℕ → Outcome → Bool
 is_patch_at key (Replied reply (Some patch)) = bytes_eq patch.key key
@@ -237,27 +246,27 @@ IsLoad o key Blocks = ⊥
 IsLoad o key Stopped = ⊥
 IsLoad o key NoMemory = ⊥
 
--- what is rebuilt is needed by a call of the client in whose turn it is rebuilt, and is the least that isn't whole
-pub record IsRebuiltFor (facts : Facts) (walks : List WalkLine) (history : List Entry) (unanswered : List Call) (p : Place) (client id : ℕ) : Type 0 where
+-- what is rebuilt is needed by an admitted call of the client in whose turn it is rebuilt, and is the least that isn't whole
+pub record IsRebuiltFor (i : Declared) (walks : List WalkLine) (history : List Entry) (unanswered : List Call) (p : Place) (client id : ℕ) : Type 0 where
   pub call : Call
-  pub under_way : IsUnderWay history unanswered p client call
-  pub least : find (λ i. not (is_whole_at facts walks history p i)) (needs facts (object_before facts history p) call).ids ≡ Some id
+  pub admitted : IsAdmitted i history unanswered p client call
+  pub least : find (λ id. not (is_whole_at i.facts walks history p id)) (needs i.facts (object_before i.facts history p) call).ids ≡ Some id
 
 -- what is loaded is needed, once all needed rows are whole, isn't empty, and isn't in this boot yet
-pub record IsLoadedFor (facts : Facts) (walks : List WalkLine) (history : List Entry) (unanswered : List Call) (p : Place) (client : ℕ) (key : List ℕ) : Type 0 where
+pub record IsLoadedFor (i : Declared) (walks : List WalkLine) (history : List Entry) (unanswered : List Call) (p : Place) (client : ℕ) (key : List ℕ) : Type 0 where
   pub call : Call
-  pub under_way : IsUnderWay history unanswered p client call
-  pub rows : list_all (is_whole_at facts walks history p) (needs facts (object_before facts history p) call).ids ≡ true
-  pub file : (needs facts (object_before facts history p) call).file ≡ Some key
+  pub admitted : IsAdmitted i history unanswered p client call
+  pub rows : list_all (is_whole_at i.facts walks history p) (needs i.facts (object_before i.facts history p) call).ids ≡ true
+  pub file : (needs i.facts (object_before i.facts history p) call).file ≡ Some key
   pub absent : list_any (λ item. is_patch_at key item.outcome) p.front ≡ false
-  pub whole : IsLoad (object_before facts history p) key p.item.outcome
+  pub whole : IsLoad (object_before i.facts history p) key p.item.outcome
 
--- an item was due: a row or a file was brought back because a call under way needs it, and a client's call is the one that is
--- under way, so that each client's items stand in its own order
-abbrev pub IsDemanded : Facts → List WalkLine → List Entry → List Call → Place → Tag → Type 0
-IsDemanded facts walks history unanswered p (Walk id k client) = IsRebuiltFor facts walks history unanswered p client id
-IsDemanded facts walks history unanswered p (Load key client) = IsLoadedFor facts walks history unanswered p client key
-IsDemanded facts walks history unanswered p (Client client seq) = IsUnderWay history unanswered p client p.item.shown
+-- an item was due: a row or a file was brought back because a call that was admitted needs it, and a client's call is the one that
+-- was, so that each client's items stand in its own order
+abbrev pub IsDemanded : Declared → List WalkLine → List Entry → List Call → Place → Tag → Type 0
+IsDemanded i walks history unanswered p (Walk id k client) = IsRebuiltFor i walks history unanswered p client id
+IsDemanded i walks history unanswered p (Load key client) = IsLoadedFor i walks history unanswered p client key
+IsDemanded i walks history unanswered p (Client client seq) = IsAdmitted i history unanswered p client p.item.shown
 
 -- ---- tracked state
 
@@ -288,30 +297,42 @@ abbrev pub IsCount : Bool → ℕ → ℕ → Type 0
 IsCount true points sum = points ≡ sum
 IsCount false points sum = sum ≤ points
 
+-- the number of the point at which a call stopped, by what would have been answered: for an Ok one of its parts or the one for its
+-- reply, and for a refusal the one for its reply
+abbrev pub IsStopInCall : Bool → ℕ → ℕ → Option Reply → ℕ → Type 0
+IsStopInCall exact parts asked None points = ⊥
+IsStopInCall exact parts asked (Some (Ok good)) points = (asked + 2 ≤ points) × When exact (points ≤ asked + 2 + parts)
+IsStopInCall exact parts asked (Some (Refused code)) points = IsCount exact points (asked + 2)
+
 -- the number of an item's last point, where so many were asked before: one for the use of the service; then the parts of an Ok
--- and one for its reply. A stop strikes at one of these behind the first
-abbrev pub IsPointOfCall : Bool → (ℕ → ℕ) → ℕ → ℕ → Outcome → ℕ → Type 0
-IsPointOfCall exact parts asked fun (Replied (Ok good) patch) points = IsCount exact points (asked + 2 + parts fun)
-IsPointOfCall exact parts asked fun (Replied (Refused code) patch) points = IsCount exact points (asked + 2)
-IsPointOfCall exact parts asked fun Blocks points = IsCount exact points (asked + 1)
-IsPointOfCall exact parts asked fun Stopped points = (asked + 2 ≤ points) × When exact (points ≤ asked + 2 + parts fun)
-IsPointOfCall exact parts asked fun NoMemory points = ⊥
+-- and one for its reply
+abbrev pub IsPointOfCall : Bool → (ℕ → ℕ) → ℕ → Option Reply → ℕ → Outcome → ℕ → Type 0
+IsPointOfCall exact parts asked answer fun (Replied (Ok good) patch) points = IsCount exact points (asked + 2 + parts fun)
+IsPointOfCall exact parts asked answer fun (Replied (Refused code) patch) points = IsCount exact points (asked + 2)
+IsPointOfCall exact parts asked answer fun Blocks points = IsCount exact points (asked + 1)
+IsPointOfCall exact parts asked answer fun Stopped points = IsStopInCall exact (parts fun) asked answer points
+IsPointOfCall exact parts asked answer fun NoMemory points = ⊥
 
 -- the number of an item's last point, by its tag: a load has one point, for the use of the service; a call has those of a call
-abbrev pub IsPointOf : Bool → (ℕ → ℕ) → ℕ → Tag → ℕ → Outcome → ℕ → Type 0
-IsPointOf exact parts asked (Load key client) fun outcome points = IsCount exact points (asked + 1)
-IsPointOf exact parts asked (Walk id k client) fun outcome points = IsPointOfCall exact parts asked fun outcome points
-IsPointOf exact parts asked (Client client seq) fun outcome points = IsPointOfCall exact parts asked fun outcome points
+abbrev pub IsPointOf : Bool → (ℕ → ℕ) → ℕ → Option Reply → Tag → ℕ → Outcome → ℕ → Type 0
+IsPointOf exact parts asked answer (Load key client) fun outcome points = IsCount exact points (asked + 1)
+IsPointOf exact parts asked answer (Walk id k client) fun outcome points = IsPointOfCall exact parts asked answer fun outcome points
+IsPointOf exact parts asked answer (Client client seq) fun outcome points = IsPointOfCall exact parts asked answer fun outcome points
+
+-- what the service answers an item behind others of its boot
+abbrev pub answer_to : Facts → Table → List Item → Item → Option Reply
+answer_to facts ask front item = ask (value_at facts front) (service_call item)
 
 -- how many points were asked behind an item: one more where a visible call was committed
 abbrev pub asked_behind : Facts → Item → ℕ
 asked_behind facts item = if is_visible_reply facts item then item.points + 1 else item.points
 
--- the points of the items of a boot, one after the other, where so many were asked before
-abbrev pub ArePoints : Bool → Facts → (ℕ → ℕ) → ℕ → List Item → Type 0
-ArePoints exact facts parts asked [] = Unit {0}
-ArePoints exact facts parts asked (item ∷ items) =
-    IsPointOf exact parts asked item.tag item.shown.fun item.outcome item.points × ArePoints exact facts parts (asked_behind facts item) items
+-- the points of the items of a boot, one after the other, behind others of it, where so many were asked before
+abbrev pub ArePoints : Bool → Facts → Table → (ℕ → ℕ) → ℕ → List Item → List Item → Type 0
+ArePoints exact facts ask parts asked front [] = Unit {0}
+ArePoints exact facts ask parts asked front (item ∷ items) =
+    IsPointOf exact parts asked (answer_to facts ask front item) item.tag item.shown.fun item.outcome item.points
+    × ArePoints exact facts ask parts (asked_behind facts item) (front ++ item ∷ []) items
 
 -- how many points were asked behind the items of a boot
 abbrev pub asked_in : Facts → ℕ → List Item → ℕ
@@ -346,12 +367,12 @@ IsStopOf exact facts items asked (Some stop) =
 
 -- the points of a run, boot by boot, where so many were asked before: each item has its points, each stop is at the last point
 -- asked, and the sum is the run's number of points
-abbrev pub ArePointsOf : Bool → Facts → (ℕ → ℕ) → ℕ → List Boot → ℕ → Type 0
-ArePointsOf exact facts parts asked [] points = IsCount exact points asked
-ArePointsOf exact facts parts asked (b ∷ boots) points =
-    ArePoints exact facts parts asked b.items
+abbrev pub ArePointsOf : Bool → Facts → Table → (ℕ → ℕ) → ℕ → List Boot → ℕ → Type 0
+ArePointsOf exact facts ask parts asked [] points = IsCount exact points asked
+ArePointsOf exact facts ask parts asked (b ∷ boots) points =
+    ArePoints exact facts ask parts asked [] b.items
     × IsStopOf exact facts b.items (asked_in facts asked b.items) b.stop
-    × ArePointsOf exact facts parts (unwrap_or b.stop (asked_in facts asked b.items)) boots points
+    × ArePointsOf exact facts ask parts (unwrap_or b.stop (asked_in facts asked b.items)) boots points
 
 -- the point at which a boot stopped, if it did
 abbrev pub stop_in : Option ℕ → List ℕ
@@ -362,11 +383,28 @@ stop_in (Some stop) = stop ∷ []
 abbrev pub struck_in : Run → List ℕ
 struck_in run = flat_map (λ b. stop_in b.stop) run.boots
 
+-- ---- held replies
+
+-- how many items stand in the boots before that of an entry's item; where it has none, as many as before
+abbrev pub boot_start : Option Place → ℕ → ℕ
+boot_start None low = low
+boot_start (Some p) low = length p.older
+
+-- how many stand in the boots before that in which an entry was replied; a refusal by the guard stands in none
+abbrev pub start_of : Run → Entry → ℕ → ℕ
+start_of run e low = if is_by_guard e.reply then low else boot_start (item_of run e) low
+
+-- along a history the boots of the entries' items never go back: a held reply is committed in the boot in which it was given
+abbrev pub AreInBoots : Run → ℕ → List Entry → Type 0
+AreInBoots run low [] = Unit {0}
+AreInBoots run low (e ∷ history) = (low ≤ start_of run e low) × AreInBoots run (start_of run e low) history
+
 -- ---- a run recovers
 
--- a service's shape and table, the number of parts of an Ok of each of its functions, and the walks of its tables
+-- an interface of a service and the service's table, the number of parts of an Ok of each of its functions, and the walks of its
+-- stubs
 pub record Stubs : Type 0 where
-  pub facts : Facts
+  pub interface : Declared
   pub ask : Table
   pub parts : ℕ → ℕ
   pub walks : List WalkLine
@@ -375,15 +413,39 @@ pub record Stubs : Type 0 where
 pub record IsRecovered (s : Stubs) (history : List Entry) (run : Run) (unanswered : List Call) : Type 0 where
   -- no reply of the service is another than a fresh one would give that was asked the same since its boot; nothing is asked of one
   -- that stopped; none is booted that didn't stop
-  pub reboots : IsRebooted s.facts s.ask run
+  pub reboots : IsRebooted s.interface.facts s.ask run
   -- no call is served that nobody made, or once more than it is answered; no reply is given that the service didn't give; no effect
   -- that others saw is lost or comes out of its order
-  pub served : IsServed s.facts history run unanswered
+  pub served : IsServed s.interface.facts history run unanswered
   -- no row is rebuilt by other calls, from other values, for another caller or before its parent
-  pub walks : Each (λ p. IsWalked s.facts s.walks history p p.item.tag) (places_of run)
-  -- no row and no file is brought back that no call needs then, or that is there
-  pub on_demand : Each (λ p. IsDemanded s.facts s.walks history unanswered p p.item.tag) (places_of run)
+  pub walks : Each (λ p. IsWalked s.interface.facts s.walks history p p.item.tag) (places_of run)
+  -- no row and no file is brought back that no call needs then, or that is there; no call is served out of its client's order, or
+  -- that the guard refuses
+  pub on_demand : Each (λ p. IsDemanded s.interface s.walks history unanswered p p.item.tag) (places_of run)
   -- no call reaches the service where what it needs is missing there, or isn't as it is tracked
-  pub tracked_state : Each (λ p. IsTrackedAt s.facts s.walks history p p.item.tag) (places_of run)
+  pub tracked_state : Each (λ p. IsTrackedAt s.interface.facts s.walks history p p.item.tag) (places_of run)
   -- no point is left out or asked twice, and no stop is at another than the last that was asked
-  pub points : (nat_lt run.points last_count ≡ true) → ArePointsOf true s.facts s.parts 0 run.boots run.points
+  pub points : (nat_lt run.points last_count ≡ true) → ArePointsOf true s.interface.facts s.ask s.parts 0 run.boots run.points
+  -- no reply that was held when the service stopped is committed afterwards
+  pub held : AreInBoots run 0 history
+
+-- ---- a run that ended
+
+-- something was asked in a boot, or it was stopped
+abbrev pub IsUsed : Boot → Type 0
+IsUsed b = (b.items ≢ []) ⊎ IsSome b.stop
+
+-- the last boot is used, where it isn't the first
+abbrev pub EndsUsed : List Boot → Type 0
+EndsUsed [] = Unit {0}
+EndsUsed (b ∷ []) = Unit {0}
+EndsUsed (b ∷ c ∷ []) = IsUsed c
+EndsUsed (b ∷ c ∷ d ∷ boots) = EndsUsed (c ∷ d ∷ boots)
+
+-- a run that ended has recovered, where its clients ended so
+pub record HasRecovered (s : Stubs) (history : List Entry) (run : Run) (ends : List (ℕ × End)) : Type 0 where
+  -- no row is rebuilt by other walks than the shortest of an interface that can be recovered
+  pub tables : AreTables s.interface s.walks
+  pub recovered : IsRecovered s history run (waiting ends)
+  -- none is booted for nothing
+  pub used : EndsUsed run.boots

@@ -1,5 +1,5 @@
 -- Where an item is noted last, and that the service was rebooted as it should be.
-use Rattle.std.proofs.Common.{◌≡◌, ℕ, false, List, [], ◌∷◌, ◌++◌, IsSome, refl, sym, subst}
+use Rattle.std.proofs.Common.{◌≡◌, ℕ, false, ◌≢◌, List, [], ◌∷◌, ◌++◌, IsSome, refl, sym, subst}
 use Rattle.sg_base.specs.Lists.{Each}
 use Rattle.sg_facts.specs.declared.outcome.Outcome.{Outcome}
 use Rattle.sg_facts.specs.declared.outcome.Outcome.TheVariants.{Replied, Blocks, Stopped, NoMemory}
@@ -121,8 +121,13 @@ pub reboots_noted : (facts : Facts) (ask : Table) (b : Boot) (boots : List Boot)
     → IsRebooted facts ask (record { boots = b ∷ boots; points = points })
     → IsRebooted facts ask (record { boots = noted (b ∷ boots) item; points = later })
 reboots_noted facts ask b boots points later item running asked r = record {
+  booted = some b boots;
   table = with_last item (place_behind [] (b ∷ boots) item) (λ p. AskedAs facts ask p p.item.tag) (λ p. AskedAs facts ask p p.item.tag)
       (places_from [] (b ∷ boots)) (places_from [] (noted (b ∷ boots) item)) (places-more [] b boots item) (asked_again facts ask item) asked r.table;
   stopped = stopped_noted b boots item r.stopped;
   last = last_more [] b boots item running r.last;
 }
+  where
+    some : (b : Boot) (boots : List Boot) → noted (b ∷ boots) item ≢ []
+    some b [] is = absurd (cc is)
+    some b (c ∷ boots) is = absurd (cc is)

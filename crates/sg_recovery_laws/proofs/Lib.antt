@@ -1,6 +1,7 @@
 pub mod Events
 pub mod Given
 pub mod Growing
+pub mod InBoots
 pub mod Lists
 pub mod Onward
 pub mod Points

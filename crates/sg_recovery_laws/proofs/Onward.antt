@@ -1,5 +1,5 @@
 -- A run that recovers goes on to do so, whatever comes next.
-use Rattle.std.proofs.Common.{◌≡◌, ℕ, Bool, true, false, not, ◌&&◌, ◌||◌, List, [], ◌∷◌, ◌++◌, Option, None, Some, IsSome, cond, refl, sym, ◌∙◌, ap, subst, append-nil}
+use Rattle.std.proofs.Common.{◌≡◌, ◌≢◌, ℕ, Bool, true, false, not, ◌&&◌, ◌||◌, List, [], ◌∷◌, ◌++◌, Option, None, Some, IsSome, cond, refl, sym, ◌∙◌, ap, subst, append-nil}
 use Rattle.std.proofs.lemmas.List.Folds.{list_any-append}
 use Rattle.std.proofs.lemmas.List.Sorted.{IsPermutation-reverse, list_any-IsPermutation}
 use Rattle.std.specs.List.{list_all, list_any}
@@ -21,7 +21,7 @@ use Rattle.sg_recovery_laws.proofs.Served.{IsNamed, committed_stay, entered_late
 use Rattle.sg_recovery_laws.proofs.Stays.{same_committed, same_held, same_noted, same_refused}
 use Rattle.sg_recovery_laws.specs.Growing.{AreKept, HasOneMore, IsGrown, IsHeldReply, IsItemOf, IsLastCall, IsNextItem, IsRecovering, IsSettled, IsOfNoEntry, booted, last_stop, noted, place_behind, struck}
 use Rattle.sg_hist.specs.Reading.{Place, behind, is_by_guard, is_item_of, item_of, items_of, past, places_from, places_in, places_of, stands_before}
-use Rattle.sg_hist.specs.Recovered.{AreInOrder, AreStopped, ComeBefore, HasItem, GivesEntry, IsCommitted, AskedAs, IsDemanded, IsItsCall, IsLastIfStopped, IsTrackedAt, IsUnderWay, IsWalked, Stubs, is_entered, is_visible_reply}
+use Rattle.sg_hist.specs.Recovered.{AreInOrder, AreStopped, ComeBefore, HasItem, GivesEntry, IsCommitted, AskedAs, IsAdmitted, IsDemanded, IsItsCall, IsLastIfStopped, IsTrackedAt, IsUnderWay, IsWalked, Stubs, is_entered, is_visible_reply}
 
 -- ---- calls
 
@@ -38,7 +38,7 @@ its_again h u h' u' item p q kept g its = subst (λ i. IsItsCall h' u' i.shown i
 -- ---- an item that is of no entry
 
 pub noted_stays : (s : Stubs) (h : List Entry) (b : Boot) (boots : List Boot) (points later : ℕ) (u u' : List Call) (item : Item)
-    → IsOfNoEntry item h → is_visible_reply s.facts item ≡ false → AreKept h u h u' → IsNextItem s h u' (place_behind [] (b ∷ boots) item)
+    → IsOfNoEntry item h → is_visible_reply s.interface.facts item ≡ false → AreKept h u h u' → IsNextItem s h u' (place_behind [] (b ∷ boots) item)
     → IsRecovering s h (record { boots = b ∷ boots; points = points }) u
     → IsRecovering s h (record { boots = noted (b ∷ boots) item; points = later }) u'
 noted_stays s h b boots points later u u' item none hidden kept next r =
@@ -49,31 +49,31 @@ noted_stays s h b boots points later u u' item none hidden kept next r =
     let own : last.item ≡ item = own_item [] b boots item in
     let old : Run = record { boots = b ∷ boots; points = points } in
     let new : Run = record { boots = noted (b ∷ boots) item; points = later } in
-    let same : (p q : Place) → IsGrown item p q → IsSame s.facts s.walks h u h u' p q.rest q.newer
-    = λ p q g. same_noted s.facts s.walks h u u' item p q.rest q.newer none g.behind_it kept in
+    let same : (p q : Place) → IsGrown item p q → IsSame s.interface.facts s.walks h u h u' p q.rest q.newer
+    = λ p q g. same_noted s.interface.facts s.walks h u u' item p q.rest q.newer none g.behind_it kept in
     record {
-      reboots = reboots_noted s.facts s.ask b boots points later item next.running next.table r.reboots;
+      reboots = reboots_noted s.interface.facts s.ask b boots points later item next.running next.table r.reboots;
       served = record {
         calls = with_last item last (λ p. IsItsCall h u p.item.shown p.item.tag) (λ p. IsItsCall h u' p.item.shown p.item.tag) before now more
             (λ p q g its. its_again h u h u' item p q kept g its) next.call r.served.calls;
-        items = items_stay s.facts h h item last old new h more own none (all_named before) r.served.items;
-        committed = with_last item last (IsCommitted s.facts h) (IsCommitted s.facts h) before now more
-            (λ p q g c. subst (λ v. IsCommitted s.facts v q) (append-nil h) (committed_stay s.facts item h [] p q g none c))
-            (subst (λ b. When b (is_entered h last ≡ true)) (sym (ap (is_visible_reply s.facts) own ∙ hidden)) tt) r.served.committed;
-        order = order_stays s.facts item last old new [] h more own tt none r.served.order;
+        items = items_stay s.interface.facts h h item last old new h more own none (all_named before) r.served.items;
+        committed = with_last item last (IsCommitted s.interface.facts h) (IsCommitted s.interface.facts h) before now more
+            (λ p q g c. subst (λ v. IsCommitted s.interface.facts v q) (append-nil h) (committed_stay s.interface.facts item h [] p q g none c))
+            (subst (λ b. When b (is_entered h last ≡ true)) (sym (ap (is_visible_reply s.interface.facts) own ∙ hidden)) tt) r.served.committed;
+        order = order_stays s.interface.facts item last old new [] h more own tt none r.served.order;
       };
-      walks = with_last item last (λ p. IsWalked s.facts s.walks h p p.item.tag) (λ p. IsWalked s.facts s.walks h p p.item.tag) before now more
-          (λ p q g w. subst (λ v. IsWalked s.facts s.walks h v v.item.tag) (again_is item p q g) (walked_same s.facts s.walks h u h u' p q.rest q.newer (same p q g) w))
+      walks = with_last item last (λ p. IsWalked s.interface.facts s.walks h p p.item.tag) (λ p. IsWalked s.interface.facts s.walks h p p.item.tag) before now more
+          (λ p q g w. subst (λ v. IsWalked s.interface.facts s.walks h v v.item.tag) (again_is item p q g) (walked_same s.interface.facts s.walks h u h u' p q.rest q.newer (same p q g) w))
           next.settled.walk r.walks;
-      on_demand = with_last item last (λ p. IsDemanded s.facts s.walks h u p p.item.tag) (λ p. IsDemanded s.facts s.walks h u' p p.item.tag) before now more
-          (λ p q g d. subst (λ v. IsDemanded s.facts s.walks h u' v v.item.tag) (again_is item p q g) (demanded_same s.facts s.walks h u h u' p q.rest q.newer (same p q g) d))
+      on_demand = with_last item last (λ p. IsDemanded s.interface s.walks h u p p.item.tag) (λ p. IsDemanded s.interface s.walks h u' p p.item.tag) before now more
+          (λ p q g d. subst (λ v. IsDemanded s.interface s.walks h u' v v.item.tag) (again_is item p q g) (demanded_same s.interface s.walks h u h u' p q.rest q.newer (same p q g) d))
           next.settled.demand r.on_demand;
-      tracked_state = with_last item last (λ p. IsTrackedAt s.facts s.walks h p p.item.tag) (λ p. IsTrackedAt s.facts s.walks h p p.item.tag) before now more
-          (λ p q g t. subst (λ v. IsTrackedAt s.facts s.walks h v v.item.tag) (again_is item p q g) (tracked_same s.facts s.walks h u h u' p q.rest q.newer (same p q g) t))
+      tracked_state = with_last item last (λ p. IsTrackedAt s.interface.facts s.walks h p p.item.tag) (λ p. IsTrackedAt s.interface.facts s.walks h p p.item.tag) before now more
+          (λ p q g t. subst (λ v. IsTrackedAt s.interface.facts s.walks h v v.item.tag) (again_is item p q g) (tracked_same s.interface.facts s.walks h u h u' p q.rest q.newer (same p q g) t))
           next.settled.state r.tracked_state;
     }
   where
-    all_named : (ps : List Place) → Each (IsNamed s.facts h h) ps
+    all_named : (ps : List Place) → Each (IsNamed s.interface.facts h h) ps
     all_named [] = tt
     all_named (p ∷ ps) = (refl, all_named ps)
 
@@ -138,7 +138,7 @@ come_last facts h b boots points item (e ∷ es) none has =
         ∙ ap not none_at
 
 pub committed_stays : (s : Stubs) (h : List Entry) (b : Boot) (boots : List Boot) (points later : ℕ) (u u' : List Call) (item : Item) (e : Entry)
-    → IsOfNoEntry item h → IsItemOf s.facts h (place_behind [] (b ∷ boots) item) e → IsLastCall h u e.call → AreKept h u (h ++ e ∷ []) u'
+    → IsOfNoEntry item h → IsItemOf s.interface.facts h (place_behind [] (b ∷ boots) item) e → IsLastCall h u e.call → AreKept h u (h ++ e ∷ []) u'
     → IsNextItem s (h ++ e ∷ []) u' (place_behind [] (b ∷ boots) item)
     → IsRecovering s h (record { boots = b ∷ boots; points = points }) u
     → IsRecovering s (h ++ e ∷ []) (record { boots = noted (b ∷ boots) item; points = later }) u'
@@ -152,40 +152,40 @@ committed_stays s h b boots points later u u' item e none of_it last_call kept n
     let old : Run = record { boots = b ∷ boots; points = points } in
     let new : Run = record { boots = noted (b ∷ boots) item; points = later } in
     let tagged : is_item_of e item ≡ true = ap (is_item_of e) (sym own) ∙ of_it.tagged in
-    let given : Each (λ p. IsGiven s.facts h p.item) before = each_map (IsCommitted s.facts h) (λ p. IsGiven s.facts h p.item) before (committed_given s.facts h) r.served.committed in
-    let fronts : Each (λ p. Each (IsGiven s.facts h) p.front) before = each_front (IsGiven s.facts h) [] (b ∷ boots) given in
-    let same : (p q : Place) → IsGrown item p q → Each (IsGiven s.facts h) p.front → IsSame s.facts s.walks h u h' u' p q.rest q.newer
-    = λ p q g ids. same_committed s.facts s.walks h u u' e item p q.rest q.newer none tagged g.behind_it kept last_call ids in
+    let given : Each (λ p. IsGiven s.interface.facts h p.item) before = each_map (IsCommitted s.interface.facts h) (λ p. IsGiven s.interface.facts h p.item) before (committed_given s.interface.facts h) r.served.committed in
+    let fronts : Each (λ p. Each (IsGiven s.interface.facts h) p.front) before = each_front (IsGiven s.interface.facts h) [] (b ∷ boots) given in
+    let same : (p q : Place) → IsGrown item p q → Each (IsGiven s.interface.facts h) p.front → IsSame s.interface.facts s.walks h u h' u' p q.rest q.newer
+    = λ p q g ids. same_committed s.interface.facts s.walks h u u' e item p q.rest q.newer none tagged g.behind_it kept last_call ids in
     let its : item_of new e ≡ Some last = item_of-own item e last old new more own tagged in
     record {
-      reboots = reboots_noted s.facts s.ask b boots points later item next.running next.table r.reboots;
+      reboots = reboots_noted s.interface.facts s.ask b boots points later item next.running next.table r.reboots;
       served = record {
         calls = with_last item last (λ p. IsItsCall h u p.item.shown p.item.tag) (λ p. IsItsCall h' u' p.item.shown p.item.tag) before now more
             (λ p q g c. its_again h u h' u' item p q kept g c) next.call r.served.calls;
-        items = each_push (HasItem s.facts h' new) h e
-            (items_stay s.facts h h' item last old new h more own none
-            (each_map (λ p. Each (IsGiven s.facts h) p.front × IsGiven s.facts h p.item) (IsNamed s.facts h h') before named
-            (each_both (λ p. Each (IsGiven s.facts h) p.front) (λ p. IsGiven s.facts h p.item) before fronts given)) r.served.items)
-            (subst (λ v. When (not v) (GivesEntry s.facts h' e (item_of new e))) (sym of_it.served) (subst (GivesEntry s.facts h' e) (sym its) (of_it.shown, of_it.reply)));
-        committed = with_last item last (IsCommitted s.facts h) (IsCommitted s.facts h') before now more
-            (λ p q g c. committed_stay s.facts item h (e ∷ []) p q g none c) (last_entered last of_it.tagged (no_behind [] b boots item)) r.served.committed;
-        order = order_push s.facts new [] h e (order_stays s.facts item last old new [] h more own tt none r.served.order)
-            (always (is_visible s.facts e.call.fun && not (is_by_guard e.reply)) (subst (ComeBefore h) (sym its) (come_last s.facts h b boots points item h none r.served.items)));
+        items = each_push (HasItem s.interface.facts h' new) h e
+            (items_stay s.interface.facts h h' item last old new h more own none
+            (each_map (λ p. Each (IsGiven s.interface.facts h) p.front × IsGiven s.interface.facts h p.item) (IsNamed s.interface.facts h h') before named
+            (each_both (λ p. Each (IsGiven s.interface.facts h) p.front) (λ p. IsGiven s.interface.facts h p.item) before fronts given)) r.served.items)
+            (subst (λ v. When (not v) (GivesEntry s.interface.facts h' e (item_of new e))) (sym of_it.served) (subst (GivesEntry s.interface.facts h' e) (sym its) (of_it.shown, of_it.reply)));
+        committed = with_last item last (IsCommitted s.interface.facts h) (IsCommitted s.interface.facts h') before now more
+            (λ p q g c. committed_stay s.interface.facts item h (e ∷ []) p q g none c) (last_entered last of_it.tagged (no_behind [] b boots item)) r.served.committed;
+        order = order_push s.interface.facts new [] h e (order_stays s.interface.facts item last old new [] h more own tt none r.served.order)
+            (always (is_visible s.interface.facts e.call.fun && not (is_by_guard e.reply)) (subst (ComeBefore h) (sym its) (come_last s.interface.facts h b boots points item h none r.served.items)));
       };
-      walks = with_last item last (λ p. Each (IsGiven s.facts h) p.front × IsWalked s.facts s.walks h p p.item.tag) (λ p. IsWalked s.facts s.walks h' p p.item.tag) before now more
-          (λ p q g w. subst (λ v. IsWalked s.facts s.walks h' v v.item.tag) (again_is item p q g) (walked_same s.facts s.walks h u h' u' p q.rest q.newer (same p q g w.0) w.1))
-          next.settled.walk (each_both (λ p. Each (IsGiven s.facts h) p.front) (λ p. IsWalked s.facts s.walks h p p.item.tag) before fronts r.walks);
-      on_demand = with_last item last (λ p. Each (IsGiven s.facts h) p.front × IsDemanded s.facts s.walks h u p p.item.tag) (λ p. IsDemanded s.facts s.walks h' u' p p.item.tag) before now more
-          (λ p q g w. subst (λ v. IsDemanded s.facts s.walks h' u' v v.item.tag) (again_is item p q g) (demanded_same s.facts s.walks h u h' u' p q.rest q.newer (same p q g w.0) w.1))
-          next.settled.demand (each_both (λ p. Each (IsGiven s.facts h) p.front) (λ p. IsDemanded s.facts s.walks h u p p.item.tag) before fronts r.on_demand);
-      tracked_state = with_last item last (λ p. Each (IsGiven s.facts h) p.front × IsTrackedAt s.facts s.walks h p p.item.tag) (λ p. IsTrackedAt s.facts s.walks h' p p.item.tag) before now more
-          (λ p q g w. subst (λ v. IsTrackedAt s.facts s.walks h' v v.item.tag) (again_is item p q g) (tracked_same s.facts s.walks h u h' u' p q.rest q.newer (same p q g w.0) w.1))
-          next.settled.state (each_both (λ p. Each (IsGiven s.facts h) p.front) (λ p. IsTrackedAt s.facts s.walks h p p.item.tag) before fronts r.tracked_state);
+      walks = with_last item last (λ p. Each (IsGiven s.interface.facts h) p.front × IsWalked s.interface.facts s.walks h p p.item.tag) (λ p. IsWalked s.interface.facts s.walks h' p p.item.tag) before now more
+          (λ p q g w. subst (λ v. IsWalked s.interface.facts s.walks h' v v.item.tag) (again_is item p q g) (walked_same s.interface.facts s.walks h u h' u' p q.rest q.newer (same p q g w.0) w.1))
+          next.settled.walk (each_both (λ p. Each (IsGiven s.interface.facts h) p.front) (λ p. IsWalked s.interface.facts s.walks h p p.item.tag) before fronts r.walks);
+      on_demand = with_last item last (λ p. Each (IsGiven s.interface.facts h) p.front × IsDemanded s.interface s.walks h u p p.item.tag) (λ p. IsDemanded s.interface s.walks h' u' p p.item.tag) before now more
+          (λ p q g w. subst (λ v. IsDemanded s.interface s.walks h' u' v v.item.tag) (again_is item p q g) (demanded_same s.interface s.walks h u h' u' p q.rest q.newer (same p q g w.0) w.1))
+          next.settled.demand (each_both (λ p. Each (IsGiven s.interface.facts h) p.front) (λ p. IsDemanded s.interface s.walks h u p p.item.tag) before fronts r.on_demand);
+      tracked_state = with_last item last (λ p. Each (IsGiven s.interface.facts h) p.front × IsTrackedAt s.interface.facts s.walks h p p.item.tag) (λ p. IsTrackedAt s.interface.facts s.walks h' p p.item.tag) before now more
+          (λ p q g w. subst (λ v. IsTrackedAt s.interface.facts s.walks h' v v.item.tag) (again_is item p q g) (tracked_same s.interface.facts s.walks h u h' u' p q.rest q.newer (same p q g w.0) w.1))
+          next.settled.state (each_both (λ p. Each (IsGiven s.interface.facts h) p.front) (λ p. IsTrackedAt s.interface.facts s.walks h p p.item.tag) before fronts r.tracked_state);
     }
   where
-    named : (p : Place) → Each (IsGiven s.facts h) p.front × IsGiven s.facts h p.item → IsNamed s.facts h (h ++ e ∷ []) p
-    named p both = names_same s.facts h (h ++ e ∷ []) (p.front ++ p.item ∷ [])
-        (each_map (IsGiven s.facts h) (IsSameId s.facts h (h ++ e ∷ [])) (p.front ++ p.item ∷ []) (given_same s.facts h e) (each_push (IsGiven s.facts h) p.front p.item both.0 both.1))
+    named : (p : Place) → Each (IsGiven s.interface.facts h) p.front × IsGiven s.interface.facts h p.item → IsNamed s.interface.facts h (h ++ e ∷ []) p
+    named p both = names_same s.interface.facts h (h ++ e ∷ []) (p.front ++ p.item ∷ [])
+        (each_map (IsGiven s.interface.facts h) (IsSameId s.interface.facts h (h ++ e ∷ [])) (p.front ++ p.item ∷ []) (given_same s.interface.facts h e) (each_push (IsGiven s.interface.facts h) p.front p.item both.0 both.1))
 
     always : {P : Type 0} (v : Bool) → P → When v P
     always true is = is
@@ -195,12 +195,12 @@ committed_stays s h b boots points later u u' item e none of_it last_call kept n
     either true = refl
     either false = refl
 
-    last_entered : (last : Place) → is_item_of e last.item ≡ true → behind last ≡ [] → IsCommitted s.facts (h ++ e ∷ []) last
+    last_entered : (last : Place) → is_item_of e last.item ≡ true → behind last ≡ [] → IsCommitted s.interface.facts (h ++ e ∷ []) last
     last_entered last tagged nothing =
         let own : not (is_by_guard e.reply) && is_item_of e last.item && not (list_any (is_item_of e) (behind last)) ≡ true
         = ap (λ v. not v && is_item_of e last.item && not (list_any (is_item_of e) (behind last))) of_it.served
         ∙ ap (λ v. v && not (list_any (is_item_of e) (behind last))) tagged ∙ ap (λ v. not (list_any (is_item_of e) v)) nothing in
-        always (is_visible_reply s.facts last.item)
+        always (is_visible_reply s.interface.facts last.item)
         (list_any-append (λ x. not (is_by_guard x.reply) && is_item_of x last.item && not (list_any (is_item_of x) (behind last))) h (e ∷ [])
         ∙ ap (λ v. is_entered h last || (v || false)) own ∙ either (is_entered h last))
 
@@ -219,27 +219,27 @@ pub refused_stays : (s : Stubs) (h : List Entry) (run : Run) (u u' : List Call) 
     → IsRecovering s h run u → IsRecovering s (h ++ e ∷ []) run u'
 refused_stays s h run u u' e guards kept r =
     let h' : List Entry = h ++ e ∷ [] in
-    let same : (p : Place) → IsSame s.facts s.walks h u h' u' p p.rest p.newer = λ p. same_refused s.facts s.walks h u u' e p guards kept in
+    let same : (p : Place) → IsSame s.interface.facts s.walks h u h' u' p p.rest p.newer = λ p. same_refused s.interface.facts s.walks h u u' e p guards kept in
     record {
       reboots = r.reboots;
       served = record {
         calls = each_map (λ p. IsItsCall h u p.item.shown p.item.tag) (λ p. IsItsCall h' u' p.item.shown p.item.tag) (places_of run)
             (λ p its. its_kept h u h' u' p.item.shown kept p.item.tag its) r.served.calls;
-        items = each_push (HasItem s.facts h' run) h e (each_map (HasItem s.facts h run) (HasItem s.facts h' run) h (has_same s.facts h h' run (named_refused s.facts h e guards (places_of run))) r.served.items)
-            (subst (λ v. When (not v) (GivesEntry s.facts h' e (item_of run e))) (sym guards) tt);
-        committed = each_map (IsCommitted s.facts h) (IsCommitted s.facts h') (places_of run) (committed_later s.facts h (e ∷ [])) r.served.committed;
-        order = order_push s.facts run [] h e r.served.order (unasked (is_visible s.facts e.call.fun));
+        items = each_push (HasItem s.interface.facts h' run) h e (each_map (HasItem s.interface.facts h run) (HasItem s.interface.facts h' run) h (has_same s.interface.facts h h' run (named_refused s.interface.facts h e guards (places_of run))) r.served.items)
+            (subst (λ v. When (not v) (GivesEntry s.interface.facts h' e (item_of run e))) (sym guards) tt);
+        committed = each_map (IsCommitted s.interface.facts h) (IsCommitted s.interface.facts h') (places_of run) (committed_later s.interface.facts h (e ∷ [])) r.served.committed;
+        order = order_push s.interface.facts run [] h e r.served.order (unasked (is_visible s.interface.facts e.call.fun));
       };
-      walks = each_map (λ p. IsWalked s.facts s.walks h p p.item.tag) (λ p. IsWalked s.facts s.walks h' p p.item.tag) (places_of run)
-          (λ p w. walked_same s.facts s.walks h u h' u' p p.rest p.newer (same p) w) r.walks;
-      on_demand = each_map (λ p. IsDemanded s.facts s.walks h u p p.item.tag) (λ p. IsDemanded s.facts s.walks h' u' p p.item.tag) (places_of run)
-          (λ p w. demanded_same s.facts s.walks h u h' u' p p.rest p.newer (same p) w) r.on_demand;
-      tracked_state = each_map (λ p. IsTrackedAt s.facts s.walks h p p.item.tag) (λ p. IsTrackedAt s.facts s.walks h' p p.item.tag) (places_of run)
-          (λ p w. tracked_same s.facts s.walks h u h' u' p p.rest p.newer (same p) w) r.tracked_state;
+      walks = each_map (λ p. IsWalked s.interface.facts s.walks h p p.item.tag) (λ p. IsWalked s.interface.facts s.walks h' p p.item.tag) (places_of run)
+          (λ p w. walked_same s.interface.facts s.walks h u h' u' p p.rest p.newer (same p) w) r.walks;
+      on_demand = each_map (λ p. IsDemanded s.interface s.walks h u p p.item.tag) (λ p. IsDemanded s.interface s.walks h' u' p p.item.tag) (places_of run)
+          (λ p w. demanded_same s.interface s.walks h u h' u' p p.rest p.newer (same p) w) r.on_demand;
+      tracked_state = each_map (λ p. IsTrackedAt s.interface.facts s.walks h p p.item.tag) (λ p. IsTrackedAt s.interface.facts s.walks h' p p.item.tag) (places_of run)
+          (λ p w. tracked_same s.interface.facts s.walks h u h' u' p p.rest p.newer (same p) w) r.tracked_state;
     }
   where
-    later : (p : Place) → IsCommitted s.facts h p → IsCommitted s.facts (h ++ e ∷ []) p
-    later p c = by (is_visible_reply s.facts p.item) c
+    later : (p : Place) → IsCommitted s.interface.facts h p → IsCommitted s.interface.facts (h ++ e ∷ []) p
+    later p c = by (is_visible_reply s.interface.facts p.item) c
       where
         by : (b : Bool) → When b (is_entered h p ≡ true) → When b (is_entered (h ++ e ∷ []) p ≡ true)
         by true is = entered_later p h (e ∷ []) is
@@ -256,52 +256,52 @@ given_named : (facts : Facts) (h : List Entry) (e : Entry) (p : Place) → Each 
 given_named facts h e p both = names_same facts h (h ++ e ∷ []) (p.front ++ p.item ∷ [])
     (each_map (IsGiven facts h) (IsSameId facts h (h ++ e ∷ [])) (p.front ++ p.item ∷ []) (given_same facts h e) (each_push (IsGiven facts h) p.front p.item both.0 both.1))
 
-pub held_stays : (s : Stubs) (h : List Entry) (run : Run) (u u' : List Call) (e : Entry) → IsHeldReply s.facts h run e → IsLastCall h u e.call → AreKept h u (h ++ e ∷ []) u'
+pub held_stays : (s : Stubs) (h : List Entry) (run : Run) (u u' : List Call) (e : Entry) → IsHeldReply s.interface.facts h run e → IsLastCall h u e.call → AreKept h u (h ++ e ∷ []) u'
     → Each (λ p. stands_before p e ≡ true → IsSettled s (h ++ e ∷ []) u' p) (places_of run) → IsRecovering s h run u → IsRecovering s (h ++ e ∷ []) run u'
 held_stays s h run u u' e held last kept behind_it r =
     let h' : List Entry = h ++ e ∷ [] in
     let ps : List Place = places_of run in
-    let given : Each (λ p. IsGiven s.facts h p.item) ps = each_map (IsCommitted s.facts h) (λ p. IsGiven s.facts h p.item) ps (committed_given s.facts h) r.served.committed in
-    let fronts : Each (λ p. Each (IsGiven s.facts h) p.front) ps = each_front (IsGiven s.facts h) [] run.boots given in
-    let named : Each (IsNamed s.facts h h') ps = each_map (λ p. Each (IsGiven s.facts h) p.front × IsGiven s.facts h p.item) (IsNamed s.facts h h') ps (given_named s.facts h e)
-    (each_both (λ p. Each (IsGiven s.facts h) p.front) (λ p. IsGiven s.facts h p.item) ps fronts given) in
+    let given : Each (λ p. IsGiven s.interface.facts h p.item) ps = each_map (IsCommitted s.interface.facts h) (λ p. IsGiven s.interface.facts h p.item) ps (committed_given s.interface.facts h) r.served.committed in
+    let fronts : Each (λ p. Each (IsGiven s.interface.facts h) p.front) ps = each_front (IsGiven s.interface.facts h) [] run.boots given in
+    let named : Each (IsNamed s.interface.facts h h') ps = each_map (λ p. Each (IsGiven s.interface.facts h) p.front × IsGiven s.interface.facts h p.item) (IsNamed s.interface.facts h h') ps (given_named s.interface.facts h e)
+    (each_both (λ p. Each (IsGiven s.interface.facts h) p.front) (λ p. IsGiven s.interface.facts h p.item) ps fronts given) in
     let before : Each (λ p. IsSettled s h u p) ps = settled_each ps r.walks r.on_demand r.tracked_state in
     let now : Each (λ p. IsSettled s h' u' p) ps = each_map
-    (λ p. (stands_before p e ≡ true → IsSettled s h' u' p) × (Each (IsGiven s.facts h) p.front × IsSettled s h u p)) (λ p. IsSettled s h' u' p) ps settled
-    (each_both (λ p. stands_before p e ≡ true → IsSettled s h' u' p) (λ p. Each (IsGiven s.facts h) p.front × IsSettled s h u p) ps behind_it
-    (each_both (λ p. Each (IsGiven s.facts h) p.front) (λ p. IsSettled s h u p) ps fronts before)) in
+    (λ p. (stands_before p e ≡ true → IsSettled s h' u' p) × (Each (IsGiven s.interface.facts h) p.front × IsSettled s h u p)) (λ p. IsSettled s h' u' p) ps settled
+    (each_both (λ p. stands_before p e ≡ true → IsSettled s h' u' p) (λ p. Each (IsGiven s.interface.facts h) p.front × IsSettled s h u p) ps behind_it
+    (each_both (λ p. Each (IsGiven s.interface.facts h) p.front) (λ p. IsSettled s h u p) ps fronts before)) in
     record {
       reboots = r.reboots;
       served = record {
         calls = each_map (λ p. IsItsCall h u p.item.shown p.item.tag) (λ p. IsItsCall h' u' p.item.shown p.item.tag) ps
             (λ p its. its_kept h u h' u' p.item.shown kept p.item.tag its) r.served.calls;
-        items = each_push (HasItem s.facts h' run) h e (each_map (HasItem s.facts h run) (HasItem s.facts h' run) h (has_same s.facts h h' run named) r.served.items)
-            (subst (λ v. When (not v) (GivesEntry s.facts h' e (item_of run e))) (sym held.served) held.own);
-        committed = each_map (IsCommitted s.facts h) (IsCommitted s.facts h') ps (committed_later s.facts h (e ∷ [])) r.served.committed;
-        order = order_push s.facts run [] h e r.served.order
+        items = each_push (HasItem s.interface.facts h' run) h e (each_map (HasItem s.interface.facts h run) (HasItem s.interface.facts h' run) h (has_same s.interface.facts h h' run named) r.served.items)
+            (subst (λ v. When (not v) (GivesEntry s.interface.facts h' e (item_of run e))) (sym held.served) held.own);
+        committed = each_map (IsCommitted s.interface.facts h) (IsCommitted s.interface.facts h') ps (committed_later s.interface.facts h (e ∷ [])) r.served.committed;
+        order = order_push s.interface.facts run [] h e r.served.order
             (subst (λ v. When (v && not (is_by_guard e.reply)) (ComeBefore h (item_of run e))) (sym held.hidden) tt);
       };
-      walks = each_map (λ p. IsSettled s h' u' p) (λ p. IsWalked s.facts s.walks h' p p.item.tag) ps (λ p is. is.walk) now;
-      on_demand = each_map (λ p. IsSettled s h' u' p) (λ p. IsDemanded s.facts s.walks h' u' p p.item.tag) ps (λ p is. is.demand) now;
-      tracked_state = each_map (λ p. IsSettled s h' u' p) (λ p. IsTrackedAt s.facts s.walks h' p p.item.tag) ps (λ p is. is.state) now;
+      walks = each_map (λ p. IsSettled s h' u' p) (λ p. IsWalked s.interface.facts s.walks h' p p.item.tag) ps (λ p is. is.walk) now;
+      on_demand = each_map (λ p. IsSettled s h' u' p) (λ p. IsDemanded s.interface s.walks h' u' p p.item.tag) ps (λ p is. is.demand) now;
+      tracked_state = each_map (λ p. IsSettled s h' u' p) (λ p. IsTrackedAt s.interface.facts s.walks h' p p.item.tag) ps (λ p is. is.state) now;
     }
   where
-    settled_each : (ps : List Place) → Each (λ p. IsWalked s.facts s.walks h p p.item.tag) ps → Each (λ p. IsDemanded s.facts s.walks h u p p.item.tag) ps
-        → Each (λ p. IsTrackedAt s.facts s.walks h p p.item.tag) ps → Each (λ p. IsSettled s h u p) ps
+    settled_each : (ps : List Place) → Each (λ p. IsWalked s.interface.facts s.walks h p p.item.tag) ps → Each (λ p. IsDemanded s.interface s.walks h u p p.item.tag) ps
+        → Each (λ p. IsTrackedAt s.interface.facts s.walks h p p.item.tag) ps → Each (λ p. IsSettled s h u p) ps
     settled_each [] walks demands states = tt
     settled_each (p ∷ ps) walks demands states = (record { walk = walks.0; demand = demands.0; state = states.0 }, settled_each ps walks.1 demands.1 states.1)
 
-    settled : (p : Place) → (stands_before p e ≡ true → IsSettled s (h ++ e ∷ []) u' p) × (Each (IsGiven s.facts h) p.front × IsSettled s h u p) → IsSettled s (h ++ e ∷ []) u' p
+    settled : (p : Place) → (stands_before p e ≡ true → IsSettled s (h ++ e ∷ []) u' p) × (Each (IsGiven s.interface.facts h) p.front × IsSettled s h u p) → IsSettled s (h ++ e ∷ []) u' p
     settled p has = by (stands_before p e) refl
       where
         by : (b : Bool) → stands_before p e ≡ b → IsSettled s (h ++ e ∷ []) u' p
         by true is = has.0 is
         by false is =
-            let same : IsSame s.facts s.walks h u (h ++ e ∷ []) u' p p.rest p.newer = same_held s.facts s.walks h u u' e p is kept last has.1.0 in
+            let same : IsSame s.interface.facts s.walks h u (h ++ e ∷ []) u' p p.rest p.newer = same_held s.interface.facts s.walks h u u' e p is kept last has.1.0 in
             record {
-              walk = walked_same s.facts s.walks h u (h ++ e ∷ []) u' p p.rest p.newer same has.1.1.walk;
-              demand = demanded_same s.facts s.walks h u (h ++ e ∷ []) u' p p.rest p.newer same has.1.1.demand;
-              state = tracked_same s.facts s.walks h u (h ++ e ∷ []) u' p p.rest p.newer same has.1.1.state;
+              walk = walked_same s.interface.facts s.walks h u (h ++ e ∷ []) u' p p.rest p.newer same has.1.1.walk;
+              demand = demanded_same s.interface s.walks h u (h ++ e ∷ []) u' p p.rest p.newer same has.1.1.demand;
+              state = tracked_same s.interface.facts s.walks h u (h ++ e ∷ []) u' p p.rest p.newer same has.1.1.state;
             }
 
 -- ---- a call more, a stop, a boot
@@ -318,27 +318,30 @@ made_stays s h run u u' kept r = record {
     order = r.served.order;
   };
   walks = r.walks;
-  on_demand = each_map (λ p. IsDemanded s.facts s.walks h u p p.item.tag) (λ p. IsDemanded s.facts s.walks h u' p p.item.tag) (places_of run) demanded r.on_demand;
+  on_demand = each_map (λ p. IsDemanded s.interface s.walks h u p p.item.tag) (λ p. IsDemanded s.interface s.walks h u' p p.item.tag) (places_of run) demanded r.on_demand;
   tracked_state = r.tracked_state;
 }
   where
     under : (p : Place) (client : ℕ) (call : Call) → IsUnderWay h u p client call → IsUnderWay h u' p client call
     under p client call w = record { its = record { its = w.its.its; made = kept call w.its.made }; above = w.above; first = w.first }
 
-    demanded : (p : Place) → IsDemanded s.facts s.walks h u p p.item.tag → IsDemanded s.facts s.walks h u' p p.item.tag
+    admitted : (p : Place) (client : ℕ) (call : Call) → IsAdmitted s.interface h u p client call → IsAdmitted s.interface h u' p client call
+    admitted p client call a = record { under_way = under p client call a.under_way; guarded = a.guarded }
+
+    demanded : (p : Place) → IsDemanded s.interface s.walks h u p p.item.tag → IsDemanded s.interface s.walks h u' p p.item.tag
     demanded p d = by p.item.tag d
       where
-        by : (tag : Tag) → IsDemanded s.facts s.walks h u p tag → IsDemanded s.facts s.walks h u' p tag
-        by (Walk id k client) d = record { call = d.call; under_way = under p client d.call d.under_way; least = d.least }
+        by : (tag : Tag) → IsDemanded s.interface s.walks h u p tag → IsDemanded s.interface s.walks h u' p tag
+        by (Walk id k client) d = record { call = d.call; admitted = admitted p client d.call d.admitted; least = d.least }
         by (Load key client) d = record {
           call = d.call;
-          under_way = under p client d.call d.under_way;
+          admitted = admitted p client d.call d.admitted;
           rows = d.rows;
           file = d.file;
           absent = d.absent;
           whole = d.whole;
         }
-        by (Client client seq) d = under p client p.item.shown d
+        by (Client client seq) d = admitted p client p.item.shown d
 
 order_places : (facts : Facts) (run later : Run) (earlier es : List Entry) → places_of later ≡ places_of run → AreInOrder facts run earlier es → AreInOrder facts later earlier es
 order_places facts run later earlier [] same order = tt
@@ -348,43 +351,49 @@ order_places facts run later earlier (e ∷ es) same order = (
 )
 
 -- a run with the same places
-same_places : (s : Stubs) (h : List Entry) (run later : Run) (u : List Call) → places_of later ≡ places_of run → AreStopped later.boots
+same_places : (s : Stubs) (h : List Entry) (run later : Run) (u : List Call) → places_of later ≡ places_of run → later.boots ≢ [] → AreStopped later.boots
     → IsRecovering s h run u → IsRecovering s h later u
-same_places s h run later u same stopped r = record {
+same_places s h run later u same booted stopped r = record {
   reboots = record {
-    table = subst (Each (λ p. AskedAs s.facts s.ask p p.item.tag)) (sym same) r.reboots.table;
+    booted = booted;
+    table = subst (Each (λ p. AskedAs s.interface.facts s.ask p p.item.tag)) (sym same) r.reboots.table;
     stopped = stopped;
     last = subst (Each (λ p. IsLastIfStopped p.rest p.item.outcome)) (sym same) r.reboots.last;
   };
   served = record {
     calls = subst (Each (λ p. IsItsCall h u p.item.shown p.item.tag)) (sym same) r.served.calls;
-    items = each_map (HasItem s.facts h run) (HasItem s.facts h later) h
-        (λ e has. subst (λ ps. When (not (is_by_guard e.reply)) (GivesEntry s.facts h e (find (λ p. is_item_of e p.item) (reverse ps)))) (sym same) has) r.served.items;
-    committed = subst (Each (IsCommitted s.facts h)) (sym same) r.served.committed;
-    order = order_places s.facts run later [] h same r.served.order;
+    items = each_map (HasItem s.interface.facts h run) (HasItem s.interface.facts h later) h
+        (λ e has. subst (λ ps. When (not (is_by_guard e.reply)) (GivesEntry s.interface.facts h e (find (λ p. is_item_of e p.item) (reverse ps)))) (sym same) has) r.served.items;
+    committed = subst (Each (IsCommitted s.interface.facts h)) (sym same) r.served.committed;
+    order = order_places s.interface.facts run later [] h same r.served.order;
   };
-  walks = subst (Each (λ p. IsWalked s.facts s.walks h p p.item.tag)) (sym same) r.walks;
-  on_demand = subst (Each (λ p. IsDemanded s.facts s.walks h u p p.item.tag)) (sym same) r.on_demand;
-  tracked_state = subst (Each (λ p. IsTrackedAt s.facts s.walks h p p.item.tag)) (sym same) r.tracked_state;
+  walks = subst (Each (λ p. IsWalked s.interface.facts s.walks h p p.item.tag)) (sym same) r.walks;
+  on_demand = subst (Each (λ p. IsDemanded s.interface s.walks h u p p.item.tag)) (sym same) r.on_demand;
+  tracked_state = subst (Each (λ p. IsTrackedAt s.interface.facts s.walks h p p.item.tag)) (sym same) r.tracked_state;
 }
 
 pub struck_stays : (s : Stubs) (h : List Entry) (boots : List Boot) (points later stop : ℕ) (u : List Call)
     → IsRecovering s h (record { boots = boots; points = points }) u → IsRecovering s h (record { boots = struck boots stop; points = later }) u
 struck_stays s h boots points later stop u r =
     same_places s h (record { boots = boots; points = points }) (record { boots = struck boots stop; points = later }) u
-    (places-struck [] boots stop) (stopped_struck boots stop r.reboots.stopped) r
+    (places-struck [] boots stop) (struck_some boots r.reboots.booted) (stopped_struck boots stop r.reboots.stopped) r
+  where
+    struck_some : (bs : List Boot) → bs ≢ [] → struck bs stop ≢ []
+    struck_some [] some is = some refl
+    struck_some (b ∷ []) some is = absurd (cc is)
+    struck_some (b ∷ c ∷ bs) some is = absurd (cc is)
 
 pub booted_stays : (s : Stubs) (h : List Entry) (b : Boot) (boots : List Boot) (points later : ℕ) (u : List Call) → IsSome (last_stop (b ∷ boots))
     → IsRecovering s h (record { boots = b ∷ boots; points = points }) u → IsRecovering s h (record { boots = booted (b ∷ boots); points = later }) u
 booted_stays s h b boots points later u stop r =
     same_places s h (record { boots = b ∷ boots; points = points }) (record { boots = booted (b ∷ boots); points = later }) u
-    (places-booted [] (b ∷ boots)) (stopped_booted b boots stop r.reboots.stopped) r
+    (places-booted [] (b ∷ boots)) (λ is. absurd (cc is)) (stopped_booted b boots stop r.reboots.stopped) r
 
 -- ---- the beginning
 
 pub nothing_yet : (s : Stubs) → IsRecovering s [] (record { boots = booted []; points = 0 }) []
 nothing_yet s = record {
-  reboots = record { table = tt; stopped = tt; last = tt };
+  reboots = record { booted = λ is. absurd (cc is); table = tt; stopped = tt; last = tt };
   served = record { calls = tt; items = tt; committed = tt; order = tt };
   walks = tt;
   on_demand = tt;

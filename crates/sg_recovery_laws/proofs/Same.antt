@@ -12,12 +12,14 @@ use Rattle.sg_facts.specs.declared.trace.Tag.{Tag}
 use Rattle.sg_facts.specs.declared.trace.Tag.TheVariants.{Walk, Load, Client}
 use Rattle.sg_facts.specs.Alike.{SameFile, named}
 use Rattle.sg_facts.specs.Facts.{Facts}
+use Rattle.sg_facts.specs.Guard.{guard}
+use Rattle.sg_facts.specs.Interface.{Declared}
 use Rattle.sg_facts.specs.Needs.{is_needed, needs}
 use Rattle.sg_facts.specs.Object.{object_of}
 use Rattle.sg_facts.specs.Track.{row_at}
 use Rattle.sg_recovery_laws.specs.Growing.{AreGrown, IsGrown}
 use Rattle.sg_hist.specs.Reading.{Place, entries_before, ends_walk, has_length, is_made, is_ok, is_rebuilt_at, is_whole_at, names_at, object_before, value_at, walk_in}
-use Rattle.sg_hist.specs.Recovered.{IsAlikeTo, IsCallOfRow, IsDemanded, IsLoad, IsTracked, IsTrackedAt, IsUnderWay, IsWalked}
+use Rattle.sg_hist.specs.Recovered.{IsAdmitted, IsAlikeTo, IsCallOfRow, IsDemanded, IsLoad, IsTracked, IsTrackedAt, IsUnderWay, IsWalked}
 
 -- ---- lists
 
@@ -76,28 +78,34 @@ walked_same facts walks h u h' u' p r n same w = by p.item.tag w
     by (Load key client) w = tt
     by (Client client seq) w = tt
 
-pub demanded_same : (facts : Facts) (walks : List WalkLine) (h : List Entry) (u : List Call) (h' : List Entry) (u' : List Call) (p : Place) (r n : List Item)
-    → IsSame facts walks h u h' u' p r n → IsDemanded facts walks h u p p.item.tag → IsDemanded facts walks h' u' (again p r n) p.item.tag
-demanded_same facts walks h u h' u' p r n same d = by p.item.tag d
+pub demanded_same : (i : Declared) (walks : List WalkLine) (h : List Entry) (u : List Call) (h' : List Entry) (u' : List Call) (p : Place) (r n : List Item)
+    → IsSame i.facts walks h u h' u' p r n → IsDemanded i walks h u p p.item.tag → IsDemanded i walks h' u' (again p r n) p.item.tag
+demanded_same i walks h u h' u' p r n same d = by p.item.tag d
   where
-    by : (tag : Tag) → IsDemanded facts walks h u p tag → IsDemanded facts walks h' u' (again p r n) tag
+    admitted : (client : ℕ) (call : Call) → IsAdmitted i h u p client call → IsAdmitted i h' u' (again p r n) client call
+    admitted client call a = record {
+      under_way = same.under_way client call a.under_way;
+      guarded = ap (λ o. guard i o call) same.object ∙ a.guarded;
+    }
+
+    by : (tag : Tag) → IsDemanded i walks h u p tag → IsDemanded i walks h' u' (again p r n) tag
     by (Walk id k client) d = record {
       call = d.call;
-      under_way = same.under_way client d.call d.under_way;
-      least = subst (λ o. find (λ i. not (is_whole_at facts walks h' (again p r n) i)) (needs facts o d.call).ids ≡ Some id) (sym same.object)
-          (find_same (λ i. not (is_whole_at facts walks h' (again p r n) i)) (λ i. not (is_whole_at facts walks h p i)) (needs facts (object_before facts h p) d.call).ids
-          (λ i. ap not (same.whole i)) ∙ d.least);
+      admitted = admitted client d.call d.admitted;
+      least = subst (λ o. find (λ x. not (is_whole_at i.facts walks h' (again p r n) x)) (needs i.facts o d.call).ids ≡ Some id) (sym same.object)
+          (find_same (λ x. not (is_whole_at i.facts walks h' (again p r n) x)) (λ x. not (is_whole_at i.facts walks h p x)) (needs i.facts (object_before i.facts h p) d.call).ids
+          (λ x. ap not (same.whole x)) ∙ d.least);
     }
     by (Load key client) d = record {
       call = d.call;
-      under_way = same.under_way client d.call d.under_way;
-      rows = subst (λ o. list_all (is_whole_at facts walks h' (again p r n)) (needs facts o d.call).ids ≡ true) (sym same.object)
-          (all_same (is_whole_at facts walks h' (again p r n)) (is_whole_at facts walks h p) (needs facts (object_before facts h p) d.call).ids same.whole ∙ d.rows);
-      file = subst (λ o. (needs facts o d.call).file ≡ Some key) (sym same.object) d.file;
+      admitted = admitted client d.call d.admitted;
+      rows = subst (λ o. list_all (is_whole_at i.facts walks h' (again p r n)) (needs i.facts o d.call).ids ≡ true) (sym same.object)
+          (all_same (is_whole_at i.facts walks h' (again p r n)) (is_whole_at i.facts walks h p) (needs i.facts (object_before i.facts h p) d.call).ids same.whole ∙ d.rows);
+      file = subst (λ o. (needs i.facts o d.call).file ≡ Some key) (sym same.object) d.file;
       absent = d.absent;
       whole = subst (λ o. IsLoad o key p.item.outcome) (sym same.object) d.whole;
     }
-    by (Client client seq) d = same.under_way client p.item.shown d
+    by (Client client seq) d = admitted client p.item.shown d
 
 pub tracked_same : (facts : Facts) (walks : List WalkLine) (h : List Entry) (u : List Call) (h' : List Entry) (u' : List Call) (p : Place) (r n : List Item)
     → IsSame facts walks h u h' u' p r n → IsTrackedAt facts walks h p p.item.tag → IsTrackedAt facts walks h' (again p r n) p.item.tag

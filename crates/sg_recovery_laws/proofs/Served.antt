@@ -22,7 +22,7 @@ reverse_push : {A : Type 0} (xs : List A) (x : A) → reverse (xs ++ x ∷ []) �
 reverse_push [] x = refl
 reverse_push (y ∷ xs) x = reverse_onto (xs ++ x ∷ []) y [] ∙ ap (λ v. v ++ y ∷ []) (reverse_push xs x) ∙ ap (λ v. x ∷ v) (sym (reverse_onto xs y []))
 
-each_reverse : {A : Type 0} (P : A → Type 0) (xs : List A) → Each P xs → Each P (reverse xs)
+pub each_reverse : {A : Type 0} (P : A → Type 0) (xs : List A) → Each P xs → Each P (reverse xs)
 each_reverse P [] all = tt
 each_reverse P (x ∷ xs) all = subst (Each P) (sym (reverse_onto xs x [])) (each_push P (reverse xs) x (each_reverse P xs all.1) all.0)
 
@@ -38,11 +38,11 @@ reverse_grown item (p ∷ ps) (q ∷ qs) g =
 -- ---- items of entries
 
 -- the place of an entry's item, where there is one, has a property
-abbrev Has : (Place → Type 0) → Option Place → Type 0
+abbrev pub Has : (Place → Type 0) → Option Place → Type 0
 Has P None = Unit {0}
 Has P (Some p) = P p
 
-found_has : (P : Place → Type 0) (test : Place → Bool) (ps : List Place) → Each P ps → Has P (find test ps)
+pub found_has : (P : Place → Type 0) (test : Place → Bool) (ps : List Place) → Each P ps → Has P (find test ps)
 found_has P test [] all = tt
 found_has P test (p ∷ ps) all = by (found_has P test ps all.1) (test p)
   where

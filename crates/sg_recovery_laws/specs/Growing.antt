@@ -42,6 +42,18 @@ last_stop [] = None
 last_stop (b ∷ []) = b.stop
 last_stop (b ∷ c ∷ boots) = last_stop (c ∷ boots)
 
+-- the items of the last boot
+abbrev pub front_of : List Boot → List Item
+front_of [] = []
+front_of (b ∷ []) = b.items
+front_of (b ∷ c ∷ boots) = front_of (c ∷ boots)
+
+-- the items of the boots before the last, behind others
+abbrev pub older_of : List Item → List Boot → List Item
+older_of before [] = before
+older_of before (b ∷ []) = before
+older_of before (b ∷ c ∷ boots) = older_of (before ++ b.items) (c ∷ boots)
+
 -- a place is the same but that an item more stands behind it
 pub record IsGrown (item : Item) (p q : Place) : Type 0 where
   pub older : q.older ≡ p.older
@@ -71,22 +83,22 @@ IsOfNoEntry item (e ∷ history) = (is_item_of e item ≡ false) × IsOfNoEntry 
 
 -- all that holds of a run that recovers, its points aside
 pub record IsRecovering (s : Stubs) (history : List Entry) (run : Run) (unanswered : List Call) : Type 0 where
-  pub reboots : IsRebooted s.facts s.ask run
-  pub served : IsServed s.facts history run unanswered
-  pub walks : Each (λ p. IsWalked s.facts s.walks history p p.item.tag) (places_of run)
-  pub on_demand : Each (λ p. IsDemanded s.facts s.walks history unanswered p p.item.tag) (places_of run)
-  pub tracked_state : Each (λ p. IsTrackedAt s.facts s.walks history p p.item.tag) (places_of run)
+  pub reboots : IsRebooted s.interface.facts s.ask run
+  pub served : IsServed s.interface.facts history run unanswered
+  pub walks : Each (λ p. IsWalked s.interface.facts s.walks history p p.item.tag) (places_of run)
+  pub on_demand : Each (λ p. IsDemanded s.interface s.walks history unanswered p p.item.tag) (places_of run)
+  pub tracked_state : Each (λ p. IsTrackedAt s.interface.facts s.walks history p p.item.tag) (places_of run)
 
 -- an item is the next call of a walk, is needed, and finds what it needs as it is tracked, each where it is asked of it
 pub record IsSettled (s : Stubs) (history : List Entry) (unanswered : List Call) (p : Place) : Type 0 where
-  pub walk : IsWalked s.facts s.walks history p p.item.tag
-  pub demand : IsDemanded s.facts s.walks history unanswered p p.item.tag
-  pub state : IsTrackedAt s.facts s.walks history p p.item.tag
+  pub walk : IsWalked s.interface.facts s.walks history p p.item.tag
+  pub demand : IsDemanded s.interface s.walks history unanswered p p.item.tag
+  pub state : IsTrackedAt s.interface.facts s.walks history p p.item.tag
 
 -- what is asked of an item when it is noted: it is noted in a boot that wasn't stopped, answered by the table, and settled
 pub record IsNextItem (s : Stubs) (history : List Entry) (unanswered : List Call) (p : Place) : Type 0 where
   pub running : ends_stopped p.front ≡ false
-  pub table : AskedAs s.facts s.ask p p.item.tag
+  pub table : AskedAs s.interface.facts s.ask p p.item.tag
   pub call : IsItsCall history unanswered p.item.shown p.item.tag
   pub settled : IsSettled s history unanswered p
 
@@ -110,6 +122,12 @@ pub record IsHeldReply (facts : Facts) (history : List Entry) (run : Run) (e : E
   pub hidden : is_visible facts e.call.fun ≡ false
   pub served : is_by_guard e.reply ≡ false
   pub own : GivesEntry facts (history ++ e ∷ []) e (item_of run e)
+
+-- the item of an entry stands in the last boot
+pub record IsInLast (run : Run) (e : Entry) : Type 0 where
+  pub place : Place
+  pub its : item_of run e ≡ Some place
+  pub older : place.older ≡ older_of [] run.boots
 
 -- ---- points
 

@@ -9,9 +9,9 @@ ghost use Rattle.sg_facts.specs.Interface.{Declared};
 ghost use Rattle.sg_facts.specs.Legal.{IsLegal, Table, answer};
 ghost use Rattle.sg_facts.specs.Object.{object_of};
 ghost use Rattle.sg_facts.specs.Trace.{Boot, Run};
-ghost use Rattle.sg_recovery_laws.specs.Growing.{AreKept, HasOneMore, IsGrown, IsHeldReply, IsItemOf, IsLastCall, IsNextItem, IsRecovering, IsSettled, IsOfNoEntry, asked_over, booted, last_stop, noted, place_behind, struck};
+ghost use Rattle.sg_recovery_laws.specs.Growing.{AreKept, HasOneMore, IsGrown, IsHeldReply, IsInLast, IsItemOf, IsLastCall, IsNextItem, IsRecovering, IsSettled, IsOfNoEntry, asked_over, booted, front_of, last_stop, noted, place_behind, struck};
 ghost use Rattle.sg_hist.specs.Reading.{Place, after_item, entries_before, is_by_guard, is_item_of, names_at, names_in, places_from, places_of, stands_before, value_at};
-ghost use Rattle.sg_hist.specs.Recovered.{ArePointsOf, IsCount, IsPointOf, Stubs, asked_behind, ends_committed, is_stopped, is_visible_reply};
+ghost use Rattle.sg_hist.specs.Recovered.{AreInBoots, ArePointsOf, IsCount, IsPointOf, Stubs, answer_to, asked_behind, ends_committed, is_stopped, is_visible_reply};
 
 /// A legal history stays so with an entry that is the answer behind it.
 pub fn legal_stays()
@@ -58,17 +58,17 @@ pub fn values_grow()
 pub fn recovering_goes_on()
     ensures begins { (s : Stubs) → IsRecovering s [] (record { boots = booted []; points = 0 }) [] }
     ensures noted { (s : Stubs) (h : List Entry) (b : Boot) (boots : List Boot) (points later : ℕ) (u u' : List Call) (item : Item)
-        → IsOfNoEntry item h → is_visible_reply s.facts item ≡ false → AreKept h u h u' → IsNextItem s h u' (place_behind [] (b ∷ boots) item)
+        → IsOfNoEntry item h → is_visible_reply s.interface.facts item ≡ false → AreKept h u h u' → IsNextItem s h u' (place_behind [] (b ∷ boots) item)
         → IsRecovering s h (record { boots = b ∷ boots; points = points }) u
         → IsRecovering s h (record { boots = noted (b ∷ boots) item; points = later }) u' }
     ensures committed { (s : Stubs) (h : List Entry) (b : Boot) (boots : List Boot) (points later : ℕ) (u u' : List Call) (item : Item) (e : Entry)
-        → IsOfNoEntry item h → IsItemOf s.facts h (place_behind [] (b ∷ boots) item) e → IsLastCall h u e.call → AreKept h u (h ++ e ∷ []) u'
+        → IsOfNoEntry item h → IsItemOf s.interface.facts h (place_behind [] (b ∷ boots) item) e → IsLastCall h u e.call → AreKept h u (h ++ e ∷ []) u'
         → IsNextItem s (h ++ e ∷ []) u' (place_behind [] (b ∷ boots) item)
         → IsRecovering s h (record { boots = b ∷ boots; points = points }) u
         → IsRecovering s (h ++ e ∷ []) (record { boots = noted (b ∷ boots) item; points = later }) u' }
     ensures refused { (s : Stubs) (h : List Entry) (run : Run) (u u' : List Call) (e : Entry) → is_by_guard e.reply ≡ true
         → AreKept h u (h ++ e ∷ []) u' → IsRecovering s h run u → IsRecovering s (h ++ e ∷ []) run u' }
-    ensures held { (s : Stubs) (h : List Entry) (run : Run) (u u' : List Call) (e : Entry) → IsHeldReply s.facts h run e → IsLastCall h u e.call
+    ensures held { (s : Stubs) (h : List Entry) (run : Run) (u u' : List Call) (e : Entry) → IsHeldReply s.interface.facts h run e → IsLastCall h u e.call
         → AreKept h u (h ++ e ∷ []) u' → Each (λ p. stands_before p e ≡ true → IsSettled s (h ++ e ∷ []) u' p) (places_of run)
         → IsRecovering s h run u → IsRecovering s (h ++ e ∷ []) run u' }
     ensures made { (s : Stubs) (h : List Entry) (run : Run) (u u' : List Call) → AreKept h u h u' → IsRecovering s h run u → IsRecovering s h run u' }
@@ -82,27 +82,48 @@ pub fn recovering_goes_on()
 /// Points stay counted: where an item is noted that has its points; where it stopped; where the service stops at the point of the
 /// commit before, or at the next; where it is booted again; and where points were asked that belong to no item.
 pub fn points_go_on()
-    ensures begins { (exact : Bool) (facts : Facts) (parts : ℕ → ℕ) → ArePointsOf exact facts parts 0 (booted []) 0 }
-    ensures noted { (exact : Bool) (facts : Facts) (parts : ℕ → ℕ) (asked : ℕ) (b : Boot) (boots : List Boot) (points later : ℕ) (item : Item)
+    ensures begins { (exact : Bool) (facts : Facts) (ask : Table) (parts : ℕ → ℕ) → ArePointsOf exact facts ask parts 0 (booted []) 0 }
+    ensures noted { (exact : Bool) (facts : Facts) (ask : Table) (parts : ℕ → ℕ) (asked : ℕ) (b : Boot) (boots : List Boot) (points later : ℕ) (item : Item)
         → last_stop (b ∷ boots) ≡ None → is_stopped item.outcome ≡ false
-        → IsPointOf exact parts (asked_over facts asked (b ∷ boots)) item.tag item.shown.fun item.outcome item.points
+        → IsPointOf exact parts (asked_over facts asked (b ∷ boots)) (answer_to facts ask (front_of (b ∷ boots)) item)
+            item.tag item.shown.fun item.outcome item.points
         → IsCount exact later (asked_behind facts item)
-        → ArePointsOf exact facts parts asked (b ∷ boots) points → ArePointsOf exact facts parts asked (noted (b ∷ boots) item) later }
-    ensures within { (exact : Bool) (facts : Facts) (parts : ℕ → ℕ) (asked : ℕ) (b : Boot) (boots : List Boot) (points later : ℕ) (item : Item)
+        → ArePointsOf exact facts ask parts asked (b ∷ boots) points → ArePointsOf exact facts ask parts asked (noted (b ∷ boots) item) later }
+    ensures within { (exact : Bool) (facts : Facts) (ask : Table) (parts : ℕ → ℕ) (asked : ℕ) (b : Boot) (boots : List Boot) (points later : ℕ) (item : Item)
         → last_stop (b ∷ boots) ≡ None → is_stopped item.outcome ≡ true
-        → IsPointOf exact parts (asked_over facts asked (b ∷ boots)) item.tag item.shown.fun item.outcome item.points
+        → IsPointOf exact parts (asked_over facts asked (b ∷ boots)) (answer_to facts ask (front_of (b ∷ boots)) item)
+            item.tag item.shown.fun item.outcome item.points
         → IsCount exact later item.points
-        → ArePointsOf exact facts parts asked (b ∷ boots) points
-        → ArePointsOf exact facts parts asked (struck (noted (b ∷ boots) item) item.points) later }
-    ensures between { (exact : Bool) (facts : Facts) (parts : ℕ → ℕ) (asked : ℕ) (b : Boot) (boots : List Boot) (points later stop : ℕ) (item : Item)
+        → ArePointsOf exact facts ask parts asked (b ∷ boots) points
+        → ArePointsOf exact facts ask parts asked (struck (noted (b ∷ boots) item) item.points) later }
+    ensures between { (exact : Bool) (facts : Facts) (ask : Table) (parts : ℕ → ℕ) (asked : ℕ) (b : Boot) (boots : List Boot) (points later stop : ℕ)
         → last_stop (b ∷ boots) ≡ None
-        → ((ends_committed facts (place_behind [] (b ∷ boots) item).front ≡ true) × (stop ≡ asked_over facts asked (b ∷ boots)))
+        → ((ends_committed facts (front_of (b ∷ boots)) ≡ true) × (stop ≡ asked_over facts asked (b ∷ boots)))
         ⊎ IsCount exact stop (asked_over facts asked (b ∷ boots) + 1)
         → IsCount exact later stop
-        → ArePointsOf exact facts parts asked (b ∷ boots) points → ArePointsOf exact facts parts asked (struck (b ∷ boots) stop) later }
-    ensures again { (exact : Bool) (facts : Facts) (parts : ℕ → ℕ) (asked : ℕ) (b : Boot) (boots : List Boot) (points : ℕ)
-        → ArePointsOf exact facts parts asked (b ∷ boots) points → ArePointsOf exact facts parts asked (booted (b ∷ boots)) points }
-    ensures counted { (exact : Bool) (facts : Facts) (parts : ℕ → ℕ) (asked : ℕ) (boots : List Boot) (points later : ℕ)
+        → ArePointsOf exact facts ask parts asked (b ∷ boots) points → ArePointsOf exact facts ask parts asked (struck (b ∷ boots) stop) later }
+    ensures again { (exact : Bool) (facts : Facts) (ask : Table) (parts : ℕ → ℕ) (asked : ℕ) (b : Boot) (boots : List Boot) (points : ℕ)
+        → ArePointsOf exact facts ask parts asked (b ∷ boots) points → ArePointsOf exact facts ask parts asked (booted (b ∷ boots)) points }
+    ensures counted { (exact : Bool) (facts : Facts) (ask : Table) (parts : ℕ → ℕ) (asked : ℕ) (boots : List Boot) (points later : ℕ)
         → IsCount exact later (asked_over facts asked boots)
-        → ArePointsOf exact facts parts asked boots points → ArePointsOf exact facts parts asked boots later }
+        → ArePointsOf exact facts ask parts asked boots points → ArePointsOf exact facts ask parts asked boots later }
+{}
+
+/// Along the history the boots of the entries' items never go back: where an entry is appended whose item stands in the last boot,
+/// or a refusal by the guard; where an item is noted that is of no entry; where the service stops, and is booted again. The item that
+/// is noted last stands in the last boot, and one that stood there goes on to do so until the next boot.
+pub fn held_stay_in_boots()
+    ensures appended { (run : Run) (h : List Entry) (e : Entry) → is_by_guard e.reply ≡ false → IsInLast run e → AreInBoots run 0 h
+        → AreInBoots run 0 (h ++ e ∷ []) }
+    ensures refused { (run : Run) (h : List Entry) (e : Entry) → is_by_guard e.reply ≡ true → AreInBoots run 0 h → AreInBoots run 0 (h ++ e ∷ []) }
+    ensures noted { (b : Boot) (boots : List Boot) (points later : ℕ) (item : Item) (h : List Entry) → IsOfNoEntry item h
+        → AreInBoots (record { boots = b ∷ boots; points = points }) 0 h → AreInBoots (record { boots = noted (b ∷ boots) item; points = later }) 0 h }
+    ensures stopped { (boots : List Boot) (points later stop : ℕ) (h : List Entry) → AreInBoots (record { boots = boots; points = points }) 0 h
+        → AreInBoots (record { boots = struck boots stop; points = later }) 0 h }
+    ensures again { (boots : List Boot) (points later : ℕ) (h : List Entry) → AreInBoots (record { boots = boots; points = points }) 0 h
+        → AreInBoots (record { boots = booted boots; points = later }) 0 h }
+    ensures own { (b : Boot) (boots : List Boot) (points later : ℕ) (item : Item) (e : Entry) → is_item_of e item ≡ true
+        → IsInLast (record { boots = noted (b ∷ boots) item; points = later }) e }
+    ensures still { (b : Boot) (boots : List Boot) (points later : ℕ) (item : Item) (e : Entry) → is_item_of e item ≡ false
+        → IsInLast (record { boots = b ∷ boots; points = points }) e → IsInLast (record { boots = noted (b ∷ boots) item; points = later }) e }
 {}

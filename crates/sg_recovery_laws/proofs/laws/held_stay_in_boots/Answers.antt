@@ -1,0 +1,13 @@
+use Rattle.sg_recovery_laws.proofs.InBoots.{boots_appended, boots_booted, boots_noted, boots_refused, boots_struck, own_last, still_last}
+use Rattle.sg_recovery_laws.proofs.laws.held_stay_in_boots.Goals as goal
+
+pub returns : goal.returns
+returns c = record {
+  appended = boots_appended;
+  refused = boots_refused;
+  noted = boots_noted;
+  stopped = boots_struck;
+  again = boots_booted;
+  own = own_last;
+  still = still_last;
+}
