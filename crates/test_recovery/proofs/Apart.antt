@@ -15,6 +15,9 @@ true_false e = absurd cc
 pub none_some : {A : Type 0} {x : A} → None ≡ Some x → ⊥
 none_some e = absurd cc
 
+pub some_none : {A : Type 0} {x : A} → Some x ≡ None → ⊥
+some_none e = absurd cc
+
 pub not_empty : {A : Type 0} {x : A} {xs : List A} → x ∷ xs ≡ [] → ⊥
 not_empty e = absurd cc
 

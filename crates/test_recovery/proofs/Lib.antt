@@ -10,3 +10,4 @@ pub mod RamfsRuns
 pub mod SchedFaults
 pub mod SchedRuns
 pub mod Steps
+pub mod StrictRuns

@@ -30,11 +30,11 @@ place = record {
 own : Each (λ c. c.seq ≡ 3 → c ≡ bare_call 1 3 2 1) (calls_made two_locks_history (waiting two_locks_ends))
 own = ((λ e. absurd (omega (arith, e))), ((λ e. absurd (omega (arith, e))), ((λ e. refl), tt)))
 
-not_least : IsRebuiltFor lock_stubs.facts lock_stubs.walks two_locks_history (waiting two_locks_ends) place 1 2 → ⊥
+not_least : IsRebuiltFor lock_stubs.interface lock_stubs.walks two_locks_history (waiting two_locks_ends) place 1 2 → ⊥
 not_least d =
-    let seq = third d.call.seq d.under_way.above d.under_way.first in
-    let call : bare_call 1 3 2 1 ≡ d.call = sym (each_contains (λ c. c.seq ≡ 3 → c ≡ bare_call 1 3 2 1) (calls_made two_locks_history (waiting two_locks_ends)) d.call own d.under_way.its.made seq) in
-    let e : 1 ≡ 2 = ap id_in (subst (λ c. find (λ i. not (is_whole_at lock_stubs.facts lock_stubs.walks two_locks_history place i)) (needs lock_stubs.facts (object_before lock_stubs.facts two_locks_history place) c).ids ≡ Some 2) (sym call) d.least) in
+    let seq = third d.call.seq d.admitted.under_way.above d.admitted.under_way.first in
+    let call : bare_call 1 3 2 1 ≡ d.call = sym (each_contains (λ c. c.seq ≡ 3 → c ≡ bare_call 1 3 2 1) (calls_made two_locks_history (waiting two_locks_ends)) d.call own d.admitted.under_way.its.made seq) in
+    let e : 1 ≡ 2 = ap id_in (subst (λ c. find (λ i. not (is_whole_at lock_stubs.interface.facts lock_stubs.walks two_locks_history place i)) (needs lock_stubs.interface.facts (object_before lock_stubs.interface.facts two_locks_history place) c).ids ≡ Some 2) (sym call) d.least) in
     omega (arith, e)
 
 pub another_id-wrong : IsRecovered lock_stubs stop_after_take_history another_id (waiting stop_after_take_ends) → ⊥
@@ -63,7 +63,7 @@ walk_too_long-wrong r = none_some r.walks.1.1.1.1.0.call
 
 pub rebuilt_for_nobody-wrong : IsRecovered lock_stubs stop_after_take_history rebuilt_for_nobody (waiting stop_after_take_ends) → ⊥
 rebuilt_for_nobody-wrong r =
-    let u = r.on_demand.1.1.0.under_way.its in
+    let u = r.on_demand.1.1.0.admitted.under_way.its in
     let e : 1 ≡ 2 = sym (each_contains (λ c. c.client ≡ 1) (calls_made stop_after_take_history (waiting stop_after_take_ends)) r.on_demand.1.1.0.call (refl, (refl, (refl, (refl, tt)))) u.made) ∙ u.its in
     omega (arith, e)
 
@@ -88,7 +88,7 @@ rebuilt_needlessly-wrong r = not_least r.on_demand.1.1.0
 pub point_asked_in_vain-wrong : IsRecovered lock_stubs stop_after_take_history point_asked_in_vain (waiting stop_after_take_ends) → ⊥
 point_asked_in_vain-wrong r = let e : 9 ≡ 8 = (r.points refl).0.1.0 in omega (arith, e)
 
-pub point_asked_in_vain-counted : ArePointsOf false lock_stubs.facts lock_stubs.parts 0 point_asked_in_vain.boots point_asked_in_vain.points
+pub point_asked_in_vain-counted : ArePointsOf false lock_stubs.interface.facts lock_stubs.ask lock_stubs.parts 0 point_asked_in_vain.boots point_asked_in_vain.points
 point_asked_in_vain-counted =
     ((omega arith, (omega arith, tt)), inl (refl, refl), ((omega arith, (omega arith, (omega arith, (omega arith, tt)))), refl, omega arith))
 

@@ -7,14 +7,15 @@ use Rattle.sg_hist.specs.Reading.{places_of}
 use Rattle.sg_hist.specs.Recovered.{ArePointsOf, IsDemanded, IsRebooted, IsRecovered, IsServed, IsTrackedAt, IsWalked, waiting}
 use Rattle.test_recovery.specs.Written.{call_with, word}
 
-file_loaded-reboots : IsRebooted ramfs_stubs.facts ramfs_stubs.ask file_loaded
+file_loaded-reboots : IsRebooted ramfs_stubs.interface.facts ramfs_stubs.ask file_loaded
 file_loaded-reboots = record {
+  booted = λ is. absurd (cc is);
   table = ((refl, refl), ((refl, refl), ((refl, refl), (tt, ((refl, refl), ((refl, refl), ((refl, refl), ((refl, refl), ((refl, refl), tt)))))))));
   stopped = (refl, tt);
   last = (tt, (tt, (tt, (tt, (tt, (tt, (tt, (tt, (tt, tt)))))))));
 }
 
-file_loaded-served : IsServed ramfs_stubs.facts file_loaded_history file_loaded (waiting file_loaded_ends)
+file_loaded-served : IsServed ramfs_stubs.interface.facts file_loaded_history file_loaded (waiting file_loaded_ends)
 file_loaded-served = record {
   calls = ((record { its = refl; made = (0, omega arith, refl) }, refl), ((record { its = refl; made = (1, omega arith, refl) }, refl), ((record { its = refl; made = (2, omega arith, refl) }, refl), (tt, ((record { its = refl; made = (3, omega arith, refl) }, refl), (tt, (tt, ((record { its = refl; made = (4, omega arith, refl) }, refl), ((record { its = refl; made = (5, omega arith, refl) }, refl), tt)))))))));
   items = ((refl, (refl, refl, refl)), ((refl, (refl, refl, refl)), ((refl, (refl, refl, refl)), ((refl, (refl, refl, refl)), ((refl, (refl, refl, refl)), ((refl, refl), tt))))));
@@ -22,16 +23,16 @@ file_loaded-served = record {
   order = (refl, (refl, (refl, (refl, (tt, (refl, tt))))));
 }
 
-file_loaded-walks : Each (λ p. IsWalked ramfs_stubs.facts ramfs_stubs.walks file_loaded_history p p.item.tag) (places_of file_loaded)
+file_loaded-walks : Each (λ p. IsWalked ramfs_stubs.interface.facts ramfs_stubs.walks file_loaded_history p p.item.tag) (places_of file_loaded)
 file_loaded-walks = (tt, (tt, (tt, (tt, (tt, (record { unmade = refl; next = refl; parent = refl; call = refl; real = refl; outcome = tt }, (record { unmade = refl; next = refl; parent = refl; call = refl; real = refl; outcome = tt }, (tt, (tt, tt)))))))))
 
-file_loaded-demanded : Each (λ p. IsDemanded ramfs_stubs.facts ramfs_stubs.walks file_loaded_history (waiting file_loaded_ends) p p.item.tag) (places_of file_loaded)
-file_loaded-demanded = (record { its = record { its = refl; made = (0, omega arith, refl) }; above = refl; first = refl }, (record { its = record { its = refl; made = (1, omega arith, refl) }; above = refl; first = refl }, (record { its = record { its = refl; made = (2, omega arith, refl) }; above = refl; first = refl }, (record { call = call_with 2 2 2 2 ((word 16) ∷ []); under_way = record { its = record { its = refl; made = (3, omega arith, refl) }; above = refl; first = refl }; rows = refl; file = refl; absent = refl; whole = (refl, refl, refl, λ e. cc) }, (record { its = record { its = refl; made = (3, omega arith, refl) }; above = refl; first = refl }, (record { call = call_with 1 3 4 1 ((word 9) ∷ []); under_way = record { its = record { its = refl; made = (4, omega arith, refl) }; above = refl; first = refl }; least = refl }, (record { call = call_with 1 3 4 1 ((word 9) ∷ []); under_way = record { its = record { its = refl; made = (4, omega arith, refl) }; above = refl; first = refl }; least = refl }, (record { its = record { its = refl; made = (4, omega arith, refl) }; above = refl; first = refl }, (record { its = record { its = refl; made = (5, omega arith, refl) }; above = refl; first = refl }, tt)))))))))
+file_loaded-demanded : Each (λ p. IsDemanded ramfs_stubs.interface ramfs_stubs.walks file_loaded_history (waiting file_loaded_ends) p p.item.tag) (places_of file_loaded)
+file_loaded-demanded = (record { under_way = record { its = record { its = refl; made = (0, omega arith, refl) }; above = refl; first = refl }; guarded = refl }, (record { under_way = record { its = record { its = refl; made = (1, omega arith, refl) }; above = refl; first = refl }; guarded = refl }, (record { under_way = record { its = record { its = refl; made = (2, omega arith, refl) }; above = refl; first = refl }; guarded = refl }, (record { call = call_with 2 2 2 2 ((word 16) ∷ []); admitted = record { under_way = record { its = record { its = refl; made = (3, omega arith, refl) }; above = refl; first = refl }; guarded = refl }; rows = refl; file = refl; absent = refl; whole = (refl, refl, refl, λ e. cc) }, (record { under_way = record { its = record { its = refl; made = (3, omega arith, refl) }; above = refl; first = refl }; guarded = refl }, (record { call = call_with 1 3 4 1 ((word 9) ∷ []); admitted = record { under_way = record { its = record { its = refl; made = (4, omega arith, refl) }; above = refl; first = refl }; guarded = refl }; least = refl }, (record { call = call_with 1 3 4 1 ((word 9) ∷ []); admitted = record { under_way = record { its = record { its = refl; made = (4, omega arith, refl) }; above = refl; first = refl }; guarded = refl }; least = refl }, (record { under_way = record { its = record { its = refl; made = (4, omega arith, refl) }; above = refl; first = refl }; guarded = refl }, (record { under_way = record { its = record { its = refl; made = (5, omega arith, refl) }; above = refl; first = refl }; guarded = refl }, tt)))))))))
 
-file_loaded-tracked : Each (λ p. IsTrackedAt ramfs_stubs.facts ramfs_stubs.walks file_loaded_history p p.item.tag) (places_of file_loaded)
+file_loaded-tracked : Each (λ p. IsTrackedAt ramfs_stubs.interface.facts ramfs_stubs.walks file_loaded_history p p.item.tag) (places_of file_loaded)
 file_loaded-tracked = (record { whole = refl; rows = tt; real = refl; file = tt }, (record { whole = refl; rows = (record { id = refl; made = refl; parent = refl; state = refl; fields = refl }, tt); real = refl; file = (refl, refl) }, (record { whole = refl; rows = tt; real = refl; file = tt }, (tt, (record { whole = refl; rows = (record { id = refl; made = refl; parent = refl; state = refl; fields = refl }, tt); real = refl; file = (refl, refl) }, (tt, (tt, (record { whole = refl; rows = (record { id = refl; made = refl; parent = refl; state = refl; fields = refl }, tt); real = refl; file = tt }, (record { whole = refl; rows = (record { id = refl; made = refl; parent = refl; state = refl; fields = refl }, tt); real = refl; file = (refl, refl) }, tt)))))))))
 
-file_loaded-points : ArePointsOf true ramfs_stubs.facts ramfs_stubs.parts 0 file_loaded.boots file_loaded.points
+file_loaded-points : ArePointsOf true ramfs_stubs.interface.facts ramfs_stubs.ask ramfs_stubs.parts 0 file_loaded.boots file_loaded.points
 file_loaded-points = ((refl, (refl, tt)), inl (refl, refl), ((refl, (refl, (refl, (refl, (refl, (refl, (refl, tt))))))), refl, refl))
 
 pub file_loaded-recovered : IsRecovered ramfs_stubs file_loaded_history file_loaded (waiting file_loaded_ends)
@@ -42,16 +43,18 @@ file_loaded-recovered = record {
   on_demand = file_loaded-demanded;
   tracked_state = file_loaded-tracked;
   points = λ below. file_loaded-points;
+  held = (omega arith, (omega arith, (omega arith, (omega arith, (omega arith, (omega arith, tt))))));
 }
 
-held_lost-reboots : IsRebooted ramfs_stubs.facts ramfs_stubs.ask held_lost
+held_lost-reboots : IsRebooted ramfs_stubs.interface.facts ramfs_stubs.ask held_lost
 held_lost-reboots = record {
+  booted = λ is. absurd (cc is);
   table = ((refl, refl), ((refl, refl), ((refl, refl), ((refl, refl), ((refl, refl), ((refl, refl), tt))))));
   stopped = (refl, tt);
   last = (tt, (tt, (tt, (tt, (tt, (tt, tt))))));
 }
 
-held_lost-served : IsServed ramfs_stubs.facts held_lost_history held_lost (waiting held_lost_ends)
+held_lost-served : IsServed ramfs_stubs.interface.facts held_lost_history held_lost (waiting held_lost_ends)
 held_lost-served = record {
   calls = ((record { its = refl; made = (0, omega arith, refl) }, refl), ((record { its = refl; made = (3, omega arith, refl) }, refl), (tt, ((record { its = refl; made = (2, omega arith, refl) }, refl), ((record { its = refl; made = (3, omega arith, refl) }, refl), ((record { its = refl; made = (4, omega arith, refl) }, refl), tt))))));
   items = ((refl, (refl, refl, refl)), (tt, ((refl, (refl, refl, refl)), ((refl, (refl, refl, refl)), ((refl, (refl, refl, refl)), tt)))));
@@ -59,16 +62,16 @@ held_lost-served = record {
   order = (refl, (tt, (refl, (tt, (refl, tt)))));
 }
 
-held_lost-walks : Each (λ p. IsWalked ramfs_stubs.facts ramfs_stubs.walks held_lost_history p p.item.tag) (places_of held_lost)
+held_lost-walks : Each (λ p. IsWalked ramfs_stubs.interface.facts ramfs_stubs.walks held_lost_history p p.item.tag) (places_of held_lost)
 held_lost-walks = (tt, (tt, (record { unmade = refl; next = refl; parent = refl; call = refl; real = refl; outcome = tt }, (tt, (tt, (tt, tt))))))
 
-held_lost-demanded : Each (λ p. IsDemanded ramfs_stubs.facts ramfs_stubs.walks held_lost_history (waiting held_lost_ends) p p.item.tag) (places_of held_lost)
-held_lost-demanded = (record { its = record { its = refl; made = (0, omega arith, refl) }; above = refl; first = refl }, (record { its = record { its = refl; made = (3, omega arith, refl) }; above = refl; first = refl }, (record { call = call_with 1 2 4 1 ((word 4) ∷ []); under_way = record { its = record { its = refl; made = (3, omega arith, refl) }; above = refl; first = refl }; least = refl }, (record { its = record { its = refl; made = (2, omega arith, refl) }; above = refl; first = refl }, (record { its = record { its = refl; made = (3, omega arith, refl) }; above = refl; first = refl }, (record { its = record { its = refl; made = (4, omega arith, refl) }; above = refl; first = refl }, tt))))))
+held_lost-demanded : Each (λ p. IsDemanded ramfs_stubs.interface ramfs_stubs.walks held_lost_history (waiting held_lost_ends) p p.item.tag) (places_of held_lost)
+held_lost-demanded = (record { under_way = record { its = record { its = refl; made = (0, omega arith, refl) }; above = refl; first = refl }; guarded = refl }, (record { under_way = record { its = record { its = refl; made = (3, omega arith, refl) }; above = refl; first = refl }; guarded = refl }, (record { call = call_with 1 2 4 1 ((word 4) ∷ []); admitted = record { under_way = record { its = record { its = refl; made = (3, omega arith, refl) }; above = refl; first = refl }; guarded = refl }; least = refl }, (record { under_way = record { its = record { its = refl; made = (2, omega arith, refl) }; above = refl; first = refl }; guarded = refl }, (record { under_way = record { its = record { its = refl; made = (3, omega arith, refl) }; above = refl; first = refl }; guarded = refl }, (record { under_way = record { its = record { its = refl; made = (4, omega arith, refl) }; above = refl; first = refl }; guarded = refl }, tt))))))
 
-held_lost-tracked : Each (λ p. IsTrackedAt ramfs_stubs.facts ramfs_stubs.walks held_lost_history p p.item.tag) (places_of held_lost)
+held_lost-tracked : Each (λ p. IsTrackedAt ramfs_stubs.interface.facts ramfs_stubs.walks held_lost_history p p.item.tag) (places_of held_lost)
 held_lost-tracked = (record { whole = refl; rows = tt; real = refl; file = tt }, (record { whole = refl; rows = (record { id = refl; made = refl; parent = refl; state = refl; fields = refl }, tt); real = refl; file = tt }, (tt, (record { whole = refl; rows = tt; real = refl; file = tt }, (record { whole = refl; rows = (record { id = refl; made = refl; parent = refl; state = refl; fields = refl }, tt); real = refl; file = tt }, (record { whole = refl; rows = (record { id = refl; made = refl; parent = refl; state = refl; fields = refl }, tt); real = refl; file = (refl, refl) }, tt))))))
 
-held_lost-points : ArePointsOf true ramfs_stubs.facts ramfs_stubs.parts 0 held_lost.boots held_lost.points
+held_lost-points : ArePointsOf true ramfs_stubs.interface.facts ramfs_stubs.ask ramfs_stubs.parts 0 held_lost.boots held_lost.points
 held_lost-points = ((refl, (refl, tt)), inr (refl, refl), ((refl, (refl, (refl, (refl, tt)))), refl, refl))
 
 pub held_lost-recovered : IsRecovered ramfs_stubs held_lost_history held_lost (waiting held_lost_ends)
@@ -79,16 +82,18 @@ held_lost-recovered = record {
   on_demand = held_lost-demanded;
   tracked_state = held_lost-tracked;
   points = λ below. held_lost-points;
+  held = (omega arith, (omega arith, (omega arith, (omega arith, (omega arith, tt)))));
 }
 
-held_behind-reboots : IsRebooted ramfs_stubs.facts ramfs_stubs.ask held_behind
+held_behind-reboots : IsRebooted ramfs_stubs.interface.facts ramfs_stubs.ask held_behind
 held_behind-reboots = record {
+  booted = λ is. absurd (cc is);
   table = ((refl, refl), ((refl, refl), ((refl, refl), ((refl, refl), tt))));
   stopped = tt;
   last = (tt, (tt, (tt, (tt, tt))));
 }
 
-held_behind-served : IsServed ramfs_stubs.facts held_behind_history held_behind (waiting held_behind_ends)
+held_behind-served : IsServed ramfs_stubs.interface.facts held_behind_history held_behind (waiting held_behind_ends)
 held_behind-served = record {
   calls = ((record { its = refl; made = (0, omega arith, refl) }, refl), ((record { its = refl; made = (2, omega arith, refl) }, refl), ((record { its = refl; made = (1, omega arith, refl) }, refl), ((record { its = refl; made = (3, omega arith, refl) }, refl), tt))));
   items = ((refl, (refl, refl, refl)), ((refl, (refl, refl, refl)), ((refl, (refl, refl, refl)), ((refl, (refl, refl, refl)), tt))));
@@ -96,16 +101,16 @@ held_behind-served = record {
   order = (refl, (refl, (tt, (refl, tt))));
 }
 
-held_behind-walks : Each (λ p. IsWalked ramfs_stubs.facts ramfs_stubs.walks held_behind_history p p.item.tag) (places_of held_behind)
+held_behind-walks : Each (λ p. IsWalked ramfs_stubs.interface.facts ramfs_stubs.walks held_behind_history p p.item.tag) (places_of held_behind)
 held_behind-walks = (tt, (tt, (tt, (tt, tt))))
 
-held_behind-demanded : Each (λ p. IsDemanded ramfs_stubs.facts ramfs_stubs.walks held_behind_history (waiting held_behind_ends) p p.item.tag) (places_of held_behind)
-held_behind-demanded = (record { its = record { its = refl; made = (0, omega arith, refl) }; above = refl; first = refl }, (record { its = record { its = refl; made = (2, omega arith, refl) }; above = refl; first = refl }, (record { its = record { its = refl; made = (1, omega arith, refl) }; above = refl; first = refl }, (record { its = record { its = refl; made = (3, omega arith, refl) }; above = refl; first = refl }, tt))))
+held_behind-demanded : Each (λ p. IsDemanded ramfs_stubs.interface ramfs_stubs.walks held_behind_history (waiting held_behind_ends) p p.item.tag) (places_of held_behind)
+held_behind-demanded = (record { under_way = record { its = record { its = refl; made = (0, omega arith, refl) }; above = refl; first = refl }; guarded = refl }, (record { under_way = record { its = record { its = refl; made = (2, omega arith, refl) }; above = refl; first = refl }; guarded = refl }, (record { under_way = record { its = record { its = refl; made = (1, omega arith, refl) }; above = refl; first = refl }; guarded = refl }, (record { under_way = record { its = record { its = refl; made = (3, omega arith, refl) }; above = refl; first = refl }; guarded = refl }, tt))))
 
-held_behind-tracked : Each (λ p. IsTrackedAt ramfs_stubs.facts ramfs_stubs.walks held_behind_history p p.item.tag) (places_of held_behind)
+held_behind-tracked : Each (λ p. IsTrackedAt ramfs_stubs.interface.facts ramfs_stubs.walks held_behind_history p p.item.tag) (places_of held_behind)
 held_behind-tracked = (record { whole = refl; rows = tt; real = refl; file = tt }, (record { whole = refl; rows = (record { id = refl; made = refl; parent = refl; state = refl; fields = refl }, tt); real = refl; file = tt }, (record { whole = refl; rows = tt; real = refl; file = tt }, (record { whole = refl; rows = (record { id = refl; made = refl; parent = refl; state = refl; fields = refl }, tt); real = refl; file = (refl, refl) }, tt))))
 
-held_behind-points : ArePointsOf true ramfs_stubs.facts ramfs_stubs.parts 0 held_behind.boots held_behind.points
+held_behind-points : ArePointsOf true ramfs_stubs.interface.facts ramfs_stubs.ask ramfs_stubs.parts 0 held_behind.boots held_behind.points
 held_behind-points = ((refl, (refl, (refl, (refl, tt)))), refl, refl)
 
 pub held_behind-recovered : IsRecovered ramfs_stubs held_behind_history held_behind (waiting held_behind_ends)
@@ -116,4 +121,5 @@ held_behind-recovered = record {
   on_demand = held_behind-demanded;
   tracked_state = held_behind-tracked;
   points = λ below. held_behind-points;
+  held = (omega arith, (omega arith, (omega arith, (omega arith, tt))));
 }

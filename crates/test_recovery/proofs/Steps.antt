@@ -35,7 +35,7 @@ committed : IsRecovering lock_stubs (made ∷ []) (record { boots = noted (boote
 committed = committed_stays lock_stubs [] (record { items = []; stop = None }) [] 0 5 (alloc ∷ []) [] first made tt its
     (λ call c same. each_contains (λ x. x.seq ≤ 1) (alloc ∷ []) call (omega arith, tt) c) (λ call c. c) next offered
   where
-    its : IsItemOf lock_stubs.facts [] (place_behind [] (booted []) first) made
+    its : IsItemOf lock_stubs.interface.facts [] (place_behind [] (booted []) first) made
     its = record { tagged = refl; served = refl; shown = refl; reply = (refl, refl, refl) }
 
     next : IsNextItem lock_stubs (made ∷ []) [] (place_behind [] (booted []) first)
@@ -43,7 +43,7 @@ committed = committed_stays lock_stubs [] (record { items = []; stop = None }) [
       running = refl;
       table = (refl, refl);
       call = (record { its = refl; made = (0, omega arith, refl) }, refl);
-      settled = record { walk = tt; demand = record { its = record { its = refl; made = (0, omega arith, refl) }; above = refl; first = refl }; state = record { whole = refl; rows = tt; real = refl; file = tt } };
+      settled = record { walk = tt; demand = record { under_way = record { its = record { its = refl; made = (0, omega arith, refl) }; above = refl; first = refl }; guarded = refl }; state = record { whole = refl; rows = tt; real = refl; file = tt } };
     }
 
 -- the service stops once it is committed, and is booted again; a take is made
@@ -67,7 +67,7 @@ rebuilt_for_take-recovering = noted_stays lock_stubs (made ∷ []) (record { ite
         walk = record { unmade = refl; next = refl; parent = refl; call = refl; real = refl; outcome = tt };
         demand = record {
           call = take;
-          under_way = record { its = record { its = refl; made = (1, omega arith, refl) }; above = refl; first = refl };
+          admitted = record { under_way = record { its = record { its = refl; made = (1, omega arith, refl) }; above = refl; first = refl }; guarded = refl };
           least = refl;
         };
         state = tt;

@@ -3,6 +3,7 @@ use Rattle.std.specs.Prelude.{ℕ, List, [], ◌∷◌, None, Some}
 use Rattle.sg_facts.specs.declared.entry.Entry.{Entry}
 use Rattle.sg_facts.specs.declared.outcome.Outcome.TheVariants.{Blocks}
 use Rattle.sg_facts.specs.declared.tables.WalkLine.{WalkLine}
+use Rattle.sg_facts.specs.Laws.{whole}
 use Rattle.sg_facts.specs.Trace.{Run}
 use Rattle.sg_hist.specs.declared.ended.End.{End}
 use Rattle.sg_hist.specs.declared.ended.End.TheVariants.{Blocked, Done}
@@ -20,7 +21,7 @@ event_walks =
     ∷ []
 
 abbrev pub event_stubs : Stubs
-event_stubs = record { facts = event_facts; ask = event_table; parts = event_parts; walks = event_walks }
+event_stubs = record { interface = whole event_facts; ask = event_table; parts = event_parts; walks = event_walks }
 
 -- a trigger is committed before the stop, and the other client gets its count once
 abbrev pub trigger_not_twice_history : List Entry

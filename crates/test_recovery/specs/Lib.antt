@@ -3,4 +3,5 @@ pub mod LockRuns
 pub mod MmRuns
 pub mod RamfsRuns
 pub mod SchedRuns
+pub mod StrictRuns
 pub mod Written

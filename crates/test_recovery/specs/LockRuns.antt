@@ -3,6 +3,7 @@ use Rattle.std.specs.Prelude.{ℕ, List, [], ◌∷◌, None, Some}
 use Rattle.sg_facts.specs.declared.entry.Entry.{Entry}
 use Rattle.sg_facts.specs.declared.outcome.Outcome.TheVariants.{Stopped}
 use Rattle.sg_facts.specs.declared.tables.WalkLine.{WalkLine}
+use Rattle.sg_facts.specs.Laws.{whole}
 use Rattle.sg_facts.specs.Trace.{Run}
 use Rattle.sg_hist.specs.declared.ended.End.{End}
 use Rattle.sg_hist.specs.declared.ended.End.TheVariants.{Done}
@@ -20,7 +21,7 @@ lock_walks =
     ∷ []
 
 abbrev pub lock_stubs : Stubs
-lock_stubs = record { facts = lock_facts; ask = lock_table; parts = lock_parts; walks = lock_walks }
+lock_stubs = record { interface = whole lock_facts; ask = lock_table; parts = lock_parts; walks = lock_walks }
 
 -- the service stops once a take is committed: the lock is made and taken again before its release
 abbrev pub stop_after_take_history : List Entry

@@ -4,6 +4,7 @@ use Rattle.sg_base.specs.declared.reply.Code.TheVariants.{NoDesc, NotFound, Occu
 use Rattle.sg_base.specs.declared.reply.Reply.TheVariants.{Refused}
 use Rattle.sg_facts.specs.declared.entry.Entry.{Entry}
 use Rattle.sg_facts.specs.declared.tables.WalkLine.{WalkLine}
+use Rattle.sg_facts.specs.Laws.{whole}
 use Rattle.sg_facts.specs.Trace.{Run}
 use Rattle.sg_hist.specs.declared.ended.End.{End}
 use Rattle.sg_hist.specs.declared.ended.End.TheVariants.{Done}
@@ -25,7 +26,7 @@ mm_walks =
     ∷ []
 
 abbrev pub mm_stubs : Stubs
-mm_stubs = record { facts = mm_facts; ask = mm_table; parts = mm_parts; walks = mm_walks }
+mm_stubs = record { interface = whole mm_facts; ask = mm_table; parts = mm_parts; walks = mm_walks }
 
 -- a page is rebuilt after the page that it was made from
 abbrev pub parent_first_history : List Entry

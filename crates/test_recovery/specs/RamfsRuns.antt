@@ -4,6 +4,7 @@ use Rattle.sg_base.specs.declared.reply.Code.TheVariants.{Gap, NoDesc}
 use Rattle.sg_base.specs.declared.reply.Reply.TheVariants.{Refused}
 use Rattle.sg_facts.specs.declared.entry.Entry.{Entry}
 use Rattle.sg_facts.specs.declared.tables.WalkLine.{WalkLine}
+use Rattle.sg_facts.specs.Laws.{whole}
 use Rattle.sg_facts.specs.Trace.{Run}
 use Rattle.sg_hist.specs.declared.ended.End.{End}
 use Rattle.sg_hist.specs.declared.ended.End.TheVariants.{Done}
@@ -23,7 +24,7 @@ ramfs_walks =
     ∷ []
 
 abbrev pub ramfs_stubs : Stubs
-ramfs_stubs = record { facts = ramfs_facts; ask = ramfs_table; parts = ramfs_parts; walks = ramfs_walks }
+ramfs_stubs = record { interface = whole ramfs_facts; ask = ramfs_table; parts = ramfs_parts; walks = ramfs_walks }
 
 -- a file that was written before the stop is loaded before it is read
 abbrev pub file_loaded_history : List Entry

@@ -3,6 +3,7 @@ use Rattle.std.specs.Prelude.{ℕ, List, [], ◌∷◌, None, Some}
 use Rattle.sg_facts.specs.declared.entry.Entry.{Entry}
 use Rattle.sg_facts.specs.declared.outcome.Outcome.TheVariants.{Blocks}
 use Rattle.sg_facts.specs.declared.tables.WalkLine.{WalkLine}
+use Rattle.sg_facts.specs.Laws.{whole}
 use Rattle.sg_facts.specs.Trace.{Run}
 use Rattle.sg_hist.specs.declared.ended.End.{End}
 use Rattle.sg_hist.specs.declared.ended.End.TheVariants.{Done}
@@ -26,7 +27,7 @@ sched_walks =
     ∷ []
 
 abbrev pub sched_stubs : Stubs
-sched_stubs = record { facts = sched_facts; ask = sched_table; parts = sched_parts; walks = sched_walks }
+sched_stubs = record { interface = whole sched_facts; ask = sched_table; parts = sched_parts; walks = sched_walks }
 
 -- threads come back under other ids of the service, with their ranks
 abbrev pub ranks_kept_history : List Entry

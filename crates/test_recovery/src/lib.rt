@@ -8,6 +8,7 @@ mod events;
 mod files;
 mod locks;
 mod pages;
+mod strict;
 mod threads;
 
 pub use events::{blocked_redone, earlier_value, present_value, trigger_not_twice};
@@ -20,4 +21,10 @@ pub use locks::{
     walk_from_its_middle, walk_too_long,
 };
 pub use pages::{child_first, occupied_after_stop, parent_first, subtree};
+pub use strict::{
+    empty_boot_more, free_stopped_late, late_read, late_seek, line_twice, no_boot,
+    no_boot_for_a_refusal, other_walk, rebuilt_for_refused, refusal_stopped_late,
+    refused_was_asked, seek_before_write, stopped_where_blocked, two_boots_more, wait_stopped,
+    write_before_seek,
+};
 pub use threads::{one_walk_two_clients, ranks_kept, service_id_shown};

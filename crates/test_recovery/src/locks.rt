@@ -105,7 +105,7 @@ pub fn out_of_order()
 /// A point that was asked in vain is told by the exact count, and allowed by the other.
 pub fn point_asked_in_vain()
     ensures wrong { IsRecovered lock_stubs stop_after_take_history point_asked_in_vain (waiting stop_after_take_ends) → ⊥ }
-    ensures counted { ArePointsOf false lock_stubs.facts lock_stubs.parts 0 point_asked_in_vain.boots point_asked_in_vain.points }
+    ensures counted { ArePointsOf false lock_stubs.interface.facts lock_stubs.ask lock_stubs.parts 0 point_asked_in_vain.boots point_asked_in_vain.points }
 {}
 
 /// A run recovers so far, shown step by step: a lock is made, the service stops and is booted again, and the lock is made again
