@@ -1,2 +1,3 @@
 pub mod FilePlays
 pub mod LockPlays
+pub mod StopPlays

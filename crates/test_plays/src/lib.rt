@@ -3,10 +3,13 @@
 //!
 //! - `locks`: plays of locks
 //! - `files`: plays of files
+//! - `stops`: what plays with stops promise
 #![tactic(auto)]
 
 mod files;
 mod locks;
+mod stops;
 
 pub use files::held_reply;
 pub use locks::{four_lock_calls, own_backs, second_first, stays_blocked, wait_and_wake};
+pub use stops::{blocked_redone, stop_after_take, taken_by_another, trigger_not_twice, wrong_plays};

@@ -1,0 +1,71 @@
+// What plays with stops promise.
+ghost use Rattle.std.specs.Prelude.{◌≡◌, [], false, true};
+ghost use Rattle.sg_event.specs.EventFacts.{event_facts};
+ghost use Rattle.sg_event.specs.EventTable.{event_table};
+ghost use Rattle.sg_facts.specs.Laws.{whole};
+ghost use Rattle.sg_lock.specs.LockFacts.{lock_facts};
+ghost use Rattle.sg_lock.specs.LockTable.{lock_table};
+ghost use Rattle.sg_plain.specs.Calls.{AreEnds};
+ghost use Rattle.sg_plain.specs.Plain.{IsPlainPlay};
+ghost use Rattle.sg_plain.specs.Promises.{AreScriptsCalls, AreScriptsStops, AreWoken, FollowsPlain, GetsPlainAlone, somebody_waits};
+ghost use Rattle.test_plays.specs.LockPlays.{four_lock_calls};
+ghost use Rattle.test_plays.specs.StopPlays.{asked_in_vain, blocked_redone_script, call_left_out, calls_exchanged, stop_after_take_script, taken_by_another, taken_by_another_history, taken_by_another_script, trigger_not_twice_script};
+ghost use Rattle.test_recovery.specs.EventRuns.{blocked_redone, blocked_redone_ends, blocked_redone_history, trigger_not_twice, trigger_not_twice_ends, trigger_not_twice_history};
+ghost use Rattle.test_recovery.specs.LockRuns.{boot_without_a_stop, stop_after_take, stop_after_take_ends, stop_after_take_history};
+
+/// One client's four calls, with a stop behind the second: it gets the play without stops.
+pub fn stop_after_take()
+    ensures calls { AreScriptsCalls lock_facts stop_after_take_script stop_after_take_history }
+    ensures stops { AreScriptsStops stop_after_take_script stop_after_take }
+    ensures ends { AreEnds (whole lock_facts) lock_table stop_after_take_history stop_after_take_script stop_after_take_ends }
+    ensures done { somebody_waits stop_after_take_ends ≡ false }
+    ensures plain { IsPlainPlay (whole lock_facts) lock_table stop_after_take_script stop_after_take_history }
+    ensures follows { FollowsPlain lock_facts stop_after_take stop_after_take_history stop_after_take_history }
+    ensures alone { GetsPlainAlone stop_after_take_script stop_after_take_history stop_after_take_history }
+    ensures woken { AreWoken lock_facts stop_after_take_history stop_after_take }
+{}
+
+/// Two clients, one of which waits at the end.
+pub fn trigger_not_twice()
+    ensures calls { AreScriptsCalls event_facts trigger_not_twice_script trigger_not_twice_history }
+    ensures stops { AreScriptsStops trigger_not_twice_script trigger_not_twice }
+    ensures ends { AreEnds (whole event_facts) event_table trigger_not_twice_history trigger_not_twice_script trigger_not_twice_ends }
+    ensures waits { somebody_waits trigger_not_twice_ends ≡ true }
+    ensures plain { IsPlainPlay (whole event_facts) event_table trigger_not_twice_script trigger_not_twice_history }
+    ensures follows { FollowsPlain event_facts trigger_not_twice trigger_not_twice_history trigger_not_twice_history }
+    ensures woken { AreWoken event_facts trigger_not_twice_history trigger_not_twice }
+{}
+
+/// A setup call, and a client that waits when the service stops.
+pub fn blocked_redone()
+    ensures calls { AreScriptsCalls event_facts blocked_redone_script blocked_redone_history }
+    ensures stops { AreScriptsStops blocked_redone_script blocked_redone }
+    ensures ends { AreEnds (whole event_facts) event_table blocked_redone_history blocked_redone_script blocked_redone_ends }
+    ensures done { somebody_waits blocked_redone_ends ≡ false }
+    ensures plain { IsPlainPlay (whole event_facts) event_table blocked_redone_script blocked_redone_history }
+    ensures follows { FollowsPlain event_facts blocked_redone blocked_redone_history blocked_redone_history }
+    ensures woken { AreWoken event_facts blocked_redone_history blocked_redone }
+{}
+
+/// A client that waits twice in one boot, as another took what woke it.
+pub fn taken_by_another()
+    ensures calls { AreScriptsCalls event_facts taken_by_another_script taken_by_another_history }
+    ensures stops { AreScriptsStops taken_by_another_script taken_by_another }
+    ensures plain { IsPlainPlay (whole event_facts) event_table taken_by_another_script taken_by_another_history }
+    ensures follows { FollowsPlain event_facts taken_by_another taken_by_another_history taken_by_another_history }
+    ensures woken { AreWoken event_facts taken_by_another_history taken_by_another }
+{}
+
+/// What no play may come to: calls in another order than the script's, or one left out; a stop that the script doesn't have, or one of
+/// its stops left out; a client that is done although a call of its isn't answered; another history than the play's, of a client that
+/// is alone; and a call that waits twice in a boot though nobody woke it.
+pub fn wrong_plays()
+    ensures exchanged { AreScriptsCalls lock_facts four_lock_calls calls_exchanged → ⊥ }
+    ensures left_out { AreScriptsCalls lock_facts four_lock_calls call_left_out → ⊥ }
+    ensures no_such_stop { AreScriptsStops four_lock_calls stop_after_take → ⊥ }
+    ensures not_stopped { AreScriptsStops stop_after_take_script boot_without_a_stop → ⊥ }
+    ensures not_done { AreEnds (whole lock_facts) lock_table call_left_out four_lock_calls stop_after_take_ends → ⊥ }
+    ensures no_plain { FollowsPlain lock_facts stop_after_take call_left_out stop_after_take_history → ⊥ }
+    ensures not_alone { GetsPlainAlone stop_after_take_script call_left_out stop_after_take_history → ⊥ }
+    ensures not_woken { AreWoken event_facts taken_by_another_history asked_in_vain → ⊥ }
+{}
