@@ -7,7 +7,7 @@ use Rattle.sg_facts.specs.declared.trace.Item.{Item}
 use Rattle.sg_facts.specs.Trace.{Boot, Run}
 use Rattle.sg_hist.specs.Reading.{Place, is_by_guard, is_item_of, item_of, items_of, places_from, places_in, places_of}
 use Rattle.sg_hist.specs.Recovered.{AreInBoots, boot_start, start_of}
-use Rattle.sg_recovery_laws.specs.Growing.{IsGrown, IsInLast, IsOfNoEntry, booted, front_of, noted, older_of, place_behind, struck}
+use Rattle.sg_recovery_laws.specs.Growing.{IsGrown, IsInLast, IsOfNoEntry, booted, last_items, noted, older_items, place_behind, struck}
 use Rattle.sg_recovery_laws.proofs.Events.{own_item}
 use Rattle.sg_recovery_laws.proofs.Growing.{places-booted, places-more, places-struck}
 use Rattle.sg_recovery_laws.proofs.Lists.{each_append}
@@ -15,12 +15,12 @@ use Rattle.sg_recovery_laws.proofs.Served.{Has, IsGrownTo, each_reverse, found_h
 
 -- ---- the last boot
 
-older_noted : (before : List Item) (b : Boot) (boots : List Boot) (item : Item) → older_of before (noted (b ∷ boots) item) ≡ older_of before (b ∷ boots)
+older_noted : (before : List Item) (b : Boot) (boots : List Boot) (item : Item) → older_items before (noted (b ∷ boots) item) ≡ older_items before (b ∷ boots)
 older_noted before b [] item = refl
 older_noted before b (c ∷ []) item = refl
 older_noted before b (c ∷ d ∷ boots) item = older_noted (before ++ b.items) c (d ∷ boots) item
 
-older_struck : (before : List Item) (boots : List Boot) (stop : ℕ) → older_of before (struck boots stop) ≡ older_of before boots
+older_struck : (before : List Item) (boots : List Boot) (stop : ℕ) → older_items before (struck boots stop) ≡ older_items before boots
 older_struck before [] stop = refl
 older_struck before (b ∷ []) stop = refl
 older_struck before (b ∷ c ∷ []) stop = refl
@@ -28,7 +28,7 @@ older_struck before (b ∷ c ∷ d ∷ boots) stop = older_struck (before ++ b.i
 
 -- where an item is noted it stands in the last boot
 pub place_is : (before : List Item) (b : Boot) (boots : List Boot) (item : Item)
-    → place_behind before (b ∷ boots) item ≡ record { older = older_of before (b ∷ boots); front = front_of (b ∷ boots); item = item; rest = []; newer = [] }
+    → place_behind before (b ∷ boots) item ≡ record { older = older_items before (b ∷ boots); front = last_items (b ∷ boots); item = item; rest = []; newer = [] }
 place_is before b [] item = refl
 place_is before b (c ∷ boots) item = place_is (before ++ b.items) c boots item
 
@@ -41,22 +41,22 @@ each_in : (most : ℕ) (older front items newer : List Item) → length older �
 each_in most older front [] newer few = tt
 each_in most older front (item ∷ items) newer few = (few, each_in most older (front ++ item ∷ []) items newer few)
 
-grows : (before : List Item) (boots : List Boot) → length before ≤ length (older_of before boots)
+grows : (before : List Item) (boots : List Boot) → length before ≤ length (older_items before boots)
 grows before [] = omega arith
 grows before (b ∷ []) = omega arith
 grows before (b ∷ c ∷ boots) = let more = grows (before ++ b.items) (c ∷ boots) in let n = length-append before b.items in omega (arith, more, n)
 
-each_behind : (before : List Item) (boots : List Boot) → Each (IsBehind (length (older_of before boots))) (places_from before boots)
+each_behind : (before : List Item) (boots : List Boot) → Each (IsBehind (length (older_items before boots))) (places_from before boots)
 each_behind before [] = tt
 each_behind before (b ∷ []) = each_append (IsBehind (length before)) (places_in before [] b.items (items_of [])) [] (each_in (length before) before [] b.items (items_of []) (omega arith)) tt
 each_behind before (b ∷ c ∷ boots) =
-    let most = length (older_of (before ++ b.items) (c ∷ boots)) in
+    let most = length (older_items (before ++ b.items) (c ∷ boots)) in
     each_append (IsBehind most) (places_in before [] b.items (items_of (c ∷ boots))) (places_from (before ++ b.items) (c ∷ boots))
     (each_in most before [] b.items (items_of (c ∷ boots)) (grows before (b ∷ c ∷ boots))) (each_behind (before ++ b.items) (c ∷ boots))
 
-no_later : (run : Run) (e : Entry) (p : Place) → item_of run e ≡ Some p → length p.older ≤ length (older_of [] run.boots)
+no_later : (run : Run) (e : Entry) (p : Place) → item_of run e ≡ Some p → length p.older ≤ length (older_items [] run.boots)
 no_later run e p is =
-    let most = length (older_of [] run.boots) in
+    let most = length (older_items [] run.boots) in
     subst (Has (IsBehind most)) is
     (found_has (IsBehind most) (λ q. is_item_of e q.item) (reverse (places_of run)) (each_reverse (IsBehind most) (places_of run) (each_behind [] run.boots)))
 
@@ -67,7 +67,7 @@ pub boots_appended : (run : Run) (h : List Entry) (e : Entry) → is_by_guard e.
 boots_appended run h e served last all = from 0 h (omega arith) all
   where
     top : ℕ
-    top = length (older_of [] run.boots)
+    top = length (older_items [] run.boots)
 
     starts : (n : ℕ) → start_of run e n ≡ top
     starts n = ap (λ g. cond g n (boot_start (item_of run e) n)) served ∙ ap (λ o. boot_start o n) last.its ∙ ap length last.older

@@ -7,7 +7,7 @@ use Rattle.sg_facts.specs.declared.trace.Item.{Item}
 use Rattle.sg_facts.specs.Facts.{Facts, is_visible}
 use Rattle.sg_facts.specs.Legal.{Table}
 use Rattle.sg_facts.specs.Trace.{Boot}
-use Rattle.sg_recovery_laws.specs.Growing.{asked_over, booted, front_of, last_stop, noted, struck}
+use Rattle.sg_recovery_laws.specs.Growing.{asked_over, booted, last_items, last_stop, noted, struck}
 use Rattle.sg_hist.specs.Recovered.{ArePoints, ArePointsOf, IsCount, IsPointOf, IsStopOf, answer_to, asked_behind, asked_in, ends_committed, ends_stopped, is_clients, is_replied, is_stopped}
 
 -- ---- an item more in a boot
@@ -48,7 +48,7 @@ stopped_asked facts item stopped = ap (λ b. if b then item.points + 1 else item
 
 pub points_noted : (exact : Bool) (facts : Facts) (ask : Table) (parts : ℕ → ℕ) (asked : ℕ) (b : Boot) (boots : List Boot) (points later : ℕ) (item : Item)
     → last_stop (b ∷ boots) ≡ None → is_stopped item.outcome ≡ false
-    → IsPointOf exact parts (asked_over facts asked (b ∷ boots)) (answer_to facts ask (front_of (b ∷ boots)) item) item.tag item.shown.fun item.outcome item.points → IsCount exact later (asked_behind facts item)
+    → IsPointOf exact parts (asked_over facts asked (b ∷ boots)) (answer_to facts ask (last_items (b ∷ boots)) item) item.tag item.shown.fun item.outcome item.points → IsCount exact later (asked_behind facts item)
     → ArePointsOf exact facts ask parts asked (b ∷ boots) points → ArePointsOf exact facts ask parts asked (noted (b ∷ boots) item) later
 points_noted exact facts ask parts asked b [] points later item running going one count all =
     let n : ℕ = asked_in facts asked b.items in (
@@ -64,7 +64,7 @@ points_noted exact facts ask parts asked b (c ∷ boots) points later item runni
 -- an item that stopped, with the stop of its boot
 pub points_stopped : (exact : Bool) (facts : Facts) (ask : Table) (parts : ℕ → ℕ) (asked : ℕ) (b : Boot) (boots : List Boot) (points later : ℕ) (item : Item)
     → last_stop (b ∷ boots) ≡ None → is_stopped item.outcome ≡ true
-    → IsPointOf exact parts (asked_over facts asked (b ∷ boots)) (answer_to facts ask (front_of (b ∷ boots)) item) item.tag item.shown.fun item.outcome item.points → IsCount exact later item.points
+    → IsPointOf exact parts (asked_over facts asked (b ∷ boots)) (answer_to facts ask (last_items (b ∷ boots)) item) item.tag item.shown.fun item.outcome item.points → IsCount exact later item.points
     → ArePointsOf exact facts ask parts asked (b ∷ boots) points → ArePointsOf exact facts ask parts asked (struck (noted (b ∷ boots) item) item.points) later
 points_stopped exact facts ask parts asked b [] points later item running stopped one count all =
     let n : ℕ = asked_in facts asked b.items in
@@ -82,7 +82,7 @@ points_stopped exact facts ask parts asked b (c ∷ d ∷ boots) points later it
 -- a stop at the point of the commit before, or at the next, at which the service was about to be used
 pub points_struck : (exact : Bool) (facts : Facts) (ask : Table) (parts : ℕ → ℕ) (asked : ℕ) (b : Boot) (boots : List Boot) (points later stop : ℕ)
     → last_stop (b ∷ boots) ≡ None
-    → ((ends_committed facts (front_of (b ∷ boots)) ≡ true) × (stop ≡ asked_over facts asked (b ∷ boots))) ⊎ IsCount exact stop (asked_over facts asked (b ∷ boots) + 1)
+    → ((ends_committed facts (last_items (b ∷ boots)) ≡ true) × (stop ≡ asked_over facts asked (b ∷ boots))) ⊎ IsCount exact stop (asked_over facts asked (b ∷ boots) + 1)
     → IsCount exact later stop
     → ArePointsOf exact facts ask parts asked (b ∷ boots) points → ArePointsOf exact facts ask parts asked (struck (b ∷ boots) stop) later
 points_struck exact facts ask parts asked b boots points later stop running at count all = from asked b boots running at all
@@ -92,7 +92,7 @@ points_struck exact facts ask parts asked b boots points later stop running at c
     n_or false = refl
 
     from : (asked : ℕ) (b : Boot) (boots : List Boot) → last_stop (b ∷ boots) ≡ None
-        → ((ends_committed facts (front_of (b ∷ boots)) ≡ true) × (stop ≡ asked_over facts asked (b ∷ boots))) ⊎ IsCount exact stop (asked_over facts asked (b ∷ boots) + 1)
+        → ((ends_committed facts (last_items (b ∷ boots)) ≡ true) × (stop ≡ asked_over facts asked (b ∷ boots))) ⊎ IsCount exact stop (asked_over facts asked (b ∷ boots) + 1)
         → ArePointsOf exact facts ask parts asked (b ∷ boots) points → ArePointsOf exact facts ask parts asked (struck (b ∷ boots) stop) later
     from asked b [] running (inl both) all =
         let n : ℕ = asked_in facts asked b.items in (

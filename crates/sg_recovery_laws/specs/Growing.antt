@@ -43,16 +43,16 @@ last_stop (b ∷ []) = b.stop
 last_stop (b ∷ c ∷ boots) = last_stop (c ∷ boots)
 
 -- the items of the last boot
-abbrev pub front_of : List Boot → List Item
-front_of [] = []
-front_of (b ∷ []) = b.items
-front_of (b ∷ c ∷ boots) = front_of (c ∷ boots)
+abbrev pub last_items : List Boot → List Item
+last_items [] = []
+last_items (b ∷ []) = b.items
+last_items (b ∷ c ∷ boots) = last_items (c ∷ boots)
 
 -- the items of the boots before the last, behind others
-abbrev pub older_of : List Item → List Boot → List Item
-older_of before [] = before
-older_of before (b ∷ []) = before
-older_of before (b ∷ c ∷ boots) = older_of (before ++ b.items) (c ∷ boots)
+abbrev pub older_items : List Item → List Boot → List Item
+older_items before [] = before
+older_items before (b ∷ []) = before
+older_items before (b ∷ c ∷ boots) = older_items (before ++ b.items) (c ∷ boots)
 
 -- a place is the same but that an item more stands behind it
 pub record IsGrown (item : Item) (p q : Place) : Type 0 where
@@ -127,7 +127,7 @@ pub record IsHeldReply (facts : Facts) (history : List Entry) (run : Run) (e : E
 pub record IsInLast (run : Run) (e : Entry) : Type 0 where
   pub place : Place
   pub its : item_of run e ≡ Some place
-  pub older : place.older ≡ older_of [] run.boots
+  pub older : place.older ≡ older_items [] run.boots
 
 -- ---- points
 

@@ -9,7 +9,7 @@ ghost use Rattle.sg_facts.specs.Interface.{Declared};
 ghost use Rattle.sg_facts.specs.Legal.{IsLegal, Table, answer};
 ghost use Rattle.sg_facts.specs.Object.{object_of};
 ghost use Rattle.sg_facts.specs.Trace.{Boot, Run};
-ghost use Rattle.sg_recovery_laws.specs.Growing.{AreKept, HasOneMore, IsGrown, IsHeldReply, IsInLast, IsItemOf, IsLastCall, IsNextItem, IsRecovering, IsSettled, IsOfNoEntry, asked_over, booted, front_of, last_stop, noted, place_behind, struck};
+ghost use Rattle.sg_recovery_laws.specs.Growing.{AreKept, HasOneMore, IsGrown, IsHeldReply, IsInLast, IsItemOf, IsLastCall, IsNextItem, IsRecovering, IsSettled, IsOfNoEntry, asked_over, booted, last_items, last_stop, noted, place_behind, struck};
 ghost use Rattle.sg_hist.specs.Reading.{Place, after_item, entries_before, is_by_guard, is_item_of, names_at, names_in, places_from, places_of, stands_before, value_at};
 ghost use Rattle.sg_hist.specs.Recovered.{AreInBoots, ArePointsOf, IsCount, IsPointOf, Stubs, answer_to, asked_behind, ends_committed, is_stopped, is_visible_reply};
 
@@ -85,20 +85,20 @@ pub fn points_go_on()
     ensures begins { (exact : Bool) (facts : Facts) (ask : Table) (parts : ℕ → ℕ) → ArePointsOf exact facts ask parts 0 (booted []) 0 }
     ensures noted { (exact : Bool) (facts : Facts) (ask : Table) (parts : ℕ → ℕ) (asked : ℕ) (b : Boot) (boots : List Boot) (points later : ℕ) (item : Item)
         → last_stop (b ∷ boots) ≡ None → is_stopped item.outcome ≡ false
-        → IsPointOf exact parts (asked_over facts asked (b ∷ boots)) (answer_to facts ask (front_of (b ∷ boots)) item)
+        → IsPointOf exact parts (asked_over facts asked (b ∷ boots)) (answer_to facts ask (last_items (b ∷ boots)) item)
             item.tag item.shown.fun item.outcome item.points
         → IsCount exact later (asked_behind facts item)
         → ArePointsOf exact facts ask parts asked (b ∷ boots) points → ArePointsOf exact facts ask parts asked (noted (b ∷ boots) item) later }
     ensures within { (exact : Bool) (facts : Facts) (ask : Table) (parts : ℕ → ℕ) (asked : ℕ) (b : Boot) (boots : List Boot) (points later : ℕ) (item : Item)
         → last_stop (b ∷ boots) ≡ None → is_stopped item.outcome ≡ true
-        → IsPointOf exact parts (asked_over facts asked (b ∷ boots)) (answer_to facts ask (front_of (b ∷ boots)) item)
+        → IsPointOf exact parts (asked_over facts asked (b ∷ boots)) (answer_to facts ask (last_items (b ∷ boots)) item)
             item.tag item.shown.fun item.outcome item.points
         → IsCount exact later item.points
         → ArePointsOf exact facts ask parts asked (b ∷ boots) points
         → ArePointsOf exact facts ask parts asked (struck (noted (b ∷ boots) item) item.points) later }
     ensures between { (exact : Bool) (facts : Facts) (ask : Table) (parts : ℕ → ℕ) (asked : ℕ) (b : Boot) (boots : List Boot) (points later stop : ℕ)
         → last_stop (b ∷ boots) ≡ None
-        → ((ends_committed facts (front_of (b ∷ boots)) ≡ true) × (stop ≡ asked_over facts asked (b ∷ boots)))
+        → ((ends_committed facts (last_items (b ∷ boots)) ≡ true) × (stop ≡ asked_over facts asked (b ∷ boots)))
         ⊎ IsCount exact stop (asked_over facts asked (b ∷ boots) + 1)
         → IsCount exact later stop
         → ArePointsOf exact facts ask parts asked (b ∷ boots) points → ArePointsOf exact facts ask parts asked (struck (b ∷ boots) stop) later }
