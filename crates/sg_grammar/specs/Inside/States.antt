@@ -1,6 +1,6 @@
 -- How far a text has been read: an automaton over tokens, whose states carry the tree so far. Nothing public rests on the automaton;
 -- the automaton is proved to read exactly the sentences, and says in what steps the parser goes.
-use Rattle.std.specs.Prelude.{ℕ, ◌+◌, ◌==◌, ◌&&◌, Bool, if◌then◌else◌, List, [], ◌∷◌, ◌++◌, None, Some, Ok, Err, codes, nat_eq, length}
+use Rattle.std.specs.Prelude.{ℕ, ◌+◌, ◌==◌, ◌&&◌, Bool, if◌then◌else◌, List, [], ◌∷◌, ◌++◌, None, Some, codes, nat_eq, length}
 use Rattle.std.specs.declared.option.Option.{Option}
 use Rattle.std.specs.Cmp.Lexicographic.{pointwise}
 use Rattle.sg_lex.specs.declared.token.TokenKind.TheVariants.{Word}

@@ -1,6 +1,6 @@
 -- How far a script has been read: an automaton over tokens, whose states carry the parts so far. Nothing public rests on
 -- the automaton, which is proved to read exactly the scripts, and says in what steps the parser goes.
-use Rattle.std.specs.Prelude.{ℕ, if◌then◌else◌, List, [], ◌∷◌, ◌++◌, None, Some, Ok, Err, codes}
+use Rattle.std.specs.Prelude.{ℕ, if◌then◌else◌, List, [], ◌∷◌, ◌++◌, None, Some, codes}
 use Rattle.std.specs.declared.option.Option.{Option}
 use Rattle.sg_lex.specs.declared.token.TokenKind.TheVariants.{Word, Number, Text}
 use Rattle.sg_lex.specs.Lexeme.{Lexeme}
