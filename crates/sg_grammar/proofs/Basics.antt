@@ -5,15 +5,16 @@ use Rattle.std.specs.declared.option.Option.{Option}
 use Rattle.std.specs.List.{list_all}
 use Rattle.std.specs.Cmp.Lexicographic.{pointwise, bytes_decides}
 use Rattle.std.proofs.lemmas.Bool.{eq-eqb, eqb-true}
-use Rattle.sg_lex.specs.declared.token.TokenKind.{TokenKind}
-use Rattle.sg_lex.specs.declared.token.TokenKind.TheVariants.{Word, Number, Text, Mark}
+use Rattle.sg_lex.specs.declared.token.TokenKind.TheVariants.{Word, Mark}
 use Rattle.sg_lex.specs.Lexeme.{Lexeme}
+use Rattle.sg_lex.specs.Inside.Tests.{same_kind, has_kind}
+use Rattle.sg_lex.proofs.SameKinds.{kind_is}
 use Rattle.sg_grammar.specs.declared.words.Sort.{Sort}
 use Rattle.sg_grammar.specs.declared.words.Sort.TheVariants.{Name}
 use Rattle.sg_grammar.specs.Named.{Named}
 use Rattle.sg_grammar.specs.Words.{is_in, is_of, reserved_words}
 use Rattle.sg_grammar.specs.Pieces.{Piece, word, mark, name, IsPiece}
-use Rattle.sg_grammar.specs.Inside.States.{is_word_kind, is_mark_kind, has_sort, fits, named_by}
+use Rattle.sg_grammar.specs.Inside.States.{has_sort, fits, named_by}
 
 -- ---- tests
 
@@ -91,25 +92,13 @@ reserved_apart these w h g = ap not (carried (is_in reserved_words) these w h g)
 
 -- ---- tokens and pieces
 
-pub is_word_kind-true : (k : TokenKind) → is_word_kind k ≡ true → k ≡ Word
-is_word_kind-true Word h = refl
-is_word_kind-true Number h = absurd (let e : false ≡ true = h in cc)
-is_word_kind-true Text h = absurd (let e : false ≡ true = h in cc)
-is_word_kind-true Mark h = absurd (let e : false ≡ true = h in cc)
-
-pub is_mark_kind-true : (k : TokenKind) → is_mark_kind k ≡ true → k ≡ Mark
-is_mark_kind-true Mark h = refl
-is_mark_kind-true Number h = absurd (let e : false ≡ true = h in cc)
-is_mark_kind-true Text h = absurd (let e : false ≡ true = h in cc)
-is_mark_kind-true Word h = absurd (let e : false ≡ true = h in cc)
-
 pub has_sort-is : (sort : Sort) (token : Lexeme) → has_sort sort token ≡ true → IsPiece token (name sort (named_by token))
 has_sort-is sort token h =
-    (is_word_kind-true token.kind (both_left _ _ h), refl, refl, both_right (is_word_kind token.kind) (is_of sort token.bytes) h)
+    (kind_is token.kind Word (both_left _ _ h), refl, refl, both_right (has_kind Word token) (is_of sort token.bytes) h)
 
 pub is-has_sort : (sort : Sort) (token : Lexeme) (n : Named) → IsPiece token (name sort n) → has_sort sort token ≡ true
 is-has_sort sort token n h =
-    both _ _ (ap is_word_kind h.0) (ap (is_of sort) h.1 ∙ h.3)
+    both _ _ (ap (λ k. same_kind k Word) h.0) (ap (is_of sort) h.1 ∙ h.3)
 
 -- the name that a token is
 pub named : (sort : Sort) (token : Lexeme) (n : Named) → IsPiece token (name sort n) → named_by token ≡ n
@@ -117,9 +106,9 @@ named sort token n h = let a = h.1 in let b = h.2 in let e : named_by token ≡ 
 
 pub fits-is : (p : Piece) (token : Lexeme) → fits p token ≡ true → IsPiece token p
 fits-is (word w) token h =
-    (is_word_kind-true token.kind (both_left _ _ h), same_bytes token.bytes w (both_right (is_word_kind token.kind) _ h))
+    (kind_is token.kind Word (both_left _ _ h), same_bytes token.bytes w (both_right (has_kind Word token) _ h))
 fits-is (mark b) token h =
-    (is_mark_kind-true token.kind (both_left _ _ h), same_bytes token.bytes (b ∷ []) (both_right (is_mark_kind token.kind) _ h))
+    (kind_is token.kind Mark (both_left _ _ h), same_bytes token.bytes (b ∷ []) (both_right (has_kind Mark token) _ h))
 fits-is (name sort n) token h =
     let s = both_left (has_sort sort token) _ h in
     let r = both_right (has_sort sort token) (pointwise nat_eq token.bytes n.bytes && (token.at == n.at)) h in
@@ -129,42 +118,42 @@ fits-is (name sort n) token h =
     (is.0, bytes, at, sym (ap (is_of sort) bytes) ∙ is.3)
 
 pub is-fits : (p : Piece) (token : Lexeme) → IsPiece token p → fits p token ≡ true
-is-fits (word w) token h = both _ _ (ap is_word_kind h.0) (bytes_same token.bytes w h.1)
-is-fits (mark b) token h = both _ _ (ap is_mark_kind h.0) (bytes_same token.bytes (b ∷ []) h.1)
+is-fits (word w) token h = both _ _ (ap (λ k. same_kind k Word) h.0) (bytes_same token.bytes w h.1)
+is-fits (mark b) token h = both _ _ (ap (λ k. same_kind k Mark) h.0) (bytes_same token.bytes (b ∷ []) h.1)
 is-fits (name sort n) token h =
     both _ _ (is-has_sort sort token n h) (both _ _ (bytes_same token.bytes n.bytes h.1) (eq-eqb token.at n.at h.2))
 
 -- a mark is no word, a word no mark
 pub mark-has_sort : (sort : Sort) (token : Lexeme) → token.kind ≡ Mark → has_sort sort token ≡ false
-mark-has_sort sort token h = ap (λ k. is_word_kind k && is_of sort token.bytes) h
+mark-has_sort sort token h = ap (λ k. same_kind k Word && is_of sort token.bytes) h
 
 pub word-fits_mark : (b : ℕ) (token : Lexeme) → token.kind ≡ Word → fits (mark b) token ≡ false
-word-fits_mark b token h = ap (λ k. is_mark_kind k && pointwise nat_eq token.bytes (b ∷ [])) h
+word-fits_mark b token h = ap (λ k. same_kind k Mark && pointwise nat_eq token.bytes (b ∷ [])) h
 
 pub mark-fits_word : (w : List ℕ) (token : Lexeme) → token.kind ≡ Mark → fits (word w) token ≡ false
-mark-fits_word w token h = ap (λ k. is_word_kind k && pointwise nat_eq token.bytes w) h
+mark-fits_word w token h = ap (λ k. same_kind k Word && pointwise nat_eq token.bytes w) h
 
 -- another mark
 pub mark-fits_mark : (a b : ℕ) (token : Lexeme) → IsPiece token (mark a) → pointwise nat_eq (a ∷ []) (b ∷ []) ≡ false → fits (mark b) token ≡ false
-mark-fits_mark a b token h g = ap (λ k. is_mark_kind k && pointwise nat_eq token.bytes (b ∷ [])) h.0 ∙ ap (λ v. pointwise nat_eq v (b ∷ [])) h.1 ∙ g
+mark-fits_mark a b token h g = ap (λ k. same_kind k Mark && pointwise nat_eq token.bytes (b ∷ [])) h.0 ∙ ap (λ v. pointwise nat_eq v (b ∷ [])) h.1 ∙ g
 
 -- a word of a sort has no other sort whose words are apart, nor is it another word
 pub sort-has_sort : (sort other : Sort) (token : Lexeme) (n : Named) → IsPiece token (name sort n) → is_of other n.bytes ≡ false → has_sort other token ≡ false
-sort-has_sort sort other token n h g = ap (λ k. is_word_kind k && is_of other token.bytes) h.0 ∙ ap (is_of other) h.1 ∙ g
+sort-has_sort sort other token n h g = ap (λ k. same_kind k Word && is_of other token.bytes) h.0 ∙ ap (is_of other) h.1 ∙ g
 
 pub sort-fits_word : (sort : Sort) (w : List ℕ) (token : Lexeme) (n : Named) → IsPiece token (name sort n) → is_in (w ∷ []) n.bytes ≡ false → fits (word w) token ≡ false
 sort-fits_word sort w token n h g =
-    ap (λ k. is_word_kind k && pointwise nat_eq token.bytes w) h.0 ∙ ap (λ v. pointwise nat_eq v w) h.1 ∙ or_left _ _ g
+    ap (λ k. same_kind k Word && pointwise nat_eq token.bytes w) h.0 ∙ ap (λ v. pointwise nat_eq v w) h.1 ∙ or_left _ _ g
   where
     or_left : (a b : Bool) → (a || b) ≡ false → a ≡ false
     or_left false b e = refl
     or_left true b e = absurd (let f : true ≡ false = e in cc)
 
 pub word-has_sort : (sort : Sort) (w : List ℕ) (token : Lexeme) → IsPiece token (word w) → is_of sort w ≡ false → has_sort sort token ≡ false
-word-has_sort sort w token h g = ap (λ k. is_word_kind k && is_of sort token.bytes) h.0 ∙ ap (is_of sort) h.1 ∙ g
+word-has_sort sort w token h g = ap (λ k. same_kind k Word && is_of sort token.bytes) h.0 ∙ ap (is_of sort) h.1 ∙ g
 
 pub word-fits_word : (w other : List ℕ) (token : Lexeme) → IsPiece token (word w) → pointwise nat_eq w other ≡ false → fits (word other) token ≡ false
-word-fits_word w other token h g = ap (λ k. is_word_kind k && pointwise nat_eq token.bytes other) h.0 ∙ ap (λ v. pointwise nat_eq v other) h.1 ∙ g
+word-fits_word w other token h g = ap (λ k. same_kind k Word && pointwise nat_eq token.bytes other) h.0 ∙ ap (λ v. pointwise nat_eq v other) h.1 ∙ g
 
 -- tests of tokens that are one piece answer alike
 pub alike : (p : Piece) (one other : Lexeme) → IsPiece one p → IsPiece other p → (one.kind ≡ other.kind) × (one.bytes ≡ other.bytes)
@@ -175,9 +164,9 @@ alike (name sort n) one other h g = (h.0 ∙ sym g.0, h.1 ∙ sym g.1)
 pub alike-has_sort : (sort : Sort) (p : Piece) (one other : Lexeme) → IsPiece one p → IsPiece other p → has_sort sort one ≡ false → has_sort sort other ≡ false
 alike-has_sort sort p one other h g e =
     let s = alike p one other h g in
-    ap (λ k. is_word_kind k && is_of sort other.bytes) (sym s.0) ∙ ap (λ v. is_word_kind one.kind && is_of sort v) (sym s.1) ∙ e
+    ap (λ k. same_kind k Word && is_of sort other.bytes) (sym s.0) ∙ ap (λ v. same_kind one.kind Word && is_of sort v) (sym s.1) ∙ e
 
 pub alike-fits_mark : (b : ℕ) (p : Piece) (one other : Lexeme) → IsPiece one p → IsPiece other p → fits (mark b) one ≡ false → fits (mark b) other ≡ false
 alike-fits_mark b p one other h g e =
     let s = alike p one other h g in
-    ap (λ k. is_mark_kind k && pointwise nat_eq other.bytes (b ∷ [])) (sym s.0) ∙ ap (λ v. is_mark_kind one.kind && pointwise nat_eq v (b ∷ [])) (sym s.1) ∙ e
+    ap (λ k. same_kind k Mark && pointwise nat_eq other.bytes (b ∷ [])) (sym s.0) ∙ ap (λ v. same_kind one.kind Mark && pointwise nat_eq v (b ∷ [])) (sym s.1) ∙ e

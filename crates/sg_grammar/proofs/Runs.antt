@@ -17,7 +17,7 @@ use Rattle.sg_grammar.specs.declared.words.Sort.TheVariants.{Name, Form, Parents
 use Rattle.sg_grammar.specs.Named.{Named}
 use Rattle.sg_grammar.specs.Pieces.{Piece, word, name, IsPiece}
 use Rattle.sg_grammar.specs.Sentence.{star, comma, close_bracket, close_brace, open_brace, equals, semicolon, more_params, fact_pieces, tree_pieces, statement_pieces, ret_pieces, IsStatement, IsWellFormed, IsSentence}
-use Rattle.sg_grammar.specs.Inside.States.{State, dead, due, want, names, stars, either, listed, statements, fact, head1, head2, head3, head4, head5, head6, head7, start, step, tree_at, trees}
+use Rattle.sg_grammar.specs.Inside.States.{State, dead, due, want, names, stars, either, listed, statements, fact, head1, head2, head3, head4, head5, head6, head7, start, tree_at, trees}
 use Rattle.sg_grammar.proofs.Rests.{Rest, front_of, last_of}
 use Rattle.sg_grammar.proofs.Steps.{back, forth}
 use Rattle.sg_grammar.proofs.Alive.{Alive, completed, alive_behind, start_alive}

@@ -1,5 +1,5 @@
 -- What an automaton over tokens reads: by the token that comes next, and over tokens one after another.
-use Rattle.std.proofs.Common.{◌≡◌, ◌≢◌, ℕ, Bool, true, false, List, [], ◌∷◌, ◌++◌, refl, sym, ap, subst, ◌∙◌, append_assoc}
+use Rattle.std.proofs.Common.{◌≡◌, ◌≢◌, ℕ, Bool, false, List, [], ◌∷◌, ◌++◌, refl, sym, ap, subst, ◌∙◌}
 use Rattle.std.specs.Prelude.{None, Some, Ok, Err}
 use Rattle.std.specs.declared.option.Option.{Option}
 use Rattle.std.specs.declared.result.Result.{Result}
@@ -48,6 +48,11 @@ read_next {S = S} a s old new token e g =
 -- at the end the state does
 pub read_end : {S V E : Type 0} (a : Automaton S V E) (s : S) (old : Reading) → old.rest ≡ [] → read a s old ≡ ended a old.end (a.value_at s)
 read_end a s old e = ap (λ v. read_from a old.end s v) e ∙ read_nothing a old.end s
+
+-- at a fault there is its error
+pub read_failed : {S V E : Type 0} (a : Automaton S V E) (s : S) (old : Reading) (fault : LexFault) (behind : List Answer) → old.rest ≡ Err fault ∷ behind
+    → read a s old ≡ Err (a.no_token fault.at)
+read_failed a s old fault behind e = ap (λ v. read_from a old.end s v) e ∙ read_fault a old.end s fault behind
 
 -- a token with which the state goes on
 pub goes_on : {S V E : Type 0} (a : Automaton S V E) (s next : S) (old new : Reading) (token : Lexeme) → old.rest ≡ Ok token ∷ new.rest → new.end ≡ old.end

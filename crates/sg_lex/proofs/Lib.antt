@@ -7,7 +7,9 @@ pub mod Comments
 pub mod Firsts
 pub mod Forward
 pub mod Fronts
+pub mod Lengths
 pub mod Meanings
 pub mod Readings
 pub mod Runs
+pub mod SameKinds
 pub mod Steps

@@ -1,3 +1,4 @@
--- What the parsers over tokens share, and no public clause cites.
+-- What the parsers over tokens share, and no clause of theirs cites that the program's callers see.
 pub mod Ahead
 pub mod Automata
+pub mod Tests

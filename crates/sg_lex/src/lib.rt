@@ -3,6 +3,9 @@
 //!
 //! - `token`: a token (`Token`, `TokenKind`), and a place at which no token begins (`LexFault`)
 //! - `lexer`: what gives the tokens in order (`Lexer`), and the first of them (`first_token`)
+//! - `reader`: what a parser takes them from, which looks at the next and leaves it where it isn't the one asked for
+//!   (`Reader`)
+//! - `token_test`: what a token is asked for (`TokenTest`, `IsKind`, `IsMark`, `IsWord`)
 //! - `front`: what stands at the front of a text, over `bytes`, the classes of bytes
 //! - `laws`: tokens are slices, and the answers are the one reading of a text
 #![tactic(auto)]
@@ -11,8 +14,12 @@ mod bytes;
 mod front;
 mod laws;
 mod lexer;
+mod reader;
 mod token;
+mod token_test;
 
 pub use laws::{answers_are_the_reading, tokens_are_slices};
 pub use lexer::{Lexer, first_token};
+pub use reader::Reader;
 pub use token::{LexFault, Token, TokenKind};
+pub use token_test::{IsKind, IsMark, IsWord, TokenTest};

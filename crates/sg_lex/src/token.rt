@@ -1,4 +1,7 @@
 // Tokens, and places at which none begins.
+ghost use Rattle.std.specs.Prelude.{◌≡◌};
+ghost use Rattle.sg_lex.specs.Inside.Tests.{has_kind, is_this_mark, is_fixed};
+
 use std::marker::Model;
 
 /// What a token is.
@@ -30,6 +33,29 @@ impl<'a> Model for Token<'a> {
     ghost Value = { Lexeme };
 
     ghost view = { λ t. record { kind = t.kind; bytes = t.slice.now; at = t.at } };
+}
+
+impl<'a> Token<'a> {
+    /// Whether it is of this kind.
+    pub fn has_kind(&self, kind: TokenKind) -> bool
+        ensures { result ≡ has_kind kind self.now }
+    {
+        self.kind == kind
+    }
+
+    /// Whether it is this mark.
+    pub fn is_mark(&self, byte: u8) -> bool
+        ensures { result ≡ is_this_mark byte self.now }
+    {
+        self.has_kind(TokenKind::Mark) && self.slice == [byte].as_slice()
+    }
+
+    /// Whether it is this word.
+    pub fn is_word(&self, bytes: &[u8]) -> bool
+        ensures { result ≡ is_fixed bytes.now self.now }
+    {
+        self.has_kind(TokenKind::Word) && self.slice == bytes
+    }
 }
 
 /// A byte that begins no token, or a text or a comment without an end.

@@ -1,14 +1,16 @@
 -- What is read from a state, by the token that comes next.
-use Rattle.std.proofs.Common.{◌≡◌, ℕ, zero, suc, ◌+◌, ◌==◌, if◌then◌else◌, length, Bool, true, false, List, [], ◌∷◌, ◌++◌, refl, sym, ap, ◌∙◌}
-use Rattle.std.specs.Prelude.{None, Some, Ok, Err, codes}
-use Rattle.std.specs.declared.option.Option.{Option}
+use Rattle.std.proofs.Common.{◌≡◌, ℕ, zero, suc, ◌+◌, ◌==◌, if◌then◌else◌, length, true, false, List, [], ◌∷◌, ◌++◌, refl, sym, ap, subst, ◌∙◌}
+use Rattle.std.specs.Prelude.{None, Some, Ok, Err, codes, IfErr, IsErrAnd, MatchResult}
+use Rattle.std.specs.declared.result.Result.{Result}
+use Rattle.sg_lex.specs.declared.token.LexFault.{LexFault}
 use Rattle.sg_lex.specs.Lexeme.{Lexeme}
 use Rattle.sg_lex.specs.Tokens.{Answer}
-use Rattle.sg_grammar.specs.declared.error.ParseError.TheVariants.{Syntax}
+use Rattle.sg_grammar.specs.declared.error.ParseError.{ParseError}
+use Rattle.sg_grammar.specs.declared.error.ParseError.TheVariants.{Lex, Syntax}
 use Rattle.sg_grammar.specs.Inside.States.{State, dead, due, want, names, stars, either, listed, statements, param, declared, type_of, with_statement, statement_behind, one_rest, two_rest, plain_rest, returned_rest, has_sort, fits, named_by, step, tree_at, trees}
-use Rattle.sg_lex.specs.Inside.Automata.{Reading, read, read_from, ended, read_on}
+use Rattle.sg_lex.specs.Inside.Automata.{Reading, read, read_on}
 use Rattle.sg_grammar.proofs.Basics.{if_then, if_else}
-use Rattle.sg_lex.proofs.Automata.{read_next, read_end, alike}
+use Rattle.sg_lex.proofs.Automata.{read_failed, read_next, read_end, alike}
 use Rattle.std.proofs.Math.Dec.{eqb-suc-zero}
 use Rattle.sg_grammar.specs.declared.tree.Facts.{Facts}
 use Rattle.sg_grammar.specs.declared.tree.Ret.TheVariants.{Set, Add}
@@ -23,6 +25,19 @@ use Rattle.sg_grammar.specs.Words.{is_of}
 use Rattle.sg_grammar.specs.Pieces.{Piece, word}
 use Rattle.sg_parse.specs.Inside.{named_token}
 use Rattle.sg_lex.specs.Inside.Ahead.{Off, Came}
+
+-- ---- no token comes
+
+pub no_token_came : (s : State) (old : Reading) (fault : LexFault) (behind : List Answer) → old.rest ≡ Err fault ∷ behind → read trees s old ≡ Err (Lex fault.at)
+no_token_came s old fault behind e = read_failed trees s old fault behind e
+
+-- what was made of an answer whose fault is told as an error
+pub no_token_told : {X : Type 0} (old : Reading) (behind : List Answer) (answer : Result X LexFault) (told : Result X ParseError) (Makes : LexFault → ParseError → Type 0)
+    → ((fault : LexFault) (error : ParseError) → Makes fault error → error ≡ Lex fault.at) → IfErr answer (λ fault. old.rest ≡ Err fault ∷ behind)
+    → MatchResult answer (λ x. told ≡ Ok x) (λ fault. IsErrAnd told (Makes fault)) → IfErr told (λ error. (s : State) → read trees s old ≡ Err error)
+no_token_told old behind (Err fault) (Err error) Makes h e m = λ s. no_token_came s old fault behind e ∙ ap Err (sym (h fault error m))
+no_token_told old behind (Err fault) (Ok x) Makes h e m = absurd m
+no_token_told old behind (Ok x) told Makes h e m = subst (λ v. IfErr v (λ error. (s : State) → read trees s old ≡ Err error)) (sym m) tt
 
 -- ---- no token may come
 

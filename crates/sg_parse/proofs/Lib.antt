@@ -1,3 +1,2 @@
 pub mod ByToken
-pub mod Lengths
 pub mod Whole

@@ -1,6 +1,6 @@
 //! The parser of the interface language: the tree of a text, or the place at which the text ceases to be one.
 //!
-//! - `reader`: the tokens of a text, the next of which can be looked at (`Reader`)
+//! - `reader`: tokens taken from a text, and the error where another comes than may
 //! - `head`, `types`, `params`, `statements`: the parts of the grammar
 //! - `parser`: the whole (`parse`)
 #![tactic(auto)]

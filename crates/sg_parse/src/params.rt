@@ -4,84 +4,97 @@ ghost use Rattle.sg_grammar.specs.declared.tree.Param.{Param as Declared};
 ghost use Rattle.sg_grammar.specs.declared.words.Sort.TheVariants.{Name as a_name};
 ghost use Rattle.sg_grammar.specs.Named.{Named};
 ghost use Rattle.sg_grammar.specs.Sentence.{open_bracket, close_bracket};
-ghost use Rattle.sg_grammar.specs.Inside.States.{State, due, want, either, listed, declared, param, with_param, type_of, trees};
+ghost use Rattle.sg_grammar.specs.Inside.States.{State, due, want, either, listed, declared, param, param_behind, with_param, type_of, trees};
 ghost use Rattle.sg_lex.specs.Inside.Automata.{read, Leads};
 ghost use Rattle.sg_parse.specs.Inside.{either_of};
 
-use crate::reader::Reader;
-use crate::types::Spelled;
+use crate::reader::{mark, take_mark, take_word, word_of};
+use crate::types::{Spelled, declared, spelling};
 use sg_grammar::{Name, Param, ParamList, ParseError, Sort};
+use sg_lex::Reader;
 use std::alloc::Global;
 
-impl<'a> Reader<'a> {
-    /// The parameters behind the bracket that opens them, at least one, and the bracket that closes them.
-    #[tactic(auto, using(crate::proofs::ByToken::comma_came, crate::proofs::ByToken::comma_missing))]
-    pub fn params(&mut self, alloc: Global) -> Result<ParamList<'a>, ParseError>
-        ensures leads { (k : List Declared → State) → Leads trees (read trees (param k []) self.old) result k self.new }
-        ensures fewer { OnOk result (length self.new.rest ≤ length self.old.rest) }
-    {
-        let mut params = ParamList::new(alloc);
-        params.push(self.param(alloc)?)?;
-        'params: while self.take_mark(b',')? {
-            params.push(self.param(alloc)?)?;
-        }
-        self.mark(b')')?;
-        Ok(params)
+/// The parameters behind the bracket that opens them, at least one, and the bracket that closes them.
+#[tactic(auto, using(crate::proofs::ByToken::comma_came, crate::proofs::ByToken::comma_missing))]
+pub fn params<'a>(reader: &mut Reader<'a>, alloc: Global) -> Result<ParamList<'a>, ParseError>
+    ensures leads { (k : List Declared → State) → Leads trees (read trees (param k []) reader.old) result k reader.new }
+    ensures fewer { OnOk result (length reader.new.rest ≤ length reader.old.rest) }
+{
+    let mut params = ParamList::new(alloc);
+    params.push(param(reader, alloc)?)?;
+    'params: while take_mark(reader, b',')? {
+        params.push(param(reader, alloc)?)?;
     }
+    mark(reader, b')')?;
+    Ok(params)
+}
 
-    /// A parameter, behind others.
-    fn param(&mut self, alloc: Global) -> Result<Param<'a>, ParseError>
-        ensures leads { (params : List Declared) (k : List Declared → State) →
-            Leads trees (read trees (param k params) self.old) result (λ p. listed (params ++ p ∷ []) k) self.new }
-        ensures fewer { OnOk result (length self.new.rest ≤ length self.old.rest) }
-    {
-        let first = self.word(Sort::Name)?;
-        let spelled = self.spelled(alloc, first)?;
-        match self.form()? {
-            Some(form) => self.formed(spelled, form),
-            None => self.unformed(spelled),
-        }
-    }
+/// A parameter, behind others.
+fn param<'a>(reader: &mut Reader<'a>, alloc: Global) -> Result<Param<'a>, ParseError>
+    ensures leads { (params : List Declared) (k : List Declared → State) →
+        Leads trees (read trees (param k params) reader.old) result (λ p. listed (params ++ p ∷ []) k) reader.new }
+    ensures fewer { OnOk result (length reader.new.rest ≤ length reader.old.rest) }
+{
+    let first = word_of(reader, Sort::Name)?;
+    let spelled = spelling(reader, alloc, first)?;
+    behind_type(reader, spelled)
+}
 
-    /// The form of a parameter, if one comes.
-    #[tactic(auto, using(crate::proofs::ByToken::form_came, crate::proofs::ByToken::form_missing))]
-    fn form(&mut self) -> Result<Option<Name<'a>>, ParseError>
-        ensures leads { (k : Named → State) (s : State) → Leads trees (read trees (either k s) self.old) result (either_of k s) self.new }
-        ensures fewer { OnOk result (length self.new.rest ≤ length self.old.rest) }
-    {
-        self.take_word(Sort::Form)
+/// A parameter behind its type: its form, if one comes, and its name.
+fn behind_type<'a>(reader: &mut Reader<'a>, spelled: Spelled<'a>) -> Result<Param<'a>, ParseError>
+    ensures leads { (params : List Declared) (k : List Declared → State) →
+        Leads trees (read trees (param_behind k params spelled.entry.front spelled.entry.last spelled.entry.stars) reader.old)
+        result (λ p. listed (params ++ p ∷ []) k) reader.new }
+    ensures fewer { OnOk result (length reader.new.rest ≤ length reader.old.rest) }
+{
+    match form(reader)? {
+        Some(form) => formed(reader, spelled, form),
+        None => unformed(reader, spelled),
     }
+}
 
-    /// A parameter behind its type, where no form comes.
-    fn unformed(&mut self, spelled: Spelled<'a>) -> Result<Param<'a>, ParseError>
-        ensures leads { (params : List Declared) (k : List Declared → State) →
-            Leads trees (read trees (declared (λ ty n. with_param k params ty without n) spelled.entry.front spelled.entry.last spelled.entry.stars) self.old)
-            result (λ p. listed (params ++ p ∷ []) k) self.new }
-        ensures fewer { OnOk result (length self.new.rest ≤ length self.old.rest) }
-    {
-        let (ty, name) = self.declared(spelled)?;
-        Ok(Param {
-            ty,
-            form: None,
-            name,
-        })
-    }
+/// The form of a parameter, if one comes.
+#[tactic(auto, using(crate::proofs::ByToken::form_came, crate::proofs::ByToken::form_missing))]
+fn form<'a>(reader: &mut Reader<'a>) -> Result<Option<Name<'a>>, ParseError>
+    ensures leads { (k : Named → State) (s : State) → Leads trees (read trees (either k s) reader.old) result (either_of k s) reader.new }
+    ensures fewer { OnOk result (length reader.new.rest ≤ length reader.old.rest) }
+{
+    take_word(reader, Sort::Form)
+}
 
-    /// A parameter behind its type and its form: its name in brackets.
-    fn formed(&mut self, spelled: Spelled<'a>, form: Name<'a>) -> Result<Param<'a>, ParseError>
-        ensures leads { (params : List Declared) (k : List Declared → State) →
-            Leads trees (read trees (due open_bracket (want a_name (λ n. due close_bracket
-            (with_param k params (type_of spelled.entry.front spelled.entry.last spelled.entry.stars) (with_form form.entry) n)))) self.old)
-            result (λ p. listed (params ++ p ∷ []) k) self.new }
-        ensures fewer { OnOk result (length self.new.rest ≤ length self.old.rest) }
-    {
-        self.mark(b'(')?;
-        let name = self.word(Sort::Name)?;
-        self.mark(b')')?;
-        Ok(Param {
-            ty: spelled.whole()?,
-            form: Some(form),
-            name,
-        })
-    }
+/// A parameter behind its type, where no form comes.
+fn unformed<'a>(reader: &mut Reader<'a>, spelled: Spelled<'a>) -> Result<Param<'a>, ParseError>
+    ensures leads { (params : List Declared) (k : List Declared → State) →
+        Leads trees (read trees (declared (λ ty n. with_param k params ty without n) spelled.entry.front spelled.entry.last spelled.entry.stars) reader.old)
+        result (λ p. listed (params ++ p ∷ []) k) reader.new }
+    ensures fewer { OnOk result (length reader.new.rest ≤ length reader.old.rest) }
+{
+    let (ty, name) = declared(reader, spelled)?;
+    Ok(Param {
+        ty,
+        form: None,
+        name,
+    })
+}
+
+/// A parameter behind its type and its form: its name in brackets.
+fn formed<'a>(
+    reader: &mut Reader<'a>,
+    spelled: Spelled<'a>,
+    form: Name<'a>,
+) -> Result<Param<'a>, ParseError>
+    ensures leads { (params : List Declared) (k : List Declared → State) →
+        Leads trees (read trees (due open_bracket (want a_name (λ n. due close_bracket
+        (with_param k params (type_of spelled.entry.front spelled.entry.last spelled.entry.stars) (with_form form.entry) n)))) reader.old)
+        result (λ p. listed (params ++ p ∷ []) k) reader.new }
+    ensures fewer { OnOk result (length reader.new.rest ≤ length reader.old.rest) }
+{
+    mark(reader, b'(')?;
+    let name = word_of(reader, Sort::Name)?;
+    mark(reader, b')')?;
+    Ok(Param {
+        ty: spelled.whole()?,
+        form: Some(form),
+        name,
+    })
 }

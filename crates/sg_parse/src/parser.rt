@@ -8,8 +8,10 @@ ghost use Rattle.sg_grammar.specs.Parses.{Parses};
 ghost use Rattle.sg_grammar.specs.Inside.States.{start, trees};
 ghost use Rattle.sg_lex.specs.Inside.Automata.{read, Answers};
 
-use crate::reader::Reader;
+use crate::head::facts;
+use crate::statements::statements;
 use sg_grammar::{ParseError, Tree};
+use sg_lex::Reader;
 use std::alloc::Global;
 
 /// The tree of a text. Its names are lent from the text.
@@ -32,6 +34,6 @@ fn tree_of<'a>(alloc: Global, text: &'a [u8]) -> Result<Tree<'a>, ParseError>
     ensures { Answers trees (read trees start (record { rest = answers_of text.now; end = length text.now })) result }
 {
     let mut reader = Reader::new(text);
-    let facts = reader.facts()?;
-    reader.statements(alloc, facts)
+    let facts = facts(&mut reader)?;
+    statements(&mut reader, alloc, facts)
 }

@@ -5,9 +5,10 @@ ghost use Rattle.sg_grammar.specs.Named.{Named};
 ghost use Rattle.sg_grammar.specs.Inside.States.{State, names, stars, declared, type_of, trees};
 ghost use Rattle.sg_lex.specs.Inside.Automata.{read, Leads};
 
-use crate::reader::Reader;
+use crate::reader::{take_mark, take_word, unexpected, word_of};
 use sg_base::NoMemory;
 use sg_grammar::{Name, NameList, ParseError, Sort, TypeName};
+use sg_lex::Reader;
 use std::alloc::Global;
 
 /// The names of a type, the last apart, and the number of its stars. Without stars the last name may be the one that is
@@ -33,72 +34,77 @@ impl<'a> Spelled<'a> {
     }
 }
 
-impl<'a> Reader<'a> {
-    /// The names and the stars of a type whose first name was taken, as far as they go.
-    pub fn spelled(&mut self, alloc: Global, first: Name<'a>) -> Result<Spelled<'a>, ParseError>
-        ensures leads { (k : List Named → Named → ℕ → State) →
-            Leads trees (read trees (names [] first.entry k) self.old) result (λ s. k s.front s.last s.stars) self.new }
-        ensures fewer { OnOk result (length self.new.rest ≤ length self.old.rest) }
-    {
-        let (front, last) = self.names(alloc, first)?;
-        let stars = self.stars()?;
-        Ok(Spelled { front, last, stars })
-    }
+/// The names and the stars of a type whose first name was taken, as far as they go.
+pub fn spelling<'a>(
+    reader: &mut Reader<'a>,
+    alloc: Global,
+    first: Name<'a>,
+) -> Result<Spelled<'a>, ParseError>
+    ensures leads { (k : List Named → Named → ℕ → State) →
+        Leads trees (read trees (names [] first.entry k) reader.old) result (λ s. k s.front s.last s.stars) reader.new }
+    ensures fewer { OnOk result (length reader.new.rest ≤ length reader.old.rest) }
+{
+    let (front, last) = names(reader, alloc, first)?;
+    let stars = stars(reader)?;
+    Ok(Spelled { front, last, stars })
+}
 
-    /// The names of a type whose first name was taken, the last apart.
-    #[tactic(auto, using(crate::proofs::ByToken::name_came, crate::proofs::ByToken::names_over))]
-    fn names(
-        &mut self,
-        alloc: Global,
-        first: Name<'a>,
-    ) -> Result<(NameList<'a>, Name<'a>), ParseError>
-        ensures leads { (k : List Named → Named → ℕ → State) →
-            Leads trees (read trees (names [] first.entry k) self.old) result (λ r. stars r.0 r.1 0 k) self.new }
-        ensures fewer { OnOk result (length self.new.rest ≤ length self.old.rest) }
-    {
-        let mut front = NameList::new(alloc);
-        let mut last = first;
-        'names: while let Some(name) = self.take_word(Sort::Name)? {
-            front.push(last)?;
-            last = name;
-        }
-        Ok((front, last))
+/// The names of a type whose first name was taken, the last apart.
+#[tactic(auto, using(crate::proofs::ByToken::name_came, crate::proofs::ByToken::names_over))]
+fn names<'a>(
+    reader: &mut Reader<'a>,
+    alloc: Global,
+    first: Name<'a>,
+) -> Result<(NameList<'a>, Name<'a>), ParseError>
+    ensures leads { (k : List Named → Named → ℕ → State) →
+        Leads trees (read trees (names [] first.entry k) reader.old) result (λ r. stars r.0 r.1 0 k) reader.new }
+    ensures fewer { OnOk result (length reader.new.rest ≤ length reader.old.rest) }
+{
+    let mut front = NameList::new(alloc);
+    let mut last = first;
+    'names: while let Some(name) = take_word(reader, Sort::Name)? {
+        front.push(last)?;
+        last = name;
     }
+    Ok((front, last))
+}
 
-    /// The number of stars that come.
-    #[tactic(auto, using(crate::proofs::ByToken::star_came, crate::proofs::ByToken::stars_over))]
-    fn stars(&mut self) -> Result<usize, ParseError>
-        ensures leads { (front : List Named) (last : Named) (k : List Named → Named → ℕ → State) →
-            Leads trees (read trees (stars front last 0 k) self.old) result (λ n. k front last n) self.new }
-        ensures fewer { OnOk result (length self.new.rest ≤ length self.old.rest) }
-    {
-        let most = self.end();
-        let mut count = 0;
-        'stars: while self.take_mark(b'*')? {
-            prove!(count < most);
-            count += 1;
-        }
-        Ok(count)
+/// The number of stars that come.
+#[tactic(auto, using(crate::proofs::ByToken::star_came, crate::proofs::ByToken::stars_over))]
+fn stars(reader: &mut Reader<'_>) -> Result<usize, ParseError>
+    ensures leads { (front : List Named) (last : Named) (k : List Named → Named → ℕ → State) →
+        Leads trees (read trees (stars front last 0 k) reader.old) result (λ n. k front last n) reader.new }
+    ensures fewer { OnOk result (length reader.new.rest ≤ length reader.old.rest) }
+{
+    let most = reader.end();
+    let mut count = 0;
+    'stars: while take_mark(reader, b'*')? {
+        prove!(count < most);
+        count += 1;
     }
+    Ok(count)
+}
 
-    /// The type and the name that is declared: without stars the last of at least two names, else the name behind them.
-    #[tactic(auto, using(crate::proofs::ByToken::declared_none, crate::proofs::ByToken::declared_bare, crate::proofs::ByToken::declared_starred))]
-    pub fn declared(&mut self, spelled: Spelled<'a>) -> Result<(TypeName<'a>, Name<'a>), ParseError>
-        ensures leads { (go : Typed → Named → State) →
-            Leads trees (read trees (declared go spelled.entry.front spelled.entry.last spelled.entry.stars) self.old) result (λ r. go r.0 r.1) self.new }
-        ensures fewer { OnOk result (length self.new.rest ≤ length self.old.rest) }
-    {
-        if spelled.stars > 0 {
-            let name = self.word(Sort::Name)?;
-            return Ok((spelled.whole()?, name));
-        }
-        if spelled.front.is_empty() {
-            return Err(self.unexpected());
-        }
-        let ty = TypeName {
-            names: spelled.front,
-            stars: 0,
-        };
-        Ok((ty, spelled.last))
+/// The type and the name that is declared: without stars the last of at least two names, else the name behind them.
+#[tactic(auto, using(crate::proofs::ByToken::declared_none, crate::proofs::ByToken::declared_bare, crate::proofs::ByToken::declared_starred))]
+pub fn declared<'a>(
+    reader: &mut Reader<'a>,
+    spelled: Spelled<'a>,
+) -> Result<(TypeName<'a>, Name<'a>), ParseError>
+    ensures leads { (go : Typed → Named → State) →
+        Leads trees (read trees (declared go spelled.entry.front spelled.entry.last spelled.entry.stars) reader.old) result (λ r. go r.0 r.1) reader.new }
+    ensures fewer { OnOk result (length reader.new.rest ≤ length reader.old.rest) }
+{
+    if spelled.stars > 0 {
+        let name = word_of(reader, Sort::Name)?;
+        return Ok((spelled.whole()?, name));
     }
+    if spelled.front.is_empty() {
+        return Err(unexpected(reader));
+    }
+    let ty = TypeName {
+        names: spelled.front,
+        stars: 0,
+    };
+    Ok((ty, spelled.last))
 }

@@ -8,7 +8,9 @@ use Rattle.sg_lex.specs.declared.token.TokenKind.TheVariants.{Word, Number, Text
 use Rattle.sg_lex.specs.Lexeme.{Lexeme}
 use Rattle.sg_script_grammar.specs.Spelling.{Spelling}
 use Rattle.sg_script_grammar.specs.Pieces.{ScriptPiece, fixed, word, number, quoted, mark, IsSpelt, IsScriptPiece}
-use Rattle.sg_script_grammar.specs.Inside.States.{same_kind, has_kind, is_this_mark, is_fixed, spelt_by}
+use Rattle.sg_script_grammar.specs.Inside.States.{spelt_by}
+use Rattle.sg_lex.proofs.SameKinds.{kind_is}
+use Rattle.sg_lex.specs.Inside.Tests.{has_kind, is_this_mark, is_fixed}
 
 -- ---- tests
 
@@ -48,24 +50,6 @@ same_bytes a b h = (bytes_decides a b).0 h
 
 pub bytes_same : (a : List ℕ) → pointwise nat_eq a a ≡ true
 bytes_same a = (bytes_decides a a).1 refl
-
-pub kind_is : (kind other : TokenKind) → same_kind kind other ≡ true → kind ≡ other
-kind_is Word Word h = refl
-kind_is Number Number h = refl
-kind_is Text Text h = refl
-kind_is Mark Mark h = refl
-kind_is Word Number h = absurd (let e : false ≡ true = h in cc)
-kind_is Word Text h = absurd (let e : false ≡ true = h in cc)
-kind_is Word Mark h = absurd (let e : false ≡ true = h in cc)
-kind_is Number Word h = absurd (let e : false ≡ true = h in cc)
-kind_is Number Text h = absurd (let e : false ≡ true = h in cc)
-kind_is Number Mark h = absurd (let e : false ≡ true = h in cc)
-kind_is Text Word h = absurd (let e : false ≡ true = h in cc)
-kind_is Text Number h = absurd (let e : false ≡ true = h in cc)
-kind_is Text Mark h = absurd (let e : false ≡ true = h in cc)
-kind_is Mark Word h = absurd (let e : false ≡ true = h in cc)
-kind_is Mark Number h = absurd (let e : false ≡ true = h in cc)
-kind_is Mark Text h = absurd (let e : false ≡ true = h in cc)
 
 -- a token of a kind is spelt as it is
 pub of-is : (kind : TokenKind) (token : Lexeme) → has_kind kind token ≡ true → IsSpelt kind token (spelt_by token)

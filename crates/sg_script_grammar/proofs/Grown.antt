@@ -12,7 +12,8 @@ use Rattle.sg_script_grammar.specs.declared.tree.Part.TheVariants.{Setup, Client
 use Rattle.sg_script_grammar.specs.Spelling.{Spelling}
 use Rattle.sg_script_grammar.specs.Pieces.{ScriptPiece, fixed, word, number, quoted, mark, IsScriptPiece}
 use Rattle.sg_script_grammar.specs.Sentence.{arg_pieces}
-use Rattle.sg_script_grammar.specs.Inside.States.{ScriptState, dead, due, want, argument, bracketed, listed, body, counts, script, has_kind, is_this_mark, is_fixed, spelt_by, argument_behind, part_behind, with_part, call_rest, setup_rest, client_rest, schedule_rest, stop_rest, step}
+use Rattle.sg_script_grammar.specs.Inside.States.{ScriptState, dead, due, want, argument, bracketed, listed, body, counts, script, spelt_by, argument_behind, part_behind, with_part, call_rest, setup_rest, client_rest, schedule_rest, stop_rest, step}
+use Rattle.sg_lex.specs.Inside.Tests.{has_kind, is_this_mark, is_fixed}
 use Rattle.sg_script_grammar.proofs.Basics.{none_some, chosen, of-is, mark-is, fixed-is}
 use Rattle.sg_script_grammar.proofs.Thens.{listed_then, args_then, calls_then, numbers_then, part_then, parts_then, parts_snoc}
 use Rattle.sg_lex.specs.Marks.{dollar_byte, close_bracket_byte, comma_byte, close_brace_byte, semicolon_byte}

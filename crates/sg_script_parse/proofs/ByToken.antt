@@ -1,7 +1,7 @@
 -- What is read from a state, by the token that comes next.
-use Rattle.std.proofs.Common.{◌≡◌, ℕ, if◌then◌else◌, Bool, true, false, List, [], ◌∷◌, ◌++◌, refl, sym, ap, ◌∙◌}
+use Rattle.std.proofs.Common.{◌≡◌, ℕ, if◌then◌else◌, true, false, List, [], ◌∷◌, ◌++◌, refl, sym, ap, ◌∙◌}
 use Rattle.std.specs.Prelude.{None, Some, Ok, Err, codes}
-use Rattle.std.specs.declared.option.Option.{Option}
+use Rattle.sg_lex.specs.declared.token.LexFault.{LexFault}
 use Rattle.sg_lex.specs.declared.token.TokenKind.TheVariants.{Word, Number, Text}
 use Rattle.sg_lex.specs.Lexeme.{Lexeme}
 use Rattle.sg_lex.specs.Tokens.{Answer}
@@ -11,13 +11,19 @@ use Rattle.sg_script_grammar.specs.declared.tree.WrittenArg.TheVariants.{Number 
 use Rattle.sg_script_grammar.specs.declared.tree.WrittenCall.{WrittenCall}
 use Rattle.sg_script_grammar.specs.declared.tree.Part.{Part}
 use Rattle.sg_script_grammar.specs.Spelling.{Spelling}
-use Rattle.sg_script_grammar.specs.Inside.States.{ScriptState, dead, due, want, argument, bracketed, listed, body, counts, script, has_kind, is_this_mark, is_fixed, spelt_by, argument_behind, call_rest, setup_rest, client_rest, schedule_rest, stop_rest, part_behind, with_part, step, parts_at, scripts}
-use Rattle.sg_lex.specs.Inside.Automata.{Reading, read, read_from, ended, read_on}
+use Rattle.sg_script_grammar.specs.Inside.States.{ScriptState, dead, due, want, argument, bracketed, listed, body, counts, script, spelt_by, argument_behind, call_rest, setup_rest, client_rest, schedule_rest, stop_rest, part_behind, with_part, step, parts_at, scripts}
+use Rattle.sg_lex.specs.Inside.Tests.{has_kind, is_this_mark, is_fixed}
+use Rattle.sg_lex.specs.Inside.Automata.{Reading, read, read_on}
 use Rattle.sg_script_grammar.proofs.Basics.{if_then, if_else}
-use Rattle.sg_lex.proofs.Automata.{read_next, read_end, goes_on, alike}
+use Rattle.sg_lex.proofs.Automata.{read_failed, read_next, read_end, goes_on, alike}
 use Rattle.sg_script_parse.specs.Inside.{spelt_token}
 use Rattle.sg_lex.specs.Inside.Ahead.{Off, Came}
 use Rattle.sg_lex.specs.Marks.{dollar_byte, close_bracket_byte, comma_byte, close_brace_byte, semicolon_byte}
+
+-- ---- no token comes
+
+pub no_token_came : (s : ScriptState) (old : Reading) (fault : LexFault) (behind : List Answer) → old.rest ≡ Err fault ∷ behind → read scripts s old ≡ Err (Syntax fault.at)
+no_token_came s old fault behind e = read_failed scripts s old fault behind e
 
 -- ---- no token may come
 

@@ -1,6 +1,6 @@
 //! The parser of scripts: the parts of a text, or the place at which the text ceases to be a script.
 //!
-//! - `reader`: the tokens of a text, the next of which can be looked at (`Reader`)
+//! - `reader`: tokens taken from a text, and the error where another comes than may
 //! - `calls`, `parts`: calls with their arguments, and the parts of a script
 //! - `parser`: the whole (`parse`)
 #![tactic(auto)]

@@ -8,7 +8,8 @@ ghost use Rattle.sg_script_grammar.specs.Parses.{Parses};
 ghost use Rattle.sg_script_grammar.specs.Inside.States.{script_start, scripts};
 ghost use Rattle.sg_lex.specs.Inside.Automata.{read, Answers};
 
-use crate::reader::Reader;
+use crate::parts::parts;
+use sg_lex::Reader;
 use sg_script_grammar::{ParseError, PartList};
 use std::alloc::Global;
 
@@ -32,5 +33,5 @@ fn parts_of<'a>(alloc: Global, text: &'a [u8]) -> Result<PartList<'a>, ParseErro
     ensures { Answers scripts (read scripts script_start (record { rest = answers_of text.now; end = length text.now })) result }
 {
     let mut reader = Reader::new(text);
-    reader.parts(alloc)
+    parts(&mut reader, alloc)
 }

@@ -1,148 +1,94 @@
-// The tokens of a text, the next of which can be looked at.
-ghost use Rattle.std.specs.Prelude.{◌≡◌, ◌≤◌, ℕ, [], ◌∷◌, length, IfOk, IfErr, OnOk, MatchOption, MatchBool, None as no_token, Ok as answered};
-ghost use Rattle.sg_lex.specs.Tokens.{answers_of};
+// What a script's parts are read by: the tokens of a text, and the errors where they don't come.
+ghost use Rattle.std.specs.Prelude.{◌≡◌, ◌≤◌, [], ◌∷◌, length, IfOk, IfErr, OnOk, MatchOption, MatchBool, Ok as answered};
 ghost use Rattle.sg_script_grammar.specs.Spelling.{Spelling};
-ghost use Rattle.sg_script_grammar.specs.Inside.States.{ScriptState, dead, due, want, has_kind, is_this_mark, is_fixed, spelt_by, scripts};
-ghost use Rattle.sg_lex.specs.Inside.Automata.{read, read_from, Leads};
+ghost use Rattle.sg_script_grammar.specs.Inside.States.{ScriptState, dead, due, want, spelt_by, scripts};
+ghost use Rattle.sg_lex.specs.Inside.Automata.{read, Leads};
+ghost use Rattle.sg_lex.specs.Inside.Ahead.{Off, Came};
+ghost use Rattle.sg_lex.specs.Inside.Tests.{has_kind, is_this_mark};
 ghost use Rattle.sg_script_parse.specs.Inside.{spelt_token};
-ghost use Rattle.sg_lex.specs.Inside.Ahead.{with_ahead, Off, Came};
 
-use sg_lex::{Lexer, Token, TokenKind};
+use sg_lex::{IsKind, LexFault, Reader, Token, TokenKind};
 use sg_script_grammar::{ParseError, Spelled};
-use std::marker::Model;
 
-/// What is still to be read of a text. Contracts see the lexer's answers that are to come, and the text's length.
-#[derive(Debug, Drop)]
-pub struct Reader<'a> {
-    lexer: Lexer<'a>,
-    // a token that was looked at and left
-    ahead: Option<Token<'a>>,
-    end: usize,
-}
-
-impl<'a> Model for Reader<'a> {
-    ghost use Rattle.sg_lex.specs.Inside.Automata.{Reading};
-    ghost use Rattle.sg_lex.specs.Inside.Ahead.{with_ahead};
-
-    ghost Value = { Reading };
-
-    ghost view = { λ r. record { rest = with_ahead r.ahead r.lexer; end = r.end } };
-}
-
-impl<'a> Reader<'a> {
-    /// A reader at the front of a text.
-    pub fn new(text: &'a [u8]) -> Reader<'a>
-        ensures { result ≡ record { rest = answers_of text.now; end = length text.now } }
-    {
-        Reader {
-            lexer: Lexer::new(text),
-            ahead: None,
-            end: text.len(),
-        }
-    }
-
-    /// Takes the next token; None at the end of the text. A byte that begins none is an error.
-    pub fn next(&mut self) -> Result<Option<Token<'a>>, ParseError>
-        ensures token { IfOk result (λ next. MatchOption next ((self.old.rest ≡ []) × (self.new.rest ≡ []))
-            (λ token. self.old.rest ≡ answered token ∷ self.new.rest)) }
-        ensures fault { IfErr result (λ error. (s : ScriptState) → read scripts s self.old ≡ Err error) }
-        ensures end { self.new.end ≡ self.old.end }
-    {
-        next_token(&mut self.ahead, &mut self.lexer)
-    }
-
-    /// Takes the next token where it is of this kind; None, and nothing is taken, where it isn't or the text ends.
-    pub fn take_spelled(&mut self, kind: TokenKind) -> Result<Option<Spelled<'a>>, ParseError>
-        ensures spelling { IfOk result (λ spelled. MatchOption spelled ((self.new ≡ self.old) × Off (has_kind kind) self.old.rest)
-            (λ s. self.old.rest ≡ answered (spelt_token kind s) ∷ self.new.rest)) }
-        ensures fault { IfErr result (λ error. (s : ScriptState) → read scripts s self.old ≡ Err error) }
-        ensures end { self.new.end ≡ self.old.end }
-    {
-        match next_token(&mut self.ahead, &mut self.lexer)? {
-            Some(token) if has_kind(&token, kind) => Ok(Some(spelled_of(token))),
-            other => {
-                self.ahead = other;
-                Ok(None)
-            }
-        }
-    }
-
-    /// Takes the next token where it is this mark, and says whether it was; else nothing is taken.
-    pub fn take_mark(&mut self, byte: u8) -> Result<bool, ParseError>
-        ensures mark { IfOk result (λ taken. MatchBool taken (Came (is_this_mark byte) self.old.rest self.new.rest)
-            ((self.new ≡ self.old) × Off (is_this_mark byte) self.old.rest)) }
-        ensures fault { IfErr result (λ error. (s : ScriptState) → read scripts s self.old ≡ Err error) }
-        ensures end { self.new.end ≡ self.old.end }
-    {
-        match next_token(&mut self.ahead, &mut self.lexer)? {
-            Some(token) if is_this_mark(&token, byte) => Ok(true),
-            other => {
-                self.ahead = other;
-                Ok(false)
-            }
-        }
-    }
-}
-
-/// What a part of the grammar says of reading: its value and the state behind it, or why there is none.
-impl<'a> Reader<'a> {
-    /// The error where no token may come that comes next, or where the text may not end.
-    #[tactic(auto, using(crate::proofs::ByToken::dead_token, crate::proofs::ByToken::dead_end))]
-    pub fn unexpected(&mut self) -> ParseError
-        ensures error { read scripts dead self.old ≡ Err result }
-    {
-        match self.next() {
-            Ok(Some(token)) => ParseError::Syntax { at: token.at },
-            Ok(None) => ParseError::Syntax { at: self.end },
-            Err(error) => error,
-        }
-    }
-
-    /// Takes this mark.
-    #[tactic(auto, using(crate::proofs::ByToken::due_came, crate::proofs::ByToken::due_missing))]
-    pub fn mark(&mut self, byte: u8) -> Result<(), ParseError>
-        ensures leads { (k : ScriptState) → Leads scripts (read scripts (due byte k) self.old) result (λ _. k) self.new }
-        ensures fewer { OnOk result (length self.new.rest ≤ length self.old.rest) }
-    {
-        if self.take_mark(byte)? {
-            Ok(())
-        } else {
-            Err(self.unexpected())
-        }
-    }
-
-    /// Takes a number.
-    #[tactic(auto, using(crate::proofs::ByToken::number_came, crate::proofs::ByToken::number_missing))]
-    pub fn number(&mut self) -> Result<Spelled<'a>, ParseError>
-        ensures leads { (k : Spelling → ScriptState) → Leads scripts (read scripts (want k) self.old) result k self.new }
-        ensures fewer { OnOk result (length self.new.rest ≤ length self.old.rest) }
-    {
-        match self.take_spelled(TokenKind::Number)? {
-            Some(number) => Ok(number),
-            None => Err(self.unexpected()),
-        }
-    }
-}
-
-// Takes the token that was looked at, or else the next of the lexer.
-#[tactic(auto, using(sg_lex::proofs::Automata::read_fault))]
-fn next_token<'a>(
-    ahead: &mut Option<Token<'a>>,
-    lexer: &mut Lexer<'a>,
-) -> Result<Option<Token<'a>>, ParseError>
-    ensures taken { ahead.new ≡ no_token }
-    ensures token { IfOk result (λ next. (with_ahead ahead.old lexer.old ≡ with_ahead next lexer.new)
-        × (next ≡ no_token → lexer.new ≡ [])) }
-    ensures fault { IfErr result (λ error. (s : ScriptState) (end : ℕ) → read_from scripts end s (with_ahead ahead.old lexer.old) ≡ Err error) }
+/// Takes the next token; None at the end of the text. A byte that begins none is an error.
+#[tactic(auto, using(crate::proofs::ByToken::no_token_came))]
+pub fn next_token<'a>(reader: &mut Reader<'a>) -> Result<Option<Token<'a>>, ParseError>
+    ensures token { IfOk result (λ next. MatchOption next ((reader.old.rest ≡ []) × (reader.new.rest ≡ []))
+        (λ token. reader.old.rest ≡ answered token ∷ reader.new.rest)) }
+    ensures fault { IfErr result (λ error. (s : ScriptState) → read scripts s reader.old ≡ Err error) }
+    ensures end { reader.new.end ≡ reader.old.end }
 {
-    if let Some(token) = ahead.take() {
-        return Ok(Some(token));
+    reader.next().map_err(fault_error)
+}
+
+/// Takes the next token where it is of this kind; None, and nothing is taken, where it isn't or the text ends.
+#[tactic(auto, using(crate::proofs::ByToken::no_token_came))]
+pub fn take_spelled<'a>(
+    reader: &mut Reader<'a>,
+    kind: TokenKind,
+) -> Result<Option<Spelled<'a>>, ParseError>
+    ensures spelling { IfOk result (λ spelled. MatchOption spelled ((reader.new ≡ reader.old) × Off (has_kind kind) reader.old.rest)
+        (λ s. reader.old.rest ≡ answered (spelt_token kind s) ∷ reader.new.rest)) }
+    ensures fault { IfErr result (λ error. (s : ScriptState) → read scripts s reader.old ≡ Err error) }
+    ensures end { reader.new.end ≡ reader.old.end }
+{
+    let taken = reader.take(IsKind(kind)).map_err(fault_error)?;
+    Ok(taken.map(spelled_of))
+}
+
+/// Takes the next token where it is this mark, and says whether it was; else nothing is taken.
+#[tactic(auto, using(crate::proofs::ByToken::no_token_came))]
+pub fn take_mark(reader: &mut Reader<'_>, byte: u8) -> Result<bool, ParseError>
+    ensures mark { IfOk result (λ taken. MatchBool taken (Came (is_this_mark byte) reader.old.rest reader.new.rest)
+        ((reader.new ≡ reader.old) × Off (is_this_mark byte) reader.old.rest)) }
+    ensures fault { IfErr result (λ error. (s : ScriptState) → read scripts s reader.old ≡ Err error) }
+    ensures end { reader.new.end ≡ reader.old.end }
+{
+    reader.take_mark(byte).map_err(fault_error)
+}
+
+/// The error where no token may come that comes next, or where the text may not end.
+#[tactic(auto, using(crate::proofs::ByToken::dead_token, crate::proofs::ByToken::dead_end))]
+pub fn unexpected(reader: &mut Reader<'_>) -> ParseError
+    ensures error { read scripts dead reader.old ≡ Err result }
+{
+    match next_token(reader) {
+        Ok(Some(token)) => ParseError::Syntax { at: token.at },
+        Ok(None) => ParseError::Syntax { at: reader.end() },
+        Err(error) => error,
     }
-    match lexer.next() {
-        None => Ok(None),
-        Some(Ok(token)) => Ok(Some(token)),
-        Some(Err(fault)) => Err(ParseError::Syntax { at: fault.at }),
+}
+
+/// Takes this mark.
+#[tactic(auto, using(crate::proofs::ByToken::due_came, crate::proofs::ByToken::due_missing))]
+pub fn mark(reader: &mut Reader<'_>, byte: u8) -> Result<(), ParseError>
+    ensures leads { (k : ScriptState) → Leads scripts (read scripts (due byte k) reader.old) result (λ _. k) reader.new }
+    ensures fewer { OnOk result (length reader.new.rest ≤ length reader.old.rest) }
+{
+    if take_mark(reader, byte)? {
+        Ok(())
+    } else {
+        Err(unexpected(reader))
     }
+}
+
+/// Takes a number.
+#[tactic(auto, using(crate::proofs::ByToken::number_came, crate::proofs::ByToken::number_missing))]
+pub fn number<'a>(reader: &mut Reader<'a>) -> Result<Spelled<'a>, ParseError>
+    ensures leads { (k : Spelling → ScriptState) → Leads scripts (read scripts (want k) reader.old) result k reader.new }
+    ensures fewer { OnOk result (length reader.new.rest ≤ length reader.old.rest) }
+{
+    match take_spelled(reader, TokenKind::Number)? {
+        Some(number) => Ok(number),
+        None => Err(unexpected(reader)),
+    }
+}
+
+// The error at a byte that begins no token.
+fn fault_error(fault: LexFault) -> ParseError
+    ensures { result ≡ ParseError.Syntax fault.at }
+{
+    ParseError::Syntax { at: fault.at }
 }
 
 // What a token spells.
@@ -153,30 +99,4 @@ fn spelled_of(token: Token<'_>) -> Spelled<'_>
         slice: token.slice,
         at: token.at,
     }
-}
-
-// Whether a token is of this kind.
-fn has_kind(token: &Token<'_>, kind: TokenKind) -> bool
-    ensures { result ≡ has_kind kind token.now }
-{
-    match kind {
-        TokenKind::Word => matches!(token.kind, TokenKind::Word),
-        TokenKind::Number => matches!(token.kind, TokenKind::Number),
-        TokenKind::Text => matches!(token.kind, TokenKind::Text),
-        TokenKind::Mark => matches!(token.kind, TokenKind::Mark),
-    }
-}
-
-// Whether a token is this mark.
-fn is_this_mark(token: &Token<'_>, byte: u8) -> bool
-    ensures { result ≡ is_this_mark byte token.now }
-{
-    matches!(token.kind, TokenKind::Mark) && token.slice == [byte].as_slice()
-}
-
-/// Whether a token is this word.
-pub fn is_fixed(token: &Token<'_>, bytes: &[u8]) -> bool
-    ensures { result ≡ is_fixed bytes.now token.now }
-{
-    matches!(token.kind, TokenKind::Word) && token.slice == bytes
 }

@@ -1,12 +1,12 @@
 -- How far a text has been read: an automaton over tokens, whose states carry the tree so far. Nothing public rests on the automaton;
 -- the automaton is proved to read exactly the sentences, and says in what steps the parser goes.
-use Rattle.std.specs.Prelude.{ℕ, ◌+◌, ◌==◌, ◌&&◌, Bool, true, false, if◌then◌else◌, List, [], ◌∷◌, ◌++◌, None, Some, Ok, Err, codes, nat_eq, length}
+use Rattle.std.specs.Prelude.{ℕ, ◌+◌, ◌==◌, ◌&&◌, Bool, if◌then◌else◌, List, [], ◌∷◌, ◌++◌, None, Some, codes, nat_eq, length}
 use Rattle.std.specs.declared.option.Option.{Option}
 use Rattle.std.specs.Cmp.Lexicographic.{pointwise}
-use Rattle.sg_lex.specs.declared.token.TokenKind.{TokenKind}
-use Rattle.sg_lex.specs.declared.token.TokenKind.TheVariants.{Word, Number, Text, Mark}
+use Rattle.sg_lex.specs.declared.token.TokenKind.TheVariants.{Word}
 use Rattle.sg_lex.specs.Lexeme.{Lexeme}
 use Rattle.sg_lex.specs.Inside.Automata.{Automaton}
+use Rattle.sg_lex.specs.Inside.Tests.{has_kind, is_this_mark, is_fixed}
 use Rattle.sg_grammar.specs.declared.error.ParseError.{ParseError}
 use Rattle.sg_grammar.specs.declared.error.ParseError.TheVariants.{NoMemory, Lex, Syntax}
 use Rattle.sg_grammar.specs.declared.tree.Facts.{Facts}
@@ -26,26 +26,14 @@ use Rattle.sg_grammar.specs.Sentence.{open_brace, close_brace, open_bracket, clo
 
 -- ---- tests of tokens
 
-abbrev pub is_word_kind : TokenKind → Bool
-is_word_kind Word = true
-is_word_kind Number = false
-is_word_kind Text = false
-is_word_kind Mark = false
-
-abbrev pub is_mark_kind : TokenKind → Bool
-is_mark_kind Word = false
-is_mark_kind Number = false
-is_mark_kind Text = false
-is_mark_kind Mark = true
-
 -- a token is a word of a sort
 abbrev pub has_sort : Sort → Lexeme → Bool
-has_sort sort token = is_word_kind token.kind && is_of sort token.bytes
+has_sort sort token = has_kind Word token && is_of sort token.bytes
 
 -- a token is this piece
 abbrev pub fits : Piece → Lexeme → Bool
-fits (word bytes) token = is_word_kind token.kind && pointwise nat_eq token.bytes bytes
-fits (mark byte) token = is_mark_kind token.kind && pointwise nat_eq token.bytes (byte ∷ [])
+fits (word bytes) token = is_fixed bytes token
+fits (mark byte) token = is_this_mark byte token
 fits (name sort n) token = has_sort sort token && (pointwise nat_eq token.bytes n.bytes && (token.at == n.at))
 
 -- the name that a token is

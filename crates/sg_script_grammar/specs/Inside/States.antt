@@ -1,12 +1,11 @@
 -- How far a script has been read: an automaton over tokens, whose states carry the parts so far. Nothing public rests on
 -- the automaton, which is proved to read exactly the scripts, and says in what steps the parser goes.
-use Rattle.std.specs.Prelude.{ℕ, ◌&&◌, Bool, true, false, if◌then◌else◌, List, [], ◌∷◌, ◌++◌, None, Some, Ok, Err, codes, nat_eq}
+use Rattle.std.specs.Prelude.{ℕ, if◌then◌else◌, List, [], ◌∷◌, ◌++◌, None, Some, codes}
 use Rattle.std.specs.declared.option.Option.{Option}
-use Rattle.std.specs.Cmp.Lexicographic.{pointwise}
-use Rattle.sg_lex.specs.declared.token.TokenKind.{TokenKind}
-use Rattle.sg_lex.specs.declared.token.TokenKind.TheVariants.{Word, Number, Text, Mark}
+use Rattle.sg_lex.specs.declared.token.TokenKind.TheVariants.{Word, Number, Text}
 use Rattle.sg_lex.specs.Lexeme.{Lexeme}
 use Rattle.sg_lex.specs.Inside.Automata.{Automaton}
+use Rattle.sg_lex.specs.Inside.Tests.{has_kind, is_this_mark, is_fixed}
 use Rattle.sg_script_grammar.specs.declared.error.ParseError.{ParseError}
 use Rattle.sg_script_grammar.specs.declared.error.ParseError.TheVariants.{NoMemory, Syntax}
 use Rattle.sg_script_grammar.specs.declared.tree.WrittenArg.{WrittenArg}
@@ -16,28 +15,6 @@ use Rattle.sg_script_grammar.specs.declared.tree.Part.{Part}
 use Rattle.sg_script_grammar.specs.declared.tree.Part.TheVariants.{Setup, Client, Schedule, Stop}
 use Rattle.sg_script_grammar.specs.Spelling.{Spelling}
 use Rattle.sg_lex.specs.Marks.{dollar_byte, open_bracket_byte, semicolon_byte, open_brace_byte, close_bracket_byte, comma_byte, close_brace_byte}
-
--- ---- tests of tokens
-
--- two kinds are one
-abbrev pub same_kind : TokenKind → TokenKind → Bool
-same_kind Word Word = true
-same_kind Number Number = true
-same_kind Text Text = true
-same_kind Mark Mark = true
-same_kind kind other = false
-
--- a token is of a kind
-abbrev pub has_kind : TokenKind → Lexeme → Bool
-has_kind kind token = same_kind token.kind kind
-
--- a token is this mark
-abbrev pub is_this_mark : ℕ → Lexeme → Bool
-is_this_mark byte token = has_kind Mark token && pointwise nat_eq token.bytes (byte ∷ [])
-
--- a token is this word
-abbrev pub is_fixed : List ℕ → Lexeme → Bool
-is_fixed bytes token = has_kind Word token && pointwise nat_eq token.bytes bytes
 
 -- what a token spells
 abbrev pub spelt_by : Lexeme → Spelling

@@ -1,0 +1,15 @@
+-- The names so far were read.
+use Rattle.std.proofs.Common.{◌≡◌, ◌≤◌, List, [], ℕ, length}
+use Rattle.sg_grammar.specs.Named.{Named}
+use Rattle.sg_grammar.specs.Inside.States.{State, names, trees}
+use Rattle.sg_lex.specs.Inside.Automata.{read}
+use Rattle.sg_parse.proofs.types.names.Given as goal
+
+abbrev pub invariant-names : goal.invariant-names
+invariant-names l = record {
+  read_so_far : (k : List Named → Named → ℕ → State) → read trees (names [] l.fn.first k) l.fn.reader ≡ read trees (names l.front l.last k) l.reader;
+  fewer : length l.reader.rest ≤ length l.fn.reader.rest;
+}
+
+abbrev pub decreases-names : goal.decreases-names
+decreases-names l = length l.reader.rest
