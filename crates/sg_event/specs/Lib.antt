@@ -1,3 +1,10 @@
+pub mod EventAlikeLaw
+pub mod EventBlockedLaw
+pub mod EventDecision
 pub mod EventFacts
+pub mod EventObject
+pub mod EventRow
+pub mod EventShapeLaw
 pub mod EventSound
+pub mod EventSoundLaw
 pub mod EventTable
