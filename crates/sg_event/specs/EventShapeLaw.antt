@@ -1,15 +1,12 @@
 -- The shape of the event service, and its answers, keep to what every shape allows; and no returned word counts.
 use Rattle.std.proofs.Common.{◌≡◌, ℕ, zero, suc, ◌+◌, Bool, true, false, cond, [], None, Some, refl, sym, ◌∙◌, subst}
-use Rattle.std.specs.Prelude.{◌==◌, ◌&&◌, nat_lt}
-use Rattle.std.specs.List.{list_any}
+use Rattle.std.specs.Prelude.{◌==◌, nat_lt}
 use Rattle.sg_base.specs.declared.reply.Code.TheVariants.{Overflow}
 use Rattle.sg_base.specs.declared.reply.Reply.TheVariants.{Ok, Refused}
 use Rattle.sg_facts.specs.Facts.{fun_at}
-use Rattle.sg_facts.specs.Allowed.{wants_word}
-use Rattle.sg_facts.specs.Counted.{takes_word, is_counted}
 use Rattle.sg_facts.specs.Track.{row_at, word_of, arg_at}
 use Rattle.sg_facts.specs.Laws.{ShapeAllows, CountsSlowly}
-use Rattle.sg_slots.proofs.RowLaws.{NotGuards, never_counts}
+use Rattle.sg_slots.proofs.RowLaws.{NotGuards, wants_none, never_counts}
 use Rattle.sg_event.specs.EventFacts.{event_facts}
 use Rattle.sg_event.specs.EventTable.{event_table, event_answer, count_in, most_count}
 use Rattle.sg_event.specs.EventSound.{IsEventSound}
@@ -44,29 +41,13 @@ blocks_at (suc (suc (suc zero))) given count n is = absurd (at (nat_lt most_coun
 blocks_at (suc (suc (suc (suc zero)))) given count n is = absurd (cc is)
 blocks_at (suc (suc (suc (suc (suc m))))) given count n is = absurd (cc is)
 
-wants_none : (fun : ℕ) → wants_word (fun_at event_facts.funs fun) ≡ false
-wants_none zero = refl
-wants_none (suc zero) = refl
-wants_none (suc (suc zero)) = refl
-wants_none (suc (suc (suc zero))) = refl
-wants_none (suc (suc (suc (suc zero)))) = refl
-wants_none (suc (suc (suc (suc (suc n))))) = refl
-
 pub event_shape_allows : ShapeAllows event_facts event_table
 event_shape_allows = record {
   shape = refl;
   blocks = λ o call is. blocks_at call.fun o.given (count_in (row_at o.rows call.desc)) (word_of (arg_at call 0)) is;
   refuses = λ o call code is. subst NotGuards is (refuses_at call.fun o.given (count_in (row_at o.rows call.desc)) (word_of (arg_at call 0)));
-  words = λ o call good is wants. absurd (cc (sym (wants_none call.fun) ∙ wants));
+  words = λ o call good is wants. absurd (cc (sym (wants_none event_facts refl call.fun) ∙ wants));
 }
 
--- no function takes a returned word into the count
-no_word : (x : ℕ) → is_counted event_facts x ≡ false
-no_word x = at (0 == x)
-  where
-    at : (b : Bool) → list_any (λ f. list_any (λ e. b && takes_word e.1) f.effects) event_facts.funs ≡ false
-    at true = refl
-    at false = refl
-
 pub event_counts_slowly : CountsSlowly event_facts event_table IsEventSound
-event_counts_slowly = never_counts event_facts no_word event_table IsEventSound
+event_counts_slowly = never_counts event_facts refl event_table IsEventSound

@@ -1,16 +1,14 @@
 -- The shape of the lock service, and its answers, keep to what every shape allows; and no word of it counts.
 use Rattle.std.proofs.Common.{◌≡◌, ℕ, zero, suc, Bool, true, false, cond, List, [], None, Some, refl, sym, ◌∙◌, subst}
-use Rattle.std.specs.Prelude.{◌==◌, ◌&&◌}
-use Rattle.std.specs.List.{list_any}
+use Rattle.std.specs.Prelude.{◌==◌}
 use Rattle.sg_base.specs.declared.reply.Code.TheVariants.{Held, NotOwner}
 use Rattle.sg_base.specs.declared.reply.Reply.TheVariants.{Ok, Refused}
 use Rattle.sg_facts.specs.declared.row.Row.{Row}
 use Rattle.sg_facts.specs.Facts.{fun_at}
-use Rattle.sg_facts.specs.Allowed.{wants_word}
-use Rattle.sg_facts.specs.Counted.{takes_word, is_counted, most_counted}
+use Rattle.sg_facts.specs.Counted.{most_counted}
 use Rattle.sg_facts.specs.Track.{row_at}
 use Rattle.sg_facts.specs.Laws.{ShapeAllows, CountsSlowly}
-use Rattle.sg_slots.proofs.RowLaws.{NotGuards, none_counted, never_counts}
+use Rattle.sg_slots.proofs.RowLaws.{NotGuards, none_counted, wants_none, never_counts}
 use Rattle.sg_lock.specs.LockFacts.{lock_facts}
 use Rattle.sg_lock.specs.LockTable.{lock_table, lock_answer, owner_in}
 use Rattle.sg_lock.specs.LockSound.{IsLockSound}
@@ -53,32 +51,16 @@ blocks_at (suc (suc (suc (suc zero)))) given owner client is = absurd (at (owner
     at false is = cc is
 blocks_at (suc (suc (suc (suc (suc n))))) given owner client is = absurd (cc is)
 
-wants_none : (fun : ℕ) → wants_word (fun_at lock_facts.funs fun) ≡ false
-wants_none zero = refl
-wants_none (suc zero) = refl
-wants_none (suc (suc zero)) = refl
-wants_none (suc (suc (suc zero))) = refl
-wants_none (suc (suc (suc (suc zero)))) = refl
-wants_none (suc (suc (suc (suc (suc n))))) = refl
-
 pub lock_shape_allows : ShapeAllows lock_facts lock_table
 lock_shape_allows = record {
   shape = refl;
   blocks = λ o call is. blocks_at call.fun o.given (owner_in (row_at o.rows call.desc)) call.client is;
   refuses = λ o call code is. subst NotGuards is (refuses_at call.fun o.given (owner_in (row_at o.rows call.desc)) call.client);
-  words = λ o call good is wants. absurd (cc (sym (wants_none call.fun) ∙ wants));
+  words = λ o call good is wants. absurd (cc (sym (wants_none lock_facts refl call.fun) ∙ wants));
 }
 
--- no field counts
-no_word : (x : ℕ) → is_counted lock_facts x ≡ false
-no_word x = at (0 == x)
-  where
-    at : (b : Bool) → list_any (λ f. list_any (λ e. b && takes_word e.1) f.effects) lock_facts.funs ≡ false
-    at true = refl
-    at false = refl
-
 pub none_in_rows : (rows : List Row) → most_counted lock_facts rows ≡ 0
-none_in_rows = none_counted lock_facts no_word
+none_in_rows = none_counted lock_facts refl
 
 pub lock_counts_slowly : CountsSlowly lock_facts lock_table IsLockSound
-lock_counts_slowly = never_counts lock_facts no_word lock_table IsLockSound
+lock_counts_slowly = never_counts lock_facts refl lock_table IsLockSound

@@ -1,6 +1,7 @@
 -- What the laws of services of single rows have in common.
-use Rattle.std.proofs.Common.{◌≡◌, ℕ, ◌+◌, ◌≤◌, ◌<◌, Bool, true, false, cond, not, List, [], ◌∷◌, ◌++◌, None, Some, Bor, map, filter, max, refl, sym, ◌∙◌, ap, subst, inl, inr, arith}
-use Rattle.std.specs.Prelude.{◌==◌, ◌&&◌, ◌||◌, nat_le, nat_lt, if◌then◌else◌, length}
+use Rattle.std.proofs.Common.{◌≡◌, ℕ, suc, zero, ◌+◌, ◌≤◌, ◌<◌, Bool, true, false, cond, not, List, [], ◌∷◌, ◌++◌, None, Some, Bor, map, filter, max, refl, sym, ◌∙◌, ap, subst, inl, inr, arith}
+use Rattle.std.specs.Prelude.{◌==◌, ◌&&◌, ◌||◌, nat_le, nat_lt, if◌then◌else◌, length, slice_get, unwrap_or}
+use Rattle.std.specs.List.{list_any}
 use Rattle.std.specs.declared.option.Option.{Option}
 use Rattle.std.specs.Option.{is_some, option_copied}
 use Rattle.std.proofs.lemmas.Bool.{cases_Bool}
@@ -12,7 +13,9 @@ use Rattle.sg_base.specs.declared.reply.Good.{Good}
 use Rattle.sg_base.specs.declared.reply.Reply.{Reply}
 use Rattle.sg_base.specs.declared.reply.Reply.TheVariants.{Ok, Refused}
 use Rattle.sg_facts.specs.declared.row.Row.{Row}
-use Rattle.sg_facts.specs.Facts.{Facts, fun_at, takes_desc, takes_parent}
+use Rattle.sg_facts.specs.declared.shape.Effect.{Effect}
+use Rattle.sg_facts.specs.Facts.{Facts, Fun, fun_at, no_fun, takes_desc, takes_parent}
+use Rattle.sg_facts.specs.Allowed.{wants_word}
 use Rattle.sg_facts.specs.Limits.{most_live}
 use Rattle.sg_facts.specs.Track.{row_at, is_live, has_child, ends_with, is_ancestor, row_after, word_of}
 use Rattle.sg_facts.specs.Object.{Object, after}
@@ -20,7 +23,7 @@ use Rattle.sg_facts.specs.Legal.{Table}
 use Rattle.sg_facts.specs.Guard.{may_be_parent, may_use, in_state, refusal, is_guards}
 use Rattle.sg_facts.specs.Sound.{IsSound, IsRow, AreRows, AreFields}
 use Rattle.sg_facts.specs.Alike.{named, Serves, SameReply}
-use Rattle.sg_facts.specs.Counted.{is_counted, most_in, most_counted}
+use Rattle.sg_facts.specs.Counted.{takes_word, most_in, most_counted}
 use Rattle.sg_facts.specs.Laws.{CountsSlowly, Passes, whole}
 use Rattle.sg_slots.specs.Slots.{Body, rows_of}
 use Rattle.sg_facts.proofs.RowLists.{more, both, changed, left, other, none_pass, is_live-more, is_live-changed, is_live-left, id_of_row}
@@ -271,16 +274,48 @@ NotGuards (Some (Refused code)) = is_guards code ≡ false
 
 -- ---- no word counts
 
-module _ (facts : Facts) (none : (x : ℕ) → is_counted facts x ≡ false) where
+neither : (a b : Bool) → (a || b) ≡ false → (a ≡ false) × (b ≡ false)
+neither true b none = absurd (cc none)
+neither false b none = (refl, none)
+
+-- among functions that take no returned word each number names one that takes none
+wants_at : (funs : List Fun) → list_any wants_word funs ≡ false → (n : ℕ) → wants_word (unwrap_or (slice_get funs n) no_fun) ≡ false
+wants_at [] none n = refl
+wants_at (f ∷ funs) none zero = (neither (wants_word f) (list_any wants_word funs) none).0
+wants_at (f ∷ funs) none (suc n) = wants_at funs (neither (wants_word f) (list_any wants_word funs) none).1 n
+
+-- an effect that takes no returned word takes none into a field
+no_effect : (x : ℕ) (effects : List (ℕ × Effect)) → list_any (λ e. takes_word e.1) effects ≡ false → list_any (λ e. (e.0 == x) && takes_word e.1) effects ≡ false
+no_effect x [] none = refl
+no_effect x (e ∷ effects) none = at (e.0 == x) (takes_word e.1) (neither (takes_word e.1) (list_any (λ d. takes_word d.1) effects) none).0
+    (no_effect x effects (neither (takes_word e.1) (list_any (λ d. takes_word d.1) effects) none).1)
+  where
+    at : (a b : Bool) → b ≡ false → list_any (λ d. (d.0 == x) && takes_word d.1) effects ≡ false → ((a && b) || list_any (λ d. (d.0 == x) && takes_word d.1) effects) ≡ false
+    at true b out rest = ap (λ c. c || list_any (λ d. (d.0 == x) && takes_word d.1) effects) out ∙ rest
+    at false b out rest = rest
+
+no_field : (x : ℕ) (funs : List Fun) → list_any wants_word funs ≡ false → list_any (λ f. list_any (λ e. (e.0 == x) && takes_word e.1) f.effects) funs ≡ false
+no_field x [] none = refl
+no_field x (f ∷ funs) none =
+    ap (λ b. b || list_any (λ g. list_any (λ e. (e.0 == x) && takes_word e.1) g.effects) funs) (no_effect x f.effects (neither (wants_word f) (list_any wants_word funs) none).0)
+    ∙ no_field x funs (neither (wants_word f) (list_any wants_word funs) none).1
+
+-- a service of which no function takes a returned word into a field
+module _ (facts : Facts) (none : list_any wants_word facts.funs ≡ false) where
+  pub wants_none : (fun : ℕ) → wants_word (fun_at facts.funs fun) ≡ false
+  wants_none zero = refl
+  wants_none (suc n) = wants_at facts.funs none n
+
   none_in : (x : ℕ) (fields : List Value) → most_in facts x fields ≡ 0
   none_in x [] = refl
-  none_in x (v ∷ fields) = ap (λ b. max (cond b (word_of v) 0) (most_in facts (x + 1) fields)) (none x) ∙ ap (λ n. max 0 n) (none_in (x + 1) fields)
+  none_in x (v ∷ fields) =
+      ap (λ b. max (cond b (word_of v) 0) (most_in facts (x + 1) fields)) (no_field x facts.funs none) ∙ ap (λ n. max 0 n) (none_in (x + 1) fields)
 
   pub none_counted : (rows : List Row) → most_counted facts rows ≡ 0
   none_counted [] = refl
   none_counted (r ∷ rows) = ap (λ n. max n (most_counted facts rows)) (none_in 0 r.fields) ∙ ap (λ n. max 0 n) (none_counted rows)
 
-  -- where no field counts, none comes near an end
+  -- no word of it comes near an end
   pub never_counts : (ask : Table) (sound : Object → Type 0) → CountsSlowly facts ask sound
   never_counts ask sound = record {
     calls = λ o call good is_sound passes is. omega (arith, none_counted (after facts o call (Ok good)).rows);
