@@ -1,4 +1,11 @@
+pub mod EventAlikeLaw
+pub mod EventBlockedLaw
+pub mod EventDecision
 pub mod EventFacts
+pub mod EventObject
+pub mod EventRow
+pub mod EventShapeLaw
 pub mod EventSound
+pub mod EventSoundLaw
 pub mod EventTable
 pub mod EventWalkLaw

@@ -1,10 +1,14 @@
-//! Events: each has a count, which a trigger raises and a wait takes one from.
-//!
-//! The facts of the service and its table are in `specs/`. The service itself is still to come.
+//! Events: each has a count, which a trigger adds to and a wait takes one from.
 //!
 //! - `shape`: the facts of the service, those of its standard interface (`event_shape`)
+//! - `event`: one event (`Event`)
+//! - `service`: the service (`EventService`)
 #![tactic(auto)]
 
+mod event;
+mod service;
 mod shape;
 
+pub use event::Event;
+pub use service::EventService;
 pub use shape::event_shape;

@@ -5,6 +5,18 @@ ghost use Rattle.sg_event.specs.EventFacts.{event_facts};
 
 use sg_facts::{Effect, FieldShape, FunShape, Kind, Leaves, Parents, Shape};
 
+/// `evt_split`: makes an event of count 0.
+pub(crate) const SPLIT: u8 = 1;
+
+/// `evt_wait`: takes one from its count.
+pub(crate) const WAIT: u8 = 2;
+
+/// `evt_trigger`: adds to its count.
+pub(crate) const TRIGGER: u8 = 3;
+
+/// `evt_free`: ends it.
+pub(crate) const FREE: u8 = 4;
+
 static FIELDS: [FieldShape; 1] = [FieldShape {
     name: b"count",
     text: false,
@@ -41,9 +53,9 @@ static FUNS: [FunShape; 4] = [
     },
 ];
 
-static MOVES: [(u8, u8); 3] = [(1, 2), (1, 3), (1, 4)];
+static MOVES: [(u8, u8); 3] = [(SPLIT, WAIT), (SPLIT, TRIGGER), (SPLIT, FREE)];
 
-static STEPS: [(u8, u8); 1] = [(1, 3)];
+static STEPS: [(u8, u8); 1] = [(SPLIT, TRIGGER)];
 
 /// The shape of the event service.
 pub fn event_shape() -> Shape

@@ -1,9 +1,7 @@
 -- Who is blocked on a lock stays blocked until it is released or ended.
-use Rattle.std.proofs.Common.{◌≡◌, ℕ, zero, suc, Bool, true, false, cond, not, List, [], None, Some, refl, sym, ◌∙◌, ap, inl, inr, arith}
-use Rattle.std.specs.Prelude.{◌==◌, ◌&&◌}
+use Rattle.std.proofs.Common.{◌≡◌, ℕ, zero, suc, Bool, true, false, cond, not, List, [], None, Some, refl, sym, ◌∙◌, ap}
+use Rattle.std.specs.Prelude.{◌==◌}
 use Rattle.std.specs.declared.option.Option.{Option}
-use Rattle.std.proofs.lemmas.Bool.{cases_Bool}
-use Rattle.std.proofs.lemmas.Bool.Decides.{nat_tests}
 use Rattle.sg_base.specs.declared.value.Value.{Value}
 use Rattle.sg_base.specs.declared.call.Call.{Call}
 use Rattle.sg_base.specs.declared.reply.Code.TheVariants.{Held, NotOwner}
@@ -15,6 +13,7 @@ use Rattle.sg_facts.specs.Track.{row_at, row_after, new_row, ends_with}
 use Rattle.sg_facts.specs.Object.{Object, after}
 use Rattle.sg_facts.specs.Laws.{BlockedStays, state_in, leaves_blocked}
 use Rattle.sg_facts.proofs.RowLists.{row_at-more, row_at-changed, row_at-left}
+use Rattle.sg_slots.proofs.RowLaws.{two_rows, on_another}
 use Rattle.sg_lock.specs.LockFacts.{lock_facts}
 use Rattle.sg_lock.specs.LockTable.{lock_table, lock_answer, take_answer, owner_in}
 use Rattle.sg_lock.specs.LockSound.{IsLockSound}
@@ -71,29 +70,9 @@ has_row : (found : Option Row) → (owner_in found == 0) ≡ false → (r : Row)
 has_row None is = absurd (cc is)
 has_row (Some r) is = (r, refl)
 
--- two locks of which one is owned and the other isn't are two
-two_locks : (rows : List Row) (m n : ℕ) → (owner_in (row_at rows m) == 0) ≡ false → (owner_in (row_at rows n) == 0) ≡ true → (m == n) ≡ false
-two_locks rows m n is_owned is_free = elim (cases_Bool (m == n)) [
-  | inl same ↦
-      let one : m ≡ n = grind (arith, nat_tests) in
-      let both : false ≡ true = sym is_owned ∙ ap (λ k. owner_in (row_at rows k) == 0) one ∙ is_free in
-      absurd (cc both)
-  | inr apart ↦ apart
-]
-
-turned : (m n : ℕ) → not (m == n) ≡ true → (n == m) ≡ false
-turned m n apart = grind (arith, nat_tests)
-
-only : (a : Bool) → (a && true) ≡ true → a ≡ true
-only true is = refl
-only false is = absurd (cc is)
-
 module _ (o : Object) (client seq desc : ℕ) (args : List Value) (other : Call) (blocked : (owner_in (row_at o.rows other.desc) == 0) ≡ false) where
   abbrev call_of : ℕ → Call
   call_of fun = record { client = client; seq = seq; fun = fun; desc = desc; args = args }
-
-  same_id : (fun : ℕ) (good : Good) (r : Row) → (row_after lock_facts (call_of fun) good r).id ≡ r.id
-  same_id fun good r = refl
 
   -- its row stays as it is
   row_stays : (fun : ℕ) (good : Good) → lock_answer fun o.given (owner_in (row_at o.rows desc)) client ≡ Some (Ok good)
@@ -104,10 +83,10 @@ module _ (o : Object) (client seq desc : ℕ) (args : List Value) (other : Call)
       let found = has_row (row_at o.rows other.desc) blocked in
       row_at-more o.rows (new_row lock_facts (call_of 1) good) found.0 other.desc found.1 ∙ sym found.1
   row_stays (suc (suc zero)) good is leaves =
-      row_at-changed (row_after lock_facts (call_of 2) good) (same_id 2 good) o.rows desc other.desc
-      (two_locks o.rows other.desc desc blocked (unowned (owner_in (row_at o.rows desc)) client good is))
+      row_at-changed (row_after lock_facts (call_of 2) good) (λ r. refl) o.rows desc other.desc
+      (two_rows (λ row. owner_in row == 0) o.rows other.desc desc blocked (unowned (owner_in (row_at o.rows desc)) client good is))
   row_stays (suc (suc (suc zero))) good is leaves =
-      row_at-changed (row_after lock_facts (call_of 3) good) (same_id 3 good) o.rows desc other.desc (turned desc other.desc (only _ leaves))
+      row_at-changed (row_after lock_facts (call_of 3) good) (λ r. refl) o.rows desc other.desc (on_another desc other.desc leaves)
   row_stays (suc (suc (suc (suc zero)))) good is leaves =
       row_at-left (λ id. not (ends_with lock_facts o.rows desc id)) o.rows other.desc leaves
   row_stays (suc (suc (suc (suc (suc n))))) good is leaves = absurd (cc is)

@@ -1,30 +1,19 @@
 -- The shape of the lock service, and its answers, keep to what every shape allows; and no word of it counts.
-use Rattle.std.proofs.Common.{◌≡◌, ℕ, zero, suc, ◌+◌, Bool, true, false, cond, List, [], ◌∷◌, None, Some, max, refl, sym, ◌∙◌, ap, subst, arith}
-use Rattle.std.specs.Prelude.{◌==◌, ◌&&◌}
-use Rattle.std.specs.List.{list_any}
-use Rattle.std.specs.declared.option.Option.{Option}
-use Rattle.sg_base.specs.declared.value.Value.{Value}
+use Rattle.std.proofs.Common.{◌≡◌, ℕ, zero, suc, Bool, true, false, cond, List, [], None, Some, refl, sym, ◌∙◌, subst}
+use Rattle.std.specs.Prelude.{◌==◌}
 use Rattle.sg_base.specs.declared.reply.Code.TheVariants.{Held, NotOwner}
-use Rattle.sg_base.specs.declared.reply.Reply.{Reply}
 use Rattle.sg_base.specs.declared.reply.Reply.TheVariants.{Ok, Refused}
 use Rattle.sg_facts.specs.declared.row.Row.{Row}
 use Rattle.sg_facts.specs.Facts.{fun_at}
-use Rattle.sg_facts.specs.Allowed.{wants_word}
-use Rattle.sg_facts.specs.Guard.{is_guards}
-use Rattle.sg_facts.specs.Counted.{takes_word, is_counted, most_in, most_counted}
-use Rattle.sg_facts.specs.Track.{row_at, word_of}
-use Rattle.sg_facts.specs.Object.{after}
+use Rattle.sg_facts.specs.Counted.{most_counted}
+use Rattle.sg_facts.specs.Track.{row_at}
 use Rattle.sg_facts.specs.Laws.{ShapeAllows, CountsSlowly}
+use Rattle.sg_slots.proofs.RowLaws.{NotGuards, none_counted, wants_none, never_counts}
 use Rattle.sg_lock.specs.LockFacts.{lock_facts}
 use Rattle.sg_lock.specs.LockTable.{lock_table, lock_answer, owner_in}
 use Rattle.sg_lock.specs.LockSound.{IsLockSound}
 
--- whether an answer is no refusal of the guard's
-abbrev NotGuards : Option Reply → Type 0
-NotGuards None = Unit {0}
-NotGuards (Some (Ok good)) = Unit {0}
-NotGuards (Some (Refused code)) = is_guards code ≡ false
-
+-- none of its refusals is the guard's
 refuses_at : (fun given owner client : ℕ) → NotGuards (lock_answer fun given owner client)
 refuses_at zero given owner client = refl
 refuses_at (suc zero) given owner client = tt
@@ -62,40 +51,16 @@ blocks_at (suc (suc (suc (suc zero)))) given owner client is = absurd (at (owner
     at false is = cc is
 blocks_at (suc (suc (suc (suc (suc n))))) given owner client is = absurd (cc is)
 
-wants_none : (fun : ℕ) → wants_word (fun_at lock_facts.funs fun) ≡ false
-wants_none zero = refl
-wants_none (suc zero) = refl
-wants_none (suc (suc zero)) = refl
-wants_none (suc (suc (suc zero))) = refl
-wants_none (suc (suc (suc (suc zero)))) = refl
-wants_none (suc (suc (suc (suc (suc n))))) = refl
-
 pub lock_shape_allows : ShapeAllows lock_facts lock_table
 lock_shape_allows = record {
   shape = refl;
   blocks = λ o call is. blocks_at call.fun o.given (owner_in (row_at o.rows call.desc)) call.client is;
   refuses = λ o call code is. subst NotGuards is (refuses_at call.fun o.given (owner_in (row_at o.rows call.desc)) call.client);
-  words = λ o call good is wants. absurd (cc (sym (wants_none call.fun) ∙ wants));
+  words = λ o call good is wants. absurd (cc (sym (wants_none lock_facts refl call.fun) ∙ wants));
 }
-
--- no field counts
-none_counted : (x : ℕ) → is_counted lock_facts x ≡ false
-none_counted x = at (0 == x)
-  where
-    at : (b : Bool) → list_any (λ f. list_any (λ e. b && takes_word e.1) f.effects) lock_facts.funs ≡ false
-    at true = refl
-    at false = refl
-
-none_in : (x : ℕ) (fields : List Value) → most_in lock_facts x fields ≡ 0
-none_in x [] = refl
-none_in x (v ∷ fields) = ap (λ b. max (cond b (word_of v) 0) (most_in lock_facts (x + 1) fields)) (none_counted x) ∙ ap (λ n. max 0 n) (none_in (x + 1) fields)
 
 pub none_in_rows : (rows : List Row) → most_counted lock_facts rows ≡ 0
-none_in_rows [] = refl
-none_in_rows (r ∷ rows) = ap (λ n. max n (most_counted lock_facts rows)) (none_in 0 r.fields) ∙ ap (λ n. max 0 n) (none_in_rows rows)
+none_in_rows = none_counted lock_facts refl
 
 pub lock_counts_slowly : CountsSlowly lock_facts lock_table IsLockSound
-lock_counts_slowly = record {
-  calls = λ o call good sound passes is. omega (arith, none_in_rows (after lock_facts o call (Ok good)).rows);
-  replays = λ held call good may replayed is. omega (arith, none_in_rows (after lock_facts held call (Ok good)).rows);
-}
+lock_counts_slowly = never_counts lock_facts refl lock_table IsLockSound

@@ -3,7 +3,7 @@ use Rattle.std.specs.Prelude.{ℕ, zero, suc, ◌+◌, ◌==◌, if◌then◌els
 use Rattle.std.specs.declared.option.Option.{Option}
 use Rattle.sg_base.specs.declared.reply.Code.TheVariants.{Held, NotOwner, NotFound}
 use Rattle.sg_base.specs.declared.reply.Reply.{Reply}
-use Rattle.sg_base.specs.declared.reply.Reply.TheVariants.{Ok, Refused}
+use Rattle.sg_base.specs.declared.reply.Reply.TheVariants.{Refused}
 use Rattle.sg_facts.specs.declared.row.Row.{Row}
 use Rattle.sg_facts.specs.Track.{row_at, word_of, field_at}
 use Rattle.sg_facts.specs.Legal.{Table, done}

@@ -1,3 +1,5 @@
+pub mod Deciding
 pub mod Ids
 pub mod Maps
+pub mod RowLaws
 pub mod Rows

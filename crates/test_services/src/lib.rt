@@ -1,14 +1,20 @@
-//! What services and what speaks of them stand on, tried from outside: facts, rows, walks, slots, locks and histories.
+//! What services and what speaks of them stand on, tried from outside: facts, rows, walks, slots, locks, events and histories.
 //!
 //! - `once`: a service that stops at one point (`Once`)
+//! - `asking`: calls on services (`ask`)
 //!
 //! The tests:
 //! - `facts`: facts of a service, rows and patches, walks
 //! - `slots`: decisions on many slots, and stops at each part
 //! - `locks`: one lock, and stops at each part
+//! - `events`: one event, at each call and count where the answer turns
 //! - `histories`: entries, ends, and as many entries as a script has calls
 #![tactic(auto)]
 
+#[cfg(test)]
+mod asking;
+#[cfg(test)]
+mod events;
 #[cfg(test)]
 mod facts;
 #[cfg(test)]

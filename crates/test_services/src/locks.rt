@@ -1,40 +1,16 @@
 // What no clause says: that calls are answered where there is memory, and stopped where a point strikes.
 ghost use Rattle.std.specs.Prelude.{◌≡◌, ◌≤◌, ◌<◌, ◌==◌, if◌then◌else◌, [], ◌∷◌, OnOk};
 ghost use Rattle.sg_facts.specs.Object.{empty_object};
-ghost use Rattle.sg_facts.specs.Kinds.{MayAsk};
-ghost use Rattle.sg_facts.specs.Invoke.{Invokes};
 ghost use Rattle.sg_slots.specs.Slots.{object_of};
 ghost use Rattle.sg_lock.specs.LockRow.{lock_body};
 
+use crate::asking::{ask, call};
 use crate::once::Once;
-use sg_base::{Args, Call, Code, Good, Path, Reply, Stops};
+use sg_base::{Code, Good, Path, Reply, Stops};
 use sg_facts::{Outcome, Service};
 use sg_lock::{Lock, LockService};
 use std::alloc::Global;
 use std::test::Fail;
-
-// Asks a service through its bound alone.
-fn ask<S: Service, T: Stops>(service: &mut S, alloc: Global, stops: &mut T, call: &Call) -> Outcome
-    requires { MayAsk S.facts (S.object service.old) call.now }
-    ensures { Invokes S.facts S.ask S.parts (S.object service.old) call.now
-        (record { asked = T.asked stops.old; struck = T.struck stops.old }) result
-        (S.object service.new) (record { asked = T.asked stops.new; struck = T.struck stops.new }) }
-{
-    service.invoke(alloc, stops, call)
-}
-
-// A call without arguments.
-fn call(alloc: Global, client: u8, fun: u8, desc: u64) -> Call
-    ensures { result ≡ record { client = client; seq = 1; fun = fun; desc = desc; args = [] } }
-{
-    Call {
-        client,
-        seq: 1,
-        fun,
-        desc,
-        args: Args::new(alloc),
-    }
-}
 
 // Makes the first lock.
 fn make(

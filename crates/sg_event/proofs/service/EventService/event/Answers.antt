@@ -1,0 +1,16 @@
+-- The row of an id is that of its event, and no event has a parent.
+use Rattle.std.proofs.Common.{refl, sym, ◌∙◌, ap}
+use Rattle.std.specs.Option.{option_map, is_some}
+use Rattle.sg_slots.specs.Slots.{row_with}
+use Rattle.sg_slots.proofs.Ids.{above_low}
+use Rattle.sg_slots.proofs.RowLaws.{copied_some, no_child}
+use Rattle.sg_slots.proofs.Rows.{row_at-rows_of}
+use Rattle.sg_event.specs.EventRow.{event_body}
+use Rattle.sg_event.proofs.service.EventService.event.Goals as goal
+
+pub returns : goal.returns
+returns c = record {
+  row = row_at-rows_of event_body c.args.self.now.events.entries c.args.id ∙ ap (option_map (λ e. row_with c.args.id (event_body e))) (sym c.get.ensures.entry);
+  id = λ some. above_low 0 c.args.self.now.events.given c.args.id c.args.self.now.events.entries c.get.ensures.ascending (ap is_some (sym c.get.ensures.entry) ∙ copied_some c.get.result some);
+  childless = no_child event_body (λ e. refl) c.args.self.now.events.entries;
+}

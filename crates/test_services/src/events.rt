@@ -1,0 +1,150 @@
+// What no clause says: that calls on an event are answered where there is memory.
+ghost use Rattle.std.specs.Prelude.{◌≡◌, ◌≤◌, ◌≢◌, [], ◌∷◌, IfOk, OnOk};
+ghost use Rattle.sg_base.specs.declared.value.Value.TheVariants.{Word};
+ghost use Rattle.sg_facts.specs.Object.{empty_object};
+ghost use Rattle.sg_slots.specs.Slots.{object_of};
+ghost use Rattle.sg_event.specs.EventRow.{event_body};
+
+use crate::asking::{ask, call};
+use crate::once::Once;
+use sg_base::{Args, Call, Code, NoMemory, Reply, Value};
+use sg_event::{Event, EventService};
+use sg_facts::{Outcome, Service};
+use std::alloc::Global;
+use std::test::Fail;
+
+// What is asked of an event.
+#[derive(Clone, Copy, Debug)]
+enum Asked {
+    Wait,
+    Trigger(u64),
+    Free,
+}
+
+// What is answered.
+#[derive(Clone, Copy, Debug, PartialEq, Eq)]
+enum Answer {
+    Done,
+    Waits,
+    Refused(Code),
+}
+
+// The answer of an outcome.
+fn answer_of(outcome: Outcome) -> Result<Answer, Outcome> {
+    match outcome {
+        Outcome::Replied {
+            reply: Reply::Ok(_),
+            ..
+        } => Ok(Answer::Done),
+        Outcome::Replied {
+            reply: Reply::Refused(code),
+            ..
+        } => Ok(Answer::Refused(code)),
+        Outcome::Blocks => Ok(Answer::Waits),
+        other => Err(other),
+    }
+}
+
+// A trigger of the first event.
+fn trigger(alloc: Global, n: u64) -> Result<Call, NoMemory>
+    ensures { IfOk result (λ call. call ≡ record { client = 1; seq = 1; fun = 3; desc = 1; args = Word n ∷ [] }) }
+{
+    let mut args = Args::new(alloc);
+    args.push(Value::Word(n))?;
+    Ok(Call {
+        client: 1,
+        seq: 1,
+        fun: 3,
+        desc: 1,
+        args,
+    })
+}
+
+// A service with one event.
+fn one_event(alloc: Global) -> Result<EventService, Outcome>
+    ensures { IfOk result (λ service. object_of event_body service.events
+        ≡ object_of event_body (record { entries = (1, record { creator = 1; count = 0 }) ∷ []; given = 1 })) }
+{
+    let mut service = EventService::fresh(alloc);
+    match ask(
+        &mut service,
+        alloc,
+        &mut Once::new(0),
+        &call(alloc, 1, 1, 0),
+    ) {
+        Outcome::Replied {
+            reply: Reply::Ok(_),
+            ..
+        } => Ok(service),
+        other => Err(other),
+    }
+}
+
+// Triggers an event of count 0.
+fn raise(service: &mut EventService, alloc: Global, count: u32) -> Result<(), Outcome>
+    requires { object_of event_body service.old.events
+        ≡ object_of event_body (record { entries = (1, record { creator = 1; count = 0 }) ∷ []; given = 1 }) }
+    ensures { OnOk result (object_of event_body service.new.events
+        ≡ object_of event_body (record { entries = (1, record { creator = 1; count = count }) ∷ []; given = 1 })) }
+{
+    match trigger(alloc, u64::from(count)) {
+        Ok(call) => match ask(service, alloc, &mut Once::new(0), &call) {
+            Outcome::Replied {
+                reply: Reply::Ok(_),
+                ..
+            } => Ok(()),
+            other => Err(other),
+        },
+        Err(_) => Err(Outcome::NoMemory),
+    }
+}
+
+// The outcome of a call on the one event, whose count is as told.
+fn outcome(service: &mut EventService, alloc: Global, count: u32, asked: Asked) -> Outcome
+    requires { object_of event_body service.old.events
+        ≡ object_of event_body (record { entries = (1, record { creator = 1; count = count }) ∷ []; given = 1 }) }
+{
+    let call = match asked {
+        Asked::Wait => Ok(call(alloc, 2, 2, 1)),
+        Asked::Trigger(n) => trigger(alloc, n),
+        Asked::Free => Ok(call(alloc, 64, 4, 1)),
+    };
+    match call {
+        Ok(call) => ask(service, alloc, &mut Once::new(0), &call),
+        Err(_) => Outcome::NoMemory,
+    }
+}
+
+// What an event of a count answers, and the count then; None where the event has ended.
+fn answered(alloc: Global, count: u32, asked: Asked) -> Result<(Answer, Option<u32>), Outcome> {
+    let mut service = one_event(alloc)?;
+    raise(&mut service, alloc, count)?;
+    let answer = answer_of(outcome(&mut service, alloc, count, asked))?;
+    Ok((answer, service.event(1).map(|event| event.count)))
+}
+
+#[test]
+fn answers_at_each_count(rt: HostRuntime) -> Result<(), Fail> {
+    const MOST: u32 = 4_294_967_295;
+    let over = Answer::Refused(Code::Overflow);
+    let cases = [
+        (0, Asked::Wait, Answer::Waits, Some(0)),
+        (1, Asked::Wait, Answer::Done, Some(0)),
+        (MOST, Asked::Wait, Answer::Done, Some(4_294_967_294)),
+        (0, Asked::Trigger(0), Answer::Done, Some(0)),
+        (0, Asked::Trigger(4_294_967_295), Answer::Done, Some(MOST)),
+        (0, Asked::Trigger(4_294_967_296), over, Some(0)),
+        (7, Asked::Trigger(4_294_967_288), Answer::Done, Some(MOST)),
+        (7, Asked::Trigger(4_294_967_289), over, Some(7)),
+        (MOST, Asked::Trigger(0), Answer::Done, Some(MOST)),
+        (MOST, Asked::Trigger(1), over, Some(MOST)),
+        (MOST, Asked::Trigger(u64::MAX), over, Some(MOST)),
+        (0, Asked::Free, Answer::Done, None),
+        (MOST, Asked::Free, Answer::Done, None),
+    ];
+    for (count, asked, answer, left) in cases {
+        let got = answered(rt.alloc(), count, asked)?;
+        assert_eq!(rt; got, (answer, left), "{asked:?} at {count}");
+    }
+    Ok(())
+}
