@@ -1,3 +1,9 @@
+pub mod SchedAlikeLaw
+pub mod SchedBlockedLaw
 pub mod SchedFacts
+pub mod SchedFirst
+pub mod SchedRanks
+pub mod SchedShapeLaw
 pub mod SchedSound
+pub mod SchedSoundLaw
 pub mod SchedTable
