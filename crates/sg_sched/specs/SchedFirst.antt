@@ -10,17 +10,16 @@ use Rattle.sg_facts.specs.Sound.{AreRows}
 use Rattle.sg_facts.specs.Track.{row_at}
 use Rattle.sg_sched.specs.SchedTable.{prio_of, rank_of, goes_before, next_of, is_ready, first_ready}
 
--- ---- one number decides, and where it is the same a further test
-
-abbrev by : ℕ → ℕ → Bool → Bool
+-- one number decides, and where it is the same a further test
+abbrev pub by : ℕ → ℕ → Bool → Bool
 by a b further = nat_lt a b || ((a == b) && further)
 
 -- which of two numbers is the less
-abbrev Sides : ℕ → ℕ → Type 0
+abbrev pub Sides : ℕ → ℕ → Type 0
 Sides a b = (a < b) ⊎ (a ≡ b) ⊎ (b < a)
 
 -- one of them holds
-sides : (a b : ℕ) → Sides a b
+pub sides : (a b : ℕ) → Sides a b
 sides a b = elim (cases_Bool (nat_lt a b)) [
   | inl less ↦ let is : a < b = grind (arith, nat_tests) in inl is
   | inr not ↦ elim (cases_Bool (a == b)) [
@@ -30,18 +29,18 @@ sides a b = elim (cases_Bool (nat_lt a b)) [
 ]
 
 -- the less number goes before
-by_less : (a b : ℕ) (further : Bool) → a < b → by a b further ≡ true
+pub by_less : (a b : ℕ) (further : Bool) → a < b → by a b further ≡ true
 by_less a b further is = let test : nat_lt a b ≡ true = grind (arith, nat_tests) in ap (λ t. t || ((a == b) && further)) test
 
 -- the same number leaves it to the further test
-by_same : (a b : ℕ) (further : Bool) → a ≡ b → by a b further ≡ further
+pub by_same : (a b : ℕ) (further : Bool) → a ≡ b → by a b further ≡ further
 by_same a b further is =
     let test : nat_lt a b ≡ false = grind (arith, nat_tests) in
     let equal : (a == b) ≡ true = grind (arith, nat_tests) in
     ap (λ t. t || ((a == b) && further)) test ∙ ap (λ t. t && further) equal
 
 -- the greater number goes behind
-by_more : (a b : ℕ) (further : Bool) → b < a → by a b further ≡ false
+pub by_more : (a b : ℕ) (further : Bool) → b < a → by a b further ≡ false
 by_more a b further is =
     let test : nat_lt a b ≡ false = grind (arith, nat_tests) in
     let equal : (a == b) ≡ false = grind (arith, nat_tests) in
