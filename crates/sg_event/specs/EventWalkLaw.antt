@@ -14,7 +14,7 @@ use Rattle.sg_facts.specs.Facts.{fun_at}
 use Rattle.sg_facts.specs.Held.{FieldsHold, set_of}
 use Rattle.sg_facts.specs.Interface.{Declared, has_pair}
 use Rattle.sg_facts.specs.Kinds.{kinds_fit}
-use Rattle.sg_facts.specs.Laws.{AnswersAndKeeps, WalkGoesOn, next_call}
+use Rattle.sg_facts.specs.Laws.{WalkGoesOn, next_call}
 use Rattle.sg_facts.specs.Object.{Object}
 use Rattle.sg_facts.specs.Sound.{AreFields, IsRow}
 use Rattle.sg_facts.specs.Track.{empty_field, field_at, fields_after, row_at, word_of}
@@ -22,6 +22,7 @@ use Rattle.sg_facts.specs.Walks.{restores_fields, Mark, Spot, good, may_go_on, n
 use Rattle.sg_event.specs.EventFacts.{event_facts}
 use Rattle.sg_event.specs.EventTable.{count_in, event_table, most_count, trigger_answer}
 use Rattle.sg_event.specs.EventSound.{IsCounted, IsEventSound}
+use Rattle.sg_event.specs.EventSoundLaw.{event_answers_and_keeps}
 use Rattle.sg_walk_laws.specs.Replays.{AnswersCreations, AnswersReplays, AnswersSteps, IsAnsweredOk}
 use Rattle.sg_walk_laws.proofs.Found.{met}
 use Rattle.sg_walk_laws.proofs.Goes.{walk_goes_on}
@@ -134,5 +135,5 @@ event_answers_replays = record {
   steps = of_facts (λ i. AnswersSteps i event_table IsEventSound) event_facts steps_on_it;
 }
 
-pub event_walk_goes_on : AnswersAndKeeps event_facts event_table IsEventSound → WalkGoesOn event_facts event_table IsEventSound
-event_walk_goes_on keeps = walk_goes_on event_facts event_table IsEventSound refl keeps event_answers_replays
+pub event_walk_goes_on : WalkGoesOn event_facts event_table IsEventSound
+event_walk_goes_on = walk_goes_on event_facts event_table IsEventSound refl event_answers_and_keeps event_answers_replays

@@ -5,6 +5,7 @@ ghost use Rattle.sg_facts.specs.Kinds.{MayAsk};
 ghost use Rattle.sg_facts.specs.Track.{arg_at, has_child, row_at, word_of};
 ghost use Rattle.sg_slots.specs.Slots.{row_with, entry_at, object_of};
 ghost use Rattle.sg_slots.specs.Decide.{Decides};
+ghost use Rattle.sg_event.specs.EventWalkLaw.{event_walk_goes_on};
 ghost use Rattle.sg_event.specs.EventFacts.{event_facts};
 ghost use Rattle.sg_event.specs.EventTable.{event_table, event_parts};
 ghost use Rattle.sg_event.specs.EventRow.{event_body};
@@ -64,6 +65,8 @@ impl Service for EventService {
     ghost answers_and_keeps = { event_answers_and_keeps };
 
     ghost answers_alike = { event_answers_alike };
+
+    ghost walk_goes_on = { event_walk_goes_on };
 
     ghost blocked_stays = { event_blocked_stays };
 

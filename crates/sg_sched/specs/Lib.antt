@@ -1,4 +1,15 @@
+pub mod SchedAlikeLaw
+pub mod SchedBlockedLaw
+pub mod SchedDecision
 pub mod SchedFacts
+pub mod SchedFirst
+pub mod SchedIndex
+pub mod SchedKeys
+pub mod SchedObject
+pub mod SchedRanks
+pub mod SchedRow
+pub mod SchedShapeLaw
 pub mod SchedSound
+pub mod SchedSoundLaw
 pub mod SchedTable
 pub mod SchedWalkLaw

@@ -12,7 +12,7 @@ use Rattle.sg_facts.specs.Facts.{fun_at}
 use Rattle.sg_facts.specs.Held.{set_of}
 use Rattle.sg_facts.specs.Interface.{Declared, has_pair}
 use Rattle.sg_facts.specs.Kinds.{kinds_fit}
-use Rattle.sg_facts.specs.Laws.{AnswersAndKeeps, WalkGoesOn, next_call}
+use Rattle.sg_facts.specs.Laws.{WalkGoesOn, next_call}
 use Rattle.sg_facts.specs.Object.{Object}
 use Rattle.sg_facts.specs.Sound.{AreFields, IsRow}
 use Rattle.sg_facts.specs.Track.{empty_field, field_at, fields_after, row_at, word_of}
@@ -20,6 +20,7 @@ use Rattle.sg_sched.specs.SchedFacts.{sched_facts}
 use Rattle.sg_sched.specs.SchedTable.{next_rank, rank_of, sched_table}
 use Rattle.sg_sched.specs.SchedSound.{IsSchedSound}
 use Rattle.sg_facts.specs.Counted.{most_counted, most_in}
+use Rattle.sg_sched.specs.SchedSoundLaw.{sched_answers_and_keeps}
 use Rattle.sg_walk_laws.specs.Replays.{AnswersCreations, AnswersReplays, AnswersSteps, IsAnsweredOk}
 use Rattle.sg_walk_laws.proofs.Found.{met}
 use Rattle.sg_walk_laws.proofs.Goes.{walk_goes_on}
@@ -141,5 +142,5 @@ sched_answers_replays = record {
   steps = of_facts (λ i. AnswersSteps i sched_table IsSchedSound) sched_facts steps_on_it;
 }
 
-pub sched_walk_goes_on : AnswersAndKeeps sched_facts sched_table IsSchedSound → WalkGoesOn sched_facts sched_table IsSchedSound
-sched_walk_goes_on keeps = walk_goes_on sched_facts sched_table IsSchedSound refl keeps sched_answers_replays
+pub sched_walk_goes_on : WalkGoesOn sched_facts sched_table IsSchedSound
+sched_walk_goes_on = walk_goes_on sched_facts sched_table IsSchedSound refl sched_answers_and_keeps sched_answers_replays

@@ -1,10 +1,18 @@
 //! Threads: each is ready or asleep, with a priority and a rank in the queue.
 //!
-//! The facts of the service and its table are in `specs/`. The service itself is still to come.
-//!
-//! - `shape`: the facts of the service, those of its standard interface (`sched_shape`)
+//! - `shape`: the facts of the service, those of its standard interface
+//! - `thread`: one thread (`Thread`)
+//! - `key`, `index`, `queue`: the threads, and the indexes that tell which is next and the greatest rank
+//! - `service`: the service (`SchedService`)
 #![tactic(auto)]
 
+mod index;
+mod key;
+mod queue;
+mod service;
 mod shape;
+mod thread;
 
+pub use service::SchedService;
 pub use shape::sched_shape;
+pub use thread::Thread;

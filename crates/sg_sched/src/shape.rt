@@ -5,6 +5,30 @@ ghost use Rattle.sg_sched.specs.SchedFacts.{sched_facts};
 
 use sg_facts::{Effect, FieldShape, FunShape, Kind, Leaves, Parents, Shape};
 
+/// `sched_create_thd`: makes a thread.
+pub(crate) const CREATE: u8 = 1;
+
+/// `sched_yield`: puts it at the end of the queue.
+pub(crate) const YIELD: u8 = 2;
+
+/// `sched_sleep`: puts it to sleep.
+pub(crate) const SLEEP: u8 = 3;
+
+/// `sched_wakeup`: makes it ready again.
+pub(crate) const WAKEUP: u8 = 4;
+
+/// `sched_wait`: waits until it is ready.
+pub(crate) const WAIT: u8 = 5;
+
+/// `sched_next`: tells which thread is next.
+pub(crate) const NEXT: u8 = 6;
+
+/// `sched_place`: sets its rank.
+pub(crate) const PLACE: u8 = 7;
+
+/// `sched_exit`: ends it.
+pub(crate) const EXIT: u8 = 8;
+
 static FIELDS: [FieldShape; 2] = [
     FieldShape {
         name: b"prio",
@@ -42,7 +66,7 @@ static FUNS: [FunShape; 8] = [
         name: b"sched_wakeup",
         kinds: &[Kind::Desc],
         flags: FunShape::WAKEUP,
-        leaves: Leaves::Of(1),
+        leaves: Leaves::Of(CREATE),
         effects: &[],
     },
     FunShape {
@@ -75,9 +99,17 @@ static FUNS: [FunShape; 8] = [
     },
 ];
 
-static MOVES: [(u8, u8); 7] = [(1, 2), (1, 3), (1, 5), (1, 8), (3, 4), (3, 5), (3, 8)];
+static MOVES: [(u8, u8); 7] = [
+    (CREATE, YIELD),
+    (CREATE, SLEEP),
+    (CREATE, WAIT),
+    (CREATE, EXIT),
+    (SLEEP, WAKEUP),
+    (SLEEP, WAIT),
+    (SLEEP, EXIT),
+];
 
-static STEPS: [(u8, u8); 2] = [(1, 3), (1, 7)];
+static STEPS: [(u8, u8); 2] = [(CREATE, SLEEP), (CREATE, PLACE)];
 
 /// The shape of the thread service.
 pub fn sched_shape() -> Shape

@@ -1,0 +1,28 @@
+-- Keys of threads, and sets of them.
+use Rattle.std.specs.Prelude.{◌≡◌, ◌==◌, Bool, false, ◌&&◌, ◌||◌, not, None, Some}
+use Rattle.std.specs.declared.option.Option.{Option}
+use Rattle.std.specs.declared.cmp.Ordering.{Ordering}
+use Rattle.std.specs.Ordering.{nat_cmp, ordering_then}
+use Rattle.std.specs.BTreeSet.{BTreeSet, contains}
+use Rattle.sg_sched.specs.declared.key.Key.{Key}
+
+-- the order of keys: by the first number, then by the second, then by id
+abbrev pub key_cmp : Key → Key → Ordering
+key_cmp a b = ordering_then (nat_cmp a.first b.first) (ordering_then (nat_cmp a.second b.second) (nat_cmp a.id b.id))
+
+-- whether a set has a key
+abbrev pub has : BTreeSet Key → Key → Bool
+has keys k = contains key_cmp keys k
+
+-- whether a key is the one, where there is one
+abbrev pub is_key : Option Key → Key → Bool
+is_key None k = false
+is_key (Some one) k = (one.first == k.first) && (one.second == k.second) && (one.id == k.id)
+
+-- a set has a key more
+abbrev pub Gains : BTreeSet Key → BTreeSet Key → Option Key → Type 0
+Gains old new key = (k : Key) → has new k ≡ (has old k || is_key key k)
+
+-- a set has a key less, unless it is one to keep
+abbrev pub Loses : BTreeSet Key → BTreeSet Key → Option Key → Option Key → Type 0
+Loses old new key kept = (k : Key) → has new k ≡ (has old k && not (is_key key k && not (is_key kept k)))
