@@ -19,7 +19,7 @@ use Rattle.sg_slots.specs.declared.decision.Decision.TheVariants.{Block, Keep, R
 use Rattle.sg_slots.specs.Slots.{Held, AreIds, entry_at, object_of, rows_of, row_with, set_entry}
 use Rattle.sg_slots.specs.Decide.{Decides}
 use Rattle.sg_slots.proofs.Rows.{row_at-rows_of, rows_of-more, rows_of-set, rows_of-without}
-use Rattle.sg_slots.proofs.SharedSound.{change}
+use Rattle.sg_slots.proofs.SoundRows.{change}
 use Rattle.sg_sched.specs.declared.thread.Thread.{Thread}
 use Rattle.sg_sched.specs.SchedFacts.{sched_facts}
 use Rattle.sg_sched.specs.SchedTable.{sched_table, sched_parts, sched_wait_answer, next_answer, next_rank, first_ready}

@@ -16,7 +16,7 @@ use Rattle.sg_facts.specs.Sound.{AreRows}
 use Rattle.sg_facts.specs.Track.{row_at}
 use Rattle.sg_slots.specs.Slots.{AreIds, entry_at, row_with, rows_of}
 use Rattle.sg_slots.proofs.Rows.{row_at-rows_of}
-use Rattle.sg_slots.proofs.SharedFound.{all_rows}
+use Rattle.sg_slots.proofs.FoundRows.{all_rows}
 use Rattle.sg_sched.specs.declared.key.Key.{Key}
 use Rattle.sg_sched.specs.declared.thread.Thread.{Thread}
 use Rattle.sg_sched.specs.SchedKeys.{key_cmp, has}

@@ -18,7 +18,7 @@ use Rattle.sg_facts.specs.Counted.{most_in, most_counted}
 use Rattle.sg_facts.specs.Track.{row_at, row_after, new_row, ends_with, fields_after, first_word, arg_at, word_of}
 use Rattle.sg_facts.specs.Object.{Object, after}
 use Rattle.sg_facts.specs.Laws.{ShapeAllows, CountsSlowly, Passes, state_in, slow, most_set}
-use Rattle.sg_slots.proofs.SharedSound.{change}
+use Rattle.sg_slots.proofs.SoundRows.{change}
 use Rattle.sg_sched.specs.SchedFacts.{sched_facts}
 use Rattle.sg_sched.specs.SchedTable.{sched_table, sched_answer, sched_wait_answer, next_answer, first_ready, next_rank}
 use Rattle.sg_sched.specs.SchedSound.{IsSchedSound}

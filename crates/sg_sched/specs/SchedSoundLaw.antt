@@ -19,7 +19,7 @@ use Rattle.sg_facts.specs.Object.{Object, after}
 use Rattle.sg_facts.specs.Sound.{IsOfField, IsRow, AreRows, AreFields}
 use Rattle.sg_facts.specs.Laws.{AnswersAndKeeps, Passes, whole}
 use Rattle.sg_facts.proofs.RowLists.{more, changed, left, other}
-use Rattle.sg_slots.proofs.SharedSound.{none_applies, change, change_id, sound_more, sound_changed, sound_left}
+use Rattle.sg_slots.proofs.SoundRows.{none_applies, change, change_id, sound_more, sound_changed, sound_left}
 use Rattle.sg_sched.specs.SchedFacts.{sched_facts}
 use Rattle.sg_sched.specs.SchedTable.{sched_table, sched_answer, sched_wait_answer, next_rank, rank_of}
 use Rattle.sg_sched.specs.SchedSound.{IsSchedSound, IsRanked}

@@ -1,7 +1,7 @@
 pub mod Deciding
+pub mod FoundRows
 pub mod Ids
 pub mod Maps
 pub mod RowLaws
 pub mod Rows
-pub mod SharedFound
-pub mod SharedSound
+pub mod SoundRows
