@@ -44,18 +44,6 @@ pub fn take_mark(reader: &mut Reader<'_>, byte: u8) -> Result<bool, ParseError>
     reader.take_mark(byte).map_err(fault_error)
 }
 
-/// The error where no token may come that comes next, or where the text may not end.
-#[tactic(auto, using(crate::proofs::ByToken::dead_token, crate::proofs::ByToken::dead_end))]
-pub fn unexpected(reader: &mut Reader<'_>) -> ParseError
-    ensures error { read trees dead reader.old ≡ Err result }
-{
-    match next_token(reader) {
-        Ok(Some(token)) => ParseError::Syntax { at: token.at },
-        Ok(None) => ParseError::Syntax { at: reader.end() },
-        Err(error) => error,
-    }
-}
-
 /// Takes this mark.
 #[tactic(auto, using(crate::proofs::ByToken::due_came, crate::proofs::ByToken::due_missing))]
 pub fn mark(reader: &mut Reader<'_>, byte: u8) -> Result<(), ParseError>
@@ -91,6 +79,18 @@ pub fn word_of<'a>(reader: &mut Reader<'a>, sort: Sort) -> Result<Name<'a>, Pars
     match take_word(reader, sort)? {
         Some(name) => Ok(name),
         None => Err(unexpected(reader)),
+    }
+}
+
+/// The error where no token may come that comes next, or where the text may not end.
+#[tactic(auto, using(crate::proofs::ByToken::dead_token, crate::proofs::ByToken::dead_end))]
+pub fn unexpected(reader: &mut Reader<'_>) -> ParseError
+    ensures error { read trees dead reader.old ≡ Err result }
+{
+    match next_token(reader) {
+        Ok(Some(token)) => ParseError::Syntax { at: token.at },
+        Ok(None) => ParseError::Syntax { at: reader.end() },
+        Err(error) => error,
     }
 }
 
