@@ -18,10 +18,12 @@ points_push : (exact : Bool) (facts : Facts) (ask : Table) (parts : ℕ → ℕ)
     → ArePoints exact facts ask parts asked front (items ++ item ∷ [])
 points_push exact facts ask parts asked front [] item all one =
     (subst (λ f. IsPointOf exact parts asked (answer_to facts ask f item) item.tag item.shown.fun item.outcome item.points) (append-nil front) one, tt)
-points_push exact facts ask parts asked front (x ∷ items) item all one =
-    (all.0, points_push exact facts ask parts (asked_behind facts x) (front ++ x ∷ []) items item all.1
-    (subst (λ f. IsPointOf exact parts (asked_in facts (asked_behind facts x) items) (answer_to facts ask f item) item.tag item.shown.fun item.outcome item.points)
-    (sym (append_assoc front (x ∷ []) items)) one))
+points_push exact facts ask parts asked front (x ∷ items) item all one = (
+  all.0,
+  points_push exact facts ask parts (asked_behind facts x) (front ++ x ∷ []) items item all.1
+      (subst (λ f. IsPointOf exact parts (asked_in facts (asked_behind facts x) items) (answer_to facts ask f item) item.tag item.shown.fun item.outcome item.points)
+      (sym (append_assoc front (x ∷ []) items)) one),
+)
 
 asked_push : (facts : Facts) (asked : ℕ) (items : List Item) (item : Item) → asked_in facts asked (items ++ item ∷ []) ≡ asked_behind facts item
 asked_push facts asked [] item = refl

@@ -86,13 +86,13 @@ pub fn points_go_on()
     ensures noted { (exact : Bool) (facts : Facts) (ask : Table) (parts : ℕ → ℕ) (asked : ℕ) (b : Boot) (boots : List Boot) (points later : ℕ) (item : Item)
         → last_stop (b ∷ boots) ≡ None → is_stopped item.outcome ≡ false
         → IsPointOf exact parts (asked_over facts asked (b ∷ boots)) (answer_to facts ask (last_items (b ∷ boots)) item)
-            item.tag item.shown.fun item.outcome item.points
+        item.tag item.shown.fun item.outcome item.points
         → IsCount exact later (asked_behind facts item)
         → ArePointsOf exact facts ask parts asked (b ∷ boots) points → ArePointsOf exact facts ask parts asked (noted (b ∷ boots) item) later }
     ensures within { (exact : Bool) (facts : Facts) (ask : Table) (parts : ℕ → ℕ) (asked : ℕ) (b : Boot) (boots : List Boot) (points later : ℕ) (item : Item)
         → last_stop (b ∷ boots) ≡ None → is_stopped item.outcome ≡ true
         → IsPointOf exact parts (asked_over facts asked (b ∷ boots)) (answer_to facts ask (last_items (b ∷ boots)) item)
-            item.tag item.shown.fun item.outcome item.points
+        item.tag item.shown.fun item.outcome item.points
         → IsCount exact later item.points
         → ArePointsOf exact facts ask parts asked (b ∷ boots) points
         → ArePointsOf exact facts ask parts asked (struck (noted (b ∷ boots) item) item.points) later }

@@ -8,5 +8,6 @@
 mod laws;
 
 pub use laws::{
-    entries_stay, held_stay_in_boots, legal_stays, places_grow, points_go_on, recovering_goes_on, values_grow,
+    entries_stay, held_stay_in_boots, legal_stays, places_grow, points_go_on, recovering_goes_on,
+    values_grow,
 };

@@ -12,4 +12,6 @@ mod stops;
 
 pub use files::held_reply;
 pub use locks::{four_lock_calls, own_backs, second_first, stays_blocked, wait_and_wake};
-pub use stops::{blocked_redone, stop_after_take, taken_by_another, trigger_not_twice, wrong_plays};
+pub use stops::{
+    blocked_redone, stop_after_take, taken_by_another, trigger_not_twice, wrong_plays,
+};
