@@ -15,7 +15,7 @@ use Rattle.sg_recovery_laws.proofs.Served.{Has, IsGrownTo, each_reverse, found_h
 
 -- ---- the last boot
 
-older_noted : (before : List Item) (b : Boot) (boots : List Boot) (item : Item) → older_items before (noted (b ∷ boots) item) ≡ older_items before (b ∷ boots)
+pub older_noted : (before : List Item) (b : Boot) (boots : List Boot) (item : Item) → older_items before (noted (b ∷ boots) item) ≡ older_items before (b ∷ boots)
 older_noted before b [] item = refl
 older_noted before b (c ∷ []) item = refl
 older_noted before b (c ∷ d ∷ boots) item = older_noted (before ++ b.items) c (d ∷ boots) item

@@ -1,0 +1,4 @@
+pub mod Acting
+pub mod Apart
+pub mod Serving
+pub mod Waiting

@@ -1,0 +1,6 @@
+pub mod Behind
+pub mod Making
+pub mod Noting
+pub mod Reading
+pub mod Reorder
+pub mod Replying

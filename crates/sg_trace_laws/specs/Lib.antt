@@ -1,0 +1,2 @@
+pub mod LastPlace
+pub mod Told

@@ -1,0 +1,25 @@
+-- How a trace is read at its end: the names, what is whole, how far walks have come, and which files are present.
+use Rattle.std.specs.Prelude.{ℕ, ◌≡◌, ◌⊎◌, ◌||◌, Bool, true, false, List, [], length, filter}
+use Rattle.std.specs.List.{list_any}
+use Rattle.sg_facts.specs.declared.entry.Entry.{Entry}
+use Rattle.sg_facts.specs.declared.row.Row.{Row}
+use Rattle.sg_facts.specs.declared.tables.WalkLine.{WalkLine}
+use Rattle.sg_facts.specs.declared.trace.Item.{Item}
+use Rattle.sg_facts.specs.Alike.{named}
+use Rattle.sg_facts.specs.Facts.{Facts}
+use Rattle.sg_facts.specs.Track.{is_live}
+use Rattle.sg_hist.specs.Reading.{is_made, is_rebuilt_at, names_at, places_in}
+use Rattle.sg_hist.specs.Recovered.{is_patch_at, is_walk_of}
+use Rattle.sg_held_laws.specs.Progress.{IsCounted, IsNone, Told, is_complete, fresh, begun, complete}
+
+-- whether an id is whole behind the items of a boot
+abbrev pub whole_behind : Facts → List WalkLine → List Entry → List Item → List Item → ℕ → Bool
+whole_behind facts walks history older front id =
+    list_any (is_made facts history id) front || list_any (is_rebuilt_at facts walks history id) (places_in older [] front [])
+
+-- what is told is what the trace tells. The trace's names go on to name what has ended; those of the stubs need not
+pub record IsRead (facts : Facts) (walks : List WalkLine) (history : List Entry) (older front : List Item) (names : List (ℕ × ℕ)) (told : ℕ → Told) (present : List ℕ → Bool) (rows : List Row) : Type 0 where
+  pub names_are : (id : ℕ) → IsNone rows id → named (names_at facts history front) id ≡ named names id
+  pub whole : (id : ℕ) → is_live rows id ≡ true → whole_behind facts walks history older front id ≡ is_complete (told id)
+  pub calls : (id : ℕ) → is_live rows id ≡ true → IsCounted (told id) (length (filter (λ item. is_walk_of id item.tag) front))
+  pub files : (path : List ℕ) → list_any (λ item. is_patch_at path item.outcome) front ≡ present path

@@ -1,0 +1,4 @@
+pub mod Keeping
+pub mod Layers
+pub mod State
+pub mod Steps

@@ -1,0 +1,2 @@
+//! What the world keeps, event by event.
+#![tactic(auto)]
