@@ -71,8 +71,8 @@ each_filtered P test low high [] are so = tt
 each_filtered P test low high (x ∷ rows) are so =
     at (test x) refl (so x (ap (λ b. cond b (Some x) (row_at rows x.id)) (same_test x.id x.id refl)))
     (each_filtered P test x.id high rows are.3 (λ r there passes.
-      let more = above (λ y. Unit {0}) x.id high r.id rows r are.3 there in
-      so r (ap (λ b. cond b (Some x) (row_at rows r.id)) (other_test x.id r.id (λ is. absurd (omega (arith, is, more)))) ∙ there) passes))
+    let more = above (λ y. Unit {0}) x.id high r.id rows r are.3 there in
+    so r (ap (λ b. cond b (Some x) (row_at rows r.id)) (other_test x.id r.id (λ is. absurd (omega (arith, is, more)))) ∙ there) passes))
   where
     at : (b : Bool) → test x ≡ b → (test x ≡ true → P x) → Each P (filter test rows) → Each P (cond b (x ∷ filter test rows) (filter test rows))
     at true is own rest = (own is, rest)

@@ -4,3 +4,4 @@ pub mod Noting
 pub mod Reading
 pub mod Reorder
 pub mod Replying
+pub mod Sound

@@ -95,10 +95,10 @@ module _ (i : Declared) (walks : List WalkLine) (history : List Entry) (u : List
     rows = subst (λ x. Each (λ r. IsAlikeTo (names_at i.facts history front) r (row_at (value_at i.facts front).rows (named (names_at i.facts history front) r.id))) (filter (is_needed i.facts x.rows item.shown) x.rows)) (sym object_is)
         (each_filtered (λ r. IsAlikeTo (names_at i.facts history front) r (row_at (value_at i.facts front).rows (named (names_at i.facts history front) r.id))) (is_needed i.facts o.rows item.shown) 0 o.given o.rows are
         (λ r there need.
-          let has = alike r there need in
-          let found : row_at (value_at i.facts front).rows (named (names_at i.facts history front) r.id) ≡ Some has.row
-          = ap (λ v. row_at v.rows (named (names_at i.facts history front) r.id)) value ∙ ap (row_at held.rows) (read.names_are r.id (inr (live_of_row o.rows r.id r there))) ∙ has.there in
-          subst (IsAlikeTo (names_at i.facts history front) r) (sym found) (alike_under names (names_at i.facts history front) r has.row (read.names_are r.id (inr (live_of_row o.rows r.id r there))) (read.names_are r.parent (parent_there r there)) has.alike)));
+        let has = alike r there need in
+        let found : row_at (value_at i.facts front).rows (named (names_at i.facts history front) r.id) ≡ Some has.row
+        = ap (λ v. row_at v.rows (named (names_at i.facts history front) r.id)) value ∙ ap (row_at held.rows) (read.names_are r.id (inr (live_of_row o.rows r.id r there))) ∙ has.there in
+        subst (IsAlikeTo (names_at i.facts history front) r) (sym found) (alike_under names (names_at i.facts history front) r has.row (read.names_are r.id (inr (live_of_row o.rows r.id r there))) (read.names_are r.parent (parent_there r there)) has.alike)));
     real = real ∙ sym (read.names_are item.shown.desc desc);
     file = subst (λ x. SameFile x (value_at i.facts front) item.shown.desc item.real (needs i.facts x item.shown).file) (sym object_is)
         (subst (λ v. SameFile o v item.shown.desc item.real (needs i.facts o item.shown).file) (sym value)

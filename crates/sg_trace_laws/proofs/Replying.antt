@@ -66,9 +66,12 @@ module _ (facts : Facts) (later : List Entry) (front : List Item) (item : Item) 
       by : (b : Bool) → (fun_at facts.funs call.fun).creation ≡ b → SameReply names b (Some (Ok good)) (Some (Ok other))
           → IsRenamed (names_at facts later front ++ names_in facts later item.shown.fun item.tag item.outcome) (Ok other) (Ok good)
       by true makes s =
-          subst (λ l. IsRenamed (names_at facts later front ++ l) (Ok other) (Ok good)) (sym (pair_here good other outcome given true makes))
-          (sym s.0, sym s.1, renamed_is (names_at facts later front ++ (good.desc, other.desc) ∷ []) good.desc other.desc (λ zero_it. absurd (new other refl makes zero_it))
-          (named_push (names_at facts later front) good.desc other.desc good.desc (unnamed good refl makes) ∙ ap (λ b. cond b other.desc (named (names_at facts later front) good.desc)) (same_test good.desc good.desc refl)))
+          subst (λ l. IsRenamed (names_at facts later front ++ l) (Ok other) (Ok good)) (sym (pair_here good other outcome given true makes)) (
+            sym s.0,
+            sym s.1,
+            renamed_is (names_at facts later front ++ (good.desc, other.desc) ∷ []) good.desc other.desc (λ zero_it. absurd (new other refl makes zero_it))
+                (named_push (names_at facts later front) good.desc other.desc good.desc (unnamed good refl makes) ∙ ap (λ b. cond b other.desc (named (names_at facts later front) good.desc)) (same_test good.desc good.desc refl)),
+          )
       by false makes s =
           subst (λ l. IsRenamed (names_at facts later front ++ l) (Ok other) (Ok good)) (sym (pair_here good other outcome given false makes))
           (subst (λ l. IsRenamed l (Ok other) (Ok good)) (sym (append-nil (names_at facts later front)))
