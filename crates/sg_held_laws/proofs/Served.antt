@@ -155,7 +155,7 @@ module _ (i : Declared) (ask : Table) (sound : Object → Type 0) (walks : List 
       }
 
   acts_it : ActsOnOne i.facts (fun_at i.facts.funs call.fun)
-  acts_it = acts i.facts call.fun law.well passes.is_call.first passes.is_call.last
+  acts_it = acts i.facts call.fun law.shape.shape passes.is_call.first passes.is_call.last
 
   on_row : (fun_at i.facts.funs call.fun).query ≡ false → (fun_at i.facts.funs call.fun).creation ≡ false → (r : Row) × (row_at o.rows call.desc ≡ Some r)
   unfolding acts_it
@@ -338,7 +338,7 @@ module _ (i : Declared) (ask : Table) (sound : Object → Type 0) (walks : List 
             ]
           where
             acts_is : ActsOnOne i.facts (fun_at i.facts.funs call.fun)
-            acts_is = acts i.facts call.fun law.well passes.is_call.first passes.is_call.last
+            acts_is = acts i.facts call.fun law.shape.shape passes.is_call.first passes.is_call.last
 
         old_told : (r : Row) → row_at (object_from i.facts o es).rows r'.id ≡ Some r → told_with i.facts call good told r'.id ≡ told r'.id
         old_told r there = at (fun_at i.facts.funs call.fun).creation refl
@@ -352,7 +352,7 @@ module _ (i : Declared) (ask : Table) (sound : Object → Type 0) (walks : List 
                 ap (λ b. cond b complete (told r'.id)) (other_test r'.id good.desc (λ same. absurd (omega (arith, same, next, most, its))))
 
         by : (x : Option Row) → row_at (object_from i.facts o es).rows r'.id ≡ x → IsSoFar i walks names1 h1 r' (told_with i.facts call good told r'.id)
-        by None none = full (new_served i names (object_from i.facts o es) held call good other under.holds sound_o (sound_after (Ok good) is) (acts i.facts call.fun law.well passes.is_call.first passes.is_call.last) words next_it on_whole (λ takes. parent_whole takes) no_children r' there' none)
+        by None none = full (new_served i names (object_from i.facts o es) held call good other under.holds sound_o (sound_after (Ok good) is) (acts i.facts call.fun law.shape.shape passes.is_call.first passes.is_call.last) words next_it on_whole (λ takes. parent_whole takes) no_children r' there' none)
             (new_told none (fun_at i.facts.funs call.fun).creation refl)
         by (Some r) there =
             let its : r.id ≡ r'.id = id_of_row (object_from i.facts o es).rows r'.id r there in
@@ -380,7 +380,7 @@ module _ (i : Declared) (ask : Table) (sound : Object → Type 0) (walks : List 
                 not_begun : begun n ≡ complete → ⊥
                 not_begun bad = let wrong : true ≡ false = ap kind bad in cc wrong
             at complete t_is there_r there_r' =
-                whole_served i names (object_from i.facts o es) held call good other under.holds sound_o (sound_after (Ok good) is) (acts i.facts call.fun law.well passes.is_call.first passes.is_call.last) words next_it on_whole (λ takes. parent_whole takes) no_children r r'
+                whole_served i names (object_from i.facts o es) held call good other under.holds sound_o (sound_after (Ok good) is) (acts i.facts call.fun law.shape.shape passes.is_call.first passes.is_call.last) words next_it on_whole (λ takes. parent_whole takes) no_children r r'
                 there_r (subst (IsSoFar i walks names held r) t_is (under.rows r there_r)) there_r'
 
     -- the patch is the same
@@ -404,7 +404,7 @@ module _ (i : Declared) (ask : Table) (sound : Object → Type 0) (walks : List 
     writes_it : writes (fun_at i.facts.funs call.fun) ≡ true → Writes
     writes_it w =
         let k = keeps i.facts call.fun law.shape.shape passes.is_call.first passes.is_call.last in
-        let a = acts i.facts call.fun law.well passes.is_call.first passes.is_call.last in
+        let a = acts i.facts call.fun law.shape.shape passes.is_call.first passes.is_call.last in
         let u = uses (fun_at i.facts.funs call.fun).uses_file (list_any is_text_kind (fun_at i.facts.funs call.fun).kinds) w in
         let takes = k.file u in
         record {
@@ -505,7 +505,7 @@ module _ (i : Declared) (ask : Table) (sound : Object → Type 0) (walks : List 
     -- the service stands as before, at the object behind the call and the held replies
     pub under_served : IsUnderWay i walks names1 (told_with i.facts call good told) (present_with (patch_of i.facts o call (Ok good)) present) (object_from i.facts (after i.facts o call (Ok good)) es) h1
     under_served = subst (λ x. IsUnderWay i walks names1 (told_with i.facts call good told) (present_with (patch_of i.facts o call (Ok good)) present) x h1) (sym (past_held (Ok good) is)) (record {
-      holds = holds_served i names (object_from i.facts o es) held call good other under.holds sound_o (sound_after (Ok good) is) (acts i.facts call.fun law.well passes.is_call.first passes.is_call.last) words next_it on_whole (λ takes. parent_whole takes) no_children;
+      holds = holds_served i names (object_from i.facts o es) held call good other under.holds sound_o (sound_after (Ok good) is) (acts i.facts call.fun law.shape.shape passes.is_call.first passes.is_call.last) words next_it on_whole (λ takes. parent_whole takes) no_children;
       rows = rows_on;
       files = files_on;
     })

@@ -23,7 +23,7 @@ use Rattle.sg_facts.specs.Track.{is_live, new_row, row_at}
 use Rattle.sg_facts.specs.Walks.{IsWalkOf}
 use Rattle.sg_facts.proofs.RowLists.{id_of_row, live_of_row, row_at-more}
 use Rattle.sg_hist.specs.Reading.{walk_in}
-use Rattle.sg_object_laws.specs.Acting.{writes_none}
+use Rattle.sg_object_laws.proofs.Guarded.{well_allowed, writes_none}
 use Rattle.sg_held_laws.specs.Progress.{HasFile, IsBegun, IsSoFar, IsUnderWay, Told, fresh, begun, complete}
 use Rattle.sg_object_laws.specs.Serving.{IsGood, IsService}
 use Rattle.sg_held_laws.specs.Stepping.{IsStepped, so_far, told_after}
@@ -101,7 +101,7 @@ module _ (i : Declared) (ask : Table) (sound : Object → Type 0) (walks : List 
   unfolding may
   no_file good path =
       let within = declared_within i fun fits may.declared in
-      let none : writes (fun_at i.facts.funs fun) ≡ false = writes_no i.facts fun (length i.facts.funs) (both_true (list_all (acts_on_one i.facts) i.facts.funs) (writes_none i.facts (length i.facts.funs)) law.well).1 within.0 within.1 (replayed_is i done fun fits may) in
+      let none : writes (fun_at i.facts.funs fun) ≡ false = writes_no i.facts fun (length i.facts.funs) (both_true (list_all (acts_on_one i.facts) i.facts.funs) (writes_none i.facts (length i.facts.funs)) (well_allowed i.facts law.shape.shape)).1 within.0 within.1 (replayed_is i done fun fits may) in
       let patch : patch_of i.facts held call (Ok good) ≡ None
       = ap (λ b. cond b (patch_at (path_of held.rows call.desc) (place_of (fun_at i.facts.funs fun) (row_at held.rows call.desc)) (first_text call.args)) None) none in
       same (present path) (ap (patched held.files) patch) (under.files path)

@@ -29,7 +29,7 @@ use Rattle.sg_facts.specs.Track.{cleared, is_live, row_at, rows_after}
 use Rattle.sg_facts.specs.Walks.{IsWalkOf, Mark, good, unknown, unset, Spot, may_begin, may_go_on, next_spot, first_spot, replayed_call, restores, restores_at, restores_field, restores_fields, spot_from, spot_of}
 use Rattle.sg_facts.proofs.RowLists.{id_of_row, live_of_row}
 use Rattle.sg_hist.specs.Reading.{walk_in}
-use Rattle.sg_object_laws.specs.Acting.{acts_well, writes_none}
+use Rattle.sg_object_laws.proofs.Guarded.{writes_none}
 use Rattle.sg_held_laws.specs.Progress.{HasFile, IsBegun, IsSoFar, IsUnderWay, Told, fresh, begun, complete}
 use Rattle.sg_object_laws.specs.Serving.{IsGood, IsService}
 use Rattle.sg_walk_laws.proofs.Above.{low_id, low_real}

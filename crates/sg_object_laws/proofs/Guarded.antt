@@ -18,7 +18,6 @@ use Rattle.sg_facts.specs.Interface.{Declared}
 use Rattle.sg_facts.specs.Object.{Object, writes}
 use Rattle.sg_facts.specs.Track.{has_child, row_at}
 use Rattle.sg_facts.specs.Walks.{sets_caller}
-use Rattle.sg_object_laws.specs.Acting.{acts_well, writes_none}
 use Rattle.sg_object_laws.proofs.Apart.{IsOwnRow}
 use Rattle.sg_walk_laws.proofs.Found.{same_test}
 
@@ -129,10 +128,6 @@ acts_one facts f is = at f.creation f.query f.terminal (takes_desc f) (takes_par
         none true true is n_is p_is = absurd (cc is)
         none false p is n_is p_is = absurd (cc n_is)
 
-pub acts : (facts : Facts) (n : ℕ) → acts_well facts ≡ true → 1 ≤ n → n ≤ length facts.funs → ActsOnOne facts (fun_at facts.funs n)
-acts facts n well low high =
-    acts_one facts (fun_at facts.funs n) (each_fun (acts_on_one facts) facts.funs n (both_true (list_all (acts_on_one facts) facts.funs) (writes_none facts (length facts.funs)) well).0 low high)
-
 -- ---- a private service
 
 is_own_row : (rows : List Row) (id client : ℕ) (found : Option Row) → row_at rows id ≡ found → is_own found client ≡ true → IsOwnRow rows client id
@@ -154,7 +149,15 @@ first_four facts allowed =
     let is_five = (both_true five (each_replays_well facts (length facts.funs)) (both_true six (steps_make_none facts) allowed).0).0 in
     (both_true four (list_all (acts_on_one facts) facts.funs) is_five).0
 
--- what `IsService.well` asks is among what a shape keeps to
+-- no function that is replayed writes a file
+abbrev pub writes_none : Facts → ℕ → Bool
+writes_none facts zero = true
+writes_none facts (suc n) = implies (is_replayed facts (suc n)) (not (writes (fun_at facts.funs (suc n)))) && writes_none facts n
+
+abbrev pub acts_well : Facts → Bool
+acts_well facts = list_all (acts_on_one facts) facts.funs && writes_none facts (length facts.funs)
+
+-- a shape that is allowed keeps to both
 pub well_allowed : (facts : Facts) → is_allowed facts ≡ true → acts_well facts ≡ true
 well_allowed facts allowed =
     let four = nat_le (length facts.fields) 8 && keeps_private facts && list_all (keeps_to facts) facts.funs && replays_all facts (length facts.funs) in
@@ -180,6 +183,12 @@ well_allowed facts allowed =
         both (implies (is_replayed facts (suc n)) (not (writes f))) (writes_none facts n)
         (weaker (is_replayed facts (suc n)) (not (writes f)) (list_all (λ e. takes_among (count_args f.kinds) e.1) f.effects) (nat_le (count_by (λ e. sets_caller e.1) f.effects) 1)
         (has_no_parents facts || list_all (λ e. leaves_known e.1) f.effects) parts.0) (none_writes n parts.1)
+
+-- so does each of its functions
+pub acts : (facts : Facts) (n : ℕ) → is_allowed facts ≡ true → 1 ≤ n → n ≤ length facts.funs → ActsOnOne facts (fun_at facts.funs n)
+acts facts n allowed low high =
+    let well = well_allowed facts allowed in
+    acts_one facts (fun_at facts.funs n) (each_fun (acts_on_one facts) facts.funs n (both_true (list_all (acts_on_one facts) facts.funs) (writes_none facts (length facts.funs)) well).0 low high)
 
 pub private_parents : (facts : Facts) → is_allowed facts ≡ true → facts.global ≡ false → is_cross facts.parents ≡ false
 private_parents facts allowed alone =

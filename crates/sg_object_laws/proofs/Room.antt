@@ -122,7 +122,7 @@ module _ (j : Declared) (ask : Table) (sound : Object → Type 0) (law : IsServi
   guard_behind o (p ∷ es) call ok time all none first last passes =
       let hidden = hidden_is j.facts p.call.fun all.0.hidden in
       let same = behind_same j.facts ask sound law o (p ∷ es) call.client ok time all none in
-      let acting = acts j.facts call.fun law.well first last in
+      let acting = acts j.facts call.fun law.shape.shape first last in
       by (fun_at j.facts.funs call.fun).creation refl hidden.alone same.0 acting
     where
       by : (b : Bool) → (fun_at j.facts.funs call.fun).creation ≡ b → j.facts.global ≡ false → SameFor call.client o.rows (object_from j.facts o (p ∷ es)).rows → ActsOnOne j.facts (fun_at j.facts.funs call.fun)

@@ -99,7 +99,7 @@ module _ (facts : Facts) (ask : Table) (sound : Object → Type 0) (law : IsServ
   on_none_or_own o call alone passes = by_query (fun_at facts.funs call.fun).query refl
     where
       by_takes : (p d : Bool) → (fun_at facts.funs call.fun).query ≡ false → takes_parent (fun_at facts.funs call.fun) ≡ p → takes_desc (fun_at facts.funs call.fun) ≡ d → (call.desc ≡ 0) ⊎ IsOwnRow o.rows call.client call.desc
-      by_takes true d row takes_p takes_d = own_parent (whole facts) o call law.shape.shape alone (acts facts call.fun law.well passes.is_call.first passes.is_call.last) (let_pass (whole facts) o call row passes.guarded) takes_p
+      by_takes true d row takes_p takes_d = own_parent (whole facts) o call law.shape.shape alone (acts facts call.fun law.shape.shape passes.is_call.first passes.is_call.last) (let_pass (whole facts) o call row passes.guarded) takes_p
       by_takes false true row takes_p takes_d = inr (own_desc (whole facts) o call alone (let_pass (whole facts) o call row passes.guarded) takes_d)
       by_takes false false row takes_p takes_d = inl (passes.is_call.fits.desc takes_d takes_p)
 

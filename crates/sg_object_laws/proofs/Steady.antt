@@ -56,7 +56,7 @@ fewer_after facts rows call good makes id w there = by_query (fun_at facts.funs 
 
 module _ (facts : Facts) (ask : Table) (sound : Object → Type 0) (law : IsService facts ask sound) where
   acting : (o : Object) (call : Call) (reply : Reply) → IsAnswered facts ask o call reply → ActsOnOne facts (fun_at facts.funs call.fun)
-  acting o call reply is = acts facts call.fun law.well is.passes.is_call.first is.passes.is_call.last
+  acting o call reply is = acts facts call.fun law.shape.shape is.passes.is_call.first is.passes.is_call.last
 
   -- a private call is on its client's own row
   pub on_own : (o : Object) (call : Call) (good : Good) → facts.global ≡ false → IsAnswered facts ask o call (Ok good) → IsOnOwn facts call good o.rows o.given
@@ -148,7 +148,7 @@ module _ (facts : Facts) (ask : Table) (sound : Object → Type 0) (law : IsServ
       → (fun_at facts.funs call.fun).creation ≡ false → (fun_at facts.funs call.fun).uses_file ≡ false
       → ((id : ℕ) (w : Row) → row_at o'.rows id ≡ Some w → is_live o.rows id ≡ true) → NeedsSame facts o o' call
   needs_same o o' call alone good passes same makes no_file fewer =
-      let acts_it = acts facts call.fun law.well passes.is_call.first passes.is_call.last in
+      let acts_it = acts facts call.fun law.shape.shape passes.is_call.first passes.is_call.last in
       let keeps_it = keeps facts call.fun law.shape.shape passes.is_call.first passes.is_call.last in
       let none = looks_at_own facts call.fun law.shape.shape alone passes.is_call.first passes.is_call.last in
       let general = law.keeps.general o good.is_sound in
@@ -175,7 +175,7 @@ module _ (facts : Facts) (ask : Table) (sound : Object → Type 0) (law : IsServ
       let o' : Object = after facts o e re in
       let good' = after_good o e re good is_e in
       let same = others_stay o e re p.client alone good is_e apart in
-      let acts_p = acts facts p.fun law.well is_p.passes.is_call.first is_p.passes.is_call.last in
+      let acts_p = acts facts p.fun law.shape.shape is_p.passes.is_call.first is_p.passes.is_call.last in
       let keeps_p = keeps facts p.fun law.shape.shape is_p.passes.is_call.first is_p.passes.is_call.last in
       let passes : Passes facts o' p = record {
         is_call = is_p.passes.is_call;
@@ -208,7 +208,7 @@ module _ (facts : Facts) (ask : Table) (sound : Object → Type 0) (law : IsServ
               (desc_within o p general (low_desc o p alone good is_p.passes acts_p keeps_p makes))
               ∙ is_p.answered
           at true makes_id =
-              let acts_e = acts facts e.fun law.well is_e.passes.is_call.first is_e.passes.is_call.last in
+              let acts_e = acts facts e.fun law.shape.shape is_e.passes.is_call.first is_e.passes.is_call.last in
               let rows : rows_after facts o.rows e g ≡ o.rows ++ new_row facts e g ∷ [] = makes_row facts e g o.rows (acts_e.makes makes_id).0 makes_id in
               sym (ask_same facts ask sound law.alike (after facts o e re) o p good'.is_sound general' general passes
               (needs_same (after facts o e re) o p alone good' passes (same_back p.client o.rows (after facts o e re).rows same) makes no_file

@@ -83,7 +83,7 @@ module _ (facts : Facts) (ask : Table) (sound : Object → Type 0) (law : IsServ
           ≡ cond b (patch_at (path_of o.rows call.desc) (place_of (fun_at facts.funs call.fun) (row_at o.rows call.desc)) (first_text call.args)) None
       at false w = refl
       at true w =
-          let acts_it = acts facts call.fun law.well is.is_call.first is.is_call.last in
+          let acts_it = acts facts call.fun law.shape.shape is.is_call.first is.is_call.last in
           let keeps_it = keeps facts call.fun law.shape.shape is.is_call.first is.is_call.last in
           let takes : takes_desc (fun_at facts.funs call.fun) ≡ true = keeps_it.file (uses (fun_at facts.funs call.fun).uses_file (list_any is_text_kind (fun_at facts.funs call.fun).kinds) w) in
           let no_query : (fun_at facts.funs call.fun).query ≡ false = not_so (fun_at facts.funs call.fun).query (λ q. let none = (keeps_it.query q).0 in cc (takes, none)) in

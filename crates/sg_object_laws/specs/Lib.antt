@@ -1,4 +1,3 @@
-pub mod Acting
 pub mod Apart
 pub mod Serving
 pub mod Waiting

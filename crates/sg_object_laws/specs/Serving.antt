@@ -7,7 +7,6 @@ use Rattle.sg_facts.specs.Facts.{Facts}
 use Rattle.sg_facts.specs.Laws.{AnswersAlike, AnswersAndKeeps, BlockedStays, CountsSlowly, Passes, ShapeAllows, WalkGoesOn, slow}
 use Rattle.sg_facts.specs.Legal.{Table}
 use Rattle.sg_facts.specs.Object.{Object}
-use Rattle.sg_object_laws.specs.Acting.{acts_well}
 use Rattle.sg_object_laws.specs.Apart.{AreOwn}
 
 -- the laws of a service
@@ -18,7 +17,6 @@ pub record IsService (facts : Facts) (ask : Table) (sound : Object → Type 0) :
   pub blocked : BlockedStays facts ask sound
   pub shape : ShapeAllows facts ask
   pub counts : CountsSlowly facts ask sound
-  pub well : acts_well facts ≡ true
 
 -- an object of legal histories: it is sound, and in a private service each row's parent is its creator's
 pub record IsGood (facts : Facts) (sound : Object → Type 0) (o : Object) : Type 0 where

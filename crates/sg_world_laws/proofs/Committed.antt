@@ -265,7 +265,7 @@ module _ (z : Setting) (law : IsService z.iface.facts z.ask z.sound) (h : List E
       each_still (x ∷ es) none all was =
           let hidden = hidden_is z.iface.facts x.call.fun all.0.hidden in
           (guard_stays z.iface z.ask z.sound law (object_of z.iface.facts h) (after z.iface.facts (object_of z.iface.facts h) call reply) x.call hidden.alone ok good_now
-          (acts z.iface.facts x.call.fun law.well all.0.answered.passes.is_call.first all.0.answered.passes.is_call.last)
+          (acts z.iface.facts x.call.fun law.shape.shape all.0.answered.passes.is_call.first all.0.answered.passes.is_call.last)
           (others_stay z.iface.facts z.ask z.sound law (object_of z.iface.facts h) call reply x.call.client hidden.alone ok answered_it (λ one. none.0 (sym one))) hidden.makes was.0,
           each_still es none.1 all.2 was.1)
 
@@ -373,7 +373,7 @@ module _ (z : Setting) (law : IsService z.iface.facts z.ask z.sound) (h : List E
             → IsRead z.iface.facts z.walks (h ++ e ∷ es) (older_items [] (b ∷ boots)) (last_items (b ∷ boots) ++ item ∷ []) (names_served z.iface.facts stub.names call good real_good) (told_with z.iface.facts call good stub.told)
             (present_with (patch_of z.iface.facts (object_of z.iface.facts h) call (Ok good)) stub.present) (after z.iface.facts (object_of z.iface.facts h) call (Ok good)).rows
         made_here good real_good is asked given patch_is makes =
-            let acting = acts z.iface.facts call.fun law.well passes.is_call.first passes.is_call.last in
+            let acting = acts z.iface.facts call.fun law.shape.shape passes.is_call.first passes.is_call.last in
             let kept = keeps z.iface.facts call.fun law.shape.shape passes.is_call.first passes.is_call.last in
             let quiet : patch_of z.iface.facts (object_of z.iface.facts h) call (Ok good) ≡ None = no_patch (fun_at z.iface.facts.funs call.fun).uses_file refl kept.file (acting.makes makes).2 good in
             let next : good.desc ≡ (object_of z.iface.facts h).given + 1 = law.keeps.next (object_of z.iface.facts h) call good asked makes in

@@ -153,7 +153,7 @@ module _ (z : Setting) (law : IsService z.iface.facts z.ask z.sound) (h : List E
       each_still (e ∷ es) none all was =
           let hidden = hidden_is z.iface.facts e.call.fun all.0.hidden in
           (guard_stays z.iface z.ask z.sound law (object_of z.iface.facts h) (after z.iface.facts (object_of z.iface.facts h) p.call p.reply) e.call hidden.alone ok good_now
-          (acts z.iface.facts e.call.fun law.well all.0.answered.passes.is_call.first all.0.answered.passes.is_call.last)
+          (acts z.iface.facts e.call.fun law.shape.shape all.0.answered.passes.is_call.first all.0.answered.passes.is_call.last)
           (others_stay z.iface.facts z.ask z.sound law (object_of z.iface.facts h) p.call p.reply e.call.client hidden.alone ok its.answered (λ same. none.0 (sym same))) hidden.makes was.0,
           each_still es none.1 all.2 was.1)
 

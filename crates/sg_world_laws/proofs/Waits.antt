@@ -75,7 +75,7 @@ module _ (i : Declared) (ask : Table) (sound : Object → Type 0) (law : IsServi
           → guard i (after i.facts o call (Ok g)) x ≡ None
       passes true query guarded none leaves keeps = ap (λ b. cond b None (refusal i (fun_at i.facts.funs x.fun) (after i.facts o call (Ok g)) x)) query
       passes false row guarded none leaves keeps =
-          let acting = acts i.facts x.fun law.well x_passes.is_call.first x_passes.is_call.last in
+          let acting = acts i.facts x.fun law.shape.shape x_passes.is_call.first x_passes.is_call.last in
           let on = acting.on keeps.0 row in
           let r = desc_row i.facts ask sound law o x x_passes on.0 row in
           let state = law.blocked.state o x call g ok.is_sound x_passes none answered.passes answered.answered leaves in
