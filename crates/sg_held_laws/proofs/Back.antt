@@ -1,21 +1,19 @@
 -- A descriptor that a reply gives has a name in the service: what is answered alike under all names can't give one without.
-use Rattle.std.proofs.Common.{◌≡◌, ℕ, ◌+◌, ◌<◌, ◌≤◌, Bool, true, false, cond, List, [], ◌∷◌, None, Some, refl, sym, ◌∙◌, ap, subst, inl, inr, ◌⊎◌, arith}
-use Rattle.std.specs.Prelude.{◌==◌, ◌||◌, if◌then◌else◌}
-use Rattle.std.specs.declared.option.Option.{Option}
-use Rattle.std.proofs.lemmas.Bool.Decides.{eqb_tells, nat_tests}
+use Rattle.std.proofs.Common.{◌≡◌, ℕ, ◌+◌, ◌<◌, ◌≤◌, Bool, true, false, List, [], ◌∷◌, Some, refl, sym, ◌∙◌, ap, subst, inl, inr, arith}
+use Rattle.std.specs.Prelude.{◌||◌}
+use Rattle.std.proofs.lemmas.Bool.Decides.{eqb_tells}
 use Rattle.sg_base.specs.declared.call.Call.{Call}
 use Rattle.sg_base.specs.declared.reply.Good.{Good}
-use Rattle.sg_base.specs.declared.reply.Reply.{Reply}
-use Rattle.sg_base.specs.declared.reply.Reply.TheVariants.{Ok, Refused}
+use Rattle.sg_base.specs.declared.reply.Reply.TheVariants.{Ok}
 use Rattle.sg_facts.specs.declared.row.Row.{Row}
-use Rattle.sg_facts.specs.Alike.{AreNames, EachStands, HasAlike, IsAlike, SameFile, SameReply, Serves, named, under_names}
+use Rattle.sg_facts.specs.Alike.{EachStands, HasAlike, SameFile, SameReply, Serves, named, under_names}
 use Rattle.sg_facts.specs.Facts.{Facts, fun_at}
 use Rattle.sg_facts.specs.Laws.{AnswersAlike, Passes}
 use Rattle.sg_facts.specs.Legal.{Table}
 use Rattle.sg_facts.specs.Needs.{is_needed, needs}
 use Rattle.sg_facts.specs.Object.{Object}
 use Rattle.sg_facts.specs.Sound.{AreRows, IsRow, IsSound}
-use Rattle.sg_facts.specs.Track.{is_ancestor, is_live, row_at}
+use Rattle.sg_facts.specs.Track.{is_ancestor, row_at}
 use Rattle.sg_facts.proofs.RowLists.{id_of_row, row_of_live}
 use Rattle.sg_held_laws.specs.Progress.{IsNone}
 use Rattle.sg_walk_laws.proofs.Found.{above, same_test}
@@ -75,12 +73,14 @@ module _ (facts : Facts) (ask : Table) (sound : Object → Type 0) (law : Answer
 
     each_more : (ws : List Row) (low : ℕ) → AreRows (IsRow facts held.rows) low held.given ws → EachStands names o.rows ws → EachStands ((id, held.given + 1) ∷ names) o.rows ws
     each_more [] low are each = tt
-    each_more (w ∷ ws) low are each =
-        (record {
-          of = each.0.of;
-          live = each.0.live;
-          id = other_named names id (held.given + 1) each.0.of (λ same. let none : named names each.0.of ≡ 0 = ap (named names) same ∙ unnamed in absurd (omega (arith, none, each.0.id, are.0))) ∙ each.0.id;
-        }, each_more ws w.id are.3 each.1)
+    each_more (w ∷ ws) low are each = (
+      record {
+        of = each.0.of;
+        live = each.0.live;
+        id = other_named names id (held.given + 1) each.0.of (λ same. let none : named names each.0.of ≡ 0 = ap (named names) same ∙ unnamed in absurd (omega (arith, none, each.0.id, are.0))) ∙ each.0.id;
+      },
+      each_more ws w.id are.3 each.1,
+    )
 
     serves_more : Serves facts ((id, held.given + 1) ∷ names) o held call
     serves_more = record {

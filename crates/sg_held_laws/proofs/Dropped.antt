@@ -1,17 +1,17 @@
 -- Names of ids that have ended may be dropped: the service stands for the object's rows as before.
-use Rattle.std.proofs.Common.{◌≡◌, ℕ, ◌+◌, ◌<◌, ◌≤◌, Bool, true, false, List, [], ◌∷◌, Some, take, refl, sym, ◌∙◌, ap, subst, inl, inr, ◌⊎◌, arith}
+use Rattle.std.proofs.Common.{◌≡◌, ℕ, ◌≤◌, Bool, true, false, List, [], ◌∷◌, Some, take, refl, sym, ◌∙◌, ap, subst, inl, inr, ◌⊎◌, arith}
 use Rattle.std.specs.Prelude.{◌==◌, ◌||◌, ◌&&◌, nat_lt}
 use Rattle.std.proofs.lemmas.Bool.Decides.{nat_tests}
 use Rattle.sg_facts.specs.declared.row.Row.{Row}
 use Rattle.sg_facts.specs.declared.tables.WalkLine.{WalkLine}
 use Rattle.sg_facts.specs.Alike.{AreNames, HasAlike, IsAlike, named}
-use Rattle.sg_facts.specs.Held.{whole, partly, EachHeld, HasParent, HoldsPart, IsAt, IsHeld, IsHeldFor, IsPartOf, ParentIsWhole}
+use Rattle.sg_facts.specs.Held.{whole, partly, EachHeld, IsAt, IsHeldFor, IsPartOf, ParentIsWhole}
 use Rattle.sg_facts.specs.Interface.{Declared}
 use Rattle.sg_facts.specs.Object.{Object}
 use Rattle.sg_facts.specs.Sound.{IsRow, IsSound}
 use Rattle.sg_facts.specs.Track.{is_live, row_at}
 use Rattle.sg_facts.proofs.RowLists.{id_of_row, live_of_row}
-use Rattle.sg_held_laws.specs.Progress.{HasFile, IsBegun, IsSoFar, IsUnderWay, Told, fresh, begun, complete}
+use Rattle.sg_held_laws.specs.Progress.{IsSoFar, IsUnderWay, Told, fresh, begun, complete}
 use Rattle.sg_walk_laws.proofs.Found.{met}
 
 module _ (i : Declared) (walks : List WalkLine) (names names' : List (ℕ × ℕ)) (o held : Object) (sound : IsSound i.facts o) (none : named names 0 ≡ 0)

@@ -1,13 +1,13 @@
 -- Only look-ups count: names with the same look-ups, and what is told of each id and each path, stand for one another.
-use Rattle.std.proofs.Common.{◌≡◌, ℕ, ◌≤◌, Bool, true, false, List, [], ◌∷◌, Some, take, refl, sym, ◌∙◌, ap, subst, inl, inr, ◌⊎◌}
+use Rattle.std.proofs.Common.{◌≡◌, ℕ, ◌≤◌, Bool, List, [], ◌∷◌, take, sym, ◌∙◌, ap, subst, inl, inr}
 use Rattle.sg_facts.specs.declared.row.Row.{Row}
 use Rattle.sg_facts.specs.declared.tables.WalkLine.{WalkLine}
 use Rattle.sg_facts.specs.Alike.{AreNames, HasAlike, IsAlike, named}
-use Rattle.sg_facts.specs.Held.{whole, partly, EachHeld, HasParent, HoldsPart, IsAt, IsHeld, IsHeldFor, IsPartOf, ParentIsWhole}
+use Rattle.sg_facts.specs.Held.{whole, partly, EachHeld, HoldsPart, IsAt, IsHeldFor, IsPartOf, ParentIsWhole}
 use Rattle.sg_facts.specs.Interface.{Declared}
 use Rattle.sg_facts.specs.Object.{Object}
 use Rattle.sg_facts.specs.Track.{row_at}
-use Rattle.sg_held_laws.specs.Progress.{HasFile, IsBegun, IsSoFar, IsUnderWay, Told, fresh, begun, complete}
+use Rattle.sg_held_laws.specs.Progress.{HasFile, IsSoFar, IsUnderWay, Told, fresh, begun, complete}
 
 module _ (i : Declared) (walks : List WalkLine) (names names' : List (ℕ × ℕ)) (same : (id : ℕ) → named names' id ≡ named names id) (o held : Object) where
   alike_named : (r w : Row) → IsAlike names r w → IsAlike names' r w

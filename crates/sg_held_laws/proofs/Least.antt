@@ -1,6 +1,6 @@
 -- The least needed row that isn't whole: it is there, and its parent is none or whole.
-use Rattle.std.proofs.Common.{◌≡◌, ℕ, zero, suc, ◌+◌, ◌<◌, ◌≤◌, Bool, true, false, cond, not, List, [], ◌∷◌, ◌++◌, None, Some, length, map, filter, refl, sym, ◌∙◌, ap, subst, inl, inr, ◌⊎◌, arith}
-use Rattle.std.specs.Prelude.{◌==◌, ◌||◌, ◌&&◌, nat_lt, if◌then◌else◌, find}
+use Rattle.std.proofs.Common.{◌≡◌, ℕ, zero, suc, ◌<◌, ◌≤◌, Bool, true, false, cond, not, List, [], ◌∷◌, None, Some, map, filter, refl, sym, ◌∙◌, ap, subst, inl, inr, ◌⊎◌, arith}
+use Rattle.std.specs.Prelude.{◌==◌, ◌||◌, ◌&&◌, nat_lt, find}
 use Rattle.std.specs.List.{list_any}
 use Rattle.std.specs.declared.option.Option.{Option}
 use Rattle.std.proofs.lemmas.Bool.Decides.{eqb_tells, nat_tests}
@@ -10,9 +10,9 @@ use Rattle.sg_facts.specs.Facts.{Facts, fun_at}
 use Rattle.sg_facts.specs.Needs.{is_needed, needs}
 use Rattle.sg_facts.specs.Object.{Object}
 use Rattle.sg_facts.specs.Sound.{IsRow, IsSound}
-use Rattle.sg_facts.specs.Track.{ancestors, is_ancestor, is_live, nearest, parent_in, row_at}
-use Rattle.sg_facts.proofs.RowLists.{id_of_row, live_of_row, row_of_live}
-use Rattle.sg_held_laws.specs.Progress.{Told, fresh, begun, complete, is_complete}
+use Rattle.sg_facts.specs.Track.{is_ancestor, is_live, nearest, parent_in, row_at}
+use Rattle.sg_facts.proofs.RowLists.{id_of_row, row_of_live}
+use Rattle.sg_held_laws.specs.Progress.{Told, is_complete}
 use Rattle.sg_walk_laws.proofs.Above.{one_above}
 use Rattle.sg_object_laws.proofs.Apart.{Ascends}
 use Rattle.sg_walk_laws.proofs.Found.{above, met, other_test, same_test}
@@ -196,5 +196,8 @@ module _ (facts : Facts) (o : Object) (sound : IsSound facts o) where
           let low = parent_of first.row there some.1 in
           let x = row_of_live o.rows first.row.parent low.1 in
           let there_x : row_at o.rows x.0.id ≡ Some x.0 = ap (row_at o.rows) x.2 ∙ x.1 in
-          inr (low.1, ap (λ n. is_complete (told n)) (sym x.2)
-          ∙ not_false (is_complete (told x.0.id)) (first.before x.0 there_x (parent_needed call first.row x.0 there there_x x.2 some.1 first.passes) (omega (arith, x.2, low.0, its))))
+          inr (
+            low.1,
+            ap (λ n. is_complete (told n)) (sym x.2)
+                ∙ not_false (is_complete (told x.0.id)) (first.before x.0 there_x (parent_needed call first.row x.0 there there_x x.2 some.1 first.passes) (omega (arith, x.2, low.0, its))),
+          )

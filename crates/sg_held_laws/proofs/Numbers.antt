@@ -1,6 +1,6 @@
 -- How the numbers of a recovery go: less is left after each replayed call, no more after a row ends, as much after one is changed or made.
-use Rattle.std.proofs.Common.{◌≡◌, ℕ, zero, suc, ◌+◌, ◌-◌, ◌*◌, ◌^◌, ◌<◌, ◌≤◌, Bool, true, false, cond, not, List, [], ◌∷◌, ◌++◌, None, Some, length, map, filter, refl, sym, ◌∙◌, ap, subst, inl, inr, ◌⊎◌, arith}
-use Rattle.std.specs.Prelude.{◌==◌, ◌≢◌, if◌then◌else◌}
+use Rattle.std.proofs.Common.{◌≡◌, ℕ, suc, ◌+◌, ◌*◌, ◌^◌, ◌<◌, ◌≤◌, Bool, true, false, cond, List, [], ◌∷◌, ◌++◌, Some, length, map, filter, refl, sym, ◌∙◌, ap, inl, inr, ◌⊎◌, arith}
+use Rattle.std.specs.Prelude.{◌==◌, ◌≢◌}
 use Rattle.std.proofs.lemmas.Bool.Decides.{eqb_tells}
 use Rattle.sg_facts.specs.declared.row.Row.{Row}
 use Rattle.sg_facts.specs.Counted.{CountedBelow}
@@ -8,10 +8,9 @@ use Rattle.sg_facts.specs.Facts.{Facts}
 use Rattle.sg_facts.specs.Laws.{slow}
 use Rattle.sg_facts.specs.Object.{Object}
 use Rattle.sg_facts.specs.Track.{row_at}
-use Rattle.sg_held_laws.specs.Numbers.{AreNumbers, left_of, sum_told, unbegun}
-use Rattle.sg_held_laws.specs.Progress.{Told, fresh, begun, complete}
+use Rattle.sg_held_laws.specs.Numbers.{AreNumbers, sum_told}
+use Rattle.sg_held_laws.specs.Progress.{Told, fresh}
 use Rattle.sg_object_laws.proofs.Apart.{Ascends}
-use Rattle.sg_walk_laws.proofs.Found.{above, other_test, same_test}
 
 module _ (f : Told → ℕ) where
   -- what is told of other ids counts as before

@@ -1,21 +1,20 @@
 -- Rows that a call isn't on stay as far as they are.
-use Rattle.std.proofs.Common.{◌≡◌, ℕ, suc, ◌+◌, ◌<◌, ◌≤◌, Bool, true, false, cond, not, List, [], ◌∷◌, ◌++◌, None, Some, map, filter, take, refl, sym, ◌∙◌, ap, subst, inl, inr, ◌⊎◌, arith}
-use Rattle.std.specs.Prelude.{◌==◌, ◌≢◌, if◌then◌else◌}
-use Rattle.std.proofs.lemmas.Bool.Decides.{eqb_tells, nat_tests}
+use Rattle.std.proofs.Common.{◌≡◌, ℕ, ◌<◌, Bool, true, false, cond, List, [], ◌∷◌, Some, take, refl, sym, ◌∙◌, ap, inl, inr, arith}
+use Rattle.std.specs.Prelude.{◌≢◌}
 use Rattle.sg_base.specs.declared.call.Call.{Call}
 use Rattle.sg_base.specs.declared.reply.Good.{Good}
 use Rattle.sg_facts.specs.declared.row.Row.{Row}
 use Rattle.sg_facts.specs.declared.tables.WalkLine.{WalkLine}
-use Rattle.sg_facts.specs.Alike.{HasAlike, IsAlike, named}
+use Rattle.sg_facts.specs.Alike.{IsAlike, named}
 use Rattle.sg_facts.specs.Facts.{Facts, fun_at}
-use Rattle.sg_facts.specs.Held.{HasParent, HoldsPart, IsAt, IsPartOf, ParentIsWhole}
+use Rattle.sg_facts.specs.Held.{HoldsPart, IsAt, IsPartOf}
 use Rattle.sg_facts.specs.Interface.{Declared}
 use Rattle.sg_facts.specs.Object.{Object}
-use Rattle.sg_facts.specs.Sound.{AreRows, IsRow, IsSound}
+use Rattle.sg_facts.specs.Sound.{IsSound}
 use Rattle.sg_facts.specs.Track.{new_row, row_after, row_at, rows_after}
 use Rattle.sg_facts.proofs.RowLists.{id_of_row, row_at-left, row_at-more}
-use Rattle.sg_held_laws.specs.Progress.{IsBegun, IsSoFar, Told, fresh, begun, complete}
-use Rattle.sg_walk_laws.proofs.Above.{held_as, low_id, low_real}
+use Rattle.sg_held_laws.specs.Progress.{IsSoFar, Told, fresh, begun, complete}
+use Rattle.sg_walk_laws.proofs.Above.{held_as, low_real}
 use Rattle.sg_object_laws.proofs.Apart.{changes_row, ends_rows, makes_row, query_keeps}
 use Rattle.sg_object_laws.proofs.Changed.{change_at}
 use Rattle.sg_object_laws.proofs.Commute.{same_id_at}

@@ -1,11 +1,10 @@
 -- A call whose needs are whole gets from the service the answer at the object of the history, whatever replies of others are held, and the
 -- service stands as before: its rows for those of the object behind the call and the held replies.
-use Rattle.std.proofs.Common.{◌≡◌, ℕ, zero, suc, ◌+◌, ◌<◌, ◌≤◌, Bool, true, false, cond, not, List, [], ◌∷◌, ◌++◌, None, Some, length, refl, sym, ◌∙◌, ap, subst, inl, inr, ◌⊎◌, arith}
+use Rattle.std.proofs.Common.{◌≡◌, ℕ, suc, ◌+◌, Bool, true, false, cond, List, [], ◌∷◌, None, Some, length, refl, sym, ◌∙◌, ap, subst, inl, inr, ◌⊎◌, arith}
 use Rattle.std.specs.Prelude.{◌==◌, ◌||◌, ◌&&◌, ◌≢◌, if◌then◌else◌}
 use Rattle.std.specs.List.{list_any}
-use Rattle.std.specs.Str.{bytes_eq}
 use Rattle.std.specs.declared.option.Option.{Option}
-use Rattle.std.proofs.lemmas.Bool.Decides.{eqb_tells, nat_tests}
+use Rattle.std.proofs.lemmas.Bool.Decides.{nat_tests}
 use Rattle.sg_base.specs.declared.call.Call.{Call}
 use Rattle.sg_base.specs.declared.reply.Good.{Good}
 use Rattle.sg_base.specs.declared.reply.Reply.{Reply}
@@ -19,24 +18,22 @@ use Rattle.sg_facts.specs.declared.tables.WalkLine.{WalkLine}
 use Rattle.sg_facts.specs.Alike.{HasAlike, SameReply, Serves, named, under_names}
 use Rattle.sg_facts.specs.Facts.{Facts, fun_at, takes_desc, takes_parent}
 use Rattle.sg_facts.specs.Guard.{is_own, is_there, may_be_parent}
-use Rattle.sg_facts.specs.Held.{HoldsPart}
 use Rattle.sg_facts.specs.Interface.{Declared}
 use Rattle.sg_facts.specs.Laws.{Passes, whole}
 use Rattle.sg_facts.specs.Legal.{Table}
 use Rattle.sg_facts.specs.Needs.{is_needed}
-use Rattle.sg_facts.specs.Object.{Object, after, file_at, first_text, is_text_kind, object_from, over, patch_at, patch_of, patched, path_of, place_in, place_of, set_file, writes}
+use Rattle.sg_facts.specs.Object.{Object, after, file_at, first_text, is_text_kind, object_from, over, patch_at, patch_of, patched, path_of, place_in, place_of, writes}
 use Rattle.sg_facts.specs.Sound.{IsRow, IsSound}
-use Rattle.sg_facts.specs.Track.{has_child, is_ancestor, new_row, row_at, rows_after}
+use Rattle.sg_facts.specs.Track.{has_child, is_ancestor, new_row, row_at}
 use Rattle.sg_facts.proofs.RowLists.{id_of_row, row_at-more, row_of_live}
-use Rattle.sg_object_laws.specs.Apart.{AreOwn, SameFor}
-use Rattle.sg_held_laws.specs.Progress.{HasFile, IsBegun, IsSoFar, IsUnderWay, Told, fresh, begun, complete}
+use Rattle.sg_held_laws.specs.Progress.{HasFile, IsSoFar, IsUnderWay, Told, fresh, begun, complete}
 use Rattle.sg_object_laws.specs.Serving.{HasTime, IsAnswered, IsGood, IsService}
 use Rattle.sg_held_laws.specs.Stepping.{present_with, told_with}
 use Rattle.sg_object_laws.specs.Waiting.{AreWaiting, NoneBy}
 use Rattle.sg_track.specs.Tracked.{HasLowerParent}
 use Rattle.sg_walk_laws.proofs.Above.{low_real}
 use Rattle.sg_object_laws.proofs.Answered.{child_same}
-use Rattle.sg_object_laws.proofs.Apart.{IsOwnRow, makes_row, query_keeps}
+use Rattle.sg_object_laws.proofs.Apart.{makes_row, query_keeps}
 use Rattle.sg_object_laws.proofs.Files.{set_other, set_own}
 use Rattle.sg_walk_laws.proofs.Files.{told as which}
 use Rattle.sg_walk_laws.proofs.Found.{from_more, met, other_test, same_test, within}
@@ -358,7 +355,7 @@ module _ (i : Declared) (ask : Table) (sound : Object → Type 0) (walks : List 
             let its : r.id ≡ r'.id = id_of_row (object_from i.facts o es).rows r'.id r there in
             let there_r : row_at (object_from i.facts o es).rows r.id ≡ Some r = ap (row_at (object_from i.facts o es).rows) its ∙ there in
             let there_r' : row_at o1.rows r.id ≡ Some r' = ap (row_at o1.rows) its ∙ there' in
-            subst (IsSoFar i walks names1 h1 r') (sym (old_told r there) ) (at (told r'.id) (ap told its) there_r there_r')
+            subst (IsSoFar i walks names1 h1 r') (sym (old_told r there)) (at (told r'.id) (ap told its) there_r there_r')
           where
             at : (t : Told) → told r.id ≡ t → row_at (object_from i.facts o es).rows r.id ≡ Some r → row_at o1.rows r.id ≡ Some r' → IsSoFar i walks names1 h1 r' t
             at fresh t_is there_r there_r' = part_on r r' fresh (λ bad. not_fresh bad) t_is there_r there_r'
@@ -432,12 +429,11 @@ module _ (i : Declared) (ask : Table) (sound : Object → Type 0) (walks : List 
         let row_o : row_at (object_from i.facts o es).rows call.desc ≡ row_at o.rows call.desc = f.of ∙ same_row r.0 r.1 in
         let row_h : place_of (fun_at i.facts.funs call.fun) (row_at held.rows (named names call.desc)) ≡ place_of (fun_at i.facts.funs call.fun) (row_at (object_from i.facts o es).rows call.desc)
         = ap (λ n. place_of (fun_at i.facts.funs call.fun) (row_at held.rows (named names n))) (sym id) ∙ ap (place_of (fun_at i.facts.funs call.fun)) f.whole.there
-        ∙ ap (λ fs. place_in (fun_at i.facts.funs call.fun).effects fs) f.whole.alike.fields ∙ ap (place_of (fun_at i.facts.funs call.fun)) (sym f.of) in
-        (
+        ∙ ap (λ fs. place_in (fun_at i.facts.funs call.fun).effects fs) f.whole.alike.fields ∙ ap (place_of (fun_at i.facts.funs call.fun)) (sym f.of) in (
           ap (λ p. patch_at p (place_of (fun_at i.facts.funs call.fun) (row_at held.rows (named names call.desc))) (first_text call.args)) (path_h ∙ path_o)
-          ∙ ap (λ n. patch_at (path_of o.rows call.desc) n (first_text call.args)) (row_h ∙ ap (place_of (fun_at i.facts.funs call.fun)) row_o),
+              ∙ ap (λ n. patch_at (path_of o.rows call.desc) n (first_text call.args)) (row_h ∙ ap (place_of (fun_at i.facts.funs call.fun)) row_o),
           ap (λ p. patch_at p (place_of (fun_at i.facts.funs call.fun) (row_at (object_from i.facts o es).rows call.desc)) (first_text call.args)) path_o
-          ∙ ap (λ x. patch_at (path_of o.rows call.desc) (place_of (fun_at i.facts.funs call.fun) x) (first_text call.args)) row_o,
+              ∙ ap (λ x. patch_at (path_of o.rows call.desc) (place_of (fun_at i.facts.funs call.fun) x) (first_text call.args)) row_o,
         )
       where
         same_row : (r : Row) → (of : row_at o.rows call.desc ≡ Some r) → Some (whole_row r of).row ≡ row_at o.rows call.desc

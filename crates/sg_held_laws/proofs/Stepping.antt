@@ -1,36 +1,35 @@
 -- A replayed call brings its row one step on, and leaves the others as far as they are.
-use Rattle.std.proofs.Common.{◌≡◌, ℕ, zero, suc, ◌+◌, ◌^◌, ◌<◌, ◌≤◌, Bool, true, false, cond, not, List, [], ◌∷◌, ◌++◌, None, Some, length, length-append, take, refl, sym, ◌∙◌, ap, subst, inl, inr, ◌⊎◌, arith}
-use Rattle.std.specs.Prelude.{◌==◌, ◌||◌, ◌&&◌, ◌≢◌, if◌then◌else◌}
-use Rattle.std.specs.List.{list_all, list_any}
-use Rattle.std.proofs.lemmas.Bool.Decides.{eqb_tells, nat_tests}
+use Rattle.std.proofs.Common.{◌≡◌, ℕ, suc, ◌+◌, ◌^◌, ◌<◌, Bool, true, false, cond, List, [], ◌∷◌, ◌++◌, None, Some, length, length-append, take, refl, sym, ◌∙◌, ap, subst, inl, inr, arith}
+use Rattle.std.specs.Prelude.{◌≢◌}
+use Rattle.std.specs.List.{list_all}
+use Rattle.std.proofs.lemmas.Bool.Decides.{eqb_tells}
 use Rattle.sg_base.specs.declared.call.Call.{Call}
 use Rattle.sg_base.specs.declared.reply.Good.{Good}
 use Rattle.sg_base.specs.declared.reply.Reply.TheVariants.{Ok}
 use Rattle.sg_facts.specs.Allowed.{acts_on_one}
 use Rattle.sg_facts.specs.declared.row.Row.{Row}
 use Rattle.sg_facts.specs.declared.tables.WalkLine.{WalkLine}
-use Rattle.sg_facts.specs.Alike.{HasAlike, named}
+use Rattle.sg_facts.specs.Alike.{named}
 use Rattle.sg_facts.specs.Counted.{CountedBelow}
-use Rattle.sg_facts.specs.Facts.{Facts, fun_at, takes_desc, takes_parent}
+use Rattle.sg_facts.specs.Facts.{fun_at}
 use Rattle.sg_facts.specs.Fits.{Fits}
 use Rattle.sg_facts.specs.Held.{AreReachable, HoldsPart, IsAt, ParentIsWhole, set_of}
 use Rattle.sg_facts.specs.Interface.{Declared}
-use Rattle.sg_facts.specs.Laws.{GoesOn, is_none, names_after, next_call}
+use Rattle.sg_facts.specs.Laws.{GoesOn, names_after, next_call}
 use Rattle.sg_facts.specs.Legal.{Table}
 use Rattle.sg_facts.specs.Object.{Object, after, file_at, first_text, patch_at, patch_of, patched, path_of, place_of, writes}
 use Rattle.sg_facts.specs.Sound.{IsSound}
-use Rattle.sg_facts.specs.Track.{is_live, new_row, row_at}
+use Rattle.sg_facts.specs.Track.{new_row, row_at}
 use Rattle.sg_facts.specs.Walks.{IsWalkOf}
-use Rattle.sg_facts.proofs.RowLists.{id_of_row, live_of_row, row_at-more}
+use Rattle.sg_facts.proofs.RowLists.{id_of_row, row_at-more}
 use Rattle.sg_hist.specs.Reading.{walk_in}
 use Rattle.sg_object_laws.proofs.Guarded.{well_allowed, writes_none}
-use Rattle.sg_held_laws.specs.Progress.{HasFile, IsBegun, IsSoFar, IsUnderWay, Told, fresh, begun, complete}
+use Rattle.sg_held_laws.specs.Progress.{HasFile, IsSoFar, IsUnderWay, Told}
 use Rattle.sg_object_laws.specs.Serving.{IsGood, IsService}
 use Rattle.sg_held_laws.specs.Stepping.{IsStepped, so_far, told_after}
 use Rattle.sg_walk_laws.proofs.Above.{low_id, low_real}
 use Rattle.sg_object_laws.proofs.Apart.{makes_row}
-use Rattle.sg_walk_laws.proofs.Found.{other_test, same_test}
-use Rattle.sg_object_laws.proofs.Guarded.{ActsOnOne, acts, both_true}
+use Rattle.sg_object_laws.proofs.Guarded.{both_true}
 use Rattle.sg_held_laws.proofs.Rest.{kept_beside, parent_named, so_far_more, so_far_same}
 use Rattle.sg_held_laws.proofs.Walking.{MayReplay, at_end, declared_within, may_replay, replayed_is, writes_no}
 

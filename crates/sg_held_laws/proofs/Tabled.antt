@@ -1,23 +1,22 @@
 -- The tables have the walk of each reachable row; and what a narrower interface lets pass, that of the whole service does.
-use Rattle.std.proofs.Common.{◌≡◌, ℕ, zero, suc, ◌+◌, ◌*◌, ◌<◌, ◌≤◌, Bool, true, false, cond, not, List, [], ◌∷◌, ◌++◌, None, Some, length, map, refl, sym, ◌∙◌, ap, subst, inl, inr, ◌⊎◌, arith}
-use Rattle.std.specs.Prelude.{◌==◌, ◌||◌, ◌&&◌, if◌then◌else◌, nat_le}
-use Rattle.std.specs.List.{Contains, list_any}
+use Rattle.std.proofs.Common.{◌≡◌, ℕ, suc, ◌+◌, Bool, true, false, cond, not, List, [], ◌∷◌, None, Some, length, refl, sym, ◌∙◌, ap, subst, arith}
+use Rattle.std.specs.Prelude.{◌==◌, ◌&&◌, if◌then◌else◌, nat_le}
+use Rattle.std.specs.List.{Contains}
 use Rattle.std.specs.declared.option.Option.{Option}
-use Rattle.std.proofs.lemmas.Bool.Decides.{eqb_tells, nat_tests}
+use Rattle.std.proofs.lemmas.Bool.Decides.{nat_tests}
 use Rattle.std.proofs.lemmas.List.Elements.{Contains-append_right}
 use Rattle.sg_base.specs.declared.call.Call.{Call}
-use Rattle.sg_base.specs.declared.reply.Code.{Code}
 use Rattle.sg_base.specs.declared.reply.Code.TheVariants.{NoDesc, NoParent, BadState, HasChildren, Full}
 use Rattle.sg_facts.specs.declared.row.Row.{Row}
 use Rattle.sg_facts.specs.declared.shape.Effect.{Effect}
 use Rattle.sg_facts.specs.declared.tables.WalkLine.{WalkLine}
-use Rattle.sg_facts.specs.Facts.{Facts, Field, Fun, fun_at, takes_desc, takes_parent}
-use Rattle.sg_facts.specs.Fields.{mask_of, number_of}
+use Rattle.sg_facts.specs.Facts.{Field, Fun, fun_at, takes_desc, takes_parent}
+use Rattle.sg_facts.specs.Fields.{number_of}
 use Rattle.sg_facts.specs.Fits.{Fits}
 use Rattle.sg_facts.specs.Guard.{guard, in_state, may_be_parent, may_use, refusal}
 use Rattle.sg_facts.specs.Limits.{most_live}
 use Rattle.sg_facts.specs.Held.{set_of}
-use Rattle.sg_facts.specs.Interface.{Declared, has_pair, moves_on}
+use Rattle.sg_facts.specs.Interface.{Declared}
 use Rattle.sg_facts.specs.Laws.{whole}
 use Rattle.sg_facts.specs.Object.{Object}
 use Rattle.sg_facts.specs.Tables.{AreTables, is_for, walk_of}
@@ -82,10 +81,12 @@ walk_is i lines r tables reach =
     let by : l.line.made ≡ r.made = let is = one.0 in grind (arith, nat_tests, is) in
     let state : l.line.state ≡ r.state = let is = one.1 in grind (arith, nat_tests, is) in
     let mask : l.line.mask ≡ number_of (set_of r) = let is = two.1 in grind (arith, nat_tests, is) in
-    let set : e.0 ≡ set_of r = number_one e.0 (set_of r) (reach_length i l.line.made l.line.state e.0 e.2 ∙ sym (reach_length i r.made r.state (set_of r) reach)) (e.1 ∙ mask) in
-    (w.0, w.1,
-    subst (λ ws. IsWalkOf i ws r.made r.state (set_of r)) l.walk_is
-    (subst (λ s. IsWalkOf i l.line.walk r.made r.state s) set (subst (λ s. IsWalkOf i l.line.walk r.made s e.0) state (subst (λ b. IsWalkOf i l.line.walk b l.line.state e.0) by e.3))))
+    let set : e.0 ≡ set_of r = number_one e.0 (set_of r) (reach_length i l.line.made l.line.state e.0 e.2 ∙ sym (reach_length i r.made r.state (set_of r) reach)) (e.1 ∙ mask) in (
+      w.0,
+      w.1,
+      subst (λ ws. IsWalkOf i ws r.made r.state (set_of r)) l.walk_is
+          (subst (λ s. IsWalkOf i l.line.walk r.made r.state s) set (subst (λ s. IsWalkOf i l.line.walk r.made s e.0) state (subst (λ b. IsWalkOf i l.line.walk b l.line.state e.0) by e.3))),
+    )
 
 -- ---- a narrower interface
 

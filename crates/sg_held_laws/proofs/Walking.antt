@@ -1,41 +1,24 @@
 -- A replayed call brings its row one step on, and leaves the others as far as they are.
-use Rattle.std.proofs.Common.{◌≡◌, ℕ, zero, suc, ◌+◌, ◌^◌, ◌<◌, ◌≤◌, Bool, true, false, cond, not, List, [], ◌∷◌, ◌++◌, None, Some, length, map, take, refl, sym, ◌∙◌, ap, subst, inl, inr, ◌⊎◌, append_assoc, append-nil, arith}
-use Rattle.std.specs.Prelude.{◌-◌, ◌==◌, ◌||◌, ◌&&◌, ◌≢◌, if◌then◌else◌, nat_le}
+use Rattle.std.proofs.Common.{◌≡◌, ℕ, zero, suc, ◌<◌, ◌≤◌, Bool, true, false, cond, not, List, [], ◌∷◌, ◌++◌, None, Some, length, map, refl, sym, ◌∙◌, ap, subst, inl, inr, append_assoc, append-nil, arith}
+use Rattle.std.specs.Prelude.{◌-◌, ◌==◌, ◌||◌, ◌&&◌, ◌≢◌, nat_le}
 use Rattle.std.specs.Int.{bit_at}
-use Rattle.std.specs.List.{list_all, list_any}
+use Rattle.std.specs.List.{list_any}
 use Rattle.std.specs.declared.option.Option.{Option}
 use Rattle.std.proofs.lemmas.Bool.Decides.{eqb_tells, nat_tests}
-use Rattle.std.proofs.lemmas.List.{take-append-le}
 use Rattle.sg_base.specs.declared.value.Value.{Value}
 use Rattle.sg_base.specs.declared.value.Value.TheVariants.{Word, Text}
-use Rattle.sg_base.specs.declared.call.Call.{Call}
-use Rattle.sg_base.specs.declared.reply.Good.{Good}
-use Rattle.sg_base.specs.declared.reply.Reply.TheVariants.{Ok}
 use Rattle.sg_facts.specs.declared.row.Row.{Row}
-use Rattle.sg_facts.specs.declared.tables.WalkLine.{WalkLine}
-use Rattle.sg_facts.specs.Alike.{HasAlike, IsAlike, named, under_names}
-use Rattle.sg_facts.specs.Allowed.{acts_on_one, implies, is_replayed}
-use Rattle.sg_facts.specs.Facts.{Facts, fun_at, takes_desc, takes_parent}
+use Rattle.sg_facts.specs.Alike.{HasAlike, IsAlike}
+use Rattle.sg_facts.specs.Allowed.{implies, is_replayed}
+use Rattle.sg_facts.specs.Facts.{Facts, fun_at}
 use Rattle.sg_facts.specs.Fields.{is_set}
 use Rattle.sg_facts.specs.Fits.{Fits}
-use Rattle.sg_facts.specs.Held.{AreReachable, FieldHolds, FieldsHold, HasParent, HoldsPart, IsAt, IsPartOf, ParentIsWhole, SameKind, set_of}
+use Rattle.sg_facts.specs.Held.{FieldHolds, FieldsHold, IsAt, IsPartOf, set_of}
 use Rattle.sg_facts.specs.Interface.{Declared, declares, has_pair, steps_on}
-use Rattle.sg_facts.specs.Kinds.{IsCall, IsWithin, MayAsk, may_be_root}
-use Rattle.sg_facts.specs.Laws.{GoesOn, is_none, names_after, next_call}
-use Rattle.sg_facts.specs.Legal.{Table}
-use Rattle.sg_facts.specs.Object.{Object, after, patch_of, patched, writes}
-use Rattle.sg_facts.specs.Sound.{IsSound}
-use Rattle.sg_facts.specs.Track.{cleared, is_live, row_at, rows_after}
-use Rattle.sg_facts.specs.Walks.{IsWalkOf, Mark, good, unknown, unset, Spot, may_begin, may_go_on, next_spot, first_spot, replayed_call, restores, restores_at, restores_field, restores_fields, spot_from, spot_of}
-use Rattle.sg_facts.proofs.RowLists.{id_of_row, live_of_row}
-use Rattle.sg_hist.specs.Reading.{walk_in}
+use Rattle.sg_facts.specs.Object.{Object, writes}
+use Rattle.sg_facts.specs.Walks.{IsWalkOf, Mark, good, unknown, unset, Spot, may_begin, may_go_on, next_spot, first_spot, restores_at, restores_field, restores_fields, spot_from, spot_of}
 use Rattle.sg_object_laws.proofs.Guarded.{writes_none}
-use Rattle.sg_held_laws.specs.Progress.{HasFile, IsBegun, IsSoFar, IsUnderWay, Told, fresh, begun, complete}
-use Rattle.sg_object_laws.specs.Serving.{IsGood, IsService}
-use Rattle.sg_walk_laws.proofs.Above.{low_id, low_real}
-use Rattle.sg_walk_laws.proofs.Found.{other_test, same_test}
-use Rattle.sg_object_laws.proofs.Guarded.{ActsOnOne, acts, both_true}
-use Rattle.sg_held_laws.proofs.Rest.{kept_beside, so_far_more, so_far_same}
+use Rattle.sg_object_laws.proofs.Guarded.{both_true}
 
 -- ---- a walk that is done
 

@@ -1,5 +1,5 @@
 -- How much of a recovery is left: the calls of walks that may still be replayed, and the rows that aren't begun.
-use Rattle.std.specs.Prelude.{ℕ, ◌+◌, ◌-◌, ◌*◌, ◌≤◌, List, [], ◌∷◌, length}
+use Rattle.std.specs.Prelude.{ℕ, ◌+◌, ◌-◌, ◌*◌, ◌≤◌, List, [], ◌∷◌}
 use Rattle.sg_facts.specs.declared.row.Row.{Row}
 use Rattle.sg_facts.specs.Counted.{most_counted}
 use Rattle.sg_facts.specs.Facts.{Facts}

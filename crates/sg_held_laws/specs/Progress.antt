@@ -1,6 +1,5 @@
 -- How far the rows of an object are rebuilt in a service.
 use Rattle.std.specs.Prelude.{ℕ, ◌≡◌, ◌⊎◌, ◌<◌, Bool, true, false, List, [], Some, length, take}
-use Rattle.std.specs.declared.option.Option.{Option}
 use Rattle.sg_facts.specs.declared.row.Row.{Row}
 use Rattle.sg_facts.specs.declared.tables.WalkLine.{WalkLine}
 use Rattle.sg_facts.specs.Alike.{HasAlike, named}

@@ -1,5 +1,5 @@
 -- One more call of a walk is replayed.
-use Rattle.std.specs.Prelude.{ℕ, suc, ◌≡◌, ◌≤◌, ◌==◌, ◌||◌, ◌&&◌, Bool, if◌then◌else◌, List, [], ◌∷◌, None, Some, length}
+use Rattle.std.specs.Prelude.{ℕ, suc, ◌≡◌, ◌==◌, ◌||◌, ◌&&◌, Bool, if◌then◌else◌, List, [], ◌∷◌, None, Some, length}
 use Rattle.std.specs.Str.{bytes_eq}
 use Rattle.std.specs.declared.option.Option.{Option}
 use Rattle.sg_base.specs.declared.call.Call.{Call}
@@ -11,10 +11,10 @@ use Rattle.sg_facts.specs.declared.row.Row.{Row}
 use Rattle.sg_facts.specs.declared.tables.WalkLine.{WalkLine}
 use Rattle.sg_facts.specs.Interface.{Declared}
 use Rattle.sg_facts.specs.Kinds.{MayAsk}
-use Rattle.sg_facts.specs.Laws.{is_none, names_after, next_call}
+use Rattle.sg_facts.specs.Laws.{names_after, next_call}
 use Rattle.sg_facts.specs.Legal.{Table}
 use Rattle.sg_facts.specs.Object.{Object, after}
-use Rattle.sg_held_laws.specs.Progress.{IsUnderWay, Told, fresh, begun, complete}
+use Rattle.sg_held_laws.specs.Progress.{IsUnderWay, Told, begun, complete}
 
 -- what is told of a row whose walk has come so far
 abbrev pub so_far : List ℕ → ℕ → Told

@@ -1,21 +1,17 @@
 -- An id stands above a row in a service, under its name, exactly where it does in the object.
-use Rattle.std.proofs.Common.{◌≡◌, ℕ, zero, suc, ◌+◌, ◌<◌, ◌≤◌, Bool, true, false, cond, not, List, [], ◌∷◌, ◌++◌, None, Some, map, filter, refl, sym, ◌∙◌, ap, subst, inl, inr, ◌⊎◌, arith}
-use Rattle.std.specs.Prelude.{◌==◌, ◌||◌, ◌&&◌, nat_lt, if◌then◌else◌}
+use Rattle.std.proofs.Common.{◌≡◌, ℕ, List, [], ◌∷◌, Some, map, refl, sym, ◌∙◌, ap, inl, inr, arith}
+use Rattle.std.specs.Prelude.{◌==◌, ◌||◌}
 use Rattle.std.specs.List.{list_any}
-use Rattle.std.specs.declared.option.Option.{Option}
-use Rattle.std.proofs.lemmas.Bool.Decides.{eqb_tells, nat_tests}
-use Rattle.sg_base.specs.Lists.{Each}
+use Rattle.std.proofs.lemmas.Bool.Decides.{eqb_tells}
 use Rattle.sg_facts.specs.declared.row.Row.{Row}
-use Rattle.sg_facts.specs.Alike.{AreNames, HasAlike, IsAlike, named}
-use Rattle.sg_facts.specs.Facts.{Facts}
-use Rattle.sg_facts.specs.Held.{whole, partly, EachHeld, HasParent, HoldsPart, IsHeld, IsHeldFor, ParentIsWhole}
+use Rattle.sg_facts.specs.Alike.{named}
+use Rattle.sg_facts.specs.Held.{HoldsPart}
 use Rattle.sg_facts.specs.Interface.{Declared}
 use Rattle.sg_facts.specs.Object.{Object}
-use Rattle.sg_facts.specs.Sound.{AreRows, IsRow, IsSound}
-use Rattle.sg_facts.specs.Track.{ancestors, is_ancestor, is_live, nearest, parent_in, row_at}
-use Rattle.sg_facts.proofs.RowLists.{id_of_row}
+use Rattle.sg_facts.specs.Sound.{IsSound}
+use Rattle.sg_facts.specs.Track.{ancestors, is_ancestor, row_at}
 use Rattle.sg_walk_laws.proofs.Above.{up}
-use Rattle.sg_walk_laws.proofs.Found.{above, held_at, met, other_test, same_test}
+use Rattle.sg_walk_laws.proofs.Found.{other_test, same_test}
 
 module _ (i : Declared) (names : List (ℕ × ℕ)) (o held : Object) (holds : HoldsPart i names o held) (sound : IsSound i.facts o) where
   -- two ids are one where their names are
@@ -23,9 +19,9 @@ module _ (i : Declared) (names : List (ℕ × ℕ)) (o held : Object) (holds : H
   same_id a b some = elim (eqb_tells b a) [
     | inl same ↦ same_test (named names b) (named names a) (ap (named names) same.1) ∙ sym same.0
     | inr apart ↦ other_test (named names b) (named names a) (λ is. elim (holds.names_are.apart b a is) [
-        | inl none ↦ some (sym is ∙ none)
-        | inr one ↦ apart.1 one
-      ]) ∙ sym apart.0
+      | inl none ↦ some (sym is ∙ none)
+      | inr one ↦ apart.1 one
+    ]) ∙ sym apart.0
   ]
 
   -- a named id is above another in the service exactly where it is in the object

@@ -1,37 +1,21 @@
 -- Answered calls of two clients in a private service: each stays what it is after the other, and their order makes no difference.
-use Rattle.std.proofs.Common.{◌≡◌, ℕ, zero, suc, ◌+◌, ◌<◌, ◌≤◌, Bool, true, false, cond, not, List, [], ◌∷◌, ◌++◌, None, Some, length, map, filter, refl, sym, ◌∙◌, ap, subst, inl, inr, ◌⊎◌, arith}
-use Rattle.std.specs.Prelude.{◌==◌, ◌||◌, ◌&&◌, nat_le, if◌then◌else◌, max, reverse}
-use Rattle.std.specs.List.{flat_map, list_all, list_any}
-use Rattle.std.specs.declared.option.Option.{Option}
-use Rattle.std.proofs.lemmas.Bool.Decides.{eqb_tells, nat_tests}
+use Rattle.std.proofs.Common.{◌≡◌, ℕ, Bool, true, false, cond, List, [], ◌∷◌, ◌++◌, Some, refl, sym, ◌∙◌, ap, subst, inl, inr, ◌⊎◌, arith}
+use Rattle.std.specs.Prelude.{◌==◌, ◌||◌, reverse}
+use Rattle.std.specs.List.{flat_map, list_any}
+use Rattle.std.proofs.lemmas.Bool.Decides.{nat_tests}
 use Rattle.std.proofs.lemmas.Grind.{reverse_onto}
 use Rattle.sg_base.specs.Lists.{Each}
 use Rattle.sg_base.specs.declared.call.Call.{Call}
-use Rattle.sg_base.specs.declared.reply.Good.{Good}
-use Rattle.sg_base.specs.declared.reply.Reply.{Reply}
-use Rattle.sg_base.specs.declared.reply.Reply.TheVariants.{Ok, Refused}
 use Rattle.sg_facts.specs.declared.row.Row.{Row}
-use Rattle.sg_facts.specs.Allowed.{implies, is_allowed, keeps_private, keeps_to, leaves_own, is_text_field, replays_all, sets_once}
-use Rattle.sg_facts.specs.Facts.{Facts, Fun, fun_at, is_visible, takes_desc, takes_parent}
-use Rattle.sg_facts.specs.Guard.{guard, refusal}
-use Rattle.sg_facts.specs.Kinds.{IsCall, IsWithin}
-use Rattle.sg_facts.specs.Laws.{Passes, whole}
-use Rattle.sg_facts.specs.Legal.{Table}
-use Rattle.sg_facts.specs.Needs.{is_needed, needs}
-use Rattle.sg_facts.specs.Object.{Object, after, given_after, patch_of, patched, path_of, place_of, step_to, writes}
-use Rattle.sg_facts.specs.Sound.{AreRows, IsRow, IsSound}
-use Rattle.sg_facts.specs.Track.{ancestors, has_child, is_ancestor, is_live, nearest, new_row, row_after, row_at, rows_after, track}
-use Rattle.sg_facts.proofs.RowLists.{id_of_row, live_of_row, row_at-more, other}
+use Rattle.sg_facts.specs.Facts.{Facts, fun_at}
+use Rattle.sg_facts.specs.Needs.{is_needed}
+use Rattle.sg_facts.specs.Object.{path_of, step_to}
+use Rattle.sg_facts.specs.Track.{ancestors, has_child, is_ancestor, nearest, row_at}
+use Rattle.sg_facts.proofs.RowLists.{id_of_row}
 use Rattle.sg_recovery_laws.proofs.Lists.{each_push}
-use Rattle.sg_object_laws.specs.Apart.{AreOwn, HasOwnParent, SameFor}
-use Rattle.sg_object_laws.specs.Serving.{IsAnswered, IsGood, IsService}
-use Rattle.sg_object_laws.proofs.Apart.{Ascends, IsOnOwn, IsOwnRow, above_own, changes_row, ends_rows, leaves_others, makes_row, nearest_same, query_keeps, same_back}
-use Rattle.sg_object_laws.proofs.Commute.{commute, own_after}
-use Rattle.sg_walk_laws.proofs.Found.{above, from_left, from_map, met, other_test, same_test, within}
-use Rattle.sg_object_laws.proofs.Guarded.{ActsOnOne, IsLetPass, acts, let_pass, own_desc, own_parent}
-use Rattle.sg_object_laws.proofs.Left.{stays}
-use Rattle.sg_object_laws.proofs.Changed.{change_at}
-use Rattle.sg_object_laws.proofs.Same.{NeedsSame, ask_same}
+use Rattle.sg_object_laws.specs.Apart.{AreOwn, SameFor}
+use Rattle.sg_object_laws.proofs.Apart.{Ascends, IsOwnRow, above_own, nearest_same, same_back}
+use Rattle.sg_walk_laws.proofs.Found.{above, other_test, same_test}
 
 -- ---- tests
 

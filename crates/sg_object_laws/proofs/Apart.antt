@@ -1,23 +1,22 @@
 -- What an answered call of one client leaves of another's rows, and what it does to its own: both are told by that client's rows alone.
-use Rattle.std.proofs.Common.{◌≡◌, ℕ, zero, suc, ◌+◌, ◌<◌, ◌≤◌, Bool, true, false, cond, not, List, [], ◌∷◌, ◌++◌, None, Some, map, filter, refl, sym, ◌∙◌, ap, subst, inl, inr, ◌⊎◌, arith}
-use Rattle.std.specs.Prelude.{◌==◌, ◌||◌, ◌&&◌, if◌then◌else◌}
+use Rattle.std.proofs.Common.{◌≡◌, ℕ, zero, suc, ◌+◌, ◌≤◌, Bool, true, false, cond, not, List, [], ◌∷◌, ◌++◌, None, Some, map, filter, refl, sym, ◌∙◌, ap, subst, inl, inr, ◌⊎◌, arith}
+use Rattle.std.specs.Prelude.{◌==◌, ◌||◌, ◌&&◌}
 use Rattle.std.specs.List.{list_any}
 use Rattle.std.specs.declared.option.Option.{Option}
-use Rattle.std.proofs.lemmas.Bool.Decides.{eqb_tells, nat_tests}
+use Rattle.std.proofs.lemmas.Bool.Decides.{eqb_tells}
 use Rattle.sg_base.specs.Lists.{Each}
 use Rattle.sg_base.specs.declared.call.Call.{Call}
 use Rattle.sg_base.specs.declared.reply.Good.{Good}
 use Rattle.sg_facts.specs.declared.row.Row.{Row}
-use Rattle.sg_facts.specs.Facts.{Facts, fun_at, takes_parent}
-use Rattle.sg_facts.specs.Object.{Object}
-use Rattle.sg_facts.specs.Sound.{AreRows, IsRow, IsSound}
-use Rattle.sg_facts.specs.Track.{ancestors, ends_with, has_child, is_ancestor, nearest, new_row, row_after, row_at, rows_after}
-use Rattle.sg_facts.proofs.RowLists.{changed, id_of_row, left, more, row_at-left, row_at-more}
+use Rattle.sg_facts.specs.Facts.{Facts, fun_at}
+use Rattle.sg_facts.specs.Sound.{AreRows}
+use Rattle.sg_facts.specs.Track.{ancestors, is_ancestor, nearest, new_row, row_after, row_at, rows_after}
+use Rattle.sg_facts.proofs.RowLists.{id_of_row, row_at-left, row_at-more}
 use Rattle.sg_object_laws.specs.Apart.{AreOwn, HasOwnParent, SameFor}
 use Rattle.sg_walk_laws.proofs.Above.{one_above}
 use Rattle.sg_object_laws.proofs.Changed.{change_at}
-use Rattle.sg_walk_laws.proofs.Found.{above, from_left, from_map, from_more, last_found, met, other_test, same_test, to_map, within}
-use Rattle.sg_object_laws.proofs.Left.{parent_stays, stays}
+use Rattle.sg_walk_laws.proofs.Found.{above, from_left, from_map, from_more, last_found, other_test, same_test, to_map}
+use Rattle.sg_object_laws.proofs.Left.{stays}
 
 -- ---- the same rows
 
@@ -179,12 +178,12 @@ module _ (facts : Facts) (call : Call) (good : Good) where
       where
         made : (fun_at facts.funs call.fun).query ≡ false → (fun_at facts.funs call.fun).creation ≡ true → SameFor d rows (rows_after facts rows call good)
         made row makes = subst (SameFor d rows) (sym (makes_row rows row makes)) (record {
-            there = λ id r there its. row_at-more rows (new_row facts call good) r id there;
-            back = λ id r there its. elim (from_more (λ x. Unit {0}) 0 0 rows (new_row facts call good) r id there) [
-              | inl old ↦ old
-              | inr new ↦ absurd (other (sym (ap (λ x. x.creator) new.0) ∙ its))
-            ];
-          })
+          there = λ id r there its. row_at-more rows (new_row facts call good) r id there;
+          back = λ id r there its. elim (from_more (λ x. Unit {0}) 0 0 rows (new_row facts call good) r id there) [
+            | inl old ↦ old
+            | inr new ↦ absurd (other (sym (ap (λ x. x.creator) new.0) ∙ its))
+          ];
+        })
 
         ended : (fun_at facts.funs call.fun).query ≡ false → (fun_at facts.funs call.fun).creation ≡ false → (fun_at facts.funs call.fun).terminal ≡ true → SameFor d rows (rows_after facts rows call good)
         ended row makes ends =
@@ -281,9 +280,9 @@ module _ (facts : Facts) (call : Call) (good : Good) where
 
       by_creation : (b : Bool) → (fun_at facts.funs call.fun).query ≡ false → (fun_at facts.funs call.fun).creation ≡ b → SameFor call.client (rows_after facts rows call good) (rows_after facts rows' call good)
       by_creation true row makes = both (rows ++ new_row facts call good ∷ []) (rows' ++ new_row facts call good ∷ []) (makes_row rows row makes) (makes_row rows' row makes) (record {
-          there = made_there rows rows' are' (acts.next makes) same;
-          back = made_there rows' rows are (acts.next makes) (same_back call.client rows rows' same);
-        })
+        there = made_there rows rows' are' (acts.next makes) same;
+        back = made_there rows' rows are (acts.next makes) (same_back call.client rows rows' same);
+      })
       by_creation false row makes = by_terminal (fun_at facts.funs call.fun).terminal row makes refl
 
       by_query : (b : Bool) → (fun_at facts.funs call.fun).query ≡ b → SameFor call.client (rows_after facts rows call good) (rows_after facts rows' call good)

@@ -1,8 +1,7 @@
 -- Who is blocked stays so after an Ok that doesn't wake it: its row is there, in its state, and the guard lets its call pass as before.
-use Rattle.std.proofs.Common.{◌≡◌, ℕ, zero, suc, ◌+◌, ◌^◌, ◌<◌, ◌≤◌, Bool, true, false, cond, not, List, [], ◌∷◌, ◌++◌, None, Some, length, refl, sym, ◌∙◌, ap, subst, inl, inr, ◌⊎◌, arith}
-use Rattle.std.specs.Prelude.{◌==◌, ◌||◌, ◌&&◌, if◌then◌else◌, nat_le}
+use Rattle.std.proofs.Common.{◌≡◌, ℕ, Bool, true, false, cond, not, List, None, Some, length, refl, sym, ◌∙◌, ap}
+use Rattle.std.specs.Prelude.{◌==◌, ◌&&◌, if◌then◌else◌, nat_le}
 use Rattle.std.specs.declared.option.Option.{Option}
-use Rattle.std.proofs.lemmas.Bool.Decides.{eqb_tells, nat_tests}
 use Rattle.sg_base.specs.declared.call.Call.{Call}
 use Rattle.sg_base.specs.declared.reply.Code.{Code}
 use Rattle.sg_base.specs.declared.reply.Code.TheVariants.{NoDesc, NoParent, BadState, HasChildren, Full}
@@ -10,19 +9,19 @@ use Rattle.sg_base.specs.declared.reply.Good.{Good}
 use Rattle.sg_base.specs.declared.reply.Reply.TheVariants.{Ok}
 use Rattle.sg_facts.specs.declared.row.Row.{Row}
 use Rattle.sg_facts.specs.Allowed.{implies}
-use Rattle.sg_facts.specs.Facts.{Facts, Fun, fun_at, takes_desc, takes_parent}
-use Rattle.sg_facts.specs.Guard.{guard, in_state, is_own, is_there, may_be_parent, may_use, refusal}
+use Rattle.sg_facts.specs.Facts.{Facts, fun_at, takes_desc, takes_parent}
+use Rattle.sg_facts.specs.Guard.{guard, in_state, may_be_parent, may_use, refusal}
 use Rattle.sg_facts.specs.Limits.{most_live}
 use Rattle.sg_facts.specs.Interface.{Declared, moves_on}
 use Rattle.sg_facts.specs.Laws.{leaves_blocked, state_in}
 use Rattle.sg_facts.specs.Object.{Object, after}
-use Rattle.sg_facts.specs.Track.{ends_with, has_child, new_row, row_after, row_at, rows_after}
+use Rattle.sg_facts.specs.Track.{ends_with, has_child, new_row, row_at, rows_after}
 use Rattle.sg_facts.proofs.RowLists.{row_at-left, row_at-more}
 use Rattle.sg_object_laws.proofs.Apart.{changes_row, ends_rows, makes_row, query_keeps}
 use Rattle.sg_object_laws.proofs.Changed.{change_at}
 use Rattle.sg_object_laws.proofs.Commute.{same_creator_at, same_id_at}
 use Rattle.sg_walk_laws.proofs.Found.{to_map}
-use Rattle.sg_object_laws.proofs.Guarded.{IsLetPass, both_true}
+use Rattle.sg_object_laws.proofs.Guarded.{both_true}
 use Rattle.sg_object_laws.proofs.Left.{stays}
 
 -- a row that doesn't end stays, under its creator

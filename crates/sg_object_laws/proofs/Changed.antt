@@ -1,22 +1,22 @@
 -- What a service holds goes on to stand for an object's rows when a call changes a row, which is whole there.
-use Rattle.std.proofs.Common.{◌≡◌, ℕ, ◌<◌, ◌≤◌, Bool, true, false, cond, List, [], ◌∷◌, ◌++◌, None, Some, map, filter, refl, sym, ◌∙◌, ap, subst, inl, inr, ◌⊎◌, arith}
+use Rattle.std.proofs.Common.{◌≡◌, ℕ, ◌≤◌, Bool, true, false, cond, List, Some, map, refl, sym, ◌∙◌, ap, subst, inl, inr, arith}
 use Rattle.std.specs.Prelude.{◌==◌, ◌||◌, ◌&&◌, nat_lt, if◌then◌else◌}
-use Rattle.std.proofs.lemmas.Bool.Decides.{eqb_tells, nat_tests}
+use Rattle.std.proofs.lemmas.Bool.Decides.{nat_tests}
 use Rattle.sg_base.specs.declared.call.Call.{Call}
 use Rattle.sg_base.specs.declared.reply.Good.{Good}
 use Rattle.sg_facts.specs.declared.row.Row.{Row}
-use Rattle.sg_facts.specs.Alike.{AreNames, HasAlike, IsAlike, named, under_names}
+use Rattle.sg_facts.specs.Alike.{HasAlike, IsAlike, named, under_names}
 use Rattle.sg_facts.specs.Facts.{Facts}
-use Rattle.sg_facts.specs.Held.{whole, EachHeld, HasParent, HoldsPart, IsHeld, IsHeldFor, ParentIsWhole}
+use Rattle.sg_facts.specs.Held.{whole, HoldsPart, IsHeld, ParentIsWhole}
 use Rattle.sg_facts.specs.Interface.{Declared}
 use Rattle.sg_facts.specs.Object.{Object}
 use Rattle.sg_facts.specs.Sound.{AreFields, AreFiles, AreRows, IsRow, IsSound}
 use Rattle.sg_facts.specs.Track.{is_live, row_after, row_at}
 use Rattle.sg_facts.proofs.RowLists.{changed, id_of_row, is_live-changed}
-use Rattle.sg_walk_laws.proofs.Above.{held_as, name_of_held}
+use Rattle.sg_walk_laws.proofs.Above.{name_of_held}
 use Rattle.sg_object_laws.proofs.Above.{same_id}
 use Rattle.sg_object_laws.proofs.Fields.{alike_after}
-use Rattle.sg_walk_laws.proofs.Found.{Was, above, all_found, each_held, from_map, held_at, met, other_test, same_test, to_map}
+use Rattle.sg_walk_laws.proofs.Found.{above, all_found, each_held, from_map, held_at, met, to_map}
 
 -- a row is changed where it is that of an id
 abbrev pub change_at : Facts → Call → Good → Row → Row
@@ -78,10 +78,10 @@ module _ (i : Declared) (names : List (ℕ × ℕ)) (o held o' held' : Object) (
   parent_at : (r r' : Row) → r'.parent ≡ r.parent → ParentIsWhole names o held r → ParentIsWhole names o' held' r'
   parent_at r r' same (inl none) = inl (same ∙ none)
   parent_at r r' same (inr has) = inr (record {
-      row = change_at i.facts call good has.row;
-      of = ap (row_at o'.rows) same ∙ found_o r.parent has.row has.of;
-      whole = whole_changed has.row has.whole;
-    })
+    row = change_at i.facts call good has.row;
+    of = ap (row_at o'.rows) same ∙ found_o r.parent has.row has.of;
+    whole = whole_changed has.row has.whole;
+  })
 
   -- the row that is changed, and any other
   held_changed : (w : Row) → row_at held.rows w.id ≡ Some w → IsHeld i names o' held' (change_at i.facts (under_names names call) other w)

@@ -1,19 +1,19 @@
 -- Answered calls of two clients, each on rows of its own, come to the same rows in either order.
-use Rattle.std.proofs.Common.{◌≡◌, ℕ, ◌+◌, ◌<◌, ◌≤◌, Bool, true, false, cond, not, List, [], ◌∷◌, ◌++◌, None, Some, map, filter, refl, sym, ◌∙◌, ap, subst, inl, inr, ◌⊎◌, arith}
-use Rattle.std.specs.Prelude.{◌==◌, ◌||◌, ◌&&◌, if◌then◌else◌}
-use Rattle.std.proofs.lemmas.Bool.Decides.{eqb_tells, nat_tests}
+use Rattle.std.proofs.Common.{◌≡◌, ℕ, ◌+◌, Bool, true, false, cond, List, [], ◌∷◌, ◌++◌, map, filter, refl, sym, ◌∙◌, ap, subst, inl, inr, ◌⊎◌, arith}
+use Rattle.std.specs.Prelude.{◌==◌, if◌then◌else◌}
+use Rattle.std.proofs.lemmas.Bool.Decides.{eqb_tells}
 use Rattle.sg_base.specs.declared.call.Call.{Call}
 use Rattle.sg_base.specs.declared.reply.Good.{Good}
 use Rattle.sg_facts.specs.declared.row.Row.{Row}
 use Rattle.sg_facts.specs.Facts.{Facts, fun_at, takes_parent}
 use Rattle.sg_facts.specs.Object.{Object}
-use Rattle.sg_facts.specs.Sound.{AreRows, IsSound}
+use Rattle.sg_facts.specs.Sound.{IsSound}
 use Rattle.sg_facts.specs.Track.{has_child, new_row, row_after, row_at, rows_after}
 use Rattle.sg_facts.proofs.RowLists.{changed, id_of_row, left, more, row_at-left, row_at-more, wider}
 use Rattle.sg_object_laws.specs.Apart.{AreOwn, HasOwnParent, SameFor}
-use Rattle.sg_object_laws.proofs.Apart.{Ascends, IsOnOwn, IsOwnRow, acts_alike, changes_row, ends_rows, found_same, leaves_others, makes_row, query_keeps, rows_same, same_back, same_on, same_self}
+use Rattle.sg_object_laws.proofs.Apart.{Ascends, IsOnOwn, IsOwnRow, acts_alike, changes_row, ends_rows, found_same, leaves_others, makes_row, query_keeps, rows_same, same_back, same_on}
 use Rattle.sg_object_laws.proofs.Changed.{change_at}
-use Rattle.sg_walk_laws.proofs.Found.{from_left, from_map, from_more, other_test, same_test, to_map}
+use Rattle.sg_walk_laws.proofs.Found.{from_left, from_map, from_more, to_map}
 use Rattle.sg_object_laws.proofs.Left.{parent_stays, stays}
 
 -- the number of ids given behind it
@@ -114,10 +114,10 @@ module _ (facts : Facts) (call : Call) (good : Good) where
           elim (own id was.row was.there) [
             | inl none ↦ inl (parent_is ∙ none)
             | inr has ↦ inr (record {
-                row = change_at facts call good has.row;
-                of = ap (row_at (map (change_at facts call good) o.rows)) parent_is ∙ to_map (change_at facts call good) same_id_at o.rows was.row.parent has.row has.of;
-                own = same_creator_at has.row ∙ has.own ∙ creator_is;
-              })
+              row = change_at facts call good has.row;
+              of = ap (row_at (map (change_at facts call good) o.rows)) parent_is ∙ to_map (change_at facts call good) same_id_at o.rows was.row.parent has.row has.of;
+              own = same_creator_at has.row ∙ has.own ∙ creator_is;
+            })
           ]
 
       by_terminal : (b : Bool) → (fun_at facts.funs call.fun).query ≡ false → (fun_at facts.funs call.fun).creation ≡ false → (fun_at facts.funs call.fun).terminal ≡ b → AreOwn (rows_after facts o.rows call good)
@@ -170,9 +170,9 @@ commute facts p e gp ge rows given are own own_p own_e acts_p acts_e apart hidde
     (leaves_others facts p gp re (given_with facts e given) e.client own_e acts_p' apart) in
     let others : (c : ℕ) → (p.client ≡ c → ⊥) → (e.client ≡ c → ⊥) → SameFor c (rows_after facts rp e ge) (rows_after facts re p gp)
     = λ c not_p not_e.
-      same_on c (rows_after facts rp e ge) rp (rows_after facts re p gp) (same_back c rp (rows_after facts rp e ge) (leaves_others facts e ge rp given c own_p acts_e' not_e))
-      (same_on c rp rows (rows_after facts re p gp) (same_back c rows rp (leaves_others facts p gp rows given c own acts_p not_p))
-      (same_on c rows re (rows_after facts re p gp) (leaves_others facts e ge rows given c own acts_e not_e) (leaves_others facts p gp re (given_with facts e given) c own_e acts_p' not_p))) in
+    same_on c (rows_after facts rp e ge) rp (rows_after facts re p gp) (same_back c rp (rows_after facts rp e ge) (leaves_others facts e ge rp given c own_p acts_e' not_e))
+    (same_on c rp rows (rows_after facts re p gp) (same_back c rows rp (leaves_others facts p gp rows given c own acts_p not_p))
+    (same_on c rows re (rows_after facts re p gp) (leaves_others facts e ge rows given c own acts_e not_e) (leaves_others facts p gp re (given_with facts e given) c own_e acts_p' not_p))) in
     let each : (c : ℕ) → SameFor c (rows_after facts rp e ge) (rows_after facts re p gp)
     = λ c. elim (eqb_tells p.client c) [
       | inl is ↦ subst (λ n. SameFor n (rows_after facts rp e ge) (rows_after facts re p gp)) is.1 ours

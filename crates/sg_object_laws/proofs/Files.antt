@@ -1,14 +1,9 @@
 -- What setting a file does to the file of each path.
-use Rattle.std.proofs.Common.{◌≡◌, ℕ, Bool, true, false, cond, List, [], ◌∷◌, ◌++◌, None, Some, refl, sym, ◌∙◌, ap, subst, inl, inr, ◌⊎◌, arith}
-use Rattle.std.specs.Prelude.{◌≢◌, if◌then◌else◌}
+use Rattle.std.proofs.Common.{◌≡◌, ℕ, true, false, cond, List, [], ◌∷◌, refl, sym, ◌∙◌, ap, inl, inr, ◌⊎◌}
+use Rattle.std.specs.Prelude.{◌≢◌}
 use Rattle.std.specs.Str.{bytes_eq}
-use Rattle.std.specs.Bool.{Decides}
-use Rattle.std.specs.declared.option.Option.{Option}
-use Rattle.std.proofs.lemmas.Slice.Eq.{bytes_eq-Decides}
-use Rattle.sg_facts.specs.declared.outcome.Patch.{Patch}
 use Rattle.sg_walk_laws.proofs.Files.{told}
-use Rattle.sg_facts.specs.Object.{file_at, over, patched, set_file}
-use Rattle.sg_facts.specs.Sound.{AreFiles, HasNoFile}
+use Rattle.sg_facts.specs.Object.{file_at, set_file}
 
 pub set_own : (files : List (List ℕ × List ℕ)) (path bytes : List ℕ) → file_at (set_file files path bytes) path ≡ bytes
 set_own [] path bytes = elim (told path path) [

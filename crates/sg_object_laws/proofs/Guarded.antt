@@ -1,9 +1,9 @@
 -- What is known of a call that the guard lets pass.
-use Rattle.std.proofs.Common.{◌≡◌, ℕ, zero, suc, ◌≤◌, Bool, true, false, cond, not, List, [], ◌∷◌, None, Some, length, refl, sym, ◌∙◌, ap, subst, inl, inr, ◌⊎◌, arith}
+use Rattle.std.proofs.Common.{◌≡◌, ℕ, zero, suc, ◌≤◌, Bool, true, false, cond, not, List, [], ◌∷◌, None, Some, length, refl, sym, ◌∙◌, ap, inl, inr, ◌⊎◌, arith}
 use Rattle.std.specs.Prelude.{◌==◌, ◌||◌, ◌&&◌, count_by, nat_le, if◌then◌else◌}
-use Rattle.std.specs.List.{list_all, list_any}
+use Rattle.std.specs.List.{list_all}
 use Rattle.std.specs.declared.option.Option.{Option}
-use Rattle.std.proofs.lemmas.Bool.Decides.{eqb_tells, nat_tests}
+use Rattle.std.proofs.lemmas.Bool.Decides.{nat_tests}
 use Rattle.sg_base.specs.declared.call.Call.{Call}
 use Rattle.sg_base.specs.declared.reply.Code.{Code}
 use Rattle.sg_base.specs.declared.reply.Code.TheVariants.{NoDesc, NoParent, BadState, HasChildren, Full}
@@ -11,7 +11,7 @@ use Rattle.sg_facts.specs.declared.row.Row.{Row}
 use Rattle.sg_facts.specs.declared.shape.Parents.{Parents}
 use Rattle.sg_facts.specs.declared.shape.Parents.TheVariants.{Never, Same, Cross}
 use Rattle.sg_facts.specs.Allowed.{count_args, each_replays_well, has_no_parents, is_replayed, leaves_known, replays_well, steps_make_none, takes_among, acts_on_one, implies, is_allowed, is_cross, is_never, is_text_field, keeps_private, keeps_to, leaves_own, replays_all, sets_once}
-use Rattle.sg_facts.specs.Facts.{Facts, Fun, fun_at, no_fun, takes_desc, takes_parent}
+use Rattle.sg_facts.specs.Facts.{Facts, Fun, fun_at, takes_desc, takes_parent}
 use Rattle.sg_facts.specs.Guard.{guard, in_state, is_own, is_there, may_be_parent, may_use, refusal}
 use Rattle.sg_facts.specs.Limits.{most_live}
 use Rattle.sg_facts.specs.Interface.{Declared}
@@ -19,7 +19,6 @@ use Rattle.sg_facts.specs.Object.{Object, writes}
 use Rattle.sg_facts.specs.Track.{has_child, row_at}
 use Rattle.sg_facts.specs.Walks.{sets_caller}
 use Rattle.sg_object_laws.proofs.Apart.{IsOwnRow}
-use Rattle.sg_walk_laws.proofs.Found.{same_test}
 
 cond_none : (b : Bool) (x : Code) (rest : Option Code) → cond b (Some x) rest ≡ None → (b ≡ false) × (rest ≡ None)
 cond_none true x rest is = absurd (cc is)

@@ -1,22 +1,20 @@
 -- What a service holds goes on to stand for an object's rows when a row goes, and under subtree all below it, whole or not.
-use Rattle.std.proofs.Common.{◌≡◌, ℕ, ◌<◌, ◌≤◌, Bool, true, false, cond, not, List, [], ◌∷◌, ◌++◌, None, Some, map, filter, refl, sym, ◌∙◌, ap, subst, inl, inr, ◌⊎◌, arith}
-use Rattle.std.specs.Prelude.{◌==◌, ◌||◌, ◌&&◌, nat_lt, if◌then◌else◌}
-use Rattle.std.specs.List.{list_any}
-use Rattle.std.proofs.lemmas.Bool.Decides.{eqb_tells, nat_tests}
+use Rattle.std.proofs.Common.{◌≡◌, ℕ, ◌<◌, ◌≤◌, Bool, true, false, cond, not, List, [], ◌∷◌, Some, filter, refl, sym, ◌∙◌, ap, subst, inl, inr, arith}
+use Rattle.std.specs.Prelude.{◌==◌, ◌||◌, ◌&&◌, nat_lt}
 use Rattle.sg_facts.specs.declared.row.Row.{Row}
-use Rattle.sg_facts.specs.Alike.{AreNames, HasAlike, IsAlike, named}
+use Rattle.sg_facts.specs.Alike.{HasAlike, named}
 use Rattle.sg_facts.specs.Facts.{Facts}
-use Rattle.sg_facts.specs.Held.{HasParent, HoldsPart, IsHeld, IsHeldFor, ParentIsWhole}
+use Rattle.sg_facts.specs.Held.{HoldsPart, IsHeld, ParentIsWhole}
 use Rattle.sg_facts.specs.Interface.{Declared}
 use Rattle.sg_facts.specs.Object.{Object}
 use Rattle.sg_facts.specs.Sound.{AreFiles, AreRows, IsRow, IsSound}
 use Rattle.sg_facts.specs.Track.{ends_with, has_child, is_ancestor, is_live, row_at}
-use Rattle.sg_facts.proofs.RowLists.{id_of_row, is_live-left, left, live_of_row, other, row_at-left}
+use Rattle.sg_facts.proofs.RowLists.{id_of_row, left, live_of_row, other, row_at-left}
 use Rattle.sg_track.proofs.Above.{ends_child}
 use Rattle.sg_track.specs.Kept.{ends_below}
-use Rattle.sg_walk_laws.proofs.Above.{held_as, low_id, low_real, name_of_held, parent_of_held}
+use Rattle.sg_walk_laws.proofs.Above.{low_id, name_of_held, parent_of_held}
 use Rattle.sg_object_laws.proofs.Above.{same_ancestor, same_id}
-use Rattle.sg_walk_laws.proofs.Found.{Stayed, all_found, each_held, from_left, held_at, met, other_test, same_test}
+use Rattle.sg_walk_laws.proofs.Found.{all_found, each_held, from_left, held_at, met, other_test, same_test}
 use Rattle.sg_object_laws.proofs.Found.{lower_parents}
 
 -- the rows that stay

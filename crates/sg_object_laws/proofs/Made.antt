@@ -1,21 +1,20 @@
 -- What a service holds goes on to stand for an object's rows when a call makes a row.
-use Rattle.std.proofs.Common.{◌≡◌, ℕ, ◌+◌, ◌<◌, ◌≤◌, Bool, true, false, cond, not, List, [], ◌∷◌, ◌++◌, None, Some, map, filter, refl, sym, ◌∙◌, ap, subst, inl, inr, ◌⊎◌, arith}
-use Rattle.std.specs.Prelude.{◌==◌, ◌||◌, ◌&&◌, nat_lt, if◌then◌else◌}
+use Rattle.std.proofs.Common.{◌≡◌, ℕ, ◌+◌, ◌<◌, ◌≤◌, Bool, true, false, cond, not, List, [], ◌∷◌, ◌++◌, Some, map, refl, sym, ◌∙◌, ap, subst, inl, inr, ◌⊎◌, arith}
+use Rattle.std.specs.Prelude.{◌==◌, ◌||◌, ◌&&◌, nat_lt}
 use Rattle.std.proofs.lemmas.Bool.Decides.{eqb_tells, nat_tests}
 use Rattle.sg_base.specs.declared.call.Call.{Call}
 use Rattle.sg_base.specs.declared.reply.Good.{Good}
 use Rattle.sg_facts.specs.declared.row.Row.{Row}
 use Rattle.sg_facts.specs.Alike.{AreNames, HasAlike, IsAlike, named, under_names}
-use Rattle.sg_facts.specs.Facts.{Facts, Fun, fun_at, takes_parent}
+use Rattle.sg_facts.specs.Facts.{fun_at, takes_parent}
 use Rattle.sg_facts.specs.Held.{whole, partly, HasParent, HoldsPart, IsHeld, IsHeldFor, IsPartOf, ParentIsWhole}
 use Rattle.sg_facts.specs.Interface.{Declared}
 use Rattle.sg_facts.specs.Kinds.{may_be_root}
 use Rattle.sg_facts.specs.Object.{Object}
 use Rattle.sg_facts.specs.Sound.{AreFields, AreFiles, AreRows, IsRow, IsSound}
-use Rattle.sg_facts.specs.Track.{empty_field, fields_after, is_live, new_row, row_at}
+use Rattle.sg_facts.specs.Track.{empty_field, is_live, new_row, row_at}
 use Rattle.sg_facts.proofs.RowLists.{id_of_row, is_live-more, live_of_row, more, other, row_at-more}
 use Rattle.sg_track.specs.Tracked.{HasLowerParent}
-use Rattle.sg_walk_laws.proofs.Above.{low_id, name_of_held}
 use Rattle.sg_object_laws.proofs.Fields.{same_fields}
 use Rattle.sg_walk_laws.proofs.Found.{above, all_found, each_held, from_more, held_at, last_found, met, other_test, same_test, within}
 use Rattle.sg_object_laws.proofs.Found.{lower_parents}
@@ -182,11 +181,11 @@ module _ (i : Declared) (names : List (ℕ × ℕ)) (o held o' held' : Object) (
             parent = parent_kept h.row h.parent;
           }
       by (inr last) = subst (IsHeld i now o' held') (sym last.0) (record {
-          row = new_row i.facts call good;
-          live = new_there_o;
-          held_for = whole new_alike;
-          parent = new_parent;
-        })
+        row = new_row i.facts call good;
+        live = new_there_o;
+        held_for = whole new_alike;
+        parent = new_parent;
+      })
 
   row_made : (w : Row) → row_at held'.rows w.id ≡ Some w → IsRow i.facts held'.rows w
   row_made w there = by (from_more (IsRow i.facts held.rows) 0 held.given held.rows (new_row i.facts (under_names names call) other_good) w w.id (ap (λ rows. row_at rows w.id) (sym rows_h) ∙ there))
@@ -246,12 +245,12 @@ module _ (i : Declared) (names : List (ℕ × ℕ)) (o held o' held' : Object) (
             fields = was.fields;
           }
       by (inr last) = subst (IsRow i.facts held'.rows) (sym last.0) (record {
-          creator_first = is_row.creator_first;
-          creator_last = is_row.creator_last;
-          parent = at (takes_parent (fun_at i.facts.funs call.fun)) parent;
-          its_parent = as_taken (takes_parent (fun_at i.facts.funs call.fun)) (may_be_root i.facts.parents) parent is_row.its_parent;
-          fields = subst (AreFields i.facts.fields) (sym new_alike.fields) is_row.fields;
-        })
+        creator_first = is_row.creator_first;
+        creator_last = is_row.creator_last;
+        parent = at (takes_parent (fun_at i.facts.funs call.fun)) parent;
+        its_parent = as_taken (takes_parent (fun_at i.facts.funs call.fun)) (may_be_root i.facts.parents) parent is_row.its_parent;
+        fields = subst (AreFields i.facts.fields) (sym new_alike.fields) is_row.fields;
+      })
 
   pub holds_made : HoldsPart i now o' held'
   holds_made =

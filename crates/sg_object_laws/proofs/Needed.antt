@@ -1,24 +1,23 @@
 -- What a call needs is the same behind the held replies of others.
-use Rattle.std.proofs.Common.{◌≡◌, ℕ, zero, suc, ◌+◌, ◌<◌, ◌≤◌, Bool, true, false, cond, not, List, [], ◌∷◌, ◌++◌, None, Some, length, map, filter, refl, sym, ◌∙◌, ap, subst, inl, inr, ◌⊎◌, arith}
-use Rattle.std.specs.Prelude.{◌==◌, ◌||◌, ◌&&◌, if◌then◌else◌}
+use Rattle.std.proofs.Common.{◌≡◌, ℕ, Bool, true, false, cond, List, [], ◌∷◌, None, Some, length, map, filter, refl, sym, ◌∙◌, ap, subst, inl, inr}
+use Rattle.std.specs.Prelude.{◌==◌, ◌||◌, if◌then◌else◌}
 use Rattle.std.specs.List.{list_any}
 use Rattle.std.specs.declared.option.Option.{Option}
 use Rattle.sg_base.specs.declared.call.Call.{Call}
 use Rattle.sg_facts.specs.declared.entry.Entry.{Entry}
 use Rattle.sg_facts.specs.declared.row.Row.{Row}
-use Rattle.sg_facts.specs.Facts.{Facts, fun_at, takes_desc}
+use Rattle.sg_facts.specs.Facts.{Facts, fun_at}
 use Rattle.sg_facts.specs.Laws.{Passes}
 use Rattle.sg_facts.specs.Legal.{Table}
 use Rattle.sg_facts.specs.Needs.{Needs, is_needed, needs}
 use Rattle.sg_facts.specs.Object.{Object, object_from, path_of}
-use Rattle.sg_facts.specs.Sound.{IsSound}
 use Rattle.sg_facts.specs.Track.{ancestors, is_ancestor, nearest, row_at}
 use Rattle.sg_facts.proofs.RowLists.{id_of_row, left, row_at-left}
 use Rattle.sg_object_laws.specs.Apart.{SameFor}
 use Rattle.sg_object_laws.specs.Serving.{HasTime, IsGood, IsService}
 use Rattle.sg_object_laws.specs.Waiting.{AreWaiting, NoneBy}
 use Rattle.sg_object_laws.proofs.Answered.{needed_none, needed_own}
-use Rattle.sg_object_laws.proofs.Apart.{Ascends, IsOwnRow, nearest_same, rows_same}
+use Rattle.sg_object_laws.proofs.Apart.{IsOwnRow, nearest_same, rows_same}
 use Rattle.sg_walk_laws.proofs.Found.{from_left}
 use Rattle.sg_object_laws.proofs.Guarded.{keeps, looks_at_own}
 use Rattle.sg_object_laws.proofs.Serves.{needed_behind, on_none_or_own, path_behind}
@@ -61,8 +60,8 @@ module _ (facts : Facts) (ask : Table) (sound : Object → Type 0) (law : IsServ
           let good = good_behind facts ask sound law o es ok time waiting in
           elim (on_none_or_own facts ask sound law o call hidden.alone passes) [
             | inl root ↦ absurd (
-              let isn't = needed_none facts (object_from facts o es).rows (object_from facts o es).given call r looks (ascends facts (object_from facts o es) (law.keeps.general (object_from facts o es) good.is_sound)) root there in
-              cc (need, isn't))
+                let isn't = needed_none facts (object_from facts o es).rows (object_from facts o es).given call r looks (ascends facts (object_from facts o es) (law.keeps.general (object_from facts o es) good.is_sound)) root there in
+                cc (need, isn't))
             | inr on ↦
                 let on_too : IsOwnRow (object_from facts o es).rows call.client call.desc = record { row = on.row; of = same.there call.desc on.row on.of on.own; own = on.own } in
                 same.back r.id r there (needed_own facts (object_from facts o es).rows call r looks (good.own hidden.alone) on_too there need)

@@ -1,10 +1,10 @@
 -- What an answered call makes of a row is reachable: each field is set, or not, as its effect may leave it.
-use Rattle.std.proofs.Common.{◌≡◌, ℕ, zero, suc, ◌+◌, ◌-◌, ◌<◌, ◌≤◌, Bool, true, false, cond, not, List, [], ◌∷◌, ◌++◌, None, Some, length, map, refl, sym, ◌∙◌, ap, subst, inl, inr, ◌⊎◌, arith}
+use Rattle.std.proofs.Common.{◌≡◌, ℕ, zero, suc, ◌+◌, ◌<◌, ◌≤◌, Bool, true, false, cond, not, List, [], ◌∷◌, None, Some, length, map, refl, sym, ◌∙◌, ap, inl, inr, arith}
 use Rattle.std.specs.Prelude.{◌==◌, ◌||◌, ◌&&◌, if◌then◌else◌}
-use Rattle.std.specs.List.{list_all, list_any}
+use Rattle.std.specs.List.{list_any}
 use Rattle.std.specs.declared.option.Option.{Option}
 use Rattle.std.proofs.Math.ListN.{set}
-use Rattle.std.proofs.lemmas.Bool.Decides.{eqb_tells, nat_tests}
+use Rattle.std.proofs.lemmas.Bool.Decides.{eqb_tells}
 use Rattle.std.proofs.lemmas.List.{length-set}
 use Rattle.sg_base.specs.declared.value.Value.{Value}
 use Rattle.sg_base.specs.declared.value.Value.TheVariants.{Word, Text}
@@ -13,15 +13,14 @@ use Rattle.sg_base.specs.declared.reply.Good.{Good}
 use Rattle.sg_facts.specs.declared.row.Row.{Row}
 use Rattle.sg_facts.specs.declared.shape.Effect.{Effect}
 use Rattle.sg_facts.specs.declared.shape.Effect.TheVariants.{SetCaller, SetArg, AddArg, SetRet, AddRet, Clear, SubOne}
-use Rattle.sg_facts.specs.Allowed.{is_text_field, sets_once}
-use Rattle.sg_facts.specs.Facts.{Facts, Field, fun_at, state_after}
+use Rattle.sg_facts.specs.Allowed.{sets_once}
+use Rattle.sg_facts.specs.Facts.{Field, fun_at}
 use Rattle.sg_facts.specs.Fields.{is_set}
 use Rattle.sg_facts.specs.Held.{set_of}
 use Rattle.sg_facts.specs.Interface.{Declared, declares, moves_on}
-use Rattle.sg_facts.specs.Track.{arg_at, cleared, effect_of, empty_field, field_at, fields_after, first_word, new_row, row_after, word_of}
+use Rattle.sg_facts.specs.Track.{arg_at, effect_of, empty_field, field_at, fields_after, first_word, new_row, row_after, word_of}
 use Rattle.sg_facts.specs.Walks.{IsReachable, effect_on, made, may_lead, may_leave, moved, none_set}
 use Rattle.sg_track.proofs.Premises.{length_after, set_other, set_same, untouched}
-use Rattle.sg_walk_laws.proofs.Found.{other_test, same_test}
 
 set_word : (n : ℕ) → 0 < n → is_set (Word n) ≡ true
 set_word zero some = absurd (omega (arith, some))
@@ -113,7 +112,7 @@ module _ (call : Call) (good : Good) (client : 1 ≤ call.client) where
       let first : may_leave (effect_on es x) (is_set v) (is_set w) ≡ true = ap (λ n. may_leave (effect_on es n) (is_set v) (is_set w)) (let e : x ≡ x + 0 = omega arith in e) ∙ each 0 (omega arith) in
       let rest : may_lead es (x + 1) (map is_set olds) (map is_set news) ≡ true
       = leads es (x + 1) olds news (omega (arith, same)) (λ y lt.
-        ap (λ n. may_leave (effect_on es n) (is_set (field_at olds y)) (is_set (field_at news y))) (let e : x + 1 + y ≡ x + suc y = omega arith in e) ∙ each (suc y) (omega (arith, lt))) in
+      ap (λ n. may_leave (effect_on es n) (is_set (field_at olds y)) (is_set (field_at news y))) (let e : x + 1 + y ≡ x + suc y = omega arith in e) ∙ each (suc y) (omega (arith, lt))) in
       ap (λ b. b && may_lead es (x + 1) (map is_set olds) (map is_set news)) first ∙ rest
 
   fields_lead : (es : List (ℕ × Effect)) (fields : List Value) → sets_once es ≡ true → ((y : ℕ) (e : Effect) → effect_on es y ≡ Some e → y < length fields → IsNoText (field_at fields y))
@@ -121,10 +120,10 @@ module _ (call : Call) (good : Good) (client : 1 ≤ call.client) where
   fields_lead es fields once plain =
       leads es 0 fields (fields_after call good es fields) (length_after call good es fields)
       (λ y lt.
-        let at : effect_on es (0 + y) ≡ effect_on es y = ap (effect_on es) (let e : 0 + y ≡ y = omega arith in e) in
-        ap (λ e. may_leave e (is_set (field_at fields y)) (is_set (field_at (fields_after call good es fields) y))) at
-        ∙ ap (λ w. may_leave (effect_on es y) (is_set (field_at fields y)) (is_set w)) (final_at es fields y once lt)
-        ∙ one_field (effect_on es y) (field_at fields y) (λ e is. plain y e is lt))
+      let at : effect_on es (0 + y) ≡ effect_on es y = ap (effect_on es) (let e : 0 + y ≡ y = omega arith in e) in
+      ap (λ e. may_leave e (is_set (field_at fields y)) (is_set (field_at (fields_after call good es fields) y))) at
+      ∙ ap (λ w. may_leave (effect_on es y) (is_set (field_at fields y)) (is_set w)) (final_at es fields y once lt)
+      ∙ one_field (effect_on es y) (field_at fields y) (λ e is. plain y e is lt))
 
   -- ---- rows
 

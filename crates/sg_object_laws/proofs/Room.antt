@@ -1,33 +1,30 @@
 -- What the guard lets pass of a client, it lets pass behind replies held by others too: also a creation, as those make no rows.
-use Rattle.std.proofs.Common.{◌≡◌, ℕ, zero, suc, ◌+◌, ◌<◌, ◌≤◌, Bool, true, false, cond, not, List, [], ◌∷◌, ◌++◌, None, Some, length, map, filter, refl, sym, ◌∙◌, ap, subst, inl, inr, ◌⊎◌, arith}
-use Rattle.std.specs.Prelude.{◌==◌, ◌||◌, ◌&&◌, ◌≢◌, nat_le, if◌then◌else◌}
-use Rattle.std.specs.declared.option.Option.{Option}
+use Rattle.std.proofs.Common.{◌≡◌, ℕ, suc, ◌≤◌, Bool, true, false, cond, not, List, [], ◌∷◌, None, Some, length, map, filter, refl, sym, ◌∙◌, ap, inl, inr, ◌⊎◌, arith}
+use Rattle.std.specs.Prelude.{◌==◌, ◌||◌, ◌&&◌, nat_le, if◌then◌else◌}
 use Rattle.std.proofs.lemmas.Bool.Decides.{nat_tests}
 use Rattle.sg_base.specs.declared.call.Call.{Call}
-use Rattle.sg_base.specs.declared.reply.Code.{Code}
 use Rattle.sg_base.specs.declared.reply.Code.TheVariants.{NoDesc, NoParent, BadState, HasChildren, Full}
-use Rattle.sg_base.specs.declared.reply.Good.{Good}
 use Rattle.sg_base.specs.declared.reply.Reply.{Reply}
 use Rattle.sg_base.specs.declared.reply.Reply.TheVariants.{Ok, Refused}
 use Rattle.sg_facts.specs.declared.entry.Entry.{Entry}
 use Rattle.sg_facts.specs.declared.row.Row.{Row}
 use Rattle.sg_facts.specs.declared.shape.Parents.{Parents}
 use Rattle.sg_facts.specs.declared.shape.Parents.TheVariants.{Never, Same, Cross}
-use Rattle.sg_facts.specs.Allowed.{is_allowed, is_cross, is_never}
-use Rattle.sg_facts.specs.Facts.{Facts, Fun, fun_at, takes_desc, takes_parent}
+use Rattle.sg_facts.specs.Allowed.{is_cross, is_never}
+use Rattle.sg_facts.specs.Facts.{Facts, fun_at, takes_desc, takes_parent}
 use Rattle.sg_facts.specs.Guard.{guard, in_state, is_own, may_be_parent, may_use, refusal}
 use Rattle.sg_facts.specs.Limits.{most_live}
 use Rattle.sg_facts.specs.Interface.{Declared}
 use Rattle.sg_facts.specs.Legal.{Table}
 use Rattle.sg_facts.specs.Object.{Object, after, object_from}
-use Rattle.sg_facts.specs.Track.{ends_with, has_child, new_row, row_after, row_at, rows_after}
+use Rattle.sg_facts.specs.Track.{ends_with, has_child, row_after, row_at, rows_after}
 use Rattle.sg_object_laws.specs.Apart.{SameFor}
-use Rattle.sg_object_laws.specs.Serving.{HasTime, IsAnswered, IsGood, IsService}
+use Rattle.sg_object_laws.specs.Serving.{HasTime, IsGood, IsService}
 use Rattle.sg_object_laws.specs.Waiting.{AreWaiting, NoneBy}
 use Rattle.sg_object_laws.proofs.Apart.{IsOwnRow}
 use Rattle.sg_object_laws.proofs.Guarded.{ActsOnOne, IsLetPass, acts, let_pass, own_parent, private_parents}
 use Rattle.sg_object_laws.proofs.Narrow.{guard_stays}
-use Rattle.sg_object_laws.proofs.Waiting.{behind_same, good_behind, hidden_is, time_after, waiting_after, less_time}
+use Rattle.sg_object_laws.proofs.Waiting.{behind_same, good_behind, hidden_is}
 
 few_filter : (test : Row → Bool) (rows : List Row) → length (filter test rows) ≤ length rows
 few_filter test [] = omega arith

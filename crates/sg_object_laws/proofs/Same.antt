@@ -1,15 +1,15 @@
 -- A service answers a call alike where what the call needs is the same, whatever else there is.
-use Rattle.std.proofs.Common.{◌≡◌, ℕ, zero, suc, ◌+◌, ◌<◌, ◌≤◌, Bool, true, false, cond, not, List, [], ◌∷◌, ◌++◌, None, Some, refl, sym, ◌∙◌, ap, subst, inl, inr, ◌⊎◌, arith}
-use Rattle.std.specs.Prelude.{◌==◌, ◌||◌, ◌&&◌, nat_lt, if◌then◌else◌, max}
+use Rattle.std.proofs.Common.{◌≡◌, ℕ, zero, suc, ◌<◌, ◌≤◌, true, false, cond, List, [], ◌∷◌, None, Some, refl, sym, ◌∙◌, ap, subst, inl, inr, ◌⊎◌, arith}
+use Rattle.std.specs.Prelude.{max}
 use Rattle.std.specs.declared.option.Option.{Option}
 use Rattle.std.proofs.lemmas.Bool.{cases_lt}
-use Rattle.std.proofs.lemmas.Bool.Decides.{eqb_tells, nat_tests}
+use Rattle.std.proofs.lemmas.Bool.Decides.{eqb_tells}
 use Rattle.sg_base.specs.declared.call.Call.{Call}
 use Rattle.sg_base.specs.declared.reply.Good.{Good}
 use Rattle.sg_base.specs.declared.reply.Reply.{Reply}
 use Rattle.sg_base.specs.declared.reply.Reply.TheVariants.{Ok, Refused}
 use Rattle.sg_facts.specs.declared.row.Row.{Row}
-use Rattle.sg_facts.specs.Alike.{AreNames, EachStands, HasAlike, IsAlike, SameFile, SameReply, Serves, StandsFor, named, under_names}
+use Rattle.sg_facts.specs.Alike.{AreNames, EachStands, SameFile, SameReply, Serves, named, under_names}
 use Rattle.sg_facts.specs.Facts.{Facts, fun_at}
 use Rattle.sg_facts.specs.Laws.{AnswersAlike, Passes}
 use Rattle.sg_facts.specs.Legal.{Table}
@@ -104,9 +104,9 @@ module _ (facts : Facts) (ask : Table) (sound : Object → Type 0) (law : Answer
             id = ident n r.id (omega (arith, given_o, within (IsRow facts o.rows) 0 o.given r.id o.rows r general.rows there));
             made = refl;
             parent = sym (ident n r.parent (
-              let most = within (IsRow facts o.rows) 0 o.given r.id o.rows r general.rows there in
-              let lower = met HasLowerParent 0 o.given r.id o.rows r (lower_parents facts o.rows 0 o.given o.rows general.rows) there in
-              omega (arith, given_o, most, lower)));
+                let most = within (IsRow facts o.rows) 0 o.given r.id o.rows r general.rows there in
+                let lower = met HasLowerParent 0 o.given r.id o.rows r (lower_parents facts o.rows 0 o.given o.rows general.rows) there in
+                omega (arith, given_o, most, lower)));
             state = refl;
             fields = refl;
           };
@@ -120,9 +120,10 @@ module _ (facts : Facts) (ask : Table) (sound : Object → Type 0) (law : Answer
       stands : (n : ℕ) (ws : List Row) (from : ℕ) → held.given ≤ n → AreRows (IsRow facts held.rows) from held.given ws → ((id : ℕ) (w : Row) → row_at ws id ≡ Some w → is_live o.rows id ≡ true)
           → EachStands (idents n) o.rows ws
       stands n [] from le are fewer = tt
-      stands n (w ∷ ws) from le are fewer =
-          (record { of = w.id; live = fewer w.id w (ap (λ b. cond b (Some w) (row_at ws w.id)) (same_test w.id w.id refl)); id = ident n w.id (omega (arith, le, are.1)) },
-          stands n ws w.id le are.3 (λ id x there. elim (eqb_tells w.id id) [
-            | inl is ↦ fewer id w (ap (λ b. cond b (Some w) (row_at ws id)) is.0)
-            | inr apart ↦ fewer id x (ap (λ b. cond b (Some w) (row_at ws id)) apart.0 ∙ there)
-          ]))
+      stands n (w ∷ ws) from le are fewer = (
+        record { of = w.id; live = fewer w.id w (ap (λ b. cond b (Some w) (row_at ws w.id)) (same_test w.id w.id refl)); id = ident n w.id (omega (arith, le, are.1)) },
+        stands n ws w.id le are.3 (λ id x there. elim (eqb_tells w.id id) [
+          | inl is ↦ fewer id w (ap (λ b. cond b (Some w) (row_at ws id)) is.0)
+          | inr apart ↦ fewer id x (ap (λ b. cond b (Some w) (row_at ws id)) apart.0 ∙ there)
+        ]),
+      )

@@ -1,25 +1,24 @@
 -- What a service holds goes on to stand for an object's rows when an answered call changes both.
-use Rattle.std.proofs.Common.{◌≡◌, ℕ, ◌+◌, ◌≤◌, Bool, true, false, cond, not, List, [], ◌∷◌, ◌++◌, None, Some, map, filter, refl, sym, ◌∙◌, ap, subst, inl, inr, ◌⊎◌, arith}
-use Rattle.std.specs.Prelude.{◌==◌, ◌≢◌, if◌then◌else◌}
-use Rattle.std.proofs.lemmas.Bool.Decides.{eqb_tells, nat_tests}
+use Rattle.std.proofs.Common.{◌≡◌, ℕ, ◌+◌, ◌≤◌, Bool, true, false, cond, List, [], ◌∷◌, ◌++◌, None, Some, map, filter, refl, sym, ◌∙◌, ap, subst, inl, inr, ◌⊎◌, arith}
+use Rattle.std.specs.Prelude.{if◌then◌else◌}
 use Rattle.sg_base.specs.declared.call.Call.{Call}
 use Rattle.sg_base.specs.declared.reply.Good.{Good}
 use Rattle.sg_base.specs.declared.reply.Reply.TheVariants.{Ok}
 use Rattle.sg_facts.specs.declared.row.Row.{Row}
-use Rattle.sg_facts.specs.Alike.{AreNames, HasAlike, IsAlike, named, under_names}
+use Rattle.sg_facts.specs.Alike.{HasAlike, named, under_names}
 use Rattle.sg_facts.specs.Facts.{Facts, fun_at, takes_parent}
-use Rattle.sg_facts.specs.Held.{EachHeld, HoldsPart, IsAt, IsHeld, IsPartOf, ParentIsWhole}
+use Rattle.sg_facts.specs.Held.{EachHeld, HoldsPart, IsHeld, ParentIsWhole}
 use Rattle.sg_facts.specs.Interface.{Declared}
-use Rattle.sg_facts.specs.Object.{Object, after, patch_of, patched}
+use Rattle.sg_facts.specs.Object.{Object, after, patch_of}
 use Rattle.sg_facts.specs.Sound.{AreFields, AreFiles, AreRows, IsRow, IsSound}
-use Rattle.sg_facts.specs.Track.{has_child, new_row, row_after, row_at, rows_after}
+use Rattle.sg_facts.specs.Track.{has_child, new_row, row_after, row_at}
 use Rattle.sg_facts.proofs.RowLists.{id_of_row, row_at-more}
 use Rattle.sg_walk_laws.proofs.Above.{low_real}
 use Rattle.sg_object_laws.proofs.Apart.{changes_row, ends_rows, makes_row, query_keeps}
 use Rattle.sg_object_laws.proofs.Changed.{change_at, holds_changed, whole_changed}
 use Rattle.sg_object_laws.proofs.Commute.{same_id_at}
 use Rattle.sg_walk_laws.proofs.Files.{are_files_patched}
-use Rattle.sg_walk_laws.proofs.Found.{Was, each_held, from_left, from_map, from_more, held_at, last_found, met, other_test, same_test, to_map}
+use Rattle.sg_walk_laws.proofs.Found.{each_held, from_left, from_map, from_more, held_at, last_found, met, same_test, to_map}
 use Rattle.sg_object_laws.proofs.Guarded.{ActsOnOne}
 use Rattle.sg_object_laws.proofs.Left.{holds_left, stays, whole_left}
 use Rattle.sg_object_laws.proofs.Made.{holds_made, new_whole, whole_made}
@@ -123,9 +122,9 @@ module _ (i : Declared) (names : List (ℕ × ℕ)) (o held : Object) (call : Ca
       let its : w.row.id ≡ call.desc = id_of_row o.rows call.desc w.row w.of in
       let some : named names call.desc ≡ 0 → ⊥
       = λ none.
-        let low = low_real i names o held holds sound (named names w.row.id) w.whole.row w.whole.there in
-        let name = id_of_row held.rows (named names w.row.id) w.whole.row w.whole.there in
-        absurd (omega (arith, low, name, ap (named names) its, none)) in
+      let low = low_real i names o held holds sound (named names w.row.id) w.whole.row w.whole.there in
+      let name = id_of_row held.rows (named names w.row.id) w.whole.row w.whole.there in
+      absurd (omega (arith, low, name, ap (named names) its, none)) in
       let rows_o : o1.rows ≡ filter (λ r. stays i.facts o.rows call.desc r.id) o.rows = ends_rows i.facts call good o.rows row makes ends in
       let rows_h : h1.rows ≡ filter (λ v. stays i.facts held.rows (named names call.desc) v.id) held.rows = ends_rows i.facts (under_names names call) other held.rows row makes ends in
       record {

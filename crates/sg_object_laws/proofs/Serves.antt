@@ -1,9 +1,9 @@
 -- What a service holds in the middle of a recovery, with replies of others held, serves a call whose needs are whole.
-use Rattle.std.proofs.Common.{◌≡◌, ℕ, zero, suc, ◌+◌, ◌<◌, ◌≤◌, Bool, true, false, cond, not, List, [], ◌∷◌, ◌++◌, None, Some, length, map, refl, sym, ◌∙◌, ap, subst, inl, inr, ◌⊎◌, arith}
-use Rattle.std.specs.Prelude.{◌==◌, ◌||◌, ◌&&◌, ◌≢◌, if◌then◌else◌, reverse}
+use Rattle.std.proofs.Common.{◌≡◌, ℕ, Bool, true, false, cond, List, [], ◌∷◌, ◌++◌, None, Some, length, map, refl, sym, ◌∙◌, ap, subst, inl, inr, ◌⊎◌, arith}
+use Rattle.std.specs.Prelude.{◌==◌, ◌||◌, reverse}
 use Rattle.std.specs.List.{flat_map}
 use Rattle.std.specs.declared.option.Option.{Option}
-use Rattle.std.proofs.lemmas.Bool.Decides.{eqb_tells, nat_tests}
+use Rattle.std.proofs.lemmas.Bool.Decides.{nat_tests}
 use Rattle.std.proofs.lemmas.Grind.{reverse_onto}
 use Rattle.std.proofs.lemmas.List.Folds.{flat_map-map}
 use Rattle.std.proofs.lemmas.List.{map-append}
@@ -13,21 +13,20 @@ use Rattle.sg_base.specs.declared.reply.Reply.{Reply}
 use Rattle.sg_base.specs.declared.reply.Reply.TheVariants.{Ok, Refused}
 use Rattle.sg_facts.specs.declared.entry.Entry.{Entry}
 use Rattle.sg_facts.specs.declared.row.Row.{Row}
-use Rattle.sg_facts.specs.Alike.{EachStands, HasAlike, IsAlike, SameFile, Serves, StandsFor, named, under_names}
+use Rattle.sg_facts.specs.Alike.{EachStands, HasAlike, SameFile, Serves, named}
 use Rattle.sg_facts.specs.Facts.{Facts, fun_at, takes_desc, takes_parent}
-use Rattle.sg_facts.specs.Guard.{is_own, is_there, may_use}
-use Rattle.sg_facts.specs.Held.{EachHeld, HoldsPart, IsHeld}
+use Rattle.sg_facts.specs.Guard.{is_own, is_there}
+use Rattle.sg_facts.specs.Held.{EachHeld, HoldsPart}
 use Rattle.sg_facts.specs.Interface.{Declared}
 use Rattle.sg_facts.specs.Laws.{Passes, whole}
 use Rattle.sg_facts.specs.Legal.{Table}
-use Rattle.sg_facts.specs.Needs.{is_needed, needs}
+use Rattle.sg_facts.specs.Needs.{is_needed}
 use Rattle.sg_facts.specs.Object.{Object, after, file_at, first_text, object_from, path_of, step_to}
-use Rattle.sg_facts.specs.Sound.{AreRows, IsRow, IsSound}
-use Rattle.sg_facts.specs.Track.{ancestors, is_ancestor, is_live, nearest, row_at}
+use Rattle.sg_facts.specs.Sound.{IsSound}
+use Rattle.sg_facts.specs.Track.{ancestors, is_ancestor, is_live, row_at}
 use Rattle.sg_facts.proofs.RowLists.{id_of_row, live_of_row, row_of_live}
 use Rattle.sg_recovery_laws.proofs.Lists.{each_push}
-use Rattle.sg_object_laws.specs.Apart.{AreOwn, SameFor}
-use Rattle.sg_object_laws.specs.Serving.{HasTime, IsAnswered, IsGood, IsService}
+use Rattle.sg_object_laws.specs.Serving.{HasTime, IsGood, IsService}
 use Rattle.sg_object_laws.specs.Waiting.{AreWaiting, NoneBy}
 use Rattle.sg_walk_laws.proofs.Above.{IsWholeIn, name_of_held, up}
 use Rattle.sg_object_laws.proofs.Answered.{needed_none, needed_own, path_own}

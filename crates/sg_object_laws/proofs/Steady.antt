@@ -1,8 +1,7 @@
 -- In a private service an answered call of one client leaves that of another what it is, and their order makes no difference.
-use Rattle.std.proofs.Common.{◌≡◌, ℕ, zero, suc, ◌+◌, ◌^◌, ◌<◌, ◌≤◌, Bool, true, false, cond, not, List, [], ◌∷◌, ◌++◌, None, Some, length, map, filter, refl, sym, ◌∙◌, ap, subst, inl, inr, ◌⊎◌, arith}
-use Rattle.std.specs.Prelude.{◌==◌, ◌||◌, ◌&&◌, nat_le, if◌then◌else◌, max}
+use Rattle.std.proofs.Common.{◌≡◌, ℕ, ◌≤◌, Bool, true, false, cond, not, List, [], ◌∷◌, ◌++◌, None, Some, length, refl, sym, ◌∙◌, ap, subst, inl, inr, ◌⊎◌, arith}
+use Rattle.std.specs.Prelude.{◌&&◌, nat_le, if◌then◌else◌}
 use Rattle.std.specs.declared.option.Option.{Option}
-use Rattle.std.proofs.lemmas.Bool.Decides.{eqb_tells, nat_tests}
 use Rattle.sg_base.specs.declared.call.Call.{Call}
 use Rattle.sg_base.specs.declared.reply.Code.{Code}
 use Rattle.sg_base.specs.declared.reply.Code.TheVariants.{NoDesc, NoParent, BadState, HasChildren, Full}
@@ -10,27 +9,24 @@ use Rattle.sg_base.specs.declared.reply.Good.{Good}
 use Rattle.sg_base.specs.declared.reply.Reply.{Reply}
 use Rattle.sg_base.specs.declared.reply.Reply.TheVariants.{Ok, Refused}
 use Rattle.sg_facts.specs.declared.row.Row.{Row}
-use Rattle.sg_facts.specs.Counted.{CountedBelow, most_counted}
 use Rattle.sg_facts.specs.Facts.{Facts, Fun, fun_at, takes_desc, takes_parent}
 use Rattle.sg_facts.specs.Guard.{guard, in_state, may_be_parent, may_use, refusal}
 use Rattle.sg_facts.specs.Limits.{most_live}
-use Rattle.sg_facts.specs.Kinds.{IsCall, IsWithin}
-use Rattle.sg_facts.specs.Laws.{Passes, slow, whole}
+use Rattle.sg_facts.specs.Laws.{Passes, whole}
 use Rattle.sg_facts.specs.Legal.{Table}
-use Rattle.sg_facts.specs.Needs.{is_needed, needs}
-use Rattle.sg_facts.specs.Object.{Object, after, given_after, patch_at, first_text, patch_of, patched, path_of, place_of, writes}
-use Rattle.sg_facts.specs.Sound.{AreRows, IsRow, IsSound}
-use Rattle.sg_facts.specs.Track.{has_child, is_live, new_row, row_at, rows_after, track}
+use Rattle.sg_facts.specs.Object.{Object, after, path_of}
+use Rattle.sg_facts.specs.Sound.{IsRow, IsSound}
+use Rattle.sg_facts.specs.Track.{has_child, is_live, new_row, row_at, rows_after}
 use Rattle.sg_facts.proofs.RowLists.{id_of_row, live_of_row, row_at-more, other}
-use Rattle.sg_object_laws.specs.Apart.{AreOwn, HasOwnParent, SameFor}
+use Rattle.sg_object_laws.specs.Apart.{AreOwn, SameFor}
 use Rattle.sg_object_laws.specs.Serving.{HasTime, IsAnswered, IsGood, IsService}
-use Rattle.sg_object_laws.proofs.Answered.{child_same, needed_none, needed_own, path_own}
+use Rattle.sg_object_laws.proofs.Answered.{child_same, needed_none, needed_own}
 use Rattle.sg_object_laws.proofs.Apart.{Ascends, IsOnOwn, IsOwnRow, changes_row, ends_rows, leaves_others, makes_row, query_keeps, same_back, same_self}
 use Rattle.sg_object_laws.proofs.Changed.{change_at}
 use Rattle.sg_facts.specs.Alike.{SameFile}
-use Rattle.sg_object_laws.proofs.Commute.{commute, own_after, same_id_at}
-use Rattle.sg_walk_laws.proofs.Found.{from_left, from_map, other_test, within}
-use Rattle.sg_object_laws.proofs.Guarded.{ActsOnOne, IsLetPass, KeepsTo, acts, keeps, let_pass, looks_at_own, own_desc, own_parent}
+use Rattle.sg_object_laws.proofs.Commute.{own_after, same_id_at}
+use Rattle.sg_walk_laws.proofs.Found.{from_left, from_map, within}
+use Rattle.sg_object_laws.proofs.Guarded.{ActsOnOne, KeepsTo, acts, keeps, let_pass, looks_at_own, own_desc, own_parent}
 use Rattle.sg_object_laws.proofs.Left.{stays}
 use Rattle.sg_object_laws.proofs.Same.{NeedsSame, ask_same}
 

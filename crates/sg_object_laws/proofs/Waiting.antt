@@ -1,30 +1,23 @@
 -- Held replies come to the same object in any order, with or without an answered call of another client before them.
-use Rattle.std.proofs.Common.{◌≡◌, ℕ, zero, suc, ◌+◌, ◌^◌, ◌<◌, ◌≤◌, Bool, true, false, cond, not, List, [], ◌∷◌, ◌++◌, None, Some, length, refl, sym, ◌∙◌, ap, subst, inl, inr, ◌⊎◌, arith}
-use Rattle.std.specs.Prelude.{◌==◌, ◌||◌, ◌&&◌, ◌≢◌, if◌then◌else◌, max}
+use Rattle.std.proofs.Common.{◌≡◌, ℕ, suc, ◌+◌, ◌^◌, ◌<◌, ◌≤◌, Bool, true, false, cond, List, [], ◌∷◌, None, Some, length, refl, sym, ◌∙◌, ap, subst, arith}
+use Rattle.std.specs.Prelude.{◌||◌, ◌&&◌}
 use Rattle.std.specs.List.{list_any}
-use Rattle.std.specs.declared.option.Option.{Option}
-use Rattle.std.proofs.lemmas.Bool.Decides.{eqb_tells, nat_tests}
-use Rattle.sg_base.specs.Lists.{Each}
 use Rattle.sg_base.specs.declared.call.Call.{Call}
 use Rattle.sg_base.specs.declared.reply.Good.{Good}
 use Rattle.sg_base.specs.declared.reply.Reply.{Reply}
 use Rattle.sg_base.specs.declared.reply.Reply.TheVariants.{Ok, Refused}
 use Rattle.sg_facts.specs.declared.entry.Entry.{Entry}
-use Rattle.sg_facts.specs.declared.outcome.Patch.{Patch}
 use Rattle.sg_facts.specs.declared.row.Row.{Row}
-use Rattle.sg_facts.specs.Counted.{most_counted}
 use Rattle.sg_facts.specs.Facts.{Facts, fun_at, is_visible, takes_desc}
 use Rattle.sg_facts.specs.Kinds.{IsCall}
-use Rattle.sg_facts.specs.Laws.{slow}
 use Rattle.sg_facts.specs.Legal.{Table}
 use Rattle.sg_facts.specs.Object.{Object, after, first_text, given_after, is_text_kind, object_from, patch_at, patch_of, patched, path_of, place_of, writes}
-use Rattle.sg_facts.specs.Sound.{IsSound}
 use Rattle.sg_facts.specs.Track.{row_at, rows_after}
 use Rattle.sg_object_laws.specs.Apart.{AreOwn, SameFor}
 use Rattle.sg_object_laws.specs.Serving.{HasTime, IsAnswered, IsGood, IsService}
-use Rattle.sg_object_laws.specs.Waiting.{AreWaiting, IsWaiting, NoneBy}
+use Rattle.sg_object_laws.specs.Waiting.{AreWaiting, NoneBy}
 use Rattle.sg_object_laws.proofs.Answered.{path_own}
-use Rattle.sg_object_laws.proofs.Apart.{IsOnOwn, IsOwnRow, leaves_others, same_on, same_self}
+use Rattle.sg_object_laws.proofs.Apart.{IsOnOwn, leaves_others, same_on, same_self}
 use Rattle.sg_object_laws.proofs.Commute.{commute, on_own_after}
 use Rattle.sg_object_laws.proofs.Guarded.{acts, keeps}
 use Rattle.sg_object_laws.proofs.Steady.{after_good, ascends, on_own, others_stay, still_answered}
@@ -138,11 +131,14 @@ module _ (facts : Facts) (ask : Table) (sound : Object → Type 0) (law : IsServ
       → AreWaiting facts ask o es → AreWaiting facts ask (after facts o e re) es
   waiting_after o e re [] good is time none all = tt
   waiting_after o e re (p ∷ es) good is time none all =
-      let hidden = hidden_is facts p.call.fun all.0.hidden in
-      (record {
-        hidden = all.0.hidden;
-        answered = still_answered facts ask sound law o e p.call re p.reply hidden.alone good is all.0.answered (λ same. none.0 (sym same)) hidden.makes hidden.no_file time;
-      }, all.1, waiting_after o e re es good is time none.1 all.2)
+      let hidden = hidden_is facts p.call.fun all.0.hidden in (
+        record {
+          hidden = all.0.hidden;
+          answered = still_answered facts ask sound law o e p.call re p.reply hidden.alone good is all.0.answered (λ same. none.0 (sym same)) hidden.makes hidden.no_file time;
+        },
+        all.1,
+        waiting_after o e re es good is time none.1 all.2,
+      )
 
   -- the object behind held replies is one of legal histories
   pub good_behind : (o : Object) (es : List Entry) → IsGood facts sound o → HasTime facts (length es) o → AreWaiting facts ask o es → IsGood facts sound (object_from facts o es)
@@ -193,9 +189,11 @@ module _ (facts : Facts) (ask : Table) (sound : Object → Type 0) (law : IsServ
       let later = time_after (length es) o p.call p.reply good all.0.answered time in
       let o' : Object = after facts o p.call p.reply in
       let rest = behind_same o' es d (after_good facts ask sound law o p.call p.reply good all.0.answered) later
-      (waiting_after o p.call p.reply es good all.0.answered (less_time (length es) 0 o' (omega arith) later) all.1 all.2) none.1 in
-      (same_on d o.rows o'.rows (object_from facts o' es).rows (others_stay facts ask sound law o p.call p.reply d hidden.alone good all.0.answered none.0) rest.0,
-      rest.1 ∙ ap (patched o.files) (no_patch o p.call p.reply hidden.no_file), rest.2 ∙ given p.reply hidden.makes)
+      (waiting_after o p.call p.reply es good all.0.answered (less_time (length es) 0 o' (omega arith) later) all.1 all.2) none.1 in (
+        same_on d o.rows o'.rows (object_from facts o' es).rows (others_stay facts ask sound law o p.call p.reply d hidden.alone good all.0.answered none.0) rest.0,
+        rest.1 ∙ ap (patched o.files) (no_patch o p.call p.reply hidden.no_file),
+        rest.2 ∙ given p.reply hidden.makes,
+      )
     where
       given : (reply : Reply) → (fun_at facts.funs p.call.fun).creation ≡ false → given_after facts o.given p.call reply ≡ o.given
       given (Refused code) makes = refl

@@ -1,5 +1,5 @@
 -- A service by its laws, and answered calls at an object.
-use Rattle.std.specs.Prelude.{ℕ, ◌≡◌, ◌+◌, ◌^◌, ◌<◌, ◌≤◌, false, true, max, Some}
+use Rattle.std.specs.Prelude.{ℕ, ◌≡◌, ◌+◌, ◌^◌, ◌<◌, false, max, Some}
 use Rattle.sg_base.specs.declared.call.Call.{Call}
 use Rattle.sg_base.specs.declared.reply.Reply.{Reply}
 use Rattle.sg_facts.specs.Counted.{most_counted}

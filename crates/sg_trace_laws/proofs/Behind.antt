@@ -1,8 +1,8 @@
 -- What stands before an item that is noted last: the object of the whole history, and what is whole at its end.
-use Rattle.std.proofs.Common.{◌≡◌, ℕ, Bool, true, false, cond, not, List, [], ◌∷◌, ◌++◌, None, Some, map, filter, refl, sym, ◌∙◌, ap, subst, inl, inr, ◌⊎◌, arith}
-use Rattle.std.specs.Prelude.{◌==◌, ◌||◌, ◌&&◌, if◌then◌else◌}
+use Rattle.std.proofs.Common.{◌≡◌, ℕ, Bool, true, false, cond, not, List, [], ◌∷◌, ◌++◌, Some, map, filter, refl, sym, ◌∙◌, ap, arith}
+use Rattle.std.specs.Prelude.{◌||◌, ◌&&◌}
 use Rattle.std.specs.List.{list_all, list_any}
-use Rattle.sg_base.specs.Lists.{Each, When}
+use Rattle.sg_base.specs.Lists.{Each}
 use Rattle.sg_base.specs.declared.call.Call.{Call}
 use Rattle.sg_base.specs.declared.reply.Reply.{Reply}
 use Rattle.sg_base.specs.declared.reply.Reply.TheVariants.{Ok, Refused}
@@ -12,10 +12,9 @@ use Rattle.sg_facts.specs.declared.tables.WalkLine.{WalkLine}
 use Rattle.sg_facts.specs.declared.trace.Item.{Item}
 use Rattle.sg_facts.specs.Facts.{Facts}
 use Rattle.sg_facts.specs.Object.{Object, after, object_from, object_of, empty_object}
-use Rattle.sg_facts.specs.Guard.{is_guards}
 use Rattle.sg_facts.specs.Track.{row_at}
-use Rattle.sg_hist.specs.Reading.{Place, behind, entries_before, is_by_guard, is_item_of, is_made, is_rebuilt_at, is_whole_at, object_before, past, places_in, stands_before}
-use Rattle.sg_recovery_laws.specs.Growing.{AreGrown, IsGrown, IsOfNoEntry}
+use Rattle.sg_hist.specs.Reading.{is_by_guard, is_item_of, is_made, is_whole_at, object_before, places_in, stands_before}
+use Rattle.sg_recovery_laws.specs.Growing.{IsOfNoEntry}
 use Rattle.sg_recovery_laws.proofs.Growing.{entries_before-more, in_older}
 use Rattle.sg_recovery_laws.proofs.Same.{any_rebuilt}
 use Rattle.sg_trace_laws.specs.LastPlace.{HaveItems, last_place}

@@ -1,14 +1,12 @@
 -- What the trace tells behind the item of a creation that is committed with it, also before held replies: the new id has its name, and
 -- is whole.
-use Rattle.std.proofs.Common.{◌≡◌, ℕ, zero, suc, ◌+◌, ◌<◌, ◌≤◌, Bool, true, false, cond, not, List, [], ◌∷◌, ◌++◌, None, Some, length, filter, refl, sym, ◌∙◌, ap, subst, inl, inr, ◌⊎◌, append-nil, arith}
+use Rattle.std.proofs.Common.{◌≡◌, ℕ, Bool, true, false, cond, List, [], ◌∷◌, ◌++◌, None, Some, length, filter, refl, sym, ◌∙◌, ap, subst, inl, inr, ◌⊎◌, append-nil}
 use Rattle.std.specs.Prelude.{◌==◌, ◌||◌, ◌&&◌, ◌≢◌, if◌then◌else◌, find}
 use Rattle.std.specs.List.{list_any}
-use Rattle.std.specs.declared.option.Option.{Option}
-use Rattle.std.proofs.lemmas.Bool.Decides.{eqb_tells, nat_tests}
+use Rattle.std.proofs.lemmas.Bool.Decides.{eqb_tells}
 use Rattle.std.proofs.lemmas.List.Folds.{list_any-append}
 use Rattle.std.proofs.lemmas.List.Elements.{filter-append}
 use Rattle.sg_base.specs.Lists.{Each}
-use Rattle.sg_base.specs.declared.call.Call.{Call}
 use Rattle.sg_base.specs.declared.reply.Good.{Good}
 use Rattle.sg_base.specs.declared.reply.Reply.TheVariants.{Ok}
 use Rattle.sg_facts.specs.declared.entry.Entry.{Entry}
@@ -16,7 +14,6 @@ use Rattle.sg_facts.specs.declared.outcome.Outcome.TheVariants.{Replied}
 use Rattle.sg_facts.specs.declared.row.Row.{Row}
 use Rattle.sg_facts.specs.declared.tables.WalkLine.{WalkLine}
 use Rattle.sg_facts.specs.declared.trace.Item.{Item}
-use Rattle.sg_facts.specs.declared.trace.Tag.{Tag}
 use Rattle.sg_facts.specs.declared.trace.Tag.TheVariants.{Client}
 use Rattle.sg_facts.specs.Alike.{named}
 use Rattle.sg_facts.specs.Facts.{Facts, fun_at}
@@ -26,9 +23,8 @@ use Rattle.sg_hist.specs.Recovered.{is_patch_at, is_walk_of}
 use Rattle.sg_recovery_laws.specs.Growing.{IsGrown, IsOfNoEntry}
 use Rattle.sg_recovery_laws.proofs.Given.{IsSameId, is_numbered, made_same, names_same}
 use Rattle.sg_recovery_laws.proofs.Growing.{entries_before-more, in_boot, names_at-more, stands_before-own}
-use Rattle.sg_recovery_laws.proofs.Lists.{each_map}
 use Rattle.sg_recovery_laws.proofs.Same.{any_rebuilt}
-use Rattle.sg_held_laws.specs.Progress.{Told, fresh, begun, complete, IsCounted, IsNone, is_complete}
+use Rattle.sg_held_laws.specs.Progress.{Told, complete, IsCounted, IsNone, is_complete}
 use Rattle.sg_trace_laws.specs.Told.{IsRead, whole_behind}
 use Rattle.sg_trace_laws.specs.LastPlace.{last_place}
 use Rattle.sg_walk_laws.proofs.Found.{other_test, same_test}

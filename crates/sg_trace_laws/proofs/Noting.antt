@@ -1,20 +1,16 @@
 -- What each item owes when it is noted, from what stands in the service and is told: that it is settled at the object of the whole history.
-use Rattle.std.proofs.Common.{◌≡◌, ℕ, zero, suc, ◌+◌, ◌-◌, ◌<◌, ◌≤◌, Bool, true, false, cond, not, List, [], ◌∷◌, ◌++◌, None, Some, length, map, filter, refl, sym, ◌∙◌, ap, subst, inl, inr, ◌⊎◌, arith}
-use Rattle.std.specs.Prelude.{◌==◌, ◌||◌, ◌&&◌, ◌≢◌, if◌then◌else◌, find, nat_le, nat_lt, slice_get}
+use Rattle.std.proofs.Common.{◌≡◌, ℕ, suc, ◌+◌, ◌-◌, ◌<◌, Bool, true, false, cond, not, List, [], ◌∷◌, ◌++◌, None, Some, length, map, filter, refl, sym, ◌∙◌, ap, subst, inl, inr, ◌⊎◌, arith}
+use Rattle.std.specs.Prelude.{◌==◌, ◌||◌, ◌&&◌, find, nat_le, nat_lt, slice_get}
 use Rattle.std.specs.List.{list_all, list_any}
 use Rattle.std.specs.declared.option.Option.{Option}
-use Rattle.std.proofs.lemmas.Bool.Decides.{eqb_tells, nat_tests}
+use Rattle.std.proofs.lemmas.Bool.Decides.{nat_tests}
 use Rattle.sg_base.specs.Lists.{Each}
 use Rattle.sg_base.specs.declared.call.Call.{Call}
 use Rattle.sg_facts.specs.declared.entry.Entry.{Entry}
-use Rattle.sg_facts.specs.declared.outcome.Outcome.{Outcome}
 use Rattle.sg_facts.specs.declared.row.Row.{Row}
 use Rattle.sg_facts.specs.declared.tables.WalkLine.{WalkLine}
 use Rattle.sg_facts.specs.declared.trace.Item.{Item}
-use Rattle.sg_facts.specs.declared.trace.Tag.{Tag}
-use Rattle.sg_facts.specs.declared.trace.Tag.TheVariants.{Walk, Load, Client}
 use Rattle.sg_facts.specs.Alike.{HasAlike, IsAlike, SameFile, named}
-use Rattle.sg_facts.specs.Facts.{Facts}
 use Rattle.sg_facts.specs.Guard.{guard}
 use Rattle.sg_facts.specs.Interface.{Declared}
 use Rattle.sg_facts.specs.Laws.{is_none}
@@ -26,10 +22,10 @@ use Rattle.sg_facts.specs.Walks.{replayed_call}
 use Rattle.sg_facts.proofs.RowLists.{live_of_row}
 use Rattle.sg_hist.specs.Clients.{calls_of}
 use Rattle.sg_hist.specs.Reading.{Place, is_by_guard, is_made, is_item_of, is_rebuilt_at, is_whole_at, names_at, object_before, places_in, stands_before, value_at, walk_in}
-use Rattle.sg_hist.specs.Recovered.{IsAdmitted, IsAlikeTo, IsCallOf, IsCallOfRow, IsDemanded, IsLoad, IsNextCall, IsOkOrStopped, IsRebuiltFor, IsLoadedFor, IsTracked, IsTrackedAt, IsUnderWay as IsMade, IsWalked, call_in, is_patch_at, is_walk_of}
+use Rattle.sg_hist.specs.Recovered.{IsAdmitted, IsAlikeTo, IsCallOf, IsCallOfRow, IsLoad, IsOkOrStopped, IsLoadedFor, IsTracked, IsUnderWay as IsMade, call_in, is_walk_of}
 use Rattle.sg_recovery_laws.specs.Growing.{IsOfNoEntry}
 use Rattle.sg_held_laws.specs.Progress.{Told, fresh, begun, complete, IsCounted, IsNone, is_complete}
-use Rattle.sg_trace_laws.specs.Told.{IsRead, whole_behind}
+use Rattle.sg_trace_laws.specs.Told.{IsRead}
 use Rattle.sg_object_laws.proofs.Apart.{Ascends}
 use Rattle.sg_trace_laws.specs.LastPlace.{HaveItems, last_place}
 use Rattle.sg_trace_laws.proofs.Behind.{all_mapped, each_filtered, object_before_last, whole_last}

@@ -1,14 +1,11 @@
 -- How what the trace tells grows: by an item that gives nothing, and by a call of a walk.
-use Rattle.std.proofs.Common.{◌≡◌, ℕ, zero, suc, ◌+◌, ◌<◌, ◌≤◌, Bool, true, false, cond, not, List, [], ◌∷◌, ◌++◌, None, Some, length, length-append, map, filter, refl, sym, ◌∙◌, ap, subst, inl, inr, ◌⊎◌, append-nil, arith}
-use Rattle.std.specs.Prelude.{◌==◌, ◌||◌, ◌&&◌, ◌≢◌, if◌then◌else◌}
+use Rattle.std.proofs.Common.{◌≡◌, ℕ, suc, ◌+◌, Bool, true, false, cond, List, [], ◌∷◌, ◌++◌, None, Some, length, length-append, filter, refl, sym, ◌∙◌, ap, subst, inl, inr, ◌⊎◌, append-nil, arith}
+use Rattle.std.specs.Prelude.{◌==◌, ◌||◌, ◌&&◌}
 use Rattle.std.specs.List.{list_any}
-use Rattle.std.specs.Str.{bytes_eq}
-use Rattle.std.specs.declared.option.Option.{Option}
 use Rattle.std.proofs.lemmas.Bool.Decides.{eqb_tells, nat_tests}
 use Rattle.std.proofs.lemmas.List.Folds.{list_any-append}
 use Rattle.std.proofs.lemmas.List.Elements.{filter-append}
 use Rattle.sg_base.specs.declared.reply.Good.{Good}
-use Rattle.sg_base.specs.declared.reply.Reply.{Reply}
 use Rattle.sg_base.specs.declared.reply.Reply.TheVariants.{Ok, Refused}
 use Rattle.sg_facts.specs.declared.entry.Entry.{Entry}
 use Rattle.sg_facts.specs.declared.outcome.Outcome.{Outcome}
@@ -20,9 +17,9 @@ use Rattle.sg_facts.specs.declared.trace.Tag.{Tag}
 use Rattle.sg_facts.specs.declared.trace.Tag.TheVariants.{Walk, Load, Client}
 use Rattle.sg_facts.specs.Alike.{named}
 use Rattle.sg_facts.specs.Facts.{Facts, fun_at}
-use Rattle.sg_facts.specs.Laws.{is_none, names_after}
+use Rattle.sg_facts.specs.Laws.{names_after}
 use Rattle.sg_facts.specs.Track.{is_live, row_at}
-use Rattle.sg_hist.specs.Reading.{Place, ends_walk, has_length, id_given, is_made, is_ok, is_rebuilt_at, made_by, names_at, names_in, object_before, pair_of, places_in, walk_in}
+use Rattle.sg_hist.specs.Reading.{ends_walk, has_length, id_given, is_made, is_ok, is_rebuilt_at, made_by, names_at, names_in, object_before, pair_of, places_in, walk_in}
 use Rattle.sg_hist.specs.Recovered.{is_patch_at, is_walk_of}
 use Rattle.sg_recovery_laws.specs.Growing.{IsOfNoEntry}
 use Rattle.sg_recovery_laws.proofs.Growing.{entries_before-more, in_boot, names_at-more}

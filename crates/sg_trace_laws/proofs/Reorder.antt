@@ -1,6 +1,6 @@
 -- An entry that stands before no item yet may be put before held replies: the run recovers with it there as it does with it behind them.
 use Rattle.std.proofs.Common.{◌≡◌, ℕ, Bool, true, false, cond, not, List, [], ◌∷◌, ◌++◌, None, Some, map, filter, refl, sym, ◌∙◌, ap, subst, inl, inr, ◌⊎◌, append_assoc, append-nil, arith}
-use Rattle.std.specs.Prelude.{◌==◌, ◌≢◌, ◌||◌, ◌&&◌, if◌then◌else◌, find}
+use Rattle.std.specs.Prelude.{◌==◌, ◌≢◌, ◌||◌, ◌&&◌, find}
 use Rattle.std.specs.List.{Contains, list_all, list_any}
 use Rattle.std.specs.declared.option.Option.{Option}
 use Rattle.std.proofs.lemmas.Bool.Decides.{eqb_tells, nat_tests}
@@ -11,7 +11,6 @@ use Rattle.sg_base.specs.Lists.{Each, When}
 use Rattle.sg_base.specs.declared.call.Call.{Call}
 use Rattle.sg_facts.specs.declared.entry.Entry.{Entry}
 use Rattle.sg_facts.specs.declared.outcome.Outcome.{Outcome}
-use Rattle.sg_facts.specs.declared.row.Row.{Row}
 use Rattle.sg_facts.specs.declared.tables.WalkLine.{WalkLine}
 use Rattle.sg_facts.specs.declared.trace.Item.{Item}
 use Rattle.sg_facts.specs.declared.trace.Tag.{Tag}
@@ -20,12 +19,12 @@ use Rattle.sg_facts.specs.Facts.{Facts, fun_at, is_visible}
 use Rattle.sg_facts.specs.Object.{object_of}
 use Rattle.sg_facts.specs.Trace.{Run}
 use Rattle.sg_hist.specs.Clients.{calls_of}
-use Rattle.sg_hist.specs.Reading.{Place, behind, desc_in, entries_before, id_given, is_by_guard, is_made, is_item_of, is_ok, is_rebuilt_at, is_whole_at, item_of, made_by, names_at, names_in, pair_of, past, places_in, places_of, stands_before}
+use Rattle.sg_hist.specs.Reading.{Place, behind, desc_in, entries_before, id_given, is_by_guard, is_made, is_item_of, is_ok, is_rebuilt_at, item_of, made_by, names_at, names_in, pair_of, places_in, places_of, stands_before}
 use Rattle.sg_hist.specs.Recovered.{AreInOrder, ComeBefore, HasItem, IsCommitted, IsDemanded, IsItsCall, IsTrackedAt, IsUnderWay, IsWalked, Stubs, calls_made, is_entered, is_visible_reply}
 use Rattle.sg_recovery_laws.specs.Growing.{IsRecovering}
 use Rattle.sg_recovery_laws.proofs.Lists.{each_append, each_both, each_map, each_split}
 use Rattle.sg_recovery_laws.proofs.Onward.{its_kept}
-use Rattle.sg_recovery_laws.proofs.Same.{IsSame, again, any_same, demanded_same, rebuilt_again, tracked_same, walked_same}
+use Rattle.sg_recovery_laws.proofs.Same.{IsSame, any_same, demanded_same, rebuilt_again, tracked_same, walked_same}
 use Rattle.sg_recovery_laws.proofs.Served.{has_same}
 use Rattle.sg_recovery_laws.proofs.Stays.{earlier_place}
 use Rattle.sg_object_laws.specs.Waiting.{NoneBy}

@@ -1,6 +1,6 @@
 -- An item that is noted with its entry has the entry's reply, under the names behind it.
-use Rattle.std.proofs.Common.{◌≡◌, ℕ, zero, suc, ◌+◌, ◌<◌, ◌≤◌, Bool, true, false, cond, not, List, [], ◌∷◌, ◌++◌, None, Some, length, refl, sym, ◌∙◌, ap, subst, inl, inr, ◌⊎◌, append-nil, arith}
-use Rattle.std.specs.Prelude.{◌==◌, ◌||◌, ◌&&◌, ◌≢◌, if◌then◌else◌}
+use Rattle.std.proofs.Common.{◌≡◌, ℕ, Bool, true, false, cond, List, [], ◌∷◌, ◌++◌, Some, refl, sym, ◌∙◌, ap, subst, append-nil, arith}
+use Rattle.std.specs.Prelude.{◌==◌, ◌≢◌}
 use Rattle.std.specs.List.{list_any}
 use Rattle.std.specs.declared.option.Option.{Option}
 use Rattle.std.proofs.lemmas.Bool.Decides.{nat_tests}
@@ -18,7 +18,7 @@ use Rattle.sg_facts.specs.Facts.{Facts, fun_at}
 use Rattle.sg_hist.specs.Reading.{desc_of, id_given, names_at, names_in, pair_of}
 use Rattle.sg_hist.specs.Recovered.{IsRenamed, IsReplyOf, is_renamed}
 use Rattle.sg_recovery_laws.proofs.Growing.{names_at-more}
-use Rattle.sg_walk_laws.proofs.Found.{other_test, same_test}
+use Rattle.sg_walk_laws.proofs.Found.{same_test}
 use Rattle.sg_trace_laws.proofs.Reading.{named_push}
 
 renamed_is : (names : List (ℕ × ℕ)) (id real : ℕ) → (real ≡ 0 → id ≡ 0) → named names id ≡ real → is_renamed names id real ≡ true

@@ -1,5 +1,5 @@
 -- How a trace is read at its end: the names, what is whole, how far walks have come, and which files are present.
-use Rattle.std.specs.Prelude.{ℕ, ◌≡◌, ◌⊎◌, ◌||◌, Bool, true, false, List, [], ◌++◌, length, filter}
+use Rattle.std.specs.Prelude.{ℕ, ◌≡◌, ◌||◌, Bool, true, List, [], ◌++◌, length, filter}
 use Rattle.std.specs.List.{list_any}
 use Rattle.sg_facts.specs.declared.entry.Entry.{Entry}
 use Rattle.sg_facts.specs.declared.row.Row.{Row}
@@ -14,7 +14,7 @@ use Rattle.sg_recovery_laws.specs.Growing.{IsOfNoEntry}
 use Rattle.sg_trace_laws.specs.LastPlace.{HaveItems}
 use Rattle.sg_hist.specs.Reading.{is_made, is_rebuilt_at, names_at, places_in}
 use Rattle.sg_hist.specs.Recovered.{is_patch_at, is_walk_of}
-use Rattle.sg_held_laws.specs.Progress.{IsCounted, IsNone, Told, is_complete, fresh, begun, complete}
+use Rattle.sg_held_laws.specs.Progress.{IsCounted, IsNone, Told, is_complete}
 
 -- whether an id is whole behind the items of a boot
 abbrev pub whole_behind : Facts → List WalkLine → List Entry → List Item → List Item → ℕ → Bool

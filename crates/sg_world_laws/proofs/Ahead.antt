@@ -1,22 +1,21 @@
 -- A run recovers whichever held replies are committed first: this is kept when one of them is committed, when a visible call is
 -- committed, when the guard refuses, when an item is noted, and when a reply more is held.
-use Rattle.std.proofs.Common.{◌≡◌, ℕ, zero, suc, ◌+◌, ◌<◌, ◌≤◌, Bool, true, false, List, [], ◌∷◌, ◌++◌, None, Some, length, length-append, not, refl, sym, ◌∙◌, ap, subst, inl, inr, ◌⊎◌, append_assoc, append-nil, arith}
-use Rattle.std.specs.Prelude.{◌≢◌, ◌==◌, ◌||◌, ◌&&◌}
+use Rattle.std.proofs.Common.{◌≡◌, ℕ, suc, ◌+◌, Bool, true, false, List, [], ◌∷◌, ◌++◌, length, length-append, not, refl, sym, ◌∙◌, ap, subst, inl, inr, append_assoc, arith}
+use Rattle.std.specs.Prelude.{◌≢◌, ◌||◌, ◌&&◌}
 use Rattle.std.specs.List.{Contains, list_any}
-use Rattle.std.proofs.lemmas.Bool.Decides.{eqb_tells, nat_tests}
 use Rattle.std.proofs.lemmas.List.Elements.{Contains-append_left, Contains-append_right, Contains-append_cases}
 use Rattle.sg_base.specs.Lists.{Each}
 use Rattle.sg_base.specs.declared.call.Call.{Call}
 use Rattle.sg_facts.specs.declared.entry.Entry.{Entry}
 use Rattle.sg_facts.specs.declared.trace.Item.{Item}
-use Rattle.sg_facts.specs.Facts.{Facts, is_visible}
+use Rattle.sg_facts.specs.Facts.{is_visible}
 use Rattle.sg_facts.specs.Trace.{Boot, Run}
 use Rattle.sg_hist.specs.Reading.{Place, behind, is_by_guard, is_item_of, past, places_from, places_of, stands_before}
 use Rattle.sg_hist.specs.Recovered.{Stubs, is_visible_reply}
-use Rattle.sg_recovery_laws.specs.Growing.{AreKept, HasOneMore, IsGrown, IsHeldReply, IsItemOf, IsLastCall, IsNextItem, IsRecovering, IsSettled, IsOfNoEntry, noted, place_behind}
+use Rattle.sg_recovery_laws.specs.Growing.{AreKept, IsHeldReply, IsItemOf, IsLastCall, IsNextItem, IsRecovering, IsSettled, IsOfNoEntry, noted, place_behind}
 use Rattle.sg_recovery_laws.proofs.Growing.{places-more, stands_before-own}
-use Rattle.sg_recovery_laws.proofs.Events.{no_behind, own_item, with_last}
-use Rattle.sg_recovery_laws.proofs.Lists.{each_append, each_contains, each_map, each_split}
+use Rattle.sg_recovery_laws.proofs.Events.{own_item, with_last}
+use Rattle.sg_recovery_laws.proofs.Lists.{each_append, each_contains, each_map}
 use Rattle.sg_recovery_laws.proofs.Onward.{committed_stays, held_stays, noted_stays, refused_stays}
 use Rattle.sg_world_laws.specs.Keeping.{AreApart, AreDrawn}
 use Rattle.sg_object_laws.specs.Waiting.{NoneBy}
@@ -110,8 +109,8 @@ own_nowhere b boots item e own =
 pub served_ahead : (s : Stubs) (h ws : List Entry) (b : Boot) (boots : List Boot) (points later : ℕ) (u u' : List Call) (item : Item) (e : Entry) → is_item_of e item ≡ true → NoneBy e.call.client ws
     → Each (λ x. is_visible s.interface.facts x.call.fun ≡ false) ws
     → ((es : List Entry) → AreDrawn ws es
-      → IsOfNoEntry item (h ++ es) × IsItemOf s.interface.facts (h ++ es) (place_behind [] (b ∷ boots) item) e × IsLastCall (h ++ es) u e.call × AreKept (h ++ es) u ((h ++ es) ++ e ∷ []) u'
-      × IsNextItem s ((h ++ es) ++ e ∷ []) u' (place_behind [] (b ∷ boots) item))
+    → IsOfNoEntry item (h ++ es) × IsItemOf s.interface.facts (h ++ es) (place_behind [] (b ∷ boots) item) e × IsLastCall (h ++ es) u e.call × AreKept (h ++ es) u ((h ++ es) ++ e ∷ []) u'
+    × IsNextItem s ((h ++ es) ++ e ∷ []) u' (place_behind [] (b ∷ boots) item))
     → AllRecover s h ws (record { boots = b ∷ boots; points = points }) u → AllRecover s (h ++ e ∷ []) ws (record { boots = noted (b ∷ boots) item; points = later }) u'
 served_ahead s h ws b boots points later u u' item e own none hidden each all es drawn =
     let so = each es drawn in

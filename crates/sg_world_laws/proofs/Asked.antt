@@ -1,35 +1,34 @@
 -- What the item of a client's call owes when it is noted is paid, whichever held replies are committed first.
-use Rattle.std.proofs.Common.{◌≡◌, ℕ, zero, suc, ◌+◌, ◌^◌, ◌<◌, ◌≤◌, Bool, true, false, cond, not, List, [], ◌∷◌, ◌++◌, None, Some, length, map, refl, sym, ◌∙◌, ap, subst, inl, inr, ◌⊎◌, append_assoc, arith}
-use Rattle.std.specs.Prelude.{◌==◌, ◌||◌, ◌&&◌, ◌≢◌, if◌then◌else◌, max}
+use Rattle.std.proofs.Common.{◌≡◌, ℕ, suc, ◌<◌, ◌≤◌, true, List, [], ◌∷◌, ◌++◌, None, Some, length, sym, ◌∙◌, ap, subst, inl, inr, ◌⊎◌, arith}
+use Rattle.std.specs.Prelude.{◌==◌, ◌||◌, ◌≢◌}
 use Rattle.std.specs.List.{Contains, list_any}
 use Rattle.std.specs.declared.option.Option.{Option}
-use Rattle.std.proofs.lemmas.Bool.Decides.{eqb_tells, nat_tests}
+use Rattle.std.proofs.lemmas.Bool.Decides.{nat_tests}
 use Rattle.sg_base.specs.Lists.{Each}
 use Rattle.sg_base.specs.declared.call.Call.{Call}
 use Rattle.sg_facts.specs.declared.entry.Entry.{Entry}
-use Rattle.sg_facts.specs.declared.outcome.Outcome.{Outcome}
 use Rattle.sg_facts.specs.declared.row.Row.{Row}
 use Rattle.sg_facts.specs.declared.trace.Item.{Item}
 use Rattle.sg_facts.specs.declared.trace.Tag.{Tag}
 use Rattle.sg_facts.specs.declared.trace.Tag.TheVariants.{Walk, Load, Client}
-use Rattle.sg_facts.specs.Alike.{HasAlike, SameFile, Serves, named, under_names}
+use Rattle.sg_facts.specs.Alike.{HasAlike, SameFile, Serves, named}
 use Rattle.sg_facts.specs.Guard.{guard}
-use Rattle.sg_facts.specs.Facts.{Facts, fun_at}
-use Rattle.sg_facts.specs.Laws.{Passes, slow}
+use Rattle.sg_facts.specs.Facts.{fun_at}
+use Rattle.sg_facts.specs.Laws.{Passes}
 use Rattle.sg_facts.specs.Needs.{is_needed, needs}
 use Rattle.sg_facts.specs.Object.{Object, empty_object, file_at, object_from, object_of, path_of}
 use Rattle.sg_facts.specs.Sound.{IsSound}
-use Rattle.sg_facts.specs.Trace.{Boot, Run}
+use Rattle.sg_facts.specs.Trace.{Boot}
 use Rattle.sg_facts.specs.Track.{is_live, row_at}
 use Rattle.sg_facts.proofs.RowLists.{live_of_row, row_of_live}
-use Rattle.sg_hist.specs.Reading.{Place, is_by_guard, is_item_of, service_call, value_at}
+use Rattle.sg_hist.specs.Reading.{is_by_guard, is_item_of, service_call}
 use Rattle.sg_hist.specs.Recovered.{AskedAs, IsAdmitted, IsByTable, IsCallOf, IsDemanded, IsItsCall, IsTracked, IsTrackedAt, IsWalked}
-use Rattle.sg_recovery_laws.specs.Growing.{IsNextItem, IsOfNoEntry, IsSettled, last_items, older_items, place_behind}
+use Rattle.sg_recovery_laws.specs.Growing.{IsNextItem, IsOfNoEntry, last_items, older_items, place_behind}
 use Rattle.sg_recovery_laws.proofs.Lists.{each_append, each_contains, each_map, each_split}
 use Rattle.sg_world_laws.specs.Keeping.{AreDrawn, IsUp, Keeps, Setting, Stub, stubs_of}
-use Rattle.sg_held_laws.specs.Progress.{IsSoFar, IsUnderWay, Told, fresh, begun, complete, IsNone}
+use Rattle.sg_held_laws.specs.Progress.{complete, IsNone}
 use Rattle.sg_object_laws.specs.Serving.{HasTime, IsGood, IsService}
-use Rattle.sg_world_laws.specs.State.{Mark, Seat, State, Withdrawn, unanswered, waiting_in}
+use Rattle.sg_world_laws.specs.State.{Mark, Seat, Withdrawn, waiting_in}
 use Rattle.sg_trace_laws.specs.Told.{IsRead}
 use Rattle.sg_object_laws.specs.Waiting.{AreWaiting, NoneBy}
 use Rattle.sg_trace_laws.specs.LastPlace.{HaveItems, last_place}
@@ -49,7 +48,7 @@ module _ (z : Setting) (law : IsService z.iface.facts z.ask z.sound) (h : List E
     (call : Call) (item : Item) (passes : Passes z.iface.facts (object_of z.iface.facts h) call) (lets : guard z.iface (object_of z.iface.facts h) call ≡ None) (none_by : NoneBy call.client (waiting_in (length (b ∷ boots)) seats))
     (needed : (r : Row) → row_at (object_of z.iface.facts h).rows r.id ≡ Some r → is_needed z.iface.facts (object_of z.iface.facts h).rows call r ≡ true → stub.told r.id ≡ complete)
     (file : (fun_at z.iface.facts.funs call.fun).uses_file ≡ true
-      → (stub.present (path_of (object_of z.iface.facts h).rows call.desc) ≡ true) ⊎ (file_at (object_of z.iface.facts h).files (path_of (object_of z.iface.facts h).rows call.desc) ≡ []))
+    → (stub.present (path_of (object_of z.iface.facts h).rows call.desc) ≡ true) ⊎ (file_at (object_of z.iface.facts h).files (path_of (object_of z.iface.facts h).rows call.desc) ≡ []))
     (desc : IsNone (object_of z.iface.facts h).rows call.desc) (desc_needed : (r : Row) → r.id ≡ call.desc → is_needed z.iface.facts (object_of z.iface.facts h).rows call r ≡ true)
     (tag : item.tag ≡ Client call.client call.seq) (shown : item.shown ≡ call) (real : item.real ≡ named stub.names call.desc) (table : IsByTable z.iface.facts z.ask v (service_call item) item.outcome)
     (seqs : Each (λ e. e.call.client ≡ call.client → e.call.seq < call.seq) (h ++ waiting_in (length (b ∷ boots)) seats)) where
@@ -169,11 +168,11 @@ module _ (z : Setting) (law : IsService z.iface.facts z.ask z.sound) (h : List E
     pub next_es : (u : List Call) → IsItsCall (h ++ es) u item.shown item.tag → IsNextItem (stubs_of z) (h ++ es) u (place_behind [] (b ∷ boots) item)
     unfolding up
     next_es u its = subst (IsNextItem (stubs_of z) (h ++ es) u) (sym (place_is [] b boots item)) (record {
-        running = up.running;
-        table = table_of item.tag tag;
-        call = its;
-        settled = record { walk = walked item.tag tag; demand = demanded item.tag tag; state = state_of item.tag tag };
-      })
+      running = up.running;
+      table = table_of item.tag tag;
+      call = its;
+      settled = record { walk = walked item.tag tag; demand = demanded item.tag tag; state = state_of item.tag tag };
+    })
       where
         its_of : (t : Tag) → t ≡ Client call.client call.seq → IsItsCall (h ++ es) u item.shown t → IsCallOf (h ++ es) u call.client call
         its_of (Walk i n x) is its = absurd (cc is)

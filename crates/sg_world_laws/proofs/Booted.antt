@@ -1,11 +1,9 @@
 -- The world keeps what it keeps when the service is booted afresh.
-use Rattle.std.proofs.Common.{◌≡◌, ℕ, zero, suc, ◌+◌, ◌^◌, ◌<◌, ◌≤◌, Bool, true, false, cond, List, [], ◌∷◌, ◌++◌, None, Some, length, length-append, map, refl, sym, ◌∙◌, ap, subst, inl, inr, ◌⊎◌, append_assoc, append-nil, arith}
-use Rattle.std.specs.Prelude.{◌==◌, ◌||◌, ◌&&◌, ◌≢◌, if◌then◌else◌, IsSome}
-use Rattle.std.specs.List.{Contains, list_any}
+use Rattle.std.proofs.Common.{◌≡◌, ℕ, ◌+◌, ◌≤◌, true, false, List, [], ◌∷◌, ◌++◌, None, Some, length, length-append, map, refl, sym, ◌∙◌, ap, subst, inl, append-nil, arith}
+use Rattle.std.specs.Prelude.{◌==◌, ◌||◌}
+use Rattle.std.specs.List.{list_any}
 use Rattle.sg_base.specs.Lists.{Each}
-use Rattle.sg_base.specs.declared.call.Call.{Call}
 use Rattle.sg_facts.specs.declared.entry.Entry.{Entry}
-use Rattle.sg_facts.specs.declared.row.Row.{Row}
 use Rattle.sg_facts.specs.declared.trace.Item.{Item}
 use Rattle.sg_facts.specs.declared.tables.WalkLine.{WalkLine}
 use Rattle.sg_facts.specs.Guard.{guard}
@@ -13,14 +11,14 @@ use Rattle.sg_facts.specs.Held.{AreReachable}
 use Rattle.sg_facts.specs.Interface.{Declared}
 use Rattle.sg_facts.specs.Object.{Object, empty_object, object_from, object_of}
 use Rattle.sg_facts.specs.Sound.{IsSound}
-use Rattle.sg_facts.specs.Trace.{Boot, Run}
+use Rattle.sg_facts.specs.Trace.{Boot}
 use Rattle.sg_hist.specs.Reading.{is_by_guard, is_item_of, names_at, value_at}
 use Rattle.sg_hist.specs.Recovered.{ends_stopped}
 use Rattle.sg_recovery_laws.specs.Growing.{IsRecovering, booted, last_items, last_stop, older_items}
 use Rattle.sg_recovery_laws.proofs.Lists.{each_map}
 use Rattle.sg_recovery_laws.proofs.Onward.{booted_stays}
-use Rattle.sg_world_laws.specs.Keeping.{AreApart, AreDrawn, IsUp, Keeps, Setting, Stub, stubs_of}
-use Rattle.sg_held_laws.specs.Progress.{IsUnderWay, Told, fresh, begun, complete}
+use Rattle.sg_world_laws.specs.Keeping.{AreDrawn, Keeps, Setting, Stub, stubs_of}
+use Rattle.sg_held_laws.specs.Progress.{IsUnderWay, fresh}
 use Rattle.sg_object_laws.specs.Serving.{IsService}
 use Rattle.sg_world_laws.specs.State.{Mark, Seat, State, Withdrawn, unanswered, waiting_in, woken}
 use Rattle.sg_trace_laws.specs.Told.{IsRead}
@@ -49,10 +47,10 @@ no_drawn = record { each = tt; apart = tt; few = omega arith }
 -- an empty service stands at the begin of a recovery
 pub under_fresh : (i : Declared) (walks : List WalkLine) (o : Object) → IsSound i.facts empty_object → IsUnderWay i walks [] (λ id. fresh) (λ path. false) o empty_object
 under_fresh i walks o empty = record {
-    holds = record { names_are = record { none = refl; apart = λ a b same. inl refl }; held_sound = empty; given = λ id. omega arith; each = tt };
-    rows = λ r there. refl;
-    files = λ path. refl;
-  }
+  holds = record { names_are = record { none = refl; apart = λ a b same. inl refl }; held_sound = empty; given = λ id. omega arith; each = tt };
+  rows = λ r there. refl;
+  files = λ path. refl;
+}
 
 module _ (z : Setting) (law : IsService z.iface.facts z.ask z.sound) (h : List Entry) (b : Boot) (boots : List Boot) (points : ℕ) (seats : List Seat) (withdrawn : List Withdrawn) (marks : List Mark)
     (events refused : ℕ) (stub : Stub)

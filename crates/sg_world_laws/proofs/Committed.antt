@@ -1,10 +1,8 @@
 -- The world keeps what it keeps when a call of a client is served and committed with its item.
-use Rattle.std.proofs.Common.{◌≡◌, ℕ, zero, suc, ◌+◌, ◌^◌, ◌<◌, ◌≤◌, Bool, true, false, cond, not, List, [], ◌∷◌, ◌++◌, None, Some, length, length-append, map, refl, sym, ◌∙◌, ap, subst, inl, inr, ◌⊎◌, append_assoc, append-nil, arith}
-use Rattle.std.specs.Prelude.{◌==◌, ◌||◌, ◌&&◌, ◌≢◌, if◌then◌else◌, find, filter, max}
+use Rattle.std.proofs.Common.{◌≡◌, ℕ, suc, ◌+◌, ◌^◌, ◌<◌, ◌≤◌, Bool, true, false, cond, List, [], ◌∷◌, ◌++◌, None, Some, length, length-append, refl, sym, ◌∙◌, ap, subst, inl, inr, ◌⊎◌, append_assoc, append-nil, arith}
+use Rattle.std.specs.Prelude.{◌==◌, ◌||◌, ◌&&◌, ◌≢◌, if◌then◌else◌, filter}
 use Rattle.std.specs.List.{Contains, list_any}
 use Rattle.std.specs.declared.option.Option.{Option}
-use Rattle.std.proofs.lemmas.Bool.Decides.{eqb_tells, nat_tests}
-use Rattle.std.proofs.lemmas.List.Elements.{Contains-append_cases, Contains-append_left, Contains-append_right}
 use Rattle.sg_base.specs.Lists.{Each, When}
 use Rattle.sg_base.specs.declared.call.Call.{Call}
 use Rattle.sg_base.specs.declared.reply.Good.{Good}
@@ -19,47 +17,39 @@ use Rattle.sg_facts.specs.declared.row.Row.{Row}
 use Rattle.sg_facts.specs.declared.trace.Item.{Item}
 use Rattle.sg_facts.specs.declared.trace.Tag.{Tag}
 use Rattle.sg_facts.specs.declared.trace.Tag.TheVariants.{Walk, Load, Client}
-use Rattle.sg_facts.specs.Alike.{SameReply, Serves, named, under_names}
+use Rattle.sg_facts.specs.Alike.{SameReply, named, under_names}
 use Rattle.sg_facts.specs.Facts.{Facts, fun_at, is_visible, takes_desc}
 use Rattle.sg_facts.specs.Laws.{Passes, slow}
-use Rattle.sg_facts.specs.Needs.{is_needed, needs}
+use Rattle.sg_facts.specs.Needs.{is_needed}
 use Rattle.sg_facts.specs.Object.{Object, after, empty_object, file_at, object_from, object_of, path_of, given_after, patch_of}
-use Rattle.sg_facts.specs.Trace.{Boot, Run}
+use Rattle.sg_facts.specs.Trace.{Boot}
 use Rattle.sg_facts.specs.Track.{is_live, row_at, new_row, rows_after}
-use Rattle.sg_hist.specs.Reading.{Place, desc_in, desc_of, id_given, is_by_guard, is_item_of, is_tagged, items_of, names_at, places_from, places_in, service_call, value_at, after_item, ends_walk, entries_before, given_by, is_made, is_ok, is_rebuilt_at, made_by, names_in, pair_of}
-use Rattle.sg_hist.specs.Recovered.{IsByTable, IsCallOf, IsCommitted, IsItsCall, IsReplyOf, calls_made, is_replied, ends_stopped, is_clients, is_patch_at, is_stopped, is_walk_of}
-use Rattle.sg_recovery_laws.specs.Growing.{AreKept, IsItemOf, IsLastCall, IsNextItem, IsOfNoEntry, IsRecovering, IsSettled, last_items, noted, older_items, place_behind, IsGrown, last_stop}
-use Rattle.sg_recovery_laws.proofs.Given.{IsGiven, IsSameId, committed_given, given_same, is_numbered, names_same, HasEntry, IsSameFor, made_visible}
-use Rattle.sg_recovery_laws.proofs.Lists.{each_append, each_contains, each_map, each_split}
-use Rattle.sg_recovery_laws.proofs.Onward.{its_kept}
-use Rattle.sg_recovery_laws.proofs.Same.{IsSame, demanded_same, tracked_same, walked_same}
-use Rattle.sg_recovery_laws.proofs.Stays.{same_held}
-use Rattle.sg_world_laws.specs.Keeping.{AreDrawn, IsUp, Keeps, Setting, Stub, stubs_of, AreRooted, AreSeated, IsSettledObject}
-use Rattle.sg_held_laws.specs.Progress.{IsUnderWay, Told, fresh, begun, complete, IsNone, IsCounted, is_complete}
+use Rattle.sg_hist.specs.Reading.{Place, desc_of, id_given, is_by_guard, is_item_of, names_at, service_call, value_at, after_item, ends_walk, entries_before, given_by, is_ok, made_by, names_in, pair_of}
+use Rattle.sg_hist.specs.Recovered.{IsByTable, is_replied, ends_stopped, is_clients, is_patch_at, is_stopped, is_walk_of}
+use Rattle.sg_recovery_laws.specs.Growing.{IsOfNoEntry, IsRecovering, last_items, noted, older_items, IsGrown}
+use Rattle.sg_recovery_laws.proofs.Given.{IsGiven, IsSameId, is_numbered, names_same, HasEntry, IsSameFor, made_visible}
+use Rattle.sg_recovery_laws.proofs.Lists.{each_append, each_map, each_split}
+use Rattle.sg_world_laws.specs.Keeping.{AreDrawn, IsUp, Keeps, Setting, Stub, stubs_of, AreRooted, AreSeated}
+use Rattle.sg_held_laws.specs.Progress.{IsUnderWay, Told, complete, IsNone, IsCounted, is_complete}
 use Rattle.sg_object_laws.specs.Serving.{HasTime, IsGood, IsService, IsAnswered}
 use Rattle.sg_world_laws.specs.State.{Mark, Seat, State, Withdrawn, unanswered, waiting_in}
 use Rattle.sg_trace_laws.specs.Told.{IsRead}
 use Rattle.sg_object_laws.specs.Waiting.{AreWaiting, NoneBy}
-use Rattle.sg_world_laws.proofs.Ahead.{served_ahead}
-use Rattle.sg_world_laws.proofs.Asked.{next_es, serves_call}
-use Rattle.sg_held_laws.proofs.Back.{named_or_none}
 use Rattle.sg_trace_laws.specs.LastPlace.{last_place}
-use Rattle.sg_world_laws.proofs.Drawn.{drawn_waiting, object_behind, waiting_apart}
-use Rattle.sg_walk_laws.proofs.Found.{other_test, same_test, within}
-use Rattle.sg_recovery_laws.proofs.InBoots.{place_is, older_noted}
-use Rattle.sg_trace_laws.proofs.Replying.{reply_at}
+use Rattle.sg_world_laws.proofs.Drawn.{object_behind}
+use Rattle.sg_walk_laws.proofs.Found.{other_test, within}
+use Rattle.sg_recovery_laws.proofs.InBoots.{older_noted}
 use Rattle.sg_facts.specs.declared.tables.WalkLine.{WalkLine}
-use Rattle.std.specs.Str.{bytes_eq}
 use Rattle.std.proofs.lemmas.List.Folds.{list_any-append}
 use Rattle.sg_facts.specs.Counted.{CountedBelow, most_counted}
 use Rattle.sg_facts.specs.Guard.{guard}
 use Rattle.sg_facts.specs.Held.{AreReachable}
-use Rattle.sg_facts.specs.Legal.{LegalFrom, answer, refused_or}
+use Rattle.sg_facts.specs.Legal.{refused_or}
 use Rattle.sg_facts.specs.Sound.{IsRow, IsSound}
 use Rattle.sg_facts.proofs.RowLists.{live_of_row, row_of_live}
 use Rattle.sg_recovery_laws.proofs.Growing.{names_at-more, value_at-more}
 use Rattle.sg_held_laws.specs.Stepping.{present_with, told_with}
-use Rattle.sg_world_laws.proofs.Committing.{front_items, given_pushed, given_es, none_es, own, served_recovers}
+use Rattle.sg_world_laws.proofs.Committing.{given_pushed, given_es, none_es, own, served_recovers}
 use Rattle.sg_held_laws.proofs.Dropped.{under_dropped}
 use Rattle.sg_object_laws.proofs.Guarded.{acts, keeps}
 use Rattle.sg_trace_laws.proofs.Making.{entries_put, ids_put, read_made, read_put}
@@ -69,8 +59,8 @@ use Rattle.sg_world_laws.proofs.Returned.{legal_push}
 use Rattle.sg_object_laws.proofs.Serve.{names_served}
 use Rattle.sg_held_laws.proofs.Served.{same_patch_h, same_words, under_served}
 use Rattle.sg_object_laws.proofs.Serves.{fewer_behind}
-use Rattle.sg_object_laws.proofs.Steady.{after_good, ascends, fewer_after, others_stay}
-use Rattle.sg_object_laws.proofs.Waiting.{good_behind, hidden_is, time_after, waiting_after, less_time}
+use Rattle.sg_object_laws.proofs.Steady.{after_good, fewer_after, others_stay}
+use Rattle.sg_object_laws.proofs.Waiting.{good_behind, hidden_is, waiting_after, less_time}
 
 -- the names and what is told behind a reply
 abbrev pub names_by : Facts → List (ℕ × ℕ) → Call → Reply → Reply → List (ℕ × ℕ)
@@ -110,11 +100,11 @@ pub read_as : (facts : Facts) (walks : List WalkLine) (history : List Entry) (ol
     → ((id : ℕ) → is_live rows' id ≡ true → told' id ≡ told id) → ((path : List ℕ) → present' path ≡ present path)
     → IsRead facts walks history older front names told present rows → IsRead facts walks history older front names' told' present' rows'
 read_as facts walks history older front names names' told told' present present' rows rows' fewer zero_names same_names same_told same_present read = record {
-    names_are = λ x known. read.names_are x (was x known) ∙ sym (its x known);
-    whole = λ x live. read.whole x (fewer x live) ∙ ap is_complete (sym (same_told x live));
-    calls = λ x live. subst (λ t. IsCounted t (length (filter (λ item. is_walk_of x item.tag) front))) (sym (same_told x live)) (read.calls x (fewer x live));
-    files = λ path. read.files path ∙ sym (same_present path);
-  }
+  names_are = λ x known. read.names_are x (was x known) ∙ sym (its x known);
+  whole = λ x live. read.whole x (fewer x live) ∙ ap is_complete (sym (same_told x live));
+  calls = λ x live. subst (λ t. IsCounted t (length (filter (λ item. is_walk_of x item.tag) front))) (sym (same_told x live)) (read.calls x (fewer x live));
+  files = λ path. read.files path ∙ sym (same_present path);
+}
   where
     was : (x : ℕ) → IsNone rows' x → IsNone rows x
     was x (inl none) = inl none
@@ -143,7 +133,7 @@ module _ (z : Setting) (law : IsService z.iface.facts z.ask z.sound) (h : List E
     (call : Call) (item : Item) (passes : Passes z.iface.facts (object_of z.iface.facts h) call) (lets : guard z.iface (object_of z.iface.facts h) call ≡ None) (none_by : NoneBy call.client (waiting_in (length (b ∷ boots)) seats))
     (needed : (r : Row) → row_at (object_of z.iface.facts h).rows r.id ≡ Some r → is_needed z.iface.facts (object_of z.iface.facts h).rows call r ≡ true → stub.told r.id ≡ complete)
     (file : (fun_at z.iface.facts.funs call.fun).uses_file ≡ true
-      → (stub.present (path_of (object_of z.iface.facts h).rows call.desc) ≡ true) ⊎ (file_at (object_of z.iface.facts h).files (path_of (object_of z.iface.facts h).rows call.desc) ≡ []))
+    → (stub.present (path_of (object_of z.iface.facts h).rows call.desc) ≡ true) ⊎ (file_at (object_of z.iface.facts h).files (path_of (object_of z.iface.facts h).rows call.desc) ≡ []))
     (desc : IsNone (object_of z.iface.facts h).rows call.desc) (desc_needed : (r : Row) → r.id ≡ call.desc → is_needed z.iface.facts (object_of z.iface.facts h).rows call r ≡ true)
     (tag : item.tag ≡ Client call.client call.seq) (shown : item.shown ≡ call) (real : item.real ≡ named stub.names call.desc) (table : IsByTable z.iface.facts z.ask v (service_call item) item.outcome)
     (seqs : Each (λ e. e.call.client ≡ call.client → e.call.seq < call.seq) (h ++ waiting_in (length (b ∷ boots)) seats))
@@ -263,11 +253,12 @@ module _ (z : Setting) (law : IsService z.iface.facts z.ask z.sound) (h : List E
           → Each (λ x. guard z.iface (object_of z.iface.facts h) x.call ≡ None) es → Each (λ x. guard z.iface (after z.iface.facts (object_of z.iface.facts h) call reply) x.call ≡ None) es
       each_still [] none all was = tt
       each_still (x ∷ es) none all was =
-          let hidden = hidden_is z.iface.facts x.call.fun all.0.hidden in
-          (guard_stays z.iface z.ask z.sound law (object_of z.iface.facts h) (after z.iface.facts (object_of z.iface.facts h) call reply) x.call hidden.alone ok good_now
-          (acts z.iface.facts x.call.fun law.shape.shape all.0.answered.passes.is_call.first all.0.answered.passes.is_call.last)
-          (others_stay z.iface.facts z.ask z.sound law (object_of z.iface.facts h) call reply x.call.client hidden.alone ok answered_it (λ one. none.0 (sym one))) hidden.makes was.0,
-          each_still es none.1 all.2 was.1)
+          let hidden = hidden_is z.iface.facts x.call.fun all.0.hidden in (
+            guard_stays z.iface z.ask z.sound law (object_of z.iface.facts h) (after z.iface.facts (object_of z.iface.facts h) call reply) x.call hidden.alone ok good_now
+                (acts z.iface.facts x.call.fun law.shape.shape all.0.answered.passes.is_call.first all.0.answered.passes.is_call.last)
+                (others_stay z.iface.facts z.ask z.sound law (object_of z.iface.facts h) call reply x.call.client hidden.alone ok answered_it (λ one. none.0 (sym one))) hidden.makes was.0,
+            each_still es none.1 all.2 was.1,
+          )
 
   no_drawn : AreDrawn (waiting_in (length (b ∷ boots)) seats) []
   no_drawn = record { each = tt; apart = tt; few = omega arith }
@@ -317,7 +308,7 @@ module _ (z : Setting) (law : IsService z.iface.facts z.ask z.sound) (h : List E
         by true makes (Refused code) (Refused c) above next never = refl
         by true makes (Refused code) (Ok good) above next never = absurd (never code refl good refl)
 
-  -- what is read
+    -- what is read
     read_es : (r o : Reply) → item.outcome ≡ Replied o patch → z.ask (object_of z.iface.facts h) call ≡ Some r → z.ask v (under_names stub.names call) ≡ Some o
         → SameReply stub.names (fun_at z.iface.facts.funs call.fun).creation (Some r) (Some o) → id_given (h ++ e ∷ es) call.client call.seq ≡ desc_of r → patch ≡ patch_of z.iface.facts (object_of z.iface.facts h) call r
         → IsRead z.iface.facts z.walks (h ++ e ∷ es) (older_items [] (b ∷ boots)) (last_items (b ∷ boots) ++ item ∷ []) (names_by z.iface.facts stub.names call r o) (told_by z.iface.facts call r stub.told)
@@ -466,7 +457,7 @@ module _ (z : Setting) (law : IsService z.iface.facts z.ask z.sound) (h : List E
       each_map (λ x. is_by_guard x.reply || list_any (is_item_of x) (older_items [] (b ∷ boots) ++ last_items (b ∷ boots)) ≡ true)
       (λ x. is_by_guard x.reply || list_any (is_item_of x) (older_items [] (noted (b ∷ boots) item) ++ last_items (noted (b ∷ boots) item)) ≡ true) es
       (λ x has. ap (λ l. is_by_guard x.reply || list_any (is_item_of x) l) items_now ∙ ap (λ t. is_by_guard x.reply || t) (list_any-append (is_item_of x) (older_items [] (b ∷ boots) ++ last_items (b ∷ boots)) (item ∷ []))
-        ∙ longer_any (is_by_guard x.reply) (list_any (is_item_of x) (older_items [] (b ∷ boots) ++ last_items (b ∷ boots))) (is_item_of x item || false) has) all
+      ∙ longer_any (is_by_guard x.reply) (list_any (is_item_of x) (older_items [] (b ∷ boots) ++ last_items (b ∷ boots))) (is_item_of x item || false) has) all
     where
       longer_any : (g a x : Bool) → (g || a) ≡ true → (g || (a || x)) ≡ true
       longer_any true a x is = refl
@@ -549,7 +540,7 @@ module _ (z : Setting) (law : IsService z.iface.facts z.ask z.sound) (h : List E
       (ap (λ l. list_any (λ (n : ℕ × ℕ). n.0 == id) l) (names_es es drawn) ∙ up.unnamed es drawn id (less_given reply lt))
       ∙ pairs_es es drawn reply other outcome (its_id es drawn) id lt (λ good is makes. law.keeps.next (object_of z.iface.facts h) call good (answered ∙ ap (λ r. Some r) is) makes)
       (λ code is good is_o. never (fun_at z.iface.facts.funs call.fun).creation code good (subst (λ o. SameReply stub.names (fun_at z.iface.facts.funs call.fun).creation (Some (Refused code)) (Some o)) is_o
-        (subst (λ r. SameReply stub.names (fun_at z.iface.facts.funs call.fun).creation (Some r) (Some other)) is same)))
+      (subst (λ r. SameReply stub.names (fun_at z.iface.facts.funs call.fun).creation (Some r) (Some other)) is same)))
     where
       never : (q : Bool) (code : Code) (good : Good) → SameReply stub.names q (Some (Refused code)) (Some (Ok good)) → ⊥
       never true code good s = s

@@ -1,10 +1,10 @@
 -- A call that is served is committed with its item, whichever held replies are committed first: the run recovers, and the trace tells what
 -- the stubs do.
-use Rattle.std.proofs.Common.{◌≡◌, ℕ, zero, suc, ◌+◌, ◌^◌, ◌<◌, ◌≤◌, Bool, true, false, cond, not, List, [], ◌∷◌, ◌++◌, None, Some, length, length-append, map, refl, sym, ◌∙◌, ap, subst, inl, inr, ◌⊎◌, append_assoc, append-nil, arith}
-use Rattle.std.specs.Prelude.{◌==◌, ◌||◌, ◌&&◌, ◌≢◌, if◌then◌else◌, find, max}
+use Rattle.std.proofs.Common.{◌≡◌, ℕ, ◌<◌, ◌≤◌, Bool, true, false, cond, not, List, [], ◌∷◌, ◌++◌, None, Some, length, map, refl, sym, ◌∙◌, ap, subst, inl, inr, ◌⊎◌, arith}
+use Rattle.std.specs.Prelude.{◌==◌, ◌||◌, ◌&&◌, find}
 use Rattle.std.specs.List.{Contains, list_any}
 use Rattle.std.specs.declared.option.Option.{Option}
-use Rattle.std.proofs.lemmas.Bool.Decides.{eqb_tells, nat_tests}
+use Rattle.std.proofs.lemmas.Bool.Decides.{nat_tests}
 use Rattle.std.proofs.lemmas.List.Elements.{Contains-append_cases, Contains-append_left, Contains-append_right}
 use Rattle.sg_base.specs.Lists.{Each}
 use Rattle.sg_base.specs.declared.call.Call.{Call}
@@ -13,23 +13,21 @@ use Rattle.sg_base.specs.declared.reply.Code.{Code}
 use Rattle.sg_base.specs.declared.reply.Reply.{Reply}
 use Rattle.sg_base.specs.declared.reply.Reply.TheVariants.{Ok, Refused}
 use Rattle.sg_facts.specs.declared.entry.Entry.{Entry}
-use Rattle.sg_facts.specs.declared.outcome.Outcome.{Outcome}
 use Rattle.sg_facts.specs.declared.outcome.Outcome.TheVariants.{Replied}
 use Rattle.sg_facts.specs.declared.outcome.Patch.{Patch}
 use Rattle.sg_facts.specs.declared.row.Row.{Row}
 use Rattle.sg_facts.specs.declared.trace.Item.{Item}
-use Rattle.sg_facts.specs.declared.trace.Tag.{Tag}
-use Rattle.sg_facts.specs.declared.trace.Tag.TheVariants.{Walk, Load, Client}
+use Rattle.sg_facts.specs.declared.trace.Tag.TheVariants.{Client}
 use Rattle.sg_facts.specs.Alike.{SameReply, Serves, named, under_names}
 use Rattle.sg_facts.specs.Guard.{guard}
-use Rattle.sg_facts.specs.Facts.{Facts, fun_at, is_visible}
-use Rattle.sg_facts.specs.Laws.{Passes, slow}
-use Rattle.sg_facts.specs.Needs.{is_needed, needs}
-use Rattle.sg_facts.specs.Object.{Object, after, empty_object, file_at, object_from, object_of, path_of}
-use Rattle.sg_facts.specs.Trace.{Boot, Run}
-use Rattle.sg_facts.specs.Track.{is_live, row_at}
-use Rattle.sg_hist.specs.Reading.{Place, desc_in, desc_of, id_given, is_by_guard, is_item_of, is_tagged, items_of, names_at, places_from, places_in, service_call, value_at}
-use Rattle.sg_hist.specs.Recovered.{IsByTable, IsCallOf, IsCommitted, IsItsCall, IsReplyOf, calls_made, is_replied}
+use Rattle.sg_facts.specs.Facts.{fun_at, is_visible}
+use Rattle.sg_facts.specs.Laws.{Passes}
+use Rattle.sg_facts.specs.Needs.{is_needed}
+use Rattle.sg_facts.specs.Object.{Object, file_at, object_of, path_of}
+use Rattle.sg_facts.specs.Trace.{Boot}
+use Rattle.sg_facts.specs.Track.{row_at}
+use Rattle.sg_hist.specs.Reading.{Place, desc_in, desc_of, id_given, is_by_guard, is_item_of, is_tagged, items_of, names_at, places_from, places_in, service_call}
+use Rattle.sg_hist.specs.Recovered.{IsByTable, IsCallOf, IsCommitted, IsItsCall, IsReplyOf}
 use Rattle.sg_recovery_laws.specs.Growing.{AreKept, IsItemOf, IsLastCall, IsNextItem, IsOfNoEntry, IsRecovering, IsSettled, last_items, noted, older_items, place_behind}
 use Rattle.sg_recovery_laws.proofs.Given.{IsGiven, IsSameId, committed_given, given_same, is_numbered, names_same}
 use Rattle.sg_recovery_laws.proofs.Lists.{each_append, each_contains, each_map, each_split}
@@ -37,16 +35,14 @@ use Rattle.sg_recovery_laws.proofs.Onward.{its_kept}
 use Rattle.sg_recovery_laws.proofs.Same.{IsSame, demanded_same, tracked_same, walked_same}
 use Rattle.sg_recovery_laws.proofs.Stays.{same_held}
 use Rattle.sg_world_laws.specs.Keeping.{AreDrawn, IsUp, Keeps, Setting, Stub, stubs_of}
-use Rattle.sg_held_laws.specs.Progress.{IsUnderWay, Told, fresh, begun, complete, IsNone}
-use Rattle.sg_object_laws.specs.Serving.{HasTime, IsGood, IsService}
+use Rattle.sg_held_laws.specs.Progress.{complete, IsNone}
+use Rattle.sg_object_laws.specs.Serving.{IsGood, IsService}
 use Rattle.sg_world_laws.specs.State.{Mark, Seat, State, Withdrawn, unanswered, waiting_in}
-use Rattle.sg_trace_laws.specs.Told.{IsRead}
 use Rattle.sg_object_laws.specs.Waiting.{AreWaiting, NoneBy}
 use Rattle.sg_world_laws.proofs.Ahead.{served_ahead}
 use Rattle.sg_world_laws.proofs.Asked.{next_es, serves_call}
 use Rattle.sg_held_laws.proofs.Back.{named_or_none}
 use Rattle.sg_trace_laws.specs.LastPlace.{last_place}
-use Rattle.sg_world_laws.proofs.Drawn.{drawn_waiting}
 use Rattle.sg_walk_laws.proofs.Found.{other_test, same_test}
 use Rattle.sg_recovery_laws.proofs.InBoots.{place_is}
 use Rattle.sg_trace_laws.proofs.Replying.{reply_at}
@@ -86,7 +82,7 @@ module _ (z : Setting) (law : IsService z.iface.facts z.ask z.sound) (h : List E
     (call : Call) (item : Item) (passes : Passes z.iface.facts (object_of z.iface.facts h) call) (lets : guard z.iface (object_of z.iface.facts h) call ≡ None) (none_by : NoneBy call.client (waiting_in (length (b ∷ boots)) seats))
     (needed : (r : Row) → row_at (object_of z.iface.facts h).rows r.id ≡ Some r → is_needed z.iface.facts (object_of z.iface.facts h).rows call r ≡ true → stub.told r.id ≡ complete)
     (file : (fun_at z.iface.facts.funs call.fun).uses_file ≡ true
-      → (stub.present (path_of (object_of z.iface.facts h).rows call.desc) ≡ true) ⊎ (file_at (object_of z.iface.facts h).files (path_of (object_of z.iface.facts h).rows call.desc) ≡ []))
+    → (stub.present (path_of (object_of z.iface.facts h).rows call.desc) ≡ true) ⊎ (file_at (object_of z.iface.facts h).files (path_of (object_of z.iface.facts h).rows call.desc) ≡ []))
     (desc : IsNone (object_of z.iface.facts h).rows call.desc) (desc_needed : (r : Row) → r.id ≡ call.desc → is_needed z.iface.facts (object_of z.iface.facts h).rows call r ≡ true)
     (tag : item.tag ≡ Client call.client call.seq) (shown : item.shown ≡ call) (real : item.real ≡ named stub.names call.desc) (table : IsByTable z.iface.facts z.ask v (service_call item) item.outcome)
     (seqs : Each (λ e. e.call.client ≡ call.client → e.call.seq < call.seq) (h ++ waiting_in (length (b ∷ boots)) seats))
@@ -225,11 +221,11 @@ module _ (z : Setting) (law : IsService z.iface.facts z.ask z.sound) (h : List E
 
     pub item_es : IsItemOf z.iface.facts (h ++ es) (place_behind [] (b ∷ boots) item) e
     item_es = subst (λ p. IsItemOf z.iface.facts (h ++ es) p e) (sym (place_is [] b boots item)) (record {
-        tagged = own;
-        served = served_it;
-        shown = shown;
-        reply = reply_es ((h ++ es) ++ e ∷ []) names_es (given_pushed (h ++ es) e less_es []);
-      })
+      tagged = own;
+      served = served_it;
+      shown = shown;
+      reply = reply_es ((h ++ es) ++ e ∷ []) names_es (given_pushed (h ++ es) e less_es []);
+    })
 
     -- what it owes it owes with its entry too
     settled_es : IsSettled (stubs_of z) (h ++ es) (unanswered (record { history = h; run = record { boots = b ∷ boots; points = points }; running = Some v; seats = seats; withdrawn = withdrawn; marks = marks; events = events; refused = refused })) (last_place (older_items [] (b ∷ boots)) (last_items (b ∷ boots)) item)

@@ -1,14 +1,10 @@
 -- The world keeps what it keeps when a call of a client is served and its reply is held.
-use Rattle.std.proofs.Common.{◌≡◌, ℕ, zero, suc, ◌+◌, ◌^◌, ◌<◌, ◌≤◌, Bool, true, false, cond, not, List, [], ◌∷◌, ◌++◌, None, Some, length, length-append, map, refl, sym, ◌∙◌, ap, subst, inl, inr, ◌⊎◌, append_assoc, append-nil, arith}
-use Rattle.std.specs.Prelude.{◌==◌, ◌||◌, ◌&&◌, ◌≢◌, if◌then◌else◌, find, filter, max}
+use Rattle.std.proofs.Common.{◌≡◌, ℕ, suc, ◌^◌, ◌<◌, ◌≤◌, Bool, true, false, cond, List, [], ◌∷◌, ◌++◌, None, Some, length, refl, sym, ◌∙◌, ap, subst, inl, inr, ◌⊎◌, append_assoc, append-nil, arith}
+use Rattle.std.specs.Prelude.{◌==◌, ◌||◌, ◌&&◌, ◌≢◌, find}
 use Rattle.std.specs.List.{Contains, list_any}
 use Rattle.std.specs.declared.option.Option.{Option}
-use Rattle.std.proofs.lemmas.Bool.Decides.{eqb_tells, nat_tests}
-use Rattle.std.proofs.lemmas.List.Elements.{Contains-append_cases, Contains-append_left, Contains-append_right}
 use Rattle.sg_base.specs.Lists.{Each, When}
 use Rattle.sg_base.specs.declared.call.Call.{Call}
-use Rattle.sg_base.specs.declared.reply.Good.{Good}
-use Rattle.sg_base.specs.declared.reply.Code.{Code}
 use Rattle.sg_base.specs.declared.reply.Reply.{Reply}
 use Rattle.sg_base.specs.declared.reply.Reply.TheVariants.{Ok, Refused}
 use Rattle.sg_facts.specs.declared.entry.Entry.{Entry}
@@ -19,60 +15,43 @@ use Rattle.sg_facts.specs.declared.row.Row.{Row}
 use Rattle.sg_facts.specs.declared.trace.Item.{Item}
 use Rattle.sg_facts.specs.declared.trace.Tag.{Tag}
 use Rattle.sg_facts.specs.declared.trace.Tag.TheVariants.{Walk, Load, Client}
-use Rattle.sg_facts.specs.Alike.{SameReply, Serves, named, under_names}
-use Rattle.sg_facts.specs.Facts.{Facts, fun_at, is_visible, takes_desc}
-use Rattle.sg_facts.specs.Laws.{Passes, slow}
-use Rattle.sg_facts.specs.Needs.{is_needed, needs}
-use Rattle.sg_facts.specs.Object.{Object, after, empty_object, file_at, object_from, object_of, path_of, given_after, patch_of}
+use Rattle.sg_facts.specs.Alike.{SameReply, named, under_names}
+use Rattle.sg_facts.specs.Facts.{Facts, fun_at, is_visible}
+use Rattle.sg_facts.specs.Laws.{Passes}
+use Rattle.sg_facts.specs.Needs.{is_needed}
+use Rattle.sg_facts.specs.Object.{Object, after, file_at, object_from, object_of, path_of, patch_of}
 use Rattle.sg_facts.specs.Trace.{Boot, Run}
-use Rattle.sg_facts.specs.Track.{is_live, row_at, new_row, rows_after}
-use Rattle.sg_hist.specs.Reading.{Place, desc_in, desc_of, id_given, is_by_guard, is_item_of, is_tagged, items_of, names_at, places_from, places_in, service_call, value_at, after_item, ends_walk, entries_before, given_by, is_made, is_ok, is_rebuilt_at, made_by, names_in, pair_of, item_of}
-use Rattle.sg_hist.specs.Recovered.{IsByTable, IsCallOf, IsCommitted, IsItsCall, IsReplyOf, calls_made, is_replied, ends_stopped, is_clients, is_patch_at, is_stopped, is_walk_of, GivesEntry, is_visible_reply}
-use Rattle.sg_recovery_laws.specs.Growing.{AreKept, IsItemOf, IsLastCall, IsNextItem, IsOfNoEntry, IsRecovering, IsSettled, last_items, noted, older_items, place_behind, IsGrown, last_stop, HasOneMore, IsHeldReply}
-use Rattle.sg_recovery_laws.proofs.Given.{IsGiven, IsSameId, committed_given, given_same, is_numbered, names_same, HasEntry, IsSameFor, made_visible}
+use Rattle.sg_facts.specs.Track.{row_at}
+use Rattle.sg_hist.specs.Reading.{Place, desc_in, id_given, is_by_guard, is_item_of, names_at, service_call, value_at, after_item, ends_walk, entries_before, given_by, is_ok, made_by, names_in, pair_of, item_of}
+use Rattle.sg_hist.specs.Recovered.{IsByTable, is_replied, ends_stopped, is_clients, is_patch_at, is_stopped, is_walk_of, GivesEntry, is_visible_reply}
+use Rattle.sg_recovery_laws.specs.Growing.{IsOfNoEntry, IsRecovering, last_items, noted, older_items, place_behind, IsGrown}
+use Rattle.sg_recovery_laws.proofs.Given.{IsGiven, IsSameId, is_numbered, names_same, HasEntry, IsSameFor, made_visible}
 use Rattle.sg_recovery_laws.proofs.Lists.{each_append, each_contains, each_map, each_split}
-use Rattle.sg_recovery_laws.proofs.Onward.{its_kept}
-use Rattle.sg_recovery_laws.proofs.Same.{IsSame, demanded_same, tracked_same, walked_same}
-use Rattle.sg_recovery_laws.proofs.Stays.{same_held}
-use Rattle.sg_world_laws.specs.Keeping.{AreApart, AreDrawn, IsUp, Keeps, Setting, Stub, stubs_of, AreRooted, AreSeated, IsSettledObject}
-use Rattle.sg_held_laws.specs.Progress.{IsUnderWay, Told, fresh, begun, complete, IsNone, IsCounted, is_complete}
+use Rattle.sg_world_laws.specs.Keeping.{AreApart, AreDrawn, IsUp, Keeps, Setting, Stub, stubs_of, AreSeated}
+use Rattle.sg_held_laws.specs.Progress.{IsUnderWay, complete, IsNone}
 use Rattle.sg_object_laws.specs.Serving.{HasTime, IsGood, IsService, IsAnswered}
 use Rattle.sg_world_laws.specs.State.{Mark, Seat, State, Withdrawn, unanswered, waiting_in}
 use Rattle.sg_trace_laws.specs.Told.{IsRead}
 use Rattle.sg_object_laws.specs.Waiting.{AreWaiting, NoneBy}
 use Rattle.sg_world_laws.proofs.Ahead.{holds_ahead_with, noted_ahead}
-use Rattle.sg_world_laws.proofs.Asked.{next_es, serves_call}
-use Rattle.sg_held_laws.proofs.Back.{named_or_none}
 use Rattle.sg_trace_laws.specs.LastPlace.{last_place}
-use Rattle.sg_world_laws.proofs.Drawn.{drawn_waiting, committed_same, object_behind, waiting_apart, waiting_without}
-use Rattle.sg_walk_laws.proofs.Found.{other_test, same_test, within}
-use Rattle.sg_recovery_laws.proofs.InBoots.{place_is, older_noted}
-use Rattle.sg_trace_laws.proofs.Replying.{reply_at}
-use Rattle.sg_facts.specs.declared.tables.WalkLine.{WalkLine}
-use Rattle.std.specs.Str.{bytes_eq}
+use Rattle.sg_world_laws.proofs.Drawn.{committed_same, waiting_apart, waiting_without}
+use Rattle.sg_recovery_laws.proofs.InBoots.{older_noted}
 use Rattle.std.proofs.lemmas.List.Folds.{list_any-append}
-use Rattle.sg_facts.specs.Counted.{CountedBelow, most_counted}
+use Rattle.sg_facts.specs.Counted.{CountedBelow}
 use Rattle.sg_facts.specs.Guard.{guard}
 use Rattle.sg_facts.specs.Held.{AreReachable}
-use Rattle.sg_facts.specs.Legal.{LegalFrom, answer, refused_or}
-use Rattle.sg_facts.specs.Sound.{IsRow, IsSound}
-use Rattle.sg_facts.proofs.RowLists.{live_of_row, row_of_live}
+use Rattle.sg_facts.specs.Sound.{IsSound}
 use Rattle.sg_recovery_laws.proofs.Growing.{names_at-more, value_at-more, entries_before-more, places-more}
-use Rattle.sg_held_laws.specs.Stepping.{present_with, told_with}
-use Rattle.sg_world_laws.proofs.Committing.{given_pushed, given_es, hidden_ws, item_es, kept_es, last_es, next_old, none_es, own, served_it}
+use Rattle.sg_held_laws.specs.Stepping.{present_with}
+use Rattle.sg_world_laws.proofs.Committing.{given_es, hidden_ws, item_es, kept_es, last_es, next_old, none_es, own, served_it}
 use Rattle.sg_world_laws.proofs.Committed.{names_by, read_as, told_by}
-use Rattle.sg_world_laws.proofs.Split.{IsSplit, drawn_either}
+use Rattle.sg_world_laws.proofs.Split.{drawn_either}
 use Rattle.sg_held_laws.proofs.Dropped.{under_dropped}
-use Rattle.sg_object_laws.proofs.Guarded.{acts, keeps}
-use Rattle.sg_trace_laws.proofs.Making.{entries_put, ids_put, read_made, read_put}
-use Rattle.sg_object_laws.proofs.Narrow.{guard_stays}
+use Rattle.sg_trace_laws.proofs.Making.{entries_put, read_put}
 use Rattle.sg_world_laws.proofs.Replayed.{ends_with, front_noted, length_noted, stop_noted}
-use Rattle.sg_world_laws.proofs.Returned.{legal_push}
-use Rattle.sg_object_laws.proofs.Serve.{names_served}
 use Rattle.sg_held_laws.proofs.Served.{same_patch_h, same_words, under_served}
-use Rattle.sg_object_laws.proofs.Serves.{fewer_behind}
-use Rattle.sg_object_laws.proofs.Steady.{after_good, ascends, fewer_after, others_stay}
-use Rattle.sg_object_laws.proofs.Waiting.{good_behind, hidden_is, time_after, waiting_after, less_time}
+use Rattle.sg_object_laws.proofs.Waiting.{good_behind, hidden_is}
 use Rattle.sg_recovery_laws.proofs.Events.{own_item}
 use Rattle.sg_recovery_laws.proofs.Served.{item_of-own}
 
@@ -113,7 +92,7 @@ module _ (z : Setting) (law : IsService z.iface.facts z.ask z.sound) (h : List E
     (call : Call) (item : Item) (passes : Passes z.iface.facts (object_of z.iface.facts h) call) (lets : guard z.iface (object_of z.iface.facts h) call ≡ None) (none_by : NoneBy call.client (waiting_in (length (b ∷ boots)) seats))
     (needed : (r : Row) → row_at (object_of z.iface.facts h).rows r.id ≡ Some r → is_needed z.iface.facts (object_of z.iface.facts h).rows call r ≡ true → stub.told r.id ≡ complete)
     (file : (fun_at z.iface.facts.funs call.fun).uses_file ≡ true
-      → (stub.present (path_of (object_of z.iface.facts h).rows call.desc) ≡ true) ⊎ (file_at (object_of z.iface.facts h).files (path_of (object_of z.iface.facts h).rows call.desc) ≡ []))
+    → (stub.present (path_of (object_of z.iface.facts h).rows call.desc) ≡ true) ⊎ (file_at (object_of z.iface.facts h).files (path_of (object_of z.iface.facts h).rows call.desc) ≡ []))
     (desc : IsNone (object_of z.iface.facts h).rows call.desc) (desc_needed : (r : Row) → r.id ≡ call.desc → is_needed z.iface.facts (object_of z.iface.facts h).rows call r ≡ true)
     (tag : item.tag ≡ Client call.client call.seq) (shown : item.shown ≡ call) (real : item.real ≡ named stub.names call.desc) (table : IsByTable z.iface.facts z.ask v (service_call item) item.outcome)
     (seqs : Each (λ e. e.call.client ≡ call.client → e.call.seq < call.seq) (h ++ waiting_in (length (b ∷ boots)) seats))
@@ -226,7 +205,7 @@ module _ (z : Setting) (law : IsService z.iface.facts z.ask z.sound) (h : List E
         subst (λ l. IsRecovering (stubs_of z) (h ++ l) (record { boots = noted (b ∷ boots) item; points = points' }) (unanswered (record { history = h; run = record { boots = b ∷ boots; points = points }; running = Some v; seats = seats; withdrawn = withdrawn; marks = marks; events = events; refused = refused }))) (sym s.0.is)
         (holds_ahead_with (stubs_of z) h s.0.front s.0.rest e b boots points' (unanswered (record { history = h; run = record { boots = b ∷ boots; points = points }; running = Some v; seats = seats; withdrawn = withdrawn; marks = marks; events = events; refused = refused })) item (own z law h b boots points v seats withdrawn marks events refused stub k call item passes lets none_by needed file desc desc_needed tag shown real table seqs reply other patch outcome answered answered_v same (unanswered (record { history = h; run = record { boots = b ∷ boots; points = points }; running = Some v; seats = seats; withdrawn = withdrawn; marks = marks; events = events; refused = refused })) made last_u (λ x has. inr has)) (each_split (λ x. x.call.client ≢ call.client) s.0.front s.0.rest s.0.none).1
         (each_split (λ x. is_visible z.iface.facts x.call.fun ≡ false) s.0.front s.0.rest (each_map (Contains (pre ++ post)) (λ x. is_visible z.iface.facts x.call.fun ≡ false) (s.0.front ++ s.0.rest)
-          (λ x has. each_contains (λ y. is_visible z.iface.facts y.call.fun ≡ false) (pre ++ post) x (subst (Each (λ y. is_visible z.iface.facts y.call.fun ≡ false)) held_was (hidden_ws z law h b boots points v seats withdrawn marks events refused stub k call item passes lets none_by needed file desc desc_needed tag shown real table seqs reply other patch outcome answered answered_v same (unanswered (record { history = h; run = record { boots = b ∷ boots; points = points }; running = Some v; seats = seats; withdrawn = withdrawn; marks = marks; events = events; refused = refused })) made last_u (λ x has. inr has))) has) s.0.each)).1
+        (λ x has. each_contains (λ y. is_visible z.iface.facts y.call.fun ≡ false) (pre ++ post) x (subst (Each (λ y. is_visible z.iface.facts y.call.fun ≡ false)) held_was (hidden_ws z law h b boots points v seats withdrawn marks events refused stub k call item passes lets none_by needed file desc desc_needed tag shown real table seqs reply other patch outcome answered answered_v same (unanswered (record { history = h; run = record { boots = b ∷ boots; points = points }; running = Some v; seats = seats; withdrawn = withdrawn; marks = marks; events = events; refused = refused })) made last_u (λ x has. inr has))) has) s.0.each)).1
         (record { hidden = hidden; served = served_it z law h b boots points v seats withdrawn marks events refused stub k call item passes lets none_by needed file desc desc_needed tag shown real table seqs reply other patch outcome answered answered_v same (unanswered (record { history = h; run = record { boots = b ∷ boots; points = points }; running = Some v; seats = seats; withdrawn = withdrawn; marks = marks; events = events; refused = refused })) made last_u (λ x has. inr has); own = subst (GivesEntry z.iface.facts ((h ++ (s.0.front ++ s.0.rest)) ++ e ∷ []) e) (sym place_of_it) (it.shown, it.reply) })
         (last_es z law h b boots points v seats withdrawn marks events refused stub k call item passes lets none_by needed file desc desc_needed tag shown real table seqs reply other patch outcome answered answered_v same (unanswered (record { history = h; run = record { boots = b ∷ boots; points = points }; running = Some v; seats = seats; withdrawn = withdrawn; marks = marks; events = events; refused = refused })) made last_u (λ x has. inr has) (s.0.front ++ s.0.rest) d) (kept_es z law h b boots points v seats withdrawn marks events refused stub k call item passes lets none_by needed file desc desc_needed tag shown real table seqs reply other patch outcome answered answered_v same (unanswered (record { history = h; run = record { boots = b ∷ boots; points = points }; running = Some v; seats = seats; withdrawn = withdrawn; marks = marks; events = events; refused = refused })) made last_u (λ x has. inr has) (s.0.front ++ s.0.rest) d) (noted_now (s.0.front ++ s.0.rest) d))
   ]
@@ -252,7 +231,7 @@ module _ (z : Setting) (law : IsService z.iface.facts z.ask z.sound) (h : List E
       (read_put z.iface.facts z.walks (h ++ xs) (h ++ ys) (older_items [] (b ∷ boots)) (last_items (b ∷ boots)) item same_entries (given_any z.iface.facts h xs ys (last_items (b ∷ boots)) given_h) stub.names stub.told stub.present (object_of z.iface.facts h).rows
       (up.read xs drawn)
       (λ id. ap (λ t. is_ok item.outcome && made_by z.iface.facts (h ++ ys) id item.shown.fun t) tag ∙ ap (λ c. is_ok item.outcome && ((fun_at z.iface.facts.funs c.fun).creation && (id_given (h ++ ys) call.client call.seq == id))) shown
-        ∙ ap (λ q. is_ok item.outcome && (q && (id_given (h ++ ys) call.client call.seq == id))) quiet ∙ at (is_ok item.outcome))
+      ∙ ap (λ q. is_ok item.outcome && (q && (id_given (h ++ ys) call.client call.seq == id))) quiet ∙ at (is_ok item.outcome))
       (λ id. ap (is_walk_of id) tag)
       (λ id. ap (λ t. is_ok item.outcome && ends_walk z.iface.facts z.walks (h ++ ys) id (last_place (older_items [] (b ∷ boots)) (last_items (b ∷ boots)) item) t) tag ∙ at (is_ok item.outcome))
       (no_name ys))
@@ -310,13 +289,12 @@ module _ (z : Setting) (law : IsService z.iface.facts z.ask z.sound) (h : List E
       each_map (λ x. is_by_guard x.reply || list_any (is_item_of x) (older_items [] (b ∷ boots) ++ last_items (b ∷ boots)) ≡ true)
       (λ x. is_by_guard x.reply || list_any (is_item_of x) (older_items [] (noted (b ∷ boots) item) ++ last_items (noted (b ∷ boots) item)) ≡ true) es
       (λ x has. ap (λ l. is_by_guard x.reply || list_any (is_item_of x) l) items_now ∙ ap (λ t. is_by_guard x.reply || t) (list_any-append (is_item_of x) (older_items [] (b ∷ boots) ++ last_items (b ∷ boots)) (item ∷ []))
-        ∙ longer_any (is_by_guard x.reply) (list_any (is_item_of x) (older_items [] (b ∷ boots) ++ last_items (b ∷ boots))) (is_item_of x item || false) has) all
+      ∙ longer_any (is_by_guard x.reply) (list_any (is_item_of x) (older_items [] (b ∷ boots) ++ last_items (b ∷ boots))) (is_item_of x item || false) has) all
     where
       longer_any : (g a x : Bool) → (g || a) ≡ true → (g || (a || x)) ≡ true
       longer_any true a x is = refl
       longer_any false true x is = refl
       longer_any false false x is = absurd (cc is)
-
 
   own_item_now : is_by_guard reply || list_any (is_item_of e) (older_items [] (noted (b ∷ boots) item) ++ last_items (noted (b ∷ boots) item)) ≡ true
   own_item_now =
@@ -329,7 +307,6 @@ module _ (z : Setting) (law : IsService z.iface.facts z.ask z.sound) (h : List E
       last false false true is = refl
       last g a false is = absurd (cc is)
 
-
   gives : (t : Tag) → t ≡ Client call.client call.seq → given_by z.iface.facts v t (under_names stub.names call) (Replied other patch) ≡ after z.iface.facts v (under_names stub.names call) other
   gives (Walk i n x) is = absurd (cc is)
   gives (Load key x) is = absurd (cc is)
@@ -341,7 +318,6 @@ module _ (z : Setting) (law : IsService z.iface.facts z.ask z.sound) (h : List E
       sym (ap (value_at z.iface.facts) (front_noted b boots item) ∙ value_at-more z.iface.facts (last_items (b ∷ boots)) item ∙ ap (λ x. after_item z.iface.facts x item) (sym up.value)
       ∙ ap (λ c. given_by z.iface.facts v item.tag c item.outcome) call_is
       ∙ ap (given_by z.iface.facts v item.tag (under_names stub.names call)) outcome ∙ gives item.tag tag)
-
 
   -- the object behind all held replies is that behind the new one and the others
   behind_all : object_from z.iface.facts (after z.iface.facts (object_of z.iface.facts h) call reply) (waiting_in (length (b ∷ boots)) seats) ≡ object_from z.iface.facts (object_of z.iface.facts h) (pre ++ e ∷ post)
@@ -369,10 +345,10 @@ module _ (z : Setting) (law : IsService z.iface.facts z.ask z.sound) (h : List E
   unfolding moved_it
   under_now =
       let u : IsUnderWay z.iface z.walks (names_by z.iface.facts stub.names call reply other) (told_by z.iface.facts call reply stub.told) stub.present (object_from z.iface.facts (object_of z.iface.facts h) (pre ++ e ∷ post))
-          (after z.iface.facts v (under_names stub.names call) other)
+      (after z.iface.facts v (under_names stub.names call) other)
       = subst (λ o. IsUnderWay z.iface z.walks (names_by z.iface.facts stub.names call reply other) (told_by z.iface.facts call reply stub.told) stub.present o (after z.iface.facts v (under_names stub.names call) other)) behind_all
-          (subst (λ q. IsUnderWay z.iface z.walks (names_by z.iface.facts stub.names call reply other) (told_by z.iface.facts call reply stub.told) (present_with q stub.present)
-            (object_from z.iface.facts (after z.iface.facts (object_of z.iface.facts h) call reply) (waiting_in (length (b ∷ boots)) seats)) (after z.iface.facts v (under_names stub.names call) other)) (no_file reply) moved_it.under) in
+      (subst (λ q. IsUnderWay z.iface z.walks (names_by z.iface.facts stub.names call reply other) (told_by z.iface.facts call reply stub.told) (present_with q stub.present)
+      (object_from z.iface.facts (after z.iface.facts (object_of z.iface.facts h) call reply) (waiting_in (length (b ∷ boots)) seats)) (after z.iface.facts v (under_names stub.names call) other)) (no_file reply) moved_it.under) in
       under_dropped z.iface z.walks (names_by z.iface.facts stub.names call reply other) stub.names (object_from z.iface.facts (object_of z.iface.facts h) (pre ++ e ∷ post)) (after z.iface.facts v (under_names stub.names call) other)
       sound_all u.holds.names_are.none (λ x live. same_names reply other x) (λ x. inl (same_names reply other x)) (told_by z.iface.facts call reply stub.told) stub.told stub.present (λ x live. sym (same_told reply x)) u
 
@@ -395,7 +371,7 @@ module _ (z : Setting) (law : IsService z.iface.facts z.ask z.sound) (h : List E
   all_items : Each (λ x. is_by_guard x.reply || list_any (is_item_of x) (older_items [] (noted (b ∷ boots) item) ++ last_items (noted (b ∷ boots) item)) ≡ true) (pre ++ e ∷ post)
   all_items =
       let parts = each_split (λ x. is_by_guard x.reply || list_any (is_item_of x) (older_items [] (noted (b ∷ boots) item) ++ last_items (noted (b ∷ boots) item)) ≡ true) pre post
-          (more_items (pre ++ post) (subst (Each (λ x. is_by_guard x.reply || list_any (is_item_of x) (older_items [] (b ∷ boots) ++ last_items (b ∷ boots)) ≡ true)) held_was k.held_items)) in
+      (more_items (pre ++ post) (subst (Each (λ x. is_by_guard x.reply || list_any (is_item_of x) (older_items [] (b ∷ boots) ++ last_items (b ∷ boots)) ≡ true)) held_was k.held_items)) in
       each_append (λ x. is_by_guard x.reply || list_any (is_item_of x) (older_items [] (noted (b ∷ boots) item) ++ last_items (noted (b ∷ boots) item)) ≡ true) pre (e ∷ post) parts.0 (own_item_now, parts.1)
 
   -- the world keeps what it keeps

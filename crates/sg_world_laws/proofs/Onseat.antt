@@ -1,15 +1,14 @@
 -- A client's seat stays what it is where an answered call is committed that wakes it or leaves it waiting.
-use Rattle.std.proofs.Common.{◌≡◌, ℕ, zero, suc, ◌+◌, ◌^◌, ◌<◌, ◌≤◌, Bool, true, false, cond, List, [], ◌∷◌, ◌++◌, None, Some, length, refl, sym, ◌∙◌, ap, subst, inl, inr, ◌⊎◌, arith}
-use Rattle.sg_base.specs.declared.call.Call.{Call}
+use Rattle.std.proofs.Common.{◌≡◌, ℕ, ◌+◌, ◌^◌, ◌<◌, ◌≤◌, Bool, true, false, cond, List, [], ◌∷◌, ◌++◌, length, refl, ◌∙◌, ap}
 use Rattle.sg_facts.specs.declared.entry.Entry.{Entry}
 use Rattle.sg_facts.specs.Fits.{Fits}
 use Rattle.sg_facts.specs.Guard.{guard}
 use Rattle.sg_facts.specs.Laws.{slow}
 use Rattle.sg_facts.specs.Legal.{answer}
-use Rattle.sg_facts.specs.Object.{Object, after, empty_object, object_of}
+use Rattle.sg_facts.specs.Object.{empty_object, object_of}
 use Rattle.sg_world_laws.specs.Keeping.{IsSeated, IsSettledObject, Setting}
 use Rattle.sg_object_laws.specs.Serving.{IsAnswered, IsService}
-use Rattle.sg_world_laws.specs.State.{Phase, Seat, is_offered, wakes, woken, idle, asked, held, receipted, blocked, left}
+use Rattle.sg_world_laws.specs.State.{Phase, Seat, wakes, woken, idle, asked, held, receipted, blocked, left}
 use Rattle.sg_world_laws.proofs.Drawn.{object_behind}
 use Rattle.sg_world_laws.proofs.Turn.{seat_passes}
 use Rattle.sg_world_laws.proofs.Waits.{none_of, still_waits}

@@ -1,80 +1,37 @@
 -- The world keeps what it keeps when an item is noted that gives no name and no reply: a call that waits, and a load.
-use Rattle.std.proofs.Common.{◌≡◌, ℕ, zero, suc, ◌+◌, ◌^◌, ◌<◌, ◌≤◌, Bool, true, false, cond, not, List, [], ◌∷◌, ◌++◌, None, Some, length, length-append, map, refl, sym, ◌∙◌, ap, subst, inl, inr, ◌⊎◌, append_assoc, append-nil, arith}
-use Rattle.std.specs.Prelude.{◌==◌, ◌||◌, ◌&&◌, ◌≢◌, if◌then◌else◌, find, filter, max}
-use Rattle.std.specs.List.{Contains, list_any}
-use Rattle.std.specs.declared.option.Option.{Option}
-use Rattle.std.proofs.lemmas.Bool.Decides.{eqb_tells, nat_tests}
-use Rattle.std.proofs.lemmas.List.Elements.{Contains-append_cases, Contains-append_left, Contains-append_right}
-use Rattle.sg_base.specs.Lists.{Each, When}
-use Rattle.sg_base.specs.declared.call.Call.{Call}
-use Rattle.sg_base.specs.declared.reply.Good.{Good}
-use Rattle.sg_base.specs.declared.reply.Code.{Code}
-use Rattle.sg_base.specs.declared.reply.Reply.{Reply}
+use Rattle.std.proofs.Common.{◌≡◌, ℕ, ◌^◌, ◌<◌, ◌≤◌, Bool, true, false, List, [], ◌∷◌, ◌++◌, None, Some, length, refl, sym, ◌∙◌, ap, subst, append_assoc, append-nil}
+use Rattle.std.specs.Prelude.{◌==◌, ◌||◌}
+use Rattle.std.specs.List.{list_any}
+use Rattle.sg_base.specs.Lists.{Each}
 use Rattle.sg_base.specs.declared.reply.Reply.TheVariants.{Ok, Refused}
 use Rattle.sg_facts.specs.declared.entry.Entry.{Entry}
 use Rattle.sg_facts.specs.declared.outcome.Outcome.{Outcome}
 use Rattle.sg_facts.specs.declared.outcome.Outcome.TheVariants.{Replied, Blocks, Stopped, NoMemory}
-use Rattle.sg_facts.specs.declared.outcome.Patch.{Patch}
-use Rattle.sg_facts.specs.declared.row.Row.{Row}
 use Rattle.sg_facts.specs.declared.trace.Item.{Item}
 use Rattle.sg_facts.specs.declared.trace.Tag.{Tag}
 use Rattle.sg_facts.specs.declared.trace.Tag.TheVariants.{Walk, Load, Client}
-use Rattle.sg_facts.specs.Alike.{SameReply, Serves, named, under_names}
-use Rattle.sg_facts.specs.Facts.{Facts, fun_at, is_visible, takes_desc}
-use Rattle.sg_facts.specs.Laws.{Passes, slow}
-use Rattle.sg_facts.specs.Needs.{is_needed, needs}
-use Rattle.sg_facts.specs.Object.{Object, after, empty_object, file_at, object_from, object_of, path_of, given_after, patch_of}
-use Rattle.sg_facts.specs.Trace.{Boot, Run}
-use Rattle.sg_facts.specs.Track.{is_live, row_at, new_row, rows_after}
-use Rattle.sg_hist.specs.Reading.{Place, desc_in, desc_of, id_given, is_by_guard, is_item_of, is_tagged, items_of, names_at, places_from, places_in, service_call, value_at, after_item, ends_walk, entries_before, given_by, is_made, is_ok, is_rebuilt_at, made_by, names_in, pair_of, item_of}
-use Rattle.sg_hist.specs.Recovered.{IsByTable, IsCallOf, IsCommitted, IsItsCall, IsReplyOf, calls_made, is_replied, ends_stopped, is_clients, is_patch_at, is_stopped, is_walk_of, GivesEntry, is_visible_reply}
-use Rattle.sg_recovery_laws.specs.Growing.{AreKept, IsItemOf, IsLastCall, IsNextItem, IsOfNoEntry, IsRecovering, IsSettled, last_items, noted, older_items, place_behind, IsGrown, last_stop, HasOneMore, IsHeldReply}
-use Rattle.sg_recovery_laws.proofs.Given.{IsGiven, IsSameId, committed_given, given_same, is_numbered, names_same, HasEntry, IsSameFor, made_visible}
-use Rattle.sg_recovery_laws.proofs.Lists.{each_append, each_contains, each_map, each_split}
-use Rattle.sg_recovery_laws.proofs.Onward.{its_kept}
-use Rattle.sg_recovery_laws.proofs.Same.{IsSame, demanded_same, tracked_same, walked_same}
-use Rattle.sg_recovery_laws.proofs.Stays.{same_held}
-use Rattle.sg_world_laws.specs.Keeping.{AreDrawn, IsUp, Keeps, Setting, Stub, stubs_of, AreRooted, AreSeated, IsSettledObject}
-use Rattle.sg_held_laws.specs.Progress.{IsUnderWay, Told, fresh, begun, complete, IsNone, IsCounted, is_complete}
-use Rattle.sg_object_laws.specs.Serving.{HasTime, IsGood, IsService, IsAnswered}
+use Rattle.sg_facts.specs.Object.{Object, object_from, object_of}
+use Rattle.sg_facts.specs.Trace.{Boot}
+use Rattle.sg_hist.specs.Reading.{is_by_guard, is_item_of, names_at, value_at, after_item, is_made, is_rebuilt_at, names_in}
+use Rattle.sg_hist.specs.Recovered.{ends_stopped, is_patch_at, is_stopped, is_walk_of, is_visible_reply}
+use Rattle.sg_recovery_laws.specs.Growing.{IsNextItem, IsOfNoEntry, IsRecovering, last_items, noted, older_items, place_behind}
+use Rattle.sg_recovery_laws.proofs.Given.{IsSameId, IsSameFor}
+use Rattle.sg_recovery_laws.proofs.Lists.{each_map}
+use Rattle.sg_world_laws.specs.Keeping.{AreDrawn, IsUp, Keeps, Setting, Stub, stubs_of, AreSeated}
+use Rattle.sg_held_laws.specs.Progress.{IsUnderWay}
+use Rattle.sg_object_laws.specs.Serving.{IsService}
 use Rattle.sg_world_laws.specs.State.{Mark, Seat, State, Withdrawn, unanswered, waiting_in}
 use Rattle.sg_trace_laws.specs.Told.{IsRead}
-use Rattle.sg_object_laws.specs.Waiting.{AreWaiting, NoneBy}
-use Rattle.sg_world_laws.proofs.Ahead.{holds_ahead_with, noted_ahead}
-use Rattle.sg_world_laws.proofs.Asked.{next_es, serves_call}
-use Rattle.sg_held_laws.proofs.Back.{named_or_none}
+use Rattle.sg_object_laws.specs.Waiting.{AreWaiting}
+use Rattle.sg_world_laws.proofs.Ahead.{noted_ahead}
 use Rattle.sg_trace_laws.specs.LastPlace.{last_place}
-use Rattle.sg_world_laws.proofs.Drawn.{drawn_waiting, committed_same, object_behind, waiting_apart, waiting_without}
-use Rattle.sg_walk_laws.proofs.Found.{other_test, same_test, within}
-use Rattle.sg_recovery_laws.proofs.InBoots.{place_is, older_noted}
-use Rattle.sg_trace_laws.proofs.Replying.{reply_at}
-use Rattle.sg_facts.specs.declared.tables.WalkLine.{WalkLine}
-use Rattle.std.specs.Str.{bytes_eq}
+use Rattle.sg_recovery_laws.proofs.InBoots.{older_noted}
 use Rattle.std.proofs.lemmas.List.Folds.{list_any-append}
-use Rattle.sg_facts.specs.Counted.{CountedBelow, most_counted}
+use Rattle.sg_facts.specs.Counted.{CountedBelow}
 use Rattle.sg_facts.specs.Guard.{guard}
-use Rattle.sg_facts.specs.Held.{AreReachable}
-use Rattle.sg_facts.specs.Legal.{LegalFrom, answer, refused_or}
-use Rattle.sg_facts.specs.Sound.{IsRow, IsSound}
-use Rattle.sg_facts.proofs.RowLists.{live_of_row, row_of_live}
-use Rattle.sg_recovery_laws.proofs.Growing.{names_at-more, value_at-more, entries_before-more, places-more}
-use Rattle.sg_held_laws.specs.Stepping.{present_with, told_with}
-use Rattle.sg_world_laws.proofs.Committing.{given_pushed, given_es, hidden_ws, item_es, kept_es, last_es, next_old, none_es, own, served_it}
-use Rattle.sg_world_laws.proofs.Committed.{names_by, read_as, told_by}
-use Rattle.sg_world_laws.proofs.Split.{IsSplit, drawn_either}
-use Rattle.sg_held_laws.proofs.Dropped.{under_dropped}
-use Rattle.sg_object_laws.proofs.Guarded.{acts, keeps}
-use Rattle.sg_trace_laws.proofs.Making.{entries_put, ids_put, read_made, read_put}
-use Rattle.sg_object_laws.proofs.Narrow.{guard_stays}
+use Rattle.sg_recovery_laws.proofs.Growing.{names_at-more, value_at-more, entries_before-more}
+use Rattle.sg_trace_laws.proofs.Making.{read_put}
 use Rattle.sg_world_laws.proofs.Replayed.{ends_with, front_noted, length_noted, stop_noted}
-use Rattle.sg_world_laws.proofs.Returned.{legal_push}
-use Rattle.sg_object_laws.proofs.Serve.{names_served}
-use Rattle.sg_held_laws.proofs.Served.{same_patch_h, same_words, under_served}
-use Rattle.sg_object_laws.proofs.Serves.{fewer_behind}
-use Rattle.sg_object_laws.proofs.Steady.{after_good, ascends, fewer_after, others_stay}
-use Rattle.sg_object_laws.proofs.Waiting.{good_behind, hidden_is, time_after, waiting_after, less_time}
-use Rattle.sg_recovery_laws.proofs.Events.{own_item}
-use Rattle.sg_recovery_laws.proofs.Served.{item_of-own}
 
 module _ (z : Setting) (law : IsService z.iface.facts z.ask z.sound) (h : List Entry) (b : Boot) (boots : List Boot) (points : ℕ) (v : Object) (seats : List Seat) (withdrawn : List Withdrawn) (marks : List Mark)
     (events refused : ℕ) (stub : Stub)
@@ -110,13 +67,12 @@ module _ (z : Setting) (law : IsService z.iface.facts z.ask z.sound) (h : List E
       each_map (λ x. is_by_guard x.reply || list_any (is_item_of x) (older_items [] (b ∷ boots) ++ last_items (b ∷ boots)) ≡ true)
       (λ x. is_by_guard x.reply || list_any (is_item_of x) (older_items [] (noted (b ∷ boots) item) ++ last_items (noted (b ∷ boots) item)) ≡ true) es
       (λ x has. ap (λ l. is_by_guard x.reply || list_any (is_item_of x) l) items_now ∙ ap (λ t. is_by_guard x.reply || t) (list_any-append (is_item_of x) (older_items [] (b ∷ boots) ++ last_items (b ∷ boots)) (item ∷ []))
-        ∙ longer_any (is_by_guard x.reply) (list_any (is_item_of x) (older_items [] (b ∷ boots) ++ last_items (b ∷ boots))) (is_item_of x item || false) has) all
+      ∙ longer_any (is_by_guard x.reply) (list_any (is_item_of x) (older_items [] (b ∷ boots) ++ last_items (b ∷ boots))) (is_item_of x item || false) has) all
     where
       longer_any : (g a x : Bool) → (g || a) ≡ true → (g || (a || x)) ≡ true
       longer_any true a x is = refl
       longer_any false true x is = refl
       longer_any false false x is = absurd (cc is)
-
 
   self_ids : (l : List Entry) (front : List Item) → Each (IsSameId z.iface.facts l l) front
   self_ids l [] = tt

@@ -1,8 +1,7 @@
 -- The world keeps what it keeps when a call of a walk is replayed.
-use Rattle.std.proofs.Common.{◌≡◌, ℕ, zero, suc, ◌+◌, ◌^◌, ◌<◌, ◌≤◌, Bool, true, false, cond, not, List, [], ◌∷◌, ◌++◌, None, Some, length, length-append, map, take, refl, sym, ◌∙◌, ap, subst, inl, inr, ◌⊎◌, append_assoc, append-nil, arith}
-use Rattle.std.specs.Prelude.{◌==◌, ◌||◌, ◌&&◌, ◌≢◌, if◌then◌else◌, find, max}
+use Rattle.std.proofs.Common.{◌≡◌, ℕ, suc, ◌+◌, ◌^◌, ◌<◌, ◌≤◌, Bool, true, false, cond, not, List, [], ◌∷◌, ◌++◌, None, Some, length, map, take, refl, sym, ◌∙◌, ap, subst, inl, inr, ◌⊎◌, append_assoc, arith}
+use Rattle.std.specs.Prelude.{◌==◌, ◌||◌, ◌&&◌, ◌≢◌, find}
 use Rattle.std.specs.List.{Contains, list_any}
-use Rattle.std.specs.declared.option.Option.{Option}
 use Rattle.std.proofs.lemmas.Bool.Decides.{eqb_tells, nat_tests}
 use Rattle.std.proofs.lemmas.List.Elements.{Contains-append_right}
 use Rattle.std.proofs.lemmas.List.Folds.{list_any-append}
@@ -17,30 +16,30 @@ use Rattle.sg_facts.specs.declared.trace.Item.{Item}
 use Rattle.sg_facts.specs.declared.trace.Tag.{Tag}
 use Rattle.sg_facts.specs.declared.trace.Tag.TheVariants.{Walk, Load, Client}
 use Rattle.sg_facts.specs.Counted.{CountedBelow}
-use Rattle.sg_facts.specs.Alike.{HasAlike, named, under_names}
+use Rattle.sg_facts.specs.Alike.{named, under_names}
 use Rattle.sg_facts.specs.Facts.{Facts, is_visible}
 use Rattle.sg_facts.specs.Fits.{Fits}
 use Rattle.sg_facts.specs.Guard.{guard}
 use Rattle.sg_facts.specs.Held.{AreReachable, IsAt, ParentIsWhole, set_of}
 use Rattle.sg_facts.specs.Interface.{Declared}
-use Rattle.sg_facts.specs.Laws.{Passes, is_none, names_after, next_call, slow}
+use Rattle.sg_facts.specs.Laws.{Passes, is_none, names_after, next_call}
 use Rattle.sg_facts.specs.Needs.{is_needed, needs}
 use Rattle.sg_facts.specs.Object.{Object, after, empty_object, object_from, object_of, patch_of}
 use Rattle.sg_facts.specs.Sound.{IsRow, IsSound}
 use Rattle.sg_facts.specs.Tables.{AreTables}
-use Rattle.sg_facts.specs.Trace.{Boot, Run}
+use Rattle.sg_facts.specs.Trace.{Boot}
 use Rattle.sg_facts.specs.Track.{is_live, row_at}
 use Rattle.sg_facts.specs.Walks.{IsReachable, IsWalkOf, replayed_call}
 use Rattle.sg_facts.proofs.RowLists.{id_of_row, live_of_row, row_of_live}
-use Rattle.sg_hist.specs.Reading.{Place, after_item, given_by, is_by_guard, is_item_of, is_tagged, names_at, names_in, object_before, pair_of, service_call, value_at, walk_in}
-use Rattle.sg_hist.specs.Recovered.{AskedAs, IsByTable, IsCallOf, IsDemanded, IsItsCall, IsOkOrStopped, IsRebuiltFor, IsTrackedAt, IsWalked, ends_stopped, is_clients, is_replied, is_stopped, is_visible_reply}
-use Rattle.sg_recovery_laws.specs.Growing.{AreKept, IsNextItem, IsOfNoEntry, IsRecovering, IsSettled, last_items, last_stop, noted, older_items, place_behind}
+use Rattle.sg_hist.specs.Reading.{Place, after_item, given_by, is_by_guard, is_item_of, is_tagged, names_at, names_in, pair_of, service_call, value_at, walk_in}
+use Rattle.sg_hist.specs.Recovered.{AskedAs, IsByTable, IsCallOf, IsDemanded, IsItsCall, IsOkOrStopped, IsTrackedAt, IsWalked, ends_stopped, is_clients, is_replied, is_stopped, is_visible_reply}
+use Rattle.sg_recovery_laws.specs.Growing.{IsNextItem, IsOfNoEntry, IsRecovering, last_items, last_stop, noted, older_items, place_behind}
 use Rattle.sg_recovery_laws.proofs.Growing.{names_at-more, value_at-more}
 use Rattle.sg_recovery_laws.proofs.Lists.{each_append, each_contains, each_map, each_split}
-use Rattle.sg_world_laws.specs.Keeping.{AreApart, AreDrawn, IsSettledObject, IsUp, Keeps, Setting, Stub, stubs_of}
-use Rattle.sg_held_laws.specs.Progress.{IsBegun, IsSoFar, IsUnderWay, Told, fresh, begun, complete, IsCounted, IsNone, is_complete}
+use Rattle.sg_world_laws.specs.Keeping.{AreApart, AreDrawn, IsUp, Keeps, Setting, Stub, stubs_of}
+use Rattle.sg_held_laws.specs.Progress.{IsSoFar, IsUnderWay, Told, fresh, begun, complete, IsCounted, IsNone, is_complete}
 use Rattle.sg_object_laws.specs.Serving.{HasTime, IsGood, IsService}
-use Rattle.sg_world_laws.specs.State.{Mark, Seat, State, Withdrawn, unanswered, waiting, waiting_in}
+use Rattle.sg_world_laws.specs.State.{Mark, Seat, State, Withdrawn, unanswered, waiting_in}
 use Rattle.sg_held_laws.specs.Stepping.{IsStepped, told_after}
 use Rattle.sg_trace_laws.specs.Told.{IsRead}
 use Rattle.sg_object_laws.specs.Waiting.{AreWaiting, NoneBy}
@@ -51,7 +50,7 @@ use Rattle.sg_trace_laws.proofs.Behind.{object_before_last}
 use Rattle.sg_world_laws.proofs.Drawn.{drawn_waiting, object_behind}
 use Rattle.sg_walk_laws.proofs.Found.{other_test, within}
 use Rattle.sg_held_laws.proofs.Least.{IsLeast, least_row}
-use Rattle.sg_object_laws.proofs.Needed.{needed_back, needed_same, needs_same}
+use Rattle.sg_object_laws.proofs.Needed.{needs_same}
 use Rattle.sg_trace_laws.proofs.Noting.{admitted_last, least_told, walk_settled}
 use Rattle.sg_object_laws.proofs.Room.{guard_behind}
 use Rattle.sg_trace_laws.proofs.Reading.{read_walk}
@@ -59,7 +58,7 @@ use Rattle.sg_object_laws.proofs.Serves.{fewer_behind, needed_behind}
 use Rattle.sg_object_laws.proofs.Steady.{ascends}
 use Rattle.sg_held_laws.proofs.Stepping.{stepped}
 use Rattle.sg_held_laws.proofs.Tabled.{walk_is}
-use Rattle.sg_object_laws.proofs.Waiting.{good_behind, less_time}
+use Rattle.sg_object_laws.proofs.Waiting.{good_behind}
 
 -- ---- the last boot with an item more
 
@@ -256,11 +255,11 @@ module _ (z : Setting) (law : IsService z.iface.facts z.ask z.sound) (fits : Fit
     next_es : IsNextItem (stubs_of z) (h ++ es) (unanswered w) (place_behind [] (b ∷ boots) item)
     unfolding up
     next_es = subst (IsNextItem (stubs_of z) (h ++ es) (unanswered w)) (sym (place_is [] b boots item)) (record {
-        running = up.running;
-        table = table_of item.tag tag;
-        call = its_of item.tag tag;
-        settled = record { walk = walked item.tag tag; demand = demanded item.tag tag; state = state_of item.tag tag };
-      })
+      running = up.running;
+      table = table_of item.tag tag;
+      call = its_of item.tag tag;
+      settled = record { walk = walked item.tag tag; demand = demanded item.tag tag; state = state_of item.tag tag };
+    })
       where
         last : Place
         last = last_place (older_items [] (b ∷ boots)) (last_items (b ∷ boots)) item
@@ -294,13 +293,13 @@ module _ (z : Setting) (law : IsService z.iface.facts z.ask z.sound) (fits : Fit
 
         demanded : (t : Tag) → t ≡ Walk id (length done + 1) c → IsDemanded z.iface z.walks (h ++ es) (unanswered w) (last_place (older_items [] (b ∷ boots)) (last_items (b ∷ boots)) item) t
         demanded t is = subst (IsDemanded z.iface z.walks (h ++ es) (unanswered w) (last_place (older_items [] (b ∷ boots)) (last_items (b ∷ boots)) item)) (sym is) (record {
-            call = call;
-            admitted = admitted_last z.iface z.walks (h ++ es) (unanswered w) (older_items [] (b ∷ boots)) (last_items (b ∷ boots)) item stub.names stub.told stub.present (object_from z.iface.facts (object_of z.iface.facts h) es)
-                object_es sound_es (ascends z.iface.facts (object_from z.iface.facts (object_of z.iface.facts h) es) sound_es) none_es items_es read_es c call call_es seqs_es
-                (guard_behind z.iface z.ask z.sound law (object_of z.iface.facts h) es call ok time_es es_wait es_none passes.is_call.first passes.is_call.last lets);
-            least = least_told z.iface z.walks (h ++ es) (unanswered w) (older_items [] (b ∷ boots)) (last_items (b ∷ boots)) item stub.names stub.told stub.present (object_from z.iface.facts (object_of z.iface.facts h) es)
-                object_es sound_es (ascends z.iface.facts (object_from z.iface.facts (object_of z.iface.facts h) es) sound_es) none_es items_es read_es call id least_es;
-          })
+          call = call;
+          admitted = admitted_last z.iface z.walks (h ++ es) (unanswered w) (older_items [] (b ∷ boots)) (last_items (b ∷ boots)) item stub.names stub.told stub.present (object_from z.iface.facts (object_of z.iface.facts h) es)
+              object_es sound_es (ascends z.iface.facts (object_from z.iface.facts (object_of z.iface.facts h) es) sound_es) none_es items_es read_es c call call_es seqs_es
+              (guard_behind z.iface z.ask z.sound law (object_of z.iface.facts h) es call ok time_es es_wait es_none passes.is_call.first passes.is_call.last lets);
+          least = least_told z.iface z.walks (h ++ es) (unanswered w) (older_items [] (b ∷ boots)) (last_items (b ∷ boots)) item stub.names stub.told stub.present (object_from z.iface.facts (object_of z.iface.facts h) es)
+              object_es sound_es (ascends z.iface.facts (object_from z.iface.facts (object_of z.iface.facts h) es) sound_es) none_es items_es read_es call id least_es;
+        })
 
   -- ---- the world behind it
 
@@ -432,10 +431,10 @@ module _ (z : Setting) (law : IsService z.iface.facts z.ask z.sound) (fits : Fit
       each_map (λ e. is_by_guard e.reply || list_any (is_item_of e) (older_items [] (b ∷ boots) ++ last_items (b ∷ boots)) ≡ true)
       (λ e. is_by_guard e.reply || list_any (is_item_of e) (older_items [] (noted (b ∷ boots) item) ++ last_items (noted (b ∷ boots) item)) ≡ true) es
       (λ e has.
-        ap (λ l. is_by_guard e.reply || list_any (is_item_of e) l)
-        (ap (λ l. l ++ last_items (noted (b ∷ boots) item)) (older_noted [] b boots item) ∙ ap (λ l. older_items [] (b ∷ boots) ++ l) (front_noted b boots item) ∙ sym (append_assoc (older_items [] (b ∷ boots)) (last_items (b ∷ boots)) (item ∷ [])))
-        ∙ ap (λ t. is_by_guard e.reply || t) (list_any-append (is_item_of e) (older_items [] (b ∷ boots) ++ last_items (b ∷ boots)) (item ∷ []))
-        ∙ longer (is_by_guard e.reply) (list_any (is_item_of e) (older_items [] (b ∷ boots) ++ last_items (b ∷ boots))) (is_item_of e item || false) has) all
+      ap (λ l. is_by_guard e.reply || list_any (is_item_of e) l)
+      (ap (λ l. l ++ last_items (noted (b ∷ boots) item)) (older_noted [] b boots item) ∙ ap (λ l. older_items [] (b ∷ boots) ++ l) (front_noted b boots item) ∙ sym (append_assoc (older_items [] (b ∷ boots)) (last_items (b ∷ boots)) (item ∷ [])))
+      ∙ ap (λ t. is_by_guard e.reply || t) (list_any-append (is_item_of e) (older_items [] (b ∷ boots) ++ last_items (b ∷ boots)) (item ∷ []))
+      ∙ longer (is_by_guard e.reply) (list_any (is_item_of e) (older_items [] (b ∷ boots) ++ last_items (b ∷ boots))) (is_item_of e item || false) has) all
     where
       longer : (g a x : Bool) → (g || a) ≡ true → (g || (a || x)) ≡ true
       longer true a x is = refl

@@ -1,6 +1,6 @@
 -- The world keeps what it keeps where seats alone change: a reply is handed over, one that was held is lost, a call is offered or withdrawn, a client leaves.
-use Rattle.std.proofs.Common.{◌≡◌, ℕ, zero, suc, ◌+◌, ◌^◌, ◌<◌, ◌≤◌, Bool, true, false, List, [], ◌∷◌, ◌++◌, None, Some, length, map, refl, sym, ◌∙◌, ap, subst, inl, inr, ◌⊎◌, arith}
-use Rattle.std.specs.Prelude.{◌==◌, ◌||◌, ◌&&◌, ◌≢◌}
+use Rattle.std.proofs.Common.{◌≡◌, ℕ, ◌≤◌, true, List, [], ◌++◌, None, Some, length, map, sym, subst, inl, inr}
+use Rattle.std.specs.Prelude.{◌||◌}
 use Rattle.std.specs.List.{Contains, list_any}
 use Rattle.std.specs.declared.option.Option.{Option}
 use Rattle.std.proofs.lemmas.List.Elements.{Contains-append_cases, Contains-append_left, Contains-append_right}
@@ -9,11 +9,11 @@ use Rattle.sg_base.specs.declared.call.Call.{Call}
 use Rattle.sg_facts.specs.declared.entry.Entry.{Entry}
 use Rattle.sg_facts.specs.Guard.{guard}
 use Rattle.sg_facts.specs.Object.{Object, object_from, object_of}
-use Rattle.sg_facts.specs.Trace.{Boot, Run}
+use Rattle.sg_facts.specs.Trace.{Run}
 use Rattle.sg_hist.specs.Reading.{is_by_guard, is_item_of}
-use Rattle.sg_recovery_laws.specs.Growing.{AreKept, last_items, older_items}
+use Rattle.sg_recovery_laws.specs.Growing.{last_items, older_items}
 use Rattle.sg_recovery_laws.proofs.Onward.{made_stays}
-use Rattle.sg_world_laws.specs.Keeping.{AreDrawn, AreSeated, IsUp, Keeps, Runs, Setting, Stub, stubs_of}
+use Rattle.sg_world_laws.specs.Keeping.{AreDrawn, AreSeated, Keeps, Runs, Setting, Stub, stubs_of}
 use Rattle.sg_held_laws.specs.Progress.{IsUnderWay}
 use Rattle.sg_world_laws.specs.State.{Mark, Seat, State, Withdrawn, unanswered, waiting}
 use Rattle.sg_object_laws.specs.Waiting.{AreWaiting}
@@ -46,7 +46,7 @@ module _ (z : Setting) (h : List Entry) (run : Run) (seats seats' : List Seat) (
       ≡ waiting (record { history = h; run = run; running = r; seats = seats; withdrawn = withdrawn; marks = marks; events = events; refused = refused })
       → AreSeated z h 1 seats' → Each (λ s. s.boot ≤ length run.boots) seats'
       → ((x : Call) → Contains (unanswered (record { history = h; run = run; running = r; seats = seats; withdrawn = withdrawn; marks = marks; events = events; refused = refused })) x
-        → Contains (unanswered (record { history = h; run = run; running = r; seats = seats'; withdrawn = withdrawn'; marks = marks'; events = events; refused = refused })) x)
+      → Contains (unanswered (record { history = h; run = run; running = r; seats = seats'; withdrawn = withdrawn'; marks = marks'; events = events; refused = refused })) x)
       → Keeps z (record { history = h; run = run; running = r; seats = seats; withdrawn = withdrawn; marks = marks; events = events; refused = refused }) stub
       → Keeps z (record { history = h; run = run; running = r; seats = seats'; withdrawn = withdrawn'; marks = marks'; events = events; refused = refused }) stub
   keeps_now r same seated boots_few kept k = record {

@@ -1,16 +1,13 @@
 -- The world keeps what it keeps when a held reply is committed, whichever of those that are held.
-use Rattle.std.proofs.Common.{◌≡◌, ℕ, zero, suc, ◌+◌, ◌^◌, ◌<◌, ◌≤◌, Bool, true, false, cond, not, List, [], ◌∷◌, ◌++◌, None, Some, length, length-append, filter, refl, sym, ◌∙◌, ap, subst, inl, inr, ◌⊎◌, append_assoc, arith}
-use Rattle.std.specs.Prelude.{◌==◌, ◌||◌, ◌&&◌, ◌≢◌, if◌then◌else◌, max}
-use Rattle.std.specs.List.{Contains, list_any}
-use Rattle.std.specs.declared.option.Option.{Option}
+use Rattle.std.proofs.Common.{◌≡◌, ℕ, suc, ◌+◌, ◌^◌, ◌<◌, ◌≤◌, Bool, true, false, cond, List, [], ◌∷◌, ◌++◌, None, Some, length, length-append, filter, refl, sym, ◌∙◌, ap, subst, inl, inr, ◌⊎◌, append_assoc, arith}
+use Rattle.std.specs.Prelude.{◌==◌, ◌||◌, ◌≢◌}
+use Rattle.std.specs.List.{list_any}
 use Rattle.sg_base.specs.Lists.{Each}
-use Rattle.sg_base.specs.declared.call.Call.{Call}
 use Rattle.sg_base.specs.declared.reply.Reply.{Reply}
 use Rattle.sg_base.specs.declared.reply.Reply.TheVariants.{Ok, Refused}
 use Rattle.sg_facts.specs.declared.entry.Entry.{Entry}
-use Rattle.sg_facts.specs.declared.row.Row.{Row}
 use Rattle.sg_facts.specs.Counted.{most_counted}
-use Rattle.sg_facts.specs.Facts.{Facts, fun_at}
+use Rattle.sg_facts.specs.Facts.{fun_at}
 use Rattle.sg_facts.specs.Guard.{guard}
 use Rattle.sg_facts.specs.Held.{AreReachable}
 use Rattle.sg_facts.specs.Interface.{Declared}
@@ -19,17 +16,17 @@ use Rattle.sg_facts.specs.Legal.{LegalFrom, Table, answer, refused_or}
 use Rattle.sg_facts.specs.Object.{Object, after, empty_object, given_after, object_from, object_of}
 use Rattle.sg_facts.specs.Alike.{named}
 use Rattle.sg_facts.specs.Sound.{IsSound}
-use Rattle.sg_facts.specs.Trace.{Boot, Run}
-use Rattle.sg_facts.specs.Track.{is_live, row_at}
-use Rattle.sg_facts.proofs.RowLists.{live_of_row, row_of_live}
+use Rattle.sg_facts.specs.Trace.{Boot}
+use Rattle.sg_facts.specs.Track.{is_live}
+use Rattle.sg_facts.proofs.RowLists.{row_of_live}
 use Rattle.sg_hist.specs.Reading.{is_by_guard, is_item_of, names_at}
 use Rattle.sg_hist.specs.Recovered.{is_walk_of}
 use Rattle.sg_recovery_laws.specs.Growing.{AreKept, last_items, older_items}
-use Rattle.sg_recovery_laws.proofs.Lists.{each_append, each_map, each_split}
+use Rattle.sg_recovery_laws.proofs.Lists.{each_append, each_split}
 use Rattle.sg_recovery_laws.proofs.Onward.{made_stays}
-use Rattle.sg_world_laws.specs.Keeping.{AreApart, AreDrawn, AreRooted, AreSeated, IsSettledObject, IsUp, Keeps, Setting, Stub, stubs_of}
+use Rattle.sg_world_laws.specs.Keeping.{AreApart, AreDrawn, AreRooted, AreSeated, IsUp, Keeps, Setting, Stub, stubs_of}
 use Rattle.sg_held_laws.specs.Progress.{IsUnderWay, Told, IsCounted, IsNone, is_complete}
-use Rattle.sg_object_laws.specs.Serving.{HasTime, IsAnswered, IsGood, IsService}
+use Rattle.sg_object_laws.specs.Serving.{HasTime, IsGood, IsService}
 use Rattle.sg_world_laws.specs.State.{Mark, Seat, State, Withdrawn, unanswered, waiting_in}
 use Rattle.sg_trace_laws.specs.Told.{IsRead}
 use Rattle.sg_object_laws.specs.Waiting.{AreWaiting, IsWaiting, NoneBy}
@@ -40,7 +37,7 @@ use Rattle.sg_object_laws.proofs.Narrow.{guard_stays}
 use Rattle.sg_object_laws.proofs.Serves.{fewer_behind}
 use Rattle.sg_object_laws.proofs.Steady.{after_good, others_stay}
 use Rattle.sg_held_laws.proofs.Dropped.{under_dropped}
-use Rattle.sg_object_laws.proofs.Waiting.{good_behind, hidden_is, time_after}
+use Rattle.sg_object_laws.proofs.Waiting.{good_behind, hidden_is}
 
 pub legal_push : (i : Declared) (ask : Table) (o : Object) (h : List Entry) (e : Entry) → LegalFrom i ask o h → answer i ask (object_from i.facts o h) e.call ≡ Some e.reply → LegalFrom i ask o (h ++ e ∷ [])
 legal_push i ask o [] e legal is = (is, tt)
@@ -58,7 +55,7 @@ module _ (z : Setting) (law : IsService z.iface.facts z.ask z.sound) (h : List E
     (same_told : (id : ℕ) → is_live (after z.iface.facts (object_of z.iface.facts h) p.call p.reply).rows id ≡ true → told' id ≡ stub.told id)
     (live_names : (id : ℕ) → (named names' id ≡ 0) ⊎ (is_live (after z.iface.facts (object_of z.iface.facts h) p.call p.reply).rows id ≡ true))
     (kept : (es : List Entry) → AreKept ((h ++ p ∷ []) ++ es) (unanswered (record { history = h; run = record { boots = boots; points = points }; running = Some v; seats = seats; withdrawn = withdrawn; marks = marks; events = events; refused = refused }))
-      ((h ++ p ∷ []) ++ es) (unanswered (record { history = h ++ p ∷ []; run = record { boots = boots; points = points }; running = Some v; seats = seats'; withdrawn = withdrawn; marks = marks'; events = events; refused = refused }))) where
+    ((h ++ p ∷ []) ++ es) (unanswered (record { history = h ++ p ∷ []; run = record { boots = boots; points = points }; running = Some v; seats = seats'; withdrawn = withdrawn; marks = marks'; events = events; refused = refused }))) where
   abbrev later : State
   later = record { history = h ++ p ∷ []; run = record { boots = boots; points = points }; running = Some v; seats = seats'; withdrawn = withdrawn; marks = marks'; events = events; refused = refused }
 
@@ -151,11 +148,12 @@ module _ (z : Setting) (law : IsService z.iface.facts z.ask z.sound) (h : List E
           → Each (λ e. guard z.iface (object_of z.iface.facts h) e.call ≡ None) es → Each (λ e. guard z.iface (after z.iface.facts (object_of z.iface.facts h) p.call p.reply) e.call ≡ None) es
       each_still [] none all was = tt
       each_still (e ∷ es) none all was =
-          let hidden = hidden_is z.iface.facts e.call.fun all.0.hidden in
-          (guard_stays z.iface z.ask z.sound law (object_of z.iface.facts h) (after z.iface.facts (object_of z.iface.facts h) p.call p.reply) e.call hidden.alone ok good_now
-          (acts z.iface.facts e.call.fun law.shape.shape all.0.answered.passes.is_call.first all.0.answered.passes.is_call.last)
-          (others_stay z.iface.facts z.ask z.sound law (object_of z.iface.facts h) p.call p.reply e.call.client hidden.alone ok its.answered (λ same. none.0 (sym same))) hidden.makes was.0,
-          each_still es none.1 all.2 was.1)
+          let hidden = hidden_is z.iface.facts e.call.fun all.0.hidden in (
+            guard_stays z.iface z.ask z.sound law (object_of z.iface.facts h) (after z.iface.facts (object_of z.iface.facts h) p.call p.reply) e.call hidden.alone ok good_now
+                (acts z.iface.facts e.call.fun law.shape.shape all.0.answered.passes.is_call.first all.0.answered.passes.is_call.last)
+                (others_stay z.iface.facts z.ask z.sound law (object_of z.iface.facts h) p.call p.reply e.call.client hidden.alone ok its.answered (λ same. none.0 (sym same))) hidden.makes was.0,
+            each_still es none.1 all.2 was.1,
+          )
 
   -- 0 names nothing
   zero_names : named names' 0 ≡ named stub.names 0

@@ -1,6 +1,6 @@
 -- Seats under wake-ups: what is offered stays, and who holds a reply goes on to.
-use Rattle.std.proofs.Common.{◌≡◌, ℕ, zero, suc, ◌+◌, ◌<◌, ◌≤◌, Bool, true, false, cond, List, [], ◌∷◌, ◌++◌, length, map, refl, sym, ◌∙◌, ap, subst, inl, inr, ◌⊎◌, arith}
-use Rattle.std.specs.Prelude.{◌==◌, ◌||◌, ◌&&◌, ◌≢◌, if◌then◌else◌}
+use Rattle.std.proofs.Common.{◌≡◌, ℕ, ◌+◌, ◌≤◌, Bool, true, false, cond, List, [], ◌∷◌, ◌++◌, map, refl, sym, ◌∙◌, ap, subst, inl, inr, ◌⊎◌, arith}
+use Rattle.std.specs.Prelude.{◌==◌, if◌then◌else◌}
 use Rattle.std.specs.List.{flat_map}
 use Rattle.sg_base.specs.Lists.{Each}
 use Rattle.sg_base.specs.declared.call.Call.{Call}
@@ -89,13 +89,13 @@ seated_woken z history test client (s ∷ seats) all = (by (woken_is test s) all
     by : (woken test s ≡ s) ⊎ ((s.phase ≡ blocked) × (woken test s ≡ record s { phase = asked })) → IsSeated z history client s → IsSeated z history client (woken test s)
     by (inl same) is = subst (IsSeated z history client) (sym same) is
     by (inr was) is = subst (IsSeated z history client) (sym was.1) (record {
-        its = λ offer. is.its (ap is_offered was.0);
-        next = λ offer. is.next (ap is_offered was.0);
-        declared = λ offer. is.declared (ap is_offered was.0);
-        fits = λ offer. is.fits (ap is_offered was.0);
-        words = λ offer. is.words (ap is_offered was.0);
-        waits = λ isnt. absurd (cc isnt);
-      })
+      its = λ offer. is.its (ap is_offered was.0);
+      next = λ offer. is.next (ap is_offered was.0);
+      declared = λ offer. is.declared (ap is_offered was.0);
+      fits = λ offer. is.fits (ap is_offered was.0);
+      words = λ offer. is.words (ap is_offered was.0);
+      waits = λ isnt. absurd (cc isnt);
+    })
 
     so : (woken test s ≡ s) ⊎ ((s.phase ≡ blocked) × (woken test s ≡ record s { phase = asked })) → Each (λ e. e.call.client ≡ client → e.call.seq ≤ s.seq) history → Each (λ e. e.call.client ≡ client → e.call.seq ≤ (woken test s).seq) history
     so (inl same) is = subst (λ x. Each (λ e. e.call.client ≡ client → e.call.seq ≤ x.seq) history) (sym same) is

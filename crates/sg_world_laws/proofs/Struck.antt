@@ -1,15 +1,13 @@
 -- The world keeps what it keeps when the service stops: between calls, in a call of a walk or of a client, or behind a commit.
-use Rattle.std.proofs.Common.{◌≡◌, ℕ, zero, suc, ◌+◌, ◌^◌, ◌<◌, ◌≤◌, Bool, true, false, List, [], ◌∷◌, ◌++◌, None, Some, length, map, refl, sym, ◌∙◌, ap, subst, arith}
-use Rattle.std.specs.Prelude.{◌||◌, ◌&&◌, IsSome}
+use Rattle.std.proofs.Common.{◌≡◌, ℕ, suc, ◌≤◌, true, List, [], ◌∷◌, ◌++◌, None, Some, length, refl, sym, ◌∙◌, ap, subst, arith}
+use Rattle.std.specs.Prelude.{◌||◌, IsSome}
 use Rattle.std.specs.List.{list_any}
-use Rattle.std.specs.declared.option.Option.{Option}
 use Rattle.sg_base.specs.Lists.{Each}
-use Rattle.sg_base.specs.declared.call.Call.{Call}
 use Rattle.sg_facts.specs.declared.entry.Entry.{Entry}
 use Rattle.sg_facts.specs.declared.trace.Item.{Item}
 use Rattle.sg_facts.specs.Held.{AreReachable}
 use Rattle.sg_facts.specs.Object.{Object, object_from, object_of}
-use Rattle.sg_facts.specs.Trace.{Boot, Run}
+use Rattle.sg_facts.specs.Trace.{Boot}
 use Rattle.sg_hist.specs.Reading.{is_by_guard, is_item_of}
 use Rattle.sg_recovery_laws.specs.Growing.{IsRecovering, last_items, last_stop, older_items, struck}
 use Rattle.sg_recovery_laws.proofs.Onward.{struck_stays}
@@ -45,7 +43,7 @@ module _ (z : Setting) (h : List Entry) (boots : List Boot) (points : ℕ) (v : 
     (b : Boot) (more : List Boot) (points' stop : ℕ) (long : length (b ∷ more) ≡ length boots)
     (entered : Each (λ e. is_by_guard e.reply || list_any (is_item_of e) (older_items [] (b ∷ more) ++ last_items (b ∷ more)) ≡ true) h)
     (recovers : IsRecovering (stubs_of z) (h ++ []) (record { boots = b ∷ more; points = points' })
-      (unanswered (record { history = h; run = record { boots = boots; points = points }; running = Some v; seats = seats; withdrawn = withdrawn; marks = marks; events = events; refused = refused }))) where
+    (unanswered (record { history = h; run = record { boots = boots; points = points }; running = Some v; seats = seats; withdrawn = withdrawn; marks = marks; events = events; refused = refused }))) where
   abbrev pub later : State
   later = record { history = h; run = record { boots = struck (b ∷ more) stop; points = stop }; running = None; seats = seats; withdrawn = withdrawn; marks = marks; events = events; refused = refused }
 

@@ -1,14 +1,11 @@
 -- What a client's seat tells of its call, once the guard lets it pass.
-use Rattle.std.proofs.Common.{◌≡◌, ℕ, zero, suc, ◌+◌, ◌^◌, ◌<◌, ◌≤◌, Bool, true, false, cond, List, [], ◌∷◌, ◌++◌, None, Some, length, refl, sym, ◌∙◌, ap, subst, inl, inr, ◌⊎◌, arith}
-use Rattle.std.specs.Prelude.{◌==◌, ◌||◌, ◌&&◌, ◌≢◌, nat_le}
-use Rattle.sg_base.specs.Lists.{Each}
-use Rattle.sg_base.specs.declared.call.Call.{Call}
+use Rattle.std.proofs.Common.{◌≡◌, ℕ, ◌+◌, ◌^◌, ◌<◌, ◌≤◌, Bool, true, false, cond, List, [], ◌∷◌, None, length, refl, sym, ◌∙◌, ap, subst, inl, inr, ◌⊎◌, arith}
+use Rattle.std.specs.Prelude.{◌≢◌}
 use Rattle.sg_facts.specs.declared.entry.Entry.{Entry}
 use Rattle.sg_facts.specs.Fits.{Fits}
 use Rattle.sg_facts.specs.Guard.{guard}
-use Rattle.sg_facts.specs.Interface.{declares}
 use Rattle.sg_facts.specs.Laws.{Passes, slow}
-use Rattle.sg_facts.specs.Object.{Object, object_of}
+use Rattle.sg_facts.specs.Object.{object_of}
 use Rattle.sg_world_laws.specs.Keeping.{AreSeated, IsSeated, IsSettledObject, Setting}
 use Rattle.sg_world_laws.specs.State.{Phase, Seat, is_held_in, is_offered, waiting_in, idle, asked, held, receipted, blocked, left}
 use Rattle.sg_object_laws.specs.Waiting.{NoneBy}

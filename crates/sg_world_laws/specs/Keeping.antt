@@ -1,14 +1,11 @@
 -- What the world keeps after every event.
-use Rattle.std.specs.Prelude.{ℕ, ◌≡◌, ◌≢◌, ◌⊎◌, ◌+◌, ◌*◌, ◌^◌, ◌<◌, ◌≤◌, ◌==◌, ◌||◌, Bool, true, false, List, [], ◌∷◌, ◌++◌, None, Some, IsSome, length}
-use Rattle.std.specs.List.{Contains, flat_map, list_any}
+use Rattle.std.specs.Prelude.{ℕ, ◌≡◌, ◌⊎◌, ◌+◌, ◌^◌, ◌<◌, ◌≤◌, ◌==◌, ◌||◌, Bool, true, false, List, [], ◌∷◌, ◌++◌, None, Some, IsSome, length}
+use Rattle.std.specs.List.{Contains, list_any}
 use Rattle.std.specs.declared.option.Option.{Option}
 use Rattle.sg_base.specs.Lists.{Each}
-use Rattle.sg_base.specs.declared.call.Call.{Call}
-use Rattle.sg_base.specs.declared.reply.Reply.{Reply}
 use Rattle.sg_facts.specs.declared.entry.Entry.{Entry}
 use Rattle.sg_facts.specs.declared.row.Row.{Row}
 use Rattle.sg_facts.specs.declared.tables.WalkLine.{WalkLine}
-use Rattle.sg_facts.specs.declared.trace.Item.{Item}
 use Rattle.sg_facts.specs.Alike.{named}
 use Rattle.sg_facts.specs.Counted.{CountedBelow, most_counted}
 use Rattle.sg_facts.specs.Facts.{Facts, fun_at, takes_parent}
@@ -19,15 +16,13 @@ use Rattle.sg_facts.specs.Kinds.{AreWords, FitsKinds, may_be_root}
 use Rattle.sg_facts.specs.Laws.{slow}
 use Rattle.sg_facts.specs.Legal.{LegalFrom, Table, answer}
 use Rattle.sg_facts.specs.Object.{Object, empty_object, object_from, object_of}
-use Rattle.sg_facts.specs.Tables.{AreTables}
-use Rattle.sg_facts.specs.Trace.{Boot, Run}
 use Rattle.sg_facts.specs.Track.{is_live, row_at}
-use Rattle.sg_hist.specs.Reading.{Place, is_by_guard, is_item_of, items_of, names_at, value_at}
+use Rattle.sg_hist.specs.Reading.{is_by_guard, is_item_of, names_at, value_at}
 use Rattle.sg_hist.specs.Recovered.{Stubs, ends_stopped}
-use Rattle.sg_recovery_laws.specs.Growing.{IsRecovering, last_items, last_stop, older_items, place_behind}
-use Rattle.sg_held_laws.specs.Progress.{IsUnderWay, Told, fresh, begun, complete}
-use Rattle.sg_object_laws.specs.Serving.{HasTime, IsGood, IsService}
-use Rattle.sg_world_laws.specs.State.{Phase, Seat, State, waiting, unanswered, boot_number, is_offered, idle, asked, held, receipted, blocked, left}
+use Rattle.sg_recovery_laws.specs.Growing.{IsRecovering, last_items, last_stop, older_items}
+use Rattle.sg_held_laws.specs.Progress.{IsUnderWay, Told}
+use Rattle.sg_object_laws.specs.Serving.{IsGood}
+use Rattle.sg_world_laws.specs.State.{Seat, State, waiting, unanswered, is_offered, blocked}
 use Rattle.sg_trace_laws.specs.Told.{IsRead}
 use Rattle.sg_object_laws.specs.Waiting.{AreWaiting, NoneBy}
 
@@ -60,8 +55,6 @@ pub record AreDrawn (held es : List Entry) : Type 0 where
   pub few : length es ≤ length held
 
 -- the items of the running boot, and those before
-
-
 
 -- no row is a root whose function doesn't allow it
 abbrev pub AreRooted : Facts → List Row → Type 0

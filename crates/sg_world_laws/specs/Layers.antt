@@ -1,26 +1,25 @@
 -- The clauses of the layers below the world: what a cell, an engine and their parts are asked and answer, as records over plain data.
-use Rattle.std.specs.Prelude.{ℕ, ◌≡◌, ◌≢◌, ◌⊎◌, ◌+◌, ◌<◌, ◌≤◌, ◌==◌, Bool, true, false, if◌then◌else◌, List, [], ◌∷◌, ◌++◌, None, Some, IsSome, find, length, not}
+use Rattle.std.specs.Prelude.{ℕ, ◌≡◌, ◌≢◌, ◌⊎◌, ◌+◌, ◌<◌, ◌≤◌, ◌==◌, false, if◌then◌else◌, List, [], ◌∷◌, ◌++◌, None, Some, IsSome, find, length, not}
 use Rattle.std.specs.declared.option.Option.{Option}
 use Rattle.sg_base.specs.Stops.{asked_after}
 use Rattle.sg_base.specs.declared.call.Call.{Call}
 use Rattle.sg_base.specs.declared.reply.Good.{Good}
 use Rattle.sg_base.specs.declared.reply.Reply.{Reply}
-use Rattle.sg_base.specs.declared.reply.Reply.TheVariants.{Ok, Refused}
+use Rattle.sg_base.specs.declared.reply.Reply.TheVariants.{Ok}
 use Rattle.sg_facts.specs.declared.outcome.Outcome.{Outcome}
 use Rattle.sg_facts.specs.declared.outcome.Outcome.TheVariants.{Replied, Blocks, Stopped, NoMemory}
-use Rattle.sg_facts.specs.declared.outcome.Patch.{Patch}
 use Rattle.sg_facts.specs.declared.row.Row.{Row}
 use Rattle.sg_facts.specs.declared.tables.WalkLine.{WalkLine}
 use Rattle.sg_facts.specs.declared.trace.Item.{Item}
 use Rattle.sg_facts.specs.declared.trace.Tag.{Tag}
-use Rattle.sg_facts.specs.declared.trace.Tag.TheVariants.{Walk, Load, Client}
+use Rattle.sg_facts.specs.declared.trace.Tag.TheVariants.{Load}
 use Rattle.sg_facts.specs.Alike.{named, under_names}
 use Rattle.sg_facts.specs.Facts.{Facts, fun_at}
 use Rattle.sg_facts.specs.Invoke.{Points, parts_of}
 use Rattle.sg_facts.specs.Kinds.{MayAsk}
-use Rattle.sg_facts.specs.Laws.{is_none, next_call}
+use Rattle.sg_facts.specs.Laws.{next_call}
 use Rattle.sg_facts.specs.Legal.{Table}
-use Rattle.sg_facts.specs.Object.{Object, after, file_at, patch_of}
+use Rattle.sg_facts.specs.Object.{Object, after, patch_of}
 use Rattle.sg_facts.specs.Trace.{Boot, Run}
 use Rattle.sg_facts.specs.Track.{row_at}
 use Rattle.sg_hist.specs.Reading.{value_at, walk_in}

@@ -1,14 +1,13 @@
 -- What each event does: `Steps` by what was done, one case for each line of the table of a step, and offer, withdraw and leave.
-use Rattle.std.specs.Prelude.{ℕ, ◌≡◌, ◌≢◌, ◌⊎◌, ◌+◌, ◌-◌, ◌^◌, ◌==◌, Bool, true, false, cond, not, min, List, [], ◌∷◌, ◌++◌, None, Some, find, length, map}
+use Rattle.std.specs.Prelude.{ℕ, ◌≡◌, ◌≢◌, ◌⊎◌, Bool, true, false, cond, not, List, [], ◌∷◌, ◌++◌, None, Some, find}
 use Rattle.std.specs.List.{list_all, list_any}
-use Rattle.std.specs.declared.option.Option.{Option}
 use Rattle.sg_base.specs.Stops.{asked_after}
 use Rattle.sg_base.specs.declared.call.Call.{Call}
 use Rattle.sg_base.specs.declared.reply.Code.{Code}
 use Rattle.sg_base.specs.declared.reply.Reply.{Reply}
-use Rattle.sg_base.specs.declared.reply.Reply.TheVariants.{Ok, Refused}
+use Rattle.sg_base.specs.declared.reply.Reply.TheVariants.{Refused}
 use Rattle.sg_facts.specs.declared.entry.Entry.{Entry}
-use Rattle.sg_facts.specs.declared.outcome.Outcome.TheVariants.{Replied, Blocks, Stopped, NoMemory}
+use Rattle.sg_facts.specs.declared.outcome.Outcome.TheVariants.{Blocks, Stopped}
 use Rattle.sg_facts.specs.declared.trace.Item.{Item}
 use Rattle.sg_facts.specs.declared.trace.Tag.TheVariants.{Walk, Load, Client}
 use Rattle.sg_facts.specs.Facts.{Facts, is_visible}
@@ -16,11 +15,11 @@ use Rattle.sg_facts.specs.Guard.{guard}
 use Rattle.sg_facts.specs.Legal.{answer}
 use Rattle.sg_facts.specs.Needs.{needs}
 use Rattle.sg_facts.specs.Object.{Object, file_at, object_of}
-use Rattle.sg_hist.specs.Reading.{after_item, items_of}
+use Rattle.sg_hist.specs.Reading.{after_item}
 use Rattle.sg_hist.specs.Recovered.{is_patch_at, is_replied, is_stopped}
 use Rattle.sg_recovery_laws.specs.Growing.{IsNextItem, last_items, older_items, place_behind}
 use Rattle.sg_world_laws.specs.Keeping.{Setting, stubs_of}
-use Rattle.sg_world_laws.specs.State.{Phase, Seat, State, boot_number, committed, given_to, in_phase, item_noted, rebooted, seat_of, service_is, struck_at, unanswered, with_mark, with_points, with_seat, idle, asked, held, receipted, blocked, left, answer as Answer}
+use Rattle.sg_world_laws.specs.State.{State, boot_number, committed, given_to, in_phase, item_noted, rebooted, seat_of, service_is, struck_at, unanswered, with_mark, with_points, with_seat, idle, asked, held, receipted, blocked, left, answer as Answer}
 use Rattle.sg_trace_laws.specs.Told.{whole_behind}
 
 pub data Did : Type 0 where
@@ -185,9 +184,9 @@ module _ (z : Setting) (w : State) (c : ℕ) where
     pub outcome : is_replied item.outcome ≡ true
     pub noted : (let e : Entry = record { call = (seat_of w c).call; reply = reply } in IsNoted item (w.history ++ e ∷ []) (unanswered w))
     pub now : (
-      let e : Entry = record { call = (seat_of w c).call; reply = reply } in
-      let w1 : State = given_to (committed z.iface.facts (service_is (item_noted w item) (after_item z.iface.facts service item)) e) e receipted in
-      w' ≡ cond struck_behind (struck_at w1 (asked_after item.points 1)) (with_points w1 (asked_after item.points 1)))
+        let e : Entry = record { call = (seat_of w c).call; reply = reply } in
+        let w1 : State = given_to (committed z.iface.facts (service_is (item_noted w item) (after_item z.iface.facts service item)) e) e receipted in
+        w' ≡ cond struck_behind (struck_at w1 (asked_after item.points 1)) (with_points w1 (asked_after item.points 1)))
 
   -- another call was answered, and its reply is held
   pub record Holds (w' : State) : Type 0 where
