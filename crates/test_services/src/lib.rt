@@ -1,4 +1,4 @@
-//! What services and what speaks of them stand on, tried from outside: facts, rows, walks, slots, locks and histories.
+//! What services and what speaks of them stand on, tried from outside: facts, rows, walks, slots, locks, threads and histories.
 //!
 //! - `once`: a service that stops at one point (`Once`)
 //!
@@ -6,6 +6,7 @@
 //! - `facts`: facts of a service, rows and patches, walks
 //! - `slots`: decisions on many slots, and stops at each part
 //! - `locks`: one lock, and stops at each part
+//! - `threads`: tables of calls on threads with their answers, and stops at each part
 //! - `histories`: entries, ends, and as many entries as a script has calls
 #![tactic(auto)]
 
@@ -19,3 +20,5 @@ mod locks;
 mod once;
 #[cfg(test)]
 mod slots;
+#[cfg(test)]
+mod threads;
