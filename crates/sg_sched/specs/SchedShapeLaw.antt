@@ -187,7 +187,7 @@ module _ (client seq desc : ℕ) (args : List Value) where
       → most_counted sched_facts (after sched_facts o (call_of fun) (Ok good)).rows ≤ max slow (most_counted sched_facts o.rows + 1)
   calls_at fun o good passes is = counted_at fun o good (λ places. never_placed o client seq desc args (subst (λ f. Passes sched_facts o (call_of f)) places passes)) is
 
-  replays_at : (fun : ℕ) (o : Object) (good : Good) → sched_answer fun o (call_of fun) ≡ Some (Ok good)
+  pub replays_at : (fun : ℕ) (o : Object) (good : Good) → sched_answer fun o (call_of fun) ≡ Some (Ok good)
       → most_counted sched_facts (after sched_facts o (call_of fun) (Ok good)).rows ≤ max (max slow (most_set sched_facts (call_of fun) (fun_at sched_facts.funs fun).effects)) (most_counted sched_facts o.rows + 1)
   replays_at fun o good is = elim (cases_Bool (fun == 7)) [
     | inl test ↦

@@ -1,4 +1,5 @@
-//! What services and what speaks of them stand on, tried from outside: facts, rows, walks, slots, locks, events and histories.
+//! What services and what speaks of them stand on, tried from outside: facts, rows, walks, slots, locks, events, threads and
+//! histories.
 //!
 //! - `once`: a service that stops at one point (`Once`)
 //! - `asking`: calls on services (`ask`)
@@ -8,6 +9,7 @@
 //! - `slots`: decisions on many slots, and stops at each part
 //! - `locks`: one lock, and stops at each part
 //! - `events`: one event, at each call and count where the answer turns
+//! - `threads`: tables of calls on threads with their answers, and stops at each part
 //! - `histories`: entries, ends, and as many entries as a script has calls
 #![tactic(auto)]
 
@@ -25,3 +27,5 @@ mod locks;
 mod once;
 #[cfg(test)]
 mod slots;
+#[cfg(test)]
+mod threads;
