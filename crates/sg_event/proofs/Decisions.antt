@@ -18,7 +18,7 @@ use Rattle.sg_event.specs.declared.event.Event.{Event}
 use Rattle.sg_event.specs.EventFacts.{event_facts}
 use Rattle.sg_event.specs.EventTable.{event_table, event_parts, count_in, most_count, event_wait_answer, trigger_answer}
 use Rattle.sg_event.specs.EventRow.{event_body}
-use Rattle.sg_event.specs.EventDecision.{set_count, on_wait, on_trigger}
+use Rattle.sg_event.specs.EventDecision.{set_count, on_event_wait, on_trigger}
 
 module _ (held : Held Event) (ids : AreIds 0 held.given held.entries) (client seq desc : ℕ) (args : List Value) (event : Event) (there : entry_at held.entries desc ≡ Some event) where
   abbrev call_of : ℕ → Call
@@ -37,7 +37,7 @@ module _ (held : Held Event) (ids : AreIds 0 held.given held.entries) (client se
       set_right event_facts event_table event_parts event_body held (call_of 2) refl ids event there refl refl refl (ap event_wait_answer count_is ∙ ap (λ b. cond b None (Some (Ok plain))) some)
       (record { creator = event.creator; count = event.count - 1 }) refl refl
 
-  pub wait_right : IsRight 2 (on_wait event)
+  pub wait_right : IsRight 2 (on_event_wait event)
   wait_right = wait_at (event.count == 0) refl
 
   abbrev n : ℕ

@@ -13,8 +13,8 @@ set_count event count = Set (record { creator = event.creator; count = count }) 
 abbrev pub on_split : ℕ → Decision Event
 on_split client = Make (record { creator = client; count = 0 }) None
 
-abbrev pub on_wait : Event → Decision Event
-on_wait event = if event.count == 0 then Block else set_count event (event.count - 1)
+abbrev pub on_event_wait : Event → Decision Event
+on_event_wait event = if event.count == 0 then Block else set_count event (event.count - 1)
 
 abbrev pub on_trigger : Event → ℕ → Decision Event
 on_trigger event n = if nat_lt most_count (event.count + n) then Refuse Overflow else set_count event (event.count + n)

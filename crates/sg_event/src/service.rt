@@ -14,7 +14,7 @@ ghost use Rattle.sg_event.specs.EventBlockedLaw.{event_blocked_stays};
 ghost use Rattle.sg_event.specs.EventShapeLaw.{event_shape_allows, event_counts_slowly};
 ghost use Rattle.sg_event.specs.EventSound.{IsEventSound};
 ghost use Rattle.sg_event.specs.EventSoundLaw.{event_answers_and_keeps};
-ghost use Rattle.sg_event.specs.EventDecision.{on_split, on_wait, on_trigger, set_count};
+ghost use Rattle.sg_event.specs.EventDecision.{on_split, on_event_wait, on_trigger, set_count};
 
 use crate::Event;
 use crate::shape::{SPLIT, TRIGGER, WAIT, event_shape};
@@ -127,7 +127,7 @@ fn split(client: u8) -> Decision<Event>
 
 // Takes one from the count of an event: put off while it is 0.
 fn wait(event: &Event) -> Decision<Event>
-    ensures { result ≡ on_wait event.now }
+    ensures { result ≡ on_event_wait event.now }
 {
     if event.count == 0 {
         Decision::Block

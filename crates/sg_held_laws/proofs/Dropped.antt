@@ -11,7 +11,7 @@ use Rattle.sg_facts.specs.Object.{Object}
 use Rattle.sg_facts.specs.Sound.{IsRow, IsSound}
 use Rattle.sg_facts.specs.Track.{is_live, row_at}
 use Rattle.sg_facts.proofs.RowLists.{id_of_row, live_of_row}
-use Rattle.sg_held_laws.specs.Progress.{IsSoFar, IsUnderWay, Told, fresh, begun, complete}
+use Rattle.sg_held_laws.specs.Progress.{IsSoFar, IsInRecovery, Told, fresh, begun, complete}
 use Rattle.sg_walk_laws.proofs.Found.{met}
 
 module _ (i : Declared) (walks : List WalkLine) (names names' : List (ℕ × ℕ)) (o held : Object) (sound : IsSound i.facts o) (none : named names 0 ≡ 0)
@@ -83,7 +83,7 @@ module _ (i : Declared) (walks : List WalkLine) (names names' : List (ℕ × ℕ
   far_less r complete there far = whole_less r there far
 
   -- what is told of ids that have ended may change too
-  pub under_dropped : (told told' : ℕ → Told) (present : List ℕ → Bool) → ((id : ℕ) → is_live o.rows id ≡ true → told' id ≡ told id) → IsUnderWay i walks names told present o held → IsUnderWay i walks names' told' present o held
+  pub under_dropped : (told told' : ℕ → Told) (present : List ℕ → Bool) → ((id : ℕ) → is_live o.rows id ≡ true → told' id ≡ told id) → IsInRecovery i walks names told present o held → IsInRecovery i walks names' told' present o held
   under_dropped told told' present same_told u = record {
     holds = record {
       names_are = names_less u.holds.names_are;

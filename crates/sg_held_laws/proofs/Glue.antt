@@ -7,7 +7,7 @@ use Rattle.sg_facts.specs.Held.{whole, partly, EachHeld, HoldsPart, IsAt, IsHeld
 use Rattle.sg_facts.specs.Interface.{Declared}
 use Rattle.sg_facts.specs.Object.{Object}
 use Rattle.sg_facts.specs.Track.{row_at}
-use Rattle.sg_held_laws.specs.Progress.{HasFile, IsSoFar, IsUnderWay, Told, fresh, begun, complete}
+use Rattle.sg_held_laws.specs.Progress.{HasFile, IsSoFar, IsInRecovery, Told, fresh, begun, complete}
 
 module _ (i : Declared) (walks : List WalkLine) (names names' : List (ℕ × ℕ)) (same : (id : ℕ) → named names' id ≡ named names id) (o held : Object) where
   alike_named : (r w : Row) → IsAlike names r w → IsAlike names' r w
@@ -61,7 +61,7 @@ module _ (i : Declared) (walks : List WalkLine) (names names' : List (ℕ × ℕ
   so_far_named r complete far = whole_named r far
 
   pub under_named : (told told' : ℕ → Told) (present present' : List ℕ → Bool) → ((id : ℕ) → told' id ≡ told id) → ((path : List ℕ) → present' path ≡ present path)
-      → IsUnderWay i walks names told present o held → IsUnderWay i walks names' told' present' o held
+      → IsInRecovery i walks names told present o held → IsInRecovery i walks names' told' present' o held
   under_named told told' present present' same_told same_present u = record {
     holds = holds_named u.holds;
     rows = λ r there. subst (IsSoFar i walks names' held r) (sym (same_told r.id)) (so_far_named r (told r.id) (u.rows r there));

@@ -26,8 +26,8 @@ use Rattle.sg_facts.specs.Object.{Object, after, file_at, first_text, is_text_ki
 use Rattle.sg_facts.specs.Sound.{IsRow, IsSound}
 use Rattle.sg_facts.specs.Track.{has_child, is_ancestor, new_row, row_at}
 use Rattle.sg_facts.proofs.RowLists.{id_of_row, row_at-more, row_of_live}
-use Rattle.sg_held_laws.specs.Progress.{HasFile, IsSoFar, IsUnderWay, Told, fresh, begun, complete}
-use Rattle.sg_object_laws.specs.Serving.{HasTime, IsAnswered, IsGood, IsService}
+use Rattle.sg_held_laws.specs.Progress.{HasFile, IsSoFar, IsInRecovery, Told, fresh, begun, complete}
+use Rattle.sg_object_laws.specs.Serving.{HasTime, IsAnsweredAt, IsLegalObject, IsService}
 use Rattle.sg_held_laws.specs.Stepping.{present_with, told_with}
 use Rattle.sg_object_laws.specs.Waiting.{AreWaiting, NoneBy}
 use Rattle.sg_track.specs.Tracked.{HasLowerParent}
@@ -70,8 +70,8 @@ same_words names true good other same = (same.0, same.1)
 same_words names false good other same = (same.0, same.1)
 
 module _ (i : Declared) (ask : Table) (sound : Object → Type 0) (walks : List WalkLine) (names : List (ℕ × ℕ)) (told : ℕ → Told) (present : List ℕ → Bool) (o held : Object) (es : List Entry)
-    (law : IsService i.facts ask sound) (ok : IsGood i.facts sound o) (waiting : AreWaiting i.facts ask o es) (time : HasTime i.facts (suc (suc (length es))) o)
-    (under : IsUnderWay i walks names told present (object_from i.facts o es) held) (call : Call) (passes : Passes i.facts o call) (none_by : NoneBy call.client es)
+    (law : IsService i.facts ask sound) (ok : IsLegalObject i.facts sound o) (waiting : AreWaiting i.facts ask o es) (time : HasTime i.facts (suc (suc (length es))) o)
+    (under : IsInRecovery i walks names told present (object_from i.facts o es) held) (call : Call) (passes : Passes i.facts o call) (none_by : NoneBy call.client es)
     (needed : (r : Row) → row_at o.rows r.id ≡ Some r → is_needed i.facts o.rows call r ≡ true → told r.id ≡ complete)
     (file : (fun_at i.facts.funs call.fun).uses_file ≡ true → (present (path_of o.rows call.desc) ≡ true) ⊎ (file_at o.files (path_of o.rows call.desc) ≡ [])) where
   abbrev behind : Object
@@ -83,7 +83,7 @@ module _ (i : Declared) (ask : Table) (sound : Object → Type 0) (walks : List 
   time_es : HasTime i.facts (length es) o
   time_es = less_time i.facts ask sound law (suc (suc (length es))) (length es) o (omega arith) time
 
-  good_o : IsGood i.facts sound (object_from i.facts o es)
+  good_o : IsLegalObject i.facts sound (object_from i.facts o es)
   good_o = good_behind i.facts ask sound law o es ok time_es waiting
 
   sound_o : IsSound i.facts (object_from i.facts o es)
@@ -214,7 +214,7 @@ module _ (i : Declared) (ask : Table) (sound : Object → Type 0) (walks : List 
       by [] l_is all none time = refl
       by (p ∷ l) l_is all none time =
           let hidden = hidden_is i.facts p.call.fun all.0.hidden in
-          let answered : IsAnswered i.facts ask o call reply = record { passes = passes; answered = is } in
+          let answered : IsAnsweredAt i.facts ask o call reply = record { passes = passes; answered = is } in
           let later = time_after i.facts ask sound law (suc (length (p ∷ l))) o call reply ok answered time in
           past_waiting i.facts ask sound law o call reply (p ∷ l) ok (after_good i.facts ask sound law o call reply ok answered) (acting_is i.facts ask sound law o call reply hidden.alone answered) none
           (less_time i.facts ask sound law (suc (suc (length (p ∷ l)))) (suc (length (p ∷ l))) o (omega arith) time)
@@ -223,7 +223,7 @@ module _ (i : Declared) (ask : Table) (sound : Object → Type 0) (walks : List 
 
   sound_after : (reply : Reply) → ask o call ≡ Some reply → IsSound i.facts (after i.facts (object_from i.facts o es) call reply)
   sound_after reply is =
-      let answered : IsAnswered i.facts ask o call reply = record { passes = passes; answered = is } in
+      let answered : IsAnsweredAt i.facts ask o call reply = record { passes = passes; answered = is } in
       let later = time_after i.facts ask sound law (suc (length es)) o call reply ok answered time in
       subst (IsSound i.facts) (past_held reply is) (law.keeps.general (object_from i.facts (after i.facts o call reply) es)
       (good_behind i.facts ask sound law (after i.facts o call reply) es (after_good i.facts ask sound law o call reply ok answered)
@@ -499,8 +499,8 @@ module _ (i : Declared) (ask : Table) (sound : Object → Type 0) (walks : List 
         ]
 
     -- the service stands as before, at the object behind the call and the held replies
-    pub under_served : IsUnderWay i walks names1 (told_with i.facts call good told) (present_with (patch_of i.facts o call (Ok good)) present) (object_from i.facts (after i.facts o call (Ok good)) es) h1
-    under_served = subst (λ x. IsUnderWay i walks names1 (told_with i.facts call good told) (present_with (patch_of i.facts o call (Ok good)) present) x h1) (sym (past_held (Ok good) is)) (record {
+    pub under_served : IsInRecovery i walks names1 (told_with i.facts call good told) (present_with (patch_of i.facts o call (Ok good)) present) (object_from i.facts (after i.facts o call (Ok good)) es) h1
+    under_served = subst (λ x. IsInRecovery i walks names1 (told_with i.facts call good told) (present_with (patch_of i.facts o call (Ok good)) present) x h1) (sym (past_held (Ok good) is)) (record {
       holds = holds_served i names (object_from i.facts o es) held call good other under.holds sound_o (sound_after (Ok good) is) (acts i.facts call.fun law.shape.shape passes.is_call.first passes.is_call.last) words next_it on_whole (λ takes. parent_whole takes) no_children;
       rows = rows_on;
       files = files_on;

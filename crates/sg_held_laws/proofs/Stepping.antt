@@ -24,8 +24,8 @@ use Rattle.sg_facts.specs.Walks.{IsWalkOf}
 use Rattle.sg_facts.proofs.RowLists.{id_of_row, row_at-more}
 use Rattle.sg_hist.specs.Reading.{walk_in}
 use Rattle.sg_object_laws.proofs.Guarded.{well_allowed, writes_none}
-use Rattle.sg_held_laws.specs.Progress.{HasFile, IsSoFar, IsUnderWay, Told}
-use Rattle.sg_object_laws.specs.Serving.{IsGood, IsService}
+use Rattle.sg_held_laws.specs.Progress.{HasFile, IsSoFar, IsInRecovery, Told}
+use Rattle.sg_object_laws.specs.Serving.{IsLegalObject, IsService}
 use Rattle.sg_held_laws.specs.Stepping.{IsStepped, so_far, told_after}
 use Rattle.sg_walk_laws.proofs.Above.{low_id, low_real}
 use Rattle.sg_object_laws.proofs.Apart.{makes_row}
@@ -38,7 +38,7 @@ take_first [] rest f = refl
 take_first (d ∷ done) rest f = ap (λ l. d ∷ l) (take_first done rest f)
 
 module _ (i : Declared) (ask : Table) (sound : Object → Type 0) (walks : List WalkLine) (names : List (ℕ × ℕ)) (told : ℕ → Told) (present : List ℕ → Bool) (o held : Object) (law : IsService i.facts ask sound)
-    (fits : Fits i) (ok : IsGood i.facts sound o) (reach : AreReachable i o.rows) (under : IsUnderWay i walks names told present o held) (counted : CountedBelow (2 ^ 63) i.facts held.rows) (few : held.given < 2 ^ 63)
+    (fits : Fits i) (ok : IsLegalObject i.facts sound o) (reach : AreReachable i o.rows) (under : IsInRecovery i walks names told present o held) (counted : CountedBelow (2 ^ 63) i.facts held.rows) (few : held.given < 2 ^ 63)
     (r : Row) (done rest : List ℕ) (fun : ℕ) (there : row_at o.rows r.id ≡ Some r) (walk : walk_in walks (Some r) ≡ Some (done ++ fun ∷ rest))
     (its_walk : IsWalkOf i (done ++ fun ∷ rest) r.made r.state (set_of r)) (at : IsAt i names held r done) (parent : ParentIsWhole names o held r) where
   abbrev call : Call

@@ -35,7 +35,7 @@ HasFile false path o held = file_at held.files path ≡ []
 
 -- a service stands in the middle of a recovery: it holds rows of an object under names, each as far as is told, and the files that
 -- are present
-pub record IsUnderWay (i : Declared) (walks : List WalkLine) (names : List (ℕ × ℕ)) (told : ℕ → Told) (present : List ℕ → Bool) (o held : Object) : Type 0 where
+pub record IsInRecovery (i : Declared) (walks : List WalkLine) (names : List (ℕ × ℕ)) (told : ℕ → Told) (present : List ℕ → Bool) (o held : Object) : Type 0 where
   pub holds : HoldsPart i names o held
   pub rows : (r : Row) → row_at o.rows r.id ≡ Some r → IsSoFar i walks names held r (told r.id)
   pub files : (path : List ℕ) → HasFile (present path) path o held
@@ -47,10 +47,10 @@ is_complete fresh = false
 is_complete (begun n) = false
 
 -- so many calls of a walk were replayed
-abbrev pub IsCounted : Told → ℕ → Type 0
-IsCounted fresh n = n ≡ 0
-IsCounted (begun m) n = n ≡ m
-IsCounted complete n = Unit {0}
+abbrev pub TellsCalls : Told → ℕ → Type 0
+TellsCalls fresh n = n ≡ 0
+TellsCalls (begun m) n = n ≡ m
+TellsCalls complete n = Unit {0}
 
 -- no id, or a live one
 abbrev pub IsNone : List Row → ℕ → Type 0

@@ -14,7 +14,7 @@ use Rattle.sg_facts.specs.Kinds.{MayAsk}
 use Rattle.sg_facts.specs.Laws.{names_after, next_call}
 use Rattle.sg_facts.specs.Legal.{Table}
 use Rattle.sg_facts.specs.Object.{Object, after}
-use Rattle.sg_held_laws.specs.Progress.{IsUnderWay, Told, begun, complete}
+use Rattle.sg_held_laws.specs.Progress.{IsInRecovery, Told, begun, complete}
 
 -- what is told of a row whose walk has come so far
 abbrev pub so_far : List ℕ → ℕ → Told
@@ -30,7 +30,7 @@ pub record IsStepped (i : Declared) (ask : Table) (walks : List WalkLine) (names
   pub may_ask : MayAsk i.facts held (next_call i.facts names r done fun)
   pub good : Good
   pub answered : ask held (next_call i.facts names r done fun) ≡ Some (Ok good)
-  pub under_way : IsUnderWay i walks (names_after names r done good) (told_after told r.id done rest) present o (after i.facts held (next_call i.facts names r done fun) (Ok good))
+  pub under_way : IsInRecovery i walks (names_after names r done good) (told_after told r.id done rest) present o (after i.facts held (next_call i.facts names r done fun) (Ok good))
 
 -- what is told after an answered call: what it makes is whole
 abbrev pub told_with : Facts → Call → Good → (ℕ → Told) → ℕ → Told

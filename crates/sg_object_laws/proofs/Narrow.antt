@@ -14,14 +14,14 @@ use Rattle.sg_facts.specs.Legal.{Table}
 use Rattle.sg_facts.specs.Object.{Object}
 use Rattle.sg_facts.specs.Track.{has_child, row_at}
 use Rattle.sg_object_laws.specs.Apart.{SameFor}
-use Rattle.sg_object_laws.specs.Serving.{IsGood, IsService}
+use Rattle.sg_object_laws.specs.Serving.{IsLegalObject, IsService}
 use Rattle.sg_object_laws.proofs.Answered.{child_same}
 use Rattle.sg_object_laws.proofs.Guarded.{ActsOnOne, acts, let_pass, own_desc}
 use Rattle.sg_object_laws.proofs.Steady.{ascends}
 
 module _ (j : Declared) (ask : Table) (sound : Object → Type 0) (law : IsService j.facts ask sound) where
   -- two objects in which a client's rows are the same let its calls pass alike, but for the room
-  pub guard_stays : (o o' : Object) (call : Call) → j.facts.global ≡ false → IsGood j.facts sound o → IsGood j.facts sound o' → ActsOnOne j.facts (fun_at j.facts.funs call.fun) → SameFor call.client o.rows o'.rows
+  pub guard_stays : (o o' : Object) (call : Call) → j.facts.global ≡ false → IsLegalObject j.facts sound o → IsLegalObject j.facts sound o' → ActsOnOne j.facts (fun_at j.facts.funs call.fun) → SameFor call.client o.rows o'.rows
       → (fun_at j.facts.funs call.fun).creation ≡ false → guard j o call ≡ None → guard j o' call ≡ None
   guard_stays o o' call alone good good' acts same makes passes = by (fun_at j.facts.funs call.fun).query refl
     where

@@ -14,7 +14,7 @@ use Rattle.sg_facts.specs.Object.{Object, object_from, path_of}
 use Rattle.sg_facts.specs.Track.{ancestors, is_ancestor, nearest, row_at}
 use Rattle.sg_facts.proofs.RowLists.{id_of_row, left, row_at-left}
 use Rattle.sg_object_laws.specs.Apart.{SameFor}
-use Rattle.sg_object_laws.specs.Serving.{HasTime, IsGood, IsService}
+use Rattle.sg_object_laws.specs.Serving.{HasTime, IsLegalObject, IsService}
 use Rattle.sg_object_laws.specs.Waiting.{AreWaiting, NoneBy}
 use Rattle.sg_object_laws.proofs.Answered.{needed_none, needed_own}
 use Rattle.sg_object_laws.proofs.Apart.{IsOwnRow, nearest_same, rows_same}
@@ -24,7 +24,7 @@ use Rattle.sg_object_laws.proofs.Serves.{needed_behind, on_none_or_own, path_beh
 use Rattle.sg_object_laws.proofs.Steady.{ascends}
 use Rattle.sg_object_laws.proofs.Waiting.{behind_same, good_behind, hidden_is}
 
-module _ (facts : Facts) (ask : Table) (sound : Object → Type 0) (law : IsService facts ask sound) (o : Object) (es : List Entry) (call : Call) (ok : IsGood facts sound o) (time : HasTime facts (length es) o)
+module _ (facts : Facts) (ask : Table) (sound : Object → Type 0) (law : IsService facts ask sound) (o : Object) (es : List Entry) (call : Call) (ok : IsLegalObject facts sound o) (time : HasTime facts (length es) o)
     (waiting : AreWaiting facts ask o es) (none_by : NoneBy call.client es) (passes : Passes facts o call) where
   abbrev behind : Object
   behind = object_from facts o es

@@ -19,7 +19,7 @@ use Rattle.sg_facts.specs.Legal.{Table}
 use Rattle.sg_facts.specs.Object.{Object, after, object_from}
 use Rattle.sg_facts.specs.Track.{ends_with, has_child, row_after, row_at, rows_after}
 use Rattle.sg_object_laws.specs.Apart.{SameFor}
-use Rattle.sg_object_laws.specs.Serving.{HasTime, IsGood, IsService}
+use Rattle.sg_object_laws.specs.Serving.{HasTime, IsLegalObject, IsService}
 use Rattle.sg_object_laws.specs.Waiting.{AreWaiting, NoneBy}
 use Rattle.sg_object_laws.proofs.Apart.{IsOwnRow}
 use Rattle.sg_object_laws.proofs.Guarded.{ActsOnOne, IsLetPass, acts, let_pass, own_parent, private_parents}
@@ -113,7 +113,7 @@ module _ (j : Declared) (ask : Table) (sound : Object → Type 0) (law : IsServi
           same_may (inl root) Cross is may = absurd (let none = private_parents j.facts law.shape.shape alone in let c : is_cross j.facts.parents ≡ true = ap is_cross is in cc (none, c))
 
   -- so behind replies held by others
-  pub guard_behind : (o : Object) (es : List Entry) (call : Call) → IsGood j.facts sound o → HasTime j.facts (length es) o → AreWaiting j.facts ask o es → NoneBy call.client es
+  pub guard_behind : (o : Object) (es : List Entry) (call : Call) → IsLegalObject j.facts sound o → HasTime j.facts (length es) o → AreWaiting j.facts ask o es → NoneBy call.client es
       → 1 ≤ call.fun → call.fun ≤ length j.facts.funs → guard j o call ≡ None → guard j (object_from j.facts o es) call ≡ None
   guard_behind o [] call ok time all none first last passes = passes
   guard_behind o (p ∷ es) call ok time all none first last passes =

@@ -26,7 +26,7 @@ use Rattle.sg_facts.specs.Sound.{IsSound}
 use Rattle.sg_facts.specs.Track.{ancestors, is_ancestor, is_live, row_at}
 use Rattle.sg_facts.proofs.RowLists.{id_of_row, live_of_row, row_of_live}
 use Rattle.sg_recovery_laws.proofs.Lists.{each_push}
-use Rattle.sg_object_laws.specs.Serving.{HasTime, IsGood, IsService}
+use Rattle.sg_object_laws.specs.Serving.{HasTime, IsLegalObject, IsService}
 use Rattle.sg_object_laws.specs.Waiting.{AreWaiting, NoneBy}
 use Rattle.sg_walk_laws.proofs.Above.{IsWholeIn, name_of_held, up}
 use Rattle.sg_object_laws.proofs.Answered.{needed_none, needed_own, path_own}
@@ -77,7 +77,7 @@ path_held i names o held r holds sound there has =
 
 module _ (facts : Facts) (ask : Table) (sound : Object → Type 0) (law : IsService facts ask sound) where
   -- held replies leave no row under a new id
-  pub fewer_behind : (o : Object) (es : List Entry) → IsGood facts sound o → HasTime facts (length es) o → AreWaiting facts ask o es → (id : ℕ) (w : Row) → row_at (object_from facts o es).rows id ≡ Some w
+  pub fewer_behind : (o : Object) (es : List Entry) → IsLegalObject facts sound o → HasTime facts (length es) o → AreWaiting facts ask o es → (id : ℕ) (w : Row) → row_at (object_from facts o es).rows id ≡ Some w
       → is_live o.rows id ≡ true
   fewer_behind o [] good time all id w there = live_of_row o.rows id w there
   fewer_behind o (p ∷ es) good time all id w there =
@@ -107,7 +107,7 @@ module _ (facts : Facts) (ask : Table) (sound : Object → Type 0) (law : IsServ
       by_query false row = by_takes (takes_parent (fun_at facts.funs call.fun)) (takes_desc (fun_at facts.funs call.fun)) row refl refl
 
   -- what a call needs is the same behind the held replies of others
-  pub needed_behind : (o : Object) (es : List Entry) (call : Call) (r : Row) → IsGood facts sound o → HasTime facts (length es) o → AreWaiting facts ask o es → NoneBy call.client es → Passes facts o call
+  pub needed_behind : (o : Object) (es : List Entry) (call : Call) (r : Row) → IsLegalObject facts sound o → HasTime facts (length es) o → AreWaiting facts ask o es → NoneBy call.client es → Passes facts o call
       → row_at o.rows r.id ≡ Some r → is_needed facts o.rows call r ≡ true → row_at (object_from facts o es).rows r.id ≡ Some r
   needed_behind o [] call r good time all none passes there need = there
   needed_behind o (p ∷ es) call r good time all none passes there need =
@@ -129,7 +129,7 @@ module _ (facts : Facts) (ask : Table) (sound : Object → Type 0) (law : IsServ
       at false None is may = absurd (cc may)
 
   -- the path of the descriptor is the same behind the held replies of others
-  pub path_behind : (o : Object) (es : List Entry) (call : Call) → IsGood facts sound o → HasTime facts (length es) o → AreWaiting facts ask o es → NoneBy call.client es → Passes facts o call
+  pub path_behind : (o : Object) (es : List Entry) (call : Call) → IsLegalObject facts sound o → HasTime facts (length es) o → AreWaiting facts ask o es → NoneBy call.client es → Passes facts o call
       → takes_desc (fun_at facts.funs call.fun) ≡ true → (fun_at facts.funs call.fun).query ≡ false → path_of (object_from facts o es).rows call.desc ≡ path_of o.rows call.desc
   path_behind o [] call good time all none passes takes row = refl
   path_behind o (p ∷ es) call good time all none passes takes row =
@@ -149,7 +149,7 @@ module _ (facts : Facts) (ask : Table) (sound : Object → Type 0) (law : IsServ
       at false = refl
 
   -- so it serves the call
-  pub serves_now : (i : Declared) (names : List (ℕ × ℕ)) (o held : Object) (es : List Entry) (call : Call) → i.facts ≡ facts → IsGood facts sound o → HasTime facts (length es) o → AreWaiting facts ask o es
+  pub serves_now : (i : Declared) (names : List (ℕ × ℕ)) (o held : Object) (es : List Entry) (call : Call) → i.facts ≡ facts → IsLegalObject facts sound o → HasTime facts (length es) o → AreWaiting facts ask o es
       → NoneBy call.client es → HoldsPart i names (object_from facts o es) held → Passes facts o call
       → ((r : Row) → row_at o.rows r.id ≡ Some r → is_needed facts o.rows call r ≡ true → HasAlike names held r)
       → ((fun_at facts.funs call.fun).uses_file ≡ true → file_at held.files (path_of o.rows call.desc) ≡ file_at o.files (path_of o.rows call.desc))

@@ -19,7 +19,7 @@ use Rattle.sg_facts.specs.Sound.{IsRow, IsSound}
 use Rattle.sg_facts.specs.Track.{has_child, is_live, new_row, row_at, rows_after}
 use Rattle.sg_facts.proofs.RowLists.{id_of_row, live_of_row, row_at-more, other}
 use Rattle.sg_object_laws.specs.Apart.{AreOwn, SameFor}
-use Rattle.sg_object_laws.specs.Serving.{HasTime, IsAnswered, IsGood, IsService}
+use Rattle.sg_object_laws.specs.Serving.{HasTime, IsAnsweredAt, IsLegalObject, IsService}
 use Rattle.sg_object_laws.proofs.Answered.{child_same, needed_none, needed_own}
 use Rattle.sg_object_laws.proofs.Apart.{Ascends, IsOnOwn, IsOwnRow, changes_row, ends_rows, leaves_others, makes_row, query_keeps, same_back, same_self}
 use Rattle.sg_object_laws.proofs.Changed.{change_at}
@@ -51,11 +51,11 @@ fewer_after facts rows call good makes id w there = by_query (fun_at facts.funs 
     by_query false row = by_terminal (fun_at facts.funs call.fun).terminal row refl
 
 module _ (facts : Facts) (ask : Table) (sound : Object → Type 0) (law : IsService facts ask sound) where
-  acting : (o : Object) (call : Call) (reply : Reply) → IsAnswered facts ask o call reply → ActsOnOne facts (fun_at facts.funs call.fun)
+  acting : (o : Object) (call : Call) (reply : Reply) → IsAnsweredAt facts ask o call reply → ActsOnOne facts (fun_at facts.funs call.fun)
   acting o call reply is = acts facts call.fun law.shape.shape is.passes.is_call.first is.passes.is_call.last
 
   -- a private call is on its client's own row
-  pub on_own : (o : Object) (call : Call) (good : Good) → facts.global ≡ false → IsAnswered facts ask o call (Ok good) → IsOnOwn facts call good o.rows o.given
+  pub on_own : (o : Object) (call : Call) (good : Good) → facts.global ≡ false → IsAnsweredAt facts ask o call (Ok good) → IsOnOwn facts call good o.rows o.given
   on_own o call good alone is = record {
     on = λ row makes.
         let pass = let_pass (whole facts) o call row is.passes.guarded in
@@ -64,7 +64,7 @@ module _ (facts : Facts) (ask : Table) (sound : Object → Type 0) (law : IsServ
   }
 
   -- an object of legal histories stays one
-  pub after_good : (o : Object) (call : Call) (reply : Reply) → IsGood facts sound o → IsAnswered facts ask o call reply → IsGood facts sound (after facts o call reply)
+  pub after_good : (o : Object) (call : Call) (reply : Reply) → IsLegalObject facts sound o → IsAnsweredAt facts ask o call reply → IsLegalObject facts sound (after facts o call reply)
   after_good o call (Refused code) good is = good
   after_good o call (Ok g) good is = record {
     is_sound = law.keeps.keeps o call g good.is_sound is.passes is.answered;
@@ -79,13 +79,13 @@ module _ (facts : Facts) (ask : Table) (sound : Object → Type 0) (law : IsServ
           (λ makes takes. own_parent (whole facts) o call law.shape.shape alone (acting o call (Ok g) is) pass takes) pass.children
 
   -- it leaves the rows of others
-  pub others_stay : (o : Object) (call : Call) (reply : Reply) (d : ℕ) → facts.global ≡ false → IsGood facts sound o → IsAnswered facts ask o call reply → (call.client ≡ d → ⊥)
+  pub others_stay : (o : Object) (call : Call) (reply : Reply) (d : ℕ) → facts.global ≡ false → IsLegalObject facts sound o → IsAnsweredAt facts ask o call reply → (call.client ≡ d → ⊥)
       → SameFor d o.rows (after facts o call reply).rows
   others_stay o call (Refused code) d alone good is apart = same_self d o.rows
   others_stay o call (Ok g) d alone good is apart = leaves_others facts call g o.rows o.given d (good.own alone) (on_own o call g alone is) apart
 
   -- two objects in which a client's rows are the same let its calls pass alike, but for the room
-  guard_same : (o o' : Object) (call : Call) → facts.global ≡ false → IsGood facts sound o → IsGood facts sound o' → ActsOnOne facts (fun_at facts.funs call.fun) → SameFor call.client o.rows o'.rows
+  guard_same : (o o' : Object) (call : Call) → facts.global ≡ false → IsLegalObject facts sound o → IsLegalObject facts sound o' → ActsOnOne facts (fun_at facts.funs call.fun) → SameFor call.client o.rows o'.rows
       → (fun_at facts.funs call.fun).creation ≡ false → guard (whole facts) o call ≡ None → guard (whole facts) o' call ≡ None
   guard_same o o' call alone good good' acts same makes passes = by (fun_at facts.funs call.fun).query refl
     where
@@ -131,7 +131,7 @@ module _ (facts : Facts) (ask : Table) (sound : Object → Type 0) (law : IsServ
           ∙ no_room (nat_le most_live (length o'.rows)) (nat_le most_live (length o.rows)) (row_at o.rows call.desc) (has_child o.rows call.desc) ∙ was
 
   -- the descriptor is one of the ids given
-  low_desc : (o : Object) (call : Call) → facts.global ≡ false → IsGood facts sound o → Passes facts o call → ActsOnOne facts (fun_at facts.funs call.fun) → KeepsTo facts (fun_at facts.funs call.fun)
+  low_desc : (o : Object) (call : Call) → facts.global ≡ false → IsLegalObject facts sound o → Passes facts o call → ActsOnOne facts (fun_at facts.funs call.fun) → KeepsTo facts (fun_at facts.funs call.fun)
       → (fun_at facts.funs call.fun).creation ≡ false → (call.desc ≡ 0) ⊎ IsOwnRow o.rows call.client call.desc
   low_desc o call alone good passes acts keeps makes = by (fun_at facts.funs call.fun).query refl
     where
@@ -140,7 +140,7 @@ module _ (facts : Facts) (ask : Table) (sound : Object → Type 0) (law : IsServ
       by false row = inr (own_desc (whole facts) o call alone (let_pass (whole facts) o call row passes.guarded) (acts.on makes row).0)
 
   -- what a client's hidden call needs is the same where its rows are
-  needs_same : (o o' : Object) (call : Call) → facts.global ≡ false → IsGood facts sound o → Passes facts o call → SameFor call.client o.rows o'.rows
+  needs_same : (o o' : Object) (call : Call) → facts.global ≡ false → IsLegalObject facts sound o → Passes facts o call → SameFor call.client o.rows o'.rows
       → (fun_at facts.funs call.fun).creation ≡ false → (fun_at facts.funs call.fun).uses_file ≡ false
       → ((id : ℕ) (w : Row) → row_at o'.rows id ≡ Some w → is_live o.rows id ≡ true) → NeedsSame facts o o' call
   needs_same o o' call alone good passes same makes no_file fewer =
@@ -165,8 +165,8 @@ module _ (facts : Facts) (ask : Table) (sound : Object → Type 0) (law : IsServ
       omega (arith, most, its)
 
   -- a hidden answered call stays one after another client's
-  pub still_answered : (o : Object) (e p : Call) (re rp : Reply) → facts.global ≡ false → IsGood facts sound o → IsAnswered facts ask o e re → IsAnswered facts ask o p rp → (e.client ≡ p.client → ⊥)
-      → (fun_at facts.funs p.fun).creation ≡ false → (fun_at facts.funs p.fun).uses_file ≡ false → HasTime facts 0 (after facts o e re) → IsAnswered facts ask (after facts o e re) p rp
+  pub still_answered : (o : Object) (e p : Call) (re rp : Reply) → facts.global ≡ false → IsLegalObject facts sound o → IsAnsweredAt facts ask o e re → IsAnsweredAt facts ask o p rp → (e.client ≡ p.client → ⊥)
+      → (fun_at facts.funs p.fun).creation ≡ false → (fun_at facts.funs p.fun).uses_file ≡ false → HasTime facts 0 (after facts o e re) → IsAnsweredAt facts ask (after facts o e re) p rp
   still_answered o e p re rp alone good is_e is_p apart makes no_file time =
       let o' : Object = after facts o e re in
       let good' = after_good o e re good is_e in
@@ -188,7 +188,7 @@ module _ (facts : Facts) (ask : Table) (sound : Object → Type 0) (law : IsServ
       let general' = law.keeps.general o' good'.is_sound in
       record { passes = passes; answered = by re refl passes good' same acts_p keeps_p general general' }
     where
-      by : (reply : Reply) → re ≡ reply → Passes facts (after facts o e re) p → IsGood facts sound (after facts o e re) → SameFor p.client o.rows (after facts o e re).rows → ActsOnOne facts (fun_at facts.funs p.fun)
+      by : (reply : Reply) → re ≡ reply → Passes facts (after facts o e re) p → IsLegalObject facts sound (after facts o e re) → SameFor p.client o.rows (after facts o e re).rows → ActsOnOne facts (fun_at facts.funs p.fun)
           → KeepsTo facts (fun_at facts.funs p.fun) → IsSound facts o → IsSound facts (after facts o e re) → ask (after facts o e re) p ≡ Some rp
       by (Refused code) is passes good' same acts_p keeps_p general general' = ap (λ r. ask (after facts o e r) p) is ∙ is_p.answered
       by (Ok g) is passes good' same acts_p keeps_p general general' = at (fun_at facts.funs e.fun).creation refl

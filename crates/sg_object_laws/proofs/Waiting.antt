@@ -14,7 +14,7 @@ use Rattle.sg_facts.specs.Legal.{Table}
 use Rattle.sg_facts.specs.Object.{Object, after, first_text, given_after, is_text_kind, object_from, patch_at, patch_of, patched, path_of, place_of, writes}
 use Rattle.sg_facts.specs.Track.{row_at, rows_after}
 use Rattle.sg_object_laws.specs.Apart.{AreOwn, SameFor}
-use Rattle.sg_object_laws.specs.Serving.{HasTime, IsAnswered, IsGood, IsService}
+use Rattle.sg_object_laws.specs.Serving.{HasTime, IsAnsweredAt, IsLegalObject, IsService}
 use Rattle.sg_object_laws.specs.Waiting.{AreWaiting, NoneBy}
 use Rattle.sg_object_laws.proofs.Answered.{path_own}
 use Rattle.sg_object_laws.proofs.Apart.{IsOnOwn, leaves_others, same_on, same_self}
@@ -51,7 +51,7 @@ object_is rows rows' files files' given given' r f g =
     of rows files given = record { rows = rows; files = files; given = given }
 
 module _ (facts : Facts) (ask : Table) (sound : Object → Type 0) (law : IsService facts ask sound) where
-  pub acting_is : (o : Object) (call : Call) (reply : Reply) → facts.global ≡ false → IsAnswered facts ask o call reply → IsActing facts o call reply
+  pub acting_is : (o : Object) (call : Call) (reply : Reply) → facts.global ≡ false → IsAnsweredAt facts ask o call reply → IsActing facts o call reply
   acting_is o call reply alone is = record {
     is_call = is.passes.is_call;
     on = λ good reply_is. on_own facts ask sound law o call good alone (record { passes = is.passes; answered = is.answered ∙ ap (λ r. Some r) reply_is });
@@ -90,7 +90,7 @@ module _ (facts : Facts) (ask : Table) (sound : Object → Type 0) (law : IsServ
           not_so false isn't = refl
 
   -- the order of a hidden call and another client's makes no difference
-  pub swap : (o : Object) (e p : Call) (re rp : Reply) → IsGood facts sound o → IsGood facts sound (after facts o e re) → IsGood facts sound (after facts o p rp)
+  pub swap : (o : Object) (e p : Call) (re rp : Reply) → IsLegalObject facts sound o → IsLegalObject facts sound (after facts o e re) → IsLegalObject facts sound (after facts o p rp)
       → IsHidden facts p.fun → IsActing facts o e re → IsActing facts o p rp → (e.client ≡ p.client → ⊥) → after facts (after facts o e re) p rp ≡ after facts (after facts o p rp) e re
   swap o e p (Refused code) rp good good_e good_p hidden is_e is_p apart = refl
   swap o e p (Ok ge) (Refused code) good good_e good_p hidden is_e is_p apart = refl
@@ -113,7 +113,7 @@ module _ (facts : Facts) (ask : Table) (sound : Object → Type 0) (law : IsServ
       given false false is = refl
 
   -- numbers go up slowly
-  pub time_after : (n : ℕ) (o : Object) (call : Call) (reply : Reply) → IsGood facts sound o → IsAnswered facts ask o call reply → HasTime facts (suc n) o → HasTime facts n (after facts o call reply)
+  pub time_after : (n : ℕ) (o : Object) (call : Call) (reply : Reply) → IsLegalObject facts sound o → IsAnsweredAt facts ask o call reply → HasTime facts (suc n) o → HasTime facts n (after facts o call reply)
   time_after n o call (Refused code) good is time = record { counted = omega (arith, time.counted); given = omega (arith, time.given) }
   time_after n o call (Ok g) good is time =
       let slowly = law.counts.calls o call g good.is_sound is.passes is.answered in
@@ -127,7 +127,7 @@ module _ (facts : Facts) (ask : Table) (sound : Object → Type 0) (law : IsServ
   less_time n m o le time = record { counted = omega (arith, time.counted, le); given = omega (arith, time.given, le) }
 
   -- replies that are held stay so after an answered call of another client
-  pub waiting_after : (o : Object) (e : Call) (re : Reply) (es : List Entry) → IsGood facts sound o → IsAnswered facts ask o e re → HasTime facts 0 (after facts o e re) → NoneBy e.client es
+  pub waiting_after : (o : Object) (e : Call) (re : Reply) (es : List Entry) → IsLegalObject facts sound o → IsAnsweredAt facts ask o e re → HasTime facts 0 (after facts o e re) → NoneBy e.client es
       → AreWaiting facts ask o es → AreWaiting facts ask (after facts o e re) es
   waiting_after o e re [] good is time none all = tt
   waiting_after o e re (p ∷ es) good is time none all =
@@ -141,7 +141,7 @@ module _ (facts : Facts) (ask : Table) (sound : Object → Type 0) (law : IsServ
       )
 
   -- the object behind held replies is one of legal histories
-  pub good_behind : (o : Object) (es : List Entry) → IsGood facts sound o → HasTime facts (length es) o → AreWaiting facts ask o es → IsGood facts sound (object_from facts o es)
+  pub good_behind : (o : Object) (es : List Entry) → IsLegalObject facts sound o → HasTime facts (length es) o → AreWaiting facts ask o es → IsLegalObject facts sound (object_from facts o es)
   good_behind o [] good time all = good
   good_behind o (p ∷ es) good time all =
       let later = time_after (length es) o p.call p.reply good all.0.answered time in
@@ -149,7 +149,7 @@ module _ (facts : Facts) (ask : Table) (sound : Object → Type 0) (law : IsServ
       (waiting_after o p.call p.reply es good all.0.answered (less_time (length es) 0 (after facts o p.call p.reply) (omega arith) later) all.1 all.2)
 
   -- an answered call before held replies of others is as one behind them
-  pub past_waiting : (o : Object) (e : Call) (re : Reply) (es : List Entry) → IsGood facts sound o → IsGood facts sound (after facts o e re) → IsActing facts o e re → NoneBy e.client es
+  pub past_waiting : (o : Object) (e : Call) (re : Reply) (es : List Entry) → IsLegalObject facts sound o → IsLegalObject facts sound (after facts o e re) → IsActing facts o e re → NoneBy e.client es
       → HasTime facts (suc (length es)) o → HasTime facts (length es) (after facts o e re) → AreWaiting facts ask o es → AreWaiting facts ask (after facts o e re) es
       → object_from facts (after facts o e re) es ≡ after facts (object_from facts o es) e re
   past_waiting o e re [] good good_e is none time time_e all all_e = refl
@@ -163,7 +163,7 @@ module _ (facts : Facts) (ask : Table) (sound : Object → Type 0) (law : IsServ
       let later_ep = waiting_after (after facts o e re) p.call p.reply es good_e all_e.0.answered (less_time (length es) 0 (after facts (after facts o e re) p.call p.reply) (omega arith) time_ep) all_e.1 all_e.2 in
       ap (λ x. object_from facts x es) both
       ∙ past_waiting (after facts o p.call p.reply) e re es good_p
-      (subst (IsGood facts sound) both (after_good facts ask sound law (after facts o e re) p.call p.reply good_e all_e.0.answered))
+      (subst (IsLegalObject facts sound) both (after_good facts ask sound law (after facts o e re) p.call p.reply good_e all_e.0.answered))
       (record {
         is_call = is.is_call;
         on = λ g reply_is. on_after hidden.alone p.reply refl g reply_is;
@@ -181,7 +181,7 @@ module _ (facts : Facts) (ask : Table) (sound : Object → Type 0) (law : IsServ
           (on_own_after facts p.call e gp g o.rows o.given o.given (good.own alone) acts_p (is.on g reply_is) (λ same. none.0 same) (is.on g reply_is).next))
 
   -- other clients' rows, the files and the ids given are as before
-  pub behind_same : (o : Object) (es : List Entry) (d : ℕ) → IsGood facts sound o → HasTime facts (length es) o → AreWaiting facts ask o es → NoneBy d es
+  pub behind_same : (o : Object) (es : List Entry) (d : ℕ) → IsLegalObject facts sound o → HasTime facts (length es) o → AreWaiting facts ask o es → NoneBy d es
       → SameFor d o.rows (object_from facts o es).rows × ((object_from facts o es).files ≡ o.files) × ((object_from facts o es).given ≡ o.given)
   behind_same o [] d good time all none = (same_self d o.rows, refl, refl)
   behind_same o (p ∷ es) d good time all none =

@@ -19,12 +19,12 @@ pub record IsService (facts : Facts) (ask : Table) (sound : Object → Type 0) :
   pub counts : CountsSlowly facts ask sound
 
 -- an object of legal histories: it is sound, and in a private service each row's parent is its creator's
-pub record IsGood (facts : Facts) (sound : Object → Type 0) (o : Object) : Type 0 where
+pub record IsLegalObject (facts : Facts) (sound : Object → Type 0) (o : Object) : Type 0 where
   pub is_sound : sound o
   pub own : facts.global ≡ false → AreOwn o.rows
 
 -- an answered call at an object
-pub record IsAnswered (facts : Facts) (ask : Table) (o : Object) (call : Call) (reply : Reply) : Type 0 where
+pub record IsAnsweredAt (facts : Facts) (ask : Table) (o : Object) (call : Call) (reply : Reply) : Type 0 where
   pub passes : Passes facts o call
   pub answered : ask o call ≡ Some reply
 

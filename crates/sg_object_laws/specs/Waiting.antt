@@ -5,7 +5,7 @@ use Rattle.sg_facts.specs.declared.entry.Entry.{Entry}
 use Rattle.sg_facts.specs.Facts.{Facts, is_visible}
 use Rattle.sg_facts.specs.Legal.{Table}
 use Rattle.sg_facts.specs.Object.{Object}
-use Rattle.sg_object_laws.specs.Serving.{IsAnswered}
+use Rattle.sg_object_laws.specs.Serving.{IsAnsweredAt}
 
 -- no entry is of a client
 abbrev pub NoneBy : ℕ → List Entry → Type 0
@@ -14,7 +14,7 @@ NoneBy client es = Each (λ e. e.call.client ≢ client) es
 -- a reply is held at an object
 pub record IsWaiting (facts : Facts) (ask : Table) (o : Object) (e : Entry) : Type 0 where
   pub hidden : is_visible facts e.call.fun ≡ false
-  pub answered : IsAnswered facts ask o e.call e.reply
+  pub answered : IsAnsweredAt facts ask o e.call e.reply
 
 -- replies of different clients are held
 abbrev pub AreWaiting : Facts → Table → Object → List Entry → Type 0

@@ -24,7 +24,7 @@ use Rattle.sg_sched.specs.declared.thread.Thread.{Thread}
 use Rattle.sg_sched.specs.SchedFacts.{sched_facts}
 use Rattle.sg_sched.specs.SchedTable.{sched_table, sched_parts, sched_wait_answer, next_answer, next_rank, first_ready}
 use Rattle.sg_sched.specs.SchedRow.{thread_body}
-use Rattle.sg_sched.specs.SchedDecision.{on_create, on_yield, on_sleep, on_wakeup, on_wait, on_next, on_place}
+use Rattle.sg_sched.specs.SchedDecision.{on_create, on_yield, on_sleep, on_wakeup, on_thread_wait, on_next, on_place}
 
 or_false : (b : Bool) → (b || false) ≡ b
 or_false true = refl
@@ -110,7 +110,7 @@ module _ (held : Held Thread) (client seq desc : ℕ) (args : List Value) where
     pub wake_right : right 4 (on_wakeup t)
     wake_right = record { about = is_there; answered = refl; changed = ap with_rows (rows_set 4 good (record t { ready = true }) refl); parted = refl; unwritten = unwritten 4 }
 
-    pub wait_right : right 5 (on_wait t)
+    pub wait_right : right 5 (on_thread_wait t)
     wait_right = at t.ready refl
       where
         found : state_in (row_at rows desc) ≡ (if t.ready then 1 else 3)

@@ -22,8 +22,8 @@ abbrev pub on_wakeup : Thread → Decision Thread
 on_wakeup t = Set (record t { ready = true }) None
 
 -- the caller waits until a thread is ready
-abbrev pub on_wait : Thread → Decision Thread
-on_wait t = if t.ready then Keep 0 None else Block
+abbrev pub on_thread_wait : Thread → Decision Thread
+on_thread_wait t = if t.ready then Keep 0 None else Block
 
 -- the thread that is next is told
 abbrev pub on_next : Option ℕ → Decision Thread

@@ -16,7 +16,7 @@ ghost use Rattle.sg_sched.specs.SchedBlockedLaw.{sched_blocked_stays};
 ghost use Rattle.sg_sched.specs.SchedShapeLaw.{sched_shape_allows, sched_counts_slowly};
 ghost use Rattle.sg_sched.specs.SchedSound.{IsSchedSound};
 ghost use Rattle.sg_sched.specs.SchedSoundLaw.{sched_answers_and_keeps};
-ghost use Rattle.sg_sched.specs.SchedDecision.{on_create, on_yield, on_sleep, on_wakeup, on_wait, on_next, on_place};
+ghost use Rattle.sg_sched.specs.SchedDecision.{on_create, on_yield, on_sleep, on_wakeup, on_thread_wait, on_next, on_place};
 
 use crate::Thread;
 use crate::queue::Queue;
@@ -190,7 +190,7 @@ fn wake(thread: &Thread) -> Decision<Thread>
 
 // Waits until a thread is ready.
 fn wait(thread: &Thread) -> Decision<Thread>
-    ensures { result ≡ on_wait thread.now }
+    ensures { result ≡ on_thread_wait thread.now }
 {
     if thread.ready {
         Decision::Keep {

@@ -24,7 +24,7 @@ use Rattle.sg_recovery_laws.specs.Growing.{IsGrown, IsOfNoEntry}
 use Rattle.sg_recovery_laws.proofs.Given.{IsSameId, is_numbered, made_same, names_same}
 use Rattle.sg_recovery_laws.proofs.Growing.{entries_before-more, in_boot, names_at-more, stands_before-own}
 use Rattle.sg_recovery_laws.proofs.Same.{any_rebuilt}
-use Rattle.sg_held_laws.specs.Progress.{Told, complete, IsCounted, IsNone, is_complete}
+use Rattle.sg_held_laws.specs.Progress.{Told, complete, TellsCalls, IsNone, is_complete}
 use Rattle.sg_trace_laws.specs.Told.{IsRead, whole_behind}
 use Rattle.sg_trace_laws.specs.LastPlace.{last_place}
 use Rattle.sg_walk_laws.proofs.Found.{other_test, same_test}
@@ -122,10 +122,10 @@ module _ (facts : Facts) (walks : List WalkLine) (h later : List Entry) (older f
       same_count : (x : ℕ) → filter (λ y. is_walk_of x y.tag) (front ++ item ∷ []) ≡ filter (λ y. is_walk_of x y.tag) front
       same_count x = filter-append (λ y. is_walk_of x y.tag) front (item ∷ []) ∙ ap (λ b. filter (λ y. is_walk_of x y.tag) front ++ cond b (item ∷ []) []) (no_walk x) ∙ append-nil (filter (λ y. is_walk_of x y.tag) front)
 
-      calls_at : (x : ℕ) → (x ≡ good.desc) ⊎ ((x ≢ good.desc) × (is_live rows x ≡ true)) → IsCounted (if x == good.desc then complete else told x) (length (filter (λ y. is_walk_of x y.tag) (front ++ item ∷ [])))
-      calls_at x (inl same) = subst (λ t. IsCounted t (length (filter (λ y. is_walk_of x y.tag) (front ++ item ∷ [])))) (sym (ap (λ b. cond b complete (told x)) (same_test x good.desc same))) tt
-      calls_at x (inr there) = subst (λ t. IsCounted t (length (filter (λ y. is_walk_of x y.tag) (front ++ item ∷ [])))) (sym (ap (λ b. cond b complete (told x)) (other_test x good.desc there.0)))
-          (subst (λ l. IsCounted (told x) (length l)) (sym (same_count x)) (read.calls x there.1))
+      calls_at : (x : ℕ) → (x ≡ good.desc) ⊎ ((x ≢ good.desc) × (is_live rows x ≡ true)) → TellsCalls (if x == good.desc then complete else told x) (length (filter (λ y. is_walk_of x y.tag) (front ++ item ∷ [])))
+      calls_at x (inl same) = subst (λ t. TellsCalls t (length (filter (λ y. is_walk_of x y.tag) (front ++ item ∷ [])))) (sym (ap (λ b. cond b complete (told x)) (same_test x good.desc same))) tt
+      calls_at x (inr there) = subst (λ t. TellsCalls t (length (filter (λ y. is_walk_of x y.tag) (front ++ item ∷ [])))) (sym (ap (λ b. cond b complete (told x)) (other_test x good.desc there.0)))
+          (subst (λ l. TellsCalls (told x) (length l)) (sym (same_count x)) (read.calls x there.1))
 
 -- an entry that is put before held replies with its item leaves what stood before each earlier item
 pub entries_put : (h es : List Entry) (e : Entry) (item : Item) (p q : Place) → IsOfNoEntry item (h ++ es) → is_item_of e item ≡ true → IsGrown item p q → entries_before (h ++ e ∷ es) q ≡ entries_before (h ++ es) p
@@ -177,7 +177,7 @@ module _ (facts : Facts) (walks : List WalkLine) (h later : List Entry) (older f
         ap (λ l. named l x) (names_at-more facts later front item ∙ ap (λ l. l ++ names_in facts later item.shown.fun item.tag item.outcome) (names_same facts h later front ids)
         ∙ ap (λ l. names_at facts h front ++ l) no_name ∙ append-nil (names_at facts h front)) ∙ read.names_are x known;
     whole = λ x live. whole_same x ∙ read.whole x live;
-    calls = λ x live. subst (λ l. IsCounted (told x) (length l)) (sym (filter-append (λ y. is_walk_of x y.tag) front (item ∷ [])
+    calls = λ x live. subst (λ l. TellsCalls (told x) (length l)) (sym (filter-append (λ y. is_walk_of x y.tag) front (item ∷ [])
         ∙ ap (λ b. filter (λ y. is_walk_of x y.tag) front ++ cond b (item ∷ []) []) (no_walk x) ∙ append-nil (filter (λ y. is_walk_of x y.tag) front))) (read.calls x live);
     files = λ path. list_any-append (λ y. is_patch_at path y.outcome) front (item ∷ []) ∙ ap (λ b. b || (is_patch_at path item.outcome || false)) (read.files path) ∙ nothing (present path) (is_patch_at path item.outcome);
   }

@@ -24,7 +24,7 @@ use Rattle.sg_hist.specs.Clients.{calls_of}
 use Rattle.sg_hist.specs.Reading.{Place, is_by_guard, is_made, is_item_of, is_rebuilt_at, is_whole_at, names_at, object_before, places_in, stands_before, value_at, walk_in}
 use Rattle.sg_hist.specs.Recovered.{IsAdmitted, IsAlikeTo, IsCallOf, IsCallOfRow, IsLoad, IsOkOrStopped, IsLoadedFor, IsTracked, IsUnderWay as IsMade, call_in, is_walk_of}
 use Rattle.sg_recovery_laws.specs.Growing.{IsOfNoEntry}
-use Rattle.sg_held_laws.specs.Progress.{Told, fresh, begun, complete, IsCounted, IsNone, is_complete}
+use Rattle.sg_held_laws.specs.Progress.{Told, fresh, begun, complete, TellsCalls, IsNone, is_complete}
 use Rattle.sg_trace_laws.specs.Told.{IsRead}
 use Rattle.sg_object_laws.proofs.Apart.{Ascends}
 use Rattle.sg_trace_laws.specs.LastPlace.{HaveItems, last_place}
@@ -160,7 +160,7 @@ module _ (i : Declared) (walks : List WalkLine) (history : List Entry) (u : List
 
   -- ---- a call of a walk
 
-  pub walk_settled : (id k client : ℕ) (r : Row) (done rest : List ℕ) (fun : ℕ) → row_at o.rows id ≡ Some r → (is_complete (told id) ≡ false) → IsCounted (told id) (length done) → (told id ≡ fresh → done ≡ [])
+  pub walk_settled : (id k client : ℕ) (r : Row) (done rest : List ℕ) (fun : ℕ) → row_at o.rows id ≡ Some r → (is_complete (told id) ≡ false) → TellsCalls (told id) (length done) → (told id ≡ fresh → done ≡ [])
       → k ≡ length done + 1 → walk_in walks (Some r) ≡ Some (done ++ fun ∷ rest) → item.shown ≡ replayed_call i.facts r (is_none done) fun
       → ((r.parent ≡ 0) ⊎ ((is_live o.rows r.parent ≡ true) × (told r.parent ≡ complete))) → IsNone o.rows item.shown.desc → item.real ≡ named names item.shown.desc → IsOkOrStopped item.outcome
       → IsCallOfRow i.facts walks history (last_place older front item) id k (row_at (object_before i.facts history (last_place older front item)).rows id)
@@ -179,7 +179,7 @@ module _ (i : Declared) (walks : List WalkLine) (history : List Entry) (u : List
       left true b is = absurd (cc is)
       left false b is = refl
 
-      count : (t : Told) → IsCounted t (length (filter (λ x. is_walk_of id x.tag) front)) → IsCounted t (length done) → is_complete t ≡ false → (t ≡ fresh → done ≡ []) → length (filter (λ x. is_walk_of id x.tag) front) + 1 ≡ k
+      count : (t : Told) → TellsCalls t (length (filter (λ x. is_walk_of id x.tag) front)) → TellsCalls t (length done) → is_complete t ≡ false → (t ≡ fresh → done ≡ []) → length (filter (λ x. is_walk_of id x.tag) front) + 1 ≡ k
       count fresh n d part nothing = omega (arith, n, d, k_is)
       count (begun m) n d part nothing = omega (arith, n, d, k_is)
       count complete n d part nothing = absurd (cc part)

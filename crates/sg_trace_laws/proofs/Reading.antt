@@ -24,7 +24,7 @@ use Rattle.sg_hist.specs.Recovered.{is_patch_at, is_walk_of}
 use Rattle.sg_recovery_laws.specs.Growing.{IsOfNoEntry}
 use Rattle.sg_recovery_laws.proofs.Growing.{entries_before-more, in_boot, names_at-more}
 use Rattle.sg_recovery_laws.proofs.Same.{any_rebuilt}
-use Rattle.sg_held_laws.specs.Progress.{Told, fresh, begun, complete, IsCounted, IsNone, is_complete}
+use Rattle.sg_held_laws.specs.Progress.{Told, fresh, begun, complete, TellsCalls, IsNone, is_complete}
 use Rattle.sg_held_laws.specs.Stepping.{so_far, told_after}
 use Rattle.sg_trace_laws.specs.Told.{IsRead, whole_behind}
 use Rattle.sg_trace_laws.specs.LastPlace.{last_place}
@@ -122,7 +122,7 @@ module _ (facts : Facts) (walks : List WalkLine) (history : List Entry) (older f
           ∙ ap (λ b. (list_any (is_made facts history id) front || (b || false)) || (list_any (is_rebuilt_at facts walks history id) (places_in older [] front []) || (is_rebuilt_at facts walks history id (last_place older front item) || false))) (unmade id)
           ∙ ap (λ b. (list_any (is_made facts history id) front || (false || false)) || (list_any (is_rebuilt_at facts walks history id) (places_in older [] front []) || (b || false))) (unbuilt id)
           ∙ same (list_any (is_made facts history id) front) (list_any (is_rebuilt_at facts walks history id) (places_in older [] front [])) ∙ read.whole id live;
-      calls = λ id live. subst (IsCounted (told id)) (sym (ap length (filter-append (λ x. is_walk_of id x.tag) front (item ∷ [])
+      calls = λ id live. subst (TellsCalls (told id)) (sym (ap length (filter-append (λ x. is_walk_of id x.tag) front (item ∷ [])
           ∙ ap (λ b. filter (λ x. is_walk_of id x.tag) front ++ cond b (item ∷ []) []) (no_walk id) ∙ append-nil (filter (λ x. is_walk_of id x.tag) front)))) (read.calls id live);
       files = λ path. list_any-append (λ x. is_patch_at path x.outcome) front (item ∷ []) ∙ ap (λ b. b || (is_patch_at path item.outcome || false)) (read.files path) ∙ nothing (present path) (is_patch_at path item.outcome);
     }
@@ -140,7 +140,7 @@ module _ (facts : Facts) (walks : List WalkLine) (history : List Entry) (older f
     -- a call of a walk
     pub read_walk : (id client : ℕ) (r : Row) (done rest : List ℕ) (fun : ℕ) (good : Good) → item.tag ≡ Walk id (length done + 1) client → item.outcome ≡ Replied (Ok good) None
         → row_at (object_before facts history (last_place older front item)).rows id ≡ Some r → walk_in walks (Some r) ≡ Some (done ++ fun ∷ rest) → r.id ≡ id
-        → is_complete (told id) ≡ false → IsCounted (told id) (length done) → (told id ≡ fresh → done ≡ []) → is_live rows id ≡ true
+        → is_complete (told id) ≡ false → TellsCalls (told id) (length done) → (told id ≡ fresh → done ≡ []) → is_live rows id ≡ true
         → IsRead facts walks history older (front ++ item ∷ []) (names_after names r done good) (told_after told id done rest) present rows
     read_walk id client r done rest fun good tag outcome there walk its part counted none_done live_id = record {
       names_are = names_now;
@@ -164,7 +164,7 @@ module _ (facts : Facts) (walks : List WalkLine) (history : List Entry) (older f
         count : length (filter (λ x. is_walk_of id x.tag) front) ≡ length done
         count = at (told id) (read.calls id live_id) counted part
           where
-            at : (t : Told) → IsCounted t (length (filter (λ x. is_walk_of id x.tag) front)) → IsCounted t (length done) → is_complete t ≡ false → length (filter (λ x. is_walk_of id x.tag) front) ≡ length done
+            at : (t : Told) → TellsCalls t (length (filter (λ x. is_walk_of id x.tag) front)) → TellsCalls t (length done) → is_complete t ≡ false → length (filter (λ x. is_walk_of id x.tag) front) ≡ length done
             at fresh n d part = n ∙ sym d
             at (begun m) n d part = n ∙ sym d
             at complete n d part = absurd (cc part)
@@ -238,7 +238,7 @@ module _ (facts : Facts) (walks : List WalkLine) (history : List Entry) (older f
         walk_is : (x : ℕ) → is_walk_of x item.tag ≡ (id == x)
         walk_is x = ap (is_walk_of x) tag
 
-        calls_now : (x : ℕ) → is_live rows x ≡ true → IsCounted (told_after told id done rest x) (length (filter (λ y. is_walk_of x y.tag) (front ++ item ∷ [])))
+        calls_now : (x : ℕ) → is_live rows x ≡ true → TellsCalls (told_after told id done rest x) (length (filter (λ y. is_walk_of x y.tag) (front ++ item ∷ [])))
         calls_now x live = at (eqb_tells x id)
           where
             length_is : (b : Bool) → is_walk_of x item.tag ≡ b → length (filter (λ y. is_walk_of x y.tag) (front ++ item ∷ [])) ≡ length (filter (λ y. is_walk_of x y.tag) front) + (cond b 1 0)
@@ -249,17 +249,17 @@ module _ (facts : Facts) (walks : List WalkLine) (history : List Entry) (older f
                 one true = refl
                 one false = refl
 
-            at : ((x == id) ≡ true) × (x ≡ id) ⊎ ((x == id) ≡ false) × (x ≡ id → ⊥) → IsCounted (told_after told id done rest x) (length (filter (λ y. is_walk_of x y.tag) (front ++ item ∷ [])))
+            at : ((x == id) ≡ true) × (x ≡ id) ⊎ ((x == id) ≡ false) × (x ≡ id → ⊥) → TellsCalls (told_after told id done rest x) (length (filter (λ y. is_walk_of x y.tag) (front ++ item ∷ [])))
             at (inl same) =
                 let n : length (filter (λ y. is_walk_of x y.tag) (front ++ item ∷ [])) ≡ suc (length done)
                 = length_is true (walk_is x ∙ same_test id x (sym same.1)) ∙ ap (λ i. length (filter (λ y. is_walk_of i y.tag) front) + 1) same.1 ∙ ap (λ m. m + 1) count ∙ (let e : length done + 1 ≡ suc (length done) = omega arith in e) in
-                subst (λ t. IsCounted t (length (filter (λ y. is_walk_of x y.tag) (front ++ item ∷ [])))) (sym (ap (λ b. cond b (so_far rest (suc (length done))) (told x)) same.0)) (by rest n)
+                subst (λ t. TellsCalls t (length (filter (λ y. is_walk_of x y.tag) (front ++ item ∷ [])))) (sym (ap (λ b. cond b (so_far rest (suc (length done))) (told x)) same.0)) (by rest n)
               where
-                by : (rs : List ℕ) → length (filter (λ y. is_walk_of x y.tag) (front ++ item ∷ [])) ≡ suc (length done) → IsCounted (so_far rs (suc (length done))) (length (filter (λ y. is_walk_of x y.tag) (front ++ item ∷ [])))
+                by : (rs : List ℕ) → length (filter (λ y. is_walk_of x y.tag) (front ++ item ∷ [])) ≡ suc (length done) → TellsCalls (so_far rs (suc (length done))) (length (filter (λ y. is_walk_of x y.tag) (front ++ item ∷ [])))
                 by [] n = tt
                 by (y ∷ rs) n = n
             at (inr apart) =
                 let n : length (filter (λ y. is_walk_of x y.tag) (front ++ item ∷ [])) ≡ length (filter (λ y. is_walk_of x y.tag) front)
                 = length_is false (walk_is x ∙ other_test id x (λ is. apart.1 (sym is))) ∙ (let e : length (filter (λ y. is_walk_of x y.tag) front) + 0 ≡ length (filter (λ y. is_walk_of x y.tag) front) = omega arith in e) in
-                subst (λ t. IsCounted t (length (filter (λ y. is_walk_of x y.tag) (front ++ item ∷ [])))) (sym (ap (λ b. cond b (so_far rest (suc (length done))) (told x)) apart.0))
-                (subst (IsCounted (told x)) (sym n) (read.calls x live))
+                subst (λ t. TellsCalls t (length (filter (λ y. is_walk_of x y.tag) (front ++ item ∷ [])))) (sym (ap (λ b. cond b (so_far rest (suc (length done))) (told x)) apart.0))
+                (subst (TellsCalls (told x)) (sym n) (read.calls x live))

@@ -14,7 +14,7 @@ use Rattle.sg_recovery_laws.specs.Growing.{IsOfNoEntry}
 use Rattle.sg_trace_laws.specs.LastPlace.{HaveItems}
 use Rattle.sg_hist.specs.Reading.{is_made, is_rebuilt_at, names_at, places_in}
 use Rattle.sg_hist.specs.Recovered.{is_patch_at, is_walk_of}
-use Rattle.sg_held_laws.specs.Progress.{IsCounted, IsNone, Told, is_complete}
+use Rattle.sg_held_laws.specs.Progress.{TellsCalls, IsNone, Told, is_complete}
 
 -- whether an id is whole behind the items of a boot
 abbrev pub whole_behind : Facts → List WalkLine → List Entry → List Item → List Item → ℕ → Bool
@@ -25,7 +25,7 @@ whole_behind facts walks history older front id =
 pub record IsRead (facts : Facts) (walks : List WalkLine) (history : List Entry) (older front : List Item) (names : List (ℕ × ℕ)) (told : ℕ → Told) (present : List ℕ → Bool) (rows : List Row) : Type 0 where
   pub names_are : (id : ℕ) → IsNone rows id → named (names_at facts history front) id ≡ named names id
   pub whole : (id : ℕ) → is_live rows id ≡ true → whole_behind facts walks history older front id ≡ is_complete (told id)
-  pub calls : (id : ℕ) → is_live rows id ≡ true → IsCounted (told id) (length (filter (λ item. is_walk_of id item.tag) front))
+  pub calls : (id : ℕ) → is_live rows id ≡ true → TellsCalls (told id) (length (filter (λ item. is_walk_of id item.tag) front))
   pub files : (path : List ℕ) → list_any (λ item. is_patch_at path item.outcome) front ≡ present path
 
 -- what is known where an item is noted last: the object of the whole history is sound, each entry has its item among the earlier ones,

@@ -27,7 +27,7 @@ ghost use Rattle.sg_facts.specs.Walks.{replayed_call};
 ghost use Rattle.sg_hist.specs.Reading.{is_made, is_rebuilt_at, is_whole_at, names_in, object_before, value_at, walk_in};
 ghost use Rattle.sg_hist.specs.Recovered.{IsAdmitted, IsCallOf, IsCallOfRow, IsLoad, IsLoadedFor, IsOkOrStopped, IsTracked, is_patch_at, is_walk_of};
 ghost use Rattle.sg_recovery_laws.specs.Growing.{IsOfNoEntry, last_items, older_items, place_behind};
-ghost use Rattle.sg_held_laws.specs.Progress.{IsCounted, IsNone, Told, complete, fresh, is_complete};
+ghost use Rattle.sg_held_laws.specs.Progress.{TellsCalls, IsNone, Told, complete, fresh, is_complete};
 ghost use Rattle.sg_held_laws.specs.Stepping.{told_after};
 ghost use Rattle.sg_trace_laws.specs.Asked.{IsClientsCall, IsComeTo};
 ghost use Rattle.sg_trace_laws.specs.LastPlace.{HaveItems, last_place};
@@ -62,7 +62,7 @@ pub fn items_settle()
         → IsTracked i.facts walks h (last_place older front item) }
     ensures walked { (i : Declared) (walks : List WalkLine) (h : List Entry) (older front : List Item) (item : Item) (names : List (ℕ × ℕ)) (told : ℕ → Told)
         (present : List ℕ → Bool) (o : Object) (id k client : ℕ) (r : Row) (done rest : List ℕ) (fun : ℕ) → IsKnown i.facts walks h older front item names told present o
-        → row_at o.rows id ≡ Some r → is_complete (told id) ≡ false → IsCounted (told id) (length done) → (told id ≡ fresh → done ≡ []) → k ≡ length done + 1
+        → row_at o.rows id ≡ Some r → is_complete (told id) ≡ false → TellsCalls (told id) (length done) → (told id ≡ fresh → done ≡ []) → k ≡ length done + 1
         → walk_in walks (Some r) ≡ Some (done ++ fun ∷ rest) → item.shown ≡ replayed_call i.facts r (is_none done) fun
         → (r.parent ≡ 0) ⊎ ((is_live o.rows r.parent ≡ true) × (told r.parent ≡ complete)) → IsNone o.rows item.shown.desc
         → item.real ≡ named names item.shown.desc → IsOkOrStopped item.outcome
@@ -91,7 +91,7 @@ pub fn told_grows()
         (present : List ℕ → Bool) (rows : List Row) (id client : ℕ) (r : Row) (done rest : List ℕ) (fun : ℕ) (good : Good) → IsOfNoEntry item h
         → IsRead facts walks h older front names told present rows → item.tag ≡ Walk id (length done + 1) client → item.outcome ≡ Replied (Ok good) None
         → row_at (object_before facts h (last_place older front item)).rows id ≡ Some r → walk_in walks (Some r) ≡ Some (done ++ fun ∷ rest) → r.id ≡ id
-        → is_complete (told id) ≡ false → IsCounted (told id) (length done) → (told id ≡ fresh → done ≡ []) → is_live rows id ≡ true
+        → is_complete (told id) ≡ false → TellsCalls (told id) (length done) → (told id ≡ fresh → done ≡ []) → is_live rows id ≡ true
         → IsRead facts walks h older (front ++ item ∷ []) (names_after names r done good) (told_after told id done rest) present rows }
 {}
 

@@ -27,8 +27,8 @@ use Rattle.sg_recovery_laws.specs.Growing.{IsNextItem, IsOfNoEntry, last_items, 
 use Rattle.sg_recovery_laws.proofs.Lists.{each_append, each_contains, each_map, each_split}
 use Rattle.sg_world_laws.specs.Keeping.{AreDrawn, IsUp, Keeps, Setting, Stub, stubs_of}
 use Rattle.sg_held_laws.specs.Progress.{complete, IsNone}
-use Rattle.sg_object_laws.specs.Serving.{HasTime, IsGood, IsService}
-use Rattle.sg_world_laws.specs.State.{Mark, Seat, Withdrawn, waiting_in}
+use Rattle.sg_object_laws.specs.Serving.{HasTime, IsLegalObject, IsService}
+use Rattle.sg_world_laws.specs.WorldView.{LogMark, Seat, Withdrawn, held_in}
 use Rattle.sg_trace_laws.specs.Told.{IsRead}
 use Rattle.sg_object_laws.specs.Waiting.{AreWaiting, NoneBy}
 use Rattle.sg_trace_laws.specs.LastPlace.{HaveItems, last_place}
@@ -42,20 +42,20 @@ use Rattle.sg_object_laws.proofs.Serves.{fewer_behind, needed_behind}
 use Rattle.sg_object_laws.proofs.Steady.{ascends}
 use Rattle.sg_object_laws.proofs.Waiting.{behind_same, good_behind}
 
-module _ (z : Setting) (law : IsService z.iface.facts z.ask z.sound) (h : List Entry) (b : Boot) (boots : List Boot) (points : ℕ) (v : Object) (seats : List Seat) (withdrawn : List Withdrawn) (marks : List Mark)
+module _ (z : Setting) (law : IsService z.iface.facts z.ask z.sound) (h : List Entry) (b : Boot) (boots : List Boot) (points : ℕ) (v : Object) (seats : List Seat) (withdrawn : List Withdrawn) (marks : List LogMark)
     (events refused : ℕ) (stub : Stub)
     (k : Keeps z (record { history = h; run = record { boots = b ∷ boots; points = points }; running = Some v; seats = seats; withdrawn = withdrawn; marks = marks; events = events; refused = refused }) stub)
-    (call : Call) (item : Item) (passes : Passes z.iface.facts (object_of z.iface.facts h) call) (lets : guard z.iface (object_of z.iface.facts h) call ≡ None) (none_by : NoneBy call.client (waiting_in (length (b ∷ boots)) seats))
+    (call : Call) (item : Item) (passes : Passes z.iface.facts (object_of z.iface.facts h) call) (lets : guard z.iface (object_of z.iface.facts h) call ≡ None) (none_by : NoneBy call.client (held_in (length (b ∷ boots)) seats))
     (needed : (r : Row) → row_at (object_of z.iface.facts h).rows r.id ≡ Some r → is_needed z.iface.facts (object_of z.iface.facts h).rows call r ≡ true → stub.told r.id ≡ complete)
     (file : (fun_at z.iface.facts.funs call.fun).uses_file ≡ true
     → (stub.present (path_of (object_of z.iface.facts h).rows call.desc) ≡ true) ⊎ (file_at (object_of z.iface.facts h).files (path_of (object_of z.iface.facts h).rows call.desc) ≡ []))
     (desc : IsNone (object_of z.iface.facts h).rows call.desc) (desc_needed : (r : Row) → r.id ≡ call.desc → is_needed z.iface.facts (object_of z.iface.facts h).rows call r ≡ true)
     (tag : item.tag ≡ Client call.client call.seq) (shown : item.shown ≡ call) (real : item.real ≡ named stub.names call.desc) (table : IsByTable z.iface.facts z.ask v (service_call item) item.outcome)
-    (seqs : Each (λ e. e.call.client ≡ call.client → e.call.seq < call.seq) (h ++ waiting_in (length (b ∷ boots)) seats)) where
+    (seqs : Each (λ e. e.call.client ≡ call.client → e.call.seq < call.seq) (h ++ held_in (length (b ∷ boots)) seats)) where
   up : IsUp z (record { history = h; run = record { boots = b ∷ boots; points = points }; running = Some v; seats = seats; withdrawn = withdrawn; marks = marks; events = events; refused = refused }) stub v
   up = k.runs
 
-  ok : IsGood z.iface.facts z.sound (object_of z.iface.facts h)
+  ok : IsLegalObject z.iface.facts z.sound (object_of z.iface.facts h)
   ok = k.object.good
 
   time_o : (n : ℕ) → n ≤ 200 → HasTime z.iface.facts n (object_of z.iface.facts h)
@@ -64,15 +64,15 @@ module _ (z : Setting) (law : IsService z.iface.facts z.ask z.sound) (h : List E
   -- it serves the call, and a needed row of the history is whole in it
   pub serves_call : Serves z.iface.facts stub.names (object_of z.iface.facts h) v call
   unfolding up
-  serves_call = serves_it z.iface z.ask z.sound z.walks stub.names stub.told stub.present (object_of z.iface.facts h) v (waiting_in (length (b ∷ boots)) seats) law ok k.waiting_are
-      (time_o (suc (suc (length (waiting_in (length (b ∷ boots)) seats)))) (omega (arith, k.waiting_few))) up.under_way call passes none_by needed file
+  serves_call = serves_it z.iface z.ask z.sound z.walks stub.names stub.told stub.present (object_of z.iface.facts h) v (held_in (length (b ∷ boots)) seats) law ok k.waiting_are
+      (time_o (suc (suc (length (held_in (length (b ∷ boots)) seats)))) (omega (arith, k.waiting_few))) up.under_way call passes none_by needed file
 
-  module _ (es : List Entry) (drawn : AreDrawn (waiting_in (length (b ∷ boots)) seats) es) (none_es : IsOfNoEntry item (h ++ es)) where
-    drawn_each : (P : Entry → Type 0) → Each P (waiting_in (length (b ∷ boots)) seats) → Each P es
-    drawn_each P all = each_map (Contains (waiting_in (length (b ∷ boots)) seats)) P es (λ e has. each_contains P (waiting_in (length (b ∷ boots)) seats) e all has) drawn.each
+  module _ (es : List Entry) (drawn : AreDrawn (held_in (length (b ∷ boots)) seats) es) (none_es : IsOfNoEntry item (h ++ es)) where
+    drawn_each : (P : Entry → Type 0) → Each P (held_in (length (b ∷ boots)) seats) → Each P es
+    drawn_each P all = each_map (Contains (held_in (length (b ∷ boots)) seats)) P es (λ e has. each_contains P (held_in (length (b ∷ boots)) seats) e all has) drawn.each
 
     es_wait : AreWaiting z.iface.facts z.ask (object_of z.iface.facts h) es
-    es_wait = drawn_waiting z.iface.facts z.ask (object_of z.iface.facts h) (waiting_in (length (b ∷ boots)) seats) es k.waiting_are drawn
+    es_wait = drawn_waiting z.iface.facts z.ask (object_of z.iface.facts h) (held_in (length (b ∷ boots)) seats) es k.waiting_are drawn
 
     es_none : NoneBy call.client es
     es_none = drawn_each (λ e. e.call.client ≢ call.client) none_by
@@ -136,7 +136,7 @@ module _ (z : Setting) (law : IsService z.iface.facts z.ask z.sound) (h : List E
 
     seqs_es : Each (λ e. (e.call.client == call.client) ≡ true → e.call.seq < call.seq) (h ++ es)
     seqs_es =
-        let parts = each_split (λ e. e.call.client ≡ call.client → e.call.seq < call.seq) h (waiting_in (length (b ∷ boots)) seats) seqs in
+        let parts = each_split (λ e. e.call.client ≡ call.client → e.call.seq < call.seq) h (held_in (length (b ∷ boots)) seats) seqs in
         each_map (λ e. e.call.client ≡ call.client → e.call.seq < call.seq) (λ e. (e.call.client == call.client) ≡ true → e.call.seq < call.seq) (h ++ es) (λ e so is. so (grind (arith, nat_tests, is)))
         (each_append (λ e. e.call.client ≡ call.client → e.call.seq < call.seq) h es parts.0 (drawn_each (λ e. e.call.client ≡ call.client → e.call.seq < call.seq) parts.1))
 

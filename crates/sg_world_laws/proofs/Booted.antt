@@ -18,9 +18,9 @@ use Rattle.sg_recovery_laws.specs.Growing.{IsRecovering, booted, last_items, las
 use Rattle.sg_recovery_laws.proofs.Lists.{each_map}
 use Rattle.sg_recovery_laws.proofs.Onward.{booted_stays}
 use Rattle.sg_world_laws.specs.Keeping.{AreDrawn, Keeps, Setting, Stub, stubs_of}
-use Rattle.sg_held_laws.specs.Progress.{IsUnderWay, fresh}
+use Rattle.sg_held_laws.specs.Progress.{IsInRecovery, fresh}
 use Rattle.sg_object_laws.specs.Serving.{IsService}
-use Rattle.sg_world_laws.specs.State.{Mark, Seat, State, Withdrawn, unanswered, waiting_in, woken}
+use Rattle.sg_world_laws.specs.WorldView.{LogMark, Seat, WorldView, Withdrawn, unanswered, held_in, woken_seat}
 use Rattle.sg_trace_laws.specs.Told.{IsRead}
 use Rattle.sg_object_laws.specs.Waiting.{AreWaiting}
 use Rattle.sg_world_laws.proofs.Seats.{few_woken, held_woken, none_held, offered_woken, seated_woken}
@@ -45,38 +45,38 @@ pub no_drawn : AreDrawn [] []
 no_drawn = record { each = tt; apart = tt; few = omega arith }
 
 -- an empty service stands at the begin of a recovery
-pub under_fresh : (i : Declared) (walks : List WalkLine) (o : Object) → IsSound i.facts empty_object → IsUnderWay i walks [] (λ id. fresh) (λ path. false) o empty_object
+pub under_fresh : (i : Declared) (walks : List WalkLine) (o : Object) → IsSound i.facts empty_object → IsInRecovery i walks [] (λ id. fresh) (λ path. false) o empty_object
 under_fresh i walks o empty = record {
   holds = record { names_are = record { none = refl; apart = λ a b same. inl refl }; held_sound = empty; given = λ id. omega arith; each = tt };
   rows = λ r there. refl;
   files = λ path. refl;
 }
 
-module _ (z : Setting) (law : IsService z.iface.facts z.ask z.sound) (h : List Entry) (b : Boot) (boots : List Boot) (points : ℕ) (seats : List Seat) (withdrawn : List Withdrawn) (marks : List Mark)
+module _ (z : Setting) (law : IsService z.iface.facts z.ask z.sound) (h : List Entry) (b : Boot) (boots : List Boot) (points : ℕ) (seats : List Seat) (withdrawn : List Withdrawn) (marks : List LogMark)
     (events refused : ℕ) (stub : Stub)
     (k : Keeps z (record { history = h; run = record { boots = b ∷ boots; points = points }; running = None; seats = seats; withdrawn = withdrawn; marks = marks; events = events; refused = refused }) stub) where
   abbrev seats_now : List Seat
-  seats_now = map (woken (λ call. true)) seats
+  seats_now = map (woken_seat (λ call. true)) seats
 
-  abbrev later : State
+  abbrev later : WorldView
   later = record {
     history = h;
     run = record { boots = booted (b ∷ boots); points = points };
     running = Some empty_object;
-    seats = map (woken (λ call. true)) seats;
+    seats = map (woken_seat (λ call. true)) seats;
     withdrawn = withdrawn;
     marks = marks;
     events = events;
     refused = refused;
   }
 
-  none_now : waiting_in (length (booted (b ∷ boots))) (map (woken (λ call. true)) seats) ≡ []
+  none_now : held_in (length (booted (b ∷ boots))) (map (woken_seat (λ call. true)) seats) ≡ []
   none_now =
       held_woken (length (booted (b ∷ boots))) (λ call. true) seats
-      ∙ ap (λ n. waiting_in n seats) (length-append (b ∷ boots) (record { items = []; stop = None } ∷ []))
+      ∙ ap (λ n. held_in n seats) (length-append (b ∷ boots) (record { items = []; stop = None } ∷ []))
       ∙ none_held (length (b ∷ boots)) seats k.boots_few
 
-  empty_drawn : (es : List Entry) → AreDrawn (waiting_in (length (booted (b ∷ boots))) (map (woken (λ call. true)) seats)) es → es ≡ []
+  empty_drawn : (es : List Entry) → AreDrawn (held_in (length (booted (b ∷ boots))) (map (woken_seat (λ call. true)) seats)) es → es ≡ []
   empty_drawn es drawn = none_drawn es (subst (λ l. AreDrawn l es) none_now drawn)
 
   same_calls : unanswered later ≡ unanswered (record { history = h; run = record { boots = b ∷ boots; points = points }; running = None; seats = seats; withdrawn = withdrawn; marks = marks; events = events; refused = refused })
@@ -110,7 +110,7 @@ module _ (z : Setting) (law : IsService z.iface.facts z.ask z.sound) (h : List E
     held_items = subst (Each (λ e. is_by_guard e.reply || list_any (is_item_of e) (older_items [] (booted (b ∷ boots)) ++ last_items (booted (b ∷ boots))) ≡ true)) (sym none_now) tt;
     recovering = λ es drawn. recover_now es (empty_drawn es drawn);
     seated = seated_woken z h (λ call. true) 1 seats k.seated;
-    boots_few = each_map (λ s. s.boot ≤ length (b ∷ boots)) (λ s. s.boot ≤ length (booted (b ∷ boots))) (map (woken (λ call. true)) seats)
+    boots_few = each_map (λ s. s.boot ≤ length (b ∷ boots)) (λ s. s.boot ≤ length (booted (b ∷ boots))) (map (woken_seat (λ call. true)) seats)
         (λ s few. let n : length (booted (b ∷ boots)) ≡ length (b ∷ boots) + 1 = length-append (b ∷ boots) (record { items = []; stop = None } ∷ []) in omega (arith, n, few))
         (few_woken (length (b ∷ boots)) (λ call. true) seats k.boots_few);
     runs = record {
@@ -120,7 +120,7 @@ module _ (z : Setting) (law : IsService z.iface.facts z.ask z.sound) (h : List E
       unstopped = stop_booted b boots;
       value = ap (value_at z.iface.facts) (sym (front_booted b boots));
       named_live = λ id. inl refl;
-      under_way = under_fresh z.iface z.walks (object_from z.iface.facts (object_of z.iface.facts h) (waiting_in (length (booted (b ∷ boots))) (map (woken (λ call. true)) seats))) (law.keeps.general empty_object law.keeps.empty);
+      under_way = under_fresh z.iface z.walks (object_from z.iface.facts (object_of z.iface.facts h) (held_in (length (booted (b ∷ boots))) (map (woken_seat (λ call. true)) seats))) (law.keeps.general empty_object law.keeps.empty);
       read = λ es drawn. read_fresh es (older_items [] (booted (b ∷ boots))) (last_items (booted (b ∷ boots))) (front_booted b boots);
       unnamed = λ es drawn id above. ap (λ f. list_any (λ n. n.0 == id) (names_at z.iface.facts (h ++ es) f)) (front_booted b boots);
     };

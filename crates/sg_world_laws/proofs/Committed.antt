@@ -30,9 +30,9 @@ use Rattle.sg_recovery_laws.specs.Growing.{IsOfNoEntry, IsRecovering, last_items
 use Rattle.sg_recovery_laws.proofs.Given.{IsGiven, IsSameId, is_numbered, names_same, HasEntry, IsSameFor, made_visible}
 use Rattle.sg_recovery_laws.proofs.Lists.{each_append, each_map, each_split}
 use Rattle.sg_world_laws.specs.Keeping.{AreDrawn, IsUp, Keeps, Setting, Stub, stubs_of, AreRooted, AreSeated}
-use Rattle.sg_held_laws.specs.Progress.{IsUnderWay, Told, complete, IsNone, IsCounted, is_complete}
-use Rattle.sg_object_laws.specs.Serving.{HasTime, IsGood, IsService, IsAnswered}
-use Rattle.sg_world_laws.specs.State.{Mark, Seat, State, Withdrawn, unanswered, waiting_in}
+use Rattle.sg_held_laws.specs.Progress.{IsInRecovery, Told, complete, IsNone, TellsCalls, is_complete}
+use Rattle.sg_object_laws.specs.Serving.{HasTime, IsLegalObject, IsService, IsAnsweredAt}
+use Rattle.sg_world_laws.specs.WorldView.{LogMark, Seat, WorldView, Withdrawn, unanswered, held_in}
 use Rattle.sg_trace_laws.specs.Told.{IsRead}
 use Rattle.sg_object_laws.specs.Waiting.{AreWaiting, NoneBy}
 use Rattle.sg_trace_laws.specs.LastPlace.{last_place}
@@ -102,7 +102,7 @@ pub read_as : (facts : Facts) (walks : List WalkLine) (history : List Entry) (ol
 read_as facts walks history older front names names' told told' present present' rows rows' fewer zero_names same_names same_told same_present read = record {
   names_are = λ x known. read.names_are x (was x known) ∙ sym (its x known);
   whole = λ x live. read.whole x (fewer x live) ∙ ap is_complete (sym (same_told x live));
-  calls = λ x live. subst (λ t. IsCounted t (length (filter (λ item. is_walk_of x item.tag) front))) (sym (same_told x live)) (read.calls x (fewer x live));
+  calls = λ x live. subst (λ t. TellsCalls t (length (filter (λ item. is_walk_of x item.tag) front))) (sym (same_told x live)) (read.calls x (fewer x live));
   files = λ path. read.files path ∙ sym (same_present path);
 }
   where
@@ -127,16 +127,16 @@ made_at facts (x ∷ rows) call good id r there = at (x.id == id) there (made_at
     at true is rest = inl is
     at false is rest = rest is
 
-module _ (z : Setting) (law : IsService z.iface.facts z.ask z.sound) (h : List Entry) (b : Boot) (boots : List Boot) (points : ℕ) (v : Object) (seats : List Seat) (withdrawn : List Withdrawn) (marks : List Mark)
+module _ (z : Setting) (law : IsService z.iface.facts z.ask z.sound) (h : List Entry) (b : Boot) (boots : List Boot) (points : ℕ) (v : Object) (seats : List Seat) (withdrawn : List Withdrawn) (marks : List LogMark)
     (events refused : ℕ) (stub : Stub)
     (k : Keeps z (record { history = h; run = record { boots = b ∷ boots; points = points }; running = Some v; seats = seats; withdrawn = withdrawn; marks = marks; events = events; refused = refused }) stub)
-    (call : Call) (item : Item) (passes : Passes z.iface.facts (object_of z.iface.facts h) call) (lets : guard z.iface (object_of z.iface.facts h) call ≡ None) (none_by : NoneBy call.client (waiting_in (length (b ∷ boots)) seats))
+    (call : Call) (item : Item) (passes : Passes z.iface.facts (object_of z.iface.facts h) call) (lets : guard z.iface (object_of z.iface.facts h) call ≡ None) (none_by : NoneBy call.client (held_in (length (b ∷ boots)) seats))
     (needed : (r : Row) → row_at (object_of z.iface.facts h).rows r.id ≡ Some r → is_needed z.iface.facts (object_of z.iface.facts h).rows call r ≡ true → stub.told r.id ≡ complete)
     (file : (fun_at z.iface.facts.funs call.fun).uses_file ≡ true
     → (stub.present (path_of (object_of z.iface.facts h).rows call.desc) ≡ true) ⊎ (file_at (object_of z.iface.facts h).files (path_of (object_of z.iface.facts h).rows call.desc) ≡ []))
     (desc : IsNone (object_of z.iface.facts h).rows call.desc) (desc_needed : (r : Row) → r.id ≡ call.desc → is_needed z.iface.facts (object_of z.iface.facts h).rows call r ≡ true)
     (tag : item.tag ≡ Client call.client call.seq) (shown : item.shown ≡ call) (real : item.real ≡ named stub.names call.desc) (table : IsByTable z.iface.facts z.ask v (service_call item) item.outcome)
-    (seqs : Each (λ e. e.call.client ≡ call.client → e.call.seq < call.seq) (h ++ waiting_in (length (b ∷ boots)) seats))
+    (seqs : Each (λ e. e.call.client ≡ call.client → e.call.seq < call.seq) (h ++ held_in (length (b ∷ boots)) seats))
     (reply other : Reply) (patch : Option Patch) (outcome : item.outcome ≡ Replied other patch)
     (answered : z.ask (object_of z.iface.facts h) call ≡ Some reply) (answered_v : z.ask v (under_names stub.names call) ≡ Some other)
     (same : SameReply stub.names (fun_at z.iface.facts.funs call.fun).creation (Some reply) (Some other))
@@ -144,16 +144,16 @@ module _ (z : Setting) (law : IsService z.iface.facts z.ask z.sound) (h : List E
     (last_u : (x : Call) → Contains (unanswered (record { history = h; run = record { boots = b ∷ boots; points = points }; running = Some v; seats = seats; withdrawn = withdrawn; marks = marks; events = events; refused = refused })) x → x.client ≡ call.client → x.seq ≤ call.seq)
     (kept_u : (x : Call) → Contains (unanswered (record { history = h; run = record { boots = b ∷ boots; points = points }; running = Some v; seats = seats; withdrawn = withdrawn; marks = marks; events = events; refused = refused })) x → (x ≡ call) ⊎ Contains u x)
     (visible : is_visible z.iface.facts call.fun ≡ true) (guarded_call : guard z.iface (object_of z.iface.facts h) call ≡ None)
-    (seats' : List Seat) (held : waiting_in (length (b ∷ boots)) seats' ≡ waiting_in (length (b ∷ boots)) seats)
+    (seats' : List Seat) (held : held_in (length (b ∷ boots)) seats' ≡ held_in (length (b ∷ boots)) seats)
     (seated : AreSeated z (h ++ (record { call = call; reply = reply }) ∷ []) 1 seats') (boots_few : Each (λ s. s.boot ≤ length (b ∷ boots)) seats') (few : slow + length (h ++ (record { call = call; reply = reply }) ∷ []) + 256 < 2 ^ 63)
     (rooted : AreRooted z.iface.facts (after z.iface.facts (object_of z.iface.facts h) call reply).rows)
-    (reach : (es : List Entry) → AreDrawn (waiting_in (length (b ∷ boots)) seats) es → AreReachable z.iface (object_from z.iface.facts (after z.iface.facts (object_of z.iface.facts h) call reply) es).rows)
+    (reach : (es : List Entry) → AreDrawn (held_in (length (b ∷ boots)) seats) es → AreReachable z.iface (object_from z.iface.facts (after z.iface.facts (object_of z.iface.facts h) call reply) es).rows)
     (few_later : (after z.iface.facts v (under_names stub.names call) other).given < 2 ^ 63) (counted_later : CountedBelow (2 ^ 63) z.iface.facts (after z.iface.facts v (under_names stub.names call) other).rows)
     (names' : List (ℕ × ℕ)) (told' : ℕ → Told)
     (same_names : (id : ℕ) → is_live (after z.iface.facts (object_of z.iface.facts h) call reply).rows id ≡ true → named names' id ≡ named (names_by z.iface.facts stub.names call reply other) id)
     (fewer_names : (id : ℕ) → (named names' id ≡ named (names_by z.iface.facts stub.names call reply other) id) ⊎ (named names' id ≡ 0))
     (same_told : (id : ℕ) → is_live (after z.iface.facts (object_of z.iface.facts h) call reply).rows id ≡ true → told' id ≡ told_by z.iface.facts call reply stub.told id)
-    (points' : ℕ) (marks' : List Mark) (calls_now : unanswered (record { history = h ++ (record { call = call; reply = reply }) ∷ []; run = record { boots = noted (b ∷ boots) item; points = points' }; running = Some (after z.iface.facts v (under_names stub.names call) other); seats = seats'; withdrawn = withdrawn; marks = marks'; events = events; refused = refused }) ≡ u)
+    (points' : ℕ) (marks' : List LogMark) (calls_now : unanswered (record { history = h ++ (record { call = call; reply = reply }) ∷ []; run = record { boots = noted (b ∷ boots) item; points = points' }; running = Some (after z.iface.facts v (under_names stub.names call) other); seats = seats'; withdrawn = withdrawn; marks = marks'; events = events; refused = refused }) ≡ u)
     (live_names : (id : ℕ) → (named names' id ≡ 0) ⊎ (is_live (after z.iface.facts (object_of z.iface.facts h) call reply).rows id ≡ true)) where
   abbrev e : Entry
   e = record { call = call; reply = reply }
@@ -161,13 +161,13 @@ module _ (z : Setting) (law : IsService z.iface.facts z.ask z.sound) (h : List E
   up : IsUp z (record { history = h; run = record { boots = b ∷ boots; points = points }; running = Some v; seats = seats; withdrawn = withdrawn; marks = marks; events = events; refused = refused }) stub v
   up = k.runs
 
-  ok : IsGood z.iface.facts z.sound (object_of z.iface.facts h)
+  ok : IsLegalObject z.iface.facts z.sound (object_of z.iface.facts h)
   ok = k.object.good
 
   time_o : (n : ℕ) → n ≤ 200 → HasTime z.iface.facts n (object_of z.iface.facts h)
   time_o n le = record { counted = omega (arith, le, k.object.counted, k.few); given = omega (arith, le, k.object.given, k.few) }
 
-  answered_it : IsAnswered z.iface.facts z.ask (object_of z.iface.facts h) call reply
+  answered_it : IsAnsweredAt z.iface.facts z.ask (object_of z.iface.facts h) call reply
   answered_it = record { passes = passes; answered = answered }
 
   call_is : service_call item ≡ under_names stub.names call
@@ -176,19 +176,19 @@ module _ (z : Setting) (law : IsService z.iface.facts z.ask z.sound) (h : List E
   -- the patch of the item is that of the call at the object of the history, and the service stands as before
   record IsMoved (r o : Reply) : Type 0 where
     patch_is : patch_of z.iface.facts v (under_names stub.names call) o ≡ patch_of z.iface.facts (object_of z.iface.facts h) call r
-    under : IsUnderWay z.iface z.walks (names_by z.iface.facts stub.names call r o) (told_by z.iface.facts call r stub.told) (present_with (patch_of z.iface.facts (object_of z.iface.facts h) call r) stub.present)
-        (object_from z.iface.facts (after z.iface.facts (object_of z.iface.facts h) call r) (waiting_in (length (b ∷ boots)) seats)) (after z.iface.facts v (under_names stub.names call) o)
+    under : IsInRecovery z.iface z.walks (names_by z.iface.facts stub.names call r o) (told_by z.iface.facts call r stub.told) (present_with (patch_of z.iface.facts (object_of z.iface.facts h) call r) stub.present)
+        (object_from z.iface.facts (after z.iface.facts (object_of z.iface.facts h) call r) (held_in (length (b ∷ boots)) seats)) (after z.iface.facts v (under_names stub.names call) o)
 
-  time_ws : HasTime z.iface.facts (suc (suc (length (waiting_in (length (b ∷ boots)) seats)))) (object_of z.iface.facts h)
-  time_ws = time_o (suc (suc (length (waiting_in (length (b ∷ boots)) seats)))) (omega (arith, k.waiting_few))
+  time_ws : HasTime z.iface.facts (suc (suc (length (held_in (length (b ∷ boots)) seats)))) (object_of z.iface.facts h)
+  time_ws = time_o (suc (suc (length (held_in (length (b ∷ boots)) seats)))) (omega (arith, k.waiting_few))
 
   moved : (r o : Reply) → z.ask (object_of z.iface.facts h) call ≡ Some r → z.ask v (under_names stub.names call) ≡ Some o → SameReply stub.names (fun_at z.iface.facts.funs call.fun).creation (Some r) (Some o) → IsMoved r o
   unfolding up
   moved (Ok good) (Ok real_good) is is_v s =
       let words : (real_good.words ≡ good.words) = (same_words stub.names (fun_at z.iface.facts.funs call.fun).creation good real_good s).0 in
       record {
-        patch_is = same_patch_h z.iface z.ask z.sound z.walks stub.names stub.told stub.present (object_of z.iface.facts h) v (waiting_in (length (b ∷ boots)) seats) law ok k.waiting_are time_ws up.under_way call passes none_by needed file good real_good is is_v words;
-        under = under_served z.iface z.ask z.sound z.walks stub.names stub.told stub.present (object_of z.iface.facts h) v (waiting_in (length (b ∷ boots)) seats) law ok k.waiting_are time_ws up.under_way call passes none_by needed file good real_good is is_v words;
+        patch_is = same_patch_h z.iface z.ask z.sound z.walks stub.names stub.told stub.present (object_of z.iface.facts h) v (held_in (length (b ∷ boots)) seats) law ok k.waiting_are time_ws up.under_way call passes none_by needed file good real_good is is_v words;
+        under = under_served z.iface z.ask z.sound z.walks stub.names stub.told stub.present (object_of z.iface.facts h) v (held_in (length (b ∷ boots)) seats) law ok k.waiting_are time_ws up.under_way call passes none_by needed file good real_good is is_v words;
       }
   moved (Refused code) (Refused real_code) is is_v s = record { patch_is = refl; under = up.under_way }
   moved (Ok good) (Refused code) is is_v s = absurd (never (fun_at z.iface.facts.funs call.fun).creation s)
@@ -215,7 +215,7 @@ module _ (z : Setting) (law : IsService z.iface.facts z.ask z.sound) (h : List E
   object_now : object_of z.iface.facts (h ++ e ∷ []) ≡ after z.iface.facts (object_of z.iface.facts h) call reply
   object_now = object_behind z.iface.facts empty_object h (e ∷ [])
 
-  good_now : IsGood z.iface.facts z.sound (after z.iface.facts (object_of z.iface.facts h) call reply)
+  good_now : IsLegalObject z.iface.facts z.sound (after z.iface.facts (object_of z.iface.facts h) call reply)
   good_now = after_good z.iface.facts z.ask z.sound law (object_of z.iface.facts h) call reply ok answered_it
 
   longer : length (h ++ e ∷ []) ≡ length h + 1
@@ -239,15 +239,15 @@ module _ (z : Setting) (law : IsService z.iface.facts z.ask z.sound) (h : List E
       by (Ok g) = most_if (fun_at z.iface.facts.funs call.fun).creation
       by (Refused code) = omega (arith, longer, k.object.given)
 
-  time_now : HasTime z.iface.facts (length (waiting_in (length (b ∷ boots)) seats)) (after z.iface.facts (object_of z.iface.facts h) call reply)
+  time_now : HasTime z.iface.facts (length (held_in (length (b ∷ boots)) seats)) (after z.iface.facts (object_of z.iface.facts h) call reply)
   time_now = record { counted = omega (arith, k.waiting_few, counted_now, few, longer); given = omega (arith, k.waiting_few, given_now, few, longer) }
 
-  wait_now : AreWaiting z.iface.facts z.ask (after z.iface.facts (object_of z.iface.facts h) call reply) (waiting_in (length (b ∷ boots)) seats)
-  wait_now = waiting_after z.iface.facts z.ask z.sound law (object_of z.iface.facts h) call reply (waiting_in (length (b ∷ boots)) seats) ok answered_it
-      (less_time z.iface.facts z.ask z.sound law (length (waiting_in (length (b ∷ boots)) seats)) 0 (after z.iface.facts (object_of z.iface.facts h) call reply) (omega arith) time_now) none_by k.waiting_are
+  wait_now : AreWaiting z.iface.facts z.ask (after z.iface.facts (object_of z.iface.facts h) call reply) (held_in (length (b ∷ boots)) seats)
+  wait_now = waiting_after z.iface.facts z.ask z.sound law (object_of z.iface.facts h) call reply (held_in (length (b ∷ boots)) seats) ok answered_it
+      (less_time z.iface.facts z.ask z.sound law (length (held_in (length (b ∷ boots)) seats)) 0 (after z.iface.facts (object_of z.iface.facts h) call reply) (omega arith) time_now) none_by k.waiting_are
 
-  guarded_now : Each (λ x. guard z.iface (after z.iface.facts (object_of z.iface.facts h) call reply) x.call ≡ None) (waiting_in (length (b ∷ boots)) seats)
-  guarded_now = each_still (waiting_in (length (b ∷ boots)) seats) none_by wait_now k.guarded
+  guarded_now : Each (λ x. guard z.iface (after z.iface.facts (object_of z.iface.facts h) call reply) x.call ≡ None) (held_in (length (b ∷ boots)) seats)
+  guarded_now = each_still (held_in (length (b ∷ boots)) seats) none_by wait_now k.guarded
     where
       each_still : (es : List Entry) → NoneBy call.client es → AreWaiting z.iface.facts z.ask (after z.iface.facts (object_of z.iface.facts h) call reply) es
           → Each (λ x. guard z.iface (object_of z.iface.facts h) x.call ≡ None) es → Each (λ x. guard z.iface (after z.iface.facts (object_of z.iface.facts h) call reply) x.call ≡ None) es
@@ -260,17 +260,17 @@ module _ (z : Setting) (law : IsService z.iface.facts z.ask z.sound) (h : List E
             each_still es none.1 all.2 was.1,
           )
 
-  no_drawn : AreDrawn (waiting_in (length (b ∷ boots)) seats) []
+  no_drawn : AreDrawn (held_in (length (b ∷ boots)) seats) []
   no_drawn = record { each = tt; apart = tt; few = omega arith }
 
   given_h : Each (IsGiven z.iface.facts h) (last_items (b ∷ boots))
   given_h = subst (λ l. Each (IsGiven z.iface.facts l) (last_items (b ∷ boots))) (append-nil h) (given_es z law h b boots points v seats withdrawn marks events refused stub k call item passes lets none_by needed file desc desc_needed tag shown real table seqs reply other patch outcome answered answered_v same u made last_u kept_u [] no_drawn)
 
   less_h : Each (λ x. x.call.client ≡ call.client → x.call.seq < call.seq) h
-  less_h = (each_split (λ x. x.call.client ≡ call.client → x.call.seq < call.seq) h (waiting_in (length (b ∷ boots)) seats) seqs).0
+  less_h = (each_split (λ x. x.call.client ≡ call.client → x.call.seq < call.seq) h (held_in (length (b ∷ boots)) seats) seqs).0
 
   -- the trace behind the item, with the entry before the held replies
-  module _ (es : List Entry) (drawn : AreDrawn (waiting_in (length (b ∷ boots)) seats) es) where
+  module _ (es : List Entry) (drawn : AreDrawn (held_in (length (b ∷ boots)) seats) es) where
     ids_es : Each (IsSameId z.iface.facts (h ++ es) (h ++ e ∷ es)) (last_items (b ∷ boots))
     ids_es = given_put z.iface.facts h es e (last_items (b ∷ boots)) given_h
 
@@ -433,7 +433,7 @@ module _ (z : Setting) (law : IsService z.iface.facts z.ask z.sound) (h : List E
 
   -- ---- the world behind it
 
-  abbrev pub later : State
+  abbrev pub later : WorldView
   later = record {
     history = h ++ e ∷ [];
     run = record { boots = noted (b ∷ boots) item; points = points' };
@@ -445,8 +445,8 @@ module _ (z : Setting) (law : IsService z.iface.facts z.ask z.sound) (h : List E
     refused = refused;
   }
 
-  same_waiting : waiting_in (length (noted (b ∷ boots) item)) seats' ≡ waiting_in (length (b ∷ boots)) seats
-  same_waiting = ap (λ n. waiting_in n seats') (length_noted b boots item) ∙ held
+  same_waiting : held_in (length (noted (b ∷ boots) item)) seats' ≡ held_in (length (b ∷ boots)) seats
+  same_waiting = ap (λ n. held_in n seats') (length_noted b boots item) ∙ held
 
   items_now : older_items [] (noted (b ∷ boots) item) ++ last_items (noted (b ∷ boots) item) ≡ (older_items [] (b ∷ boots) ++ last_items (b ∷ boots)) ++ item ∷ []
   items_now = ap (λ l. l ++ last_items (noted (b ∷ boots) item)) (older_noted [] b boots item) ∙ ap (λ l. older_items [] (b ∷ boots) ++ l) (front_noted b boots item) ∙ sym (append_assoc (older_items [] (b ∷ boots)) (last_items (b ∷ boots)) (item ∷ []))
@@ -487,29 +487,29 @@ module _ (z : Setting) (law : IsService z.iface.facts z.ask z.sound) (h : List E
       ∙ ap (λ c. given_by z.iface.facts v item.tag c item.outcome) call_is
       ∙ ap (given_by z.iface.facts v item.tag (under_names stub.names call)) outcome ∙ gives item.tag tag)
 
-  good_behind_all : IsGood z.iface.facts z.sound (object_from z.iface.facts (after z.iface.facts (object_of z.iface.facts h) call reply) (waiting_in (length (b ∷ boots)) seats))
-  good_behind_all = good_behind z.iface.facts z.ask z.sound law (after z.iface.facts (object_of z.iface.facts h) call reply) (waiting_in (length (b ∷ boots)) seats) good_now time_now wait_now
+  good_behind_all : IsLegalObject z.iface.facts z.sound (object_from z.iface.facts (after z.iface.facts (object_of z.iface.facts h) call reply) (held_in (length (b ∷ boots)) seats))
+  good_behind_all = good_behind z.iface.facts z.ask z.sound law (after z.iface.facts (object_of z.iface.facts h) call reply) (held_in (length (b ∷ boots)) seats) good_now time_now wait_now
 
-  live_behind : (x : ℕ) → is_live (object_from z.iface.facts (after z.iface.facts (object_of z.iface.facts h) call reply) (waiting_in (length (b ∷ boots)) seats)).rows x ≡ true
+  live_behind : (x : ℕ) → is_live (object_from z.iface.facts (after z.iface.facts (object_of z.iface.facts h) call reply) (held_in (length (b ∷ boots)) seats)).rows x ≡ true
       → is_live (after z.iface.facts (object_of z.iface.facts h) call reply).rows x ≡ true
   live_behind x live =
-      let found = row_of_live (object_from z.iface.facts (after z.iface.facts (object_of z.iface.facts h) call reply) (waiting_in (length (b ∷ boots)) seats)).rows x live in
-      fewer_behind z.iface.facts z.ask z.sound law (after z.iface.facts (object_of z.iface.facts h) call reply) (waiting_in (length (b ∷ boots)) seats) good_now time_now wait_now x found.0 found.1
+      let found = row_of_live (object_from z.iface.facts (after z.iface.facts (object_of z.iface.facts h) call reply) (held_in (length (b ∷ boots)) seats)).rows x live in
+      fewer_behind z.iface.facts z.ask z.sound law (after z.iface.facts (object_of z.iface.facts h) call reply) (held_in (length (b ∷ boots)) seats) good_now time_now wait_now x found.0 found.1
 
   no_name : named (names_by z.iface.facts stub.names call reply other) 0 ≡ 0
   unfolding moved_it
   no_name = moved_it.under.holds.names_are.none
 
-  under_now : IsUnderWay z.iface z.walks names' told' (present_with (patch_of z.iface.facts (object_of z.iface.facts h) call reply) stub.present)
-      (object_from z.iface.facts (after z.iface.facts (object_of z.iface.facts h) call reply) (waiting_in (length (b ∷ boots)) seats)) (after z.iface.facts v (under_names stub.names call) other)
+  under_now : IsInRecovery z.iface z.walks names' told' (present_with (patch_of z.iface.facts (object_of z.iface.facts h) call reply) stub.present)
+      (object_from z.iface.facts (after z.iface.facts (object_of z.iface.facts h) call reply) (held_in (length (b ∷ boots)) seats)) (after z.iface.facts v (under_names stub.names call) other)
   unfolding moved_it
   under_now = under_dropped z.iface z.walks (names_by z.iface.facts stub.names call reply other) names'
-      (object_from z.iface.facts (after z.iface.facts (object_of z.iface.facts h) call reply) (waiting_in (length (b ∷ boots)) seats)) (after z.iface.facts v (under_names stub.names call) other)
-      (law.keeps.general (object_from z.iface.facts (after z.iface.facts (object_of z.iface.facts h) call reply) (waiting_in (length (b ∷ boots)) seats)) good_behind_all.is_sound) no_name
+      (object_from z.iface.facts (after z.iface.facts (object_of z.iface.facts h) call reply) (held_in (length (b ∷ boots)) seats)) (after z.iface.facts v (under_names stub.names call) other)
+      (law.keeps.general (object_from z.iface.facts (after z.iface.facts (object_of z.iface.facts h) call reply) (held_in (length (b ∷ boots)) seats)) good_behind_all.is_sound) no_name
       (λ x live. same_names x (live_behind x live)) fewer_names (told_by z.iface.facts call reply stub.told) told' (present_with (patch_of z.iface.facts (object_of z.iface.facts h) call reply) stub.present)
       (λ x live. same_told x (live_behind x live)) moved_it.under
 
-  read_now : (es : List Entry) → AreDrawn (waiting_in (length (b ∷ boots)) seats) es
+  read_now : (es : List Entry) → AreDrawn (held_in (length (b ∷ boots)) seats) es
       → IsRead z.iface.facts z.walks ((h ++ e ∷ []) ++ es) (older_items [] (noted (b ∷ boots) item)) (last_items (noted (b ∷ boots) item)) names' told'
       (present_with (patch_of z.iface.facts (object_of z.iface.facts h) call reply) stub.present) (object_of z.iface.facts (h ++ e ∷ [])).rows
   read_now es drawn =
@@ -527,7 +527,7 @@ module _ (z : Setting) (law : IsService z.iface.facts z.ask z.sound) (h : List E
       (elim (fewer_names 0) [ inl is ↦ is | inr is ↦ is ∙ sym no_name ]) same_names same_told (λ path. refl)
       (read_es es drawn reply other outcome answered answered_v same (its_id es drawn) patch_it)))))
 
-  unnamed_now : (es : List Entry) → AreDrawn (waiting_in (length (b ∷ boots)) seats) es → (id : ℕ) → (object_of z.iface.facts (h ++ e ∷ [])).given < id
+  unnamed_now : (es : List Entry) → AreDrawn (held_in (length (b ∷ boots)) seats) es → (id : ℕ) → (object_of z.iface.facts (h ++ e ∷ [])).given < id
       → list_any (λ (n : ℕ × ℕ). n.0 == id) (names_at z.iface.facts ((h ++ e ∷ []) ++ es) (last_items (noted (b ∷ boots) item))) ≡ false
   unfolding up
   unnamed_now es drawn id above =
@@ -560,20 +560,20 @@ module _ (z : Setting) (law : IsService z.iface.facts z.ask z.sound) (h : List E
   keeps_now = record {
     legal = legal_push z.iface z.ask empty_object h e k.legal (ap (λ g. refused_or g (z.ask (object_of z.iface.facts h) call)) guarded_call ∙ answered);
     object = record {
-      good = subst (IsGood z.iface.facts z.sound) (sym object_now) good_now;
+      good = subst (IsLegalObject z.iface.facts z.sound) (sym object_now) good_now;
       rooted = subst (λ x. AreRooted z.iface.facts x.rows) (sym object_now) rooted;
       counted = subst (λ x. most_counted z.iface.facts x.rows ≤ slow + length (h ++ e ∷ [])) (sym object_now) counted_now;
       given = subst (λ x. x.given ≤ length (h ++ e ∷ [])) (sym object_now) given_now;
     };
     few = few;
-    waiting_are = subst (λ x. AreWaiting z.iface.facts z.ask x (waiting_in (length (noted (b ∷ boots) item)) seats')) (sym object_now) (subst (AreWaiting z.iface.facts z.ask (after z.iface.facts (object_of z.iface.facts h) call reply)) (sym same_waiting) wait_now);
+    waiting_are = subst (λ x. AreWaiting z.iface.facts z.ask x (held_in (length (noted (b ∷ boots) item)) seats')) (sym object_now) (subst (AreWaiting z.iface.facts z.ask (after z.iface.facts (object_of z.iface.facts h) call reply)) (sym same_waiting) wait_now);
     waiting_few = subst (λ l. length l ≤ 64) (sym same_waiting) k.waiting_few;
-    guarded = subst (λ x. Each (λ y. guard z.iface x y.call ≡ None) (waiting_in (length (noted (b ∷ boots) item)) seats')) (sym object_now)
+    guarded = subst (λ x. Each (λ y. guard z.iface x y.call ≡ None) (held_in (length (noted (b ∷ boots) item)) seats')) (sym object_now)
         (subst (Each (λ y. guard z.iface (after z.iface.facts (object_of z.iface.facts h) call reply) y.call ≡ None)) (sym same_waiting) guarded_now);
     reachable = λ es drawn. subst (λ x. AreReachable z.iface (object_from z.iface.facts x es).rows) (sym object_now) (reach es (subst (λ l. AreDrawn l es) same_waiting drawn));
     entered = each_append (λ x. is_by_guard x.reply || list_any (is_item_of x) (older_items [] (noted (b ∷ boots) item) ++ last_items (noted (b ∷ boots) item)) ≡ true) h (e ∷ []) (more_items h k.entered) (own_item, tt);
     held_items = subst (Each (λ x. is_by_guard x.reply || list_any (is_item_of x) (older_items [] (noted (b ∷ boots) item) ++ last_items (noted (b ∷ boots) item)) ≡ true)) (sym same_waiting)
-        (more_items (waiting_in (length (b ∷ boots)) seats) k.held_items);
+        (more_items (held_in (length (b ∷ boots)) seats) k.held_items);
     recovering = λ es drawn. subst (λ l. IsRecovering (stubs_of z) ((h ++ e ∷ []) ++ es) (record { boots = noted (b ∷ boots) item; points = points' }) l) (sym calls_now)
         (served_recovers z law h b boots points v seats withdrawn marks events refused stub k call item passes lets none_by needed file desc desc_needed tag shown real table seqs reply other patch outcome answered answered_v same u made last_u kept_u points' es (subst (λ l. AreDrawn l es) same_waiting drawn));
     seated = seated;
@@ -585,8 +585,8 @@ module _ (z : Setting) (law : IsService z.iface.facts z.ask z.sound) (h : List E
       unstopped = stop_noted b boots item ∙ up.unstopped;
       value = value_now;
       named_live = λ x. elim (live_names x) [ inl none ↦ inl none | inr live ↦ inr (ap (λ y. is_live y.rows x) object_now ∙ live) ];
-      under_way = subst (λ l. IsUnderWay z.iface z.walks names' told' (present_with (patch_of z.iface.facts (object_of z.iface.facts h) call reply) stub.present) l (after z.iface.facts v (under_names stub.names call) other))
-          (ap (object_from z.iface.facts (after z.iface.facts (object_of z.iface.facts h) call reply)) (sym same_waiting) ∙ ap (λ x. object_from z.iface.facts x (waiting_in (length (noted (b ∷ boots) item)) seats')) (sym object_now)) under_now;
+      under_way = subst (λ l. IsInRecovery z.iface z.walks names' told' (present_with (patch_of z.iface.facts (object_of z.iface.facts h) call reply) stub.present) l (after z.iface.facts v (under_names stub.names call) other))
+          (ap (object_from z.iface.facts (after z.iface.facts (object_of z.iface.facts h) call reply)) (sym same_waiting) ∙ ap (λ x. object_from z.iface.facts x (held_in (length (noted (b ∷ boots) item)) seats')) (sym object_now)) under_now;
       read = λ es drawn. read_now es (subst (λ l. AreDrawn l es) same_waiting drawn);
       unnamed = λ es drawn. unnamed_now es (subst (λ l. AreDrawn l es) same_waiting drawn);
     };

@@ -36,8 +36,8 @@ use Rattle.sg_recovery_laws.proofs.Same.{IsSame, demanded_same, tracked_same, wa
 use Rattle.sg_recovery_laws.proofs.Stays.{same_held}
 use Rattle.sg_world_laws.specs.Keeping.{AreDrawn, IsUp, Keeps, Setting, Stub, stubs_of}
 use Rattle.sg_held_laws.specs.Progress.{complete, IsNone}
-use Rattle.sg_object_laws.specs.Serving.{IsGood, IsService}
-use Rattle.sg_world_laws.specs.State.{Mark, Seat, State, Withdrawn, unanswered, waiting_in}
+use Rattle.sg_object_laws.specs.Serving.{IsLegalObject, IsService}
+use Rattle.sg_world_laws.specs.WorldView.{LogMark, Seat, WorldView, Withdrawn, unanswered, held_in}
 use Rattle.sg_object_laws.specs.Waiting.{AreWaiting, NoneBy}
 use Rattle.sg_world_laws.proofs.Ahead.{served_ahead}
 use Rattle.sg_world_laws.proofs.Asked.{next_es, serves_call}
@@ -76,23 +76,23 @@ given_pushed (x ∷ h) e all rest = ap (λ b. desc_in (cond b (Some x) (find (is
         let less = all.0 (grind (arith, nat_tests, is)) in
         ap (λ c. c && (x.call.seq == e.call.seq)) is ∙ other_test x.call.seq e.call.seq (λ same. omega (arith, same, less))
 
-module _ (z : Setting) (law : IsService z.iface.facts z.ask z.sound) (h : List Entry) (b : Boot) (boots : List Boot) (points : ℕ) (v : Object) (seats : List Seat) (withdrawn : List Withdrawn) (marks : List Mark)
+module _ (z : Setting) (law : IsService z.iface.facts z.ask z.sound) (h : List Entry) (b : Boot) (boots : List Boot) (points : ℕ) (v : Object) (seats : List Seat) (withdrawn : List Withdrawn) (marks : List LogMark)
     (events refused : ℕ) (stub : Stub)
     (k : Keeps z (record { history = h; run = record { boots = b ∷ boots; points = points }; running = Some v; seats = seats; withdrawn = withdrawn; marks = marks; events = events; refused = refused }) stub)
-    (call : Call) (item : Item) (passes : Passes z.iface.facts (object_of z.iface.facts h) call) (lets : guard z.iface (object_of z.iface.facts h) call ≡ None) (none_by : NoneBy call.client (waiting_in (length (b ∷ boots)) seats))
+    (call : Call) (item : Item) (passes : Passes z.iface.facts (object_of z.iface.facts h) call) (lets : guard z.iface (object_of z.iface.facts h) call ≡ None) (none_by : NoneBy call.client (held_in (length (b ∷ boots)) seats))
     (needed : (r : Row) → row_at (object_of z.iface.facts h).rows r.id ≡ Some r → is_needed z.iface.facts (object_of z.iface.facts h).rows call r ≡ true → stub.told r.id ≡ complete)
     (file : (fun_at z.iface.facts.funs call.fun).uses_file ≡ true
     → (stub.present (path_of (object_of z.iface.facts h).rows call.desc) ≡ true) ⊎ (file_at (object_of z.iface.facts h).files (path_of (object_of z.iface.facts h).rows call.desc) ≡ []))
     (desc : IsNone (object_of z.iface.facts h).rows call.desc) (desc_needed : (r : Row) → r.id ≡ call.desc → is_needed z.iface.facts (object_of z.iface.facts h).rows call r ≡ true)
     (tag : item.tag ≡ Client call.client call.seq) (shown : item.shown ≡ call) (real : item.real ≡ named stub.names call.desc) (table : IsByTable z.iface.facts z.ask v (service_call item) item.outcome)
-    (seqs : Each (λ e. e.call.client ≡ call.client → e.call.seq < call.seq) (h ++ waiting_in (length (b ∷ boots)) seats))
+    (seqs : Each (λ e. e.call.client ≡ call.client → e.call.seq < call.seq) (h ++ held_in (length (b ∷ boots)) seats))
     (reply other : Reply) (patch : Option Patch) (outcome : item.outcome ≡ Replied other patch)
     (answered : z.ask (object_of z.iface.facts h) call ≡ Some reply) (answered_v : z.ask v (under_names stub.names call) ≡ Some other)
     (same : SameReply stub.names (fun_at z.iface.facts.funs call.fun).creation (Some reply) (Some other))
     (u : List Call) (made : Contains (unanswered (record { history = h; run = record { boots = b ∷ boots; points = points }; running = Some v; seats = seats; withdrawn = withdrawn; marks = marks; events = events; refused = refused })) call)
     (last_u : (x : Call) → Contains (unanswered (record { history = h; run = record { boots = b ∷ boots; points = points }; running = Some v; seats = seats; withdrawn = withdrawn; marks = marks; events = events; refused = refused })) x → x.client ≡ call.client → x.seq ≤ call.seq)
     (kept_u : (x : Call) → Contains (unanswered (record { history = h; run = record { boots = b ∷ boots; points = points }; running = Some v; seats = seats; withdrawn = withdrawn; marks = marks; events = events; refused = refused })) x → (x ≡ call) ⊎ Contains u x) where
-  abbrev w : State
+  abbrev w : WorldView
   w = record { history = h; run = record { boots = b ∷ boots; points = points }; running = Some v; seats = seats; withdrawn = withdrawn; marks = marks; events = events; refused = refused }
 
   abbrev e : Entry
@@ -101,7 +101,7 @@ module _ (z : Setting) (law : IsService z.iface.facts z.ask z.sound) (h : List E
   up : IsUp z (record { history = h; run = record { boots = b ∷ boots; points = points }; running = Some v; seats = seats; withdrawn = withdrawn; marks = marks; events = events; refused = refused }) stub v
   up = k.runs
 
-  ok : IsGood z.iface.facts z.sound (object_of z.iface.facts h)
+  ok : IsLegalObject z.iface.facts z.sound (object_of z.iface.facts h)
   ok = k.object.good
 
   pub served_it : is_by_guard reply ≡ false
@@ -122,13 +122,13 @@ module _ (z : Setting) (law : IsService z.iface.facts z.ask z.sound) (h : List E
   serves_it : Serves z.iface.facts stub.names (object_of z.iface.facts h) v call
   serves_it = serves_call z law h b boots points v seats withdrawn marks events refused stub k call item passes lets none_by needed file desc desc_needed tag shown real table seqs
 
-  module _ (es : List Entry) (drawn : AreDrawn (waiting_in (length (b ∷ boots)) seats) es) where
-    drawn_each : (P : Entry → Type 0) → Each P (waiting_in (length (b ∷ boots)) seats) → Each P es
-    drawn_each P all = each_map (Contains (waiting_in (length (b ∷ boots)) seats)) P es (λ e has. each_contains P (waiting_in (length (b ∷ boots)) seats) e all has) drawn.each
+  module _ (es : List Entry) (drawn : AreDrawn (held_in (length (b ∷ boots)) seats) es) where
+    drawn_each : (P : Entry → Type 0) → Each P (held_in (length (b ∷ boots)) seats) → Each P es
+    drawn_each P all = each_map (Contains (held_in (length (b ∷ boots)) seats)) P es (λ e has. each_contains P (held_in (length (b ∷ boots)) seats) e all has) drawn.each
 
     less_es : Each (λ x. x.call.client ≡ call.client → x.call.seq < call.seq) (h ++ es)
     less_es =
-        let parts = each_split (λ x. x.call.client ≡ call.client → x.call.seq < call.seq) h (waiting_in (length (b ∷ boots)) seats) seqs in
+        let parts = each_split (λ x. x.call.client ≡ call.client → x.call.seq < call.seq) h (held_in (length (b ∷ boots)) seats) seqs in
         each_append (λ x. x.call.client ≡ call.client → x.call.seq < call.seq) h es parts.0 (drawn_each (λ x. x.call.client ≡ call.client → x.call.seq < call.seq) parts.1)
 
     pub none_es : IsOfNoEntry item (h ++ es)
@@ -259,14 +259,14 @@ module _ (z : Setting) (law : IsService z.iface.facts z.ask z.sound) (h : List E
           settled = settled_es n.settled;
         })
 
-  pub hidden_ws : Each (λ x. is_visible z.iface.facts x.call.fun ≡ false) (waiting_in (length (b ∷ boots)) seats)
-  hidden_ws = hidden (waiting_in (length (b ∷ boots)) seats) k.waiting_are
+  pub hidden_ws : Each (λ x. is_visible z.iface.facts x.call.fun ≡ false) (held_in (length (b ∷ boots)) seats)
+  hidden_ws = hidden (held_in (length (b ∷ boots)) seats) k.waiting_are
     where
       hidden : (ws : List Entry) → AreWaiting z.iface.facts z.ask (object_of z.iface.facts h) ws → Each (λ x. is_visible z.iface.facts x.call.fun ≡ false) ws
       hidden [] all = tt
       hidden (x ∷ ws) all = (all.0.hidden, hidden ws all.2)
 
   -- the run recovers with it, whichever held replies are committed first
-  pub served_recovers : (later : ℕ) (es : List Entry) → AreDrawn (waiting_in (length (b ∷ boots)) seats) es → IsRecovering (stubs_of z) ((h ++ e ∷ []) ++ es) (record { boots = noted (b ∷ boots) item; points = later }) u
-  served_recovers later = served_ahead (stubs_of z) h (waiting_in (length (b ∷ boots)) seats) b boots points later (unanswered (record { history = h; run = record { boots = b ∷ boots; points = points }; running = Some v; seats = seats; withdrawn = withdrawn; marks = marks; events = events; refused = refused })) u item e own none_by hidden_ws
+  pub served_recovers : (later : ℕ) (es : List Entry) → AreDrawn (held_in (length (b ∷ boots)) seats) es → IsRecovering (stubs_of z) ((h ++ e ∷ []) ++ es) (record { boots = noted (b ∷ boots) item; points = later }) u
+  served_recovers later = served_ahead (stubs_of z) h (held_in (length (b ∷ boots)) seats) b boots points later (unanswered (record { history = h; run = record { boots = b ∷ boots; points = points }; running = Some v; seats = seats; withdrawn = withdrawn; marks = marks; events = events; refused = refused })) u item e own none_by hidden_ws
       (λ es drawn. (none_es es drawn, item_es es drawn, last_es es drawn, kept_es es drawn, next_now es drawn)) k.recovering

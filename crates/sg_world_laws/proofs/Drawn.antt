@@ -9,7 +9,7 @@ use Rattle.sg_facts.specs.Legal.{Table}
 use Rattle.sg_facts.specs.Object.{Object, after, object_from}
 use Rattle.sg_recovery_laws.proofs.Lists.{each_append, each_contains, each_map, each_split}
 use Rattle.sg_world_laws.specs.Keeping.{AreApart, AreDrawn}
-use Rattle.sg_object_laws.specs.Serving.{HasTime, IsGood, IsService}
+use Rattle.sg_object_laws.specs.Serving.{HasTime, IsLegalObject, IsService}
 use Rattle.sg_object_laws.specs.Waiting.{AreWaiting, IsWaiting, NoneBy}
 use Rattle.sg_object_laws.proofs.Waiting.{acting_is, hidden_is, less_time, past_waiting, time_after, waiting_after}
 use Rattle.sg_object_laws.proofs.Steady.{after_good}
@@ -58,7 +58,7 @@ waiting_without facts ask o (x ∷ pre) post p all =
     let own = each_split (λ e. e.call.client ≢ x.call.client) pre (p ∷ post) all.1 in
     (all.0, each_append (λ e. e.call.client ≢ x.call.client) pre post own.0 own.1.1, waiting_without facts ask o pre post p all.2)
 
-module _ (facts : Facts) (ask : Table) (sound : Object → Type 0) (law : IsService facts ask sound) (o : Object) (pre post : List Entry) (p : Entry) (ok : IsGood facts sound o)
+module _ (facts : Facts) (ask : Table) (sound : Object → Type 0) (law : IsService facts ask sound) (o : Object) (pre post : List Entry) (p : Entry) (ok : IsLegalObject facts sound o)
     (time : HasTime facts (suc (suc (length (pre ++ p ∷ post)))) o) (all : AreWaiting facts ask o (pre ++ p ∷ post)) where
   -- one that is committed first leaves the object behind all as it was
   pub committed_same : object_from facts (after facts o p.call p.reply) (pre ++ post) ≡ object_from facts o (pre ++ p ∷ post)

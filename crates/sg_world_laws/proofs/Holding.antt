@@ -28,9 +28,9 @@ use Rattle.sg_recovery_laws.specs.Growing.{IsOfNoEntry, IsRecovering, last_items
 use Rattle.sg_recovery_laws.proofs.Given.{IsGiven, IsSameId, is_numbered, names_same, HasEntry, IsSameFor, made_visible}
 use Rattle.sg_recovery_laws.proofs.Lists.{each_append, each_contains, each_map, each_split}
 use Rattle.sg_world_laws.specs.Keeping.{AreApart, AreDrawn, IsUp, Keeps, Setting, Stub, stubs_of, AreSeated}
-use Rattle.sg_held_laws.specs.Progress.{IsUnderWay, complete, IsNone}
-use Rattle.sg_object_laws.specs.Serving.{HasTime, IsGood, IsService, IsAnswered}
-use Rattle.sg_world_laws.specs.State.{Mark, Seat, State, Withdrawn, unanswered, waiting_in}
+use Rattle.sg_held_laws.specs.Progress.{IsInRecovery, complete, IsNone}
+use Rattle.sg_object_laws.specs.Serving.{HasTime, IsLegalObject, IsService, IsAnsweredAt}
+use Rattle.sg_world_laws.specs.WorldView.{LogMark, Seat, WorldView, Withdrawn, unanswered, held_in}
 use Rattle.sg_trace_laws.specs.Told.{IsRead}
 use Rattle.sg_object_laws.specs.Waiting.{AreWaiting, NoneBy}
 use Rattle.sg_world_laws.proofs.Ahead.{holds_ahead_with, noted_ahead}
@@ -86,24 +86,24 @@ given_any facts h xs ys front all = each_map (IsGiven facts h) (IsSameId facts (
         by (Walk id k client) outcome given = tt
         by (Load key client) outcome given = tt
 
-module _ (z : Setting) (law : IsService z.iface.facts z.ask z.sound) (h : List Entry) (b : Boot) (boots : List Boot) (points : ℕ) (v : Object) (seats : List Seat) (withdrawn : List Withdrawn) (marks : List Mark)
+module _ (z : Setting) (law : IsService z.iface.facts z.ask z.sound) (h : List Entry) (b : Boot) (boots : List Boot) (points : ℕ) (v : Object) (seats : List Seat) (withdrawn : List Withdrawn) (marks : List LogMark)
     (events refused : ℕ) (stub : Stub)
     (k : Keeps z (record { history = h; run = record { boots = b ∷ boots; points = points }; running = Some v; seats = seats; withdrawn = withdrawn; marks = marks; events = events; refused = refused }) stub)
-    (call : Call) (item : Item) (passes : Passes z.iface.facts (object_of z.iface.facts h) call) (lets : guard z.iface (object_of z.iface.facts h) call ≡ None) (none_by : NoneBy call.client (waiting_in (length (b ∷ boots)) seats))
+    (call : Call) (item : Item) (passes : Passes z.iface.facts (object_of z.iface.facts h) call) (lets : guard z.iface (object_of z.iface.facts h) call ≡ None) (none_by : NoneBy call.client (held_in (length (b ∷ boots)) seats))
     (needed : (r : Row) → row_at (object_of z.iface.facts h).rows r.id ≡ Some r → is_needed z.iface.facts (object_of z.iface.facts h).rows call r ≡ true → stub.told r.id ≡ complete)
     (file : (fun_at z.iface.facts.funs call.fun).uses_file ≡ true
     → (stub.present (path_of (object_of z.iface.facts h).rows call.desc) ≡ true) ⊎ (file_at (object_of z.iface.facts h).files (path_of (object_of z.iface.facts h).rows call.desc) ≡ []))
     (desc : IsNone (object_of z.iface.facts h).rows call.desc) (desc_needed : (r : Row) → r.id ≡ call.desc → is_needed z.iface.facts (object_of z.iface.facts h).rows call r ≡ true)
     (tag : item.tag ≡ Client call.client call.seq) (shown : item.shown ≡ call) (real : item.real ≡ named stub.names call.desc) (table : IsByTable z.iface.facts z.ask v (service_call item) item.outcome)
-    (seqs : Each (λ e. e.call.client ≡ call.client → e.call.seq < call.seq) (h ++ waiting_in (length (b ∷ boots)) seats))
+    (seqs : Each (λ e. e.call.client ≡ call.client → e.call.seq < call.seq) (h ++ held_in (length (b ∷ boots)) seats))
     (reply other : Reply) (patch : Option Patch) (outcome : item.outcome ≡ Replied other patch)
     (answered : z.ask (object_of z.iface.facts h) call ≡ Some reply) (answered_v : z.ask v (under_names stub.names call) ≡ Some other)
     (same : SameReply stub.names (fun_at z.iface.facts.funs call.fun).creation (Some reply) (Some other))
     (made : Contains (unanswered (record { history = h; run = record { boots = b ∷ boots; points = points }; running = Some v; seats = seats; withdrawn = withdrawn; marks = marks; events = events; refused = refused })) call)
     (last_u : (x : Call) → Contains (unanswered (record { history = h; run = record { boots = b ∷ boots; points = points }; running = Some v; seats = seats; withdrawn = withdrawn; marks = marks; events = events; refused = refused })) x → x.client ≡ call.client → x.seq ≤ call.seq)
     (hidden : is_visible z.iface.facts call.fun ≡ false) (guarded_call : guard z.iface (object_of z.iface.facts h) call ≡ None)
-    (seats' : List Seat) (pre post : List Entry) (held_was : waiting_in (length (b ∷ boots)) seats ≡ pre ++ post)
-    (held_now : waiting_in (length (b ∷ boots)) seats' ≡ pre ++ (record { call = call; reply = reply }) ∷ post) (few_held : length (pre ++ (record { call = call; reply = reply }) ∷ post) ≤ 64)
+    (seats' : List Seat) (pre post : List Entry) (held_was : held_in (length (b ∷ boots)) seats ≡ pre ++ post)
+    (held_now : held_in (length (b ∷ boots)) seats' ≡ pre ++ (record { call = call; reply = reply }) ∷ post) (few_held : length (pre ++ (record { call = call; reply = reply }) ∷ post) ≤ 64)
     (waits : AreWaiting z.iface.facts z.ask (object_of z.iface.facts h) (pre ++ (record { call = call; reply = reply }) ∷ post))
     (seated : AreSeated z h 1 seats') (boots_few : Each (λ s. s.boot ≤ length (b ∷ boots)) seats')
     (reach : (es : List Entry) → AreDrawn (pre ++ (record { call = call; reply = reply }) ∷ post) es → AreReachable z.iface (object_from z.iface.facts (object_of z.iface.facts h) es).rows)
@@ -115,13 +115,13 @@ module _ (z : Setting) (law : IsService z.iface.facts z.ask z.sound) (h : List E
   up : IsUp z (record { history = h; run = record { boots = b ∷ boots; points = points }; running = Some v; seats = seats; withdrawn = withdrawn; marks = marks; events = events; refused = refused }) stub v
   up = k.runs
 
-  ok : IsGood z.iface.facts z.sound (object_of z.iface.facts h)
+  ok : IsLegalObject z.iface.facts z.sound (object_of z.iface.facts h)
   ok = k.object.good
 
   time_o : (n : ℕ) → n ≤ 200 → HasTime z.iface.facts n (object_of z.iface.facts h)
   time_o n le = record { counted = omega (arith, le, k.object.counted, k.few); given = omega (arith, le, k.object.given, k.few) }
 
-  answered_it : IsAnswered z.iface.facts z.ask (object_of z.iface.facts h) call reply
+  answered_it : IsAnsweredAt z.iface.facts z.ask (object_of z.iface.facts h) call reply
   answered_it = record { passes = passes; answered = answered }
 
   call_is : service_call item ≡ under_names stub.names call
@@ -130,19 +130,19 @@ module _ (z : Setting) (law : IsService z.iface.facts z.ask z.sound) (h : List E
   -- the patch of the item is that of the call at the object of the history, and the service stands as before
   record IsMoved (r o : Reply) : Type 0 where
     patch_is : patch_of z.iface.facts v (under_names stub.names call) o ≡ patch_of z.iface.facts (object_of z.iface.facts h) call r
-    under : IsUnderWay z.iface z.walks (names_by z.iface.facts stub.names call r o) (told_by z.iface.facts call r stub.told) (present_with (patch_of z.iface.facts (object_of z.iface.facts h) call r) stub.present)
-        (object_from z.iface.facts (after z.iface.facts (object_of z.iface.facts h) call r) (waiting_in (length (b ∷ boots)) seats)) (after z.iface.facts v (under_names stub.names call) o)
+    under : IsInRecovery z.iface z.walks (names_by z.iface.facts stub.names call r o) (told_by z.iface.facts call r stub.told) (present_with (patch_of z.iface.facts (object_of z.iface.facts h) call r) stub.present)
+        (object_from z.iface.facts (after z.iface.facts (object_of z.iface.facts h) call r) (held_in (length (b ∷ boots)) seats)) (after z.iface.facts v (under_names stub.names call) o)
 
-  time_ws : HasTime z.iface.facts (suc (suc (length (waiting_in (length (b ∷ boots)) seats)))) (object_of z.iface.facts h)
-  time_ws = time_o (suc (suc (length (waiting_in (length (b ∷ boots)) seats)))) (omega (arith, k.waiting_few))
+  time_ws : HasTime z.iface.facts (suc (suc (length (held_in (length (b ∷ boots)) seats)))) (object_of z.iface.facts h)
+  time_ws = time_o (suc (suc (length (held_in (length (b ∷ boots)) seats)))) (omega (arith, k.waiting_few))
 
   moved : (r o : Reply) → z.ask (object_of z.iface.facts h) call ≡ Some r → z.ask v (under_names stub.names call) ≡ Some o → SameReply stub.names (fun_at z.iface.facts.funs call.fun).creation (Some r) (Some o) → IsMoved r o
   unfolding up
   moved (Ok good) (Ok real_good) is is_v s =
       let words : (real_good.words ≡ good.words) = (same_words stub.names (fun_at z.iface.facts.funs call.fun).creation good real_good s).0 in
       record {
-        patch_is = same_patch_h z.iface z.ask z.sound z.walks stub.names stub.told stub.present (object_of z.iface.facts h) v (waiting_in (length (b ∷ boots)) seats) law ok k.waiting_are time_ws up.under_way call passes none_by needed file good real_good is is_v words;
-        under = under_served z.iface z.ask z.sound z.walks stub.names stub.told stub.present (object_of z.iface.facts h) v (waiting_in (length (b ∷ boots)) seats) law ok k.waiting_are time_ws up.under_way call passes none_by needed file good real_good is is_v words;
+        patch_is = same_patch_h z.iface z.ask z.sound z.walks stub.names stub.told stub.present (object_of z.iface.facts h) v (held_in (length (b ∷ boots)) seats) law ok k.waiting_are time_ws up.under_way call passes none_by needed file good real_good is is_v words;
+        under = under_served z.iface z.ask z.sound z.walks stub.names stub.told stub.present (object_of z.iface.facts h) v (held_in (length (b ∷ boots)) seats) law ok k.waiting_are time_ws up.under_way call passes none_by needed file good real_good is is_v words;
       }
   moved (Refused code) (Refused real_code) is is_v s = record { patch_is = refl; under = up.under_way }
   moved (Ok good) (Refused code) is is_v s = absurd (never (fun_at z.iface.facts.funs call.fun).creation s)
@@ -162,7 +162,7 @@ module _ (z : Setting) (law : IsService z.iface.facts z.ask z.sound) (h : List E
   quiet : (fun_at z.iface.facts.funs call.fun).creation ≡ false
   quiet = (hidden_is z.iface.facts call.fun hidden).makes
 
-  ws_is : AreDrawn (waiting_in (length (b ∷ boots)) seats) [] → AreDrawn (pre ++ post) []
+  ws_is : AreDrawn (held_in (length (b ∷ boots)) seats) [] → AreDrawn (pre ++ post) []
   ws_is drawn = record { each = tt; apart = tt; few = omega arith }
 
   apart_now : AreApart (pre ++ e ∷ post)
@@ -171,7 +171,7 @@ module _ (z : Setting) (law : IsService z.iface.facts z.ask z.sound) (h : List E
   apart_was : AreApart (pre ++ post)
   apart_was = waiting_apart z.iface.facts z.ask (object_of z.iface.facts h) (pre ++ post) (waiting_without z.iface.facts z.ask (object_of z.iface.facts h) pre post e waits)
 
-  no_drawn : AreDrawn (waiting_in (length (b ∷ boots)) seats) []
+  no_drawn : AreDrawn (held_in (length (b ∷ boots)) seats) []
   no_drawn = record { each = tt; apart = tt; few = omega arith }
 
   given_h : Each (IsGiven z.iface.facts h) (last_items (b ∷ boots))
@@ -187,8 +187,8 @@ module _ (z : Setting) (law : IsService z.iface.facts z.ask z.sound) (h : List E
   abbrev run_now : Run
   run_now = record { boots = noted (b ∷ boots) item; points = points' }
 
-  noted_now : (es : List Entry) → AreDrawn (waiting_in (length (b ∷ boots)) seats) es → IsRecovering (stubs_of z) (h ++ es) (record { boots = noted (b ∷ boots) item; points = points' }) (unanswered (record { history = h; run = record { boots = b ∷ boots; points = points }; running = Some v; seats = seats; withdrawn = withdrawn; marks = marks; events = events; refused = refused }))
-  noted_now = noted_ahead (stubs_of z) h (waiting_in (length (b ∷ boots)) seats) b boots points points' (unanswered (record { history = h; run = record { boots = b ∷ boots; points = points }; running = Some v; seats = seats; withdrawn = withdrawn; marks = marks; events = events; refused = refused })) (unanswered (record { history = h; run = record { boots = b ∷ boots; points = points }; running = Some v; seats = seats; withdrawn = withdrawn; marks = marks; events = events; refused = refused })) item unseen
+  noted_now : (es : List Entry) → AreDrawn (held_in (length (b ∷ boots)) seats) es → IsRecovering (stubs_of z) (h ++ es) (record { boots = noted (b ∷ boots) item; points = points' }) (unanswered (record { history = h; run = record { boots = b ∷ boots; points = points }; running = Some v; seats = seats; withdrawn = withdrawn; marks = marks; events = events; refused = refused }))
+  noted_now = noted_ahead (stubs_of z) h (held_in (length (b ∷ boots)) seats) b boots points points' (unanswered (record { history = h; run = record { boots = b ∷ boots; points = points }; running = Some v; seats = seats; withdrawn = withdrawn; marks = marks; events = events; refused = refused })) (unanswered (record { history = h; run = record { boots = b ∷ boots; points = points }; running = Some v; seats = seats; withdrawn = withdrawn; marks = marks; events = events; refused = refused })) item unseen
       (λ es drawn. (none_es z law h b boots points v seats withdrawn marks events refused stub k call item passes lets none_by needed file desc desc_needed tag shown real table seqs reply other patch outcome answered answered_v same (unanswered (record { history = h; run = record { boots = b ∷ boots; points = points }; running = Some v; seats = seats; withdrawn = withdrawn; marks = marks; events = events; refused = refused })) made last_u (λ x has. inr has) es drawn, (λ x has. has), next_old z law h b boots points v seats withdrawn marks events refused stub k call item passes lets none_by needed file desc desc_needed tag shown real table seqs reply other patch outcome answered answered_v same (unanswered (record { history = h; run = record { boots = b ∷ boots; points = points }; running = Some v; seats = seats; withdrawn = withdrawn; marks = marks; events = events; refused = refused })) made last_u (λ x has. inr has) es drawn)) k.recovering
 
   -- its own place
@@ -200,7 +200,7 @@ module _ (z : Setting) (law : IsService z.iface.facts z.ask z.sound) (h : List E
   recover_now es drawn = elim (drawn_either pre post e es apart_now apart_was drawn) [
     | inl less ↦ noted_now es (subst (λ l. AreDrawn l es) (sym held_was) less)
     | inr s ↦
-        let d : AreDrawn (waiting_in (length (b ∷ boots)) seats) (s.0.front ++ s.0.rest) = subst (λ l. AreDrawn l (s.0.front ++ s.0.rest)) (sym held_was) s.1 in
+        let d : AreDrawn (held_in (length (b ∷ boots)) seats) (s.0.front ++ s.0.rest) = subst (λ l. AreDrawn l (s.0.front ++ s.0.rest)) (sym held_was) s.1 in
         let it = item_es z law h b boots points v seats withdrawn marks events refused stub k call item passes lets none_by needed file desc desc_needed tag shown real table seqs reply other patch outcome answered answered_v same (unanswered (record { history = h; run = record { boots = b ∷ boots; points = points }; running = Some v; seats = seats; withdrawn = withdrawn; marks = marks; events = events; refused = refused })) made last_u (λ x has. inr has) (s.0.front ++ s.0.rest) d in
         subst (λ l. IsRecovering (stubs_of z) (h ++ l) (record { boots = noted (b ∷ boots) item; points = points' }) (unanswered (record { history = h; run = record { boots = b ∷ boots; points = points }; running = Some v; seats = seats; withdrawn = withdrawn; marks = marks; events = events; refused = refused }))) (sym s.0.is)
         (holds_ahead_with (stubs_of z) h s.0.front s.0.rest e b boots points' (unanswered (record { history = h; run = record { boots = b ∷ boots; points = points }; running = Some v; seats = seats; withdrawn = withdrawn; marks = marks; events = events; refused = refused })) item (own z law h b boots points v seats withdrawn marks events refused stub k call item passes lets none_by needed file desc desc_needed tag shown real table seqs reply other patch outcome answered answered_v same (unanswered (record { history = h; run = record { boots = b ∷ boots; points = points }; running = Some v; seats = seats; withdrawn = withdrawn; marks = marks; events = events; refused = refused })) made last_u (λ x has. inr has)) (each_split (λ x. x.call.client ≢ call.client) s.0.front s.0.rest s.0.none).1
@@ -221,7 +221,7 @@ module _ (z : Setting) (law : IsService z.iface.facts z.ask z.sound) (h : List E
       no_patch (Ok g) = let none = (hidden_is z.iface.facts call.fun hidden).no_file in rw (none) refl
 
   -- what is read, at any history in which the item stands, from one in which it doesn't
-  read_at : (xs ys : List Entry) → AreDrawn (waiting_in (length (b ∷ boots)) seats) xs → ((p q : Place) → IsGrown item p q → entries_before (h ++ ys) q ≡ entries_before (h ++ xs) p)
+  read_at : (xs ys : List Entry) → AreDrawn (held_in (length (b ∷ boots)) seats) xs → ((p q : Place) → IsGrown item p q → entries_before (h ++ ys) q ≡ entries_before (h ++ xs) p)
       → IsRead z.iface.facts z.walks (h ++ ys) (older_items [] (b ∷ boots)) (last_items (b ∷ boots) ++ item ∷ []) stub.names stub.told stub.present (object_of z.iface.facts h).rows
   unfolding up
   read_at xs ys drawn same_entries =
@@ -250,10 +250,10 @@ module _ (z : Setting) (law : IsService z.iface.facts z.ask z.sound) (h : List E
 
   read_now : (es : List Entry) → AreDrawn (pre ++ e ∷ post) es → IsRead z.iface.facts z.walks (h ++ es) (older_items [] (b ∷ boots)) (last_items (b ∷ boots) ++ item ∷ []) stub.names stub.told stub.present (object_of z.iface.facts h).rows
   read_now es drawn = elim (drawn_either pre post e es apart_now apart_was drawn) [
-    | inl less ↦ let d : AreDrawn (waiting_in (length (b ∷ boots)) seats) es = subst (λ l. AreDrawn l es) (sym held_was) less in
+    | inl less ↦ let d : AreDrawn (held_in (length (b ∷ boots)) seats) es = subst (λ l. AreDrawn l es) (sym held_was) less in
         read_at es es d (λ p q g. entries_before-more item p q (h ++ es) g (none_es z law h b boots points v seats withdrawn marks events refused stub k call item passes lets none_by needed file desc desc_needed tag shown real table seqs reply other patch outcome answered answered_v same (unanswered (record { history = h; run = record { boots = b ∷ boots; points = points }; running = Some v; seats = seats; withdrawn = withdrawn; marks = marks; events = events; refused = refused })) made last_u (λ x has. inr has) es d))
     | inr s ↦
-        let d : AreDrawn (waiting_in (length (b ∷ boots)) seats) (s.0.front ++ s.0.rest) = subst (λ l. AreDrawn l (s.0.front ++ s.0.rest)) (sym held_was) s.1 in
+        let d : AreDrawn (held_in (length (b ∷ boots)) seats) (s.0.front ++ s.0.rest) = subst (λ l. AreDrawn l (s.0.front ++ s.0.rest)) (sym held_was) s.1 in
         subst (λ l. IsRead z.iface.facts z.walks (h ++ l) (older_items [] (b ∷ boots)) (last_items (b ∷ boots) ++ item ∷ []) stub.names stub.told stub.present (object_of z.iface.facts h).rows) (sym s.0.is)
         (read_at (s.0.front ++ s.0.rest) (s.0.front ++ e ∷ s.0.rest) d (λ p q g. put_at s.0.front s.0.rest p q (none_es z law h b boots points v seats withdrawn marks events refused stub k call item passes lets none_by needed file desc desc_needed tag shown real table seqs reply other patch outcome answered answered_v same (unanswered (record { history = h; run = record { boots = b ∷ boots; points = points }; running = Some v; seats = seats; withdrawn = withdrawn; marks = marks; events = events; refused = refused })) made last_u (λ x has. inr has) (s.0.front ++ s.0.rest) d) g))
   ]
@@ -265,7 +265,7 @@ module _ (z : Setting) (law : IsService z.iface.facts z.ask z.sound) (h : List E
 
   -- ---- the world behind it
 
-  abbrev pub later : State
+  abbrev pub later : WorldView
   later = record {
     history = h;
     run = record { boots = noted (b ∷ boots) item; points = points' };
@@ -277,8 +277,8 @@ module _ (z : Setting) (law : IsService z.iface.facts z.ask z.sound) (h : List E
     refused = refused;
   }
 
-  same_waiting : waiting_in (length (noted (b ∷ boots) item)) seats' ≡ pre ++ e ∷ post
-  same_waiting = ap (λ n. waiting_in n seats') (length_noted b boots item) ∙ held_now
+  same_waiting : held_in (length (noted (b ∷ boots) item)) seats' ≡ pre ++ e ∷ post
+  same_waiting = ap (λ n. held_in n seats') (length_noted b boots item) ∙ held_now
 
   items_now : older_items [] (noted (b ∷ boots) item) ++ last_items (noted (b ∷ boots) item) ≡ (older_items [] (b ∷ boots) ++ last_items (b ∷ boots)) ++ item ∷ []
   items_now = ap (λ l. l ++ last_items (noted (b ∷ boots) item)) (older_noted [] b boots item) ∙ ap (λ l. older_items [] (b ∷ boots) ++ l) (front_noted b boots item) ∙ sym (append_assoc (older_items [] (b ∷ boots)) (last_items (b ∷ boots)) (item ∷ []))
@@ -320,7 +320,7 @@ module _ (z : Setting) (law : IsService z.iface.facts z.ask z.sound) (h : List E
       ∙ ap (given_by z.iface.facts v item.tag (under_names stub.names call)) outcome ∙ gives item.tag tag)
 
   -- the object behind all held replies is that behind the new one and the others
-  behind_all : object_from z.iface.facts (after z.iface.facts (object_of z.iface.facts h) call reply) (waiting_in (length (b ∷ boots)) seats) ≡ object_from z.iface.facts (object_of z.iface.facts h) (pre ++ e ∷ post)
+  behind_all : object_from z.iface.facts (after z.iface.facts (object_of z.iface.facts h) call reply) (held_in (length (b ∷ boots)) seats) ≡ object_from z.iface.facts (object_of z.iface.facts h) (pre ++ e ∷ post)
   behind_all = ap (object_from z.iface.facts (after z.iface.facts (object_of z.iface.facts h) call reply)) held_was
       ∙ committed_same z.iface.facts z.ask z.sound law (object_of z.iface.facts h) pre post e ok (time_o (suc (suc (length (pre ++ e ∷ post)))) (omega (arith, few_held))) waits
 
@@ -341,14 +341,14 @@ module _ (z : Setting) (law : IsService z.iface.facts z.ask z.sound) (h : List E
   sound_all = law.keeps.general (object_from z.iface.facts (object_of z.iface.facts h) (pre ++ e ∷ post))
       (good_behind z.iface.facts z.ask z.sound law (object_of z.iface.facts h) (pre ++ e ∷ post) ok (time_o (length (pre ++ e ∷ post)) (omega (arith, few_held))) waits).is_sound
 
-  under_now : IsUnderWay z.iface z.walks stub.names stub.told stub.present (object_from z.iface.facts (object_of z.iface.facts h) (pre ++ e ∷ post)) (after z.iface.facts v (under_names stub.names call) other)
+  under_now : IsInRecovery z.iface z.walks stub.names stub.told stub.present (object_from z.iface.facts (object_of z.iface.facts h) (pre ++ e ∷ post)) (after z.iface.facts v (under_names stub.names call) other)
   unfolding moved_it
   under_now =
-      let u : IsUnderWay z.iface z.walks (names_by z.iface.facts stub.names call reply other) (told_by z.iface.facts call reply stub.told) stub.present (object_from z.iface.facts (object_of z.iface.facts h) (pre ++ e ∷ post))
+      let u : IsInRecovery z.iface z.walks (names_by z.iface.facts stub.names call reply other) (told_by z.iface.facts call reply stub.told) stub.present (object_from z.iface.facts (object_of z.iface.facts h) (pre ++ e ∷ post))
       (after z.iface.facts v (under_names stub.names call) other)
-      = subst (λ o. IsUnderWay z.iface z.walks (names_by z.iface.facts stub.names call reply other) (told_by z.iface.facts call reply stub.told) stub.present o (after z.iface.facts v (under_names stub.names call) other)) behind_all
-      (subst (λ q. IsUnderWay z.iface z.walks (names_by z.iface.facts stub.names call reply other) (told_by z.iface.facts call reply stub.told) (present_with q stub.present)
-      (object_from z.iface.facts (after z.iface.facts (object_of z.iface.facts h) call reply) (waiting_in (length (b ∷ boots)) seats)) (after z.iface.facts v (under_names stub.names call) other)) (no_file reply) moved_it.under) in
+      = subst (λ o. IsInRecovery z.iface z.walks (names_by z.iface.facts stub.names call reply other) (told_by z.iface.facts call reply stub.told) stub.present o (after z.iface.facts v (under_names stub.names call) other)) behind_all
+      (subst (λ q. IsInRecovery z.iface z.walks (names_by z.iface.facts stub.names call reply other) (told_by z.iface.facts call reply stub.told) (present_with q stub.present)
+      (object_from z.iface.facts (after z.iface.facts (object_of z.iface.facts h) call reply) (held_in (length (b ∷ boots)) seats)) (after z.iface.facts v (under_names stub.names call) other)) (no_file reply) moved_it.under) in
       under_dropped z.iface z.walks (names_by z.iface.facts stub.names call reply other) stub.names (object_from z.iface.facts (object_of z.iface.facts h) (pre ++ e ∷ post)) (after z.iface.facts v (under_names stub.names call) other)
       sound_all u.holds.names_are.none (λ x live. same_names reply other x) (λ x. inl (same_names reply other x)) (told_by z.iface.facts call reply stub.told) stub.told stub.present (λ x live. sym (same_told reply x)) u
 
@@ -397,7 +397,7 @@ module _ (z : Setting) (law : IsService z.iface.facts z.ask z.sound) (h : List E
       unstopped = stop_noted b boots item ∙ up.unstopped;
       value = value_now;
       named_live = up.named_live;
-      under_way = subst (λ l. IsUnderWay z.iface z.walks stub.names stub.told stub.present (object_from z.iface.facts (object_of z.iface.facts h) l) (after z.iface.facts v (under_names stub.names call) other)) (sym same_waiting) under_now;
+      under_way = subst (λ l. IsInRecovery z.iface z.walks stub.names stub.told stub.present (object_from z.iface.facts (object_of z.iface.facts h) l) (after z.iface.facts v (under_names stub.names call) other)) (sym same_waiting) under_now;
       read = λ es drawn. subst (λ l. IsRead z.iface.facts z.walks (h ++ es) l (last_items (noted (b ∷ boots) item)) stub.names stub.told stub.present (object_of z.iface.facts h).rows) (sym (older_noted [] b boots item))
           (subst (λ l. IsRead z.iface.facts z.walks (h ++ es) (older_items [] (b ∷ boots)) l stub.names stub.told stub.present (object_of z.iface.facts h).rows) (sym (front_noted b boots item)) (read_now es (subst (λ l. AreDrawn l es) same_waiting drawn)));
       unnamed = λ es drawn id above. ap (λ f. list_any (λ (n : ℕ × ℕ). n.0 == id) (names_at z.iface.facts (h ++ es) f)) (front_noted b boots item) ∙ unnamed_now es id above;

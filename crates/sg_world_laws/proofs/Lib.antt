@@ -4,7 +4,6 @@ pub mod Booted
 pub mod Committed
 pub mod Committing
 pub mod Drawn
-pub mod Final
 pub mod Holding
 pub mod Onseat
 pub mod Plain

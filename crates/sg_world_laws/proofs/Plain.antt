@@ -18,9 +18,9 @@ use Rattle.sg_recovery_laws.specs.Growing.{IsNextItem, IsOfNoEntry, IsRecovering
 use Rattle.sg_recovery_laws.proofs.Given.{IsSameId, IsSameFor}
 use Rattle.sg_recovery_laws.proofs.Lists.{each_map}
 use Rattle.sg_world_laws.specs.Keeping.{AreDrawn, IsUp, Keeps, Setting, Stub, stubs_of, AreSeated}
-use Rattle.sg_held_laws.specs.Progress.{IsUnderWay}
+use Rattle.sg_held_laws.specs.Progress.{IsInRecovery}
 use Rattle.sg_object_laws.specs.Serving.{IsService}
-use Rattle.sg_world_laws.specs.State.{Mark, Seat, State, Withdrawn, unanswered, waiting_in}
+use Rattle.sg_world_laws.specs.WorldView.{LogMark, Seat, WorldView, Withdrawn, unanswered, held_in}
 use Rattle.sg_trace_laws.specs.Told.{IsRead}
 use Rattle.sg_object_laws.specs.Waiting.{AreWaiting}
 use Rattle.sg_world_laws.proofs.Ahead.{noted_ahead}
@@ -33,30 +33,30 @@ use Rattle.sg_recovery_laws.proofs.Growing.{names_at-more, value_at-more, entrie
 use Rattle.sg_trace_laws.proofs.Making.{read_put}
 use Rattle.sg_world_laws.proofs.Replayed.{ends_with, front_noted, length_noted, stop_noted}
 
-module _ (z : Setting) (law : IsService z.iface.facts z.ask z.sound) (h : List Entry) (b : Boot) (boots : List Boot) (points : ℕ) (v : Object) (seats : List Seat) (withdrawn : List Withdrawn) (marks : List Mark)
+module _ (z : Setting) (law : IsService z.iface.facts z.ask z.sound) (h : List Entry) (b : Boot) (boots : List Boot) (points : ℕ) (v : Object) (seats : List Seat) (withdrawn : List Withdrawn) (marks : List LogMark)
     (events refused : ℕ) (stub : Stub)
     (k : Keeps z (record { history = h; run = record { boots = b ∷ boots; points = points }; running = Some v; seats = seats; withdrawn = withdrawn; marks = marks; events = events; refused = refused }) stub)
     (item : Item) (points' : ℕ) (v' : Object) (seats' : List Seat)
-    (none : (es : List Entry) → AreDrawn (waiting_in (length (b ∷ boots)) seats) es → IsOfNoEntry item (h ++ es)) (unseen : is_visible_reply z.iface.facts item ≡ false)
-    (next : (es : List Entry) → AreDrawn (waiting_in (length (b ∷ boots)) seats) es → IsNextItem (stubs_of z) (h ++ es) (unanswered (record { history = h; run = record { boots = b ∷ boots; points = points }; running = Some v; seats = seats; withdrawn = withdrawn; marks = marks; events = events; refused = refused })) (place_behind [] (b ∷ boots) item))
+    (none : (es : List Entry) → AreDrawn (held_in (length (b ∷ boots)) seats) es → IsOfNoEntry item (h ++ es)) (unseen : is_visible_reply z.iface.facts item ≡ false)
+    (next : (es : List Entry) → AreDrawn (held_in (length (b ∷ boots)) seats) es → IsNextItem (stubs_of z) (h ++ es) (unanswered (record { history = h; run = record { boots = b ∷ boots; points = points }; running = Some v; seats = seats; withdrawn = withdrawn; marks = marks; events = events; refused = refused })) (place_behind [] (b ∷ boots) item))
     (unmade : (l : List Entry) (id : ℕ) → is_made z.iface.facts l id item ≡ false) (no_walk : (id : ℕ) → is_walk_of id item.tag ≡ false)
     (unbuilt : (l : List Entry) (id : ℕ) → is_rebuilt_at z.iface.facts z.walks l id (last_place (older_items [] (b ∷ boots)) (last_items (b ∷ boots)) item) ≡ false)
     (no_name : (l : List Entry) → names_in z.iface.facts l item.shown.fun item.tag item.outcome ≡ []) (goes : is_stopped item.outcome ≡ false)
     (value : after_item z.iface.facts v item ≡ v') (few_later : v'.given < 2 ^ 63) (counted_later : CountedBelow (2 ^ 63) z.iface.facts v'.rows)
-    (under : IsUnderWay z.iface z.walks stub.names stub.told (λ path. stub.present path || is_patch_at path item.outcome) (object_from z.iface.facts (object_of z.iface.facts h) (waiting_in (length (b ∷ boots)) seats)) v')
-    (held : waiting_in (length (b ∷ boots)) seats' ≡ waiting_in (length (b ∷ boots)) seats) (seated : AreSeated z h 1 seats') (boots_few : Each (λ s. s.boot ≤ length (b ∷ boots)) seats')
+    (under : IsInRecovery z.iface z.walks stub.names stub.told (λ path. stub.present path || is_patch_at path item.outcome) (object_from z.iface.facts (object_of z.iface.facts h) (held_in (length (b ∷ boots)) seats)) v')
+    (held : held_in (length (b ∷ boots)) seats' ≡ held_in (length (b ∷ boots)) seats) (seated : AreSeated z h 1 seats') (boots_few : Each (λ s. s.boot ≤ length (b ∷ boots)) seats')
     (calls_now : unanswered (record { history = h; run = record { boots = noted (b ∷ boots) item; points = points' }; running = Some v'; seats = seats'; withdrawn = withdrawn; marks = marks; events = events; refused = refused }) ≡ unanswered (record { history = h; run = record { boots = b ∷ boots; points = points }; running = Some v; seats = seats; withdrawn = withdrawn; marks = marks; events = events; refused = refused })) where
   up : IsUp z (record { history = h; run = record { boots = b ∷ boots; points = points }; running = Some v; seats = seats; withdrawn = withdrawn; marks = marks; events = events; refused = refused }) stub v
   up = k.runs
 
-  abbrev pub later : State
+  abbrev pub later : WorldView
   later = record { history = h; run = record { boots = noted (b ∷ boots) item; points = points' }; running = Some v'; seats = seats'; withdrawn = withdrawn; marks = marks; events = events; refused = refused }
 
-  same_waiting : waiting_in (length (noted (b ∷ boots) item)) seats' ≡ waiting_in (length (b ∷ boots)) seats
-  same_waiting = ap (λ n. waiting_in n seats') (length_noted b boots item) ∙ held
+  same_waiting : held_in (length (noted (b ∷ boots) item)) seats' ≡ held_in (length (b ∷ boots)) seats
+  same_waiting = ap (λ n. held_in n seats') (length_noted b boots item) ∙ held
 
-  pub recover_now : (es : List Entry) → AreDrawn (waiting_in (length (b ∷ boots)) seats) es → IsRecovering (stubs_of z) (h ++ es) (record { boots = noted (b ∷ boots) item; points = points' }) (unanswered (record { history = h; run = record { boots = b ∷ boots; points = points }; running = Some v; seats = seats; withdrawn = withdrawn; marks = marks; events = events; refused = refused }))
-  recover_now = noted_ahead (stubs_of z) h (waiting_in (length (b ∷ boots)) seats) b boots points points' (unanswered (record { history = h; run = record { boots = b ∷ boots; points = points }; running = Some v; seats = seats; withdrawn = withdrawn; marks = marks; events = events; refused = refused })) (unanswered (record { history = h; run = record { boots = b ∷ boots; points = points }; running = Some v; seats = seats; withdrawn = withdrawn; marks = marks; events = events; refused = refused })) item unseen (λ es drawn. (none es drawn, (λ x has. has), next es drawn)) k.recovering
+  pub recover_now : (es : List Entry) → AreDrawn (held_in (length (b ∷ boots)) seats) es → IsRecovering (stubs_of z) (h ++ es) (record { boots = noted (b ∷ boots) item; points = points' }) (unanswered (record { history = h; run = record { boots = b ∷ boots; points = points }; running = Some v; seats = seats; withdrawn = withdrawn; marks = marks; events = events; refused = refused }))
+  recover_now = noted_ahead (stubs_of z) h (held_in (length (b ∷ boots)) seats) b boots points points' (unanswered (record { history = h; run = record { boots = b ∷ boots; points = points }; running = Some v; seats = seats; withdrawn = withdrawn; marks = marks; events = events; refused = refused })) (unanswered (record { history = h; run = record { boots = b ∷ boots; points = points }; running = Some v; seats = seats; withdrawn = withdrawn; marks = marks; events = events; refused = refused })) item unseen (λ es drawn. (none es drawn, (λ x has. has), next es drawn)) k.recovering
 
   items_now : older_items [] (noted (b ∷ boots) item) ++ last_items (noted (b ∷ boots) item) ≡ (older_items [] (b ∷ boots) ++ last_items (b ∷ boots)) ++ item ∷ []
   items_now = ap (λ l. l ++ last_items (noted (b ∷ boots) item)) (older_noted [] b boots item) ∙ ap (λ l. older_items [] (b ∷ boots) ++ l) (front_noted b boots item) ∙ sym (append_assoc (older_items [] (b ∷ boots)) (last_items (b ∷ boots)) (item ∷ []))
@@ -87,7 +87,7 @@ module _ (z : Setting) (law : IsService z.iface.facts z.ask z.sound) (h : List E
       by (Walk id n client) outcome = tt
       by (Load key client) outcome = tt
 
-  read_now : (es : List Entry) → AreDrawn (waiting_in (length (b ∷ boots)) seats) es → IsRead z.iface.facts z.walks (h ++ es) (older_items [] (noted (b ∷ boots) item)) (last_items (noted (b ∷ boots) item)) stub.names stub.told
+  read_now : (es : List Entry) → AreDrawn (held_in (length (b ∷ boots)) seats) es → IsRead z.iface.facts z.walks (h ++ es) (older_items [] (noted (b ∷ boots) item)) (last_items (noted (b ∷ boots) item)) stub.names stub.told
       (λ path. stub.present path || is_patch_at path item.outcome) (object_of z.iface.facts h).rows
   unfolding up
   read_now es drawn =
@@ -107,7 +107,7 @@ module _ (z : Setting) (law : IsService z.iface.facts z.ask z.sound) (h : List E
     guarded = subst (Each (λ x. guard z.iface (object_of z.iface.facts h) x.call ≡ None)) (sym same_waiting) k.guarded;
     reachable = λ es drawn. k.reachable es (subst (λ l. AreDrawn l es) same_waiting drawn);
     entered = more_items h k.entered;
-    held_items = subst (Each (λ x. is_by_guard x.reply || list_any (is_item_of x) (older_items [] (noted (b ∷ boots) item) ++ last_items (noted (b ∷ boots) item)) ≡ true)) (sym same_waiting) (more_items (waiting_in (length (b ∷ boots)) seats) k.held_items);
+    held_items = subst (Each (λ x. is_by_guard x.reply || list_any (is_item_of x) (older_items [] (noted (b ∷ boots) item) ++ last_items (noted (b ∷ boots) item)) ≡ true)) (sym same_waiting) (more_items (held_in (length (b ∷ boots)) seats) k.held_items);
     recovering = λ es drawn. subst (λ l. IsRecovering (stubs_of z) (h ++ es) (record { boots = noted (b ∷ boots) item; points = points' }) l) (sym calls_now) (recover_now es (subst (λ l. AreDrawn l es) same_waiting drawn));
     seated = seated;
     boots_few = subst (λ n. Each (λ s. s.boot ≤ n) seats') (sym (length_noted b boots item)) boots_few;
@@ -118,7 +118,7 @@ module _ (z : Setting) (law : IsService z.iface.facts z.ask z.sound) (h : List E
       unstopped = stop_noted b boots item ∙ up.unstopped;
       value = sym (ap (value_at z.iface.facts) (front_noted b boots item) ∙ value_at-more z.iface.facts (last_items (b ∷ boots)) item ∙ ap (λ x. after_item z.iface.facts x item) (sym up.value) ∙ value);
       named_live = up.named_live;
-      under_way = subst (λ l. IsUnderWay z.iface z.walks stub.names stub.told (λ path. stub.present path || is_patch_at path item.outcome) (object_from z.iface.facts (object_of z.iface.facts h) l) v') (sym same_waiting) under;
+      under_way = subst (λ l. IsInRecovery z.iface z.walks stub.names stub.told (λ path. stub.present path || is_patch_at path item.outcome) (object_from z.iface.facts (object_of z.iface.facts h) l) v') (sym same_waiting) under;
       read = λ es drawn. read_now es (subst (λ l. AreDrawn l es) same_waiting drawn);
       unnamed = λ es drawn id above. ap (λ f. list_any (λ (n : ℕ × ℕ). n.0 == id) (names_at z.iface.facts (h ++ es) f)) (front_noted b boots item)
           ∙ ap (λ l. list_any (λ (n : ℕ × ℕ). n.0 == id) l) (names_at-more z.iface.facts (h ++ es) (last_items (b ∷ boots)) item ∙ ap (λ l. names_at z.iface.facts (h ++ es) (last_items (b ∷ boots)) ++ l) (no_name (h ++ es))

@@ -22,9 +22,9 @@ use Rattle.sg_recovery_laws.proofs.Given.{IsGiven, IsSameId, committed_given, na
 use Rattle.sg_recovery_laws.proofs.Lists.{each_append, each_map}
 use Rattle.sg_recovery_laws.proofs.Same.{rebuilt_again}
 use Rattle.sg_world_laws.specs.Keeping.{AreDrawn, Keeps, Setting, Stub, stubs_of, AreRooted, AreSeated, Runs}
-use Rattle.sg_held_laws.specs.Progress.{IsUnderWay, Told}
-use Rattle.sg_object_laws.specs.Serving.{IsGood, IsService}
-use Rattle.sg_world_laws.specs.State.{Mark, Seat, Withdrawn, unanswered, waiting_in, waiting}
+use Rattle.sg_held_laws.specs.Progress.{IsInRecovery, Told}
+use Rattle.sg_object_laws.specs.Serving.{IsLegalObject, IsService}
+use Rattle.sg_world_laws.specs.WorldView.{LogMark, Seat, Withdrawn, unanswered, held_in, held_replies}
 use Rattle.sg_trace_laws.specs.Told.{IsRead, whole_behind}
 use Rattle.sg_object_laws.specs.Waiting.{AreWaiting, NoneBy}
 use Rattle.sg_world_laws.proofs.Ahead.{refused_ahead}
@@ -49,7 +49,7 @@ before_same h es e p guards =
     ∙ ap (λ q. filter (stands_before p) h ++ cond q (e ∷ filter (stands_before p) es) (filter (stands_before p) es)) (ap (λ q. not q && list_any (is_item_of e) (p.older ++ p.front) && not (list_any (is_item_of e) (p.item ∷ (p.rest ++ p.newer)))) guards)
     ∙ sym (filter-append (stands_before p) h es)
 
-module _ (z : Setting) (law : IsService z.iface.facts z.ask z.sound) (h : List Entry) (b : Boot) (boots : List Boot) (points : ℕ) (seats seats' : List Seat) (withdrawn : List Withdrawn) (marks marks' : List Mark)
+module _ (z : Setting) (law : IsService z.iface.facts z.ask z.sound) (h : List Entry) (b : Boot) (boots : List Boot) (points : ℕ) (seats seats' : List Seat) (withdrawn : List Withdrawn) (marks marks' : List LogMark)
     (events refused refused' : ℕ) (stub : Stub) (call : Call) (code : Code) (guards : is_guards code ≡ true) where
   abbrev e : Entry
   e = record { call = call; reply = Refused code }
@@ -84,7 +84,7 @@ module _ (z : Setting) (law : IsService z.iface.facts z.ask z.sound) (h : List E
       subst (λ l. Each (IsGiven z.iface.facts l) (last_items (b ∷ boots))) (append-nil h)
       (front_items (IsGiven z.iface.facts (h ++ [])) [] b boots (each_map (IsCommitted z.iface.facts (h ++ [])) (λ p. IsGiven z.iface.facts (h ++ []) p.item) (places_from [] (b ∷ boots)) (committed_given z.iface.facts (h ++ [])) all.served.committed))
 
-  runs_on : (r : Option Object) → waiting (record { history = h ++ e ∷ []; run = record { boots = b ∷ boots; points = points }; running = r; seats = seats'; withdrawn = withdrawn; marks = marks'; events = events; refused = refused' }) ≡ waiting (record { history = h; run = record { boots = b ∷ boots; points = points }; running = r; seats = seats; withdrawn = withdrawn; marks = marks; events = events; refused = refused }) → Each (IsGiven z.iface.facts h) (last_items (b ∷ boots)) → Runs z (record { history = h; run = record { boots = b ∷ boots; points = points }; running = r; seats = seats; withdrawn = withdrawn; marks = marks; events = events; refused = refused }) stub r → Runs z (record { history = h ++ e ∷ []; run = record { boots = b ∷ boots; points = points }; running = r; seats = seats'; withdrawn = withdrawn; marks = marks'; events = events; refused = refused' }) stub r
+  runs_on : (r : Option Object) → held_replies (record { history = h ++ e ∷ []; run = record { boots = b ∷ boots; points = points }; running = r; seats = seats'; withdrawn = withdrawn; marks = marks'; events = events; refused = refused' }) ≡ held_replies (record { history = h; run = record { boots = b ∷ boots; points = points }; running = r; seats = seats; withdrawn = withdrawn; marks = marks; events = events; refused = refused }) → Each (IsGiven z.iface.facts h) (last_items (b ∷ boots)) → Runs z (record { history = h; run = record { boots = b ∷ boots; points = points }; running = r; seats = seats; withdrawn = withdrawn; marks = marks; events = events; refused = refused }) stub r → Runs z (record { history = h ++ e ∷ []; run = record { boots = b ∷ boots; points = points }; running = r; seats = seats'; withdrawn = withdrawn; marks = marks'; events = events; refused = refused' }) stub r
   runs_on None same given runs = runs
   runs_on (Some v) same given up = record {
     running = up.running;
@@ -93,7 +93,7 @@ module _ (z : Setting) (law : IsService z.iface.facts z.ask z.sound) (h : List E
     unstopped = up.unstopped;
     value = up.value;
     named_live = λ id. elim (up.named_live id) [ inl none ↦ inl none | inr live ↦ inr (ap (λ o. is_live o.rows id) same_o ∙ live) ];
-    under_way = subst (λ o. IsUnderWay z.iface z.walks stub.names stub.told stub.present o v) (ap (object_from z.iface.facts (object_of z.iface.facts h)) (sym same) ∙ ap (λ o. object_from z.iface.facts o (waiting_in (length (b ∷ boots)) seats')) (sym same_o)) up.under_way;
+    under_way = subst (λ o. IsInRecovery z.iface z.walks stub.names stub.told stub.present o v) (ap (object_from z.iface.facts (object_of z.iface.facts h)) (sym same) ∙ ap (λ o. object_from z.iface.facts o (held_in (length (b ∷ boots)) seats')) (sym same_o)) up.under_way;
     read = λ es drawn. subst (λ l. IsRead z.iface.facts z.walks l (older_items [] (b ∷ boots)) (last_items (b ∷ boots)) stub.names stub.told stub.present (object_of z.iface.facts (h ++ e ∷ [])).rows) (sym (append_assoc h (e ∷ []) es))
         (subst (λ o. IsRead z.iface.facts z.walks (h ++ e ∷ es) (older_items [] (b ∷ boots)) (last_items (b ∷ boots)) stub.names stub.told stub.present o.rows) (sym same_o)
         (read_on es stub.names stub.told stub.present given (up.read es (subst (λ l. AreDrawn l es) same drawn))));
@@ -104,27 +104,27 @@ module _ (z : Setting) (law : IsService z.iface.facts z.ask z.sound) (h : List E
   }
 
   -- the world keeps what it keeps
-  pub keeps_now : (r : Option Object) → Keeps z (record { history = h; run = record { boots = b ∷ boots; points = points }; running = r; seats = seats; withdrawn = withdrawn; marks = marks; events = events; refused = refused }) stub → guard z.iface (object_of z.iface.facts h) call ≡ Some code → NoneBy call.client (waiting (record { history = h; run = record { boots = b ∷ boots; points = points }; running = r; seats = seats; withdrawn = withdrawn; marks = marks; events = events; refused = refused })) → waiting (record { history = h ++ e ∷ []; run = record { boots = b ∷ boots; points = points }; running = r; seats = seats'; withdrawn = withdrawn; marks = marks'; events = events; refused = refused' }) ≡ waiting (record { history = h; run = record { boots = b ∷ boots; points = points }; running = r; seats = seats; withdrawn = withdrawn; marks = marks; events = events; refused = refused })
+  pub keeps_now : (r : Option Object) → Keeps z (record { history = h; run = record { boots = b ∷ boots; points = points }; running = r; seats = seats; withdrawn = withdrawn; marks = marks; events = events; refused = refused }) stub → guard z.iface (object_of z.iface.facts h) call ≡ Some code → NoneBy call.client (held_replies (record { history = h; run = record { boots = b ∷ boots; points = points }; running = r; seats = seats; withdrawn = withdrawn; marks = marks; events = events; refused = refused })) → held_replies (record { history = h ++ e ∷ []; run = record { boots = b ∷ boots; points = points }; running = r; seats = seats'; withdrawn = withdrawn; marks = marks'; events = events; refused = refused' }) ≡ held_replies (record { history = h; run = record { boots = b ∷ boots; points = points }; running = r; seats = seats; withdrawn = withdrawn; marks = marks; events = events; refused = refused })
       → AreSeated z (h ++ e ∷ []) 1 seats' → Each (λ s. s.boot ≤ length (b ∷ boots)) seats' → slow + length (h ++ e ∷ []) + 256 < 2 ^ 63
       → ((x : Call) → Contains (unanswered (record { history = h; run = record { boots = b ∷ boots; points = points }; running = r; seats = seats; withdrawn = withdrawn; marks = marks; events = events; refused = refused })) x → (x ≡ call) ⊎ Contains (unanswered (record { history = h ++ e ∷ []; run = record { boots = b ∷ boots; points = points }; running = r; seats = seats'; withdrawn = withdrawn; marks = marks'; events = events; refused = refused' })) x)
       → Keeps z (record { history = h ++ e ∷ []; run = record { boots = b ∷ boots; points = points }; running = r; seats = seats'; withdrawn = withdrawn; marks = marks'; events = events; refused = refused' }) stub
   keeps_now r k refuses none same seated boots_few few kept = record {
     legal = legal_push z.iface z.ask empty_object h e k.legal (ap (λ g. refused_or g (z.ask (object_of z.iface.facts h) call)) refuses);
     object = record {
-      good = subst (IsGood z.iface.facts z.sound) (sym same_o) k.object.good;
+      good = subst (IsLegalObject z.iface.facts z.sound) (sym same_o) k.object.good;
       rooted = subst (λ o. AreRooted z.iface.facts o.rows) (sym same_o) k.object.rooted;
       counted = subst (λ o. most_counted z.iface.facts o.rows ≤ slow + length (h ++ e ∷ [])) (sym same_o) (omega (arith, k.object.counted, longer));
       given = subst (λ o. o.given ≤ length (h ++ e ∷ [])) (sym same_o) (omega (arith, k.object.given, longer));
     };
     few = few;
-    waiting_are = subst (λ o. AreWaiting z.iface.facts z.ask o (waiting (record { history = h ++ e ∷ []; run = record { boots = b ∷ boots; points = points }; running = r; seats = seats'; withdrawn = withdrawn; marks = marks'; events = events; refused = refused' }))) (sym same_o) (subst (AreWaiting z.iface.facts z.ask (object_of z.iface.facts h)) (sym same) k.waiting_are);
+    waiting_are = subst (λ o. AreWaiting z.iface.facts z.ask o (held_replies (record { history = h ++ e ∷ []; run = record { boots = b ∷ boots; points = points }; running = r; seats = seats'; withdrawn = withdrawn; marks = marks'; events = events; refused = refused' }))) (sym same_o) (subst (AreWaiting z.iface.facts z.ask (object_of z.iface.facts h)) (sym same) k.waiting_are);
     waiting_few = subst (λ l. length l ≤ 64) (sym same) k.waiting_few;
-    guarded = subst (λ o. Each (λ x. guard z.iface o x.call ≡ None) (waiting (record { history = h ++ e ∷ []; run = record { boots = b ∷ boots; points = points }; running = r; seats = seats'; withdrawn = withdrawn; marks = marks'; events = events; refused = refused' }))) (sym same_o) (subst (Each (λ x. guard z.iface (object_of z.iface.facts h) x.call ≡ None)) (sym same) k.guarded);
+    guarded = subst (λ o. Each (λ x. guard z.iface o x.call ≡ None) (held_replies (record { history = h ++ e ∷ []; run = record { boots = b ∷ boots; points = points }; running = r; seats = seats'; withdrawn = withdrawn; marks = marks'; events = events; refused = refused' }))) (sym same_o) (subst (Each (λ x. guard z.iface (object_of z.iface.facts h) x.call ≡ None)) (sym same) k.guarded);
     reachable = λ es drawn. subst (λ o. AreReachable z.iface (object_from z.iface.facts o es).rows) (sym same_o) (k.reachable es (subst (λ l. AreDrawn l es) same drawn));
     entered = each_append (λ x. is_by_guard x.reply || list_any (is_item_of x) (older_items [] (b ∷ boots) ++ last_items (b ∷ boots)) ≡ true) h (e ∷ []) k.entered
         (ap (λ q. q || list_any (is_item_of e) (older_items [] (b ∷ boots) ++ last_items (b ∷ boots))) guards, tt);
     held_items = subst (Each (λ x. is_by_guard x.reply || list_any (is_item_of x) (older_items [] (b ∷ boots) ++ last_items (b ∷ boots)) ≡ true)) (sym same) k.held_items;
-    recovering = λ es drawn. refused_ahead (stubs_of z) h (waiting (record { history = h; run = record { boots = b ∷ boots; points = points }; running = r; seats = seats; withdrawn = withdrawn; marks = marks; events = events; refused = refused })) e (record { boots = b ∷ boots; points = points }) (unanswered (record { history = h; run = record { boots = b ∷ boots; points = points }; running = r; seats = seats; withdrawn = withdrawn; marks = marks; events = events; refused = refused })) (unanswered (record { history = h ++ e ∷ []; run = record { boots = b ∷ boots; points = points }; running = r; seats = seats'; withdrawn = withdrawn; marks = marks'; events = events; refused = refused' })) guards none (hidden (waiting (record { history = h; run = record { boots = b ∷ boots; points = points }; running = r; seats = seats; withdrawn = withdrawn; marks = marks; events = events; refused = refused })) k.waiting_are)
+    recovering = λ es drawn. refused_ahead (stubs_of z) h (held_replies (record { history = h; run = record { boots = b ∷ boots; points = points }; running = r; seats = seats; withdrawn = withdrawn; marks = marks; events = events; refused = refused })) e (record { boots = b ∷ boots; points = points }) (unanswered (record { history = h; run = record { boots = b ∷ boots; points = points }; running = r; seats = seats; withdrawn = withdrawn; marks = marks; events = events; refused = refused })) (unanswered (record { history = h ++ e ∷ []; run = record { boots = b ∷ boots; points = points }; running = r; seats = seats'; withdrawn = withdrawn; marks = marks'; events = events; refused = refused' })) guards none (hidden (held_replies (record { history = h; run = record { boots = b ∷ boots; points = points }; running = r; seats = seats; withdrawn = withdrawn; marks = marks; events = events; refused = refused })) k.waiting_are)
         (λ es' d. kept_es es') k.recovering es (subst (λ l. AreDrawn l es) same drawn);
     seated = seated;
     boots_few = boots_few;

@@ -37,9 +37,9 @@ use Rattle.sg_recovery_laws.specs.Growing.{IsNextItem, IsOfNoEntry, IsRecovering
 use Rattle.sg_recovery_laws.proofs.Growing.{names_at-more, value_at-more}
 use Rattle.sg_recovery_laws.proofs.Lists.{each_append, each_contains, each_map, each_split}
 use Rattle.sg_world_laws.specs.Keeping.{AreApart, AreDrawn, IsUp, Keeps, Setting, Stub, stubs_of}
-use Rattle.sg_held_laws.specs.Progress.{IsSoFar, IsUnderWay, Told, fresh, begun, complete, IsCounted, IsNone, is_complete}
-use Rattle.sg_object_laws.specs.Serving.{HasTime, IsGood, IsService}
-use Rattle.sg_world_laws.specs.State.{Mark, Seat, State, Withdrawn, unanswered, waiting_in}
+use Rattle.sg_held_laws.specs.Progress.{IsSoFar, IsInRecovery, Told, fresh, begun, complete, TellsCalls, IsNone, is_complete}
+use Rattle.sg_object_laws.specs.Serving.{HasTime, IsLegalObject, IsService}
+use Rattle.sg_world_laws.specs.WorldView.{LogMark, Seat, WorldView, Withdrawn, unanswered, held_in}
 use Rattle.sg_held_laws.specs.Stepping.{IsStepped, told_after}
 use Rattle.sg_trace_laws.specs.Told.{IsRead}
 use Rattle.sg_object_laws.specs.Waiting.{AreWaiting, NoneBy}
@@ -103,18 +103,18 @@ told_is (begun n) is = absurd (cc is)
 told_is complete is = refl
 
 module _ (z : Setting) (law : IsService z.iface.facts z.ask z.sound) (fits : Fits z.iface) (tables : AreTables z.iface z.walks)
-    (h : List Entry) (b : Boot) (boots : List Boot) (points : ℕ) (v : Object) (seats : List Seat) (withdrawn : List Withdrawn) (marks : List Mark) (events refused : ℕ) (stub : Stub)
+    (h : List Entry) (b : Boot) (boots : List Boot) (points : ℕ) (v : Object) (seats : List Seat) (withdrawn : List Withdrawn) (marks : List LogMark) (events refused : ℕ) (stub : Stub)
     (k : Keeps z (record { history = h; run = record { boots = b ∷ boots; points = points }; running = Some v; seats = seats; withdrawn = withdrawn; marks = marks; events = events; refused = refused }) stub)
     (c id : ℕ) (call : Call) (r : Row) (done rest : List ℕ) (fun : ℕ) (item : Item) (good : Good)
     (its : call.client ≡ c) (passes : Passes z.iface.facts (object_of z.iface.facts h) call) (lets : guard z.iface (object_of z.iface.facts h) call ≡ None)
     (made : Contains (unanswered (record { history = h; run = record { boots = b ∷ boots; points = points }; running = Some v; seats = seats; withdrawn = withdrawn; marks = marks; events = events; refused = refused })) call)
-    (none_by : NoneBy call.client (waiting_in (length (b ∷ boots)) seats)) (seqs : Each (λ e. e.call.client ≡ c → e.call.seq < call.seq) (h ++ waiting_in (length (b ∷ boots)) seats))
+    (none_by : NoneBy call.client (held_in (length (b ∷ boots)) seats)) (seqs : Each (λ e. e.call.client ≡ c → e.call.seq < call.seq) (h ++ held_in (length (b ∷ boots)) seats))
     (least : find (λ a. not (is_complete (stub.told a))) (needs z.iface.facts (object_of z.iface.facts h) call).ids ≡ Some id)
-    (there : row_at (object_of z.iface.facts h).rows id ≡ Some r) (walk : walk_in z.walks (Some r) ≡ Some (done ++ fun ∷ rest)) (counted : IsCounted (stub.told id) (length done))
+    (there : row_at (object_of z.iface.facts h).rows id ≡ Some r) (walk : walk_in z.walks (Some r) ≡ Some (done ++ fun ∷ rest)) (counted : TellsCalls (stub.told id) (length done))
     (tag : item.tag ≡ Walk id (length done + 1) c) (shown : item.shown ≡ replayed_call z.iface.facts r (is_none done) fun) (real : item.real ≡ named stub.names item.shown.desc)
     (outcome : item.outcome ≡ Replied (Ok good) None) (answered : z.ask v (service_call item) ≡ Some (Ok good)) (unwritten : None ≡ patch_of z.iface.facts v (service_call item) (Ok good))
     (few_later : (after z.iface.facts v (service_call item) (Ok good)).given < 2 ^ 63) (counted_later : CountedBelow (2 ^ 63) z.iface.facts (after z.iface.facts v (service_call item) (Ok good)).rows) where
-  abbrev w : State
+  abbrev w : WorldView
   w = record { history = h; run = record { boots = b ∷ boots; points = points }; running = Some v; seats = seats; withdrawn = withdrawn; marks = marks; events = events; refused = refused }
 
   abbrev facts : Facts
@@ -124,24 +124,24 @@ module _ (z : Setting) (law : IsService z.iface.facts z.ask z.sound) (fits : Fit
   o = object_of z.iface.facts h
 
   abbrev ws : List Entry
-  ws = waiting_in (length (b ∷ boots)) seats
+  ws = held_in (length (b ∷ boots)) seats
 
   up : IsUp z w stub v
   up = k.runs
 
-  ok : IsGood z.iface.facts z.sound (object_of z.iface.facts h)
+  ok : IsLegalObject z.iface.facts z.sound (object_of z.iface.facts h)
   ok = k.object.good
 
   time_o : (n : ℕ) → n ≤ 200 → HasTime z.iface.facts n (object_of z.iface.facts h)
   time_o n le = record { counted = omega (arith, le, k.object.counted, k.few); given = omega (arith, le, k.object.given, k.few) }
 
   -- whichever held replies are committed first
-  module _ (es : List Entry) (drawn : AreDrawn (waiting_in (length (b ∷ boots)) seats) es) where
-    drawn_each : (P : Entry → Type 0) → Each P (waiting_in (length (b ∷ boots)) seats) → Each P es
-    drawn_each P all = each_map (Contains (waiting_in (length (b ∷ boots)) seats)) P es (λ e has. each_contains P (waiting_in (length (b ∷ boots)) seats) e all has) drawn.each
+  module _ (es : List Entry) (drawn : AreDrawn (held_in (length (b ∷ boots)) seats) es) where
+    drawn_each : (P : Entry → Type 0) → Each P (held_in (length (b ∷ boots)) seats) → Each P es
+    drawn_each P all = each_map (Contains (held_in (length (b ∷ boots)) seats)) P es (λ e has. each_contains P (held_in (length (b ∷ boots)) seats) e all has) drawn.each
 
     es_wait : AreWaiting z.iface.facts z.ask (object_of z.iface.facts h) es
-    es_wait = drawn_waiting z.iface.facts z.ask (object_of z.iface.facts h) (waiting_in (length (b ∷ boots)) seats) es k.waiting_are drawn
+    es_wait = drawn_waiting z.iface.facts z.ask (object_of z.iface.facts h) (held_in (length (b ∷ boots)) seats) es k.waiting_are drawn
 
     es_none : NoneBy call.client es
     es_none = drawn_each (λ e. e.call.client ≢ call.client) none_by
@@ -163,7 +163,7 @@ module _ (z : Setting) (law : IsService z.iface.facts z.ask z.sound) (fits : Fit
     there_es : row_at (object_from z.iface.facts (object_of z.iface.facts h) es).rows r.id ≡ Some r
     there_es = needed_behind z.iface.facts z.ask z.sound law (object_of z.iface.facts h) es call r ok time_es es_wait es_none passes (ap (row_at (object_of z.iface.facts h).rows) id_r ∙ there) need_r
 
-    good_es : IsGood z.iface.facts z.sound (object_from z.iface.facts (object_of z.iface.facts h) es)
+    good_es : IsLegalObject z.iface.facts z.sound (object_from z.iface.facts (object_of z.iface.facts h) es)
     good_es = good_behind z.iface.facts z.ask z.sound law (object_of z.iface.facts h) es ok time_es es_wait
 
     sound_es : IsSound z.iface.facts (object_from z.iface.facts (object_of z.iface.facts h) es)
@@ -223,7 +223,7 @@ module _ (z : Setting) (law : IsService z.iface.facts z.ask z.sound) (fits : Fit
     part_es = least_row_es.part
 
     none_done : stub.told id ≡ fresh → done ≡ []
-    none_done is = empty done (subst (λ t. IsCounted t (length done)) is counted)
+    none_done is = empty done (subst (λ t. TellsCalls t (length done)) is counted)
       where
         empty : (ds : List ℕ) → length ds ≡ 0 → ds ≡ []
         empty [] n = refl
@@ -234,7 +234,7 @@ module _ (z : Setting) (law : IsService z.iface.facts z.ask z.sound) (fits : Fit
 
     seqs_es : Each (λ e. (e.call.client == c) ≡ true → e.call.seq < call.seq) (h ++ es)
     seqs_es =
-        let parts = each_split (λ e. e.call.client ≡ c → e.call.seq < call.seq) h (waiting_in (length (b ∷ boots)) seats) seqs in
+        let parts = each_split (λ e. e.call.client ≡ c → e.call.seq < call.seq) h (held_in (length (b ∷ boots)) seats) seqs in
         each_map (λ e. e.call.client ≡ c → e.call.seq < call.seq) (λ e. (e.call.client == c) ≡ true → e.call.seq < call.seq) (h ++ es) (λ e so is. so (grind (arith, nat_tests, is)))
         (each_append (λ e. e.call.client ≡ c → e.call.seq < call.seq) h es parts.0 (drawn_each (λ e. e.call.client ≡ c → e.call.seq < call.seq) parts.1))
 
@@ -312,7 +312,7 @@ module _ (z : Setting) (law : IsService z.iface.facts z.ask z.sound) (fits : Fit
   abbrev boots_now : List Boot
   boots_now = noted (b ∷ boots) item
 
-  abbrev later : State
+  abbrev later : WorldView
   later = record {
     history = h;
     run = record { boots = noted (b ∷ boots) item; points = item.points };
@@ -324,18 +324,18 @@ module _ (z : Setting) (law : IsService z.iface.facts z.ask z.sound) (fits : Fit
     refused = refused;
   }
 
-  same_waiting : waiting_in (length (noted (b ∷ boots) item)) seats ≡ waiting_in (length (b ∷ boots)) seats
-  same_waiting = ap (λ n. waiting_in n seats) (length_noted b boots item)
+  same_waiting : held_in (length (noted (b ∷ boots) item)) seats ≡ held_in (length (b ∷ boots)) seats
+  same_waiting = ap (λ n. held_in n seats) (length_noted b boots item)
 
-  recover_now : (es : List Entry) → AreDrawn (waiting_in (length (b ∷ boots)) seats) es
+  recover_now : (es : List Entry) → AreDrawn (held_in (length (b ∷ boots)) seats) es
       → IsRecovering (stubs_of z) (h ++ es) (record { boots = noted (b ∷ boots) item; points = item.points }) (unanswered w)
-  recover_now = noted_ahead (stubs_of z) h (waiting_in (length (b ∷ boots)) seats) b boots points item.points (unanswered w) (unanswered w) item hidden
+  recover_now = noted_ahead (stubs_of z) h (held_in (length (b ∷ boots)) seats) b boots points item.points (unanswered w) (unanswered w) item hidden
       (λ es drawn. (none_es es drawn, (λ x has. has), next_es es drawn)) k.recovering
     where
       hidden : is_visible_reply z.iface.facts item ≡ false
       hidden = ap (λ t. is_clients t && is_visible z.iface.facts item.shown.fun && is_replied item.outcome) tag
 
-  read_now : (es : List Entry) → AreDrawn (waiting_in (length (b ∷ boots)) seats) es
+  read_now : (es : List Entry) → AreDrawn (held_in (length (b ∷ boots)) seats) es
       → IsRead z.iface.facts z.walks (h ++ es) (older_items [] (noted (b ∷ boots) item)) (last_items (noted (b ∷ boots) item)) names_now told_now stub.present (object_of z.iface.facts h).rows
   unfolding up
   read_now es drawn =
@@ -347,10 +347,10 @@ module _ (z : Setting) (law : IsService z.iface.facts z.ask z.sound) (fits : Fit
       walk (id_r es drawn) (part_es es drawn) counted (none_done es drawn) (live_of_row (object_of z.iface.facts h).rows id r there)))
 
   -- all of the held replies, in their order
-  all_drawn : AreDrawn (waiting_in (length (b ∷ boots)) seats) (waiting_in (length (b ∷ boots)) seats)
+  all_drawn : AreDrawn (held_in (length (b ∷ boots)) seats) (held_in (length (b ∷ boots)) seats)
   all_drawn = record {
-    each = self (waiting_in (length (b ∷ boots)) seats);
-    apart = apart_of (waiting_in (length (b ∷ boots)) seats) k.waiting_are;
+    each = self (held_in (length (b ∷ boots)) seats);
+    apart = apart_of (held_in (length (b ∷ boots)) seats) k.waiting_are;
     few = omega arith;
   }
     where
@@ -366,18 +366,18 @@ module _ (z : Setting) (law : IsService z.iface.facts z.ask z.sound) (fits : Fit
       apart_of (x ∷ xs) all = (all.1, apart_of xs all.2)
 
   abbrev behind_all : Object
-  behind_all = object_from z.iface.facts (object_of z.iface.facts h) (waiting_in (length (b ∷ boots)) seats)
+  behind_all = object_from z.iface.facts (object_of z.iface.facts h) (held_in (length (b ∷ boots)) seats)
 
   at_now : IsAt z.iface stub.names v r done
   unfolding up
-  at_now = by (stub.told id) refl counted (part_es (waiting_in (length (b ∷ boots)) seats) all_drawn)
-      (subst (λ n. IsSoFar z.iface z.walks stub.names v r (stub.told n)) (id_r (waiting_in (length (b ∷ boots)) seats) all_drawn) (up.under_way.rows r (there_es (waiting_in (length (b ∷ boots)) seats) all_drawn)))
+  at_now = by (stub.told id) refl counted (part_es (held_in (length (b ∷ boots)) seats) all_drawn)
+      (subst (λ n. IsSoFar z.iface z.walks stub.names v r (stub.told n)) (id_r (held_in (length (b ∷ boots)) seats) all_drawn) (up.under_way.rows r (there_es (held_in (length (b ∷ boots)) seats) all_drawn)))
     where
       none : (ds : List ℕ) → length ds ≡ 0 → named stub.names r.id ≡ 0 → IsAt z.iface stub.names v r ds
       none [] n is = is
       none (d ∷ ds) n is = absurd (omega (arith, n))
 
-      by : (t : Told) → stub.told id ≡ t → IsCounted t (length done) → is_complete t ≡ false → IsSoFar z.iface z.walks stub.names v r t → IsAt z.iface stub.names v r done
+      by : (t : Told) → stub.told id ≡ t → TellsCalls t (length done) → is_complete t ≡ false → IsSoFar z.iface z.walks stub.names v r t → IsAt z.iface stub.names v r done
       by fresh is n part far = none done n far
       by (begun m) is n part far =
           let both : Some far.walk ≡ Some (done ++ fun ∷ rest) = sym far.its ∙ walk in
@@ -385,23 +385,23 @@ module _ (z : Setting) (law : IsService z.iface.facts z.ask z.sound) (fits : Fit
           subst (IsAt z.iface stub.names v r) (ap (λ x. take x far.walk) (sym n) ∙ ap (take (length done)) same ∙ take_done done (fun ∷ rest)) far.at
       by complete is n part far = absurd (cc part)
 
-  parent_now : ParentIsWhole stub.names (object_from z.iface.facts (object_of z.iface.facts h) (waiting_in (length (b ∷ boots)) seats)) v r
+  parent_now : ParentIsWhole stub.names (object_from z.iface.facts (object_of z.iface.facts h) (held_in (length (b ∷ boots)) seats)) v r
   unfolding up
-  parent_now = by (parent_es (waiting_in (length (b ∷ boots)) seats) all_drawn)
+  parent_now = by (parent_es (held_in (length (b ∷ boots)) seats) all_drawn)
     where
-      by : (r.parent ≡ 0) ⊎ ((is_live (object_from z.iface.facts (object_of z.iface.facts h) (waiting_in (length (b ∷ boots)) seats)).rows r.parent ≡ true) × (is_complete (stub.told r.parent) ≡ true))
-          → ParentIsWhole stub.names (object_from z.iface.facts (object_of z.iface.facts h) (waiting_in (length (b ∷ boots)) seats)) v r
+      by : (r.parent ≡ 0) ⊎ ((is_live (object_from z.iface.facts (object_of z.iface.facts h) (held_in (length (b ∷ boots)) seats)).rows r.parent ≡ true) × (is_complete (stub.told r.parent) ≡ true))
+          → ParentIsWhole stub.names (object_from z.iface.facts (object_of z.iface.facts h) (held_in (length (b ∷ boots)) seats)) v r
       by (inl root) = inl root
       by (inr full) =
-          let x = row_of_live (object_from z.iface.facts (object_of z.iface.facts h) (waiting_in (length (b ∷ boots)) seats)).rows r.parent full.0 in
-          let there_x = ap (row_at (object_from z.iface.facts (object_of z.iface.facts h) (waiting_in (length (b ∷ boots)) seats)).rows) x.2 ∙ x.1 in
+          let x = row_of_live (object_from z.iface.facts (object_of z.iface.facts h) (held_in (length (b ∷ boots)) seats)).rows r.parent full.0 in
+          let there_x = ap (row_at (object_from z.iface.facts (object_of z.iface.facts h) (held_in (length (b ∷ boots)) seats)).rows) x.2 ∙ x.1 in
           let told_x : stub.told x.0.id ≡ complete = ap stub.told x.2 ∙ told_is (stub.told r.parent) full.1 in
           inr (record { row = x.0; of = x.1; whole = subst (IsSoFar z.iface z.walks stub.names v x.0) told_x (up.under_way.rows x.0 there_x) })
 
-  step_now : IsStepped z.iface z.ask z.walks stub.names stub.told stub.present (object_from z.iface.facts (object_of z.iface.facts h) (waiting_in (length (b ∷ boots)) seats)) v r done rest fun
+  step_now : IsStepped z.iface z.ask z.walks stub.names stub.told stub.present (object_from z.iface.facts (object_of z.iface.facts h) (held_in (length (b ∷ boots)) seats)) v r done rest fun
   unfolding up
   step_now =
-      let es = waiting_in (length (b ∷ boots)) seats in
+      let es = held_in (length (b ∷ boots)) seats in
       let reach = k.reachable es all_drawn in
       let there_o = there_es es all_drawn in
       let w_is = walk_is z.iface z.walks r tables (reach_at z.iface (object_from z.iface.facts (object_of z.iface.facts h) es).rows r.id r reach there_o) in
@@ -413,16 +413,16 @@ module _ (z : Setting) (law : IsService z.iface.facts z.ask z.sound) (fits : Fit
   call_is : service_call item ≡ next_call z.iface.facts stub.names r done fun
   call_is = ap (λ n. record item.shown { desc = n }) real ∙ ap (under_names stub.names) shown
 
-  under_now : IsUnderWay z.iface z.walks names_now told_now stub.present (object_from z.iface.facts (object_of z.iface.facts h) (waiting_in (length (b ∷ boots)) seats)) (after z.iface.facts v (service_call item) (Ok good))
+  under_now : IsInRecovery z.iface z.walks names_now told_now stub.present (object_from z.iface.facts (object_of z.iface.facts h) (held_in (length (b ∷ boots)) seats)) (after z.iface.facts v (service_call item) (Ok good))
   unfolding step_now
   under_now =
       let st = step_now in
       let both : Some (Ok st.good) ≡ Some (Ok good) = sym st.answered ∙ ap (z.ask v) (sym call_is) ∙ answered in
       let same : st.good ≡ good = cc both in
-      subst (λ x. IsUnderWay z.iface z.walks names_now told_now stub.present (object_from z.iface.facts (object_of z.iface.facts h) (waiting_in (length (b ∷ boots)) seats)) (after z.iface.facts v x (Ok good))) (sym call_is)
-      (subst (λ n. IsUnderWay z.iface z.walks names_now (told_after stub.told n done rest) stub.present (object_from z.iface.facts (object_of z.iface.facts h) (waiting_in (length (b ∷ boots)) seats))
-      (after z.iface.facts v (next_call z.iface.facts stub.names r done fun) (Ok good))) (id_r (waiting_in (length (b ∷ boots)) seats) all_drawn)
-      (subst (λ g. IsUnderWay z.iface z.walks (names_after stub.names r done g) (told_after stub.told r.id done rest) stub.present (object_from z.iface.facts (object_of z.iface.facts h) (waiting_in (length (b ∷ boots)) seats))
+      subst (λ x. IsInRecovery z.iface z.walks names_now told_now stub.present (object_from z.iface.facts (object_of z.iface.facts h) (held_in (length (b ∷ boots)) seats)) (after z.iface.facts v x (Ok good))) (sym call_is)
+      (subst (λ n. IsInRecovery z.iface z.walks names_now (told_after stub.told n done rest) stub.present (object_from z.iface.facts (object_of z.iface.facts h) (held_in (length (b ∷ boots)) seats))
+      (after z.iface.facts v (next_call z.iface.facts stub.names r done fun) (Ok good))) (id_r (held_in (length (b ∷ boots)) seats) all_drawn)
+      (subst (λ g. IsInRecovery z.iface z.walks (names_after stub.names r done g) (told_after stub.told r.id done rest) stub.present (object_from z.iface.facts (object_of z.iface.facts h) (held_in (length (b ∷ boots)) seats))
       (after z.iface.facts v (next_call z.iface.facts stub.names r done fun) (Ok g))) same st.under_way))
 
   more_items : (es : List Entry) → Each (λ e. is_by_guard e.reply || list_any (is_item_of e) (older_items [] (b ∷ boots) ++ last_items (b ∷ boots)) ≡ true) es
@@ -454,7 +454,7 @@ module _ (z : Setting) (law : IsService z.iface.facts z.ask z.sound) (fits : Fit
     reachable = λ es drawn. k.reachable es (subst (λ l. AreDrawn l es) same_waiting drawn);
     entered = more_items h k.entered;
     held_items = subst (Each (λ e. is_by_guard e.reply || list_any (is_item_of e) (older_items [] (noted (b ∷ boots) item) ++ last_items (noted (b ∷ boots) item)) ≡ true)) (sym same_waiting)
-        (more_items (waiting_in (length (b ∷ boots)) seats) k.held_items);
+        (more_items (held_in (length (b ∷ boots)) seats) k.held_items);
     recovering = λ es drawn. recover_now es (subst (λ l. AreDrawn l es) same_waiting drawn);
     seated = k.seated;
     boots_few = subst (λ n. Each (λ s. s.boot ≤ n) seats) (sym (length_noted b boots item)) k.boots_few;
@@ -465,7 +465,7 @@ module _ (z : Setting) (law : IsService z.iface.facts z.ask z.sound) (fits : Fit
       unstopped = stop_noted b boots item ∙ up.unstopped;
       value = value_now;
       named_live = live_now done;
-      under_way = subst (λ l. IsUnderWay z.iface z.walks names_now told_now stub.present (object_from z.iface.facts (object_of z.iface.facts h) l) (after z.iface.facts v (service_call item) (Ok good))) (sym same_waiting) under_now;
+      under_way = subst (λ l. IsInRecovery z.iface z.walks names_now told_now stub.present (object_from z.iface.facts (object_of z.iface.facts h) l) (after z.iface.facts v (service_call item) (Ok good))) (sym same_waiting) under_now;
       read = λ es drawn. read_now es (subst (λ l. AreDrawn l es) same_waiting drawn);
       unnamed = λ es drawn x above.
           ap (λ f. list_any (λ (n : ℕ × ℕ). n.0 == x) (names_at z.iface.facts (h ++ es) f)) (front_noted b boots item)
@@ -490,7 +490,7 @@ module _ (z : Setting) (law : IsService z.iface.facts z.ask z.sound) (fits : Fit
 
       live_now : (ds : List ℕ) → (x : ℕ) → (named (names_after stub.names r ds good) x ≡ 0) ⊎ (is_live (object_of z.iface.facts h).rows x ≡ true)
       live_now [] x = elim (eqb_tells r.id x) [
-        | inl same ↦ inr (ap (is_live (object_of z.iface.facts h).rows) (sym same.1 ∙ id_r (waiting_in (length (b ∷ boots)) seats) all_drawn) ∙ live_of_row (object_of z.iface.facts h).rows id r there)
+        | inl same ↦ inr (ap (is_live (object_of z.iface.facts h).rows) (sym same.1 ∙ id_r (held_in (length (b ∷ boots)) seats) all_drawn) ∙ live_of_row (object_of z.iface.facts h).rows id r there)
         | inr apart ↦ elim (up.named_live x) [
           | inl none ↦ inl (ap (λ t. cond t good.desc (named stub.names x)) apart.0 ∙ none)
           | inr live ↦ inr live

@@ -14,19 +14,19 @@ use Rattle.sg_hist.specs.Reading.{is_by_guard, is_item_of}
 use Rattle.sg_recovery_laws.specs.Growing.{last_items, older_items}
 use Rattle.sg_recovery_laws.proofs.Onward.{made_stays}
 use Rattle.sg_world_laws.specs.Keeping.{AreDrawn, AreSeated, Keeps, Runs, Setting, Stub, stubs_of}
-use Rattle.sg_held_laws.specs.Progress.{IsUnderWay}
-use Rattle.sg_world_laws.specs.State.{Mark, Seat, State, Withdrawn, unanswered, waiting}
+use Rattle.sg_held_laws.specs.Progress.{IsInRecovery}
+use Rattle.sg_world_laws.specs.WorldView.{LogMark, Seat, WorldView, Withdrawn, unanswered, held_replies}
 use Rattle.sg_object_laws.specs.Waiting.{AreWaiting}
 
-module _ (z : Setting) (h : List Entry) (run : Run) (seats seats' : List Seat) (withdrawn withdrawn' : List Withdrawn) (marks marks' : List Mark) (events refused : ℕ) (stub : Stub) where
-  abbrev before : Option Object → State
+module _ (z : Setting) (h : List Entry) (run : Run) (seats seats' : List Seat) (withdrawn withdrawn' : List Withdrawn) (marks marks' : List LogMark) (events refused : ℕ) (stub : Stub) where
+  abbrev before : Option Object → WorldView
   before r = record { history = h; run = run; running = r; seats = seats; withdrawn = withdrawn; marks = marks; events = events; refused = refused }
 
-  abbrev behind : Option Object → State
+  abbrev behind : Option Object → WorldView
   behind r = record { history = h; run = run; running = r; seats = seats'; withdrawn = withdrawn'; marks = marks'; events = events; refused = refused }
 
-  runs_on : (r : Option Object) → waiting (record { history = h; run = run; running = r; seats = seats'; withdrawn = withdrawn'; marks = marks'; events = events; refused = refused })
-      ≡ waiting (record { history = h; run = run; running = r; seats = seats; withdrawn = withdrawn; marks = marks; events = events; refused = refused })
+  runs_on : (r : Option Object) → held_replies (record { history = h; run = run; running = r; seats = seats'; withdrawn = withdrawn'; marks = marks'; events = events; refused = refused })
+      ≡ held_replies (record { history = h; run = run; running = r; seats = seats; withdrawn = withdrawn; marks = marks; events = events; refused = refused })
       → Runs z (record { history = h; run = run; running = r; seats = seats; withdrawn = withdrawn; marks = marks; events = events; refused = refused }) stub r
       → Runs z (record { history = h; run = run; running = r; seats = seats'; withdrawn = withdrawn'; marks = marks'; events = events; refused = refused }) stub r
   runs_on None same runs = runs
@@ -37,13 +37,13 @@ module _ (z : Setting) (h : List Entry) (run : Run) (seats seats' : List Seat) (
     unstopped = up.unstopped;
     value = up.value;
     named_live = up.named_live;
-    under_way = subst (λ l. IsUnderWay z.iface z.walks stub.names stub.told stub.present (object_from z.iface.facts (object_of z.iface.facts h) l) v) (sym same) up.under_way;
+    under_way = subst (λ l. IsInRecovery z.iface z.walks stub.names stub.told stub.present (object_from z.iface.facts (object_of z.iface.facts h) l) v) (sym same) up.under_way;
     read = λ es drawn. up.read es (subst (λ l. AreDrawn l es) same drawn);
     unnamed = λ es drawn. up.unnamed es (subst (λ l. AreDrawn l es) same drawn);
   }
 
-  pub keeps_now : (r : Option Object) → waiting (record { history = h; run = run; running = r; seats = seats'; withdrawn = withdrawn'; marks = marks'; events = events; refused = refused })
-      ≡ waiting (record { history = h; run = run; running = r; seats = seats; withdrawn = withdrawn; marks = marks; events = events; refused = refused })
+  pub keeps_now : (r : Option Object) → held_replies (record { history = h; run = run; running = r; seats = seats'; withdrawn = withdrawn'; marks = marks'; events = events; refused = refused })
+      ≡ held_replies (record { history = h; run = run; running = r; seats = seats; withdrawn = withdrawn; marks = marks; events = events; refused = refused })
       → AreSeated z h 1 seats' → Each (λ s. s.boot ≤ length run.boots) seats'
       → ((x : Call) → Contains (unanswered (record { history = h; run = run; running = r; seats = seats; withdrawn = withdrawn; marks = marks; events = events; refused = refused })) x
       → Contains (unanswered (record { history = h; run = run; running = r; seats = seats'; withdrawn = withdrawn'; marks = marks'; events = events; refused = refused })) x)

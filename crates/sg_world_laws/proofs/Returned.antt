@@ -25,9 +25,9 @@ use Rattle.sg_recovery_laws.specs.Growing.{AreKept, last_items, older_items}
 use Rattle.sg_recovery_laws.proofs.Lists.{each_append, each_split}
 use Rattle.sg_recovery_laws.proofs.Onward.{made_stays}
 use Rattle.sg_world_laws.specs.Keeping.{AreApart, AreDrawn, AreRooted, AreSeated, IsUp, Keeps, Setting, Stub, stubs_of}
-use Rattle.sg_held_laws.specs.Progress.{IsUnderWay, Told, IsCounted, IsNone, is_complete}
-use Rattle.sg_object_laws.specs.Serving.{HasTime, IsGood, IsService}
-use Rattle.sg_world_laws.specs.State.{Mark, Seat, State, Withdrawn, unanswered, waiting_in}
+use Rattle.sg_held_laws.specs.Progress.{IsInRecovery, Told, TellsCalls, IsNone, is_complete}
+use Rattle.sg_object_laws.specs.Serving.{HasTime, IsLegalObject, IsService}
+use Rattle.sg_world_laws.specs.WorldView.{LogMark, Seat, WorldView, Withdrawn, unanswered, held_in}
 use Rattle.sg_trace_laws.specs.Told.{IsRead}
 use Rattle.sg_object_laws.specs.Waiting.{AreWaiting, IsWaiting, NoneBy}
 use Rattle.sg_world_laws.proofs.Ahead.{drawn_with, held_ahead}
@@ -43,10 +43,10 @@ pub legal_push : (i : Declared) (ask : Table) (o : Object) (h : List Entry) (e :
 legal_push i ask o [] e legal is = (is, tt)
 legal_push i ask o (x ∷ h) e legal is = (legal.0, legal_push i ask (after i.facts o x.call x.reply) h e legal.1 is)
 
-module _ (z : Setting) (law : IsService z.iface.facts z.ask z.sound) (h : List Entry) (boots : List Boot) (points : ℕ) (v : Object) (seats seats' : List Seat) (withdrawn : List Withdrawn) (marks marks' : List Mark)
+module _ (z : Setting) (law : IsService z.iface.facts z.ask z.sound) (h : List Entry) (boots : List Boot) (points : ℕ) (v : Object) (seats seats' : List Seat) (withdrawn : List Withdrawn) (marks marks' : List LogMark)
     (events refused : ℕ) (stub : Stub)
     (k : Keeps z (record { history = h; run = record { boots = boots; points = points }; running = Some v; seats = seats; withdrawn = withdrawn; marks = marks; events = events; refused = refused }) stub)
-    (pre post : List Entry) (p : Entry) (held : waiting_in (length boots) seats ≡ pre ++ p ∷ post) (left : waiting_in (length boots) seats' ≡ pre ++ post)
+    (pre post : List Entry) (p : Entry) (held : held_in (length boots) seats ≡ pre ++ p ∷ post) (left : held_in (length boots) seats' ≡ pre ++ post)
     (seated : AreSeated z (h ++ p ∷ []) 1 seats') (few : slow + length (h ++ p ∷ []) + 256 < 2 ^ 63) (boots_few : Each (λ s. s.boot ≤ length boots) seats')
     (rooted : AreRooted z.iface.facts (after z.iface.facts (object_of z.iface.facts h) p.call p.reply).rows)
     (names' : List (ℕ × ℕ)) (told' : ℕ → Told)
@@ -56,13 +56,13 @@ module _ (z : Setting) (law : IsService z.iface.facts z.ask z.sound) (h : List E
     (live_names : (id : ℕ) → (named names' id ≡ 0) ⊎ (is_live (after z.iface.facts (object_of z.iface.facts h) p.call p.reply).rows id ≡ true))
     (kept : (es : List Entry) → AreKept ((h ++ p ∷ []) ++ es) (unanswered (record { history = h; run = record { boots = boots; points = points }; running = Some v; seats = seats; withdrawn = withdrawn; marks = marks; events = events; refused = refused }))
     ((h ++ p ∷ []) ++ es) (unanswered (record { history = h ++ p ∷ []; run = record { boots = boots; points = points }; running = Some v; seats = seats'; withdrawn = withdrawn; marks = marks'; events = events; refused = refused }))) where
-  abbrev later : State
+  abbrev later : WorldView
   later = record { history = h ++ p ∷ []; run = record { boots = boots; points = points }; running = Some v; seats = seats'; withdrawn = withdrawn; marks = marks'; events = events; refused = refused }
 
   up : IsUp z (record { history = h; run = record { boots = boots; points = points }; running = Some v; seats = seats; withdrawn = withdrawn; marks = marks; events = events; refused = refused }) stub v
   up = k.runs
 
-  ok : IsGood z.iface.facts z.sound (object_of z.iface.facts h)
+  ok : IsLegalObject z.iface.facts z.sound (object_of z.iface.facts h)
   ok = k.object.good
 
   wait : AreWaiting z.iface.facts z.ask (object_of z.iface.facts h) (pre ++ p ∷ post)
@@ -75,7 +75,7 @@ module _ (z : Setting) (law : IsService z.iface.facts z.ask z.sound) (h : List E
   time_o n le = record { counted = omega (arith, le, k.object.counted, k.few); given = omega (arith, le, k.object.given, k.few) }
 
   time : HasTime z.iface.facts (suc (suc (length (pre ++ p ∷ post)))) (object_of z.iface.facts h)
-  time = time_o (suc (suc (length (pre ++ p ∷ post)))) (let n : length (waiting_in (length boots) seats) ≡ length (pre ++ p ∷ post) = ap length held in omega (arith, n, k.waiting_few))
+  time = time_o (suc (suc (length (pre ++ p ∷ post)))) (let n : length (held_in (length boots) seats) ≡ length (pre ++ p ∷ post) = ap length held in omega (arith, n, k.waiting_few))
 
   object_now : object_of z.iface.facts (h ++ p ∷ []) ≡ after z.iface.facts (object_of z.iface.facts h) p.call p.reply
   object_now = object_behind z.iface.facts empty_object h (p ∷ [])
@@ -83,10 +83,10 @@ module _ (z : Setting) (law : IsService z.iface.facts z.ask z.sound) (h : List E
   apart : AreApart (pre ++ p ∷ post)
   apart = waiting_apart z.iface.facts z.ask (object_of z.iface.facts h) (pre ++ p ∷ post) wait
 
-  drawn_p : (es : List Entry) → AreDrawn (waiting_in (length boots) seats') es → AreDrawn (waiting_in (length boots) seats) (p ∷ es)
+  drawn_p : (es : List Entry) → AreDrawn (held_in (length boots) seats') es → AreDrawn (held_in (length boots) seats) (p ∷ es)
   drawn_p es drawn = subst (λ l. AreDrawn l (p ∷ es)) (sym held) (drawn_with pre post es p apart (subst (λ l. AreDrawn l es) left drawn))
 
-  without : (P : Entry → Type 0) → Each P (waiting_in (length boots) seats) → Each P (waiting_in (length boots) seats') × P p
+  without : (P : Entry → Type 0) → Each P (held_in (length boots) seats) → Each P (held_in (length boots) seats') × P p
   without P all =
       let parts = each_split P pre (p ∷ post) (subst (Each P) held all) in
       (subst (Each P) (sym left) (each_append P pre post parts.0 parts.1.1), parts.1.0)
@@ -98,7 +98,7 @@ module _ (z : Setting) (law : IsService z.iface.facts z.ask z.sound) (h : List E
   unfolding its
   answer_p = ap (λ g. refused_or g (z.ask (object_of z.iface.facts h) p.call)) guard_p ∙ its.answered.answered
 
-  good_now : IsGood z.iface.facts z.sound (after z.iface.facts (object_of z.iface.facts h) p.call p.reply)
+  good_now : IsLegalObject z.iface.facts z.sound (after z.iface.facts (object_of z.iface.facts h) p.call p.reply)
   unfolding its
   good_now = after_good z.iface.facts z.ask z.sound law (object_of z.iface.facts h) p.call p.reply ok its.answered
 
@@ -133,7 +133,7 @@ module _ (z : Setting) (law : IsService z.iface.facts z.ask z.sound) (h : List E
           most_given (Refused code) = omega arith
 
   -- what the guard lets pass of the others, it lets pass still
-  guarded_now : Each (λ e. guard z.iface (after z.iface.facts (object_of z.iface.facts h) p.call p.reply) e.call ≡ None) (waiting_in (length boots) seats')
+  guarded_now : Each (λ e. guard z.iface (after z.iface.facts (object_of z.iface.facts h) p.call p.reply) e.call ≡ None) (held_in (length boots) seats')
   unfolding its
   guarded_now =
       subst (Each (λ e. guard z.iface (after z.iface.facts (object_of z.iface.facts h) p.call p.reply) e.call ≡ None)) (sym left)
@@ -161,7 +161,7 @@ module _ (z : Setting) (law : IsService z.iface.facts z.ask z.sound) (h : List E
   zero_names = elim (fewer_names 0) [ inl is ↦ is | inr is ↦ is ∙ sym up.under_way.holds.names_are.none ]
 
   -- what is told is read as before
-  read_now : (es : List Entry) → AreDrawn (waiting_in (length boots) seats') es
+  read_now : (es : List Entry) → AreDrawn (held_in (length boots) seats') es
       → IsRead z.iface.facts z.walks ((h ++ p ∷ []) ++ es) (older_items [] boots) (last_items boots) names' told' stub.present (object_of z.iface.facts (h ++ p ∷ [])).rows
   unfolding up its
   read_now es drawn =
@@ -169,7 +169,7 @@ module _ (z : Setting) (law : IsService z.iface.facts z.ask z.sound) (h : List E
       subst (λ l. IsRead z.iface.facts z.walks l (older_items [] boots) (last_items boots) names' told' stub.present (object_of z.iface.facts (h ++ p ∷ [])).rows) (sym (append_assoc h (p ∷ []) es)) (record {
         names_are = λ x known. r0.names_are x (known_o x known) ∙ sym (names_known x known);
         whole = λ x live. r0.whole x (live_o x live) ∙ ap is_complete (sym (same_told x (live_p x live)));
-        calls = λ x live. subst (λ t. IsCounted t (length (filter (λ item. is_walk_of x item.tag) (last_items boots)))) (sym (same_told x (live_p x live))) (r0.calls x (live_o x live));
+        calls = λ x live. subst (λ t. TellsCalls t (length (filter (λ item. is_walk_of x item.tag) (last_items boots)))) (sym (same_told x (live_p x live))) (r0.calls x (live_o x live));
         files = r0.files;
       })
     where
@@ -191,29 +191,29 @@ module _ (z : Setting) (law : IsService z.iface.facts z.ask z.sound) (h : List E
       known_o x (inr live) = inr (live_o x live)
 
   -- the object behind the others held
-  wait_now : AreWaiting z.iface.facts z.ask (after z.iface.facts (object_of z.iface.facts h) p.call p.reply) (waiting_in (length boots) seats')
+  wait_now : AreWaiting z.iface.facts z.ask (after z.iface.facts (object_of z.iface.facts h) p.call p.reply) (held_in (length boots) seats')
   wait_now = subst (AreWaiting z.iface.facts z.ask (after z.iface.facts (object_of z.iface.facts h) p.call p.reply)) (sym left) (committed_waiting z.iface.facts z.ask z.sound law (object_of z.iface.facts h) pre post p ok time wait)
 
-  time_now : HasTime z.iface.facts (length (waiting_in (length boots) seats')) (after z.iface.facts (object_of z.iface.facts h) p.call p.reply)
+  time_now : HasTime z.iface.facts (length (held_in (length boots) seats')) (after z.iface.facts (object_of z.iface.facts h) p.call p.reply)
   time_now =
-      let n : length (waiting_in (length boots) seats') ≡ length (pre ++ post) = ap length left in
-      let m : length (waiting_in (length boots) seats) ≡ length (pre ++ p ∷ post) = ap length held in
+      let n : length (held_in (length boots) seats') ≡ length (pre ++ post) = ap length left in
+      let m : length (held_in (length boots) seats) ≡ length (pre ++ p ∷ post) = ap length held in
       let a : length (pre ++ post) ≡ length pre + length post = length-append pre post in
       let c : length (pre ++ p ∷ post) ≡ length pre + suc (length post) = length-append pre (p ∷ post) in
       let l : length (h ++ p ∷ []) ≡ length h + 1 = length-append h (p ∷ []) in
       record { counted = omega (arith, n, m, a, c, l, k.waiting_few, counted_now, few); given = omega (arith, n, m, a, c, l, k.waiting_few, given_now, few) }
 
-  sound_now : IsSound z.iface.facts (object_from z.iface.facts (object_of z.iface.facts (h ++ p ∷ [])) (waiting_in (length boots) seats'))
-  sound_now = subst (λ x. IsSound z.iface.facts (object_from z.iface.facts x (waiting_in (length boots) seats'))) (sym object_now)
-      (law.keeps.general (object_from z.iface.facts (after z.iface.facts (object_of z.iface.facts h) p.call p.reply) (waiting_in (length boots) seats'))
-      (good_behind z.iface.facts z.ask z.sound law (after z.iface.facts (object_of z.iface.facts h) p.call p.reply) (waiting_in (length boots) seats') good_now time_now wait_now).is_sound)
+  sound_now : IsSound z.iface.facts (object_from z.iface.facts (object_of z.iface.facts (h ++ p ∷ [])) (held_in (length boots) seats'))
+  sound_now = subst (λ x. IsSound z.iface.facts (object_from z.iface.facts x (held_in (length boots) seats'))) (sym object_now)
+      (law.keeps.general (object_from z.iface.facts (after z.iface.facts (object_of z.iface.facts h) p.call p.reply) (held_in (length boots) seats'))
+      (good_behind z.iface.facts z.ask z.sound law (after z.iface.facts (object_of z.iface.facts h) p.call p.reply) (held_in (length boots) seats') good_now time_now wait_now).is_sound)
 
-  live_behind : (x : ℕ) → is_live (object_from z.iface.facts (object_of z.iface.facts (h ++ p ∷ [])) (waiting_in (length boots) seats')).rows x ≡ true → is_live (after z.iface.facts (object_of z.iface.facts h) p.call p.reply).rows x ≡ true
+  live_behind : (x : ℕ) → is_live (object_from z.iface.facts (object_of z.iface.facts (h ++ p ∷ [])) (held_in (length boots) seats')).rows x ≡ true → is_live (after z.iface.facts (object_of z.iface.facts h) p.call p.reply).rows x ≡ true
   live_behind x live =
-      let now : is_live (object_from z.iface.facts (after z.iface.facts (object_of z.iface.facts h) p.call p.reply) (waiting_in (length boots) seats')).rows x ≡ true
-      = ap (λ y. is_live (object_from z.iface.facts y (waiting_in (length boots) seats')).rows x) (sym object_now) ∙ live in
-      let found = row_of_live (object_from z.iface.facts (after z.iface.facts (object_of z.iface.facts h) p.call p.reply) (waiting_in (length boots) seats')).rows x now in
-      fewer_behind z.iface.facts z.ask z.sound law (after z.iface.facts (object_of z.iface.facts h) p.call p.reply) (waiting_in (length boots) seats') good_now time_now wait_now x found.0 found.1
+      let now : is_live (object_from z.iface.facts (after z.iface.facts (object_of z.iface.facts h) p.call p.reply) (held_in (length boots) seats')).rows x ≡ true
+      = ap (λ y. is_live (object_from z.iface.facts y (held_in (length boots) seats')).rows x) (sym object_now) ∙ live in
+      let found = row_of_live (object_from z.iface.facts (after z.iface.facts (object_of z.iface.facts h) p.call p.reply) (held_in (length boots) seats')).rows x now in
+      fewer_behind z.iface.facts z.ask z.sound law (after z.iface.facts (object_of z.iface.facts h) p.call p.reply) (held_in (length boots) seats') good_now time_now wait_now x found.0 found.1
 
   above_old : (id : ℕ) → (after z.iface.facts (object_of z.iface.facts h) p.call p.reply).given < id → (object_of z.iface.facts h).given < id
   above_old id above = by p.reply above
@@ -232,20 +232,20 @@ module _ (z : Setting) (law : IsService z.iface.facts z.ask z.sound) (h : List E
   keeps_now = record {
     legal = legal_push z.iface z.ask empty_object h p k.legal answer_p;
     object = record {
-      good = subst (IsGood z.iface.facts z.sound) (sym object_now) good_now;
+      good = subst (IsLegalObject z.iface.facts z.sound) (sym object_now) good_now;
       rooted = subst (λ x. AreRooted z.iface.facts x.rows) (sym object_now) rooted;
       counted = subst (λ x. most_counted z.iface.facts x.rows ≤ slow + length (h ++ p ∷ [])) (sym object_now) counted_now;
       given = subst (λ x. x.given ≤ length (h ++ p ∷ [])) (sym object_now) given_now;
     };
     few = few;
-    waiting_are = subst (λ x. AreWaiting z.iface.facts z.ask x (waiting_in (length boots) seats')) (sym object_now)
+    waiting_are = subst (λ x. AreWaiting z.iface.facts z.ask x (held_in (length boots) seats')) (sym object_now)
         (subst (AreWaiting z.iface.facts z.ask (after z.iface.facts (object_of z.iface.facts h) p.call p.reply)) (sym left) (committed_waiting z.iface.facts z.ask z.sound law (object_of z.iface.facts h) pre post p ok time wait));
-    waiting_few = let n : length (waiting_in (length boots) seats') ≡ length (pre ++ post) = ap length left in
-        let m : length (waiting_in (length boots) seats) ≡ length (pre ++ p ∷ post) = ap length held in
+    waiting_few = let n : length (held_in (length boots) seats') ≡ length (pre ++ post) = ap length left in
+        let m : length (held_in (length boots) seats) ≡ length (pre ++ p ∷ post) = ap length held in
         let a : length (pre ++ post) ≡ length pre + length post = length-append pre post in
         let c : length (pre ++ p ∷ post) ≡ length pre + suc (length post) = length-append pre (p ∷ post) in
         omega (arith, n, m, a, c, k.waiting_few);
-    guarded = subst (λ x. Each (λ e. guard z.iface x e.call ≡ None) (waiting_in (length boots) seats')) (sym object_now) guarded_now;
+    guarded = subst (λ x. Each (λ e. guard z.iface x e.call ≡ None) (held_in (length boots) seats')) (sym object_now) guarded_now;
     reachable = λ es drawn. subst (λ x. AreReachable z.iface (object_from z.iface.facts x es).rows) (sym object_now) (k.reachable (p ∷ es) (drawn_p es drawn));
     entered = each_append (λ e. is_by_guard e.reply || list_any (is_item_of e) (older_items [] boots ++ last_items boots) ≡ true) h (p ∷ []) k.entered
         ((without (λ e. is_by_guard e.reply || list_any (is_item_of e) (older_items [] boots ++ last_items boots) ≡ true) k.held_items).1, tt);
@@ -265,12 +265,12 @@ module _ (z : Setting) (law : IsService z.iface.facts z.ask z.sound) (h : List E
       unstopped = up.unstopped;
       value = up.value;
       named_live = λ x. elim (live_names x) [ inl none ↦ inl none | inr live ↦ inr (ap (λ y. is_live y.rows x) object_now ∙ live) ];
-      under_way = under_dropped z.iface z.walks stub.names names' (object_from z.iface.facts (object_of z.iface.facts (h ++ p ∷ [])) (waiting_in (length boots) seats')) v sound_now up.under_way.holds.names_are.none
+      under_way = under_dropped z.iface z.walks stub.names names' (object_from z.iface.facts (object_of z.iface.facts (h ++ p ∷ [])) (held_in (length boots) seats')) v sound_now up.under_way.holds.names_are.none
           (λ x live. same_names x (live_behind x live)) fewer_names stub.told told' stub.present (λ x live. same_told x (live_behind x live))
-          (subst (λ x. IsUnderWay z.iface z.walks stub.names stub.told stub.present x v)
+          (subst (λ x. IsInRecovery z.iface z.walks stub.names stub.told stub.present x v)
           (ap (object_from z.iface.facts (object_of z.iface.facts h)) held ∙ sym (committed_same z.iface.facts z.ask z.sound law (object_of z.iface.facts h) pre post p ok time wait)
           ∙ ap (object_from z.iface.facts (after z.iface.facts (object_of z.iface.facts h) p.call p.reply)) (sym left)
-          ∙ ap (λ x. object_from z.iface.facts x (waiting_in (length boots) seats')) (sym object_now)) up.under_way);
+          ∙ ap (λ x. object_from z.iface.facts x (held_in (length boots) seats')) (sym object_now)) up.under_way);
       read = read_now;
       unnamed = λ es drawn id above. subst (λ l. list_any (λ n. n.0 == id) (names_at z.iface.facts l (last_items boots)) ≡ false) (sym (append_assoc h (p ∷ []) es))
           (up.unnamed (p ∷ es) (drawn_p es drawn) id (above_old id (subst (λ x. x.given < id) object_now above)));

@@ -6,18 +6,18 @@ use Rattle.sg_base.specs.Lists.{Each}
 use Rattle.sg_base.specs.declared.call.Call.{Call}
 use Rattle.sg_facts.specs.declared.entry.Entry.{Entry}
 use Rattle.sg_world_laws.specs.Keeping.{AreSeated, IsSeated, Setting}
-use Rattle.sg_world_laws.specs.State.{Phase, Seat, is_held_in, is_offered, waiting_in, woken, idle, asked, held, receipted, blocked, left}
+use Rattle.sg_world_laws.specs.WorldView.{SeatPhase, Seat, is_held_in, is_offered, held_in, woken_seat, idle, asked, held, receipted, blocked, left}
 use Rattle.sg_walk_laws.proofs.Found.{other_test}
 
 -- a woken seat is the same, or was blocked and is asked
-pub woken_is : (test : Call → Bool) (s : Seat) → (woken test s ≡ s) ⊎ ((s.phase ≡ blocked) × (woken test s ≡ record s { phase = asked }))
+pub woken_is : (test : Call → Bool) (s : Seat) → (woken_seat test s ≡ s) ⊎ ((s.phase ≡ blocked) × (woken_seat test s ≡ record s { phase = asked }))
 woken_is test s = by s.phase refl
   where
     at : (b : Bool) → b ≡ test s.call → s.phase ≡ blocked → (cond b (record s { phase = asked }) s ≡ s) ⊎ ((s.phase ≡ blocked) × (cond b (record s { phase = asked }) s ≡ record s { phase = asked }))
     at true is was = inr (was, refl)
     at false is was = inl refl
 
-    by : (p : Phase) → s.phase ≡ p → (woken test (record s { phase = p }) ≡ record s { phase = p }) ⊎ ((p ≡ blocked) × (woken test (record s { phase = p }) ≡ record s { phase = asked }))
+    by : (p : SeatPhase) → s.phase ≡ p → (woken_seat test (record s { phase = p }) ≡ record s { phase = p }) ⊎ ((p ≡ blocked) × (woken_seat test (record s { phase = p }) ≡ record s { phase = asked }))
     by idle is = inl refl
     by asked is = inl refl
     by held is = inl refl
@@ -32,40 +32,40 @@ woken_is test s = by s.phase refl
 abbrev calls_in : List Seat → List Call
 calls_in seats = flat_map (λ s. if is_offered s.phase then s.call ∷ [] else []) seats
 
-pub offered_woken : (test : Call → Bool) (seats : List Seat) → calls_in (map (woken test) seats) ≡ calls_in seats
+pub offered_woken : (test : Call → Bool) (seats : List Seat) → calls_in (map (woken_seat test) seats) ≡ calls_in seats
 offered_woken test [] = refl
 offered_woken test (s ∷ seats) = by (woken_is test s) (offered_woken test seats)
   where
     own : Seat → List Call
     own s = if is_offered s.phase then s.call ∷ [] else []
 
-    by : (woken test s ≡ s) ⊎ ((s.phase ≡ blocked) × (woken test s ≡ record s { phase = asked })) → calls_in (map (woken test) seats) ≡ calls_in seats
-        → (if is_offered (woken test s).phase then (woken test s).call ∷ [] else []) ++ calls_in (map (woken test) seats) ≡ (if is_offered s.phase then s.call ∷ [] else []) ++ calls_in seats
-    by (inl same) rest = ap (λ x. (if is_offered x.phase then x.call ∷ [] else []) ++ calls_in (map (woken test) seats)) same ∙ ap (λ l. (if is_offered s.phase then s.call ∷ [] else []) ++ l) rest
+    by : (woken_seat test s ≡ s) ⊎ ((s.phase ≡ blocked) × (woken_seat test s ≡ record s { phase = asked })) → calls_in (map (woken_seat test) seats) ≡ calls_in seats
+        → (if is_offered (woken_seat test s).phase then (woken_seat test s).call ∷ [] else []) ++ calls_in (map (woken_seat test) seats) ≡ (if is_offered s.phase then s.call ∷ [] else []) ++ calls_in seats
+    by (inl same) rest = ap (λ x. (if is_offered x.phase then x.call ∷ [] else []) ++ calls_in (map (woken_seat test) seats)) same ∙ ap (λ l. (if is_offered s.phase then s.call ∷ [] else []) ++ l) rest
     by (inr was) rest =
-        ap (λ x. (if is_offered x.phase then x.call ∷ [] else []) ++ calls_in (map (woken test) seats)) was.1 ∙ ap (λ l. s.call ∷ l) rest
+        ap (λ x. (if is_offered x.phase then x.call ∷ [] else []) ++ calls_in (map (woken_seat test) seats)) was.1 ∙ ap (λ l. s.call ∷ l) rest
         ∙ sym (ap (λ p. (if is_offered p then s.call ∷ [] else []) ++ calls_in seats) was.0)
 
-pub held_woken : (boot : ℕ) (test : Call → Bool) (seats : List Seat) → waiting_in boot (map (woken test) seats) ≡ waiting_in boot seats
+pub held_woken : (boot : ℕ) (test : Call → Bool) (seats : List Seat) → held_in boot (map (woken_seat test) seats) ≡ held_in boot seats
 held_woken boot test [] = refl
 held_woken boot test (s ∷ seats) = by (woken_is test s) (held_woken boot test seats)
   where
-    by : (woken test s ≡ s) ⊎ ((s.phase ≡ blocked) × (woken test s ≡ record s { phase = asked })) → waiting_in boot (map (woken test) seats) ≡ waiting_in boot seats
-        → waiting_in boot (woken test s ∷ map (woken test) seats) ≡ waiting_in boot (s ∷ seats)
-    by (inl same) rest = ap (λ x. waiting_in boot (x ∷ map (woken test) seats)) same ∙ ap (λ l. if is_held_in boot s then record { call = s.call; reply = s.reply } ∷ l else l) rest
+    by : (woken_seat test s ≡ s) ⊎ ((s.phase ≡ blocked) × (woken_seat test s ≡ record s { phase = asked })) → held_in boot (map (woken_seat test) seats) ≡ held_in boot seats
+        → held_in boot (woken_seat test s ∷ map (woken_seat test) seats) ≡ held_in boot (s ∷ seats)
+    by (inl same) rest = ap (λ x. held_in boot (x ∷ map (woken_seat test) seats)) same ∙ ap (λ l. if is_held_in boot s then record { call = s.call; reply = s.reply } ∷ l else l) rest
     by (inr was) rest =
-        ap (λ x. waiting_in boot (x ∷ map (woken test) seats)) was.1 ∙ rest
-        ∙ sym (ap (λ p. waiting_in boot (record s { phase = p } ∷ seats)) was.0)
+        ap (λ x. held_in boot (x ∷ map (woken_seat test) seats)) was.1 ∙ rest
+        ∙ sym (ap (λ p. held_in boot (record s { phase = p } ∷ seats)) was.0)
 
 -- nothing was held in a boot that is yet to come
-pub none_held : (boots : ℕ) (seats : List Seat) → Each (λ s. s.boot ≤ boots) seats → waiting_in (boots + 1) seats ≡ []
+pub none_held : (boots : ℕ) (seats : List Seat) → Each (λ s. s.boot ≤ boots) seats → held_in (boots + 1) seats ≡ []
 none_held boots [] few = refl
-none_held boots (s ∷ seats) few = ap (λ b. if b then record { call = s.call; reply = s.reply } ∷ waiting_in (boots + 1) seats else waiting_in (boots + 1) seats) (isnt s.phase) ∙ none_held boots seats few.1
+none_held boots (s ∷ seats) few = ap (λ b. if b then record { call = s.call; reply = s.reply } ∷ held_in (boots + 1) seats else held_in (boots + 1) seats) (isnt s.phase) ∙ none_held boots seats few.1
   where
     other : (s.boot == boots + 1) ≡ false
     other = other_test s.boot (boots + 1) (λ is. omega (arith, few.0, is))
 
-    isnt : (p : Phase) → is_held_in (boots + 1) (record s { phase = p }) ≡ false
+    isnt : (p : SeatPhase) → is_held_in (boots + 1) (record s { phase = p }) ≡ false
     isnt idle = refl
     isnt asked = refl
     isnt held = other
@@ -73,20 +73,20 @@ none_held boots (s ∷ seats) few = ap (λ b. if b then record { call = s.call; 
     isnt blocked = refl
     isnt left = refl
 
-pub few_woken : (n : ℕ) (test : Call → Bool) (seats : List Seat) → Each (λ s. s.boot ≤ n) seats → Each (λ s. s.boot ≤ n) (map (woken test) seats)
+pub few_woken : (n : ℕ) (test : Call → Bool) (seats : List Seat) → Each (λ s. s.boot ≤ n) seats → Each (λ s. s.boot ≤ n) (map (woken_seat test) seats)
 few_woken n test [] few = tt
 few_woken n test (s ∷ seats) few = (by (woken_is test s), few_woken n test seats few.1)
   where
-    by : (woken test s ≡ s) ⊎ ((s.phase ≡ blocked) × (woken test s ≡ record s { phase = asked })) → (woken test s).boot ≤ n
+    by : (woken_seat test s ≡ s) ⊎ ((s.phase ≡ blocked) × (woken_seat test s ≡ record s { phase = asked })) → (woken_seat test s).boot ≤ n
     by (inl same) = subst (λ x. x.boot ≤ n) (sym same) few.0
     by (inr was) = subst (λ x. x.boot ≤ n) (sym was.1) few.0
 
 -- woken seats are as before, at one history
-pub seated_woken : (z : Setting) (history : List Entry) (test : Call → Bool) (client : ℕ) (seats : List Seat) → AreSeated z history client seats → AreSeated z history client (map (woken test) seats)
+pub seated_woken : (z : Setting) (history : List Entry) (test : Call → Bool) (client : ℕ) (seats : List Seat) → AreSeated z history client seats → AreSeated z history client (map (woken_seat test) seats)
 seated_woken z history test client [] all = tt
 seated_woken z history test client (s ∷ seats) all = (by (woken_is test s) all.0, so (woken_is test s) all.1, seated_woken z history test (client + 1) seats all.2)
   where
-    by : (woken test s ≡ s) ⊎ ((s.phase ≡ blocked) × (woken test s ≡ record s { phase = asked })) → IsSeated z history client s → IsSeated z history client (woken test s)
+    by : (woken_seat test s ≡ s) ⊎ ((s.phase ≡ blocked) × (woken_seat test s ≡ record s { phase = asked })) → IsSeated z history client s → IsSeated z history client (woken_seat test s)
     by (inl same) is = subst (IsSeated z history client) (sym same) is
     by (inr was) is = subst (IsSeated z history client) (sym was.1) (record {
       its = λ offer. is.its (ap is_offered was.0);
@@ -97,6 +97,6 @@ seated_woken z history test client (s ∷ seats) all = (by (woken_is test s) all
       waits = λ isnt. absurd (cc isnt);
     })
 
-    so : (woken test s ≡ s) ⊎ ((s.phase ≡ blocked) × (woken test s ≡ record s { phase = asked })) → Each (λ e. e.call.client ≡ client → e.call.seq ≤ s.seq) history → Each (λ e. e.call.client ≡ client → e.call.seq ≤ (woken test s).seq) history
+    so : (woken_seat test s ≡ s) ⊎ ((s.phase ≡ blocked) × (woken_seat test s ≡ record s { phase = asked })) → Each (λ e. e.call.client ≡ client → e.call.seq ≤ s.seq) history → Each (λ e. e.call.client ≡ client → e.call.seq ≤ (woken_seat test s).seq) history
     so (inl same) is = subst (λ x. Each (λ e. e.call.client ≡ client → e.call.seq ≤ x.seq) history) (sym same) is
     so (inr was) is = subst (λ x. Each (λ e. e.call.client ≡ client → e.call.seq ≤ x.seq) history) (sym was.1) is

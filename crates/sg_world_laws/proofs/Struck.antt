@@ -12,7 +12,7 @@ use Rattle.sg_hist.specs.Reading.{is_by_guard, is_item_of}
 use Rattle.sg_recovery_laws.specs.Growing.{IsRecovering, last_items, last_stop, older_items, struck}
 use Rattle.sg_recovery_laws.proofs.Onward.{struck_stays}
 use Rattle.sg_world_laws.specs.Keeping.{AreDrawn, Keeps, Setting, Stub, stubs_of}
-use Rattle.sg_world_laws.specs.State.{Mark, Seat, State, Withdrawn, unanswered}
+use Rattle.sg_world_laws.specs.WorldView.{LogMark, Seat, WorldView, Withdrawn, unanswered}
 use Rattle.sg_world_laws.proofs.Booted.{no_drawn, none_drawn}
 
 pub front_struck : (boots : List Boot) (p : ℕ) → last_items (struck boots p) ≡ last_items boots
@@ -38,13 +38,13 @@ stop_struck b (c ∷ []) p = refl
 stop_struck b (c ∷ d ∷ boots) p = stop_struck c (d ∷ boots) p
 
 -- the run may have an item more, of a call that the stop struck
-module _ (z : Setting) (h : List Entry) (boots : List Boot) (points : ℕ) (v : Object) (seats : List Seat) (withdrawn : List Withdrawn) (marks : List Mark) (events refused : ℕ) (stub : Stub)
+module _ (z : Setting) (h : List Entry) (boots : List Boot) (points : ℕ) (v : Object) (seats : List Seat) (withdrawn : List Withdrawn) (marks : List LogMark) (events refused : ℕ) (stub : Stub)
     (k : Keeps z (record { history = h; run = record { boots = boots; points = points }; running = Some v; seats = seats; withdrawn = withdrawn; marks = marks; events = events; refused = refused }) stub)
     (b : Boot) (more : List Boot) (points' stop : ℕ) (long : length (b ∷ more) ≡ length boots)
     (entered : Each (λ e. is_by_guard e.reply || list_any (is_item_of e) (older_items [] (b ∷ more) ++ last_items (b ∷ more)) ≡ true) h)
     (recovers : IsRecovering (stubs_of z) (h ++ []) (record { boots = b ∷ more; points = points' })
     (unanswered (record { history = h; run = record { boots = boots; points = points }; running = Some v; seats = seats; withdrawn = withdrawn; marks = marks; events = events; refused = refused }))) where
-  abbrev pub later : State
+  abbrev pub later : WorldView
   later = record { history = h; run = record { boots = struck (b ∷ more) stop; points = stop }; running = None; seats = seats; withdrawn = withdrawn; marks = marks; events = events; refused = refused }
 
   any_drawn : AreDrawn [] [] → AreReachable z.iface (object_of z.iface.facts h).rows

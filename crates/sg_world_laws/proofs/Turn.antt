@@ -7,7 +7,7 @@ use Rattle.sg_facts.specs.Guard.{guard}
 use Rattle.sg_facts.specs.Laws.{Passes, slow}
 use Rattle.sg_facts.specs.Object.{object_of}
 use Rattle.sg_world_laws.specs.Keeping.{AreSeated, IsSeated, IsSettledObject, Setting}
-use Rattle.sg_world_laws.specs.State.{Phase, Seat, is_held_in, is_offered, waiting_in, idle, asked, held, receipted, blocked, left}
+use Rattle.sg_world_laws.specs.WorldView.{SeatPhase, Seat, is_held_in, is_offered, held_in, idle, asked, held, receipted, blocked, left}
 use Rattle.sg_object_laws.specs.Waiting.{NoneBy}
 use Rattle.sg_held_laws.proofs.Tabled.{passes_whole}
 use Rattle.sg_held_laws.proofs.Walking.{declared_within}
@@ -37,35 +37,35 @@ SeatAt [] client c s = ⊥
 SeatAt (x ∷ seats) client c s = ((client ≡ c) × (s ≡ x)) ⊎ SeatAt seats (client + 1) c s
 
 -- clients below a number hold nothing among the seats from there on
-none_below : (z : Setting) (h : List Entry) (boot client c : ℕ) (seats : List Seat) → AreSeated z h client seats → c < client → NoneBy c (waiting_in boot seats)
+none_below : (z : Setting) (h : List Entry) (boot client c : ℕ) (seats : List Seat) → AreSeated z h client seats → c < client → NoneBy c (held_in boot seats)
 none_below z h boot client c [] all less = tt
 none_below z h boot client c (s ∷ seats) all less = by s.phase refl (none_below z h boot (client + 1) c seats all.2 (omega (arith, less)))
   where
-    skip : (b : Bool) → (b ≡ true → s.call.client ≢ c) → NoneBy c (waiting_in boot seats) → NoneBy c (cond b (record { call = s.call; reply = s.reply } ∷ waiting_in boot seats) (waiting_in boot seats))
+    skip : (b : Bool) → (b ≡ true → s.call.client ≢ c) → NoneBy c (held_in boot seats) → NoneBy c (cond b (record { call = s.call; reply = s.reply } ∷ held_in boot seats) (held_in boot seats))
     skip true other rest = (other refl, rest)
     skip false other rest = rest
 
-    by : (p : Phase) → s.phase ≡ p → NoneBy c (waiting_in boot seats) → NoneBy c (waiting_in boot (s ∷ seats))
+    by : (p : SeatPhase) → s.phase ≡ p → NoneBy c (held_in boot seats) → NoneBy c (held_in boot (s ∷ seats))
     by held is rest = skip (is_held_in boot s) (λ yes_it same. let its = all.0.its (ap is_offered is) in omega (arith, less, its, same)) rest
-    by idle is rest = subst (λ q. NoneBy c (cond (is_held_in boot (record s { phase = q })) (record { call = s.call; reply = s.reply } ∷ waiting_in boot seats) (waiting_in boot seats))) (sym is) rest
-    by asked is rest = subst (λ q. NoneBy c (cond (is_held_in boot (record s { phase = q })) (record { call = s.call; reply = s.reply } ∷ waiting_in boot seats) (waiting_in boot seats))) (sym is) rest
-    by receipted is rest = subst (λ q. NoneBy c (cond (is_held_in boot (record s { phase = q })) (record { call = s.call; reply = s.reply } ∷ waiting_in boot seats) (waiting_in boot seats))) (sym is) rest
-    by blocked is rest = subst (λ q. NoneBy c (cond (is_held_in boot (record s { phase = q })) (record { call = s.call; reply = s.reply } ∷ waiting_in boot seats) (waiting_in boot seats))) (sym is) rest
-    by left is rest = subst (λ q. NoneBy c (cond (is_held_in boot (record s { phase = q })) (record { call = s.call; reply = s.reply } ∷ waiting_in boot seats) (waiting_in boot seats))) (sym is) rest
+    by idle is rest = subst (λ q. NoneBy c (cond (is_held_in boot (record s { phase = q })) (record { call = s.call; reply = s.reply } ∷ held_in boot seats) (held_in boot seats))) (sym is) rest
+    by asked is rest = subst (λ q. NoneBy c (cond (is_held_in boot (record s { phase = q })) (record { call = s.call; reply = s.reply } ∷ held_in boot seats) (held_in boot seats))) (sym is) rest
+    by receipted is rest = subst (λ q. NoneBy c (cond (is_held_in boot (record s { phase = q })) (record { call = s.call; reply = s.reply } ∷ held_in boot seats) (held_in boot seats))) (sym is) rest
+    by blocked is rest = subst (λ q. NoneBy c (cond (is_held_in boot (record s { phase = q })) (record { call = s.call; reply = s.reply } ∷ held_in boot seats) (held_in boot seats))) (sym is) rest
+    by left is rest = subst (λ q. NoneBy c (cond (is_held_in boot (record s { phase = q })) (record { call = s.call; reply = s.reply } ∷ held_in boot seats) (held_in boot seats))) (sym is) rest
 
 -- and so a client that holds nothing itself has no reply among those that are held
-pub none_of_asked : (z : Setting) (h : List Entry) (boot client c : ℕ) (seats : List Seat) → AreSeated z h client seats → ((s : Seat) → SeatAt seats client c s → s.phase ≢ held) → NoneBy c (waiting_in boot seats)
+pub none_of_asked : (z : Setting) (h : List Entry) (boot client c : ℕ) (seats : List Seat) → AreSeated z h client seats → ((s : Seat) → SeatAt seats client c s → s.phase ≢ held) → NoneBy c (held_in boot seats)
 none_of_asked z h boot client c [] all isn't = tt
 none_of_asked z h boot client c (s ∷ seats) all isn't = by s.phase refl (none_of_asked z h boot (client + 1) c seats all.2 (λ t at. isn't t (inr at)))
   where
-    skip : (b : Bool) → (b ≡ true → s.call.client ≢ c) → NoneBy c (waiting_in boot seats) → NoneBy c (cond b (record { call = s.call; reply = s.reply } ∷ waiting_in boot seats) (waiting_in boot seats))
+    skip : (b : Bool) → (b ≡ true → s.call.client ≢ c) → NoneBy c (held_in boot seats) → NoneBy c (cond b (record { call = s.call; reply = s.reply } ∷ held_in boot seats) (held_in boot seats))
     skip true other rest = (other refl, rest)
     skip false other rest = rest
 
-    by : (p : Phase) → s.phase ≡ p → NoneBy c (waiting_in boot seats) → NoneBy c (waiting_in boot (s ∷ seats))
+    by : (p : SeatPhase) → s.phase ≡ p → NoneBy c (held_in boot seats) → NoneBy c (held_in boot (s ∷ seats))
     by held is rest = skip (is_held_in boot s) (λ yes_it same. isn't s (inl (sym (all.0.its (ap is_offered is)) ∙ same, refl)) is) rest
-    by idle is rest = subst (λ q. NoneBy c (cond (is_held_in boot (record s { phase = q })) (record { call = s.call; reply = s.reply } ∷ waiting_in boot seats) (waiting_in boot seats))) (sym is) rest
-    by asked is rest = subst (λ q. NoneBy c (cond (is_held_in boot (record s { phase = q })) (record { call = s.call; reply = s.reply } ∷ waiting_in boot seats) (waiting_in boot seats))) (sym is) rest
-    by receipted is rest = subst (λ q. NoneBy c (cond (is_held_in boot (record s { phase = q })) (record { call = s.call; reply = s.reply } ∷ waiting_in boot seats) (waiting_in boot seats))) (sym is) rest
-    by blocked is rest = subst (λ q. NoneBy c (cond (is_held_in boot (record s { phase = q })) (record { call = s.call; reply = s.reply } ∷ waiting_in boot seats) (waiting_in boot seats))) (sym is) rest
-    by left is rest = subst (λ q. NoneBy c (cond (is_held_in boot (record s { phase = q })) (record { call = s.call; reply = s.reply } ∷ waiting_in boot seats) (waiting_in boot seats))) (sym is) rest
+    by idle is rest = subst (λ q. NoneBy c (cond (is_held_in boot (record s { phase = q })) (record { call = s.call; reply = s.reply } ∷ held_in boot seats) (held_in boot seats))) (sym is) rest
+    by asked is rest = subst (λ q. NoneBy c (cond (is_held_in boot (record s { phase = q })) (record { call = s.call; reply = s.reply } ∷ held_in boot seats) (held_in boot seats))) (sym is) rest
+    by receipted is rest = subst (λ q. NoneBy c (cond (is_held_in boot (record s { phase = q })) (record { call = s.call; reply = s.reply } ∷ held_in boot seats) (held_in boot seats))) (sym is) rest
+    by blocked is rest = subst (λ q. NoneBy c (cond (is_held_in boot (record s { phase = q })) (record { call = s.call; reply = s.reply } ∷ held_in boot seats) (held_in boot seats))) (sym is) rest
+    by left is rest = subst (λ q. NoneBy c (cond (is_held_in boot (record s { phase = q })) (record { call = s.call; reply = s.reply } ∷ held_in boot seats) (held_in boot seats))) (sym is) rest

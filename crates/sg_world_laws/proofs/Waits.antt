@@ -15,8 +15,8 @@ use Rattle.sg_facts.specs.Laws.{Passes, leaves_blocked}
 use Rattle.sg_facts.specs.Legal.{Table, answer, refused_or}
 use Rattle.sg_facts.specs.Object.{Object, after}
 use Rattle.sg_facts.specs.Track.{ends_with}
-use Rattle.sg_object_laws.specs.Serving.{IsAnswered, IsGood, IsService}
-use Rattle.sg_world_laws.specs.State.{wakes}
+use Rattle.sg_object_laws.specs.Serving.{IsAnsweredAt, IsLegalObject, IsService}
+use Rattle.sg_world_laws.specs.WorldView.{wakes_seat}
 use Rattle.sg_object_laws.proofs.Blocked.{passes_on, row_stays}
 use Rattle.sg_object_laws.proofs.Guarded.{acts, both_true, each_fun, first_four}
 use Rattle.sg_object_laws.proofs.Serves.{desc_row}
@@ -58,8 +58,8 @@ unwoken_leaves false s true true is = absurd (cc is)
 unwoken_leaves false s true false is = refl
 unwoken_leaves false s false e is = refl
 
-module _ (i : Declared) (ask : Table) (sound : Object → Type 0) (law : IsService i.facts ask sound) (o : Object) (call x : Call) (ok : IsGood i.facts sound o) (x_passes : Passes i.facts o x) where
-  pub still_waits : (reply : Reply) → IsAnswered i.facts ask o call reply → answer i ask o x ≡ None → wakes i.facts o.rows call reply x ≡ false → answer i ask (after i.facts o call reply) x ≡ None
+module _ (i : Declared) (ask : Table) (sound : Object → Type 0) (law : IsService i.facts ask sound) (o : Object) (call x : Call) (ok : IsLegalObject i.facts sound o) (x_passes : Passes i.facts o x) where
+  pub still_waits : (reply : Reply) → IsAnsweredAt i.facts ask o call reply → answer i ask o x ≡ None → wakes_seat i.facts o.rows call reply x ≡ false → answer i ask (after i.facts o call reply) x ≡ None
   still_waits (Refused code) answered waits unwoken = waits
   still_waits (Ok g) answered waits unwoken =
       let both = none_of (guard i o x) (ask o x) waits in

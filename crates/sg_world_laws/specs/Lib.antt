@@ -1,4 +1,3 @@
 pub mod Keeping
-pub mod Layers
-pub mod State
 pub mod Steps
+pub mod WorldView

@@ -19,7 +19,7 @@ use Rattle.sg_hist.specs.Reading.{after_item}
 use Rattle.sg_hist.specs.Recovered.{is_patch_at, is_replied, is_stopped}
 use Rattle.sg_recovery_laws.specs.Growing.{IsNextItem, last_items, older_items, place_behind}
 use Rattle.sg_world_laws.specs.Keeping.{Setting, stubs_of}
-use Rattle.sg_world_laws.specs.State.{State, boot_number, committed, given_to, in_phase, item_noted, rebooted, seat_of, service_is, struck_at, unanswered, with_mark, with_points, with_seat, idle, asked, held, receipted, blocked, left, answer as Answer}
+use Rattle.sg_world_laws.specs.WorldView.{WorldView, boot_number, committed, given_to, in_phase, item_noted, rebooted, seat_of, service_is, struck_at, unanswered, with_mark, with_points, with_seat, idle, asked, held, receipted, blocked, left, answer as Answer}
 use Rattle.sg_trace_laws.specs.Told.{whole_behind}
 
 pub data Did : Type 0 where
@@ -33,7 +33,7 @@ pub data Did : Type 0 where
   lost : Did
   answered : Reply → Did
 
-module _ (z : Setting) (w : State) (c : ℕ) where
+module _ (z : Setting) (w : WorldView) (c : ℕ) where
   abbrev pub facts_of_it : Facts
   facts_of_it = z.iface.facts
 
@@ -82,45 +82,45 @@ module _ (z : Setting) (w : State) (c : ℕ) where
 
   -- ---- the lines
 
-  pub record Skips (w' : State) : Type 0 where
+  pub record Skips (w' : WorldView) : Type 0 where
     pub phase : ((seat_of w c).phase ≡ idle) ⊎ ((seat_of w c).phase ≡ blocked) ⊎ ((seat_of w c).phase ≡ left)
     pub same : w' ≡ w
 
-  pub record HandsOver (reply : Reply) (w' : State) : Type 0 where
+  pub record HandsOver (reply : Reply) (w' : WorldView) : Type 0 where
     pub phase : (seat_of w c).phase ≡ receipted
     pub its : reply ≡ (seat_of w c).reply
     pub now : w' ≡ with_mark (in_phase w c idle) c Answer
 
-  pub record Returns (reply : Reply) (w' : State) : Type 0 where
+  pub record Returns (reply : Reply) (w' : WorldView) : Type 0 where
     pub phase : (seat_of w c).phase ≡ held
     pub running : w.running ≢ None
     pub boot : (seat_of w c).boot ≡ boot_number w
     pub its : reply ≡ (seat_of w c).reply
     pub now : (let e : Entry = record { call = (seat_of w c).call; reply = reply } in w' ≡ with_mark (given_to (committed z.iface.facts w e) e idle) c Answer)
 
-  pub record Loses (w' : State) : Type 0 where
+  pub record Loses (w' : WorldView) : Type 0 where
     pub phase : (seat_of w c).phase ≡ held
     pub gone : (w.running ≡ None) ⊎ ((seat_of w c).boot ≢ boot_number w)
     pub now : w' ≡ in_phase w c asked
 
-  pub record Refuses (reply : Reply) (w' : State) : Type 0 where
+  pub record Refuses (reply : Reply) (w' : WorldView) : Type 0 where
     pub phase : (seat_of w c).phase ≡ asked
     pub code : Code
     pub guarded : guard z.iface (object_of z.iface.facts w.history) (seat_of w c).call ≡ Some code
     pub its : reply ≡ Refused code
     pub now : (let e : Entry = record { call = (seat_of w c).call; reply = reply } in w' ≡ with_mark (given_to (committed z.iface.facts w e) e idle) c Answer)
 
-  pub record Boots (w' : State) : Type 0 where
+  pub record Boots (w' : WorldView) : Type 0 where
     pub let_in : IsLetIn
     pub failed : w.running ≡ None
     pub now : w' ≡ rebooted w
 
-  pub record StopsIdle (w' : State) : Type 0 where
+  pub record StopsIdle (w' : WorldView) : Type 0 where
     pub service : Object
     pub uses : UsesService service
     pub now : w' ≡ struck_at w (asked_after w.run.points 1)
 
-  pub record Replays (w' : State) : Type 0 where
+  pub record Replays (w' : WorldView) : Type 0 where
     pub service : Object
     pub uses : UsesService service
     pub id : ℕ
@@ -131,7 +131,7 @@ module _ (z : Setting) (w : State) (c : ℕ) where
     pub noted : IsNoted item w.history (unanswered w)
     pub now : ((is_stopped item.outcome ≡ false) × (w' ≡ service_is (item_noted w item) (after_item z.iface.facts service item)))
 
-  pub record StopsReplay (w' : State) : Type 0 where
+  pub record StopsReplay (w' : WorldView) : Type 0 where
     pub service : Object
     pub uses : UsesService service
     pub id : ℕ
@@ -142,7 +142,7 @@ module _ (z : Setting) (w : State) (c : ℕ) where
     pub noted : IsNoted item w.history (unanswered w)
     pub now : ((item.outcome ≡ Stopped) × (w' ≡ struck_at (item_noted w item) item.points))
 
-  pub record Loads (w' : State) : Type 0 where
+  pub record Loads (w' : WorldView) : Type 0 where
     pub service : Object
     pub uses : UsesService service
     pub rows : list_all is_whole_now wanted ≡ true
@@ -153,7 +153,7 @@ module _ (z : Setting) (w : State) (c : ℕ) where
     pub noted : IsNoted item w.history (unanswered w)
     pub now : w' ≡ service_is (item_noted w item) (after_item z.iface.facts service item)
 
-  pub record BlocksIt (w' : State) : Type 0 where
+  pub record BlocksIt (w' : WorldView) : Type 0 where
     pub service : Object
     pub all : HasAll service
     pub none : answer z.iface z.ask (object_of z.iface.facts w.history) (seat_of w c).call ≡ None
@@ -163,7 +163,7 @@ module _ (z : Setting) (w : State) (c : ℕ) where
     pub noted : IsNoted item w.history (unanswered w)
     pub now : w' ≡ in_phase (item_noted w item) c blocked
 
-  pub record StopsCall (w' : State) : Type 0 where
+  pub record StopsCall (w' : WorldView) : Type 0 where
     pub service : Object
     pub all : HasAll service
     pub item : Item
@@ -173,7 +173,7 @@ module _ (z : Setting) (w : State) (c : ℕ) where
     pub now : w' ≡ struck_at (item_noted w item) item.points
 
   -- a visible call was answered and committed; whether the stop behind the commit struck
-  pub record Serves (struck_behind : Bool) (w' : State) : Type 0 where
+  pub record Serves (struck_behind : Bool) (w' : WorldView) : Type 0 where
     pub service : Object
     pub all : HasAll service
     pub visible : is_visible z.iface.facts (seat_of w c).call.fun ≡ true
@@ -185,11 +185,11 @@ module _ (z : Setting) (w : State) (c : ℕ) where
     pub noted : (let e : Entry = record { call = (seat_of w c).call; reply = reply } in IsNoted item (w.history ++ e ∷ []) (unanswered w))
     pub now : (
         let e : Entry = record { call = (seat_of w c).call; reply = reply } in
-        let w1 : State = given_to (committed z.iface.facts (service_is (item_noted w item) (after_item z.iface.facts service item)) e) e receipted in
+        let w1 : WorldView = given_to (committed z.iface.facts (service_is (item_noted w item) (after_item z.iface.facts service item)) e) e receipted in
         w' ≡ cond struck_behind (struck_at w1 (asked_after item.points 1)) (with_points w1 (asked_after item.points 1)))
 
   -- another call was answered, and its reply is held
-  pub record Holds (w' : State) : Type 0 where
+  pub record Holds (w' : WorldView) : Type 0 where
     pub service : Object
     pub all : HasAll service
     pub hidden : is_visible z.iface.facts (seat_of w c).call.fun ≡ false
@@ -202,7 +202,7 @@ module _ (z : Setting) (w : State) (c : ℕ) where
     pub now : w' ≡ with_seat (service_is (item_noted w item) (after_item z.iface.facts service item)) c (record (seat_of w c) { phase = held; boot = boot_number w; reply = reply })
 
   -- what a step does, by what it answers
-  abbrev pub Steps : Did → State → Type 0
+  abbrev pub Steps : Did → WorldView → Type 0
   Steps skipped w' = Skips w'
   Steps (answered reply) w' = HandsOver reply w' ⊎ Returns reply w' ⊎ Refuses reply w'
   Steps lost w' = Loses w'

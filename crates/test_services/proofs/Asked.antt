@@ -17,7 +17,7 @@ use Rattle.sg_facts.proofs.RowLists.{live_of_row}
 use Rattle.sg_sched.specs.SchedFacts.{sched_facts}
 use Rattle.sg_sched.specs.SchedTable.{sched_table}
 use Rattle.sg_sched.specs.SchedShapeLaw.{replays_at}
-use Rattle.test_services.specs.Small.{IsSmall, is_on}
+use Rattle.test_services.specs.Small.{AreSmall, is_on}
 
 -- no function sets a rank to more than its argument
 set_to_argument : (fun : ℕ) (call : Call) → most_set sched_facts call (fun_at sched_facts.funs fun).effects ≤ word_of (arg_at call 0)
@@ -38,7 +38,7 @@ one_more true given = omega arith
 one_more false given = omega arith
 
 -- an answer leaves threads that were asked one call more
-pub small_after : (calls : ℕ) (o : Object) (call : Call) (reply : Reply) → word_of (arg_at call 0) ≤ 2 ^ 34 → IsSmall calls o → sched_table o call ≡ Some reply → IsSmall (calls + 1) (after sched_facts o call reply)
+pub small_after : (calls : ℕ) (o : Object) (call : Call) (reply : Reply) → word_of (arg_at call 0) ≤ 2 ^ 34 → AreSmall calls o → sched_table o call ≡ Some reply → AreSmall (calls + 1) (after sched_facts o call reply)
 small_after calls o call (Refused code) low small is = record { counted = omega (arith, small.counted); given = omega (arith, small.given) }
 small_after calls o call (Ok good) low small is =
     let bound = replays_at call.client call.seq call.desc call.args call.fun o good is in
@@ -78,7 +78,7 @@ all true true is = (refl, refl)
 all true false is = absurd (cc is)
 all false b is = absurd (cc is)
 
-module _ (calls : ℕ) (o : Object) (few : calls < 2 ^ 32) (small : IsSmall calls o) where
+module _ (calls : ℕ) (o : Object) (few : calls < 2 ^ 32) (small : AreSmall calls o) where
   -- the numbers are far from their ends
   within : (call : Call) → call.client ≡ 1 → IsWithin sched_facts o call
   within call client = record {

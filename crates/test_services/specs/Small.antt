@@ -11,7 +11,7 @@ use Rattle.sg_facts.specs.Object.{Object}
 use Rattle.sg_sched.specs.SchedFacts.{sched_facts}
 
 -- after so few calls the ranks and the ids are far from their ends
-pub record IsSmall (calls : ℕ) (o : Object) : Type 0 where
+pub record AreSmall (calls : ℕ) (o : Object) : Type 0 where
   pub counted : most_counted sched_facts o.rows ≤ slow + calls
   pub given : o.given ≤ calls
 

@@ -4,7 +4,7 @@ ghost use Rattle.sg_facts.specs.Kinds.{MayAsk};
 ghost use Rattle.sg_facts.specs.Track.{arg_at, word_of};
 ghost use Rattle.sg_sched.specs.SchedFacts.{sched_facts};
 ghost use Rattle.sg_sched.specs.SchedObject.{sched_object};
-ghost use Rattle.test_services.specs.Small.{IsSmall, args_of, is_on};
+ghost use Rattle.test_services.specs.Small.{AreSmall, args_of, is_on};
 
 use crate::once::Once;
 use sg_base::{Args, Call, Code, Reply, Stops, Value};
@@ -50,8 +50,8 @@ fn step(
 ) -> Result<Answer, Outcome>
     requires may { MayAsk sched_facts (sched_object service.old) call.now }
     requires argument { word_of (arg_at call.now 0) ≤ 2 ^ 34 }
-    requires small { IsSmall calls (sched_object service.old) }
-    ensures { OnOk result (IsSmall (calls + 1) (sched_object service.new)) }
+    requires small { AreSmall calls (sched_object service.old) }
+    ensures { OnOk result (AreSmall (calls + 1) (sched_object service.new)) }
 {
     match service.invoke(alloc, stops, call) {
         Outcome::Replied { reply, .. } => match reply {
@@ -96,8 +96,8 @@ fn make(
 ) -> Result<Answer, Outcome>
     requires prio { prio ≤ 2 ^ 34 }
     requires few { calls < 2 ^ 32 }
-    requires small { IsSmall calls (sched_object service.old) }
-    ensures { OnOk result (IsSmall (calls + 1) (sched_object service.new)) }
+    requires small { AreSmall calls (sched_object service.old) }
+    ensures { OnOk result (AreSmall (calls + 1) (sched_object service.new)) }
 {
     let call = call(alloc, 1, 0, Some(prio))?;
     step(service, alloc, stops, calls, &call)
@@ -111,8 +111,8 @@ fn next(
     calls: u64,
 ) -> Result<Answer, Outcome>
     requires few { calls < 2 ^ 32 }
-    requires small { IsSmall calls (sched_object service.old) }
-    ensures { OnOk result (IsSmall (calls + 1) (sched_object service.new)) }
+    requires small { AreSmall calls (sched_object service.old) }
+    ensures { OnOk result (AreSmall (calls + 1) (sched_object service.new)) }
 {
     let call = call(alloc, 6, 0, None)?;
     step(service, alloc, stops, calls, &call)
@@ -130,8 +130,8 @@ fn on(
 ) -> Result<Answer, Outcome>
     requires fun { is_on fun ≡ true }
     requires few { calls < 2 ^ 32 }
-    requires small { IsSmall calls (sched_object service.old) }
-    ensures { OnOk result (IsSmall (calls + 1) (sched_object service.new)) }
+    requires small { AreSmall calls (sched_object service.old) }
+    ensures { OnOk result (AreSmall (calls + 1) (sched_object service.new)) }
 {
     assert!(rt; service.thread(id).is_some());
     let call = call(alloc, fun, id, None)?;
@@ -150,8 +150,8 @@ fn place(
 ) -> Result<Answer, Outcome>
     requires rank { rank ≤ 2 ^ 34 }
     requires few { calls < 2 ^ 32 }
-    requires small { IsSmall calls (sched_object service.old) }
-    ensures { OnOk result (IsSmall (calls + 1) (sched_object service.new)) }
+    requires small { AreSmall calls (sched_object service.old) }
+    ensures { OnOk result (AreSmall (calls + 1) (sched_object service.new)) }
 {
     assert!(rt; service.thread(id).is_some());
     let call = call(alloc, 7, id, Some(rank))?;
@@ -168,8 +168,8 @@ fn make_call(
     what: Ask,
 ) -> Result<Answer, Outcome>
     requires few { calls < 2 ^ 32 }
-    requires small { IsSmall calls (sched_object service.old) }
-    ensures { OnOk result (IsSmall (calls + 1) (sched_object service.new)) }
+    requires small { AreSmall calls (sched_object service.old) }
+    ensures { OnOk result (AreSmall (calls + 1) (sched_object service.new)) }
 {
     match what {
         Ask::Make(prio) => {

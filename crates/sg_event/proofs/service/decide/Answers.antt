@@ -8,7 +8,7 @@ use Rattle.sg_slots.proofs.Rows.{is_live-rows_of}
 use Rattle.sg_event.specs.EventFacts.{event_facts}
 use Rattle.sg_event.specs.EventTable.{event_table, event_parts}
 use Rattle.sg_event.specs.EventRow.{event_body}
-use Rattle.sg_event.specs.EventDecision.{on_wait, on_trigger}
+use Rattle.sg_event.specs.EventDecision.{on_event_wait, on_trigger}
 use Rattle.sg_event.proofs.Decisions.{wait_right, trigger_right, free_right, on_event}
 use Rattle.sg_event.proofs.service.decide.Goals as goal
 
@@ -26,7 +26,7 @@ returns-in-2 c =
     let call = c.args.call.now in
     let held = c.args.events.now in
     let right = wait_right held c.get.ensures.ascending call.client call.seq call.desc call.args c.in-Some.event.now (sym c.in-Some.ensures.entry) in
-    by_fun event_facts event_table event_parts event_body held call 2 c.wait.result (on_wait c.in-Some.event.now) c.in-2.is c.wait.ensures right
+    by_fun event_facts event_table event_parts event_body held call 2 c.wait.result (on_event_wait c.in-Some.event.now) c.in-2.is c.wait.ensures right
 
 pub returns-in-3 : goal.returns-in-3
 returns-in-3 c =

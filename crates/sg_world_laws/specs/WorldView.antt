@@ -14,23 +14,26 @@ use Rattle.sg_facts.specs.Trace.{Run}
 use Rattle.sg_facts.specs.Track.{ends_with}
 use Rattle.sg_recovery_laws.specs.Growing.{booted, noted, struck}
 
-pub data Phase : Type 0 where
-  idle : Phase
-  asked : Phase
-  held : Phase
-  receipted : Phase
-  blocked : Phase
-  left : Phase
+-- what a client is at: it has no call; its call is to be served; the service replied, and the reply is held; it was committed, with a
+-- receipt; it waits; or it has left
+pub data SeatPhase : Type 0 where
+  idle : SeatPhase
+  asked : SeatPhase
+  held : SeatPhase
+  receipted : SeatPhase
+  blocked : SeatPhase
+  left : SeatPhase
 
 -- a client: its phase, its offered call, the number of its last entry, and the reply that it holds or has a receipt for, with the boot
 -- in which the service gave it
 pub record Seat : Type 0 where
-  pub phase : Phase
+  pub phase : SeatPhase
   pub call : Call
   pub seq : ℕ
   pub boot : ℕ
   pub reply : Reply
 
+-- what a mark in the log of events is of
 pub data Kind : Type 0 where
   offer : Kind
   entry : Kind
@@ -38,23 +41,25 @@ pub data Kind : Type 0 where
   withdraw : Kind
   leave : Kind
 
-pub record Mark : Type 0 where
+-- a mark: its client, and what it did
+pub record LogMark : Type 0 where
   pub client : ℕ
   pub kind : Kind
 
+-- a call that was withdrawn, what each client was at then, and how many entries the history had
 pub record Withdrawn : Type 0 where
   pub call : Call
-  pub phases : List Phase
+  pub phases : List SeatPhase
   pub at : ℕ
 
 -- what contracts see of a world: tables and plan aside, which no event changes
-pub record State : Type 0 where
+pub record WorldView : Type 0 where
   pub history : List Entry
   pub run : Run
   pub running : Option Object
   pub seats : List Seat
   pub withdrawn : List Withdrawn
-  pub marks : List Mark
+  pub marks : List LogMark
   pub events : ℕ
   pub refused : ℕ
 
@@ -66,45 +71,45 @@ no_call = record { client = 0; seq = 0; fun = 0; desc = 0; args = [] }
 abbrev pub no_seat : Seat
 no_seat = record { phase = idle; call = no_call; seq = 0; boot = 0; reply = Ok (record { desc = 0; words = []; bytes = [] }) }
 
-abbrev pub seat_of : State → ℕ → Seat
+abbrev pub seat_of : WorldView → ℕ → Seat
 seat_of w client = unwrap_or (slice_get w.seats (client - 1)) no_seat
 
-abbrev pub with_seat : State → ℕ → Seat → State
+abbrev pub with_seat : WorldView → ℕ → Seat → WorldView
 with_seat w client seat = record w { seats = slice_set w.seats (client - 1) seat }
 
-abbrev pub in_phase : State → ℕ → Phase → State
+abbrev pub in_phase : WorldView → ℕ → SeatPhase → WorldView
 in_phase w client phase = with_seat w client (record (seat_of w client) { phase = phase })
 
-abbrev pub with_mark : State → ℕ → Kind → State
+abbrev pub with_mark : WorldView → ℕ → Kind → WorldView
 with_mark w client kind = record w { marks = w.marks ++ record { client = client; kind = kind } ∷ [] }
 
 -- ---- held replies
 
 -- the number of the running boot
-abbrev pub boot_number : State → ℕ
+abbrev pub boot_number : WorldView → ℕ
 boot_number w = length w.run.boots
 
 abbrev pub is_held_in : ℕ → Seat → Bool
 is_held_in boot seat = held_phase seat.phase && (seat.boot == boot)
   where
-    held_phase : Phase → Bool
+    held_phase : SeatPhase → Bool
     held_phase held = true
     held_phase _ = false
 
 -- the replies held in the running boot, as the entries that they will be, in the order of the clients
-abbrev pub waiting_in : ℕ → List Seat → List Entry
-waiting_in boot [] = []
-waiting_in boot (s ∷ seats) = if is_held_in boot s then record { call = s.call; reply = s.reply } ∷ waiting_in boot seats else waiting_in boot seats
+abbrev pub held_in : ℕ → List Seat → List Entry
+held_in boot [] = []
+held_in boot (s ∷ seats) = if is_held_in boot s then record { call = s.call; reply = s.reply } ∷ held_in boot seats else held_in boot seats
 
-abbrev pub waiting : State → List Entry
-waiting w = of w.running
+abbrev pub held_replies : WorldView → List Entry
+held_replies w = of w.running
   where
     of : Option Object → List Entry
     of None = []
-    of (Some v) = waiting_in (boot_number w) w.seats
+    of (Some v) = held_in (boot_number w) w.seats
 
 -- the calls that aren't answered: those offered, and those withdrawn
-abbrev pub is_offered : Phase → Bool
+abbrev pub is_offered : SeatPhase → Bool
 is_offered asked = true
 is_offered held = true
 is_offered blocked = true
@@ -112,64 +117,64 @@ is_offered idle = false
 is_offered receipted = false
 is_offered left = false
 
-abbrev pub unanswered : State → List Call
+abbrev pub unanswered : WorldView → List Call
 unanswered w = flat_map (λ s. if is_offered s.phase then s.call ∷ [] else []) w.seats ++ map (λ x. x.call) w.withdrawn
 
 -- ---- wake-ups
 
 -- whether an answered call wakes who is blocked in another: an Ok of a wake-up on its descriptor, or of what ends it
-abbrev pub wakes : Facts → List Row → Call → Reply → Call → Bool
-wakes facts rows call (Refused code) other = false
-wakes facts rows call (Ok good) other =
+abbrev pub wakes_seat : Facts → List Row → Call → Reply → Call → Bool
+wakes_seat facts rows call (Refused code) other = false
+wakes_seat facts rows call (Ok good) other =
     ((fun_at facts.funs call.fun).wakeup && (call.desc == other.desc)) || ((fun_at facts.funs call.fun).terminal && ends_with facts rows call.desc other.desc)
 
-abbrev pub woken : (Call → Bool) → Seat → Seat
-woken test seat = if is_blocked seat.phase && test seat.call then record seat { phase = asked } else seat
+abbrev pub woken_seat : (Call → Bool) → Seat → Seat
+woken_seat test seat = if is_blocked seat.phase && test seat.call then record seat { phase = asked } else seat
   where
-    is_blocked : Phase → Bool
+    is_blocked : SeatPhase → Bool
     is_blocked blocked = true
     is_blocked _ = false
 
 -- ---- small changes
 
 -- an entry is appended, and clients are woken
-abbrev pub committed : Facts → State → Entry → State
+abbrev pub committed : Facts → WorldView → Entry → WorldView
 committed facts w e = record (with_mark w e.call.client entry) {
   history = w.history ++ e ∷ [];
-  seats = map (woken (wakes facts (object_of facts w.history).rows e.call e.reply)) w.seats;
+  seats = map (woken_seat (wakes_seat facts (object_of facts w.history).rows e.call e.reply)) w.seats;
 }
 
 -- its client has it then as its last, in a phase
-abbrev pub given_to : State → Entry → Phase → State
+abbrev pub given_to : WorldView → Entry → SeatPhase → WorldView
 given_to w e phase = with_seat w e.call.client (record (seat_of w e.call.client) { phase = phase; seq = e.call.seq; reply = e.reply })
 
 -- an item is noted
-abbrev pub item_noted : State → Item → State
+abbrev pub item_noted : WorldView → Item → WorldView
 item_noted w item = record w { run = record { boots = noted w.run.boots item; points = item.points } }
 
-abbrev pub with_points : State → ℕ → State
+abbrev pub with_points : WorldView → ℕ → WorldView
 with_points w points = record w { run = record { boots = w.run.boots; points = points } }
 
-abbrev pub service_is : State → Object → State
+abbrev pub service_is : WorldView → Object → WorldView
 service_is w v = record w { running = Some v }
 
 -- the service stopped at a point
-abbrev pub struck_at : State → ℕ → State
+abbrev pub struck_at : WorldView → ℕ → WorldView
 struck_at w point = record w { run = record { boots = struck w.run.boots point; points = point }; running = None }
 
 -- it is booted afresh: who was blocked is asked
-abbrev pub rebooted : State → State
+abbrev pub rebooted : WorldView → WorldView
 rebooted w = record w {
   run = record { boots = booted w.run.boots; points = w.run.points };
   running = Some empty_object;
-  seats = map (woken (λ call. true)) w.seats;
+  seats = map (woken_seat (λ call. true)) w.seats;
 }
 
 -- the call is under way, offered
-abbrev pub offered : State → ℕ → Call → State
+abbrev pub offered : WorldView → ℕ → Call → WorldView
 offered w client call = with_mark (with_seat w client (record (seat_of w client) { phase = asked; call = call })) client offer
 
-abbrev pub withdrawn_by : State → ℕ → State
+abbrev pub withdrawn_by : WorldView → ℕ → WorldView
 withdrawn_by w client = with_mark (in_phase (record w {
   withdrawn = w.withdrawn ++ record { call = (seat_of w client).call; phases = map (λ s. s.phase) w.seats; at = length w.history } ∷ [];
 }) client idle) client withdraw
