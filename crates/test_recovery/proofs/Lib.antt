@@ -3,6 +3,7 @@ pub mod EventFaults
 pub mod EventRuns
 pub mod LockFaults
 pub mod LockRuns
+pub mod LockTables
 pub mod MmFaults
 pub mod MmRuns
 pub mod RamfsFaults

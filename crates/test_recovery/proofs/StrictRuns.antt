@@ -14,6 +14,7 @@ use Rattle.test_recovery.specs.RamfsRuns.{ramfs_stubs}
 use Rattle.test_recovery.specs.StrictRuns.{alloc, double_stubs, empty_boot_more, first_wait, free_of_taken, free_released, free_stopped_late, late_read, late_read_history, late_seek, late_seek_history, long_stubs, made_and_stopped, no_boot, one_event, one_made, one_made_ends, one_taken, other_take, rebuilt_for_refused, refusal_stopped_late, refused_at_once, refused_was_asked, second_take, seek_before_write, seek_then_write, stopped_where_blocked, two_boots_more, wait_stopped, write_before_seek, write_then_seek}
 use Rattle.test_recovery.specs.Written.{bare_call, boot, called, replied, walked}
 use Rattle.test_recovery.proofs.Apart.{false_true, some_none}
+use Rattle.test_recovery.proofs.LockTables.{lock_tables}
 
 -- ---- a client's own order
 
@@ -117,3 +118,25 @@ pub double_stubs-wrong : HasRecovered double_stubs one_made made_and_stopped one
 double_stubs-wrong r =
     let same = r.tables.ascending 0 1 (record { made = 1; state = 1; mask = 0; walk = [] }) (omega arith) (omega arith) in
     absurd (cc same)
+
+-- ---- a run that ended, and has recovered
+
+pub made_and_stopped-recovered : HasRecovered lock_stubs one_made made_and_stopped one_made_ends
+made_and_stopped-recovered = record {
+  tables = lock_tables;
+  recovered = record {
+    reboots = record { booted = λ is. absurd (cc is); table = ((refl, refl), tt); stopped = tt; last = (tt, tt) };
+    served = record {
+      calls = ((record { its = refl; made = (0, omega arith, refl) }, refl), tt);
+      items = ((refl, (refl, refl, refl)), tt);
+      committed = (refl, tt);
+      order = (refl, tt);
+    };
+    walks = (tt, tt);
+    on_demand = (record { under_way = record { its = record { its = refl; made = (0, omega arith, refl) }; above = refl; first = refl }; guarded = refl }, tt);
+    tracked_state = (record { whole = refl; rows = tt; real = refl; file = tt }, tt);
+    points = λ below. ((refl, tt), inl (refl, refl), refl);
+    held = (omega arith, tt);
+  };
+  used = tt;
+}

@@ -22,8 +22,8 @@ pub use locks::{
 };
 pub use pages::{child_first, occupied_after_stop, parent_first, subtree};
 pub use strict::{
-    empty_boot_more, free_stopped_late, late_read, late_seek, line_twice, no_boot,
-    no_boot_for_a_refusal, other_walk, rebuilt_for_refused, refusal_stopped_late,
+    empty_boot_more, free_stopped_late, late_read, late_seek, line_twice, made_and_stopped,
+    no_boot, no_boot_for_a_refusal, other_walk, rebuilt_for_refused, refusal_stopped_late,
     refused_was_asked, seek_before_write, stopped_where_blocked, two_boots_more, wait_stopped,
     write_before_seek,
 };

@@ -86,3 +86,9 @@ pub fn other_walk()
 pub fn line_twice()
     ensures wrong { HasRecovered double_stubs one_made made_and_stopped one_made_ends → ⊥ }
 {}
+
+/// A run that ended has recovered, where the lock service stops once a lock is made, and nobody calls it again: the walks are those of
+/// the tables of its interface.
+pub fn made_and_stopped()
+    ensures recovered { HasRecovered lock_stubs one_made made_and_stopped one_made_ends }
+{}
