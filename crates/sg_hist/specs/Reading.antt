@@ -90,6 +90,15 @@ entries_before history p = filter (stands_before p) history
 abbrev pub object_before : Facts → List Entry → Place → Object
 object_before facts history p = object_of facts (entries_before history p)
 
+-- ---- replies
+
+-- the reply of an outcome, with the bytes that it wrote; None where the service didn't reply
+abbrev pub replied_of : Outcome → Option (Reply × Option Patch)
+replied_of (Replied reply patch) = Some (reply, patch)
+replied_of Blocks = None
+replied_of Stopped = None
+replied_of NoMemory = None
+
 -- ---- what the service holds
 
 -- the call that the service was asked, under its own ids
@@ -134,11 +143,11 @@ id_given history client seq = desc_in (find (λ e. (e.call.client == client) && 
 
 -- a client's id with the service's id, where the service replied an Ok
 abbrev pub pair_of : ℕ → Outcome → List (ℕ × ℕ)
-pair_of id (Replied (Ok good) patch) = (id, good.desc) ∷ []
-pair_of id (Replied (Refused code) patch) = []
-pair_of id Blocks = []
-pair_of id Stopped = []
-pair_of id NoMemory = []
+pair_of id outcome = of (replied_of outcome)
+  where
+    of : Option (Reply × Option Patch) → List (ℕ × ℕ)
+    of (Some (Ok good, patch)) = (id, good.desc) ∷ []
+    of _ = []
 
 -- the pair that an item gives: the first call of a walk, and a creation
 abbrev pub names_in : Facts → List Entry → ℕ → Tag → Outcome → List (ℕ × ℕ)
@@ -155,11 +164,11 @@ names_at facts history front = flat_map (λ item. names_in facts history item.sh
 
 -- whether an outcome is an Ok
 abbrev pub is_ok : Outcome → Bool
-is_ok (Replied (Ok good) patch) = true
-is_ok (Replied (Refused code) patch) = false
-is_ok Blocks = false
-is_ok Stopped = false
-is_ok NoMemory = false
+is_ok outcome = of (replied_of outcome)
+  where
+    of : Option (Reply × Option Patch) → Bool
+    of (Some (Ok good, patch)) = true
+    of _ = false
 
 -- whether an item made an id for an entry
 abbrev pub made_by : Facts → List Entry → ℕ → ℕ → Tag → Bool

@@ -2,6 +2,7 @@
 -- answered in it.
 use Rattle.std.specs.Prelude.{ℕ, ◌≡◌, ◌≢◌, ◌⊎◌, ◌+◌, ◌-◌, ◌≤◌, ◌==◌, Bool, true, false, ◌&&◌, ◌||◌, not, nat_le, nat_lt, if◌then◌else◌, List, [], ◌∷◌, ◌++◌, None, Some, IsSome, length, filter, find, map, slice_get, unwrap_or}
 use Rattle.std.specs.declared.option.Option.{Option}
+use Rattle.std.specs.Option.{is_some}
 use Rattle.std.specs.List.{Contains, flat_map, list_all, list_any}
 use Rattle.sg_base.specs.Lists.{Each, When}
 use Rattle.sg_base.specs.Counts.{last_count}
@@ -11,6 +12,7 @@ use Rattle.sg_base.specs.declared.reply.Reply.TheVariants.{Ok, Refused}
 use Rattle.std.specs.Str.{bytes_eq}
 use Rattle.sg_facts.specs.declared.entry.Entry.{Entry}
 use Rattle.sg_facts.specs.declared.outcome.Outcome.{Outcome}
+use Rattle.sg_facts.specs.declared.outcome.Patch.{Patch}
 use Rattle.sg_facts.specs.declared.outcome.Outcome.TheVariants.{Replied, Blocks, Stopped, NoMemory}
 use Rattle.sg_facts.specs.declared.row.Row.{Row}
 use Rattle.sg_facts.specs.declared.tables.WalkLine.{WalkLine}
@@ -31,7 +33,7 @@ use Rattle.sg_facts.specs.Walks.{replayed_call}
 use Rattle.sg_hist.specs.declared.ended.End.{End}
 use Rattle.sg_hist.specs.declared.ended.End.TheVariants.{Done, Blocked}
 use Rattle.sg_hist.specs.Clients.{calls_of}
-use Rattle.sg_hist.specs.Reading.{Place, behind, is_by_guard, is_made, is_item_of, is_whole_at, item_of, names_at, object_before, places_of, service_call, stands_before, value_at, walk_in}
+use Rattle.sg_hist.specs.Reading.{Place, behind, is_by_guard, is_made, is_item_of, is_whole_at, item_of, names_at, object_before, places_of, replied_of, service_call, stands_before, value_at, walk_in}
 
 -- ---- the calls of clients
 
@@ -112,10 +114,11 @@ IsRenamed names (Refused real) (Ok good) = ⊥
 
 -- an outcome is the reply of an entry, under the client's ids
 abbrev pub IsReplyOf : List (ℕ × ℕ) → Outcome → Reply → Type 0
-IsReplyOf names (Replied real patch) reply = IsRenamed names real reply
-IsReplyOf names Blocks reply = ⊥
-IsReplyOf names Stopped reply = ⊥
-IsReplyOf names NoMemory reply = ⊥
+IsReplyOf names outcome reply = of (replied_of outcome)
+  where
+    of : Option (Reply × Option Patch) → Type 0
+    of (Some (real, patch)) = IsRenamed names real reply
+    of None = ⊥
 
 -- the item at a place has the call and the reply of an entry
 abbrev pub GivesEntry : Facts → List Entry → Entry → Option Place → Type 0
@@ -128,10 +131,7 @@ HasItem facts history run e = When (not (is_by_guard e.reply)) (GivesEntry facts
 
 -- whether the service replied
 abbrev pub is_replied : Outcome → Bool
-is_replied (Replied reply patch) = true
-is_replied Blocks = false
-is_replied Stopped = false
-is_replied NoMemory = false
+is_replied outcome = is_some (replied_of outcome)
 
 -- whether an item is of a client's call
 abbrev pub is_clients : Tag → Bool
@@ -232,19 +232,19 @@ pub record IsAdmitted (i : Declared) (history : List Entry) (unanswered : List C
 
 -- whether an item brought a file into this boot: a load of it, or a write that was committed
 abbrev pub is_patch_at : List ℕ → Outcome → Bool
-is_patch_at key (Replied reply (Some patch)) = bytes_eq patch.key key
-is_patch_at key (Replied reply None) = false
-is_patch_at key Blocks = false
-is_patch_at key Stopped = false
-is_patch_at key NoMemory = false
+is_patch_at key outcome = of (replied_of outcome)
+  where
+    of : Option (Reply × Option Patch) → Bool
+    of (Some (reply, Some patch)) = bytes_eq patch.key key
+    of _ = false
 
 -- the whole file of a key is loaded
 abbrev pub IsLoad : Object → List ℕ → Outcome → Type 0
-IsLoad o key (Replied reply (Some patch)) = (patch.key ≡ key) × (patch.from ≡ 0) × (patch.bytes ≡ file_at o.files key) × (patch.bytes ≢ [])
-IsLoad o key (Replied reply None) = ⊥
-IsLoad o key Blocks = ⊥
-IsLoad o key Stopped = ⊥
-IsLoad o key NoMemory = ⊥
+IsLoad o key outcome = of (replied_of outcome)
+  where
+    of : Option (Reply × Option Patch) → Type 0
+    of (Some (reply, Some patch)) = (patch.key ≡ key) × (patch.from ≡ 0) × (patch.bytes ≡ file_at o.files key) × (patch.bytes ≢ [])
+    of _ = ⊥
 
 -- what is rebuilt is needed by an admitted call of the client in whose turn it is rebuilt, and is the least that isn't whole
 pub record IsRebuiltFor (i : Declared) (walks : List WalkLine) (history : List Entry) (unanswered : List Call) (p : Place) (client id : ℕ) : Type 0 where
