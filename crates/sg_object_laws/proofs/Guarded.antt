@@ -226,10 +226,16 @@ own_parent i o call allowed alone acts pass takes = at i.facts.parents refl (pri
 pub record KeepsTo (facts : Facts) (f : Fun) : Type 0 where
   pub query : f.query ≡ true → (takes_desc f ≡ false) × (takes_parent f ≡ false)
   pub file : f.uses_file ≡ true → takes_desc f ≡ true
+  pub plain : f.creation ≡ false → list_all (λ e. not (is_text_field facts.fields e.0)) f.effects ≡ true
+  pub once : sets_once f.effects ≡ true
 
 implied : (a b : Bool) → implies a b ≡ true → a ≡ true → b ≡ true
 implied true b is a_is = is
 implied false b is a_is = absurd (cc a_is)
+
+other_one : (a b : Bool) → a ≡ false → (a || b) ≡ true → b ≡ true
+other_one true b none is = absurd (cc none)
+other_one false b none is = is
 
 unless : (b : Bool) → not b ≡ true → b ≡ false
 unless true is = absurd (cc is)
@@ -257,6 +263,8 @@ keeps facts n allowed low high =
         record {
           query = λ asks. let b = both_true (not (takes_desc f)) (not (takes_parent f)) (implied f.query (not (takes_desc f) && not (takes_parent f)) parts.0 asks) in (unless (takes_desc f) b.0, unless (takes_parent f) b.1);
           file = λ uses. (both_true facts.resc_data (takes_desc f) (implied f.uses_file (facts.resc_data && takes_desc f) parts.1 uses)).1;
+          plain = λ makes_none. other_one f.creation (list_all (λ e. not (is_text_field facts.fields e.0)) f.effects) makes_none (both_true (one && two) text three).1;
+          once = (both_true (one && two && text) (sets_once f.effects) four).1;
         }
 
 -- no function of a private service looks at all rows

@@ -27,7 +27,7 @@ set_word zero some = absurd (omega (arith, some))
 set_word (suc n) some = refl
 
 -- no text that isn't empty
-abbrev IsNoText : Value → Type 0
+abbrev pub IsNoText : Value → Type 0
 IsNoText (Word n) = Unit {0}
 IsNoText (Text []) = Unit {0}
 IsNoText (Text (b ∷ bs)) = ⊥

@@ -1,6 +1,7 @@
 pub mod Behind
 pub mod Making
 pub mod Noting
+pub mod Reached
 pub mod Reading
 pub mod Reorder
 pub mod Replying

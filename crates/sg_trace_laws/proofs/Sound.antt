@@ -72,7 +72,7 @@ module _ (i : Declared) (ask : Table) (sound : Object → Type 0) (fits : Fits i
       subst (λ m. IsComeTo i.facts sound m (object_from i.facts o (e ∷ history))) (let same : (n + 1) + length history ≡ n + length (e ∷ history) = omega arith in same)
       (come_from (n + 1) (after i.facts o e.call e.reply) history (come_on n o e.call e.reply come (omega (arith, few)) asked.0 legal.0) (omega (arith, few)) asked.1 legal.1)
 
-  nothing_yet : IsComeTo i.facts sound 0 empty_object
+  pub nothing_yet : IsComeTo i.facts sound 0 empty_object
   nothing_yet = record { is_sound = keeps.empty; given = omega arith; counted = omega arith }
 
   pub come_to : (history : List Entry) → slow + length history < end_of_counts → Each (λ e. IsClientsCall i.facts e.call) history → LegalFrom i ask empty_object history

@@ -15,7 +15,8 @@ ghost use Rattle.sg_facts.specs.Alike.{HasAlike, SameFile, named};
 ghost use Rattle.sg_facts.specs.Facts.{Facts};
 ghost use Rattle.sg_facts.specs.Fits.{Fits};
 ghost use Rattle.sg_facts.specs.Guard.{guard};
-ghost use Rattle.sg_facts.specs.Interface.{Declared};
+ghost use Rattle.sg_facts.specs.Held.{AreReachable};
+ghost use Rattle.sg_facts.specs.Interface.{Declared, declares};
 ghost use Rattle.sg_facts.specs.Laws.{is_none, names_after, slow};
 ghost use Rattle.sg_facts.specs.Legal.{LegalFrom};
 ghost use Rattle.sg_facts.specs.Limits.{end_of_counts};
@@ -93,6 +94,13 @@ pub fn told_grows()
         → row_at (object_before facts h (last_place older front item)).rows id ≡ Some r → walk_in walks (Some r) ≡ Some (done ++ fun ∷ rest) → r.id ≡ id
         → is_complete (told id) ≡ false → TellsCalls (told id) (length done) → (told id ≡ fresh → done ≡ []) → is_live rows id ≡ true
         → IsRead facts walks h older (front ++ item ∷ []) (names_after names r done good) (told_after told id done rest) present rows }
+{}
+
+/// Each of its rows is such as a descriptor can come to, where the functions of its calls are declared.
+pub fn legal_is_reachable<S: Service>()
+    ensures { (i : Declared) (history : List Entry) → i.facts ≡ S.facts → Fits i → slow + length history < end_of_counts
+        → Each (λ e. IsClientsCall S.facts e.call) history → Each (λ e. declares i e.call.fun ≡ true) history → LegalFrom i S.ask empty_object history
+        → AreReachable i (object_of S.facts history).rows }
 {}
 
 /// The object of a legal history is sound, for every service and every interface of its that can be recovered, whatever calls clients
