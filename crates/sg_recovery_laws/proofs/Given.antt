@@ -16,6 +16,7 @@ use Rattle.sg_facts.specs.declared.trace.Tag.{Tag}
 use Rattle.sg_facts.specs.declared.trace.Tag.TheVariants.{Walk, Load, Client}
 use Rattle.sg_facts.specs.Facts.{Facts, fun_at, is_visible}
 use Rattle.sg_facts.specs.Trace.{Boot}
+use Rattle.sg_recovery_laws.specs.Growing.{IsSameFor, IsSameId}
 use Rattle.sg_recovery_laws.proofs.Lists.{each_append, each_push, each_split}
 use Rattle.sg_hist.specs.Reading.{Place, behind, desc_in, desc_of, id_given, is_by_guard, is_made, is_item_of, is_ok, is_tagged, items_of, made_by, names_at, names_in, pair_of, places_from, places_in}
 use Rattle.sg_hist.specs.Recovered.{IsCommitted, is_clients, is_entered, is_replied, is_visible_reply}
@@ -89,19 +90,6 @@ made_visible facts fun made = by facts.global (fun_at facts.funs fun).uses_file 
     by true b c is = refl
     by false true c is = refl
     by false false c is = is
-
--- the id of a creation that replied is the same in two histories
-abbrev pub IsSameFor : Facts → List Entry → List Entry → ℕ → Tag → Outcome → Type 0
-IsSameFor facts h h' fun (Client client seq) (Replied (Ok good) patch) = (fun_at facts.funs fun).creation ≡ true → id_given h' client seq ≡ id_given h client seq
-IsSameFor facts h h' fun (Client client seq) (Replied (Refused code) patch) = Unit {0}
-IsSameFor facts h h' fun (Client client seq) Blocks = Unit {0}
-IsSameFor facts h h' fun (Client client seq) Stopped = Unit {0}
-IsSameFor facts h h' fun (Client client seq) NoMemory = Unit {0}
-IsSameFor facts h h' fun (Walk id k client) outcome = Unit {0}
-IsSameFor facts h h' fun (Load key client) outcome = Unit {0}
-
-abbrev pub IsSameId : Facts → List Entry → List Entry → Item → Type 0
-IsSameId facts h h' x = IsSameFor facts h h' x.shown.fun x.tag x.outcome
 
 -- so it is with an entry more, if it belongs to an entry that was there
 pub given_same : (facts : Facts) (h : List Entry) (e : Entry) (x : Item) → IsGiven facts h x → IsSameId facts h (h ++ e ∷ []) x

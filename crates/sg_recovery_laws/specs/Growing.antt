@@ -7,9 +7,14 @@ use Rattle.sg_base.specs.Lists.{Each}
 use Rattle.sg_base.specs.declared.call.Call.{Call}
 use Rattle.sg_facts.specs.declared.trace.Item.{Item}
 use Rattle.sg_facts.specs.declared.entry.Entry.{Entry}
-use Rattle.sg_facts.specs.Facts.{Facts, is_visible}
+use Rattle.sg_facts.specs.declared.outcome.Outcome.{Outcome}
+use Rattle.sg_facts.specs.declared.outcome.Outcome.TheVariants.{Replied, Blocks, Stopped, NoMemory}
+use Rattle.sg_facts.specs.declared.trace.Tag.{Tag}
+use Rattle.sg_facts.specs.declared.trace.Tag.TheVariants.{Walk, Load, Client}
+use Rattle.sg_base.specs.declared.reply.Reply.TheVariants.{Ok, Refused}
+use Rattle.sg_facts.specs.Facts.{Facts, fun_at, is_visible}
 use Rattle.sg_facts.specs.Trace.{Boot, Run}
-use Rattle.sg_hist.specs.Reading.{Place, behind, is_by_guard, is_item_of, item_of, names_at, places_of}
+use Rattle.sg_hist.specs.Reading.{Place, behind, id_given, is_by_guard, is_item_of, item_of, names_at, places_of}
 use Rattle.sg_hist.specs.Recovered.{AskedAs, GivesEntry, IsDemanded, IsItsCall, IsRebooted, IsReplyOf, IsServed, IsTrackedAt, IsWalked, Stubs, asked_in, calls_made, ends_stopped}
 
 -- ---- boots and places
@@ -128,6 +133,22 @@ pub record IsInLast (run : Run) (e : Entry) : Type 0 where
   pub place : Place
   pub its : item_of run e ≡ Some place
   pub older : place.older ≡ older_items [] run.boots
+
+-- ---- ids
+
+-- the id of a creation that replied is the same in two histories
+abbrev pub IsSameFor : Facts → List Entry → List Entry → ℕ → Tag → Outcome → Type 0
+IsSameFor facts h h' fun (Client client seq) (Replied (Ok good) patch) = (fun_at facts.funs fun).creation ≡ true → id_given h' client seq ≡ id_given h client seq
+IsSameFor facts h h' fun (Client client seq) (Replied (Refused code) patch) = Unit {0}
+IsSameFor facts h h' fun (Client client seq) Blocks = Unit {0}
+IsSameFor facts h h' fun (Client client seq) Stopped = Unit {0}
+IsSameFor facts h h' fun (Client client seq) NoMemory = Unit {0}
+IsSameFor facts h h' fun (Walk id k client) outcome = Unit {0}
+IsSameFor facts h h' fun (Load key client) outcome = Unit {0}
+
+-- so it is for an item
+abbrev pub IsSameId : Facts → List Entry → List Entry → Item → Type 0
+IsSameId facts h h' x = IsSameFor facts h h' x.shown.fun x.tag x.outcome
 
 -- ---- points
 

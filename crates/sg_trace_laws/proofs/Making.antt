@@ -20,8 +20,8 @@ use Rattle.sg_facts.specs.Facts.{Facts, fun_at}
 use Rattle.sg_facts.specs.Track.{is_live}
 use Rattle.sg_hist.specs.Reading.{Place, ends_walk, entries_before, desc_in, id_given, is_made, is_item_of, is_ok, is_rebuilt_at, made_by, names_at, names_in, pair_of, places_in, stands_before}
 use Rattle.sg_hist.specs.Recovered.{is_patch_at, is_walk_of}
-use Rattle.sg_recovery_laws.specs.Growing.{IsGrown, IsOfNoEntry}
-use Rattle.sg_recovery_laws.proofs.Given.{IsSameId, is_numbered, made_same, names_same}
+use Rattle.sg_recovery_laws.specs.Growing.{IsGrown, IsOfNoEntry, IsSameId}
+use Rattle.sg_recovery_laws.proofs.Given.{is_numbered, made_same, names_same}
 use Rattle.sg_recovery_laws.proofs.Growing.{entries_before-more, in_boot, names_at-more, stands_before-own}
 use Rattle.sg_recovery_laws.proofs.Same.{any_rebuilt}
 use Rattle.sg_held_laws.specs.Progress.{Told, complete, TellsCalls, IsNone, is_complete}

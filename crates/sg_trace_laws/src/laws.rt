@@ -1,6 +1,7 @@
 // What each item of a run owes where it is noted, and how a trace grows.
-ghost use Rattle.std.specs.Prelude.{◌≡◌, ◌⊎◌, ◌+◌, ◌++◌, ◌<◌, ◌∷◌, ◌==◌, ◌||◌, [], ℕ, Bool, List, None, Some, false, true, find, length, not};
+ghost use Rattle.std.specs.Prelude.{◌≡◌, ◌≢◌, if◌then◌else◌, ◌⊎◌, ◌+◌, ◌++◌, ◌<◌, ◌∷◌, ◌==◌, ◌||◌, [], ℕ, Bool, List, None, Some, false, true, find, length, not};
 ghost use Rattle.std.specs.declared.option.Option.{Option};
+ghost use Rattle.std.specs.List.{list_any};
 ghost use Rattle.sg_base.specs.Lists.{Each};
 ghost use Rattle.sg_base.specs.declared.call.Call.{Call};
 ghost use Rattle.sg_base.specs.declared.reply.Good.{Good};
@@ -10,9 +11,9 @@ ghost use Rattle.sg_facts.specs.declared.outcome.Outcome.TheVariants.{Replied};
 ghost use Rattle.sg_facts.specs.declared.row.Row.{Row};
 ghost use Rattle.sg_facts.specs.declared.tables.WalkLine.{WalkLine};
 ghost use Rattle.sg_facts.specs.declared.trace.Item.{Item};
-ghost use Rattle.sg_facts.specs.declared.trace.Tag.TheVariants.{Walk};
+ghost use Rattle.sg_facts.specs.declared.trace.Tag.TheVariants.{Client, Walk};
 ghost use Rattle.sg_facts.specs.Alike.{HasAlike, SameFile, named};
-ghost use Rattle.sg_facts.specs.Facts.{Facts};
+ghost use Rattle.sg_facts.specs.Facts.{Facts, fun_at};
 ghost use Rattle.sg_facts.specs.Fits.{Fits};
 ghost use Rattle.sg_facts.specs.Guard.{guard};
 ghost use Rattle.sg_facts.specs.Held.{AreReachable};
@@ -25,9 +26,9 @@ ghost use Rattle.sg_facts.specs.Object.{Object, empty_object, object_of};
 ghost use Rattle.sg_facts.specs.Trace.{Boot};
 ghost use Rattle.sg_facts.specs.Track.{is_live, row_at};
 ghost use Rattle.sg_facts.specs.Walks.{replayed_call};
-ghost use Rattle.sg_hist.specs.Reading.{is_made, is_rebuilt_at, is_whole_at, names_in, object_before, value_at, walk_in};
+ghost use Rattle.sg_hist.specs.Reading.{Place, entries_before, id_given, is_made, is_rebuilt_at, is_whole_at, names_at, names_in, object_before, value_at, walk_in};
 ghost use Rattle.sg_hist.specs.Recovered.{IsAdmitted, IsCallOf, IsCallOfRow, IsLoad, IsLoadedFor, IsOkOrStopped, IsTracked, is_patch_at, is_walk_of};
-ghost use Rattle.sg_recovery_laws.specs.Growing.{IsOfNoEntry, last_items, older_items, place_behind};
+ghost use Rattle.sg_recovery_laws.specs.Growing.{IsGrown, IsOfNoEntry, IsSameId, last_items, older_items, place_behind};
 ghost use Rattle.sg_held_laws.specs.Progress.{TellsCalls, IsNone, Told, complete, fresh, is_complete};
 ghost use Rattle.sg_held_laws.specs.Stepping.{told_after};
 ghost use Rattle.sg_trace_laws.specs.Asked.{IsClientsCall, IsComeTo};
@@ -80,8 +81,8 @@ pub fn items_settle()
 {}
 
 /// What is told stays what the trace tells: where an item is noted that gives no name and makes nothing whole, whose file, if it wrote
-/// one, is present then; and where a call of a walk is answered Ok, which names its row if it was the first, and makes it whole if it was
-/// the last.
+/// one, is present then, also together with an entry; where a call of a walk is answered Ok, which names its row if it was the first, and
+/// makes it whole if it was the last; and where a creation is noted with its entry, whose id is named and whole then.
 pub fn told_grows()
     ensures plain { (facts : Facts) (walks : List WalkLine) (h : List Entry) (older front : List Item) (item : Item) (names : List (ℕ × ℕ)) (told : ℕ → Told)
         (present : List ℕ → Bool) (rows : List Row) → IsOfNoEntry item h → IsRead facts walks h older front names told present rows
@@ -94,6 +95,18 @@ pub fn told_grows()
         → row_at (object_before facts h (last_place older front item)).rows id ≡ Some r → walk_in walks (Some r) ≡ Some (done ++ fun ∷ rest) → r.id ≡ id
         → is_complete (told id) ≡ false → TellsCalls (told id) (length done) → (told id ≡ fresh → done ≡ []) → is_live rows id ≡ true
         → IsRead facts walks h older (front ++ item ∷ []) (names_after names r done good) (told_after told id done rest) present rows }
+    ensures made { (facts : Facts) (walks : List WalkLine) (h later : List Entry) (older front : List Item) (item : Item) (names : List (ℕ × ℕ)) (told : ℕ → Told)
+        (present : List ℕ → Bool) (rows rows' : List Row) (client seq : ℕ) (good other : Good) → ((p q : Place) → IsGrown item p q → entries_before later q ≡ entries_before h p)
+        → Each (IsSameId facts h later) front → IsRead facts walks h older front names told present rows → item.tag ≡ Client client seq → item.outcome ≡ Replied (Ok other) None
+        → (fun_at facts.funs item.shown.fun).creation ≡ true → id_given later client seq ≡ good.desc → list_any (λ n. n.0 == good.desc) (names_at facts h front) ≡ false
+        → ((id : ℕ) → is_live rows' id ≡ true → (id ≡ good.desc) ⊎ ((id ≢ good.desc) × (is_live rows id ≡ true))) → good.desc ≢ 0
+        → IsRead facts walks later older (front ++ item ∷ []) ((good.desc, other.desc) ∷ names) (λ x. if x == good.desc then complete else told x) present rows' }
+    ensures put { (facts : Facts) (walks : List WalkLine) (h later : List Entry) (older front : List Item) (item : Item) (names : List (ℕ × ℕ)) (told : ℕ → Told)
+        (present : List ℕ → Bool) (rows : List Row) → ((p q : Place) → IsGrown item p q → entries_before later q ≡ entries_before h p)
+        → Each (IsSameId facts h later) front → IsRead facts walks h older front names told present rows → ((id : ℕ) → is_made facts later id item ≡ false)
+        → ((id : ℕ) → is_walk_of id item.tag ≡ false) → ((id : ℕ) → is_rebuilt_at facts walks later id (last_place older front item) ≡ false)
+        → names_in facts later item.shown.fun item.tag item.outcome ≡ []
+        → IsRead facts walks later older (front ++ item ∷ []) names told (λ path. present path || is_patch_at path item.outcome) rows }
 {}
 
 /// Each of its rows is such as a descriptor can come to, where the functions of its calls are declared.

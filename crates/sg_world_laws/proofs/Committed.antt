@@ -26,8 +26,8 @@ use Rattle.sg_facts.specs.Trace.{Boot}
 use Rattle.sg_facts.specs.Track.{is_live, row_at, new_row, rows_after}
 use Rattle.sg_hist.specs.Reading.{Place, desc_of, id_given, is_by_guard, is_item_of, names_at, service_call, value_at, after_item, ends_walk, entries_before, given_by, is_ok, made_by, names_in, pair_of}
 use Rattle.sg_hist.specs.Recovered.{IsByTable, is_replied, ends_stopped, is_clients, is_patch_at, is_stopped, is_walk_of}
-use Rattle.sg_recovery_laws.specs.Growing.{IsOfNoEntry, IsRecovering, last_items, noted, older_items, IsGrown}
-use Rattle.sg_recovery_laws.proofs.Given.{IsGiven, IsSameId, is_numbered, names_same, HasEntry, IsSameFor, made_visible}
+use Rattle.sg_recovery_laws.specs.Growing.{IsOfNoEntry, IsRecovering, last_items, noted, older_items, IsGrown, IsSameId, IsSameFor}
+use Rattle.sg_recovery_laws.proofs.Given.{IsGiven, is_numbered, names_same, HasEntry, made_visible}
 use Rattle.sg_recovery_laws.proofs.Lists.{each_append, each_map, each_split}
 use Rattle.sg_world_laws.specs.Keeping.{AreDrawn, IsUp, Keeps, Setting, Stub, stubs_of, AreRooted, AreSeated}
 use Rattle.sg_held_laws.specs.Progress.{IsInRecovery, Told, complete, IsNone, TellsCalls, is_complete}

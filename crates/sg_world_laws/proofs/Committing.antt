@@ -28,8 +28,8 @@ use Rattle.sg_facts.specs.Trace.{Boot}
 use Rattle.sg_facts.specs.Track.{row_at}
 use Rattle.sg_hist.specs.Reading.{Place, desc_in, desc_of, id_given, is_by_guard, is_item_of, is_tagged, items_of, names_at, places_from, places_in, service_call}
 use Rattle.sg_hist.specs.Recovered.{IsByTable, IsCallOf, IsCommitted, IsItsCall, IsReplyOf}
-use Rattle.sg_recovery_laws.specs.Growing.{AreKept, IsItemOf, IsLastCall, IsNextItem, IsOfNoEntry, IsRecovering, IsSettled, last_items, noted, older_items, place_behind}
-use Rattle.sg_recovery_laws.proofs.Given.{IsGiven, IsSameId, committed_given, given_same, is_numbered, names_same}
+use Rattle.sg_recovery_laws.specs.Growing.{AreKept, IsItemOf, IsLastCall, IsNextItem, IsOfNoEntry, IsRecovering, IsSettled, last_items, noted, older_items, place_behind, IsSameId}
+use Rattle.sg_recovery_laws.proofs.Given.{IsGiven, committed_given, given_same, is_numbered, names_same}
 use Rattle.sg_recovery_laws.proofs.Lists.{each_append, each_contains, each_map, each_split}
 use Rattle.sg_recovery_laws.proofs.Onward.{its_kept}
 use Rattle.sg_recovery_laws.proofs.Same.{IsSame, demanded_same, tracked_same, walked_same}

@@ -24,8 +24,8 @@ use Rattle.sg_facts.specs.Trace.{Boot, Run}
 use Rattle.sg_facts.specs.Track.{row_at}
 use Rattle.sg_hist.specs.Reading.{Place, desc_in, id_given, is_by_guard, is_item_of, names_at, service_call, value_at, after_item, ends_walk, entries_before, given_by, is_ok, made_by, names_in, pair_of, item_of}
 use Rattle.sg_hist.specs.Recovered.{IsByTable, is_replied, ends_stopped, is_clients, is_patch_at, is_stopped, is_walk_of, GivesEntry, is_visible_reply}
-use Rattle.sg_recovery_laws.specs.Growing.{IsOfNoEntry, IsRecovering, last_items, noted, older_items, place_behind, IsGrown}
-use Rattle.sg_recovery_laws.proofs.Given.{IsGiven, IsSameId, is_numbered, names_same, HasEntry, IsSameFor, made_visible}
+use Rattle.sg_recovery_laws.specs.Growing.{IsOfNoEntry, IsRecovering, last_items, noted, older_items, place_behind, IsGrown, IsSameId, IsSameFor}
+use Rattle.sg_recovery_laws.proofs.Given.{IsGiven, is_numbered, names_same, HasEntry, made_visible}
 use Rattle.sg_recovery_laws.proofs.Lists.{each_append, each_contains, each_map, each_split}
 use Rattle.sg_world_laws.specs.Keeping.{AreApart, AreDrawn, IsUp, Keeps, Setting, Stub, stubs_of, AreSeated}
 use Rattle.sg_held_laws.specs.Progress.{IsInRecovery, complete, IsNone}

@@ -14,8 +14,7 @@ use Rattle.sg_facts.specs.Object.{Object, object_from, object_of}
 use Rattle.sg_facts.specs.Trace.{Boot}
 use Rattle.sg_hist.specs.Reading.{is_by_guard, is_item_of, names_at, value_at, after_item, is_made, is_rebuilt_at, names_in}
 use Rattle.sg_hist.specs.Recovered.{ends_stopped, is_patch_at, is_stopped, is_walk_of, is_visible_reply}
-use Rattle.sg_recovery_laws.specs.Growing.{IsNextItem, IsOfNoEntry, IsRecovering, last_items, noted, older_items, place_behind}
-use Rattle.sg_recovery_laws.proofs.Given.{IsSameId, IsSameFor}
+use Rattle.sg_recovery_laws.specs.Growing.{IsNextItem, IsOfNoEntry, IsRecovering, last_items, noted, older_items, place_behind, IsSameId, IsSameFor}
 use Rattle.sg_recovery_laws.proofs.Lists.{each_map}
 use Rattle.sg_world_laws.specs.Keeping.{AreDrawn, IsUp, Keeps, Setting, Stub, stubs_of, AreSeated}
 use Rattle.sg_held_laws.specs.Progress.{IsInRecovery}

@@ -17,8 +17,8 @@ use Rattle.sg_facts.specs.Trace.{Boot}
 use Rattle.sg_facts.specs.Track.{is_live}
 use Rattle.sg_hist.specs.Reading.{Place, is_by_guard, is_item_of, names_at, places_from, places_in, entries_before, is_made, is_rebuilt_at, stands_before}
 use Rattle.sg_hist.specs.Recovered.{IsCommitted}
-use Rattle.sg_recovery_laws.specs.Growing.{AreKept, last_items, older_items}
-use Rattle.sg_recovery_laws.proofs.Given.{IsGiven, IsSameId, committed_given, names_same, made_same}
+use Rattle.sg_recovery_laws.specs.Growing.{AreKept, last_items, older_items, IsSameId}
+use Rattle.sg_recovery_laws.proofs.Given.{IsGiven, committed_given, names_same, made_same}
 use Rattle.sg_recovery_laws.proofs.Lists.{each_append, each_map}
 use Rattle.sg_recovery_laws.proofs.Same.{rebuilt_again}
 use Rattle.sg_world_laws.specs.Keeping.{AreDrawn, Keeps, Setting, Stub, stubs_of, AreRooted, AreSeated, Runs}
