@@ -1,4 +1,9 @@
+pub mod MmAlikeLaw
+pub mod MmBlockedLaw
 pub mod MmFacts
+pub mod MmPlaces
+pub mod MmShapeLaw
 pub mod MmSound
+pub mod MmSoundLaw
 pub mod MmTable
 pub mod MmWalkLaw

@@ -5,7 +5,7 @@ use Rattle.std.specs.List.{list_any, reduce}
 use Rattle.sg_base.specs.declared.call.Call.{Call}
 use Rattle.sg_base.specs.declared.reply.Code.TheVariants.{Occupied, NotFound}
 use Rattle.sg_base.specs.declared.reply.Reply.{Reply}
-use Rattle.sg_base.specs.declared.reply.Reply.TheVariants.{Ok, Refused}
+use Rattle.sg_base.specs.declared.reply.Reply.TheVariants.{Refused}
 use Rattle.sg_facts.specs.declared.row.Row.{Row}
 use Rattle.sg_facts.specs.Track.{word_of, field_at, arg_at}
 use Rattle.sg_facts.specs.Object.{Object}

@@ -14,14 +14,16 @@ use Rattle.sg_facts.specs.Facts.{fun_at}
 use Rattle.sg_facts.specs.Held.{whole, partly, FieldsHold, IsHeldFor, set_of}
 use Rattle.sg_facts.specs.Interface.{Declared, has_pair}
 use Rattle.sg_facts.specs.Kinds.{kinds_fit}
-use Rattle.sg_facts.specs.Laws.{AnswersAndKeeps, WalkGoesOn, next_call}
+use Rattle.sg_facts.specs.Laws.{WalkGoesOn, next_call}
 use Rattle.sg_facts.specs.Object.{Object}
 use Rattle.sg_facts.specs.Sound.{AreFields, AreRows, IsRow}
 use Rattle.sg_facts.specs.Track.{empty_field, field_at, row_at, word_of}
 use Rattle.sg_facts.specs.Walks.{Mark, Spot, first_spot, good, may_go_on, spot_of}
 use Rattle.sg_mm.specs.MmFacts.{mm_facts}
 use Rattle.sg_mm.specs.MmTable.{addr_of, is_at, mm_table, space_of}
-use Rattle.sg_mm.specs.MmSound.{HaveOwnAddresses, IsMmSound, IsOfClient}
+use Rattle.sg_mm.specs.MmPlaces.{two_apart}
+use Rattle.sg_mm.specs.MmSound.{IsMmSound, IsOfClient}
+use Rattle.sg_mm.specs.MmSoundLaw.{mm_answers_and_keeps}
 use Rattle.sg_walk_laws.specs.Replays.{AnswersCreations, AnswersReplays, AnswersSteps, IsAnsweredOk, IsHalfway}
 use Rattle.sg_walk_laws.proofs.Found.{above, all_found, held_at, met, same_test}
 use Rattle.sg_walk_laws.proofs.Above.{name_of_held}
@@ -41,40 +43,6 @@ two_creations (suc (suc (suc (suc (suc n))))) is = absurd (cc is)
 none_passes : (test : Row → Bool) (low high : ℕ) (rows : List Row) → AreRows (λ r. test r ≡ false) low high rows → list_any test rows ≡ false
 none_passes test low high [] are = refl
 none_passes test low high (r ∷ rows) are = ap (λ b. b || list_any test rows) are.2 ∙ none_passes test r.id high rows are.3
-
-passes : (test : Row → Bool) (rows : List Row) (id : ℕ) (r : Row) → row_at rows id ≡ Some r → list_any test rows ≡ false → test r ≡ false
-passes test [] id r there none = absurd (cc there)
-passes test (x ∷ rows) id r there none = at (x.id == id) (test x) refl there none (passes test rows id r)
-  where
-    at : (b t : Bool) → test x ≡ t → cond b (Some x) (row_at rows id) ≡ Some r → (t || list_any test rows) ≡ false → (row_at rows id ≡ Some r → list_any test rows ≡ false → test r ≡ false) → test r ≡ false
-    at b true is there none rest = absurd (cc none)
-    at true false is there none rest = let one : x ≡ r = cc there in ap test (sym one) ∙ is
-    at false false is there none rest = rest there none
-
-same_place : (p q : Row) → space_of p ≡ space_of q → addr_of p ≡ addr_of q → is_at (space_of q) (addr_of q) p ≡ true
-same_place p q space addr = ap (λ b. b && (addr_of p == addr_of q)) (same_test (space_of p) (space_of q) space) ∙ same_test (addr_of p) (addr_of q) addr
-
--- no two pages of different ids are in one place
-two_apart : (rows : List Row) (p q : Row) → HaveOwnAddresses rows → row_at rows p.id ≡ Some p → row_at rows q.id ≡ Some q → (p.id ≡ q.id → ⊥) → space_of p ≡ space_of q → addr_of p ≡ addr_of q → ⊥
-two_apart [] p q are there also apart space addr = absurd (cc there)
-two_apart (x ∷ rows) p q are there also apart space addr = at (x.id == p.id) (x.id == q.id) refl refl there also (λ t u. two_apart rows p q are.1 t u apart space addr)
-  where
-    at : (b c : Bool) → (x.id == p.id) ≡ b → (x.id == q.id) ≡ c → cond b (Some x) (row_at rows p.id) ≡ Some p → cond c (Some x) (row_at rows q.id) ≡ Some q
-        → (row_at rows p.id ≡ Some p → row_at rows q.id ≡ Some q → ⊥) → ⊥
-    at true true b_is c_is there also rest = absurd (apart (let one : x.id ≡ p.id = grind (arith, nat_tests, b_is) in let two : x.id ≡ q.id = grind (arith, nat_tests, c_is) in sym one ∙ two))
-    at true false b_is c_is there also rest =
-        let one : x ≡ p = cc there in
-        let none : is_at (space_of x) (addr_of x) q ≡ false = passes (is_at (space_of x) (addr_of x)) rows q.id q also are.0 in
-        let some = same_place q p (sym space) (sym addr) in
-        let same : is_at (space_of x) (addr_of x) q ≡ true = subst (λ y. is_at (space_of y) (addr_of y) q ≡ true) (sym one) some in
-        absurd (cc (none, same))
-    at false true b_is c_is there also rest =
-        let one : x ≡ q = cc also in
-        let none : is_at (space_of x) (addr_of x) p ≡ false = passes (is_at (space_of x) (addr_of x)) rows p.id p there are.0 in
-        let some = same_place p q space addr in
-        let same : is_at (space_of x) (addr_of x) p ≡ true = subst (λ y. is_at (space_of y) (addr_of y) p ≡ true) (sym one) some in
-        absurd (cc (none, same))
-    at false false b_is c_is there also rest = rest there also
 
 module _ (declared : ℕ) (moves steps : List (ℕ × ℕ)) where
   abbrev i : Declared
@@ -205,5 +173,5 @@ mm_answers_replays = record {
   steps = of_facts (λ i. AnswersSteps i mm_table IsMmSound) mm_facts steps_on_it;
 }
 
-pub mm_walk_goes_on : AnswersAndKeeps mm_facts mm_table IsMmSound → WalkGoesOn mm_facts mm_table IsMmSound
-mm_walk_goes_on keeps = walk_goes_on mm_facts mm_table IsMmSound refl keeps mm_answers_replays
+pub mm_walk_goes_on : WalkGoesOn mm_facts mm_table IsMmSound
+mm_walk_goes_on = walk_goes_on mm_facts mm_table IsMmSound refl mm_answers_and_keeps mm_answers_replays
