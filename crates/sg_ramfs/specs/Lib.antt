@@ -1,4 +1,10 @@
+pub mod RamfsAlikeLaw
+pub mod RamfsBlockedLaw
 pub mod RamfsFacts
+pub mod RamfsPaths
+pub mod RamfsReplies
+pub mod RamfsShapeLaw
 pub mod RamfsSound
+pub mod RamfsSoundLaw
 pub mod RamfsTable
 pub mod RamfsWalkLaw

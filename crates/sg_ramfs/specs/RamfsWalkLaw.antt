@@ -13,7 +13,7 @@ use Rattle.sg_facts.specs.Facts.{fun_at}
 use Rattle.sg_facts.specs.Held.{set_of}
 use Rattle.sg_facts.specs.Interface.{Declared, has_pair}
 use Rattle.sg_facts.specs.Kinds.{kinds_fit}
-use Rattle.sg_facts.specs.Laws.{AnswersAndKeeps, WalkGoesOn, next_call}
+use Rattle.sg_facts.specs.Laws.{WalkGoesOn, next_call}
 use Rattle.sg_facts.specs.Limits.{most_file, most_path}
 use Rattle.sg_facts.specs.Object.{Object}
 use Rattle.sg_facts.specs.Sound.{AreFields, IsRow}
@@ -23,6 +23,7 @@ use Rattle.sg_facts.specs.Object.{first_text, path_of}
 use Rattle.sg_ramfs.specs.RamfsFacts.{ramfs_facts}
 use Rattle.sg_ramfs.specs.RamfsTable.{is_bad_name, ramfs_table, seek_answer, split_answer}
 use Rattle.sg_ramfs.specs.RamfsSound.{IsPlaced, IsRamfsSound}
+use Rattle.sg_ramfs.specs.RamfsSoundLaw.{ramfs_answers_and_keeps}
 use Rattle.sg_walk_laws.proofs.Paths.{path_below}
 use Rattle.sg_walk_laws.specs.Replays.{AnswersCreations, AnswersReplays, AnswersSteps, IsAnsweredOk}
 use Rattle.sg_walk_laws.proofs.Found.{met}
@@ -139,5 +140,5 @@ ramfs_answers_replays = record {
   steps = of_facts (λ i. AnswersSteps i ramfs_table IsRamfsSound) ramfs_facts steps_on_it;
 }
 
-pub ramfs_walk_goes_on : AnswersAndKeeps ramfs_facts ramfs_table IsRamfsSound → WalkGoesOn ramfs_facts ramfs_table IsRamfsSound
-ramfs_walk_goes_on keeps = walk_goes_on ramfs_facts ramfs_table IsRamfsSound refl keeps ramfs_answers_replays
+pub ramfs_walk_goes_on : WalkGoesOn ramfs_facts ramfs_table IsRamfsSound
+ramfs_walk_goes_on = walk_goes_on ramfs_facts ramfs_table IsRamfsSound refl ramfs_answers_and_keeps ramfs_answers_replays
