@@ -1,0 +1,4 @@
+pub mod Cells
+pub mod Invoking
+pub mod Journals
+pub mod Rooms
