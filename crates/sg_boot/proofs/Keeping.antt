@@ -1,10 +1,11 @@
 -- What is done to a cell keeps what it says of its service.
-use Rattle.std.proofs.Common.{◌≡◌, ◌≢◌, ℕ, ◌+◌, ◌<◌, ◌≤◌, List, [], ◌∷◌, ◌++◌, None, Some, refl, sym, ◌∙◌, ap, subst, true, false, arith, rules, if◌then◌else◌}
+use Rattle.std.proofs.Common.{◌≡◌, ◌≢◌, ℕ, List, [], None, Some, refl, sym, ◌∙◌, ap, subst, true, false, rules, if◌then◌else◌}
 use Rattle.std.specs.Prelude.{IsSome}
 use Rattle.sg_base.specs.declared.call.Call.{Call}
 use Rattle.sg_boot.proofs.LastBoot.{begun_booted, begun_noted, begun_struck, items_booted, items_noted, stop_booted, stop_noted, stop_struck, stopped_at_end}
-use Rattle.sg_boot.specs.Cells.{Celled, IsCell, IsUp}
-use Rattle.sg_boot.specs.Invoking.{Asks, Invoked, item_of_call, item_of_load, with_item, with_stop}
+use Rattle.sg_boot.specs.Cells.{IsCell}
+use Rattle.sg_boot.specs.Invoking.{item_of_call, item_of_load}
+use Rattle.sg_boot.specs.Inside.Asking.{Asks}
 use Rattle.sg_facts.specs.declared.outcome.Outcome.{Outcome}
 use Rattle.sg_facts.specs.declared.outcome.Outcome.TheVariants.{Replied, Blocks, Stopped, NoMemory}
 use Rattle.sg_facts.specs.declared.trace.Item.{Item}
@@ -14,11 +15,11 @@ use Rattle.sg_facts.specs.Facts.{Facts}
 use Rattle.sg_facts.specs.Invoke.{Points, loaded}
 use Rattle.sg_facts.specs.Legal.{Table}
 use Rattle.sg_facts.specs.Object.{Object, after, empty_object, set_file}
-use Rattle.sg_facts.specs.Trace.{Boot, Run}
+use Rattle.sg_facts.specs.Trace.{Boot}
 use Rattle.sg_hist.specs.Reading.{after_item, value_at}
 use Rattle.sg_hist.specs.Recovered.{ends_stopped, is_stopped}
 use Rattle.sg_recovery_laws.proofs.Growing.{value_at-more}
-use Rattle.sg_recovery_laws.specs.Growing.{booted, last_items, last_stop, noted, struck}
+use Rattle.sg_recovery_laws.specs.Growing.{booted, last_items, noted, struck}
 
 -- a service that failed, behind the stop of its boot
 pub kept_struck : (facts : Facts) (boots : List Boot) (stop : ℕ) → boots ≢ [] → IsCell facts None (struck boots stop)
@@ -58,12 +59,12 @@ made_by_call : (facts : Facts) (ask : Table) (parts : ℕ → ℕ) (held new : O
     → new ≡ after_item facts held (item_of_call tag shown call.desc at outcome)
 made_by_call facts ask parts held new (Load key client) shown call points later at outcome tagged same on had did = absurd (tagged key client refl)
 made_by_call facts ask parts held new (Walk id k client) shown call points later at (Replied reply patch) tagged same on had did =
-    did.changed ∙ ap (λ x. after facts held x reply) same
+    did.1 ∙ ap (λ x. after facts held x reply) same
 made_by_call facts ask parts held new (Walk id k client) shown call points later at Blocks tagged same on had did = did.1.same
 made_by_call facts ask parts held new (Walk id k client) shown call points later at Stopped tagged same on had did = absurd (on refl)
 made_by_call facts ask parts held new (Walk id k client) shown call points later at NoMemory tagged same on had did = absurd (had refl)
 made_by_call facts ask parts held new (Client client seq) shown call points later at (Replied reply patch) tagged same on had did =
-    did.changed ∙ ap (λ x. after facts held x reply) same
+    did.1 ∙ ap (λ x. after facts held x reply) same
 made_by_call facts ask parts held new (Client client seq) shown call points later at Blocks tagged same on had did = did.1.same
 made_by_call facts ask parts held new (Client client seq) shown call points later at Stopped tagged same on had did = absurd (on refl)
 made_by_call facts ask parts held new (Client client seq) shown call points later at NoMemory tagged same on had did = absurd (had refl)

@@ -1,7 +1,7 @@
 -- The last of several boots, and what a change of it makes of them.
-use Rattle.std.proofs.Common.{◌≡◌, ◌≢◌, ℕ, Bool, List, [], ◌∷◌, ◌++◌, None, Some, refl, ap}
+use Rattle.std.proofs.Common.{◌≡◌, ◌≢◌, ℕ, List, [], ◌∷◌, ◌++◌, None, Some, refl, ap}
 use Rattle.std.specs.Prelude.{map}
-use Rattle.sg_boot.specs.Journals.{last_room}
+use Rattle.sg_boot.specs.Inside.Journals.{last_room}
 use Rattle.sg_facts.specs.declared.trace.BootLog.{BootLog}
 use Rattle.sg_facts.specs.declared.trace.Item.{Item}
 use Rattle.sg_facts.specs.Trace.{Boot, boot_of}

@@ -13,7 +13,7 @@ use Rattle.sg_facts.specs.declared.trace.Item.{Item}
 use Rattle.sg_facts.specs.declared.trace.Tag.{Tag}
 use Rattle.sg_facts.specs.declared.trace.Tag.TheVariants.{Load}
 use Rattle.sg_facts.specs.Facts.{Facts}
-use Rattle.sg_facts.specs.Invoke.{Points, Stays, parts_of}
+use Rattle.sg_facts.specs.Invoke.{Points, parts_of}
 use Rattle.sg_facts.specs.Kinds.{MayAsk}
 use Rattle.sg_facts.specs.Legal.{Table}
 use Rattle.sg_facts.specs.Object.{Object, after, patch_of}
@@ -58,16 +58,16 @@ pub record MayInvoke (facts : Facts) (c : Celled) (tag : Tag) (shown call : Call
   pub tagged : (key : List ℕ) (client : ℕ) → tag ≢ Load key client
   pub same : call ≡ record shown { desc = call.desc }
 
--- the service replied, with the change and the patch that belong to the reply; each part of an Ok was asked, and the point
+-- the service answered as its table says, with the patch that belongs to the reply; each part of an Ok was asked, and the point
 -- behind the reply
-pub record Replies (facts : Facts) (ask : Table) (parts : ℕ → ℕ) (old : Object) (call : Call) (points : Points) (reply : Reply) (patch : Option Patch) (new : Object) (later : Points) : Type 0 where
+pub record Answers (facts : Facts) (ask : Table) (parts : ℕ → ℕ) (old : Object) (call : Call) (points : Points) (reply : Reply) (patch : Option Patch) (later : Points) : Type 0 where
   pub answered : ask old call ≡ Some reply
-  pub changed : new ≡ after facts old call reply
   pub written : patch ≡ patch_of facts old call reply
   pub asked : later.asked ≡ asked_after (asked_after points.asked (parts_of parts call reply)) 1
   pub struck : later.struck ≡ points.struck
 
--- the service stopped at a part of an Ok, or at the point behind its reply: the last point asked struck
+-- the service stopped within a call that it would have answered: at a part of an Ok, or at the point behind the reply. The last
+-- point asked struck
 pub record Stops (ask : Table) (parts : ℕ → ℕ) (old : Object) (call : Call) (points later : Points) : Type 0 where
   pub reply : Reply
   pub answered : ask old call ≡ Some reply
@@ -75,49 +75,35 @@ pub record Stops (ask : Table) (parts : ℕ → ℕ) (old : Object) (call : Call
   pub last : later.asked ≤ points.asked + parts_of parts call reply + 1
   pub struck : later.struck ≡ points.struck ++ later.asked ∷ []
 
--- what asking a service and the point behind its reply does, by the outcome
-abbrev pub Asks : Facts → Table → (ℕ → ℕ) → Object → Call → Points → Outcome → Object → Points → Type 0
-Asks facts ask parts old call points (Replied reply patch) new later = Replies facts ask parts old call points reply patch new later
-Asks facts ask parts old call points Blocks new later = (ask old call ≡ None) × Stays old points new later
-Asks facts ask parts old call points Stopped new later = Stops ask parts old call points later
-Asks facts ask parts old call points NoMemory new later = Stays old points new later
+-- the service replied and goes on behind the call, whose item is noted with the points asked
+pub record NotesReply (facts : Facts) (ask : Table) (parts : ℕ → ℕ) (held : Object) (old : Celled) (tag : Tag) (shown call : Call) (points : Points) (reply : Reply) (patch : Option Patch) (new : Celled) (later : Points) : Type 0 where
+  pub answers : Answers facts ask parts held call points reply patch later
+  pub running : new.running ≡ Some (after facts held call reply)
+  pub run : new.run ≡ with_item old.run (item_of_call tag shown call.desc later.asked (Replied reply patch)) later.asked
 
--- the service replied, and goes on; the item is noted with the points asked
-pub record HasReplied (facts : Facts) (ask : Table) (parts : ℕ → ℕ) (old : Object) (c : Celled) (tag : Tag) (shown call : Call) (points : Points) (reply : Reply) (patch : Option Patch) (new : Celled) (later : Points) : Type 0 where
-  pub answered : ask old call ≡ Some reply
-  pub written : patch ≡ patch_of facts old call reply
-  pub running : new.running ≡ Some (after facts old call reply)
-  pub asked : later.asked ≡ asked_after (asked_after points.asked (parts_of parts call reply)) 1
-  pub struck : later.struck ≡ points.struck
-  pub run : new.run ≡ with_item c.run (item_of_call tag shown call.desc later.asked (Replied reply patch)) later.asked
-
--- the caller has to wait: the item is noted, and nothing else has changed
-pub record HasBlocked (ask : Table) (old : Object) (c : Celled) (tag : Tag) (shown call : Call) (points : Points) (new : Celled) (later : Points) : Type 0 where
-  pub unanswered : ask old call ≡ None
-  pub running : new.running ≡ Some old
+-- the caller has to wait: the service goes on as it was, no point was asked, and the item is noted
+pub record NotesWait (ask : Table) (held : Object) (old : Celled) (tag : Tag) (shown call : Call) (points : Points) (new : Celled) (later : Points) : Type 0 where
+  pub unanswered : ask held call ≡ None
   pub unasked : later ≡ points
-  pub run : new.run ≡ with_item c.run (item_of_call tag shown call.desc later.asked Blocks) later.asked
+  pub running : new.running ≡ Some held
+  pub run : new.run ≡ with_item old.run (item_of_call tag shown call.desc points.asked Blocks) points.asked
 
 -- the service stopped, and has failed: the item is noted, and the boot ended at the last point asked
-pub record HasStopped (ask : Table) (parts : ℕ → ℕ) (old : Object) (c : Celled) (tag : Tag) (shown call : Call) (points : Points) (new : Celled) (later : Points) : Type 0 where
-  pub reply : Reply
-  pub answered : ask old call ≡ Some reply
-  pub first : points.asked < later.asked
-  pub last : later.asked ≤ points.asked + parts_of parts call reply + 1
-  pub struck : later.struck ≡ points.struck ++ later.asked ∷ []
+pub record NotesStop (ask : Table) (parts : ℕ → ℕ) (held : Object) (old : Celled) (tag : Tag) (shown call : Call) (points : Points) (new : Celled) (later : Points) : Type 0 where
+  pub stops : Stops ask parts held call points later
   pub running : new.running ≡ None
-  pub run : new.run ≡ with_stop (with_item c.run (item_of_call tag shown call.desc later.asked Stopped) later.asked) later.asked
+  pub run : new.run ≡ with_stop (with_item old.run (item_of_call tag shown call.desc later.asked Stopped) later.asked) later.asked
 
--- there was no memory: nothing has changed, and no point was asked
-pub record HasNoMemory (c new : Celled) (points later : Points) : Type 0 where
-  pub running : new.running ≡ c.running
-  pub run : new.run ≡ c.run
-  pub room : new.room ≡ c.room
+-- there was no memory: nothing changed, and no point was asked
+pub record NotesNothing (old : Celled) (points : Points) (new : Celled) (later : Points) : Type 0 where
   pub unasked : later ≡ points
+  pub running : new.running ≡ old.running
+  pub run : new.run ≡ old.run
+  pub room : new.room ≡ old.room
 
 -- what asking the service of a cell does, by the outcome
 abbrev pub Invoked : Facts → Table → (ℕ → ℕ) → Object → Celled → Tag → Call → Call → Points → Outcome → Celled → Points → Type 0
-Invoked facts ask parts old c tag shown call points (Replied reply patch) new later = HasReplied facts ask parts old c tag shown call points reply patch new later
-Invoked facts ask parts old c tag shown call points Blocks new later = HasBlocked ask old c tag shown call points new later
-Invoked facts ask parts old c tag shown call points Stopped new later = HasStopped ask parts old c tag shown call points new later
-Invoked facts ask parts old c tag shown call points NoMemory new later = HasNoMemory c new points later
+Invoked facts ask parts held old tag shown call points (Replied reply patch) new later = NotesReply facts ask parts held old tag shown call points reply patch new later
+Invoked facts ask parts held old tag shown call points Blocks new later = NotesWait ask held old tag shown call points new later
+Invoked facts ask parts held old tag shown call points Stopped new later = NotesStop ask parts held old tag shown call points new later
+Invoked facts ask parts held old tag shown call points NoMemory new later = NotesNothing old points new later

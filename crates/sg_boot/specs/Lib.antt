@@ -1,4 +1,3 @@
 pub mod Cells
+pub mod Inside
 pub mod Invoking
-pub mod Journals
-pub mod Rooms

@@ -1,8 +1,8 @@
 // Asking a service, with the point behind its reply.
 ghost use Rattle.std.specs.Prelude.{◌≡◌};
 ghost use Rattle.sg_facts.specs.Kinds.{MayAsk};
-ghost use Rattle.sg_boot.specs.Invoking.{Asks};
-ghost use Rattle.sg_boot.specs.Rooms.{FitsItemRoom};
+ghost use Rattle.sg_boot.specs.Inside.Asking.{Asks};
+ghost use Rattle.sg_boot.specs.Inside.Rooms.{FitsItemRoom};
 
 use sg_base::{Call, Point, Stops};
 use sg_facts::{Outcome, Service};

@@ -3,8 +3,8 @@ ghost use Rattle.std.specs.Prelude.{◌≡◌, ◌≢◌, ◌≤◌, [], length,
 ghost use Rattle.sg_facts.specs.Trace.{boot_of, run_of};
 ghost use Rattle.sg_recovery_laws.specs.Growing.{booted, noted, struck};
 ghost use Rattle.sg_boot.specs.Invoking.{item_of_call, with_item, with_stop};
-ghost use Rattle.sg_boot.specs.Journals.{last_room};
-ghost use Rattle.sg_boot.specs.Rooms.{FitsItemRoom};
+ghost use Rattle.sg_boot.specs.Inside.Journals.{last_room};
+ghost use Rattle.sg_boot.specs.Inside.Rooms.{FitsItemRoom};
 
 use crate::room::ItemRoom;
 use sg_base::{Call, NoMemory};
@@ -21,7 +21,7 @@ pub(crate) struct Journal {
 
 impl Model for Journal {
     ghost use Rattle.std.specs.Prelude.{◌≢◌, []};
-    ghost use Rattle.sg_boot.specs.Journals.{Journaled, room_of};
+    ghost use Rattle.sg_boot.specs.Inside.Journals.{Journaled, room_of};
     ghost use Rattle.sg_facts.specs.Trace.{run_of};
 
     ghost Value = { Journaled };

@@ -1,6 +1,6 @@
 // Room for what one item holds.
 ghost use Rattle.std.specs.Prelude.{◌≡◌};
-ghost use Rattle.sg_boot.specs.Rooms.{FitsItemRoom, FitsPatchRoom};
+ghost use Rattle.sg_boot.specs.Inside.Rooms.{FitsItemRoom, FitsPatchRoom};
 
 use sg_base::{NoMemory, Reply, ReplyRoom};
 use sg_facts::{Outcome, Patch, PatchRoom};

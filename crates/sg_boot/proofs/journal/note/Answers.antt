@@ -1,6 +1,5 @@
-use Rattle.std.proofs.Common.{refl, subst, sym, arith, ◌≤◌}
+use Rattle.std.proofs.Common.{refl, arith, ◌≤◌}
 use Rattle.sg_boot.proofs.LastBoot.{noted_at_end, room_at_end}
-use Rattle.sg_boot.specs.Journals.{last_room}
 use Rattle.sg_boot.proofs.journal.note.Goals as goal
 
 pub returns-clause-boots : goal.returns-clause-boots

@@ -1,6 +1,6 @@
-use Rattle.std.proofs.Common.{◌≤◌, Ok, Err, subst, sym, ◌∙◌, ap}
+use Rattle.std.proofs.Common.{◌≤◌, subst, sym, ◌∙◌, ap}
 use Rattle.sg_boot.proofs.LastBoot.{room_at_end}
-use Rattle.sg_boot.specs.Journals.{last_room}
+use Rattle.sg_boot.specs.Inside.Journals.{last_room}
 use Rattle.std.specs.Result.{OnOk}
 use Rattle.sg_boot.proofs.journal.reserve_item.Goals as goal
 

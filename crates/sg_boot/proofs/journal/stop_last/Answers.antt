@@ -1,4 +1,4 @@
-use Rattle.std.proofs.Common.{refl, ◌∙◌, sym, ap}
+use Rattle.std.proofs.Common.{refl, ◌∙◌, sym}
 use Rattle.sg_boot.proofs.LastBoot.{room_at_end, struck_at_end}
 use Rattle.sg_boot.proofs.journal.stop_last.Goals as goal
 

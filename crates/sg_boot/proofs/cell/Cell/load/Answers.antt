@@ -1,4 +1,4 @@
-use Rattle.std.proofs.Common.{Some, subst, sym}
+use Rattle.std.proofs.Common.{Some, subst}
 use Rattle.std.specs.Option.{option_map}
 use Rattle.sg_boot.proofs.Keeping.{kept_loaded}
 use Rattle.sg_boot.specs.Cells.{IsCell}
