@@ -117,8 +117,7 @@ impl<S: Service> Cell<S> {
                 let point = stops.asked();
                 self.journal
                     .note_call(tag, shown, call.desc, point, &Outcome::Stopped);
-                self.journal.stop(point);
-                self.service = None;
+                fail(&mut self.service, &mut self.journal, point);
                 Outcome::Stopped
             }
             outcome => {
@@ -171,8 +170,7 @@ impl<S: Service> Cell<S> {
         ensures run { self.new.run ≡ with_stop self.old.run point }
         ensures room { self.old.room ≤ self.new.room }
     {
-        self.service = None;
-        self.journal.stop(point);
+        fail(&mut self.service, &mut self.journal, point);
     }
 
     /// Boots a fresh service after one that failed.
@@ -185,6 +183,16 @@ impl<S: Service> Cell<S> {
         self.journal.boot(alloc);
         self.service = Some(S::fresh(alloc));
     }
+}
+
+// Lets a service go that has failed, and ends its boot at a point, which is the last that was asked.
+fn fail<S: Service>(service: &mut Option<S>, journal: &mut Journal, point: u64)
+    ensures service { service.new ≡ None }
+    ensures run { journal.new.run ≡ with_stop journal.old.run point }
+    ensures room { journal.old.room ≤ journal.new.room }
+{
+    *service = None;
+    journal.stop(point);
 }
 
 // The item of a load.

@@ -8,7 +8,7 @@ use Rattle.sg_boot.proofs.cell.Cell.invoke.Goals as goal
 
 pub invariant_of-self-in-Stopped : goal.invariant_of-self-in-Stopped
 invariant_of-self-in-Stopped g c =
-    rw (c.stop.ensures.run, c.note_call.ensures)
+    rw (c.fail.ensures.service, c.fail.ensures.run, c.note_call.ensures)
     (kept_struck g.S.Service.facts _ _ (begun_noted c.self.inside.journal.run.boots _ c.self.invariant.begun))
 
 pub invariant_of-self-in_default : goal.invariant_of-self-in_default
