@@ -6,12 +6,13 @@ ghost use Rattle.sg_facts.specs.Object.{Object, empty_object};
 ghost use Rattle.sg_facts.specs.Trace.{run_of};
 ghost use Rattle.sg_recovery_laws.specs.Growing.{booted};
 ghost use Rattle.sg_boot.specs.Cells.{IsCell};
-ghost use Rattle.sg_boot.specs.Invoking.{Invoked, MayInvoke, item_of_load, load_call, load_outcome, with_item, with_stop};
+ghost use Rattle.sg_boot.specs.Invoking.{Invoked, MayInvoke, item_of_load, with_item, with_stop};
 
 use crate::ask::ask;
 use crate::journal::Journal;
-use sg_base::{Args, Bytes, Call, Good, NoMemory, Path, Reply, Stops, TryCopy, Words};
-use sg_facts::{Item, Outcome, Patch, Service, Tag, Trace};
+use crate::load::load_item;
+use sg_base::{Call, NoMemory, Path, Stops};
+use sg_facts::{Outcome, Service, Tag, Trace};
 use std::alloc::Global;
 use std::marker::Model;
 
@@ -193,58 +194,4 @@ fn fail<S: Service>(service: &mut Option<S>, journal: &mut Journal, point: u64)
 {
     *service = None;
     journal.stop(point);
-}
-
-// The item of a load.
-fn load_item(
-    alloc: Global,
-    client: u8,
-    points: u64,
-    key: &Path,
-    bytes: &[u8],
-) -> Result<Item, NoMemory>
-    ensures { IfOk result (λ item. item ≡ item_of_load client points key.now bytes.now) }
-{
-    Ok(Item {
-        tag: Tag::Load {
-            key: key.copy(alloc)?,
-            client,
-        },
-        shown: load_call(alloc, client),
-        real: 0,
-        points,
-        outcome: load_outcome(alloc, key, bytes)?,
-    })
-}
-
-// The call of a load, which is of no function.
-fn load_call(alloc: Global, client: u8) -> Call
-    ensures { result ≡ load_call client }
-{
-    Call {
-        client,
-        seq: 0,
-        fun: 0,
-        desc: 0,
-        args: Args::new(alloc),
-    }
-}
-
-// What a load gives: an Ok without words, and a patch of the whole file.
-fn load_outcome(alloc: Global, key: &Path, bytes: &[u8]) -> Result<Outcome, NoMemory>
-    ensures { IfOk result (λ outcome. outcome ≡ load_outcome key.now bytes.now) }
-{
-    let patch = Patch {
-        key: key.copy(alloc)?,
-        from: 0,
-        bytes: Bytes::from_slice(alloc, bytes)?,
-    };
-    Ok(Outcome::Replied {
-        reply: Reply::Ok(Good {
-            desc: 0,
-            words: Words::new(alloc),
-            bytes: Bytes::new(alloc),
-        }),
-        patch: Some(patch),
-    })
 }

@@ -2,12 +2,14 @@
 //!
 //! - `cell`: a service with its journal (`Cell`)
 //! - `ask`: asking a service, with the point behind its reply
+//! - `load`: the item of a load
 //! - `journal`: what was done, with room for more; `room`: room for what one item holds
 #![tactic(auto)]
 
 mod ask;
 mod cell;
 mod journal;
+mod load;
 mod room;
 
 pub use cell::Cell;
