@@ -1,0 +1,2 @@
+pub mod LastBoot
+pub mod Keeping

@@ -1,0 +1,23 @@
+-- What a journal keeps.
+use Rattle.std.specs.Prelude.{ℕ, List, [], ◌∷◌, None, Some, min}
+use Rattle.std.specs.declared.option.Option.{Option}
+use Rattle.sg_base.specs.Room.{Roomy}
+use Rattle.sg_boot.specs.declared.room.ItemRoom.{ItemRoom}
+use Rattle.sg_facts.specs.declared.trace.BootLog.{BootLog}
+use Rattle.sg_facts.specs.Trace.{Run}
+
+-- what contracts see of a journal: what was done, and for how many items and boots more there is room
+pub record Journaled : Type 0 where
+  pub run : Run
+  pub room : ℕ
+
+-- how many items more the last boot has places for
+abbrev pub last_room : List BootLog → ℕ
+last_room [] = 0
+last_room (b ∷ []) = b.items.room
+last_room (b ∷ c ∷ boots) = last_room (c ∷ boots)
+
+-- the places that there are for boots and for items of the last boot, where there is room for what an item holds
+abbrev pub room_of : Option ItemRoom → Roomy BootLog → ℕ
+room_of None boots = 0
+room_of (Some room) boots = min boots.room (last_room boots.items)

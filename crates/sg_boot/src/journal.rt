@@ -1,0 +1,201 @@
+// What was done to a service, with room for more.
+ghost use Rattle.std.specs.Prelude.{◌≡◌, ◌≢◌, ◌≤◌, [], length, map, IfOk, OnOk};
+ghost use Rattle.sg_facts.specs.Trace.{boot_of, run_of};
+ghost use Rattle.sg_recovery_laws.specs.Growing.{booted, noted, struck};
+ghost use Rattle.sg_boot.specs.Invoking.{item_of_call, with_item, with_stop};
+ghost use Rattle.sg_boot.specs.Inside.Journals.{last_room};
+ghost use Rattle.sg_boot.specs.Inside.Rooms.{FitsItemRoom};
+
+use crate::room::ItemRoom;
+use sg_base::{Call, NoMemory};
+use sg_facts::{BootList, BootLog, Item, ItemList, Outcome, Tag, Trace};
+use std::alloc::Global;
+use std::marker::Model;
+
+/// A trace that has begun. Contracts see what it tells, and for how many items and boots more there is room.
+#[derive(Debug, Drop)]
+pub(crate) struct Journal {
+    trace: Trace,
+    room: Option<ItemRoom>,
+}
+
+impl Model for Journal {
+    ghost use Rattle.std.specs.Prelude.{◌≢◌, []};
+    ghost use Rattle.sg_boot.specs.Inside.Journals.{Journaled, room_of};
+    ghost use Rattle.sg_facts.specs.Trace.{run_of};
+
+    ghost Value = { Journaled };
+
+    ghost view = { λ j. record { run = run_of j.trace; room = room_of j.room j.trace.boots } };
+
+    ghost invariant = { λ j. j.trace.boots.items ≢ [] };
+}
+
+impl Journal {
+    /// The first boot, in which nothing was asked.
+    pub(crate) fn new(alloc: Global) -> Result<Journal, NoMemory>
+        ensures { IfOk result (λ journal. journal.run ≡ record { boots = booted []; points = 0 }) }
+    {
+        let mut boots = BootList::new(alloc);
+        boots.reserve(1)?;
+        boots.add(unused(alloc));
+        Ok(Journal {
+            trace: Trace { boots, points: 0 },
+            room: None,
+        })
+    }
+
+    /// What was done, lent.
+    pub(crate) fn trace(&self) -> &Trace
+        ensures { run_of result.now ≡ self.now.run }
+    {
+        &self.trace
+    }
+
+    /// The number of boots.
+    pub(crate) fn boots(&self) -> u64
+        ensures { result ≡ length self.now.run.boots }
+    {
+        self.trace.boots.len() as u64
+    }
+
+    /// Takes the memory for one item and one boot.
+    pub(crate) fn reserve(&mut self, alloc: Global) -> Result<(), NoMemory>
+        ensures ok { OnOk result (1 ≤ self.new.room) }
+        ensures run { self.new.run ≡ self.old.run }
+    {
+        self.trace.boots.reserve(1)?;
+        reserve_item(&mut self.trace.boots)?;
+        if self.room.is_none() {
+            self.room = Some(ItemRoom::new(alloc)?);
+        }
+        Ok(())
+    }
+
+    /// Notes the item of a call that was asked, with the number of points asked. The outcome is copied into the room for it.
+    pub(crate) fn note_call(
+        &mut self,
+        tag: Tag,
+        shown: Call,
+        real: u64,
+        points: u64,
+        outcome: &Outcome,
+    )
+        requires room { 1 ≤ self.old.room }
+        requires fits { FitsItemRoom outcome.now }
+        ensures { self.new.run ≡ with_item self.old.run (item_of_call tag shown real points outcome.now) points }
+    {
+        match self.room.take() {
+            Some(room) => {
+                let outcome = room.fill(outcome);
+                note(
+                    &mut self.trace.boots,
+                    Item {
+                        tag,
+                        shown,
+                        real,
+                        points,
+                        outcome,
+                    },
+                );
+                self.trace.points = points;
+            }
+            None => unreachable!(),
+        }
+    }
+
+    /// Notes an item, whose number of points is the number asked.
+    pub(crate) fn note(&mut self, item: Item)
+        requires { 1 ≤ self.old.room }
+        ensures { self.new.run ≡ with_item self.old.run item item.points }
+    {
+        self.trace.points = item.points;
+        note(&mut self.trace.boots, item);
+    }
+
+    /// Sets the number of points asked.
+    pub(crate) fn count(&mut self, points: u64)
+        ensures run { self.new.run ≡ record self.old.run { points = points } }
+        ensures room { self.new.room ≡ self.old.room }
+    {
+        self.trace.points = points;
+    }
+
+    /// Ends the last boot at a point, which is the last that was asked.
+    pub(crate) fn stop(&mut self, point: u64)
+        ensures run { self.new.run ≡ with_stop self.old.run point }
+        ensures room { self.old.room ≤ self.new.room }
+    {
+        stop_last(&mut self.trace.boots, point);
+        self.trace.points = point;
+    }
+
+    /// Begins the next boot.
+    pub(crate) fn boot(&mut self, alloc: Global)
+        requires { 1 ≤ self.old.room }
+        ensures { self.new.run ≡ record self.old.run { boots = booted self.old.run.boots } }
+    {
+        self.trace.boots.add(unused(alloc));
+    }
+}
+
+// A boot in which nothing was asked.
+fn unused(alloc: Global) -> BootLog
+    ensures { boot_of result ≡ record { items = []; stop = None } }
+{
+    BootLog {
+        items: ItemList::new(alloc),
+        stop: None,
+    }
+}
+
+// Takes the memory for one item more in the last boot.
+fn reserve_item(boots: &mut BootList) -> Result<(), NoMemory>
+    requires { boots.old.items ≢ [] }
+    ensures begun { boots.new.items ≢ [] }
+    ensures boots { map boot_of boots.new.items ≡ map boot_of boots.old.items }
+    ensures room { boots.old.room ≤ boots.new.room }
+    ensures ok { OnOk result (1 ≤ last_room boots.new.items) }
+{
+    match boots.pop() {
+        Some(mut last) => {
+            let reserved = last.items.reserve(1);
+            boots.add(last);
+            reserved
+        }
+        None => unreachable!(),
+    }
+}
+
+// Adds an item to the last boot.
+fn note(boots: &mut BootList, item: Item)
+    requires begun { boots.old.items ≢ [] }
+    requires room { 1 ≤ last_room boots.old.items }
+    ensures begun { boots.new.items ≢ [] }
+    ensures boots { map boot_of boots.new.items ≡ noted (map boot_of boots.old.items) item }
+{
+    match boots.pop() {
+        Some(mut last) => {
+            last.items.add(item);
+            boots.add(last);
+        }
+        None => unreachable!(),
+    }
+}
+
+// Ends the last boot at a point.
+fn stop_last(boots: &mut BootList, point: u64)
+    requires { boots.old.items ≢ [] }
+    ensures begun { boots.new.items ≢ [] }
+    ensures boots { map boot_of boots.new.items ≡ struck (map boot_of boots.old.items) point }
+    ensures room { boots.old.room ≤ boots.new.room }
+    ensures last { last_room boots.new.items ≡ last_room boots.old.items }
+{
+    match boots.pop() {
+        Some(mut last) => {
+            last.stop = Some(point);
+            boots.add(last);
+        }
+        None => unreachable!(),
+    }
+}
