@@ -2,6 +2,7 @@
 use Rattle.std.proofs.Common.{◌≡◌, ℕ, ◌+◌, ◌<◌, ◌≤◌, Bool, true, false, List, [], ◌∷◌, Some, refl, sym, ◌∙◌, ap, subst, inl, inr, arith}
 use Rattle.std.specs.Prelude.{◌||◌}
 use Rattle.std.proofs.lemmas.Bool.Decides.{eqb_tells}
+use Rattle.sg_walk_laws.proofs.Names.{alike_more, names_more, other_named, own_named}
 use Rattle.sg_base.specs.declared.call.Call.{Call}
 use Rattle.sg_base.specs.declared.reply.Good.{Good}
 use Rattle.sg_base.specs.declared.reply.Reply.TheVariants.{Ok}
@@ -18,8 +19,6 @@ use Rattle.sg_facts.proofs.RowLists.{id_of_row, row_of_live}
 use Rattle.sg_held_laws.specs.Progress.{IsNone}
 use Rattle.sg_walk_laws.proofs.Found.{above, same_test}
 use Rattle.sg_held_laws.proofs.Least.{parent_needed, parent_of}
-use Rattle.sg_object_laws.proofs.Made.{names_more, other_named, own_named}
-use Rattle.sg_held_laws.proofs.Rest.{alike_more}
 
 module _ (facts : Facts) (ask : Table) (sound : Object → Type 0) (law : AnswersAlike facts ask sound) (names : List (ℕ × ℕ)) (o held : Object) (call : Call) (is_sound : sound o) (general : IsSound facts o)
     (passes : Passes facts o call) (serves : Serves facts names o held call) (given : (id : ℕ) → named names id ≤ held.given) (makes : (fun_at facts.funs call.fun).creation ≡ false) (desc : IsNone o.rows call.desc) where

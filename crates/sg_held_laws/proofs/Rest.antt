@@ -1,13 +1,14 @@
 -- Rows that a call isn't on stay as far as they are.
 use Rattle.std.proofs.Common.{◌≡◌, ℕ, ◌<◌, Bool, true, false, cond, List, [], ◌∷◌, Some, take, refl, sym, ◌∙◌, ap, inl, inr, arith}
 use Rattle.std.specs.Prelude.{◌≢◌}
+use Rattle.sg_walk_laws.proofs.Names.{alike_more, other_named, part_more}
 use Rattle.sg_base.specs.declared.call.Call.{Call}
 use Rattle.sg_base.specs.declared.reply.Good.{Good}
 use Rattle.sg_facts.specs.declared.row.Row.{Row}
 use Rattle.sg_facts.specs.declared.tables.WalkLine.{WalkLine}
-use Rattle.sg_facts.specs.Alike.{IsAlike, named}
+use Rattle.sg_facts.specs.Alike.{named}
 use Rattle.sg_facts.specs.Facts.{Facts, fun_at}
-use Rattle.sg_facts.specs.Held.{HoldsPart, IsAt, IsPartOf}
+use Rattle.sg_facts.specs.Held.{HoldsPart, IsAt}
 use Rattle.sg_facts.specs.Interface.{Declared}
 use Rattle.sg_facts.specs.Object.{Object}
 use Rattle.sg_facts.specs.Sound.{IsSound}
@@ -20,7 +21,6 @@ use Rattle.sg_object_laws.proofs.Changed.{change_at}
 use Rattle.sg_object_laws.proofs.Commute.{same_id_at}
 use Rattle.sg_walk_laws.proofs.Found.{from_left, other_test, to_map}
 use Rattle.sg_object_laws.proofs.Left.{stays}
-use Rattle.sg_object_laws.proofs.Made.{other_named}
 
 -- ---- rows of one list
 
@@ -51,27 +51,6 @@ stays_there facts rows call good id r row makes ends there =
     (from_left (stays facts rows call.desc) rows id r (ap (λ rs. row_at rs id) (sym (ends_rows facts call good rows row makes ends)) ∙ there)).stays
 
 -- ---- names that grow
-
--- a name more leaves what is told of ids that have theirs, and whose parents have
-pub alike_more : (names : List (ℕ × ℕ)) (new real : ℕ) (r w : Row) → r.id ≢ new → r.parent ≢ new → IsAlike names r w → IsAlike ((new, real) ∷ names) r w
-alike_more names new real r w id parent alike = record {
-  id = other_named names new real r.id id ∙ alike.id;
-  made = alike.made;
-  parent = alike.parent ∙ sym (other_named names new real r.parent parent);
-  state = alike.state;
-  fields = alike.fields;
-}
-
-pub part_more : (i : Declared) (names : List (ℕ × ℕ)) (new real : ℕ) (r w : Row) (done : List ℕ) → r.id ≢ new → r.parent ≢ new → IsPartOf i names r done w → IsPartOf i ((new, real) ∷ names) r done w
-part_more i names new real r w done id parent part = record {
-  spot = part.spot;
-  led = part.led;
-  id = other_named names new real r.id id ∙ part.id;
-  made = part.made;
-  parent = part.parent ∙ sym (other_named names new real r.parent parent);
-  state = part.state;
-  fields = part.fields;
-}
 
 -- a row of the service that stays there, under names that grew by an id that is no parent of it
 pub at_more : (i : Declared) (names : List (ℕ × ℕ)) (held held' : Object) (new real : ℕ) (r : Row) (done : List ℕ) → r.id ≢ new

@@ -1,11 +1,11 @@
 -- What a service holds goes on to stand for an object's rows when a call makes a row.
-use Rattle.std.proofs.Common.{◌≡◌, ℕ, ◌+◌, ◌<◌, ◌≤◌, Bool, true, false, cond, not, List, [], ◌∷◌, ◌++◌, Some, map, refl, sym, ◌∙◌, ap, subst, inl, inr, ◌⊎◌, arith}
+use Rattle.std.proofs.Common.{◌≡◌, ℕ, ◌+◌, ◌≤◌, Bool, true, false, cond, not, List, [], ◌∷◌, ◌++◌, Some, map, refl, sym, ◌∙◌, ap, subst, inl, inr, ◌⊎◌, arith}
 use Rattle.std.specs.Prelude.{◌==◌, ◌||◌, ◌&&◌, nat_lt}
 use Rattle.std.proofs.lemmas.Bool.Decides.{eqb_tells, nat_tests}
 use Rattle.sg_base.specs.declared.call.Call.{Call}
 use Rattle.sg_base.specs.declared.reply.Good.{Good}
 use Rattle.sg_facts.specs.declared.row.Row.{Row}
-use Rattle.sg_facts.specs.Alike.{AreNames, HasAlike, IsAlike, named, under_names}
+use Rattle.sg_facts.specs.Alike.{HasAlike, IsAlike, named, under_names}
 use Rattle.sg_facts.specs.Facts.{fun_at, takes_parent}
 use Rattle.sg_facts.specs.Held.{whole, partly, HasParent, HoldsPart, IsHeld, IsHeldFor, IsPartOf, ParentIsWhole}
 use Rattle.sg_facts.specs.Interface.{Declared}
@@ -15,44 +15,10 @@ use Rattle.sg_facts.specs.Sound.{AreFields, AreFiles, AreRows, IsRow, IsSound}
 use Rattle.sg_facts.specs.Track.{empty_field, is_live, new_row, row_at}
 use Rattle.sg_facts.proofs.RowLists.{id_of_row, is_live-more, live_of_row, more, other, row_at-more}
 use Rattle.sg_track.specs.Tracked.{HasLowerParent}
+use Rattle.sg_walk_laws.proofs.Names.{names_more, other_named, own_named}
 use Rattle.sg_object_laws.proofs.Fields.{same_fields}
 use Rattle.sg_walk_laws.proofs.Found.{above, all_found, each_held, from_more, held_at, last_found, met, other_test, same_test, within}
 use Rattle.sg_object_laws.proofs.Found.{lower_parents}
-
--- a new name leaves the others
-pub other_named : (names : List (ℕ × ℕ)) (new real id : ℕ) → (id ≡ new → ⊥) → named ((new, real) ∷ names) id ≡ named names id
-other_named names new real id apart = ap (λ b. cond b real (named names id)) (other_test new id (λ is. apart (sym is)))
-
-pub own_named : (names : List (ℕ × ℕ)) (new real : ℕ) → named ((new, real) ∷ names) new ≡ real
-own_named names new real = ap (λ b. cond b real (named names new)) (same_test new new refl)
-
--- names stay names with a new one
-pub names_more : (names : List (ℕ × ℕ)) (most new real : ℕ) → AreNames names → ((id : ℕ) → named names id ≤ most) → most < real → 0 < new → AreNames ((new, real) ∷ names)
-names_more names most new real are given next some = record {
-  none = other_named names new real 0 (λ is. absurd (omega (arith, is, some))) ∙ are.none;
-  apart = λ a b same. at a b (eqb_tells a new) (eqb_tells b new) same;
-}
-  where
-    at : (a b : ℕ) → ((a == new) ≡ true) × (a ≡ new) ⊎ ((a == new) ≡ false) × (a ≡ new → ⊥) → ((b == new) ≡ true) × (b ≡ new) ⊎ ((b == new) ≡ false) × (b ≡ new → ⊥)
-        → named ((new, real) ∷ names) a ≡ named ((new, real) ∷ names) b → (named ((new, real) ∷ names) a ≡ 0) ⊎ (a ≡ b)
-    at a b (inl x) (inl y) same = inr (x.1 ∙ sym y.1)
-    at a b (inl x) (inr y) same =
-        let one : named ((new, real) ∷ names) a ≡ real = ap (named ((new, real) ∷ names)) x.1 ∙ own_named names new real in
-        let two : named ((new, real) ∷ names) b ≡ named names b = other_named names new real b y.1 in
-        let low = given b in
-        absurd (omega (arith, one, two, same, low, next))
-    at a b (inr x) (inl y) same =
-        let one : named ((new, real) ∷ names) b ≡ real = ap (named ((new, real) ∷ names)) y.1 ∙ own_named names new real in
-        let two : named ((new, real) ∷ names) a ≡ named names a = other_named names new real a x.1 in
-        let low = given a in
-        absurd (omega (arith, one, two, same, low, next))
-    at a b (inr x) (inr y) same =
-        let one : named ((new, real) ∷ names) a ≡ named names a = other_named names new real a x.1 in
-        let two : named ((new, real) ∷ names) b ≡ named names b = other_named names new real b y.1 in
-        elim (are.apart a b (sym one ∙ same ∙ two)) [
-          | inl none ↦ inl (one ∙ none)
-          | inr is ↦ inr is
-        ]
 
 module _ (i : Declared) (names : List (ℕ × ℕ)) (o held o' held' : Object) (call : Call) (good other_good : Good) (holds : HoldsPart i names o held) (sound : IsSound i.facts o)
     (words : other_good.words ≡ good.words) (next_o : good.desc ≡ o.given + 1) (next_h : other_good.desc ≡ held.given + 1)
