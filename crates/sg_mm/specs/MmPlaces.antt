@@ -131,7 +131,7 @@ own_more (r ∷ rows) new free own = elim (cases_Bool (is_at (space_of new) (add
     turn a b c d is = grind (arith, nat_tests, is)
 
 -- no row passes a test among those that are left
-none_left : (test keep : Row → Bool) (rows : List Row) → list_any test rows ≡ false → list_any test (filter keep rows) ≡ false
+pub none_left : (test keep : Row → Bool) (rows : List Row) → list_any test rows ≡ false → list_any test (filter keep rows) ≡ false
 none_left test keep [] none = refl
 none_left test keep (r ∷ rows) none = elim (cases_Bool (test r)) [
   | inl is ↦ let clash : true ≡ false = sym (ap (λ b. b || list_any test rows) is) ∙ none in absurd (cc clash)

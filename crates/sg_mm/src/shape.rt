@@ -5,6 +5,15 @@ ghost use Rattle.sg_mm.specs.MmFacts.{mm_facts};
 
 use sg_facts::{Effect, FieldShape, FunShape, Kind, Leaves, Parents, Shape};
 
+/// `mman_get_page`: makes a page of the caller's space at an address.
+pub(crate) const GET: u8 = 1;
+
+/// `mman_alias_page`: makes a page below another, in a space at an address.
+pub(crate) const ALIAS: u8 = 2;
+
+/// `mman_release_page`: ends it with all below it.
+pub(crate) const RELEASE: u8 = 3;
+
 static FIELDS: [FieldShape; 2] = [
     FieldShape {
         name: b"space",
@@ -47,7 +56,7 @@ static FUNS: [FunShape; 4] = [
     },
 ];
 
-static MOVES: [(u8, u8); 2] = [(1, 3), (2, 3)];
+static MOVES: [(u8, u8); 2] = [(GET, RELEASE), (ALIAS, RELEASE)];
 
 /// The shape of the memory-mapping service.
 pub fn mm_shape() -> Shape

@@ -1,0 +1,38 @@
+// The index of the pages by their places.
+ghost use Rattle.std.specs.Prelude.{◌≡◌, ℕ, not, OnOk, OnErr};
+ghost use Rattle.std.proofs.lemmas.Map.Entries.{option_filter};
+ghost use Rattle.sg_mm.specs.MmIndex.{id_in, has_id, Gains, Keeps, Loses};
+
+use crate::Place;
+use sg_base::NoMemory;
+use std::collections::{BTreeMap, BTreeSet};
+
+/// The id of the page in a place; None where there is none.
+pub(crate) fn id_in(places: &BTreeMap<Place, u64>, place: Place) -> Option<u64>
+    ensures { result ≡ id_in places.now place }
+{
+    places.get(&place).copied()
+}
+
+/// Puts an id in a place. After `NoMemory` the places are as before.
+pub(crate) fn put(places: &mut BTreeMap<Place, u64>, place: Place, id: u64) -> Result<(), NoMemory>
+    ensures ok { OnOk result (Gains places.old places.new place id) }
+    ensures err { OnErr result (Keeps places.old places.new) }
+{
+    places.insert(place, id)?;
+    Ok(())
+}
+
+/// Frees a place. It takes no memory.
+pub(crate) fn free(places: &mut BTreeMap<Place, u64>, place: Place)
+    ensures { Loses places.old places.new place }
+{
+    places.remove(&place);
+}
+
+/// Frees the places of the ids that end. It takes no memory.
+pub(crate) fn free_all(places: &mut BTreeMap<Place, u64>, ends: &BTreeSet<u64>)
+    ensures { (place : Place) → id_in places.new place ≡ option_filter (λ id. not (has_id ends.now id)) (id_in places.old place) }
+{
+    places.retain(|_, id| !ends.contains(&*id));
+}
