@@ -1,10 +1,16 @@
 pub mod RamfsAlikeLaw
 pub mod RamfsBlockedLaw
+pub mod RamfsDecision
 pub mod RamfsFacts
+pub mod RamfsFiles
+pub mod RamfsObject
 pub mod RamfsPaths
+pub mod RamfsPlans
 pub mod RamfsReplies
+pub mod RamfsRow
 pub mod RamfsShapeLaw
 pub mod RamfsSound
 pub mod RamfsSoundLaw
 pub mod RamfsTable
+pub mod RamfsTree
 pub mod RamfsWalkLaw

@@ -1,5 +1,5 @@
 -- The path of a row, by that of its parent; and rows that stand for each other, which have one path.
-use Rattle.std.proofs.Common.{◌≡◌, ℕ, zero, suc, ◌<◌, ◌≤◌, Bool, true, false, cond, List, [], ◌∷◌, ◌++◌, None, Some, append-nil, map, filter, refl, sym, ◌∙◌, ap, subst, inl, inr, arith}
+use Rattle.std.proofs.Common.{◌≡◌, ℕ, zero, suc, ◌<◌, ◌≤◌, Bool, true, false, cond, List, [], ◌∷◌, ◌++◌, None, Some, append-nil, map, filter, refl, sym, ◌∙◌, ap, inl, inr, arith}
 use Rattle.std.specs.Prelude.{◌==◌, ◌-◌, reverse}
 use Rattle.std.specs.List.{flat_map}
 use Rattle.std.specs.declared.option.Option.{Option}
@@ -8,9 +8,9 @@ use Rattle.std.proofs.lemmas.Grind.{flat_map-append, reverse_onto}
 use Rattle.sg_facts.specs.declared.row.Row.{Row}
 use Rattle.sg_facts.specs.Object.{first_text, path_of, step_to}
 use Rattle.sg_facts.specs.Sound.{AreRows}
-use Rattle.sg_facts.specs.Track.{has_child, is_live, nearest, parent_in, row_at}
-use Rattle.sg_facts.proofs.RowLists.{id_of_row, none_pass, row_at-left, row_of_live}
-use Rattle.sg_walk_laws.proofs.Found.{above, last_found, met, other_test, same_test, to_map}
+use Rattle.sg_facts.specs.Track.{has_child, nearest, parent_in, row_at}
+use Rattle.sg_facts.proofs.RowLists.{id_of_row, none_pass, row_at-left}
+use Rattle.sg_walk_laws.proofs.Found.{above, from_map, last_found, met, other_test, same_test, to_map}
 
 -- the path of an id over so many of its ancestors
 abbrev pub path_over : List Row → ℕ → ℕ → List ℕ
@@ -139,29 +139,54 @@ module _ (high : ℕ) (rows : List Row) (new : Row) (are : AreRows IsBelow 0 hig
       ∙ ap (λ x. cond (parent_in x == 0) [] (path_over all (new.id - 1) (parent_in x)) ++ step_to x) there
       ∙ ap (λ x. x ++ 47 ∷ first_text new.fields) above
 
--- rows are changed under their ids, and those that are there keep their parents and names
-pub path_changed : (high : ℕ) (rows : List Row) (change : Row → Row) → AreRows IsBelow 0 high rows → ((r : Row) → (change r).id ≡ r.id) → ((r : Row) → (change r).parent ≡ r.parent)
-    → ((r : Row) → row_at rows r.id ≡ Some r → first_text (change r).fields ≡ first_text r.fields) → ((id : ℕ) (r : Row) → row_at rows id ≡ Some r → 0 < r.parent → is_live rows r.parent ≡ true)
-    → (id : ℕ) (r : Row) → row_at rows id ≡ Some r → path_of (map change rows) id ≡ path_of rows id
-path_changed high rows change are same same_parent same_name live id r there =
-    path_stays high rows (map change rows) are IsThere (λ i is. above_0 i is)
-    (λ i is. ap step_to (to_map change same rows i is.0 is.1) ∙ ap (λ name. 47 ∷ name) (same_name is.0 (found i is)) ∙ sym (ap step_to is.1))
-    (λ i is. ap parent_in (to_map change same rows i is.0 is.1) ∙ same_parent is.0 ∙ sym (ap parent_in is.1))
-    parent_there id id id (r, there) (omega arith) (omega arith)
+-- the path of a row is its parent's, a slash and its name
+pub path_below : (high id : ℕ) (rows : List Row) (r : Row) → AreRows IsBelow 0 high rows → row_at rows id ≡ Some r → path_of rows id ≡ path_of rows r.parent ++ 47 ∷ first_text r.fields
+path_below high id rows r are there =
+    let its : r.id ≡ id = id_of_row rows id r there in
+    let low : 0 < r.id = above IsBelow 0 high id rows r are there in
+    let less : r.parent < r.id = met IsBelow 0 high id rows r are there in
+    let fuel : id ≡ suc (id - 1) = omega (arith, its, low) in
+    ap (λ k. path_over rows k id) fuel ∙ path_up rows (id - 1) id
+    ∙ ap (λ x. cond (parent_in x == 0) [] (path_over rows (id - 1) (parent_in x)) ++ step_to x) there
+    ∙ ap (λ x. x ++ 47 ∷ first_text r.fields) (parent_path (omega (arith, its, less, low)))
   where
-    IsThere : ℕ → Type 0
-    IsThere i = (x : Row) × (row_at rows i ≡ Some x)
+    parent_path : r.parent ≤ id - 1 → cond (r.parent == 0) [] (path_over rows (id - 1) r.parent) ≡ path_of rows r.parent
+    parent_path few = elim (eqb_tells r.parent 0) [
+      | inl root ↦ ap (λ b. cond b [] (path_over rows (id - 1) r.parent)) root.0 ∙ sym (ap (path_of rows) root.1 ∙ no_path IsBelow high rows are)
+      | inr some ↦
+          let isn't = some.1 in
+          ap (λ b. cond b [] (path_over rows (id - 1) r.parent)) some.0
+          ∙ path_stays high rows rows are (λ i. 0 < i) (λ i low. low) (λ i low. refl) (λ i low. refl) (λ i low has. has) r.parent (id - 1) r.parent (omega (arith, isn't)) (omega arith) few
+    ]
 
-    found : (i : ℕ) (is : IsThere i) → row_at rows is.0.id ≡ Some is.0
-    found i is = ap (row_at rows) (id_of_row rows i is.0 is.1) ∙ is.1
+-- an id without a row has no path
+pub path_of_none : (high id : ℕ) (rows : List Row) → row_at rows id ≡ None → path_of rows id ≡ []
+path_of_none high zero rows none = ap (λ x. step_to x ++ []) none
+path_of_none high (suc n) rows none = path_up rows n (suc n) ∙ ap (λ x. cond (parent_in x == 0) [] (path_over rows n (parent_in x)) ++ step_to x) none
 
-    above_0 : (i : ℕ) → IsThere i → 0 < i
-    above_0 i is = let its = id_of_row rows i is.0 is.1 in let low = above IsBelow 0 high i rows is.0 are is.1 in omega (arith, its, low)
+-- rows are changed under their ids, and keep their parents and names
+pub path_changed : (high : ℕ) (rows : List Row) (change : Row → Row) → AreRows IsBelow 0 high rows → ((r : Row) → (change r).id ≡ r.id) → ((r : Row) → row_at rows r.id ≡ Some r → (change r).parent ≡ r.parent)
+    → ((r : Row) → row_at rows r.id ≡ Some r → first_text (change r).fields ≡ first_text r.fields) → (id : ℕ) → 0 < id → path_of (map change rows) id ≡ path_of rows id
+path_changed high rows change are same same_parent same_name id low =
+    path_stays high rows (map change rows) are (λ i. 0 < i) (λ i above_0. above_0) (λ i above_0. same_step i (row_at rows i) refl) (λ i above_0. parent_stays i (row_at rows i) refl) (λ i above_0 has. has) id id id low (omega arith) (omega arith)
+  where
+    none_too : (i : ℕ) → row_at rows i ≡ None → row_at (map change rows) i ≡ None
+    none_too i none = at (row_at (map change rows) i) refl
+      where
+        at : (found : Option Row) → row_at (map change rows) i ≡ found → row_at (map change rows) i ≡ None
+        at None is = is
+        at (Some new) is = let was = from_map change same rows i new is in let both : None ≡ Some was.row = sym none ∙ was.there in absurd (cc both)
 
-    parent_there : (i : ℕ) → IsThere i → 0 < parent_in (row_at rows i) → IsThere (parent_in (row_at rows i))
-    parent_there i is has =
-        let up = row_of_live rows is.0.parent (live i is.0 is.1 (subst (λ x. 0 < parent_in x) is.1 has)) in
-        (up.0, ap (λ x. row_at rows (parent_in x)) is.1 ∙ up.1)
+    found : (i : ℕ) (r : Row) → row_at rows i ≡ Some r → row_at rows r.id ≡ Some r
+    found i r is = ap (row_at rows) (id_of_row rows i r is) ∙ is
+
+    same_step : (i : ℕ) (there : Option Row) → row_at rows i ≡ there → step_to (row_at (map change rows) i) ≡ step_to (row_at rows i)
+    same_step i None is = ap step_to (none_too i is) ∙ sym (ap step_to is)
+    same_step i (Some r) is = ap step_to (to_map change same rows i r is) ∙ ap (λ name. 47 ∷ name) (same_name r (found i r is)) ∙ sym (ap step_to is)
+
+    parent_stays : (i : ℕ) (there : Option Row) → row_at rows i ≡ there → parent_in (row_at (map change rows) i) ≡ parent_in (row_at rows i)
+    parent_stays i None is = ap parent_in (none_too i is) ∙ sym (ap parent_in is)
+    parent_stays i (Some r) is = ap parent_in (to_map change same rows i r is) ∙ same_parent r (found i r is) ∙ sym (ap parent_in is)
 
 -- a row that is nobody's parent goes
 pub path_left : (high : ℕ) (rows : List Row) (gone : ℕ) (test : ℕ → Bool) → AreRows IsBelow 0 high rows → has_child rows gone ≡ false → ((id : ℕ) → (id == gone) ≡ false → test id ≡ true)

@@ -271,8 +271,8 @@ module _ (o : Object) (client seq desc : ℕ) (args : List Value) where
 
     same_path : (r : Row) → IsThere r → path_of set_rows r.id ≡ path_of o.rows r.id
     same_path r found =
-        path_changed o.given o.rows one (rows_below o.rows o.given sound.general.rows) (change_id ramfs_facts (call_of fun) good) same_parent same_name
-        (λ id x there has. parent_lives o.rows x (met (IsRow ramfs_facts o.rows) 0 o.given id o.rows x sound.general.rows there) has) r.id r found
+        path_changed o.given o.rows one (rows_below o.rows o.given sound.general.rows) (change_id ramfs_facts (call_of fun) good) (λ x there. same_parent x) same_name r.id
+        (above (IsPlaced o.rows) 0 o.given r.id o.rows r sound.placed found)
 
     still_placed : (r : Row) → IsThere r → IsPlaced set_rows (one r)
     still_placed r found = at (r.id == desc) (told r found) (same_name r found)

@@ -1,10 +1,22 @@
 //! Files in memory: each descriptor has a name, a path and a place in the file of its path.
 //!
-//! The facts of the service and its table are in `specs/`. The service itself is still to come.
-//!
 //! - `shape`: the facts of the service, those of its standard interface (`ramfs_shape`)
+//! - `open_file`: one descriptor (`OpenFile`)
+//! - `tree`: the descriptors by service id, and their paths
+//! - `path`, `files`: the files by path
+//! - `plan`, `moves`: what to do with a call, and how it is done part by part
+//! - `service`: the service (`RamfsService`)
 #![tactic(auto)]
 
+mod files;
+mod moves;
+mod open_file;
+mod path;
+mod plan;
+mod service;
 mod shape;
+mod tree;
 
+pub use open_file::OpenFile;
+pub use service::RamfsService;
 pub use shape::ramfs_shape;

@@ -5,6 +5,21 @@ ghost use Rattle.sg_ramfs.specs.RamfsFacts.{ramfs_facts};
 
 use sg_facts::{Effect, FieldShape, FunShape, Kind, Leaves, Parents, Shape};
 
+/// `tsplit`: makes a descriptor.
+pub(crate) const SPLIT: u8 = 1;
+
+/// `tread`: reads from its file.
+pub(crate) const READ: u8 = 2;
+
+/// `twrite`: writes into its file.
+pub(crate) const WRITE: u8 = 3;
+
+/// `tseek`: sets its place.
+pub(crate) const SEEK: u8 = 4;
+
+/// `trelease`: ends it.
+pub(crate) const RELEASE: u8 = 5;
+
 static FIELDS: [FieldShape; 2] = [
     FieldShape {
         name: b"name",
@@ -54,9 +69,14 @@ static FUNS: [FunShape; 5] = [
     },
 ];
 
-static MOVES: [(u8, u8); 4] = [(1, 2), (1, 3), (1, 4), (1, 5)];
+static MOVES: [(u8, u8); 4] = [
+    (SPLIT, READ),
+    (SPLIT, WRITE),
+    (SPLIT, SEEK),
+    (SPLIT, RELEASE),
+];
 
-static STEPS: [(u8, u8); 1] = [(1, 4)];
+static STEPS: [(u8, u8); 1] = [(SPLIT, SEEK)];
 
 /// The shape of the file service.
 pub fn ramfs_shape() -> Shape

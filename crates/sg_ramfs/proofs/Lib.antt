@@ -1,0 +1,6 @@
+pub mod Asking
+pub mod Indexing
+pub mod Right
+pub mod RightWrites
+pub mod Trees
+pub mod Writing
