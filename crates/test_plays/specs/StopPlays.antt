@@ -16,6 +16,14 @@ use Rattle.test_recovery.specs.Written.{bare_call, boot, call_with, called, repl
 abbrev pub stop_after_take_script : Script
 stop_after_take_script = record four_lock_calls { stops = 9 ∷ [] }
 
+-- it stops before the take is committed
+abbrev pub stop_before_storage_script : Script
+stop_before_storage_script = record four_lock_calls { stops = 8 ∷ [] }
+
+-- it stops again while the lock is rebuilt
+abbrev pub stop_in_walk_script : Script
+stop_in_walk_script = record four_lock_calls { stops = 9 ∷ 15 ∷ [] }
+
 -- the lock is freed and taken in the other order
 abbrev pub calls_exchanged : List Entry
 calls_exchanged =

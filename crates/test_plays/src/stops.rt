@@ -9,9 +9,9 @@ ghost use Rattle.sg_plain.specs.Calls.{AreEnds};
 ghost use Rattle.sg_plain.specs.Plain.{IsPlainPlay};
 ghost use Rattle.sg_plain.specs.Promises.{AreScriptsCalls, AreScriptsStops, AreWoken, FollowsPlain, GetsPlainAlone, somebody_waits};
 ghost use Rattle.test_plays.specs.LockPlays.{four_lock_calls};
-ghost use Rattle.test_plays.specs.StopPlays.{asked_in_vain, blocked_redone_script, call_left_out, calls_exchanged, stop_after_take_script, taken_by_another, taken_by_another_history, taken_by_another_script, trigger_not_twice_script};
+ghost use Rattle.test_plays.specs.StopPlays.{asked_in_vain, blocked_redone_script, call_left_out, calls_exchanged, stop_after_take_script, stop_before_storage_script, stop_in_walk_script, taken_by_another, taken_by_another_history, taken_by_another_script, trigger_not_twice_script};
 ghost use Rattle.test_recovery.specs.EventRuns.{blocked_redone, blocked_redone_ends, blocked_redone_history, trigger_not_twice, trigger_not_twice_ends, trigger_not_twice_history};
-ghost use Rattle.test_recovery.specs.LockRuns.{boot_without_a_stop, stop_after_take, stop_after_take_ends, stop_after_take_history};
+ghost use Rattle.test_recovery.specs.LockRuns.{boot_without_a_stop, stop_after_take, stop_after_take_ends, stop_after_take_history, stop_before_storage, stop_before_storage_history, stop_in_walk, stop_in_walk_history};
 
 /// One client's four calls, with a stop behind the second: it gets the play without stops.
 pub fn stop_after_take()
@@ -23,6 +23,22 @@ pub fn stop_after_take()
     ensures follows { FollowsPlain lock_facts stop_after_take stop_after_take_history stop_after_take_history }
     ensures alone { GetsPlainAlone stop_after_take_script stop_after_take_history stop_after_take_history }
     ensures woken { AreWoken lock_facts stop_after_take_history stop_after_take }
+{}
+
+/// The same calls, with a stop before the take is committed.
+pub fn stop_before_storage()
+    ensures calls { AreScriptsCalls lock_facts stop_before_storage_script stop_before_storage_history }
+    ensures stops { AreScriptsStops stop_before_storage_script stop_before_storage }
+    ensures plain { IsPlainPlay (whole lock_facts) lock_table stop_before_storage_script stop_before_storage_history }
+    ensures alone { GetsPlainAlone stop_before_storage_script stop_before_storage_history stop_before_storage_history }
+{}
+
+/// The same calls, with two stops.
+pub fn stop_in_walk()
+    ensures calls { AreScriptsCalls lock_facts stop_in_walk_script stop_in_walk_history }
+    ensures stops { AreScriptsStops stop_in_walk_script stop_in_walk }
+    ensures plain { IsPlainPlay (whole lock_facts) lock_table stop_in_walk_script stop_in_walk_history }
+    ensures alone { GetsPlainAlone stop_in_walk_script stop_in_walk_history stop_in_walk_history }
 {}
 
 /// Two clients, one of which waits at the end.
@@ -65,7 +81,8 @@ pub fn wrong_plays()
     ensures no_such_stop { AreScriptsStops four_lock_calls stop_after_take → ⊥ }
     ensures not_stopped { AreScriptsStops stop_after_take_script boot_without_a_stop → ⊥ }
     ensures not_done { AreEnds (whole lock_facts) lock_table call_left_out four_lock_calls stop_after_take_ends → ⊥ }
-    ensures no_plain { FollowsPlain lock_facts stop_after_take call_left_out stop_after_take_history → ⊥ }
+    ensures no_plain { FollowsPlain lock_facts boot_without_a_stop call_left_out stop_after_take_history → ⊥ }
+    ensures other_first_boot { FollowsPlain lock_facts stop_after_take stop_after_take_history [] → ⊥ }
     ensures not_alone { GetsPlainAlone stop_after_take_script call_left_out stop_after_take_history → ⊥ }
     ensures not_woken { AreWoken event_facts taken_by_another_history asked_in_vain → ⊥ }
 {}

@@ -11,7 +11,8 @@ returns c = record {
   no_such_stop = λ r. let e : 1 ≡ 0 = ap length r in omega (arith, e);
   not_stopped = λ r. let e : 0 ≡ 1 = ap length r in omega (arith, e);
   not_done = λ r. let e : 3 ≡ 4 = r.each.0 in omega (arith, e);
-  no_plain = λ r. absurd (cc r.first_boot);
+  no_plain = λ r. let e : 3 ≡ 4 = ap length (r.whole refl) in omega (arith, e);
+  other_first_boot = λ r. let e : 2 ≡ 0 = ap length r.first_boot in omega (arith, e);
   not_alone = λ r. let e : 3 ≡ 4 = ap length (r refl) in omega (arith, e);
   not_woken = λ r. false_true r.1.0;
 }
