@@ -1,5 +1,5 @@
-//! What services and what speaks of them stand on, tried from outside: facts, rows, walks, slots, locks, events, threads and
-//! histories.
+//! What services and what speaks of them stand on, tried from outside: facts, rows, walks, slots, locks, events, threads, cells
+//! and histories.
 //!
 //! - `once`: a service that stops at one point (`Once`)
 //! - `asking`: calls on services (`ask`)
@@ -10,11 +10,14 @@
 //! - `locks`: one lock, and stops at each part
 //! - `events`: one event, at each call and count where the answer turns
 //! - `threads`: tables of calls on threads with their answers, and stops at each part
+//! - `cells`: a service that is booted after a stop, and stops within a call and behind its reply
 //! - `histories`: entries, ends, and as many entries as a script has calls
 #![tactic(auto)]
 
 #[cfg(test)]
 mod asking;
+#[cfg(test)]
+mod cells;
 #[cfg(test)]
 mod events;
 #[cfg(test)]
