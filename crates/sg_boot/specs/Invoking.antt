@@ -60,7 +60,7 @@ pub record MayInvoke (facts : Facts) (c : Celled) (tag : Tag) (shown call : Call
 
 -- the service answered as its table says, with the patch that belongs to the reply; each part of an Ok was asked, and the point
 -- behind the reply
-pub record Answers (facts : Facts) (ask : Table) (parts : ℕ → ℕ) (old : Object) (call : Call) (points : Points) (reply : Reply) (patch : Option Patch) (later : Points) : Type 0 where
+pub record AnswersCall (facts : Facts) (ask : Table) (parts : ℕ → ℕ) (old : Object) (call : Call) (points : Points) (reply : Reply) (patch : Option Patch) (later : Points) : Type 0 where
   pub answered : ask old call ≡ Some reply
   pub written : patch ≡ patch_of facts old call reply
   pub asked : later.asked ≡ asked_after (asked_after points.asked (parts_of parts call reply)) 1
@@ -77,7 +77,7 @@ pub record Stops (ask : Table) (parts : ℕ → ℕ) (old : Object) (call : Call
 
 -- the service replied and goes on behind the call, whose item is noted with the points asked
 pub record NotesReply (facts : Facts) (ask : Table) (parts : ℕ → ℕ) (held : Object) (old : Celled) (tag : Tag) (shown call : Call) (points : Points) (reply : Reply) (patch : Option Patch) (new : Celled) (later : Points) : Type 0 where
-  pub answers : Answers facts ask parts held call points reply patch later
+  pub answers : AnswersCall facts ask parts held call points reply patch later
   pub running : new.running ≡ Some (after facts held call reply)
   pub run : new.run ≡ with_item old.run (item_of_call tag shown call.desc later.asked (Replied reply patch)) later.asked
 

@@ -21,12 +21,12 @@ use Rattle.sg_slots.proofs.Deciding.{with_fun}
 use Rattle.sg_slots.proofs.Rows.{is_live-rows_of}
 use Rattle.sg_walk_laws.proofs.Found.{within}
 use Rattle.sg_ramfs.specs.declared.open_file.OpenFile.{OpenFile}
-use Rattle.sg_ramfs.specs.RamfsDecision.{on_split, on_read, on_seek, on_write, CarriesBytes, Writes}
+use Rattle.sg_ramfs.specs.RamfsDecision.{on_open, on_read, on_seek, on_write, CarriesBytes, WritesFile}
 use Rattle.sg_ramfs.specs.RamfsFacts.{ramfs_facts}
 use Rattle.sg_ramfs.specs.RamfsObject.{Served, object_with, ramfs_object}
 use Rattle.sg_ramfs.specs.RamfsRow.{file_body}
 use Rattle.sg_ramfs.specs.RamfsTable.{is_bad_name, ramfs_parts, ramfs_table}
-use Rattle.sg_ramfs.specs.RamfsTree.{Fits, IsNested, IsTree, tree_rows}
+use Rattle.sg_ramfs.specs.RamfsTree.{FitsTree, IsNested, IsTree, tree_rows}
 use Rattle.sg_ramfs.proofs.Right.{Does, carried_out, plainly, read_right, release_right, seek_right, split_right}
 use Rattle.sg_ramfs.proofs.RightWrites.{write_does}
 
@@ -43,14 +43,14 @@ parent_given held id tree may = at (is_live (tree_rows held) id) (id == 0) refl 
     at false false is root_is may = absurd (cc may)
 
 -- so a new descriptor can be made below it
-pub split_fits : (held : Held OpenFile) (call : Call) → call.desc ≤ held.given → Fits held call.desc (on_split held call)
+pub split_fits : (held : Held OpenFile) (call : Call) → call.desc ≤ held.given → FitsTree held call.desc (on_open held call)
 split_fits held call given = at (is_bad_name name) (nat_lt most_path (length (path_of (tree_rows held) call.desc ++ 47 ∷ name))) refl
   where
     name : List ℕ
     name = first_text call.args
 
     at : (bad long : Bool) → nat_lt most_path (length (path_of (tree_rows held) call.desc ++ 47 ∷ name)) ≡ long
-        → Fits held call.desc (cond bad (Refuse BadName) (cond long (Refuse TooBig) (Make (record { creator = call.client; parent = call.desc; name = first_text call.args; place = 0 }) None)))
+        → FitsTree held call.desc (cond bad (Refuse BadName) (cond long (Refuse TooBig) (Make (record { creator = call.client; parent = call.desc; name = first_text call.args; place = 0 }) None)))
     at true long is = tt
     at false true is = tt
     at false false is = (given, grind (arith, nat_tests, is))
@@ -95,11 +95,11 @@ module _ (held : Held OpenFile) (files : List (List ℕ × List ℕ)) (call : Ca
     may_too = subst (λ n. MayAsk ramfs_facts (object_with held files) (with_fun call n)) is may
 
   module _ (points : Points) (outcome : Outcome) (new : Held OpenFile) (later : Points) where
-    split_does : call.fun ≡ 1 → Carries held call.desc (on_split held call) points outcome new later → Does held files call points outcome new files later
+    split_does : call.fun ≡ 1 → Carries held call.desc (on_open held call) points outcome new later → Does held files call points outcome new files later
     split_does is carried =
         let right = split_right held files call.client call.seq call.desc call.args (may_too 1 is points outcome new files later).is_call.fits.args in
-        by_fun 1 is points outcome new files later (carried_out held files (with_fun call 1) (on_split held (with_fun call 1)) [] right points outcome new later
-        (plainly held files (with_fun call 1) (on_split held (with_fun call 1)) points outcome new later carried))
+        by_fun 1 is points outcome new files later (carried_out held files (with_fun call 1) (on_open held (with_fun call 1)) [] right points outcome new later
+        (plainly held files (with_fun call 1) (on_open held (with_fun call 1)) points outcome new later carried))
 
     module _ (tree : IsTree held) where
       -- the open file of a descriptor
@@ -133,7 +133,7 @@ module _ (held : Held OpenFile) (files : List (List ℕ × List ℕ)) (call : Ca
 
       writes_do : (files' : List (List ℕ × List ℕ)) → call.fun ≡ 3 → IsSome (entry_at held.entries call.desc) → length (first_text call.args) ≤ 256
           → ((f : OpenFile) → entry_at held.entries call.desc ≡ Some f
-          → Writes held files call.desc (on_write f (path_of (tree_rows held) call.desc) (file_at files (path_of (tree_rows held) call.desc)) (first_text call.args)) points outcome new files' later)
+          → WritesFile held files call.desc (on_write f (path_of (tree_rows held) call.desc) (file_at files (path_of (tree_rows held) call.desc)) (first_text call.args)) points outcome new files' later)
           → Does held files call points outcome new files' later
       writes_do files' is some few written =
           let f = found some in
@@ -164,17 +164,17 @@ module _ (held : Held OpenFile) (files : List (List ℕ × List ℕ)) (s : Serve
     seen : (files' : List (List ℕ × List ℕ)) → Does held files call points outcome new files' later → Serves files'
     seen files' does = subst (λ x. Invokes ramfs_facts ramfs_table ramfs_parts (ramfs_object x) call points outcome (object_with new files') later × FitsRoom (ramfs_object x) outcome) view does
 
-    pub split_serves : call.fun ≡ 1 → Carries held call.desc (on_split held call) points outcome new later → Serves files
+    pub split_serves : call.fun ≡ 1 → Carries held call.desc (on_open held call) points outcome new later → Serves files
     split_serves is carried = seen files (split_does held files call may_ask points outcome new later is carried)
 
     pub read_serves : IsTree held → call.fun ≡ 2
         → ((f : OpenFile) → entry_at held.entries call.desc ≡ Some f → CarriesBytes held call.desc (on_read f (file_at files (path_of (tree_rows held) call.desc)) (word_of (arg_at call 0))).decision
-            (on_read f (file_at files (path_of (tree_rows held) call.desc)) (word_of (arg_at call 0))).bytes points outcome new later) → Serves files
+        (on_read f (file_at files (path_of (tree_rows held) call.desc)) (word_of (arg_at call 0))).bytes points outcome new later) → Serves files
     read_serves tree is carried = seen files (read_does held files call may_ask points outcome new later tree is (there 2 is refl) carried)
 
     pub write_serves : (files' : List (List ℕ × List ℕ)) → IsTree held → call.fun ≡ 3 → length (first_text call.args) ≤ 256
         → ((f : OpenFile) → entry_at held.entries call.desc ≡ Some f
-            → Writes held files call.desc (on_write f (path_of (tree_rows held) call.desc) (file_at files (path_of (tree_rows held) call.desc)) (first_text call.args)) points outcome new files' later) → Serves files'
+        → WritesFile held files call.desc (on_write f (path_of (tree_rows held) call.desc) (file_at files (path_of (tree_rows held) call.desc)) (first_text call.args)) points outcome new files' later) → Serves files'
     write_serves files' tree is few written = seen files' (writes_do held files call may_ask points outcome new later tree files' is (there 3 is refl) few written)
 
     pub seek_serves : IsTree held → call.fun ≡ 4

@@ -11,7 +11,7 @@ use Rattle.std.specs.Ordering.{nat_cmp}
 use Rattle.sg_facts.specs.Object.{file_at, set_file}
 use Rattle.sg_walk_laws.proofs.Files.{told}
 use Rattle.sg_ramfs.specs.declared.files.File.{File}
-use Rattle.sg_ramfs.specs.RamfsFiles.{IsIndexed, IsPrepared, index_at, place_at}
+use Rattle.sg_ramfs.specs.RamfsFiles.{AreFilesIndexed, IsPrepared, index_at, place_at}
 
 -- ---- places
 
@@ -148,11 +148,11 @@ pub updated : (old new : BTreeMap (List ℕ) ℕ) (path : List ℕ) (value : Opt
 updated old new path value updates other = updates.0 other ∙ ap (λ b. cond b value (index_at old other)) (found_by path other)
 
 -- the index of one file more is prepared
-pub prepared : (files : List (List ℕ × List ℕ)) (old new : BTreeMap (List ℕ) ℕ) (path : List ℕ) → IsIndexed files old → UpdatesBy (slice_cmp nat_cmp) (slice_cmp nat_cmp path) old new (Some (length files)) → IsPrepared files new path
+pub prepared : (files : List (List ℕ × List ℕ)) (old new : BTreeMap (List ℕ) ℕ) (path : List ℕ) → AreFilesIndexed files old → UpdatesBy (slice_cmp nat_cmp) (slice_cmp nat_cmp path) old new (Some (length files)) → IsPrepared files new path
 prepared files old new path indexed updates other = updated old new path (Some (length files)) updates other ∙ ap (λ x. cond (bytes_eq path other) (Some (length files)) x) (indexed other)
 
 -- and taken back
-pub cancelled : (files : List (List ℕ × List ℕ)) (old new : BTreeMap (List ℕ) ℕ) (path : List ℕ) → place_at files path ≡ None → IsPrepared files old path → UpdatesBy (slice_cmp nat_cmp) (slice_cmp nat_cmp path) old new None → IsIndexed files new
+pub cancelled : (files : List (List ℕ × List ℕ)) (old new : BTreeMap (List ℕ) ℕ) (path : List ℕ) → place_at files path ≡ None → IsPrepared files old path → UpdatesBy (slice_cmp nat_cmp) (slice_cmp nat_cmp path) old new None → AreFilesIndexed files new
 cancelled files old new path none was updates other = updated old new path None updates other ∙ ap (λ x. cond (bytes_eq path other) None x) (was other) ∙ at (told path other)
   where
     at : ((bytes_eq path other ≡ true) × (path ≡ other)) ⊎ ((bytes_eq path other ≡ false) × (path ≢ other))

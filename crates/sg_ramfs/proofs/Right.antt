@@ -30,7 +30,7 @@ use Rattle.sg_slots.specs.Slots.{Held, entry_at, row_with}
 use Rattle.sg_slots.proofs.Rows.{rows_of-more, rows_of-set, rows_of-without}
 use Rattle.sg_ramfs.specs.declared.open_file.OpenFile.{OpenFile}
 use Rattle.sg_ramfs.specs.declared.plan.ReadPlan.{ReadPlan}
-use Rattle.sg_ramfs.specs.RamfsDecision.{on_split, on_read, on_seek, with_bytes, CarriesBytes}
+use Rattle.sg_ramfs.specs.RamfsDecision.{on_open, on_read, on_seek, with_bytes, CarriesBytes}
 use Rattle.sg_ramfs.specs.RamfsFacts.{ramfs_facts, tread}
 use Rattle.sg_ramfs.specs.RamfsObject.{object_with}
 use Rattle.sg_ramfs.specs.RamfsRow.{file_body}
@@ -164,7 +164,7 @@ module _ (held : Held OpenFile) (files : List (List ℕ × List ℕ)) (client se
   none_release (Ok good) = refl
   none_release (Refused code) = refl
 
-  pub split_right : kinds_fit (fun_at ramfs_facts.funs 1).kinds args ≡ true → IsRight held files (call_of 1) (on_split held (call_of 1)) []
+  pub split_right : kinds_fit (fun_at ramfs_facts.funs 1).kinds args ≡ true → IsRight held files (call_of 1) (on_open held (call_of 1)) []
   split_right fit = at (is_bad_name name) (nat_lt most_path (length (path ++ 47 ∷ name))) refl refl
     where
       name : List ℕ

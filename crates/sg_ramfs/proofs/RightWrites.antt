@@ -22,7 +22,7 @@ use Rattle.sg_slots.specs.Carry.{IsSame}
 use Rattle.sg_slots.specs.Slots.{Held, entry_at}
 use Rattle.sg_ramfs.specs.declared.open_file.OpenFile.{OpenFile}
 use Rattle.sg_ramfs.specs.declared.plan.WritePlan.TheVariants.{Refuse as RefuseWrite}
-use Rattle.sg_ramfs.specs.RamfsDecision.{on_write, put_at, IsCutShort, IsMoved, Writes}
+use Rattle.sg_ramfs.specs.RamfsDecision.{on_write, put_at, IsCutShort, IsMoved, WritesFile}
 use Rattle.sg_ramfs.specs.RamfsFacts.{ramfs_facts, twrite}
 use Rattle.sg_ramfs.specs.RamfsObject.{object_with}
 use Rattle.sg_ramfs.specs.RamfsTable.{moved as moved_by, ramfs_table, write_answer}
@@ -51,7 +51,7 @@ module _ (held : Held OpenFile) (files : List (List ℕ × List ℕ)) (client se
   stays new files' later same files_same = (record { same = ap (λ h. object_with h files') same.same ∙ ap (object_with held) files_same; unasked = same.unasked }, tt)
 
   refused : (code : Code) → ramfs_table o call ≡ Some (Refused code) → (outcome : Outcome) (new : Held OpenFile) (files' : List (List ℕ × List ℕ)) (later : Points)
-      → Writes held files desc (RefuseWrite code) points outcome new files' later → DoesIt outcome new files' later
+      → WritesFile held files desc (RefuseWrite code) points outcome new files' later → DoesIt outcome new files' later
   refused code asked (Replied reply None) new files' later is =
       subst (λ r. DoesIt (Replied r None) new files' later) (sym is.0) (
         record {
@@ -111,7 +111,7 @@ module _ (held : Held OpenFile) (files : List (List ℕ × List ℕ)) (client se
         )
 
     -- a plan for these bytes is carried out
-    puts : (outcome : Outcome) (new : Held OpenFile) (files' : List (List ℕ × List ℕ)) (later : Points) → (some : List ℕ) → bytes ≡ some → Writes held files desc (put_at its_path f some) points outcome new files' later → DoesIt outcome new files' later
+    puts : (outcome : Outcome) (new : Held OpenFile) (files' : List (List ℕ × List ℕ)) (later : Points) → (some : List ℕ) → bytes ≡ some → WritesFile held files desc (put_at its_path f some) points outcome new files' later → DoesIt outcome new files' later
     puts (Replied reply None) new files' later [] is written =
         let moved = subst (λ b. IsMoved held desc (record f { place = f.place + length b }) (length b) points reply new later) (sym is) written.0 in
         done reply None new files' later moved (sym (ap (patch_at its_path f.place) is)) (written.1 ∙ sym (ap (λ b. patched files (patch_at its_path f.place b)) is)) tt
@@ -134,7 +134,7 @@ module _ (held : Held OpenFile) (files : List (List ℕ × List ℕ)) (client se
     puts NoMemory new files' later (b ∷ some) is written = stays new files' later written.0 written.1
 
   pub write_does : length (first_text args) ≤ 256 → (outcome : Outcome) (new : Held OpenFile) (files' : List (List ℕ × List ℕ)) (later : Points)
-      → Writes held files desc (on_write f its_path old (first_text args)) points outcome new files' later → DoesIt outcome new files' later
+      → WritesFile held files desc (on_write f its_path old (first_text args)) points outcome new files' later → DoesIt outcome new files' later
   write_does few outcome new files' later = at (nat_lt (length old) f.place) (nat_lt most_file (f.place + length bytes)) refl refl
     where
       bytes : List ℕ
@@ -148,7 +148,7 @@ module _ (held : Held OpenFile) (files : List (List ℕ × List ℕ)) (client se
           ∙ ap (λ b. cond behind (Some (Refused Gap)) (cond b (Some (Refused TooBig)) (moved_by (length bytes) []))) big_is
 
       at : (behind big : Bool) → nat_lt (length old) f.place ≡ behind → nat_lt most_file (f.place + length bytes) ≡ big
-          → Writes held files desc (cond behind (RefuseWrite Gap) (cond big (RefuseWrite TooBig) (put_at its_path f bytes))) points outcome new files' later → DoesIt outcome new files' later
+          → WritesFile held files desc (cond behind (RefuseWrite Gap) (cond big (RefuseWrite TooBig) (put_at its_path f bytes))) points outcome new files' later → DoesIt outcome new files' later
       at true big behind_is big_is written = refused Gap (answer true big behind_is big_is) outcome new files' later written
       at false true behind_is big_is written = refused TooBig (answer false true behind_is big_is) outcome new files' later written
       at false false behind_is big_is written =

@@ -25,7 +25,7 @@ use Rattle.sg_walk_laws.proofs.Found.{above, from_left, met, within}
 use Rattle.sg_ramfs.specs.declared.open_file.OpenFile.{OpenFile}
 use Rattle.sg_ramfs.specs.RamfsPaths.{IsBelow, path_below, path_changed, path_last, path_left, path_more, path_of_none}
 use Rattle.sg_ramfs.specs.RamfsRow.{file_body}
-use Rattle.sg_ramfs.specs.RamfsTree.{Fits, IsNested, IsTree, tree_rows}
+use Rattle.sg_ramfs.specs.RamfsTree.{FitsTree, IsNested, IsTree, tree_rows}
 
 -- the rows of a tree have parents of smaller ids
 pub tree_below : (held : Held OpenFile) → IsTree held → AreRows IsBelow 0 held.given (tree_rows held)
@@ -168,7 +168,7 @@ module _ (held : Held OpenFile) (tree : IsTree held) where
           still_nested rows rows' r (path_left held.given rows id test (tree_below held tree) childless (λ n apart. ap not apart) r.id (low_at r stayed.there) stayed.stays) (nested_at r stayed.there)
 
   -- so does any decision that fits leave a tree
-  pub tree_after : (id : ℕ) (d : Decision OpenFile) → IsAbout held id d → Fits held id d → IsTree (held_after held id d)
+  pub tree_after : (id : ℕ) (d : Decision OpenFile) → IsAbout held id d → FitsTree held id d → IsTree (held_after held id d)
   tree_after id (Refuse code) about fits = tree
   tree_after id Block about fits = tree
   tree_after id (Make f word) about fits = tree_more f fits.0 fits.1

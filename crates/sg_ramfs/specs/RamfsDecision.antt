@@ -27,8 +27,8 @@ use Rattle.sg_ramfs.specs.RamfsTree.{tree_rows}
 -- ---- decisions
 
 -- a descriptor is made below another, or as a root, at the start of its file
-abbrev pub on_split : Held OpenFile → Call → Decision OpenFile
-on_split held call =
+abbrev pub on_open : Held OpenFile → Call → Decision OpenFile
+on_open held call =
     let name = first_text call.args in
     if is_bad_name name then Refuse BadName
     else if nat_lt most_path (length (path_of (tree_rows held) call.desc ++ 47 ∷ name)) then Refuse TooBig
@@ -115,15 +115,15 @@ Puts old files id f p points Stopped new files' later = IsCutShort points later
 Puts old files id f p points NoMemory new files' later = IsSame old points new later × (files' ≡ files)
 
 -- a plan to write is carried out
-abbrev pub Writes : Held OpenFile → List (List ℕ × List ℕ) → ℕ → WritePlan → Points → Outcome → Held OpenFile → List (List ℕ × List ℕ) → Points → Type 0
-Writes old files id (RefuseWrite code) points (Replied reply None) new files' later = (reply ≡ Refused code) × IsSame old points new later × (files' ≡ files)
-Writes old files id (RefuseWrite code) points (Replied reply (Some patch)) new files' later = ⊥
-Writes old files id (RefuseWrite code) points Blocks new files' later = ⊥
-Writes old files id (RefuseWrite code) points Stopped new files' later = ⊥
-Writes old files id (RefuseWrite code) points NoMemory new files' later = IsSame old points new later × (files' ≡ files)
-Writes old files id (Move f) points (Replied reply None) new files' later = IsMoved old id f 0 points reply new later × (files' ≡ files)
-Writes old files id (Move f) points (Replied reply (Some patch)) new files' later = ⊥
-Writes old files id (Move f) points Blocks new files' later = ⊥
-Writes old files id (Move f) points Stopped new files' later = IsCutShort points later
-Writes old files id (Move f) points NoMemory new files' later = IsSame old points new later × (files' ≡ files)
-Writes old files id (Put f p) points outcome new files' later = Puts old files id f p points outcome new files' later
+abbrev pub WritesFile : Held OpenFile → List (List ℕ × List ℕ) → ℕ → WritePlan → Points → Outcome → Held OpenFile → List (List ℕ × List ℕ) → Points → Type 0
+WritesFile old files id (RefuseWrite code) points (Replied reply None) new files' later = (reply ≡ Refused code) × IsSame old points new later × (files' ≡ files)
+WritesFile old files id (RefuseWrite code) points (Replied reply (Some patch)) new files' later = ⊥
+WritesFile old files id (RefuseWrite code) points Blocks new files' later = ⊥
+WritesFile old files id (RefuseWrite code) points Stopped new files' later = ⊥
+WritesFile old files id (RefuseWrite code) points NoMemory new files' later = IsSame old points new later × (files' ≡ files)
+WritesFile old files id (Move f) points (Replied reply None) new files' later = IsMoved old id f 0 points reply new later × (files' ≡ files)
+WritesFile old files id (Move f) points (Replied reply (Some patch)) new files' later = ⊥
+WritesFile old files id (Move f) points Blocks new files' later = ⊥
+WritesFile old files id (Move f) points Stopped new files' later = IsCutShort points later
+WritesFile old files id (Move f) points NoMemory new files' later = IsSame old points new later × (files' ≡ files)
+WritesFile old files id (Put f p) points outcome new files' later = Puts old files id f p points outcome new files' later

@@ -22,8 +22,8 @@ abbrev pub index_at : BTreeMap (List ℕ) ℕ → List ℕ → Option ℕ
 index_at index path = get (slice_cmp nat_cmp) index path
 
 -- an index has the place of each file, and no other paths
-abbrev pub IsIndexed : List (List ℕ × List ℕ) → BTreeMap (List ℕ) ℕ → Type 0
-IsIndexed files index = (path : List ℕ) → index_at index path ≡ place_at files path
+abbrev pub AreFilesIndexed : List (List ℕ × List ℕ) → BTreeMap (List ℕ) ℕ → Type 0
+AreFilesIndexed files index = (path : List ℕ) → index_at index path ≡ place_at files path
 
 -- it has the place of one file more, which is to come last
 abbrev pub IsPrepared : List (List ℕ × List ℕ) → BTreeMap (List ℕ) ℕ → List ℕ → Type 0

@@ -27,8 +27,8 @@ pub record IsTree (held : Held OpenFile) : Type 0 where
 
 -- a decision on an id leaves a tree: a new open file stands below an id that was given or below none, and has a path that
 -- isn't too long; one that is set keeps its parent and its name; one that ends has nothing below it
-abbrev pub Fits : Held OpenFile → ℕ → Decision OpenFile → Type 0
-Fits held id (Make f word) = (f.parent ≤ held.given) × (length (path_of (tree_rows held) f.parent ++ 47 ∷ f.name) ≤ most_path)
-Fits held id (Set f word) = IfSome (entry_at held.entries id) (λ old. (f.parent ≡ old.parent) × (f.name ≡ old.name))
-Fits held id Remove = has_child (tree_rows held) id ≡ false
-Fits held id _ = Unit {0}
+abbrev pub FitsTree : Held OpenFile → ℕ → Decision OpenFile → Type 0
+FitsTree held id (Make f word) = (f.parent ≤ held.given) × (length (path_of (tree_rows held) f.parent ++ 47 ∷ f.name) ≤ most_path)
+FitsTree held id (Set f word) = IfSome (entry_at held.entries id) (λ old. (f.parent ≡ old.parent) × (f.name ≡ old.name))
+FitsTree held id Remove = has_child (tree_rows held) id ≡ false
+FitsTree held id _ = Unit {0}

@@ -1,7 +1,7 @@
 // The files, and an index of them by path.
 ghost use Rattle.std.specs.Prelude.{◌≡◌, ◌<◌, ◌≤◌, ◌+◌, [], None, length, take, drop, OnOk, OnErr, vec_len, vec_capacity};
 ghost use Rattle.sg_facts.specs.Object.{file_at, over, set_file};
-ghost use Rattle.sg_ramfs.specs.RamfsFiles.{files_of, place_at, IsIndexed, IsPrepared};
+ghost use Rattle.sg_ramfs.specs.RamfsFiles.{files_of, place_at, AreFilesIndexed, IsPrepared};
 
 use crate::path::FilePath;
 use sg_base::{NoMemory, TryCopy};
@@ -27,7 +27,7 @@ impl Files {
     /// No file. It takes no memory.
     pub(crate) fn new(alloc: Global) -> Files
         ensures files { files_of result ≡ [] }
-        ensures index { IsIndexed (files_of result) result.index }
+        ensures index { AreFilesIndexed (files_of result) result.index }
     {
         Files {
             list: Vec::new(alloc),
@@ -37,7 +37,7 @@ impl Files {
 
     /// The place of the file of a path in the list; None where no file has it.
     pub(crate) fn find(&self, path: &FilePath) -> Option<usize>
-        requires { IsIndexed (files_of self.now) self.now.index }
+        requires { AreFilesIndexed (files_of self.now) self.now.index }
         ensures { result ≡ place_at (files_of self.now) path.now }
     {
         self.index.get(path).copied()
@@ -45,7 +45,7 @@ impl Files {
 
     /// The bytes of the file of a path; none where no file has it.
     pub(crate) fn bytes_of(&self, path: &FilePath) -> &[u8]
-        requires { IsIndexed (files_of self.now) self.now.index }
+        requires { AreFilesIndexed (files_of self.now) self.now.index }
         ensures { result.now ≡ file_at (files_of self.now) path.now }
     {
         match self.find(path) {
@@ -56,11 +56,11 @@ impl Files {
 
     /// Takes the memory for one more file, of a path that no file has yet. After `NoMemory` the files are as before.
     pub(crate) fn prepare(&mut self, alloc: Global, path: &FilePath) -> Result<(), NoMemory>
-        requires { IsIndexed (files_of self.old) self.old.index }
+        requires { AreFilesIndexed (files_of self.old) self.old.index }
         ensures files { files_of self.new ≡ files_of self.old }
         ensures ok { OnOk result (IsPrepared (files_of self.old) self.new.index path.now) }
         ensures room { OnOk result (vec_len self.new.list < vec_capacity self.new.list) }
-        ensures err { OnErr result (IsIndexed (files_of self.old) self.new.index) }
+        ensures err { OnErr result (AreFilesIndexed (files_of self.old) self.new.index) }
     {
         self.list.reserve(1)?;
         self.index.insert(path.copy(alloc)?, self.list.len())?;
@@ -72,7 +72,7 @@ impl Files {
         requires new { place_at (files_of self.old) path.now ≡ None }
         requires prepared { IsPrepared (files_of self.old) self.old.index path.now }
         ensures files { files_of self.new ≡ files_of self.old }
-        ensures index { IsIndexed (files_of self.new) self.new.index }
+        ensures index { AreFilesIndexed (files_of self.new) self.new.index }
     {
         self.index.remove(path);
     }
@@ -83,7 +83,7 @@ impl Files {
         requires prepared { IsPrepared (files_of self.old) self.old.index path }
         requires room { vec_len self.old.list < vec_capacity self.old.list }
         ensures files { files_of self.new ≡ set_file (files_of self.old) path bytes.items }
-        ensures index { IsIndexed (files_of self.new) self.new.index }
+        ensures index { AreFilesIndexed (files_of self.new) self.new.index }
     {
         self.list.push_reserved(File { path, bytes });
     }
@@ -95,10 +95,10 @@ impl Files {
         path: FilePath,
         bytes: &[u8],
     ) -> Result<(), NoMemory>
-        requires { IsIndexed (files_of self.old) self.old.index }
+        requires { AreFilesIndexed (files_of self.old) self.old.index }
         ensures ok { OnOk result (files_of self.new ≡ set_file (files_of self.old) path bytes.now) }
         ensures err { OnErr result (files_of self.new ≡ files_of self.old) }
-        ensures index { IsIndexed (files_of self.new) self.new.index }
+        ensures index { AreFilesIndexed (files_of self.new) self.new.index }
     {
         let bytes = Vec::from_slice(alloc, bytes)?;
         match self.find(&path) {

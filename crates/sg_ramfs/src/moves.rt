@@ -4,10 +4,10 @@ ghost use Rattle.sg_slots.specs.declared.decision.Decision.TheVariants.{Set};
 ghost use Rattle.sg_facts.specs.Object.{file_at};
 ghost use Rattle.sg_slots.specs.Carry.{IsAbout};
 ghost use Rattle.sg_slots.specs.Slots.{entry_at};
-ghost use Rattle.sg_ramfs.specs.RamfsDecision.{with_bytes, outcome_of, CarriesBytes, Moves, Overwrites, Puts, Writes};
-ghost use Rattle.sg_ramfs.specs.RamfsFiles.{files_of, place_at, IsIndexed};
+ghost use Rattle.sg_ramfs.specs.RamfsDecision.{with_bytes, outcome_of, CarriesBytes, Moves, Overwrites, Puts, WritesFile};
+ghost use Rattle.sg_ramfs.specs.RamfsFiles.{files_of, place_at, AreFilesIndexed};
 ghost use Rattle.sg_ramfs.specs.RamfsPlans.{FitsWrite};
-ghost use Rattle.sg_ramfs.specs.RamfsTree.{Fits};
+ghost use Rattle.sg_ramfs.specs.RamfsTree.{FitsTree};
 
 use crate::OpenFile;
 use crate::files::{Files, write_over};
@@ -40,7 +40,7 @@ fn move_first<T: Stops>(
     count: u64,
 ) -> Moved
     requires there { IsSome (entry_at tree.old.entries id) }
-    requires fits { Fits tree.old id (Set entry None) }
+    requires fits { FitsTree tree.old id (Set entry None) }
     requires room { tree.old.given < 2 ^ 63 }
     ensures outcome { Moves tree.old id entry count
         (record { asked = T.asked stops.old; struck = T.struck stops.old }) result
@@ -75,7 +75,7 @@ pub(crate) fn carry_read<T: Stops>(
     plan: ReadPlan,
 ) -> Outcome
     requires there { IsAbout tree.old id plan.decision }
-    requires fits { Fits tree.old id plan.decision }
+    requires fits { FitsTree tree.old id plan.decision }
     requires room { tree.old.given < 2 ^ 63 }
     ensures outcome { CarriesBytes tree.old id plan.decision plan.bytes
         (record { asked = T.asked stops.old; struck = T.struck stops.old }) result
@@ -118,11 +118,11 @@ pub(crate) fn carry_write<T: Stops>(
     requires there { IsSome (entry_at tree.old.entries id) }
     requires fits { FitsWrite tree.old (files_of files.old) id plan }
     requires room { tree.old.given < 2 ^ 63 }
-    requires indexed { IsIndexed (files_of files.old) files.old.index }
-    ensures outcome { Writes tree.old (files_of files.old) id plan
+    requires indexed { AreFilesIndexed (files_of files.old) files.old.index }
+    ensures outcome { WritesFile tree.old (files_of files.old) id plan
         (record { asked = T.asked stops.old; struck = T.struck stops.old }) result
         tree.new (files_of files.new) (record { asked = T.asked stops.new; struck = T.struck stops.new }) }
-    ensures indexed { IsIndexed (files_of files.new) files.new.index }
+    ensures indexed { AreFilesIndexed (files_of files.new) files.new.index }
     ensures plan { T.plan stops.new ≡ T.plan stops.old }
     ensures test { T.test (T.asked stops.old) (T.struck stops.old) (T.plan stops.old)
         → T.test (T.asked stops.new) (T.struck stops.new) (T.plan stops.new) }
@@ -159,14 +159,14 @@ fn put<T: Stops>(
     patch: Patch,
 ) -> Outcome
     requires there { IsSome (entry_at tree.old.entries id) }
-    requires fits { Fits tree.old id (Set entry None) }
+    requires fits { FitsTree tree.old id (Set entry None) }
     requires room { tree.old.given < 2 ^ 63 }
     requires begins { patch.from ≤ length (file_at (files_of files.old) patch.key) }
-    requires indexed { IsIndexed (files_of files.old) files.old.index }
+    requires indexed { AreFilesIndexed (files_of files.old) files.old.index }
     ensures outcome { Puts tree.old (files_of files.old) id entry patch
         (record { asked = T.asked stops.old; struck = T.struck stops.old }) result
         tree.new (files_of files.new) (record { asked = T.asked stops.new; struck = T.struck stops.new }) }
-    ensures indexed { IsIndexed (files_of files.new) files.new.index }
+    ensures indexed { AreFilesIndexed (files_of files.new) files.new.index }
     ensures plan { T.plan stops.new ≡ T.plan stops.old }
     ensures test { T.test (T.asked stops.old) (T.struck stops.old) (T.plan stops.old)
         → T.test (T.asked stops.new) (T.struck stops.new) (T.plan stops.new) }
@@ -200,7 +200,7 @@ fn overwrite<T: Stops>(
     patch: Patch,
 ) -> Outcome
     requires there { IsSome (entry_at tree.old.entries id) }
-    requires fits { Fits tree.old id (Set entry None) }
+    requires fits { FitsTree tree.old id (Set entry None) }
     requires room { tree.old.given < 2 ^ 63 }
     requires begins { patch.from ≤ length file.old.items }
     ensures outcome { Overwrites tree.old file.old.items id entry patch
@@ -239,16 +239,16 @@ fn put_new<T: Stops>(
     patch: Patch,
 ) -> Outcome
     requires there { IsSome (entry_at tree.old.entries id) }
-    requires fits { Fits tree.old id (Set entry None) }
+    requires fits { FitsTree tree.old id (Set entry None) }
     requires room { tree.old.given < 2 ^ 63 }
     requires path { path ≡ patch.key }
     requires new { place_at (files_of files.old) path ≡ None }
     requires begins { patch.from ≤ 0 }
-    requires indexed { IsIndexed (files_of files.old) files.old.index }
+    requires indexed { AreFilesIndexed (files_of files.old) files.old.index }
     ensures outcome { Puts tree.old (files_of files.old) id entry patch
         (record { asked = T.asked stops.old; struck = T.struck stops.old }) result
         tree.new (files_of files.new) (record { asked = T.asked stops.new; struck = T.struck stops.new }) }
-    ensures indexed { IsIndexed (files_of files.new) files.new.index }
+    ensures indexed { AreFilesIndexed (files_of files.new) files.new.index }
     ensures plan { T.plan stops.new ≡ T.plan stops.old }
     ensures test { T.test (T.asked stops.old) (T.struck stops.old) (T.plan stops.old)
         → T.test (T.asked stops.new) (T.struck stops.new) (T.plan stops.new) }

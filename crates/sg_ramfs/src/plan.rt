@@ -4,8 +4,8 @@ ghost use Rattle.std.specs.List.{list_any};
 ghost use Rattle.sg_facts.specs.Object.{file_at, first_text, path_of};
 ghost use Rattle.sg_facts.specs.Track.{arg_at, word_of};
 ghost use Rattle.sg_slots.specs.Slots.{entry_at};
-ghost use Rattle.sg_ramfs.specs.RamfsDecision.{on_split, on_read, on_write, on_seek};
-ghost use Rattle.sg_ramfs.specs.RamfsFiles.{files_of, IsIndexed};
+ghost use Rattle.sg_ramfs.specs.RamfsDecision.{on_open, on_read, on_write, on_seek};
+ghost use Rattle.sg_ramfs.specs.RamfsFiles.{files_of, AreFilesIndexed};
 ghost use Rattle.sg_ramfs.specs.RamfsTable.{is_bad_name};
 ghost use Rattle.sg_ramfs.specs.RamfsTree.{tree_rows, IsTree};
 
@@ -87,7 +87,7 @@ fn has_slash(name: &[u8]) -> bool
 
 /// Makes a descriptor below that of the call, or as a root.
 pub(crate) fn split(tree: &Tree, alloc: Global, call: &Call) -> Result<Decision<OpenFile>, NoMemory>
-    ensures decision { IfOk result (λ d. d ≡ on_split tree.now call.now) }
+    ensures decision { IfOk result (λ d. d ≡ on_open tree.now call.now) }
     ensures tree { IsTree tree.now }
 {
     let path = tree.path(alloc, call.desc)?;
@@ -119,7 +119,7 @@ pub(crate) fn read(
 ) -> Result<ReadPlan, NoMemory>
     requires there { IsSome (entry_at tree.now.entries id) }
     requires place { IfSome (entry_at tree.now.entries id) (λ f. f.place < 2 ^ 63) }
-    requires indexed { IsIndexed (files_of files.now) files.now.index }
+    requires indexed { AreFilesIndexed (files_of files.now) files.now.index }
     ensures plan { IfOk result (λ plan. IfSome (entry_at tree.now.entries id)
         (λ f. plan ≡ on_read f (file_at (files_of files.now) (path_of (tree_rows tree.now) id)) most)) }
     ensures tree { IsTree tree.now }
@@ -167,7 +167,7 @@ pub(crate) fn write(
     requires there { IsSome (entry_at tree.now.entries id) }
     requires place { IfSome (entry_at tree.now.entries id) (λ f. f.place < 2 ^ 63) }
     requires few { length bytes.now ≤ 256 }
-    requires indexed { IsIndexed (files_of files.now) files.now.index }
+    requires indexed { AreFilesIndexed (files_of files.now) files.now.index }
     ensures tree { IsTree tree.now }
     ensures plan { IfOk result (λ plan. IfSome (entry_at tree.now.entries id)
         (λ f. plan ≡ on_write f (path_of (tree_rows tree.now) id)

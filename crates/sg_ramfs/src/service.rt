@@ -8,9 +8,9 @@ ghost use Rattle.sg_slots.specs.Carry.{Carries};
 ghost use Rattle.sg_ramfs.specs.declared.open_file.OpenFile.{OpenFile as IsOpenFile};
 ghost use Rattle.sg_ramfs.specs.RamfsAlikeLaw.{ramfs_answers_alike};
 ghost use Rattle.sg_ramfs.specs.RamfsBlockedLaw.{ramfs_blocked_stays};
-ghost use Rattle.sg_ramfs.specs.RamfsDecision.{on_split, on_read, on_seek, on_write, CarriesBytes, Writes};
+ghost use Rattle.sg_ramfs.specs.RamfsDecision.{on_open, on_read, on_seek, on_write, CarriesBytes, WritesFile};
 ghost use Rattle.sg_ramfs.specs.RamfsFacts.{ramfs_facts};
-ghost use Rattle.sg_ramfs.specs.RamfsFiles.{files_of, IsIndexed};
+ghost use Rattle.sg_ramfs.specs.RamfsFiles.{files_of, AreFilesIndexed};
 ghost use Rattle.sg_ramfs.specs.RamfsObject.{ramfs_object};
 ghost use Rattle.sg_ramfs.specs.RamfsRow.{file_body};
 ghost use Rattle.sg_ramfs.specs.RamfsShapeLaw.{ramfs_shape_allows, ramfs_counts_slowly};
@@ -42,13 +42,13 @@ pub struct RamfsService {
 
 impl Model for RamfsService {
     ghost use Rattle.sg_ramfs.specs.RamfsObject.{Served};
-    ghost use Rattle.sg_ramfs.specs.RamfsFiles.{files_of, IsIndexed};
+    ghost use Rattle.sg_ramfs.specs.RamfsFiles.{files_of, AreFilesIndexed};
 
     ghost Value = { Served };
 
     ghost view = { λ s. record { tree = s.tree; files = files_of s.files } };
 
-    ghost invariant = { λ s. IsIndexed (files_of s.files) s.files.index };
+    ghost invariant = { λ s. AreFilesIndexed (files_of s.files) s.files.index };
 }
 
 impl RamfsService {
@@ -123,7 +123,7 @@ impl Service for RamfsService {
 fn split<T: Stops>(tree: &mut Tree, alloc: Global, stops: &mut T, call: &Call) -> Outcome
     requires parent { (is_live (tree_rows tree.old) call.now.desc || (call.now.desc == 0)) ≡ true }
     requires room { tree.old.given < 2 ^ 63 }
-    ensures outcome { Carries tree.old call.now.desc (on_split tree.old call.now)
+    ensures outcome { Carries tree.old call.now.desc (on_open tree.old call.now)
         (record { asked = T.asked stops.old; struck = T.struck stops.old }) result
         tree.new (record { asked = T.asked stops.new; struck = T.struck stops.new }) }
     ensures tree { IsTree tree.old }
@@ -148,7 +148,7 @@ fn read<T: Stops>(
     requires there { IsSome (entry_at tree.old.entries call.now.desc) }
     requires place { IfSome (entry_at tree.old.entries call.now.desc) (λ f. f.place < 2 ^ 63) }
     requires room { tree.old.given < 2 ^ 63 }
-    requires indexed { IsIndexed (files_of files.now) files.now.index }
+    requires indexed { AreFilesIndexed (files_of files.now) files.now.index }
     ensures outcome { (f : IsOpenFile) → entry_at tree.old.entries call.now.desc ≡ Some f → CarriesBytes tree.old call.now.desc
         (on_read f (file_at (files_of files.now) (path_of (tree_rows tree.old) call.now.desc)) (word_of (arg_at call.now 0))).decision
         (on_read f (file_at (files_of files.now) (path_of (tree_rows tree.old) call.now.desc)) (word_of (arg_at call.now 0))).bytes
@@ -176,15 +176,15 @@ fn write<T: Stops>(
     requires there { IsSome (entry_at tree.old.entries call.now.desc) }
     requires place { IfSome (entry_at tree.old.entries call.now.desc) (λ f. f.place < 2 ^ 63) }
     requires room { tree.old.given < 2 ^ 63 }
-    requires indexed { IsIndexed (files_of files.old) files.old.index }
-    ensures outcome { (f : IsOpenFile) → entry_at tree.old.entries call.now.desc ≡ Some f → Writes tree.old (files_of files.old) call.now.desc
+    requires indexed { AreFilesIndexed (files_of files.old) files.old.index }
+    ensures outcome { (f : IsOpenFile) → entry_at tree.old.entries call.now.desc ≡ Some f → WritesFile tree.old (files_of files.old) call.now.desc
         (on_write f (path_of (tree_rows tree.old) call.now.desc)
         (file_at (files_of files.old) (path_of (tree_rows tree.old) call.now.desc)) (first_text call.now.args))
         (record { asked = T.asked stops.old; struck = T.struck stops.old }) result
         tree.new (files_of files.new) (record { asked = T.asked stops.new; struck = T.struck stops.new }) }
     ensures few { length (first_text call.now.args) ≤ 256 }
     ensures tree { IsTree tree.old }
-    ensures indexed { IsIndexed (files_of files.new) files.new.index }
+    ensures indexed { AreFilesIndexed (files_of files.new) files.new.index }
     ensures plan { T.plan stops.new ≡ T.plan stops.old }
     ensures test { T.test (T.asked stops.old) (T.struck stops.old) (T.plan stops.old)
         → T.test (T.asked stops.new) (T.struck stops.new) (T.plan stops.new) }

@@ -4,7 +4,7 @@ ghost use Rattle.std.specs.Option.{option_copied};
 ghost use Rattle.sg_facts.specs.Object.{path_of};
 ghost use Rattle.sg_slots.specs.Slots.{entry_at};
 ghost use Rattle.sg_slots.specs.Carry.{Carries, IsAbout};
-ghost use Rattle.sg_ramfs.specs.RamfsTree.{IsTree, Fits, tree_rows};
+ghost use Rattle.sg_ramfs.specs.RamfsTree.{IsTree, FitsTree, tree_rows};
 
 use crate::OpenFile;
 use sg_base::{NoMemory, Path, Stops};
@@ -84,7 +84,7 @@ impl Tree {
         decision: Decision<OpenFile>,
     ) -> Outcome
         requires there { IsAbout self.old id decision }
-        requires fits { Fits self.old id decision }
+        requires fits { FitsTree self.old id decision }
         requires room { self.old.given < 2 ^ 63 }
         ensures tree { IsTree self.old }
         ensures outcome { Carries self.old id decision

@@ -20,9 +20,9 @@ is_key None k = false
 is_key (Some one) k = (one.first == k.first) && (one.second == k.second) && (one.id == k.id)
 
 -- a set has a key more
-abbrev pub Gains : BTreeSet Key → BTreeSet Key → Option Key → Type 0
-Gains old new key = (k : Key) → has new k ≡ (has old k || is_key key k)
+abbrev pub GainsKey : BTreeSet Key → BTreeSet Key → Option Key → Type 0
+GainsKey old new key = (k : Key) → has new k ≡ (has old k || is_key key k)
 
 -- a set has a key less, unless it is one to keep
-abbrev pub Loses : BTreeSet Key → BTreeSet Key → Option Key → Option Key → Type 0
-Loses old new key kept = (k : Key) → has new k ≡ (has old k && not (is_key key k && not (is_key kept k)))
+abbrev pub LosesKey : BTreeSet Key → BTreeSet Key → Option Key → Option Key → Type 0
+LosesKey old new key kept = (k : Key) → has new k ≡ (has old k && not (is_key key k && not (is_key kept k)))

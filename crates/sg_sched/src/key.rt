@@ -1,6 +1,6 @@
 // The keys of the indexes.
 ghost use Rattle.std.specs.Prelude.{◌≡◌, OnOk, OnErr};
-ghost use Rattle.sg_sched.specs.SchedKeys.{has, Gains, Loses};
+ghost use Rattle.sg_sched.specs.SchedKeys.{has, GainsKey, LosesKey};
 
 use sg_base::NoMemory;
 use std::collections::BTreeSet;
@@ -15,7 +15,7 @@ pub(crate) struct Key {
 
 /// Adds a key, or none. After `NoMemory` the keys are as before.
 pub(crate) fn add(keys: &mut BTreeSet<Key>, key: Option<Key>) -> Result<(), NoMemory>
-    ensures ok { OnOk result (Gains keys.old keys.new key) }
+    ensures ok { OnOk result (GainsKey keys.old keys.new key) }
     ensures err { OnErr result (keys.new ≡ keys.old) }
 {
     if let Some(key) = key {
@@ -26,7 +26,7 @@ pub(crate) fn add(keys: &mut BTreeSet<Key>, key: Option<Key>) -> Result<(), NoMe
 
 /// Takes a key out, unless it is one to keep. It takes no memory.
 pub(crate) fn take_out(keys: &mut BTreeSet<Key>, key: Option<Key>, kept: Option<Key>)
-    ensures { Loses keys.old keys.new key kept }
+    ensures { LosesKey keys.old keys.new key kept }
 {
     if key == kept {
         return;

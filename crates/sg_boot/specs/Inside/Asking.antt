@@ -1,7 +1,7 @@
 -- What asking a service and the point behind its reply does.
 use Rattle.std.specs.Prelude.{ℕ, ◌≡◌, None}
 use Rattle.sg_base.specs.declared.call.Call.{Call}
-use Rattle.sg_boot.specs.Invoking.{Answers, Stops}
+use Rattle.sg_boot.specs.Invoking.{AnswersCall, Stops}
 use Rattle.sg_facts.specs.declared.outcome.Outcome.{Outcome}
 use Rattle.sg_facts.specs.declared.outcome.Outcome.TheVariants.{Replied, Blocks, Stopped, NoMemory}
 use Rattle.sg_facts.specs.Facts.{Facts}
@@ -13,7 +13,7 @@ use Rattle.sg_facts.specs.Object.{Object, after}
 -- nothing is known of the object
 abbrev pub Asks : Facts → Table → (ℕ → ℕ) → Object → Call → Points → Outcome → Object → Points → Type 0
 Asks facts ask parts old call points (Replied reply patch) new later =
-    Answers facts ask parts old call points reply patch later × (new ≡ after facts old call reply)
+    AnswersCall facts ask parts old call points reply patch later × (new ≡ after facts old call reply)
 Asks facts ask parts old call points Blocks new later = (ask old call ≡ None) × Stays old points new later
 Asks facts ask parts old call points Stopped new later = Stops ask parts old call points later
 Asks facts ask parts old call points NoMemory new later = Stays old points new later

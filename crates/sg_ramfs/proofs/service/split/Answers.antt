@@ -1,6 +1,6 @@
 -- The new descriptor stands below one whose id was given, or below none.
 use Rattle.std.proofs.Common.{sym, subst}
-use Rattle.sg_ramfs.specs.RamfsTree.{Fits}
+use Rattle.sg_ramfs.specs.RamfsTree.{FitsTree}
 use Rattle.sg_ramfs.proofs.Asking.{parent_given, split_fits}
 use Rattle.sg_ramfs.proofs.service.split.Goals as goal
 
@@ -8,4 +8,4 @@ pub carry_out-requires-clause-fits : goal.carry_out-requires-clause-fits
 carry_out-requires-clause-fits g c =
     let held = c.args.tree.now in
     let call = c.args.call.now in
-    subst (Fits held call.desc) (sym c.in-Ok.ensures.decision) (split_fits held call (parent_given held call.desc c.split.ensures.tree c.requires.parent))
+    subst (FitsTree held call.desc) (sym c.in-Ok.ensures.decision) (split_fits held call (parent_given held call.desc c.split.ensures.tree c.requires.parent))
