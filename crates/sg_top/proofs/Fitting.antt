@@ -27,11 +27,15 @@ use Rattle.sg_facts.specs.Facts.{Facts}
 use Rattle.sg_script.specs.Reads.{IsScript}
 use Rattle.sg_check_statements.specs.Says.{service_of}
 use Rattle.sg_lock.specs.LockFacts.{lock_facts}
+use Rattle.sg_event.specs.EventFacts.{event_facts}
+use Rattle.sg_mm.specs.MmFacts.{mm_facts}
+use Rattle.sg_ramfs.specs.RamfsFacts.{ramfs_facts}
+use Rattle.sg_sched.specs.SchedFacts.{sched_facts}
 use Rattle.sg_input.specs.declared.input.Input.{Input}
 use Rattle.sg_input.specs.declared.input.Input.TheVariants.{Ready}
 use Rattle.sg_input.specs.Inputs.{IsInputOf, IsReady}
 use Rattle.sg_top.specs.Answer.{services}
-use Rattle.sg_top.specs.Headline.{first_calls, has_one_client, is_plain}
+use Rattle.sg_top.specs.Headline.{first_calls, has_one_client, is_plain, is_played}
 
 -- ---- calls
 
@@ -175,30 +179,44 @@ plain_good i text script is plain =
 
 -- ---- inputs
 
--- the one service
-only_service : (name : List ℕ) (facts : Facts) → service_of services name ≡ Some facts → facts ≡ lock_facts
-only_service name facts e = by (bytes_eq lock_facts.name name) e
+-- the service of locks' name is that of locks
+is_other : (facts other : Facts) → other ≡ facts → bytes_eq other.name lock_facts.name ≡ false → bytes_eq facts.name lock_facts.name ≡ true → ⊥
+is_other facts other same no yes =
+    let e : true ≡ false = sym yes ∙ ap (λ f. bytes_eq f.name lock_facts.name) (sym same) ∙ no in absurd cc
+
+only_locks : (name : List ℕ) (facts : Facts) → service_of services name ≡ Some facts → bytes_eq facts.name lock_facts.name ≡ true → facts ≡ lock_facts
+only_locks name facts e yes =
+    by (bytes_eq lock_facts.name name) (bytes_eq event_facts.name name) (bytes_eq mm_facts.name name) (bytes_eq ramfs_facts.name name)
+    (bytes_eq sched_facts.name name) e
   where
-    by : (b : Bool) → cond b (Some lock_facts) None ≡ Some facts → facts ≡ lock_facts
-    by true e = let g : lock_facts ≡ facts = cc in sym g
-    by false e = absurd cc
+    by : (a b c d f : Bool)
+        → cond a (Some lock_facts) (cond b (Some event_facts) (cond c (Some mm_facts) (cond d (Some ramfs_facts) (cond f (Some sched_facts) None)))) ≡ Some facts
+        → facts ≡ lock_facts
+    by true b c d f e = let g : lock_facts ≡ facts = cc in sym g
+    by false true c d f e = let g : event_facts ≡ facts = cc in absurd (is_other facts event_facts g refl yes)
+    by false false true d f e = let g : mm_facts ≡ facts = cc in absurd (is_other facts mm_facts g refl yes)
+    by false false false true f e = let g : ramfs_facts ≡ facts = cc in absurd (is_other facts ramfs_facts g refl yes)
+    by false false false false true e = let g : sched_facts ≡ facts = cc in absurd (is_other facts sched_facts g refl yes)
+    by false false false false false e = absurd cc
 
--- an input that is ready for locks, whose interface and facts are shown under other names
-pub ready_for_locks : (bytes : List ℕ) (facts : Facts) (made : Input) (i j : Declared) (script : Script) → facts ≡ lock_facts → made ≡ Ready i script → j ≡ i
-    → IsInputOf (facts ∷ []) bytes made → IsReady services bytes j script
-ready_for_locks bytes facts made i j script locks is same all =
-    let ready : IsReady (facts ∷ []) bytes i script = subst (IsInputOf (facts ∷ []) bytes) is all in
-    subst (λ v. IsReady services bytes v script) (sym same) (subst (λ f. IsReady (f ∷ []) bytes i script) locks ready)
+-- an input that is ready, whose interface and facts are shown under other names
+pub ready_for : (bytes : List ℕ) (facts : List Facts) (made : Input) (i j : Declared) (script : Script) → facts ≡ services → made ≡ Ready i script → j ≡ i
+    → IsInputOf facts bytes made → IsReady services bytes j script
+ready_for bytes facts made i j script known is same all =
+    let ready : IsReady facts bytes i script = subst (IsInputOf facts bytes) is all in
+    subst (λ v. IsReady services bytes v script) (sym same) (subst (λ f. IsReady f bytes i script) known ready)
 
-pub lock_interface : (bytes : List ℕ) (i : Declared) (script : Script) → IsReady services bytes i script → i.facts ≡ lock_facts
-lock_interface bytes i script ready =
+pub lock_interface : (bytes : List ℕ) (i : Declared) (script : Script) → IsReady services bytes i script → is_played i script ≡ true → i.facts ≡ lock_facts
+lock_interface bytes i script ready played =
     let accepted = ready.accepted.2 in
-    ap (λ v. v.facts) accepted.declared ∙ only_service ready.accepted.0.facts.service.bytes accepted.facts accepted.service
+    let same = ap (λ v. v.facts) accepted.declared in
+    same ∙ only_locks ready.accepted.0.facts.service.bytes accepted.facts accepted.service
+    (ap (λ f. bytes_eq f.name lock_facts.name) (sym same) ∙ left _ _ played)
 
-pub first_fit : (bytes : List ℕ) (i : Declared) (script : Script) → IsReady services bytes i script → is_plain script ≡ true
+pub first_fit : (bytes : List ℕ) (i : Declared) (script : Script) → IsReady services bytes i script → is_played i script ≡ true
     → calls_fit i 1 (first_calls script.clients) ≡ true
-first_fit bytes i script ready plain = (plain_good i ready.script script ready.reads plain).0
+first_fit bytes i script ready played = (plain_good i ready.script script ready.reads (right _ _ played)).0
 
-pub first_few : (bytes : List ℕ) (i : Declared) (script : Script) → IsReady services bytes i script → is_plain script ≡ true
+pub first_few : (bytes : List ℕ) (i : Declared) (script : Script) → IsReady services bytes i script → is_played i script ≡ true
     → length (first_calls script.clients) ≤ 65536
-first_few bytes i script ready plain = (plain_good i ready.script script ready.reads plain).1
+first_few bytes i script ready played = (plain_good i ready.script script ready.reads (right _ _ played)).1

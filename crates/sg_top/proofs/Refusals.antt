@@ -8,7 +8,7 @@ use Rattle.sg_diagnose.specs.Verdicts.{IsCompiled, IsVerdict}
 use Rattle.sg_diagnose.proofs.OneVerdict.{one_verdict}
 use Rattle.sg_input.specs.Inputs.{IsReady}
 use Rattle.sg_input.proofs.OneInput.{never_ready, not_refused, one_ready}
-use Rattle.sg_top.specs.Headline.{IsNotPlayed, IsNotYet, IsRunOfInput, is_plain}
+use Rattle.sg_top.specs.Headline.{IsNotPlayed, IsNotYet, IsRunOfInput, is_played}
 use Rattle.sg_top.specs.declared.command.Command.{Command}
 use Rattle.sg_top.specs.declared.command.Command.TheVariants.{Sim, Check, Compile}
 use Rattle.sg_top.specs.declared.status.Status.{Status}
@@ -28,8 +28,8 @@ not_untabled text line output (tree, tables, parses, is, are, prints) bad = not_
 not_unplayed : (bytes line output : List ℕ) (ended : Ended) → IsRunOfInput services bytes ended output → IsNotPlayed services bytes line → ⊥
 not_unplayed bytes line output ended run (inl bad) = never_ready services bytes line run.i run.script bad run.ready
 not_unplayed bytes line output ended run (inr (yet, is)) =
-    let same = (one_ready services bytes run.i yet.i run.script yet.script run.ready yet.ready).1 in
-    let e : true ≡ false = sym run.plain ∙ ap is_plain same ∙ yet.not_plain in absurd cc
+    let same = one_ready services bytes run.i yet.i run.script yet.script run.ready yet.ready in
+    let e : true ≡ false = sym run.played ∙ ap (λ v. is_played v run.script) same.0 ∙ ap (is_played yet.i) same.1 ∙ yet.not_played in absurd cc
 
 is_refused : (status : Status) → status ≡ Done → status ≡ Refused → ⊥
 is_refused status done bad = absurd (cc (done, bad))

@@ -8,6 +8,10 @@ use Rattle.sg_facts.specs.Facts.{Facts}
 use Rattle.sg_edge.specs.Edge.{Rose, ConsumesAtMost}
 use Rattle.sg_hist.specs.declared.ended.Ended.{Ended}
 use Rattle.sg_lock.specs.LockFacts.{lock_facts}
+use Rattle.sg_event.specs.EventFacts.{event_facts}
+use Rattle.sg_mm.specs.MmFacts.{mm_facts}
+use Rattle.sg_ramfs.specs.RamfsFacts.{ramfs_facts}
+use Rattle.sg_sched.specs.SchedFacts.{sched_facts}
 use Rattle.sg_diagnose.specs.declared.outcome.Verdict.{Verdict}
 use Rattle.sg_diagnose.specs.declared.outcome.Verdict.TheVariants.{Accepted as accepted, Refused as refused}
 use Rattle.sg_diagnose.specs.Verdicts.{IsCompiled, IsVerdict}
@@ -49,7 +53,7 @@ most_bytes Compile = most_interface
 
 -- the services whose interfaces may be accepted
 abbrev pub services : List Facts
-services = lock_facts ∷ []
+services = lock_facts ∷ event_facts ∷ mm_facts ∷ ramfs_facts ∷ sched_facts ∷ []
 
 -- the output of a play, and its status: the report of the run of an input that is played, or the line of an input that isn't
 abbrev pub IsPlayed : List ℕ → Option Ended → Status → List ℕ → Type 0

@@ -1,5 +1,6 @@
 -- What a play promises, and which inputs are played.
 use Rattle.std.specs.Prelude.{ℕ, ◌≡◌, ◌==◌, ◌⊎◌, ◌&&◌, Bool, true, false, List, [], ◌∷◌, ◌++◌, None, codes, length}
+use Rattle.std.specs.Str.{bytes_eq}
 use Rattle.sg_facts.specs.Words.{line_end}
 use Rattle.sg_facts.specs.declared.entry.Entry.{Entry}
 use Rattle.sg_facts.specs.declared.trace.Trace.{Trace}
@@ -11,6 +12,7 @@ use Rattle.sg_hist.specs.declared.ended.End.{End}
 use Rattle.sg_hist.specs.declared.ended.End.TheVariants.{Done}
 use Rattle.sg_hist.specs.declared.ended.Ended.{Ended}
 use Rattle.sg_hist.specs.Clients.{calls_of}
+use Rattle.sg_lock.specs.LockFacts.{lock_facts}
 use Rattle.sg_lock.specs.LockTable.{lock_table}
 use Rattle.sg_report.specs.Report.{report_of}
 use Rattle.sg_script.specs.declared.script.ScriptCall.{ScriptCall}
@@ -51,10 +53,18 @@ has_one_client [] = true
 has_one_client (c ∷ []) = c.0 == 1
 has_one_client (c ∷ other ∷ clients) = false
 
--- whether a script is played today: it has no setup calls, no turns and no stops, and no client above 1
+-- whether a script has no setup calls, no turns and no stops, and no client above 1
 abbrev pub is_plain : Script → Bool
 is_plain script =
     (length script.setup == 0) && (length script.schedule == 0) && (length script.stops == 0) && has_one_client script.clients
+
+-- whether an interface is that of locks
+abbrev pub is_of_locks : Declared → Bool
+is_of_locks i = bytes_eq i.facts.name lock_facts.name
+
+-- whether a script under an interface is played today
+abbrev pub is_played : Declared → Script → Bool
+is_played i script = is_of_locks i && is_plain script
 
 -- the calls of the script's first client
 abbrev pub first_calls : List (ℕ × List ScriptCall) → List ScriptCall
@@ -63,26 +73,26 @@ first_calls (c ∷ clients) = c.1
 
 -- ---- inputs
 
--- the line of an input that is ready, and whose script isn't played yet
+-- the line of an input that is ready, and isn't played yet
 abbrev pub not_yet_line : List ℕ
 not_yet_line = codes "input refused: NotYet" ++ line_end
 
--- an input is ready, its script is one that is played, and this is a run of it with its output
+-- an input is ready and played, and this is a run of it with its output
 pub record IsRunOfInput (services : List Facts) (bytes : List ℕ) (ended : Ended) (written : List ℕ) : Type 0 where
   pub i : Declared
   pub script : Script
   pub ready : IsReady services bytes i script
-  pub plain : is_plain script ≡ true
+  pub played : is_played i script ≡ true
   pub run : IsRunOf i (first_calls script.clients) ended written
 
--- an input is ready, and its script isn't one that is played
+-- an input is ready, and isn't played yet
 pub record IsNotYet (services : List Facts) (bytes : List ℕ) : Type 0 where
   pub i : Declared
   pub script : Script
   pub ready : IsReady services bytes i script
-  pub not_plain : is_plain script ≡ false
+  pub not_played : is_played i script ≡ false
 
--- an input isn't played: it is refused with this line, or it is ready, and its script isn't played yet
+-- an input isn't played: it is refused with this line, or it is ready, and not played yet
 abbrev pub IsNotPlayed : List Facts → List ℕ → List ℕ → Type 0
 IsNotPlayed services bytes output =
     IsInputOf services bytes (Refused output) ⊎ (IsNotYet services bytes × (output ≡ not_yet_line))

@@ -6,6 +6,7 @@
 //! - `command`: what the words ask for (`Command`)
 //! - `output`: what a command makes of its input
 //! - `runs`: which scripts are played, and their runs
+//! - `shapes`: the services whose interfaces may be accepted
 //! - `played`: a run that was played (`Played`)
 //!
 //! `specs/Headline.antt` says what a play promises, and `specs/Answer.antt` what an answer promises, status by status.
@@ -15,6 +16,7 @@ mod command;
 mod output;
 mod played;
 mod runs;
+mod shapes;
 mod status;
 mod top;
 

@@ -4,23 +4,23 @@ ghost use Rattle.sg_facts.specs.Fits.{Fits};
 ghost use Rattle.sg_input.specs.Inputs.{IsReady};
 ghost use Rattle.sg_lock.specs.LockFacts.{lock_facts};
 ghost use Rattle.sg_sim.specs.Script.{calls_fit};
-ghost use Rattle.sg_top.specs.Headline.{first_calls, is_plain};
+ghost use Rattle.sg_top.specs.Headline.{first_calls, is_played};
 ghost use Rattle.sg_top.specs.Answer.{IsChecked, IsOutput, IsPlayed, IsTabled, services};
 ghost use Rattle.sg_top.specs.Inside.Delivery.{IsSaid};
 
 use crate::command::Command;
 use crate::played::Played;
-use crate::runs::{first_calls, is_plain, played_of};
+use crate::runs::{first_calls, is_played, played_of};
+use crate::shapes::shapes;
 use crate::status::Status;
 use sg_base::{Bytes, NoMemory};
 use sg_diagnose::{Verdict, compiled, verdict};
-use sg_facts::{Interface, Service};
+use sg_facts::Interface;
 use sg_input::{Input, read_input};
-use sg_lock::LockService;
 use sg_script::Script;
 use std::alloc::Global;
 
-// The line of an input that is ready, and whose script isn't played yet.
+// The line of an input that is ready, and isn't played yet.
 const NOT_YET: &[u8] = b"input refused: NotYet\n";
 
 /// What a command makes of an input: the bytes to be written, the status where they are written whole, and the run of a play
@@ -48,7 +48,7 @@ fn checked(alloc: Global, text: &[u8]) -> Result<Output, NoMemory>
     ensures ended { IfOk result (λ o. o.ended ≡ None) }
     ensures line { IfOk result (λ o. IsChecked text.now o.status o.text) }
 {
-    let said = verdict(alloc, text, &[LockService::shape()])?;
+    let said = verdict(alloc, text, &shapes())?;
     Ok(output_saying(said))
 }
 
@@ -57,7 +57,7 @@ fn tabled(alloc: Global, text: &[u8]) -> Result<Output, NoMemory>
     ensures ended { IfOk result (λ o. o.ended ≡ None) }
     ensures tables { IfOk result (λ o. IsTabled text.now o.status o.text) }
 {
-    let said = compiled(alloc, text, &[LockService::shape()])?;
+    let said = compiled(alloc, text, &shapes())?;
     Ok(output_saying(said))
 }
 
@@ -82,7 +82,7 @@ fn output_saying(said: Verdict) -> Output
 fn simulated(alloc: Global, bytes: &[u8]) -> Result<Output, NoMemory>
     ensures { IfOk result (λ o. IsPlayed bytes.now o.ended o.status o.text) }
 {
-    match read_input(alloc, bytes, &[LockService::shape()])? {
+    match read_input(alloc, bytes, &shapes())? {
         Input::Ready(accepted, script) => run_of(alloc, accepted.interface(), &script),
         Input::Refused(text) => Ok(Output {
             text,
@@ -92,15 +92,15 @@ fn simulated(alloc: Global, bytes: &[u8]) -> Result<Output, NoMemory>
     }
 }
 
-// The run of a script that is played, with its report; or the line of a script that isn't played yet.
+// The run of a script that is played under its interface, with its report; or the line of one that isn't played yet.
 fn run_of(alloc: Global, iface: &Interface, script: &Script) -> Result<Output, NoMemory>
-    requires facts { iface.now.facts ≡ lock_facts }
+    requires facts { is_played iface.now script.now ≡ true → iface.now.facts ≡ lock_facts }
     requires fits { Fits iface.now }
-    requires calls { is_plain script.now ≡ true → calls_fit iface.now 1 (first_calls script.now.clients) ≡ true }
-    requires few { is_plain script.now ≡ true → length (first_calls script.now.clients) ≤ 65536 }
+    requires calls { is_played iface.now script.now ≡ true → calls_fit iface.now 1 (first_calls script.now.clients) ≡ true }
+    requires few { is_played iface.now script.now ≡ true → length (first_calls script.now.clients) ≤ 65536 }
     ensures { IfOk result (λ o. (bytes : List ℕ) → IsReady services bytes iface.now script.now → IsPlayed bytes o.ended o.status o.text) }
 {
-    if !is_plain(script) {
+    if !is_played(iface, script) {
         return Ok(Output {
             text: Bytes::from_slice(alloc, NOT_YET)?,
             status: Status::Refused,

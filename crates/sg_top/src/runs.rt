@@ -4,19 +4,28 @@ ghost use Rattle.sg_facts.specs.Fits.{Fits};
 ghost use Rattle.sg_hist.specs.declared.ended.End.TheVariants.{Done};
 ghost use Rattle.sg_lock.specs.LockFacts.{lock_facts};
 ghost use Rattle.sg_sim.specs.Script.{calls_fit};
-ghost use Rattle.sg_top.specs.Headline.{IsPlainTrace, IsRunOf, first_calls, has_one_client, is_plain};
+ghost use Rattle.sg_top.specs.Headline.{IsPlainTrace, IsRunOf, first_calls, has_one_client, is_plain, is_played};
 
 use crate::played::Played;
 use sg_base::{Bytes, NoMemory};
-use sg_facts::{BootList, BootLog, Interface, ItemList, Trace};
+use sg_facts::{BootList, BootLog, Interface, ItemList, Service, Trace};
 use sg_hist::{End, EndList, Ended};
+use sg_lock::LockService;
 use sg_report::text;
 use sg_script::{CallList, Script, ScriptCall};
 use sg_sim::play;
 use std::alloc::Global;
 
-/// Whether a script is played today: it has no setup calls, no turns and no stops, and no client above 1.
-pub fn is_plain(script: &Script) -> bool
+/// Whether a script under an interface is played today: the interface is that of locks, and the script has no setup calls, no turns
+/// and no stops, and no client above 1.
+pub fn is_played(iface: &Interface, script: &Script) -> bool
+    ensures { result ≡ is_played iface.now script.now }
+{
+    iface.shape.name == LockService::shape().name && is_plain(script)
+}
+
+// Whether a script has no setup calls, no turns and no stops, and no client above 1.
+fn is_plain(script: &Script) -> bool
     ensures { result ≡ is_plain script.now }
 {
     script.setup.len() == 0

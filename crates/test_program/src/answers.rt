@@ -6,7 +6,7 @@ use sg_top::{Status, serial};
 use std::alloc::{AllocError, Global};
 use std::process::Abort;
 use std::test::Fail;
-use test_interfaces::LOCK;
+use test_interfaces::{EVENT, LOCK, MM, RAMFS, SCHED};
 
 /// What stands behind a text in an input, and the status and the output that the input comes to.
 pub type Case = (&'static [u8], Status, &'static [u8]);
@@ -155,7 +155,7 @@ client 1 done
 calls 1 boots 1 replays 0
 ",
     ),
-    // scripts that aren't played yet
+    // scripts of locks that aren't played yet
     (b"setup { lock_alloc(); }", Refused, NOT_YET),
     (
         b"client 1 { lock_free($1); } setup { lock_alloc(); }",
@@ -370,6 +370,41 @@ step lock_alloc lock_take
 walk lock_alloc lock_alloc - : lock_alloc
 walk lock_alloc lock_take owner : lock_alloc lock_take
 ";
+
+const EVENT_TABLES: &[u8] = b"service event
+facts parent=none close=refuse global=true block=true desc_data=true resc_data=false
+fun 1 evt_split creation -> evt_split
+fun 2 evt_wait desc block -> same count-1
+fun 3 evt_trigger desc word wakeup -> same count+arg2
+fun 4 evt_free desc terminal -> end
+move evt_split evt_wait
+move evt_split evt_trigger
+move evt_split evt_free
+step evt_split evt_trigger
+walk evt_split evt_split - : evt_split
+walk evt_split evt_split count : evt_split evt_trigger
+";
+
+#[test]
+fn knows_every_service(rt: HostRuntime) -> Result<(), Fail> {
+    let alloc = rt.alloc();
+    let others: [(&[u8], &[u8]); 4] = [
+        (EVENT, b"accepted event\n"),
+        (MM, b"accepted mm\n"),
+        (RAMFS, b"accepted ramfs\n"),
+        (SCHED, b"accepted sched\n"),
+    ];
+    for (text, line) in others {
+        assert!(rt; answers(alloc, "check", text, Done, line)?, "{text:?}");
+        let input = joined(alloc, text, DIVIDER)?;
+        assert!(rt; answers(alloc, "sim", &input, Refused, NOT_YET)?, "{text:?}");
+    }
+    assert!(rt; answers(alloc, "compile", EVENT, Done, EVENT_TABLES)?);
+    let flawed = joined(alloc, &joined(alloc, EVENT, DIVIDER)?, b"client 1 { evt_steal(); }")?;
+    let line = b"script refused at 1:12: UnknownFunction\n";
+    assert!(rt; answers(alloc, "sim", &flawed, Refused, line)?);
+    Ok(())
+}
 
 // A command, the numbers of the read and the write that fail, and the status and the output.
 static FAULTS: [(&str, u32, u32, Status, &[u8]); 16] = [

@@ -1,14 +1,15 @@
 -- A script that is ready is played, or isn't yet.
 use Rattle.std.proofs.lemmas.Result.{IfOk-weaker}
+use Rattle.std.proofs.Common.{map}
 use Rattle.sg_facts.specs.Facts.{facts_of}
 use Rattle.sg_input.specs.Inputs.{IsReady}
 use Rattle.sg_top.specs.Answer.{IsPlayed, services}
-use Rattle.sg_top.proofs.Fitting.{ready_for_locks}
+use Rattle.sg_top.proofs.Fitting.{ready_for}
 use Rattle.sg_top.proofs.output.simulated.Goals as goal
 
 pub returns-in-Ready : goal.returns-in-Ready
 returns-in-Ready c =
     let ready : IsReady services c.args.bytes.now c.interface.result.now c.in-Ready.script =
-    ready_for_locks c.args.bytes.now (facts_of c.shape.result) c.in_ok-accepted.field-0 c.in-Ready.accepted c.interface.result.now c.in-Ready.script
-    c.shape.ensures c.in-Ready.is c.interface.ensures.same c.in_ok-accepted.ensures.input in
+    ready_for c.args.bytes.now (map facts_of c.shapes.result) c.in_ok-accepted.field-0 c.in-Ready.accepted c.interface.result.now c.in-Ready.script
+    c.shapes.ensures.facts c.in-Ready.is c.interface.ensures.same c.in_ok-accepted.ensures.input in
     IfOk-weaker c.run_of.result _ (λ o. IsPlayed c.args.bytes.now o.ended o.status o.text) (λ o all. all c.args.bytes.now ready) c.run_of.ensures
