@@ -1,4 +1,4 @@
-//! What services and what speaks of them stand on, tried from outside: facts, rows, walks, slots, locks, events and histories.
+//! What services and what speaks of them stand on, tried from outside: facts, rows, walks, slots, locks, events, files and histories.
 //!
 //! - `once`: a service that stops at one point (`Once`)
 //! - `asking`: calls on services (`ask`)
@@ -8,6 +8,7 @@
 //! - `slots`: decisions on many slots, and stops at each part
 //! - `locks`: one lock, and stops at each part
 //! - `events`: one event, at each call and count where the answer turns
+//! - `files`: one descriptor, at each place and number of bytes where the answer turns, and names
 //! - `histories`: entries, ends, and as many entries as a script has calls
 #![tactic(auto)]
 
@@ -17,6 +18,8 @@ mod asking;
 mod events;
 #[cfg(test)]
 mod facts;
+#[cfg(test)]
+mod files;
 #[cfg(test)]
 mod histories;
 #[cfg(test)]
