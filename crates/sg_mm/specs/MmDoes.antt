@@ -68,20 +68,23 @@ MayHang held (Some parent) = is_live (rows_of page_body held.entries) parent ≡
 abbrev pub held_with : Held Page → Page → Held Page
 held_with held page = record { entries = held.entries ++ (held.given + 1, page) ∷ []; given = held.given + 1 }
 
--- the reply to a new page, and what is held after it: where its place is taken it is refused
+-- the reply to a new page: where its place is taken it is refused
 abbrev pub new_reply : Held Page → Page → Reply
 new_reply held page = if list_any (is_at page.space page.addr) (rows_of page_body held.entries) then Refused Occupied else ok_with (held.given + 1)
 
+-- what is held after that
 abbrev pub after_new : Held Page → Page → Option ℕ → Held Page
 after_new held page below = if list_any (is_at page.space page.addr) (rows_of page_body held.entries) then held else held_with held (hung page below)
 
+-- the parts that it took
 abbrev pub parts_of_new : Held Page → Page → Option ℕ → ℕ
 parts_of_new held page below = if list_any (is_at page.space page.addr) (rows_of page_body held.entries) then 0 else new_parts below
 
--- the page that mman_get_page makes, and the page that mman_alias_page makes, before it hangs below another
+-- the page that mman_get_page makes
 abbrev pub got_page : Call → Page
 got_page call = record { made = 1; creator = call.client; parent = 0; space = call.client; addr = number_at call 0 }
 
+-- the page that mman_alias_page makes, before it hangs below another
 abbrev pub alias_page : Call → Page
 alias_page call = record { made = 2; creator = call.client; parent = 0; space = number_at call 0; addr = number_at call 1 }
 

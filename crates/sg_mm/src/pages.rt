@@ -66,6 +66,13 @@ impl Pages {
         self.pages.len()
     }
 
+    /// The number of ids given.
+    pub(crate) fn given(&self) -> u64
+        ensures { result ≡ self.now.given }
+    {
+        self.given
+    }
+
     /// The id of the page in a place; None where there is none.
     pub(crate) fn find(&self, place: Place) -> Option<u64>
         ensures { result ≡ page_at (rows_of page_body self.now.entries) place.space place.addr }

@@ -1,4 +1,4 @@
-//! What services and what speaks of them stand on, tried from outside: facts, rows, walks, slots, locks, events and histories.
+//! What services and what speaks of them stand on, tried from outside: facts, rows, walks, slots, locks, events, pages and histories.
 //!
 //! - `once`: a service that stops at one point (`Once`)
 //! - `asking`: calls on services (`ask`)
@@ -8,6 +8,7 @@
 //! - `slots`: decisions on many slots, and stops at each part
 //! - `locks`: one lock, and stops at each part
 //! - `events`: one event, at each call and count where the answer turns
+//! - `pages`: pages in their places, a subtree of a thousand, and stops at each part
 //! - `histories`: entries, ends, and as many entries as a script has calls
 #![tactic(auto)]
 
@@ -23,5 +24,7 @@ mod histories;
 mod locks;
 #[cfg(test)]
 mod once;
+#[cfg(test)]
+mod pages;
 #[cfg(test)]
 mod slots;
