@@ -18,7 +18,7 @@ use Rattle.sg_facts.specs.Object.{Object, after, patch_of}
 use Rattle.sg_facts.specs.Track.{arg_at, ends_with}
 use Rattle.sg_slots.specs.Slots.{Held, object_of}
 use Rattle.sg_mm.specs.declared.page.Page.{Page}
-use Rattle.sg_mm.specs.MmDoes.{Does, IsCut, after_new, alias_page, got_page, held_with, held_without, hung, new_reply, ok_with, parts_of_new}
+use Rattle.sg_mm.specs.MmDoes.{Does, IsBrokenOff, after_new, alias_page, got_page, held_with, held_without, hung, new_reply, ok_about, parts_of_new}
 use Rattle.sg_mm.specs.MmFacts.{mm_facts}
 use Rattle.sg_mm.specs.MmRow.{page_body}
 use Rattle.sg_mm.specs.MmTable.{is_at, mm_parts, mm_table, number_at}
@@ -33,7 +33,7 @@ abbrev Done : Held Page → Call → Points → Outcome → Held Page → Points
 Done held call points outcome new later = Invokes mm_facts mm_table mm_parts (object held) call points outcome (object new) later
 
 -- no part of a refusal strikes
-never_cut : (points later : Points) → IsCut 0 points later → ⊥
+never_cut : (points later : Points) → IsBrokenOff 0 points later → ⊥
 never_cut points later cut = omega (arith, cut.first, cut.last)
 
 module _ (held done : Held Page) (call : Call) (reply : Reply) (points : Points)
@@ -50,7 +50,7 @@ module _ (held done : Held Page) (call : Call) (reply : Reply) (points : Points)
   does_so Blocks new later does = absurd does
   does_so Stopped new later does = at reply refl does
     where
-      at : (r : Reply) → reply ≡ r → IsCut (parts_of mm_parts call r) points later → Done held call points Stopped new later
+      at : (r : Reply) → reply ≡ r → IsBrokenOff (parts_of mm_parts call r) points later → Done held call points Stopped new later
       at (Ok good) is cut = record { answered = (good, asks ∙ ap (λ r. Some r) is); first = cut.first; last = cut.last; struck = cut.struck }
       at (Refused code) is cut = absurd (never_cut points later cut)
   does_so NoMemory new later does = record { same = ap object does.same; unasked = does.unasked }
@@ -90,14 +90,14 @@ module _ (held : Held Page) (client seq desc : ℕ) (args : List Value) (points 
 
       at : (b : Bool) → list_any (is_at client (number_at (call_of 1) 0)) (rows held.entries) ≡ b → Done held (call_of 1) points outcome new later
       at true taken =
-          does_so held held (call_of 1) (Refused Occupied) points (ap (λ b. cond b (Some (Refused Occupied)) (Some (ok_with (held.given + 1)))) taken) refl refl outcome new later
-          (subst (λ b. Does (cond b 0 2) (cond b (Refused Occupied) (ok_with (held.given + 1))) held (cond b held (held_with held page)) points outcome new later) taken does)
+          does_so held held (call_of 1) (Refused Occupied) points (ap (λ b. cond b (Some (Refused Occupied)) (Some (ok_about (held.given + 1)))) taken) refl refl outcome new later
+          (subst (λ b. Does (cond b 0 2) (cond b (Refused Occupied) (ok_about (held.given + 1))) held (cond b held (held_with held page)) points outcome new later) taken does)
       at false free =
-          does_so held (held_with held page) (call_of 1) (ok_with (held.given + 1)) points (ap (λ b. cond b (Some (Refused Occupied)) (Some (ok_with (held.given + 1)))) free)
+          does_so held (held_with held page) (call_of 1) (ok_about (held.given + 1)) points (ap (λ b. cond b (Some (Refused Occupied)) (Some (ok_about (held.given + 1)))) free)
           (ap (with_rows (held.given + 1)) (rows-more held.entries (held.given + 1, page)
           ∙ ap (λ v. rows held.entries ++ record { id = held.given + 1; made = 1; creator = client; parent = 0; state = 1; fields = Word client ∷ v ∷ [] } ∷ []) (one_number args fit (call_of 1) refl)))
           refl outcome new later
-          (subst (λ b. Does (cond b 0 2) (cond b (Refused Occupied) (ok_with (held.given + 1))) held (cond b held (held_with held page)) points outcome new later) free does)
+          (subst (λ b. Does (cond b 0 2) (cond b (Refused Occupied) (ok_about (held.given + 1))) held (cond b held (held_with held page)) points outcome new later) free does)
 
   pub alias_right : (outcome : Outcome) (new : Held Page) (later : Points) → kinds_fit (fun_at mm_facts.funs 2).kinds args ≡ true
       → Does (parts_of_new held (alias_page (call_of 2)) (Some desc)) (new_reply held (alias_page (call_of 2))) held (after_new held (alias_page (call_of 2)) (Some desc)) points outcome new later
@@ -112,17 +112,17 @@ module _ (held : Held Page) (client seq desc : ℕ) (args : List Value) (points 
 
       at : (b : Bool) → list_any (is_at (number_at (call_of 2) 0) (number_at (call_of 2) 1)) (rows held.entries) ≡ b → Done held (call_of 2) points outcome new later
       at true taken =
-          does_so held held (call_of 2) (Refused Occupied) points (ap (λ b. cond b (Some (Refused Occupied)) (Some (ok_with (held.given + 1)))) taken) refl refl outcome new later
-          (subst (λ b. Does (cond b 0 3) (cond b (Refused Occupied) (ok_with (held.given + 1))) held (cond b held (held_with held page)) points outcome new later) taken does)
+          does_so held held (call_of 2) (Refused Occupied) points (ap (λ b. cond b (Some (Refused Occupied)) (Some (ok_about (held.given + 1)))) taken) refl refl outcome new later
+          (subst (λ b. Does (cond b 0 3) (cond b (Refused Occupied) (ok_about (held.given + 1))) held (cond b held (held_with held page)) points outcome new later) taken does)
       at false free =
           let numbers = two_numbers args fit (call_of 2) refl in
-          does_so held (held_with held page) (call_of 2) (ok_with (held.given + 1)) points (ap (λ b. cond b (Some (Refused Occupied)) (Some (ok_with (held.given + 1)))) free)
+          does_so held (held_with held page) (call_of 2) (ok_about (held.given + 1)) points (ap (λ b. cond b (Some (Refused Occupied)) (Some (ok_about (held.given + 1)))) free)
           (ap (with_rows (held.given + 1)) (rows-more held.entries (held.given + 1, page)
           ∙ ap (λ v. rows held.entries ++ row_of v (Word (number_at (call_of 2) 1)) ∷ []) numbers.0 ∙ ap (λ w. rows held.entries ++ row_of (arg_at (call_of 2) 0) w ∷ []) numbers.1))
           refl outcome new later
-          (subst (λ b. Does (cond b 0 3) (cond b (Refused Occupied) (ok_with (held.given + 1))) held (cond b held (held_with held page)) points outcome new later) free does)
+          (subst (λ b. Does (cond b 0 3) (cond b (Refused Occupied) (ok_about (held.given + 1))) held (cond b held (held_with held page)) points outcome new later) free does)
 
-  pub release_right : (outcome : Outcome) (new : Held Page) (later : Points) → Does 2 (ok_with 0) held (held_without held desc) points outcome new later → Done held (call_of 3) points outcome new later
+  pub release_right : (outcome : Outcome) (new : Held Page) (later : Points) → Does 2 (ok_about 0) held (held_without held desc) points outcome new later → Done held (call_of 3) points outcome new later
   release_right outcome new later does =
-      does_so held (held_without held desc) (call_of 3) (ok_with 0) points refl
+      does_so held (held_without held desc) (call_of 3) (ok_about 0) points refl
       (ap (with_rows held.given) (rows-left (λ n. not (ends_with mm_facts (rows held.entries) desc n)) held.entries)) refl outcome new later does

@@ -18,7 +18,7 @@ use Rattle.sg_facts.specs.Invoke.{Points}
 use Rattle.sg_slots.specs.Slots.{Held}
 use Rattle.sg_mm.specs.declared.page.Page.{Page}
 use Rattle.sg_mm.specs.declared.page.Place.{Place}
-use Rattle.sg_mm.specs.MmDoes.{Does, IsDone, after_new, held_with, hung, new_parts, new_reply, ok_with, parts_of_new}
+use Rattle.sg_mm.specs.MmDoes.{Does, IsDone, after_new, held_with, hung, new_parts, new_reply, ok_about, parts_of_new}
 use Rattle.sg_mm.specs.MmIndex.{AreIndexed, id_in}
 use Rattle.sg_mm.specs.MmTable.{is_at}
 use Rattle.sg_mm.proofs.Indexed.{rows, taken}
@@ -48,15 +48,15 @@ module _ (held : Held Page) (page : Page) (below : Option ℕ) (points : Points)
   -- a page whose place is taken is refused
   pub refused : list_any (is_at page.space page.addr) (rows held.entries) ≡ true → IsDone (parts_of_new held page below) (new_reply held page) (after_new held page below) points (Refused Occupied) held points
   refused is =
-      subst (λ b. IsDone (cond b 0 (new_parts below)) (cond b (Refused Occupied) (ok_with (held.given + 1))) (cond b held (held_with held (hung page below))) points (Refused Occupied) held points) (sym is)
+      subst (λ b. IsDone (cond b 0 (new_parts below)) (cond b (Refused Occupied) (ok_about (held.given + 1))) (cond b held (held_with held (hung page below))) points (Refused Occupied) held points) (sym is)
       (record { answered = refl; changed = refl; asked = none_asked points.asked; struck = refl })
 
   -- a page whose place is free is made
   pub made : (outcome : Outcome) (new : Held Page) (later : Points) → list_any (is_at page.space page.addr) (rows held.entries) ≡ false
-      → Does (new_parts below) (ok_with (held.given + 1)) held (held_with held (hung page below)) points outcome new later
+      → Does (new_parts below) (ok_about (held.given + 1)) held (held_with held (hung page below)) points outcome new later
       → Does (parts_of_new held page below) (new_reply held page) held (after_new held page below) points outcome new later
   made outcome new later is does =
-      subst (λ b. Does (cond b 0 (new_parts below)) (cond b (Refused Occupied) (ok_with (held.given + 1))) held (cond b held (held_with held (hung page below))) points outcome new later) (sym is) does
+      subst (λ b. Does (cond b 0 (new_parts below)) (cond b (Refused Occupied) (ok_about (held.given + 1))) held (cond b held (held_with held (hung page below))) points outcome new later) (sym is) does
 
 -- points, one after the other
 pub asked_twice : (a : ℕ) → asked_after (asked_after a 1) 1 ≡ asked_after a 2

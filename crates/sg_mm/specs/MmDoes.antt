@@ -25,7 +25,7 @@ pub record IsDone (parts : ℕ) (answer : Reply) (after : Held Page) (points : P
   pub struck : later.struck ≡ points.struck
 
 -- a part struck, the last that was asked
-pub record IsCut (parts : ℕ) (points later : Points) : Type 0 where
+pub record IsBrokenOff (parts : ℕ) (points later : Points) : Type 0 where
   pub first : points.asked < later.asked
   pub last : later.asked ≤ points.asked + parts
   pub struck : later.struck ≡ points.struck ++ later.asked ∷ []
@@ -40,12 +40,12 @@ abbrev pub Does : ℕ → Reply → Held Page → Held Page → Points → Outco
 Does parts answer old after points (Replied reply None) new later = IsDone parts answer after points reply new later
 Does parts answer old after points (Replied reply (Some patch)) new later = ⊥
 Does parts answer old after points Blocks new later = ⊥
-Does parts answer old after points Stopped new later = IsCut parts points later
+Does parts answer old after points Stopped new later = IsBrokenOff parts points later
 Does parts answer old after points NoMemory new later = IsSame old points new later
 
 -- an Ok with a descriptor
-abbrev pub ok_with : ℕ → Reply
-ok_with desc = Ok (record { desc = desc; words = []; bytes = [] })
+abbrev pub ok_about : ℕ → Reply
+ok_about desc = Ok (record { desc = desc; words = []; bytes = [] })
 
 -- ---- a new page
 
@@ -68,20 +68,23 @@ MayHang held (Some parent) = is_live (rows_of page_body held.entries) parent ≡
 abbrev pub held_with : Held Page → Page → Held Page
 held_with held page = record { entries = held.entries ++ (held.given + 1, page) ∷ []; given = held.given + 1 }
 
--- the reply to a new page, and what is held after it: where its place is taken it is refused
+-- the reply to a new page: where its place is taken it is refused
 abbrev pub new_reply : Held Page → Page → Reply
-new_reply held page = if list_any (is_at page.space page.addr) (rows_of page_body held.entries) then Refused Occupied else ok_with (held.given + 1)
+new_reply held page = if list_any (is_at page.space page.addr) (rows_of page_body held.entries) then Refused Occupied else ok_about (held.given + 1)
 
+-- what is held after that
 abbrev pub after_new : Held Page → Page → Option ℕ → Held Page
 after_new held page below = if list_any (is_at page.space page.addr) (rows_of page_body held.entries) then held else held_with held (hung page below)
 
+-- the parts that it took
 abbrev pub parts_of_new : Held Page → Page → Option ℕ → ℕ
 parts_of_new held page below = if list_any (is_at page.space page.addr) (rows_of page_body held.entries) then 0 else new_parts below
 
--- the page that mman_get_page makes, and the page that mman_alias_page makes, before it hangs below another
+-- the page that mman_get_page makes
 abbrev pub got_page : Call → Page
 got_page call = record { made = 1; creator = call.client; parent = 0; space = call.client; addr = number_at call 0 }
 
+-- the page that mman_alias_page makes, before it hangs below another
 abbrev pub alias_page : Call → Page
 alias_page call = record { made = 2; creator = call.client; parent = 0; space = number_at call 0; addr = number_at call 1 }
 
@@ -96,4 +99,4 @@ held_without held id = record { entries = filter (λ e. not (ends_with mm_facts 
 -- the reply that tells a page, or that there is none
 abbrev pub found_reply : Option ℕ → Reply
 found_reply None = Refused NotFound
-found_reply (Some id) = ok_with id
+found_reply (Some id) = ok_about id

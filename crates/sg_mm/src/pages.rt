@@ -3,7 +3,7 @@ ghost use Rattle.std.specs.Prelude.{◌≡◌, ◌+◌, ◌^◌, ◌<◌, true, 
 ghost use Rattle.std.specs.Option.{option_copied};
 ghost use Rattle.sg_facts.specs.Track.{is_live};
 ghost use Rattle.sg_slots.specs.Slots.{entry_at, rows_of, AreIds};
-ghost use Rattle.sg_mm.specs.MmDoes.{Does, MayHang, after_new, held_with, held_without, hung, new_parts, new_reply, ok_with, parts_of_new};
+ghost use Rattle.sg_mm.specs.MmDoes.{Does, MayHang, after_new, held_with, held_without, hung, new_parts, new_reply, ok_about, parts_of_new};
 ghost use Rattle.sg_mm.specs.MmRow.{page_body};
 ghost use Rattle.sg_mm.specs.MmTable.{page_at};
 
@@ -66,6 +66,13 @@ impl Pages {
         self.pages.len()
     }
 
+    /// The number of ids given.
+    pub(crate) fn given(&self) -> u64
+        ensures { result ≡ self.now.given }
+    {
+        self.given
+    }
+
     /// The id of the page in a place; None where there is none.
     pub(crate) fn find(&self, place: Place) -> Option<u64>
         ensures { result ≡ page_at (rows_of page_body self.now.entries) place.space place.addr }
@@ -121,7 +128,7 @@ impl Pages {
     /// the first part is asked.
     pub(crate) fn release<T: Stops>(&mut self, alloc: Global, stops: &mut T, id: u64) -> Outcome
         requires { is_live (rows_of page_body self.old.entries) id ≡ true }
-        ensures outcome { Does 2 (ok_with 0) self.old (held_without self.old id)
+        ensures outcome { Does 2 (ok_about 0) self.old (held_without self.old id)
             (record { asked = T.asked stops.old; struck = T.struck stops.old }) result
             self.new (record { asked = T.asked stops.new; struck = T.struck stops.new }) }
         ensures plan { T.plan stops.new ≡ T.plan stops.old }
@@ -159,7 +166,7 @@ fn add<T: Stops>(
 ) -> Outcome
     requires ids { AreIds 0 given.old pages.old.entries }
     requires room { given.old < 2 ^ 63 }
-    ensures outcome { Does (new_parts below) (ok_with (given.old + 1))
+    ensures outcome { Does (new_parts below) (ok_about (given.old + 1))
         (record { entries = pages.old.entries; given = given.old })
         (held_with (record { entries = pages.old.entries; given = given.old }) (hung page below))
         (record { asked = T.asked stops.old; struck = T.struck stops.old }) result
@@ -195,7 +202,7 @@ fn add<T: Stops>(
 
 /// An Ok with a descriptor, without a patch.
 pub(crate) fn answer(alloc: Global, desc: u64) -> Outcome
-    ensures { result ≡ Outcome.Replied (ok_with desc) None }
+    ensures { result ≡ Outcome.Replied (ok_about desc) None }
 {
     Outcome::Replied {
         reply: Reply::Ok(Good {

@@ -46,6 +46,13 @@ impl MmService {
     {
         self.pages.len()
     }
+
+    /// The number of ids given.
+    pub fn given(&self) -> u64
+        ensures { result ≡ (mm_object self.now).given }
+    {
+        self.pages.given()
+    }
 }
 
 impl Service for MmService {

@@ -61,7 +61,7 @@ impl PartialEq for FilePath {
     ghost laws = { partial_equiv_from_equiv nat_list_eq_equiv };
 
     fn eq(&self, other: &Self) -> bool {
-        self.bytes.as_slice() == other.bytes.as_slice()
+        self.bytes == other.bytes
     }
 }
 

@@ -9,6 +9,7 @@
 //! - `slots`: decisions on many slots, and stops at each part
 //! - `locks`: one lock, and stops at each part
 //! - `events`: one event, at each call and count where the answer turns
+//! - `pages`: pages in their places, a subtree of a thousand, and stops at each part
 //! - `files`: one descriptor, at each place and number of bytes where the answer turns, and names
 //! - `threads`: tables of calls on threads with their answers, and stops at each part
 //! - `cells`: a service that is booted after a stop, and stops within a call and behind its reply
@@ -31,6 +32,8 @@ mod histories;
 mod locks;
 #[cfg(test)]
 mod once;
+#[cfg(test)]
+mod pages;
 #[cfg(test)]
 mod slots;
 #[cfg(test)]

@@ -8,7 +8,7 @@ use Rattle.sg_facts.specs.Invoke.{Points}
 use Rattle.sg_slots.specs.Slots.{Held}
 use Rattle.sg_slots.proofs.Maps.{absent-above, insert-new}
 use Rattle.sg_mm.specs.declared.page.Page.{Page}
-use Rattle.sg_mm.specs.MmDoes.{IsDone, held_with, hung, new_parts, ok_with}
+use Rattle.sg_mm.specs.MmDoes.{IsDone, held_with, hung, new_parts, ok_about}
 use Rattle.sg_mm.proofs.Doing.{asked_thrice, asked_twice}
 use Rattle.sg_mm.proofs.pages.add.Goals as goal
 
@@ -22,7 +22,7 @@ unreachable-requires g c =
 -- all parts of a new page were asked, by where it hangs
 abbrev Comes : Held Page → Page → Points → Option ℕ → List (ℕ × Page) → Points → Type 0
 Comes held page points below es later =
-    IsDone (new_parts below) (ok_with (held.given + 1)) (held_with held (hung page below)) points (ok_with (held.given + 1)) (record { entries = es; given = held.given + 1 }) later
+    IsDone (new_parts below) (ok_about (held.given + 1)) (held_with held (hung page below)) points (ok_about (held.given + 1)) (record { entries = es; given = held.given + 1 }) later
 
 pub returns-in-Some-clause-outcome : goal.returns-in-Some-clause-outcome
 returns-in-Some-clause-outcome g c =

@@ -8,7 +8,7 @@ use Rattle.sg_facts.specs.Invoke.{Points}
 use Rattle.sg_slots.specs.Slots.{Held}
 use Rattle.sg_walk_laws.proofs.Subtrees.{IsAboveParent}
 use Rattle.sg_mm.specs.declared.page.Page.{Page}
-use Rattle.sg_mm.specs.MmDoes.{Does, MayHang, after_new, held_with, hung, new_parts, new_reply, ok_with, parts_of_new}
+use Rattle.sg_mm.specs.MmDoes.{Does, MayHang, after_new, held_with, hung, new_parts, new_reply, ok_about, parts_of_new}
 use Rattle.sg_mm.specs.MmIndex.{AreIndexed, Gains}
 use Rattle.sg_mm.specs.MmTable.{is_at}
 use Rattle.sg_mm.proofs.Doing.{changed_so, if_done, made, refused, taken_by}
@@ -39,7 +39,7 @@ invariant_of-self-in-Replied g c =
     let lower = hung_lower inside c.self.inside.places page below c.self.invariant c.requires.own (subst (λ held. MayHang held below) (sym c.self.view_is) c.requires.parent) in
     let points : Points = record { asked = g.T.Stops.asked c.args.stops.now; struck = g.T.Stops.struck c.args.stops.now } in
     let later : Points = record { asked = g.T.Stops.asked c.add.new.stops; struck = g.T.Stops.struck c.add.new.stops } in
-    let changed = changed_so (new_parts below) (ok_with (c.self.inside.given + 1)) inside (held_with inside (hung page below)) points c.in-Replied.reply c.in-Replied.patch new later c.in-Replied.ensures.outcome in
+    let changed = changed_so (new_parts below) (ok_about (c.self.inside.given + 1)) inside (held_with inside (hung page below)) points c.in-Replied.reply c.in-Replied.patch new later c.in-Replied.ensures.outcome in
     let gains = if_done c.put.result (Gains c.self.inside.places c.put.new.places place (c.self.inside.given + 1)) (sym c.is_err.ensures.value ∙ c.if-is_err.false) c.put.ensures.ok in
     subst (λ held. AreIndexed held c.put.new.places) (sym changed)
     (indexed_more inside c.self.inside.places c.put.new.places page below place c.self.invariant c.place-place.ensures.space c.place-place.ensures.addr lower free gains)
