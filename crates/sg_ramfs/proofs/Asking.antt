@@ -169,12 +169,12 @@ module _ (held : Held OpenFile) (files : List (List ℕ × List ℕ)) (s : Serve
 
     pub read_serves : IsTree held → call.fun ≡ 2
         → ((f : OpenFile) → entry_at held.entries call.desc ≡ Some f → CarriesBytes held call.desc (on_read f (file_at files (path_of (tree_rows held) call.desc)) (word_of (arg_at call 0))).decision
-            (on_read f (file_at files (path_of (tree_rows held) call.desc)) (word_of (arg_at call 0))).bytes points outcome new later) → Serves files
+        (on_read f (file_at files (path_of (tree_rows held) call.desc)) (word_of (arg_at call 0))).bytes points outcome new later) → Serves files
     read_serves tree is carried = seen files (read_does held files call may_ask points outcome new later tree is (there 2 is refl) carried)
 
     pub write_serves : (files' : List (List ℕ × List ℕ)) → IsTree held → call.fun ≡ 3 → length (first_text call.args) ≤ 256
         → ((f : OpenFile) → entry_at held.entries call.desc ≡ Some f
-            → Writes held files call.desc (on_write f (path_of (tree_rows held) call.desc) (file_at files (path_of (tree_rows held) call.desc)) (first_text call.args)) points outcome new files' later) → Serves files'
+        → Writes held files call.desc (on_write f (path_of (tree_rows held) call.desc) (file_at files (path_of (tree_rows held) call.desc)) (first_text call.args)) points outcome new files' later) → Serves files'
     write_serves files' tree is few written = seen files' (writes_do held files call may_ask points outcome new later tree files' is (there 3 is refl) few written)
 
     pub seek_serves : IsTree held → call.fun ≡ 4
