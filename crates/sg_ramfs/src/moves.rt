@@ -30,7 +30,7 @@ pub(crate) enum Moved {
     NoMemory,
 }
 
-/// Sets a descriptor in the first of two parts, and asks the second. All memory is taken before.
+// Sets a descriptor in the first of two parts, and asks the second. All memory is taken before.
 fn move_first<T: Stops>(
     tree: &mut Tree,
     alloc: Global,

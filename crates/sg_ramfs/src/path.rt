@@ -7,7 +7,7 @@ use std::cmp::Ordering;
 use std::marker::Model;
 
 /// The path of a file, in the order of its bytes. Contracts see the bytes.
-#[derive(Debug, Drop)]
+#[derive(Debug, PartialEq, Eq, Drop)]
 pub(crate) struct FilePath {
     bytes: Path,
 }
@@ -18,6 +18,8 @@ impl Model for FilePath {
     ghost Value = { List ℕ };
 
     ghost view = { λ p. p.bytes };
+
+    ghost inverse = { λ bytes. record { bytes = bytes } };
 }
 
 impl FilePath {
@@ -49,26 +51,6 @@ impl TryCopy for FilePath {
             bytes: self.bytes.copy(alloc)?,
         })
     }
-}
-
-impl PartialEq for FilePath {
-    ghost use Rattle.std.specs.Prelude.{nat_eq};
-    ghost use Rattle.std.specs.Cmp.{partial_equiv_from_equiv};
-    ghost use Rattle.std.specs.Cmp.Lexicographic.{pointwise, nat_list_eq_equiv};
-
-    ghost eq = { pointwise nat_eq };
-
-    ghost laws = { partial_equiv_from_equiv nat_list_eq_equiv };
-
-    fn eq(&self, other: &Self) -> bool {
-        self.bytes == other.bytes
-    }
-}
-
-impl Eq for FilePath {
-    ghost use Rattle.std.specs.Cmp.Lexicographic.{nat_list_eq_equiv};
-
-    ghost laws = { nat_list_eq_equiv };
 }
 
 impl PartialOrd for FilePath {
