@@ -78,7 +78,6 @@ fn output_saying(said: Verdict) -> Output
 }
 
 // The run of an input that is played, with its report; or the line of an input that isn't played.
-#[tactic(auto, using(crate::proofs::Fitting::lock_interface, crate::proofs::Fitting::first_fit, crate::proofs::Fitting::first_few))]
 fn simulated(alloc: Global, bytes: &[u8]) -> Result<Output, NoMemory>
     ensures { IfOk result (λ o. IsPlayed bytes.now o.ended o.status o.text) }
 {
