@@ -397,10 +397,17 @@ fn knows_every_service(rt: HostRuntime) -> Result<(), Fail> {
     for (text, line) in others {
         assert!(rt; answers(alloc, "check", text, Done, line)?, "{text:?}");
         let input = joined(alloc, text, DIVIDER)?;
-        assert!(rt; answers(alloc, "sim", &input, Refused, NOT_YET)?, "{text:?}");
+        assert!(rt;
+            answers(alloc, "sim", &input, Refused, NOT_YET)?,
+            "{text:?}"
+        );
     }
     assert!(rt; answers(alloc, "compile", EVENT, Done, EVENT_TABLES)?);
-    let flawed = joined(alloc, &joined(alloc, EVENT, DIVIDER)?, b"client 1 { evt_steal(); }")?;
+    let flawed = joined(
+        alloc,
+        &joined(alloc, EVENT, DIVIDER)?,
+        b"client 1 { evt_steal(); }",
+    )?;
     let line = b"script refused at 1:12: UnknownFunction\n";
     assert!(rt; answers(alloc, "sim", &flawed, Refused, line)?);
     Ok(())

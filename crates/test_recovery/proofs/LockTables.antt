@@ -39,8 +39,8 @@ declared_four (suc (suc (suc (suc (suc n))))) is =
     let none : bit_at 15 (n + 4) ≡ 0 = bit_at_above 15 4 (n + 4) (omega arith) (omega arith) in
     let same : (suc (suc (suc (suc (suc n))))) - 1 ≡ n + 4 = omega arith in
     absurd (let not_set : (nat_le 1 (suc (suc (suc (suc (suc n))))) && (bit_at 15 ((suc (suc (suc (suc (suc n))))) - 1) == 1)) ≡ false
-      = ap (λ k. nat_le 1 (suc (suc (suc (suc (suc n))))) && (bit_at 15 k == 1)) same ∙ ap (λ b. nat_le 1 (suc (suc (suc (suc (suc n))))) && (b == 1)) none
-      ∙ and_false (nat_le 1 (suc (suc (suc (suc (suc n)))))) in cc (is, not_set))
+    = ap (λ k. nat_le 1 (suc (suc (suc (suc (suc n))))) && (bit_at 15 k == 1)) same ∙ ap (λ b. nat_le 1 (suc (suc (suc (suc (suc n))))) && (b == 1)) none
+    ∙ and_false (nat_le 1 (suc (suc (suc (suc (suc n)))))) in cc (is, not_set))
 
 maker : (f : ℕ) → declares i f ≡ true → (fun_at lock_facts.funs f).creation ≡ true → f ≡ 1
 maker f declared makes = elim (declared_four f declared) [
