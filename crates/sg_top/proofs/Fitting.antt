@@ -181,11 +181,11 @@ plain_good i text script is plain =
 
 -- the service of locks' name is that of locks
 is_other : (facts other : Facts) → other ≡ facts → bytes_eq other.name lock_facts.name ≡ false → bytes_eq facts.name lock_facts.name ≡ true → ⊥
-is_other facts other same no yes =
-    let e : true ≡ false = sym yes ∙ ap (λ f. bytes_eq f.name lock_facts.name) (sym same) ∙ no in absurd cc
+is_other facts other same differs equal =
+    let e : true ≡ false = sym equal ∙ ap (λ f. bytes_eq f.name lock_facts.name) (sym same) ∙ differs in absurd cc
 
 only_locks : (name : List ℕ) (facts : Facts) → service_of services name ≡ Some facts → bytes_eq facts.name lock_facts.name ≡ true → facts ≡ lock_facts
-only_locks name facts e yes =
+only_locks name facts e equal =
     by (bytes_eq lock_facts.name name) (bytes_eq event_facts.name name) (bytes_eq mm_facts.name name) (bytes_eq ramfs_facts.name name)
     (bytes_eq sched_facts.name name) e
   where
@@ -193,10 +193,10 @@ only_locks name facts e yes =
         → cond a (Some lock_facts) (cond b (Some event_facts) (cond c (Some mm_facts) (cond d (Some ramfs_facts) (cond f (Some sched_facts) None)))) ≡ Some facts
         → facts ≡ lock_facts
     by true b c d f e = let g : lock_facts ≡ facts = cc in sym g
-    by false true c d f e = let g : event_facts ≡ facts = cc in absurd (is_other facts event_facts g refl yes)
-    by false false true d f e = let g : mm_facts ≡ facts = cc in absurd (is_other facts mm_facts g refl yes)
-    by false false false true f e = let g : ramfs_facts ≡ facts = cc in absurd (is_other facts ramfs_facts g refl yes)
-    by false false false false true e = let g : sched_facts ≡ facts = cc in absurd (is_other facts sched_facts g refl yes)
+    by false true c d f e = let g : event_facts ≡ facts = cc in absurd (is_other facts event_facts g refl equal)
+    by false false true d f e = let g : mm_facts ≡ facts = cc in absurd (is_other facts mm_facts g refl equal)
+    by false false false true f e = let g : ramfs_facts ≡ facts = cc in absurd (is_other facts ramfs_facts g refl equal)
+    by false false false false true e = let g : sched_facts ≡ facts = cc in absurd (is_other facts sched_facts g refl equal)
     by false false false false false e = absurd cc
 
 -- an input that is ready, whose interface and facts are shown under other names
