@@ -5,6 +5,7 @@
 //! - `row`: a tracked descriptor (`Row`, `Fields`)
 //! - `entry`: a call with its reply (`Entry`)
 //! - `outcome`: what asking a service gives (`Outcome`, `Patch`)
+//! - `path`: the path of a file as a key (`FilePath`)
 //! - `trace`: what was done to a service, boot by boot (`Trace`, `BootLog`, `Item`, `Tag`)
 //! - `tables`: an interface with its walks (`Tables`, `WalkLine`)
 //! - `walk`: the functions whose calls rebuild a descriptor (`Walk`)
@@ -23,6 +24,7 @@ mod interface;
 mod laws;
 mod limits;
 mod outcome;
+mod path;
 mod row;
 mod service;
 mod shape;
@@ -36,6 +38,7 @@ pub use interface::Interface;
 pub use laws::legal_from_the_front;
 pub use limits::{LAST_CLIENT, MOST_FIELDS, MOST_FUNS, MOST_LIVE, MOST_PATH, MOST_WRITTEN};
 pub use outcome::{Outcome, Patch, PatchRoom};
+pub use path::FilePath;
 pub use row::{Fields, FieldsRoom, Row};
 pub use service::Service;
 pub use shape::{Effect, FieldShape, FunShape, Kind, Leaves, Parents, Shape};

@@ -3,7 +3,7 @@
 //! - `shape`: the facts of the service, those of its standard interface (`ramfs_shape`)
 //! - `open_file`: one descriptor (`OpenFile`)
 //! - `tree`: the descriptors by service id, and their paths
-//! - `path`, `files`: the files by path
+//! - `files`: the files by path
 //! - `plan`, `moves`: what to do with a call, and how it is done part by part
 //! - `service`: the service (`RamfsService`)
 #![tactic(auto)]
@@ -11,7 +11,6 @@
 mod files;
 mod moves;
 mod open_file;
-mod path;
 mod plan;
 mod service;
 mod shape;

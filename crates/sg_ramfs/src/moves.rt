@@ -11,11 +11,10 @@ ghost use Rattle.sg_ramfs.specs.RamfsTree.{FitsTree};
 
 use crate::OpenFile;
 use crate::files::{Files, write_over};
-use crate::path::FilePath;
 use crate::plan::{ReadPlan, WritePlan};
 use crate::tree::Tree;
 use sg_base::{Bytes, Good, Point, Reply, Stops, TryCopy};
-use sg_facts::{Outcome, Patch};
+use sg_facts::{FilePath, Outcome, Patch};
 use sg_slots::Decision;
 use std::alloc::Global;
 

@@ -11,10 +11,9 @@ ghost use Rattle.sg_ramfs.specs.RamfsTree.{tree_rows, IsTree};
 
 use crate::OpenFile;
 use crate::files::{Files, part_of};
-use crate::path::FilePath;
 use crate::tree::Tree;
 use sg_base::{Bytes, Call, Code, NoMemory, Value};
-use sg_facts::{MOST_PATH, Patch};
+use sg_facts::{FilePath, MOST_PATH, Patch};
 use sg_slots::Decision;
 use std::alloc::Global;
 

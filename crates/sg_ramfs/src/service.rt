@@ -22,12 +22,11 @@ ghost use Rattle.sg_ramfs.specs.RamfsWalkLaw.{ramfs_walk_goes_on};
 
 use crate::files::Files;
 use crate::moves::{carry_read, carry_write};
-use crate::path::FilePath;
 use crate::shape::{READ, SEEK, SPLIT, WRITE, ramfs_shape};
 use crate::tree::Tree;
 use crate::{OpenFile, plan};
 use sg_base::{Call, NoMemory, Path, Stops, TryCopy};
-use sg_facts::{Outcome, Service, Shape};
+use sg_facts::{FilePath, Outcome, Service, Shape};
 use sg_slots::Decision;
 use std::alloc::Global;
 use std::marker::Model;

@@ -6,9 +6,9 @@ use std::alloc::Global;
 use std::cmp::Ordering;
 use std::marker::Model;
 
-/// The path of a file, in the order of its bytes. Contracts see the bytes.
+/// The path of a file as a key of maps, in the order of its bytes. Contracts see the bytes.
 #[derive(Debug, PartialEq, Eq, Drop)]
-pub(crate) struct FilePath {
+pub struct FilePath {
     bytes: Path,
 }
 
@@ -24,21 +24,21 @@ impl Model for FilePath {
 
 impl FilePath {
     /// A path of these bytes.
-    pub(crate) fn new(bytes: Path) -> FilePath
+    pub fn new(bytes: Path) -> FilePath
         ensures { result ≡ bytes }
     {
         FilePath { bytes }
     }
 
     /// The bytes, lent.
-    pub(crate) fn as_slice(&self) -> &[u8]
+    pub fn as_slice(&self) -> &[u8]
         ensures { result.now ≡ self.now }
     {
         self.bytes.as_slice()
     }
 
     /// The bytes.
-    pub(crate) fn into_path(self) -> Path
+    pub fn into_path(self) -> Path
         ensures { result ≡ self }
     {
         self.bytes
