@@ -2,14 +2,13 @@
 ghost use Rattle.std.specs.Prelude.{◌≡◌, Some, IsSome, OnOk};
 ghost use Rattle.sg_facts.specs.Object.{empty_object};
 
-use crate::asking::call;
-use crate::once::Once;
 use sg_base::{Good, Reply, Stops};
 use sg_boot::Cell;
 use sg_facts::{Outcome, Tag};
 use sg_lock::LockService;
 use std::alloc::Global;
 use std::test::Fail;
+use test_asking::{Once, call};
 
 // Makes the first lock in a cell whose service holds none.
 fn make(cell: &mut Cell<LockService>, alloc: Global, stops: &mut Once) -> Result<Good, Outcome>

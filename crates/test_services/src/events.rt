@@ -5,13 +5,12 @@ ghost use Rattle.sg_facts.specs.Object.{empty_object};
 ghost use Rattle.sg_slots.specs.Slots.{object_of};
 ghost use Rattle.sg_event.specs.EventRow.{event_body};
 
-use crate::asking::{ask, call};
-use crate::once::Once;
 use sg_base::{Args, Call, Code, NoMemory, Reply, Value};
 use sg_event::{Event, EventService};
 use sg_facts::{Outcome, Service};
 use std::alloc::Global;
 use std::test::Fail;
+use test_asking::{Once, ask, call};
 
 // What is asked of an event.
 #[derive(Clone, Copy, Debug)]

@@ -4,13 +4,12 @@ ghost use Rattle.sg_facts.specs.Object.{empty_object};
 ghost use Rattle.sg_slots.specs.Slots.{object_of};
 ghost use Rattle.sg_lock.specs.LockRow.{lock_body};
 
-use crate::asking::{ask, call};
-use crate::once::Once;
 use sg_base::{Code, Good, Path, Reply, Stops};
 use sg_facts::{Outcome, Service};
 use sg_lock::{Lock, LockService};
 use std::alloc::Global;
 use std::test::Fail;
+use test_asking::{Once, ask, call};
 
 // Makes the first lock.
 fn make(

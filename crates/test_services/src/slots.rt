@@ -1,11 +1,11 @@
 // What no clause says: that each decision is carried out where there is memory.
-use crate::once::Once;
 use sg_base::{Code, Reply, Stops};
 use sg_facts::Outcome;
 use sg_slots::{Decision, Entry, Slots, carry_out};
 use std::alloc::Global;
 use std::process::Abort;
 use std::test::Fail;
+use test_asking::Once;
 
 // A seat, with its guest.
 #[derive(Clone, Copy, Debug, PartialEq, Eq)]

@@ -1,0 +1,5 @@
+//! Threads, tried from outside: tables of calls with their answers, and stops at each part.
+#![tactic(auto)]
+
+#[cfg(test)]
+mod threads;
