@@ -1,6 +1,6 @@
 // The finite facts of a service.
 ghost use Rattle.std.specs.Prelude.{◌≡◌, ◌+◌, ◌<◌, ◌^◌, map};
-ghost use Rattle.sg_facts.specs.Facts.{facts_of, fun_at, fun_of_shape, left_by};
+ghost use Rattle.sg_facts.specs.Facts.{facts_of, fun_at, fun_of_shape, left_by, takes_desc, takes_parent};
 
 use crate::interface::has_flag;
 
@@ -157,6 +157,22 @@ impl FunShape {
         ensures { result ≡ (fun_of_shape self.now).query }
     {
         has_flag(self.flags, QUERY_BIT)
+    }
+
+    /// Whether it is called on a descriptor.
+    pub fn takes_desc(&self) -> bool
+        ensures { result ≡ takes_desc (fun_of_shape self.now) }
+    {
+        self.kinds.iter().any(|kind| matches!(kind, Kind::Desc))
+    }
+
+    /// Whether it takes a parent.
+    pub fn takes_parent(&self) -> bool
+        ensures { result ≡ takes_parent (fun_of_shape self.now) }
+    {
+        self.kinds
+            .iter()
+            .any(|kind| matches!(kind, Kind::Parent))
     }
 }
 

@@ -8,7 +8,7 @@ ghost use Rattle.sg_facts.specs.Facts.{fun_at, fun_of_shape, takes_desc, takes_p
 ghost use Rattle.sg_report.specs.Report.{call_text, code_name, good_text, listed, next_value, quoted, reply_text, value_text};
 
 use sg_base::{Bytes, Call, Code, Good, NoMemory, Reply, Value};
-use sg_facts::{FunShape, Interface, Kind};
+use sg_facts::{FunShape, Interface};
 use std::alloc::Global;
 
 /// A call: its function's name, and in brackets its descriptor or parent, where the function takes one, and its arguments.
@@ -36,21 +36,7 @@ pub fn push_call(
 fn takes_id(fun: &FunShape) -> bool
     ensures { result ≡ (takes_desc (fun_of_shape fun.now) || takes_parent (fun_of_shape fun.now)) }
 {
-    takes_desc(fun) || takes_parent(fun)
-}
-
-// Whether a function takes a descriptor.
-fn takes_desc(fun: &FunShape) -> bool
-    ensures { result ≡ takes_desc (fun_of_shape fun.now) }
-{
-    fun.kinds.iter().any(|kind| matches!(kind, Kind::Desc))
-}
-
-// Whether a function takes a parent.
-fn takes_parent(fun: &FunShape) -> bool
-    ensures { result ≡ takes_parent (fun_of_shape fun.now) }
-{
-    fun.kinds.iter().any(|kind| matches!(kind, Kind::Parent))
+    fun.takes_desc() || fun.takes_parent()
 }
 
 // Values with a comma and a space between them.

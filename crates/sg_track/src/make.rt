@@ -1,13 +1,13 @@
 // The row that a creation makes.
 ghost use Rattle.std.specs.Prelude.{◌≡◌, ◌≤◌, length, map, take};
-ghost use Rattle.sg_facts.specs.Facts.{fun_at, fun_of_shape, takes_parent};
+ghost use Rattle.sg_facts.specs.Facts.{fun_at, fun_of_shape};
 ghost use Rattle.sg_facts.specs.Track.{empty_field, fields_after, new_row};
 ghost use Rattle.sg_track.specs.Drafts.{EachNew, IsValue, blank_draft, empty_shape};
 
 use crate::draft::{Draft, draft_each};
 use crate::room::RowRoom;
 use sg_base::{Call, Good};
-use sg_facts::{FieldShape, Fields, FunShape, Interface, Kind, Row};
+use sg_facts::{FieldShape, Fields, FunShape, Interface, Row};
 
 /// The row that an Ok of a creation makes, in the room for it.
 pub(crate) fn made_row(interface: &Interface, call: &Call, good: &Good, room: RowRoom) -> Row
@@ -17,7 +17,7 @@ pub(crate) fn made_row(interface: &Interface, call: &Call, good: &Good, room: Ro
 {
     let fun = interface.fun(call.fun);
     let fields = made_fields(interface.shape.fields, &fun, call, good, room);
-    let parent = if takes_parent(&fun) { call.desc } else { 0 };
+    let parent = if fun.takes_parent() { call.desc } else { 0 };
     Row {
         id: good.desc,
         made: call.fun,
@@ -26,13 +26,6 @@ pub(crate) fn made_row(interface: &Interface, call: &Call, good: &Good, room: Ro
         state: fun.leaves.state_after(call.fun, call.fun),
         fields,
     }
-}
-
-// Whether a function takes a parent.
-fn takes_parent(fun: &FunShape) -> bool
-    ensures { result ≡ takes_parent (fun_of_shape fun.now) }
-{
-    fun.kinds.iter().any(|kind| matches!(kind, Kind::Parent))
 }
 
 // The fields of the row that a creation makes.
