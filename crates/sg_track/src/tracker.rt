@@ -1,5 +1,5 @@
 // The tracked rows of all descriptors.
-ghost use Rattle.std.specs.Prelude.{◌≡◌, ◌≤◌, ◌+◌, ◌-◌, [], length, IfOk, OnOk, OnErr};
+ghost use Rattle.std.specs.Prelude.{◌≡◌, ◌≤◌, ◌+◌, ◌-◌, [], length, map, IfOk, OnOk, OnErr};
 ghost use Rattle.std.specs.Option.{option_copied};
 ghost use Rattle.sg_facts.specs.Object.{given_after};
 ghost use Rattle.sg_facts.specs.Track.{ancestors, has_child, row_at, rows_after, track};
@@ -176,6 +176,17 @@ impl Tracker {
             Some(place) => self.kept[place].children > 0,
             None => has_child(self.kept.as_slice(), id),
         }
+    }
+
+    /// The ids of the live rows, ascending.
+    pub fn ids(&self, alloc: Global) -> Result<IdList, NoMemory>
+        ensures { IfOk result (λ ids. ids ≡ map (λ r. r.id) self.now.rows) }
+    {
+        let mut ids = IdList::new(alloc);
+        'rows: for one in &self.kept {
+            ids.push(one.row.id)?;
+        }
+        Ok(ids)
     }
 
     /// The number of live rows.

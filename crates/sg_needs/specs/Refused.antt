@@ -1,0 +1,13 @@
+-- What the rows alone refuse.
+use Rattle.std.specs.Prelude.{List, []}
+use Rattle.std.specs.declared.option.Option.{Option}
+use Rattle.sg_base.specs.declared.call.Call.{Call}
+use Rattle.sg_base.specs.declared.reply.Code.{Code}
+use Rattle.sg_facts.specs.declared.row.Row.{Row}
+use Rattle.sg_facts.specs.Facts.{Fun}
+use Rattle.sg_facts.specs.Guard.{refusal}
+use Rattle.sg_facts.specs.Interface.{Declared}
+
+-- the first cause that applies, as the rows tell it without files and ids
+abbrev pub refused : Declared → Fun → List Row → Call → Option Code
+refused i f rows call = refusal i f (record { rows = rows; files = []; given = 0 }) call

@@ -1,0 +1,16 @@
+//! What the tracked rows say of a call before the service is asked: whether it is refused, what has to be whole for it, and
+//! the calls that rebuild a row.
+//!
+//! - `refusals`: the refusals that the rows alone give (`guard`)
+//! - `needs`: the rows and the file that a call needs (`Needs`, `needs_of`); `line`: an id with its ancestors, and its path
+//! - `replayed`: the calls of a row's walk (`walk_of_row`, `replayed_call`)
+#![tactic(auto)]
+
+mod line;
+mod needs;
+mod refusals;
+mod replayed;
+
+pub use needs::{Needs, needs_of};
+pub use refusals::guard;
+pub use replayed::{replayed_call, walk_of_row};
