@@ -170,9 +170,7 @@ impl FunShape {
     pub fn takes_parent(&self) -> bool
         ensures { result ≡ takes_parent (fun_of_shape self.now) }
     {
-        self.kinds
-            .iter()
-            .any(|kind| matches!(kind, Kind::Parent))
+        self.kinds.iter().any(|kind| matches!(kind, Kind::Parent))
     }
 }
 
