@@ -1,7 +1,9 @@
 -- The ids that are needed, found along the line to an id.
-use Rattle.std.proofs.Common.{◌≡◌, ◌⊎◌, ℕ, zero, suc, ◌-◌, ◌<◌, ◌≤◌, Bool, true, false, cond, ◌||◌, List, [], ◌∷◌, map, filter, inl, inr, refl, sym, ◌∙◌, ap, arith}
-use Rattle.std.specs.Prelude.{◌==◌}
+use Rattle.std.proofs.Common.{◌≡◌, ◌⊎◌, ℕ, zero, suc, ◌-◌, ◌<◌, ◌≤◌, Bool, true, false, cond, ◌||◌, List, [], ◌∷◌, map, filter, None, Some, is_some, Bor, inl, inr, refl, sym, ◌∙◌, ap, subst, arith, Result, Ok, Err, IfOk}
+use Rattle.std.specs.Prelude.{◌==◌, nat_lt}
 use Rattle.std.specs.List.{list_any}
+use Rattle.std.specs.Option.{option_copied}
+use Rattle.std.specs.declared.option.Option.{Option}
 use Rattle.std.proofs.lemmas.Bool.Decides.{eqb_tells, nat_tests}
 use mathlib.Core.List.{reverse_aux}
 use Rattle.sg_facts.specs.declared.row.Row.{Row}
@@ -9,7 +11,7 @@ use Rattle.sg_facts.specs.Sound.{AreRows}
 use Rattle.sg_facts.specs.Track.{ancestors, is_ancestor, is_live, nearest, parent_in, row_at}
 use Rattle.sg_track.specs.Tracked.{AreTracked, HasLowerParent}
 use Rattle.sg_track.proofs.Above.{parent_below}
-use Rattle.sg_needs.specs.Inside.Lines.{line_to}
+use Rattle.sg_needs.specs.Inside.Lines.{ids_in, line_to}
 
 -- whether an id is among others
 abbrev among : List ℕ → ℕ → Bool
@@ -67,7 +69,7 @@ pick_false b x xs is = ap (λ t. cond t (x ∷ xs) xs) is
 
 module _ (x y : ℕ) (xs ys : List ℕ) (climbs : Climbs (x ∷ xs)) (climbs' : Climbs (y ∷ ys)) where
   abbrev Same : List ℕ → List ℕ → Type 0
-  Same as bs = filter (among bs) as ≡ filter (among as) bs
+  Same ms ns = filter (among ns) ms ≡ filter (among ms) ns
 
   heads : x ≡ y → Same xs ys → Same (x ∷ xs) (y ∷ ys)
   heads same rest =
@@ -94,8 +96,12 @@ module _ (x y : ℕ) (xs ys : List ℕ) (climbs : Climbs (x ∷ xs)) (climbs' : 
   first : Same xs ys → Same xs (y ∷ ys) → Same (x ∷ xs) ys → Same (x ∷ xs) (y ∷ ys)
   first both left right = at (eqb_tells x y)
     where
+      order : (b : Bool) → (b ≡ true → x < y) → (b ≡ false → y < x) → (x < y) ⊎ (y < x)
+      order true less more = inl (less refl)
+      order false less more = inr (more refl)
+
       apart : (x ≡ y → ⊥) → (x < y) ⊎ (y < x)
-      apart no_same = omega (arith, no_same)
+      apart no_same = order (nat_lt x y) (λ is. grind (arith, nat_tests)) (λ is. let least : y ≤ x = grind (arith, nat_tests) in omega (arith, least, no_same))
 
       either : (x < y) ⊎ (y < x) → Same (x ∷ xs) (y ∷ ys)
       either (inl less) = earlier less left
@@ -114,10 +120,7 @@ along x xs climbs rest (y ∷ ys) climbs' =
 
 common : (xs ys : List ℕ) → Climbs xs → Climbs ys → filter (among ys) xs ≡ filter (among xs) ys
 common [] ys climbs climbs' = sym (none ys)
-common (x ∷ xs) ys climbs climbs' = along x xs climbs (common_rest xs climbs.1) ys climbs'
-  where
-    common_rest : (as : List ℕ) → Climbs as → (zs : List ℕ) → Climbs zs → filter (among zs) as ≡ filter (among as) zs
-    common_rest as climbs_as zs climbs_zs = common as zs climbs_as climbs_zs
+common (x ∷ xs) ys climbs climbs' = along x xs climbs (λ zs climbs_zs. common xs zs climbs.1 climbs_zs) ys climbs'
 
 -- ---- the line climbs
 
@@ -222,3 +225,32 @@ line_needed given rows id are =
     same_tests (is_live rows) (among ids) (line_to rows id) (live_among rows)
     ∙ common (line_to rows id) ids (line_climbs given rows are id) (ids_climb 0 given rows are)
     ∙ sym (chosen (λ r. (r.id == id) || is_ancestor rows r.id id) (among (line_to rows id)) rows (in_line rows id))
+
+-- all rows pass where all are looked at
+pub all_pass : (rows : List Row) → filter (λ r. true) rows ≡ rows
+all_pass [] = refl
+all_pass (r ∷ rows) = ap (λ l. r ∷ l) (all_pass rows)
+
+-- an id is live exactly where its row is found
+found_live : (rows : List Row) (id : ℕ) → is_some (row_at rows id) ≡ is_live rows id
+found_live [] id = refl
+found_live (r ∷ rows) id = at (r.id == id) (found_live rows id)
+  where
+    at : (b : Bool) → is_some (row_at rows id) ≡ is_live rows id → is_some (cond b (Some r) (row_at rows id)) ≡ (b || is_live rows id)
+    at true rest = refl
+    at false rest = rest
+
+pub live_if_found : (rows : List Row) (id : ℕ) (found : Option (Bor Row)) → option_copied found ≡ row_at rows id → is_some found ≡ is_live rows id
+live_if_found rows id None is = ap is_some is ∙ found_live rows id
+live_if_found rows id (Some row) is = ap is_some is ∙ found_live rows id
+
+-- so what is needed is told: of all rows, or along the line
+pub needed_of_all : {E : Type 0} (all : Bool) (rows : List Row) (id : ℕ) (told : Result (List ℕ) E) → all ≡ true → IfOk told (λ ids. ids ≡ map (λ r. r.id) rows) → IfOk told (λ ids. ids ≡ ids_in all rows id)
+needed_of_all all rows id (Err e) is told = tt
+needed_of_all all rows id (Ok ids) is told =
+    subst (λ b. ids ≡ ids_in b rows id) (sym is) (told ∙ ap (map (λ r. r.id)) (sym (all_pass rows)))
+
+pub needed_in_line : {E : Type 0} (all : Bool) (given : ℕ) (rows : List Row) (id : ℕ) (told : Result (List ℕ) E) → all ≡ false → AreTracked given rows
+    → IfOk told (λ ids. ids ≡ filter (is_live rows) (line_to rows id)) → IfOk told (λ ids. ids ≡ ids_in all rows id)
+needed_in_line all given rows id (Err e) is are told = tt
+needed_in_line all given rows id (Ok ids) is are told = subst (λ b. ids ≡ ids_in b rows id) (sym is) (told ∙ line_needed given rows id are)

@@ -4,6 +4,7 @@ ghost use Rattle.std.specs.List.{flat_map};
 ghost use Rattle.std.specs.Option.{option_copied};
 ghost use Rattle.sg_facts.specs.Object.{first_text, path_of, step_to};
 ghost use Rattle.sg_facts.specs.Track.{ancestors, is_live, row_at};
+ghost use Rattle.sg_track.specs.Tracked.{AreTracked};
 ghost use Rattle.sg_needs.specs.Inside.Lines.{line_to};
 
 use sg_base::{IdList, NoMemory, Path, Value};
@@ -13,7 +14,8 @@ use std::alloc::Global;
 
 /// An id with its ancestors: the root first, the id last.
 pub(crate) fn line_to(alloc: Global, rows: &Tracker, id: u64) -> Result<IdList, NoMemory>
-    ensures { IfOk result (λ line. line ≡ line_to rows.now.rows id) }
+    ensures line { IfOk result (λ line. line ≡ line_to rows.now.rows id) }
+    ensures tracked { AreTracked rows.now.given rows.now.rows }
 {
     let above = rows.ancestors(alloc, id)?;
     let mut line = IdList::new(alloc);
@@ -30,11 +32,18 @@ pub(crate) fn live_of(alloc: Global, rows: &Tracker, ids: &[u64]) -> Result<IdLi
 {
     let mut live = IdList::new(alloc);
     'ids: for id in ids {
-        if rows.row(*id).is_some() {
+        if is_live(rows, *id) {
             live.push(*id)?;
         }
     }
     Ok(live)
+}
+
+// Whether an id is live.
+fn is_live(rows: &Tracker, id: u64) -> bool
+    ensures { result ≡ is_live rows.now.rows id }
+{
+    rows.row(id).is_some()
 }
 
 /// The path along a line: a slash and the name of each live row.
@@ -50,7 +59,7 @@ pub(crate) fn path_along(alloc: Global, rows: &Tracker, line: &[u64]) -> Result<
 
 // Adds a slash and the name of a row, where there is one.
 fn push_step(path: &mut Path, row: Option<&Row>) -> Result<(), NoMemory>
-    ensures { OnOk result (path.new ≡ path.old ++ step_to (option_copied row)) }
+    ensures { OnOk result (path.new ≡ path.old ++ step_to (option_copied row.entry)) }
 {
     match row {
         Some(row) => {

@@ -1,11 +1,14 @@
 // What has to be whole before the service is asked a call.
-ghost use Rattle.std.specs.Prelude.{◌≡◌, IfOk, filter, map};
-ghost use Rattle.sg_facts.specs.Needs.{is_needed, needs as the_needs};
-ghost use Rattle.sg_facts.specs.Object.{Object};
+ghost use Rattle.std.specs.Prelude.{◌≡◌, IfOk, None, Some, if◌then◌else◌};
+ghost use Rattle.sg_facts.specs.Facts.{fun_of_shape};
+ghost use Rattle.sg_facts.specs.Needs.{needs as the_needs};
+ghost use Rattle.sg_facts.specs.Object.{Object, path_of};
+ghost use Rattle.sg_track.specs.Tracked.{AreTracked};
+ghost use Rattle.sg_needs.specs.Inside.Lines.{ids_in, line_to};
 
 use crate::line::{line_to, live_of, path_along};
 use sg_base::{Call, IdList, NoMemory, Path};
-use sg_facts::Interface;
+use sg_facts::{FunShape, Interface};
 use sg_track::Tracker;
 use std::alloc::Global;
 use std::marker::Model;
@@ -40,15 +43,44 @@ pub fn needs_of(
     let fun = iface.fun(call.fun);
     let line = line_to(alloc, rows, call.desc)?;
     Ok(Needs {
-        ids: if fun.looks_at_all() {
-            rows.ids(alloc)?
-        } else {
-            live_of(alloc, rows, line.as_slice())?
-        },
-        file: if fun.uses_file() {
-            Some(path_along(alloc, rows, line.as_slice())?)
-        } else {
-            None
-        },
+        ids: ids_needed(alloc, &fun, rows, call.desc, line.as_slice())?,
+        file: file_needed(alloc, &fun, rows, call.desc, line.as_slice())?,
     })
+}
+
+// The ids of the rows that a call on an id needs, which stands at the end of a line.
+fn ids_needed(
+    alloc: Global,
+    fun: &FunShape,
+    rows: &Tracker,
+    id: u64,
+    line: &[u64],
+) -> Result<IdList, NoMemory>
+    requires line { line.now ≡ line_to rows.now.rows id }
+    requires tracked { AreTracked rows.now.given rows.now.rows }
+    ensures { IfOk result (λ ids. ids ≡ ids_in (fun_of_shape fun.now).all rows.now.rows id) }
+{
+    if fun.looks_at_all() {
+        rows.ids(alloc)
+    } else {
+        live_of(alloc, rows, line)
+    }
+}
+
+// The path of the file that a call on an id needs, where it needs one.
+fn file_needed(
+    alloc: Global,
+    fun: &FunShape,
+    rows: &Tracker,
+    id: u64,
+    line: &[u64],
+) -> Result<Option<Path>, NoMemory>
+    requires { line.now ≡ line_to rows.now.rows id }
+    ensures { IfOk result (λ file. file ≡ (if (fun_of_shape fun.now).uses_file then Some (path_of rows.now.rows id) else None)) }
+{
+    if fun.uses_file() {
+        Ok(Some(path_along(alloc, rows, line)?))
+    } else {
+        Ok(None)
+    }
 }

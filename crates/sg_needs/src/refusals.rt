@@ -51,7 +51,7 @@ fn refusal(iface: &Interface, fun: &FunShape, rows: &Tracker, call: &Call) -> Op
 
 // Whether a client may name a row as a parent.
 fn may_be_parent(parents: Parents, row: Option<&Row>, parent: u64, client: u8) -> bool
-    ensures { result ≡ may_be_parent parents (option_copied row) parent client }
+    ensures { result ≡ may_be_parent parents (option_copied row.entry) parent client }
 {
     match parents {
         Parents::Never | Parents::Cross => row.is_some(),
@@ -61,7 +61,7 @@ fn may_be_parent(parents: Parents, row: Option<&Row>, parent: u64, client: u8) -
 
 // Whether a client may name a row as its descriptor.
 fn may_use(iface: &Interface, row: Option<&Row>, client: u8) -> bool
-    ensures { result ≡ may_use iface.now.facts (option_copied row) client }
+    ensures { result ≡ may_use iface.now.facts (option_copied row.entry) client }
 {
     if iface.shape.global {
         row.is_some()
@@ -72,7 +72,7 @@ fn may_use(iface: &Interface, row: Option<&Row>, client: u8) -> bool
 
 // Whether a row is live, and made by the client.
 fn is_own(row: Option<&Row>, client: u8) -> bool
-    ensures { result ≡ is_own (option_copied row) client }
+    ensures { result ≡ is_own (option_copied row.entry) client }
 {
     match row {
         Some(row) => row.creator == client,
@@ -82,7 +82,7 @@ fn is_own(row: Option<&Row>, client: u8) -> bool
 
 // Whether a function may be called in a row's state.
 fn in_state(iface: &Interface, row: Option<&Row>, fun: u8) -> bool
-    ensures { result ≡ in_state iface.now (option_copied row) fun }
+    ensures { result ≡ in_state iface.now (option_copied row.entry) fun }
 {
     match row {
         Some(row) => iface.moves_on(row.state, fun),
