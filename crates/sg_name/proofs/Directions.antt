@@ -1,5 +1,5 @@
 -- Two look-ups in opposite directions, when a name comes, is changed or goes.
-use Rattle.std.proofs.Common.{◌≡◌, ℕ, Bool, true, false, cond, List, None, Some, refl, sym, ◌∙◌, ap, inl, inr}
+use Rattle.std.proofs.Common.{◌≡◌, ℕ, true, false, cond, List, None, Some, refl, sym, ◌∙◌, ap, inl, inr}
 use Rattle.std.specs.Prelude.{◌==◌, ◌↔◌, nat_eq}
 use Rattle.std.specs.declared.option.Option.{Option}
 use Rattle.std.specs.Map.{lookup}

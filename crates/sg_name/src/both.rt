@@ -1,6 +1,6 @@
 // The two maps of names, each by itself.
 ghost use Rattle.std.specs.Prelude.{◌≡◌, ◌≤◌, ◌+◌, None, Some, IsSome, IfNone, nat_eq};
-ghost use Rattle.indexmap.specs.IndexMap.{IsEmpty, IsUnchanged, Updates, get, index_map_len, spare};
+ghost use Rattle.indexmap.specs.IndexMap.{IsUnchanged, Updates, get, index_map_len, spare};
 ghost use Rattle.sg_name.specs.Names.{IsOneToOne, real_at};
 ghost use Rattle.sg_name.specs.Inside.Both.{GoesBack};
 
@@ -43,15 +43,15 @@ pub(crate) fn exchange(
     }
 }
 
-/// Points each service id back to the id that it stands for, in a map that was cleared. It takes no memory.
+/// Makes the map of service ids anew: each goes back to the id that it stands for. It takes no memory.
 pub(crate) fn refill(ids: &mut IndexMap<u64, u64>, standings: &IndexMap<u64, Standing>)
-    requires empty { IsEmpty ids.old }
-    requires room { index_map_len standings.now ≤ spare ids.old }
+    requires room { index_map_len standings.now ≤ index_map_len ids.old + spare ids.old }
     requires apart { IsOneToOne standings.now.entries }
     ensures back { GoesBack standings.now.entries ids.new.entries }
     ensures len { index_map_len ids.new ≡ index_map_len standings.now }
-    ensures spare { spare ids.old ≤ spare ids.new + index_map_len standings.now }
+    ensures spare { index_map_len ids.old + spare ids.old ≤ index_map_len standings.now + spare ids.new }
 {
+    ids.clear();
     'all: for (id, standing) in standings {
         add(ids, standing.real, *id);
     }

@@ -98,7 +98,6 @@ impl Names {
         match exchange(&mut self.standings, id, standing) {
             Some(old) => {
                 if old != standing.real {
-                    self.ids.clear();
                     refill(&mut self.ids, &self.standings);
                 }
             }
