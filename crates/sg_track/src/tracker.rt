@@ -1,5 +1,5 @@
 // The tracked rows of all descriptors.
-ghost use Rattle.std.specs.Prelude.{◌≡◌, ◌≤◌, ◌+◌, ◌-◌, [], length, IfOk, OnOk, OnErr};
+ghost use Rattle.std.specs.Prelude.{◌≡◌, ◌<◌, ◌≤◌, ◌+◌, ◌-◌, ◌^◌, [], length, IfOk, OnOk, OnErr};
 ghost use Rattle.std.specs.Option.{option_copied};
 ghost use Rattle.sg_facts.specs.Object.{given_after};
 ghost use Rattle.sg_facts.specs.Track.{ancestors, has_child, row_at, rows_after, track};
@@ -149,6 +149,16 @@ impl Tracker {
         if let Some(place) = place_of(self.kept.as_slice(), call.desc) {
             change_row(&mut self.kept[place].row, interface, call, good);
         }
+    }
+
+    /// Counts the next id as given, without a row.
+    pub fn skip(&mut self)
+        requires { self.old.given + 1 < 2 ^ 64 }
+        ensures rows { self.new.rows ≡ self.old.rows }
+        ensures given { self.new.given ≡ self.old.given + 1 }
+        ensures spare { self.new.spare ≡ self.old.spare }
+    {
+        self.given += 1;
     }
 
     /// The row of an id; None exactly where no live row has the id.

@@ -1,0 +1,4 @@
+pub mod Paths
+pub mod Parts
+pub mod Placing
+pub mod Spots
