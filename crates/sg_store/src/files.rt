@@ -160,16 +160,18 @@ impl Files {
         requires { FitsPatch self.old patch.now }
         ensures { (k : List ℕ) → bytes_in self.new k ≡ patched_at (Some patch.now) k (bytes_in self.old k) }
     {
-        match place_of(&self.places, patch.key.as_slice()) {
+        let key = patch.key.as_slice();
+        let bytes = patch.bytes.as_slice();
+        let at = patch.from as usize;
+        match place_of(&self.places, key) {
             Some(place) => {
-                let from = patch.from as usize;
-                write_at(&mut self.buffer, place.from + from, patch.bytes.as_slice());
+                write_at(&mut self.buffer, place.from + at, bytes);
                 let written = Place {
                     from: place.from,
-                    len: place.len.max(from + patch.bytes.len()),
+                    len: place.len.max(at + bytes.len()),
                     room: place.room,
                 };
-                set_place(&mut self.places, patch.key.as_slice(), written);
+                set_place(&mut self.places, key, written);
             }
             None => unreachable!(),
         }
