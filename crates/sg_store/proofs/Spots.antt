@@ -1,5 +1,5 @@
 -- Files stay, and their spans stay apart, when one of them gets another span.
-use Rattle.std.proofs.Common.{◌≡◌, ℕ, ◌+◌, ◌≤◌, Bool, true, false, cond, List, [], ◌++◌, None, Some, length, take, drop, refl, sym, ◌∙◌, ap, subst, inl, inr, ◌⊎◌, arith}
+use Rattle.std.proofs.Common.{◌≡◌, ℕ, ◌+◌, ◌*◌, ◌≤◌, Bool, true, false, cond, List, [], ◌++◌, None, Some, length, take, drop, refl, sym, ◌∙◌, ap, subst, inl, inr, ◌⊎◌, arith}
 use Rattle.std.specs.Prelude.{◌≢◌, max, min}
 use Rattle.std.specs.Str.{bytes_eq}
 use Rattle.std.specs.declared.option.Option.{Option}
@@ -7,7 +7,7 @@ use Rattle.std.proofs.lemmas.List.{length-drop, length-take-le}
 use Rattle.sg_facts.specs.declared.outcome.Patch.{Patch}
 use Rattle.sg_facts.specs.Limits.{most_file, most_written}
 use Rattle.sg_facts.specs.Object.{over}
-use Rattle.sg_store.specs.Spans.{Filed, FitsPatch, HasRoomIn, IsApart, Span, bytes_in, part_of, patched_at, span_at, span_bytes, span_room}
+use Rattle.sg_store.specs.Spans.{Filed, FitsPatch, GrowsTwice, HasRoomIn, IsApart, Span, bytes_in, part_of, patched_at, span_at, span_bytes, span_room, span_stand, stand_in}
 use Rattle.sg_store.specs.Inside.Buffers.{Grows, HasCopy}
 use Rattle.sg_store.specs.Inside.Places.{AreSpans, IsWithin}
 use Rattle.sg_store.proofs.Paths.{told, two_paths}
@@ -67,6 +67,20 @@ module _ (old new : List Span) (key : List ℕ) (s : Span) (set : IsSet old new 
   files_set buffer bytes here others k = elim (told k key) [
     | inl same ↦ ap (span_bytes buffer) (at_key k same.0) ∙ here ∙ ap bytes (sym same.1)
     | inr other ↦ ap (span_bytes buffer) (at_other k other.0) ∙ others k other.1 other.0
+  ]
+
+  -- place and room of each file, where those of the one stay
+  pub stands_set : span_stand (span_at old key) ≡ Some (s.from, s.room) → (k : List ℕ) → stand_in new k ≡ stand_in old k
+  stands_set same k = elim (told k key) [
+    | inl one ↦ ap span_stand (at_key k one.0) ∙ sym same ∙ ap (stand_in old) (sym one.1)
+    | inr other ↦ ap span_stand (at_other k other.0)
+  ]
+
+  -- each room stays or comes to twice as much, where that of the one does
+  pub twice_set : 2 * span_room (span_at old key) ≤ s.room → (k : List ℕ) → GrowsTwice old new k
+  twice_set more k = elim (told k key) [
+    | inl same ↦ inr (subst (λ n. 2 * span_room (span_at old k) ≤ span_room n) (sym (at_key k same.0)) (subst (λ p. 2 * span_room (span_at old p) ≤ s.room) (sym same.1) more))
+    | inr other ↦ inl (ap span_room (at_other k other.0))
   ]
 
   -- no room is lost

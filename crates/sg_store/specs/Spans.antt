@@ -1,5 +1,5 @@
 -- Files in one buffer: where each stands, and its bytes.
-use Rattle.std.specs.Prelude.{ℕ, ◌≡◌, ◌≢◌, ◌+◌, ◌≤◌, ◌==◌, ◌&&◌, ◌⊎◌, nat_le, if◌then◌else◌, List, [], None, Some, find, length, min, take, drop, slice_range}
+use Rattle.std.specs.Prelude.{ℕ, ◌≡◌, ◌≢◌, ◌+◌, ◌*◌, ◌≤◌, ◌==◌, ◌&&◌, ◌⊎◌, nat_le, if◌then◌else◌, List, [], None, Some, find, length, min, take, drop, slice_range}
 use Rattle.std.specs.Str.{bytes_eq}
 use Rattle.std.specs.declared.option.Option.{Option}
 use Rattle.sg_facts.specs.declared.outcome.Patch.{Patch}
@@ -36,6 +36,23 @@ abbrev pub span_room : Option Span → ℕ
 span_room None = 0
 span_room (Some s) = s.room
 
+-- the room of a file; a path without a span has none
+abbrev pub room_in : List Span → List ℕ → ℕ
+room_in spans key = span_room (span_at spans key)
+
+-- place and room of a span
+abbrev pub span_stand : Option Span → Option (ℕ × ℕ)
+span_stand None = None
+span_stand (Some s) = Some (s.from, s.room)
+
+-- the place of a file, and its room
+abbrev pub stand_in : List Span → List ℕ → Option (ℕ × ℕ)
+stand_in spans key = span_stand (span_at spans key)
+
+-- the room of a file stays, or comes to at least twice as much
+abbrev pub GrowsTwice : List Span → List Span → List ℕ → Type 0
+GrowsTwice old new key = (room_in new key ≡ room_in old key) ⊎ (2 * room_in old key ≤ room_in new key)
+
 -- place and length of a span that has bytes
 abbrev pub shown_span : Option Span → Option (ℕ × ℕ)
 shown_span None = None
@@ -55,7 +72,7 @@ bytes_in f key = span_bytes f.buffer (span_at f.spans key)
 
 -- a file has room for a patch more: its room is at least its length and 256, or the greatest length of a file
 abbrev pub HasRoomIn : Filed → List ℕ → Type 0
-HasRoomIn f key = min (length (bytes_in f key) + most_written) most_file ≤ span_room (span_at f.spans key)
+HasRoomIn f key = min (length (bytes_in f key) + most_written) most_file ≤ room_in f.spans key
 
 -- a patch has at most 256 bytes, begins within its file and ends at most at 65,536, and its file has room for it
 pub record FitsPatch (f : Filed) (p : Patch) : Type 0 where

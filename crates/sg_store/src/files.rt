@@ -1,7 +1,7 @@
 // The files in one buffer.
-ghost use Rattle.std.specs.Prelude.{◌≡◌, ◌≢◌, ◌+◌, ◌≤◌, ℕ, List, [], None, Some, IsSome, IfSome, OnOk, OnErr, MatchOption, length, min};
+ghost use Rattle.std.specs.Prelude.{◌≡◌, ◌+◌, ◌*◌, ◌≤◌, ℕ, List, [], None, Some, IsSome, IfSome, OnOk, length, min};
 ghost use Rattle.sg_facts.specs.Limits.{most_file, most_written};
-ghost use Rattle.sg_store.specs.Spans.{AreApart, FitsPatch, HasRoomIn, Span, bytes_in, part_of, patched_at, shown_span, span_at};
+ghost use Rattle.sg_store.specs.Spans.{AreApart, FitsPatch, GrowsTwice, HasRoomIn, bytes_in, part_of, patched_at, room_in, shown_span, span_at, stand_in};
 ghost use Rattle.sg_store.specs.Inside.Places.{HasSpan};
 
 use crate::buffer::{add_copy, write_at};
@@ -94,6 +94,7 @@ impl Files {
         ensures files { (k : List ℕ) → bytes_in self.new k ≡ bytes_in self.old k }
         ensures room { OnOk result (HasRoomIn self.new key.now) }
         ensures rooms { (k : List ℕ) → HasRoomIn self.old k → HasRoomIn self.new k }
+        ensures twice { (k : List ℕ) → GrowsTwice self.old.spans self.new.spans k }
     {
         if place_of(&self.places, key.as_slice()).is_none() {
             self.add(alloc, key)?;
@@ -106,7 +107,7 @@ impl Files {
         requires { span_at self.old.spans key.now ≡ None }
         ensures files { (k : List ℕ) → bytes_in self.new k ≡ bytes_in self.old k }
         ensures there { OnOk result (IsSome (span_at self.new.spans key.now)) }
-        ensures rooms { (k : List ℕ) → HasRoomIn self.old k → HasRoomIn self.new k }
+        ensures rooms { (k : List ℕ) → room_in self.new.spans k ≡ room_in self.old.spans k }
     {
         let place = Place {
             from: 0,
@@ -122,6 +123,7 @@ impl Files {
         ensures files { (k : List ℕ) → bytes_in self.new k ≡ bytes_in self.old k }
         ensures room { OnOk result (HasRoomIn self.new key.now) }
         ensures rooms { (k : List ℕ) → HasRoomIn self.old k → HasRoomIn self.new k }
+        ensures twice { (k : List ℕ) → GrowsTwice self.old.spans self.new.spans k }
     {
         match place_of(&self.places, key.as_slice()) {
             Some(place) => {
@@ -138,11 +140,12 @@ impl Files {
     // Moves a file to the end of the buffer, into a greater room.
     fn move_to_end(&mut self, key: &Path, place: Place, room: usize) -> Result<(), NoMemory>
         requires there { HasSpan self.old.spans key.now place }
-        requires more { place.room ≤ room }
+        requires twice { 2 * place.room ≤ room }
         requires enough { min (place.len + most_written) most_file ≤ room }
         ensures files { (k : List ℕ) → bytes_in self.new k ≡ bytes_in self.old k }
         ensures room { OnOk result (HasRoomIn self.new key.now) }
         ensures rooms { (k : List ℕ) → HasRoomIn self.old k → HasRoomIn self.new k }
+        ensures twice { (k : List ℕ) → GrowsTwice self.old.spans self.new.spans k }
     {
         let from = self.buffer.len();
         add_copy(&mut self.buffer, place.from, place.len, room)?;
@@ -158,7 +161,8 @@ impl Files {
     /// Writes a patch into its file, within the room that the file has. It takes no memory.
     pub(crate) fn write(&mut self, patch: &Patch)
         requires { FitsPatch self.old patch.now }
-        ensures { (k : List ℕ) → bytes_in self.new k ≡ patched_at (Some patch.now) k (bytes_in self.old k) }
+        ensures files { (k : List ℕ) → bytes_in self.new k ≡ patched_at (Some patch.now) k (bytes_in self.old k) }
+        ensures stands { (k : List ℕ) → stand_in self.new.spans k ≡ stand_in self.old.spans k }
     {
         let key = patch.key.as_slice();
         let bytes = patch.bytes.as_slice();
@@ -189,7 +193,8 @@ fn needed_room(len: usize) -> usize
 /// Writes a patch, where there is one.
 pub(crate) fn write_patch(files: &mut Files, patch: Option<Patch>)
     requires { IfSome patch (FitsPatch files.old) }
-    ensures { (k : List ℕ) → bytes_in files.new k ≡ patched_at patch k (bytes_in files.old k) }
+    ensures files { (k : List ℕ) → bytes_in files.new k ≡ patched_at patch k (bytes_in files.old k) }
+    ensures stands { (k : List ℕ) → stand_in files.new.spans k ≡ stand_in files.old.spans k }
 {
     if let Some(patch) = patch {
         files.write(&patch);

@@ -4,6 +4,7 @@ ghost use Rattle.std.specs.Option.{option_copied};
 ghost use Rattle.sg_facts.specs.Object.{given_after};
 ghost use Rattle.sg_facts.specs.Track.{row_at, track};
 ghost use Rattle.sg_store.specs.Committing.{MayFollow, NamesNext};
+ghost use Rattle.sg_track.specs.Tracked.{spare_after};
 
 use sg_base::{Call, NoMemory, Reply};
 use sg_facts::{Interface, Row, Tables};
@@ -71,6 +72,7 @@ impl Rows {
         requires { MayFollow tables.now.iface.facts self.old call.now reply.now }
         ensures rows { let facts = tables.now.iface.facts in self.new.rows ≡ (if facts.global then track facts self.old.rows call.now reply.now else self.old.rows) }
         ensures given { self.new.given ≡ given_after tables.now.iface.facts self.old.given call.now reply.now }
+        ensures spare { let facts = tables.now.iface.facts in self.new.spare ≡ (if facts.global then spare_after facts self.old.spare call.now reply.now else self.old.spare) }
     {
         let interface = tables.interface();
         self.given = given_after(interface, self.given, call, reply);
@@ -104,6 +106,7 @@ fn count_id(tracker: &mut Tracker, interface: &Interface, call: &Call, reply: &R
     requires { NamesNext interface.now.facts tracker.old.given call.now reply.now }
     ensures rows { tracker.new.rows ≡ tracker.old.rows }
     ensures given { tracker.new.given ≡ given_after interface.now.facts tracker.old.given call.now reply.now }
+    ensures spare { tracker.new.spare ≡ tracker.old.spare }
 {
     match reply {
         Reply::Ok(good) => {

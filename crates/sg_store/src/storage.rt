@@ -4,8 +4,9 @@ ghost use Rattle.std.specs.Option.{option_copied};
 ghost use Rattle.sg_facts.specs.Object.{given_after};
 ghost use Rattle.sg_facts.specs.Track.{row_at, track};
 ghost use Rattle.sg_store.specs.Committing.{MayCommit};
-ghost use Rattle.sg_store.specs.Spans.{AreApart, cut, part_of, patched_at, shown_span, span_at};
+ghost use Rattle.sg_store.specs.Spans.{AreApart, GrowsTwice, cut, part_of, patched_at, shown_span, span_at, stand_in};
 ghost use Rattle.sg_store.specs.Stored.{HasRoom, bytes_of, receipt_at};
+ghost use Rattle.sg_track.specs.Tracked.{spare_after};
 
 use crate::buffer::cut;
 use crate::files::{Files, write_patch};
@@ -43,6 +44,7 @@ impl Storage {
         ensures rows { IfOk result (λ s. s.rows ≡ []) }
         ensures given { IfOk result (λ s. s.given ≡ 0) }
         ensures files { IfOk result (λ s. (key : List ℕ) → bytes_of s key ≡ []) }
+        ensures buffer { IfOk result (λ s. s.buffer ≡ []) }
     {
         Ok(Storage {
             receipts: no_receipts(alloc, clients)?,
@@ -120,6 +122,7 @@ impl Storage {
         ensures row { OnOk result (1 ≤ self.new.spare) }
         ensures room { OnOk result (IfSome key.entry (λ k. HasRoom self.new k.now)) }
         ensures rooms { (key : List ℕ) → HasRoom self.old key → HasRoom self.new key }
+        ensures twice { (key : List ℕ) → GrowsTwice self.old.spans self.new.spans key }
         ensures clients { self.new.clients ≡ self.old.clients }
         ensures receipts { self.new.receipts ≡ self.old.receipts }
         ensures rows { self.new.rows ≡ self.old.rows }
@@ -141,6 +144,8 @@ impl Storage {
         ensures rows { let facts = tables.now.iface.facts in self.new.rows ≡ (if facts.global then track facts self.old.rows call.now reply else self.old.rows) }
         ensures given { self.new.given ≡ given_after tables.now.iface.facts self.old.given call.now reply }
         ensures files { (key : List ℕ) → bytes_of self.new key ≡ patched_at patch key (bytes_of self.old key) }
+        ensures stands { (key : List ℕ) → stand_in self.new.spans key ≡ stand_in self.old.spans key }
+        ensures spare { let facts = tables.now.iface.facts in self.new.spare ≡ (if facts.global then spare_after facts self.old.spare call.now reply else self.old.spare) }
         ensures clients { self.new.clients ≡ self.old.clients }
     {
         self.rows.follow(tables, call, &reply);
