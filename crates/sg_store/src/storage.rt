@@ -104,6 +104,7 @@ impl Storage {
     pub fn span(&self, key: &Path) -> Option<(usize, usize)>
         ensures place { result ≡ shown_span (span_at self.now.spans key.now) }
         ensures some { IfSome result (λ p. part_of self.now.buffer p.0 p.1 ≡ bytes_of self.now key.now) }
+        ensures within { IfSome result (λ p. p.0 + p.1 ≤ length self.now.buffer) }
         ensures none { result ≡ None → bytes_of self.now key.now ≡ [] }
         ensures only_none { bytes_of self.now key.now ≡ [] → result ≡ None }
         ensures apart { AreApart self.now.spans }
