@@ -1,0 +1,15 @@
+//! The storage, tried from outside.
+//!
+//! - `calls`: tables, calls and replies (`tables_of`, `call`, `done`)
+//!
+//! The tests:
+//! - `files`: files that are written by turns, and parts of them that are lent
+//! - `receipts`: receipts, rows and ids
+#![tactic(auto)]
+
+#[cfg(test)]
+mod calls;
+#[cfg(test)]
+mod files;
+#[cfg(test)]
+mod receipts;
