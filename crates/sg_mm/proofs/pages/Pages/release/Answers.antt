@@ -4,7 +4,7 @@ use Rattle.sg_base.specs.Stops.{asked_after}
 use Rattle.sg_slots.specs.Slots.{Held}
 use Rattle.sg_mm.specs.declared.page.Page.{Page}
 use Rattle.sg_mm.specs.MmDoes.{held_without}
-use Rattle.sg_mm.specs.MmIndex.{AreIndexed, has_id}
+use Rattle.sg_mm.specs.MmIndex.{AreIndexed}
 use Rattle.sg_mm.proofs.Doing.{asked_twice}
 use Rattle.sg_mm.proofs.Indexed.{indexed_left, told_left}
 use Rattle.sg_mm.proofs.pages.Pages.release.Goals as goal
