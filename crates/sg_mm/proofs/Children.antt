@@ -1,14 +1,12 @@
 -- The index by parent, when pages come and go, and what it has below one page.
-use Rattle.std.proofs.Common.{◌≡◌, ℕ, ◌+◌, ◌-◌, ◌^◌, ◌<◌, Bool, true, false, cond, not, nat_eq, List, [], ◌∷◌, ◌++◌, None, Some, filter, refl, sym, ◌∙◌, ap, inl, inr, arith}
+use Rattle.std.proofs.Common.{◌≡◌, ℕ, ◌-◌, ◌^◌, ◌<◌, Bool, true, false, cond, not, nat_eq, List, [], ◌∷◌, ◌++◌, None, Some, filter, refl, sym, ◌∙◌, ap, arith}
 use Rattle.std.specs.Prelude.{◌==◌, ◌&&◌, ◌||◌}
 use Rattle.std.specs.List.{list_any}
-use Rattle.std.specs.Map.{lookup}
 use Rattle.std.specs.BTreeMap.{is_at}
 use Rattle.std.specs.BTreeSet.{BTreeSet}
 use Rattle.std.specs.BTreeMap.Range.{range_contains}
 use Rattle.std.specs.declared.ops.Bound.TheVariants.{Included}
 use Rattle.std.specs.declared.option.Option.{Option}
-use Rattle.std.proofs.lemmas.Bool.{cases_Bool}
 use Rattle.std.proofs.lemmas.Bool.Decides.{nat_tests}
 use Rattle.std.proofs.lemmas.Map.Entries.{lookup-filter-keys}
 use Rattle.sg_slots.specs.Slots.{AreIds, entry_at}
@@ -95,7 +93,7 @@ itself c = grind (arith, nat_tests)
 -- the children that lie between are those of the parent
 pub between : (parent n : ℕ) (keys : List Child) → ((c : Child) → list_any (is_at (child_cmp c)) keys ≡ true → c.id < 2 ^ 64)
     → list_any (λ c. c.id == n) (filter (range_contains child_cmp (Included (record { parent = parent; id = 0 })) (Included (record { parent = parent; id = 2 ^ 64 - 1 }))) keys)
-        ≡ list_any (is_at (child_cmp (record { parent = parent; id = n }))) keys
+    ≡ list_any (is_at (child_cmp (record { parent = parent; id = n }))) keys
 between parent n [] fit = refl
 between parent n (c ∷ keys) fit =
     at (range_contains child_cmp (Included (record { parent = parent; id = 0 })) (Included (record { parent = parent; id = 2 ^ 64 - 1 })) c)

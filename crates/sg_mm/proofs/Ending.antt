@@ -9,14 +9,12 @@ use Rattle.std.specs.BTreeSet.{BTreeSet}
 use Rattle.std.specs.Ordering.{nat_cmp}
 use Rattle.std.proofs.lemmas.Bool.{cases_Bool}
 use Rattle.std.proofs.lemmas.Bool.Decides.{nat_tests}
-use Rattle.std.proofs.lemmas.Map.Entries.{option_filter}
 use Rattle.sg_facts.specs.declared.row.Row.{Row}
-use Rattle.sg_facts.specs.Sound.{AreRows}
 use Rattle.sg_facts.specs.Track.{ancestors, ends_with, is_live, nearest, parent_in, row_at}
 use Rattle.sg_facts.proofs.RowLists.{live_of_row}
-use Rattle.sg_slots.specs.Slots.{AreIds, Held, entry_at, row_with, rows_of, without}
+use Rattle.sg_slots.specs.Slots.{AreIds, Held, entry_at, row_with, without}
 use Rattle.sg_slots.proofs.Rows.{is_live-rows_of, row_at-rows_of}
-use Rattle.sg_walk_laws.proofs.Found.{met, other_test, same_test}
+use Rattle.sg_walk_laws.proofs.Found.{met, same_test}
 use Rattle.sg_walk_laws.proofs.Steps.{both_true}
 use Rattle.sg_walk_laws.proofs.Subtrees.{IsAboveParent, ends_by_parent}
 use Rattle.sg_mm.specs.declared.child.Child.{Child}
@@ -170,36 +168,6 @@ module _ (held : Held Page) (places : BTreeMap Place ℕ) (children : BTreeSet C
 abbrev pub is_left : List ℕ → ℕ → Bool
 is_left ids n = list_any (is_at (nat_cmp n)) ids
 
-same_id : (n id : ℕ) → is_at (nat_cmp n) id ≡ (n == id)
-same_id n id = grind (arith, nat_tests)
-
--- no place loses its id for an id less that is to go
-pub places_left : (id : ℕ) (ids : List ℕ) (o : Option ℕ) → option_filter (λ n. not (is_left ids n)) (option_filter (λ n. not (n == id)) o) ≡ option_filter (λ n. not (is_left (id ∷ ids) n)) o
-places_left id ids None = refl
-places_left id ids (Some n) = at (n == id) (same_id n id)
-  where
-    at : (b : Bool) → is_at (nat_cmp n) id ≡ b → option_filter (λ m. not (is_left ids m)) (cond (not b) (Some n) None) ≡ cond (not (is_at (nat_cmp n) id || is_left ids n)) (Some n) None
-    at true is = sym (ap (λ b. cond (not (b || is_left ids n)) (Some n) None) is)
-    at false is = sym (ap (λ b. cond (not (b || is_left ids n)) (Some n) None) is)
-
--- where none is to go, all stays
-pub places_stay : (o : Option ℕ) → option_filter (λ n. not (is_left [] n)) o ≡ o
-places_stay None = refl
-places_stay (Some n) = refl
-
--- the same for what an index has
-pub has_left : (n id : ℕ) (ids : List ℕ) (had : Bool) → ((had && not (n == id)) && not (is_left ids n)) ≡ (had && not (is_left (id ∷ ids) n))
-has_left n id ids had = at had (n == id) (same_id n id)
-  where
-    at : (h b : Bool) → is_at (nat_cmp n) id ≡ b → ((h && not b) && not (is_left ids n)) ≡ (h && not (is_at (nat_cmp n) id || is_left ids n))
-    at true true is = sym (ap (λ b. not (b || is_left ids n)) is)
-    at true false is = sym (ap (λ b. not (b || is_left ids n)) is)
-    at false b is = refl
-
-pub has_stays : (had : Bool) → (had && not false) ≡ had
-has_stays true = refl
-has_stays false = refl
-
 -- an id below all that are there is none of them
 not_there : (low high id : ℕ) (ids : List ℕ) (es : List (ℕ × Page)) → AreIds low high es → id ≤ low → filter (λ e. not (is_left ids e.0)) es ≡ filter (λ e. not (is_left (id ∷ ids) e.0)) es
 not_there low high id ids [] are below = refl
@@ -226,6 +194,7 @@ pages_left low high id ids (e ∷ es) are = at (id == e.0) refl (pages_left e.0 
         let other : is_at (nat_cmp e.0) id ≡ false = grind (arith, nat_tests, is) in
         ap (λ l. cond (not (is_left ids e.0)) (e ∷ l) l) rest ∙ ap (λ b. cond (not (b || is_left ids e.0)) (e ∷ kept) kept) (sym other)
 
+-- where none is to go, all stay
 pub pages_stay : (es : List (ℕ × Page)) → filter (λ e. not (is_left [] e.0)) es ≡ es
 pages_stay [] = refl
 pages_stay (e ∷ es) = ap (λ l. e ∷ l) (pages_stay es)

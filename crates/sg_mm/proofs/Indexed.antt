@@ -14,6 +14,7 @@ use Rattle.sg_facts.specs.Sound.{AreRows}
 use Rattle.sg_facts.specs.Track.{ends_with, is_live, row_at}
 use Rattle.sg_facts.proofs.RowLists.{left, more, row_of_live}
 use Rattle.sg_slots.specs.Slots.{Held, AreIds, entry_at, row_with, rows_of}
+use Rattle.sg_slots.proofs.Ids.{absent}
 use Rattle.sg_slots.proofs.Rows.{row_at-rows_of}
 use Rattle.sg_walk_laws.proofs.Found.{above, met, other_test, same_test, within}
 use Rattle.sg_walk_laws.proofs.Steps.{both_true}
@@ -21,15 +22,16 @@ use Rattle.sg_walk_laws.proofs.Subtrees.{IsAboveParent}
 use Rattle.sg_mm.specs.declared.child.Child.{Child}
 use Rattle.sg_mm.specs.declared.page.Page.{Page}
 use Rattle.sg_mm.specs.declared.page.Place.{Place}
-use Rattle.sg_mm.specs.Inside.Children.{AreAboveParents, AreOfPages, HangsOne, has_id, is_below, is_child, is_hung}
+use Rattle.sg_mm.specs.Inside.Children.{AreAboveParents, HangsOne, TakesOneOff, has_id, is_below, is_child, is_hung}
 use Rattle.sg_mm.specs.MmDoes.{MayHang, held_with, held_without, hung}
 use Rattle.sg_mm.specs.MmFacts.{mm_facts}
-use Rattle.sg_mm.specs.MmIndex.{AreAscending, AreIndexed, ArePlaced, Gains, id_in, is_in_place, is_place}
+use Rattle.sg_mm.specs.MmIndex.{AreAscending, AreIndexed, ArePlaced, Gains, Loses, id_in, is_in_place, is_place}
 use Rattle.sg_mm.specs.MmPlaces.{first_at, first_passes, none_left, own_left, own_more, page_is_first, place_of_test, some_first, two_apart}
 use Rattle.sg_mm.specs.MmRow.{page_body}
 use Rattle.sg_mm.specs.MmSound.{HaveOwnAddresses}
 use Rattle.sg_mm.specs.MmTable.{addr_of, is_at, page_at, space_of}
 use Rattle.sg_mm.proofs.Children.{below_left, below_more}
+use Rattle.sg_mm.proofs.Places.{one_place}
 
 -- the rows of pages
 abbrev pub rows : List (ℕ × Page) → List Row
@@ -132,7 +134,7 @@ hung_some held places children (Some one) are may parent is =
     omega (arith, low, row.2, same)
 
 -- what a page may hang below was given
-pub hung_lower : (held : Held Page) (places : BTreeMap Place ℕ) (children : BTreeSet Child) (page : Page) (below : Option ℕ) → AreIndexed held places children → page.parent ≡ 0 → MayHang held below
+hung_lower : (held : Held Page) (places : BTreeMap Place ℕ) (children : BTreeSet Child) (page : Page) (below : Option ℕ) → AreIndexed held places children → page.parent ≡ 0 → MayHang held below
     → (hung page below).parent < held.given + 1
 hung_lower held places children page None are own may = omega (arith, own)
 hung_lower held places children page (Some parent) are own may =
@@ -227,7 +229,7 @@ told_left held id ends told =
     (λ e live. ap not (told e.0 ∙ ap (λ b. b && ends_with mm_facts (rows held.entries) id e.0) live))
 
 -- indexes that tell the same
-pub indexed_same : (held : Held Page) (places places' : BTreeMap Place ℕ) (children children' : BTreeSet Child) → AreIndexed held places children → ((place : Place) → id_in places' place ≡ id_in places place)
+indexed_same : (held : Held Page) (places places' : BTreeMap Place ℕ) (children children' : BTreeSet Child) → AreIndexed held places children → ((place : Place) → id_in places' place ≡ id_in places place)
     → ((parent id : ℕ) → is_child children' parent id ≡ is_child children parent id) → AreIndexed held places' children'
 indexed_same held places places' children children' are same same_below = record {
   rows = are.rows;
@@ -235,6 +237,38 @@ indexed_same held places places' children children' are same same_below = record
   indexed = λ place. same place ∙ are.indexed place;
   below = λ parent id. same_below parent id ∙ are.below parent id;
 }
+
+-- the indexes are given back what they took for a page that doesn't come
+pub given_back : (held : Held Page) (places places' places'' : BTreeMap Place ℕ) (children children' children'' : BTreeSet Child) (below : Option ℕ) (one : Place) → AreIndexed held places children → id_in places one ≡ None
+    → Gains places places' one (held.given + 1) → Loses places' places'' one → HangsOne children children' below (held.given + 1) → TakesOneOff children' children'' below (held.given + 1) → AreIndexed held places'' children''
+given_back held places places' places'' children children' children'' below one are free gains loses hangs takes =
+    indexed_same held places places'' children children'' are
+    (λ place. loses place ∙ ap (λ o. cond (is_place one place) None o) (gains place) ∙ same_place place (is_place one place) refl)
+    (λ parent id. takes parent id ∙ ap (λ b. b && not (is_hung below (held.given + 1) parent id)) (hangs parent id) ∙ same_child (is_child children parent id) (is_hung below (held.given + 1) parent id) (not_both parent id))
+  where
+    same_place : (place : Place) (b : Bool) → is_place one place ≡ b → cond b None (cond b (Some (held.given + 1)) (id_in places place)) ≡ id_in places place
+    same_place place true is = sym (ap (id_in places) (sym (one_place one place is)) ∙ free)
+    same_place place false is = refl
+
+    same_child : (had more : Bool) → (had ≡ true → more ≡ true → ⊥) → ((had || more) && not more) ≡ had
+    same_child true true clash = absurd (clash refl refl)
+    same_child true false clash = refl
+    same_child false true clash = refl
+    same_child false false clash = refl
+
+    -- the id that was to come is below none
+    not_both : (parent id : ℕ) → is_child children parent id ≡ true → is_hung below (held.given + 1) parent id ≡ true → ⊥
+    not_both parent id child hung = at below hung
+      where
+        none : id ≡ held.given + 1 → ⊥
+        none same =
+            let gone : entry_at held.entries id ≡ None = absent 0 held.given id held.entries (ids_of_rows IsAboveParent 0 held.given held.entries are.rows) (omega (arith, same)) in
+            let clash : is_below None parent ≡ true = sym (ap (λ o. is_below o parent) gone) ∙ sym (are.below parent id) ∙ child in
+            absurd (cc clash)
+
+        at : (o : Option ℕ) → is_hung o (held.given + 1) parent id ≡ true → ⊥
+        at None is = absurd (cc is)
+        at (Some above) is = let two = both_true (above == parent) (held.given + 1 == id) is in let same = two.1 in none (grind (arith, nat_tests, same))
 
 -- ---- what the indexes say of the pages
 
@@ -259,10 +293,6 @@ above_parents held places children are fits parent id child = at (entry_at held.
         let both = both_true (not (parent == 0)) (page.parent == parent) is in
         let same : page.parent ≡ parent = let b = both.1 in grind (arith, nat_tests, b) in
         (omega (arith, lower, same), omega (arith, most, fits))
-
--- what is below another is a page
-pub of_pages : (held : Held Page) (places : BTreeMap Place ℕ) (children : BTreeSet Child) → AreIndexed held places children → AreOfPages held.entries children
-of_pages held places children are parent id child = sym (are.below parent id) ∙ child
 
 -- the row of a page that is found in a place tells of each other page whether it is there
 module _ (held : Held Page) (place : Place) (n id : ℕ) (apart : HaveOwnAddresses (rows held.entries)) (r : Row) (found : row_at (rows held.entries) r.id ≡ Some r)

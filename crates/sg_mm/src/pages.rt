@@ -16,8 +16,8 @@ use crate::{Page, Place};
 use sg_base::{Bytes, Code, Good, NoMemory, Point, Reply, Stops, Words};
 use sg_facts::Outcome;
 use std::alloc::Global;
-use std::collections::{BTreeMap, BTreeSet};
 use std::collections::btree_map::Entry;
+use std::collections::{BTreeMap, BTreeSet};
 use std::marker::Model;
 
 /// The pages, each under its service id, and the number of ids given. A page is found by its id or its place, and made, in

@@ -1,5 +1,5 @@
 -- What lies between the least and the greatest child of a parent are its children.
-use Rattle.std.proofs.Common.{◌≡◌, ℕ, ◌^◌, ◌<◌, ◌-◌, true, ◌∙◌, ap, filter}
+use Rattle.std.proofs.Common.{◌∙◌, ap, filter}
 use Rattle.std.specs.Prelude.{◌==◌, ◌||◌}
 use Rattle.std.specs.List.{list_any}
 use Rattle.std.specs.BTreeMap.Range.{range_contains}

@@ -1,5 +1,5 @@
 -- The index has the child more.
-use Rattle.std.proofs.Common.{Some, sym, ◌∙◌, subst}
+use Rattle.std.proofs.Common.{sym, ◌∙◌, subst}
 use Rattle.sg_mm.specs.Inside.Children.{HangsOne, is_child}
 use Rattle.sg_mm.proofs.Children.{gained}
 use Rattle.sg_mm.proofs.child.hang.Goals as goal

@@ -1,5 +1,5 @@
 -- The index has the child less.
-use Rattle.std.proofs.Common.{Some, sym, ◌∙◌, subst}
+use Rattle.std.proofs.Common.{sym, ◌∙◌, subst}
 use Rattle.sg_mm.specs.Inside.Children.{TakesOneOff, is_child}
 use Rattle.sg_mm.proofs.Children.{lost}
 use Rattle.sg_mm.proofs.child.take_off.Goals as goal

@@ -1,5 +1,5 @@
 -- Once the places of the ids that are left are free, all are free that are to be.
-use Rattle.std.proofs.Common.{◌≡◌, ℕ, ◌==◌, None, Some, not}
+use Rattle.std.proofs.Common.{◌≡◌, not}
 use Rattle.std.proofs.lemmas.Map.Entries.{option_filter}
 use Rattle.sg_mm.specs.declared.page.Place.{Place}
 use Rattle.sg_mm.specs.Inside.Children.{has_id}

@@ -1,5 +1,5 @@
 -- The set gains what is below one id.
-use Rattle.std.proofs.Common.{◌≡◌, Some, subst}
+use Rattle.std.proofs.Common.{subst}
 use Rattle.sg_mm.proofs.Growing.{IsGrown, grows}
 use Rattle.sg_mm.proofs.subtree.ending.Goals as goal
 
