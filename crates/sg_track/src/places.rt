@@ -1,5 +1,5 @@
 // Where a row stands among those that are kept.
-ghost use Rattle.std.specs.Prelude.{◌≡◌, ◌==◌, None, IfOk, MatchOption};
+ghost use Rattle.std.specs.Prelude.{◌≡◌, ◌==◌, None, map, IfOk, MatchOption};
 ghost use Rattle.std.specs.List.{list_any};
 ghost use Rattle.std.specs.Map.{values_of};
 ghost use Rattle.sg_facts.specs.Track.{ancestors, parent_in, row_at};
@@ -40,6 +40,17 @@ pub(crate) fn ancestors_in(alloc: Global, kept: &KeptRows, id: u64) -> Result<Id
         parent = parent_of(kept, parent);
     }
     Ok(above)
+}
+
+/// The ids of the rows, in their order.
+pub(crate) fn ids_in(alloc: Global, kept: &KeptRows) -> Result<IdList, NoMemory>
+    ensures { IfOk result (λ ids. ids ≡ map (λ r. r.id) (rows_in kept.now.entries)) }
+{
+    let mut ids = IdList::new(alloc);
+    'rows: for at in 0..kept.len() {
+        ids.push(kept[at].row.id)?;
+    }
+    Ok(ids)
 }
 
 /// Whether some row has the id as its parent.

@@ -1,5 +1,5 @@
 // The tracked rows of all descriptors.
-ghost use Rattle.std.specs.Prelude.{◌≡◌, ◌≤◌, ◌<◌, ◌+◌, ◌-◌, ◌^◌, [], length, IfOk, OnOk, OnErr};
+ghost use Rattle.std.specs.Prelude.{◌≡◌, ◌≤◌, ◌<◌, ◌+◌, ◌-◌, ◌^◌, [], length, map, IfOk, OnOk, OnErr};
 ghost use Rattle.std.specs.Option.{option_copied};
 ghost use Rattle.sg_facts.specs.Object.{given_after};
 ghost use Rattle.sg_facts.specs.Track.{ancestors, has_child, row_at, rows_after, track};
@@ -7,7 +7,7 @@ ghost use Rattle.sg_track.specs.Tracked.{AreTracked, MayChange, MayMake, MayTrac
 
 use crate::kept::{KeptRows, add_row, change_row};
 use crate::make::made_row;
-use crate::places::{ancestors_in, has_child, place_of};
+use crate::places::{ancestors_in, has_child, ids_in, place_of};
 use crate::room::RowRoom;
 use crate::subtree::{close_up, mark_below, remove_row};
 use crate::tally::{count_child, discount_row};
@@ -170,7 +170,8 @@ impl Tracker {
 
     /// The ancestors of an id, nearest first: its parent, the parent of that, and so on. None of them is 0.
     pub fn ancestors(&self, alloc: Global, id: u64) -> Result<IdList, NoMemory>
-        ensures { IfOk result (λ above. above ≡ ancestors self.now.rows id) }
+        ensures above { IfOk result (λ above. above ≡ ancestors self.now.rows id) }
+        ensures tracked { AreTracked self.now.given self.now.rows }
     {
         ancestors_in(alloc, &self.kept, id)
     }
@@ -183,6 +184,13 @@ impl Tracker {
             Some(one) => one.children > 0,
             None => has_child(&self.kept, id),
         }
+    }
+
+    /// The ids of the live rows, ascending.
+    pub fn ids(&self, alloc: Global) -> Result<IdList, NoMemory>
+        ensures { IfOk result (λ ids. ids ≡ map (λ r. r.id) self.now.rows) }
+    {
+        ids_in(alloc, &self.kept)
     }
 
     /// The number of live rows.
