@@ -7,6 +7,7 @@ use Rattle.std.specs.declared.result.Result.{Result}
 use Rattle.std.specs.declared.result.Result.TheVariants.{Ok, Err}
 use Rattle.std.specs.Result.{is_err, OnOk}
 use Rattle.std.specs.BTreeMap.{BTreeMap}
+use Rattle.std.specs.BTreeSet.{BTreeSet}
 use Rattle.sg_base.specs.declared.reply.Code.TheVariants.{Occupied}
 use Rattle.sg_base.specs.declared.reply.Reply.{Reply}
 use Rattle.sg_base.specs.declared.reply.Reply.TheVariants.{Refused}
@@ -16,6 +17,7 @@ use Rattle.sg_facts.specs.declared.outcome.Outcome.TheVariants.{Replied}
 use Rattle.sg_facts.specs.declared.outcome.Patch.{Patch}
 use Rattle.sg_facts.specs.Invoke.{Points}
 use Rattle.sg_slots.specs.Slots.{Held}
+use Rattle.sg_mm.specs.declared.child.Child.{Child}
 use Rattle.sg_mm.specs.declared.page.Page.{Page}
 use Rattle.sg_mm.specs.declared.page.Place.{Place}
 use Rattle.sg_mm.specs.MmDoes.{Does, IsDone, after_new, held_with, hung, new_parts, new_reply, ok_about, parts_of_new}
@@ -39,10 +41,10 @@ changed_so parts answer old after points reply None new later does = does.change
 changed_so parts answer old after points reply (Some patch) new later does = absurd does
 
 -- the place of a page is taken where the index has an id for it
-pub taken_by : (held : Held Page) (places : BTreeMap Place ℕ) (place : Place) (page : Page) → AreIndexed held places → place.space ≡ page.space → place.addr ≡ page.addr
+pub taken_by : (held : Held Page) (places : BTreeMap Place ℕ) (children : BTreeSet Child) (place : Place) (page : Page) → AreIndexed held places children → place.space ≡ page.space → place.addr ≡ page.addr
     → is_some (id_in places place) ≡ list_any (is_at page.space page.addr) (rows held.entries)
-taken_by held places place page are space addr =
-    taken held places place are ∙ ap (λ s. list_any (is_at s place.addr) (rows held.entries)) space ∙ ap (λ a. list_any (is_at page.space a) (rows held.entries)) addr
+taken_by held places children place page are space addr =
+    taken held places children place are ∙ ap (λ s. list_any (is_at s place.addr) (rows held.entries)) space ∙ ap (λ a. list_any (is_at page.space a) (rows held.entries)) addr
 
 module _ (held : Held Page) (page : Page) (below : Option ℕ) (points : Points) where
   -- a page whose place is taken is refused

@@ -1,51 +1,30 @@
--- Which pages end with one, told page by page.
-use Rattle.std.proofs.Common.{◌≡◌, ℕ, zero, suc, ◌<◌, ◌≤◌, Bool, true, false, cond, not, List, [], ◌∷◌, ◌++◌, None, Some, refl, sym, ◌∙◌, ap, subst, arith}
+-- Which pages end with one, and what is left when they go one by one.
+use Rattle.std.proofs.Common.{◌≡◌, ℕ, zero, suc, ◌<◌, ◌≤◌, Bool, true, false, cond, not, List, [], ◌∷◌, None, Some, filter, refl, sym, ◌∙◌, ap, inl, inr, arith}
 use Rattle.std.specs.Prelude.{◌==◌, ◌&&◌, ◌||◌}
 use Rattle.std.specs.List.{list_any}
 use Rattle.std.specs.declared.option.Option.{Option}
-use Rattle.std.specs.BTreeMap.{is_at}
+use Rattle.std.specs.Option.{is_some, option_map}
+use Rattle.std.specs.BTreeMap.{BTreeMap, is_at}
 use Rattle.std.specs.BTreeSet.{BTreeSet}
 use Rattle.std.specs.Ordering.{nat_cmp}
+use Rattle.std.proofs.lemmas.Bool.{cases_Bool}
 use Rattle.std.proofs.lemmas.Bool.Decides.{nat_tests}
-use Rattle.std.proofs.lemmas.List.Folds.{list_any-append}
 use Rattle.sg_facts.specs.declared.row.Row.{Row}
-use Rattle.sg_facts.specs.Sound.{AreRows}
 use Rattle.sg_facts.specs.Track.{ancestors, ends_with, is_live, nearest, parent_in, row_at}
-use Rattle.sg_facts.proofs.RowLists.{live_of_row, row_of_live}
-use Rattle.sg_slots.specs.Slots.{row_with}
-use Rattle.sg_walk_laws.proofs.Found.{above, met, other_test, same_test}
+use Rattle.sg_facts.proofs.RowLists.{live_of_row}
+use Rattle.sg_slots.specs.Slots.{AreIds, Held, entry_at, row_with, without}
+use Rattle.sg_slots.proofs.Rows.{is_live-rows_of, row_at-rows_of}
+use Rattle.sg_walk_laws.proofs.Found.{met, same_test}
+use Rattle.sg_walk_laws.proofs.Steps.{both_true}
 use Rattle.sg_walk_laws.proofs.Subtrees.{IsAboveParent, ends_by_parent}
+use Rattle.sg_mm.specs.declared.child.Child.{Child}
 use Rattle.sg_mm.specs.declared.page.Page.{Page}
+use Rattle.sg_mm.specs.declared.page.Place.{Place}
+use Rattle.sg_mm.specs.Inside.Children.{IsSubtree, has_id, is_below, is_child}
 use Rattle.sg_mm.specs.MmFacts.{mm_facts}
-use Rattle.sg_mm.specs.MmIndex.{has_id}
+use Rattle.sg_mm.specs.MmIndex.{AreIndexed}
 use Rattle.sg_mm.specs.MmRow.{page_body}
-use Rattle.sg_mm.proofs.Indexed.{rows}
-
--- ---- rows before another
-
--- a row in a list under ascending ids is found by its id
-found_there : (P : Row → Type 0) (low high : ℕ) (xs ys : List Row) (r : Row) → AreRows P low high (xs ++ r ∷ ys) → (low < r.id) × (row_at (xs ++ r ∷ ys) r.id ≡ Some r)
-found_there P low high [] ys r are = (are.0, ap (λ b. cond b (Some r) (row_at ys r.id)) (same_test r.id r.id refl))
-found_there P low high (x ∷ xs) ys r are =
-    let rest = found_there P x.id high xs ys r are.3 in
-    (omega (arith, are.0, rest.0), ap (λ b. cond b (Some x) (row_at (xs ++ r ∷ ys) r.id)) (other_test x.id r.id (λ same. absurd (omega (arith, same, rest.0)))) ∙ rest.1)
-
--- an id below a row's is live only before it
-none_behind : (P : Row → Type 0) (low high n : ℕ) (ys : List Row) → n ≤ low → AreRows P low high ys → is_live ys n ≡ false
-none_behind P low high n [] below are = refl
-none_behind P low high n (y ∷ ys) below are =
-    ap (λ b. b || is_live ys n) (other_test y.id n (λ same. absurd (omega (arith, same, are.0, below)))) ∙ none_behind P y.id high n ys (omega (arith, are.0, below)) are.3
-
-live_before : (P : Row → Type 0) (low high n : ℕ) (xs ys : List Row) (r : Row) → n < r.id → AreRows P low high (xs ++ r ∷ ys) → is_live (xs ++ r ∷ ys) n ≡ is_live xs n
-live_before P low high n [] ys r below are =
-    ap (λ b. b || is_live ys n) (other_test r.id n (λ same. absurd (omega (arith, same, below)))) ∙ none_behind P r.id high n ys (omega (arith, below)) are.3
-live_before P low high n (x ∷ xs) ys r below are = ap (λ b. (x.id == n) || b) (live_before P x.id high n xs ys r below are.3)
-
--- ---- pages
-
-rows-parts : (before after : List (ℕ × Page)) (e : ℕ × Page) → rows (before ++ e ∷ after) ≡ rows before ++ row_with e.0 (page_body e.1) ∷ rows after
-rows-parts [] after e = refl
-rows-parts (x ∷ before) after e = ap (λ l. row_with x.0 (page_body x.1) ∷ l) (rows-parts before after e)
+use Rattle.sg_mm.proofs.Indexed.{EndWith, rows}
 
 -- what ends with a live id is live
 ends_live : (rs : List Row) (id n : ℕ) → is_live rs id ≡ true → ends_with mm_facts rs id n ≡ true → is_live rs n ≡ true
@@ -63,98 +42,159 @@ ends_live rs id n live ends = at (row_at rs n) refl
     at (Some r) found = live_of_row rs n r found
     at None none = its_own (n == id) refl (sym (ap (λ l. (n == id) || list_any (λ a. a == id) l) (alone n none)) ∙ ends)
 
-module _ (pages : List (ℕ × Page)) (most id : ℕ) (are : AreRows IsAboveParent 0 most (rows pages)) (live : is_live (rows pages) id ≡ true) where
-  abbrev ends : ℕ → Bool
-  ends n = ends_with mm_facts (rows pages) id n
+-- ---- a subtree of the index by parent
 
-  -- those that end were told of the first pages
-  abbrev pub Told : List (ℕ × Page) → BTreeSet ℕ → Type 0
-  Told before told = (n : ℕ) → has_id told n ≡ (is_live (rows before) n && ends n)
+same_bools : (a b : Bool) → (a ≡ true → b ≡ true) → (b ≡ true → a ≡ true) → a ≡ b
+same_bools true b to from = sym (to refl)
+same_bools false true to from = from refl
+same_bools false false to from = refl
 
-  module _ (before after : List (ℕ × Page)) (e : ℕ × Page) (parts : pages ≡ before ++ e ∷ after) where
-    abbrev own : Row
-    own = row_with e.0 (page_body e.1)
+module _ (held : Held Page) (places : BTreeMap Place ℕ) (children : BTreeSet Child) (id : ℕ) (ends : BTreeSet ℕ) (are : AreIndexed held places children) (live : is_live (rows held.entries) id ≡ true)
+    (subtree : IsSubtree children id ends) where
+  abbrev ends_too : ℕ → Bool
+  ends_too n = ends_with mm_facts (rows held.entries) id n
 
-    split : rows pages ≡ rows before ++ own ∷ rows after
-    split = ap rows parts ∙ rows-parts before after e
+  abbrev IsTold : ℕ → Type 0
+  IsTold n = has_id ends n ≡ (is_live (rows held.entries) n && ends_too n)
 
-    are_split : AreRows IsAboveParent 0 most (rows before ++ own ∷ rows after)
-    are_split = subst (AreRows IsAboveParent 0 most) split are
+  -- an id that isn't the one is in the set with the parent of its page
+  parent_of : (n : ℕ) (o : Option Page) → entry_at held.entries n ≡ o → has_id ends n ≡ true → (n == id) ≡ false → (parent : ℕ) × (has_id ends parent ≡ true) × (is_below o parent ≡ true)
+  parent_of n o is has apart =
+      let under = subtree.no_other n has apart in
+      (under.0, under.1, sym (ap (λ p. is_below p under.0) is) ∙ sym (are.below under.0 n) ∙ under.2)
 
-    found : row_at (rows pages) own.id ≡ Some own
-    found = ap (λ rs. row_at rs own.id) split ∙ (found_there IsAboveParent 0 most (rows before) (rows after) own are_split).1
+  -- an id without a page isn't in it
+  told_none : (n : ℕ) → entry_at held.entries n ≡ None → IsTold n
+  told_none n none = not_there ∙ sym (ap (λ b. b && ends_too n) dead)
+    where
+      dead : is_live (rows held.entries) n ≡ false
+      dead = is_live-rows_of page_body held.entries n ∙ ap is_some none
 
-    -- a parent that ends was told of
-    parent_told : (b : Bool) → ends e.1.parent ≡ b → (not (e.1.parent == 0) && b) ≡ (is_live (rows before) e.1.parent && b)
-    parent_told false is = none (not (e.1.parent == 0)) (is_live (rows before) e.1.parent)
+      not_there : has_id ends n ≡ false
+      not_there = elim (cases_Bool (has_id ends n)) [
+        | inl has ↦ elim (cases_Bool (n == id)) [
+          | inl same ↦
+              let one : n ≡ id = grind (arith, nat_tests, same) in
+              let clash : false ≡ true = sym dead ∙ ap (is_live (rows held.entries)) one ∙ live in
+              absurd (cc clash)
+          | inr apart ↦ let under = parent_of n None none has apart in absurd (cc (under.2))
+        ]
+        | inr hasn't ↦ hasn't
+      ]
+
+  module _ (n : ℕ) (page : Page) (there : entry_at held.entries n ≡ Some page) (before : (m : ℕ) → m < n → IsTold m) where
+    abbrev row : Row
+    row = row_with n (page_body page)
+
+    found : row_at (rows held.entries) n ≡ Some row
+    found = row_at-rows_of page_body held.entries n ∙ ap (option_map (λ e. row_with n (page_body e))) there
+
+    by_parent : ends_too n ≡ ((n == id) || (not (page.parent == 0) && ends_too page.parent))
+    by_parent = ends_by_parent mm_facts refl held.given (rows held.entries) id row are.rows found
+
+    -- it is told right where that is the answer
+    answer : (b : Bool) → has_id ends n ≡ b → ((n == id) || (not (page.parent == 0) && ends_too page.parent)) ≡ b → IsTold n
+    answer b has ends = has ∙ sym (ap (λ l. l && ends_too n) (live_of_row (rows held.entries) n row found) ∙ by_parent ∙ ends)
+
+    -- a page without a parent
+    told_root : (n == id) ≡ false → (page.parent == 0) ≡ true → IsTold n
+    told_root apart none = answer false not_there (ap (λ b. b || (not (page.parent == 0) && ends_too page.parent)) apart ∙ ap (λ b. not b && ends_too page.parent) none)
       where
-        none : (x y : Bool) → (x && false) ≡ (y && false)
-        none true true = refl
-        none true false = refl
-        none false true = refl
-        none false false = refl
-    parent_told true is =
-        let there = ends_live (rows pages) id e.1.parent live is in
-        let parent = row_of_live (rows pages) e.1.parent there in
-        let low : 0 < parent.0.id = above IsAboveParent 0 most e.1.parent (rows pages) parent.0 are parent.1 in
-        let some : (e.1.parent == 0) ≡ false = other_test e.1.parent 0 (λ none. absurd (omega (arith, none, low, parent.2))) in
-        let lower : e.1.parent < e.0 = met IsAboveParent 0 most own.id (rows pages) own are found in
-        let before_it : is_live (rows before) e.1.parent ≡ true
-        = sym (live_before IsAboveParent 0 most e.1.parent (rows before) (rows after) own lower are_split) ∙ ap (λ rs. is_live rs e.1.parent) (sym split) ∙ there in
-        ap (λ b. not b && true) some ∙ sym (ap (λ b. b && true) before_it)
+        not_there : has_id ends n ≡ false
+        not_there = elim (cases_Bool (has_id ends n)) [
+          | inl has ↦
+              let under = parent_of n (Some page) there has apart in
+              let two = both_true (not (under.0 == 0)) (page.parent == under.0) under.2 in
+              let some = two.0 in
+              let same = two.1 in
+              absurd (grind (arith, nat_tests, none, some, same))
+          | inr hasn't ↦ hasn't
+        ]
 
-    -- a page ends where it is the one, or its parent was told to end
-    pub tells : (told : BTreeSet ℕ) → Told before told → ((e.0 == id) || has_id told e.1.parent) ≡ ends e.0
-    tells told is =
-        ap (λ b. (e.0 == id) || b) (is e.1.parent ∙ sym (parent_told (ends e.1.parent) refl))
-        ∙ sym (ends_by_parent mm_facts refl most (rows pages) id own are found)
-
-    -- and it is told of it
-    pub told_more : (told new : BTreeSet ℕ) (b : Bool) → b ≡ ends e.0 → Told before told → ((n : ℕ) → has_id new n ≡ (has_id told n || (b && (e.0 == n)))) → Told (before ++ e ∷ []) new
-    told_more told new b is so more n =
-        more n ∙ ap (λ t. t || (b && (e.0 == n))) (so n) ∙ at (e.0 == n) (is_live (rows before) n) (same n)
-        ∙ ap (λ t. t && ends n) (sym (list_any-append (λ r. r.id == n) (rows before) (own ∷ [])) ∙ ap (λ rs. is_live rs n) (sym (rows-parts before [] e)))
+    -- a page below another
+    told_below : (n == id) ≡ false → (page.parent == 0) ≡ false → IsTold n
+    told_below apart some =
+        answer (ends_too page.parent) (same_bools (has_id ends n) (has_id ends page.parent) up down ∙ before page.parent lower ∙ above_live (is_live (rows held.entries) page.parent) (ends_too page.parent) (ends_live (rows held.entries) id page.parent live))
+        (ap (λ b. b || (not (page.parent == 0) && ends_too page.parent)) apart ∙ ap (λ b. not b && ends_too page.parent) some)
       where
-        same : (n : ℕ) → (e.0 == n) ≡ true → b ≡ ends n
-        same n here = let one : e.0 ≡ n = grind (arith, nat_tests, here) in is ∙ ap ends one
+        lower : page.parent < n
+        lower = met IsAboveParent 0 held.given n (rows held.entries) row are.rows found
 
-        at : (here there : Bool) → (here ≡ true → b ≡ ends n) → ((there && ends n) || (b && here)) ≡ ((there || (here || false)) && ends n)
-        at true true own = both b (ends n) (own refl)
-          where
-            both : (x y : Bool) → x ≡ y → (y || (x && true)) ≡ y
-            both x true same = refl
-            both true false same = absurd (cc same)
-            both false false same = refl
-        at true false own = alone b (own refl)
-          where
-            alone : (x : Bool) → x ≡ ends n → (x && true) ≡ ends n
-            alone true same = same
-            alone false same = same
-        at false there own = none there b (ends n)
-          where
-            none : (x y z : Bool) → ((x && z) || (y && false)) ≡ ((x || false) && z)
-            none true true true = refl
-            none true true false = refl
-            none true false true = refl
-            none true false false = refl
-            none false true z = refl
-            none false false z = refl
+        above_live : (x y : Bool) → (y ≡ true → x ≡ true) → (x && y) ≡ y
+        above_live true y so = refl
+        above_live false true so = so refl
+        above_live false false so = refl
 
--- ---- a set of ids
+        up : has_id ends n ≡ true → has_id ends page.parent ≡ true
+        up has =
+            let under = parent_of n (Some page) there has apart in
+            let two = both_true (not (under.0 == 0)) (page.parent == under.0) under.2 in
+            let same = two.1 in
+            let one : under.0 ≡ page.parent = grind (arith, nat_tests, same) in
+            ap (has_id ends) (sym one) ∙ under.1
 
--- an id comes to a set
-pub added : (id n : ℕ) (had : Bool) → cond (is_at (nat_cmp id) n) true had ≡ (had || (true && (id == n)))
-added id n had = ap (λ b. cond b true had) same ∙ at (id == n) had
+        hangs : is_child children page.parent n ≡ true
+        hangs = are.below page.parent n ∙ ap (λ o. is_below o page.parent) there ∙ ap (λ b. not b && (page.parent == page.parent)) some ∙ same_test page.parent page.parent refl
+
+        down : has_id ends page.parent ≡ true → has_id ends n ≡ true
+        down has = subtree.has_children page.parent n has hangs
+
+    told_page : IsTold n
+    told_page = elim (cases_Bool (n == id)) [
+      | inl same ↦
+          let one : n ≡ id = grind (arith, nat_tests, same) in
+          answer true (ap (has_id ends) one ∙ subtree.has_root) (ap (λ b. b || (not (page.parent == 0) && ends_too page.parent)) same)
+      | inr apart ↦ elim (cases_Bool (page.parent == 0)) [ inl none ↦ told_root apart none | inr some ↦ told_below apart some ]
+    ]
+
+  told_step : (n : ℕ) → ((m : ℕ) → m < n → IsTold m) → IsTold n
+  told_step n before = at (entry_at held.entries n) refl
+    where
+      at : (o : Option Page) → entry_at held.entries n ≡ o → IsTold n
+      at None none = told_none n none
+      at (Some page) there = told_page n page there before
+
+  told_to : (most n : ℕ) → n < most → IsTold n
+  told_to zero n lower = absurd (omega (arith, lower))
+  told_to (suc most) n lower = told_step n (λ m less. told_to most m (omega (arith, lower, less)))
+
+  -- the subtree of a page has just the pages that end with it
+  pub subtree_ends : EndWith held.entries id ends
+  subtree_ends n = told_to (suc n) n (omega arith)
+
+-- ---- ids that go one by one
+
+-- whether an id is among those that are still to go
+abbrev pub is_left : List ℕ → ℕ → Bool
+is_left ids n = list_any (is_at (nat_cmp n)) ids
+
+-- an id below all that are there is none of them
+not_there : (low high id : ℕ) (ids : List ℕ) (es : List (ℕ × Page)) → AreIds low high es → id ≤ low → filter (λ e. not (is_left ids e.0)) es ≡ filter (λ e. not (is_left (id ∷ ids) e.0)) es
+not_there low high id ids [] are below = refl
+not_there low high id ids (e ∷ es) are below =
+    let other : is_at (nat_cmp e.0) id ≡ false = grind (arith, nat_tests, are.0, below) in
+    ap (λ l. cond (not (is_left ids e.0)) (e ∷ l) l) (not_there e.0 high id ids es are.2 (omega (arith, are.0, below)))
+    ∙ ap (λ b. cond (not (b || is_left ids e.0)) (e ∷ filter (λ x. not (is_left (id ∷ ids) x.0)) es) (filter (λ x. not (is_left (id ∷ ids) x.0)) es)) (sym other)
+
+-- the pages that are left when one goes and then the others
+pub pages_left : (low high id : ℕ) (ids : List ℕ) (es : List (ℕ × Page)) → AreIds low high es → filter (λ e. not (is_left ids e.0)) (without es id) ≡ filter (λ e. not (is_left (id ∷ ids) e.0)) es
+pages_left low high id ids [] are = refl
+pages_left low high id ids (e ∷ es) are = at (id == e.0) refl (pages_left e.0 high id ids es are.2)
   where
-    same : is_at (nat_cmp id) n ≡ (id == n)
-    same = grind (arith, nat_tests)
+    kept : List (ℕ × Page)
+    kept = filter (λ x. not (is_left (id ∷ ids) x.0)) es
 
-    at : (b h : Bool) → cond b true h ≡ (h || b)
-    at true true = refl
-    at true false = refl
-    at false true = refl
-    at false false = refl
+    at : (b : Bool) → (id == e.0) ≡ b → filter (λ x. not (is_left ids x.0)) (without es id) ≡ kept
+        → filter (λ x. not (is_left ids x.0)) (cond b es (e ∷ without es id)) ≡ cond (not (is_at (nat_cmp e.0) id || is_left ids e.0)) (e ∷ kept) kept
+    at true is rest =
+        let same : is_at (nat_cmp e.0) id ≡ true = grind (arith, nat_tests, is) in
+        let below : id ≤ e.0 = grind (arith, nat_tests, is) in
+        not_there e.0 high id ids es are.2 below ∙ ap (λ b. cond (not (b || is_left ids e.0)) (e ∷ kept) kept) (sym same)
+    at false is rest =
+        let other : is_at (nat_cmp e.0) id ≡ false = grind (arith, nat_tests, is) in
+        ap (λ l. cond (not (is_left ids e.0)) (e ∷ l) l) rest ∙ ap (λ b. cond (not (b || is_left ids e.0)) (e ∷ kept) kept) (sym other)
 
-pub unchanged : (had : Bool) → had ≡ (had || false)
-unchanged true = refl
-unchanged false = refl
+-- where none is to go, all stay
+pub pages_stay : (es : List (ℕ × Page)) → filter (λ e. not (is_left [] e.0)) es ≡ es
+pages_stay [] = refl
+pages_stay (e ∷ es) = ap (λ l. e ∷ l) (pages_stay es)

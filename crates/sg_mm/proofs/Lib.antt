@@ -1,5 +1,7 @@
 pub mod Answering
+pub mod Children
 pub mod Doing
 pub mod Ending
+pub mod Growing
 pub mod Indexed
 pub mod Places

@@ -1,3 +1,4 @@
+pub mod Inside
 pub mod MmAlikeLaw
 pub mod MmBlockedLaw
 pub mod MmDoes

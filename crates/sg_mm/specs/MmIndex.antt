@@ -1,16 +1,16 @@
--- The index of places, and what it says of pages.
-use Rattle.std.specs.Prelude.{ℕ, ◌≡◌, ◌==◌, Bool, ◌&&◌, if◌then◌else◌, List, None, Some}
+-- The indexes of the pages, and what they say of them.
+use Rattle.std.specs.Prelude.{ℕ, ◌≡◌, ◌<◌, ◌==◌, Bool, true, false, ◌&&◌, if◌then◌else◌, List, None, Some}
 use Rattle.std.specs.declared.option.Option.{Option}
 use Rattle.std.specs.declared.cmp.Ordering.{Ordering}
 use Rattle.std.specs.Ordering.{nat_cmp, ordering_then}
 use Rattle.std.specs.BTreeMap.{BTreeMap, get}
-use Rattle.std.specs.BTreeSet.{BTreeSet, contains}
+use Rattle.std.specs.BTreeSet.{BTreeSet}
 use Rattle.sg_facts.specs.Sound.{AreRows}
-use Rattle.sg_facts.specs.Track.{ends_with, is_live}
-use Rattle.sg_slots.specs.Slots.{Held, rows_of}
+use Rattle.sg_slots.specs.Slots.{AreIds, Held, entry_at, rows_of}
+use Rattle.sg_mm.specs.declared.child.Child.{Child}
 use Rattle.sg_mm.specs.declared.page.Page.{Page}
 use Rattle.sg_mm.specs.declared.page.Place.{Place}
-use Rattle.sg_mm.specs.MmFacts.{mm_facts}
+use Rattle.sg_mm.specs.Inside.Children.{AreChildren, has_id}
 use Rattle.sg_mm.specs.MmRow.{page_body}
 use Rattle.sg_walk_laws.proofs.Subtrees.{IsAboveParent}
 use Rattle.sg_mm.specs.MmSound.{HaveOwnAddresses}
@@ -40,21 +40,29 @@ Keeps old new = (place : Place) → id_in new place ≡ id_in old place
 abbrev pub Loses : BTreeMap Place ℕ → BTreeMap Place ℕ → Place → Type 0
 Loses old new one = (place : Place) → id_in new place ≡ (if is_place one place then None else id_in old place)
 
--- the pages by id are above their parents and have places of their own, and the index has for each place the page there
-pub record AreIndexed (held : Held Page) (places : BTreeMap Place ℕ) : Type 0 where
+-- whether a page is there and in a place
+abbrev pub is_in_place : Option Page → Place → Bool
+is_in_place None place = false
+is_in_place (Some page) place = (page.space == place.space) && (page.addr == place.addr)
+
+-- where an index has an id for a place, just the page of this id is there
+abbrev pub ArePlaced : List (ℕ × Page) → BTreeMap Place ℕ → Type 0
+ArePlaced pages places = (place : Place) (n id : ℕ) → id_in places place ≡ Some n → (n == id) ≡ is_in_place (entry_at pages id) place
+
+-- the pages by id are above their parents and have places of their own; one index has for each place the page there, the other
+-- each page below its parent
+pub record AreIndexed (held : Held Page) (places : BTreeMap Place ℕ) (children : BTreeSet Child) : Type 0 where
   pub rows : AreRows IsAboveParent 0 held.given (rows_of page_body held.entries)
   pub apart : HaveOwnAddresses (rows_of page_body held.entries)
   pub indexed : (place : Place) → id_in places place ≡ page_at (rows_of page_body held.entries) place.space place.addr
+  pub below : AreChildren held.entries children
 
--- pages by ascending ids are above their parents
-pub record AreAbove (pages : List (ℕ × Page)) : Type 0 where
+-- pages by ascending ids
+pub record AreAscending (pages : List (ℕ × Page)) : Type 0 where
   pub most : ℕ
-  pub rows : AreRows IsAboveParent 0 most (rows_of page_body pages)
+  pub ids : AreIds 0 most pages
 
--- whether a set has an id
-abbrev pub has_id : BTreeSet ℕ → ℕ → Bool
-has_id ids id = contains nat_cmp ids id
-
--- a set has the ids of the pages that end with one
-abbrev pub EndWith : List (ℕ × Page) → ℕ → BTreeSet ℕ → Type 0
-EndWith pages id ends = (n : ℕ) → has_id ends n ≡ (is_live (rows_of page_body pages) n && ends_with mm_facts (rows_of page_body pages) id n)
+-- the least id of a set above one, or none where the set has none there
+abbrev pub IsNext : BTreeSet ℕ → ℕ → Option ℕ → Type 0
+IsNext ids id None = (n : ℕ) → id < n → has_id ids n ≡ false
+IsNext ids id (Some next) = (id < next) × (has_id ids next ≡ true) × ((n : ℕ) → id < n → n < next → has_id ids n ≡ false)

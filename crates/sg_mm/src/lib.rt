@@ -2,10 +2,12 @@
 //!
 //! - `shape`: the facts of the service, those of its standard interface (`mm_shape`)
 //! - `page`: one page (`Page`), and its place (`Place`)
-//! - `place`, `subtree`, `pages`: the pages, the index of their places, and which of them end with one
+//! - `place`, `child`: the indexes of the pages, by their places and by their parents
+//! - `subtree`, `pages`: the pages, and which of them end with one
 //! - `service`: the service (`MmService`)
 #![tactic(auto)]
 
+mod child;
 mod page;
 mod pages;
 mod place;

@@ -1,28 +1,33 @@
-// The pages with the index of their places.
-ghost use Rattle.std.specs.Prelude.{◌≡◌, ◌+◌, ◌^◌, ◌<◌, true, [], length};
+// The pages with their indexes.
+ghost use Rattle.std.specs.Prelude.{◌≡◌, ◌+◌, ◌^◌, ◌<◌, true, [], length, OnOk, OnErr};
 ghost use Rattle.std.specs.Option.{option_copied};
 ghost use Rattle.sg_facts.specs.Track.{is_live};
 ghost use Rattle.sg_slots.specs.Slots.{entry_at, rows_of, AreIds};
+ghost use Rattle.sg_mm.specs.Inside.Children.{HangsOne};
 ghost use Rattle.sg_mm.specs.MmDoes.{Does, MayHang, after_new, held_with, held_without, hung, new_parts, new_reply, ok_about, parts_of_new};
+ghost use Rattle.sg_mm.specs.MmIndex.{id_in, Gains, Keeps};
 ghost use Rattle.sg_mm.specs.MmRow.{page_body};
 ghost use Rattle.sg_mm.specs.MmTable.{page_at};
 
+use crate::child::{Child, hang, take_off, take_off_all};
 use crate::place::{free, free_all, id_in, put};
 use crate::subtree::{end_all, ending};
 use crate::{Page, Place};
-use sg_base::{Bytes, Code, Good, Point, Reply, Stops, Words};
+use sg_base::{Bytes, Code, Good, NoMemory, Point, Reply, Stops, Words};
 use sg_facts::Outcome;
 use std::alloc::Global;
-use std::collections::BTreeMap;
 use std::collections::btree_map::Entry;
+use std::collections::{BTreeMap, BTreeSet};
 use std::marker::Model;
 
 /// The pages, each under its service id, and the number of ids given. A page is found by its id or its place, and made, in
-/// time that grows with the logarithm of the live pages; pages end in time that grows with their number.
+/// time that grows with the logarithm of the live pages. Pages end in time that grows with the number of those that end,
+/// times that logarithm: no call goes over all pages.
 #[derive(Debug, Drop)]
 pub(crate) struct Pages {
     pages: BTreeMap<u64, Page>,
     places: BTreeMap<Place, u64>,
+    children: BTreeSet<Child>,
     given: u64,
 }
 
@@ -35,7 +40,7 @@ impl Model for Pages {
 
     ghost view = { λ p. record { entries = p.pages.entries; given = p.given } };
 
-    ghost invariant = { λ p. AreIndexed (record { entries = p.pages.entries; given = p.given }) p.places };
+    ghost invariant = { λ p. AreIndexed (record { entries = p.pages.entries; given = p.given }) p.places p.children };
 }
 
 impl Pages {
@@ -47,6 +52,7 @@ impl Pages {
         Pages {
             pages: BTreeMap::new(alloc),
             places: BTreeMap::new(alloc),
+            children: BTreeSet::new(alloc),
             given: 0,
         }
     }
@@ -81,7 +87,7 @@ impl Pages {
     }
 
     /// Makes a page of its own, or below another: refused where its place is taken. The memory is taken before the first part
-    /// is asked, that of the index by the place's entry in it.
+    /// is asked, that of the indexes by the page's entries in them.
     pub(crate) fn make<T: Stops>(
         &mut self,
         alloc: Global,
@@ -106,13 +112,15 @@ impl Pages {
                 patch: None,
             };
         }
-        if put(&mut self.places, place, self.given + 1).is_err() {
+        let id = self.given + 1;
+        if reserve(&mut self.places, &mut self.children, place, below, id).is_err() {
             return Outcome::NoMemory;
         }
         match add(alloc, &mut self.pages, &mut self.given, stops, page, below) {
             Outcome::Replied { reply, patch } => Outcome::Replied { reply, patch },
             Outcome::NoMemory => {
                 free(&mut self.places, place);
+                take_off(&mut self.children, below, id);
                 Outcome::NoMemory
             }
             Outcome::Stopped => {
@@ -135,23 +143,47 @@ impl Pages {
         ensures test { T.test (T.asked stops.old) (T.struck stops.old) (T.plan stops.old)
             → T.test (T.asked stops.new) (T.struck stops.new) (T.plan stops.new) }
     {
-        match ending(alloc, &self.pages, id) {
+        match ending(alloc, &self.children, id) {
             Ok(ends) => {
                 if stops.strikes(Point::Part(1)) {
                     return Outcome::Stopped;
                 }
-                free_all(&mut self.places, &ends);
+                free_all(&mut self.places, &self.pages, &ends);
                 if stops.strikes(Point::Part(2)) {
                     // The index has lost pages that are still there, so none is kept.
                     *self = Pages::new(alloc);
                     return Outcome::Stopped;
                 }
+                take_off_all(&mut self.children, &self.pages, &ends);
                 end_all(&mut self.pages, &ends);
                 answer(alloc, 0)
             }
             Err(_) => Outcome::NoMemory,
         }
     }
+}
+
+// Makes room in both indexes for a page that is to come: the entries by its place, which is free, and by its parent, where it
+// is to have one. After `NoMemory` both are as before.
+fn reserve(
+    places: &mut BTreeMap<Place, u64>,
+    children: &mut BTreeSet<Child>,
+    place: Place,
+    below: Option<u64>,
+    id: u64,
+) -> Result<(), NoMemory>
+    requires { id_in places.old place ≡ None }
+    ensures place { OnOk result (Gains places.old places.new place id) }
+    ensures parent { OnOk result (HangsOne children.old children.new below id) }
+    ensures no_place { OnErr result (Keeps places.old places.new) }
+    ensures no_parent { OnErr result (children.new ≡ children.old) }
+{
+    put(places, place, id)?;
+    if hang(children, below, id).is_err() {
+        free(places, place);
+        return Err(NoMemory);
+    }
+    Ok(())
 }
 
 // Adds a page under the id after the last one given: the first part gives the id, the second makes the page as one of its

@@ -1,9 +1,10 @@
 // The index of the pages by their places.
-ghost use Rattle.std.specs.Prelude.{◌≡◌, ℕ, not, OnOk, OnErr};
+ghost use Rattle.std.specs.Prelude.{◌≡◌, ℕ, ◌==◌, not, OnOk, OnErr};
 ghost use Rattle.std.proofs.lemmas.Map.Entries.{option_filter};
-ghost use Rattle.sg_mm.specs.MmIndex.{id_in, has_id, Gains, Keeps, Loses};
+ghost use Rattle.sg_mm.specs.Inside.Children.{has_id};
+ghost use Rattle.sg_mm.specs.MmIndex.{id_in, ArePlaced, Gains, Keeps, Loses};
 
-use crate::Place;
+use crate::{Page, Place};
 use sg_base::NoMemory;
 use std::collections::{BTreeMap, BTreeSet};
 
@@ -30,9 +31,26 @@ pub(crate) fn free(places: &mut BTreeMap<Place, u64>, place: Place)
     places.remove(&place);
 }
 
-/// Frees the places of the ids that end. It takes no memory.
-pub(crate) fn free_all(places: &mut BTreeMap<Place, u64>, ends: &BTreeSet<u64>)
+/// Frees the places of the pages that end. It takes no memory.
+pub(crate) fn free_all(
+    places: &mut BTreeMap<Place, u64>,
+    pages: &BTreeMap<u64, Page>,
+    ends: &BTreeSet<u64>,
+)
+    requires { ArePlaced pages.now.entries places.old }
     ensures { (place : Place) → id_in places.new place ≡ option_filter (λ id. not (has_id ends.now id)) (id_in places.old place) }
 {
-    places.retain(|_, id| !ends.contains(&*id));
+    'ids: for id in ends.iter() {
+        free_page(places, pages, *id);
+    }
+}
+
+// Frees the place of a page.
+fn free_page(places: &mut BTreeMap<Place, u64>, pages: &BTreeMap<u64, Page>, id: u64)
+    requires { ArePlaced pages.now.entries places.old }
+    ensures { (place : Place) → id_in places.new place ≡ option_filter (λ n. not (n == id)) (id_in places.old place) }
+{
+    if let Some(page) = pages.get(&id) {
+        free(places, page.place());
+    }
 }

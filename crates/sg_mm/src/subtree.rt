@@ -1,38 +1,50 @@
 // The end of a page with all below it.
-ghost use Rattle.std.specs.Prelude.{◌≡◌, true, filter, not, IfOk};
-ghost use Rattle.sg_facts.specs.Sound.{AreRows};
-ghost use Rattle.sg_facts.specs.Track.{is_live};
-ghost use Rattle.sg_slots.specs.Slots.{rows_of};
-ghost use Rattle.sg_mm.specs.MmIndex.{has_id, AreAbove, EndWith};
-ghost use Rattle.sg_mm.specs.MmRow.{page_body};
+ghost use Rattle.std.specs.Prelude.{◌≡◌, filter, not, IfOk};
+ghost use Rattle.sg_mm.specs.Inside.Children.{has_id, AreAboveParents, IsSubtree};
+ghost use Rattle.sg_mm.specs.MmIndex.{AreAscending, IsNext};
 
 use crate::Page;
+use crate::child::{Child, add_children};
 use sg_base::NoMemory;
 use std::alloc::Global;
 use std::collections::{BTreeMap, BTreeSet};
+use std::ops::Bound;
 
-/// The ids of the pages that end with one: its own, and those below it. Each page is looked at once, after its parent.
+/// The ids of the pages that end with one: its own, and those below it. Only these are looked at, in the order of their ids,
+/// and a page's is above its parent's: so when a page is looked at, those below it are still to come.
 pub(crate) fn ending(
     alloc: Global,
-    pages: &BTreeMap<u64, Page>,
+    children: &BTreeSet<Child>,
     id: u64,
 ) -> Result<BTreeSet<u64>, NoMemory>
-    requires above { AreAbove pages.now.entries }
-    requires live { is_live (rows_of page_body pages.now.entries) id ≡ true }
-    ensures { IfOk result (EndWith pages.now.entries id) }
+    requires { AreAboveParents children.now }
+    ensures { IfOk result (IsSubtree children.now id) }
 {
     let mut ends = BTreeSet::new(alloc);
-    'pages: for (n, page) in pages.iter() {
-        if *n == id || ends.contains(&page.parent) {
-            ends.insert(*n)?;
-        }
+    ends.insert(id)?;
+    let mut next = Some(id);
+    'ids: while let Some(parent) = next {
+        add_children(&mut ends, children, parent)?;
+        next = next_id(&ends, parent);
     }
     Ok(ends)
 }
 
+// The least id of a set above one; None where there is none.
+fn next_id(ids: &BTreeSet<u64>, id: u64) -> Option<u64>
+    ensures { IsNext ids.now id result }
+{
+    ids.range((Bound::Excluded(id), Bound::Unbounded))
+        .next()
+        .copied()
+}
+
 /// Removes the pages of the ids that end. It takes no memory.
 pub(crate) fn end_all(pages: &mut BTreeMap<u64, Page>, ends: &BTreeSet<u64>)
+    requires { AreAscending pages.old.entries }
     ensures { pages.new.entries ≡ filter (λ e. not (has_id ends.now e.0)) pages.old.entries }
 {
-    pages.retain(|n, _| !ends.contains(n));
+    'ids: for id in ends.iter() {
+        pages.remove(id);
+    }
 }

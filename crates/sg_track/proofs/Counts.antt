@@ -1,6 +1,6 @@
 -- Counts of children beside kept rows.
 use Rattle.std.proofs.Common.{◌≡◌, ℕ, zero, suc, ◌+◌, ◌-◌, ◌<◌, ◌≤◌, Bool, true, false, cond, not, ◌&&◌, ◌||◌, List, [], ◌∷◌, ◌++◌, None, Some, length, map, filter, get_or, refl, sym, ◌∙◌, ap, inl, inr, arith, zero-add}
-use Rattle.std.specs.Prelude.{◌==◌, nat_lt, if◌then◌else◌, remove}
+use Rattle.std.specs.Prelude.{◌==◌, nat_lt, if◌then◌else◌}
 use Rattle.std.proofs.Math.ListN.{set}
 use Rattle.std.proofs.lemmas.Bool.{cases_lt}
 use Rattle.std.proofs.lemmas.Bool.Decides.{eqb_tells, nat_tests}
@@ -13,8 +13,7 @@ use Rattle.sg_base.specs.Lists.{Each}
 use Rattle.sg_track.specs.Kept.{Counts, HasRow, children_of, count_rows, ends_below, less_at, more_at, others_of, rows_of}
 use Rattle.sg_track.specs.Tracked.{HasLowerParent}
 use Rattle.sg_track.proofs.Above.{ends_child}
-use Rattle.sg_track.proofs.Ends.{other_test, same_test}
-use Rattle.sg_track.proofs.Halving.{above}
+use Rattle.sg_track.proofs.Ascending.{above, other_test, same_test}
 use Rattle.sg_track.proofs.KeptLists.{row_read}
 
 abbrev pub as_number : Bool → ℕ
@@ -342,9 +341,6 @@ children-removed high id other test rows are =
     count_left (λ r. r.parent == other) (λ r. (r.parent == other) && not (r.id == id)) (λ r. not ((r.id == id) || (false && test r))) 0 high rows
     (each_other HasLowerParent _ (λ r lower. one_goes id other test r) 0 high rows are)
 
-pub children-none : (gone : ℕ) (rows : List Row) (id : ℕ) → row_at rows gone ≡ None → others_of gone rows id ≡ children_of rows id
-children-none gone rows id none = others_none gone rows id none
-
 -- the counts of those that stay
 pub counts_left : (number told : ℕ → ℕ) (test : ℕ → Bool) (low high : ℕ) (kept : List Kept) → AreRows HasLowerParent low high (rows_of kept) → Each (λ k. k.ends ≡ test k.row.id) kept
     → ((id : ℕ) → low < id → test id ≡ false → number id ≡ told id) → Counts number kept → Counts told (filter (λ k. not k.ends) kept)
@@ -355,8 +351,3 @@ counts_left number told test low high (k ∷ kept) are ends same counts =
     at : (b : Bool) → test k.row.id ≡ b → Counts told (filter (λ x. not x.ends) kept) → Counts told (cond (not b) (k ∷ filter (λ x. not x.ends) kept) (filter (λ x. not x.ends) kept))
     at true is rest = rest
     at false is rest = (counts.0 ∙ same k.row.id are.0 is, rest)
-
-pub counts_removed : (number : ℕ → ℕ) (kept : List Kept) (n : ℕ) → n < length kept → Counts number kept → Counts number (remove kept n)
-counts_removed number [] n within counts = absurd (omega arith)
-counts_removed number (k ∷ kept) zero within counts = counts.1
-counts_removed number (k ∷ kept) (suc n) within counts = (counts.0, counts_removed number kept n (omega arith) counts.1)

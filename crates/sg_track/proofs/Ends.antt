@@ -1,6 +1,7 @@
 -- Which kept rows end with an id, and what is left of the rest.
 use Rattle.std.proofs.Common.{◌≡◌, ℕ, zero, suc, ◌+◌, ◌<◌, ◌≤◌, Bool, true, false, cond, not, ◌&&◌, ◌||◌, List, [], ◌∷◌, None, Some, length, filter, get_or, refl, sym, ◌∙◌, ap, inl, inr, arith}
-use Rattle.std.specs.Prelude.{◌==◌, remove}
+use Rattle.std.specs.Prelude.{◌==◌, nat_eq}
+use Rattle.std.specs.Map.{remove_entry}
 use Rattle.std.proofs.Math.ListN.{set}
 use Rattle.std.proofs.lemmas.Bool.{cases_lt}
 use Rattle.std.proofs.lemmas.Bool.Decides.{eqb_tells, nat_tests}
@@ -11,19 +12,14 @@ use Rattle.sg_facts.specs.Track.{row_at}
 use Rattle.sg_facts.proofs.RowLists.{id_of_row}
 use Rattle.sg_track.specs.declared.kept.Kept.{Kept}
 use Rattle.sg_base.specs.Lists.{Each}
-use Rattle.sg_track.specs.Kept.{HasRow, IsTold, TellsAt, ends_below, rows_of}
+use Rattle.sg_track.specs.Kept.{AreKeyed, HasRow, IsTold, TellsAt, ends_below, rows_in, rows_of}
 use Rattle.sg_track.specs.Tracked.{HasLowerParent}
 use Rattle.sg_track.proofs.Above.{ends_child, ends_itself, ends_nowhere, ends_root}
-use Rattle.sg_track.proofs.Halving.{above, found, later}
+use Rattle.sg_track.proofs.Ascending.{found, later, other_test, same_test}
+use Rattle.sg_track.proofs.Counts.{rows_same}
 use Rattle.sg_track.proofs.KeptLists.{read, row_read}
 
 -- ---- what is told of a row
-
-pub same_test : (m n : ℕ) → m ≡ n → (m == n) ≡ true
-same_test m n is = elim (eqb_tells m n) [ inl same ↦ same.0 | inr apart ↦ absurd (apart.1 is) ]
-
-pub other_test : (m n : ℕ) → (m ≡ n → ⊥) → (m == n) ≡ false
-other_test m n isn't = elim (eqb_tells m n) [ inl same ↦ absurd (isn't same.1) | inr apart ↦ apart.0 ]
 
 module _ (high : ℕ) (kept : List Kept) (are : AreRows HasLowerParent 0 high (rows_of kept)) (at id : ℕ) (within : at < length kept) (r : Row) (is : (d : Kept) → r ≡ (get_or kept at d).row)
     (differs : r.id ≡ id → ⊥) where
@@ -78,31 +74,27 @@ lower_at low high (k ∷ kept) (suc n) d are within = lower_at k.row.id high kep
 
 -- ---- what is told of each row
 
-pub rows-told : (kept : List Kept) (at : ℕ) (d : Kept) (ends : Bool) → at < length kept → rows_of (set kept at (record { row = (get_or kept at d).row; children = (get_or kept at d).children; ends = ends })) ≡ rows_of kept
-rows-told [] at d ends within = refl
-rows-told (k ∷ kept) zero d ends within = refl
-rows-told (k ∷ kept) (suc at) d ends within = ap (λ l. k.row ∷ l) (rows-told kept at d ends (omega arith))
-
 -- one more row is told
-pub told_more : (id : ℕ) (kept : List Kept) (at : ℕ) (d : Kept) (ends : Bool) → at < length kept → TellsAt id kept at ends → ((k : ℕ) → k < at → IsTold id kept k)
-    → (k : ℕ) → k < at + 1 → IsTold id (set kept at (record { row = (get_or kept at d).row; children = (get_or kept at d).children; ends = ends })) k
-told_more id kept at d ends within tells before k less e = elim (eqb_tells k at) [
-  | inl same ↦
-      let here = get_or-set_same kept at (record { row = (get_or kept at d).row; children = (get_or kept at d).children; ends = ends }) e within in
-      ap (λ n. (get_or new n e).ends) same.1 ∙ ap (λ x. x.ends) here ∙ tells d
-      ∙ ap (λ rows. ends_below rows id (get_or kept at d).row.id) (sym rows_same)
-      ∙ ap (λ x. ends_below (rows_of new) id x.row.id) (sym here) ∙ ap (λ n. ends_below (rows_of new) id (get_or new n e).row.id) (sym same.1)
+pub told_more : (id : ℕ) (kept : List Kept) (at : ℕ) (new k : Kept) → at < length kept → k ≡ get_or kept at k → new.row ≡ k.row → TellsAt id kept at new.ends → ((n : ℕ) → n < at → IsTold id kept n)
+    → (n : ℕ) → n < at + 1 → IsTold id (set kept at new) n
+told_more id kept at new k within is same tells before n less e = elim (eqb_tells n at) [
+  | inl here ↦
+      let there = get_or-set_same kept at new e within in
+      ap (λ i. (get_or changed i e).ends) here.1 ∙ ap (λ x. x.ends) there ∙ tells k
+      ∙ ap (λ rows. ends_below rows id (get_or kept at k).row.id) (sym rows_is)
+      ∙ ap (λ x. ends_below (rows_of changed) id x.row.id) (sym is) ∙ ap (λ r. ends_below (rows_of changed) id r.id) (sym same)
+      ∙ ap (λ x. ends_below (rows_of changed) id x.row.id) (sym there) ∙ ap (λ i. ends_below (rows_of changed) id (get_or changed i e).row.id) (sym here.1)
   | inr other ↦
-      let there = get_or-set_other kept at k (record { row = (get_or kept at d).row; children = (get_or kept at d).children; ends = ends }) e other.1 in
-      ap (λ x. x.ends) there ∙ before k (omega (arith, less, other.1)) e
-      ∙ ap (λ rows. ends_below rows id (get_or kept k e).row.id) (sym rows_same) ∙ ap (λ x. ends_below (rows_of new) id x.row.id) (sym there)
+      let there = get_or-set_other kept at n new e other.1 in
+      ap (λ x. x.ends) there ∙ before n (omega (arith, less, other.1)) e
+      ∙ ap (λ rows. ends_below rows id (get_or kept n e).row.id) (sym rows_is) ∙ ap (λ x. ends_below (rows_of changed) id x.row.id) (sym there)
 ]
   where
-    new : List Kept
-    new = set kept at (record { row = (get_or kept at d).row; children = (get_or kept at d).children; ends = ends })
+    changed : List Kept
+    changed = set kept at new
 
-    rows_same : rows_of new ≡ rows_of kept
-    rows_same = rows-told kept at d ends within
+    rows_is : rows_of changed ≡ rows_of kept
+    rows_is = rows_same kept at new k (same ∙ ap (λ x. x.row) is)
 
 -- each is told
 pub told_each : (test : ℕ → Bool) (kept : List Kept) → ((n : ℕ) → n < length kept → (d : Kept) → (get_or kept n d).ends ≡ test (get_or kept n d).row.id)
@@ -144,30 +136,17 @@ module _ (id : ℕ) where
       let apart : (r.id == id) ≡ false = grind (arith, nat_tests, are.0) in
       ap (λ l. r ∷ l) (left_above test r.id high rows (omega (arith, are.0)) are.3) ∙ sym (left_one test r rows false apart)
 
-  -- the row at the place of the id goes
-  removed_at : (test : Row → Bool) (low high : ℕ) (kept : List Kept) (n : ℕ) (d : Kept) → AreRows HasLowerParent low high (rows_of kept) → n < length kept → (get_or kept n d).row.id ≡ id
-      → rows_of (remove kept n) ≡ filter (λ x. not ((x.id == id) || (false && test x))) (rows_of kept)
-  removed_at test low high [] n d are within is = absurd (omega arith)
-  removed_at test low high (k ∷ kept) zero d are within is =
-      let same : (k.row.id == id) ≡ true = grind (arith, nat_tests) in
-      left_above test k.row.id high (rows_of kept) (omega (arith, is)) are.3 ∙ sym (left_one test k.row (rows_of kept) true same)
-  removed_at test low high (k ∷ kept) (suc n) d are within is =
-      let after : k.row.id < (get_or kept n d).row.id = above HasLowerParent k.row.id high kept n d are.3 (omega arith) in
-      let apart : (k.row.id == id) ≡ false = grind (arith, nat_tests, after, is) in
-      ap (λ l. k.row ∷ l) (removed_at test k.row.id high kept n d are.3 (omega arith) is) ∙ sym (left_one test k.row (rows_of kept) false apart)
-
-  -- where no row has the id, all stay
-  pub left_all : (test : Row → Bool) (rows : List Row) → row_at rows id ≡ None → rows ≡ filter (λ x. not ((x.id == id) || (false && test x))) rows
-  left_all test [] none = refl
-  left_all test (r ∷ rows) none = at (r.id == id) refl none (left_all test rows)
-    where
-      at : (b : Bool) → (r.id == id) ≡ b → cond b (Some r) (row_at rows id) ≡ None
-          → (row_at rows id ≡ None → rows ≡ filter (λ x. not ((x.id == id) || (false && test x))) rows) → r ∷ rows ≡ filter (λ x. not ((x.id == id) || (false && test x))) (r ∷ rows)
-      at true is none rest = absurd (cc none)
-      at false is none rest = ap (λ l. r ∷ l) (rest none) ∙ sym (left_one test r rows false is)
-
-  pub removed : (test : Row → Bool) (high : ℕ) (kept : List Kept) (n : ℕ) (k : Kept) → AreRows HasLowerParent 0 high (rows_of kept) → HasRow kept n id → k ≡ get_or kept n k
-      → rows_of (remove kept n) ≡ filter (λ x. not ((x.id == id) || (false && test x))) (rows_of kept)
-  removed test high kept n k are has is =
-      let its = id_of_row (rows_of kept) id k.row (row_read kept n id k k has is) in
-      removed_at test 0 high kept n k are has.within (ap (λ x. x.row.id) (sym is) ∙ its)
+  -- the row under the id goes, if there is one
+  pub removed : (test : Row → Bool) (low high : ℕ) (es : List (ℕ × Kept)) → AreRows HasLowerParent low high (rows_in es) → AreKeyed es
+      → rows_in (remove_entry (nat_eq id) es) ≡ filter (λ x. not ((x.id == id) || (false && test x))) (rows_in es)
+  removed test low high [] are keyed = refl
+  removed test low high (e ∷ es) are keyed = elim (eqb_tells e.1.row.id id) [
+    | inl same ↦
+        ap (λ b. rows_in (cond b es (e ∷ remove_entry (nat_eq id) es))) (same_test id e.0 (sym (keyed.0 ∙ same.1)))
+        ∙ left_above test e.1.row.id high (rows_in es) (omega (arith, same.1)) are.3
+        ∙ sym (left_one test e.1.row (rows_in es) true same.0)
+    | inr apart ↦
+        ap (λ b. rows_in (cond b es (e ∷ remove_entry (nat_eq id) es))) (other_test id e.0 (λ is. apart.1 (sym (is ∙ keyed.0))))
+        ∙ ap (λ l. e.1.row ∷ l) (removed test e.1.row.id high es are.3 keyed.1)
+        ∙ sym (left_one test e.1.row (rows_in es) false apart.0)
+  ]

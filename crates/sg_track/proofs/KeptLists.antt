@@ -14,7 +14,7 @@ use Rattle.sg_track.specs.Tracked.{AreTracked, HasLowerParent, HasPlace, Tracked
 use Rattle.sg_facts.proofs.RowLists.{changed as keep_changed, id_of_row}
 use Rattle.sg_track.specs.declared.kept.Kept.{Kept}
 use Rattle.sg_track.specs.Kept.{HasRow, rows_of}
-use Rattle.sg_track.proofs.Halving.{above}
+use Rattle.sg_track.proofs.Ascending.{above}
 
 pub read : (kept : List Kept) (n : ℕ) (d : Kept) → n < length kept → slice_get (rows_of kept) n ≡ Some (get_or kept n d).row
 read [] n d within = absurd (omega arith)
@@ -81,6 +81,13 @@ live_within P low high id (r ∷ rows) are live = at (r.id == id) (λ is. grind 
     at : (b : Bool) → (b ≡ true → r.id ≡ id) → (b || is_live rows id) ≡ true → (is_live rows id ≡ true → id ≤ high) → id ≤ high
     at true is live rest = omega (arith, is refl, are.1)
     at false is live rest = rest live
+
+-- an id beyond those given has no row
+pub none_beyond : (P : Row → Type 0) (low high id : ℕ) (rows : List Row) → AreRows P low high rows → high < id → row_at rows id ≡ None
+none_beyond P low high id [] are beyond = refl
+none_beyond P low high id (r ∷ rows) are beyond =
+    let apart : (r.id == id) ≡ false = grind (arith, nat_tests, are.1, beyond) in
+    ap (λ b. cond b (Some r) (row_at rows id)) apart ∙ none_beyond P r.id high id rows are.3 beyond
 
 -- the row that a creation makes is above its parent
 pub below_next : (facts : Facts) (t : Tracked) (call : Call) (good : Good) → HasPlace facts t call good → AreTracked t.given t.rows → HasLowerParent (new_row facts call good)

@@ -1,8 +1,9 @@
 pub mod DraftLists
-pub mod Halving
+pub mod Ascending
+pub mod Entries
 pub mod KeptLists
 pub mod Above
-pub mod Ends
 pub mod Counts
+pub mod Ends
 pub mod Keeps
 pub mod Premises

@@ -18,7 +18,7 @@ use Rattle.sg_facts.specs.Sound.{AreFields, AreRows, IsOfField, IsRow}
 use Rattle.sg_facts.specs.Track.{effect_of, empty_field, field_at, fields_after, new_row, row_after, row_at, rows_after}
 use Rattle.sg_track.specs.Drafts.{EachNew, IsDraftWord, IsValue}
 use Rattle.sg_track.specs.Tracked.{HasPlace, MayTrackOk, Tracked, changed_rows}
-use Rattle.sg_track.proofs.Ends.{same_test}
+use Rattle.sg_track.proofs.Ascending.{same_test}
 
 -- ---- fields that were set once
 

@@ -1,7 +1,9 @@
 -- What a tracker keeps.
-use Rattle.std.specs.Prelude.{ℕ, ◌≡◌, ◌+◌, ◌-◌, ◌<◌, ◌==◌, ◌&&◌, ◌||◌, not, Bool, true, if◌then◌else◌, List, [], ◌∷◌, length, map, slice_get, slice_index_or, vec_capacity, vec_len}
+use Rattle.std.specs.Prelude.{ℕ, ◌≡◌, ◌+◌, ◌-◌, ◌<◌, ◌==◌, ◌&&◌, ◌||◌, not, Bool, true, if◌then◌else◌, List, [], ◌∷◌, length, map, slice_get, slice_index_or, ◌≤◌}
 use Rattle.std.specs.declared.option.Option.{Option}
 use Rattle.std.specs.Option.{is_some}
+use Rattle.std.specs.Map.{values_of}
+use Rattle.indexmap.specs.IndexMap.{spare}
 use Rattle.sg_base.specs.Lists.{Each}
 use Rattle.sg_facts.specs.declared.row.Row.{Row}
 use Rattle.sg_facts.specs.Track.{is_ancestor, row_at}
@@ -14,14 +16,23 @@ use Rattle.sg_track.specs.Tracked.{AreTracked}
 abbrev pub rows_of : List Kept → List Row
 rows_of kept = map (λ k. k.row) kept
 
+-- the rows of a map's entries
+abbrev pub rows_in : List (ℕ × Kept) → List Row
+rows_in entries = rows_of (values_of entries)
+
+-- each row stands under its id
+abbrev pub AreKeyed : List (ℕ × Kept) → Type 0
+AreKeyed entries = Each (λ e. e.0 ≡ e.1.row.id) entries
+
 -- room for one row, or for none
 abbrev pub spare_of : Option RowRoom → ℕ
 spare_of room = if is_some room then 1 else 0
 
--- rows in ascending ids
-pub record Ascends (kept : List Kept) : Type 0 where
+-- rows in ascending ids, each under its own
+pub record Ascends (entries : List (ℕ × Kept)) : Type 0 where
   pub most : ℕ
-  pub tracked : AreTracked most (rows_of kept)
+  pub tracked : AreTracked most (rows_in entries)
+  pub keyed : AreKeyed entries
 
 -- the row of an id stands at a place
 pub record HasRow (kept : List Kept) (at id : ℕ) : Type 0 where
@@ -52,11 +63,13 @@ more_at one number id = if id == one then number id + 1 else number id
 abbrev pub less_at : ℕ → (ℕ → ℕ) → ℕ → ℕ
 less_at one number id = if id == one then number id - 1 else number id
 
--- the rows are tracked, each with the number of its children, and where there is room for a row, its place is there too
+-- the rows are tracked, each under its id and with the number of its children, and where there is room for a row, the map has a
+-- place for it
 pub record IsKept (t : Inside) : Type 0 where
-  pub tracked : AreTracked t.given (rows_of t.kept.items)
-  pub counted : Counts (children_of (rows_of t.kept.items)) t.kept.items
-  pub room : is_some t.room ≡ true → vec_len t.kept < vec_capacity t.kept
+  pub tracked : AreTracked t.given (rows_in t.kept.entries)
+  pub keyed : AreKeyed t.kept.entries
+  pub counted : Counts (children_of (rows_in t.kept.entries)) (values_of t.kept.entries)
+  pub room : is_some t.room ≡ true → 1 ≤ spare t.kept
 
 -- whether an id ends with another, under subtree
 abbrev pub ends_below : List Row → ℕ → ℕ → Bool

@@ -1,10 +1,13 @@
 // Rows as a tracker keeps them.
-ghost use Rattle.std.specs.Prelude.{◌≡◌};
+ghost use Rattle.std.specs.Prelude.{◌≡◌, ◌≤◌, ◌++◌, false, None, [], ◌∷◌};
+ghost use Rattle.indexmap.specs.IndexMap.{spare};
 ghost use Rattle.sg_facts.specs.Facts.{fun_at};
-ghost use Rattle.sg_facts.specs.Track.{row_after};
+ghost use Rattle.sg_facts.specs.Track.{row_after, row_at};
 ghost use Rattle.sg_track.specs.Drafts.{EachNew, IsDraftWord};
+ghost use Rattle.sg_track.specs.Kept.{AreKeyed, rows_in};
 
 use crate::words::set_words;
+use indexmap::IndexMap;
 use sg_base::{Call, Good};
 use sg_facts::{Interface, Row};
 
@@ -16,6 +19,28 @@ pub(crate) struct Kept {
     pub(crate) children: u64,
     /// Whether it ends with the descriptor that ends; told at each end.
     pub(crate) ends: bool,
+}
+
+/// Rows under their ids, in ascending ids.
+pub(crate) type KeptRows = IndexMap<u64, Kept>;
+
+/// Adds a row without children, last. It takes no memory.
+pub(crate) fn add_row(kept: &mut KeptRows, row: Row)
+    requires room { 1 ≤ spare kept.old }
+    requires keyed { AreKeyed kept.old.entries }
+    requires unknown { row_at (rows_in kept.old.entries) row.id ≡ None }
+    ensures { kept.new.entries ≡ kept.old.entries ++ (row.id, record { row = row; children = 0; ends = false }) ∷ [] }
+{
+    let id = row.id;
+    let new = Kept {
+        row,
+        children: 0,
+        ends: false,
+    };
+    match kept.insert(id, new) {
+        Ok(_) => {}
+        Err(_) => unreachable!(),
+    }
 }
 
 /// Does to a row what an Ok of a function does that changes it. It takes no memory.

@@ -5,8 +5,8 @@
 //! - `kept`: a row with what is kept beside it
 //! - `make`, `draft`, `room`: the row that a creation makes, in the room that was taken for it; `words`: the words that
 //!   other functions set in place
-//! - `places`: where a row stands; `tally`: the number of children beside each row; `subtree`: the end of a row with all
-//!   below it
+//! - `places`: where a row stands; `tally`: the number of children beside each row; `subtree`: the end of a row, alone or
+//!   with all below it
 //! - `laws`: what may be tracked (`sound_oks_are_tracked`)
 #![tactic(auto)]
 

@@ -1,48 +1,37 @@
 // Where a row stands among those that are kept.
-ghost use Rattle.std.specs.Prelude.{◌≡◌, ◌==◌, None, IfOk, MatchOption};
+ghost use Rattle.std.specs.Prelude.{◌≡◌, ◌==◌, None, map, IfOk, MatchOption};
 ghost use Rattle.std.specs.List.{list_any};
-ghost use Rattle.std.specs.Ordering.{nat_cmp};
+ghost use Rattle.std.specs.Map.{values_of};
 ghost use Rattle.sg_facts.specs.Track.{ancestors, parent_in, row_at};
-ghost use Rattle.sg_track.specs.Kept.{Ascends, HasRow, rows_of};
+ghost use Rattle.sg_track.specs.Kept.{AreKeyed, Ascends, HasRow, rows_in};
 
-use crate::kept::Kept;
+use crate::kept::KeptRows;
 use sg_base::{IdList, NoMemory};
 use std::alloc::Global;
-use std::cmp::Ordering;
 
-/// The place of an id among rows in ascending ids; None exactly where no row has it.
-pub(crate) fn place_of(kept: &[Kept], id: u64) -> Option<usize>
-    requires { Ascends kept.now }
-    ensures { MatchOption result (row_at (rows_of kept.now) id ≡ None) (λ at. HasRow kept.now at id) }
+/// The place of an id among rows under their ids; None exactly where no row has it.
+pub(crate) fn place_of(kept: &KeptRows, id: u64) -> Option<usize>
+    requires { AreKeyed kept.now.entries }
+    ensures { MatchOption result (row_at (rows_in kept.now.entries) id ≡ None) (λ at. HasRow (values_of kept.now.entries) at id) }
 {
-    match kept.binary_search_by(
-        move |one| -> Ordering
-            ensures { result ≡ nat_cmp one.now.row.id id }
-        { one.row.id.cmp(&id) },
-    ) {
-        Ok(place) => Some(place),
-        Err(_) => None,
-    }
+    kept.get_index_of(&id)
 }
 
 /// The parent of an id; 0 where there is no row.
-pub(crate) fn parent_of(kept: &[Kept], id: u64) -> u64
-    requires { Ascends kept.now }
-    ensures { result ≡ parent_in (row_at (rows_of kept.now) id) }
+pub(crate) fn parent_of(kept: &KeptRows, id: u64) -> u64
+    requires { AreKeyed kept.now.entries }
+    ensures { result ≡ parent_in (row_at (rows_in kept.now.entries) id) }
 {
-    match place_of(kept, id) {
-        Some(place) => {
-            let row = &kept[place].row;
-            row.parent
-        }
+    match kept.get(&id) {
+        Some(one) => one.row.parent,
         None => 0,
     }
 }
 
 /// The ancestors of an id, nearest first.
-pub(crate) fn ancestors_in(alloc: Global, kept: &[Kept], id: u64) -> Result<IdList, NoMemory>
-    requires { Ascends kept.now }
-    ensures { IfOk result (λ above. above ≡ ancestors (rows_of kept.now) id) }
+pub(crate) fn ancestors_in(alloc: Global, kept: &KeptRows, id: u64) -> Result<IdList, NoMemory>
+    requires { Ascends kept.now.entries }
+    ensures { IfOk result (λ above. above ≡ ancestors (rows_in kept.now.entries) id) }
 {
     let mut above = IdList::new(alloc);
     let mut parent = parent_of(kept, id);
@@ -53,9 +42,20 @@ pub(crate) fn ancestors_in(alloc: Global, kept: &[Kept], id: u64) -> Result<IdLi
     Ok(above)
 }
 
-/// Whether some row has the id as its parent.
-pub(crate) fn has_child(kept: &[Kept], id: u64) -> bool
-    ensures { result ≡ list_any (λ k. k.row.parent == id) kept.now }
+/// The ids of the rows, in their order.
+pub(crate) fn ids_in(alloc: Global, kept: &KeptRows) -> Result<IdList, NoMemory>
+    ensures { IfOk result (λ ids. ids ≡ map (λ r. r.id) (rows_in kept.now.entries)) }
 {
-    kept.iter().any(|one| one.row.parent == id)
+    let mut ids = IdList::new(alloc);
+    'rows: for at in 0..kept.len() {
+        ids.push(kept[at].row.id)?;
+    }
+    Ok(ids)
+}
+
+/// Whether some row has the id as its parent.
+pub(crate) fn has_child(kept: &KeptRows, id: u64) -> bool
+    ensures { result ≡ list_any (λ k. k.row.parent == id) (values_of kept.now.entries) }
+{
+    kept.values().any(|one| one.row.parent == id)
 }

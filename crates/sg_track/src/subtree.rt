@@ -1,18 +1,21 @@
-// The end of a row with all below it.
-ghost use Rattle.std.specs.Prelude.{◌≡◌, ◌<◌, ◌≤◌, ℕ, filter, length, not, vec_capacity, vec_len};
+// The end of a row, alone or with all below it.
+ghost use Rattle.std.specs.Prelude.{◌≡◌, ◌<◌, ◌≤◌, ℕ, filter, length, nat_eq, not};
+ghost use Rattle.std.specs.Map.{remove_entry, values_of};
+ghost use Rattle.indexmap.specs.IndexMap.{spare};
 ghost use Rattle.sg_base.specs.Lists.{Each};
-ghost use Rattle.sg_track.specs.Kept.{Ascends, Counts, IsTold, TellsAt, ends_below, rows_of};
+ghost use Rattle.sg_track.specs.Kept.{AreKeyed, Ascends, Counts, IsTold, TellsAt, ends_below, rows_in};
 
-use crate::kept::Kept;
+use crate::kept::{Kept, KeptRows};
 use crate::places::place_of;
 
 /// Tells of each row whether it ends with an id: it is the id's, or below it. Each row is looked at once, after its parent.
-pub(crate) fn mark_below(kept: &mut [Kept], id: u64)
-    requires { Ascends kept.old }
-    ensures len { length kept.new ≡ length kept.old }
-    ensures rows { rows_of kept.new ≡ rows_of kept.old }
-    ensures marked { Each (λ k. k.ends ≡ ends_below (rows_of kept.old) id k.row.id) kept.new }
-    ensures counts { (number : ℕ → ℕ) → Counts number kept.old → Counts number kept.new }
+pub(crate) fn mark_below(kept: &mut KeptRows, id: u64)
+    requires { Ascends kept.old.entries }
+    ensures spare { spare kept.new ≡ spare kept.old }
+    ensures keyed { AreKeyed kept.new.entries }
+    ensures rows { rows_in kept.new.entries ≡ rows_in kept.old.entries }
+    ensures marked { Each (λ k. k.ends ≡ ends_below (rows_in kept.old.entries) id k.row.id) (values_of kept.new.entries) }
+    ensures counts { (number : ℕ → ℕ) → Counts number (values_of kept.old.entries) → Counts number (values_of kept.new.entries) }
 {
     'rows: for at in 0..kept.len() {
         let ends = ends_below(kept, at, id);
@@ -21,11 +24,11 @@ pub(crate) fn mark_below(kept: &mut [Kept], id: u64)
 }
 
 // Whether the row at a place ends with an id, where this was told of those before it.
-fn ends_below(kept: &[Kept], at: usize, id: u64) -> bool
-    requires within { at < length kept.now }
-    requires ascends { Ascends kept.now }
-    requires before { (k : ℕ) → k < at → IsTold id kept.now k }
-    ensures { TellsAt id kept.now at result }
+fn ends_below(kept: &KeptRows, at: usize, id: u64) -> bool
+    requires within { at < length kept.now.entries }
+    requires ascends { Ascends kept.now.entries }
+    requires before { (k : ℕ) → k < at → IsTold id (values_of kept.now.entries) k }
+    ensures { TellsAt id (values_of kept.now.entries) at result }
 {
     let row = &kept[at].row;
     row.id == id
@@ -38,10 +41,21 @@ fn ends_below(kept: &[Kept], at: usize, id: u64) -> bool
 }
 
 /// Removes the rows that end.
-pub(crate) fn close_up(kept: &mut Vec<Kept>)
-    ensures items { kept.new.items ≡ filter (λ k. not k.ends) kept.old.items }
-    ensures len { vec_len kept.new ≤ vec_len kept.old }
-    ensures capacity { vec_capacity kept.new ≡ vec_capacity kept.old }
+pub(crate) fn close_up(kept: &mut KeptRows)
+    ensures entries { kept.new.entries ≡ filter (λ e. not e.1.ends) kept.old.entries }
+    ensures spare { spare kept.old ≤ spare kept.new }
 {
-    kept.retain(|one| !one.ends);
+    kept.retain(
+        |_id: &u64, one: &mut Kept| -> bool
+            ensures { (result ≡ not one.old.ends) × (one.new ≡ one.old) }
+        { !one.ends },
+    );
+}
+
+/// Removes the row of an id, if there is one. Those behind it move up.
+pub(crate) fn remove_row(kept: &mut KeptRows, id: u64)
+    ensures entries { kept.new.entries ≡ remove_entry (nat_eq id) kept.old.entries }
+    ensures spare { spare kept.old ≤ spare kept.new }
+{
+    kept.shift_remove(&id);
 }

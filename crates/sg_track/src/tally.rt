@@ -1,47 +1,49 @@
 // The number of children that is kept beside each row.
-ghost use Rattle.std.specs.Prelude.{◌≡◌, ◌+◌, ◌<◌, ◌^◌, ℕ, vec_capacity, vec_len};
+ghost use Rattle.std.specs.Prelude.{◌≡◌, ◌+◌, ◌<◌, ◌^◌, ℕ};
+ghost use Rattle.std.specs.Map.{values_of};
+ghost use Rattle.indexmap.specs.IndexMap.{spare};
 ghost use Rattle.sg_base.specs.Lists.{Each};
-ghost use Rattle.sg_track.specs.Kept.{Ascends, Counts, children_of, less_at, more_at, others_of, rows_of};
+ghost use Rattle.sg_track.specs.Kept.{AreKeyed, Ascends, Counts, children_of, less_at, more_at, others_of, rows_in};
 
-use crate::kept::Kept;
+use crate::kept::KeptRows;
 use crate::places::{parent_of, place_of};
 
 /// Counts one more child of the row of an id; nothing where there is no row.
-pub(crate) fn count_child(kept: &mut Vec<Kept>, id: u64)
-    requires ascends { Ascends kept.old.items }
-    requires few { Each (λ k. k.children + 1 < 2 ^ 64) kept.old.items }
-    ensures len { vec_len kept.new ≡ vec_len kept.old }
-    ensures capacity { vec_capacity kept.new ≡ vec_capacity kept.old }
-    ensures rows { rows_of kept.new.items ≡ rows_of kept.old.items }
-    ensures counts { (number : ℕ → ℕ) → Counts number kept.old.items → Counts (more_at id number) kept.new.items }
+pub(crate) fn count_child(kept: &mut KeptRows, id: u64)
+    requires ascends { Ascends kept.old.entries }
+    requires few { Each (λ k. k.children + 1 < 2 ^ 64) (values_of kept.old.entries) }
+    ensures spare { spare kept.new ≡ spare kept.old }
+    ensures keyed { AreKeyed kept.new.entries }
+    ensures rows { rows_in kept.new.entries ≡ rows_in kept.old.entries }
+    ensures counts { (number : ℕ → ℕ) → Counts number (values_of kept.old.entries) → Counts (more_at id number) (values_of kept.new.entries) }
 {
-    if let Some(place) = place_of(kept.as_slice(), id) {
+    if let Some(place) = place_of(kept, id) {
         kept[place].children += 1;
     }
 }
 
 // Counts one child less of the row of an id; nothing where there is no row.
-fn discount_child(kept: &mut Vec<Kept>, id: u64)
-    requires { Ascends kept.old.items }
-    ensures len { vec_len kept.new ≡ vec_len kept.old }
-    ensures capacity { vec_capacity kept.new ≡ vec_capacity kept.old }
-    ensures rows { rows_of kept.new.items ≡ rows_of kept.old.items }
-    ensures counts { (number : ℕ → ℕ) → Counts number kept.old.items → Counts (less_at id number) kept.new.items }
+fn discount_child(kept: &mut KeptRows, id: u64)
+    requires { Ascends kept.old.entries }
+    ensures spare { spare kept.new ≡ spare kept.old }
+    ensures keyed { AreKeyed kept.new.entries }
+    ensures rows { rows_in kept.new.entries ≡ rows_in kept.old.entries }
+    ensures counts { (number : ℕ → ℕ) → Counts number (values_of kept.old.entries) → Counts (less_at id number) (values_of kept.new.entries) }
 {
-    if let Some(place) = place_of(kept.as_slice(), id) {
+    if let Some(place) = place_of(kept, id) {
         let children = kept[place].children;
         kept[place].children = children.saturating_sub(1);
     }
 }
 
 /// Takes the row of an id out of its parent's count.
-pub(crate) fn discount_row(kept: &mut Vec<Kept>, id: u64)
-    requires { Ascends kept.old.items }
-    ensures len { vec_len kept.new ≡ vec_len kept.old }
-    ensures capacity { vec_capacity kept.new ≡ vec_capacity kept.old }
-    ensures rows { rows_of kept.new.items ≡ rows_of kept.old.items }
-    ensures counts { Counts (children_of (rows_of kept.old.items)) kept.old.items → Counts (others_of id (rows_of kept.old.items)) kept.new.items }
+pub(crate) fn discount_row(kept: &mut KeptRows, id: u64)
+    requires { Ascends kept.old.entries }
+    ensures spare { spare kept.new ≡ spare kept.old }
+    ensures keyed { AreKeyed kept.new.entries }
+    ensures rows { rows_in kept.new.entries ≡ rows_in kept.old.entries }
+    ensures counts { Counts (children_of (rows_in kept.old.entries)) (values_of kept.old.entries) → Counts (others_of id (rows_in kept.old.entries)) (values_of kept.new.entries) }
 {
-    let parent = parent_of(kept.as_slice(), id);
+    let parent = parent_of(kept, id);
     discount_child(kept, parent);
 }

@@ -1,26 +1,27 @@
 // The tracked rows of all descriptors.
-ghost use Rattle.std.specs.Prelude.{◌≡◌, ◌≤◌, ◌+◌, ◌-◌, [], length, map, IfOk, OnOk, OnErr};
+ghost use Rattle.std.specs.Prelude.{◌≡◌, ◌≤◌, ◌<◌, ◌+◌, ◌-◌, ◌^◌, [], length, map, IfOk, OnOk, OnErr};
 ghost use Rattle.std.specs.Option.{option_copied};
 ghost use Rattle.sg_facts.specs.Object.{given_after};
 ghost use Rattle.sg_facts.specs.Track.{ancestors, has_child, row_at, rows_after, track};
 ghost use Rattle.sg_track.specs.Tracked.{AreTracked, MayChange, MayMake, MayTrack, MayTrackOk, changed_rows, left_rows, made_rows, spare_after};
 
-use crate::kept::{Kept, change_row};
+use crate::kept::{KeptRows, add_row, change_row};
 use crate::make::made_row;
-use crate::places::{ancestors_in, has_child, place_of};
+use crate::places::{ancestors_in, has_child, ids_in, place_of};
 use crate::room::RowRoom;
-use crate::subtree::{close_up, mark_below};
+use crate::subtree::{close_up, mark_below, remove_row};
 use crate::tally::{count_child, discount_row};
+use indexmap::IndexMap;
 use sg_base::{Call, Good, IdList, NoMemory, Reply};
 use sg_facts::{Interface, Row, Tables};
 use std::alloc::Global;
 use std::marker::Model;
 
 /// The tracked rows of all descriptors: what the answered calls so far make of them. Contracts see the rows in ascending
-/// ids, the number of ids given, and for how many more rows there is room. A row is found by halving.
+/// ids, the number of ids given, and for how many more rows there is room. A row is found by its hash.
 #[derive(Debug, Drop)]
 pub struct Tracker {
-    pub(crate) kept: Vec<Kept>,
+    pub(crate) kept: KeptRows,
     pub(crate) given: u64,
     pub(crate) room: Option<RowRoom>,
 }
@@ -30,9 +31,9 @@ impl Model for Tracker {
 
     ghost Value = { Tracked };
 
-    ghost use Rattle.sg_track.specs.Kept.{rows_of, spare_of, IsKept};
+    ghost use Rattle.sg_track.specs.Kept.{rows_in, spare_of, IsKept};
 
-    ghost view = { λ t. record { rows = rows_of t.kept.items; given = t.given; spare = spare_of t.room } };
+    ghost view = { λ t. record { rows = rows_in t.kept.entries; given = t.given; spare = spare_of t.room } };
 
     ghost invariant = { λ t. IsKept t };
 }
@@ -45,7 +46,7 @@ impl Tracker {
         ensures spare { result.spare ≡ 0 }
     {
         Tracker {
-            kept: Vec::new(alloc),
+            kept: IndexMap::new(alloc),
             given: 0,
             room: None,
         }
@@ -113,11 +114,7 @@ impl Tracker {
                 if !interface.fun(call.fun).is_query() {
                     let row = made_row(interface, call, good, room);
                     count_child(&mut self.kept, row.parent);
-                    self.kept.push_reserved(Kept {
-                        row,
-                        children: 0,
-                        ends: false,
-                    });
+                    add_row(&mut self.kept, row);
                 }
             }
             None => unreachable!(),
@@ -132,10 +129,10 @@ impl Tracker {
     {
         discount_row(&mut self.kept, id);
         if subtree {
-            mark_below(self.kept.as_mut_slice(), id);
+            mark_below(&mut self.kept, id);
             close_up(&mut self.kept);
-        } else if let Some(place) = place_of(self.kept.as_slice(), id) {
-            self.kept.remove(place);
+        } else {
+            remove_row(&mut self.kept, id);
         }
     }
 
@@ -146,35 +143,46 @@ impl Tracker {
         ensures given { self.new.given ≡ self.old.given }
         ensures spare { self.new.spare ≡ self.old.spare }
     {
-        if let Some(place) = place_of(self.kept.as_slice(), call.desc) {
+        if let Some(place) = place_of(&self.kept, call.desc) {
             change_row(&mut self.kept[place].row, interface, call, good);
         }
+    }
+
+    /// Counts the next id as given, without a row.
+    pub fn skip(&mut self)
+        requires { self.old.given + 1 < 2 ^ 64 }
+        ensures rows { self.new.rows ≡ self.old.rows }
+        ensures given { self.new.given ≡ self.old.given + 1 }
+        ensures spare { self.new.spare ≡ self.old.spare }
+    {
+        self.given += 1;
     }
 
     /// The row of an id; None exactly where no live row has the id.
     pub fn row(&self, id: u64) -> Option<&Row>
         ensures { option_copied result ≡ row_at self.now.rows id }
     {
-        match place_of(self.kept.as_slice(), id) {
-            Some(place) => Some(&self.kept[place].row),
+        match self.kept.get(&id) {
+            Some(one) => Some(&one.row),
             None => None,
         }
     }
 
     /// The ancestors of an id, nearest first: its parent, the parent of that, and so on. None of them is 0.
     pub fn ancestors(&self, alloc: Global, id: u64) -> Result<IdList, NoMemory>
-        ensures { IfOk result (λ above. above ≡ ancestors self.now.rows id) }
+        ensures above { IfOk result (λ above. above ≡ ancestors self.now.rows id) }
+        ensures tracked { AreTracked self.now.given self.now.rows }
     {
-        ancestors_in(alloc, self.kept.as_slice(), id)
+        ancestors_in(alloc, &self.kept, id)
     }
 
     /// Whether a live row has the id as its parent. Where the id is live this looks at the number beside its row.
     pub fn has_children(&self, id: u64) -> bool
         ensures { result ≡ has_child self.now.rows id }
     {
-        match place_of(self.kept.as_slice(), id) {
-            Some(place) => self.kept[place].children > 0,
-            None => has_child(self.kept.as_slice(), id),
+        match self.kept.get(&id) {
+            Some(one) => one.children > 0,
+            None => has_child(&self.kept, id),
         }
     }
 
@@ -182,11 +190,7 @@ impl Tracker {
     pub fn ids(&self, alloc: Global) -> Result<IdList, NoMemory>
         ensures { IfOk result (λ ids. ids ≡ map (λ r. r.id) self.now.rows) }
     {
-        let mut ids = IdList::new(alloc);
-        'rows: for one in &self.kept {
-            ids.push(one.row.id)?;
-        }
-        Ok(ids)
+        ids_in(alloc, &self.kept)
     }
 
     /// The number of live rows.

@@ -1,13 +1,12 @@
--- The pages so far that end were told.
-use Rattle.std.proofs.Common.{◌≡◌, ℕ, map, ◌&&◌}
-use Rattle.std.specs.Map.Iter.{deref_pair}
-use Rattle.sg_facts.specs.Track.{ends_with, is_live}
-use Rattle.sg_mm.specs.MmFacts.{mm_facts}
-use Rattle.sg_mm.specs.MmIndex.{has_id}
-use Rattle.sg_mm.proofs.Indexed.{rows}
+-- What is below each id that was looked at is there.
+use Rattle.std.proofs.Common.{◌^◌, ◌-◌}
+use Rattle.std.specs.Option.{option_map_or}
+use Rattle.sg_mm.proofs.Growing.{IsGrown}
 use Rattle.sg_mm.proofs.subtree.ending.Given as goal
 
-abbrev pub invariant-pages : goal.invariant-pages
-invariant-pages l = record {
-  told : (n : ℕ) → has_id l.ends n ≡ (is_live (rows (map deref_pair l.yielded)) n && ends_with mm_facts (rows l.pages.entries) l.id n);
-}
+abbrev pub invariant-ids : goal.invariant-ids
+invariant-ids l = IsGrown l.children l.id l.next l.ends
+
+-- the numbers from the next on that fit 64 bits
+abbrev pub decreases-ids : goal.decreases-ids
+decreases-ids l = option_map_or (λ n. 2 ^ 64 - n) l.next 0

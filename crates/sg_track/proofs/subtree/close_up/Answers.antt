@@ -1,7 +1,7 @@
 -- What was told to end goes.
 use Rattle.std.proofs.Common.{rules}
-use Rattle.std.proofs.lemmas.Fn.{filter_same}
+use Rattle.indexmap.proofs.CallerLemmas.{filter-RetainsPairs}
 use Rattle.sg_track.proofs.subtree.close_up.Goals as goal
 
-pub returns-clause-items : goal.returns-clause-items
-returns-clause-items c = filter_same _ _ _ (λ x b f' k. search rules) _ _ c.retain.ensures.filtered
+pub returns-clause-entries : goal.returns-clause-entries
+returns-clause-entries c = filter-RetainsPairs _ _ _ (λ k v b w g call. search rules) _ _ c.retain.ensures.filtered

@@ -1,14 +1,15 @@
--- The row at the place is the one of the id.
-use Rattle.std.proofs.Common.{◌∙◌, ap, subst, sym}
+-- What the look-up finds is the row of the id.
+use Rattle.std.proofs.Common.{◌∙◌, ap, sym}
 use Rattle.sg_facts.specs.Track.{row_at}
-use Rattle.sg_track.specs.Kept.{Ascends, HasRow}
-use Rattle.sg_track.proofs.KeptLists.{row_read}
+use Rattle.sg_track.proofs.Entries.{row_found, row_missed}
 use Rattle.sg_track.proofs.tracker.Tracker.row.Goals as goal
-
-pub place_of-requires : goal.place_of-requires
-place_of-requires c = subst Ascends (sym c.as_slice.ensures.value) (record { most = c.self.inside.given; tracked = c.self.invariant.tracked })
 
 pub returns-in-Some : goal.returns-in-Some
 returns-in-Some c =
-    let has = subst (λ kept. HasRow kept c.in-Some.place c.args.id) c.as_slice.ensures.value c.in-Some.ensures in
-    sym (ap (λ t. row_at t.rows c.args.id) (sym c.self.view_is) ∙ row_read c.self.inside.kept.items c.in-Some.place c.args.id c.index.result.now c.index.result.now has c.index.ensures)
+    sym (row_found c.self.inside.kept.entries c.args.id c.in-Some.one.now c.self.invariant.keyed c.in-Some.ensures.value)
+    ∙ ap (λ t. row_at t.rows c.args.id) c.self.view_is
+
+pub returns-in-None : goal.returns-in-None
+returns-in-None c =
+    sym (row_missed c.self.inside.kept.entries c.args.id c.self.invariant.keyed c.in-None.ensures.value)
+    ∙ ap (λ t. row_at t.rows c.args.id) c.self.view_is

@@ -1,0 +1,6 @@
+pub mod Moving
+pub mod Parts
+pub mod Paths
+pub mod Placing
+pub mod Received
+pub mod Spots

@@ -1,0 +1,4 @@
+pub mod Committing
+pub mod Inside
+pub mod Spans
+pub mod Stored

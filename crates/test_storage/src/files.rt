@@ -1,0 +1,212 @@
+// Files.
+ghost use Rattle.std.specs.Prelude.{◌≡◌, ◌≤◌, length};
+ghost use Rattle.sg_ramfs.specs.RamfsFacts.{ramfs_facts};
+
+use crate::calls::{call, done, tables_of};
+use sg_base::{Bytes, NoMemory, Path};
+use sg_facts::{Patch, Tables};
+use sg_ramfs::ramfs_shape;
+use sg_store::Storage;
+use std::alloc::Global;
+use std::test::Fail;
+use test_interfaces::RAMFS;
+
+// Writes bytes into a file from a place on; false where the place is behind the file's end, or too far.
+fn write(
+    alloc: Global,
+    storage: &mut Storage,
+    tables: &Tables,
+    key: Path,
+    from: u32,
+    bytes: &[u8],
+) -> Result<bool, NoMemory>
+    requires files { tables.now.iface.facts ≡ ramfs_facts }
+    requires few { length bytes.now ≤ 256 }
+    requires client { 1 ≤ storage.old.clients }
+    ensures { storage.new.clients ≡ storage.old.clients }
+{
+    storage.reserve(alloc, 1, Some(&key))?;
+    if from > storage.len(&key) || from > 65_280 {
+        return Ok(false);
+    }
+    let bytes = Bytes::from_slice(alloc, bytes)?;
+    let patch = Patch { key, from, bytes };
+    let twrite = call(alloc, 1, 1, 3, 1);
+    storage.commit(tables, &twrite, done(alloc, 0), Some(patch));
+    Ok(true)
+}
+
+// Writes bytes at the end of a file.
+fn append(
+    alloc: Global,
+    storage: &mut Storage,
+    tables: &Tables,
+    key: Path,
+    bytes: &[u8],
+) -> Result<bool, NoMemory>
+    requires files { tables.now.iface.facts ≡ ramfs_facts }
+    requires few { length bytes.now ≤ 256 }
+    requires client { 1 ≤ storage.old.clients }
+    ensures { storage.new.clients ≡ storage.old.clients }
+{
+    let end = storage.len(&key);
+    write(alloc, storage, tables, key, end, bytes)
+}
+
+// A file as a plain pair.
+#[derive(Drop)]
+struct Plain {
+    key: Path,
+    bytes: Vec<u8>,
+}
+
+// The path of a file by its number.
+fn path(alloc: Global, file: u8) -> Result<Path, NoMemory> {
+    Path::from_slice(alloc, &[b'/', b'a' + file % 16])
+}
+
+// The first three files, without bytes.
+fn three_plain(alloc: Global) -> Result<Vec<Plain>, NoMemory> {
+    let mut plain = Vec::new(alloc);
+    for file in 0..3 {
+        plain.push(Plain {
+            key: path(alloc, file)?,
+            bytes: Vec::new(alloc),
+        })?;
+    }
+    Ok(plain)
+}
+
+// Adds bytes to the pair of a path.
+fn add_plain(plain: &mut Vec<Plain>, key: &Path, bytes: &[u8]) -> Result<(), NoMemory> {
+    for file in plain.iter_mut() {
+        if file.key == *key {
+            file.bytes.extend_from_slice(bytes)?;
+        }
+    }
+    Ok(())
+}
+
+// The part of the buffer that the span of a file names.
+fn in_buffer<'a>(storage: &'a Storage, key: &Path) -> &'a [u8] {
+    match storage.span(key) {
+        Some((place, len)) => &storage.buffer()[place..place + len],
+        None => &[],
+    }
+}
+
+// Whether a file is lent as in its pair, and stands so in the buffer.
+fn is_stored(storage: &Storage, file: &Plain) -> bool {
+    match storage.lend(&file.key, 0, storage.len(&file.key)) {
+        Some(lent) => {
+            lent == file.bytes.as_slice() && in_buffer(storage, &file.key) == file.bytes.as_slice()
+        }
+        None => false,
+    }
+}
+
+// Three files, written by turns in 200 commits of 256 bytes at the end of each.
+fn by_turns(alloc: Global, tables: &Tables, plain: &mut Vec<Plain>) -> Result<Storage, NoMemory>
+    requires { tables.now.iface.facts ≡ ramfs_facts }
+{
+    let mut storage = Storage::new(alloc, 1)?;
+    'turns: for turn in 0u8..200 {
+        let key = path(alloc, turn % 3)?;
+        let bytes = [turn; 256];
+        add_plain(plain, &key, &bytes)?;
+        append(alloc, &mut storage, tables, key, &bytes)?;
+    }
+    Ok(storage)
+}
+
+#[test]
+fn files_by_turns_are_as_plain_pairs(rt: HostRuntime) -> Result<(), Fail> {
+    let alloc = rt.alloc();
+    let tables = tables_of(alloc, RAMFS, ramfs_shape())?;
+    let mut plain = three_plain(alloc)?;
+    let storage = by_turns(alloc, &tables, &mut plain)?;
+    assert_eq!(rt; storage.len(&path(alloc, 0)?), 67 * 256);
+    assert_eq!(rt; storage.len(&path(alloc, 2)?), 66 * 256);
+    assert!(rt; plain.iter().all(|file| is_stored(&storage, file)));
+    Ok(())
+}
+
+// Whether a part of one file is that of another, both lent at once.
+fn are_same(storage: &Storage, one: &Path, other: &Path, from: u32, to: u32) -> bool {
+    match storage.lend(one, from, to) {
+        Some(part) => match storage.lend(other, from, to) {
+            Some(too) => part == too,
+            None => false,
+        },
+        None => false,
+    }
+}
+
+// Two files that begin alike and end differently.
+fn two_files(alloc: Global, tables: &Tables) -> Result<Storage, NoMemory>
+    requires { tables.now.iface.facts ≡ ramfs_facts }
+{
+    let mut storage = Storage::new(alloc, 1)?;
+    append(alloc, &mut storage, tables, path(alloc, 0)?, b"same, one")?;
+    append(alloc, &mut storage, tables, path(alloc, 1)?, b"same, two")?;
+    Ok(storage)
+}
+
+#[test]
+fn parts_of_two_files_are_lent_at_once(rt: HostRuntime) -> Result<(), Fail> {
+    let alloc = rt.alloc();
+    let tables = tables_of(alloc, RAMFS, ramfs_shape())?;
+    let storage = two_files(alloc, &tables)?;
+    let one = path(alloc, 0)?;
+    let two = path(alloc, 1)?;
+    assert!(rt; are_same(&storage, &one, &two, 0, 6));
+    assert!(rt; !are_same(&storage, &one, &two, 0, 9));
+    assert!(rt; are_same(&storage, &one, &one, 9, 9));
+    assert!(rt; !are_same(&storage, &one, &one, 9, 10));
+    assert!(rt; !are_same(&storage, &one, &one, 3, 2));
+    Ok(())
+}
+
+// Whether a file has these bytes.
+fn has(storage: &Storage, key: &Path, bytes: &[u8]) -> bool {
+    match storage.lend(key, 0, storage.len(key)) {
+        Some(lent) => lent == bytes,
+        None => false,
+    }
+}
+
+// A file that is written at its end, in its middle, and over its end.
+fn written_over(alloc: Global, tables: &Tables) -> Result<Storage, NoMemory>
+    requires { tables.now.iface.facts ≡ ramfs_facts }
+{
+    let mut storage = Storage::new(alloc, 1)?;
+    append(alloc, &mut storage, tables, path(alloc, 0)?, b"abcdef")?;
+    write(alloc, &mut storage, tables, path(alloc, 0)?, 1, b"XY")?;
+    write(alloc, &mut storage, tables, path(alloc, 0)?, 4, b"Z12")?;
+    Ok(storage)
+}
+
+#[test]
+fn a_file_is_written_over(rt: HostRuntime) -> Result<(), Fail> {
+    let alloc = rt.alloc();
+    let tables = tables_of(alloc, RAMFS, ramfs_shape())?;
+    let mut storage = written_over(alloc, &tables)?;
+    let key = path(alloc, 0)?;
+    assert!(rt; has(&storage, &key, b"aXYdZ12"));
+    storage.reserve(alloc, 1, Some(&key))?;
+    assert!(rt; has(&storage, &key, b"aXYdZ12"));
+    Ok(())
+}
+
+#[test]
+fn a_file_that_was_never_written_is_empty(rt: HostRuntime) -> Result<(), Fail> {
+    let alloc = rt.alloc();
+    let mut storage = Storage::new(alloc, 64)?;
+    let key = path(alloc, 0)?;
+    assert!(rt; storage.buffer().is_empty() && storage.len(&key) == 0);
+    assert!(rt; storage.span(&key).is_none() && has(&storage, &key, b""));
+    storage.reserve(alloc, 64, Some(&key))?;
+    assert!(rt; storage.len(&key) == 0 && storage.lend(&key, 0, 1).is_none());
+    assert!(rt; storage.span(&key).is_none() && has(&storage, &key, b""));
+    Ok(())
+}

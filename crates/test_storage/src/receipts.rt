@@ -1,0 +1,132 @@
+// Receipts, rows and ids.
+ghost use Rattle.std.specs.Prelude.{◌≡◌, ◌+◌, ◌≤◌, OnOk};
+ghost use Rattle.sg_lock.specs.LockFacts.{lock_facts};
+ghost use Rattle.sg_ramfs.specs.RamfsFacts.{ramfs_facts};
+
+use crate::calls::{call, done, tables_of};
+use sg_base::{Code, NoMemory, Reply};
+use sg_facts::{Service, Tables};
+use sg_lock::LockService;
+use sg_ramfs::ramfs_shape;
+use sg_store::Storage;
+use std::alloc::Global;
+use std::test::Fail;
+use test_interfaces::{LOCK, RAMFS};
+
+// Commits that a client made a descriptor of a private service.
+fn split(
+    alloc: Global,
+    storage: &mut Storage,
+    tables: &Tables,
+    client: u8,
+    seq: u32,
+    id: u64,
+) -> Result<(), NoMemory>
+    requires files { tables.now.iface.facts ≡ ramfs_facts }
+    requires first { 1 ≤ client }
+    requires last { client ≤ storage.old.clients }
+    requires next { storage.old.given + 1 ≡ id }
+    ensures given { OnOk result (storage.new.given ≡ id) }
+    ensures clients { storage.new.clients ≡ storage.old.clients }
+{
+    storage.reserve(alloc, client, None)?;
+    let tsplit = call(alloc, client, seq, 1, 0);
+    storage.commit(tables, &tsplit, done(alloc, id), None);
+    Ok(())
+}
+
+// Commits that a client's call was refused.
+fn refuse(
+    alloc: Global,
+    storage: &mut Storage,
+    tables: &Tables,
+    client: u8,
+    seq: u32,
+    code: Code,
+) -> Result<(), NoMemory>
+    requires first { 1 ≤ client }
+    requires last { client ≤ storage.old.clients }
+    ensures given { storage.new.given ≡ storage.old.given }
+    ensures clients { storage.new.clients ≡ storage.old.clients }
+{
+    storage.reserve(alloc, client, None)?;
+    let refused = call(alloc, client, seq, 1, 0);
+    storage.commit(tables, &refused, Reply::Refused(code), None);
+    Ok(())
+}
+
+// Commits that a client made a lock, of a global service.
+fn make(
+    alloc: Global,
+    storage: &mut Storage,
+    tables: &Tables,
+    client: u8,
+    seq: u32,
+    id: u64,
+) -> Result<(), NoMemory>
+    requires locks { tables.now.iface.facts ≡ lock_facts }
+    requires first { 1 ≤ client }
+    requires last { client ≤ storage.old.clients }
+    requires next { storage.old.given + 1 ≡ id }
+    ensures given { OnOk result (storage.new.given ≡ id) }
+    ensures clients { storage.new.clients ≡ storage.old.clients }
+{
+    storage.reserve(alloc, client, None)?;
+    let lock_alloc = call(alloc, client, seq, 1, 0);
+    storage.commit(tables, &lock_alloc, done(alloc, id), None);
+    Ok(())
+}
+
+// The number of a client's last receipt, and the descriptor of its Ok, 0 for a refusal; None where there is none.
+fn receipt(storage: &Storage, client: u8) -> Option<(u32, u64)> {
+    match storage.receipt(client) {
+        Some((seq, Reply::Ok(good))) => Some((seq, good.desc)),
+        Some((seq, Reply::Refused(_))) => Some((seq, 0)),
+        None => None,
+    }
+}
+
+#[test]
+fn a_private_service_counts_ids_and_keeps_no_row(rt: HostRuntime) -> Result<(), Fail> {
+    let alloc = rt.alloc();
+    let tables = tables_of(alloc, RAMFS, ramfs_shape())?;
+    let mut storage = Storage::new(alloc, 2)?;
+    assert_eq!(rt; storage.next_id(), 1);
+    split(alloc, &mut storage, &tables, 1, 1, 1)?;
+    assert_eq!(rt; storage.next_id(), 2);
+    split(alloc, &mut storage, &tables, 2, 1, 2)?;
+    refuse(alloc, &mut storage, &tables, 1, 2, Code::BadName)?;
+    assert_eq!(rt; storage.next_id(), 3);
+    assert!(rt; storage.row(1).is_none() && storage.row(2).is_none());
+    Ok(())
+}
+
+#[test]
+fn each_client_has_its_last_receipt(rt: HostRuntime) -> Result<(), Fail> {
+    let alloc = rt.alloc();
+    let tables = tables_of(alloc, RAMFS, ramfs_shape())?;
+    let mut storage = Storage::new(alloc, 3)?;
+    assert!(rt; storage.receipt(1).is_none() && storage.receipt(3).is_none());
+    split(alloc, &mut storage, &tables, 1, 5, 1)?;
+    split(alloc, &mut storage, &tables, 3, 7, 2)?;
+    assert!(rt; receipt(&storage, 1) == Some((5, 1)) && receipt(&storage, 3) == Some((7, 2)));
+    refuse(alloc, &mut storage, &tables, 1, 6, Code::TooBig)?;
+    assert!(rt; receipt(&storage, 1) == Some((6, 0)) && receipt(&storage, 3) == Some((7, 2)));
+    assert!(rt; storage.receipt(2).is_none());
+    assert!(rt; storage.receipt(0).is_none() && storage.receipt(4).is_none());
+    Ok(())
+}
+
+#[test]
+fn a_global_service_keeps_its_rows(rt: HostRuntime) -> Result<(), Fail> {
+    let alloc = rt.alloc();
+    let tables = tables_of(alloc, LOCK, LockService::shape())?;
+    let mut storage = Storage::new(alloc, 2)?;
+    make(alloc, &mut storage, &tables, 2, 1, 1)?;
+    make(alloc, &mut storage, &tables, 1, 1, 2)?;
+    assert_eq!(rt; storage.next_id(), 3);
+    assert!(rt; storage.row(1).is_some_and(|row| row.creator == 2));
+    assert!(rt; storage.row(2).is_some_and(|row| row.creator == 1));
+    assert!(rt; storage.row(3).is_none());
+    Ok(())
+}
