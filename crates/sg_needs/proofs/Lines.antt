@@ -107,9 +107,9 @@ module _ (x y : ℕ) (xs ys : List ℕ) (climbs : Climbs (x ∷ xs)) (climbs' : 
       either (inl less) = earlier less left
       either (inr more) = later more right
 
-      at : ((x ≡ y) × ((x == y) ≡ true)) ⊎ ((x ≡ y → ⊥) × ((x == y) ≡ false)) → Same (x ∷ xs) (y ∷ ys)
-      at (inl same) = heads same.0 both
-      at (inr differ) = either (apart differ.0)
+      at : (((x == y) ≡ true) × (x ≡ y)) ⊎ (((x == y) ≡ false) × (x ≡ y → ⊥)) → Same (x ∷ xs) (y ∷ ys)
+      at (inl same) = heads same.1 both
+      at (inr differ) = either (apart differ.1)
 
 -- along the second list, where the rest of the first has the same in common with any list
 along : (x : ℕ) (xs : List ℕ) → Climbs (x ∷ xs) → ((zs : List ℕ) → Climbs zs → filter (among zs) xs ≡ filter (among xs) zs)

@@ -1,5 +1,5 @@
 -- A live id has a row.
-use Rattle.std.proofs.Common.{◌≡◌, sym, ◌∙◌, ap, rules}
+use Rattle.std.proofs.Common.{◌∙◌}
 use Rattle.sg_needs.proofs.Lines.{live_if_found}
 use Rattle.sg_needs.proofs.line.is_live.Goals as goal
 
