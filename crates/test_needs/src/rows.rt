@@ -1,0 +1,63 @@
+// Tables, and rows of locks.
+ghost use Rattle.std.specs.Prelude.{◌≡◌, ◌+◌, true, [], IfOk, OnOk};
+ghost use Rattle.sg_facts.specs.Facts.{facts_of};
+ghost use Rattle.sg_check.specs.Shapes.{is_shape};
+ghost use Rattle.sg_lock.specs.LockFacts.{lock_facts};
+ghost use Rattle.test_histories.specs.Written.{call_of};
+
+use sg_base::{Args, Bytes, Call, Good, NoMemory, Reply, Words};
+use sg_check::check;
+use sg_facts::{Shape, Tables};
+use sg_parse::parse;
+use sg_stub::compile;
+use sg_track::Tracker;
+use std::alloc::Global;
+use std::test::Fail;
+
+/// The function that makes a lock.
+pub(crate) const ALLOC: u8 = 1;
+
+/// The tables of an interface text for a shape.
+pub(crate) fn tables_of(alloc: Global, text: &[u8], shape: Shape) -> Result<Tables, Fail>
+    requires { is_shape (facts_of shape) ≡ true }
+    ensures { IfOk result (λ tables. tables.iface.facts ≡ facts_of shape) }
+{
+    let tree = parse(alloc, text)?;
+    let accepted = check(alloc, &tree, &[shape])?;
+    Ok(compile(alloc, &accepted)?)
+}
+
+/// A client's first call of a function, without arguments.
+pub(crate) fn call(alloc: Global, client: u8, fun: u8, desc: u64) -> Call
+    ensures { result ≡ call_of client 1 fun desc [] }
+{
+    Call {
+        client,
+        seq: 1,
+        fun,
+        desc,
+        args: Args::new(alloc),
+    }
+}
+
+/// The row of one lock more, which a client made, under the next id.
+pub(crate) fn add_lock(
+    alloc: Global,
+    rows: &mut Tracker,
+    tables: &Tables,
+    client: u8,
+    id: u64,
+) -> Result<(), NoMemory>
+    requires locks { tables.now.iface.facts ≡ lock_facts }
+    requires next { rows.old.given + 1 ≡ id }
+    ensures given { OnOk result (rows.new.given ≡ id) }
+{
+    rows.reserve(alloc)?;
+    let made = Reply::Ok(Good {
+        desc: id,
+        words: Words::new(alloc),
+        bytes: Bytes::new(alloc),
+    });
+    rows.track(tables, &call(alloc, client, ALLOC, 0), &made);
+    Ok(())
+}
