@@ -1,0 +1,3 @@
+pub mod Engined
+pub mod Missing
+pub mod Present

@@ -1,0 +1,43 @@
+// The files that are present in this boot.
+ghost use Rattle.std.specs.Prelude.{◌≡◌, ℕ, List, false};
+ghost use Rattle.sg_replay.specs.Present.{is_present};
+
+use sg_base::Path;
+use std::alloc::Global;
+use std::collections::BTreeMap;
+use std::marker::Model;
+
+/// Which files are present in this boot: those that were loaded, or written, in it. Contracts see a mark for each path.
+#[derive(Debug, Drop)]
+pub(crate) struct Present {
+    marks: BTreeMap<Vec<u8>, bool>,
+}
+
+impl Model for Present {
+    ghost use Rattle.sg_replay.specs.Present.{Marks, marks_of};
+
+    ghost Value = { Marks };
+
+    ghost view = { λ p. marks_of p.marks.entries };
+}
+
+impl Present {
+    /// No file. It takes no memory.
+    pub(crate) fn new(alloc: Global) -> Present
+        ensures { (key : List ℕ) → is_present result key ≡ false }
+    {
+        Present {
+            marks: BTreeMap::new(alloc),
+        }
+    }
+
+    /// Whether a file is present.
+    pub(crate) fn has(&self, key: &Path) -> bool
+        ensures { result ≡ is_present self.now key.now }
+    {
+        match self.marks.get(key.as_slice()) {
+            Some(mark) => *mark,
+            None => false,
+        }
+    }
+}

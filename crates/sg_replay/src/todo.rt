@@ -1,0 +1,62 @@
+// What is still to be done before a call may be served.
+ghost use Rattle.std.specs.Prelude.{◌≡◌, ◌<◌, ℕ};
+ghost use Rattle.sg_name.specs.Names.{named_at};
+ghost use Rattle.sg_name.specs.declared.named.Named.TheVariants.{Partial};
+ghost use Rattle.sg_facts.specs.Walks.{most_calls};
+ghost use Rattle.sg_replay.specs.Engined.{AreInWalks};
+ghost use Rattle.sg_replay.specs.Missing.{is_whole, missing_row, next_of};
+
+use sg_name::{Named, Names};
+
+/// What is done next, before a call may be served.
+#[derive(Clone, Copy, Debug, PartialEq, Eq)]
+pub enum Todo {
+    /// A call of the walk of a descriptor is replayed.
+    Walk {
+        /// The client's id of the descriptor.
+        id: u64,
+        /// The number of the call in the walk, from 1.
+        k: u8,
+    },
+    /// The needed file is loaded.
+    Load,
+}
+
+/// The next call of the walk of the first of the ids that isn't whole; None where all are whole.
+pub(crate) fn missing_row(names: &Names, ids: &[u64]) -> Option<Todo>
+    requires { AreInWalks names.now.known }
+    ensures { result ≡ missing_row names.now.known ids.now }
+{
+    match ids {
+        [] => None,
+        [id, rest @ ..] => {
+            let named = names.get(*id);
+            if is_whole(named) {
+                missing_row(names, rest)
+            } else {
+                Some(Todo::Walk {
+                    id: *id,
+                    k: next_of(named),
+                })
+            }
+        }
+    }
+}
+
+// Whether a descriptor is whole.
+fn is_whole(named: Named) -> bool
+    ensures { result ≡ is_whole named }
+{
+    matches!(named, Named::Live { .. })
+}
+
+// The number of the next call of a descriptor's walk.
+fn next_of(named: Named) -> u8
+    requires { (real done : ℕ) → named ≡ Partial real done → done < most_calls }
+    ensures { result ≡ next_of named }
+{
+    match named {
+        Named::Unnamed | Named::Live { .. } => 1,
+        Named::Partial { done, .. } => done + 1,
+    }
+}
