@@ -1,6 +1,6 @@
 // The files that are present in this boot.
 ghost use Rattle.std.specs.Prelude.{◌≡◌, ℕ, List, false};
-ghost use Rattle.sg_replay.specs.Present.{is_present};
+ghost use Rattle.sg_replay.specs.Present.{is_present, marks_of};
 
 use sg_base::Path;
 use std::alloc::Global;
@@ -35,9 +35,13 @@ impl Present {
     pub(crate) fn has(&self, key: &Path) -> bool
         ensures { result ≡ is_present self.now key.now }
     {
-        match self.marks.get(key.as_slice()) {
-            Some(mark) => *mark,
-            None => false,
-        }
+        mark_at(&self.marks, key.as_slice())
     }
+}
+
+// The mark of a path, looked up by its bytes, so that nothing is copied; none is no mark.
+fn mark_at(marks: &BTreeMap<Vec<u8>, bool>, key: &[u8]) -> bool
+    ensures { result ≡ is_present (marks_of marks.now.entries) key.now }
+{
+    marks.get(key).copied().unwrap_or(false)
 }
