@@ -1,0 +1,76 @@
+-- What it means to rebuild a row by one call more of its walk, or to load a file.
+use Rattle.std.specs.Prelude.{ℕ, ◌≡◌, ◌≤◌, ◌+◌, ◌==◌, true, if◌then◌else◌, List, None, Some, length}
+use Rattle.std.specs.declared.option.Option.{Option}
+use Rattle.sg_base.specs.declared.call.Call.{Call}
+use Rattle.sg_base.specs.declared.reply.Good.{Good}
+use Rattle.sg_base.specs.declared.reply.Reply.TheVariants.{Ok}
+use Rattle.sg_facts.specs.declared.outcome.Patch.{Patch}
+use Rattle.sg_facts.specs.declared.row.Row.{Row}
+use Rattle.sg_facts.specs.declared.tables.WalkLine.{WalkLine}
+use Rattle.sg_facts.specs.declared.trace.Tag.TheVariants.{Walk}
+use Rattle.sg_facts.specs.Facts.{Facts}
+use Rattle.sg_facts.specs.Invoke.{Points}
+use Rattle.sg_facts.specs.Kinds.{MayAsk}
+use Rattle.sg_facts.specs.Legal.{Table}
+use Rattle.sg_facts.specs.Object.{Object}
+use Rattle.sg_facts.specs.Track.{row_at}
+use Rattle.sg_hist.specs.Reading.{walk_in}
+use Rattle.sg_hist.specs.Recovered.{call_in}
+use Rattle.sg_boot.specs.Invoking.{NotesReply, NotesStop}
+use Rattle.sg_name.specs.Names.{named_at}
+use Rattle.sg_name.specs.declared.named.Named.{Named}
+use Rattle.sg_name.specs.declared.named.Named.TheVariants.{Partial, Live}
+use Rattle.sg_replay.specs.Engined.{Engined}
+use Rattle.sg_replay.specs.Serving.{KeepsNames, makes, real_call}
+
+-- the call with this number of the walk of an id's row
+abbrev pub replay_of : Facts → List WalkLine → Option Row → ℕ → Option Call
+replay_of facts walks None k = None
+replay_of facts walks (Some r) k = call_in facts r k (walk_in walks (Some r))
+
+-- the length of the walk of a row
+abbrev pub length_of : Option (List ℕ) → ℕ
+length_of None = 0
+length_of (Some walk) = length walk
+
+abbrev pub walk_length : List WalkLine → Option Row → ℕ
+walk_length walks row = length_of (walk_in walks row)
+
+-- a row may be rebuilt by this call of its walk: the service may be asked it under its ids and answers Ok, and the first call of
+-- a walk is a creation, which gives the service's next id
+pub record IsReplayable (facts : Facts) (ask : Table) (e : Engined) (held : Object) (id k : ℕ) (shown : Call) : Type 0 where
+  pub its : replay_of facts e.tables.walks (row_at e.tracked.rows id) k ≡ Some shown
+  pub fields : (r : Row) → row_at e.tracked.rows id ≡ Some r → length r.fields ≤ 8
+  pub may : MayAsk facts held (real_call e shown)
+  pub good : Good
+  pub answered : ask held (real_call e shown) ≡ Some (Ok good)
+  pub first : k ≡ 1 → (makes facts shown ≡ true) × (good.desc ≡ held.given + 1)
+
+-- what stands for an id after a call of its walk: its first call gives its service id, its last makes it whole
+abbrev pub name_after : ℕ → ℕ → ℕ → Named
+name_after real k last = if k == last then Live real else Partial real k
+
+-- the service id of an id after a call of its walk that gave a descriptor
+abbrev pub real_after : Named → ℕ → ℕ
+real_after (Partial real done) desc = real
+real_after _ desc = desc
+
+-- a call more of a walk was replayed, its item is noted, and its row is so much further
+pub record Replays (facts : Facts) (ask : Table) (parts : ℕ → ℕ) (held : Object) (old : Engined) (id k client : ℕ) (shown : Call) (points : Points) (new : Engined) (later : Points) : Type 0 where
+  pub good : Good
+  pub patch : Option Patch
+  pub notes : NotesReply facts ask parts held old.cell (Walk id k client) shown (real_call old shown) points (Ok good) patch new.cell later
+  pub names : (x : ℕ) → named_at new.names.known x
+      ≡ (if x == id then name_after (real_after (named_at old.names.known id) good.desc) k (walk_length old.tables.walks (row_at old.tracked.rows id)) else named_at old.names.known x)
+
+-- the service stopped within the call, whose item is noted
+pub record IsStruck (ask : Table) (parts : ℕ → ℕ) (held : Object) (old : Engined) (id k client : ℕ) (shown : Call) (points : Points) (new : Engined) (later : Points) : Type 0 where
+  pub notes : NotesStop ask parts held old.cell (Walk id k client) shown (real_call old shown) points new.cell later
+  pub names : KeepsNames old new
+
+-- there was no memory: nothing changed but room, and no point was asked
+pub record IsUnchanged (old : Engined) (points : Points) (new : Engined) (later : Points) : Type 0 where
+  pub unasked : later ≡ points
+  pub running : new.cell.running ≡ old.cell.running
+  pub run : new.cell.run ≡ old.cell.run
+  pub names : KeepsNames old new
