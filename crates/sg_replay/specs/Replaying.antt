@@ -1,8 +1,11 @@
 -- What it means to rebuild a row by one call more of its walk, or to load a file.
-use Rattle.std.specs.Prelude.{ℕ, ◌≡◌, ◌≤◌, ◌+◌, ◌==◌, true, if◌then◌else◌, List, None, Some, length}
+use Rattle.std.specs.Prelude.{ℕ, ◌≡◌, ◌≤◌, ◌+◌, ◌==◌, true, false, if◌then◌else◌, List, None, Some, length}
 use Rattle.std.specs.declared.option.Option.{Option}
+use Rattle.std.specs.declared.result.Result.{Result}
+use Rattle.std.specs.declared.result.Result.TheVariants.{Ok as Done, Err}
 use Rattle.sg_base.specs.declared.call.Call.{Call}
 use Rattle.sg_base.specs.declared.reply.Good.{Good}
+use Rattle.sg_base.specs.declared.memory.NoMemory.{NoMemory}
 use Rattle.sg_base.specs.declared.reply.Reply.TheVariants.{Ok}
 use Rattle.sg_facts.specs.declared.outcome.Patch.{Patch}
 use Rattle.sg_facts.specs.declared.row.Row.{Row}
@@ -20,7 +23,10 @@ use Rattle.sg_boot.specs.Invoking.{NotesReply, NotesStop}
 use Rattle.sg_name.specs.Names.{named_at}
 use Rattle.sg_name.specs.declared.named.Named.{Named}
 use Rattle.sg_name.specs.declared.named.Named.TheVariants.{Partial, Live}
+use Rattle.sg_replay.specs.declared.advance.Advanced.{Advanced}
+use Rattle.sg_replay.specs.declared.advance.Advanced.TheVariants.{Replayed, Loaded, Struck}
 use Rattle.sg_replay.specs.Engined.{Engined}
+use Rattle.sg_replay.specs.Missing.{is_whole, next_of}
 use Rattle.sg_replay.specs.Serving.{KeepsNames, makes, real_call}
 
 -- the call with this number of the walk of an id's row
@@ -45,6 +51,15 @@ pub record IsReplayable (facts : Facts) (ask : Table) (e : Engined) (held : Obje
   pub good : Good
   pub answered : ask held (real_call e shown) ≡ Some (Ok good)
   pub first : k ≡ 1 → (makes facts shown ≡ true) × (good.desc ≡ held.given + 1)
+
+-- a row is to be rebuilt by this call of its walk: the service is up, the row isn't whole, and the call is the next of its walk
+pub record MayReplay (facts : Facts) (ask : Table) (e : Engined) (id k : ℕ) : Type 0 where
+  pub held : Object
+  pub up : e.cell.running ≡ Some held
+  pub shown : Call
+  pub ready : IsReplayable facts ask e held id k shown
+  pub partly : is_whole (named_at e.names.known id) ≡ false
+  pub next : k ≡ next_of (named_at e.names.known id)
 
 -- what stands for an id after a call of its walk: its first call gives its service id, its last makes it whole
 abbrev pub name_after : ℕ → ℕ → ℕ → Named
@@ -74,3 +89,10 @@ pub record IsUnchanged (old : Engined) (points : Points) (new : Engined) (later 
   pub running : new.cell.running ≡ old.cell.running
   pub run : new.cell.run ≡ old.cell.run
   pub names : KeepsNames old new
+
+-- what one call more of a walk does, by its answer
+abbrev pub ReplaysOne : Facts → Table → (ℕ → ℕ) → Object → Engined → ℕ → ℕ → ℕ → Call → Points → Result Advanced NoMemory → Engined → Points → Type 0
+ReplaysOne facts ask parts held old id k client shown points (Done Replayed) new later = Replays facts ask parts held old id k client shown points new later
+ReplaysOne facts ask parts held old id k client shown points (Done Struck) new later = IsStruck ask parts held old id k client shown points new later
+ReplaysOne facts ask parts held old id k client shown points (Done Loaded) new later = ⊥
+ReplaysOne facts ask parts held old id k client shown points (Err error) new later = IsUnchanged old points new later
