@@ -1,3 +1,4 @@
+pub mod Due
 pub mod Marks
 pub mod Pairs
 pub mod Stepped

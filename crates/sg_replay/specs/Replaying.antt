@@ -1,5 +1,6 @@
 -- What it means to rebuild a row by one call more of its walk, or to load a file.
-use Rattle.std.specs.Prelude.{ℕ, ◌≡◌, ◌≤◌, ◌+◌, ◌==◌, true, false, if◌then◌else◌, List, None, Some, length}
+use Rattle.std.specs.Prelude.{ℕ, ◌≡◌, ◌≤◌, ◌+◌, ◌==◌, ◌||◌, true, false, if◌then◌else◌, List, None, Some, length}
+use Rattle.std.specs.Str.{bytes_eq}
 use Rattle.std.specs.declared.option.Option.{Option}
 use Rattle.std.specs.declared.result.Result.{Result}
 use Rattle.std.specs.declared.result.Result.TheVariants.{Ok as Done, Err}
@@ -12,21 +13,26 @@ use Rattle.sg_facts.specs.declared.row.Row.{Row}
 use Rattle.sg_facts.specs.declared.tables.WalkLine.{WalkLine}
 use Rattle.sg_facts.specs.declared.trace.Tag.TheVariants.{Walk}
 use Rattle.sg_facts.specs.Facts.{Facts}
-use Rattle.sg_facts.specs.Invoke.{Points}
+use Rattle.sg_facts.specs.Invoke.{Points, loaded}
 use Rattle.sg_facts.specs.Kinds.{MayAsk}
 use Rattle.sg_facts.specs.Legal.{Table}
+use Rattle.sg_facts.specs.Needs.{Needs}
 use Rattle.sg_facts.specs.Object.{Object}
 use Rattle.sg_facts.specs.Track.{row_at}
 use Rattle.sg_hist.specs.Reading.{walk_in}
 use Rattle.sg_hist.specs.Recovered.{call_in}
-use Rattle.sg_boot.specs.Invoking.{NotesReply, NotesStop}
+use Rattle.sg_boot.specs.Invoking.{NotesReply, NotesStop, item_of_load, with_item}
 use Rattle.sg_name.specs.Names.{named_at}
 use Rattle.sg_name.specs.declared.named.Named.{Named}
 use Rattle.sg_name.specs.declared.named.Named.TheVariants.{Partial, Live}
 use Rattle.sg_replay.specs.declared.advance.Advanced.{Advanced}
 use Rattle.sg_replay.specs.declared.advance.Advanced.TheVariants.{Replayed, Loaded, Struck}
 use Rattle.sg_replay.specs.Engined.{Engined}
-use Rattle.sg_replay.specs.Missing.{is_whole, next_of}
+use Rattle.sg_replay.specs.Missing.{is_whole, missing, next_of}
+use Rattle.sg_replay.specs.declared.todo.Todo.{Todo}
+use Rattle.sg_replay.specs.declared.todo.Todo.TheVariants.{Walk as ToWalk, Load}
+use Rattle.sg_replay.specs.Present.{is_present}
+use Rattle.sg_store.specs.Stored.{bytes_of}
 use Rattle.sg_replay.specs.Serving.{KeepsNames, makes, real_call}
 
 -- the call with this number of the walk of an id's row
@@ -96,3 +102,34 @@ ReplaysOne facts ask parts held old id k client shown points (Done Replayed) new
 ReplaysOne facts ask parts held old id k client shown points (Done Struck) new later = IsStruck ask parts held old id k client shown points new later
 ReplaysOne facts ask parts held old id k client shown points (Done Loaded) new later = ⊥
 ReplaysOne facts ask parts held old id k client shown points (Err error) new later = IsUnchanged old points new later
+
+-- ---- files
+
+-- a file was loaded: the service has it as storage has it, the load is noted, and it is present in this boot
+pub record Loads (facts : Facts) (held : Object) (old : Engined) (client : ℕ) (key : List ℕ) (points : ℕ) (new : Engined) : Type 0 where
+  pub running : new.cell.running ≡ Some (loaded facts held key (bytes_of old.stored key))
+  pub run : new.cell.run ≡ with_item old.cell.run (item_of_load client points key (bytes_of old.stored key)) points
+  pub present : (k : List ℕ) → is_present new.present k ≡ (bytes_eq k key || is_present old.present k)
+  pub names : KeepsNames old new
+
+-- all files are as present as before
+abbrev pub KeepsPresent : Engined → Engined → Type 0
+KeepsPresent old new = (key : List ℕ) → is_present new.present key ≡ is_present old.present key
+
+-- what loading a file does, by its answer; no point is asked
+abbrev pub LoadsOne : Facts → Object → Engined → ℕ → List ℕ → Points → Result Advanced NoMemory → Engined → Points → Type 0
+LoadsOne facts held old client key points (Done Loaded) new later = Loads facts held old client key points.asked new × (later ≡ points)
+LoadsOne facts held old client key points (Done Replayed) new later = ⊥
+LoadsOne facts held old client key points (Done Struck) new later = ⊥
+LoadsOne facts held old client key points (Err error) new later = IsUnchanged old points new later × KeepsPresent old new
+
+-- ---- one step
+
+-- what is to be done next may be done: it is what is missing, the service is up, a row may be rebuilt by the next call of its walk,
+-- and a file is loaded into a service that has files
+pub record MayAdvance (facts : Facts) (ask : Table) (e : Engined) (needs : Needs) (todo : Todo) : Type 0 where
+  pub held : Object
+  pub up : e.cell.running ≡ Some held
+  pub due : missing e needs ≡ Some todo
+  pub walk : (id k : ℕ) → todo ≡ ToWalk id k → (shown : Call) × IsReplayable facts ask e held id k shown
+  pub load : todo ≡ Load → facts.resc_data ≡ true

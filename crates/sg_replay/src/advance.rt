@@ -1,19 +1,20 @@
 // One step more of what a call needs: a call of a walk.
-ghost use Rattle.std.specs.Prelude.{◌≡◌, ◌<◌, ◌≤◌, ◌^◌, ℕ, None, Some, IsSome, IfOk, length};
+ghost use Rattle.std.specs.Prelude.{◌≡◌, ◌<◌, ◌≤◌, ◌^◌, ℕ, List, true, [], None, Some, IsSome, IfOk, length};
 ghost use Rattle.std.specs.Option.{option_copied};
 ghost use Rattle.sg_base.specs.declared.call.Call.{Call as IsCall};
 ghost use Rattle.sg_facts.specs.Object.{Object};
 ghost use Rattle.sg_facts.specs.declared.row.Row.{Row as IsRow};
 ghost use Rattle.sg_facts.specs.Track.{row_at};
 ghost use Rattle.sg_facts.specs.Walks.{most_calls};
-ghost use Rattle.sg_replay.specs.Replaying.{MayReplay, ReplaysOne, name_after, real_after, replay_of, walk_length};
+ghost use Rattle.sg_replay.specs.Replaying.{KeepsPresent, LoadsOne, MayAdvance, MayReplay, ReplaysOne, name_after, real_after, replay_of, walk_length};
 
 use crate::engine::Engine;
 use crate::names::real_call;
-use sg_base::{Call, NoMemory, Reply, Stops};
+use crate::todo::Todo;
+use sg_base::{Call, NoMemory, Path, Reply, Stops};
 use sg_facts::{Outcome, Row, Service, Tables, Tag};
 use sg_name::Named;
-use sg_needs::{replayed_call, walk_of_row};
+use sg_needs::{Needs, replayed_call, walk_of_row};
 use std::alloc::Global;
 
 /// What one step has done for what a call needs.
@@ -28,6 +29,73 @@ pub enum Advanced {
 }
 
 impl<S: Service> Engine<S> {
+    /// Does what is to be done next for a call with these needs, for a client: replays the next call of a row's walk, or loads
+    /// the needed file. Its room is taken first, and after `NoMemory` nothing changed but room. `Struck` comes where the service
+    /// stopped within the call. What stubs and storage keep stays.
+    pub fn advance<T: Stops>(
+        &mut self,
+        alloc: Global,
+        stops: &mut T,
+        client: u8,
+        needs: &Needs,
+        todo: Todo,
+    ) -> Result<Advanced, NoMemory>
+        requires { MayAdvance S.facts S.ask self.old needs.now todo }
+        ensures walk { (held : Object) (id k : ℕ) (shown : IsCall) → self.old.cell.running ≡ Some held → todo ≡ Todo.Walk id k
+            → replay_of S.facts self.old.tables.walks (row_at self.old.tracked.rows id) k ≡ Some shown
+            → ReplaysOne S.facts S.ask S.parts held self.old id k client shown
+            (record { asked = T.asked stops.old; struck = T.struck stops.old }) result
+            self.new (record { asked = T.asked stops.new; struck = T.struck stops.new }) × KeepsPresent self.old self.new }
+        ensures load { (held : Object) (key : List ℕ) → self.old.cell.running ≡ Some held → todo ≡ Todo.Load → needs.now.file ≡ Some key
+            → LoadsOne S.facts held self.old client key
+            (record { asked = T.asked stops.old; struck = T.struck stops.old }) result
+            self.new (record { asked = T.asked stops.new; struck = T.struck stops.new }) }
+        ensures tables { self.new.tables ≡ self.old.tables }
+        ensures stored { self.new.stored ≡ self.old.stored }
+        ensures tracked { self.new.tracked ≡ self.old.tracked }
+        ensures plan { T.plan stops.new ≡ T.plan stops.old }
+        ensures test { T.test (T.asked stops.old) (T.struck stops.old) (T.plan stops.old)
+            → T.test (T.asked stops.new) (T.struck stops.new) (T.plan stops.new) }
+    {
+        match todo {
+            Todo::Walk { id, k } => self.replay(alloc, stops, client, id, k),
+            Todo::Load => self.load(alloc, client, stops.asked(), &needs.file),
+        }
+    }
+
+    // Loads the needed file, for a client. Its room is taken first.
+    fn load(
+        &mut self,
+        alloc: Global,
+        client: u8,
+        points: u64,
+        file: &Option<Path>,
+    ) -> Result<Advanced, NoMemory>
+        requires files { S.facts.resc_data ≡ true }
+        requires up { IsSome self.old.cell.running }
+        requires needed { IsSome file.now }
+        ensures outcome { (held : Object) (key : List ℕ) → self.old.cell.running ≡ Some held → file.now ≡ Some key
+            → LoadsOne S.facts held self.old client key (record { asked = points; struck = [] }) result
+            self.new (record { asked = points; struck = [] }) }
+        ensures tables { self.new.tables ≡ self.old.tables }
+        ensures stored { self.new.stored ≡ self.old.stored }
+        ensures tracked { self.new.tracked ≡ self.old.tracked }
+    {
+        match file {
+            Some(key) => {
+                self.cell.reserve(alloc)?;
+                self.present.prepare(alloc, key)?;
+                match self.storage.lend(key, 0, self.storage.len(key)) {
+                    Some(bytes) => self.cell.load(alloc, client, points, key, bytes)?,
+                    None => unreachable!(),
+                }
+                self.present.mark(key);
+                Ok(Advanced::Loaded)
+            }
+            None => unreachable!(),
+        }
+    }
+
     // Replays the next call of the walk of an id, for a client. Its room is taken first.
     pub(crate) fn replay<T: Stops>(
         &mut self,
