@@ -1,1 +1,4 @@
 pub mod Marks
+pub mod Naming
+pub mod Serving
+pub mod Telling
