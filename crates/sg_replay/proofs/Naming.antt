@@ -8,7 +8,6 @@ use Rattle.sg_facts.specs.Alike.{named}
 use Rattle.sg_name.proofs.Directions.{turned}
 use Rattle.sg_name.specs.Names.{name_by, name_of, named_at, real_at, real_of}
 use Rattle.sg_name.specs.declared.named.Named.{Named}
-use Rattle.sg_name.specs.declared.named.Named.TheVariants.{Unnamed, Partial, Live}
 use Rattle.sg_name.specs.declared.named.Standing.{Standing}
 use Rattle.sg_replay.specs.Serving.{pairs_of}
 

@@ -1,5 +1,5 @@
 -- What it means to serve a call: the service is asked it under its own ids, and its answer is told under the clients'.
-use Rattle.std.specs.Prelude.{ℕ, ◌≡◌, ◌≤◌, ◌<◌, ◌⊎◌, ◌+◌, ◌^◌, ◌==◌, ◌&&◌, Bool, true, false, if◌then◌else◌, List, None, Some, map}
+use Rattle.std.specs.Prelude.{ℕ, ◌≡◌, ◌≤◌, ◌<◌, ◌⊎◌, ◌+◌, ◌^◌, ◌==◌, ◌&&◌, Bool, true, false, if◌then◌else◌, List, Some, map}
 use Rattle.std.specs.declared.option.Option.{Option}
 use Rattle.sg_base.specs.declared.call.Call.{Call}
 use Rattle.sg_base.specs.declared.reply.Good.{Good}
@@ -17,8 +17,7 @@ use Rattle.sg_facts.specs.Legal.{Table}
 use Rattle.sg_facts.specs.Object.{Object}
 use Rattle.sg_boot.specs.Invoking.{NotesNothing, NotesReply, NotesStop, NotesWait}
 use Rattle.sg_name.specs.Names.{named_at, real_at}
-use Rattle.sg_name.specs.declared.named.Named.{Named}
-use Rattle.sg_name.specs.declared.named.Named.TheVariants.{Unnamed, Live}
+use Rattle.sg_name.specs.declared.named.Named.TheVariants.{Live}
 use Rattle.sg_name.specs.declared.named.Standing.{Standing}
 use Rattle.sg_replay.specs.Engined.{Engined}
 

@@ -1,5 +1,5 @@
 // The ids of the running service for those of the clients, and back.
-ghost use Rattle.std.specs.Prelude.{◌≡◌, ◌==◌, ◌&&◌, ◌⊎◌, ℕ, false, Some, IfOk, if◌then◌else◌};
+ghost use Rattle.std.specs.Prelude.{◌≡◌, ◌==◌, ◌&&◌, ◌⊎◌, ◌+◌, ◌≤◌, ℕ, false, Some, IfOk, if◌then◌else◌};
 ghost use Rattle.sg_facts.specs.Alike.{named, under_names};
 ghost use Rattle.sg_name.specs.Names.{named_at, real_at};
 ghost use Rattle.sg_name.specs.declared.named.Named.TheVariants.{Live};
@@ -48,6 +48,7 @@ pub(crate) fn tell(names: &mut Names, is_new: bool, next: u64, reply: Reply) -> 
     ensures tells { IsTold names.old.known is_new next reply result }
     ensures names { (id : ℕ) → named_at names.new.known id
         ≡ (if is_named_by is_new next reply id then Live (real_in reply) else named_at names.old.known id) }
+    ensures room { names.old.spare ≤ names.new.spare + 1 }
 {
     match reply {
         Reply::Ok(good) => Reply::Ok(Good {
@@ -65,6 +66,7 @@ fn tell_desc(names: &mut Names, is_new: bool, next: u64, real: u64) -> u64
     ensures tells { IsDescTold names.old.known is_new next real result }
     ensures names { (id : ℕ) → named_at names.new.known id
         ≡ (if is_new && (id == next) then Live real else named_at names.old.known id) }
+    ensures room { names.old.spare ≤ names.new.spare + 1 }
 {
     if is_new {
         names.set(next, Named::Live { real });
