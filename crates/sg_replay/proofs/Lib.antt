@@ -1,4 +1,6 @@
 pub mod Due
 pub mod Marks
-pub mod Pairs
+pub mod Naming
+pub mod Serving
 pub mod Stepped
+pub mod Telling

@@ -1,4 +1,5 @@
 pub mod Engined
+pub mod Inside
 pub mod Missing
 pub mod Present
 pub mod Replaying

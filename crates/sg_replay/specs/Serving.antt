@@ -58,10 +58,10 @@ pub record MayServe (facts : Facts) (ask : Table) (e : Engined) (call : Call) : 
   pub back : (good : Good) → ask held (real_call e call) ≡ Some (Ok good) → makes facts call ≡ false
       → (good.desc ≡ 0) ⊎ ((id : ℕ) × (real_at e.names.known id ≡ Some good.desc))
 
--- whether an answered call made what stands for an id now
-abbrev pub is_named_by : Facts → ℕ → Call → Reply → ℕ → Bool
-is_named_by facts next call (Ok good) id = makes facts call && (id == next)
-is_named_by facts next call (Refused code) id = false
+-- whether a reply made what stands for an id now
+abbrev pub is_named_by : Bool → ℕ → Reply → ℕ → Bool
+is_named_by is_new next (Ok good) id = is_new && (id == next)
+is_named_by is_new next (Refused code) id = false
 
 -- the service id in a reply
 abbrev pub real_in : Reply → ℕ
@@ -73,7 +73,7 @@ pub record TellsReply (facts : Facts) (ask : Table) (parts : ℕ → ℕ) (held 
   pub reply : Reply
   pub notes : NotesReply facts ask parts held old.cell (Client call.client call.seq) call (real_call old call) points reply patch new.cell later
   pub tells : IsTold old.names.known (makes facts call) (old.tracked.given + 1) reply told
-  pub names : (id : ℕ) → named_at new.names.known id ≡ (if is_named_by facts (old.tracked.given + 1) call reply id then Live (real_in reply) else named_at old.names.known id)
+  pub names : (id : ℕ) → named_at new.names.known id ≡ (if is_named_by (makes facts call) (old.tracked.given + 1) reply id then Live (real_in reply) else named_at old.names.known id)
 
 -- all names stay
 abbrev pub KeepsNames : Engined → Engined → Type 0

@@ -2,14 +2,17 @@
 //!
 //! - `engine`: the parts, and what each of them tells (`Engine`)
 //! - `todo`: what is still to be done before a call may be served (`Todo`)
-//! - `advance`: one step of what is still to be done (`Advanced`)
-//! - `names`: the service ids of the clients' ids; `present`: the files that are present in this boot
+//! - `advance`: one step of that: a call of a walk, or the load of a file (`Advanced`)
+//! - `serve`: a call that needs nothing any more
+//! - `names`: the ids of the running service for those of the clients, and back; `present`: the files that are present in this
+//!   boot
 #![tactic(auto)]
 
 mod advance;
 mod engine;
 mod names;
 mod present;
+mod serve;
 mod todo;
 
 pub use advance::Advanced;
