@@ -45,7 +45,7 @@ fn a_call_needs_its_row(rt: HostRuntime) -> Result<(), Fail> {
     add_lock(alloc, &mut rows, &tables, 2, 1)?;
     add_lock(alloc, &mut rows, &tables, 1, 2)?;
     let needed = needs_of(alloc, tables.interface(), &rows, &call(alloc, 1, TAKE, 2))?;
-    assert_eq!(rt; needed.ids.as_slice(), &[2]);
+    assert!(rt; needed.ids.as_slice() == [2].as_slice());
     assert!(rt; needed.file.is_none());
     let needed = needs_of(alloc, tables.interface(), &rows, &call(alloc, 1, ALLOC, 0))?;
     assert!(rt; needed.ids.is_empty());

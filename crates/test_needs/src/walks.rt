@@ -55,10 +55,10 @@ fn a_lock_is_made_and_taken(rt: HostRuntime) -> Result<(), Fail> {
     let tables = tables_of(alloc, LOCK, LockService::shape())?;
     let owned = lock_of(alloc, 5)?;
     let walk = walk_of_row(&tables, &owned);
-    assert!(rt; walk.is_some_and(|walk| walk.as_slice() == [ALLOC, TAKE]));
+    assert!(rt; walk.is_some_and(|walk| walk.as_slice() == [ALLOC, TAKE].as_slice()));
     let free = lock_of(alloc, 0)?;
     let walk = walk_of_row(&tables, &free);
-    assert!(rt; walk.is_some_and(|walk| walk.as_slice() == [ALLOC]));
+    assert!(rt; walk.is_some_and(|walk| walk.as_slice() == [ALLOC].as_slice()));
     Ok(())
 }
 
