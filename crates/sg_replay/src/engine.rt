@@ -28,12 +28,12 @@ use std::marker::Model;
 /// ids that these have in this boot.
 #[derive(Debug, Drop)]
 pub struct Engine<S: Service> {
-    tables: Tables,
-    cell: Cell<S>,
-    storage: Storage,
-    rows: Tracker,
-    names: Names,
-    present: Present,
+    pub(crate) tables: Tables,
+    pub(crate) cell: Cell<S>,
+    pub(crate) storage: Storage,
+    pub(crate) rows: Tracker,
+    pub(crate) names: Names,
+    pub(crate) present: Present,
 }
 
 impl<S: Service> Model for Engine<S> {
