@@ -16,7 +16,7 @@ use Rattle.sg_track.specs.Tracked.{MayTrack}
 use Rattle.sg_replay.specs.Engined.{Engined}
 use Rattle.sg_replay.specs.Present.{HasMark}
 
--- a call may be stored where it is visible, and only then may it have written
+-- an answered call may be stored: where it is visible it may be committed, and one that isn't visible wrote nothing
 pub record MayStore (facts : Facts) (stored : Stored) (call : Call) (reply : Reply) (patch : Option Patch) : Type 0 where
   pub visible : is_visible facts call.fun ≡ true → MayCommit facts stored call reply patch
   pub hidden : is_visible facts call.fun ≡ false → patch ≡ None

@@ -4,7 +4,7 @@ ghost use Rattle.sg_facts.specs.Facts.{is_visible};
 ghost use Rattle.sg_facts.specs.Object.{given_after};
 ghost use Rattle.sg_facts.specs.Track.{track};
 ghost use Rattle.sg_name.specs.Names.{named_at};
-ghost use Rattle.sg_store.specs.Spans.{patched_at};
+ghost use Rattle.sg_store.specs.Spans.{patched_at, stand_in};
 ghost use Rattle.sg_store.specs.Stored.{HasRoom, bytes_of, receipt_at};
 ghost use Rattle.sg_track.specs.Tracked.{spare_after};
 ghost use Rattle.sg_replay.specs.Committing.{MayCommitAt, MayStore, is_written, name_left};
@@ -64,10 +64,13 @@ impl<S: Service> Engine<S> {
         ensures names { (id : ℕ) → named_at self.new.names.known id ≡ name_left self.old.tracked.rows self.new.tracked.rows id (named_at self.old.names.known id) }
         ensures names_room { self.old.names.spare ≤ self.new.names.spare }
         ensures present { (key : List ℕ) → is_present self.new.present key ≡ (is_present self.old.present key || is_written patch key) }
+        ensures marks { (key : List ℕ) → HasMark self.old.present key → HasMark self.new.present key }
         ensures receipts { (client : ℕ) → receipt_at self.new.stored client ≡ (if is_visible S.facts call.now.fun && (client == call.now.client) then Some (record { seq = call.now.seq; reply = reply }) else receipt_at self.old.stored client) }
         ensures files { (key : List ℕ) → bytes_of self.new.stored key ≡ patched_at patch key (bytes_of self.old.stored key) }
+        ensures stands { (key : List ℕ) → stand_in self.new.stored.spans key ≡ stand_in self.old.stored.spans key }
         ensures stored_rows { self.new.stored.rows ≡ (if S.facts.global then track S.facts self.old.stored.rows call.now reply else self.old.stored.rows) }
         ensures stored_given { self.new.stored.given ≡ given_after S.facts self.old.stored.given call.now reply }
+        ensures stored_spare { self.new.stored.spare ≡ (if S.facts.global then spare_after S.facts self.old.stored.spare call.now reply else self.old.stored.spare) }
         ensures clients { self.new.stored.clients ≡ self.old.stored.clients }
         ensures hidden { is_visible S.facts call.now.fun ≡ false → self.new.stored ≡ self.old.stored }
     {
@@ -121,7 +124,8 @@ fn prepare_file(present: &mut Present, alloc: Global, file: &Option<Path>) -> Re
 // Makes the file that a patch wrote into present.
 fn mark_written(present: &mut Present, patch: &Option<Patch>)
     requires { IfSome patch.now (λ p. HasMark present.old p.key) }
-    ensures { (key : List ℕ) → is_present present.new key ≡ (is_present present.old key || is_written patch.now key) }
+    ensures present { (key : List ℕ) → is_present present.new key ≡ (is_present present.old key || is_written patch.now key) }
+    ensures marks { (key : List ℕ) → HasMark present.old key → HasMark present.new key }
 {
     if let Some(patch) = patch {
         present.mark(&patch.key);
@@ -135,6 +139,8 @@ fn store(storage: &mut Storage, tables: &Tables, call: &Call, reply: Reply, patc
     ensures rows { let facts = tables.now.iface.facts in storage.new.rows ≡ (if facts.global then track facts storage.old.rows call.now reply else storage.old.rows) }
     ensures given { storage.new.given ≡ given_after tables.now.iface.facts storage.old.given call.now reply }
     ensures files { (key : List ℕ) → bytes_of storage.new key ≡ patched_at patch key (bytes_of storage.old key) }
+    ensures stands { (key : List ℕ) → stand_in storage.new.spans key ≡ stand_in storage.old.spans key }
+    ensures spare { let facts = tables.now.iface.facts in storage.new.spare ≡ (if facts.global then spare_after facts storage.old.spare call.now reply else storage.old.spare) }
     ensures clients { storage.new.clients ≡ storage.old.clients }
     ensures hidden { is_visible tables.now.iface.facts call.now.fun ≡ false → storage.new ≡ storage.old }
 {
