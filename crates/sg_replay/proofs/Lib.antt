@@ -1,3 +1,4 @@
+pub mod Committed
 pub mod Due
 pub mod Marks
 pub mod Naming

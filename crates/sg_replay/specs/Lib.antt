@@ -1,3 +1,4 @@
+pub mod Committing
 pub mod Engined
 pub mod Inside
 pub mod Missing

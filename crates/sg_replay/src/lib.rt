@@ -4,11 +4,14 @@
 //! - `todo`: what is still to be done before a call may be served (`Todo`)
 //! - `advance`: one step of that: a call of a walk, or the load of a file (`Advanced`)
 //! - `serve`: a call that needs nothing any more
+//! - `commit`: memory that is taken ahead for a call, and the commit of its answer; `ended`: the names of ended rows
 //! - `names`: the ids of the running service for those of the clients, and back; `present`: the files that are present in this
 //!   boot
 #![tactic(auto)]
 
 mod advance;
+mod commit;
+mod ended;
 mod engine;
 mod names;
 mod present;

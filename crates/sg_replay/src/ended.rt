@@ -1,0 +1,104 @@
+// The names of ended rows.
+ghost use Rattle.std.specs.Prelude.{◌≡◌, ◌≤◌, ℕ, true, not, if◌then◌else◌};
+ghost use Rattle.sg_facts.specs.Track.{is_ancestor, is_live, parent_in, row_at, track};
+ghost use Rattle.sg_name.specs.Names.{named_at};
+ghost use Rattle.sg_name.specs.declared.named.Named.TheVariants.{Unnamed};
+ghost use Rattle.sg_replay.specs.Committing.{name_left};
+ghost use Rattle.sg_replay.specs.Inside.Ends.{ends_rows, is_ended};
+
+use sg_base::{Call, Reply};
+use sg_facts::Interface;
+use sg_name::Names;
+use sg_track::Tracker;
+
+/// Drops the names of the ids whose rows an answered call ends. It takes no memory.
+pub(crate) fn forget_ended(
+    names: &mut Names,
+    rows: &Tracker,
+    interface: &Interface,
+    call: &Call,
+    reply: &Reply,
+)
+    ensures names { let after = track interface.now.facts rows.now.rows call.now reply.now in (id : ℕ) → named_at names.new.known id ≡ name_left rows.now.rows after id (named_at names.old.known id) }
+    ensures spare { names.old.spare ≤ names.new.spare }
+{
+    if ends_rows(interface, call, reply) {
+        forget_with(names, rows, interface.shape.subtree, call.desc);
+    }
+}
+
+// Whether an answered call ends rows.
+fn ends_rows(interface: &Interface, call: &Call, reply: &Reply) -> bool
+    ensures { result ≡ ends_rows interface.now.facts call.now reply.now }
+{
+    match reply {
+        Reply::Ok(_) => {
+            let fun = interface.fun(call.fun);
+            fun.is_terminal() && !fun.is_query() && !fun.is_creation()
+        }
+        Reply::Refused(_) => false,
+    }
+}
+
+// Drops the names of the live ids that end with one.
+fn forget_with(names: &mut Names, rows: &Tracker, subtree: bool, gone: u64)
+    ensures names { (id : ℕ) → named_at names.new.known id ≡ (if is_ended subtree rows.now.rows gone id then Unnamed else named_at names.old.known id) }
+    ensures spare { names.old.spare ≤ names.new.spare }
+{
+    if subtree {
+        forget_below(names, rows, gone);
+    } else if is_tracked(rows, gone) {
+        names.drop_id(gone);
+    }
+}
+
+// Drops the names of an id and of those below it, where they are live.
+fn forget_below(names: &mut Names, rows: &Tracker, gone: u64)
+    ensures names { (id : ℕ) → named_at names.new.known id ≡ (if is_ended true rows.now.rows gone id then Unnamed else named_at names.old.known id) }
+    ensures spare { names.old.spare ≤ names.new.spare }
+{
+    names.keep(
+        |id: u64| -> bool
+            ensures { result ≡ not (is_ended true rows.entry.now.rows gone id) }
+        { !is_ended(rows, gone, id) },
+    );
+}
+
+// Whether an id is live, and another or below it.
+fn is_ended(rows: &Tracker, gone: u64, id: u64) -> bool
+    ensures { result ≡ is_ended true rows.now.rows gone id }
+{
+    is_tracked(rows, id) && (id == gone || is_below(rows, gone, id))
+}
+
+// Whether an id is below another. Each parent is below its child, so the way up ends.
+fn is_below(rows: &Tracker, above: u64, id: u64) -> bool
+    ensures { result ≡ is_ancestor rows.now.rows above id }
+{
+    let _tracked = rows.live();
+    let mut parent = parent_of(rows, id);
+    'up: while parent != 0 {
+        if parent == above {
+            return true;
+        }
+        parent = parent_of(rows, parent);
+    }
+    false
+}
+
+// The parent of an id; 0 where there is no row.
+fn parent_of(rows: &Tracker, id: u64) -> u64
+    ensures { result ≡ parent_in (row_at rows.now.rows id) }
+{
+    match rows.row(id) {
+        Some(row) => row.parent,
+        None => 0,
+    }
+}
+
+// Whether an id has a row.
+fn is_tracked(rows: &Tracker, id: u64) -> bool
+    ensures { result ≡ is_live rows.now.rows id }
+{
+    rows.row(id).is_some()
+}
