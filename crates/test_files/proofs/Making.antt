@@ -15,11 +15,7 @@ use Rattle.sg_facts.proofs.RowLists.{live_of_row}
 use Rattle.sg_ramfs.specs.RamfsFacts.{ramfs_facts}
 use Rattle.sg_ramfs.specs.RamfsShapeLaw.{ramfs_counts_slowly}
 use Rattle.sg_ramfs.specs.RamfsTable.{ramfs_table}
-use Rattle.test_files.specs.Few.{AreFew, may_be_below}
-
--- a descriptor of a name, below another or as a root
-abbrev pub making : ℕ → List ℕ → Call
-making parent name = record { client = 1; seq = 1; fun = 1; desc = parent; args = Text name ∷ [] }
+use Rattle.test_files.specs.Few.{AreFew, making_of, may_be_below}
 
 either : (a b : Bool) → (a || b) ≡ true → (b || a) ≡ true
 either true true is = refl
@@ -28,7 +24,7 @@ either false true is = refl
 either false false is = absurd (cc is)
 
 module _ (calls : ℕ) (o : Object) (few : calls < 2 ^ 32) (small : AreFew calls o) (parent : ℕ) (name : List ℕ) (there : may_be_below o parent ≡ true) where
-  pub may_make : MayAsk ramfs_facts o (making parent name)
+  pub may_make : MayAsk ramfs_facts o (making_of parent name)
   may_make = record {
     is_call = record { first = omega arith; last = omega arith; fits = record { args = refl; desc = λ no_desc no_parent. absurd (cc no_parent) } };
     within = record { client_first = omega arith; client_last = omega arith; counted = omega (arith, few, small.counted); given = omega (arith, few, small.given) };
@@ -38,10 +34,10 @@ module _ (calls : ℕ) (o : Object) (few : calls < 2 ^ 32) (small : AreFew calls
   }
 
   -- an answer leaves descriptors that were asked one call more
-  pub few_after : (reply : Reply) → ramfs_table o (making parent name) ≡ Some reply → AreFew (calls + 1) (after ramfs_facts o (making parent name) reply)
+  pub few_after : (reply : Reply) → ramfs_table o (making_of parent name) ≡ Some reply → AreFew (calls + 1) (after ramfs_facts o (making_of parent name) reply)
   few_after (Refused code) is = record { counted = omega (arith, small.counted); given = omega (arith, small.given) }
   few_after (Ok good) is =
-      let bound = ramfs_counts_slowly.replays o (making parent name) good may_make refl is in
+      let bound = ramfs_counts_slowly.replays o (making_of parent name) good may_make refl is in
       record { counted = omega (arith, bound, small.counted); given = omega (arith, small.given) }
 
 -- a descriptor that is lent is live

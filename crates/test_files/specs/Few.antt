@@ -1,5 +1,7 @@
 -- Descriptors that were asked little.
-use Rattle.std.specs.Prelude.{ℕ, ◌+◌, ◌≤◌, ◌==◌, ◌||◌, Bool}
+use Rattle.std.specs.Prelude.{ℕ, ◌+◌, ◌≤◌, ◌==◌, ◌||◌, Bool, List, [], ◌∷◌, ◌≡◌}
+use Rattle.sg_base.specs.declared.value.Value.TheVariants.{Text}
+use Rattle.sg_base.specs.declared.call.Call.{Call}
 use Rattle.sg_facts.specs.Counted.{most_counted}
 use Rattle.sg_facts.specs.Laws.{slow}
 use Rattle.sg_facts.specs.Object.{Object}
@@ -14,3 +16,12 @@ pub record AreFew (calls : ℕ) (o : Object) : Type 0 where
 -- whether a descriptor may be made below this one: it is there, or it is 0, for a root
 abbrev pub may_be_below : Object → ℕ → Bool
 may_be_below o parent = (parent == 0) || is_live o.rows parent
+
+-- the first client's call that makes a descriptor of a name below another, or as a root
+abbrev pub making_of : ℕ → List ℕ → Call
+making_of parent name = record { client = 1; seq = 1; fun = 1; desc = parent; args = Text name ∷ [] }
+
+-- a call is one that makes a descriptor, of some name
+pub record IsMaking (parent : ℕ) (call : Call) : Type 0 where
+  pub name : List ℕ
+  pub its : call ≡ making_of parent name

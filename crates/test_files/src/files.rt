@@ -66,7 +66,7 @@ pub(crate) enum Answer {
 }
 
 // The answer of an outcome.
-pub(crate) fn answer_of(outcome: Outcome) -> Result<Answer, Outcome> {
+fn answer_of(outcome: Outcome) -> Result<Answer, Outcome> {
     match outcome {
         Outcome::Replied { reply, .. } => Ok(answer_in(&reply)),
         other => Err(other),
@@ -74,7 +74,7 @@ pub(crate) fn answer_of(outcome: Outcome) -> Result<Answer, Outcome> {
 }
 
 // The answer in a reply.
-fn answer_in(reply: &Reply) -> Answer {
+pub(crate) fn answer_in(reply: &Reply) -> Answer {
     match reply {
         Reply::Ok(good) => Answer::Done(good.words.get(0).copied(), good.bytes.len()),
         Reply::Refused(code) => Answer::Refused(*code),

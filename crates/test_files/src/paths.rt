@@ -1,10 +1,10 @@
 // What no clause says: that a descriptor is made whose path has as many bytes as a path may have, and none of a byte more.
-ghost use Rattle.std.specs.Prelude.{◌≡◌, ◌+◌, ◌<◌, ◌^◌, true, OnOk};
+ghost use Rattle.std.specs.Prelude.{◌≡◌, ◌+◌, ◌<◌, ◌^◌, true, IfOk, OnOk};
 ghost use Rattle.sg_ramfs.specs.RamfsObject.{ramfs_object};
-ghost use Rattle.test_files.specs.Few.{AreFew, may_be_below};
+ghost use Rattle.test_files.specs.Few.{AreFew, IsMaking, may_be_below};
 
-use crate::files::{Answer, answer_of, text, with_text};
-use sg_base::Code;
+use crate::files::{Answer, answer_in, text, with_text};
+use sg_base::{Call, Code, NoMemory};
 use sg_facts::{Outcome, Service};
 use sg_ramfs::RamfsService;
 use std::alloc::Global;
@@ -15,7 +15,16 @@ use test_asking::{Once, ask};
 // The function that makes a descriptor.
 const SPLIT: u8 = 1;
 
-// Makes a descriptor of a name of as many bytes: below another, or as a root where the parent is 0.
+// The call that makes a descriptor of a name of as many bytes: below another, or as a root where the parent is 0.
+fn making(alloc: Global, parent: u64, length: usize) -> Result<Call, NoMemory>
+    ensures { IfOk result (IsMaking parent) }
+{
+    let name = text(alloc, length)?;
+    let call = with_text(alloc, SPLIT, parent, name)?;
+    Ok(call)
+}
+
+// Makes it.
 fn make(
     service: &mut RamfsService,
     alloc: Global,
@@ -28,12 +37,11 @@ fn make(
     requires parent { may_be_below (ramfs_object service.old) parent ≡ true }
     ensures { OnOk result (AreFew (calls + 1) (ramfs_object service.new)) }
 {
-    let call = match text(alloc, length) {
-        Ok(name) => with_text(alloc, SPLIT, parent, name),
-        Err(cause) => Err(cause),
-    };
-    match call {
-        Ok(call) => answer_of(ask(service, alloc, &mut Once::new(0), &call)),
+    match making(alloc, parent, length) {
+        Ok(call) => match ask(service, alloc, &mut Once::new(0), &call) {
+            Outcome::Replied { reply, .. } => Ok(answer_in(&reply)),
+            other => Err(other),
+        },
         Err(_) => Err(Outcome::NoMemory),
     }
 }
