@@ -1,5 +1,5 @@
-//! The service ids of the clients' ids, in this boot: what stands for a client's descriptor in the running service, looked up in
-//! both directions.
+//! The service ids of the clients' ids, in this boot: what stands for a client's descriptor in the running service, looked up
+//! in both directions.
 //!
 //! - `named`: what stands for an id (`Named`)
 //! - `names`: the names in both directions (`Names`)

@@ -10,8 +10,8 @@ use sg_base::NoMemory;
 use std::alloc::Global;
 use std::marker::Model;
 
-/// What stands for the clients' ids in the running service. No two ids have one service id, and both directions are looked up by
-/// hash. Contracts see the ids that have a name, through look-ups, and for how many more there is room.
+/// What stands for the clients' ids in the running service. No two ids have one service id, and both directions are looked up
+/// by hash. Contracts see the ids that have a name, through look-ups, and for how many more there is room.
 #[derive(Debug, Drop)]
 pub struct Names {
     pub(crate) standings: IndexMap<u64, Standing>,
@@ -72,8 +72,8 @@ impl Names {
         Ok(())
     }
 
-    /// Sets what stands for an id, which may be nothing. It takes no memory: an id without a name takes the room of one. Another
-    /// service id for an id that has one takes time in proportion to the names.
+    /// Sets what stands for an id, which may be nothing. It takes no memory: an id without a name takes the room of one.
+    /// Another service id for an id that has one takes time in proportion to the names.
     pub fn set(&mut self, id: u64, named: Named)
         requires room { named_at self.old.known id ≡ Named.Unnamed → 1 ≤ self.old.spare }
         requires apart { (other real : ℕ) → real_of named ≡ Some real → real_at self.old.known other ≡ Some real → other ≡ id }
