@@ -1,7 +1,6 @@
 -- What a move of a file, and a patch of it, do to all files.
-use Rattle.std.proofs.Common.{◌≡◌, ℕ, ◌+◌, ◌*◌, ◌≤◌, cond, List, Some, length, refl, sym, ◌∙◌, ap, subst, arith}
+use Rattle.std.proofs.Common.{◌≡◌, ℕ, ◌+◌, ◌*◌, ◌≤◌, List, Some, length, refl, sym, ◌∙◌, ap, subst, arith}
 use Rattle.std.specs.Prelude.{max, min}
-use Rattle.std.specs.Str.{bytes_eq}
 use Rattle.sg_facts.specs.declared.outcome.Patch.{Patch}
 use Rattle.sg_facts.specs.Limits.{most_file, most_written}
 use Rattle.sg_facts.specs.Object.{over}

@@ -1,7 +1,6 @@
 -- What contracts see of the storage.
 use Rattle.std.specs.Prelude.{ℕ, zero, suc, List, None, slice_get, unwrap_or}
 use Rattle.std.specs.declared.option.Option.{Option}
-use Rattle.sg_base.specs.declared.reply.Reply.{Reply}
 use Rattle.sg_facts.specs.declared.row.Row.{Row}
 use Rattle.sg_store.specs.declared.receipts.Receipt.{Receipt}
 use Rattle.sg_store.specs.Spans.{Filed, HasRoomIn, Span, bytes_in}

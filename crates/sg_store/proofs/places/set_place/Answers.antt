@@ -1,5 +1,5 @@
 -- The map has another place at the path, which it had before.
-use Rattle.std.proofs.Common.{◌≡◌, true, false, is_some, sym, ◌∙◌, ap}
+use Rattle.std.proofs.Common.{◌≡◌, true, false, is_some, ◌∙◌, ap}
 use Rattle.sg_store.specs.Spans.{span_at}
 use Rattle.sg_store.specs.Inside.Places.{placed, spans_of}
 use Rattle.sg_store.proofs.Placing.{span_found, span_moved}
