@@ -44,3 +44,9 @@ module _ (calls : ℕ) (o : Object) (few : calls < 2 ^ 32) (small : AreFew calls
 pub live_where_lent : {E : Type 0} (rows : List Row) (id : ℕ) (row : E → Row) (found : Option (Bor E)) → row_at rows id ≡ option_map row (option_copied found) → is_some found ≡ true → is_live rows id ≡ true
 live_where_lent rows id row None is some = absurd (cc some)
 live_where_lent rows id row (Some e) is some = live_of_row rows id (row e.now) is
+
+-- a test that holds behind another
+pub behind : (a b : Bool) → b ≡ true → (a || b) ≡ true
+behind true true is = refl
+behind true false is = refl
+behind false b is = is
