@@ -1,5 +1,5 @@
 // Files.
-ghost use Rattle.std.specs.Prelude.{◌≡◌, ◌≤◌, length};
+ghost use Rattle.std.specs.Prelude.{◌≡◌, ◌≤◌, length, IfOk};
 ghost use Rattle.sg_ramfs.specs.RamfsFacts.{ramfs_facts};
 
 use crate::calls::{call, done, tables_of};
@@ -105,6 +105,15 @@ fn is_stored(storage: &Storage, file: &Plain) -> bool {
     }
 }
 
+// 256 times a byte.
+fn filled(alloc: Global, byte: u8) -> Result<Vec<u8>, NoMemory>
+    ensures { IfOk result (λ bytes. length bytes.items ≤ 256) }
+{
+    let mut bytes = Vec::new(alloc);
+    bytes.resize(256, byte)?;
+    Ok(bytes)
+}
+
 // Three files, written by turns in 200 commits of 256 bytes at the end of each.
 fn by_turns(alloc: Global, tables: &Tables, plain: &mut Vec<Plain>) -> Result<Storage, NoMemory>
     requires { tables.now.iface.facts ≡ ramfs_facts }
@@ -112,9 +121,9 @@ fn by_turns(alloc: Global, tables: &Tables, plain: &mut Vec<Plain>) -> Result<St
     let mut storage = Storage::new(alloc, 1)?;
     'turns: for turn in 0u8..200 {
         let key = path(alloc, turn % 3)?;
-        let bytes = [turn; 256];
-        add_plain(plain, &key, &bytes)?;
-        append(alloc, &mut storage, tables, key, &bytes)?;
+        let bytes = filled(alloc, turn)?;
+        add_plain(plain, &key, bytes.as_slice())?;
+        append(alloc, &mut storage, tables, key, bytes.as_slice())?;
     }
     Ok(storage)
 }
