@@ -1,0 +1,179 @@
+-- The world as plain data, and the small changes that its events are made of.
+use Rattle.std.specs.Prelude.{ℕ, ◌+◌, ◌-◌, ◌==◌, ◌&&◌, ◌||◌, Bool, true, false, if◌then◌else◌, List, [], ◌∷◌, ◌++◌, None, Some, length, map, slice_get, slice_set, unwrap_or}
+use Rattle.std.specs.List.{flat_map}
+use Rattle.std.specs.declared.option.Option.{Option}
+use Rattle.sg_base.specs.declared.call.Call.{Call}
+use Rattle.sg_base.specs.declared.reply.Reply.{Reply}
+use Rattle.sg_base.specs.declared.reply.Reply.TheVariants.{Ok, Refused}
+use Rattle.sg_facts.specs.declared.entry.Entry.{Entry}
+use Rattle.sg_facts.specs.declared.row.Row.{Row}
+use Rattle.sg_facts.specs.declared.trace.Item.{Item}
+use Rattle.sg_facts.specs.Facts.{Facts, fun_at}
+use Rattle.sg_facts.specs.Object.{Object, empty_object, object_of}
+use Rattle.sg_facts.specs.Trace.{Boot, Run}
+use Rattle.sg_facts.specs.Track.{ends_with}
+use Rattle.sg_recovery_laws.specs.Growing.{booted, noted, struck}
+use Rattle.sg_seat.specs.declared.mark.Mark.{Mark}
+use Rattle.sg_seat.specs.declared.mark.MarkKind.{MarkKind}
+use Rattle.sg_seat.specs.declared.mark.MarkKind.TheVariants.{Offer, Entry as IsEntered, Withdraw}
+use Rattle.sg_seat.specs.declared.phase.Phase.{Phase}
+use Rattle.sg_seat.specs.declared.phase.Phase.TheVariants.{Idle, Asked, Held, Receipted, Blocked, Left}
+use Rattle.sg_seat.specs.declared.withdrawn.Withdrawn.{Withdrawn}
+
+-- a client's seat: its phase, its offered call, the number of its last entry, and the reply that it holds or has a receipt for, with
+-- the boot in which the service gave it
+pub record Seat : Type 0 where
+  pub phase : Phase
+  pub call : Call
+  pub seq : ℕ
+  pub boot : ℕ
+  pub reply : Reply
+
+-- what contracts see of a world, beside its tables and the plan of its stops, which no event changes: the calls that were done, what
+-- was done to the service and what it holds while it is up, the seats of the clients in ascending numbers, the withdrawn calls, what
+-- happened to the clients, and how many events there were and how many steps wanted memory
+pub record WorldView : Type 0 where
+  pub history : List Entry
+  pub run : Run
+  pub running : Option Object
+  pub seats : List Seat
+  pub withdrawn : List Withdrawn
+  pub marks : List Mark
+  pub events : ℕ
+  pub refused : ℕ
+
+-- ---- seats
+
+abbrev no_call : Call
+no_call = record { client = 0; seq = 0; fun = 0; desc = 0; args = [] }
+
+-- a seat of nobody
+abbrev pub no_seat : Seat
+no_seat = record { phase = Idle; call = no_call; seq = 0; boot = 0; reply = Ok (record { desc = 0; words = []; bytes = [] }) }
+
+-- the seat of a client
+abbrev pub seat_of : WorldView → ℕ → Seat
+seat_of w client = unwrap_or (slice_get w.seats (client - 1)) no_seat
+
+abbrev pub with_seat : WorldView → ℕ → Seat → WorldView
+with_seat w client seat = record w { seats = slice_set w.seats (client - 1) seat }
+
+abbrev pub in_phase : WorldView → ℕ → Phase → WorldView
+in_phase w client phase = with_seat w client (record (seat_of w client) { phase = phase })
+
+-- something happened to a client
+abbrev pub with_mark : WorldView → ℕ → MarkKind → WorldView
+with_mark w client kind = record w { marks = w.marks ++ record { client = client; kind = kind } ∷ [] }
+
+-- ---- held replies
+
+-- the number of the running boot, from 1
+abbrev pub boot_number : WorldView → ℕ
+boot_number w = length w.run.boots
+
+abbrev pub is_held_phase : Phase → Bool
+is_held_phase Held = true
+is_held_phase Idle = false
+is_held_phase Asked = false
+is_held_phase Receipted = false
+is_held_phase Blocked = false
+is_held_phase Left = false
+
+-- whether a seat holds a reply that was given in a boot
+abbrev pub is_held_in : ℕ → Seat → Bool
+is_held_in boot seat = is_held_phase seat.phase && (seat.boot == boot)
+
+-- the replies held in a boot, as the entries that they will be, in the order of the clients
+abbrev pub held_in : ℕ → List Seat → List Entry
+held_in boot [] = []
+held_in boot (s ∷ seats) = if is_held_in boot s then record { call = s.call; reply = s.reply } ∷ held_in boot seats else held_in boot seats
+
+-- the replies held in the running boot; none while the service is down
+abbrev pub held_replies : WorldView → List Entry
+held_replies w = of w.running
+  where
+    of : Option Object → List Entry
+    of None = []
+    of (Some v) = held_in (boot_number w) w.seats
+
+-- whether a client in a phase has a call that isn't answered
+abbrev pub is_offered : Phase → Bool
+is_offered Asked = true
+is_offered Held = true
+is_offered Blocked = true
+is_offered Idle = false
+is_offered Receipted = false
+is_offered Left = false
+
+-- the call of a seat that isn't answered, if it has one
+abbrev pub offered_by : Seat → List Call
+offered_by s = if is_offered s.phase then s.call ∷ [] else []
+
+-- the calls that aren't answered: those offered, and those withdrawn
+abbrev pub unanswered : WorldView → List Call
+unanswered w = flat_map offered_by w.seats ++ map (λ x. x.call) w.withdrawn
+
+-- ---- wake-ups
+
+-- whether an answered call wakes who waits in another: an Ok of a wake-up on its descriptor, or of what ends it
+abbrev pub wakes_seat : Facts → List Row → Call → Reply → Call → Bool
+wakes_seat facts rows call (Refused code) other = false
+wakes_seat facts rows call (Ok good) other =
+    ((fun_at facts.funs call.fun).wakeup && (call.desc == other.desc)) || ((fun_at facts.funs call.fun).terminal && ends_with facts rows call.desc other.desc)
+
+abbrev pub is_blocked_phase : Phase → Bool
+is_blocked_phase Blocked = true
+is_blocked_phase Idle = false
+is_blocked_phase Asked = false
+is_blocked_phase Held = false
+is_blocked_phase Receipted = false
+is_blocked_phase Left = false
+
+-- a seat, asked again if it waits in a call that meets a test
+abbrev pub woken_seat : (Call → Bool) → Seat → Seat
+woken_seat test seat = if is_blocked_phase seat.phase && test seat.call then record seat { phase = Asked } else seat
+
+-- ---- small changes
+
+-- an entry is appended, and clients are woken
+abbrev pub committed : Facts → WorldView → Entry → WorldView
+committed facts w e = record (with_mark w e.call.client IsEntered) {
+  history = w.history ++ e ∷ [];
+  seats = map (woken_seat (wakes_seat facts (object_of facts w.history).rows e.call e.reply)) w.seats;
+}
+
+-- its client has it then as its last, in a phase
+abbrev pub given_to : WorldView → Entry → Phase → WorldView
+given_to w e phase = with_seat w e.call.client (record (seat_of w e.call.client) { phase = phase; seq = e.call.seq; reply = e.reply })
+
+-- an item is noted
+abbrev pub item_noted : WorldView → Item → WorldView
+item_noted w item = record w { run = record { boots = noted w.run.boots item; points = item.points } }
+
+abbrev pub with_points : WorldView → ℕ → WorldView
+with_points w points = record w { run = record { boots = w.run.boots; points = points } }
+
+abbrev pub service_is : WorldView → Object → WorldView
+service_is w v = record w { running = Some v }
+
+-- the service stopped at a point
+abbrev pub struck_at : WorldView → ℕ → WorldView
+struck_at w point = record w { run = record { boots = struck w.run.boots point; points = point }; running = None }
+
+-- it is booted afresh: who waited is asked
+abbrev pub rebooted : WorldView → WorldView
+rebooted w = record w {
+  run = record { boots = booted w.run.boots; points = w.run.points };
+  running = Some empty_object;
+  seats = map (woken_seat (λ call. true)) w.seats;
+}
+
+-- a client offers a call
+abbrev pub offered : WorldView → ℕ → Call → WorldView
+offered w client call = with_mark (with_seat w client (record (seat_of w client) { phase = Asked; call = call })) client Offer
+
+-- a client withdraws its call
+abbrev pub withdrawn_by : WorldView → ℕ → WorldView
+withdrawn_by w client = with_mark (in_phase (record w {
+  withdrawn = w.withdrawn ++ record { call = (seat_of w client).call; phases = map (λ s. s.phase) w.seats; at = length w.history } ∷ [];
+}) client Idle) client Withdraw

@@ -1,0 +1,4 @@
+pub mod Ahead
+pub mod Drawn
+pub mod Orders
+pub mod Split

@@ -1,0 +1,91 @@
+-- What a world keeps after every event.
+use Rattle.std.specs.Prelude.{ℕ, ◌≡◌, ◌⊎◌, ◌+◌, ◌<◌, ◌≤◌, ◌==◌, false, true, List, ◌∷◌, ◌++◌, None, Some, IsSome, [], length}
+use Rattle.std.specs.List.{Contains, list_any}
+use Rattle.std.specs.declared.option.Option.{Option}
+use Rattle.sg_base.specs.Lists.{Each}
+use Rattle.sg_base.specs.declared.reply.Reply.{Reply}
+use Rattle.sg_boot.specs.Cells.{IsCell}
+use Rattle.sg_facts.specs.declared.entry.Entry.{Entry}
+use Rattle.sg_facts.specs.Alike.{named}
+use Rattle.sg_facts.specs.Counted.{most_counted}
+use Rattle.sg_facts.specs.Guard.{guard}
+use Rattle.sg_facts.specs.Laws.{slow}
+use Rattle.sg_facts.specs.Legal.{LegalFrom}
+use Rattle.sg_facts.specs.Object.{Object, empty_object, object_from, object_of}
+use Rattle.sg_facts.specs.Trace.{Boot, Run}
+use Rattle.sg_facts.specs.Track.{is_live}
+use Rattle.sg_held_laws.specs.Numbers.{AreNumbers}
+use Rattle.sg_held_laws.specs.Progress.{IsInRecovery, Told}
+use Rattle.sg_hist.specs.Reading.{names_at}
+use Rattle.sg_hist.specs.Recovered.{AreInBoots}
+use Rattle.sg_object_laws.specs.Serving.{IsLegalObject}
+use Rattle.sg_object_laws.specs.Waiting.{AreWaiting, NoneBy}
+use Rattle.sg_recovery_laws.specs.Growing.{IsInLast, IsRecovering, last_items, older_items}
+use Rattle.sg_seat.specs.WorldView.{WorldView, held_replies, unanswered}
+use Rattle.sg_trace_laws.specs.LastPlace.{HaveItems}
+use Rattle.sg_trace_laws.specs.Told.{IsRead}
+use Rattle.sg_world_laws.specs.Seats.{HaveSeats, MayMake}
+use Rattle.sg_world_laws.specs.Setting.{Setting, stubs_of}
+
+-- what stands in the stubs of the running boot: the service's ids, how far each row is, and which files are present
+pub record Stub : Type 0 where
+  pub names : List (ℕ × ℕ)
+  pub told : ℕ → Told
+  pub present : List ℕ → Bool
+
+-- a world with its boots and its service, spelt out
+abbrev pub standing : WorldView → Boot → List Boot → Option Object → WorldView
+standing w b boots running = record w { run = record { boots = b ∷ boots; points = w.run.points }; running = running }
+
+-- entries of different clients
+abbrev pub AreApart : List Entry → Type 0
+AreApart [] = Unit {0}
+AreApart (e ∷ es) = NoneBy e.call.client es × AreApart es
+
+-- some of the held replies, in some order: those that a later event may find committed
+pub record AreDrawn (held es : List Entry) : Type 0 where
+  pub each : Each (Contains held) es
+  pub apart : AreApart es
+  pub few : length es ≤ length held
+
+-- the object of a history: as legal histories leave it, and far from the ends of its numbers
+pub record IsSettledObject (z : Setting) (history : List Entry) : Type 0 where
+  pub good : IsLegalObject z.iface.facts z.sound (object_of z.iface.facts history)
+  pub counted : most_counted z.iface.facts (object_of z.iface.facts history).rows ≤ slow + length history
+  pub given : (object_of z.iface.facts history).given ≤ length history
+
+-- a held reply could be committed now: its call may be made, and the guard lets it pass
+pub record MayEnter (z : Setting) (history : List Entry) (e : Entry) : Type 0 where
+  pub may : MayMake z.iface e.call
+  pub guarded : guard z.iface (object_of z.iface.facts history) e.call ≡ None
+
+-- the service stands for the object behind the held replies, and what the stubs tell is what the trace tells, whichever held replies
+-- are committed first
+pub record Stands (z : Setting) (w : WorldView) (stub : Stub) (v : Object) : Type 0 where
+  pub numbers : AreNumbers z.iface.facts stub.told (length w.history) (object_from z.iface.facts (object_of z.iface.facts w.history) (held_replies w)) v
+  pub named_live : (id : ℕ) → (named stub.names id ≡ 0) ⊎ (is_live (object_of z.iface.facts w.history).rows id ≡ true)
+  pub in_recovery : IsInRecovery z.iface z.walks stub.names stub.told stub.present (object_from z.iface.facts (object_of z.iface.facts w.history) (held_replies w)) v
+  pub read : (es : List Entry) → AreDrawn (held_replies w) es
+      → IsRead z.iface.facts z.walks (w.history ++ es) (older_items [] w.run.boots) (last_items w.run.boots) stub.names stub.told stub.present (object_of z.iface.facts w.history).rows
+  pub unnamed : (es : List Entry) → AreDrawn (held_replies w) es → (id : ℕ) → (object_of z.iface.facts w.history).given < id
+      → list_any (λ n. n.0 == id) (names_at z.iface.facts (w.history ++ es) (last_items w.run.boots)) ≡ false
+
+-- nothing stands in a service that failed
+abbrev pub StandsIn : Setting → WorldView → Stub → Option Object → Type 0
+StandsIn z w stub None = Unit {0}
+StandsIn z w stub (Some v) = Stands z w stub v
+
+-- what the world keeps
+pub record Keeps (z : Setting) (w : WorldView) (stub : Stub) : Type 0 where
+  pub legal : LegalFrom z.iface z.ask empty_object w.history
+  pub calls : Each (λ e. MayMake z.iface e.call) w.history
+  pub object : IsSettledObject z w.history
+  pub seats : HaveSeats z w.history w.withdrawn (length w.run.boots) w.seats
+  pub waiting : AreWaiting z.iface.facts z.ask (object_of z.iface.facts w.history) (held_replies w)
+  pub enter : Each (MayEnter z w.history) (held_replies w)
+  pub items : HaveItems (older_items [] w.run.boots ++ last_items w.run.boots) w.history
+  pub held_items : Each (IsInLast w.run) (held_replies w)
+  pub in_boots : AreInBoots w.run 0 w.history
+  pub recovering : (es : List Entry) → AreDrawn (held_replies w) es → IsRecovering (stubs_of z) (w.history ++ es) w.run (unanswered w)
+  pub cell : IsCell z.iface.facts w.running w.run.boots
+  pub stands : StandsIn z w stub w.running

@@ -1,0 +1,4 @@
+pub mod Keeping
+pub mod Seats
+pub mod Setting
+pub mod Turns

@@ -1,0 +1,67 @@
+-- The seats of a world's clients, and the numbers of their calls.
+use Rattle.std.specs.Prelude.{ℕ, ◌≡◌, ◌+◌, ◌^◌, ◌<◌, ◌≤◌, true, List, [], ◌∷◌, ◌++◌, None, Some, length, unwrap_or}
+use Rattle.std.specs.declared.option.Option.{Option}
+use Rattle.sg_base.specs.Lists.{Each}
+use Rattle.sg_facts.specs.declared.entry.Entry.{Entry}
+use Rattle.sg_facts.specs.Interface.{Declared, declares}
+use Rattle.sg_facts.specs.Legal.{answer}
+use Rattle.sg_facts.specs.Limits.{last_client}
+use Rattle.sg_facts.specs.Object.{object_of}
+use Rattle.sg_base.specs.declared.call.Call.{Call}
+use Rattle.sg_hist.specs.Clients.{calls_of}
+use Rattle.sg_seat.specs.WorldView.{Seat, is_offered}
+use Rattle.sg_seat.specs.declared.phase.Phase.TheVariants.{Blocked, Receipted}
+use Rattle.sg_seat.specs.declared.withdrawn.Withdrawn.{Withdrawn}
+use Rattle.sg_trace_laws.specs.Asked.{IsClientsCall}
+use Rattle.sg_world_laws.specs.Setting.{Setting}
+
+-- a call that a client may make: of a declared function, with the arguments that it takes
+pub record MayMake (i : Declared) (call : Call) : Type 0 where
+  pub is_clients : IsClientsCall i.facts call
+  pub declared : declares i call.fun ≡ true
+
+-- the last of some entries
+abbrev pub last_of : List Entry → Option Entry
+last_of [] = None
+last_of (e ∷ []) = Some e
+last_of (e ∷ d ∷ entries) = last_of (d ∷ entries)
+
+-- a client's seat, by its phase: its offered call is the client's, has its next number and may be made; who waits, waits at the object
+-- of the history; and a receipt is for its last entry
+pub record IsSeated (z : Setting) (history : List Entry) (client : ℕ) (s : Seat) : Type 0 where
+  pub its : is_offered s.phase ≡ true → s.call.client ≡ client
+  pub next : is_offered s.phase ≡ true → s.call.seq ≡ s.seq + 1
+  pub may : is_offered s.phase ≡ true → MayMake z.iface s.call
+  pub waits : s.phase ≡ Blocked → answer z.iface z.ask (object_of z.iface.facts history) s.call ≡ None
+  pub receipt : s.phase ≡ Receipted → last_of (calls_of history client) ≡ Some (record { call = s.call; reply = s.reply })
+  pub count : s.seq ≡ length (calls_of history client)
+  pub few : s.seq < 2 ^ 32
+
+-- no call that a client withdrew has a greater number than its next one
+abbrev pub AreGone : List Withdrawn → ℕ → Seat → Type 0
+AreGone withdrawn client s = Each (λ x. x.call.client ≡ client → x.call.seq ≤ s.seq + 1) withdrawn
+
+-- the seats of the clients from a number on
+abbrev pub AreSeated : Setting → List Entry → List Withdrawn → ℕ → List Seat → Type 0
+AreSeated z history withdrawn client [] = Unit {0}
+AreSeated z history withdrawn client (s ∷ seats) =
+    IsSeated z history client s × AreGone withdrawn client s × AreSeated z history withdrawn (client + 1) seats
+
+-- the numbers of all seats together
+abbrev pub all_seqs : List Seat → ℕ
+all_seqs [] = 0
+all_seqs (s ∷ seats) = s.seq + all_seqs seats
+
+-- the calls of each client are numbered one after the other, behind earlier entries
+abbrev pub AreNumbered : List Entry → List Entry → Type 0
+AreNumbered before [] = Unit {0}
+AreNumbered before (e ∷ history) = (e.call.seq ≡ length (calls_of before e.call.client) + 1) × AreNumbered (before ++ e ∷ []) history
+
+-- all seats of a world, with so many boots: each is as its phase says, no reply is of a boot that is yet to come, and each entry is a
+-- client's of theirs
+pub record HaveSeats (z : Setting) (history : List Entry) (withdrawn : List Withdrawn) (boots : ℕ) (seats : List Seat) : Type 0 where
+  pub each : AreSeated z history withdrawn 1 seats
+  pub numbered : AreNumbered [] history
+  pub total : all_seqs seats ≡ length history
+  pub few : length seats ≤ last_client
+  pub boots_few : Each (λ s. s.boot ≤ boots) seats
