@@ -138,7 +138,7 @@ module _ (facts : Facts) (ask : Table) (sound : Object → Type 0) (law : IsServ
       path_own call.client o.rows (object_from facts o (p ∷ es)).rows call.desc (good.own hidden.alone) same
       (own_desc (whole facts) o call hidden.alone (let_pass (whole facts) o call row passes.guarded) takes)
 
-  its_own : (facts : Facts) (rows : List Row) (call : Call) (r : Row) → r.id ≡ call.desc → is_needed facts rows call r ≡ true
+  pub its_own : (facts : Facts) (rows : List Row) (call : Call) (r : Row) → r.id ≡ call.desc → is_needed facts rows call r ≡ true
   its_own facts rows call r same =
       let is : (r.id == call.desc) ≡ true = grind (arith, nat_tests, same) in
       ap (λ b. (fun_at facts.funs call.fun).all || b || is_ancestor rows r.id call.desc) is

@@ -13,7 +13,7 @@ use Rattle.sg_facts.specs.Facts.{Facts, is_visible}
 use Rattle.sg_facts.specs.Trace.{Boot, Run}
 use Rattle.sg_hist.specs.Reading.{Place, behind, is_by_guard, is_item_of, past, places_from, places_of, stands_before}
 use Rattle.sg_hist.specs.Recovered.{Stubs, is_visible_reply}
-use Rattle.sg_recovery_laws.specs.Growing.{AreKept, HasOneMore, IsGrown, IsHeld, IsItemOf, IsLastCall, IsNextItem, IsRecovering, IsSettled, IsOfNoEntry, noted, place_behind}
+use Rattle.sg_recovery_laws.specs.Growing.{AreKept, HasOneMore, IsGrown, IsHeldReply, IsItemOf, IsLastCall, IsNextItem, IsRecovering, IsSettled, IsOfNoEntry, noted, place_behind}
 use Rattle.sg_recovery_laws.proofs.Growing.{places-more, stands_before-own}
 use Rattle.sg_recovery_laws.proofs.Events.{no_behind, own_item, with_last}
 use Rattle.sg_recovery_laws.proofs.Lists.{each_append, each_contains, each_map, each_split}
@@ -64,16 +64,16 @@ guard_nowhere : (e : Entry) → is_by_guard e.reply ≡ true → (ps : List Plac
 guard_nowhere e guards [] = tt
 guard_nowhere e guards (p ∷ ps) = (ap (λ b. not b && list_any (is_item_of e) (past p) && not (list_any (is_item_of e) (p.item ∷ behind p))) guards, guard_nowhere e guards ps)
 
-pub refused_ahead : (s : Stubs) (h ws : List Entry) (e : Entry) (run : Run) (u u' : List Call) → is_by_guard e.reply ≡ true → NoneBy e.call.client ws → Each (λ x. is_visible s.facts x.call.fun ≡ false) ws
+pub refused_ahead : (s : Stubs) (h ws : List Entry) (e : Entry) (run : Run) (u u' : List Call) → is_by_guard e.reply ≡ true → NoneBy e.call.client ws → Each (λ x. is_visible s.interface.facts x.call.fun ≡ false) ws
     → ((es : List Entry) → AreDrawn ws es → AreKept (h ++ es) u ((h ++ es) ++ e ∷ []) u') → AllRecover s h ws run u → AllRecover s (h ++ e ∷ []) ws run u'
 refused_ahead s h ws e run u u' guards none hidden kept all es drawn =
     subst (λ l. IsRecovering s l run u') (sym (append_assoc h (e ∷ []) es))
-    (moved_front s h es e run u' (drawn_each (λ x. x.call.client ≢ e.call.client) ws es none drawn) (guard_nowhere e guards (places_of run)) (drawn_each (λ x. is_visible s.facts x.call.fun ≡ false) ws es hidden drawn)
+    (moved_front s h es e run u' (drawn_each (λ x. x.call.client ≢ e.call.client) ws es none drawn) (guard_nowhere e guards (places_of run)) (drawn_each (λ x. is_visible s.interface.facts x.call.fun ≡ false) ws es hidden drawn)
     (refused_stays s (h ++ es) run u u' e guards (kept es drawn) (all es drawn)))
 
 -- ---- an item is noted
 
-pub noted_ahead : (s : Stubs) (h ws : List Entry) (b : Boot) (boots : List Boot) (points later : ℕ) (u u' : List Call) (item : Item) → is_visible_reply s.facts item ≡ false
+pub noted_ahead : (s : Stubs) (h ws : List Entry) (b : Boot) (boots : List Boot) (points later : ℕ) (u u' : List Call) (item : Item) → is_visible_reply s.interface.facts item ≡ false
     → ((es : List Entry) → AreDrawn ws es → IsOfNoEntry item (h ++ es) × AreKept (h ++ es) u (h ++ es) u' × IsNextItem s (h ++ es) u' (place_behind [] (b ∷ boots) item))
     → AllRecover s h ws (record { boots = b ∷ boots; points = points }) u → AllRecover s h ws (record { boots = noted (b ∷ boots) item; points = later }) u'
 noted_ahead s h ws b boots points later u u' item plain each all es drawn =
@@ -108,16 +108,16 @@ own_nowhere b boots item e own =
         three true true true r is = refl
 
 pub served_ahead : (s : Stubs) (h ws : List Entry) (b : Boot) (boots : List Boot) (points later : ℕ) (u u' : List Call) (item : Item) (e : Entry) → is_item_of e item ≡ true → NoneBy e.call.client ws
-    → Each (λ x. is_visible s.facts x.call.fun ≡ false) ws
+    → Each (λ x. is_visible s.interface.facts x.call.fun ≡ false) ws
     → ((es : List Entry) → AreDrawn ws es
-    → IsOfNoEntry item (h ++ es) × IsItemOf s.facts (h ++ es) (place_behind [] (b ∷ boots) item) e × IsLastCall (h ++ es) u e.call × AreKept (h ++ es) u ((h ++ es) ++ e ∷ []) u'
+    → IsOfNoEntry item (h ++ es) × IsItemOf s.interface.facts (h ++ es) (place_behind [] (b ∷ boots) item) e × IsLastCall (h ++ es) u e.call × AreKept (h ++ es) u ((h ++ es) ++ e ∷ []) u'
     × IsNextItem s ((h ++ es) ++ e ∷ []) u' (place_behind [] (b ∷ boots) item))
     → AllRecover s h ws (record { boots = b ∷ boots; points = points }) u → AllRecover s (h ++ e ∷ []) ws (record { boots = noted (b ∷ boots) item; points = later }) u'
 served_ahead s h ws b boots points later u u' item e own none hidden each all es drawn =
     let so = each es drawn in
     let run' : Run = record { boots = noted (b ∷ boots) item; points = later } in
     subst (λ l. IsRecovering s l run' u') (sym (append_assoc h (e ∷ []) es))
-    (moved_front s h es e run' u' (drawn_each (λ x. x.call.client ≢ e.call.client) ws es none drawn) (own_nowhere b boots item e own) (drawn_each (λ x. is_visible s.facts x.call.fun ≡ false) ws es hidden drawn)
+    (moved_front s h es e run' u' (drawn_each (λ x. x.call.client ≢ e.call.client) ws es none drawn) (own_nowhere b boots item e own) (drawn_each (λ x. is_visible s.interface.facts x.call.fun ≡ false) ws es hidden drawn)
     (committed_stays s (h ++ es) b boots points later u u' item e so.0 so.1 so.2 so.3 so.4 (all es drawn)))
 
 -- ---- a reply more is held
@@ -131,7 +131,7 @@ record HasOne (ws es : List Entry) (p : Entry) : Type 0 where
 
 -- (that a drawn list either leaves the reply out or has it at one place is decided by clients)
 pub holds_ahead_with : (s : Stubs) (h front rest : List Entry) (p : Entry) (b : Boot) (boots : List Boot) (points : ℕ) (u : List Call) (item : Item) → is_item_of p item ≡ true → NoneBy p.call.client rest
-    → Each (λ x. is_visible s.facts x.call.fun ≡ false) rest → IsHeld s.facts (h ++ (front ++ rest)) (record { boots = noted (b ∷ boots) item; points = points }) p → IsLastCall (h ++ (front ++ rest)) u p.call
+    → Each (λ x. is_visible s.interface.facts x.call.fun ≡ false) rest → IsHeldReply s.interface.facts (h ++ (front ++ rest)) (record { boots = noted (b ∷ boots) item; points = points }) p → IsLastCall (h ++ (front ++ rest)) u p.call
     → AreKept (h ++ (front ++ rest)) u ((h ++ (front ++ rest)) ++ p ∷ []) u
     → IsRecovering s (h ++ (front ++ rest)) (record { boots = noted (b ∷ boots) item; points = points }) u
     → IsRecovering s (h ++ (front ++ p ∷ rest)) (record { boots = noted (b ∷ boots) item; points = points }) u

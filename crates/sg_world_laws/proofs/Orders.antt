@@ -1,12 +1,62 @@
 -- What holds in a world whichever held replies are committed first.
-use Rattle.sg_base.specs.Lists.{Each}
-use Rattle.std.specs.List.{Contains}
-use Rattle.sg_recovery_laws.proofs.Lists.{each_append, each_contains, each_map, each_split}
-use Rattle.std.proofs.lemmas.List.Elements.{Contains-append_right}
 
 -- ---- numbers
 
 -- no more replies are held than there are seats
+use Rattle.std.proofs.Common.{Bool, List, None, Option, Some, [], ap, arith, false, if◌then◌else◌, inl, inr, length, length-append, map, refl, subst, suc, sym, true, ℕ, ◌*◌, ◌++◌, ◌+◌, ◌<◌, ◌^◌, ◌||◌, ◌∙◌, ◌∷◌, ◌≡◌, ◌≢◌, ◌≤◌}
+use Rattle.std.proofs.Math.ListN.{set}
+use Rattle.std.proofs.lemmas.List.Elements.{Contains-append_right}
+use Rattle.std.specs.List.{Contains, list_any}
+use Rattle.sg_base.specs.Lists.{Each}
+use Rattle.sg_base.specs.declared.call.Call.{Call}
+use Rattle.sg_base.specs.declared.reply.Reply.{Reply}
+use Rattle.sg_facts.proofs.Halving.{found}
+use Rattle.sg_facts.proofs.RowLists.{row_of_live}
+use Rattle.sg_facts.specs.Guard.{guard}
+use Rattle.sg_facts.specs.Held.{AreReachable}
+use Rattle.sg_facts.specs.Interface.{Declared, declares}
+use Rattle.sg_facts.specs.Laws.{slow, whole}
+use Rattle.sg_facts.specs.Legal.{LegalFrom, Table, refused_or}
+use Rattle.sg_facts.specs.Limits.{last_client}
+use Rattle.sg_facts.specs.Needs.{is_needed, needs}
+use Rattle.sg_facts.specs.Object.{Object, after, empty_object, object_from, object_of}
+use Rattle.sg_facts.specs.Sound.{IsSound}
+use Rattle.sg_facts.specs.Trace.{Boot}
+use Rattle.sg_facts.specs.Track.{is_live, row_at}
+use Rattle.sg_facts.specs.Walks.{made}
+use Rattle.sg_facts.specs.declared.entry.Entry.{Entry}
+use Rattle.sg_facts.specs.declared.row.Row.{Row}
+use Rattle.sg_facts.specs.declared.trace.Item.{Item}
+use Rattle.sg_held_laws.specs.Progress.{IsNone}
+use Rattle.sg_hist.specs.Reading.{is_by_guard, is_item_of}
+use Rattle.sg_hist.specs.Recovered.{IsCallOf}
+use Rattle.sg_object_laws.proofs.Guarded.{acts}
+use Rattle.sg_object_laws.proofs.Narrow.{guard_stays}
+use Rattle.sg_object_laws.proofs.Needed.{needed_back, needed_same, needs_same}
+use Rattle.sg_object_laws.proofs.Serves.{fewer_behind, needed_behind}
+use Rattle.sg_object_laws.proofs.Steady.{after_good, others_stay}
+use Rattle.sg_object_laws.proofs.Waiting.{good_behind, hidden_is, less_time, time_after, waiting_after}
+use Rattle.sg_object_laws.specs.Serving.{HasTime, IsAnsweredAt, IsLegalObject}
+use Rattle.sg_object_laws.specs.Waiting.{AreWaiting, NoneBy}
+use Rattle.sg_recovery_laws.proofs.Lists.{each_append, each_contains, each_map, each_split}
+use Rattle.sg_recovery_laws.specs.Growing.{IsInLast, IsOfNoEntry, last_items, older_items}
+use Rattle.sg_seat.specs.WorldView.{Seat, WorldView, held_in, held_replies, is_held_in, unanswered}
+use Rattle.sg_seat.specs.declared.withdrawn.Withdrawn.{Withdrawn}
+use Rattle.sg_trace_laws.proofs.Reached.{reach_all}
+use Rattle.sg_trace_laws.specs.Asked.{IsClientsCall}
+use Rattle.sg_trace_laws.specs.LastPlace.{HaveItems}
+use Rattle.sg_trace_laws.specs.Told.{IsKnown, IsRead}
+use Rattle.sg_track.proofs.Ascending.{later}
+use Rattle.sg_track.proofs.KeptLists.{read}
+use Rattle.sg_walk_laws.proofs.Above.{up}
+use Rattle.sg_walk_laws.proofs.Apart.{apart}
+use Rattle.sg_world_laws.proofs.Drawn.{drawn_waiting, object_behind, waiting_apart}
+use Rattle.sg_world_laws.proofs.Items.{has_item}
+use Rattle.sg_world_laws.specs.Keeping.{AreDrawn, Keeps, MayEnter, Stands, Stub, standing}
+use Rattle.sg_world_laws.specs.Seats.{AreSeated, HaveSeats, MayMake, all_seqs}
+use Rattle.sg_world_laws.specs.Setting.{IsSetting, Setting}
+use Rattle.sg_world_laws.specs.Turns.{IsLetIn}
+
 pub held_few : (boot : ℕ) (seats : List Seat) → length (held_in boot seats) ≤ length seats
 held_few boot [] = omega arith
 held_few boot (s ∷ seats) = at (is_held_in boot s) (held_few boot seats)
@@ -42,28 +92,28 @@ legal_append i ask o (x ∷ xs) ys was more = (was.0, legal_append i ask (after 
 module _ (z : Setting) (set : IsSetting z) where
   pub lets_after : (o : Object) (call : Call) (reply : Reply) → z.iface.facts.global ≡ false → IsLegalObject z.iface.facts z.sound o → IsAnsweredAt z.iface.facts z.ask o call reply → (es : List Entry)
       → NoneBy call.client es → AreWaiting z.iface.facts z.ask o es → Each (λ e. guard z.iface o e.call ≡ None) es → Each (λ e. guard z.iface (after z.iface.facts o call reply) e.call ≡ None) es
-  lets_after o call reply alone good is [] none wait lets = tt
-  lets_after o call reply alone good is (e ∷ es) none wait lets =
+  lets_after o call reply alone ok is [] none wait lets = tt
+  lets_after o call reply alone ok is (e ∷ es) none wait lets =
       let hidden = hidden_is z.iface.facts e.call.fun wait.0.hidden in
       let own = wait.0.answered.passes.is_call in (
-        guard_stays z.iface z.ask z.sound set.law o (after z.iface.facts o call reply) e.call alone good (after_good z.iface.facts z.ask z.sound set.law o call reply good is)
+        guard_stays z.iface z.ask z.sound set.law o (after z.iface.facts o call reply) e.call alone ok (after_good z.iface.facts z.ask z.sound set.law o call reply ok is)
             (acts z.iface.facts e.call.fun set.law.shape.shape own.first own.last)
-            (others_stay z.iface.facts z.ask z.sound set.law o call reply e.call.client alone good is (λ same. none.0 (sym same))) hidden.makes lets.0,
-        lets_after o call reply alone good is es none.1 wait.2 lets.1,
+            (others_stay z.iface.facts z.ask z.sound set.law o call reply e.call.client alone ok is (λ same. none.0 (sym same))) hidden.makes lets.0,
+        lets_after o call reply alone ok is es none.1 wait.2 lets.1,
       )
 
   -- so held replies are a legal history from the object of the history on, in any order
   pub legal_held : (o : Object) (es : List Entry) → IsLegalObject z.iface.facts z.sound o → HasTime z.iface.facts (length es) o → AreWaiting z.iface.facts z.ask o es
       → Each (λ e. guard z.iface o e.call ≡ None) es → LegalFrom z.iface z.ask o es
-  legal_held o [] good time wait lets = tt
-  legal_held o (e ∷ es) good time wait lets =
+  legal_held o [] ok time wait lets = tt
+  legal_held o (e ∷ es) ok time wait lets =
       let own = wait.0.answered in
       let hidden = hidden_is z.iface.facts e.call.fun wait.0.hidden in
-      let good' = after_good z.iface.facts z.ask z.sound set.law o e.call e.reply good own in
-      let later = time_after z.iface.facts z.ask z.sound set.law (length es) o e.call e.reply good own time in
-      let wait' = waiting_after z.iface.facts z.ask z.sound set.law o e.call e.reply es good own (less_time z.iface.facts z.ask z.sound set.law (length es) 0 (after z.iface.facts o e.call e.reply) (omega arith) later) wait.1 wait.2 in (
+      let ok' = after_good z.iface.facts z.ask z.sound set.law o e.call e.reply ok own in
+      let later = time_after z.iface.facts z.ask z.sound set.law (length es) o e.call e.reply ok own time in
+      let wait' = waiting_after z.iface.facts z.ask z.sound set.law o e.call e.reply es ok own (less_time z.iface.facts z.ask z.sound set.law (length es) 0 (after z.iface.facts o e.call e.reply) (omega arith) later) wait.1 wait.2 in (
         ap (λ g. refused_or g (z.ask o e.call)) lets.0 ∙ own.answered,
-        legal_held (after z.iface.facts o e.call e.reply) es good' later wait' (lets_after o e.call e.reply hidden.alone good own es wait.1 wait.2 lets.1),
+        legal_held (after z.iface.facts o e.call e.reply) es ok' later wait' (lets_after o e.call e.reply hidden.alone ok own es wait.1 wait.2 lets.1),
       )
 
 -- ---- at the objects behind some of the held replies
