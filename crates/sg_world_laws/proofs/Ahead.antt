@@ -1,22 +1,21 @@
 -- A run recovers whichever held replies are committed first: this is kept when one of them is committed, when a visible call is
 -- committed, when the guard refuses, when an item is noted, and when a reply more is held.
-use Rattle.std.proofs.Common.{◌≡◌, ℕ, zero, suc, ◌+◌, ◌<◌, ◌≤◌, Bool, true, false, List, [], ◌∷◌, ◌++◌, None, Some, length, length-append, not, refl, sym, ◌∙◌, ap, subst, inl, inr, ◌⊎◌, append_assoc, append-nil, arith}
-use Rattle.std.specs.Prelude.{◌≢◌, ◌==◌, ◌||◌, ◌&&◌}
+use Rattle.std.proofs.Common.{◌≡◌, ℕ, suc, ◌+◌, Bool, true, false, List, [], ◌∷◌, ◌++◌, length, length-append, not, refl, sym, ◌∙◌, ap, subst, inl, inr, append_assoc, arith}
+use Rattle.std.specs.Prelude.{◌≢◌, ◌||◌, ◌&&◌}
 use Rattle.std.specs.List.{Contains, list_any}
-use Rattle.std.proofs.lemmas.Bool.Decides.{eqb_tells, nat_tests}
 use Rattle.std.proofs.lemmas.List.Elements.{Contains-append_left, Contains-append_right, Contains-append_cases}
 use Rattle.sg_base.specs.Lists.{Each}
 use Rattle.sg_base.specs.declared.call.Call.{Call}
 use Rattle.sg_facts.specs.declared.entry.Entry.{Entry}
 use Rattle.sg_facts.specs.declared.trace.Item.{Item}
-use Rattle.sg_facts.specs.Facts.{Facts, is_visible}
+use Rattle.sg_facts.specs.Facts.{is_visible}
 use Rattle.sg_facts.specs.Trace.{Boot, Run}
 use Rattle.sg_hist.specs.Reading.{Place, behind, is_by_guard, is_item_of, past, places_from, places_of, stands_before}
 use Rattle.sg_hist.specs.Recovered.{Stubs, is_visible_reply}
-use Rattle.sg_recovery_laws.specs.Growing.{AreKept, HasOneMore, IsGrown, IsHeldReply, IsItemOf, IsLastCall, IsNextItem, IsRecovering, IsSettled, IsOfNoEntry, noted, place_behind}
+use Rattle.sg_recovery_laws.specs.Growing.{AreKept, IsHeldReply, IsItemOf, IsLastCall, IsNextItem, IsRecovering, IsSettled, IsOfNoEntry, noted, place_behind}
 use Rattle.sg_recovery_laws.proofs.Growing.{places-more, stands_before-own}
-use Rattle.sg_recovery_laws.proofs.Events.{no_behind, own_item, with_last}
-use Rattle.sg_recovery_laws.proofs.Lists.{each_append, each_contains, each_map, each_split}
+use Rattle.sg_recovery_laws.proofs.Events.{own_item, with_last}
+use Rattle.sg_recovery_laws.proofs.Lists.{each_append, each_contains, each_map}
 use Rattle.sg_recovery_laws.proofs.Onward.{committed_stays, held_stays, noted_stays, refused_stays}
 use Rattle.sg_world_laws.specs.Keeping.{AreApart, AreDrawn}
 use Rattle.sg_object_laws.specs.Waiting.{NoneBy}

@@ -1,5 +1,5 @@
 -- Held replies in any order: which are drawn, what object they come to, and that one that is committed leaves the others as they were.
-use Rattle.std.proofs.Common.{◌≡◌, ℕ, zero, suc, ◌+◌, ◌<◌, ◌≤◌, Bool, true, false, List, [], ◌∷◌, ◌++◌, None, Some, length, refl, sym, ◌∙◌, ap, subst, inl, inr, ◌⊎◌, append_assoc, arith}
+use Rattle.std.proofs.Common.{◌≡◌, suc, ◌≤◌, List, [], ◌∷◌, ◌++◌, length, refl, sym, ◌∙◌, ap, arith}
 use Rattle.std.specs.Prelude.{◌≢◌}
 use Rattle.std.specs.List.{Contains}
 use Rattle.sg_base.specs.Lists.{Each}
@@ -9,9 +9,9 @@ use Rattle.sg_facts.specs.Legal.{Table}
 use Rattle.sg_facts.specs.Object.{Object, after, object_from}
 use Rattle.sg_recovery_laws.proofs.Lists.{each_append, each_contains, each_map, each_split}
 use Rattle.sg_world_laws.specs.Keeping.{AreApart, AreDrawn}
-use Rattle.sg_object_laws.specs.Serving.{HasTime, IsAnsweredAt, IsLegalObject, IsService}
+use Rattle.sg_object_laws.specs.Serving.{HasTime, IsLegalObject, IsService}
 use Rattle.sg_object_laws.specs.Waiting.{AreWaiting, IsWaiting, NoneBy}
-use Rattle.sg_object_laws.proofs.Waiting.{acting_is, good_behind, hidden_is, less_time, past_waiting, time_after, waiting_after}
+use Rattle.sg_object_laws.proofs.Waiting.{acting_is, hidden_is, less_time, past_waiting, time_after, waiting_after}
 use Rattle.sg_object_laws.proofs.Steady.{after_good}
 
 -- the object behind two lists

@@ -1,6 +1,5 @@
 -- An entry more: the history stays legal, its object settled, and the calls that were made are still among those made.
 use Rattle.std.proofs.Common.{Bool, List, Ok, Some, [], ap, arith, cond, false, inl, inr, length, length-append, map, refl, subst, sym, true, ◌++◌, ◌+◌, ◌∙◌, ◌∷◌, ◌≡◌, ◌≤◌, ◌⊎◌}
-use Rattle.std.proofs.Math.ListN.{set}
 use Rattle.std.proofs.lemmas.List.Elements.{Contains-append_cases, Contains-append_left, Contains-append_right}
 use Rattle.std.specs.List.{Contains}
 use Rattle.sg_base.specs.declared.call.Call.{Call}
@@ -13,7 +12,6 @@ use Rattle.sg_facts.specs.Interface.{Declared}
 use Rattle.sg_facts.specs.Laws.{slow}
 use Rattle.sg_facts.specs.Legal.{LegalFrom, Table, answer}
 use Rattle.sg_facts.specs.Object.{Object, after, empty_object, given_after, object_from, object_of}
-use Rattle.sg_facts.specs.Walks.{good}
 use Rattle.sg_facts.specs.declared.entry.Entry.{Entry}
 use Rattle.sg_hist.specs.Reading.{is_by_guard}
 use Rattle.sg_object_laws.proofs.Steady.{after_good}

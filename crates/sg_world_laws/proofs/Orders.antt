@@ -4,18 +4,16 @@
 
 -- no more replies are held than there are seats
 use Rattle.std.proofs.Common.{Bool, List, None, Option, Some, [], ap, arith, false, if◌then◌else◌, inl, inr, length, length-append, map, refl, subst, suc, sym, true, ℕ, ◌*◌, ◌++◌, ◌+◌, ◌<◌, ◌^◌, ◌||◌, ◌∙◌, ◌∷◌, ◌≡◌, ◌≢◌, ◌≤◌}
-use Rattle.std.proofs.Math.ListN.{set}
 use Rattle.std.proofs.lemmas.List.Elements.{Contains-append_right}
 use Rattle.std.specs.List.{Contains, list_any}
 use Rattle.sg_base.specs.Lists.{Each}
 use Rattle.sg_base.specs.declared.call.Call.{Call}
 use Rattle.sg_base.specs.declared.reply.Reply.{Reply}
-use Rattle.sg_facts.proofs.Halving.{found}
 use Rattle.sg_facts.proofs.RowLists.{row_of_live}
 use Rattle.sg_facts.specs.Guard.{guard}
 use Rattle.sg_facts.specs.Held.{AreReachable}
 use Rattle.sg_facts.specs.Interface.{Declared, declares}
-use Rattle.sg_facts.specs.Laws.{slow, whole}
+use Rattle.sg_facts.specs.Laws.{slow}
 use Rattle.sg_facts.specs.Legal.{LegalFrom, Table, refused_or}
 use Rattle.sg_facts.specs.Limits.{last_client}
 use Rattle.sg_facts.specs.Needs.{is_needed, needs}
@@ -23,7 +21,6 @@ use Rattle.sg_facts.specs.Object.{Object, after, empty_object, object_from, obje
 use Rattle.sg_facts.specs.Sound.{IsSound}
 use Rattle.sg_facts.specs.Trace.{Boot}
 use Rattle.sg_facts.specs.Track.{is_live, row_at}
-use Rattle.sg_facts.specs.Walks.{made}
 use Rattle.sg_facts.specs.declared.entry.Entry.{Entry}
 use Rattle.sg_facts.specs.declared.row.Row.{Row}
 use Rattle.sg_facts.specs.declared.trace.Item.{Item}
@@ -46,10 +43,6 @@ use Rattle.sg_trace_laws.proofs.Reached.{reach_all}
 use Rattle.sg_trace_laws.specs.Asked.{IsClientsCall}
 use Rattle.sg_trace_laws.specs.LastPlace.{HaveItems}
 use Rattle.sg_trace_laws.specs.Told.{IsKnown, IsRead}
-use Rattle.sg_track.proofs.Ascending.{later}
-use Rattle.sg_track.proofs.KeptLists.{read}
-use Rattle.sg_walk_laws.proofs.Above.{up}
-use Rattle.sg_walk_laws.proofs.Apart.{apart}
 use Rattle.sg_world_laws.proofs.Drawn.{drawn_waiting, object_behind, waiting_apart}
 use Rattle.sg_world_laws.proofs.Items.{has_item}
 use Rattle.sg_world_laws.specs.Keeping.{AreDrawn, Keeps, MayEnter, Stands, Stub, standing}

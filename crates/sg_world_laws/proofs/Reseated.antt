@@ -7,13 +7,10 @@ use Rattle.sg_base.specs.declared.call.Call.{Call}
 use Rattle.sg_facts.specs.Object.{Object, object_from, object_of}
 use Rattle.sg_held_laws.specs.Numbers.{AreNumbers}
 use Rattle.sg_held_laws.specs.Progress.{IsInRecovery}
-use Rattle.sg_hist.specs.Recovered.{waiting}
 use Rattle.sg_object_laws.specs.Waiting.{AreWaiting}
 use Rattle.sg_recovery_laws.proofs.Onward.{made_stays}
 use Rattle.sg_recovery_laws.specs.Growing.{IsInLast}
 use Rattle.sg_seat.specs.WorldView.{WorldView, held_replies, unanswered}
-use Rattle.sg_trace_laws.proofs.Reading.{unnamed}
-use Rattle.sg_track.proofs.KeptLists.{read}
 use Rattle.sg_walk_laws.proofs.Above.{up}
 use Rattle.sg_world_laws.proofs.Entering.{kept_all}
 use Rattle.sg_world_laws.specs.Keeping.{AreDrawn, Keeps, MayEnter, StandsIn, Stub}

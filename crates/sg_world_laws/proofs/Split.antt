@@ -1,12 +1,12 @@
 -- What is drawn with a reply more leaves it out, or has it at one place.
-use Rattle.std.proofs.Common.{◌≡◌, ℕ, zero, suc, ◌+◌, ◌<◌, ◌≤◌, Bool, true, false, cond, List, [], ◌∷◌, ◌++◌, None, Some, length, length-append, refl, sym, ◌∙◌, ap, subst, inl, inr, ◌⊎◌, arith}
+use Rattle.std.proofs.Common.{◌≡◌, ℕ, zero, suc, ◌+◌, ◌<◌, ◌≤◌, true, false, List, [], ◌∷◌, ◌++◌, length, length-append, refl, sym, ◌∙◌, ap, subst, inl, inr, ◌⊎◌, arith}
 use Rattle.std.specs.Prelude.{◌≢◌, ◌==◌, slice_index_or}
 use Rattle.std.specs.List.{Contains}
 use Rattle.std.proofs.lemmas.Bool.Decides.{eqb_tells}
 use Rattle.std.proofs.lemmas.List.Elements.{Contains-append_left, Contains-append_right, Contains-append_cases}
 use Rattle.sg_base.specs.Lists.{Each}
 use Rattle.sg_facts.specs.declared.entry.Entry.{Entry}
-use Rattle.sg_recovery_laws.proofs.Lists.{each_append, each_contains, each_map, each_split}
+use Rattle.sg_recovery_laws.proofs.Lists.{each_append, each_contains, each_split}
 use Rattle.sg_world_laws.specs.Keeping.{AreApart, AreDrawn}
 use Rattle.sg_object_laws.specs.Waiting.{NoneBy}
 use Rattle.sg_world_laws.proofs.Drawn.{none_apart}

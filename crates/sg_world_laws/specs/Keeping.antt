@@ -1,9 +1,8 @@
 -- What a world keeps after every event.
-use Rattle.std.specs.Prelude.{ℕ, ◌≡◌, ◌⊎◌, ◌+◌, ◌<◌, ◌≤◌, ◌==◌, Bool, false, true, List, ◌∷◌, ◌++◌, None, Some, IsSome, [], length}
+use Rattle.std.specs.Prelude.{ℕ, ◌≡◌, ◌⊎◌, ◌+◌, ◌<◌, ◌≤◌, ◌==◌, Bool, false, true, List, ◌∷◌, ◌++◌, None, Some, [], length}
 use Rattle.std.specs.List.{Contains, list_any}
 use Rattle.std.specs.declared.option.Option.{Option}
 use Rattle.sg_base.specs.Lists.{Each}
-use Rattle.sg_base.specs.declared.reply.Reply.{Reply}
 use Rattle.sg_boot.specs.Cells.{IsCell}
 use Rattle.sg_facts.specs.declared.entry.Entry.{Entry}
 use Rattle.sg_facts.specs.Alike.{named}
@@ -12,7 +11,7 @@ use Rattle.sg_facts.specs.Guard.{guard}
 use Rattle.sg_facts.specs.Laws.{slow}
 use Rattle.sg_facts.specs.Legal.{LegalFrom}
 use Rattle.sg_facts.specs.Object.{Object, empty_object, object_from, object_of}
-use Rattle.sg_facts.specs.Trace.{Boot, Run}
+use Rattle.sg_facts.specs.Trace.{Boot}
 use Rattle.sg_facts.specs.Track.{is_live}
 use Rattle.sg_held_laws.specs.Numbers.{AreNumbers}
 use Rattle.sg_held_laws.specs.Progress.{IsInRecovery, Told}

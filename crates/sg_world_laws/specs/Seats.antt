@@ -1,5 +1,5 @@
 -- The seats of a world's clients, and the numbers of their calls.
-use Rattle.std.specs.Prelude.{ℕ, ◌≡◌, ◌+◌, ◌^◌, ◌<◌, ◌≤◌, true, List, [], ◌∷◌, ◌++◌, None, Some, length, unwrap_or}
+use Rattle.std.specs.Prelude.{ℕ, ◌≡◌, ◌+◌, ◌^◌, ◌<◌, ◌≤◌, true, List, [], ◌∷◌, ◌++◌, None, Some, length}
 use Rattle.std.specs.declared.option.Option.{Option}
 use Rattle.sg_base.specs.Lists.{Each}
 use Rattle.sg_facts.specs.declared.entry.Entry.{Entry}
