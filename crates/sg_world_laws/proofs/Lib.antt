@@ -1,8 +1,11 @@
 pub mod Ahead
 pub mod Asked
+pub mod Booted
 pub mod Drawn
 pub mod Entering
 pub mod Items
 pub mod Orders
 pub mod Reseated
 pub mod Split
+pub mod Struck
+pub mod Woken
