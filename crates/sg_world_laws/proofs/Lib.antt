@@ -3,8 +3,10 @@ pub mod Asked
 pub mod Booted
 pub mod Drawn
 pub mod Entering
+pub mod Given
 pub mod Items
 pub mod Orders
+pub mod Refusing
 pub mod Reseated
 pub mod Split
 pub mod Struck
