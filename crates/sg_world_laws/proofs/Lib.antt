@@ -8,6 +8,7 @@ pub mod Items
 pub mod Orders
 pub mod Refusing
 pub mod Reseated
+pub mod Returned
 pub mod Split
 pub mod Struck
 pub mod Woken
