@@ -5,10 +5,13 @@ pub mod Drawn
 pub mod Entering
 pub mod Given
 pub mod Items
+pub mod Onseat
 pub mod Orders
 pub mod Refusing
 pub mod Reseated
 pub mod Returned
+pub mod Seating
 pub mod Split
 pub mod Struck
+pub mod Waits
 pub mod Woken
