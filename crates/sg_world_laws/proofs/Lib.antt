@@ -2,6 +2,7 @@ pub mod Ahead
 pub mod Asked
 pub mod Booted
 pub mod Drawn
+pub mod Entered
 pub mod Entering
 pub mod Given
 pub mod Items
