@@ -6,6 +6,7 @@ pub mod Entered
 pub mod Entering
 pub mod Given
 pub mod Items
+pub mod LetIn
 pub mod Onseat
 pub mod Orders
 pub mod Refusing

@@ -91,7 +91,7 @@ own_offered front back s gone offers =
     (subst (λ l. Contains l s.call) (sym (offered_at front back s))
     (Contains-append_right (flat_map offered_by front) (offered_by s ++ flat_map offered_by back) s.call (Contains-append_left (offered_by s) (flat_map offered_by back) s.call (subst (λ q. Contains (if q then s.call ∷ [] else []) s.call) (sym offers) (0, omega arith, refl)))))
 
-one_is : (x y : Call) → Contains (x ∷ []) y → y ≡ x
+pub one_is : (x y : Call) → Contains (x ∷ []) y → y ≡ x
 one_is x y has = at has.0 has.1 has.2
   where
     at : (n : ℕ) → n < length (x ∷ []) → slice_index_or (x ∷ []) n y ≡ y → y ≡ x
