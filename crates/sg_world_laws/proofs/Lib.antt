@@ -7,6 +7,7 @@ pub mod Entering
 pub mod Given
 pub mod Items
 pub mod LetIn
+pub mod Moves
 pub mod Onseat
 pub mod Orders
 pub mod Refusing
