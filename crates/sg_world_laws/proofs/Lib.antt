@@ -16,5 +16,6 @@ pub mod Returned
 pub mod Seating
 pub mod Split
 pub mod Struck
+pub mod Turns
 pub mod Waits
 pub mod Woken
