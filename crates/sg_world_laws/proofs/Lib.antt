@@ -1,5 +1,6 @@
 pub mod Ahead
 pub mod Asked
+pub mod Begun
 pub mod Booted
 pub mod Drawn
 pub mod Entered
