@@ -69,6 +69,28 @@ in_phase w client phase = with_seat w client (record (seat_of w client) { phase 
 abbrev pub with_mark : WorldView → ℕ → MarkKind → WorldView
 with_mark w client kind = record w { marks = w.marks ++ record { client = client; kind = kind } ∷ [] }
 
+-- a world with these clients, in which nothing was done: the service is up in its first boot
+abbrev pub new_world : List Seat → WorldView
+new_world seats = record { history = []; run = record { boots = booted []; points = 0 }; running = Some empty_object; seats = seats; withdrawn = []; marks = []; events = 0; refused = 0 }
+
+-- a client has no call under way
+abbrev pub IsFree : Phase → Type 0
+IsFree Idle = Unit {0}
+IsFree Left = Unit {0}
+IsFree Asked = ⊥
+IsFree Held = ⊥
+IsFree Receipted = ⊥
+IsFree Blocked = ⊥
+
+-- a client's call may be withdrawn
+abbrev pub MayWithdraw : Phase → Type 0
+MayWithdraw Asked = Unit {0}
+MayWithdraw Blocked = Unit {0}
+MayWithdraw Idle = ⊥
+MayWithdraw Left = ⊥
+MayWithdraw Held = ⊥
+MayWithdraw Receipted = ⊥
+
 -- ---- held replies
 
 -- the number of the running boot, from 1

@@ -1,10 +1,105 @@
 // The service, its clients, and what they did.
-use sg_base::Stops;
-use sg_facts::Service;
+ghost use Rattle.std.specs.Prelude.{◌≡◌, ◌+◌, ◌≤◌, ◌<◌, ◌-◌, ◌^◌, ◌∷◌, ◌++◌, ℕ, List, [], None, Some, IfOk, OnOk, OnErr, length, map, replicate, slice_get};
+ghost use Rattle.std.specs.Option.{option_copied, option_map};
+ghost use Rattle.sg_facts.specs.Kinds.{AreWords, FitsKinds};
+ghost use Rattle.sg_facts.specs.Interface.{declares};
+ghost use Rattle.sg_facts.specs.Limits.{last_client};
+ghost use Rattle.sg_facts.specs.Trace.{run_of};
+ghost use Rattle.sg_base.specs.declared.call.Call.{Call as IsCall};
+ghost use Rattle.sg_seat.specs.WorldView.{happened, left_by, offered, seat_of, withdrawn_by};
+ghost use Rattle.sg_world_laws.proofs.Begun.{new_world};
+ghost use Rattle.sg_world_laws.proofs.Turns.{IsFree, MayWithdraw};
 
-/// A world.
+use crate::seat::{ClientSeat, SeatRoom};
+use sg_base::{Args, Call, NoMemory, RoomyList, Stops};
+use sg_facts::{Entry, Service, Tables, Trace};
+use sg_hist::History;
+use sg_replay::Engine;
+use sg_seat::{Mark, MarkKind, Phase, Withdrawn};
+use std::alloc::Global;
+use std::marker::Model;
+
+/// A service that may stop at any point, its clients, and what they did. A client offers a call, and the world is made to step until
+/// the call is answered. Contracts see it as plain data.
 #[derive(Debug, Drop)]
 pub struct World<S: Service, T: Stops> {
-    service: S,
+    engine: Engine<S>,
     stops: T,
+    seats: Vec<ClientSeat>,
+    history: History,
+    withdrawn: RoomyList<Withdrawn>,
+    marks: RoomyList<Mark>,
+    events: u64,
+    refused: u64,
+}
+
+impl<S: Service, T: Stops> Model for World<S, T> {
+    ghost use Rattle.std.specs.Prelude.{◌≡◌};
+    ghost use Rattle.sg_world.specs.Worlded.{ArePoints, IsWorld, Worlded, setting_of, view_of};
+
+    ghost Value = { Worlded };
+
+    ghost view = { λ w. record {
+      tables = w.engine.tables;
+      view = view_of w.engine w.history.items w.seats.items w.withdrawn.items w.marks.items w.events w.refused;
+      plan = T.plan w.stops;
+    } };
+
+    ghost invariant = { λ w. IsWorld (setting_of S.ask S.sound S.parts w.engine.tables) w.engine
+        (view_of w.engine w.history.items w.seats.items w.withdrawn.items w.marks.items w.events w.refused)
+        (record { entries = w.history.room; withdrawals = w.withdrawn.room; marks = w.marks.room })
+        × ArePoints T.test (view_of w.engine w.history.items w.seats.items w.withdrawn.items w.marks.items w.events w.refused) (T.asked w.stops) (T.struck w.stops) (T.plan w.stops) };
+}
+
+impl<S: Service, T: Stops> World<S, T> {
+    /// The calls that were done, lent.
+    pub fn history(&self) -> &History
+        ensures { result.now.items ≡ self.now.view.history }
+    {
+        &self.history
+    }
+
+    /// What was done to the service, lent.
+    pub fn trace(&self) -> &Trace
+        ensures { run_of result.now ≡ self.now.view.run }
+    {
+        self.engine.trace()
+    }
+
+    /// The running service, lent; None exactly where it failed.
+    pub fn service(&self) -> Option<&S>
+        ensures { option_map S.object (option_copied result) ≡ self.now.view.running }
+    {
+        self.engine.service()
+    }
+
+    /// What happened to the clients, in its order, lent.
+    pub fn marks(&self) -> &[Mark]
+        ensures { result.now ≡ self.now.view.marks }
+    {
+        self.marks.as_slice()
+    }
+
+    /// The withdrawn calls, in their order, lent.
+    pub fn withdrawn(&self) -> &[Withdrawn]
+        ensures { result.now ≡ self.now.view.withdrawn }
+    {
+        self.withdrawn.as_slice()
+    }
+
+    /// The number of its steps that wanted memory, up to the greatest number.
+    pub fn refused(&self) -> u64
+        ensures { result ≡ self.now.view.refused }
+    {
+        self.refused
+    }
+
+    /// How far a client has come with its call.
+    pub fn phase(&self, client: u8) -> Phase
+        requires first { 1 ≤ client }
+        requires last { client ≤ length self.now.view.seats }
+        ensures { result ≡ (seat_of self.now.view client).phase }
+    {
+        self.seats[usize::from(client) - 1].phase()
+    }
 }

@@ -1,7 +1,7 @@
 -- A world in which nothing was done keeps what worlds keep.
 
 -- a client that did nothing yet
-use Rattle.std.proofs.Common.{Bool, List, Some, [], ap, arith, false, flat_map, if◌then◌else◌, inl, length, refl, subst, sym, ℕ, ◌++◌, ◌+◌, ◌∙◌, ◌∷◌, ◌≡◌, ◌≤◌}
+use Rattle.std.proofs.Common.{Bool, List, [], ap, arith, false, flat_map, if◌then◌else◌, inl, length, refl, subst, sym, ℕ, ◌++◌, ◌+◌, ◌∙◌, ◌∷◌, ◌≡◌, ◌≤◌}
 use Rattle.std.proofs.Math.ListN.{set}
 use Rattle.sg_base.specs.Lists.{Each}
 use Rattle.sg_boot.proofs.Keeping.{kept_booted}
@@ -11,8 +11,8 @@ use Rattle.sg_held_laws.specs.Numbers.{AreNumbers}
 use Rattle.sg_held_laws.specs.Progress.{fresh}
 use Rattle.sg_object_laws.specs.Waiting.{AreWaiting}
 use Rattle.sg_recovery_laws.proofs.Onward.{nothing_yet}
-use Rattle.sg_recovery_laws.specs.Growing.{IsInLast, IsRecovering, booted}
-use Rattle.sg_seat.specs.WorldView.{Seat, WorldView, held_in, held_replies, is_held_in, no_seat, offered_by, unanswered}
+use Rattle.sg_recovery_laws.specs.Growing.{IsInLast, IsRecovering}
+use Rattle.sg_seat.specs.WorldView.{Seat, held_in, held_replies, is_held_in, no_seat, offered_by, unanswered, new_world}
 use Rattle.sg_world_laws.proofs.Booted.{begins}
 use Rattle.sg_world_laws.proofs.Struck.{none_drawn}
 use Rattle.sg_world_laws.specs.Keeping.{AreDrawn, Keeps, MayEnter}
@@ -52,10 +52,6 @@ new_seqs (s ∷ seats) new = let own : s.seq ≡ 0 = ap (λ x. x.seq) new.0 in l
 new_boots : (seats : List Seat) → AreNew seats → Each (λ s. s.boot ≤ 1) seats
 new_boots [] new = tt
 new_boots (s ∷ seats) new = (subst (λ x. x.boot ≤ 1) (sym new.0) (omega arith), new_boots seats new.1)
-
--- the world that has this many new clients
-abbrev pub new_world : List Seat → WorldView
-new_world seats = record { history = []; run = record { boots = booted []; points = 0 }; running = Some empty_object; seats = seats; withdrawn = []; marks = []; events = 0; refused = 0 }
 
 pub new_keeps : (z : Setting) (set : IsSetting z) (seats : List Seat) (present : List ℕ → Bool) → AreNew seats → length seats ≤ last_client → ((path : List ℕ) → present path ≡ false)
     → Keeps z (new_world seats) (record { names = []; told = λ id. fresh; present = present })
