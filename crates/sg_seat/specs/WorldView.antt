@@ -55,9 +55,12 @@ no_reply = Ok (record { desc = 0; words = []; bytes = [] })
 abbrev pub no_seat : Seat
 no_seat = record { phase = Idle; call = no_call; seq = 0; boot = 0; reply = no_reply }
 
--- the seat of a client
+-- the seat of a client; clients are numbered from 1
+abbrev pub seat_in : List Seat → ℕ → Seat
+seat_in seats client = unwrap_or (slice_get seats (client - 1)) no_seat
+
 abbrev pub seat_of : WorldView → ℕ → Seat
-seat_of w client = unwrap_or (slice_get w.seats (client - 1)) no_seat
+seat_of w client = seat_in w.seats client
 
 abbrev pub with_seat : WorldView → ℕ → Seat → WorldView
 with_seat w client seat = record w { seats = slice_set w.seats (client - 1) seat }

@@ -1,16 +1,16 @@
 // The service, its clients, and what they did.
-ghost use Rattle.std.specs.Prelude.{◌≡◌, ◌+◌, ◌≤◌, ◌<◌, ◌-◌, ◌^◌, ◌∷◌, ◌++◌, ℕ, List, [], None, Some, IfOk, OnOk, OnErr, length, map, replicate, slice_get};
+ghost use Rattle.std.specs.Prelude.{◌≡◌, ◌+◌, ◌≤◌, ◌<◌, ◌-◌, ◌^◌, ◌∷◌, ◌++◌, ℕ, true, List, [], None, Some, IfOk, OnOk, OnErr, length, map, replicate, slice_get};
 ghost use Rattle.std.specs.Option.{option_copied, option_map};
 ghost use Rattle.sg_facts.specs.Kinds.{AreWords, FitsKinds};
 ghost use Rattle.sg_facts.specs.Interface.{declares};
 ghost use Rattle.sg_facts.specs.Limits.{last_client};
 ghost use Rattle.sg_facts.specs.Trace.{run_of};
 ghost use Rattle.sg_base.specs.declared.call.Call.{Call as IsCall};
-ghost use Rattle.sg_seat.specs.WorldView.{happened, left_by, offered, seat_of, withdrawn_by};
-ghost use Rattle.sg_world_laws.proofs.Begun.{new_world};
-ghost use Rattle.sg_world_laws.proofs.Turns.{IsFree, MayWithdraw};
+ghost use Rattle.sg_base.specs.Counts.{last_count};
+ghost use Rattle.sg_seat.specs.WorldView.{IsFree, MayWithdraw, happened, left_by, new_world, no_seat, offered, seat_of, withdrawn_by};
 
-use crate::seat::{ClientSeat, SeatRoom};
+use crate::seat::SeatRoom;
+use crate::seats::Seats;
 use sg_base::{Args, Call, NoMemory, RoomyList, Stops};
 use sg_facts::{Entry, Service, Tables, Trace};
 use sg_hist::History;
@@ -25,7 +25,7 @@ use std::marker::Model;
 pub struct World<S: Service, T: Stops> {
     engine: Engine<S>,
     stops: T,
-    seats: Vec<ClientSeat>,
+    seats: Seats,
     history: History,
     withdrawn: RoomyList<Withdrawn>,
     marks: RoomyList<Mark>,
@@ -41,17 +41,47 @@ impl<S: Service, T: Stops> Model for World<S, T> {
 
     ghost view = { λ w. record {
       tables = w.engine.tables;
-      view = view_of w.engine w.history.items w.seats.items w.withdrawn.items w.marks.items w.events w.refused;
+      view = view_of w.engine w.history.items w.seats w.withdrawn.items w.marks.items w.events w.refused;
       plan = T.plan w.stops;
     } };
 
     ghost invariant = { λ w. IsWorld (setting_of S.ask S.sound S.parts w.engine.tables) w.engine
-        (view_of w.engine w.history.items w.seats.items w.withdrawn.items w.marks.items w.events w.refused)
+        (view_of w.engine w.history.items w.seats w.withdrawn.items w.marks.items w.events w.refused)
         (record { entries = w.history.room; withdrawals = w.withdrawn.room; marks = w.marks.room })
-        × ArePoints T.test (view_of w.engine w.history.items w.seats.items w.withdrawn.items w.marks.items w.events w.refused) (T.asked w.stops) (T.struck w.stops) (T.plan w.stops) };
+        × ArePoints T.test (view_of w.engine w.history.items w.seats w.withdrawn.items w.marks.items w.events w.refused) (T.asked w.stops) (T.struck w.stops) (T.plan w.stops) };
 }
 
 impl<S: Service, T: Stops> World<S, T> {
+    /// A world of clients from 1 to so many, in which nothing was done: the service is up in its first boot, and every client is idle.
+    pub fn new(
+        alloc: Global,
+        tables: Tables,
+        clients: u8,
+        stops: T,
+    ) -> Result<World<S, T>, NoMemory>
+        requires service { tables.iface.facts ≡ S.facts }
+        requires few { clients ≤ last_client }
+        requires unasked { T.asked stops ≡ 0 }
+        requires unstruck { T.struck stops ≡ [] }
+        ensures tables { IfOk result (λ w. w.tables ≡ tables) }
+        ensures view { IfOk result (λ w. w.view ≡ new_world (replicate clients no_seat)) }
+        ensures plan { IfOk result (λ w. w.plan ≡ T.plan stops) }
+    {
+        let seats = Seats::new(alloc, clients)?;
+        let mut marks = RoomyList::new(alloc);
+        marks.reserve(usize::from(clients))?;
+        Ok(World {
+            engine: Engine::new(alloc, tables, clients)?,
+            stops,
+            seats,
+            history: History::new(alloc),
+            withdrawn: RoomyList::new(alloc),
+            marks,
+            events: 0,
+            refused: 0,
+        })
+    }
+
     /// The calls that were done, lent.
     pub fn history(&self) -> &History
         ensures { result.now.items ≡ self.now.view.history }
@@ -100,6 +130,49 @@ impl<S: Service, T: Stops> World<S, T> {
         requires last { client ≤ length self.now.view.seats }
         ensures { result ≡ (seat_of self.now.view client).phase }
     {
-        self.seats[usize::from(client) - 1].phase()
+        self.seats.phase(client)
+    }
+
+    /// A client offers a call, under its next number; one that had left has come back by it. It keeps the memory that the call's
+    /// entry, its reply and its withdrawal will take. After `NoMemory` the world is as before.
+    pub fn offer(
+        &mut self,
+        alloc: Global,
+        client: u8,
+        fun: u8,
+        desc: u64,
+        args: Args,
+    ) -> Result<(), NoMemory>
+        requires first { 1 ≤ client }
+        requires last { client ≤ length self.old.view.seats }
+        requires free { IsFree (seat_of self.old.view client).phase }
+        requires numbered { (seat_of self.old.view client).seq + 1 < 2 ^ 32 }
+        requires declared { declares self.old.tables.iface fun ≡ true }
+        requires fits { FitsKinds self.old.tables.iface.facts (record { client = client; seq = (seat_of self.old.view client).seq + 1; fun = fun; desc = desc; args = args }) }
+        requires words { AreWords args }
+        ensures ok { OnOk result (self.new ≡ record self.old {
+          view = happened (offered self.old.view client
+              (record { client = client; seq = (seat_of self.old.view client).seq + 1; fun = fun; desc = desc; args = args }));
+        }) }
+        ensures err { OnErr result (self.new ≡ record self.old { view = happened self.old.view }) }
+    {
+        self.events = self.events.saturating_add(1);
+        let call = Call {
+            client,
+            seq: self.seats.seq(client) + 1,
+            fun,
+            desc,
+            args,
+        };
+        let room = SeatRoom::new(alloc, &call)?;
+        self.history.reserve(self.seats.len())?;
+        self.withdrawn.reserve(self.seats.len())?;
+        self.marks.reserve(3 * self.seats.len() + 1)?;
+        self.seats.offer(call, room);
+        self.marks.add(Mark {
+            client,
+            kind: MarkKind::Offer,
+        });
+        Ok(())
     }
 }
