@@ -1,16 +1,18 @@
 -- What contracts see of a world, and what it keeps.
-use Rattle.std.specs.Prelude.{ℕ, ◌≡◌, ◌+◌, ◌≤◌, List, [], ◌∷◌, length}
 use Rattle.std.specs.List.{flat_map}
-use Rattle.sg_facts.specs.declared.entry.Entry.{Entry}
+use Rattle.std.specs.Prelude.{ℕ, ◌≡◌, ◌+◌, ◌≤◌, List, [], ◌∷◌, length}
 use Rattle.sg_facts.specs.Facts.{Facts}
-use Rattle.sg_facts.specs.Legal.{Table}
+use Rattle.sg_facts.specs.Legal.{Table, done}
 use Rattle.sg_facts.specs.Object.{Object, file_at, object_of}
 use Rattle.sg_facts.specs.Tables.{Compiled}
+use Rattle.sg_facts.specs.declared.entry.Entry.{Entry}
 use Rattle.sg_held_laws.specs.Progress.{Told, fresh, begun, complete}
 use Rattle.sg_hist.specs.Recovered.{struck_in}
 use Rattle.sg_name.specs.Names.{named_at}
 use Rattle.sg_name.specs.declared.named.Named.{Named}
 use Rattle.sg_name.specs.declared.named.Named.TheVariants.{Unnamed, Partial, Live}
+use Rattle.sg_needs.specs.Refused.{refused}
+use Rattle.sg_recovery_laws.specs.Growing.{struck}
 use Rattle.sg_replay.specs.Engined.{Engined}
 use Rattle.sg_replay.specs.Present.{is_present}
 use Rattle.sg_replay.specs.Serving.{pairs_of}
@@ -21,7 +23,7 @@ use Rattle.sg_seat.specs.declared.phase.Phase.TheVariants.{Idle, Asked, Held, Re
 use Rattle.sg_seat.specs.declared.withdrawn.Withdrawn.{Withdrawn}
 use Rattle.sg_store.specs.Stored.{bytes_of}
 use Rattle.sg_world_laws.specs.Keeping.{Keeps, Stub}
-use Rattle.sg_world_laws.specs.Setting.{Setting}
+use Rattle.sg_world_laws.specs.Setting.{IsSetting, Setting}
 
 -- what contracts see of a world: its tables and the plan of its stops, which no event changes, and the rest as plain data
 pub record Worlded : Type 0 where
@@ -90,6 +92,7 @@ pub record ArePoints (test : ℕ → List ℕ → List ℕ → Type 0) (w : Worl
 
 -- what a world keeps
 pub record IsWorld (z : Setting) (e : Engined) (w : WorldView) (rooms : Rooms) : Type 0 where
+  pub set : IsSetting z
   pub keeps : Keeps z w (stub_of e)
   pub tracked : IsTracked z.iface.facts e w.history
   pub rooms_are : HaveRooms w.seats rooms
