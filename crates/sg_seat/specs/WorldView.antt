@@ -76,6 +76,18 @@ with_mark w client kind = record w { marks = w.marks ++ record { client = client
 abbrev pub new_world : List Seat → WorldView
 new_world seats = record { history = []; run = record { boots = booted []; points = 0 }; running = Some empty_object; seats = seats; withdrawn = []; marks = []; events = 0; refused = 0 }
 
+-- a client waits or has left
+abbrev pub is_resting : Phase → Bool
+is_resting Blocked = true
+is_resting Left = true
+is_resting Idle = false
+is_resting Asked = false
+is_resting Held = false
+is_resting Receipted = false
+
+abbrev pub is_at_rest : Seat → Bool
+is_at_rest s = is_resting s.phase
+
 -- a client has no call under way
 abbrev pub IsFree : Phase → Type 0
 IsFree Idle = Unit {0}

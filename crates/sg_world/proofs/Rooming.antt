@@ -2,7 +2,6 @@
 
 -- how many calls aren't answered
 use Rattle.std.proofs.Common.{Bool, List, Some, [], ap, arith, false, flat_map, if◌then◌else◌, length, length-append, refl, slice_get, slice_set, suc, true, zero, ℕ, ◌*◌, ◌++◌, ◌+◌, ◌∙◌, ◌∷◌, ◌≡◌, ◌≤◌}
-use Rattle.sg_facts.proofs.RowLists.{both}
 use Rattle.sg_facts.specs.WalkArray.{back}
 use Rattle.sg_name.proofs.Directions.{there}
 use Rattle.sg_seat.specs.WorldView.{Seat, is_offered, offered_by}
@@ -64,3 +63,10 @@ pub length_set : (seats : List Seat) (at : ℕ) (new : Seat) → length (slice_s
 length_set [] at new = refl
 length_set (x ∷ seats) zero new = refl
 length_set (x ∷ seats) (suc at) new = ap suc (length_set seats at new)
+
+-- a client that may still make a mark has memory for it
+pub marks_some : (seats : List Seat) (at : ℕ) (s : Seat) → slice_get seats at ≡ Some s → marks_of s.phase ≤ marks_left seats
+marks_some seats at s there =
+    let has : HasSeat seats at s = has_seat seats at s there in
+    let was : marks_left seats ≡ marks_left has.front + (marks_of s.phase + marks_left has.back) = ap marks_left has.is ∙ marks_at has.front has.back s in
+    omega (arith, was)

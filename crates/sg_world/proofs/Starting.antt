@@ -2,7 +2,6 @@
 
 -- the service keeps its laws, and the walks are those of its interface
 use Rattle.std.proofs.Common.{List, Some, [], ap, arith, false, flat_map, length, refl, replicate, subst, suc, sym, zero, ℕ, ◌∙◌, ◌≡◌, ◌≤◌}
-use Rattle.std.proofs.Math.ListN.{set}
 use Rattle.sg_facts.specs.Facts.{Facts}
 use Rattle.sg_facts.specs.Legal.{Table}
 use Rattle.sg_facts.specs.Limits.{last_client}
@@ -20,10 +19,8 @@ use Rattle.sg_seat.specs.WorldView.{WorldView, new_world, no_seat, offered_by, S
 use Rattle.sg_seat.specs.declared.mark.Mark.{Mark}
 use Rattle.sg_seat.specs.declared.withdrawn.Withdrawn.{Withdrawn}
 use Rattle.sg_store.specs.Stored.{bytes_of}
-use Rattle.sg_walk_laws.proofs.Files.{told}
 use Rattle.sg_world.specs.Worlded.{ArePoints, IsWorld, Rooms, marks_left, setting_of, stub_of, told_of, view_of}
 use Rattle.sg_world_laws.proofs.Begun.{AreNew, new_keeps}
-use Rattle.sg_world_laws.proofs.Refusing.{refused}
 use Rattle.sg_world_laws.specs.Keeping.{Keeps}
 use Rattle.sg_world_laws.specs.Setting.{IsSetting, Setting}
 

@@ -1,7 +1,7 @@
 // The clients of a world.
 ghost use Rattle.std.specs.Prelude.{◌≡◌, ◌≤◌, ◌-◌, ◌+◌, ◌∷◌, ◌++◌, true, length, replicate, IfOk, slice_set};
-ghost use Rattle.sg_facts.specs.Limits.{last_client};
-ghost use Rattle.sg_seat.specs.WorldView.{is_offered, no_reply, no_seat, seat_in};
+ghost use Rattle.std.specs.List.{list_all};
+ghost use Rattle.sg_seat.specs.WorldView.{is_at_rest, no_reply, is_left_phase, no_seat, seat_in};
 ghost use Rattle.sg_seat.specs.declared.phase.Phase.TheVariants.{Idle, Asked, Receipted, Left};
 ghost use Rattle.sg_world.specs.Rooms.{FitsSeatRoom};
 
@@ -52,6 +52,15 @@ impl Seats {
         self.seats[usize::from(client) - 1].phase()
     }
 
+    /// Whether a client has left.
+    pub(crate) fn has_left(&self, client: u8) -> bool
+        requires first { 1 ≤ client }
+        requires last { client ≤ length self.now }
+        ensures { result ≡ is_left_phase (seat_in self.now client).phase }
+    {
+        self.seats[usize::from(client) - 1].has_left()
+    }
+
     /// The number of a client's last entry.
     pub(crate) fn seq(&self, client: u8) -> u32
         requires first { 1 ≤ client }
@@ -89,6 +98,13 @@ impl Seats {
         ensures { self.new ≡ slice_set self.old (client - 1) (record (seat_in self.old client) { phase = Left }) }
     {
         self.seats[usize::from(client) - 1].leave();
+    }
+
+    /// Whether every client waits or has left.
+    pub(crate) fn all_at_rest(&self) -> bool
+        ensures { result ≡ list_all is_at_rest self.now }
+    {
+        self.seats.iter().all(|seat| seat.is_at_rest())
     }
 }
 

@@ -1,5 +1,6 @@
 // The service, its clients, and what they did.
 ghost use Rattle.std.specs.Prelude.{◌≡◌, ◌+◌, ◌≤◌, ◌<◌, ◌-◌, ◌^◌, ◌∷◌, ◌++◌, ℕ, true, List, [], None, Some, IfOk, OnOk, OnErr, length, map, replicate, slice_get};
+ghost use Rattle.std.specs.List.{list_all};
 ghost use Rattle.std.specs.Option.{option_copied, option_map};
 ghost use Rattle.sg_facts.specs.Kinds.{AreWords, FitsKinds};
 ghost use Rattle.sg_facts.specs.Interface.{declares};
@@ -7,7 +8,7 @@ ghost use Rattle.sg_facts.specs.Limits.{last_client};
 ghost use Rattle.sg_facts.specs.Trace.{run_of};
 ghost use Rattle.sg_base.specs.declared.call.Call.{Call as IsCall};
 ghost use Rattle.sg_base.specs.Counts.{last_count};
-ghost use Rattle.sg_seat.specs.WorldView.{IsFree, MayWithdraw, happened, left_by, new_world, no_seat, offered, seat_of, withdrawn_by};
+ghost use Rattle.sg_seat.specs.WorldView.{IsFree, happened, is_at_rest, left_by, new_world, no_seat, offered, seat_of};
 
 use crate::seat::SeatRoom;
 use crate::seats::Seats;
@@ -174,5 +175,29 @@ impl<S: Service, T: Stops> World<S, T> {
             kind: MarkKind::Offer,
         });
         Ok(())
+    }
+
+    /// A client that has no call under way leaves. One that has left goes on to be so. It takes no memory.
+    pub fn leave(&mut self, client: u8)
+        requires first { 1 ≤ client }
+        requires last { client ≤ length self.old.view.seats }
+        requires free { IsFree (seat_of self.old.view client).phase }
+        ensures { self.new ≡ record self.old { view = happened (left_by self.old.view client) } }
+    {
+        self.events = self.events.saturating_add(1);
+        if !self.seats.has_left(client) {
+            self.seats.leave(client);
+            self.marks.add(Mark {
+                client,
+                kind: MarkKind::Leave,
+            });
+        }
+    }
+
+    /// Whether every client waits or has left.
+    pub fn all_blocked(&self) -> bool
+        ensures { result ≡ list_all is_at_rest self.now.view.seats }
+    {
+        self.seats.all_at_rest()
     }
 }

@@ -1,5 +1,5 @@
 -- A new world keeps what worlds keep.
-use Rattle.std.proofs.Common.{[], Some, sym, ◌∙◌, ap, subst, arith}
+use Rattle.std.proofs.Common.{sym, ◌∙◌, ap, subst, arith}
 use Rattle.sg_facts.specs.Tables.{AreTables}
 use Rattle.sg_object_laws.specs.Serving.{IsService}
 use Rattle.sg_world_laws.specs.Setting.{IsSetting}

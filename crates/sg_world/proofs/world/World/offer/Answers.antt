@@ -1,9 +1,8 @@
 -- A world keeps what it keeps behind an offer.
-use Rattle.std.proofs.Common.{◌≡◌, ◌+◌, ◌≤◌, sym, ◌∙◌, ap, subst, arith, refl, length, true}
+use Rattle.std.proofs.Common.{◌≡◌, ◌+◌, ◌≤◌, sym, ap, subst, arith, refl, length, true}
 use Rattle.sg_base.specs.declared.call.Call.{Call}
 use Rattle.sg_facts.specs.Interface.{declares}
 use Rattle.sg_facts.specs.Kinds.{FitsKinds}
-use Rattle.sg_facts.specs.Limits.{last_client}
 use Rattle.sg_seat.specs.WorldView.{IsFree, seat_of}
 use Rattle.sg_world_laws.specs.Seats.{MayMake}
 use Rattle.sg_world.specs.Worlded.{Rooms, setting_of, view_of}
