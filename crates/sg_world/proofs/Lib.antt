@@ -1,3 +1,4 @@
+pub mod Phases
 pub mod Rooming
 pub mod Starting
 pub mod Turning

@@ -70,3 +70,10 @@ marks_some seats at s there =
     let has : HasSeat seats at s = has_seat seats at s there in
     let was : marks_left seats ≡ marks_left has.front + (marks_of s.phase + marks_left has.back) = ap marks_left has.is ∙ marks_at has.front has.back s in
     omega (arith, was)
+
+-- and a call that isn't answered is one of those
+pub offers_some : (seats : List Seat) (at : ℕ) (s : Seat) → slice_get seats at ≡ Some s → length (offered_by s) ≤ length (flat_map offered_by seats)
+offers_some seats at s there =
+    let has : HasSeat seats at s = has_seat seats at s there in
+    let was : length (flat_map offered_by seats) ≡ length (flat_map offered_by has.front) + (length (offered_by s) + length (flat_map offered_by has.back)) = ap (λ l. length (flat_map offered_by l)) has.is ∙ offers_at has.front has.back s in
+    omega (arith, was)

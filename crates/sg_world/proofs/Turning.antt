@@ -1,26 +1,30 @@
 -- What a world keeps where one seat changes, and no history.
 
 -- a call that meets the conditions of an offer may be made
-use Rattle.std.proofs.Common.{List, arith, length, slice_set, ℕ, ◌*◌, ◌+◌, ◌-◌, ◌≡◌, ◌≤◌, subst, sym, true, Some, false, flat_map, refl, slice_get, ◌<◌}
+use Rattle.std.proofs.Common.{List, arith, length, slice_set, ℕ, ◌*◌, ◌+◌, ◌-◌, ◌≡◌, ◌≤◌, subst, sym, true, Some, false, flat_map, refl, slice_get, ◌<◌, [], ap, if◌then◌else◌, ◌++◌, ◌∷◌}
 use Rattle.std.proofs.Math.ListN.{set}
 use Rattle.sg_base.specs.declared.call.Call.{Call}
 use Rattle.sg_facts.specs.Interface.{declares}
 use Rattle.sg_facts.specs.Kinds.{AreWords, FitsKinds}
 use Rattle.sg_facts.specs.Limits.{last_client}
 use Rattle.sg_facts.specs.declared.entry.Entry.{Entry}
+use Rattle.sg_hist.specs.Recovered.{is_clients}
 use Rattle.sg_object_laws.proofs.Guarded.{keeps}
 use Rattle.sg_object_laws.proofs.Left.{stays}
 use Rattle.sg_replay.specs.Engined.{Engined}
-use Rattle.sg_seat.specs.WorldView.{IsFree, Seat, WorldView, seat_of, is_left_phase, offered_by}
+use Rattle.sg_seat.specs.WorldView.{IsFree, Seat, WorldView, seat_of, is_left_phase, offered_by, MayWithdraw, is_offered}
 use Rattle.sg_seat.specs.declared.mark.Mark.{Mark}
 use Rattle.sg_seat.specs.declared.phase.Phase.{Phase}
 use Rattle.sg_seat.specs.declared.phase.Phase.TheVariants.{Asked, Blocked, Held, Idle, Left, Receipted}
 use Rattle.sg_seat.specs.declared.withdrawn.Withdrawn.{Withdrawn}
+use Rattle.sg_track.proofs.Ascending.{later}
+use Rattle.sg_walk_laws.proofs.Found.{within}
 use Rattle.sg_walk_laws.proofs.Steps.{declared_within}
-use Rattle.sg_world.proofs.Rooming.{length_set, marks_few, offers_few, marks_set, offers_set, marks_some}
+use Rattle.sg_world.proofs.Rooming.{length_set, marks_few, offers_few, marks_set, offers_set, marks_some, offers_some}
 use Rattle.sg_world.specs.Worlded.{HaveRooms, IsWorld, Rooms, stub_of, marks_left, marks_of}
 use Rattle.sg_world_laws.proofs.Refusing.{refused}
-use Rattle.sg_world_laws.proofs.Turns.{counted_keeps, offer_keeps, leave_keeps, seat_there}
+use Rattle.sg_world_laws.proofs.Seating.{client_last}
+use Rattle.sg_world_laws.proofs.Turns.{counted_keeps, offer_keeps, leave_keeps, seat_there, withdraw_keeps, withdraw_none}
 use Rattle.sg_world_laws.specs.Keeping.{Keeps}
 use Rattle.sg_world_laws.specs.Seats.{MayMake}
 use Rattle.sg_world_laws.specs.Setting.{Setting, IsSetting}
@@ -38,6 +42,15 @@ idle_marks Asked free is = absurd free
 idle_marks Held free is = absurd free
 idle_marks Receipted free is = absurd free
 idle_marks Blocked free is = absurd free
+
+-- a client whose call may be withdrawn has an entry, an answer and a leave before it
+three_marks : (p : Phase) → MayWithdraw p → marks_of p ≡ 3
+three_marks Asked may = refl
+three_marks Blocked may = refl
+three_marks Idle may = absurd may
+three_marks Left may = absurd may
+three_marks Held may = absurd may
+three_marks Receipted may = absurd may
 
 -- a world keeps what it keeps where what is numbered and what happened changes
 
@@ -122,3 +135,47 @@ module _ (z : Setting) (e : Engined) (w : WorldView) (rooms later : Rooms) (is :
       let one = idle_marks (seat_of w client).phase free stays in
       let room = is.rooms_are.marks in
       omega (arith, some, one, room)
+
+  -- a client whose call may be withdrawn offers it
+  pub offers_it : (client : ℕ) → MayWithdraw (seat_of w client).phase → is_offered (seat_of w client).phase ≡ true
+  offers_it client may = (withdraw_none (seat_of w client).phase may).0
+
+  -- a withdrawal takes one room for withdrawals, and one mark
+  pub withdrawn_on : (client : ℕ) (first : 1 ≤ client) (last : client ≤ length w.seats) → MayWithdraw (seat_of w client).phase → (seats : List Seat) (withdrawn : List Withdrawn) (gone : Withdrawn) (marks : List Mark) (events : ℕ)
+      → seats ≡ slice_set w.seats (client - 1) (record (seat_of w client) { phase = Idle }) → gone.call ≡ (seat_of w client).call → withdrawn ≡ w.withdrawn ++ gone ∷ []
+      → rooms.entries ≤ later.entries → rooms.withdrawals ≤ later.withdrawals + 1 → rooms.marks ≤ later.marks + 1 → IsWorld z e (record w { seats = seats; withdrawn = withdrawn; marks = marks; events = events }) later
+  withdrawn_on client first last may seats withdrawn gone marks events set its list entries withdrawals marked =
+      subst (λ s. IsWorld z e (record w { seats = s; withdrawn = withdrawn; marks = marks; events = events }) later) (sym set)
+      (subst (λ l. IsWorld z e (record w { seats = slice_set w.seats (client - 1) new; withdrawn = l; marks = marks; events = events }) later) (sym list)
+      (turned (slice_set w.seats (client - 1) new) (w.withdrawn ++ gone ∷ []) marks events w.refused (withdraw_keeps z w (stub_of e) is.keeps client first last marks events w.refused gone may its)
+      (record {
+        entries = (let was = is.rooms_are.entries in omega (arith, was, offers, one, entries));
+        withdrawals = (let was = is.rooms_are.withdrawals in omega (arith, was, offers, one, withdrawals));
+        marks = (let was = is.rooms_are.marks in let three = three_marks (seat_of w client).phase may in omega (arith, was, all, three, marked));
+      })))
+    where
+      new : Seat
+      new = record (seat_of w client) { phase = Idle }
+
+      there : slice_get w.seats (client - 1) ≡ Some (seat_of w client)
+      there = seat_there w client first last
+
+      offers : length (flat_map offered_by (slice_set w.seats (client - 1) (record (seat_of w client) { phase = Idle }))) + length (offered_by (seat_of w client)) ≡ length (flat_map offered_by w.seats) + 0
+      offers = offers_set w.seats (client - 1) (seat_of w client) (record (seat_of w client) { phase = Idle }) there
+
+      one : length (offered_by (seat_of w client)) ≡ 1
+      one = ap (λ q. length (if q then (seat_of w client).call ∷ [] else [])) (withdraw_none (seat_of w client).phase may).0
+
+      all : marks_left (slice_set w.seats (client - 1) (record (seat_of w client) { phase = Idle })) + marks_of (seat_of w client).phase ≡ marks_left w.seats + 1
+      all = marks_set w.seats (client - 1) (seat_of w client) (record (seat_of w client) { phase = Idle }) there
+
+  pub may_withdraw : (client : ℕ) → 1 ≤ client → client ≤ length w.seats → MayWithdraw (seat_of w client).phase → (0 < rooms.withdrawals) × (0 < rooms.marks)
+  may_withdraw client first last may =
+      let there = seat_there w client first last in
+      let marks = marks_some w.seats (client - 1) (seat_of w client) there in
+      let three = three_marks (seat_of w client).phase may in
+      let offers = offers_some w.seats (client - 1) (seat_of w client) there in
+      let one : length (offered_by (seat_of w client)) ≡ 1 = ap (λ q. length (if q then (seat_of w client).call ∷ [] else [])) (withdraw_none (seat_of w client).phase may).0 in
+      let room = is.rooms_are.withdrawals in
+      let mark_room = is.rooms_are.marks in
+      (omega (arith, offers, one, room), omega (arith, marks, three, mark_room))

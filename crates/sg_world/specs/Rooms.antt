@@ -1,5 +1,5 @@
 -- The memory that is taken ahead for a client's call.
-use Rattle.std.specs.Prelude.{◌≡◌, ◌≤◌, true, None, Some}
+use Rattle.std.specs.Prelude.{◌≡◌, ◌≤◌, true, [], None, Some, vec_capacity}
 use Rattle.std.specs.declared.option.Option.{Option}
 use Rattle.sg_base.specs.declared.call.Call.{Call}
 use Rattle.sg_facts.specs.Limits.{last_client}
@@ -10,7 +10,8 @@ use Rattle.sg_world.specs.declared.seat.SeatRoom.{SeatRoom}
 -- the memory was taken for a call, and for as many phases as there may be clients
 pub record FitsSeatRoom (call : Call) (room : SeatRoom) : Type 0 where
   pub same : room.call ≡ call
-  pub phases : last_client ≤ room.phases
+  pub empty : room.phases.items ≡ []
+  pub phases : last_client ≤ vec_capacity room.phases
 
 abbrev pub IsSeatRoom : Call → Option SeatRoom → Type 0
 IsSeatRoom call None = ⊥

@@ -5,8 +5,8 @@ ghost use Rattle.sg_seat.specs.WorldView.{is_at_rest, is_left_phase, is_offered,
 ghost use Rattle.sg_seat.specs.declared.phase.Phase.TheVariants.{Idle, Asked, Receipted, Left};
 ghost use Rattle.sg_world.specs.Rooms.{FitsSeatRoom};
 
-use sg_base::{Args, Bytes, Call, Good, ListRoom, NoMemory, Reply, ReplyRoom, TryCopy, Words};
-use sg_seat::{Phase, Withdrawn};
+use sg_base::{Args, Bytes, Call, Good, NoMemory, Reply, ReplyRoom, TryCopy, Words};
+use sg_seat::Phase;
 use std::alloc::Global;
 use std::marker::Model;
 use std::mem;
@@ -21,7 +21,7 @@ pub(crate) struct SeatRoom {
     pub(crate) call: Call,
     pub(crate) entry: ReplyRoom,
     pub(crate) answer: ReplyRoom,
-    pub(crate) phases: ListRoom<Phase>,
+    pub(crate) phases: Vec<Phase>,
 }
 
 impl SeatRoom {
@@ -33,7 +33,7 @@ impl SeatRoom {
             call: call.copy(alloc)?,
             entry: Reply::room(alloc)?,
             answer: Reply::room(alloc)?,
-            phases: ListRoom::new(alloc, MOST_CLIENTS)?,
+            phases: Vec::with_capacity(alloc, MOST_CLIENTS)?,
         })
     }
 }
@@ -136,20 +136,15 @@ impl ClientSeat {
         self.phase = Phase::Left;
     }
 
-    /// Withdraws its call, in the memory that was taken for it.
-    pub(crate) fn withdraw(&mut self, phases: &[Phase], at: u64) -> Withdrawn
-        requires offers { is_offered self.old.phase ≡ true }
-        requires few { length phases.now ≤ last_client }
-        ensures withdrawn { result ≡ record { call = self.old.call; phases = phases.now; at = at } }
+    /// Withdraws its call, and gives the memory back that was taken for it.
+    pub(crate) fn withdraw(&mut self) -> SeatRoom
+        requires { is_offered self.old.phase ≡ true }
+        ensures room { FitsSeatRoom self.old.call result }
         ensures seat { self.new ≡ record self.old { phase = Idle } }
     {
         self.phase = Phase::Idle;
         match self.room.take() {
-            Some(room) => Withdrawn {
-                call: room.call,
-                phases: room.phases.fill(phases),
-                at,
-            },
+            Some(room) => room,
             None => unreachable!(),
         }
     }

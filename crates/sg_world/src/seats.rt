@@ -1,13 +1,14 @@
 // The clients of a world.
-ghost use Rattle.std.specs.Prelude.{◌≡◌, ◌≤◌, ◌-◌, ◌+◌, ◌∷◌, ◌++◌, true, length, replicate, IfOk, slice_set};
+ghost use Rattle.std.specs.Prelude.{◌≡◌, ◌≤◌, ◌-◌, ◌+◌, ◌∷◌, ◌++◌, true, [], length, map, replicate, vec_capacity, IfOk, slice_set};
 ghost use Rattle.std.specs.List.{list_all};
-ghost use Rattle.sg_seat.specs.WorldView.{is_at_rest, no_reply, is_left_phase, no_seat, seat_in};
+ghost use Rattle.sg_facts.specs.Limits.{last_client};
+ghost use Rattle.sg_seat.specs.WorldView.{is_offered, is_at_rest, no_reply, is_left_phase, no_seat, seat_in};
 ghost use Rattle.sg_seat.specs.declared.phase.Phase.TheVariants.{Idle, Asked, Receipted, Left};
 ghost use Rattle.sg_world.specs.Rooms.{FitsSeatRoom};
 
 use crate::seat::{ClientSeat, SeatRoom};
-use sg_base::{Call, NoMemory, Reply};
-use sg_seat::Phase;
+use sg_base::{Call, ListOf, NoMemory, Reply};
+use sg_seat::{Phase, Withdrawn};
 use std::alloc::Global;
 use std::marker::Model;
 
@@ -91,6 +92,37 @@ impl Seats {
         self.seats[usize::from(client) - 1].hand_over(alloc)
     }
 
+    /// A client withdraws its call, where the history has so many entries, in the memory that was taken for it.
+    pub(crate) fn withdraw(&mut self, client: u8, at: u64) -> Withdrawn
+        requires first { 1 ≤ client }
+        requires last { client ≤ length self.old }
+        requires few { length self.old ≤ last_client }
+        requires offers { is_offered (seat_in self.old client).phase ≡ true }
+        ensures withdrawn { result ≡ record { call = (seat_in self.old client).call; phases = map (λ s. s.phase) self.old; at = at } }
+        ensures seats { self.new ≡ slice_set self.old (client - 1) (record (seat_in self.old client) { phase = Idle }) }
+    {
+        let was = self.phase(client);
+        let room = self.take_room(client);
+        let mut phases = with_phases(room.phases, self.seats.as_slice());
+        phases[usize::from(client) - 1] = was;
+        Withdrawn {
+            call: room.call,
+            phases: ListOf::from_vec(phases),
+            at,
+        }
+    }
+
+    // A client withdraws its call, and gives the memory back that was taken for it.
+    fn take_room(&mut self, client: u8) -> SeatRoom
+        requires first { 1 ≤ client }
+        requires last { client ≤ length self.old }
+        requires offers { is_offered (seat_in self.old client).phase ≡ true }
+        ensures room { FitsSeatRoom (seat_in self.old client).call result }
+        ensures seats { self.new ≡ slice_set self.old (client - 1) (record (seat_in self.old client) { phase = Idle }) }
+    {
+        self.seats[usize::from(client) - 1].withdraw()
+    }
+
     /// A client leaves.
     pub(crate) fn leave(&mut self, client: u8)
         requires first { 1 ≤ client }
@@ -117,4 +149,16 @@ fn new_seats(alloc: Global, clients: u8) -> Result<Vec<ClientSeat>, NoMemory>
         seats.push(ClientSeat::new(alloc))?;
     }
     Ok(seats)
+}
+
+// The phases of all seats, in the room that there is.
+fn with_phases(mut phases: Vec<Phase>, seats: &[ClientSeat]) -> Vec<Phase>
+    requires empty { phases.items ≡ [] }
+    requires room { length seats.now ≤ vec_capacity phases }
+    ensures { result.items ≡ map (λ s. s.phase) seats.now }
+{
+    for seat in seats {
+        phases.push_reserved(seat.phase());
+    }
+    phases
 }

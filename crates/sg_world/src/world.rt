@@ -8,7 +8,7 @@ ghost use Rattle.sg_facts.specs.Limits.{last_client};
 ghost use Rattle.sg_facts.specs.Trace.{run_of};
 ghost use Rattle.sg_base.specs.declared.call.Call.{Call as IsCall};
 ghost use Rattle.sg_base.specs.Counts.{last_count};
-ghost use Rattle.sg_seat.specs.WorldView.{IsFree, happened, is_at_rest, left_by, new_world, no_seat, offered, seat_of};
+ghost use Rattle.sg_seat.specs.WorldView.{IsFree, MayWithdraw, happened, is_at_rest, left_by, new_world, no_seat, offered, seat_of, withdrawn_by};
 
 use crate::seat::SeatRoom;
 use crate::seats::Seats;
@@ -175,6 +175,22 @@ impl<S: Service, T: Stops> World<S, T> {
             kind: MarkKind::Offer,
         });
         Ok(())
+    }
+
+    /// A client withdraws its call, which is in no entry; its number is used again. It takes no memory.
+    pub fn withdraw(&mut self, client: u8)
+        requires first { 1 ≤ client }
+        requires last { client ≤ length self.old.view.seats }
+        requires may { MayWithdraw (seat_of self.old.view client).phase }
+        ensures { self.new ≡ record self.old { view = happened (withdrawn_by self.old.view client) } }
+    {
+        self.events = self.events.saturating_add(1);
+        let withdrawn = self.seats.withdraw(client, self.history.len() as u64);
+        self.withdrawn.add(withdrawn);
+        self.marks.add(Mark {
+            client,
+            kind: MarkKind::Withdraw,
+        });
     }
 
     /// A client that has no call under way leaves. One that has left goes on to be so. It takes no memory.

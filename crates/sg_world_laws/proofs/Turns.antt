@@ -41,7 +41,7 @@ free_none Held free = absurd free
 free_none Receipted free = absurd free
 free_none Blocked free = absurd free
 
-withdraw_none : (p : Phase) → MayWithdraw p → (is_offered p ≡ true) × (is_held_phase p ≡ false)
+pub withdraw_none : (p : Phase) → MayWithdraw p → (is_offered p ≡ true) × (is_held_phase p ≡ false)
 withdraw_none Asked may = (refl, refl)
 withdraw_none Blocked may = (refl, refl)
 withdraw_none Idle may = absurd may
