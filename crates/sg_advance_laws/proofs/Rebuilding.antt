@@ -31,7 +31,7 @@ use Rattle.sg_world_laws.specs.Turns.{IsLetIn}
 use Rattle.sg_world_laws.proofs.Orders.{all_drawn, far_now, good_es, good_now, needs_es, reachable_es, sound_es, there_es, time_es}
 use Rattle.sg_advance_laws.specs.Advancing.{IsFirstLeft}
 
-told_is : (t : Told) → is_complete t ≡ true → t ≡ complete
+pub told_is : (t : Told) → is_complete t ≡ true → t ≡ complete
 told_is fresh is = absurd (cc is)
 told_is (begun n) is = absurd (cc is)
 told_is complete is = refl
@@ -125,7 +125,7 @@ module _ (z : Setting) (set : IsSetting z) (w : WorldView) (b : Boot) (boots : L
     so_far : IsSoFar z.iface z.walks stub.names v r (stub.told id)
     so_far = subst (λ n. IsSoFar z.iface z.walks stub.names v r (stub.told n)) id_is (up.in_recovery.rows r (row_es ws (all_drawn z set w b boots (Some v) stub k)))
 
-    reach_r : IsReachable z.iface r.made r.state (set_of r)
+    pub reach_r : IsReachable z.iface r.made r.state (set_of r)
     reach_r = reach_at z.iface (object_from z.iface.facts (object_of z.iface.facts w.history) ws).rows r.id r (reachable_es z set w b boots (Some v) stub k ws (all_drawn z set w b boots (Some v) stub k))
         (row_es ws (all_drawn z set w b boots (Some v) stub k))
 

@@ -1,6 +1,6 @@
 -- A call more of a walk is replayed, or the service stops within it: what its item owes, and what stands behind it.
 use Rattle.std.proofs.Common.{Bool, List, None, Some, [], ap, arith, cond, false, inl, inr, length, refl, subst, sym, true, ℕ, ◌&&◌, ◌++◌, ◌+◌, ◌<◌, ◌==◌, ◌||◌, ◌∙◌, ◌∷◌, ◌≡◌, ◌⊎◌}
-use Rattle.std.proofs.lemmas.Bool.Decides.{eqb_tells, nat_tests}
+use Rattle.std.proofs.lemmas.Bool.Decides.{eqb_tells}
 use Rattle.std.specs.List.{list_any}
 use Rattle.sg_base.specs.declared.call.Call.{Call}
 use Rattle.sg_base.specs.declared.reply.Good.{Good}
@@ -21,12 +21,10 @@ use Rattle.sg_facts.specs.declared.trace.Tag.{Tag}
 use Rattle.sg_facts.proofs.RowLists.{live_of_row}
 use Rattle.sg_walk_laws.proofs.Found.{other_test, within}
 use Rattle.sg_hist.specs.Reading.{after_item, given_by, is_tagged, names_in, pair_of, service_call}
-use Rattle.sg_hist.specs.Recovered.{AskedAs, IsAdmitted, IsByTable, IsDemanded, IsItsCall, IsOkOrStopped, IsTrackedAt, IsWalked, is_clients, is_replied, is_visible_reply}
+use Rattle.sg_hist.specs.Recovered.{AskedAs, IsByTable, IsDemanded, IsItsCall, IsOkOrStopped, IsTrackedAt, IsWalked, is_clients, is_replied, is_visible_reply}
 use Rattle.sg_recovery_laws.specs.Growing.{IsNextItem, IsOfNoEntry, last_items, older_items, place_behind}
 use Rattle.sg_recovery_laws.proofs.InBoots.{place_is}
-use Rattle.sg_recovery_laws.proofs.Lists.{each_map}
 use Rattle.sg_object_laws.proofs.Apart.{Ascends}
-use Rattle.sg_object_laws.proofs.Room.{guard_behind}
 use Rattle.sg_object_laws.proofs.Steady.{ascends}
 use Rattle.sg_held_laws.specs.Numbers.{AreNumbers}
 use Rattle.sg_held_laws.specs.Progress.{IsInRecovery, IsNone, TellsCalls, complete, fresh, is_complete}
@@ -34,14 +32,15 @@ use Rattle.sg_held_laws.specs.Stepping.{IsStepped, told_after}
 use Rattle.sg_trace_laws.specs.LastPlace.{last_place}
 use Rattle.sg_trace_laws.specs.Told.{IsKnown, IsRead}
 use Rattle.sg_trace_laws.proofs.Behind.{object_before_last}
-use Rattle.sg_trace_laws.proofs.Noting.{admitted_last, least_told, walk_settled}
+use Rattle.sg_trace_laws.proofs.Noting.{least_told, walk_settled}
 use Rattle.sg_trace_laws.proofs.Reading.{read_walk}
 use Rattle.sg_seat.specs.WorldView.{WorldView, held_in, unanswered}
 use Rattle.sg_world_laws.specs.Keeping.{AreDrawn, Keeps, Stands, Stub, standing}
 use Rattle.sg_world_laws.specs.Setting.{IsSetting, Setting, stubs_of}
 use Rattle.sg_world_laws.specs.Turns.{IsLetIn}
-use Rattle.sg_world_laws.proofs.Orders.{above_es, all_drawn, call_es, good_now, known_es, none_es, sound_es, time_es, wait_es}
+use Rattle.sg_world_laws.proofs.Orders.{all_drawn, known_es, sound_es}
 use Rattle.sg_advance_laws.specs.Advancing.{IsDue, IsFirstLeft, IsNextOf, IsReplayItem, StandsBehind, replayed_stub}
+use Rattle.sg_advance_laws.proofs.Admitted.{admitted_es, ascends_es, known_item}
 use Rattle.sg_advance_laws.proofs.Behind.{counted_behind}
 use Rattle.sg_advance_laws.proofs.Counting.{numbers_now}
 use Rattle.sg_advance_laws.proofs.Rebuilding.{first_es, id_es, id_is, is_new, its_walk, least, none_done, parent_es, row_es, sound_now, step_now}
@@ -76,10 +75,10 @@ module _ (z : Setting) (set : IsSetting z) (w : WorldView) (b : Boot) (boots : L
     none_of = none_of_walk item id (length done + 1) call.client is.tag (w.history ++ es)
 
     known : IsKnown z.iface.facts z.walks (w.history ++ es) (older_items [] (b ∷ boots)) (last_items (b ∷ boots)) item stub.names stub.told stub.present (object_from z.iface.facts (object_of z.iface.facts w.history) es)
-    known = known_es z set w b boots v stub k es drawn item none_of
+    known = known_item z set w b boots v stub k call let_in item es drawn none_of
 
     are : Ascends 0 (object_from z.iface.facts (object_of z.iface.facts w.history) es).given (object_from z.iface.facts (object_of z.iface.facts w.history) es).rows
-    are = ascends z.iface.facts (object_from z.iface.facts (object_of z.iface.facts w.history) es) known.sound
+    are = ascends_es z set w b boots v stub k call let_in item es drawn none_of
 
     parent : (r.parent ≡ 0) ⊎ ((is_live (object_from z.iface.facts (object_of z.iface.facts w.history) es).rows r.parent ≡ true) × (stub.told r.parent ≡ complete))
     parent = parent_es z set w b boots v stub k call let_in id first r its.there es drawn
@@ -96,15 +95,6 @@ module _ (z : Setting) (set : IsSetting z) (w : WorldView) (b : Boot) (boots : L
         at : (t : Bool) → IsNone (object_from z.iface.facts (object_of z.iface.facts w.history) es).rows (cond t r.parent r.id)
         at true = above parent
         at false = inr (live_of_row (object_from z.iface.facts (object_of z.iface.facts w.history) es).rows r.id r (row_es z set w b boots v stub k call let_in id first r its.there es drawn))
-
-    admitted : IsAdmitted z.iface (w.history ++ es) (unanswered (standing w b boots (Some v))) (last_place (older_items [] (b ∷ boots)) (last_items (b ∷ boots)) item) call.client call
-    admitted =
-        admitted_last z.iface z.walks (w.history ++ es) (unanswered (standing w b boots (Some v))) (older_items [] (b ∷ boots)) (last_items (b ∷ boots)) item stub.names stub.told stub.present (object_from z.iface.facts (object_of z.iface.facts w.history) es)
-        known.object known.sound are none_of known.items known.read call.client call (call_es z set w b boots (Some v) stub k es drawn call let_in)
-        (each_map (λ e. e.call.client ≡ call.client → e.call.seq < call.seq) (λ e. (e.call.client == call.client) ≡ true → e.call.seq < call.seq) (w.history ++ es) (λ e so test. so (grind (arith, nat_tests, test)))
-        (above_es z set w b boots (Some v) stub k es drawn call let_in))
-        (guard_behind z.iface z.ask z.sound set.law (object_of z.iface.facts w.history) es call (good_now z set w b boots (Some v) stub k) (time_es z set w b boots (Some v) stub k es drawn)
-        (wait_es z set w b boots (Some v) stub k es drawn) (none_es z set w b boots (Some v) stub k es drawn call let_in) let_in.passes.is_call.first let_in.passes.is_call.last let_in.guarded)
 
     next_es : IsNextItem (stubs_of z) (w.history ++ es) (unanswered (standing w b boots (Some v))) (place_behind [] (b ∷ boots) item)
     next_es = subst (IsNextItem (stubs_of z) (w.history ++ es) (unanswered (standing w b boots (Some v)))) (sym (place_is [] b boots item)) (record {
@@ -138,7 +128,7 @@ module _ (z : Setting) (set : IsSetting z) (w : WorldView) (b : Boot) (boots : L
         demanded : (t : Tag) → t ≡ Walk id (length done + 1) call.client → IsDemanded z.iface z.walks (w.history ++ es) (unanswered (standing w b boots (Some v))) (last_place (older_items [] (b ∷ boots)) (last_items (b ∷ boots)) item) t
         demanded t tag = subst (IsDemanded z.iface z.walks (w.history ++ es) (unanswered (standing w b boots (Some v))) (last_place (older_items [] (b ∷ boots)) (last_items (b ∷ boots)) item)) (sym tag) (record {
           call = call;
-          admitted = admitted;
+          admitted = admitted_es z set w b boots v stub k call let_in item es drawn none_of;
           least = least_told z.iface z.walks (w.history ++ es) (unanswered (standing w b boots (Some v))) (older_items [] (b ∷ boots)) (last_items (b ∷ boots)) item stub.names stub.told stub.present
               (object_from z.iface.facts (object_of z.iface.facts w.history) es) known.object known.sound are none_of known.items known.read call id
               (first_es z set w b boots v stub k call let_in id first r its.there es drawn);

@@ -1,6 +1,7 @@
 -- An item more in a world: what it has to be, what stands behind it, and the world then.
 use Rattle.std.specs.List.{list_any}
-use Rattle.std.specs.Prelude.{List, None, Some, [], false, find, length, not, true, ℕ, ◌++◌, ◌+◌, ◌<◌, ◌==◌, ◌∷◌, ◌≡◌, ◌≤◌, ◌⊎◌}
+use Rattle.std.specs.Prelude.{List, None, Some, [], false, find, length, not, true, ℕ, ◌++◌, ◌+◌, ◌<◌, ◌==◌, ◌||◌, ◌∷◌, ◌≡◌, ◌≢◌, ◌≤◌, ◌⊎◌}
+use Rattle.std.specs.Str.{bytes_eq}
 use Rattle.sg_base.specs.declared.call.Call.{Call}
 use Rattle.sg_base.specs.declared.reply.Good.{Good}
 use Rattle.sg_base.specs.declared.reply.Reply.TheVariants.{Ok}
@@ -8,20 +9,23 @@ use Rattle.sg_facts.specs.Alike.{named}
 use Rattle.sg_facts.specs.Facts.{Facts, fun_at}
 use Rattle.sg_facts.specs.Kinds.{MayAsk}
 use Rattle.sg_facts.specs.Laws.{is_none, names_after, next_call}
-use Rattle.sg_facts.specs.Needs.{needs}
-use Rattle.sg_facts.specs.Object.{Object, object_from, object_of, patch_of}
+use Rattle.sg_facts.specs.Needs.{is_needed, needs}
+use Rattle.sg_facts.specs.Object.{Object, file_at, object_from, object_of, patch_of}
 use Rattle.sg_facts.specs.Track.{is_live, row_at}
 use Rattle.sg_facts.specs.Walks.{replayed_call}
 use Rattle.sg_facts.specs.declared.entry.Entry.{Entry}
 use Rattle.sg_facts.specs.declared.row.Row.{Row}
+use Rattle.sg_facts.specs.declared.tables.WalkLine.{WalkLine}
 use Rattle.sg_facts.specs.declared.trace.Item.{Item}
-use Rattle.sg_facts.specs.declared.trace.Tag.TheVariants.{Walk}
-use Rattle.sg_hist.specs.Reading.{names_in, walk_in}
-use Rattle.sg_hist.specs.Recovered.{call_in}
+use Rattle.sg_facts.specs.declared.trace.Tag.TheVariants.{Load, Walk}
+use Rattle.sg_hist.specs.Reading.{is_made, is_rebuilt_at, names_in, walk_in}
+use Rattle.sg_hist.specs.Recovered.{call_in, is_walk_of}
 use Rattle.sg_recovery_laws.specs.Growing.{IsNextItem, IsOfNoEntry, last_items, noted, older_items, place_behind, struck}
+use Rattle.sg_boot.specs.Invoking.{load_outcome}
 use Rattle.sg_held_laws.specs.Numbers.{AreNumbers}
-use Rattle.sg_held_laws.specs.Progress.{IsInRecovery, TellsCalls, fresh, is_complete}
+use Rattle.sg_held_laws.specs.Progress.{IsInRecovery, TellsCalls, complete, fresh, is_complete}
 use Rattle.sg_held_laws.specs.Stepping.{told_after}
+use Rattle.sg_trace_laws.specs.LastPlace.{last_place}
 use Rattle.sg_trace_laws.specs.Told.{IsRead}
 use Rattle.sg_seat.specs.WorldView.{Seat, WorldView, held_replies, unanswered}
 use Rattle.sg_world_laws.specs.Keeping.{AreDrawn, Stub}
@@ -92,3 +96,30 @@ pub record IsReplayItem (facts : Facts) (stub : Stub) (id client : ℕ) (row : R
 -- what the stubs tell behind the call
 abbrev pub replayed_stub : Stub → ℕ → Row → List ℕ → List ℕ → Good → Stub
 replayed_stub stub id row done rest good = record { names = names_after stub.names row done good; told = told_after stub.told id done rest; present = stub.present }
+
+-- ---- a file is loaded
+
+-- a file is to be loaded for a call: all rows that it needs are whole, its file isn't in this boot yet, and isn't empty
+pub record IsLeftToLoad (z : Setting) (w : WorldView) (stub : Stub) (call : Call) (key : List ℕ) : Type 0 where
+  pub rows : (r : Row) → row_at (object_of z.iface.facts w.history).rows r.id ≡ Some r → is_needed z.iface.facts (object_of z.iface.facts w.history).rows call r ≡ true → stub.told r.id ≡ complete
+  pub file : (needs z.iface.facts (object_of z.iface.facts w.history) call).file ≡ Some key
+  pub absent : stub.present key ≡ false
+  pub some : file_at (object_of z.iface.facts w.history).files key ≢ []
+
+-- an item is of its load, in the turn of a client
+pub record IsLoadItem (client : ℕ) (key bytes : List ℕ) (item : Item) : Type 0 where
+  pub tag : item.tag ≡ Load key client
+  pub outcome : item.outcome ≡ load_outcome key bytes
+
+-- what the stubs tell behind it
+abbrev pub loaded_stub : Stub → List ℕ → Stub
+loaded_stub stub key = record { names = stub.names; told = stub.told; present = λ path. stub.present path || bytes_eq key path }
+
+-- ---- items that give nothing
+
+-- an item gives no name, makes nothing whole, and is no call of a walk
+pub record GivesNothing (facts : Facts) (walks : List WalkLine) (older front : List Item) (item : Item) : Type 0 where
+  pub unmade : (history : List Entry) (id : ℕ) → is_made facts history id item ≡ false
+  pub no_walk : (id : ℕ) → is_walk_of id item.tag ≡ false
+  pub unbuilt : (history : List Entry) (id : ℕ) → is_rebuilt_at facts walks history id (last_place older front item) ≡ false
+  pub no_name : (history : List Entry) → names_in facts history item.shown.fun item.tag item.outcome ≡ []
