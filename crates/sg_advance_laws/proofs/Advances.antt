@@ -25,7 +25,6 @@ use Rattle.sg_hist.specs.Reading.{service_call}
 use Rattle.sg_hist.specs.Recovered.{IsByTable, IsOkOrStopped, call_in, is_replied, is_stopped, is_visible_reply}
 use Rattle.sg_recovery_laws.specs.Growing.{IsNextItem, noted, place_behind}
 use Rattle.sg_object_laws.proofs.Guarded.{both_true, first_four, well_allowed, writes_none}
-
 use Rattle.sg_held_laws.proofs.Tabled.{reach_length}
 use Rattle.sg_held_laws.proofs.Walking.{MayReplay, may_replay, replayed_is, writes_no}
 use Rattle.sg_seat.specs.WorldView.{Seat, WorldView, held_in, unanswered}

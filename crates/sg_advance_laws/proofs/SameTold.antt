@@ -37,7 +37,7 @@ module _ (z : Setting) (stub later : Stub) (names : (id : ℕ) → named later.n
       counted = (let same = sum_alike left_of stub.told later.told (object_from z.iface.facts (object_of z.iface.facts w.history) (held_replies w)).rows told in let was = up.numbers.counted in omega (arith, same, was));
     };
     named_live = λ id. live id (up.named_live id);
-    in_recovery = under_named z.iface z.walks stub.names later.names (object_from z.iface.facts (object_of z.iface.facts w.history) (held_replies w)) v names stub.told later.told stub.present later.present told present up.in_recovery;
+    in_recovery = under_named z.iface z.walks stub.names later.names names (object_from z.iface.facts (object_of z.iface.facts w.history) (held_replies w)) v stub.told later.told stub.present later.present told present up.in_recovery;
     read = λ es drawn. read_alike (w.history ++ es) (older_items [] w.run.boots) (last_items w.run.boots) (object_of z.iface.facts w.history).rows (up.read es drawn);
     unnamed = up.unnamed;
   }
