@@ -110,15 +110,18 @@ seated_woken z history withdrawn test client (s ∷ seats) all = (by (woken_is t
     gone (inl same) is = subst (AreGone withdrawn client) (sym same) is
     gone (inr was) is = subst (AreGone withdrawn client) (sym was.1) is
 
-seqs_woken : (test : Call → Bool) (seats : List Seat) → all_seqs (map (woken_seat test) seats) ≡ all_seqs seats
-seqs_woken test [] = refl
-seqs_woken test (s ∷ seats) = let rest = seqs_woken test seats in let own = by (woken_is test s) in omega (arith, rest, own)
+pub seq_woken : (test : Call → Bool) (s : Seat) → (woken_seat test s).seq ≡ s.seq
+seq_woken test s = by (woken_is test s)
   where
     by : (woken_seat test s ≡ s) ⊎ ((s.phase ≡ Blocked) × (woken_seat test s ≡ record s { phase = Asked })) → (woken_seat test s).seq ≡ s.seq
     by (inl same) = ap (λ x. x.seq) same
     by (inr was) = ap (λ x. x.seq) was.1
 
-length_woken : (test : Call → Bool) (seats : List Seat) → length (map (woken_seat test) seats) ≡ length seats
+pub seqs_woken : (test : Call → Bool) (seats : List Seat) → all_seqs (map (woken_seat test) seats) ≡ all_seqs seats
+seqs_woken test [] = refl
+seqs_woken test (s ∷ seats) = let rest = seqs_woken test seats in let own = seq_woken test s in omega (arith, rest, own)
+
+pub length_woken : (test : Call → Bool) (seats : List Seat) → length (map (woken_seat test) seats) ≡ length seats
 length_woken test [] = refl
 length_woken test (s ∷ seats) = ap suc (length_woken test seats)
 
