@@ -89,6 +89,7 @@ module _ (z : Setting) (set : IsSetting z) (w : WorldView) (b : Boot) (boots : L
         rest = n.rest;
         fun = n.fun;
         its = record { there = row_is.there; walk = n.walk; told = n.tells };
+        part = row_is.part;
         begun = none_done z set w b boots v stub k call let_in id first row_is.row row_is.there n.done n.rest n.fun n.walk n.tells;
         shown = ap (call_in z.iface.facts row_is.row (length n.done + 1)) n.walk ∙ numbered_call z.iface.facts row_is.row n.done n.rest n.fun;
         fields = fields_few row_is.row row_is.there;

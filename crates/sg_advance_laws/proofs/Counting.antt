@@ -116,9 +116,6 @@ module _ (i : Declared) (ask : Table) (sound : Object → Type 0) (law : IsServi
   replays : MayReplay i done fun
   replays = may_replay i done rest fun r.made r.state (set_of r) walk
 
-  abbrev told_now : ℕ → Told
-  told_now = told_after told r.id done rest
-
   own_told : told_after told r.id done rest r.id ≡ so_far rest (suc (length done))
   own_told = ap (λ b. cond b (so_far rest (suc (length done))) (told r.id)) (same_test r.id r.id refl)
 

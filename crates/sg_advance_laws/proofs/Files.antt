@@ -2,7 +2,7 @@
 use Rattle.std.proofs.Common.{Bool, List, [], ap, false, inl, inr, refl, subst, sym, true, ℕ, ◌||◌, ◌∙◌, ◌∷◌, ◌≡◌, ◌≢◌, ◌⊎◌}
 use Rattle.std.specs.Str.{bytes_eq}
 use Rattle.sg_facts.specs.Alike.{HasAlike}
-use Rattle.sg_facts.specs.Held.{EachHeld, ParentIsWhole, whole}
+use Rattle.sg_facts.specs.Held.{EachHeld, ParentIsWhole}
 use Rattle.sg_facts.specs.Interface.{Declared}
 use Rattle.sg_facts.specs.Object.{Object, file_at, set_file}
 use Rattle.sg_facts.specs.declared.row.Row.{Row}
@@ -14,9 +14,6 @@ use Rattle.sg_held_laws.proofs.Rest.{so_far_same}
 
 module _ (i : Declared) (walks : List WalkLine) (names : List (ℕ × ℕ)) (told : ℕ → Told) (present : List ℕ → Bool) (o held : Object) (key : List ℕ) (recovers : IsInRecovery i walks names told present o held)
     (absent : present key ≡ false) where
-  abbrev later : Object
-  later = record held { files = set_file held.files key (file_at o.files key) }
-
   whole_still : (r : Row) → HasAlike names held r → HasAlike names (record held { files = set_file held.files key (file_at o.files key) }) r
   whole_still r has = record { row = has.row; there = has.there; alike = has.alike }
 

@@ -39,9 +39,6 @@ module _ (z : Setting) (set : IsSetting z) (w : WorldView) (b : Boot) (boots : L
   abbrev ws : List Entry
   ws = held_in (length (b ∷ boots)) w.seats
 
-  abbrev items_was : List Item
-  items_was = older_items [] (b ∷ boots) ++ last_items (b ∷ boots)
-
   -- the item is the next at the history itself
   pub next_now : IsNextItem (stubs_of z) w.history (unanswered (standing w b boots (Some v))) (place_behind [] (b ∷ boots) item)
   next_now = subst (λ h. IsNextItem (stubs_of z) h (unanswered (standing w b boots (Some v))) (place_behind [] (b ∷ boots) item)) (append-nil w.history) (due [] (no_drawn ws)).next

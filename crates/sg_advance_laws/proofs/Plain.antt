@@ -2,7 +2,6 @@
 use Rattle.std.proofs.Common.{Bool, List, Some, [], ap, cond, false, length, refl, true, ℕ, ◌&&◌, ◌++◌, ◌==◌, ◌||◌, ◌∙◌, ◌∷◌, ◌≡◌}
 use Rattle.std.specs.List.{list_any}
 use Rattle.sg_facts.specs.Facts.{Facts, fun_at}
-use Rattle.sg_facts.specs.Held.{whole}
 use Rattle.sg_facts.specs.Object.{Object, object_from, object_of}
 use Rattle.sg_facts.specs.Trace.{Boot}
 use Rattle.sg_facts.specs.declared.entry.Entry.{Entry}

@@ -147,9 +147,6 @@ module _ (z : Setting) (set : IsSetting z) (w : WorldView) (b : Boot) (boots : L
   -- ---- what stands behind it
 
   module _ (good : Good) (answered : z.ask v (next_call z.iface.facts stub.names r done fun) ≡ Some (Ok good)) (outcome : item.outcome ≡ Replied (Ok good) None) where
-    abbrev later : Object
-    later = after z.iface.facts v (next_call z.iface.facts stub.names r done fun) (Ok good)
-
     all : AreDrawn (held_in (length (b ∷ boots)) w.seats) (held_in (length (b ∷ boots)) w.seats)
     all = all_drawn z set w b boots (Some v) stub k
 

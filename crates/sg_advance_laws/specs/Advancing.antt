@@ -70,14 +70,15 @@ pub record IsNextOf (z : Setting) (w : WorldView) (stub : Stub) (id : ℕ) (row 
   pub walk : walk_in z.walks (Some row) ≡ Some (done ++ fun ∷ rest)
   pub told : TellsCalls (stub.told id) (length done)
 
--- the row of an id may be rebuilt by the next call of its walk: the service may be asked it under its ids, answers Ok, and writes no
--- file; and the first call of a walk is a creation, which gives the service's next id
+-- the row of an id isn't whole, and may be rebuilt by the next call of its walk: the service may be asked it under its ids, answers Ok,
+-- and writes no file; and the first call of a walk is a creation, which gives the service's next id
 pub record IsReady (z : Setting) (w : WorldView) (stub : Stub) (v : Object) (id : ℕ) : Type 0 where
   pub row : Row
   pub done : List ℕ
   pub rest : List ℕ
   pub fun : ℕ
   pub its : IsNextOf z w stub id row done rest fun
+  pub part : is_complete (stub.told id) ≡ false
   pub begun : stub.told id ≡ fresh → done ≡ []
   pub shown : call_in z.iface.facts row (length done + 1) (walk_in z.walks (Some row)) ≡ Some (replayed_call z.iface.facts row (is_none done) fun)
   pub fields : length row.fields ≤ 8
