@@ -1,0 +1,12 @@
+pub mod Admitted
+pub mod Advances
+pub mod Behind
+pub mod Counting
+pub mod Files
+pub mod Loading
+pub mod Noted
+pub mod Plain
+pub mod Rebuilding
+pub mod Replayed
+pub mod SameTold
+pub mod Waited
