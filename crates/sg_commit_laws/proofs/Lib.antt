@@ -1,5 +1,6 @@
 pub mod Alike
 pub mod Behind
 pub mod Counting
+pub mod Numbers
 pub mod Recovering
 pub mod Serving
