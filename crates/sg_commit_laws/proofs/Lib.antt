@@ -4,3 +4,4 @@ pub mod Counting
 pub mod Numbers
 pub mod Recovering
 pub mod Serving
+pub mod Traced
