@@ -24,13 +24,13 @@ use Rattle.sg_facts.specs.Object.{Object, object_of}
 use Rattle.sg_facts.specs.Trace.{Boot, Run}
 use Rattle.sg_held_laws.specs.Progress.{IsNone}
 use Rattle.sg_held_laws.proofs.Back.{named_or_none}
-use Rattle.sg_hist.specs.Reading.{Place, desc_in, desc_of, id_given, is_by_guard, is_item_of, is_tagged, items_of, names_at, places_from, places_in}
+use Rattle.sg_hist.specs.Reading.{Place, desc_in, desc_of, id_given, is_by_guard, is_item_of, is_tagged, names_at, places_from}
 use Rattle.sg_hist.specs.Recovered.{IsCommitted, IsReplyOf}
 use Rattle.sg_object_laws.specs.Waiting.{AreWaiting}
 use Rattle.sg_recovery_laws.specs.Growing.{AreKept, IsItemOf, IsLastCall, IsNextItem, IsRecovering, IsSameId, IsSettled, last_items, noted, older_items, place_behind}
 use Rattle.sg_recovery_laws.proofs.Given.{IsGiven, committed_given, given_same, is_numbered, names_same}
 use Rattle.sg_recovery_laws.proofs.InBoots.{place_is}
-use Rattle.sg_recovery_laws.proofs.Lists.{each_contains, each_map, each_split}
+use Rattle.sg_recovery_laws.proofs.Lists.{each_contains, each_map}
 use Rattle.sg_recovery_laws.proofs.Onward.{its_kept}
 use Rattle.sg_recovery_laws.proofs.Same.{IsSame, demanded_same, tracked_same, walked_same}
 use Rattle.sg_recovery_laws.proofs.Stays.{same_held}
@@ -43,17 +43,8 @@ use Rattle.sg_world_laws.specs.Setting.{IsSetting, Setting, stubs_of}
 use Rattle.sg_world_laws.proofs.Ahead.{served_ahead}
 use Rattle.sg_world_laws.proofs.Asked.{its_es, next_es, none_of, serves_call}
 use Rattle.sg_world_laws.proofs.Entering.{kept_with}
+use Rattle.sg_world_laws.proofs.Given.{front_items}
 use Rattle.sg_world_laws.proofs.Orders.{above_es, good_now}
-
--- what holds of the items of all places holds of those of the last boot
-items_in : (Q : Item → Type 0) (older front items newer : List Item) → Each (λ p. Q p.item) (places_in older front items newer) → Each Q items
-items_in Q older front [] newer all = tt
-items_in Q older front (x ∷ items) newer all = (all.0, items_in Q older (front ++ x ∷ []) items newer all.1)
-
-front_items : (Q : Item → Type 0) (older : List Item) (b : Boot) (boots : List Boot) → Each (λ p. Q p.item) (places_from older (b ∷ boots)) → Each Q (last_items (b ∷ boots))
-front_items Q older b [] all = items_in Q older [] b.items (items_of []) (each_split (λ p. Q p.item) (places_in older [] b.items (items_of [])) [] all).0
-front_items Q older b (c ∷ boots) all =
-    front_items Q (older ++ b.items) c boots (each_split (λ p. Q p.item) (places_in older [] b.items (items_of (c ∷ boots))) (places_from (older ++ b.items) (c ∷ boots)) all).1
 
 each_call : (P : Call → Type 0) (h : List Entry) → Each (λ e. P e.call) h → Each P (map (λ e. e.call) h)
 each_call P [] all = tt

@@ -13,7 +13,7 @@ use Rattle.sg_base.specs.declared.reply.Reply.TheVariants.{Ok, Refused}
 use Rattle.sg_commit_laws.specs.Serving.{IsServedCall}
 use Rattle.sg_commit_laws.proofs.Alike.{read_alike}
 use Rattle.sg_commit_laws.proofs.Behind.{apart_ok, apart_refused, names_by, patch_it, told_by}
-use Rattle.sg_commit_laws.proofs.Recovering.{given_es, given_pushed, own}
+use Rattle.sg_commit_laws.proofs.Recovering.{given_pushed, own}
 use Rattle.sg_facts.specs.declared.entry.Entry.{Entry}
 use Rattle.sg_facts.specs.declared.outcome.Outcome.{Outcome}
 use Rattle.sg_facts.specs.declared.outcome.Outcome.TheVariants.{Replied, Blocks, Stopped, NoMemory}
@@ -50,38 +50,8 @@ use Rattle.sg_walk_laws.proofs.Found.{from_more, other_test, within}
 use Rattle.sg_world_laws.specs.Keeping.{AreDrawn, Keeps, Stands, Stub, standing}
 use Rattle.sg_world_laws.specs.Setting.{IsSetting, Setting}
 use Rattle.sg_world_laws.proofs.Asked.{none_of}
+use Rattle.sg_world_laws.proofs.Given.{given_any, given_now}
 use Rattle.sg_world_laws.proofs.Orders.{good_now}
-
--- what gave a name has the id that its entry gives, whatever stands behind
-pub given_any : (facts : Facts) (h xs ys : List Entry) (front : List Item) → Each (IsGiven facts h) front → Each (IsSameId facts (h ++ xs) (h ++ ys)) front
-given_any facts h xs ys front all = each_map (IsGiven facts h) (IsSameId facts (h ++ xs) (h ++ ys)) front one all
-  where
-    found : (client seq : ℕ) (l : List Entry) → list_any (is_numbered client seq) l ≡ true → find (is_numbered client seq) (l ++ ys) ≡ find (is_numbered client seq) (l ++ xs)
-    found client seq [] any = absurd (cc any)
-    found client seq (x ∷ l) any = at (is_numbered client seq x) any (found client seq l)
-      where
-        at : (q : Bool) → (q || list_any (is_numbered client seq) l) ≡ true → (list_any (is_numbered client seq) l ≡ true → find (is_numbered client seq) (l ++ ys) ≡ find (is_numbered client seq) (l ++ xs))
-            → cond q (Some x) (find (is_numbered client seq) (l ++ ys)) ≡ cond q (Some x) (find (is_numbered client seq) (l ++ xs))
-        at true any rest = refl
-        at false any rest = rest any
-
-    own_id : (x : Item) (client seq : ℕ) → (fun_at facts.funs x.shown.fun).creation ≡ true → (b : Bool) → is_visible facts x.shown.fun ≡ b
-        → When (b && true) (list_any (is_numbered client seq) h ≡ true) → id_given (h ++ ys) client seq ≡ id_given (h ++ xs) client seq
-    own_id x client seq made true is given = ap desc_in (found client seq h given)
-    own_id x client seq made false is given = absurd (let e : true ≡ false = sym (made_visible facts x.shown.fun made) ∙ is in cc)
-
-    one : (x : Item) → IsGiven facts h x → IsSameId facts (h ++ xs) (h ++ ys) x
-    one x given = by x.tag x.outcome given
-      where
-        by : (tag : Tag) (outcome : Outcome) → When (is_clients tag && is_visible facts x.shown.fun && is_replied outcome) (HasEntry h tag)
-            → IsSameFor facts (h ++ xs) (h ++ ys) x.shown.fun tag outcome
-        by (Client client seq) (Replied (Ok good) patch) given = λ made. own_id x client seq made (is_visible facts x.shown.fun) refl given
-        by (Client client seq) (Replied (Refused code) patch) given = tt
-        by (Client client seq) Blocks given = tt
-        by (Client client seq) Stopped given = tt
-        by (Client client seq) NoMemory given = tt
-        by (Walk id k client) outcome given = tt
-        by (Load key client) outcome given = tt
 
 module _ (z : Setting) (set : IsSetting z) (w : WorldView) (b : Boot) (boots : List Boot) (v : Object) (stub : Stub) (k : Keeps z (standing w b boots (Some v)) stub)
     (call : Call) (item : Item) (reply other : Reply) (patch : Option Patch) (s : IsServedCall z (standing w b boots (Some v)) stub v call item reply other patch) where
@@ -112,11 +82,8 @@ module _ (z : Setting) (set : IsSetting z) (w : WorldView) (b : Boot) (boots : L
   abbrev creates : Bool
   creates = (fun_at z.iface.facts.funs call.fun).creation
 
-  pub no_drawn : AreDrawn (held_in (length (b ∷ boots)) w.seats) []
-  no_drawn = record { each = tt; apart = tt; few = omega arith }
-
-  pub given_h : Each (IsGiven z.iface.facts w.history) (last_items (b ∷ boots))
-  given_h = subst (λ l. Each (IsGiven facts l) front) (append-nil h) (given_es z set w b boots v stub k call item reply other patch s [] no_drawn)
+  given_h : Each (IsGiven z.iface.facts w.history) (last_items (b ∷ boots))
+  given_h = given_now z w b boots (Some v) stub k
 
   -- the names so far are the same, whatever stands behind the history
   pub names_any : (xs ys : List Entry) → names_at z.iface.facts (w.history ++ ys) (last_items (b ∷ boots)) ≡ names_at z.iface.facts (w.history ++ xs) (last_items (b ∷ boots))
