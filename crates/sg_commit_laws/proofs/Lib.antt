@@ -1,8 +1,11 @@
 pub mod Alike
 pub mod Behind
+pub mod Committed
 pub mod Counting
+pub mod Holding
 pub mod Noted
 pub mod Numbers
 pub mod Recovering
 pub mod Serving
+pub mod Telling
 pub mod Traced

@@ -42,6 +42,14 @@ pub length_noted : (b : Boot) (boots : List Boot) (item : Item) → length (note
 length_noted b [] item = refl
 length_noted b (c ∷ boots) item = ap suc (length_noted c boots item)
 
+-- a world by its history, its boots and its service
+abbrev pub spelt : WorldView → List Entry → List Boot → Option Object → WorldView
+spelt w history boots running = record w { history = history; run = record { boots = boots; points = w.run.points }; running = running }
+
+pub spelt_is : (w : WorldView) (history : List Entry) (boots : List Boot) (running : Option Object) → w.history ≡ history → w.run.boots ≡ boots → w.running ≡ running → w ≡ spelt w history boots running
+spelt_is w history boots running same_history same_boots same_running =
+    ap (λ l. spelt w l w.run.boots w.running) same_history ∙ ap (λ l. spelt w history l w.running) same_boots ∙ ap (spelt w history boots) same_running
+
 none_front : (item : Item) (xs ys : List Entry) → IsOfNoEntry item (xs ++ ys) → IsOfNoEntry item xs
 none_front item [] ys none = tt
 none_front item (x ∷ xs) ys none = (none.0, none_front item xs ys none.1)

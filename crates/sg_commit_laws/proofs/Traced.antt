@@ -90,7 +90,7 @@ module _ (z : Setting) (set : IsSetting z) (w : WorldView) (b : Boot) (boots : L
   names_any xs ys = names_same facts (h ++ xs) (h ++ ys) front (given_any facts h xs ys front given_h)
 
   -- what the item itself names
-  item_names : (later : List Entry) → names_in z.iface.facts later item.shown.fun item.tag item.outcome ≡ cond creates (pair_of (id_given later call.client call.seq) (Replied other patch)) []
+  pub item_names : (later : List Entry) → names_in z.iface.facts later item.shown.fun item.tag item.outcome ≡ cond creates (pair_of (id_given later call.client call.seq) (Replied other patch)) []
   item_names later =
       ap (λ t. names_in facts later item.shown.fun t item.outcome) s.replied.asked.tag
       ∙ ap (λ (c : Call). cond (fun_at facts.funs c.fun).creation (pair_of (id_given later call.client call.seq) item.outcome) []) s.replied.asked.shown
