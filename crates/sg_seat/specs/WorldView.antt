@@ -1,7 +1,8 @@
 -- The world as plain data, and the small changes that its events are made of.
-use Rattle.std.specs.Prelude.{ℕ, ◌+◌, ◌-◌, ◌==◌, ◌&&◌, ◌||◌, Bool, true, false, if◌then◌else◌, List, [], ◌∷◌, ◌++◌, None, Some, length, map, slice_get, slice_set, unwrap_or}
+use Rattle.std.specs.Prelude.{ℕ, ◌+◌, ◌-◌, ◌==◌, ◌&&◌, ◌||◌, Bool, true, false, if◌then◌else◌, List, [], ◌∷◌, ◌++◌, None, Some, length, map, min, slice_get, slice_set, unwrap_or}
 use Rattle.std.specs.List.{flat_map}
 use Rattle.std.specs.declared.option.Option.{Option}
+use Rattle.sg_base.specs.Counts.{last_count}
 use Rattle.sg_base.specs.declared.call.Call.{Call}
 use Rattle.sg_base.specs.declared.reply.Reply.{Reply}
 use Rattle.sg_base.specs.declared.reply.Reply.TheVariants.{Ok, Refused}
@@ -15,7 +16,7 @@ use Rattle.sg_facts.specs.Track.{ends_with}
 use Rattle.sg_recovery_laws.specs.Growing.{booted, noted, struck}
 use Rattle.sg_seat.specs.declared.mark.Mark.{Mark}
 use Rattle.sg_seat.specs.declared.mark.MarkKind.{MarkKind}
-use Rattle.sg_seat.specs.declared.mark.MarkKind.TheVariants.{Offer, Entry as IsEntered, Withdraw}
+use Rattle.sg_seat.specs.declared.mark.MarkKind.TheVariants.{Offer, Entry as IsEntered, Answer, Withdraw, Leave}
 use Rattle.sg_seat.specs.declared.phase.Phase.{Phase}
 use Rattle.sg_seat.specs.declared.phase.Phase.TheVariants.{Idle, Asked, Held, Receipted, Blocked, Left}
 use Rattle.sg_seat.specs.declared.withdrawn.Withdrawn.{Withdrawn}
@@ -44,12 +45,15 @@ pub record WorldView : Type 0 where
 
 -- ---- seats
 
-abbrev no_call : Call
+abbrev pub no_call : Call
 no_call = record { client = 0; seq = 0; fun = 0; desc = 0; args = [] }
+
+abbrev pub no_reply : Reply
+no_reply = Ok (record { desc = 0; words = []; bytes = [] })
 
 -- a seat of nobody
 abbrev pub no_seat : Seat
-no_seat = record { phase = Idle; call = no_call; seq = 0; boot = 0; reply = Ok (record { desc = 0; words = []; bytes = [] }) }
+no_seat = record { phase = Idle; call = no_call; seq = 0; boot = 0; reply = no_reply }
 
 -- the seat of a client
 abbrev pub seat_of : WorldView → ℕ → Seat
@@ -142,9 +146,33 @@ committed facts w e = record (with_mark w e.call.client IsEntered) {
   seats = map (woken_seat (wakes_seat facts (object_of facts w.history).rows e.call e.reply)) w.seats;
 }
 
--- its client has it then as its last, in a phase
-abbrev pub given_to : WorldView → Entry → Phase → WorldView
-given_to w e phase = with_seat w e.call.client (record (seat_of w e.call.client) { phase = phase; seq = e.call.seq; reply = e.reply })
+-- its client has it then as its last, with its reply to be handed over
+abbrev pub given_to : WorldView → Entry → WorldView
+given_to w e = with_seat w e.call.client (record (seat_of w e.call.client) { phase = Receipted; seq = e.call.seq; reply = e.reply })
+
+-- or with its reply handed over at once
+abbrev pub answered_to : WorldView → Entry → WorldView
+answered_to w e = with_mark (with_seat w e.call.client (record (seat_of w e.call.client) { phase = Idle; seq = e.call.seq; reply = no_reply })) e.call.client Answer
+
+-- a client's reply is handed over
+abbrev pub handed_over : WorldView → ℕ → WorldView
+handed_over w client = with_mark (with_seat w client (record (seat_of w client) { phase = Idle; reply = no_reply })) client Answer
+
+abbrev pub is_left_phase : Phase → Bool
+is_left_phase Left = true
+is_left_phase Idle = false
+is_left_phase Asked = false
+is_left_phase Held = false
+is_left_phase Receipted = false
+is_left_phase Blocked = false
+
+-- a client leaves; nothing happens to one that has left
+abbrev pub left_by : WorldView → ℕ → WorldView
+left_by w client = if is_left_phase (seat_of w client).phase then w else with_mark (in_phase w client Left) client Leave
+
+-- an event was made, also one that wanted memory
+abbrev pub happened : WorldView → WorldView
+happened w = record w { events = min (w.events + 1) last_count }
 
 -- an item is noted
 abbrev pub item_noted : WorldView → Item → WorldView

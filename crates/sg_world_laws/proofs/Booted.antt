@@ -1,12 +1,14 @@
 -- The world keeps what it keeps where the service is booted afresh: it is empty, nothing is told of any row, and who waited is asked.
 
 -- an empty service stands at the beginning of a recovery
-use Rattle.std.proofs.Common.{List, None, Some, [], ap, append-nil, arith, false, inl, length, length-append, map, refl, subst, sym, true, ℕ, ◌++◌, ◌+◌, ◌==◌, ◌∙◌, ◌∷◌, ◌≡◌}
+use Rattle.std.proofs.Common.{Bool, List, None, Some, [], ap, append-nil, arith, false, inl, length, length-append, map, refl, subst, sym, true, ℕ, ◌++◌, ◌+◌, ◌==◌, ◌∙◌, ◌∷◌, ◌≡◌}
+use Rattle.std.proofs.Math.ListN.{set}
 use Rattle.std.specs.List.{list_any}
 use Rattle.sg_base.specs.Lists.{Each}
 use Rattle.sg_boot.proofs.Keeping.{kept_booted}
 use Rattle.sg_boot.proofs.LastBoot.{items_booted}
 use Rattle.sg_facts.specs.Interface.{Declared}
+use Rattle.sg_facts.specs.Laws.{whole}
 use Rattle.sg_facts.specs.Object.{Object, empty_object, object_from, object_of}
 use Rattle.sg_facts.specs.Sound.{IsSound}
 use Rattle.sg_facts.specs.Trace.{Boot}
@@ -15,26 +17,32 @@ use Rattle.sg_facts.specs.declared.tables.WalkLine.{WalkLine}
 use Rattle.sg_facts.specs.declared.trace.Item.{Item}
 use Rattle.sg_held_laws.proofs.Numbers.{few_rows, sum_fresh}
 use Rattle.sg_held_laws.specs.Numbers.{AreNumbers, left_of, unbegun}
-use Rattle.sg_held_laws.specs.Progress.{IsInRecovery, fresh}
+use Rattle.sg_held_laws.specs.Progress.{HasFile, IsInRecovery, fresh}
 use Rattle.sg_hist.specs.Reading.{names_at}
+use Rattle.sg_hist.specs.Recovered.{waiting}
 use Rattle.sg_object_laws.proofs.Steady.{ascends}
 use Rattle.sg_object_laws.specs.Waiting.{AreWaiting}
 use Rattle.sg_recovery_laws.proofs.InBoots.{boots_booted}
 use Rattle.sg_recovery_laws.proofs.Onward.{booted_stays}
 use Rattle.sg_recovery_laws.specs.Growing.{IsInLast, IsRecovering, booted, last_items, older_items}
 use Rattle.sg_seat.specs.WorldView.{Seat, WorldView, held_in, unanswered, woken_seat}
+use Rattle.sg_trace_laws.proofs.Reading.{unnamed}
 use Rattle.sg_trace_laws.specs.LastPlace.{HaveItems}
 use Rattle.sg_trace_laws.specs.Told.{IsRead}
+use Rattle.sg_track.proofs.KeptLists.{read}
+use Rattle.sg_walk_laws.proofs.Apart.{apart}
+use Rattle.sg_walk_laws.proofs.Files.{told}
+use Rattle.sg_walk_laws.proofs.Found.{above}
 use Rattle.sg_world_laws.proofs.Struck.{no_drawn, none_drawn}
 use Rattle.sg_world_laws.proofs.Woken.{held_woken, none_held, offered_woken, seats_woken}
 use Rattle.sg_world_laws.specs.Keeping.{AreDrawn, Keeps, MayEnter, Stub, standing}
 use Rattle.sg_world_laws.specs.Setting.{IsSetting, Setting, stubs_of}
 
-pub begins : (i : Declared) (walks : List WalkLine) (o : Object) → IsSound i.facts empty_object → IsInRecovery i walks [] (λ id. fresh) (λ path. false) o empty_object
-begins i walks o empty = record {
+pub begins : (i : Declared) (walks : List WalkLine) (o : Object) (present : List ℕ → Bool) → ((path : List ℕ) → present path ≡ false) → IsSound i.facts empty_object → IsInRecovery i walks [] (λ id. fresh) present o empty_object
+begins i walks o present absent empty = record {
   holds = record { names_are = record { none = refl; apart = λ a b same. inl refl }; held_sound = empty; given = λ id. omega arith; each = tt };
   rows = λ r there. refl;
-  files = λ path. refl;
+  files = λ path. subst (λ b. HasFile b path o empty_object) (sym (absent path)) refl;
 }
 
 older_booted : (before : List Item) (b : Boot) (boots : List Boot) → older_items before (booted (b ∷ boots)) ≡ older_items before (b ∷ boots) ++ last_items (b ∷ boots)
@@ -101,7 +109,7 @@ module _ (z : Setting) (set : IsSetting z) (w : WorldView) (b : Boot) (boots : L
     stands = record {
       numbers = numbers_now (held_in (length (booted (b ∷ boots))) (map (woken_seat (λ call. true)) w.seats)) none_now;
       named_live = λ id. inl refl;
-      in_recovery = begins z.iface z.walks (object_from z.iface.facts (object_of z.iface.facts w.history) (held_in (length (booted (b ∷ boots))) (map (woken_seat (λ call. true)) w.seats))) (set.law.keeps.general empty_object set.law.keeps.empty);
+      in_recovery = begins z.iface z.walks (object_from z.iface.facts (object_of z.iface.facts w.history) (held_in (length (booted (b ∷ boots))) (map (woken_seat (λ call. true)) w.seats))) (λ path. false) (λ path. refl) (set.law.keeps.general empty_object set.law.keeps.empty);
       read = λ es drawn. read_fresh es (older_items [] (booted (b ∷ boots))) (last_items (booted (b ∷ boots))) (items_booted (b ∷ boots));
       unnamed = λ es drawn id above. ap (λ f. list_any (λ (n : ℕ × ℕ). n.0 == id) (names_at z.iface.facts (w.history ++ es) f)) (items_booted (b ∷ boots));
     };

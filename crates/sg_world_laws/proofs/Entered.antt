@@ -3,6 +3,7 @@ use Rattle.std.proofs.Common.{Bool, List, Some, [], ap, append-nil, append_assoc
 use Rattle.std.proofs.lemmas.List.Elements.{filter-append}
 use Rattle.sg_base.specs.Lists.{Each}
 use Rattle.sg_base.specs.declared.call.Call.{Call}
+use Rattle.sg_base.specs.declared.reply.Reply.{Reply}
 use Rattle.sg_facts.specs.Laws.{slow}
 use Rattle.sg_facts.specs.Legal.{answer}
 use Rattle.sg_facts.specs.Object.{object_of}
@@ -51,28 +52,28 @@ numbers_below before (e ∷ h) client numbered =
         let next : e.call.seq ≡ length (calls_of before client) + 1 = numbered.0 ∙ ap (λ c. length (calls_of before c) + 1) its in
         omega (arith, all, one, next)
 
--- a phase in which a client has an answered call
-abbrev pub IsAnsweredPhase : Phase → Type 0
-IsAnsweredPhase Idle = Unit {0}
-IsAnsweredPhase Receipted = Unit {0}
-IsAnsweredPhase Asked = ⊥
-IsAnsweredPhase Held = ⊥
-IsAnsweredPhase Blocked = ⊥
-IsAnsweredPhase Left = ⊥
+-- a client has an answered call: its reply is handed over, or to be handed over
+abbrev pub IsAnsweredSeat : Reply → Phase → Reply → Type 0
+IsAnsweredSeat given Idle reply = Unit {0}
+IsAnsweredSeat given Receipted reply = reply ≡ given
+IsAnsweredSeat given Asked reply = ⊥
+IsAnsweredSeat given Held reply = ⊥
+IsAnsweredSeat given Blocked reply = ⊥
+IsAnsweredSeat given Left reply = ⊥
 
 module _ (z : Setting) (set : IsSetting z) (h : List Entry) (withdrawn : List Withdrawn) (boots : ℕ) (front back : List Seat) (s : Seat) (have : HaveSeats z h withdrawn boots (front ++ s ∷ back))
     (object : IsSettledObject z h) (e : Entry) (its : e.call.client ≡ length front + 1) (next : e.call.seq ≡ s.seq + 1) (fits : e.call.seq < 2 ^ 32) (own : s.call ≡ e.call)
-    (answered : answer z.iface z.ask (object_of z.iface.facts h) e.call ≡ Some e.reply) (may : MayMake z.iface e.call) (phase : Phase) (done : IsAnsweredPhase phase) where
+    (answered : answer z.iface z.ask (object_of z.iface.facts h) e.call ≡ Some e.reply) (may : MayMake z.iface e.call) (phase : Phase) (reply : Reply) (done : IsAnsweredSeat e.reply phase reply) where
   abbrev test : Call → Bool
   test = wakes_seat z.iface.facts (object_of z.iface.facts h).rows e.call e.reply
 
   abbrev new : Seat
-  new = record s { phase = phase; seq = e.call.seq; reply = e.reply }
+  new = record s { phase = phase; seq = e.call.seq; reply = reply }
 
   far_h : slow + length h + 256 < 2 ^ 63
   far_h = let many = far z h withdrawn boots (front ++ s ∷ back) have in omega (arith, many)
 
-  new_seated : IsSeated z (h ++ e ∷ []) (length front + 1) (record s { phase = phase; seq = e.call.seq; reply = e.reply })
+  new_seated : IsSeated z (h ++ e ∷ []) (length front + 1) (record s { phase = phase; seq = e.call.seq; reply = reply })
   new_seated = by phase done
     where
       count : e.call.seq ≡ length (calls_of (h ++ e ∷ []) (length front + 1))
@@ -81,14 +82,14 @@ module _ (z : Setting) (set : IsSetting z) (h : List Entry) (withdrawn : List Wi
           let more : length (calls_of (h ++ e ∷ []) (length front + 1)) ≡ length (calls_of h (length front + 1)) + 1 = ap length (own_calls h e (length front + 1) its) ∙ length-append (calls_of h (length front + 1)) (e ∷ []) in
           omega (arith, was, more, next)
 
-      by : (p : Phase) → IsAnsweredPhase p → IsSeated z (h ++ e ∷ []) (length front + 1) (record s { phase = p; seq = e.call.seq; reply = e.reply })
+      by : (p : Phase) → IsAnsweredSeat e.reply p reply → IsSeated z (h ++ e ∷ []) (length front + 1) (record s { phase = p; seq = e.call.seq; reply = reply })
       by Idle is = record { its = λ isn't. absurd (cc isn't); next = λ isn't. absurd (cc isn't); may = λ isn't. absurd (cc isn't); waits = λ isn't. absurd (cc isn't); receipt = λ isn't. absurd (cc isn't); count = count; few = fits }
       by Receipted is = record {
         its = λ isn't. absurd (cc isn't);
         next = λ isn't. absurd (cc isn't);
         may = λ isn't. absurd (cc isn't);
         waits = λ isn't. absurd (cc isn't);
-        receipt = λ one. ap last_of (own_calls h e (length front + 1) its) ∙ last_push (calls_of h (length front + 1)) e ∙ ap (λ c. Some (record { call = c; reply = e.reply })) (sym own);
+        receipt = λ one. ap last_of (own_calls h e (length front + 1) its) ∙ last_push (calls_of h (length front + 1)) e ∙ ap (λ c. Some (record { call = c; reply = e.reply })) (sym own) ∙ ap (λ r. Some (record { call = s.call; reply = r })) (sym is);
         count = count;
         few = fits;
       }
@@ -107,7 +108,7 @@ module _ (z : Setting) (set : IsSetting z) (h : List Entry) (withdrawn : List Wi
         others (client + 1) seats (λ k less same. apart (suc k) (omega (arith, less)) (omega (arith, same))) all.2,
       )
 
-  pub seats_entered : HaveSeats z (h ++ e ∷ []) withdrawn boots (map (woken_seat (wakes_seat z.iface.facts (object_of z.iface.facts h).rows e.call e.reply)) front ++ record s { phase = phase; seq = e.call.seq; reply = e.reply }
+  pub seats_entered : HaveSeats z (h ++ e ∷ []) withdrawn boots (map (woken_seat (wakes_seat z.iface.facts (object_of z.iface.facts h).rows e.call e.reply)) front ++ record s { phase = phase; seq = e.call.seq; reply = reply }
       ∷ map (woken_seat (wakes_seat z.iface.facts (object_of z.iface.facts h).rows e.call e.reply)) back)
   seats_entered =
       let parts = seated_split z h withdrawn 1 front (s ∷ back) have.each in
@@ -136,6 +137,6 @@ module _ (z : Setting) (set : IsSetting z) (h : List Entry) (withdrawn : List Wi
         boots_few = each_append (λ x. x.boot ≤ boots) (map (woken_seat test) front) (new ∷ map (woken_seat test) back) (few_woken boots test front b.0) (b.1.0, few_woken boots test back b.1.1);
       }
     where
-      gone_new : AreGone withdrawn (length front + 1) (record s { phase = phase; seq = e.call.seq; reply = e.reply })
+      gone_new : AreGone withdrawn (length front + 1) (record s { phase = phase; seq = e.call.seq; reply = reply })
       gone_new = each_map (λ x. x.call.client ≡ length front + 1 → x.call.seq ≤ s.seq + 1) (λ x. x.call.client ≡ length front + 1 → x.call.seq ≤ e.call.seq + 1) withdrawn
           (λ x so own_it. let less = so own_it in omega (arith, less, next)) (gone_is z h withdrawn boots front back s have)

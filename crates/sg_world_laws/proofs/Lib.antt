@@ -1,5 +1,6 @@
 pub mod Ahead
 pub mod Asked
+pub mod Begun
 pub mod Booted
 pub mod Drawn
 pub mod Entered
@@ -7,6 +8,7 @@ pub mod Entering
 pub mod Given
 pub mod Items
 pub mod LetIn
+pub mod Moves
 pub mod Onseat
 pub mod Orders
 pub mod Refusing
@@ -15,5 +17,6 @@ pub mod Returned
 pub mod Seating
 pub mod Split
 pub mod Struck
+pub mod Turns
 pub mod Waits
 pub mod Woken
