@@ -1,5 +1,5 @@
 -- Only look-ups count: a world keeps what it keeps under stubs that tell the same.
-use Rattle.std.proofs.Common.{◌≡◌, ℕ, ◌+◌, ◌*◌, ◌≤◌, Bool, true, List, [], ◌∷◌, ◌++◌, None, Some, length, filter, refl, sym, ◌∙◌, ap, subst, inl, inr, ◌⊎◌}
+use Rattle.std.proofs.Common.{◌≡◌, ℕ, ◌+◌, ◌*◌, ◌≤◌, Bool, true, List, [], ◌∷◌, ◌++◌, None, Some, length, filter, refl, sym, ◌∙◌, ap, subst, inl, inr}
 use Rattle.std.specs.declared.option.Option.{Option}
 use Rattle.sg_commit_laws.specs.Telling.{TellSame}
 use Rattle.sg_facts.specs.declared.entry.Entry.{Entry}
@@ -19,7 +19,7 @@ use Rattle.sg_hist.specs.Recovered.{is_walk_of}
 use Rattle.sg_recovery_laws.specs.Growing.{last_items, older_items}
 use Rattle.sg_seat.specs.WorldView.{WorldView, held_replies}
 use Rattle.sg_trace_laws.specs.Told.{IsRead}
-use Rattle.sg_world_laws.specs.Keeping.{AreDrawn, Keeps, Stands, StandsIn, Stub}
+use Rattle.sg_world_laws.specs.Keeping.{Keeps, Stands, StandsIn, Stub}
 use Rattle.sg_world_laws.specs.Setting.{Setting}
 
 -- what is told of each row comes to the same sum

@@ -1,7 +1,6 @@
 -- The object behind a served call, with and without the held replies, and how the service stands for it.
-use Rattle.std.proofs.Common.{◌≡◌, ℕ, zero, suc, ◌+◌, ◌^◌, ◌<◌, ◌≤◌, Bool, true, false, cond, List, [], ◌∷◌, ◌++◌, None, Some, length, refl, sym, ◌∙◌, ap, subst, inl, inr, ◌⊎◌, arith}
+use Rattle.std.proofs.Common.{◌≡◌, ℕ, suc, ◌+◌, ◌≤◌, Bool, true, false, List, ◌∷◌, Some, length, refl, ◌∙◌, ap, subst, arith}
 use Rattle.std.specs.declared.option.Option.{Option}
-use Rattle.sg_base.specs.Lists.{Each}
 use Rattle.sg_base.specs.declared.call.Call.{Call}
 use Rattle.sg_base.specs.declared.reply.Code.{Code}
 use Rattle.sg_base.specs.declared.reply.Good.{Good}
@@ -14,7 +13,6 @@ use Rattle.sg_facts.specs.declared.outcome.Patch.{Patch}
 use Rattle.sg_facts.specs.declared.trace.Item.{Item}
 use Rattle.sg_facts.specs.Alike.{SameReply, named, under_names}
 use Rattle.sg_facts.specs.Facts.{Facts, fun_at}
-use Rattle.sg_facts.specs.Legal.{Table}
 use Rattle.sg_facts.specs.Object.{Object, after, object_from, object_of, patch_of}
 use Rattle.sg_facts.specs.Sound.{IsSound}
 use Rattle.sg_facts.specs.Trace.{Boot}

@@ -1,7 +1,7 @@
 -- The world keeps what it keeps when a call of a client is served and committed with its item.
-use Rattle.std.proofs.Common.{◌≡◌, ℕ, zero, suc, ◌+◌, ◌<◌, ◌≤◌, Bool, true, false, List, [], ◌∷◌, ◌++◌, None, Some, length, length-append, refl, sym, ◌∙◌, ap, subst, inl, inr, ◌⊎◌, append_assoc, append-nil, arith}
+use Rattle.std.proofs.Common.{◌≡◌, ℕ, ◌+◌, ◌<◌, true, false, List, [], ◌∷◌, ◌++◌, None, Some, length, length-append, refl, sym, ◌∙◌, ap, subst, inl, inr, append_assoc, append-nil, arith}
 use Rattle.std.specs.Prelude.{◌==◌, ◌||◌}
-use Rattle.std.specs.List.{Contains, list_any}
+use Rattle.std.specs.List.{list_any}
 use Rattle.std.specs.declared.option.Option.{Option}
 use Rattle.sg_base.specs.Lists.{Each}
 use Rattle.sg_base.specs.declared.call.Call.{Call}
@@ -19,14 +19,14 @@ use Rattle.sg_facts.specs.declared.entry.Entry.{Entry}
 use Rattle.sg_facts.specs.declared.outcome.Patch.{Patch}
 use Rattle.sg_facts.specs.declared.trace.Item.{Item}
 use Rattle.sg_facts.specs.Alike.{named, under_names}
-use Rattle.sg_facts.specs.Facts.{Facts, fun_at}
+use Rattle.sg_facts.specs.Facts.{Facts}
 use Rattle.sg_facts.specs.Guard.{guard}
-use Rattle.sg_facts.specs.Legal.{LegalFrom, Table, refused_or}
-use Rattle.sg_facts.specs.Object.{Object, after, empty_object, given_after, object_from, object_of, patch_of}
-use Rattle.sg_facts.specs.Trace.{Boot, Run}
+use Rattle.sg_facts.specs.Legal.{refused_or}
+use Rattle.sg_facts.specs.Object.{Object, after, empty_object, object_from, object_of, patch_of}
+use Rattle.sg_facts.specs.Trace.{Boot}
 use Rattle.sg_facts.specs.Track.{is_live}
 use Rattle.sg_held_laws.specs.Numbers.{AreNumbers}
-use Rattle.sg_held_laws.specs.Progress.{IsInRecovery, Told}
+use Rattle.sg_held_laws.specs.Progress.{IsInRecovery}
 use Rattle.sg_held_laws.specs.Stepping.{present_with}
 use Rattle.sg_held_laws.proofs.Dropped.{under_dropped}
 use Rattle.sg_held_laws.proofs.Glue.{under_named}
@@ -34,11 +34,10 @@ use Rattle.sg_hist.specs.Reading.{is_by_guard, is_item_of, names_at}
 use Rattle.sg_object_laws.specs.Waiting.{AreWaiting, NoneBy}
 use Rattle.sg_object_laws.proofs.Guarded.{acts}
 use Rattle.sg_object_laws.proofs.Waiting.{hidden_is}
-use Rattle.sg_recovery_laws.specs.Growing.{IsInLast, IsNextItem, IsRecovering, last_items, noted, older_items, place_behind}
+use Rattle.sg_recovery_laws.specs.Growing.{IsInLast, IsNextItem, last_items, noted, older_items, place_behind}
 use Rattle.sg_recovery_laws.proofs.InBoots.{boots_appended, older_noted}
 use Rattle.sg_recovery_laws.proofs.Lists.{each_append, each_map}
 use Rattle.sg_seat.specs.WorldView.{WorldView, held_in, unanswered}
-use Rattle.sg_trace_laws.specs.LastPlace.{HaveItems}
 use Rattle.sg_trace_laws.specs.Told.{IsRead}
 use Rattle.sg_world_laws.specs.Keeping.{AreDrawn, Keeps, MayEnter, Stands, Stub, standing}
 use Rattle.sg_world_laws.specs.Seats.{HaveSeats, MayMake}

@@ -1,11 +1,10 @@
 -- The world keeps what it keeps when a call of a client is served and its reply is held.
-use Rattle.std.proofs.Common.{◌≡◌, ℕ, zero, suc, ◌+◌, ◌<◌, ◌≤◌, Bool, true, false, cond, List, [], ◌∷◌, ◌++◌, None, Some, length, refl, sym, ◌∙◌, ap, subst, inl, inr, ◌⊎◌, append_assoc, append-nil, arith}
+use Rattle.std.proofs.Common.{◌≡◌, ℕ, suc, ◌<◌, ◌≤◌, Bool, true, false, cond, List, [], ◌∷◌, ◌++◌, None, Some, length, refl, sym, ◌∙◌, ap, subst, inl, inr, append_assoc, append-nil, arith}
 use Rattle.std.specs.Prelude.{◌==◌, ◌||◌, ◌&&◌, ◌≢◌}
 use Rattle.std.specs.List.{Contains, list_any}
 use Rattle.std.specs.declared.option.Option.{Option}
 use Rattle.sg_base.specs.Lists.{Each}
 use Rattle.sg_base.specs.declared.call.Call.{Call}
-use Rattle.sg_base.specs.declared.reply.Good.{Good}
 use Rattle.sg_base.specs.declared.reply.Reply.{Reply}
 use Rattle.sg_base.specs.declared.reply.Reply.TheVariants.{Ok, Refused}
 use Rattle.sg_commit_laws.specs.Serving.{IsHeldBy, IsServedCall}
@@ -14,6 +13,7 @@ use Rattle.sg_commit_laws.proofs.Behind.{answered_it, moved, names_by, patch_it,
 use Rattle.sg_commit_laws.proofs.Noted.{cell_noted, held_noted, in_boots_noted, items_noted, last_noted, length_noted, own_noted, spelt_is}
 use Rattle.sg_commit_laws.proofs.Numbers.{numbers_served}
 use Rattle.sg_commit_laws.proofs.Recovering.{hidden_held, item_es, last_es, next_old, own, served_it}
+use Rattle.sg_commit_laws.proofs.Storing.{hidden_writes_none}
 use Rattle.sg_commit_laws.proofs.Traced.{item_names, names_any, read_plain}
 use Rattle.sg_facts.specs.declared.entry.Entry.{Entry}
 use Rattle.sg_facts.specs.declared.outcome.Outcome.TheVariants.{Replied}
@@ -21,21 +21,19 @@ use Rattle.sg_facts.specs.declared.outcome.Patch.{Patch}
 use Rattle.sg_facts.specs.declared.trace.Item.{Item}
 use Rattle.sg_facts.specs.Alike.{named, under_names}
 use Rattle.sg_facts.specs.Facts.{Facts, fun_at, is_visible}
-use Rattle.sg_facts.specs.Guard.{guard}
 use Rattle.sg_facts.specs.Legal.{Table}
 use Rattle.sg_facts.specs.Limits.{last_client}
 use Rattle.sg_facts.specs.Object.{Object, after, object_from, object_of, patch_of}
 use Rattle.sg_facts.specs.Trace.{Boot, Run}
 use Rattle.sg_held_laws.specs.Numbers.{AreNumbers}
-use Rattle.sg_held_laws.specs.Progress.{IsInRecovery, Told, complete}
+use Rattle.sg_held_laws.specs.Progress.{IsInRecovery, complete}
 use Rattle.sg_held_laws.specs.Stepping.{present_with}
 use Rattle.sg_held_laws.proofs.Glue.{under_named}
-use Rattle.sg_hist.specs.Reading.{Place, entries_before, id_given, is_by_guard, is_item_of, is_ok, item_of, names_at, pair_of}
+use Rattle.sg_hist.specs.Reading.{Place, entries_before, id_given, is_ok, item_of, names_at, pair_of}
 use Rattle.sg_hist.specs.Recovered.{GivesEntry, is_clients, is_patch_at, is_replied, is_visible_reply}
-use Rattle.sg_object_laws.specs.Serving.{HasTime, IsAnsweredAt}
 use Rattle.sg_object_laws.specs.Waiting.{AreWaiting, IsWaiting, NoneBy}
 use Rattle.sg_object_laws.proofs.Waiting.{hidden_is}
-use Rattle.sg_recovery_laws.specs.Growing.{AreKept, IsGrown, IsHeldReply, IsInLast, IsItemOf, IsNextItem, IsOfNoEntry, IsRecovering, last_items, noted, older_items, place_behind}
+use Rattle.sg_recovery_laws.specs.Growing.{AreKept, IsGrown, IsInLast, IsNextItem, IsOfNoEntry, IsRecovering, last_items, noted, older_items, place_behind}
 use Rattle.sg_recovery_laws.proofs.Events.{own_item}
 use Rattle.sg_recovery_laws.proofs.Growing.{entries_before-more, names_at-more, places-more}
 use Rattle.sg_recovery_laws.proofs.InBoots.{older_noted}
@@ -53,7 +51,7 @@ use Rattle.sg_world_laws.proofs.Asked.{its_es, next_es, none_of}
 use Rattle.sg_world_laws.proofs.Drawn.{committed_same, waiting_apart, waiting_without}
 use Rattle.sg_world_laws.proofs.Entering.{kept_all, kept_with}
 use Rattle.sg_world_laws.proofs.Orders.{good_now, held_few, time_now}
-use Rattle.sg_world_laws.proofs.Split.{IsSplit, drawn_either}
+use Rattle.sg_world_laws.proofs.Split.{drawn_either}
 use Rattle.sg_world_laws.proofs.Struck.{no_drawn}
 
 each_put : (P : Entry → Type 0) (front back : List Entry) (e : Entry) → Each P (front ++ back) → P e → Each P (front ++ e ∷ back)
@@ -188,11 +186,7 @@ module _ (z : Setting) (set : IsSetting z) (w : WorldView) (b : Boot) (boots : L
   -- ---- the trace
 
   no_patch : patch ≡ None
-  no_patch = patch_it z set w b boots v stub k call item reply other patch s ∙ no_file reply
-    where
-      no_file : (r : Reply) → patch_of facts o call r ≡ None
-      no_file (Refused code) = refl
-      no_file (Ok g) = let none = (hidden_is facts call.fun hidden).no_file in rw (none) refl
+  no_patch = hidden_writes_none z set w b boots v stub k call item reply other patch s hidden
 
   read_at : (xs ys : List Entry) → AreDrawn ws xs → ((p q : Place) → IsGrown item p q → entries_before (w.history ++ ys) q ≡ entries_before (w.history ++ xs) p)
       → IsRead facts z.walks (w.history ++ ys) (older_items [] (b ∷ boots)) (last_items (b ∷ boots) ++ item ∷ []) stub.names stub.told stub.present o.rows

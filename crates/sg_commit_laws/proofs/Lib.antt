@@ -7,5 +7,6 @@ pub mod Noted
 pub mod Numbers
 pub mod Recovering
 pub mod Serving
+pub mod Storing
 pub mod Telling
 pub mod Traced

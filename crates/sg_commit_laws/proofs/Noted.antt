@@ -1,5 +1,5 @@
 -- The item of a served call in the running boot: whose item stood there stands there still, and the service holds what it made.
-use Rattle.std.proofs.Common.{◌≡◌, ℕ, suc, ◌+◌, Bool, true, false, List, [], ◌∷◌, ◌++◌, None, Some, length, refl, sym, ◌∙◌, ap, subst, append_assoc, append-nil, arith}
+use Rattle.std.proofs.Common.{◌≡◌, ℕ, suc, Bool, true, false, List, [], ◌∷◌, ◌++◌, Some, length, refl, sym, ◌∙◌, ap, append_assoc}
 use Rattle.std.specs.Prelude.{◌||◌}
 use Rattle.std.specs.List.{list_any}
 use Rattle.std.specs.declared.option.Option.{Option}
@@ -21,7 +21,7 @@ use Rattle.sg_facts.specs.declared.trace.Tag.TheVariants.{Walk, Load, Client}
 use Rattle.sg_facts.specs.Alike.{under_names}
 use Rattle.sg_facts.specs.Object.{Object, after}
 use Rattle.sg_facts.specs.Trace.{Boot}
-use Rattle.sg_hist.specs.Reading.{after_item, given_by, is_by_guard, is_item_of}
+use Rattle.sg_hist.specs.Reading.{given_by, is_by_guard, is_item_of}
 use Rattle.sg_hist.specs.Recovered.{AreInBoots, is_stopped}
 use Rattle.sg_recovery_laws.specs.Growing.{IsInLast, IsOfNoEntry, last_items, noted, older_items}
 use Rattle.sg_recovery_laws.proofs.InBoots.{boots_noted, older_noted, own_last, still_last}

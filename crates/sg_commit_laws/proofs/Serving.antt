@@ -1,17 +1,15 @@
 -- A call that is let in, and finds what it needs, may be asked of the running service, and what the service replies is the answer at the
 -- object of the history.
-use Rattle.std.proofs.Common.{◌≡◌, ℕ, zero, suc, ◌+◌, ◌^◌, ◌<◌, ◌≤◌, Bool, true, false, cond, not, List, [], ◌∷◌, ◌++◌, None, Some, length, refl, sym, ◌∙◌, ap, subst, inl, inr, ◌⊎◌, arith}
-use Rattle.std.specs.Prelude.{◌==◌, ◌||◌, ◌&&◌, ◌≢◌}
+use Rattle.std.proofs.Common.{◌≡◌, ℕ, ◌+◌, ◌<◌, Bool, true, false, cond, List, [], ◌∷◌, None, Some, length, refl, sym, ◌∙◌, ap, subst, inl, inr, ◌⊎◌, arith}
+use Rattle.std.specs.Prelude.{◌==◌, ◌||◌, ◌&&◌}
 use Rattle.std.specs.declared.option.Option.{Option}
 use Rattle.std.proofs.lemmas.Bool.Decides.{eqb_tells, nat_tests}
 use Rattle.sg_base.specs.declared.call.Call.{Call}
-use Rattle.sg_base.specs.declared.reply.Code.{Code}
 use Rattle.sg_base.specs.declared.reply.Good.{Good}
 use Rattle.sg_base.specs.declared.reply.Reply.{Reply}
 use Rattle.sg_base.specs.declared.reply.Reply.TheVariants.{Ok, Refused}
 use Rattle.sg_commit_laws.specs.Telling.{IsToldBy}
 use Rattle.sg_facts.specs.declared.entry.Entry.{Entry}
-use Rattle.sg_facts.specs.declared.outcome.Outcome.{Outcome}
 use Rattle.sg_facts.specs.declared.outcome.Outcome.TheVariants.{Replied}
 use Rattle.sg_facts.specs.declared.outcome.Patch.{Patch}
 use Rattle.sg_facts.specs.declared.row.Row.{Row}
@@ -24,11 +22,10 @@ use Rattle.sg_facts.specs.Facts.{Fun, fun_at, takes_desc, takes_parent}
 use Rattle.sg_facts.specs.Guard.{is_own, is_there, may_be_parent}
 use Rattle.sg_facts.specs.Held.{whole, partly, EachHeld, IsHeldFor}
 use Rattle.sg_facts.specs.Kinds.{MayAsk, may_be_root}
-use Rattle.sg_facts.specs.Laws.{slow, whole as whole_interface}
-use Rattle.sg_facts.specs.Legal.{Table}
+use Rattle.sg_facts.specs.Laws.{whole as whole_interface}
 use Rattle.sg_facts.specs.Needs.{is_needed}
 use Rattle.sg_facts.specs.Object.{Object, object_from, object_of, patch_of}
-use Rattle.sg_facts.specs.Sound.{IsRow, IsSound}
+use Rattle.sg_facts.specs.Sound.{IsRow}
 use Rattle.sg_facts.specs.Trace.{Boot}
 use Rattle.sg_facts.specs.Track.{has_child, is_ancestor, is_live, row_at}
 use Rattle.sg_facts.proofs.RowLists.{id_of_row, live_of_row}
@@ -49,7 +46,7 @@ use Rattle.sg_world_laws.specs.Keeping.{Keeps, Stands, Stub, standing}
 use Rattle.sg_world_laws.specs.Setting.{IsSetting, Setting}
 use Rattle.sg_world_laws.specs.Turns.{HasAll, IsLetIn, IsRepliedItem}
 use Rattle.sg_world_laws.proofs.Asked.{serves_call}
-use Rattle.sg_world_laws.proofs.Orders.{all_drawn, far_now, good_es, good_now, sound_es, time_es}
+use Rattle.sg_world_laws.proofs.Orders.{all_drawn, far_now, good_es, good_now, time_es}
 
 -- a row's parent has a child
 parent_has : (rows : List Row) (id parent : ℕ) (r : Row) → row_at rows id ≡ Some r → r.parent ≡ parent → has_child rows parent ≡ true

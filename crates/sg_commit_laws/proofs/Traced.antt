@@ -1,12 +1,11 @@
 -- What the trace tells behind the item of a served call, with and without its entry, whichever held replies are committed first.
-use Rattle.std.proofs.Common.{◌≡◌, ℕ, zero, suc, ◌+◌, ◌<◌, ◌≤◌, Bool, true, false, cond, List, [], ◌∷◌, ◌++◌, None, Some, length, refl, sym, ◌∙◌, ap, subst, inl, inr, ◌⊎◌, append_assoc, append-nil, arith}
-use Rattle.std.specs.Prelude.{◌==◌, ◌||◌, ◌&&◌, ◌≢◌, if◌then◌else◌, find}
+use Rattle.std.proofs.Common.{◌≡◌, ℕ, ◌+◌, ◌<◌, Bool, true, false, cond, List, [], ◌∷◌, ◌++◌, None, Some, length, refl, sym, ◌∙◌, ap, subst, inl, inr, ◌⊎◌, arith}
+use Rattle.std.specs.Prelude.{◌==◌, ◌||◌, ◌&&◌, ◌≢◌, if◌then◌else◌}
 use Rattle.std.specs.List.{list_any}
 use Rattle.std.specs.declared.option.Option.{Option}
 use Rattle.std.proofs.lemmas.List.Folds.{list_any-append}
-use Rattle.sg_base.specs.Lists.{Each, When}
+use Rattle.sg_base.specs.Lists.{Each}
 use Rattle.sg_base.specs.declared.call.Call.{Call}
-use Rattle.sg_base.specs.declared.reply.Code.{Code}
 use Rattle.sg_base.specs.declared.reply.Good.{Good}
 use Rattle.sg_base.specs.declared.reply.Reply.{Reply}
 use Rattle.sg_base.specs.declared.reply.Reply.TheVariants.{Ok, Refused}
@@ -15,33 +14,29 @@ use Rattle.sg_commit_laws.proofs.Alike.{read_alike}
 use Rattle.sg_commit_laws.proofs.Behind.{apart_ok, apart_refused, names_by, patch_it, told_by}
 use Rattle.sg_commit_laws.proofs.Recovering.{given_pushed, own}
 use Rattle.sg_facts.specs.declared.entry.Entry.{Entry}
-use Rattle.sg_facts.specs.declared.outcome.Outcome.{Outcome}
-use Rattle.sg_facts.specs.declared.outcome.Outcome.TheVariants.{Replied, Blocks, Stopped, NoMemory}
+use Rattle.sg_facts.specs.declared.outcome.Outcome.TheVariants.{Replied}
 use Rattle.sg_facts.specs.declared.outcome.Patch.{Patch}
 use Rattle.sg_facts.specs.declared.row.Row.{Row}
 use Rattle.sg_facts.specs.declared.trace.Item.{Item}
-use Rattle.sg_facts.specs.declared.trace.Tag.{Tag}
-use Rattle.sg_facts.specs.declared.trace.Tag.TheVariants.{Walk, Load, Client}
-use Rattle.sg_facts.specs.Alike.{SameReply, named, under_names}
-use Rattle.sg_facts.specs.Facts.{Facts, fun_at, is_visible, takes_desc}
-use Rattle.sg_facts.specs.Legal.{Table}
+use Rattle.sg_facts.specs.Alike.{SameReply, named}
+use Rattle.sg_facts.specs.Facts.{Facts, fun_at, takes_desc}
 use Rattle.sg_facts.specs.Object.{Object, after, given_after, object_of, patch_of}
 use Rattle.sg_facts.specs.Sound.{IsRow, IsSound}
 use Rattle.sg_facts.specs.Trace.{Boot}
-use Rattle.sg_facts.specs.Track.{is_live, new_row, row_at, rows_after}
+use Rattle.sg_facts.specs.Track.{is_live, new_row, row_at}
 use Rattle.sg_facts.proofs.RowLists.{live_of_row, row_of_live}
 use Rattle.sg_held_laws.specs.Progress.{Told, complete}
 use Rattle.sg_held_laws.specs.Stepping.{present_with, told_with}
-use Rattle.sg_hist.specs.Reading.{Place, desc_in, desc_of, ends_walk, entries_before, id_given, is_made, is_ok, is_rebuilt_at, made_by, names_at, names_in, pair_of}
-use Rattle.sg_hist.specs.Recovered.{is_clients, is_patch_at, is_replied, is_walk_of}
+use Rattle.sg_hist.specs.Reading.{Place, desc_of, ends_walk, entries_before, id_given, is_ok, made_by, names_at, names_in, pair_of}
+use Rattle.sg_hist.specs.Recovered.{is_patch_at, is_walk_of}
 use Rattle.sg_object_laws.proofs.Apart.{makes_row}
 use Rattle.sg_object_laws.proofs.Guarded.{acts, keeps}
 use Rattle.sg_object_laws.proofs.Serve.{names_served}
 use Rattle.sg_object_laws.proofs.Steady.{fewer_after}
-use Rattle.sg_recovery_laws.specs.Growing.{IsGrown, IsOfNoEntry, IsSameFor, IsSameId, last_items, older_items}
-use Rattle.sg_recovery_laws.proofs.Given.{HasEntry, IsGiven, is_numbered, made_visible, names_same}
+use Rattle.sg_recovery_laws.specs.Growing.{IsGrown, last_items, older_items}
+use Rattle.sg_recovery_laws.proofs.Given.{IsGiven, names_same}
 use Rattle.sg_recovery_laws.proofs.Growing.{names_at-more}
-use Rattle.sg_recovery_laws.proofs.Lists.{each_map, each_split}
+use Rattle.sg_recovery_laws.proofs.Lists.{each_split}
 use Rattle.sg_seat.specs.WorldView.{WorldView, held_in}
 use Rattle.sg_trace_laws.specs.LastPlace.{last_place}
 use Rattle.sg_trace_laws.specs.Told.{IsRead}

@@ -1,5 +1,5 @@
 -- What the stubs tell, of which only look-ups count, and what they tell behind an answered call.
-use Rattle.std.specs.Prelude.{ℕ, ◌≡◌, ◌⊎◌, ◌+◌, ◌<◌, ◌==◌, ◌&&◌, not, Bool, true, false, if◌then◌else◌, List}
+use Rattle.std.specs.Prelude.{ℕ, ◌≡◌, ◌⊎◌, ◌<◌, ◌==◌, ◌&&◌, not, Bool, true, false, if◌then◌else◌, List}
 use Rattle.sg_base.specs.declared.call.Call.{Call}
 use Rattle.sg_base.specs.declared.reply.Reply.{Reply}
 use Rattle.sg_base.specs.declared.reply.Reply.TheVariants.{Ok, Refused}
