@@ -10,3 +10,4 @@ pub mod Serving
 pub mod Storing
 pub mod Telling
 pub mod Traced
+pub mod Turning
