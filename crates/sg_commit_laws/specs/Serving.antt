@@ -33,8 +33,8 @@ pub record IsCommittedIn (z : Setting) (w : WorldView) (stub : Stub) (v : Object
   pub seats : HaveSeats z later.history later.withdrawn (length w.run.boots) later.seats
   pub left : (x : Call) → Contains (unanswered w) x → (x ≡ call) ⊎ Contains (unanswered later) x
 
--- the later world holds its reply among the others, at a place, and its item stands in the running boot; no call that wasn't answered is
--- left out
+-- the later world holds the reply of a served call among the others, at a place, its item stands in the running boot, and no call that
+-- wasn't answered is left out
 pub record IsHeldBy (z : Setting) (w : WorldView) (stub : Stub) (v : Object) (call : Call) (item : Item) (reply other : Reply) (front back : List Entry) (later : WorldView) : Type 0 where
   pub history : later.history ≡ w.history
   pub boots : later.run.boots ≡ noted w.run.boots item
