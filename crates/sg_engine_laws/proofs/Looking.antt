@@ -1,7 +1,7 @@
 -- An engine's names, look-up by look-up, as the service ids and the progress that stubs tell: how a reply of the service is told, and what
 -- serving and committing a call leave.
-use Rattle.std.proofs.Common.{◌≡◌, ℕ, ◌+◌, ◌<◌, ◌≤◌, Bool, true, false, cond, not, List, [], ◌∷◌, None, Some, refl, sym, ◌∙◌, ap, subst, inl, inr, ◌⊎◌, arith}
-use Rattle.std.specs.Prelude.{◌==◌, ◌||◌, ◌&&◌, ◌≢◌, if◌then◌else◌}
+use Rattle.std.proofs.Common.{◌≡◌, ℕ, ◌<◌, ◌≤◌, Bool, true, false, cond, List, None, Some, refl, sym, ◌∙◌, ap, inl, inr, ◌⊎◌, arith}
+use Rattle.std.specs.Prelude.{◌==◌, ◌||◌, ◌&&◌, if◌then◌else◌}
 use Rattle.std.specs.declared.option.Option.{Option}
 use Rattle.std.specs.Str.{bytes_eq}
 use Rattle.sg_base.specs.declared.call.Call.{Call}
