@@ -55,9 +55,12 @@ no_reply = Ok (record { desc = 0; words = []; bytes = [] })
 abbrev pub no_seat : Seat
 no_seat = record { phase = Idle; call = no_call; seq = 0; boot = 0; reply = no_reply }
 
--- the seat of a client
+-- the seat of a client; clients are numbered from 1
+abbrev pub seat_in : List Seat → ℕ → Seat
+seat_in seats client = unwrap_or (slice_get seats (client - 1)) no_seat
+
 abbrev pub seat_of : WorldView → ℕ → Seat
-seat_of w client = unwrap_or (slice_get w.seats (client - 1)) no_seat
+seat_of w client = seat_in w.seats client
 
 abbrev pub with_seat : WorldView → ℕ → Seat → WorldView
 with_seat w client seat = record w { seats = slice_set w.seats (client - 1) seat }
@@ -68,6 +71,40 @@ in_phase w client phase = with_seat w client (record (seat_of w client) { phase 
 -- something happened to a client
 abbrev pub with_mark : WorldView → ℕ → MarkKind → WorldView
 with_mark w client kind = record w { marks = w.marks ++ record { client = client; kind = kind } ∷ [] }
+
+-- a world with these clients, in which nothing was done: the service is up in its first boot
+abbrev pub new_world : List Seat → WorldView
+new_world seats = record { history = []; run = record { boots = booted []; points = 0 }; running = Some empty_object; seats = seats; withdrawn = []; marks = []; events = 0; refused = 0 }
+
+-- a client waits or has left
+abbrev pub is_resting : Phase → Bool
+is_resting Blocked = true
+is_resting Left = true
+is_resting Idle = false
+is_resting Asked = false
+is_resting Held = false
+is_resting Receipted = false
+
+abbrev pub is_at_rest : Seat → Bool
+is_at_rest s = is_resting s.phase
+
+-- a client has no call under way
+abbrev pub IsFree : Phase → Type 0
+IsFree Idle = Unit {0}
+IsFree Left = Unit {0}
+IsFree Asked = ⊥
+IsFree Held = ⊥
+IsFree Receipted = ⊥
+IsFree Blocked = ⊥
+
+-- a client's call may be withdrawn
+abbrev pub MayWithdraw : Phase → Type 0
+MayWithdraw Asked = Unit {0}
+MayWithdraw Blocked = Unit {0}
+MayWithdraw Idle = ⊥
+MayWithdraw Left = ⊥
+MayWithdraw Held = ⊥
+MayWithdraw Receipted = ⊥
 
 -- ---- held replies
 

@@ -1,7 +1,7 @@
 // One client, with its call and the memory that was taken for it.
 ghost use Rattle.std.specs.Prelude.{◌≡◌, ◌≤◌, ◌+◌, ◌<◌, ◌^◌, true, length, IfOk};
 ghost use Rattle.sg_facts.specs.Limits.{last_client};
-ghost use Rattle.sg_seat.specs.WorldView.{is_offered, no_reply, no_seat};
+ghost use Rattle.sg_seat.specs.WorldView.{is_at_rest, is_left_phase, is_offered, no_reply, no_seat};
 ghost use Rattle.sg_seat.specs.declared.phase.Phase.TheVariants.{Idle, Asked, Receipted, Left};
 ghost use Rattle.sg_world.specs.Rooms.{FitsSeatRoom};
 
@@ -86,6 +86,20 @@ impl ClientSeat {
         ensures { result ≡ self.now.phase }
     {
         self.phase
+    }
+
+    /// Whether it waits or has left.
+    pub(crate) fn is_at_rest(&self) -> bool
+        ensures { result ≡ is_at_rest self.now }
+    {
+        matches!(self.phase, Phase::Blocked | Phase::Left)
+    }
+
+    /// Whether it has left.
+    pub(crate) fn has_left(&self) -> bool
+        ensures { result ≡ is_left_phase self.now.phase }
+    {
+        matches!(self.phase, Phase::Left)
     }
 
     /// The number of its last entry.

@@ -1,10 +1,203 @@
 // The service, its clients, and what they did.
-use sg_base::Stops;
-use sg_facts::Service;
+ghost use Rattle.std.specs.Prelude.{◌≡◌, ◌+◌, ◌≤◌, ◌<◌, ◌-◌, ◌^◌, ◌∷◌, ◌++◌, ℕ, true, List, [], None, Some, IfOk, OnOk, OnErr, length, map, replicate, slice_get};
+ghost use Rattle.std.specs.List.{list_all};
+ghost use Rattle.std.specs.Option.{option_copied, option_map};
+ghost use Rattle.sg_facts.specs.Kinds.{AreWords, FitsKinds};
+ghost use Rattle.sg_facts.specs.Interface.{declares};
+ghost use Rattle.sg_facts.specs.Limits.{last_client};
+ghost use Rattle.sg_facts.specs.Trace.{run_of};
+ghost use Rattle.sg_base.specs.declared.call.Call.{Call as IsCall};
+ghost use Rattle.sg_base.specs.Counts.{last_count};
+ghost use Rattle.sg_seat.specs.WorldView.{IsFree, happened, is_at_rest, left_by, new_world, no_seat, offered, seat_of};
 
-/// A world.
+use crate::seat::SeatRoom;
+use crate::seats::Seats;
+use sg_base::{Args, Call, NoMemory, RoomyList, Stops};
+use sg_facts::{Entry, Service, Tables, Trace};
+use sg_hist::History;
+use sg_replay::Engine;
+use sg_seat::{Mark, MarkKind, Phase, Withdrawn};
+use std::alloc::Global;
+use std::marker::Model;
+
+/// A service that may stop at any point, its clients, and what they did. A client offers a call, and the world is made to step until
+/// the call is answered. Contracts see it as plain data.
 #[derive(Debug, Drop)]
 pub struct World<S: Service, T: Stops> {
-    service: S,
+    engine: Engine<S>,
     stops: T,
+    seats: Seats,
+    history: History,
+    withdrawn: RoomyList<Withdrawn>,
+    marks: RoomyList<Mark>,
+    events: u64,
+    refused: u64,
+}
+
+impl<S: Service, T: Stops> Model for World<S, T> {
+    ghost use Rattle.std.specs.Prelude.{◌≡◌};
+    ghost use Rattle.sg_world.specs.Worlded.{ArePoints, IsWorld, Worlded, setting_of, view_of};
+
+    ghost Value = { Worlded };
+
+    ghost view = { λ w. record {
+      tables = w.engine.tables;
+      view = view_of w.engine w.history.items w.seats w.withdrawn.items w.marks.items w.events w.refused;
+      plan = T.plan w.stops;
+    } };
+
+    ghost invariant = { λ w. IsWorld (setting_of S.ask S.sound S.parts w.engine.tables) w.engine
+        (view_of w.engine w.history.items w.seats w.withdrawn.items w.marks.items w.events w.refused)
+        (record { entries = w.history.room; withdrawals = w.withdrawn.room; marks = w.marks.room })
+        × ArePoints T.test (view_of w.engine w.history.items w.seats w.withdrawn.items w.marks.items w.events w.refused) (T.asked w.stops) (T.struck w.stops) (T.plan w.stops) };
+}
+
+impl<S: Service, T: Stops> World<S, T> {
+    /// A world of clients from 1 to so many, in which nothing was done: the service is up in its first boot, and every client is idle.
+    pub fn new(
+        alloc: Global,
+        tables: Tables,
+        clients: u8,
+        stops: T,
+    ) -> Result<World<S, T>, NoMemory>
+        requires service { tables.iface.facts ≡ S.facts }
+        requires few { clients ≤ last_client }
+        requires unasked { T.asked stops ≡ 0 }
+        requires unstruck { T.struck stops ≡ [] }
+        ensures tables { IfOk result (λ w. w.tables ≡ tables) }
+        ensures view { IfOk result (λ w. w.view ≡ new_world (replicate clients no_seat)) }
+        ensures plan { IfOk result (λ w. w.plan ≡ T.plan stops) }
+    {
+        let seats = Seats::new(alloc, clients)?;
+        let mut marks = RoomyList::new(alloc);
+        marks.reserve(usize::from(clients))?;
+        Ok(World {
+            engine: Engine::new(alloc, tables, clients)?,
+            stops,
+            seats,
+            history: History::new(alloc),
+            withdrawn: RoomyList::new(alloc),
+            marks,
+            events: 0,
+            refused: 0,
+        })
+    }
+
+    /// The calls that were done, lent.
+    pub fn history(&self) -> &History
+        ensures { result.now.items ≡ self.now.view.history }
+    {
+        &self.history
+    }
+
+    /// What was done to the service, lent.
+    pub fn trace(&self) -> &Trace
+        ensures { run_of result.now ≡ self.now.view.run }
+    {
+        self.engine.trace()
+    }
+
+    /// The running service, lent; None exactly where it failed.
+    pub fn service(&self) -> Option<&S>
+        ensures { option_map S.object (option_copied result) ≡ self.now.view.running }
+    {
+        self.engine.service()
+    }
+
+    /// What happened to the clients, in its order, lent.
+    pub fn marks(&self) -> &[Mark]
+        ensures { result.now ≡ self.now.view.marks }
+    {
+        self.marks.as_slice()
+    }
+
+    /// The withdrawn calls, in their order, lent.
+    pub fn withdrawn(&self) -> &[Withdrawn]
+        ensures { result.now ≡ self.now.view.withdrawn }
+    {
+        self.withdrawn.as_slice()
+    }
+
+    /// The number of its steps that wanted memory, up to the greatest number.
+    pub fn refused(&self) -> u64
+        ensures { result ≡ self.now.view.refused }
+    {
+        self.refused
+    }
+
+    /// How far a client has come with its call.
+    pub fn phase(&self, client: u8) -> Phase
+        requires first { 1 ≤ client }
+        requires last { client ≤ length self.now.view.seats }
+        ensures { result ≡ (seat_of self.now.view client).phase }
+    {
+        self.seats.phase(client)
+    }
+
+    /// A client offers a call, under its next number; one that had left has come back by it. It keeps the memory that the call's
+    /// entry, its reply and its withdrawal will take. After `NoMemory` the world is as before.
+    pub fn offer(
+        &mut self,
+        alloc: Global,
+        client: u8,
+        fun: u8,
+        desc: u64,
+        args: Args,
+    ) -> Result<(), NoMemory>
+        requires first { 1 ≤ client }
+        requires last { client ≤ length self.old.view.seats }
+        requires free { IsFree (seat_of self.old.view client).phase }
+        requires numbered { (seat_of self.old.view client).seq + 1 < 2 ^ 32 }
+        requires declared { declares self.old.tables.iface fun ≡ true }
+        requires fits { FitsKinds self.old.tables.iface.facts (record { client = client; seq = (seat_of self.old.view client).seq + 1; fun = fun; desc = desc; args = args }) }
+        requires words { AreWords args }
+        ensures ok { OnOk result (self.new ≡ record self.old {
+          view = happened (offered self.old.view client
+              (record { client = client; seq = (seat_of self.old.view client).seq + 1; fun = fun; desc = desc; args = args }));
+        }) }
+        ensures err { OnErr result (self.new ≡ record self.old { view = happened self.old.view }) }
+    {
+        self.events = self.events.saturating_add(1);
+        let call = Call {
+            client,
+            seq: self.seats.seq(client) + 1,
+            fun,
+            desc,
+            args,
+        };
+        let room = SeatRoom::new(alloc, &call)?;
+        self.history.reserve(self.seats.len())?;
+        self.withdrawn.reserve(self.seats.len())?;
+        self.marks.reserve(3 * self.seats.len() + 1)?;
+        self.seats.offer(call, room);
+        self.marks.add(Mark {
+            client,
+            kind: MarkKind::Offer,
+        });
+        Ok(())
+    }
+
+    /// A client that has no call under way leaves. One that has left goes on to be so. It takes no memory.
+    pub fn leave(&mut self, client: u8)
+        requires first { 1 ≤ client }
+        requires last { client ≤ length self.old.view.seats }
+        requires free { IsFree (seat_of self.old.view client).phase }
+        ensures { self.new ≡ record self.old { view = happened (left_by self.old.view client) } }
+    {
+        self.events = self.events.saturating_add(1);
+        if !self.seats.has_left(client) {
+            self.seats.leave(client);
+            self.marks.add(Mark {
+                client,
+                kind: MarkKind::Leave,
+            });
+        }
+    }
+
+    /// Whether every client waits or has left.
+    pub fn all_blocked(&self) -> bool
+        ensures { result ≡ list_all is_at_rest self.now.view.seats }
+    {
+        self.seats.all_at_rest()
+    }
 }

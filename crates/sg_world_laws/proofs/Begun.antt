@@ -1,25 +1,19 @@
 -- A world in which nothing was done keeps what worlds keep.
 
 -- a client that did nothing yet
-use Rattle.std.proofs.Common.{Bool, List, Some, [], ap, arith, false, flat_map, if◌then◌else◌, inl, length, refl, subst, sym, ℕ, ◌++◌, ◌+◌, ◌∙◌, ◌∷◌, ◌≡◌, ◌≤◌}
+use Rattle.std.proofs.Common.{Bool, List, [], ap, arith, false, flat_map, if◌then◌else◌, inl, length, refl, subst, sym, ℕ, ◌++◌, ◌+◌, ◌∙◌, ◌∷◌, ◌≡◌, ◌≤◌}
 use Rattle.std.proofs.Math.ListN.{set}
 use Rattle.sg_base.specs.Lists.{Each}
 use Rattle.sg_boot.proofs.Keeping.{kept_booted}
-use Rattle.sg_facts.specs.Laws.{whole}
 use Rattle.sg_facts.specs.Limits.{last_client}
 use Rattle.sg_facts.specs.Object.{empty_object, object_from}
 use Rattle.sg_held_laws.specs.Numbers.{AreNumbers}
 use Rattle.sg_held_laws.specs.Progress.{fresh}
-use Rattle.sg_hist.specs.Recovered.{waiting}
 use Rattle.sg_object_laws.specs.Waiting.{AreWaiting}
-use Rattle.sg_recovery_laws.specs.Growing.{IsInLast, IsRecovering, booted}
-use Rattle.sg_seat.specs.WorldView.{Seat, WorldView, held_in, held_replies, is_held_in, no_seat, offered_by, unanswered}
-use Rattle.sg_trace_laws.proofs.Reading.{unnamed}
-use Rattle.sg_track.proofs.KeptLists.{read}
-use Rattle.sg_walk_laws.proofs.Files.{told}
-use Rattle.sg_walk_laws.proofs.Found.{above}
+use Rattle.sg_recovery_laws.proofs.Onward.{nothing_yet}
+use Rattle.sg_recovery_laws.specs.Growing.{IsInLast, IsRecovering}
+use Rattle.sg_seat.specs.WorldView.{Seat, held_in, held_replies, is_held_in, no_seat, offered_by, unanswered, new_world}
 use Rattle.sg_world_laws.proofs.Booted.{begins}
-use Rattle.sg_world_laws.proofs.Refusing.{refused}
 use Rattle.sg_world_laws.proofs.Struck.{none_drawn}
 use Rattle.sg_world_laws.specs.Keeping.{AreDrawn, Keeps, MayEnter}
 use Rattle.sg_world_laws.specs.Seats.{AreSeated, IsSeated, all_seqs}
@@ -53,15 +47,11 @@ new_seated z client (s ∷ seats) new = (subst (IsSeated z [] client) (sym new.0
 
 new_seqs : (seats : List Seat) → AreNew seats → all_seqs seats ≡ 0
 new_seqs [] new = refl
-new_seqs (s ∷ seats) new = ap (λ x. x.seq + all_seqs seats) new.0 ∙ new_seqs seats new.1
+new_seqs (s ∷ seats) new = let own : s.seq ≡ 0 = ap (λ x. x.seq) new.0 in let rest = new_seqs seats new.1 in omega (arith, own, rest)
 
 new_boots : (seats : List Seat) → AreNew seats → Each (λ s. s.boot ≤ 1) seats
 new_boots [] new = tt
 new_boots (s ∷ seats) new = (subst (λ x. x.boot ≤ 1) (sym new.0) (omega arith), new_boots seats new.1)
-
--- the world that has this many new clients
-abbrev pub new_world : List Seat → WorldView
-new_world seats = record { history = []; run = record { boots = booted []; points = 0 }; running = Some empty_object; seats = seats; withdrawn = []; marks = []; events = 0; refused = 0 }
 
 pub new_keeps : (z : Setting) (set : IsSetting z) (seats : List Seat) (present : List ℕ → Bool) → AreNew seats → length seats ≤ last_client → ((path : List ℕ) → present path ≡ false)
     → Keeps z (new_world seats) (record { names = []; told = λ id. fresh; present = present })
@@ -76,7 +66,7 @@ new_keeps z set seats present new few absent = record {
   held_items = subst (Each (IsInLast (new_world seats).run)) (sym none) tt;
   in_boots = tt;
   recovering = λ es drawn. subst (λ l. IsRecovering (stubs_of z) l (new_world seats).run (unanswered (new_world seats))) (sym (none_drawn es (subst (λ l. AreDrawn l es) none drawn)))
-      (subst (IsRecovering (stubs_of z) [] (new_world seats).run) (sym (ap (λ l. l ++ []) (new_offered seats new))) (begun_stays (stubs_of z)));
+      (subst (IsRecovering (stubs_of z) [] (new_world seats).run) (sym (ap (λ l. l ++ []) (new_offered seats new))) (nothing_yet (stubs_of z)));
   cell = kept_booted z.iface.facts [];
   stands = record {
     numbers = subst (λ l. AreNumbers z.iface.facts (λ id. fresh) 0 (object_from z.iface.facts empty_object l) empty_object) (sym none) (record { given = omega arith; counted = omega arith });

@@ -2,13 +2,11 @@
 
 -- an empty service stands at the beginning of a recovery
 use Rattle.std.proofs.Common.{Bool, List, None, Some, [], ap, append-nil, arith, false, inl, length, length-append, map, refl, subst, sym, true, ℕ, ◌++◌, ◌+◌, ◌==◌, ◌∙◌, ◌∷◌, ◌≡◌}
-use Rattle.std.proofs.Math.ListN.{set}
 use Rattle.std.specs.List.{list_any}
 use Rattle.sg_base.specs.Lists.{Each}
 use Rattle.sg_boot.proofs.Keeping.{kept_booted}
 use Rattle.sg_boot.proofs.LastBoot.{items_booted}
 use Rattle.sg_facts.specs.Interface.{Declared}
-use Rattle.sg_facts.specs.Laws.{whole}
 use Rattle.sg_facts.specs.Object.{Object, empty_object, object_from, object_of}
 use Rattle.sg_facts.specs.Sound.{IsSound}
 use Rattle.sg_facts.specs.Trace.{Boot}
@@ -19,20 +17,14 @@ use Rattle.sg_held_laws.proofs.Numbers.{few_rows, sum_fresh}
 use Rattle.sg_held_laws.specs.Numbers.{AreNumbers, left_of, unbegun}
 use Rattle.sg_held_laws.specs.Progress.{HasFile, IsInRecovery, fresh}
 use Rattle.sg_hist.specs.Reading.{names_at}
-use Rattle.sg_hist.specs.Recovered.{waiting}
 use Rattle.sg_object_laws.proofs.Steady.{ascends}
 use Rattle.sg_object_laws.specs.Waiting.{AreWaiting}
 use Rattle.sg_recovery_laws.proofs.InBoots.{boots_booted}
 use Rattle.sg_recovery_laws.proofs.Onward.{booted_stays}
 use Rattle.sg_recovery_laws.specs.Growing.{IsInLast, IsRecovering, booted, last_items, older_items}
 use Rattle.sg_seat.specs.WorldView.{Seat, WorldView, held_in, unanswered, woken_seat}
-use Rattle.sg_trace_laws.proofs.Reading.{unnamed}
 use Rattle.sg_trace_laws.specs.LastPlace.{HaveItems}
 use Rattle.sg_trace_laws.specs.Told.{IsRead}
-use Rattle.sg_track.proofs.KeptLists.{read}
-use Rattle.sg_walk_laws.proofs.Apart.{apart}
-use Rattle.sg_walk_laws.proofs.Files.{told}
-use Rattle.sg_walk_laws.proofs.Found.{above}
 use Rattle.sg_world_laws.proofs.Struck.{no_drawn, none_drawn}
 use Rattle.sg_world_laws.proofs.Woken.{held_woken, none_held, offered_woken, seats_woken}
 use Rattle.sg_world_laws.specs.Keeping.{AreDrawn, Keeps, MayEnter, Stub, standing}

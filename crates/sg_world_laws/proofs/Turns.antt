@@ -9,8 +9,8 @@ use Rattle.sg_base.specs.declared.reply.Reply.{Reply}
 use Rattle.sg_facts.specs.Object.{Object}
 use Rattle.sg_hist.specs.Clients.{calls_of}
 use Rattle.sg_recovery_laws.proofs.Lists.{each_append}
+use Rattle.sg_seat.specs.WorldView.{Seat, WorldView, is_held_phase, is_offered, no_seat, offered_by, seat_of, IsFree, MayWithdraw}
 use Rattle.sg_seat.specs.declared.mark.Mark.{Mark}
-use Rattle.sg_seat.specs.WorldView.{Seat, WorldView, is_held_phase, is_offered, no_seat, offered_by, seat_of}
 use Rattle.sg_seat.specs.declared.phase.Phase.{Phase}
 use Rattle.sg_seat.specs.declared.phase.Phase.TheVariants.{Asked, Blocked, Held, Idle, Left, Receipted}
 use Rattle.sg_seat.specs.declared.withdrawn.Withdrawn.{Withdrawn}
@@ -32,24 +32,6 @@ seat_there w client first last = found (slice_get w.seats (client - 1)) refl
         past [] n is less = omega (arith, less)
         past (s ∷ seats) zero is less = cc is
         past (s ∷ seats) (suc n) is less = past seats n is (omega (arith, less))
-
--- a client in a phase in which it has no call under way
-abbrev pub IsFree : Phase → Type 0
-IsFree Idle = Unit {0}
-IsFree Left = Unit {0}
-IsFree Asked = ⊥
-IsFree Held = ⊥
-IsFree Receipted = ⊥
-IsFree Blocked = ⊥
-
--- a client in a phase in which its call may be withdrawn
-abbrev pub MayWithdraw : Phase → Type 0
-MayWithdraw Asked = Unit {0}
-MayWithdraw Blocked = Unit {0}
-MayWithdraw Idle = ⊥
-MayWithdraw Left = ⊥
-MayWithdraw Held = ⊥
-MayWithdraw Receipted = ⊥
 
 free_none : (p : Phase) → IsFree p → (is_offered p ≡ false) × (is_held_phase p ≡ false)
 free_none Idle free = (refl, refl)

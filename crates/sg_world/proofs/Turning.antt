@@ -1,0 +1,124 @@
+-- What a world keeps where one seat changes, and no history.
+
+-- a call that meets the conditions of an offer may be made
+use Rattle.std.proofs.Common.{List, arith, length, slice_set, ℕ, ◌*◌, ◌+◌, ◌-◌, ◌≡◌, ◌≤◌, subst, sym, true, Some, false, flat_map, refl, slice_get, ◌<◌}
+use Rattle.std.proofs.Math.ListN.{set}
+use Rattle.sg_base.specs.declared.call.Call.{Call}
+use Rattle.sg_facts.specs.Interface.{declares}
+use Rattle.sg_facts.specs.Kinds.{AreWords, FitsKinds}
+use Rattle.sg_facts.specs.Limits.{last_client}
+use Rattle.sg_facts.specs.declared.entry.Entry.{Entry}
+use Rattle.sg_object_laws.proofs.Guarded.{keeps}
+use Rattle.sg_object_laws.proofs.Left.{stays}
+use Rattle.sg_replay.specs.Engined.{Engined}
+use Rattle.sg_seat.specs.WorldView.{IsFree, Seat, WorldView, seat_of, is_left_phase, offered_by}
+use Rattle.sg_seat.specs.declared.mark.Mark.{Mark}
+use Rattle.sg_seat.specs.declared.phase.Phase.{Phase}
+use Rattle.sg_seat.specs.declared.phase.Phase.TheVariants.{Asked, Blocked, Held, Idle, Left, Receipted}
+use Rattle.sg_seat.specs.declared.withdrawn.Withdrawn.{Withdrawn}
+use Rattle.sg_walk_laws.proofs.Steps.{declared_within}
+use Rattle.sg_world.proofs.Rooming.{length_set, marks_few, offers_few, marks_set, offers_set, marks_some}
+use Rattle.sg_world.specs.Worlded.{HaveRooms, IsWorld, Rooms, stub_of, marks_left, marks_of}
+use Rattle.sg_world_laws.proofs.Refusing.{refused}
+use Rattle.sg_world_laws.proofs.Turns.{counted_keeps, offer_keeps, leave_keeps, seat_there}
+use Rattle.sg_world_laws.specs.Keeping.{Keeps}
+use Rattle.sg_world_laws.specs.Seats.{MayMake}
+use Rattle.sg_world_laws.specs.Setting.{Setting, IsSetting}
+
+pub may_make : (z : Setting) (set : IsSetting z) (call : Call) → 1 ≤ call.client → call.client ≤ last_client → declares z.iface call.fun ≡ true → FitsKinds z.iface.facts call → AreWords call.args → MayMake z.iface call
+may_make z set call first last declared fits words =
+    let within = declared_within z.iface call.fun set.fits declared in
+    record { is_clients = record { is_call = record { first = within.0; last = within.1; fits = fits }; words = words; client_first = first; client_last = last }; declared = declared }
+
+-- a client that is free and hasn't left may still leave
+idle_marks : (p : Phase) → IsFree p → is_left_phase p ≡ false → marks_of p ≡ 1
+idle_marks Idle free is = refl
+idle_marks Left free is = absurd (cc is)
+idle_marks Asked free is = absurd free
+idle_marks Held free is = absurd free
+idle_marks Receipted free is = absurd free
+idle_marks Blocked free is = absurd free
+
+-- a world keeps what it keeps where what is numbered and what happened changes
+
+module _ (z : Setting) (e : Engined) (w : WorldView) (rooms later : Rooms) (is : IsWorld z e w rooms) where
+  pub turned : (seats : List Seat) (withdrawn : List Withdrawn) (marks : List Mark) (events refused : ℕ) → Keeps z (record w { seats = seats; withdrawn = withdrawn; marks = marks; events = events; refused = refused }) (stub_of e)
+      → HaveRooms seats later → IsWorld z e (record w { seats = seats; withdrawn = withdrawn; marks = marks; events = events; refused = refused }) later
+  turned seats withdrawn marks events refused keeps rooms_are = record { set = is.set; keeps = keeps; tracked = is.tracked; rooms_are = rooms_are }
+
+  -- an event that wanted memory leaves it, and takes no room away
+  pub only_counted : (events refused : ℕ) → rooms.entries ≤ later.entries → rooms.withdrawals ≤ later.withdrawals → rooms.marks ≤ later.marks → IsWorld z e (record w { events = events; refused = refused }) later
+  only_counted events refused entries withdrawals marks = record {
+    set = is.set;
+    keeps = counted_keeps z w (stub_of e) events refused is.keeps;
+    tracked = is.tracked;
+    rooms_are = record {
+      entries = (let was = is.rooms_are.entries in omega (arith, was, entries));
+      withdrawals = (let was = is.rooms_are.withdrawals in omega (arith, was, withdrawals));
+      marks = (let was = is.rooms_are.marks in omega (arith, was, marks));
+    };
+  }
+
+  -- however its lists came about
+  pub only_counted_of : (history : List Entry) (withdrawn : List Withdrawn) (marks : List Mark) (events : ℕ) → history ≡ w.history → withdrawn ≡ w.withdrawn → marks ≡ w.marks
+      → rooms.entries ≤ later.entries → rooms.withdrawals ≤ later.withdrawals → rooms.marks ≤ later.marks → IsWorld z e (record w { history = history; withdrawn = withdrawn; marks = marks; events = events }) later
+  only_counted_of history withdrawn marks events same_history same_withdrawn same_marks more_entries more_withdrawals more_marks =
+      subst (λ h. IsWorld z e (record w { history = h; withdrawn = withdrawn; marks = marks; events = events }) later) (sym same_history)
+      (subst (λ x. IsWorld z e (record w { withdrawn = x; marks = marks; events = events }) later) (sym same_withdrawn)
+      (subst (λ m. IsWorld z e (record w { marks = m; events = events }) later) (sym same_marks) (only_counted events w.refused more_entries more_withdrawals more_marks)))
+
+  -- an offer, where memory was taken for all clients
+  pub offered_on : (client : ℕ) (first : 1 ≤ client) (last : client ≤ length w.seats) (call : Call) → IsFree (seat_of w client).phase → call.client ≡ client → call.seq ≡ (seat_of w client).seq + 1 → MayMake z.iface call
+      → (marks : List Mark) (events : ℕ) → length w.seats ≤ later.entries → length w.seats ≤ later.withdrawals → 3 * length w.seats ≤ later.marks
+      → IsWorld z e (record w { seats = slice_set w.seats (client - 1) (record (seat_of w client) { phase = Asked; call = call }); marks = marks; events = events }) later
+  offered_on client first last call free its next may marks events entries withdrawals marked =
+      let new : Seat = record (seat_of w client) { phase = Asked; call = call } in
+      let seats = slice_set w.seats (client - 1) new in
+      let n = length_set w.seats (client - 1) new in
+      let offers = offers_few seats in
+      let all = marks_few seats in
+      turned seats w.withdrawn marks events w.refused (offer_keeps z w (stub_of e) is.keeps client first last marks events w.refused call free its next may)
+      (record { entries = omega (arith, n, offers, entries); withdrawals = omega (arith, n, offers, withdrawals); marks = omega (arith, n, all, marked) })
+
+  -- however its lists came about
+  pub offered_again : (client : ℕ) (first : 1 ≤ client) (last : client ≤ length w.seats) (call : Call) → IsFree (seat_of w client).phase → call.client ≡ client → call.seq ≡ (seat_of w client).seq + 1 → MayMake z.iface call
+      → (history : List Entry) (seats : List Seat) (withdrawn : List Withdrawn) (marks : List Mark) (events : ℕ) → history ≡ w.history → seats ≡ slice_set w.seats (client - 1) (record (seat_of w client) { phase = Asked; call = call })
+      → withdrawn ≡ w.withdrawn → length w.seats ≤ later.entries → length w.seats ≤ later.withdrawals → 3 * length w.seats ≤ later.marks
+      → IsWorld z e (record w { history = history; seats = seats; withdrawn = withdrawn; marks = marks; events = events }) later
+  offered_again client first last call free its next may history seats withdrawn marks events same_history set same_withdrawn entries withdrawals marked =
+      subst (λ h. IsWorld z e (record w { history = h; seats = seats; withdrawn = withdrawn; marks = marks; events = events }) later) (sym same_history)
+      (subst (λ s. IsWorld z e (record w { seats = s; withdrawn = withdrawn; marks = marks; events = events }) later) (sym set)
+      (subst (λ x. IsWorld z e (record w { seats = slice_set w.seats (client - 1) (record (seat_of w client) { phase = Asked; call = call }); withdrawn = x; marks = marks; events = events }) later) (sym same_withdrawn)
+      (offered_on client first last call free its next may marks events entries withdrawals marked)))
+
+  -- a client that leaves, which takes one mark of those that memory was taken for
+  pub left_on : (client : ℕ) (first : 1 ≤ client) (last : client ≤ length w.seats) → IsFree (seat_of w client).phase → is_left_phase (seat_of w client).phase ≡ false → (seats : List Seat) (marks : List Mark) (events : ℕ)
+      → seats ≡ slice_set w.seats (client - 1) (record (seat_of w client) { phase = Left }) → rooms.entries ≤ later.entries → rooms.withdrawals ≤ later.withdrawals → rooms.marks ≤ later.marks + 1
+      → IsWorld z e (record w { seats = seats; marks = marks; events = events }) later
+  left_on client first last free stays seats marks events set entries withdrawals marked =
+      subst (λ s. IsWorld z e (record w { seats = s; marks = marks; events = events }) later) (sym set)
+      (turned (slice_set w.seats (client - 1) new) w.withdrawn marks events w.refused (leave_keeps z w (stub_of e) is.keeps client first last marks events w.refused free)
+      (record {
+        entries = (let was = is.rooms_are.entries in omega (arith, was, offers, entries));
+        withdrawals = (let was = is.rooms_are.withdrawals in omega (arith, was, offers, withdrawals));
+        marks = (let was = is.rooms_are.marks in let one = idle_marks (seat_of w client).phase free stays in omega (arith, was, all, one, marked));
+      }))
+    where
+      new : Seat
+      new = record (seat_of w client) { phase = Left }
+
+      there : slice_get w.seats (client - 1) ≡ Some (seat_of w client)
+      there = seat_there w client first last
+
+      offers : length (flat_map offered_by (slice_set w.seats (client - 1) (record (seat_of w client) { phase = Left }))) + length (offered_by (seat_of w client)) ≡ length (flat_map offered_by w.seats) + 0
+      offers = offers_set w.seats (client - 1) (seat_of w client) (record (seat_of w client) { phase = Left }) there
+
+      all : marks_left (slice_set w.seats (client - 1) (record (seat_of w client) { phase = Left })) + marks_of (seat_of w client).phase ≡ marks_left w.seats + 0
+      all = marks_set w.seats (client - 1) (seat_of w client) (record (seat_of w client) { phase = Left }) there
+
+  pub may_leave : (client : ℕ) → 1 ≤ client → client ≤ length w.seats → IsFree (seat_of w client).phase → is_left_phase (seat_of w client).phase ≡ false → 0 < rooms.marks
+  may_leave client first last free stays =
+      let some = marks_some w.seats (client - 1) (seat_of w client) (seat_there w client first last) in
+      let one = idle_marks (seat_of w client).phase free stays in
+      let room = is.rooms_are.marks in
+      omega (arith, some, one, room)
