@@ -1,0 +1,13 @@
+pub mod Alike
+pub mod Behind
+pub mod Committed
+pub mod Counting
+pub mod Holding
+pub mod Noted
+pub mod Numbers
+pub mod Recovering
+pub mod Serving
+pub mod Storing
+pub mod Telling
+pub mod Traced
+pub mod Turning
