@@ -25,11 +25,11 @@ impl Model for Names {
 
     ghost Value = { Naming };
 
-    ghost use Rattle.sg_name.specs.Inside.Kept.{IsKept};
+    ghost use Rattle.sg_name.specs.Inside.Kept.{DirectionsAgree};
 
     ghost view = { λ n. record { known = n.standings.entries; spare = min (spare n.standings) (spare n.ids) } };
 
-    ghost invariant = { λ n. IsKept n };
+    ghost invariant = { λ n. DirectionsAgree n };
 }
 
 impl Names {

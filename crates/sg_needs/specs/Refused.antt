@@ -9,5 +9,5 @@ use Rattle.sg_facts.specs.Guard.{refusal}
 use Rattle.sg_facts.specs.Interface.{Declared}
 
 -- the first cause that applies, as the rows tell it without files and ids
-abbrev pub refused : Declared → Fun → List Row → Call → Option Code
-refused i f rows call = refusal i f (record { rows = rows; files = []; given = 0 }) call
+abbrev pub refused_by_rows : Declared → Fun → List Row → Call → Option Code
+refused_by_rows i f rows call = refusal i f (record { rows = rows; files = []; given = 0 }) call

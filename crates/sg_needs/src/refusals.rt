@@ -4,7 +4,7 @@ ghost use Rattle.std.specs.Option.{option_copied};
 ghost use Rattle.sg_facts.specs.Facts.{fun_of_shape};
 ghost use Rattle.sg_facts.specs.Guard.{guard as the_guard, in_state, may_be_parent, may_use, is_own};
 ghost use Rattle.sg_facts.specs.Object.{Object};
-ghost use Rattle.sg_needs.specs.Refused.{refused};
+ghost use Rattle.sg_needs.specs.Refused.{refused_by_rows};
 
 use sg_base::{Call, Code};
 use sg_facts::{FunShape, Interface, MOST_LIVE, Parents, Row};
@@ -28,7 +28,7 @@ pub fn guard(iface: &Interface, rows: &Tracker, call: &Call) -> Option<Code>
 
 // The first cause that applies.
 fn refusal(iface: &Interface, fun: &FunShape, rows: &Tracker, call: &Call) -> Option<Code>
-    ensures { result ≡ refused iface.now (fun_of_shape fun.now) rows.now.rows call.now }
+    ensures { result ≡ refused_by_rows iface.now (fun_of_shape fun.now) rows.now.rows call.now }
 {
     let row = rows.row(call.desc);
     if fun.takes_parent() && !may_be_parent(iface.shape.parents, row, call.desc, call.client) {

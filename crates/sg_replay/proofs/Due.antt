@@ -13,7 +13,7 @@ use Rattle.sg_replay.specs.declared.advance.Advanced.{Advanced}
 use Rattle.sg_replay.specs.declared.advance.Advanced.TheVariants.{Replayed, Loaded, Struck}
 use Rattle.sg_replay.specs.declared.todo.Todo.TheVariants.{Walk, Load}
 use Rattle.sg_replay.specs.Engined.{AreGiven, Engined}
-use Rattle.sg_replay.specs.Missing.{is_empty, is_whole, missing, missing_file, next_of, or_else, todo_of}
+use Rattle.sg_replay.specs.Missing.{is_empty, is_whole, missing, missing_file, next_number, or_else, todo_of}
 use Rattle.sg_replay.specs.Present.{is_present}
 use Rattle.sg_replay.specs.Replaying.{LoadsOne}
 
@@ -32,7 +32,7 @@ not_whole true is = absurd (cc is)
 not_whole false is = refl
 
 -- a row that is due isn't whole, and its call is the next of its walk
-pub due_walk : (e : Engined) (needs : Needs) (id k : ℕ) → missing e needs ≡ Some (Walk id k) → (is_whole (named_at e.names.known id) ≡ false) × (k ≡ next_of (named_at e.names.known id))
+pub due_walk : (e : Engined) (needs : Needs) (id k : ℕ) → missing e needs ≡ Some (Walk id k) → (is_whole (named_at e.names.known id) ≡ false) × (k ≡ next_number (named_at e.names.known id))
 due_walk e needs id k is = at (find (λ x. not (is_whole (named_at known x))) needs.ids) refl is
   where
     known : List (ℕ × Standing)
@@ -47,14 +47,14 @@ due_walk e needs id k is = at (find (λ x. not (is_whole (named_at known x))) ne
         by false is = cc is
 
     at : (found : Option ℕ) → find (λ x. not (is_whole (named_at known x))) needs.ids ≡ found → or_else (todo_of known found) (missing_file e needs.file) ≡ Some (Walk id k)
-        → (is_whole (named_at known id) ≡ false) × (k ≡ next_of (named_at known id))
+        → (is_whole (named_at known id) ≡ false) × (k ≡ next_number (named_at known id))
     at None found is = absurd (no_load needs.file is)
     at (Some x) found is =
-        let both : Walk x (next_of (named_at known x)) ≡ Walk id k = cc is in
+        let both : Walk x (next_number (named_at known x)) ≡ Walk id k = cc is in
         let one : x ≡ id = cc both in
-        let number : next_of (named_at known x) ≡ k = cc both in (
+        let number : next_number (named_at known x) ≡ k = cc both in (
           ap (λ i. is_whole (named_at known i)) (sym one) ∙ not_whole (is_whole (named_at known x)) (found_passes (λ i. not (is_whole (named_at known i))) needs.ids x found),
-          sym number ∙ ap (λ i. next_of (named_at known i)) one,
+          sym number ∙ ap (λ i. next_number (named_at known i)) one,
         )
 
 -- ---- a file that was loaded

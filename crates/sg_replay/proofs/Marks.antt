@@ -1,133 +1,49 @@
 -- The marks of paths in the map.
-use Rattle.std.proofs.Common.{◌≡◌, ℕ, Bool, true, false, cond, List, [], ◌∷◌, Some, None, is_some, refl, sym, ◌∙◌, ap, inl, inr}
-use Rattle.std.specs.Prelude.{◌||◌, Vec, IsSome, find, unwrap_or}
+use Rattle.std.proofs.Common.{◌≡◌, ℕ, Bool, true, false, cond, List, Some, None, is_some, refl, ◌∙◌, ap, inl, inr}
+use Rattle.std.specs.Prelude.{◌||◌, Vec, IsSome, unwrap_or}
 use Rattle.std.specs.Map.{lookup, set_value}
-use Rattle.std.specs.BTreeMap.{insert_entry, is_at}
-use Rattle.std.specs.Cmp.Lexicographic.{slice_cmp}
-use Rattle.std.specs.Ordering.{is_eq, match_ordering, nat_cmp}
+use Rattle.std.specs.BTreeMap.{insert_entry}
+use Rattle.std.specs.Option.{option_map}
 use Rattle.std.specs.Str.{bytes_eq}
 use Rattle.std.specs.declared.alloc.Global.{Global}
-use Rattle.std.specs.declared.cmp.Ordering.{Ordering}
-use Rattle.std.specs.declared.cmp.Ordering.TheVariants.{Less, Equal, Greater}
 use Rattle.std.specs.declared.option.Option.{Option}
-use Rattle.std.proofs.lemmas.Map.Text.{is_eq-slice_cmp}
+use Rattle.sg_store.proofs.ByText.{added_at, has_bytes, moved_at, told_at, vec_cmp}
 use Rattle.sg_store.proofs.Paths.{told, one_path}
 use Rattle.sg_replay.specs.Present.{Marks, HasMark, is_present, mark_at, mark_of, marks_of}
 
--- whether a key of the map has the bytes of a path
-abbrev pub has_bytes : List ℕ → Vec ℕ Global → Bool
-has_bytes key = is_at (λ k. slice_cmp nat_cmp key k.items)
+-- the mark of a path, with the path
+abbrev with_path : List ℕ → Bool → List ℕ × Bool
+with_path key mark = (key, mark)
 
-abbrev pub vec_cmp : Vec ℕ Global → Vec ℕ Global → Ordering
-vec_cmp a b = slice_cmp nat_cmp a.items b.items
+-- the map has a mark with its path at the path's bytes
+found : (entries : List (Vec ℕ Global × Bool)) (key : List ℕ) → option_map (with_path key) (lookup (has_bytes key) entries) ≡ mark_at (marks_of entries) key
+found = told_at with_path mark_at (λ key. refl) (λ k v xs key. refl)
 
 -- the mark of a path is what the map has at its bytes
 pub mark_found : (entries : List (Vec ℕ Global × Bool)) (key : List ℕ) → unwrap_or (lookup (has_bytes key) entries) false ≡ is_present (marks_of entries) key
-mark_found [] key = refl
-mark_found (e ∷ entries) key =
-    ap (λ b. unwrap_or (cond b (Some e.1) (lookup (has_bytes key) entries)) false) (is_eq-slice_cmp key e.0.items)
-    ∙ at (bytes_eq key e.0.items) (mark_found entries key)
+mark_found entries key = at (lookup (has_bytes key) entries) ∙ ap mark_of (found entries key)
   where
-    at : (b : Bool) → unwrap_or (lookup (has_bytes key) entries) false ≡ is_present (marks_of entries) key
-        → unwrap_or (cond b (Some e.1) (lookup (has_bytes key) entries)) false ≡ mark_of (cond b (Some (e.0.items, e.1)) (find (λ m. bytes_eq key m.0) (marks_of entries)))
-    at true rest = refl
-    at false rest = rest
+    at : (o : Option Bool) → unwrap_or o false ≡ mark_of (option_map (with_path key) o)
+    at None = refl
+    at (Some mark) = refl
 
 -- a path has a mark where the map has one at its bytes
 pub has_found : (entries : List (Vec ℕ Global × Bool)) (key : List ℕ) → is_some (lookup (has_bytes key) entries) ≡ is_some (mark_at (marks_of entries) key)
-has_found [] key = refl
-has_found (e ∷ entries) key =
-    ap (λ b. is_some (cond b (Some e.1) (lookup (has_bytes key) entries))) (is_eq-slice_cmp key e.0.items)
-    ∙ at (bytes_eq key e.0.items) (has_found entries key)
+has_found entries key = at (lookup (has_bytes key) entries) ∙ ap is_some (found entries key)
   where
-    at : (b : Bool) → is_some (lookup (has_bytes key) entries) ≡ is_some (mark_at (marks_of entries) key)
-        → is_some (cond b (Some e.1) (lookup (has_bytes key) entries)) ≡ is_some (cond b (Some (e.0.items, e.1)) (mark_at (marks_of entries) key))
-    at true rest = refl
-    at false rest = rest
+    at : (o : Option Bool) → is_some o ≡ is_some (option_map (with_path key) o)
+    at None = refl
+    at (Some mark) = refl
 
 -- after an entry comes, or another comes in its place
 pub mark_added : (entries : List (Vec ℕ Global × Bool)) (k : Vec ℕ Global) (v : Bool) (key : List ℕ)
     → mark_at (marks_of (insert_entry vec_cmp entries k v)) key ≡ cond (bytes_eq key k.items) (Some (k.items, v)) (mark_at (marks_of entries) key)
-mark_added [] k v key = refl
-mark_added (e ∷ entries) k v key = at (mark_added entries k v key) (vec_cmp k e.0) (is_eq-slice_cmp k.items e.0.items)
-  where
-    old : Option (List ℕ × Bool)
-    old = mark_at (marks_of entries) key
-
-    here : Option (List ℕ × Bool)
-    here = Some (k.items, v)
-
-    swap : (a b : Bool) (x : Option (List ℕ × Bool)) → bytes_eq key e.0.items ≡ a → bytes_eq key k.items ≡ b → bytes_eq k.items e.0.items ≡ false
-        → cond a x (cond b here old) ≡ cond b here (cond a x old)
-    swap true true x is is' apart =
-        absurd (elim (told k.items e.0.items) [
-          | inl same ↦ let both : true ≡ false = sym same.0 ∙ apart in cc both
-          | inr other ↦ other.1 (sym (one_path key k.items is') ∙ one_path key e.0.items is)
-        ])
-    swap true false x is is' apart = refl
-    swap false true x is is' apart = refl
-    swap false false x is is' apart = refl
-
-    same : (a b : Bool) → a ≡ b → cond a here old ≡ cond b here (cond a (Some (e.0.items, e.1)) old)
-    same true true is = refl
-    same true false is = absurd (cc is)
-    same false true is = absurd (cc is)
-    same false false is = refl
-
-    at : mark_at (marks_of (insert_entry vec_cmp entries k v)) key ≡ cond (bytes_eq key k.items) here old → (r : Ordering) → is_eq r ≡ bytes_eq k.items e.0.items
-        → mark_at (marks_of (match_ordering r ((k, v) ∷ e ∷ entries) ((e.0, v) ∷ entries) (e ∷ insert_entry vec_cmp entries k v))) key
-        ≡ cond (bytes_eq key k.items) here (cond (bytes_eq key e.0.items) (Some (e.0.items, e.1)) old)
-    at rest Less is = refl
-    at rest Equal is =
-        let one = one_path k.items e.0.items (sym is) in
-        ap (λ p. cond (bytes_eq key e.0.items) (Some (p, v)) old) (sym one)
-        ∙ same (bytes_eq key e.0.items) (bytes_eq key k.items) (ap (bytes_eq key) (sym one))
-    at rest Greater is =
-        ap (cond (bytes_eq key e.0.items) (Some (e.0.items, e.1))) rest
-        ∙ swap (bytes_eq key e.0.items) (bytes_eq key k.items) (Some (e.0.items, e.1)) refl refl (sym is)
+mark_added = added_at with_path mark_at (λ key. refl) (λ k v xs key. refl)
 
 -- after another mark is written through what the map lent
 pub mark_moved : (entries : List (Vec ℕ Global × Bool)) (k : List ℕ) (v : Bool) (key : List ℕ) → IsSome (mark_at (marks_of entries) k)
     → mark_at (marks_of (set_value (has_bytes k) entries v)) key ≡ cond (bytes_eq key k) (Some (k, v)) (mark_at (marks_of entries) key)
-mark_moved [] k v key there = absurd (cc there)
-mark_moved (e ∷ entries) k v key there =
-    ap (λ b. mark_at (marks_of (cond b ((e.0, v) ∷ entries) (e ∷ set_value (has_bytes k) entries v))) key) (is_eq-slice_cmp k e.0.items)
-    ∙ at (mark_moved entries k v key) (bytes_eq k e.0.items) refl there
-  where
-    old : Option (List ℕ × Bool)
-    old = mark_at (marks_of entries) key
-
-    here : Option (List ℕ × Bool)
-    here = Some (k, v)
-
-    same : (a b : Bool) → a ≡ b → cond a here old ≡ cond b here (cond a (Some (e.0.items, e.1)) old)
-    same true true is = refl
-    same true false is = absurd (cc is)
-    same false true is = absurd (cc is)
-    same false false is = refl
-
-    swap : (a b : Bool) (x : Option (List ℕ × Bool)) → bytes_eq key e.0.items ≡ a → bytes_eq key k ≡ b → bytes_eq k e.0.items ≡ false
-        → cond a x (cond b here old) ≡ cond b here (cond a x old)
-    swap true true x is is' apart =
-        absurd (elim (told k e.0.items) [
-          | inl one ↦ let both : true ≡ false = sym one.0 ∙ apart in cc both
-          | inr other ↦ other.1 (sym (one_path key k is') ∙ one_path key e.0.items is)
-        ])
-    swap true false x is is' apart = refl
-    swap false true x is is' apart = refl
-    swap false false x is is' apart = refl
-
-    at : (IsSome (mark_at (marks_of entries) k) → mark_at (marks_of (set_value (has_bytes k) entries v)) key ≡ cond (bytes_eq key k) here old)
-        → (b : Bool) → bytes_eq k e.0.items ≡ b → IsSome (cond b (Some (e.0.items, e.1)) (mark_at (marks_of entries) k))
-        → mark_at (marks_of (cond b ((e.0, v) ∷ entries) (e ∷ set_value (has_bytes k) entries v))) key
-        ≡ cond (bytes_eq key k) here (cond (bytes_eq key e.0.items) (Some (e.0.items, e.1)) old)
-    at rest true is some =
-        let one = one_path k e.0.items is in
-        ap (λ p. cond (bytes_eq key e.0.items) (Some (p, v)) old) (sym one)
-        ∙ same (bytes_eq key e.0.items) (bytes_eq key k) (ap (bytes_eq key) (sym one))
-    at rest false is some =
-        ap (cond (bytes_eq key e.0.items) (Some (e.0.items, e.1))) (rest some)
-        ∙ swap (bytes_eq key e.0.items) (bytes_eq key k) (Some (e.0.items, e.1)) refl refl is
+mark_moved = moved_at with_path mark_at (λ key. refl) (λ k v xs key. refl)
 
 -- ---- what a change at one path tells
 

@@ -20,7 +20,7 @@ use Rattle.sg_name.specs.declared.named.Named.TheVariants.{Live}
 use Rattle.sg_replay.proofs.Telling.{given_told, may_tell, walks_told}
 use Rattle.sg_replay.specs.Engined.{AreGiven, Engined, IsEngine}
 use Rattle.sg_replay.specs.Inside.Telling.{MayTell}
-use Rattle.sg_replay.specs.Serving.{IsTold, KeepsNames, MayServe, TellsReply, is_named_by, makes, real_call, real_in}
+use Rattle.sg_replay.specs.Serving.{IsReplyTold, KeepsNames, MayServe, TellsReply, is_named_by, makes, real_call, real_in}
 
 -- an engine whose service and names changed
 abbrev changed : Engined → Celled → Naming → Engined
@@ -139,13 +139,13 @@ module _ {e now : Engined} (is : e ≡ now) {call shown real : Call} (copied : s
           walks = walks_told e.names.known names.known is_new next reply kept.walks puts;
         }
 
-        pub told_reply : (told : Reply) → IsTold e.names.known is_new next reply told
+        pub told_reply : (told : Reply) → IsReplyTold e.names.known is_new next reply told
             → IfUp now (λ held. TellsReply facts ask parts held now call points told patch (changed e cell names) later)
         told_reply told tells held up =
             let its : next ≡ e.tracked.given + 1 = nexts ∙ ap (λ n. n + 1) kept.ids in
             subst (λ x. TellsReply facts ask parts held x call points told patch (changed e cell names) later) is (record {
               reply = reply;
               notes = notes held (up_in held up);
-              tells = subst (λ n. IsTold e.names.known (makes facts call) n reply told) its (subst (λ b. IsTold e.names.known b next reply told) new_is tells);
+              tells = subst (λ n. IsReplyTold e.names.known (makes facts call) n reply told) its (subst (λ b. IsReplyTold e.names.known b next reply told) new_is tells);
               names = λ id. puts_made id ∙ ap (λ n. if is_named_by (makes facts call) n reply id then Live (real_in reply) else named_at e.names.known id) its;
             })

@@ -14,10 +14,12 @@ use Rattle.sg_facts.specs.declared.outcome.Patch.{Patch}
 use Rattle.sg_facts.specs.declared.row.Row.{Row}
 use Rattle.sg_facts.specs.declared.tables.WalkLine.{WalkLine}
 use Rattle.sg_facts.specs.declared.trace.Tag.{Tag}
+use Rattle.sg_facts.specs.Alike.{under_names}
 use Rattle.sg_facts.specs.Facts.{Facts, fun_at}
 use Rattle.sg_facts.specs.Invoke.{Points}
 use Rattle.sg_facts.specs.Legal.{Table}
 use Rattle.sg_facts.specs.Object.{Object, after}
+use Rattle.sg_facts.specs.Track.{row_at}
 use Rattle.sg_facts.specs.Walks.{most_calls}
 use Rattle.sg_boot.specs.Cells.{Celled}
 use Rattle.sg_boot.specs.Invoking.{NotesReply, NotesStop, item_of_call, with_item, with_stop}
@@ -25,9 +27,10 @@ use Rattle.sg_name.specs.Names.{IsOneToOne, name_by, name_of, named_at, real_at,
 use Rattle.sg_name.specs.declared.named.Named.{Named}
 use Rattle.sg_name.specs.declared.named.Named.TheVariants.{Unnamed, Partial, Live}
 use Rattle.sg_name.specs.declared.named.Standing.{Standing}
-use Rattle.sg_replay.specs.Engined.{AreGiven, AreInWalks}
-use Rattle.sg_replay.specs.Missing.{is_whole, next_of}
-use Rattle.sg_replay.specs.Replaying.{name_after, real_after, replay_of}
+use Rattle.sg_replay.specs.Engined.{AreGiven, AreInWalks, Engined}
+use Rattle.sg_replay.specs.Missing.{is_whole, next_number}
+use Rattle.sg_replay.specs.Replaying.{MayReplay, name_after, real_after, replay_of}
+use Rattle.sg_replay.specs.Serving.{pairs_of, real_call}
 
 -- the ids given after an answer
 pub given_more : (facts : Facts) (held : Object) (call : Call) (good : Good) → held.given ≤ (after facts held call (Ok good)).given
@@ -65,16 +68,24 @@ real_of_after real k last = at (k == last)
 one_real : (a b : ℕ) → Some a ≡ Some b → a ≡ b
 one_real a b is = cc is
 
-module _ (known : List (ℕ × Standing)) (held : Object) (id k last desc : ℕ) (given : AreGiven (Some held) known) (apart : IsOneToOne known)
-    (partly : is_whole (named_at known id) ≡ false) (next : k ≡ next_of (named_at known id)) (new : k ≡ 1 → desc ≡ held.given + 1) where
+-- an id's row isn't whole, and the next call of its walk gave a descriptor, the first the service's next id; each service id is
+-- one that the service had given, and of one id
+pub record IsNextStep (known : List (ℕ × Standing)) (held : Object) (id k desc : ℕ) : Type 0 where
+  pub given : AreGiven (Some held) known
+  pub apart : IsOneToOne known
+  pub partly : is_whole (named_at known id) ≡ false
+  pub next : k ≡ next_number (named_at known id)
+  pub new : k ≡ 1 → desc ≡ held.given + 1
+
+module _ {known : List (ℕ × Standing)} {held : Object} {id k desc : ℕ} (step : IsNextStep known held id k desc) (last : ℕ) where
   -- which service id the id has after a call: that which it has, or that which the service gives
   abbrev Has : ℕ → Type 0
   Has real = (real_at known id ≡ Some real) ⊎ ((k ≡ 1) × (real ≡ desc))
 
   has_at : (named : Named) → named ≡ named_at known id → Has (real_after named desc)
-  has_at Unnamed is = inr (next ∙ ap next_of (sym is), refl)
+  has_at Unnamed is = inr (step.next ∙ ap next_number (sym is), refl)
   has_at (Partial real done) is = inl (real_named known id ∙ ap real_of (sym is))
-  has_at (Live real) is = absurd (let whole : true ≡ false = ap is_whole is ∙ partly in cc whole)
+  has_at (Live real) is = absurd (let whole : true ≡ false = ap is_whole is ∙ step.partly in cc whole)
 
   -- no other id has it
   pub step_apart : (named : Named) → named ≡ named_at known id → (other real : ℕ) → real_of (name_after (real_after named desc) k last) ≡ Some real → real_at known other ≡ Some real → other ≡ id
@@ -83,10 +94,10 @@ module _ (known : List (ℕ × Standing)) (held : Object) (id k last desc : ℕ)
       at (has_at named is) real_is
     where
       at : Has (real_after named desc) → real_after named desc ≡ real → other ≡ id
-      at (inl old) same = apart other id real its (old ∙ ap Some same)
+      at (inl old) same = step.apart other id real its (old ∙ ap Some same)
       at (inr made) same =
-          let low = (given other real its).1 in
-          let high : real ≡ held.given + 1 = sym same ∙ made.1 ∙ new made.0 in
+          let low = (step.given other real its).1 in
+          let high : real ≡ held.given + 1 = sym same ∙ made.1 ∙ step.new made.0 in
           absurd (omega (arith, low, high))
 
   -- and it is an id that the service has given then
@@ -99,11 +110,11 @@ module _ (known : List (ℕ × Standing)) (held : Object) (id k last desc : ℕ)
     where
       at : Has (real_after named desc) → real_after named desc ≡ real → (1 ≤ real) × (real ≤ (after facts held call (Ok good)).given)
       at (inl old) same =
-          let within = given id real (old ∙ ap Some same) in
+          let within = step.given id real (old ∙ ap Some same) in
           let more = given_more facts held call good in
           (within.0, omega (arith, within.1, more))
       at (inr made) same =
-          let is_next : real ≡ held.given + 1 = sym same ∙ made.1 ∙ new made.0 in
+          let is_next : real ≡ held.given + 1 = sym same ∙ made.1 ∙ step.new made.0 in
           let more = given_next facts held call good (makes made.0) in
           (omega (arith, is_next), omega (arith, is_next, more))
 
@@ -175,3 +186,40 @@ pub same_good : (ask : Table) (held : Object) (real real' : Call) (reply : Reply
 same_good ask held real real' reply good good' is told same its =
     let both : Some (Ok good) ≡ Some (Ok good') = ap Some (sym told) ∙ sym is ∙ ap (ask held) same ∙ its in
     cc both
+
+-- ---- what the parts of an engine tell of it
+
+module _ {parts e : Engined} (view : parts ≡ e) where
+  -- names that stay are the engine's
+  pub known_of : {known : List (ℕ × Standing)} → known ≡ parts.names.known → known ≡ e.names.known
+  known_of same = same ∙ ap (λ x. x.names.known) view
+
+  -- the call of the walk of an id's row is one
+  pub shown_of : {facts : Facts} (id k : ℕ) (row : Option Row) (a b : Call) → parts.tables.iface.facts ≡ facts → row ≡ row_at parts.tracked.rows id
+      → replay_of parts.tables.iface.facts parts.tables.walks row k ≡ Some a → replay_of facts e.tables.walks (row_at e.tracked.rows id) k ≡ Some b → a ≡ b
+  shown_of {facts = facts} id k row a b service there is its =
+      same_call parts.tables.iface.facts facts parts.tables.walks e.tables.walks row (row_at e.tracked.rows id) k a b is service (ap (λ x. x.tables.walks) view)
+      (there ∙ ap (λ x. row_at x.tracked.rows id) view) its
+
+  -- it is asked under the service's ids
+  pub real_of_shown : {known : List (ℕ × Standing)} {a b real : Call} → known ≡ parts.names.known → real ≡ under_names (pairs_of known) a → a ≡ b → real ≡ real_call e b
+  real_of_shown {a = a} same under shown = under ∙ ap (λ n. under_names (pairs_of n) a) (known_of same) ∙ ap (real_call e) shown
+
+  module _ {facts : Facts} {ask : Table} {id k : ℕ} (may : MayReplay facts ask e id k) {real : Call} {reply : Reply} {good : Good} (under : real ≡ real_call e may.shown)
+      (answers : ask may.held real ≡ Some reply) (told : reply ≡ Ok good) where
+    -- what the service gave is what it had to
+    pub good_of : good ≡ may.ready.good
+    good_of = same_good ask may.held real (real_call e may.shown) reply good may.ready.good answers told under may.ready.answered
+
+    pub next_step : {known : List (ℕ × Standing)} → known ≡ parts.names.known → AreGiven parts.cell.running parts.names.known → IsOneToOne known → IsNextStep known may.held id k good.desc
+    next_step {known} same given apart = record {
+      given = subst (λ r. AreGiven r known) (ap (λ x. x.cell.running) view ∙ may.up) (subst (AreGiven parts.cell.running) (sym same) given);
+      apart = apart;
+      partly = ap (λ n. is_whole (named_at n id)) (known_of same) ∙ may.partly;
+      next = may.next ∙ sym (ap (λ n. next_number (named_at n id)) (known_of same));
+      new = λ one. ap (λ x. x.desc) good_of ∙ (may.ready.first one).1;
+    }
+
+    -- the first call is of a creation
+    pub makes_first : k ≡ 1 → (fun_at facts.funs real.fun).creation ≡ true
+    makes_first one = ap (λ x. (fun_at facts.funs x.fun).creation) under ∙ (may.ready.first one).0

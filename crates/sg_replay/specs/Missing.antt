@@ -18,15 +18,15 @@ is_whole (Live real) = true
 is_whole _ = false
 
 -- the number of the next call of a descriptor's walk, from 1
-abbrev pub next_of : Named → ℕ
-next_of Unnamed = 1
-next_of (Partial real done) = done + 1
-next_of (Live real) = 1
+abbrev pub next_number : Named → ℕ
+next_number Unnamed = 1
+next_number (Partial real done) = done + 1
+next_number (Live real) = 1
 
 -- the next call of the walk of the first of these ids that isn't whole
 abbrev pub todo_of : List (ℕ × Standing) → Option ℕ → Option Todo
 todo_of known None = None
-todo_of known (Some id) = Some (Walk id (next_of (named_at known id)))
+todo_of known (Some id) = Some (Walk id (next_number (named_at known id)))
 
 abbrev pub missing_row : List (ℕ × Standing) → List ℕ → Option Todo
 missing_row known ids = todo_of known (find (λ id. not (is_whole (named_at known id))) ids)

@@ -28,7 +28,7 @@ use Rattle.sg_name.specs.declared.named.Named.TheVariants.{Partial, Live}
 use Rattle.sg_replay.specs.declared.advance.Advanced.{Advanced}
 use Rattle.sg_replay.specs.declared.advance.Advanced.TheVariants.{Replayed, Loaded, Struck}
 use Rattle.sg_replay.specs.Engined.{Engined}
-use Rattle.sg_replay.specs.Missing.{is_whole, missing, next_of}
+use Rattle.sg_replay.specs.Missing.{is_whole, missing, next_number}
 use Rattle.sg_replay.specs.declared.todo.Todo.{Todo}
 use Rattle.sg_replay.specs.declared.todo.Todo.TheVariants.{Walk as ToWalk, Load}
 use Rattle.sg_replay.specs.Present.{is_present}
@@ -65,7 +65,7 @@ pub record MayReplay (facts : Facts) (ask : Table) (e : Engined) (id k : ℕ) : 
   pub shown : Call
   pub ready : IsReplayable facts ask e held id k shown
   pub partly : is_whole (named_at e.names.known id) ≡ false
-  pub next : k ≡ next_of (named_at e.names.known id)
+  pub next : k ≡ next_number (named_at e.names.known id)
 
 -- what stands for an id after a call of its walk: its first call gives its service id, its last makes it whole
 abbrev pub name_after : ℕ → ℕ → ℕ → Named

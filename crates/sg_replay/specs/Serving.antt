@@ -40,10 +40,10 @@ IsDescTold known true next real told = told ≡ next
 IsDescTold known false next real told = ((real ≡ 0) × (told ≡ 0)) ⊎ (real_at known told ≡ Some real)
 
 -- a reply of the service is told under the clients' ids
-abbrev pub IsTold : List (ℕ × Standing) → Bool → ℕ → Reply → Reply → Type 0
-IsTold known is_new next (Ok good) (Ok told) = (told.words ≡ good.words) × (told.bytes ≡ good.bytes) × IsDescTold known is_new next good.desc told.desc
-IsTold known is_new next (Refused code) (Refused told) = told ≡ code
-IsTold known is_new next _ _ = ⊥
+abbrev pub IsReplyTold : List (ℕ × Standing) → Bool → ℕ → Reply → Reply → Type 0
+IsReplyTold known is_new next (Ok good) (Ok told) = (told.words ≡ good.words) × (told.bytes ≡ good.bytes) × IsDescTold known is_new next good.desc told.desc
+IsReplyTold known is_new next (Refused code) (Refused told) = told ≡ code
+IsReplyTold known is_new next _ _ = ⊥
 
 -- a call may be served: the service is up and may be asked it under its ids, there is room for its item and its name, and what
 -- the service would answer can be told: a creation gives the service's next id, and any other descriptor stands for a client's id
@@ -72,7 +72,7 @@ real_in (Refused code) = 0
 pub record TellsReply (facts : Facts) (ask : Table) (parts : ℕ → ℕ) (held : Object) (old : Engined) (call : Call) (points : Points) (told : Reply) (patch : Option Patch) (new : Engined) (later : Points) : Type 0 where
   pub reply : Reply
   pub notes : NotesReply facts ask parts held old.cell (Client call.client call.seq) call (real_call old call) points reply patch new.cell later
-  pub tells : IsTold old.names.known (makes facts call) (old.tracked.given + 1) reply told
+  pub tells : IsReplyTold old.names.known (makes facts call) (old.tracked.given + 1) reply told
   pub names : (id : ℕ) → named_at new.names.known id ≡ (if is_named_by (makes facts call) (old.tracked.given + 1) reply id then Live (real_in reply) else named_at old.names.known id)
 
 -- all names stay
@@ -80,8 +80,8 @@ abbrev pub KeepsNames : Engined → Engined → Type 0
 KeepsNames old new = (id : ℕ) → named_at new.names.known id ≡ named_at old.names.known id
 
 -- what serving a call does, by its outcome
-abbrev pub Serves : Facts → Table → (ℕ → ℕ) → Object → Engined → Call → Points → Outcome → Engined → Points → Type 0
-Serves facts ask parts held old call points (Replied reply patch) new later = TellsReply facts ask parts held old call points reply patch new later
-Serves facts ask parts held old call points Blocks new later = NotesWait ask held old.cell (Client call.client call.seq) call (real_call old call) points new.cell later × KeepsNames old new
-Serves facts ask parts held old call points Stopped new later = NotesStop ask parts held old.cell (Client call.client call.seq) call (real_call old call) points new.cell later × KeepsNames old new
-Serves facts ask parts held old call points NoMemory new later = NotesNothing old.cell points new.cell later × KeepsNames old new
+abbrev pub ServesOne : Facts → Table → (ℕ → ℕ) → Object → Engined → Call → Points → Outcome → Engined → Points → Type 0
+ServesOne facts ask parts held old call points (Replied reply patch) new later = TellsReply facts ask parts held old call points reply patch new later
+ServesOne facts ask parts held old call points Blocks new later = NotesWait ask held old.cell (Client call.client call.seq) call (real_call old call) points new.cell later × KeepsNames old new
+ServesOne facts ask parts held old call points Stopped new later = NotesStop ask parts held old.cell (Client call.client call.seq) call (real_call old call) points new.cell later × KeepsNames old new
+ServesOne facts ask parts held old call points NoMemory new later = NotesNothing old.cell points new.cell later × KeepsNames old new

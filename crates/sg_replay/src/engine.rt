@@ -55,6 +55,8 @@ impl<S: Service> Engine<S> {
         ensures run { IfOk result (λ e. e.cell.run ≡ record { boots = booted []; points = 0 }) }
         ensures clients { IfOk result (λ e. e.stored.clients ≡ clients) }
         ensures receipts { IfOk result (λ e. (client : ℕ) → receipt_at e.stored client ≡ None) }
+        ensures stored_rows { IfOk result (λ e. e.stored.rows ≡ []) }
+        ensures stored_given { IfOk result (λ e. e.stored.given ≡ 0) }
         ensures files { IfOk result (λ e. (key : List ℕ) → bytes_of e.stored key ≡ []) }
         ensures rows { IfOk result (λ e. e.tracked.rows ≡ []) }
         ensures given { IfOk result (λ e. e.tracked.given ≡ 0) }

@@ -4,7 +4,7 @@ ghost use Rattle.sg_facts.specs.Alike.{named, under_names};
 ghost use Rattle.sg_name.specs.Names.{named_at, real_at};
 ghost use Rattle.sg_name.specs.declared.named.Named.TheVariants.{Live};
 ghost use Rattle.sg_replay.specs.Inside.Telling.{MayTell, MayTellDesc};
-ghost use Rattle.sg_replay.specs.Serving.{IsDescTold, IsTold, is_named_by, pairs_of, real_in};
+ghost use Rattle.sg_replay.specs.Serving.{IsDescTold, IsReplyTold, is_named_by, pairs_of, real_in};
 
 use sg_base::{Call, Good, NoMemory, Reply, TryCopy};
 use sg_name::{Named, Names};
@@ -45,7 +45,7 @@ pub(crate) fn real_call(alloc: Global, names: &Names, call: &Call) -> Result<Cal
 /// A reply of the service under the clients' ids. What was made gets the next id, and its name.
 pub(crate) fn tell(names: &mut Names, is_new: bool, next: u64, reply: Reply) -> Reply
     requires { MayTell names.old is_new reply }
-    ensures tells { IsTold names.old.known is_new next reply result }
+    ensures tells { IsReplyTold names.old.known is_new next reply result }
     ensures names { (id : ℕ) → named_at names.new.known id
         ≡ (if is_named_by is_new next reply id then Live (real_in reply) else named_at names.old.known id) }
     ensures room { names.old.spare ≤ names.new.spare + 1 }

@@ -1,7 +1,7 @@
 // Serving a call that needs nothing any more.
 ghost use Rattle.std.specs.Prelude.{◌≡◌, ◌+◌, ◌≤◌, Some};
 ghost use Rattle.sg_facts.specs.Object.{Object};
-ghost use Rattle.sg_replay.specs.Serving.{MayServe, Serves, makes};
+ghost use Rattle.sg_replay.specs.Serving.{MayServe, ServesOne, makes};
 
 use crate::engine::Engine;
 use crate::names::{real_call, tell};
@@ -16,7 +16,7 @@ impl<S: Service> Engine<S> {
     /// nothing was asked. The rows, the receipts, the files and which of them are present stay, whatever the answer.
     pub fn serve<T: Stops>(&mut self, alloc: Global, stops: &mut T, call: &Call) -> Outcome
         requires { MayServe S.facts S.ask self.old call.now }
-        ensures outcome { (held : Object) → self.old.cell.running ≡ Some held → Serves S.facts S.ask S.parts held self.old call.now
+        ensures outcome { (held : Object) → self.old.cell.running ≡ Some held → ServesOne S.facts S.ask S.parts held self.old call.now
             (record { asked = T.asked stops.old; struck = T.struck stops.old }) result
             self.new (record { asked = T.asked stops.new; struck = T.struck stops.new }) }
         ensures names_room { self.old.names.spare ≤ self.new.names.spare + 1 }

@@ -4,7 +4,7 @@ ghost use Rattle.sg_name.specs.Names.{named_at};
 ghost use Rattle.sg_name.specs.declared.named.Named.TheVariants.{Partial};
 ghost use Rattle.sg_facts.specs.Walks.{most_calls};
 ghost use Rattle.sg_replay.specs.Engined.{AreInWalks};
-ghost use Rattle.sg_replay.specs.Missing.{is_whole, missing_row, next_of};
+ghost use Rattle.sg_replay.specs.Missing.{is_whole, missing_row, next_number};
 
 use sg_name::{Named, Names};
 
@@ -36,7 +36,7 @@ pub(crate) fn missing_row(names: &Names, ids: &[u64]) -> Option<Todo>
             } else {
                 Some(Todo::Walk {
                     id: *id,
-                    k: next_of(named),
+                    k: next_number(named),
                 })
             }
         }
@@ -51,9 +51,9 @@ fn is_whole(named: Named) -> bool
 }
 
 // The number of the next call of a descriptor's walk.
-fn next_of(named: Named) -> u8
+fn next_number(named: Named) -> u8
     requires { (real done : ℕ) → named ≡ Partial real done → done < most_calls }
-    ensures { result ≡ next_of named }
+    ensures { result ≡ next_number named }
 {
     match named {
         Named::Unnamed | Named::Live { .. } => 1,

@@ -1,3 +1,4 @@
+pub mod ByText
 pub mod Moving
 pub mod Parts
 pub mod Paths

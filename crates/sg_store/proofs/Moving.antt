@@ -6,7 +6,7 @@ use Rattle.sg_facts.specs.Limits.{most_file, most_written}
 use Rattle.sg_facts.specs.Object.{over}
 use Rattle.sg_store.specs.declared.places.Place.{Place}
 use Rattle.sg_store.specs.Spans.{Filed, FitsPatch, GrowsTwice, HasRoomIn, Span, bytes_in, patched_at, span_at, span_room, span_stand, stand_in}
-use Rattle.sg_store.specs.Inside.Buffers.{Grows, HasCopy}
+use Rattle.sg_store.specs.Inside.Buffers.{IsFrontOf, HasCopy}
 use Rattle.sg_store.specs.Inside.Places.{AreSpans, HasSpan, span_of}
 use Rattle.sg_store.proofs.Spots.{IsSet, fits_span, moved_files, moved_rooms, moved_spans, moved_within, room_stays, room_there, set_there, stands_set, twice_set, written_files, written_spans}
 
@@ -18,7 +18,7 @@ pub record Moves (old new : Filed) (key : List ℕ) : Type 0 where
   pub room : HasRoomIn new key
   pub twice : (k : List ℕ) → GrowsTwice old.spans new.spans k
 
-moves_own : (f g : Filed) (key : List ℕ) (s moved : Span) → AreSpans f.buffer f.spans → span_at f.spans key ≡ Some s → IsSet f.spans g.spans key moved → Grows f.buffer g.buffer
+moves_own : (f g : Filed) (key : List ℕ) (s moved : Span) → AreSpans f.buffer f.spans → span_at f.spans key ≡ Some s → IsSet f.spans g.spans key moved → IsFrontOf f.buffer g.buffer
     → HasCopy f.buffer s.from s.len moved.room g.buffer → moved.from ≡ length f.buffer → moved.len ≡ s.len → 2 * s.room ≤ moved.room → min (moved.len + most_written) most_file ≤ moved.room
     → Moves f g key
 moves_own f g key s moved are there set grew copied from len twice enough =
@@ -35,7 +35,7 @@ moves_own f g key s moved are there set grew copied from len twice enough =
 
 -- a file moves to the end of the buffer
 pub moves : (f now g : Filed) (key key' : List ℕ) (place : Place) (end room : ℕ) → f ≡ now → AreSpans f.buffer f.spans → HasSpan now.spans key place → key' ≡ key
-    → IsSet f.spans g.spans key' (span_of key' (record { from = end; len = place.len; room = room })) → Grows f.buffer g.buffer → HasCopy f.buffer place.from place.len room g.buffer
+    → IsSet f.spans g.spans key' (span_of key' (record { from = end; len = place.len; room = room })) → IsFrontOf f.buffer g.buffer → HasCopy f.buffer place.from place.len room g.buffer
     → end ≡ length f.buffer → 2 * place.room ≤ room → min (place.len + most_written) most_file ≤ room → Moves now g key
 moves f now g key key' place end room view are there same set grew copied is more enough =
     subst (λ x. Moves x g key) view (moves_own f g key (span_of key place) (span_of key (record { from = end; len = place.len; room = room })) are

@@ -3,20 +3,20 @@ use Rattle.std.proofs.Common.{◌≡◌, ℕ, zero, suc, ◌+◌, ◌-◌, ◌�
 use Rattle.std.specs.Prelude.{max}
 use Rattle.std.proofs.lemmas.List.{append_assoc, drop-append-le, drop-drop, drop-take, drop_at, length-append, length-drop, length-take-le, take-append-drop, take-append-le, take-take, take_at}
 use Rattle.sg_facts.specs.Object.{over}
-use Rattle.sg_store.specs.Spans.{part_of}
+use Rattle.sg_store.specs.Spans.{buffer_part}
 
 -- ---- a buffer that grows
 
 -- a part that stands in the front of a buffer
-pub part_front : (old more : List ℕ) (from len : ℕ) → from + len ≤ length old → part_of (old ++ more) from len ≡ part_of old from len
+pub part_front : (old more : List ℕ) (from len : ℕ) → from + len ≤ length old → buffer_part (old ++ more) from len ≡ buffer_part old from len
 part_front old more from len within =
     ap (take len) (drop-append-le from old more (omega arith))
     ∙ take-append-le len (drop from old) more (omega (arith, length-drop from old))
 
 -- the first bytes behind the front
-pub part_more : (old copy more : List ℕ) (len : ℕ) → length copy ≡ len → part_of ((old ++ copy) ++ more) (length old) len ≡ copy
+pub part_more : (old copy more : List ℕ) (len : ℕ) → length copy ≡ len → buffer_part ((old ++ copy) ++ more) (length old) len ≡ copy
 part_more old copy more len is =
-    ap (λ l. part_of l (length old) len) (append_assoc old copy more) ∙ ap (take len) (drop_at old (copy ++ more) (length old) refl) ∙ take_at copy more len is
+    ap (λ l. buffer_part l (length old) len) (append_assoc old copy more) ∙ ap (take len) (drop_at old (copy ++ more) (length old) refl) ∙ take_at copy more len is
 
 -- ---- a buffer that is written
 
@@ -29,15 +29,15 @@ length_over old bytes at within =
     omega (arith, length-append (take at old ++ bytes) (drop (at + length bytes) old), front, length-drop (at + length bytes) old)
 
 -- a part before what is written
-pub part_before : (old bytes : List ℕ) (at from len : ℕ) → from + len ≤ at → at ≤ length old → part_of (over old at bytes) from len ≡ part_of old from len
+pub part_before : (old bytes : List ℕ) (at from len : ℕ) → from + len ≤ at → at ≤ length old → buffer_part (over old at bytes) from len ≡ buffer_part old from len
 part_before old bytes at from len before within =
     let short : from + len ≤ length (take at old) = omega (arith, length-take-le at old within) in
-    ap (λ l. part_of l from len) (append_assoc (take at old) bytes (drop (at + length bytes) old))
+    ap (λ l. buffer_part l from len) (append_assoc (take at old) bytes (drop (at + length bytes) old))
     ∙ part_front (take at old) (bytes ++ drop (at + length bytes) old) from len short
-    ∙ sym (part_front (take at old) (drop at old) from len short) ∙ ap (λ l. part_of l from len) (take-append-drop at old)
+    ∙ sym (part_front (take at old) (drop at old) from len short) ∙ ap (λ l. buffer_part l from len) (take-append-drop at old)
 
 -- a part behind what is written
-pub part_behind : (old bytes : List ℕ) (at from len : ℕ) → at + length bytes ≤ from → at ≤ length old → part_of (over old at bytes) from len ≡ part_of old from len
+pub part_behind : (old bytes : List ℕ) (at from len : ℕ) → at + length bytes ≤ from → at ≤ length old → buffer_part (over old at bytes) from len ≡ buffer_part old from len
 part_behind old bytes at from len behind within =
     let m = from - (at + length bytes) in
     let is : at + length bytes + m ≡ from = omega arith in
@@ -84,6 +84,6 @@ take_over old bytes len at new begins within is =
 
 -- the part of a file after a patch of it
 pub part_written : (old bytes : List ℕ) (from len at new : ℕ) → at ≤ len → from + len ≤ length old → new ≡ max len (at + length bytes)
-    → part_of (over old (from + at) bytes) from new ≡ over (part_of old from len) at bytes
+    → buffer_part (over old (from + at) bytes) from new ≡ over (buffer_part old from len) at bytes
 part_written old bytes from len at new begins within is =
     ap (take new) (drop_over old bytes from at (omega arith)) ∙ take_over (drop from old) bytes len at new begins (omega (arith, length-drop from old)) is

@@ -7,9 +7,9 @@ use Rattle.std.proofs.lemmas.List.{length-drop, length-take-le}
 use Rattle.sg_facts.specs.declared.outcome.Patch.{Patch}
 use Rattle.sg_facts.specs.Limits.{most_file, most_written}
 use Rattle.sg_facts.specs.Object.{over}
-use Rattle.sg_store.specs.Spans.{Filed, FitsPatch, GrowsTwice, HasRoomIn, IsApart, Span, bytes_in, part_of, patched_at, span_at, span_bytes, span_room, span_stand, stand_in}
-use Rattle.sg_store.specs.Inside.Buffers.{Grows, HasCopy}
-use Rattle.sg_store.specs.Inside.Places.{AreSpans, IsWithin}
+use Rattle.sg_store.specs.Spans.{Filed, FitsPatch, GrowsTwice, HasRoomIn, IsApart, Span, bytes_in, buffer_part, patched_at, span_at, span_bytes, span_room, span_stand, stand_in}
+use Rattle.sg_store.specs.Inside.Buffers.{IsFrontOf, HasCopy}
+use Rattle.sg_store.specs.Inside.Places.{AreSpans, IsInBuffer}
 use Rattle.sg_store.proofs.Paths.{told, two_paths}
 use Rattle.sg_store.proofs.Parts.{length_over, part_before, part_behind, part_front, part_written}
 
@@ -28,16 +28,16 @@ module _ (old new : List Span) (key : List ℕ) (s : Span) (set : IsSet old new 
   set_there = elim (told key key) [ inl same ↦ at_key key same.0 | inr apart ↦ absurd (apart.1 refl) ]
 
   -- spans stay within the buffer and apart
-  pub spans_set : (buffer buffer' : List ℕ) → AreSpans buffer old → length buffer ≤ length buffer' → IsWithin buffer' s
+  pub spans_set : (buffer buffer' : List ℕ) → AreSpans buffer old → length buffer ≤ length buffer' → IsInBuffer buffer' s
       → ((k : List ℕ) (t : Span) → k ≢ key → span_at old k ≡ Some t → IsApart s t) → AreSpans buffer' new
   spans_set buffer buffer' are longer within apart = record { within = all_within; apart = all_apart }
     where
-      wider : (t : Span) → IsWithin buffer t → IsWithin buffer' t
+      wider : (t : Span) → IsInBuffer buffer t → IsInBuffer buffer' t
       wider t w = record { len = w.len; end = omega (arith, w.end, longer); most = w.most }
 
-      all_within : (k : List ℕ) (t : Span) → span_at new k ≡ Some t → IsWithin buffer' t
+      all_within : (k : List ℕ) (t : Span) → span_at new k ≡ Some t → IsInBuffer buffer' t
       all_within k t is = elim (told k key) [
-        | inl same ↦ let one : s ≡ t = (let both : Some s ≡ Some t = sym (at_key k same.0) ∙ is in cc both) in subst (IsWithin buffer') one within
+        | inl same ↦ let one : s ≡ t = (let both : Some s ≡ Some t = sym (at_key k same.0) ∙ is in cc both) in subst (IsInBuffer buffer') one within
         | inr other ↦ wider t (are.within k t (sym (at_other k other.0) ∙ is))
       ]
 
@@ -62,7 +62,7 @@ module _ (old new : List Span) (key : List ℕ) (s : Span) (set : IsSet old new 
       ]
 
   -- the bytes of each file, where those of the one and of the others are told
-  pub files_set : (buffer : List ℕ) (bytes : List ℕ → List ℕ) → part_of buffer s.from s.len ≡ bytes key
+  pub files_set : (buffer : List ℕ) (bytes : List ℕ → List ℕ) → buffer_part buffer s.from s.len ≡ bytes key
       → ((k : List ℕ) → k ≢ key → bytes_eq k key ≡ false → span_bytes buffer (span_at old k) ≡ bytes k) → (k : List ℕ) → span_bytes buffer (span_at new k) ≡ bytes k
   files_set buffer bytes here others k = elim (told k key) [
     | inl same ↦ ap (span_bytes buffer) (at_key k same.0) ∙ here ∙ ap bytes (sym same.1)
@@ -95,19 +95,19 @@ pub room_stays : (f g : Filed) → ((k : List ℕ) → bytes_in g k ≡ bytes_in
 room_stays f g same more k has = subst (λ bytes. min (length bytes + most_written) most_file ≤ span_room (span_at g.spans k)) (sym (same k)) (omega (arith, has, more k))
 
 -- a span's file is as long as the span says
-pub length_part : (buffer : List ℕ) (s : Span) → IsWithin buffer s → length (part_of buffer s.from s.len) ≡ s.len
+pub length_part : (buffer : List ℕ) (s : Span) → IsInBuffer buffer s → length (buffer_part buffer s.from s.len) ≡ s.len
 length_part buffer s w = length-take-le s.len (drop s.from buffer) (omega (arith, length-drop s.from buffer, w.len, w.end))
 
 -- what stands in spans stays when the buffer grows
 pub bytes_front : (buffer more : List ℕ) (spans : List Span) (k : List ℕ) → AreSpans buffer spans → span_bytes (buffer ++ more) (span_at spans k) ≡ span_bytes buffer (span_at spans k)
 bytes_front buffer more spans k are = at (span_at spans k) (are.within k)
   where
-    at : (o : Option Span) → ((s : Span) → o ≡ Some s → IsWithin buffer s) → span_bytes (buffer ++ more) o ≡ span_bytes buffer o
+    at : (o : Option Span) → ((s : Span) → o ≡ Some s → IsInBuffer buffer s) → span_bytes (buffer ++ more) o ≡ span_bytes buffer o
     at None within = refl
     at (Some s) within = let w = within s refl in part_front buffer more s.from s.len (omega (arith, w.len, w.end))
 
 -- a file has room where its span has
-pub room_there : (f : Filed) (key : List ℕ) (s : Span) → span_at f.spans key ≡ Some s → IsWithin f.buffer s → min (s.len + most_written) most_file ≤ s.room → HasRoomIn f key
+pub room_there : (f : Filed) (key : List ℕ) (s : Span) → span_at f.spans key ≡ Some s → IsInBuffer f.buffer s → min (s.len + most_written) most_file ≤ s.room → HasRoomIn f key
 room_there f key s there within enough =
     subst (λ o. min (length (span_bytes f.buffer o) + most_written) most_file ≤ span_room o) (sym there)
     (subst (λ n. min (n + most_written) most_file ≤ s.room) (sym (length_part f.buffer s within)) enough)
@@ -115,8 +115,8 @@ room_there f key s there within enough =
 -- ---- a file that moves to the end
 
 module _ (buffer new : List ℕ) (old spans : List Span) (key : List ℕ) (s moved : Span) (are : AreSpans buffer old) (there : span_at old key ≡ Some s) (set : IsSet old spans key moved)
-    (grew : Grows buffer new) (copied : HasCopy buffer s.from s.len moved.room new) (from : moved.from ≡ length buffer) (len : moved.len ≡ s.len) (more : s.room ≤ moved.room) where
-  pub moved_within : IsWithin new moved
+    (grew : IsFrontOf buffer new) (copied : HasCopy buffer s.from s.len moved.room new) (from : moved.from ≡ length buffer) (len : moved.len ≡ s.len) (more : s.room ≤ moved.room) where
+  pub moved_within : IsInBuffer new moved
   moved_within =
       let w = are.within key s there in
       record { len = omega (arith, w.len, len, more); end = omega (arith, copied.end, from); most = omega (arith, w.most, len) }
@@ -129,7 +129,7 @@ module _ (buffer new : List ℕ) (old spans : List Span) (key : List ℕ) (s mov
   pub moved_files : (k : List ℕ) → span_bytes new (span_at spans k) ≡ span_bytes buffer (span_at old k)
   moved_files =
       files_set old spans key moved set new (λ k. span_bytes buffer (span_at old k))
-      (ap (λ n. part_of new n moved.len) from ∙ ap (part_of new (length buffer)) len ∙ copied.copy ∙ sym (ap (span_bytes buffer) there))
+      (ap (λ n. buffer_part new n moved.len) from ∙ ap (buffer_part new (length buffer)) len ∙ copied.copy ∙ sym (ap (span_bytes buffer) there))
       (λ k other apart. ap (λ b. span_bytes b (span_at old k)) grew.1 ∙ bytes_front buffer grew.0 old k are)
 
   pub moved_rooms : (k : List ℕ) → span_room (span_at old k) ≤ span_room (span_at spans k)
@@ -143,7 +143,7 @@ pub record FitsSpan (s : Span) (p : Patch) : Type 0 where
   pub end : p.from + length p.bytes ≤ s.room
   pub most : p.from + length p.bytes ≤ most_file
 
-pub fits_span : (f : Filed) (p : Patch) (s : Span) → FitsPatch f p → span_at f.spans p.key ≡ Some s → IsWithin f.buffer s → FitsSpan s p
+pub fits_span : (f : Filed) (p : Patch) (s : Span) → FitsPatch f p → span_at f.spans p.key ≡ Some s → IsInBuffer f.buffer s → FitsSpan s p
 fits_span f p s fits there within =
     let len : length (bytes_in f p.key) ≡ s.len = ap (λ o. length (span_bytes f.buffer o)) there ∙ length_part f.buffer s within in
     let room : min (length (bytes_in f p.key) + most_written) most_file ≤ s.room = subst (λ o. min (length (bytes_in f p.key) + most_written) most_file ≤ span_room o) there fits.room in
@@ -154,7 +154,7 @@ module _ (buffer : List ℕ) (old spans : List Span) (p : Patch) (s written : Sp
   abbrev new : List ℕ
   new = over buffer (s.from + p.from) p.bytes
 
-  own : IsWithin buffer s
+  own : IsInBuffer buffer s
   own = are.within p.key s there
 
   long : length new ≡ length buffer
@@ -184,7 +184,7 @@ module _ (buffer : List ℕ) (old spans : List Span) (p : Patch) (s written : Sp
   written_files =
       files_set old spans p.key written set new (λ k. patched_at (Some p) k (span_bytes buffer (span_at old k)))
       (let w = own in
-      ap (λ n. part_of new n written.len) from ∙ part_written buffer p.bytes s.from s.len p.from written.len fits.within (omega (arith, w.len, w.end)) len
+      ap (λ n. buffer_part new n written.len) from ∙ part_written buffer p.bytes s.from s.len p.from written.len fits.within (omega (arith, w.len, w.end)) len
       ∙ ap (λ b. over b p.from p.bytes) (sym (ap (span_bytes buffer) there)) ∙ sym (at_own (bytes_eq p.key p.key) refl))
       (λ k other apart. beside k other ∙ sym (ap (λ b. cond b (over (span_bytes buffer (span_at old k)) p.from p.bytes) (span_bytes buffer (span_at old k))) apart))
     where

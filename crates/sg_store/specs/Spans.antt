@@ -23,13 +23,13 @@ abbrev pub span_at : List Span → List ℕ → Option Span
 span_at spans key = find (λ s. bytes_eq key s.key) spans
 
 -- so many bytes of a buffer from a place on
-abbrev pub part_of : List ℕ → ℕ → ℕ → List ℕ
-part_of buffer from len = take len (drop from buffer)
+abbrev pub buffer_part : List ℕ → ℕ → ℕ → List ℕ
+buffer_part buffer from len = take len (drop from buffer)
 
 -- the bytes of a span; none without one
 abbrev pub span_bytes : List ℕ → Option Span → List ℕ
 span_bytes buffer None = []
-span_bytes buffer (Some s) = part_of buffer s.from s.len
+span_bytes buffer (Some s) = buffer_part buffer s.from s.len
 
 -- the room of a span; none without one
 abbrev pub span_room : Option Span → ℕ

@@ -3,7 +3,7 @@ ghost use Rattle.std.specs.Prelude.{◌≡◌, ◌+◌, ◌≤◌, OnOk, length}
 ghost use Rattle.sg_facts.specs.Object.{over};
 ghost use Rattle.std.specs.Option.{option_copied};
 ghost use Rattle.sg_store.specs.Spans.{cut};
-ghost use Rattle.sg_store.specs.Inside.Buffers.{Grows, HasCopy};
+ghost use Rattle.sg_store.specs.Inside.Buffers.{IsFrontOf, HasCopy};
 
 use sg_base::NoMemory;
 
@@ -25,7 +25,7 @@ pub(crate) fn add_copy(
 ) -> Result<(), NoMemory>
     requires within { from + len ≤ length buffer.old.items }
     requires room { len ≤ room }
-    ensures kept { Grows buffer.old.items buffer.new.items }
+    ensures kept { IsFrontOf buffer.old.items buffer.new.items }
     ensures copied { OnOk result (HasCopy buffer.old.items from len room buffer.new.items) }
 {
     buffer.reserve(room)?;

@@ -1,7 +1,7 @@
 // The files in one buffer.
 ghost use Rattle.std.specs.Prelude.{◌≡◌, ◌+◌, ◌*◌, ◌≤◌, ℕ, List, [], None, Some, IsSome, IfSome, OnOk, length, min};
 ghost use Rattle.sg_facts.specs.Limits.{most_file, most_written};
-ghost use Rattle.sg_store.specs.Spans.{AreApart, FitsPatch, GrowsTwice, HasRoomIn, bytes_in, part_of, patched_at, room_in, shown_span, span_at, stand_in};
+ghost use Rattle.sg_store.specs.Spans.{AreApart, FitsPatch, GrowsTwice, HasRoomIn, bytes_in, buffer_part, patched_at, room_in, shown_span, span_at, stand_in};
 ghost use Rattle.sg_store.specs.Inside.Places.{HasSpan};
 
 use crate::buffer::{add_copy, write_at};
@@ -67,7 +67,7 @@ impl Files {
     /// Place and length of a file in the buffer; None exactly where its length is 0.
     pub(crate) fn span(&self, key: &Path) -> Option<(usize, usize)>
         ensures place { result ≡ shown_span (span_at self.now.spans key.now) }
-        ensures some { IfSome result (λ p. part_of self.now.buffer p.0 p.1 ≡ bytes_in self.now key.now) }
+        ensures some { IfSome result (λ p. buffer_part self.now.buffer p.0 p.1 ≡ bytes_in self.now key.now) }
         ensures within { IfSome result (λ p. p.0 + p.1 ≤ length self.now.buffer) }
         ensures none { result ≡ None → bytes_in self.now key.now ≡ [] }
         ensures only_none { bytes_in self.now key.now ≡ [] → result ≡ None }

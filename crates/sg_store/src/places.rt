@@ -2,7 +2,7 @@
 ghost use Rattle.std.specs.Prelude.{◌≡◌, ℕ, List, None, Some, IsSome, OnOk, OnErr, if◌then◌else◌};
 ghost use Rattle.std.specs.Str.{bytes_eq};
 ghost use Rattle.sg_store.specs.Spans.{span_at};
-ghost use Rattle.sg_store.specs.Inside.Places.{span_of, placed, spans_of};
+ghost use Rattle.sg_store.specs.Inside.Places.{span_of, placed_span, spans_of};
 
 use sg_base::NoMemory;
 use std::alloc::Global;
@@ -24,7 +24,7 @@ pub(crate) type Places = BTreeMap<Vec<u8>, Place>;
 
 /// The place of a file; None where it has none.
 pub(crate) fn place_of(places: &Places, key: &[u8]) -> Option<Place>
-    ensures { placed key.now result ≡ span_at (spans_of places.now.entries) key.now }
+    ensures { placed_span key.now result ≡ span_at (spans_of places.now.entries) key.now }
 {
     places.get(key).copied()
 }

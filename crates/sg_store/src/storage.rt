@@ -4,7 +4,7 @@ ghost use Rattle.std.specs.Option.{option_copied};
 ghost use Rattle.sg_facts.specs.Object.{given_after};
 ghost use Rattle.sg_facts.specs.Track.{row_at, track};
 ghost use Rattle.sg_store.specs.Committing.{MayCommit};
-ghost use Rattle.sg_store.specs.Spans.{AreApart, GrowsTwice, cut, part_of, patched_at, shown_span, span_at, stand_in};
+ghost use Rattle.sg_store.specs.Spans.{AreApart, GrowsTwice, cut, buffer_part, patched_at, shown_span, span_at, stand_in};
 ghost use Rattle.sg_store.specs.Stored.{HasRoom, bytes_of, receipt_at};
 ghost use Rattle.sg_track.specs.Tracked.{spare_after};
 
@@ -103,7 +103,7 @@ impl Storage {
     /// Place and length of a file in the buffer; None exactly where its length is 0. The files' rooms have no byte in common.
     pub fn span(&self, key: &Path) -> Option<(usize, usize)>
         ensures place { result ≡ shown_span (span_at self.now.spans key.now) }
-        ensures some { IfSome result (λ p. part_of self.now.buffer p.0 p.1 ≡ bytes_of self.now key.now) }
+        ensures some { IfSome result (λ p. buffer_part self.now.buffer p.0 p.1 ≡ bytes_of self.now key.now) }
         ensures within { IfSome result (λ p. p.0 + p.1 ≤ length self.now.buffer) }
         ensures none { result ≡ None → bytes_of self.now key.now ≡ [] }
         ensures only_none { bytes_of self.now key.now ≡ [] → result ≡ None }

@@ -1,13 +1,10 @@
 // What is refused, and what is needed.
-use crate::rows::{ALLOC, add_lock, call, tables_of};
+use crate::rows::{ALLOC, add_lock, call};
 use sg_base::Code;
-use sg_facts::Service;
-use sg_lock::LockService;
 use sg_needs::{guard, needs_of};
-use sg_ramfs::ramfs_shape;
 use sg_track::Tracker;
 use std::test::Fail;
-use test_interfaces::{LOCK, RAMFS};
+use test_tables::{lock_tables, ramfs_tables};
 
 // The functions that are called on a lock.
 const TAKE: u8 = 2;
@@ -19,7 +16,7 @@ const FREE: u8 = 4;
 #[test]
 fn locks_are_guarded(rt: HostRuntime) -> Result<(), Fail> {
     let alloc = rt.alloc();
-    let tables = tables_of(alloc, LOCK, LockService::shape())?;
+    let tables = lock_tables(alloc)?;
     let mut rows = Tracker::new(alloc);
     add_lock(alloc, &mut rows, &tables, 2, 1)?;
     for (fun, desc, refusal) in [
@@ -40,7 +37,7 @@ fn locks_are_guarded(rt: HostRuntime) -> Result<(), Fail> {
 #[test]
 fn a_call_needs_its_row(rt: HostRuntime) -> Result<(), Fail> {
     let alloc = rt.alloc();
-    let tables = tables_of(alloc, LOCK, LockService::shape())?;
+    let tables = lock_tables(alloc)?;
     let mut rows = Tracker::new(alloc);
     add_lock(alloc, &mut rows, &tables, 2, 1)?;
     add_lock(alloc, &mut rows, &tables, 1, 2)?;
@@ -55,7 +52,7 @@ fn a_call_needs_its_row(rt: HostRuntime) -> Result<(), Fail> {
 #[test]
 fn a_write_needs_its_file(rt: HostRuntime) -> Result<(), Fail> {
     let alloc = rt.alloc();
-    let tables = tables_of(alloc, RAMFS, ramfs_shape())?;
+    let tables = ramfs_tables(alloc)?;
     let rows = Tracker::new(alloc);
     let write = call(alloc, 1, 3, 7);
     let needed = needs_of(alloc, tables.interface(), &rows, &write)?;

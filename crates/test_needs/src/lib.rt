@@ -1,6 +1,6 @@
 //! What the tracked rows say of calls, tried from outside.
 //!
-//! - `rows`: tables, and rows of locks (`locks`)
+//! - `rows`: calls, and rows of locks (`call`, `add_lock`)
 //!
 //! The tests:
 //! - `calls`: what is refused, and what is needed

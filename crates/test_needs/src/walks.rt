@@ -3,14 +3,13 @@ ghost use Rattle.std.specs.Prelude.{◌≡◌, ◌∷◌, [], ◌<◌, IfOk};
 ghost use Rattle.sg_base.specs.declared.value.Value.TheVariants.{Word};
 ghost use Rattle.sg_lock.specs.LockFacts.{lock_facts};
 
-use crate::rows::{ALLOC, tables_of};
+use crate::rows::ALLOC;
 use sg_base::{Call, NoMemory, Value};
-use sg_facts::{Fields, Row, Service, Tables};
-use sg_lock::LockService;
+use sg_facts::{Fields, Row, Tables};
 use sg_needs::{replayed_call, walk_of_row};
 use std::alloc::Global;
 use std::test::Fail;
-use test_interfaces::LOCK;
+use test_tables::lock_tables;
 
 // The function that takes a lock.
 const TAKE: u8 = 2;
@@ -52,7 +51,7 @@ fn replayed(
 #[test]
 fn a_lock_is_made_and_taken(rt: HostRuntime) -> Result<(), Fail> {
     let alloc = rt.alloc();
-    let tables = tables_of(alloc, LOCK, LockService::shape())?;
+    let tables = lock_tables(alloc)?;
     let owned = lock_of(alloc, 5)?;
     let walk = walk_of_row(&tables, &owned);
     assert!(rt; walk.is_some_and(|walk| walk.as_slice() == [ALLOC, TAKE].as_slice()));
@@ -65,7 +64,7 @@ fn a_lock_is_made_and_taken(rt: HostRuntime) -> Result<(), Fail> {
 #[test]
 fn its_maker_makes_it_and_its_owner_takes_it(rt: HostRuntime) -> Result<(), Fail> {
     let alloc = rt.alloc();
-    let tables = tables_of(alloc, LOCK, LockService::shape())?;
+    let tables = lock_tables(alloc)?;
     let made = replayed(alloc, &tables, 5, true, ALLOC)?;
     assert_eq!(rt; (made.client, made.fun, made.desc), (2, ALLOC, 0));
     let taken = replayed(alloc, &tables, 5, false, TAKE)?;

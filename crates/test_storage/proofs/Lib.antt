@@ -1,2 +1,1 @@
 pub mod Committing
-pub mod Services

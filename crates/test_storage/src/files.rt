@@ -2,14 +2,13 @@
 ghost use Rattle.std.specs.Prelude.{◌≡◌, ◌≤◌, length, IfOk};
 ghost use Rattle.sg_ramfs.specs.RamfsFacts.{ramfs_facts};
 
-use crate::calls::{call, done, tables_of};
+use crate::calls::{call, done};
 use sg_base::{Bytes, NoMemory, Path};
 use sg_facts::{Patch, Tables};
-use sg_ramfs::ramfs_shape;
 use sg_store::Storage;
 use std::alloc::Global;
 use std::test::Fail;
-use test_interfaces::RAMFS;
+use test_tables::ramfs_tables;
 
 // Writes bytes into a file from a place on; false where the place is behind the file's end, or too far.
 fn write(
@@ -131,7 +130,7 @@ fn by_turns(alloc: Global, tables: &Tables, plain: &mut Vec<Plain>) -> Result<St
 #[test]
 fn files_by_turns_are_as_plain_pairs(rt: HostRuntime) -> Result<(), Fail> {
     let alloc = rt.alloc();
-    let tables = tables_of(alloc, RAMFS, ramfs_shape())?;
+    let tables = ramfs_tables(alloc)?;
     let mut plain = three_plain(alloc)?;
     let storage = by_turns(alloc, &tables, &mut plain)?;
     assert_eq!(rt; storage.len(&path(alloc, 0)?), 67 * 256);
@@ -164,7 +163,7 @@ fn two_files(alloc: Global, tables: &Tables) -> Result<Storage, NoMemory>
 #[test]
 fn parts_of_two_files_are_lent_at_once(rt: HostRuntime) -> Result<(), Fail> {
     let alloc = rt.alloc();
-    let tables = tables_of(alloc, RAMFS, ramfs_shape())?;
+    let tables = ramfs_tables(alloc)?;
     let storage = two_files(alloc, &tables)?;
     let one = path(alloc, 0)?;
     let two = path(alloc, 1)?;
@@ -198,7 +197,7 @@ fn written_over(alloc: Global, tables: &Tables) -> Result<Storage, NoMemory>
 #[test]
 fn a_file_is_written_over(rt: HostRuntime) -> Result<(), Fail> {
     let alloc = rt.alloc();
-    let tables = tables_of(alloc, RAMFS, ramfs_shape())?;
+    let tables = ramfs_tables(alloc)?;
     let mut storage = written_over(alloc, &tables)?;
     let key = path(alloc, 0)?;
     assert!(rt; has(&storage, &key, b"aXYdZ12"));

@@ -1,6 +1,6 @@
 //! The storage and the service ids of descriptors, tried from outside.
 //!
-//! - `calls`: tables, calls and replies (`tables_of`, `call`, `done`)
+//! - `calls`: calls and replies (`call`, `done`)
 //!
 //! The tests:
 //! - `files`: files that are written by turns, and parts of them that are lent

@@ -1,17 +1,15 @@
 // Receipts, rows and ids.
-ghost use Rattle.std.specs.Prelude.{◌≡◌, ◌+◌, ◌≤◌, OnOk};
+ghost use Rattle.std.specs.Prelude.{◌≡◌, ◌+◌, ◌≤◌, IfOk, OnOk};
 ghost use Rattle.sg_lock.specs.LockFacts.{lock_facts};
 ghost use Rattle.sg_ramfs.specs.RamfsFacts.{ramfs_facts};
 
-use crate::calls::{call, done, tables_of};
+use crate::calls::{call, done};
 use sg_base::{Code, NoMemory, Reply};
-use sg_facts::{Service, Tables};
-use sg_lock::LockService;
-use sg_ramfs::ramfs_shape;
+use sg_facts::Tables;
 use sg_store::Storage;
 use std::alloc::Global;
 use std::test::Fail;
-use test_interfaces::{LOCK, RAMFS};
+use test_tables::{lock_tables, ramfs_tables};
 
 // Commits that a client made a descriptor of a private service.
 fn split(
@@ -89,7 +87,7 @@ fn receipt(storage: &Storage, client: u8) -> Option<(u32, u64)> {
 #[test]
 fn a_private_service_counts_ids_and_keeps_no_row(rt: HostRuntime) -> Result<(), Fail> {
     let alloc = rt.alloc();
-    let tables = tables_of(alloc, RAMFS, ramfs_shape())?;
+    let tables = ramfs_tables(alloc)?;
     let mut storage = Storage::new(alloc, 2)?;
     assert_eq!(rt; storage.next_id(), 1);
     split(alloc, &mut storage, &tables, 1, 1, 1)?;
@@ -101,26 +99,41 @@ fn a_private_service_counts_ids_and_keeps_no_row(rt: HostRuntime) -> Result<(), 
     Ok(())
 }
 
+// Storage for three clients, of whom the first and the third have made a descriptor.
+fn two_made(alloc: Global, tables: &Tables) -> Result<Storage, NoMemory>
+    requires { tables.now.iface.facts ≡ ramfs_facts }
+    ensures { IfOk result (λ storage. storage.clients ≡ 3) }
+{
+    let mut storage = Storage::new(alloc, 3)?;
+    split(alloc, &mut storage, tables, 1, 5, 1)?;
+    split(alloc, &mut storage, tables, 3, 7, 2)?;
+    Ok(storage)
+}
+
+// Whether the first and the third client's last receipts have these numbers and descriptors, and no other client has one.
+fn have(storage: &Storage, first: (u32, u64), third: (u32, u64)) -> bool {
+    receipt(storage, 1) == Some(first)
+        && receipt(storage, 3) == Some(third)
+        && storage.receipt(0).is_none()
+        && storage.receipt(2).is_none()
+        && storage.receipt(4).is_none()
+}
+
 #[test]
 fn each_client_has_its_last_receipt(rt: HostRuntime) -> Result<(), Fail> {
     let alloc = rt.alloc();
-    let tables = tables_of(alloc, RAMFS, ramfs_shape())?;
-    let mut storage = Storage::new(alloc, 3)?;
-    assert!(rt; storage.receipt(1).is_none() && storage.receipt(3).is_none());
-    split(alloc, &mut storage, &tables, 1, 5, 1)?;
-    split(alloc, &mut storage, &tables, 3, 7, 2)?;
-    assert!(rt; receipt(&storage, 1) == Some((5, 1)) && receipt(&storage, 3) == Some((7, 2)));
+    let tables = ramfs_tables(alloc)?;
+    let mut storage = two_made(alloc, &tables)?;
+    assert!(rt; have(&storage, (5, 1), (7, 2)));
     refuse(alloc, &mut storage, &tables, 1, 6, Code::TooBig)?;
-    assert!(rt; receipt(&storage, 1) == Some((6, 0)) && receipt(&storage, 3) == Some((7, 2)));
-    assert!(rt; storage.receipt(2).is_none());
-    assert!(rt; storage.receipt(0).is_none() && storage.receipt(4).is_none());
+    assert!(rt; have(&storage, (6, 0), (7, 2)));
     Ok(())
 }
 
 #[test]
 fn a_global_service_keeps_its_rows(rt: HostRuntime) -> Result<(), Fail> {
     let alloc = rt.alloc();
-    let tables = tables_of(alloc, LOCK, LockService::shape())?;
+    let tables = lock_tables(alloc)?;
     let mut storage = Storage::new(alloc, 2)?;
     make(alloc, &mut storage, &tables, 2, 1, 1)?;
     make(alloc, &mut storage, &tables, 1, 1, 2)?;

@@ -1,4 +1,3 @@
 pub mod Carried
 pub mod LockCalls
 pub mod PageCalls
-pub mod Services

@@ -1,6 +1,6 @@
 //! The tracker, tried from outside: what answered calls make of the rows, under the tables of the standard interfaces.
 //!
-//! - `calls`: tables, calls and replies (`tables_of`, `call`, `done`)
+//! - `calls`: calls and replies (`call`, `done`)
 //!
 //! The tests:
 //! - `locks`: a lock that is taken, released and ended

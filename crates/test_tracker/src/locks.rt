@@ -3,14 +3,13 @@ ghost use Rattle.std.specs.Prelude.{◌≡◌, ◌+◌, ◌≤◌, IfSome, OnOk}
 ghost use Rattle.sg_lock.specs.LockFacts.{lock_facts};
 ghost use Rattle.test_tracker.specs.Answered.{HasOwner};
 
-use crate::calls::{call, done, tables_of};
+use crate::calls::{call, done};
 use sg_base::{NoMemory, Value};
-use sg_facts::{Service, Tables};
-use sg_lock::LockService;
+use sg_facts::Tables;
 use sg_track::Tracker;
 use std::alloc::Global;
 use std::test::Fail;
-use test_interfaces::LOCK;
+use test_tables::lock_tables;
 
 // What is seen of the row of a lock.
 #[derive(Clone, Copy, Debug, PartialEq, Eq)]
@@ -166,7 +165,7 @@ fn first_seen(
 
 #[test]
 fn locks_are_taken_and_released(rt: HostRuntime) -> Result<(), Fail> {
-    let tables = tables_of(rt.alloc(), LOCK, LockService::shape())?;
+    let tables = lock_tables(rt.alloc())?;
     let mut tracker = two(rt.alloc(), &tables)?;
     let [made, taken, released, again] = first_seen(rt.alloc(), &mut tracker, &tables)?;
     assert_eq!(rt; made, free_of(1));
@@ -179,7 +178,7 @@ fn locks_are_taken_and_released(rt: HostRuntime) -> Result<(), Fail> {
 
 #[test]
 fn locks_end_alone(rt: HostRuntime) -> Result<(), Fail> {
-    let tables = tables_of(rt.alloc(), LOCK, LockService::shape())?;
+    let tables = lock_tables(rt.alloc())?;
     let mut tracker = two(rt.alloc(), &tables)?;
     free(rt.alloc(), &mut tracker, &tables, 3, 1)?;
     assert!(rt; seen(&tracker, 1).is_none());

@@ -2,14 +2,13 @@
 ghost use Rattle.std.specs.Prelude.{◌≡◌, ◌+◌, ◌≤◌, IfOk, OnOk};
 ghost use Rattle.sg_mm.specs.MmFacts.{mm_facts};
 
-use crate::calls::{call, done, tables_of};
+use crate::calls::{call, done};
 use sg_base::{Code, NoMemory, Reply, Value};
 use sg_facts::Tables;
-use sg_mm::mm_shape;
 use sg_track::Tracker;
 use std::alloc::Global;
 use std::test::Fail;
-use test_interfaces::MM;
+use test_tables::mm_tables;
 
 // Tracks that a client got a page at an address.
 fn get(
@@ -133,7 +132,7 @@ fn is_below(alloc: Global, tracker: &Tracker, id: u64, want: &[u64]) -> Result<b
 
 #[test]
 fn pages_stand_below_others(rt: HostRuntime) -> Result<(), Fail> {
-    let tables = tables_of(rt.alloc(), MM, mm_shape())?;
+    let tables = mm_tables(rt.alloc())?;
     let tracker = four(rt.alloc(), &tables)?;
     assert!(rt; are_four(&tracker));
     assert!(rt; is_below(rt.alloc(), &tracker, 3, &[2, 1])?);
@@ -154,7 +153,7 @@ fn one_left(alloc: Global, tables: &Tables) -> Result<Tracker, Fail>
 
 #[test]
 fn pages_end_with_all_below_them(rt: HostRuntime) -> Result<(), Fail> {
-    let tables = tables_of(rt.alloc(), MM, mm_shape())?;
+    let tables = mm_tables(rt.alloc())?;
     let tracker = one_left(rt.alloc(), &tables)?;
     assert_eq!(rt; tracker.live(), 1);
     assert!(rt; is_page(&tracker, 4, (1, 64), 0, [64, u64::MAX], 3));
@@ -179,7 +178,7 @@ fn four_with_room(alloc: Global, tables: &Tables) -> Result<Tracker, Fail>
 
 #[test]
 fn refusals_and_queries_leave_the_rows(rt: HostRuntime) -> Result<(), Fail> {
-    let tables = tables_of(rt.alloc(), MM, mm_shape())?;
+    let tables = mm_tables(rt.alloc())?;
     let mut tracker = four_with_room(rt.alloc(), &tables)?;
     assert!(rt; are_four(&tracker));
     get(rt.alloc(), &mut tracker, &tables, 7, 0, 5)?;

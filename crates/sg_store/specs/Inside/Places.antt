@@ -16,20 +16,20 @@ abbrev pub spans_of : List (Vec ℕ Global × Place) → List Span
 spans_of entries = map (λ e. span_of e.0.items e.1) entries
 
 -- the span of a path, where it has a place
-abbrev pub placed : List ℕ → Option Place → Option Span
-placed key place = option_map (span_of key) place
+abbrev pub placed_span : List ℕ → Option Place → Option Span
+placed_span key place = option_map (span_of key) place
 
 -- a path has a place
 abbrev pub HasSpan : List Span → List ℕ → Place → Type 0
 HasSpan spans key place = span_at spans key ≡ Some (span_of key place)
 
 -- a span lies within a buffer, and its file within its room
-pub record IsWithin (buffer : List ℕ) (s : Span) : Type 0 where
+pub record IsInBuffer (buffer : List ℕ) (s : Span) : Type 0 where
   pub len : s.len ≤ s.room
   pub end : s.from + s.room ≤ length buffer
   pub most : s.len ≤ most_file
 
 -- spans lie within a buffer, and no two have a byte in common
 pub record AreSpans (buffer : List ℕ) (spans : List Span) : Type 0 where
-  pub within : (key : List ℕ) (s : Span) → span_at spans key ≡ Some s → IsWithin buffer s
+  pub within : (key : List ℕ) (s : Span) → span_at spans key ≡ Some s → IsInBuffer buffer s
   pub apart : AreApart spans

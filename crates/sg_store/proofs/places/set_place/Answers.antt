@@ -1,7 +1,7 @@
 -- The map has another place at the path, which it had before.
 use Rattle.std.proofs.Common.{◌≡◌, true, false, is_some, ◌∙◌, ap}
 use Rattle.sg_store.specs.Spans.{span_at}
-use Rattle.sg_store.specs.Inside.Places.{placed, spans_of}
+use Rattle.sg_store.specs.Inside.Places.{placed_span, spans_of}
 use Rattle.sg_store.proofs.Placing.{span_found, span_moved}
 use Rattle.sg_store.proofs.places.set_place.Goals as goal
 
@@ -11,5 +11,5 @@ returns c = λ k.
 
 pub unreachable-requires : goal.unreachable-requires
 unreachable-requires c =
-    let gone : false ≡ true = ap (λ o. is_some (placed c.args.key.now o)) c.in-None.ensures.value ∙ ap is_some (span_found c.args.places.now.entries c.args.key.now) ∙ c.requires in
+    let gone : false ≡ true = ap (λ o. is_some (placed_span c.args.key.now o)) c.in-None.ensures.value ∙ ap is_some (span_found c.args.places.now.entries c.args.key.now) ∙ c.requires in
     cc gone

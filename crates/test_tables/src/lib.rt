@@ -1,0 +1,8 @@
+//! The tables of the standard interfaces, made once for the crates that test.
+//!
+//! - `tables`: a function for each service (`lock_tables`, `event_tables`, `mm_tables`, `ramfs_tables`, `sched_tables`)
+#![tactic(auto)]
+
+mod tables;
+
+pub use tables::{event_tables, lock_tables, mm_tables, ramfs_tables, sched_tables};
