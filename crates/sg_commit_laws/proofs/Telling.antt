@@ -41,9 +41,6 @@ told_made facts told call (Refused code) id = refl
 told_made facts told call (Ok g) id = refl
 
 module _ (facts : Facts) (o : Object) (call : Call) (reply other : Reply) (stub later : Stub) (tells : TellsAfter facts o call reply other stub later) (same : SameReply stub.names (fun_at facts.funs call.fun).creation (Some reply) (Some other)) where
-  abbrev ended : ℕ → Bool
-  ended id = has_ended o.rows (after facts o call reply).rows id
-
   not_ended : (id : ℕ) → is_live (after facts o call reply).rows id ≡ true → has_ended o.rows (after facts o call reply).rows id ≡ false
   not_ended id live = ap (λ t. is_live o.rows id && not t) live ∙ at (is_live o.rows id)
     where

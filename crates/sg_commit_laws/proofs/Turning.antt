@@ -34,9 +34,6 @@ module _ (z : Setting) (set : IsSetting z) (w : WorldView) (b : Boot) (boots : L
   abbrev e : Entry
   e = record { call = st.call; reply = reply }
 
-  abbrev v1 : Object
-  v1 = after z.iface.facts v (under_names stub.names st.call) other
-
   abbrev test : Call → Bool
   test = wakes_seat z.iface.facts (object_of z.iface.facts w.history).rows st.call reply
 
