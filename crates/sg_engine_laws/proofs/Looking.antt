@@ -22,7 +22,7 @@ use Rattle.sg_name.specs.declared.named.Named.{Named}
 use Rattle.sg_name.specs.declared.named.Named.TheVariants.{Unnamed, Partial, Live}
 use Rattle.sg_name.specs.declared.named.Standing.{Standing}
 use Rattle.sg_replay.specs.Committing.{is_written, name_left}
-use Rattle.sg_replay.specs.Serving.{IsDescTold, IsTold, is_named_by, pairs_of, real_in}
+use Rattle.sg_replay.specs.Serving.{IsDescTold, IsReplyTold, is_named_by, pairs_of, real_in}
 use Rattle.sg_replay.proofs.Naming.{named_in_pairs, real_in_named, real_or_zero}
 use Rattle.sg_walk_laws.proofs.Files.{told as which}
 use Rattle.sg_world_laws.specs.Keeping.{Stub}
@@ -48,7 +48,7 @@ real_named known id real is some = real_in_named known id ∙ by (named_at known
     by (Live r) same = ap (λ x. Some x) same
 
 -- what the engine tells of a reply is told under its names
-pub told_by_engine : (known : List (ℕ × Standing)) (is_new : Bool) (next : ℕ) (other told : Reply) → ((id real : ℕ) → real_at known id ≡ Some real → 1 ≤ real) → IsTold known is_new next other told
+pub told_by_engine : (known : List (ℕ × Standing)) (is_new : Bool) (next : ℕ) (other told : Reply) → ((id real : ℕ) → real_at known id ≡ Some real → 1 ≤ real) → IsReplyTold known is_new next other told
     → IsToldBy (pairs_of known) is_new next other told
 told_by_engine known is_new next (Ok good) (Ok told) given tells = (tells.0, tells.1, desc is_new tells.2)
   where

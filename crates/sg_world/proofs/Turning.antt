@@ -8,7 +8,6 @@ use Rattle.sg_facts.specs.Interface.{declares}
 use Rattle.sg_facts.specs.Kinds.{AreWords, FitsKinds}
 use Rattle.sg_facts.specs.Limits.{last_client}
 use Rattle.sg_facts.specs.declared.entry.Entry.{Entry}
-use Rattle.sg_hist.specs.Recovered.{is_clients}
 use Rattle.sg_object_laws.proofs.Guarded.{keeps}
 use Rattle.sg_object_laws.proofs.Left.{stays}
 use Rattle.sg_replay.specs.Engined.{Engined}
@@ -17,13 +16,10 @@ use Rattle.sg_seat.specs.declared.mark.Mark.{Mark}
 use Rattle.sg_seat.specs.declared.phase.Phase.{Phase}
 use Rattle.sg_seat.specs.declared.phase.Phase.TheVariants.{Asked, Blocked, Held, Idle, Left, Receipted}
 use Rattle.sg_seat.specs.declared.withdrawn.Withdrawn.{Withdrawn}
-use Rattle.sg_track.proofs.Ascending.{later}
-use Rattle.sg_walk_laws.proofs.Found.{within}
 use Rattle.sg_walk_laws.proofs.Steps.{declared_within}
 use Rattle.sg_world.proofs.Rooming.{length_set, marks_few, offers_few, marks_set, offers_set, marks_some, offers_some}
 use Rattle.sg_world.specs.Worlded.{HaveRooms, IsWorld, Rooms, stub_of, marks_left, marks_of}
 use Rattle.sg_world_laws.proofs.Refusing.{refused}
-use Rattle.sg_world_laws.proofs.Seating.{client_last}
 use Rattle.sg_world_laws.proofs.Turns.{counted_keeps, offer_keeps, leave_keeps, seat_there, withdraw_keeps, withdraw_none}
 use Rattle.sg_world_laws.specs.Keeping.{Keeps}
 use Rattle.sg_world_laws.specs.Seats.{MayMake}

@@ -11,7 +11,6 @@ use Rattle.sg_hist.specs.Recovered.{struck_in}
 use Rattle.sg_name.specs.Names.{named_at}
 use Rattle.sg_name.specs.declared.named.Named.{Named}
 use Rattle.sg_name.specs.declared.named.Named.TheVariants.{Unnamed, Partial, Live}
-use Rattle.sg_needs.specs.Refused.{refused}
 use Rattle.sg_replay.specs.Engined.{Engined}
 use Rattle.sg_replay.specs.Present.{is_present}
 use Rattle.sg_replay.specs.Serving.{pairs_of}

@@ -1,8 +1,7 @@
 -- The phases are those before the withdrawal.
-use Rattle.std.proofs.Common.{◌≡◌, sym, ◌∙◌, ap, subst, length, map, ◌-◌, arith}
+use Rattle.std.proofs.Common.{◌≡◌, ◌∙◌, ap, map, ◌-◌, arith}
 use Rattle.std.specs.Prelude.{slice_set}
 use Rattle.sg_seat.specs.declared.phase.Phase.TheVariants.{Idle}
-use Rattle.sg_seat.specs.declared.withdrawn.Withdrawn.{Withdrawn}
 use Rattle.sg_seat.specs.WorldView.{Seat, seat_in}
 use Rattle.sg_world.proofs.Phases.{set_back}
 use Rattle.sg_world.proofs.seats.Seats.withdraw.Goals as goal

@@ -1,5 +1,5 @@
 -- A world keeps what it keeps where a call is withdrawn.
-use Rattle.std.proofs.Common.{◌≡◌, ◌≤◌, sym, ◌∙◌, ap, subst, arith, length}
+use Rattle.std.proofs.Common.{◌≤◌, sym, ap, subst, arith, length}
 use Rattle.sg_seat.specs.WorldView.{MayWithdraw, WorldView, seat_of}
 use Rattle.sg_world.specs.Worlded.{Rooms, setting_of, view_of}
 use Rattle.sg_world.proofs.Turning.{may_withdraw, withdrawn_on}
