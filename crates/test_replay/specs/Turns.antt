@@ -1,0 +1,45 @@
+-- A lock that is made, lost in a stop, and rebuilt.
+use Rattle.std.specs.Prelude.{◌≡◌, [], ◌∷◌, Some}
+use Rattle.sg_base.specs.declared.value.Value.TheVariants.{Word}
+use Rattle.sg_facts.specs.declared.row.Row.{Row}
+use Rattle.sg_facts.specs.Object.{Object, empty_object}
+use Rattle.sg_facts.specs.Tables.{Compiled}
+use Rattle.sg_hist.specs.Reading.{walk_in}
+use Rattle.sg_lock.specs.LockFacts.{lock_facts}
+use Rattle.sg_name.specs.Names.{named_at}
+use Rattle.sg_name.specs.declared.named.Named.TheVariants.{Live}
+use Rattle.sg_replay.specs.Engined.{Engined}
+
+-- the first lock, which client 1 made and nobody owns
+abbrev pub first_lock : Row
+first_lock = record { id = 1; made = 1; creator = 1; parent = 0; state = 1; fields = Word 0 ∷ [] }
+
+-- a service that holds it alone
+abbrev pub one_lock : Object
+one_lock = record { rows = first_lock ∷ []; files = []; given = 1 }
+
+-- the tables are those of locks, and the walk of the first lock is its creation alone
+pub record WalksLocks (tables : Compiled) : Type 0 where
+  pub facts : tables.iface.facts ≡ lock_facts
+  pub walk : walk_in tables.walks (Some first_lock) ≡ Some (1 ∷ [])
+
+-- an engine in whose boot nothing was done
+pub record IsFresh (e : Engined) : Type 0 where
+  pub up : e.cell.running ≡ Some empty_object
+  pub unnamed : e.names.known ≡ []
+
+-- an engine that tracks and stores nothing
+pub record HasNone (e : Engined) : Type 0 where
+  pub rows : e.tracked.rows ≡ []
+  pub given : e.tracked.given ≡ 0
+  pub stored : e.stored.given ≡ 0
+
+-- an engine that tracks the first lock alone
+pub record HasFirst (e : Engined) : Type 0 where
+  pub rows : e.tracked.rows ≡ first_lock ∷ []
+  pub given : e.tracked.given ≡ 1
+
+-- an engine whose service holds the first lock alone, under its own id
+pub record IsRebuilt (e : Engined) : Type 0 where
+  pub up : e.cell.running ≡ Some one_lock
+  pub named : named_at e.names.known 1 ≡ Live 1

@@ -1,0 +1,72 @@
+// A lock that is lost in a stop is rebuilt for the next call.
+ghost use Rattle.std.specs.Prelude.{◌≤◌};
+ghost use Rattle.test_replay.specs.Turns.{HasNone, IsFresh, WalksLocks};
+
+use crate::turns::{first_take, lose, make, rebuild, take, walked_tables};
+use sg_base::{Call, NoMemory, Reply, Value};
+use sg_lock::LockService;
+use sg_replay::{Advanced, Engine, Todo};
+use std::alloc::Global;
+use std::process::Abort;
+use std::test::Fail;
+use test_asking::Once;
+
+// What is missing for a call.
+fn missing(
+    alloc: Global,
+    engine: &Engine<LockService>,
+    call: &Call,
+) -> Result<Option<Todo>, NoMemory> {
+    let needs = engine.needs(alloc, call)?;
+    Ok(engine.missing(&needs))
+}
+
+// The owner of the first lock; None where it isn't tracked.
+fn owner(engine: &Engine<LockService>) -> Option<u64> {
+    match engine.row(1)?.fields.get(0) {
+        Some(Value::Word(owner)) => Some(*owner),
+        Some(Value::Text(_)) | None => None,
+    }
+}
+
+// What client 1 made, and a stop took, is made again for client 2, who takes it.
+fn lost_and_taken(
+    rt: &impl Abort,
+    alloc: Global,
+    engine: &mut Engine<LockService>,
+) -> Result<(), Fail>
+    requires clients { 2 ≤ engine.old.stored.clients }
+    requires tables { WalksLocks engine.old.tables }
+    requires fresh { IsFresh engine.old }
+    requires none { HasNone engine.old }
+{
+    let mut stops = Once::new(0);
+    make(alloc, &mut stops, engine)?;
+    assert!(rt; owner(engine) == Some(0));
+    let call = first_take(alloc);
+    lose(alloc, engine, &call)?;
+    assert!(rt; missing(alloc, engine, &call)? == Some(Todo::Walk { id: 1, k: 1 }));
+    match rebuild(alloc, &mut stops, engine, &call)? {
+        Advanced::Replayed => {
+            assert!(rt; missing(alloc, engine, &call)?.is_none());
+            take(alloc, &mut stops, engine, &call)
+        }
+        Advanced::Loaded | Advanced::Struck => Err(Fail::new("not rebuilt")),
+    }
+}
+
+// Whether client 2 owns the only lock, and has the receipt of its first call.
+fn is_taken(engine: &Engine<LockService>) -> bool {
+    owner(engine) == Some(2)
+        && engine.service().map(LockService::live) == Some(1)
+        && matches!(engine.receipt(2), Some((1, Reply::Ok(_))))
+}
+
+#[test]
+fn a_lost_lock_is_made_again_and_taken(rt: HostRuntime) -> Result<(), Fail> {
+    let tables = walked_tables(rt.alloc())?;
+    let mut engine = Engine::<LockService>::new(rt.alloc(), tables, 2)?;
+    lost_and_taken(&rt, rt.alloc(), &mut engine)?;
+    assert!(rt; is_taken(&engine));
+    Ok(())
+}
