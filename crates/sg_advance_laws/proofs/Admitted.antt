@@ -18,12 +18,12 @@ use Rattle.sg_trace_laws.specs.LastPlace.{last_place}
 use Rattle.sg_trace_laws.specs.Told.{IsKnown}
 use Rattle.sg_trace_laws.proofs.Noting.{admitted_last}
 use Rattle.sg_seat.specs.WorldView.{WorldView, held_in, unanswered}
-use Rattle.sg_world_laws.specs.Keeping.{AreDrawn, Keeps, Stub, standing}
+use Rattle.sg_world_laws.specs.Keeping.{AreDrawn, KeepsPromise, Stub, standing}
 use Rattle.sg_world_laws.specs.Setting.{IsSetting, Setting}
 use Rattle.sg_world_laws.specs.Turns.{IsLetIn}
 use Rattle.sg_world_laws.proofs.Orders.{above_es, call_es, good_now, known_es, none_es, time_es, wait_es}
 
-module _ (z : Setting) (set : IsSetting z) (w : WorldView) (b : Boot) (boots : List Boot) (v : Object) (stub : Stub) (k : Keeps z (standing w b boots (Some v)) stub)
+module _ (z : Setting) (set : IsSetting z) (w : WorldView) (b : Boot) (boots : List Boot) (v : Object) (stub : Stub) (k : KeepsPromise z (standing w b boots (Some v)) stub)
     (call : Call) (let_in : IsLetIn z (standing w b boots (Some v)) call) (item : Item) (es : List Entry) (drawn : AreDrawn (held_in (length (b ∷ boots)) w.seats) es) (none : IsOfNoEntry item (w.history ++ es)) where
   pub known_item : IsKnown z.iface.facts z.walks (w.history ++ es) (older_items [] (b ∷ boots)) (last_items (b ∷ boots)) item stub.names stub.told stub.present (object_from z.iface.facts (object_of z.iface.facts w.history) es)
   known_item = known_es z set w b boots v stub k es drawn item none

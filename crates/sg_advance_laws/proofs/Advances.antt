@@ -28,11 +28,11 @@ use Rattle.sg_object_laws.proofs.Guarded.{both_true, first_four, well_allowed, w
 use Rattle.sg_held_laws.proofs.Tabled.{reach_length}
 use Rattle.sg_held_laws.proofs.Walking.{MayReplay, may_replay, replayed_is, writes_no}
 use Rattle.sg_seat.specs.WorldView.{Seat, WorldView, held_in, unanswered}
-use Rattle.sg_world_laws.specs.Keeping.{Keeps, Stub, standing}
+use Rattle.sg_world_laws.specs.Keeping.{KeepsPromise, Stub, standing}
 use Rattle.sg_world_laws.specs.Seats.{HaveSeats}
 use Rattle.sg_world_laws.specs.Setting.{IsSetting, Setting, stubs_of}
 use Rattle.sg_world_laws.specs.Turns.{HasAll, IsAskedItem, IsLetIn}
-use Rattle.sg_advance_laws.specs.Advancing.{IsEverDue, IsFirstLeft, IsLeftToLoad, IsLoadItem, IsReady, IsReplayItem, loaded_stub, replayed_stub, stopped_within, with_noted}
+use Rattle.sg_advance_laws.specs.Advancing.{IsEverDue, IsFirstLeft, IsLeftToLoad, IsLoadItem, IsRebuildable, IsReplayItem, loaded_stub, replayed_stub, stopped_within, with_noted}
 use Rattle.sg_advance_laws.proofs.Loading.{load_due, load_hidden, load_makes, load_stands}
 use Rattle.sg_advance_laws.proofs.Noted.{keeps_noted, keeps_stopped, length_noted, next_now}
 use Rattle.sg_advance_laws.proofs.Rebuilding.{has_next, its_walk, least, none_done, reach_r, step_now}
@@ -73,10 +73,10 @@ numbered_call facts r done rest fun =
 
 -- ---- a row is rebuilt
 
-module _ (z : Setting) (set : IsSetting z) (w : WorldView) (b : Boot) (boots : List Boot) (v : Object) (stub : Stub) (k : Keeps z (standing w b boots (Some v)) stub)
+module _ (z : Setting) (set : IsSetting z) (w : WorldView) (b : Boot) (boots : List Boot) (v : Object) (stub : Stub) (k : KeepsPromise z (standing w b boots (Some v)) stub)
     (call : Call) (let_in : IsLetIn z (standing w b boots (Some v)) call) (id : ℕ) (first : IsFirstLeft z (standing w b boots (Some v)) stub call id) where
   -- the first needed row that isn't whole may be rebuilt by the next call of its walk
-  pub ready : IsReady z (standing w b boots (Some v)) stub v id
+  pub ready : IsRebuildable z (standing w b boots (Some v)) stub v id
   ready =
       let row_is = least z set w b boots v stub k call let_in id first in
       let n = has_next z set w b boots v stub k call let_in id first row_is.row row_is.there in
@@ -116,7 +116,7 @@ module _ (z : Setting) (set : IsSetting z) (w : WorldView) (b : Boot) (boots : L
           let asked = next_call z.iface.facts stub.names r done fun in
           ap (λ t. cond t (patch_at (path_of v.rows asked.desc) (place_of (fun_at z.iface.facts.funs fun) (row_at v.rows asked.desc)) (first_text asked.args)) None) none
 
-  module _ (it : IsReady z (standing w b boots (Some v)) stub v id) (item : Item) (is : IsReplayItem z.iface.facts stub id call.client it.row it.done it.fun item) where
+  module _ (it : IsRebuildable z (standing w b boots (Some v)) stub v id) (item : Item) (is : IsReplayItem z.iface.facts stub id call.client it.row it.done it.fun item) where
     asked_is : service_call item ≡ next_call z.iface.facts stub.names it.row it.done it.fun
     asked_is = call_is z set w b boots v stub k call let_in id first it.row it.done it.rest it.fun it.its item is
 
@@ -137,7 +137,7 @@ module _ (z : Setting) (set : IsSetting z) (w : WorldView) (b : Boot) (boots : L
       replayed_next = next_now z set w b boots v stub k item hidden due_replied w.run.points
 
       pub replayed : (points : ℕ)
-          → Keeps z (with_noted (standing w b boots (Some v)) item points (after z.iface.facts v (next_call z.iface.facts stub.names it.row it.done it.fun) (Ok it.good)) w.seats) (replayed_stub stub id it.row it.done it.rest it.good)
+          → KeepsPromise z (with_noted (standing w b boots (Some v)) item points (after z.iface.facts v (next_call z.iface.facts stub.names it.row it.done it.fun) (Ok it.good)) w.seats) (replayed_stub stub id it.row it.done it.rest it.good)
       replayed points =
           keeps_noted z set w b boots v stub k item hidden due_replied points (after z.iface.facts v (next_call z.iface.facts stub.names it.row it.done it.fun) (Ok it.good)) w.seats
           (replayed_stub stub id it.row it.done it.rest it.good) refl refl (subst (λ n. HaveSeats z w.history w.withdrawn n w.seats) (sym (length_noted (b ∷ boots) item)) k.seats) (ap is_stopped replied)
@@ -154,12 +154,12 @@ module _ (z : Setting) (set : IsSetting z) (w : WorldView) (b : Boot) (boots : L
       pub replay_stopped_next : IsNextItem (stubs_of z) w.history (unanswered (standing w b boots (Some v))) (place_behind [] (b ∷ boots) item)
       replay_stopped_next = next_now z set w b boots v stub k item hidden due_stopped w.run.points
 
-      pub replay_stopped : (stop points : ℕ) (later : Stub) → Keeps z (stopped_within (standing w b boots (Some v)) item points stop) later
+      pub replay_stopped : (stop points : ℕ) (later : Stub) → KeepsPromise z (stopped_within (standing w b boots (Some v)) item points stop) later
       replay_stopped stop points later = keeps_stopped z set w b boots v stub k item hidden due_stopped w.run.points stop points later
 
 -- ---- a file is loaded
 
-module _ (z : Setting) (set : IsSetting z) (w : WorldView) (b : Boot) (boots : List Boot) (v : Object) (stub : Stub) (k : Keeps z (standing w b boots (Some v)) stub)
+module _ (z : Setting) (set : IsSetting z) (w : WorldView) (b : Boot) (boots : List Boot) (v : Object) (stub : Stub) (k : KeepsPromise z (standing w b boots (Some v)) stub)
     (call : Call) (let_in : IsLetIn z (standing w b boots (Some v)) call) (key : List ℕ) (left : IsLeftToLoad z (standing w b boots (Some v)) stub call key)
     (item : Item) (is : IsLoadItem call.client key (file_at (object_of z.iface.facts w.history).files key) item) where
   load_hidden_now : is_visible_reply z.iface.facts item ≡ false
@@ -173,7 +173,7 @@ module _ (z : Setting) (set : IsSetting z) (w : WorldView) (b : Boot) (boots : L
   loaded_next = next_now z set w b boots v stub k item load_hidden_now load_due_now w.run.points
 
   pub file_loaded : (points : ℕ)
-      → Keeps z (with_noted (standing w b boots (Some v)) item points (loaded z.iface.facts v key (file_at (object_of z.iface.facts w.history).files key)) w.seats) (loaded_stub stub key)
+      → KeepsPromise z (with_noted (standing w b boots (Some v)) item points (loaded z.iface.facts v key (file_at (object_of z.iface.facts w.history).files key)) w.seats) (loaded_stub stub key)
   file_loaded points =
       keeps_noted z set w b boots v stub k item load_hidden_now load_due_now points (loaded z.iface.facts v key (file_at (object_of z.iface.facts w.history).files key)) w.seats (loaded_stub stub key) refl refl
       (subst (λ n. HaveSeats z w.history w.withdrawn n w.seats) (sym (length_noted (b ∷ boots) item)) k.seats) (ap is_stopped is.outcome)
@@ -181,7 +181,7 @@ module _ (z : Setting) (set : IsSetting z) (w : WorldView) (b : Boot) (boots : L
 
 -- ---- a client's call gets no reply
 
-module _ (z : Setting) (set : IsSetting z) (w : WorldView) (b : Boot) (boots : List Boot) (v : Object) (stub : Stub) (k : Keeps z (standing w b boots (Some v)) stub)
+module _ (z : Setting) (set : IsSetting z) (w : WorldView) (b : Boot) (boots : List Boot) (v : Object) (stub : Stub) (k : KeepsPromise z (standing w b boots (Some v)) stub)
     (call : Call) (let_in : IsLetIn z (standing w b boots (Some v)) call) (all : HasAll z (standing w b boots (Some v)) stub call) (item : Item) (asked : IsAskedItem z stub v call item) where
   due_asked : IsEverDue z (standing w b boots (Some v)) item
   due_asked = asked_due z set w b boots v stub k call let_in all item asked
@@ -200,7 +200,7 @@ module _ (z : Setting) (set : IsSetting z) (w : WorldView) (b : Boot) (boots : L
 
     pub waited : (points : ℕ) (seats : List Seat) → held_in (length (b ∷ boots)) seats ≡ held_in (length (b ∷ boots)) w.seats
         → unanswered (with_noted (standing w b boots (Some v)) item points v seats) ≡ unanswered (standing w b boots (Some v)) → HaveSeats z w.history w.withdrawn (length (noted (b ∷ boots) item)) seats
-        → Keeps z (with_noted (standing w b boots (Some v)) item points v seats) stub
+        → KeepsPromise z (with_noted (standing w b boots (Some v)) item points v seats) stub
     waited points seats held calls have =
         keeps_noted z set w b boots v stub k item waits_hidden due_asked points v seats stub held calls have (ap is_stopped waits)
         (waits_makes z set w b boots v stub k call let_in all item asked waits) (waits_stands z set w b boots v stub k call let_in all item asked waits)
@@ -213,5 +213,5 @@ module _ (z : Setting) (set : IsSetting z) (w : WorldView) (b : Boot) (boots : L
     pub stopped_next : IsNextItem (stubs_of z) w.history (unanswered (standing w b boots (Some v))) (place_behind [] (b ∷ boots) item)
     stopped_next = next_now z set w b boots v stub k item stops_hidden due_asked w.run.points
 
-    pub call_stopped : (stop points : ℕ) (later : Stub) → Keeps z (stopped_within (standing w b boots (Some v)) item points stop) later
+    pub call_stopped : (stop points : ℕ) (later : Stub) → KeepsPromise z (stopped_within (standing w b boots (Some v)) item points stop) later
     call_stopped stop points later = keeps_stopped z set w b boots v stub k item stops_hidden due_asked w.run.points stop points later

@@ -27,7 +27,7 @@ use Rattle.sg_held_laws.specs.Progress.{IsInRecovery, Told, complete, is_complet
 use Rattle.sg_trace_laws.specs.LastPlace.{last_place}
 use Rattle.sg_trace_laws.proofs.Noting.{load_settled}
 use Rattle.sg_seat.specs.WorldView.{WorldView, held_in, unanswered}
-use Rattle.sg_world_laws.specs.Keeping.{AreDrawn, Keeps, Stands, Stub, standing}
+use Rattle.sg_world_laws.specs.Keeping.{AreDrawn, KeepsPromise, Stands, Stub, standing}
 use Rattle.sg_world_laws.specs.Setting.{IsSetting, Setting, stubs_of}
 use Rattle.sg_world_laws.specs.Turns.{IsLetIn}
 use Rattle.sg_world_laws.proofs.Orders.{all_drawn, back_es, call_es, good_now, needs_es, none_es, time_es, wait_es}
@@ -87,7 +87,7 @@ none_of_load : (item : Item) (key : List ℕ) (client : ℕ) → item.tag ≡ Lo
 none_of_load item key client tag [] = tt
 none_of_load item key client tag (e ∷ h) = (ap (is_tagged e.call.client e.call.seq) tag, none_of_load item key client tag h)
 
-module _ (z : Setting) (set : IsSetting z) (w : WorldView) (b : Boot) (boots : List Boot) (v : Object) (stub : Stub) (k : Keeps z (standing w b boots (Some v)) stub)
+module _ (z : Setting) (set : IsSetting z) (w : WorldView) (b : Boot) (boots : List Boot) (v : Object) (stub : Stub) (k : KeepsPromise z (standing w b boots (Some v)) stub)
     (call : Call) (let_in : IsLetIn z (standing w b boots (Some v)) call) (key : List ℕ) (left : IsLeftToLoad z (standing w b boots (Some v)) stub call key) where
   abbrev o : Object
   o = object_of z.iface.facts w.history

@@ -21,7 +21,7 @@ use Rattle.sg_held_laws.specs.Progress.{IsInRecovery}
 use Rattle.sg_trace_laws.specs.LastPlace.{HaveItems}
 use Rattle.sg_trace_laws.specs.Told.{IsRead}
 use Rattle.sg_seat.specs.WorldView.{Seat, WorldView, held_in, unanswered}
-use Rattle.sg_world_laws.specs.Keeping.{AreDrawn, Keeps, MayEnter, Stands, Stub, standing}
+use Rattle.sg_world_laws.specs.Keeping.{AreDrawn, KeepsPromise, MayEnter, Stands, Stub, standing}
 use Rattle.sg_world_laws.specs.Seats.{HaveSeats}
 use Rattle.sg_world_laws.specs.Setting.{IsSetting, Setting, stubs_of}
 use Rattle.sg_world_laws.proofs.Ahead.{noted_ahead}
@@ -34,7 +34,7 @@ length_noted [] item = refl
 length_noted (b ∷ []) item = refl
 length_noted (b ∷ c ∷ boots) item = ap suc (length_noted (c ∷ boots) item)
 
-module _ (z : Setting) (set : IsSetting z) (w : WorldView) (b : Boot) (boots : List Boot) (v : Object) (stub : Stub) (k : Keeps z (standing w b boots (Some v)) stub)
+module _ (z : Setting) (set : IsSetting z) (w : WorldView) (b : Boot) (boots : List Boot) (v : Object) (stub : Stub) (k : KeepsPromise z (standing w b boots (Some v)) stub)
     (item : Item) (hidden : is_visible_reply z.iface.facts item ≡ false) (due : IsEverDue z (standing w b boots (Some v)) item) (points : ℕ) where
   abbrev ws : List Entry
   ws = held_in (length (b ∷ boots)) w.seats
@@ -110,7 +110,7 @@ module _ (z : Setting) (set : IsSetting z) (w : WorldView) (b : Boot) (boots : L
         ∙ ap (λ q. q || list_any (λ (n : ℕ × ℕ). n.0 == id) (names_in z.iface.facts (w.history ++ es) item.shown.fun item.tag item.outcome)) (up.unnamed es before id above)
         ∙ stands.unnamed es before id above
 
-    pub keeps_noted : Keeps z (with_noted (standing w b boots (Some v)) item points v' seats) stub'
+    pub keeps_noted : KeepsPromise z (with_noted (standing w b boots (Some v)) item points v' seats) stub'
     keeps_noted = record {
       legal = k.legal;
       calls = k.calls;
@@ -134,7 +134,7 @@ module _ (z : Setting) (set : IsSetting z) (w : WorldView) (b : Boot) (boots : L
 
   -- the service stopped within the call
   module _ (stop points' : ℕ) (stub' : Stub) where
-    pub keeps_stopped : Keeps z (stopped_within (standing w b boots (Some v)) item points' stop) stub'
+    pub keeps_stopped : KeepsPromise z (stopped_within (standing w b boots (Some v)) item points' stop) stub'
     keeps_stopped = stopped z (standing w b boots (Some v)) stub stub' k (record { boots = noted (b ∷ boots) item; points = points }) (record {
       begun = begun_noted (b ∷ boots) item (λ e. cc e);
       long = length_noted (b ∷ boots) item;

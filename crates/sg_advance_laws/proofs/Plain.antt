@@ -18,7 +18,7 @@ use Rattle.sg_trace_laws.specs.LastPlace.{last_place}
 use Rattle.sg_trace_laws.specs.Told.{IsRead}
 use Rattle.sg_trace_laws.proofs.Reading.{read_plain}
 use Rattle.sg_seat.specs.WorldView.{WorldView, held_in}
-use Rattle.sg_world_laws.specs.Keeping.{AreDrawn, Keeps, Stands, Stub, standing}
+use Rattle.sg_world_laws.specs.Keeping.{AreDrawn, KeepsPromise, Stands, Stub, standing}
 use Rattle.sg_world_laws.specs.Setting.{Setting}
 use Rattle.sg_advance_laws.specs.Advancing.{GivesNothing, IsEverDue, StandsBehind}
 
@@ -48,7 +48,7 @@ loads_give_nothing facts walks older front item client key tag = record {
     none true = refl
     none false = refl
 
-module _ (z : Setting) (w : WorldView) (b : Boot) (boots : List Boot) (v : Object) (stub : Stub) (k : Keeps z (standing w b boots (Some v)) stub)
+module _ (z : Setting) (w : WorldView) (b : Boot) (boots : List Boot) (v : Object) (stub : Stub) (k : KeepsPromise z (standing w b boots (Some v)) stub)
     (item : Item) (due : IsEverDue z (standing w b boots (Some v)) item) (gives : GivesNothing z.iface.facts z.walks (older_items [] (b ∷ boots)) (last_items (b ∷ boots)) item)
     (v' : Object) (present' : List ℕ → Bool) (same : (path : List ℕ) → (stub.present path || is_patch_at path item.outcome) ≡ present' path)
     (numbers : AreNumbers z.iface.facts stub.told (length w.history) (object_from z.iface.facts (object_of z.iface.facts w.history) (held_in (length (b ∷ boots)) w.seats)) v')

@@ -25,7 +25,7 @@ use Rattle.sg_held_laws.proofs.Numbers.{counted_below}
 use Rattle.sg_held_laws.proofs.Stepping.{stepped}
 use Rattle.sg_held_laws.proofs.Tabled.{walk_is}
 use Rattle.sg_seat.specs.WorldView.{WorldView, held_in}
-use Rattle.sg_world_laws.specs.Keeping.{AreDrawn, Keeps, Stands, Stub, standing}
+use Rattle.sg_world_laws.specs.Keeping.{AreDrawn, KeepsPromise, Stands, Stub, standing}
 use Rattle.sg_world_laws.specs.Setting.{IsSetting, Setting}
 use Rattle.sg_world_laws.specs.Turns.{IsLetIn}
 use Rattle.sg_world_laws.proofs.Orders.{all_drawn, far_now, good_es, good_now, needs_es, reachable_es, sound_es, there_es, time_es}
@@ -68,7 +68,7 @@ pub some_walk : (i : Declared) (walk : List ℕ) (by state : ℕ) (set : List Bo
 some_walk i [] by state set its = absurd (let wrong : false ≡ true = its.restored in cc wrong)
 some_walk i (f ∷ walk) by state set its = omega arith
 
-module _ (z : Setting) (set : IsSetting z) (w : WorldView) (b : Boot) (boots : List Boot) (v : Object) (stub : Stub) (k : Keeps z (standing w b boots (Some v)) stub)
+module _ (z : Setting) (set : IsSetting z) (w : WorldView) (b : Boot) (boots : List Boot) (v : Object) (stub : Stub) (k : KeepsPromise z (standing w b boots (Some v)) stub)
     (call : Call) (let_in : IsLetIn z (standing w b boots (Some v)) call) (id : ℕ) (first : IsFirstLeft z (standing w b boots (Some v)) stub call id) where
   abbrev o : Object
   o = object_of z.iface.facts w.history

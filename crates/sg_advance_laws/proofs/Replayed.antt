@@ -35,7 +35,7 @@ use Rattle.sg_trace_laws.proofs.Behind.{object_before_last}
 use Rattle.sg_trace_laws.proofs.Noting.{least_told, walk_settled}
 use Rattle.sg_trace_laws.proofs.Reading.{read_walk}
 use Rattle.sg_seat.specs.WorldView.{WorldView, held_in, unanswered}
-use Rattle.sg_world_laws.specs.Keeping.{AreDrawn, Keeps, Stands, Stub, standing}
+use Rattle.sg_world_laws.specs.Keeping.{AreDrawn, KeepsPromise, Stands, Stub, standing}
 use Rattle.sg_world_laws.specs.Setting.{IsSetting, Setting, stubs_of}
 use Rattle.sg_world_laws.specs.Turns.{IsLetIn}
 use Rattle.sg_world_laws.proofs.Orders.{all_drawn, known_es, sound_es}
@@ -49,7 +49,7 @@ none_of_walk : (item : Item) (id k client : ℕ) → item.tag ≡ Walk id k clie
 none_of_walk item id k client tag [] = tt
 none_of_walk item id k client tag (e ∷ h) = (ap (is_tagged e.call.client e.call.seq) tag, none_of_walk item id k client tag h)
 
-module _ (z : Setting) (set : IsSetting z) (w : WorldView) (b : Boot) (boots : List Boot) (v : Object) (stub : Stub) (k : Keeps z (standing w b boots (Some v)) stub)
+module _ (z : Setting) (set : IsSetting z) (w : WorldView) (b : Boot) (boots : List Boot) (v : Object) (stub : Stub) (k : KeepsPromise z (standing w b boots (Some v)) stub)
     (call : Call) (let_in : IsLetIn z (standing w b boots (Some v)) call) (id : ℕ) (first : IsFirstLeft z (standing w b boots (Some v)) stub call id)
     (r : Row) (done rest : List ℕ) (fun : ℕ) (its : IsNextOf z (standing w b boots (Some v)) stub id r done rest fun)
     (item : Item) (is : IsReplayItem z.iface.facts stub id call.client r done fun item) where

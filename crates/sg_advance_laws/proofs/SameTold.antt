@@ -13,7 +13,7 @@ use Rattle.sg_held_laws.specs.Progress.{TellsCalls, Told, is_complete}
 use Rattle.sg_held_laws.proofs.Glue.{under_named}
 use Rattle.sg_trace_laws.specs.Told.{IsRead}
 use Rattle.sg_seat.specs.WorldView.{WorldView, held_replies}
-use Rattle.sg_world_laws.specs.Keeping.{Keeps, Stands, StandsIn, Stub}
+use Rattle.sg_world_laws.specs.Keeping.{KeepsPromise, Stands, StandsIn, Stub}
 use Rattle.sg_world_laws.specs.Setting.{Setting}
 
 sum_alike : (f : Told → ℕ) (told told' : ℕ → Told) (rows : List Row) → ((id : ℕ) → told' id ≡ told id) → sum_told f told' rows ≡ sum_told f told rows
@@ -47,7 +47,7 @@ module _ (z : Setting) (stub later : Stub) (names : (id : ℕ) → named later.n
       live id (inr is) = inr is
 
   -- so the world keeps what it keeps, whatever holds the look-ups
-  pub same_told : (w : WorldView) → Keeps z w stub → Keeps z w later
+  pub same_told : (w : WorldView) → KeepsPromise z w stub → KeepsPromise z w later
   same_told w k = record {
     legal = k.legal;
     calls = k.calls;

@@ -13,7 +13,7 @@ use Rattle.sg_hist.specs.Recovered.{IsByTable, is_clients, is_patch_at, is_repli
 use Rattle.sg_recovery_laws.specs.Growing.{last_items, older_items}
 use Rattle.sg_held_laws.proofs.Served.{blocks_alike}
 use Rattle.sg_seat.specs.WorldView.{WorldView, held_in, unanswered}
-use Rattle.sg_world_laws.specs.Keeping.{Keeps, Stands, Stub, standing}
+use Rattle.sg_world_laws.specs.Keeping.{KeepsPromise, Stands, Stub, standing}
 use Rattle.sg_world_laws.specs.Setting.{IsSetting, Setting}
 use Rattle.sg_world_laws.specs.Turns.{HasAll, IsAskedItem, IsLetIn}
 use Rattle.sg_world_laws.proofs.Asked.{its_es, next_es, none_of}
@@ -21,7 +21,7 @@ use Rattle.sg_world_laws.proofs.Orders.{few_now, good_now, time_now}
 use Rattle.sg_advance_laws.specs.Advancing.{IsEverDue, StandsBehind}
 use Rattle.sg_advance_laws.proofs.Plain.{stands_plain, waits_give_nothing}
 
-module _ (z : Setting) (set : IsSetting z) (w : WorldView) (b : Boot) (boots : List Boot) (v : Object) (stub : Stub) (k : Keeps z (standing w b boots (Some v)) stub)
+module _ (z : Setting) (set : IsSetting z) (w : WorldView) (b : Boot) (boots : List Boot) (v : Object) (stub : Stub) (k : KeepsPromise z (standing w b boots (Some v)) stub)
     (call : Call) (let_in : IsLetIn z (standing w b boots (Some v)) call) (all : HasAll z (standing w b boots (Some v)) stub call) (item : Item) (asked : IsAskedItem z stub v call item) where
   abbrev ws : List Entry
   ws = held_in (length (b ∷ boots)) w.seats

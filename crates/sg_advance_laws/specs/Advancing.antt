@@ -72,7 +72,7 @@ pub record IsNextOf (z : Setting) (w : WorldView) (stub : Stub) (id : ℕ) (row 
 
 -- the row of an id isn't whole, and may be rebuilt by the next call of its walk: the service may be asked it under its ids, answers Ok,
 -- and writes no file; and the first call of a walk is a creation, which gives the service's next id
-pub record IsReady (z : Setting) (w : WorldView) (stub : Stub) (v : Object) (id : ℕ) : Type 0 where
+pub record IsRebuildable (z : Setting) (w : WorldView) (stub : Stub) (v : Object) (id : ℕ) : Type 0 where
   pub row : Row
   pub done : List ℕ
   pub rest : List ℕ

@@ -19,7 +19,7 @@ use Rattle.sg_hist.specs.Recovered.{is_walk_of}
 use Rattle.sg_recovery_laws.specs.Growing.{last_items, older_items}
 use Rattle.sg_seat.specs.WorldView.{WorldView, held_replies}
 use Rattle.sg_trace_laws.specs.Told.{IsRead}
-use Rattle.sg_world_laws.specs.Keeping.{Keeps, Stands, StandsIn, Stub}
+use Rattle.sg_world_laws.specs.Keeping.{KeepsPromise, Stands, StandsIn, Stub}
 use Rattle.sg_world_laws.specs.Setting.{Setting}
 
 -- what is told of each row comes to the same sum
@@ -70,7 +70,7 @@ module _ (z : Setting) (w : WorldView) (stub other : Stub) (same : TellSame stub
   stands_in_alike (Some v) stands = stands_alike v stands
 
   -- the world keeps what it keeps
-  pub keeps_alike : Keeps z w stub → Keeps z w other
+  pub keeps_alike : KeepsPromise z w stub → KeepsPromise z w other
   keeps_alike k = record {
     legal = k.legal;
     calls = k.calls;

@@ -30,7 +30,7 @@ use Rattle.sg_object_laws.proofs.Serves.{fewer_behind}
 use Rattle.sg_object_laws.proofs.Steady.{after_good}
 use Rattle.sg_object_laws.proofs.Waiting.{good_behind, less_time, time_after, waiting_after}
 use Rattle.sg_seat.specs.WorldView.{WorldView, held_in}
-use Rattle.sg_world_laws.specs.Keeping.{Keeps, Stands, Stub, standing}
+use Rattle.sg_world_laws.specs.Keeping.{KeepsPromise, Stands, Stub, standing}
 use Rattle.sg_world_laws.specs.Setting.{IsSetting, Setting}
 use Rattle.sg_world_laws.proofs.Orders.{few_now, good_now, time_now}
 
@@ -53,7 +53,7 @@ pub apart_refused : (names : List (ℕ × ℕ)) (c : Bool) (code : Code) (good :
 apart_refused names true code good s = s
 apart_refused names false code good s = s
 
-module _ (z : Setting) (set : IsSetting z) (w : WorldView) (b : Boot) (boots : List Boot) (v : Object) (stub : Stub) (k : Keeps z (standing w b boots (Some v)) stub)
+module _ (z : Setting) (set : IsSetting z) (w : WorldView) (b : Boot) (boots : List Boot) (v : Object) (stub : Stub) (k : KeepsPromise z (standing w b boots (Some v)) stub)
     (call : Call) (item : Item) (reply other : Reply) (patch : Option Patch) (s : IsServedCall z (standing w b boots (Some v)) stub v call item reply other patch) where
   abbrev up : Stands z (standing w b boots (Some v)) stub v
   up = k.stands

@@ -39,8 +39,8 @@ use Rattle.sg_recovery_laws.proofs.InBoots.{boots_appended, older_noted}
 use Rattle.sg_recovery_laws.proofs.Lists.{each_append, each_map}
 use Rattle.sg_seat.specs.WorldView.{WorldView, held_in, unanswered}
 use Rattle.sg_trace_laws.specs.Told.{IsRead}
-use Rattle.sg_world_laws.specs.Keeping.{AreDrawn, Keeps, MayEnter, Stands, Stub, standing}
-use Rattle.sg_world_laws.specs.Seats.{HaveSeats, MayMake}
+use Rattle.sg_world_laws.specs.Keeping.{AreDrawn, KeepsPromise, MayEnter, Stands, Stub, standing}
+use Rattle.sg_world_laws.specs.Seats.{HaveSeats, MayBeMade}
 use Rattle.sg_world_laws.specs.Setting.{IsSetting, Setting, stubs_of}
 use Rattle.sg_world_laws.proofs.Drawn.{object_behind}
 use Rattle.sg_world_laws.proofs.Entering.{legal_push, settled_after}
@@ -48,7 +48,7 @@ use Rattle.sg_world_laws.proofs.Items.{has_item}
 use Rattle.sg_world_laws.proofs.Orders.{good_now, lets_after}
 use Rattle.sg_world_laws.proofs.Struck.{no_drawn}
 
-module _ (z : Setting) (set : IsSetting z) (w : WorldView) (b : Boot) (boots : List Boot) (v : Object) (stub : Stub) (k : Keeps z (standing w b boots (Some v)) stub)
+module _ (z : Setting) (set : IsSetting z) (w : WorldView) (b : Boot) (boots : List Boot) (v : Object) (stub : Stub) (k : KeepsPromise z (standing w b boots (Some v)) stub)
     (call : Call) (item : Item) (reply other : Reply) (patch : Option Patch) (s : IsServedCall z (standing w b boots (Some v)) stub v call item reply other patch)
     (w' : WorldView) (c : IsCommittedIn z (standing w b boots (Some v)) stub v call item reply other w') where
   abbrev up : Stands z (standing w b boots (Some v)) stub v
@@ -164,10 +164,10 @@ module _ (z : Setting) (set : IsSetting z) (w : WorldView) (b : Boot) (boots : L
     }
 
     -- the world keeps what it keeps
-    pub committed_keeps : Keeps z w' stub'
-    committed_keeps = subst (λ x. Keeps z x stub') (sym same_world) (record {
+    pub committed_keeps : KeepsPromise z w' stub'
+    committed_keeps = subst (λ x. KeepsPromise z x stub') (sym same_world) (record {
       legal = legal_push z.iface z.ask empty_object w.history e k.legal (ap (λ g. refused_or g (z.ask o call)) s.let_in.guarded ∙ s.replied.answered);
-      calls = each_append (λ x. MayMake z.iface x.call) w.history (e ∷ []) k.calls (s.let_in.may, tt);
+      calls = each_append (λ x. MayBeMade z.iface x.call) w.history (e ∷ []) k.calls (s.let_in.may, tt);
       object = settled_after z set w.history e k.object (answered_it z set w b boots v stub k call item reply other patch s);
       seats = seats_now;
       waiting = subst (λ x. AreWaiting facts z.ask x (held_in (length (noted (b ∷ boots) item)) w'.seats)) (sym object_now) (subst (AreWaiting facts z.ask o1) (sym same_held) (wait_after z set w b boots v stub k call item reply other patch s));

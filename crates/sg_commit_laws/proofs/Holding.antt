@@ -43,7 +43,7 @@ use Rattle.sg_recovery_laws.proofs.Served.{item_of-own}
 use Rattle.sg_seat.specs.WorldView.{WorldView, held_in, unanswered}
 use Rattle.sg_trace_laws.specs.Told.{IsRead}
 use Rattle.sg_trace_laws.proofs.Making.{entries_put}
-use Rattle.sg_world_laws.specs.Keeping.{AreApart, AreDrawn, Keeps, MayEnter, Stands, Stub, standing}
+use Rattle.sg_world_laws.specs.Keeping.{ClientsDiffer, AreDrawn, KeepsPromise, MayEnter, Stands, Stub, standing}
 use Rattle.sg_world_laws.specs.Seats.{HaveSeats}
 use Rattle.sg_world_laws.specs.Setting.{IsSetting, Setting, stubs_of}
 use Rattle.sg_world_laws.proofs.Ahead.{holds_ahead_with, noted_ahead}
@@ -67,7 +67,7 @@ waiting_put facts ask o (x ∷ front) back e own none all = (
   waiting_put facts ask o front back e own none.1 all.2,
 )
 
-module _ (z : Setting) (set : IsSetting z) (w : WorldView) (b : Boot) (boots : List Boot) (v : Object) (stub : Stub) (k : Keeps z (standing w b boots (Some v)) stub)
+module _ (z : Setting) (set : IsSetting z) (w : WorldView) (b : Boot) (boots : List Boot) (v : Object) (stub : Stub) (k : KeepsPromise z (standing w b boots (Some v)) stub)
     (call : Call) (item : Item) (reply other : Reply) (patch : Option Patch) (s : IsServedCall z (standing w b boots (Some v)) stub v call item reply other patch)
     (hidden : is_visible z.iface.facts call.fun ≡ false) (front back : List Entry) (w' : WorldView) (c : IsHeldBy z (standing w b boots (Some v)) stub v call item reply other front back w') where
   abbrev up : Stands z (standing w b boots (Some v)) stub v
@@ -115,10 +115,10 @@ module _ (z : Setting) (set : IsSetting z) (w : WorldView) (b : Boot) (boots : L
   few_held : length (front ++ e ∷ back) ≤ last_client
   few_held = let few = held_few (length (b ∷ boots)) w'.seats in let same : length (held_in (length (b ∷ boots)) w'.seats) ≡ length (front ++ e ∷ back) = ap length c.held in let most = c.seats.few in omega (arith, few, same, most)
 
-  apart_now : AreApart (front ++ e ∷ back)
+  apart_now : ClientsDiffer (front ++ e ∷ back)
   apart_now = waiting_apart facts z.ask o (front ++ e ∷ back) waits
 
-  apart_was : AreApart (front ++ back)
+  apart_was : ClientsDiffer (front ++ back)
   apart_was = waiting_apart facts z.ask o (front ++ back) (waiting_without facts z.ask o front back e waits)
 
   drawn_was : (es : List Entry) → AreDrawn (front ++ back) es → AreDrawn ws es
@@ -270,8 +270,8 @@ module _ (z : Setting) (set : IsSetting z) (w : WorldView) (b : Boot) (boots : L
   }
 
   -- the world keeps what it keeps
-  pub held_keeps : Keeps z w' stub
-  held_keeps = subst (λ x. Keeps z x stub) (sym same_world) (record {
+  pub held_keeps : KeepsPromise z w' stub
+  held_keeps = subst (λ x. KeepsPromise z x stub) (sym same_world) (record {
     legal = k.legal;
     calls = k.calls;
     object = k.object;

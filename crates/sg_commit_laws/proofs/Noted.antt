@@ -28,7 +28,7 @@ use Rattle.sg_recovery_laws.proofs.InBoots.{boots_noted, older_noted, own_last, 
 use Rattle.sg_seat.specs.WorldView.{WorldView, held_in}
 use Rattle.sg_trace_laws.specs.LastPlace.{HaveItems}
 use Rattle.sg_recovery_laws.proofs.Lists.{each_map}
-use Rattle.sg_world_laws.specs.Keeping.{Keeps, Stub, standing}
+use Rattle.sg_world_laws.specs.Keeping.{KeepsPromise, Stub, standing}
 use Rattle.sg_world_laws.specs.Setting.{IsSetting, Setting}
 use Rattle.sg_world_laws.proofs.Asked.{none_of}
 use Rattle.sg_world_laws.proofs.Orders.{all_drawn}
@@ -58,7 +58,7 @@ none_back : (item : Item) (xs ys : List Entry) → IsOfNoEntry item (xs ++ ys) �
 none_back item [] ys none = none
 none_back item (x ∷ xs) ys none = none_back item xs ys none.1
 
-module _ (z : Setting) (set : IsSetting z) (w : WorldView) (b : Boot) (boots : List Boot) (v : Object) (stub : Stub) (k : Keeps z (standing w b boots (Some v)) stub)
+module _ (z : Setting) (set : IsSetting z) (w : WorldView) (b : Boot) (boots : List Boot) (v : Object) (stub : Stub) (k : KeepsPromise z (standing w b boots (Some v)) stub)
     (call : Call) (item : Item) (reply other : Reply) (patch : Option Patch) (s : IsServedCall z (standing w b boots (Some v)) stub v call item reply other patch) where
   abbrev ws : List Entry
   ws = held_in (length (b ∷ boots)) w.seats

@@ -33,12 +33,12 @@ use Rattle.sg_object_laws.proofs.Steady.{ascends}
 use Rattle.sg_object_laws.proofs.Waiting.{behind_same}
 use Rattle.sg_seat.specs.WorldView.{WorldView, held_in}
 use Rattle.sg_walk_laws.proofs.Found.{same_test}
-use Rattle.sg_world_laws.specs.Keeping.{Keeps, Stands, Stub, standing}
+use Rattle.sg_world_laws.specs.Keeping.{KeepsPromise, Stands, Stub, standing}
 use Rattle.sg_world_laws.specs.Setting.{IsSetting, Setting}
 use Rattle.sg_world_laws.proofs.Asked.{serves_call}
 use Rattle.sg_world_laws.proofs.Orders.{all_drawn, good_now, sound_es, time_es}
 
-module _ (z : Setting) (set : IsSetting z) (w : WorldView) (b : Boot) (boots : List Boot) (v : Object) (stub : Stub) (k : Keeps z (standing w b boots (Some v)) stub)
+module _ (z : Setting) (set : IsSetting z) (w : WorldView) (b : Boot) (boots : List Boot) (v : Object) (stub : Stub) (k : KeepsPromise z (standing w b boots (Some v)) stub)
     (call : Call) (item : Item) (reply other : Reply) (patch : Option Patch) (s : IsServedCall z (standing w b boots (Some v)) stub v call item reply other patch) where
   abbrev up : Stands z (standing w b boots (Some v)) stub v
   up = k.stands

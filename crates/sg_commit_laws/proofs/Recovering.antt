@@ -35,7 +35,7 @@ use Rattle.sg_seat.specs.WorldView.{WorldView, held_in, unanswered}
 use Rattle.sg_trace_laws.specs.LastPlace.{last_place}
 use Rattle.sg_trace_laws.proofs.Replying.{reply_at}
 use Rattle.sg_walk_laws.proofs.Found.{other_test, same_test}
-use Rattle.sg_world_laws.specs.Keeping.{AreDrawn, Keeps, Stands, Stub, standing}
+use Rattle.sg_world_laws.specs.Keeping.{AreDrawn, KeepsPromise, Stands, Stub, standing}
 use Rattle.sg_world_laws.specs.Setting.{IsSetting, Setting, stubs_of}
 use Rattle.sg_world_laws.proofs.Ahead.{served_ahead}
 use Rattle.sg_world_laws.proofs.Asked.{its_es, next_es, none_of, serves_call}
@@ -65,7 +65,7 @@ given_pushed (x ∷ h) e all rest =
         let less = all.0 (grind (arith, nat_tests, is)) in
         ap (λ c. c && (x.call.seq == e.call.seq)) is ∙ other_test x.call.seq e.call.seq (λ same. omega (arith, same, less))
 
-module _ (z : Setting) (set : IsSetting z) (w : WorldView) (b : Boot) (boots : List Boot) (v : Object) (stub : Stub) (k : Keeps z (standing w b boots (Some v)) stub)
+module _ (z : Setting) (set : IsSetting z) (w : WorldView) (b : Boot) (boots : List Boot) (v : Object) (stub : Stub) (k : KeepsPromise z (standing w b boots (Some v)) stub)
     (call : Call) (item : Item) (reply other : Reply) (patch : Option Patch) (s : IsServedCall z (standing w b boots (Some v)) stub v call item reply other patch) where
   abbrev up : Stands z (standing w b boots (Some v)) stub v
   up = k.stands

@@ -42,7 +42,7 @@ use Rattle.sg_object_laws.proofs.Steady.{ascends}
 use Rattle.sg_object_laws.proofs.Waiting.{behind_same, hidden_is}
 use Rattle.sg_seat.specs.WorldView.{WorldView, held_in}
 use Rattle.sg_walk_laws.proofs.Found.{above, same_test}
-use Rattle.sg_world_laws.specs.Keeping.{Keeps, Stands, Stub, standing}
+use Rattle.sg_world_laws.specs.Keeping.{KeepsPromise, Stands, Stub, standing}
 use Rattle.sg_world_laws.specs.Setting.{IsSetting, Setting}
 use Rattle.sg_world_laws.specs.Turns.{HasAll, IsLetIn, IsRepliedItem}
 use Rattle.sg_world_laws.proofs.Asked.{serves_call}
@@ -65,7 +65,7 @@ parent_has (x ∷ rows) id parent r there its = at (x.id == id) there (parent_ha
 abbrev good_of : ℕ → List ℕ → List ℕ → Good
 good_of desc words bytes = record { desc = desc; words = words; bytes = bytes }
 
-module _ (z : Setting) (set : IsSetting z) (w : WorldView) (b : Boot) (boots : List Boot) (v : Object) (stub : Stub) (k : Keeps z (standing w b boots (Some v)) stub)
+module _ (z : Setting) (set : IsSetting z) (w : WorldView) (b : Boot) (boots : List Boot) (v : Object) (stub : Stub) (k : KeepsPromise z (standing w b boots (Some v)) stub)
     (call : Call) (let_in : IsLetIn z (standing w b boots (Some v)) call) (all : HasAll z (standing w b boots (Some v)) stub call) where
   abbrev up : Stands z (standing w b boots (Some v)) stub v
   up = k.stands

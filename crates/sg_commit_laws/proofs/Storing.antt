@@ -27,7 +27,7 @@ use Rattle.sg_seat.specs.WorldView.{WorldView}
 use Rattle.sg_track.specs.Tracked.{MayTrack, Tracked}
 use Rattle.sg_track.proofs.Premises.{may_track}
 use Rattle.sg_walk_laws.proofs.Found.{same_test}
-use Rattle.sg_world_laws.specs.Keeping.{Keeps, Stub, standing}
+use Rattle.sg_world_laws.specs.Keeping.{KeepsPromise, Stub, standing}
 use Rattle.sg_world_laws.specs.Setting.{IsSetting, Setting}
 use Rattle.sg_world_laws.proofs.LetIn.{desc_there}
 use Rattle.sg_world_laws.proofs.Orders.{good_now}
@@ -54,7 +54,7 @@ may_track_at facts ask sound law o call (Ok good) ok is t rows given room =
     parent (inl none) = ap (λ a. a || is_live t.rows call.desc) (same_test call.desc 0 none)
     parent (inr live) = ap (λ a. (call.desc == 0) || a) (ap (λ rs. is_live rs call.desc) rows ∙ live) ∙ or_true (call.desc == 0)
 
-module _ (z : Setting) (set : IsSetting z) (w : WorldView) (b : Boot) (boots : List Boot) (v : Object) (stub : Stub) (k : Keeps z (standing w b boots (Some v)) stub)
+module _ (z : Setting) (set : IsSetting z) (w : WorldView) (b : Boot) (boots : List Boot) (v : Object) (stub : Stub) (k : KeepsPromise z (standing w b boots (Some v)) stub)
     (call : Call) (item : Item) (reply other : Reply) (patch : Option Patch) (s : IsServedCall z (standing w b boots (Some v)) stub v call item reply other patch) where
   abbrev facts : Facts
   facts = z.iface.facts

@@ -42,13 +42,13 @@ use Rattle.sg_trace_laws.specs.LastPlace.{last_place}
 use Rattle.sg_trace_laws.specs.Told.{IsRead}
 use Rattle.sg_trace_laws.proofs.Making.{entries_put, read_made, read_put}
 use Rattle.sg_walk_laws.proofs.Found.{from_more, other_test, within}
-use Rattle.sg_world_laws.specs.Keeping.{AreDrawn, Keeps, Stands, Stub, standing}
+use Rattle.sg_world_laws.specs.Keeping.{AreDrawn, KeepsPromise, Stands, Stub, standing}
 use Rattle.sg_world_laws.specs.Setting.{IsSetting, Setting}
 use Rattle.sg_world_laws.proofs.Asked.{none_of}
 use Rattle.sg_world_laws.proofs.Given.{given_any, given_now}
 use Rattle.sg_world_laws.proofs.Orders.{good_now}
 
-module _ (z : Setting) (set : IsSetting z) (w : WorldView) (b : Boot) (boots : List Boot) (v : Object) (stub : Stub) (k : Keeps z (standing w b boots (Some v)) stub)
+module _ (z : Setting) (set : IsSetting z) (w : WorldView) (b : Boot) (boots : List Boot) (v : Object) (stub : Stub) (k : KeepsPromise z (standing w b boots (Some v)) stub)
     (call : Call) (item : Item) (reply other : Reply) (patch : Option Patch) (s : IsServedCall z (standing w b boots (Some v)) stub v call item reply other patch) where
   abbrev up : Stands z (standing w b boots (Some v)) stub v
   up = k.stands

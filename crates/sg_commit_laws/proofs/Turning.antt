@@ -17,7 +17,7 @@ use Rattle.sg_recovery_laws.specs.Growing.{noted}
 use Rattle.sg_seat.specs.WorldView.{Seat, WorldView, held_in, is_held_in, is_held_phase, is_offered, offered_by, unanswered, wakes_seat, woken_seat}
 use Rattle.sg_seat.specs.declared.phase.Phase.{Phase}
 use Rattle.sg_seat.specs.declared.phase.Phase.TheVariants.{Asked, Blocked, Held, Idle, Left, Receipted}
-use Rattle.sg_world_laws.specs.Keeping.{Keeps, Stub, standing}
+use Rattle.sg_world_laws.specs.Keeping.{KeepsPromise, Stub, standing}
 use Rattle.sg_world_laws.specs.Seats.{HaveSeats, IsSeated}
 use Rattle.sg_world_laws.specs.Setting.{IsSetting, Setting}
 use Rattle.sg_world_laws.proofs.Entered.{IsAnsweredSeat, seats_entered}
@@ -25,7 +25,7 @@ use Rattle.sg_walk_laws.proofs.Found.{same_test}
 use Rattle.sg_world_laws.proofs.Seating.{gone_is, held_at, offered_at, one_is, own_offered, seat_is, seats_set, still_offered}
 use Rattle.sg_world_laws.proofs.Woken.{held_woken, offered_woken}
 
-module _ (z : Setting) (set : IsSetting z) (w : WorldView) (b : Boot) (boots : List Boot) (v : Object) (stub : Stub) (k : Keeps z (standing w b boots (Some v)) stub)
+module _ (z : Setting) (set : IsSetting z) (w : WorldView) (b : Boot) (boots : List Boot) (v : Object) (stub : Stub) (k : KeepsPromise z (standing w b boots (Some v)) stub)
     (front back : List Seat) (st : Seat) (is : w.seats ≡ front ++ st ∷ back) (offers : is_offered st.phase ≡ true) (isn't : is_held_phase st.phase ≡ false)
     (item : Item) (reply other : Reply) (patch : Option Patch) (s : IsServedCall z (standing w b boots (Some v)) stub v st.call item reply other patch) where
   abbrev n : ℕ

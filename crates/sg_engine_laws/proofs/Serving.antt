@@ -19,13 +19,13 @@ use Rattle.sg_held_laws.specs.Progress.{Told}
 use Rattle.sg_replay.specs.Engined.{AreGiven, Engined}
 use Rattle.sg_replay.specs.Serving.{MayServe, TellsReply, pairs_of, real_call}
 use Rattle.sg_seat.specs.WorldView.{WorldView}
-use Rattle.sg_world_laws.specs.Keeping.{Keeps, Stub, standing}
+use Rattle.sg_world_laws.specs.Keeping.{KeepsPromise, Stub, standing}
 use Rattle.sg_world_laws.specs.Setting.{IsSetting, Setting}
 use Rattle.sg_world_laws.specs.Turns.{HasAll, IsLetIn}
 use Rattle.sg_world_laws.proofs.Orders.{far_now}
 
 module _ (z : Setting) (set : IsSetting z) (w : WorldView) (b : Boot) (boots : List Boot) (v : Object) (e : Engined) (told : ℕ → Told) (present : List ℕ → Bool)
-    (k : Keeps z (standing w b boots (Some v)) (record { names = pairs_of e.names.known; told = told; present = present })) (call : Call) (let_in : IsLetIn z (standing w b boots (Some v)) call)
+    (k : KeepsPromise z (standing w b boots (Some v)) (record { names = pairs_of e.names.known; told = told; present = present })) (call : Call) (let_in : IsLetIn z (standing w b boots (Some v)) call)
     (all : HasAll z (standing w b boots (Some v)) (record { names = pairs_of e.names.known; told = told; present = present }) call) (given : e.tracked.given ≡ (object_of z.iface.facts w.history).given) where
   abbrev stub : Stub
   stub = record { names = pairs_of e.names.known; told = told; present = present }

@@ -192,8 +192,8 @@ abbrev pub answered_to : WorldView → Entry → WorldView
 answered_to w e = with_mark (with_seat w e.call.client (record (seat_of w e.call.client) { phase = Idle; seq = e.call.seq; reply = no_reply })) e.call.client Answer
 
 -- a client's reply is handed over
-abbrev pub handed_over : WorldView → ℕ → WorldView
-handed_over w client = with_mark (with_seat w client (record (seat_of w client) { phase = Idle; reply = no_reply })) client Answer
+abbrev pub reply_handed_over : WorldView → ℕ → WorldView
+reply_handed_over w client = with_mark (with_seat w client (record (seat_of w client) { phase = Idle; reply = no_reply })) client Answer
 
 abbrev pub is_left_phase : Phase → Bool
 is_left_phase Left = true
@@ -204,8 +204,8 @@ is_left_phase Receipted = false
 is_left_phase Blocked = false
 
 -- a client leaves; nothing happens to one that has left
-abbrev pub left_by : WorldView → ℕ → WorldView
-left_by w client = if is_left_phase (seat_of w client).phase then w else with_mark (in_phase w client Left) client Leave
+abbrev pub with_leave : WorldView → ℕ → WorldView
+with_leave w client = if is_left_phase (seat_of w client).phase then w else with_mark (in_phase w client Left) client Leave
 
 -- an event was made, also one that wanted memory
 abbrev pub happened : WorldView → WorldView

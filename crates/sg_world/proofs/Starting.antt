@@ -2,6 +2,8 @@
 
 -- the service keeps its laws, and the walks are those of its interface
 use Rattle.std.proofs.Common.{List, Some, [], ap, arith, false, flat_map, length, refl, replicate, subst, suc, sym, zero, ℕ, ◌∙◌, ◌≡◌, ◌≤◌}
+use Rattle.std.proofs.Math.ListN.{set}
+use Rattle.sg_engine_laws.specs.Stubs.{stub_of, told_of}
 use Rattle.sg_facts.specs.Facts.{Facts}
 use Rattle.sg_facts.specs.Legal.{Table}
 use Rattle.sg_facts.specs.Limits.{last_client}
@@ -19,9 +21,11 @@ use Rattle.sg_seat.specs.WorldView.{WorldView, new_world, no_seat, offered_by, S
 use Rattle.sg_seat.specs.declared.mark.Mark.{Mark}
 use Rattle.sg_seat.specs.declared.withdrawn.Withdrawn.{Withdrawn}
 use Rattle.sg_store.specs.Stored.{bytes_of}
-use Rattle.sg_world.specs.Worlded.{ArePoints, IsWorld, Rooms, marks_left, setting_of, stub_of, told_of, view_of}
+use Rattle.sg_walk_laws.proofs.Files.{told}
+use Rattle.sg_world.specs.Worlded.{CountsPoints, IsWorld, Rooms, marks_left, setting_of, view_of}
 use Rattle.sg_world_laws.proofs.Begun.{AreNew, new_keeps}
-use Rattle.sg_world_laws.specs.Keeping.{Keeps}
+use Rattle.sg_world_laws.proofs.Refusing.{refused}
+use Rattle.sg_world_laws.specs.Keeping.{KeepsPromise}
 use Rattle.sg_world_laws.specs.Setting.{IsSetting, Setting}
 
 pub is_setting : (facts : Facts) (ask : Table) (sound : Object → Type 0) (parts : ℕ → ℕ) (tables : Compiled) → IsService facts ask sound → tables.iface.facts ≡ facts → AreTables tables.iface tables.walks
@@ -60,10 +64,10 @@ module _ (z : Setting) (set : IsSetting z) (e : Engined) (new : IsNewEngine e) (
       ap (λ r. record { history = []; run = r; running = e.cell.running; seats = replicate n no_seat; withdrawn = []; marks = []; events = 0; refused = 0 }) new.run
       ∙ ap (λ r. record { history = []; run = record { boots = booted []; points = 0 }; running = r; seats = replicate n no_seat; withdrawn = []; marks = []; events = 0; refused = 0 }) new.running
 
-  keeps : Keeps z (view_of e [] (replicate n no_seat) [] [] 0 0) (stub_of e)
+  keeps : KeepsPromise z (view_of e [] (replicate n no_seat) [] [] 0 0) (stub_of e)
   keeps =
-      subst (λ w. Keeps z w (stub_of e)) (sym view_is)
-      (subst (λ known. Keeps z (new_world (replicate n no_seat)) (record { names = pairs_of known; told = λ id. told_of (named_at known id); present = λ path. is_present e.present path })) (sym new.names)
+      subst (λ w. KeepsPromise z w (stub_of e)) (sym view_is)
+      (subst (λ known. KeepsPromise z (new_world (replicate n no_seat)) (record { names = pairs_of known; told = λ id. told_of (named_at known id); present = λ path. is_present e.present path })) (sym new.names)
       (new_keeps z set (replicate n no_seat) (λ path. is_present e.present path) (all_new n) (subst (λ m. m ≤ last_client) (sym (as_many n)) few) new.present))
 
   pub new_is_world : IsWorld z e (view_of e [] (replicate n no_seat) [] [] 0 0) rooms
@@ -88,7 +92,7 @@ module _ (z : Setting) (set : IsSetting z) (e : Engined) (new : IsNewEngine e) (
       (subst (λ m. IsWorld z e (view_of e [] (replicate n no_seat) [] m 0 0) rooms) (sym no_marks) new_is_world)))
 
 -- no point was asked
-pub new_points : (test : ℕ → List ℕ → List ℕ → Type 0) (w : WorldView) (asked : ℕ) (struck plan : List ℕ) → w.run ≡ record { boots = booted []; points = 0 } → asked ≡ 0 → struck ≡ [] → test 0 [] plan → ArePoints test w asked struck plan
+pub new_points : (test : ℕ → List ℕ → List ℕ → Type 0) (w : WorldView) (asked : ℕ) (struck plan : List ℕ) → w.run ≡ record { boots = booted []; points = 0 } → asked ≡ 0 → struck ≡ [] → test 0 [] plan → CountsPoints test w asked struck plan
 new_points test w asked struck plan run none unstruck starts = record {
   asked_so = ap (λ r. r.points) run ∙ sym none;
   struck_so = ap struck_in run ∙ sym unstruck;

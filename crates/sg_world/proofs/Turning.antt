@@ -4,10 +4,12 @@
 use Rattle.std.proofs.Common.{List, arith, length, slice_set, ℕ, ◌*◌, ◌+◌, ◌-◌, ◌≡◌, ◌≤◌, subst, sym, true, Some, false, flat_map, refl, slice_get, ◌<◌, [], ap, if◌then◌else◌, ◌++◌, ◌∷◌}
 use Rattle.std.proofs.Math.ListN.{set}
 use Rattle.sg_base.specs.declared.call.Call.{Call}
+use Rattle.sg_engine_laws.specs.Stubs.{stub_of}
 use Rattle.sg_facts.specs.Interface.{declares}
 use Rattle.sg_facts.specs.Kinds.{AreWords, FitsKinds}
 use Rattle.sg_facts.specs.Limits.{last_client}
 use Rattle.sg_facts.specs.declared.entry.Entry.{Entry}
+use Rattle.sg_hist.specs.Recovered.{is_clients}
 use Rattle.sg_object_laws.proofs.Guarded.{keeps}
 use Rattle.sg_object_laws.proofs.Left.{stays}
 use Rattle.sg_replay.specs.Engined.{Engined}
@@ -16,22 +18,25 @@ use Rattle.sg_seat.specs.declared.mark.Mark.{Mark}
 use Rattle.sg_seat.specs.declared.phase.Phase.{Phase}
 use Rattle.sg_seat.specs.declared.phase.Phase.TheVariants.{Asked, Blocked, Held, Idle, Left, Receipted}
 use Rattle.sg_seat.specs.declared.withdrawn.Withdrawn.{Withdrawn}
+use Rattle.sg_track.proofs.Ascending.{later}
+use Rattle.sg_walk_laws.proofs.Found.{within}
 use Rattle.sg_walk_laws.proofs.Steps.{declared_within}
 use Rattle.sg_world.proofs.Rooming.{length_set, marks_few, offers_few, marks_set, offers_set, marks_some, offers_some}
-use Rattle.sg_world.specs.Worlded.{HaveRooms, IsWorld, Rooms, stub_of, marks_left, marks_of}
+use Rattle.sg_world.specs.Worlded.{HaveRooms, IsWorld, Rooms, marks_left, marks_due}
 use Rattle.sg_world_laws.proofs.Refusing.{refused}
+use Rattle.sg_world_laws.proofs.Seating.{client_last}
 use Rattle.sg_world_laws.proofs.Turns.{counted_keeps, offer_keeps, leave_keeps, seat_there, withdraw_keeps, withdraw_none}
-use Rattle.sg_world_laws.specs.Keeping.{Keeps}
-use Rattle.sg_world_laws.specs.Seats.{MayMake}
+use Rattle.sg_world_laws.specs.Keeping.{KeepsPromise}
+use Rattle.sg_world_laws.specs.Seats.{MayBeMade}
 use Rattle.sg_world_laws.specs.Setting.{Setting, IsSetting}
 
-pub may_make : (z : Setting) (set : IsSetting z) (call : Call) → 1 ≤ call.client → call.client ≤ last_client → declares z.iface call.fun ≡ true → FitsKinds z.iface.facts call → AreWords call.args → MayMake z.iface call
+pub may_make : (z : Setting) (set : IsSetting z) (call : Call) → 1 ≤ call.client → call.client ≤ last_client → declares z.iface call.fun ≡ true → FitsKinds z.iface.facts call → AreWords call.args → MayBeMade z.iface call
 may_make z set call first last declared fits words =
     let within = declared_within z.iface call.fun set.fits declared in
     record { is_clients = record { is_call = record { first = within.0; last = within.1; fits = fits }; words = words; client_first = first; client_last = last }; declared = declared }
 
 -- a client that is free and hasn't left may still leave
-idle_marks : (p : Phase) → IsFree p → is_left_phase p ≡ false → marks_of p ≡ 1
+idle_marks : (p : Phase) → IsFree p → is_left_phase p ≡ false → marks_due p ≡ 1
 idle_marks Idle free is = refl
 idle_marks Left free is = absurd (cc is)
 idle_marks Asked free is = absurd free
@@ -40,7 +45,7 @@ idle_marks Receipted free is = absurd free
 idle_marks Blocked free is = absurd free
 
 -- a client whose call may be withdrawn has an entry, an answer and a leave before it
-three_marks : (p : Phase) → MayWithdraw p → marks_of p ≡ 3
+three_marks : (p : Phase) → MayWithdraw p → marks_due p ≡ 3
 three_marks Asked may = refl
 three_marks Blocked may = refl
 three_marks Idle may = absurd may
@@ -51,7 +56,7 @@ three_marks Receipted may = absurd may
 -- a world keeps what it keeps where what is numbered and what happened changes
 
 module _ (z : Setting) (e : Engined) (w : WorldView) (rooms later : Rooms) (is : IsWorld z e w rooms) where
-  pub turned : (seats : List Seat) (withdrawn : List Withdrawn) (marks : List Mark) (events refused : ℕ) → Keeps z (record w { seats = seats; withdrawn = withdrawn; marks = marks; events = events; refused = refused }) (stub_of e)
+  pub turned : (seats : List Seat) (withdrawn : List Withdrawn) (marks : List Mark) (events refused : ℕ) → KeepsPromise z (record w { seats = seats; withdrawn = withdrawn; marks = marks; events = events; refused = refused }) (stub_of e)
       → HaveRooms seats later → IsWorld z e (record w { seats = seats; withdrawn = withdrawn; marks = marks; events = events; refused = refused }) later
   turned seats withdrawn marks events refused keeps rooms_are = record { set = is.set; keeps = keeps; tracked = is.tracked; rooms_are = rooms_are }
 
@@ -77,7 +82,7 @@ module _ (z : Setting) (e : Engined) (w : WorldView) (rooms later : Rooms) (is :
       (subst (λ m. IsWorld z e (record w { marks = m; events = events }) later) (sym same_marks) (only_counted events w.refused more_entries more_withdrawals more_marks)))
 
   -- an offer, where memory was taken for all clients
-  pub offered_on : (client : ℕ) (first : 1 ≤ client) (last : client ≤ length w.seats) (call : Call) → IsFree (seat_of w client).phase → call.client ≡ client → call.seq ≡ (seat_of w client).seq + 1 → MayMake z.iface call
+  pub offered_on : (client : ℕ) (first : 1 ≤ client) (last : client ≤ length w.seats) (call : Call) → IsFree (seat_of w client).phase → call.client ≡ client → call.seq ≡ (seat_of w client).seq + 1 → MayBeMade z.iface call
       → (marks : List Mark) (events : ℕ) → length w.seats ≤ later.entries → length w.seats ≤ later.withdrawals → 3 * length w.seats ≤ later.marks
       → IsWorld z e (record w { seats = slice_set w.seats (client - 1) (record (seat_of w client) { phase = Asked; call = call }); marks = marks; events = events }) later
   offered_on client first last call free its next may marks events entries withdrawals marked =
@@ -90,7 +95,7 @@ module _ (z : Setting) (e : Engined) (w : WorldView) (rooms later : Rooms) (is :
       (record { entries = omega (arith, n, offers, entries); withdrawals = omega (arith, n, offers, withdrawals); marks = omega (arith, n, all, marked) })
 
   -- however its lists came about
-  pub offered_again : (client : ℕ) (first : 1 ≤ client) (last : client ≤ length w.seats) (call : Call) → IsFree (seat_of w client).phase → call.client ≡ client → call.seq ≡ (seat_of w client).seq + 1 → MayMake z.iface call
+  pub offered_again : (client : ℕ) (first : 1 ≤ client) (last : client ≤ length w.seats) (call : Call) → IsFree (seat_of w client).phase → call.client ≡ client → call.seq ≡ (seat_of w client).seq + 1 → MayBeMade z.iface call
       → (history : List Entry) (seats : List Seat) (withdrawn : List Withdrawn) (marks : List Mark) (events : ℕ) → history ≡ w.history → seats ≡ slice_set w.seats (client - 1) (record (seat_of w client) { phase = Asked; call = call })
       → withdrawn ≡ w.withdrawn → length w.seats ≤ later.entries → length w.seats ≤ later.withdrawals → 3 * length w.seats ≤ later.marks
       → IsWorld z e (record w { history = history; seats = seats; withdrawn = withdrawn; marks = marks; events = events }) later
@@ -122,7 +127,7 @@ module _ (z : Setting) (e : Engined) (w : WorldView) (rooms later : Rooms) (is :
       offers : length (flat_map offered_by (slice_set w.seats (client - 1) (record (seat_of w client) { phase = Left }))) + length (offered_by (seat_of w client)) ≡ length (flat_map offered_by w.seats) + 0
       offers = offers_set w.seats (client - 1) (seat_of w client) (record (seat_of w client) { phase = Left }) there
 
-      all : marks_left (slice_set w.seats (client - 1) (record (seat_of w client) { phase = Left })) + marks_of (seat_of w client).phase ≡ marks_left w.seats + 0
+      all : marks_left (slice_set w.seats (client - 1) (record (seat_of w client) { phase = Left })) + marks_due (seat_of w client).phase ≡ marks_left w.seats + 0
       all = marks_set w.seats (client - 1) (seat_of w client) (record (seat_of w client) { phase = Left }) there
 
   pub may_leave : (client : ℕ) → 1 ≤ client → client ≤ length w.seats → IsFree (seat_of w client).phase → is_left_phase (seat_of w client).phase ≡ false → 0 < rooms.marks
@@ -162,7 +167,7 @@ module _ (z : Setting) (e : Engined) (w : WorldView) (rooms later : Rooms) (is :
       one : length (offered_by (seat_of w client)) ≡ 1
       one = ap (λ q. length (if q then (seat_of w client).call ∷ [] else [])) (withdraw_none (seat_of w client).phase may).0
 
-      all : marks_left (slice_set w.seats (client - 1) (record (seat_of w client) { phase = Idle })) + marks_of (seat_of w client).phase ≡ marks_left w.seats + 1
+      all : marks_left (slice_set w.seats (client - 1) (record (seat_of w client) { phase = Idle })) + marks_due (seat_of w client).phase ≡ marks_left w.seats + 1
       all = marks_set w.seats (client - 1) (seat_of w client) (record (seat_of w client) { phase = Idle }) there
 
   pub may_withdraw : (client : ℕ) → 1 ≤ client → client ≤ length w.seats → MayWithdraw (seat_of w client).phase → (0 < rooms.withdrawals) × (0 < rooms.marks)

@@ -5,22 +5,17 @@ use Rattle.sg_facts.specs.Facts.{Facts}
 use Rattle.sg_facts.specs.Legal.{Table, done}
 use Rattle.sg_facts.specs.Object.{Object, file_at, object_of}
 use Rattle.sg_facts.specs.Tables.{Compiled}
+use Rattle.sg_engine_laws.specs.Stubs.{stub_of}
 use Rattle.sg_facts.specs.declared.entry.Entry.{Entry}
-use Rattle.sg_held_laws.specs.Progress.{Told, fresh, begun, complete}
 use Rattle.sg_hist.specs.Recovered.{struck_in}
-use Rattle.sg_name.specs.Names.{named_at}
-use Rattle.sg_name.specs.declared.named.Named.{Named}
-use Rattle.sg_name.specs.declared.named.Named.TheVariants.{Unnamed, Partial, Live}
 use Rattle.sg_replay.specs.Engined.{Engined}
-use Rattle.sg_replay.specs.Present.{is_present}
-use Rattle.sg_replay.specs.Serving.{pairs_of}
 use Rattle.sg_seat.specs.WorldView.{Seat, WorldView, offered_by}
 use Rattle.sg_seat.specs.declared.mark.Mark.{Mark}
 use Rattle.sg_seat.specs.declared.phase.Phase.{Phase}
 use Rattle.sg_seat.specs.declared.phase.Phase.TheVariants.{Idle, Asked, Held, Receipted, Blocked, Left}
 use Rattle.sg_seat.specs.declared.withdrawn.Withdrawn.{Withdrawn}
 use Rattle.sg_store.specs.Stored.{bytes_of}
-use Rattle.sg_world_laws.specs.Keeping.{Keeps, Stub}
+use Rattle.sg_world_laws.specs.Keeping.{KeepsPromise}
 use Rattle.sg_world_laws.specs.Setting.{IsSetting, Setting}
 
 -- what contracts see of a world: its tables and the plan of its stops, which no event changes, and the rest as plain data
@@ -38,37 +33,26 @@ abbrev pub view_of : Engined → List Entry → List Seat → List Withdrawn →
 view_of e history seats withdrawn marks events refused =
     record { history = history; run = e.cell.run; running = e.cell.running; seats = seats; withdrawn = withdrawn; marks = marks; events = events; refused = refused }
 
--- ---- what the stubs tell
-
--- how far the row of an id is, by what stands for it
-abbrev pub told_of : Named → Told
-told_of Unnamed = fresh
-told_of (Partial real done) = begun done
-told_of (Live real) = complete
-
-abbrev pub stub_of : Engined → Stub
-stub_of e = record { names = pairs_of e.names.known; told = λ id. told_of (named_at e.names.known id); present = λ path. is_present e.present path }
-
 -- ---- what it keeps
 
 -- what stubs and storage hold is the object of the history
-pub record IsTracked (facts : Facts) (e : Engined) (history : List Entry) : Type 0 where
+pub record StoresObject (facts : Facts) (e : Engined) (history : List Entry) : Type 0 where
   pub rows : e.tracked.rows ≡ (object_of facts history).rows
   pub given : e.tracked.given ≡ (object_of facts history).given
   pub files : (path : List ℕ) → bytes_of e.stored path ≡ file_at (object_of facts history).files path
 
 -- how much may still happen to a client before it makes another call: its entry, its answer, and its leave
-abbrev pub marks_of : Phase → ℕ
-marks_of Left = 0
-marks_of Idle = 1
-marks_of Receipted = 2
-marks_of Asked = 3
-marks_of Held = 3
-marks_of Blocked = 3
+abbrev pub marks_due : Phase → ℕ
+marks_due Left = 0
+marks_due Idle = 1
+marks_due Receipted = 2
+marks_due Asked = 3
+marks_due Held = 3
+marks_due Blocked = 3
 
 abbrev pub marks_left : List Seat → ℕ
 marks_left [] = 0
-marks_left (s ∷ seats) = marks_of s.phase + marks_left seats
+marks_left (s ∷ seats) = marks_due s.phase + marks_left seats
 
 -- for how many entries, withdrawals and marks memory was taken
 pub record Rooms : Type 0 where
@@ -83,7 +67,7 @@ pub record HaveRooms (seats : List Seat) (rooms : Rooms) : Type 0 where
   pub marks : marks_left seats ≤ rooms.marks
 
 -- the points of the trace are those of the stops, and their test holds
-pub record ArePoints (test : ℕ → List ℕ → List ℕ → Type 0) (w : WorldView) (asked : ℕ) (struck plan : List ℕ) : Type 0 where
+pub record CountsPoints (test : ℕ → List ℕ → List ℕ → Type 0) (w : WorldView) (asked : ℕ) (struck plan : List ℕ) : Type 0 where
   pub asked_so : w.run.points ≡ asked
   pub struck_so : struck_in w.run ≡ struck
   pub tested : test asked struck plan
@@ -91,6 +75,6 @@ pub record ArePoints (test : ℕ → List ℕ → List ℕ → Type 0) (w : Worl
 -- what a world keeps
 pub record IsWorld (z : Setting) (e : Engined) (w : WorldView) (rooms : Rooms) : Type 0 where
   pub set : IsSetting z
-  pub keeps : Keeps z w (stub_of e)
-  pub tracked : IsTracked z.iface.facts e w.history
+  pub keeps : KeepsPromise z w (stub_of e)
+  pub tracked : StoresObject z.iface.facts e w.history
   pub rooms_are : HaveRooms w.seats rooms

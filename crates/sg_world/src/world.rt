@@ -8,7 +8,7 @@ ghost use Rattle.sg_facts.specs.Limits.{last_client};
 ghost use Rattle.sg_facts.specs.Trace.{run_of};
 ghost use Rattle.sg_base.specs.declared.call.Call.{Call as IsCall};
 ghost use Rattle.sg_base.specs.Counts.{last_count};
-ghost use Rattle.sg_seat.specs.WorldView.{IsFree, MayWithdraw, happened, is_at_rest, left_by, new_world, no_seat, offered, seat_of, withdrawn_by};
+ghost use Rattle.sg_seat.specs.WorldView.{IsFree, MayWithdraw, happened, is_at_rest, with_leave, new_world, no_seat, offered, seat_of, withdrawn_by};
 
 use crate::seat::SeatRoom;
 use crate::seats::Seats;
@@ -36,7 +36,7 @@ pub struct World<S: Service, T: Stops> {
 
 impl<S: Service, T: Stops> Model for World<S, T> {
     ghost use Rattle.std.specs.Prelude.{◌≡◌};
-    ghost use Rattle.sg_world.specs.Worlded.{ArePoints, IsWorld, Worlded, setting_of, view_of};
+    ghost use Rattle.sg_world.specs.Worlded.{CountsPoints, IsWorld, Worlded, setting_of, view_of};
 
     ghost Value = { Worlded };
 
@@ -49,7 +49,7 @@ impl<S: Service, T: Stops> Model for World<S, T> {
     ghost invariant = { λ w. IsWorld (setting_of S.ask S.sound S.parts w.engine.tables) w.engine
         (view_of w.engine w.history.items w.seats w.withdrawn.items w.marks.items w.events w.refused)
         (record { entries = w.history.room; withdrawals = w.withdrawn.room; marks = w.marks.room })
-        × ArePoints T.test (view_of w.engine w.history.items w.seats w.withdrawn.items w.marks.items w.events w.refused) (T.asked w.stops) (T.struck w.stops) (T.plan w.stops) };
+        × CountsPoints T.test (view_of w.engine w.history.items w.seats w.withdrawn.items w.marks.items w.events w.refused) (T.asked w.stops) (T.struck w.stops) (T.plan w.stops) };
 }
 
 impl<S: Service, T: Stops> World<S, T> {
@@ -198,7 +198,7 @@ impl<S: Service, T: Stops> World<S, T> {
         requires first { 1 ≤ client }
         requires last { client ≤ length self.old.view.seats }
         requires free { IsFree (seat_of self.old.view client).phase }
-        ensures { self.new ≡ record self.old { view = happened (left_by self.old.view client) } }
+        ensures { self.new ≡ record self.old { view = happened (with_leave self.old.view client) } }
     {
         self.events = self.events.saturating_add(1);
         if !self.seats.has_left(client) {

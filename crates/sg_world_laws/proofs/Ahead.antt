@@ -17,7 +17,7 @@ use Rattle.sg_recovery_laws.proofs.Growing.{places-more, stands_before-own}
 use Rattle.sg_recovery_laws.proofs.Events.{own_item, with_last}
 use Rattle.sg_recovery_laws.proofs.Lists.{each_append, each_contains, each_map}
 use Rattle.sg_recovery_laws.proofs.Onward.{committed_stays, held_stays, noted_stays, refused_stays}
-use Rattle.sg_world_laws.specs.Keeping.{AreApart, AreDrawn}
+use Rattle.sg_world_laws.specs.Keeping.{ClientsDiffer, AreDrawn}
 use Rattle.sg_object_laws.specs.Waiting.{NoneBy}
 use Rattle.sg_world_laws.proofs.Drawn.{none_apart}
 use Rattle.sg_trace_laws.proofs.Reorder.{moved_front}
@@ -41,7 +41,7 @@ own_one : (pre post : List Entry) (p : Entry) → Contains (pre ++ p ∷ post) p
 own_one pre post p = Contains-append_right pre (p ∷ post) p (0, omega arith, refl)
 
 -- one that is committed goes before those drawn of the others
-pub drawn_with : (pre post es : List Entry) (p : Entry) → AreApart (pre ++ p ∷ post) → AreDrawn (pre ++ post) es → AreDrawn (pre ++ p ∷ post) (p ∷ es)
+pub drawn_with : (pre post es : List Entry) (p : Entry) → ClientsDiffer (pre ++ p ∷ post) → AreDrawn (pre ++ post) es → AreDrawn (pre ++ p ∷ post) (p ∷ es)
 drawn_with pre post es p apart drawn =
     let none = none_apart pre post p apart in
     record {
@@ -53,7 +53,7 @@ drawn_with pre post es p apart drawn =
 
 -- ---- a held reply is committed
 
-pub held_ahead : (s : Stubs) (h pre post : List Entry) (p : Entry) (run : Run) (u : List Call) → AreApart (pre ++ p ∷ post) → AllRecover s h (pre ++ p ∷ post) run u → AllRecover s (h ++ p ∷ []) (pre ++ post) run u
+pub held_ahead : (s : Stubs) (h pre post : List Entry) (p : Entry) (run : Run) (u : List Call) → ClientsDiffer (pre ++ p ∷ post) → AllRecover s h (pre ++ p ∷ post) run u → AllRecover s (h ++ p ∷ []) (pre ++ post) run u
 held_ahead s h pre post p run u apart all es drawn =
     subst (λ l. IsRecovering s l run u) (sym (append_assoc h (p ∷ []) es)) (all (p ∷ es) (drawn_with pre post es p apart drawn))
 

@@ -34,11 +34,11 @@ use Rattle.sg_trace_laws.specs.Told.{IsKnown}
 use Rattle.sg_track.proofs.Above.{root}
 use Rattle.sg_walk_laws.proofs.Found.{other_test}
 use Rattle.sg_world_laws.proofs.Orders.{above_es, back_es, call_es, few_now, good_now, known_es, needs_es, none_es, there_es, time_es, time_now, wait_es}
-use Rattle.sg_world_laws.specs.Keeping.{AreDrawn, Keeps, Stands, Stub, standing}
+use Rattle.sg_world_laws.specs.Keeping.{AreDrawn, KeepsPromise, Stands, Stub, standing}
 use Rattle.sg_world_laws.specs.Setting.{IsSetting, Setting, stubs_of}
 use Rattle.sg_world_laws.specs.Turns.{HasAll, IsAskedItem, IsLetIn}
 
-module _ (z : Setting) (set : IsSetting z) (w : WorldView) (b : Boot) (boots : List Boot) (v : Object) (stub : Stub) (k : Keeps z (standing w b boots (Some v)) stub)
+module _ (z : Setting) (set : IsSetting z) (w : WorldView) (b : Boot) (boots : List Boot) (v : Object) (stub : Stub) (k : KeepsPromise z (standing w b boots (Some v)) stub)
     (call : Call) (let_in : IsLetIn z (standing w b boots (Some v)) call) (all : HasAll z (standing w b boots (Some v)) stub call) where
   up : Stands z (standing w b boots (Some v)) stub v
   up = k.stands

@@ -15,7 +15,7 @@ use Rattle.sg_recovery_laws.specs.Growing.{IsInLast, IsRecovering}
 use Rattle.sg_seat.specs.WorldView.{Seat, held_in, held_replies, is_held_in, no_seat, offered_by, unanswered, new_world}
 use Rattle.sg_world_laws.proofs.Booted.{begins}
 use Rattle.sg_world_laws.proofs.Struck.{none_drawn}
-use Rattle.sg_world_laws.specs.Keeping.{AreDrawn, Keeps, MayEnter}
+use Rattle.sg_world_laws.specs.Keeping.{AreDrawn, KeepsPromise, MayEnter}
 use Rattle.sg_world_laws.specs.Seats.{AreSeated, IsSeated, all_seqs}
 use Rattle.sg_world_laws.specs.Setting.{IsSetting, Setting, stubs_of}
 
@@ -54,7 +54,7 @@ new_boots [] new = tt
 new_boots (s ∷ seats) new = (subst (λ x. x.boot ≤ 1) (sym new.0) (omega arith), new_boots seats new.1)
 
 pub new_keeps : (z : Setting) (set : IsSetting z) (seats : List Seat) (present : List ℕ → Bool) → AreNew seats → length seats ≤ last_client → ((path : List ℕ) → present path ≡ false)
-    → Keeps z (new_world seats) (record { names = []; told = λ id. fresh; present = present })
+    → KeepsPromise z (new_world seats) (record { names = []; told = λ id. fresh; present = present })
 new_keeps z set seats present new few absent = record {
   legal = tt;
   calls = tt;

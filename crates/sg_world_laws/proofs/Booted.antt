@@ -27,7 +27,7 @@ use Rattle.sg_trace_laws.specs.LastPlace.{HaveItems}
 use Rattle.sg_trace_laws.specs.Told.{IsRead}
 use Rattle.sg_world_laws.proofs.Struck.{no_drawn, none_drawn}
 use Rattle.sg_world_laws.proofs.Woken.{held_woken, none_held, offered_woken, seats_woken}
-use Rattle.sg_world_laws.specs.Keeping.{AreDrawn, Keeps, MayEnter, Stub, standing}
+use Rattle.sg_world_laws.specs.Keeping.{AreDrawn, KeepsPromise, MayEnter, Stub, standing}
 use Rattle.sg_world_laws.specs.Setting.{IsSetting, Setting, stubs_of}
 
 pub begins : (i : Declared) (walks : List WalkLine) (o : Object) (present : List ℕ → Bool) → ((path : List ℕ) → present path ≡ false) → IsSound i.facts empty_object → IsInRecovery i walks [] (λ id. fresh) present o empty_object
@@ -41,7 +41,7 @@ older_booted : (before : List Item) (b : Boot) (boots : List Boot) → older_ite
 older_booted before b [] = refl
 older_booted before b (c ∷ boots) = older_booted (before ++ b.items) c boots
 
-module _ (z : Setting) (set : IsSetting z) (w : WorldView) (b : Boot) (boots : List Boot) (stub : Stub) (k : Keeps z (standing w b boots None) stub) where
+module _ (z : Setting) (set : IsSetting z) (w : WorldView) (b : Boot) (boots : List Boot) (stub : Stub) (k : KeepsPromise z (standing w b boots None) stub) where
   abbrev seats_now : List Seat
   seats_now = map (woken_seat (λ call. true)) w.seats
 
@@ -84,7 +84,7 @@ module _ (z : Setting) (set : IsSetting z) (w : WorldView) (b : Boot) (boots : L
       subst (λ l. AreNumbers z.iface.facts (λ id. fresh) (length w.history) (object_from z.iface.facts o l) empty_object) (sym is)
       (record { given = omega (arith, rows, one); counted = omega (arith, rows, eight) })
 
-  pub booted_again : Keeps z (record w { run = record { boots = booted (b ∷ boots); points = w.run.points }; running = Some empty_object; seats = map (woken_seat (λ call. true)) w.seats })
+  pub booted_again : KeepsPromise z (record w { run = record { boots = booted (b ∷ boots); points = w.run.points }; running = Some empty_object; seats = map (woken_seat (λ call. true)) w.seats })
       (record { names = []; told = λ id. fresh; present = λ path. false })
   booted_again = record {
     legal = k.legal;

@@ -8,7 +8,7 @@ use Rattle.sg_facts.specs.Facts.{Facts}
 use Rattle.sg_facts.specs.Legal.{Table}
 use Rattle.sg_facts.specs.Object.{Object, after, object_from}
 use Rattle.sg_recovery_laws.proofs.Lists.{each_append, each_contains, each_map, each_split}
-use Rattle.sg_world_laws.specs.Keeping.{AreApart, AreDrawn}
+use Rattle.sg_world_laws.specs.Keeping.{ClientsDiffer, AreDrawn}
 use Rattle.sg_object_laws.specs.Serving.{HasTime, IsLegalObject, IsService}
 use Rattle.sg_object_laws.specs.Waiting.{AreWaiting, IsWaiting, NoneBy}
 use Rattle.sg_object_laws.proofs.Waiting.{acting_is, hidden_is, less_time, past_waiting, time_after, waiting_after}
@@ -24,7 +24,7 @@ waiting_each : (facts : Facts) (ask : Table) (o : Object) (ws : List Entry) → 
 waiting_each facts ask o [] all = tt
 waiting_each facts ask o (w ∷ ws) all = (all.0, waiting_each facts ask o ws all.2)
 
-from_each : (facts : Facts) (ask : Table) (o : Object) (es : List Entry) → Each (IsWaiting facts ask o) es → AreApart es → AreWaiting facts ask o es
+from_each : (facts : Facts) (ask : Table) (o : Object) (es : List Entry) → Each (IsWaiting facts ask o) es → ClientsDiffer es → AreWaiting facts ask o es
 from_each facts ask o [] each apart = tt
 from_each facts ask o (e ∷ es) each apart = (each.0, apart.0, from_each facts ask o es each.1 apart.1)
 
@@ -33,14 +33,14 @@ drawn_waiting facts ask o ws es all drawn =
     from_each facts ask o es (each_map (Contains ws) (IsWaiting facts ask o) es (λ e has. each_contains (IsWaiting facts ask o) ws e (waiting_each facts ask o ws all) has) drawn.each) drawn.apart
 
 -- the reply of one client among them
-pub none_apart : (pre post : List Entry) (p : Entry) → AreApart (pre ++ p ∷ post) → NoneBy p.call.client pre × NoneBy p.call.client post
+pub none_apart : (pre post : List Entry) (p : Entry) → ClientsDiffer (pre ++ p ∷ post) → NoneBy p.call.client pre × NoneBy p.call.client post
 none_apart [] post p apart = (tt, apart.0)
 none_apart (x ∷ pre) post p apart =
     let rest = none_apart pre post p apart.1 in
     let own = each_split (λ e. e.call.client ≢ x.call.client) pre (p ∷ post) apart.0 in
     ((λ same. own.1.0 (sym same), rest.0), rest.1)
 
-pub waiting_apart : (facts : Facts) (ask : Table) (o : Object) (ws : List Entry) → AreWaiting facts ask o ws → AreApart ws
+pub waiting_apart : (facts : Facts) (ask : Table) (o : Object) (ws : List Entry) → AreWaiting facts ask o ws → ClientsDiffer ws
 waiting_apart facts ask o [] all = tt
 waiting_apart facts ask o (w ∷ ws) all = (all.1, waiting_apart facts ask o ws all.2)
 

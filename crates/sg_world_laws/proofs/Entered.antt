@@ -21,7 +21,7 @@ use Rattle.sg_world_laws.proofs.Orders.{far}
 use Rattle.sg_world_laws.proofs.Seating.{gone_is, length_at, seat_is, seated_append, seated_split, seqs_at}
 use Rattle.sg_world_laws.proofs.Woken.{few_woken, length_woken, seq_woken, seqs_woken}
 use Rattle.sg_world_laws.specs.Keeping.{IsSettledObject}
-use Rattle.sg_world_laws.specs.Seats.{AreGone, AreNumbered, AreSeated, HaveSeats, IsSeated, MayMake, last_of}
+use Rattle.sg_world_laws.specs.Seats.{AreGone, AreNumbered, AreSeated, HaveSeats, IsSeated, MayBeMade, last_of}
 use Rattle.sg_world_laws.specs.Setting.{IsSetting, Setting}
 
 pub last_push : (xs : List Entry) (e : Entry) → last_of (xs ++ e ∷ []) ≡ Some e
@@ -63,7 +63,7 @@ IsAnsweredSeat given Left reply = ⊥
 
 module _ (z : Setting) (set : IsSetting z) (h : List Entry) (withdrawn : List Withdrawn) (boots : ℕ) (front back : List Seat) (s : Seat) (have : HaveSeats z h withdrawn boots (front ++ s ∷ back))
     (object : IsSettledObject z h) (e : Entry) (its : e.call.client ≡ length front + 1) (next : e.call.seq ≡ s.seq + 1) (fits : e.call.seq < 2 ^ 32) (own : s.call ≡ e.call)
-    (answered : answer z.iface z.ask (object_of z.iface.facts h) e.call ≡ Some e.reply) (may : MayMake z.iface e.call) (phase : Phase) (reply : Reply) (done : IsAnsweredSeat e.reply phase reply) where
+    (answered : answer z.iface z.ask (object_of z.iface.facts h) e.call ≡ Some e.reply) (may : MayBeMade z.iface e.call) (phase : Phase) (reply : Reply) (done : IsAnsweredSeat e.reply phase reply) where
   abbrev test : Call → Bool
   test = wakes_seat z.iface.facts (object_of z.iface.facts h).rows e.call e.reply
 

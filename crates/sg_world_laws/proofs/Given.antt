@@ -22,7 +22,7 @@ use Rattle.sg_recovery_laws.proofs.Lists.{each_map, each_split}
 use Rattle.sg_recovery_laws.specs.Growing.{IsSameFor, IsSameId, last_items}
 use Rattle.sg_seat.specs.WorldView.{WorldView, held_replies}
 use Rattle.sg_world_laws.proofs.Struck.{no_drawn}
-use Rattle.sg_world_laws.specs.Keeping.{Keeps, Stub, standing}
+use Rattle.sg_world_laws.specs.Keeping.{KeepsPromise, Stub, standing}
 use Rattle.sg_world_laws.specs.Setting.{Setting}
 
 items_in : (Q : Item → Type 0) (older front items newer : List Item) → Each (λ p. Q p.item) (places_in older front items newer) → Each Q items
@@ -78,7 +78,7 @@ before_same h es e p guards =
     ∙ sym (filter-append (stands_before p) h es)
 
 -- what gave a name in the last boot belongs to an entry
-pub given_now : (z : Setting) (w : WorldView) (b : Boot) (boots : List Boot) (running : Option Object) (stub : Stub) → Keeps z (standing w b boots running) stub → Each (IsGiven z.iface.facts w.history) (last_items (b ∷ boots))
+pub given_now : (z : Setting) (w : WorldView) (b : Boot) (boots : List Boot) (running : Option Object) (stub : Stub) → KeepsPromise z (standing w b boots running) stub → Each (IsGiven z.iface.facts w.history) (last_items (b ∷ boots))
 given_now z w b boots running stub k =
     let all = k.recovering [] (no_drawn (held_replies (standing w b boots running))) in
     subst (λ l. Each (IsGiven z.iface.facts l) (last_items (b ∷ boots))) (append-nil w.history)

@@ -37,7 +37,7 @@ use Rattle.sg_world_laws.proofs.Entered.{numbers_below}
 use Rattle.sg_world_laws.proofs.Onseat.{seat_passes}
 use Rattle.sg_world_laws.proofs.Orders.{far_now}
 use Rattle.sg_world_laws.proofs.Seating.{gone_is, held_at, offered_at, offered_other, one_is, own_offered, seat_is, seated_split}
-use Rattle.sg_world_laws.specs.Keeping.{Keeps, Stub, standing}
+use Rattle.sg_world_laws.specs.Keeping.{KeepsPromise, Stub, standing}
 use Rattle.sg_world_laws.specs.Seats.{AreGone, AreSeated, HaveSeats, IsSeated}
 use Rattle.sg_world_laws.specs.Setting.{IsSetting, Setting}
 use Rattle.sg_world_laws.specs.Turns.{IsLetIn}
@@ -77,7 +77,7 @@ none_held_by z h withdrawn boot front back s all isn't =
 
 -- ---- let in
 
-module _ (z : Setting) (set : IsSetting z) (w : WorldView) (b : Boot) (boots : List Boot) (running : Option Object) (stub : Stub) (k : Keeps z (standing w b boots running) stub)
+module _ (z : Setting) (set : IsSetting z) (w : WorldView) (b : Boot) (boots : List Boot) (running : Option Object) (stub : Stub) (k : KeepsPromise z (standing w b boots running) stub)
     (front back : List Seat) (s : Seat) (is : w.seats ≡ front ++ s ∷ back) (offers : is_offered s.phase ≡ true) (isn't : is_held_phase s.phase ≡ false) where
   have : HaveSeats z w.history w.withdrawn (length (b ∷ boots)) (front ++ s ∷ back)
   have = subst (HaveSeats z w.history w.withdrawn (length (b ∷ boots))) is k.seats

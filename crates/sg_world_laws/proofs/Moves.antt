@@ -15,7 +15,7 @@ use Rattle.sg_seat.specs.WorldView.{Seat, WorldView, held_in, held_replies, is_h
 use Rattle.sg_seat.specs.declared.withdrawn.Withdrawn.{Withdrawn}
 use Rattle.sg_world_laws.proofs.Reseated.{reseated}
 use Rattle.sg_world_laws.proofs.Seating.{HasSeat, client_last, gone_is, has_seat, held_at, offered_at, seat_is, seats_set, still_offered}
-use Rattle.sg_world_laws.specs.Keeping.{Keeps, Stub}
+use Rattle.sg_world_laws.specs.Keeping.{KeepsPromise, Stub}
 use Rattle.sg_world_laws.specs.Seats.{AreGone, HaveSeats, IsSeated}
 use Rattle.sg_world_laws.specs.Setting.{Setting}
 
@@ -36,7 +36,7 @@ HoldsNoneNow w s = holds w.running
     holds None = Unit {0}
     holds (Some v) = is_held_in (length w.run.boots) s ≡ false
 
-module _ (z : Setting) (w : WorldView) (stub : Stub) (k : Keeps z w stub) (client : ℕ) (s : Seat) (there : slice_get w.seats (client - 1) ≡ Some s) (first : 1 ≤ client) (new : Seat) (later : List Withdrawn)
+module _ (z : Setting) (w : WorldView) (stub : Stub) (k : KeepsPromise z w stub) (client : ℕ) (s : Seat) (there : slice_get w.seats (client - 1) ≡ Some s) (first : 1 ≤ client) (new : Seat) (later : List Withdrawn)
     (marks : List Mark) (events refused : ℕ) where
   abbrev moved : WorldView
   moved = record w { seats = slice_set w.seats (client - 1) new; withdrawn = later; marks = marks; events = events; refused = refused }
@@ -67,7 +67,7 @@ module _ (z : Setting) (w : WorldView) (stub : Stub) (k : Keeps z w stub) (clien
   -- one seat changes, and no history
   pub moves : IsSeated z w.history client new → ((d : ℕ) (x : Seat) → d ≢ client → AreGone w.withdrawn d x → AreGone later d x) → AreGone later client new → new.seq ≡ s.seq → new.boot ≤ length w.run.boots → HoldsNoneNow w s → HoldsNoneNow w new
       → ((x : Call) → Contains (offered_by s) x → Contains (offered_by new) x ⊎ Contains (map (λ y. y.call) later) x) → ((x : Call) → Contains (map (λ y. y.call) w.withdrawn) x → Contains (map (λ y. y.call) later) x)
-      → Keeps z (record w { seats = slice_set w.seats (client - 1) new; withdrawn = later; marks = marks; events = events; refused = refused }) stub
+      → KeepsPromise z (record w { seats = slice_set w.seats (client - 1) new; withdrawn = later; marks = marks; events = events; refused = refused }) stub
   moves is others gone seq boot was none own still = reseated z w moved stub refl refl refl held seats kept k
     where
       set : slice_set w.seats (client - 1) new ≡ at_it.front ++ new ∷ at_it.back

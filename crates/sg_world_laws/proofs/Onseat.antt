@@ -22,10 +22,10 @@ use Rattle.sg_walk_laws.proofs.Found.{other_test}
 use Rattle.sg_world_laws.proofs.Drawn.{object_behind}
 use Rattle.sg_world_laws.proofs.Waits.{still_waits, waits_both}
 use Rattle.sg_world_laws.specs.Keeping.{IsSettledObject}
-use Rattle.sg_world_laws.specs.Seats.{IsSeated, MayMake, last_of}
+use Rattle.sg_world_laws.specs.Seats.{IsSeated, MayBeMade, last_of}
 use Rattle.sg_world_laws.specs.Setting.{IsSetting, Setting}
 
-pub seat_passes : (z : Setting) (set : IsSetting z) (h : List Entry) (call : Call) → IsSettledObject z h → slow + length h + 256 < 2 ^ 63 → MayMake z.iface call → guard z.iface (object_of z.iface.facts h) call ≡ None
+pub seat_passes : (z : Setting) (set : IsSetting z) (h : List Entry) (call : Call) → IsSettledObject z h → slow + length h + 256 < 2 ^ 63 → MayBeMade z.iface call → guard z.iface (object_of z.iface.facts h) call ≡ None
     → Passes z.iface.facts (object_of z.iface.facts h) call
 seat_passes z set h call o few may passes = record {
   is_call = may.is_clients.is_call;
@@ -35,7 +35,7 @@ seat_passes z set h call o few may passes = record {
 }
 
 module _ (z : Setting) (set : IsSetting z) (h : List Entry) (e : Entry) (o : IsSettledObject z h) (few : slow + length h + 256 < 2 ^ 63)
-    (answered : answer z.iface z.ask (object_of z.iface.facts h) e.call ≡ Some e.reply) (may : MayMake z.iface e.call) (d : ℕ) (s : Seat) (other : e.call.client ≢ d) where
+    (answered : answer z.iface z.ask (object_of z.iface.facts h) e.call ≡ Some e.reply) (may : MayBeMade z.iface e.call) (d : ℕ) (s : Seat) (other : e.call.client ≢ d) where
   -- another client's entries are as before
   same_calls : calls_of (h ++ e ∷ []) d ≡ calls_of h d
   same_calls = filter-append (λ x. x.call.client == d) h (e ∷ []) ∙ ap (λ b. calls_of h d ++ cond b (e ∷ []) []) (other_test e.call.client d other) ∙ append-nil (calls_of h d)

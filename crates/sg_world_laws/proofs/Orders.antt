@@ -45,8 +45,8 @@ use Rattle.sg_trace_laws.specs.LastPlace.{HaveItems}
 use Rattle.sg_trace_laws.specs.Told.{IsKnown, IsRead}
 use Rattle.sg_world_laws.proofs.Drawn.{drawn_waiting, object_behind, waiting_apart}
 use Rattle.sg_world_laws.proofs.Items.{has_item}
-use Rattle.sg_world_laws.specs.Keeping.{AreDrawn, Keeps, MayEnter, Stands, Stub, standing}
-use Rattle.sg_world_laws.specs.Seats.{AreSeated, HaveSeats, MayMake, all_seqs}
+use Rattle.sg_world_laws.specs.Keeping.{AreDrawn, KeepsPromise, MayEnter, Stands, Stub, standing}
+use Rattle.sg_world_laws.specs.Seats.{AreSeated, HaveSeats, MayBeMade, all_seqs}
 use Rattle.sg_world_laws.specs.Setting.{IsSetting, Setting}
 use Rattle.sg_world_laws.specs.Turns.{IsLetIn}
 
@@ -111,7 +111,7 @@ module _ (z : Setting) (set : IsSetting z) where
 
 -- ---- at the objects behind some of the held replies
 
-module _ (z : Setting) (set : IsSetting z) (w : WorldView) (b : Boot) (boots : List Boot) (running : Option Object) (stub : Stub) (k : Keeps z (standing w b boots running) stub) where
+module _ (z : Setting) (set : IsSetting z) (w : WorldView) (b : Boot) (boots : List Boot) (running : Option Object) (stub : Stub) (k : KeepsPromise z (standing w b boots running) stub) where
   abbrev o : Object
   o = object_of z.iface.facts w.history
 
@@ -168,12 +168,12 @@ module _ (z : Setting) (set : IsSetting z) (w : WorldView) (b : Boot) (boots : L
     pub reachable_es : AreReachable z.iface (object_from z.iface.facts (object_of z.iface.facts w.history) es).rows
     reachable_es =
         let n : length (w.history ++ es) ≡ length w.history + length es = length-append w.history es in
-        let may = each_append (λ e. MayMake z.iface e.call) w.history es k.calls (drawn_each (λ e. MayMake z.iface e.call) (each_map (MayEnter z w.history) (λ e. MayMake z.iface e.call) ws (λ e enters. enters.may) k.enter)) in
+        let may = each_append (λ e. MayBeMade z.iface e.call) w.history es k.calls (drawn_each (λ e. MayBeMade z.iface e.call) (each_map (MayEnter z w.history) (λ e. MayBeMade z.iface e.call) ws (λ e enters. enters.may) k.enter)) in
         let lets = drawn_each (λ e. guard z.iface o e.call ≡ None) (each_map (MayEnter z w.history) (λ e. guard z.iface o e.call ≡ None) ws (λ e enters. enters.guarded) k.enter) in
         subst (λ x. AreReachable z.iface x.rows) object_es
         (reach_all z.iface z.ask z.sound set.fits set.law.shape.shape set.law.keeps set.law.counts (w.history ++ es) (omega (arith, n, drawn.few, few_now, far_now))
-        (each_map (λ e. MayMake z.iface e.call) (λ e. IsClientsCall z.iface.facts e.call) (w.history ++ es) (λ e m. m.is_clients) may)
-        (each_map (λ e. MayMake z.iface e.call) (λ e. declares z.iface e.call.fun ≡ true) (w.history ++ es) (λ e m. m.declared) may)
+        (each_map (λ e. MayBeMade z.iface e.call) (λ e. IsClientsCall z.iface.facts e.call) (w.history ++ es) (λ e m. m.is_clients) may)
+        (each_map (λ e. MayBeMade z.iface e.call) (λ e. declares z.iface e.call.fun ≡ true) (w.history ++ es) (λ e m. m.declared) may)
         (legal_append z.iface z.ask empty_object w.history es k.legal (legal_held z set o es good_now time_es wait_es lets)))
 
     -- their items stand in the trace
@@ -220,7 +220,7 @@ module _ (z : Setting) (set : IsSetting z) (w : WorldView) (b : Boot) (boots : L
 
 -- ---- while the service is up
 
-module _ (z : Setting) (set : IsSetting z) (w : WorldView) (b : Boot) (boots : List Boot) (v : Object) (stub : Stub) (k : Keeps z (standing w b boots (Some v)) stub) (es : List Entry)
+module _ (z : Setting) (set : IsSetting z) (w : WorldView) (b : Boot) (boots : List Boot) (v : Object) (stub : Stub) (k : KeepsPromise z (standing w b boots (Some v)) stub) (es : List Entry)
     (drawn : AreDrawn (held_replies (standing w b boots (Some v))) es) where
   -- what is told is read of the rows behind them too, as these are among the live ones
   pub read_es : IsRead z.iface.facts z.walks (w.history ++ es) (older_items [] (b ∷ boots)) (last_items (b ∷ boots)) stub.names stub.told stub.present (object_from z.iface.facts (object_of z.iface.facts w.history) es).rows

@@ -36,8 +36,8 @@ use Rattle.sg_walk_laws.proofs.Above.{up}
 use Rattle.sg_world_laws.proofs.Ahead.{refused_ahead}
 use Rattle.sg_world_laws.proofs.Entering.{kept_with, legal_push, object_refused, settled_refused}
 use Rattle.sg_world_laws.proofs.Given.{before_same, given_any, given_now}
-use Rattle.sg_world_laws.specs.Keeping.{AreDrawn, Keeps, MayEnter, StandsIn, Stub, standing}
-use Rattle.sg_world_laws.specs.Seats.{HaveSeats, MayMake}
+use Rattle.sg_world_laws.specs.Keeping.{AreDrawn, KeepsPromise, MayEnter, StandsIn, Stub, standing}
+use Rattle.sg_world_laws.specs.Seats.{HaveSeats, MayBeMade}
 use Rattle.sg_world_laws.specs.Setting.{IsSetting, Setting, stubs_of}
 
 -- a code of the guard is one of its own
@@ -62,8 +62,8 @@ by_the_guard i o call code is =
     by false false false false false true same = own HasChildren refl same
     by false false false false false false none = absurd (cc none)
 
-module _ (z : Setting) (set : IsSetting z) (w : WorldView) (b : Boot) (boots : List Boot) (running : Option Object) (stub : Stub) (k : Keeps z (standing w b boots running) stub)
-    (call : Call) (code : Code) (refuses : guard z.iface (object_of z.iface.facts w.history) call ≡ Some code) (may : MayMake z.iface call) (none : NoneBy call.client (held_replies (standing w b boots running)))
+module _ (z : Setting) (set : IsSetting z) (w : WorldView) (b : Boot) (boots : List Boot) (running : Option Object) (stub : Stub) (k : KeepsPromise z (standing w b boots running) stub)
+    (call : Call) (code : Code) (refuses : guard z.iface (object_of z.iface.facts w.history) call ≡ Some code) (may : MayBeMade z.iface call) (none : NoneBy call.client (held_replies (standing w b boots running)))
     (w' : WorldView) (history : w'.history ≡ w.history ++ record { call = call; reply = Refused code } ∷ []) where
   abbrev e : Entry
   e = record { call = call; reply = Refused code }
@@ -133,10 +133,10 @@ module _ (z : Setting) (set : IsSetting z) (w : WorldView) (b : Boot) (boots : L
 
   pub refused : w'.run ≡ record { boots = b ∷ boots; points = w.run.points } → w'.running ≡ running → held_replies w' ≡ held_replies (standing w b boots running)
       → HaveSeats z (w.history ++ record { call = call; reply = Refused code } ∷ []) w'.withdrawn (length (b ∷ boots)) w'.seats
-      → ((x : Call) → Contains (unanswered (standing w b boots running)) x → (x ≡ call) ⊎ Contains (unanswered w') x) → Keeps z w' stub
-  refused run up held seats kept = subst (λ x. Keeps z x stub) (sym spelt) (record {
+      → ((x : Call) → Contains (unanswered (standing w b boots running)) x → (x ≡ call) ⊎ Contains (unanswered w') x) → KeepsPromise z w' stub
+  refused run up held seats kept = subst (λ x. KeepsPromise z x stub) (sym spelt) (record {
     legal = legal_push z.iface z.ask empty_object w.history e k.legal (ap (λ g. refused_or g (z.ask (object_of z.iface.facts w.history) call)) refuses);
-    calls = each_append (λ x. MayMake z.iface x.call) w.history (e ∷ []) k.calls (may, tt);
+    calls = each_append (λ x. MayBeMade z.iface x.call) w.history (e ∷ []) k.calls (may, tt);
     object = settled_refused z set w.history e k.object guards;
     seats = seats;
     waiting = subst (λ o. AreWaiting z.iface.facts z.ask o (held_replies later)) (sym same_o) (subst (AreWaiting z.iface.facts z.ask (object_of z.iface.facts w.history)) (sym held_later) k.waiting);

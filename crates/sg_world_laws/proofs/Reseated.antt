@@ -13,7 +13,7 @@ use Rattle.sg_recovery_laws.specs.Growing.{IsInLast}
 use Rattle.sg_seat.specs.WorldView.{WorldView, held_replies, unanswered}
 use Rattle.sg_walk_laws.proofs.Above.{up}
 use Rattle.sg_world_laws.proofs.Entering.{kept_all}
-use Rattle.sg_world_laws.specs.Keeping.{AreDrawn, Keeps, MayEnter, StandsIn, Stub}
+use Rattle.sg_world_laws.specs.Keeping.{AreDrawn, KeepsPromise, MayEnter, StandsIn, Stub}
 use Rattle.sg_world_laws.specs.Seats.{HaveSeats}
 use Rattle.sg_world_laws.specs.Setting.{Setting, stubs_of}
 
@@ -44,8 +44,8 @@ module _ (z : Setting) (w w' : WorldView) (stub : Stub) (history : w'.history �
     unnamed = λ es drawn. up.unnamed es (subst (λ l. AreDrawn l es) is drawn);
   }
 
-  pub reseated : Keeps z w stub → Keeps z w' stub
-  reseated k = subst (λ x. Keeps z x stub) (sym same) (record {
+  pub reseated : KeepsPromise z w stub → KeepsPromise z w' stub
+  reseated k = subst (λ x. KeepsPromise z x stub) (sym same) (record {
     legal = k.legal;
     calls = k.calls;
     object = k.object;

@@ -39,8 +39,8 @@ use Rattle.sg_world_laws.proofs.Drawn.{committed_same, committed_waiting, none_a
 use Rattle.sg_world_laws.proofs.Entering.{kept_within, legal_push, settled_after}
 use Rattle.sg_world_laws.proofs.Items.{has_item}
 use Rattle.sg_world_laws.proofs.Orders.{all_drawn, few_now, lets_after, sound_es, time_now}
-use Rattle.sg_world_laws.specs.Keeping.{AreApart, AreDrawn, Keeps, MayEnter, Stands, Stub, standing}
-use Rattle.sg_world_laws.specs.Seats.{HaveSeats, MayMake}
+use Rattle.sg_world_laws.specs.Keeping.{ClientsDiffer, AreDrawn, KeepsPromise, MayEnter, Stands, Stub, standing}
+use Rattle.sg_world_laws.specs.Seats.{HaveSeats, MayBeMade}
 use Rattle.sg_world_laws.specs.Setting.{IsSetting, Setting, stubs_of}
 
 -- a sum of what is told of rows goes by what is told of each
@@ -59,7 +59,7 @@ sum_told_alike f told told' (r ∷ rows) same =
     own_live true live is = refl
     own_live false live is = absurd (cc is)
 
-module _ (z : Setting) (set : IsSetting z) (w : WorldView) (b : Boot) (boots : List Boot) (v : Object) (stub : Stub) (k : Keeps z (standing w b boots (Some v)) stub)
+module _ (z : Setting) (set : IsSetting z) (w : WorldView) (b : Boot) (boots : List Boot) (v : Object) (stub : Stub) (k : KeepsPromise z (standing w b boots (Some v)) stub)
     (pre post : List Entry) (p : Entry) (held : held_in (length (b ∷ boots)) w.seats ≡ pre ++ p ∷ post) where
   up : Stands z (standing w b boots (Some v)) stub v
   up = k.stands
@@ -85,7 +85,7 @@ module _ (z : Setting) (set : IsSetting z) (w : WorldView) (b : Boot) (boots : L
   object_now : object_of z.iface.facts (w.history ++ p ∷ []) ≡ after z.iface.facts (object_of z.iface.facts w.history) p.call p.reply
   object_now = object_behind z.iface.facts empty_object w.history (p ∷ [])
 
-  apart : AreApart (pre ++ p ∷ post)
+  apart : ClientsDiffer (pre ++ p ∷ post)
   apart = waiting_apart z.iface.facts z.ask (object_of z.iface.facts w.history) (pre ++ p ∷ post) wait
 
   enters : MayEnter z w.history p
@@ -231,11 +231,11 @@ module _ (z : Setting) (set : IsSetting z) (w : WorldView) (b : Boot) (boots : L
         let wc = was.counted in
         record { given = omega (arith, wg, left_one); counted = omega (arith, wc, left_all, n) }
 
-    pub returned : Keeps z w' stub'
+    pub returned : KeepsPromise z w' stub'
     unfolding up its
-    returned = subst (λ x. Keeps z x stub') (sym spelt) (record {
+    returned = subst (λ x. KeepsPromise z x stub') (sym spelt) (record {
       legal = legal_push z.iface z.ask empty_object w.history p k.legal answer_held;
-      calls = each_append (λ x. MayMake z.iface x.call) w.history (p ∷ []) k.calls (enters.may, tt);
+      calls = each_append (λ x. MayBeMade z.iface x.call) w.history (p ∷ []) k.calls (enters.may, tt);
       object = settled_after z set w.history p k.object its.answered;
       seats = seats;
       waiting = subst (λ o. AreWaiting z.iface.facts z.ask o (held_in (length (b ∷ boots)) w'.seats)) (sym object_now) wait_after;

@@ -7,7 +7,7 @@ use Rattle.std.proofs.lemmas.List.Elements.{Contains-append_left, Contains-appen
 use Rattle.sg_base.specs.Lists.{Each}
 use Rattle.sg_facts.specs.declared.entry.Entry.{Entry}
 use Rattle.sg_recovery_laws.proofs.Lists.{each_append, each_contains, each_split}
-use Rattle.sg_world_laws.specs.Keeping.{AreApart, AreDrawn}
+use Rattle.sg_world_laws.specs.Keeping.{ClientsDiffer, AreDrawn}
 use Rattle.sg_object_laws.specs.Waiting.{NoneBy}
 use Rattle.sg_world_laws.proofs.Drawn.{none_apart}
 
@@ -46,7 +46,7 @@ others pre post p e has apart = elim (Contains-append_cases pre (p ∷ post) e h
 ]
 
 -- an entry of its client is the reply itself
-own_is : (pre post : List Entry) (p e : Entry) → AreApart (pre ++ p ∷ post) → Contains (pre ++ p ∷ post) e → e.call.client ≡ p.call.client → e ≡ p
+own_is : (pre post : List Entry) (p e : Entry) → ClientsDiffer (pre ++ p ∷ post) → Contains (pre ++ p ∷ post) e → e.call.client ≡ p.call.client → e ≡ p
 own_is pre post p e apart has same =
     let none = none_apart pre post p apart in
     elim (Contains-append_cases pre (p ∷ post) e has) [
@@ -61,7 +61,7 @@ each_other : (pre post : List Entry) (p : Entry) (es : List Entry) → Each (Con
 each_other pre post p [] each none = tt
 each_other pre post p (e ∷ es) each none = (others pre post p e each.0 none.0, each_other pre post p es each.1 none.1)
 
-without : (front rest : List Entry) (x : Entry) → AreApart (front ++ x ∷ rest) → AreApart (front ++ rest)
+without : (front rest : List Entry) (x : Entry) → ClientsDiffer (front ++ x ∷ rest) → ClientsDiffer (front ++ rest)
 without [] rest x apart = apart.1
 without (f ∷ front) rest x apart =
     let own = each_split (λ e. e.call.client ≢ f.call.client) front (x ∷ rest) apart.0 in
@@ -73,12 +73,12 @@ pub record IsSplit (ws es : List Entry) (p : Entry) : Type 0 where
   pub rest : List Entry
   pub is : es ≡ front ++ p ∷ rest
   pub each : Each (Contains ws) (front ++ rest)
-  pub apart : AreApart (front ++ rest)
+  pub apart : ClientsDiffer (front ++ rest)
   pub none : NoneBy p.call.client (front ++ rest)
   pub few : suc (length (front ++ rest)) ≡ length es
 
-pub split_drawn : (pre post : List Entry) (p : Entry) (es : List Entry) → AreApart (pre ++ p ∷ post) → AreDrawn (pre ++ p ∷ post) es
-    → IsSplit (pre ++ post) es p ⊎ (Each (Contains (pre ++ post)) es × AreApart es × NoneBy p.call.client es)
+pub split_drawn : (pre post : List Entry) (p : Entry) (es : List Entry) → ClientsDiffer (pre ++ p ∷ post) → AreDrawn (pre ++ p ∷ post) es
+    → IsSplit (pre ++ post) es p ⊎ (Each (Contains (pre ++ post)) es × ClientsDiffer es × NoneBy p.call.client es)
 split_drawn pre post p es apart drawn = elim (by_client p.call.client es) [
   | inr none ↦ inr (each_other pre post p es drawn.each none, drawn.apart, none)
   | inl has ↦
@@ -86,7 +86,7 @@ split_drawn pre post p es apart drawn = elim (by_client p.call.client es) [
       let parts = each_split (Contains (pre ++ p ∷ post)) has.front (has.own ∷ has.rest) each in
       let one : has.own ≡ p = own_is pre post p has.own apart parts.1.0 has.its in
       let list : es ≡ has.front ++ p ∷ has.rest = has.is ∙ ap (λ x. has.front ++ x ∷ has.rest) one in
-      let apart_es : AreApart (has.front ++ p ∷ has.rest) = subst AreApart list drawn.apart in
+      let apart_es : ClientsDiffer (has.front ++ p ∷ has.rest) = subst ClientsDiffer list drawn.apart in
       let none = none_apart has.front has.rest p apart_es in
       let none_all = each_append (λ e. e.call.client ≢ p.call.client) has.front has.rest none.0 none.1 in
       inl (record {
@@ -104,7 +104,7 @@ split_drawn pre post p es apart drawn = elim (by_client p.call.client es) [
 ]
 
 -- what is drawn is no more than what is held
-pub drawn_few : (ws es : List Entry) → AreApart ws → Each (Contains ws) es → AreApart es → length es ≤ length ws
+pub drawn_few : (ws es : List Entry) → ClientsDiffer ws → Each (Contains ws) es → ClientsDiffer es → length es ≤ length ws
 drawn_few [] [] apart each apart_es = omega arith
 drawn_few [] (e ∷ es) apart each apart_es = absurd (omega (arith, each.0.1))
 drawn_few (w ∷ ws) es apart each apart_es = elim (by_client w.call.client es) [
@@ -112,7 +112,7 @@ drawn_few (w ∷ ws) es apart each apart_es = elim (by_client w.call.client es) 
   | inl has ↦
       let all : Each (Contains (w ∷ ws)) (has.front ++ has.own ∷ has.rest) = subst (Each (Contains (w ∷ ws))) has.is each in
       let parts = each_split (Contains (w ∷ ws)) has.front (has.own ∷ has.rest) all in
-      let apart_has : AreApart (has.front ++ has.own ∷ has.rest) = subst AreApart has.is apart_es in
+      let apart_has : ClientsDiffer (has.front ++ has.own ∷ has.rest) = subst ClientsDiffer has.is apart_es in
       let none = none_apart has.front has.rest has.own apart_has in
       let none_w : NoneBy w.call.client (has.front ++ has.rest)
       = subst (λ c. NoneBy c (has.front ++ has.rest)) has.its (each_append (λ e. e.call.client ≢ has.own.call.client) has.front has.rest none.0 none.1) in
@@ -125,7 +125,7 @@ drawn_few (w ∷ ws) es apart each apart_es = elim (by_client w.call.client es) 
 ]
 
 -- so it is drawn, or it is drawn but for the reply, which stands at a place
-pub drawn_either : (pre post : List Entry) (p : Entry) (es : List Entry) → AreApart (pre ++ p ∷ post) → AreApart (pre ++ post) → AreDrawn (pre ++ p ∷ post) es
+pub drawn_either : (pre post : List Entry) (p : Entry) (es : List Entry) → ClientsDiffer (pre ++ p ∷ post) → ClientsDiffer (pre ++ post) → AreDrawn (pre ++ p ∷ post) es
     → AreDrawn (pre ++ post) es ⊎ ((s : IsSplit (pre ++ post) es p) × AreDrawn (pre ++ post) (s.front ++ s.rest))
 drawn_either pre post p es apart apart_less drawn = elim (split_drawn pre post p es apart drawn) [
   | inl s ↦ inr (s, record { each = s.each; apart = s.apart; few = drawn_few (pre ++ post) (s.front ++ s.rest) apart_less s.each s.apart })

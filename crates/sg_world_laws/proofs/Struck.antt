@@ -12,7 +12,7 @@ use Rattle.sg_recovery_laws.specs.Growing.{IsRecovering, last_items, older_items
 use Rattle.sg_seat.specs.WorldView.{WorldView, held_replies, unanswered}
 use Rattle.sg_trace_laws.specs.LastPlace.{HaveItems}
 use Rattle.sg_track.proofs.Ascending.{later}
-use Rattle.sg_world_laws.specs.Keeping.{AreDrawn, Keeps, Stub}
+use Rattle.sg_world_laws.specs.Keeping.{AreDrawn, KeepsPromise, Stub}
 use Rattle.sg_world_laws.specs.Setting.{Setting, stubs_of}
 
 pub none_drawn : (es : List Entry) → AreDrawn [] es → es ≡ []
@@ -49,9 +49,9 @@ pub record IsCutOff (z : Setting) (w : WorldView) (run : Run) : Type 0 where
   pub in_boots : AreInBoots run 0 w.history
   pub recovers : IsRecovering (stubs_of z) (w.history ++ []) run (unanswered w)
 
-module _ (z : Setting) (w : WorldView) (stub later : Stub) (k : Keeps z w stub) (run : Run) (cut : IsCutOff z w run) (stop points : ℕ) where
+module _ (z : Setting) (w : WorldView) (stub later : Stub) (k : KeepsPromise z w stub) (run : Run) (cut : IsCutOff z w run) (stop points : ℕ) where
   -- the service stops at a point, behind this run
-  pub stopped : Keeps z (record w { run = record { boots = struck run.boots stop; points = points }; running = None }) later
+  pub stopped : KeepsPromise z (record w { run = record { boots = struck run.boots stop; points = points }; running = None }) later
   stopped = record {
     legal = k.legal;
     calls = k.calls;
@@ -69,7 +69,7 @@ module _ (z : Setting) (w : WorldView) (stub later : Stub) (k : Keeps z w stub) 
   }
 
 -- at the point before a use, or behind a commit
-pub stopped_between : (z : Setting) (w : WorldView) (stub later : Stub) → Keeps z w stub → (stop points : ℕ) → Keeps z (record w { run = record { boots = struck w.run.boots stop; points = points }; running = None }) later
+pub stopped_between : (z : Setting) (w : WorldView) (stub later : Stub) → KeepsPromise z w stub → (stop points : ℕ) → KeepsPromise z (record w { run = record { boots = struck w.run.boots stop; points = points }; running = None }) later
 stopped_between z w stub later k stop points =
     stopped z w stub later k w.run
     (record { begun = k.cell.begun; long = refl; items = k.items; in_boots = k.in_boots; recovers = k.recovering [] (no_drawn (held_replies w)) }) stop points

@@ -17,8 +17,8 @@ use Rattle.sg_seat.specs.declared.withdrawn.Withdrawn.{Withdrawn}
 use Rattle.sg_world_laws.proofs.Moves.{HoldsNoneNow, its_boot, its_gone, its_seat, moves}
 use Rattle.sg_world_laws.proofs.Refusing.{refused}
 use Rattle.sg_world_laws.proofs.Reseated.{reseated}
-use Rattle.sg_world_laws.specs.Keeping.{Keeps, Stub}
-use Rattle.sg_world_laws.specs.Seats.{AreGone, IsSeated, MayMake, last_of}
+use Rattle.sg_world_laws.specs.Keeping.{KeepsPromise, Stub}
+use Rattle.sg_world_laws.specs.Seats.{AreGone, IsSeated, MayBeMade, last_of}
 use Rattle.sg_world_laws.specs.Setting.{Setting}
 
 pub seat_there : (w : WorldView) (client : ℕ) → 1 ≤ client → client ≤ length w.seats → slice_get w.seats (client - 1) ≡ Some (seat_of w client)
@@ -60,7 +60,7 @@ none_now w s none = by w.running
     by None = tt
     by (Some v) = ap (λ q. q && (s.boot == length w.run.boots)) none
 
-module _ (z : Setting) (w : WorldView) (stub : Stub) (k : Keeps z w stub) (client : ℕ) (first : 1 ≤ client) (last : client ≤ length w.seats) (marks : List Mark) (events refused : ℕ) where
+module _ (z : Setting) (w : WorldView) (stub : Stub) (k : KeepsPromise z w stub) (client : ℕ) (first : 1 ≤ client) (last : client ≤ length w.seats) (marks : List Mark) (events refused : ℕ) where
   abbrev s : Seat
   s = seat_of w client
 
@@ -77,8 +77,8 @@ module _ (z : Setting) (w : WorldView) (stub : Stub) (k : Keeps z w stub) (clien
   boot = its_boot z w stub k client s there first s w.withdrawn marks events refused
 
   -- a client that is free offers its next call
-  pub offer_keeps : (call : Call) → IsFree (seat_of w client).phase → call.client ≡ client → call.seq ≡ (seat_of w client).seq + 1 → MayMake z.iface call
-      → Keeps z (record w { seats = slice_set w.seats (client - 1) (record (seat_of w client) { phase = Asked; call = call }); marks = marks; events = events; refused = refused }) stub
+  pub offer_keeps : (call : Call) → IsFree (seat_of w client).phase → call.client ≡ client → call.seq ≡ (seat_of w client).seq + 1 → MayBeMade z.iface call
+      → KeepsPromise z (record w { seats = slice_set w.seats (client - 1) (record (seat_of w client) { phase = Asked; call = call }); marks = marks; events = events; refused = refused }) stub
   offer_keeps call free its next may =
       let none = free_none s.phase free in
       moves z w stub k client s there first (record s { phase = Asked; call = call }) w.withdrawn marks events refused
@@ -87,7 +87,7 @@ module _ (z : Setting) (w : WorldView) (stub : Stub) (k : Keeps z w stub) (clien
 
   -- a client withdraws its call, which is in no entry
   pub withdraw_keeps : (gone_it : Withdrawn) → MayWithdraw (seat_of w client).phase → gone_it.call ≡ (seat_of w client).call
-      → Keeps z (record w { seats = slice_set w.seats (client - 1) (record (seat_of w client) { phase = Idle }); withdrawn = w.withdrawn ++ gone_it ∷ []; marks = marks; events = events; refused = refused }) stub
+      → KeepsPromise z (record w { seats = slice_set w.seats (client - 1) (record (seat_of w client) { phase = Idle }); withdrawn = w.withdrawn ++ gone_it ∷ []; marks = marks; events = events; refused = refused }) stub
   withdraw_keeps gone_it may its =
       let offers = withdraw_none s.phase may in
       let own : gone_it.call.client ≡ client = ap (λ c. c.client) its ∙ seated.its offers.0 in
@@ -104,7 +104,7 @@ module _ (z : Setting) (w : WorldView) (stub : Stub) (k : Keeps z w stub) (clien
       map_push (x ∷ xs) = ap (λ l. x.call ∷ l) (map_push xs)
 
   -- a client that is free leaves
-  pub leave_keeps : IsFree (seat_of w client).phase → Keeps z (record w { seats = slice_set w.seats (client - 1) (record (seat_of w client) { phase = Left }); marks = marks; events = events; refused = refused }) stub
+  pub leave_keeps : IsFree (seat_of w client).phase → KeepsPromise z (record w { seats = slice_set w.seats (client - 1) (record (seat_of w client) { phase = Left }); marks = marks; events = events; refused = refused }) stub
   leave_keeps free =
       let none = free_none s.phase free in
       moves z w stub k client s there first (record s { phase = Left }) w.withdrawn marks events refused
@@ -113,7 +113,7 @@ module _ (z : Setting) (w : WorldView) (stub : Stub) (k : Keeps z w stub) (clien
 
   -- a reply that is to be handed over is handed over
   pub hand_keeps : (reply : Reply) → (seat_of w client).phase ≡ Receipted
-      → Keeps z (record w { seats = slice_set w.seats (client - 1) (record (seat_of w client) { phase = Idle; reply = reply }); marks = marks; events = events; refused = refused }) stub
+      → KeepsPromise z (record w { seats = slice_set w.seats (client - 1) (record (seat_of w client) { phase = Idle; reply = reply }); marks = marks; events = events; refused = refused }) stub
   hand_keeps reply is =
       moves z w stub k client s there first (record s { phase = Idle; reply = reply }) w.withdrawn marks events refused
       (record { its = λ isn't. absurd (cc isn't); next = λ isn't. absurd (cc isn't); may = λ isn't. absurd (cc isn't); waits = λ isn't. absurd (cc isn't); receipt = λ isn't. absurd (cc isn't); count = seated.count; few = seated.few })
@@ -121,7 +121,7 @@ module _ (z : Setting) (w : WorldView) (stub : Stub) (k : Keeps z w stub) (clien
 
   -- a reply that was held in a service that failed, or in another boot, is lost: its client is asked again
   pub lose_keeps : (seat_of w client).phase ≡ Held → HoldsNoneNow w (seat_of w client)
-      → Keeps z (record w { seats = slice_set w.seats (client - 1) (record (seat_of w client) { phase = Asked }); marks = marks; events = events; refused = refused }) stub
+      → KeepsPromise z (record w { seats = slice_set w.seats (client - 1) (record (seat_of w client) { phase = Asked }); marks = marks; events = events; refused = refused }) stub
   lose_keeps is none =
       let offers : is_offered s.phase ≡ true = ap is_offered is in
       moves z w stub k client s there first (record s { phase = Asked }) w.withdrawn marks events refused
@@ -133,5 +133,5 @@ module _ (z : Setting) (w : WorldView) (stub : Stub) (k : Keeps z w stub) (clien
   receipt_is is = seated.receipt is
 
 -- what a world keeps says nothing of its numbers of events
-pub counted_keeps : (z : Setting) (w : WorldView) (stub : Stub) (events refused : ℕ) → Keeps z w stub → Keeps z (record w { events = events; refused = refused }) stub
+pub counted_keeps : (z : Setting) (w : WorldView) (stub : Stub) (events refused : ℕ) → KeepsPromise z w stub → KeepsPromise z (record w { events = events; refused = refused }) stub
 counted_keeps z w stub events refused k = reseated z w (record w { events = events; refused = refused }) stub refl refl refl refl k.seats (λ x has. has) k

@@ -23,7 +23,7 @@ use Rattle.sg_recovery_laws.specs.Growing.{IsInLast, IsRecovering, last_items, o
 use Rattle.sg_seat.specs.WorldView.{WorldView, held_replies, unanswered}
 use Rattle.sg_trace_laws.specs.LastPlace.{HaveItems}
 use Rattle.sg_trace_laws.specs.Told.{IsRead}
-use Rattle.sg_world_laws.specs.Seats.{HaveSeats, MayMake}
+use Rattle.sg_world_laws.specs.Seats.{HaveSeats, MayBeMade}
 use Rattle.sg_world_laws.specs.Setting.{Setting, stubs_of}
 
 -- what stands in the stubs of the running boot: the service's ids, how far each row is, and which files are present
@@ -37,14 +37,14 @@ abbrev pub standing : WorldView → Boot → List Boot → Option Object → Wor
 standing w b boots running = record w { run = record { boots = b ∷ boots; points = w.run.points }; running = running }
 
 -- entries of different clients
-abbrev pub AreApart : List Entry → Type 0
-AreApart [] = Unit {0}
-AreApart (e ∷ es) = NoneBy e.call.client es × AreApart es
+abbrev pub ClientsDiffer : List Entry → Type 0
+ClientsDiffer [] = Unit {0}
+ClientsDiffer (e ∷ es) = NoneBy e.call.client es × ClientsDiffer es
 
 -- some of the held replies, in some order: those that a later event may find committed
 pub record AreDrawn (held es : List Entry) : Type 0 where
   pub each : Each (Contains held) es
-  pub apart : AreApart es
+  pub apart : ClientsDiffer es
   pub few : length es ≤ length held
 
 -- the object of a history: as legal histories leave it, and far from the ends of its numbers
@@ -55,7 +55,7 @@ pub record IsSettledObject (z : Setting) (history : List Entry) : Type 0 where
 
 -- a held reply could be committed now: its call may be made, and the guard lets it pass
 pub record MayEnter (z : Setting) (history : List Entry) (e : Entry) : Type 0 where
-  pub may : MayMake z.iface e.call
+  pub may : MayBeMade z.iface e.call
   pub guarded : guard z.iface (object_of z.iface.facts history) e.call ≡ None
 
 -- the service stands for the object behind the held replies, and what the stubs tell is what the trace tells, whichever held replies
@@ -75,9 +75,9 @@ StandsIn z w stub None = Unit {0}
 StandsIn z w stub (Some v) = Stands z w stub v
 
 -- what the world keeps
-pub record Keeps (z : Setting) (w : WorldView) (stub : Stub) : Type 0 where
+pub record KeepsPromise (z : Setting) (w : WorldView) (stub : Stub) : Type 0 where
   pub legal : LegalFrom z.iface z.ask empty_object w.history
-  pub calls : Each (λ e. MayMake z.iface e.call) w.history
+  pub calls : Each (λ e. MayBeMade z.iface e.call) w.history
   pub object : IsSettledObject z w.history
   pub seats : HaveSeats z w.history w.withdrawn (length w.run.boots) w.seats
   pub waiting : AreWaiting z.iface.facts z.ask (object_of z.iface.facts w.history) (held_replies w)

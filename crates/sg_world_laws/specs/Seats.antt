@@ -16,7 +16,7 @@ use Rattle.sg_trace_laws.specs.Asked.{IsClientsCall}
 use Rattle.sg_world_laws.specs.Setting.{Setting}
 
 -- a call that a client may make: of a declared function, with the arguments that it takes
-pub record MayMake (i : Declared) (call : Call) : Type 0 where
+pub record MayBeMade (i : Declared) (call : Call) : Type 0 where
   pub is_clients : IsClientsCall i.facts call
   pub declared : declares i call.fun ≡ true
 
@@ -31,7 +31,7 @@ last_of (e ∷ d ∷ entries) = last_of (d ∷ entries)
 pub record IsSeated (z : Setting) (history : List Entry) (client : ℕ) (s : Seat) : Type 0 where
   pub its : is_offered s.phase ≡ true → s.call.client ≡ client
   pub next : is_offered s.phase ≡ true → s.call.seq ≡ s.seq + 1
-  pub may : is_offered s.phase ≡ true → MayMake z.iface s.call
+  pub may : is_offered s.phase ≡ true → MayBeMade z.iface s.call
   pub waits : s.phase ≡ Blocked → answer z.iface z.ask (object_of z.iface.facts history) s.call ≡ None
   pub receipt : s.phase ≡ Receipted → last_of (calls_of history client) ≡ Some (record { call = s.call; reply = s.reply })
   pub count : s.seq ≡ length (calls_of history client)

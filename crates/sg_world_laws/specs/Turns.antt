@@ -23,14 +23,14 @@ use Rattle.sg_hist.specs.Recovered.{IsByTable}
 use Rattle.sg_object_laws.specs.Waiting.{NoneBy}
 use Rattle.sg_seat.specs.WorldView.{WorldView, held_replies, unanswered}
 use Rattle.sg_world_laws.specs.Keeping.{Stub}
-use Rattle.sg_world_laws.specs.Seats.{MayMake}
+use Rattle.sg_world_laws.specs.Seats.{MayBeMade}
 use Rattle.sg_world_laws.specs.Setting.{Setting}
 
 -- a call is let in: it is under way, is its client's last, and the guard lets it pass at the object of the history
 pub record IsLetIn (z : Setting) (w : WorldView) (call : Call) : Type 0 where
   pub passes : Passes z.iface.facts (object_of z.iface.facts w.history) call
   pub guarded : guard z.iface (object_of z.iface.facts w.history) call ≡ None
-  pub may : MayMake z.iface call
+  pub may : MayBeMade z.iface call
   pub none_by : NoneBy call.client (held_replies w)
   pub above : Each (λ e. e.call.client ≡ call.client → e.call.seq < call.seq) (w.history ++ held_replies w)
   pub made : Contains (unanswered w) call
