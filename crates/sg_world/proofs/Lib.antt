@@ -1,3 +1,4 @@
+pub mod Marking
 pub mod Phases
 pub mod Rooming
 pub mod Starting

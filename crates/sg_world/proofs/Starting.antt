@@ -1,8 +1,7 @@
 -- A world in which nothing was done.
 
 -- the service keeps its laws, and the walks are those of its interface
-use Rattle.std.proofs.Common.{List, Some, [], ap, arith, false, flat_map, length, refl, replicate, subst, suc, sym, zero, ℕ, ◌∙◌, ◌≡◌, ◌≤◌}
-use Rattle.std.proofs.Math.ListN.{set}
+use Rattle.std.proofs.Common.{List, Some, [], ap, arith, false, flat_map, length, refl, replicate, subst, suc, sym, zero, ℕ, ◌∙◌, ◌≡◌, ◌≤◌, true}
 use Rattle.sg_engine_laws.specs.Stubs.{stub_of, told_of}
 use Rattle.sg_facts.specs.Facts.{Facts}
 use Rattle.sg_facts.specs.Legal.{Table}
@@ -10,9 +9,10 @@ use Rattle.sg_facts.specs.Limits.{last_client}
 use Rattle.sg_facts.specs.Object.{Object, empty_object}
 use Rattle.sg_facts.specs.Tables.{AreTables, Compiled}
 use Rattle.sg_facts.specs.declared.entry.Entry.{Entry}
-use Rattle.sg_hist.specs.Recovered.{struck_in}
+use Rattle.sg_hist.specs.Recovered.{struck_in, ArePointsOf}
 use Rattle.sg_name.specs.Names.{named_at}
 use Rattle.sg_object_laws.specs.Serving.{IsService}
+use Rattle.sg_recovery_laws.proofs.Points.{points_begin}
 use Rattle.sg_recovery_laws.specs.Growing.{booted, struck}
 use Rattle.sg_replay.specs.Engined.{Engined}
 use Rattle.sg_replay.specs.Present.{is_present}
@@ -21,10 +21,9 @@ use Rattle.sg_seat.specs.WorldView.{WorldView, new_world, no_seat, offered_by, S
 use Rattle.sg_seat.specs.declared.mark.Mark.{Mark}
 use Rattle.sg_seat.specs.declared.withdrawn.Withdrawn.{Withdrawn}
 use Rattle.sg_store.specs.Stored.{bytes_of}
-use Rattle.sg_walk_laws.proofs.Files.{told}
+use Rattle.sg_world.proofs.Marking.{new_told}
 use Rattle.sg_world.specs.Worlded.{CountsPoints, IsWorld, Rooms, marks_left, setting_of, view_of}
 use Rattle.sg_world_laws.proofs.Begun.{AreNew, new_keeps}
-use Rattle.sg_world_laws.proofs.Refusing.{refused}
 use Rattle.sg_world_laws.specs.Keeping.{KeepsPromise}
 use Rattle.sg_world_laws.specs.Setting.{IsSetting, Setting}
 
@@ -80,6 +79,8 @@ module _ (z : Setting) (set : IsSetting z) (e : Engined) (new : IsNewEngine e) (
       withdrawals = (let none = no_offers n in omega (arith, none));
       marks = (let all = marks_new n in omega (arith, all, marked));
     };
+    marked = record { entries = refl; withdrawals = refl; phases = new_told 1 n };
+    counted = λ less. subst (λ r. ArePointsOf true z.iface.facts z.ask z.parts 0 r.boots r.points) (sym new.run) (points_begin true z.iface.facts z.ask z.parts);
   }
 
   -- however its empty lists came about

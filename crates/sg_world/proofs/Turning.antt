@@ -1,7 +1,7 @@
 -- What a world keeps where one seat changes, and no history.
 
 -- a call that meets the conditions of an offer may be made
-use Rattle.std.proofs.Common.{List, arith, length, slice_set, ℕ, ◌*◌, ◌+◌, ◌-◌, ◌≡◌, ◌≤◌, subst, sym, true, Some, false, flat_map, refl, slice_get, ◌<◌, [], ap, if◌then◌else◌, ◌++◌, ◌∷◌}
+use Rattle.std.proofs.Common.{List, arith, length, slice_set, ℕ, ◌*◌, ◌+◌, ◌-◌, ◌≡◌, ◌≤◌, subst, sym, true, Some, false, flat_map, refl, slice_get, ◌<◌, [], ap, if◌then◌else◌, ◌++◌, ◌∷◌, ◌∙◌}
 use Rattle.std.proofs.Math.ListN.{set}
 use Rattle.sg_base.specs.declared.call.Call.{Call}
 use Rattle.sg_engine_laws.specs.Stubs.{stub_of}
@@ -9,25 +9,24 @@ use Rattle.sg_facts.specs.Interface.{declares}
 use Rattle.sg_facts.specs.Kinds.{AreWords, FitsKinds}
 use Rattle.sg_facts.specs.Limits.{last_client}
 use Rattle.sg_facts.specs.declared.entry.Entry.{Entry}
-use Rattle.sg_hist.specs.Recovered.{is_clients}
 use Rattle.sg_object_laws.proofs.Guarded.{keeps}
 use Rattle.sg_object_laws.proofs.Left.{stays}
 use Rattle.sg_replay.specs.Engined.{Engined}
+use Rattle.sg_seat.specs.declared.mark.MarkKind.TheVariants.{Leave, Offer, Withdraw}
 use Rattle.sg_seat.specs.WorldView.{IsFree, Seat, WorldView, seat_of, is_left_phase, offered_by, MayWithdraw, is_offered}
 use Rattle.sg_seat.specs.declared.mark.Mark.{Mark}
 use Rattle.sg_seat.specs.declared.phase.Phase.{Phase}
 use Rattle.sg_seat.specs.declared.phase.Phase.TheVariants.{Asked, Blocked, Held, Idle, Left, Receipted}
 use Rattle.sg_seat.specs.declared.withdrawn.Withdrawn.{Withdrawn}
-use Rattle.sg_track.proofs.Ascending.{later}
-use Rattle.sg_walk_laws.proofs.Found.{within}
 use Rattle.sg_walk_laws.proofs.Steps.{declared_within}
+use Rattle.sg_world.proofs.Marking.{marks_on, withdrawal_marked}
 use Rattle.sg_world.proofs.Rooming.{length_set, marks_few, offers_few, marks_set, offers_set, marks_some, offers_some}
+use Rattle.sg_world.specs.Marked.{AreMarked}
 use Rattle.sg_world.specs.Worlded.{HaveRooms, IsWorld, Rooms, marks_left, marks_due}
-use Rattle.sg_world_laws.proofs.Refusing.{refused}
-use Rattle.sg_world_laws.proofs.Seating.{client_last}
+use Rattle.sg_world_laws.proofs.Moves.{its_seat}
 use Rattle.sg_world_laws.proofs.Turns.{counted_keeps, offer_keeps, leave_keeps, seat_there, withdraw_keeps, withdraw_none}
 use Rattle.sg_world_laws.specs.Keeping.{KeepsPromise}
-use Rattle.sg_world_laws.specs.Seats.{MayBeMade}
+use Rattle.sg_world_laws.specs.Seats.{MayBeMade, IsSeated}
 use Rattle.sg_world_laws.specs.Setting.{Setting, IsSetting}
 
 pub may_make : (z : Setting) (set : IsSetting z) (call : Call) → 1 ≤ call.client → call.client ≤ last_client → declares z.iface call.fun ≡ true → FitsKinds z.iface.facts call → AreWords call.args → MayBeMade z.iface call
@@ -56,21 +55,23 @@ three_marks Receipted may = absurd may
 -- a world keeps what it keeps where what is numbered and what happened changes
 
 module _ (z : Setting) (e : Engined) (w : WorldView) (rooms later : Rooms) (is : IsWorld z e w rooms) where
-  pub turned : (seats : List Seat) (withdrawn : List Withdrawn) (marks : List Mark) (events refused : ℕ) → KeepsPromise z (record w { seats = seats; withdrawn = withdrawn; marks = marks; events = events; refused = refused }) (stub_of e)
-      → HaveRooms seats later → IsWorld z e (record w { seats = seats; withdrawn = withdrawn; marks = marks; events = events; refused = refused }) later
-  turned seats withdrawn marks events refused keeps rooms_are = record { set = is.set; keeps = keeps; tracked = is.tracked; rooms_are = rooms_are }
+  pub turned : (seats : List Seat) (withdrawn : List Withdrawn) (marks : List Mark) (events : ℕ) → KeepsPromise z (record w { seats = seats; withdrawn = withdrawn; marks = marks; events = events }) (stub_of e)
+      → HaveRooms seats later → AreMarked (record w { seats = seats; withdrawn = withdrawn; marks = marks; events = events }) → IsWorld z e (record w { seats = seats; withdrawn = withdrawn; marks = marks; events = events }) later
+  turned seats withdrawn marks events keeps rooms_are marked = record { set = is.set; keeps = keeps; tracked = is.tracked; rooms_are = rooms_are; marked = marked; counted = is.counted }
 
   -- an event that wanted memory leaves it, and takes no room away
-  pub only_counted : (events refused : ℕ) → rooms.entries ≤ later.entries → rooms.withdrawals ≤ later.withdrawals → rooms.marks ≤ later.marks → IsWorld z e (record w { events = events; refused = refused }) later
-  only_counted events refused entries withdrawals marks = record {
+  pub only_counted : (events : ℕ) → rooms.entries ≤ later.entries → rooms.withdrawals ≤ later.withdrawals → rooms.marks ≤ later.marks → IsWorld z e (record w { events = events }) later
+  only_counted events entries withdrawals marks = record {
     set = is.set;
-    keeps = counted_keeps z w (stub_of e) events refused is.keeps;
+    keeps = counted_keeps z w (stub_of e) events w.refused is.keeps;
     tracked = is.tracked;
     rooms_are = record {
       entries = (let was = is.rooms_are.entries in omega (arith, was, entries));
       withdrawals = (let was = is.rooms_are.withdrawals in omega (arith, was, withdrawals));
       marks = (let was = is.rooms_are.marks in omega (arith, was, marks));
     };
+    marked = record { entries = is.marked.entries; withdrawals = is.marked.withdrawals; phases = is.marked.phases };
+    counted = is.counted;
   }
 
   -- however its lists came about
@@ -79,44 +80,50 @@ module _ (z : Setting) (e : Engined) (w : WorldView) (rooms later : Rooms) (is :
   only_counted_of history withdrawn marks events same_history same_withdrawn same_marks more_entries more_withdrawals more_marks =
       subst (λ h. IsWorld z e (record w { history = h; withdrawn = withdrawn; marks = marks; events = events }) later) (sym same_history)
       (subst (λ x. IsWorld z e (record w { withdrawn = x; marks = marks; events = events }) later) (sym same_withdrawn)
-      (subst (λ m. IsWorld z e (record w { marks = m; events = events }) later) (sym same_marks) (only_counted events w.refused more_entries more_withdrawals more_marks)))
+      (subst (λ m. IsWorld z e (record w { marks = m; events = events }) later) (sym same_marks) (only_counted events more_entries more_withdrawals more_marks)))
 
   -- an offer, where memory was taken for all clients
   pub offered_on : (client : ℕ) (first : 1 ≤ client) (last : client ≤ length w.seats) (call : Call) → IsFree (seat_of w client).phase → call.client ≡ client → call.seq ≡ (seat_of w client).seq + 1 → MayBeMade z.iface call
-      → (marks : List Mark) (events : ℕ) → length w.seats ≤ later.entries → length w.seats ≤ later.withdrawals → 3 * length w.seats ≤ later.marks
-      → IsWorld z e (record w { seats = slice_set w.seats (client - 1) (record (seat_of w client) { phase = Asked; call = call }); marks = marks; events = events }) later
-  offered_on client first last call free its next may marks events entries withdrawals marked =
+      → (events : ℕ) → length w.seats ≤ later.entries → length w.seats ≤ later.withdrawals → 3 * length w.seats ≤ later.marks
+      → IsWorld z e (record w { seats = slice_set w.seats (client - 1) (record (seat_of w client) { phase = Asked; call = call }); marks = w.marks ++ record { client = client; kind = Offer } ∷ []; events = events }) later
+  offered_on client first last call free its next may events entries withdrawals marked =
       let new : Seat = record (seat_of w client) { phase = Asked; call = call } in
       let seats = slice_set w.seats (client - 1) new in
+      let marks = w.marks ++ record { client = client; kind = Offer } ∷ [] in
       let n = length_set w.seats (client - 1) new in
       let offers = offers_few seats in
       let all = marks_few seats in
-      turned seats w.withdrawn marks events w.refused (offer_keeps z w (stub_of e) is.keeps client first last marks events w.refused call free its next may)
+      turned seats w.withdrawn marks events (offer_keeps z w (stub_of e) is.keeps client first last marks events w.refused call free its next may)
       (record { entries = omega (arith, n, offers, entries); withdrawals = omega (arith, n, offers, withdrawals); marks = omega (arith, n, all, marked) })
+      (marks_on w is.marked client (seat_of w client) new (seat_there w client first last) first Offer refl refl refl events w.refused)
 
   -- however its lists came about
   pub offered_again : (client : ℕ) (first : 1 ≤ client) (last : client ≤ length w.seats) (call : Call) → IsFree (seat_of w client).phase → call.client ≡ client → call.seq ≡ (seat_of w client).seq + 1 → MayBeMade z.iface call
       → (history : List Entry) (seats : List Seat) (withdrawn : List Withdrawn) (marks : List Mark) (events : ℕ) → history ≡ w.history → seats ≡ slice_set w.seats (client - 1) (record (seat_of w client) { phase = Asked; call = call })
-      → withdrawn ≡ w.withdrawn → length w.seats ≤ later.entries → length w.seats ≤ later.withdrawals → 3 * length w.seats ≤ later.marks
+      → withdrawn ≡ w.withdrawn → marks ≡ w.marks ++ record { client = client; kind = Offer } ∷ [] → length w.seats ≤ later.entries → length w.seats ≤ later.withdrawals → 3 * length w.seats ≤ later.marks
       → IsWorld z e (record w { history = history; seats = seats; withdrawn = withdrawn; marks = marks; events = events }) later
-  offered_again client first last call free its next may history seats withdrawn marks events same_history set same_withdrawn entries withdrawals marked =
+  offered_again client first last call free its next may history seats withdrawn marks events same_history set same_withdrawn marks_are entries withdrawals marked =
       subst (λ h. IsWorld z e (record w { history = h; seats = seats; withdrawn = withdrawn; marks = marks; events = events }) later) (sym same_history)
       (subst (λ s. IsWorld z e (record w { seats = s; withdrawn = withdrawn; marks = marks; events = events }) later) (sym set)
       (subst (λ x. IsWorld z e (record w { seats = slice_set w.seats (client - 1) (record (seat_of w client) { phase = Asked; call = call }); withdrawn = x; marks = marks; events = events }) later) (sym same_withdrawn)
-      (offered_on client first last call free its next may marks events entries withdrawals marked)))
+      (subst (λ m. IsWorld z e (record w { seats = slice_set w.seats (client - 1) (record (seat_of w client) { phase = Asked; call = call }); marks = m; events = events }) later) (sym marks_are)
+      (offered_on client first last call free its next may events entries withdrawals marked))))
 
   -- a client that leaves, which takes one mark of those that memory was taken for
   pub left_on : (client : ℕ) (first : 1 ≤ client) (last : client ≤ length w.seats) → IsFree (seat_of w client).phase → is_left_phase (seat_of w client).phase ≡ false → (seats : List Seat) (marks : List Mark) (events : ℕ)
-      → seats ≡ slice_set w.seats (client - 1) (record (seat_of w client) { phase = Left }) → rooms.entries ≤ later.entries → rooms.withdrawals ≤ later.withdrawals → rooms.marks ≤ later.marks + 1
+      → seats ≡ slice_set w.seats (client - 1) (record (seat_of w client) { phase = Left }) → marks ≡ w.marks ++ record { client = client; kind = Leave } ∷ [] → rooms.entries ≤ later.entries → rooms.withdrawals ≤ later.withdrawals → rooms.marks ≤ later.marks + 1
       → IsWorld z e (record w { seats = seats; marks = marks; events = events }) later
-  left_on client first last free stays seats marks events set entries withdrawals marked =
+  left_on client first last free stays seats marks events set marks_are entries withdrawals marked =
       subst (λ s. IsWorld z e (record w { seats = s; marks = marks; events = events }) later) (sym set)
-      (turned (slice_set w.seats (client - 1) new) w.withdrawn marks events w.refused (leave_keeps z w (stub_of e) is.keeps client first last marks events w.refused free)
+      (subst (λ m. IsWorld z e (record w { seats = slice_set w.seats (client - 1) new; marks = m; events = events }) later) (sym marks_are)
+      (turned (slice_set w.seats (client - 1) new) w.withdrawn (w.marks ++ record { client = client; kind = Leave } ∷ []) events
+      (leave_keeps z w (stub_of e) is.keeps client first last (w.marks ++ record { client = client; kind = Leave } ∷ []) events w.refused free)
       (record {
         entries = (let was = is.rooms_are.entries in omega (arith, was, offers, entries));
         withdrawals = (let was = is.rooms_are.withdrawals in omega (arith, was, offers, withdrawals));
         marks = (let was = is.rooms_are.marks in let one = idle_marks (seat_of w client).phase free stays in omega (arith, was, all, one, marked));
-      }))
+      })
+      (marks_on w is.marked client (seat_of w client) new there first Leave refl refl refl events w.refused)))
     where
       new : Seat
       new = record (seat_of w client) { phase = Left }
@@ -141,22 +148,32 @@ module _ (z : Setting) (e : Engined) (w : WorldView) (rooms later : Rooms) (is :
   pub offers_it : (client : ℕ) → MayWithdraw (seat_of w client).phase → is_offered (seat_of w client).phase ≡ true
   offers_it client may = (withdraw_none (seat_of w client).phase may).0
 
+  -- a client's seat is as the world keeps it
+  seat_kept : (client : ℕ) → 1 ≤ client → client ≤ length w.seats → IsSeated z w.history client (seat_of w client)
+  seat_kept client first last = its_seat z w (stub_of e) is.keeps client (seat_of w client) (seat_there w client first last) first (seat_of w client) w.withdrawn w.marks w.events w.refused
+
   -- a withdrawal takes one room for withdrawals, and one mark
   pub withdrawn_on : (client : ℕ) (first : 1 ≤ client) (last : client ≤ length w.seats) → MayWithdraw (seat_of w client).phase → (seats : List Seat) (withdrawn : List Withdrawn) (gone : Withdrawn) (marks : List Mark) (events : ℕ)
-      → seats ≡ slice_set w.seats (client - 1) (record (seat_of w client) { phase = Idle }) → gone.call ≡ (seat_of w client).call → withdrawn ≡ w.withdrawn ++ gone ∷ []
+      → seats ≡ slice_set w.seats (client - 1) (record (seat_of w client) { phase = Idle }) → gone.call ≡ (seat_of w client).call → withdrawn ≡ w.withdrawn ++ gone ∷ [] → marks ≡ w.marks ++ record { client = client; kind = Withdraw } ∷ []
       → rooms.entries ≤ later.entries → rooms.withdrawals ≤ later.withdrawals + 1 → rooms.marks ≤ later.marks + 1 → IsWorld z e (record w { seats = seats; withdrawn = withdrawn; marks = marks; events = events }) later
-  withdrawn_on client first last may seats withdrawn gone marks events set its list entries withdrawals marked =
+  withdrawn_on client first last may seats withdrawn gone marks events set its list marks_are entries withdrawals marked =
       subst (λ s. IsWorld z e (record w { seats = s; withdrawn = withdrawn; marks = marks; events = events }) later) (sym set)
       (subst (λ l. IsWorld z e (record w { seats = slice_set w.seats (client - 1) new; withdrawn = l; marks = marks; events = events }) later) (sym list)
-      (turned (slice_set w.seats (client - 1) new) (w.withdrawn ++ gone ∷ []) marks events w.refused (withdraw_keeps z w (stub_of e) is.keeps client first last marks events w.refused gone may its)
+      (subst (λ m. IsWorld z e (record w { seats = slice_set w.seats (client - 1) new; withdrawn = w.withdrawn ++ gone ∷ []; marks = m; events = events }) later) (sym marks_are)
+      (turned (slice_set w.seats (client - 1) new) (w.withdrawn ++ gone ∷ []) (w.marks ++ record { client = client; kind = Withdraw } ∷ []) events
+      (withdraw_keeps z w (stub_of e) is.keeps client first last (w.marks ++ record { client = client; kind = Withdraw } ∷ []) events w.refused gone may its)
       (record {
         entries = (let was = is.rooms_are.entries in omega (arith, was, offers, one, entries));
         withdrawals = (let was = is.rooms_are.withdrawals in omega (arith, was, offers, one, withdrawals));
         marks = (let was = is.rooms_are.marks in let three = three_marks (seat_of w client).phase may in omega (arith, was, all, three, marked));
-      })))
+      })
+      (withdrawal_marked w is.marked client (seat_of w client) new there first gone own refl events w.refused))))
     where
       new : Seat
       new = record (seat_of w client) { phase = Idle }
+
+      own : gone.call.client ≡ client
+      own = ap (λ c. c.client) its ∙ (seat_kept client first last).its (withdraw_none (seat_of w client).phase may).0
 
       there : slice_get w.seats (client - 1) ≡ Some (seat_of w client)
       there = seat_there w client first last

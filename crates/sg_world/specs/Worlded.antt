@@ -1,13 +1,14 @@
 -- What contracts see of a world, and what it keeps.
 use Rattle.std.specs.List.{flat_map}
-use Rattle.std.specs.Prelude.{ℕ, ◌≡◌, ◌+◌, ◌≤◌, List, [], ◌∷◌, length}
+use Rattle.std.specs.Prelude.{ℕ, ◌≡◌, ◌+◌, ◌≤◌, List, [], ◌∷◌, length, true, ◌==◌, nat_lt}
+use Rattle.sg_base.specs.Counts.{last_count}
 use Rattle.sg_facts.specs.Facts.{Facts}
-use Rattle.sg_facts.specs.Legal.{Table, done}
+use Rattle.sg_facts.specs.Legal.{Table}
 use Rattle.sg_facts.specs.Object.{Object, file_at, object_of}
 use Rattle.sg_facts.specs.Tables.{Compiled}
 use Rattle.sg_engine_laws.specs.Stubs.{stub_of}
 use Rattle.sg_facts.specs.declared.entry.Entry.{Entry}
-use Rattle.sg_hist.specs.Recovered.{struck_in}
+use Rattle.sg_hist.specs.Recovered.{ArePointsOf, struck_in}
 use Rattle.sg_replay.specs.Engined.{Engined}
 use Rattle.sg_seat.specs.WorldView.{Seat, WorldView, offered_by}
 use Rattle.sg_seat.specs.declared.mark.Mark.{Mark}
@@ -16,6 +17,7 @@ use Rattle.sg_seat.specs.declared.phase.Phase.TheVariants.{Idle, Asked, Held, Re
 use Rattle.sg_seat.specs.declared.withdrawn.Withdrawn.{Withdrawn}
 use Rattle.sg_store.specs.Stored.{bytes_of}
 use Rattle.sg_world_laws.specs.Keeping.{KeepsPromise}
+use Rattle.sg_world.specs.Marked.{AreMarked}
 use Rattle.sg_world_laws.specs.Setting.{IsSetting, Setting}
 
 -- what contracts see of a world: its tables and the plan of its stops, which no event changes, and the rest as plain data
@@ -72,9 +74,11 @@ pub record CountsPoints (test : ℕ → List ℕ → List ℕ → Type 0) (w : W
   pub struck_so : struck_in w.run ≡ struck
   pub tested : test asked struck plan
 
--- what a world keeps
+-- what a world keeps; its points are counted exactly until a step wants memory, and then at least so, up to the end of their count
 pub record IsWorld (z : Setting) (e : Engined) (w : WorldView) (rooms : Rooms) : Type 0 where
   pub set : IsSetting z
   pub keeps : KeepsPromise z w (stub_of e)
   pub tracked : StoresObject z.iface.facts e w.history
   pub rooms_are : HaveRooms w.seats rooms
+  pub marked : AreMarked w
+  pub counted : (nat_lt w.run.points last_count ≡ true) → ArePointsOf (w.refused == 0) z.iface.facts z.ask z.parts 0 w.run.boots w.run.points

@@ -23,6 +23,6 @@ invariant_of-self g c =
       left_on (setting_of g.S.Service.ask g.S.Service.sound g.S.Service.parts e.tables) e w rooms later c.self.invariant.0 c.args.client c.requires.first
           (subst (λ x. c.args.client ≤ length x.view.seats) (sym c.self.view_is) c.requires.last)
           (subst (λ x. IsFree (seat_of x.view c.args.client).phase) (sym c.self.view_is) c.requires.free) (sym c.has_left.ensures ∙ c.if-not-has_left.true)
-          c.leave.new.self c.add.new.self.items c.saturating_add-self-inside.result c.leave.ensures (omega arith) (omega arith) c.add.ensures.room,
+          c.leave.new.self c.add.new.self.items c.saturating_add-self-inside.result c.leave.ensures c.add.ensures.items (omega arith) (omega arith) c.add.ensures.room,
       record { asked_so = c.self.invariant.1.asked_so; struck_so = c.self.invariant.1.struck_so; tested = c.self.invariant.1.tested },
     )

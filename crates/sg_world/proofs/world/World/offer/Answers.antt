@@ -1,9 +1,10 @@
 -- A world keeps what it keeps behind an offer.
-use Rattle.std.proofs.Common.{◌≡◌, ◌+◌, ◌≤◌, sym, ap, subst, arith, refl, length, true}
+use Rattle.std.proofs.Common.{◌≡◌, ◌+◌, ◌++◌, ◌∷◌, [], ◌≤◌, sym, ◌∙◌, ap, subst, arith, refl, length, true}
 use Rattle.sg_base.specs.declared.call.Call.{Call}
 use Rattle.sg_facts.specs.Interface.{declares}
 use Rattle.sg_facts.specs.Kinds.{FitsKinds}
 use Rattle.sg_seat.specs.WorldView.{IsFree, seat_of}
+use Rattle.sg_seat.specs.declared.mark.MarkKind.TheVariants.{Offer}
 use Rattle.sg_world_laws.specs.Seats.{MayBeMade}
 use Rattle.sg_world.specs.Worlded.{Rooms, setting_of, view_of}
 use Rattle.sg_world.proofs.Turning.{may_make, offered_again, only_counted_of}
@@ -25,6 +26,7 @@ invariant_of-self-2 g c =
     let may : MayBeMade z.iface call = may_make z c.self.invariant.0.set call c.requires.first (omega (arith, last, few)) declared fits c.requires.words in (
       offered_again z e w rooms later c.self.invariant.0 c.args.client c.requires.first last call (subst (λ x. IsFree (seat_of x.view c.args.client).phase) (sym c.self.view_is) c.requires.free) refl
           (ap (λ n. n + 1) c.seq.ensures) may c.reserve.new.self.items c.offer.new.self c.reserve-2.new.self.items c.add.new.self.items c.saturating_add-self-inside.result c.reserve.ensures.items c.offer.ensures c.reserve-2.ensures.items
+          (c.add.ensures.items ∙ ap (λ l. l ++ record { client = c.args.client; kind = Offer } ∷ []) c.reserve-3.ensures.items)
           (let n = c.len.ensures in let room = c.in_ok-reserve.ensures.ok in omega (arith, n, room))
           (let n = c.len-2.ensures in let room = c.in_ok-reserve-2.ensures.ok in omega (arith, n, room))
           (let n = c.len-3.ensures in let room = c.in_ok-reserve-3.ensures.ok in let left = c.add.ensures.room in omega (arith, n, room, left)),

@@ -33,6 +33,6 @@ invariant_of-self g c =
           (subst (λ x. c.args.client ≤ length x.view.seats) (sym c.self.view_is) c.requires.last)
           (subst (λ x. MayWithdraw (seat_of x.view c.args.client).phase) (sym c.self.view_is) c.requires.may)
           c.withdraw-withdrawn.new.self c.add.new.self.items c.withdraw-withdrawn.result c.add-2.new.self.items c.saturating_add-self-inside.result c.withdraw-withdrawn.ensures.seats
-          (ap (λ x. x.call) c.withdraw-withdrawn.ensures.withdrawn) c.add.ensures.items (omega arith) c.add.ensures.room c.add-2.ensures.room,
+          (ap (λ x. x.call) c.withdraw-withdrawn.ensures.withdrawn) c.add.ensures.items c.add-2.ensures.items (omega arith) c.add.ensures.room c.add-2.ensures.room,
       record { asked_so = c.self.invariant.1.asked_so; struck_so = c.self.invariant.1.struck_so; tested = c.self.invariant.1.tested },
     )
