@@ -8,5 +8,4 @@ pub mod Noted
 pub mod Plain
 pub mod Rebuilding
 pub mod Replayed
-pub mod SameTold
 pub mod Waited

@@ -8,7 +8,7 @@ use Rattle.sg_base.specs.declared.call.Call.{Call}
 use Rattle.sg_base.specs.declared.reply.Reply.{Reply}
 use Rattle.sg_commit_laws.specs.Serving.{IsCommittedIn, IsServedCall}
 use Rattle.sg_commit_laws.specs.Telling.{TellsAfter}
-use Rattle.sg_commit_laws.proofs.Alike.{read_alike}
+use Rattle.sg_world_laws.proofs.Alike.{read_alike}
 use Rattle.sg_commit_laws.proofs.Behind.{answered_it, live_all, moved, names_by, sound_all, told_by, wait_after}
 use Rattle.sg_commit_laws.proofs.Noted.{cell_noted, held_noted, in_boots_noted, items_noted, last_noted, length_noted, own_noted, spelt_is}
 use Rattle.sg_commit_laws.proofs.Numbers.{numbers_served}

@@ -8,7 +8,7 @@ use Rattle.sg_base.specs.declared.call.Call.{Call}
 use Rattle.sg_base.specs.declared.reply.Reply.{Reply}
 use Rattle.sg_base.specs.declared.reply.Reply.TheVariants.{Ok, Refused}
 use Rattle.sg_commit_laws.specs.Serving.{IsHeldBy, IsServedCall}
-use Rattle.sg_commit_laws.proofs.Alike.{read_alike}
+use Rattle.sg_world_laws.proofs.Alike.{read_alike}
 use Rattle.sg_commit_laws.proofs.Behind.{answered_it, moved, names_by, patch_it, told_by}
 use Rattle.sg_commit_laws.proofs.Noted.{cell_noted, held_noted, in_boots_noted, items_noted, last_noted, length_noted, own_noted, spelt_is}
 use Rattle.sg_commit_laws.proofs.Numbers.{numbers_served}

@@ -1,4 +1,3 @@
-pub mod Alike
 pub mod Behind
 pub mod Committed
 pub mod Counting

@@ -10,7 +10,7 @@ use Rattle.sg_base.specs.declared.reply.Good.{Good}
 use Rattle.sg_base.specs.declared.reply.Reply.{Reply}
 use Rattle.sg_base.specs.declared.reply.Reply.TheVariants.{Ok, Refused}
 use Rattle.sg_commit_laws.specs.Serving.{IsServedCall}
-use Rattle.sg_commit_laws.proofs.Alike.{read_alike}
+use Rattle.sg_world_laws.proofs.Alike.{read_alike}
 use Rattle.sg_commit_laws.proofs.Behind.{apart_ok, apart_refused, names_by, patch_it, told_by}
 use Rattle.sg_commit_laws.proofs.Recovering.{given_pushed, own}
 use Rattle.sg_facts.specs.declared.entry.Entry.{Entry}

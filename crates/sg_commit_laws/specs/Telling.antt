@@ -1,4 +1,4 @@
--- What the stubs tell, of which only look-ups count, and what they tell behind an answered call.
+-- What the stubs tell behind an answered call.
 use Rattle.std.specs.Prelude.{ℕ, ◌≡◌, ◌⊎◌, ◌<◌, ◌==◌, ◌&&◌, not, Bool, true, false, if◌then◌else◌, List}
 use Rattle.sg_base.specs.declared.call.Call.{Call}
 use Rattle.sg_base.specs.declared.reply.Reply.{Reply}
@@ -12,12 +12,6 @@ use Rattle.sg_held_laws.specs.Progress.{complete, fresh}
 use Rattle.sg_held_laws.specs.Stepping.{present_with}
 use Rattle.sg_hist.specs.Reading.{desc_of}
 use Rattle.sg_world_laws.specs.Keeping.{Stub}
-
--- stubs tell the same: each id has the same service id, its row is as far, and the same files are present
-pub record TellSame (stub other : Stub) : Type 0 where
-  pub names : (id : ℕ) → named other.names id ≡ named stub.names id
-  pub told : (id : ℕ) → other.told id ≡ stub.told id
-  pub present : (path : List ℕ) → other.present path ≡ stub.present path
 
 -- ---- behind an answered call
 

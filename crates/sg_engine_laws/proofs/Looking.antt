@@ -8,7 +8,8 @@ use Rattle.sg_base.specs.declared.call.Call.{Call}
 use Rattle.sg_base.specs.declared.reply.Good.{Good}
 use Rattle.sg_base.specs.declared.reply.Reply.{Reply}
 use Rattle.sg_base.specs.declared.reply.Reply.TheVariants.{Ok, Refused}
-use Rattle.sg_commit_laws.specs.Telling.{IsDescToldBy, IsToldBy, TellSame, TellsAfter, has_ended, makes_id}
+use Rattle.sg_commit_laws.specs.Telling.{IsDescToldBy, IsToldBy, TellsAfter, has_ended, makes_id}
+use Rattle.sg_world_laws.specs.Keeping.{TellSame}
 use Rattle.sg_commit_laws.proofs.Behind.{apart_ok, apart_refused}
 use Rattle.sg_facts.specs.declared.outcome.Patch.{Patch}
 use Rattle.sg_facts.specs.Alike.{SameReply, named}

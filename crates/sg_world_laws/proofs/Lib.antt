@@ -1,4 +1,5 @@
 pub mod Ahead
+pub mod Alike
 pub mod Asked
 pub mod Begun
 pub mod Booted

@@ -32,6 +32,12 @@ pub record Stub : Type 0 where
   pub told : ℕ → Told
   pub present : List ℕ → Bool
 
+-- stubs tell the same: each id has the same service id, its row is as far, and the same files are present
+pub record TellSame (stub other : Stub) : Type 0 where
+  pub names : (id : ℕ) → named other.names id ≡ named stub.names id
+  pub told : (id : ℕ) → other.told id ≡ stub.told id
+  pub present : (path : List ℕ) → other.present path ≡ stub.present path
+
 -- a world with its boots and its service, spelt out
 abbrev pub standing : WorldView → Boot → List Boot → Option Object → WorldView
 standing w b boots running = record w { run = record { boots = b ∷ boots; points = w.run.points }; running = running }
