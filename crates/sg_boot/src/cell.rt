@@ -79,9 +79,10 @@ impl<S: Service> Cell<S> {
     }
 
     /// Takes the memory for one boot, and for one item of `invoke` whole: 4 words, a key, and two lists of 256 bytes. What was
-    /// done stays, whatever the answer.
+    /// done stays and room is never lost, whatever the answer.
     pub fn reserve(&mut self, alloc: Global) -> Result<(), NoMemory>
         ensures ok { OnOk result (1 ≤ self.new.room) }
+        ensures room { self.old.room ≤ self.new.room }
         ensures running { self.new.running ≡ self.old.running }
         ensures run { self.new.run ≡ self.old.run }
     {
