@@ -5,3 +5,4 @@ pub mod Naming
 pub mod Serving
 pub mod Stepped
 pub mod Telling
+pub mod Fitting
