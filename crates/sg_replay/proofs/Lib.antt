@@ -1,8 +1,8 @@
 pub mod Committed
 pub mod Due
+pub mod Fitting
 pub mod Marks
 pub mod Naming
 pub mod Serving
 pub mod Stepped
 pub mod Telling
-pub mod Fitting
