@@ -1,5 +1,6 @@
 // Asking a service, with the point behind its reply.
 ghost use Rattle.std.specs.Prelude.{◌≡◌};
+ghost use Rattle.sg_facts.specs.Invoke.{FitsRoom};
 ghost use Rattle.sg_facts.specs.Kinds.{MayAsk};
 ghost use Rattle.sg_boot.specs.Inside.Asking.{Asks};
 ghost use Rattle.sg_boot.specs.Inside.Rooms.{FitsItemRoom};
@@ -21,6 +22,7 @@ pub(crate) fn ask<S: Service, T: Stops>(
         (record { asked = T.asked stops.old; struck = T.struck stops.old }) result
         (S.object service.new) (record { asked = T.asked stops.new; struck = T.struck stops.new }) }
     ensures room { FitsItemRoom result }
+    ensures fits { FitsRoom (S.object service.old) result }
     ensures plan { T.plan stops.new ≡ T.plan stops.old }
     ensures test { T.test (T.asked stops.old) (T.struck stops.old) (T.plan stops.old)
         → T.test (T.asked stops.new) (T.struck stops.new) (T.plan stops.new) }

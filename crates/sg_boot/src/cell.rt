@@ -1,7 +1,7 @@
 // A service with its journal.
 ghost use Rattle.std.specs.Prelude.{◌≡◌, ◌≤◌, true, [], length, None, Some, IsSome, IfOk, OnOk, OnErr};
 ghost use Rattle.std.specs.Option.{is_some, option_copied, option_map};
-ghost use Rattle.sg_facts.specs.Invoke.{loaded};
+ghost use Rattle.sg_facts.specs.Invoke.{FitsRoom, loaded};
 ghost use Rattle.sg_facts.specs.Object.{Object, empty_object};
 ghost use Rattle.sg_facts.specs.Trace.{run_of};
 ghost use Rattle.sg_recovery_laws.specs.Growing.{booted};
@@ -79,9 +79,10 @@ impl<S: Service> Cell<S> {
     }
 
     /// Takes the memory for one boot, and for one item of `invoke` whole: 4 words, a key, and two lists of 256 bytes. What was
-    /// done stays, whatever the answer.
+    /// done stays and room is never lost, whatever the answer.
     pub fn reserve(&mut self, alloc: Global) -> Result<(), NoMemory>
         ensures ok { OnOk result (1 ≤ self.new.room) }
+        ensures room { self.old.room ≤ self.new.room }
         ensures running { self.new.running ≡ self.old.running }
         ensures run { self.new.run ≡ self.old.run }
     {
@@ -91,7 +92,7 @@ impl<S: Service> Cell<S> {
     /// Asks the running service a call, and then the point behind its reply, and notes the item with the number of points asked,
     /// in the room that was taken for it. `shown` is the call under the clients' ids. `Stopped` comes from a part of an Ok or from
     /// that point: the service has failed then, and its boot ends at the last point asked. After `NoMemory`, which is the
-    /// service's own, nothing changed.
+    /// service's own, nothing changed. A reply has at most 4 words and 256 bytes, and a patch fits its file.
     pub fn invoke<T: Stops>(
         &mut self,
         alloc: Global,
@@ -104,6 +105,7 @@ impl<S: Service> Cell<S> {
         ensures outcome { (held : Object) → self.old.running ≡ Some held → Invoked S.facts S.ask S.parts held self.old tag shown call.now
             (record { asked = T.asked stops.old; struck = T.struck stops.old }) result
             self.new (record { asked = T.asked stops.new; struck = T.struck stops.new }) }
+        ensures fits { (held : Object) → self.old.running ≡ Some held → FitsRoom held result }
         ensures plan { T.plan stops.new ≡ T.plan stops.old }
         ensures test { T.test (T.asked stops.old) (T.struck stops.old) (T.plan stops.old)
             → T.test (T.asked stops.new) (T.struck stops.new) (T.plan stops.new) }

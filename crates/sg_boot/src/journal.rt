@@ -62,6 +62,7 @@ impl Journal {
     /// Takes the memory for one item and one boot.
     pub(crate) fn reserve(&mut self, alloc: Global) -> Result<(), NoMemory>
         ensures ok { OnOk result (1 ≤ self.new.room) }
+        ensures room { self.old.room ≤ self.new.room }
         ensures run { self.new.run ≡ self.old.run }
     {
         self.trace.boots.reserve(1)?;
@@ -155,6 +156,7 @@ fn reserve_item(boots: &mut BootList) -> Result<(), NoMemory>
     ensures begun { boots.new.items ≢ [] }
     ensures boots { map boot_of boots.new.items ≡ map boot_of boots.old.items }
     ensures room { boots.old.room ≤ boots.new.room }
+    ensures last { last_room boots.old.items ≤ last_room boots.new.items }
     ensures ok { OnOk result (1 ≤ last_room boots.new.items) }
 {
     match boots.pop() {

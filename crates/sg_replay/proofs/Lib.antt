@@ -1,5 +1,6 @@
 pub mod Committed
 pub mod Due
+pub mod Fitting
 pub mod Marks
 pub mod Naming
 pub mod Serving

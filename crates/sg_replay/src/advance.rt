@@ -1,5 +1,5 @@
 // One step more of what a call needs: a call of a walk.
-ghost use Rattle.std.specs.Prelude.{◌≡◌, ◌<◌, ◌≤◌, ◌^◌, ℕ, List, true, [], None, Some, IsSome, IfOk, length};
+ghost use Rattle.std.specs.Prelude.{◌≡◌, ◌<◌, ◌≤◌, ◌^◌, ℕ, List, true, [], None, Some, IsSome, IfOk, OnErr, length};
 ghost use Rattle.std.specs.Option.{option_copied};
 ghost use Rattle.sg_base.specs.declared.call.Call.{Call as IsCall};
 ghost use Rattle.sg_facts.specs.Object.{Object};
@@ -30,8 +30,8 @@ pub enum Advanced {
 
 impl<S: Service> Engine<S> {
     /// Does what is to be done next for a call with these needs, for a client: replays the next call of a row's walk, or loads
-    /// the needed file. Its room is taken first, and after `NoMemory` nothing changed but room. `Struck` comes where the service
-    /// stopped within the call. What stubs and storage keep stays.
+    /// the needed file. Its room is taken first, and after `NoMemory` nothing changed but room, of which the cell lost none.
+    /// `Struck` comes where the service stopped within the call. What stubs and storage keep stays.
     pub fn advance<T: Stops>(
         &mut self,
         alloc: Global,
@@ -50,6 +50,7 @@ impl<S: Service> Engine<S> {
             → LoadsOne S.facts held self.old client key
             (record { asked = T.asked stops.old; struck = T.struck stops.old }) result
             self.new (record { asked = T.asked stops.new; struck = T.struck stops.new }) }
+        ensures cell_room { OnErr result (self.old.cell.room ≤ self.new.cell.room) }
         ensures tables { self.new.tables ≡ self.old.tables }
         ensures stored { self.new.stored ≡ self.old.stored }
         ensures tracked { self.new.tracked ≡ self.old.tracked }
@@ -77,6 +78,7 @@ impl<S: Service> Engine<S> {
         ensures outcome { (held : Object) (key : List ℕ) → self.old.cell.running ≡ Some held → file.now ≡ Some key
             → LoadsOne S.facts held self.old client key (record { asked = points; struck = [] }) result
             self.new (record { asked = points; struck = [] }) }
+        ensures cell_room { OnErr result (self.old.cell.room ≤ self.new.cell.room) }
         ensures tables { self.new.tables ≡ self.old.tables }
         ensures stored { self.new.stored ≡ self.old.stored }
         ensures tracked { self.new.tracked ≡ self.old.tracked }
@@ -111,6 +113,7 @@ impl<S: Service> Engine<S> {
             → ReplaysOne S.facts S.ask S.parts held self.old id k client shown
             (record { asked = T.asked stops.old; struck = T.struck stops.old }) result
             self.new (record { asked = T.asked stops.new; struck = T.struck stops.new }) }
+        ensures cell_room { OnErr result (self.old.cell.room ≤ self.new.cell.room) }
         ensures tables { self.new.tables ≡ self.old.tables }
         ensures stored { self.new.stored ≡ self.old.stored }
         ensures tracked { self.new.tracked ≡ self.old.tracked }

@@ -21,7 +21,7 @@ use std::alloc::Global;
 
 impl<S: Service> Engine<S> {
     /// Takes the memory for one boot, or for one `serve` and `commit` of a call with these needs. What was done, what is stored,
-    /// the rows, the names, and which files are present stay, whatever the answer.
+    /// the rows, the names, and which files are present stay, and the cell loses no room, whatever the answer.
     pub fn reserve(&mut self, alloc: Global, call: &Call, needs: &Needs) -> Result<(), NoMemory>
         ensures cell_room { OnOk result (1 ≤ self.new.cell.room) }
         ensures row_room { OnOk result (1 ≤ self.new.tracked.spare) }
@@ -29,6 +29,7 @@ impl<S: Service> Engine<S> {
         ensures stored_room { OnOk result (1 ≤ self.new.stored.spare) }
         ensures file_room { OnOk result (IfSome needs.now.file (HasRoom self.new.stored)) }
         ensures mark { OnOk result (IfSome needs.now.file (HasMark self.new.present)) }
+        ensures cell_kept { self.old.cell.room ≤ self.new.cell.room }
         ensures rooms { (key : List ℕ) → HasRoom self.old.stored key → HasRoom self.new.stored key }
         ensures marks { (key : List ℕ) → HasMark self.old.present key → HasMark self.new.present key }
         ensures tables { self.new.tables ≡ self.old.tables }

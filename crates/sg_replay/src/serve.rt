@@ -1,5 +1,6 @@
 // Serving a call that needs nothing any more.
 ghost use Rattle.std.specs.Prelude.{◌≡◌, ◌+◌, ◌≤◌, Some};
+ghost use Rattle.sg_facts.specs.Invoke.{FitsRoom};
 ghost use Rattle.sg_facts.specs.Object.{Object};
 ghost use Rattle.sg_replay.specs.Serving.{MayServe, ServesOne, makes};
 
@@ -13,12 +14,14 @@ impl<S: Service> Engine<S> {
     /// Serves a call that needs nothing any more: asks the running service under its own ids, and tells its answer under the
     /// clients'. What a creation made gets the next id, which stands for the service's from then on. `Stopped` comes where the
     /// service stopped within the call or at the point behind its reply: it has failed then. After `NoMemory` nothing changed, and
-    /// nothing was asked. The rows, the receipts, the files and which of them are present stay, whatever the answer.
+    /// nothing was asked. The rows, the receipts, the files and which of them are present stay, whatever the answer. A reply has
+    /// at most 4 words and 256 bytes, and a patch fits its file as the service had it.
     pub fn serve<T: Stops>(&mut self, alloc: Global, stops: &mut T, call: &Call) -> Outcome
         requires { MayServe S.facts S.ask self.old call.now }
         ensures outcome { (held : Object) → self.old.cell.running ≡ Some held → ServesOne S.facts S.ask S.parts held self.old call.now
             (record { asked = T.asked stops.old; struck = T.struck stops.old }) result
             self.new (record { asked = T.asked stops.new; struck = T.struck stops.new }) }
+        ensures fits { (held : Object) → self.old.cell.running ≡ Some held → FitsRoom held result }
         ensures names_room { self.old.names.spare ≤ self.new.names.spare + 1 }
         ensures tables { self.new.tables ≡ self.old.tables }
         ensures stored { self.new.stored ≡ self.old.stored }
