@@ -1,5 +1,5 @@
 -- An engine's advance in a world: what is missing may be done, and what it does is the next event, behind which the world keeps what it keeps.
-use Rattle.std.proofs.Common.{Bool, List, None, Some, [], ap, arith, cond, false, inl, inr, length, refl, subst, suc, sym, true, ℕ, ◌++◌, ◌+◌, ◌==◌, ◌∙◌, ◌∷◌, ◌≡◌, ◌≢◌, ◌≤◌, ◌⊎◌}
+use Rattle.std.proofs.Common.{Bool, List, None, Some, [], ap, arith, cond, false, inl, inr, length, refl, subst, suc, sym, true, ℕ, ◌++◌, ◌+◌, ◌==◌, ◌∙◌, ◌∷◌, ◌≡◌, ◌≢◌, ◌≤◌, ◌⊎◌, ◌||◌}
 use Rattle.std.proofs.lemmas.Bool.Decides.{eqb_tells}
 use Rattle.sg_advance_laws.proofs.Advances.{ready, replay_stopped, replay_stopped_next, replayed, replayed_next}
 use Rattle.sg_advance_laws.proofs.Rebuilding.{is_new}
@@ -43,6 +43,20 @@ use Rattle.sg_world_laws.specs.Keeping.{KeepsPromise, Stub, TellSame, standing}
 use Rattle.sg_world_laws.specs.Setting.{IsSetting, Setting, stubs_of}
 use Rattle.sg_world_laws.specs.Turns.{IsLetIn}
 use Rattle.sg_replay.specs.declared.todo.Todo.TheVariants.{Walk as ToWalk}
+use Rattle.std.specs.Str.{bytes_eq}
+use Rattle.sg_facts.specs.Object.{file_at}
+use Rattle.sg_facts.specs.Invoke.{loaded}
+use Rattle.sg_boot.specs.Invoking.{item_of_load, load_outcome}
+use Rattle.sg_walk_laws.proofs.Files.{told as which}
+use Rattle.sg_advance_laws.specs.Advancing.{IsLeftToLoad, IsLoadItem, loaded_stub}
+use Rattle.sg_advance_laws.proofs.Advances.{file_loaded, loaded_next}
+use Rattle.sg_advance_laws.proofs.Loading.{has_files}
+use Rattle.sg_engine_laws.proofs.Left.{left_to_load}
+use Rattle.sg_replay.specs.Replaying.{Loads, MayAdvance}
+use Rattle.sg_replay.specs.Present.{is_present}
+use Rattle.sg_replay.specs.declared.todo.Todo.{Todo}
+use Rattle.sg_replay.specs.declared.todo.Todo.TheVariants.{Load as ToLoad}
+use Rattle.sg_store.specs.Stored.{bytes_of}
 
 -- ---- what stands for an id
 
@@ -81,6 +95,26 @@ told_next real k done rest fun is = by rest (long done rest)
     by (f ∷ rest) its =
         ap (λ b. told_of (cond b (Live real) (Partial real k))) (other_test k (length (done ++ fun ∷ f ∷ rest)) (λ same. absurd (omega (arith, is, its, same))))
         ∙ ap (λ n. begun n) (let step : k ≡ suc (length done) = omega (arith, is) in step)
+
+-- ---- files
+
+turned : (a c : List ℕ) → bytes_eq a c ≡ bytes_eq c a
+turned a c = elim (which a c) [
+  | inl one ↦ elim (which c a) [
+    | inl two ↦ one.0 ∙ sym two.0
+    | inr apart ↦ absurd (apart.1 (sym one.1))
+  ]
+  | inr apart ↦ elim (which c a) [
+    | inl one ↦ absurd (apart.1 (sym one.1))
+    | inr two ↦ apart.0 ∙ sym two.0
+  ]
+]
+
+turned_or : (a b : Bool) → (a || b) ≡ (b || a)
+turned_or true true = refl
+turned_or true false = refl
+turned_or false true = refl
+turned_or false false = refl
 
 -- ---- an advance
 
@@ -224,3 +258,49 @@ module _ (z : Setting) (set : IsSetting z) (w : WorldView) (b : Boot) (boots : L
             (keeps_alike z (with_noted (standing w b boots (Some v)) replayed_item later.asked (after z.iface.facts v (next_call z.iface.facts (pairs_of e.names.known) it.row it.done it.fun) (Ok it.good)) w.seats)
             (replayed_stub (stub_of e) id it.row it.done it.rest it.good) (stub_of new) tells_now
             (replayed z set w b boots v (stub_of e) k call let_in id left it replayed_item (its_item later.asked (Replied (Ok r.good) r.patch)) replied_is later.asked))
+
+  -- ---- a file is loaded
+
+  module _ (due : missing e needs_now ≡ Some ToLoad) (key : List ℕ) (its : needs_now.file ≡ Some key) (points : ℕ) where
+    to_load : IsLeftToLoad z (standing w b boots (Some v)) (stub_of e) call key
+    to_load =
+        let file = left_to_load z set (standing w b boots (Some v)) e stands call due in
+        let one : Some file.0 ≡ Some key = sym file.1.file ∙ its in
+        let same : file.0 ≡ key = cc one in
+        subst (IsLeftToLoad z (standing w b boots (Some v)) (stub_of e) call) same file.1
+
+    abbrev loaded_item : Item
+    loaded_item = item_of_load call.client points key (bytes_of e.stored key)
+
+    its_load : IsLoadItem call.client key (file_at (object_of z.iface.facts w.history).files key) loaded_item
+    its_load = record { tag = refl; outcome = ap (load_outcome key) (stands.files key) }
+
+    -- its item is the next, and the world keeps what it keeps
+    pub loads_next : IsNextItem (stubs_of z) w.history (unanswered (standing w b boots (Some v))) (place_behind [] (b ∷ boots) loaded_item)
+    loads_next = loaded_next z set w b boots v (stub_of e) k call let_in key to_load loaded_item its_load
+
+    module _ (new : Engined) (l : Loads z.iface.facts v e call.client key points new) where
+      tells_loaded : TellSame (loaded_stub (stub_of e) key) (stub_of new)
+      tells_loaded = record {
+        names = λ x. named_in_pairs new.names.known x ∙ ap real_or_zero (l.names x) ∙ sym (named_in_pairs e.names.known x);
+        told = λ x. ap told_of (l.names x);
+        present = λ path. l.present path ∙ turned_or (bytes_eq path key) (is_present e.present path) ∙ ap (λ t. is_present e.present path || t) (turned path key);
+      }
+
+      pub loads_keeps : KeepsPromise z (with_noted (standing w b boots (Some v)) loaded_item points (loaded z.iface.facts v key (bytes_of e.stored key)) w.seats) (stub_of new)
+      loads_keeps =
+          subst (λ bytes. KeepsPromise z (with_noted (standing w b boots (Some v)) loaded_item points (loaded z.iface.facts v key bytes) w.seats) (stub_of new)) (sym (stands.files key))
+          (keeps_alike z (with_noted (standing w b boots (Some v)) loaded_item points (loaded z.iface.facts v key (file_at (object_of z.iface.facts w.history).files key)) w.seats)
+          (loaded_stub (stub_of e) key) (stub_of new) tells_loaded (file_loaded z set w b boots v (stub_of e) k call let_in key to_load loaded_item its_load points))
+
+  -- ---- what is missing may be done
+
+  pub may_advance : (todo : Todo) → e.cell.running ≡ Some v → missing e needs_now ≡ Some todo → MayAdvance z.iface.facts z.ask e needs_now todo
+  may_advance todo up due = record {
+    held = v;
+    up = up;
+    due = due;
+    walk = λ id n is. let now = due ∙ ap (λ t. Some t) is in
+        (replayed_call z.iface.facts (it id n now).row (is_none (it id n now).done) (it id n now).fun, replayable id n now);
+    load = λ is. let file = left_to_load z set (standing w b boots (Some v)) e stands call (due ∙ ap (λ t. Some t) is) in has_files z set w b boots v (stub_of e) k call let_in file.0 file.1;
+  }
