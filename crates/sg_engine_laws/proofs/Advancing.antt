@@ -8,7 +8,7 @@ use Rattle.sg_base.specs.declared.call.Call.{Call}
 use Rattle.sg_base.specs.declared.reply.Reply.TheVariants.{Ok}
 use Rattle.sg_boot.specs.Invoking.{item_of_call}
 use Rattle.sg_engine_laws.proofs.Left.{first_left}
-use Rattle.sg_engine_laws.specs.Engines.{IsEngineOf}
+use Rattle.sg_engine_laws.specs.Engines.{IsEngineOf, as_shown}
 use Rattle.sg_engine_laws.specs.Stubs.{stub_of, told_of}
 use Rattle.sg_facts.proofs.RowLists.{id_of_row}
 use Rattle.sg_facts.specs.Alike.{named}
@@ -57,6 +57,8 @@ use Rattle.sg_replay.specs.Present.{is_present}
 use Rattle.sg_replay.specs.declared.todo.Todo.{Todo}
 use Rattle.sg_replay.specs.declared.todo.Todo.TheVariants.{Load as ToLoad}
 use Rattle.sg_store.specs.Stored.{bytes_of}
+use Rattle.sg_boot.specs.Invoking.{with_item, with_stop}
+use Rattle.sg_replay.specs.Replaying.{IsStruck}
 
 -- ---- what stands for an id
 
@@ -179,6 +181,15 @@ module _ (z : Setting) (set : IsSetting z) (w : WorldView) (b : Boot) (boots : L
         pub struck_keeps : (later : Stub) → KeepsPromise z (stopped_within (standing w b boots (Some v)) stopped_item points points) later
         struck_keeps later = replay_stopped z set w b boots v (stub_of e) k call let_in id left it stopped_item (its_item points Stopped) refl points points later
 
+      -- and so the world as the engine shows it
+      pub struck_shown : (start : Points) (new : Engined) (later : Points) → IsStruck z.ask z.parts v e id n call.client shown start new later → e.cell.run ≡ (standing w b boots (Some v)).run
+          → KeepsPromise z (as_shown (standing w b boots (Some v)) new) (stub_of new)
+      struck_shown start new later t run_is =
+          subst (λ x. KeepsPromise z (record (standing w b boots (Some v)) { run = x; running = new.cell.running }) (stub_of new))
+          (sym (t.notes.run ∙ ap (λ x. with_stop (with_item x (stopped_item later.asked) later.asked) later.asked) run_is))
+          (subst (λ x. KeepsPromise z (record (standing w b boots (Some v)) { run = with_stop (with_item (standing w b boots (Some v)).run (stopped_item later.asked) later.asked) later.asked; running = x }) (stub_of new))
+          (sym t.notes.running) (struck_keeps later.asked (stub_of new)))
+
       -- it was replayed
       module _ (start : Points) (new : Engined) (later : Points) (r : Replays z.iface.facts z.ask z.parts v e id n call.client shown start new later) (present : KeepsPresent e new) where
         abbrev replayed_item : Item
@@ -259,6 +270,12 @@ module _ (z : Setting) (set : IsSetting z) (w : WorldView) (b : Boot) (boots : L
             (replayed_stub (stub_of e) id it.row it.done it.rest it.good) (stub_of new) tells_now
             (replayed z set w b boots v (stub_of e) k call let_in id left it replayed_item (its_item later.asked (Replied (Ok r.good) r.patch)) replied_is later.asked))
 
+        -- and so the world as the engine shows it
+        pub replays_shown : e.cell.run ≡ (standing w b boots (Some v)).run → KeepsPromise z (as_shown (standing w b boots (Some v)) new) (stub_of new)
+        replays_shown run_is =
+            subst (λ x. KeepsPromise z (record (standing w b boots (Some v)) { run = x; running = new.cell.running }) (stub_of new)) (sym (r.notes.run ∙ ap (λ x. with_item x replayed_item later.asked) run_is))
+            (subst (λ x. KeepsPromise z (record (standing w b boots (Some v)) { run = with_item (standing w b boots (Some v)).run replayed_item later.asked; running = x }) (stub_of new)) (sym r.notes.running) replays_keeps)
+
   -- ---- a file is loaded
 
   module _ (due : missing e needs_now ≡ Some ToLoad) (key : List ℕ) (its : needs_now.file ≡ Some key) (points : ℕ) where
@@ -292,6 +309,12 @@ module _ (z : Setting) (set : IsSetting z) (w : WorldView) (b : Boot) (boots : L
           subst (λ bytes. KeepsPromise z (with_noted (standing w b boots (Some v)) loaded_item points (loaded z.iface.facts v key bytes) w.seats) (stub_of new)) (sym (stands.files key))
           (keeps_alike z (with_noted (standing w b boots (Some v)) loaded_item points (loaded z.iface.facts v key (file_at (object_of z.iface.facts w.history).files key)) w.seats)
           (loaded_stub (stub_of e) key) (stub_of new) tells_loaded (file_loaded z set w b boots v (stub_of e) k call let_in key to_load loaded_item its_load points))
+
+      -- and so the world as the engine shows it
+      pub loads_shown : e.cell.run ≡ (standing w b boots (Some v)).run → KeepsPromise z (as_shown (standing w b boots (Some v)) new) (stub_of new)
+      loads_shown run_is =
+          subst (λ x. KeepsPromise z (record (standing w b boots (Some v)) { run = x; running = new.cell.running }) (stub_of new)) (sym (l.run ∙ ap (λ x. with_item x loaded_item points) run_is))
+          (subst (λ x. KeepsPromise z (record (standing w b boots (Some v)) { run = with_item (standing w b boots (Some v)).run loaded_item points; running = x }) (stub_of new)) (sym l.running) loads_keeps)
 
   -- ---- what is missing may be done
 
