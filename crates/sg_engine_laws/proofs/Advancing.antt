@@ -59,6 +59,7 @@ use Rattle.sg_replay.specs.declared.todo.Todo.TheVariants.{Load as ToLoad}
 use Rattle.sg_store.specs.Stored.{bytes_of}
 use Rattle.sg_boot.specs.Invoking.{with_item, with_stop}
 use Rattle.sg_replay.specs.Replaying.{IsStruck}
+use Rattle.sg_replay.specs.Replaying.{IsUnchanged}
 
 -- ---- what stands for an id
 
@@ -117,6 +118,22 @@ turned_or true true = refl
 turned_or true false = refl
 turned_or false true = refl
 turned_or false false = refl
+
+-- ---- nothing was done
+
+-- where there was no memory the world keeps what it keeps
+pub unchanged_shown : (z : Setting) (w : WorldView) (e new : Engined) (start later : Points) → KeepsPromise z w (stub_of e) → e.cell.run ≡ w.run → e.cell.running ≡ w.running → IsUnchanged e start new later → KeepsPresent e new
+    → KeepsPromise z (as_shown w new) (stub_of new)
+unchanged_shown z w e new start later k run_is running_is t present =
+    subst (λ x. KeepsPromise z (record w { run = x; running = new.cell.running }) (stub_of new)) (sym (t.run ∙ run_is))
+    (subst (λ x. KeepsPromise z (record w { running = x }) (stub_of new)) (sym (t.running ∙ running_is)) (keeps_alike z w (stub_of e) (stub_of new) tells k))
+  where
+    tells : TellSame (stub_of e) (stub_of new)
+    tells = record {
+      names = λ x. named_in_pairs new.names.known x ∙ ap real_or_zero (t.names x) ∙ sym (named_in_pairs e.names.known x);
+      told = λ x. ap told_of (t.names x);
+      present = present;
+    }
 
 -- ---- an advance
 
