@@ -1,21 +1,23 @@
 -- An engine's advance in a world: what is missing may be done, and what it does is the next event, behind which the world keeps what it keeps.
 use Rattle.std.proofs.Common.{Bool, List, None, Some, [], ap, arith, cond, false, inl, inr, length, refl, subst, suc, sym, true, ℕ, ◌++◌, ◌+◌, ◌==◌, ◌∙◌, ◌∷◌, ◌≡◌, ◌≢◌, ◌≤◌, ◌⊎◌, ◌||◌}
 use Rattle.std.proofs.lemmas.Bool.Decides.{eqb_tells}
-use Rattle.sg_advance_laws.proofs.Advances.{ready, replay_stopped, replay_stopped_next, replayed, replayed_next}
+use Rattle.std.specs.Str.{bytes_eq}
+use Rattle.sg_advance_laws.proofs.Advances.{file_loaded, loaded_next, ready, replay_stopped, replay_stopped_next, replayed, replayed_next}
+use Rattle.sg_advance_laws.proofs.Loading.{has_files}
 use Rattle.sg_advance_laws.proofs.Rebuilding.{is_new}
-use Rattle.sg_advance_laws.specs.Advancing.{IsFirstLeft, IsRebuildable, IsReplayItem, replayed_stub, stopped_within, with_noted}
+use Rattle.sg_advance_laws.specs.Advancing.{IsFirstLeft, IsLeftToLoad, IsLoadItem, IsRebuildable, IsReplayItem, loaded_stub, replayed_stub, stopped_within, with_noted}
 use Rattle.sg_base.specs.declared.call.Call.{Call}
 use Rattle.sg_base.specs.declared.reply.Reply.TheVariants.{Ok}
-use Rattle.sg_boot.specs.Invoking.{item_of_call}
-use Rattle.sg_engine_laws.proofs.Left.{first_left}
+use Rattle.sg_boot.specs.Invoking.{item_of_call, item_of_load, load_outcome, with_item, with_stop}
+use Rattle.sg_engine_laws.proofs.Left.{first_left, left_to_load}
 use Rattle.sg_engine_laws.specs.Engines.{IsEngineOf, as_shown}
 use Rattle.sg_engine_laws.specs.Stubs.{stub_of, told_of}
 use Rattle.sg_facts.proofs.RowLists.{id_of_row}
 use Rattle.sg_facts.specs.Alike.{named}
-use Rattle.sg_facts.specs.Invoke.{Points}
+use Rattle.sg_facts.specs.Invoke.{Points, loaded}
 use Rattle.sg_facts.specs.Laws.{is_none, names_after, next_call}
 use Rattle.sg_facts.specs.Needs.{Needs, needs}
-use Rattle.sg_facts.specs.Object.{Object, after, object_of, patch_of}
+use Rattle.sg_facts.specs.Object.{Object, after, file_at, object_of, patch_of}
 use Rattle.sg_facts.specs.Trace.{Boot}
 use Rattle.sg_facts.specs.Track.{row_at}
 use Rattle.sg_facts.specs.Walks.{replayed_call}
@@ -34,32 +36,19 @@ use Rattle.sg_recovery_laws.specs.Growing.{IsNextItem, place_behind}
 use Rattle.sg_replay.proofs.Naming.{named_in_pairs, real_or_zero}
 use Rattle.sg_replay.specs.Engined.{Engined}
 use Rattle.sg_replay.specs.Missing.{missing, next_number}
-use Rattle.sg_replay.specs.Replaying.{IsReplayable, KeepsPresent, Replays, length_of, name_after, real_after, replay_of, walk_length}
+use Rattle.sg_replay.specs.Present.{is_present}
+use Rattle.sg_replay.specs.Replaying.{IsReplayable, IsStruck, IsUnchanged, KeepsPresent, Loads, MayAdvance, Replays, length_of, name_after, real_after, replay_of, walk_length}
 use Rattle.sg_replay.specs.Serving.{pairs_of, real_call}
+use Rattle.sg_replay.specs.declared.todo.Todo.{Todo}
+use Rattle.sg_replay.specs.declared.todo.Todo.TheVariants.{Load as ToLoad, Walk as ToWalk}
 use Rattle.sg_seat.specs.WorldView.{WorldView, unanswered}
+use Rattle.sg_store.specs.Stored.{bytes_of}
+use Rattle.sg_walk_laws.proofs.Files.{told as which}
 use Rattle.sg_walk_laws.proofs.Found.{other_test, same_test}
 use Rattle.sg_world_laws.proofs.Alike.{keeps_alike}
 use Rattle.sg_world_laws.specs.Keeping.{KeepsPromise, Stub, TellSame, standing}
 use Rattle.sg_world_laws.specs.Setting.{IsSetting, Setting, stubs_of}
 use Rattle.sg_world_laws.specs.Turns.{IsLetIn}
-use Rattle.sg_replay.specs.declared.todo.Todo.TheVariants.{Walk as ToWalk}
-use Rattle.std.specs.Str.{bytes_eq}
-use Rattle.sg_facts.specs.Object.{file_at}
-use Rattle.sg_facts.specs.Invoke.{loaded}
-use Rattle.sg_boot.specs.Invoking.{item_of_load, load_outcome}
-use Rattle.sg_walk_laws.proofs.Files.{told as which}
-use Rattle.sg_advance_laws.specs.Advancing.{IsLeftToLoad, IsLoadItem, loaded_stub}
-use Rattle.sg_advance_laws.proofs.Advances.{file_loaded, loaded_next}
-use Rattle.sg_advance_laws.proofs.Loading.{has_files}
-use Rattle.sg_engine_laws.proofs.Left.{left_to_load}
-use Rattle.sg_replay.specs.Replaying.{Loads, MayAdvance}
-use Rattle.sg_replay.specs.Present.{is_present}
-use Rattle.sg_replay.specs.declared.todo.Todo.{Todo}
-use Rattle.sg_replay.specs.declared.todo.Todo.TheVariants.{Load as ToLoad}
-use Rattle.sg_store.specs.Stored.{bytes_of}
-use Rattle.sg_boot.specs.Invoking.{with_item, with_stop}
-use Rattle.sg_replay.specs.Replaying.{IsStruck}
-use Rattle.sg_replay.specs.Replaying.{IsUnchanged}
 
 -- ---- what stands for an id
 
