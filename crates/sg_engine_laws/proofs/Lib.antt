@@ -1,3 +1,4 @@
+pub mod Advancing
 pub mod Left
 pub mod Looking
 pub mod Serving

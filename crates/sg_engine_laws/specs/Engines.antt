@@ -11,3 +11,7 @@ pub record IsEngineOf (z : Setting) (w : WorldView) (e : Engined) : Type 0 where
   pub walks : e.tables.walks ≡ z.walks
   pub rows : e.tracked.rows ≡ (object_of z.iface.facts w.history).rows
   pub files : (path : List ℕ) → bytes_of e.stored path ≡ file_at (object_of z.iface.facts w.history).files path
+
+-- a world with the service and the journal that an engine shows
+abbrev pub as_shown : WorldView → Engined → WorldView
+as_shown w e = record w { run = e.cell.run; running = e.cell.running }
