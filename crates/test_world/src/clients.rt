@@ -2,6 +2,7 @@
 ghost use Rattle.std.specs.Prelude.{◌≡◌};
 
 use sg_base::{Args, NoMemory};
+use sg_edge::Never;
 use sg_event::EventService;
 use sg_facts::{Service, Tables};
 use sg_lock::LockService;
@@ -13,11 +14,10 @@ use sg_world::World;
 use std::alloc::Global;
 use std::process::Abort;
 use std::test::Fail;
-use test_asking::Once;
 use test_tables::{event_tables, lock_tables, mm_tables, ramfs_tables, sched_tables};
 
 // Whether nothing was done in a world: the service is up in its first boot, and no point was asked.
-fn is_quiet<S: Service>(world: &World<S, Once>) -> bool {
+fn is_quiet<S: Service>(world: &World<S, Never>) -> bool {
     world.service().is_some()
         && world.history().is_empty()
         && world.trace().points == 0
@@ -29,7 +29,7 @@ fn is_quiet<S: Service>(world: &World<S, Once>) -> bool {
 fn leave<S: Service>(rt: &impl Abort, alloc: Global, tables: Tables) -> Result<(), Fail>
     requires { tables.iface.facts ≡ S.facts }
 {
-    let mut world = World::<S, Once>::new(alloc, tables, 2, Once::new(0))?;
+    let mut world = World::<S, Never>::new(alloc, tables, 2, Never::new())?;
     assert!(rt; is_quiet(&world));
     assert!(rt; world.phase(1) == Phase::Idle && !world.all_blocked());
     world.leave(1);
