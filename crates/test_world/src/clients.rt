@@ -1,7 +1,6 @@
 // Clients that offer, withdraw and leave.
 ghost use Rattle.std.specs.Prelude.{◌≡◌};
 
-use sg_base::{Args, NoMemory};
 use sg_edge::Never;
 use sg_event::EventService;
 use sg_facts::{Service, Tables};
@@ -9,7 +8,7 @@ use sg_lock::LockService;
 use sg_mm::MmService;
 use sg_ramfs::RamfsService;
 use sg_sched::SchedService;
-use sg_seat::{MarkKind, Phase};
+use sg_seat::Phase;
 use sg_world::World;
 use std::alloc::Global;
 use std::process::Abort;
