@@ -204,26 +204,22 @@ module _ (z : Setting) (set : IsSetting z) (w : WorldView) (b : Boot) (boots : L
             | inr one ↦ let has = parent_has behind.rows each.0.row.id call.desc each.0.row each.0.live one in absurd (cc (has, none))
           ])
 
-  children_there : (f.query ≡ true → f.terminal ≡ false) → f.terminal ≡ true → z.iface.facts.subtree ≡ false → has_child v.rows (named stub.names call.desc) ≡ false
-  children_there no_end ends alone = by_query f.query refl
+  children_there : f.query ≡ false → f.terminal ≡ true → z.iface.facts.subtree ≡ false → has_child v.rows (named stub.names call.desc) ≡ false
+  children_there row ends alone = by_creation f.creation refl
     where
-      by_creation : (c : Bool) → f.query ≡ false → f.creation ≡ c → has_child v.rows (named stub.names call.desc) ≡ false
-      by_creation true row makes = absurd (let none = (acts_it.makes makes).1 in cc (ends, none))
-      by_creation false row makes =
+      by_creation : (c : Bool) → f.creation ≡ c → has_child v.rows (named stub.names call.desc) ≡ false
+      by_creation true makes = absurd (let none = (acts_it.makes makes).1 in cc (ends, none))
+      by_creation false makes =
           let r = desc_row z.iface.facts z.ask z.sound set.law o call let_in.passes (acts_it.on makes row).0 row in
           no_children_there r.0 r.1 (no_children row makes ends alone) v.rows up.in_recovery.holds.each
-
-      by_query : (q : Bool) → f.query ≡ q → has_child v.rows (named stub.names call.desc) ≡ false
-      by_query true query = absurd (let none = no_end query in cc (ends, none))
-      by_query false row = by_creation f.creation row refl
 
   given_behind : behind.given ≡ o.given
   given_behind = (behind_same z.iface.facts z.ask z.sound set.law o ws call.client (good_now z set w b boots (Some v) stub k)
       (time_es z set w b boots (Some v) stub k ws (all_drawn z set w b boots (Some v) stub k)) k.waiting let_in.none_by).2
 
-  -- the running service may be asked it under its ids; a query that its shape flags as terminal is left out
-  pub may_ask : ((fun_at z.iface.facts.funs call.fun).query ≡ true → (fun_at z.iface.facts.funs call.fun).terminal ≡ false) → MayAsk z.iface.facts v (under_names stub.names call)
-  may_ask no_end =
+  -- the running service may be asked it under its ids
+  pub may_ask : MayAsk z.iface.facts v (under_names stub.names call)
+  may_ask =
       let far = far_now z set w b boots (Some v) stub k in
       let numbers = up.numbers in
       let most = k.object.given in
@@ -244,7 +240,7 @@ module _ (z : Setting) (set : IsSetting z) (w : WorldView) (b : Boot) (boots : L
         };
         desc = desc_there;
         parent = parent_there;
-        children = children_there no_end;
+        children = children_there;
       }
 
   -- ---- what it replies

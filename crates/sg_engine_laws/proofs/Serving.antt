@@ -30,13 +30,13 @@ module _ (z : Setting) (set : IsSetting z) (w : WorldView) (b : Boot) (boots : L
   abbrev stub : Stub
   stub = record { names = pairs_of e.names.known; told = told; present = present }
 
-  -- it may serve the call; a query that its shape flags as terminal is left out
-  pub may_serve : ((fun_at z.iface.facts.funs call.fun).query ≡ true → (fun_at z.iface.facts.funs call.fun).terminal ≡ false) → e.cell.running ≡ Some v → 1 ≤ e.cell.room → 1 ≤ e.names.spare
+  -- it may serve the call
+  pub may_serve : e.cell.running ≡ Some v → 1 ≤ e.cell.room → 1 ≤ e.names.spare
       → MayServe z.iface.facts z.ask e call
-  may_serve no_end up room name_room = record {
+  may_serve up room name_room = record {
     held = v;
     up = up;
-    may = may_ask z set w b boots v stub k call let_in all no_end;
+    may = may_ask z set w b boots v stub k call let_in all;
     room = room;
     name_room = name_room;
     ids = let far = far_now z set w b boots (Some v) stub k in let most = k.object.given in omega (arith, far, most, given);

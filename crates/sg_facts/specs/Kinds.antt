@@ -60,4 +60,4 @@ pub record MayAsk (facts : Facts) (o : Object) (call : Call) : Type 0 where
   pub within : IsWithin facts o call
   pub desc : takes_desc (fun_at facts.funs call.fun) ≡ true → is_live o.rows call.desc ≡ true
   pub parent : takes_parent (fun_at facts.funs call.fun) ≡ true → (is_live o.rows call.desc || (may_be_root facts.parents && (call.desc == 0))) ≡ true
-  pub children : (fun_at facts.funs call.fun).terminal ≡ true → facts.subtree ≡ false → has_child o.rows call.desc ≡ false
+  pub children : (fun_at facts.funs call.fun).query ≡ false → (fun_at facts.funs call.fun).terminal ≡ true → facts.subtree ≡ false → has_child o.rows call.desc ≡ false

@@ -69,7 +69,7 @@ may_ask o call may guarded = record {
   };
   desc = live_at o call.client call.seq call.desc call.args call.fun guarded;
   parent = λ takes. absurd (no_parent o call.client call.seq call.desc call.args call.fun takes);
-  children = λ ends refuses. childless_at o call.client call.seq call.desc call.args call.fun guarded ends;
+  children = λ row ends refuses. childless_at o call.client call.seq call.desc call.args call.fun guarded ends;
 }
 
 -- no function takes another argument than a descriptor

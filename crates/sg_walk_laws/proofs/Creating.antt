@@ -267,7 +267,7 @@ module _ (i : Declared) (ask : Table) (names : List (ℕ × ℕ)) (o held : Obje
         within = record { client_first = given.client_first; client_last = given.client_last; counted = counted; given = few };
         desc = λ takes. let none = its.makes m.makes in absurd (cc (takes, none));
         parent = λ takes. live takes parent;
-        children = λ ends alone. let none = m.no_end in absurd (cc (ends, none));
+        children = λ row ends alone. let none = m.no_end in absurd (cc (ends, none));
       }
     where
       both : (a b c : Bool) → b ≡ true → c ≡ true → (a || (b && c)) ≡ true

@@ -193,7 +193,7 @@ module _ (i : Declared) (ask : Table) (names : List (ℕ × ℕ)) (o held : Obje
         within = record { client_first = given.client_first; client_last = given.client_last; counted = counted; given = few };
         desc = λ takes. live;
         parent = λ takes. ap (λ b. b || (may_be_root i.facts.parents && (named names r.id == 0))) live;
-        children = λ ends alone. let none = s.no_end in absurd (cc (ends, none));
+        children = λ row ends alone. let none = s.no_end in absurd (cc (ends, none));
       }
 
   pub stepped : GoesOn i ask names o held r (first ∷ done) fun

@@ -30,7 +30,7 @@ module _ (calls : ℕ) (o : Object) (few : calls < 2 ^ 32) (small : AreFew calls
     within = record { client_first = omega arith; client_last = omega arith; counted = omega (arith, few, small.counted); given = omega (arith, few, small.given) };
     desc = λ is. absurd (cc is);
     parent = λ is. either (parent == 0) (is_live o.rows parent) there;
-    children = λ is alone. absurd (cc is);
+    children = λ row is alone. absurd (cc is);
   }
 
   -- an answer leaves descriptors that were asked one call more

@@ -26,7 +26,7 @@ module _ (o : Object) (few : o.given < 2000) where
     within = record { client_first = first; client_last = last; counted = omega (arith, none_counted mm_facts refl o.rows); given = omega (arith, few) };
     desc = λ is. absurd (cc is);
     parent = λ is. absurd (cc is);
-    children = λ is alone. absurd (cc is);
+    children = λ row is alone. absurd (cc is);
   }
 
   pub may_alias : (parent space addr : ℕ) → is_live o.rows parent ≡ true → MayAsk mm_facts o (record { client = 1; seq = 1; fun = 2; desc = parent; args = Word space ∷ Word addr ∷ [] })
@@ -35,7 +35,7 @@ module _ (o : Object) (few : o.given < 2000) where
     within = record { client_first = omega arith; client_last = omega arith; counted = omega (arith, none_counted mm_facts refl o.rows); given = omega (arith, few) };
     desc = λ is. absurd (cc is);
     parent = λ is. ap (λ b. b || (may_be_root mm_facts.parents && (parent == 0))) live;
-    children = λ is alone. absurd (cc is);
+    children = λ row is alone. absurd (cc is);
   }
 
   pub may_release : (id : ℕ) → is_live o.rows id ≡ true → MayAsk mm_facts o (record { client = 64; seq = 1; fun = 3; desc = id; args = [] })
@@ -44,7 +44,7 @@ module _ (o : Object) (few : o.given < 2000) where
     within = record { client_first = omega arith; client_last = omega arith; counted = omega (arith, none_counted mm_facts refl o.rows); given = omega (arith, few) };
     desc = λ is. live;
     parent = λ is. absurd (cc is);
-    children = λ is alone. absurd (cc alone);
+    children = λ row is alone. absurd (cc alone);
   }
 
   pub may_find : (space addr : ℕ) → MayAsk mm_facts o (record { client = 1; seq = 1; fun = 4; desc = 0; args = Word space ∷ Word addr ∷ [] })
@@ -53,5 +53,5 @@ module _ (o : Object) (few : o.given < 2000) where
     within = record { client_first = omega arith; client_last = omega arith; counted = omega (arith, none_counted mm_facts refl o.rows); given = omega (arith, few) };
     desc = λ is. absurd (cc is);
     parent = λ is. absurd (cc is);
-    children = λ is alone. absurd (cc is);
+    children = λ row is alone. absurd (cc is);
   }

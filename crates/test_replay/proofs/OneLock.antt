@@ -58,7 +58,7 @@ may_make seq = record {
   within = record { client_first = omega arith; client_last = omega arith; counted = omega arith; given = omega arith };
   desc = λ takes. absurd (cc takes);
   parent = λ takes. absurd (cc takes);
-  children = λ ends. absurd (cc ends);
+  children = λ row ends. absurd (cc ends);
 }
 
 -- the first lock may be taken
@@ -68,7 +68,7 @@ may_take = record {
   within = record { client_first = omega arith; client_last = omega arith; counted = omega arith; given = omega arith };
   desc = λ takes. refl;
   parent = λ takes. absurd (cc takes);
-  children = λ ends. absurd (cc ends);
+  children = λ row ends. absurd (cc ends);
 }
 
 -- the descriptor of an answer

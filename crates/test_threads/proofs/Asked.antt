@@ -94,7 +94,7 @@ module _ (calls : ℕ) (o : Object) (few : calls < 2 ^ 32) (small : AreSmall cal
     within = within (record { client = 1; seq = 1; fun = 1; desc = 0; args = Word prio ∷ [] }) refl;
     desc = λ is. absurd (cc is);
     parent = λ is. absurd (cc is);
-    children = λ is whole. absurd (cc is);
+    children = λ row is whole. absurd (cc is);
   }
 
   pub may_next : MayAsk sched_facts o (record { client = 1; seq = 1; fun = 6; desc = 0; args = [] })
@@ -103,7 +103,7 @@ module _ (calls : ℕ) (o : Object) (few : calls < 2 ^ 32) (small : AreSmall cal
     within = within (record { client = 1; seq = 1; fun = 6; desc = 0; args = [] }) refl;
     desc = λ is. absurd (cc is);
     parent = λ is. absurd (cc is);
-    children = λ is whole. absurd (cc is);
+    children = λ row is whole. absurd (cc is);
   }
 
   module _ (id : ℕ) (live : is_live o.rows id ≡ true) (childless : has_child o.rows id ≡ false) where
@@ -113,7 +113,7 @@ module _ (calls : ℕ) (o : Object) (few : calls < 2 ^ 32) (small : AreSmall cal
       within = within (record { client = 1; seq = 1; fun = 7; desc = id; args = Word rank ∷ [] }) refl;
       desc = λ is. live;
       parent = λ is. absurd (cc is);
-      children = λ is whole. childless;
+      children = λ row is whole. childless;
     }
 
     pub may_call : (fun : ℕ) → is_on fun ≡ true → MayAsk sched_facts o (record { client = 1; seq = 1; fun = fun; desc = id; args = [] })
@@ -125,7 +125,7 @@ module _ (calls : ℕ) (o : Object) (few : calls < 2 ^ 32) (small : AreSmall cal
           within = within (record { client = 1; seq = 1; fun = fun; desc = id; args = [] }) refl;
           desc = λ is. live;
           parent = λ is. absurd (cc (sym (no_parent fun) ∙ is));
-          children = λ is whole. childless;
+          children = λ row is whole. childless;
         }
 
 -- a row that is lent is live
