@@ -3,8 +3,8 @@ use Rattle.std.proofs.Common.{◌≡◌, ◌∙◌, ap, map, ◌-◌, arith}
 use Rattle.std.specs.Prelude.{slice_set}
 use Rattle.sg_seat.specs.declared.phase.Phase.TheVariants.{Idle}
 use Rattle.sg_seat.specs.WorldView.{Seat, seat_in}
-use Rattle.sg_world.proofs.Phases.{set_back}
-use Rattle.sg_world.proofs.seats.Seats.withdraw.Goals as goal
+use Rattle.sg_clients.proofs.Phases.{set_back}
+use Rattle.sg_clients.proofs.clients.Clients.withdraw.Goals as goal
 
 pub returns-clause-withdrawn : goal.returns-clause-withdrawn
 returns-clause-withdrawn c =

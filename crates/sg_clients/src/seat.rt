@@ -1,0 +1,285 @@
+// One client, with its call and the memory that was taken for it.
+ghost use Rattle.std.specs.Prelude.{◌≡◌, ◌≤◌, ◌+◌, ◌<◌, ◌^◌, true, length, IfOk};
+ghost use Rattle.sg_base.specs.Reply.{FitsReplyRoom};
+ghost use Rattle.sg_clients.specs.Rooms.{FitsSeatRoom};
+ghost use Rattle.sg_facts.specs.Limits.{last_client};
+ghost use Rattle.sg_seat.specs.WorldView.{is_at_rest, is_blocked_phase, is_left_phase, is_offered, no_reply, no_seat, woken_seat};
+ghost use Rattle.sg_seat.specs.declared.phase.Phase.TheVariants.{Idle, Asked, Held, Receipted, Blocked, Left};
+
+use sg_base::{Args, Bytes, Call, Good, NoMemory, Reply, ReplyRoom, TryCopy, Words};
+use sg_facts::Entry;
+use sg_seat::Phase;
+use std::alloc::Global;
+use std::marker::Model;
+use std::mem;
+
+/// The greatest number of clients.
+const MOST_CLIENTS: usize = 64;
+
+/// Memory that was taken when a call was offered: a copy of the call for its entry or its withdrawal, room for the entry's reply, for
+/// the reply that is handed over, and for the phases at a withdrawal.
+#[derive(Debug, Drop)]
+pub(crate) struct SeatRoom {
+    pub(crate) call: Call,
+    pub(crate) entry: ReplyRoom,
+    pub(crate) answer: ReplyRoom,
+    pub(crate) phases: Vec<Phase>,
+}
+
+impl SeatRoom {
+    /// Memory for this call.
+    pub(crate) fn new(alloc: Global, call: &Call) -> Result<SeatRoom, NoMemory>
+        ensures { IfOk result (FitsSeatRoom call.now) }
+    {
+        Ok(SeatRoom {
+            call: call.copy(alloc)?,
+            entry: Reply::room(alloc)?,
+            answer: Reply::room(alloc)?,
+            phases: Vec::with_capacity(alloc, MOST_CLIENTS)?,
+        })
+    }
+}
+
+/// An answered call whose reply was held: its entry, its reply for storage, and its reply for the client.
+#[derive(Debug, Drop)]
+pub struct Returned {
+    pub entry: Entry,
+    pub reply: Reply,
+    pub answer: Reply,
+}
+
+/// A client of a world. While its call isn't answered, it has the memory that answering or withdrawing it takes.
+#[derive(Debug, Drop)]
+pub(crate) struct ClientSeat {
+    phase: Phase,
+    call: Call,
+    seq: u32,
+    boot: u64,
+    reply: Reply,
+    room: Option<SeatRoom>,
+}
+
+impl Model for ClientSeat {
+    ghost use Rattle.sg_clients.specs.Rooms.{KeepsRoom};
+    ghost use Rattle.sg_seat.specs.WorldView.{Seat};
+
+    ghost Value = { Seat };
+
+    ghost view = { λ s. record { phase = s.phase; call = s.call; seq = s.seq; boot = s.boot; reply = s.reply } };
+
+    ghost invariant = { λ s. KeepsRoom s.phase s.call s.reply s.room };
+}
+
+impl ClientSeat {
+    /// A client that did nothing yet. It takes no memory.
+    pub(crate) fn new(alloc: Global) -> ClientSeat
+        ensures { result ≡ no_seat }
+    {
+        ClientSeat {
+            phase: Phase::Idle,
+            call: Call {
+                client: 0,
+                seq: 0,
+                fun: 0,
+                desc: 0,
+                args: Args::new(alloc),
+            },
+            seq: 0,
+            boot: 0,
+            reply: empty_reply(alloc),
+            room: None,
+        }
+    }
+
+    /// How far it has come with its call.
+    pub(crate) fn phase(&self) -> Phase
+        ensures { result ≡ self.now.phase }
+    {
+        self.phase
+    }
+
+    /// Whether it waits or has left.
+    pub(crate) fn is_at_rest(&self) -> bool
+        ensures { result ≡ is_at_rest self.now }
+    {
+        matches!(self.phase, Phase::Blocked | Phase::Left)
+    }
+
+    /// Whether it has left.
+    pub(crate) fn has_left(&self) -> bool
+        ensures { result ≡ is_left_phase self.now.phase }
+    {
+        matches!(self.phase, Phase::Left)
+    }
+
+    /// The number of its last entry.
+    pub(crate) fn seq(&self) -> u32
+        ensures { result ≡ self.now.seq }
+    {
+        self.seq
+    }
+
+    /// The boot in which the service gave its last held reply.
+    pub(crate) fn boot(&self) -> u64
+        ensures { result ≡ self.now.boot }
+    {
+        self.boot
+    }
+
+    /// Its last call, lent.
+    pub(crate) fn call(&self) -> &Call
+        ensures { result.now ≡ self.now.call }
+    {
+        &self.call
+    }
+
+    /// Offers a call, with the memory that was taken for it.
+    pub(crate) fn offer(&mut self, call: Call, room: SeatRoom)
+        requires { FitsSeatRoom call room }
+        ensures { self.new ≡ record self.old { phase = Asked; call = call } }
+    {
+        self.phase = Phase::Asked;
+        self.call = call;
+        self.room = Some(room);
+    }
+
+    /// Waits in its call.
+    pub(crate) fn block(&mut self)
+        requires { is_offered self.old.phase ≡ true }
+        ensures { self.new ≡ record self.old { phase = Blocked } }
+    {
+        self.phase = Phase::Blocked;
+    }
+
+    /// Asks its call again.
+    pub(crate) fn ask_again(&mut self)
+        requires { is_offered self.old.phase ≡ true }
+        ensures { self.new ≡ record self.old { phase = Asked } }
+    {
+        self.phase = Phase::Asked;
+    }
+
+    /// Asks its call again, if it waits in it and the call meets a test.
+    pub(crate) fn wake(&mut self, meets: bool)
+        ensures { self.new ≡ woken_seat (λ call. meets) self.old }
+    {
+        if meets && matches!(self.phase, Phase::Blocked) {
+            self.phase = Phase::Asked;
+        }
+    }
+
+    /// Holds a reply that the service gave in a boot.
+    pub(crate) fn hold(&mut self, boot: u64, reply: Reply)
+        requires offers { is_offered self.old.phase ≡ true }
+        requires fits { FitsReplyRoom reply }
+        ensures { self.new ≡ record self.old { phase = Held; boot = boot; reply = reply } }
+    {
+        self.phase = Phase::Held;
+        self.boot = boot;
+        self.reply = reply;
+    }
+
+    /// Gets a reply that is to be handed over, and gives the entry.
+    pub(crate) fn give(&mut self, reply: &Reply) -> Entry
+        requires offers { is_offered self.old.phase ≡ true }
+        requires fits { FitsReplyRoom reply.now }
+        ensures entry { result ≡ record { call = self.old.call; reply = reply.now } }
+        ensures seat { self.new ≡ record self.old { phase = Receipted; seq = self.old.call.seq; reply = reply.now } }
+    {
+        let room = self.take_room();
+        self.phase = Phase::Receipted;
+        self.seq = self.call.seq;
+        self.reply = room.answer.fill(reply);
+        Entry {
+            call: room.call,
+            reply: room.entry.fill(reply),
+        }
+    }
+
+    /// Gives the reply that it holds.
+    pub(crate) fn give_back(&mut self, alloc: Global) -> Returned
+        requires { is_offered self.old.phase ≡ true }
+        ensures entry { result.entry ≡ record { call = self.old.call; reply = self.old.reply } }
+        ensures reply { result.reply ≡ self.old.reply }
+        ensures answer { result.answer ≡ self.old.reply }
+        ensures seat { self.new ≡ record self.old { phase = Idle; seq = self.old.call.seq; reply = no_reply } }
+    {
+        let room = self.take_room();
+        let reply = mem::replace(&mut self.reply, empty_reply(alloc));
+        self.phase = Phase::Idle;
+        self.seq = self.call.seq;
+        Returned {
+            entry: Entry {
+                call: room.call,
+                reply: room.entry.fill(&reply),
+            },
+            answer: room.answer.fill(&reply),
+            reply,
+        }
+    }
+
+    /// Is refused its call, and gives the call for its entry.
+    pub(crate) fn refuse(&mut self, alloc: Global) -> Call
+        requires { is_offered self.old.phase ≡ true }
+        ensures call { result ≡ self.old.call }
+        ensures seat { self.new ≡ record self.old { phase = Idle; seq = self.old.call.seq; reply = no_reply } }
+    {
+        let room = self.take_room();
+        self.reply = empty_reply(alloc);
+        self.phase = Phase::Idle;
+        self.seq = self.call.seq;
+        room.call
+    }
+
+    /// Hands its reply over.
+    pub(crate) fn hand_over(&mut self, alloc: Global) -> Reply
+        requires { self.old.phase ≡ Receipted }
+        ensures reply { result ≡ self.old.reply }
+        ensures seat { self.new ≡ record self.old { phase = Idle; reply = no_reply } }
+    {
+        self.phase = Phase::Idle;
+        mem::replace(&mut self.reply, empty_reply(alloc))
+    }
+
+    /// Leaves.
+    pub(crate) fn leave(&mut self)
+        ensures { self.new ≡ record self.old { phase = Left } }
+    {
+        self.phase = Phase::Left;
+    }
+
+    /// Withdraws its call, and gives the memory back that was taken for it.
+    pub(crate) fn withdraw(&mut self) -> SeatRoom
+        requires { is_offered self.old.phase ≡ true }
+        ensures room { FitsSeatRoom self.old.call result }
+        ensures seat { self.new ≡ record self.old { phase = Idle } }
+    {
+        let room = self.take_room();
+        self.phase = Phase::Idle;
+        room
+    }
+
+    // Takes the memory that was taken for its call; it has no call under way then.
+    fn take_room(&mut self) -> SeatRoom
+        requires { is_offered self.old.phase ≡ true }
+        ensures room { FitsSeatRoom self.old.call result }
+        ensures seat { self.new ≡ record self.old { phase = Idle } }
+    {
+        self.phase = Phase::Idle;
+        match self.room.take() {
+            Some(room) => room,
+            None => unreachable!(),
+        }
+    }
+}
+
+// A reply that says nothing.
+fn empty_reply(alloc: Global) -> Reply
+    ensures { result ≡ no_reply }
+{
+    Reply::Ok(Good {
+        desc: 0,
+        words: Words::new(alloc),
+        bytes: Bytes::new(alloc),
+    })
+}
