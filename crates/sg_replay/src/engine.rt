@@ -16,7 +16,7 @@ use crate::present::Present;
 use crate::todo::{Todo, missing_row};
 use sg_base::{Call, Code, NoMemory, Path, Reply};
 use sg_boot::Cell;
-use sg_facts::{Row, Service, Tables, Trace};
+use sg_facts::{Interface, Row, Service, Tables, Trace};
 use sg_name::Names;
 use sg_needs::{Needs, guard, needs_of};
 use sg_store::Storage;
@@ -71,6 +71,13 @@ impl<S: Service> Engine<S> {
             names: Names::new(alloc),
             present: Present::new(alloc),
         })
+    }
+
+    /// The interface of its tables, lent.
+    pub fn interface(&self) -> &Interface
+        ensures { result.now ≡ self.now.tables.iface }
+    {
+        self.tables.interface()
     }
 
     /// Whether the service is up.

@@ -1,5 +1,5 @@
 pub mod Marking
-pub mod Phases
+pub mod Moving
 pub mod Rooming
 pub mod Starting
 pub mod Turning

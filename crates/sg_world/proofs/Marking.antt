@@ -11,7 +11,7 @@ use Rattle.sg_seat.specs.WorldView.{Seat, WorldView, no_seat}
 use Rattle.sg_seat.specs.declared.withdrawn.Withdrawn.{Withdrawn}
 use Rattle.sg_walk_laws.proofs.Files.{told}
 use Rattle.sg_walk_laws.proofs.Found.{other_test, same_test}
-use Rattle.sg_world.specs.Marked.{AreMarked, AreTold, IsPhaseAfter, is_entry_mark, is_withdrawal_mark, last_kind, marked_as, or_later}
+use Rattle.sg_world.specs.Marked.{TellsAll, AreTold, IsPhaseAfter, is_entry_mark, is_withdrawal_mark, last_kind, marked_as, or_later}
 use Rattle.sg_world_laws.proofs.Refusing.{refused}
 use Rattle.sg_world_laws.proofs.Seating.{HasSeat, has_seat}
 
@@ -76,10 +76,10 @@ told_set marks kind seats client s new there first told after =
 
 -- ---- the marks of a world
 
-module _ (w : WorldView) (marked : AreMarked w) (client : ℕ) (s new : Seat) (there : slice_get w.seats (client - 1) ≡ Some s) (first : 1 ≤ client) where
+module _ (w : WorldView) (marked : TellsAll w) (client : ℕ) (s new : Seat) (there : slice_get w.seats (client - 1) ≡ Some s) (first : 1 ≤ client) where
   -- a mark that is of no entry and of no withdrawal
   pub marks_on : (kind : MarkKind) → is_entry_mark kind ≡ false → is_withdrawal_mark kind ≡ false → IsPhaseAfter (Some kind) new.phase → (events refused : ℕ)
-      → AreMarked (record w { seats = slice_set w.seats (client - 1) new; marks = w.marks ++ record { client = client; kind = kind } ∷ []; events = events; refused = refused })
+      → TellsAll (record w { seats = slice_set w.seats (client - 1) new; marks = w.marks ++ record { client = client; kind = kind } ∷ []; events = events; refused = refused })
   marks_on kind no_entry no_withdrawal after events refused = record {
     entries = marked_push is_entry_mark w.marks (record { client = client; kind = kind }) ∙ ap (λ b. marked_as is_entry_mark w.marks ++ (if b then client ∷ [] else [])) no_entry ∙ append-nil (marked_as is_entry_mark w.marks) ∙ marked.entries;
     withdrawals = marked_push is_withdrawal_mark w.marks (record { client = client; kind = kind }) ∙ ap (λ b. marked_as is_withdrawal_mark w.marks ++ (if b then client ∷ [] else [])) no_withdrawal
@@ -89,7 +89,7 @@ module _ (w : WorldView) (marked : AreMarked w) (client : ℕ) (s new : Seat) (t
 
   -- a withdrawal
   pub withdrawal_marked : (gone : Withdrawn) → gone.call.client ≡ client → IsPhaseAfter (Some Withdraw) new.phase → (events refused : ℕ)
-      → AreMarked (record w { seats = slice_set w.seats (client - 1) new; withdrawn = w.withdrawn ++ gone ∷ []; marks = w.marks ++ record { client = client; kind = Withdraw } ∷ []; events = events; refused = refused })
+      → TellsAll (record w { seats = slice_set w.seats (client - 1) new; withdrawn = w.withdrawn ++ gone ∷ []; marks = w.marks ++ record { client = client; kind = Withdraw } ∷ []; events = events; refused = refused })
   withdrawal_marked gone its after events refused = record {
     entries = marked_push is_entry_mark w.marks (record { client = client; kind = Withdraw }) ∙ append-nil (marked_as is_entry_mark w.marks) ∙ marked.entries;
     withdrawals = marked_push is_withdrawal_mark w.marks (record { client = client; kind = Withdraw }) ∙ ap (λ l. l ++ client ∷ []) marked.withdrawals ∙ ap (λ c. map (λ x. x.call.client) w.withdrawn ++ c ∷ []) (sym its) ∙ sym (pushed w.withdrawn);

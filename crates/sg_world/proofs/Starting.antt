@@ -22,7 +22,7 @@ use Rattle.sg_seat.specs.declared.mark.Mark.{Mark}
 use Rattle.sg_seat.specs.declared.withdrawn.Withdrawn.{Withdrawn}
 use Rattle.sg_store.specs.Stored.{bytes_of}
 use Rattle.sg_world.proofs.Marking.{new_told}
-use Rattle.sg_world.specs.Worlded.{CountsPoints, IsWorld, Rooms, marks_left, setting_of, view_of}
+use Rattle.sg_world.specs.Worlded.{CountsAll, CountsPoints, IsWorld, Rooms, marks_left, setting_of, view_of}
 use Rattle.sg_world_laws.proofs.Begun.{AreNew, new_keeps}
 use Rattle.sg_world_laws.specs.Keeping.{KeepsPromise}
 use Rattle.sg_world_laws.specs.Setting.{IsSetting, Setting}
@@ -80,7 +80,6 @@ module _ (z : Setting) (set : IsSetting z) (e : Engined) (new : IsNewEngine e) (
       marks = (let all = marks_new n in omega (arith, all, marked));
     };
     marked = record { entries = refl; withdrawals = refl; phases = new_told 1 n };
-    counted = λ less. subst (λ r. ArePointsOf true z.iface.facts z.ask z.parts 0 r.boots r.points) (sym new.run) (points_begin true z.iface.facts z.ask z.parts);
   }
 
   -- however its empty lists came about
@@ -99,3 +98,7 @@ new_points test w asked struck plan run none unstruck starts = record {
   struck_so = ap struck_in run ∙ sym unstruck;
   tested = subst (λ a. test a struck plan) (sym none) (subst (λ s. test 0 s plan) (sym unstruck) starts);
 }
+
+-- and its points are counted
+pub new_counted : (z : Setting) (e : Engined) (history : List Entry) (seats : List Seat) (withdrawn : List Withdrawn) (marks : List Mark) → e.cell.run ≡ record { boots = booted []; points = 0 } → CountsAll z (view_of e history seats withdrawn marks 0 0)
+new_counted z e history seats withdrawn marks run less = subst (λ r. ArePointsOf true z.iface.facts z.ask z.parts 0 r.boots r.points) (sym run) (points_begin true z.iface.facts z.ask z.parts)

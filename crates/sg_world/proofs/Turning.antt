@@ -21,7 +21,7 @@ use Rattle.sg_seat.specs.declared.withdrawn.Withdrawn.{Withdrawn}
 use Rattle.sg_walk_laws.proofs.Steps.{declared_within}
 use Rattle.sg_world.proofs.Marking.{marks_on, withdrawal_marked}
 use Rattle.sg_world.proofs.Rooming.{length_set, marks_few, offers_few, marks_set, offers_set, marks_some, offers_some}
-use Rattle.sg_world.specs.Marked.{AreMarked}
+use Rattle.sg_world.specs.Marked.{TellsAll}
 use Rattle.sg_world.specs.Worlded.{HaveRooms, IsWorld, Rooms, marks_left, marks_due}
 use Rattle.sg_world_laws.proofs.Moves.{its_seat}
 use Rattle.sg_world_laws.proofs.Turns.{counted_keeps, offer_keeps, leave_keeps, seat_there, withdraw_keeps, withdraw_none}
@@ -56,8 +56,8 @@ three_marks Receipted may = absurd may
 
 module _ (z : Setting) (e : Engined) (w : WorldView) (rooms later : Rooms) (is : IsWorld z e w rooms) where
   pub turned : (seats : List Seat) (withdrawn : List Withdrawn) (marks : List Mark) (events : ℕ) → KeepsPromise z (record w { seats = seats; withdrawn = withdrawn; marks = marks; events = events }) (stub_of e)
-      → HaveRooms seats later → AreMarked (record w { seats = seats; withdrawn = withdrawn; marks = marks; events = events }) → IsWorld z e (record w { seats = seats; withdrawn = withdrawn; marks = marks; events = events }) later
-  turned seats withdrawn marks events keeps rooms_are marked = record { set = is.set; keeps = keeps; tracked = is.tracked; rooms_are = rooms_are; marked = marked; counted = is.counted }
+      → HaveRooms seats later → TellsAll (record w { seats = seats; withdrawn = withdrawn; marks = marks; events = events }) → IsWorld z e (record w { seats = seats; withdrawn = withdrawn; marks = marks; events = events }) later
+  turned seats withdrawn marks events keeps rooms_are marked = record { set = is.set; keeps = keeps; tracked = is.tracked; rooms_are = rooms_are; marked = marked }
 
   -- an event that wanted memory leaves it, and takes no room away
   pub only_counted : (events : ℕ) → rooms.entries ≤ later.entries → rooms.withdrawals ≤ later.withdrawals → rooms.marks ≤ later.marks → IsWorld z e (record w { events = events }) later
@@ -71,7 +71,6 @@ module _ (z : Setting) (e : Engined) (w : WorldView) (rooms later : Rooms) (is :
       marks = (let was = is.rooms_are.marks in omega (arith, was, marks));
     };
     marked = record { entries = is.marked.entries; withdrawals = is.marked.withdrawals; phases = is.marked.phases };
-    counted = is.counted;
   }
 
   -- however its lists came about

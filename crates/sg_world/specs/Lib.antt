@@ -1,3 +1,5 @@
+pub mod Due
+pub mod Inners
 pub mod Marked
-pub mod Rooms
+pub mod Steps
 pub mod Worlded

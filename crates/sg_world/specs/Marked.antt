@@ -51,7 +51,7 @@ AreTold marks client (s ∷ seats) = IsPhaseAfter (last_kind marks client) s.pha
 
 -- the marks of entries are those of the history, one by one, those of withdrawals those of the withdrawn calls, and the last mark of a
 -- client tells its phase
-pub record AreMarked (w : WorldView) : Type 0 where
+pub record TellsAll (w : WorldView) : Type 0 where
   pub entries : marked_as is_entry_mark w.marks ≡ map (λ e. e.call.client) w.history
   pub withdrawals : marked_as is_withdrawal_mark w.marks ≡ map (λ x. x.call.client) w.withdrawn
   pub phases : AreTold w.marks 1 w.seats

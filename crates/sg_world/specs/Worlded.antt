@@ -17,7 +17,7 @@ use Rattle.sg_seat.specs.declared.phase.Phase.TheVariants.{Idle, Asked, Held, Re
 use Rattle.sg_seat.specs.declared.withdrawn.Withdrawn.{Withdrawn}
 use Rattle.sg_store.specs.Stored.{bytes_of}
 use Rattle.sg_world_laws.specs.Keeping.{KeepsPromise}
-use Rattle.sg_world.specs.Marked.{AreMarked}
+use Rattle.sg_world.specs.Marked.{TellsAll}
 use Rattle.sg_world_laws.specs.Setting.{IsSetting, Setting}
 
 -- what contracts see of a world: its tables and the plan of its stops, which no event changes, and the rest as plain data
@@ -74,11 +74,14 @@ pub record CountsPoints (test : ℕ → List ℕ → List ℕ → Type 0) (w : W
   pub struck_so : struck_in w.run ≡ struck
   pub tested : test asked struck plan
 
--- what a world keeps; its points are counted exactly until a step wants memory, and then at least so, up to the end of their count
+-- what a world keeps
 pub record IsWorld (z : Setting) (e : Engined) (w : WorldView) (rooms : Rooms) : Type 0 where
   pub set : IsSetting z
   pub keeps : KeepsPromise z w (stub_of e)
   pub tracked : StoresObject z.iface.facts e w.history
   pub rooms_are : HaveRooms w.seats rooms
-  pub marked : AreMarked w
-  pub counted : (nat_lt w.run.points last_count ≡ true) → ArePointsOf (w.refused == 0) z.iface.facts z.ask z.parts 0 w.run.boots w.run.points
+  pub marked : TellsAll w
+
+-- its points are counted exactly until a step wants memory, and then at least so, up to the end of their count
+abbrev pub CountsAll : Setting → WorldView → Type 0
+CountsAll z w = nat_lt w.run.points last_count ≡ true → ArePointsOf (w.refused == 0) z.iface.facts z.ask z.parts 0 w.run.boots w.run.points

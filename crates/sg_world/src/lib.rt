@@ -1,14 +1,16 @@
 //! A world: clients make their calls, one event at a time, on a service that may stop at any point.
 //!
-//! - `seat`: one client, with its call and the memory that was taken for it (`ClientSeat`)
-//! - `seats`: all clients (`Seats`)
-//! - `world`: the service, its clients, and what they did (`World`)
+//! - `did`: what a step did (`Did`)
+//! - `inner`: the service, its clients, and what they did, as its parts (`Inner`)
+//! - `world`: these as one (`World`)
 //!
-//! `sg_seat` has the world as plain data and its small changes; `sg_world_laws` what a world keeps after every event.
+//! `sg_clients` has the clients, `sg_seat` the world as plain data and its small changes; `sg_world_laws` what a world keeps after
+//! every event.
 #![tactic(auto)]
 
-mod seat;
-mod seats;
+mod did;
+mod inner;
 mod world;
 
+pub use did::Did;
 pub use world::World;

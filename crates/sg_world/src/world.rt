@@ -10,10 +10,10 @@ ghost use Rattle.sg_base.specs.declared.call.Call.{Call as IsCall};
 ghost use Rattle.sg_base.specs.Counts.{last_count};
 ghost use Rattle.sg_seat.specs.WorldView.{IsFree, MayWithdraw, happened, is_at_rest, with_leave, new_world, no_seat, offered, seat_of, withdrawn_by};
 
-use crate::seat::SeatRoom;
-use crate::seats::Seats;
+use crate::inner::Inner;
 use sg_base::{Args, Call, NoMemory, RoomyList, Stops};
-use sg_facts::{Entry, Service, Tables, Trace};
+use sg_clients::Clients;
+use sg_facts::{Service, Tables, Trace};
 use sg_hist::History;
 use sg_replay::Engine;
 use sg_seat::{Mark, MarkKind, Phase, Withdrawn};
@@ -24,32 +24,19 @@ use std::marker::Model;
 /// the call is answered. Contracts see it as plain data.
 #[derive(Debug, Drop)]
 pub struct World<S: Service, T: Stops> {
-    engine: Engine<S>,
-    stops: T,
-    seats: Seats,
-    history: History,
-    withdrawn: RoomyList<Withdrawn>,
-    marks: RoomyList<Mark>,
-    events: u64,
-    refused: u64,
+    inner: Inner<S, T>,
 }
 
 impl<S: Service, T: Stops> Model for World<S, T> {
-    ghost use Rattle.std.specs.Prelude.{◌≡◌};
-    ghost use Rattle.sg_world.specs.Worlded.{CountsPoints, IsWorld, Worlded, setting_of, view_of};
+    ghost use Rattle.sg_world.specs.Inners.{IsInOrder, view_in};
+    ghost use Rattle.sg_world.specs.Worlded.{CountsAll, Worlded, setting_of};
 
     ghost Value = { Worlded };
 
-    ghost view = { λ w. record {
-      tables = w.engine.tables;
-      view = view_of w.engine w.history.items w.seats w.withdrawn.items w.marks.items w.events w.refused;
-      plan = T.plan w.stops;
-    } };
+    ghost view = { λ w. record { tables = w.inner.engine.tables; view = view_in w.inner; plan = T.plan w.inner.stops } };
 
-    ghost invariant = { λ w. IsWorld (setting_of S.ask S.sound S.parts w.engine.tables) w.engine
-        (view_of w.engine w.history.items w.seats w.withdrawn.items w.marks.items w.events w.refused)
-        (record { entries = w.history.room; withdrawals = w.withdrawn.room; marks = w.marks.room })
-        × CountsPoints T.test (view_of w.engine w.history.items w.seats w.withdrawn.items w.marks.items w.events w.refused) (T.asked w.stops) (T.struck w.stops) (T.plan w.stops) };
+    ghost invariant = { λ w. IsInOrder S.ask S.sound S.parts T.test T.asked T.struck T.plan w.inner
+        × CountsAll (setting_of S.ask S.sound S.parts w.inner.engine.tables) (view_in w.inner) };
 }
 
 impl<S: Service, T: Stops> World<S, T> {
@@ -68,18 +55,20 @@ impl<S: Service, T: Stops> World<S, T> {
         ensures view { IfOk result (λ w. w.view ≡ new_world (replicate clients no_seat)) }
         ensures plan { IfOk result (λ w. w.plan ≡ T.plan stops) }
     {
-        let seats = Seats::new(alloc, clients)?;
+        let seats = Clients::new(alloc, clients)?;
         let mut marks = RoomyList::new(alloc);
         marks.reserve(usize::from(clients))?;
         Ok(World {
-            engine: Engine::new(alloc, tables, clients)?,
-            stops,
-            seats,
-            history: History::new(alloc),
-            withdrawn: RoomyList::new(alloc),
-            marks,
-            events: 0,
-            refused: 0,
+            inner: Inner {
+                engine: Engine::new(alloc, tables, clients)?,
+                stops,
+                clients: seats,
+                history: History::new(alloc),
+                withdrawn: RoomyList::new(alloc),
+                marks,
+                events: 0,
+                refused: 0,
+            },
         })
     }
 
@@ -87,42 +76,42 @@ impl<S: Service, T: Stops> World<S, T> {
     pub fn history(&self) -> &History
         ensures { result.now.items ≡ self.now.view.history }
     {
-        &self.history
+        &self.inner.history
     }
 
     /// What was done to the service, lent.
     pub fn trace(&self) -> &Trace
         ensures { run_of result.now ≡ self.now.view.run }
     {
-        self.engine.trace()
+        self.inner.engine.trace()
     }
 
     /// The running service, lent; None exactly where it failed.
     pub fn service(&self) -> Option<&S>
         ensures { option_map S.object (option_copied result) ≡ self.now.view.running }
     {
-        self.engine.service()
+        self.inner.engine.service()
     }
 
     /// What happened to the clients, in its order, lent.
     pub fn marks(&self) -> &[Mark]
         ensures { result.now ≡ self.now.view.marks }
     {
-        self.marks.as_slice()
+        self.inner.marks.as_slice()
     }
 
     /// The withdrawn calls, in their order, lent.
     pub fn withdrawn(&self) -> &[Withdrawn]
         ensures { result.now ≡ self.now.view.withdrawn }
     {
-        self.withdrawn.as_slice()
+        self.inner.withdrawn.as_slice()
     }
 
     /// The number of its steps that wanted memory, up to the greatest number.
     pub fn refused(&self) -> u64
         ensures { result ≡ self.now.view.refused }
     {
-        self.refused
+        self.inner.refused
     }
 
     /// How far a client has come with its call.
@@ -131,7 +120,7 @@ impl<S: Service, T: Stops> World<S, T> {
         requires last { client ≤ length self.now.view.seats }
         ensures { result ≡ (seat_of self.now.view client).phase }
     {
-        self.seats.phase(client)
+        self.inner.clients.phase(client)
     }
 
     /// A client offers a call, under its next number; one that had left has come back by it. It keeps the memory that the call's
@@ -157,20 +146,20 @@ impl<S: Service, T: Stops> World<S, T> {
         }) }
         ensures err { OnErr result (self.new ≡ record self.old { view = happened self.old.view }) }
     {
-        self.events = self.events.saturating_add(1);
+        let clients = self.inner.clients.len();
+        self.inner.events = self.inner.events.saturating_add(1);
+        self.inner.history.reserve(clients)?;
+        self.inner.withdrawn.reserve(clients)?;
+        self.inner.marks.reserve(3 * clients + 1)?;
         let call = Call {
             client,
-            seq: self.seats.seq(client) + 1,
+            seq: self.inner.clients.seq(client) + 1,
             fun,
             desc,
             args,
         };
-        let room = SeatRoom::new(alloc, &call)?;
-        self.history.reserve(self.seats.len())?;
-        self.withdrawn.reserve(self.seats.len())?;
-        self.marks.reserve(3 * self.seats.len() + 1)?;
-        self.seats.offer(call, room);
-        self.marks.add(Mark {
+        self.inner.clients.offer(alloc, call)?;
+        self.inner.marks.add(Mark {
             client,
             kind: MarkKind::Offer,
         });
@@ -184,10 +173,11 @@ impl<S: Service, T: Stops> World<S, T> {
         requires may { MayWithdraw (seat_of self.old.view client).phase }
         ensures { self.new ≡ record self.old { view = happened (withdrawn_by self.old.view client) } }
     {
-        self.events = self.events.saturating_add(1);
-        let withdrawn = self.seats.withdraw(client, self.history.len() as u64);
-        self.withdrawn.add(withdrawn);
-        self.marks.add(Mark {
+        let entries = self.inner.history.len() as u64;
+        self.inner.events = self.inner.events.saturating_add(1);
+        let withdrawn = self.inner.clients.withdraw(client, entries);
+        self.inner.withdrawn.add(withdrawn);
+        self.inner.marks.add(Mark {
             client,
             kind: MarkKind::Withdraw,
         });
@@ -200,10 +190,10 @@ impl<S: Service, T: Stops> World<S, T> {
         requires free { IsFree (seat_of self.old.view client).phase }
         ensures { self.new ≡ record self.old { view = happened (with_leave self.old.view client) } }
     {
-        self.events = self.events.saturating_add(1);
-        if !self.seats.has_left(client) {
-            self.seats.leave(client);
-            self.marks.add(Mark {
+        self.inner.events = self.inner.events.saturating_add(1);
+        if !self.inner.clients.has_left(client) {
+            self.inner.clients.leave(client);
+            self.inner.marks.add(Mark {
                 client,
                 kind: MarkKind::Leave,
             });
@@ -214,6 +204,6 @@ impl<S: Service, T: Stops> World<S, T> {
     pub fn all_blocked(&self) -> bool
         ensures { result ≡ list_all is_at_rest self.now.view.seats }
     {
-        self.seats.all_at_rest()
+        self.inner.clients.all_at_rest()
     }
 }

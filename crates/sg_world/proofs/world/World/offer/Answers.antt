@@ -6,62 +6,75 @@ use Rattle.sg_facts.specs.Kinds.{FitsKinds}
 use Rattle.sg_seat.specs.WorldView.{IsFree, seat_of}
 use Rattle.sg_seat.specs.declared.mark.MarkKind.TheVariants.{Offer}
 use Rattle.sg_world_laws.specs.Seats.{MayBeMade}
-use Rattle.sg_world.specs.Worlded.{Rooms, setting_of, view_of}
+use Rattle.sg_world.specs.Inners.{rooms_in, view_in}
+use Rattle.sg_world.specs.Worlded.{Rooms, setting_of}
 use Rattle.sg_world.proofs.Turning.{may_make, offered_again, only_counted_of}
 use Rattle.sg_world.proofs.world.World.offer.Goals as goal
 
 pub invariant_of-self-2 : goal.invariant_of-self-2
 invariant_of-self-2 g c =
-    let e = c.self.inside.engine in
+    let e = c.self.inside.inner.engine in
     let z = setting_of g.S.Service.ask g.S.Service.sound g.S.Service.parts e.tables in
-    let w = view_of e c.self.inside.history.items c.self.inside.seats c.self.inside.withdrawn.items c.self.inside.marks.items c.self.inside.events c.self.inside.refused in
-    let rooms : Rooms = record { entries = c.self.inside.history.room; withdrawals = c.self.inside.withdrawn.room; marks = c.self.inside.marks.room } in
+    let w = view_in c.self.inside.inner in
+    let rooms : Rooms = rooms_in c.self.inside.inner in
     let later : Rooms = record { entries = c.reserve.new.self.room; withdrawals = c.reserve-2.new.self.room; marks = c.add.new.self.room } in
     let call : Call = record { client = c.args.client; seq = c.seq.result + 1; fun = c.args.fun; desc = c.args.desc; args = c.args.args } in
     let last : c.args.client ≤ length w.seats = subst (λ x. c.args.client ≤ length x.view.seats) (sym c.self.view_is) c.requires.last in
     let declared : declares z.iface c.args.fun ≡ true = subst (λ x. declares x.tables.iface c.args.fun ≡ true) (sym c.self.view_is) c.requires.declared in
     let fits : FitsKinds z.iface.facts call
     = subst (λ x. FitsKinds x.tables.iface.facts call) (sym c.self.view_is) (record { args = c.requires.fits.args; desc = c.requires.fits.desc }) in
-    let few = c.self.invariant.0.keeps.seats.few in
-    let may : MayBeMade z.iface call = may_make z c.self.invariant.0.set call c.requires.first (omega (arith, last, few)) declared fits c.requires.words in (
-      offered_again z e w rooms later c.self.invariant.0 c.args.client c.requires.first last call (subst (λ x. IsFree (seat_of x.view c.args.client).phase) (sym c.self.view_is) c.requires.free) refl
+    let few = c.self.invariant.0.world.keeps.seats.few in
+    let may : MayBeMade z.iface call = may_make z c.self.invariant.0.world.set call c.requires.first (omega (arith, last, few)) declared fits c.requires.words in (
+      record {
+        world = offered_again z e w rooms later c.self.invariant.0.world c.args.client c.requires.first last call (subst (λ x. IsFree (seat_of x.view c.args.client).phase) (sym c.self.view_is) c.requires.free) refl
           (ap (λ n. n + 1) c.seq.ensures) may c.reserve.new.self.items c.offer.new.self c.reserve-2.new.self.items c.add.new.self.items c.saturating_add-self-inside.result c.reserve.ensures.items c.offer.ensures c.reserve-2.ensures.items
           (c.add.ensures.items ∙ ap (λ l. l ++ record { client = c.args.client; kind = Offer } ∷ []) c.reserve-3.ensures.items)
           (let n = c.len.ensures in let room = c.in_ok-reserve.ensures.ok in omega (arith, n, room))
           (let n = c.len-2.ensures in let room = c.in_ok-reserve-2.ensures.ok in omega (arith, n, room))
-          (let n = c.len-3.ensures in let room = c.in_ok-reserve-3.ensures.ok in let left = c.add.ensures.room in omega (arith, n, room, left)),
-      record { asked_so = c.self.invariant.1.asked_so; struck_so = c.self.invariant.1.struck_so; tested = c.self.invariant.1.tested },
+          (let n = c.len-3.ensures in let room = c.in_ok-reserve-3.ensures.ok in let left = c.add.ensures.room in omega (arith, n, room, left));
+        points = record { asked_so = c.self.invariant.0.points.asked_so; struck_so = c.self.invariant.0.points.struck_so; tested = c.self.invariant.0.points.tested };
+      },
+      c.self.invariant.1,
     )
 
 pub invariant_of-self-in_err-reserve : goal.invariant_of-self-in_err-reserve
 invariant_of-self-in_err-reserve g c =
-    let e = c.self.inside.engine in
-    let w = view_of e c.self.inside.history.items c.self.inside.seats c.self.inside.withdrawn.items c.self.inside.marks.items c.self.inside.events c.self.inside.refused in
-    let rooms : Rooms = record { entries = c.self.inside.history.room; withdrawals = c.self.inside.withdrawn.room; marks = c.self.inside.marks.room } in
-    let later : Rooms = record { entries = c.reserve.new.self.room; withdrawals = c.self.inside.withdrawn.room; marks = c.self.inside.marks.room } in (
-      only_counted_of (setting_of g.S.Service.ask g.S.Service.sound g.S.Service.parts e.tables) e w rooms later c.self.invariant.0 c.reserve.new.self.items c.self.inside.withdrawn.items c.self.inside.marks.items
-          c.saturating_add-self-inside.result c.reserve.ensures.items refl refl c.reserve.ensures.room (omega arith) (omega arith),
-      record { asked_so = c.self.invariant.1.asked_so; struck_so = c.self.invariant.1.struck_so; tested = c.self.invariant.1.tested },
+    let e = c.self.inside.inner.engine in
+    let w = view_in c.self.inside.inner in
+    let rooms : Rooms = rooms_in c.self.inside.inner in
+    let later : Rooms = record { entries = c.reserve.new.self.room; withdrawals = c.self.inside.inner.withdrawn.room; marks = c.self.inside.inner.marks.room } in (
+      record {
+        world = only_counted_of (setting_of g.S.Service.ask g.S.Service.sound g.S.Service.parts e.tables) e w rooms later c.self.invariant.0.world c.reserve.new.self.items c.self.inside.inner.withdrawn.items c.self.inside.inner.marks.items
+          c.saturating_add-self-inside.result c.reserve.ensures.items refl refl c.reserve.ensures.room (omega arith) (omega arith);
+        points = record { asked_so = c.self.invariant.0.points.asked_so; struck_so = c.self.invariant.0.points.struck_so; tested = c.self.invariant.0.points.tested };
+      },
+      c.self.invariant.1,
     )
 
 pub invariant_of-self-in_err-reserve-2 : goal.invariant_of-self-in_err-reserve-2
 invariant_of-self-in_err-reserve-2 g c =
-    let e = c.self.inside.engine in
-    let w = view_of e c.self.inside.history.items c.self.inside.seats c.self.inside.withdrawn.items c.self.inside.marks.items c.self.inside.events c.self.inside.refused in
-    let rooms : Rooms = record { entries = c.self.inside.history.room; withdrawals = c.self.inside.withdrawn.room; marks = c.self.inside.marks.room } in
-    let later : Rooms = record { entries = c.reserve.new.self.room; withdrawals = c.reserve-2.new.self.room; marks = c.self.inside.marks.room } in (
-      only_counted_of (setting_of g.S.Service.ask g.S.Service.sound g.S.Service.parts e.tables) e w rooms later c.self.invariant.0 c.reserve.new.self.items c.reserve-2.new.self.items c.self.inside.marks.items
-          c.saturating_add-self-inside.result c.reserve.ensures.items c.reserve-2.ensures.items refl c.reserve.ensures.room c.reserve-2.ensures.room (omega arith),
-      record { asked_so = c.self.invariant.1.asked_so; struck_so = c.self.invariant.1.struck_so; tested = c.self.invariant.1.tested },
+    let e = c.self.inside.inner.engine in
+    let w = view_in c.self.inside.inner in
+    let rooms : Rooms = rooms_in c.self.inside.inner in
+    let later : Rooms = record { entries = c.reserve.new.self.room; withdrawals = c.reserve-2.new.self.room; marks = c.self.inside.inner.marks.room } in (
+      record {
+        world = only_counted_of (setting_of g.S.Service.ask g.S.Service.sound g.S.Service.parts e.tables) e w rooms later c.self.invariant.0.world c.reserve.new.self.items c.reserve-2.new.self.items c.self.inside.inner.marks.items
+          c.saturating_add-self-inside.result c.reserve.ensures.items c.reserve-2.ensures.items refl c.reserve.ensures.room c.reserve-2.ensures.room (omega arith);
+        points = record { asked_so = c.self.invariant.0.points.asked_so; struck_so = c.self.invariant.0.points.struck_so; tested = c.self.invariant.0.points.tested };
+      },
+      c.self.invariant.1,
     )
 
 pub invariant_of-self-in_err-reserve-3 : goal.invariant_of-self-in_err-reserve-3
 invariant_of-self-in_err-reserve-3 g c =
-    let e = c.self.inside.engine in
-    let w = view_of e c.self.inside.history.items c.self.inside.seats c.self.inside.withdrawn.items c.self.inside.marks.items c.self.inside.events c.self.inside.refused in
-    let rooms : Rooms = record { entries = c.self.inside.history.room; withdrawals = c.self.inside.withdrawn.room; marks = c.self.inside.marks.room } in
+    let e = c.self.inside.inner.engine in
+    let w = view_in c.self.inside.inner in
+    let rooms : Rooms = rooms_in c.self.inside.inner in
     let later : Rooms = record { entries = c.reserve.new.self.room; withdrawals = c.reserve-2.new.self.room; marks = c.reserve-3.new.self.room } in (
-      only_counted_of (setting_of g.S.Service.ask g.S.Service.sound g.S.Service.parts e.tables) e w rooms later c.self.invariant.0 c.reserve.new.self.items c.reserve-2.new.self.items c.reserve-3.new.self.items
-          c.saturating_add-self-inside.result c.reserve.ensures.items c.reserve-2.ensures.items c.reserve-3.ensures.items c.reserve.ensures.room c.reserve-2.ensures.room c.reserve-3.ensures.room,
-      record { asked_so = c.self.invariant.1.asked_so; struck_so = c.self.invariant.1.struck_so; tested = c.self.invariant.1.tested },
+      record {
+        world = only_counted_of (setting_of g.S.Service.ask g.S.Service.sound g.S.Service.parts e.tables) e w rooms later c.self.invariant.0.world c.reserve.new.self.items c.reserve-2.new.self.items c.reserve-3.new.self.items
+          c.saturating_add-self-inside.result c.reserve.ensures.items c.reserve-2.ensures.items c.reserve-3.ensures.items c.reserve.ensures.room c.reserve-2.ensures.room c.reserve-3.ensures.room;
+        points = record { asked_so = c.self.invariant.0.points.asked_so; struck_so = c.self.invariant.0.points.struck_so; tested = c.self.invariant.0.points.tested };
+      },
+      c.self.invariant.1,
     )

@@ -1,38 +1,42 @@
 -- A world keeps what it keeps where a call is withdrawn.
 use Rattle.std.proofs.Common.{◌≤◌, sym, ap, subst, arith, length}
 use Rattle.sg_seat.specs.WorldView.{MayWithdraw, WorldView, seat_of}
-use Rattle.sg_world.specs.Worlded.{Rooms, setting_of, view_of}
+use Rattle.sg_world.specs.Inners.{rooms_in, view_in}
+use Rattle.sg_world.specs.Worlded.{Rooms, setting_of}
 use Rattle.sg_world.proofs.Turning.{may_withdraw, withdrawn_on}
 use Rattle.sg_world.proofs.world.World.withdraw.Goals as goal
 
 pub add-requires : goal.add-requires
 add-requires g c =
-    let e = c.self.inside.engine in
-    let w : WorldView = view_of e c.self.inside.history.items c.self.inside.seats c.self.inside.withdrawn.items c.self.inside.marks.items c.self.inside.events c.self.inside.refused in
-    let rooms : Rooms = record { entries = c.self.inside.history.room; withdrawals = c.self.inside.withdrawn.room; marks = c.self.inside.marks.room } in
-    (may_withdraw (setting_of g.S.Service.ask g.S.Service.sound g.S.Service.parts e.tables) e w rooms rooms c.self.invariant.0 c.args.client c.requires.first
+    let e = c.self.inside.inner.engine in
+    let w : WorldView = view_in c.self.inside.inner in
+    let rooms : Rooms = rooms_in c.self.inside.inner in
+    (may_withdraw (setting_of g.S.Service.ask g.S.Service.sound g.S.Service.parts e.tables) e w rooms rooms c.self.invariant.0.world c.args.client c.requires.first
     (subst (λ x. c.args.client ≤ length x.view.seats) (sym c.self.view_is) c.requires.last)
     (subst (λ x. MayWithdraw (seat_of x.view c.args.client).phase) (sym c.self.view_is) c.requires.may)).0
 
 pub add-requires-2 : goal.add-requires-2
 add-requires-2 g c =
-    let e = c.self.inside.engine in
-    let w : WorldView = view_of e c.self.inside.history.items c.self.inside.seats c.self.inside.withdrawn.items c.self.inside.marks.items c.self.inside.events c.self.inside.refused in
-    let rooms : Rooms = record { entries = c.self.inside.history.room; withdrawals = c.self.inside.withdrawn.room; marks = c.self.inside.marks.room } in
-    (may_withdraw (setting_of g.S.Service.ask g.S.Service.sound g.S.Service.parts e.tables) e w rooms rooms c.self.invariant.0 c.args.client c.requires.first
+    let e = c.self.inside.inner.engine in
+    let w : WorldView = view_in c.self.inside.inner in
+    let rooms : Rooms = rooms_in c.self.inside.inner in
+    (may_withdraw (setting_of g.S.Service.ask g.S.Service.sound g.S.Service.parts e.tables) e w rooms rooms c.self.invariant.0.world c.args.client c.requires.first
     (subst (λ x. c.args.client ≤ length x.view.seats) (sym c.self.view_is) c.requires.last)
     (subst (λ x. MayWithdraw (seat_of x.view c.args.client).phase) (sym c.self.view_is) c.requires.may)).1
 
 pub invariant_of-self : goal.invariant_of-self
 invariant_of-self g c =
-    let e = c.self.inside.engine in
-    let w : WorldView = view_of e c.self.inside.history.items c.self.inside.seats c.self.inside.withdrawn.items c.self.inside.marks.items c.self.inside.events c.self.inside.refused in
-    let rooms : Rooms = record { entries = c.self.inside.history.room; withdrawals = c.self.inside.withdrawn.room; marks = c.self.inside.marks.room } in
-    let later : Rooms = record { entries = c.self.inside.history.room; withdrawals = c.add.new.self.room; marks = c.add-2.new.self.room } in (
-      withdrawn_on (setting_of g.S.Service.ask g.S.Service.sound g.S.Service.parts e.tables) e w rooms later c.self.invariant.0 c.args.client c.requires.first
+    let e = c.self.inside.inner.engine in
+    let w : WorldView = view_in c.self.inside.inner in
+    let rooms : Rooms = rooms_in c.self.inside.inner in
+    let later : Rooms = record { entries = c.self.inside.inner.history.room; withdrawals = c.add.new.self.room; marks = c.add-2.new.self.room } in (
+      record {
+        world = withdrawn_on (setting_of g.S.Service.ask g.S.Service.sound g.S.Service.parts e.tables) e w rooms later c.self.invariant.0.world c.args.client c.requires.first
           (subst (λ x. c.args.client ≤ length x.view.seats) (sym c.self.view_is) c.requires.last)
           (subst (λ x. MayWithdraw (seat_of x.view c.args.client).phase) (sym c.self.view_is) c.requires.may)
           c.withdraw-withdrawn.new.self c.add.new.self.items c.withdraw-withdrawn.result c.add-2.new.self.items c.saturating_add-self-inside.result c.withdraw-withdrawn.ensures.seats
-          (ap (λ x. x.call) c.withdraw-withdrawn.ensures.withdrawn) c.add.ensures.items c.add-2.ensures.items (omega arith) c.add.ensures.room c.add-2.ensures.room,
-      record { asked_so = c.self.invariant.1.asked_so; struck_so = c.self.invariant.1.struck_so; tested = c.self.invariant.1.tested },
+          (ap (λ x. x.call) c.withdraw-withdrawn.ensures.withdrawn) c.add.ensures.items c.add-2.ensures.items (omega arith) c.add.ensures.room c.add-2.ensures.room;
+        points = record { asked_so = c.self.invariant.0.points.asked_so; struck_so = c.self.invariant.0.points.struck_so; tested = c.self.invariant.0.points.tested };
+      },
+      c.self.invariant.1,
     )

@@ -1,0 +1,20 @@
+-- The parts of a world as plain data, and what they keep between events.
+use Rattle.std.specs.Prelude.{ℕ, List}
+use Rattle.sg_facts.specs.Legal.{Table}
+use Rattle.sg_facts.specs.Object.{Object}
+use Rattle.sg_seat.specs.WorldView.{WorldView}
+use Rattle.sg_world.specs.declared.inner.Inner.{Inner}
+use Rattle.sg_world.specs.Worlded.{CountsPoints, IsWorld, Rooms, setting_of, view_of}
+
+-- the parts as plain data
+abbrev pub view_in : {S T : Type 0} → Inner S T → WorldView
+view_in x = view_of x.engine x.history.items x.clients x.withdrawn.items x.marks.items x.events x.refused
+
+-- for how many entries, withdrawals and marks they have memory
+abbrev pub rooms_in : {S T : Type 0} → Inner S T → Rooms
+rooms_in x = record { entries = x.history.room; withdrawals = x.withdrawn.room; marks = x.marks.room }
+
+-- they stand as a world's do between events, its count of points aside
+pub record IsInOrder {S T : Type 0} (ask : Table) (sound : Object → Type 0) (parts : ℕ → ℕ) (test : ℕ → List ℕ → List ℕ → Type 0) (asked : T → ℕ) (struck plan : T → List ℕ) (x : Inner S T) : Type 0 where
+  pub world : IsWorld (setting_of ask sound parts x.engine.tables) x.engine (view_in x) (rooms_in x)
+  pub points : CountsPoints test (view_in x) (asked x.stops) (struck x.stops) (plan x.stops)
