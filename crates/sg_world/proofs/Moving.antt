@@ -1,5 +1,6 @@
 -- What a world's marks and memory come to where a seat changes without a mark, where clients are woken, and where an entry is appended.
-use Rattle.std.proofs.Common.{Bool, List, None, Option, Some, [], ap, append-nil, arith, false, flat_map, if◌then◌else◌, length, map, refl, length-append, length-map, slice_get, slice_set, subst, sym, true, ℕ, ◌&&◌, ◌++◌, ◌+◌, ◌-◌, ◌∙◌, ◌∷◌, ◌≡◌, ◌≤◌}
+use Rattle.std.proofs.Common.{Bool, List, None, Option, Some, [], ap, append-nil, arith, false, flat_map, if◌then◌else◌, length, map, refl, length-append, slice_get, slice_set, subst, sym, true, ℕ, ◌&&◌, ◌++◌, ◌+◌, ◌-◌, ◌∙◌, ◌∷◌, ◌≡◌, ◌≤◌}
+use Rattle.std.proofs.lemmas.List.{length-map}
 use Rattle.sg_base.specs.declared.call.Call.{Call}
 use Rattle.sg_base.specs.declared.reply.Reply.{Reply}
 use Rattle.sg_facts.specs.declared.entry.Entry.{Entry}
@@ -128,7 +129,7 @@ answered_seats test seats at s there stays new is =
     let its : woken_seat test new ≡ new = ap (λ q. if q && test new.call then record new { phase = Asked } else new) is in
     let woken : map (woken_seat test) seats ≡ map (woken_seat test) has.front ++ s ∷ map (woken_seat test) has.back
     = ap (map (woken_seat test)) has.is ∙ woken_at test has.front has.back s ∙ ap (λ x. map (woken_seat test) has.front ++ x ∷ map (woken_seat test) has.back) own in
-    let place : length (map (woken_seat test) has.front) ≡ at = length-map (woken_seat test) has.front ∙ has.place in (
+    let place : length (map (woken_seat test) has.front) ≡ at = length-map has.front (woken_seat test) ∙ has.place in (
       ap (map (woken_seat test)) (has.set new) ∙ woken_at test has.front has.back new ∙ ap (λ x. map (woken_seat test) has.front ++ x ∷ map (woken_seat test) has.back) its
           ∙ sym (set_there (map (woken_seat test) has.front) (map (woken_seat test) has.back) s new) ∙ ap (λ n. slice_set (map (woken_seat test) has.front ++ s ∷ map (woken_seat test) has.back) n new) place ∙ ap (λ l. slice_set l at new) (sym woken),
       ap (λ l. slice_get l at) woken ∙ ap (λ n. slice_get (map (woken_seat test) has.front ++ s ∷ map (woken_seat test) has.back) n) (sym place) ∙ get_at (map (woken_seat test) has.front) (map (woken_seat test) has.back) s,

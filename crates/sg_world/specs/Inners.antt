@@ -1,5 +1,5 @@
 -- The parts of a world as plain data, and what they keep between events.
-use Rattle.std.specs.Prelude.{ℕ, List}
+use Rattle.std.specs.Prelude.{ℕ, ◌≡◌, List}
 use Rattle.sg_facts.specs.Legal.{Table}
 use Rattle.sg_facts.specs.Object.{Object}
 use Rattle.sg_seat.specs.WorldView.{WorldView}
@@ -18,3 +18,8 @@ rooms_in x = record { entries = x.history.room; withdrawals = x.withdrawn.room; 
 pub record IsInOrder {S T : Type 0} (ask : Table) (sound : Object → Type 0) (parts : ℕ → ℕ) (test : ℕ → List ℕ → List ℕ → Type 0) (asked : T → ℕ) (struck plan : T → List ℕ) (x : Inner S T) : Type 0 where
   pub world : IsWorld (setting_of ask sound parts x.engine.tables) x.engine (view_in x) (rooms_in x)
   pub points : CountsPoints test (view_in x) (asked x.stops) (struck x.stops) (plan x.stops)
+
+-- the tables and the plan of the stops, which no event changes, are the same
+pub record KeepsRest {S T : Type 0} (plan : T → List ℕ) (x new : Inner S T) : Type 0 where
+  pub tables : new.engine.tables ≡ x.engine.tables
+  pub plan_is : plan new.stops ≡ plan x.stops

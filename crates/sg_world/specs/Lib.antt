@@ -1,5 +1,6 @@
 pub mod Due
 pub mod Inners
+pub mod Inside
 pub mod Marked
 pub mod Steps
 pub mod Worlded

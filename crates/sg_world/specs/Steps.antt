@@ -15,15 +15,17 @@ use Rattle.sg_facts.specs.Facts.{is_visible}
 use Rattle.sg_facts.specs.Guard.{guard}
 use Rattle.sg_facts.specs.Legal.{answer}
 use Rattle.sg_facts.specs.Object.{Object, object_of}
+use Rattle.sg_hist.specs.Clients.{calls_of}
 use Rattle.sg_hist.specs.Reading.{after_item}
 use Rattle.sg_hist.specs.Recovered.{IsPointOf, answer_to, is_replied, is_stopped}
 use Rattle.sg_recovery_laws.specs.Growing.{IsNextItem, last_items, place_behind}
 use Rattle.sg_replay.specs.declared.todo.Todo.TheVariants.{Load as ToLoad, Walk as ToWalk}
-use Rattle.sg_seat.specs.WorldView.{Seat, WorldView, answered_to, boot_number, committed, given_to, in_phase, item_noted, rebooted, reply_handed_over, seat_of, service_is, struck_at, unanswered, with_points, with_seat}
+use Rattle.sg_seat.specs.WorldView.{Seat, WorldView, answered_to, boot_number, committed, given_to, happened, in_phase, item_noted, rebooted, reply_handed_over, seat_of, service_is, struck_at, unanswered, with_points, with_seat}
 use Rattle.sg_seat.specs.declared.phase.Phase.TheVariants.{Asked, Blocked, Held, Idle, Left, Receipted}
 use Rattle.sg_world.specs.declared.did.Did.{Did}
 use Rattle.sg_world.specs.declared.did.Did.TheVariants.{Answered, Blocked as Waits, Booted, Loaded, Lost, Replayed, Served, Skipped, Struck}
 use Rattle.sg_world.specs.Due.{due}
+use Rattle.sg_world_laws.specs.Seats.{last_of}
 use Rattle.sg_world_laws.specs.Setting.{Setting, stubs_of}
 
 module _ (z : Setting) (w : WorldView) (c : ℕ) where
@@ -142,6 +144,7 @@ module _ (z : Setting) (w : WorldView) (c : ℕ) where
     pub item : Item
     pub key : List ℕ
     pub tag : item.tag ≡ Load key c
+    pub outcome : is_stopped item.outcome ≡ false
     pub noted : IsNotedBy item w.history (unanswered w)
     pub now : later ≡ service_is (item_noted w item) (after_item z.iface.facts service item)
 
@@ -152,6 +155,7 @@ module _ (z : Setting) (w : WorldView) (c : ℕ) where
     pub none : answer z.iface z.ask object_now seat_now.call ≡ None
     pub item : Item
     pub tag : item.tag ≡ Client c seat_now.call.seq
+    pub shown : item.shown ≡ seat_now.call
     pub outcome : item.outcome ≡ Blocks
     pub noted : IsNotedBy item w.history (unanswered w)
     pub now : later ≡ in_phase (item_noted w item) c Blocked
@@ -162,6 +166,7 @@ module _ (z : Setting) (w : WorldView) (c : ℕ) where
     pub reaches : ReachesService service
     pub item : Item
     pub tag : item.tag ≡ Client c seat_now.call.seq
+    pub shown : item.shown ≡ seat_now.call
     pub outcome : item.outcome ≡ Stopped
     pub noted : IsNotedBy item w.history (unanswered w)
     pub now : later ≡ struck_at (item_noted w item) item.points
@@ -175,6 +180,7 @@ module _ (z : Setting) (w : WorldView) (c : ℕ) where
     pub answers : answer z.iface z.ask object_now seat_now.call ≡ Some reply
     pub item : Item
     pub tag : item.tag ≡ Client c seat_now.call.seq
+    pub shown : item.shown ≡ seat_now.call
     pub outcome : is_replied item.outcome ≡ true
     pub noted : IsNotedBy item (w.history ++ entry_with reply ∷ []) (unanswered later)
     pub now : later ≡ given_to (committed z.iface.facts (service_is (item_noted w item) (after_item z.iface.facts service item)) (entry_with reply)) (entry_with reply)
@@ -199,6 +205,7 @@ module _ (z : Setting) (w : WorldView) (c : ℕ) where
     pub answers : answer z.iface z.ask object_now seat_now.call ≡ Some reply
     pub item : Item
     pub tag : item.tag ≡ Client c seat_now.call.seq
+    pub shown : item.shown ≡ seat_now.call
     pub outcome : is_replied item.outcome ≡ true
     pub noted : IsNotedBy item w.history (unanswered w)
     pub now : later ≡ with_seat (service_is (item_noted w item) (after_item z.iface.facts service item)) c (record seat_now { phase = Held; boot = boot_number w; reply = reply })
@@ -215,9 +222,21 @@ module _ (z : Setting) (w : WorldView) (c : ℕ) where
   Steps Waits later = WaitsNow later
   Steps Served later = GoesOnBehind later ⊎ Holds later
 
-  -- where a step gets no memory its call was let in, and nothing changes but the number of points and that of refused steps: a point
-  -- more was asked where the step was about to use the service
-  pub record WantsMemory (later : WorldView) : Type 0 where
+  -- a step was made, and counted as an event
+  pub record HasStepped (did : Did) (now : WorldView) : Type 0 where
+    pub later : WorldView
+    pub steps : Steps did later
+    pub counted : now ≡ happened later
+
+  -- it got no memory: its call was let in, and nothing changed but the number of events, that of refused steps and that of points, of
+  -- which one more was asked where the step was about to use the service
+  pub record WantsMemory (now : WorldView) : Type 0 where
     pub let_in : PassesGuard
-    pub now : (later ≡ record w { refused = min (w.refused + 1) last_count })
-        ⊎ (later ≡ record (with_points w (asked_after w.run.points 1)) { refused = min (w.refused + 1) last_count })
+    pub points : ℕ
+    pub asked : (points ≡ w.run.points) ⊎ (points ≡ asked_after w.run.points 1)
+    pub counted : now ≡ happened (record (with_points w points) { refused = min (w.refused + 1) last_count })
+
+-- a reply that is handed over is that of its client's last entry
+abbrev pub AnswersLast : WorldView → ℕ → Did → Type 0
+AnswersLast w client (Answered reply) = (call : Call) × (last_of (calls_of w.history client) ≡ Some (record { call = call; reply = reply }))
+AnswersLast w client _ = Unit {0}

@@ -8,8 +8,11 @@ ghost use Rattle.sg_facts.specs.Limits.{last_client};
 ghost use Rattle.sg_facts.specs.Trace.{run_of};
 ghost use Rattle.sg_base.specs.declared.call.Call.{Call as IsCall};
 ghost use Rattle.sg_base.specs.Counts.{last_count};
+ghost use Rattle.sg_world.specs.Steps.{AnswersLast, HasStepped, WantsMemory};
+ghost use Rattle.sg_world.specs.Worlded.{setting_of};
 ghost use Rattle.sg_seat.specs.WorldView.{IsFree, MayWithdraw, happened, is_at_rest, with_leave, new_world, no_seat, offered, seat_of, withdrawn_by};
 
+use crate::did::Did;
 use crate::inner::Inner;
 use sg_base::{Args, Call, NoMemory, RoomyList, Stops};
 use sg_clients::Clients;
@@ -198,6 +201,28 @@ impl<S: Service, T: Stops> World<S, T> {
                 kind: MarkKind::Leave,
             });
         }
+    }
+
+    /// One step of a client. It hands over the reply that the client has a receipt for; or the reply that the client holds, once its
+    /// call is committed, where the service still is in the boot that gave it, and else the client loses the reply. A call that is
+    /// asked is refused by the guard, or boots a service that failed, or rebuilds what it needs by one step, or is served. After
+    /// `NoMemory`, which comes of a call that the guard lets pass alone, only points and refused steps are counted, and the step may be
+    /// made again.
+    pub fn step(&mut self, alloc: Global, client: u8) -> Result<Did, NoMemory>
+        requires first { 1 ≤ client }
+        requires last { client ≤ length self.old.view.seats }
+        ensures did { IfOk result (λ did. HasStepped (setting_of S.ask S.sound S.parts self.old.tables) self.old.view client did self.new.view) }
+        ensures err { OnErr result (WantsMemory (setting_of S.ask S.sound S.parts self.old.tables) self.old.view client self.new.view) }
+        ensures answers { IfOk result (AnswersLast self.new.view client) }
+        ensures tables { self.new.tables ≡ self.old.tables }
+        ensures plan { self.new.plan ≡ self.old.plan }
+    {
+        let did = self.inner.step(alloc, client);
+        self.inner.events = self.inner.events.saturating_add(1);
+        if did.is_err() {
+            self.inner.refused = self.inner.refused.saturating_add(1);
+        }
+        did
     }
 
     /// Whether every client waits or has left.

@@ -7,7 +7,7 @@ use Rattle.sg_seat.specs.WorldView.{IsFree, seat_of}
 use Rattle.sg_seat.specs.declared.mark.MarkKind.TheVariants.{Offer}
 use Rattle.sg_world_laws.specs.Seats.{MayBeMade}
 use Rattle.sg_world.specs.Inners.{rooms_in, view_in}
-use Rattle.sg_world.specs.Worlded.{Rooms, setting_of}
+use Rattle.sg_world.specs.Worlded.{IsWorld, Rooms, setting_of}
 use Rattle.sg_world.proofs.Turning.{may_make, offered_again, only_counted_of}
 use Rattle.sg_world.proofs.world.World.offer.Goals as goal
 
@@ -27,25 +27,11 @@ invariant_of-self-2 g c =
     let may : MayBeMade z.iface call = may_make z c.self.invariant.0.world.set call c.requires.first (omega (arith, last, few)) declared fits c.requires.words in (
       record {
         world = offered_again z e w rooms later c.self.invariant.0.world c.args.client c.requires.first last call (subst (λ x. IsFree (seat_of x.view c.args.client).phase) (sym c.self.view_is) c.requires.free) refl
-          (ap (λ n. n + 1) c.seq.ensures) may c.reserve.new.self.items c.offer.new.self c.reserve-2.new.self.items c.add.new.self.items c.saturating_add-self-inside.result c.reserve.ensures.items c.offer.ensures c.reserve-2.ensures.items
-          (c.add.ensures.items ∙ ap (λ l. l ++ record { client = c.args.client; kind = Offer } ∷ []) c.reserve-3.ensures.items)
-          (let n = c.len.ensures in let room = c.in_ok-reserve.ensures.ok in omega (arith, n, room))
-          (let n = c.len-2.ensures in let room = c.in_ok-reserve-2.ensures.ok in omega (arith, n, room))
-          (let n = c.len-3.ensures in let room = c.in_ok-reserve-3.ensures.ok in let left = c.add.ensures.room in omega (arith, n, room, left));
-        points = record { asked_so = c.self.invariant.0.points.asked_so; struck_so = c.self.invariant.0.points.struck_so; tested = c.self.invariant.0.points.tested };
-      },
-      c.self.invariant.1,
-    )
-
-pub invariant_of-self-in_err-reserve : goal.invariant_of-self-in_err-reserve
-invariant_of-self-in_err-reserve g c =
-    let e = c.self.inside.inner.engine in
-    let w = view_in c.self.inside.inner in
-    let rooms : Rooms = rooms_in c.self.inside.inner in
-    let later : Rooms = record { entries = c.reserve.new.self.room; withdrawals = c.self.inside.inner.withdrawn.room; marks = c.self.inside.inner.marks.room } in (
-      record {
-        world = only_counted_of (setting_of g.S.Service.ask g.S.Service.sound g.S.Service.parts e.tables) e w rooms later c.self.invariant.0.world c.reserve.new.self.items c.self.inside.inner.withdrawn.items c.self.inside.inner.marks.items
-          c.saturating_add-self-inside.result c.reserve.ensures.items refl refl c.reserve.ensures.room (omega arith) (omega arith);
+            (ap (λ n. n + 1) c.seq.ensures) may c.reserve.new.self.items c.offer.new.self c.reserve-2.new.self.items c.add.new.self.items c.saturating_add-self-inside.result c.reserve.ensures.items c.in_ok-offer.ensures.ok c.reserve-2.ensures.items
+            (c.add.ensures.items ∙ ap (λ l. l ++ record { client = c.args.client; kind = Offer } ∷ []) c.reserve-3.ensures.items)
+            (let n = c.len-clients.ensures in let room = c.in_ok-reserve.ensures.ok in omega (arith, n, room))
+            (let n = c.len-clients.ensures in let room = c.in_ok-reserve-2.ensures.ok in omega (arith, n, room))
+            (let n = c.len-clients.ensures in let room = c.in_ok-reserve-3.ensures.ok in let left = c.add.ensures.room in omega (arith, n, room, left));
         points = record { asked_so = c.self.invariant.0.points.asked_so; struck_so = c.self.invariant.0.points.struck_so; tested = c.self.invariant.0.points.tested };
       },
       c.self.invariant.1,
@@ -59,7 +45,7 @@ invariant_of-self-in_err-reserve-2 g c =
     let later : Rooms = record { entries = c.reserve.new.self.room; withdrawals = c.reserve-2.new.self.room; marks = c.self.inside.inner.marks.room } in (
       record {
         world = only_counted_of (setting_of g.S.Service.ask g.S.Service.sound g.S.Service.parts e.tables) e w rooms later c.self.invariant.0.world c.reserve.new.self.items c.reserve-2.new.self.items c.self.inside.inner.marks.items
-          c.saturating_add-self-inside.result c.reserve.ensures.items c.reserve-2.ensures.items refl c.reserve.ensures.room c.reserve-2.ensures.room (omega arith);
+            c.saturating_add-self-inside.result c.reserve.ensures.items c.reserve-2.ensures.items refl c.reserve.ensures.room c.reserve-2.ensures.room (omega arith);
         points = record { asked_so = c.self.invariant.0.points.asked_so; struck_so = c.self.invariant.0.points.struck_so; tested = c.self.invariant.0.points.tested };
       },
       c.self.invariant.1,
@@ -73,7 +59,23 @@ invariant_of-self-in_err-reserve-3 g c =
     let later : Rooms = record { entries = c.reserve.new.self.room; withdrawals = c.reserve-2.new.self.room; marks = c.reserve-3.new.self.room } in (
       record {
         world = only_counted_of (setting_of g.S.Service.ask g.S.Service.sound g.S.Service.parts e.tables) e w rooms later c.self.invariant.0.world c.reserve.new.self.items c.reserve-2.new.self.items c.reserve-3.new.self.items
-          c.saturating_add-self-inside.result c.reserve.ensures.items c.reserve-2.ensures.items c.reserve-3.ensures.items c.reserve.ensures.room c.reserve-2.ensures.room c.reserve-3.ensures.room;
+            c.saturating_add-self-inside.result c.reserve.ensures.items c.reserve-2.ensures.items c.reserve-3.ensures.items c.reserve.ensures.room c.reserve-2.ensures.room c.reserve-3.ensures.room;
+        points = record { asked_so = c.self.invariant.0.points.asked_so; struck_so = c.self.invariant.0.points.struck_so; tested = c.self.invariant.0.points.tested };
+      },
+      c.self.invariant.1,
+    )
+
+pub invariant_of-self-in_err-offer : goal.invariant_of-self-in_err-offer
+invariant_of-self-in_err-offer g c =
+    let e = c.self.inside.inner.engine in
+    let w = view_in c.self.inside.inner in
+    let rooms : Rooms = rooms_in c.self.inside.inner in
+    let later : Rooms = record { entries = c.reserve.new.self.room; withdrawals = c.reserve-2.new.self.room; marks = c.reserve-3.new.self.room } in (
+      record {
+        world = subst (λ l. IsWorld (setting_of g.S.Service.ask g.S.Service.sound g.S.Service.parts e.tables) e
+            (record w { history = c.reserve.new.self.items; seats = l; withdrawn = c.reserve-2.new.self.items; marks = c.reserve-3.new.self.items; events = c.saturating_add-self-inside.result }) later) (sym c.in_err-offer.ensures.err)
+            (only_counted_of (setting_of g.S.Service.ask g.S.Service.sound g.S.Service.parts e.tables) e w rooms later c.self.invariant.0.world c.reserve.new.self.items c.reserve-2.new.self.items c.reserve-3.new.self.items
+            c.saturating_add-self-inside.result c.reserve.ensures.items c.reserve-2.ensures.items c.reserve-3.ensures.items c.reserve.ensures.room c.reserve-2.ensures.room c.reserve-3.ensures.room);
         points = record { asked_so = c.self.invariant.0.points.asked_so; struck_so = c.self.invariant.0.points.struck_so; tested = c.self.invariant.0.points.tested };
       },
       c.self.invariant.1,

@@ -1,0 +1,123 @@
+// A client's call that needs nothing any more reaches the service.
+ghost use Rattle.std.specs.Prelude.{◌≡◌, ◌≤◌, ℕ, false, true, None, IsSome, IfOk, OnErr, length};
+ghost use Rattle.std.specs.declared.option.Option.{Option as IsOption};
+ghost use Rattle.sg_base.specs.Stops.{asked_after};
+ghost use Rattle.sg_facts.specs.Facts.{is_visible};
+ghost use Rattle.sg_facts.specs.declared.outcome.Patch.{Patch as IsPatch};
+ghost use Rattle.sg_replay.specs.Missing.{missing};
+ghost use Rattle.sg_seat.specs.WorldView.{seat_in, with_points};
+ghost use Rattle.sg_world.specs.Due.{needs_in};
+ghost use Rattle.sg_world.specs.Inners.{IsInOrder, KeepsRest, view_in};
+ghost use Rattle.sg_world.specs.Inside.Served.{HasServed, view_with};
+ghost use Rattle.sg_world.specs.Steps.{Commits, Holds, PassesGuard, Steps};
+ghost use Rattle.sg_world.specs.Worlded.{setting_of};
+
+use crate::did::Did;
+use crate::inner::Inner;
+use crate::waking::wake;
+use sg_base::{NoMemory, Point, Reply, Stops};
+use sg_facts::{Outcome, Patch, Service};
+use sg_needs::Needs;
+use sg_seat::MarkKind;
+use std::alloc::Global;
+
+impl<S: Service, T: Stops> Inner<S, T> {
+    /// Serves a client's call that has all that it needs, where the point before was asked already. After `NoMemory` the world is as
+    /// before.
+    pub(crate) fn serve(
+        &mut self,
+        alloc: Global,
+        client: u8,
+        needs: &Needs,
+    ) -> Result<Did, NoMemory>
+        requires order { IsInOrder S.ask S.sound S.parts T.test T.asked T.struck T.plan self.old }
+        requires first { 1 ≤ client }
+        requires last { client ≤ length self.old.clients }
+        requires let_in { PassesGuard (setting_of S.ask S.sound S.parts self.old.engine.tables) (view_in self.old) client }
+        requires up { IsSome self.old.engine.cell.running }
+        requires needs { needs.now ≡ needs_in (setting_of S.ask S.sound S.parts self.old.engine.tables) (view_in self.old) (seat_in self.old.clients client).call }
+        requires whole { missing self.old.engine needs.now ≡ None }
+        ensures order { IsInOrder S.ask S.sound S.parts T.test T.asked T.struck T.plan self.new }
+        ensures did { (asked : ℕ) → (view_in self.old).run.points ≡ asked_after asked 1
+            → IfOk result (λ did. Steps (setting_of S.ask S.sound S.parts self.old.engine.tables) (with_points (view_in self.old) asked) client did (view_in self.new)) }
+        ensures err { OnErr result (view_in self.new ≡ view_in self.old) }
+        ensures rest { KeepsRest T.plan self.old self.new }
+    {
+        self.engine
+            .reserve(alloc, self.clients.call(client), needs)?;
+        match self.engine
+            .serve(alloc, &mut self.stops, self.clients.call(client))
+        {
+            Outcome::Replied { reply, patch } => Ok(self.answer(client, reply, patch)),
+            Outcome::Blocks => {
+                self.clients.block(client);
+                Ok(Did::Blocked)
+            }
+            Outcome::Stopped => Ok(Did::Struck),
+            Outcome::NoMemory => Err(NoMemory),
+        }
+    }
+
+    // The service replied: a visible call is committed, behind which the service may stop, and the reply of another is held.
+    fn answer(&mut self, client: u8, reply: Reply, patch: Option<Patch>) -> Did
+        requires first { 1 ≤ client }
+        requires last { client ≤ length self.old.clients }
+        requires served { HasServed (setting_of S.ask S.sound S.parts self.old.engine.tables) T.test T.asked T.struck T.plan self.old client reply patch }
+        ensures order { IsInOrder S.ask S.sound S.parts T.test T.asked T.struck T.plan self.new }
+        ensures did { let z = setting_of S.ask S.sound S.parts self.old.engine.tables in
+            (s : HasServed z T.test T.asked T.struck T.plan self.old client reply patch) (asked : ℕ) → (view_with s.before self.old).run.points ≡ asked_after asked 1
+            → Steps z (with_points (view_with s.before self.old) asked) client result (view_in self.new) }
+        ensures rest { KeepsRest T.plan self.old self.new }
+    {
+        let visible = self.engine
+            .interface()
+            .visible(self.clients.call(client).fun);
+        if visible {
+            self.commit(client, reply, patch);
+            if self.strikes(Point::Stored) {
+                Did::Struck
+            } else {
+                Did::Served
+            }
+        } else {
+            self.hold(client, reply);
+            Did::Served
+        }
+    }
+
+    // A visible call that the service replied to is committed, and its client has a receipt for the reply.
+    fn commit(&mut self, client: u8, reply: Reply, patch: Option<Patch>)
+        requires first { 1 ≤ client }
+        requires last { client ≤ length self.old.clients }
+        requires served { HasServed (setting_of S.ask S.sound S.parts self.old.engine.tables) T.test T.asked T.struck T.plan self.old client reply patch }
+        requires visible { is_visible self.old.engine.tables.iface.facts (seat_in self.old.clients client).call.fun ≡ true }
+        ensures order { IsInOrder S.ask S.sound S.parts T.test T.asked T.struck T.plan self.new }
+        ensures up { IsSome self.new.engine.cell.running }
+        ensures commits { let z = setting_of S.ask S.sound S.parts self.old.engine.tables in
+            (s : HasServed z T.test T.asked T.struck T.plan self.old client reply patch) (asked : ℕ) → (view_with s.before self.old).run.points ≡ asked_after asked 1
+            → Commits z (with_points (view_with s.before self.old) asked) client (view_in self.new) }
+        ensures rest { KeepsRest T.plan self.old self.new }
+    {
+        let entry = self.clients.give(client, &reply);
+        self.engine.commit(&entry.call, reply, patch);
+        wake(&mut self.clients, &self.engine, &entry);
+        self.history.add(entry);
+        self.mark(client, MarkKind::Entry);
+    }
+
+    // The reply to a call that isn't visible is held by its client.
+    fn hold(&mut self, client: u8, reply: Reply)
+        requires first { 1 ≤ client }
+        requires last { client ≤ length self.old.clients }
+        requires served { (patch : IsOption IsPatch) × HasServed (setting_of S.ask S.sound S.parts self.old.engine.tables) T.test T.asked T.struck T.plan self.old client reply patch }
+        requires hidden { is_visible self.old.engine.tables.iface.facts (seat_in self.old.clients client).call.fun ≡ false }
+        ensures order { IsInOrder S.ask S.sound S.parts T.test T.asked T.struck T.plan self.new }
+        ensures holds { let z = setting_of S.ask S.sound S.parts self.old.engine.tables in
+            (patch : IsOption IsPatch) (s : HasServed z T.test T.asked T.struck T.plan self.old client reply patch) (asked : ℕ) → (view_with s.before self.old).run.points ≡ asked_after asked 1
+            → Holds z (with_points (view_with s.before self.old) asked) client (view_in self.new) }
+        ensures rest { KeepsRest T.plan self.old self.new }
+    {
+        let boot = self.engine.boot_number();
+        self.clients.hold(client, boot, reply);
+    }
+}
