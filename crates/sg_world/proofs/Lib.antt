@@ -6,3 +6,4 @@ pub mod Rooming
 pub mod Starting
 pub mod Stepped
 pub mod Turning
+pub mod Upright
