@@ -1,4 +1,6 @@
 pub mod Counting
+pub mod Entering
+pub mod Handing
 pub mod Marking
 pub mod Moving
 pub mod Reserving
