@@ -1,5 +1,5 @@
 -- A world keeps what it keeps where a reply is handed over, and where one is lost.
-use Rattle.std.proofs.Common.{Bool, List, None, Option, Some, [], ap, arith, false, flat_map, if◌then◌else◌, length, refl, slice_get, slice_set, subst, sym, true, ℕ, ◌&&◌, ◌++◌, ◌+◌, ◌-◌, ◌<◌, ◌==◌, ◌∙◌, ◌∷◌, ◌≡◌, ◌≢◌, ◌≤◌, ◌⊎◌}
+use Rattle.std.proofs.Common.{Bool, List, None, Option, Some, [], ap, arith, false, flat_map, if◌then◌else◌, inl, inr, length, refl, slice_get, slice_set, subst, sym, true, ℕ, ◌&&◌, ◌++◌, ◌+◌, ◌-◌, ◌<◌, ◌∙◌, ◌∷◌, ◌≡◌, ◌≢◌, ◌≤◌, ◌⊎◌}
 use Rattle.sg_facts.specs.Object.{Object}
 use Rattle.sg_replay.specs.Engined.{Engined}
 use Rattle.sg_engine_laws.specs.Stubs.{stub_of}
@@ -11,7 +11,7 @@ use Rattle.sg_walk_laws.proofs.Found.{other_test}
 use Rattle.sg_world.proofs.Marking.{marks_on}
 use Rattle.sg_world.proofs.Moving.{rooms_moved, told_moved}
 use Rattle.sg_world.proofs.Rooming.{marks_set, marks_some, offers_set}
-use Rattle.sg_world.specs.Worlded.{HaveRooms, IsWorld, Rooms, marks_due, marks_left}
+use Rattle.sg_world.specs.Worlded.{IsWorld, Rooms, marks_due, marks_left}
 use Rattle.sg_world_laws.proofs.Moves.{HoldsNoneNow}
 use Rattle.sg_world_laws.proofs.Turns.{hand_keeps, lose_keeps, seat_there}
 use Rattle.sg_world_laws.specs.Setting.{Setting}

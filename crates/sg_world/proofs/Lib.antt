@@ -9,3 +9,4 @@ pub mod Starting
 pub mod Stepped
 pub mod Turning
 pub mod Upright
+pub mod Waiting
