@@ -1,6 +1,7 @@
 pub mod Counting
 pub mod Marking
 pub mod Moving
+pub mod Points
 pub mod Reserving
 pub mod Rooming
 pub mod Starting
