@@ -1,7 +1,9 @@
 pub mod Counting
 pub mod Marking
+pub mod Missing
 pub mod Moving
 pub mod Points
+pub mod Rebooting
 pub mod Reserving
 pub mod Rooming
 pub mod Starting

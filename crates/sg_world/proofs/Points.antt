@@ -12,7 +12,7 @@ use Rattle.sg_facts.specs.declared.entry.Entry.{Entry}
 use Rattle.sg_facts.specs.declared.trace.Item.{Item}
 use Rattle.sg_hist.specs.Recovered.{stop_in}
 use Rattle.sg_recovery_laws.proofs.Lists.{each_map}
-use Rattle.sg_recovery_laws.specs.Growing.{IsInLast, IsRecovering, last_stop, noted, struck}
+use Rattle.sg_recovery_laws.specs.Growing.{booted, IsInLast, IsRecovering, last_stop, noted, struck}
 use Rattle.sg_replay.specs.Engined.{Engined}
 use Rattle.sg_seat.specs.WorldView.{WorldView, held_replies, unanswered, with_points}
 use Rattle.sg_store.specs.Stored.{bytes_of}
@@ -38,6 +38,11 @@ pub stops_noted : (boots : List Boot) (item : Item) → flat_map (λ b. stop_in 
 stops_noted [] item = refl
 stops_noted (b ∷ []) item = refl
 stops_noted (b ∷ c ∷ boots) item = ap (λ l. stop_in b.stop ++ l) (stops_noted (c ∷ boots) item)
+
+-- nor does a boot more
+pub stops_booted : (boots : List Boot) → flat_map (λ b. stop_in b.stop) (booted boots) ≡ flat_map (λ b. stop_in b.stop) boots
+stops_booted [] = refl
+stops_booted (b ∷ boots) = ap (λ l. stop_in b.stop ++ l) (stops_booted boots)
 
 -- ---- another number of points
 
