@@ -4,6 +4,7 @@ pub mod Missing
 pub mod Moving
 pub mod Points
 pub mod Rebooting
+pub mod Rebuilding
 pub mod Reserving
 pub mod Rooming
 pub mod Starting
