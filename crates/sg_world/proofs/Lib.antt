@@ -2,7 +2,11 @@ pub mod Counting
 pub mod Entering
 pub mod Handing
 pub mod Marking
+pub mod Missing
 pub mod Moving
+pub mod Points
+pub mod Rebooting
+pub mod Rebuilding
 pub mod Reserving
 pub mod Rooming
 pub mod Starting

@@ -21,6 +21,7 @@ impl<S: Service, T: Stops> Inner<S, T> {
     /// One step of a client. After `NoMemory` nothing changed but the number of points.
     pub(crate) fn step(&mut self, alloc: Global, client: u8) -> Result<Did, NoMemory>
         requires order { IsInOrder S.ask S.sound S.parts T.test T.asked T.struck T.plan self.old }
+        requires service { self.old.engine.tables.iface.facts ≡ S.facts }
         requires first { 1 ≤ client }
         requires last { client ≤ length self.old.clients }
         ensures order { IsInOrder S.ask S.sound S.parts T.test T.asked T.struck T.plan self.new }
@@ -58,6 +59,7 @@ impl<S: Service, T: Stops> Inner<S, T> {
     // The guard judges a client's call first.
     fn ask(&mut self, alloc: Global, client: u8) -> Result<Did, NoMemory>
         requires order { IsInOrder S.ask S.sound S.parts T.test T.asked T.struck T.plan self.old }
+        requires service { self.old.engine.tables.iface.facts ≡ S.facts }
         requires first { 1 ≤ client }
         requires last { client ≤ length self.old.clients }
         requires asks { (seat_in self.old.clients client).phase ≡ Asked }
@@ -75,6 +77,7 @@ impl<S: Service, T: Stops> Inner<S, T> {
     // A call that the guard lets pass boots a service that failed, and else uses it.
     fn let_in(&mut self, alloc: Global, client: u8) -> Result<Did, NoMemory>
         requires order { IsInOrder S.ask S.sound S.parts T.test T.asked T.struck T.plan self.old }
+        requires service { self.old.engine.tables.iface.facts ≡ S.facts }
         requires first { 1 ≤ client }
         requires last { client ≤ length self.old.clients }
         requires let_in { PassesGuard (setting_of S.ask S.sound S.parts self.old.engine.tables) (view_in self.old) client }
@@ -103,6 +106,7 @@ impl<S: Service, T: Stops> Inner<S, T> {
         needs: &Needs,
     ) -> Result<Did, NoMemory>
         requires order { IsInOrder S.ask S.sound S.parts T.test T.asked T.struck T.plan self.old }
+        requires service { self.old.engine.tables.iface.facts ≡ S.facts }
         requires first { 1 ≤ client }
         requires last { client ≤ length self.old.clients }
         requires let_in { PassesGuard (setting_of S.ask S.sound S.parts self.old.engine.tables) (view_in self.old) client }

@@ -64,6 +64,7 @@ impl<S: Service, T: Stops> Inner<S, T> {
         todo: Todo,
     ) -> Result<Did, NoMemory>
         requires order { IsInOrder S.ask S.sound S.parts T.test T.asked T.struck T.plan self.old }
+        requires service { self.old.engine.tables.iface.facts ≡ S.facts }
         requires first { 1 ≤ client }
         requires last { client ≤ length self.old.clients }
         requires let_in { PassesGuard (setting_of S.ask S.sound S.parts self.old.engine.tables) (view_in self.old) client }
