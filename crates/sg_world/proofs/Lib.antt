@@ -5,5 +5,6 @@ pub mod Reserving
 pub mod Rooming
 pub mod Starting
 pub mod Stepped
+pub mod Storing
 pub mod Turning
 pub mod Upright
