@@ -8,3 +8,4 @@ pub mod Stepped
 pub mod Storing
 pub mod Turning
 pub mod Upright
+pub mod Wakes
