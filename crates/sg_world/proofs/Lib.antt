@@ -1,4 +1,6 @@
 pub mod Counting
+pub mod Entering
+pub mod Handing
 pub mod Marking
 pub mod Moving
 pub mod Reserving
@@ -8,4 +10,5 @@ pub mod Stepped
 pub mod Storing
 pub mod Turning
 pub mod Upright
+pub mod Waiting
 pub mod Wakes
