@@ -4,6 +4,7 @@ pub mod Handing
 pub mod Marking
 pub mod Moving
 pub mod Reserving
+pub mod Returning
 pub mod Rooming
 pub mod Starting
 pub mod Stepped
