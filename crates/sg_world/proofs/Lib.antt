@@ -8,9 +8,12 @@ pub mod Points
 pub mod Rebooting
 pub mod Rebuilding
 pub mod Reserving
+pub mod Returning
 pub mod Rooming
 pub mod Starting
 pub mod Stepped
+pub mod Storing
 pub mod Turning
 pub mod Upright
 pub mod Waiting
+pub mod Wakes
