@@ -5,8 +5,10 @@ pub mod Marking
 pub mod Missing
 pub mod Moving
 pub mod Points
+pub mod Reaching
 pub mod Rebooting
 pub mod Rebuilding
+pub mod Replying
 pub mod Reserving
 pub mod Returning
 pub mod Rooming
