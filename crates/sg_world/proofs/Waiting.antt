@@ -38,7 +38,7 @@ wait_on_live z set history withdrawn client (s ∷ seats) all = (
       let offers : is_offered s.phase ≡ true = ap is_offered blocked in
       desc_there z.iface (object_of z.iface.facts history) s.call (all.0.may offers).is_clients.is_call set.law.shape.shape
       (passed (guard z.iface (object_of z.iface.facts history) s.call) (z.ask (object_of z.iface.facts history) s.call) (all.0.waits blocked)),
-  wait_on_live z set history withdrawn (client + 1) seats all.1.1,
+  wait_on_live z set history withdrawn (client + 1) seats all.2,
 )
 
 -- so where one of them doesn't wait
