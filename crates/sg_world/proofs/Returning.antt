@@ -4,13 +4,11 @@ use Rattle.std.proofs.Math.Path.{fun_ext}
 use Rattle.std.specs.List.{Contains}
 use Rattle.std.specs.Prelude.{◌||◌}
 use Rattle.sg_base.specs.declared.call.Call.{Call}
-use Rattle.sg_base.specs.declared.reply.Good.{Good}
 use Rattle.sg_base.specs.declared.reply.Reply.{Reply}
 use Rattle.sg_base.specs.declared.reply.Reply.TheVariants.{Ok, Refused}
 use Rattle.sg_engine_laws.specs.Stubs.{stub_of, told_of}
 use Rattle.sg_facts.specs.Alike.{named}
-use Rattle.sg_facts.specs.Facts.{Facts, fun_at, is_visible}
-use Rattle.sg_facts.specs.Laws.{whole}
+use Rattle.sg_facts.specs.Facts.{Facts, fun_at}
 use Rattle.sg_facts.specs.Legal.{Table}
 use Rattle.sg_facts.specs.Object.{Object, after, object_of, patch_of}
 use Rattle.sg_facts.specs.Sound.{AreRows, IsRow}

@@ -78,7 +78,7 @@ module _ (g : Given.Over) (c : goal.After-add-3 g) where
       let s = seat_in x.clients c.args.client in
       let en = c.give_back-entry.result.entry in
       subst (λ i. c.commit.new.self.tracked.rows ≡ track i.iface.facts x.engine.tracked.rows en.call en.reply → WaitOnLive i.iface.facts x.engine.tracked.rows en.call c.give_back-entry.new.self
-          → c.wake.new.clients ≡ map (woken_seat (wakes_seat i.iface.facts x.engine.tracked.rows en.call en.reply)) c.give_back-entry.new.self) c.commit.ensures.tables (c.wake.ensures x.engine.tracked.rows)
+      → c.wake.new.clients ≡ map (woken_seat (wakes_seat i.iface.facts x.engine.tracked.rows en.call en.reply)) c.give_back-entry.new.self) c.commit.ensures.tables (c.wake.ensures x.engine.tracked.rows)
       (rows ∙ sym (ap (λ y. track z.iface.facts x.engine.tracked.rows y.call y.reply) c.give_back-entry.ensures.entry))
       (subst (WaitOnLive z.iface.facts x.engine.tracked.rows en.call) (sym c.give_back-entry.ensures.seats)
       (waits_live z x.engine (view_in x) (rooms_in x) c.requires.order.world c.args.client c.requires.first c.requires.last c.requires.held c.requires.up c.requires.boot en.call (ap (λ y. y.call) c.give_back-entry.ensures.entry)
@@ -100,12 +100,12 @@ returns-clause-order g c =
     let later : Rooms = record { entries = c.add.new.self.room; withdrawals = x.withdrawn.room; marks = c.add-3.new.self.room } in
     record {
       world =
-        subst (λ t. IsWorld (setting_of g.S.Service.ask g.S.Service.sound g.S.Service.parts t) c.commit.new.self
-        (record (view_in x) { history = c.add.new.self.items; run = c.commit.new.self.cell.run; running = c.commit.new.self.cell.running; seats = c.wake.new.clients; marks = c.add-3.new.self.items }) later) (sym c.commit.ensures.tables)
-        (subst (λ y. IsWorld z c.commit.new.self (record (view_in x) { history = c.add.new.self.items; run = y.run; running = y.running; seats = c.wake.new.clients; marks = c.add-3.new.self.items }) later) (sym c.commit.ensures.cell)
-        (returned_on z x.engine (view_in x) (rooms_in x) c.requires.order.world c.args.client c.requires.first c.requires.last c.requires.held c.requires.up c.requires.boot
-        c.commit.new.self later (fits g c) (rows g c) (given g c) c.commit.ensures.files c.commit.ensures.names c.commit.ensures.present c.add.new.self.items (history g c) c.give_back-entry.new.self c.wake.new.clients c.give_back-entry.ensures.seats
-        (seats g c) c.add-3.new.self.items (marks g c) c.add.ensures.room (omega arith) (let one = c.add-2.ensures.room in let two = c.add-3.ensures.room in omega (arith, one, two))));
+          subst (λ t. IsWorld (setting_of g.S.Service.ask g.S.Service.sound g.S.Service.parts t) c.commit.new.self
+          (record (view_in x) { history = c.add.new.self.items; run = c.commit.new.self.cell.run; running = c.commit.new.self.cell.running; seats = c.wake.new.clients; marks = c.add-3.new.self.items }) later) (sym c.commit.ensures.tables)
+          (subst (λ y. IsWorld z c.commit.new.self (record (view_in x) { history = c.add.new.self.items; run = y.run; running = y.running; seats = c.wake.new.clients; marks = c.add-3.new.self.items }) later) (sym c.commit.ensures.cell)
+          (returned_on z x.engine (view_in x) (rooms_in x) c.requires.order.world c.args.client c.requires.first c.requires.last c.requires.held c.requires.up c.requires.boot
+          c.commit.new.self later (fits g c) (rows g c) (given g c) c.commit.ensures.files c.commit.ensures.names c.commit.ensures.present c.add.new.self.items (history g c) c.give_back-entry.new.self c.wake.new.clients c.give_back-entry.ensures.seats
+          (seats g c) c.add-3.new.self.items (marks g c) c.add.ensures.room (omega arith) (let one = c.add-2.ensures.room in let two = c.add-3.ensures.room in omega (arith, one, two))));
       points = record {
         asked_so = ap (λ y. y.run.points) c.commit.ensures.cell ∙ c.requires.order.points.asked_so;
         struck_so = ap (λ y. struck_in y.run) c.commit.ensures.cell ∙ c.requires.order.points.struck_so;
