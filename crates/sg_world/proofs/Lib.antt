@@ -1,4 +1,5 @@
 pub mod Counting
+pub mod Denying
 pub mod Entering
 pub mod Handing
 pub mod Marking
