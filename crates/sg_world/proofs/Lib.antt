@@ -1,4 +1,6 @@
 pub mod Counting
+pub mod Entering
+pub mod Handing
 pub mod Marking
 pub mod Missing
 pub mod Moving
@@ -6,8 +8,12 @@ pub mod Points
 pub mod Rebooting
 pub mod Rebuilding
 pub mod Reserving
+pub mod Returning
 pub mod Rooming
 pub mod Starting
 pub mod Stepped
+pub mod Storing
 pub mod Turning
 pub mod Upright
+pub mod Waiting
+pub mod Wakes

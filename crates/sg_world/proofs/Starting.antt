@@ -35,7 +35,7 @@ all_new : (n : ℕ) → AreNew (replicate n no_seat)
 all_new zero = tt
 all_new (suc n) = (refl, all_new n)
 
-as_many : (n : ℕ) → length (replicate n no_seat) ≡ n
+pub as_many : (n : ℕ) → length (replicate n no_seat) ≡ n
 as_many zero = refl
 as_many (suc n) = ap suc (as_many n)
 

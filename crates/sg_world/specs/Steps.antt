@@ -1,6 +1,5 @@
 -- What a step of a client does to a world: one relation by what it answers.
 use Rattle.std.specs.Prelude.{ℕ, ◌≡◌, ◌≢◌, ◌⊎◌, ◌+◌, true, false, List, [], ◌∷◌, ◌++◌, None, Some, IsSome, min, nat_lt}
-use Rattle.std.specs.declared.option.Option.{Option}
 use Rattle.sg_base.specs.Counts.{last_count}
 use Rattle.sg_base.specs.Stops.{asked_after}
 use Rattle.sg_base.specs.declared.call.Call.{Call}

@@ -1,5 +1,5 @@
 // A reply is handed over or lost, and an answered call comes into the history.
-ghost use Rattle.std.specs.Prelude.{◌≡◌, ◌≢◌, ◌⊎◌, ◌≤◌, ◌<◌, ◌+◌, ◌++◌, ◌∷◌, [], None, Some, IsSome, length};
+ghost use Rattle.std.specs.Prelude.{◌≡◌, ◌≢◌, ◌⊎◌, ◌≤◌, None, Some, IsSome, length};
 ghost use Rattle.sg_base.specs.declared.reply.Reply.TheVariants.{Refused};
 ghost use Rattle.sg_facts.specs.declared.entry.Entry.{Entry as IsEntry};
 ghost use Rattle.sg_facts.specs.Guard.{guard as the_guard};
@@ -29,7 +29,10 @@ impl<S: Service, T: Stops> Inner<S, T> {
         ensures rest { KeepsRest T.plan self.old self.new }
     {
         let reply = self.clients.hand_over(alloc, client);
-        self.mark(client, MarkKind::Answer);
+        self.marks.add(Mark {
+            client,
+            kind: MarkKind::Answer,
+        });
         reply
     }
 
@@ -65,8 +68,14 @@ impl<S: Service, T: Stops> Inner<S, T> {
             call,
             reply: Reply::Refused(code),
         });
-        self.mark(client, MarkKind::Entry);
-        self.mark(client, MarkKind::Answer);
+        self.marks.add(Mark {
+            client,
+            kind: MarkKind::Entry,
+        });
+        self.marks.add(Mark {
+            client,
+            kind: MarkKind::Answer,
+        });
         Reply::Refused(code)
     }
 
@@ -93,24 +102,14 @@ impl<S: Service, T: Stops> Inner<S, T> {
         self.engine.commit(&entry.call, reply, None);
         wake(&mut self.clients, &self.engine, &entry);
         self.history.add(entry);
-        self.mark(client, MarkKind::Entry);
-        self.mark(client, MarkKind::Answer);
+        self.marks.add(Mark {
+            client,
+            kind: MarkKind::Entry,
+        });
+        self.marks.add(Mark {
+            client,
+            kind: MarkKind::Answer,
+        });
         answer
-    }
-
-    // Something happened to a client, into the room that there is.
-    pub(crate) fn mark(&mut self, client: u8, kind: MarkKind)
-        requires { 0 < self.old.marks.room }
-        ensures marks { self.new.marks.items ≡ self.old.marks.items ++ record { client = client; kind = kind } ∷ [] }
-        ensures room { self.old.marks.room ≤ self.new.marks.room + 1 }
-        ensures engine { self.new.engine ≡ self.old.engine }
-        ensures stops { self.new.stops ≡ self.old.stops }
-        ensures clients { self.new.clients ≡ self.old.clients }
-        ensures history { self.new.history ≡ self.old.history }
-        ensures withdrawn { self.new.withdrawn ≡ self.old.withdrawn }
-        ensures events { self.new.events ≡ self.old.events }
-        ensures refused { self.new.refused ≡ self.old.refused }
-    {
-        self.marks.add(Mark { client, kind });
     }
 }

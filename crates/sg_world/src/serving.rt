@@ -18,7 +18,7 @@ use crate::waking::wake;
 use sg_base::{NoMemory, Point, Reply, Stops};
 use sg_facts::{Outcome, Patch, Service};
 use sg_needs::Needs;
-use sg_seat::MarkKind;
+use sg_seat::{Mark, MarkKind};
 use std::alloc::Global;
 
 impl<S: Service, T: Stops> Inner<S, T> {
@@ -102,7 +102,10 @@ impl<S: Service, T: Stops> Inner<S, T> {
         self.engine.commit(&entry.call, reply, patch);
         wake(&mut self.clients, &self.engine, &entry);
         self.history.add(entry);
-        self.mark(client, MarkKind::Entry);
+        self.marks.add(Mark {
+            client,
+            kind: MarkKind::Entry,
+        });
     }
 
     // The reply to a call that isn't visible is held by its client.

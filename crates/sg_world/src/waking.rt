@@ -1,6 +1,6 @@
 // Who waits is asked again where an answered call may have given it what it waits for.
-ghost use Rattle.std.specs.Prelude.{◌≡◌, List, map};
-ghost use Rattle.sg_facts.specs.Track.{track};
+ghost use Rattle.std.specs.Prelude.{◌≡◌, ◌&&◌, List, map, nat_lt, not};
+ghost use Rattle.sg_facts.specs.Track.{is_live, track};
 ghost use Rattle.sg_seat.specs.WorldView.{wakes_seat, woken_seat};
 ghost use Rattle.sg_facts.specs.declared.row.Row.{Row as IsRow};
 ghost use Rattle.sg_world.specs.Inside.Waiting.{WaitOnLive};
@@ -25,6 +25,10 @@ pub(crate) fn wake<S: Service>(clients: &mut Clients, engine: &Engine<S>, entry:
         clients.wake(entry.call.desc);
     }
     if fun.is_terminal() && interface.shape.subtree {
-        clients.wake_where(|desc: u64| -> bool { desc > 0 && engine.row(desc).is_none() });
+        clients.wake_where(
+            |desc: u64| -> bool
+                ensures { result ≡ (nat_lt 0 desc && not (is_live engine.entry.now.tracked.rows desc)) }
+            { desc > 0 && engine.row(desc).is_none() },
+        );
     }
 }

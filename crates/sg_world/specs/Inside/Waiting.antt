@@ -3,12 +3,15 @@ use Rattle.std.specs.Prelude.{◌≡◌, true, List}
 use Rattle.sg_base.specs.Lists.{Each}
 use Rattle.sg_base.specs.declared.call.Call.{Call}
 use Rattle.sg_facts.specs.declared.row.Row.{Row}
+use Rattle.sg_facts.specs.Allowed.{is_allowed}
 use Rattle.sg_facts.specs.Facts.{Facts}
 use Rattle.sg_facts.specs.Kinds.{IsCall}
 use Rattle.sg_held_laws.specs.Progress.{IsNone}
 use Rattle.sg_seat.specs.WorldView.{Seat, is_blocked_phase}
 
--- an answered call is one that may be made, and whoever waits, waits in a call on no descriptor or on a live one
+-- an answered call is one that may be made, of an interface that is allowed, and whoever waits, waits in a call on no descriptor or on a
+-- live one
 pub record WaitOnLive (facts : Facts) (rows : List Row) (call : Call) (seats : List Seat) : Type 0 where
+  pub allowed : is_allowed facts ≡ true
   pub is_call : IsCall facts call
   pub each : Each (λ s. is_blocked_phase s.phase ≡ true → IsNone rows s.call.desc) seats

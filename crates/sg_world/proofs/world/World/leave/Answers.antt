@@ -1,6 +1,8 @@
 -- A world keeps what it keeps where a client leaves.
-use Rattle.std.proofs.Common.{◌≤◌, sym, ◌∙◌, subst, arith, length}
+use Rattle.std.proofs.Common.{◌≤◌, sym, ◌∙◌, subst, arith, length, ap, ◌-◌}
 use Rattle.sg_seat.specs.WorldView.{IsFree, WorldView, seat_of}
+use Rattle.sg_seat.specs.declared.phase.Phase.TheVariants.{Left}
+use Rattle.sg_world.proofs.Rooming.{length_set}
 use Rattle.sg_world.specs.Inners.{rooms_in, view_in}
 use Rattle.sg_world.specs.Worlded.{Rooms, setting_of}
 use Rattle.sg_world.proofs.Turning.{left_on, may_leave}
@@ -27,6 +29,7 @@ invariant_of-self g c =
           (subst (λ x. IsFree (seat_of x.view c.args.client).phase) (sym c.self.view_is) c.requires.free) (sym c.has_left.ensures ∙ c.if-not-has_left.true)
           c.leave.new.self c.add.new.self.items c.saturating_add-self-inside.result c.leave.ensures c.add.ensures.items (omega arith) (omega arith) c.add.ensures.room;
         points = record { asked_so = c.self.invariant.0.points.asked_so; struck_so = c.self.invariant.0.points.struck_so; tested = c.self.invariant.0.points.tested };
+        clients = (let same = ap length c.leave.ensures ∙ length_set c.self.inside.inner.clients (c.args.client - 1) (record (seat_of w c.args.client) { phase = Left }) in let was = c.self.invariant.0.clients in omega (arith, same, was));
       },
       c.self.invariant.1,
     )

@@ -1,10 +1,10 @@
 -- A new world keeps what worlds keep.
-use Rattle.std.proofs.Common.{sym, ◌∙◌, ap, subst, arith}
+use Rattle.std.proofs.Common.{sym, ◌∙◌, ap, subst, arith, length}
 use Rattle.sg_facts.specs.Tables.{AreTables}
 use Rattle.sg_object_laws.specs.Serving.{IsService}
 use Rattle.sg_world_laws.specs.Setting.{IsSetting}
 use Rattle.sg_world.specs.Worlded.{Rooms, setting_of}
-use Rattle.sg_world.proofs.Starting.{IsNewEngine, is_setting, new_counted, new_is_world_of, new_points}
+use Rattle.sg_world.proofs.Starting.{IsNewEngine, as_many, is_setting, new_counted, new_is_world_of, new_points}
 use Rattle.sg_world.proofs.world.World.new.Goals as goal
 
 pub invariant_of-result : goal.invariant_of-result
@@ -25,6 +25,7 @@ invariant_of-result g c =
             (let room = c.in_ok-reserve.ensures.ok in let from = c.from.ensures in omega (arith, room, from))
             c.new-3.result.items c.in_ok-seats.seats c.new-4.result.items c.reserve.new.self.items c.new-3.ensures c.in_ok-seats.ensures c.new-4.ensures (c.reserve.ensures.items ∙ c.new-marks.ensures);
         points = new_points g.T.Stops.test _ _ _ _ made.run c.requires.unasked c.requires.unstruck (g.met.T.Stops.starts _);
+        clients = (let made = c.in_ok-new.ensures.clients in let seats = ap length c.in_ok-seats.ensures ∙ as_many c.args.clients in omega (arith, made, seats));
       },
       new_counted (setting_of g.S.Service.ask g.S.Service.sound g.S.Service.parts e.tables) e c.new-3.result.items c.in_ok-seats.seats c.new-4.result.items c.reserve.new.self.items made.run,
     )

@@ -1,11 +1,13 @@
 -- A world keeps what it keeps behind an offer.
-use Rattle.std.proofs.Common.{◌≡◌, ◌+◌, ◌++◌, ◌∷◌, [], ◌≤◌, sym, ◌∙◌, ap, subst, arith, refl, length, true}
+use Rattle.std.proofs.Common.{◌≡◌, ◌+◌, ◌++◌, ◌∷◌, [], ◌≤◌, sym, ◌∙◌, ap, subst, arith, refl, length, true, ◌-◌}
 use Rattle.sg_base.specs.declared.call.Call.{Call}
 use Rattle.sg_facts.specs.Interface.{declares}
 use Rattle.sg_facts.specs.Kinds.{FitsKinds}
 use Rattle.sg_seat.specs.WorldView.{IsFree, seat_of}
 use Rattle.sg_seat.specs.declared.mark.MarkKind.TheVariants.{Offer}
 use Rattle.sg_world_laws.specs.Seats.{MayBeMade}
+use Rattle.sg_seat.specs.declared.phase.Phase.TheVariants.{Asked}
+use Rattle.sg_world.proofs.Rooming.{length_set}
 use Rattle.sg_world.specs.Inners.{rooms_in, view_in}
 use Rattle.sg_world.specs.Worlded.{IsWorld, Rooms, setting_of}
 use Rattle.sg_world.proofs.Turning.{may_make, offered_again, only_counted_of}
@@ -33,6 +35,7 @@ invariant_of-self-2 g c =
             (let n = c.len-clients.ensures in let room = c.in_ok-reserve-2.ensures.ok in omega (arith, n, room))
             (let n = c.len-clients.ensures in let room = c.in_ok-reserve-3.ensures.ok in let left = c.add.ensures.room in omega (arith, n, room, left));
         points = record { asked_so = c.self.invariant.0.points.asked_so; struck_so = c.self.invariant.0.points.struck_so; tested = c.self.invariant.0.points.tested };
+        clients = (let same = ap length c.in_ok-offer.ensures.ok ∙ length_set c.self.inside.inner.clients (c.args.client - 1) (record (seat_of w c.args.client) { phase = Asked; call = call }) in let was = c.self.invariant.0.clients in omega (arith, same, was));
       },
       c.self.invariant.1,
     )
@@ -47,6 +50,7 @@ invariant_of-self-in_err-reserve-2 g c =
         world = only_counted_of (setting_of g.S.Service.ask g.S.Service.sound g.S.Service.parts e.tables) e w rooms later c.self.invariant.0.world c.reserve.new.self.items c.reserve-2.new.self.items c.self.inside.inner.marks.items
             c.saturating_add-self-inside.result c.reserve.ensures.items c.reserve-2.ensures.items refl c.reserve.ensures.room c.reserve-2.ensures.room (omega arith);
         points = record { asked_so = c.self.invariant.0.points.asked_so; struck_so = c.self.invariant.0.points.struck_so; tested = c.self.invariant.0.points.tested };
+        clients = c.self.invariant.0.clients;
       },
       c.self.invariant.1,
     )
@@ -61,6 +65,7 @@ invariant_of-self-in_err-reserve-3 g c =
         world = only_counted_of (setting_of g.S.Service.ask g.S.Service.sound g.S.Service.parts e.tables) e w rooms later c.self.invariant.0.world c.reserve.new.self.items c.reserve-2.new.self.items c.reserve-3.new.self.items
             c.saturating_add-self-inside.result c.reserve.ensures.items c.reserve-2.ensures.items c.reserve-3.ensures.items c.reserve.ensures.room c.reserve-2.ensures.room c.reserve-3.ensures.room;
         points = record { asked_so = c.self.invariant.0.points.asked_so; struck_so = c.self.invariant.0.points.struck_so; tested = c.self.invariant.0.points.tested };
+        clients = c.self.invariant.0.clients;
       },
       c.self.invariant.1,
     )
@@ -77,6 +82,7 @@ invariant_of-self-in_err-offer g c =
             (only_counted_of (setting_of g.S.Service.ask g.S.Service.sound g.S.Service.parts e.tables) e w rooms later c.self.invariant.0.world c.reserve.new.self.items c.reserve-2.new.self.items c.reserve-3.new.self.items
             c.saturating_add-self-inside.result c.reserve.ensures.items c.reserve-2.ensures.items c.reserve-3.ensures.items c.reserve.ensures.room c.reserve-2.ensures.room c.reserve-3.ensures.room);
         points = record { asked_so = c.self.invariant.0.points.asked_so; struck_so = c.self.invariant.0.points.struck_so; tested = c.self.invariant.0.points.tested };
+        clients = (let same = ap length c.in_err-offer.ensures.err in let was = c.self.invariant.0.clients in omega (arith, same, was));
       },
       c.self.invariant.1,
     )

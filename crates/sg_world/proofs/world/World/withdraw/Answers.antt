@@ -1,6 +1,8 @@
 -- A world keeps what it keeps where a call is withdrawn.
-use Rattle.std.proofs.Common.{◌≤◌, sym, ap, subst, arith, length}
+use Rattle.std.proofs.Common.{◌≤◌, sym, ap, subst, arith, length, ◌-◌, ◌∙◌}
 use Rattle.sg_seat.specs.WorldView.{MayWithdraw, WorldView, seat_of}
+use Rattle.sg_seat.specs.declared.phase.Phase.TheVariants.{Idle}
+use Rattle.sg_world.proofs.Rooming.{length_set}
 use Rattle.sg_world.specs.Inners.{rooms_in, view_in}
 use Rattle.sg_world.specs.Worlded.{Rooms, setting_of}
 use Rattle.sg_world.proofs.Turning.{may_withdraw, withdrawn_on}
@@ -37,6 +39,7 @@ invariant_of-self g c =
           c.withdraw-withdrawn.new.self c.add.new.self.items c.withdraw-withdrawn.result c.add-2.new.self.items c.saturating_add-self-inside.result c.withdraw-withdrawn.ensures.seats
           (ap (λ x. x.call) c.withdraw-withdrawn.ensures.withdrawn) c.add.ensures.items c.add-2.ensures.items (omega arith) c.add.ensures.room c.add-2.ensures.room;
         points = record { asked_so = c.self.invariant.0.points.asked_so; struck_so = c.self.invariant.0.points.struck_so; tested = c.self.invariant.0.points.tested };
+        clients = (let same = ap length c.withdraw-withdrawn.ensures.seats ∙ length_set c.self.inside.inner.clients (c.args.client - 1) (record (seat_of w c.args.client) { phase = Idle }) in let was = c.self.invariant.0.clients in omega (arith, same, was));
       },
       c.self.invariant.1,
     )
