@@ -81,6 +81,10 @@ pub on_err : {A E : Type 0} (r : Result A E) (P : Type 0) → P → OnErr r P
 on_err (Done x) P p = tt
 on_err (Err e) P p = p
 
+pub on_err_map : {A E : Type 0} (r : Result A E) (P Q : Type 0) → (P → Q) → OnErr r P → OnErr r Q
+on_err_map (Done x) P Q turn on = tt
+on_err_map (Err e) P Q turn on = turn on
+
 -- as its contract says
 pub record Advances (facts : Facts) (ask : Table) (parts : ℕ → ℕ) (e : Engined) (client : ℕ) (needs : Needs) (todo : Todo) (start : Points) (result : Result Advanced NoMemory) (new : Engined) (later : Points) : Type 0 where
   pub walk : (held : Object) (id k : ℕ) (shown : Call) → e.cell.running ≡ Some held → todo ≡ ToWalk id k → replay_of facts e.tables.walks (row_at e.tracked.rows id) k ≡ Some shown

@@ -1,19 +1,14 @@
 -- The parts stay in order where the engine does one step more of what a call needs, and it is the line of the step.
-use Rattle.std.proofs.Common.{None, Ok, Err, Some, [], ap, inl, inr, refl, subst, sym, ℕ, ◌∙◌, ◌≡◌}
-use Rattle.std.specs.declared.result.Result.{Result}
-use Rattle.sg_base.specs.declared.memory.NoMemory.{NoMemory}
+use Rattle.std.proofs.Common.{Ok, ap, inl, inr, refl, subst, sym, ◌∙◌, ◌≡◌}
 use Rattle.sg_engine_laws.specs.Engines.{as_shown}
-use Rattle.sg_facts.specs.Facts.{Facts}
 use Rattle.sg_facts.specs.Invoke.{Points}
-use Rattle.sg_facts.specs.Object.{Object}
 use Rattle.sg_replay.specs.Engined.{Engined}
-use Rattle.sg_replay.specs.declared.advance.Advanced.{Advanced}
 use Rattle.sg_seat.specs.WorldView.{WorldView, seat_of}
 use Rattle.sg_world.specs.Due.{needs_in}
 use Rattle.sg_world.specs.Inners.{rooms_in, view_in}
 use Rattle.sg_world.specs.Worlded.{IsWorld, Rooms, setting_of, view_of}
 use Rattle.sg_world.proofs.Points.{some_is}
-use Rattle.sg_world.proofs.Rebuilding.{Advances, IsTurn, advanced_on, counts_on, loads_line, may_of, nothing_on, on_err, replays_line, strikes_line, turn_of}
+use Rattle.sg_world.proofs.Rebuilding.{IsTurn, advanced_on, counts_on, loads_line, may_of, nothing_on, on_err, replays_line, strikes_line, turn_of}
 use Rattle.sg_world.proofs.inner.Inner.advance.Goals as goal
 
 pub advance-requires : goal.advance-requires
