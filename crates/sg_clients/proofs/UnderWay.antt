@@ -66,7 +66,8 @@ gone new waiting client none ends = record {
 
 -- ---- what an index has, when a call comes or goes
 
-both : (x y : Bool) → (x && y) ≡ true → (x ≡ true) × (y ≡ true)
+-- where two tests hold, each does
+pub both : (x y : Bool) → (x && y) ≡ true → (x ≡ true) × (y ≡ true)
 both true y is = (refl, is)
 both false y is = absurd (cc is)
 

@@ -11,7 +11,7 @@ use Rattle.std.proofs.lemmas.Bool.Decides.{nat_tests}
 use Rattle.sg_clients.specs.declared.under_way.UnderWay.{UnderWay}
 use Rattle.sg_clients.specs.Inside.Waiting.{AreAmong, AreOn, AreUnderWay, has_call, is_call, under_way_cmp, woken_by}
 use Rattle.sg_clients.proofs.Seats.{Reads, all_kept, is_changed, seat_elsewhere, seat_here, set_unseen}
-use Rattle.sg_clients.proofs.UnderWay.{waits_offered}
+use Rattle.sg_clients.proofs.UnderWay.{both, waits_offered}
 use Rattle.sg_seat.specs.WorldView.{Seat, is_blocked_phase, no_seat, seat_in, woken_seat}
 use Rattle.sg_seat.specs.declared.phase.Phase.TheVariants.{Asked}
 
@@ -54,10 +54,6 @@ has_is_in (one ∷ calls) desc client =
 later : (x y : Bool) → y ≡ true → (x || y) ≡ true
 later true y is = refl
 later false y is = is
-
-both : (x y : Bool) → (x && y) ≡ true → (x ≡ true) × (y ≡ true)
-both true y is = (refl, is)
-both false y is = absurd (cc is)
 
 -- the call that is in front
 in_front : (one : UnderWay) (calls : List UnderWay) → is_in (one ∷ calls) one.desc one.client ≡ true

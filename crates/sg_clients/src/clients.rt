@@ -18,8 +18,8 @@ use std::alloc::Global;
 use std::collections::BTreeSet;
 use std::marker::Model;
 
-/// The clients of a world, in ascending numbers from 1. Contracts see the list of their seats. Who waits on a descriptor is found
-/// by the descriptor.
+/// The clients of a world, in ascending numbers from 1. Contracts see the list of their seats. An index has each call that
+/// isn't answered, by its descriptor; a call whose client left stays in it until the client offers the next.
 #[derive(Debug, Drop)]
 pub struct Clients {
     seats: Vec<ClientSeat>,
@@ -265,15 +265,16 @@ impl Clients {
         self.seats.iter().all(|seat| seat.is_at_rest())
     }
 
-    /// Whoever waits in a call on a descriptor is asked again. It takes time that grows with the number of the calls under way on the
-    /// descriptor, and with the logarithm of the others.
+    /// Whoever waits in a call on a descriptor is asked again. It takes time that grows with the number of the calls on the descriptor
+    /// in the index, and with the logarithm of all: it does not go over all clients.
     pub fn wake(&mut self, desc: u64)
         ensures { self.new ≡ map (woken_seat (λ call. desc == call.desc)) self.old }
     {
         wake_on(self.seats.as_mut_slice(), &self.waiting, desc);
     }
 
-    /// Whoever waits in a call on a descriptor that meets a test is asked again. The test is asked once for each call under way.
+    /// Whoever waits in a call on a descriptor that meets a test is asked again. The test is asked once for each call in
+    /// the index.
     pub fn wake_where<F: Fn(u64) -> bool>(&mut self, test: F)
         requires { F.IsAlwaysCallable test }
         ensures { (meets : ℕ → Bool) → AnswersBy (F.post test) meets → self.new ≡ map (woken_seat (λ call. meets call.desc)) self.old }
@@ -281,7 +282,7 @@ impl Clients {
         wake_those(self.seats.as_mut_slice(), &self.waiting, test);
     }
 
-    /// Whoever waits is asked again.
+    /// Whoever waits is asked again. It goes over the calls in the index.
     pub fn wake_all(&mut self)
         ensures { self.new ≡ map (woken_seat (λ call. true)) self.old }
     {
