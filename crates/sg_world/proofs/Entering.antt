@@ -1,9 +1,8 @@
 -- What a world's marks and memory come to where an answered call comes into the history.
-use Rattle.std.proofs.Common.{Bool, List, Some, [], ap, append-nil, arith, false, flat_map, if◌then◌else◌, length, map, refl, slice_get, slice_set, suc, sym, true, zero, ℕ, ◌++◌, ◌+◌, ◌-◌, ◌<◌, ◌∙◌, ◌∷◌, ◌≡◌, ◌≤◌, subst}
+use Rattle.std.proofs.Common.{Bool, List, Some, [], ap, append-nil, arith, false, if◌then◌else◌, length, map, refl, slice_get, slice_set, suc, sym, true, zero, ℕ, ◌++◌, ◌+◌, ◌-◌, ◌∙◌, ◌∷◌, ◌≡◌, ◌≤◌, subst}
 use Rattle.sg_base.specs.declared.call.Call.{Call}
 use Rattle.sg_facts.specs.declared.entry.Entry.{Entry}
 use Rattle.sg_seat.specs.WorldView.{Seat, WorldView, is_blocked_phase, is_offered, offered_by, woken_seat}
-use Rattle.sg_seat.specs.declared.mark.Mark.{Mark}
 use Rattle.sg_seat.specs.declared.mark.MarkKind.TheVariants.{Answer, Entry as IsEntered}
 use Rattle.sg_seat.specs.declared.phase.Phase.{Phase}
 use Rattle.sg_seat.specs.declared.phase.Phase.TheVariants.{Asked, Blocked, Held, Idle, Left, Receipted}
@@ -11,7 +10,7 @@ use Rattle.sg_world.proofs.Marking.{marked_push, told_set}
 use Rattle.sg_world.proofs.Moving.{answered_seats, marks_woken, offers_woken, told_woken}
 use Rattle.sg_world.proofs.Rooming.{marks_set, marks_some, offers_set, offers_some}
 use Rattle.sg_world.specs.Marked.{AreTold, TellsAll, is_entry_mark, is_withdrawal_mark, marked_as}
-use Rattle.sg_world.specs.Worlded.{HaveRooms, Rooms, marks_due, marks_left}
+use Rattle.sg_world.specs.Worlded.{HaveRooms, Rooms, marks_due}
 
 set_again : (seats : List Seat) (at : ℕ) (a b : Seat) → slice_set (slice_set seats at a) at b ≡ slice_set seats at b
 set_again [] at a b = refl

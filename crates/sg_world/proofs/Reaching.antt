@@ -1,16 +1,15 @@
 -- A client's call that has all that it needs reaches the service: what its world keeps where it waits, where the service stops, and where
 -- the service replies.
-use Rattle.std.proofs.Common.{Bool, IsSome, List, None, Option, Some, [], ap, arith, false, if◌then◌else◌, inl, inr, length, map, refl, slice_get, slice_set, subst, sym, true, ℕ, ◌++◌, ◌+◌, ◌-◌, ◌<◌, ◌∙◌, ◌∷◌, ◌≡◌, ◌≤◌}
+use Rattle.std.proofs.Common.{IsSome, List, None, Some, [], ap, if◌then◌else◌, inl, length, refl, slice_set, subst, sym, true, ℕ, ◌++◌, ◌-◌, ◌∙◌, ◌∷◌, ◌≡◌, ◌≤◌}
 use Rattle.std.proofs.lemmas.Bool.{ltb-true}
 use Rattle.sg_advance_laws.proofs.Advances.{call_stopped, stopped_next, waited, waiting_next, would_wait}
 use Rattle.sg_advance_laws.proofs.Noted.{length_noted}
 use Rattle.sg_base.specs.Counts.{last_count}
 use Rattle.sg_base.specs.Stops.{asked_after}
 use Rattle.sg_base.specs.declared.call.Call.{Call}
-use Rattle.sg_base.specs.declared.reply.Reply.{Reply}
 use Rattle.sg_boot.proofs.LastBoot.{begun_noted, stop_noted}
 use Rattle.sg_boot.specs.Cells.{IsRunning, IsUp}
-use Rattle.sg_boot.specs.Invoking.{NotesStop, NotesWait, item_of_call, with_item, with_stop}
+use Rattle.sg_boot.specs.Invoking.{NotesStop, item_of_call, with_item, with_stop}
 use Rattle.sg_engine_laws.proofs.Left.{has_all}
 use Rattle.sg_engine_laws.specs.Engines.{as_shown}
 use Rattle.sg_engine_laws.specs.Stubs.{stub_of}
@@ -25,9 +24,9 @@ use Rattle.sg_hist.specs.Recovered.{IsStopInCall, answer_to, struck_in}
 use Rattle.sg_recovery_laws.specs.Growing.{IsNextItem, last_items, noted, place_behind}
 use Rattle.sg_replay.specs.Engined.{Engined}
 use Rattle.sg_replay.specs.Missing.{missing}
-use Rattle.sg_replay.specs.Serving.{KeepsNames, real_call}
-use Rattle.sg_seat.specs.WorldView.{Seat, WorldView, in_phase, is_held_phase, is_offered, item_noted, seat_of, struck_at, unanswered, with_points}
-use Rattle.sg_seat.specs.declared.phase.Phase.TheVariants.{Asked, Blocked, Held, Idle, Receipted}
+use Rattle.sg_replay.specs.Serving.{real_call}
+use Rattle.sg_seat.specs.WorldView.{Seat, WorldView, is_held_phase, is_offered, seat_of, unanswered, with_points}
+use Rattle.sg_seat.specs.declared.phase.Phase.TheVariants.{Blocked}
 use Rattle.sg_world.proofs.Missing.{due_is}
 use Rattle.sg_world.proofs.Moving.{rooms_moved, told_moved}
 use Rattle.sg_world.proofs.Points.{not_stopped, stops_noted, stops_struck}
@@ -38,7 +37,6 @@ use Rattle.sg_world.specs.Steps.{PassesGuard, ReachesService, StopsCall, WaitsNo
 use Rattle.sg_world.specs.Worlded.{IsWorld, Rooms, StoresObject}
 use Rattle.sg_world_laws.proofs.Alike.{keeps_alike}
 use Rattle.sg_world_laws.proofs.Moves.{its_boot, its_gone, its_seat, moves}
-use Rattle.sg_world_laws.proofs.Seating.{HasSeat, has_seat}
 use Rattle.sg_world_laws.proofs.Turns.{none_now, seat_there}
 use Rattle.sg_world_laws.specs.Keeping.{KeepsPromise, Stub, TellSame, standing}
 use Rattle.std.specs.List.{Contains}

@@ -1,9 +1,9 @@
 -- One step more of what a call needs, as the engine does it: it may be done, the world keeps what it keeps behind it, and it is the line of the step.
-use Rattle.std.proofs.Common.{List, None, Some, [], ap, arith, false, flat_map, if◌then◌else◌, inl, inr, length, max, min, refl, subst, sym, true, ℕ, ◌++◌, ◌+◌, ◌-◌, ◌<◌, ◌∙◌, ◌∷◌, ◌≡◌, ◌≤◌}
+use Rattle.std.proofs.Common.{List, Some, [], ap, arith, if◌then◌else◌, length, refl, subst, sym, true, ℕ, ◌++◌, ◌+◌, ◌-◌, ◌<◌, ◌∙◌, ◌∷◌, ◌≡◌, ◌≤◌}
 use Rattle.std.proofs.lemmas.Bool.{ltb-true}
 use Rattle.std.specs.declared.result.Result.{Result}
 use Rattle.std.specs.declared.result.Result.TheVariants.{Err, Ok as Done}
-use Rattle.std.specs.Prelude.{OnErr, nat_lt}
+use Rattle.std.specs.Prelude.{OnErr}
 use Rattle.sg_base.specs.Counts.{last_count}
 use Rattle.sg_base.specs.Stops.{asked_after}
 use Rattle.sg_base.specs.declared.call.Call.{Call}
@@ -18,7 +18,7 @@ use Rattle.sg_engine_laws.proofs.Left.{left_to_load}
 use Rattle.sg_engine_laws.specs.Engines.{IsEngineOf, as_shown}
 use Rattle.sg_engine_laws.specs.Stubs.{stub_of}
 use Rattle.sg_facts.specs.Facts.{Facts}
-use Rattle.sg_facts.specs.Invoke.{Points, loaded, parts_of}
+use Rattle.sg_facts.specs.Invoke.{Points, parts_of}
 use Rattle.sg_facts.specs.Laws.{is_none}
 use Rattle.sg_facts.specs.Legal.{Table}
 use Rattle.sg_facts.specs.Needs.{Needs}
@@ -29,9 +29,8 @@ use Rattle.sg_facts.specs.Walks.{replayed_call}
 use Rattle.sg_facts.specs.declared.outcome.Outcome.TheVariants.{Replied, Stopped}
 use Rattle.sg_facts.specs.declared.trace.Item.{Item}
 use Rattle.sg_facts.specs.declared.trace.Tag.TheVariants.{Load, Walk}
-use Rattle.sg_hist.specs.Reading.{after_item, service_call, value_at}
-use Rattle.sg_hist.specs.Recovered.{IsPointOfCall, IsStopInCall, answer_to, stop_in, struck_in}
-use Rattle.sg_recovery_laws.specs.Growing.{IsNextItem, last_items, last_stop, noted, place_behind}
+use Rattle.sg_hist.specs.Recovered.{IsStopInCall, answer_to, struck_in}
+use Rattle.sg_recovery_laws.specs.Growing.{IsNextItem, last_items, noted, place_behind}
 use Rattle.sg_replay.specs.Engined.{Engined}
 use Rattle.sg_replay.specs.Missing.{missing}
 use Rattle.sg_replay.specs.Replaying.{IsStruck, IsUnchanged, KeepsPresent, Loads as LoadsFile, LoadsOne, MayAdvance, Replays as ReplaysCall, ReplaysOne, replay_of}

@@ -1,19 +1,18 @@
 -- The service replied to a client's call: what its world keeps where the call is committed, and where its reply is held.
 use Rattle.std.proofs.Common.{Bool, List, None, Option, Some, [], ap, arith, false, if◌then◌else◌, length, map, refl, slice_get, slice_set, subst, sym, true, unwrap_or, ℕ, ◌++◌, ◌+◌, ◌-◌, ◌<◌, ◌^◌, ◌∙◌, ◌∷◌, ◌≡◌, ◌≤◌, ◌||◌}
-use Rattle.std.specs.Prelude.{nat_lt}
+use Rattle.std.specs.Prelude.{IfSome, nat_lt}
 use Rattle.std.proofs.lemmas.Bool.{ltb-true}
 use Rattle.sg_advance_laws.proofs.Noted.{length_noted}
 use Rattle.sg_base.specs.Counts.{last_count}
 use Rattle.sg_base.specs.Stops.{asked_after}
 use Rattle.sg_base.specs.declared.call.Call.{Call}
-use Rattle.sg_base.specs.declared.reply.Good.{Good}
 use Rattle.sg_base.specs.declared.reply.Reply.{Reply}
 use Rattle.sg_base.specs.declared.reply.Reply.TheVariants.{Ok, Refused}
 use Rattle.sg_boot.specs.Invoking.{item_of_call, with_item}
 use Rattle.sg_commit_laws.proofs.Behind.{patch_it}
 use Rattle.sg_commit_laws.proofs.Committed.{committed_keeps, committed_next}
 use Rattle.sg_commit_laws.proofs.Holding.{held_keeps, held_next}
-use Rattle.sg_commit_laws.proofs.Storing.{makes_next}
+use Rattle.sg_commit_laws.proofs.Storing.{makes_next, may_track_it, writes_needed}
 use Rattle.sg_commit_laws.proofs.Turning.{given_back, holds_back}
 use Rattle.sg_commit_laws.specs.Serving.{IsCommittedIn, IsHeldBy, IsServedCall}
 use Rattle.sg_commit_laws.specs.Telling.{TellsAfter}
@@ -26,10 +25,11 @@ use Rattle.sg_facts.specs.declared.outcome.Outcome.TheVariants.{Replied}
 use Rattle.sg_facts.specs.declared.outcome.Patch.{Patch}
 use Rattle.sg_facts.specs.declared.trace.Item.{Item}
 use Rattle.sg_facts.specs.declared.trace.Tag.TheVariants.{Client}
+use Rattle.sg_facts.specs.Alike.{SameFile, Serves, named}
 use Rattle.sg_facts.specs.Facts.{fun_at, is_visible}
-use Rattle.sg_facts.specs.Invoke.{Points, parts_of}
+use Rattle.sg_facts.specs.Invoke.{FitsRoom, Points, parts_of}
 use Rattle.sg_facts.specs.Legal.{answer, refused_or}
-use Rattle.sg_facts.specs.Object.{Object, after, given_after, object_of, patch_of}
+use Rattle.sg_facts.specs.Object.{Object, file_at, given_after, object_of, patch_of}
 use Rattle.sg_facts.specs.Trace.{Boot, Run}
 use Rattle.sg_facts.specs.Track.{track}
 use Rattle.sg_hist.specs.Reading.{after_item}
@@ -38,31 +38,39 @@ use Rattle.sg_name.specs.Names.{named_at}
 use Rattle.sg_name.specs.declared.named.Named.TheVariants.{Live}
 use Rattle.sg_object_laws.proofs.Waiting.{hidden_is}
 use Rattle.sg_recovery_laws.specs.Growing.{IsNextItem, last_items, noted, place_behind}
-use Rattle.sg_replay.specs.Committing.{is_written, name_left}
-use Rattle.sg_replay.specs.Engined.{AreGiven, Engined}
+use Rattle.sg_held_laws.specs.Progress.{IsNone}
+use Rattle.sg_replay.proofs.Fitting.{fits_stored}
+use Rattle.sg_replay.specs.Committing.{MayCommitAt, MayStore, is_written, name_left}
+use Rattle.sg_replay.specs.Engined.{AreGiven, Engined, IsEngine}
 use Rattle.sg_replay.specs.Missing.{missing}
-use Rattle.sg_replay.specs.Present.{is_present}
+use Rattle.sg_replay.specs.Present.{HasMark, is_present}
 use Rattle.sg_replay.specs.Serving.{TellsReply, is_named_by, pairs_of, real_call, real_in}
-use Rattle.sg_seat.specs.WorldView.{Seat, WorldView, boot_number, committed, given_to, held_in, is_blocked_phase, is_held_phase, is_offered, item_noted, no_seat, seat_in, seat_of, service_is, unanswered, wakes_seat, with_points, with_seat, woken_seat}
+use Rattle.sg_seat.specs.WorldView.{Seat, WorldView, held_in, is_blocked_phase, is_held_phase, is_offered, no_seat, seat_in, seat_of, unanswered, wakes_seat, with_points, woken_seat}
 use Rattle.sg_seat.specs.declared.mark.Mark.{Mark}
 use Rattle.sg_seat.specs.declared.mark.MarkKind.TheVariants.{Entry as IsEntered}
-use Rattle.sg_seat.specs.declared.phase.Phase.TheVariants.{Asked, Held, Receipted}
+use Rattle.sg_seat.specs.declared.phase.Phase.TheVariants.{Held, Receipted}
 use Rattle.sg_store.specs.Spans.{patched_at}
-use Rattle.sg_store.specs.Stored.{bytes_of}
+use Rattle.sg_store.specs.Committing.{NamesNext}
+use Rattle.sg_store.specs.Stored.{HasRoom, bytes_of, tracked_in}
+use Rattle.sg_track.specs.Tracked.{MayTrack}
 use Rattle.sg_world.proofs.Entering.{entered_rooms, entered_told}
 use Rattle.sg_world.proofs.Moving.{answered_seats, rooms_moved, told_moved}
 use Rattle.sg_world.proofs.Points.{stops_noted, stores_same}
 use Rattle.sg_world.proofs.Reaching.{all_there, k, reaches_now, sp}
 use Rattle.sg_world.proofs.Rebuilding.{let_in_now, own, reply_next, use_next}
 use Rattle.sg_world.proofs.Storing.{stored_on}
+use Rattle.sg_world.proofs.Waiting.{each_set, wait_on_live}
 use Rattle.sg_world.specs.Due.{needs_in}
+use Rattle.sg_world.specs.Inside.Served.{HasRooms}
+use Rattle.sg_world.specs.Inside.Waiting.{WaitOnLive}
 use Rattle.sg_world.specs.Marked.{AreTold, TellsAll}
 use Rattle.sg_world.specs.Steps.{Commits, Holds, PassesGuard}
 use Rattle.sg_world.specs.Worlded.{HaveRooms, IsWorld, Rooms, StoresObject}
 use Rattle.sg_world_laws.proofs.Alike.{keeps_alike}
+use Rattle.sg_world_laws.proofs.Asked.{serves_call}
 use Rattle.sg_world_laws.proofs.Seating.{HasSeat, has_seat, woken_at}
 use Rattle.sg_world_laws.proofs.Turns.{seat_there}
-use Rattle.sg_world_laws.specs.Keeping.{KeepsPromise, Stub, TellSame, standing}
+use Rattle.sg_world_laws.specs.Keeping.{KeepsPromise, TellSame, standing}
 use Rattle.sg_world_laws.specs.Setting.{Setting, stubs_of}
 
 -- the number of the last point of a call that was replied to
@@ -229,14 +237,14 @@ module _ (z : Setting) (e : Engined) (w : WorldView) (rooms : Rooms) (is : IsWor
     done_up : done.cell.running ≡ Some (after_item z.iface.facts v item)
     done_up = ap (λ c. c.running) cell_same ∙ replied_up
 
-    split : seats ≡ map (woken_seat test) has.front ++ answered ∷ map (woken_seat test) has.back
-    split = woken ∙ ap (map (woken_seat test)) (has.set answered) ∙ woken_at test has.front has.back answered
+    done_split : seats ≡ map (woken_seat test) has.front ++ answered ∷ map (woken_seat test) has.back
+    done_split = woken ∙ ap (map (woken_seat test)) (has.set answered) ∙ woken_at test has.front has.back answered
 
     in_place : seats ≡ slice_set (map (woken_seat test) w.seats) (client - 1) answered
     in_place = woken ∙ (answered_seats test w.seats (client - 1) st (seat_there w client first last) stays answered refl).0
 
-    by_it : IsCommittedIn z (standing w b boots (Some v)) (stub_of e) v (seat_of w client).call item reply t.reply committing
-    by_it = given_back z is.set w b boots v (stub_of e) kept has.front has.back st has.is offers not_held item reply t.reply patch served_now fits Receipted reply refl committing history_is done_boots done_up refl split
+    by_done : IsCommittedIn z (standing w b boots (Some v)) (stub_of e) v (seat_of w client).call item reply t.reply committing
+    by_done = given_back z is.set w b boots v (stub_of e) kept has.front has.back st has.is offers not_held item reply t.reply patch served_now fits Receipted reply refl committing history_is done_boots done_up refl done_split
 
     same_rows : new.tracked.rows ≡ (object_of z.iface.facts w.history).rows
     same_rows = ap (λ x. x.rows) tracked_same ∙ is.tracked.rows
@@ -244,8 +252,8 @@ module _ (z : Setting) (e : Engined) (w : WorldView) (rooms : Rooms) (is : IsWor
     patch_is : patch ≡ patch_of z.iface.facts (object_of z.iface.facts w.history) (seat_of w client).call reply
     patch_is = patch_it z is.set w b boots v (stub_of e) kept call item reply t.reply patch served_now
 
-    tells : TellsAfter z.iface.facts (object_of z.iface.facts w.history) (seat_of w client).call reply t.reply (stub_of e) (stub_of done)
-    tells = tells_after told_of refl (λ real. refl) z.iface.facts (object_of z.iface.facts w.history) call reply t.reply patch (e.tracked.given + 1) e.names.known new.names.known done.names.known
+    done_tells : TellsAfter z.iface.facts (object_of z.iface.facts w.history) (seat_of w client).call reply t.reply (stub_of e) (stub_of done)
+    done_tells = tells_after told_of refl (λ real. refl) z.iface.facts (object_of z.iface.facts w.history) call reply t.reply patch (e.tracked.given + 1) e.names.known new.names.known done.names.known
         (λ path. is_present e.present path) (λ path. is_present done.present path) served_now.replied.same
         (λ good its makes. makes_next z is.set w b boots v (stub_of e) kept call item reply t.reply patch served_now good its makes ∙ ap (λ n. n + 1) (sym is.tracked.given)) t.names
         (λ id. names id ∙ ap (λ a. name_left a done.tracked.rows id (named_at new.names.known id)) same_rows
@@ -258,7 +266,7 @@ module _ (z : Setting) (e : Engined) (w : WorldView) (rooms : Rooms) (is : IsWor
     pub committed_on : IsWorld z done (record (as_shown w done) { history = history; seats = seats; marks = marks }) room
     committed_on = record {
       set = is.set;
-      keeps = committed_keeps z is.set w b boots v (stub_of e) kept call item reply t.reply patch served_now committing by_it (stub_of done) tells;
+      keeps = committed_keeps z is.set w b boots v (stub_of e) kept call item reply t.reply patch served_now committing by_done (stub_of done) done_tells;
       tracked = subst (StoresObject z.iface.facts done) (sym history_is)
           (stored_on z.iface.facts new done w.history call reply patch (stores_same z.iface.facts e new w.history tracked_same stored_same is.tracked) rows given files patch_is);
       rooms_are = subst (λ s. HaveRooms s room) (sym in_place)
@@ -289,7 +297,7 @@ module _ (z : Setting) (e : Engined) (w : WorldView) (rooms : Rooms) (is : IsWor
       shown = refl;
       outcome = refl;
       noted = record {
-        next = at_place (w.history ++ entry ∷ []) (unanswered committing) (committed_next z is.set w b boots v (stub_of e) kept call item reply t.reply patch served_now committing by_it);
+        next = at_place (w.history ++ entry ∷ []) (unanswered committing) (committed_next z is.set w b boots v (stub_of e) kept call item reply t.reply patch served_now committing by_done);
         points = points_at z.parts asked start.asked later.asked call (real_call e call) t.reply patch (answer_to z.iface.facts z.ask (last_items w.run.boots) item) refl start_is t.notes.answers.asked;
       };
       now = ap (λ (r : Run). record w { history = history; run = r; running = done.cell.running; seats = seats; marks = marks }) (ap (λ c. c.run) cell_same ∙ grown)
@@ -305,3 +313,59 @@ module _ (z : Setting) (e : Engined) (w : WorldView) (rooms : Rooms) (is : IsWor
             marks = w.marks ++ record { client = call.client; kind = IsEntered } ∷ [];
           }) (in_place ∙ given_seat call.client own_client);
     }
+
+  -- ---- it may be committed
+
+  -- whoever waits, waits in a call on no descriptor or on a live one, once the client has its reply
+  pub waits_live : WaitOnLive z.iface.facts (object_of z.iface.facts w.history).rows (seat_of w client).call
+      (slice_set w.seats (client - 1) (record (seat_of w client) { phase = Receipted; seq = (seat_of w client).call.seq; reply = reply }))
+  waits_live = record {
+    allowed = is.set.law.shape.shape;
+    is_call = served_now.let_in.passes.is_call;
+    each = each_set (λ s. is_blocked_phase s.phase ≡ true → IsNone (object_of z.iface.facts w.history).rows s.call.desc) w.seats (client - 1) answered (λ waits. absurd (cc waits))
+        (wait_on_live z is.set w.history w.withdrawn 1 w.seats is.keeps.seats.each);
+  }
+
+  pub may_commit : is_visible z.iface.facts (seat_of w client).call.fun ≡ true → new.tracked ≡ e.tracked → new.stored ≡ e.stored → new.present ≡ e.present → IsEngine z.iface.facts e → length w.seats ≤ e.stored.clients
+      → HasRooms e (needs_in z w (seat_of w client).call).file → FitsRoom v (Replied reply patch) → MayCommitAt z.iface.facts new (seat_of w client).call reply patch
+  may_commit visible tracked_same stored_same present_same engine places have fits = record {
+    tracks = subst (λ x. MayTrack z.iface.facts x call reply) (sym tracked_same) tracks_now;
+    stores = subst (λ x. MayStore z.iface.facts x call reply patch) (sym stored_same) (record {
+      visible = λ shows. record {
+        first = subst (λ n. 1 ≤ n) (sym own_client) first;
+        last = subst (λ n. n ≤ e.stored.clients) (sym own_client) (omega (arith, last, places));
+        follows = record {
+          tracks = λ all. may_track_it z is.set w b boots v (stub_of e) kept call item reply t.reply patch served_now (tracked_in e.stored) (engine.rows all ∙ is.tracked.rows) (engine.ids ∙ is.tracked.given) have.stored;
+          names = λ private. names_next reply refl;
+        };
+        fits = fits_stored v e.stored patch fits.1 (same_file patch refl) (room_for patch refl have.room);
+      };
+      hidden = λ hides. absurd (cc (visible, hides));
+    });
+    marked = subst (λ x. IfSome patch (λ p. HasMark x p.key)) (sym present_same) (mark_for patch refl have.mark);
+  }
+    where
+      serves : Serves z.iface.facts (pairs_of e.names.known) (object_of z.iface.facts w.history) v (seat_of w client).call
+      serves = serves_call z is.set w b boots v (stub_of e) kept call served_now.let_in served_now.all
+
+      tracks_now : MayTrack z.iface.facts e.tracked (seat_of w client).call reply
+      tracks_now = may_track_it z is.set w b boots v (stub_of e) kept call item reply t.reply patch served_now e.tracked is.tracked.rows is.tracked.given have.row
+
+      names_next : (r : Reply) → reply ≡ r → NamesNext z.iface.facts e.stored.given (seat_of w client).call r
+      names_next (Ok good) its = λ makes. makes_next z is.set w b boots v (stub_of e) kept call item reply t.reply patch served_now good its makes ∙ ap (λ n. n + 1) (sym (engine.ids ∙ is.tracked.given))
+      names_next (Refused code) its = tt
+
+      room_for : (q : Option Patch) → patch ≡ q → IfSome (needs_in z w (seat_of w client).call).file (HasRoom e.stored) → IfSome q (λ p. HasRoom e.stored p.key)
+      room_for None its some = tt
+      room_for (Some p) its some = subst (λ f. IfSome f (HasRoom e.stored)) (writes_needed z is.set w b boots v (stub_of e) kept call item reply t.reply patch served_now p its) some
+
+      mark_for : (q : Option Patch) → patch ≡ q → IfSome (needs_in z w (seat_of w client).call).file (HasMark e.present) → IfSome q (λ p. HasMark e.present p.key)
+      mark_for None its some = tt
+      mark_for (Some p) its some = subst (λ f. IfSome f (HasMark e.present)) (writes_needed z is.set w b boots v (stub_of e) kept call item reply t.reply patch served_now p its) some
+
+      same_file : (q : Option Patch) → patch ≡ q → IfSome q (λ p. file_at v.files p.key ≡ bytes_of e.stored p.key)
+      same_file None its = tt
+      same_file (Some p) its =
+          let both : SameFile (object_of z.iface.facts w.history) v call.desc (named (pairs_of e.names.known) call.desc) (Some p.key)
+          = subst (SameFile (object_of z.iface.facts w.history) v call.desc (named (pairs_of e.names.known) call.desc)) (writes_needed z is.set w b boots v (stub_of e) kept call item reply t.reply patch served_now p its) serves.file in
+          both.1 ∙ sym (is.tracked.files p.key)

@@ -1,7 +1,7 @@
 -- A world with its boots and its service spelt out.
-use Rattle.std.proofs.Common.{List, None, Option, Some, [], ap, refl, ◌∙◌, ◌∷◌, ◌≡◌, ◌≢◌}
+use Rattle.std.proofs.Common.{List, Option, [], ap, refl, ◌∙◌, ◌∷◌, ◌≡◌, ◌≢◌}
 use Rattle.sg_facts.specs.Object.{Object}
-use Rattle.sg_facts.specs.Trace.{Boot, Run}
+use Rattle.sg_facts.specs.Trace.{Boot}
 use Rattle.sg_seat.specs.WorldView.{WorldView}
 use Rattle.sg_world_laws.specs.Keeping.{KeepsPromise, Stub, standing}
 use Rattle.sg_world_laws.specs.Setting.{Setting}

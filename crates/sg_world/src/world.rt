@@ -31,6 +31,7 @@ pub struct World<S: Service, T: Stops> {
 }
 
 impl<S: Service, T: Stops> Model for World<S, T> {
+    ghost use Rattle.std.specs.Prelude.{◌≡◌};
     ghost use Rattle.sg_world.specs.Inners.{IsInOrder, view_in};
     ghost use Rattle.sg_world.specs.Worlded.{CountsAll, Worlded, setting_of};
 
@@ -39,7 +40,8 @@ impl<S: Service, T: Stops> Model for World<S, T> {
     ghost view = { λ w. record { tables = w.inner.engine.tables; view = view_in w.inner; plan = T.plan w.inner.stops } };
 
     ghost invariant = { λ w. IsInOrder S.ask S.sound S.parts T.test T.asked T.struck T.plan w.inner
-        × CountsAll (setting_of S.ask S.sound S.parts w.inner.engine.tables) (view_in w.inner) };
+        × CountsAll (setting_of S.ask S.sound S.parts w.inner.engine.tables) (view_in w.inner)
+        × (w.inner.engine.tables.iface.facts ≡ S.facts) };
 }
 
 impl<S: Service, T: Stops> World<S, T> {

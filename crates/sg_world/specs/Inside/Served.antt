@@ -1,12 +1,12 @@
 -- The parts of a world whose service was asked a client's call and replied, before the call is committed or its reply is held.
-use Rattle.std.specs.Prelude.{ℕ, ◌≡◌, ◌≤◌, List, None, Some, IfSome}
+use Rattle.std.specs.Prelude.{ℕ, ◌≡◌, ◌≤◌, List, None, Some, IfSome, length}
 use Rattle.std.specs.declared.option.Option.{Option}
 use Rattle.sg_base.specs.declared.reply.Reply.{Reply}
 use Rattle.sg_facts.specs.declared.outcome.Outcome.TheVariants.{Replied}
 use Rattle.sg_facts.specs.declared.outcome.Patch.{Patch}
 use Rattle.sg_facts.specs.Invoke.{FitsRoom, Points}
 use Rattle.sg_facts.specs.Object.{Object}
-use Rattle.sg_replay.specs.Engined.{Engined}
+use Rattle.sg_replay.specs.Engined.{Engined, IsEngine}
 use Rattle.sg_replay.specs.Missing.{missing}
 use Rattle.sg_replay.specs.Present.{HasMark}
 use Rattle.sg_replay.specs.Serving.{TellsReply}
@@ -36,7 +36,9 @@ pub record HasServed {S T : Type 0} (z : Setting) (test : ℕ → List ℕ → L
   pub before : Engined
   pub points : Points
   pub world : IsWorld z before (view_with before x) (rooms_in x)
+  pub places : length x.clients ≤ before.stored.clients
   pub counts : CountsPoints test (view_with before x) points.asked points.struck (plan x.stops)
+  pub is_engine : IsEngine z.iface.facts before
   pub held : Object
   pub up : before.cell.running ≡ Some held
   pub let_in : PassesGuard z (view_with before x) client

@@ -1,7 +1,9 @@
 -- A world keeps what it keeps where the guard refuses a call.
-use Rattle.std.proofs.Common.{ap, arith, subst, ◌++◌, ◌∙◌, ◌∷◌, [], ◌≡◌, ◌<◌, ◌^◌}
+use Rattle.std.proofs.Common.{length, ◌-◌, ap, arith, subst, ◌++◌, ◌∙◌, ◌∷◌, [], ◌≡◌, ◌<◌, ◌^◌}
 use Rattle.sg_base.specs.declared.reply.Reply.TheVariants.{Refused}
-use Rattle.sg_seat.specs.WorldView.{seat_in}
+use Rattle.sg_seat.specs.WorldView.{Seat, no_reply, seat_in}
+use Rattle.sg_seat.specs.declared.phase.Phase.TheVariants.{Idle}
+use Rattle.sg_world.proofs.Rooming.{length_set}
 use Rattle.sg_seat.specs.declared.mark.MarkKind.TheVariants.{Answer, Entry as IsEntered}
 use Rattle.sg_world.specs.Inners.{rooms_in, view_in}
 use Rattle.sg_world.specs.Worlded.{Rooms, setting_of}
@@ -53,4 +55,5 @@ returns-clause-order g c =
           later (fits g c) c.add.new.self.items (history g c) c.refuse-call.new.self c.refuse-call.ensures.seats c.add-3.new.self.items (marks g c)
           c.add.ensures.room (omega arith) (let one = c.add-2.ensures.room in let two = c.add-3.ensures.room in omega (arith, one, two));
       points = record { asked_so = c.requires.order.points.asked_so; struck_so = c.requires.order.points.struck_so; tested = c.requires.order.points.tested };
+      clients = (let s : Seat = seat_in x.clients c.args.client in let same = ap length c.refuse-call.ensures.seats ∙ length_set x.clients (c.args.client - 1) (record s { phase = Idle; seq = s.call.seq; reply = no_reply }) in let was = c.requires.order.clients in omega (arith, same, was));
     }

@@ -1,5 +1,5 @@
 -- A world keeps what it keeps where a held reply is committed and handed over.
-use Rattle.std.proofs.Common.{None, ap, arith, map, subst, sym, ◌++◌, ◌∙◌, ◌∷◌, [], ◌≡◌, ◌<◌, ◌^◌, refl}
+use Rattle.std.proofs.Common.{length, ◌-◌, ◌≤◌, None, ap, arith, map, subst, sym, ◌++◌, ◌∙◌, ◌∷◌, [], ◌≡◌, ◌<◌, ◌^◌, refl}
 use Rattle.sg_base.specs.declared.call.Call.{Call}
 use Rattle.sg_base.specs.declared.reply.Reply.{Reply}
 use Rattle.sg_facts.specs.Object.{given_after}
@@ -13,7 +13,9 @@ use Rattle.sg_world.specs.Inners.{rooms_in, view_in}
 use Rattle.sg_world.specs.Worlded.{IsWorld, Rooms, setting_of}
 use Rattle.sg_world.proofs.Returning.{has_rooms, may_return, returned_on, returned_view, waits_live}
 use Rattle.sg_world.specs.Inside.Waiting.{WaitOnLive}
-use Rattle.sg_seat.specs.WorldView.{no_reply}
+use Rattle.sg_seat.specs.WorldView.{Seat, no_reply}
+use Rattle.std.proofs.lemmas.List.{length-map}
+use Rattle.sg_world.proofs.Rooming.{length_set}
 use Rattle.sg_seat.specs.declared.phase.Phase.TheVariants.{Idle}
 use Rattle.sg_world.proofs.inner.Inner.return_held.Given
 use Rattle.sg_world.proofs.inner.Inner.return_held.Goals as goal
@@ -111,4 +113,10 @@ returns-clause-order g c =
         struck_so = ap (λ y. struck_in y.run) c.commit.ensures.cell ∙ c.requires.order.points.struck_so;
         tested = c.requires.order.points.tested;
       };
+      clients = subst (λ n. length c.wake.new.clients ≤ n) (sym c.commit.ensures.clients)
+          (let s : Seat = seat_in x.clients c.args.client in
+          let same = ap length (seats g c) ∙ length-map c.give_back-entry.new.self (woken_seat (wakes_seat x.engine.tables.iface.facts x.engine.tracked.rows s.call s.reply)) ∙ ap length c.give_back-entry.ensures.seats
+          ∙ length_set x.clients (c.args.client - 1) (record s { phase = Idle; seq = s.call.seq; reply = no_reply }) in
+          let was = c.requires.order.clients in
+          omega (arith, same, was));
     }

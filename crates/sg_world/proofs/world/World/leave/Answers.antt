@@ -32,4 +32,5 @@ invariant_of-self g c =
         clients = (let same = ap length c.leave.ensures ∙ length_set c.self.inside.inner.clients (c.args.client - 1) (record (seat_of w c.args.client) { phase = Left }) in let was = c.self.invariant.0.clients in omega (arith, same, was));
       },
       c.self.invariant.1,
+      c.self.invariant.2,
     )

@@ -28,4 +28,5 @@ invariant_of-result g c =
         clients = (let made = c.in_ok-new.ensures.clients in let seats = ap length c.in_ok-seats.ensures ∙ as_many c.args.clients in omega (arith, made, seats));
       },
       new_counted (setting_of g.S.Service.ask g.S.Service.sound g.S.Service.parts e.tables) e c.new-3.result.items c.in_ok-seats.seats c.new-4.result.items c.reserve.new.self.items made.run,
+      ap (λ t. t.iface.facts) made.tables ∙ c.requires.service,
     )

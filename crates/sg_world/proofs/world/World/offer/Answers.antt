@@ -38,6 +38,7 @@ invariant_of-self-2 g c =
         clients = (let same = ap length c.in_ok-offer.ensures.ok ∙ length_set c.self.inside.inner.clients (c.args.client - 1) (record (seat_of w c.args.client) { phase = Asked; call = call }) in let was = c.self.invariant.0.clients in omega (arith, same, was));
       },
       c.self.invariant.1,
+      c.self.invariant.2,
     )
 
 pub invariant_of-self-in_err-reserve-2 : goal.invariant_of-self-in_err-reserve-2
@@ -53,6 +54,7 @@ invariant_of-self-in_err-reserve-2 g c =
         clients = c.self.invariant.0.clients;
       },
       c.self.invariant.1,
+      c.self.invariant.2,
     )
 
 pub invariant_of-self-in_err-reserve-3 : goal.invariant_of-self-in_err-reserve-3
@@ -68,6 +70,7 @@ invariant_of-self-in_err-reserve-3 g c =
         clients = c.self.invariant.0.clients;
       },
       c.self.invariant.1,
+      c.self.invariant.2,
     )
 
 pub invariant_of-self-in_err-offer : goal.invariant_of-self-in_err-offer
@@ -85,4 +88,5 @@ invariant_of-self-in_err-offer g c =
         clients = (let same = ap length c.in_err-offer.ensures.err in let was = c.self.invariant.0.clients in omega (arith, same, was));
       },
       c.self.invariant.1,
+      c.self.invariant.2,
     )

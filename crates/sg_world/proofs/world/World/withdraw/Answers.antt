@@ -42,4 +42,5 @@ invariant_of-self g c =
         clients = (let same = ap length c.withdraw-withdrawn.ensures.seats ∙ length_set c.self.inside.inner.clients (c.args.client - 1) (record (seat_of w c.args.client) { phase = Idle }) in let was = c.self.invariant.0.clients in omega (arith, same, was));
       },
       c.self.invariant.1,
+      c.self.invariant.2,
     )
