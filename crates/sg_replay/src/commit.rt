@@ -8,6 +8,7 @@ ghost use Rattle.sg_store.specs.Spans.{patched_at, stand_in};
 ghost use Rattle.sg_store.specs.Stored.{HasRoom, bytes_of, receipt_at};
 ghost use Rattle.sg_track.specs.Tracked.{spare_after};
 ghost use Rattle.sg_replay.specs.Committing.{MayCommitAt, MayStore, is_written, name_left};
+ghost use Rattle.sg_replay.specs.Engined.{IsEngine};
 ghost use Rattle.sg_replay.specs.Present.{HasMark, is_present};
 
 use crate::ended::forget_ended;
@@ -21,7 +22,7 @@ use std::alloc::Global;
 
 impl<S: Service> Engine<S> {
     /// Takes the memory for one boot, or for one `serve` and `commit` of a call with these needs. What was done, what is stored,
-    /// the rows, the names, and which files are present stay, and the cell loses no room, whatever the answer.
+    /// the rows, the names, and which files are present stay, the parts agree, and the cell loses no room, whatever the answer.
     pub fn reserve(&mut self, alloc: Global, call: &Call, needs: &Needs) -> Result<(), NoMemory>
         ensures cell_room { OnOk result (1 ≤ self.new.cell.room) }
         ensures row_room { OnOk result (1 ≤ self.new.tracked.spare) }
@@ -29,6 +30,7 @@ impl<S: Service> Engine<S> {
         ensures stored_room { OnOk result (1 ≤ self.new.stored.spare) }
         ensures file_room { OnOk result (IfSome needs.now.file (HasRoom self.new.stored)) }
         ensures mark { OnOk result (IfSome needs.now.file (HasMark self.new.present)) }
+        ensures agrees { IsEngine S.facts self.new }
         ensures cell_kept { self.old.cell.room ≤ self.new.cell.room }
         ensures rooms { (key : List ℕ) → HasRoom self.old.stored key → HasRoom self.new.stored key }
         ensures marks { (key : List ℕ) → HasMark self.old.present key → HasMark self.new.present key }
