@@ -1,5 +1,5 @@
 -- The parts stay in order where the engine does one step more of what a call needs, and it is the line of the step.
-use Rattle.std.proofs.Common.{Ok, ap, inl, inr, refl, subst, sym, ◌∙◌, ◌≡◌}
+use Rattle.std.proofs.Common.{length, ◌≤◌, Ok, ap, inl, inr, refl, subst, sym, ◌∙◌, ◌≡◌}
 use Rattle.sg_engine_laws.specs.Engines.{as_shown}
 use Rattle.sg_facts.specs.Invoke.{Points}
 use Rattle.sg_replay.specs.Engined.{Engined}
@@ -42,6 +42,7 @@ returns-in_err-advance-clause-order g c =
       world = subst (λ t. IsWorld (setting_of g.S.Service.ask g.S.Service.sound g.S.Service.parts t) new (view_of new x.history.items x.clients x.withdrawn.items x.marks.items x.events x.refused) rooms) (sym c.advance.ensures.tables)
           (advanced_on z e w rooms c.requires.order.world refl refl refl c.args.client c.requires.first c.requires.last c.requires.let_in held.0 held.1 start new later c.advance.ensures.tracked c.advance.ensures.stored c.advance.result turn);
       points = record { asked_so = counts.0; struck_so = counts.1; tested = c.advance.ensures.test c.requires.order.points.tested };
+      clients = subst (λ s. length x.clients ≤ s.clients) (sym c.advance.ensures.stored) c.requires.order.clients;
     }
 
 pub returns-in_err-advance-clause-err : goal.returns-in_err-advance-clause-err
@@ -81,6 +82,7 @@ returns-in-Replayed-clause-order g c =
       world = subst (λ t. IsWorld (setting_of g.S.Service.ask g.S.Service.sound g.S.Service.parts t) new (view_of new x.history.items x.clients x.withdrawn.items x.marks.items x.events x.refused) rooms) (sym c.advance.ensures.tables)
           (advanced_on z e w rooms c.requires.order.world refl refl refl c.args.client c.requires.first c.requires.last c.requires.let_in held.0 held.1 start new later c.advance.ensures.tracked c.advance.ensures.stored c.advance.result turn);
       points = record { asked_so = counts.0; struck_so = counts.1; tested = c.advance.ensures.test c.requires.order.points.tested };
+      clients = subst (λ s. length x.clients ≤ s.clients) (sym c.advance.ensures.stored) c.requires.order.clients;
     }
 
 pub returns-in-Replayed-clause-did : goal.returns-in-Replayed-clause-did
@@ -120,6 +122,7 @@ returns-in-Loaded-clause-order g c =
       world = subst (λ t. IsWorld (setting_of g.S.Service.ask g.S.Service.sound g.S.Service.parts t) new (view_of new x.history.items x.clients x.withdrawn.items x.marks.items x.events x.refused) rooms) (sym c.advance.ensures.tables)
           (advanced_on z e w rooms c.requires.order.world refl refl refl c.args.client c.requires.first c.requires.last c.requires.let_in held.0 held.1 start new later c.advance.ensures.tracked c.advance.ensures.stored c.advance.result turn);
       points = record { asked_so = counts.0; struck_so = counts.1; tested = c.advance.ensures.test c.requires.order.points.tested };
+      clients = subst (λ s. length x.clients ≤ s.clients) (sym c.advance.ensures.stored) c.requires.order.clients;
     }
 
 pub returns-in-Loaded-clause-did : goal.returns-in-Loaded-clause-did
@@ -159,6 +162,7 @@ returns-in-Struck-clause-order g c =
       world = subst (λ t. IsWorld (setting_of g.S.Service.ask g.S.Service.sound g.S.Service.parts t) new (view_of new x.history.items x.clients x.withdrawn.items x.marks.items x.events x.refused) rooms) (sym c.advance.ensures.tables)
           (advanced_on z e w rooms c.requires.order.world refl refl refl c.args.client c.requires.first c.requires.last c.requires.let_in held.0 held.1 start new later c.advance.ensures.tracked c.advance.ensures.stored c.advance.result turn);
       points = record { asked_so = counts.0; struck_so = counts.1; tested = c.advance.ensures.test c.requires.order.points.tested };
+      clients = subst (λ s. length x.clients ≤ s.clients) (sym c.advance.ensures.stored) c.requires.order.clients;
     }
 
 pub returns-in-Struck-clause-did : goal.returns-in-Struck-clause-did

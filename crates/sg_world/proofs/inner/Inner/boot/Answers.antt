@@ -1,9 +1,10 @@
 -- The parts stay in order where the service is booted afresh.
-use Rattle.std.proofs.Common.{ap, sym, subst, ◌∙◌}
+use Rattle.std.proofs.Common.{arith, length, true, ap, sym, subst, ◌∙◌}
+use Rattle.std.proofs.lemmas.List.{length-map}
 use Rattle.sg_facts.specs.Trace.{Run}
 use Rattle.sg_hist.specs.Recovered.{struck_in}
 use Rattle.sg_recovery_laws.specs.Growing.{booted}
-use Rattle.sg_seat.specs.WorldView.{WorldView}
+use Rattle.sg_seat.specs.WorldView.{WorldView, woken_seat}
 use Rattle.sg_world.specs.Inners.{rooms_in, view_in}
 use Rattle.sg_world.specs.Worlded.{IsWorld, Rooms, setting_of, view_of}
 use Rattle.sg_world.proofs.Points.{stops_booted}
@@ -30,4 +31,10 @@ returns-clause-order g c =
         struck_so = ap struck_in (c.boot.ensures.run ∙ ap (λ (r : Run). record r { boots = booted r.boots }) c.reserve.ensures.run) ∙ stops_booted w.run.boots ∙ c.requires.order.points.struck_so;
         tested = c.requires.order.points.tested;
       };
+      clients = (
+        let same = ap length c.wake_all.ensures ∙ length-map x.clients (woken_seat (λ call. true)) in
+        let stored = ap (λ s. s.clients) c.boot.ensures.stored ∙ c.reserve.ensures.clients in
+        let was = c.requires.order.clients in
+        omega (arith, same, stored, was)
+      );
     }

@@ -1,5 +1,5 @@
 -- The parts stay in order where the service is asked at a point, and stops there or not.
-use Rattle.std.proofs.Common.{true, ap, sym, subst, ◌∙◌}
+use Rattle.std.proofs.Common.{length, ◌≤◌, true, ap, sym, subst, ◌∙◌}
 use Rattle.sg_base.specs.Stops.{struck_after}
 use Rattle.sg_hist.specs.Recovered.{struck_in}
 use Rattle.sg_seat.specs.WorldView.{WorldView}
@@ -28,6 +28,7 @@ returns-then-strikes-clause-order g c =
             ∙ sym (c.strikes-strikes.ensures.struck ∙ ap (struck_after (g.T.Stops.struck x.stops) (g.T.Stops.asked c.strikes-strikes.new.self)) c.if-strikes.true);
         tested = c.strikes-strikes.ensures.test c.requires.order.points.tested;
       };
+      clients = subst (λ s. length x.clients ≤ s.clients) (sym c.strike.ensures.stored) c.requires.order.clients;
     }
 
 pub returns-else-strikes-clause-order : goal.returns-else-strikes-clause-order
@@ -46,4 +47,5 @@ returns-else-strikes-clause-order g c =
             ∙ sym (c.strikes-strikes.ensures.struck ∙ ap (struck_after (g.T.Stops.struck x.stops) (g.T.Stops.asked c.strikes-strikes.new.self)) c.if-strikes.false);
         tested = c.strikes-strikes.ensures.test c.requires.order.points.tested;
       };
+      clients = subst (λ y. length x.clients ≤ y.stored.clients) (sym c.count.ensures) c.requires.order.clients;
     }
