@@ -1,2 +1,4 @@
 pub mod Phases
+pub mod Seats
+pub mod UnderWay
 pub mod Waking

@@ -2,23 +2,28 @@
 ghost use Rattle.std.specs.Prelude.{◌≡◌, ◌≤◌, ◌-◌, ◌+◌, ◌==◌, ◌∷◌, ◌++◌, ℕ, Bool, true, [], length, map, replicate, vec_capacity, IfOk, OnOk, OnErr, slice_set};
 ghost use Rattle.std.specs.List.{list_all};
 ghost use Rattle.sg_base.specs.Reply.{FitsReplyRoom};
+ghost use Rattle.sg_clients.specs.Inside.Waiting.{AreUnderWay};
 ghost use Rattle.sg_clients.specs.Rooms.{FitsSeatRoom};
 ghost use Rattle.sg_facts.specs.Limits.{last_client};
 ghost use Rattle.sg_name.specs.Names.{AnswersBy};
-ghost use Rattle.sg_seat.specs.WorldView.{is_at_rest, is_left_phase, is_offered, no_reply, no_seat, seat_in, woken_seat};
+ghost use Rattle.sg_seat.specs.WorldView.{IsFree, is_at_rest, is_left_phase, is_offered, no_reply, no_seat, seat_in, woken_seat};
 ghost use Rattle.sg_seat.specs.declared.phase.Phase.TheVariants.{Idle, Asked, Held, Receipted, Blocked, Left};
 
 use crate::seat::{ClientSeat, Returned, SeatRoom};
+use crate::under_way::{UnderWay, add, take_out};
 use sg_base::{Call, ListOf, NoMemory, Reply};
 use sg_facts::Entry;
 use sg_seat::{Phase, Withdrawn};
 use std::alloc::Global;
+use std::collections::BTreeSet;
 use std::marker::Model;
 
-/// The clients of a world, in ascending numbers from 1. Contracts see the list of their seats.
+/// The clients of a world, in ascending numbers from 1. Contracts see the list of their seats. An index has each call that
+/// isn't answered, by its descriptor; a call whose client left stays in it until the client offers the next.
 #[derive(Debug, Drop)]
 pub struct Clients {
     seats: Vec<ClientSeat>,
+    waiting: BTreeSet<UnderWay>,
 }
 
 impl Model for Clients {
@@ -28,6 +33,10 @@ impl Model for Clients {
     ghost Value = { List Seat };
 
     ghost view = { λ s. s.seats.items };
+
+    ghost use Rattle.sg_clients.specs.Inside.Waiting.{AreUnderWay};
+
+    ghost invariant = { λ s. AreUnderWay s.seats.items s.waiting };
 }
 
 impl Clients {
@@ -37,6 +46,7 @@ impl Clients {
     {
         Ok(Clients {
             seats: new_seats(alloc, clients)?,
+            waiting: BTreeSet::new(alloc),
         })
     }
 
@@ -92,16 +102,33 @@ impl Clients {
         self.seats[usize::from(client) - 1].call()
     }
 
-    /// A client offers its call, and the memory is taken that answering or withdrawing it takes. After `NoMemory` the clients are as
-    /// before.
+    /// A client that has no call under way offers its call, and the memory is taken that answering or withdrawing it takes. After
+    /// `NoMemory` the clients are as before.
     pub fn offer(&mut self, alloc: Global, call: Call) -> Result<(), NoMemory>
         requires first { 1 ≤ call.client }
         requires last { call.client ≤ length self.old }
+        requires free { IsFree (seat_in self.old call.client).phase }
         ensures ok { OnOk result (self.new ≡ slice_set self.old (call.client - 1) (record (seat_in self.old call.client) { phase = Asked; call = call })) }
         ensures err { OnErr result (self.new ≡ self.old) }
     {
+        let client = call.client;
+        let left_in = self.call(client).desc;
         let room = SeatRoom::new(alloc, &call)?;
-        self.seats[usize::from(call.client) - 1].offer(call, room);
+        take_out(
+            &mut self.waiting,
+            UnderWay {
+                desc: left_in,
+                client,
+            },
+        );
+        add(
+            &mut self.waiting,
+            UnderWay {
+                desc: call.desc,
+                client,
+            },
+        )?;
+        self.seats[usize::from(client) - 1].offer(call, room);
         Ok(())
     }
 
@@ -145,6 +172,8 @@ impl Clients {
         ensures entry { result ≡ record { call = (seat_in self.old client).call; reply = reply.now } }
         ensures seats { let s = seat_in self.old client in self.new ≡ slice_set self.old (client - 1) (record s { phase = Receipted; seq = s.call.seq; reply = reply.now }) }
     {
+        let desc = self.call(client).desc;
+        take_out(&mut self.waiting, UnderWay { desc, client });
         self.seats[usize::from(client) - 1].give(reply)
     }
 
@@ -158,6 +187,8 @@ impl Clients {
         ensures answer { result.answer ≡ (seat_in self.old client).reply }
         ensures seats { let s = seat_in self.old client in self.new ≡ slice_set self.old (client - 1) (record s { phase = Idle; seq = s.call.seq; reply = no_reply }) }
     {
+        let desc = self.call(client).desc;
+        take_out(&mut self.waiting, UnderWay { desc, client });
         self.seats[usize::from(client) - 1].give_back(alloc)
     }
 
@@ -169,6 +200,8 @@ impl Clients {
         ensures call { result ≡ (seat_in self.old client).call }
         ensures seats { let s = seat_in self.old client in self.new ≡ slice_set self.old (client - 1) (record s { phase = Idle; seq = s.call.seq; reply = no_reply }) }
     {
+        let desc = self.call(client).desc;
+        take_out(&mut self.waiting, UnderWay { desc, client });
         self.seats[usize::from(client) - 1].refuse(alloc)
     }
 
@@ -211,6 +244,8 @@ impl Clients {
         ensures room { FitsSeatRoom (seat_in self.old client).call result }
         ensures seats { self.new ≡ slice_set self.old (client - 1) (record (seat_in self.old client) { phase = Idle }) }
     {
+        let desc = self.call(client).desc;
+        take_out(&mut self.waiting, UnderWay { desc, client });
         self.seats[usize::from(client) - 1].withdraw()
     }
 
@@ -230,29 +265,24 @@ impl Clients {
         self.seats.iter().all(|seat| seat.is_at_rest())
     }
 
-    /// Whoever waits in a call on a descriptor is asked again.
+    /// Whoever waits in a call on a descriptor is asked again. It takes time that grows with the number of the calls on the descriptor
+    /// in the index, and with the logarithm of all: it does not go over all clients.
     pub fn wake(&mut self, desc: u64)
         ensures { self.new ≡ map (woken_seat (λ call. desc == call.desc)) self.old }
     {
-        self.wake_where(
-            |waited: u64| -> bool
-                ensures { result ≡ (desc == waited) }
-            { desc == waited },
-        );
+        wake_on(self.seats.as_mut_slice(), &self.waiting, desc);
     }
 
-    /// Whoever waits in a call on a descriptor that meets a test is asked again.
+    /// Whoever waits in a call on a descriptor that meets a test is asked again. The test is asked once for each call in
+    /// the index.
     pub fn wake_where<F: Fn(u64) -> bool>(&mut self, test: F)
         requires { F.IsAlwaysCallable test }
         ensures { (meets : ℕ → Bool) → AnswersBy (F.post test) meets → self.new ≡ map (woken_seat (λ call. meets call.desc)) self.old }
     {
-        for at in 0..self.seats.len() {
-            let meets = test(self.seats[at].call().desc);
-            self.seats[at].wake(meets);
-        }
+        wake_those(self.seats.as_mut_slice(), &self.waiting, test);
     }
 
-    /// Whoever waits is asked again.
+    /// Whoever waits is asked again. It goes over the calls in the index.
     pub fn wake_all(&mut self)
         ensures { self.new ≡ map (woken_seat (λ call. true)) self.old }
     {
@@ -273,6 +303,35 @@ fn new_seats(alloc: Global, clients: u8) -> Result<Vec<ClientSeat>, NoMemory>
         seats.push(ClientSeat::new(alloc))?;
     }
     Ok(seats)
+}
+
+// Whoever waits in a call on a descriptor is asked again.
+fn wake_on(seats: &mut [ClientSeat], waiting: &BTreeSet<UnderWay>, desc: u64)
+    requires { AreUnderWay seats.old waiting.now }
+    ensures calls { AreUnderWay seats.new waiting.now }
+    ensures woken { seats.new ≡ map (woken_seat (λ call. desc == call.desc)) seats.old }
+{
+    let first = UnderWay { desc, client: 0 };
+    let last = UnderWay {
+        desc,
+        client: u8::MAX,
+    };
+    for one in waiting.range(first..=last) {
+        seats[usize::from(one.client) - 1].wake(true);
+    }
+}
+
+// Whoever waits in a call on a descriptor that meets a test is asked again.
+fn wake_those<F: Fn(u64) -> bool>(seats: &mut [ClientSeat], waiting: &BTreeSet<UnderWay>, test: F)
+    requires calls { AreUnderWay seats.old waiting.now }
+    requires test { F.IsAlwaysCallable test }
+    ensures calls { AreUnderWay seats.new waiting.now }
+    ensures woken { (meets : ℕ → Bool) → AnswersBy (F.post test) meets → seats.new ≡ map (woken_seat (λ call. meets call.desc)) seats.old }
+{
+    for one in waiting.iter() {
+        let meets = test(one.desc);
+        seats[usize::from(one.client) - 1].wake(meets);
+    }
 }
 
 // The phases of all seats, in the room that there is.

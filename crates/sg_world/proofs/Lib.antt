@@ -1,12 +1,15 @@
 pub mod Counting
+pub mod Denying
 pub mod Entering
 pub mod Handing
 pub mod Marking
 pub mod Missing
 pub mod Moving
 pub mod Points
+pub mod Reaching
 pub mod Rebooting
 pub mod Rebuilding
+pub mod Replying
 pub mod Reserving
 pub mod Returning
 pub mod Rooming

@@ -59,14 +59,14 @@ use Rattle.sg_world_laws.specs.Turns.{IsLetIn}
 -- ---- numbers of points
 
 -- below the end of the count a point more is the next
-use_next : (asked n : ℕ) → n ≡ asked_after asked 1 → n < last_count → n ≡ asked + 1
+pub use_next : (asked n : ℕ) → n ≡ asked_after asked 1 → n < last_count → n ≡ asked + 1
 use_next asked n is less = omega (arith, is, less)
 
-reply_next : (n parts later : ℕ) → later ≡ asked_after (asked_after n parts) 1 → later < last_count → later ≡ n + parts + 1
+pub reply_next : (n parts later : ℕ) → later ≡ asked_after (asked_after n parts) 1 → later < last_count → later ≡ n + parts + 1
 reply_next n parts later is less = omega (arith, is, less)
 
 -- a call that stopped did so at a point of what it would have been answered
-stop_at : (parts : ℕ → ℕ) (asked n later fun : ℕ) (reply : Reply) (call : Call) → call.fun ≡ fun → n ≡ asked_after asked 1 → n < later → later ≤ n + parts_of parts call reply + 1 → later < last_count → IsStopInCall true (parts fun) asked (Some reply) later
+pub stop_at : (parts : ℕ → ℕ) (asked n later fun : ℕ) (reply : Reply) (call : Call) → call.fun ≡ fun → n ≡ asked_after asked 1 → n < later → later ≤ n + parts_of parts call reply + 1 → later < last_count → IsStopInCall true (parts fun) asked (Some reply) later
 stop_at parts asked n later fun (Ok good) call its is above most less =
     let next = use_next asked n is (omega (arith, above, less)) in
     let same : parts call.fun ≡ parts fun = ap parts its in
@@ -140,16 +140,16 @@ module _ (z : Setting) (e : Engined) (w : WorldView) (rooms : Rooms) (is : IsWor
   pub own : (seat_of w client).call.client ≡ client
   own = (its_seat z w (stub_of e) is.keeps client (seat_of w client) (seat_there w client first last) first (seat_of w client) w.withdrawn w.marks w.events w.refused).its (ap is_offered let_in.phase)
 
-  spelt : Upright w (Some v)
+  pub spelt : Upright w (Some v)
   spelt = keeps_upright z w (stub_of e) is.keeps (Some v) up
 
-  keeps_now : KeepsPromise z (standing w spelt.first spelt.others (Some v)) (stub_of e)
+  pub keeps_now : KeepsPromise z (standing w spelt.first spelt.others (Some v)) (stub_of e)
   keeps_now = subst (λ x. KeepsPromise z x (stub_of e)) spelt.is is.keeps
 
-  engine_is : IsEngineOf z (standing w spelt.first spelt.others (Some v)) e
+  pub engine_is : IsEngineOf z (standing w spelt.first spelt.others (Some v)) e
   engine_is = record { walks = walks; rows = is.tracked.rows; files = is.tracked.files }
 
-  let_in_now : IsLetIn z (standing w spelt.first spelt.others (Some v)) (seat_of w client).call
+  pub let_in_now : IsLetIn z (standing w spelt.first spelt.others (Some v)) (seat_of w client).call
   let_in_now =
       let has : HasSeat w.seats (client - 1) (seat_of w client) = has_seat w.seats (client - 1) (seat_of w client) (seat_there w client first last) in
       is_let_in z is.set w spelt.first spelt.others (Some v) (stub_of e) keeps_now has.front has.back (seat_of w client) has.is (ap is_offered let_in.phase) (ap is_held_phase let_in.phase) let_in.passes

@@ -4,13 +4,11 @@ use Rattle.std.proofs.Math.Path.{fun_ext}
 use Rattle.std.specs.List.{Contains}
 use Rattle.std.specs.Prelude.{◌||◌}
 use Rattle.sg_base.specs.declared.call.Call.{Call}
-use Rattle.sg_base.specs.declared.reply.Good.{Good}
 use Rattle.sg_base.specs.declared.reply.Reply.{Reply}
 use Rattle.sg_base.specs.declared.reply.Reply.TheVariants.{Ok, Refused}
 use Rattle.sg_engine_laws.specs.Stubs.{stub_of, told_of}
 use Rattle.sg_facts.specs.Alike.{named}
-use Rattle.sg_facts.specs.Facts.{Facts, fun_at, is_visible}
-use Rattle.sg_facts.specs.Laws.{whole}
+use Rattle.sg_facts.specs.Facts.{Facts, fun_at}
 use Rattle.sg_facts.specs.Legal.{Table}
 use Rattle.sg_facts.specs.Object.{Object, after, object_of, patch_of}
 use Rattle.sg_facts.specs.Sound.{AreRows, IsRow}
@@ -35,6 +33,28 @@ use Rattle.sg_seat.specs.declared.phase.Phase.TheVariants.{Held, Idle}
 use Rattle.sg_track.proofs.Premises.{may_track}
 use Rattle.sg_track.specs.Tracked.{MayTrack, Tracked}
 use Rattle.sg_walk_laws.proofs.Found.{same_test}
+use Rattle.std.proofs.Common.{unwrap_or}
+use Rattle.std.specs.Prelude.{IsSome}
+use Rattle.sg_base.specs.Lists.{Each}
+use Rattle.sg_facts.specs.Object.{given_after}
+use Rattle.sg_facts.specs.Trace.{Run}
+use Rattle.sg_held_laws.specs.Progress.{IsNone}
+use Rattle.sg_seat.specs.WorldView.{answered_to, boot_number, committed, is_blocked_phase, no_seat, seat_in, seat_of}
+use Rattle.sg_seat.specs.declared.mark.Mark.{Mark}
+use Rattle.sg_seat.specs.declared.mark.MarkKind.TheVariants.{Answer, Entry as IsEntered}
+use Rattle.sg_store.specs.Spans.{patched_at}
+use Rattle.sg_store.specs.Stored.{bytes_of}
+use Rattle.sg_world.proofs.Entering.{answered_told, entered_rooms, entered_some}
+use Rattle.sg_world.proofs.Moving.{answered_seats}
+use Rattle.sg_world.proofs.Storing.{stored_on}
+use Rattle.sg_world.proofs.Upright.{Upright, keeps_upright}
+use Rattle.sg_world.proofs.Waiting.{each_set, wait_on_live}
+use Rattle.sg_world.specs.Inside.Waiting.{WaitOnLive}
+use Rattle.sg_world.specs.Marked.{TellsAll}
+use Rattle.sg_world.specs.Worlded.{HaveRooms, IsWorld, Rooms, StoresObject}
+use Rattle.sg_world_laws.proofs.Moves.{its_seat}
+use Rattle.sg_world_laws.proofs.Seating.{HasSeat, has_seat, woken_at}
+use Rattle.sg_world_laws.proofs.Turns.{seat_there}
 use Rattle.sg_world_laws.proofs.Drawn.{waiting_one}
 use Rattle.sg_world_laws.proofs.Entered.{seats_entered}
 use Rattle.sg_world_laws.proofs.Returned.{answer_held, returned}
@@ -213,3 +233,140 @@ module _ (z : Setting) (set : IsSetting z) (w : WorldView) (b : Boot) (boots : L
         live_named
         (λ id live. ap told_of (name_kept o.rows o1.rows (named_at e.names.known id) (named_at new.names.known id) id (left_of_names id) live))
         (fun_ext (λ path. present path ∙ or_false (is_present e.present path)))
+
+-- ---- a world
+
+some_of : (r : Option Object) → IsSome r → (v : Object) × (r ≡ Some v)
+some_of None up = absurd (cc up)
+some_of (Some v) up = (v, refl)
+
+-- the view behind an entry of a client that doesn't wait, whose reply is handed over at once
+module _ (facts : Facts) (w : WorldView) (client : ℕ) (s : Seat) (there : slice_get w.seats (client - 1) ≡ Some s) (stays : is_blocked_phase s.phase ≡ false) (e : Entry) (its : e.call.client ≡ client) where
+  abbrev woken : List Seat
+  woken = map (woken_seat (wakes_seat facts (object_of facts w.history).rows e.call e.reply)) w.seats
+
+  abbrev answered : ℕ → Seat → WorldView
+  answered c x = record w {
+    history = w.history ++ e ∷ [];
+    seats = slice_set woken (c - 1) (record x { phase = Idle; seq = e.call.seq; reply = no_reply });
+    marks = (w.marks ++ record { client = c; kind = IsEntered } ∷ []) ++ record { client = c; kind = Answer } ∷ [];
+  }
+
+  pub view_answered : (run : Run) (running : Option Object) (history : List Entry) (seats : List Seat) (marks : List Mark) → run ≡ w.run → running ≡ w.running → history ≡ w.history ++ e ∷ []
+      → seats ≡ slice_set (map (woken_seat (wakes_seat facts (object_of facts w.history).rows e.call e.reply)) w.seats) (client - 1) (record s { phase = Idle; seq = e.call.seq; reply = no_reply })
+      → marks ≡ (w.marks ++ record { client = client; kind = IsEntered } ∷ []) ++ record { client = client; kind = Answer } ∷ []
+      → record w { history = history; run = run; running = running; seats = seats; marks = marks } ≡ answered_to (committed facts w e) e
+  view_answered run running history seats marks same_run same_running history_is seats_are marks_are =
+      ap (λ r. record w { history = history; run = r; running = running; seats = seats; marks = marks }) same_run
+      ∙ ap (λ r. record w { history = history; running = r; seats = seats; marks = marks }) same_running
+      ∙ ap (λ h. record w { history = h; seats = seats; marks = marks }) history_is
+      ∙ ap (λ l. record w { history = w.history ++ e ∷ []; seats = l; marks = marks }) seats_are
+      ∙ ap (λ m. record w { history = w.history ++ e ∷ []; seats = slice_set woken (client - 1) (record s { phase = Idle; seq = e.call.seq; reply = no_reply }); marks = m }) marks_are
+      ∙ ap (λ c. answered c s) (sym its) ∙ ap (answered e.call.client) (sym seat)
+    where
+      seat : seat_in (map (woken_seat (wakes_seat facts (object_of facts w.history).rows e.call e.reply)) w.seats) e.call.client ≡ s
+      seat = ap (λ c. seat_in woken c) its
+          ∙ ap (λ x. unwrap_or x no_seat) (answered_seats (wakes_seat facts (object_of facts w.history).rows e.call e.reply) w.seats (client - 1) s there stays s stays).1
+
+module _ (z : Setting) (e : Engined) (w : WorldView) (rooms : Rooms) (is : IsWorld z e w rooms) (client : ℕ) (first : 1 ≤ client) (last : client ≤ length w.seats) (held : (seat_of w client).phase ≡ Held)
+    (up : IsSome w.running) (boot : (seat_of w client).boot ≡ boot_number w) where
+  abbrev its_entry : Entry
+  its_entry = record { call = (seat_of w client).call; reply = (seat_of w client).reply }
+
+  abbrev wakes : Call → Bool
+  wakes = wakes_seat z.iface.facts (object_of z.iface.facts w.history).rows (seat_of w client).call (seat_of w client).reply
+
+  service : (v : Object) × (w.running ≡ Some v)
+  service = some_of w.running up
+
+  upright_now : (v : Object) → w.running ≡ Some v → Upright w (Some v)
+  upright_now v is_up = keeps_upright z w (stub_of e) is.keeps (Some v) is_up
+
+  there : slice_get w.seats (client - 1) ≡ Some (seat_of w client)
+  there = seat_there w client first last
+
+  found : HasSeat w.seats (client - 1) (seat_of w client)
+  found = has_seat w.seats (client - 1) (seat_of w client) there
+
+  offered : is_offered (seat_of w client).phase ≡ true
+  offered = ap is_offered held
+
+  stays : is_blocked_phase (seat_of w client).phase ≡ false
+  stays = ap is_blocked_phase held
+
+  own : (seat_of w client).call.client ≡ client
+  own = (its_seat z w (stub_of e) is.keeps client (seat_of w client) there first (seat_of w client) w.withdrawn w.marks w.events w.refused).its offered
+
+  waiting : IsWaiting z.iface.facts z.ask (object_of z.iface.facts w.history) (record { call = (seat_of w client).call; reply = (seat_of w client).reply })
+  waiting = at service.0 service.1
+    where
+      at : (v : Object) → w.running ≡ Some v → IsWaiting z.iface.facts z.ask (object_of z.iface.facts w.history) (record { call = (seat_of w client).call; reply = (seat_of w client).reply })
+      at v is_up =
+          let u = upright_now v is_up in
+          waits_held z is.set w u.first u.others v e (subst (λ x. KeepsPromise z x (stub_of e)) u.is is.keeps) found.front found.back (seat_of w client) found.is held (boot ∙ ap length u.boots)
+
+  pub may_return : MayCommitAt z.iface.facts e (seat_of w client).call (seat_of w client).reply None
+  may_return = may_commit_held z.iface.facts z.ask z.sound is.set.law (object_of z.iface.facts w.history) is.keeps.object.good its_entry waiting e is.tracked.rows
+
+  pub has_rooms : (1 ≤ rooms.entries) × (3 ≤ rooms.marks)
+  has_rooms = entered_some w.seats rooms is.rooms_are (client - 1) (seat_of w client) there offered
+
+  -- whoever waits, waits on a live descriptor or on none
+  pub waits_live : (call : Call) → call ≡ (seat_of w client).call → (new : Seat) → is_blocked_phase new.phase ≡ false → WaitOnLive z.iface.facts e.tracked.rows call (slice_set w.seats (client - 1) new)
+  waits_live call same new idle = subst (λ c. WaitOnLive z.iface.facts e.tracked.rows c (slice_set w.seats (client - 1) new)) (sym same) (record {
+    allowed = is.set.law.shape.shape;
+    is_call = waiting.answered.passes.is_call;
+    each = each_set (λ s. is_blocked_phase s.phase ≡ true → IsNone e.tracked.rows s.call.desc) w.seats (client - 1) new (λ blocked. absurd (let wrong : true ≡ false = sym blocked ∙ idle in cc wrong))
+        (subst (λ rs. Each (λ s. is_blocked_phase s.phase ≡ true → IsNone rs s.call.desc) w.seats) (sym is.tracked.rows) (wait_on_live z is.set w.history w.withdrawn 1 w.seats is.keeps.seats.each));
+  })
+
+  -- what stands behind the commit
+  module _ (new : Engined) (later : Rooms) (fits : (seat_of w client).call.seq < 2 ^ 32) (rows : new.tracked.rows ≡ track z.iface.facts e.tracked.rows (seat_of w client).call (seat_of w client).reply)
+      (given : new.tracked.given ≡ given_after z.iface.facts e.tracked.given (seat_of w client).call (seat_of w client).reply)
+      (files : (key : List ℕ) → bytes_of new.stored key ≡ patched_at None key (bytes_of e.stored key))
+      (names : (id : ℕ) → named_at new.names.known id ≡ name_left e.tracked.rows new.tracked.rows id (named_at e.names.known id))
+      (present : (path : List ℕ) → is_present new.present path ≡ (is_present e.present path || is_written None path))
+      (history : List Entry) (history_is : history ≡ w.history ++ (record { call = (seat_of w client).call; reply = (seat_of w client).reply }) ∷ [])
+      (between seats : List Seat) (set : between ≡ slice_set w.seats (client - 1) (record (seat_of w client) { phase = Idle; seq = (seat_of w client).call.seq; reply = no_reply }))
+      (seats_are : seats ≡ map (woken_seat (wakes_seat z.iface.facts e.tracked.rows (seat_of w client).call (seat_of w client).reply)) between)
+      (marks : List Mark) (marks_are : marks ≡ (w.marks ++ record { client = client; kind = IsEntered } ∷ []) ++ record { client = client; kind = Answer } ∷ []) where
+    abbrev its_idle : Seat
+    its_idle = record (seat_of w client) { phase = Idle; seq = (seat_of w client).call.seq; reply = no_reply }
+
+    woken_all : seats ≡ map (woken_seat (wakes_seat z.iface.facts (object_of z.iface.facts w.history).rows (seat_of w client).call (seat_of w client).reply)) (slice_set w.seats (client - 1) (record (seat_of w client) { phase = Idle; seq = (seat_of w client).call.seq; reply = no_reply }))
+    woken_all = seats_are ∙ ap (λ rs. map (woken_seat (wakes_seat z.iface.facts rs (seat_of w client).call (seat_of w client).reply)) between) is.tracked.rows ∙ ap (map (woken_seat wakes)) set
+
+    seats_set_now : seats ≡ slice_set (map (woken_seat (wakes_seat z.iface.facts (object_of z.iface.facts w.history).rows (seat_of w client).call (seat_of w client).reply)) w.seats) (client - 1)
+        (record (seat_of w client) { phase = Idle; seq = (seat_of w client).call.seq; reply = no_reply })
+    seats_set_now = woken_all ∙ (answered_seats wakes w.seats (client - 1) (seat_of w client) there stays its_idle refl).0
+
+    pub returned_view : (run : Run) (running : Option Object) → run ≡ w.run → running ≡ w.running
+        → record w { history = history; run = run; running = running; seats = seats; marks = marks }
+        ≡ answered_to (committed z.iface.facts w (record { call = (seat_of w client).call; reply = (seat_of w client).reply })) (record { call = (seat_of w client).call; reply = (seat_of w client).reply })
+    returned_view run running same_run same_running =
+        view_answered z.iface.facts w client (seat_of w client) there stays its_entry own run running history seats marks same_run same_running history_is seats_set_now marks_are
+
+    keeps_now : KeepsPromise z (record w { history = history; seats = seats; marks = marks }) (stub_of new)
+    keeps_now = at service.0 service.1
+      where
+        at : (v : Object) → w.running ≡ Some v → KeepsPromise z (record w { history = history; seats = seats; marks = marks }) (stub_of new)
+        at v is_up =
+            let u = upright_now v is_up in
+            keeps_returned z is.set w u.first u.others v e (subst (λ x. KeepsPromise z x (stub_of e)) u.is is.keeps) found.front found.back (seat_of w client) found.is held (boot ∙ ap length u.boots) new fits is.tracked.rows rows names present
+            (record w { history = history; seats = seats; marks = marks }) history_is (ap (λ x. x.run) u.is) is_up refl
+            (woken_all ∙ ap (map (woken_seat wakes)) (found.set its_idle) ∙ woken_at wakes found.front found.back its_idle)
+
+    pub returned_on : rooms.entries ≤ later.entries + 1 → rooms.withdrawals ≤ later.withdrawals → rooms.marks ≤ later.marks + 2 → IsWorld z new (record w { history = history; seats = seats; marks = marks }) later
+    returned_on entries withdrawals left_marks = record {
+      set = is.set;
+      keeps = keeps_now;
+      tracked = subst (StoresObject z.iface.facts new) (sym history_is)
+          (stored_on z.iface.facts e new w.history (seat_of w client).call (seat_of w client).reply None is.tracked rows given files
+          (held_writes_none z.iface.facts z.ask z.sound is.set.law (object_of z.iface.facts w.history) is.keeps.object.good its_entry waiting e is.tracked.rows));
+      rooms_are = subst (λ l. HaveRooms l later) (sym seats_set_now)
+          (entered_rooms w.seats rooms later is.rooms_are (client - 1) (seat_of w client) there offered stays wakes its_idle refl entries withdrawals (omega (arith, left_marks)));
+      marked = subst (λ h. TellsAll (record w { history = h; seats = seats; marks = marks })) (sym history_is)
+          (subst (λ l. TellsAll (record w { history = w.history ++ its_entry ∷ []; seats = l; marks = marks })) (sym seats_set_now)
+          (subst (λ m. TellsAll (record w { history = w.history ++ its_entry ∷ []; seats = slice_set (map (woken_seat wakes) w.seats) (client - 1) its_idle; marks = m })) (sym marks_are)
+          (answered_told w is.marked client (seat_of w client) there first stays wakes its_entry own its_idle refl w.events w.refused)));
+    }

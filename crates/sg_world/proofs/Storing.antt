@@ -7,7 +7,7 @@ use Rattle.sg_base.specs.declared.reply.Reply.{Reply}
 use Rattle.sg_facts.specs.declared.entry.Entry.{Entry}
 use Rattle.sg_facts.specs.declared.outcome.Patch.{Patch}
 use Rattle.sg_facts.specs.Facts.{Facts}
-use Rattle.sg_facts.specs.Object.{Object, after, empty_object, file_at, given_after, object_from, object_of, over, patch_of, patched, set_file}
+use Rattle.sg_facts.specs.Object.{after, empty_object, file_at, given_after, object_of, over, patch_of, patched}
 use Rattle.sg_facts.specs.Track.{track}
 use Rattle.sg_object_laws.proofs.Files.{set_other, set_own}
 use Rattle.sg_replay.specs.Engined.{Engined}
@@ -42,7 +42,7 @@ stored_on facts e new history call reply patch stores rows given files its =
     (rows ∙ ap (λ rs. track facts rs call reply) stores.rows)
     (given ∙ ap (λ n. given_after facts n call reply) stores.given)
     (λ path. files path ∙ ap (patched_at patch path) (stores.files path) ∙ ap (λ p. patched_at p path (file_at (object_of facts history).files path)) its
-        ∙ sym (patched_file (object_of facts history).files (patch_of facts (object_of facts history) call reply) path))
+    ∙ sym (patched_file (object_of facts history).files (patch_of facts (object_of facts history) call reply) path))
   where
     entry : Entry
     entry = record { call = call; reply = reply }

@@ -206,7 +206,7 @@ module _ (z : Setting) (w : WorldView) (c : ℕ) where
     pub tag : item.tag ≡ Client c seat_now.call.seq
     pub shown : item.shown ≡ seat_now.call
     pub outcome : is_replied item.outcome ≡ true
-    pub noted : IsNotedBy item w.history (unanswered w)
+    pub noted : IsNotedBy item w.history (unanswered later)
     pub now : later ≡ with_seat (service_is (item_noted w item) (after_item z.iface.facts service item)) c (record seat_now { phase = Held; boot = boot_number w; reply = reply })
 
   -- what a step does, by what it answers

@@ -63,6 +63,8 @@ impl<S: Service, T: Stops> Inner<S, T> {
             view_in self.new ≡ answered_to (committed self.old.engine.tables.iface.facts (view_in self.old) e) e }
         ensures rest { KeepsRest T.plan self.old self.new }
     {
+        // Its number is one of 32 bits, as the proof uses.
+        let _seq = self.clients.call(client).seq;
         let call = self.clients.refuse(alloc, client);
         self.history.add(Entry {
             call,
@@ -88,12 +90,15 @@ impl<S: Service, T: Stops> Inner<S, T> {
         requires held { (seat_in self.old.clients client).phase ≡ Held }
         requires up { IsSome self.old.engine.cell.running }
         requires boot { (seat_in self.old.clients client).boot ≡ boot_number (view_in self.old) }
+        requires service { self.old.engine.tables.iface.facts ≡ S.facts }
         ensures order { IsInOrder S.ask S.sound S.parts T.test T.asked T.struck T.plan self.new }
         ensures reply { result ≡ (seat_in self.old.clients client).reply }
         ensures view { let s = seat_in self.old.clients client in let e : IsEntry = record { call = s.call; reply = s.reply } in
             view_in self.new ≡ answered_to (committed self.old.engine.tables.iface.facts (view_in self.old) e) e }
         ensures rest { KeepsRest T.plan self.old self.new }
     {
+        // Its number is one of 32 bits, as the proof uses.
+        let _seq = self.clients.call(client).seq;
         let Returned {
             entry,
             reply,

@@ -31,6 +31,7 @@ impl<S: Service, T: Stops> Inner<S, T> {
         needs: &Needs,
     ) -> Result<Did, NoMemory>
         requires order { IsInOrder S.ask S.sound S.parts T.test T.asked T.struck T.plan self.old }
+        requires service { self.old.engine.tables.iface.facts ≡ S.facts }
         requires first { 1 ≤ client }
         requires last { client ≤ length self.old.clients }
         requires let_in { PassesGuard (setting_of S.ask S.sound S.parts self.old.engine.tables) (view_in self.old) client }
@@ -60,6 +61,7 @@ impl<S: Service, T: Stops> Inner<S, T> {
 
     // The service replied: a visible call is committed, behind which the service may stop, and the reply of another is held.
     fn answer(&mut self, client: u8, reply: Reply, patch: Option<Patch>) -> Did
+        requires service { self.old.engine.tables.iface.facts ≡ S.facts }
         requires first { 1 ≤ client }
         requires last { client ≤ length self.old.clients }
         requires served { HasServed (setting_of S.ask S.sound S.parts self.old.engine.tables) T.test T.asked T.struck T.plan self.old client reply patch }
@@ -87,6 +89,7 @@ impl<S: Service, T: Stops> Inner<S, T> {
 
     // A visible call that the service replied to is committed, and its client has a receipt for the reply.
     fn commit(&mut self, client: u8, reply: Reply, patch: Option<Patch>)
+        requires service { self.old.engine.tables.iface.facts ≡ S.facts }
         requires first { 1 ≤ client }
         requires last { client ≤ length self.old.clients }
         requires served { HasServed (setting_of S.ask S.sound S.parts self.old.engine.tables) T.test T.asked T.struck T.plan self.old client reply patch }
@@ -110,6 +113,7 @@ impl<S: Service, T: Stops> Inner<S, T> {
 
     // The reply to a call that isn't visible is held by its client.
     fn hold(&mut self, client: u8, reply: Reply)
+        requires service { self.old.engine.tables.iface.facts ≡ S.facts }
         requires first { 1 ≤ client }
         requires last { client ≤ length self.old.clients }
         requires served { (patch : IsOption IsPatch) × HasServed (setting_of S.ask S.sound S.parts self.old.engine.tables) T.test T.asked T.struck T.plan self.old client reply patch }

@@ -24,10 +24,10 @@ returns-then-interface g c = λ rows tracked waits.
     let under : facts.subtree ≡ true = sym (ap (λ i. i.facts.subtree) (c.interface.view_is ∙ c.interface-interface.ensures)) ∙ c.if-interface.true in
     let one : c.if-wakes.clients ≡ cond (f.wakeup || f.terminal) (map (woken_seat (λ x. call.desc == x.desc)) seats) seats
     = on_true (f.wakeup || f.terminal) c.if-wakes.clients (map (woken_seat (λ x. call.desc == x.desc)) seats) seats (or_second f.wakeup f.terminal ends)
-      (elim c.if-wakes.branch [
-        | then-wakes w ↦ w.clients-is ∙ w.wake.ensures
-        | else-wakes+else-is_terminal w ↦ absurd (let wrong : true ≡ false = sym ends ∙ sym (w.is_terminal.ensures ∙ ap (λ x. x.terminal) told) ∙ w.if-is_terminal.false in cc wrong)
-      ]) in
+    (elim c.if-wakes.branch [
+      | then-wakes w ↦ w.clients-is ∙ w.wake.ensures
+      | else-wakes+else-is_terminal w ↦ absurd (let wrong : true ≡ false = sym ends ∙ sym (w.is_terminal.ensures ∙ ap (λ x. x.terminal) told) ∙ w.if-is_terminal.false in cc wrong)
+    ]) in
     elim c.match-matches.branch [
       | in-Refused w ↦ absurd (let wrong : true ≡ false = sym w.matches-is ∙ c.if-matches.false in cc wrong)
       | in_default w ↦
@@ -46,20 +46,20 @@ returns-else-is_terminal-2 g c = λ rows tracked waits.
     let wakes : c.wakes.result ≡ f.wakeup = c.wakes.ensures ∙ ap (λ x. x.wakeup) told in
     let none : (f.terminal && facts.subtree) ≡ false
     = elim c.else-is_terminal-2.branch [
-        | else-is_terminal-2-via-then-is_terminal-2+else-interface w ↦ and_not_second f.terminal facts.subtree (sym (ap (λ i. i.facts.subtree) (c.interface.view_is ∙ c.interface-interface.ensures)) ∙ w.if-interface.false)
-        | else-is_terminal-2-via-else-is_terminal-2 w ↦ and_not_first f.terminal facts.subtree (sym (c.is_terminal-2.ensures ∙ ap (λ x. x.terminal) told) ∙ w.if-is_terminal-2.false)
-      ] in
+      | else-is_terminal-2-via-then-is_terminal-2+else-interface w ↦ and_not_second f.terminal facts.subtree (sym (ap (λ i. i.facts.subtree) (c.interface.view_is ∙ c.interface-interface.ensures)) ∙ w.if-interface.false)
+      | else-is_terminal-2-via-else-is_terminal-2 w ↦ and_not_first f.terminal facts.subtree (sym (c.is_terminal-2.ensures ∙ ap (λ x. x.terminal) told) ∙ w.if-is_terminal-2.false)
+    ] in
     let one : c.if-wakes.clients ≡ cond (f.wakeup || f.terminal) (map (woken_seat (λ x. call.desc == x.desc)) seats) seats
     = elim c.if-wakes.branch [
-        | then-wakes w ↦ on_true (f.wakeup || f.terminal) c.if-wakes.clients (map (woken_seat (λ x. call.desc == x.desc)) seats) seats
-            (elim w.then-wakes.branch [
-              | then-wakes-via-then-wakes x ↦ or_first f.wakeup f.terminal (sym wakes ∙ x.if-wakes.true)
-              | then-wakes-via-else-wakes+then-is_terminal x ↦ or_second f.wakeup f.terminal (sym (x.is_terminal.ensures ∙ ap (λ y. y.terminal) told) ∙ x.if-is_terminal.true)
-            ])
-            (w.clients-is ∙ w.wake.ensures)
-        | else-wakes+else-is_terminal w ↦ on_false (f.wakeup || f.terminal) c.if-wakes.clients (map (woken_seat (λ x. call.desc == x.desc)) seats) seats
-            (or_none f.wakeup f.terminal (sym wakes ∙ w.if-wakes.false) (sym (w.is_terminal.ensures ∙ ap (λ y. y.terminal) told) ∙ w.if-is_terminal.false)) w.clients-is
-      ] in
+      | then-wakes w ↦ on_true (f.wakeup || f.terminal) c.if-wakes.clients (map (woken_seat (λ x. call.desc == x.desc)) seats) seats
+          (elim w.then-wakes.branch [
+            | then-wakes-via-then-wakes x ↦ or_first f.wakeup f.terminal (sym wakes ∙ x.if-wakes.true)
+            | then-wakes-via-else-wakes+then-is_terminal x ↦ or_second f.wakeup f.terminal (sym (x.is_terminal.ensures ∙ ap (λ y. y.terminal) told) ∙ x.if-is_terminal.true)
+          ])
+          (w.clients-is ∙ w.wake.ensures)
+      | else-wakes+else-is_terminal w ↦ on_false (f.wakeup || f.terminal) c.if-wakes.clients (map (woken_seat (λ x. call.desc == x.desc)) seats) seats
+          (or_none f.wakeup f.terminal (sym wakes ∙ w.if-wakes.false) (sym (w.is_terminal.ensures ∙ ap (λ y. y.terminal) told) ∙ w.if-is_terminal.false)) w.clients-is
+    ] in
     elim c.match-matches.branch [
       | in-Refused w ↦ absurd (let wrong : true ≡ false = sym w.matches-is ∙ c.if-matches.false in cc wrong)
       | in_default w ↦

@@ -1,0 +1,20 @@
+-- The client's call ended before.
+use Rattle.std.proofs.Common.{ap, ◌∙◌}
+use Rattle.sg_seat.specs.WorldView.{is_offered, no_reply}
+use Rattle.sg_seat.specs.declared.phase.Phase.TheVariants.{Idle}
+use Rattle.sg_clients.proofs.Seats.{Reads, is_changed, is_read}
+use Rattle.sg_clients.proofs.UnderWay.{handed_over}
+use Rattle.sg_clients.proofs.clients.Clients.hand_over.Goals as goal
+
+-- the seat that is read is the client's
+reads : (c : goal.After-self-1) → Reads c.self.inside.seats.items c.args.self.now c.from.result c.args.client c.index_mut.result.now
+reads c = record { same = c.self.view_is; is = c.from.ensures; first = c.requires.first; last = c.requires.last; read = c.index_mut.ensures.value }
+
+pub invariant_of-self : goal.invariant_of-self
+invariant_of-self c = handed_over (reads c) c.self.inside.waiting c.hand_over.new.self c.self.invariant c.requires.receipted (ap (λ s. is_offered s.phase) c.hand_over.ensures.seat)
+
+pub returns-clause-reply : goal.returns-clause-reply
+returns-clause-reply c = c.hand_over.ensures.reply ∙ ap (λ s. s.reply) (is_read (reads c))
+
+pub returns-clause-seats : goal.returns-clause-seats
+returns-clause-seats c = is_changed (reads c) (λ s. record s { phase = Idle; reply = no_reply }) c.hand_over.new.self c.hand_over.ensures.seat
