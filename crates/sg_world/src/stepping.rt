@@ -40,6 +40,7 @@ impl<S: Service, T: Stops> Inner<S, T> {
     // A client that holds a reply returns it where the service is still in the boot in which it gave it, and else loses it.
     fn return_or_lose(&mut self, alloc: Global, client: u8) -> Did
         requires order { IsInOrder S.ask S.sound S.parts T.test T.asked T.struck T.plan self.old }
+        requires service { self.old.engine.tables.iface.facts ≡ S.facts }
         requires first { 1 ≤ client }
         requires last { client ≤ length self.old.clients }
         requires held { (seat_in self.old.clients client).phase ≡ Held }
