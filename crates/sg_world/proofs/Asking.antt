@@ -1,5 +1,5 @@
 -- The parts of a world where a call that has all that it needs is asked of the service.
-use Rattle.std.proofs.Common.{Bool, IsSome, List, None, Option, Some, [], ap, if◌then◌else◌, length, refl, slice_set, subst, sym, ℕ, ◌-◌, ◌∙◌, ◌≡◌, ◌≤◌, ◌||◌}
+use Rattle.std.proofs.Common.{IsSome, List, None, Option, Some, ap, if◌then◌else◌, length, refl, slice_set, subst, sym, ℕ, ◌-◌, ◌∙◌, ◌≡◌, ◌≤◌, ◌||◌}
 use Rattle.std.specs.Prelude.{IfSome}
 use Rattle.sg_base.specs.Stops.{asked_after}
 use Rattle.sg_base.specs.declared.call.Call.{Call}
@@ -23,10 +23,9 @@ use Rattle.sg_name.specs.Names.{named_at}
 use Rattle.sg_replay.specs.Engined.{Engined, IsEngine}
 use Rattle.sg_replay.specs.Missing.{is_empty, missing, missing_file, missing_row, or_else}
 use Rattle.sg_replay.specs.Present.{HasMark, is_present}
-use Rattle.sg_replay.specs.Serving.{KeepsNames, MayServe, ServesOne, real_call}
-use Rattle.sg_replay.specs.declared.todo.Todo.{Todo}
+use Rattle.sg_replay.specs.Serving.{MayServe, ServesOne, real_call}
 use Rattle.sg_replay.specs.declared.todo.Todo.TheVariants.{Load}
-use Rattle.sg_seat.specs.WorldView.{Seat, WorldView, seat_in, seat_of, with_points}
+use Rattle.sg_seat.specs.WorldView.{Seat, WorldView, seat_in, with_points}
 use Rattle.sg_seat.specs.declared.phase.Phase.TheVariants.{Blocked}
 use Rattle.sg_store.specs.Stored.{HasRoom, bytes_of}
 use Rattle.sg_world.proofs.Points.{some_is, stops_noted, stores_same}
@@ -37,9 +36,9 @@ use Rattle.sg_world.proofs.Rooming.{length_set}
 use Rattle.sg_world.specs.declared.inner.Inner.{Inner}
 use Rattle.sg_world.specs.Due.{needs_in}
 use Rattle.sg_world.specs.Inners.{IsInOrder, rooms_in, view_in}
-use Rattle.sg_world.specs.Inside.Served.{HasRooms, HasServed, view_with}
+use Rattle.sg_world.specs.Inside.Served.{HasServed, view_with}
 use Rattle.sg_world.specs.Steps.{PassesGuard, StopsCall, WaitsNow}
-use Rattle.sg_world.specs.Worlded.{IsWorld, Rooms, StoresObject, setting_of}
+use Rattle.sg_world.specs.Worlded.{IsWorld, StoresObject, setting_of}
 use Rattle.sg_world_laws.proofs.Alike.{keeps_alike}
 use Rattle.sg_world_laws.specs.Keeping.{TellSame}
 use Rattle.sg_world_laws.specs.Setting.{Setting}
@@ -70,7 +69,7 @@ module _ {S T : Type 0} (facts : Facts) (ask : Table) (sound : Object → Type 0
   same_view : view_with e x ≡ view_in x
   same_view = ap (λ (r : Run). record (view_in x) { run = r; running = e.cell.running }) same.run ∙ ap (λ r. record (view_in x) { running = r }) same.running
 
-  world : IsWorld (setting_of ask sound parts x.engine.tables) e (view_with e x) (rooms_in x)
+  pub world : IsWorld (setting_of ask sound parts x.engine.tables) e (view_with e x) (rooms_in x)
   world = subst (λ v. IsWorld z e v (rooms_in x)) (sym same_view) (reserved z x.engine e (view_in x) (rooms_in x) same order.world)
 
   abbrev pub held : Object
@@ -79,22 +78,22 @@ module _ {S T : Type 0} (facts : Facts) (ask : Table) (sound : Object → Type 0
   pub held_is : e.cell.running ≡ Some (some_is x.engine.cell.running up).0
   held_is = same.running ∙ (some_is x.engine.cell.running up).1
 
-  passes : PassesGuard (setting_of ask sound parts x.engine.tables) (view_with e x) client
+  pub passes : PassesGuard (setting_of ask sound parts x.engine.tables) (view_with e x) client
   passes = record { phase = let_in.phase; passes = let_in.passes }
 
-  all_whole : missing e (needs_in (setting_of ask sound parts x.engine.tables) (view_with e x) (seat_in x.clients client).call) ≡ None
+  pub all_whole : missing e (needs_in (setting_of ask sound parts x.engine.tables) (view_with e x) (seat_in x.clients client).call) ≡ None
   all_whole = ap (missing e) (sym needs_are) ∙ missing_same x.engine e needs same ∙ whole
 
-  walks_are : e.tables.walks ≡ x.engine.tables.walks
+  pub walks_are : e.tables.walks ≡ x.engine.tables.walks
   walks_are = ap (λ t. t.walks) tables
 
-  asked_so : (view_with e x).run.points ≡ asked x.stops
+  pub asked_so : (view_with e x).run.points ≡ asked x.stops
   asked_so = ap (λ (r : Run). r.points) same.run ∙ order.points.asked_so
 
-  struck_so : struck_in (view_with e x).run ≡ struck x.stops
+  pub struck_so : struck_in (view_with e x).run ≡ struck x.stops
   struck_so = ap struck_in same.run ∙ order.points.struck_so
 
-  placed : length x.clients ≤ e.stored.clients
+  pub placed : length x.clients ≤ e.stored.clients
   placed = subst (λ n. length x.clients ≤ n) (sym places) order.clients
 
   -- where there was no memory

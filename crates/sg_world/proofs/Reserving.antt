@@ -1,5 +1,5 @@
 -- A world keeps what it keeps where its engine took memory.
-use Rattle.std.proofs.Common.{List, ap, sym, subst, refl, ℕ, ◌∙◌, ◌≡◌}
+use Rattle.std.proofs.Common.{List, ap, ℕ, ◌∙◌, ◌≡◌}
 use Rattle.sg_engine_laws.specs.Stubs.{stub_of, told_of}
 use Rattle.sg_facts.specs.Alike.{named}
 use Rattle.sg_name.specs.Names.{named_at}
@@ -8,7 +8,7 @@ use Rattle.sg_replay.specs.Present.{is_present}
 use Rattle.sg_replay.specs.Serving.{pairs_of}
 use Rattle.sg_seat.specs.WorldView.{WorldView}
 use Rattle.sg_store.specs.Stored.{bytes_of}
-use Rattle.sg_world.specs.Worlded.{IsWorld, Rooms, StoresObject}
+use Rattle.sg_world.specs.Worlded.{IsWorld, Rooms}
 use Rattle.sg_world_laws.proofs.Alike.{keeps_alike}
 use Rattle.sg_world_laws.specs.Keeping.{TellSame}
 use Rattle.sg_world_laws.specs.Setting.{Setting}

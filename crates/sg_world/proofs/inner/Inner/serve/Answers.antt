@@ -1,5 +1,5 @@
 -- The parts stay in order where a call reaches the service.
-use Rattle.std.proofs.Common.{ℕ, ap, inl, inr, refl, subst, sym, ◌∙◌, ◌≡◌}
+use Rattle.std.proofs.Common.{ℕ, ap, inl, inr, subst, sym, ◌∙◌, ◌≡◌}
 use Rattle.sg_base.specs.Stops.{asked_after}
 use Rattle.sg_base.specs.declared.call.Call.{Call}
 use Rattle.sg_facts.specs.Facts.{Facts}
