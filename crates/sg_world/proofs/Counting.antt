@@ -1,24 +1,18 @@
 -- The points of a world are counted behind every step.
-use Rattle.std.proofs.Common.{Bool, List, None, Option, Some, [], ap, arith, false, inl, inr, refl, subst, sym, true, ℕ, ◌&&◌, ◌++◌, ◌+◌, ◌∙◌, ◌∷◌, ◌≡◌, ◌≢◌, ◌≤◌, ◌⊎◌, ◌<◌}
-use Rattle.std.specs.Prelude.{◌==◌, min, nat_lt, unwrap_or}
-use Rattle.sg_base.specs.Counts.{last_count}
-use Rattle.sg_base.specs.Lists.{When}
-use Rattle.sg_base.specs.Stops.{asked_after}
+use Rattle.std.proofs.Common.{Bool, List, None, Option, Some, [], arith, false, inl, inr, subst, true, ℕ, ◌++◌, ◌+◌, ◌∷◌, ◌≡◌, ◌≤◌, ◌<◌}
+use Rattle.std.specs.Prelude.{unwrap_or}
 use Rattle.sg_base.specs.declared.reply.Reply.{Reply}
 use Rattle.sg_base.specs.declared.reply.Reply.TheVariants.{Ok, Refused}
-use Rattle.sg_boot.specs.Cells.{IsCell, IsRunning}
-use Rattle.sg_facts.specs.Facts.{Facts, is_visible}
+use Rattle.sg_facts.specs.Facts.{Facts}
 use Rattle.sg_facts.specs.Legal.{Table}
-use Rattle.sg_facts.specs.Object.{Object}
 use Rattle.sg_facts.specs.Trace.{Boot}
 use Rattle.sg_facts.specs.declared.outcome.Outcome.{Outcome}
 use Rattle.sg_facts.specs.declared.outcome.Outcome.TheVariants.{Blocks, NoMemory, Replied, Stopped}
 use Rattle.sg_facts.specs.declared.trace.Item.{Item}
 use Rattle.sg_facts.specs.declared.trace.Tag.{Tag}
 use Rattle.sg_facts.specs.declared.trace.Tag.TheVariants.{Client, Load, Walk}
-use Rattle.sg_hist.specs.Recovered.{ArePoints, ArePointsOf, IsCount, IsPointOf, IsPointOfCall, IsStopInCall, IsStopOf, answer_to, asked_behind, asked_in, ends_committed, is_clients, is_replied, is_stopped, is_visible_reply}
-use Rattle.sg_recovery_laws.proofs.Points.{points_booted, points_counted, points_noted, points_stopped, points_struck}
-use Rattle.sg_recovery_laws.specs.Growing.{asked_over, booted, last_items, last_stop, noted, struck}
+use Rattle.sg_hist.specs.Recovered.{ArePoints, ArePointsOf, IsCount, IsPointOf, IsPointOfCall, IsStopOf, answer_to, asked_behind, asked_in}
+use Rattle.sg_recovery_laws.specs.Growing.{asked_over}
 
 -- ---- counts
 

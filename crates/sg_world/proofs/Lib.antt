@@ -2,6 +2,7 @@ pub mod Asking
 pub mod Counting
 pub mod Denying
 pub mod Entering
+pub mod Events
 pub mod Handing
 pub mod Marking
 pub mod Missing

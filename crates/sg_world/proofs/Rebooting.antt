@@ -17,7 +17,7 @@ use Rattle.sg_world.proofs.Upright.{Upright, keeps_upright}
 use Rattle.sg_world.specs.Worlded.{IsWorld, Rooms}
 use Rattle.sg_world_laws.proofs.Alike.{keeps_alike}
 use Rattle.sg_world_laws.proofs.Booted.{booted_again}
-use Rattle.sg_world_laws.specs.Keeping.{KeepsPromise, Stub, TellSame, standing}
+use Rattle.sg_world_laws.specs.Keeping.{KeepsPromise, Stub, TellSame}
 use Rattle.sg_world_laws.specs.Setting.{Setting}
 
 -- what an engine shows after a boot

@@ -1,19 +1,16 @@
 -- The points of a world stay counted, whatever a step does.
-use Rattle.std.proofs.Common.{Bool, List, None, Option, Some, [], ap, arith, false, inl, inr, refl, subst, sym, true, ℕ, ◌&&◌, ◌++◌, ◌+◌, ◌∙◌, ◌∷◌, ◌≡◌, ◌≢◌, ◌≤◌, ◌⊎◌, ◌<◌}
+use Rattle.std.proofs.Common.{Bool, List, None, Some, [], ap, arith, false, inl, inr, refl, subst, sym, true, ℕ, ◌&&◌, ◌++◌, ◌+◌, ◌∙◌, ◌∷◌, ◌≡◌, ◌≢◌, ◌≤◌, ◌⊎◌, ◌<◌}
 use Rattle.std.specs.Prelude.{◌==◌, if◌then◌else◌, min, nat_lt, unwrap_or}
 use Rattle.std.proofs.lemmas.Bool.{lt-ltb, ltb-true}
 use Rattle.std.proofs.lemmas.Bool.Decides.{nat_tests}
 use Rattle.sg_base.specs.Counts.{last_count}
 use Rattle.sg_base.specs.Stops.{asked_after}
 use Rattle.sg_base.specs.declared.call.Call.{Call}
-use Rattle.sg_base.specs.declared.reply.Reply.{Reply}
 use Rattle.sg_boot.specs.Cells.{IsCell, IsRunning}
 use Rattle.sg_facts.specs.declared.entry.Entry.{Entry}
 use Rattle.sg_facts.specs.declared.outcome.Outcome.{Outcome}
 use Rattle.sg_facts.specs.declared.outcome.Outcome.TheVariants.{Blocks, NoMemory, Replied, Stopped}
 use Rattle.sg_facts.specs.declared.trace.Item.{Item}
-use Rattle.sg_facts.specs.declared.trace.Tag.{Tag}
-use Rattle.sg_facts.specs.declared.trace.Tag.TheVariants.{Client, Load, Walk}
 use Rattle.sg_facts.specs.Facts.{Facts, is_visible}
 use Rattle.sg_facts.specs.Legal.{Table}
 use Rattle.sg_facts.specs.Object.{Object}
@@ -21,11 +18,11 @@ use Rattle.sg_facts.specs.Trace.{Boot}
 use Rattle.sg_hist.specs.Recovered.{ArePointsOf, IsCount, IsPointOf, answer_to, asked_behind, asked_in, ends_committed, is_clients, is_replied, is_stopped, is_visible_reply}
 use Rattle.sg_recovery_laws.proofs.Points.{points_booted, points_counted, points_noted, points_stopped, points_struck}
 use Rattle.sg_recovery_laws.specs.Growing.{asked_over, booted, last_items, last_stop, noted, struck}
-use Rattle.sg_seat.specs.WorldView.{WorldView, answered_to, committed, given_to, in_phase, item_noted, rebooted, reply_handed_over, seat_of, service_is, struck_at, with_points, with_seat}
-use Rattle.sg_world.proofs.Counting.{at_least, count_on, grows, point_of, sum_is, weak_of}
+use Rattle.sg_seat.specs.WorldView.{WorldView, seat_of, struck_at, with_points}
+use Rattle.sg_world.proofs.Counting.{count_on, grows, point_of, sum_is, weak_of}
 use Rattle.sg_world.specs.declared.did.Did.{Did}
 use Rattle.sg_world.specs.declared.did.Did.TheVariants.{Answered, Blocked as Waits, Booted, Loaded, Lost, Replayed, Served, Skipped, Struck}
-use Rattle.sg_world.specs.Steps.{Boots, Commits, GoesOnBehind, HandsOver, Holds, IsNotedBy, Loads, Loses, PassesGuard, ReachesService, Refuses, Replays, Returns, Skips, Steps, StopsBehind, StopsCall, StopsIdle, StopsReplay, UsesService, WaitsNow, WantsMemory}
+use Rattle.sg_world.specs.Steps.{Commits, IsNotedBy, Steps, StopsIdle}
 use Rattle.sg_world.specs.Worlded.{CountsAll}
 use Rattle.sg_world_laws.specs.Setting.{Setting}
 

@@ -1,5 +1,5 @@
 -- The parts stay in order where the engine does one step more of what a call needs, and it is the line of the step.
-use Rattle.std.proofs.Common.{Ok, ap, inl, inr, refl, subst, sym, ◌∙◌, ◌≡◌}
+use Rattle.std.proofs.Common.{length, ◌≤◌, Ok, ap, inl, inr, refl, subst, sym, ◌∙◌, ◌≡◌}
 use Rattle.sg_engine_laws.specs.Engines.{as_shown}
 use Rattle.sg_facts.specs.Invoke.{Points}
 use Rattle.sg_replay.specs.Engined.{Engined}

@@ -1,11 +1,11 @@
 -- A call that the guard lets pass boots a service that failed, and else uses it.
-use Rattle.std.proofs.Common.{◌≡◌, ◌∙◌, ap, false, if◌then◌else◌, inl, inr, subst, sym, true}
+use Rattle.std.proofs.Common.{◌≡◌, ◌∙◌, ap, if◌then◌else◌, inl, inr, subst, sym}
 use Rattle.std.specs.Prelude.{IfOk, IsSome}
 use Rattle.sg_base.specs.Stops.{asked_after}
 use Rattle.sg_seat.specs.WorldView.{WorldView, struck_at, with_points}
 use Rattle.sg_world.specs.Inners.{view_in}
 use Rattle.sg_world.specs.Inside.Lines.{NoMemoryLeft}
-use Rattle.sg_world.specs.Steps.{PassesGuard, StopsIdle, Steps}
+use Rattle.sg_world.specs.Steps.{StopsIdle, Steps}
 use Rattle.sg_world.specs.Worlded.{setting_of}
 use Rattle.sg_world.proofs.Points.{some_is}
 use Rattle.sg_world.proofs.Rebuilding.{on_err_map}

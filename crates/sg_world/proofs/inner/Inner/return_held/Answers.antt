@@ -1,13 +1,10 @@
 -- A world keeps what it keeps where a held reply is committed and handed over.
 use Rattle.std.proofs.Common.{length, ◌-◌, ◌≤◌, None, ap, arith, map, subst, sym, ◌++◌, ◌∙◌, ◌∷◌, [], ◌≡◌, ◌<◌, ◌^◌, refl}
-use Rattle.sg_base.specs.declared.call.Call.{Call}
-use Rattle.sg_base.specs.declared.reply.Reply.{Reply}
 use Rattle.sg_facts.specs.Object.{given_after}
 use Rattle.sg_facts.specs.Track.{track}
-use Rattle.sg_facts.specs.declared.entry.Entry.{Entry}
 use Rattle.sg_hist.specs.Recovered.{struck_in}
 use Rattle.sg_replay.specs.Committing.{MayCommitAt}
-use Rattle.sg_seat.specs.WorldView.{wakes_seat, woken_seat, seat_in, seat_of}
+use Rattle.sg_seat.specs.WorldView.{wakes_seat, woken_seat, seat_in}
 use Rattle.sg_seat.specs.declared.mark.MarkKind.TheVariants.{Answer, Entry as IsEntered}
 use Rattle.sg_world.specs.Inners.{rooms_in, view_in}
 use Rattle.sg_world.specs.Worlded.{IsWorld, Rooms, setting_of}

@@ -1,0 +1,73 @@
+-- A world keeps what it keeps behind a step.
+use Rattle.std.proofs.Common.{ap, subst, ◌≤◌, sym, ◌∙◌, ◌≡◌, length}
+use Rattle.std.specs.Prelude.{OnErr}
+use Rattle.sg_facts.specs.Tables.{Compiled}
+use Rattle.sg_seat.specs.WorldView.{WorldView, happened, seat_of}
+use Rattle.sg_world.proofs.Events.{err_counted, err_wants, event_on, ok_answers, ok_counted}
+use Rattle.sg_world.specs.Inners.{rooms_in, view_in}
+use Rattle.sg_world.specs.Steps.{WantsMemory}
+use Rattle.sg_world.specs.Worlded.{CountsAll, Worlded, setting_of}
+use Rattle.sg_world_laws.proofs.Moves.{its_seat}
+use Rattle.sg_world_laws.proofs.Turns.{seat_there}
+use Rattle.sg_engine_laws.specs.Stubs.{stub_of}
+use Rattle.sg_world.proofs.world.World.step.Goals as goal
+
+pub invariant_of-self : goal.invariant_of-self
+invariant_of-self g c =
+    let x = c.self.inside.inner in
+    let mid = c.step-did.new.self in
+    let z = setting_of g.S.Service.ask g.S.Service.sound g.S.Service.parts x.engine.tables in
+    let w : WorldView = view_in x in
+    let order = c.step-did.ensures.order in
+    let tables : mid.engine.tables ≡ x.engine.tables = c.step-did.ensures.rest.tables in (
+      record {
+        world = event_on (setting_of g.S.Service.ask g.S.Service.sound g.S.Service.parts mid.engine.tables) mid.engine (view_in mid) (rooms_in mid) order.world c.saturating_add-self-inside.result c.saturating_add-self-inside-then-is_err.result;
+        points = record { asked_so = order.points.asked_so; struck_so = order.points.struck_so; tested = order.points.tested };
+        clients = order.clients;
+      },
+      subst (λ (t : Compiled). CountsAll (setting_of g.S.Service.ask g.S.Service.sound g.S.Service.parts t) (record (view_in mid) { events = c.saturating_add-self-inside.result; refused = c.saturating_add-self-inside-then-is_err.result })) (sym tables)
+          (subst (λ n. CountsAll z (record (view_in mid) { refused = n })) (sym c.saturating_add-self-inside-then-is_err.ensures)
+          (err_counted z w c.args.client c.self.invariant.0.world.keeps.cell c.self.invariant.1 (view_in mid) c.step-did.result (sym c.is_err.ensures.value ∙ c.if-is_err.true) c.step-did.ensures.err)),
+      ap (λ (t : Compiled). t.iface.facts) tables ∙ c.self.invariant.2,
+    )
+
+pub invariant_of-self-else-is_err : goal.invariant_of-self-else-is_err
+invariant_of-self-else-is_err g c =
+    let x = c.self.inside.inner in
+    let mid = c.step-did.new.self in
+    let z = setting_of g.S.Service.ask g.S.Service.sound g.S.Service.parts x.engine.tables in
+    let w : WorldView = view_in x in
+    let order = c.step-did.ensures.order in
+    let tables : mid.engine.tables ≡ x.engine.tables = c.step-did.ensures.rest.tables in (
+      record {
+        world = event_on (setting_of g.S.Service.ask g.S.Service.sound g.S.Service.parts mid.engine.tables) mid.engine (view_in mid) (rooms_in mid) order.world c.saturating_add-self-inside.result mid.refused;
+        points = record { asked_so = order.points.asked_so; struck_so = order.points.struck_so; tested = order.points.tested };
+        clients = order.clients;
+      },
+      subst (λ (t : Compiled). CountsAll (setting_of g.S.Service.ask g.S.Service.sound g.S.Service.parts t) (record (view_in mid) { events = c.saturating_add-self-inside.result; refused = mid.refused })) (sym tables)
+          (ok_counted z w c.args.client c.self.invariant.0.world.keeps.cell c.self.invariant.1 (view_in mid) c.step-did.result (sym c.is_err.ensures.value ∙ c.if-is_err.false) c.step-did.ensures.did),
+      ap (λ (t : Compiled). t.iface.facts) tables ∙ c.self.invariant.2,
+    )
+
+pub returns-then-is_err-clause-err : goal.returns-then-is_err-clause-err
+returns-then-is_err-clause-err g c =
+    let x = c.self.inside.inner in
+    let mid = c.step-did.new.self in
+    let z = setting_of g.S.Service.ask g.S.Service.sound g.S.Service.parts x.engine.tables in
+    let w : WorldView = view_in x in
+    subst (λ (y : Worlded). OnErr c.step-did.result (WantsMemory (setting_of g.S.Service.ask g.S.Service.sound g.S.Service.parts y.tables) y.view c.args.client
+    (record (view_in mid) { events = c.saturating_add-self-inside.result; refused = c.saturating_add-self-inside-then-is_err.result }))) c.self.view_is
+    (subst (λ n. OnErr c.step-did.result (WantsMemory z w c.args.client (record (view_in mid) { events = n; refused = c.saturating_add-self-inside-then-is_err.result }))) (sym c.saturating_add-self-inside.ensures)
+    (subst (λ n. OnErr c.step-did.result (WantsMemory z w c.args.client (happened (record (view_in mid) { refused = n })))) (sym c.saturating_add-self-inside-then-is_err.ensures)
+    (err_wants z w c.args.client (view_in mid) c.step-did.result (sym c.is_err.ensures.value ∙ c.if-is_err.true) c.step-did.ensures.err)))
+
+pub returns-else-is_err-clause-answers : goal.returns-else-is_err-clause-answers
+returns-else-is_err-clause-answers g c =
+    let x = c.self.inside.inner in
+    let mid = c.step-did.new.self in
+    let z = setting_of g.S.Service.ask g.S.Service.sound g.S.Service.parts x.engine.tables in
+    let w : WorldView = view_in x in
+    let last = subst (λ (y : Worlded). c.args.client ≤ length y.view.seats) (sym c.self.view_is) c.requires.last in
+    ok_answers z w c.args.client
+    (its_seat z w (stub_of x.engine) c.self.invariant.0.world.keeps c.args.client (seat_of w c.args.client) (seat_there w c.args.client c.requires.first last) c.requires.first (seat_of w c.args.client) w.withdrawn w.marks w.events w.refused)
+    (view_in mid) c.step-did.result c.step-did.ensures.did
