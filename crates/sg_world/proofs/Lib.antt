@@ -12,6 +12,7 @@ pub mod Reaching
 pub mod Rebooting
 pub mod Rebuilding
 pub mod Replying
+pub mod Recovered
 pub mod Reserving
 pub mod Returning
 pub mod Rooming

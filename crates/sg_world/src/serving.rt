@@ -46,7 +46,8 @@ impl<S: Service, T: Stops> Inner<S, T> {
     {
         self.engine
             .reserve(alloc, self.clients.call(client), needs)?;
-        match self.engine
+        match self
+            .engine
             .serve(alloc, &mut self.stops, self.clients.call(client))
         {
             Outcome::Replied { reply, patch } => Ok(self.answer(client, reply, patch)),
@@ -71,7 +72,8 @@ impl<S: Service, T: Stops> Inner<S, T> {
             → Steps z (with_points (view_with s.before self.old) asked) client result (view_in self.new) }
         ensures rest { KeepsRest T.plan self.old self.new }
     {
-        let visible = self.engine
+        let visible = self
+            .engine
             .interface()
             .visible(self.clients.call(client).fun);
         if visible {

@@ -87,8 +87,7 @@ impl<S: Service, T: Stops> Inner<S, T> {
         ensures err { OnErr result (NoMemoryLeft (setting_of S.ask S.sound S.parts self.old.engine.tables) (view_in self.old) client (view_in self.new)) }
         ensures rest { KeepsRest T.plan self.old self.new }
     {
-        let needs = self.engine
-            .needs(alloc, self.clients.call(client))?;
+        let needs = self.engine.needs(alloc, self.clients.call(client))?;
         if !self.engine.is_up() {
             self.boot(alloc, client, &needs)?;
             return Ok(Did::Booted);
@@ -100,12 +99,7 @@ impl<S: Service, T: Stops> Inner<S, T> {
     }
 
     // Rebuilds what the call still needs by one step, or serves it.
-    fn use_service(
-        &mut self,
-        alloc: Global,
-        client: u8,
-        needs: &Needs,
-    ) -> Result<Did, NoMemory>
+    fn use_service(&mut self, alloc: Global, client: u8, needs: &Needs) -> Result<Did, NoMemory>
         requires order { IsInOrder S.ask S.sound S.parts T.test T.asked T.struck T.plan self.old }
         requires service { self.old.engine.tables.iface.facts ≡ S.facts }
         requires first { 1 ≤ client }

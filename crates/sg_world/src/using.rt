@@ -77,7 +77,8 @@ impl<S: Service, T: Stops> Inner<S, T> {
         ensures err { OnErr result (view_in self.new ≡ view_in self.old) }
         ensures rest { KeepsRest T.plan self.old self.new }
     {
-        match self.engine
+        match self
+            .engine
             .advance(alloc, &mut self.stops, client, needs, todo)?
         {
             Advanced::Replayed => Ok(Did::Replayed),

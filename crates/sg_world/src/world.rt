@@ -5,12 +5,17 @@ ghost use Rattle.std.specs.Option.{option_copied, option_map};
 ghost use Rattle.sg_facts.specs.Kinds.{AreWords, FitsKinds};
 ghost use Rattle.sg_facts.specs.Interface.{declares};
 ghost use Rattle.sg_facts.specs.Limits.{last_client};
+ghost use Rattle.sg_facts.specs.Legal.{LegalFrom};
+ghost use Rattle.sg_facts.specs.Object.{empty_object};
 ghost use Rattle.sg_facts.specs.Trace.{run_of};
+ghost use Rattle.sg_hist.specs.Recovered.{IsRecovered};
+ghost use Rattle.sg_recovery_laws.specs.Growing.{IsRecovering};
+ghost use Rattle.sg_world_laws.specs.Setting.{stubs_of};
 ghost use Rattle.sg_base.specs.declared.call.Call.{Call as IsCall};
 ghost use Rattle.sg_base.specs.Counts.{last_count};
 ghost use Rattle.sg_world.specs.Steps.{AnswersLast, HasStepped, WantsMemory};
 ghost use Rattle.sg_world.specs.Worlded.{setting_of};
-ghost use Rattle.sg_seat.specs.WorldView.{IsFree, MayWithdraw, happened, is_at_rest, with_leave, new_world, no_seat, offered, seat_of, withdrawn_by};
+ghost use Rattle.sg_seat.specs.WorldView.{IsFree, MayWithdraw, happened, is_at_rest, with_leave, new_world, no_seat, offered, seat_of, unanswered, withdrawn_by};
 
 use crate::did::Did;
 use crate::inner::Inner;
@@ -77,16 +82,19 @@ impl<S: Service, T: Stops> World<S, T> {
         })
     }
 
-    /// The calls that were done, lent.
+    /// The calls that were done, lent: a history of a service that never failed.
     pub fn history(&self) -> &History
-        ensures { result.now.items ≡ self.now.view.history }
+        ensures items { result.now.items ≡ self.now.view.history }
+        ensures legal { LegalFrom self.now.tables.iface S.ask empty_object self.now.view.history }
     {
         &self.inner.history
     }
 
-    /// What was done to the service, lent.
+    /// What was done to the service, lent: a run that recovers, whose points are counted exactly where no step wanted memory.
     pub fn trace(&self) -> &Trace
-        ensures { run_of result.now ≡ self.now.view.run }
+        ensures run { run_of result.now ≡ self.now.view.run }
+        ensures recovering { let z = setting_of S.ask S.sound S.parts self.now.tables in let w = self.now.view in IsRecovering (stubs_of z) w.history w.run (unanswered w) }
+        ensures recovered { let z = setting_of S.ask S.sound S.parts self.now.tables in let w = self.now.view in w.refused ≡ 0 → IsRecovered (stubs_of z) w.history w.run (unanswered w) }
     {
         self.inner.engine.trace()
     }

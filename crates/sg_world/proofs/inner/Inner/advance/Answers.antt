@@ -35,8 +35,8 @@ returns-in_err-advance-clause-order g c =
     let new : Engined = c.advance.new.self in
     let turn : IsTurn z e (needs_in z w (seat_of w c.args.client).call) (seat_of w c.args.client).call.client held.0 start c.advance.result new later
     = turn_of z e w rooms c.requires.order.world refl refl refl c.args.client c.requires.first c.requires.last c.requires.let_in held.0 held.1
-        g.S.Service.facts c.requires.service c.args.needs.now c.requires.needs c.args.todo c.requires.due start c.advance.result new later
-        (record { walk = c.advance.ensures.walk; load = c.advance.ensures.load; stored = c.advance.ensures.stored; tracked = c.advance.ensures.tracked }) in
+    g.S.Service.facts c.requires.service c.args.needs.now c.requires.needs c.args.todo c.requires.due start c.advance.result new later
+    (record { walk = c.advance.ensures.walk; load = c.advance.ensures.load; stored = c.advance.ensures.stored; tracked = c.advance.ensures.tracked }) in
     let counts = counts_on z e w rooms c.requires.order.world refl refl refl c.args.client c.requires.first c.requires.last c.requires.let_in held.0 held.1 start new later c.requires.order.points.asked_so c.requires.order.points.struck_so c.advance.result turn in
     record {
       world = subst (λ t. IsWorld (setting_of g.S.Service.ask g.S.Service.sound g.S.Service.parts t) new (view_of new x.history.items x.clients x.withdrawn.items x.marks.items x.events x.refused) rooms) (sym c.advance.ensures.tables)
@@ -58,8 +58,8 @@ returns-in_err-advance-clause-err g c =
     let new : Engined = c.advance.new.self in
     let turn : IsTurn z e (needs_in z w (seat_of w c.args.client).call) (seat_of w c.args.client).call.client held.0 start c.advance.result new later
     = turn_of z e w rooms c.requires.order.world refl refl refl c.args.client c.requires.first c.requires.last c.requires.let_in held.0 held.1
-        g.S.Service.facts c.requires.service c.args.needs.now c.requires.needs c.args.todo c.requires.due start c.advance.result new later
-        (record { walk = c.advance.ensures.walk; load = c.advance.ensures.load; stored = c.advance.ensures.stored; tracked = c.advance.ensures.tracked }) in
+    g.S.Service.facts c.requires.service c.args.needs.now c.requires.needs c.args.todo c.requires.due start c.advance.result new later
+    (record { walk = c.advance.ensures.walk; load = c.advance.ensures.load; stored = c.advance.ensures.stored; tracked = c.advance.ensures.tracked }) in
     on_err c.from_residual.result (as_shown w new ≡ w) (nothing_on z e w rooms c.requires.order.world refl refl refl c.args.client c.requires.first c.requires.last c.requires.let_in held.0 held.1 start new later (subst (λ r. IsTurn z e (needs_in z w (seat_of w c.args.client).call) (seat_of w c.args.client).call.client held.0 start r new later) c.in_err-advance.was turn).0)
 
 pub returns-in-Replayed-clause-order : goal.returns-in-Replayed-clause-order
@@ -75,8 +75,8 @@ returns-in-Replayed-clause-order g c =
     let new : Engined = c.advance.new.self in
     let turn : IsTurn z e (needs_in z w (seat_of w c.args.client).call) (seat_of w c.args.client).call.client held.0 start c.advance.result new later
     = turn_of z e w rooms c.requires.order.world refl refl refl c.args.client c.requires.first c.requires.last c.requires.let_in held.0 held.1
-        g.S.Service.facts c.requires.service c.args.needs.now c.requires.needs c.args.todo c.requires.due start c.advance.result new later
-        (record { walk = c.advance.ensures.walk; load = c.advance.ensures.load; stored = c.advance.ensures.stored; tracked = c.advance.ensures.tracked }) in
+    g.S.Service.facts c.requires.service c.args.needs.now c.requires.needs c.args.todo c.requires.due start c.advance.result new later
+    (record { walk = c.advance.ensures.walk; load = c.advance.ensures.load; stored = c.advance.ensures.stored; tracked = c.advance.ensures.tracked }) in
     let counts = counts_on z e w rooms c.requires.order.world refl refl refl c.args.client c.requires.first c.requires.last c.requires.let_in held.0 held.1 start new later c.requires.order.points.asked_so c.requires.order.points.struck_so c.advance.result turn in
     record {
       world = subst (λ t. IsWorld (setting_of g.S.Service.ask g.S.Service.sound g.S.Service.parts t) new (view_of new x.history.items x.clients x.withdrawn.items x.marks.items x.events x.refused) rooms) (sym c.advance.ensures.tables)
@@ -98,8 +98,8 @@ returns-in-Replayed-clause-did g c =
     let new : Engined = c.advance.new.self in
     let turn : IsTurn z e (needs_in z w (seat_of w c.args.client).call) (seat_of w c.args.client).call.client held.0 start c.advance.result new later
     = turn_of z e w rooms c.requires.order.world refl refl refl c.args.client c.requires.first c.requires.last c.requires.let_in held.0 held.1
-        g.S.Service.facts c.requires.service c.args.needs.now c.requires.needs c.args.todo c.requires.due start c.advance.result new later
-        (record { walk = c.advance.ensures.walk; load = c.advance.ensures.load; stored = c.advance.ensures.stored; tracked = c.advance.ensures.tracked }) in
+    g.S.Service.facts c.requires.service c.args.needs.now c.requires.needs c.args.todo c.requires.due start c.advance.result new later
+    (record { walk = c.advance.ensures.walk; load = c.advance.ensures.load; stored = c.advance.ensures.stored; tracked = c.advance.ensures.tracked }) in
     λ asked points. replays_line z e w rooms c.requires.order.world refl refl refl c.args.client c.requires.first c.requires.last c.requires.let_in held.0 held.1 start new later asked points c.requires.order.points.asked_so (subst (λ r. IsTurn z e (needs_in z w (seat_of w c.args.client).call) (seat_of w c.args.client).call.client held.0 start r new later) (c.in_ok-advance.was ∙ ap (λ did. Ok did) c.in-Replayed.is) turn)
 
 pub returns-in-Loaded-clause-order : goal.returns-in-Loaded-clause-order
@@ -115,8 +115,8 @@ returns-in-Loaded-clause-order g c =
     let new : Engined = c.advance.new.self in
     let turn : IsTurn z e (needs_in z w (seat_of w c.args.client).call) (seat_of w c.args.client).call.client held.0 start c.advance.result new later
     = turn_of z e w rooms c.requires.order.world refl refl refl c.args.client c.requires.first c.requires.last c.requires.let_in held.0 held.1
-        g.S.Service.facts c.requires.service c.args.needs.now c.requires.needs c.args.todo c.requires.due start c.advance.result new later
-        (record { walk = c.advance.ensures.walk; load = c.advance.ensures.load; stored = c.advance.ensures.stored; tracked = c.advance.ensures.tracked }) in
+    g.S.Service.facts c.requires.service c.args.needs.now c.requires.needs c.args.todo c.requires.due start c.advance.result new later
+    (record { walk = c.advance.ensures.walk; load = c.advance.ensures.load; stored = c.advance.ensures.stored; tracked = c.advance.ensures.tracked }) in
     let counts = counts_on z e w rooms c.requires.order.world refl refl refl c.args.client c.requires.first c.requires.last c.requires.let_in held.0 held.1 start new later c.requires.order.points.asked_so c.requires.order.points.struck_so c.advance.result turn in
     record {
       world = subst (λ t. IsWorld (setting_of g.S.Service.ask g.S.Service.sound g.S.Service.parts t) new (view_of new x.history.items x.clients x.withdrawn.items x.marks.items x.events x.refused) rooms) (sym c.advance.ensures.tables)
@@ -138,8 +138,8 @@ returns-in-Loaded-clause-did g c =
     let new : Engined = c.advance.new.self in
     let turn : IsTurn z e (needs_in z w (seat_of w c.args.client).call) (seat_of w c.args.client).call.client held.0 start c.advance.result new later
     = turn_of z e w rooms c.requires.order.world refl refl refl c.args.client c.requires.first c.requires.last c.requires.let_in held.0 held.1
-        g.S.Service.facts c.requires.service c.args.needs.now c.requires.needs c.args.todo c.requires.due start c.advance.result new later
-        (record { walk = c.advance.ensures.walk; load = c.advance.ensures.load; stored = c.advance.ensures.stored; tracked = c.advance.ensures.tracked }) in
+    g.S.Service.facts c.requires.service c.args.needs.now c.requires.needs c.args.todo c.requires.due start c.advance.result new later
+    (record { walk = c.advance.ensures.walk; load = c.advance.ensures.load; stored = c.advance.ensures.stored; tracked = c.advance.ensures.tracked }) in
     λ asked points. loads_line z e w rooms c.requires.order.world refl refl refl c.args.client c.requires.first c.requires.last c.requires.let_in held.0 held.1 start new later asked points c.requires.order.points.asked_so (subst (λ r. IsTurn z e (needs_in z w (seat_of w c.args.client).call) (seat_of w c.args.client).call.client held.0 start r new later) (c.in_ok-advance.was ∙ ap (λ did. Ok did) c.in-Loaded.is) turn)
 
 pub returns-in-Struck-clause-order : goal.returns-in-Struck-clause-order
@@ -155,8 +155,8 @@ returns-in-Struck-clause-order g c =
     let new : Engined = c.advance.new.self in
     let turn : IsTurn z e (needs_in z w (seat_of w c.args.client).call) (seat_of w c.args.client).call.client held.0 start c.advance.result new later
     = turn_of z e w rooms c.requires.order.world refl refl refl c.args.client c.requires.first c.requires.last c.requires.let_in held.0 held.1
-        g.S.Service.facts c.requires.service c.args.needs.now c.requires.needs c.args.todo c.requires.due start c.advance.result new later
-        (record { walk = c.advance.ensures.walk; load = c.advance.ensures.load; stored = c.advance.ensures.stored; tracked = c.advance.ensures.tracked }) in
+    g.S.Service.facts c.requires.service c.args.needs.now c.requires.needs c.args.todo c.requires.due start c.advance.result new later
+    (record { walk = c.advance.ensures.walk; load = c.advance.ensures.load; stored = c.advance.ensures.stored; tracked = c.advance.ensures.tracked }) in
     let counts = counts_on z e w rooms c.requires.order.world refl refl refl c.args.client c.requires.first c.requires.last c.requires.let_in held.0 held.1 start new later c.requires.order.points.asked_so c.requires.order.points.struck_so c.advance.result turn in
     record {
       world = subst (λ t. IsWorld (setting_of g.S.Service.ask g.S.Service.sound g.S.Service.parts t) new (view_of new x.history.items x.clients x.withdrawn.items x.marks.items x.events x.refused) rooms) (sym c.advance.ensures.tables)
@@ -178,6 +178,6 @@ returns-in-Struck-clause-did g c =
     let new : Engined = c.advance.new.self in
     let turn : IsTurn z e (needs_in z w (seat_of w c.args.client).call) (seat_of w c.args.client).call.client held.0 start c.advance.result new later
     = turn_of z e w rooms c.requires.order.world refl refl refl c.args.client c.requires.first c.requires.last c.requires.let_in held.0 held.1
-        g.S.Service.facts c.requires.service c.args.needs.now c.requires.needs c.args.todo c.requires.due start c.advance.result new later
-        (record { walk = c.advance.ensures.walk; load = c.advance.ensures.load; stored = c.advance.ensures.stored; tracked = c.advance.ensures.tracked }) in
+    g.S.Service.facts c.requires.service c.args.needs.now c.requires.needs c.args.todo c.requires.due start c.advance.result new later
+    (record { walk = c.advance.ensures.walk; load = c.advance.ensures.load; stored = c.advance.ensures.stored; tracked = c.advance.ensures.tracked }) in
     λ asked points. inr (inl (strikes_line z e w rooms c.requires.order.world refl refl refl c.args.client c.requires.first c.requires.last c.requires.let_in held.0 held.1 start new later asked points c.requires.order.points.asked_so (subst (λ r. IsTurn z e (needs_in z w (seat_of w c.args.client).call) (seat_of w c.args.client).call.client held.0 start r new later) (c.in_ok-advance.was ∙ ap (λ did. Ok did) c.in-Struck.is) turn)))

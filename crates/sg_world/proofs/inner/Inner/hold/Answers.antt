@@ -24,10 +24,10 @@ returns-clause-order g c =
           s.points later c.args.reply c.requires.served.0 x.engine s.tells c.requires.hidden s.tracked_same s.stored_same s.present_same c.boot_number-boot.result c.boot_number-boot.ensures c.hold.new.self c.hold.ensures;
       points = record { asked_so = counts.0; struck_so = counts.1; tested = s.tested };
       clients = (let seat : Seat = seat_in x.clients c.args.client in
-      let same = ap length c.hold.ensures ∙ length_set x.clients (c.args.client - 1) (record seat { phase = Held; boot = c.boot_number-boot.result; reply = c.args.reply }) in
-      let was = s.places in
-      let stored : x.engine.stored.clients ≡ s.before.stored.clients = ap (λ t. t.clients) s.stored_same in
-      omega (arith, same, was, stored));
+          let same = ap length c.hold.ensures ∙ length_set x.clients (c.args.client - 1) (record seat { phase = Held; boot = c.boot_number-boot.result; reply = c.args.reply }) in
+          let was = s.places in
+          let stored : x.engine.stored.clients ≡ s.before.stored.clients = ap (λ t. t.clients) s.stored_same in
+          omega (arith, same, was, stored));
     }
 
 pub returns-clause-holds : goal.returns-clause-holds

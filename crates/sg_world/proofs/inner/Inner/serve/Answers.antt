@@ -68,8 +68,8 @@ answer-requires-clause-served g c =
     c.requires.let_in c.requires.up c.args.needs.now c.requires.needs c.requires.whole c.reserve.new.self same c.reserve.ensures.tables c.reserve.ensures.clients in
     let turn : ServesOne x.engine.tables.iface.facts g.S.Service.ask g.S.Service.parts v c.reserve.new.self (seat_in x.clients c.args.client).call start (Replied c.in-Replied.reply c.in-Replied.patch) c.serve.new.self later
     = subst (λ (f : Facts). ServesOne f g.S.Service.ask g.S.Service.parts v c.reserve.new.self (seat_in x.clients c.args.client).call start (Replied c.in-Replied.reply c.in-Replied.patch) c.serve.new.self later) (sym c.requires.service)
-        (subst (λ (q : Call). ServesOne g.S.Service.facts g.S.Service.ask g.S.Service.parts v c.reserve.new.self q start (Replied c.in-Replied.reply c.in-Replied.patch) c.serve.new.self later) c.call-2.ensures
-        (subst (λ (o : Outcome). ServesOne g.S.Service.facts g.S.Service.ask g.S.Service.parts v c.reserve.new.self c.call-2.result.now start o c.serve.new.self later) c.in-Replied.is (c.serve.ensures.outcome v up))) in
+    (subst (λ (q : Call). ServesOne g.S.Service.facts g.S.Service.ask g.S.Service.parts v c.reserve.new.self q start (Replied c.in-Replied.reply c.in-Replied.patch) c.serve.new.self later) c.call-2.ensures
+    (subst (λ (o : Outcome). ServesOne g.S.Service.facts g.S.Service.ask g.S.Service.parts v c.reserve.new.self c.call-2.result.now start o c.serve.new.self later) c.in-Replied.is (c.serve.ensures.outcome v up))) in
     let fits : FitsRoom v (Replied c.in-Replied.reply c.in-Replied.patch) = subst (FitsRoom v) c.in-Replied.is (c.serve.ensures.fits v up) in
     subst (λ (t : Compiled). HasServed (setting_of g.S.Service.ask g.S.Service.sound g.S.Service.parts t) g.T.Stops.test g.T.Stops.asked g.T.Stops.struck g.T.Stops.plan (record x { engine = c.serve.new.self; stops = c.serve.new.stops }) c.args.client c.in-Replied.reply c.in-Replied.patch)
     (sym (c.serve.ensures.tables ∙ c.reserve.ensures.tables))
@@ -98,8 +98,8 @@ returns-in-Replied-clause-did g c = λ asked was.
     c.requires.let_in c.requires.up c.args.needs.now c.requires.needs c.requires.whole c.reserve.new.self same c.reserve.ensures.tables c.reserve.ensures.clients in
     let turn : ServesOne x.engine.tables.iface.facts g.S.Service.ask g.S.Service.parts v c.reserve.new.self (seat_in x.clients c.args.client).call start (Replied c.in-Replied.reply c.in-Replied.patch) c.serve.new.self later
     = subst (λ (f : Facts). ServesOne f g.S.Service.ask g.S.Service.parts v c.reserve.new.self (seat_in x.clients c.args.client).call start (Replied c.in-Replied.reply c.in-Replied.patch) c.serve.new.self later) (sym c.requires.service)
-        (subst (λ (q : Call). ServesOne g.S.Service.facts g.S.Service.ask g.S.Service.parts v c.reserve.new.self q start (Replied c.in-Replied.reply c.in-Replied.patch) c.serve.new.self later) c.call-2.ensures
-        (subst (λ (o : Outcome). ServesOne g.S.Service.facts g.S.Service.ask g.S.Service.parts v c.reserve.new.self c.call-2.result.now start o c.serve.new.self later) c.in-Replied.is (c.serve.ensures.outcome v up))) in
+    (subst (λ (q : Call). ServesOne g.S.Service.facts g.S.Service.ask g.S.Service.parts v c.reserve.new.self q start (Replied c.in-Replied.reply c.in-Replied.patch) c.serve.new.self later) c.call-2.ensures
+    (subst (λ (o : Outcome). ServesOne g.S.Service.facts g.S.Service.ask g.S.Service.parts v c.reserve.new.self c.call-2.result.now start o c.serve.new.self later) c.in-Replied.is (c.serve.ensures.outcome v up))) in
     let fits : FitsRoom v (Replied c.in-Replied.reply c.in-Replied.patch) = subst (FitsRoom v) c.in-Replied.is (c.serve.ensures.fits v up) in
     let is = has_served g.S.Service.facts g.S.Service.ask g.S.Service.sound g.S.Service.parts g.T.Stops.test g.T.Stops.asked g.T.Stops.struck g.T.Stops.plan x c.requires.order c.requires.service c.args.client c.requires.first c.requires.last
     c.requires.let_in c.requires.up c.args.needs.now c.requires.needs c.requires.whole c.reserve.new.self same c.reserve.ensures.tables c.reserve.ensures.clients
@@ -133,8 +133,8 @@ returns-in-Blocks-clause-order g c =
     c.requires.let_in c.requires.up c.args.needs.now c.requires.needs c.requires.whole c.reserve.new.self same c.reserve.ensures.tables c.reserve.ensures.clients in
     let turn : ServesOne x.engine.tables.iface.facts g.S.Service.ask g.S.Service.parts v c.reserve.new.self (seat_in x.clients c.args.client).call start Blocks c.serve.new.self later
     = subst (λ (f : Facts). ServesOne f g.S.Service.ask g.S.Service.parts v c.reserve.new.self (seat_in x.clients c.args.client).call start Blocks c.serve.new.self later) (sym c.requires.service)
-        (subst (λ (q : Call). ServesOne g.S.Service.facts g.S.Service.ask g.S.Service.parts v c.reserve.new.self q start Blocks c.serve.new.self later) c.call-2.ensures
-        (subst (λ (o : Outcome). ServesOne g.S.Service.facts g.S.Service.ask g.S.Service.parts v c.reserve.new.self c.call-2.result.now start o c.serve.new.self later) c.in-Blocks.is (c.serve.ensures.outcome v up))) in
+    (subst (λ (q : Call). ServesOne g.S.Service.facts g.S.Service.ask g.S.Service.parts v c.reserve.new.self q start Blocks c.serve.new.self later) c.call-2.ensures
+    (subst (λ (o : Outcome). ServesOne g.S.Service.facts g.S.Service.ask g.S.Service.parts v c.reserve.new.self c.call-2.result.now start o c.serve.new.self later) c.in-Blocks.is (c.serve.ensures.outcome v up))) in
     waits_order g.S.Service.facts g.S.Service.ask g.S.Service.sound g.S.Service.parts g.T.Stops.test g.T.Stops.asked g.T.Stops.struck g.T.Stops.plan x c.requires.order c.requires.service c.args.client c.requires.first c.requires.last
     c.requires.let_in c.requires.up c.args.needs.now c.requires.needs c.requires.whole c.reserve.new.self same c.reserve.ensures.tables c.reserve.ensures.clients
     c.serve.new.self c.serve.new.stops c.serve.ensures.tables c.serve.ensures.stored c.serve.ensures.tracked c.serve.ensures.present c.serve.ensures.plan (c.serve.ensures.test c.requires.order.points.tested) turn c.block.new.self c.block.ensures
@@ -159,8 +159,8 @@ returns-in-Blocks-clause-did g c = λ asked was.
     c.requires.let_in c.requires.up c.args.needs.now c.requires.needs c.requires.whole c.reserve.new.self same c.reserve.ensures.tables c.reserve.ensures.clients in
     let turn : ServesOne x.engine.tables.iface.facts g.S.Service.ask g.S.Service.parts v c.reserve.new.self (seat_in x.clients c.args.client).call start Blocks c.serve.new.self later
     = subst (λ (f : Facts). ServesOne f g.S.Service.ask g.S.Service.parts v c.reserve.new.self (seat_in x.clients c.args.client).call start Blocks c.serve.new.self later) (sym c.requires.service)
-        (subst (λ (q : Call). ServesOne g.S.Service.facts g.S.Service.ask g.S.Service.parts v c.reserve.new.self q start Blocks c.serve.new.self later) c.call-2.ensures
-        (subst (λ (o : Outcome). ServesOne g.S.Service.facts g.S.Service.ask g.S.Service.parts v c.reserve.new.self c.call-2.result.now start o c.serve.new.self later) c.in-Blocks.is (c.serve.ensures.outcome v up))) in
+    (subst (λ (q : Call). ServesOne g.S.Service.facts g.S.Service.ask g.S.Service.parts v c.reserve.new.self q start Blocks c.serve.new.self later) c.call-2.ensures
+    (subst (λ (o : Outcome). ServesOne g.S.Service.facts g.S.Service.ask g.S.Service.parts v c.reserve.new.self c.call-2.result.now start o c.serve.new.self later) c.in-Blocks.is (c.serve.ensures.outcome v up))) in
     waits_line_now g.S.Service.facts g.S.Service.ask g.S.Service.sound g.S.Service.parts g.T.Stops.test g.T.Stops.asked g.T.Stops.struck g.T.Stops.plan x c.requires.order c.requires.service c.args.client c.requires.first c.requires.last
     c.requires.let_in c.requires.up c.args.needs.now c.requires.needs c.requires.whole c.reserve.new.self same c.reserve.ensures.tables c.reserve.ensures.clients
     c.serve.new.self c.serve.new.stops c.serve.ensures.tables c.serve.ensures.stored c.serve.ensures.tracked c.serve.ensures.present c.serve.ensures.plan (c.serve.ensures.test c.requires.order.points.tested) turn c.block.new.self c.block.ensures asked was
@@ -185,8 +185,8 @@ returns-in-Stopped-clause-order g c =
     c.requires.let_in c.requires.up c.args.needs.now c.requires.needs c.requires.whole c.reserve.new.self same c.reserve.ensures.tables c.reserve.ensures.clients in
     let turn : ServesOne x.engine.tables.iface.facts g.S.Service.ask g.S.Service.parts v c.reserve.new.self (seat_in x.clients c.args.client).call start Stopped c.serve.new.self later
     = subst (λ (f : Facts). ServesOne f g.S.Service.ask g.S.Service.parts v c.reserve.new.self (seat_in x.clients c.args.client).call start Stopped c.serve.new.self later) (sym c.requires.service)
-        (subst (λ (q : Call). ServesOne g.S.Service.facts g.S.Service.ask g.S.Service.parts v c.reserve.new.self q start Stopped c.serve.new.self later) c.call-2.ensures
-        (subst (λ (o : Outcome). ServesOne g.S.Service.facts g.S.Service.ask g.S.Service.parts v c.reserve.new.self c.call-2.result.now start o c.serve.new.self later) c.in-Stopped.is (c.serve.ensures.outcome v up))) in
+    (subst (λ (q : Call). ServesOne g.S.Service.facts g.S.Service.ask g.S.Service.parts v c.reserve.new.self q start Stopped c.serve.new.self later) c.call-2.ensures
+    (subst (λ (o : Outcome). ServesOne g.S.Service.facts g.S.Service.ask g.S.Service.parts v c.reserve.new.self c.call-2.result.now start o c.serve.new.self later) c.in-Stopped.is (c.serve.ensures.outcome v up))) in
     stops_order g.S.Service.facts g.S.Service.ask g.S.Service.sound g.S.Service.parts g.T.Stops.test g.T.Stops.asked g.T.Stops.struck g.T.Stops.plan x c.requires.order c.requires.service c.args.client c.requires.first c.requires.last
     c.requires.let_in c.requires.up c.args.needs.now c.requires.needs c.requires.whole c.reserve.new.self same c.reserve.ensures.tables c.reserve.ensures.clients
     c.serve.new.self c.serve.new.stops c.serve.ensures.tables c.serve.ensures.stored c.serve.ensures.tracked c.serve.ensures.present c.serve.ensures.plan (c.serve.ensures.test c.requires.order.points.tested) turn
@@ -211,8 +211,8 @@ returns-in-Stopped-clause-did g c = λ asked was.
     c.requires.let_in c.requires.up c.args.needs.now c.requires.needs c.requires.whole c.reserve.new.self same c.reserve.ensures.tables c.reserve.ensures.clients in
     let turn : ServesOne x.engine.tables.iface.facts g.S.Service.ask g.S.Service.parts v c.reserve.new.self (seat_in x.clients c.args.client).call start Stopped c.serve.new.self later
     = subst (λ (f : Facts). ServesOne f g.S.Service.ask g.S.Service.parts v c.reserve.new.self (seat_in x.clients c.args.client).call start Stopped c.serve.new.self later) (sym c.requires.service)
-        (subst (λ (q : Call). ServesOne g.S.Service.facts g.S.Service.ask g.S.Service.parts v c.reserve.new.self q start Stopped c.serve.new.self later) c.call-2.ensures
-        (subst (λ (o : Outcome). ServesOne g.S.Service.facts g.S.Service.ask g.S.Service.parts v c.reserve.new.self c.call-2.result.now start o c.serve.new.self later) c.in-Stopped.is (c.serve.ensures.outcome v up))) in
+    (subst (λ (q : Call). ServesOne g.S.Service.facts g.S.Service.ask g.S.Service.parts v c.reserve.new.self q start Stopped c.serve.new.self later) c.call-2.ensures
+    (subst (λ (o : Outcome). ServesOne g.S.Service.facts g.S.Service.ask g.S.Service.parts v c.reserve.new.self c.call-2.result.now start o c.serve.new.self later) c.in-Stopped.is (c.serve.ensures.outcome v up))) in
     inr (inr (inl (stops_line_now g.S.Service.facts g.S.Service.ask g.S.Service.sound g.S.Service.parts g.T.Stops.test g.T.Stops.asked g.T.Stops.struck g.T.Stops.plan x c.requires.order c.requires.service c.args.client c.requires.first c.requires.last
     c.requires.let_in c.requires.up c.args.needs.now c.requires.needs c.requires.whole c.reserve.new.self same c.reserve.ensures.tables c.reserve.ensures.clients
     c.serve.new.self c.serve.new.stops c.serve.ensures.tables c.serve.ensures.stored c.serve.ensures.tracked c.serve.ensures.present c.serve.ensures.plan (c.serve.ensures.test c.requires.order.points.tested) turn asked was)))
@@ -237,8 +237,8 @@ returns-in-NoMemory-clause-order g c =
     c.requires.let_in c.requires.up c.args.needs.now c.requires.needs c.requires.whole c.reserve.new.self same c.reserve.ensures.tables c.reserve.ensures.clients in
     let turn : ServesOne x.engine.tables.iface.facts g.S.Service.ask g.S.Service.parts v c.reserve.new.self (seat_in x.clients c.args.client).call start NoMemory c.serve.new.self later
     = subst (λ (f : Facts). ServesOne f g.S.Service.ask g.S.Service.parts v c.reserve.new.self (seat_in x.clients c.args.client).call start NoMemory c.serve.new.self later) (sym c.requires.service)
-        (subst (λ (q : Call). ServesOne g.S.Service.facts g.S.Service.ask g.S.Service.parts v c.reserve.new.self q start NoMemory c.serve.new.self later) c.call-2.ensures
-        (subst (λ (o : Outcome). ServesOne g.S.Service.facts g.S.Service.ask g.S.Service.parts v c.reserve.new.self c.call-2.result.now start o c.serve.new.self later) c.in-NoMemory.is (c.serve.ensures.outcome v up))) in
+    (subst (λ (q : Call). ServesOne g.S.Service.facts g.S.Service.ask g.S.Service.parts v c.reserve.new.self q start NoMemory c.serve.new.self later) c.call-2.ensures
+    (subst (λ (o : Outcome). ServesOne g.S.Service.facts g.S.Service.ask g.S.Service.parts v c.reserve.new.self c.call-2.result.now start o c.serve.new.self later) c.in-NoMemory.is (c.serve.ensures.outcome v up))) in
     nothing_order g.S.Service.facts g.S.Service.ask g.S.Service.sound g.S.Service.parts g.T.Stops.test g.T.Stops.asked g.T.Stops.struck g.T.Stops.plan x c.requires.order c.requires.service c.args.client c.requires.first c.requires.last
     c.requires.let_in c.requires.up c.args.needs.now c.requires.needs c.requires.whole c.reserve.new.self same c.reserve.ensures.tables c.reserve.ensures.clients
     c.serve.new.self c.serve.new.stops c.serve.ensures.tables c.serve.ensures.stored c.serve.ensures.tracked c.serve.ensures.present c.serve.ensures.plan (c.serve.ensures.test c.requires.order.points.tested) turn
@@ -263,8 +263,8 @@ returns-in-NoMemory-clause-err g c =
     c.requires.let_in c.requires.up c.args.needs.now c.requires.needs c.requires.whole c.reserve.new.self same c.reserve.ensures.tables c.reserve.ensures.clients in
     let turn : ServesOne x.engine.tables.iface.facts g.S.Service.ask g.S.Service.parts v c.reserve.new.self (seat_in x.clients c.args.client).call start NoMemory c.serve.new.self later
     = subst (λ (f : Facts). ServesOne f g.S.Service.ask g.S.Service.parts v c.reserve.new.self (seat_in x.clients c.args.client).call start NoMemory c.serve.new.self later) (sym c.requires.service)
-        (subst (λ (q : Call). ServesOne g.S.Service.facts g.S.Service.ask g.S.Service.parts v c.reserve.new.self q start NoMemory c.serve.new.self later) c.call-2.ensures
-        (subst (λ (o : Outcome). ServesOne g.S.Service.facts g.S.Service.ask g.S.Service.parts v c.reserve.new.self c.call-2.result.now start o c.serve.new.self later) c.in-NoMemory.is (c.serve.ensures.outcome v up))) in
+    (subst (λ (q : Call). ServesOne g.S.Service.facts g.S.Service.ask g.S.Service.parts v c.reserve.new.self q start NoMemory c.serve.new.self later) c.call-2.ensures
+    (subst (λ (o : Outcome). ServesOne g.S.Service.facts g.S.Service.ask g.S.Service.parts v c.reserve.new.self c.call-2.result.now start o c.serve.new.self later) c.in-NoMemory.is (c.serve.ensures.outcome v up))) in
     nothing_shown g.S.Service.facts g.S.Service.ask g.S.Service.sound g.S.Service.parts g.T.Stops.test g.T.Stops.asked g.T.Stops.struck g.T.Stops.plan x c.requires.order c.requires.service c.args.client c.requires.first c.requires.last
     c.requires.let_in c.requires.up c.args.needs.now c.requires.needs c.requires.whole c.reserve.new.self same c.reserve.ensures.tables c.reserve.ensures.clients
     c.serve.new.self c.serve.new.stops c.serve.ensures.tables c.serve.ensures.stored c.serve.ensures.tracked c.serve.ensures.present c.serve.ensures.plan (c.serve.ensures.test c.requires.order.points.tested) turn

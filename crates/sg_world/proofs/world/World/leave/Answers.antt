@@ -25,9 +25,9 @@ invariant_of-self g c =
     let later : Rooms = record { entries = c.self.inside.inner.history.room; withdrawals = c.self.inside.inner.withdrawn.room; marks = c.add.new.self.room } in (
       record {
         world = left_on (setting_of g.S.Service.ask g.S.Service.sound g.S.Service.parts e.tables) e w rooms later c.self.invariant.0.world c.args.client c.requires.first
-          (subst (λ x. c.args.client ≤ length x.view.seats) (sym c.self.view_is) c.requires.last)
-          (subst (λ x. IsFree (seat_of x.view c.args.client).phase) (sym c.self.view_is) c.requires.free) (sym c.has_left.ensures ∙ c.if-not-has_left.true)
-          c.leave.new.self c.add.new.self.items c.saturating_add-self-inside.result c.leave.ensures c.add.ensures.items (omega arith) (omega arith) c.add.ensures.room;
+            (subst (λ x. c.args.client ≤ length x.view.seats) (sym c.self.view_is) c.requires.last)
+            (subst (λ x. IsFree (seat_of x.view c.args.client).phase) (sym c.self.view_is) c.requires.free) (sym c.has_left.ensures ∙ c.if-not-has_left.true)
+            c.leave.new.self c.add.new.self.items c.saturating_add-self-inside.result c.leave.ensures c.add.ensures.items (omega arith) (omega arith) c.add.ensures.room;
         points = record { asked_so = c.self.invariant.0.points.asked_so; struck_so = c.self.invariant.0.points.struck_so; tested = c.self.invariant.0.points.tested };
         clients = (let same = ap length c.leave.ensures ∙ length_set c.self.inside.inner.clients (c.args.client - 1) (record (seat_of w c.args.client) { phase = Left }) in let was = c.self.invariant.0.clients in omega (arith, same, was));
       },

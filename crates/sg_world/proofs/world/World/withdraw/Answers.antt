@@ -34,10 +34,10 @@ invariant_of-self g c =
     let later : Rooms = record { entries = c.self.inside.inner.history.room; withdrawals = c.add.new.self.room; marks = c.add-2.new.self.room } in (
       record {
         world = withdrawn_on (setting_of g.S.Service.ask g.S.Service.sound g.S.Service.parts e.tables) e w rooms later c.self.invariant.0.world c.args.client c.requires.first
-          (subst (λ x. c.args.client ≤ length x.view.seats) (sym c.self.view_is) c.requires.last)
-          (subst (λ x. MayWithdraw (seat_of x.view c.args.client).phase) (sym c.self.view_is) c.requires.may)
-          c.withdraw-withdrawn.new.self c.add.new.self.items c.withdraw-withdrawn.result c.add-2.new.self.items c.saturating_add-self-inside.result c.withdraw-withdrawn.ensures.seats
-          (ap (λ x. x.call) c.withdraw-withdrawn.ensures.withdrawn) c.add.ensures.items c.add-2.ensures.items (omega arith) c.add.ensures.room c.add-2.ensures.room;
+            (subst (λ x. c.args.client ≤ length x.view.seats) (sym c.self.view_is) c.requires.last)
+            (subst (λ x. MayWithdraw (seat_of x.view c.args.client).phase) (sym c.self.view_is) c.requires.may)
+            c.withdraw-withdrawn.new.self c.add.new.self.items c.withdraw-withdrawn.result c.add-2.new.self.items c.saturating_add-self-inside.result c.withdraw-withdrawn.ensures.seats
+            (ap (λ x. x.call) c.withdraw-withdrawn.ensures.withdrawn) c.add.ensures.items c.add-2.ensures.items (omega arith) c.add.ensures.room c.add-2.ensures.room;
         points = record { asked_so = c.self.invariant.0.points.asked_so; struck_so = c.self.invariant.0.points.struck_so; tested = c.self.invariant.0.points.tested };
         clients = (let same = ap length c.withdraw-withdrawn.ensures.seats ∙ length_set c.self.inside.inner.clients (c.args.client - 1) (record (seat_of w c.args.client) { phase = Idle }) in let was = c.self.invariant.0.clients in omega (arith, same, was));
       },
