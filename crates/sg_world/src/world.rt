@@ -136,6 +136,15 @@ impl<S: Service, T: Stops> World<S, T> {
         self.inner.clients.phase(client)
     }
 
+    /// The number of a client's last entry, 0 for none. Its next call has the next number.
+    pub fn seq(&self, client: u8) -> u32
+        requires first { 1 ≤ client }
+        requires last { client ≤ length self.now.view.seats }
+        ensures { result ≡ (seat_of self.now.view client).seq }
+    {
+        self.inner.clients.seq(client)
+    }
+
     /// A client offers a call, under its next number; one that had left has come back by it. It keeps the memory that the call's
     /// entry, its reply and its withdrawal will take. After `NoMemory` the world is as before.
     pub fn offer(
