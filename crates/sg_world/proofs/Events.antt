@@ -1,7 +1,10 @@
 -- The points of a world are counted behind every event, also where a step gets no memory, and a reply that is handed over is that of its
 -- client's last entry.
-use Rattle.std.proofs.Common.{Some, [], ap, false, inl, inr, refl, subst, sym, true, ℕ, ◌++◌, ◌+◌, ◌∙◌, ◌∷◌, ◌≡◌, ◌⊎◌}
-use Rattle.std.specs.Prelude.{IfOk, OnErr, min}
+use Rattle.std.proofs.Common.{Bool, Some, [], ap, false, inl, inr, refl, subst, sym, true, ℕ, ◌++◌, ◌+◌, ◌∙◌, ◌∷◌, ◌≡◌, ◌⊎◌}
+use Rattle.std.proofs.lemmas.List.{length-map}
+use Rattle.std.specs.Prelude.{IfOk, OnErr, length, map, min, slice_set}
+use Rattle.sg_base.specs.declared.call.Call.{Call}
+use Rattle.sg_world.proofs.Rooming.{length_set}
 use Rattle.std.specs.Result.{is_err}
 use Rattle.std.specs.declared.result.Result.{Result}
 use Rattle.std.specs.declared.result.Result.TheVariants.{Err, Ok as Done}
@@ -14,12 +17,12 @@ use Rattle.sg_engine_laws.specs.Stubs.{stub_of}
 use Rattle.sg_facts.specs.declared.entry.Entry.{Entry}
 use Rattle.sg_hist.specs.Clients.{calls_of}
 use Rattle.sg_replay.specs.Engined.{Engined}
-use Rattle.sg_seat.specs.WorldView.{WorldView, happened, is_offered, seat_of, with_points}
+use Rattle.sg_seat.specs.WorldView.{Seat, WorldView, happened, is_offered, seat_of, with_points, woken_seat}
 use Rattle.sg_world.proofs.Stepped.{steps_counted, wants_counted}
 use Rattle.sg_world.specs.declared.did.Did.{Did}
 use Rattle.sg_world.specs.declared.did.Did.TheVariants.{Answered, Blocked as Waits, Booted, Loaded, Lost, Replayed, Served, Skipped, Struck}
 use Rattle.sg_world.specs.Inside.Lines.{NoMemoryLeft}
-use Rattle.sg_world.specs.Steps.{AnswersLast, Steps, WantsMemory}
+use Rattle.sg_world.specs.Steps.{AnswersLast, Commits, Steps, WantsMemory}
 use Rattle.sg_world.specs.Worlded.{CountsAll, IsWorld, Rooms}
 use Rattle.sg_world_laws.proofs.Entered.{last_push, own_calls}
 use Rattle.sg_world_laws.proofs.Turns.{counted_keeps}
@@ -86,3 +89,36 @@ event_on z e w rooms is events refused = record {
   rooms_are = is.rooms_are;
   marked = record { entries = is.marked.entries; withdrawals = is.marked.withdrawals; phases = is.marked.phases };
 }
+
+-- a step leaves the number of clients
+module _ (z : Setting) (w : WorldView) (c : ℕ) where
+  answered_length : (test : Call → Bool) (at : ℕ) (new : Seat) → length (slice_set (map (woken_seat test) w.seats) at new) ≡ length w.seats
+  answered_length test at new = length_set (map (woken_seat test) w.seats) at new ∙ length-map w.seats (woken_seat test)
+
+  committed_length : (later : WorldView) → Commits z w c later → length later.seats ≡ length w.seats
+  committed_length later s = ap (λ (l : WorldView). length l.seats) s.now ∙ answered_length _ _ _
+
+  pub steps_length : (did : Did) (later : WorldView) → Steps z w c did later → length later.seats ≡ length w.seats
+  steps_length Skipped later s = ap (λ (l : WorldView). length l.seats) s.now
+  steps_length (Answered reply) later (inl s) = ap (λ (l : WorldView). length l.seats) s.now ∙ length_set w.seats _ _
+  steps_length (Answered reply) later (inr (inl s)) = ap (λ (l : WorldView). length l.seats) s.now ∙ answered_length _ _ _
+  steps_length (Answered reply) later (inr (inr s)) = ap (λ (l : WorldView). length l.seats) s.now ∙ answered_length _ _ _
+  steps_length Lost later s = ap (λ (l : WorldView). length l.seats) s.now ∙ length_set w.seats _ _
+  steps_length Booted later s = ap (λ (l : WorldView). length l.seats) s.now ∙ length-map w.seats (woken_seat (λ call. true))
+  steps_length Struck later (inl s) = ap (λ (l : WorldView). length l.seats) s.now
+  steps_length Struck later (inr (inl s)) = ap (λ (l : WorldView). length l.seats) s.now
+  steps_length Struck later (inr (inr (inl s))) = ap (λ (l : WorldView). length l.seats) s.now
+  steps_length Struck later (inr (inr (inr s))) = ap (λ (l : WorldView). length l.seats) s.now ∙ committed_length s.between s.commits
+  steps_length Replayed later s = ap (λ (l : WorldView). length l.seats) s.now
+  steps_length Loaded later s = ap (λ (l : WorldView). length l.seats) s.now
+  steps_length Waits later s = ap (λ (l : WorldView). length l.seats) s.now ∙ length_set w.seats _ _
+  steps_length Served later (inl s) = ap (λ (l : WorldView). length l.seats) s.now ∙ committed_length s.between s.commits
+  steps_length Served later (inr s) = ap (λ (l : WorldView). length l.seats) s.now ∙ length_set w.seats _ _
+
+  pub any_length : (later : WorldView) (r : Result Did NoMemory) → IfOk r (λ did. Steps z w c did later) → OnErr r (NoMemoryLeft z w c later) → length later.seats ≡ length w.seats
+  any_length later (Done did) steps left = steps_length did later steps
+  any_length later (Err error) steps left = by left.now
+    where
+      by : (later ≡ w) ⊎ (later ≡ with_points w (asked_after w.run.points 1)) → length later.seats ≡ length w.seats
+      by (inl same) = ap (λ (l : WorldView). length l.seats) same
+      by (inr more) = ap (λ (l : WorldView). length l.seats) more

@@ -233,6 +233,7 @@ impl<S: Service, T: Stops> World<S, T> {
         ensures did { IfOk result (λ did. HasStepped (setting_of S.ask S.sound S.parts self.old.tables) self.old.view client did self.new.view) }
         ensures err { OnErr result (WantsMemory (setting_of S.ask S.sound S.parts self.old.tables) self.old.view client self.new.view) }
         ensures answers { IfOk result (AnswersLast self.new.view client) }
+        ensures clients { length self.new.view.seats ≡ length self.old.view.seats }
         ensures tables { self.new.tables ≡ self.old.tables }
         ensures plan { self.new.plan ≡ self.old.plan }
     {

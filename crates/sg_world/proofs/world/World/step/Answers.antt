@@ -3,7 +3,7 @@ use Rattle.std.proofs.Common.{ap, subst, ◌≤◌, sym, ◌∙◌, ◌≡◌, l
 use Rattle.std.specs.Prelude.{OnErr}
 use Rattle.sg_facts.specs.Tables.{Compiled}
 use Rattle.sg_seat.specs.WorldView.{WorldView, happened, seat_of}
-use Rattle.sg_world.proofs.Events.{err_counted, err_wants, event_on, ok_answers, ok_counted}
+use Rattle.sg_world.proofs.Events.{any_length, err_counted, err_wants, event_on, ok_answers, ok_counted}
 use Rattle.sg_world.specs.Inners.{rooms_in, view_in}
 use Rattle.sg_world.specs.Steps.{WantsMemory}
 use Rattle.sg_world.specs.Worlded.{CountsAll, Worlded, setting_of}
@@ -71,3 +71,15 @@ returns-else-is_err-clause-answers g c =
     ok_answers z w c.args.client
     (its_seat z w (stub_of x.engine) c.self.invariant.0.world.keeps c.args.client (seat_of w c.args.client) (seat_there w c.args.client c.requires.first last) c.requires.first (seat_of w c.args.client) w.withdrawn w.marks w.events w.refused)
     (view_in mid) c.step-did.result c.step-did.ensures.did
+
+pub returns-then-is_err-clause-clients : goal.returns-then-is_err-clause-clients
+returns-then-is_err-clause-clients g c =
+    let x = c.self.inside.inner in
+    let z = setting_of g.S.Service.ask g.S.Service.sound g.S.Service.parts x.engine.tables in
+    any_length z (view_in x) c.args.client (view_in c.step-did.new.self) c.step-did.result c.step-did.ensures.did c.step-did.ensures.err ∙ ap (λ (y : Worlded). length y.view.seats) c.self.view_is
+
+pub returns-else-is_err-clause-clients : goal.returns-else-is_err-clause-clients
+returns-else-is_err-clause-clients g c =
+    let x = c.self.inside.inner in
+    let z = setting_of g.S.Service.ask g.S.Service.sound g.S.Service.parts x.engine.tables in
+    any_length z (view_in x) c.args.client (view_in c.step-did.new.self) c.step-did.result c.step-did.ensures.did c.step-did.ensures.err ∙ ap (λ (y : Worlded). length y.view.seats) c.self.view_is
