@@ -2,7 +2,7 @@
 ghost use Rattle.std.specs.Prelude.{◌≡◌, ◌↔◌, ◌+◌, ◌<◌, ◌≤◌, [], ◌∷◌, ◌++◌, length, IsTrue, IsOk, IfOk, IfSome, IfNone, OnOk, OnSome, slice_get, vec_capacity};
 ghost use Rattle.std.specs.Option.{option_copied};
 
-use crate::{ListOf, NoMemory};
+use crate::{ListOf, NoMemory, TryCopy};
 use std::alloc::Global;
 use std::marker::Model;
 
@@ -125,6 +125,19 @@ impl<E> RoomyList<E> {
         ensures { result.now ≡ self.now.items }
     {
         self.items.as_slice()
+    }
+}
+
+impl<E: TryCopy + Drop> RoomyList<E> {
+    /// A list of equal elements; its room is its own.
+    pub fn copied(&self, alloc: Global) -> Result<Self, NoMemory>
+        ensures { IfOk result (λ copy. copy.items ≡ self.now.items) }
+    {
+        let mut items = Vec::with_capacity(alloc, self.items.len())?;
+        for item in &self.items {
+            items.push(item.copy(alloc)?)?;
+        }
+        Ok(RoomyList { items })
     }
 }
 

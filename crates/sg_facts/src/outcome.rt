@@ -39,6 +39,23 @@ impl TryCopy for Patch {
     }
 }
 
+impl TryCopy for Outcome {
+    fn copy(&self, alloc: Global) -> Result<Self, NoMemory> {
+        Ok(match self {
+            Outcome::Replied { reply, patch } => Outcome::Replied {
+                reply: reply.copy(alloc)?,
+                patch: match patch {
+                    Some(patch) => Some(patch.copy(alloc)?),
+                    None => None,
+                },
+            },
+            Outcome::Blocks => Outcome::Blocks,
+            Outcome::Stopped => Outcome::Stopped,
+            Outcome::NoMemory => Outcome::NoMemory,
+        })
+    }
+}
+
 /// Room for one patch with a key and bytes of at most 256 bytes each, which is used up when the patch is made.
 #[derive(Debug, Drop)]
 pub struct PatchRoom {

@@ -1,6 +1,10 @@
 // What was done to a service, boot by boot.
+ghost use Rattle.std.specs.Prelude.{◌≡◌, ◌++◌, ◌∷◌, [], IfOk, OnOk, map};
+ghost use Rattle.sg_facts.specs.Trace.{boot_of, run_of};
+
 use crate::Outcome;
-use sg_base::{Call, Path, RoomyList};
+use sg_base::{Call, NoMemory, Path, RoomyList, TryCopy};
+use std::alloc::Global;
 
 /// Why the service was asked.
 #[derive(Debug, PartialEq, Eq, Drop)]
@@ -47,4 +51,65 @@ pub struct Trace {
     pub boots: BootList,
     /// The number of points asked.
     pub points: u64,
+}
+
+impl TryCopy for Tag {
+    fn copy(&self, alloc: Global) -> Result<Self, NoMemory> {
+        Ok(match self {
+            Tag::Walk { id, k, client } => Tag::Walk {
+                id: *id,
+                k: *k,
+                client: *client,
+            },
+            Tag::Load { key, client } => Tag::Load {
+                key: key.copy(alloc)?,
+                client: *client,
+            },
+            Tag::Client { client, seq } => Tag::Client {
+                client: *client,
+                seq: *seq,
+            },
+        })
+    }
+}
+
+impl TryCopy for Item {
+    fn copy(&self, alloc: Global) -> Result<Self, NoMemory> {
+        Ok(Item {
+            tag: self.tag.copy(alloc)?,
+            shown: self.shown.copy(alloc)?,
+            real: self.real,
+            points: self.points,
+            outcome: self.outcome.copy(alloc)?,
+        })
+    }
+}
+
+impl BootLog {
+    /// An equal boot, apart from the room for more.
+    pub fn copied(&self, alloc: Global) -> Result<BootLog, NoMemory>
+        ensures { IfOk result (λ copy. boot_of copy ≡ boot_of self.now) }
+    {
+        Ok(BootLog {
+            items: self.items.copied(alloc)?,
+            stop: self.stop,
+        })
+    }
+}
+
+impl Trace {
+    /// An equal trace, apart from the room for more.
+    pub fn copied(&self, alloc: Global) -> Result<Trace, NoMemory>
+        ensures { IfOk result (λ copy. run_of copy ≡ run_of self.now) }
+    {
+        let mut boots = BootList::new(alloc);
+        for boot in self.boots.as_slice() {
+            boots.reserve(1)?;
+            boots.add(boot.copied(alloc)?);
+        }
+        Ok(Trace {
+            boots,
+            points: self.points,
+        })
+    }
 }

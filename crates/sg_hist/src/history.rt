@@ -101,6 +101,15 @@ impl History {
         self.entries.as_slice()
     }
 
+    /// A history of equal entries; its room is its own.
+    pub fn copied(&self, alloc: Global) -> Result<History, NoMemory>
+        ensures { IfOk result (λ copy. copy.items ≡ self.now.items) }
+    {
+        Ok(History {
+            entries: self.entries.copied(alloc)?,
+        })
+    }
+
     /// The entries of one client, in their order.
     pub fn of_client(&self, alloc: Global, client: u8) -> Result<History, NoMemory>
         ensures { IfOk result (λ own. own.items ≡ calls_of self.now.items client) }
