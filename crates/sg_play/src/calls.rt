@@ -1,0 +1,80 @@
+// What a call of a script comes to, by the descriptors that its client's earlier calls were given.
+ghost use Rattle.std.specs.Prelude.{◌≡◌, ◌∷◌, [], List, IfOk};
+ghost use Rattle.sg_facts.specs.Kinds.{AreWords};
+ghost use Rattle.sg_facts.specs.declared.entry.Entry.{Entry as IsEntry};
+ghost use Rattle.sg_play_laws.specs.Given.{AreGiven};
+ghost use Rattle.sg_sim.specs.Script.{arg_value, desc_among, id_of_call, value_of, values_of};
+
+use sg_base::{Args, NoMemory, TryCopy, Value};
+use sg_facts::Kind;
+use sg_script::Arg;
+use std::alloc::Global;
+
+/// The descriptor or parent among arguments, 0 where no parameter is one.
+pub(crate) fn desc_among(given: &[u64], kinds: &[Kind], args: &[Arg]) -> u64
+    ensures { (own : List IsEntry) → AreGiven own given.now → result ≡ desc_among own kinds.now args.now }
+{
+    for (kind, arg) in kinds.iter().zip(args) {
+        match kind {
+            Kind::Desc | Kind::Parent => return arg_value(given, arg),
+            Kind::Word | Kind::Text => (),
+        }
+    }
+    0
+}
+
+/// The other arguments, in their order.
+pub(crate) fn values_of(
+    alloc: Global,
+    given: &[u64],
+    kinds: &[Kind],
+    args: &[Arg],
+) -> Result<Args, NoMemory>
+    ensures values { (own : List IsEntry) → AreGiven own given.now → IfOk result (λ values. values ≡ values_of own kinds.now args.now) }
+    ensures words { IfOk result AreWords }
+{
+    let mut values = Args::new(alloc);
+    for (kind, arg) in kinds.iter().zip(args) {
+        match kind {
+            Kind::Desc | Kind::Parent => (),
+            Kind::Word | Kind::Text => values.push(value_of(alloc, given, arg)?)?,
+        }
+    }
+    Ok(values)
+}
+
+// An argument as a value.
+fn value_of(alloc: Global, given: &[u64], arg: &Arg) -> Result<Value, NoMemory>
+    ensures value { (own : List IsEntry) → AreGiven own given.now → IfOk result (λ value. value ≡ value_of own arg.now) }
+    ensures words { IfOk result (λ value. AreWords (value ∷ [])) }
+{
+    match arg {
+        Arg::Number(number) => Ok(Value::Word(*number)),
+        Arg::Text(text) => Ok(Value::Text(text.copy(alloc)?)),
+        Arg::Back(call) => Ok(Value::Word(id_of_call(given, *call))),
+    }
+}
+
+// An argument as a number.
+fn arg_value(given: &[u64], arg: &Arg) -> u64
+    ensures { (own : List IsEntry) → AreGiven own given.now → result ≡ arg_value own arg.now }
+{
+    match arg {
+        Arg::Number(number) => *number,
+        Arg::Text(_) => 0,
+        Arg::Back(call) => id_of_call(given, *call),
+    }
+}
+
+// The descriptor that the call of a number was given, 0 for none.
+fn id_of_call(given: &[u64], call: u32) -> u64
+    ensures { (own : List IsEntry) → AreGiven own given.now → result ≡ id_of_call own call }
+{
+    if call == 0 {
+        return 0;
+    }
+    match given.get(call as usize - 1) {
+        Some(id) => *id,
+        None => 0,
+    }
+}

@@ -1,0 +1,54 @@
+// The calls of a script's clients.
+ghost use Rattle.std.specs.Ordering.{nat_cmp};
+ghost use Rattle.std.specs.Prelude.{◌≡◌, length, slice_get};
+ghost use Rattle.std.specs.Option.{option_copied};
+ghost use Rattle.sg_plain.specs.Calls.{most_client, part_of, script_calls};
+ghost use Rattle.sg_play_laws.specs.Playable.{AreClients};
+
+use sg_script::{CallList, Script, ScriptCall};
+use std::cmp::Ordering;
+
+/// The first client.
+pub(crate) const FIRST: u8 = 1;
+
+/// The greatest number of a client that has a part, at least 1.
+pub(crate) fn most_client(clients: &[(u8, CallList)]) -> u8
+    ensures { result ≡ most_client clients.now }
+{
+    match clients {
+        [] => FIRST,
+        [.., (client, _)] => *client,
+    }
+}
+
+/// The call that a client makes when so many of its calls are done; None where it has no more.
+pub(crate) fn script_call(script: &Script, client: u8, done: usize) -> Option<&ScriptCall>
+    requires { AreClients 0 script.now.clients }
+    ensures { option_copied result ≡ slice_get (script_calls script.now client) done }
+{
+    let part = part_of(script.clients.as_slice(), client);
+    if client != FIRST {
+        return part.get(done);
+    }
+    let setup = script.setup.as_slice();
+    if done < setup.len() {
+        setup.get(done)
+    } else {
+        part.get(done - setup.len())
+    }
+}
+
+/// The calls of a client's part, which is found by halving.
+fn part_of(clients: &[(u8, CallList)], client: u8) -> &[ScriptCall]
+    requires { AreClients 0 clients.now }
+    ensures { result.now ≡ part_of client clients.now }
+{
+    match clients.binary_search_by(
+        move |part| -> Ordering
+            ensures { result ≡ nat_cmp part.now.0 client }
+        { part.0.cmp(&client) },
+    ) {
+        Ok(place) => clients[place].1.as_slice(),
+        Err(_) => &[],
+    }
+}

@@ -1,0 +1,105 @@
+// What a client does in its turn: it offers its next call, makes a step, and leaves behind its last call.
+ghost use Rattle.std.specs.Prelude.{◌≡◌, ◌⊎◌, ◌≤◌, ℕ, List, true, None, IfOk, OnOk, OnErr, length};
+ghost use Rattle.sg_hist.specs.Reading.{desc_of};
+ghost use Rattle.sg_play_laws.specs.Callers.{is_setting_up};
+ghost use Rattle.sg_play_laws.specs.Given.{given_in, with_handed};
+ghost use Rattle.sg_play_laws.specs.Plays.{IsPlaying};
+ghost use Rattle.sg_play.specs.Turns.{is_free_phase};
+
+use crate::calls::{desc_among, values_of};
+use crate::parts::script_call;
+use sg_base::{NoMemory, Reply, Stops};
+use sg_facts::Service;
+use sg_script::Script;
+use sg_seat::Phase;
+use sg_world::{Did, World};
+use std::alloc::Global;
+
+/// A client that has no call under way offers the next call of its script, where it has one. After `NoMemory` nothing changed but the
+/// number of events.
+pub(crate) fn offer_next<S: Service, T: Stops>(
+    alloc: Global,
+    world: &mut World<S, T>,
+    script: &Script,
+    given: &[u64],
+    client: u8,
+) -> Result<(), NoMemory>
+    requires first { 1 ≤ client }
+    requires last { client ≤ length world.old.view.seats }
+    requires setup { is_setting_up script.now world.old.view.seats ≡ true → client ≡ 1 }
+    requires playing { (all : List (List ℕ)) × (given_in all client ≡ given.now) × IsPlaying world.old.tables.iface script.now world.old.view.history world.old.view.seats all }
+    ensures playing { (all : List (List ℕ)) → IsPlaying world.old.tables.iface script.now world.old.view.history world.old.view.seats all
+        → IsPlaying world.old.tables.iface script.now world.new.view.history world.new.view.seats all }
+    ensures setup { is_setting_up script.now world.new.view.seats ≡ true → client ≡ 1 }
+    ensures tables { world.new.tables ≡ world.old.tables }
+    ensures plan { world.new.plan ≡ world.old.plan }
+    ensures refused { world.new.view.refused ≡ world.old.view.refused }
+{
+    if !is_free(world.phase(client)) {
+        return Ok(());
+    }
+    let done = world.seq(client) as usize;
+    let Some(call) = script_call(script, client, done) else {
+        return Ok(());
+    };
+    let kinds = world.interface().fun(call.fun).kinds;
+    let args = call.args.as_slice();
+    let desc = desc_among(given, kinds, args);
+    let values = values_of(alloc, given, kinds, args)?;
+    world.offer(alloc, client, call.fun, desc, values)
+}
+
+/// A client makes a step, and leaves where its last call is answered. Gives the descriptor of the reply that was handed over, 0 for none;
+/// None where no reply was.
+pub(crate) fn make_step<S: Service, T: Stops>(
+    alloc: Global,
+    world: &mut World<S, T>,
+    script: &Script,
+    client: u8,
+) -> Result<Option<u64>, NoMemory>
+    requires first { 1 ≤ client }
+    requires last { client ≤ length world.old.view.seats }
+    requires setup { is_setting_up script.now world.old.view.seats ≡ true → client ≡ 1 }
+    requires playing { (all : List (List ℕ)) × IsPlaying world.old.tables.iface script.now world.old.view.history world.old.view.seats all }
+    ensures ok { (all : List (List ℕ)) → IsPlaying world.old.tables.iface script.now world.old.view.history world.old.view.seats all
+        → IfOk result (λ handed. IsPlaying world.old.tables.iface script.now world.new.view.history world.new.view.seats (with_handed all client handed)) }
+    ensures err { (all : List (List ℕ)) → IsPlaying world.old.tables.iface script.now world.old.view.history world.old.view.seats all
+        → OnErr result (IsPlaying world.old.tables.iface script.now world.new.view.history world.new.view.seats all) }
+    ensures tables { world.new.tables ≡ world.old.tables }
+    ensures plan { world.new.plan ≡ world.old.plan }
+{
+    match world.step(alloc, client)? {
+        Did::Answered(reply) => {
+            let done = world.seq(client) as usize;
+            if script_call(script, client, done).is_none() {
+                world.leave(client);
+            }
+            Ok(Some(desc_of(&reply)))
+        }
+        Did::Skipped
+        | Did::Struck
+        | Did::Booted
+        | Did::Replayed
+        | Did::Loaded
+        | Did::Served
+        | Did::Blocked
+        | Did::Lost => Ok(None),
+    }
+}
+
+// Whether a client in a phase has no call under way.
+fn is_free(phase: Phase) -> bool
+    ensures { result ≡ is_free_phase phase }
+{
+    matches!(phase, Phase::Idle | Phase::Left)
+}
+
+// The descriptor of a reply, 0 for none.
+fn desc_of(reply: &Reply) -> u64
+    ensures { result ≡ desc_of reply.now }
+{
+    match reply {
+        Reply::Ok(good) => good.desc,
+        Reply::Refused(_) => 0,
+    }
+}

@@ -1,0 +1,7 @@
+pub mod Calling
+pub mod Giving
+pub mod Lines
+pub mod Playing
+pub mod Resolving
+pub mod Setting
+pub mod Whole

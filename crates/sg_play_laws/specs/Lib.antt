@@ -1,0 +1,4 @@
+pub mod Callers
+pub mod Given
+pub mod Playable
+pub mod Plays
