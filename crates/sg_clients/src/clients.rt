@@ -1,5 +1,5 @@
 // The clients of a world.
-ghost use Rattle.std.specs.Prelude.{◌≡◌, ◌≤◌, ◌-◌, ◌+◌, ◌==◌, ◌∷◌, ◌++◌, ℕ, Bool, true, [], length, map, replicate, vec_capacity, IfOk, OnOk, OnErr, slice_set};
+ghost use Rattle.std.specs.Prelude.{◌≡◌, ◌<◌, ◌≤◌, ◌-◌, ◌+◌, ◌^◌, ◌==◌, ◌∷◌, ◌++◌, ℕ, Bool, true, [], length, map, replicate, vec_capacity, IfOk, OnOk, OnErr, slice_set};
 ghost use Rattle.std.specs.List.{list_all};
 ghost use Rattle.sg_base.specs.Reply.{FitsReplyRoom};
 ghost use Rattle.sg_clients.specs.Inside.Waiting.{AreUnderWay};
@@ -163,13 +163,15 @@ impl Clients {
         self.seats[usize::from(client) - 1].ask_again();
     }
 
-    /// A client's call is answered, and its reply is to be handed over; gives the entry. It takes no memory.
+    /// A client's call is answered, and its reply is to be handed over; gives the entry, whose number is one of 32 bits. It takes no
+    /// memory.
     pub fn give(&mut self, client: u8, reply: &Reply) -> Entry
         requires first { 1 ≤ client }
         requires last { client ≤ length self.old }
         requires offers { is_offered (seat_in self.old client).phase ≡ true }
         requires fits { FitsReplyRoom reply.now }
         ensures entry { result ≡ record { call = (seat_in self.old client).call; reply = reply.now } }
+        ensures number { result.call.seq < 2 ^ 32 }
         ensures seats { let s = seat_in self.old client in self.new ≡ slice_set self.old (client - 1) (record s { phase = Receipted; seq = s.call.seq; reply = reply.now }) }
     {
         let desc = self.call(client).desc;
@@ -177,12 +179,14 @@ impl Clients {
         self.seats[usize::from(client) - 1].give(reply)
     }
 
-    /// A client's call is answered by the reply that it holds, which is handed over at once. It takes no memory.
+    /// A client's call is answered by the reply that it holds, which is handed over at once; the entry's number is one of 32 bits. It
+    /// takes no memory.
     pub fn give_back(&mut self, alloc: Global, client: u8) -> Returned
         requires first { 1 ≤ client }
         requires last { client ≤ length self.old }
         requires offers { is_offered (seat_in self.old client).phase ≡ true }
         ensures entry { result.entry ≡ record { call = (seat_in self.old client).call; reply = (seat_in self.old client).reply } }
+        ensures number { result.entry.call.seq < 2 ^ 32 }
         ensures reply { result.reply ≡ (seat_in self.old client).reply }
         ensures answer { result.answer ≡ (seat_in self.old client).reply }
         ensures seats { let s = seat_in self.old client in self.new ≡ slice_set self.old (client - 1) (record s { phase = Idle; seq = s.call.seq; reply = no_reply }) }
@@ -192,12 +196,14 @@ impl Clients {
         self.seats[usize::from(client) - 1].give_back(alloc)
     }
 
-    /// A client's call is refused, which it is told at once; gives the call for its entry. It takes no memory.
+    /// A client's call is refused, which it is told at once; gives the call for its entry, whose number is one of 32 bits. It takes no
+    /// memory.
     pub fn refuse(&mut self, alloc: Global, client: u8) -> Call
         requires first { 1 ≤ client }
         requires last { client ≤ length self.old }
         requires offers { is_offered (seat_in self.old client).phase ≡ true }
         ensures call { result ≡ (seat_in self.old client).call }
+        ensures number { result.seq < 2 ^ 32 }
         ensures seats { let s = seat_in self.old client in self.new ≡ slice_set self.old (client - 1) (record s { phase = Idle; seq = s.call.seq; reply = no_reply }) }
     {
         let desc = self.call(client).desc;

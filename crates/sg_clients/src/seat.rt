@@ -184,6 +184,7 @@ impl ClientSeat {
         requires offers { is_offered self.old.phase ≡ true }
         requires fits { FitsReplyRoom reply.now }
         ensures entry { result ≡ record { call = self.old.call; reply = reply.now } }
+        ensures number { result.call.seq < 2 ^ 32 }
         ensures seat { self.new ≡ record self.old { phase = Receipted; seq = self.old.call.seq; reply = reply.now } }
     {
         let room = self.take_room();
@@ -200,6 +201,7 @@ impl ClientSeat {
     pub(crate) fn give_back(&mut self, alloc: Global) -> Returned
         requires { is_offered self.old.phase ≡ true }
         ensures entry { result.entry ≡ record { call = self.old.call; reply = self.old.reply } }
+        ensures number { result.entry.call.seq < 2 ^ 32 }
         ensures reply { result.reply ≡ self.old.reply }
         ensures answer { result.answer ≡ self.old.reply }
         ensures seat { self.new ≡ record self.old { phase = Idle; seq = self.old.call.seq; reply = no_reply } }
@@ -222,6 +224,7 @@ impl ClientSeat {
     pub(crate) fn refuse(&mut self, alloc: Global) -> Call
         requires { is_offered self.old.phase ≡ true }
         ensures call { result ≡ self.old.call }
+        ensures number { result.seq < 2 ^ 32 }
         ensures seat { self.new ≡ record self.old { phase = Idle; seq = self.old.call.seq; reply = no_reply } }
     {
         let room = self.take_room();

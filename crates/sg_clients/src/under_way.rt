@@ -1,6 +1,6 @@
 // The index of the calls under way by their descriptors.
 ghost use Rattle.std.specs.Prelude.{◌≡◌, OnOk, OnErr};
-ghost use Rattle.sg_clients.specs.Inside.Waiting.{Gains, Loses};
+ghost use Rattle.sg_clients.specs.Inside.Waiting.{GainsCall, LosesCall};
 
 use sg_base::NoMemory;
 use std::collections::BTreeSet;
@@ -14,7 +14,7 @@ pub(crate) struct UnderWay {
 
 /// Adds a call. After `NoMemory` the index is as before.
 pub(crate) fn add(waiting: &mut BTreeSet<UnderWay>, one: UnderWay) -> Result<(), NoMemory>
-    ensures ok { OnOk result (Gains waiting.old waiting.new one) }
+    ensures ok { OnOk result (GainsCall waiting.old waiting.new one) }
     ensures err { OnErr result (waiting.new ≡ waiting.old) }
 {
     waiting.insert(one)?;
@@ -23,7 +23,7 @@ pub(crate) fn add(waiting: &mut BTreeSet<UnderWay>, one: UnderWay) -> Result<(),
 
 /// Takes a call out. It takes no memory.
 pub(crate) fn take_out(waiting: &mut BTreeSet<UnderWay>, one: UnderWay)
-    ensures { Loses waiting.old waiting.new one }
+    ensures { LosesCall waiting.old waiting.new one }
 {
     waiting.remove(&one);
 }

@@ -20,12 +20,12 @@ abbrev pub is_call : UnderWay → ℕ → ℕ → Bool
 is_call one desc client = (one.desc == desc) && (one.client == client)
 
 -- an index has one call more
-abbrev pub Gains : BTreeSet UnderWay → BTreeSet UnderWay → UnderWay → Type 0
-Gains old new one = (desc client : ℕ) → has_call new desc client ≡ (has_call old desc client || is_call one desc client)
+abbrev pub GainsCall : BTreeSet UnderWay → BTreeSet UnderWay → UnderWay → Type 0
+GainsCall old new one = (desc client : ℕ) → has_call new desc client ≡ (has_call old desc client || is_call one desc client)
 
 -- an index has one call less
-abbrev pub Loses : BTreeSet UnderWay → BTreeSet UnderWay → UnderWay → Type 0
-Loses old new one = (desc client : ℕ) → has_call new desc client ≡ (has_call old desc client && not (is_call one desc client))
+abbrev pub LosesCall : BTreeSet UnderWay → BTreeSet UnderWay → UnderWay → Type 0
+LosesCall old new one = (desc client : ℕ) → has_call new desc client ≡ (has_call old desc client && not (is_call one desc client))
 
 -- whether a client in a phase may be in the index: its call isn't answered, or it left
 abbrev pub may_be_under_way : Phase → Bool
@@ -33,7 +33,7 @@ may_be_under_way phase = is_offered phase || is_left_phase phase
 
 -- an index has a client at the descriptor of its call, if the call isn't answered; at no other, and only where the call isn't answered
 -- or the client left
-pub record IsUnderWay (seat : Seat) (waiting : BTreeSet UnderWay) (client : ℕ) : Type 0 where
+pub record HasItsCall (seat : Seat) (waiting : BTreeSet UnderWay) (client : ℕ) : Type 0 where
   pub offered : is_offered seat.phase ≡ true → has_call waiting seat.call.desc client ≡ true
   pub desc : (desc : ℕ) → has_call waiting desc client ≡ true → seat.call.desc ≡ desc
   pub phase : (desc : ℕ) → has_call waiting desc client ≡ true → may_be_under_way seat.phase ≡ true
@@ -47,7 +47,7 @@ pub record IsAmong (clients : ℕ) (client : ℕ) : Type 0 where
 -- an index has each client whose call isn't answered, at the call's descriptor; the others in it left
 pub record AreUnderWay (seats : List Seat) (waiting : BTreeSet UnderWay) : Type 0 where
   pub among : (desc client : ℕ) → has_call waiting desc client ≡ true → IsAmong (length seats) client
-  pub each : (client : ℕ) → 1 ≤ client → client ≤ length seats → IsUnderWay (seat_in seats client) waiting client
+  pub each : (client : ℕ) → 1 ≤ client → client ≤ length seats → HasItsCall (seat_in seats client) waiting client
 
 -- seats, asked again one after the other by calls under way, where they wait and the call's descriptor meets a test
 abbrev pub woken_by : (ℕ → Bool) → List UnderWay → List Seat → List Seat
