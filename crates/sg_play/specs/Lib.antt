@@ -1,2 +1,2 @@
+pub mod Played
 pub mod Playing
-pub mod Turns

@@ -4,7 +4,7 @@ ghost use Rattle.sg_hist.specs.Reading.{desc_of};
 ghost use Rattle.sg_play_laws.specs.Callers.{is_setting_up};
 ghost use Rattle.sg_play_laws.specs.Given.{given_in, with_handed};
 ghost use Rattle.sg_play_laws.specs.Plays.{IsPlaying};
-ghost use Rattle.sg_play.specs.Turns.{is_free_phase};
+ghost use Rattle.sg_play_laws.specs.Turns.{is_free_phase};
 
 use crate::calls::{desc_among, values_of};
 use crate::parts::script_call;

@@ -1,4 +1,5 @@
 pub mod Calling
+pub mod Ending
 pub mod Giving
 pub mod Lines
 pub mod Playing

@@ -1,5 +1,5 @@
 -- The history of a play is the script's calls.
-use Rattle.std.proofs.Common.{◌≡◌, ◌≢◌, ℕ, zero, suc, ◌+◌, ◌<◌, ◌≤◌, Bool, true, false, cond, not, List, [], ◌∷◌, ◌++◌, filter, None, length, refl, sym, ◌∙◌, ap, arith, append_assoc}
+use Rattle.std.proofs.Common.{◌≡◌, ◌≢◌, ℕ, zero, suc, ◌+◌, ◌<◌, ◌≤◌, Bool, true, false, cond, not, List, [], ◌∷◌, ◌++◌, filter, length, refl, sym, ◌∙◌, ap, arith, append_assoc}
 use Rattle.std.specs.Prelude.{◌==◌, ◌&&◌, ◌||◌, nat_lt}
 use Rattle.std.specs.List.{list_all, list_any}
 use Rattle.std.proofs.lemmas.Bool.Decides.{nat_tests}
@@ -7,23 +7,15 @@ use Rattle.std.proofs.lemmas.List.Elements.{filter-append}
 use Rattle.sg_base.specs.Lists.{Each}
 use Rattle.sg_facts.specs.declared.entry.Entry.{Entry}
 use Rattle.sg_facts.specs.Facts.{Facts}
-use Rattle.sg_facts.specs.Interface.{Declared}
-use Rattle.sg_facts.specs.Legal.{Table, answer}
-use Rattle.sg_facts.specs.Object.{object_of}
-use Rattle.sg_hist.specs.declared.ended.End.TheVariants.{Done, Blocked as Waits}
 use Rattle.sg_hist.specs.Clients.{calls_of}
-use Rattle.sg_plain.specs.Calls.{IsEnd, ascending_from, callers, most_client, script_calls}
+use Rattle.sg_plain.specs.Calls.{ascending_from, callers, most_client, script_calls}
 use Rattle.sg_plain.specs.Promises.{AreFirstCalls, AreScriptsCalls}
 use Rattle.sg_script.specs.declared.script.Script.{Script}
 use Rattle.sg_script.specs.declared.script.ScriptCall.{ScriptCall}
-use Rattle.sg_seat.specs.WorldView.{Seat, is_offered}
-use Rattle.sg_seat.specs.declared.phase.Phase.TheVariants.{Blocked}
+use Rattle.sg_seat.specs.WorldView.{Seat}
 use Rattle.sg_walk_laws.proofs.Found.{other_test, same_test}
-use Rattle.sg_play_laws.specs.Callers.{AreCallers, IsCaller, SetsUpFirst}
-
--- whether a client has a call
-abbrev pub has_calls : Script → ℕ → Bool
-has_calls script client = not (length (script_calls script client) == 0)
+use Rattle.sg_play_laws.specs.Callers.{AreCallers, SetsUpFirst}
+use Rattle.sg_play_laws.specs.Ends.{has_calls}
 
 -- ---- numbers one after the other
 
@@ -107,23 +99,3 @@ module _ (facts : Facts) (script : Script) (history : List Entry) (seats : List 
     none_else = all_callers [] history refl;
     setup = first.front;
   }
-
--- ---- how clients end
-
--- a client's entries are no more than its calls
-no_more : (facts : Facts) (history : List Entry) (client seq : ℕ) (es : List Entry) (calls : List ScriptCall) → AreFirstCalls facts history client seq es calls → length es ≤ length calls
-no_more facts history client seq [] calls are = omega arith
-no_more facts history client seq (e ∷ es) [] are = absurd are
-no_more facts history client seq (e ∷ es) (c ∷ calls) are = omega (arith, no_more facts history client (seq + 1) es calls are.1)
-
--- a client that has no call left is done
-pub is_done : (i : Declared) (ask : Table) (script : Script) (history : List Entry) (client : ℕ) (s : Seat) → IsCaller i.facts script history client s → nat_lt s.seq (length (script_calls script client)) ≡ false
-    → IsEnd i ask history script client Done
-is_done i ask script history client s is over =
-    let least : length (script_calls script client) ≤ s.seq = grind (arith, nat_tests) in
-    omega (arith, least, is.count, no_more i.facts history client 1 (calls_of history client) (script_calls script client) is.made)
-
--- a client that waits does so in its next call
-pub is_blocked : (i : Declared) (ask : Table) (script : Script) (history : List Entry) (client : ℕ) (s : Seat) → IsCaller i.facts script history client s → s.phase ≡ Blocked
-    → answer i ask (object_of i.facts history) s.call ≡ None → IsEnd i ask history script client (Waits s.call)
-is_blocked i ask script history client s is blocked none = (is.next (ap is_offered blocked), none)

@@ -1,4 +1,6 @@
 pub mod Callers
+pub mod Ends
 pub mod Given
 pub mod Playable
 pub mod Plays
+pub mod Turns

@@ -21,7 +21,7 @@ use crate::did::Did;
 use crate::inner::Inner;
 use sg_base::{Args, Call, NoMemory, RoomyList, Stops};
 use sg_clients::Clients;
-use sg_facts::{Service, Tables, Trace};
+use sg_facts::{Interface, Service, Tables, Trace};
 use sg_hist::History;
 use sg_replay::Engine;
 use sg_seat::{Mark, MarkKind, Phase, Withdrawn};
@@ -134,6 +134,22 @@ impl<S: Service, T: Stops> World<S, T> {
         ensures { result ≡ (seat_of self.now.view client).phase }
     {
         self.inner.clients.phase(client)
+    }
+
+    /// The interface that the service is used by, lent.
+    pub fn interface(&self) -> &Interface
+        ensures { result.now ≡ self.now.tables.iface }
+    {
+        self.inner.engine.interface()
+    }
+
+    /// The call that a client offered last, lent.
+    pub fn call(&self, client: u8) -> &Call
+        requires first { 1 ≤ client }
+        requires last { client ≤ length self.now.view.seats }
+        ensures { result.now ≡ (seat_of self.now.view client).call }
+    {
+        self.inner.clients.call(client)
     }
 
     /// The number of a client's last entry, 0 for none. Its next call has the next number.

@@ -1,8 +1,8 @@
 -- Whose turn it may be.
-use Rattle.std.specs.Prelude.{ℕ, ◌==◌, Bool, true, false, nat_lt, not, length}
+use Rattle.std.specs.Prelude.{ℕ, ◌≡◌, ◌≤◌, Bool, true, false, List, nat_lt, length}
 use Rattle.sg_plain.specs.Calls.{script_calls}
 use Rattle.sg_script.specs.declared.script.Script.{Script}
-use Rattle.sg_seat.specs.WorldView.{Seat}
+use Rattle.sg_seat.specs.WorldView.{Seat, seat_in}
 use Rattle.sg_seat.specs.declared.phase.Phase.{Phase}
 use Rattle.sg_seat.specs.declared.phase.Phase.TheVariants.{Idle, Asked, Held, Receipted, Blocked, Left}
 
@@ -27,3 +27,7 @@ may_go Blocked more = false
 -- a client may take a turn
 abbrev pub may_take_turn : Script → ℕ → Seat → Bool
 may_take_turn script client s = may_go s.phase (nat_lt s.seq (length (script_calls script client)))
+
+-- no client may take a turn
+abbrev pub NobodyGoes : Script → List Seat → Type 0
+NobodyGoes script seats = (client : ℕ) → 1 ≤ client → client ≤ length seats → may_take_turn script client (seat_in seats client) ≡ false
