@@ -1,1 +1,3 @@
+pub mod Finding
+pub mod Given
 pub mod Stepping

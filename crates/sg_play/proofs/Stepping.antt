@@ -41,7 +41,7 @@ pub record IsHandedTo (w : WorldView) (c : ℕ) (later : WorldView) : Type 0 whe
 
 module _ (z : Setting) (w : WorldView) (c : ℕ) (first : 1 ≤ c) (last : c ≤ length w.seats) (its : is_offered (seat_of w c).phase ≡ true → (seat_of w c).call.client ≡ c)
     (number : is_offered (seat_of w c).phase ≡ true → (seat_of w c).call.seq ≡ (seat_of w c).seq + 1) where
-  s : Seat
+  abbrev s : Seat
   s = seat_of w c
 
   quiet_same : IsQuiet w c w
@@ -61,17 +61,17 @@ module _ (z : Setting) (w : WorldView) (c : ℕ) (first : 1 ≤ c) (last : c ≤
 
   -- ---- an entry
 
-  entry_with : Reply → Entry
+  abbrev entry_with : Reply → Entry
   entry_with reply = record { call = s.call; reply = reply }
 
-  woken : Reply → List Seat
+  abbrev woken : Reply → List Seat
   woken reply = map (woken_seat (wakes_seat z.iface.facts (object_of z.iface.facts w.history).rows s.call reply)) w.seats
 
   within : (reply : Reply) → c ≤ length (woken reply)
   within reply = omega (arith, last, length_map (woken_seat (wakes_seat z.iface.facts (object_of z.iface.facts w.history).rows s.call reply)) w.seats)
 
   -- the client's seat behind the entry
-  behind : Reply → Phase → Reply → Seat
+  abbrev behind : Reply → Phase → Reply → Seat
   behind reply p kept = record (seat_in (woken reply) c) { phase = p; seq = s.call.seq; reply = kept }
 
   entered : (reply : Reply) (p : Phase) (kept : Reply) → is_offered s.phase ≡ true → is_offered p ≡ false → handed s ≤ handed (behind reply p kept)

@@ -1,5 +1,5 @@
 // A play: whose turn it is, and the play to its end.
-ghost use Rattle.std.specs.Prelude.{◌≡◌, ◌×◌, ◌≤◌, ◌<◌, ℕ, List, [], true, false, nat_lt, None, Some, IfOk, IfSome, length, map, replicate};
+ghost use Rattle.std.specs.Prelude.{◌≡◌, ◌≤◌, ◌<◌, ℕ, List, [], true, false, nat_lt, None, Some, IfOk, IfSome, length, map, replicate};
 ghost use Rattle.sg_hist.specs.declared.ended.End.{End as IsOneEnd};
 ghost use Rattle.sg_plain.specs.Calls.{AreEnds, IsEnd, callers, most_client};
 ghost use Rattle.sg_play.specs.Played.{IsPlayed};

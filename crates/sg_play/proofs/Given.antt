@@ -1,0 +1,50 @@
+-- What calls were given, as their entries tell it.
+use Rattle.std.proofs.Common.{◌≡◌, ◌⊎◌, ℕ, zero, suc, ◌+◌, ◌-◌, ◌<◌, ◌≤◌, List, [], ◌∷◌, ◌++◌, None, Some, length, map, refl, sym, ◌∙◌, ap, inl, inr, arith}
+use Rattle.std.specs.Prelude.{◌^◌, slice_get}
+use Rattle.sg_base.specs.declared.value.Value.{Value}
+use Rattle.sg_base.specs.declared.value.Value.TheVariants.{Word, Text}
+use Rattle.sg_facts.specs.Kinds.{AreWords}
+use Rattle.sg_facts.specs.declared.entry.Entry.{Entry}
+use Rattle.sg_facts.specs.declared.shape.Kind.{Kind}
+use Rattle.sg_hist.specs.Reading.{desc_in, desc_of}
+use Rattle.sg_play_laws.specs.Given.{AreGiven}
+use Rattle.sg_script.specs.declared.script.Arg.{Arg}
+use Rattle.sg_sim.specs.Script.{desc_among, id_of_call, values_of}
+
+-- the descriptor at a place
+pub given_at : (own : List Entry) (given : List ℕ) (k id : ℕ) → AreGiven own given → slice_get given k ≡ Some id → id ≡ desc_in (slice_get own k)
+given_at [] [] k id are there = absurd (cc there)
+given_at [] (g ∷ given) k id are there = absurd (cc are)
+given_at (e ∷ own) [] k id are there = absurd (cc are)
+given_at (e ∷ own) (g ∷ given) zero id are there = sym (cc there) ∙ sym (cc are)
+given_at (e ∷ own) (g ∷ given) (suc k) id are there = given_at own given k id (cc are) there
+
+pub given_none : (own : List Entry) (given : List ℕ) (k : ℕ) → AreGiven own given → slice_get given k ≡ None → 0 ≡ desc_in (slice_get own k)
+given_none [] given k are there = refl
+given_none (e ∷ own) [] k are there = absurd (cc are)
+given_none (e ∷ own) (g ∷ given) zero are there = absurd (cc there)
+given_none (e ∷ own) (g ∷ given) (suc k) are there = given_none own given k (cc are) there
+
+-- the number of a call is that of its place, and one
+pub id_at : (own : List Entry) (call : ℕ) → 1 ≤ call → id_of_call own call ≡ desc_in (slice_get own (call - 1))
+id_at own zero some = absurd (omega (arith, some))
+id_at own (suc k) some = ap (λ n. desc_in (slice_get own n)) (omega arith)
+
+-- where parameters or arguments end nothing is left
+pub no_more_desc : (own : List Entry) (kinds : List Kind) (args : List Arg) → (length kinds ≡ 0) ⊎ (length args ≡ 0) → desc_among own kinds args ≡ 0
+no_more_desc own [] args ends = refl
+no_more_desc own (k ∷ kinds) [] ends = refl
+no_more_desc own (k ∷ kinds) (a ∷ args) (inl none) = absurd (omega (arith, none))
+no_more_desc own (k ∷ kinds) (a ∷ args) (inr none) = absurd (omega (arith, none))
+
+pub no_more_values : (own : List Entry) (kinds : List Kind) (args : List Arg) → (length kinds ≡ 0) ⊎ (length args ≡ 0) → values_of own kinds args ≡ []
+no_more_values own [] args ends = refl
+no_more_values own (k ∷ kinds) [] ends = refl
+no_more_values own (k ∷ kinds) (a ∷ args) (inl none) = absurd (omega (arith, none))
+no_more_values own (k ∷ kinds) (a ∷ args) (inr none) = absurd (omega (arith, none))
+
+-- one value more
+pub words_more : (values : List Value) (value : Value) → AreWords values → AreWords (value ∷ []) → AreWords (values ++ value ∷ [])
+words_more [] value are one = one
+words_more (Word n ∷ values) value are one = (are.0, words_more values value are.1 one)
+words_more (Text bytes ∷ values) value are one = words_more values value are one

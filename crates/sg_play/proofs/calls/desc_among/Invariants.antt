@@ -1,0 +1,9 @@
+-- No descriptor or parent stands before the parameters that are left.
+use Rattle.std.proofs.Common.{◌≡◌, List}
+use Rattle.std.specs.Slice.Iter.{iter_rest}
+use Rattle.sg_facts.specs.declared.entry.Entry.{Entry}
+use Rattle.sg_sim.specs.Script.{desc_among}
+use Rattle.sg_play.proofs.calls.desc_among.Given as goal
+
+abbrev pub invariant-loop-kind : goal.invariant-loop-kind
+invariant-loop-kind l = (own : List Entry) → desc_among own l.kinds l.args ≡ desc_among own (iter_rest l.kind-iterator.a) (iter_rest l.kind-iterator.b)
