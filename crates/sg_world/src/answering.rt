@@ -63,8 +63,6 @@ impl<S: Service, T: Stops> Inner<S, T> {
             view_in self.new ≡ answered_to (committed self.old.engine.tables.iface.facts (view_in self.old) e) e }
         ensures rest { KeepsRest T.plan self.old self.new }
     {
-        // Its number is one of 32 bits, as the proof uses.
-        let _seq = self.clients.call(client).seq;
         let call = self.clients.refuse(alloc, client);
         self.history.add(Entry {
             call,
@@ -97,8 +95,6 @@ impl<S: Service, T: Stops> Inner<S, T> {
             view_in self.new ≡ answered_to (committed self.old.engine.tables.iface.facts (view_in self.old) e) e }
         ensures rest { KeepsRest T.plan self.old self.new }
     {
-        // Its number is one of 32 bits, as the proof uses.
-        let _seq = self.clients.call(client).seq;
         let Returned {
             entry,
             reply,

@@ -103,7 +103,6 @@ impl<S: Service, T: Stops> Inner<S, T> {
             → Commits z (with_points (view_with s.before self.old) asked) client (view_in self.new) }
         ensures rest { KeepsRest T.plan self.old self.new }
     {
-        let _seq = self.clients.call(client).seq;
         let entry = self.clients.give(client, &reply);
         self.engine.commit(&entry.call, reply, patch);
         wake(&mut self.clients, &self.engine, &entry);

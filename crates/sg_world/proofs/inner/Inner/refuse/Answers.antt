@@ -32,7 +32,7 @@ add-requires-3 g c =
 -- what `denied_on` and `denied_view` take
 module _ (g : Given.Over) (c : goal.After-add-3 g) where
   fits : (seat_in c.args.self.now.clients c.args.client).call.seq < 2 ^ 32
-  fits = subst (λ q. q.seq < 2 ^ 32) c.call.ensures (let f : c.call.result.now.seq < 2 ^ 32 = omega arith in f)
+  fits = subst (λ q. q.seq < 2 ^ 32) c.refuse-call.ensures.call c.refuse-call.ensures.number
 
   history : c.add.new.self.items ≡ c.args.self.now.history.items ++ record { call = (seat_in c.args.self.now.clients c.args.client).call; reply = Refused c.args.code } ∷ []
   history = c.add.ensures.items ∙ ap (λ q. c.args.self.now.history.items ++ record { call = q; reply = Refused c.args.code } ∷ []) c.refuse-call.ensures.call

@@ -50,7 +50,7 @@ returns-clause-reply g c = c.give_back-entry.ensures.answer
 -- what `returned_on` and `returned_view` take
 module _ (g : Given.Over) (c : goal.After-add-3 g) where
   fits : (seat_in c.args.self.now.clients c.args.client).call.seq < 2 ^ 32
-  fits = subst (λ q. q.seq < 2 ^ 32) c.call.ensures (let f : c.call.result.now.seq < 2 ^ 32 = omega arith in f)
+  fits = subst (λ en. en.call.seq < 2 ^ 32) c.give_back-entry.ensures.entry c.give_back-entry.ensures.number
 
   rows : c.commit.new.self.tracked.rows ≡ track c.args.self.now.engine.tables.iface.facts c.args.self.now.engine.tracked.rows (seat_in c.args.self.now.clients c.args.client).call (seat_in c.args.self.now.clients c.args.client).reply
   rows = c.commit.ensures.rows
