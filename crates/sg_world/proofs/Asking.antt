@@ -54,11 +54,34 @@ missing_same e new needs same =
         ap (λ bytes. if is_empty bytes || is_present new.present key then None else Some Load) (same.files key)
         ∙ ap (λ b. if is_empty (bytes_of e.stored key) || b then None else Some Load) (same.present key)
 
-module _ {S T : Type 0} (facts : Facts) (ask : Table) (sound : Object → Type 0) (parts : ℕ → ℕ) (test : ℕ → List ℕ → List ℕ → Type 0) (asked : T → ℕ) (struck plan : T → List ℕ) (x : Inner S T)
-    (order : IsInOrder ask sound parts test asked struck plan x) (service : x.engine.tables.iface.facts ≡ facts) (client : ℕ) (first : 1 ≤ client) (last : client ≤ length x.clients)
-    (let_in : PassesGuard (setting_of ask sound parts x.engine.tables) (view_in x) client) (up : IsSome x.engine.cell.running) (needs : Needs)
-    (needs_are : needs ≡ needs_in (setting_of ask sound parts x.engine.tables) (view_in x) (seat_in x.clients client).call) (whole : missing x.engine needs ≡ None)
-    (e : Engined) (same : ShowsSame x.engine e) (tables : e.tables ≡ x.engine.tables) (places : e.stored.clients ≡ x.engine.stored.clients) where
+-- the service of parts that stand in order may be asked a client's call, by an engine that shows the same and has taken its memory
+pub record MayBeServed {S T : Type 0} (facts : Facts) (ask : Table) (sound : Object → Type 0) (parts : ℕ → ℕ) (test : ℕ → List ℕ → List ℕ → Type 0) (asked : T → ℕ) (struck plan : T → List ℕ) (x : Inner S T) (client : ℕ) (needs : Needs)
+    (e : Engined) : Type 0 where
+  pub order : IsInOrder ask sound parts test asked struck plan x
+  pub service : x.engine.tables.iface.facts ≡ facts
+  pub first : 1 ≤ client
+  pub last : client ≤ length x.clients
+  pub let_in : PassesGuard (setting_of ask sound parts x.engine.tables) (view_in x) client
+  pub up : IsSome x.engine.cell.running
+  pub needs_are : needs ≡ needs_in (setting_of ask sound parts x.engine.tables) (view_in x) (seat_in x.clients client).call
+  pub whole : missing x.engine needs ≡ None
+  pub same : ShowsSame x.engine e
+  pub tables : e.tables ≡ x.engine.tables
+  pub places : e.stored.clients ≡ x.engine.stored.clients
+
+-- an engine that asked, with the stops since, changed nothing but its cell and its names
+pub record HasAsked {T : Type 0} (test : ℕ → List ℕ → List ℕ → Type 0) (asked : T → ℕ) (struck plan : T → List ℕ) (e : Engined) (before : T) (new : Engined) (stops : T) : Type 0 where
+  pub tables_kept : new.tables ≡ e.tables
+  pub stored_kept : new.stored ≡ e.stored
+  pub tracked_kept : new.tracked ≡ e.tracked
+  pub present_kept : new.present ≡ e.present
+  pub plan_kept : plan stops ≡ plan before
+  pub tested : test (asked stops) (struck stops) (plan stops)
+
+module _ {S T : Type 0} {facts : Facts} {ask : Table} {sound : Object → Type 0} {parts : ℕ → ℕ} {test : ℕ → List ℕ → List ℕ → Type 0} {asked : T → ℕ} {struck plan : T → List ℕ} {x : Inner S T} {client : ℕ} {needs : Needs} {e : Engined}
+    (m : MayBeServed facts ask sound parts test asked struck plan x client needs e) where
+  open m use {order, service, first, last, let_in, up, needs_are, whole, same, tables, places}
+
   abbrev z : Setting
   z = setting_of ask sound parts x.engine.tables
 
@@ -119,8 +142,9 @@ module _ {S T : Type 0} (facts : Facts) (ask : Table) (sound : Object → Type 0
   abbrev start : Points
   start = record { asked = asked x.stops; struck = struck x.stops }
 
-  module _ (new : Engined) (stops : T) (tables_kept : new.tables ≡ e.tables) (stored_kept : new.stored ≡ e.stored) (tracked_kept : new.tracked ≡ e.tracked) (present_kept : new.present ≡ e.present)
-      (plan_kept : plan stops ≡ plan x.stops) (tested : test (asked stops) (struck stops) (plan stops)) where
+  module _ {new : Engined} {stops : T} (h : HasAsked test asked struck plan e x.stops new stops) where
+    open h use {tables_kept, stored_kept, tracked_kept, present_kept, plan_kept, tested}
+
     abbrev later : Points
     later = record { asked = asked stops; struck = struck stops }
 
