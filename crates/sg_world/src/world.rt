@@ -1,5 +1,5 @@
 // The service, its clients, and what they did.
-ghost use Rattle.std.specs.Prelude.{◌≡◌, ◌+◌, ◌≤◌, ◌<◌, ◌-◌, ◌^◌, ◌∷◌, ◌++◌, ℕ, true, List, [], None, Some, IfOk, OnOk, OnErr, length, map, replicate, slice_get};
+ghost use Rattle.std.specs.Prelude.{◌≡◌, ◌+◌, ◌≤◌, ◌<◌, ◌-◌, ◌^◌, true, [], None, IfOk, OnOk, OnErr, length, replicate};
 ghost use Rattle.std.specs.List.{list_all};
 ghost use Rattle.std.specs.Option.{option_copied, option_map};
 ghost use Rattle.sg_facts.specs.Kinds.{AreWords, FitsKinds};
@@ -12,8 +12,6 @@ ghost use Rattle.sg_hist.specs.Clients.{calls_of};
 ghost use Rattle.sg_hist.specs.Recovered.{AreInBoots, IsRecovered, struck_in};
 ghost use Rattle.sg_recovery_laws.specs.Growing.{IsRecovering};
 ghost use Rattle.sg_world_laws.specs.Setting.{stubs_of};
-ghost use Rattle.sg_base.specs.declared.call.Call.{Call as IsCall};
-ghost use Rattle.sg_base.specs.Counts.{last_count};
 ghost use Rattle.sg_world.specs.Steps.{AnswersLast, HasStepped, WantsMemory};
 ghost use Rattle.sg_world.specs.Worlded.{CountsAll, setting_of};
 ghost use Rattle.sg_seat.specs.declared.phase.Phase.TheVariants.{Blocked};
@@ -46,9 +44,8 @@ impl<S: Service, T: Stops> Model for World<S, T> {
 
     ghost view = { λ w. record { tables = w.inner.engine.tables; view = view_in w.inner; plan = T.plan w.inner.stops } };
 
-    ghost invariant = { λ w. IsInOrder S.ask S.sound S.parts T.test T.asked T.struck T.plan w.inner
-        × CountsAll (setting_of S.ask S.sound S.parts w.inner.engine.tables) (view_in w.inner)
-        × (w.inner.engine.tables.iface.facts ≡ S.facts) };
+    ghost invariant = { λ w. IsInOrder S.facts S.ask S.sound S.parts T.test T.asked T.struck T.plan w.inner
+        × CountsAll (setting_of S.ask S.sound S.parts w.inner.engine.tables) (view_in w.inner) };
 }
 
 impl<S: Service, T: Stops> World<S, T> {

@@ -128,6 +128,7 @@ returns-clause-order g c =
           ∙ length_set x.clients (c.args.client - 1) new in
           let was = s.places in
           omega (arith, same, was));
+      service = ap (λ t. t.iface.facts) c.commit.ensures.tables ∙ c.requires.service;
     }
 
 pub returns-clause-commits : goal.returns-clause-commits

@@ -56,4 +56,5 @@ returns-clause-order g c =
           c.add.ensures.room (omega arith) (let one = c.add-2.ensures.room in let two = c.add-3.ensures.room in omega (arith, one, two));
       points = record { asked_so = c.requires.order.points.asked_so; struck_so = c.requires.order.points.struck_so; tested = c.requires.order.points.tested };
       clients = (let s : Seat = seat_in x.clients c.args.client in let same = ap length c.refuse-call.ensures.seats ∙ length_set x.clients (c.args.client - 1) (record s { phase = Idle; seq = s.call.seq; reply = no_reply }) in let was = c.requires.order.clients in omega (arith, same, was));
+      service = c.requires.order.service;
     }

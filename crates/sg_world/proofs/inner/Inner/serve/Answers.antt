@@ -23,7 +23,6 @@ module _ (g : Given.Over) (c : After-reserve g) where
   may : MayBeServed g.S.Service.facts g.S.Service.ask g.S.Service.sound g.S.Service.parts g.T.Stops.test g.T.Stops.asked g.T.Stops.struck g.T.Stops.plan c.args.self.now c.args.client c.args.needs.now c.reserve.new.self
   may = record {
     order = c.requires.order;
-    service = c.requires.service;
     first = c.requires.first;
     last = c.requires.last;
     let_in = c.requires.let_in;
@@ -67,7 +66,7 @@ module _ (g : Given.Over) (c : After-serve g) where
   turn : (outcome : Outcome) → c.serve.result ≡ outcome
       → ServesOne c.args.self.now.engine.tables.iface.facts g.S.Service.ask g.S.Service.parts (held ready) c.reserve.new.self (seat_in c.args.self.now.clients c.args.client).call start outcome c.serve.new.self later
   turn outcome is =
-      subst (λ (f : Facts). ServesOne f g.S.Service.ask g.S.Service.parts (held ready) c.reserve.new.self (seat_in c.args.self.now.clients c.args.client).call start outcome c.serve.new.self later) (sym c.requires.service)
+      subst (λ (f : Facts). ServesOne f g.S.Service.ask g.S.Service.parts (held ready) c.reserve.new.self (seat_in c.args.self.now.clients c.args.client).call start outcome c.serve.new.self later) (sym c.requires.order.service)
       (subst (λ (q : Call). ServesOne g.S.Service.facts g.S.Service.ask g.S.Service.parts (held ready) c.reserve.new.self q start outcome c.serve.new.self later) c.call-2.ensures
       (subst (λ (o : Outcome). ServesOne g.S.Service.facts g.S.Service.ask g.S.Service.parts (held ready) c.reserve.new.self c.call-2.result.now start o c.serve.new.self later) is (c.serve.ensures.outcome (held ready) (held_is ready))))
 
