@@ -54,11 +54,33 @@ missing_same e new needs same =
         ap (λ bytes. if is_empty bytes || is_present new.present key then None else Some Load) (same.files key)
         ∙ ap (λ b. if is_empty (bytes_of e.stored key) || b then None else Some Load) (same.present key)
 
-module _ {S T : Type 0} (facts : Facts) (ask : Table) (sound : Object → Type 0) (parts : ℕ → ℕ) (test : ℕ → List ℕ → List ℕ → Type 0) (asked : T → ℕ) (struck plan : T → List ℕ) (x : Inner S T)
-    (order : IsInOrder ask sound parts test asked struck plan x) (service : x.engine.tables.iface.facts ≡ facts) (client : ℕ) (first : 1 ≤ client) (last : client ≤ length x.clients)
-    (let_in : PassesGuard (setting_of ask sound parts x.engine.tables) (view_in x) client) (up : IsSome x.engine.cell.running) (needs : Needs)
-    (needs_are : needs ≡ needs_in (setting_of ask sound parts x.engine.tables) (view_in x) (seat_in x.clients client).call) (whole : missing x.engine needs ≡ None)
-    (e : Engined) (same : ShowsSame x.engine e) (tables : e.tables ≡ x.engine.tables) (places : e.stored.clients ≡ x.engine.stored.clients) where
+-- the service of parts that stand in order may be asked a client's call, by an engine that shows the same and has taken its memory
+pub record MayBeServed {S T : Type 0} (facts : Facts) (ask : Table) (sound : Object → Type 0) (parts : ℕ → ℕ) (test : ℕ → List ℕ → List ℕ → Type 0) (asked : T → ℕ) (struck plan : T → List ℕ) (x : Inner S T) (client : ℕ) (needs : Needs)
+    (e : Engined) : Type 0 where
+  pub order : IsInOrder facts ask sound parts test asked struck plan x
+  pub first : 1 ≤ client
+  pub last : client ≤ length x.clients
+  pub let_in : PassesGuard (setting_of ask sound parts x.engine.tables) (view_in x) client
+  pub up : IsSome x.engine.cell.running
+  pub needs_are : needs ≡ needs_in (setting_of ask sound parts x.engine.tables) (view_in x) (seat_in x.clients client).call
+  pub whole : missing x.engine needs ≡ None
+  pub same : ShowsSame x.engine e
+  pub tables : e.tables ≡ x.engine.tables
+  pub places : e.stored.clients ≡ x.engine.stored.clients
+
+-- an engine that asked, with the stops since, changed nothing but its cell and its names
+pub record HasAsked {T : Type 0} (test : ℕ → List ℕ → List ℕ → Type 0) (asked : T → ℕ) (struck plan : T → List ℕ) (e : Engined) (before : T) (new : Engined) (stops : T) : Type 0 where
+  pub tables_kept : new.tables ≡ e.tables
+  pub stored_kept : new.stored ≡ e.stored
+  pub tracked_kept : new.tracked ≡ e.tracked
+  pub present_kept : new.present ≡ e.present
+  pub plan_kept : plan stops ≡ plan before
+  pub tested : test (asked stops) (struck stops) (plan stops)
+
+module _ {S T : Type 0} {facts : Facts} {ask : Table} {sound : Object → Type 0} {parts : ℕ → ℕ} {test : ℕ → List ℕ → List ℕ → Type 0} {asked : T → ℕ} {struck plan : T → List ℕ} {x : Inner S T} {client : ℕ} {needs : Needs} {e : Engined}
+    (m : MayBeServed facts ask sound parts test asked struck plan x client needs e) where
+  open m use {order, first, last, let_in, up, needs_are, whole, same, tables, places}
+
   abbrev z : Setting
   z = setting_of ask sound parts x.engine.tables
 
@@ -97,17 +119,18 @@ module _ {S T : Type 0} (facts : Facts) (ask : Table) (sound : Object → Type 0
   placed = subst (λ n. length x.clients ≤ n) (sym places) order.clients
 
   -- where there was no memory
-  pub unserved_order : IsInOrder ask sound parts test asked struck plan (record x { engine = e })
+  pub unserved_order : IsInOrder facts ask sound parts test asked struck plan (record x { engine = e })
   unserved_order = record {
     world = subst (λ t. IsWorld (setting_of ask sound parts t) e (view_with e x) (rooms_in x)) (sym tables) world;
     points = record { asked_so = asked_so; struck_so = struck_so; tested = order.points.tested };
     clients = placed;
+    service = ap (λ t. t.iface.facts) tables ∙ order.service;
   }
 
   -- the call may be served
   pub may_be_served : (call : Call) → call ≡ (seat_in x.clients client).call → 1 ≤ e.cell.room → 1 ≤ e.names.spare → MayServe facts ask e call
   may_be_served call its room name_room =
-      subst (λ f. MayServe f ask e call) service (subst (MayServe z.iface.facts ask e) (sym its)
+      subst (λ f. MayServe f ask e call) order.service (subst (MayServe z.iface.facts ask e) (sym its)
       (may_serve z world.set w (sp z e w (rooms_in x) world refl refl walks_are client first last passes held held_is all_whole).first
       (sp z e w (rooms_in x) world refl refl walks_are client first last passes held held_is all_whole).others held e (λ id. told_of (named_at e.names.known id)) (λ path. is_present e.present path)
       (k z e w (rooms_in x) world refl refl walks_are client first last passes held held_is all_whole) (seat_in x.clients client).call
@@ -119,8 +142,9 @@ module _ {S T : Type 0} (facts : Facts) (ask : Table) (sound : Object → Type 0
   abbrev start : Points
   start = record { asked = asked x.stops; struck = struck x.stops }
 
-  module _ (new : Engined) (stops : T) (tables_kept : new.tables ≡ e.tables) (stored_kept : new.stored ≡ e.stored) (tracked_kept : new.tracked ≡ e.tracked) (present_kept : new.present ≡ e.present)
-      (plan_kept : plan stops ≡ plan x.stops) (tested : test (asked stops) (struck stops) (plan stops)) where
+  module _ {new : Engined} {stops : T} (h : HasAsked test asked struck plan e x.stops new stops) where
+    open h use {tables_kept, stored_kept, tracked_kept, present_kept, plan_kept, tested}
+
     abbrev later : Points
     later = record { asked = asked stops; struck = struck stops }
 
@@ -142,7 +166,7 @@ module _ {S T : Type 0} (facts : Facts) (ask : Table) (sound : Object → Type 0
       tells : TellSame (stub_of e) (stub_of new)
       tells = tell_same told_of refl (λ real. refl) e.names.known new.names.known (λ path. is_present e.present path) (λ path. is_present new.present path) s.1 (λ path. ap (λ p. is_present p path) present_kept)
 
-      pub waits_order : IsInOrder ask sound parts test asked struck plan (record x { engine = new; stops = stops; clients = seats })
+      pub waits_order : IsInOrder facts ask sound parts test asked struck plan (record x { engine = new; stops = stops; clients = seats })
       waits_order = record {
         world = subst (λ t. IsWorld (setting_of ask sound parts t) new (record (as_shown w new) { seats = seats }) (rooms_in x)) (sym all_tables)
             (waits_on z e w (rooms_in x) world refl refl walks_are client first last passes held held_is all_whole (asked x.stops) s.0.unanswered new s.0.run s.0.running stores tells seats set);
@@ -152,6 +176,7 @@ module _ {S T : Type 0} (facts : Facts) (ask : Table) (sound : Object → Type 0
           tested = tested;
         };
         clients = (let long = ap length set ∙ length_set x.clients (client - 1) (record (seat_in x.clients client) { phase = Blocked }) in subst (λ n. n ≤ new.stored.clients) (sym long) still_placed);
+        service = ap (λ t. t.iface.facts) all_tables ∙ order.service;
       }
 
       pub waits_line_now : (n : ℕ) → (view_in x).run.points ≡ asked_after n 1
@@ -161,7 +186,7 @@ module _ {S T : Type 0} (facts : Facts) (ask : Table) (sound : Object → Type 0
 
     -- the service stops within the call
     module _ (s : ServesOne x.engine.tables.iface.facts ask parts held e (seat_in x.clients client).call (record { asked = asked x.stops; struck = struck x.stops }) Stopped new (record { asked = asked stops; struck = struck stops })) where
-      pub stops_order : IsInOrder ask sound parts test asked struck plan (record x { engine = new; stops = stops })
+      pub stops_order : IsInOrder facts ask sound parts test asked struck plan (record x { engine = new; stops = stops })
       stops_order =
           let counts = stops_counted z e w (rooms_in x) world refl refl walks_are client first last passes held held_is all_whole start new later s.0 struck_so in
           record {
@@ -169,6 +194,7 @@ module _ {S T : Type 0} (facts : Facts) (ask : Table) (sound : Object → Type 0
                 (stops_on z e w (rooms_in x) world refl refl walks_are client first last passes held held_is all_whole start new later s.0 stores);
             points = record { asked_so = counts.0; struck_so = counts.1; tested = tested };
             clients = still_placed;
+            service = ap (λ t. t.iface.facts) all_tables ∙ order.service;
           }
 
       pub stops_line_now : (n : ℕ) → (view_in x).run.points ≡ asked_after n 1 → StopsCall (setting_of ask sound parts x.engine.tables) (with_points (view_in x) n) client (view_in (record x { engine = new; stops = stops }))
@@ -180,7 +206,7 @@ module _ {S T : Type 0} (facts : Facts) (ask : Table) (sound : Object → Type 0
       shown_same : view_with new x ≡ view_with e x
       shown_same = ap (λ (r : Run). record w { run = r; running = new.cell.running }) s.0.run ∙ ap (λ r. record w { running = r }) s.0.running
 
-      pub nothing_order : IsInOrder ask sound parts test asked struck plan (record x { engine = new; stops = stops })
+      pub nothing_order : IsInOrder facts ask sound parts test asked struck plan (record x { engine = new; stops = stops })
       nothing_order = record {
         world = subst (λ t. IsWorld (setting_of ask sound parts t) new (view_with new x) (rooms_in x)) (sym all_tables)
             (subst (λ v. IsWorld z new v (rooms_in x)) (sym shown_same) (record {
@@ -197,6 +223,7 @@ module _ {S T : Type 0} (facts : Facts) (ask : Table) (sound : Object → Type 0
           tested = tested;
         };
         clients = still_placed;
+        service = ap (λ t. t.iface.facts) all_tables ∙ order.service;
       }
 
       pub nothing_shown : view_in (record x { engine = new; stops = stops }) ≡ view_in x
@@ -213,7 +240,7 @@ module _ {S T : Type 0} (facts : Facts) (ask : Table) (sound : Object → Type 0
         world = world;
         places = placed;
         counts = record { asked_so = asked_so; struck_so = struck_so; tested = subst (λ p. test (asked x.stops) (struck x.stops) p) (sym plan_kept) order.points.tested };
-        is_engine = subst (λ f. IsEngine f e) (sym service) engine;
+        is_engine = subst (λ f. IsEngine f e) (sym order.service) engine;
         held = held;
         up = held_is;
         let_in = passes;

@@ -1,6 +1,5 @@
 -- A world keeps what it keeps where only the number of its points changes, and where its service stops at a point.
 use Rattle.std.proofs.Common.{IsSome, List, None, Option, Some, [], ap, append_assoc, flat_map, refl, subst, sym, ℕ, ◌++◌, ◌∙◌, ◌∷◌, ◌≡◌, ◌≢◌}
-use Rattle.sg_base.specs.declared.call.Call.{Call}
 use Rattle.sg_boot.specs.Cells.{IsRunning}
 use Rattle.sg_boot.specs.Invoking.{with_stop}
 use Rattle.sg_engine_laws.specs.Engines.{as_shown}
@@ -11,15 +10,15 @@ use Rattle.sg_facts.specs.Trace.{Boot}
 use Rattle.sg_facts.specs.declared.entry.Entry.{Entry}
 use Rattle.sg_facts.specs.declared.trace.Item.{Item}
 use Rattle.sg_hist.specs.Recovered.{stop_in}
-use Rattle.sg_recovery_laws.proofs.Lists.{each_map}
-use Rattle.sg_recovery_laws.specs.Growing.{booted, IsInLast, IsRecovering, last_stop, noted, struck}
+use Rattle.sg_recovery_laws.specs.Growing.{booted, last_stop, noted, struck}
 use Rattle.sg_replay.specs.Engined.{Engined}
-use Rattle.sg_seat.specs.WorldView.{WorldView, held_replies, unanswered, with_points}
+use Rattle.sg_seat.specs.WorldView.{WorldView, with_points}
 use Rattle.sg_store.specs.Stored.{bytes_of}
 use Rattle.sg_world.specs.Worlded.{IsWorld, Rooms, StoresObject}
+use Rattle.sg_world_laws.proofs.Points.{with_points_keeps}
 use Rattle.sg_world_laws.proofs.Struck.{stopped_between}
-use Rattle.sg_world_laws.specs.Keeping.{KeepsPromise, Stands, StandsIn, Stub}
-use Rattle.sg_world_laws.specs.Setting.{Setting, stubs_of}
+use Rattle.sg_world_laws.specs.Keeping.{KeepsPromise}
+use Rattle.sg_world_laws.specs.Setting.{Setting}
 
 -- ---- the points at which the service stopped
 
@@ -43,41 +42,6 @@ stops_noted (b ∷ c ∷ boots) item = ap (λ l. stop_in b.stop ++ l) (stops_not
 pub stops_booted : (boots : List Boot) → flat_map (λ b. stop_in b.stop) (booted boots) ≡ flat_map (λ b. stop_in b.stop) boots
 stops_booted [] = refl
 stops_booted (b ∷ boots) = ap (λ l. stop_in b.stop ++ l) (stops_booted boots)
-
--- ---- another number of points
-
-module _ (z : Setting) (w : WorldView) (stub : Stub) (n : ℕ) where
-  stands_counted : (v : Object) → Stands z w stub v → Stands z (with_points w n) stub v
-  stands_counted v up = record { numbers = up.numbers; named_live = up.named_live; in_recovery = up.in_recovery; read = up.read; unnamed = up.unnamed }
-
-  stands_in_counted : (running : Option Object) → StandsIn z w stub running → StandsIn z (with_points w n) stub running
-  stands_in_counted None stands = tt
-  stands_in_counted (Some v) stands = stands_counted v stands
-
-  recovering_counted : (h : List Entry) (u : List Call) → IsRecovering (stubs_of z) h w.run u → IsRecovering (stubs_of z) h (record { boots = w.run.boots; points = n }) u
-  recovering_counted h u r = record {
-    reboots = record { booted = r.reboots.booted; table = r.reboots.table; stopped = r.reboots.stopped; last = r.reboots.last };
-    served = record { calls = r.served.calls; items = r.served.items; committed = r.served.committed; order = r.served.order };
-    walks = r.walks;
-    on_demand = r.on_demand;
-    tracked_state = r.tracked_state;
-  }
-
-  pub keeps_counted : KeepsPromise z w stub → KeepsPromise z (with_points w n) stub
-  keeps_counted k = record {
-    legal = k.legal;
-    calls = k.calls;
-    object = k.object;
-    seats = k.seats;
-    waiting = k.waiting;
-    enter = k.enter;
-    items = k.items;
-    held_items = each_map (IsInLast w.run) (IsInLast (record { boots = w.run.boots; points = n })) (held_replies w) (λ e is. record { place = is.place; its = is.its; older = is.older }) k.held_items;
-    in_boots = k.in_boots;
-    recovering = λ es drawn. recovering_counted (w.history ++ es) (unanswered w) (k.recovering es drawn);
-    cell = k.cell;
-    stands = stands_in_counted w.running k.stands;
-  }
 
 -- ---- a service that is up
 
@@ -116,7 +80,7 @@ module _ (z : Setting) (e : Engined) (w : WorldView) (rooms : Rooms) (is : IsWor
   pub counted_on : (n : ℕ) → IsWorld z (record e { cell = record e.cell { run = record e.cell.run { points = n } } }) (with_points w n) rooms
   counted_on n = record {
     set = is.set;
-    keeps = keeps_counted z w (stub_of e) n is.keeps;
+    keeps = with_points_keeps z w (stub_of e) n is.keeps;
     tracked = record { rows = is.tracked.rows; given = is.tracked.given; files = is.tracked.files };
     rooms_are = is.rooms_are;
     marked = record { entries = is.marked.entries; withdrawals = is.marked.withdrawals; phases = is.marked.phases };

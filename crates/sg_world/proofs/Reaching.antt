@@ -144,12 +144,8 @@ module _ (z : Setting) (e : Engined) (w : WorldView) (rooms : Rooms) (is : IsWor
           → new.cell.running ≡ Some v → (seats : List Seat) → seats ≡ slice_set w.seats (client - 1) (record (seat_of w client) { phase = Blocked })
           → WaitsNow z (with_points w asked) client (record (as_shown w new) { seats = seats })
       waits_line asked points_are new grown now seats set = record {
-        service = v;
-        reaches = reaches_now asked;
+        asks = record { service = v; reaches = reaches_now asked; item = waiting; tag = ap (λ c. Client c call.seq) (own z e w rooms is run running walks client first last let_in v up); shown = refl };
         none = waits_at;
-        item = waiting;
-        tag = ap (λ c. Client c call.seq) (own z e w rooms is run running walks client first last let_in v up);
-        shown = refl;
         outcome = refl;
         noted = record { next = waits_next; points = λ less. use_next asked points points_are (ltb-true points last_count less) };
         now = ap (λ (r : Run). record w { run = r; running = new.cell.running; seats = seats }) (grown ∙ ap (λ (r : Run). with_item r waiting points) run)
@@ -207,11 +203,7 @@ module _ (z : Setting) (e : Engined) (w : WorldView) (rooms : Rooms) (is : IsWor
         let folded : IsUp z.iface.facts w.run.boots v = subst (IsRunning z.iface.facts w.run.boots) up is.keeps.cell.runs in
         let answered : answer_to z.iface.facts z.ask (last_items w.run.boots) item ≡ Some s.stops.reply = ap (λ o. z.ask o (real_call e call)) (sym folded.folded) ∙ s.stops.answered in
         record {
-          service = v;
-          reaches = reaches_now asked;
-          item = item;
-          tag = ap (λ c. Client c call.seq) (own z e w rooms is run running walks client first last let_in v up);
-          shown = refl;
+          asks = record { service = v; reaches = reaches_now asked; item = item; tag = ap (λ c. Client c call.seq) (own z e w rooms is run running walks client first last let_in v up); shown = refl };
           outcome = refl;
           noted = record {
             next = stops_next later.asked some;

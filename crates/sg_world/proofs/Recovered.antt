@@ -1,12 +1,15 @@
--- What a world keeps, read at its history and its trace.
-use Rattle.std.proofs.Common.{[], append-nil, subst, ◌≡◌}
+-- What a world keeps, read at its history, its trace and its seats.
+use Rattle.std.proofs.Common.{ℕ, List, length, [], append-nil, subst, sym, ◌≡◌, ◌≤◌}
 use Rattle.std.specs.Prelude.{◌==◌}
-use Rattle.sg_hist.specs.Recovered.{ArePointsOf, IsRecovered}
+use Rattle.sg_hist.specs.Recovered.{ArePointsOf, IsRecovered, struck_in}
 use Rattle.sg_recovery_laws.specs.Growing.{IsRecovering}
-use Rattle.sg_seat.specs.WorldView.{WorldView, held_replies, unanswered}
-use Rattle.sg_world.specs.Worlded.{CountsAll}
+use Rattle.sg_seat.specs.WorldView.{WorldView, held_replies, seat_of, unanswered}
+use Rattle.sg_world.specs.Worlded.{CountsAll, CountsPoints}
+use Rattle.sg_world_laws.proofs.Moves.{its_seat}
 use Rattle.sg_world_laws.proofs.Struck.{no_drawn}
+use Rattle.sg_world_laws.proofs.Turns.{seat_there}
 use Rattle.sg_world_laws.specs.Keeping.{KeepsPromise, Stub}
+use Rattle.sg_world_laws.specs.Seats.{IsSeated}
 use Rattle.sg_world_laws.specs.Setting.{Setting, stubs_of}
 
 module _ (z : Setting) (w : WorldView) (stub : Stub) (k : KeepsPromise z w stub) where
@@ -25,3 +28,12 @@ module _ (z : Setting) (w : WorldView) (stub : Stub) (k : KeepsPromise z w stub)
     points = λ less. subst (λ n. ArePointsOf (n == 0) z.iface.facts z.ask z.parts 0 w.run.boots w.run.points) none (counts less);
     held = k.in_boots;
   }
+
+  -- each client's seat is as its phase says
+  pub seated_now : (client : ℕ) → 1 ≤ client → client ≤ length w.seats → IsSeated z w.history client (seat_of w client)
+  seated_now client first last =
+      its_seat z w stub k client (seat_of w client) (seat_there w client first last) first (seat_of w client) w.withdrawn w.marks w.events w.refused
+
+-- the points and the stops of the trace meet the test of the stops
+pub tested_now : (test : ℕ → List ℕ → List ℕ → Type 0) (w : WorldView) (asked : ℕ) (struck plan : List ℕ) → CountsPoints test w asked struck plan → test w.run.points (struck_in w.run) plan
+tested_now test w asked struck plan counts = subst (λ n. test n (struck_in w.run) plan) (sym counts.asked_so) (subst (λ l. test asked l plan) (sym counts.struck_so) counts.tested)

@@ -64,7 +64,7 @@ use Rattle.sg_world.specs.Due.{needs_in}
 use Rattle.sg_world.specs.Inside.Served.{HasRooms}
 use Rattle.sg_world.specs.Inside.Waiting.{WaitOnLive}
 use Rattle.sg_world.specs.Marked.{AreTold, TellsAll}
-use Rattle.sg_world.specs.Steps.{Commits, Holds, PassesGuard}
+use Rattle.sg_world.specs.Steps.{AsksService, Commits, Holds, PassesGuard}
 use Rattle.sg_world.specs.Worlded.{HaveRooms, IsWorld, Rooms, StoresObject}
 use Rattle.sg_world_laws.proofs.Alike.{keeps_alike}
 use Rattle.sg_world_laws.proofs.Asked.{serves_call}
@@ -151,6 +151,9 @@ module _ (z : Setting) (e : Engined) (w : WorldView) (rooms : Rooms) (is : IsWor
   at_place : (l : List Entry) (u : List Call) → IsNextItem (stubs_of z) l u (place_behind [] (b ∷ boots) item) → IsNextItem (stubs_of z) l u (place_behind [] w.run.boots item)
   at_place l u next = subst (λ x. IsNextItem (stubs_of z) l u (place_behind [] x item)) (sym (sp z e w rooms is run running walks client first last let_in v up whole).boots) next
 
+  abbrev asks_now : (asked : ℕ) → AsksService z (with_points w asked) client
+  asks_now asked = record { service = v; reaches = reaches_now z e w rooms is run running walks client first last let_in v up whole asked; item = item; tag = ap (λ c. Client c call.seq) own_client; shown = refl }
+
   -- ---- the reply is held
 
   module _ (hidden : is_visible z.iface.facts (seat_of w client).call.fun ≡ false) (tracked_same : new.tracked ≡ e.tracked) (stored_same : new.stored ≡ e.stored) (present_same : new.present ≡ e.present)
@@ -190,14 +193,10 @@ module _ (z : Setting) (e : Engined) (w : WorldView) (rooms : Rooms) (is : IsWor
 
     pub held_line : (asked : ℕ) → start.asked ≡ asked_after asked 1 → Holds z (with_points w asked) client (record (as_shown w new) { seats = seats })
     held_line asked start_is = record {
-      service = v;
-      reaches = reaches_now z e w rooms is run running walks client first last let_in v up whole asked;
+      asks = asks_now asked;
       hidden = hidden;
       reply = reply;
       answers = answers_now;
-      item = item;
-      tag = ap (λ c. Client c call.seq) own_client;
-      shown = refl;
       outcome = refl;
       noted = record {
         next = at_place w.history (unanswered holding)
@@ -287,14 +286,10 @@ module _ (z : Setting) (e : Engined) (w : WorldView) (rooms : Rooms) (is : IsWor
 
     pub committed_line : (asked : ℕ) → start.asked ≡ asked_after asked 1 → is_visible z.iface.facts (seat_of w client).call.fun ≡ true → Commits z (with_points w asked) client (record (as_shown w done) { history = history; seats = seats; marks = marks })
     committed_line asked start_is visible = record {
-      service = v;
-      reaches = reaches_now z e w rooms is run running walks client first last let_in v up whole asked;
+      asks = asks_now asked;
       visible = visible;
       reply = reply;
       answers = answers_now;
-      item = item;
-      tag = ap (λ c. Client c call.seq) own_client;
-      shown = refl;
       outcome = refl;
       noted = record {
         next = at_place (w.history ++ entry ∷ []) (unanswered committing) (committed_next z is.set w b boots v (stub_of e) kept call item reply t.reply patch served_now committing by_done);

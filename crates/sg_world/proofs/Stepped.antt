@@ -163,14 +163,11 @@ module _ (z : Setting) (w : WorldView) (c : ℕ) (cell : IsCell z.iface.facts w.
 
   -- a point behind the commit of a visible call
   module _ (between : WorldView) (s : Commits z w c between) where
-    abbrev item : Item
-    item = s.item
-
-    between_run : (between.run.boots ≡ noted w.run.boots s.item) × (between.run.points ≡ s.item.points) × (between.refused ≡ w.refused)
+    between_run : (between.run.boots ≡ noted w.run.boots s.asks.item) × (between.run.points ≡ s.asks.item.points) × (between.refused ≡ w.refused)
     between_run = (ap (λ x. x.run.boots) s.now, ap (λ x. x.run.points) s.now, ap (λ x. x.refused) s.now)
 
-    visible_reply : is_visible_reply z.iface.facts s.item ≡ true
-    visible_reply = both (is_clients s.item.tag) (is_visible z.iface.facts s.item.shown.fun) (is_replied s.item.outcome) (ap is_clients s.tag) (ap (λ x. is_visible z.iface.facts x.fun) s.shown ∙ s.visible) s.outcome
+    visible_reply : is_visible_reply z.iface.facts s.asks.item ≡ true
+    visible_reply = both (is_clients s.asks.item.tag) (is_visible z.iface.facts s.asks.item.shown.fun) (is_replied s.asks.item.outcome) (ap is_clients s.asks.tag) (ap (λ x. is_visible z.iface.facts x.fun) s.asks.shown ∙ s.visible) s.outcome
       where
         both : (a b d : Bool) → a ≡ true → b ≡ true → d ≡ true → (a && b && d) ≡ true
         both true true true p q r = refl
@@ -178,35 +175,35 @@ module _ (z : Setting) (w : WorldView) (c : ℕ) (cell : IsCell z.iface.facts w.
         both true false d p q r = absurd (cc q)
         both true true false p q r = absurd (cc r)
 
-    behind_one : asked_behind z.iface.facts s.item ≡ s.item.points + 1
-    behind_one = ap (λ t. if t then s.item.points + 1 else s.item.points) visible_reply
+    behind_one : asked_behind z.iface.facts s.asks.item ≡ s.asks.item.points + 1
+    behind_one = ap (λ t. if t then s.asks.item.points + 1 else s.asks.item.points) visible_reply
 
-    less_item : nat_lt (asked_after between.run.points 1) last_count ≡ true → (nat_lt s.item.points last_count ≡ true) × (asked_after between.run.points 1 ≡ s.item.points + 1)
+    less_item : nat_lt (asked_after between.run.points 1) last_count ≡ true → (nat_lt s.asks.item.points last_count ≡ true) × (asked_after between.run.points 1 ≡ s.asks.item.points + 1)
     less_item less =
         let next = asked_next between.run.points less in
         let same = between_run.1 in
         let below = ltb-true (asked_after between.run.points 1) last_count less in
-        let its : asked_after between.run.points 1 ≡ s.item.points + 1 = next ∙ ap (λ n. n + 1) same in
-        (lt-ltb s.item.points last_count (omega (arith, its, below)), its)
+        let its : asked_after between.run.points 1 ≡ s.asks.item.points + 1 = next ∙ ap (λ n. n + 1) same in
+        (lt-ltb s.asks.item.points last_count (omega (arith, its, below)), its)
 
     goes_counts : CountsAll z (with_points between (asked_after between.run.points 1))
     goes_counts less =
         let its = less_item less in
         subst (λ r. ArePointsOf (r == 0) z.iface.facts z.ask z.parts 0 between.run.boots (asked_after between.run.points 1)) (sym between_run.2)
         (subst (λ b. ArePointsOf (w.refused == 0) z.iface.facts z.ask z.parts 0 b (asked_after between.run.points 1)) (sym between_run.0)
-        (noted_counts s.service s.reaches.uses.running s.item (w.history ++ record { call = (seat_of w c).call; reply = s.reply } ∷ []) _ s.noted its.0 (reply_going s.item.outcome s.outcome) (asked_after between.run.points 1)
-        (same_count (w.refused == 0) (asked_after between.run.points 1) (asked_behind z.iface.facts s.item) (its.1 ∙ sym behind_one))))
+        (noted_counts s.asks.service s.asks.reaches.uses.running s.asks.item (w.history ++ record { call = (seat_of w c).call; reply = s.reply } ∷ []) _ s.noted its.0 (reply_going s.asks.item.outcome s.outcome) (asked_after between.run.points 1)
+        (same_count (w.refused == 0) (asked_after between.run.points 1) (asked_behind z.iface.facts s.asks.item) (its.1 ∙ sym behind_one))))
 
     behind_counts : CountsAll z (struck_at between (asked_after between.run.points 1))
     behind_counts less =
         let its = less_item less in
-        let noted_all = noted_counts s.service s.reaches.uses.running s.item (w.history ++ record { call = (seat_of w c).call; reply = s.reply } ∷ []) _ s.noted its.0 (reply_going s.item.outcome s.outcome) (s.item.points + 1)
-        (same_count (w.refused == 0) (s.item.points + 1) (asked_behind z.iface.facts s.item) (sym behind_one)) in
+        let noted_all = noted_counts s.asks.service s.asks.reaches.uses.running s.asks.item (w.history ++ record { call = (seat_of w c).call; reply = s.reply } ∷ []) _ s.noted its.0 (reply_going s.asks.item.outcome s.outcome) (s.asks.item.points + 1)
+        (same_count (w.refused == 0) (s.asks.item.points + 1) (asked_behind z.iface.facts s.asks.item) (sym behind_one)) in
         subst (λ r. ArePointsOf (r == 0) z.iface.facts z.ask z.parts 0 (struck between.run.boots (asked_after between.run.points 1)) (asked_after between.run.points 1)) (sym between_run.2)
         (subst (λ b. ArePointsOf (w.refused == 0) z.iface.facts z.ask z.parts 0 (struck b (asked_after between.run.points 1)) (asked_after between.run.points 1)) (sym between_run.0)
-        (struck_on (w.refused == 0) z.iface.facts z.ask z.parts (noted w.run.boots s.item) (s.item.points + 1) (asked_after between.run.points 1) (asked_after between.run.points 1)
-        (noted_begun w.run.boots s.item cell.begun) (noted_stop w.run.boots s.item ∙ going s.service s.reaches.uses.running)
-        (inl (committed_last z.iface.facts w.run.boots s.item cell.begun visible_reply, its.1 ∙ sym behind_one ∙ sym (asked_noted z.iface.facts w.run.boots s.item cell.begun (going s.service s.reaches.uses.running))))
+        (struck_on (w.refused == 0) z.iface.facts z.ask z.parts (noted w.run.boots s.asks.item) (s.asks.item.points + 1) (asked_after between.run.points 1) (asked_after between.run.points 1)
+        (noted_begun w.run.boots s.asks.item cell.begun) (noted_stop w.run.boots s.asks.item ∙ going s.asks.service s.asks.reaches.uses.running)
+        (inl (committed_last z.iface.facts w.run.boots s.asks.item cell.begun visible_reply, its.1 ∙ sym behind_one ∙ sym (asked_noted z.iface.facts w.run.boots s.asks.item cell.begun (going s.asks.service s.asks.reaches.uses.running))))
         (same_count (w.refused == 0) (asked_after between.run.points 1) (asked_after between.run.points 1) refl) noted_all))
 
   -- whatever a step does, the points are counted behind it
@@ -221,17 +218,17 @@ module _ (z : Setting) (w : WorldView) (c : ℕ) (cell : IsCell z.iface.facts w.
   steps_counted Struck later (inr (inl s)) =
       subst (CountsAll z) (sym s.now) (λ less. stopped_counts s.service s.uses.running s.item w.history _ s.noted less (ap is_stopped s.outcome))
   steps_counted Struck later (inr (inr (inl s))) =
-      subst (CountsAll z) (sym s.now) (λ less. stopped_counts s.service s.reaches.uses.running s.item w.history _ s.noted less (ap is_stopped s.outcome))
+      subst (CountsAll z) (sym s.now) (λ less. stopped_counts s.asks.service s.asks.reaches.uses.running s.asks.item w.history _ s.noted less (ap is_stopped s.outcome))
   steps_counted Struck later (inr (inr (inr s))) = subst (CountsAll z) (sym s.now) (behind_counts s.between s.commits)
   steps_counted Replayed later s =
       subst (CountsAll z) (sym s.now) (λ less. hidden_counts s.service s.uses.running s.item w.history _ s.noted less s.outcome (tag_hidden z.iface.facts s.item (ap is_clients s.tag)))
   steps_counted Loaded later s =
       subst (CountsAll z) (sym s.now) (λ less. hidden_counts s.service s.uses.running s.item w.history _ s.noted less s.outcome (tag_hidden z.iface.facts s.item (ap is_clients s.tag)))
   steps_counted Waits later s =
-      subst (CountsAll z) (sym s.now) (λ less. hidden_counts s.service s.reaches.uses.running s.item w.history _ s.noted less (ap is_stopped s.outcome) (outcome_hidden z.iface.facts s.item (ap is_replied s.outcome)))
+      subst (CountsAll z) (sym s.now) (λ less. hidden_counts s.asks.service s.asks.reaches.uses.running s.asks.item w.history _ s.noted less (ap is_stopped s.outcome) (outcome_hidden z.iface.facts s.asks.item (ap is_replied s.outcome)))
   steps_counted Served later (inl s) = subst (CountsAll z) (sym s.now) (goes_counts s.between s.commits)
   steps_counted Served later (inr s) =
-      subst (CountsAll z) (sym s.now) (λ less. hidden_counts s.service s.reaches.uses.running s.item w.history _ s.noted less (reply_going s.item.outcome s.outcome) (fun_hidden z.iface.facts s.item (seat_of w c).call s.shown s.hidden))
+      subst (CountsAll z) (sym s.now) (λ less. hidden_counts s.asks.service s.asks.reaches.uses.running s.asks.item w.history _ s.noted less (reply_going s.asks.item.outcome s.outcome) (fun_hidden z.iface.facts s.asks.item (seat_of w c).call s.asks.shown s.hidden))
 
   -- where a step gets no memory, they are counted at least
   pub wants_counted : (points : ℕ) → (points ≡ w.run.points) ⊎ (points ≡ asked_after w.run.points 1) → CountsAll z (record (with_points w points) { refused = min (w.refused + 1) last_count })

@@ -55,6 +55,14 @@ module _ (z : Setting) (w : WorldView) (c : ℕ) where
     pub uses : UsesService service
     pub nothing_due : due z w seat_now.call ≡ None
 
+  -- and is asked it: an item is of the call
+  pub record AsksService : Type 0 where
+    pub service : Object
+    pub reaches : ReachesService service
+    pub item : Item
+    pub tag : item.tag ≡ Client c seat_now.call.seq
+    pub shown : item.shown ≡ seat_now.call
+
   -- an item is what may be noted next, where the history and the calls that aren't answered come to these; and its number of points is
   -- that of its call, up to the end of their count
   pub record IsNotedBy (item : Item) (history : List Entry) (left : List Call) : Type 0 where
@@ -149,40 +157,28 @@ module _ (z : Setting) (w : WorldView) (c : ℕ) where
 
   -- the call has to wait
   pub record WaitsNow (later : WorldView) : Type 0 where
-    pub service : Object
-    pub reaches : ReachesService service
+    pub asks : AsksService
     pub none : answer z.iface z.ask object_now seat_now.call ≡ None
-    pub item : Item
-    pub tag : item.tag ≡ Client c seat_now.call.seq
-    pub shown : item.shown ≡ seat_now.call
-    pub outcome : item.outcome ≡ Blocks
-    pub noted : IsNotedBy item w.history (unanswered w)
-    pub now : later ≡ in_phase (item_noted w item) c Blocked
+    pub outcome : asks.item.outcome ≡ Blocks
+    pub noted : IsNotedBy asks.item w.history (unanswered w)
+    pub now : later ≡ in_phase (item_noted w asks.item) c Blocked
 
   -- the service stops within the call
   pub record StopsCall (later : WorldView) : Type 0 where
-    pub service : Object
-    pub reaches : ReachesService service
-    pub item : Item
-    pub tag : item.tag ≡ Client c seat_now.call.seq
-    pub shown : item.shown ≡ seat_now.call
-    pub outcome : item.outcome ≡ Stopped
-    pub noted : IsNotedBy item w.history (unanswered w)
-    pub now : later ≡ struck_at (item_noted w item) item.points
+    pub asks : AsksService
+    pub outcome : asks.item.outcome ≡ Stopped
+    pub noted : IsNotedBy asks.item w.history (unanswered w)
+    pub now : later ≡ struck_at (item_noted w asks.item) asks.item.points
 
   -- a visible call is answered and committed, and its client has its receipt
   pub record Commits (later : WorldView) : Type 0 where
-    pub service : Object
-    pub reaches : ReachesService service
+    pub asks : AsksService
     pub visible : is_visible z.iface.facts seat_now.call.fun ≡ true
     pub reply : Reply
     pub answers : answer z.iface z.ask object_now seat_now.call ≡ Some reply
-    pub item : Item
-    pub tag : item.tag ≡ Client c seat_now.call.seq
-    pub shown : item.shown ≡ seat_now.call
-    pub outcome : is_replied item.outcome ≡ true
-    pub noted : IsNotedBy item (w.history ++ entry_with reply ∷ []) (unanswered later)
-    pub now : later ≡ given_to (committed z.iface.facts (service_is (item_noted w item) (after_item z.iface.facts service item)) (entry_with reply)) (entry_with reply)
+    pub outcome : is_replied asks.item.outcome ≡ true
+    pub noted : IsNotedBy asks.item (w.history ++ entry_with reply ∷ []) (unanswered later)
+    pub now : later ≡ given_to (committed z.iface.facts (service_is (item_noted w asks.item) (after_item z.iface.facts asks.service asks.item)) (entry_with reply)) (entry_with reply)
 
   -- behind the commit the service goes on, or stops
   pub record GoesOnBehind (later : WorldView) : Type 0 where
@@ -197,17 +193,13 @@ module _ (z : Setting) (w : WorldView) (c : ℕ) where
 
   -- a call that isn't visible is answered, and its client holds the reply
   pub record Holds (later : WorldView) : Type 0 where
-    pub service : Object
-    pub reaches : ReachesService service
+    pub asks : AsksService
     pub hidden : is_visible z.iface.facts seat_now.call.fun ≡ false
     pub reply : Reply
     pub answers : answer z.iface z.ask object_now seat_now.call ≡ Some reply
-    pub item : Item
-    pub tag : item.tag ≡ Client c seat_now.call.seq
-    pub shown : item.shown ≡ seat_now.call
-    pub outcome : is_replied item.outcome ≡ true
-    pub noted : IsNotedBy item w.history (unanswered later)
-    pub now : later ≡ with_seat (service_is (item_noted w item) (after_item z.iface.facts service item)) c (record seat_now { phase = Held; boot = boot_number w; reply = reply })
+    pub outcome : is_replied asks.item.outcome ≡ true
+    pub noted : IsNotedBy asks.item w.history (unanswered later)
+    pub now : later ≡ with_seat (service_is (item_noted w asks.item) (after_item z.iface.facts asks.service asks.item)) c (record seat_now { phase = Held; boot = boot_number w; reply = reply })
 
   -- what a step does, by what it answers
   abbrev pub Steps : Did → WorldView → Type 0

@@ -19,11 +19,11 @@ use std::alloc::Global;
 impl<S: Service, T: Stops> Inner<S, T> {
     /// The reply that a client has a receipt for is handed over. It takes no memory.
     pub(crate) fn hand_over(&mut self, alloc: Global, client: u8) -> Reply
-        requires order { IsInOrder S.ask S.sound S.parts T.test T.asked T.struck T.plan self.old }
+        requires order { IsInOrder S.facts S.ask S.sound S.parts T.test T.asked T.struck T.plan self.old }
         requires first { 1 ≤ client }
         requires last { client ≤ length self.old.clients }
         requires receipted { (seat_in self.old.clients client).phase ≡ Receipted }
-        ensures order { IsInOrder S.ask S.sound S.parts T.test T.asked T.struck T.plan self.new }
+        ensures order { IsInOrder S.facts S.ask S.sound S.parts T.test T.asked T.struck T.plan self.new }
         ensures reply { result ≡ (seat_in self.old.clients client).reply }
         ensures view { view_in self.new ≡ reply_handed_over (view_in self.old) client }
         ensures rest { KeepsRest T.plan self.old self.new }
@@ -38,12 +38,12 @@ impl<S: Service, T: Stops> Inner<S, T> {
 
     /// A client loses the reply that it holds, since the service failed, and asks its call again. It takes no memory.
     pub(crate) fn lose(&mut self, client: u8)
-        requires order { IsInOrder S.ask S.sound S.parts T.test T.asked T.struck T.plan self.old }
+        requires order { IsInOrder S.facts S.ask S.sound S.parts T.test T.asked T.struck T.plan self.old }
         requires first { 1 ≤ client }
         requires last { client ≤ length self.old.clients }
         requires held { (seat_in self.old.clients client).phase ≡ Held }
         requires gone { (self.old.engine.cell.running ≡ None) ⊎ ((seat_in self.old.clients client).boot ≢ boot_number (view_in self.old)) }
-        ensures order { IsInOrder S.ask S.sound S.parts T.test T.asked T.struck T.plan self.new }
+        ensures order { IsInOrder S.facts S.ask S.sound S.parts T.test T.asked T.struck T.plan self.new }
         ensures view { view_in self.new ≡ in_phase (view_in self.old) client Asked }
         ensures rest { KeepsRest T.plan self.old self.new }
     {
@@ -52,19 +52,17 @@ impl<S: Service, T: Stops> Inner<S, T> {
 
     /// The guard refuses a client's call, which is committed and told at once. It takes no memory.
     pub(crate) fn refuse(&mut self, alloc: Global, client: u8, code: Code) -> Reply
-        requires order { IsInOrder S.ask S.sound S.parts T.test T.asked T.struck T.plan self.old }
+        requires order { IsInOrder S.facts S.ask S.sound S.parts T.test T.asked T.struck T.plan self.old }
         requires first { 1 ≤ client }
         requires last { client ≤ length self.old.clients }
         requires asks { (seat_in self.old.clients client).phase ≡ Asked }
         requires refuses { the_guard self.old.engine.tables.iface (object_of self.old.engine.tables.iface.facts self.old.history.items) (seat_in self.old.clients client).call ≡ Some code }
-        ensures order { IsInOrder S.ask S.sound S.parts T.test T.asked T.struck T.plan self.new }
+        ensures order { IsInOrder S.facts S.ask S.sound S.parts T.test T.asked T.struck T.plan self.new }
         ensures reply { result ≡ Refused code }
         ensures view { let e : IsEntry = record { call = (seat_in self.old.clients client).call; reply = Refused code } in
             view_in self.new ≡ answered_to (committed self.old.engine.tables.iface.facts (view_in self.old) e) e }
         ensures rest { KeepsRest T.plan self.old self.new }
     {
-        // Its number is one of 32 bits, as the proof uses.
-        let _seq = self.clients.call(client).seq;
         let call = self.clients.refuse(alloc, client);
         self.history.add(Entry {
             call,
@@ -84,21 +82,18 @@ impl<S: Service, T: Stops> Inner<S, T> {
     /// The reply that a client holds, which the service gave in this boot, is committed with its call and handed over. It takes no
     /// memory.
     pub(crate) fn return_held(&mut self, alloc: Global, client: u8) -> Reply
-        requires order { IsInOrder S.ask S.sound S.parts T.test T.asked T.struck T.plan self.old }
+        requires order { IsInOrder S.facts S.ask S.sound S.parts T.test T.asked T.struck T.plan self.old }
         requires first { 1 ≤ client }
         requires last { client ≤ length self.old.clients }
         requires held { (seat_in self.old.clients client).phase ≡ Held }
         requires up { IsSome self.old.engine.cell.running }
         requires boot { (seat_in self.old.clients client).boot ≡ boot_number (view_in self.old) }
-        requires service { self.old.engine.tables.iface.facts ≡ S.facts }
-        ensures order { IsInOrder S.ask S.sound S.parts T.test T.asked T.struck T.plan self.new }
+        ensures order { IsInOrder S.facts S.ask S.sound S.parts T.test T.asked T.struck T.plan self.new }
         ensures reply { result ≡ (seat_in self.old.clients client).reply }
         ensures view { let s = seat_in self.old.clients client in let e : IsEntry = record { call = s.call; reply = s.reply } in
             view_in self.new ≡ answered_to (committed self.old.engine.tables.iface.facts (view_in self.old) e) e }
         ensures rest { KeepsRest T.plan self.old self.new }
     {
-        // Its number is one of 32 bits, as the proof uses.
-        let _seq = self.clients.call(client).seq;
         let Returned {
             entry,
             reply,

@@ -30,15 +30,14 @@ impl<S: Service, T: Stops> Inner<S, T> {
         client: u8,
         needs: &Needs,
     ) -> Result<Did, NoMemory>
-        requires order { IsInOrder S.ask S.sound S.parts T.test T.asked T.struck T.plan self.old }
-        requires service { self.old.engine.tables.iface.facts ≡ S.facts }
+        requires order { IsInOrder S.facts S.ask S.sound S.parts T.test T.asked T.struck T.plan self.old }
         requires first { 1 ≤ client }
         requires last { client ≤ length self.old.clients }
         requires let_in { PassesGuard (setting_of S.ask S.sound S.parts self.old.engine.tables) (view_in self.old) client }
         requires up { IsSome self.old.engine.cell.running }
         requires needs { needs.now ≡ needs_in (setting_of S.ask S.sound S.parts self.old.engine.tables) (view_in self.old) (seat_in self.old.clients client).call }
         requires whole { missing self.old.engine needs.now ≡ None }
-        ensures order { IsInOrder S.ask S.sound S.parts T.test T.asked T.struck T.plan self.new }
+        ensures order { IsInOrder S.facts S.ask S.sound S.parts T.test T.asked T.struck T.plan self.new }
         ensures did { (asked : ℕ) → (view_in self.old).run.points ≡ asked_after asked 1
             → IfOk result (λ did. Steps (setting_of S.ask S.sound S.parts self.old.engine.tables) (with_points (view_in self.old) asked) client did (view_in self.new)) }
         ensures err { OnErr result (view_in self.new ≡ view_in self.old) }
@@ -66,7 +65,7 @@ impl<S: Service, T: Stops> Inner<S, T> {
         requires first { 1 ≤ client }
         requires last { client ≤ length self.old.clients }
         requires served { HasServed (setting_of S.ask S.sound S.parts self.old.engine.tables) T.test T.asked T.struck T.plan self.old client reply patch }
-        ensures order { IsInOrder S.ask S.sound S.parts T.test T.asked T.struck T.plan self.new }
+        ensures order { IsInOrder S.facts S.ask S.sound S.parts T.test T.asked T.struck T.plan self.new }
         ensures did { let z = setting_of S.ask S.sound S.parts self.old.engine.tables in
             (s : HasServed z T.test T.asked T.struck T.plan self.old client reply patch) (asked : ℕ) → (view_with s.before self.old).run.points ≡ asked_after asked 1
             → Steps z (with_points (view_with s.before self.old) asked) client result (view_in self.new) }
@@ -96,14 +95,13 @@ impl<S: Service, T: Stops> Inner<S, T> {
         requires last { client ≤ length self.old.clients }
         requires served { HasServed (setting_of S.ask S.sound S.parts self.old.engine.tables) T.test T.asked T.struck T.plan self.old client reply patch }
         requires visible { is_visible self.old.engine.tables.iface.facts (seat_in self.old.clients client).call.fun ≡ true }
-        ensures order { IsInOrder S.ask S.sound S.parts T.test T.asked T.struck T.plan self.new }
+        ensures order { IsInOrder S.facts S.ask S.sound S.parts T.test T.asked T.struck T.plan self.new }
         ensures up { IsSome self.new.engine.cell.running }
         ensures commits { let z = setting_of S.ask S.sound S.parts self.old.engine.tables in
             (s : HasServed z T.test T.asked T.struck T.plan self.old client reply patch) (asked : ℕ) → (view_with s.before self.old).run.points ≡ asked_after asked 1
             → Commits z (with_points (view_with s.before self.old) asked) client (view_in self.new) }
         ensures rest { KeepsRest T.plan self.old self.new }
     {
-        let _seq = self.clients.call(client).seq;
         let entry = self.clients.give(client, &reply);
         self.engine.commit(&entry.call, reply, patch);
         wake(&mut self.clients, &self.engine, &entry);
@@ -121,7 +119,7 @@ impl<S: Service, T: Stops> Inner<S, T> {
         requires last { client ≤ length self.old.clients }
         requires served { (patch : IsOption IsPatch) × HasServed (setting_of S.ask S.sound S.parts self.old.engine.tables) T.test T.asked T.struck T.plan self.old client reply patch }
         requires hidden { is_visible self.old.engine.tables.iface.facts (seat_in self.old.clients client).call.fun ≡ false }
-        ensures order { IsInOrder S.ask S.sound S.parts T.test T.asked T.struck T.plan self.new }
+        ensures order { IsInOrder S.facts S.ask S.sound S.parts T.test T.asked T.struck T.plan self.new }
         ensures holds { let z = setting_of S.ask S.sound S.parts self.old.engine.tables in
             (patch : IsOption IsPatch) (s : HasServed z T.test T.asked T.struck T.plan self.old client reply patch) (asked : ℕ) → (view_with s.before self.old).run.points ≡ asked_after asked 1
             → Holds z (with_points (view_with s.before self.old) asked) client (view_in self.new) }

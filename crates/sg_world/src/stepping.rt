@@ -1,5 +1,5 @@
 // One step of a client: which of its lines it takes.
-ghost use Rattle.std.specs.Prelude.{◌≡◌, ◌≤◌, ℕ, None, Some, IsSome, IfOk, OnErr, ◌⊎◌, length};
+ghost use Rattle.std.specs.Prelude.{◌≡◌, ◌≤◌, ℕ, None, Some, IsSome, IfOk, OnErr, length};
 ghost use Rattle.sg_base.specs.Stops.{asked_after};
 ghost use Rattle.sg_seat.specs.WorldView.{seat_in, with_points};
 ghost use Rattle.sg_seat.specs.declared.phase.Phase.TheVariants.{Asked, Held};
@@ -20,11 +20,10 @@ use std::alloc::Global;
 impl<S: Service, T: Stops> Inner<S, T> {
     /// One step of a client. After `NoMemory` nothing changed but the number of points.
     pub(crate) fn step(&mut self, alloc: Global, client: u8) -> Result<Did, NoMemory>
-        requires order { IsInOrder S.ask S.sound S.parts T.test T.asked T.struck T.plan self.old }
-        requires service { self.old.engine.tables.iface.facts ≡ S.facts }
+        requires order { IsInOrder S.facts S.ask S.sound S.parts T.test T.asked T.struck T.plan self.old }
         requires first { 1 ≤ client }
         requires last { client ≤ length self.old.clients }
-        ensures order { IsInOrder S.ask S.sound S.parts T.test T.asked T.struck T.plan self.new }
+        ensures order { IsInOrder S.facts S.ask S.sound S.parts T.test T.asked T.struck T.plan self.new }
         ensures did { IfOk result (λ did. Steps (setting_of S.ask S.sound S.parts self.old.engine.tables) (view_in self.old) client did (view_in self.new)) }
         ensures err { OnErr result (NoMemoryLeft (setting_of S.ask S.sound S.parts self.old.engine.tables) (view_in self.old) client (view_in self.new)) }
         ensures rest { KeepsRest T.plan self.old self.new }
@@ -39,12 +38,11 @@ impl<S: Service, T: Stops> Inner<S, T> {
 
     // A client that holds a reply returns it where the service is still in the boot in which it gave it, and else loses it.
     fn return_or_lose(&mut self, alloc: Global, client: u8) -> Did
-        requires order { IsInOrder S.ask S.sound S.parts T.test T.asked T.struck T.plan self.old }
-        requires service { self.old.engine.tables.iface.facts ≡ S.facts }
+        requires order { IsInOrder S.facts S.ask S.sound S.parts T.test T.asked T.struck T.plan self.old }
         requires first { 1 ≤ client }
         requires last { client ≤ length self.old.clients }
         requires held { (seat_in self.old.clients client).phase ≡ Held }
-        ensures order { IsInOrder S.ask S.sound S.parts T.test T.asked T.struck T.plan self.new }
+        ensures order { IsInOrder S.facts S.ask S.sound S.parts T.test T.asked T.struck T.plan self.new }
         ensures did { Steps (setting_of S.ask S.sound S.parts self.old.engine.tables) (view_in self.old) client result (view_in self.new) }
         ensures rest { KeepsRest T.plan self.old self.new }
     {
@@ -59,12 +57,11 @@ impl<S: Service, T: Stops> Inner<S, T> {
 
     // The guard judges a client's call first.
     fn ask(&mut self, alloc: Global, client: u8) -> Result<Did, NoMemory>
-        requires order { IsInOrder S.ask S.sound S.parts T.test T.asked T.struck T.plan self.old }
-        requires service { self.old.engine.tables.iface.facts ≡ S.facts }
+        requires order { IsInOrder S.facts S.ask S.sound S.parts T.test T.asked T.struck T.plan self.old }
         requires first { 1 ≤ client }
         requires last { client ≤ length self.old.clients }
         requires asks { (seat_in self.old.clients client).phase ≡ Asked }
-        ensures order { IsInOrder S.ask S.sound S.parts T.test T.asked T.struck T.plan self.new }
+        ensures order { IsInOrder S.facts S.ask S.sound S.parts T.test T.asked T.struck T.plan self.new }
         ensures did { IfOk result (λ did. Steps (setting_of S.ask S.sound S.parts self.old.engine.tables) (view_in self.old) client did (view_in self.new)) }
         ensures err { OnErr result (NoMemoryLeft (setting_of S.ask S.sound S.parts self.old.engine.tables) (view_in self.old) client (view_in self.new)) }
         ensures rest { KeepsRest T.plan self.old self.new }
@@ -77,12 +74,11 @@ impl<S: Service, T: Stops> Inner<S, T> {
 
     // A call that the guard lets pass boots a service that failed, and else uses it.
     fn let_in(&mut self, alloc: Global, client: u8) -> Result<Did, NoMemory>
-        requires order { IsInOrder S.ask S.sound S.parts T.test T.asked T.struck T.plan self.old }
-        requires service { self.old.engine.tables.iface.facts ≡ S.facts }
+        requires order { IsInOrder S.facts S.ask S.sound S.parts T.test T.asked T.struck T.plan self.old }
         requires first { 1 ≤ client }
         requires last { client ≤ length self.old.clients }
         requires let_in { PassesGuard (setting_of S.ask S.sound S.parts self.old.engine.tables) (view_in self.old) client }
-        ensures order { IsInOrder S.ask S.sound S.parts T.test T.asked T.struck T.plan self.new }
+        ensures order { IsInOrder S.facts S.ask S.sound S.parts T.test T.asked T.struck T.plan self.new }
         ensures did { IfOk result (λ did. Steps (setting_of S.ask S.sound S.parts self.old.engine.tables) (view_in self.old) client did (view_in self.new)) }
         ensures err { OnErr result (NoMemoryLeft (setting_of S.ask S.sound S.parts self.old.engine.tables) (view_in self.old) client (view_in self.new)) }
         ensures rest { KeepsRest T.plan self.old self.new }
@@ -100,14 +96,13 @@ impl<S: Service, T: Stops> Inner<S, T> {
 
     // Rebuilds what the call still needs by one step, or serves it.
     fn use_service(&mut self, alloc: Global, client: u8, needs: &Needs) -> Result<Did, NoMemory>
-        requires order { IsInOrder S.ask S.sound S.parts T.test T.asked T.struck T.plan self.old }
-        requires service { self.old.engine.tables.iface.facts ≡ S.facts }
+        requires order { IsInOrder S.facts S.ask S.sound S.parts T.test T.asked T.struck T.plan self.old }
         requires first { 1 ≤ client }
         requires last { client ≤ length self.old.clients }
         requires let_in { PassesGuard (setting_of S.ask S.sound S.parts self.old.engine.tables) (view_in self.old) client }
         requires up { IsSome self.old.engine.cell.running }
         requires needs { needs.now ≡ needs_in (setting_of S.ask S.sound S.parts self.old.engine.tables) (view_in self.old) (seat_in self.old.clients client).call }
-        ensures order { IsInOrder S.ask S.sound S.parts T.test T.asked T.struck T.plan self.new }
+        ensures order { IsInOrder S.facts S.ask S.sound S.parts T.test T.asked T.struck T.plan self.new }
         ensures did { (asked : ℕ) → (view_in self.old).run.points ≡ asked_after asked 1
             → IfOk result (λ did. Steps (setting_of S.ask S.sound S.parts self.old.engine.tables) (with_points (view_in self.old) asked) client did (view_in self.new)) }
         ensures err { OnErr result (view_in self.new ≡ view_in self.old) }

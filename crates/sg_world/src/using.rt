@@ -19,9 +19,9 @@ use std::alloc::Global;
 impl<S: Service, T: Stops> Inner<S, T> {
     /// Asks whether the service stops at a point between calls, and stops it there if it does. It takes no memory.
     pub(crate) fn strikes(&mut self, point: Point) -> bool
-        requires order { IsInOrder S.ask S.sound S.parts T.test T.asked T.struck T.plan self.old }
+        requires order { IsInOrder S.facts S.ask S.sound S.parts T.test T.asked T.struck T.plan self.old }
         requires up { IsSome self.old.engine.cell.running }
-        ensures order { IsInOrder S.ask S.sound S.parts T.test T.asked T.struck T.plan self.new }
+        ensures order { IsInOrder S.facts S.ask S.sound S.parts T.test T.asked T.struck T.plan self.new }
         ensures view { let w = view_in self.old in let asked = asked_after w.run.points 1 in view_in self.new ≡ (if result then struck_at w asked else with_points w asked) }
         ensures rest { KeepsRest T.plan self.old self.new }
     {
@@ -38,11 +38,11 @@ impl<S: Service, T: Stops> Inner<S, T> {
     /// Boots the service that failed afresh, for a client whose call needs this; whoever waits is asked again. After `NoMemory` the
     /// world is as before.
     pub(crate) fn boot(&mut self, alloc: Global, client: u8, needs: &Needs) -> Result<(), NoMemory>
-        requires order { IsInOrder S.ask S.sound S.parts T.test T.asked T.struck T.plan self.old }
+        requires order { IsInOrder S.facts S.ask S.sound S.parts T.test T.asked T.struck T.plan self.old }
         requires first { 1 ≤ client }
         requires last { client ≤ length self.old.clients }
         requires failed { self.old.engine.cell.running ≡ None }
-        ensures order { IsInOrder S.ask S.sound S.parts T.test T.asked T.struck T.plan self.new }
+        ensures order { IsInOrder S.facts S.ask S.sound S.parts T.test T.asked T.struck T.plan self.new }
         ensures ok { OnOk result (view_in self.new ≡ rebooted (view_in self.old)) }
         ensures err { OnErr result (view_in self.new ≡ view_in self.old) }
         ensures rest { KeepsRest T.plan self.old self.new }
@@ -63,15 +63,14 @@ impl<S: Service, T: Stops> Inner<S, T> {
         needs: &Needs,
         todo: Todo,
     ) -> Result<Did, NoMemory>
-        requires order { IsInOrder S.ask S.sound S.parts T.test T.asked T.struck T.plan self.old }
-        requires service { self.old.engine.tables.iface.facts ≡ S.facts }
+        requires order { IsInOrder S.facts S.ask S.sound S.parts T.test T.asked T.struck T.plan self.old }
         requires first { 1 ≤ client }
         requires last { client ≤ length self.old.clients }
         requires let_in { PassesGuard (setting_of S.ask S.sound S.parts self.old.engine.tables) (view_in self.old) client }
         requires up { IsSome self.old.engine.cell.running }
         requires needs { needs.now ≡ needs_in (setting_of S.ask S.sound S.parts self.old.engine.tables) (view_in self.old) (seat_in self.old.clients client).call }
         requires due { missing self.old.engine needs.now ≡ Some todo }
-        ensures order { IsInOrder S.ask S.sound S.parts T.test T.asked T.struck T.plan self.new }
+        ensures order { IsInOrder S.facts S.ask S.sound S.parts T.test T.asked T.struck T.plan self.new }
         ensures did { (asked : ℕ) → (view_in self.old).run.points ≡ asked_after asked 1
             → IfOk result (λ did. Steps (setting_of S.ask S.sound S.parts self.old.engine.tables) (with_points (view_in self.old) asked) client did (view_in self.new)) }
         ensures err { OnErr result (view_in self.new ≡ view_in self.old) }

@@ -1,20 +1,20 @@
 // The service, its clients, and what they did.
-ghost use Rattle.std.specs.Prelude.{◌≡◌, ◌+◌, ◌≤◌, ◌<◌, ◌-◌, ◌^◌, ◌∷◌, ◌++◌, ℕ, true, List, [], None, Some, IfOk, OnOk, OnErr, length, map, replicate, slice_get};
+ghost use Rattle.std.specs.Prelude.{◌≡◌, ◌+◌, ◌≤◌, ◌<◌, ◌-◌, ◌^◌, true, [], None, IfOk, OnOk, OnErr, length, replicate};
 ghost use Rattle.std.specs.List.{list_all};
 ghost use Rattle.std.specs.Option.{option_copied, option_map};
 ghost use Rattle.sg_facts.specs.Kinds.{AreWords, FitsKinds};
 ghost use Rattle.sg_facts.specs.Interface.{declares};
 ghost use Rattle.sg_facts.specs.Limits.{last_client};
-ghost use Rattle.sg_facts.specs.Legal.{LegalFrom};
-ghost use Rattle.sg_facts.specs.Object.{empty_object};
+ghost use Rattle.sg_facts.specs.Legal.{LegalFrom, answer};
+ghost use Rattle.sg_facts.specs.Object.{empty_object, object_of};
 ghost use Rattle.sg_facts.specs.Trace.{run_of};
-ghost use Rattle.sg_hist.specs.Recovered.{IsRecovered};
+ghost use Rattle.sg_hist.specs.Clients.{calls_of};
+ghost use Rattle.sg_hist.specs.Recovered.{AreInBoots, IsRecovered, struck_in};
 ghost use Rattle.sg_recovery_laws.specs.Growing.{IsRecovering};
 ghost use Rattle.sg_world_laws.specs.Setting.{stubs_of};
-ghost use Rattle.sg_base.specs.declared.call.Call.{Call as IsCall};
-ghost use Rattle.sg_base.specs.Counts.{last_count};
 ghost use Rattle.sg_world.specs.Steps.{AnswersLast, HasStepped, WantsMemory};
-ghost use Rattle.sg_world.specs.Worlded.{setting_of};
+ghost use Rattle.sg_world.specs.Worlded.{CountsAll, setting_of};
+ghost use Rattle.sg_seat.specs.declared.phase.Phase.TheVariants.{Blocked};
 ghost use Rattle.sg_seat.specs.WorldView.{IsFree, MayWithdraw, happened, is_at_rest, with_leave, new_world, no_seat, offered, seat_of, unanswered, withdrawn_by};
 
 use crate::did::Did;
@@ -44,9 +44,8 @@ impl<S: Service, T: Stops> Model for World<S, T> {
 
     ghost view = { λ w. record { tables = w.inner.engine.tables; view = view_in w.inner; plan = T.plan w.inner.stops } };
 
-    ghost invariant = { λ w. IsInOrder S.ask S.sound S.parts T.test T.asked T.struck T.plan w.inner
-        × CountsAll (setting_of S.ask S.sound S.parts w.inner.engine.tables) (view_in w.inner)
-        × (w.inner.engine.tables.iface.facts ≡ S.facts) };
+    ghost invariant = { λ w. IsInOrder S.facts S.ask S.sound S.parts T.test T.asked T.struck T.plan w.inner
+        × CountsAll (setting_of S.ask S.sound S.parts w.inner.engine.tables) (view_in w.inner) };
 }
 
 impl<S: Service, T: Stops> World<S, T> {
@@ -90,11 +89,16 @@ impl<S: Service, T: Stops> World<S, T> {
         &self.inner.history
     }
 
-    /// What was done to the service, lent: a run that recovers, whose points are counted exactly where no step wanted memory.
+    /// What was done to the service, lent: a run that recovers. Along the history the boots of the entries' items never go back. Its
+    /// points and its stops meet the test of the world's own stops. The points are counted exactly where no step wanted memory, and at
+    /// least so where one did, up to the end of their count.
     pub fn trace(&self) -> &Trace
         ensures run { run_of result.now ≡ self.now.view.run }
         ensures recovering { let z = setting_of S.ask S.sound S.parts self.now.tables in let w = self.now.view in IsRecovering (stubs_of z) w.history w.run (unanswered w) }
         ensures recovered { let z = setting_of S.ask S.sound S.parts self.now.tables in let w = self.now.view in w.refused ≡ 0 → IsRecovered (stubs_of z) w.history w.run (unanswered w) }
+        ensures held { AreInBoots self.now.view.run 0 self.now.view.history }
+        ensures stopped { let run = self.now.view.run in T.test run.points (struck_in run) self.now.plan }
+        ensures points { CountsAll (setting_of S.ask S.sound S.parts self.now.tables) self.now.view }
     {
         self.inner.engine.trace()
     }
@@ -127,11 +131,13 @@ impl<S: Service, T: Stops> World<S, T> {
         self.inner.refused
     }
 
-    /// How far a client has come with its call.
+    /// How far a client has come with its call. Who waits, waits in a call that has no answer at the object of the history.
     pub fn phase(&self, client: u8) -> Phase
         requires first { 1 ≤ client }
         requires last { client ≤ length self.now.view.seats }
-        ensures { result ≡ (seat_of self.now.view client).phase }
+        ensures phase { result ≡ (seat_of self.now.view client).phase }
+        ensures waits { let i = self.now.tables.iface in let w = self.now.view in
+            result ≡ Blocked → answer i S.ask (object_of i.facts w.history) (seat_of w client).call ≡ None }
     {
         self.inner.clients.phase(client)
     }
@@ -152,11 +158,12 @@ impl<S: Service, T: Stops> World<S, T> {
         self.inner.clients.call(client)
     }
 
-    /// The number of a client's last entry, 0 for none. Its next call has the next number.
+    /// The number of a client's last entry, 0 for none, which is how many entries it has. Its next call has the next number.
     pub fn seq(&self, client: u8) -> u32
         requires first { 1 ≤ client }
         requires last { client ≤ length self.now.view.seats }
-        ensures { result ≡ (seat_of self.now.view client).seq }
+        ensures seq { result ≡ (seat_of self.now.view client).seq }
+        ensures count { result ≡ length (calls_of self.now.view.history client) }
     {
         self.inner.clients.seq(client)
     }

@@ -12,6 +12,7 @@ pub mod LetIn
 pub mod Moves
 pub mod Onseat
 pub mod Orders
+pub mod Points
 pub mod Refusing
 pub mod Reseated
 pub mod Returned

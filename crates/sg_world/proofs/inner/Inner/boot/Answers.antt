@@ -34,4 +34,5 @@ returns-clause-order g c =
       clients = subst (λ s. length c.wake_all.new.self ≤ s.clients) (sym c.boot.ensures.stored)
           (subst (λ n. length c.wake_all.new.self ≤ n) (sym c.reserve.ensures.clients)
           (subst (λ l. length l ≤ x.engine.stored.clients) (sym c.wake_all.ensures) (subst (λ n. n ≤ x.engine.stored.clients) (sym (length-map x.clients (woken_seat (λ call. true)))) c.requires.order.clients)));
+      service = ap (λ t. t.iface.facts) (c.boot.ensures.tables ∙ c.reserve.ensures.tables) ∙ c.requires.order.service;
     }

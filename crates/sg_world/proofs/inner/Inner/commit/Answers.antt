@@ -54,7 +54,7 @@ add-requires-2 g c =
 -- what `committed_on` and `committed_line` take
 module _ (g : Given.Over) (c : goal.After-add-2 g) where
   fits : (seat_in c.args.self.now.clients c.args.client).call.seq < 2 ^ 32
-  fits = subst (λ q. q.seq < 2 ^ 32) c.call.ensures (let f : c.call.result.now.seq < 2 ^ 32 = omega arith in f)
+  fits = subst (λ en. en.call.seq < 2 ^ 32) c.give-entry.ensures.entry c.give-entry.ensures.number
 
   rows : c.commit.new.self.tracked.rows ≡ track c.args.self.now.engine.tables.iface.facts c.args.self.now.engine.tracked.rows (seat_in c.args.self.now.clients c.args.client).call c.args.reply
   rows = c.commit.ensures.rows
@@ -128,6 +128,7 @@ returns-clause-order g c =
           ∙ length_set x.clients (c.args.client - 1) new in
           let was = s.places in
           omega (arith, same, was));
+      service = ap (λ t. t.iface.facts) c.commit.ensures.tables ∙ c.requires.service;
     }
 
 pub returns-clause-commits : goal.returns-clause-commits

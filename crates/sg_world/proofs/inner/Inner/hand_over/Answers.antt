@@ -23,4 +23,5 @@ returns-clause-order g c =
           c.requires.receipted c.hand_over-reply.new.self c.add.new.self.items c.hand_over-reply.ensures.seats c.add.ensures.items (omega arith) (omega arith) c.add.ensures.room;
       points = record { asked_so = c.requires.order.points.asked_so; struck_so = c.requires.order.points.struck_so; tested = c.requires.order.points.tested };
       clients = (let same = ap length c.hand_over-reply.ensures.seats ∙ length_set x.clients (c.args.client - 1) (record (seat_in x.clients c.args.client) { phase = Idle; reply = no_reply }) in let was = c.requires.order.clients in omega (arith, same, was));
+      service = c.requires.order.service;
     }

@@ -28,6 +28,7 @@ returns-clause-order g c =
           let was = s.places in
           let stored : x.engine.stored.clients ≡ s.before.stored.clients = ap (λ t. t.clients) s.stored_same in
           omega (arith, same, was, stored));
+      service = c.requires.service;
     }
 
 pub returns-clause-holds : goal.returns-clause-holds

@@ -16,4 +16,5 @@ returns-clause-order g c =
           c.requires.held c.requires.gone c.lose.new.self c.lose.ensures;
       points = record { asked_so = c.requires.order.points.asked_so; struck_so = c.requires.order.points.struck_so; tested = c.requires.order.points.tested };
       clients = (let same = ap length c.lose.ensures ∙ length_set x.clients (c.args.client - 1) (record (seat_in x.clients c.args.client) { phase = Asked }) in let was = c.requires.order.clients in omega (arith, same, was));
+      service = c.requires.order.service;
     }

@@ -32,7 +32,7 @@ add-requires-3 g c =
 -- what `denied_on` and `denied_view` take
 module _ (g : Given.Over) (c : goal.After-add-3 g) where
   fits : (seat_in c.args.self.now.clients c.args.client).call.seq < 2 ^ 32
-  fits = subst (λ q. q.seq < 2 ^ 32) c.call.ensures (let f : c.call.result.now.seq < 2 ^ 32 = omega arith in f)
+  fits = subst (λ q. q.seq < 2 ^ 32) c.refuse-call.ensures.call c.refuse-call.ensures.number
 
   history : c.add.new.self.items ≡ c.args.self.now.history.items ++ record { call = (seat_in c.args.self.now.clients c.args.client).call; reply = Refused c.args.code } ∷ []
   history = c.add.ensures.items ∙ ap (λ q. c.args.self.now.history.items ++ record { call = q; reply = Refused c.args.code } ∷ []) c.refuse-call.ensures.call
@@ -56,4 +56,5 @@ returns-clause-order g c =
           c.add.ensures.room (omega arith) (let one = c.add-2.ensures.room in let two = c.add-3.ensures.room in omega (arith, one, two));
       points = record { asked_so = c.requires.order.points.asked_so; struck_so = c.requires.order.points.struck_so; tested = c.requires.order.points.tested };
       clients = (let s : Seat = seat_in x.clients c.args.client in let same = ap length c.refuse-call.ensures.seats ∙ length_set x.clients (c.args.client - 1) (record s { phase = Idle; seq = s.call.seq; reply = no_reply }) in let was = c.requires.order.clients in omega (arith, same, was));
+      service = c.requires.order.service;
     }

@@ -21,7 +21,7 @@ pub commit-requires : goal.commit-requires
 commit-requires g c =
     let x = c.args.self.now in
     let s = seat_in x.clients c.args.client in
-    subst (λ f. MayCommitAt f x.engine c.give_back-entry.result.entry.call c.give_back-entry.result.reply None) c.requires.service
+    subst (λ f. MayCommitAt f x.engine c.give_back-entry.result.entry.call c.give_back-entry.result.reply None) c.requires.order.service
     (subst (λ en. MayCommitAt x.engine.tables.iface.facts x.engine en.call c.give_back-entry.result.reply None) (sym c.give_back-entry.ensures.entry)
     (subst (λ r. MayCommitAt x.engine.tables.iface.facts x.engine s.call r None) (sym c.give_back-entry.ensures.reply)
     (may_return (setting_of g.S.Service.ask g.S.Service.sound g.S.Service.parts x.engine.tables) x.engine (view_in x) (rooms_in x) c.requires.order.world c.args.client c.requires.first c.requires.last c.requires.held c.requires.up c.requires.boot)))
@@ -50,17 +50,17 @@ returns-clause-reply g c = c.give_back-entry.ensures.answer
 -- what `returned_on` and `returned_view` take
 module _ (g : Given.Over) (c : goal.After-add-3 g) where
   fits : (seat_in c.args.self.now.clients c.args.client).call.seq < 2 ^ 32
-  fits = subst (λ q. q.seq < 2 ^ 32) c.call.ensures (let f : c.call.result.now.seq < 2 ^ 32 = omega arith in f)
+  fits = subst (λ en. en.call.seq < 2 ^ 32) c.give_back-entry.ensures.entry c.give_back-entry.ensures.number
 
   rows : c.commit.new.self.tracked.rows ≡ track c.args.self.now.engine.tables.iface.facts c.args.self.now.engine.tracked.rows (seat_in c.args.self.now.clients c.args.client).call (seat_in c.args.self.now.clients c.args.client).reply
   rows = c.commit.ensures.rows
-      ∙ ap (λ f. track f c.args.self.now.engine.tracked.rows c.give_back-entry.result.entry.call c.give_back-entry.result.reply) (sym c.requires.service)
+      ∙ ap (λ f. track f c.args.self.now.engine.tracked.rows c.give_back-entry.result.entry.call c.give_back-entry.result.reply) (sym c.requires.order.service)
       ∙ ap (λ en. track c.args.self.now.engine.tables.iface.facts c.args.self.now.engine.tracked.rows en.call c.give_back-entry.result.reply) c.give_back-entry.ensures.entry
       ∙ ap (track c.args.self.now.engine.tables.iface.facts c.args.self.now.engine.tracked.rows (seat_in c.args.self.now.clients c.args.client).call) c.give_back-entry.ensures.reply
 
   given : c.commit.new.self.tracked.given ≡ given_after c.args.self.now.engine.tables.iface.facts c.args.self.now.engine.tracked.given (seat_in c.args.self.now.clients c.args.client).call (seat_in c.args.self.now.clients c.args.client).reply
   given = c.commit.ensures.given
-      ∙ ap (λ f. given_after f c.args.self.now.engine.tracked.given c.give_back-entry.result.entry.call c.give_back-entry.result.reply) (sym c.requires.service)
+      ∙ ap (λ f. given_after f c.args.self.now.engine.tracked.given c.give_back-entry.result.entry.call c.give_back-entry.result.reply) (sym c.requires.order.service)
       ∙ ap (λ en. given_after c.args.self.now.engine.tables.iface.facts c.args.self.now.engine.tracked.given en.call c.give_back-entry.result.reply) c.give_back-entry.ensures.entry
       ∙ ap (given_after c.args.self.now.engine.tables.iface.facts c.args.self.now.engine.tracked.given (seat_in c.args.self.now.clients c.args.client).call) c.give_back-entry.ensures.reply
 
@@ -116,4 +116,5 @@ returns-clause-order g c =
           ∙ length_set x.clients (c.args.client - 1) (record s { phase = Idle; seq = s.call.seq; reply = no_reply }) in
           let was = c.requires.order.clients in
           omega (arith, same, was));
+      service = ap (λ t. t.iface.facts) c.commit.ensures.tables ∙ c.requires.order.service;
     }

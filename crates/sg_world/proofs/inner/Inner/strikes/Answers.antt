@@ -29,6 +29,7 @@ returns-then-strikes-clause-order g c =
         tested = c.strikes-strikes.ensures.test c.requires.order.points.tested;
       };
       clients = subst (λ s. length x.clients ≤ s.clients) (sym c.strike.ensures.stored) c.requires.order.clients;
+      service = ap (λ t. t.iface.facts) c.strike.ensures.tables ∙ c.requires.order.service;
     }
 
 pub returns-else-strikes-clause-order : goal.returns-else-strikes-clause-order
@@ -48,4 +49,5 @@ returns-else-strikes-clause-order g c =
         tested = c.strikes-strikes.ensures.test c.requires.order.points.tested;
       };
       clients = subst (λ y. length x.clients ≤ y.stored.clients) (sym c.count.ensures) c.requires.order.clients;
+      service = ap (λ y. y.tables.iface.facts) c.count.ensures ∙ c.requires.order.service;
     }

@@ -30,7 +30,7 @@ invariant_of-self g c =
             c.leave.new.self c.add.new.self.items c.saturating_add-self-inside.result c.leave.ensures c.add.ensures.items (omega arith) (omega arith) c.add.ensures.room;
         points = record { asked_so = c.self.invariant.0.points.asked_so; struck_so = c.self.invariant.0.points.struck_so; tested = c.self.invariant.0.points.tested };
         clients = (let same = ap length c.leave.ensures ∙ length_set c.self.inside.inner.clients (c.args.client - 1) (record (seat_of w c.args.client) { phase = Left }) in let was = c.self.invariant.0.clients in omega (arith, same, was));
+        service = c.self.invariant.0.service;
       },
       c.self.invariant.1,
-      c.self.invariant.2,
     )

@@ -26,7 +26,7 @@ invariant_of-result g c =
             c.new-3.result.items c.in_ok-seats.seats c.new-4.result.items c.reserve.new.self.items c.new-3.ensures c.in_ok-seats.ensures c.new-4.ensures (c.reserve.ensures.items ∙ c.new-marks.ensures);
         points = new_points g.T.Stops.test _ _ _ _ made.run c.requires.unasked c.requires.unstruck (g.met.T.Stops.starts _);
         clients = (let made = c.in_ok-new.ensures.clients in let seats = ap length c.in_ok-seats.ensures ∙ as_many c.args.clients in omega (arith, made, seats));
+        service = ap (λ t. t.iface.facts) made.tables ∙ c.requires.service;
       },
       new_counted (setting_of g.S.Service.ask g.S.Service.sound g.S.Service.parts e.tables) e c.new-3.result.items c.in_ok-seats.seats c.new-4.result.items c.reserve.new.self.items made.run,
-      ap (λ t. t.iface.facts) made.tables ∙ c.requires.service,
     )

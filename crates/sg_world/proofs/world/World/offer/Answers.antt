@@ -36,9 +36,9 @@ invariant_of-self-2 g c =
             (let n = c.len-clients.ensures in let room = c.in_ok-reserve-3.ensures.ok in let left = c.add.ensures.room in omega (arith, n, room, left));
         points = record { asked_so = c.self.invariant.0.points.asked_so; struck_so = c.self.invariant.0.points.struck_so; tested = c.self.invariant.0.points.tested };
         clients = (let same = ap length c.in_ok-offer.ensures.ok ∙ length_set c.self.inside.inner.clients (c.args.client - 1) (record (seat_of w c.args.client) { phase = Asked; call = call }) in let was = c.self.invariant.0.clients in omega (arith, same, was));
+        service = c.self.invariant.0.service;
       },
       c.self.invariant.1,
-      c.self.invariant.2,
     )
 
 pub invariant_of-self-in_err-reserve-2 : goal.invariant_of-self-in_err-reserve-2
@@ -52,9 +52,9 @@ invariant_of-self-in_err-reserve-2 g c =
             c.saturating_add-self-inside.result c.reserve.ensures.items c.reserve-2.ensures.items refl c.reserve.ensures.room c.reserve-2.ensures.room (omega arith);
         points = record { asked_so = c.self.invariant.0.points.asked_so; struck_so = c.self.invariant.0.points.struck_so; tested = c.self.invariant.0.points.tested };
         clients = c.self.invariant.0.clients;
+        service = c.self.invariant.0.service;
       },
       c.self.invariant.1,
-      c.self.invariant.2,
     )
 
 pub invariant_of-self-in_err-reserve-3 : goal.invariant_of-self-in_err-reserve-3
@@ -68,9 +68,9 @@ invariant_of-self-in_err-reserve-3 g c =
             c.saturating_add-self-inside.result c.reserve.ensures.items c.reserve-2.ensures.items c.reserve-3.ensures.items c.reserve.ensures.room c.reserve-2.ensures.room c.reserve-3.ensures.room;
         points = record { asked_so = c.self.invariant.0.points.asked_so; struck_so = c.self.invariant.0.points.struck_so; tested = c.self.invariant.0.points.tested };
         clients = c.self.invariant.0.clients;
+        service = c.self.invariant.0.service;
       },
       c.self.invariant.1,
-      c.self.invariant.2,
     )
 
 pub invariant_of-self-in_err-offer : goal.invariant_of-self-in_err-offer
@@ -86,7 +86,7 @@ invariant_of-self-in_err-offer g c =
             c.saturating_add-self-inside.result c.reserve.ensures.items c.reserve-2.ensures.items c.reserve-3.ensures.items c.reserve.ensures.room c.reserve-2.ensures.room c.reserve-3.ensures.room);
         points = record { asked_so = c.self.invariant.0.points.asked_so; struck_so = c.self.invariant.0.points.struck_so; tested = c.self.invariant.0.points.tested };
         clients = (let same = ap length c.in_err-offer.ensures.err in let was = c.self.invariant.0.clients in omega (arith, same, was));
+        service = c.self.invariant.0.service;
       },
       c.self.invariant.1,
-      c.self.invariant.2,
     )

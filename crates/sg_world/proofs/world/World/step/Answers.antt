@@ -24,11 +24,11 @@ invariant_of-self g c =
         world = event_on (setting_of g.S.Service.ask g.S.Service.sound g.S.Service.parts mid.engine.tables) mid.engine (view_in mid) (rooms_in mid) order.world c.saturating_add-self-inside.result c.saturating_add-self-inside-then-is_err.result;
         points = record { asked_so = order.points.asked_so; struck_so = order.points.struck_so; tested = order.points.tested };
         clients = order.clients;
+        service = order.service;
       },
       subst (λ (t : Compiled). CountsAll (setting_of g.S.Service.ask g.S.Service.sound g.S.Service.parts t) (record (view_in mid) { events = c.saturating_add-self-inside.result; refused = c.saturating_add-self-inside-then-is_err.result })) (sym tables)
           (subst (λ n. CountsAll z (record (view_in mid) { refused = n })) (sym c.saturating_add-self-inside-then-is_err.ensures)
           (err_counted z w c.args.client c.self.invariant.0.world.keeps.cell c.self.invariant.1 (view_in mid) c.step-did.result (sym c.is_err.ensures.value ∙ c.if-is_err.true) c.step-did.ensures.err)),
-      ap (λ (t : Compiled). t.iface.facts) tables ∙ c.self.invariant.2,
     )
 
 pub invariant_of-self-else-is_err : goal.invariant_of-self-else-is_err
@@ -43,10 +43,10 @@ invariant_of-self-else-is_err g c =
         world = event_on (setting_of g.S.Service.ask g.S.Service.sound g.S.Service.parts mid.engine.tables) mid.engine (view_in mid) (rooms_in mid) order.world c.saturating_add-self-inside.result mid.refused;
         points = record { asked_so = order.points.asked_so; struck_so = order.points.struck_so; tested = order.points.tested };
         clients = order.clients;
+        service = order.service;
       },
       subst (λ (t : Compiled). CountsAll (setting_of g.S.Service.ask g.S.Service.sound g.S.Service.parts t) (record (view_in mid) { events = c.saturating_add-self-inside.result; refused = mid.refused })) (sym tables)
           (ok_counted z w c.args.client c.self.invariant.0.world.keeps.cell c.self.invariant.1 (view_in mid) c.step-did.result (sym c.is_err.ensures.value ∙ c.if-is_err.false) c.step-did.ensures.did),
-      ap (λ (t : Compiled). t.iface.facts) tables ∙ c.self.invariant.2,
     )
 
 pub returns-then-is_err-clause-err : goal.returns-then-is_err-clause-err

@@ -1,12 +1,12 @@
--- The run recovers.
+-- The run recovers, and its points and stops are what the world keeps of them.
 use Rattle.std.proofs.Common.{subst, ◌≡◌}
 use Rattle.sg_engine_laws.specs.Stubs.{stub_of}
-use Rattle.sg_hist.specs.Recovered.{IsRecovered}
+use Rattle.sg_hist.specs.Recovered.{AreInBoots, IsRecovered, struck_in}
 use Rattle.sg_recovery_laws.specs.Growing.{IsRecovering}
 use Rattle.sg_seat.specs.WorldView.{unanswered}
-use Rattle.sg_world.proofs.Recovered.{recovered_now, recovering_now}
+use Rattle.sg_world.proofs.Recovered.{recovered_now, recovering_now, tested_now}
 use Rattle.sg_world.specs.Inners.{view_in}
-use Rattle.sg_world.specs.Worlded.{Worlded, setting_of}
+use Rattle.sg_world.specs.Worlded.{CountsAll, Worlded, setting_of}
 use Rattle.sg_world_laws.specs.Setting.{stubs_of}
 use Rattle.sg_world.proofs.world.World.trace.Goals as goal
 
@@ -21,3 +21,15 @@ returns-clause-recovered g c =
     let x = c.self.inside.inner in
     subst (λ (y : Worlded). y.view.refused ≡ 0 → IsRecovered (stubs_of (setting_of g.S.Service.ask g.S.Service.sound g.S.Service.parts y.tables)) y.view.history y.view.run (unanswered y.view)) c.self.view_is
     (recovered_now (setting_of g.S.Service.ask g.S.Service.sound g.S.Service.parts x.engine.tables) (view_in x) (stub_of x.engine) c.self.invariant.0.world.keeps c.self.invariant.1)
+
+pub returns-clause-held : goal.returns-clause-held
+returns-clause-held g c = subst (λ (y : Worlded). AreInBoots y.view.run 0 y.view.history) c.self.view_is c.self.invariant.0.world.keeps.in_boots
+
+pub returns-clause-stopped : goal.returns-clause-stopped
+returns-clause-stopped g c =
+    let x = c.self.inside.inner in
+    subst (λ (y : Worlded). g.T.Stops.test y.view.run.points (struck_in y.view.run) y.plan) c.self.view_is
+    (tested_now g.T.Stops.test (view_in x) (g.T.Stops.asked x.stops) (g.T.Stops.struck x.stops) (g.T.Stops.plan x.stops) c.self.invariant.0.points)
+
+pub returns-clause-points : goal.returns-clause-points
+returns-clause-points g c = subst (λ (y : Worlded). CountsAll (setting_of g.S.Service.ask g.S.Service.sound g.S.Service.parts y.tables) y.view) c.self.view_is c.self.invariant.1

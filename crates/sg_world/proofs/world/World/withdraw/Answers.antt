@@ -40,7 +40,7 @@ invariant_of-self g c =
             (ap (λ x. x.call) c.withdraw-withdrawn.ensures.withdrawn) c.add.ensures.items c.add-2.ensures.items (omega arith) c.add.ensures.room c.add-2.ensures.room;
         points = record { asked_so = c.self.invariant.0.points.asked_so; struck_so = c.self.invariant.0.points.struck_so; tested = c.self.invariant.0.points.tested };
         clients = (let same = ap length c.withdraw-withdrawn.ensures.seats ∙ length_set c.self.inside.inner.clients (c.args.client - 1) (record (seat_of w c.args.client) { phase = Idle }) in let was = c.self.invariant.0.clients in omega (arith, same, was));
+        service = c.self.invariant.0.service;
       },
       c.self.invariant.1,
-      c.self.invariant.2,
     )
