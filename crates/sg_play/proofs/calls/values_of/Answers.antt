@@ -1,14 +1,16 @@
-use Rattle.std.proofs.Common.{rules, ◌≡◌, ◌∷◌, [], List, IfOk, ℕ, ◌+◌, ◌-◌, ◌*◌, ◌<◌, ◌≤◌, length, ◌/◌, ◌%◌, Bool, true, false, nat_eq, nat_lt, ◌++◌, slice_index_or, slice_set, bit_and, bit_or, Fits, w8, w32, w64, Bor, MutBor}
-use Rattle.sg_facts.specs.Kinds.{AreWords}
-use Rattle.sg_facts.specs.declared.entry.Entry.{Entry as IsEntry}
-use Rattle.sg_play_laws.specs.Given.{AreGiven}
-use Rattle.sg_sim.specs.Script.{arg_value, desc_among, id_of_call, value_of, values_of}
+-- The parameters or the arguments have come to their end.
+use Rattle.std.proofs.Common.{◌≡◌, ◌++◌, length, ap, inl, inr, sym, ◌∙◌, append-nil}
+use Rattle.std.specs.Prelude.{◌⊎◌}
+use Rattle.std.specs.Slice.Iter.{iter_rest}
+use Rattle.sg_play.proofs.Given.{no_more_values}
 use Rattle.sg_play.proofs.calls.values_of.Goals as goal
 
--- src/calls.rt:37:5
 pub loop-kind-preserved : goal.loop-kind-preserved
 loop-kind-preserved c = ?
 
--- src/calls.rt:27:1
 pub returns-clause-values : goal.returns-clause-values
-returns-clause-values c = ?
+returns-clause-values c = λ own are.
+    let kinds = iter_rest c.loop-kind.kind-iterator.a in
+    let args = iter_rest c.loop-kind.kind-iterator.b in
+    let ends : (length kinds ≡ 0) ⊎ (length args ≡ 0) = elim c.in-None.ensures.steps [ inl w ↦ inl w.1.0 | inr w ↦ inr w.1.0 ] in
+    sym (c.loop-kind.invariant.0 own are ∙ ap (λ more. c.loop-kind.values ++ more) (no_more_values own kinds args ends) ∙ append-nil c.loop-kind.values)
