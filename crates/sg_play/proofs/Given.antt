@@ -6,10 +6,11 @@ use Rattle.sg_base.specs.declared.value.Value.TheVariants.{Word, Text}
 use Rattle.sg_facts.specs.Kinds.{AreWords}
 use Rattle.sg_facts.specs.declared.entry.Entry.{Entry}
 use Rattle.sg_facts.specs.declared.shape.Kind.{Kind}
+use Rattle.sg_facts.specs.declared.shape.Kind.TheVariants.{Desc, Parent, Word as IsWord, Text as IsText}
 use Rattle.sg_hist.specs.Reading.{desc_in, desc_of}
 use Rattle.sg_play_laws.specs.Given.{AreGiven}
 use Rattle.sg_script.specs.declared.script.Arg.{Arg}
-use Rattle.sg_sim.specs.Script.{desc_among, id_of_call, values_of}
+use Rattle.sg_sim.specs.Script.{desc_among, id_of_call, value_of, values_of}
 
 -- the descriptor at a place
 pub given_at : (own : List Entry) (given : List ℕ) (k d : ℕ) → AreGiven own given → k < length given → slice_index_or given k d ≡ desc_in (slice_get own k)
@@ -48,3 +49,10 @@ pub words_more : (values : List Value) (value : Value) → AreWords values → A
 words_more [] value are one = one
 words_more (Word n ∷ values) value are one = (are.0, words_more values value are.1 one)
 words_more (Text bytes ∷ values) value are one = words_more values value are one
+
+-- a number or a text comes first
+pub values_here : (own : List Entry) (kind : Kind) (kinds : List Kind) (a : Arg) (args : List Arg) → (kind ≡ IsWord) ⊎ (kind ≡ IsText) → values_of own (kind ∷ kinds) (a ∷ args) ≡ value_of own a ∷ values_of own kinds args
+values_here own IsWord kinds a args is = refl
+values_here own IsText kinds a args is = refl
+values_here own Desc kinds a args is = absurd (elim is [ inl word ↦ cc word | inr text ↦ cc text ])
+values_here own Parent kinds a args is = absurd (elim is [ inl word ↦ cc word | inr text ↦ cc text ])
