@@ -1,29 +1,30 @@
 -- What calls were given, as their entries tell it.
 use Rattle.std.proofs.Common.{◌≡◌, ◌⊎◌, ℕ, zero, suc, ◌+◌, ◌-◌, ◌<◌, ◌≤◌, List, [], ◌∷◌, ◌++◌, None, Some, length, map, refl, sym, ◌∙◌, ap, inl, inr, arith}
-use Rattle.std.specs.Prelude.{◌^◌, slice_get}
+use Rattle.std.specs.Prelude.{slice_get, slice_index_or}
 use Rattle.sg_base.specs.declared.value.Value.{Value}
 use Rattle.sg_base.specs.declared.value.Value.TheVariants.{Word, Text}
 use Rattle.sg_facts.specs.Kinds.{AreWords}
 use Rattle.sg_facts.specs.declared.entry.Entry.{Entry}
 use Rattle.sg_facts.specs.declared.shape.Kind.{Kind}
+use Rattle.sg_facts.specs.declared.shape.Kind.TheVariants.{Desc, Parent, Word as IsWord, Text as IsText}
 use Rattle.sg_hist.specs.Reading.{desc_in, desc_of}
 use Rattle.sg_play_laws.specs.Given.{AreGiven}
 use Rattle.sg_script.specs.declared.script.Arg.{Arg}
-use Rattle.sg_sim.specs.Script.{desc_among, id_of_call, values_of}
+use Rattle.sg_sim.specs.Script.{desc_among, id_of_call, value_of, values_of}
 
 -- the descriptor at a place
-pub given_at : (own : List Entry) (given : List ℕ) (k id : ℕ) → AreGiven own given → slice_get given k ≡ Some id → id ≡ desc_in (slice_get own k)
-given_at [] [] k id are there = absurd (cc there)
-given_at [] (g ∷ given) k id are there = absurd (cc are)
-given_at (e ∷ own) [] k id are there = absurd (cc are)
-given_at (e ∷ own) (g ∷ given) zero id are there = sym (cc there) ∙ sym (cc are)
-given_at (e ∷ own) (g ∷ given) (suc k) id are there = given_at own given k id (cc are) there
+pub given_at : (own : List Entry) (given : List ℕ) (k d : ℕ) → AreGiven own given → k < length given → slice_index_or given k d ≡ desc_in (slice_get own k)
+given_at own [] k d are within = absurd (omega (arith, within))
+given_at [] (g ∷ given) k d are within = absurd (cc are)
+given_at (e ∷ own) (g ∷ given) zero d are within = sym (cc are)
+given_at (e ∷ own) (g ∷ given) (suc k) d are within = given_at own given k d (cc are) (omega (arith, within))
 
-pub given_none : (own : List Entry) (given : List ℕ) (k : ℕ) → AreGiven own given → slice_get given k ≡ None → 0 ≡ desc_in (slice_get own k)
-given_none [] given k are there = refl
-given_none (e ∷ own) [] k are there = absurd (cc are)
-given_none (e ∷ own) (g ∷ given) zero are there = absurd (cc there)
-given_none (e ∷ own) (g ∷ given) (suc k) are there = given_none own given k (cc are) there
+-- behind the last there is none
+pub given_none : (own : List Entry) (given : List ℕ) (k : ℕ) → AreGiven own given → length given ≤ k → 0 ≡ desc_in (slice_get own k)
+given_none [] given k are past = refl
+given_none (e ∷ own) [] k are past = absurd (cc are)
+given_none (e ∷ own) (g ∷ given) zero are past = absurd (omega (arith, past))
+given_none (e ∷ own) (g ∷ given) (suc k) are past = given_none own given k (cc are) (omega (arith, past))
 
 -- the number of a call is that of its place, and one
 pub id_at : (own : List Entry) (call : ℕ) → 1 ≤ call → id_of_call own call ≡ desc_in (slice_get own (call - 1))
@@ -48,3 +49,10 @@ pub words_more : (values : List Value) (value : Value) → AreWords values → A
 words_more [] value are one = one
 words_more (Word n ∷ values) value are one = (are.0, words_more values value are.1 one)
 words_more (Text bytes ∷ values) value are one = words_more values value are one
+
+-- a number or a text comes first
+pub values_here : (own : List Entry) (kind : Kind) (kinds : List Kind) (a : Arg) (args : List Arg) → (kind ≡ IsWord) ⊎ (kind ≡ IsText) → values_of own (kind ∷ kinds) (a ∷ args) ≡ value_of own a ∷ values_of own kinds args
+values_here own IsWord kinds a args is = refl
+values_here own IsText kinds a args is = refl
+values_here own Desc kinds a args is = absurd (elim is [ inl word ↦ cc word | inr text ↦ cc text ])
+values_here own Parent kinds a args is = absurd (elim is [ inl word ↦ cc word | inr text ↦ cc text ])

@@ -1,3 +1,5 @@
 pub mod Finding
 pub mod Given
+pub mod Offering
 pub mod Stepping
+pub mod Turning

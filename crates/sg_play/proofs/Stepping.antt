@@ -149,7 +149,7 @@ module _ (z : Setting) (w : WorldView) (c : ℕ) (first : 1 ≤ c) (last : c ≤
       let offers = offers_by Asked l.reaches.uses.let_in.phase refl in
       commit_quiet l.reply offers between (ap (λ x. x.history) l.now) (ap (λ x. x.seats) l.now ∙ given_seats l.reply offers)
 
-  quiet_step : (did : Did) (later : WorldView) → ((reply : Reply) → did ≡ Answered reply → ⊥) → Steps z w c did later → IsQuiet w c later
+  pub quiet_step : (did : Did) (later : WorldView) → ((reply : Reply) → did ≡ Answered reply → ⊥) → Steps z w c did later → IsQuiet w c later
   quiet_step Skipped later none l = skips later l
   quiet_step (Answered reply) later none l = absurd (none reply refl)
   quiet_step Lost later none l = loses later l
@@ -175,14 +175,14 @@ module _ (z : Setting) (w : WorldView) (c : ℕ) (first : 1 ≤ c) (last : c ≤
   quiet_step Served later none (inr l) =
       used_set later Held (length w.run.boots) l.reply (offers_by Asked l.reaches.uses.let_in.phase refl) refl (ap (λ x. x.history) l.now) (ap (λ x. x.seats) l.now)
 
-  handed_step : (reply : Reply) (later : WorldView) → (is_receipted s.phase ≡ true → 1 ≤ s.seq) → Steps z w c (Answered reply) later → IsHandedTo w c later
+  pub handed_step : (reply : Reply) (later : WorldView) → (later.history ≡ w.history → 1 ≤ s.seq) → Steps z w c (Answered reply) later → IsHandedTo w c later
   handed_step reply later some (inl l) =
       let new : Seat = record s { phase = Idle; reply = no_reply } in
       let seats : later.seats ≡ slice_set w.seats (c - 1) new = ap (λ x. x.seats) l.now in
       let here : seat_of later c ≡ new = ap (λ x. seat_in x c) seats ∙ seat_here w.seats c new first last in
       let receipted : is_receipted s.phase ≡ true = ap is_receipted l.phase in
       let was : handed s ≡ s.seq - 1 = ap (λ b. cond b (s.seq - 1) s.seq) receipted in
-      let more : s.seq ≡ handed s + 1 = omega (arith, was, some receipted) in
+      let more : s.seq ≡ handed s + 1 = omega (arith, was, some (ap (λ x. x.history) l.now)) in
       record {
         on = inl (subst (λ h. EntersNothing w.history w.seats c h later.seats) (sym (ap (λ x. x.history) l.now)) (subst (EntersNothing w.history w.seats c w.history) (sym seats)
             (line_set w.history w.seats c new first last (record { offered = λ is. absurd (cc is); call = refl; seq = refl }) (omega (arith, more)))));

@@ -3,7 +3,10 @@ ghost use Rattle.std.specs.Prelude.{◌≡◌, ◌⊎◌, ◌≤◌, ℕ, List, 
 ghost use Rattle.sg_hist.specs.Reading.{desc_of};
 ghost use Rattle.sg_play_laws.specs.Callers.{is_setting_up};
 ghost use Rattle.sg_play_laws.specs.Given.{given_in, with_handed};
+ghost use Rattle.sg_play_laws.specs.Playable.{AreClients};
 ghost use Rattle.sg_play_laws.specs.Plays.{IsPlaying};
+ghost use Rattle.sg_seat.specs.WorldView.{seat_of};
+ghost use Rattle.sg_seat.specs.declared.phase.Phase.TheVariants.{Idle};
 ghost use Rattle.sg_play_laws.specs.Turns.{is_free_phase};
 
 use crate::calls::{desc_among, values_of};
@@ -70,10 +73,7 @@ pub(crate) fn make_step<S: Service, T: Stops>(
 {
     match world.step(alloc, client)? {
         Did::Answered(reply) => {
-            let done = world.seq(client) as usize;
-            if script_call(script, client, done).is_none() {
-                world.leave(client);
-            }
+            leave_if_done(world, script, client);
             Ok(Some(desc_of(&reply)))
         }
         Did::Skipped
@@ -84,6 +84,23 @@ pub(crate) fn make_step<S: Service, T: Stops>(
         | Did::Served
         | Did::Blocked
         | Did::Lost => Ok(None),
+    }
+}
+
+// A client whose call was answered leaves where it has no more.
+fn leave_if_done<S: Service, T: Stops>(world: &mut World<S, T>, script: &Script, client: u8)
+    requires first { 1 ≤ client }
+    requires last { client ≤ length world.old.view.seats }
+    requires idle { (seat_of world.old.view client).phase ≡ Idle }
+    requires clients { AreClients 0 script.now.clients }
+    ensures playing { (all : List (List ℕ)) → IsPlaying world.old.tables.iface script.now world.old.view.history world.old.view.seats all
+        → IsPlaying world.old.tables.iface script.now world.new.view.history world.new.view.seats all }
+    ensures tables { world.new.tables ≡ world.old.tables }
+    ensures plan { world.new.plan ≡ world.old.plan }
+{
+    let done = world.seq(client) as usize;
+    if script_call(script, client, done).is_none() {
+        world.leave(client);
     }
 }
 

@@ -1,5 +1,5 @@
 -- A play keeps what it keeps, at an offer and at a step.
-use Rattle.std.proofs.Common.{◌≡◌, ◌≢◌, ◌⊎◌, ℕ, ◌≤◌, true, List, Some, length, map, take, sym, ◌∙◌, ap, subst, inl, inr, arith}
+use Rattle.std.proofs.Common.{◌≡◌, ◌≢◌, ◌⊎◌, ℕ, ◌≤◌, true, List, None, Some, length, map, take, sym, ◌∙◌, ap, subst, inl, inr, arith}
 use Rattle.std.specs.declared.option.Option.{Option}
 use Rattle.sg_facts.specs.declared.entry.Entry.{Entry}
 use Rattle.sg_facts.specs.Interface.{Declared}
@@ -10,12 +10,12 @@ use Rattle.sg_plain.specs.Promises.{AreScriptsCalls}
 use Rattle.sg_script.specs.declared.script.Script.{Script}
 use Rattle.sg_seat.specs.WorldView.{Seat, is_offered, seat_in}
 use Rattle.sg_play_laws.proofs.Lines.{same_or_other}
-use Rattle.sg_play_laws.specs.Callers.{StepsOn, handed, is_setting_up}
+use Rattle.sg_play_laws.specs.Callers.{EntersNothing, StepsOn, handed, is_setting_up}
 use Rattle.sg_play_laws.specs.Given.{HandsOver, with_handed}
 use Rattle.sg_play_laws.specs.Plays.{IsPlaying}
 use Rattle.sg_play_laws.proofs.Calling.{callers_offer, callers_step, its_client}
 use Rattle.sg_play_laws.proofs.Giving.{given_step}
-use Rattle.sg_play_laws.proofs.Setting.{setup_offer, setup_step}
+use Rattle.sg_play_laws.proofs.Setting.{setup_offer, setup_step, setup_still}
 use Rattle.sg_play_laws.proofs.Whole.{scripts_calls}
 
 module _ (i : Declared) (script : Script) (history : List Entry) (seats : List Seat) (given : List (List ℕ)) (c : ℕ) (first : 1 ≤ c) (last : c ≤ length seats)
@@ -58,6 +58,17 @@ module _ (i : Declared) (script : Script) (history : List Entry) (seats : List S
       handed_at : (client : ℕ) → 1 ≤ client → (client ≡ c) ⊎ (client ≢ c) → handed (seat_in later client) ≡ handed (seat_in seats client)
       handed_at client from (inl it) = subst (λ n. handed (seat_in later n) ≡ handed (seat_in seats n)) (sym it) same
       handed_at client from (inr other) = ap handed (others client from other)
+
+-- where a client makes no entry and is handed nothing
+pub playing_still : (i : Declared) (script : Script) (history now : List Entry) (seats later : List Seat) (given : List (List ℕ)) (c : ℕ) → 1 ≤ c → c ≤ length seats → IsPlaying i script history seats given
+    → EntersNothing history seats c now later → handed (seat_in later c) ≡ handed (seat_in seats c) → IsPlaying i script now later given
+playing_still i script history now seats later given c first last is enters same = record {
+  playable = is.playable;
+  clients = enters.clients ∙ is.clients;
+  callers = callers_step i script history now seats later c is.playable first last is.callers (inl enters);
+  first = setup_still script history now seats later c is.first enters;
+  have_given = given_step i script history now seats later c given is.playable first last is.callers is.have_given (inl enters) None same;
+}
 
 -- the entries are the script's calls
 pub playing_calls : (i : Declared) (script : Script) (history : List Entry) (seats : List Seat) (given : List (List ℕ)) → IsPlaying i script history seats given → AreScriptsCalls i.facts script history

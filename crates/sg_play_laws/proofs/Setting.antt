@@ -79,18 +79,19 @@ not_offered : (b a : Bool) → (b ≡ true → a ≡ true) → a ≡ false → b
 not_offered true a so none = absurd (cc (sym none ∙ so refl))
 not_offered false a so none = refl
 
+-- a step that makes no entry
+pub setup_still : (script : Script) (history now : List Entry) (seats later : List Seat) (c : ℕ) → SetsUpFirst script history seats → EntersNothing history seats c now later → SetsUpFirst script now later
+setup_still script history now seats later c first enters =
+    let was = was_setting_up script seats later (handed_grows seats later c 1 (omega arith) enters.handed_on) in
+    record {
+      front = ap (λ h. all_of_first (take (length script.setup) h)) enters.same ∙ first.front;
+      all = λ is. ap all_of_first enters.same ∙ first.all (was is);
+      others = λ is client from other. not_offered (is_offered (seat_in later client).phase) (is_offered (seat_in seats client).phase) (enters.each client from).offered (first.others (was is) client from other);
+    }
+
 module _ (script : Script) (history now : List Entry) (seats later : List Seat) (c : ℕ) (turn : is_setting_up script seats ≡ true → c ≡ 1)
     (count : (seat_in seats 1).seq ≡ length (calls_of history 1)) (its : is_offered (seat_in seats c).phase ≡ true → (seat_in seats c).call.client ≡ c)
     (first : SetsUpFirst script history seats) where
-  nothing_entered : EntersNothing history seats c now later → SetsUpFirst script now later
-  nothing_entered enters =
-      let was = was_setting_up script seats later (handed_grows seats later c 1 (omega arith) enters.handed_on) in
-      record {
-        front = ap (λ h. all_of_first (take (length script.setup) h)) enters.same ∙ first.front;
-        all = λ is. ap all_of_first enters.same ∙ first.all (was is);
-        others = λ is client from other. not_offered (is_offered (seat_in later client).phase) (is_offered (seat_in seats client).phase) (enters.each client from).offered (first.others (was is) client from other);
-      }
-
   call_entered : EntersCall history seats c now later → SetsUpFirst script now later
   call_entered enters =
       let was = was_setting_up script seats later (handed_grows seats later c 1 (omega arith) enters.handed_on) in
@@ -112,7 +113,7 @@ module _ (script : Script) (history now : List Entry) (seats later : List Seat) 
 
   -- a step of a client, which is client 1 while the setup goes on
   pub setup_step : StepsOn history seats c now later → SetsUpFirst script now later
-  setup_step (inl enters) = nothing_entered enters
+  setup_step (inl enters) = setup_still script history now seats later c first enters
   setup_step (inr enters) = call_entered enters
 
 -- an offer of a client, which is client 1 while the setup goes on

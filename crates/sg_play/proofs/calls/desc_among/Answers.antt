@@ -1,10 +1,13 @@
-use Rattle.std.proofs.Common.{rules, ◌≡◌, ◌∷◌, [], List, IfOk, ℕ, ◌+◌, ◌-◌, ◌*◌, ◌<◌, ◌≤◌, length, ◌/◌, ◌%◌, Bool, true, false, nat_eq, nat_lt, ◌++◌, slice_index_or, slice_set, bit_and, bit_or, Fits, w8, w32, w64, Bor, MutBor}
-use Rattle.sg_facts.specs.Kinds.{AreWords}
-use Rattle.sg_facts.specs.declared.entry.Entry.{Entry as IsEntry}
-use Rattle.sg_play_laws.specs.Given.{AreGiven}
-use Rattle.sg_sim.specs.Script.{arg_value, desc_among, id_of_call, value_of, values_of}
+-- The parameters or the arguments have come to their end.
+use Rattle.std.proofs.Common.{◌≡◌, length, inl, inr, sym, ◌∙◌}
+use Rattle.std.specs.Prelude.{◌⊎◌}
+use Rattle.std.specs.Slice.Iter.{iter_rest}
+use Rattle.sg_play.proofs.Given.{no_more_desc}
 use Rattle.sg_play.proofs.calls.desc_among.Goals as goal
 
--- src/calls.rt:14:1
 pub returns : goal.returns
-returns c = ?
+returns c = λ own are.
+    let kinds = iter_rest c.loop-kind.kind-iterator.a in
+    let args = iter_rest c.loop-kind.kind-iterator.b in
+    let ends : (length kinds ≡ 0) ⊎ (length args ≡ 0) = elim c.in-None.ensures.steps [ inl w ↦ inl w.1.0 | inr w ↦ inr w.1.0 ] in
+    sym (c.loop-kind.invariant own ∙ no_more_desc own kinds args ends)

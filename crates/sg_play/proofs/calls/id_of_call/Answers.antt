@@ -1,14 +1,19 @@
-use Rattle.std.proofs.Common.{rules, ◌≡◌, ◌∷◌, [], List, IfOk, ℕ, ◌+◌, ◌-◌, ◌*◌, ◌<◌, ◌≤◌, length, ◌/◌, ◌%◌, Bool, true, false, nat_eq, nat_lt, ◌++◌, slice_index_or, slice_set, bit_and, bit_or, Fits, w8, w32, w64, Bor, MutBor}
-use Rattle.sg_facts.specs.Kinds.{AreWords}
-use Rattle.sg_facts.specs.declared.entry.Entry.{Entry as IsEntry}
-use Rattle.sg_play_laws.specs.Given.{AreGiven}
-use Rattle.sg_sim.specs.Script.{arg_value, desc_among, id_of_call, value_of, values_of}
+-- `$k` is the descriptor at the place before k.
+use Rattle.std.proofs.Common.{◌≡◌, ◌-◌, ◌<◌, ◌≤◌, length, sym, ◌∙◌, arith}
+use Rattle.std.proofs.lemmas.Bool.Decides.{nat_tests}
+use Rattle.sg_play.proofs.Given.{given_at, given_none, id_at}
 use Rattle.sg_play.proofs.calls.id_of_call.Goals as goal
 
--- src/calls.rt:70:1
 pub returns-in-Some : goal.returns-in-Some
-returns-in-Some c = ?
+returns-in-Some c = λ own are.
+    let is = c.in-Some.ensures.lookup in
+    let within : c.args.call - 1 < length c.args.given.now = grind (arith, nat_tests, is.0) in
+    let some : 1 ≤ c.args.call = omega (arith, c.if-call-eq0.false) in
+    is.1 ∙ given_at own c.args.given.now (c.args.call - 1) _ are within ∙ sym (id_at own c.args.call some)
 
--- src/calls.rt:70:1
 pub returns-in-None : goal.returns-in-None
-returns-in-None c = ?
+returns-in-None c = λ own are.
+    let is = c.in-None.ensures.lookup in
+    let past : length c.args.given.now ≤ c.args.call - 1 = grind (arith, nat_tests, is.0) in
+    let some : 1 ≤ c.args.call = omega (arith, c.if-call-eq0.false) in
+    given_none own c.args.given.now (c.args.call - 1) are past ∙ sym (id_at own c.args.call some)

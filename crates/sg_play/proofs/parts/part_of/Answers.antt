@@ -1,14 +1,16 @@
-use Rattle.std.proofs.Common.{rules, ◌≡◌, length, slice_get, ℕ, ◌+◌, ◌-◌, ◌*◌, ◌<◌, ◌≤◌, ◌/◌, ◌%◌, Bool, true, false, nat_eq, nat_lt, List, [], ◌∷◌, ◌++◌, slice_index_or, slice_set, bit_and, bit_or, Fits, w8, w32, w64, Bor, MutBor}
+-- The part at the place that was found is the client's; none found, the client has none.
+use Rattle.std.proofs.Common.{sym, ◌∙◌}
+use Rattle.std.proofs.lemmas.Fn.{always_returns_same}
 use Rattle.std.specs.Ordering.{nat_cmp}
-use Rattle.std.specs.Option.{option_copied}
-use Rattle.sg_plain.specs.Calls.{most_client, part_of, script_calls}
-use Rattle.sg_play_laws.specs.Playable.{AreClients}
+use Rattle.sg_play.proofs.Finding.{found, not_found, rises}
 use Rattle.sg_play.proofs.parts.part_of.Goals as goal
 
--- src/parts.rt:42:1
 pub returns-in-Ok : goal.returns-in-Ok
-returns-in-Ok c = ?
+returns-in-Ok c =
+    let at = c.in-Ok.ensures.position (λ p. nat_cmp p.0 c.args.client) (always_returns_same _ _ _ (λ a r f' k. (k.met.1, λ j. record { 0 = k.met.0 j }))) in
+    c.as_slice.ensures ∙ sym (found c.args.clients.now c.args.client c.in-Ok.place c.index-clients-place.result c.requires c.in-Ok.ensures.bound (at c.index-clients-place.result))
 
--- src/parts.rt:42:1
 pub returns-in-Err : goal.returns-in-Err
-returns-in-Err c = ?
+returns-in-Err c =
+    let at = c.in-Err.ensures.position (λ p. nat_cmp p.0 c.args.client) (always_returns_same _ _ _ (λ a r f' k. (k.met.1, λ j. record { 0 = k.met.0 j }))) in
+    sym (not_found c.args.clients.now c.args.client c.in-Err.field-0 (at (rises c.args.clients.now c.args.client c.requires)))

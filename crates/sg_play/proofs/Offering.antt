@@ -1,0 +1,158 @@
+-- A client offers the next call of its script.
+use Rattle.std.proofs.Common.{◌≡◌, ◌≢◌, ◌⊎◌, ℕ, zero, suc, ◌+◌, ◌-◌, ◌≤◌, Bool, true, false, cond, List, [], ◌∷◌, None, Some, length, take, refl, sym, ◌∙◌, ap, subst, inl, inr, arith, slice_set}
+use Rattle.std.specs.Prelude.{◌&&◌, OnErr, OnOk, nat_lt, slice_get}
+use Rattle.std.specs.List.{list_any}
+use Rattle.std.specs.declared.option.Option.{Option}
+use Rattle.std.specs.declared.result.Result.{Result}
+use Rattle.std.specs.declared.result.Result.TheVariants.{Ok, Err}
+use Rattle.std.proofs.lemmas.Bool.{and_parts}
+use Rattle.sg_base.specs.declared.call.Call.{Call}
+use Rattle.sg_base.specs.declared.value.Value.{Value}
+use Rattle.sg_facts.specs.declared.entry.Entry.{Entry}
+use Rattle.sg_facts.specs.declared.shape.Kind.{Kind}
+use Rattle.sg_facts.specs.declared.shape.Kind.TheVariants.{Desc, Parent, Word as IsWord, Text as IsText}
+use Rattle.sg_facts.specs.Facts.{fun_at, is_desc, is_parent}
+use Rattle.sg_facts.specs.Interface.{Declared, declares}
+use Rattle.sg_facts.specs.Kinds.{FitsKinds, kinds_fit}
+use Rattle.sg_hist.specs.Clients.{calls_of}
+use Rattle.sg_plain.specs.Calls.{call_after, resolved, script_calls}
+use Rattle.sg_script.specs.declared.script.Arg.{Arg}
+use Rattle.sg_script.specs.declared.script.Arg.TheVariants.{Number, Text, Back}
+use Rattle.sg_script.specs.declared.script.Script.{Script}
+use Rattle.sg_script.specs.declared.script.ScriptCall.{ScriptCall}
+use Rattle.sg_seat.specs.WorldView.{Seat, is_offered, seat_in}
+use Rattle.sg_seat.specs.declared.phase.Phase.{Phase}
+use Rattle.sg_seat.specs.declared.phase.Phase.TheVariants.{Idle, Asked, Held, Receipted, Blocked, Left}
+use Rattle.sg_sim.specs.Script.{arg_fits, args_fit, call_fits, desc_among, values_of}
+use Rattle.sg_play_laws.specs.Callers.{handed, is_receipted, is_setting_up}
+use Rattle.sg_play_laws.specs.Given.{AreGiven, given_in}
+use Rattle.sg_play_laws.specs.Plays.{IsPlaying}
+use Rattle.sg_play_laws.specs.Turns.{is_free_phase}
+use Rattle.sg_play_laws.proofs.Lines.{length_set, same_or_other, seat_here, seat_there}
+use Rattle.sg_play_laws.proofs.Playing.{playing_offer}
+use Rattle.sg_play_laws.proofs.Resolving.{fits_at}
+
+-- ---- a call that fits
+
+kinds_of : (own : List Entry) (n : ℕ) (kinds : List Kind) (args : List Arg) → args_fit n kinds args ≡ true → kinds_fit kinds (values_of own kinds args) ≡ true
+kinds_of own n [] [] fits = refl
+kinds_of own n [] (a ∷ args) fits = absurd (cc fits)
+kinds_of own n (k ∷ kinds) [] fits = absurd (cc fits)
+kinds_of own n (Desc ∷ kinds) (a ∷ args) fits = kinds_of own n kinds args (and_parts (arg_fits n Desc a) _ fits).1
+kinds_of own n (Parent ∷ kinds) (a ∷ args) fits = kinds_of own n kinds args (and_parts (arg_fits n Parent a) _ fits).1
+kinds_of own n (IsWord ∷ kinds) (Number m ∷ args) fits = kinds_of own n kinds args fits
+kinds_of own n (IsWord ∷ kinds) (Text t ∷ args) fits = absurd (cc fits)
+kinds_of own n (IsWord ∷ kinds) (Back k ∷ args) fits = kinds_of own n kinds args (and_parts (arg_fits n IsWord (Back k)) _ fits).1
+kinds_of own n (IsText ∷ kinds) (Number m ∷ args) fits = absurd (cc fits)
+kinds_of own n (IsText ∷ kinds) (Text t ∷ args) fits = kinds_of own n kinds args fits
+kinds_of own n (IsText ∷ kinds) (Back k ∷ args) fits = absurd (cc fits)
+
+no_desc : (own : List Entry) (kinds : List Kind) (args : List Arg) → list_any is_desc kinds ≡ false → list_any is_parent kinds ≡ false → desc_among own kinds args ≡ 0
+no_desc own [] args desc parent = refl
+no_desc own (k ∷ kinds) [] desc parent = refl
+no_desc own (Desc ∷ kinds) (a ∷ args) desc parent = absurd (cc desc)
+no_desc own (Parent ∷ kinds) (a ∷ args) desc parent = absurd (cc parent)
+no_desc own (IsWord ∷ kinds) (a ∷ args) desc parent = no_desc own kinds args desc parent
+no_desc own (IsText ∷ kinds) (a ∷ args) desc parent = no_desc own kinds args desc parent
+
+-- ---- a client that has no call under way
+
+free_handed : (s : Seat) → is_free_phase s.phase ≡ true → handed s ≡ s.seq
+free_handed s free = ap (λ b. cond b (s.seq - 1) s.seq) (by s.phase free)
+  where
+    by : (p : Phase) → is_free_phase p ≡ true → is_receipted p ≡ false
+    by Idle free = refl
+    by Left free = refl
+    by Asked free = absurd (cc free)
+    by Held free = absurd (cc free)
+    by Receipted free = absurd (cc free)
+    by Blocked free = absurd (cc free)
+
+take_whole : (es : List Entry) (n : ℕ) → n ≡ length es → take n es ≡ es
+take_whole [] zero is = refl
+take_whole [] (suc n) is = absurd (cc is)
+take_whole (x ∷ es) zero is = absurd (cc is)
+take_whole (x ∷ es) (suc n) is = ap (λ l. x ∷ l) (take_whole es n (omega (arith, is)))
+
+module _ (i : Declared) (script : Script) (history : List Entry) (seats : List Seat) (all : List (List ℕ)) (c : ℕ) (first : 1 ≤ c) (last : c ≤ length seats)
+    (is : IsPlaying i script history seats all) (free : is_free_phase (seat_in seats c).phase ≡ true) where
+  abbrev s : Seat
+  s = seat_in seats c
+
+  count : s.seq ≡ length (calls_of history c)
+  count = (is.callers.each c first last).count
+
+  -- it was given what all its entries gave
+  pub all_given : (given : List ℕ) → given_in all c ≡ given → AreGiven (calls_of history c) given
+  all_given given same = subst (AreGiven (calls_of history c)) same
+      (subst (λ es. AreGiven es (given_in all c)) (take_whole (calls_of history c) (handed s) (free_handed s free ∙ count)) (is.have_given.each c first last))
+
+  module _ (written : ScriptCall) (there : slice_get (script_calls script c) s.seq ≡ Some written) where
+    call_is_fit : call_fits i (1 + s.seq) written ≡ true
+    call_is_fit = fits_at i 1 (script_calls script c) s.seq written (is.playable.fit c) there
+
+    pub call_declared : declares i written.fun ≡ true
+    call_declared = (and_parts (declares i written.fun) (args_fit (1 + s.seq) (fun_at i.facts.funs written.fun).kinds written.args) call_is_fit).0
+
+    args_are_fit : args_fit (1 + s.seq) (fun_at i.facts.funs written.fun).kinds written.args ≡ true
+    args_are_fit = (and_parts (declares i written.fun) (args_fit (1 + s.seq) (fun_at i.facts.funs written.fun).kinds written.args) call_is_fit).1
+
+    module _ (kinds : List Kind) (desc : ℕ) (values : List Value) (kinds_are : kinds ≡ (fun_at i.facts.funs written.fun).kinds)
+        (desc_is : desc ≡ desc_among (calls_of history c) kinds written.args) (values_are : values ≡ values_of (calls_of history c) kinds written.args) where
+      abbrev made : Call
+      made = record { client = c; seq = s.seq + 1; fun = written.fun; desc = desc; args = values }
+
+      desc_so : desc ≡ desc_among (calls_of history c) (fun_at i.facts.funs written.fun).kinds written.args
+      desc_so = desc_is ∙ ap (λ ks. desc_among (calls_of history c) ks written.args) kinds_are
+
+      values_so : values ≡ values_of (calls_of history c) (fun_at i.facts.funs written.fun).kinds written.args
+      values_so = values_are ∙ ap (λ ks. values_of (calls_of history c) ks written.args) kinds_are
+
+      pub call_fits_kinds : FitsKinds i.facts made
+      call_fits_kinds = record {
+        args = subst (λ vs. kinds_fit (fun_at i.facts.funs written.fun).kinds vs ≡ true) (sym values_so) (kinds_of (calls_of history c) (1 + s.seq) (fun_at i.facts.funs written.fun).kinds written.args args_are_fit);
+        desc = λ no_d no_p. desc_so ∙ no_desc (calls_of history c) (fun_at i.facts.funs written.fun).kinds written.args no_d no_p;
+      }
+
+      next : call_after i.facts script history c (length (calls_of history c)) ≡ Some made
+      next =
+          ap (λ n. resolved i.facts history c (length (calls_of history c) + 1) (slice_get (script_calls script c) n)) (sym count)
+          ∙ ap (resolved i.facts history c (length (calls_of history c) + 1)) there
+          ∙ ap (λ n. Some (record {
+              client = c;
+              seq = n + 1;
+              fun = written.fun;
+              desc = desc_among (calls_of history c) (fun_at i.facts.funs written.fun).kinds written.args;
+              args = values_of (calls_of history c) (fun_at i.facts.funs written.fun).kinds written.args;
+            })) (sym count)
+          ∙ ap (λ d. Some (record {
+              client = c;
+              seq = s.seq + 1;
+              fun = written.fun;
+              desc = d;
+              args = values_of (calls_of history c) (fun_at i.facts.funs written.fun).kinds written.args;
+            })) (sym desc_so)
+          ∙ ap (λ vs. Some (record { client = c; seq = s.seq + 1; fun = written.fun; desc = desc; args = vs })) (sym values_so)
+
+      abbrev asking : Seat
+      asking = record s { phase = Asked; call = made }
+
+      here : seat_in (slice_set seats (c - 1) asking) c ≡ asking
+      here = seat_here seats c asking first last
+
+      pub offered_playing : (is_setting_up script seats ≡ true → c ≡ 1) → IsPlaying i script history (slice_set seats (c - 1) asking) all
+      offered_playing turn = playing_offer i script history seats all c first last turn is (slice_set seats (c - 1) asking) (length_set seats (c - 1) asking)
+          (next ∙ ap (λ (x : Seat). Some x.call) (sym here)) (ap (λ (x : Seat). x.seq) here) (ap handed here ∙ sym (free_handed s free))
+          (λ client from other. seat_there seats c client asking first from other)
+
+      pub offered_setup : (is_setting_up script seats ≡ true → c ≡ 1) → is_setting_up script (slice_set seats (c - 1) asking) ≡ true → c ≡ 1
+      offered_setup turn setting = turn (ap (λ n. nat_lt n (length script.setup)) (by (same_or_other 1 c)) ∙ setting)
+        where
+          by : (1 ≡ c) ⊎ (1 ≢ c) → handed (seat_in seats 1) ≡ handed (seat_in (slice_set seats (c - 1) asking) 1)
+          by (inl own) = subst (λ n. handed (seat_in seats n) ≡ handed (seat_in (slice_set seats (c - 1) asking) n)) (sym own) (free_handed s free ∙ sym (ap handed here))
+          by (inr other) = ap handed (sym (seat_there seats c 1 asking first (omega arith) other))
+
+-- what holds of a success and of a failure holds of a result
+pub either_way : {A E X : Type 0} (P Q : Type 0) (r : Result A E) → OnOk r P → OnErr r Q → (P → X) → (Q → X) → X
+either_way P Q (Ok a) ok err so not = so ok
+either_way P Q (Err e) ok err so not = not err
