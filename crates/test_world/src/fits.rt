@@ -1,0 +1,33 @@
+// Whether a call may be offered.
+ghost use Rattle.std.specs.Prelude.{◌≡◌, true, false};
+ghost use Rattle.sg_facts.specs.Facts.{fun_at, takes_desc, takes_parent};
+ghost use Rattle.sg_facts.specs.Interface.{declares};
+ghost use Rattle.sg_facts.specs.Kinds.{kinds_fit};
+
+use sg_base::{Args, Value};
+use sg_facts::{Interface, Kind};
+
+/// Whether an interface declares a function that takes this descriptor and these arguments.
+pub fn fits(iface: &Interface, fun: u8, desc: u64, args: &Args) -> bool
+    ensures declared { result ≡ true → declares iface.now fun ≡ true }
+    ensures args { result ≡ true → kinds_fit (fun_at iface.now.facts.funs fun).kinds args.now ≡ true }
+    ensures desc { result ≡ true → takes_desc (fun_at iface.now.facts.funs fun) ≡ false → takes_parent (fun_at iface.now.facts.funs fun) ≡ false → desc ≡ 0 }
+{
+    let shape = iface.fun(fun);
+    iface.declares(fun)
+        && kinds_fit(shape.kinds, args.as_slice())
+        && (shape.takes_desc() || shape.takes_parent() || desc == 0)
+}
+
+// Whether values are those that kinds ask for, beside descriptor and parent.
+fn kinds_fit(kinds: &[Kind], values: &[Value]) -> bool
+    ensures { result ≡ kinds_fit kinds.now values.now }
+{
+    match (kinds, values) {
+        ([], []) => true,
+        ([Kind::Desc | Kind::Parent, more @ ..], _) => kinds_fit(more, values),
+        ([Kind::Word, more @ ..], [Value::Word(_), others @ ..]) => kinds_fit(more, others),
+        ([Kind::Text, more @ ..], [Value::Text(_), others @ ..]) => kinds_fit(more, others),
+        _ => false,
+    }
+}
