@@ -1,5 +1,5 @@
 // Events of a world, as tables have them.
-ghost use Rattle.std.specs.Prelude.{IfOk};
+ghost use Rattle.std.specs.Prelude.{[], ◌∷◌, IfOk};
 ghost use Rattle.sg_facts.specs.Kinds.{AreWords};
 
 use crate::run::Unmade;
@@ -79,6 +79,7 @@ impl Told {
 }
 
 /// The arguments of a call.
+#[tactic(auto, using(crate::proofs::Words::words_and_one))]
 pub fn args_of(alloc: Global, args: &[Arg]) -> Result<Args, Unmade>
     ensures { IfOk result AreWords }
 {
@@ -90,7 +91,9 @@ pub fn args_of(alloc: Global, args: &[Arg]) -> Result<Args, Unmade>
 }
 
 // An argument as a value.
-fn value_of(alloc: Global, arg: &Arg) -> Result<Value, Unmade> {
+fn value_of(alloc: Global, arg: &Arg) -> Result<Value, Unmade>
+    ensures { IfOk result (λ value. AreWords (value ∷ [])) }
+{
     match arg {
         Arg::Word(word) => Ok(Value::Word(*word)),
         Arg::Text(bytes) => match Text::new(alloc, bytes) {

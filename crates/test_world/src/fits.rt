@@ -8,7 +8,7 @@ use sg_base::{Args, Value};
 use sg_facts::{Interface, Kind};
 
 /// Whether an interface declares a function that takes this descriptor and these arguments.
-pub fn fits(iface: &Interface, fun: u8, desc: u64, args: &Args) -> bool
+pub fn takes(iface: &Interface, fun: u8, desc: u64, args: &Args) -> bool
     ensures declared { result ≡ true → declares iface.now fun ≡ true }
     ensures args { result ≡ true → kinds_fit (fun_at iface.now.facts.funs fun).kinds args.now ≡ true }
     ensures desc { result ≡ true → takes_desc (fun_at iface.now.facts.funs fun) ≡ false → takes_parent (fun_at iface.now.facts.funs fun) ≡ false → desc ≡ 0 }

@@ -4,7 +4,7 @@ ghost use Rattle.sg_edge.specs.Stops.{AscendsAbove, struck_of};
 ghost use Rattle.sg_facts.specs.Interface.{declares};
 
 use crate::events::{Arg, Event, args_of};
-use crate::fits::fits;
+use crate::fits::takes;
 use sg_base::{Args, Bytes, Call, NoMemory, PointList, Reply, Stops, TryCopy};
 use sg_edge::AtPoints;
 use sg_facts::{Interface, LAST_CLIENT, Service, Tables, Tag, Trace};
@@ -21,6 +21,8 @@ pub enum Unmade {
     NoMemory,
     /// It may not be made here.
     NotAllowed,
+    /// The event at this place didn't go as it is told.
+    Otherwise { at: usize },
 }
 
 impl From<NoMemory> for Unmade {
@@ -105,7 +107,7 @@ impl<S: Service, T: Stops> Run<S, T> {
         args: &[Arg],
     ) -> Result<(), Unmade> {
         let args = args_of(alloc, args)?;
-        if !self.may_offer(client) || !fits(&self.iface, fun, desc, &args) {
+        if !self.may_offer(client) || !takes(&self.iface, fun, desc, &args) {
             return Err(Unmade::NotAllowed);
         }
         Ok(self.world.offer(alloc, client, fun, desc, args)?)

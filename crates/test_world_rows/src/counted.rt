@@ -1,19 +1,22 @@
 // Plays of events, event by event.
-use crate::rows::{Row, play};
+use crate::plays::play;
+use sg_base::Code;
 use sg_event::EventService;
 use sg_seat::Phase;
 use std::test::Fail;
 use test_tables::event_tables;
 use test_world::Arg::Word;
-use test_world::DONE;
 use test_world::Event::{Leave, Offer, Step};
-use test_world::Told::{Blocked, Booted, Good, Replayed, Served, Struck};
+use test_world::Told::{Blocked, Booted, Good, Refused, Replayed, Served, Skipped, Struck};
+use test_world::{DONE, Row};
 
 const SPLIT: u8 = 1;
 
 const WAIT: u8 = 2;
 
 const TRIGGER: u8 = 3;
+
+const FREE: u8 = 4;
 
 // A trigger is stored as the service stops: another client gets its count, and it is not added again.
 const TRIGGER_NOT_TWICE: Row = Row {
@@ -37,6 +40,7 @@ const TRIGGER_NOT_TWICE: Row = Row {
         Step(2, Blocked),
     ],
     ends: &[Phase::Left, Phase::Blocked],
+    is_up: true,
     text: "c1.1 evt_split() = ok #1
 c1.2 evt_trigger(1, 1) = ok
 c2.1 evt_wait(1) = ok
@@ -83,6 +87,7 @@ const PRESENT_VALUE: Row = Row {
         Leave(1),
     ],
     ends: &[Phase::Left],
+    is_up: true,
     text: "c1.1 evt_split() = ok #1
 c1.2 evt_trigger(1, 5) = ok
 c1.3 evt_wait(1) = ok
@@ -126,6 +131,7 @@ const WAITS_AGAIN: Row = Row {
         Leave(2),
     ],
     ends: &[Phase::Left, Phase::Left],
+    is_up: true,
     text: "c1.1 evt_split() = ok #1
 c1.2 evt_trigger(1, 1) = ok
 c2.1 evt_wait(1) = ok
@@ -141,6 +147,49 @@ walk 1.1 for c2 by c1 evt_split() replied
 call c1.2 evt_trigger(1, 1) replied
 call c2.1 evt_wait(1) replied
 points 19
+",
+};
+
+// An event ends while a client waits for it: the client is asked again, and refused.
+const WOKEN_BY_THE_END: Row = Row {
+    clients: 3,
+    stops: &[],
+    events: &[
+        Offer(1, SPLIT, 0, &[]),
+        Step(1, Served),
+        Step(1, Good(1, &[], b"")),
+        Offer(1, SPLIT, 0, &[]),
+        Step(1, Served),
+        Step(1, Good(2, &[], b"")),
+        Offer(2, WAIT, 1, &[]),
+        Step(2, Blocked),
+        Offer(3, WAIT, 2, &[]),
+        Step(3, Blocked),
+        Offer(1, FREE, 1, &[]),
+        Step(1, Served),
+        Step(1, DONE),
+        Step(2, Refused(Code::NoDesc)),
+        Step(3, Skipped),
+        Leave(1),
+        Leave(2),
+    ],
+    ends: &[Phase::Left, Phase::Left, Phase::Blocked],
+    is_up: true,
+    text: "c1.1 evt_split() = ok #1
+c1.2 evt_split() = ok #2
+c1.3 evt_free(1) = ok
+c2.1 evt_wait(1) = refused NoDesc
+client 1 done
+client 2 done
+client 3 blocked evt_wait(2)
+calls 4 boots 1 replays 0
+boot 1
+call c1.1 evt_split() replied
+call c1.2 evt_split() replied
+call c2.1 evt_wait(1) blocked
+call c3.1 evt_wait(2) blocked
+call c1.3 evt_free(1) replied
+points 16
 ",
 };
 
@@ -162,4 +211,14 @@ fn a_replayed_trigger_carries_the_present_count(rt: HostRuntime) -> Result<(), F
 #[test]
 fn who_waits_is_asked_again(rt: HostRuntime) -> Result<(), Fail> {
     play::<EventService>(&rt, rt.alloc(), event_tables(rt.alloc())?, &WAITS_AGAIN)
+}
+
+#[test]
+fn who_waits_is_woken_by_the_end(rt: HostRuntime) -> Result<(), Fail> {
+    play::<EventService>(
+        &rt,
+        rt.alloc(),
+        event_tables(rt.alloc())?,
+        &WOKEN_BY_THE_END,
+    )
 }

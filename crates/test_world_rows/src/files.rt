@@ -1,14 +1,14 @@
 // Plays of files, event by event.
-use crate::rows::{Row, play};
+use crate::plays::play;
 use sg_base::Code;
 use sg_ramfs::RamfsService;
 use sg_seat::Phase;
 use std::test::Fail;
 use test_tables::ramfs_tables;
 use test_world::Arg::{Text, Word};
-use test_world::DONE;
 use test_world::Event::{Leave, Offer, Step};
 use test_world::Told::{Booted, Good, Loaded, Lost, Refused, Replayed, Served, Struck};
+use test_world::{DONE, Row};
 
 const SPLIT: u8 = 1;
 
@@ -49,6 +49,7 @@ const LOADED: Row = Row {
         Leave(1),
     ],
     ends: &[Phase::Left, Phase::Left],
+    is_up: true,
     text: "c1.1 tsplit(0, \"a\") = ok #1
 c1.2 twrite(1, \"hello\") = ok 5
 c2.1 tsplit(0, \"a\") = ok #2
@@ -102,6 +103,7 @@ const HELD_LOST: Row = Row {
         Leave(1),
     ],
     ends: &[Phase::Left, Phase::Left],
+    is_up: true,
     text: "c1.1 tsplit(0, \"a\") = ok #1
 c2.1 tread(1, 8) = refused NoDesc
 c2.2 tsplit(0, \"b\") = ok #2
@@ -123,6 +125,48 @@ points 25
 ",
 };
 
+// The service stops and is booted by another client before a held reply is told: it is lost all the same.
+const HELD_IN_ANOTHER_BOOT: Row = Row {
+    clients: 2,
+    stops: &[9],
+    events: &[
+        Offer(1, SPLIT, 0, &[Text(b"a")]),
+        Step(1, Served),
+        Step(1, Good(1, &[], b"")),
+        Offer(1, SEEK, 1, &[Word(4)]),
+        Step(1, Served),
+        Offer(2, SPLIT, 0, &[Text(b"b")]),
+        Step(2, Struck),
+        Step(2, Booted),
+        Step(1, Lost),
+        Step(1, Replayed),
+        Step(1, Served),
+        Step(1, DONE),
+        Step(2, Served),
+        Step(2, Good(2, &[], b"")),
+        Leave(1),
+        Leave(2),
+    ],
+    ends: &[Phase::Left, Phase::Left],
+    is_up: true,
+    text: "c1.1 tsplit(0, \"a\") = ok #1
+c1.2 tseek(1, 4) = ok
+c2.1 tsplit(0, \"b\") = ok #2
+client 1 done
+client 2 done
+calls 3 boots 2 replays 1
+boot 1
+call c1.1 tsplit(0, \"a\") replied
+call c1.2 tseek(1, 4) replied
+stop 9
+boot 2
+walk 1.1 for c1 by c1 tsplit(0, \"a\") replied
+call c1.2 tseek(1, 4) replied
+call c2.1 tsplit(0, \"b\") replied
+points 21
+",
+};
+
 #[test]
 fn a_file_is_loaded(rt: HostRuntime) -> Result<(), Fail> {
     play::<RamfsService>(&rt, rt.alloc(), ramfs_tables(rt.alloc())?, &LOADED)
@@ -131,4 +175,14 @@ fn a_file_is_loaded(rt: HostRuntime) -> Result<(), Fail> {
 #[test]
 fn a_held_reply_is_lost(rt: HostRuntime) -> Result<(), Fail> {
     play::<RamfsService>(&rt, rt.alloc(), ramfs_tables(rt.alloc())?, &HELD_LOST)
+}
+
+#[test]
+fn a_held_reply_of_another_boot_is_lost(rt: HostRuntime) -> Result<(), Fail> {
+    play::<RamfsService>(
+        &rt,
+        rt.alloc(),
+        ramfs_tables(rt.alloc())?,
+        &HELD_IN_ANOTHER_BOOT,
+    )
 }

@@ -1,7 +1,7 @@
 //! Plays of worlds, event by event: each offer, step and leave stands in a table, with what the step must answer, and the printed run at
 //! the end is written out.
 //!
-//! - `rows`: how a play is tried (`Row`, `play`)
+//! - `plays`: how a play is tried (`play`)
 //!
 //! The tests:
 //! - `locks`: stops around a take, and within the walk of a lock
@@ -20,6 +20,6 @@ mod locks;
 #[cfg(test)]
 mod pages;
 #[cfg(test)]
-mod rows;
+mod plays;
 #[cfg(test)]
 mod threads;

@@ -1,14 +1,14 @@
 // Plays of mappings, event by event.
-use crate::rows::{Row, play};
+use crate::plays::play;
 use sg_base::Code;
 use sg_mm::MmService;
 use sg_seat::Phase;
 use std::test::Fail;
 use test_tables::mm_tables;
 use test_world::Arg::Word;
-use test_world::DONE;
 use test_world::Event::{Leave, Offer, Step};
 use test_world::Told::{Booted, Good, Refused, Replayed, Served, Struck};
+use test_world::{DONE, Row};
 
 const GET_PAGE: u8 = 1;
 
@@ -40,6 +40,7 @@ const PARENT_FIRST: Row = Row {
         Leave(2),
     ],
     ends: &[Phase::Left, Phase::Left],
+    is_up: true,
     text: "c1.1 mman_get_page(4096) = ok #1
 c2.1 mman_alias_page(1, 2, 8192) = ok #2
 c2.2 mman_release_page(2) = ok
@@ -75,6 +76,7 @@ const OCCUPIED: Row = Row {
         Leave(1),
     ],
     ends: &[Phase::Left],
+    is_up: true,
     text: "c1.1 mman_get_page(4096) = ok #1
 c1.2 mman_get_page(4096) = refused Occupied
 client 1 done
@@ -121,6 +123,7 @@ const HALF_A_SUBTREE: Row = Row {
         Leave(1),
     ],
     ends: &[Phase::Left, Phase::Left],
+    is_up: true,
     text: "c1.1 mman_get_page(4096) = ok #1
 c1.2 mman_alias_page(1, 1, 8192) = ok #2
 c1.3 mman_alias_page(1, 1, 12288) = ok #3

@@ -1,13 +1,13 @@
 // Plays of threads, event by event.
-use crate::rows::{Row, play};
+use crate::plays::play;
 use sg_sched::SchedService;
 use sg_seat::Phase;
 use std::test::Fail;
 use test_tables::sched_tables;
 use test_world::Arg::Word;
-use test_world::DONE;
 use test_world::Event::{Leave, Offer, Step};
 use test_world::Told::{Blocked, Booted, Good, Replayed, Served, Struck};
+use test_world::{DONE, Row};
 
 const CREATE: u8 = 1;
 
@@ -55,6 +55,7 @@ const RANKS_KEPT: Row = Row {
         Leave(1),
     ],
     ends: &[Phase::Left],
+    is_up: true,
     text: "c1.1 sched_create_thd(5) = ok #1 1
 c1.2 sched_create_thd(5) = ok #2 2
 c1.3 sched_create_thd(5) = ok #3 3
@@ -107,6 +108,7 @@ const ONE_WALK: Row = Row {
         Leave(1),
     ],
     ends: &[Phase::Left, Phase::Left],
+    is_up: true,
     text: "c1.1 sched_create_thd(3) = ok #1 1
 c1.2 sched_sleep(1) = ok
 c2.1 sched_wakeup(1) = ok
