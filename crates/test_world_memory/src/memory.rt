@@ -4,12 +4,8 @@ ghost use Rattle.std.specs.Prelude.{◌≡◌, true, IfSome};
 ghost use Rattle.sg_check.specs.Shapes.{is_shape};
 ghost use Rattle.sg_facts.specs.Facts.{facts_of};
 
-use crate::events::Arg::{Text, Word};
-use crate::events::Event::{Leave, Offer, Step};
-use crate::events::Told::{Blocked, Booted, Good, Loaded, Lost, Refused, Replayed, Served, Struck};
-use crate::events::{DONE, Event};
 use crate::inside::Inside;
-use sg_base::Code;
+use sg_base::{Bytes, Code, NoMemory};
 use sg_check::check;
 use sg_event::{EventService, event_shape};
 use sg_facts::{Service, Shape, Tables};
@@ -60,6 +56,30 @@ fn begun<S: Service>(alloc: Global, text: &[u8], shape: Shape, stop: u64) -> Opt
 {
     let tables = tables_of(alloc, text, shape)?;
     Run::new(alloc, tables, CLIENTS, Inside::new(stop)).ok()
+}
+
+// The same, begun again where there was no memory.
+fn begun_again<S: Service>(
+    alloc: Global,
+    text: &[u8],
+    shape: Shape,
+    stop: u64,
+) -> Option<Run<S, Inside>>
+    requires shape { is_shape (facts_of shape) ≡ true }
+    requires service { facts_of shape ≡ S.facts }
+{
+    match begun(alloc, text, shape, stop) {
+        None => begun(alloc, text, shape, stop),
+        Some(run) => Some(run),
+    }
+}
+
+// What was done, printed, again where there was no memory.
+fn printed_again<S: Service>(alloc: Global, run: &Run<S, Inside>) -> Result<Bytes, NoMemory> {
+    match run.printed(alloc) {
+        Err(NoMemory) => run.printed(alloc),
+        Ok(bytes) => Ok(bytes),
+    }
 }
 
 // Makes an event, again where there was no memory for it, which is counted of steps.
@@ -116,20 +136,11 @@ fn persists<S: Service>(
     requires shape { is_shape (facts_of shape) ≡ true }
     requires service { facts_of shape ≡ S.facts }
 {
-    let first = begun::<S>(alloc, text, shape, case.stop);
-    let begun = match first {
-        None => begun(alloc, text, shape, case.stop),
-        Some(run) => Some(run),
-    };
-    let mut run = begun.ok_or("no memory, twice")?;
+    let mut run = begun_again::<S>(alloc, text, shape, case.stop).ok_or("no memory, twice")?;
     for event in case.events {
         assert!(rt; persist(rt, alloc, &mut run, event)?, "{event:?}");
     }
-    let first = run.printed(alloc);
-    let printed = match first {
-        Err(_) => run.printed(alloc)?,
-        Ok(bytes) => bytes,
-    };
+    let printed = printed_again(alloc, &run)?;
     assert!(rt; are_alike(str::from_utf8(printed.as_slice())?, case.text));
     assert_eq!(rt; run.world().marks().len(), case.marks);
     assert!(rt; run.world().service().is_some() && run.world().all_blocked());
