@@ -1,8 +1,7 @@
 // Whether a call may be offered.
-ghost use Rattle.std.specs.Prelude.{◌≡◌, true, false};
-ghost use Rattle.sg_facts.specs.Facts.{fun_at, takes_desc, takes_parent};
+ghost use Rattle.std.specs.Prelude.{◌≡◌, ℕ, true};
 ghost use Rattle.sg_facts.specs.Interface.{declares};
-ghost use Rattle.sg_facts.specs.Kinds.{kinds_fit};
+ghost use Rattle.sg_facts.specs.Kinds.{FitsKinds, kinds_fit};
 
 use sg_base::{Args, Value};
 use sg_facts::{Interface, Kind};
@@ -10,8 +9,7 @@ use sg_facts::{Interface, Kind};
 /// Whether an interface declares a function that takes this descriptor and these arguments.
 pub fn takes(iface: &Interface, fun: u8, desc: u64, args: &Args) -> bool
     ensures declared { result ≡ true → declares iface.now fun ≡ true }
-    ensures args { result ≡ true → kinds_fit (fun_at iface.now.facts.funs fun).kinds args.now ≡ true }
-    ensures desc { result ≡ true → takes_desc (fun_at iface.now.facts.funs fun) ≡ false → takes_parent (fun_at iface.now.facts.funs fun) ≡ false → desc ≡ 0 }
+    ensures fits { result ≡ true → (client seq : ℕ) → FitsKinds iface.now.facts (record { client = client; seq = seq; fun = fun; desc = desc; args = args.now }) }
 {
     let shape = iface.fun(fun);
     iface.declares(fun)

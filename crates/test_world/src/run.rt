@@ -1,7 +1,7 @@
 // A world with its interface beside it, so that each event is checked before it is made.
-ghost use Rattle.std.specs.Prelude.{◌≡◌, ◌≤◌, [], IfOk, length, true};
+ghost use Rattle.std.specs.Prelude.{◌≡◌, ◌≤◌, ◌<◌, ◌+◌, ◌^◌, [], IfOk, length, true};
 ghost use Rattle.sg_edge.specs.Stops.{AscendsAbove, struck_of};
-ghost use Rattle.sg_facts.specs.Interface.{declares};
+ghost use Rattle.sg_seat.specs.WorldView.{IsFree, MayWithdraw, seat_of};
 
 use crate::events::{Arg, Event, args_of};
 use crate::fits::takes;
@@ -49,6 +49,7 @@ pub struct Run<S: Service, T: Stops> {
 
 impl<S: Service, T: Stops> Run<S, T> {
     /// A world of so many clients, in which nothing was done.
+    #[tactic(auto, using(crate::proofs::Seats::seats_new))]
     pub fn new(alloc: Global, tables: Tables, clients: u8, stops: T) -> Result<Self, Unmade>
         requires service { tables.iface.facts ≡ S.facts }
         requires unasked { T.asked stops ≡ 0 }
@@ -98,6 +99,7 @@ impl<S: Service, T: Stops> Run<S, T> {
     }
 
     /// A client offers a call, where it may.
+    #[tactic(auto, using(crate::proofs::Seats::seats_offered))]
     pub fn offer(
         &mut self,
         alloc: Global,
@@ -113,11 +115,32 @@ impl<S: Service, T: Stops> Run<S, T> {
         Ok(self.world.offer(alloc, client, fun, desc, args)?)
     }
 
-    // Whether a client may offer a call.
-    fn may_offer(&self, client: u8) -> bool {
-        self.has(client)
-            && matches!(self.world.phase(client), Phase::Idle | Phase::Left)
-            && self.world.seq(client) < MOST_ENTRIES
+    // Whether a client has no call under way, and may number another.
+    fn may_offer(&self, client: u8) -> bool
+        ensures first { result ≡ true → 1 ≤ client }
+        ensures last { result ≡ true → client ≤ self.now.clients }
+        ensures free { result ≡ true → IsFree (seat_of self.now.world.view client).phase }
+        ensures numbered { result ≡ true → (seat_of self.now.world.view client).seq + 1 < 2 ^ 32 }
+    {
+        self.is_free(client) && self.world.seq(client) < MOST_ENTRIES
+    }
+
+    // Whether there is a client of a number, which has no call under way.
+    fn is_free(&self, client: u8) -> bool
+        ensures first { result ≡ true → 1 ≤ client }
+        ensures last { result ≡ true → client ≤ self.now.clients }
+        ensures free { result ≡ true → IsFree (seat_of self.now.world.view client).phase }
+    {
+        self.has(client) && has_none(self.world.phase(client))
+    }
+
+    // Whether there is a client of a number, whose call may be withdrawn.
+    fn may_withdraw(&self, client: u8) -> bool
+        ensures first { result ≡ true → 1 ≤ client }
+        ensures last { result ≡ true → client ≤ self.now.clients }
+        ensures may { result ≡ true → MayWithdraw (seat_of self.now.world.view client).phase }
+    {
+        self.has(client) && waits(self.world.phase(client))
     }
 
     /// A client takes a step.
@@ -129,8 +152,9 @@ impl<S: Service, T: Stops> Run<S, T> {
     }
 
     /// A client withdraws its call, where it may.
+    #[tactic(auto, using(crate::proofs::Seats::seats_withdrawn))]
     pub fn withdraw(&mut self, client: u8) -> Result<(), Unmade> {
-        if !self.has(client) || !matches!(self.world.phase(client), Phase::Asked | Phase::Blocked) {
+        if !self.may_withdraw(client) {
             return Err(Unmade::NotAllowed);
         }
         self.world.withdraw(client);
@@ -138,8 +162,9 @@ impl<S: Service, T: Stops> Run<S, T> {
     }
 
     /// A client leaves, where it may.
+    #[tactic(auto, using(crate::proofs::Seats::seats_left))]
     pub fn leave(&mut self, client: u8) -> Result<(), Unmade> {
-        if !self.has(client) || !matches!(self.world.phase(client), Phase::Idle | Phase::Left) {
+        if !self.is_free(client) {
             return Err(Unmade::NotAllowed);
         }
         self.world.leave(client);
@@ -221,6 +246,26 @@ impl<S: Service, T: Stops> Run<S, T> {
             (Some(Phase::Blocked), Some(call)) => Ok(End::Blocked(call.copy(alloc)?)),
             _ => Ok(End::Done),
         }
+    }
+}
+
+// Whether a client in a phase has no call under way.
+fn has_none(phase: Phase) -> bool
+    ensures { result ≡ true → IsFree phase }
+{
+    match phase {
+        Phase::Idle | Phase::Left => true,
+        Phase::Asked | Phase::Held | Phase::Receipted | Phase::Blocked => false,
+    }
+}
+
+// Whether the call of a client in a phase may be withdrawn.
+fn waits(phase: Phase) -> bool
+    ensures { result ≡ true → MayWithdraw phase }
+{
+    match phase {
+        Phase::Asked | Phase::Blocked => true,
+        Phase::Idle | Phase::Left | Phase::Held | Phase::Receipted => false,
     }
 }
 
