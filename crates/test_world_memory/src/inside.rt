@@ -1,4 +1,6 @@
 // A plan of one stop within a step.
+ghost use Rattle.std.specs.Prelude.{◌≡◌, None};
+
 use sg_base::{Point, Stops};
 
 /// Stops once, at the point of a number among those that aren't asked between calls: a step that is made again for want of memory asks
@@ -13,7 +15,9 @@ pub struct Inside {
 
 impl Inside {
     /// Before any point.
-    pub fn new(point: u64) -> Inside {
+    pub fn new(point: u64) -> Inside
+        ensures { result ≡ record { point = point; inside = 0; asked = 0; struck = None } }
+    {
         Inside {
             point,
             inside: 0,

@@ -44,9 +44,16 @@ fn tables_of(alloc: Global, text: &[u8], shape: Shape) -> Option<Tables>
     requires { is_shape (facts_of shape) ≡ true }
     ensures { IfSome result (λ tables. tables.iface.facts ≡ facts_of shape) }
 {
-    let tree = parse(alloc, text).ok()?;
-    let accepted = check(alloc, &tree, &[shape]).ok()?;
-    compile(alloc, &accepted).ok()
+    let Ok(tree) = parse(alloc, text) else {
+        return None;
+    };
+    let Ok(accepted) = check(alloc, &tree, &[shape]) else {
+        return None;
+    };
+    match compile(alloc, &accepted) {
+        Ok(tables) => Some(tables),
+        Err(NoMemory) => None,
+    }
 }
 
 // A world in which nothing was done; None for want of memory.
