@@ -1,5 +1,5 @@
 -- What calls were given, as their entries tell it.
-use Rattle.std.proofs.Common.{◌≡◌, ◌⊎◌, ℕ, zero, suc, ◌+◌, ◌-◌, ◌<◌, ◌≤◌, List, [], ◌∷◌, ◌++◌, None, Some, length, map, refl, sym, ◌∙◌, ap, inl, inr, arith}
+use Rattle.std.proofs.Common.{◌≡◌, ◌⊎◌, ℕ, zero, suc, ◌-◌, ◌<◌, ◌≤◌, List, [], ◌∷◌, ◌++◌, length, refl, sym, ap, inl, inr, arith}
 use Rattle.std.specs.Prelude.{slice_get, slice_index_or}
 use Rattle.sg_base.specs.declared.value.Value.{Value}
 use Rattle.sg_base.specs.declared.value.Value.TheVariants.{Word, Text}
@@ -7,7 +7,7 @@ use Rattle.sg_facts.specs.Kinds.{AreWords}
 use Rattle.sg_facts.specs.declared.entry.Entry.{Entry}
 use Rattle.sg_facts.specs.declared.shape.Kind.{Kind}
 use Rattle.sg_facts.specs.declared.shape.Kind.TheVariants.{Desc, Parent, Word as IsWord, Text as IsText}
-use Rattle.sg_hist.specs.Reading.{desc_in, desc_of}
+use Rattle.sg_hist.specs.Reading.{desc_in}
 use Rattle.sg_play_laws.specs.Given.{AreGiven}
 use Rattle.sg_script.specs.declared.script.Arg.{Arg}
 use Rattle.sg_sim.specs.Script.{desc_among, id_of_call, value_of, values_of}

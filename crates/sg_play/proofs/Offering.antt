@@ -1,8 +1,7 @@
 -- A client offers the next call of its script.
-use Rattle.std.proofs.Common.{◌≡◌, ◌≢◌, ◌⊎◌, ℕ, zero, suc, ◌+◌, ◌-◌, ◌≤◌, Bool, true, false, cond, List, [], ◌∷◌, None, Some, length, take, refl, sym, ◌∙◌, ap, subst, inl, inr, arith, slice_set}
-use Rattle.std.specs.Prelude.{◌&&◌, OnErr, OnOk, nat_lt, slice_get}
+use Rattle.std.proofs.Common.{◌≡◌, ◌≢◌, ◌⊎◌, ℕ, zero, suc, ◌+◌, ◌-◌, ◌≤◌, true, false, cond, List, [], ◌∷◌, Some, length, take, refl, sym, ◌∙◌, ap, subst, inl, inr, arith, slice_set}
+use Rattle.std.specs.Prelude.{OnErr, OnOk, nat_lt, slice_get}
 use Rattle.std.specs.List.{list_any}
-use Rattle.std.specs.declared.option.Option.{Option}
 use Rattle.std.specs.declared.result.Result.{Result}
 use Rattle.std.specs.declared.result.Result.TheVariants.{Ok, Err}
 use Rattle.std.proofs.lemmas.Bool.{and_parts}
@@ -20,7 +19,7 @@ use Rattle.sg_script.specs.declared.script.Arg.{Arg}
 use Rattle.sg_script.specs.declared.script.Arg.TheVariants.{Number, Text, Back}
 use Rattle.sg_script.specs.declared.script.Script.{Script}
 use Rattle.sg_script.specs.declared.script.ScriptCall.{ScriptCall}
-use Rattle.sg_seat.specs.WorldView.{Seat, is_offered, seat_in}
+use Rattle.sg_seat.specs.WorldView.{Seat, seat_in}
 use Rattle.sg_seat.specs.declared.phase.Phase.{Phase}
 use Rattle.sg_seat.specs.declared.phase.Phase.TheVariants.{Idle, Asked, Held, Receipted, Blocked, Left}
 use Rattle.sg_sim.specs.Script.{arg_fits, args_fit, call_fits, desc_among, values_of}
@@ -114,24 +113,24 @@ module _ (i : Declared) (script : Script) (history : List Entry) (seats : List S
         desc = λ no_d no_p. desc_so ∙ no_desc (calls_of history c) (fun_at i.facts.funs written.fun).kinds written.args no_d no_p;
       }
 
-      next : call_after i.facts script history c (length (calls_of history c)) ≡ Some made
+      pub next : call_after i.facts script history c (length (calls_of history c)) ≡ Some made
       next =
           ap (λ n. resolved i.facts history c (length (calls_of history c) + 1) (slice_get (script_calls script c) n)) (sym count)
           ∙ ap (resolved i.facts history c (length (calls_of history c) + 1)) there
           ∙ ap (λ n. Some (record {
-              client = c;
-              seq = n + 1;
-              fun = written.fun;
-              desc = desc_among (calls_of history c) (fun_at i.facts.funs written.fun).kinds written.args;
-              args = values_of (calls_of history c) (fun_at i.facts.funs written.fun).kinds written.args;
-            })) (sym count)
+            client = c;
+            seq = n + 1;
+            fun = written.fun;
+            desc = desc_among (calls_of history c) (fun_at i.facts.funs written.fun).kinds written.args;
+            args = values_of (calls_of history c) (fun_at i.facts.funs written.fun).kinds written.args;
+          })) (sym count)
           ∙ ap (λ d. Some (record {
-              client = c;
-              seq = s.seq + 1;
-              fun = written.fun;
-              desc = d;
-              args = values_of (calls_of history c) (fun_at i.facts.funs written.fun).kinds written.args;
-            })) (sym desc_so)
+            client = c;
+            seq = s.seq + 1;
+            fun = written.fun;
+            desc = d;
+            args = values_of (calls_of history c) (fun_at i.facts.funs written.fun).kinds written.args;
+          })) (sym desc_so)
           ∙ ap (λ vs. Some (record { client = c; seq = s.seq + 1; fun = written.fun; desc = desc; args = vs })) (sym values_so)
 
       abbrev asking : Seat
@@ -156,3 +155,7 @@ module _ (i : Declared) (script : Script) (history : List Entry) (seats : List S
 pub either_way : {A E X : Type 0} (P Q : Type 0) (r : Result A E) → OnOk r P → OnErr r Q → (P → X) → (Q → X) → X
 either_way P Q (Ok a) ok err so not = so ok
 either_way P Q (Err e) ok err so not = not err
+
+pub ok_so : {A E : Type 0} (P Q : Type 0) (r : Result A E) → (P → Q) → OnOk r P → OnOk r Q
+ok_so P Q (Ok a) so is = so is
+ok_so P Q (Err e) so is = tt

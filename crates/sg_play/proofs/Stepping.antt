@@ -1,20 +1,17 @@
 -- What a step of a world does to the calls of a play.
-use Rattle.std.proofs.Common.{◌≡◌, ◌≢◌, ◌⊎◌, ℕ, zero, suc, ◌+◌, ◌-◌, ◌<◌, ◌≤◌, Bool, true, false, cond, List, [], ◌∷◌, ◌++◌, None, Some, length, map, refl, sym, ◌∙◌, ap, subst, inl, inr, arith, slice_set}
-use Rattle.std.specs.declared.option.Option.{Option}
-use Rattle.sg_base.specs.declared.call.Call.{Call}
+use Rattle.std.proofs.Common.{◌≡◌, ℕ, ◌+◌, ◌-◌, ◌≤◌, true, false, cond, List, [], ◌∷◌, ◌++◌, length, map, refl, sym, ◌∙◌, ap, subst, inl, inr, arith, slice_set}
 use Rattle.sg_base.specs.declared.reply.Reply.{Reply}
-use Rattle.sg_base.specs.declared.reply.Reply.TheVariants.{Refused}
 use Rattle.sg_facts.specs.declared.entry.Entry.{Entry}
 use Rattle.sg_facts.specs.Object.{object_of}
-use Rattle.sg_seat.specs.WorldView.{Seat, WorldView, answered_to, committed, given_to, in_phase, is_offered, no_reply, reply_handed_over, seat_in, seat_of, wakes_seat, with_seat, woken_seat}
+use Rattle.sg_seat.specs.WorldView.{Seat, WorldView, answered_to, committed, given_to, is_offered, no_reply, seat_in, seat_of, wakes_seat, with_seat, woken_seat}
 use Rattle.sg_seat.specs.declared.phase.Phase.{Phase}
 use Rattle.sg_seat.specs.declared.phase.Phase.TheVariants.{Idle, Asked, Held, Receipted, Blocked, Left}
 use Rattle.sg_world.specs.declared.did.Did.{Did}
 use Rattle.sg_world.specs.declared.did.Did.TheVariants.{Answered, Blocked as Waits, Booted, Loaded, Lost, Replayed, Served, Skipped, Struck}
-use Rattle.sg_world.specs.Steps.{Boots, Commits, GoesOnBehind, HandsOver as HandsOverReply, Holds, Loads, Loses, Refuses, Replays, Returns, Skips, Steps, StopsBehind, StopsCall, StopsIdle, StopsReplay, WaitsNow}
+use Rattle.sg_world.specs.Steps.{Boots, Commits, Loses, Skips, Steps}
 use Rattle.sg_world_laws.specs.Setting.{Setting}
-use Rattle.sg_play_laws.specs.Callers.{EntersCall, EntersNothing, KeepsCall, StepsOn, handed, is_receipted}
-use Rattle.sg_play_laws.proofs.Lines.{line_entered, line_same, line_set, line_woken, seat_here, length_map, length_set, seat_woken, handed_woken}
+use Rattle.sg_play_laws.specs.Callers.{EntersCall, EntersNothing, StepsOn, handed, is_receipted}
+use Rattle.sg_play_laws.proofs.Lines.{line_entered, line_same, line_set, line_woken, seat_here, length_map, seat_woken, handed_woken}
 
 -- who offers a call has no receipt
 offers_none : (p : Phase) → is_offered p ≡ true → is_receipted p ≡ false

@@ -1,26 +1,25 @@
 -- A play keeps what it keeps where a client steps, or leaves.
-use Rattle.std.proofs.Common.{◌≡◌, ◌≢◌, ◌⊎◌, ℕ, ◌+◌, ◌-◌, ◌≤◌, Bool, true, false, cond, List, [], ◌∷◌, ◌++◌, None, Some, length, refl, sym, ◌∙◌, ap, subst, inl, inr, arith, slice_set}
-use Rattle.sg_base.specs.declared.call.Call.{Call}
+use Rattle.std.proofs.Common.{◌≡◌, ◌⊎◌, ℕ, ◌+◌, ◌-◌, ◌≤◌, true, false, cond, List, [], ◌∷◌, ◌++◌, None, Some, length, refl, sym, ◌∙◌, ap, subst, inl, inr, arith, slice_set}
 use Rattle.sg_base.specs.declared.reply.Reply.{Reply}
 use Rattle.sg_facts.specs.declared.entry.Entry.{Entry}
 use Rattle.sg_hist.specs.Clients.{calls_of}
 use Rattle.sg_hist.specs.Reading.{desc_of}
 use Rattle.sg_script.specs.declared.script.Script.{Script}
-use Rattle.sg_seat.specs.WorldView.{IsFree, Seat, WorldView, happened, in_phase, is_left_phase, is_offered, seat_in, seat_of, with_leave, with_mark}
+use Rattle.sg_seat.specs.WorldView.{Seat, WorldView, happened, in_phase, is_left_phase, is_offered, seat_of, with_leave, with_mark}
 use Rattle.sg_seat.specs.declared.mark.MarkKind.TheVariants.{Leave}
-use Rattle.sg_seat.specs.declared.phase.Phase.{Phase}
-use Rattle.sg_seat.specs.declared.phase.Phase.TheVariants.{Idle, Asked, Held, Receipted, Blocked, Left}
+use Rattle.sg_seat.specs.declared.phase.Phase.TheVariants.{Idle, Left}
 use Rattle.sg_world.specs.declared.did.Did.{Did}
 use Rattle.sg_world.specs.declared.did.Did.TheVariants.{Answered, Blocked as Waits, Booted, Loaded, Lost, Replayed, Served, Skipped, Struck}
 use Rattle.sg_world.specs.Steps.{AnswersLast, HasStepped, WantsMemory}
 use Rattle.sg_world_laws.specs.Seats.{last_of}
 use Rattle.sg_world_laws.specs.Setting.{Setting}
-use Rattle.sg_play_laws.specs.Callers.{StepsOn, handed, is_receipted, is_setting_up}
+use Rattle.sg_play_laws.specs.Callers.{handed, is_receipted, is_setting_up}
 use Rattle.sg_play_laws.specs.Given.{HandsReply, given_in}
 use Rattle.sg_play_laws.specs.Plays.{IsPlaying}
 use Rattle.sg_play_laws.proofs.Calling.{callers_step, its_client, next_of}
 use Rattle.sg_play_laws.proofs.Lines.{line_set, seat_here}
 use Rattle.sg_play_laws.proofs.Playing.{playing_step, playing_still}
+use Rattle.sg_play.specs.Turning.{behind_step, handed_by}
 use Rattle.sg_play.proofs.Stepping.{IsHandedTo, handed_step, quiet_step}
 
 -- ---- the last of some entries
@@ -34,16 +33,40 @@ front_last [] e is = absurd (cc is)
 front_last (x ∷ []) e is = let same : x ≡ e = cc is in ([], ap (λ y. y ∷ []) same)
 front_last (x ∷ y ∷ es) e is = let more = front_last (y ∷ es) e is in (x ∷ more.0, ap (λ l. x ∷ l) more.1)
 
--- what a step did that answers nothing
-pub not_answered : (did : Did) (reply : Reply) → (did ≡ Skipped) ⊎ ((did ≡ Struck) ⊎ ((did ≡ Booted) ⊎ ((did ≡ Replayed) ⊎ ((did ≡ Loaded) ⊎ ((did ≡ Served) ⊎ ((did ≡ Waits) ⊎ (did ≡ Lost))))))) → did ≡ Answered reply → ⊥
-not_answered did reply (inl one) is = cc (one, is)
-not_answered did reply (inr (inl one)) is = cc (one, is)
-not_answered did reply (inr (inr (inl one))) is = cc (one, is)
-not_answered did reply (inr (inr (inr (inl one)))) is = cc (one, is)
-not_answered did reply (inr (inr (inr (inr (inl one))))) is = cc (one, is)
-not_answered did reply (inr (inr (inr (inr (inr (inl one)))))) is = cc (one, is)
-not_answered did reply (inr (inr (inr (inr (inr (inr (inl one))))))) is = cc (one, is)
-not_answered did reply (inr (inr (inr (inr (inr (inr (inr one))))))) is = cc (one, is)
+-- what a step tells that hands nothing over
+pub record IsPlainStep (did : Did) : Type 0 where
+  pub none : (reply : Reply) → did ≡ Answered reply → ⊥
+  pub told : None ≡ handed_by did
+  pub same : (script : Script) (client : ℕ) (later : WorldView) → later ≡ behind_step script client did later
+
+pub plain_step : (did : Did) → (did ≡ Skipped) ⊎ ((did ≡ Struck) ⊎ ((did ≡ Booted) ⊎ ((did ≡ Replayed) ⊎ ((did ≡ Loaded) ⊎ ((did ≡ Served) ⊎ ((did ≡ Waits) ⊎ (did ≡ Lost))))))) → IsPlainStep did
+plain_step Skipped is = record { none = λ reply answered. cc answered; told = refl; same = λ script client later. refl }
+plain_step Struck is = record { none = λ reply answered. cc answered; told = refl; same = λ script client later. refl }
+plain_step Booted is = record { none = λ reply answered. cc answered; told = refl; same = λ script client later. refl }
+plain_step Replayed is = record { none = λ reply answered. cc answered; told = refl; same = λ script client later. refl }
+plain_step Loaded is = record { none = λ reply answered. cc answered; told = refl; same = λ script client later. refl }
+plain_step Served is = record { none = λ reply answered. cc answered; told = refl; same = λ script client later. refl }
+plain_step Waits is = record { none = λ reply answered. cc answered; told = refl; same = λ script client later. refl }
+plain_step Lost is = record { none = λ reply answered. cc answered; told = refl; same = λ script client later. refl }
+plain_step (Answered reply) is = absurd (elim is [
+  | inl a ↦ cc a
+  | inr more ↦ elim more [
+    | inl a ↦ cc a
+    | inr more ↦ elim more [
+      | inl a ↦ cc a
+      | inr more ↦ elim more [
+        | inl a ↦ cc a
+        | inr more ↦ elim more [
+          | inl a ↦ cc a
+          | inr more ↦ elim more [
+            | inl a ↦ cc a
+            | inr more ↦ elim more [ inl a ↦ cc a | inr a ↦ cc a ]
+          ]
+        ]
+      ]
+    ]
+  ]
+])
 
 module _ (z : Setting) (script : Script) (w : WorldView) (given : List (List ℕ)) (c : ℕ) (first : 1 ≤ c) (last : c ≤ length w.seats) (turn : is_setting_up script w.seats ≡ true → c ≡ 1)
     (is : IsPlaying z.iface script w.history w.seats given) where

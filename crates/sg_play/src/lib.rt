@@ -1,17 +1,15 @@
-//! Plays: the calls of a script's clients, turn by turn, on a world whose service may stop at any point.
+//! What a client of a script does in its turn on a world: it offers its next call, makes a step, and leaves behind its last call.
 //!
-//! - `play`: whose turn it is, and the play to its end (`Play`)
-//! - `turn`: what a client does in its turn; `calls`: what a script's call comes to; `parts`: the calls of a client
-//! - `played`: a run that came to its end (`Played`)
+//! - `turn`: the offer and the step (`offer_next`, `make_step`)
+//! - `calls`: what a script's call comes to, by the descriptors that its client's earlier calls were given
+//! - `parts`: the calls of a client, found by halving (`script_call`, `most_client`)
 //!
-//! `sg_plain` says what a play promises, and `sg_play_laws` what it keeps while it goes on.
+//! `sg_plain` says which calls a client makes, and `sg_play_laws` what a play keeps while it goes on.
 #![tactic(auto)]
 
 mod calls;
 mod parts;
-mod play;
-mod played;
 mod turn;
 
-pub use play::Play;
-pub use played::Played;
+pub use parts::{most_client, script_call};
+pub use turn::{make_step, offer_next};

@@ -8,11 +8,11 @@ ghost use Rattle.sg_play_laws.specs.Playable.{AreClients};
 use sg_script::{CallList, Script, ScriptCall};
 use std::cmp::Ordering;
 
-/// The first client.
-pub(crate) const FIRST: u8 = 1;
+// The first client.
+const FIRST: u8 = 1;
 
 /// The greatest number of a client that has a part, at least 1.
-pub(crate) fn most_client(clients: &[(u8, CallList)]) -> u8
+pub fn most_client(clients: &[(u8, CallList)]) -> u8
     ensures { result ≡ most_client clients.now }
 {
     match clients {
@@ -22,7 +22,7 @@ pub(crate) fn most_client(clients: &[(u8, CallList)]) -> u8
 }
 
 /// The call that a client makes when so many of its calls are done; None where it has no more.
-pub(crate) fn script_call(script: &Script, client: u8, done: usize) -> Option<&ScriptCall>
+pub fn script_call(script: &Script, client: u8, done: usize) -> Option<&ScriptCall>
     requires { AreClients 0 script.now.clients }
     ensures { option_copied result ≡ slice_get (script_calls script.now client) done }
 {
@@ -38,7 +38,7 @@ pub(crate) fn script_call(script: &Script, client: u8, done: usize) -> Option<&S
     }
 }
 
-/// The calls of a client's part, which is found by halving.
+// The calls of a client's part, which is found by halving.
 fn part_of(clients: &[(u8, CallList)], client: u8) -> &[ScriptCall]
     requires { AreClients 0 clients.now }
     ensures { result.now ≡ part_of client clients.now }

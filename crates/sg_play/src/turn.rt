@@ -5,7 +5,10 @@ ghost use Rattle.sg_play_laws.specs.Callers.{is_setting_up};
 ghost use Rattle.sg_play_laws.specs.Given.{given_in, with_handed};
 ghost use Rattle.sg_play_laws.specs.Playable.{AreClients};
 ghost use Rattle.sg_play_laws.specs.Plays.{IsPlaying};
-ghost use Rattle.sg_seat.specs.WorldView.{seat_of};
+ghost use Rattle.sg_play.specs.Turning.{StepsInTurn, with_leaving, with_offer};
+ghost use Rattle.sg_seat.specs.WorldView.{happened, seat_of};
+ghost use Rattle.sg_world.specs.Steps.{WantsMemory};
+ghost use Rattle.sg_world.specs.Worlded.{setting_of};
 ghost use Rattle.sg_seat.specs.declared.phase.Phase.TheVariants.{Idle};
 ghost use Rattle.sg_play_laws.specs.Turns.{is_free_phase};
 
@@ -20,7 +23,7 @@ use std::alloc::Global;
 
 /// A client that has no call under way offers the next call of its script, where it has one. After `NoMemory` nothing changed but the
 /// number of events.
-pub(crate) fn offer_next<S: Service, T: Stops>(
+pub fn offer_next<S: Service, T: Stops>(
     alloc: Global,
     world: &mut World<S, T>,
     script: &Script,
@@ -31,12 +34,13 @@ pub(crate) fn offer_next<S: Service, T: Stops>(
     requires last { client ≤ length world.old.view.seats }
     requires setup { is_setting_up script.now world.old.view.seats ≡ true → client ≡ 1 }
     requires playing { (all : List (List ℕ)) × (given_in all client ≡ given.now) × IsPlaying world.old.tables.iface script.now world.old.view.history world.old.view.seats all }
+    ensures ok { OnOk result (world.new.view ≡ with_offer world.old.tables.iface.facts script.now world.old.view client) }
+    ensures err { OnErr result ((world.new.view ≡ world.old.view) ⊎ (world.new.view ≡ happened world.old.view)) }
     ensures playing { (all : List (List ℕ)) → IsPlaying world.old.tables.iface script.now world.old.view.history world.old.view.seats all
         → IsPlaying world.old.tables.iface script.now world.new.view.history world.new.view.seats all }
     ensures setup { is_setting_up script.now world.new.view.seats ≡ true → client ≡ 1 }
     ensures tables { world.new.tables ≡ world.old.tables }
     ensures plan { world.new.plan ≡ world.old.plan }
-    ensures refused { world.new.view.refused ≡ world.old.view.refused }
 {
     if !is_free(world.phase(client)) {
         return Ok(());
@@ -54,7 +58,7 @@ pub(crate) fn offer_next<S: Service, T: Stops>(
 
 /// A client makes a step, and leaves where its last call is answered. Gives the descriptor of the reply that was handed over, 0 for none;
 /// None where no reply was.
-pub(crate) fn make_step<S: Service, T: Stops>(
+pub fn make_step<S: Service, T: Stops>(
     alloc: Global,
     world: &mut World<S, T>,
     script: &Script,
@@ -64,6 +68,8 @@ pub(crate) fn make_step<S: Service, T: Stops>(
     requires last { client ≤ length world.old.view.seats }
     requires setup { is_setting_up script.now world.old.view.seats ≡ true → client ≡ 1 }
     requires playing { (all : List (List ℕ)) × IsPlaying world.old.tables.iface script.now world.old.view.history world.old.view.seats all }
+    ensures steps { IfOk result (λ handed. StepsInTurn (setting_of S.ask S.sound S.parts world.old.tables) script.now world.old.view client handed world.new.view) }
+    ensures wants { OnErr result (WantsMemory (setting_of S.ask S.sound S.parts world.old.tables) world.old.view client world.new.view) }
     ensures ok { (all : List (List ℕ)) → IsPlaying world.old.tables.iface script.now world.old.view.history world.old.view.seats all
         → IfOk result (λ handed. IsPlaying world.old.tables.iface script.now world.new.view.history world.new.view.seats (with_handed all client handed)) }
     ensures err { (all : List (List ℕ)) → IsPlaying world.old.tables.iface script.now world.old.view.history world.old.view.seats all
@@ -93,6 +99,7 @@ fn leave_if_done<S: Service, T: Stops>(world: &mut World<S, T>, script: &Script,
     requires last { client ≤ length world.old.view.seats }
     requires idle { (seat_of world.old.view client).phase ≡ Idle }
     requires clients { AreClients 0 script.now.clients }
+    ensures view { world.new.view ≡ with_leaving script.now world.old.view client }
     ensures playing { (all : List (List ℕ)) → IsPlaying world.old.tables.iface script.now world.old.view.history world.old.view.seats all
         → IsPlaying world.old.tables.iface script.now world.new.view.history world.new.view.seats all }
     ensures tables { world.new.tables ≡ world.old.tables }

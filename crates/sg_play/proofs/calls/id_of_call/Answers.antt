@@ -1,5 +1,5 @@
 -- `$k` is the descriptor at the place before k.
-use Rattle.std.proofs.Common.{◌≡◌, ◌-◌, ◌<◌, ◌≤◌, length, sym, ◌∙◌, arith}
+use Rattle.std.proofs.Common.{◌-◌, ◌<◌, ◌≤◌, length, sym, ◌∙◌, arith}
 use Rattle.std.proofs.lemmas.Bool.Decides.{nat_tests}
 use Rattle.sg_play.proofs.Given.{given_at, given_none, id_at}
 use Rattle.sg_play.proofs.calls.id_of_call.Goals as goal

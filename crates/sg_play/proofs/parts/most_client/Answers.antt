@@ -1,5 +1,4 @@
 -- The greatest number is the last.
-use Rattle.std.proofs.Common.{◌≡◌}
 use Rattle.sg_play.proofs.Finding.{last_is_most}
 use Rattle.sg_play.proofs.parts.most_client.Goals as goal
 

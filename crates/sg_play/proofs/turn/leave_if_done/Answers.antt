@@ -1,5 +1,5 @@
 -- Leaving changes no call.
-use Rattle.std.proofs.Common.{◌≡◌, ap}
+use Rattle.std.proofs.Common.{ap}
 use Rattle.sg_world.specs.Worlded.{Worlded, setting_of}
 use Rattle.sg_play.proofs.Turning.{stepped_left}
 use Rattle.sg_play.proofs.turn.leave_if_done.Goals as goal

@@ -1,15 +1,13 @@
 -- A step hands a reply over or nothing; behind its last reply a client leaves.
-use Rattle.std.proofs.Common.{[], slice_set, ◌++◌, ◌-◌, ◌∷◌, ◌≡◌, ◌≤◌, ap, inl, inr, length, refl, subst, sym, ◌∙◌}
-use Rattle.sg_base.specs.declared.reply.Reply.{Reply}
+use Rattle.std.proofs.Common.{[], Some, slice_set, ◌++◌, ◌-◌, ◌∷◌, ap, subst, sym}
 use Rattle.sg_hist.specs.Reading.{desc_of}
 use Rattle.sg_play_laws.specs.Given.{given_in}
 use Rattle.sg_play_laws.specs.Plays.{IsPlaying}
-use Rattle.sg_world.specs.declared.did.Did.{Did}
 use Rattle.sg_world.specs.declared.did.Did.TheVariants.{Answered}
-use Rattle.sg_world.specs.Worlded.{Worlded, setting_of}
+use Rattle.sg_world.specs.Worlded.{setting_of}
 use Rattle.sg_world_laws.specs.Setting.{Setting}
 use Rattle.sg_world.specs.Steps.{AnswersLast, HasStepped}
-use Rattle.sg_play.proofs.Turning.{stepped_handed, stepped_idle, stepped_left, not_answered, stepped_quiet, wanted}
+use Rattle.sg_play.proofs.Turning.{stepped_handed, stepped_idle, plain_step, stepped_quiet}
 use Rattle.sg_play.proofs.turn.make_step.Goals as goal
 
 pub leave_if_done-requires-clause-idle : goal.leave_if_done-requires-clause-idle
@@ -44,10 +42,27 @@ pub returns-in-Skipped : goal.returns-in-Skipped
 returns-in-Skipped g c =
     let z : Setting = setting_of g.S.Service.ask g.S.Service.sound g.S.Service.parts c.args.world.now.tables in
     let x = c.in_ok-reply.ensures in
-    let none : (reply : Reply) → c.in_ok-reply.field-0 ≡ Answered reply → ⊥ = λ reply is. not_answered c.in_ok-reply.field-0 reply c.in-Skipped.is is in
+    let plain = plain_step c.in_ok-reply.field-0 c.in-Skipped.is in
     record {
-      ok = λ all is. stepped_quiet z c.args.script.now c.args.world.now.view all c.args.client c.requires.first c.requires.last c.requires.setup is c.in_ok-reply.field-0 c.step.new.self.view none x.did;
+      steps = record { did = c.in_ok-reply.field-0; later = c.step.new.self.view; stepped = x.did; told = plain.told; is = plain.same c.args.script.now c.args.client c.step.new.self.view };
+      wants = tt;
+      ok = λ all is. stepped_quiet z c.args.script.now c.args.world.now.view all c.args.client c.requires.first c.requires.last c.requires.setup is c.in_ok-reply.field-0 c.step.new.self.view plain.none x.did;
       err = λ all is. tt;
       tables = x.tables;
       plan = x.plan;
+    }
+
+pub returns-in-Answered-clause-steps : goal.returns-in-Answered-clause-steps
+returns-in-Answered-clause-steps g c =
+    let z : Setting = setting_of g.S.Service.ask g.S.Service.sound g.S.Service.parts c.args.world.now.tables in
+    let w = c.args.world.now.view in
+    let now = c.step.new.self.view in
+    let x = c.in_ok-reply.ensures in
+    let reply = c.in-Answered.reply in
+    record {
+      did = Answered reply;
+      later = now;
+      stepped = subst (λ d. HasStepped z w c.args.client d now) c.in-Answered.is x.did;
+      told = ap (λ id. Some id) c.desc_of.ensures;
+      is = c.leave_if_done.ensures.view;
     }
