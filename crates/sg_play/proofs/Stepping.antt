@@ -143,7 +143,7 @@ module _ (z : Setting) (w : WorldView) (c : ℕ) (first : 1 ≤ c) (last : c ≤
 
   commits : (between : WorldView) → Commits z w c between → IsQuiet w c between
   commits between l =
-      let offers = offers_by Asked l.reaches.uses.let_in.phase refl in
+      let offers = offers_by Asked l.asks.reaches.uses.let_in.phase refl in
       commit_quiet l.reply offers between (ap (λ x. x.history) l.now) (ap (λ x. x.seats) l.now ∙ given_seats l.reply offers)
 
   pub quiet_step : (did : Did) (later : WorldView) → ((reply : Reply) → did ≡ Answered reply → ⊥) → Steps z w c did later → IsQuiet w c later
@@ -162,7 +162,7 @@ module _ (z : Setting) (w : WorldView) (c : ℕ) (first : 1 ≤ c) (last : c ≤
       }
   quiet_step Replayed later none l = used later (ap (λ x. x.history) l.now) (ap (λ x. x.seats) l.now)
   quiet_step Loaded later none l = used later (ap (λ x. x.history) l.now) (ap (λ x. x.seats) l.now)
-  quiet_step Waits later none l = used_set later Blocked s.boot s.reply (offers_by Asked l.reaches.uses.let_in.phase refl) refl (ap (λ x. x.history) l.now) (ap (λ x. x.seats) l.now)
+  quiet_step Waits later none l = used_set later Blocked s.boot s.reply (offers_by Asked l.asks.reaches.uses.let_in.phase refl) refl (ap (λ x. x.history) l.now) (ap (λ x. x.seats) l.now)
   quiet_step Served later none (inl l) =
       let q = commits l.between l.commits in
       record {
@@ -170,7 +170,7 @@ module _ (z : Setting) (w : WorldView) (c : ℕ) (first : 1 ≤ c) (last : c ≤
         same = ap (λ x. handed (seat_of x c)) l.now ∙ q.same;
       }
   quiet_step Served later none (inr l) =
-      used_set later Held (length w.run.boots) l.reply (offers_by Asked l.reaches.uses.let_in.phase refl) refl (ap (λ x. x.history) l.now) (ap (λ x. x.seats) l.now)
+      used_set later Held (length w.run.boots) l.reply (offers_by Asked l.asks.reaches.uses.let_in.phase refl) refl (ap (λ x. x.history) l.now) (ap (λ x. x.seats) l.now)
 
   pub handed_step : (reply : Reply) (later : WorldView) → (later.history ≡ w.history → 1 ≤ s.seq) → Steps z w c (Answered reply) later → IsHandedTo w c later
   handed_step reply later some (inl l) =

@@ -18,9 +18,9 @@ pub offer-requires-clause-declared : goal.offer-requires-clause-declared
 offer-requires-clause-declared g c =
     let w = c.args.world.now.view in
     let client = c.args.client in
-    let free : is_free_phase (seat_in w.seats client).phase ≡ true = ap is_free_phase (sym c.phase.ensures) ∙ sym c.is_free.ensures ∙ c.if-not-is_free.false in
+    let free : is_free_phase (seat_in w.seats client).phase ≡ true = ap is_free_phase (sym c.phase.ensures.phase) ∙ sym c.is_free.ensures ∙ c.if-not-is_free.false in
     let there : slice_get (script_calls c.args.script.now client) (seat_in w.seats client).seq ≡ Some c.in-Some.call.now
-    = ap (slice_get (script_calls c.args.script.now client)) (sym c.seq-done.ensures) ∙ sym c.script_call.ensures ∙ ap option_copied c.in-Some.is in
+    = ap (slice_get (script_calls c.args.script.now client)) (sym c.seq-done.ensures.seq) ∙ sym c.script_call.ensures ∙ ap option_copied c.in-Some.is in
     call_declared c.args.world.now.tables.iface c.args.script.now w.history w.seats c.requires.playing.0 client c.requires.first c.requires.last c.requires.playing.2 free c.in-Some.call.now there
 
 pub offer-requires-clause-fits : goal.offer-requires-clause-fits
@@ -31,9 +31,9 @@ offer-requires-clause-fits g c =
     let client = c.args.client in
     let all = c.requires.playing.0 in
     let is = c.requires.playing.2 in
-    let free : is_free_phase (seat_in w.seats client).phase ≡ true = ap is_free_phase (sym c.phase.ensures) ∙ sym c.is_free.ensures ∙ c.if-not-is_free.false in
+    let free : is_free_phase (seat_in w.seats client).phase ≡ true = ap is_free_phase (sym c.phase.ensures.phase) ∙ sym c.is_free.ensures ∙ c.if-not-is_free.false in
     let there : slice_get (script_calls script client) (seat_in w.seats client).seq ≡ Some c.in-Some.call.now
-    = ap (slice_get (script_calls script client)) (sym c.seq-done.ensures) ∙ sym c.script_call.ensures ∙ ap option_copied c.in-Some.is in
+    = ap (slice_get (script_calls script client)) (sym c.seq-done.ensures.seq) ∙ sym c.script_call.ensures ∙ ap option_copied c.in-Some.is in
     let given = all_given i script w.history w.seats all client c.requires.first c.requires.last is free c.args.given.now c.requires.playing.1 in
     call_fits_kinds i script w.history w.seats all client c.requires.first c.requires.last is free c.in-Some.call.now there c.fun.result.kinds.now c.desc_among-desc.result c.in_ok-values.values
     (ap (λ f. f.kinds) c.fun.ensures ∙ ap (λ d. (fun_at d.facts.funs c.in-Some.call.now.fun).kinds) c.interface.ensures)
@@ -46,9 +46,9 @@ returns-clause-playing g c = λ all is.
     let script = c.args.script.now in
     let w = c.args.world.now.view in
     let client = c.args.client in
-    let free : is_free_phase (seat_in w.seats client).phase ≡ true = ap is_free_phase (sym c.phase.ensures) ∙ sym c.is_free.ensures ∙ c.if-not-is_free.false in
+    let free : is_free_phase (seat_in w.seats client).phase ≡ true = ap is_free_phase (sym c.phase.ensures.phase) ∙ sym c.is_free.ensures ∙ c.if-not-is_free.false in
     let there : slice_get (script_calls script client) (seat_in w.seats client).seq ≡ Some c.in-Some.call.now
-    = ap (slice_get (script_calls script client)) (sym c.seq-done.ensures) ∙ sym c.script_call.ensures ∙ ap option_copied c.in-Some.is in
+    = ap (slice_get (script_calls script client)) (sym c.seq-done.ensures.seq) ∙ sym c.script_call.ensures ∙ ap option_copied c.in-Some.is in
     let given = all_given i script w.history w.seats c.requires.playing.0 client c.requires.first c.requires.last c.requires.playing.2 free c.args.given.now c.requires.playing.1 in
     let kinds = ap (λ f. f.kinds) c.fun.ensures ∙ ap (λ d. (fun_at d.facts.funs c.in-Some.call.now.fun).kinds) c.interface.ensures in
     let desc = c.desc_among-desc.ensures (calls_of w.history client) given ∙ ap (desc_among (calls_of w.history client) c.fun.result.kinds.now) c.as_slice-args.ensures in
@@ -64,9 +64,9 @@ returns-clause-setup g c =
     let script = c.args.script.now in
     let w = c.args.world.now.view in
     let client = c.args.client in
-    let free : is_free_phase (seat_in w.seats client).phase ≡ true = ap is_free_phase (sym c.phase.ensures) ∙ sym c.is_free.ensures ∙ c.if-not-is_free.false in
+    let free : is_free_phase (seat_in w.seats client).phase ≡ true = ap is_free_phase (sym c.phase.ensures.phase) ∙ sym c.is_free.ensures ∙ c.if-not-is_free.false in
     let there : slice_get (script_calls script client) (seat_in w.seats client).seq ≡ Some c.in-Some.call.now
-    = ap (slice_get (script_calls script client)) (sym c.seq-done.ensures) ∙ sym c.script_call.ensures ∙ ap option_copied c.in-Some.is in
+    = ap (slice_get (script_calls script client)) (sym c.seq-done.ensures.seq) ∙ sym c.script_call.ensures ∙ ap option_copied c.in-Some.is in
     let given = all_given i script w.history w.seats c.requires.playing.0 client c.requires.first c.requires.last c.requires.playing.2 free c.args.given.now c.requires.playing.1 in
     let kinds = ap (λ f. f.kinds) c.fun.ensures ∙ ap (λ d. (fun_at d.facts.funs c.in-Some.call.now.fun).kinds) c.interface.ensures in
     let desc = c.desc_among-desc.ensures (calls_of w.history client) given ∙ ap (desc_among (calls_of w.history client) c.fun.result.kinds.now) c.as_slice-args.ensures in
@@ -82,9 +82,9 @@ returns-clause-ok g c =
     let script = c.args.script.now in
     let w = c.args.world.now.view in
     let client = c.args.client in
-    let free : is_free_phase (seat_in w.seats client).phase ≡ true = ap is_free_phase (sym c.phase.ensures) ∙ sym c.is_free.ensures ∙ c.if-not-is_free.false in
+    let free : is_free_phase (seat_in w.seats client).phase ≡ true = ap is_free_phase (sym c.phase.ensures.phase) ∙ sym c.is_free.ensures ∙ c.if-not-is_free.false in
     let there : slice_get (script_calls script client) (seat_in w.seats client).seq ≡ Some c.in-Some.call.now
-    = ap (slice_get (script_calls script client)) (sym c.seq-done.ensures) ∙ sym c.script_call.ensures ∙ ap option_copied c.in-Some.is in
+    = ap (slice_get (script_calls script client)) (sym c.seq-done.ensures.seq) ∙ sym c.script_call.ensures ∙ ap option_copied c.in-Some.is in
     let given = all_given i script w.history w.seats c.requires.playing.0 client c.requires.first c.requires.last c.requires.playing.2 free c.args.given.now c.requires.playing.1 in
     let kinds = ap (λ f. f.kinds) c.fun.ensures ∙ ap (λ d. (fun_at d.facts.funs c.in-Some.call.now.fun).kinds) c.interface.ensures in
     let desc = c.desc_among-desc.ensures (calls_of w.history client) given ∙ ap (desc_among (calls_of w.history client) c.fun.result.kinds.now) c.as_slice-args.ensures in
