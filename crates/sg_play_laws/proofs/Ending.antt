@@ -123,7 +123,7 @@ waiting_from : (script : Script) (n : ℕ) (seats : List Seat) → ((k : ℕ) �
 waiting_from script n [] none waits = refl
 waiting_from script n (s ∷ seats) none waits =
     by (has_calls script n) refl (is_offered s.phase) refl (waiting_from script (n + 1) seats
-        (λ k below not. none (suc k) (omega (arith, below)) (ap (has_calls script) (omega arith) ∙ not)) (λ k below. waits (suc k) (omega (arith, below))))
+    (λ k below not. none (suc k) (omega (arith, below)) (ap (has_calls script) (omega arith) ∙ not)) (λ k below. waits (suc k) (omega (arith, below))))
   where
     here_waits : is_offered s.phase ≡ true → s.phase ≡ Blocked
     here_waits = waits zero (omega arith)
