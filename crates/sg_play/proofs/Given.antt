@@ -8,19 +8,19 @@ use Rattle.sg_facts.specs.declared.entry.Entry.{Entry}
 use Rattle.sg_facts.specs.declared.shape.Kind.{Kind}
 use Rattle.sg_facts.specs.declared.shape.Kind.TheVariants.{Desc, Parent, Word as IsWord, Text as IsText}
 use Rattle.sg_hist.specs.Reading.{desc_in}
-use Rattle.sg_play_laws.specs.Given.{AreGiven}
+use Rattle.sg_play_laws.specs.Given.{GaveIds}
 use Rattle.sg_script.specs.declared.script.Arg.{Arg}
 use Rattle.sg_sim.specs.Script.{desc_among, id_of_call, value_of, values_of}
 
 -- the descriptor at a place
-pub given_at : (own : List Entry) (given : List ℕ) (k d : ℕ) → AreGiven own given → k < length given → slice_index_or given k d ≡ desc_in (slice_get own k)
+pub given_at : (own : List Entry) (given : List ℕ) (k d : ℕ) → GaveIds own given → k < length given → slice_index_or given k d ≡ desc_in (slice_get own k)
 given_at own [] k d are within = absurd (omega (arith, within))
 given_at [] (g ∷ given) k d are within = absurd (cc are)
 given_at (e ∷ own) (g ∷ given) zero d are within = sym (cc are)
 given_at (e ∷ own) (g ∷ given) (suc k) d are within = given_at own given k d (cc are) (omega (arith, within))
 
 -- behind the last there is none
-pub given_none : (own : List Entry) (given : List ℕ) (k : ℕ) → AreGiven own given → length given ≤ k → 0 ≡ desc_in (slice_get own k)
+pub given_none : (own : List Entry) (given : List ℕ) (k : ℕ) → GaveIds own given → length given ≤ k → 0 ≡ desc_in (slice_get own k)
 given_none [] given k are past = refl
 given_none (e ∷ own) [] k are past = absurd (cc are)
 given_none (e ∷ own) (g ∷ given) zero are past = absurd (omega (arith, past))

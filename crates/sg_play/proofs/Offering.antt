@@ -24,7 +24,7 @@ use Rattle.sg_seat.specs.declared.phase.Phase.{Phase}
 use Rattle.sg_seat.specs.declared.phase.Phase.TheVariants.{Idle, Asked, Held, Receipted, Blocked, Left}
 use Rattle.sg_sim.specs.Script.{arg_fits, args_fit, call_fits, desc_among, values_of}
 use Rattle.sg_play_laws.specs.Callers.{handed, is_receipted, is_setting_up}
-use Rattle.sg_play_laws.specs.Given.{AreGiven, given_in}
+use Rattle.sg_play_laws.specs.Given.{GaveIds, given_in}
 use Rattle.sg_play_laws.specs.Plays.{IsPlaying}
 use Rattle.sg_play_laws.specs.Turns.{is_free_phase}
 use Rattle.sg_play_laws.proofs.Lines.{length_set, same_or_other, seat_here, seat_there}
@@ -82,9 +82,9 @@ module _ (i : Declared) (script : Script) (history : List Entry) (seats : List S
   count = (is.callers.each c first last).count
 
   -- it was given what all its entries gave
-  pub all_given : (given : List ℕ) → given_in all c ≡ given → AreGiven (calls_of history c) given
-  all_given given same = subst (AreGiven (calls_of history c)) same
-      (subst (λ es. AreGiven es (given_in all c)) (take_whole (calls_of history c) (handed s) (free_handed s free ∙ count)) (is.have_given.each c first last))
+  pub all_given : (given : List ℕ) → given_in all c ≡ given → GaveIds (calls_of history c) given
+  all_given given same = subst (GaveIds (calls_of history c)) same
+      (subst (λ es. GaveIds es (given_in all c)) (take_whole (calls_of history c) (handed s) (free_handed s free ∙ count)) (is.have_given.each c first last))
 
   module _ (written : ScriptCall) (there : slice_get (script_calls script c) s.seq ≡ Some written) where
     call_is_fit : call_fits i (1 + s.seq) written ≡ true

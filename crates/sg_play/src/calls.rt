@@ -2,7 +2,7 @@
 ghost use Rattle.std.specs.Prelude.{◌≡◌, ◌∷◌, [], List, IfOk};
 ghost use Rattle.sg_facts.specs.Kinds.{AreWords};
 ghost use Rattle.sg_facts.specs.declared.entry.Entry.{Entry as IsEntry};
-ghost use Rattle.sg_play_laws.specs.Given.{AreGiven};
+ghost use Rattle.sg_play_laws.specs.Given.{GaveIds};
 ghost use Rattle.sg_sim.specs.Script.{arg_value, desc_among, id_of_call, value_of, values_of};
 
 use sg_base::{Args, NoMemory, TryCopy, Value};
@@ -12,7 +12,7 @@ use std::alloc::Global;
 
 /// The descriptor or parent among arguments, 0 where no parameter is one.
 pub(crate) fn desc_among(given: &[u64], kinds: &[Kind], args: &[Arg]) -> u64
-    ensures { (own : List IsEntry) → AreGiven own given.now → result ≡ desc_among own kinds.now args.now }
+    ensures { (own : List IsEntry) → GaveIds own given.now → result ≡ desc_among own kinds.now args.now }
 {
     for (kind, arg) in kinds.iter().zip(args) {
         match kind {
@@ -30,7 +30,7 @@ pub(crate) fn values_of(
     kinds: &[Kind],
     args: &[Arg],
 ) -> Result<Args, NoMemory>
-    ensures values { (own : List IsEntry) → AreGiven own given.now → IfOk result (λ values. values ≡ values_of own kinds.now args.now) }
+    ensures values { (own : List IsEntry) → GaveIds own given.now → IfOk result (λ values. values ≡ values_of own kinds.now args.now) }
     ensures words { IfOk result AreWords }
 {
     let mut values = Args::new(alloc);
@@ -45,7 +45,7 @@ pub(crate) fn values_of(
 
 // An argument as a value.
 fn value_of(alloc: Global, given: &[u64], arg: &Arg) -> Result<Value, NoMemory>
-    ensures value { (own : List IsEntry) → AreGiven own given.now → IfOk result (λ value. value ≡ value_of own arg.now) }
+    ensures value { (own : List IsEntry) → GaveIds own given.now → IfOk result (λ value. value ≡ value_of own arg.now) }
     ensures words { IfOk result (λ value. AreWords (value ∷ [])) }
 {
     match arg {
@@ -57,7 +57,7 @@ fn value_of(alloc: Global, given: &[u64], arg: &Arg) -> Result<Value, NoMemory>
 
 // An argument as a number.
 fn arg_value(given: &[u64], arg: &Arg) -> u64
-    ensures { (own : List IsEntry) → AreGiven own given.now → result ≡ arg_value own arg.now }
+    ensures { (own : List IsEntry) → GaveIds own given.now → result ≡ arg_value own arg.now }
 {
     match arg {
         Arg::Number(number) => *number,
@@ -68,7 +68,7 @@ fn arg_value(given: &[u64], arg: &Arg) -> u64
 
 // The descriptor that the call of a number was given, 0 for none.
 fn id_of_call(given: &[u64], call: u32) -> u64
-    ensures { (own : List IsEntry) → AreGiven own given.now → result ≡ id_of_call own call }
+    ensures { (own : List IsEntry) → GaveIds own given.now → result ≡ id_of_call own call }
 {
     if call == 0 {
         return 0;

@@ -10,7 +10,7 @@ use Rattle.sg_seat.specs.WorldView.{Seat, seat_in}
 use Rattle.sg_script.specs.declared.script.Script.{Script}
 use Rattle.sg_play_laws.proofs.Lines.{same_or_other}
 use Rattle.sg_play_laws.specs.Callers.{AreCallers, HandsOn, StepsOn, handed}
-use Rattle.sg_play_laws.specs.Given.{AreGiven, HandsOver, HandsReply, HaveGiven, given_in, with_handed}
+use Rattle.sg_play_laws.specs.Given.{GaveIds, HandsToClient, HandsReply, HaveGiven, given_in, with_handed}
 use Rattle.sg_play_laws.specs.Playable.{IsPlayable}
 use Rattle.sg_play_laws.proofs.Calling.{its_entry, others_same, own_more}
 use Rattle.sg_play_laws.proofs.Setting.{handed_within}
@@ -78,7 +78,7 @@ module _ (i : Declared) (script : Script) (history now : List Entry) (seats late
   handed_few : handed (seat_in seats c) ≤ length (calls_of history c)
   handed_few = omega (arith, handed_within (seat_in seats c), (are.each c first last).count)
 
-  other_given : (client : ℕ) → 1 ≤ client → client ≤ length seats → client ≢ c → AreGiven (take (handed (seat_in later client)) (calls_of now client)) (given_in given client)
+  other_given : (client : ℕ) → 1 ≤ client → client ≤ length seats → client ≢ c → GaveIds (take (handed (seat_in later client)) (calls_of now client)) (given_in given client)
   other_given client from to other =
       ap (λ n. map (λ e. desc_of e.reply) (take n (calls_of now client))) (hands_on.others client from other)
       ∙ ap (λ es. map (λ e. desc_of e.reply) (take (handed (seat_in seats client)) es)) (others_own client other)
@@ -91,11 +91,11 @@ module _ (i : Declared) (script : Script) (history now : List Entry) (seats late
     each = λ client from to. by client from (subst (λ n. client ≤ n) clients_same to) (same_or_other client c);
   }
     where
-      own : AreGiven (take (handed (seat_in later c)) (calls_of now c)) (given_in given c)
+      own : GaveIds (take (handed (seat_in later c)) (calls_of now c)) (given_in given c)
       own = ap (λ n. map (λ e. desc_of e.reply) (take n (calls_of now c))) same ∙ ap (map (λ e. desc_of e.reply)) (own_front (handed (seat_in seats c)) handed_few) ∙ have.each c first last
 
-      by : (client : ℕ) → 1 ≤ client → client ≤ length seats → (client ≡ c) ⊎ (client ≢ c) → AreGiven (take (handed (seat_in later client)) (calls_of now client)) (given_in given client)
-      by client from to (inl it) = subst (λ n. AreGiven (take (handed (seat_in later n)) (calls_of now n)) (given_in given n)) (sym it) own
+      by : (client : ℕ) → 1 ≤ client → client ≤ length seats → (client ≡ c) ⊎ (client ≢ c) → GaveIds (take (handed (seat_in later client)) (calls_of now client)) (given_in given client)
+      by client from to (inl it) = subst (λ n. GaveIds (take (handed (seat_in later n)) (calls_of now n)) (given_in given n)) (sym it) own
       by client from to (inr other) = other_given client from to other
 
   -- a reply was handed over
@@ -121,18 +121,18 @@ module _ (i : Declared) (script : Script) (history now : List Entry) (seats late
           ∙ ap (take (handed (seat_in seats c))) (sym hands.is)
           ∙ own_front (handed (seat_in seats c)) handed_few
 
-      own : AreGiven (take (handed (seat_in later c)) (calls_of now c)) new
+      own : GaveIds (take (handed (seat_in later c)) (calls_of now c)) new
       own =
           ap (map (λ e. desc_of e.reply)) (take_all (calls_of now c) (handed (seat_in later c)) hands.all_handed ∙ hands.is)
           ∙ map_push (λ e. desc_of e.reply) hands.front hands.last
           ∙ ap (λ l. l ++ desc_of hands.last.reply ∷ []) (ap (map (λ e. desc_of e.reply)) front_is ∙ have.each c first last)
           ∙ ap (λ d. given_in given c ++ d ∷ []) hands.gave
 
-      by : (client : ℕ) → 1 ≤ client → client ≤ length seats → (client ≡ c) ⊎ (client ≢ c) → AreGiven (take (handed (seat_in later client)) (calls_of now client)) (given_in (slice_set given (c - 1) new) client)
-      by client from to (inl it) = subst (λ n. AreGiven (take (handed (seat_in later n)) (calls_of now n)) (given_in (slice_set given (c - 1) new) n)) (sym it)
-          (subst (AreGiven (take (handed (seat_in later c)) (calls_of now c))) (sym (given_here given c new first within)) own)
-      by client from to (inr other) = subst (AreGiven (take (handed (seat_in later client)) (calls_of now client))) (sym (given_there given c client new first from other)) (other_given client from to other)
+      by : (client : ℕ) → 1 ≤ client → client ≤ length seats → (client ≡ c) ⊎ (client ≢ c) → GaveIds (take (handed (seat_in later client)) (calls_of now client)) (given_in (slice_set given (c - 1) new) client)
+      by client from to (inl it) = subst (λ n. GaveIds (take (handed (seat_in later n)) (calls_of now n)) (given_in (slice_set given (c - 1) new) n)) (sym it)
+          (subst (GaveIds (take (handed (seat_in later c)) (calls_of now c))) (sym (given_here given c new first within)) own)
+      by client from to (inr other) = subst (GaveIds (take (handed (seat_in later client)) (calls_of now client))) (sym (given_there given c client new first from other)) (other_given client from to other)
 
-  pub given_step : (told : Option ℕ) → HandsOver seats c now later told → HaveGiven now later (with_handed given c told)
+  pub given_step : (told : Option ℕ) → HandsToClient seats c now later told → HaveGiven now later (with_handed given c told)
   given_step None same = given_same same
   given_step (Some id) hands = given_more id hands

@@ -11,7 +11,7 @@ use Rattle.sg_script.specs.declared.script.Script.{Script}
 use Rattle.sg_seat.specs.WorldView.{Seat, is_offered, seat_in}
 use Rattle.sg_play_laws.proofs.Lines.{same_or_other}
 use Rattle.sg_play_laws.specs.Callers.{EntersNothing, StepsOn, handed, is_setting_up}
-use Rattle.sg_play_laws.specs.Given.{HandsOver, with_handed}
+use Rattle.sg_play_laws.specs.Given.{HandsToClient, with_handed}
 use Rattle.sg_play_laws.specs.Plays.{IsPlaying}
 use Rattle.sg_play_laws.proofs.Calling.{callers_offer, callers_step, its_client}
 use Rattle.sg_play_laws.proofs.Giving.{given_step}
@@ -24,7 +24,7 @@ module _ (i : Declared) (script : Script) (history : List Entry) (seats : List S
   one_client = omega (arith, first, last)
 
   -- a step of a client, which is client 1 while the setup goes on
-  pub playing_step : (now : List Entry) (later : List Seat) (told : Option ℕ) → StepsOn history seats c now later → HandsOver seats c now later told → IsPlaying i script now later (with_handed given c told)
+  pub playing_step : (now : List Entry) (later : List Seat) (told : Option ℕ) → StepsOn history seats c now later → HandsToClient seats c now later told → IsPlaying i script now later (with_handed given c told)
   playing_step now later told steps hands = record {
     playable = is.playable;
     clients = by steps ∙ is.clients;

@@ -8,8 +8,8 @@ use Rattle.sg_play_laws.specs.Callers.{handed}
 use Rattle.sg_seat.specs.WorldView.{Seat, seat_in}
 
 -- entries' replies give these descriptors, one each, 0 for none
-abbrev pub AreGiven : List Entry → List ℕ → Type 0
-AreGiven own given = map (λ e. desc_of e.reply) own ≡ given
+abbrev pub GaveIds : List Entry → List ℕ → Type 0
+GaveIds own given = map (λ e. desc_of e.reply) own ≡ given
 
 -- the descriptors that a client was given
 abbrev pub given_in : List (List ℕ) → ℕ → List ℕ
@@ -18,7 +18,7 @@ given_in given client = unwrap_or (slice_get given (client - 1)) []
 -- for each client there is what its calls were given whose replies it was handed over
 pub record HaveGiven (history : List Entry) (seats : List Seat) (given : List (List ℕ)) : Type 0 where
   pub clients : length given ≡ length seats
-  pub each : (client : ℕ) → 1 ≤ client → client ≤ length seats → AreGiven (take (handed (seat_in seats client)) (calls_of history client)) (given_in given client)
+  pub each : (client : ℕ) → 1 ≤ client → client ≤ length seats → GaveIds (take (handed (seat_in seats client)) (calls_of history client)) (given_in given client)
 
 -- a step handed a reply over: that of the client's last entry, which gave this descriptor
 pub record HandsReply (seats : List Seat) (c : ℕ) (now : List Entry) (later : List Seat) (id : ℕ) : Type 0 where
@@ -30,9 +30,9 @@ pub record HandsReply (seats : List Seat) (c : ℕ) (now : List Entry) (later : 
   pub gave : desc_of last.reply ≡ id
 
 -- what a step handed over to its client: nothing, or a reply that gave a descriptor
-abbrev pub HandsOver : List Seat → ℕ → List Entry → List Seat → Option ℕ → Type 0
-HandsOver seats c now later None = handed (seat_in later c) ≡ handed (seat_in seats c)
-HandsOver seats c now later (Some id) = HandsReply seats c now later id
+abbrev pub HandsToClient : List Seat → ℕ → List Entry → List Seat → Option ℕ → Type 0
+HandsToClient seats c now later None = handed (seat_in later c) ≡ handed (seat_in seats c)
+HandsToClient seats c now later (Some id) = HandsReply seats c now later id
 
 -- with what was handed over
 abbrev pub with_handed : List (List ℕ) → ℕ → Option ℕ → List (List ℕ)
