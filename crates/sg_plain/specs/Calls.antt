@@ -12,7 +12,7 @@ use Rattle.sg_hist.specs.declared.ended.End.TheVariants.{Done, Blocked}
 use Rattle.sg_hist.specs.Clients.{calls_of}
 use Rattle.sg_script.specs.declared.script.Script.{Script}
 use Rattle.sg_script.specs.declared.script.ScriptCall.{ScriptCall}
-use Rattle.sg_sim.specs.Script.{desc_among, values_of}
+use Rattle.sg_plain.specs.Script.{desc_among, values_of}
 
 -- ---- the calls of a client
 

@@ -10,7 +10,7 @@ use Rattle.sg_facts.specs.declared.shape.Kind.TheVariants.{Desc, Parent, Word as
 use Rattle.sg_hist.specs.Reading.{desc_in}
 use Rattle.sg_play_laws.specs.Given.{GaveIds}
 use Rattle.sg_script.specs.declared.script.Arg.{Arg}
-use Rattle.sg_sim.specs.Script.{desc_among, id_of_call, value_of, values_of}
+use Rattle.sg_plain.specs.Script.{desc_among, id_of_call, value_of, values_of}
 
 -- the descriptor at a place
 pub given_at : (own : List Entry) (given : List ℕ) (k d : ℕ) → GaveIds own given → k < length given → slice_index_or given k d ≡ desc_in (slice_get own k)

@@ -22,7 +22,7 @@ use Rattle.sg_script.specs.declared.script.ScriptCall.{ScriptCall}
 use Rattle.sg_seat.specs.WorldView.{Seat, seat_in}
 use Rattle.sg_seat.specs.declared.phase.Phase.{Phase}
 use Rattle.sg_seat.specs.declared.phase.Phase.TheVariants.{Idle, Asked, Held, Receipted, Blocked, Left}
-use Rattle.sg_sim.specs.Script.{arg_fits, args_fit, call_fits, desc_among, values_of}
+use Rattle.sg_plain.specs.Script.{arg_fits, args_fit, call_fits, desc_among, values_of}
 use Rattle.sg_play_laws.specs.Callers.{handed, is_receipted, is_setting_up}
 use Rattle.sg_play_laws.specs.Given.{GaveIds, given_in}
 use Rattle.sg_play_laws.specs.Plays.{IsPlaying}

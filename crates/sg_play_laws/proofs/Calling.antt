@@ -13,7 +13,7 @@ use Rattle.sg_plain.specs.Promises.{AreFirstCalls}
 use Rattle.sg_script.specs.declared.script.Script.{Script}
 use Rattle.sg_script.specs.declared.script.ScriptCall.{ScriptCall}
 use Rattle.sg_seat.specs.WorldView.{Seat, seat_in}
-use Rattle.sg_sim.specs.Script.{desc_among, values_of}
+use Rattle.sg_plain.specs.Script.{desc_among, values_of}
 use Rattle.sg_play_laws.proofs.Lines.{same_or_other}
 use Rattle.sg_walk_laws.proofs.Found.{other_test, same_test}
 use Rattle.sg_play_laws.specs.Callers.{AreCallers, EntersCall, EntersNothing, IsCaller, KeepsCall, StepsOn}

@@ -10,6 +10,7 @@ use Rattle.sg_facts.specs.Interface.{Declared}
 use Rattle.sg_facts.specs.Legal.{Table, answer}
 use Rattle.sg_facts.specs.Object.{object_of}
 use Rattle.sg_hist.specs.Clients.{calls_of}
+use Rattle.sg_hist.specs.Recovered.{waiting, waiting_in}
 use Rattle.sg_hist.specs.declared.ended.End.{End}
 use Rattle.sg_hist.specs.declared.ended.End.TheVariants.{Done, Blocked as Waits}
 use Rattle.sg_plain.specs.Calls.{AreEnds, EachEnd, IsEnd, ascending_from, callers, most_client, script_calls}
@@ -20,7 +21,7 @@ use Rattle.sg_seat.specs.WorldView.{Seat, is_blocked_phase, is_offered, no_seat,
 use Rattle.sg_seat.specs.declared.phase.Phase.{Phase}
 use Rattle.sg_seat.specs.declared.phase.Phase.TheVariants.{Idle, Asked, Held, Receipted, Blocked, Left}
 use Rattle.sg_play_laws.specs.Callers.{IsCaller}
-use Rattle.sg_play_laws.specs.Ends.{end_of, ends_from, has_calls, waits_in}
+use Rattle.sg_play_laws.specs.Ends.{end_of, ends_from, has_calls}
 use Rattle.sg_play_laws.specs.Plays.{IsPlaying}
 use Rattle.sg_play_laws.specs.Turns.{NobodyGoes, may_go, may_take_turn}
 use Rattle.sg_play_laws.proofs.Calling.{IsNext, next_of}
@@ -119,7 +120,7 @@ each_end i ask history script n (s ∷ seats) all =
 -- the calls that wait
 waiting_from : (script : Script) (n : ℕ) (seats : List Seat) → ((k : ℕ) → k < length seats → has_calls script (n + k) ≡ false → is_offered (unwrap_or (slice_get seats k) no_seat).phase ≡ false)
     → ((k : ℕ) → k < length seats → is_offered (unwrap_or (slice_get seats k) no_seat).phase ≡ true → (unwrap_or (slice_get seats k) no_seat).phase ≡ Blocked)
-    → flat_map offered_by seats ≡ flat_map waits_in (ends_from script n seats)
+    → flat_map offered_by seats ≡ waiting (ends_from script n seats)
 waiting_from script n [] none waits = refl
 waiting_from script n (s ∷ seats) none waits =
     by (has_calls script n) refl (is_offered s.phase) refl (waiting_from script (n + 1) seats
@@ -131,17 +132,17 @@ waiting_from script n (s ∷ seats) none waits =
     here_none : has_calls script n ≡ false → is_offered s.phase ≡ false
     here_none not = none zero (omega arith) (ap (has_calls script) (omega arith) ∙ not)
 
-    end_when : (b : Bool) → is_offered s.phase ≡ b → waits_in (n, end_of s) ≡ cond b (s.call ∷ []) []
-    end_when true is = ap (λ p. waits_in (n, cond (is_blocked_phase p) (Waits s.call) Done)) (here_waits is)
+    end_when : (b : Bool) → is_offered s.phase ≡ b → waiting_in (end_of s) ≡ cond b (s.call ∷ []) []
+    end_when true is = ap (λ p. waiting_in (cond (is_blocked_phase p) (Waits s.call) Done)) (here_waits is)
     end_when false is = free (is_blocked_phase s.phase) refl
       where
-        free : (b : Bool) → is_blocked_phase s.phase ≡ b → waits_in (n, cond b (Waits s.call) Done) ≡ []
+        free : (b : Bool) → is_blocked_phase s.phase ≡ b → waiting_in (cond b (Waits s.call) Done) ≡ []
         free true blocked = absurd (cc (sym is ∙ ap is_offered (blocked_is s.phase blocked)))
         free false blocked = refl
 
-    by : (has : Bool) → has_calls script n ≡ has → (b : Bool) → is_offered s.phase ≡ b → flat_map offered_by seats ≡ flat_map waits_in (ends_from script (n + 1) seats)
-        → cond b (s.call ∷ []) [] ++ flat_map offered_by seats ≡ flat_map waits_in (cond has ((n, end_of s) ∷ ends_from script (n + 1) seats) (ends_from script (n + 1) seats))
-    by true has b is rest = ap (λ l. l ++ flat_map offered_by seats) (sym (end_when b is)) ∙ ap (λ l. waits_in (n, end_of s) ++ l) rest
+    by : (has : Bool) → has_calls script n ≡ has → (b : Bool) → is_offered s.phase ≡ b → flat_map offered_by seats ≡ waiting (ends_from script (n + 1) seats)
+        → cond b (s.call ∷ []) [] ++ flat_map offered_by seats ≡ waiting (cond has ((n, end_of s) ∷ ends_from script (n + 1) seats) (ends_from script (n + 1) seats))
+    by true has b is rest = ap (λ l. l ++ flat_map offered_by seats) (sym (end_when b is)) ∙ ap (λ l. waiting_in (end_of s) ++ l) rest
     by false has true is rest = absurd (cc (sym is ∙ here_none has))
     by false has false is rest = rest
 
@@ -160,7 +161,7 @@ module _ (i : Declared) (ask : Table) (script : Script) (history : List Entry) (
   }
 
   -- and the calls that wait are those that aren't answered
-  pub playing_waiting : flat_map offered_by seats ≡ flat_map waits_in (ends_from script 1 seats)
+  pub playing_waiting : flat_map offered_by seats ≡ waiting (ends_from script 1 seats)
   playing_waiting = waiting_from script 1 seats
       (λ k below none. subst (λ s. is_offered s.phase ≡ false) (at k) (offers_none i script history (1 + k) (seat_in seats (1 + k)) (is.callers.each (1 + k) (omega arith) (omega (arith, below))) none))
       (λ k below. subst (λ s. is_offered s.phase ≡ true → s.phase ≡ Blocked) (at k) (rests script (1 + k) (seat_in seats (1 + k)) (nobody (1 + k) (omega arith) (omega (arith, below)))).offers)

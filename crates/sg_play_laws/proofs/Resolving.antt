@@ -17,7 +17,7 @@ use Rattle.sg_plain.specs.Promises.{AreFirstCalls}
 use Rattle.sg_script.specs.declared.script.Arg.{Arg}
 use Rattle.sg_script.specs.declared.script.Arg.TheVariants.{Number, Text, Back}
 use Rattle.sg_script.specs.declared.script.ScriptCall.{ScriptCall}
-use Rattle.sg_sim.specs.Script.{arg_fits, arg_value, args_fit, call_fits, calls_fit, desc_among, id_of_call, value_of, values_of}
+use Rattle.sg_plain.specs.Script.{arg_fits, arg_value, args_fit, call_fits, calls_fit, desc_among, id_of_call, value_of, values_of}
 
 -- what a call comes to by its client's own entries
 abbrev pub resolved_on : Facts → List Entry → ℕ → ℕ → ScriptCall → Call

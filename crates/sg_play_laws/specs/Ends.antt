@@ -1,16 +1,10 @@
 -- How the clients of a play end, by their seats.
 use Rattle.std.specs.Prelude.{ℕ, ◌+◌, ◌==◌, Bool, not, if◌then◌else◌, List, [], ◌∷◌, length}
-use Rattle.sg_base.specs.declared.call.Call.{Call}
 use Rattle.sg_hist.specs.declared.ended.End.{End}
 use Rattle.sg_hist.specs.declared.ended.End.TheVariants.{Done, Blocked}
 use Rattle.sg_plain.specs.Calls.{script_calls}
 use Rattle.sg_script.specs.declared.script.Script.{Script}
 use Rattle.sg_seat.specs.WorldView.{Seat, is_blocked_phase}
-
--- the call in which a client waits at its end, if it does
-abbrev pub waits_in : ℕ × End → List Call
-waits_in (client, Done) = []
-waits_in (client, Blocked call) = call ∷ []
 
 -- whether a client has a call
 abbrev pub has_calls : Script → ℕ → Bool

@@ -2,7 +2,7 @@
 use Rattle.std.proofs.Common.{◌≡◌, List}
 use Rattle.std.specs.Slice.Iter.{iter_rest}
 use Rattle.sg_facts.specs.declared.entry.Entry.{Entry}
-use Rattle.sg_sim.specs.Script.{desc_among}
+use Rattle.sg_plain.specs.Script.{desc_among}
 use Rattle.sg_play.proofs.calls.desc_among.Given as goal
 
 abbrev pub invariant-loop-kind : goal.invariant-loop-kind

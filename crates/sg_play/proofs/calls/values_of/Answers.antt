@@ -3,7 +3,7 @@ use Rattle.std.proofs.Common.{◌≡◌, ◌++◌, ◌∷◌, [], length, ap, ap
 use Rattle.std.specs.Prelude.{◌⊎◌}
 use Rattle.std.specs.Slice.Iter.{iter_rest}
 use Rattle.sg_facts.specs.Kinds.{AreWords}
-use Rattle.sg_sim.specs.Script.{values_of}
+use Rattle.sg_plain.specs.Script.{values_of}
 use Rattle.sg_play.proofs.Given.{no_more_values, values_here, words_more}
 use Rattle.sg_play.proofs.calls.values_of.Goals as goal
 

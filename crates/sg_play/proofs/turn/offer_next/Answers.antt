@@ -9,7 +9,7 @@ use Rattle.sg_play_laws.specs.Callers.{is_setting_up}
 use Rattle.sg_play_laws.specs.Plays.{IsPlaying}
 use Rattle.sg_play_laws.specs.Turns.{is_free_phase}
 use Rattle.sg_seat.specs.WorldView.{seat_in}
-use Rattle.sg_sim.specs.Script.{desc_among, values_of}
+use Rattle.sg_plain.specs.Script.{desc_among, values_of}
 use Rattle.sg_world.specs.Worlded.{Worlded}
 use Rattle.sg_play.proofs.Offering.{all_given, call_declared, call_fits_kinds, either_way, next, offered_playing, offered_setup, ok_so}
 use Rattle.sg_play.proofs.turn.offer_next.Goals as goal

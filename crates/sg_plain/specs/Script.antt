@@ -77,20 +77,3 @@ values_of history (Desc ∷ kinds) (a ∷ args) = values_of history kinds args
 values_of history (Parent ∷ kinds) (a ∷ args) = values_of history kinds args
 values_of history (Word ∷ kinds) (a ∷ args) = value_of history a ∷ values_of history kinds args
 values_of history (IsText ∷ kinds) (a ∷ args) = value_of history a ∷ values_of history kinds args
-
--- a script's call of client 1, of a number, resolved by a history
-abbrev pub resolved_call : Facts → List Entry → ℕ → ScriptCall → Call
-resolved_call facts history seq c = record {
-  client = 1;
-  seq = seq;
-  fun = c.fun;
-  desc = desc_among history (fun_at facts.funs c.fun).kinds c.args;
-  args = values_of history (fun_at facts.funs c.fun).kinds c.args;
-}
-
--- entries are, one by one, the calls of a script from a number on, resolved by a history
-abbrev pub AreCalls : Facts → List Entry → ℕ → List Entry → List ScriptCall → Type 0
-AreCalls facts history seq [] [] = Unit {0}
-AreCalls facts history seq (e ∷ es) (c ∷ calls) = (e.call ≡ resolved_call facts history seq c) × AreCalls facts history (seq + 1) es calls
-AreCalls facts history seq [] (c ∷ calls) = ⊥
-AreCalls facts history seq (e ∷ es) [] = ⊥
