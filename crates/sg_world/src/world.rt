@@ -1,5 +1,5 @@
 // The service, its clients, and what they did.
-ghost use Rattle.std.specs.Prelude.{◌≡◌, ◌+◌, ◌≤◌, ◌<◌, ◌-◌, ◌^◌, true, [], None, IfOk, OnOk, OnErr, length, replicate};
+ghost use Rattle.std.specs.Prelude.{◌≡◌, ◌+◌, ◌≤◌, ◌<◌, ◌-◌, ◌^◌, ℕ, true, [], None, IfOk, OnOk, OnErr, length, replicate};
 ghost use Rattle.std.specs.List.{list_all};
 ghost use Rattle.std.specs.Option.{option_copied, option_map};
 ghost use Rattle.sg_facts.specs.Kinds.{AreWords, FitsKinds};
@@ -11,7 +11,7 @@ ghost use Rattle.sg_facts.specs.Trace.{run_of};
 ghost use Rattle.sg_hist.specs.Clients.{calls_of};
 ghost use Rattle.sg_hist.specs.Recovered.{AreInBoots, IsRecovered, struck_in};
 ghost use Rattle.sg_recovery_laws.specs.Growing.{IsRecovering};
-ghost use Rattle.sg_world_laws.specs.Setting.{stubs_of};
+ghost use Rattle.sg_world_laws.specs.Setting.{IsSetting, stubs_of};
 ghost use Rattle.sg_world.specs.Steps.{AnswersLast, HasStepped, WantsMemory};
 ghost use Rattle.sg_world.specs.Worlded.{CountsAll, setting_of};
 ghost use Rattle.sg_seat.specs.declared.phase.Phase.TheVariants.{Blocked};
@@ -81,10 +81,13 @@ impl<S: Service, T: Stops> World<S, T> {
         })
     }
 
-    /// The calls that were done, lent: a history of a service that never failed.
+    /// The calls that were done, lent: a history of a service that never failed. Who waits, waits in a call that has no answer behind
+    /// them.
     pub fn history(&self) -> &History
         ensures items { result.now.items ≡ self.now.view.history }
         ensures legal { LegalFrom self.now.tables.iface S.ask empty_object self.now.view.history }
+        ensures waits { let i = self.now.tables.iface in let w = self.now.view in (client : ℕ) → 1 ≤ client → client ≤ length w.seats
+            → (seat_of w client).phase ≡ Blocked → answer i S.ask (object_of i.facts w.history) (seat_of w client).call ≡ None }
     {
         &self.inner.history
     }
@@ -142,9 +145,10 @@ impl<S: Service, T: Stops> World<S, T> {
         self.inner.clients.phase(client)
     }
 
-    /// The interface that the service is used by, lent.
+    /// The interface that the service is used by, lent. It can be recovered, by the walks of its tables, and the service keeps its laws.
     pub fn interface(&self) -> &Interface
-        ensures { result.now ≡ self.now.tables.iface }
+        ensures interface { result.now ≡ self.now.tables.iface }
+        ensures set { IsSetting (setting_of S.ask S.sound S.parts self.now.tables) }
     {
         self.inner.engine.interface()
     }

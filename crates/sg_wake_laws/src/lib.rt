@@ -1,0 +1,2 @@
+//! Laws: who waits in a play is woken before it waits again, and no service is booted for nothing.
+#![tactic(auto)]
