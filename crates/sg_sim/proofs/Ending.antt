@@ -1,0 +1,87 @@
+-- How clients end, one after the other; and what a play that ended promises.
+use Rattle.std.proofs.Common.{◌≡◌, ◌⊎◌, ℕ, zero, suc, ◌+◌, ◌-◌, ◌<◌, ◌≤◌, Bool, true, false, cond, not, List, [], ◌∷◌, ◌++◌, None, Some, length, map, refl, sym, ◌∙◌, ap, subst, inl, inr, arith, take, append_nil}
+use Rattle.std.specs.Prelude.{slice_get, unwrap_or, ◌==◌}
+use Rattle.std.specs.List.{flat_map}
+use Rattle.std.proofs.lemmas.Bool.Decides.{nat_tests}
+use Rattle.sg_facts.specs.Legal.{IsLegal}
+use Rattle.sg_facts.proofs.Legality.{IsLegal-from}
+use Rattle.sg_facts.specs.Trace.{run_of}
+use Rattle.sg_hist.specs.Recovered.{EndsUsed, HasRecovered, IsRecovered, struck_in}
+use Rattle.sg_hist.specs.declared.ended.End.{End}
+use Rattle.sg_hist.specs.declared.ended.Ended.{Ended}
+use Rattle.sg_plain.specs.Calls.{AreEnds}
+use Rattle.sg_plain.specs.Promises.{AreScriptsCalls}
+use Rattle.sg_play.specs.Recovering.{RecoversSoFar}
+use Rattle.sg_play_laws.proofs.Ending.{playing_ends, playing_waiting}
+use Rattle.sg_play_laws.proofs.Playing.{playing_calls}
+use Rattle.sg_play_laws.specs.Ends.{end_of, ends_from, has_calls}
+use Rattle.sg_play_laws.specs.Turns.{NobodyGoes}
+use Rattle.sg_script.specs.declared.script.Script.{Script}
+use Rattle.sg_seat.specs.WorldView.{Seat, WorldView, no_seat, offered_by, seat_in, unanswered}
+use Rattle.sg_sim.specs.Inside.Keeps.{KeepsPlay}
+use Rattle.sg_sim.specs.Played.{IsPlayed}
+use Rattle.sg_world_laws.specs.Setting.{Setting, stubs_of}
+
+-- ---- ends
+
+-- the ends of some clients, and of one more
+one_more : (script : Script) (n : ℕ) (seats : List Seat) (s : Seat) → ends_from script n (seats ++ s ∷ []) ≡ ends_from script n seats ++ cond (has_calls script (n + length seats)) ((n + length seats, end_of s) ∷ []) []
+one_more script n [] s = ap (λ m. cond (has_calls script m) ((m, end_of s) ∷ []) []) (omega arith)
+one_more script n (t ∷ seats) s = by (has_calls script n) (one_more script (n + 1) seats s ∙ ap (λ m. ends_from script (n + 1) seats ++ cond (has_calls script m) ((m, end_of s) ∷ []) []) (omega arith))
+  where
+    new : List (ℕ × End)
+    new = cond (has_calls script (n + length (t ∷ seats))) ((n + length (t ∷ seats), end_of s) ∷ []) []
+
+    by : (b : Bool) → ends_from script (n + 1) (seats ++ s ∷ []) ≡ ends_from script (n + 1) seats ++ new
+        → cond b ((n, end_of t) ∷ ends_from script (n + 1) (seats ++ s ∷ [])) (ends_from script (n + 1) (seats ++ s ∷ []))
+        ≡ cond b ((n, end_of t) ∷ ends_from script (n + 1) seats) (ends_from script (n + 1) seats) ++ new
+    by true rest = ap (λ l. (n, end_of t) ∷ l) rest
+    by false rest = rest
+
+take_more : (seats : List Seat) (k : ℕ) → k < length seats → take (k + 1) seats ≡ take k seats ++ unwrap_or (slice_get seats k) no_seat ∷ []
+take_more [] k below = absurd (omega (arith, below))
+take_more (s ∷ seats) zero below = refl
+take_more (s ∷ seats) (suc k) below = ap (λ l. s ∷ l) (take_more seats k (omega (arith, below)))
+
+length_taken : (seats : List Seat) (k : ℕ) → k ≤ length seats → length (take k seats) ≡ k
+length_taken seats zero below = refl
+length_taken [] (suc k) below = absurd (omega (arith, below))
+length_taken (s ∷ seats) (suc k) below = ap suc (length_taken seats k (omega (arith, below)))
+
+-- behind the ends of so many clients comes that of the next, where it has a call
+pub next_end : (script : Script) (seats : List Seat) (k : ℕ) → k < length seats
+    → ends_from script 1 (take (k + 1) seats) ≡ ends_from script 1 (take k seats) ++ cond (has_calls script (k + 1)) ((k + 1, end_of (seat_in seats (k + 1))) ∷ []) []
+next_end script seats k below =
+    let number : 1 + length (take k seats) ≡ k + 1 = omega (arith, length_taken seats k (omega (arith, below))) in
+    let place : k ≡ k + 1 - 1 = omega arith in
+    ap (ends_from script 1) (take_more seats k below) ∙ one_more script 1 (take k seats) (unwrap_or (slice_get seats k) no_seat)
+    ∙ ap (λ m. ends_from script 1 (take k seats) ++ cond (has_calls script m) ((m, end_of (unwrap_or (slice_get seats k) no_seat)) ∷ []) []) number
+    ∙ ap (λ j. ends_from script 1 (take k seats) ++ cond (has_calls script (k + 1)) ((k + 1, end_of (unwrap_or (slice_get seats j) no_seat)) ∷ []) []) place
+
+pub all_taken : (seats : List Seat) → take (length seats) seats ≡ seats
+all_taken [] = refl
+all_taken (s ∷ seats) = ap (λ l. s ∷ l) (all_taken seats)
+
+-- ---- a play that ended
+
+-- the calls that aren't answered are those of the seats, where none was withdrawn
+not_withdrawn : (w : WorldView) → w.withdrawn ≡ [] → unanswered w ≡ flat_map offered_by w.seats
+not_withdrawn w none = ap (λ l. flat_map offered_by w.seats ++ map (λ x. x.call) l) none ∙ append_nil (flat_map offered_by w.seats)
+
+module _ (z : Setting) (test : ℕ → List ℕ → List ℕ → Type 0) (script : Script) (plan : List ℕ) (w : WorldView) (given : List (List ℕ)) (passed last : ℕ)
+    (is : KeepsPlay z script w given passed last) (told : RecoversSoFar z w) (nobody : NobodyGoes script w.seats) where
+  pub played : (ended : Ended) → ended.history.items ≡ w.history → run_of ended.trace ≡ w.run → ended.ends ≡ ends_from script 1 w.seats
+      → IsRecovered (stubs_of z) w.history w.run (unanswered w) → test w.run.points (struck_in w.run) plan → IsPlayed z test script plan ended
+  played ended history run ends recovered stops = record {
+    legal = subst (IsLegal z.iface z.ask) (sym history) (IsLegal-from z.iface z.ask w.history told.legal);
+    calls = subst (λ h. AreScriptsCalls z.iface.facts script h) (sym history) (playing_calls z.iface script w.history w.seats given is.playing);
+    recovered = subst (λ h. HasRecovered (stubs_of z) h (run_of ended.trace) ended.ends) (sym history)
+        (subst (λ r. HasRecovered (stubs_of z) w.history r ended.ends) (sym run) (subst (HasRecovered (stubs_of z) w.history w.run) (sym ends) (record {
+          tables = told.set.tables;
+          recovered = subst (IsRecovered (stubs_of z) w.history w.run) (not_withdrawn w is.none_withdrawn ∙ playing_waiting z.iface z.ask script w.history w.seats given is.playing nobody) recovered;
+          used = _;
+        })));
+    stops = subst (λ r. test r.points (struck_in r) plan) (sym run) stops;
+    ends = subst (λ h. AreEnds z.iface z.ask h script ended.ends) (sym history) (subst (AreEnds z.iface z.ask w.history script) (sym ends)
+        (playing_ends z.iface z.ask script w.history w.seats given is.playing nobody (λ client first there. told.waits client first there)));
+  }

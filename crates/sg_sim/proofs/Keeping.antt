@@ -1,0 +1,125 @@
+-- A play keeps what it keeps, at a turn, and where a turn wants memory.
+use Rattle.std.proofs.Common.{◌≡◌, ◌⊎◌, ℕ, ◌-◌, ◌≤◌, Bool, true, false, cond, List, [], length, map, refl, sym, ◌∙◌, ap, subst, inl, inr, arith, replicate, None, Some}
+use Rattle.std.specs.declared.option.Option.{Option}
+use Rattle.std.specs.Prelude.{nat_lt}
+use Rattle.sg_base.specs.declared.call.Call.{Call}
+use Rattle.sg_facts.specs.Facts.{Facts}
+use Rattle.sg_hist.specs.Clients.{calls_of}
+use Rattle.sg_plain.specs.Calls.{call_after, most_client, script_calls}
+use Rattle.sg_play.specs.Turning.{StepsInTurn, behind_step, with_call, with_offer, with_leaving}
+use Rattle.sg_play_laws.specs.Playable.{IsPlayable}
+use Rattle.sg_play_laws.specs.Plays.{IsPlaying}
+use Rattle.sg_play_laws.specs.Turns.{is_free_phase}
+use Rattle.sg_script.specs.declared.script.Script.{Script}
+use Rattle.sg_seat.specs.WorldView.{WorldView, happened, in_phase, is_left_phase, new_world, no_seat, seat_of, with_mark}
+use Rattle.sg_seat.specs.declared.mark.MarkKind.TheVariants.{Leave}
+use Rattle.sg_seat.specs.declared.phase.Phase.TheVariants.{Left}
+use Rattle.sg_sim.proofs.Beginning.{playing_new}
+use Rattle.sg_sim.specs.Inside.Keeps.{KeepsPlay}
+use Rattle.sg_sim.specs.Inside.Taken.{MissesTurn, TakesTurn, behind_offer}
+use Rattle.sg_world.specs.declared.did.Did.{Did}
+use Rattle.sg_world.specs.declared.did.Did.TheVariants.{Answered, Blocked as Waits, Booted, Loaded, Lost, Replayed, Served, Skipped, Struck}
+use Rattle.sg_world.specs.Steps.{Commits, Steps, WantsMemory}
+use Rattle.sg_world_laws.specs.Setting.{Setting}
+
+-- ---- nothing is withdrawn
+
+called : (w : WorldView) (client : ℕ) (call : Option Call) → (with_call w client call).withdrawn ≡ w.withdrawn
+called w client None = refl
+called w client (Some call) = refl
+
+none_offered : (facts : Facts) (script : Script) (w : WorldView) (client : ℕ) → (with_offer facts script w client).withdrawn ≡ w.withdrawn
+none_offered facts script w client = by (is_free_phase (seat_of w client).phase)
+  where
+    next : Option Call
+    next = call_after facts script w.history client (length (calls_of w.history client))
+
+    by : (b : Bool) → (cond b (with_call w client next) w).withdrawn ≡ w.withdrawn
+    by true = called w client next
+    by false = refl
+
+module _ (z : Setting) (w : WorldView) (c : ℕ) where
+  commits : (between : WorldView) → Commits z w c between → between.withdrawn ≡ w.withdrawn
+  commits between l = ap (λ x. x.withdrawn) l.now
+
+  stepped : (did : Did) (later : WorldView) → Steps z w c did later → later.withdrawn ≡ w.withdrawn
+  stepped Skipped later l = ap (λ x. x.withdrawn) l.now
+  stepped (Answered reply) later (inl l) = ap (λ x. x.withdrawn) l.now
+  stepped (Answered reply) later (inr (inl l)) = ap (λ x. x.withdrawn) l.now
+  stepped (Answered reply) later (inr (inr l)) = ap (λ x. x.withdrawn) l.now
+  stepped Lost later l = ap (λ x. x.withdrawn) l.now
+  stepped Booted later l = ap (λ x. x.withdrawn) l.now
+  stepped Struck later (inl l) = ap (λ x. x.withdrawn) l.now
+  stepped Struck later (inr (inl l)) = ap (λ x. x.withdrawn) l.now
+  stepped Struck later (inr (inr (inl l))) = ap (λ x. x.withdrawn) l.now
+  stepped Struck later (inr (inr (inr l))) = ap (λ x. x.withdrawn) l.now ∙ commits l.between l.commits
+  stepped Replayed later l = ap (λ x. x.withdrawn) l.now
+  stepped Loaded later l = ap (λ x. x.withdrawn) l.now
+  stepped Waits later l = ap (λ x. x.withdrawn) l.now
+  stepped Served later (inl l) = ap (λ x. x.withdrawn) l.now ∙ commits l.between l.commits
+  stepped Served later (inr l) = ap (λ x. x.withdrawn) l.now
+
+left : (script : Script) (w : WorldView) (client : ℕ) → (with_leaving script w client).withdrawn ≡ w.withdrawn
+left script w client = by (nat_lt (seat_of w client).seq (length (script_calls script client))) (is_left_phase (seat_of w client).phase)
+  where
+    by : (more gone : Bool) → (cond more w (happened (cond gone w (with_mark (in_phase w client Left) client Leave)))).withdrawn ≡ w.withdrawn
+    by true gone = refl
+    by false true = refl
+    by false false = refl
+
+behind : (script : Script) (client : ℕ) (did : Did) (later : WorldView) → (behind_step script client did later).withdrawn ≡ later.withdrawn
+behind script client Skipped later = refl
+behind script client (Answered reply) later = left script later client
+behind script client Lost later = refl
+behind script client Booted later = refl
+behind script client Struck later = refl
+behind script client Replayed later = refl
+behind script client Loaded later = refl
+behind script client Waits later = refl
+behind script client Served later = refl
+
+none_stepped : (z : Setting) (script : Script) (w : WorldView) (client : ℕ) (handed : Option ℕ) (now : WorldView) → StepsInTurn z script w client handed now → now.withdrawn ≡ w.withdrawn
+none_stepped z script w client handed now steps =
+    ap (λ x. x.withdrawn) steps.is ∙ behind script client steps.did steps.later ∙ ap (λ x. x.withdrawn) steps.stepped.counted ∙ stepped z w client steps.did steps.stepped.later steps.stepped.steps
+
+none_wanted : (z : Setting) (w : WorldView) (client : ℕ) (now : WorldView) → WantsMemory z w client now → now.withdrawn ≡ w.withdrawn
+none_wanted z w client now wants = ap (λ x. x.withdrawn) wants.counted
+
+-- ---- what is kept
+
+-- as many clients
+as_many : (z : Setting) (script : Script) (w now : WorldView) (given later : List (List ℕ)) → IsPlaying z.iface script w.history w.seats given → IsPlaying z.iface script now.history now.seats later
+    → length now.seats ≡ length w.seats
+as_many z script w now given later was is = is.clients ∙ sym was.clients
+
+pub kept_new : (z : Setting) (script : Script) → IsPlayable z.iface script → (w : WorldView) → w ≡ new_world (replicate (most_client script.clients) no_seat)
+    → KeepsPlay z script w (replicate (most_client script.clients) []) 0 0
+kept_new z script playable w new = subst (λ x. KeepsPlay z script x (replicate (most_client script.clients) []) 0 0) (sym new) (record {
+  playing = playing_new z.iface script playable;
+  none_withdrawn = refl;
+  last_there = omega arith;
+})
+
+module _ (z : Setting) (script : Script) (w : WorldView) (given : List (List ℕ)) (passed last : ℕ) (is : KeepsPlay z script w given passed last) where
+  -- a client took its turn, of which so many turns of the schedule are behind it then
+  pub kept_turn : (client : ℕ) → 1 ≤ client → client ≤ length w.seats → (later : ℕ) (now : WorldView) (gave : List (List ℕ)) → TakesTurn z script w given client now gave
+      → KeepsPlay z script now gave later client
+  kept_turn client first there later now gave t = record {
+    playing = t.playing;
+    none_withdrawn = none_stepped z script (behind_offer z script w given client) client t.handed now t.steps ∙ none_offered z.iface.facts script w client ∙ is.none_withdrawn;
+    last_there = omega (arith, there, as_many z script w now given gave is.playing t.playing);
+  }
+
+  -- a turn wanted memory
+  pub kept_miss : (client : ℕ) (now : WorldView) (gave : List (List ℕ)) → MissesTurn z script w given client now gave → KeepsPlay z script now gave passed last
+  kept_miss client now gave m = subst (λ l. KeepsPlay z script now l passed last) (sym m.same) (record {
+    playing = m.playing;
+    none_withdrawn = by m.missed ∙ is.none_withdrawn;
+    last_there = omega (arith, is.last_there, as_many z script w now given given is.playing m.playing);
+  })
+    where
+      by : (now ≡ w) ⊎ (now ≡ happened w) ⊎ (IsPlaying z.iface script (behind_offer z script w given client).history (behind_offer z script w given client).seats given × WantsMemory z (behind_offer z script w given client) client now)
+          → now.withdrawn ≡ w.withdrawn
+      by (inl same) = ap (λ x. x.withdrawn) same
+      by (inr (inl same)) = ap (λ x. x.withdrawn) same
+      by (inr (inr both)) = none_wanted z (behind_offer z script w given client) client now both.1 ∙ none_offered z.iface.facts script w client

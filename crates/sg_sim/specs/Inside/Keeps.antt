@@ -1,0 +1,12 @@
+-- What a play keeps between turns.
+use Rattle.std.specs.Prelude.{ℕ, ◌≡◌, ◌≤◌, List, [], length}
+use Rattle.sg_play_laws.specs.Plays.{IsPlaying}
+use Rattle.sg_script.specs.declared.script.Script.{Script}
+use Rattle.sg_seat.specs.WorldView.{WorldView}
+use Rattle.sg_world_laws.specs.Setting.{Setting}
+
+-- the clients make the script's calls, none is withdrawn, and the client of the last turn is one of the world
+pub record KeepsPlay (z : Setting) (script : Script) (w : WorldView) (given : List (List ℕ)) (passed last : ℕ) : Type 0 where
+  pub playing : IsPlaying z.iface script w.history w.seats given
+  pub none_withdrawn : w.withdrawn ≡ []
+  pub last_there : last ≤ length w.seats

@@ -1,0 +1,32 @@
+-- What a turn of a client does to a world, and to what its clients' calls were given.
+use Rattle.std.specs.Prelude.{ℕ, ◌≡◌, ◌⊎◌, List}
+use Rattle.std.specs.declared.option.Option.{Option}
+use Rattle.sg_play.specs.Recovering.{RecoversSoFar}
+use Rattle.sg_play.specs.Turning.{StepsInTurn, with_offer}
+use Rattle.sg_play_laws.specs.Given.{with_handed}
+use Rattle.sg_play_laws.specs.Plays.{IsPlaying}
+use Rattle.sg_script.specs.declared.script.Script.{Script}
+use Rattle.sg_seat.specs.WorldView.{WorldView, happened}
+use Rattle.sg_world.specs.Steps.{WantsMemory}
+use Rattle.sg_world_laws.specs.Setting.{Setting}
+
+module _ (z : Setting) (script : Script) (w : WorldView) (given : List (List ℕ)) (client : ℕ) where
+  -- the world behind the client's offer
+  abbrev pub behind_offer : WorldView
+  behind_offer = with_offer z.iface.facts script w client
+
+  -- the client took its turn
+  pub record TakesTurn (now : WorldView) (later : List (List ℕ)) : Type 0 where
+    pub offered : IsPlaying z.iface script behind_offer.history behind_offer.seats given
+    pub told_before : RecoversSoFar z behind_offer
+    pub handed : Option ℕ
+    pub steps : StepsInTurn z script behind_offer client handed now
+    pub gives : later ≡ with_handed given client handed
+    pub playing : IsPlaying z.iface script now.history now.seats later
+    pub told : RecoversSoFar z now
+
+  -- it didn't, for want of memory
+  pub record MissesTurn (now : WorldView) (later : List (List ℕ)) : Type 0 where
+    pub same : later ≡ given
+    pub playing : IsPlaying z.iface script now.history now.seats given
+    pub missed : (now ≡ w) ⊎ (now ≡ happened w) ⊎ (IsPlaying z.iface script behind_offer.history behind_offer.seats given × WantsMemory z behind_offer client now)

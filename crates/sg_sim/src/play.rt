@@ -1,0 +1,307 @@
+// A play: whose turn it is, and the play to its end.
+ghost use Rattle.std.specs.Prelude.{◌≡◌, ◌≤◌, ◌<◌, ℕ, List, [], true, false, None, IfOk, IfSome, length, replicate};
+ghost use Rattle.sg_play_laws.specs.Callers.{is_setting_up};
+ghost use Rattle.sg_play_laws.specs.Ends.{end_of, ends_from};
+ghost use Rattle.sg_play_laws.specs.Playable.{IsPlayable};
+ghost use Rattle.sg_play_laws.specs.Turns.{NobodyGoes, may_take_turn};
+ghost use Rattle.sg_plain.specs.Calls.{most_client};
+ghost use Rattle.sg_seat.specs.WorldView.{new_world, no_seat, seat_of};
+ghost use Rattle.sg_sim.specs.Played.{IsPlayed};
+ghost use Rattle.sg_world.specs.Worlded.{setting_of};
+
+use crate::given::Given;
+use crate::played::Played;
+use crate::turn::take_turn;
+use sg_base::{NoMemory, Stops, TryCopy};
+use sg_facts::{Service, Tables};
+use sg_hist::{End, EndList, Ended};
+use sg_play::{most_client, script_call};
+use sg_script::Script;
+use sg_seat::Phase;
+use sg_world::World;
+use std::alloc::Global;
+use std::marker::Model;
+
+/// The greatest number of turns of a play. Each turn adds to the trace or to the history of its world, so that a play of more turns
+/// wants memory.
+const MOST_TURNS: u64 = u64::MAX;
+
+/// The first client, which makes the calls of the setup.
+const FIRST: u8 = 1;
+
+/// A play of a script: its clients make their calls, turn by turn, on a world whose service may stop. Contracts see it as plain data.
+#[derive(Debug, Drop)]
+pub struct Play<S: Service, T: Stops> {
+    world: World<S, T>,
+    script: Script,
+    given: Given,
+    // How many turns of the schedule were taken or passed over.
+    passed: usize,
+    // The client of the last turn, 0 before the first.
+    last: u8,
+}
+
+impl<S: Service, T: Stops> Model for Play<S, T> {
+    ghost use Rattle.sg_sim.specs.Inside.Givens.{lists_of};
+    ghost use Rattle.sg_sim.specs.Inside.Keeps.{KeepsPlay};
+    ghost use Rattle.sg_sim.specs.Playing.{Playing};
+    ghost use Rattle.sg_world.specs.Worlded.{setting_of};
+
+    ghost Value = { Playing };
+
+    ghost view = { λ p. record { tables = p.world.tables; script = p.script; plan = p.world.plan; view = p.world.view; passed = p.passed; last = p.last } };
+
+    ghost invariant = { λ p. KeepsPlay (setting_of S.ask S.sound S.parts p.world.tables) p.script p.world.view (lists_of p.given) p.passed p.last };
+}
+
+// A turn that is to be taken: its client, and how many turns of the schedule are behind it.
+#[derive(Clone, Copy, Debug)]
+struct Turn {
+    client: u8,
+    passed: usize,
+}
+
+impl<S: Service, T: Stops> Play<S, T> {
+    /// The play of a script, in which nothing was done.
+    pub fn new(
+        alloc: Global,
+        tables: Tables,
+        script: Script,
+        stops: T,
+    ) -> Result<Play<S, T>, NoMemory>
+        requires service { tables.iface.facts ≡ S.facts }
+        requires playable { IsPlayable tables.iface script }
+        requires unasked { T.asked stops ≡ 0 }
+        requires unstruck { T.struck stops ≡ [] }
+        ensures tables { IfOk result (λ p. p.tables ≡ tables) }
+        ensures script { IfOk result (λ p. p.script ≡ script) }
+        ensures plan { IfOk result (λ p. p.plan ≡ T.plan stops) }
+        ensures view { IfOk result (λ p. p.view ≡ new_world (replicate (most_client script.clients) no_seat)) }
+        ensures passed { IfOk result (λ p. p.passed ≡ 0) }
+        ensures last { IfOk result (λ p. p.last ≡ 0) }
+    {
+        let clients = most_client(script.clients.as_slice());
+        let given = Given::new(alloc, clients)?;
+        let world = World::new(alloc, tables, clients, stops)?;
+        Ok(Play {
+            world,
+            script,
+            given,
+            passed: 0,
+            last: 0,
+        })
+    }
+
+    /// Plays the calls of the setup, which client 1 makes. After `NoMemory` it may be called again.
+    pub fn setup(&mut self, alloc: Global) -> Result<(), NoMemory>
+        ensures done { OnOk result (is_setting_up self.new.script self.new.view.seats ≡ false) }
+        ensures tables { self.new.tables ≡ self.old.tables }
+        ensures script { self.new.script ≡ self.old.script }
+        ensures plan { self.new.plan ≡ self.old.plan }
+    {
+        for _ in 0..MOST_TURNS {
+            if !self.is_setting_up() {
+                return Ok(());
+            }
+            let turn = Turn {
+                client: FIRST,
+                passed: self.passed,
+            };
+            self.take(alloc, turn)?;
+        }
+        Err(NoMemory)
+    }
+
+    /// Plays all that is left, to the end: until no client can take a turn. `NoMemory` also where a step of its world wanted memory.
+    pub fn play(&mut self, alloc: Global) -> Result<Played, NoMemory>
+        ensures played { IfOk result (λ played. IsPlayed (setting_of S.ask S.sound S.parts self.old.tables) T.test self.old.script self.old.plan played) }
+        ensures tables { self.new.tables ≡ self.old.tables }
+        ensures script { self.new.script ≡ self.old.script }
+        ensures plan { self.new.plan ≡ self.old.plan }
+    {
+        for _ in 0..MOST_TURNS {
+            match self.next_turn() {
+                Some(turn) => self.take(alloc, turn)?,
+                None => return self.end(alloc),
+            }
+        }
+        Err(NoMemory)
+    }
+
+    /// Its world, lent.
+    pub fn world(&self) -> &World<S, T>
+        ensures tables { result.now.tables ≡ self.now.tables }
+        ensures view { result.now.view ≡ self.now.view }
+        ensures plan { result.now.plan ≡ self.now.plan }
+    {
+        &self.world
+    }
+
+    // A client takes its turn. After `NoMemory` it has still to take it.
+    fn take(&mut self, alloc: Global, turn: Turn) -> Result<(), NoMemory>
+        requires first { 1 ≤ turn.client }
+        requires last { turn.client ≤ length self.old.view.seats }
+        requires setup { is_setting_up self.old.script self.old.view.seats ≡ true → turn.client ≡ 1 }
+        ensures tables { self.new.tables ≡ self.old.tables }
+        ensures script { self.new.script ≡ self.old.script }
+        ensures plan { self.new.plan ≡ self.old.plan }
+    {
+        take_turn(
+            alloc,
+            &mut self.world,
+            &self.script,
+            &mut self.given,
+            turn.client,
+        )?;
+        self.passed = turn.passed;
+        self.last = turn.client;
+        Ok(())
+    }
+
+    // The number of clients.
+    fn clients(&self) -> u8
+        ensures { result ≡ length self.now.view.seats }
+    {
+        most_client(self.script.clients.as_slice())
+    }
+
+    // Whether client 1 is still at the calls of the setup.
+    fn is_setting_up(&self) -> bool
+        ensures { result ≡ is_setting_up self.now.script self.now.view.seats }
+    {
+        self.given.of(FIRST).len() < self.script.setup.len()
+    }
+
+    // Whose turn it is: client 1's until the setup is done, then who the schedule says and can, then who is next and can; None exactly
+    // where nobody can.
+    fn next_turn(&self) -> Option<Turn>
+        ensures first { IfSome result (λ turn. 1 ≤ turn.client) }
+        ensures last { IfSome result (λ turn. turn.client ≤ length self.now.view.seats) }
+        ensures setup { IfSome result (λ turn. is_setting_up self.now.script self.now.view.seats ≡ true → turn.client ≡ 1) }
+        ensures over { result ≡ None → NobodyGoes self.now.script self.now.view.seats }
+    {
+        if self.is_setting_up() {
+            return Some(Turn {
+                client: FIRST,
+                passed: self.passed,
+            });
+        }
+        match self.next_scheduled() {
+            Some(turn) => Some(turn),
+            None => self.next_in_circle(),
+        }
+    }
+
+    // The next turn of the schedule whose client can take it.
+    fn next_scheduled(&self) -> Option<Turn>
+        ensures first { IfSome result (λ turn. 1 ≤ turn.client) }
+        ensures last { IfSome result (λ turn. turn.client ≤ length self.now.view.seats) }
+    {
+        let schedule = self.script.schedule.as_slice();
+        for at in self.passed..schedule.len() {
+            let client = schedule[at];
+            if self.can_go(client) {
+                return Some(Turn {
+                    client,
+                    passed: at + 1,
+                });
+            }
+        }
+        None
+    }
+
+    // The turn of the next client that can take one: in ascending numbers behind the client of the last turn, and then from 1 on. The
+    // schedule is over.
+    fn next_in_circle(&self) -> Option<Turn>
+        ensures first { IfSome result (λ turn. 1 ≤ turn.client) }
+        ensures last { IfSome result (λ turn. turn.client ≤ length self.now.view.seats) }
+        ensures over { result ≡ None → NobodyGoes self.now.script self.now.view.seats }
+    {
+        let next = match self.next_behind(self.last, self.clients()) {
+            Some(client) => client,
+            None => self.next_behind(0, self.last)?,
+        };
+        Some(Turn {
+            client: next,
+            passed: self.script.schedule.len(),
+        })
+    }
+
+    // The first client behind one, and up to another, that can take a turn.
+    fn next_behind(&self, behind: u8, last: u8) -> Option<u8>
+        requires { last ≤ length self.now.view.seats }
+        ensures first { IfSome result (λ client. 1 ≤ client) }
+        ensures last { IfSome result (λ client. client ≤ length self.now.view.seats) }
+        ensures over { result ≡ None → (client : ℕ) → behind < client → client ≤ last → may_take_turn self.now.script client (seat_of self.now.view client) ≡ false }
+    {
+        'clients: for before in behind..last {
+            if self.can_go(before + 1) {
+                return Some(before + 1);
+            }
+        }
+        None
+    }
+
+    // Whether a client is one of the world, and can take a turn.
+    fn can_go(&self, client: u8) -> bool
+        ensures first { result ≡ true → 1 ≤ client }
+        ensures last { result ≡ true → client ≤ length self.now.view.seats }
+        ensures may { 1 ≤ client → client ≤ length self.now.view.seats → result ≡ may_take_turn self.now.script client (seat_of self.now.view client) }
+    {
+        if client < FIRST || client > self.clients() {
+            return false;
+        }
+        match self.world.phase(client) {
+            Phase::Idle | Phase::Left => {
+                let done = self.world.seq(client) as usize;
+                script_call(&self.script, client, done).is_some()
+            }
+            Phase::Asked | Phase::Held | Phase::Receipted => true,
+            Phase::Blocked => false,
+        }
+    }
+
+    // What the play came to, where nobody can take a turn.
+    fn end(&self, alloc: Global) -> Result<Played, NoMemory>
+        requires { NobodyGoes self.now.script self.now.view.seats }
+        ensures { IfOk result (λ played. IsPlayed (setting_of S.ask S.sound S.parts self.now.tables) T.test self.now.script self.now.plan played) }
+    {
+        if self.world.refused() > 0 {
+            return Err(NoMemory);
+        }
+        let _ = self.world.interface();
+        Ok(Played::new(Ended {
+            history: self.world.history().copied(alloc)?,
+            trace: self.world.trace().copied(alloc)?,
+            ends: self.ends(alloc)?,
+        }))
+    }
+
+    // How the clients with a call ended.
+    fn ends(&self, alloc: Global) -> Result<EndList, NoMemory>
+        ensures { IfOk result (λ ends. ends ≡ ends_from self.now.script 1 self.now.view.seats) }
+    {
+        let mut ends = EndList::new(alloc);
+        'clients: for before in 0..self.clients() {
+            let client = before + 1;
+            if script_call(&self.script, client, 0).is_some() {
+                ends.push((client, self.end_of(alloc, client)?))?;
+            }
+        }
+        Ok(ends)
+    }
+
+    // How a client ended.
+    fn end_of(&self, alloc: Global, client: u8) -> Result<End, NoMemory>
+        requires first { 1 ≤ client }
+        requires last { client ≤ length self.now.view.seats }
+        ensures { IfOk result (λ end. end ≡ end_of (seat_of self.now.view client)) }
+    {
+        match self.world.phase(client) {
+            Phase::Blocked => Ok(End::Blocked(self.world.call(client).copy(alloc)?)),
+            Phase::Idle | Phase::Left | Phase::Asked | Phase::Held | Phase::Receipted => {
+                Ok(End::Done)
+            }
+        }
+    }
+}
