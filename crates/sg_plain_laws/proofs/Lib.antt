@@ -1,0 +1,2 @@
+mod Players
+pub mod Plays
