@@ -1,2 +1,3 @@
+pub mod Alone
 mod Players
 pub mod Plays

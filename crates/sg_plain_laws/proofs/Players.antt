@@ -1,16 +1,14 @@
 -- One player's change, and what is left then.
-use Rattle.std.proofs.Common.{◌≡◌, ◌⊎◌, ℕ, zero, suc, ◌+◌, ◌-◌, ◌*◌, ◌<◌, ◌≤◌, Bool, true, false, cond, List, [], ◌∷◌, ◌++◌, None, Some, length, refl, sym, ◌∙◌, ap, subst, inl, inr, arith, slice_set}
-use Rattle.std.specs.Prelude.{slice_get, nat_lt, unwrap_or}
-use Rattle.std.specs.declared.option.Option.{Option}
-use Rattle.std.proofs.lemmas.Bool.Decides.{nat_tests}
+use Rattle.std.proofs.Common.{◌≡◌, ℕ, zero, suc, ◌+◌, ◌-◌, ◌*◌, ◌<◌, ◌≤◌, Bool, true, false, List, [], ◌∷◌, Some, length, refl, sym, ◌∙◌, ap, subst, arith, slice_set}
+use Rattle.std.specs.Prelude.{slice_get}
 use Rattle.sg_base.specs.declared.call.Call.{Call}
 use Rattle.sg_base.specs.declared.reply.Reply.{Reply}
 use Rattle.sg_facts.specs.Facts.{Facts}
 use Rattle.sg_facts.specs.declared.entry.Entry.{Entry}
 use Rattle.sg_facts.specs.declared.row.Row.{Row}
 use Rattle.sg_plain.specs.Calls.{call_after, script_calls}
-use Rattle.sg_plain.specs.Plain.{Phase, Player, after_wakes, blocked, holding, player_at, ready, replied, through, waits_on, wakes, woken_phase}
-use Rattle.sg_plain_laws.specs.Left.{FitScript, FitsCalls, WaitsIn, all_before, all_to_come, entries_to_come, turns_before}
+use Rattle.sg_plain.specs.Plain.{Phase, Player, after_wakes, blocked, holding, ready, replied, through, waits_on, wakes, woken_phase}
+use Rattle.sg_plain_laws.specs.Left.{FitScript, FitsCalls, all_before, all_to_come, entries_to_come, turns_before}
 use Rattle.sg_script.specs.declared.script.Script.{Script}
 use Rattle.sg_script.specs.declared.script.ScriptCall.{ScriptCall}
 

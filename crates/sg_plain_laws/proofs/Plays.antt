@@ -1,7 +1,7 @@
 -- The play of a script without stops ends.
-use Rattle.std.proofs.Common.{◌≡◌, ◌≢◌, ◌⊎◌, ℕ, zero, suc, ◌+◌, ◌-◌, ◌*◌, ◌<◌, ◌≤◌, Bool, true, false, cond, not, List, [], ◌∷◌, ◌++◌, None, Some, length, map, refl, sym, ◌∙◌, ap, subst, inl, inr, arith, slice_set}
-use Rattle.std.specs.Prelude.{slice_get, nat_le, nat_lt, unwrap_or, ◌==◌, ◌&&◌}
-use Rattle.std.specs.List.{list_all}
+use Rattle.std.proofs.Common.{◌≡◌, ℕ, zero, suc, ◌+◌, ◌-◌, ◌*◌, ◌<◌, ◌≤◌, Bool, true, false, cond, not, List, [], ◌∷◌, ◌++◌, None, Some, length, map, refl, sym, ◌∙◌, ap, subst, arith, slice_set}
+use Rattle.std.specs.Prelude.{slice_get, nat_le, nat_lt, unwrap_or, ◌==◌, ◌&&◌, ◌||◌}
+use Rattle.std.specs.List.{list_all, list_any}
 use Rattle.std.specs.declared.option.Option.{Option}
 use Rattle.std.proofs.lemmas.Bool.Decides.{nat_tests}
 use Rattle.sg_base.specs.declared.call.Call.{Call}
@@ -15,9 +15,9 @@ use Rattle.sg_facts.specs.Legal.{Table}
 use Rattle.sg_facts.specs.Object.{Object, object_of}
 use Rattle.sg_facts.specs.declared.entry.Entry.{Entry}
 use Rattle.sg_plain.specs.Calls.{ascending_from, call_after, most_client, part_of, resolved, resolved_by, script_calls}
-use Rattle.sg_plain.specs.Plain.{IsPlainPlay, Phase, Player, Stage, after_call, after_guard, after_turn, after_wakes, appended, at_phase, blocked, behind_first, first_of, first_stage, gone_on, handed_over, holding, in_a_circle, is_under_way, left_schedule, may_turn, next_stage, next_turn, player_at, player_of, ready, replied, served, some_or, stage_after, stage_from, through, turned, woken_phase}
-use Rattle.sg_plain_laws.specs.Left.{FitScript, FitsCalls, IsStage, WaitsIn, all_before, all_to_come, entries_to_come, turns_before, turns_left}
-use Rattle.sg_plain_laws.proofs.Players.{before_set, before_woken, fit_at, fit_set, fit_woken, length_set, length_woken, to_come_set, to_come_woken, woken_at, woken_from}
+use Rattle.sg_plain.specs.Plain.{IsPlainPlay, Phase, Player, Stage, after_call, after_guard, after_turn, appended, at_phase, blocked, behind_first, first_of, first_stage, gone_on, handed_over, holding, in_a_circle, is_under_way, left_schedule, may_turn, next_stage, next_turn, player_at, player_of, ready, replied, served, some_or, stage_after, stage_from, through, turned, woken_phase}
+use Rattle.sg_plain_laws.specs.Left.{FitScript, FitsCalls, IsStage, all_before, all_to_come, entries_to_come, turns_before, turns_left}
+use Rattle.sg_plain_laws.proofs.Players.{before_set, fit_at, fit_set, fit_woken, length_set, length_woken, to_come_set, to_come_woken, woken_at, woken_from}
 use Rattle.sg_script.specs.declared.script.Script.{Script}
 use Rattle.sg_script.specs.declared.script.ScriptCall.{ScriptCall}
 
@@ -40,9 +40,9 @@ sooner a b a' b' n same less = omega (arith, ap (λ m. m * (3 * n + 1)) same, le
 -- ---- a client's turn
 
 -- a stage goes on to one with fewer turns left
-record GoesOn (facts : Facts) (script : Script) (s later : Stage) : Type 0 where
-  stage : IsStage facts script later
-  less : turns_left script later < turns_left script s
+pub record GoesOn (facts : Facts) (script : Script) (s later : Stage) : Type 0 where
+  pub stage : IsStage facts script later
+  pub less : turns_left script later < turns_left script s
 
 lt_of : (n m : ℕ) → nat_lt n m ≡ true → n < m
 lt_of n m is = grind (arith, nat_tests)
@@ -73,7 +73,7 @@ next_before script client done = by (nat_lt done (length (script_calls script cl
     by false = omega arith
 
 -- who has a call left has a next one
-has_next : (calls : List ScriptCall) (k : ℕ) → k < length calls → (c : ScriptCall) × (slice_get calls k ≡ Some c)
+pub has_next : (calls : List ScriptCall) (k : ℕ) → k < length calls → (c : ScriptCall) × (slice_get calls k ≡ Some c)
 has_next [] k below = absurd (omega (arith, below))
 has_next (c ∷ calls) zero below = (c, refl)
 has_next (c ∷ calls) (suc k) below = has_next calls k (omega (arith, below))
@@ -257,9 +257,9 @@ module _ (i : Declared) (ask : Table) (script : Script) (blocks : (o : Object) (
       subst (λ f. GoesOn i.facts script s (turned i ask script client s f)) (sym same) (turn_by s is client first found.0 found.1 found.0.phase refl found.2)
 
   -- the first of some that may
-  record IsFirstOf (s : Stage) (client : ℕ) : Type 0 where
-    from : 1 ≤ client
-    may : may_turn s client ≡ true
+  pub record IsFirstOf (s : Stage) (client : ℕ) : Type 0 where
+    pub from : 1 ≤ client
+    pub may : may_turn s client ≡ true
 
   le_of : (c : ℕ) → nat_le 1 c ≡ true → 1 ≤ c
   le_of c is = grind (arith, nat_tests)
@@ -300,6 +300,55 @@ module _ (i : Declared) (ask : Table) (script : Script) (blocks : (o : Object) (
       by : (b : Bool) → b && list_all (λ c. nat_le 1 c) xs ≡ true → (list_all (λ c. nat_le 1 c) xs ≡ true → list_all (λ c. nat_le 1 c) (xs ++ ys) ≡ true) → b && list_all (λ c. nat_le 1 c) (xs ++ ys) ≡ true
       by true all more = more all
       by false all more = absurd (cc all)
+
+  none_first : (s : Stage) (clients : List ℕ) → first_of s clients ≡ None → (client : ℕ) → list_any (λ c. c == client) clients ≡ true → may_turn s client ≡ false
+  none_first s [] none client among = absurd (cc among)
+  none_first s (c ∷ clients) none client among = by (may_turn s c) refl none (c == client) refl among (λ rest more. none_first s clients rest client more)
+    where
+      same_client : (c == client) ≡ true → c ≡ client
+      same_client is = grind (arith, nat_tests)
+
+      by : (b : Bool) → may_turn s c ≡ b → cond b (Some c) (first_of s clients) ≡ None → (same : Bool) → (c == client) ≡ same → same || list_any (λ c. c == client) clients ≡ true
+          → (first_of s clients ≡ None → list_any (λ c. c == client) clients ≡ true → may_turn s client ≡ false) → may_turn s client ≡ false
+      by true may none same is among more = absurd (cc none)
+      by false may none true is among more = ap (may_turn s) (sym (same_client is)) ∙ may
+      by false may none false is among more = more none among
+
+  one_among : (n count : ℕ) → n ≡ 1 → 1 ≤ count → list_any (λ c. c == 1) (ascending_from n count) ≡ true
+  one_among n zero is some = absurd (omega (arith, some))
+  one_among n (suc count) is some = ap (λ m. (m == 1) || list_any (λ c. c == 1) (ascending_from (n + 1) count)) is
+
+  among_two : (xs ys : List ℕ) → list_any (λ c. c == 1) ys ≡ true → list_any (λ c. c == 1) (xs ++ ys) ≡ true
+  among_two [] ys among = among
+  among_two (x ∷ xs) ys among = ap (λ b. (x == 1) || b) (among_two xs ys among) ∙ or_true (x == 1)
+    where
+      or_true : (b : Bool) → (b || true) ≡ true
+      or_true true = refl
+      or_true false = refl
+
+  among_one : (xs ys : List ℕ) → list_any (λ c. c == 1) xs ≡ true → list_any (λ c. c == 1) (xs ++ ys) ≡ true
+  among_one [] ys among = absurd (cc among)
+  among_one (x ∷ xs) ys among = by (x == 1) among (λ rest. among_one xs ys rest)
+    where
+      by : (b : Bool) → b || list_any (λ c. c == 1) xs ≡ true → (list_any (λ c. c == 1) xs ≡ true → list_any (λ c. c == 1) (xs ++ ys) ≡ true) → b || list_any (λ c. c == 1) (xs ++ ys) ≡ true
+      by true among more = refl
+      by false among more = more among
+
+  circle_has : (s : Stage) → 1 ≤ length s.players → list_any (λ c. c == 1) (in_a_circle s) ≡ true
+  circle_has s some = by s.last refl
+    where
+      by : (last : ℕ) → s.last ≡ last → list_any (λ c. c == 1) (in_a_circle s) ≡ true
+      by zero is = among_one (ascending_from (s.last + 1) (length s.players - s.last)) (ascending_from 1 s.last) (one_among (s.last + 1) (length s.players - s.last) (omega (arith, is)) (omega (arith, is, some)))
+      by (suc last) is = among_two (ascending_from (s.last + 1) (length s.players - s.last)) (ascending_from 1 s.last) (one_among 1 s.last refl (omega (arith, is)))
+
+  -- where nobody has the next turn, client 1 can't take one
+  pub nobody : (s : Stage) → next_turn script s ≡ None → 1 ≤ length s.players → may_turn s 1 ≡ false
+  nobody s over some = none_first s (in_a_circle s) (by (nat_lt (player_of s 1).done (length script.setup)) (first_of s s.schedule) over) 1 (circle_has s some)
+    where
+      by : (b : Bool) (one : Option ℕ) → cond b (Some 1) (some_or one (first_of s (in_a_circle s))) ≡ None → first_of s (in_a_circle s) ≡ None
+      by true one none = absurd (cc none)
+      by false None none = none
+      by false (Some c) none = absurd (cc none)
 
   -- client 1 is at a call of the setup, which doesn't wait
   module _ (setup : list_all (λ (c : ScriptCall). not (fun_at i.facts.funs c.fun).block) script.setup ≡ true) where
@@ -344,7 +393,7 @@ module _ (i : Declared) (ask : Table) (script : Script) (blocks : (o : Object) (
 
     -- ---- a play goes on until nobody can
 
-    next_is : (s : Stage) → IsStage i.facts script s → (client : ℕ) → next_turn script s ≡ Some client → IsFirstOf s client
+    pub next_is : (s : Stage) → IsStage i.facts script s → (client : ℕ) → next_turn script s ≡ Some client → IsFirstOf s client
     next_is s is client next = by (nat_lt (player_of s 1).done (length script.setup)) refl next
       where
         circle : list_all (λ c. nat_le 1 c) (in_a_circle s) ≡ true
@@ -365,7 +414,7 @@ module _ (i : Declared) (ask : Table) (script : Script) (blocks : (o : Object) (
         by true = is.turns
         by false = rest_of s s.schedule is.turns
 
-    goes_on : (s : Stage) → IsStage i.facts script s → (client : ℕ) → next_turn script s ≡ Some client → GoesOn i.facts script s (next_stage i ask script s)
+    pub goes_on : (s : Stage) → IsStage i.facts script s → (client : ℕ) → next_turn script s ≡ Some client → GoesOn i.facts script s (next_stage i ask script s)
     goes_on s is client next =
         let first = next_is s is client next in
         let turn = turn_of (record s { schedule = left_schedule script s; last = client }) (record { fit = is.fit; some = is.some; turns = rest_is s is }) client first.from first.may in
@@ -399,10 +448,11 @@ module _ (i : Declared) (ask : Table) (script : Script) (blocks : (o : Object) (
     first_length n zero = refl
     first_length n (suc count) = ap suc (first_length (n + 1) count)
 
+    pub first_is_stage : 1 ≤ most_client script.clients → list_all (λ c. nat_le 1 c) script.schedule ≡ true → IsStage i.facts script (first_stage script)
+    first_is_stage some turns = record { fit = first_players 1 (most_client script.clients); some = omega (arith, some, first_length 1 (most_client script.clients)); turns = turns }
+
     -- the play without stops ends
     pub plain_ends : 1 ≤ most_client script.clients → list_all (λ c. nat_le 1 c) script.schedule ≡ true → (history : List Entry) × IsPlainPlay i ask script history
     plain_ends some turns =
-        let s = first_stage script in
-        let is : IsStage i.facts script s = record { fit = first_players 1 (most_client script.clients); some = omega (arith, some, first_length 1 (most_client script.clients)); turns = turns } in
-        let e = ends_within (turns_left script s) s is (omega arith) in
+        let e = ends_within (turns_left script (first_stage script)) (first_stage script) (first_is_stage some turns) (omega arith) in
         ((stage_after i ask script e.turns).history, record { turns = e.turns; over = e.over; is = refl })
