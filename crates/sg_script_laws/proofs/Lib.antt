@@ -1,0 +1,2 @@
+pub mod Flawless
+mod Parts

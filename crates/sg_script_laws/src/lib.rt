@@ -1,0 +1,2 @@
+//! Laws: a script without a flaw may be played.
+#![tactic(auto)]
