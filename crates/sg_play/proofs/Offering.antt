@@ -1,5 +1,5 @@
 -- A client offers the next call of its script.
-use Rattle.std.proofs.Common.{◌≡◌, ◌≢◌, ◌⊎◌, ℕ, zero, suc, ◌+◌, ◌-◌, ◌≤◌, true, false, cond, List, [], ◌∷◌, Some, length, take, refl, sym, ◌∙◌, ap, subst, inl, inr, arith, slice_set}
+use Rattle.std.proofs.Common.{◌≡◌, ◌≢◌, ◌⊎◌, ℕ, zero, suc, ◌+◌, ◌-◌, ◌<◌, ◌≤◌, true, false, cond, List, [], ◌∷◌, Some, length, take, refl, sym, ◌∙◌, ap, subst, inl, inr, arith, slice_set}
 use Rattle.std.specs.Prelude.{OnErr, OnOk, nat_lt, slice_get}
 use Rattle.std.specs.List.{list_any}
 use Rattle.std.specs.declared.result.Result.{Result}
@@ -54,6 +54,11 @@ no_desc own (Parent ∷ kinds) (a ∷ args) desc parent = absurd (cc parent)
 no_desc own (IsWord ∷ kinds) (a ∷ args) desc parent = no_desc own kinds args desc parent
 no_desc own (IsText ∷ kinds) (a ∷ args) desc parent = no_desc own kinds args desc parent
 
+there_below : (calls : List ScriptCall) (k : ℕ) (c : ScriptCall) → slice_get calls k ≡ Some c → k < length calls
+there_below [] k c there = absurd (cc there)
+there_below (d ∷ calls) zero c there = omega arith
+there_below (d ∷ calls) (suc k) c there = omega (arith, there_below calls k c there)
+
 -- ---- a client that has no call under way
 
 free_handed : (s : Seat) → is_free_phase s.phase ≡ true → handed s ≡ s.seq
@@ -89,6 +94,9 @@ module _ (i : Declared) (script : Script) (history : List Entry) (seats : List S
   module _ (written : ScriptCall) (there : slice_get (script_calls script c) s.seq ≡ Some written) where
     call_is_fit : call_fits i (1 + s.seq) written ≡ true
     call_is_fit = fits_at i 1 (script_calls script c) s.seq written (is.playable.fit c) there
+
+    pub call_numbered : s.seq + 1 < 4294967296
+    call_numbered = omega (arith, there_below (script_calls script c) s.seq written there, is.playable.few c)
 
     pub call_declared : declares i written.fun ≡ true
     call_declared = (and_parts (declares i written.fun) (args_fit (1 + s.seq) (fun_at i.facts.funs written.fun).kinds written.args) call_is_fit).0

@@ -1,5 +1,5 @@
 -- How clients end, one after the other; and what a play that ended promises.
-use Rattle.std.proofs.Common.{◌≡◌, ◌⊎◌, ℕ, zero, suc, ◌+◌, ◌-◌, ◌<◌, ◌≤◌, Bool, true, false, cond, not, List, [], ◌∷◌, ◌++◌, None, Some, length, map, refl, sym, ◌∙◌, ap, subst, inl, inr, arith, take, append_nil}
+use Rattle.std.proofs.Common.{◌≡◌, ◌⊎◌, ℕ, zero, suc, ◌+◌, ◌-◌, ◌<◌, ◌≤◌, Bool, true, false, cond, not, List, [], ◌∷◌, ◌++◌, None, Some, length, map, refl, sym, ◌∙◌, ap, subst, inl, inr, arith, take, append-nil}
 use Rattle.std.specs.Prelude.{slice_get, unwrap_or, ◌==◌}
 use Rattle.std.specs.List.{flat_map}
 use Rattle.std.proofs.lemmas.Bool.Decides.{nat_tests}
@@ -66,7 +66,7 @@ all_taken (s ∷ seats) = ap (λ l. s ∷ l) (all_taken seats)
 
 -- the calls that aren't answered are those of the seats, where none was withdrawn
 not_withdrawn : (w : WorldView) → w.withdrawn ≡ [] → unanswered w ≡ flat_map offered_by w.seats
-not_withdrawn w none = ap (λ l. flat_map offered_by w.seats ++ map (λ x. x.call) l) none ∙ append_nil (flat_map offered_by w.seats)
+not_withdrawn w none = ap (λ l. flat_map offered_by w.seats ++ map (λ x. x.call) l) none ∙ append-nil (flat_map offered_by w.seats)
 
 module _ (z : Setting) (test : ℕ → List ℕ → List ℕ → Type 0) (script : Script) (plan : List ℕ) (w : WorldView) (given : List (List ℕ)) (passed last : ℕ)
     (is : KeepsPlay z script w given passed last) (told : RecoversSoFar z w) (nobody : NobodyGoes script w.seats) where
