@@ -37,7 +37,10 @@ seat_at (suc n) (suc k) = seat_at n k
 new_seat : (n client : ℕ) → seat_in (replicate n no_seat) client ≡ no_seat
 new_seat n client = seat_at n (client - 1)
 
-given_at : (n k : ℕ) → unwrap_or (slice_get (replicate n ([] as List ℕ)) k) [] ≡ []
+abbrev nothing : List ℕ
+nothing = []
+
+given_at : (n k : ℕ) → unwrap_or (slice_get (replicate n nothing) k) [] ≡ []
 given_at zero k = refl
 given_at (suc n) zero = refl
 given_at (suc n) (suc k) = given_at n k

@@ -41,7 +41,9 @@ one_more script n (t ∷ seats) s = by (has_calls script n) (one_more script (n 
 take_more : (seats : List Seat) (k : ℕ) → k < length seats → take (k + 1) seats ≡ take k seats ++ unwrap_or (slice_get seats k) no_seat ∷ []
 take_more [] k below = absurd (omega (arith, below))
 take_more (s ∷ seats) zero below = refl
-take_more (s ∷ seats) (suc k) below = ap (λ l. s ∷ l) (take_more seats k (omega (arith, below)))
+take_more (s ∷ seats) (suc k) below =
+    let next : suc k + 1 ≡ suc (k + 1) = omega arith in
+    ap (λ n. take n (s ∷ seats)) next ∙ ap (λ l. s ∷ l) (take_more seats k (omega (arith, below)))
 
 length_taken : (seats : List Seat) (k : ℕ) → k ≤ length seats → length (take k seats) ≡ k
 length_taken seats zero below = refl
@@ -71,15 +73,15 @@ not_withdrawn w none = ap (λ l. flat_map offered_by w.seats ++ map (λ x. x.cal
 module _ (z : Setting) (test : ℕ → List ℕ → List ℕ → Type 0) (script : Script) (plan : List ℕ) (w : WorldView) (given : List (List ℕ)) (passed last : ℕ)
     (is : KeepsPlay z script w given passed last) (told : RecoversSoFar z w) (nobody : NobodyGoes script w.seats) where
   pub played : (ended : Ended) → ended.history.items ≡ w.history → run_of ended.trace ≡ w.run → ended.ends ≡ ends_from script 1 w.seats
-      → IsRecovered (stubs_of z) w.history w.run (unanswered w) → test w.run.points (struck_in w.run) plan → IsPlayed z test script plan ended
-  played ended history run ends recovered stops = record {
+      → EndsUsed w.run.boots → IsRecovered (stubs_of z) w.history w.run (unanswered w) → test w.run.points (struck_in w.run) plan → IsPlayed z test script plan ended
+  played ended history run ends used recovered stops = record {
     legal = subst (IsLegal z.iface z.ask) (sym history) (IsLegal-from z.iface z.ask w.history told.legal);
     calls = subst (λ h. AreScriptsCalls z.iface.facts script h) (sym history) (playing_calls z.iface script w.history w.seats given is.playing);
     recovered = subst (λ h. HasRecovered (stubs_of z) h (run_of ended.trace) ended.ends) (sym history)
         (subst (λ r. HasRecovered (stubs_of z) w.history r ended.ends) (sym run) (subst (HasRecovered (stubs_of z) w.history w.run) (sym ends) (record {
           tables = told.set.tables;
           recovered = subst (IsRecovered (stubs_of z) w.history w.run) (not_withdrawn w is.none_withdrawn ∙ playing_waiting z.iface z.ask script w.history w.seats given is.playing nobody) recovered;
-          used = _;
+          used = used;
         })));
     stops = subst (λ r. test r.points (struck_in r) plan) (sym run) stops;
     ends = subst (λ h. AreEnds z.iface z.ask h script ended.ends) (sym history) (subst (AreEnds z.iface z.ask w.history script) (sym ends)

@@ -1,3 +1,5 @@
 mod Beginning
 mod Ending
 mod Keeping
+mod Lists
+mod Taking

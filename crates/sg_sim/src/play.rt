@@ -1,5 +1,5 @@
 // A play: whose turn it is, and the play to its end.
-ghost use Rattle.std.specs.Prelude.{◌≡◌, ◌≤◌, ◌<◌, ℕ, List, [], true, false, None, IfOk, IfSome, length, replicate};
+ghost use Rattle.std.specs.Prelude.{◌≡◌, ◌≤◌, ◌<◌, ℕ, List, [], true, false, None, IfOk, IfSome, OnOk, length, replicate};
 ghost use Rattle.sg_play_laws.specs.Callers.{is_setting_up};
 ghost use Rattle.sg_play_laws.specs.Ends.{end_of, ends_from};
 ghost use Rattle.sg_play_laws.specs.Playable.{IsPlayable};
