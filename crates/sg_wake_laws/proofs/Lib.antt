@@ -9,5 +9,6 @@ pub mod Turned
 pub mod Used
 pub mod Using
 pub mod Waiting
+pub mod Waking
 pub mod Wakers
 pub mod Woken

@@ -1,8 +1,8 @@
 -- What holds of each client's seat, where one is set and where some are woken.
-use Rattle.std.proofs.Common.{◌≡◌, ◌≢◌, ◌⊎◌, ℕ, ◌-◌, ◌≤◌, List, length, map, refl, sym, ◌∙◌, ap, subst, inl, inr, arith, slice_set}
+use Rattle.std.proofs.Common.{◌≡◌, ◌≢◌, ◌⊎◌, ℕ, ◌-◌, ◌≤◌, List, length, map, refl, sym, ◌∙◌, subst, inl, inr, slice_set}
 use Rattle.sg_base.specs.declared.call.Call.{Call}
 use Rattle.sg_seat.specs.WorldView.{Seat, seat_in, woken_seat}
-use Rattle.sg_seat.specs.declared.phase.Phase.TheVariants.{Idle, Asked, Held, Receipted, Blocked, Left}
+use Rattle.sg_seat.specs.declared.phase.Phase.TheVariants.{Asked, Held, Blocked}
 use Rattle.sg_play_laws.proofs.Lines.{length_map, length_set, same_or_other, seat_here, seat_there, seat_woken}
 use Rattle.sg_world_laws.proofs.Woken.{woken_is}
 use Rattle.std.specs.Prelude.{Bool}

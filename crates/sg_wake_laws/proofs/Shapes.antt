@@ -1,5 +1,5 @@
 -- What the seats are behind a client's entry, and whose the calls of seats are.
-use Rattle.std.proofs.Common.{◌≡◌, ℕ, ◌+◌, ◌-◌, ◌≤◌, true, List, [], ◌∷◌, ◌++◌, length, map, sym, ◌∙◌, ap, slice_set}
+use Rattle.std.proofs.Common.{◌≡◌, ℕ, ◌+◌, ◌-◌, true, List, length, map, sym, ◌∙◌, ap, slice_set}
 use Rattle.sg_base.specs.declared.reply.Reply.{Reply}
 use Rattle.sg_facts.specs.declared.entry.Entry.{Entry}
 use Rattle.sg_facts.specs.Facts.{Facts}

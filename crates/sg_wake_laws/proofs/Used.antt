@@ -1,19 +1,18 @@
 -- The last boot of a play is used, or somebody will use it, whatever small thing changes.
 use Rattle.std.proofs.Common.{◌≡◌, ◌≢◌, ◌⊎◌, ℕ, suc, ◌+◌, ◌≤◌, true, List, [], ◌∷◌, ◌++◌, None, length, map, refl, sym, ◌∙◌, ap, subst, inl, inr, arith, length-append}
-use Rattle.sg_base.specs.declared.call.Call.{Call}
 use Rattle.sg_facts.specs.declared.entry.Entry.{Entry}
 use Rattle.sg_facts.specs.declared.trace.Item.{Item}
 use Rattle.sg_facts.specs.Guard.{guard}
 use Rattle.sg_facts.specs.Interface.{Declared}
 use Rattle.sg_facts.specs.Object.{object_of}
 use Rattle.sg_facts.specs.Trace.{Boot}
-use Rattle.sg_hist.specs.Recovered.{EndsUsed, IsUsed}
+use Rattle.sg_hist.specs.Recovered.{EndsUsed}
 use Rattle.sg_recovery_laws.specs.Growing.{booted, noted, struck}
-use Rattle.sg_seat.specs.WorldView.{Seat, WorldView, seat_in, woken_seat}
-use Rattle.sg_seat.specs.declared.phase.Phase.TheVariants.{Idle, Asked, Held, Receipted, Blocked, Left}
+use Rattle.sg_seat.specs.WorldView.{Seat, seat_in, woken_seat}
+use Rattle.sg_seat.specs.declared.phase.Phase.TheVariants.{Asked, Held}
 use Rattle.sg_play_laws.proofs.Lines.{length_map, same_or_other, seat_woken}
 use Rattle.sg_wake_laws.specs.Waking.{EachSeat, IsHeldUsed, IsUsedSoFar, SomebodyAsks}
-use Rattle.sg_wake_laws.proofs.Seats.{OthersStay, Stays, each_woken, stays_woken}
+use Rattle.sg_wake_laws.proofs.Seats.{OthersStay, each_woken, stays_woken}
 
 -- ---- boots
 

@@ -1,5 +1,5 @@
 -- The last boot of a play is used, or somebody will use it, behind each step of a client.
-use Rattle.std.proofs.Common.{◌≡◌, ◌⊎◌, ℕ, ◌-◌, ◌≤◌, true, List, [], ◌∷◌, ◌++◌, None, Some, length, refl, sym, ◌∙◌, ap, subst, inl, inr, arith, slice_set}
+use Rattle.std.proofs.Common.{◌≡◌, ℕ, ◌-◌, ◌≤◌, true, List, [], ◌∷◌, ◌++◌, length, refl, sym, ◌∙◌, ap, subst, inl, inr, arith, slice_set}
 use Rattle.sg_base.specs.Stops.{asked_after}
 use Rattle.sg_base.specs.declared.call.Call.{Call}
 use Rattle.sg_base.specs.declared.reply.Code.{Code}
@@ -8,16 +8,15 @@ use Rattle.sg_base.specs.declared.reply.Reply.TheVariants.{Refused}
 use Rattle.sg_facts.specs.declared.entry.Entry.{Entry}
 use Rattle.sg_facts.specs.declared.trace.Item.{Item}
 use Rattle.sg_facts.specs.Facts.{Facts}
-use Rattle.sg_facts.specs.Guard.{guard}
 use Rattle.sg_facts.specs.Object.{object_of}
 use Rattle.sg_facts.specs.Trace.{Boot}
 use Rattle.sg_hist.specs.Recovered.{EndsUsed}
 use Rattle.sg_play_laws.proofs.Lines.{length_set, seat_here}
 use Rattle.sg_recovery_laws.proofs.Growing.{object_of-more}
 use Rattle.sg_recovery_laws.specs.Growing.{noted, struck}
-use Rattle.sg_seat.specs.WorldView.{Seat, WorldView, is_offered, no_reply, seat_in, seat_of, wakes_seat}
+use Rattle.sg_seat.specs.WorldView.{Seat, WorldView, is_offered, no_reply, seat_of, wakes_seat}
 use Rattle.sg_seat.specs.declared.phase.Phase.{Phase}
-use Rattle.sg_seat.specs.declared.phase.Phase.TheVariants.{Idle, Asked, Held, Receipted, Blocked, Left}
+use Rattle.sg_seat.specs.declared.phase.Phase.TheVariants.{Idle, Asked, Held, Receipted, Blocked}
 use Rattle.sg_wake_laws.proofs.Seats.{here_entered, length_entered, others_entered, others_same, others_set}
 use Rattle.sg_wake_laws.proofs.Shapes.{answered_seats, entry_with, given_seats, seat_behind, woken}
 use Rattle.sg_wake_laws.proofs.Used.{length_noted, length_struck, used_booted, used_kept, used_noted, used_now, used_struck}

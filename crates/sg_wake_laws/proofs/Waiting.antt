@@ -1,9 +1,7 @@
 -- Who waits goes on to be woken before it waits again, behind each step of a client.
-use Rattle.std.proofs.Common.{◌≡◌, ◌≢◌, ◌⊎◌, ℕ, ◌+◌, ◌-◌, ◌≤◌, Bool, true, false, cond, not, ◌&&◌, ◌||◌, List, [], ◌∷◌, ◌++◌, None, Some, length, map, refl, sym, ◌∙◌, ap, subst, inl, inr, arith, slice_set}
+use Rattle.std.proofs.Common.{◌≡◌, ◌≢◌, ◌⊎◌, ℕ, ◌+◌, ◌-◌, ◌≤◌, Bool, true, false, cond, not, ◌&&◌, List, [], ◌∷◌, ◌++◌, None, Some, length, map, refl, sym, ◌∙◌, ap, subst, inl, inr, arith, slice_set}
 use Rattle.std.specs.Prelude.{◌==◌, if◌then◌else◌, nat_le}
-use Rattle.std.specs.declared.option.Option.{Option}
 use Rattle.sg_base.specs.Lists.{Each}
-use Rattle.sg_base.specs.Stops.{asked_after}
 use Rattle.sg_base.specs.declared.call.Call.{Call}
 use Rattle.sg_base.specs.declared.reply.Code.{Code}
 use Rattle.sg_base.specs.declared.reply.Code.TheVariants.{BadState, Full, HasChildren, NoDesc, NoParent}
@@ -12,14 +10,13 @@ use Rattle.sg_base.specs.declared.reply.Reply.TheVariants.{Ok, Refused}
 use Rattle.sg_facts.specs.declared.entry.Entry.{Entry}
 use Rattle.sg_facts.specs.declared.row.Row.{Row}
 use Rattle.sg_facts.specs.declared.trace.Item.{Item}
-use Rattle.sg_facts.specs.declared.trace.Tag.{Tag}
-use Rattle.sg_facts.specs.declared.trace.Tag.TheVariants.{Walk, Load, Client}
-use Rattle.sg_facts.specs.Facts.{Facts, fun_at, is_visible, takes_desc, takes_parent}
+use Rattle.sg_facts.specs.declared.trace.Tag.TheVariants.{Client}
+use Rattle.sg_facts.specs.Facts.{Facts, fun_at, takes_desc, takes_parent}
 use Rattle.sg_facts.specs.Guard.{guard, in_state, is_guards, may_be_parent, may_use}
 use Rattle.sg_facts.specs.Interface.{Declared}
 use Rattle.sg_facts.specs.Legal.{LegalFrom, Table, answer}
 use Rattle.sg_facts.specs.Limits.{most_live}
-use Rattle.sg_facts.specs.Object.{Object, after, empty_object, object_from, object_of}
+use Rattle.sg_facts.specs.Object.{Object, after, object_from, object_of}
 use Rattle.sg_facts.specs.Trace.{Boot}
 use Rattle.sg_facts.specs.Track.{has_child, row_at}
 use Rattle.sg_hist.specs.Reading.{Place, is_by_guard, is_item_of, is_tagged, places_from}
@@ -33,10 +30,10 @@ use Rattle.sg_play_laws.specs.Plays.{IsPlaying}
 use Rattle.sg_recovery_laws.proofs.Growing.{places-booted, places-struck}
 use Rattle.sg_recovery_laws.specs.Growing.{IsGrown, IsOfNoEntry, booted, last_items, noted, older_items, struck}
 use Rattle.sg_script.specs.declared.script.Script.{Script}
-use Rattle.sg_seat.specs.WorldView.{Seat, WorldView, is_blocked_phase, is_held_phase, is_offered, no_reply, seat_in, seat_of, wakes_seat, woken_seat}
+use Rattle.sg_seat.specs.WorldView.{Seat, WorldView, is_blocked_phase, is_held_phase, is_offered, seat_in, seat_of, wakes_seat, woken_seat}
 use Rattle.sg_seat.specs.declared.phase.Phase.{Phase}
 use Rattle.sg_seat.specs.declared.phase.Phase.TheVariants.{Idle, Asked, Held, Receipted, Blocked, Left}
-use Rattle.sg_trace_laws.specs.LastPlace.{HaveItems, last_place}
+use Rattle.sg_trace_laws.specs.LastPlace.{last_place}
 use Rattle.sg_wake_laws.proofs.Between.{between_same, own_tag}
 use Rattle.sg_wake_laws.proofs.Calls.{entries_below, fit_call, none_of_next, none_of_stub, test_same}
 use Rattle.sg_wake_laws.proofs.Items.{have_items}
@@ -44,8 +41,8 @@ use Rattle.sg_wake_laws.proofs.Private.{unwoken}
 use Rattle.sg_wake_laws.proofs.Seats.{each_entered, each_set, each_woken}
 use Rattle.sg_wake_laws.proofs.Shapes.{call_is_next, call_is_own, entry_with, seat_behind, woken}
 use Rattle.sg_wake_laws.proofs.Wakers.{wakes_entered, wakes_last, wakes_noted, wakes_refused}
-use Rattle.sg_wake_laws.proofs.Woken.{Moves, all_noted, goes_on_waits, moves_free, moves_same, moves_to, other_made, other_waits, seat_booted, seat_moved, seat_noted, seat_struck, seat_woken_by, stub_made, stub_waits}
-use Rattle.sg_wake_laws.specs.Waking.{AreWokenSoFar, EachSeat, IsMadeSoFar, IsWokenSeat, IsWokenSince, is_asking, last_places, waking_entries}
+use Rattle.sg_wake_laws.proofs.Woken.{Moves, all_noted, goes_on_waits, moves_free, moves_same, other_made, other_waits, seat_booted, seat_moved, seat_noted, seat_struck, seat_woken_by, stub_made, stub_waits}
+use Rattle.sg_wake_laws.specs.Waking.{AreWokenSoFar, EachSeat, IsMadeSoFar, IsWokenSeat, IsWokenSince, is_asking, last_places, no_query_waits, waking_entries}
 use Rattle.sg_world_laws.specs.Setting.{Setting}
 
 -- ---- replies
@@ -104,14 +101,13 @@ pub woken_set : (facts : Facts) (history : List Entry) (boots : List Boot) (seat
 woken_set facts history boots seats c new first last moves is =
     let entries : List Entry = waking_entries facts history in
     record {
-      queries = is.queries;
       woken = is.woken;
       each = each_set (IsWokenSeat facts entries boots) seats c new first last (seat_moved facts entries entries boots c (seat_in seats c) new (λ id p. refl) (is.each c first last) moves)
           (λ client from to other. is.each client from to);
     }
 
 module _ (z : Setting) (script : Script) (x : WorldView) (given : List (List ℕ)) (c : ℕ) (first : 1 ≤ c) (last : c ≤ length x.seats) (playing : IsPlaying z.iface script x.history x.seats given)
-    (before : RecoversSoFar z x) (is : AreWokenSoFar z.iface.facts x.history x.run.boots x.seats) where
+    (before : RecoversSoFar z x) (queries : no_query_waits z.iface.facts ≡ true) (is : AreWokenSoFar z.iface.facts x.history x.run.boots x.seats) where
   abbrev facts : Facts
   facts = z.iface.facts
 
@@ -150,7 +146,6 @@ module _ (z : Setting) (script : Script) (x : WorldView) (given : List (List ℕ
   line_stub item stub =
       let none = none_of_stub item x.history stub in
       record {
-        queries = is.queries;
         woken = all_noted facts old old item (same_noted item none) boots before.recovering.reboots.booted is.woken (λ client seq waits. absurd (let not_so = stub_waits client seq item stub in cc (not_so, waits)));
         each = λ client from to.
             seat_noted facts old old item (same_noted item none) boots before.recovering.reboots.booted client (seat_of x client) (seat_of x client) (is.each client from to) (moves_same facts (seat_of x client))
@@ -193,7 +188,6 @@ module _ (z : Setting) (script : Script) (x : WorldView) (given : List (List ℕ
     pub line_noted : (new : Seat) → is_asking s.phase ≡ true → Moves facts s new → (is_offered new.phase ≡ true) × (new.call ≡ s.call) → (is_asking new.phase ≡ true → has_blocked item.outcome ≡ false)
         → AreWokenSoFar facts x.history (noted boots item) (slice_set x.seats (c - 1) new)
     line_noted new asks moves offered goes = record {
-      queries = is.queries;
       woken = all_noted facts old old item (same_noted item none_item) boots before.recovering.reboots.booted is.woken (again_own asks);
       each = each_set (IsWokenSeat facts old (noted boots item)) x.seats c new first last (own_noted new moves offered goes) (λ client from to other. others_still client from to other);
     }
@@ -201,7 +195,6 @@ module _ (z : Setting) (script : Script) (x : WorldView) (given : List (List ℕ
     -- or stays
     pub line_stopped : is_asking s.phase ≡ true → has_blocked item.outcome ≡ false → AreWokenSoFar facts x.history (noted boots item) x.seats
     line_stopped asks goes = record {
-      queries = is.queries;
       woken = all_noted facts old old item (same_noted item none_item) boots before.recovering.reboots.booted is.woken (again_own asks);
       each = λ client from to. at client from to (same_or_other client c);
     }
@@ -225,7 +218,6 @@ module _ (z : Setting) (script : Script) (x : WorldView) (given : List (List ℕ
   line_entered : (reply : Reply) (p : Phase) (kept : Reply) → is_offered s.phase ≡ true → is_asking p ≡ false → is_held_phase p ≡ false → ((id : ℕ) (q : Place) → wakes_at facts (now_with reply) id q ≡ wakes_at facts old id q)
       → NobodyWoken reply → AreWokenSoFar facts (x.history ++ entry_with facts x c reply ∷ []) boots (slice_set (woken facts x c reply) (c - 1) (seat_behind facts x c reply p kept))
   line_entered reply p kept offers not_asking free same nobody = record {
-    queries = is.queries;
     woken = between_same facts old (now_with reply) same (places_from [] boots) is.woken;
     each = each_entered (IsWokenSeat facts (now_with reply) boots) (test_of reply) x.seats c (seat_behind facts x c reply p kept) first last
         (seat_moved facts old (now_with reply) boots c s (seat_behind facts x c reply p kept) same (is.each c first last)
@@ -246,7 +238,7 @@ module _ (z : Setting) (script : Script) (x : WorldView) (given : List (List ℕ
   nobody_in_private alone reply offers answered client from to other blocked =
       let t = seat_of x client in
       let offered : is_offered t.phase ≡ true = ap is_offered blocked in
-      unwoken z.iface z.ask z.sound before.set.law alone is.queries x.history before.legal s.call t.call reply
+      unwoken z.iface z.ask z.sound before.set.law alone queries x.history before.legal s.call t.call reply
       (fit_call z.iface script x.history c s before.set.fits (playing.playable.fit c) (caller c first last) offers)
       (fit_call z.iface script x.history client t before.set.fits (playing.playable.fit client) (caller client from to) offered)
       (λ same. other (sym (call_is_own facts script x.history client t (caller client from to) offered) ∙ sym same ∙ call_is_own facts script x.history c s (caller c first last) offers))
@@ -308,7 +300,6 @@ module _ (z : Setting) (script : Script) (x : WorldView) (given : List (List ℕ
 
     pub line_committed : AreWokenSoFar facts (x.history ++ entry_with facts x c reply ∷ []) (noted boots item) (slice_set (woken facts x c reply) (c - 1) (seat_behind facts x c reply Receipted reply))
     line_committed = record {
-      queries = is.queries;
       woken = all_noted facts old (now_with reply) item same_entered boots before.recovering.reboots.booted is.woken (λ client seq waits. absurd (let not_so = goes_on_waits client seq item goes in cc (not_so, waits)));
       each = each_entered (IsWokenSeat facts (now_with reply) (noted boots item)) (test_of reply) x.seats c (seat_behind facts x c reply Receipted reply) first last
           (seat_noted facts old (now_with reply) item same_entered boots before.recovering.reboots.booted c s (seat_behind facts x c reply Receipted reply) (is.each c first last)
@@ -342,7 +333,6 @@ module _ (z : Setting) (script : Script) (x : WorldView) (given : List (List ℕ
 pub woken_booted : (facts : Facts) (history : List Entry) (boots : List Boot) (seats : List Seat) → AreWokenSoFar facts history boots seats
     → AreWokenSoFar facts history (booted boots) (map (woken_seat (λ call. true)) seats)
 woken_booted facts history boots seats is = record {
-  queries = is.queries;
   woken = subst (Each (λ p. IsWokenBetween facts (waking_entries facts history) p p.item.tag)) (sym (places-booted [] boots)) is.woken;
   each = each_woken (IsWokenSeat facts (waking_entries facts history) (booted boots)) (λ call. true) seats
       (λ client from to. seat_booted facts (waking_entries facts history) boots client (woken_seat (λ call. true) (seat_in seats client))
@@ -358,7 +348,6 @@ woken_booted facts history boots seats is = record {
 -- the service stops
 pub woken_struck : (facts : Facts) (history : List Entry) (boots : List Boot) (seats : List Seat) (stop : ℕ) → AreWokenSoFar facts history boots seats → AreWokenSoFar facts history (struck boots stop) seats
 woken_struck facts history boots seats stop is = record {
-  queries = is.queries;
   woken = subst (Each (λ p. IsWokenBetween facts (waking_entries facts history) p p.item.tag)) (sym (places-struck [] boots stop)) is.woken;
   each = λ client from to. seat_struck facts (waking_entries facts history) boots stop client (seat_in seats client) (is.each client from to);
 }

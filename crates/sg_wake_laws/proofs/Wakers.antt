@@ -1,12 +1,12 @@
 -- Whether a place wakes who waits on a descriptor stays as it is where a run grows.
-use Rattle.std.proofs.Common.{◌≡◌, ℕ, Bool, true, false, cond, not, ◌&&◌, ◌||◌, List, [], ◌∷◌, ◌++◌, refl, sym, ◌∙◌, ap}
+use Rattle.std.proofs.Common.{◌≡◌, ℕ, Bool, true, false, not, ◌&&◌, ◌||◌, List, [], ◌∷◌, ◌++◌, refl, ◌∙◌, ap}
 use Rattle.std.specs.List.{list_any}
 use Rattle.sg_facts.specs.declared.entry.Entry.{Entry}
 use Rattle.sg_facts.specs.declared.row.Row.{Row}
 use Rattle.sg_facts.specs.declared.trace.Item.{Item}
 use Rattle.sg_facts.specs.Facts.{Facts}
 use Rattle.sg_facts.specs.Object.{object_of}
-use Rattle.sg_hist.specs.Reading.{Place, behind, entries_before, is_by_guard, is_item_of, object_before, stands_before}
+use Rattle.sg_hist.specs.Reading.{Place, behind, is_by_guard, is_item_of, object_before, stands_before}
 use Rattle.sg_plain.specs.Plain.{wakes}
 use Rattle.sg_plain.specs.Promises.{wakes_at}
 use Rattle.sg_recovery_laws.proofs.Growing.{entries_before-committed, entries_before-more, entries_before-not_yet, entries_before-refused}

@@ -1,5 +1,5 @@
 -- A client's seat is as waits want it, where an item is noted, an entry is made, or the seat changes.
-use Rattle.std.proofs.Common.{◌≡◌, ◌≢◌, ◌⊎◌, ℕ, ◌+◌, ◌<◌, ◌≤◌, Bool, true, false, cond, ◌&&◌, List, [], ◌∷◌, ◌++◌, length, refl, sym, ◌∙◌, ap, subst, inl, inr, arith}
+use Rattle.std.proofs.Common.{◌≡◌, ◌≢◌, ◌⊎◌, ℕ, ◌+◌, ◌≤◌, Bool, true, false, ◌&&◌, List, [], ◌∷◌, ◌++◌, refl, sym, ◌∙◌, ap, subst, inl, inr, arith}
 use Rattle.std.specs.Prelude.{◌==◌}
 use Rattle.sg_base.specs.Lists.{Each}
 use Rattle.sg_base.specs.declared.call.Call.{Call}
@@ -12,18 +12,17 @@ use Rattle.sg_facts.specs.declared.trace.Tag.TheVariants.{Walk, Load, Client}
 use Rattle.sg_facts.specs.Facts.{Facts}
 use Rattle.sg_facts.specs.Trace.{Boot}
 use Rattle.sg_hist.specs.Reading.{Place, is_tagged, places_from, places_in}
-use Rattle.sg_hist.specs.Recovered.{is_clients, is_replied, is_stopped}
+use Rattle.sg_hist.specs.Recovered.{is_clients, is_replied}
 use Rattle.sg_plain.specs.Promises.{IsWokenBetween, has_blocked, wakes_at}
 use Rattle.sg_recovery_laws.proofs.Lists.{each_map, each_push}
 use Rattle.sg_recovery_laws.specs.Growing.{IsGrown, booted, last_items, noted, older_items, struck}
-use Rattle.sg_seat.specs.WorldView.{Seat, is_blocked_phase, is_held_phase, is_offered, woken_seat}
-use Rattle.sg_seat.specs.declared.phase.Phase.{Phase}
-use Rattle.sg_seat.specs.declared.phase.Phase.TheVariants.{Idle, Asked, Held, Receipted, Blocked, Left}
+use Rattle.sg_seat.specs.WorldView.{Seat, is_held_phase, is_offered}
+use Rattle.sg_seat.specs.declared.phase.Phase.TheVariants.{Asked, Blocked}
 use Rattle.sg_trace_laws.specs.LastPlace.{last_place}
 use Rattle.sg_wake_laws.proofs.Between.{since_more, since_same, since_woken}
 use Rattle.sg_wake_laws.proofs.Boots.{at_places, between_noted, items_booted, items_noted, items_struck, places_last_booted, places_last_struck, places_noted}
 use Rattle.sg_wake_laws.proofs.Calls.{stub_tagged, test_same}
-use Rattle.sg_wake_laws.specs.Waking.{IsItsOffer, IsMadeSoFar, IsWokenSeat, IsWokenSince, is_asking, last_places, waits_at}
+use Rattle.sg_wake_laws.specs.Waking.{IsItsOffer, IsMadeSoFar, IsWokenSeat, IsWokenSince, is_asking, last_places}
 use Rattle.sg_walk_laws.proofs.Found.{other_test}
 
 -- ---- a seat that changes

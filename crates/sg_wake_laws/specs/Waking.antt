@@ -96,11 +96,10 @@ pub record IsWokenSeat (facts : Facts) (entries : List Entry) (boots : List Boot
 
 -- between two waits of one call in a boot stands an entry that wakes it, and so it goes on
 pub record AreWokenSoFar (facts : Facts) (history : List Entry) (boots : List Boot) (seats : List Seat) : Type 0 where
-  pub queries : no_query_waits facts ≡ true
   pub woken : Each (λ p. IsWokenBetween facts (waking_entries facts history) p p.item.tag) (places_from [] boots)
   pub each : EachSeat (IsWokenSeat facts (waking_entries facts history) boots) seats
 
 -- what a play keeps of both
 pub record IsWaking (z : Setting) (w : WorldView) : Type 0 where
   pub used : IsUsedSoFar z.iface w.history w.run.boots w.seats
-  pub woken : AreWokenSoFar z.iface.facts w.history w.run.boots w.seats
+  pub woken : no_query_waits z.iface.facts ≡ true → AreWokenSoFar z.iface.facts w.history w.run.boots w.seats
