@@ -10,7 +10,7 @@ use Rattle.sg_hist.specs.Recovered.{EndsUsed, HasRecovered, IsRecovered, struck_
 use Rattle.sg_hist.specs.declared.ended.End.{End}
 use Rattle.sg_hist.specs.declared.ended.Ended.{Ended}
 use Rattle.sg_plain.specs.Calls.{AreEnds}
-use Rattle.sg_plain.specs.Promises.{AreScriptsCalls}
+use Rattle.sg_plain.specs.Promises.{AreScriptsCalls, AreWoken}
 use Rattle.sg_play.specs.Recovering.{RecoversSoFar}
 use Rattle.sg_play_laws.proofs.Ending.{playing_ends, playing_waiting}
 use Rattle.sg_play_laws.proofs.Playing.{playing_calls}
@@ -20,6 +20,7 @@ use Rattle.sg_script.specs.declared.script.Script.{Script}
 use Rattle.sg_seat.specs.WorldView.{Seat, WorldView, no_seat, offered_by, seat_in, unanswered}
 use Rattle.sg_sim.specs.Inside.Keeps.{KeepsPlay}
 use Rattle.sg_sim.specs.Played.{IsPlayed}
+use Rattle.sg_wake_laws.proofs.Waking.{waking_used, waking_woken}
 use Rattle.sg_world_laws.specs.Setting.{Setting, stubs_of}
 
 -- ---- ends
@@ -73,17 +74,18 @@ not_withdrawn w none = ap (λ l. flat_map offered_by w.seats ++ map (λ x. x.cal
 module _ (z : Setting) (test : ℕ → List ℕ → List ℕ → Type 0) (script : Script) (plan : List ℕ) (w : WorldView) (given : List (List ℕ)) (passed last : ℕ)
     (is : KeepsPlay z script w given passed last) (told : RecoversSoFar z w) (nobody : NobodyGoes script w.seats) where
   pub played : (ended : Ended) → ended.history.items ≡ w.history → run_of ended.trace ≡ w.run → ended.ends ≡ ends_from script 1 w.seats
-      → EndsUsed w.run.boots → IsRecovered (stubs_of z) w.history w.run (unanswered w) → test w.run.points (struck_in w.run) plan → IsPlayed z test script plan ended
-  played ended history run ends used recovered stops = record {
+      → IsRecovered (stubs_of z) w.history w.run (unanswered w) → test w.run.points (struck_in w.run) plan → IsPlayed (stubs_of z) test script plan ended
+  played ended history run ends recovered stops = record {
     legal = subst (IsLegal z.iface z.ask) (sym history) (IsLegal-from z.iface z.ask w.history told.legal);
     calls = subst (λ h. AreScriptsCalls z.iface.facts script h) (sym history) (playing_calls z.iface script w.history w.seats given is.playing);
     recovered = subst (λ h. HasRecovered (stubs_of z) h (run_of ended.trace) ended.ends) (sym history)
         (subst (λ r. HasRecovered (stubs_of z) w.history r ended.ends) (sym run) (subst (HasRecovered (stubs_of z) w.history w.run) (sym ends) (record {
           tables = told.set.tables;
           recovered = subst (IsRecovered (stubs_of z) w.history w.run) (not_withdrawn w is.none_withdrawn ∙ playing_waiting z.iface z.ask script w.history w.seats given is.playing nobody) recovered;
-          used = used;
+          used = waking_used z script w is.waking nobody;
         })));
     stops = subst (λ r. test r.points (struck_in r) plan) (sym run) stops;
     ends = subst (λ h. AreEnds z.iface z.ask h script ended.ends) (sym history) (subst (AreEnds z.iface z.ask w.history script) (sym ends)
         (playing_ends z.iface z.ask script w.history w.seats given is.playing nobody (λ client first there. told.waits client first there)));
+    woken = subst (λ h. AreWoken z.iface.facts h (run_of ended.trace)) (sym history) (subst (AreWoken z.iface.facts w.history) (sym run) (waking_woken z w is.none_waits is.waking));
   }

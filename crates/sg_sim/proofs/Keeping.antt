@@ -17,6 +17,8 @@ use Rattle.sg_seat.specs.declared.phase.Phase.TheVariants.{Left}
 use Rattle.sg_sim.proofs.Beginning.{playing_new}
 use Rattle.sg_sim.specs.Inside.Keeps.{KeepsPlay}
 use Rattle.sg_sim.specs.Inside.Taken.{MissesTurn, TakesTurn, behind_offer}
+use Rattle.sg_wake_laws.proofs.Waking.{waking_happened, waking_new, waking_offer, waking_turn, waking_wanted}
+use Rattle.sg_wake_laws.specs.Waking.{IsWaking, no_query_waits}
 use Rattle.sg_world.specs.declared.did.Did.{Did}
 use Rattle.sg_world.specs.declared.did.Did.TheVariants.{Answered, Blocked as Waits, Booted, Loaded, Lost, Replayed, Served, Skipped, Struck}
 use Rattle.sg_world.specs.Steps.{Commits, Steps, WantsMemory}
@@ -92,12 +94,14 @@ as_many : (z : Setting) (script : Script) (w now : WorldView) (given later : Lis
     → length now.seats ≡ length w.seats
 as_many z script w now given later was is = is.clients ∙ sym was.clients
 
-pub kept_new : (z : Setting) (script : Script) → IsPlayable z.iface script → (w : WorldView) → w ≡ new_world (replicate (most_client script.clients) no_seat)
+pub kept_new : (z : Setting) (script : Script) → IsPlayable z.iface script → no_query_waits z.iface.facts ≡ true → (w : WorldView) → w ≡ new_world (replicate (most_client script.clients) no_seat)
     → KeepsPlay z script w (replicate (most_client script.clients) []) 0 0
-kept_new z script playable w new = subst (λ x. KeepsPlay z script x (replicate (most_client script.clients) []) 0 0) (sym new) (record {
+kept_new z script playable none_waits w new = subst (λ x. KeepsPlay z script x (replicate (most_client script.clients) []) 0 0) (sym new) (record {
   playing = playing_new z.iface script playable;
   none_withdrawn = refl;
   last_there = omega arith;
+  waking = waking_new z (new_world (replicate (most_client script.clients) no_seat)) (most_client script.clients) refl;
+  none_waits = none_waits;
 })
 
 module _ (z : Setting) (script : Script) (w : WorldView) (given : List (List ℕ)) (passed last : ℕ) (is : KeepsPlay z script w given passed last) where
@@ -108,16 +112,28 @@ module _ (z : Setting) (script : Script) (w : WorldView) (given : List (List ℕ
     playing = t.playing;
     none_withdrawn = none_stepped z script (behind_offer z script w given client) client t.handed now t.steps ∙ none_offered z.iface.facts script w client ∙ is.none_withdrawn;
     last_there = omega (arith, there, as_many z script w now given gave is.playing t.playing);
+    waking = waking_turn z script (behind_offer z script w given client) now given client t.handed t.offered t.told_before t.told first
+        (subst (λ n. client ≤ n) (sym (as_many z script w (behind_offer z script w given client) given given is.playing t.offered)) there)
+        (waking_offer z script w given client is.playing first there is.waking) t.steps;
+    none_waits = is.none_waits;
   }
 
   -- a turn wanted memory
-  pub kept_miss : (client : ℕ) (now : WorldView) (gave : List (List ℕ)) → MissesTurn z script w given client now gave → KeepsPlay z script now gave passed last
-  kept_miss client now gave m = subst (λ l. KeepsPlay z script now l passed last) (sym m.same) (record {
+  pub kept_miss : (client : ℕ) → 1 ≤ client → client ≤ length w.seats → (now : WorldView) (gave : List (List ℕ)) → MissesTurn z script w given client now gave → KeepsPlay z script now gave passed last
+  kept_miss client first there now gave m = subst (λ l. KeepsPlay z script now l passed last) (sym m.same) (record {
     playing = m.playing;
     none_withdrawn = by m.missed ∙ is.none_withdrawn;
     last_there = omega (arith, is.last_there, as_many z script w now given given is.playing m.playing);
+    waking = waking m.missed;
+    none_waits = is.none_waits;
   })
     where
+      waking : (now ≡ w) ⊎ (now ≡ happened w) ⊎ (IsPlaying z.iface script (behind_offer z script w given client).history (behind_offer z script w given client).seats given × WantsMemory z (behind_offer z script w given client) client now)
+          → IsWaking z now
+      waking (inl same) = subst (IsWaking z) (sym same) is.waking
+      waking (inr (inl same)) = subst (IsWaking z) (sym same) (waking_happened z w is.waking)
+      waking (inr (inr both)) = waking_wanted z (behind_offer z script w given client) now client both.1 (waking_offer z script w given client is.playing first there is.waking)
+
       by : (now ≡ w) ⊎ (now ≡ happened w) ⊎ (IsPlaying z.iface script (behind_offer z script w given client).history (behind_offer z script w given client).seats given × WantsMemory z (behind_offer z script w given client) client now)
           → now.withdrawn ≡ w.withdrawn
       by (inl same) = ap (λ x. x.withdrawn) same

@@ -1,23 +1,35 @@
 -- What a play promises of its run, whatever its stops.
 use Rattle.std.specs.Prelude.{ℕ, List}
-use Rattle.sg_facts.specs.Legal.{IsLegal}
-use Rattle.sg_facts.specs.Trace.{run_of}
+use Rattle.sg_facts.specs.Interface.{Declared}
+use Rattle.sg_facts.specs.Legal.{IsLegal, Table}
+use Rattle.sg_facts.specs.Trace.{Run, run_of}
+use Rattle.sg_facts.specs.declared.entry.Entry.{Entry}
 use Rattle.sg_hist.specs.declared.ended.Ended.{Ended}
-use Rattle.sg_hist.specs.Recovered.{HasRecovered, struck_in}
+use Rattle.sg_hist.specs.Recovered.{HasRecovered, Stubs, struck_in}
 use Rattle.sg_plain.specs.Calls.{AreEnds}
-use Rattle.sg_plain.specs.Promises.{AreScriptsCalls}
+use Rattle.sg_plain.specs.Plain.{IsPlainPlay}
+use Rattle.sg_plain.specs.Promises.{AreScriptsCalls, AreWoken, FollowsPlain, GetsPlainAlone}
 use Rattle.sg_script.specs.declared.script.Script.{Script}
-use Rattle.sg_world_laws.specs.Setting.{Setting, stubs_of}
+
+-- the play of the script without stops ends; up to the last visible entry of the first boot the history is its, and wholly so where
+-- nothing stopped, or where client 1 alone has calls
+pub record FollowsSchedule (i : Declared) (ask : Table) (script : Script) (run : Run) (history : List Entry) : Type 0 where
+  pub plain : List Entry
+  pub is_plain : IsPlainPlay i ask script plain
+  pub follows : FollowsPlain i.facts run history plain
+  pub alone : GetsPlainAlone script history plain
 
 -- a play came to this end, where its stops' test is told of the points asked, of those at which the service stopped, and of a plan
-pub record IsPlayed (z : Setting) (test : ℕ → List ℕ → List ℕ → Type 0) (script : Script) (plan : List ℕ) (ended : Ended) : Type 0 where
+pub record IsPlayed (s : Stubs) (test : ℕ → List ℕ → List ℕ → Type 0) (script : Script) (plan : List ℕ) (ended : Ended) : Type 0 where
   -- the replies stand in a history that the service could give with no fault at all
-  pub legal : IsLegal z.iface z.ask ended.history.items
+  pub legal : IsLegal s.interface s.ask ended.history.items
   -- the history's entries are the script's calls, each once and in its client's order, and those of the setup come first
-  pub calls : AreScriptsCalls z.iface.facts script ended.history.items
+  pub calls : AreScriptsCalls s.interface.facts script ended.history.items
   -- every reboot, walk and load is as it has to be, and each descriptor is in its tracked state when a call reaches the service
-  pub recovered : HasRecovered (stubs_of z) ended.history.items (run_of ended.trace) ended.ends
+  pub recovered : HasRecovered s ended.history.items (run_of ended.trace) ended.ends
   -- the service stopped where its stops say
   pub stops : test (run_of ended.trace).points (struck_in (run_of ended.trace)) plan
   -- each client with a call is done, or waits in its next call, which the service can't answer
-  pub ends : AreEnds z.iface z.ask ended.history.items script ended.ends
+  pub ends : AreEnds s.interface s.ask ended.history.items script ended.ends
+  -- who waits is woken before it waits again
+  pub woken : AreWoken s.interface.facts ended.history.items (run_of ended.trace)

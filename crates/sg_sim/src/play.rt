@@ -7,7 +7,9 @@ ghost use Rattle.sg_play_laws.specs.Turns.{NobodyGoes, may_take_turn};
 ghost use Rattle.sg_plain.specs.Calls.{most_client};
 ghost use Rattle.sg_seat.specs.WorldView.{new_world, no_seat, seat_of};
 ghost use Rattle.sg_sim.specs.Played.{IsPlayed};
+ghost use Rattle.sg_wake_laws.specs.Waking.{no_query_waits};
 ghost use Rattle.sg_world.specs.Worlded.{setting_of};
+ghost use Rattle.sg_world_laws.specs.Setting.{stubs_of};
 
 use crate::given::Given;
 use crate::played::Played;
@@ -71,6 +73,7 @@ impl<S: Service, T: Stops> Play<S, T> {
     ) -> Result<Play<S, T>, NoMemory>
         requires service { tables.iface.facts ≡ S.facts }
         requires playable { IsPlayable tables.iface script }
+        requires waits { no_query_waits tables.iface.facts ≡ true }
         requires unasked { T.asked stops ≡ 0 }
         requires unstruck { T.struck stops ≡ [] }
         ensures tables { IfOk result (λ p. p.tables ≡ tables) }
@@ -114,7 +117,7 @@ impl<S: Service, T: Stops> Play<S, T> {
 
     /// Plays all that is left, to the end: until no client can take a turn. `NoMemory` also where a step of its world wanted memory.
     pub fn play(&mut self, alloc: Global) -> Result<Played, NoMemory>
-        ensures played { IfOk result (λ played. IsPlayed (setting_of S.ask S.sound S.parts self.old.tables) T.test self.old.script self.old.plan played) }
+        ensures played { IfOk result (λ played. IsPlayed (stubs_of (setting_of S.ask S.sound S.parts self.old.tables)) T.test self.old.script self.old.plan played) }
         ensures tables { self.new.tables ≡ self.old.tables }
         ensures script { self.new.script ≡ self.old.script }
         ensures plan { self.new.plan ≡ self.old.plan }
@@ -264,7 +267,7 @@ impl<S: Service, T: Stops> Play<S, T> {
     // What the play came to, where nobody can take a turn.
     fn end(&self, alloc: Global) -> Result<Played, NoMemory>
         requires { NobodyGoes self.now.script self.now.view.seats }
-        ensures { IfOk result (λ played. IsPlayed (setting_of S.ask S.sound S.parts self.now.tables) T.test self.now.script self.now.plan played) }
+        ensures { IfOk result (λ played. IsPlayed (stubs_of (setting_of S.ask S.sound S.parts self.now.tables)) T.test self.now.script self.now.plan played) }
     {
         if self.world.refused() > 0 {
             return Err(NoMemory);
