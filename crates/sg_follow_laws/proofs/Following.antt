@@ -8,6 +8,7 @@ use Rattle.sg_base.specs.Lists.{Each}
 use Rattle.sg_base.specs.declared.call.Call.{Call}
 use Rattle.sg_base.specs.declared.reply.Reply.{Reply}
 use Rattle.sg_facts.specs.declared.entry.Entry.{Entry}
+use Rattle.sg_facts.specs.Facts.{Facts}
 use Rattle.sg_facts.specs.Trace.{Boot, Run}
 use Rattle.sg_hist.specs.Clients.{calls_of}
 use Rattle.sg_hist.specs.Recovered.{HasItem, stop_in, struck_in}
@@ -31,7 +32,7 @@ use Rattle.sg_world.specs.declared.did.Did.TheVariants.{Answered, Blocked as Wai
 use Rattle.sg_world.specs.Steps.{Steps, WantsMemory}
 use Rattle.sg_world_laws.specs.Setting.{Setting}
 use Rattle.sg_follow_laws.specs.Follows.{HasStopped, HoldsSo, IsFollowing, NeverStopped}
-use Rattle.sg_follow_laws.specs.Stages.{player_by, stage_of}
+use Rattle.sg_follow_laws.specs.Stages.{IsNextTurn, player_by, stage_of}
 use Rattle.sg_follow_laws.proofs.Fronts.{up_to_front, up_to_takes}
 use Rattle.sg_follow_laws.proofs.Onward.{front_of_play, whole_play}
 use Rattle.sg_follow_laws.proofs.Players.{new_players, same_players}
@@ -120,6 +121,18 @@ following_offer z script w client passed last first within f =
         following_happened z script (offered w client call) passed last (remarked z script (with_seat w client new) passed last client Offer
         (reseated z script w passed last client new first within f (sym (free_player script client (seat_of w client) free)) (λ held. cc held) (λ receipted. cc receipted)))
 
+-- and the stage behind it is that before
+pub stage_offered : (facts : Facts) (script : Script) (w : WorldView) (client passed last : ℕ) → 1 ≤ client → client ≤ length w.seats
+    → stage_of script (with_offer facts script w client) passed last ≡ stage_of script w passed last
+stage_offered facts script w client passed last first within = by (is_free_phase (seat_of w client).phase) refl (call_after facts script w.history client (length (calls_of w.history client)))
+  where
+    by : (b : Bool) → is_free_phase (seat_of w client).phase ≡ b → (call : Option Call) → stage_of script (cond b (with_call w client call) w) passed last ≡ stage_of script w passed last
+    by false free call = refl
+    by true free None = refl
+    by true free (Some call) =
+        ap (λ ps. record { history = w.history; players = ps; schedule = drop passed script.schedule; last = last })
+        (same_players script w.seats client (record (seat_of w client) { phase = Asked; call = call }) first within (sym (free_player script client (seat_of w client) free)))
+
 no_more : (calls : List ScriptCall) (k : ℕ) → slice_get calls k ≡ None → nat_lt k (length calls) ≡ false
 no_more calls k none = not_below k (length calls) (by calls k none)
   where
@@ -207,7 +220,23 @@ module _ (z : Setting) (script : Script) (x now : WorldView) (given : List (List
   pub following_turn : (handed : Option ℕ) → StepsInTurn z script x client handed now → IsFollowing z script now later client
   following_turn handed t = by_did t.did t.stepped.later t.stepped.steps t.later t.stepped.counted t.is
 
--- a turn that wanted memory changes nothing of it
+-- the same of an offer with the turn behind it
+module _ (z : Setting) (script : Script) (w : WorldView) (given : List (List ℕ)) (client passed last : ℕ) (is : IsPlaying z.iface script w.history w.seats given) (first : 1 ≤ client)
+    (within : client ≤ length w.seats) (f : IsFollowing z script w passed last) where
+  abbrev behind : WorldView
+  behind = with_offer z.iface.facts script w client
+
+  pub following_taken : (now : WorldView) (later : ℕ) (handed : Option ℕ) → IsNextTurn script (stage_of script w passed last) client later → IsPlaying z.iface script behind.history behind.seats given → RecoversSoFar z behind → RecoversSoFar z now
+      → StepsInTurn z script behind client handed now → IsFollowing z script now later client
+  following_taken now later handed next offered told_before told steps =
+      let same : stage_of script behind passed last ≡ stage_of script w passed last = stage_offered z.iface.facts script w client passed last first within in
+      following_turn z script behind now given client passed last later offered told_before told first (omega (arith, within, is.clients, offered.clients))
+      (offered_first z script w given client is first within) (following_offer z script w client passed last first within f)
+      (ap (next_turn script) same ∙ next.turn) (next.schedule ∙ ap (left_schedule script) (sym same)) handed steps
+
+-- ---- a turn that wanted memory
+
+-- it changes nothing of it
 pub following_wanted : (z : Setting) (script : Script) (x now : WorldView) (client passed last : ℕ) → WantsMemory z x client now → IsFollowing z script x passed last → IsFollowing z script now passed last
 following_wanted z script x now client passed last wants f = subst (λ y. IsFollowing z script y passed last) (sym wants.counted) (record { hold = f.hold; follows = f.follows })
 

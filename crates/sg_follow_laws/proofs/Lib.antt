@@ -10,3 +10,4 @@ pub mod Stopped
 pub mod There
 pub mod Turned
 pub mod Turns
+pub mod Whose
