@@ -254,7 +254,7 @@ module _ (z : Setting) (script : Script) (w : WorldView) (passed last : ℕ) (f 
   abbrev test : Entry → Bool
   test = is_in_first_boot z.iface.facts w.run.boots
 
-  -- where nobody can take a turn, the history is that of the play without stops, as far as nothing is promised of stops
+  -- where nobody can take a turn, it is as promised to the play without stops
   pub following_end : (plain : List Entry) → IsPlainPlay z.iface z.ask script plain → FollowsPlain z.iface.facts w.run w.history plain
   following_end plain play = by f.follows
     where
