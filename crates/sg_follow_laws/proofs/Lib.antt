@@ -1,0 +1,13 @@
+pub mod Created
+pub mod Following
+pub mod Fronts
+pub mod Numbered
+pub mod Onward
+pub mod Players
+pub mod Seats
+pub mod Stepped
+pub mod Stopped
+pub mod There
+pub mod Turned
+pub mod Turns
+pub mod Whose

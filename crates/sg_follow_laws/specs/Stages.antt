@@ -1,7 +1,7 @@
--- Which stage of the play without stops a play is at.
-use Rattle.std.specs.Prelude.{ℕ, ◌+◌, List, [], ◌∷◌, drop}
+-- Which stage of the play without stops a play is at, and whose turn it is there.
+use Rattle.std.specs.Prelude.{ℕ, ◌≡◌, ◌+◌, List, [], ◌∷◌, Some, drop}
 use Rattle.sg_base.specs.declared.reply.Reply.{Reply}
-use Rattle.sg_plain.specs.Plain.{Phase, Player, Stage, blocked, holding, player_at, replied}
+use Rattle.sg_plain.specs.Plain.{Phase, Player, Stage, blocked, holding, left_schedule, next_turn, player_at, replied}
 use Rattle.sg_play_laws.specs.Callers.{handed}
 use Rattle.sg_script.specs.declared.script.Script.{Script}
 use Rattle.sg_seat.specs.WorldView.{Seat, WorldView}
@@ -29,3 +29,8 @@ players_by script n (s ∷ seats) = player_by script n s ∷ players_by script (
 -- the stage of a play whose world is so, where so many turns of the schedule were taken or passed over, and this client took the last
 abbrev pub stage_of : Script → WorldView → ℕ → ℕ → Stage
 stage_of script w passed last = record { history = w.history; players = players_by script 1 w.seats; schedule = drop passed script.schedule; last = last }
+
+-- a client takes the next turn there, and so many turns of the schedule are taken or passed over then
+pub record IsNextTurn (script : Script) (stage : Stage) (client later : ℕ) : Type 0 where
+  pub turn : next_turn script stage ≡ Some client
+  pub schedule : drop later script.schedule ≡ left_schedule script stage
