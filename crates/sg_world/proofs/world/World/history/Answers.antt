@@ -17,5 +17,5 @@ pub returns-clause-waits : goal.returns-clause-waits
 returns-clause-waits g c =
     let x = c.self.inside.inner in
     subst (λ (y : Worlded). (client : ℕ) → 1 ≤ client → client ≤ length y.view.seats
-        → (seat_of y.view client).phase ≡ Blocked → answer y.tables.iface g.S.Service.ask (object_of y.tables.iface.facts y.view.history) (seat_of y.view client).call ≡ None) c.self.view_is
+    → (seat_of y.view client).phase ≡ Blocked → answer y.tables.iface g.S.Service.ask (object_of y.tables.iface.facts y.view.history) (seat_of y.view client).call ≡ None) c.self.view_is
     (λ client first last. (seated_now (setting_of g.S.Service.ask g.S.Service.sound g.S.Service.parts x.engine.tables) (view_in x) (stub_of x.engine) c.self.invariant.0.world.keeps client first last).waits)
