@@ -163,7 +163,7 @@ module _ (script : Script) (w : WorldView) (passed last : ℕ) where
 
 -- ---- nobody
 
-from_one : (l : List ℕ) (k n : ℕ) → list_all (λ client. nat_le 1 client) l ≡ true → slice_get l k ≡ Some n → 1 ≤ n
+pub from_one : (l : List ℕ) (k n : ℕ) → list_all (λ client. nat_le 1 client) l ≡ true → slice_get l k ≡ Some n → 1 ≤ n
 from_one [] k n all there = absurd (cc there)
 from_one (x ∷ l) zero n all there = let same : x ≡ n = cc there in subst (λ m. 1 ≤ m) same (least x (and_parts (nat_le 1 x) (list_all (λ client. nat_le 1 client) l) all).0)
   where

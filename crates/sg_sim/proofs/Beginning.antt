@@ -1,14 +1,15 @@
 -- Where a play begins.
-use Rattle.std.proofs.Common.{◌≡◌, ◌≢◌, ℕ, zero, suc, ◌-◌, ◌<◌, ◌≤◌, true, false, cond, List, [], ◌∷◌, length, map, refl, sym, ◌∙◌, ap, subst, arith, replicate, take}
+use Rattle.std.proofs.Common.{◌≡◌, ◌≢◌, ℕ, zero, suc, ◌-◌, ◌<◌, ◌≤◌, Bool, true, false, cond, List, [], ◌∷◌, length, map, refl, sym, ◌∙◌, ap, subst, arith, replicate, take}
 use Rattle.std.specs.Prelude.{nat_lt, slice_get, unwrap_or}
 use Rattle.std.proofs.lemmas.List.{length-replicate}
 use Rattle.sg_facts.specs.Facts.{Facts}
 use Rattle.sg_facts.specs.Interface.{Declared}
 use Rattle.sg_facts.specs.Limits.{last_client}
 use Rattle.sg_facts.specs.declared.entry.Entry.{Entry}
+use Rattle.sg_hist.specs.Clients.{calls_of}
 use Rattle.sg_hist.specs.Reading.{desc_of}
 use Rattle.sg_plain.specs.Calls.{most_client}
-use Rattle.sg_play_laws.specs.Callers.{AreCallers, IsCaller, SetsUpFirst, all_of_first, handed}
+use Rattle.sg_play_laws.specs.Callers.{AreCallers, IsCaller, SetsUpFirst, all_of_first, handed, is_receipted}
 use Rattle.sg_play_laws.specs.Given.{given_in}
 use Rattle.sg_play_laws.specs.Playable.{AreClients, IsPlayable}
 use Rattle.sg_play_laws.specs.Plays.{IsPlaying}
@@ -74,3 +75,29 @@ playing_new i script playable =
         each = λ client first last. none_given (handed (seat_in (replicate n no_seat) client)) ∙ sym (given_at n (client - 1));
       };
     }
+
+-- ---- ids
+
+length_map : (es : List Entry) → length (map (λ (e : Entry). desc_of e.reply) es) ≡ length es
+length_map [] = refl
+length_map (e ∷ es) = ap suc (length_map es)
+
+length_taken : (es : List Entry) (n : ℕ) → n ≤ length es → length (take n es) ≡ n
+length_taken es zero few = refl
+length_taken [] (suc n) few = absurd (omega (arith, few))
+length_taken (e ∷ es) (suc n) few = ap suc (length_taken es n (omega (arith, few)))
+
+few_handed : (s : Seat) → handed s ≤ s.seq
+few_handed s = by (is_receipted s.phase)
+  where
+    by : (b : Bool) → cond b (s.seq - 1) s.seq ≤ s.seq
+    by true = omega arith
+    by false = omega arith
+
+-- a client was given as many ids as replies were handed over to it
+pub given_count : (i : Declared) (script : Script) (history : List Entry) (seats : List Seat) (given : List (List ℕ)) → IsPlaying i script history seats given → (client : ℕ) → 1 ≤ client → client ≤ length seats
+    → length (given_in given client) ≡ handed (seat_in seats client)
+given_count i script history seats given is client first last =
+    let s = seat_in seats client in
+    ap (λ (l : List ℕ). length l) (sym (is.have_given.each client first last)) ∙ length_map (take (handed s) (calls_of history client))
+    ∙ length_taken (calls_of history client) (handed s) (omega (arith, few_handed s, (is.callers.each client first last).count))

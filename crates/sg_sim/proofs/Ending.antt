@@ -6,10 +6,18 @@ use Rattle.std.proofs.lemmas.Bool.Decides.{nat_tests}
 use Rattle.sg_facts.specs.Legal.{IsLegal}
 use Rattle.sg_facts.proofs.Legality.{IsLegal-from}
 use Rattle.sg_facts.specs.Trace.{run_of}
+use Rattle.sg_base.specs.declared.call.Call.{Call}
+use Rattle.sg_facts.specs.Facts.{fun_at}
+use Rattle.sg_facts.specs.Object.{Object}
+use Rattle.sg_follow_laws.proofs.Following.{following_end}
+use Rattle.sg_follow_laws.proofs.Whose.{nobody_next}
 use Rattle.sg_hist.specs.Recovered.{EndsUsed, HasRecovered, IsRecovered, struck_in}
 use Rattle.sg_hist.specs.declared.ended.End.{End}
 use Rattle.sg_hist.specs.declared.ended.Ended.{Ended}
-use Rattle.sg_plain.specs.Calls.{AreEnds}
+use Rattle.sg_plain.specs.Calls.{AreEnds, most_client}
+use Rattle.sg_plain_laws.proofs.Alone.{plain_alone}
+use Rattle.sg_plain_laws.proofs.Plays.{plain_ends}
+use Rattle.sg_play_laws.specs.Callers.{is_setting_up}
 use Rattle.sg_plain.specs.Promises.{AreScriptsCalls, AreWoken}
 use Rattle.sg_play.specs.Recovering.{RecoversSoFar}
 use Rattle.sg_play_laws.proofs.Ending.{playing_ends, playing_waiting}
@@ -19,7 +27,8 @@ use Rattle.sg_play_laws.specs.Turns.{NobodyGoes}
 use Rattle.sg_script.specs.declared.script.Script.{Script}
 use Rattle.sg_seat.specs.WorldView.{Seat, WorldView, no_seat, offered_by, seat_in, unanswered}
 use Rattle.sg_sim.specs.Inside.Keeps.{KeepsPlay}
-use Rattle.sg_sim.specs.Played.{IsPlayed}
+use Rattle.sg_sim.proofs.Beginning.{clients_from_one}
+use Rattle.sg_sim.specs.Played.{FollowsSchedule, IsPlayed}
 use Rattle.sg_wake_laws.proofs.Waking.{waking_used, waking_woken}
 use Rattle.sg_world_laws.specs.Setting.{Setting, stubs_of}
 
@@ -72,7 +81,25 @@ not_withdrawn : (w : WorldView) → w.withdrawn ≡ [] → unanswered w ≡ flat
 not_withdrawn w none = ap (λ l. flat_map offered_by w.seats ++ map (λ x. x.call) l) none ∙ append-nil (flat_map offered_by w.seats)
 
 module _ (z : Setting) (test : ℕ → List ℕ → List ℕ → Type 0) (script : Script) (plan : List ℕ) (w : WorldView) (given : List (List ℕ)) (passed last : ℕ)
-    (is : KeepsPlay z script w given passed last) (told : RecoversSoFar z w) (nobody : NobodyGoes script w.seats) where
+    (is : KeepsPlay z script w given passed last) (told : RecoversSoFar z w) (settled : is_setting_up script w.seats ≡ false) (nobody : NobodyGoes script w.seats) where
+  blocks : (o : Object) (call : Call) → z.ask o call ≡ None → (fun_at z.iface.facts.funs call.fun).block ≡ true
+  blocks = told.set.law.shape.blocks
+
+  some : 1 ≤ most_client script.clients
+  some = clients_from_one 0 script.clients is.playing.playable.clients
+
+  follows : FollowsSchedule z.iface z.ask script w.run w.history
+  follows =
+      let plain = plain_ends z.iface z.ask script blocks is.playing.playable.setup some is.playing.playable.turns in
+      record {
+        plain = plain.0;
+        is_plain = plain.1;
+        follows = following_end z script w passed last is.following (nobody_next z.iface script w given passed last is.playing settled nobody) plain.0 plain.1;
+        alone = plain_alone z.iface z.ask script blocks is.playing.playable.setup is.playing.playable.turns some (is.playing.playable.fit 1) w.history plain.0 (ends_from script 1 w.seats)
+            (IsLegal-from z.iface z.ask w.history told.legal) (playing_calls z.iface script w.history w.seats given is.playing)
+            (playing_ends z.iface z.ask script w.history w.seats given is.playing nobody (λ client first there. told.waits client first there)) plain.1;
+      }
+
   pub played : (ended : Ended) → ended.history.items ≡ w.history → run_of ended.trace ≡ w.run → ended.ends ≡ ends_from script 1 w.seats
       → IsRecovered (stubs_of z) w.history w.run (unanswered w) → test w.run.points (struck_in w.run) plan → IsPlayed (stubs_of z) test script plan ended
   played ended history run ends recovered stops = record {
@@ -87,5 +114,6 @@ module _ (z : Setting) (test : ℕ → List ℕ → List ℕ → Type 0) (script
     stops = subst (λ r. test r.points (struck_in r) plan) (sym run) stops;
     ends = subst (λ h. AreEnds z.iface z.ask h script ended.ends) (sym history) (subst (AreEnds z.iface z.ask w.history script) (sym ends)
         (playing_ends z.iface z.ask script w.history w.seats given is.playing nobody (λ client first there. told.waits client first there)));
+    schedule = subst (λ h. FollowsSchedule z.iface z.ask script (run_of ended.trace) h) (sym history) (subst (λ r. FollowsSchedule z.iface z.ask script r w.history) (sym run) follows);
     woken = subst (λ h. AreWoken z.iface.facts h (run_of ended.trace)) (sym history) (subst (AreWoken z.iface.facts w.history) (sym run) (waking_woken z w is.none_waits is.waking));
   }

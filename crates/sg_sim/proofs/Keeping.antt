@@ -4,6 +4,9 @@ use Rattle.std.specs.declared.option.Option.{Option}
 use Rattle.std.specs.Prelude.{nat_lt}
 use Rattle.sg_base.specs.declared.call.Call.{Call}
 use Rattle.sg_facts.specs.Facts.{Facts}
+use Rattle.sg_follow_laws.proofs.Following.{following_happened, following_new, following_offer, following_taken, following_wanted}
+use Rattle.sg_follow_laws.specs.Follows.{IsFollowing}
+use Rattle.sg_follow_laws.specs.Stages.{IsNextTurn, stage_of}
 use Rattle.sg_hist.specs.Clients.{calls_of}
 use Rattle.sg_plain.specs.Calls.{call_after, most_client, script_calls}
 use Rattle.sg_play.specs.Turning.{StepsInTurn, behind_step, with_call, with_offer, with_leaving}
@@ -100,18 +103,20 @@ kept_new z script playable none_waits w new = subst (λ x. KeepsPlay z script x 
   playing = playing_new z.iface script playable;
   none_withdrawn = refl;
   last_there = omega arith;
+  following = following_new z script (new_world (replicate (most_client script.clients) no_seat)) refl;
   waking = waking_new z (new_world (replicate (most_client script.clients) no_seat)) (most_client script.clients) refl;
   none_waits = none_waits;
 })
 
 module _ (z : Setting) (script : Script) (w : WorldView) (given : List (List ℕ)) (passed last : ℕ) (is : KeepsPlay z script w given passed last) where
   -- a client took its turn, of which so many turns of the schedule are behind it then
-  pub kept_turn : (client : ℕ) → 1 ≤ client → client ≤ length w.seats → (later : ℕ) (now : WorldView) (gave : List (List ℕ)) → TakesTurn z script w given client now gave
+  pub kept_turn : (client : ℕ) → 1 ≤ client → client ≤ length w.seats → (later : ℕ) → IsNextTurn script (stage_of script w passed last) client later → (now : WorldView) (gave : List (List ℕ)) → TakesTurn z script w given client now gave
       → KeepsPlay z script now gave later client
-  kept_turn client first there later now gave t = record {
+  kept_turn client first there later next now gave t = record {
     playing = t.playing;
     none_withdrawn = none_stepped z script (behind_offer z script w given client) client t.handed now t.steps ∙ none_offered z.iface.facts script w client ∙ is.none_withdrawn;
     last_there = omega (arith, there, as_many z script w now given gave is.playing t.playing);
+    following = following_taken z script w given client passed last is.playing first there is.following now later t.handed next t.offered t.told_before t.told t.steps;
     waking = waking_turn z script (behind_offer z script w given client) now given client t.handed t.offered t.told_before t.told first
         (subst (λ n. client ≤ n) (sym (as_many z script w (behind_offer z script w given client) given given is.playing t.offered)) there)
         (waking_offer z script w given client is.playing first there is.waking) t.steps;
@@ -124,10 +129,17 @@ module _ (z : Setting) (script : Script) (w : WorldView) (given : List (List ℕ
     playing = m.playing;
     none_withdrawn = by m.missed ∙ is.none_withdrawn;
     last_there = omega (arith, is.last_there, as_many z script w now given given is.playing m.playing);
+    following = following m.missed;
     waking = waking m.missed;
     none_waits = is.none_waits;
   })
     where
+      following : (now ≡ w) ⊎ (now ≡ happened w) ⊎ (IsPlaying z.iface script (behind_offer z script w given client).history (behind_offer z script w given client).seats given × WantsMemory z (behind_offer z script w given client) client now)
+          → IsFollowing z script now passed last
+      following (inl same) = subst (λ x. IsFollowing z script x passed last) (sym same) is.following
+      following (inr (inl same)) = subst (λ x. IsFollowing z script x passed last) (sym same) (following_happened z script w passed last is.following)
+      following (inr (inr both)) = following_wanted z script (behind_offer z script w given client) now client passed last both.1 (following_offer z script w client passed last first there is.following)
+
       waking : (now ≡ w) ⊎ (now ≡ happened w) ⊎ (IsPlaying z.iface script (behind_offer z script w given client).history (behind_offer z script w given client).seats given × WantsMemory z (behind_offer z script w given client) client now)
           → IsWaking z now
       waking (inl same) = subst (IsWaking z) (sym same) is.waking

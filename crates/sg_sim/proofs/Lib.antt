@@ -1,5 +1,7 @@
 mod Beginning
+mod Calls
 mod Ending
 mod Keeping
 mod Lists
 mod Taking
+mod Turning

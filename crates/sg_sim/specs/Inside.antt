@@ -1,4 +1,6 @@
 -- What the contracts of private functions cite.
+pub mod Ends
 pub mod Givens
 pub mod Keeps
+pub mod Next
 pub mod Taken

@@ -31,5 +31,7 @@ pub record IsPlayed (s : Stubs) (test : ℕ → List ℕ → List ℕ → Type 0
   pub stops : test (run_of ended.trace).points (struck_in (run_of ended.trace)) plan
   -- each client with a call is done, or waits in its next call, which the service can't answer
   pub ends : AreEnds s.interface s.ask ended.history.items script ended.ends
+  -- the turns are those of the play without stops until the service stops
+  pub schedule : FollowsSchedule s.interface s.ask script (run_of ended.trace) ended.history.items
   -- who waits is woken before it waits again
   pub woken : AreWoken s.interface.facts ended.history.items (run_of ended.trace)

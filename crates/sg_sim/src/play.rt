@@ -1,11 +1,14 @@
 // A play: whose turn it is, and the play to its end.
-ghost use Rattle.std.specs.Prelude.{◌≡◌, ◌≤◌, ◌<◌, ℕ, List, [], true, false, None, IfOk, IfSome, OnOk, length, replicate};
+ghost use Rattle.std.specs.Prelude.{◌≡◌, ◌≤◌, ◌<◌, ◌++◌, ℕ, List, [], true, false, None, IfOk, IfSome, OnOk, length, nat_lt, replicate};
 ghost use Rattle.sg_play_laws.specs.Callers.{is_setting_up};
 ghost use Rattle.sg_play_laws.specs.Ends.{end_of, ends_from};
+ghost use Rattle.sg_sim.specs.Inside.Ends.{end_by};
 ghost use Rattle.sg_play_laws.specs.Playable.{IsPlayable};
-ghost use Rattle.sg_play_laws.specs.Turns.{NobodyGoes, may_take_turn};
-ghost use Rattle.sg_plain.specs.Calls.{most_client};
-ghost use Rattle.sg_seat.specs.WorldView.{new_world, no_seat, seat_of};
+ghost use Rattle.sg_play_laws.specs.Turns.{NobodyGoes, may_go};
+ghost use Rattle.sg_plain.specs.Calls.{most_client, script_calls};
+ghost use Rattle.sg_follow_laws.specs.Stages.{IsNextTurn};
+ghost use Rattle.sg_sim.specs.Inside.Next.{IsFirstBehind, NoneBehind, NoneScheduled, may_go_next, stage_now};
+ghost use Rattle.sg_seat.specs.WorldView.{is_blocked_phase, new_world, no_seat, seat_of};
 ghost use Rattle.sg_sim.specs.Played.{IsPlayed};
 ghost use Rattle.sg_wake_laws.specs.Waking.{no_query_waits};
 ghost use Rattle.sg_world.specs.Worlded.{setting_of};
@@ -106,10 +109,7 @@ impl<S: Service, T: Stops> Play<S, T> {
             if !self.is_setting_up() {
                 return Ok(());
             }
-            let turn = Turn {
-                client: FIRST,
-                passed: self.passed,
-            };
+            let turn = self.setup_turn();
             self.take(alloc, turn)?;
         }
         Err(NoMemory)
@@ -140,11 +140,12 @@ impl<S: Service, T: Stops> Play<S, T> {
         &self.world
     }
 
-    // A client takes its turn. After `NoMemory` it has still to take it.
+    // A client takes its turn, which is the next. After `NoMemory` it has still to take it.
     fn take(&mut self, alloc: Global, turn: Turn) -> Result<(), NoMemory>
         requires first { 1 ≤ turn.client }
         requires last { turn.client ≤ length self.old.view.seats }
         requires setup { is_setting_up self.old.script self.old.view.seats ≡ true → turn.client ≡ 1 }
+        requires next { IsNextTurn self.old.script (stage_now self.old) turn.client turn.passed }
         ensures tables { self.new.tables ≡ self.old.tables }
         ensures script { self.new.script ≡ self.old.script }
         ensures plan { self.new.plan ≡ self.old.plan }
@@ -181,13 +182,12 @@ impl<S: Service, T: Stops> Play<S, T> {
         ensures first { IfSome result (λ turn. 1 ≤ turn.client) }
         ensures last { IfSome result (λ turn. turn.client ≤ length self.now.view.seats) }
         ensures setup { IfSome result (λ turn. is_setting_up self.now.script self.now.view.seats ≡ true → turn.client ≡ 1) }
+        ensures next { IfSome result (λ turn. IsNextTurn self.now.script (stage_now self.now) turn.client turn.passed) }
+        ensures settled { result ≡ None → is_setting_up self.now.script self.now.view.seats ≡ false }
         ensures over { result ≡ None → NobodyGoes self.now.script self.now.view.seats }
     {
         if self.is_setting_up() {
-            return Some(Turn {
-                client: FIRST,
-                passed: self.passed,
-            });
+            return Some(self.setup_turn());
         }
         match self.next_scheduled() {
             Some(turn) => Some(turn),
@@ -195,13 +195,29 @@ impl<S: Service, T: Stops> Play<S, T> {
         }
     }
 
-    // The next turn of the schedule whose client can take it.
+    // The turn of client 1 while it is at the calls of the setup.
+    fn setup_turn(&self) -> Turn
+        requires { is_setting_up self.now.script self.now.view.seats ≡ true }
+        ensures client { result.client ≡ 1 }
+        ensures last { result.client ≤ length self.now.view.seats }
+        ensures next { IsNextTurn self.now.script (stage_now self.now) result.client result.passed }
+    {
+        Turn {
+            client: FIRST,
+            passed: self.passed,
+        }
+    }
+
+    // The next turn of the schedule whose client can take it, behind the setup.
     fn next_scheduled(&self) -> Option<Turn>
+        requires settled { is_setting_up self.now.script self.now.view.seats ≡ false }
         ensures first { IfSome result (λ turn. 1 ≤ turn.client) }
         ensures last { IfSome result (λ turn. turn.client ≤ length self.now.view.seats) }
+        ensures next { IfSome result (λ turn. IsNextTurn self.now.script (stage_now self.now) turn.client turn.passed) }
+        ensures over { result ≡ None → NoneScheduled self.now (length self.now.script.schedule) }
     {
         let schedule = self.script.schedule.as_slice();
-        for at in self.passed..schedule.len() {
+        'turns: for at in self.passed..schedule.len() {
             let client = schedule[at];
             if self.can_go(client) {
                 return Some(Turn {
@@ -213,29 +229,31 @@ impl<S: Service, T: Stops> Play<S, T> {
         None
     }
 
-    // The turn of the next client that can take one: in ascending numbers behind the client of the last turn, and then from 1 on. The
-    // schedule is over.
+    // The turn of the next client that can take one, where the schedule gives none: in ascending numbers behind the client of the last
+    // turn, and then from 1 on.
     fn next_in_circle(&self) -> Option<Turn>
+        requires settled { is_setting_up self.now.script self.now.view.seats ≡ false }
+        requires unscheduled { NoneScheduled self.now (length self.now.script.schedule) }
         ensures first { IfSome result (λ turn. 1 ≤ turn.client) }
         ensures last { IfSome result (λ turn. turn.client ≤ length self.now.view.seats) }
+        ensures next { IfSome result (λ turn. IsNextTurn self.now.script (stage_now self.now) turn.client turn.passed) }
         ensures over { result ≡ None → NobodyGoes self.now.script self.now.view.seats }
     {
-        let next = match self.next_behind(self.last, self.clients()) {
-            Some(client) => client,
-            None => self.next_behind(0, self.last)?,
-        };
-        Some(Turn {
-            client: next,
-            passed: self.script.schedule.len(),
-        })
+        let passed = self.script.schedule.len();
+        if let Some(client) = self.next_behind(self.last, self.clients()) {
+            return Some(Turn { client, passed });
+        }
+        match self.next_behind(0, self.last) {
+            Some(client) => Some(Turn { client, passed }),
+            None => None,
+        }
     }
 
     // The first client behind one, and up to another, that can take a turn.
     fn next_behind(&self, behind: u8, last: u8) -> Option<u8>
         requires { last ≤ length self.now.view.seats }
-        ensures first { IfSome result (λ client. 1 ≤ client) }
-        ensures last { IfSome result (λ client. client ≤ length self.now.view.seats) }
-        ensures over { result ≡ None → (client : ℕ) → behind < client → client ≤ last → may_take_turn self.now.script client (seat_of self.now.view client) ≡ false }
+        ensures some { IfSome result (IsFirstBehind self.now behind last) }
+        ensures none { result ≡ None → NoneBehind self.now behind last }
     {
         'clients: for before in behind..last {
             if self.can_go(before + 1) {
@@ -249,24 +267,37 @@ impl<S: Service, T: Stops> Play<S, T> {
     fn can_go(&self, client: u8) -> bool
         ensures first { result ≡ true → 1 ≤ client }
         ensures last { result ≡ true → client ≤ length self.now.view.seats }
-        ensures may { 1 ≤ client → client ≤ length self.now.view.seats → result ≡ may_take_turn self.now.script client (seat_of self.now.view client) }
+        ensures may { 1 ≤ client → result ≡ may_go_next self.now client }
     {
-        if client < FIRST || client > self.clients() {
+        if !self.has(client) {
             return false;
         }
-        match self.world.phase(client) {
-            Phase::Idle | Phase::Left => {
-                let done = self.world.seq(client) as usize;
-                script_call(&self.script, client, done).is_some()
-            }
-            Phase::Asked | Phase::Held | Phase::Receipted => true,
-            Phase::Blocked => false,
-        }
+        may_go(self.world.phase(client), self.has_more(client))
+    }
+
+    // Whether a client is one of the world.
+    fn has(&self, client: u8) -> bool
+        ensures first { result ≡ true → 1 ≤ client }
+        ensures last { result ≡ true → client ≤ length self.now.view.seats }
+        ensures beyond { result ≡ false → 1 ≤ client → length self.now.view.seats < client }
+    {
+        client >= FIRST && client <= self.clients()
+    }
+
+    // Whether a client has more calls than it has entries.
+    fn has_more(&self, client: u8) -> bool
+        requires first { 1 ≤ client }
+        requires last { client ≤ length self.now.view.seats }
+        ensures { result ≡ nat_lt (seat_of self.now.view client).seq (length (script_calls self.now.script client)) }
+    {
+        let done = self.world.seq(client) as usize;
+        script_call(&self.script, client, done).is_some()
     }
 
     // What the play came to, where nobody can take a turn.
     fn end(&self, alloc: Global) -> Result<Played, NoMemory>
-        requires { NobodyGoes self.now.script self.now.view.seats }
+        requires settled { is_setting_up self.now.script self.now.view.seats ≡ false }
+        requires nobody { NobodyGoes self.now.script self.now.view.seats }
         ensures { IfOk result (λ played. IsPlayed (stubs_of (setting_of S.ask S.sound S.parts self.now.tables)) T.test self.now.script self.now.plan played) }
     {
         if self.world.refused() > 0 {
@@ -286,12 +317,23 @@ impl<S: Service, T: Stops> Play<S, T> {
     {
         let mut ends = EndList::new(alloc);
         'clients: for before in 0..self.clients() {
-            let client = before + 1;
-            if script_call(&self.script, client, 0).is_some() {
-                ends.push((client, self.end_of(alloc, client)?))?;
-            }
+            self.add_end(alloc, before + 1, &mut ends)?;
         }
         Ok(ends)
+    }
+
+    // Adds how a client ended, where it has a call.
+    fn add_end(&self, alloc: Global, client: u8, ends: &mut EndList) -> Result<(), NoMemory>
+        requires first { 1 ≤ client }
+        requires last { client ≤ length self.now.view.seats }
+        ensures { OnOk result (ends.new ≡ ends.old ++ end_by self.now.script client (seat_of self.now.view client)) }
+    {
+        if script_call(&self.script, client, 0).is_none() {
+            return Ok(());
+        }
+        let end = self.end_of(alloc, client)?;
+        ends.push((client, end))?;
+        Ok(())
     }
 
     // How a client ended.
@@ -300,11 +342,27 @@ impl<S: Service, T: Stops> Play<S, T> {
         requires last { client ≤ length self.now.view.seats }
         ensures { IfOk result (λ end. end ≡ end_of (seat_of self.now.view client)) }
     {
-        match self.world.phase(client) {
-            Phase::Blocked => Ok(End::Blocked(self.world.call(client).copy(alloc)?)),
-            Phase::Idle | Phase::Left | Phase::Asked | Phase::Held | Phase::Receipted => {
-                Ok(End::Done)
-            }
+        if !waits(self.world.phase(client)) {
+            return Ok(End::Done);
         }
+        Ok(End::Blocked(self.world.call(client).copy(alloc)?))
     }
+}
+
+// Whether a client in a phase may take a turn, which may have more calls.
+fn may_go(phase: Phase, more: bool) -> bool
+    ensures { result ≡ may_go phase more }
+{
+    match phase {
+        Phase::Idle | Phase::Left => more,
+        Phase::Asked | Phase::Held | Phase::Receipted => true,
+        Phase::Blocked => false,
+    }
+}
+
+// Whether a client in a phase waits.
+fn waits(phase: Phase) -> bool
+    ensures { result ≡ is_blocked_phase phase }
+{
+    matches!(phase, Phase::Blocked)
 }

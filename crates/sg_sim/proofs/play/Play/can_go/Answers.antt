@@ -1,5 +1,23 @@
--- A client without a call under way may go where it has one more.
+-- A client may take a turn in a play where it may in the play without stops.
+use Rattle.std.proofs.Common.{◌≡◌, ◌∙◌, ap, sym, subst}
+use Rattle.sg_follow_laws.proofs.Turns.{turns_alike, turns_beyond}
+use Rattle.sg_play_laws.specs.Turns.{may_go}
+use Rattle.sg_seat.specs.WorldView.{seat_of}
+use Rattle.sg_sim.specs.Inside.Givens.{lists_of}
+use Rattle.sg_sim.specs.Inside.Keeps.{KeepsPlay}
+use Rattle.sg_sim.specs.Playing.{Playing}
+use Rattle.sg_world.specs.Worlded.{setting_of}
 use Rattle.sg_sim.proofs.play.Play.can_go.Goals as goal
 
-pub returns-in-Idle-clause-may : goal.returns-in-Idle-clause-may
-returns-in-Idle-clause-may g c = λ first last. ?
+pub returns-then-not-has-clause-may : goal.returns-then-not-has-clause-may
+returns-then-not-has-clause-may g c = λ first.
+    let p = c.args.self.now in
+    sym (turns_beyond p.script p.view p.passed p.last c.args.client (c.has.ensures.beyond c.if-not-has.true first))
+
+pub returns-clause-may : goal.returns-clause-may
+returns-clause-may g c = λ first.
+    let p = c.args.self.now in
+    let keeps = subst (λ (q : Playing). KeepsPlay (setting_of g.S.Service.ask g.S.Service.sound g.S.Service.parts q.tables) q.script q.view (lists_of c.self.inside.given) q.passed q.last) c.self.view_is c.self.invariant in
+    let phase = c.phase.ensures.phase ∙ ap (λ (q : Playing). (seat_of q.view c.args.client).phase) c.self.view_is in
+    c.may_go.ensures ∙ ap (λ ph. may_go ph c.has_more.result) phase ∙ ap (may_go (seat_of p.view c.args.client).phase) c.has_more.ensures
+    ∙ sym (turns_alike p.tables.iface p.script p.view (lists_of c.self.inside.given) keeps.playing p.passed p.last c.args.client first (c.has.ensures.last c.if-not-has.false))

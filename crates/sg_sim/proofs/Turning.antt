@@ -1,0 +1,50 @@
+-- Whose turn it is.
+use Rattle.std.proofs.Common.{◌≡◌, ◌⊎◌, inl, inr, ℕ, zero, suc, ◌+◌, ◌<◌, ◌≤◌, true, false, List, [], ◌∷◌, None, Some, length, refl, sym, ◌∙◌, ap, subst, arith}
+use Rattle.std.specs.Prelude.{slice_get}
+use Rattle.std.proofs.lemmas.Bool.{cases_lt}
+use Rattle.sg_follow_laws.proofs.Turns.{turns_alike, turns_beyond}
+use Rattle.sg_follow_laws.proofs.Whose.{next_around, next_behind, scheduled_turn, setup_turn}
+use Rattle.sg_follow_laws.specs.Stages.{IsNextTurn, stage_of}
+use Rattle.sg_facts.specs.Interface.{Declared}
+use Rattle.sg_play_laws.specs.Callers.{is_setting_up}
+use Rattle.sg_play_laws.specs.Plays.{IsPlaying}
+use Rattle.sg_play_laws.specs.Turns.{NobodyGoes}
+use Rattle.sg_sim.specs.Inside.Next.{IsFirstBehind, NoneBehind, NoneScheduled, may_go_next, stage_now}
+use Rattle.sg_sim.specs.Playing.{Playing}
+
+there_below : (xs : List ℕ) (k x : ℕ) → slice_get xs k ≡ Some x → k < length xs
+there_below [] k x there = absurd (cc there)
+there_below (y ∷ xs) zero x there = omega arith
+there_below (y ∷ xs) (suc k) x there = omega (arith, there_below xs k x there)
+
+module _ (p : Playing) (over : is_setting_up p.script p.view.seats ≡ false) where
+  pub from_schedule : (at client : ℕ) → p.passed ≤ at → slice_get p.script.schedule at ≡ Some client → may_go_next p client ≡ true → NoneScheduled p at → IsNextTurn p.script (stage_now p) client (at + 1)
+  from_schedule at client from there may before = scheduled_turn p.script p.view p.passed p.last over at client from there may (λ k other passed below is. before k other passed below is)
+
+  pub more_scheduled : (at client : ℕ) → NoneScheduled p at → slice_get p.script.schedule at ≡ Some client → may_go_next p client ≡ false → NoneScheduled p (at + 1)
+  more_scheduled at client before there may k other from below is = by (cases_lt k at)
+    where
+      by : (k < at) ⊎ (at ≤ k) → may_go_next p other ≡ false
+      by (inl less) = before k other from less is
+      by (inr more) =
+          let same : k ≡ at = omega (arith, below, more) in
+          let its : other ≡ client = let both : Some other ≡ Some client = sym is ∙ ap (slice_get p.script.schedule) same ∙ there in cc both in
+          ap (may_go_next p) its ∙ may
+
+  module _ (none : NoneScheduled p (length p.script.schedule)) where
+    all_scheduled : (k other : ℕ) → p.passed ≤ k → slice_get p.script.schedule k ≡ Some other → may_go_next p other ≡ false
+    all_scheduled k other from there = none k other from (there_below p.script.schedule k other there) there
+
+    pub from_behind : (client : ℕ) → IsFirstBehind p p.last (length p.view.seats) client → IsNextTurn p.script (stage_now p) client (length p.script.schedule)
+    from_behind client f = next_behind p.script p.view p.passed p.last over all_scheduled client f.above f.within f.may f.before
+
+    pub from_around : NoneBehind p p.last (length p.view.seats) → (client : ℕ) → IsFirstBehind p 0 p.last client → IsNextTurn p.script (stage_now p) client (length p.script.schedule)
+    from_around none_behind client f = next_around p.script p.view p.passed p.last over all_scheduled none_behind client (omega (arith, f.above)) f.within f.may (λ other first. f.before other (omega (arith, first)))
+
+-- nobody may
+pub nobody : (i : Declared) (p : Playing) (given : List (List ℕ)) → IsPlaying i p.script p.view.history p.view.seats given → NoneBehind p p.last (length p.view.seats) → NoneBehind p 0 p.last → NobodyGoes p.script p.view.seats
+nobody i p given is behind around client first last = sym (turns_alike i p.script p.view given is p.passed p.last client first last) ∙ by (cases_lt p.last client)
+  where
+    by : (p.last < client) ⊎ (client ≤ p.last) → may_go_next p client ≡ false
+    by (inl more) = behind client more last
+    by (inr less) = around client (omega (arith, first)) less

@@ -1,0 +1,10 @@
+-- How one client ends.
+use Rattle.std.specs.Prelude.{ℕ, if◌then◌else◌, List, [], ◌∷◌}
+use Rattle.sg_hist.specs.declared.ended.End.{End}
+use Rattle.sg_play_laws.specs.Ends.{end_of, has_calls}
+use Rattle.sg_script.specs.declared.script.Script.{Script}
+use Rattle.sg_seat.specs.WorldView.{Seat}
+
+-- the end of a client, where it has a call
+abbrev pub end_by : Script → ℕ → Seat → List (ℕ × End)
+end_by script client s = if has_calls script client then (client, end_of s) ∷ [] else []

@@ -1,0 +1,27 @@
+-- Whose turn it is.
+use Rattle.std.specs.Prelude.{ℕ, ◌≡◌, ◌<◌, ◌≤◌, Bool, true, false, Some, slice_get}
+use Rattle.sg_follow_laws.specs.Stages.{IsNextTurn, stage_of}
+use Rattle.sg_plain.specs.Plain.{Stage, may_turn}
+use Rattle.sg_sim.specs.Playing.{Playing}
+
+-- the stage that a play is at, and whether a client may take a turn there
+abbrev pub stage_now : Playing → Stage
+stage_now p = stage_of p.script p.view p.passed p.last
+
+abbrev pub may_go_next : Playing → ℕ → Bool
+may_go_next p client = may_turn (stage_now p) client
+
+-- the first client behind one, and up to another, that may take a turn
+pub record IsFirstBehind (p : Playing) (behind last client : ℕ) : Type 0 where
+  pub above : behind < client
+  pub within : client ≤ last
+  pub may : may_go_next p client ≡ true
+  pub before : (other : ℕ) → behind < other → other < client → may_go_next p other ≡ false
+
+-- none of them may
+abbrev pub NoneBehind : Playing → ℕ → ℕ → Type 0
+NoneBehind p behind last = (client : ℕ) → behind < client → client ≤ last → may_go_next p client ≡ false
+
+-- no client of the turns of the schedule up to one may take it
+abbrev pub NoneScheduled : Playing → ℕ → Type 0
+NoneScheduled p to = (k client : ℕ) → p.passed ≤ k → k < to → slice_get p.script.schedule k ≡ Some client → may_go_next p client ≡ false
