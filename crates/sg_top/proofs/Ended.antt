@@ -8,7 +8,7 @@ use Rattle.sg_hist.specs.declared.ended.End.TheVariants.{Done}
 use Rattle.sg_hist.specs.Clients.{calls_of}
 use Rattle.sg_facts.specs.Facts.{Facts}
 use Rattle.sg_script.specs.declared.script.ScriptCall.{ScriptCall}
-use Rattle.sg_sim.specs.Script.{AreCalls}
+use Rattle.sg_first_play.specs.Script.{AreCalls}
 use Rattle.sg_top.specs.Headline.{IsClientEnd}
 
 -- all entries are client 1's, and there is one for each call

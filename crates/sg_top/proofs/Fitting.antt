@@ -22,7 +22,7 @@ use Rattle.sg_script.specs.Numbers.{counts_as}
 use Rattle.sg_script.specs.Scripts.{arg_of, script_call_of, calls_of_setup, clients_of, declared_fun, declared_from, placed, with_client}
 use Rattle.sg_script.specs.Flaws.{written_args_fit as written_fit, call_flaws, calls_before, calls_flaws, calls_in, client_flaws, flaws_behind, fun_flaws, inner_flaws, part_flaws}
 use Rattle.sg_script.proofs.Held.{back_none, both, calls_few, counted, front_none, is_true, not_flawed, part_few}
-use Rattle.sg_sim.specs.Script.{args_fit, call_fits, calls_fit}
+use Rattle.sg_plain.specs.Script.{args_fit, call_fits, calls_fit}
 use Rattle.sg_facts.specs.Facts.{Facts}
 use Rattle.sg_script.specs.Reads.{IsScript}
 use Rattle.sg_check_statements.specs.Says.{service_of}

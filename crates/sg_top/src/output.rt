@@ -3,7 +3,7 @@ ghost use Rattle.std.specs.Prelude.{◌≡◌, ◌≤◌, ℕ, List, true, lengt
 ghost use Rattle.sg_facts.specs.Fits.{Fits};
 ghost use Rattle.sg_input.specs.Inputs.{IsReady};
 ghost use Rattle.sg_lock.specs.LockFacts.{lock_facts};
-ghost use Rattle.sg_sim.specs.Script.{calls_fit};
+ghost use Rattle.sg_plain.specs.Script.{calls_fit};
 ghost use Rattle.sg_top.specs.Headline.{first_calls, is_played};
 ghost use Rattle.sg_top.specs.Answer.{IsChecked, IsOutput, IsPlayed, IsTabled, services};
 ghost use Rattle.sg_top.specs.Inside.Delivery.{IsSaid};

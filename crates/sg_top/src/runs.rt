@@ -3,17 +3,17 @@ ghost use Rattle.std.specs.Prelude.{◌≡◌, ◌≤◌, [], ◌∷◌, true, i
 ghost use Rattle.sg_facts.specs.Fits.{Fits};
 ghost use Rattle.sg_hist.specs.declared.ended.End.TheVariants.{Done};
 ghost use Rattle.sg_lock.specs.LockFacts.{lock_facts};
-ghost use Rattle.sg_sim.specs.Script.{calls_fit};
+ghost use Rattle.sg_plain.specs.Script.{calls_fit};
 ghost use Rattle.sg_top.specs.Headline.{IsPlainTrace, IsRunOf, first_calls, has_one_client, is_plain, is_played};
 
 use crate::played::Played;
 use sg_base::{Bytes, NoMemory};
 use sg_facts::{BootList, BootLog, Interface, ItemList, Service, Trace};
+use sg_first_play::play;
 use sg_hist::{End, EndList, Ended};
 use sg_lock::LockService;
 use sg_report::text;
 use sg_script::{CallList, Script, ScriptCall};
-use sg_sim::play;
 use std::alloc::Global;
 
 /// Whether a script under an interface is played today: the interface is that of locks, and the script has no setup calls, no turns

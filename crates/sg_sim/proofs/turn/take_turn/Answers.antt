@@ -41,7 +41,7 @@ returns-in_err-id-clause-missed g c =
     on_err _ c.from_residual-in_err-id.result
     (missed_step z c.args.script.now c.args.world.now.view lists c.args.client c.offer_next.new.world.view later (lists_of c.reserve.new.self) c.in_ok-offer_next.ensures.ok offered c.reserve.ensures.lists
     (subst (λ (t : Compiled). IsPlaying t.iface c.args.script.now later.history later.seats lists) c.offer_next.ensures.tables
-        (c.in_err-id.ensures.err lists (subst (λ (t : Compiled). IsPlaying t.iface c.args.script.now c.offer_next.new.world.view.history c.offer_next.new.world.view.seats lists) (sym c.offer_next.ensures.tables) offered)))
+    (c.in_err-id.ensures.err lists (subst (λ (t : Compiled). IsPlaying t.iface c.args.script.now c.offer_next.new.world.view.history c.offer_next.new.world.view.seats lists) (sym c.offer_next.ensures.tables) offered)))
     (subst (λ (t : Compiled). WantsMemory (setting_of g.S.Service.ask g.S.Service.sound g.S.Service.parts t) c.offer_next.new.world.view c.args.client later) c.offer_next.ensures.tables c.in_err-id.ensures.wants))
 
 pub returns-clause-taken : goal.returns-clause-taken
@@ -60,5 +60,5 @@ returns-clause-taken g c =
       | in_default w ↦ ap lists_of w.given-is ∙ c.reserve.ensures.lists ∙ ap (with_handed lists c.args.client) (sym w.in_default.is)
     ])
     (subst (λ (t : Compiled). IsPlaying t.iface c.args.script.now later.history later.seats (with_handed lists c.args.client handed)) c.offer_next.ensures.tables
-        (c.in_ok-id.ensures.ok lists (subst (λ (t : Compiled). IsPlaying t.iface c.args.script.now x.history x.seats lists) (sym c.offer_next.ensures.tables) offered)))
+    (c.in_ok-id.ensures.ok lists (subst (λ (t : Compiled). IsPlaying t.iface c.args.script.now x.history x.seats lists) (sym c.offer_next.ensures.tables) offered)))
     (subst (λ (t : Compiled). RecoversSoFar (setting_of g.S.Service.ask g.S.Service.sound g.S.Service.parts t) later) (c.make_step.ensures.tables ∙ c.offer_next.ensures.tables) c.tell-2.ensures)
