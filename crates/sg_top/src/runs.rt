@@ -1,17 +1,18 @@
 // The runs of scripts.
-ghost use Rattle.std.specs.Prelude.{◌≡◌, true, if◌then◌else◌, IfOk};
+ghost use Rattle.std.specs.Prelude.{◌≡◌, [], true, if◌then◌else◌, IfOk};
 ghost use Rattle.sg_edge.specs.Stops.{AscendsAbove};
 ghost use Rattle.sg_play_laws.specs.Playable.{IsPlayable};
+ghost use Rattle.sg_sim.specs.Played.{IsPlayed};
 ghost use Rattle.sg_top.specs.Headline.{IsRunOf};
 ghost use Rattle.sg_top.specs.Inside.Kinds.{IsOneOfFive, answering, kind_by};
 ghost use Rattle.sg_wake_laws.specs.Waking.{no_query_waits};
 
 use crate::services::{ServiceKind, kind_of};
-use sg_base::{Bytes, NoMemory, TryCopy};
+use sg_base::{Bytes, NoMemory, Stops, TryCopy};
 use sg_check::Accepted;
 use sg_edge::AtPoints;
 use sg_event::EventService;
-use sg_facts::Service;
+use sg_facts::{Service, Tables};
 use sg_lock::LockService;
 use sg_mm::MmService;
 use sg_ramfs::RamfsService;
@@ -43,7 +44,7 @@ pub fn played_of(
     }
 }
 
-// The run of a script on a service.
+// The run of a script on a service, with its report.
 fn play_on<S: Service>(
     alloc: Global,
     accepted: &Accepted,
@@ -58,8 +59,25 @@ fn play_on<S: Service>(
 {
     let tables = compile(alloc, accepted)?;
     let stops = AtPoints::new(script.stops.copy(alloc)?);
-    let mut play = Play::<S, AtPoints>::new(alloc, tables, script, stops)?;
-    let played = play.play(alloc)?;
+    let played = played_by::<S, AtPoints>(alloc, tables, script, stops)?;
     let text = text(alloc, accepted.interface(), played.ended(), with_trace)?;
     Ok((played, text))
+}
+
+// The run of a script on a service, by its tables.
+fn played_by<S: Service, T: Stops>(
+    alloc: Global,
+    tables: Tables,
+    script: Script,
+    stops: T,
+) -> Result<Played, NoMemory>
+    requires service { tables.iface.facts ≡ S.facts }
+    requires playable { IsPlayable tables.iface script }
+    requires waits { no_query_waits tables.iface.facts ≡ true }
+    requires unasked { T.asked stops ≡ 0 }
+    requires unstruck { T.struck stops ≡ [] }
+    ensures { IfOk result (λ played. IsPlayed (record { interface = tables.iface; ask = S.ask; parts = S.parts; walks = tables.walks }) T.test script (T.plan stops) played) }
+{
+    let mut play = Play::<S, T>::new(alloc, tables, script, stops)?;
+    play.play(alloc)
 }
