@@ -67,6 +67,7 @@ pub fn input_of(alloc: Global, interface: &[u8], script: &str) -> Result<Vec<u8>
 }
 
 // A run: its words, its status, its script, and what is printed.
+#[derive(Drop)]
 struct Row<'a> {
     words: &'a str,
     status: u8,
@@ -125,32 +126,29 @@ fn plays_threads(rt: HostRuntime) -> Result<(), Fail> {
     try_each(&rt, rt.alloc(), SCHED, THREADS)
 }
 
-// A run of locks, one of files and one of threads, with stops.
-static SCARCE: [(&[u8], &str, &str); 3] = [
-    (
-        LOCK,
-        "client 1 { lock_alloc(); lock_take($1); lock_release($1); lock_free($1); } stop 9;\n",
-        "..\nwalk 1.1 for c1 by c1 lock_alloc() replied\n..\npoints 24\n",
-    ),
-    (
-        RAMFS,
-        "client 1 { tsplit(0, \"a\"); twrite($1, \"hello\"); tseek($1, 9); twrite($1, \"x\"); } client 2 { tsplit(0, \"a\"); tread($1, 16); } schedule 1 1 1 2 2 2 2 2 2; stop 10;\n",
-        "..\nload /a for c2\n..\npoints 33\n",
-    ),
-    (
-        SCHED,
-        "setup { sched_create_thd(3); } client 1 { sched_sleep(1); sched_wait(1); } client 2 { sched_wakeup(1); } schedule 1 1 1 2 2; stop 11;\n",
-        "..\nwalk 1.2 for c2 by c1 sched_place(1, 1) replied\n..\npoints 28\n",
-    ),
+// Runs with stops, of locks, of files and of threads: each with lines of its trace.
+const LOCK_STOPS: [&str; 2] = [
+    "client 1 { lock_alloc(); lock_take($1); lock_release($1); lock_free($1); } stop 9;\n",
+    "..\nwalk 1.1 for c1 by c1 lock_alloc() replied\n..\npoints 24\n",
+];
+
+const FILE_STOPS: [&str; 2] = [
+    "client 1 { tsplit(0, \"a\"); twrite($1, \"hello\"); tseek($1, 9); twrite($1, \"x\"); } client 2 { tsplit(0, \"a\"); tread($1, 16); } schedule 1 1 1 2 2 2 2 2 2; stop 10;\n",
+    "..\nload /a for c2\n..\npoints 33\n",
+];
+
+const THREAD_STOPS: [&str; 2] = [
+    "setup { sched_create_thd(3); } client 1 { sched_sleep(1); sched_wait(1); } client 2 { sched_wakeup(1); } schedule 1 1 1 2 2; stop 11;\n",
+    "..\nwalk 1.2 for c2 by c1 sched_place(1, 1) replied\n..\npoints 28\n",
 ];
 
 // Where an allocation fails, nothing is printed and the status says so; else the run comes out.
 fn comes_or_wants_memory(
     alloc: Global,
     interface: &[u8],
-    script: &str,
-    wanted: &str,
+    run: [&str; 2],
 ) -> Result<bool, NoMemory> {
+    let [script, wanted] = run;
     let input = input_of(alloc, interface, script)?;
     let (number, printed) = played(alloc, "sim trace", &input)?;
     let text = str::from_utf8(&printed).unwrap_or("");
@@ -159,10 +157,15 @@ fn comes_or_wants_memory(
 
 #[test]
 fn comes_out_or_wants_memory(rt: HostRuntime) {
-    for (interface, script, wanted) in &SCARCE {
+    let runs = [
+        (LOCK, LOCK_STOPS),
+        (RAMFS, FILE_STOPS),
+        (SCHED, THREAD_STOPS),
+    ];
+    for (interface, run) in runs {
         // What the test itself has no memory for tells nothing.
-        match comes_or_wants_memory(rt.alloc(), interface, script, wanted) {
-            Ok(comes) => assert!(rt; comes, "{script}"),
+        match comes_or_wants_memory(rt.alloc(), interface, run) {
+            Ok(comes) => assert!(rt; comes, "{run:?}"),
             Err(_) => return,
         }
     }
