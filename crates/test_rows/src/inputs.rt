@@ -18,14 +18,7 @@ type Changed = (
 
 static CHANGED: [Changed; 9] = [
     // a script without calls
-    (
-        "lock",
-        1,
-        "sim",
-        b"%%\n",
-        0,
-        "calls 0 boots 1 replays 0\n",
-    ),
+    ("lock", 1, "sim", b"%%\n", 0, "calls 0 boots 1 replays 0\n"),
     // a lock that is owned has no walk
     (
         "sm_recover",

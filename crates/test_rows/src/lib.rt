@@ -3,7 +3,7 @@
 //! - `texts`: runs, a text for each service
 //! - `runs`: whether each comes out as it is written
 //! - `inputs`: runs whose inputs are made: long ones, other interfaces, and what is refused
-//! - `stops`: runs with a stop, or two, at each point
+//! - `stops`: runs with a stop at each point, and with two
 #![tactic(auto)]
 
 #[cfg(test)]

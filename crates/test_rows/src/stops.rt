@@ -1,4 +1,4 @@
-// Runs with a stop, or two, at each point: their entries are those without stops.
+// Runs with a stop at each point, and with two: their entries are those without stops.
 use crate::runs::{input_of, played};
 use std::alloc::Global;
 use std::process::Abort;
@@ -10,13 +10,19 @@ const LOCKS: &str = "client 1 { lock_alloc(); lock_take($1); lock_release($1); l
 const EVENTS: &str =
     "client 1 { evt_split(); evt_trigger($1, 5); evt_wait($1); evt_wait($1); evt_wait($1); }";
 
-const FILES: &str = "client 1 { tsplit(0, \"\"); tsplit(0, \"a\"); tsplit($2, \"b\"); trelease($2); tsplit(9, \"c\"); tread($2, 257); tseek($2, 65537); }";
+const FILES: &str =
+    "client 1 { tsplit(0, \"\"); tsplit(0, \"a\"); tsplit($2, \"b\"); trelease($2); tsplit(9, \"c\"); tread($2, 257); tseek($2, 65537); }";
 
-const THREADS: &str = "client 1 { sched_create_thd(5); sched_create_thd(5); sched_create_thd(5); sched_exit($1); sched_yield($2); sched_next(); }";
+const THREADS: &str =
+    "client 1 { sched_create_thd(5); sched_create_thd(5); sched_create_thd(5); sched_exit($1); sched_yield($2); sched_next(); }";
 
-// The greatest point of one stop, and of two.
+// The greatest point of one stop, and of the first of two.
 const MOST: u32 = 60;
+
 const MOST_OF_TWO: u32 = 40;
+
+// How far the second stop is behind the first: within what the reboot rebuilds, or behind that.
+const GAPS: [u32; 5] = [1, 2, 3, 5, 9];
 
 // The entries of a run: the lines before those of how clients ended.
 fn entries_of(alloc: Global, interface: &[u8], script: &str, stops: &str) -> Result<String, Fail> {
@@ -43,7 +49,7 @@ fn try_each(rt: &impl Abort, alloc: Global, interface: &[u8], script: &str) -> R
     Ok(())
 }
 
-// With a stop at each two points the entries are those without stops.
+// With a stop at each point and a second one behind it the entries are those without stops.
 fn try_each_two(
     rt: &impl Abort,
     alloc: Global,
@@ -51,8 +57,9 @@ fn try_each_two(
     script: &str,
 ) -> Result<(), Fail> {
     let wanted = entries_of(alloc, interface, script, "")?;
-    for first in 1..MOST_OF_TWO {
-        for second in first + 1..=MOST_OF_TWO {
+    for first in 1..=MOST_OF_TWO {
+        for gap in GAPS {
+            let second = first + gap;
             let stops = format!(in alloc; "{first} {second}")?;
             let entries = entries_of(alloc, interface, script, &stops)?;
             assert!(rt; entries == wanted, "stop {stops}");
