@@ -5,11 +5,13 @@
 //! - `answers`: whether a text tells what a step did, or a reply (`tells`, `tells_reply`)
 //! - `fits`: whether a call may be offered
 //! - `run`: a world with its interface beside it, so that each event is checked before it is made (`Run`, `stops_at`)
-//! - `plays`: plays as texts have them (`Play`, `played`)
+//! - `plays`: plays as texts have them (`play`)
+//! - `calls`: one client's calls, each with the reply that it is to get (`answered`)
 //! - `seen`: whether a text tells what is seen of a world (`shows`)
 #![tactic(auto)]
 
 mod answers;
+mod calls;
 mod events;
 mod fits;
 mod plays;
@@ -17,9 +19,10 @@ mod run;
 mod seen;
 mod words;
 
-pub use answers::{tells, tells_reply};
+pub use answers::tells_reply;
+pub use calls::answered;
 pub use events::{Asked, Event};
-pub use plays::{Play, played};
+pub use plays::play;
 pub use run::{Run, Unmade, stops_at};
 pub use seen::shows;
-pub use words::{Written, first_word, headed};
+pub use words::headed;

@@ -15,7 +15,7 @@ use sg_seat::Phase;
 use sg_world::{Did, World};
 use std::alloc::Global;
 
-/// Why an event wasn't made.
+/// Why an event wasn't made, or a play isn't as it is told.
 #[derive(Clone, Copy, Debug, PartialEq, Eq)]
 pub enum Unmade {
     /// There was no memory for it.
@@ -28,6 +28,14 @@ pub enum Unmade {
     UnreadLine { at: usize },
     /// The event on the line of a number, from 0, didn't go as it is told.
     Otherwise { at: usize },
+    /// The line of a number, from 0, tells what isn't seen.
+    Unseen { at: usize },
+    /// The printed run has another line of a number, from 0.
+    Printed { at: usize },
+    /// A client neither waits nor has left.
+    NotAtRest,
+    /// There are other entries or stops.
+    OtherRun,
 }
 
 impl From<NoMemory> for Unmade {

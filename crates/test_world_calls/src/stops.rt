@@ -1,18 +1,12 @@
 // Stops at every point: one client's calls get the replies of a run without stops.
-ghost use Rattle.std.specs.Prelude.{◌≡◌};
-
-use sg_edge::AtPoints;
 use sg_event::EventService;
-use sg_facts::{Service, Tables, Trace};
 use sg_lock::LockService;
 use sg_mm::MmService;
 use sg_ramfs::RamfsService;
 use sg_sched::SchedService;
-use std::alloc::Global;
-use std::process::Abort;
 use std::test::Fail;
 use test_tables::{event_tables, lock_tables, mm_tables, ramfs_tables, sched_tables};
-use test_world::{Asked, Run, stops_at, tells_reply};
+use test_world::answered;
 
 /// The last point at which a service stops here. Each run asks as many at least.
 const LAST: u64 = 40;
@@ -93,58 +87,16 @@ sched_next 0 = ok #1
 sched_sleep 1 = ok
 ";
 
-// Whether the stops of a run were at these points.
-fn stopped_at(trace: &Trace, points: &[u64]) -> bool {
-    let boots = trace.boots.as_slice();
-    boots
-        .iter()
-        .filter_map(|boot| boot.stop)
-        .eq(points.iter().copied())
-}
-
-// Makes a call, which gets its reply.
-fn answer<S: Service>(
-    rt: &impl Abort,
-    alloc: Global,
-    run: &mut Run<S, AtPoints>,
-    line: &str,
-) -> Result<(), Fail> {
-    let (asked, told) = line.split_once(" = ").ok_or("no reply")?;
-    let asked = Asked::read(asked).ok_or("no call")?;
-    let reply = run.call(alloc, 1, &asked)?;
-    let reply = reply.ok_or("it waits")?;
-    assert!(rt; tells_reply(told, &reply), "{line}: {reply:?}");
-    Ok(())
-}
-
-// Makes the calls, with stops at points: each gets its reply, and is one entry.
-fn answered<S: Service>(
-    rt: &impl Abort,
-    alloc: Global,
-    tables: Tables,
-    points: &[u64],
-    script: &str,
-) -> Result<(), Fail>
-    requires { tables.iface.facts ≡ S.facts }
-{
-    let stops = stops_at(alloc, points)?;
-    let mut run = Run::<S, AtPoints>::new(alloc, tables, 1, stops)?;
-    for line in script.lines() {
-        answer(rt, alloc, &mut run, line)?;
-    }
-    assert_eq!(rt; run.world().history().len(), script.lines().count());
-    assert!(rt; stopped_at(run.world().trace(), points), "{points:?}");
-    Ok(())
-}
-
 #[test]
 fn locks_stop_anywhere(rt: HostRuntime) -> Result<(), Fail> {
     let alloc = rt.alloc();
     for point in 1..=LAST {
-        answered::<LockService>(&rt, alloc, lock_tables(alloc)?, &[point], LOCKS)?;
+        let made = answered::<LockService>(alloc, lock_tables(alloc)?, &[point], LOCKS);
+        assert_eq!(rt; made, Ok(()), "at {point}");
     }
     for point in FIRST + 1..=LAST {
-        answered::<LockService>(&rt, alloc, lock_tables(alloc)?, &[FIRST, point], LOCKS)?;
+        let made = answered::<LockService>(alloc, lock_tables(alloc)?, &[FIRST, point], LOCKS);
+        assert_eq!(rt; made, Ok(()), "at {point}");
     }
     Ok(())
 }
@@ -153,10 +105,12 @@ fn locks_stop_anywhere(rt: HostRuntime) -> Result<(), Fail> {
 fn events_stop_anywhere(rt: HostRuntime) -> Result<(), Fail> {
     let alloc = rt.alloc();
     for point in 1..=LAST {
-        answered::<EventService>(&rt, alloc, event_tables(alloc)?, &[point], EVENTS)?;
+        let made = answered::<EventService>(alloc, event_tables(alloc)?, &[point], EVENTS);
+        assert_eq!(rt; made, Ok(()), "at {point}");
     }
     for point in FIRST + 1..=LAST {
-        answered::<EventService>(&rt, alloc, event_tables(alloc)?, &[FIRST, point], EVENTS)?;
+        let made = answered::<EventService>(alloc, event_tables(alloc)?, &[FIRST, point], EVENTS);
+        assert_eq!(rt; made, Ok(()), "at {point}");
     }
     Ok(())
 }
@@ -165,10 +119,12 @@ fn events_stop_anywhere(rt: HostRuntime) -> Result<(), Fail> {
 fn pages_stop_anywhere(rt: HostRuntime) -> Result<(), Fail> {
     let alloc = rt.alloc();
     for point in 1..=LAST {
-        answered::<MmService>(&rt, alloc, mm_tables(alloc)?, &[point], PAGES)?;
+        let made = answered::<MmService>(alloc, mm_tables(alloc)?, &[point], PAGES);
+        assert_eq!(rt; made, Ok(()), "at {point}");
     }
     for point in FIRST + 1..=LAST {
-        answered::<MmService>(&rt, alloc, mm_tables(alloc)?, &[FIRST, point], PAGES)?;
+        let made = answered::<MmService>(alloc, mm_tables(alloc)?, &[FIRST, point], PAGES);
+        assert_eq!(rt; made, Ok(()), "at {point}");
     }
     Ok(())
 }
@@ -177,10 +133,12 @@ fn pages_stop_anywhere(rt: HostRuntime) -> Result<(), Fail> {
 fn files_stop_anywhere(rt: HostRuntime) -> Result<(), Fail> {
     let alloc = rt.alloc();
     for point in 1..=LAST {
-        answered::<RamfsService>(&rt, alloc, ramfs_tables(alloc)?, &[point], FILES)?;
+        let made = answered::<RamfsService>(alloc, ramfs_tables(alloc)?, &[point], FILES);
+        assert_eq!(rt; made, Ok(()), "at {point}");
     }
     for point in FIRST + 1..=LAST {
-        answered::<RamfsService>(&rt, alloc, ramfs_tables(alloc)?, &[FIRST, point], FILES)?;
+        let made = answered::<RamfsService>(alloc, ramfs_tables(alloc)?, &[FIRST, point], FILES);
+        assert_eq!(rt; made, Ok(()), "at {point}");
     }
     Ok(())
 }
@@ -189,10 +147,12 @@ fn files_stop_anywhere(rt: HostRuntime) -> Result<(), Fail> {
 fn threads_stop_anywhere(rt: HostRuntime) -> Result<(), Fail> {
     let alloc = rt.alloc();
     for point in 1..=LAST {
-        answered::<SchedService>(&rt, alloc, sched_tables(alloc)?, &[point], THREADS)?;
+        let made = answered::<SchedService>(alloc, sched_tables(alloc)?, &[point], THREADS);
+        assert_eq!(rt; made, Ok(()), "at {point}");
     }
     for point in FIRST + 1..=LAST {
-        answered::<SchedService>(&rt, alloc, sched_tables(alloc)?, &[FIRST, point], THREADS)?;
+        let made = answered::<SchedService>(alloc, sched_tables(alloc)?, &[FIRST, point], THREADS);
+        assert_eq!(rt; made, Ok(()), "at {point}");
     }
     Ok(())
 }

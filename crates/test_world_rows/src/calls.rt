@@ -1,6 +1,5 @@
 // Each call of a world, at each of the five services: a client makes and uses something, another waits for it or is refused, and
 // withdraws its call once; the service stops. All that is seen of the world at the end is told.
-use crate::plays::play;
 use sg_event::EventService;
 use sg_lock::LockService;
 use sg_mm::MmService;
@@ -8,6 +7,7 @@ use sg_ramfs::RamfsService;
 use sg_sched::SchedService;
 use std::test::Fail;
 use test_tables::{event_tables, lock_tables, mm_tables, ramfs_tables, sched_tables};
+use test_world::play;
 
 // A client takes a lock that another waits for: that one withdraws its call, asks again, and waits anew after a stop.
 const LOCKS: &str = "clients 2
@@ -276,25 +276,30 @@ points 29
 
 #[test]
 fn each_call_at_locks(rt: HostRuntime) -> Result<(), Fail> {
-    play::<LockService>(&rt, rt.alloc(), lock_tables(rt.alloc())?, LOCKS)
+    let alloc = rt.alloc();
+    Ok(play::<LockService>(alloc, lock_tables(alloc)?, LOCKS)?)
 }
 
 #[test]
 fn each_call_at_events(rt: HostRuntime) -> Result<(), Fail> {
-    play::<EventService>(&rt, rt.alloc(), event_tables(rt.alloc())?, EVENTS)
+    let alloc = rt.alloc();
+    Ok(play::<EventService>(alloc, event_tables(alloc)?, EVENTS)?)
 }
 
 #[test]
 fn each_call_at_pages(rt: HostRuntime) -> Result<(), Fail> {
-    play::<MmService>(&rt, rt.alloc(), mm_tables(rt.alloc())?, PAGES)
+    let alloc = rt.alloc();
+    Ok(play::<MmService>(alloc, mm_tables(alloc)?, PAGES)?)
 }
 
 #[test]
 fn each_call_at_files(rt: HostRuntime) -> Result<(), Fail> {
-    play::<RamfsService>(&rt, rt.alloc(), ramfs_tables(rt.alloc())?, FILES)
+    let alloc = rt.alloc();
+    Ok(play::<RamfsService>(alloc, ramfs_tables(alloc)?, FILES)?)
 }
 
 #[test]
 fn each_call_at_threads(rt: HostRuntime) -> Result<(), Fail> {
-    play::<SchedService>(&rt, rt.alloc(), sched_tables(rt.alloc())?, THREADS)
+    let alloc = rt.alloc();
+    Ok(play::<SchedService>(alloc, sched_tables(alloc)?, THREADS)?)
 }

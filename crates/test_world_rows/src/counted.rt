@@ -1,8 +1,8 @@
 // Plays of events, event by event.
-use crate::plays::play;
 use sg_event::EventService;
 use std::test::Fail;
 use test_tables::event_tables;
+use test_world::play;
 
 // A trigger is stored as the service stops: another client gets its count, and it is not added again.
 const TRIGGER_NOT_TWICE: &str = "clients 2
@@ -173,25 +173,24 @@ points 16
 
 #[test]
 fn a_trigger_is_not_added_twice(rt: HostRuntime) -> Result<(), Fail> {
-    play::<EventService>(
-        &rt,
-        rt.alloc(),
-        event_tables(rt.alloc())?,
-        TRIGGER_NOT_TWICE,
-    )
+    let alloc = rt.alloc();
+    Ok(play::<EventService>(alloc, event_tables(alloc)?, TRIGGER_NOT_TWICE)?)
 }
 
 #[test]
 fn a_replayed_trigger_carries_the_present_count(rt: HostRuntime) -> Result<(), Fail> {
-    play::<EventService>(&rt, rt.alloc(), event_tables(rt.alloc())?, PRESENT_VALUE)
+    let alloc = rt.alloc();
+    Ok(play::<EventService>(alloc, event_tables(alloc)?, PRESENT_VALUE)?)
 }
 
 #[test]
 fn who_waits_is_asked_again(rt: HostRuntime) -> Result<(), Fail> {
-    play::<EventService>(&rt, rt.alloc(), event_tables(rt.alloc())?, WAITS_AGAIN)
+    let alloc = rt.alloc();
+    Ok(play::<EventService>(alloc, event_tables(alloc)?, WAITS_AGAIN)?)
 }
 
 #[test]
 fn who_waits_is_woken_by_the_end(rt: HostRuntime) -> Result<(), Fail> {
-    play::<EventService>(&rt, rt.alloc(), event_tables(rt.alloc())?, WOKEN_BY_THE_END)
+    let alloc = rt.alloc();
+    Ok(play::<EventService>(alloc, event_tables(alloc)?, WOKEN_BY_THE_END)?)
 }

@@ -1,8 +1,8 @@
 // Plays of files, event by event.
-use crate::plays::play;
 use sg_ramfs::RamfsService;
 use std::test::Fail;
 use test_tables::ramfs_tables;
+use test_world::play;
 
 // A file is loaded for a client that reads it, and the offset of another is rebuilt.
 const LOADED: &str = r#"clients 2
@@ -149,20 +149,18 @@ points 21
 
 #[test]
 fn a_file_is_loaded(rt: HostRuntime) -> Result<(), Fail> {
-    play::<RamfsService>(&rt, rt.alloc(), ramfs_tables(rt.alloc())?, LOADED)
+    let alloc = rt.alloc();
+    Ok(play::<RamfsService>(alloc, ramfs_tables(alloc)?, LOADED)?)
 }
 
 #[test]
 fn a_held_reply_is_lost(rt: HostRuntime) -> Result<(), Fail> {
-    play::<RamfsService>(&rt, rt.alloc(), ramfs_tables(rt.alloc())?, HELD_LOST)
+    let alloc = rt.alloc();
+    Ok(play::<RamfsService>(alloc, ramfs_tables(alloc)?, HELD_LOST)?)
 }
 
 #[test]
 fn a_held_reply_of_another_boot_is_lost(rt: HostRuntime) -> Result<(), Fail> {
-    play::<RamfsService>(
-        &rt,
-        rt.alloc(),
-        ramfs_tables(rt.alloc())?,
-        HELD_IN_ANOTHER_BOOT,
-    )
+    let alloc = rt.alloc();
+    Ok(play::<RamfsService>(alloc, ramfs_tables(alloc)?, HELD_IN_ANOTHER_BOOT)?)
 }

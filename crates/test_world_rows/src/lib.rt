@@ -1,8 +1,6 @@
 //! Plays of worlds, event by event: each is a text of its offers, steps, withdrawals and leaves, with what each step must answer, of what
 //! is seen at the end, and of the printed run.
 //!
-//! - `plays`: how a play is tried (`play`)
-//!
 //! The tests:
 //! - `locks`: stops around a take, and within the walk of a lock
 //! - `counted`: events whose count a stop takes, and clients that wait for them
@@ -22,7 +20,5 @@ mod files;
 mod locks;
 #[cfg(test)]
 mod pages;
-#[cfg(test)]
-mod plays;
 #[cfg(test)]
 mod threads;

@@ -1,8 +1,8 @@
 // Plays of locks, event by event.
-use crate::plays::play;
 use sg_lock::LockService;
 use std::test::Fail;
 use test_tables::lock_tables;
+use test_world::play;
 
 // The service stops once a take is stored: the take is answered, and the lock is rebuilt as it was taken.
 const STOP_BEHIND_A_TAKE: &str = "clients 1
@@ -243,45 +243,36 @@ points 25
 
 #[test]
 fn a_stop_behind_a_take(rt: HostRuntime) -> Result<(), Fail> {
-    play::<LockService>(
-        &rt,
-        rt.alloc(),
-        lock_tables(rt.alloc())?,
-        STOP_BEHIND_A_TAKE,
-    )
+    let alloc = rt.alloc();
+    Ok(play::<LockService>(alloc, lock_tables(alloc)?, STOP_BEHIND_A_TAKE)?)
 }
 
 #[test]
 fn a_stop_before_a_take_is_stored(rt: HostRuntime) -> Result<(), Fail> {
-    play::<LockService>(
-        &rt,
-        rt.alloc(),
-        lock_tables(rt.alloc())?,
-        STOP_BEFORE_A_TAKE,
-    )
+    let alloc = rt.alloc();
+    Ok(play::<LockService>(alloc, lock_tables(alloc)?, STOP_BEFORE_A_TAKE)?)
 }
 
 #[test]
 fn a_stop_within_a_walk(rt: HostRuntime) -> Result<(), Fail> {
-    play::<LockService>(&rt, rt.alloc(), lock_tables(rt.alloc())?, STOP_IN_A_WALK)
+    let alloc = rt.alloc();
+    Ok(play::<LockService>(alloc, lock_tables(alloc)?, STOP_IN_A_WALK)?)
 }
 
 #[test]
 fn a_run_ends_with_the_service_down(rt: HostRuntime) -> Result<(), Fail> {
-    play::<LockService>(&rt, rt.alloc(), lock_tables(rt.alloc())?, DOWN_AT_THE_END)
+    let alloc = rt.alloc();
+    Ok(play::<LockService>(alloc, lock_tables(alloc)?, DOWN_AT_THE_END)?)
 }
 
 #[test]
 fn a_refusal_boots_nothing(rt: HostRuntime) -> Result<(), Fail> {
-    play::<LockService>(
-        &rt,
-        rt.alloc(),
-        lock_tables(rt.alloc())?,
-        REFUSED_WHILE_DOWN,
-    )
+    let alloc = rt.alloc();
+    Ok(play::<LockService>(alloc, lock_tables(alloc)?, REFUSED_WHILE_DOWN)?)
 }
 
 #[test]
 fn two_clients_rebuild_one_lock(rt: HostRuntime) -> Result<(), Fail> {
-    play::<LockService>(&rt, rt.alloc(), lock_tables(rt.alloc())?, TWO_TAKE_A_WALK)
+    let alloc = rt.alloc();
+    Ok(play::<LockService>(alloc, lock_tables(alloc)?, TWO_TAKE_A_WALK)?)
 }

@@ -1,8 +1,8 @@
 // Plays of mappings, event by event.
-use crate::plays::play;
 use sg_mm::MmService;
 use std::test::Fail;
 use test_tables::mm_tables;
+use test_world::play;
 
 // A page is rebuilt before its alias, each in the name of its maker.
 const PARENT_FIRST: &str = "clients 2
@@ -130,15 +130,18 @@ points 35
 
 #[test]
 fn a_page_is_rebuilt_before_its_alias(rt: HostRuntime) -> Result<(), Fail> {
-    play::<MmService>(&rt, rt.alloc(), mm_tables(rt.alloc())?, PARENT_FIRST)
+    let alloc = rt.alloc();
+    Ok(play::<MmService>(alloc, mm_tables(alloc)?, PARENT_FIRST)?)
 }
 
 #[test]
 fn a_lost_page_occupies_its_place(rt: HostRuntime) -> Result<(), Fail> {
-    play::<MmService>(&rt, rt.alloc(), mm_tables(rt.alloc())?, OCCUPIED)
+    let alloc = rt.alloc();
+    Ok(play::<MmService>(alloc, mm_tables(alloc)?, OCCUPIED)?)
 }
 
 #[test]
 fn a_subtree_that_is_half_rebuilt_is_removed(rt: HostRuntime) -> Result<(), Fail> {
-    play::<MmService>(&rt, rt.alloc(), mm_tables(rt.alloc())?, HALF_A_SUBTREE)
+    let alloc = rt.alloc();
+    Ok(play::<MmService>(alloc, mm_tables(alloc)?, HALF_A_SUBTREE)?)
 }

@@ -1,8 +1,8 @@
 // Plays of threads, event by event.
-use crate::plays::play;
 use sg_sched::SchedService;
 use std::test::Fail;
 use test_tables::sched_tables;
+use test_world::play;
 
 // Threads come back under other ids of the service, with their ranks.
 const RANKS_KEPT: &str = "clients 1
@@ -110,10 +110,12 @@ points 28
 
 #[test]
 fn ranks_are_kept(rt: HostRuntime) -> Result<(), Fail> {
-    play::<SchedService>(&rt, rt.alloc(), sched_tables(rt.alloc())?, RANKS_KEPT)
+    let alloc = rt.alloc();
+    Ok(play::<SchedService>(alloc, sched_tables(alloc)?, RANKS_KEPT)?)
 }
 
 #[test]
 fn two_clients_go_on_with_one_walk(rt: HostRuntime) -> Result<(), Fail> {
-    play::<SchedService>(&rt, rt.alloc(), sched_tables(rt.alloc())?, ONE_WALK)
+    let alloc = rt.alloc();
+    Ok(play::<SchedService>(alloc, sched_tables(alloc)?, ONE_WALK)?)
 }
