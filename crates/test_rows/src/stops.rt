@@ -59,7 +59,7 @@ fn try_each_two(
     let wanted = entries_of(alloc, interface, script, "")?;
     for first in 1..=MOST_OF_TWO {
         for gap in GAPS {
-            let second = first + gap;
+            let second = first.saturating_add(gap);
             let stops = format!(in alloc; "{first} {second}")?;
             let entries = entries_of(alloc, interface, script, &stops)?;
             assert!(rt; entries == wanted, "stop {stops}");
