@@ -31,7 +31,7 @@ use Rattle.sg_world.specs.declared.did.Did.{Did}
 use Rattle.sg_world.specs.declared.did.Did.TheVariants.{Answered, Blocked as Waits, Booted, Loaded, Lost, Replayed, Served, Skipped, Struck}
 use Rattle.sg_world.specs.Steps.{Steps, WantsMemory}
 use Rattle.sg_world_laws.specs.Setting.{Setting}
-use Rattle.sg_follow_laws.specs.Follows.{HasStopped, HoldsSo, IsFollowing, NeverStopped}
+use Rattle.sg_follow_laws.specs.Follows.{IsPastStop, HoldsSo, IsFollowing, NeverStopped}
 use Rattle.sg_follow_laws.specs.Stages.{IsNextTurn, player_by, stage_of}
 use Rattle.sg_follow_laws.proofs.Fronts.{up_to_front, up_to_takes}
 use Rattle.sg_follow_laws.proofs.Onward.{front_of_play, whole_play}
@@ -76,8 +76,8 @@ reseated z script w passed last c new first within f same not_held not_receipted
   follows = by f.follows;
 }
   where
-    by : NeverStopped z script w.history w.run.boots w.running w.seats (stage_of script w passed last) ⊎ HasStopped z script w.history w.run.boots w.running
-        → NeverStopped z script w.history w.run.boots w.running (slice_set w.seats (c - 1) new) (stage_of script (with_seat w c new) passed last) ⊎ HasStopped z script w.history w.run.boots w.running
+    by : NeverStopped z script w.history w.run.boots w.running w.seats (stage_of script w passed last) ⊎ IsPastStop z script w.history w.run.boots w.running
+        → NeverStopped z script w.history w.run.boots w.running (slice_set w.seats (c - 1) new) (stage_of script (with_seat w c new) passed last) ⊎ IsPastStop z script w.history w.run.boots w.running
     by (inr stopped) = inr stopped
     by (inl never) = inl (record {
       items = never.items;
@@ -188,7 +188,7 @@ module _ (z : Setting) (script : Script) (x now : WorldView) (given : List (List
   stepped : (did : Did) (w : WorldView) → Steps z x client did w → (did ≡ Served → Each (HasItem z.iface.facts w.history w.run) w.history) → IsFollowing z script w later client
   stepped did w l served = by f.follows
     where
-      by : NeverStopped z script x.history x.run.boots x.running x.seats (stage_of script x passed last) ⊎ HasStopped z script x.history x.run.boots x.running → IsFollowing z script w later client
+      by : NeverStopped z script x.history x.run.boots x.running x.seats (stage_of script x passed last) ⊎ IsPastStop z script x.history x.run.boots x.running → IsFollowing z script w later client
       by (inl never) = follow_stepped z script x given client first within is passed last later f so turn schedule none_left never did w l served
       by (inr stopped) = follow_stopped z script x given client first within is passed last later f stopped did w l
 
@@ -258,7 +258,7 @@ module _ (z : Setting) (script : Script) (w : WorldView) (passed last : ℕ) (f 
   pub following_end : (plain : List Entry) → IsPlainPlay z.iface z.ask script plain → FollowsPlain z.iface.facts w.run w.history plain
   following_end plain play = by f.follows
     where
-      by : NeverStopped z script w.history w.run.boots w.running w.seats (stage_of script w passed last) ⊎ HasStopped z script w.history w.run.boots w.running
+      by : NeverStopped z script w.history w.run.boots w.running w.seats (stage_of script w passed last) ⊎ IsPastStop z script w.history w.run.boots w.running
           → FollowsPlain z.iface.facts w.run w.history plain
       by (inl never) =
           let plain_is : plain ≡ w.history = whole_play z.iface z.ask script never.turns plain (ap (next_turn script) (sym never.at) ∙ over) play ∙ ap (λ (s : Stage). s.history) (sym never.at) in
@@ -279,6 +279,6 @@ module _ (z : Setting) (script : Script) (w : WorldView) (passed last : ℕ) (f 
   pub following_over : struck_in w.run ≡ [] → IsPlainPlay z.iface z.ask script w.history
   following_over none = by f.follows
     where
-      by : NeverStopped z script w.history w.run.boots w.running w.seats (stage_of script w passed last) ⊎ HasStopped z script w.history w.run.boots w.running → IsPlainPlay z.iface z.ask script w.history
+      by : NeverStopped z script w.history w.run.boots w.running w.seats (stage_of script w passed last) ⊎ IsPastStop z script w.history w.run.boots w.running → IsPlainPlay z.iface z.ask script w.history
       by (inl never) = record { turns = never.turns; over = ap (next_turn script) (sym never.at) ∙ over; is = ap (λ (s : Stage). s.history) never.at }
       by (inr stopped) = absurd (was_struck w.run stopped.first stopped.newer stopped.are stopped.stopped none)

@@ -15,6 +15,7 @@ use Rattle.sg_hist.specs.Clients.{calls_of}
 use Rattle.sg_hist.specs.Reading.{Place, desc_in, desc_of, id_given, is_by_guard, is_item_of, is_tagged, item_of, places_in, places_of}
 use Rattle.sg_hist.specs.Recovered.{GivesEntry, HasItem}
 use Rattle.sg_plain.specs.Promises.{AreFirstCalls}
+use Rattle.sg_world_laws.proofs.Items.{IsAmong, among_in, found_passes}
 use Rattle.sg_recovery_laws.specs.Growing.{IsOfNoEntry}
 use Rattle.sg_recovery_laws.proofs.Given.{is_numbered}
 use Rattle.sg_recovery_laws.proofs.Lists.{each_append}
@@ -76,22 +77,6 @@ load_of_none item key client [] tag = tt
 load_of_none item key client (e ∷ h) tag = (ap (is_tagged e.call.client e.call.seq) tag, load_of_none item key client h tag)
 
 -- ---- items
-
-abbrev IsAmong : List Item → Place → Type 0
-IsAmong items p = (test : Item → Bool) → test p.item ≡ true → list_any test items ≡ true
-
-among_in : (all older front items newer : List Item) → ((test : Item → Bool) → list_any test items ≡ true → list_any test all ≡ true) → Each (IsAmong all) (places_in older front items newer)
-among_in all older front [] newer within = tt
-among_in all older front (item ∷ items) newer within =
-    ((λ test is. within test (or_left (test item) (list_any test items) is)), among_in all older (front ++ item ∷ []) items newer (λ test is. within test (or_right (test item) (list_any test items) is)))
-
-found_passes : (f : Place → Bool) (ps : List Place) (p : Place) → find f ps ≡ Some p → f p ≡ true
-found_passes f [] p is = absurd (cc is)
-found_passes f (x ∷ ps) p is = at (f x) refl (found_passes f ps p) is
-  where
-    at : (t : Bool) → f x ≡ t → (find f ps ≡ Some p → f p ≡ true) → cond t (Some x) (find f ps) ≡ Some p → f p ≡ true
-    at true passes rest found = let one : x ≡ p = cc found in subst (λ y. f y ≡ true) one passes
-    at false fails rest found = rest found
 
 -- the run of one boot that didn't stop
 abbrev pub one_boot : List Item → ℕ → Run

@@ -42,8 +42,9 @@ use Rattle.sg_walk_laws.proofs.Found.{same_test}
 use Rattle.sg_world.specs.declared.did.Did.{Did}
 use Rattle.sg_world.specs.declared.did.Did.TheVariants.{Answered, Blocked as Waits, Booted, Loaded, Lost, Replayed, Served, Skipped, Struck}
 use Rattle.sg_world.specs.Steps.{Commits, HandsOver, Holds, Loads, Loses, Refuses, Replays, Returns, Skips, Steps, WaitsNow}
+use Rattle.sg_world_laws.proofs.Refusing.{by_the_guard}
 use Rattle.sg_world_laws.specs.Setting.{Setting, stubs_of}
-use Rattle.sg_follow_laws.specs.Follows.{HasStopped, HoldAll, HoldsSo, IsAllThere, IsFollowing, NeverStopped}
+use Rattle.sg_follow_laws.specs.Follows.{IsPastStop, HoldAll, HoldsSo, IsAllThere, IsFollowing, NeverStopped}
 use Rattle.sg_follow_laws.specs.Stages.{player_by, stage_of}
 use Rattle.sg_follow_laws.proofs.Numbered.{NoneHas, have_items, next_is_new, one_boot}
 use Rattle.sg_follow_laws.proofs.Onward.{after_more}
@@ -51,28 +52,6 @@ use Rattle.sg_follow_laws.proofs.Seats.{HeldFirst, asked_first, asked_holds, eac
 use Rattle.sg_follow_laws.proofs.Stopped.{guard_later, hidden_later, stopped_again, stopped_booted, stopped_committed, stopped_entered, stopped_noted, stops_first}
 use Rattle.sg_follow_laws.proofs.There.{none_loaded, none_walked, there_committed, there_hidden, there_noted, there_refused}
 use Rattle.sg_follow_laws.proofs.Turned.{handed_offering, stage_with, turn, turn_blocked, turn_commits, turn_handed, turn_held, turn_holds, turn_over, turn_refused, turn_waits}
-
--- a code of the guard is one of its own
-by_the_guard : (i : Declared) (o : Object) (call : Call) (code : Code) → guard i o call ≡ Some code → is_guards code ≡ true
-by_the_guard i o call code is =
-    by (fun_at i.facts.funs call.fun).query
-    (takes_parent (fun_at i.facts.funs call.fun) && not (may_be_parent i.facts.parents (row_at o.rows call.desc) call.desc call.client))
-    ((fun_at i.facts.funs call.fun).creation && nat_le most_live (length o.rows))
-    (takes_desc (fun_at i.facts.funs call.fun) && not (may_use i.facts (row_at o.rows call.desc) call.client))
-    (takes_desc (fun_at i.facts.funs call.fun) && not (in_state i (row_at o.rows call.desc) call.fun))
-    ((fun_at i.facts.funs call.fun).terminal && not i.facts.subtree && has_child o.rows call.desc) is
-  where
-    own : (c : Code) → is_guards c ≡ true → Some c ≡ Some code → is_guards code ≡ true
-    own c guards same = let one : c ≡ code = cc same in subst (λ x. is_guards x ≡ true) one guards
-
-    by : (q p f d s h : Bool) → (if q then None else if p then Some NoParent else if f then Some Full else if d then Some NoDesc else if s then Some BadState else if h then Some HasChildren else None) ≡ Some code → is_guards code ≡ true
-    by true p f d s h none = absurd (cc none)
-    by false true f d s h same = own NoParent refl same
-    by false false true d s h same = own Full refl same
-    by false false false true s h same = own NoDesc refl same
-    by false false false false true h same = own BadState refl same
-    by false false false false false true same = own HasChildren refl same
-    by false false false false false false none = absurd (cc none)
 
 some_is : (o : Option Object) (v : Object) → o ≡ Some v → IsSome o
 some_is o v is = ap is_some is
@@ -182,14 +161,14 @@ module _ (z : Setting) (script : Script) (x : WorldView) (given : List (List ℕ
 
   -- ---- a service that stopped before
 
-  module _ (b : HasStopped z script x.history x.run.boots x.running) where
+  module _ (b : IsPastStop z script x.history x.run.boots x.running) where
     abbrev Then : WorldView → Type 0
-    Then w = HasStopped z script w.history w.run.boots w.running
+    Then w = IsPastStop z script w.history w.run.boots w.running
 
-    then_entered : (e : Entry) → is_visible z.iface.facts e.call.fun ≡ false → HasStopped z script (x.history ++ e ∷ []) x.run.boots x.running
+    then_entered : (e : Entry) → is_visible z.iface.facts e.call.fun ≡ false → IsPastStop z script (x.history ++ e ∷ []) x.run.boots x.running
     then_entered e hidden = stopped_entered z script x.history x.run.boots x.running b e (hidden_later z.iface.facts x.run.boots e hidden)
 
-    then_noted : IsSome x.running → (item : Item) (up : Option Object) → HasStopped z script x.history (noted x.run.boots item) up
+    then_noted : IsSome x.running → (item : Item) (up : Option Object) → IsPastStop z script x.history (noted x.run.boots item) up
     then_noted runs item up = stopped_noted z script x.history x.run.boots x.running b runs item up
 
     then_committed : (w : WorldView) → Commits z x c w → Then w
@@ -238,7 +217,7 @@ module _ (z : Setting) (script : Script) (x : WorldView) (given : List (List ℕ
     schedule = drop later script.schedule
 
     abbrev Now : WorldView → Type 0
-    Now w = NeverStopped z script w.history w.run.boots w.running w.seats (stage_of script w later c) ⊎ HasStopped z script w.history w.run.boots w.running
+    Now w = NeverStopped z script w.history w.run.boots w.running w.seats (stage_of script w later c) ⊎ IsPastStop z script w.history w.run.boots w.running
 
     -- the client's turn in the play without stops
     abbrev its_turn : Stage
@@ -343,7 +322,7 @@ module _ (z : Setting) (script : Script) (x : WorldView) (given : List (List ℕ
         by (inr other) = other (a.held c first l.phase ∙ sym (ap length a.one))
 
     -- the service stops before an entry
-    stops : (boots : List Boot) (items : List Item) (stop : ℕ) → boots ≡ record { items = items; stop = Some stop } ∷ [] → HasStopped z script x.history boots None
+    stops : (boots : List Boot) (items : List Item) (stop : ℕ) → boots ≡ record { items = items; stop = Some stop } ∷ [] → IsPastStop z script x.history boots None
     stops boots items stop one = stops_first z script x.history boots items stop a.turns one history_is
 
     now_stops : (stop : ℕ) (w : WorldView) → w ≡ struck_at x stop → Now w
@@ -442,7 +421,7 @@ module _ (z : Setting) (script : Script) (x : WorldView) (given : List (List ℕ
           (there_then served) (held_entered l.reply new_seat (λ held. absurd (cc held))) turn_is_commit)))
 
       -- or the service stops behind it
-      stops_behind : (stop : ℕ) → HasStopped z script w.history (struck w.run.boots stop) None
+      stops_behind : (stop : ℕ) → IsPastStop z script w.history (struck w.run.boots stop) None
       stops_behind stop =
           stops_first z script w.history (struck w.run.boots stop) (a.items ++ l.asks.item ∷ []) stop (suc a.turns) (ap (λ b. struck b stop) boots_now) (history_now ∙ history_then)
 
@@ -468,7 +447,7 @@ module _ (z : Setting) (script : Script) (x : WorldView) (given : List (List ℕ
     follow_stepped did w l served = record { hold = hold_stepped did w l; follows = now_stepped did w l served }
 
   -- so it does where the service stopped before
-  pub follow_stopped : (b : HasStopped z script x.history x.run.boots x.running) (did : Did) (w : WorldView) → Steps z x c did w → IsFollowing z script w later c
+  pub follow_stopped : (b : IsPastStop z script x.history x.run.boots x.running) (did : Did) (w : WorldView) → Steps z x c did w → IsFollowing z script w later c
   follow_stopped b did w l = record { hold = hold_stepped did w l; follows = inr (then_stepped b did w l) }
 
   -- where a reply is handed over, the client has no call under way

@@ -12,26 +12,14 @@ use Rattle.sg_facts.specs.Trace.{Boot}
 use Rattle.sg_hist.specs.Reading.{is_by_guard, is_item_of, items_of}
 use Rattle.sg_plain.specs.Plain.{stage_after}
 use Rattle.sg_plain.specs.Promises.{is_in_first_boot}
+use Rattle.sg_recovery_laws.proofs.Growing.{items_booted, items_more, items_struck}
 use Rattle.sg_recovery_laws.specs.Growing.{booted, noted, struck}
 use Rattle.sg_script.specs.declared.script.Script.{Script}
 use Rattle.sg_world_laws.specs.Setting.{Setting}
-use Rattle.sg_follow_laws.specs.Follows.{HasStopped}
+use Rattle.sg_follow_laws.specs.Follows.{IsPastStop}
 use Rattle.sg_follow_laws.proofs.Created.{any_left, any_right}
 
 -- ---- boots that grow
-
-items_noted : (b : Boot) (boots : List Boot) (item : Item) → items_of (noted (b ∷ boots) item) ≡ items_of (b ∷ boots) ++ item ∷ []
-items_noted b [] item = append-nil (b.items ++ item ∷ []) ∙ ap (λ v. v ++ item ∷ []) (sym (append-nil b.items))
-items_noted b (c ∷ boots) item = ap (λ v. b.items ++ v) (items_noted c boots item) ∙ sym (append_assoc b.items (items_of (c ∷ boots)) (item ∷ []))
-
-items_struck : (boots : List Boot) (stop : ℕ) → items_of (struck boots stop) ≡ items_of boots
-items_struck [] stop = refl
-items_struck (b ∷ []) stop = refl
-items_struck (b ∷ c ∷ boots) stop = ap (λ v. b.items ++ v) (items_struck (c ∷ boots) stop)
-
-items_booted : (boots : List Boot) → items_of (booted boots) ≡ items_of boots
-items_booted [] = refl
-items_booted (b ∷ boots) = ap (λ v. b.items ++ v) (items_booted boots)
 
 some_noted : (b : Boot) (boots : List Boot) (item : Item) → noted (b ∷ boots) item ≢ []
 some_noted b [] item none = cc none
@@ -87,7 +75,7 @@ guard_later facts (b ∷ boots) e guards =
 noted_later : (facts : Facts) (first b : Boot) (boots : List Boot) (item : Item) (e : Entry) → is_item_of e item ≡ true → is_in_first_boot facts (first ∷ noted (b ∷ boots) item) e ≡ false
 noted_later facts first b boots item e own =
     fails (is_visible facts e.call.fun) (not (is_by_guard e.reply)) (list_any (is_item_of e) first.items) true (list_any (is_item_of e) (items_of (noted (b ∷ boots) item)))
-    (λ yes_so. ap (list_any (is_item_of e)) (items_noted b boots item) ∙ any_right (is_item_of e) (items_of (b ∷ boots)) (item ∷ []) (ap (λ t. t || false) own))
+    (λ yes_so. ap (list_any (is_item_of e)) (items_more b boots item) ∙ any_right (is_item_of e) (items_of (b ∷ boots)) (item ∷ []) (ap (λ t. t || false) own))
     (nothing (is_visible facts e.call.fun) (not (is_by_guard e.reply)) (list_any (is_item_of e) first.items))
   where
     nothing : (a b c : Bool) → (a && b && c && false) ≡ false
@@ -98,9 +86,9 @@ noted_later facts first b boots item e own =
 
 -- ---- events
 
-module _ (z : Setting) (script : Script) (history : List Entry) (boots : List Boot) (running : Option Object) (s : HasStopped z script history boots running) where
+module _ (z : Setting) (script : Script) (history : List Entry) (boots : List Boot) (running : Option Object) (s : IsPastStop z script history boots running) where
   -- an entry that has no item in the first boot, or isn't visible
-  pub stopped_entered : (e : Entry) → is_in_first_boot z.iface.facts boots e ≡ false → HasStopped z script (history ++ e ∷ []) boots running
+  pub stopped_entered : (e : Entry) → is_in_first_boot z.iface.facts boots e ≡ false → IsPastStop z script (history ++ e ∷ []) boots running
   stopped_entered e not_first = record {
     first = s.first;
     newer = s.newer;
@@ -120,7 +108,7 @@ module _ (z : Setting) (script : Script) (history : List Entry) (boots : List Bo
 
   -- later boots grow
   grown_to : (grown : List Boot) (now : List Boot) (up : Option Object) → now ≡ s.first ∷ grown → grown ≢ [] → ((test : Item → Bool) → list_any test (items_of s.newer) ≡ true → list_any test (items_of grown) ≡ true)
-      → HasStopped z script history now up
+      → IsPastStop z script history now up
   grown_to grown now up is some more = record {
     first = s.first;
     newer = grown;
@@ -134,24 +122,24 @@ module _ (z : Setting) (script : Script) (history : List Entry) (boots : List Bo
         ∙ later_on z.iface.facts s.first s.newer grown more s.more (ap (λ b. list_any (is_in_first_boot z.iface.facts b) s.more) (sym s.are) ∙ s.later);
   }
 
-  pub stopped_booted : (up : Option Object) → HasStopped z script history (booted boots) up
+  pub stopped_booted : (up : Option Object) → IsPastStop z script history (booted boots) up
   stopped_booted up = grown_to (booted s.newer) (booted boots) up (ap booted s.are) (some_booted s.newer) (λ test is. ap (list_any test) (items_booted s.newer) ∙ is)
 
   module _ (runs : IsSome running) where
     -- an item is noted
-    pub stopped_noted : (item : Item) (up : Option Object) → HasStopped z script history (noted boots item) up
+    pub stopped_noted : (item : Item) (up : Option Object) → IsPastStop z script history (noted boots item) up
     stopped_noted item up = by s.newer refl
       where
-        by : (newer : List Boot) → s.newer ≡ newer → HasStopped z script history (noted boots item) up
+        by : (newer : List Boot) → s.newer ≡ newer → IsPastStop z script history (noted boots item) up
         by [] none = absurd (s.again runs none)
         by (b ∷ newer) is = grown_to (noted (b ∷ newer) item) (noted boots item) up (ap (λ l. noted l item) (s.are ∙ ap (λ l. s.first ∷ l) is)) (some_noted b newer item)
-            (λ test any. ap (list_any test) (items_noted b newer item) ∙ any_left test (items_of (b ∷ newer)) (item ∷ []) (ap (λ l. list_any test (items_of l)) (sym is) ∙ any))
+            (λ test any. ap (list_any test) (items_more b newer item) ∙ any_left test (items_of (b ∷ newer)) (item ∷ []) (ap (λ l. list_any test (items_of l)) (sym is) ∙ any))
 
     -- the service stops again
-    pub stopped_again : (stop : ℕ) (up : Option Object) → HasStopped z script history (struck boots stop) up
+    pub stopped_again : (stop : ℕ) (up : Option Object) → IsPastStop z script history (struck boots stop) up
     stopped_again stop up = by s.newer refl
       where
-        by : (newer : List Boot) → s.newer ≡ newer → HasStopped z script history (struck boots stop) up
+        by : (newer : List Boot) → s.newer ≡ newer → IsPastStop z script history (struck boots stop) up
         by [] none = absurd (s.again runs none)
         by (b ∷ newer) is = grown_to (struck (b ∷ newer) stop) (struck boots stop) up (ap (λ l. struck l stop) (s.are ∙ ap (λ l. s.first ∷ l) is)) (some_struck b newer stop)
             (λ test any. ap (list_any test) (items_struck (b ∷ newer) stop) ∙ ap (λ l. list_any test (items_of l)) (sym is) ∙ any)
@@ -165,15 +153,15 @@ module _ (z : Setting) (script : Script) (history : List Entry) (boots : List Bo
         by (b ∷ newer) is = ap (λ l. is_in_first_boot z.iface.facts (noted l item) e) (s.are ∙ ap (λ l. s.first ∷ l) is) ∙ noted_later z.iface.facts s.first b newer item e own
 
 -- an entry is committed with its item
-pub stopped_committed : (z : Setting) (script : Script) (history : List Entry) (boots : List Boot) (running : Option Object) (s : HasStopped z script history boots running) → IsSome running
-    → (item : Item) (e : Entry) → is_item_of e item ≡ true → (up : Option Object) → HasStopped z script (history ++ e ∷ []) (noted boots item) up
+pub stopped_committed : (z : Setting) (script : Script) (history : List Entry) (boots : List Boot) (running : Option Object) (s : IsPastStop z script history boots running) → IsSome running
+    → (item : Item) (e : Entry) → is_item_of e item ≡ true → (up : Option Object) → IsPastStop z script (history ++ e ∷ []) (noted boots item) up
 stopped_committed z script history boots running s runs item e own up =
     stopped_entered z script history (noted boots item) up (stopped_noted z script history boots running s runs item up) e (own_later z script history boots running s runs item e own)
 
 -- ---- the first stop
 
 pub stops_first : (z : Setting) (script : Script) (history : List Entry) (boots : List Boot) (items : List Item) (stop turns : ℕ) → boots ≡ record { items = items; stop = Some stop } ∷ []
-    → history ≡ (stage_after z.iface z.ask script turns).history → HasStopped z script history boots None
+    → history ≡ (stage_after z.iface z.ask script turns).history → IsPastStop z script history boots None
 stops_first z script history boots items stop turns are is = record {
   first = record { items = items; stop = Some stop };
   newer = [];

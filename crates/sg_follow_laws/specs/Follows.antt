@@ -53,7 +53,7 @@ pub record NeverStopped (z : Setting) (script : Script) (history : List Entry) (
 
 -- the service stopped in its first boot: up to then the history was that of a stage of the play without stops, and no entry behind that
 -- has its item in the first boot and is visible
-pub record HasStopped (z : Setting) (script : Script) (history : List Entry) (boots : List Boot) (running : Option Object) : Type 0 where
+pub record IsPastStop (z : Setting) (script : Script) (history : List Entry) (boots : List Boot) (running : Option Object) : Type 0 where
   pub first : Boot
   pub newer : List Boot
   pub are : boots ≡ first ∷ newer
@@ -69,4 +69,4 @@ pub record HasStopped (z : Setting) (script : Script) (history : List Entry) (bo
 -- a play follows the play without stops, where so many turns of the schedule were taken or passed over, and this client took the last
 pub record IsFollowing (z : Setting) (script : Script) (w : WorldView) (passed last : ℕ) : Type 0 where
   pub hold : HoldAll z.iface.facts w.seats
-  pub follows : NeverStopped z script w.history w.run.boots w.running w.seats (stage_of script w passed last) ⊎ HasStopped z script w.history w.run.boots w.running
+  pub follows : NeverStopped z script w.history w.run.boots w.running w.seats (stage_of script w passed last) ⊎ IsPastStop z script w.history w.run.boots w.running

@@ -29,7 +29,7 @@ same_id_at facts call good r = at (r.id == call.desc)
     at true = refl
     at false = refl
 
-same_parent_at : (facts : Facts) (call : Call) (good : Good) (r : Row) → (change_at facts call good r).parent ≡ r.parent
+pub same_parent_at : (facts : Facts) (call : Call) (good : Good) (r : Row) → (change_at facts call good r).parent ≡ r.parent
 same_parent_at facts call good r = at (r.id == call.desc)
   where
     at : (b : Bool) → (cond b (row_after facts call good r) r).parent ≡ r.parent

@@ -24,7 +24,7 @@ use Rattle.sg_plain.specs.Plain.{IsPlainPlay, Phase, Player, Stage, after_call, 
 use Rattle.sg_plain.specs.Promises.{AreFirstCalls, AreScriptsCalls, GetsPlainAlone}
 use Rattle.sg_plain.specs.Script.{call_fits, calls_fit}
 use Rattle.sg_plain_laws.proofs.Plays.{first_is_stage, goes_on, has_next, next_is, nobody}
-use Rattle.sg_plain_laws.specs.Left.{FitScript, FitsCalls, IsStage}
+use Rattle.sg_plain_laws.specs.Left.{FitScript, FitsCalls, IsPlayStage}
 use Rattle.sg_play_laws.proofs.Resolving.{fits_at, resolved_more}
 use Rattle.sg_walk_laws.proofs.Found.{other_test}
 use Rattle.sg_script.specs.declared.script.Script.{Script}
@@ -277,7 +277,7 @@ module _ (i : Declared) (ask : Table) (script : Script) (history : List Entry) (
 
   -- a stage is a front, and so is the next
   next_front : (blocks : (o : Object) (call : Call) → ask o call ≡ None → (fun_at i.facts.funs call.fun).block ≡ true)
-      → list_all (λ (c : ScriptCall). not (fun_at i.facts.funs c.fun).block) script.setup ≡ true → (s : Stage) → IsStage i.facts script s → IsFront history s → IsFront history (next_stage i ask script s)
+      → list_all (λ (c : ScriptCall). not (fun_at i.facts.funs c.fun).block) script.setup ≡ true → (s : Stage) → IsPlayStage i.facts script s → IsFront history s → IsFront history (next_stage i ask script s)
   next_front blocks setup s stage is_front = by (next_turn script s) refl
     where
       may_one : (client : ℕ) → 1 ≤ client → may_turn s client ≡ true → client ≡ 1
@@ -306,22 +306,22 @@ module _ (i : Declared) (ask : Table) (script : Script) (history : List Entry) (
           subst (λ c. IsFront history (turned i ask script c (record s { schedule = left_schedule script s; last = c }) (player_of s c).phase)) (sym (may_one client first.from first.may)) one_turn
 
   next_stage_is : (blocks : (o : Object) (call : Call) → ask o call ≡ None → (fun_at i.facts.funs call.fun).block ≡ true)
-      → list_all (λ (c : ScriptCall). not (fun_at i.facts.funs c.fun).block) script.setup ≡ true → (s : Stage) → IsStage i.facts script s → IsStage i.facts script (next_stage i ask script s)
+      → list_all (λ (c : ScriptCall). not (fun_at i.facts.funs c.fun).block) script.setup ≡ true → (s : Stage) → IsPlayStage i.facts script s → IsPlayStage i.facts script (next_stage i ask script s)
   next_stage_is blocks setup s stage = by (next_turn script s) refl
     where
-      by : (o : Option ℕ) → next_turn script s ≡ o → IsStage i.facts script (after_turn i ask script s o)
+      by : (o : Option ℕ) → next_turn script s ≡ o → IsPlayStage i.facts script (after_turn i ask script s o)
       by None over = stage
-      by (Some client) next = subst (λ o. IsStage i.facts script (after_turn i ask script s o)) next (goes_on i ask script blocks setup s stage client next).stage
+      by (Some client) next = subst (λ o. IsPlayStage i.facts script (after_turn i ask script s o)) next (goes_on i ask script blocks setup s stage client next).stage
 
   fronts : (blocks : (o : Object) (call : Call) → ask o call ≡ None → (fun_at i.facts.funs call.fun).block ≡ true)
-      → list_all (λ (c : ScriptCall). not (fun_at i.facts.funs c.fun).block) script.setup ≡ true → (turns : ℕ) (s : Stage) → IsStage i.facts script s → IsFront history s
-      → IsStage i.facts script (stage_from i ask script s turns) × IsFront history (stage_from i ask script s turns)
+      → list_all (λ (c : ScriptCall). not (fun_at i.facts.funs c.fun).block) script.setup ≡ true → (turns : ℕ) (s : Stage) → IsPlayStage i.facts script s → IsFront history s
+      → IsPlayStage i.facts script (stage_from i ask script s turns) × IsFront history (stage_from i ask script s turns)
   fronts blocks setup zero s stage is_front = (stage, is_front)
   fronts blocks setup (suc turns) s stage is_front =
       fronts blocks setup turns (next_stage i ask script s) (next_stage_is blocks setup s stage) (next_front blocks setup s stage is_front)
 
   -- where nobody can go on, it is the whole
-  whole_front : (blocks : (o : Object) (call : Call) → ask o call ≡ None → (fun_at i.facts.funs call.fun).block ≡ true) (s : Stage) → IsStage i.facts script s → IsFront history s → next_turn script s ≡ None → history ≡ s.history
+  whole_front : (blocks : (o : Object) (call : Call) → ask o call ≡ None → (fun_at i.facts.funs call.fun).block ≡ true) (s : Stage) → IsPlayStage i.facts script s → IsFront history s → next_turn script s ≡ None → history ≡ s.history
   whole_front blocks s stage is_front over = is_front.is ∙ ap (λ l. s.history ++ l) (by is_front.p.phase refl is_front.stands fits_one) ∙ append-nil s.history
     where
       fits_one : FitsCalls i.facts (script_calls script 1) is_front.p.done is_front.p.phase

@@ -16,7 +16,7 @@ use Rattle.sg_facts.specs.Object.{Object, object_of}
 use Rattle.sg_facts.specs.declared.entry.Entry.{Entry}
 use Rattle.sg_plain.specs.Calls.{ascending_from, call_after, most_client, part_of, resolved, resolved_by, script_calls}
 use Rattle.sg_plain.specs.Plain.{IsPlainPlay, Phase, Player, Stage, after_call, after_guard, after_turn, appended, at_phase, blocked, behind_first, first_of, first_stage, gone_on, handed_over, holding, in_a_circle, is_under_way, left_schedule, may_turn, next_stage, next_turn, player_at, player_of, ready, replied, served, some_or, stage_after, stage_from, through, turned, woken_phase}
-use Rattle.sg_plain_laws.specs.Left.{FitScript, FitsCalls, IsStage, all_before, all_to_come, entries_to_come, turns_before, turns_left}
+use Rattle.sg_plain_laws.specs.Left.{FitScript, FitsCalls, IsPlayStage, all_before, all_to_come, entries_to_come, turns_before, turns_left}
 use Rattle.sg_plain_laws.proofs.Players.{before_set, fit_at, fit_set, fit_woken, length_set, length_woken, to_come_set, to_come_woken, woken_at, woken_from}
 use Rattle.sg_script.specs.declared.script.Script.{Script}
 use Rattle.sg_script.specs.declared.script.ScriptCall.{ScriptCall}
@@ -41,7 +41,7 @@ sooner a b a' b' n same less = omega (arith, ap (λ m. m * (3 * n + 1)) same, le
 
 -- a stage goes on to one with fewer turns left
 pub record GoesOn (facts : Facts) (script : Script) (s later : Stage) : Type 0 where
-  pub stage : IsStage facts script later
+  pub stage : IsPlayStage facts script later
   pub less : turns_left script later < turns_left script s
 
 lt_of : (n m : ℕ) → nat_lt n m ≡ true → n < m
@@ -79,7 +79,7 @@ has_next (c ∷ calls) zero below = (c, refl)
 has_next (c ∷ calls) (suc k) below = has_next calls k (omega (arith, below))
 
 module _ (i : Declared) (ask : Table) (script : Script) (blocks : (o : Object) (call : Call) → ask o call ≡ None → (fun_at i.facts.funs call.fun).block ≡ true) where
-  module _ (s : Stage) (is : IsStage i.facts script s) (client : ℕ) (first : 1 ≤ client) (p : Player) (there : slice_get s.players (client - 1) ≡ Some p) where
+  module _ (s : Stage) (is : IsPlayStage i.facts script s) (client : ℕ) (first : 1 ≤ client) (p : Player) (there : slice_get s.players (client - 1) ≡ Some p) where
     abbrev calls : List ScriptCall
     calls = script_calls script client
 
@@ -250,7 +250,7 @@ module _ (i : Declared) (ask : Table) (script : Script) (blocks : (o : Object) (
   there_is (p ∷ players) (suc k) may = there_is players k may
 
   -- a stage at which a client is to take a turn
-  turn_of : (s : Stage) → IsStage i.facts script s → (client : ℕ) → 1 ≤ client → may_turn s client ≡ true → GoesOn i.facts script s (turned i ask script client s (player_of s client).phase)
+  turn_of : (s : Stage) → IsPlayStage i.facts script s → (client : ℕ) → 1 ≤ client → may_turn s client ≡ true → GoesOn i.facts script s (turned i ask script client s (player_of s client).phase)
   turn_of s is client first may =
       let found = there_is s.players (client - 1) may in
       let same : (player_of s client).phase ≡ found.0.phase = ap (λ (o : Option Player). (unwrap_or o (record { done = 0; phase = through })).phase) found.1 in
@@ -369,7 +369,7 @@ module _ (i : Declared) (ask : Table) (script : Script) (blocks : (o : Object) (
         right false all = absurd (cc all)
 
     -- so it may take its turn
-    setting_up : (s : Stage) → IsStage i.facts script s → nat_lt (player_of s 1).done (length script.setup) ≡ true → may_turn s 1 ≡ true
+    setting_up : (s : Stage) → IsPlayStage i.facts script s → nat_lt (player_of s 1).done (length script.setup) ≡ true → may_turn s 1 ≡ true
     setting_up s is less =
         let found = first_there s.players is.some in
         let same : player_of s 1 ≡ found.0 = ap (λ (o : Option Player). unwrap_or o (record { done = 0; phase = through })) found.1 in
@@ -393,7 +393,7 @@ module _ (i : Declared) (ask : Table) (script : Script) (blocks : (o : Object) (
 
     -- ---- a play goes on until nobody can
 
-    pub next_is : (s : Stage) → IsStage i.facts script s → (client : ℕ) → next_turn script s ≡ Some client → IsFirstOf s client
+    pub next_is : (s : Stage) → IsPlayStage i.facts script s → (client : ℕ) → next_turn script s ≡ Some client → IsFirstOf s client
     next_is s is client next = by (nat_lt (player_of s 1).done (length script.setup)) refl next
       where
         circle : list_all (λ c. nat_le 1 c) (in_a_circle s) ≡ true
@@ -407,14 +407,14 @@ module _ (i : Declared) (ask : Table) (script : Script) (blocks : (o : Object) (
         by true less is_some = let same : 1 ≡ client = cc is_some in record { from = omega (arith, same); may = ap (may_turn s) (sym same) ∙ setting_up s is less }
         by false more is_some = found (first_of s s.schedule) refl is_some
 
-    rest_is : (s : Stage) → IsStage i.facts script s → list_all (λ c. nat_le 1 c) (left_schedule script s) ≡ true
+    rest_is : (s : Stage) → IsPlayStage i.facts script s → list_all (λ c. nat_le 1 c) (left_schedule script s) ≡ true
     rest_is s is = by (nat_lt (player_of s 1).done (length script.setup))
       where
         by : (b : Bool) → list_all (λ c. nat_le 1 c) (cond b s.schedule (behind_first s s.schedule)) ≡ true
         by true = is.turns
         by false = rest_of s s.schedule is.turns
 
-    pub goes_on : (s : Stage) → IsStage i.facts script s → (client : ℕ) → next_turn script s ≡ Some client → GoesOn i.facts script s (next_stage i ask script s)
+    pub goes_on : (s : Stage) → IsPlayStage i.facts script s → (client : ℕ) → next_turn script s ≡ Some client → GoesOn i.facts script s (next_stage i ask script s)
     goes_on s is client next =
         let first = next_is s is client next in
         let turn = turn_of (record s { schedule = left_schedule script s; last = client }) (record { fit = is.fit; some = is.some; turns = rest_is s is }) client first.from first.may in
@@ -432,7 +432,7 @@ module _ (i : Declared) (ask : Table) (script : Script) (blocks : (o : Object) (
         by None over = record { turns = 0; over = over }
         by (Some client) next = more client next
 
-    ends_within : (fuel : ℕ) (s : Stage) → IsStage i.facts script s → turns_left script s ≤ fuel → Ends s
+    ends_within : (fuel : ℕ) (s : Stage) → IsPlayStage i.facts script s → turns_left script s ≤ fuel → Ends s
     ends_within zero s is few = choose s (λ client next. absurd (omega (arith, (goes_on s is client next).less, few)))
     ends_within (suc fuel) s is few = choose s (λ client next.
         let on = goes_on s is client next in
@@ -448,7 +448,7 @@ module _ (i : Declared) (ask : Table) (script : Script) (blocks : (o : Object) (
     first_length n zero = refl
     first_length n (suc count) = ap suc (first_length (n + 1) count)
 
-    pub first_is_stage : 1 ≤ most_client script.clients → list_all (λ c. nat_le 1 c) script.schedule ≡ true → IsStage i.facts script (first_stage script)
+    pub first_is_stage : 1 ≤ most_client script.clients → list_all (λ c. nat_le 1 c) script.schedule ≡ true → IsPlayStage i.facts script (first_stage script)
     first_is_stage some turns = record { fit = first_players 1 (most_client script.clients); some = omega (arith, some, first_length 1 (most_client script.clients)); turns = turns }
 
     -- the play without stops ends

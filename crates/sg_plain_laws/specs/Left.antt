@@ -55,7 +55,7 @@ abbrev pub turns_left : Script → Stage → ℕ
 turns_left script s = all_to_come script 1 s.players * (3 * length s.players + 1) + all_before s.players
 
 -- what a stage keeps
-pub record IsStage (facts : Facts) (script : Script) (s : Stage) : Type 0 where
+pub record IsPlayStage (facts : Facts) (script : Script) (s : Stage) : Type 0 where
   pub fit : FitScript facts script 1 s.players
   pub some : 1 ≤ length s.players
   pub turns : list_all (λ client. nat_le 1 client) s.schedule ≡ true

@@ -46,7 +46,7 @@ kinds_of own n (IsText ∷ kinds) (Number m ∷ args) fits = absurd (cc fits)
 kinds_of own n (IsText ∷ kinds) (Text t ∷ args) fits = kinds_of own n kinds args fits
 kinds_of own n (IsText ∷ kinds) (Back k ∷ args) fits = absurd (cc fits)
 
-no_desc : (own : List Entry) (kinds : List Kind) (args : List Arg) → list_any is_desc kinds ≡ false → list_any is_parent kinds ≡ false → desc_among own kinds args ≡ 0
+pub no_desc : (own : List Entry) (kinds : List Kind) (args : List Arg) → list_any is_desc kinds ≡ false → list_any is_parent kinds ≡ false → desc_among own kinds args ≡ 0
 no_desc own [] args desc parent = refl
 no_desc own (k ∷ kinds) [] desc parent = refl
 no_desc own (Desc ∷ kinds) (a ∷ args) desc parent = absurd (cc desc)
@@ -61,7 +61,7 @@ there_below (d ∷ calls) (suc k) c there = omega (arith, there_below calls k c 
 
 -- ---- a client that has no call under way
 
-free_handed : (s : Seat) → is_free_phase s.phase ≡ true → handed s ≡ s.seq
+pub free_handed : (s : Seat) → is_free_phase s.phase ≡ true → handed s ≡ s.seq
 free_handed s free = ap (λ b. cond b (s.seq - 1) s.seq) (by s.phase free)
   where
     by : (p : Phase) → is_free_phase p ≡ true → is_receipted p ≡ false

@@ -39,11 +39,11 @@ legal-more i ask history e legal is =
 
 -- ---- places
 
-any_more : (test : Item → Bool) (items : List Item) (item : Item) → test item ≡ false → list_any test (items ++ item ∷ []) ≡ list_any test items
+pub any_more : (test : Item → Bool) (items : List Item) (item : Item) → test item ≡ false → list_any test (items ++ item ∷ []) ≡ list_any test items
 any_more test [] item none = ap (λ b. b || false) none
 any_more test (x ∷ items) item none = ap (λ b. test x || b) (any_more test items item none)
 
-any_last : (test : Item → Bool) (items : List Item) (item : Item) → test item ≡ true → list_any test (items ++ item ∷ []) ≡ true
+pub any_last : (test : Item → Bool) (items : List Item) (item : Item) → test item ≡ true → list_any test (items ++ item ∷ []) ≡ true
 any_last test [] item one = ap (λ b. b || false) one
 any_last test (x ∷ items) item one = ap (λ b. test x || b) (any_last test items item one) ∙ either (test x)
   where
@@ -160,7 +160,7 @@ both_grown item [] (q ∷ qs) ps' qs' one other = absurd one
 both_grown item (p ∷ ps) [] ps' qs' one other = absurd one
 both_grown item (p ∷ ps) (q ∷ qs) ps' qs' one other = (one.0, both_grown item ps qs ps' qs' one.1 other)
 
-items_more : (b : Boot) (boots : List Boot) (item : Item) → items_of (noted (b ∷ boots) item) ≡ items_of (b ∷ boots) ++ item ∷ []
+pub items_more : (b : Boot) (boots : List Boot) (item : Item) → items_of (noted (b ∷ boots) item) ≡ items_of (b ∷ boots) ++ item ∷ []
 items_more b [] item = append-nil (b.items ++ item ∷ []) ∙ ap (λ v. v ++ item ∷ []) (sym (append-nil b.items))
 items_more b (c ∷ boots) item = ap (λ v. b.items ++ v) (items_more c boots item) ∙ sym (append_assoc b.items (items_of (c ∷ boots)) (item ∷ []))
 
@@ -194,7 +194,7 @@ past_all older b (c ∷ boots) item = past_all (older ++ b.items) c boots item �
 
 -- ---- a boot more
 
-items_struck : (boots : List Boot) (stop : ℕ) → items_of (struck boots stop) ≡ items_of boots
+pub items_struck : (boots : List Boot) (stop : ℕ) → items_of (struck boots stop) ≡ items_of boots
 items_struck [] stop = refl
 items_struck (b ∷ []) stop = refl
 items_struck (b ∷ c ∷ boots) stop = ap (λ v. b.items ++ v) (items_struck (c ∷ boots) stop)
@@ -207,7 +207,7 @@ places-struck older (b ∷ c ∷ boots) stop =
     ap (λ v. places_in older [] b.items v ++ places_from (older ++ b.items) (struck (c ∷ boots) stop)) (items_struck (c ∷ boots) stop)
     ∙ ap (λ v. places_in older [] b.items (items_of (c ∷ boots)) ++ v) (places-struck (older ++ b.items) (c ∷ boots) stop)
 
-items_booted : (boots : List Boot) → items_of (booted boots) ≡ items_of boots
+pub items_booted : (boots : List Boot) → items_of (booted boots) ≡ items_of boots
 items_booted [] = refl
 items_booted (b ∷ boots) = ap (λ v. b.items ++ v) (items_booted boots)
 

@@ -7,6 +7,7 @@ use Rattle.sg_facts.specs.Facts.{Facts}
 use Rattle.sg_facts.specs.Trace.{Boot}
 use Rattle.sg_hist.specs.Reading.{Place, is_tagged, items_of, places_from, places_in}
 use Rattle.sg_plain.specs.Promises.{IsWokenBetween, has_blocked, wakes_at}
+use Rattle.sg_recovery_laws.proofs.Growing.{items_more}
 use Rattle.sg_recovery_laws.proofs.InBoots.{older_noted}
 use Rattle.sg_recovery_laws.proofs.Lists.{each_append, each_split}
 use Rattle.sg_recovery_laws.specs.Growing.{IsGrown, booted, last_items, noted, older_items, struck}
@@ -53,10 +54,6 @@ at_places P older front [] newer all = tt
 at_places P older front (item ∷ items) newer all = (all.0, at_places P older (front ++ item ∷ []) items newer all.1)
 
 -- ---- all places
-
-items_more : (b : Boot) (boots : List Boot) (item : Item) → items_of (noted (b ∷ boots) item) ≡ items_of (b ∷ boots) ++ item ∷ []
-items_more b [] item = append-nil (b.items ++ item ∷ []) ∙ ap (λ v. v ++ item ∷ []) (sym (append-nil b.items))
-items_more b (c ∷ boots) item = ap (λ v. b.items ++ v) (items_more c boots item) ∙ sym (append_assoc b.items (items_of (c ∷ boots)) (item ∷ []))
 
 module _ (facts : Facts) (entries now : List Entry) (x : Item) (same : (id : ℕ) (p q : Place) → IsGrown x p q → wakes_at facts now id q ≡ wakes_at facts entries id p) where
   -- who waits is woken between where an item is noted, if it was woken before it waits there

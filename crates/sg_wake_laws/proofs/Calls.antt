@@ -24,6 +24,7 @@ use Rattle.sg_plain.specs.Script.{args_fit, calls_fit, desc_among}
 use Rattle.sg_play_laws.proofs.Calling.{next_of}
 use Rattle.sg_play_laws.proofs.Resolving.{fits_at}
 use Rattle.sg_play_laws.specs.Callers.{IsCaller}
+use Rattle.sg_play.proofs.Offering.{no_desc}
 use Rattle.sg_recovery_laws.proofs.Lists.{each_map}
 use Rattle.sg_recovery_laws.specs.Growing.{IsOfNoEntry}
 use Rattle.sg_script.specs.declared.script.Arg.{Arg}
@@ -88,14 +89,6 @@ none_of_stub item [] stub = tt
 none_of_stub item (e ∷ history) stub = (stub_tagged e.call.client e.call.seq item.tag stub, none_of_stub item history stub)
 
 -- ---- calls that fit
-
-no_desc : (own : List Entry) (kinds : List Kind) (args : List Arg) → list_any is_desc kinds ≡ false → list_any is_parent kinds ≡ false → desc_among own kinds args ≡ 0
-no_desc own [] args desc parent = refl
-no_desc own (k ∷ kinds) [] desc parent = refl
-no_desc own (Desc ∷ kinds) (a ∷ args) desc parent = absurd (cc desc)
-no_desc own (Parent ∷ kinds) (a ∷ args) desc parent = absurd (cc parent)
-no_desc own (IsWord ∷ kinds) (a ∷ args) desc parent = no_desc own kinds args desc parent
-no_desc own (IsText ∷ kinds) (a ∷ args) desc parent = no_desc own kinds args desc parent
 
 -- the call under way of a client is of a function of the service
 pub fit_call : (i : Declared) (script : Script) (history : List Entry) (client : ℕ) (s : Seat) → Fits i → calls_fit i 1 (script_calls script client) ≡ true → IsCaller i.facts script history client s

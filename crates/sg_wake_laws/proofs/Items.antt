@@ -15,51 +15,7 @@ use Rattle.sg_recovery_laws.proofs.Lists.{each_append, each_map}
 use Rattle.sg_recovery_laws.proofs.Served.{Has, each_reverse, found_has}
 use Rattle.sg_recovery_laws.specs.Growing.{last_items, older_items}
 use Rattle.sg_trace_laws.specs.LastPlace.{HaveItems}
-
-abbrev IsAmong : List Item → Place → Type 0
-IsAmong items p = (test : Item → Bool) → test p.item ≡ true → list_any test items ≡ true
-
-or_left : (a c : Bool) → a ≡ true → (a || c) ≡ true
-or_left true c is = refl
-or_left false c is = absurd (cc is)
-
-or_right : (a c : Bool) → c ≡ true → (a || c) ≡ true
-or_right true c is = refl
-or_right false c is = is
-
-any_left : (test : Item → Bool) (xs ys : List Item) → list_any test xs ≡ true → list_any test (xs ++ ys) ≡ true
-any_left test xs ys is = list_any-append test xs ys ∙ or_left (list_any test xs) (list_any test ys) is
-
-any_right : (test : Item → Bool) (xs ys : List Item) → list_any test ys ≡ true → list_any test (xs ++ ys) ≡ true
-any_right test xs ys is = list_any-append test xs ys ∙ or_right (list_any test xs) (list_any test ys) is
-
-among_in : (all older front items newer : List Item) → ((test : Item → Bool) → list_any test items ≡ true → list_any test all ≡ true) → Each (IsAmong all) (places_in older front items newer)
-among_in all older front [] newer within = tt
-among_in all older front (item ∷ items) newer within =
-    ((λ test is. within test (or_left (test item) (list_any test items) is)), among_in all older (front ++ item ∷ []) items newer (λ test is. within test (or_right (test item) (list_any test items) is)))
-
-within_older : (before : List Item) (boots : List Boot) (test : Item → Bool) → list_any test before ≡ true → list_any test (older_items before boots ++ last_items boots) ≡ true
-within_older before [] test is = any_left test before [] is
-within_older before (b ∷ []) test is = any_left test before b.items is
-within_older before (b ∷ c ∷ boots) test is = within_older (before ++ b.items) (c ∷ boots) test (any_left test before b.items is)
-
-among_places : (before : List Item) (boots : List Boot) → Each (IsAmong (older_items before boots ++ last_items boots)) (places_from before boots)
-among_places before [] = tt
-among_places before (b ∷ []) =
-    each_append (IsAmong (before ++ b.items)) (places_in before [] b.items (items_of [])) [] (among_in (before ++ b.items) before [] b.items (items_of []) (λ test is. any_right test before b.items is)) tt
-among_places before (b ∷ c ∷ boots) =
-    let all = older_items (before ++ b.items) (c ∷ boots) ++ last_items (c ∷ boots) in
-    each_append (IsAmong all) (places_in before [] b.items (items_of (c ∷ boots))) (places_from (before ++ b.items) (c ∷ boots))
-    (among_in all before [] b.items (items_of (c ∷ boots)) (λ test is. within_older (before ++ b.items) (c ∷ boots) test (any_right test before b.items is)))
-    (among_places (before ++ b.items) (c ∷ boots))
-
-found_passes : (f : Place → Bool) (ps : List Place) (p : Place) → find f ps ≡ Some p → f p ≡ true
-found_passes f [] p is = absurd (cc is)
-found_passes f (x ∷ ps) p is = at (f x) refl (found_passes f ps p) is
-  where
-    at : (t : Bool) → f x ≡ t → (find f ps ≡ Some p → f p ≡ true) → cond t (Some x) (find f ps) ≡ Some p → f p ≡ true
-    at true passes rest found = let one : x ≡ p = cc found in subst (λ y. f y ≡ true) one passes
-    at false fails rest found = rest found
+use Rattle.sg_world_laws.proofs.Items.{IsAmong, among_places, found_passes}
 
 has_item : (facts : Facts) (history : List Entry) (run : Run) (e : Entry) → HasItem facts history run e
     → (is_by_guard e.reply || list_any (is_item_of e) (older_items [] run.boots ++ last_items run.boots)) ≡ true

@@ -17,7 +17,7 @@ use Rattle.sg_facts.specs.Legal.{LegalFrom, Table, answer, refused_or}
 use Rattle.sg_facts.specs.Object.{Object, after, empty_object, object_from, object_of}
 use Rattle.sg_facts.specs.Track.{is_ancestor, nearest, new_row, parent_in, row_after, row_at, rows_after}
 use Rattle.sg_object_laws.proofs.Apart.{IsOwnRow, changes_row, ends_rows, makes_row, query_keeps}
-use Rattle.sg_object_laws.proofs.Changed.{change_at}
+use Rattle.sg_object_laws.proofs.Changed.{change_at, same_parent_at}
 use Rattle.sg_object_laws.proofs.Commute.{given_with, same_creator_at, same_id_at}
 use Rattle.sg_object_laws.proofs.Guarded.{ActsOnOne, acts, each_fun, keeps, let_pass, own_desc, own_parent}
 use Rattle.sg_object_laws.proofs.Left.{stays}
@@ -43,13 +43,6 @@ more_given rows given now more is = record {
   last = λ id r there. omega (arith, more, is.last id r there);
   parent = λ id r there. omega (arith, more, is.parent id r there);
 }
-
-same_parent_at : (facts : Facts) (call : Call) (good : Good) (r : Row) → (change_at facts call good r).parent ≡ r.parent
-same_parent_at facts call good r = at (r.id == call.desc)
-  where
-    at : (b : Bool) → (cond b (row_after facts call good r) r).parent ≡ r.parent
-    at true = refl
-    at false = refl
 
 -- an Ok keeps them so
 module _ (facts : Facts) (call : Call) (good : Good) (rows : List Row) (given : ℕ) (is : IsOwnTree rows given) (next : (fun_at facts.funs call.fun).creation ≡ true → good.desc ≡ given + 1)

@@ -33,7 +33,7 @@ any_left test xs ys is = list_any-append test xs ys ∙ or_left (list_any test x
 any_right : (test : Item → Bool) (xs ys : List Item) → list_any test ys ≡ true → list_any test (xs ++ ys) ≡ true
 any_right test xs ys is = list_any-append test xs ys ∙ or_right (list_any test xs) (list_any test ys) is
 
-among_in : (all older front items newer : List Item) → ((test : Item → Bool) → list_any test items ≡ true → list_any test all ≡ true) → Each (IsAmong all) (places_in older front items newer)
+pub among_in : (all older front items newer : List Item) → ((test : Item → Bool) → list_any test items ≡ true → list_any test all ≡ true) → Each (IsAmong all) (places_in older front items newer)
 among_in all older front [] newer within = tt
 among_in all older front (item ∷ items) newer within =
     ((λ test is. within test (or_left (test item) (list_any test items) is)), among_in all older (front ++ item ∷ []) items newer (λ test is. within test (or_right (test item) (list_any test items) is)))
@@ -43,7 +43,7 @@ within_older before [] test is = any_left test before [] is
 within_older before (b ∷ []) test is = any_left test before b.items is
 within_older before (b ∷ c ∷ boots) test is = within_older (before ++ b.items) (c ∷ boots) test (any_left test before b.items is)
 
-among_places : (before : List Item) (boots : List Boot) → Each (IsAmong (older_items before boots ++ last_items boots)) (places_from before boots)
+pub among_places : (before : List Item) (boots : List Boot) → Each (IsAmong (older_items before boots ++ last_items boots)) (places_from before boots)
 among_places before [] = tt
 among_places before (b ∷ []) =
     each_append (IsAmong (before ++ b.items)) (places_in before [] b.items (items_of [])) [] (among_in (before ++ b.items) before [] b.items (items_of []) (λ test is. any_right test before b.items is)) tt
@@ -53,7 +53,7 @@ among_places before (b ∷ c ∷ boots) =
     (among_in all before [] b.items (items_of (c ∷ boots)) (λ test is. within_older (before ++ b.items) (c ∷ boots) test (any_right test before b.items is)))
     (among_places (before ++ b.items) (c ∷ boots))
 
-found_passes : (f : Place → Bool) (ps : List Place) (p : Place) → find f ps ≡ Some p → f p ≡ true
+pub found_passes : (f : Place → Bool) (ps : List Place) (p : Place) → find f ps ≡ Some p → f p ≡ true
 found_passes f [] p is = absurd (cc is)
 found_passes f (x ∷ ps) p is = at (f x) refl (found_passes f ps p) is
   where

@@ -41,7 +41,7 @@ use Rattle.sg_world_laws.specs.Seats.{HaveSeats, MayBeMade}
 use Rattle.sg_world_laws.specs.Setting.{IsSetting, Setting, stubs_of}
 
 -- a code of the guard is one of its own
-by_the_guard : (i : Declared) (o : Object) (call : Call) (code : Code) → guard i o call ≡ Some code → is_guards code ≡ true
+pub by_the_guard : (i : Declared) (o : Object) (call : Call) (code : Code) → guard i o call ≡ Some code → is_guards code ≡ true
 by_the_guard i o call code is =
     by (fun_at i.facts.funs call.fun).query
     (takes_parent (fun_at i.facts.funs call.fun) && not (may_be_parent i.facts.parents (row_at o.rows call.desc) call.desc call.client))
