@@ -1,2 +1,4 @@
 -- What the contracts of private functions cite.
 pub mod Delivery
+pub mod Kinds
+pub mod Words
