@@ -1,5 +1,5 @@
 -- An input that is ready is of one of the services, and its script may be played.
-use Rattle.std.proofs.Common.{◌≡◌, ◌⊎◌, inl, inr, ℕ, Bool, true, false, List, [], ◌∷◌, None, Some, cond, map, refl, sym, ◌∙◌, ap, subst}
+use Rattle.std.proofs.Common.{◌≡◌, ◌⊎◌, inl, inr, ℕ, Bool, true, false, List, [], ◌∷◌, None, Some, cond, map, refl, sym, ◌∙◌, ap, subst, arith}
 use Rattle.std.specs.List.{Contains}
 use Rattle.std.specs.Str.{bytes_eq}
 use Rattle.std.specs.declared.option.Option.{Option}
@@ -54,11 +54,11 @@ of_kind facts kind one is = sym (ap (λ k. (answering k).facts) is ∙ kind_is f
 
 -- it is among those that are played
 pub is_served : (kind : ServiceKind) → Contains served (answering kind)
-is_served Locks = ?
-is_served Events = ?
-is_served Pages = ?
-is_served Files = ?
-is_served Threads = ?
+is_served Locks = (0, omega arith, refl)
+is_served Events = (1, omega arith, refl)
+is_served Pages = (2, omega arith, refl)
+is_served Files = (3, omega arith, refl)
+is_served Threads = (4, omega arith, refl)
 
 -- ---- inputs
 

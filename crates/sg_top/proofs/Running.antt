@@ -5,6 +5,7 @@ use Rattle.std.proofs.lemmas.Bool.Decides.{nat_tests}
 use Rattle.sg_edge.specs.Stops.{AscendsAbove, up_to}
 use Rattle.sg_facts.specs.Interface.{Declared}
 use Rattle.sg_facts.specs.Legal.{Table}
+use Rattle.sg_facts.specs.Tables.{AreTables}
 use Rattle.sg_facts.specs.declared.tables.WalkLine.{WalkLine}
 use Rattle.sg_hist.specs.declared.ended.Ended.{Ended}
 use Rattle.sg_report.specs.Report.{report_of}
@@ -22,13 +23,13 @@ listed low (n ∷ stops) points ascend =
     from_one : (n low : ℕ) → low < n → nat_le 1 n ≡ true
     from_one n low above = grind (arith, nat_tests)
 
-pub run_so : (i : Declared) (service : Answering) (walks : List WalkLine) (script : Script) (plan : List ℕ) (with_trace : Bool) (ended : Ended) (written : List ℕ) → plan ≡ script.stops → AscendsAbove 0 script.stops
+pub run_so : (i : Declared) (service : Answering) (walks : List WalkLine) (script : Script) (plan : List ℕ) (with_trace : Bool) (ended : Ended) (written : List ℕ) → AreTables i walks → plan ≡ script.stops → AscendsAbove 0 script.stops
     → IsPlayed (record { interface = i; ask = service.ask; parts = service.parts; walks = walks }) (λ asked struck plan. struck ≡ up_to asked plan) script plan ended → written ≡ report_of i.facts ended with_trace
     → IsRunOf i service script with_trace ended written
-run_so i service walks script plan with_trace ended written same ascend played report = record {
+run_so i service walks script plan with_trace ended written tables same ascend played report = record {
   legal = played.legal;
   calls = played.calls;
-  recovered = (walks, played.recovered);
+  recovered = (walks, tables, played.recovered);
   stops = played.stops ∙ ap (up_to _) same ∙ listed 0 script.stops _ ascend;
   ends = played.ends;
   schedule = played.schedule;

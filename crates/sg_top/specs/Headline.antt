@@ -6,6 +6,7 @@ use Rattle.sg_event.specs.EventTable.{event_parts, event_table}
 use Rattle.sg_facts.specs.Facts.{Facts}
 use Rattle.sg_facts.specs.Interface.{Declared}
 use Rattle.sg_facts.specs.Legal.{IsLegal, Table}
+use Rattle.sg_facts.specs.Tables.{AreTables}
 use Rattle.sg_facts.specs.Trace.{run_of}
 use Rattle.sg_facts.specs.declared.tables.WalkLine.{WalkLine}
 use Rattle.sg_hist.specs.Recovered.{HasRecovered}
@@ -51,8 +52,9 @@ pub record IsRunOf (i : Declared) (service : Answering) (script : Script) (with_
   pub legal : IsLegal i service.ask ended.history.items
   -- the history's entries are the script's calls, each once and in its client's order, and those of the setup come first
   pub calls : AreScriptsCalls i.facts script ended.history.items
-  -- every reboot, walk and load is as it has to be, and each descriptor is in its tracked state when a call reaches the service
-  pub recovered : (walks : List WalkLine) × HasRecovered (record { interface = i; ask = service.ask; parts = service.parts; walks = walks }) ended.history.items (run_of ended.trace) ended.ends
+  -- every reboot, walk and load is as it has to be, and each descriptor is in its tracked state when a call reaches the service; the
+  -- walks are the least ones
+  pub recovered : (walks : List WalkLine) × AreTables i walks × HasRecovered (record { interface = i; ask = service.ask; parts = service.parts; walks = walks }) ended.history.items (run_of ended.trace) ended.ends
   -- the service stopped at the script's points, as far as points were asked, and at no others
   pub stops : AreScriptsStops script (run_of ended.trace)
   -- each client with a call is done, or waits in its next call, which the service can't answer

@@ -16,13 +16,10 @@ const FILES: &str =
 const THREADS: &str =
     "client 1 { sched_create_thd(5); sched_create_thd(5); sched_create_thd(5); sched_exit($1); sched_yield($2); sched_next(); }";
 
-// The greatest point of one stop, and of the first of two.
+// The greatest point of one stop, and of two.
 const MOST: u32 = 60;
 
 const MOST_OF_TWO: u32 = 40;
-
-// How far the second stop is behind the first: within what the reboot rebuilds, or behind that.
-const GAPS: [u32; 5] = [1, 2, 3, 5, 9];
 
 // The entries of a run: the lines before those of how clients ended.
 fn entries_of(alloc: Global, interface: &[u8], script: &str, stops: &str) -> Result<String, Fail> {
@@ -49,7 +46,7 @@ fn try_each(rt: &impl Abort, alloc: Global, interface: &[u8], script: &str) -> R
     Ok(())
 }
 
-// With a stop at each point and a second one behind it the entries are those without stops.
+// With stops at each two points the entries are those without stops.
 fn try_each_two(
     rt: &impl Abort,
     alloc: Global,
@@ -58,8 +55,7 @@ fn try_each_two(
 ) -> Result<(), Fail> {
     let wanted = entries_of(alloc, interface, script, "")?;
     for first in 1..=MOST_OF_TWO {
-        for gap in GAPS {
-            let second = first.saturating_add(gap);
+        for second in first + 1..=MOST_OF_TWO {
             let stops = format!(in alloc; "{first} {second}")?;
             let entries = entries_of(alloc, interface, script, &stops)?;
             assert!(rt; entries == wanted, "stop {stops}");
