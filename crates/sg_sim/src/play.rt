@@ -37,12 +37,6 @@ const FIRST: u8 = 1;
 /// A play of a script: its clients make their calls, turn by turn, on a world whose service may stop. Contracts see it as plain data.
 #[derive(Debug, Drop)]
 pub struct Play<S: Service, T: Stops> {
-    core: Core<S, T>,
-}
-
-// What a play holds.
-#[derive(Debug, Drop)]
-struct Core<S: Service, T: Stops> {
     world: World<S, T>,
     script: Script,
     given: Given,
@@ -60,9 +54,9 @@ impl<S: Service, T: Stops> Model for Play<S, T> {
 
     ghost Value = { Playing };
 
-    ghost view = { λ p. record { tables = p.core.world.tables; script = p.core.script; plan = p.core.world.plan; view = p.core.world.view; passed = p.core.passed; last = p.core.last } };
+    ghost view = { λ p. record { tables = p.world.tables; script = p.script; plan = p.world.plan; view = p.world.view; passed = p.passed; last = p.last } };
 
-    ghost invariant = { λ p. KeepsPlay (setting_of S.ask S.sound S.parts p.core.world.tables) p.core.script p.core.world.view (lists_of p.core.given) p.core.passed p.core.last };
+    ghost invariant = { λ p. KeepsPlay (setting_of S.ask S.sound S.parts p.world.tables) p.script p.world.view (lists_of p.given) p.passed p.last };
 }
 
 // A turn that is to be taken: its client, and how many turns of the schedule are behind it.
@@ -96,13 +90,11 @@ impl<S: Service, T: Stops> Play<S, T> {
         let given = Given::new(alloc, clients)?;
         let world = World::new(alloc, tables, clients, stops)?;
         Ok(Play {
-            core: Core {
-                world,
-                script,
-                given,
-                passed: 0,
-                last: 0,
-            },
+            world,
+            script,
+            given,
+            passed: 0,
+            last: 0,
         })
     }
 
@@ -145,7 +137,7 @@ impl<S: Service, T: Stops> Play<S, T> {
         ensures view { result.now.view ≡ self.now.view }
         ensures plan { result.now.plan ≡ self.now.plan }
     {
-        &self.core.world
+        &self.world
     }
 
     // A client takes its turn, which is the next. After `NoMemory` it has still to take it.
@@ -160,13 +152,13 @@ impl<S: Service, T: Stops> Play<S, T> {
     {
         take_turn(
             alloc,
-            &mut self.core.world,
-            &self.core.script,
-            &mut self.core.given,
+            &mut self.world,
+            &self.script,
+            &mut self.given,
             turn.client,
         )?;
-        self.core.passed = turn.passed;
-        self.core.last = turn.client;
+        self.passed = turn.passed;
+        self.last = turn.client;
         Ok(())
     }
 
@@ -174,14 +166,14 @@ impl<S: Service, T: Stops> Play<S, T> {
     fn clients(&self) -> u8
         ensures { result ≡ length self.now.view.seats }
     {
-        most_client(self.core.script.clients.as_slice())
+        most_client(self.script.clients.as_slice())
     }
 
     // Whether client 1 is still at the calls of the setup.
     fn is_setting_up(&self) -> bool
         ensures { result ≡ is_setting_up self.now.script self.now.view.seats }
     {
-        self.core.given.of(FIRST).len() < self.core.script.setup.len()
+        self.given.of(FIRST).len() < self.script.setup.len()
     }
 
     // Whose turn it is: client 1's until the setup is done, then who the schedule says and can, then who is next and can; None exactly
@@ -212,7 +204,7 @@ impl<S: Service, T: Stops> Play<S, T> {
     {
         Turn {
             client: FIRST,
-            passed: self.core.passed,
+            passed: self.passed,
         }
     }
 
@@ -224,8 +216,8 @@ impl<S: Service, T: Stops> Play<S, T> {
         ensures next { IfSome result (λ turn. IsNextTurn self.now.script (stage_now self.now) turn.client turn.passed) }
         ensures over { result ≡ None → NoneScheduled self.now (length self.now.script.schedule) }
     {
-        let schedule = self.core.script.schedule.as_slice();
-        'turns: for at in self.core.passed..schedule.len() {
+        let schedule = self.script.schedule.as_slice();
+        'turns: for at in self.passed..schedule.len() {
             let client = schedule[at];
             if self.can_go(client) {
                 return Some(Turn {
@@ -247,11 +239,11 @@ impl<S: Service, T: Stops> Play<S, T> {
         ensures next { IfSome result (λ turn. IsNextTurn self.now.script (stage_now self.now) turn.client turn.passed) }
         ensures over { result ≡ None → NobodyGoes self.now.script self.now.view.seats }
     {
-        let passed = self.core.script.schedule.len();
-        if let Some(client) = self.next_behind(self.core.last, self.clients()) {
+        let passed = self.script.schedule.len();
+        if let Some(client) = self.next_behind(self.last, self.clients()) {
             return Some(Turn { client, passed });
         }
-        match self.next_behind(0, self.core.last) {
+        match self.next_behind(0, self.last) {
             Some(client) => Some(Turn { client, passed }),
             None => None,
         }
@@ -280,7 +272,7 @@ impl<S: Service, T: Stops> Play<S, T> {
         if !self.has(client) {
             return false;
         }
-        may_go(self.core.world.phase(client), self.has_more(client))
+        may_go(self.world.phase(client), self.has_more(client))
     }
 
     // Whether a client is one of the world.
@@ -298,8 +290,8 @@ impl<S: Service, T: Stops> Play<S, T> {
         requires last { client ≤ length self.now.view.seats }
         ensures { result ≡ nat_lt (seat_of self.now.view client).seq (length (script_calls self.now.script client)) }
     {
-        let done = self.core.world.seq(client) as usize;
-        script_call(&self.core.script, client, done).is_some()
+        let done = self.world.seq(client) as usize;
+        script_call(&self.script, client, done).is_some()
     }
 
     // What the play came to, where nobody can take a turn.
@@ -308,13 +300,13 @@ impl<S: Service, T: Stops> Play<S, T> {
         requires nobody { NobodyGoes self.now.script self.now.view.seats }
         ensures { IfOk result (λ played. IsPlayed (stubs_of (setting_of S.ask S.sound S.parts self.now.tables)) T.test self.now.script self.now.plan played) }
     {
-        if self.core.world.refused() > 0 {
+        if self.world.refused() > 0 {
             return Err(NoMemory);
         }
-        let _ = self.core.world.interface();
+        let _ = self.world.interface();
         Ok(Played::new(Ended {
-            history: self.core.world.history().copied(alloc)?,
-            trace: self.core.world.trace().copied(alloc)?,
+            history: self.world.history().copied(alloc)?,
+            trace: self.world.trace().copied(alloc)?,
             ends: self.ends(alloc)?,
         }))
     }
@@ -336,7 +328,7 @@ impl<S: Service, T: Stops> Play<S, T> {
         requires last { client ≤ length self.now.view.seats }
         ensures { OnOk result (ends.new ≡ ends.old ++ end_by self.now.script client (seat_of self.now.view client)) }
     {
-        if script_call(&self.core.script, client, 0).is_none() {
+        if script_call(&self.script, client, 0).is_none() {
             return Ok(());
         }
         let end = self.end_of(alloc, client)?;
@@ -350,10 +342,10 @@ impl<S: Service, T: Stops> Play<S, T> {
         requires last { client ≤ length self.now.view.seats }
         ensures { IfOk result (λ end. end ≡ end_of (seat_of self.now.view client)) }
     {
-        if !waits(self.core.world.phase(client)) {
+        if !waits(self.world.phase(client)) {
             return Ok(End::Done);
         }
-        Ok(End::Blocked(self.core.world.call(client).copy(alloc)?))
+        Ok(End::Blocked(self.world.call(client).copy(alloc)?))
     }
 }
 

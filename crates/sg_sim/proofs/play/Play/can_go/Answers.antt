@@ -17,7 +17,7 @@ returns-then-not-has-clause-may g c = λ first.
 pub returns-clause-may : goal.returns-clause-may
 returns-clause-may g c = λ first.
     let p = c.args.self.now in
-    let keeps = subst (λ (q : Playing). KeepsPlay (setting_of g.S.Service.ask g.S.Service.sound g.S.Service.parts q.tables) q.script q.view (lists_of c.self.inside.core.given) q.passed q.last) c.self.view_is c.self.invariant in
+    let keeps = subst (λ (q : Playing). KeepsPlay (setting_of g.S.Service.ask g.S.Service.sound g.S.Service.parts q.tables) q.script q.view (lists_of c.self.inside.given) q.passed q.last) c.self.view_is c.self.invariant in
     let phase = c.phase.ensures.phase ∙ ap (λ (q : Playing). (seat_of q.view c.args.client).phase) c.self.view_is in
     c.may_go.ensures ∙ ap (λ ph. may_go ph c.has_more.result) phase ∙ ap (may_go (seat_of p.view c.args.client).phase) c.has_more.ensures
-    ∙ sym (turns_alike p.tables.iface p.script p.view (lists_of c.self.inside.core.given) keeps.playing p.passed p.last c.args.client first (c.has.ensures.last c.if-not-has.false))
+    ∙ sym (turns_alike p.tables.iface p.script p.view (lists_of c.self.inside.given) keeps.playing p.passed p.last c.args.client first (c.has.ensures.last c.if-not-has.false))

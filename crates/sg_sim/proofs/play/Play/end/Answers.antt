@@ -16,7 +16,7 @@ use Rattle.sg_sim.proofs.play.Play.end.Goals as goal
 
 pub returns : goal.returns
 returns g c =
-    let x = c.self.inside.core in
+    let x = c.self.inside in
     let z : Setting = setting_of g.S.Service.ask g.S.Service.sound g.S.Service.parts x.world.tables in
     let settled : is_setting_up x.script x.world.view.seats ≡ false = subst (λ (q : Playing). is_setting_up q.script q.view.seats ≡ false) (sym c.self.view_is) c.requires.settled in
     let nobody : NobodyGoes x.script x.world.view.seats = subst (λ (q : Playing). NobodyGoes q.script q.view.seats) (sym c.self.view_is) c.requires.nobody in

@@ -8,6 +8,6 @@ use Rattle.sg_sim.proofs.play.Play.has_more.Goals as goal
 
 pub returns : goal.returns
 returns g c =
-    let calls = script_calls c.self.inside.core.script c.args.client in
+    let calls = script_calls c.self.inside.script c.args.client in
     subst (λ (q : Playing). c.is_some.result ≡ nat_lt (seat_of q.view c.args.client).seq (length (script_calls q.script c.args.client))) c.self.view_is
     (c.is_some.ensures ∙ is_there calls c.seq-done.result c.script_call.result c.script_call.ensures ∙ ap (λ n. nat_lt n (length calls)) c.seq-done.ensures.seq)

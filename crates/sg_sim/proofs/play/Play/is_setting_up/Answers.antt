@@ -11,11 +11,11 @@ use Rattle.sg_sim.proofs.play.Play.is_setting_up.Goals as goal
 pub of-requires-clause-last : goal.of-requires-clause-last
 of-requires-clause-last g c =
     let is = c.self.invariant.playing in
-    omega (arith, is.have_given.clients, is.clients, length_lists c.self.inside.core.given, clients_from_one 0 c.self.inside.core.script.clients is.playable.clients)
+    omega (arith, is.have_given.clients, is.clients, length_lists c.self.inside.given, clients_from_one 0 c.self.inside.script.clients is.playable.clients)
 
 pub returns : goal.returns
 returns g c =
-    let x = c.self.inside.core in
+    let x = c.self.inside in
     let is = c.self.invariant.playing in
     let some : 1 ≤ length x.world.view.seats = omega (arith, is.clients, clients_from_one 0 x.script.clients is.playable.clients) in
     let own = ap length c.of.ensures ∙ given_count x.world.tables.iface x.script x.world.view.history x.world.view.seats (lists_of x.given) is 1 (omega arith) some in

@@ -12,25 +12,25 @@ use Rattle.sg_sim.proofs.play.Play.next_in_circle.Goals as goal
 pub returns-in-Some-clause-next : goal.returns-in-Some-clause-next
 returns-in-Some-clause-next g c =
     let p = c.args.self.now in
-    let last : c.self.inside.core.last ≡ p.last = ap (λ (q : Playing). q.last) c.self.view_is in
+    let last : c.self.inside.last ≡ p.last = ap (λ (q : Playing). q.last) c.self.view_is in
     let passed = c.len-passed.ensures ∙ ap (λ (q : Playing). length q.script.schedule) c.self.view_is in
-    let found = subst (λ n. IsFirstBehind p n (length p.view.seats) c.in-Some.client) last (subst (λ n. IsFirstBehind p c.self.inside.core.last n c.in-Some.client) c.clients.ensures c.in-Some.ensures.some) in
+    let found = subst (λ n. IsFirstBehind p n (length p.view.seats) c.in-Some.client) last (subst (λ n. IsFirstBehind p c.self.inside.last n c.in-Some.client) c.clients.ensures c.in-Some.ensures.some) in
     subst (IsNextTurn p.script (stage_now p) c.in-Some.client) (sym passed) (from_behind p c.requires.settled c.requires.unscheduled c.in-Some.client found)
 
 pub returns-in-Some-next_behind-clause-next : goal.returns-in-Some-next_behind-clause-next
 returns-in-Some-next_behind-clause-next g c =
     let p = c.args.self.now in
-    let last : c.self.inside.core.last ≡ p.last = ap (λ (q : Playing). q.last) c.self.view_is in
+    let last : c.self.inside.last ≡ p.last = ap (λ (q : Playing). q.last) c.self.view_is in
     let passed = c.len-passed.ensures ∙ ap (λ (q : Playing). length q.script.schedule) c.self.view_is in
-    let behind = subst (λ n. NoneBehind p n (length p.view.seats)) last (subst (λ n. NoneBehind p c.self.inside.core.last n) c.clients.ensures (c.next_behind.ensures.none c.in_default.is)) in
+    let behind = subst (λ n. NoneBehind p n (length p.view.seats)) last (subst (λ n. NoneBehind p c.self.inside.last n) c.clients.ensures (c.next_behind.ensures.none c.in_default.is)) in
     let found = subst (λ n. IsFirstBehind p 0 n c.in-Some-next_behind.client) last c.in-Some-next_behind.ensures.some in
     subst (IsNextTurn p.script (stage_now p) c.in-Some-next_behind.client) (sym passed) (from_around p c.requires.settled c.requires.unscheduled behind c.in-Some-next_behind.client found)
 
 pub returns-in-None-clause-over : goal.returns-in-None-clause-over
 returns-in-None-clause-over g c = λ none client first within.
     let p = c.args.self.now in
-    let last : c.self.inside.core.last ≡ p.last = ap (λ (q : Playing). q.last) c.self.view_is in
-    let keeps = subst (λ (q : Playing). KeepsPlay (setting_of g.S.Service.ask g.S.Service.sound g.S.Service.parts q.tables) q.script q.view (lists_of c.self.inside.core.given) q.passed q.last) c.self.view_is c.self.invariant in
-    let behind = subst (λ n. NoneBehind p n (length p.view.seats)) last (subst (λ n. NoneBehind p c.self.inside.core.last n) c.clients.ensures (c.next_behind.ensures.none c.in_default.is)) in
+    let last : c.self.inside.last ≡ p.last = ap (λ (q : Playing). q.last) c.self.view_is in
+    let keeps = subst (λ (q : Playing). KeepsPlay (setting_of g.S.Service.ask g.S.Service.sound g.S.Service.parts q.tables) q.script q.view (lists_of c.self.inside.given) q.passed q.last) c.self.view_is c.self.invariant in
+    let behind = subst (λ n. NoneBehind p n (length p.view.seats)) last (subst (λ n. NoneBehind p c.self.inside.last n) c.clients.ensures (c.next_behind.ensures.none c.in_default.is)) in
     let around = subst (NoneBehind p 0) last (c.next_behind-2.ensures.none c.in-None.is) in
-    nobody p.tables.iface p (lists_of c.self.inside.core.given) keeps.playing behind around client first within
+    nobody p.tables.iface p (lists_of c.self.inside.given) keeps.playing behind around client first within

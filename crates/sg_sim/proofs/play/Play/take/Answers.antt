@@ -13,7 +13,7 @@ use Rattle.sg_sim.proofs.play.Play.take.Goals as goal
 
 pub invariant_of-self : goal.invariant_of-self
 invariant_of-self g c =
-    let x = c.self.inside.core in
+    let x = c.self.inside in
     let z : Setting = setting_of g.S.Service.ask g.S.Service.sound g.S.Service.parts x.world.tables in
     let there : c.args.turn.client ≤ length x.world.view.seats = subst (λ (q : Playing). c.args.turn.client ≤ length q.view.seats) (sym c.self.view_is) c.requires.last in
     let new = c.take_turn.new in
@@ -22,7 +22,7 @@ invariant_of-self g c =
 
 pub invariant_of-self-2 : goal.invariant_of-self-2
 invariant_of-self-2 g c =
-    let x = c.self.inside.core in
+    let x = c.self.inside in
     let z : Setting = setting_of g.S.Service.ask g.S.Service.sound g.S.Service.parts x.world.tables in
     let there : c.args.turn.client ≤ length x.world.view.seats = subst (λ (q : Playing). c.args.turn.client ≤ length q.view.seats) (sym c.self.view_is) c.requires.last in
     let next : IsNextTurn x.script (stage_of x.script x.world.view x.passed x.last) c.args.turn.client c.args.turn.passed
