@@ -11,7 +11,7 @@ use Rattle.sg_top.specs.declared.status.Status.{Status}
 use Rattle.sg_top.specs.declared.status.Status.TheVariants.{Done, Waits, OtherWords, Refused, ReadFault, WriteFault, NoMemory}
 use Rattle.sg_input.specs.Lines.{too_long_line}
 use Rattle.sg_plain.specs.Promises.{somebody_waits}
-use Rattle.sg_top.specs.Answer.{Ends, HasRead, IsAnswer, IsOutput, IsPlayed, IsRefusal, IsUntouched, SaysRefused, ended_status, is_play, most_bytes}
+use Rattle.sg_top.specs.Answer.{Ends, HasRead, IsAnswer, IsOutput, IsPlayOutput, IsRefusal, IsUntouched, SaysRefused, ended_status, is_play, most_bytes}
 use Rattle.sg_top.specs.Inside.Delivery.{IsCarriedOut, IsWritten}
 use Rattle.sg_top.proofs.Refusals.{never_refused}
 
@@ -89,7 +89,7 @@ told_refused command source source' ended status output two has = refused_by com
 -- ---- statuses and runs
 
 played_status : (bytes : List ℕ) (with_trace : Bool) (ended : Option Ended) (status : Status) (output : List ℕ)
-    → IsPlayed bytes with_trace ended status output → (status ≡ Done) ⊎ (status ≡ Waits) ⊎ (status ≡ Refused)
+    → IsPlayOutput bytes with_trace ended status output → (status ≡ Done) ⊎ (status ≡ Waits) ⊎ (status ≡ Refused)
 played_status bytes with_trace None status output is = inr (inr is.0)
 played_status bytes with_trace (Some e) status output is = by (ends_so e.ends)
   where
@@ -117,7 +117,7 @@ status_is : (command : Command) (source source' : Ends) (ended : Option Ended) (
 status_is command source source' ended status output has = status_by command source.told source'.told ended status output has.read
 
 played_run : (bytes : List ℕ) (with_trace : Bool) (ended : Option Ended) (status : Status) (output : List ℕ) → (status ≡ Refused → ⊥)
-    → IsPlayed bytes with_trace ended status output → IsSome ended
+    → IsPlayOutput bytes with_trace ended status output → IsSome ended
 played_run bytes with_trace None status output good is = absurd (good is.0)
 played_run bytes with_trace (Some e) status output good is = refl
 

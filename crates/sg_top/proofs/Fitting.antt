@@ -19,7 +19,7 @@ use Rattle.sg_sched.specs.SchedFacts.{sched_facts}
 use Rattle.sg_script.specs.declared.script.Script.{Script}
 use Rattle.sg_script_laws.proofs.Flawless.{script_playable, script_stops}
 use Rattle.sg_top.specs.Answer.{services}
-use Rattle.sg_top.specs.Headline.{Answering, served}
+use Rattle.sg_top.specs.Headline.{Answering, played_services}
 use Rattle.sg_top.specs.Inside.Kinds.{IsOneOfFive, answering, kind_by}
 use Rattle.sg_top.specs.declared.services.ServiceKind.{ServiceKind}
 use Rattle.sg_top.specs.declared.services.ServiceKind.TheVariants.{Locks, Events, Pages, Files, Threads}
@@ -53,7 +53,7 @@ pub of_kind : (facts : Facts) (kind : ServiceKind) → IsOneOfFive facts → kin
 of_kind facts kind one is = sym (ap (λ k. (answering k).facts) is ∙ kind_is facts one)
 
 -- it is among those that are played
-pub is_served : (kind : ServiceKind) → Contains served (answering kind)
+pub is_served : (kind : ServiceKind) → Contains played_services (answering kind)
 is_served Locks = (0, omega arith, refl)
 is_served Events = (1, omega arith, refl)
 is_served Pages = (2, omega arith, refl)

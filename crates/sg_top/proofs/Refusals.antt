@@ -14,7 +14,7 @@ use Rattle.sg_top.specs.declared.command.Command.{Command}
 use Rattle.sg_top.specs.declared.command.Command.TheVariants.{Sim, SimTrace, Check, Compile}
 use Rattle.sg_top.specs.declared.status.Status.{Status}
 use Rattle.sg_top.specs.declared.status.Status.TheVariants.{Refused}
-use Rattle.sg_top.specs.Answer.{IsOutput, IsPlayed, IsRefusal, IsRefusedAs, most_bytes, services}
+use Rattle.sg_top.specs.Answer.{IsOutput, IsPlayOutput, IsRefusal, IsRefusedAs, most_bytes, services}
 
 -- a text isn't accepted and refused
 not_both : (text line output : List ℕ) → IsVerdict services text (accepted output) → IsVerdict services text (refused line) → ⊥
@@ -30,7 +30,7 @@ not_unplayed : (bytes line output : List ℕ) (with_trace : Bool) (ended : Ended
 not_unplayed bytes line output with_trace ended run bad = never_ready services bytes line run.i run.script bad run.ready
 
 played_alone : (bytes : List ℕ) (with_trace : Bool) (ended : Option Ended) (status : Status) (output line : List ℕ) → (status ≡ Refused → ⊥)
-    → IsPlayed bytes with_trace ended status output → IsInputOf services bytes (refused_input line) → ⊥
+    → IsPlayOutput bytes with_trace ended status output → IsInputOf services bytes (refused_input line) → ⊥
 played_alone bytes with_trace None status output line good is bad = good is.0
 played_alone bytes with_trace (Some e) status output line good is bad = not_unplayed bytes line output with_trace e is.1 bad
 

@@ -15,7 +15,7 @@ use Rattle.sg_input.specs.declared.input.Input.TheVariants.{Refused as refused_i
 use Rattle.sg_input.specs.Inputs.{IsInputOf, most_input, most_interface}
 use Rattle.sg_input.specs.Lines.{too_long_line}
 use Rattle.sg_plain.specs.Promises.{somebody_waits}
-use Rattle.sg_top.specs.Headline.{IsRunOfInput, served}
+use Rattle.sg_top.specs.Headline.{IsRunOfInput, played_services}
 use Rattle.sg_top.specs.declared.command.Command.{Command}
 use Rattle.sg_top.specs.declared.command.Command.TheVariants.{Sim, SimTrace, Check, Compile}
 use Rattle.sg_top.specs.declared.status.Status.{Status}
@@ -63,16 +63,16 @@ most_bytes Compile = most_interface
 
 -- the services whose interfaces may be accepted
 abbrev pub services : List Facts
-services = map (λ s. s.facts) served
+services = map (λ s. s.facts) played_services
 
 -- the status of a play that came to its end: whether some client waits there
 abbrev pub ended_status : List (ℕ × End) → Status
 ended_status ends = if somebody_waits ends then Waits else Done
 
 -- the output of a play, and its status: the report of the run, or the line of an input that is refused
-abbrev pub IsPlayed : List ℕ → Bool → Option Ended → Status → List ℕ → Type 0
-IsPlayed bytes with_trace None status output = (status ≡ Refused) × IsInputOf services bytes (refused_input output)
-IsPlayed bytes with_trace (Some ended) status output = (status ≡ ended_status ended.ends) × IsRunOfInput bytes with_trace ended output
+abbrev pub IsPlayOutput : List ℕ → Bool → Option Ended → Status → List ℕ → Type 0
+IsPlayOutput bytes with_trace None status output = (status ≡ Refused) × IsInputOf services bytes (refused_input output)
+IsPlayOutput bytes with_trace (Some ended) status output = (status ≡ ended_status ended.ends) × IsRunOfInput bytes with_trace ended output
 
 -- the output of a check, and its status: the line of a text that is accepted, or of a text that is refused
 abbrev pub IsChecked : List ℕ → Status → List ℕ → Type 0
@@ -87,8 +87,8 @@ IsTabled text status output =
 
 -- the output of a command for an input, its status, and the run where there was one: only a play has one
 abbrev pub IsOutput : Command → List ℕ → Option Ended → Status → List ℕ → Type 0
-IsOutput Sim bytes ended status output = IsPlayed bytes false ended status output
-IsOutput SimTrace bytes ended status output = IsPlayed bytes true ended status output
+IsOutput Sim bytes ended status output = IsPlayOutput bytes false ended status output
+IsOutput SimTrace bytes ended status output = IsPlayOutput bytes true ended status output
 IsOutput Check bytes ended status output = (ended ≡ None) × IsChecked bytes status output
 IsOutput Compile bytes ended status output = (ended ≡ None) × IsTabled bytes status output
 

@@ -35,8 +35,8 @@ pub record Answering : Type 0 where
   pub parts : ℕ → ℕ
 
 -- the services that are played
-abbrev pub served : List Answering
-served =
+abbrev pub played_services : List Answering
+played_services =
     record { facts = lock_facts; ask = lock_table; parts = lock_parts }
     ∷ record { facts = event_facts; ask = event_table; parts = event_parts }
     ∷ record { facts = mm_facts; ask = mm_table; parts = mm_parts }
@@ -72,8 +72,8 @@ pub record IsRunOf (i : Declared) (service : Answering) (script : Script) (with_
 pub record IsRunOfInput (bytes : List ℕ) (with_trace : Bool) (ended : Ended) (written : List ℕ) : Type 0 where
   pub i : Declared
   pub script : Script
-  pub ready : IsReady (map (λ s. s.facts) served) bytes i script
+  pub ready : IsReady (map (λ s. s.facts) played_services) bytes i script
   pub service : Answering
-  pub is_served : Contains served service
+  pub is_served : Contains played_services service
   pub its : service.facts ≡ i.facts
   pub run : IsRunOf i service script with_trace ended written

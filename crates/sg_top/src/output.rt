@@ -4,7 +4,7 @@ ghost use Rattle.sg_edge.specs.Stops.{AscendsAbove};
 ghost use Rattle.sg_input.specs.Inputs.{IsReady};
 ghost use Rattle.sg_play_laws.specs.Playable.{IsPlayable};
 ghost use Rattle.sg_plain.specs.Promises.{is_blocked};
-ghost use Rattle.sg_top.specs.Answer.{IsChecked, IsOutput, IsPlayed, IsTabled, ended_status, services};
+ghost use Rattle.sg_top.specs.Answer.{IsChecked, IsOutput, IsPlayOutput, IsTabled, ended_status, services};
 ghost use Rattle.sg_top.specs.Inside.Delivery.{IsSaid};
 ghost use Rattle.sg_top.specs.Inside.Kinds.{IsOneOfFive};
 
@@ -78,7 +78,7 @@ fn output_saying(said: Verdict) -> Output
 
 // The run of an input, with its report; or the line of an input that is refused.
 fn simulated(alloc: Global, bytes: &[u8], with_trace: bool) -> Result<Output, NoMemory>
-    ensures { IfOk result (λ o. IsPlayed bytes.now with_trace o.ended o.status o.text) }
+    ensures { IfOk result (λ o. IsPlayOutput bytes.now with_trace o.ended o.status o.text) }
 {
     match read_input(alloc, bytes, &shapes())? {
         Input::Ready(accepted, script) => run_of(alloc, &accepted, script, with_trace),
@@ -100,7 +100,7 @@ fn run_of(
     requires service { IsOneOfFive accepted.now.facts }
     requires playable { IsPlayable accepted.now script }
     requires stops { AscendsAbove 0 script.stops }
-    ensures { IfOk result (λ o. (bytes : List ℕ) → IsReady services bytes accepted.now script → IsPlayed bytes with_trace o.ended o.status o.text) }
+    ensures { IfOk result (λ o. (bytes : List ℕ) → IsReady services bytes accepted.now script → IsPlayOutput bytes with_trace o.ended o.status o.text) }
 {
     let (played, text) = played_of(alloc, accepted, script, with_trace)?;
     Ok(Output {
@@ -119,9 +119,5 @@ fn status_of(ends: &[(u8, End)]) -> Status
             ensures { result ≡ is_blocked end.now.1 }
         { matches!(end.1, End::Blocked(_)) },
     );
-    if waits {
-        Status::Waits
-    } else {
-        Status::Done
-    }
+    if waits { Status::Waits } else { Status::Done }
 }

@@ -43,31 +43,10 @@ use Rattle.sg_wake_laws.proofs.Shapes.{call_is_next, call_is_own, entry_with, se
 use Rattle.sg_wake_laws.proofs.Wakers.{wakes_entered, wakes_last, wakes_noted, wakes_refused}
 use Rattle.sg_wake_laws.proofs.Woken.{Moves, all_noted, goes_on_waits, moves_free, moves_same, other_made, other_waits, seat_booted, seat_moved, seat_noted, seat_struck, seat_woken_by, stub_made, stub_waits}
 use Rattle.sg_wake_laws.specs.Waking.{AreWokenSoFar, EachSeat, IsMadeSoFar, IsWokenSeat, IsWokenSince, is_asking, last_places, no_query_waits, waking_entries}
+use Rattle.sg_world_laws.proofs.Refusing.{by_the_guard}
 use Rattle.sg_world_laws.specs.Setting.{Setting}
 
 -- ---- replies
-
--- a code of the guard is one of its own
-guards_own : (i : Declared) (o : Object) (call : Call) (code : Code) → guard i o call ≡ Some code → is_guards code ≡ true
-guards_own i o call code is =
-    by (fun_at i.facts.funs call.fun).query
-    (takes_parent (fun_at i.facts.funs call.fun) && not (may_be_parent i.facts.parents (row_at o.rows call.desc) call.desc call.client))
-    ((fun_at i.facts.funs call.fun).creation && nat_le most_live (length o.rows))
-    (takes_desc (fun_at i.facts.funs call.fun) && not (may_use i.facts (row_at o.rows call.desc) call.client))
-    (takes_desc (fun_at i.facts.funs call.fun) && not (in_state i (row_at o.rows call.desc) call.fun))
-    ((fun_at i.facts.funs call.fun).terminal && not i.facts.subtree && has_child o.rows call.desc) is
-  where
-    own : (c : Code) → is_guards c ≡ true → Some c ≡ Some code → is_guards code ≡ true
-    own c guards same = let one : c ≡ code = cc same in subst (λ x. is_guards x ≡ true) one guards
-
-    by : (q p f d s h : Bool) → (if q then None else if p then Some NoParent else if f then Some Full else if d then Some NoDesc else if s then Some BadState else if h then Some HasChildren else None) ≡ Some code → is_guards code ≡ true
-    by true p f d s h none = absurd (cc none)
-    by false true f d s h same = own NoParent refl same
-    by false false true d s h same = own Full refl same
-    by false false false true s h same = own NoDesc refl same
-    by false false false false true h same = own BadState refl same
-    by false false false false false true same = own HasChildren refl same
-    by false false false false false false none = absurd (cc none)
 
 -- the last entry of a legal history has the answer behind the others
 pub legal_last : (i : Declared) (ask : Table) (o : Object) (history : List Entry) (e : Entry) → LegalFrom i ask o (history ++ e ∷ []) → answer i ask (object_from i.facts o history) e.call ≡ Some e.reply
@@ -265,7 +244,7 @@ module _ (z : Setting) (script : Script) (x : WorldView) (given : List (List ℕ
       (λ client from to other blocked. ap (λ r. wakes_seat facts (object_of facts x.history).rows s.call r (seat_of x client).call) its)
     where
       guards : is_by_guard reply ≡ true
-      guards = ap is_by_guard its ∙ guards_own z.iface (object_of facts x.history) s.call code guarded
+      guards = ap is_by_guard its ∙ by_the_guard z.iface (object_of facts x.history) s.call code guarded
 
       by : (id : ℕ) (q : Place) (g : Bool) → wakes_at facts (cond g (x.history ++ entry_with facts x c reply ∷ []) []) id q ≡ wakes_at facts (cond g x.history []) id q
       by id q true = wakes_refused facts id q x.history (entry_with facts x c reply) guards
