@@ -1,9 +1,8 @@
 -- No entry has the number of a client's next call; and each entry's item is among those of the only boot.
-use Rattle.std.proofs.Common.{◌≡◌, ℕ, ◌+◌, ◌≤◌, Bool, true, false, cond, not, List, [], ◌∷◌, ◌++◌, None, Some, find, length, refl, ◌∙◌, ap, subst, arith}
+use Rattle.std.proofs.Common.{◌≡◌, ℕ, ◌+◌, ◌≤◌, Bool, true, false, cond, not, List, [], ◌∷◌, ◌++◌, None, Some, find, length, refl, ◌∙◌, ap, arith}
 use Rattle.std.specs.Prelude.{◌==◌, ◌&&◌, ◌||◌, reverse}
 use Rattle.std.specs.List.{list_any}
 use Rattle.std.specs.declared.option.Option.{Option}
-use Rattle.std.proofs.lemmas.Bool.{or_left, or_right}
 use Rattle.std.proofs.lemmas.Bool.Decides.{nat_tests}
 use Rattle.sg_base.specs.Lists.{Each, When}
 use Rattle.sg_facts.specs.declared.entry.Entry.{Entry}

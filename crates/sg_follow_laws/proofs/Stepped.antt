@@ -1,26 +1,21 @@
 -- A step of a client leads a play on along the play without stops, or its service stops.
-use Rattle.std.proofs.Common.{◌≡◌, ◌≢◌, ◌⊎◌, ℕ, suc, ◌+◌, ◌-◌, ◌≤◌, Bool, true, false, not, if◌then◌else◌, List, [], ◌∷◌, ◌++◌, None, Some, IsSome, drop, is_some, length, map, refl, sym, ◌∙◌, ap, subst, inl, inr, arith, slice_set}
-use Rattle.std.specs.Prelude.{◌==◌, ◌&&◌, nat_le, nat_lt}
+use Rattle.std.proofs.Common.{◌≡◌, ◌≢◌, ◌⊎◌, ℕ, suc, ◌+◌, ◌-◌, ◌≤◌, Bool, true, false, List, [], ◌∷◌, ◌++◌, None, Some, IsSome, drop, is_some, length, map, refl, sym, ◌∙◌, ap, subst, inl, inr, arith, slice_set}
+use Rattle.std.specs.Prelude.{◌==◌, ◌&&◌, nat_lt}
 use Rattle.std.specs.declared.option.Option.{Option}
 use Rattle.sg_base.specs.Lists.{Each}
 use Rattle.sg_base.specs.Stops.{asked_after}
 use Rattle.sg_base.specs.declared.call.Call.{Call}
-use Rattle.sg_base.specs.declared.reply.Code.{Code}
-use Rattle.sg_base.specs.declared.reply.Code.TheVariants.{NoDesc, NoParent, BadState, HasChildren, Full}
 use Rattle.sg_base.specs.declared.reply.Good.{Good}
 use Rattle.sg_base.specs.declared.reply.Reply.{Reply}
 use Rattle.sg_base.specs.declared.reply.Reply.TheVariants.{Ok, Refused}
 use Rattle.sg_facts.specs.declared.entry.Entry.{Entry}
 use Rattle.sg_facts.specs.declared.trace.Item.{Item}
 use Rattle.sg_facts.specs.declared.trace.Tag.TheVariants.{Client}
-use Rattle.sg_facts.specs.Facts.{fun_at, is_visible, takes_desc, takes_parent}
-use Rattle.sg_facts.specs.Guard.{guard, in_state, is_guards, may_be_parent, may_use}
-use Rattle.sg_facts.specs.Interface.{Declared}
+use Rattle.sg_facts.specs.Facts.{fun_at, is_visible}
+use Rattle.sg_facts.specs.Guard.{guard}
 use Rattle.sg_facts.specs.Legal.{answer, refused_or}
-use Rattle.sg_facts.specs.Limits.{most_live}
 use Rattle.sg_facts.specs.Object.{Object, object_of}
 use Rattle.sg_facts.specs.Trace.{Boot, Run}
-use Rattle.sg_facts.specs.Track.{has_child, row_at}
 use Rattle.sg_hist.specs.Clients.{calls_of}
 use Rattle.sg_hist.specs.Reading.{after_item, is_by_guard, is_item_of, is_tagged}
 use Rattle.sg_hist.specs.Recovered.{HasItem}

@@ -3,7 +3,7 @@ ghost use Rattle.std.specs.Prelude.{◌≡◌, ℕ, List, true, false, IfOk, Non
 ghost use Rattle.sg_edge.specs.Stops.{AscendsAbove};
 ghost use Rattle.sg_input.specs.Inputs.{IsReady};
 ghost use Rattle.sg_play_laws.specs.Playable.{IsPlayable};
-ghost use Rattle.sg_plain.specs.Promises.{is_blocked};
+ghost use Rattle.sg_plain.specs.Promises.{is_blocked, somebody_waits};
 ghost use Rattle.sg_top.specs.Answer.{IsChecked, IsOutput, IsPlayOutput, IsTabled, ended_status, services};
 ghost use Rattle.sg_top.specs.Inside.Delivery.{IsSaid};
 ghost use Rattle.sg_top.specs.Inside.Kinds.{IsOneOfFive};
@@ -114,10 +114,23 @@ fn run_of(
 fn status_of(ends: &[(u8, End)]) -> Status
     ensures { result ≡ ended_status ends.now }
 {
-    let waits = ends.iter().any(
-        move |end| -> bool
-            ensures { result ≡ is_blocked end.now.1 }
-        { matches!(end.1, End::Blocked(_)) },
-    );
-    if waits { Status::Waits } else { Status::Done }
+    if somebody_waits(ends) {
+        Status::Waits
+    } else {
+        Status::Done
+    }
+}
+
+// Whether some client waits at its end.
+fn somebody_waits(ends: &[(u8, End)]) -> bool
+    ensures { result ≡ somebody_waits ends.now }
+{
+    ends.iter().any(|end| waits(&end.1))
+}
+
+// Whether a client waits at its end.
+fn waits(end: &End) -> bool
+    ensures { result ≡ is_blocked end.now }
+{
+    matches!(end, End::Blocked(_))
 }

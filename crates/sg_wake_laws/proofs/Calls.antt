@@ -1,18 +1,15 @@
 -- The calls of a play: entries have the numbers up to their clients', and the call under way of a client is of none of them and fits.
 use Rattle.std.proofs.Common.{◌≡◌, ℕ, ◌+◌, ◌<◌, ◌≤◌, Bool, true, false, cond, ◌&&◌, List, [], ◌∷◌, length, filter, refl, sym, ◌∙◌, ap, subst, inl, inr, arith}
 use Rattle.std.specs.Prelude.{◌==◌, ◌-◌, nat_le}
-use Rattle.std.specs.List.{list_any}
 use Rattle.std.specs.Int.{bit_at}
 use Rattle.std.proofs.lemmas.Bool.{and_parts}
 use Rattle.std.proofs.lemmas.Bool.Decides.{eqb_tells, nat_tests}
 use Rattle.sg_base.specs.Lists.{Each}
 use Rattle.sg_facts.specs.declared.entry.Entry.{Entry}
-use Rattle.sg_facts.specs.declared.shape.Kind.{Kind}
-use Rattle.sg_facts.specs.declared.shape.Kind.TheVariants.{Desc, Parent, Word as IsWord, Text as IsText}
 use Rattle.sg_facts.specs.declared.trace.Item.{Item}
 use Rattle.sg_facts.specs.declared.trace.Tag.{Tag}
 use Rattle.sg_facts.specs.declared.trace.Tag.TheVariants.{Walk, Load, Client}
-use Rattle.sg_facts.specs.Facts.{Facts, fun_at, is_desc, is_parent}
+use Rattle.sg_facts.specs.Facts.{Facts, fun_at}
 use Rattle.sg_facts.specs.Fits.{Fits}
 use Rattle.sg_facts.specs.Interface.{Declared, declares}
 use Rattle.sg_hist.specs.Clients.{calls_of}
@@ -20,14 +17,13 @@ use Rattle.sg_hist.specs.Reading.{is_tagged}
 use Rattle.sg_hist.specs.Recovered.{is_clients}
 use Rattle.sg_plain.specs.Calls.{script_calls}
 use Rattle.sg_plain.specs.Promises.{AreFirstCalls}
-use Rattle.sg_plain.specs.Script.{args_fit, calls_fit, desc_among}
+use Rattle.sg_plain.specs.Script.{args_fit, calls_fit}
 use Rattle.sg_play_laws.proofs.Calling.{next_of}
 use Rattle.sg_play_laws.proofs.Resolving.{fits_at}
 use Rattle.sg_play_laws.specs.Callers.{IsCaller}
 use Rattle.sg_play.proofs.Offering.{no_desc}
 use Rattle.sg_recovery_laws.proofs.Lists.{each_map}
 use Rattle.sg_recovery_laws.specs.Growing.{IsOfNoEntry}
-use Rattle.sg_script.specs.declared.script.Arg.{Arg}
 use Rattle.sg_script.specs.declared.script.Script.{Script}
 use Rattle.sg_script.specs.declared.script.ScriptCall.{ScriptCall}
 use Rattle.sg_seat.specs.WorldView.{Seat, is_offered}

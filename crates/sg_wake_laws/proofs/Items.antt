@@ -1,6 +1,5 @@
 -- Each entry that isn't the guard's has its item among those of the run.
-use Rattle.std.proofs.Common.{◌≡◌, Bool, true, false, cond, not, ◌||◌, List, [], ◌∷◌, ◌++◌, None, Some, find, refl, ◌∙◌, subst}
-use Rattle.std.proofs.lemmas.List.Folds.{list_any-append}
+use Rattle.std.proofs.Common.{◌≡◌, Bool, true, false, not, ◌||◌, List, [], ◌++◌, None, Some, refl, subst}
 use Rattle.std.specs.List.{list_any}
 use Rattle.std.specs.Prelude.{reverse}
 use Rattle.std.specs.declared.option.Option.{Option}
@@ -8,10 +7,10 @@ use Rattle.sg_base.specs.Lists.{Each, When}
 use Rattle.sg_facts.specs.declared.entry.Entry.{Entry}
 use Rattle.sg_facts.specs.declared.trace.Item.{Item}
 use Rattle.sg_facts.specs.Facts.{Facts}
-use Rattle.sg_facts.specs.Trace.{Boot, Run}
-use Rattle.sg_hist.specs.Reading.{Place, is_by_guard, is_item_of, item_of, items_of, places_from, places_in, places_of}
+use Rattle.sg_facts.specs.Trace.{Run}
+use Rattle.sg_hist.specs.Reading.{Place, is_by_guard, is_item_of, item_of, places_of}
 use Rattle.sg_hist.specs.Recovered.{GivesEntry, HasItem}
-use Rattle.sg_recovery_laws.proofs.Lists.{each_append, each_map}
+use Rattle.sg_recovery_laws.proofs.Lists.{each_map}
 use Rattle.sg_recovery_laws.proofs.Served.{Has, each_reverse, found_has}
 use Rattle.sg_recovery_laws.specs.Growing.{last_items, older_items}
 use Rattle.sg_trace_laws.specs.LastPlace.{HaveItems}

@@ -15,7 +15,7 @@ use Rattle.sg_facts.specs.Guard.{guard}
 use Rattle.sg_facts.specs.Interface.{Declared}
 use Rattle.sg_facts.specs.Legal.{LegalFrom, Table, answer, refused_or}
 use Rattle.sg_facts.specs.Object.{Object, after, empty_object, object_from, object_of}
-use Rattle.sg_facts.specs.Track.{is_ancestor, nearest, new_row, parent_in, row_after, row_at, rows_after}
+use Rattle.sg_facts.specs.Track.{is_ancestor, nearest, new_row, parent_in, row_at, rows_after}
 use Rattle.sg_object_laws.proofs.Apart.{IsOwnRow, changes_row, ends_rows, makes_row, query_keeps}
 use Rattle.sg_object_laws.proofs.Changed.{change_at, same_parent_at}
 use Rattle.sg_object_laws.proofs.Commute.{given_with, same_creator_at, same_id_at}
