@@ -2,24 +2,24 @@
 ghost use Rattle.std.specs.Prelude.{◌≡◌, [], true, if◌then◌else◌, IfOk};
 ghost use Rattle.sg_edge.specs.Stops.{AscendsAbove};
 ghost use Rattle.sg_play_laws.specs.Playable.{IsPlayable};
-ghost use Rattle.sg_sim.specs.Played.{IsPlayed};
 ghost use Rattle.sg_top.specs.Headline.{IsRunOf};
 ghost use Rattle.sg_top.specs.Inside.Kinds.{IsOneOfFive, answering, kind_by};
 ghost use Rattle.sg_wake_laws.specs.Waking.{no_query_waits};
 
 use crate::services::{ServiceKind, kind_of};
-use sg_base::{Bytes, NoMemory, Stops, TryCopy};
+use sg_base::{Bytes, NoMemory, TryCopy};
 use sg_check::Accepted;
 use sg_edge::AtPoints;
 use sg_event::EventService;
-use sg_facts::{Service, Tables};
+use sg_facts::Service;
 use sg_lock::LockService;
 use sg_mm::MmService;
 use sg_ramfs::RamfsService;
 use sg_report::text;
 use sg_sched::SchedService;
 use sg_script::Script;
-use sg_sim::{Play, Played};
+use sg_serial::play;
+use sg_sim::Played;
 use sg_stub::compile;
 use std::alloc::Global;
 
@@ -59,25 +59,7 @@ fn play_on<S: Service>(
 {
     let tables = compile(alloc, accepted)?;
     let stops = AtPoints::new(script.stops.copy(alloc)?);
-    let played = played_by::<S, AtPoints>(alloc, tables, script, stops)?;
+    let played = play::<S, AtPoints>(alloc, tables, script, stops)?;
     let text = text(alloc, accepted.interface(), played.ended(), with_trace)?;
     Ok((played, text))
-}
-
-// The run of a script on a service, by its tables.
-fn played_by<S: Service, T: Stops>(
-    alloc: Global,
-    tables: Tables,
-    script: Script,
-    stops: T,
-) -> Result<Played, NoMemory>
-    requires service { tables.iface.facts ≡ S.facts }
-    requires playable { IsPlayable tables.iface script }
-    requires waits { no_query_waits tables.iface.facts ≡ true }
-    requires unasked { T.asked stops ≡ 0 }
-    requires unstruck { T.struck stops ≡ [] }
-    ensures { IfOk result (λ played. IsPlayed (record { interface = tables.iface; ask = S.ask; parts = S.parts; walks = tables.walks }) T.test script (T.plan stops) played) }
-{
-    let mut play = Play::<S, T>::new(alloc, tables, script, stops)?;
-    play.play(alloc)
 }
