@@ -25,6 +25,7 @@ fn is_quiet<S: Service, T: Stops>(world: &World<S, T>) -> bool {
 }
 
 /// Two clients leave, one of them twice, of which the second time is nothing to mark.
+#[derive(Drop)]
 struct Leaving<'a, R> {
     rt: &'a R,
 }

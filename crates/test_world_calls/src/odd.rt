@@ -43,6 +43,7 @@ fn skips<S: Service, T: Stops>(
 }
 
 /// Steps of clients that have no call under way are skipped.
+#[derive(Drop)]
 struct Resting<'a, R> {
     rt: &'a R,
 }
@@ -81,6 +82,7 @@ evt_trigger 1 1 1
 "#;
 
 /// Events that may not be made are refused.
+#[derive(Drop)]
 struct Unfit<'a, R> {
     rt: &'a R,
 }

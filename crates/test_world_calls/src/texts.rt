@@ -95,6 +95,7 @@ refused 1
 ";
 
 /// Lines that tell another event, another reply, or what isn't seen.
+#[derive(Drop)]
 struct Untrue<'a, R> {
     rt: &'a R,
 }

@@ -118,6 +118,7 @@ fn are_alike(one: &str, other: &str) -> bool {
 }
 
 /// A case, made event by event, each again where there was no memory for it.
+#[derive(Drop)]
 struct Persisting<'a, R> {
     rt: &'a R,
     case: Case<'a>,
