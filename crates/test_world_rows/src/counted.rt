@@ -1,5 +1,6 @@
 // Plays of events, event by event.
 use sg_event::EventService;
+use std::alloc::Global;
 use std::test::Fail;
 use test_tables::event_tables;
 use test_world::play;
@@ -171,26 +172,27 @@ call c1.3 evt_free(1) replied
 points 16
 ";
 
+// Plays a text of events.
+fn plays(alloc: Global, text: &str) -> Result<(), Fail> {
+    Ok(play::<EventService>(alloc, event_tables(alloc)?, text)?)
+}
+
 #[test]
 fn a_trigger_is_not_added_twice(rt: HostRuntime) -> Result<(), Fail> {
-    let alloc = rt.alloc();
-    Ok(play::<EventService>(alloc, event_tables(alloc)?, TRIGGER_NOT_TWICE)?)
+    plays(rt.alloc(), TRIGGER_NOT_TWICE)
 }
 
 #[test]
 fn a_replayed_trigger_carries_the_present_count(rt: HostRuntime) -> Result<(), Fail> {
-    let alloc = rt.alloc();
-    Ok(play::<EventService>(alloc, event_tables(alloc)?, PRESENT_VALUE)?)
+    plays(rt.alloc(), PRESENT_VALUE)
 }
 
 #[test]
 fn who_waits_is_asked_again(rt: HostRuntime) -> Result<(), Fail> {
-    let alloc = rt.alloc();
-    Ok(play::<EventService>(alloc, event_tables(alloc)?, WAITS_AGAIN)?)
+    plays(rt.alloc(), WAITS_AGAIN)
 }
 
 #[test]
 fn who_waits_is_woken_by_the_end(rt: HostRuntime) -> Result<(), Fail> {
-    let alloc = rt.alloc();
-    Ok(play::<EventService>(alloc, event_tables(alloc)?, WOKEN_BY_THE_END)?)
+    plays(rt.alloc(), WOKEN_BY_THE_END)
 }

@@ -1,5 +1,6 @@
 // Plays of files, event by event.
 use sg_ramfs::RamfsService;
+use std::alloc::Global;
 use std::test::Fail;
 use test_tables::ramfs_tables;
 use test_world::play;
@@ -147,20 +148,22 @@ call c2.1 tsplit(0, "b") replied
 points 21
 "#;
 
+// Plays a text of files.
+fn plays(alloc: Global, text: &str) -> Result<(), Fail> {
+    Ok(play::<RamfsService>(alloc, ramfs_tables(alloc)?, text)?)
+}
+
 #[test]
 fn a_file_is_loaded(rt: HostRuntime) -> Result<(), Fail> {
-    let alloc = rt.alloc();
-    Ok(play::<RamfsService>(alloc, ramfs_tables(alloc)?, LOADED)?)
+    plays(rt.alloc(), LOADED)
 }
 
 #[test]
 fn a_held_reply_is_lost(rt: HostRuntime) -> Result<(), Fail> {
-    let alloc = rt.alloc();
-    Ok(play::<RamfsService>(alloc, ramfs_tables(alloc)?, HELD_LOST)?)
+    plays(rt.alloc(), HELD_LOST)
 }
 
 #[test]
 fn a_held_reply_of_another_boot_is_lost(rt: HostRuntime) -> Result<(), Fail> {
-    let alloc = rt.alloc();
-    Ok(play::<RamfsService>(alloc, ramfs_tables(alloc)?, HELD_IN_ANOTHER_BOOT)?)
+    plays(rt.alloc(), HELD_IN_ANOTHER_BOOT)
 }

@@ -1,5 +1,6 @@
 // Plays of locks, event by event.
 use sg_lock::LockService;
+use std::alloc::Global;
 use std::test::Fail;
 use test_tables::lock_tables;
 use test_world::play;
@@ -241,38 +242,37 @@ call c2.1 lock_take(1) replied
 points 25
 ";
 
+// Plays a text of locks.
+fn plays(alloc: Global, text: &str) -> Result<(), Fail> {
+    Ok(play::<LockService>(alloc, lock_tables(alloc)?, text)?)
+}
+
 #[test]
 fn a_stop_behind_a_take(rt: HostRuntime) -> Result<(), Fail> {
-    let alloc = rt.alloc();
-    Ok(play::<LockService>(alloc, lock_tables(alloc)?, STOP_BEHIND_A_TAKE)?)
+    plays(rt.alloc(), STOP_BEHIND_A_TAKE)
 }
 
 #[test]
 fn a_stop_before_a_take_is_stored(rt: HostRuntime) -> Result<(), Fail> {
-    let alloc = rt.alloc();
-    Ok(play::<LockService>(alloc, lock_tables(alloc)?, STOP_BEFORE_A_TAKE)?)
+    plays(rt.alloc(), STOP_BEFORE_A_TAKE)
 }
 
 #[test]
 fn a_stop_within_a_walk(rt: HostRuntime) -> Result<(), Fail> {
-    let alloc = rt.alloc();
-    Ok(play::<LockService>(alloc, lock_tables(alloc)?, STOP_IN_A_WALK)?)
+    plays(rt.alloc(), STOP_IN_A_WALK)
 }
 
 #[test]
 fn a_run_ends_with_the_service_down(rt: HostRuntime) -> Result<(), Fail> {
-    let alloc = rt.alloc();
-    Ok(play::<LockService>(alloc, lock_tables(alloc)?, DOWN_AT_THE_END)?)
+    plays(rt.alloc(), DOWN_AT_THE_END)
 }
 
 #[test]
 fn a_refusal_boots_nothing(rt: HostRuntime) -> Result<(), Fail> {
-    let alloc = rt.alloc();
-    Ok(play::<LockService>(alloc, lock_tables(alloc)?, REFUSED_WHILE_DOWN)?)
+    plays(rt.alloc(), REFUSED_WHILE_DOWN)
 }
 
 #[test]
 fn two_clients_rebuild_one_lock(rt: HostRuntime) -> Result<(), Fail> {
-    let alloc = rt.alloc();
-    Ok(play::<LockService>(alloc, lock_tables(alloc)?, TWO_TAKE_A_WALK)?)
+    plays(rt.alloc(), TWO_TAKE_A_WALK)
 }

@@ -1,5 +1,6 @@
 // Plays of mappings, event by event.
 use sg_mm::MmService;
+use std::alloc::Global;
 use std::test::Fail;
 use test_tables::mm_tables;
 use test_world::play;
@@ -128,20 +129,22 @@ call c2.1 mman_find(1, 8192) replied
 points 35
 ";
 
+// Plays a text of pages.
+fn plays(alloc: Global, text: &str) -> Result<(), Fail> {
+    Ok(play::<MmService>(alloc, mm_tables(alloc)?, text)?)
+}
+
 #[test]
 fn a_page_is_rebuilt_before_its_alias(rt: HostRuntime) -> Result<(), Fail> {
-    let alloc = rt.alloc();
-    Ok(play::<MmService>(alloc, mm_tables(alloc)?, PARENT_FIRST)?)
+    plays(rt.alloc(), PARENT_FIRST)
 }
 
 #[test]
 fn a_lost_page_occupies_its_place(rt: HostRuntime) -> Result<(), Fail> {
-    let alloc = rt.alloc();
-    Ok(play::<MmService>(alloc, mm_tables(alloc)?, OCCUPIED)?)
+    plays(rt.alloc(), OCCUPIED)
 }
 
 #[test]
 fn a_subtree_that_is_half_rebuilt_is_removed(rt: HostRuntime) -> Result<(), Fail> {
-    let alloc = rt.alloc();
-    Ok(play::<MmService>(alloc, mm_tables(alloc)?, HALF_A_SUBTREE)?)
+    plays(rt.alloc(), HALF_A_SUBTREE)
 }

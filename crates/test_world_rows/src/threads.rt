@@ -1,5 +1,6 @@
 // Plays of threads, event by event.
 use sg_sched::SchedService;
+use std::alloc::Global;
 use std::test::Fail;
 use test_tables::sched_tables;
 use test_world::play;
@@ -108,14 +109,17 @@ call c1.3 sched_wait(1) replied
 points 28
 ";
 
+// Plays a text of threads.
+fn plays(alloc: Global, text: &str) -> Result<(), Fail> {
+    Ok(play::<SchedService>(alloc, sched_tables(alloc)?, text)?)
+}
+
 #[test]
 fn ranks_are_kept(rt: HostRuntime) -> Result<(), Fail> {
-    let alloc = rt.alloc();
-    Ok(play::<SchedService>(alloc, sched_tables(alloc)?, RANKS_KEPT)?)
+    plays(rt.alloc(), RANKS_KEPT)
 }
 
 #[test]
 fn two_clients_go_on_with_one_walk(rt: HostRuntime) -> Result<(), Fail> {
-    let alloc = rt.alloc();
-    Ok(play::<SchedService>(alloc, sched_tables(alloc)?, ONE_WALK)?)
+    plays(rt.alloc(), ONE_WALK)
 }
