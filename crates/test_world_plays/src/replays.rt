@@ -24,7 +24,7 @@ const LAST: u32 = 60;
 
 /// Two clients take one lock, so that one of them waits for the other.
 const LOCKS: &str =
-    "setup { lock_alloc(); } client 1 { lock_take(1); lock_release(1); lock_free(1); } client 2 { lock_take(1); lock_release(1); } schedule 1 1 2 2 2;";
+    "setup { lock_alloc(); } client 1 { lock_take(1); lock_release(1); lock_free(1); } client 2 { lock_take(1); lock_release(1); } schedule 1 2 1 2 2 2;";
 
 /// Two clients alias, find and remove pages.
 const PAGES: &str =
