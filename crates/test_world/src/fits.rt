@@ -1,0 +1,39 @@
+// Which function a call is of, and whether it may be offered.
+ghost use Rattle.std.specs.Prelude.{◌≡◌, ℕ, true};
+ghost use Rattle.sg_facts.specs.Interface.{declares};
+ghost use Rattle.sg_facts.specs.Kinds.{FitsKinds, kinds_fit};
+
+use sg_base::{Args, Value};
+use sg_facts::{Interface, Kind, MOST_FUNS};
+
+/// The number of a function, by its name or number; None where there is none of a name.
+pub fn number_of(iface: &Interface, fun: &str) -> Option<u8> {
+    match fun.parse() {
+        Ok(number) => Some(number),
+        Err(_) => (1..=MOST_FUNS).find(|number| iface.fun(*number).name == fun.as_bytes()),
+    }
+}
+
+/// Whether an interface declares a function that takes this descriptor and these arguments.
+pub fn takes(iface: &Interface, fun: u8, desc: u64, args: &Args) -> bool
+    ensures declared { result ≡ true → declares iface.now fun ≡ true }
+    ensures fits { result ≡ true → (client seq : ℕ) → FitsKinds iface.now.facts (record { client = client; seq = seq; fun = fun; desc = desc; args = args.now }) }
+{
+    let shape = iface.fun(fun);
+    iface.declares(fun)
+        && kinds_fit(shape.kinds, args.as_slice())
+        && (shape.takes_desc() || shape.takes_parent() || desc == 0)
+}
+
+// Whether values are those that kinds ask for, beside descriptor and parent.
+fn kinds_fit(kinds: &[Kind], values: &[Value]) -> bool
+    ensures { result ≡ kinds_fit kinds.now values.now }
+{
+    match (kinds, values) {
+        ([], []) => true,
+        ([Kind::Desc | Kind::Parent, more @ ..], _) => kinds_fit(more, values),
+        ([Kind::Word, more @ ..], [Value::Word(_), others @ ..]) => kinds_fit(more, others),
+        ([Kind::Text, more @ ..], [Value::Text(_), others @ ..]) => kinds_fit(more, others),
+        _ => false,
+    }
+}
