@@ -4,17 +4,14 @@ use Rattle.std.specs.Prelude.{codes, string_bytes}
 use Rattle.std.specs.declared.string.String.{String}
 use Rattle.std.specs.declared.alloc.Global.{Global}
 use Rattle.sg_top.specs.declared.command.Command.{Command}
-use Rattle.sg_top.specs.declared.command.Command.TheVariants.{Sim, SimTrace, Check, Compile}
-use Rattle.sg_top.specs.Answer.{IsCommand}
-use Rattle.sg_top.specs.Inside.Words.{IsWordOf}
+use Rattle.sg_top.specs.declared.command.Command.TheVariants.{Sim, Check, Compile}
+use Rattle.sg_top.specs.Answer.{IsCommand, command_name}
 
 -- words of other lengths differ
 differ : (word one other : List ℕ) → (length one ≡ length other → ⊥) → word ≡ one → word ≡ other → ⊥
 differ word one other apart is isn't = apart (ap length (sym is ∙ isn't))
 
-one_word : (word : List ℕ) (a b : Command) → IsWordOf word a → IsWordOf word b → a ≡ b
-one_word word SimTrace b x y = absurd x
-one_word word a SimTrace x y = absurd y
+one_word : (word : List ℕ) (a b : Command) → word ≡ command_name a → word ≡ command_name b → a ≡ b
 one_word word Sim Sim x y = refl
 one_word word Check Check x y = refl
 one_word word Compile Compile x y = refl
@@ -25,41 +22,7 @@ one_word word Compile Sim x y = absurd (differ word (codes "compile") (codes "si
 one_word word Check Compile x y = absurd (differ word (codes "check") (codes "compile") (λ l. omega (arith, l)) x y)
 one_word word Compile Check x y = absurd (differ word (codes "compile") (codes "check") (λ l. omega (arith, l)) x y)
 
--- what one word says, and what two say
-pub word_of : (word : String Global) (command : Command) → IsCommand (word ∷ []) command → IsWordOf (string_bytes word) command
-word_of word Sim is = is
-word_of word SimTrace is = absurd is
-word_of word Check is = is
-word_of word Compile is = is
-
-pub of_word : (word : String Global) (command : Command) → IsWordOf (string_bytes word) command → IsCommand (word ∷ []) command
-of_word word Sim is = is
-of_word word SimTrace is = absurd is
-of_word word Check is = is
-of_word word Compile is = is
-
-pub words_of : (word more : String Global) (command : Command) → IsCommand (word ∷ more ∷ []) command → (string_bytes word ≡ codes "sim") × (string_bytes more ≡ codes "trace")
-words_of word more Sim is = absurd is
-words_of word more SimTrace is = is
-words_of word more Check is = absurd is
-words_of word more Compile is = absurd is
-
-two_words : (words : List (String Global)) (word more : String Global) (a b : Command) → IsCommand (word ∷ more ∷ words) a → IsCommand (word ∷ more ∷ words) b → a ≡ b
-two_words words word more SimTrace SimTrace x y = refl
-two_words words word more Sim b x y = absurd x
-two_words words word more Check b x y = absurd x
-two_words words word more Compile b x y = absurd x
-two_words words word more SimTrace Sim x y = absurd y
-two_words words word more SimTrace Check x y = absurd y
-two_words words word more SimTrace Compile x y = absurd y
-
-pub no_command : (command : Command) → IsCommand [] command → ⊥
-no_command Sim is = is
-no_command SimTrace is = is
-no_command Check is = is
-no_command Compile is = is
-
 pub one_command : (words : List (String Global)) (a b : Command) → IsCommand words a → IsCommand words b → a ≡ b
-one_command [] a b x y = absurd (no_command a x)
-one_command (word ∷ []) a b x y = one_word (string_bytes word) a b (word_of word a x) (word_of word b y)
-one_command (word ∷ other ∷ words) a b x y = two_words words word other a b x y
+one_command [] a b x y = absurd x
+one_command (word ∷ []) a b x y = one_word (string_bytes word) a b x y
+one_command (word ∷ other ∷ words) a b x y = absurd x

@@ -1,4 +1,2 @@
 -- What the contracts of private functions cite.
 pub mod Delivery
-pub mod Kinds
-pub mod Words

@@ -1,65 +1,102 @@
-// The runs of scripts.
-ghost use Rattle.std.specs.Prelude.{◌≡◌, [], true, if◌then◌else◌, IfOk};
-ghost use Rattle.sg_edge.specs.Stops.{AscendsAbove};
-ghost use Rattle.sg_play_laws.specs.Playable.{IsPlayable};
-ghost use Rattle.sg_top.specs.Headline.{IsRunOf};
-ghost use Rattle.sg_top.specs.Inside.Kinds.{IsOneOfFive, answering, kind_by};
-ghost use Rattle.sg_wake_laws.specs.Waking.{no_query_waits};
+// Which scripts are played, and their runs.
+ghost use Rattle.std.specs.Prelude.{◌≡◌, ◌≤◌, [], ◌∷◌, true, if◌then◌else◌, IfOk, length};
+ghost use Rattle.sg_facts.specs.Fits.{Fits};
+ghost use Rattle.sg_hist.specs.declared.ended.End.TheVariants.{Done};
+ghost use Rattle.sg_lock.specs.LockFacts.{lock_facts};
+ghost use Rattle.sg_plain.specs.Script.{calls_fit};
+ghost use Rattle.sg_top.specs.Headline.{IsPlainTrace, IsRunOf, first_calls, has_one_client, is_plain, is_played};
 
-use crate::services::{ServiceKind, kind_of};
-use sg_base::{Bytes, NoMemory, TryCopy};
-use sg_check::Accepted;
-use sg_edge::AtPoints;
-use sg_event::EventService;
-use sg_facts::Service;
+use crate::played::Played;
+use sg_base::{Bytes, NoMemory};
+use sg_facts::{BootList, BootLog, Interface, ItemList, Service, Trace};
+use sg_first_play::play;
+use sg_hist::{End, EndList, Ended};
 use sg_lock::LockService;
-use sg_mm::MmService;
-use sg_ramfs::RamfsService;
 use sg_report::text;
-use sg_sched::SchedService;
-use sg_script::Script;
-use sg_serial::play;
-use sg_sim::Played;
-use sg_stub::compile;
+use sg_script::{CallList, Script, ScriptCall};
 use std::alloc::Global;
 
-/// The run of a script under an accepted interface, with its report.
-pub fn played_of(
-    alloc: Global,
-    accepted: &Accepted,
-    script: Script,
-    with_trace: bool,
-) -> Result<(Played, Bytes), NoMemory>
-    requires service { IsOneOfFive accepted.now.facts }
-    requires playable { IsPlayable accepted.now script }
-    requires stops { AscendsAbove 0 script.stops }
-    ensures { IfOk result (λ p. IsRunOf accepted.now (answering (kind_by accepted.now.facts)) script with_trace p.0 p.1) }
+/// Whether a script under an interface is played today: the interface is that of locks, and the script has no setup calls, no turns
+/// and no stops, and no client above 1.
+pub fn is_played(iface: &Interface, script: &Script) -> bool
+    ensures { result ≡ is_played iface.now script.now }
 {
-    match kind_of(accepted.interface()) {
-        ServiceKind::Locks => play_on::<LockService>(alloc, accepted, script, with_trace),
-        ServiceKind::Events => play_on::<EventService>(alloc, accepted, script, with_trace),
-        ServiceKind::Pages => play_on::<MmService>(alloc, accepted, script, with_trace),
-        ServiceKind::Files => play_on::<RamfsService>(alloc, accepted, script, with_trace),
-        ServiceKind::Threads => play_on::<SchedService>(alloc, accepted, script, with_trace),
+    iface.shape.name == LockService::shape().name && is_plain(script)
+}
+
+// Whether a script has no setup calls, no turns and no stops, and no client above 1.
+fn is_plain(script: &Script) -> bool
+    ensures { result ≡ is_plain script.now }
+{
+    script.setup.len() == 0
+        && script.schedule.len() == 0
+        && script.stops.len() == 0
+        && has_one_client(script.clients.as_slice())
+}
+
+// Whether no client, or client 1 alone, has a part.
+fn has_one_client(clients: &[(u8, CallList)]) -> bool
+    ensures { result ≡ has_one_client clients.now }
+{
+    match clients {
+        [] => true,
+        [(number, _)] => *number == 1,
+        _ => false,
     }
 }
 
-// The run of a script on a service, with its report.
-fn play_on<S: Service>(
-    alloc: Global,
-    accepted: &Accepted,
-    script: Script,
-    with_trace: bool,
-) -> Result<(Played, Bytes), NoMemory>
-    requires service { accepted.now.facts ≡ S.facts }
-    requires waits { no_query_waits S.facts ≡ true }
-    requires playable { IsPlayable accepted.now script }
-    requires stops { AscendsAbove 0 script.stops }
-    ensures { IfOk result (λ p. IsRunOf accepted.now (record { facts = S.facts; ask = S.ask; parts = S.parts }) script with_trace p.0 p.1) }
+/// The calls of the first client.
+pub fn first_calls(clients: &[(u8, CallList)]) -> &[ScriptCall]
+    ensures { result.now ≡ first_calls clients.now }
 {
-    let tables = compile(alloc, accepted)?;
-    let stops = AtPoints::new(script.stops.copy(alloc)?);
-    let played = play::<S, AtPoints>(alloc, tables, script, stops)?;
-    let text = text(alloc, accepted.interface(), played.ended(), with_trace)?;
-    Ok((played, text))
+    match clients {
+        [] => &[],
+        [(_, calls), ..] => calls.as_slice(),
+    }
+}
+
+/// The run of client 1's calls on locks, with its report.
+pub fn played_of(
+    alloc: Global,
+    iface: &Interface,
+    calls: &[ScriptCall],
+) -> Result<(Played, Bytes), NoMemory>
+    requires facts { iface.now.facts ≡ lock_facts }
+    requires fits { Fits iface.now }
+    requires few { length calls.now ≤ 65536 }
+    requires calls { calls_fit iface.now 1 calls.now ≡ true }
+    ensures { IfOk result (λ p. IsRunOf iface.now calls.now p.0 p.1) }
+{
+    let history = play(alloc, iface, calls)?;
+    let ended = Ended {
+        history,
+        trace: plain_trace(alloc)?,
+        ends: ends_of(alloc, calls.is_empty())?,
+    };
+    let text = text(alloc, iface, &ended, false)?;
+    Ok((Played::new(ended), text))
+}
+
+// The trace of one boot in which nothing was traced.
+fn plain_trace(alloc: Global) -> Result<Trace, NoMemory>
+    ensures { IfOk result IsPlainTrace }
+{
+    let mut boots = BootList::new(alloc);
+    boots.reserve(1)?;
+    boots.add(BootLog {
+        items: ItemList::new(alloc),
+        stop: None,
+    });
+    Ok(Trace { boots, points: 0 })
+}
+
+// How the clients ended: client 1 is done, where it has a call.
+fn ends_of(alloc: Global, is_empty: bool) -> Result<EndList, NoMemory>
+    ensures { IfOk result (λ ends. ends ≡ (if is_empty then [] else (1, Done) ∷ [])) }
+{
+    let mut ends = EndList::new(alloc);
+    if !is_empty {
+        ends.push((1, End::Done))?;
+    }
+    Ok(ends)
 }

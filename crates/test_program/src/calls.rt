@@ -8,15 +8,14 @@ use std::test::Fail;
 use test_interfaces::LOCK;
 
 // Words that are no command's, up to two of them; an empty one isn't given.
-static OTHER_WORDS: [[&str; 2]; 9] = [
+static OTHER_WORDS: [[&str; 2]; 8] = [
     ["", ""],
     ["sim ", ""],
     ["SIM", ""],
     ["sim trace", ""],
     ["checks", ""],
     ["run", ""],
-    ["trace", "sim"],
-    ["sim", "traces"],
+    ["sim", "trace"],
     ["check", "check"],
 ];
 
@@ -66,11 +65,10 @@ fn gives_the_run(rt: HostRuntime) -> Result<(), Fail> {
     Ok(())
 }
 
-static NUMBERS: [(Status, u8); 7] = [
+static NUMBERS: [(Status, u8); 6] = [
     (Status::Done, 0),
     (Status::OtherWords, 1),
     (Status::Refused, 2),
-    (Status::Waits, 3),
     (Status::ReadFault, 4),
     (Status::WriteFault, 5),
     (Status::NoMemory, 6),
