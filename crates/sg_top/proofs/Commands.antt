@@ -1,6 +1,7 @@
 -- The words say at most one command.
-use Rattle.std.proofs.Common.{◌≡◌, ℕ, List, [], ◌∷◌, length, refl, sym, ◌∙◌, ap, arith}
-use Rattle.std.specs.Prelude.{codes, string_bytes}
+use Rattle.std.proofs.Common.{◌≡◌, ◌<◌, ◌≤◌, ℕ, List, [], ◌∷◌, None, Some, length, slice_index_or, refl, sym, ◌∙◌, ap, subst, arith}
+use Rattle.std.specs.Prelude.{MatchOption, codes, string_bytes}
+use Rattle.std.specs.declared.option.Option.{Option}
 use Rattle.std.specs.declared.string.String.{String}
 use Rattle.std.specs.declared.alloc.Global.{Global}
 use Rattle.sg_top.specs.declared.command.Command.{Command}
@@ -37,6 +38,18 @@ of_word word Sim is = is
 of_word word SimTrace is = absurd is
 of_word word Check is = is
 of_word word Compile is = is
+
+-- words are one, where there is a first and no second
+pub one_of : (words : List (String Global)) (word : String Global) → 1 ≤ length words → length words < 2 → word ≡ slice_index_or words 0 word → words ≡ word ∷ []
+one_of [] word first second is = absurd (omega (arith, first))
+one_of (w ∷ []) word first second is = ap (λ x. x ∷ []) (sym is)
+one_of (w ∷ v ∷ words) word first second is = absurd (omega (arith, second))
+
+-- what one word says, of all words
+pub one_word_says : (words : List (String Global)) (word : String Global) (text : List ℕ) (o : Option Command) → words ≡ word ∷ [] → text ≡ string_bytes word
+    → MatchOption o ((command : Command) → IsWordOf text command → ⊥) (IsWordOf text) → MatchOption o ((command : Command) → IsCommand words command → ⊥) (IsCommand words)
+one_word_says words word text None is same none = λ command says. none command (subst (λ t. IsWordOf t command) (sym same) (word_of word command (subst (λ l. IsCommand l command) is says)))
+one_word_says words word text (Some command) is same says = subst (λ l. IsCommand l command) (sym is) (of_word word command (subst (λ t. IsWordOf t command) same says))
 
 pub words_of : (word more : String Global) (command : Command) → IsCommand (word ∷ more ∷ []) command → (string_bytes word ≡ codes "sim") × (string_bytes more ≡ codes "trace")
 words_of word more Sim is = absurd is

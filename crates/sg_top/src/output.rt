@@ -77,7 +77,6 @@ fn output_saying(said: Verdict) -> Output
 }
 
 // The run of an input, with its report; or the line of an input that is refused.
-#[tactic(none)]
 fn simulated(alloc: Global, bytes: &[u8], with_trace: bool) -> Result<Output, NoMemory>
     ensures { IfOk result (λ o. IsPlayOutput bytes.now with_trace o.ended o.status o.text) }
 {
@@ -92,7 +91,6 @@ fn simulated(alloc: Global, bytes: &[u8], with_trace: bool) -> Result<Output, No
 }
 
 // The run of a script under its interface, with its report.
-#[tactic(none)]
 fn run_of(
     alloc: Global,
     accepted: &Accepted,

@@ -26,7 +26,6 @@ use sg_stub::compile;
 use std::alloc::Global;
 
 /// The run of a script under an accepted interface, with its report.
-#[tactic(none)]
 pub fn played_of(
     alloc: Global,
     accepted: &Accepted,
