@@ -1,10 +1,29 @@
 -- A script that is ready is played.
 use Rattle.std.proofs.lemmas.Result.{IfOk-weaker}
-use Rattle.std.proofs.Common.{map}
+use Rattle.std.proofs.Common.{map, refl}
 use Rattle.sg_facts.specs.Facts.{facts_of}
-use Rattle.sg_top.specs.Answer.{IsPlayOutput}
+use Rattle.sg_input.specs.Inputs.{IsReady}
+use Rattle.sg_top.specs.Answer.{IsPlayOutput, services}
 use Rattle.sg_top.proofs.Fitting.{ready_for, ready_playable, ready_service, ready_stops}
 use Rattle.sg_top.proofs.output.simulated.Goals as goal
 
+pub run_of-requires-clause-service : goal.run_of-requires-clause-service
+run_of-requires-clause-service c =
+    ready_service c.args.bytes.now c.in-Ready.accepted c.in-Ready.script
+    (ready_for c.args.bytes.now (map facts_of c.shapes.result) c.in_ok-accepted.field-0 c.in-Ready.accepted c.in-Ready.accepted c.in-Ready.script c.shapes.ensures.facts c.in-Ready.is refl c.in_ok-accepted.ensures.input)
+
+pub run_of-requires-clause-playable : goal.run_of-requires-clause-playable
+run_of-requires-clause-playable c =
+    ready_playable c.args.bytes.now c.in-Ready.accepted c.in-Ready.script
+    (ready_for c.args.bytes.now (map facts_of c.shapes.result) c.in_ok-accepted.field-0 c.in-Ready.accepted c.in-Ready.accepted c.in-Ready.script c.shapes.ensures.facts c.in-Ready.is refl c.in_ok-accepted.ensures.input)
+
+pub run_of-requires-clause-stops : goal.run_of-requires-clause-stops
+run_of-requires-clause-stops c =
+    ready_stops c.args.bytes.now c.in-Ready.accepted c.in-Ready.script
+    (ready_for c.args.bytes.now (map facts_of c.shapes.result) c.in_ok-accepted.field-0 c.in-Ready.accepted c.in-Ready.accepted c.in-Ready.script c.shapes.ensures.facts c.in-Ready.is refl c.in_ok-accepted.ensures.input)
+
 pub returns-in-Ready : goal.returns-in-Ready
-returns-in-Ready c = ?
+returns-in-Ready c =
+    let ready : IsReady services c.args.bytes.now c.in-Ready.accepted c.in-Ready.script =
+    ready_for c.args.bytes.now (map facts_of c.shapes.result) c.in_ok-accepted.field-0 c.in-Ready.accepted c.in-Ready.accepted c.in-Ready.script c.shapes.ensures.facts c.in-Ready.is refl c.in_ok-accepted.ensures.input in
+    IfOk-weaker c.run_of.result _ (λ o. IsPlayOutput c.args.bytes.now c.args.with_trace o.ended o.status o.text) (λ o all. all c.args.bytes.now ready) c.run_of.ensures
