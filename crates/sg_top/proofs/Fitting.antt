@@ -1,8 +1,7 @@
 -- An input that is ready is of one of the services, and its script may be played.
-use Rattle.std.proofs.Common.{◌≡◌, ◌⊎◌, inl, inr, ℕ, Bool, true, false, List, [], ◌∷◌, None, Some, cond, map, refl, sym, ◌∙◌, ap, subst, arith}
+use Rattle.std.proofs.Common.{◌≡◌, inl, inr, ℕ, Bool, true, false, List, None, Some, cond, refl, sym, ◌∙◌, ap, subst, arith}
 use Rattle.std.specs.List.{Contains}
 use Rattle.std.specs.Str.{bytes_eq}
-use Rattle.std.specs.declared.option.Option.{Option}
 use Rattle.sg_check_statements.specs.Says.{service_of}
 use Rattle.sg_edge.specs.Stops.{AscendsAbove}
 use Rattle.sg_event.specs.EventFacts.{event_facts}
@@ -19,7 +18,7 @@ use Rattle.sg_sched.specs.SchedFacts.{sched_facts}
 use Rattle.sg_script.specs.declared.script.Script.{Script}
 use Rattle.sg_script_laws.proofs.Flawless.{script_playable, script_stops}
 use Rattle.sg_top.specs.Answer.{services}
-use Rattle.sg_top.specs.Headline.{Answering, played_services}
+use Rattle.sg_top.specs.Headline.{played_services}
 use Rattle.sg_top.specs.Inside.Kinds.{IsOneOfFive, answering, kind_by}
 use Rattle.sg_top.specs.declared.services.ServiceKind.{ServiceKind}
 use Rattle.sg_top.specs.declared.services.ServiceKind.TheVariants.{Locks, Events, Pages, Files, Threads}

@@ -1,12 +1,11 @@
 -- What a play promises is what the headline says of it.
-use Rattle.std.proofs.Common.{◌≡◌, ℕ, ◌<◌, ◌≤◌, Bool, true, false, cond, List, [], ◌∷◌, Ok, Err, filter, refl, sym, ◌∙◌, ap, subst, arith}
+use Rattle.std.proofs.Common.{◌≡◌, ℕ, ◌<◌, Bool, true, cond, List, [], ◌∷◌, Ok, Err, filter, refl, sym, ◌∙◌, ap, subst, arith}
 use Rattle.std.specs.Result.{IfOk}
 use Rattle.std.specs.declared.result.Result.{Result}
 use Rattle.std.specs.Prelude.{◌&&◌, nat_le}
 use Rattle.std.proofs.lemmas.Bool.Decides.{nat_tests}
 use Rattle.sg_edge.specs.Stops.{AscendsAbove, up_to}
 use Rattle.sg_facts.specs.Interface.{Declared}
-use Rattle.sg_facts.specs.Legal.{Table}
 use Rattle.sg_facts.specs.Tables.{AreTables}
 use Rattle.sg_facts.specs.declared.tables.WalkLine.{WalkLine}
 use Rattle.sg_hist.specs.declared.ended.Ended.{Ended}

@@ -8,7 +8,6 @@ use Rattle.sg_facts.specs.Facts.{Facts}
 use Rattle.sg_edge.specs.Edge.{Rose, ConsumesAtMost}
 use Rattle.sg_hist.specs.declared.ended.End.{End}
 use Rattle.sg_hist.specs.declared.ended.Ended.{Ended}
-use Rattle.sg_diagnose.specs.declared.outcome.Verdict.{Verdict}
 use Rattle.sg_diagnose.specs.declared.outcome.Verdict.TheVariants.{Accepted as accepted, Refused as refused}
 use Rattle.sg_diagnose.specs.Verdicts.{IsCompiled, IsVerdict}
 use Rattle.sg_input.specs.declared.input.Input.TheVariants.{Refused as refused_input}
