@@ -41,8 +41,8 @@ fn ready(alloc: Global) -> Result<(Accepted, Script), Fail>
     }
 }
 
-// What was done in a play that wanted memory in one step, and in another behind it that none wanted, printed; None where one of the
-// plays came to an end.
+// What was done in a play that wanted memory in one step, and then went on, printed; None where it came to an end. The play is dropped
+// here alone.
 fn played_again(
     alloc: Global,
     accepted: &Accepted,
@@ -53,6 +53,16 @@ fn played_again(
 {
     let tables = compile(alloc, accepted)?;
     let mut play = Play::<Scarce, Never>::new(alloc, tables, script, Never::new())?;
+    done_again(alloc, accepted, &mut play)
+}
+
+// What was done in a play that wants memory in one step and goes on, printed; None where it comes to an end, as it never does behind such
+// a step.
+fn done_again(
+    alloc: Global,
+    accepted: &Accepted,
+    play: &mut Play<Scarce, Never>,
+) -> Result<Option<Bytes>, NoMemory> {
     if play.play(alloc).is_ok() || play.play(alloc).is_ok() {
         return Ok(None);
     }
