@@ -1,15 +1,17 @@
 -- What was read, and what was written of it, make the answer.
-use Rattle.std.proofs.Common.{◌≡◌, ℕ, ◌+◌, ◌<◌, ◌≤◌, ◌⊎◌, List, ◌++◌, None, Some, IsSome, IfSome, length, refl, sym, ◌∙◌, ap, subst, inl, inr, arith, append-nil, length-append}
+use Rattle.std.proofs.Common.{◌≡◌, ℕ, ◌+◌, ◌<◌, ◌≤◌, ◌⊎◌, Bool, true, false, cond, List, ◌++◌, None, Some, IsSome, IfSome, length, refl, sym, ◌∙◌, ap, subst, inl, inr, arith, append-nil, length-append}
 use Rattle.std.specs.declared.option.Option.{Option}
 use Rattle.std.specs.Io.KnownBytes.{Consumes, IsAtEnd}
 use Rattle.sg_edge.specs.Edge.{Rose, ConsumesJust}
+use Rattle.sg_hist.specs.declared.ended.End.{End}
 use Rattle.sg_hist.specs.declared.ended.Ended.{Ended}
 use Rattle.sg_top.specs.declared.command.Command.{Command}
-use Rattle.sg_top.specs.declared.command.Command.TheVariants.{Sim, Check, Compile}
+use Rattle.sg_top.specs.declared.command.Command.TheVariants.{Sim, SimTrace, Check, Compile}
 use Rattle.sg_top.specs.declared.status.Status.{Status}
-use Rattle.sg_top.specs.declared.status.Status.TheVariants.{Done, OtherWords, Refused, ReadFault, WriteFault, NoMemory}
+use Rattle.sg_top.specs.declared.status.Status.TheVariants.{Done, Waits, OtherWords, Refused, ReadFault, WriteFault, NoMemory}
 use Rattle.sg_input.specs.Lines.{too_long_line}
-use Rattle.sg_top.specs.Answer.{Ends, HasRead, IsAnswer, IsOutput, IsRefusal, IsUntouched, SaysRefused, most_bytes}
+use Rattle.sg_plain.specs.Promises.{somebody_waits}
+use Rattle.sg_top.specs.Answer.{Ends, HasRead, IsAnswer, IsOutput, IsPlayOutput, IsRefusal, IsUntouched, SaysRefused, ended_status, is_play, most_bytes}
 use Rattle.sg_top.specs.Inside.Delivery.{IsCarriedOut, IsWritten}
 use Rattle.sg_top.proofs.Refusals.{never_refused}
 
@@ -42,11 +44,28 @@ Read command told told' ended status output =
 too_long : (command : Command) (bytes : List ℕ) → most_bytes command < length bytes → IsRefusal command bytes too_long_line
 too_long command bytes long = inr (long, refl)
 
+-- the status of a play that came to its end
+ends_so : (ends : List (ℕ × End)) → (ended_status ends ≡ Done) ⊎ (ended_status ends ≡ Waits)
+ends_so ends = by (somebody_waits ends)
+  where
+    by : (b : Bool) → (cond b Waits Done ≡ Done) ⊎ (cond b Waits Done ≡ Waits)
+    by true = inr refl
+    by false = inl refl
+
+ends_good : (ends : List (ℕ × End)) → ended_status ends ≡ Refused → ⊥
+ends_good ends is = by (somebody_waits ends) is
+  where
+    by : (b : Bool) → cond b Waits Done ≡ Refused → ⊥
+    by true is = cc is
+    by false is = cc is
+
 -- an output of an input that is refused has its refusal, and no run came to its end
 refusal : (command : Command) (bytes : List ℕ) (ended : Option Ended) (status : Status) (output : List ℕ) → status ≡ Refused → length bytes ≤ most_bytes command
     → IsOutput command bytes ended status output → (ended ≡ None) × IsRefusal command bytes output
 refusal Sim bytes None status output two short is = (refl, inl (short, is.1))
-refusal Sim bytes (Some e) status output two short is = absurd (cc (two, is.0))
+refusal Sim bytes (Some e) status output two short is = absurd (ends_good e.ends (sym is.0 ∙ two))
+refusal SimTrace bytes None status output two short is = (refl, inl (short, is.1))
+refusal SimTrace bytes (Some e) status output two short is = absurd (ends_good e.ends (sym is.0 ∙ two))
 refusal Check bytes ended status output two short (none, inl accepted) = absurd (cc (two, accepted.0))
 refusal Compile bytes ended status output two short (none, inl accepted) = absurd (cc (two, accepted.0))
 refusal Check bytes ended status output two short (none, inr refused) = (none, inl (short, refused.1))
@@ -69,61 +88,76 @@ told_refused command source source' ended status output two has = refused_by com
 
 -- ---- statuses and runs
 
+played_status : (bytes : List ℕ) (with_trace : Bool) (ended : Option Ended) (status : Status) (output : List ℕ)
+    → IsPlayOutput bytes with_trace ended status output → (status ≡ Done) ⊎ (status ≡ Waits) ⊎ (status ≡ Refused)
+played_status bytes with_trace None status output is = inr (inr is.0)
+played_status bytes with_trace (Some e) status output is = by (ends_so e.ends)
+  where
+    by : (ended_status e.ends ≡ Done) ⊎ (ended_status e.ends ≡ Waits) → (status ≡ Done) ⊎ (status ≡ Waits) ⊎ (status ≡ Refused)
+    by (inl done) = inl (is.0 ∙ done)
+    by (inr waits) = inr (inl (is.0 ∙ waits))
+
 output_status : (command : Command) (bytes : List ℕ) (ended : Option Ended) (status : Status) (output : List ℕ)
-    → IsOutput command bytes ended status output → (status ≡ Done) ⊎ (status ≡ Refused)
-output_status Sim bytes None status output is = inr is.0
-output_status Sim bytes (Some e) status output is = inl is.0
+    → IsOutput command bytes ended status output → (status ≡ Done) ⊎ (status ≡ Waits) ⊎ (status ≡ Refused)
+output_status Sim bytes ended status output is = played_status bytes false ended status output is
+output_status SimTrace bytes ended status output is = played_status bytes true ended status output is
 output_status Check bytes ended status output (none, inl accepted) = inl accepted.0
 output_status Compile bytes ended status output (none, inl accepted) = inl accepted.0
-output_status Check bytes ended status output (none, inr refused) = inr refused.0
-output_status Compile bytes ended status output (none, inr refused) = inr refused.0
+output_status Check bytes ended status output (none, inr refused) = inr (inr refused.0)
+output_status Compile bytes ended status output (none, inr refused) = inr (inr refused.0)
 
 status_by : (command : Command) (told told' : Option (List ℕ)) (ended : Option Ended) (status : Status) (output : List ℕ)
-    → Read command told told' ended status output → (status ≡ Done) ⊎ (status ≡ Refused)
+    → Read command told told' ended status output → (status ≡ Done) ⊎ (status ≡ Waits) ⊎ (status ≡ Refused)
 status_by command told told' ended status output (inl (bytes, short, consumed, at_end, is)) = output_status command bytes ended status output is
-status_by command told told' ended status output (inr (bytes, count, consumed, none, is_two, line)) = inr is_two
+status_by command told told' ended status output (inr (bytes, count, consumed, none, is_two, line)) = inr (inr is_two)
 
--- an output is of an input that is done or refused
+-- an output is of an input that is done, where some client waits, or that is refused
 status_is : (command : Command) (source source' : Ends) (ended : Option Ended) (status : Status) (output : List ℕ)
-    → HasRead command source source' ended status output → (status ≡ Done) ⊎ (status ≡ Refused)
+    → HasRead command source source' ended status output → (status ≡ Done) ⊎ (status ≡ Waits) ⊎ (status ≡ Refused)
 status_is command source source' ended status output has = status_by command source.told source'.told ended status output has.read
 
-output_run : (command : Command) (bytes : List ℕ) (ended : Option Ended) (status : Status) (output : List ℕ) → status ≡ Done → command ≡ Sim
+played_run : (bytes : List ℕ) (with_trace : Bool) (ended : Option Ended) (status : Status) (output : List ℕ) → (status ≡ Refused → ⊥)
+    → IsPlayOutput bytes with_trace ended status output → IsSome ended
+played_run bytes with_trace None status output good is = absurd (good is.0)
+played_run bytes with_trace (Some e) status output good is = refl
+
+output_run : (command : Command) (bytes : List ℕ) (ended : Option Ended) (status : Status) (output : List ℕ) → (status ≡ Refused → ⊥) → is_play command ≡ true
     → IsOutput command bytes ended status output → IsSome ended
-output_run Sim bytes None status output zero sim is = absurd (cc (zero, is.0))
-output_run Sim bytes (Some e) status output zero sim is = refl
-output_run Check bytes ended status output zero sim is = cc
-output_run Compile bytes ended status output zero sim is = cc
+output_run Sim bytes ended status output good play is = played_run bytes false ended status output good is
+output_run SimTrace bytes ended status output good play is = played_run bytes true ended status output good is
+output_run Check bytes ended status output good play is = absurd (cc play)
+output_run Compile bytes ended status output good play is = absurd (cc play)
 
-run_by : (command : Command) (told told' : Option (List ℕ)) (ended : Option Ended) (status : Status) (output : List ℕ) → status ≡ Done → command ≡ Sim
+run_by : (command : Command) (told told' : Option (List ℕ)) (ended : Option Ended) (status : Status) (output : List ℕ) → (status ≡ Refused → ⊥) → is_play command ≡ true
     → Read command told told' ended status output → IsSome ended
-run_by command told told' ended status output zero sim (inl (bytes, short, consumed, at_end, is)) = output_run command bytes ended status output zero sim is
-run_by command told told' ended status output zero sim (inr (bytes, count, consumed, none, is_two, line)) = absurd (cc (zero, is_two))
+run_by command told told' ended status output good play (inl (bytes, short, consumed, at_end, is)) = output_run command bytes ended status output good play is
+run_by command told told' ended status output good play (inr (bytes, count, consumed, none, is_two, line)) = absurd (good is_two)
 
--- a play that is done has a run
-done_run : (command : Command) (source source' : Ends) (ended : Option Ended) (status : Status) (output : List ℕ) → status ≡ Done → command ≡ Sim
+-- a play that came to its end has a run
+good_run : (command : Command) (source source' : Ends) (ended : Option Ended) (status : Status) (output : List ℕ) → (status ≡ Refused → ⊥) → is_play command ≡ true
     → HasRead command source source' ended status output → IsSome ended
-done_run command source source' ended status output zero sim has = run_by command source.told source'.told ended status output zero sim has.read
+good_run command source source' ended status output good play has = run_by command source.told source'.told ended status output good play has.read
 
 no_run : (ended : Option Ended) → ended ≡ None → IsSome ended → ⊥
 no_run None none some = cc
 no_run (Some e) none some = cc
 
-output_sim : (command : Command) (bytes : List ℕ) (ended : Option Ended) (status : Status) (output : List ℕ)
-    → IsOutput command bytes ended status output → IsSome ended → command ≡ Sim
-output_sim Sim bytes ended status output is some = refl
-output_sim Check bytes ended status output is some = absurd (no_run ended is.0 some)
-output_sim Compile bytes ended status output is some = absurd (no_run ended is.0 some)
+output_play : (command : Command) (bytes : List ℕ) (ended : Option Ended) (status : Status) (output : List ℕ)
+    → IsOutput command bytes ended status output → IsSome ended → is_play command ≡ true
+output_play Sim bytes ended status output is some = refl
+output_play SimTrace bytes ended status output is some = refl
+output_play Check bytes ended status output is some = absurd (no_run ended is.0 some)
+output_play Compile bytes ended status output is some = absurd (no_run ended is.0 some)
 
-sim_by : (command : Command) (told told' : Option (List ℕ)) (ended : Option Ended) (status : Status) (output : List ℕ)
-    → Read command told told' ended status output → IsSome ended → command ≡ Sim
-sim_by command told told' ended status output (inl (bytes, short, consumed, at_end, is)) some = output_sim command bytes ended status output is some
-sim_by command told told' ended status output (inr (bytes, count, consumed, none, is_two, line)) some = absurd (no_run ended none some)
+play_by : (command : Command) (told told' : Option (List ℕ)) (ended : Option Ended) (status : Status) (output : List ℕ)
+    → Read command told told' ended status output → IsSome ended → is_play command ≡ true
+play_by command told told' ended status output (inl (bytes, short, consumed, at_end, is)) some = output_play command bytes ended status output is some
+play_by command told told' ended status output (inr (bytes, count, consumed, none, is_two, line)) some = absurd (no_run ended none some)
 
 -- only a play has a run
-run_sim : (command : Command) (source source' : Ends) (ended : Option Ended) (status : Status) (output : List ℕ)
-    → HasRead command source source' ended status output → IsSome ended → command ≡ Sim
-run_sim command source source' ended status output has some = sim_by command source.told source'.told ended status output has.read some
+run_play : (command : Command) (source source' : Ends) (ended : Option Ended) (status : Status) (output : List ℕ)
+    → HasRead command source source' ended status output → IsSome ended → is_play command ≡ true
+run_play command source source' ended status output has some = play_by command source.told source'.told ended status output has.read some
 
 -- ---- answers
 
@@ -141,17 +175,17 @@ pub says_refused : (command : Command) (told : Option (List ℕ)) (status : Stat
     → (status ≡ Refused) ⊎ (status ≡ ReadFault) ⊎ (status ≡ WriteFault) ⊎ (status ≡ NoMemory) → IfSome told (SaysRefused command status)
 says_refused command told status is = told_any (SaysRefused command status) told (λ bytes output refusal. is)
 
-says_by : (command : Command) (told told' : Option (List ℕ)) (ended : Option Ended) (status wanted : Status) (output : List ℕ) → wanted ≡ Done
+says_by : (command : Command) (told told' : Option (List ℕ)) (ended : Option Ended) (status wanted : Status) (output : List ℕ) → (wanted ≡ Refused → ⊥)
     → Read command told told' ended wanted output → IfSome told (SaysRefused command status)
-says_by command told told' ended status wanted output done (inl (bytes, short, consumed, at_end, is)) =
+says_by command told told' ended status wanted output good (inl (bytes, short, consumed, at_end, is)) =
     told_whole (SaysRefused command status) told told' bytes consumed at_end
-    (λ line refusal. absurd (never_refused command bytes ended wanted output line done short is refusal))
-says_by command told told' ended status wanted output done (inr (bytes, count, consumed, none, is_refused, line)) = absurd (cc (done, is_refused))
+    (λ line refusal. absurd (never_refused command bytes ended wanted output line good short is refusal))
+says_by command told told' ended status wanted output good (inr (bytes, count, consumed, none, is_refused, line)) = absurd (good is_refused)
 
--- where an output is done, what is told isn't refused
-says_done : (command : Command) (source source' : Ends) (ended : Option Ended) (status wanted : Status) (output : List ℕ) → wanted ≡ Done
+-- where an output is no refusal, what is told isn't refused
+says_good : (command : Command) (source source' : Ends) (ended : Option Ended) (status wanted : Status) (output : List ℕ) → (wanted ≡ Refused → ⊥)
     → HasRead command source source' ended wanted output → IfSome source.told (SaysRefused command status)
-says_done command source source' ended status wanted output done has = says_by command source.told source'.told ended status wanted output done has.read
+says_good command source source' ended status wanted output good has = says_by command source.told source'.told ended status wanted output good has.read
 
 -- a count that is as it was didn't rise
 no_rise : {P : Type 0} (old new : ℕ) → new ≡ old → old < new → P
@@ -159,30 +193,52 @@ no_rise old new same rose = absurd (omega (arith, same, rose))
 
 answered : (said : Command → Type 0) (source source' sink sink' : Ends) (status : Status) (ended : Option Ended) (command : Command) (wanted : Status) (output : List ℕ)
     → IsOne said → said command → HasRead command source source' ended wanted output → IsWritten sink sink' output wanted status
-    → source'.faults ≡ source.faults → sink.faults ≤ sink'.faults → (wanted ≡ Done) ⊎ (wanted ≡ Refused) → IsAnswer said source source' sink sink' status ended
+    → source'.faults ≡ source.faults → sink.faults ≤ sink'.faults → (wanted ≡ Done) ⊎ (wanted ≡ Waits) ⊎ (wanted ≡ Refused) → IsAnswer said source source' sink sink' status ended
 answered said source source' sink sink' status ended command wanted output one is_said has (inl written) steady writes (inl done) =
-    let is_done : status ≡ Done = written.0 ∙ done in record {
+    let is_done : status ≡ Done = written.0 ∙ done in
+    let good : wanted ≡ Refused → ⊥ = λ is. cc (sym done ∙ is) in record {
       words = λ is. absurd (cc (is, is_done));
       other_words = λ other. absurd (other command is_said);
       done = λ is. (command, is_said, output, subst (λ w. HasRead command source source' ended w output) done has, written.1);
+      waits = λ is. absurd (cc (is, is_done));
       refused = λ is. absurd (cc (is, is_done));
-      refuses = λ c said_c. subst (λ v. IfSome source.told (SaysRefused v status)) (one command c is_said said_c) (says_done command source source' ended status wanted output done has);
+      refuses = λ c said_c. subst (λ v. IfSome source.told (SaysRefused v status)) (one command c is_said said_c) (says_good command source source' ended status wanted output good has);
       read_fault = λ is. absurd (cc (is, is_done));
       only_read_fault = λ rose. no_rise source.faults source'.faults steady rose;
       write_fault = λ is. absurd (cc (is, is_done));
       only_write_fault = λ rose. no_rise sink.faults sink'.faults written.2 rose;
       no_memory = λ is. absurd (cc (is, is_done));
-      played = λ is sim. done_run command source source' ended wanted output done (one command Sim is_said sim) has;
-      only_played = λ some. subst said (run_sim command source source' ended wanted output has some) is_said;
+      played = λ is c said_c play. good_run command source source' ended wanted output good (ap is_play (one command c is_said said_c) ∙ play) has;
+      only_played = λ some. (command, is_said, run_play command source source' ended wanted output has some);
       reads = omega (arith, steady);
       writes = writes;
     }
-answered said source source' sink sink' status ended command wanted output one is_said has (inl written) steady writes (inr two) =
+answered said source source' sink sink' status ended command wanted output one is_said has (inl written) steady writes (inr (inl waits)) =
+    let is_waits : status ≡ Waits = written.0 ∙ waits in
+    let good : wanted ≡ Refused → ⊥ = λ is. cc (sym waits ∙ is) in record {
+      words = λ is. absurd (cc (is, is_waits));
+      other_words = λ other. absurd (other command is_said);
+      waits = λ is. (command, is_said, output, subst (λ w. HasRead command source source' ended w output) waits has, written.1);
+      done = λ is. absurd (cc (is, is_waits));
+      refused = λ is. absurd (cc (is, is_waits));
+      refuses = λ c said_c. subst (λ v. IfSome source.told (SaysRefused v status)) (one command c is_said said_c) (says_good command source source' ended status wanted output good has);
+      read_fault = λ is. absurd (cc (is, is_waits));
+      only_read_fault = λ rose. no_rise source.faults source'.faults steady rose;
+      write_fault = λ is. absurd (cc (is, is_waits));
+      only_write_fault = λ rose. no_rise sink.faults sink'.faults written.2 rose;
+      no_memory = λ is. absurd (cc (is, is_waits));
+      played = λ is c said_c play. good_run command source source' ended wanted output good (ap is_play (one command c is_said said_c) ∙ play) has;
+      only_played = λ some. (command, is_said, run_play command source source' ended wanted output has some);
+      reads = omega (arith, steady);
+      writes = writes;
+    }
+answered said source source' sink sink' status ended command wanted output one is_said has (inl written) steady writes (inr (inr two)) =
     let is_refused : status ≡ Refused = written.0 ∙ two in
     let no_run = told_refused command source source' ended wanted output two has in record {
       words = λ is. absurd (cc (is, is_refused));
       other_words = λ other. absurd (other command is_said);
       done = λ is. absurd (cc (is, is_refused));
+      waits = λ is. absurd (cc (is, is_refused));
       refused = λ is. (no_run.0, (command, is_said, output, subst (λ w. HasRead command source source' ended w output) two has, written.1, no_run.1));
       refuses = λ c said_c. says_refused c source.told status (inl is_refused);
       read_fault = λ is. absurd (cc (is, is_refused));
@@ -190,8 +246,8 @@ answered said source source' sink sink' status ended command wanted output one i
       write_fault = λ is. absurd (cc (is, is_refused));
       only_write_fault = λ rose. no_rise sink.faults sink'.faults written.2 rose;
       no_memory = λ is. absurd (cc (is, is_refused));
-      played = λ is sim. absurd (cc (is, is_refused));
-      only_played = λ some. subst said (run_sim command source source' ended wanted output has some) is_said;
+      played = λ is c said_c play. absurd (elim is [ inl done ↦ cc (done, is_refused) | inr waits ↦ cc (waits, is_refused) ]);
+      only_played = λ some. (command, is_said, run_play command source source' ended wanted output has some);
       reads = omega (arith, steady);
       writes = writes;
     }
@@ -199,6 +255,7 @@ answered said source source' sink sink' status ended command wanted output one i
   words = λ is. absurd (cc (is, cut.0));
   other_words = λ other. absurd (other command is_said);
   done = λ is. absurd (cc (is, cut.0));
+  waits = λ is. absurd (cc (is, cut.0));
   refused = λ is. absurd (cc (is, cut.0));
   refuses = λ c said_c. says_refused c source.told status (inr (inr (inl cut.0)));
   read_fault = λ is. absurd (cc (is, cut.0));
@@ -206,8 +263,8 @@ answered said source source' sink sink' status ended command wanted output one i
   write_fault = λ is. (cut.1, (command, is_said, output, wanted, cut.2.0, has, cut.2.1, cut.2.2));
   only_write_fault = λ rose. cut.0;
   no_memory = λ is. absurd (cc (is, cut.0));
-  played = λ is sim. absurd (cc (is, cut.0));
-  only_played = λ some. subst said (run_sim command source source' ended wanted output has some) is_said;
+  played = λ is c said_c play. absurd (elim is [ inl done ↦ cc (done, cut.0) | inr waits ↦ cc (waits, cut.0) ]);
+  only_played = λ some. (command, is_said, run_play command source source' ended wanted output has some);
   reads = omega (arith, steady);
   writes = writes;
 }
@@ -219,6 +276,7 @@ other_answer said source sink status ended nothing other none = record {
   words = λ is. (nothing, record { told = refl; faults = refl }, record { told = refl; faults = refl }, none);
   other_words = λ unsaid. other;
   done = λ is. absurd (cc (is, other));
+  waits = λ is. absurd (cc (is, other));
   refused = λ is. absurd (cc (is, other));
   refuses = λ c said_c. absurd (nothing c said_c);
   read_fault = λ is. absurd (cc (is, other));
@@ -226,7 +284,7 @@ other_answer said source sink status ended nothing other none = record {
   write_fault = λ is. absurd (cc (is, other));
   only_write_fault = λ rose. no_rise sink.faults sink.faults refl rose;
   no_memory = λ is. absurd (cc (is, other));
-  played = λ is sim. absurd (cc (is, other));
+  played = λ is c said_c play. absurd (elim is [ inl done ↦ cc (done, other) | inr waits ↦ cc (waits, other) ]);
   only_played = λ some. absurd (no_run ended none some);
   reads = omega arith;
   writes = omega arith;
@@ -239,6 +297,7 @@ read_failed said source source' sink status ended command is_said failed none ro
   words = λ is. absurd (cc (is, failed));
   other_words = λ other. absurd (other command is_said);
   done = λ is. absurd (cc (is, failed));
+  waits = λ is. absurd (cc (is, failed));
   refused = λ is. absurd (cc (is, failed));
   refuses = λ c said_c. says_refused c source.told status (inr (inl failed));
   read_fault = λ is. (none, rose, record { told = refl; faults = refl });
@@ -246,7 +305,7 @@ read_failed said source source' sink status ended command is_said failed none ro
   write_fault = λ is. absurd (cc (is, failed));
   only_write_fault = λ more. no_rise sink.faults sink.faults refl more;
   no_memory = λ is. absurd (cc (is, failed));
-  played = λ is sim. absurd (cc (is, failed));
+  played = λ is c said_c play. absurd (elim is [ inl done ↦ cc (done, failed) | inr waits ↦ cc (waits, failed) ]);
   only_played = λ some. absurd (no_run ended none some);
   reads = reads;
   writes = omega arith;
@@ -259,6 +318,7 @@ without_memory said source source' sink sink' status ended command is_said witho
   words = λ is. absurd (cc (is, without.0));
   other_words = λ other. absurd (other command is_said);
   done = λ is. absurd (cc (is, without.0));
+  waits = λ is. absurd (cc (is, without.0));
   refused = λ is. absurd (cc (is, without.0));
   refuses = λ c said_c. says_refused c source.told status (inr (inr (inr without.0)));
   read_fault = λ is. absurd (cc (is, without.0));
@@ -266,7 +326,7 @@ without_memory said source source' sink sink' status ended command is_said witho
   write_fault = λ is. absurd (cc (is, without.0));
   only_write_fault = λ rose. no_rise sink.faults sink'.faults without.2.faults rose;
   no_memory = λ is. (without.1, without.2);
-  played = λ is sim. absurd (cc (is, without.0));
+  played = λ is c said_c play. absurd (elim is [ inl done ↦ cc (done, without.0) | inr waits ↦ cc (waits, without.0) ]);
   only_played = λ some. absurd (no_run ended without.1 some);
   reads = omega (arith, steady);
   writes = omega (arith, without.2.faults);
@@ -298,4 +358,4 @@ pub too_long_answer : (said : Command → Type 0) (source source' sink sink' : E
     → source'.faults ≡ source.faults → sink.faults ≤ sink'.faults → IsAnswer said source source' sink sink' status ended
 too_long_answer said source source' sink sink' status ended command line limit same most one is_said (bytes, count, consumed) none written steady writes =
     answered said source source' sink sink' status ended command Refused line one is_said
-    (record { read = inr (bytes, count ∙ ap (λ n. n + 1) most, consumed, none, refl, same) }) written steady writes (inr refl)
+    (record { read = inr (bytes, count ∙ ap (λ n. n + 1) most, consumed, none, refl, same) }) written steady writes (inr (inr refl))

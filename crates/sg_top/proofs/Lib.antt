@@ -1,5 +1,5 @@
 pub mod Answers
 pub mod Commands
-pub mod Ended
 pub mod Fitting
 pub mod Refusals
+pub mod Running

@@ -1,35 +1,26 @@
 -- What the program answers: by which words, with which status, and why.
-use Rattle.std.specs.Prelude.{ℕ, ◌≡◌, ◌+◌, ◌<◌, ◌≤◌, ◌⊎◌, List, [], ◌∷◌, None, Some, IsSome, IfSome, length, take, codes, string_bytes}
+use Rattle.std.specs.Prelude.{ℕ, ◌≡◌, ◌+◌, ◌<◌, ◌≤◌, ◌⊎◌, Bool, true, false, if◌then◌else◌, List, [], ◌∷◌, None, Some, IsSome, IfSome, length, map, take, codes, string_bytes}
 use Rattle.std.specs.declared.option.Option.{Option}
 use Rattle.std.specs.Io.KnownBytes.{Appends, Consumes, IsAtEnd}
 use Rattle.std.specs.declared.string.String.{String}
 use Rattle.std.specs.declared.alloc.Global.{Global}
 use Rattle.sg_facts.specs.Facts.{Facts}
 use Rattle.sg_edge.specs.Edge.{Rose, ConsumesAtMost}
+use Rattle.sg_hist.specs.declared.ended.End.{End}
 use Rattle.sg_hist.specs.declared.ended.Ended.{Ended}
-use Rattle.sg_lock.specs.LockFacts.{lock_facts}
-use Rattle.sg_event.specs.EventFacts.{event_facts}
-use Rattle.sg_mm.specs.MmFacts.{mm_facts}
-use Rattle.sg_ramfs.specs.RamfsFacts.{ramfs_facts}
-use Rattle.sg_sched.specs.SchedFacts.{sched_facts}
-use Rattle.sg_diagnose.specs.declared.outcome.Verdict.{Verdict}
 use Rattle.sg_diagnose.specs.declared.outcome.Verdict.TheVariants.{Accepted as accepted, Refused as refused}
 use Rattle.sg_diagnose.specs.Verdicts.{IsCompiled, IsVerdict}
-use Rattle.sg_input.specs.Inputs.{most_input, most_interface}
+use Rattle.sg_input.specs.declared.input.Input.TheVariants.{Refused as refused_input}
+use Rattle.sg_input.specs.Inputs.{IsInputOf, most_input, most_interface}
 use Rattle.sg_input.specs.Lines.{too_long_line}
-use Rattle.sg_top.specs.Headline.{IsNotPlayed, IsRunOfInput}
+use Rattle.sg_plain.specs.Promises.{somebody_waits}
+use Rattle.sg_top.specs.Headline.{IsRunOfInput, played_services}
 use Rattle.sg_top.specs.declared.command.Command.{Command}
-use Rattle.sg_top.specs.declared.command.Command.TheVariants.{Sim, Check, Compile}
+use Rattle.sg_top.specs.declared.command.Command.TheVariants.{Sim, SimTrace, Check, Compile}
 use Rattle.sg_top.specs.declared.status.Status.{Status}
-use Rattle.sg_top.specs.declared.status.Status.TheVariants.{Done, OtherWords, Refused, ReadFault, WriteFault, NoMemory}
+use Rattle.sg_top.specs.declared.status.Status.TheVariants.{Done, Waits, OtherWords, Refused, ReadFault, WriteFault, NoMemory}
 
 -- ---- words
-
--- the name of a command
-abbrev pub command_name : Command → List ℕ
-command_name Sim = codes "sim"
-command_name Check = codes "check"
-command_name Compile = codes "compile"
 
 -- the words are one word, and the word is this text
 abbrev pub IsOneWord : List ℕ → List (String Global) → Type 0
@@ -37,15 +28,33 @@ IsOneWord text [] = ⊥
 IsOneWord text (word ∷ []) = string_bytes word ≡ text
 IsOneWord text (word ∷ other ∷ words) = ⊥
 
--- the words are the name of a command
+-- the words are two, and these texts
+abbrev pub AreTwoWords : List ℕ → List ℕ → List (String Global) → Type 0
+AreTwoWords one two [] = ⊥
+AreTwoWords one two (word ∷ []) = ⊥
+AreTwoWords one two (word ∷ other ∷ []) = (string_bytes word ≡ one) × (string_bytes other ≡ two)
+AreTwoWords one two (word ∷ other ∷ more ∷ words) = ⊥
+
+-- the words say a command
 abbrev pub IsCommand : List (String Global) → Command → Type 0
-IsCommand words command = IsOneWord (command_name command) words
+IsCommand words Sim = IsOneWord (codes "sim") words
+IsCommand words SimTrace = AreTwoWords (codes "sim") (codes "trace") words
+IsCommand words Check = IsOneWord (codes "check") words
+IsCommand words Compile = IsOneWord (codes "compile") words
+
+-- whether a command plays its input
+abbrev pub is_play : Command → Bool
+is_play Sim = true
+is_play SimTrace = true
+is_play Check = false
+is_play Compile = false
 
 -- ---- limits
 
 -- the greatest number of bytes of a command's input
 abbrev pub most_bytes : Command → ℕ
 most_bytes Sim = most_input
+most_bytes SimTrace = most_input
 most_bytes Check = most_interface
 most_bytes Compile = most_interface
 
@@ -53,12 +62,16 @@ most_bytes Compile = most_interface
 
 -- the services whose interfaces may be accepted
 abbrev pub services : List Facts
-services = lock_facts ∷ event_facts ∷ mm_facts ∷ ramfs_facts ∷ sched_facts ∷ []
+services = map (λ s. s.facts) played_services
 
--- the output of a play, and its status: the report of the run of an input that is played, or the line of an input that isn't
-abbrev pub IsPlayed : List ℕ → Option Ended → Status → List ℕ → Type 0
-IsPlayed bytes None status output = (status ≡ Refused) × IsNotPlayed services bytes output
-IsPlayed bytes (Some ended) status output = (status ≡ Done) × IsRunOfInput services bytes ended output
+-- the status of a play that came to its end: whether some client waits there
+abbrev pub ended_status : List (ℕ × End) → Status
+ended_status ends = if somebody_waits ends then Waits else Done
+
+-- the output of a play, and its status: the report of the run, or the line of an input that is refused
+abbrev pub IsPlayOutput : List ℕ → Bool → Option Ended → Status → List ℕ → Type 0
+IsPlayOutput bytes with_trace None status output = (status ≡ Refused) × IsInputOf services bytes (refused_input output)
+IsPlayOutput bytes with_trace (Some ended) status output = (status ≡ ended_status ended.ends) × IsRunOfInput bytes with_trace ended output
 
 -- the output of a check, and its status: the line of a text that is accepted, or of a text that is refused
 abbrev pub IsChecked : List ℕ → Status → List ℕ → Type 0
@@ -73,13 +86,15 @@ IsTabled text status output =
 
 -- the output of a command for an input, its status, and the run where there was one: only a play has one
 abbrev pub IsOutput : Command → List ℕ → Option Ended → Status → List ℕ → Type 0
-IsOutput Sim bytes ended status output = IsPlayed bytes ended status output
+IsOutput Sim bytes ended status output = IsPlayOutput bytes false ended status output
+IsOutput SimTrace bytes ended status output = IsPlayOutput bytes true ended status output
 IsOutput Check bytes ended status output = (ended ≡ None) × IsChecked bytes status output
 IsOutput Compile bytes ended status output = (ended ≡ None) × IsTabled bytes status output
 
 -- the line with which a command refuses bytes that aren't too many
 abbrev pub IsRefusedAs : Command → List ℕ → List ℕ → Type 0
-IsRefusedAs Sim bytes output = IsNotPlayed services bytes output
+IsRefusedAs Sim bytes output = IsInputOf services bytes (refused_input output)
+IsRefusedAs SimTrace bytes output = IsInputOf services bytes (refused_input output)
 IsRefusedAs Check bytes output = IsVerdict services bytes (refused output)
 IsRefusedAs Compile bytes output = IsVerdict services bytes (refused output)
 
@@ -118,13 +133,15 @@ pub record IsAnswer (said : Command → Type 0) (source source' sink sink' : End
   -- other words: they are no command's, and nothing is read or written
   pub words : status ≡ OtherWords → ((command : Command) → said command → ⊥) × IsUntouched source source' × IsUntouched sink sink' × (ended ≡ None)
   pub other_words : ((command : Command) → said command → ⊥) → status ≡ OtherWords
-  -- done: the input is played, accepted or compiled, and its report, line or tables are written
+  -- done: the input is played and no client waits, or it is accepted or compiled, and its report, line or tables are written
   pub done : status ≡ Done → (command : Command) × said command × (output : List ℕ) × HasRead command source source' ended Done output × Appends sink.told sink'.told output
+  -- waits: the input is played, some client waits at the end, and the report is written
+  pub waits : status ≡ Waits → (command : Command) × said command × (output : List ℕ) × HasRead command source source' ended Waits output × Appends sink.told sink'.told output
   -- refused: the input is refused, and the line that refuses it is written
   pub refused : status ≡ Refused → (ended ≡ None)
       × ((command : Command) × said command × (output : List ℕ) × HasRead command source source' ended Refused output × Appends sink.told sink'.told output
       × IfSome source.told (λ bytes. IsRefusal command bytes output))
-  -- an input that is refused is never answered as done
+  -- an input that is refused is never answered as played
   pub refuses : (command : Command) → said command → IfSome source.told (SaysRefused command status)
   -- a read fault: a read failed, and nothing is written; no other status is answered where the source's count of faults rose
   pub read_fault : status ≡ ReadFault → (ended ≡ None) × Rose source.faults source'.faults × IsUntouched sink sink'
@@ -137,9 +154,9 @@ pub record IsAnswer (said : Command → Type 0) (source source' sink sink' : End
   pub only_write_fault : sink.faults < sink'.faults → status ≡ WriteFault
   -- no memory: nothing is written
   pub no_memory : status ≡ NoMemory → (ended ≡ None) × IsUntouched sink sink'
-  -- a run is there where a play is done, and never of another command
-  pub played : status ≡ Done → said Sim → IsSome ended
-  pub only_played : IsSome ended → said Sim
+  -- a run is there where a play came to its end, and never of another command
+  pub played : (status ≡ Done) ⊎ (status ≡ Waits) → (command : Command) → said command → is_play command ≡ true → IsSome ended
+  pub only_played : IsSome ended → (command : Command) × said command × (is_play command ≡ true)
   -- the counts of faults never fall
   pub reads : source.faults ≤ source'.faults
   pub writes : sink.faults ≤ sink'.faults

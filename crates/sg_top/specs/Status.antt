@@ -3,13 +3,14 @@ use Rattle.std.specs.Prelude.{ℕ}
 use Rattle.std.specs.declared.io.ErrorKind.{ErrorKind}
 use Rattle.std.specs.declared.io.ErrorKind.TheVariants.{OutOfMemory}
 use Rattle.sg_top.specs.declared.status.Status.{Status}
-use Rattle.sg_top.specs.declared.status.Status.TheVariants.{Done, OtherWords, Refused, ReadFault, WriteFault, NoMemory}
+use Rattle.sg_top.specs.declared.status.Status.TheVariants.{Done, Waits, OtherWords, Refused, ReadFault, WriteFault, NoMemory}
 
 -- the number that a process ends with
 abbrev pub status_number : Status → ℕ
 status_number Done = 0
 status_number OtherWords = 1
 status_number Refused = 2
+status_number Waits = 3
 status_number ReadFault = 4
 status_number WriteFault = 5
 status_number NoMemory = 6

@@ -6,6 +6,8 @@ use sg_input::{MOST_INPUT, MOST_INTERFACE};
 pub enum Command {
     /// `sim`: plays an input, and prints the report of its run.
     Sim,
+    /// `sim trace`: plays an input, and prints the report of its run with all that was done to the service.
+    SimTrace,
     /// `check`: says whether an input is the text of an interface that is accepted.
     Check,
     /// `compile`: prints the tables of the text of an interface that is accepted.
@@ -13,9 +15,11 @@ pub enum Command {
 }
 
 impl Command {
-    ghost use Rattle.std.specs.Prelude.{◌≡◌, MatchOption};
+    ghost use Rattle.std.specs.Prelude.{◌≡◌, codes, MatchOption};
     ghost use Rattle.sg_top.specs.declared.command.Command.{Command as Asked};
-    ghost use Rattle.sg_top.specs.Answer.{IsCommand, command_name, most_bytes};
+    ghost use Rattle.sg_top.specs.declared.command.Command.TheVariants.{SimTrace as TracedPlay};
+    ghost use Rattle.sg_top.specs.Answer.{IsCommand, most_bytes};
+    ghost use Rattle.sg_top.specs.Inside.Words.{IsWordOf};
 
     /// The command of these words; None where they are no command's.
     pub fn of_words(words: &[String]) -> Option<Command>
@@ -23,13 +27,14 @@ impl Command {
     {
         match words {
             [word] => Command::of_word(word.as_str()),
+            [word, more] => Command::of_two_words(word.as_str(), more.as_str()),
             _ => None,
         }
     }
 
-    // The command of a word; None where it is no command's.
+    // The command of one word; None where it is no command's.
     fn of_word(word: &str) -> Option<Command>
-        ensures { MatchOption result ((command : Asked) → word.now ≡ command_name command → ⊥) (λ command. word.now ≡ command_name command) }
+        ensures { MatchOption result ((command : Asked) → IsWordOf word.now command → ⊥) (IsWordOf word.now) }
     {
         match word {
             "sim" => Some(Command::Sim),
@@ -39,12 +44,23 @@ impl Command {
         }
     }
 
+    // The command of two words; None where they are no command's.
+    fn of_two_words(word: &str, more: &str) -> Option<Command>
+        ensures { MatchOption result ((word.now ≡ codes "sim") × (more.now ≡ codes "trace") → ⊥) (λ command. (command ≡ TracedPlay) × (word.now ≡ codes "sim") × (more.now ≡ codes "trace")) }
+    {
+        if word == "sim" && more == "trace" {
+            Some(Command::SimTrace)
+        } else {
+            None
+        }
+    }
+
     /// The greatest number of bytes of the command's input.
     pub fn most_bytes(self) -> usize
         ensures { result ≡ most_bytes self }
     {
         match self {
-            Command::Sim => MOST_INPUT,
+            Command::Sim | Command::SimTrace => MOST_INPUT,
             Command::Check | Command::Compile => MOST_INTERFACE,
         }
     }

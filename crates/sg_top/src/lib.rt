@@ -5,22 +5,20 @@
 //! - `status`: how a call ends, and the number of that (`Status`)
 //! - `command`: what the words ask for (`Command`)
 //! - `output`: what a command makes of its input
-//! - `runs`: which scripts are played, and their runs
-//! - `shapes`: the services whose interfaces may be accepted
-//! - `played`: a run that was played (`Played`)
+//! - `runs`: the runs of scripts
+//! - `services`: the services whose interfaces may be accepted
 //!
 //! `specs/Headline.antt` says what a play promises, and `specs/Answer.antt` what an answer promises, status by status.
 #![tactic(auto)]
 
 mod command;
 mod output;
-mod played;
 mod runs;
-mod shapes;
+mod services;
 mod status;
 mod top;
 
 pub use command::Command;
-pub use played::Played;
+pub use sg_sim::Played;
 pub use status::Status;
 pub use top::{Answer, serial, superglue};

@@ -1,27 +1,25 @@
 // What a command makes of its input.
-ghost use Rattle.std.specs.Prelude.{◌≡◌, ◌≤◌, ℕ, List, true, length, IfOk, None};
-ghost use Rattle.sg_facts.specs.Fits.{Fits};
+ghost use Rattle.std.specs.Prelude.{◌≡◌, ℕ, List, true, false, IfOk, None};
+ghost use Rattle.sg_edge.specs.Stops.{AscendsAbove};
 ghost use Rattle.sg_input.specs.Inputs.{IsReady};
-ghost use Rattle.sg_lock.specs.LockFacts.{lock_facts};
-ghost use Rattle.sg_plain.specs.Script.{calls_fit};
-ghost use Rattle.sg_top.specs.Headline.{first_calls, is_played};
-ghost use Rattle.sg_top.specs.Answer.{IsChecked, IsOutput, IsPlayed, IsTabled, services};
+ghost use Rattle.sg_play_laws.specs.Playable.{IsPlayable};
+ghost use Rattle.sg_plain.specs.Promises.{is_blocked, somebody_waits};
+ghost use Rattle.sg_top.specs.Answer.{IsChecked, IsOutput, IsPlayOutput, IsTabled, ended_status, services};
 ghost use Rattle.sg_top.specs.Inside.Delivery.{IsSaid};
+ghost use Rattle.sg_top.specs.Inside.Kinds.{IsOneOfFive};
 
 use crate::command::Command;
-use crate::played::Played;
-use crate::runs::{first_calls, is_played, played_of};
-use crate::shapes::shapes;
+use crate::runs::played_of;
+use crate::services::shapes;
 use crate::status::Status;
 use sg_base::{Bytes, NoMemory};
+use sg_check::Accepted;
 use sg_diagnose::{Verdict, compiled, verdict};
-use sg_facts::Interface;
+use sg_hist::End;
 use sg_input::{Input, read_input};
 use sg_script::Script;
+use sg_sim::Played;
 use std::alloc::Global;
-
-// The line of an input that is ready, and isn't played yet.
-const NOT_YET: &[u8] = b"input refused: NotYet\n";
 
 /// What a command makes of an input: the bytes to be written, the status where they are written whole, and the run of a play
 /// that came to its end.
@@ -37,7 +35,8 @@ pub fn output_of(alloc: Global, command: Command, bytes: &[u8]) -> Result<Output
     ensures { IfOk result (λ o. IsOutput command bytes.now o.ended o.status o.text) }
 {
     match command {
-        Command::Sim => simulated(alloc, bytes),
+        Command::Sim => simulated(alloc, bytes, false),
+        Command::SimTrace => simulated(alloc, bytes, true),
         Command::Check => checked(alloc, bytes),
         Command::Compile => tabled(alloc, bytes),
     }
@@ -77,12 +76,12 @@ fn output_saying(said: Verdict) -> Output
     }
 }
 
-// The run of an input that is played, with its report; or the line of an input that isn't played.
-fn simulated(alloc: Global, bytes: &[u8]) -> Result<Output, NoMemory>
-    ensures { IfOk result (λ o. IsPlayed bytes.now o.ended o.status o.text) }
+// The run of an input, with its report; or the line of an input that is refused.
+fn simulated(alloc: Global, bytes: &[u8], with_trace: bool) -> Result<Output, NoMemory>
+    ensures { IfOk result (λ o. IsPlayOutput bytes.now with_trace o.ended o.status o.text) }
 {
     match read_input(alloc, bytes, &shapes())? {
-        Input::Ready(accepted, script) => run_of(alloc, accepted.interface(), &script),
+        Input::Ready(accepted, script) => run_of(alloc, &accepted, script, with_trace),
         Input::Refused(text) => Ok(Output {
             text,
             status: Status::Refused,
@@ -91,25 +90,47 @@ fn simulated(alloc: Global, bytes: &[u8]) -> Result<Output, NoMemory>
     }
 }
 
-// The run of a script that is played under its interface, with its report; or the line of one that isn't played yet.
-fn run_of(alloc: Global, iface: &Interface, script: &Script) -> Result<Output, NoMemory>
-    requires facts { is_played iface.now script.now ≡ true → iface.now.facts ≡ lock_facts }
-    requires fits { Fits iface.now }
-    requires calls { is_played iface.now script.now ≡ true → calls_fit iface.now 1 (first_calls script.now.clients) ≡ true }
-    requires few { is_played iface.now script.now ≡ true → length (first_calls script.now.clients) ≤ 65536 }
-    ensures { IfOk result (λ o. (bytes : List ℕ) → IsReady services bytes iface.now script.now → IsPlayed bytes o.ended o.status o.text) }
+// The run of a script under its interface, with its report.
+fn run_of(
+    alloc: Global,
+    accepted: &Accepted,
+    script: Script,
+    with_trace: bool,
+) -> Result<Output, NoMemory>
+    requires service { IsOneOfFive accepted.now.facts }
+    requires playable { IsPlayable accepted.now script }
+    requires stops { AscendsAbove 0 script.stops }
+    ensures { IfOk result (λ o. (bytes : List ℕ) → IsReady services bytes accepted.now script → IsPlayOutput bytes with_trace o.ended o.status o.text) }
 {
-    if !is_played(iface, script) {
-        return Ok(Output {
-            text: Bytes::from_slice(alloc, NOT_YET)?,
-            status: Status::Refused,
-            ended: None,
-        });
-    }
-    let (played, text) = played_of(alloc, iface, first_calls(script.clients.as_slice()))?;
+    let (played, text) = played_of(alloc, accepted, script, with_trace)?;
     Ok(Output {
         text,
-        status: Status::Done,
+        status: status_of(played.ended().ends.as_slice()),
         ended: Some(played),
     })
+}
+
+// The status of a play that came to its end.
+fn status_of(ends: &[(u8, End)]) -> Status
+    ensures { result ≡ ended_status ends.now }
+{
+    if somebody_waits(ends) {
+        Status::Waits
+    } else {
+        Status::Done
+    }
+}
+
+// Whether some client waits at its end.
+fn somebody_waits(ends: &[(u8, End)]) -> bool
+    ensures { result ≡ somebody_waits ends.now }
+{
+    ends.iter().any(|end| waits(&end.1))
+}
+
+// Whether a client waits at its end.
+fn waits(end: &End) -> bool
+    ensures { result ≡ is_blocked end.now }
+{
+    matches!(end, End::Blocked(_))
 }

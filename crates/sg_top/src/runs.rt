@@ -1,102 +1,108 @@
-// Which scripts are played, and their runs.
-ghost use Rattle.std.specs.Prelude.{◌≡◌, ◌≤◌, [], ◌∷◌, true, if◌then◌else◌, IfOk, length};
-ghost use Rattle.sg_facts.specs.Fits.{Fits};
-ghost use Rattle.sg_hist.specs.declared.ended.End.TheVariants.{Done};
-ghost use Rattle.sg_lock.specs.LockFacts.{lock_facts};
-ghost use Rattle.sg_plain.specs.Script.{calls_fit};
-ghost use Rattle.sg_top.specs.Headline.{IsPlainTrace, IsRunOf, first_calls, has_one_client, is_plain, is_played};
+// The runs of scripts.
+ghost use Rattle.std.specs.Prelude.{◌≡◌, [], true, if◌then◌else◌, IfOk};
+ghost use Rattle.sg_edge.specs.Stops.{AscendsAbove, struck_of};
+ghost use Rattle.sg_play_laws.specs.Playable.{IsPlayable};
+ghost use Rattle.sg_top.specs.Headline.{IsRunOf};
+ghost use Rattle.sg_report.specs.Report.{report_of};
+ghost use Rattle.sg_top.specs.Inside.Runs.{IsPlayedOn};
+ghost use Rattle.sg_top.specs.Inside.Kinds.{IsOneOfFive, answering, kind_by};
+ghost use Rattle.sg_wake_laws.specs.Waking.{no_query_waits};
 
-use crate::played::Played;
-use sg_base::{Bytes, NoMemory};
-use sg_facts::{BootList, BootLog, Interface, ItemList, Service, Trace};
-use sg_first_play::play;
-use sg_hist::{End, EndList, Ended};
+use crate::services::{ServiceKind, kind_of};
+use sg_base::{Bytes, NoMemory, TryCopy};
+use sg_check::Accepted;
+use sg_edge::AtPoints;
+use sg_event::EventService;
+use sg_facts::Service;
 use sg_lock::LockService;
+use sg_mm::MmService;
+use sg_ramfs::RamfsService;
 use sg_report::text;
-use sg_script::{CallList, Script, ScriptCall};
+use sg_sched::SchedService;
+use sg_script::Script;
+use sg_serial::play;
+use sg_sim::Played;
+use sg_stub::compile;
 use std::alloc::Global;
 
-/// Whether a script under an interface is played today: the interface is that of locks, and the script has no setup calls, no turns
-/// and no stops, and no client above 1.
-pub fn is_played(iface: &Interface, script: &Script) -> bool
-    ensures { result ≡ is_played iface.now script.now }
-{
-    iface.shape.name == LockService::shape().name && is_plain(script)
-}
-
-// Whether a script has no setup calls, no turns and no stops, and no client above 1.
-fn is_plain(script: &Script) -> bool
-    ensures { result ≡ is_plain script.now }
-{
-    script.setup.len() == 0
-        && script.schedule.len() == 0
-        && script.stops.len() == 0
-        && has_one_client(script.clients.as_slice())
-}
-
-// Whether no client, or client 1 alone, has a part.
-fn has_one_client(clients: &[(u8, CallList)]) -> bool
-    ensures { result ≡ has_one_client clients.now }
-{
-    match clients {
-        [] => true,
-        [(number, _)] => *number == 1,
-        _ => false,
-    }
-}
-
-/// The calls of the first client.
-pub fn first_calls(clients: &[(u8, CallList)]) -> &[ScriptCall]
-    ensures { result.now ≡ first_calls clients.now }
-{
-    match clients {
-        [] => &[],
-        [(_, calls), ..] => calls.as_slice(),
-    }
-}
-
-/// The run of client 1's calls on locks, with its report.
+/// The run of a script under an accepted interface, with its report.
 pub fn played_of(
     alloc: Global,
-    iface: &Interface,
-    calls: &[ScriptCall],
+    accepted: &Accepted,
+    script: Script,
+    with_trace: bool,
 ) -> Result<(Played, Bytes), NoMemory>
-    requires facts { iface.now.facts ≡ lock_facts }
-    requires fits { Fits iface.now }
-    requires few { length calls.now ≤ 65536 }
-    requires calls { calls_fit iface.now 1 calls.now ≡ true }
-    ensures { IfOk result (λ p. IsRunOf iface.now calls.now p.0 p.1) }
+    requires service { IsOneOfFive accepted.now.facts }
+    requires playable { IsPlayable accepted.now script }
+    requires stops { AscendsAbove 0 script.stops }
+    ensures { IfOk result (λ p. IsRunOf accepted.now (answering (kind_by accepted.now.facts)) script with_trace p.0 p.1) }
 {
-    let history = play(alloc, iface, calls)?;
-    let ended = Ended {
-        history,
-        trace: plain_trace(alloc)?,
-        ends: ends_of(alloc, calls.is_empty())?,
-    };
-    let text = text(alloc, iface, &ended, false)?;
-    Ok((Played::new(ended), text))
-}
-
-// The trace of one boot in which nothing was traced.
-fn plain_trace(alloc: Global) -> Result<Trace, NoMemory>
-    ensures { IfOk result IsPlainTrace }
-{
-    let mut boots = BootList::new(alloc);
-    boots.reserve(1)?;
-    boots.add(BootLog {
-        items: ItemList::new(alloc),
-        stop: None,
-    });
-    Ok(Trace { boots, points: 0 })
-}
-
-// How the clients ended: client 1 is done, where it has a call.
-fn ends_of(alloc: Global, is_empty: bool) -> Result<EndList, NoMemory>
-    ensures { IfOk result (λ ends. ends ≡ (if is_empty then [] else (1, Done) ∷ [])) }
-{
-    let mut ends = EndList::new(alloc);
-    if !is_empty {
-        ends.push((1, End::Done))?;
+    match kind_of(accepted.interface()) {
+        ServiceKind::Locks => play_on::<LockService>(alloc, accepted, script, with_trace),
+        ServiceKind::Events => play_on::<EventService>(alloc, accepted, script, with_trace),
+        ServiceKind::Pages => play_on::<MmService>(alloc, accepted, script, with_trace),
+        ServiceKind::Files => play_on::<RamfsService>(alloc, accepted, script, with_trace),
+        ServiceKind::Threads => play_on::<SchedService>(alloc, accepted, script, with_trace),
     }
-    Ok(ends)
+}
+
+// The run of a script on a service, with its report.
+fn play_on<S: Service>(
+    alloc: Global,
+    accepted: &Accepted,
+    script: Script,
+    with_trace: bool,
+) -> Result<(Played, Bytes), NoMemory>
+    requires service { accepted.now.facts ≡ S.facts }
+    requires waits { no_query_waits S.facts ≡ true }
+    requires playable { IsPlayable accepted.now script }
+    requires stops { AscendsAbove 0 script.stops }
+    ensures { IfOk result (λ p. IsRunOf accepted.now (record { facts = S.facts; ask = S.ask; parts = S.parts }) script with_trace p.0 p.1) }
+{
+    let stops = stops_of(alloc, &script)?;
+    let played = play_with::<S>(alloc, accepted, script, stops)?;
+    reported(alloc, accepted, played, with_trace)
+}
+
+// The stops of a script.
+fn stops_of(alloc: Global, script: &Script) -> Result<AtPoints, NoMemory>
+    requires { AscendsAbove 0 script.now.stops }
+    ensures plan { IfOk result (λ stops. stops.plan ≡ script.now.stops) }
+    ensures asked { IfOk result (λ stops. stops.asked ≡ 0) }
+    ensures struck { IfOk result (λ stops. struck_of stops ≡ []) }
+{
+    Ok(AtPoints::new(script.stops.copy(alloc)?))
+}
+
+// The run of a script on a service, by the tables of an interface.
+fn play_with<S: Service>(
+    alloc: Global,
+    accepted: &Accepted,
+    script: Script,
+    stops: AtPoints,
+) -> Result<Played, NoMemory>
+    requires service { accepted.now.facts ≡ S.facts }
+    requires waits { no_query_waits S.facts ≡ true }
+    requires playable { IsPlayable accepted.now script }
+    requires plan { stops.plan ≡ script.stops }
+    requires asked { stops.asked ≡ 0 }
+    requires struck { struck_of stops ≡ [] }
+    ensures { IfOk result (IsPlayedOn accepted.now (record { facts = S.facts; ask = S.ask; parts = S.parts }) script) }
+{
+    let tables = compile(alloc, accepted)?;
+    play::<S, AtPoints>(alloc, tables, script, stops)
+}
+
+// A run with its report.
+fn reported(
+    alloc: Global,
+    accepted: &Accepted,
+    played: Played,
+    with_trace: bool,
+) -> Result<(Played, Bytes), NoMemory>
+    ensures played { IfOk result (λ p. p.0 ≡ played) }
+    ensures text { IfOk result (λ p. p.1 ≡ report_of accepted.now.facts played with_trace) }
+{
+    let text = text(alloc, accepted.interface(), played.ended(), with_trace)?;
+    Ok((played, text))
 }

@@ -4,12 +4,14 @@ use std::io::ErrorKind;
 /// How a call of the program ends.
 #[derive(Clone, Copy, Debug, PartialEq, Eq)]
 pub enum Status {
-    /// The input is played, accepted or compiled, and the whole output is written.
+    /// The input is played and no client waits at the end, or it is accepted or compiled, and the whole output is written.
     Done,
     /// The words are no command's. Nothing is read or written.
     OtherWords,
     /// The input is refused, and the whole line that refuses it is written.
     Refused,
+    /// The input is played, some client waits at the end, and the whole report is written.
+    Waits,
     /// A read failed. Nothing is written.
     ReadFault,
     /// A write failed. A proper prefix of the output is written.
@@ -22,7 +24,7 @@ impl Status {
     ghost use Rattle.std.specs.Prelude.{◌≡◌};
     ghost use Rattle.sg_top.specs.Status.{status_number, status_without_words};
 
-    /// The number that the process ends with: 0 done, 1 other words, 2 refused, 4 a read failed, 5 a write failed, 6 no memory.
+    /// The number that the process ends with: 0 done, 1 other words, 2 refused, 3 some client waits, 4 a read failed, 5 a write failed, 6 no memory.
     pub fn number(self) -> u8
         ensures { result ≡ status_number self }
     {
@@ -30,6 +32,7 @@ impl Status {
             Status::Done => 0,
             Status::OtherWords => 1,
             Status::Refused => 2,
+            Status::Waits => 3,
             Status::ReadFault => 4,
             Status::WriteFault => 5,
             Status::NoMemory => 6,

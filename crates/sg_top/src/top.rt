@@ -5,10 +5,10 @@ ghost use Rattle.sg_top.specs.Inside.Delivery.{IsCarriedOut, IsWritten};
 
 use crate::command::Command;
 use crate::output::{Output, output_of};
-use crate::played::Played;
 use crate::status::Status;
 use sg_edge::{Gate, Intake, ReadError, Sink, Source, read_all, write_all};
 use sg_input::TOO_LONG;
+use sg_sim::Played;
 use std::alloc::Global;
 use std::sync::Wait;
 use std::thread::Threads;
@@ -18,11 +18,12 @@ use std::thread::Threads;
 pub struct Answer {
     /// How the call ended.
     pub status: Status,
-    /// The run of a play that came to its end, where the status is `Done` or `WriteFault`.
+    /// The run of a play that came to its end, where the status is `Done`, `Waits` or `WriteFault`.
     pub ended: Option<Played>,
 }
 
-/// Does what the words after the program's name say: `sim` plays the input, `check` says whether it is the text of an
+/// Does what the words after the program's name say: `sim` plays the input, `sim trace` too
+/// and prints what was done to the service, `check` says whether it is the text of an
 /// interface that is accepted, `compile` prints the tables of such a text, and any other words are answered by `OtherWords`.
 /// It reads at most one byte more than the command's input may have, makes its whole output before it writes any of it, and
 /// answers with the status that says how it ended, and with the run of a play. The handle and the gate are for plays in threads,

@@ -1,7 +1,7 @@
 // What commands answer: tables of inputs, statuses and outputs. No clause says that an input is played where there is memory.
 use sg_base::NoMemory;
 use sg_edge::{MemSink, MemSource};
-use sg_top::Status::{Done, ReadFault, Refused, WriteFault};
+use sg_top::Status::{Done, ReadFault, Refused, Waits, WriteFault};
 use sg_top::{Status, serial};
 use std::alloc::{AllocError, Global};
 use std::process::Abort;
@@ -31,7 +31,8 @@ calls 4 boots 1 replays 0
 
 const NO_DIVIDER: &[u8] = b"input refused: NoDivider\n";
 
-const NOT_YET: &[u8] = b"input refused: NotYet\n";
+// The report of one lock that is made.
+const ONE_LOCK: &[u8] = b"c1.1 lock_alloc() = ok #1\nclient 1 done\ncalls 1 boots 1 replays 0\n";
 
 const ACCEPTED: &[u8] = b"accepted lock\n";
 
@@ -65,7 +66,7 @@ fn comes_to(
     let mut sink = MemSink::new(alloc, 10, &[write])?;
     let words = one_word(alloc, command)?;
     let answer = serial(alloc, &words, &mut source, &mut sink);
-    let ran = command == "sim" && (status == Done || status == WriteFault);
+    let ran = command == "sim" && matches!(status, Done | Waits | WriteFault);
     Ok(answer.status == status && answer.ended.is_some() == ran && sink.written() == written)
 }
 
@@ -99,7 +100,7 @@ fn try_each(
 }
 
 // Behind the interface of locks and the divider.
-static SCRIPTS: [Case; 30] = [
+static SCRIPTS: [Case; 31] = [
     // one script in several spellings
     (
         b"client 1{lock_alloc();lock_take($1);lock_release($1);lock_free($1);}",
@@ -155,17 +156,33 @@ client 1 done
 calls 1 boots 1 replays 0
 ",
     ),
-    // scripts of locks that aren't played yet
-    (b"setup { lock_alloc(); }", Refused, NOT_YET),
+    // setups, turns, stops that aren't reached, and parts without calls
+    (b"setup { lock_alloc(); }", Done, ONE_LOCK),
     (
         b"client 1 { lock_free($1); } setup { lock_alloc(); }",
-        Refused,
-        NOT_YET,
+        Done,
+        b"c1.1 lock_alloc() = ok #1
+c1.2 lock_free(1) = ok
+client 1 done
+calls 2 boots 1 replays 0
+",
     ),
-    (b"schedule 64;", Refused, NOT_YET),
-    (b"client 1 { lock_alloc(); } stop 9;", Refused, NOT_YET),
-    (b"client 2 { }", Refused, NOT_YET),
-    (b"client 1 { lock_alloc(); } client 2 { }", Refused, NOT_YET),
+    (b"schedule 64;", Done, NOTHING),
+    (b"client 1 { lock_alloc(); } stop 9;", Done, ONE_LOCK),
+    (b"client 2 { }", Done, NOTHING),
+    (b"client 1 { lock_alloc(); } client 2 { }", Done, ONE_LOCK),
+    // a client that waits at the end
+    (
+        b"setup { lock_alloc(); } client 1 { lock_take(1); } client 64 { lock_take(1); lock_free(1); }",
+        Waits,
+        b"c1.1 lock_alloc() = ok #1
+c64.1 lock_take(1) = ok
+c64.2 lock_free(1) = refused Held
+client 1 blocked lock_take(1)
+client 64 done
+calls 3 boots 1 replays 0
+",
+    ),
     // what is no script, and each kind of flaw, with its line and the byte in the line
     (b"%%\n", Refused, b"script refused at 1:1: Syntax\n"),
     (b"\n%%", Refused, b"script refused at 2:1: Syntax\n"),
@@ -397,10 +414,7 @@ fn knows_every_service(rt: HostRuntime) -> Result<(), Fail> {
     for (text, line) in others {
         assert!(rt; answers(alloc, "check", text, Done, line)?, "{text:?}");
         let input = joined(alloc, text, DIVIDER)?;
-        assert!(rt;
-            answers(alloc, "sim", &input, Refused, NOT_YET)?,
-            "{text:?}"
-        );
+        assert!(rt; answers(alloc, "sim", &input, Done, NOTHING)?, "{text:?}");
     }
     assert!(rt; answers(alloc, "compile", EVENT, Done, EVENT_TABLES)?);
     let flawed = joined(

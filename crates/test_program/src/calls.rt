@@ -8,14 +8,15 @@ use std::test::Fail;
 use test_interfaces::LOCK;
 
 // Words that are no command's, up to two of them; an empty one isn't given.
-static OTHER_WORDS: [[&str; 2]; 8] = [
+static OTHER_WORDS: [[&str; 2]; 9] = [
     ["", ""],
     ["sim ", ""],
     ["SIM", ""],
     ["sim trace", ""],
     ["checks", ""],
     ["run", ""],
-    ["sim", "trace"],
+    ["trace", "sim"],
+    ["sim", "traces"],
     ["check", "check"],
 ];
 
@@ -65,10 +66,11 @@ fn gives_the_run(rt: HostRuntime) -> Result<(), Fail> {
     Ok(())
 }
 
-static NUMBERS: [(Status, u8); 6] = [
+static NUMBERS: [(Status, u8); 7] = [
     (Status::Done, 0),
     (Status::OtherWords, 1),
     (Status::Refused, 2),
+    (Status::Waits, 3),
     (Status::ReadFault, 4),
     (Status::WriteFault, 5),
     (Status::NoMemory, 6),

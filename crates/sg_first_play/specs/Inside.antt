@@ -1,3 +1,0 @@
--- What the contracts of private functions cite.
-pub mod Run
-pub mod World

@@ -1,0 +1,30 @@
+// Plays a script.
+ghost use Rattle.std.specs.Prelude.{◌≡◌, [], true, IfOk};
+ghost use Rattle.sg_play_laws.specs.Playable.{IsPlayable};
+ghost use Rattle.sg_sim.specs.Played.{IsPlayed};
+ghost use Rattle.sg_wake_laws.specs.Waking.{no_query_waits};
+
+use sg_base::{NoMemory, Stops};
+use sg_facts::{Service, Tables};
+use sg_script::Script;
+use sg_sim::{Play, Played};
+use std::alloc::Global;
+
+/// Plays a script to its end on a service, by its tables: until no client can take a turn. The service stops where its stops say, of
+/// which none was asked yet. `NoMemory` also where a step of its world wanted memory.
+pub fn play<S: Service, T: Stops>(
+    alloc: Global,
+    tables: Tables,
+    script: Script,
+    stops: T,
+) -> Result<Played, NoMemory>
+    requires service { tables.iface.facts ≡ S.facts }
+    requires playable { IsPlayable tables.iface script }
+    requires waits { no_query_waits tables.iface.facts ≡ true }
+    requires unasked { T.asked stops ≡ 0 }
+    requires unstruck { T.struck stops ≡ [] }
+    ensures { IfOk result (λ played. IsPlayed (record { interface = tables.iface; ask = S.ask; parts = S.parts; walks = tables.walks }) T.test script (T.plan stops) played) }
+{
+    let mut play = Play::<S, T>::new(alloc, tables, script, stops)?;
+    play.play(alloc)
+}

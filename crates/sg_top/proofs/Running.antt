@@ -1,0 +1,64 @@
+-- What a play promises is what the headline says of it.
+use Rattle.std.proofs.Common.{◌≡◌, ℕ, ◌<◌, Bool, true, cond, List, [], ◌∷◌, Ok, Err, filter, refl, sym, ◌∙◌, ap, subst, arith}
+use Rattle.std.specs.Result.{IfOk}
+use Rattle.std.specs.declared.result.Result.{Result}
+use Rattle.std.specs.Prelude.{◌&&◌, nat_le}
+use Rattle.std.proofs.lemmas.Bool.Decides.{nat_tests}
+use Rattle.sg_edge.specs.Stops.{AscendsAbove, up_to}
+use Rattle.sg_facts.specs.Interface.{Declared}
+use Rattle.sg_facts.specs.Tables.{AreTables}
+use Rattle.sg_facts.specs.declared.tables.WalkLine.{WalkLine}
+use Rattle.sg_hist.specs.declared.ended.Ended.{Ended}
+use Rattle.sg_report.specs.Report.{report_of}
+use Rattle.sg_script.specs.declared.script.Script.{Script}
+use Rattle.sg_sim.specs.Played.{IsPlayed}
+use Rattle.sg_input.specs.Inputs.{IsReady}
+use Rattle.sg_top.proofs.Fitting.{is_served, kind_is}
+use Rattle.sg_top.specs.Answer.{services}
+use Rattle.sg_top.specs.Headline.{Answering, IsRunOf, IsRunOfInput}
+use Rattle.sg_top.specs.Inside.Kinds.{IsOneOfFive, answering, kind_by}
+use Rattle.sg_top.specs.Inside.Runs.{IsPlayedOn}
+
+-- stops that ascend are the listed ones up to a point
+listed : (low : ℕ) (stops : List ℕ) (points : ℕ) → AscendsAbove low stops → up_to points stops ≡ filter (λ stop. nat_le stop points) stops
+listed low [] points ascend = refl
+listed low (n ∷ stops) points ascend =
+    ap (λ b. cond (b && nat_le n points) (n ∷ up_to points stops) (up_to points stops)) (from_one n low ascend.0)
+    ∙ ap (λ l. cond (nat_le n points) (n ∷ l) l) (listed n stops points ascend.1)
+  where
+    from_one : (n low : ℕ) → low < n → nat_le 1 n ≡ true
+    from_one n low above = grind (arith, nat_tests)
+
+pub run_so : (i : Declared) (service : Answering) (walks : List WalkLine) (script : Script) (plan : List ℕ) (with_trace : Bool) (ended : Ended) (written : List ℕ) → AreTables i walks → plan ≡ script.stops → AscendsAbove 0 script.stops
+    → IsPlayed (record { interface = i; ask = service.ask; parts = service.parts; walks = walks }) (λ asked struck plan. struck ≡ up_to asked plan) script plan ended → written ≡ report_of i.facts ended with_trace
+    → IsRunOf i service script with_trace ended written
+run_so i service walks script plan with_trace ended written tables same ascend played report = record {
+  legal = played.legal;
+  calls = played.calls;
+  recovered = (walks, tables, played.recovered);
+  stops = played.stops ∙ ap (up_to _) same ∙ listed 0 script.stops _ ascend;
+  ends = played.ends;
+  schedule = played.schedule;
+  woken = played.woken;
+  output = report;
+}
+
+-- a run and its report, which are what they are of
+pub reported_so : {E : Type 0} (i : Declared) (service : Answering) (script : Script) (with_trace : Bool) (ended : Ended) (r : Result (Ended × List ℕ) E) → AscendsAbove 0 script.stops → IsPlayedOn i service script ended
+    → IfOk r (λ p. p.0 ≡ ended) → IfOk r (λ p. p.1 ≡ report_of i.facts ended with_trace) → IfOk r (λ p. IsRunOf i service script with_trace p.0 p.1)
+reported_so i service script with_trace ended (Ok p) ascend on same report =
+    subst (λ e. IsRunOf i service script with_trace e p.1) (sym same) (run_so i service on.0 script script.stops with_trace ended p.1 on.1 refl ascend on.2 report)
+reported_so i service script with_trace ended (Err e) ascend on same report = tt
+
+-- a run of an input that is ready
+pub run_ready : (bytes : List ℕ) (i : Declared) (script : Script) (with_trace : Bool) (ended : Ended) (written : List ℕ) → IsReady services bytes i script → IsOneOfFive i.facts
+    → IsRunOf i (answering (kind_by i.facts)) script with_trace ended written → IsRunOfInput bytes with_trace ended written
+run_ready bytes i script with_trace ended written ready one run = record {
+  i = i;
+  script = script;
+  ready = ready;
+  service = answering (kind_by i.facts);
+  is_served = is_served (kind_by i.facts);
+  its = kind_is i.facts one;
+  run = run;
+}

@@ -1,0 +1,38 @@
+-- Which service an interface is of.
+use Rattle.std.specs.Prelude.{◌≡◌, ◌⊎◌, if◌then◌else◌}
+use Rattle.std.specs.Str.{bytes_eq}
+use Rattle.sg_event.specs.EventFacts.{event_facts}
+use Rattle.sg_event.specs.EventTable.{event_parts, event_table}
+use Rattle.sg_facts.specs.Facts.{Facts}
+use Rattle.sg_lock.specs.LockFacts.{lock_facts}
+use Rattle.sg_lock.specs.LockTable.{lock_parts, lock_table}
+use Rattle.sg_mm.specs.MmFacts.{mm_facts}
+use Rattle.sg_mm.specs.MmTable.{mm_parts, mm_table}
+use Rattle.sg_ramfs.specs.RamfsFacts.{ramfs_facts}
+use Rattle.sg_ramfs.specs.RamfsTable.{ramfs_parts, ramfs_table}
+use Rattle.sg_sched.specs.SchedFacts.{sched_facts}
+use Rattle.sg_sched.specs.SchedTable.{sched_parts, sched_table}
+use Rattle.sg_top.specs.Headline.{Answering}
+use Rattle.sg_top.specs.declared.services.ServiceKind.{ServiceKind}
+use Rattle.sg_top.specs.declared.services.ServiceKind.TheVariants.{Locks, Events, Pages, Files, Threads}
+
+-- the service of a kind
+abbrev pub answering : ServiceKind → Answering
+answering Locks = record { facts = lock_facts; ask = lock_table; parts = lock_parts }
+answering Events = record { facts = event_facts; ask = event_table; parts = event_parts }
+answering Pages = record { facts = mm_facts; ask = mm_table; parts = mm_parts }
+answering Files = record { facts = ramfs_facts; ask = ramfs_table; parts = ramfs_parts }
+answering Threads = record { facts = sched_facts; ask = sched_table; parts = sched_parts }
+
+-- the kind of a service, by its name
+abbrev pub kind_by : Facts → ServiceKind
+kind_by facts =
+    if bytes_eq facts.name lock_facts.name then Locks
+    else if bytes_eq facts.name event_facts.name then Events
+    else if bytes_eq facts.name mm_facts.name then Pages
+    else if bytes_eq facts.name ramfs_facts.name then Files
+    else Threads
+
+-- a shape is that of one of the services
+abbrev pub IsOneOfFive : Facts → Type 0
+IsOneOfFive facts = (facts ≡ lock_facts) ⊎ ((facts ≡ event_facts) ⊎ ((facts ≡ mm_facts) ⊎ ((facts ≡ ramfs_facts) ⊎ (facts ≡ sched_facts))))

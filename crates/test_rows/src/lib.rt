@@ -1,0 +1,16 @@
+//! Runs of the program that were worked out by hand: their words and inputs, with the status and what is printed.
+//!
+//! - `texts`: runs, a text for each service
+//! - `runs`: whether each comes out as it is written
+//! - `inputs`: runs whose inputs are made: long ones, other interfaces, and what is refused
+//! - `stops`: runs with a stop at each point, and with two
+#![tactic(auto)]
+
+#[cfg(test)]
+mod inputs;
+#[cfg(test)]
+mod runs;
+#[cfg(test)]
+mod stops;
+#[cfg(test)]
+mod texts;

@@ -1,0 +1,84 @@
+// A play goes on behind a step that wanted memory.
+ghost use Rattle.std.specs.Prelude.{◌≡◌, IfOk};
+ghost use Rattle.sg_lock.specs.LockFacts.{lock_facts};
+ghost use Rattle.sg_play_laws.specs.Playable.{IsPlayable};
+
+use crate::scarce::Scarce;
+use sg_base::{Bytes, NoMemory};
+use sg_check::Accepted;
+use sg_edge::Never;
+use sg_facts::Service;
+use sg_hist::{EndList, Ended};
+use sg_input::{Input, read_input};
+use sg_report::text;
+use sg_script::Script;
+use sg_sim::Play;
+use sg_stub::compile;
+use std::alloc::Global;
+use std::test::Fail;
+use test_interfaces::LOCK;
+
+const SCRIPT: &[u8] =
+    b"%%\nclient 1 { lock_alloc(); lock_take($1); lock_release($1); lock_free($1); }\n";
+
+const PRINTED: &[u8] = b"c1.1 lock_alloc() = ok #1
+c1.2 lock_take(1) = ok
+c1.3 lock_release(1) = ok
+c1.4 lock_free(1) = ok
+calls 4 boots 1 replays 0
+";
+
+// The interface of locks, and the script.
+fn ready(alloc: Global) -> Result<(Accepted, Script), Fail>
+    ensures service { IfOk result (λ r. r.0.facts ≡ lock_facts) }
+    ensures playable { IfOk result (λ r. IsPlayable r.0 r.1) }
+{
+    let mut input = Bytes::from_slice(alloc, LOCK)?;
+    input.extend_from_slice(SCRIPT)?;
+    match read_input(alloc, input.as_slice(), &[Scarce::shape()])? {
+        Input::Ready(accepted, script) => Ok((accepted, script)),
+        Input::Refused(_) => Err("refused")?,
+    }
+}
+
+// What was done in a play that wanted memory in one step, and then went on, printed; None where it came to an end. The play is dropped
+// here alone.
+fn played_again(
+    alloc: Global,
+    accepted: &Accepted,
+    script: Script,
+) -> Result<Option<Bytes>, NoMemory>
+    requires service { accepted.now.facts ≡ lock_facts }
+    requires playable { IsPlayable accepted.now script }
+{
+    let tables = compile(alloc, accepted)?;
+    let mut play = Play::<Scarce, Never>::new(alloc, tables, script, Never::new())?;
+    done_again(alloc, accepted, &mut play)
+}
+
+// What was done in a play that wants memory in one step and goes on, printed; None where it comes to an end, as it never does behind such
+// a step.
+fn done_again(
+    alloc: Global,
+    accepted: &Accepted,
+    play: &mut Play<Scarce, Never>,
+) -> Result<Option<Bytes>, NoMemory> {
+    if play.play(alloc).is_ok() || play.play(alloc).is_ok() {
+        return Ok(None);
+    }
+    let ended = Ended {
+        history: play.world().history().copied(alloc)?,
+        trace: play.world().trace().copied(alloc)?,
+        ends: EndList::new(alloc),
+    };
+    Ok(Some(text(alloc, accepted.interface(), &ended, false)?))
+}
+
+#[test]
+fn step_without_memory_is_made_again(rt: HostRuntime) -> Result<(), Fail> {
+    let alloc = rt.alloc();
+    let (accepted, script) = ready(alloc)?;
+    let printed = played_again(alloc, &accepted, script)?;
+    assert!(rt; printed.is_some_and(|text| text.as_slice() == PRINTED));
+    Ok(())
+}

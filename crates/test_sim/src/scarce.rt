@@ -1,0 +1,67 @@
+// Locks that have no memory for one of their calls.
+use sg_base::{Call, NoMemory, Path, Stops};
+use sg_facts::{Outcome, Service, Shape};
+use sg_lock::LockService;
+use std::alloc::Global;
+
+/// Which of its calls gets no memory.
+const SCARCE: u32 = 2;
+
+/// Locks that have no memory for their second call.
+#[derive(Debug, Drop)]
+pub struct Scarce {
+    locks: LockService,
+    asked: u32,
+}
+
+impl Service for Scarce {
+    ghost use Rattle.sg_lock.specs.LockFacts.{lock_facts};
+    ghost use Rattle.sg_lock.specs.LockObject.{lock_object};
+    ghost use Rattle.sg_lock.specs.LockSound.{IsLockSound};
+    ghost use Rattle.sg_lock.specs.LockTable.{lock_parts, lock_table};
+
+    ghost facts = { lock_facts };
+
+    ghost object = { λ scarce. lock_object scarce.locks };
+
+    ghost ask = { lock_table };
+
+    ghost parts = { lock_parts };
+
+    ghost sound = { IsLockSound };
+
+    ghost answers_and_keeps = { LockService.answers_and_keeps };
+
+    ghost answers_alike = { LockService.answers_alike };
+
+    ghost walk_goes_on = { LockService.walk_goes_on };
+
+    ghost blocked_stays = { LockService.blocked_stays };
+
+    ghost shape_allows = { LockService.shape_allows };
+
+    ghost counts_slowly = { LockService.counts_slowly };
+
+    fn shape() -> Shape {
+        LockService::shape()
+    }
+
+    fn fresh(alloc: Global) -> Self {
+        Scarce {
+            locks: LockService::fresh(alloc),
+            asked: 0,
+        }
+    }
+
+    fn invoke<T: Stops>(&mut self, alloc: Global, stops: &mut T, call: &Call) -> Outcome {
+        self.asked = self.asked.saturating_add(1);
+        if self.asked == SCARCE {
+            return Outcome::NoMemory;
+        }
+        self.locks.invoke(alloc, stops, call)
+    }
+
+    fn load(&mut self, alloc: Global, key: &Path, bytes: &[u8]) -> Result<(), NoMemory> {
+        self.locks.load(alloc, key, bytes)
+    }
+}
