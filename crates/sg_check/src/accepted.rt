@@ -2,8 +2,9 @@
 use sg_facts::Interface;
 use std::marker::Model;
 
-/// An accepted interface: what a text declares, and nothing else. Every descriptor can be recovered in every state that it
-/// can come to. Only the checker makes one. Its shape has at most `MOST_FUNS` functions and `MOST_FIELDS` fields. Contracts see the interface.
+/// An accepted interface: one that fits, so that every descriptor can be recovered in every state that it can come to. The
+/// checker makes one of a text that it accepts. Its shape has at most `MOST_FUNS` functions and `MOST_FIELDS` fields.
+/// Contracts see the interface.
 #[derive(Debug, Drop)]
 pub struct Accepted {
     iface: Interface,
@@ -26,8 +27,8 @@ impl Accepted {
     ghost use Rattle.sg_facts.specs.Fits.{Fits};
     ghost use Rattle.sg_check.specs.Shapes.{IsSmall};
 
-    // The interface, accepted.
-    pub(crate) fn new(iface: Interface) -> Accepted
+    /// An interface that fits, of a shape within the limits.
+    pub fn new(iface: Interface) -> Accepted
         requires fits { Fits iface }
         requires small { IsSmall iface }
         ensures { result ≡ iface }
