@@ -162,15 +162,33 @@ abbrev pub replays_of : List Item → ℕ
 replays_of items = min (length (filter (λ item. is_replay item.tag item.outcome) items)) greatest_count
 
 -- the counts: entries, boots, and calls of walks that replied
-abbrev pub counts_line : List Entry → Run → List ℕ
-counts_line history run =
+abbrev pub counts_text : List Entry → Run → List ℕ
+counts_text history run =
     codes "calls " ++ decimal (length history) ++ codes " boots " ++ decimal (length run.boots)
-    ++ codes " replays " ++ decimal (replays_of (items_of run.boots)) ++ line_end
+    ++ codes " replays " ++ decimal (replays_of (items_of run.boots))
 
 -- a run: a line for each entry, a line for each client that has a call, the counts, and the trace where it is asked for
 abbrev pub report_of : Facts → Ended → Bool → List ℕ
 report_of facts ended with_trace =
     flat_map (entry_line facts) ended.history.items
     ++ flat_map (end_line facts) ended.ends
-    ++ counts_line ended.history.items (run_of ended.trace)
+    ++ counts_text ended.history.items (run_of ended.trace) ++ line_end
     ++ (if with_trace then trace_lines facts (run_of ended.trace) else [])
+
+-- ---- generated loads
+
+-- 1 for the end of a client that waits, else 0
+abbrev pub blocked_once : End → ℕ
+blocked_once Done = 0
+blocked_once (Blocked call) = 1
+
+-- how many of these ends are those of clients that wait
+abbrev pub blocked_among : List (ℕ × End) → ℕ
+blocked_among [] = 0
+blocked_among (e ∷ ends) = blocked_once e.1 + blocked_among ends
+
+-- the line of a generated load: its service's name and the number that it was generated from, the counts, and how many clients wait
+abbrev pub load_line_of : List ℕ → ℕ → Ended → List ℕ
+load_line_of name number ended =
+    codes "load " ++ name ++ codes " " ++ decimal number ++ codes ": " ++ counts_text ended.history.items (run_of ended.trace)
+    ++ codes " blocked " ++ decimal (blocked_among ended.ends) ++ line_end

@@ -1,6 +1,7 @@
 //! The printed run.
 //!
-//! - `printed`: a line for each reply, one for each client, the counts, and the trace where it is asked for (`text`)
+//! - `printed`: a line for each reply, one for each client, the counts, and the trace where it is asked for (`text`); the line of a
+//!   generated load (`load_line`)
 //! - `words`: calls, replies and values as they are printed
 //! - `traced`: the trace, boot by boot
 //!
@@ -11,4 +12,4 @@ mod printed;
 mod traced;
 mod words;
 
-pub use printed::text;
+pub use printed::{load_line, text};

@@ -1,15 +1,16 @@
 // The printed run.
-ghost use Rattle.std.specs.Prelude.{◌≡◌, ◌++◌, if◌then◌else◌, [], OnOk, IfOk, length, map, codes};
+ghost use Rattle.std.specs.Prelude.{◌≡◌, ◌≤◌, ◌++◌, if◌then◌else◌, [], OnOk, IfOk, length, map, codes};
 ghost use Rattle.std.specs.Fmt.{decimal};
 ghost use Rattle.std.specs.List.{flat_map};
 ghost use Rattle.sg_facts.specs.Trace.{run_of};
 ghost use Rattle.sg_facts.specs.Words.{line_end};
-ghost use Rattle.sg_report.specs.Report.{counts_line, end_line, end_text, entry_line, report_of};
+ghost use Rattle.sg_facts.specs.Facts.{facts_of};
+ghost use Rattle.sg_report.specs.Report.{blocked_among, counts_text, end_line, end_text, entry_line, load_line_of, report_of};
 
 use crate::traced::{push_trace, replays_in};
 use crate::words::{push_answer, push_call, push_number};
 use sg_base::{Bytes, NoMemory};
-use sg_facts::{Entry, Interface, Trace};
+use sg_facts::{Entry, Interface, Shape, Trace};
 use sg_hist::{End, Ended};
 use std::alloc::Global;
 
@@ -28,10 +29,46 @@ pub fn text(
     push_entries(&mut out, alloc, iface, ended.history.as_slice())?;
     push_ends(&mut out, alloc, iface, ended.ends.as_slice())?;
     push_counts(&mut out, alloc, ended.history.as_slice(), &ended.trace)?;
+    out.extend_from_slice(b"\n")?;
     if with_trace {
         push_trace(&mut out, alloc, iface, &ended.trace)?;
     }
     Ok(out)
+}
+
+/// The line of a generated load: its service and the number that it was generated from, the counts of entries, boots and
+/// replayed calls, and how many clients wait at the end.
+pub fn load_line(
+    alloc: Global,
+    service: &Shape,
+    number: u64,
+    ended: &Ended,
+) -> Result<Bytes, NoMemory>
+    ensures { IfOk result (λ line. line ≡ load_line_of (facts_of service.now).name number ended.now) }
+{
+    let mut out = Bytes::new(alloc);
+    out.extend_from_slice(b"load ")?;
+    out.extend_from_slice(service.name)?;
+    out.extend_from_slice(b" ")?;
+    push_number(&mut out, alloc, number)?;
+    out.extend_from_slice(b": ")?;
+    push_counts(&mut out, alloc, ended.history.as_slice(), &ended.trace)?;
+    out.extend_from_slice(b" blocked ")?;
+    push_number(&mut out, alloc, blocked_among(ended.ends.as_slice()) as u64)?;
+    out.extend_from_slice(b"\n")?;
+    Ok(out)
+}
+
+// How many of these ends are those of clients that wait.
+fn blocked_among(ends: &[(u8, End)]) -> usize
+    ensures count { result ≡ blocked_among ends.now }
+    ensures most { result ≤ length ends.now }
+{
+    match ends {
+        [] => 0,
+        [(_, End::Done), rest @ ..] => blocked_among(rest),
+        [(_, End::Blocked(_)), rest @ ..] => 1 + blocked_among(rest),
+    }
 }
 
 // A line for each entry.
@@ -107,7 +144,7 @@ fn push_counts(
     history: &[Entry],
     trace: &Trace,
 ) -> Result<(), NoMemory>
-    ensures { OnOk result (out.new ≡ out.old ++ counts_line history.now (run_of trace.now)) }
+    ensures { OnOk result (out.new ≡ out.old ++ counts_text history.now (run_of trace.now)) }
 {
     let boots = trace.boots.as_slice();
     out.extend_from_slice(b"calls ")?;
@@ -115,6 +152,5 @@ fn push_counts(
     out.extend_from_slice(b" boots ")?;
     push_number(out, alloc, boots.len() as u64)?;
     out.extend_from_slice(b" replays ")?;
-    push_number(out, alloc, replays_in(boots))?;
-    out.extend_from_slice(b"\n")
+    push_number(out, alloc, replays_in(boots))
 }
