@@ -6,14 +6,14 @@ use Rattle.sg_edge.specs.Edge.{Rose, ConsumesJust}
 use Rattle.sg_hist.specs.declared.ended.End.{End}
 use Rattle.sg_hist.specs.declared.ended.Ended.{Ended}
 use Rattle.sg_top.specs.declared.command.Command.{Command}
-use Rattle.sg_top.specs.declared.command.Command.TheVariants.{Sim, SimTrace, Check, Compile}
+use Rattle.sg_top.specs.declared.command.Command.TheVariants.{Sim, SimTrace, Check, Compile, Load}
 use Rattle.sg_top.specs.declared.status.Status.{Status}
 use Rattle.sg_top.specs.declared.status.Status.TheVariants.{Done, Waits, OtherWords, Refused, ReadFault, WriteFault, NoMemory}
 use Rattle.sg_input.specs.Lines.{too_long_line}
 use Rattle.sg_plain.specs.Promises.{somebody_waits}
-use Rattle.sg_top.specs.Answer.{Ends, HasRead, IsAnswer, IsOutput, IsPlayOutput, IsRefusal, IsUntouched, SaysRefused, ended_status, is_play, most_bytes}
-use Rattle.sg_top.specs.Inside.Delivery.{IsCarriedOut, IsWritten}
-use Rattle.sg_top.proofs.Refusals.{never_refused}
+use Rattle.sg_top.specs.Answer.{Ends, HasRead, IsAnswer, IsOutput, IsOwnOutput, IsPlayOutput, IsRefusal, IsUntouched, SaysRefused, ended_status, has_input, is_play, most_bytes}
+use Rattle.sg_top.specs.Inside.Delivery.{IsDelivered, IsWritten}
+use Rattle.sg_top.proofs.Refusals.{never_refused, refuses_nothing}
 
 -- ---- what is told of a source
 
@@ -33,16 +33,17 @@ told_more P (Some b) (Some b') bytes consumed all =
     all b longer
 
 -- what `HasRead` says
-abbrev Read : Command → Option (List ℕ) → Option (List ℕ) → Option Ended → Status → List ℕ → Type 0
-Read command told told' ended status output =
-    ((bytes : List ℕ) × (length bytes ≤ most_bytes command) × Consumes told told' bytes × IsAtEnd told' × IsOutput command bytes ended status output)
-    ⊎ ((bytes : List ℕ) × (length bytes ≡ most_bytes command + 1) × Consumes told told' bytes × (ended ≡ None) × (status ≡ Refused) × (output ≡ too_long_line))
+abbrev Read : Command → Ends → Ends → Option Ended → Status → List ℕ → Type 0
+Read command source source' ended status output =
+    ((bytes : List ℕ) × (length bytes ≤ most_bytes command) × Consumes source.told source'.told bytes × IsAtEnd source'.told × IsOutput command bytes ended status output)
+    ⊎ ((bytes : List ℕ) × (has_input command ≡ true) × (length bytes ≡ most_bytes command + 1) × Consumes source.told source'.told bytes × (ended ≡ None) × (status ≡ Refused) × (output ≡ too_long_line))
+    ⊎ (IsUntouched source source' × IsOwnOutput command ended status output)
 
 -- ---- refusals
 
 -- more bytes than an input may have are refused
-too_long : (command : Command) (bytes : List ℕ) → most_bytes command < length bytes → IsRefusal command bytes too_long_line
-too_long command bytes long = inr (long, refl)
+too_long : (command : Command) (bytes : List ℕ) → has_input command ≡ true → most_bytes command < length bytes → IsRefusal command bytes too_long_line
+too_long command bytes has long = inr (has, long, refl)
 
 -- the status of a play that came to its end
 ends_so : (ends : List (ℕ × End)) → (ended_status ends ≡ Done) ⊎ (ended_status ends ≡ Waits)
@@ -70,21 +71,46 @@ refusal Check bytes ended status output two short (none, inl accepted) = absurd 
 refusal Compile bytes ended status output two short (none, inl accepted) = absurd (cc (two, accepted.0))
 refusal Check bytes ended status output two short (none, inr refused) = (none, inl (short, refused.1))
 refusal Compile bytes ended status output two short (none, inr refused) = (none, inl (short, refused.1))
+refusal (Load service number) bytes ended status output two short is = absurd is
 
-refused_by : (command : Command) (told told' : Option (List ℕ)) (ended : Option Ended) (status : Status) (output : List ℕ) → status ≡ Refused
-    → Read command told told' ended status output → (ended ≡ None) × IfSome told (λ bytes. IsRefusal command bytes output)
-refused_by command told told' ended status output two (inl (bytes, short, consumed, at_end, is)) =
+-- an output of a command without an input is no refusal
+own_good : (command : Command) (ended : Option Ended) (status : Status) (output : List ℕ) → IsOwnOutput command ended status output → status ≡ Refused → ⊥
+own_good (Load service number) (Some e) status output own two = ends_good e.ends (sym own.0 ∙ two)
+own_good (Load service number) None status output own two = own
+own_good Sim ended status output own two = own
+own_good SimTrace ended status output own two = own
+own_good Check ended status output own two = own
+own_good Compile ended status output own two = own
+
+-- its status, its run, and that it is a play's
+own_is : (command : Command) (ended : Option Ended) (status : Status) (output : List ℕ) → IsOwnOutput command ended status output
+    → ((status ≡ Done) ⊎ (status ≡ Waits) ⊎ (status ≡ Refused)) × IsSome ended × (is_play command ≡ true) × (has_input command ≡ false)
+own_is (Load service number) (Some e) status output own = (by (ends_so e.ends), refl, refl, refl)
+  where
+    by : (ended_status e.ends ≡ Done) ⊎ (ended_status e.ends ≡ Waits) → (status ≡ Done) ⊎ (status ≡ Waits) ⊎ (status ≡ Refused)
+    by (inl done) = inl (own.0 ∙ done)
+    by (inr waits) = inr (inl (own.0 ∙ waits))
+own_is (Load service number) None status output own = absurd own
+own_is Sim ended status output own = absurd own
+own_is SimTrace ended status output own = absurd own
+own_is Check ended status output own = absurd own
+own_is Compile ended status output own = absurd own
+
+refused_by : (command : Command) (source source' : Ends) (ended : Option Ended) (status : Status) (output : List ℕ) → status ≡ Refused
+    → Read command source source' ended status output → (ended ≡ None) × IfSome source.told (λ bytes. IsRefusal command bytes output)
+refused_by command source source' ended status output two (inl (bytes, short, consumed, at_end, is)) =
     let all = refusal command bytes ended status output two short is in
-    (all.0, told_whole (λ b. IsRefusal command b output) told told' bytes consumed at_end all.1)
-refused_by command told told' ended status output two (inr (bytes, count, consumed, none, is_two, line)) = (
+    (all.0, told_whole (λ b. IsRefusal command b output) source.told source'.told bytes consumed at_end all.1)
+refused_by command source source' ended status output two (inr (inl (bytes, has, count, consumed, none, is_two, line))) = (
   none,
-  told_more (λ b. IsRefusal command b output) told told' bytes consumed
-      (λ b longer. subst (IsRefusal command b) (sym line) (too_long command b (omega (arith, count, longer)))),
+  told_more (λ b. IsRefusal command b output) source.told source'.told bytes consumed
+      (λ b longer. subst (IsRefusal command b) (sym line) (too_long command b has (omega (arith, count, longer)))),
 )
+refused_by command source source' ended status output two (inr (inr (same, own))) = absurd (own_good command ended status output own two)
 
 told_refused : (command : Command) (source source' : Ends) (ended : Option Ended) (status : Status) (output : List ℕ) → status ≡ Refused
     → HasRead command source source' ended status output → (ended ≡ None) × IfSome source.told (λ bytes. IsRefusal command bytes output)
-told_refused command source source' ended status output two has = refused_by command source.told source'.told ended status output two has.read
+told_refused command source source' ended status output two has = refused_by command source source' ended status output two has.read
 
 -- ---- statuses and runs
 
@@ -105,16 +131,18 @@ output_status Check bytes ended status output (none, inl accepted) = inl accepte
 output_status Compile bytes ended status output (none, inl accepted) = inl accepted.0
 output_status Check bytes ended status output (none, inr refused) = inr (inr refused.0)
 output_status Compile bytes ended status output (none, inr refused) = inr (inr refused.0)
+output_status (Load service number) bytes ended status output is = absurd is
 
-status_by : (command : Command) (told told' : Option (List ℕ)) (ended : Option Ended) (status : Status) (output : List ℕ)
-    → Read command told told' ended status output → (status ≡ Done) ⊎ (status ≡ Waits) ⊎ (status ≡ Refused)
-status_by command told told' ended status output (inl (bytes, short, consumed, at_end, is)) = output_status command bytes ended status output is
-status_by command told told' ended status output (inr (bytes, count, consumed, none, is_two, line)) = inr (inr is_two)
+status_by : (command : Command) (source source' : Ends) (ended : Option Ended) (status : Status) (output : List ℕ)
+    → Read command source source' ended status output → (status ≡ Done) ⊎ (status ≡ Waits) ⊎ (status ≡ Refused)
+status_by command source source' ended status output (inl (bytes, short, consumed, at_end, is)) = output_status command bytes ended status output is
+status_by command source source' ended status output (inr (inl (bytes, has, count, consumed, none, is_two, line))) = inr (inr is_two)
+status_by command source source' ended status output (inr (inr (same, own))) = (own_is command ended status output own).0
 
 -- an output is of an input that is done, where some client waits, or that is refused
 status_is : (command : Command) (source source' : Ends) (ended : Option Ended) (status : Status) (output : List ℕ)
     → HasRead command source source' ended status output → (status ≡ Done) ⊎ (status ≡ Waits) ⊎ (status ≡ Refused)
-status_is command source source' ended status output has = status_by command source.told source'.told ended status output has.read
+status_is command source source' ended status output has = status_by command source source' ended status output has.read
 
 played_run : (bytes : List ℕ) (with_trace : Bool) (ended : Option Ended) (status : Status) (output : List ℕ) → (status ≡ Refused → ⊥)
     → IsPlayOutput bytes with_trace ended status output → IsSome ended
@@ -127,16 +155,18 @@ output_run Sim bytes ended status output good play is = played_run bytes false e
 output_run SimTrace bytes ended status output good play is = played_run bytes true ended status output good is
 output_run Check bytes ended status output good play is = absurd (cc play)
 output_run Compile bytes ended status output good play is = absurd (cc play)
+output_run (Load service number) bytes ended status output good play is = absurd is
 
-run_by : (command : Command) (told told' : Option (List ℕ)) (ended : Option Ended) (status : Status) (output : List ℕ) → (status ≡ Refused → ⊥) → is_play command ≡ true
-    → Read command told told' ended status output → IsSome ended
-run_by command told told' ended status output good play (inl (bytes, short, consumed, at_end, is)) = output_run command bytes ended status output good play is
-run_by command told told' ended status output good play (inr (bytes, count, consumed, none, is_two, line)) = absurd (good is_two)
+run_by : (command : Command) (source source' : Ends) (ended : Option Ended) (status : Status) (output : List ℕ) → (status ≡ Refused → ⊥) → is_play command ≡ true
+    → Read command source source' ended status output → IsSome ended
+run_by command source source' ended status output good play (inl (bytes, short, consumed, at_end, is)) = output_run command bytes ended status output good play is
+run_by command source source' ended status output good play (inr (inl (bytes, has, count, consumed, none, is_two, line))) = absurd (good is_two)
+run_by command source source' ended status output good play (inr (inr (same, own))) = (own_is command ended status output own).1
 
 -- a play that came to its end has a run
 good_run : (command : Command) (source source' : Ends) (ended : Option Ended) (status : Status) (output : List ℕ) → (status ≡ Refused → ⊥) → is_play command ≡ true
     → HasRead command source source' ended status output → IsSome ended
-good_run command source source' ended status output good play has = run_by command source.told source'.told ended status output good play has.read
+good_run command source source' ended status output good play has = run_by command source source' ended status output good play has.read
 
 no_run : (ended : Option Ended) → ended ≡ None → IsSome ended → ⊥
 no_run None none some = cc
@@ -148,16 +178,18 @@ output_play Sim bytes ended status output is some = refl
 output_play SimTrace bytes ended status output is some = refl
 output_play Check bytes ended status output is some = absurd (no_run ended is.0 some)
 output_play Compile bytes ended status output is some = absurd (no_run ended is.0 some)
+output_play (Load service number) bytes ended status output is some = absurd is
 
-play_by : (command : Command) (told told' : Option (List ℕ)) (ended : Option Ended) (status : Status) (output : List ℕ)
-    → Read command told told' ended status output → IsSome ended → is_play command ≡ true
-play_by command told told' ended status output (inl (bytes, short, consumed, at_end, is)) some = output_play command bytes ended status output is some
-play_by command told told' ended status output (inr (bytes, count, consumed, none, is_two, line)) some = absurd (no_run ended none some)
+play_by : (command : Command) (source source' : Ends) (ended : Option Ended) (status : Status) (output : List ℕ)
+    → Read command source source' ended status output → IsSome ended → is_play command ≡ true
+play_by command source source' ended status output (inl (bytes, short, consumed, at_end, is)) some = output_play command bytes ended status output is some
+play_by command source source' ended status output (inr (inl (bytes, has, count, consumed, none, is_two, line))) some = absurd (no_run ended none some)
+play_by command source source' ended status output (inr (inr (same, own))) some = (own_is command ended status output own).2.0
 
 -- only a play has a run
 run_play : (command : Command) (source source' : Ends) (ended : Option Ended) (status : Status) (output : List ℕ)
     → HasRead command source source' ended status output → IsSome ended → is_play command ≡ true
-run_play command source source' ended status output has some = play_by command source.told source'.told ended status output has.read some
+run_play command source source' ended status output has some = play_by command source source' ended status output has.read some
 
 -- ---- answers
 
@@ -175,17 +207,39 @@ pub says_refused : (command : Command) (told : Option (List ℕ)) (status : Stat
     → (status ≡ Refused) ⊎ (status ≡ ReadFault) ⊎ (status ≡ WriteFault) ⊎ (status ≡ NoMemory) → IfSome told (SaysRefused command status)
 says_refused command told status is = told_any (SaysRefused command status) told (λ bytes output refusal. is)
 
-says_by : (command : Command) (told told' : Option (List ℕ)) (ended : Option Ended) (status wanted : Status) (output : List ℕ) → (wanted ≡ Refused → ⊥)
-    → Read command told told' ended wanted output → IfSome told (SaysRefused command status)
-says_by command told told' ended status wanted output good (inl (bytes, short, consumed, at_end, is)) =
-    told_whole (SaysRefused command status) told told' bytes consumed at_end
+says_by : (command : Command) (source source' : Ends) (ended : Option Ended) (status wanted : Status) (output : List ℕ) → (wanted ≡ Refused → ⊥)
+    → Read command source source' ended wanted output → IfSome source.told (SaysRefused command status)
+says_by command source source' ended status wanted output good (inl (bytes, short, consumed, at_end, is)) =
+    told_whole (SaysRefused command status) source.told source'.told bytes consumed at_end
     (λ line refusal. absurd (never_refused command bytes ended wanted output line good short is refusal))
-says_by command told told' ended status wanted output good (inr (bytes, count, consumed, none, is_refused, line)) = absurd (good is_refused)
+says_by command source source' ended status wanted output good (inr (inl (bytes, has, count, consumed, none, is_refused, line))) = absurd (good is_refused)
+says_by command source source' ended status wanted output good (inr (inr (same, own))) =
+    told_any (SaysRefused command status) source.told (λ bytes line refusal. absurd (refuses_nothing command bytes line (own_is command ended wanted output own).2.1 refusal))
 
 -- where an output is no refusal, what is told isn't refused
 says_good : (command : Command) (source source' : Ends) (ended : Option Ended) (status wanted : Status) (output : List ℕ) → (wanted ≡ Refused → ⊥)
     → HasRead command source source' ended wanted output → IfSome source.told (SaysRefused command status)
-says_good command source source' ended status wanted output good has = says_by command source.told source'.told ended status wanted output good has.read
+says_good command source source' ended status wanted output good has = says_by command source source' ended status wanted output good has.read
+
+-- a command without an input has no output for bytes
+no_output : (command : Command) (bytes : List ℕ) (ended : Option Ended) (status : Status) (output : List ℕ) → has_input command ≡ false → IsOutput command bytes ended status output → ⊥
+no_output Sim bytes ended status output without is = cc without
+no_output SimTrace bytes ended status output without is = cc without
+no_output Check bytes ended status output without is = cc without
+no_output Compile bytes ended status output without is = cc without
+no_output (Load service number) bytes ended status output without is = is
+
+read_nothing : (command : Command) (source source' : Ends) (ended : Option Ended) (status : Status) (output : List ℕ) → has_input command ≡ false
+    → Read command source source' ended status output → IsUntouched source source'
+read_nothing command source source' ended status output without (inl (bytes, short, consumed, at_end, is)) = absurd (no_output command bytes ended status output without is)
+read_nothing command source source' ended status output without (inr (inl (bytes, has, count, consumed, none, is_two, line))) = absurd (cc (without, has))
+read_nothing command source source' ended status output without (inr (inr (same, own))) = same
+
+-- nothing was read where the command that is said has no input
+untouched : (said : Command → Type 0) (source source' : Ends) (ended : Option Ended) (command c : Command) (wanted : Status) (output : List ℕ) → IsOne said → said command
+    → HasRead command source source' ended wanted output → said c → has_input c ≡ false → IsUntouched source source'
+untouched said source source' ended command c wanted output one is_said has said_c without =
+    read_nothing command source source' ended wanted output (ap has_input (one command c is_said said_c) ∙ without) has.read
 
 -- a count that is as it was didn't rise
 no_rise : {P : Type 0} (old new : ℕ) → new ≡ old → old < new → P
@@ -205,6 +259,7 @@ answered said source source' sink sink' status ended command wanted output one i
       refuses = λ c said_c. subst (λ v. IfSome source.told (SaysRefused v status)) (one command c is_said said_c) (says_good command source source' ended status wanted output good has);
       read_fault = λ is. absurd (cc (is, is_done));
       only_read_fault = λ rose. no_rise source.faults source'.faults steady rose;
+      no_read = λ c said_c without. (untouched said source source' ended command c wanted output one is_said has said_c without, λ is. cc (is, is_done));
       write_fault = λ is. absurd (cc (is, is_done));
       only_write_fault = λ rose. no_rise sink.faults sink'.faults written.2 rose;
       no_memory = λ is. absurd (cc (is, is_done));
@@ -224,6 +279,7 @@ answered said source source' sink sink' status ended command wanted output one i
       refuses = λ c said_c. subst (λ v. IfSome source.told (SaysRefused v status)) (one command c is_said said_c) (says_good command source source' ended status wanted output good has);
       read_fault = λ is. absurd (cc (is, is_waits));
       only_read_fault = λ rose. no_rise source.faults source'.faults steady rose;
+      no_read = λ c said_c without. (untouched said source source' ended command c wanted output one is_said has said_c without, λ is. cc (is, is_waits));
       write_fault = λ is. absurd (cc (is, is_waits));
       only_write_fault = λ rose. no_rise sink.faults sink'.faults written.2 rose;
       no_memory = λ is. absurd (cc (is, is_waits));
@@ -243,6 +299,7 @@ answered said source source' sink sink' status ended command wanted output one i
       refuses = λ c said_c. says_refused c source.told status (inl is_refused);
       read_fault = λ is. absurd (cc (is, is_refused));
       only_read_fault = λ rose. no_rise source.faults source'.faults steady rose;
+      no_read = λ c said_c without. (untouched said source source' ended command c wanted output one is_said has said_c without, λ is. cc (is, is_refused));
       write_fault = λ is. absurd (cc (is, is_refused));
       only_write_fault = λ rose. no_rise sink.faults sink'.faults written.2 rose;
       no_memory = λ is. absurd (cc (is, is_refused));
@@ -260,6 +317,7 @@ answered said source source' sink sink' status ended command wanted output one i
   refuses = λ c said_c. says_refused c source.told status (inr (inr (inl cut.0)));
   read_fault = λ is. absurd (cc (is, cut.0));
   only_read_fault = λ rose. no_rise source.faults source'.faults steady rose;
+  no_read = λ c said_c without. (untouched said source source' ended command c wanted output one is_said has said_c without, λ is. cc (is, cut.0));
   write_fault = λ is. (cut.1, (command, is_said, output, wanted, cut.2.0, has, cut.2.1, cut.2.2));
   only_write_fault = λ rose. cut.0;
   no_memory = λ is. absurd (cc (is, cut.0));
@@ -281,6 +339,7 @@ other_answer said source sink status ended nothing other none = record {
   refuses = λ c said_c. absurd (nothing c said_c);
   read_fault = λ is. absurd (cc (is, other));
   only_read_fault = λ rose. no_rise source.faults source.faults refl rose;
+  no_read = λ c said_c without. absurd (nothing c said_c);
   write_fault = λ is. absurd (cc (is, other));
   only_write_fault = λ rose. no_rise sink.faults sink.faults refl rose;
   no_memory = λ is. absurd (cc (is, other));
@@ -291,9 +350,9 @@ other_answer said source sink status ended nothing other none = record {
 }
 
 -- a read failed
-pub read_failed : (said : Command → Type 0) (source source' sink : Ends) (status : Status) (ended : Option Ended) (command : Command) → said command
+pub read_failed : (said : Command → Type 0) (source source' sink : Ends) (status : Status) (ended : Option Ended) (command : Command) → IsOne said → said command → has_input command ≡ true
     → status ≡ ReadFault → ended ≡ None → Rose source.faults source'.faults → source.faults ≤ source'.faults → IsAnswer said source source' sink sink status ended
-read_failed said source source' sink status ended command is_said failed none rose reads = record {
+read_failed said source source' sink status ended command one is_said has failed none rose reads = record {
   words = λ is. absurd (cc (is, failed));
   other_words = λ other. absurd (other command is_said);
   done = λ is. absurd (cc (is, failed));
@@ -302,6 +361,7 @@ read_failed said source source' sink status ended command is_said failed none ro
   refuses = λ c said_c. says_refused c source.told status (inr (inl failed));
   read_fault = λ is. (none, rose, record { told = refl; faults = refl });
   only_read_fault = λ more. failed;
+  no_read = λ c said_c without. absurd (cc (ap has_input (one command c is_said said_c), without, has));
   write_fault = λ is. absurd (cc (is, failed));
   only_write_fault = λ more. no_rise sink.faults sink.faults refl more;
   no_memory = λ is. absurd (cc (is, failed));
@@ -312,9 +372,9 @@ read_failed said source source' sink status ended command is_said failed none ro
 }
 
 -- there was no memory
-pub without_memory : (said : Command → Type 0) (source source' sink sink' : Ends) (status : Status) (ended : Option Ended) (command : Command) → said command
-    → (status ≡ NoMemory) × (ended ≡ None) × IsUntouched sink sink' → source'.faults ≡ source.faults → IsAnswer said source source' sink sink' status ended
-without_memory said source source' sink sink' status ended command is_said without steady = record {
+pub without_memory : (said : Command → Type 0) (source source' sink sink' : Ends) (status : Status) (ended : Option Ended) (command : Command) → IsOne said → said command
+    → (has_input command ≡ false → IsUntouched source source') → (status ≡ NoMemory) × (ended ≡ None) × IsUntouched sink sink' → source'.faults ≡ source.faults → IsAnswer said source source' sink sink' status ended
+without_memory said source source' sink sink' status ended command one is_said unread without steady = record {
   words = λ is. absurd (cc (is, without.0));
   other_words = λ other. absurd (other command is_said);
   done = λ is. absurd (cc (is, without.0));
@@ -323,6 +383,7 @@ without_memory said source source' sink sink' status ended command is_said witho
   refuses = λ c said_c. says_refused c source.told status (inr (inr (inr without.0)));
   read_fault = λ is. absurd (cc (is, without.0));
   only_read_fault = λ rose. no_rise source.faults source'.faults steady rose;
+  no_read = λ c said_c lacks. (unread (ap has_input (one command c is_said said_c) ∙ lacks), λ is. cc (is, without.0));
   write_fault = λ is. absurd (cc (is, without.0));
   only_write_fault = λ rose. no_rise sink.faults sink'.faults without.2.faults rose;
   no_memory = λ is. (without.1, without.2);
@@ -333,29 +394,66 @@ without_memory said source source' sink sink' status ended command is_said witho
 }
 
 -- an input that was read, and what was done with it, make the answer
-carried_out : (said : Command → Type 0) (source source' sink sink' : Ends) (status : Status) (ended : Option Ended) (command : Command) (bytes : List ℕ) → IsOne said → said command
-    → (length bytes ≤ most_bytes command) × Consumes source.told source'.told bytes × IsAtEnd source'.told → IsCarriedOut command bytes sink sink' status ended
+carried_out : (said : Command → Type 0) (source source' sink sink' : Ends) (status : Status) (ended : Option Ended) (command : Command) (bytes : List ℕ) → IsOne said → said command → has_input command ≡ true
+    → (length bytes ≤ most_bytes command) × Consumes source.told source'.told bytes × IsAtEnd source'.told → IsDelivered (IsOutput command bytes) sink sink' status ended
     → source'.faults ≡ source.faults → sink.faults ≤ sink'.faults → IsAnswer said source source' sink sink' status ended
-carried_out said source source' sink sink' status ended command bytes one is_said (short, consumed, at_end) (inl (output, wanted, is, written)) steady writes =
+carried_out said source source' sink sink' status ended command bytes one is_said has_one (short, consumed, at_end) (inl (output, wanted, is, written)) steady writes =
     let has : HasRead command source source' ended wanted output = record { read = inl (bytes, short, consumed, at_end, is) } in
     answered said source source' sink sink' status ended command wanted output one is_said has written steady writes (status_is command source source' ended wanted output has)
-carried_out said source source' sink sink' status ended command bytes one is_said taken (inr without) steady writes =
-    without_memory said source source' sink sink' status ended command is_said without steady
+carried_out said source source' sink sink' status ended command bytes one is_said has_one taken (inr without) steady writes =
+    without_memory said source source' sink sink' status ended command one is_said (λ lacks. absurd (cc (lacks, has_one))) without steady
 
 -- an input that was read, and what was done with it, make the answer, where the bytes and the limit are shown under other names
 pub whole_answer : (said : Command → Type 0) (source source' sink sink' : Ends) (status : Status) (ended : Option Ended) (command : Command) (bytes shown : List ℕ) (limit : ℕ)
-    → shown ≡ bytes → limit ≡ most_bytes command → IsOne said → said command
-    → (length bytes ≤ limit) × Consumes source.told source'.told bytes × IsAtEnd source'.told → IsCarriedOut command shown sink sink' status ended
+    → shown ≡ bytes → limit ≡ most_bytes command → IsOne said → said command → has_input command ≡ true
+    → (length bytes ≤ limit) × Consumes source.told source'.told bytes × IsAtEnd source'.told → IsDelivered (IsOutput command shown) sink sink' status ended
     → source'.faults ≡ source.faults → sink.faults ≤ sink'.faults → IsAnswer said source source' sink sink' status ended
-whole_answer said source source' sink sink' status ended command bytes shown limit same most one is_said (short, consumed, at_end) done =
-    carried_out said source source' sink sink' status ended command bytes one is_said (subst (λ n. length bytes ≤ n) most short, consumed, at_end)
-    (subst (λ b. IsCarriedOut command b sink sink' status ended) same done)
+whole_answer said source source' sink sink' status ended command bytes shown limit same most one is_said has_one (short, consumed, at_end) done =
+    carried_out said source source' sink sink' status ended command bytes one is_said has_one (subst (λ n. length bytes ≤ n) most short, consumed, at_end)
+    (subst (λ b. IsDelivered (IsOutput command b) sink sink' status ended) same done)
 
 -- one byte more was read than an input may have, and that is refused
 pub too_long_answer : (said : Command → Type 0) (source source' sink sink' : Ends) (status : Status) (ended : Option Ended) (command : Command) (line : List ℕ) (limit : ℕ)
-    → line ≡ too_long_line → limit ≡ most_bytes command → IsOne said → said command
+    → line ≡ too_long_line → limit ≡ most_bytes command → IsOne said → said command → has_input command ≡ true
     → ConsumesJust (limit + 1) source.told source'.told → ended ≡ None → IsWritten sink sink' line Refused status
     → source'.faults ≡ source.faults → sink.faults ≤ sink'.faults → IsAnswer said source source' sink sink' status ended
-too_long_answer said source source' sink sink' status ended command line limit same most one is_said (bytes, count, consumed) none written steady writes =
+too_long_answer said source source' sink sink' status ended command line limit same most one is_said has_one (bytes, count, consumed) none written steady writes =
     answered said source source' sink sink' status ended command Refused line one is_said
-    (record { read = inr (bytes, count ∙ ap (λ n. n + 1) most, consumed, none, refl, same) }) written steady writes (inr (inr refl))
+    (record { read = inr (inl (bytes, has_one, count ∙ ap (λ n. n + 1) most, consumed, none, refl, same)) }) written steady writes (inr (inr refl))
+
+-- what a command without an input made, and what was written of it, make the answer; nothing was read
+pub own_answer : (said : Command → Type 0) (source sink sink' : Ends) (status : Status) (ended : Option Ended) (command : Command) → IsOne said → said command
+    → IsDelivered (IsOwnOutput command) sink sink' status ended → sink.faults ≤ sink'.faults → IsAnswer said source source sink sink' status ended
+own_answer said source sink sink' status ended command one is_said (inl (output, wanted, own, written)) writes =
+    answered said source source sink sink' status ended command wanted output one is_said
+    (record { read = inr (inr (record { told = refl; faults = refl }, own)) }) written refl writes (own_is command ended wanted output own).0
+own_answer said source sink sink' status ended command one is_said (inr without) writes =
+    without_memory said source source sink sink' status ended command one is_said (λ lacks. record { told = refl; faults = refl }) without refl
+
+-- ---- other words for a command
+
+-- the answer for a command is that for the words that say it
+pub said_answer : (said : Command → Type 0) (source source' sink sink' : Ends) (status : Status) (ended : Option Ended) (command : Command) → IsOne said → said command
+    → IsAnswer (λ c. c ≡ command) source source' sink sink' status ended → IsAnswer said source source' sink sink' status ended
+said_answer said source source' sink sink' status ended command one is_said a = record {
+  words = λ is. absurd ((a.words is).0 command refl);
+  other_words = λ other. absurd (other command is_said);
+  done = λ is. let d = a.done is in (d.0, subst said (sym d.1) is_said, d.2);
+  waits = λ is. let d = a.waits is in (d.0, subst said (sym d.1) is_said, d.2);
+  refused = λ is. let d = a.refused is in (d.0, (d.1.0, subst said (sym d.1.1) is_said, d.1.2));
+  refuses = λ c said_c. a.refuses c (one c command said_c is_said);
+  read_fault = a.read_fault;
+  only_read_fault = a.only_read_fault;
+  no_read = λ c said_c without. a.no_read c (one c command said_c is_said) without;
+  write_fault = λ is. let d = a.write_fault is in (d.0, (d.1.0, subst said (sym d.1.1) is_said, d.1.2));
+  only_write_fault = a.only_write_fault;
+  no_memory = a.no_memory;
+  played = λ is c said_c play. a.played is c (one c command said_c is_said) play;
+  only_played = λ some. let d = a.only_played some in (d.0, subst said (sym d.1) is_said, d.2);
+  reads = a.reads;
+  writes = a.writes;
+}
+
+-- at most one command is a given one
+pub one_given : (command : Command) → IsOne (λ c. c ≡ command)
+one_given command a b is isn't = is ∙ sym isn't

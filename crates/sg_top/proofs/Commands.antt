@@ -1,43 +1,143 @@
 -- The words say at most one command.
-use Rattle.std.proofs.Common.{◌≡◌, ◌<◌, ◌≤◌, ℕ, List, [], ◌∷◌, None, Some, length, slice_index_or, refl, sym, ◌∙◌, ap, subst, arith}
+use Rattle.std.proofs.Common.{◌≡◌, ◌<◌, ◌≤◌, ℕ, ◌+◌, ◌*◌, List, [], ◌∷◌, None, Some, get_or, length, map, slice_index_or, refl, sym, ◌∙◌, ap, subst, arith, length-map}
 use Rattle.std.specs.Prelude.{MatchOption, codes, string_bytes}
 use Rattle.std.specs.declared.option.Option.{Option}
 use Rattle.std.specs.declared.string.String.{String}
 use Rattle.std.specs.declared.alloc.Global.{Global}
+use Rattle.sg_load.specs.Standard.{facts_by}
+use Rattle.sg_load.specs.declared.kind.ServiceKind.{ServiceKind}
+use Rattle.sg_load.specs.declared.kind.ServiceKind.TheVariants.{Locks, Events, Pages, Files, Threads}
+use Rattle.sg_script.specs.Numbers.{value_of_digits}
 use Rattle.sg_top.specs.declared.command.Command.{Command}
-use Rattle.sg_top.specs.declared.command.Command.TheVariants.{Sim, SimTrace, Check, Compile}
-use Rattle.sg_top.specs.Answer.{IsCommand}
-use Rattle.sg_top.specs.Inside.Words.{IsWordOf}
+use Rattle.sg_top.specs.declared.command.Command.TheVariants.{Sim, SimTrace, Check, Compile, Load}
+use Rattle.sg_top.specs.Answer.{AreDigitsOf, AreWords, IsCommand}
+use Rattle.sg_top.specs.Inside.Words.{IsLoadOf, IsWordOf}
 
--- words of other lengths differ
-differ : (word one other : List ℕ) → (length one ≡ length other → ⊥) → word ≡ one → word ≡ other → ⊥
-differ word one other apart is isn't = apart (ap length (sym is ∙ isn't))
+-- ---- names
 
-one_word : (word : List ℕ) (a b : Command) → IsWordOf word a → IsWordOf word b → a ≡ b
-one_word word SimTrace b x y = absurd x
-one_word word a SimTrace x y = absurd y
-one_word word Sim Sim x y = refl
-one_word word Check Check x y = refl
-one_word word Compile Compile x y = refl
-one_word word Sim Check x y = absurd (differ word (codes "sim") (codes "check") (λ l. omega (arith, l)) x y)
-one_word word Check Sim x y = absurd (differ word (codes "check") (codes "sim") (λ l. omega (arith, l)) x y)
-one_word word Sim Compile x y = absurd (differ word (codes "sim") (codes "compile") (λ l. omega (arith, l)) x y)
-one_word word Compile Sim x y = absurd (differ word (codes "compile") (codes "sim") (λ l. omega (arith, l)) x y)
-one_word word Check Compile x y = absurd (differ word (codes "check") (codes "compile") (λ l. omega (arith, l)) x y)
-one_word word Compile Check x y = absurd (differ word (codes "compile") (codes "check") (λ l. omega (arith, l)) x y)
+-- what tells the names of the services apart: their lengths, and their first letters
+letters : List ℕ → ℕ
+letters name = 1000 * length name + get_or name 0 0
 
--- what one word says, and what two say
-pub word_of : (word : String Global) (command : Command) → IsCommand (word ∷ []) command → IsWordOf (string_bytes word) command
-word_of word Sim is = is
-word_of word SimTrace is = absurd is
-word_of word Check is = is
-word_of word Compile is = is
+one_kind : (a b : ServiceKind) → letters (facts_by a).name ≡ letters (facts_by b).name → a ≡ b
+one_kind Locks Locks e = refl
+one_kind Locks Events e = absurd (omega (arith, e))
+one_kind Locks Pages e = absurd (omega (arith, e))
+one_kind Locks Files e = absurd (omega (arith, e))
+one_kind Locks Threads e = absurd (omega (arith, e))
+one_kind Events Locks e = absurd (omega (arith, e))
+one_kind Events Events e = refl
+one_kind Events Pages e = absurd (omega (arith, e))
+one_kind Events Files e = absurd (omega (arith, e))
+one_kind Events Threads e = absurd (omega (arith, e))
+one_kind Pages Locks e = absurd (omega (arith, e))
+one_kind Pages Events e = absurd (omega (arith, e))
+one_kind Pages Pages e = refl
+one_kind Pages Files e = absurd (omega (arith, e))
+one_kind Pages Threads e = absurd (omega (arith, e))
+one_kind Files Locks e = absurd (omega (arith, e))
+one_kind Files Events e = absurd (omega (arith, e))
+one_kind Files Pages e = absurd (omega (arith, e))
+one_kind Files Files e = refl
+one_kind Files Threads e = absurd (omega (arith, e))
+one_kind Threads Locks e = absurd (omega (arith, e))
+one_kind Threads Events e = absurd (omega (arith, e))
+one_kind Threads Pages e = absurd (omega (arith, e))
+one_kind Threads Files e = absurd (omega (arith, e))
+one_kind Threads Threads e = refl
 
-pub of_word : (word : String Global) (command : Command) → IsWordOf (string_bytes word) command → IsCommand (word ∷ []) command
-of_word word Sim is = is
+-- ---- texts
+
+-- the texts of a command, with these digits
+texts_of : Command → List ℕ → List (List ℕ)
+texts_of Sim digits = codes "sim" ∷ []
+texts_of SimTrace digits = codes "sim" ∷ codes "trace" ∷ []
+texts_of Check digits = codes "check" ∷ []
+texts_of Compile digits = codes "compile" ∷ []
+texts_of (Load service number) digits = codes "load" ∷ (facts_by service).name ∷ digits ∷ []
+
+-- the digits fit the command
+Digits : Command → List ℕ → Type 0
+Digits (Load service number) digits = AreDigitsOf number digits
+Digits _ digits = Unit {0}
+
+says : (words : List (String Global)) (c : Command) → IsCommand words c → (digits : List ℕ) × Digits c digits × (map string_bytes words ≡ texts_of c digits)
+says words Sim is = ([], tt, is)
+says words SimTrace is = ([], tt, is)
+says words Check is = ([], tt, is)
+says words Compile is = ([], tt, is)
+says words (Load service number) is = (is.0, is.1, is.2)
+
+text_at : ℕ → List (List ℕ) → List ℕ
+text_at n texts = get_or texts n []
+
+-- what tells the commands apart: how many texts they have, and the length of the first
+tag : List (List ℕ) → ℕ
+tag texts = 100 * length texts + length (text_at 0 texts)
+
+one_by : (a b : Command) (da db : List ℕ) → Digits a da → Digits b db → texts_of a da ≡ texts_of b db → a ≡ b
+one_by Sim Sim da db x y e = refl
+one_by Sim SimTrace da db x y e = absurd (omega (arith, ap tag e))
+one_by Sim Check da db x y e = absurd (omega (arith, ap tag e))
+one_by Sim Compile da db x y e = absurd (omega (arith, ap tag e))
+one_by Sim (Load s n) da db x y e = absurd (omega (arith, ap tag e))
+one_by SimTrace Sim da db x y e = absurd (omega (arith, ap tag e))
+one_by SimTrace SimTrace da db x y e = refl
+one_by SimTrace Check da db x y e = absurd (omega (arith, ap tag e))
+one_by SimTrace Compile da db x y e = absurd (omega (arith, ap tag e))
+one_by SimTrace (Load s n) da db x y e = absurd (omega (arith, ap tag e))
+one_by Check Sim da db x y e = absurd (omega (arith, ap tag e))
+one_by Check SimTrace da db x y e = absurd (omega (arith, ap tag e))
+one_by Check Check da db x y e = refl
+one_by Check Compile da db x y e = absurd (omega (arith, ap tag e))
+one_by Check (Load s n) da db x y e = absurd (omega (arith, ap tag e))
+one_by Compile Sim da db x y e = absurd (omega (arith, ap tag e))
+one_by Compile SimTrace da db x y e = absurd (omega (arith, ap tag e))
+one_by Compile Check da db x y e = absurd (omega (arith, ap tag e))
+one_by Compile Compile da db x y e = refl
+one_by Compile (Load s n) da db x y e = absurd (omega (arith, ap tag e))
+one_by (Load s n) Sim da db x y e = absurd (omega (arith, ap tag e))
+one_by (Load s n) SimTrace da db x y e = absurd (omega (arith, ap tag e))
+one_by (Load s n) Check da db x y e = absurd (omega (arith, ap tag e))
+one_by (Load s n) Compile da db x y e = absurd (omega (arith, ap tag e))
+one_by (Load s n) (Load r m) da db x y e =
+    let kinds : s ≡ r = one_kind s r (ap (λ t. letters (text_at 1 t)) e) in
+    let digits : da ≡ db = ap (text_at 2) e in
+    let numbers : n ≡ m = sym x.1 ∙ ap value_of_digits digits ∙ y.1 in cc (kinds, numbers)
+
+pub one_command : (words : List (String Global)) (a b : Command) → IsCommand words a → IsCommand words b → a ≡ b
+one_command words a b x y =
+    let u = says words a x in
+    let v = says words b y in one_by a b u.0 v.0 u.1 v.1 (sym u.2 ∙ v.2)
+
+-- ---- how many words
+
+-- a command has from one to three
+pub count_is : (words : List (String Global)) (c : Command) → IsCommand words c → (1 ≤ length words) × (length words ≤ 3)
+count_is words c is = let u = says words c is in by c u.0 (sym (length-map string_bytes words) ∙ ap length u.2)
+  where
+    by : (c : Command) (digits : List ℕ) → length words ≡ length (texts_of c digits) → (1 ≤ length words) × (length words ≤ 3)
+    by Sim digits l = (omega (arith, l), omega (arith, l))
+    by SimTrace digits l = (omega (arith, l), omega (arith, l))
+    by Check digits l = (omega (arith, l), omega (arith, l))
+    by Compile digits l = (omega (arith, l), omega (arith, l))
+    by (Load s n) digits l = (omega (arith, l), omega (arith, l))
+
+-- ---- one word
+
+word_of : (word : String Global) (command : Command) → IsCommand (word ∷ []) command → IsWordOf (string_bytes word) command
+word_of word Sim is = ap (text_at 0) is
+word_of word SimTrace is = absurd (omega (arith, ap length is))
+word_of word Check is = ap (text_at 0) is
+word_of word Compile is = ap (text_at 0) is
+word_of word (Load s n) is = absurd (omega (arith, ap length is.2))
+
+of_word : (word : String Global) (command : Command) → IsWordOf (string_bytes word) command → IsCommand (word ∷ []) command
+of_word word Sim is = ap (λ t. t ∷ []) is
 of_word word SimTrace is = absurd is
-of_word word Check is = is
-of_word word Compile is = is
+of_word word Check is = ap (λ t. t ∷ []) is
+of_word word Compile is = ap (λ t. t ∷ []) is
+of_word word (Load s n) is = absurd is
 
 -- words are one, where there is a first and no second
 pub one_of : (words : List (String Global)) (word : String Global) → 1 ≤ length words → length words < 2 → word ≡ slice_index_or words 0 word → words ≡ word ∷ []
@@ -51,28 +151,67 @@ pub one_word_says : (words : List (String Global)) (word : String Global) (text 
 one_word_says words word text None is same none = λ command says. none command (subst (λ t. IsWordOf t command) (sym same) (word_of word command (subst (λ l. IsCommand l command) is says)))
 one_word_says words word text (Some command) is same says = subst (λ l. IsCommand l command) (sym is) (of_word word command (subst (λ t. IsWordOf t command) same says))
 
-pub words_of : (word more : String Global) (command : Command) → IsCommand (word ∷ more ∷ []) command → (string_bytes word ≡ codes "sim") × (string_bytes more ≡ codes "trace")
-words_of word more Sim is = absurd is
-words_of word more SimTrace is = is
-words_of word more Check is = absurd is
-words_of word more Compile is = absurd is
+-- ---- two words
 
-two_words : (words : List (String Global)) (word more : String Global) (a b : Command) → IsCommand (word ∷ more ∷ words) a → IsCommand (word ∷ more ∷ words) b → a ≡ b
-two_words words word more SimTrace SimTrace x y = refl
-two_words words word more Sim b x y = absurd x
-two_words words word more Check b x y = absurd x
-two_words words word more Compile b x y = absurd x
-two_words words word more SimTrace Sim x y = absurd y
-two_words words word more SimTrace Check x y = absurd y
-two_words words word more SimTrace Compile x y = absurd y
+-- words are two, where there is a second and no third
+pub two_of : (words : List (String Global)) (word more : String Global) → 2 ≤ length words → length words < 3 → word ≡ slice_index_or words 0 word → more ≡ slice_index_or words 1 more
+    → words ≡ word ∷ more ∷ []
+two_of [] word more second third is isn't = absurd (omega (arith, second))
+two_of (w ∷ []) word more second third is isn't = absurd (omega (arith, second))
+two_of (w ∷ v ∷ []) word more second third is isn't = cc (is, isn't)
+two_of (w ∷ v ∷ u ∷ words) word more second third is isn't = absurd (omega (arith, third))
 
-pub no_command : (command : Command) → IsCommand [] command → ⊥
-no_command Sim is = is
-no_command SimTrace is = is
-no_command Check is = is
-no_command Compile is = is
+words_of : (word more : String Global) (command : Command) → IsCommand (word ∷ more ∷ []) command → (string_bytes word ≡ codes "sim") × (string_bytes more ≡ codes "trace")
+words_of word more Sim is = absurd (omega (arith, ap length is))
+words_of word more SimTrace is = (ap (text_at 0) is, ap (text_at 1) is)
+words_of word more Check is = absurd (omega (arith, ap length is))
+words_of word more Compile is = absurd (omega (arith, ap length is))
+words_of word more (Load s n) is = absurd (omega (arith, ap length is.2))
 
-pub one_command : (words : List (String Global)) (a b : Command) → IsCommand words a → IsCommand words b → a ≡ b
-one_command [] a b x y = absurd (no_command a x)
-one_command (word ∷ []) a b x y = one_word (string_bytes word) a b (word_of word a x) (word_of word b y)
-one_command (word ∷ other ∷ words) a b x y = two_words words word other a b x y
+-- what two words say, of all words
+pub two_words_say : (words : List (String Global)) (word more : String Global) (one two : List ℕ) (o : Option Command) → words ≡ word ∷ more ∷ [] → one ≡ string_bytes word → two ≡ string_bytes more
+    → MatchOption o ((one ≡ codes "sim") × (two ≡ codes "trace") → ⊥) (λ command. (command ≡ SimTrace) × (one ≡ codes "sim") × (two ≡ codes "trace"))
+    → MatchOption o ((command : Command) → IsCommand words command → ⊥) (IsCommand words)
+two_words_say words word more one two None is a b none =
+    λ command says. let both = words_of word more command (subst (λ l. IsCommand l command) is says) in none (a ∙ both.0, b ∙ both.1)
+two_words_say words word more one two (Some command) is a b says =
+    subst (IsCommand words) (sym says.0) (subst (λ l. IsCommand l SimTrace) (sym is)
+    (let x : string_bytes word ≡ codes "sim" = sym a ∙ says.1 in
+    let y : string_bytes more ≡ codes "trace" = sym b ∙ says.2 in cc (x, y)))
+
+-- ---- three words
+
+-- words are three, where there is a third and no fourth
+pub three_of : (words : List (String Global)) (word name digits : String Global) → 3 ≤ length words → length words < 4 → word ≡ slice_index_or words 0 word → name ≡ slice_index_or words 1 name
+    → digits ≡ slice_index_or words 2 digits → words ≡ word ∷ name ∷ digits ∷ []
+three_of [] word name digits third fourth a b c = absurd (omega (arith, third))
+three_of (w ∷ []) word name digits third fourth a b c = absurd (omega (arith, third))
+three_of (w ∷ v ∷ []) word name digits third fourth a b c = absurd (omega (arith, third))
+three_of (w ∷ v ∷ u ∷ []) word name digits third fourth a b c = cc (a, b, c)
+three_of (w ∷ v ∷ u ∷ t ∷ words) word name digits third fourth a b c = absurd (omega (arith, fourth))
+
+load_of : (word name digits : String Global) (command : Command) → IsCommand (word ∷ name ∷ digits ∷ []) command → IsLoadOf (string_bytes word) (string_bytes name) (string_bytes digits) command
+load_of word name digits Sim is = absurd (omega (arith, ap length is))
+load_of word name digits SimTrace is = absurd (omega (arith, ap length is))
+load_of word name digits Check is = absurd (omega (arith, ap length is))
+load_of word name digits Compile is = absurd (omega (arith, ap length is))
+load_of word name digits (Load s n) is = (ap (text_at 0) is.2, ap (text_at 1) is.2, subst (AreDigitsOf n) (sym (ap (text_at 2) is.2)) is.1)
+
+of_load : (word name digits : String Global) (command : Command) → IsLoadOf (string_bytes word) (string_bytes name) (string_bytes digits) command → IsCommand (word ∷ name ∷ digits ∷ []) command
+of_load word name digits Sim is = absurd is
+of_load word name digits SimTrace is = absurd is
+of_load word name digits Check is = absurd is
+of_load word name digits Compile is = absurd is
+of_load word name digits (Load s n) is = (string_bytes digits, is.2, cc (is.0, is.1))
+
+-- what three words say, of all words
+pub three_words_say : (words : List (String Global)) (word name digits : String Global) (one two three : List ℕ) (o : Option Command) → words ≡ word ∷ name ∷ digits ∷ [] → one ≡ string_bytes word
+    → two ≡ string_bytes name → three ≡ string_bytes digits
+    → MatchOption o ((command : Command) → IsLoadOf one two three command → ⊥) (IsLoadOf one two three)
+    → MatchOption o ((command : Command) → IsCommand words command → ⊥) (IsCommand words)
+three_words_say words word name digits one two three None is a b c none =
+    λ command says. none command (subst (λ t. IsLoadOf t two three command) (sym a) (subst (λ t. IsLoadOf (string_bytes word) t three command) (sym b)
+        (subst (λ t. IsLoadOf (string_bytes word) (string_bytes name) t command) (sym c) (load_of word name digits command (subst (λ l. IsCommand l command) is says)))))
+three_words_say words word name digits one two three (Some command) is a b c says =
+    subst (λ l. IsCommand l command) (sym is) (of_load word name digits command
+        (subst (λ t. IsLoadOf (string_bytes word) (string_bytes name) t command) c (subst (λ t. IsLoadOf (string_bytes word) t three command) b (subst (λ t. IsLoadOf t two three command) a says))))

@@ -10,6 +10,7 @@ use Rattle.sg_facts.specs.Interface.{Declared}
 use Rattle.sg_input.specs.declared.input.Input.{Input}
 use Rattle.sg_input.specs.declared.input.Input.TheVariants.{Ready}
 use Rattle.sg_input.specs.Inputs.{IsInputOf, IsReady}
+use Rattle.sg_load.specs.Standard.{facts_by}
 use Rattle.sg_lock.specs.LockFacts.{lock_facts}
 use Rattle.sg_mm.specs.MmFacts.{mm_facts}
 use Rattle.sg_play_laws.specs.Playable.{IsPlayable}
@@ -18,10 +19,10 @@ use Rattle.sg_sched.specs.SchedFacts.{sched_facts}
 use Rattle.sg_script.specs.declared.script.Script.{Script}
 use Rattle.sg_script_laws.proofs.Flawless.{script_playable, script_stops}
 use Rattle.sg_top.specs.Answer.{services}
-use Rattle.sg_top.specs.Headline.{played_services}
-use Rattle.sg_top.specs.Inside.Kinds.{IsOneOfFive, answering, kind_by}
-use Rattle.sg_top.specs.declared.services.ServiceKind.{ServiceKind}
-use Rattle.sg_top.specs.declared.services.ServiceKind.TheVariants.{Locks, Events, Pages, Files, Threads}
+use Rattle.sg_top.specs.Headline.{answering, played_services}
+use Rattle.sg_top.specs.Inside.Kinds.{IsOneOfFive, kind_by}
+use Rattle.sg_load.specs.declared.kind.ServiceKind.{ServiceKind}
+use Rattle.sg_load.specs.declared.kind.ServiceKind.TheVariants.{Locks, Events, Pages, Files, Threads}
 
 -- ---- services
 
@@ -48,8 +49,16 @@ kind_is facts (inr (inr (inl is))) = subst (λ f. (answering (kind_by f)).facts 
 kind_is facts (inr (inr (inr (inl is)))) = subst (λ f. (answering (kind_by f)).facts ≡ f) (sym is) refl
 kind_is facts (inr (inr (inr (inr is)))) = subst (λ f. (answering (kind_by f)).facts ≡ f) (sym is) refl
 
-pub of_kind : (facts : Facts) (kind : ServiceKind) → IsOneOfFive facts → kind ≡ kind_by facts → facts ≡ (answering kind).facts
-of_kind facts kind one is = sym (ap (λ k. (answering k).facts) is ∙ kind_is facts one)
+-- the facts of a kind are those of its service
+pub its_facts : (kind : ServiceKind) → facts_by kind ≡ (answering kind).facts
+its_facts Locks = refl
+its_facts Events = refl
+its_facts Pages = refl
+its_facts Files = refl
+its_facts Threads = refl
+
+pub of_kind : (facts : Facts) (kind : ServiceKind) → IsOneOfFive facts → kind ≡ kind_by facts → facts ≡ facts_by kind
+of_kind facts kind one is = sym (its_facts kind ∙ ap (λ k. (answering k).facts) is ∙ kind_is facts one)
 
 -- it is among those that are played
 pub is_served : (kind : ServiceKind) → Contains played_services (answering kind)

@@ -11,10 +11,10 @@ use Rattle.sg_input.specs.Inputs.{IsInputOf}
 use Rattle.sg_input.proofs.OneInput.{never_ready, not_refused}
 use Rattle.sg_top.specs.Headline.{IsRunOfInput}
 use Rattle.sg_top.specs.declared.command.Command.{Command}
-use Rattle.sg_top.specs.declared.command.Command.TheVariants.{Sim, SimTrace, Check, Compile}
+use Rattle.sg_top.specs.declared.command.Command.TheVariants.{Sim, SimTrace, Check, Compile, Load}
 use Rattle.sg_top.specs.declared.status.Status.{Status}
 use Rattle.sg_top.specs.declared.status.Status.TheVariants.{Refused}
-use Rattle.sg_top.specs.Answer.{IsOutput, IsPlayOutput, IsRefusal, IsRefusedAs, most_bytes, services}
+use Rattle.sg_top.specs.Answer.{IsOutput, IsPlayOutput, IsRefusal, IsRefusedAs, has_input, most_bytes, services}
 
 -- a text isn't accepted and refused
 not_both : (text line output : List ℕ) → IsVerdict services text (accepted output) → IsVerdict services text (refused line) → ⊥
@@ -42,9 +42,19 @@ good_alone Check bytes ended status output line good (none, inl accepts) bad = n
 good_alone Compile bytes ended status output line good (none, inl accepts) bad = not_untabled bytes line output accepts.1 bad
 good_alone Check bytes ended status output line good (none, inr other) bad = good other.0
 good_alone Compile bytes ended status output line good (none, inr other) bad = good other.0
+good_alone (Load service number) bytes ended status output line good is bad = bad
 
 -- where an output for bytes doesn't refuse them, they aren't refused
 pub never_refused : (command : Command) (bytes : List ℕ) (ended : Option Ended) (status : Status) (output line : List ℕ) → (status ≡ Refused → ⊥) → length bytes ≤ most_bytes command
     → IsOutput command bytes ended status output → IsRefusal command bytes line → ⊥
 never_refused command bytes ended status output line good short is (inl (few, bad)) = good_alone command bytes ended status output line good is bad
-never_refused command bytes ended status output line good short is (inr (long, bad)) = absurd (omega (arith, short, long))
+never_refused command bytes ended status output line good short is (inr (has, long, bad)) = absurd (omega (arith, short, long))
+
+-- a command without an input refuses nothing
+pub refuses_nothing : (command : Command) (bytes line : List ℕ) → has_input command ≡ false → IsRefusal command bytes line → ⊥
+refuses_nothing Sim bytes line without is = cc without
+refuses_nothing SimTrace bytes line without is = cc without
+refuses_nothing Check bytes line without is = cc without
+refuses_nothing Compile bytes line without is = cc without
+refuses_nothing (Load service number) bytes line without (inl is) = is.1
+refuses_nothing (Load service number) bytes line without (inr is) = cc is.0

@@ -15,9 +15,9 @@ use Rattle.sg_sim.specs.Played.{IsPlayed}
 use Rattle.sg_input.specs.Inputs.{IsReady}
 use Rattle.sg_top.proofs.Fitting.{is_served, kind_is}
 use Rattle.sg_top.specs.Answer.{services}
-use Rattle.sg_top.specs.Headline.{Answering, IsRunOf, IsRunOfInput}
-use Rattle.sg_top.specs.Inside.Kinds.{IsOneOfFive, answering, kind_by}
-use Rattle.sg_top.specs.Inside.Runs.{IsPlayedOn}
+use Rattle.sg_top.specs.Headline.{Answering, IsRunOf, IsRunOfInput, answering}
+use Rattle.sg_top.specs.Inside.Kinds.{IsOneOfFive, kind_by}
+use Rattle.sg_top.specs.Inside.Runs.{IsPlayInOrder, IsPlayedOn}
 
 -- stops that ascend are the listed ones up to a point
 listed : (low : ℕ) (stops : List ℕ) (points : ℕ) → AscendsAbove low stops → up_to points stops ≡ filter (λ stop. nat_le stop points) stops
@@ -29,36 +29,35 @@ listed low (n ∷ stops) points ascend =
     from_one : (n low : ℕ) → low < n → nat_le 1 n ≡ true
     from_one n low above = grind (arith, nat_tests)
 
-pub run_so : (i : Declared) (service : Answering) (walks : List WalkLine) (script : Script) (plan : List ℕ) (with_trace : Bool) (ended : Ended) (written : List ℕ) → AreTables i walks → plan ≡ script.stops → AscendsAbove 0 script.stops
-    → IsPlayed (record { interface = i; ask = service.ask; parts = service.parts; walks = walks }) (λ asked struck plan. struck ≡ up_to asked plan) script plan ended → written ≡ report_of i.facts ended with_trace
-    → IsRunOf i service script with_trace ended written
-run_so i service walks script plan with_trace ended written tables same ascend played report = record {
+run_so : (i : Declared) (service : Answering) (walks : List WalkLine) (script : Script) (plan : List ℕ) (ended : Ended) → AreTables i walks → plan ≡ script.stops → AscendsAbove 0 script.stops
+    → IsPlayed (record { interface = i; ask = service.ask; parts = service.parts; walks = walks }) (λ asked struck plan. struck ≡ up_to asked plan) script plan ended
+    → IsRunOf i service script ended
+run_so i service walks script plan ended tables same ascend played = record {
   legal = played.legal;
   calls = played.calls;
   recovered = (walks, tables, played.recovered);
   stops = played.stops ∙ ap (up_to _) same ∙ listed 0 script.stops _ ascend;
   ends = played.ends;
-  schedule = played.schedule;
   woken = played.woken;
-  output = report;
 }
 
--- a run and its report, which are what they are of
-pub reported_so : {E : Type 0} (i : Declared) (service : Answering) (script : Script) (with_trace : Bool) (ended : Ended) (r : Result (Ended × List ℕ) E) → AscendsAbove 0 script.stops → IsPlayedOn i service script ended
-    → IfOk r (λ p. p.0 ≡ ended) → IfOk r (λ p. p.1 ≡ report_of i.facts ended with_trace) → IfOk r (λ p. IsRunOf i service script with_trace p.0 p.1)
-reported_so i service script with_trace ended (Ok p) ascend on same report =
-    subst (λ e. IsRunOf i service script with_trace e p.1) (sym same) (run_so i service on.0 script script.stops with_trace ended p.1 on.1 refl ascend on.2 report)
-reported_so i service script with_trace ended (Err e) ascend on same report = tt
+-- a play in one thread is a run that follows the play without stops
+pub in_order : {E : Type 0} (i : Declared) (service : Answering) (script : Script) (r : Result Ended E) → AscendsAbove 0 script.stops → IfOk r (IsPlayedOn i service script)
+    → IfOk r (IsPlayInOrder i service script)
+in_order i service script (Ok ended) ascend on = (run_so i service on.0 script script.stops ended on.1 refl ascend on.2, on.2.schedule)
+in_order i service script (Err e) ascend on = tt
 
--- a run of an input that is ready
+-- a run of an input that is ready, with its report
 pub run_ready : (bytes : List ℕ) (i : Declared) (script : Script) (with_trace : Bool) (ended : Ended) (written : List ℕ) → IsReady services bytes i script → IsOneOfFive i.facts
-    → IsRunOf i (answering (kind_by i.facts)) script with_trace ended written → IsRunOfInput bytes with_trace ended written
-run_ready bytes i script with_trace ended written ready one run = record {
+    → IsPlayInOrder i (answering (kind_by i.facts)) script ended → written ≡ report_of i.facts ended with_trace → IsRunOfInput bytes with_trace ended written
+run_ready bytes i script with_trace ended written ready one run is = record {
   i = i;
   script = script;
   ready = ready;
   service = answering (kind_by i.facts);
   is_served = is_served (kind_by i.facts);
   its = kind_is i.facts one;
-  run = run;
+  run = run.0;
+  schedule = run.1;
+  output = is;
 }

@@ -13,41 +13,50 @@ use Rattle.sg_diagnose.specs.Verdicts.{IsCompiled, IsVerdict}
 use Rattle.sg_input.specs.declared.input.Input.TheVariants.{Refused as refused_input}
 use Rattle.sg_input.specs.Inputs.{IsInputOf, most_input, most_interface}
 use Rattle.sg_input.specs.Lines.{too_long_line}
+use Rattle.sg_lex.specs.Table.{IsNumber}
+use Rattle.sg_load.specs.Standard.{facts_by}
 use Rattle.sg_plain.specs.Promises.{somebody_waits}
-use Rattle.sg_top.specs.Headline.{IsRunOfInput, played_services}
+use Rattle.sg_script.specs.Numbers.{greatest_number, value_of_digits}
+use Rattle.sg_top.specs.Headline.{IsLoad, IsRunOfInput, played_services}
 use Rattle.sg_top.specs.declared.command.Command.{Command}
-use Rattle.sg_top.specs.declared.command.Command.TheVariants.{Sim, SimTrace, Check, Compile}
+use Rattle.sg_top.specs.declared.command.Command.TheVariants.{Sim, SimTrace, Check, Compile, Load}
 use Rattle.sg_top.specs.declared.status.Status.{Status}
 use Rattle.sg_top.specs.declared.status.Status.TheVariants.{Done, Waits, OtherWords, Refused, ReadFault, WriteFault, NoMemory}
 
 -- ---- words
 
--- the words are one word, and the word is this text
-abbrev pub IsOneWord : List ℕ → List (String Global) → Type 0
-IsOneWord text [] = ⊥
-IsOneWord text (word ∷ []) = string_bytes word ≡ text
-IsOneWord text (word ∷ other ∷ words) = ⊥
+-- digits, at least one, stand for a number of 64 bits
+abbrev pub AreDigitsOf : ℕ → List ℕ → Type 0
+AreDigitsOf number digits = IsNumber digits × (value_of_digits digits ≡ number) × (number ≤ greatest_number)
 
--- the words are two, and these texts
-abbrev pub AreTwoWords : List ℕ → List ℕ → List (String Global) → Type 0
-AreTwoWords one two [] = ⊥
-AreTwoWords one two (word ∷ []) = ⊥
-AreTwoWords one two (word ∷ other ∷ []) = (string_bytes word ≡ one) × (string_bytes other ≡ two)
-AreTwoWords one two (word ∷ other ∷ more ∷ words) = ⊥
+-- words are these texts, one by one
+abbrev pub AreWords : List (List ℕ) → List (String Global) → Type 0
+AreWords texts words = map string_bytes words ≡ texts
 
 -- the words say a command
 abbrev pub IsCommand : List (String Global) → Command → Type 0
-IsCommand words Sim = IsOneWord (codes "sim") words
-IsCommand words SimTrace = AreTwoWords (codes "sim") (codes "trace") words
-IsCommand words Check = IsOneWord (codes "check") words
-IsCommand words Compile = IsOneWord (codes "compile") words
+IsCommand words Sim = AreWords (codes "sim" ∷ []) words
+IsCommand words SimTrace = AreWords (codes "sim" ∷ codes "trace" ∷ []) words
+IsCommand words Check = AreWords (codes "check" ∷ []) words
+IsCommand words Compile = AreWords (codes "compile" ∷ []) words
+IsCommand words (Load service number) =
+    (digits : List ℕ) × AreDigitsOf number digits × AreWords (codes "load" ∷ (facts_by service).name ∷ digits ∷ []) words
 
--- whether a command plays its input
+-- whether a command is a play
 abbrev pub is_play : Command → Bool
 is_play Sim = true
 is_play SimTrace = true
 is_play Check = false
 is_play Compile = false
+is_play (Load service number) = true
+
+-- whether a command has an input
+abbrev pub has_input : Command → Bool
+has_input Sim = true
+has_input SimTrace = true
+has_input Check = true
+has_input Compile = true
+has_input (Load service number) = false
 
 -- ---- limits
 
@@ -57,6 +66,7 @@ most_bytes Sim = most_input
 most_bytes SimTrace = most_input
 most_bytes Check = most_interface
 most_bytes Compile = most_interface
+most_bytes (Load service number) = 0
 
 -- ---- outputs
 
@@ -90,6 +100,12 @@ IsOutput Sim bytes ended status output = IsPlayOutput bytes false ended status o
 IsOutput SimTrace bytes ended status output = IsPlayOutput bytes true ended status output
 IsOutput Check bytes ended status output = (ended ≡ None) × IsChecked bytes status output
 IsOutput Compile bytes ended status output = (ended ≡ None) × IsTabled bytes status output
+IsOutput (Load service number) bytes ended status output = ⊥
+
+-- the output of a command without an input, its status and its run
+abbrev pub IsOwnOutput : Command → Option Ended → Status → List ℕ → Type 0
+IsOwnOutput (Load service number) (Some ended) status output = (status ≡ ended_status ended.ends) × IsLoad service number ended output
+IsOwnOutput command ended status output = ⊥
 
 -- the line with which a command refuses bytes that aren't too many
 abbrev pub IsRefusedAs : Command → List ℕ → List ℕ → Type 0
@@ -97,12 +113,13 @@ IsRefusedAs Sim bytes output = IsInputOf services bytes (refused_input output)
 IsRefusedAs SimTrace bytes output = IsInputOf services bytes (refused_input output)
 IsRefusedAs Check bytes output = IsVerdict services bytes (refused output)
 IsRefusedAs Compile bytes output = IsVerdict services bytes (refused output)
+IsRefusedAs (Load service number) bytes output = ⊥
 
 -- the output of a command that refuses these bytes: as an input, or as more bytes than an input may have
 abbrev pub IsRefusal : Command → List ℕ → List ℕ → Type 0
 IsRefusal command bytes output =
     ((length bytes ≤ most_bytes command) × IsRefusedAs command bytes output)
-    ⊎ ((most_bytes command < length bytes) × (output ≡ too_long_line))
+    ⊎ ((has_input command ≡ true) × (most_bytes command < length bytes) × (output ≡ too_long_line))
 
 -- a status for bytes that a command may refuse: where it refuses them the status says so, or that there was a fault or no memory
 abbrev pub SaysRefused : Command → Status → List ℕ → Type 0
@@ -117,16 +134,17 @@ pub record Ends : Type 0 where
   pub told : Option (List ℕ)
   pub faults : ℕ
 
--- an input was read to its end, and an output for it is to be written with this status; or one byte more than an input may
--- have was read, and the input is refused
-pub record HasRead (command : Command) (before after : Ends) (ended : Option Ended) (status : Status) (output : List ℕ) : Type 0 where
-  pub read : ((bytes : List ℕ) × (length bytes ≤ most_bytes command) × Consumes before.told after.told bytes × IsAtEnd after.told × IsOutput command bytes ended status output)
-      ⊎ ((bytes : List ℕ) × (length bytes ≡ most_bytes command + 1) × Consumes before.told after.told bytes × (ended ≡ None) × (status ≡ Refused) × (output ≡ too_long_line))
-
 -- a source or sink is as it was
 pub record IsUntouched (before after : Ends) : Type 0 where
   pub told : after.told ≡ before.told
   pub faults : after.faults ≡ before.faults
+
+-- an input was read to its end, and an output for it is to be written with this status; or one byte more than an input may
+-- have was read, and the input is refused; or the command has no input, nothing was read, and its output is to be written
+pub record HasRead (command : Command) (before after : Ends) (ended : Option Ended) (status : Status) (output : List ℕ) : Type 0 where
+  pub read : ((bytes : List ℕ) × (length bytes ≤ most_bytes command) × Consumes before.told after.told bytes × IsAtEnd after.told × IsOutput command bytes ended status output)
+      ⊎ ((bytes : List ℕ) × (has_input command ≡ true) × (length bytes ≡ most_bytes command + 1) × Consumes before.told after.told bytes × (ended ≡ None) × (status ≡ Refused) × (output ≡ too_long_line))
+      ⊎ (IsUntouched before after × IsOwnOutput command ended status output)
 
 -- what an answer says, by its status, where the words say this command
 pub record IsAnswer (said : Command → Type 0) (source source' sink sink' : Ends) (status : Status) (ended : Option Ended) : Type 0 where
@@ -146,6 +164,8 @@ pub record IsAnswer (said : Command → Type 0) (source source' sink sink' : End
   -- a read fault: a read failed, and nothing is written; no other status is answered where the source's count of faults rose
   pub read_fault : status ≡ ReadFault → (ended ≡ None) × Rose source.faults source'.faults × IsUntouched sink sink'
   pub only_read_fault : source.faults < source'.faults → status ≡ ReadFault
+  -- a command without an input reads nothing, and so no read of it fails
+  pub no_read : (command : Command) → said command → has_input command ≡ false → IsUntouched source source' × (status ≡ ReadFault → ⊥)
   -- a write fault: a write failed, and what is written is a proper prefix of the output; no other status is answered where the
   -- sink's count of faults rose
   pub write_fault : status ≡ WriteFault → Rose sink.faults sink'.faults
@@ -161,8 +181,8 @@ pub record IsAnswer (said : Command → Type 0) (source source' sink sink' : End
   pub reads : source.faults ≤ source'.faults
   pub writes : sink.faults ≤ sink'.faults
 
--- at most one byte more was read than an input of the command may have, and nothing for other words
+-- at most one byte more was read than an input of the command may have, and nothing for other words and for a command without an input
 abbrev pub ReadsInput : (Command → Type 0) → Option (List ℕ) → Option (List ℕ) → Type 0
 ReadsInput said told told' =
-    ((command : Command) × said command × ConsumesAtMost (most_bytes command + 1) told told')
-    ⊎ (((command : Command) → said command → ⊥) × (told' ≡ told))
+    ((command : Command) × said command × (has_input command ≡ true) × ConsumesAtMost (most_bytes command + 1) told told')
+    ⊎ (((command : Command) → said command → has_input command ≡ false) × (told' ≡ told))

@@ -12,6 +12,10 @@ use Rattle.sg_facts.specs.declared.tables.WalkLine.{WalkLine}
 use Rattle.sg_hist.specs.Recovered.{HasRecovered}
 use Rattle.sg_hist.specs.declared.ended.Ended.{Ended}
 use Rattle.sg_input.specs.Inputs.{IsReady}
+use Rattle.sg_load.specs.Generated.{generated}
+use Rattle.sg_load.specs.Standard.{facts_by, standard_interface}
+use Rattle.sg_load.specs.declared.kind.ServiceKind.{ServiceKind}
+use Rattle.sg_load.specs.declared.kind.ServiceKind.TheVariants.{Locks, Events, Pages, Files, Threads}
 use Rattle.sg_lock.specs.LockFacts.{lock_facts}
 use Rattle.sg_lock.specs.LockTable.{lock_parts, lock_table}
 use Rattle.sg_mm.specs.MmFacts.{mm_facts}
@@ -20,7 +24,7 @@ use Rattle.sg_plain.specs.Calls.{AreEnds}
 use Rattle.sg_plain.specs.Promises.{AreScriptsCalls, AreScriptsStops, AreWoken}
 use Rattle.sg_ramfs.specs.RamfsFacts.{ramfs_facts}
 use Rattle.sg_ramfs.specs.RamfsTable.{ramfs_parts, ramfs_table}
-use Rattle.sg_report.specs.Report.{report_of}
+use Rattle.sg_report.specs.Report.{load_line_of, report_of}
 use Rattle.sg_sched.specs.SchedFacts.{sched_facts}
 use Rattle.sg_sched.specs.SchedTable.{sched_parts, sched_table}
 use Rattle.sg_script.specs.declared.script.Script.{Script}
@@ -34,20 +38,22 @@ pub record Answering : Type 0 where
   pub ask : Table
   pub parts : ℕ → ℕ
 
+-- the service of a kind
+abbrev pub answering : ServiceKind → Answering
+answering Locks = record { facts = lock_facts; ask = lock_table; parts = lock_parts }
+answering Events = record { facts = event_facts; ask = event_table; parts = event_parts }
+answering Pages = record { facts = mm_facts; ask = mm_table; parts = mm_parts }
+answering Files = record { facts = ramfs_facts; ask = ramfs_table; parts = ramfs_parts }
+answering Threads = record { facts = sched_facts; ask = sched_table; parts = sched_parts }
+
 -- the services that are played
 abbrev pub played_services : List Answering
-played_services =
-    record { facts = lock_facts; ask = lock_table; parts = lock_parts }
-    ∷ record { facts = event_facts; ask = event_table; parts = event_parts }
-    ∷ record { facts = mm_facts; ask = mm_table; parts = mm_parts }
-    ∷ record { facts = ramfs_facts; ask = ramfs_table; parts = ramfs_parts }
-    ∷ record { facts = sched_facts; ask = sched_table; parts = sched_parts }
-    ∷ []
+played_services = map answering (Locks ∷ Events ∷ Pages ∷ Files ∷ Threads ∷ [])
 
 -- ---- the headline
 
--- a play of a script on a service, under an interface of it, came to this end, and this is its output
-pub record IsRunOf (i : Declared) (service : Answering) (script : Script) (with_trace : Bool) (ended : Ended) (written : List ℕ) : Type 0 where
+-- a play of a script on a service, under an interface of it, came to this end, with its clients' turns in any order
+pub record IsRunOf (i : Declared) (service : Answering) (script : Script) (ended : Ended) : Type 0 where
   -- the replies stand in a history that the service could give with no fault at all
   pub legal : IsLegal i service.ask ended.history.items
   -- the history's entries are the script's calls, each once and in its client's order, and those of the setup come first
@@ -59,12 +65,8 @@ pub record IsRunOf (i : Declared) (service : Answering) (script : Script) (with_
   pub stops : AreScriptsStops script (run_of ended.trace)
   -- each client with a call is done, or waits in its next call, which the service can't answer
   pub ends : AreEnds i service.ask ended.history.items script ended.ends
-  -- the turns are those of the play without stops until the service stops
-  pub schedule : FollowsSchedule i service.ask script (run_of ended.trace) ended.history.items
   -- who waits is woken before it waits again
   pub woken : AreWoken i.facts ended.history.items (run_of ended.trace)
-  -- the bytes written are the report of the play
-  pub output : written ≡ report_of i.facts ended with_trace
 
 -- ---- inputs
 
@@ -76,4 +78,16 @@ pub record IsRunOfInput (bytes : List ℕ) (with_trace : Bool) (ended : Ended) (
   pub service : Answering
   pub is_served : Contains played_services service
   pub its : service.facts ≡ i.facts
-  pub run : IsRunOf i service script with_trace ended written
+  pub run : IsRunOf i service script ended
+  -- the turns are those of the play without stops until the service stops
+  pub schedule : FollowsSchedule i service.ask script (run_of ended.trace) ended.history.items
+  -- the bytes written are the report of the play
+  pub output : written ≡ report_of i.facts ended with_trace
+
+-- this is a run of the script that is generated from a number for a service, under its standard interface, with its output
+pub record IsLoad (kind : ServiceKind) (number : ℕ) (ended : Ended) (written : List ℕ) : Type 0 where
+  pub run : IsRunOf (standard_interface (facts_by kind)) (answering kind) (generated kind number) ended
+  -- the turns are those of the play without stops until the service stops
+  pub schedule : FollowsSchedule (standard_interface (facts_by kind)) (answering kind).ask (generated kind number) (run_of ended.trace) ended.history.items
+  -- the bytes written are the line of the load
+  pub output : written ≡ load_line_of (facts_by kind).name number ended

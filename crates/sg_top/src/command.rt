@@ -1,5 +1,10 @@
 // What the words after the program's name ask for.
+ghost use Rattle.std.specs.Prelude.{ℕ, ◌≡◌, MatchOption};
+ghost use Rattle.sg_top.specs.Answer.{AreDigitsOf};
+
+use crate::services::kind_named;
 use sg_input::{MOST_INPUT, MOST_INTERFACE};
+use sg_load::ServiceKind;
 
 /// A command of the program.
 #[derive(Clone, Copy, Debug, PartialEq, Eq)]
@@ -12,14 +17,16 @@ pub enum Command {
     Check,
     /// `compile`: prints the tables of the text of an interface that is accepted.
     Compile,
+    /// `load SERVICE NUMBER`: plays the script that is generated for a service from a number, and prints one line. It has no input.
+    Load { service: ServiceKind, number: u64 },
 }
 
 impl Command {
-    ghost use Rattle.std.specs.Prelude.{◌≡◌, codes, MatchOption};
+    ghost use Rattle.std.specs.Prelude.{◌≡◌, true, codes, MatchOption};
     ghost use Rattle.sg_top.specs.declared.command.Command.{Command as Asked};
     ghost use Rattle.sg_top.specs.declared.command.Command.TheVariants.{SimTrace as TracedPlay};
     ghost use Rattle.sg_top.specs.Answer.{IsCommand, most_bytes};
-    ghost use Rattle.sg_top.specs.Inside.Words.{IsWordOf};
+    ghost use Rattle.sg_top.specs.Inside.Words.{IsLoadOf, IsWordOf};
 
     /// The command of these words; None where they are no command's.
     pub fn of_words(words: &[String]) -> Option<Command>
@@ -28,6 +35,9 @@ impl Command {
         match words {
             [word] => Command::of_word(word.as_str()),
             [word, more] => Command::of_two_words(word.as_str(), more.as_str()),
+            [word, name, digits] => {
+                Command::of_three_words(word.as_str(), name.as_str(), digits.as_str())
+            }
             _ => None,
         }
     }
@@ -55,6 +65,18 @@ impl Command {
         }
     }
 
+    // The command of three words; None where they are no command's.
+    fn of_three_words(word: &str, name: &str, digits: &str) -> Option<Command>
+        ensures { MatchOption result ((command : Asked) → IsLoadOf word.now name.now digits.now command → ⊥) (IsLoadOf word.now name.now digits.now) }
+    {
+        if word != "load" {
+            return None;
+        }
+        let service = kind_named(name.as_bytes())?;
+        let number = number_of(digits)?;
+        Some(Command::Load { service, number })
+    }
+
     /// The greatest number of bytes of the command's input.
     pub fn most_bytes(self) -> usize
         ensures { result ≡ most_bytes self }
@@ -62,6 +84,17 @@ impl Command {
         match self {
             Command::Sim | Command::SimTrace => MOST_INPUT,
             Command::Check | Command::Compile => MOST_INTERFACE,
+            Command::Load { .. } => 0,
         }
     }
+}
+
+// The number of 64 bits that digits stand for; None where a word is no digits, or its number is greater.
+fn number_of(word: &str) -> Option<u64>
+    ensures { MatchOption result ((number : ℕ) → AreDigitsOf number word.now → ⊥) (λ number. AreDigitsOf number word.now) }
+{
+    if !word.bytes().all(|byte| byte.is_ascii_digit()) {
+        return None;
+    }
+    word.parse::<u64>().ok()
 }

@@ -1,12 +1,12 @@
 //! The program as a call: reads an interface and a script, plays it, and writes every reply; or says whether an interface is
-//! accepted, or prints its tables.
+//! accepted, or prints its tables; or plays a generated script.
 //!
 //! - `top`: what the words, the source and the sink come to (`superglue`, `serial`, `Answer`)
 //! - `status`: how a call ends, and the number of that (`Status`)
 //! - `command`: what the words ask for (`Command`)
 //! - `output`: what a command makes of its input
 //! - `runs`: the runs of scripts
-//! - `services`: the services whose interfaces may be accepted
+//! - `services`: the services whose interfaces may be accepted, and their names
 //!
 //! `specs/Headline.antt` says what a play promises, and `specs/Answer.antt` what an answer promises, status by status.
 #![tactic(auto)]
@@ -19,6 +19,7 @@ mod status;
 mod top;
 
 pub use command::Command;
+pub use sg_load::ServiceKind;
 pub use sg_sim::Played;
 pub use status::Status;
 pub use top::{Answer, serial, superglue};

@@ -1,15 +1,20 @@
 // What a command makes of its input.
-ghost use Rattle.std.specs.Prelude.{◌≡◌, ℕ, List, true, false, IfOk, None};
+ghost use Rattle.std.specs.Prelude.{◌≡◌, ℕ, List, true, false, IfOk, None, Some};
 ghost use Rattle.sg_edge.specs.Stops.{AscendsAbove};
 ghost use Rattle.sg_input.specs.Inputs.{IsReady};
 ghost use Rattle.sg_play_laws.specs.Playable.{IsPlayable};
 ghost use Rattle.sg_plain.specs.Promises.{is_blocked, somebody_waits};
-ghost use Rattle.sg_top.specs.Answer.{IsChecked, IsOutput, IsPlayOutput, IsTabled, ended_status, services};
+ghost use Rattle.sg_load.specs.Generated.{generated};
+ghost use Rattle.sg_load.specs.Standard.{facts_by, standard_interface};
+ghost use Rattle.sg_top.specs.Answer.{IsChecked, IsOutput, IsOwnOutput, IsPlayOutput, IsTabled, ended_status, has_input, services};
+ghost use Rattle.sg_top.specs.Headline.{answering};
+ghost use Rattle.sg_top.specs.Inside.Runs.{IsPlayInOrder};
+ghost use Rattle.sg_top.specs.declared.command.Command.TheVariants.{Load as load};
 ghost use Rattle.sg_top.specs.Inside.Delivery.{IsSaid};
 ghost use Rattle.sg_top.specs.Inside.Kinds.{IsOneOfFive};
 
 use crate::command::Command;
-use crate::runs::played_of;
+use crate::runs::{played_as, played_of};
 use crate::services::shapes;
 use crate::status::Status;
 use sg_base::{Bytes, NoMemory};
@@ -17,11 +22,13 @@ use sg_check::Accepted;
 use sg_diagnose::{Verdict, compiled, verdict};
 use sg_hist::End;
 use sg_input::{Input, read_input};
+use sg_load::{ServiceKind, generate, standard};
+use sg_report::{load_line, text};
 use sg_script::Script;
 use sg_sim::Played;
 use std::alloc::Global;
 
-/// What a command makes of an input: the bytes to be written, the status where they are written whole, and the run of a play
+/// What a command makes: the bytes to be written, the status where they are written whole, and the run of a play
 /// that came to its end.
 #[derive(Debug, Drop)]
 pub struct Output {
@@ -30,8 +37,9 @@ pub struct Output {
     pub ended: Option<Played>,
 }
 
-/// What a command makes of an input.
+/// What a command with an input makes of it.
 pub fn output_of(alloc: Global, command: Command, bytes: &[u8]) -> Result<Output, NoMemory>
+    requires { has_input command ≡ true }
     ensures { IfOk result (λ o. IsOutput command bytes.now o.ended o.status o.text) }
 {
     match command {
@@ -39,6 +47,7 @@ pub fn output_of(alloc: Global, command: Command, bytes: &[u8]) -> Result<Output
         Command::SimTrace => simulated(alloc, bytes, true),
         Command::Check => checked(alloc, bytes),
         Command::Compile => tabled(alloc, bytes),
+        Command::Load { .. } => unreachable!(),
     }
 }
 
@@ -102,12 +111,40 @@ fn run_of(
     requires stops { AscendsAbove 0 script.stops }
     ensures { IfOk result (λ o. (bytes : List ℕ) → IsReady services bytes accepted.now script → IsPlayOutput bytes with_trace o.ended o.status o.text) }
 {
-    let (played, text) = played_of(alloc, accepted, script, with_trace)?;
-    Ok(Output {
+    let played = played_of(alloc, accepted, script)?;
+    let text = text(alloc, accepted.interface(), played.ended(), with_trace)?;
+    Ok(output_of_run(played, text))
+}
+
+/// The run of the script that is generated for a service from a number, with its line.
+pub fn loaded(alloc: Global, service: ServiceKind, number: u64) -> Result<Output, NoMemory>
+    ensures { IfOk result (λ o. IsOwnOutput (load service number) o.ended o.status o.text) }
+{
+    let played = load_of(alloc, service, number)?;
+    let line = load_line(alloc, &service.shape(), number, played.ended())?;
+    Ok(output_of_run(played, line))
+}
+
+// The run of the script that is generated for a service from a number.
+fn load_of(alloc: Global, service: ServiceKind, number: u64) -> Result<Played, NoMemory>
+    ensures { IfOk result (IsPlayInOrder (standard_interface (facts_by service)) (answering service) (generated service number)) }
+{
+    let accepted = standard(alloc, service)?;
+    let script = generate(alloc, service, number)?;
+    played_as(alloc, service, &accepted, script)
+}
+
+// The output of a run: this text, and the status of its ends.
+fn output_of_run(played: Played, text: Bytes) -> Output
+    ensures text { result.text ≡ text }
+    ensures status { result.status ≡ ended_status played.ends }
+    ensures ended { result.ended ≡ Some played }
+{
+    Output {
         text,
         status: status_of(played.ended().ends.as_slice()),
         ended: Some(played),
-    })
+    }
 }
 
 // The status of a play that came to its end.

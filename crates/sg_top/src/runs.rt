@@ -1,23 +1,23 @@
 // The runs of scripts.
-ghost use Rattle.std.specs.Prelude.{◌≡◌, [], true, if◌then◌else◌, IfOk};
+ghost use Rattle.std.specs.Prelude.{◌≡◌, [], true, IfOk};
 ghost use Rattle.sg_edge.specs.Stops.{AscendsAbove, struck_of};
+ghost use Rattle.sg_load.specs.Standard.{facts_by};
 ghost use Rattle.sg_play_laws.specs.Playable.{IsPlayable};
-ghost use Rattle.sg_top.specs.Headline.{IsRunOf};
-ghost use Rattle.sg_report.specs.Report.{report_of};
-ghost use Rattle.sg_top.specs.Inside.Runs.{IsPlayedOn};
-ghost use Rattle.sg_top.specs.Inside.Kinds.{IsOneOfFive, answering, kind_by};
+ghost use Rattle.sg_top.specs.Headline.{answering};
+ghost use Rattle.sg_top.specs.Inside.Runs.{IsPlayedOn, IsPlayInOrder};
+ghost use Rattle.sg_top.specs.Inside.Kinds.{IsOneOfFive, kind_by};
 ghost use Rattle.sg_wake_laws.specs.Waking.{no_query_waits};
 
-use crate::services::{ServiceKind, kind_of};
-use sg_base::{Bytes, NoMemory, TryCopy};
+use crate::services::kind_of;
+use sg_base::{NoMemory, TryCopy};
 use sg_check::Accepted;
 use sg_edge::AtPoints;
 use sg_event::EventService;
 use sg_facts::Service;
+use sg_load::ServiceKind;
 use sg_lock::LockService;
 use sg_mm::MmService;
 use sg_ramfs::RamfsService;
-use sg_report::text;
 use sg_sched::SchedService;
 use sg_script::Script;
 use sg_serial::play;
@@ -25,43 +25,52 @@ use sg_sim::Played;
 use sg_stub::compile;
 use std::alloc::Global;
 
-/// The run of a script under an accepted interface, with its report.
-pub fn played_of(
-    alloc: Global,
-    accepted: &Accepted,
-    script: Script,
-    with_trace: bool,
-) -> Result<(Played, Bytes), NoMemory>
+/// The run of a script under an accepted interface.
+pub fn played_of(alloc: Global, accepted: &Accepted, script: Script) -> Result<Played, NoMemory>
     requires service { IsOneOfFive accepted.now.facts }
     requires playable { IsPlayable accepted.now script }
     requires stops { AscendsAbove 0 script.stops }
-    ensures { IfOk result (λ p. IsRunOf accepted.now (answering (kind_by accepted.now.facts)) script with_trace p.0 p.1) }
+    ensures { IfOk result (IsPlayInOrder accepted.now (answering (kind_by accepted.now.facts)) script) }
 {
-    match kind_of(accepted.interface()) {
-        ServiceKind::Locks => play_on::<LockService>(alloc, accepted, script, with_trace),
-        ServiceKind::Events => play_on::<EventService>(alloc, accepted, script, with_trace),
-        ServiceKind::Pages => play_on::<MmService>(alloc, accepted, script, with_trace),
-        ServiceKind::Files => play_on::<RamfsService>(alloc, accepted, script, with_trace),
-        ServiceKind::Threads => play_on::<SchedService>(alloc, accepted, script, with_trace),
+    let kind = kind_of(accepted.interface());
+    played_as(alloc, kind, accepted, script)
+}
+
+/// The run of a script under an accepted interface of a service.
+pub fn played_as(
+    alloc: Global,
+    kind: ServiceKind,
+    accepted: &Accepted,
+    script: Script,
+) -> Result<Played, NoMemory>
+    requires service { accepted.now.facts ≡ facts_by kind }
+    requires playable { IsPlayable accepted.now script }
+    requires stops { AscendsAbove 0 script.stops }
+    ensures { IfOk result (IsPlayInOrder accepted.now (answering kind) script) }
+{
+    match kind {
+        ServiceKind::Locks => play_on::<LockService>(alloc, accepted, script),
+        ServiceKind::Events => play_on::<EventService>(alloc, accepted, script),
+        ServiceKind::Pages => play_on::<MmService>(alloc, accepted, script),
+        ServiceKind::Files => play_on::<RamfsService>(alloc, accepted, script),
+        ServiceKind::Threads => play_on::<SchedService>(alloc, accepted, script),
     }
 }
 
-// The run of a script on a service, with its report.
+// The run of a script on a service.
 fn play_on<S: Service>(
     alloc: Global,
     accepted: &Accepted,
     script: Script,
-    with_trace: bool,
-) -> Result<(Played, Bytes), NoMemory>
+) -> Result<Played, NoMemory>
     requires service { accepted.now.facts ≡ S.facts }
     requires waits { no_query_waits S.facts ≡ true }
     requires playable { IsPlayable accepted.now script }
     requires stops { AscendsAbove 0 script.stops }
-    ensures { IfOk result (λ p. IsRunOf accepted.now (record { facts = S.facts; ask = S.ask; parts = S.parts }) script with_trace p.0 p.1) }
+    ensures { IfOk result (IsPlayInOrder accepted.now (record { facts = S.facts; ask = S.ask; parts = S.parts }) script) }
 {
     let stops = stops_of(alloc, &script)?;
-    let played = play_with::<S>(alloc, accepted, script, stops)?;
-    reported(alloc, accepted, played, with_trace)
+    play_with::<S>(alloc, accepted, script, stops)
 }
 
 // The stops of a script.
@@ -91,18 +100,4 @@ fn play_with<S: Service>(
 {
     let tables = compile(alloc, accepted)?;
     play::<S, AtPoints>(alloc, tables, script, stops)
-}
-
-// A run with its report.
-fn reported(
-    alloc: Global,
-    accepted: &Accepted,
-    played: Played,
-    with_trace: bool,
-) -> Result<(Played, Bytes), NoMemory>
-    ensures played { IfOk result (λ p. p.0 ≡ played) }
-    ensures text { IfOk result (λ p. p.1 ≡ report_of accepted.now.facts played with_trace) }
-{
-    let text = text(alloc, accepted.interface(), played.ended(), with_trace)?;
-    Ok((played, text))
 }

@@ -1,5 +1,7 @@
 // The services whose interfaces may be accepted.
-ghost use Rattle.std.specs.Prelude.{◌≡◌, true, map};
+ghost use Rattle.std.specs.Prelude.{◌≡◌, true, map, MatchOption};
+ghost use Rattle.sg_load.specs.Standard.{facts_by};
+ghost use Rattle.sg_load.specs.declared.kind.ServiceKind.{ServiceKind as Kind};
 ghost use Rattle.sg_facts.specs.Facts.{facts_of};
 ghost use Rattle.sg_check.specs.Shapes.{are_shapes};
 ghost use Rattle.sg_top.specs.Answer.{services};
@@ -7,6 +9,7 @@ ghost use Rattle.sg_top.specs.Inside.Kinds.{kind_by};
 
 use sg_event::EventService;
 use sg_facts::{Interface, Service, Shape};
+use sg_load::ServiceKind;
 use sg_lock::LockService;
 use sg_mm::MmService;
 use sg_ramfs::RamfsService;
@@ -26,16 +29,6 @@ pub fn shapes() -> [Shape; 5]
     ]
 }
 
-/// Which of the services.
-#[derive(Clone, Copy, Debug, PartialEq, Eq)]
-pub enum ServiceKind {
-    Locks,
-    Events,
-    Pages,
-    Files,
-    Threads,
-}
-
 /// Which service an interface is of, by its name.
 pub fn kind_of(iface: &Interface) -> ServiceKind
     ensures { result ≡ kind_by iface.now.facts }
@@ -51,5 +44,24 @@ pub fn kind_of(iface: &Interface) -> ServiceKind
         ServiceKind::Files
     } else {
         ServiceKind::Threads
+    }
+}
+
+/// The service of a name; None where none has it.
+pub fn kind_named(name: &[u8]) -> Option<ServiceKind>
+    ensures { MatchOption result ((kind : Kind) → name.now ≡ (facts_by kind).name → ⊥) (λ kind. name.now ≡ (facts_by kind).name) }
+{
+    if name == LockService::shape().name {
+        Some(ServiceKind::Locks)
+    } else if name == EventService::shape().name {
+        Some(ServiceKind::Events)
+    } else if name == MmService::shape().name {
+        Some(ServiceKind::Pages)
+    } else if name == RamfsService::shape().name {
+        Some(ServiceKind::Files)
+    } else if name == SchedService::shape().name {
+        Some(ServiceKind::Threads)
+    } else {
+        None
     }
 }

@@ -6,10 +6,9 @@ use Rattle.sg_edge.specs.Edge.{Rose}
 use Rattle.sg_hist.specs.declared.ended.Ended.{Ended}
 use Rattle.sg_diagnose.specs.declared.outcome.Verdict.{Verdict}
 use Rattle.sg_diagnose.specs.declared.outcome.Verdict.TheVariants.{Accepted as accepted, Refused as refused}
-use Rattle.sg_top.specs.declared.command.Command.{Command}
 use Rattle.sg_top.specs.declared.status.Status.{Status}
 use Rattle.sg_top.specs.declared.status.Status.TheVariants.{Done, Refused, WriteFault, NoMemory}
-use Rattle.sg_top.specs.Answer.{Ends, IsOutput, IsUntouched}
+use Rattle.sg_top.specs.Answer.{Ends, IsUntouched}
 
 -- an output says this of a text, with the status that belongs to it
 abbrev pub IsSaid : Verdict → Status → List ℕ → Type 0
@@ -23,8 +22,8 @@ IsWritten sink sink' output wanted status =
     ((status ≡ wanted) × Appends sink.told sink'.told output × (sink'.faults ≡ sink.faults))
     ⊎ ((status ≡ WriteFault) × Rose sink.faults sink'.faults × ((written : ℕ) × (written < length output) × Appends sink.told sink'.told (take written output)))
 
--- the output of a command for an input was written, or there was no memory for it and nothing is written
-abbrev pub IsCarriedOut : Command → List ℕ → Ends → Ends → Status → Option Ended → Type 0
-IsCarriedOut command bytes sink sink' status ended =
-    ((output : List ℕ) × (wanted : Status) × IsOutput command bytes ended wanted output × IsWritten sink sink' output wanted status)
+-- an output that is one of these was written, or there was no memory for it and nothing is written
+abbrev pub IsDelivered : (Option Ended → Status → List ℕ → Type 0) → Ends → Ends → Status → Option Ended → Type 0
+IsDelivered IsOne sink sink' status ended =
+    ((output : List ℕ) × (wanted : Status) × IsOne ended wanted output × IsWritten sink sink' output wanted status)
     ⊎ ((status ≡ NoMemory) × (ended ≡ None) × IsUntouched sink sink')

@@ -2,27 +2,13 @@
 use Rattle.std.specs.Prelude.{◌≡◌, ◌⊎◌, if◌then◌else◌}
 use Rattle.std.specs.Str.{bytes_eq}
 use Rattle.sg_event.specs.EventFacts.{event_facts}
-use Rattle.sg_event.specs.EventTable.{event_parts, event_table}
 use Rattle.sg_facts.specs.Facts.{Facts}
 use Rattle.sg_lock.specs.LockFacts.{lock_facts}
-use Rattle.sg_lock.specs.LockTable.{lock_parts, lock_table}
 use Rattle.sg_mm.specs.MmFacts.{mm_facts}
-use Rattle.sg_mm.specs.MmTable.{mm_parts, mm_table}
 use Rattle.sg_ramfs.specs.RamfsFacts.{ramfs_facts}
-use Rattle.sg_ramfs.specs.RamfsTable.{ramfs_parts, ramfs_table}
 use Rattle.sg_sched.specs.SchedFacts.{sched_facts}
-use Rattle.sg_sched.specs.SchedTable.{sched_parts, sched_table}
-use Rattle.sg_top.specs.Headline.{Answering}
-use Rattle.sg_top.specs.declared.services.ServiceKind.{ServiceKind}
-use Rattle.sg_top.specs.declared.services.ServiceKind.TheVariants.{Locks, Events, Pages, Files, Threads}
-
--- the service of a kind
-abbrev pub answering : ServiceKind → Answering
-answering Locks = record { facts = lock_facts; ask = lock_table; parts = lock_parts }
-answering Events = record { facts = event_facts; ask = event_table; parts = event_parts }
-answering Pages = record { facts = mm_facts; ask = mm_table; parts = mm_parts }
-answering Files = record { facts = ramfs_facts; ask = ramfs_table; parts = ramfs_parts }
-answering Threads = record { facts = sched_facts; ask = sched_table; parts = sched_parts }
+use Rattle.sg_load.specs.declared.kind.ServiceKind.{ServiceKind}
+use Rattle.sg_load.specs.declared.kind.ServiceKind.TheVariants.{Locks, Events, Pages, Files, Threads}
 
 -- the kind of a service, by its name
 abbrev pub kind_by : Facts → ServiceKind

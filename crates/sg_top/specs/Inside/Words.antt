@@ -1,11 +1,18 @@
--- Commands of one word.
+-- Commands of one word, and of three.
 use Rattle.std.specs.Prelude.{ℕ, ◌≡◌, List, codes}
+use Rattle.sg_load.specs.Standard.{facts_by}
+use Rattle.sg_top.specs.Answer.{AreDigitsOf}
 use Rattle.sg_top.specs.declared.command.Command.{Command}
-use Rattle.sg_top.specs.declared.command.Command.TheVariants.{Sim, SimTrace, Check, Compile}
+use Rattle.sg_top.specs.declared.command.Command.TheVariants.{Sim, SimTrace, Check, Compile, Load}
 
 -- a word alone says a command
 abbrev pub IsWordOf : List ℕ → Command → Type 0
 IsWordOf word Sim = word ≡ codes "sim"
-IsWordOf word SimTrace = ⊥
 IsWordOf word Check = word ≡ codes "check"
 IsWordOf word Compile = word ≡ codes "compile"
+IsWordOf word _ = ⊥
+
+-- a word, a name and digits say a load
+abbrev pub IsLoadOf : List ℕ → List ℕ → List ℕ → Command → Type 0
+IsLoadOf word name digits (Load service number) = (word ≡ codes "load") × (name ≡ (facts_by service).name) × AreDigitsOf number digits
+IsLoadOf word name digits _ = ⊥
