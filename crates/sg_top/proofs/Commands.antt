@@ -11,7 +11,7 @@ use Rattle.sg_script.specs.Numbers.{value_of_digits}
 use Rattle.sg_top.specs.declared.command.Command.{Command}
 use Rattle.sg_top.specs.declared.command.Command.TheVariants.{Sim, SimTrace, Check, Compile, Load}
 use Rattle.sg_top.specs.Answer.{AreDigitsOf, AreWords, IsCommand}
-use Rattle.sg_top.specs.Inside.Words.{IsLoadOf, IsWordOf}
+use Rattle.sg_top.specs.Inside.Words.{IsLoadOf, IsPairOf, IsWordOf}
 
 -- ---- names
 
@@ -161,23 +161,30 @@ two_of (w ∷ []) word more second third is isn't = absurd (omega (arith, second
 two_of (w ∷ v ∷ []) word more second third is isn't = cc (is, isn't)
 two_of (w ∷ v ∷ u ∷ words) word more second third is isn't = absurd (omega (arith, third))
 
-words_of : (word more : String Global) (command : Command) → IsCommand (word ∷ more ∷ []) command → (string_bytes word ≡ codes "sim") × (string_bytes more ≡ codes "trace")
-words_of word more Sim is = absurd (omega (arith, ap length is))
-words_of word more SimTrace is = (ap (text_at 0) is, ap (text_at 1) is)
-words_of word more Check is = absurd (omega (arith, ap length is))
-words_of word more Compile is = absurd (omega (arith, ap length is))
-words_of word more (Load s n) is = absurd (omega (arith, ap length is.2))
+pair_of : (word more : String Global) (command : Command) → IsCommand (word ∷ more ∷ []) command → IsPairOf (string_bytes word) (string_bytes more) command
+pair_of word more Sim is = absurd (omega (arith, ap length is))
+pair_of word more SimTrace is = (ap (text_at 0) is, ap (text_at 1) is)
+pair_of word more Check is = absurd (omega (arith, ap length is))
+pair_of word more Compile is = absurd (omega (arith, ap length is))
+pair_of word more (Load s n) is = absurd (omega (arith, ap length is.2))
+
+of_pair : (word more : String Global) (command : Command) → IsPairOf (string_bytes word) (string_bytes more) command → IsCommand (word ∷ more ∷ []) command
+of_pair word more Sim is = absurd is
+of_pair word more SimTrace is = cc (is.0, is.1)
+of_pair word more Check is = absurd is
+of_pair word more Compile is = absurd is
+of_pair word more (Load s n) is = absurd is
 
 -- what two words say, of all words
 pub two_words_say : (words : List (String Global)) (word more : String Global) (one two : List ℕ) (o : Option Command) → words ≡ word ∷ more ∷ [] → one ≡ string_bytes word → two ≡ string_bytes more
-    → MatchOption o ((one ≡ codes "sim") × (two ≡ codes "trace") → ⊥) (λ command. (command ≡ SimTrace) × (one ≡ codes "sim") × (two ≡ codes "trace"))
+    → MatchOption o ((command : Command) → IsPairOf one two command → ⊥) (IsPairOf one two)
     → MatchOption o ((command : Command) → IsCommand words command → ⊥) (IsCommand words)
 two_words_say words word more one two None is a b none =
-    λ command says. let both = words_of word more command (subst (λ l. IsCommand l command) is says) in none (a ∙ both.0, b ∙ both.1)
+    λ command says. none command (subst (λ t. IsPairOf t two command) (sym a) (subst (λ t. IsPairOf (string_bytes word) t command) (sym b)
+        (pair_of word more command (subst (λ l. IsCommand l command) is says))))
 two_words_say words word more one two (Some command) is a b says =
-    subst (IsCommand words) (sym says.0) (subst (λ l. IsCommand l SimTrace) (sym is)
-    (let x : string_bytes word ≡ codes "sim" = sym a ∙ says.1 in
-    let y : string_bytes more ≡ codes "trace" = sym b ∙ says.2 in cc (x, y)))
+    subst (λ l. IsCommand l command) (sym is) (of_pair word more command
+        (subst (λ t. IsPairOf (string_bytes word) t command) b (subst (λ t. IsPairOf t two command) a says)))
 
 -- ---- three words
 

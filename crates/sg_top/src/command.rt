@@ -22,11 +22,10 @@ pub enum Command {
 }
 
 impl Command {
-    ghost use Rattle.std.specs.Prelude.{◌≡◌, true, codes, MatchOption};
+    ghost use Rattle.std.specs.Prelude.{◌≡◌, MatchOption};
     ghost use Rattle.sg_top.specs.declared.command.Command.{Command as Asked};
-    ghost use Rattle.sg_top.specs.declared.command.Command.TheVariants.{SimTrace as TracedPlay};
     ghost use Rattle.sg_top.specs.Answer.{IsCommand, most_bytes};
-    ghost use Rattle.sg_top.specs.Inside.Words.{IsLoadOf, IsWordOf};
+    ghost use Rattle.sg_top.specs.Inside.Words.{IsLoadOf, IsPairOf, IsWordOf};
 
     /// The command of these words; None where they are no command's.
     pub fn of_words(words: &[String]) -> Option<Command>
@@ -56,12 +55,14 @@ impl Command {
 
     // The command of two words; None where they are no command's.
     fn of_two_words(word: &str, more: &str) -> Option<Command>
-        ensures { MatchOption result ((word.now ≡ codes "sim") × (more.now ≡ codes "trace") → ⊥) (λ command. (command ≡ TracedPlay) × (word.now ≡ codes "sim") × (more.now ≡ codes "trace")) }
+        ensures { MatchOption result ((command : Asked) → IsPairOf word.now more.now command → ⊥) (IsPairOf word.now more.now) }
     {
-        if word == "sim" && more == "trace" {
-            Some(Command::SimTrace)
-        } else {
-            None
+        if more != "trace" {
+            return None;
+        }
+        match word {
+            "sim" => Some(Command::SimTrace),
+            _ => None,
         }
     }
 

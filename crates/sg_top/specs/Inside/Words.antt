@@ -1,4 +1,4 @@
--- Commands of one word, and of three.
+-- Commands of one word, of two, and of three.
 use Rattle.std.specs.Prelude.{ℕ, ◌≡◌, List, codes}
 use Rattle.sg_load.specs.Standard.{facts_by}
 use Rattle.sg_top.specs.Answer.{AreDigitsOf}
@@ -11,6 +11,11 @@ IsWordOf word Sim = word ≡ codes "sim"
 IsWordOf word Check = word ≡ codes "check"
 IsWordOf word Compile = word ≡ codes "compile"
 IsWordOf word _ = ⊥
+
+-- a word and a second one say a command
+abbrev pub IsPairOf : List ℕ → List ℕ → Command → Type 0
+IsPairOf word more SimTrace = (word ≡ codes "sim") × (more ≡ codes "trace")
+IsPairOf word more _ = ⊥
 
 -- a word, a name and digits say a load
 abbrev pub IsLoadOf : List ℕ → List ℕ → List ℕ → Command → Type 0
