@@ -1,0 +1,7 @@
+-- The calls so far.
+use Rattle.std.proofs.Common.{◌≡◌, []}
+use Rattle.sg_load.specs.Groups.{call, times}
+use Rattle.sg_load.proofs.groups.times.Given as goal
+
+abbrev pub invariant-each : goal.invariant-each
+invariant-each l = l.calls ≡ times l.done (call l.fun [])

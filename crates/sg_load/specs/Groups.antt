@@ -1,0 +1,82 @@
+-- The calls of the setup, and the groups of calls that clients make.
+use Rattle.std.specs.Prelude.{ℕ, zero, suc, ◌+◌, ◌*◌, ◌%◌, List, [], ◌∷◌, ◌++◌, codes}
+use Rattle.std.specs.Fmt.{decimal}
+use Rattle.sg_load.specs.declared.kind.ServiceKind.{ServiceKind}
+use Rattle.sg_load.specs.declared.kind.ServiceKind.TheVariants.{Locks, Events, Pages, Files, Threads}
+use Rattle.sg_load.specs.Functions.{evt_split, evt_trigger, evt_wait, lock_alloc, lock_release, lock_take, mman_alias_page, mman_find, mman_get_page, mman_release_page, sched_create_thd, sched_exit, sched_next, sched_sleep, sched_yield, tread, trelease, tseek, tsplit, twrite}
+use Rattle.sg_load.specs.Sizes.{alias_spaces, event_count, file_count, lock_count, page_bytes, page_count, priority_count, read_bytes, trigger_count}
+use Rattle.sg_script.specs.declared.script.Arg.{Arg}
+use Rattle.sg_script.specs.declared.script.Arg.TheVariants.{Number, Text, Back}
+use Rattle.sg_script.specs.declared.script.ScriptCall.{ScriptCall}
+
+-- a call of a function
+abbrev pub call : ℕ → List Arg → ScriptCall
+call fun args = record { fun = fun; args = args }
+
+-- ---- the setup
+
+-- a call, so many times
+unfoldable pub times : ℕ → ScriptCall → List ScriptCall
+times zero c = []
+times (suc count) c = c ∷ times count c
+
+-- the setup makes the locks or the events; the other services have none
+abbrev pub setup_of : ServiceKind → List ScriptCall
+setup_of Locks = times lock_count (call lock_alloc [])
+setup_of Events = times event_count (call evt_split [])
+setup_of _ = []
+
+-- ---- a group of each service
+
+-- it takes a lock, and releases it
+abbrev pub lock_group : ℕ → List ScriptCall
+lock_group lock = call lock_take (Number lock ∷ []) ∷ call lock_release (Number lock ∷ []) ∷ []
+
+-- it triggers an event, and waits for it
+abbrev pub event_group : ℕ → List ScriptCall
+event_group event = call evt_trigger (Number event ∷ Number trigger_count ∷ []) ∷ call evt_wait (Number event ∷ []) ∷ []
+
+-- it maps a page at an address, makes an alias of it in the client's space for that, finds its own page, and releases it;
+-- `first` is the number of the group's first call, which made the page
+abbrev pub page_group : ℕ → ℕ → ℕ → List ScriptCall
+page_group client first addr =
+    call mman_get_page (Number addr ∷ [])
+    ∷ call mman_alias_page (Back first ∷ Number (alias_spaces + client) ∷ Number addr ∷ [])
+    ∷ call mman_find (Number client ∷ Number addr ∷ []) ∷ call mman_release_page (Back first ∷ []) ∷ []
+
+-- the name of a file
+abbrev pub file_name : ℕ → List ℕ
+file_name file = codes "f" ++ decimal file
+
+-- what a client writes in the group of a number
+abbrev pub file_text : ℕ → ℕ → List ℕ
+file_text client group = decimal client ++ (codes ":" ++ decimal group)
+
+-- it opens a file, writes into it, goes back to its start, reads it, and closes it
+abbrev pub file_group : ℕ → ℕ → ℕ → ℕ → List ScriptCall
+file_group client first group file =
+    call tsplit (Number 0 ∷ Text (file_name file) ∷ []) ∷ call twrite (Back first ∷ Text (file_text client group) ∷ [])
+    ∷ call tseek (Back first ∷ Number 0 ∷ []) ∷ call tread (Back first ∷ Number read_bytes ∷ []) ∷ call trelease (Back first ∷ []) ∷ []
+
+-- it makes a thread of a priority, yields it, asks which is next, puts it to sleep, and ends it
+abbrev pub thread_group : ℕ → ℕ → List ScriptCall
+thread_group first priority =
+    call sched_create_thd (Number priority ∷ []) ∷ call sched_yield (Back first ∷ []) ∷ call sched_next []
+    ∷ call sched_sleep (Back first ∷ []) ∷ call sched_exit (Back first ∷ []) ∷ []
+
+-- a group of a service: its client, the number of its first call among the client's calls, its own number among the
+-- client's groups, both from 1, and the number that was drawn for it
+abbrev pub group_of : ServiceKind → ℕ → ℕ → ℕ → ℕ → List ScriptCall
+group_of Locks client first group u = lock_group (1 + u % lock_count)
+group_of Events client first group u = event_group (1 + u % event_count)
+group_of Pages client first group u = page_group client first (page_bytes * (u % page_count))
+group_of Files client first group u = file_group client first group (u % file_count)
+group_of Threads client first group u = thread_group first (u % priority_count)
+
+-- the number of its calls
+abbrev pub group_size : ServiceKind → ℕ
+group_size Locks = 2
+group_size Events = 2
+group_size Pages = 4
+group_size Files = 5
+group_size Threads = 5

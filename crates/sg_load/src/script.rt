@@ -1,0 +1,126 @@
+// The script that is generated for a service from a number.
+ghost use Rattle.std.specs.Prelude.{◌≡◌, ◌+◌, ◌<◌, ◌≤◌, OnOk, IfOk};
+ghost use Rattle.sg_edge.specs.Stops.{AscendsAbove};
+ghost use Rattle.sg_load.specs.Drawn.{after_draws, stops_from};
+ghost use Rattle.sg_load.specs.Generated.{calls_before, calls_of_client, clients_from, generated, groups_from, groups_of, setup_count};
+ghost use Rattle.sg_load.specs.Sizes.{client_count, stop_count};
+ghost use Rattle.sg_load.specs.Standard.{facts_by, standard_interface};
+ghost use Rattle.sg_play_laws.specs.Playable.{IsPlayable};
+
+use crate::ServiceKind;
+use crate::draws::Draws;
+use crate::groups::{Standing, add_group, group_size, setup};
+use crate::sizes::{CALLS_EACH, CLIENTS, EVENTS, LOCKS, MOST_DISTANCE, STOPS};
+use sg_base::{NoMemory, PointList};
+use sg_script::{CallList, ClientList, Script, TurnList};
+use std::alloc::Global;
+
+/// The script that is generated for a service from a number, on the service's standard interface: 20,000 calls of 8 clients,
+/// and 32 stops.
+pub fn generate(alloc: Global, service: ServiceKind, number: u64) -> Result<Script, NoMemory>
+    ensures script { IfOk result (λ script. script ≡ generated service number) }
+    ensures playable { IfOk result (IsPlayable (standard_interface (facts_by service))) }
+    ensures stops { IfOk result (λ script. AscendsAbove 0 script.stops) }
+{
+    let script = script_of(alloc, service, number)?;
+    Ok(script)
+}
+
+// The same script, before it is known to be played.
+fn script_of(alloc: Global, service: ServiceKind, number: u64) -> Result<Script, NoMemory>
+    ensures { IfOk result (λ script. script ≡ generated service number) }
+{
+    let mut draws = Draws::new(number);
+    let stops = stops(alloc, &mut draws)?;
+    Ok(Script {
+        setup: setup(alloc, service)?,
+        clients: clients(alloc, service, &mut draws)?,
+        schedule: TurnList::new(alloc),
+        stops,
+    })
+}
+
+// The stops.
+#[tactic(auto, using(crate::proofs::Steps::draws_none, crate::proofs::Steps::draws_more, crate::proofs::Steps::stops_none, crate::proofs::Steps::stops_more))]
+fn stops(alloc: Global, draws: &mut Draws) -> Result<PointList, NoMemory>
+    ensures stops { IfOk result (λ stops. stops ≡ stops_from draws.old 0 stop_count) }
+    ensures draws { OnOk result (draws.new ≡ after_draws draws.old stop_count) }
+{
+    let mut stops = PointList::new(alloc);
+    let mut stop = 0;
+    'each: for done in 0..STOPS {
+        stop += 1 + u64::from(draws.draw() % MOST_DISTANCE);
+        stops.push(stop)?;
+    }
+    Ok(stops)
+}
+
+// The clients with their calls.
+fn clients(
+    alloc: Global,
+    service: ServiceKind,
+    draws: &mut Draws,
+) -> Result<ClientList, NoMemory>
+    ensures { IfOk result (λ clients. clients ≡ clients_from service 1 draws.old client_count) }
+{
+    let mut clients = ClientList::new(alloc);
+    'each: for done in 0..CLIENTS {
+        let client = done + 1;
+        let calls = calls_of(alloc, service, client, draws)?;
+        clients.push((client, calls))?;
+    }
+    Ok(clients)
+}
+
+// The calls of a client but for the setup.
+#[tactic(auto, using(crate::proofs::Steps::draws_none, crate::proofs::Steps::draws_more, crate::proofs::Steps::groups_none, crate::proofs::Steps::groups_more))]
+fn calls_of(
+    alloc: Global,
+    service: ServiceKind,
+    client: u8,
+    draws: &mut Draws,
+) -> Result<CallList, NoMemory>
+    ensures calls { IfOk result (λ calls. calls ≡ calls_of_client service client draws.old) }
+    ensures draws { OnOk result (draws.new ≡ after_draws draws.old (groups_of service client)) }
+{
+    let mut calls = CallList::new(alloc);
+    let mut first = 1 + calls_before(service, client);
+    'each: for done in 0..groups_of(service, client) {
+        let at = Standing {
+            client,
+            first,
+            group: done + 1,
+        };
+        add_group(&mut calls, alloc, service, at, draws.draw())?;
+        first += group_size(service);
+    }
+    Ok(calls)
+}
+
+// How many calls a client has before its groups.
+fn calls_before(service: ServiceKind, client: u8) -> u32
+    ensures count { result ≡ calls_before service client }
+    ensures few { result ≤ 16 }
+{
+    if client == 1 { setup_count(service) } else { 0 }
+}
+
+// The number of the calls of the setup.
+fn setup_count(service: ServiceKind) -> u32
+    ensures count { result ≡ setup_count service }
+    ensures few { result ≤ 16 }
+{
+    match service {
+        ServiceKind::Locks => LOCKS,
+        ServiceKind::Events => EVENTS,
+        ServiceKind::Pages | ServiceKind::Files | ServiceKind::Threads => 0,
+    }
+}
+
+// How many groups a client makes.
+fn groups_of(service: ServiceKind, client: u8) -> u32
+    ensures count { result ≡ groups_of service client }
+    ensures few { result ≤ 1250 }
+{
+    (CALLS_EACH - calls_before(service, client)) / group_size(service)
+}
