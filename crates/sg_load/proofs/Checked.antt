@@ -1,17 +1,17 @@
 -- An interface that declares all of a shape fits, where a list of what its descriptors can come to passes a check.
-use Rattle.std.proofs.Common.{◌≡◌, ◌⊎◌, inl, inr, ℕ, zero, suc, ◌+◌, ◌-◌, ◌<◌, ◌≤◌, Bool, true, false, ◌&&◌, ◌||◌, List, [], ◌∷◌, length, refl, sym, ◌∙◌, ap, subst, arith}
+use Rattle.std.proofs.Common.{◌≡◌, ◌⊎◌, inl, inr, ℕ, zero, suc, ◌+◌, ◌-◌, ◌≤◌, Bool, true, false, ◌&&◌, ◌||◌, List, [], ◌∷◌, length, refl, ◌∙◌, ap, subst, arith}
 use Rattle.std.specs.Prelude.{◌==◌, ◌^◌, nat_le, not}
 use Rattle.std.specs.Int.{bit_at}
 use Rattle.std.specs.List.{list_all, list_any}
 use Rattle.std.proofs.lemmas.Bool.{and_parts, cases_lt}
 use Rattle.std.proofs.lemmas.Bool.Decides.{nat_tests}
-use Rattle.std.proofs.lemmas.Nat.Bits.{bit_at_ones, bit_at_ones_above}
+use Rattle.std.proofs.lemmas.Nat.Bits.{bit_at_ones_above}
 use Rattle.sg_facts.specs.declared.shape.Effect.{Effect}
 use Rattle.sg_facts.specs.Facts.{Facts, fun_at, state_after}
 use Rattle.sg_facts.specs.Fits.{Fits, IsReached, LeavesDeclared, needs_reach}
-use Rattle.sg_facts.specs.Interface.{Declared, declares, has_pair, moves_on, steps_on}
+use Rattle.sg_facts.specs.Interface.{declares, has_pair, moves_on}
 use Rattle.sg_facts.specs.Walks.{IsReachable, begin_of, made, may_lead, moved, most_calls, none_set, restores}
-use Rattle.sg_load.specs.Standard.{standard_interface}
+use Rattle.sg_facts.specs.Laws.{whole}
 
 -- ---- tests
 
@@ -175,32 +175,32 @@ module _ (facts : Facts) (lines : List Line) where
   -- whether a line's walk restores it, with a field for each of the shape's, and calls lead from it to lines alone
   abbrev pub is_good : Line → Bool
   is_good l =
-      (begin_of l.walk == l.by) && restores (standard_interface facts) l.walk l.state l.set && nat_le (length l.walk) most_calls
+      (begin_of l.walk == l.by) && restores (whole facts) l.walk l.state l.set && nat_le (length l.walk) most_calls
       && (length l.set == length facts.fields) && list_all (leads_to_lines l) facts.moves
 
   abbrev pub are_declared : ℕ × ℕ → Bool
-  are_declared p = declares (standard_interface facts) p.0 && declares (standard_interface facts) p.1
+  are_declared p = declares (whole facts) p.0 && declares (whole facts) p.1
 
   -- the lines pass the check, and so do the shape's transitions, recover steps and functions
   pub record IsChecked : Type 0 where
     pub moves : list_all are_declared facts.moves ≡ true
     pub steps : list_all are_declared facts.steps ≡ true
-    pub leaves : UpTo (λ f. LeavesDeclared (standard_interface facts) (fun_at facts.funs f).leaves) (length facts.funs)
-    pub creation : (declares (standard_interface facts) 1 && (fun_at facts.funs 1).creation) ≡ true
-    pub reached : UpTo (λ f. needs_reach (standard_interface facts) f ≡ true → IsReached (standard_interface facts) f) (length facts.funs)
+    pub leaves : UpTo (λ f. LeavesDeclared (whole facts) (fun_at facts.funs f).leaves) (length facts.funs)
+    pub creation : (declares (whole facts) 1 && (fun_at facts.funs 1).creation) ≡ true
+    pub reached : UpTo (λ f. needs_reach (whole facts) f ≡ true → IsReached (whole facts) f) (length facts.funs)
     pub made : UpTo (λ f. makes_lines f ≡ true) (length facts.funs)
     pub good : list_all is_good lines ≡ true
 
   module _ (checked : IsChecked) where
-    of_fun : (P : ℕ → Type 0) → UpTo P (length facts.funs) → (fun : ℕ) → declares (standard_interface facts) fun ≡ true → P fun
+    of_fun : (P : ℕ → Type 0) → UpTo P (length facts.funs) → (fun : ℕ) → declares (whole facts) fun ≡ true → P fun
     of_fun P all fun declared = let is = declared_within (length facts.funs) fun declared in one_of P (length facts.funs) fun all is.0 is.1
 
     pair_declared : (ps : List (ℕ × ℕ)) → list_all are_declared ps ≡ true → (a b : ℕ) → has_pair ps a b ≡ true
-        → (declares (standard_interface facts) a ≡ true) × (declares (standard_interface facts) b ≡ true)
-    pair_declared ps all a b is = and_parts (declares (standard_interface facts) a) (declares (standard_interface facts) b) (pair_passes are_declared ps a b is all)
+        → (declares (whole facts) a ≡ true) × (declares (whole facts) b ≡ true)
+    pair_declared ps all a b is = and_parts (declares (whole facts) a) (declares (whole facts) b) (pair_passes are_declared ps a b is all)
 
     -- what is made is a line
-    made_known : (fun : ℕ) (set : List Bool) → declares (standard_interface facts) fun ≡ true → (fun_at facts.funs fun).creation ≡ true
+    made_known : (fun : ℕ) (set : List Bool) → declares (whole facts) fun ≡ true → (fun_at facts.funs fun).creation ≡ true
         → may_lead (fun_at facts.funs fun).effects 0 (none_set facts.fields) set ≡ true → length (none_set facts.fields) ≡ length facts.fields
         → knows lines fun (state_after facts fun fun) set ≡ true
     made_known fun set declared creates leads many =
@@ -209,7 +209,7 @@ module _ (facts : Facts) (lines : List Line) where
         follows _ _ (passes (length facts.fields) test set (as_many (fun_at facts.funs fun).effects 0 (none_set facts.fields) set leads ∙ many) all) leads
 
     -- what comes of a line is a line
-    moved_known : (by fun state : ℕ) (old new : List Bool) → knows lines by state old ≡ true → moves_on (standard_interface facts) state fun ≡ true
+    moved_known : (by fun state : ℕ) (old new : List Bool) → knows lines by state old ≡ true → moves_on (whole facts) state fun ≡ true
         → (fun_at facts.funs fun).terminal ≡ false → may_lead (fun_at facts.funs fun).effects 0 old new ≡ true → knows lines by (state_after facts fun state) new ≡ true
     moved_known by fun state old new known moves goes_on leads =
         let it = line_passes is_good lines by state old known checked.good in
@@ -226,29 +226,29 @@ module _ (facts : Facts) (lines : List Line) where
     none_many [] = refl
     none_many (f ∷ fields) = ap suc (none_many fields)
 
-    known : (by state : ℕ) (set : List Bool) → IsReachable (standard_interface facts) by state set → knows lines by state set ≡ true
+    known : (by state : ℕ) (set : List Bool) → IsReachable (whole facts) by state set → knows lines by state set ≡ true
     known by state set (made fun set' declared creates leads) = made_known fun set' declared creates leads (none_many facts.fields)
     known by state set (moved by' fun state' old new reached moves goes_on leads) =
         moved_known by' fun state' old new (known by' state' old reached) moves goes_on leads
 
     walk_for : (by state : ℕ) (set : List Bool) → knows lines by state set ≡ true
-        → (walk : List ℕ) × (begin_of walk ≡ by) × (restores (standard_interface facts) walk state set ≡ true) × (length walk ≤ most_calls)
+        → (walk : List ℕ) × (begin_of walk ≡ by) × (restores (whole facts) walk state set ≡ true) × (length walk ≤ most_calls)
     walk_for by state set is =
         let it = line_passes is_good lines by state set is checked.good in
         let first = (and_parts _ _ (and_parts _ _ it.1).0).0 in
         let short = and_parts _ (nat_le (length it.0) most_calls) first in
-        let both = and_parts (begin_of it.0 == by) (restores (standard_interface facts) it.0 state set) short.0 in
+        let both = and_parts (begin_of it.0 == by) (restores (whole facts) it.0 state set) short.0 in
         (it.0, same_number (begin_of it.0) by both.0, both.1, within (length it.0) most_calls short.1)
 
-    pub fits : Fits (standard_interface facts)
+    pub fits : Fits (whole facts)
     fits = record {
       funs = λ fun declared. (declared_within (length facts.funs) fun declared).1;
       moves = λ state fun is. is;
       steps = λ state fun is. is;
       moves_declared = pair_declared facts.moves checked.moves;
       steps_declared = pair_declared facts.steps checked.steps;
-      leaves_declared = of_fun (λ f. LeavesDeclared (standard_interface facts) (fun_at facts.funs f).leaves) checked.leaves;
-      creation = let both = and_parts (declares (standard_interface facts) 1) (fun_at facts.funs 1).creation checked.creation in (1, both.0, both.1);
-      reached = λ fun declared. of_fun (λ f. needs_reach (standard_interface facts) f ≡ true → IsReached (standard_interface facts) f) checked.reached fun declared;
+      leaves_declared = of_fun (λ f. LeavesDeclared (whole facts) (fun_at facts.funs f).leaves) checked.leaves;
+      creation = let both = and_parts (declares (whole facts) 1) (fun_at facts.funs 1).creation checked.creation in (1, both.0, both.1);
+      reached = λ fun declared. of_fun (λ f. needs_reach (whole facts) f ≡ true → IsReached (whole facts) f) checked.reached fun declared;
       walks = λ by state set reached. walk_for by state set (known by state set reached);
     }

@@ -1,5 +1,5 @@
 -- Decimal numbers are printable.
-use Rattle.std.proofs.Common.{◌≡◌, ℕ, ◌+◌, ◌%◌, ◌/◌, ◌^◌, ◌<◌, ◌≤◌, Bool, true, false, ◌&&◌, List, [], ◌∷◌, ◌++◌, length, refl, arith, length-append}
+use Rattle.std.proofs.Common.{◌≡◌, ℕ, ◌+◌, ◌%◌, ◌^◌, ◌<◌, ◌≤◌, Bool, true, false, ◌&&◌, List, [], ◌∷◌, ◌++◌, length, refl, arith, length-append}
 use Rattle.std.specs.Prelude.{◌==◌, codes, nat_le}
 use Rattle.std.specs.Fmt.{decimal}
 use Rattle.std.specs.List.{list_all}
@@ -47,4 +47,4 @@ text_is_text client group few small =
     let back = length-append (codes ":") (decimal group) in
     both _ _ (short (file_text client group) (omega (arith, joined, back, one, other)))
     (all_both is_text_byte (decimal client) (codes ":" ++ decimal group) (decimal_is client (omega (arith, few)))
-        (all_both is_text_byte (codes ":") (decimal group) refl (decimal_is group (omega (arith, small)))))
+    (all_both is_text_byte (codes ":") (decimal group) refl (decimal_is group (omega (arith, small)))))

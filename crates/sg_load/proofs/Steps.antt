@@ -67,7 +67,7 @@ pub groups_more : (service : ServiceKind) (client x y first group n done : ℕ) 
 unfolding groups_from
 groups_more service client x y first group n done made less next =
     subst (λ z. (made ++ group_of service client first group (upper z)) ++ groups_from service client z (first + group_size service) (group + 1) (n - (done + 1))
-        ≡ made ++ groups_from service client x first group (n - done)) (sym next)
+    ≡ made ++ groups_from service client x first group (n - done)) (sym next)
     (append_assoc made (group_of service client first group (upper (drawn x))) (groups_from service client (drawn x) (first + group_size service) (group + 1) (n - (done + 1)))
     ∙ ap (λ k. made ++ groups_from service client x first group k) (sym (one_less n done less)))
 

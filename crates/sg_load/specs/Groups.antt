@@ -52,7 +52,7 @@ file_name file = codes "f" ++ decimal file
 abbrev pub file_text : ℕ → ℕ → List ℕ
 file_text client group = decimal client ++ (codes ":" ++ decimal group)
 
--- it opens a file, writes into it, goes back to its start, reads it, and closes it
+-- it opens a file as a root, writes into it, goes back to its start, reads it, and closes it
 abbrev pub file_group : ℕ → ℕ → ℕ → ℕ → List ScriptCall
 file_group client first group file =
     call tsplit (Number 0 ∷ Text (file_name file) ∷ []) ∷ call twrite (Back first ∷ Text (file_text client group) ∷ [])
@@ -80,3 +80,7 @@ group_size Events = 2
 group_size Pages = 4
 group_size Files = 5
 group_size Threads = 5
+
+-- the greatest of these
+abbrev pub most_group : ℕ
+most_group = 5

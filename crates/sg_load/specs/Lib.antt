@@ -3,4 +3,4 @@ pub mod Functions
 pub mod Generated
 pub mod Groups
 pub mod Sizes
-pub mod Standard
+pub mod Services

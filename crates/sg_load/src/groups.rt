@@ -1,6 +1,6 @@
 // The calls of the setup, and the groups of calls that clients make.
 ghost use Rattle.std.specs.Prelude.{◌≡◌, ◌+◌, ◌*◌, ◌%◌, ◌<◌, ◌≤◌, ◌^◌, [], ◌∷◌, ◌++◌, OnOk, IfOk};
-ghost use Rattle.sg_load.specs.Groups.{call, event_group, file_group, group_of, group_size, lock_group, page_group, setup_of, thread_group, times};
+ghost use Rattle.sg_load.specs.Groups.{call, event_group, file_group, group_of, group_size, lock_group, most_group, page_group, setup_of, thread_group, times};
 
 use crate::ServiceKind;
 use crate::functions::{
@@ -83,12 +83,20 @@ fn add_page_group(
     let client = u64::from(client);
     let alias = Arg::Number(ALIAS_SPACES + client);
     add_call(calls, MMAN_GET_PAGE, vec![in alloc; Arg::Number(addr)]?)?;
-    add_call(calls, MMAN_ALIAS_PAGE, vec![in alloc; Arg::Back(first), alias, Arg::Number(addr)]?)?;
-    add_call(calls, MMAN_FIND, vec![in alloc; Arg::Number(client), Arg::Number(addr)]?)?;
+    add_call(
+        calls,
+        MMAN_ALIAS_PAGE,
+        vec![in alloc; Arg::Back(first), alias, Arg::Number(addr)]?,
+    )?;
+    add_call(
+        calls,
+        MMAN_FIND,
+        vec![in alloc; Arg::Number(client), Arg::Number(addr)]?,
+    )?;
     add_call(calls, MMAN_RELEASE_PAGE, vec![in alloc; Arg::Back(first)]?)
 }
 
-// Opens a file, writes into it, goes back to its start, reads it, and closes it.
+// Opens a file as a root, writes into it, goes back to its start, reads it, and closes it.
 fn add_file_group(
     calls: &mut CallList,
     alloc: Global,
@@ -103,8 +111,16 @@ fn add_file_group(
     let text = Arg::Text(file_text(alloc, client, group)?);
     add_call(calls, TSPLIT, vec![in alloc; Arg::Number(0), name]?)?;
     add_call(calls, TWRITE, vec![in alloc; Arg::Back(first), text]?)?;
-    add_call(calls, TSEEK, vec![in alloc; Arg::Back(first), Arg::Number(0)]?)?;
-    add_call(calls, TREAD, vec![in alloc; Arg::Back(first), Arg::Number(READ_BYTES)]?)?;
+    add_call(
+        calls,
+        TSEEK,
+        vec![in alloc; Arg::Back(first), Arg::Number(0)]?,
+    )?;
+    add_call(
+        calls,
+        TREAD,
+        vec![in alloc; Arg::Back(first), Arg::Number(READ_BYTES)]?,
+    )?;
     add_call(calls, TRELEASE, vec![in alloc; Arg::Back(first)]?)
 }
 
@@ -117,7 +133,11 @@ fn add_thread_group(
 ) -> Result<(), NoMemory>
     ensures { OnOk result (calls.new ≡ calls.old ++ thread_group first priority) }
 {
-    add_call(calls, SCHED_CREATE_THD, vec![in alloc; Arg::Number(priority)]?)?;
+    add_call(
+        calls,
+        SCHED_CREATE_THD,
+        vec![in alloc; Arg::Number(priority)]?,
+    )?;
     add_call(calls, SCHED_YIELD, vec![in alloc; Arg::Back(first)]?)?;
     add_call(calls, SCHED_NEXT, Vec::new(alloc))?;
     add_call(calls, SCHED_SLEEP, vec![in alloc; Arg::Back(first)]?)?;
@@ -162,7 +182,7 @@ pub(crate) fn add_group(
 /// The number of a group's calls.
 pub(crate) fn group_size(service: ServiceKind) -> u32
     ensures size { result ≡ group_size service }
-    ensures some { (1 ≤ result) × (result ≤ 5) }
+    ensures some { (1 ≤ result) × (result ≤ most_group) }
 {
     match service {
         ServiceKind::Locks | ServiceKind::Events => 2,

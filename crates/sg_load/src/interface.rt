@@ -1,6 +1,7 @@
 // The standard interface of a service.
 ghost use Rattle.std.specs.Prelude.{◌≡◌, ◌-◌, ◌<◌, ◌≤◌, ◌^◌, IfOk};
-ghost use Rattle.sg_load.specs.Standard.{facts_by, standard_interface};
+ghost use Rattle.sg_facts.specs.Laws.{whole};
+ghost use Rattle.sg_load.specs.Services.{facts_by};
 
 use crate::ServiceKind;
 use sg_base::{NoMemory, PairList};
@@ -10,7 +11,7 @@ use std::alloc::Global;
 
 /// The interface of a service that declares each of its functions, with all its transitions and recover steps.
 pub fn standard(alloc: Global, service: ServiceKind) -> Result<Accepted, NoMemory>
-    ensures { IfOk result (λ accepted. accepted ≡ standard_interface (facts_by service)) }
+    ensures { IfOk result (λ accepted. accepted ≡ whole (facts_by service)) }
 {
     let iface = whole_interface(alloc, service)?;
     Ok(Accepted::new(iface))
@@ -18,7 +19,7 @@ pub fn standard(alloc: Global, service: ServiceKind) -> Result<Accepted, NoMemor
 
 // The same interface, before it is known to fit.
 fn whole_interface(alloc: Global, service: ServiceKind) -> Result<Interface, NoMemory>
-    ensures { IfOk result (λ iface. iface ≡ standard_interface (facts_by service)) }
+    ensures { IfOk result (λ iface. iface ≡ whole (facts_by service)) }
 {
     let shape = service.shape();
     let count = shape.funs.len();

@@ -1,7 +1,7 @@
 // The five services.
 ghost use Rattle.std.specs.Prelude.{◌≡◌};
 ghost use Rattle.sg_facts.specs.Facts.{facts_of};
-ghost use Rattle.sg_load.specs.Standard.{facts_by};
+ghost use Rattle.sg_load.specs.Services.{facts_by};
 
 use sg_event::EventService;
 use sg_facts::{Service, Shape};

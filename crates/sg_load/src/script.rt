@@ -4,7 +4,8 @@ ghost use Rattle.sg_edge.specs.Stops.{AscendsAbove};
 ghost use Rattle.sg_load.specs.Drawn.{after_draws, stops_from};
 ghost use Rattle.sg_load.specs.Generated.{calls_before, calls_of_client, clients_from, generated, groups_from, groups_of, setup_count};
 ghost use Rattle.sg_load.specs.Sizes.{client_count, stop_count};
-ghost use Rattle.sg_load.specs.Standard.{facts_by, standard_interface};
+ghost use Rattle.sg_facts.specs.Laws.{whole};
+ghost use Rattle.sg_load.specs.Services.{facts_by};
 ghost use Rattle.sg_play_laws.specs.Playable.{IsPlayable};
 
 use crate::ServiceKind;
@@ -19,7 +20,7 @@ use std::alloc::Global;
 /// and 32 stops.
 pub fn generate(alloc: Global, service: ServiceKind, number: u64) -> Result<Script, NoMemory>
     ensures script { IfOk result (λ script. script ≡ generated service number) }
-    ensures playable { IfOk result (IsPlayable (standard_interface (facts_by service))) }
+    ensures playable { IfOk result (IsPlayable (whole (facts_by service))) }
     ensures stops { IfOk result (λ script. AscendsAbove 0 script.stops) }
 {
     let script = script_of(alloc, service, number)?;
@@ -56,11 +57,7 @@ fn stops(alloc: Global, draws: &mut Draws) -> Result<PointList, NoMemory>
 }
 
 // The clients with their calls.
-fn clients(
-    alloc: Global,
-    service: ServiceKind,
-    draws: &mut Draws,
-) -> Result<ClientList, NoMemory>
+fn clients(alloc: Global, service: ServiceKind, draws: &mut Draws) -> Result<ClientList, NoMemory>
     ensures { IfOk result (λ clients. clients ≡ clients_from service 1 draws.old client_count) }
 {
     let mut clients = ClientList::new(alloc);
@@ -100,7 +97,7 @@ fn calls_of(
 // How many calls a client has before its groups.
 fn calls_before(service: ServiceKind, client: u8) -> u32
     ensures count { result ≡ calls_before service client }
-    ensures few { result ≤ 16 }
+    ensures few { result ≤ LOCKS }
 {
     if client == 1 { setup_count(service) } else { 0 }
 }
@@ -108,7 +105,7 @@ fn calls_before(service: ServiceKind, client: u8) -> u32
 // The number of the calls of the setup.
 fn setup_count(service: ServiceKind) -> u32
     ensures count { result ≡ setup_count service }
-    ensures few { result ≤ 16 }
+    ensures few { result ≤ LOCKS }
 {
     match service {
         ServiceKind::Locks => LOCKS,
@@ -120,7 +117,7 @@ fn setup_count(service: ServiceKind) -> u32
 // How many groups a client makes.
 fn groups_of(service: ServiceKind, client: u8) -> u32
     ensures count { result ≡ groups_of service client }
-    ensures few { result ≤ 1250 }
+    ensures few { result ≤ CALLS_EACH }
 {
     (CALLS_EACH - calls_before(service, client)) / group_size(service)
 }

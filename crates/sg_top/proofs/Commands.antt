@@ -4,7 +4,7 @@ use Rattle.std.specs.Prelude.{MatchOption, codes, string_bytes}
 use Rattle.std.specs.declared.option.Option.{Option}
 use Rattle.std.specs.declared.string.String.{String}
 use Rattle.std.specs.declared.alloc.Global.{Global}
-use Rattle.sg_load.specs.Standard.{facts_by}
+use Rattle.sg_load.specs.Services.{facts_by}
 use Rattle.sg_load.specs.declared.kind.ServiceKind.{ServiceKind}
 use Rattle.sg_load.specs.declared.kind.ServiceKind.TheVariants.{Locks, Events, Pages, Files, Threads}
 use Rattle.sg_script.specs.Numbers.{value_of_digits}

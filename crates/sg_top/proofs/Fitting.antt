@@ -10,7 +10,7 @@ use Rattle.sg_facts.specs.Interface.{Declared}
 use Rattle.sg_input.specs.declared.input.Input.{Input}
 use Rattle.sg_input.specs.declared.input.Input.TheVariants.{Ready}
 use Rattle.sg_input.specs.Inputs.{IsInputOf, IsReady}
-use Rattle.sg_load.specs.Standard.{facts_by}
+use Rattle.sg_load.specs.Services.{facts_by}
 use Rattle.sg_lock.specs.LockFacts.{lock_facts}
 use Rattle.sg_mm.specs.MmFacts.{mm_facts}
 use Rattle.sg_play_laws.specs.Playable.{IsPlayable}

@@ -14,7 +14,7 @@ use Rattle.sg_input.specs.declared.input.Input.TheVariants.{Refused as refused_i
 use Rattle.sg_input.specs.Inputs.{IsInputOf, most_input, most_interface}
 use Rattle.sg_input.specs.Lines.{too_long_line}
 use Rattle.sg_lex.specs.Table.{IsNumber}
-use Rattle.sg_load.specs.Standard.{facts_by}
+use Rattle.sg_load.specs.Services.{facts_by}
 use Rattle.sg_plain.specs.Promises.{somebody_waits}
 use Rattle.sg_script.specs.Numbers.{greatest_number, value_of_digits}
 use Rattle.sg_top.specs.Headline.{IsLoad, IsRunOfInput, played_services}

@@ -13,7 +13,8 @@ use Rattle.sg_hist.specs.Recovered.{HasRecovered}
 use Rattle.sg_hist.specs.declared.ended.Ended.{Ended}
 use Rattle.sg_input.specs.Inputs.{IsReady}
 use Rattle.sg_load.specs.Generated.{generated}
-use Rattle.sg_load.specs.Standard.{facts_by, standard_interface}
+use Rattle.sg_facts.specs.Laws.{whole}
+use Rattle.sg_load.specs.Services.{facts_by}
 use Rattle.sg_load.specs.declared.kind.ServiceKind.{ServiceKind}
 use Rattle.sg_load.specs.declared.kind.ServiceKind.TheVariants.{Locks, Events, Pages, Files, Threads}
 use Rattle.sg_lock.specs.LockFacts.{lock_facts}
@@ -86,8 +87,8 @@ pub record IsRunOfInput (bytes : List ℕ) (with_trace : Bool) (ended : Ended) (
 
 -- this is a run of the script that is generated from a number for a service, under its standard interface, with its output
 pub record IsLoad (kind : ServiceKind) (number : ℕ) (ended : Ended) (written : List ℕ) : Type 0 where
-  pub run : IsRunOf (standard_interface (facts_by kind)) (answering kind) (generated kind number) ended
+  pub run : IsRunOf (whole (facts_by kind)) (answering kind) (generated kind number) ended
   -- the turns are those of the play without stops until the service stops
-  pub schedule : FollowsSchedule (standard_interface (facts_by kind)) (answering kind).ask (generated kind number) (run_of ended.trace) ended.history.items
+  pub schedule : FollowsSchedule (whole (facts_by kind)) (answering kind).ask (generated kind number) (run_of ended.trace) ended.history.items
   -- the bytes written are the line of the load
   pub output : written ≡ load_line_of (facts_by kind).name number ended

@@ -5,7 +5,8 @@ ghost use Rattle.sg_input.specs.Inputs.{IsReady};
 ghost use Rattle.sg_play_laws.specs.Playable.{IsPlayable};
 ghost use Rattle.sg_plain.specs.Promises.{is_blocked, somebody_waits};
 ghost use Rattle.sg_load.specs.Generated.{generated};
-ghost use Rattle.sg_load.specs.Standard.{facts_by, standard_interface};
+ghost use Rattle.sg_facts.specs.Laws.{whole};
+ghost use Rattle.sg_load.specs.Services.{facts_by};
 ghost use Rattle.sg_top.specs.Answer.{IsChecked, IsOutput, IsOwnOutput, IsPlayOutput, IsTabled, ended_status, has_input, services};
 ghost use Rattle.sg_top.specs.Headline.{answering};
 ghost use Rattle.sg_top.specs.Inside.Runs.{IsPlayInOrder};
@@ -127,7 +128,7 @@ pub fn loaded(alloc: Global, service: ServiceKind, number: u64) -> Result<Output
 
 // The run of the script that is generated for a service from a number.
 fn load_of(alloc: Global, service: ServiceKind, number: u64) -> Result<Played, NoMemory>
-    ensures { IfOk result (IsPlayInOrder (standard_interface (facts_by service)) (answering service) (generated service number)) }
+    ensures { IfOk result (IsPlayInOrder (whole (facts_by service)) (answering service) (generated service number)) }
 {
     let accepted = standard(alloc, service)?;
     let script = generate(alloc, service, number)?;

@@ -1,7 +1,7 @@
 // The runs of scripts.
 ghost use Rattle.std.specs.Prelude.{◌≡◌, [], true, IfOk};
 ghost use Rattle.sg_edge.specs.Stops.{AscendsAbove, struck_of};
-ghost use Rattle.sg_load.specs.Standard.{facts_by};
+ghost use Rattle.sg_load.specs.Services.{facts_by};
 ghost use Rattle.sg_play_laws.specs.Playable.{IsPlayable};
 ghost use Rattle.sg_top.specs.Headline.{answering};
 ghost use Rattle.sg_top.specs.Inside.Runs.{IsPlayedOn, IsPlayInOrder};

@@ -1,6 +1,6 @@
 // The services whose interfaces may be accepted.
 ghost use Rattle.std.specs.Prelude.{◌≡◌, true, map, MatchOption};
-ghost use Rattle.sg_load.specs.Standard.{facts_by};
+ghost use Rattle.sg_load.specs.Services.{facts_by};
 ghost use Rattle.sg_load.specs.declared.kind.ServiceKind.{ServiceKind as Kind};
 ghost use Rattle.sg_facts.specs.Facts.{facts_of};
 ghost use Rattle.sg_check.specs.Shapes.{are_shapes};

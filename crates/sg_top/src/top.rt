@@ -62,10 +62,14 @@ pub fn serial<I: Source, O: Sink>(
         result.status result.ended }
     ensures most_read { ReadsInput (IsCommand words.now) (I.left input.old) (I.left input.new) }
 {
-    match Command::of_words(words) {
-        Some(Command::Load { service, number }) => run_load(alloc, service, number, output),
-        Some(command) => with_input(alloc, command, input, output),
-        None => without_run(Status::OtherWords),
+    let Some(command) = Command::of_words(words) else {
+        return without_run(Status::OtherWords);
+    };
+    match command {
+        Command::Load { service, number } => run_load(alloc, service, number, output),
+        Command::Sim | Command::SimTrace | Command::Check | Command::Compile => {
+            with_input(alloc, command, input, output)
+        }
     }
 }
 

@@ -1,7 +1,7 @@
 // The standard interfaces are those that the texts declare.
 ghost use Rattle.std.specs.Prelude.{◌≡◌, true};
 ghost use Rattle.sg_check.specs.Shapes.{is_shape};
-ghost use Rattle.sg_load.specs.Standard.{facts_by};
+ghost use Rattle.sg_load.specs.Services.{facts_by};
 
 use sg_check::check;
 use sg_facts::{Interface, MOST_FUNS};

@@ -1,6 +1,6 @@
 -- Commands of one word, of two, and of three.
 use Rattle.std.specs.Prelude.{ℕ, ◌≡◌, List, codes}
-use Rattle.sg_load.specs.Standard.{facts_by}
+use Rattle.sg_load.specs.Services.{facts_by}
 use Rattle.sg_top.specs.Answer.{AreDigitsOf}
 use Rattle.sg_top.specs.declared.command.Command.{Command}
 use Rattle.sg_top.specs.declared.command.Command.TheVariants.{Sim, SimTrace, Check, Compile, Load}

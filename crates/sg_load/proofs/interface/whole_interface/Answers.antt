@@ -1,6 +1,6 @@
 -- All of the service's shape is declared.
 use Rattle.std.proofs.Common.{◌≡◌, ◌-◌, ◌^◌, length}
-use Rattle.sg_load.specs.Standard.{facts_by}
+use Rattle.sg_load.specs.Services.{facts_by}
 use Rattle.sg_load.proofs.Wholes.{whole_is}
 use Rattle.sg_load.proofs.interface.whole_interface.Goals as goal
 

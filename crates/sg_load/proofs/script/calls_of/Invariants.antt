@@ -2,11 +2,13 @@
 use Rattle.std.proofs.Common.{◌≡◌, ◌+◌, ◌*◌, ◌-◌, ◌≤◌, ◌++◌}
 use Rattle.sg_load.specs.Drawn.{after_draws}
 use Rattle.sg_load.specs.Generated.{calls_of_client, groups_from, groups_of}
+use Rattle.sg_load.specs.Groups.{most_group}
+use Rattle.sg_load.specs.Sizes.{lock_count}
 use Rattle.sg_load.proofs.script.calls_of.Given as goal
 
 abbrev pub invariant-each : goal.invariant-each
 invariant-each l = record {
   made : l.calls ++ groups_from l.service l.client l.draws l.first (l.done + 1) (groups_of l.service l.client - l.done) ≡ calls_of_client l.service l.client l.fn.draws;
   drawn : after_draws l.draws (groups_of l.service l.client - l.done) ≡ after_draws l.fn.draws (groups_of l.service l.client);
-  most : l.first ≤ 17 + 5 * l.done;
+  most : l.first ≤ 1 + lock_count + most_group * l.done;
 }

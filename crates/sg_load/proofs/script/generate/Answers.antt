@@ -1,7 +1,8 @@
 -- A generated script is played, and its stops ascend.
 use Rattle.std.proofs.Common.{sym, subst}
 use Rattle.sg_edge.specs.Stops.{AscendsAbove}
-use Rattle.sg_load.specs.Standard.{facts_by, standard_interface}
+use Rattle.sg_facts.specs.Laws.{whole}
+use Rattle.sg_load.specs.Services.{facts_by}
 use Rattle.sg_load.proofs.Playing.{generated_playable, generated_stops}
 use Rattle.sg_load.proofs.script.generate.Goals as goal
 use Rattle.sg_play_laws.specs.Playable.{IsPlayable}
@@ -9,7 +10,7 @@ use Rattle.sg_script.specs.declared.script.Script.{Script}
 
 pub returns-clause-playable : goal.returns-clause-playable
 returns-clause-playable c =
-    subst (IsPlayable (standard_interface (facts_by c.args.service))) (sym c.in_ok-script.ensures) (generated_playable c.args.service c.args.number)
+    subst (IsPlayable (whole (facts_by c.args.service))) (sym c.in_ok-script.ensures) (generated_playable c.args.service c.args.number)
 
 pub returns-clause-stops : goal.returns-clause-stops
 returns-clause-stops c = let P : Script → Type 0 = λ script. AscendsAbove 0 script.stops in subst P (sym c.in_ok-script.ensures) (generated_stops c.args.service c.args.number)

@@ -1,8 +1,6 @@
--- The five services, each with its standard interface.
-use Rattle.std.specs.Prelude.{◌-◌, ◌^◌, length}
+-- The facts of the five services.
 use Rattle.sg_event.specs.EventFacts.{event_facts}
 use Rattle.sg_facts.specs.Facts.{Facts}
-use Rattle.sg_facts.specs.Interface.{Declared}
 use Rattle.sg_load.specs.declared.kind.ServiceKind.{ServiceKind}
 use Rattle.sg_load.specs.declared.kind.ServiceKind.TheVariants.{Locks, Events, Pages, Files, Threads}
 use Rattle.sg_lock.specs.LockFacts.{lock_facts}
@@ -17,12 +15,3 @@ facts_by Events = event_facts
 facts_by Pages = mm_facts
 facts_by Files = ramfs_facts
 facts_by Threads = sched_facts
-
--- the interface of a shape that declares each of its functions, with all its transitions and recover steps
-abbrev pub standard_interface : Facts → Declared
-standard_interface facts = record {
-  facts = facts;
-  declared = 2 ^ length facts.funs - 1;
-  moves = facts.moves;
-  steps = facts.steps;
-}
