@@ -184,7 +184,7 @@ play_by : (command : Command) (source source' : Ends) (ended : Option Ended) (st
     → Read command source source' ended status output → IsSome ended → is_play command ≡ true
 play_by command source source' ended status output (inl (bytes, short, consumed, at_end, is)) some = output_play command bytes ended status output is some
 play_by command source source' ended status output (inr (inl (bytes, has, count, consumed, none, is_two, line))) some = absurd (no_run ended none some)
-play_by command source source' ended status output (inr (inr (same, own))) some = (own_is command ended status output own).2.0
+play_by command source source' ended status output (inr (inr (same, own))) some = (own_is command ended status output own).2
 
 -- only a play has a run
 run_play : (command : Command) (source source' : Ends) (ended : Option Ended) (status : Status) (output : List ℕ)
@@ -214,7 +214,7 @@ says_by command source source' ended status wanted output good (inl (bytes, shor
     (λ line refusal. absurd (never_refused command bytes ended wanted output line good short is refusal))
 says_by command source source' ended status wanted output good (inr (inl (bytes, has, count, consumed, none, is_refused, line))) = absurd (good is_refused)
 says_by command source source' ended status wanted output good (inr (inr (same, own))) =
-    told_any (SaysRefused command status) source.told (λ bytes line refusal. absurd (refuses_nothing command bytes line (own_is command ended wanted output own).2.1 refusal))
+    told_any (SaysRefused command status) source.told (λ bytes line refusal. absurd (refuses_nothing command bytes line (own_is command ended wanted output own).3 refusal))
 
 -- where an output is no refusal, what is told isn't refused
 says_good : (command : Command) (source source' : Ends) (ended : Option Ended) (status wanted : Status) (output : List ℕ) → (wanted ≡ Refused → ⊥)
@@ -438,14 +438,14 @@ pub said_answer : (said : Command → Type 0) (source source' sink sink' : Ends)
 said_answer said source source' sink sink' status ended command one is_said a = record {
   words = λ is. absurd ((a.words is).0 command refl);
   other_words = λ other. absurd (other command is_said);
-  done = λ is. let d = a.done is in (d.0, subst said (sym d.1) is_said, d.2);
-  waits = λ is. let d = a.waits is in (d.0, subst said (sym d.1) is_said, d.2);
-  refused = λ is. let d = a.refused is in (d.0, (d.1.0, subst said (sym d.1.1) is_said, d.1.2));
+  done = λ is. let d = a.done is in (d.0, subst said (sym d.1) is_said, d.2, d.3, d.4);
+  waits = λ is. let d = a.waits is in (d.0, subst said (sym d.1) is_said, d.2, d.3, d.4);
+  refused = λ is. let d = a.refused is in (d.0, (d.1.0, subst said (sym d.1.1) is_said, d.1.2, d.1.3, d.1.4, d.1.5));
   refuses = λ c said_c. a.refuses c (one c command said_c is_said);
   read_fault = a.read_fault;
   only_read_fault = a.only_read_fault;
   no_read = λ c said_c without. a.no_read c (one c command said_c is_said) without;
-  write_fault = λ is. let d = a.write_fault is in (d.0, (d.1.0, subst said (sym d.1.1) is_said, d.1.2));
+  write_fault = λ is. let d = a.write_fault is in (d.0, (d.1.0, subst said (sym d.1.1) is_said, d.1.2, d.1.3, d.1.4, d.1.5, d.1.6, d.1.7));
   only_write_fault = a.only_write_fault;
   no_memory = a.no_memory;
   played = λ is c said_c play. a.played is c (one c command said_c is_said) play;
@@ -457,3 +457,10 @@ said_answer said source source' sink sink' status ended command one is_said a = 
 -- at most one command is a given one
 pub one_given : (command : Command) → IsOne (λ c. c ≡ command)
 one_given command a b is isn't = is ∙ sym isn't
+
+-- each command but a load has an input
+pub with_input : (c : Command) → (c ≡ Sim) ⊎ ((c ≡ SimTrace) ⊎ ((c ≡ Check) ⊎ (c ≡ Compile))) → has_input c ≡ true
+with_input c (inl is) = ap has_input is
+with_input c (inr (inl is)) = ap has_input is
+with_input c (inr (inr (inl is))) = ap has_input is
+with_input c (inr (inr (inr is))) = ap has_input is

@@ -1,5 +1,6 @@
 -- The words say at most one command.
-use Rattle.std.proofs.Common.{◌≡◌, ◌<◌, ◌≤◌, ℕ, ◌+◌, ◌*◌, List, [], ◌∷◌, None, Some, get_or, length, map, slice_index_or, refl, sym, ◌∙◌, ap, subst, arith, length-map}
+use Rattle.std.proofs.Common.{◌≡◌, ◌<◌, ◌≤◌, ℕ, ◌+◌, ◌*◌, List, [], ◌∷◌, None, Some, get_or, length, map, slice_index_or, refl, sym, ◌∙◌, ap, subst, arith}
+use Rattle.std.proofs.lemmas.List.{length-map}
 use Rattle.std.specs.Prelude.{MatchOption, codes, string_bytes}
 use Rattle.std.specs.declared.option.Option.{Option}
 use Rattle.std.specs.declared.string.String.{String}
@@ -16,7 +17,7 @@ use Rattle.sg_top.specs.Inside.Words.{IsLoadOf, IsPairOf, IsWordOf}
 -- ---- names
 
 -- what tells the names of the services apart: their lengths, and their first letters
-letters : List ℕ → ℕ
+abbrev letters : List ℕ → ℕ
 letters name = 1000 * length name + get_or name 0 0
 
 one_kind : (a b : ServiceKind) → letters (facts_by a).name ≡ letters (facts_by b).name → a ≡ b
@@ -49,7 +50,7 @@ one_kind Threads Threads e = refl
 -- ---- texts
 
 -- the texts of a command, with these digits
-texts_of : Command → List ℕ → List (List ℕ)
+abbrev texts_of : Command → List ℕ → List (List ℕ)
 texts_of Sim digits = codes "sim" ∷ []
 texts_of SimTrace digits = codes "sim" ∷ codes "trace" ∷ []
 texts_of Check digits = codes "check" ∷ []
@@ -57,7 +58,7 @@ texts_of Compile digits = codes "compile" ∷ []
 texts_of (Load service number) digits = codes "load" ∷ (facts_by service).name ∷ digits ∷ []
 
 -- the digits fit the command
-Digits : Command → List ℕ → Type 0
+abbrev Digits : Command → List ℕ → Type 0
 Digits (Load service number) digits = AreDigitsOf number digits
 Digits _ digits = Unit {0}
 
@@ -68,11 +69,11 @@ says words Check is = ([], tt, is)
 says words Compile is = ([], tt, is)
 says words (Load service number) is = (is.0, is.1, is.2)
 
-text_at : ℕ → List (List ℕ) → List ℕ
+abbrev text_at : ℕ → List (List ℕ) → List ℕ
 text_at n texts = get_or texts n []
 
 -- what tells the commands apart: how many texts they have, and the length of the first
-tag : List (List ℕ) → ℕ
+abbrev tag : List (List ℕ) → ℕ
 tag texts = 100 * length texts + length (text_at 0 texts)
 
 one_by : (a b : Command) (da db : List ℕ) → Digits a da → Digits b db → texts_of a da ≡ texts_of b db → a ≡ b
@@ -114,7 +115,7 @@ one_command words a b x y =
 
 -- a command has from one to three
 pub count_is : (words : List (String Global)) (c : Command) → IsCommand words c → (1 ≤ length words) × (length words ≤ 3)
-count_is words c is = let u = says words c is in by c u.0 (sym (length-map string_bytes words) ∙ ap length u.2)
+count_is words c is = let u = says words c is in by c u.0 (sym (length-map words string_bytes) ∙ ap length u.2)
   where
     by : (c : Command) (digits : List ℕ) → length words ≡ length (texts_of c digits) → (1 ≤ length words) × (length words ≤ 3)
     by Sim digits l = (omega (arith, l), omega (arith, l))
@@ -181,10 +182,10 @@ pub two_words_say : (words : List (String Global)) (word more : String Global) (
     → MatchOption o ((command : Command) → IsCommand words command → ⊥) (IsCommand words)
 two_words_say words word more one two None is a b none =
     λ command says. none command (subst (λ t. IsPairOf t two command) (sym a) (subst (λ t. IsPairOf (string_bytes word) t command) (sym b)
-        (pair_of word more command (subst (λ l. IsCommand l command) is says))))
+    (pair_of word more command (subst (λ l. IsCommand l command) is says))))
 two_words_say words word more one two (Some command) is a b says =
     subst (λ l. IsCommand l command) (sym is) (of_pair word more command
-        (subst (λ t. IsPairOf (string_bytes word) t command) b (subst (λ t. IsPairOf t two command) a says)))
+    (subst (λ t. IsPairOf (string_bytes word) t command) b (subst (λ t. IsPairOf t two command) a says)))
 
 -- ---- three words
 
@@ -196,6 +197,14 @@ three_of (w ∷ []) word name digits third fourth a b c = absurd (omega (arith, 
 three_of (w ∷ v ∷ []) word name digits third fourth a b c = absurd (omega (arith, third))
 three_of (w ∷ v ∷ u ∷ []) word name digits third fourth a b c = cc (a, b, c)
 three_of (w ∷ v ∷ u ∷ t ∷ words) word name digits third fourth a b c = absurd (omega (arith, fourth))
+
+-- where no service has the name, or the digits stand for no number, nothing is said
+pub no_service : (word name digits : List ℕ) → ((kind : ServiceKind) → name ≡ (facts_by kind).name → ⊥) → (command : Command) → IsLoadOf word name digits command → ⊥
+no_service word name digits none Sim is = is
+no_service word name digits none SimTrace is = is
+no_service word name digits none Check is = is
+no_service word name digits none Compile is = is
+no_service word name digits none (Load s n) is = none s is.1
 
 load_of : (word name digits : String Global) (command : Command) → IsCommand (word ∷ name ∷ digits ∷ []) command → IsLoadOf (string_bytes word) (string_bytes name) (string_bytes digits) command
 load_of word name digits Sim is = absurd (omega (arith, ap length is))
@@ -218,7 +227,7 @@ pub three_words_say : (words : List (String Global)) (word name digits : String 
     → MatchOption o ((command : Command) → IsCommand words command → ⊥) (IsCommand words)
 three_words_say words word name digits one two three None is a b c none =
     λ command says. none command (subst (λ t. IsLoadOf t two three command) (sym a) (subst (λ t. IsLoadOf (string_bytes word) t three command) (sym b)
-        (subst (λ t. IsLoadOf (string_bytes word) (string_bytes name) t command) (sym c) (load_of word name digits command (subst (λ l. IsCommand l command) is says)))))
+    (subst (λ t. IsLoadOf (string_bytes word) (string_bytes name) t command) (sym c) (load_of word name digits command (subst (λ l. IsCommand l command) is says)))))
 three_words_say words word name digits one two three (Some command) is a b c says =
     subst (λ l. IsCommand l command) (sym is) (of_load word name digits command
-        (subst (λ t. IsLoadOf (string_bytes word) (string_bytes name) t command) c (subst (λ t. IsLoadOf (string_bytes word) t three command) b (subst (λ t. IsLoadOf t two three command) a says))))
+    (subst (λ t. IsLoadOf (string_bytes word) (string_bytes name) t command) c (subst (λ t. IsLoadOf (string_bytes word) t three command) b (subst (λ t. IsLoadOf t two three command) a says))))

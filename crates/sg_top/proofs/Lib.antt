@@ -1,3 +1,4 @@
+mod Digits
 pub mod Answers
 pub mod Commands
 pub mod Fitting

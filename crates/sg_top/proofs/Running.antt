@@ -1,6 +1,7 @@
 -- What a play promises is what the headline says of it.
-use Rattle.std.proofs.Common.{◌≡◌, ℕ, ◌<◌, Bool, true, cond, List, [], ◌∷◌, Ok, Err, filter, refl, sym, ◌∙◌, ap, subst, arith}
+use Rattle.std.proofs.Common.{◌≡◌, ℕ, ◌<◌, Bool, true, cond, List, [], ◌∷◌, Some, Ok, Err, filter, refl, sym, ◌∙◌, ap, subst, arith}
 use Rattle.std.specs.Result.{IfOk}
+use Rattle.std.specs.declared.option.Option.{Option}
 use Rattle.std.specs.declared.result.Result.{Result}
 use Rattle.std.specs.Prelude.{◌&&◌, nat_le}
 use Rattle.std.proofs.lemmas.Bool.Decides.{nat_tests}
@@ -14,7 +15,8 @@ use Rattle.sg_script.specs.declared.script.Script.{Script}
 use Rattle.sg_sim.specs.Played.{IsPlayed}
 use Rattle.sg_input.specs.Inputs.{IsReady}
 use Rattle.sg_top.proofs.Fitting.{is_served, kind_is}
-use Rattle.sg_top.specs.Answer.{services}
+use Rattle.sg_top.specs.Answer.{IsPlayOutput, ended_status, services}
+use Rattle.sg_top.specs.declared.status.Status.{Status}
 use Rattle.sg_top.specs.Headline.{Answering, IsRunOf, IsRunOfInput, answering}
 use Rattle.sg_top.specs.Inside.Kinds.{IsOneOfFive, kind_by}
 use Rattle.sg_top.specs.Inside.Runs.{IsPlayInOrder, IsPlayedOn}
@@ -48,7 +50,7 @@ in_order i service script (Ok ended) ascend on = (run_so i service on.0 script s
 in_order i service script (Err e) ascend on = tt
 
 -- a run of an input that is ready, with its report
-pub run_ready : (bytes : List ℕ) (i : Declared) (script : Script) (with_trace : Bool) (ended : Ended) (written : List ℕ) → IsReady services bytes i script → IsOneOfFive i.facts
+run_ready : (bytes : List ℕ) (i : Declared) (script : Script) (with_trace : Bool) (ended : Ended) (written : List ℕ) → IsReady services bytes i script → IsOneOfFive i.facts
     → IsPlayInOrder i (answering (kind_by i.facts)) script ended → written ≡ report_of i.facts ended with_trace → IsRunOfInput bytes with_trace ended written
 run_ready bytes i script with_trace ended written ready one run is = record {
   i = i;
@@ -61,3 +63,10 @@ run_ready bytes i script with_trace ended written ready one run is = record {
   schedule = run.1;
   output = is;
 }
+
+-- what is made of an input that is ready
+pub play_output : (bytes : List ℕ) (i : Declared) (script : Script) (with_trace : Bool) (played : Ended) (ended : Option Ended) (status : Status) (written : List ℕ) → IsReady services bytes i script
+    → IsOneOfFive i.facts → IsPlayInOrder i (answering (kind_by i.facts)) script played → ended ≡ Some played → status ≡ ended_status played.ends → written ≡ report_of i.facts played with_trace
+    → IsPlayOutput bytes with_trace ended status written
+play_output bytes i script with_trace played ended status written ready one run is its_status text =
+    subst (λ e. IsPlayOutput bytes with_trace e status written) (sym is) (its_status, run_ready bytes i script with_trace played written ready one run text)

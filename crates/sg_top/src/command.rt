@@ -1,4 +1,6 @@
 // What the words after the program's name ask for.
+ghost use Rattle.std.specs.Char.{is_ascii_digit};
+ghost use Rattle.std.specs.List.{list_all};
 ghost use Rattle.std.specs.Prelude.{ℕ, ◌≡◌, MatchOption};
 ghost use Rattle.sg_top.specs.Answer.{AreDigitsOf};
 
@@ -94,8 +96,15 @@ impl Command {
 fn number_of(word: &str) -> Option<u64>
     ensures { MatchOption result ((number : ℕ) → AreDigitsOf number word.now → ⊥) (λ number. AreDigitsOf number word.now) }
 {
-    if !word.bytes().all(|byte| byte.is_ascii_digit()) {
+    if !are_digits(word.as_bytes()) {
         return None;
     }
     word.parse::<u64>().ok()
+}
+
+// Whether all bytes are digits.
+fn are_digits(bytes: &[u8]) -> bool
+    ensures { result ≡ list_all is_ascii_digit bytes.now }
+{
+    bytes.iter().all(|byte| byte.is_ascii_digit())
 }

@@ -32,8 +32,7 @@ pub fn played_of(alloc: Global, accepted: &Accepted, script: Script) -> Result<P
     requires stops { AscendsAbove 0 script.stops }
     ensures { IfOk result (IsPlayInOrder accepted.now (answering (kind_by accepted.now.facts)) script) }
 {
-    let kind = kind_of(accepted.interface());
-    played_as(alloc, kind, accepted, script)
+    played_as(alloc, kind_of(accepted.interface()), accepted, script)
 }
 
 /// The run of a script under an accepted interface of a service.
