@@ -15,10 +15,15 @@ pub struct Scarce {
 }
 
 impl Service for Scarce {
+    ghost use Rattle.sg_lock.specs.LockAlikeLaw.{lock_answers_alike};
+    ghost use Rattle.sg_lock.specs.LockBlockedLaw.{lock_blocked_stays};
     ghost use Rattle.sg_lock.specs.LockFacts.{lock_facts};
     ghost use Rattle.sg_lock.specs.LockObject.{lock_object};
+    ghost use Rattle.sg_lock.specs.LockShapeLaw.{lock_counts_slowly, lock_shape_allows};
     ghost use Rattle.sg_lock.specs.LockSound.{IsLockSound};
+    ghost use Rattle.sg_lock.specs.LockSoundLaw.{lock_answers_and_keeps};
     ghost use Rattle.sg_lock.specs.LockTable.{lock_parts, lock_table};
+    ghost use Rattle.sg_lock.specs.LockWalkLaw.{lock_walk_goes_on};
 
     ghost facts = { lock_facts };
 
@@ -30,17 +35,17 @@ impl Service for Scarce {
 
     ghost sound = { IsLockSound };
 
-    ghost answers_and_keeps = { LockService.answers_and_keeps };
+    ghost answers_and_keeps = { lock_answers_and_keeps };
 
-    ghost answers_alike = { LockService.answers_alike };
+    ghost answers_alike = { lock_answers_alike };
 
-    ghost walk_goes_on = { LockService.walk_goes_on };
+    ghost walk_goes_on = { lock_walk_goes_on };
 
-    ghost blocked_stays = { LockService.blocked_stays };
+    ghost blocked_stays = { lock_blocked_stays };
 
-    ghost shape_allows = { LockService.shape_allows };
+    ghost shape_allows = { lock_shape_allows };
 
-    ghost counts_slowly = { LockService.counts_slowly };
+    ghost counts_slowly = { lock_counts_slowly };
 
     fn shape() -> Shape {
         LockService::shape()

@@ -1,0 +1,12 @@
+-- A script that is ready may be played.
+use Rattle.std.proofs.Common.{◌∷◌, [], map, subst}
+use Rattle.sg_facts.specs.Facts.{facts_of}
+use Rattle.sg_input.specs.Inputs.{IsInputOf, IsReady}
+use Rattle.sg_script_laws.proofs.Flawless.{script_playable}
+use Rattle.test_sim.proofs.again.ready.Goals as goal
+
+pub returns-in-Ready-clause-playable : goal.returns-in-Ready-clause-playable
+returns-in-Ready-clause-playable c =
+    let ready : IsReady (map facts_of (c.shape.result ∷ [])) c.as_slice.result.now c.in-Ready.accepted c.in-Ready.script =
+    subst (IsInputOf (map facts_of (c.shape.result ∷ [])) c.as_slice.result.now) c.in-Ready.is c.in_ok-accepted.ensures.input in
+    script_playable c.in-Ready.accepted ready.script c.in-Ready.script ready.reads
