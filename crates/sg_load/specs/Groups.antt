@@ -3,7 +3,7 @@ use Rattle.std.specs.Prelude.{ℕ, zero, suc, ◌+◌, ◌*◌, ◌%◌, List, [
 use Rattle.std.specs.Fmt.{decimal}
 use Rattle.sg_load.specs.declared.kind.ServiceKind.{ServiceKind}
 use Rattle.sg_load.specs.declared.kind.ServiceKind.TheVariants.{Locks, Events, Pages, Files, Threads}
-use Rattle.sg_load.specs.Functions.{evt_split, evt_trigger, evt_wait, lock_alloc, lock_release, lock_take, mman_alias_page, mman_find, mman_get_page, mman_release_page, sched_create_thd, sched_exit, sched_next, sched_sleep, sched_yield, tread, trelease, tseek, tsplit, twrite}
+use Rattle.sg_load.specs.Functions.{evt_split_number, evt_trigger_number, evt_wait_number, lock_alloc_number, lock_release_number, lock_take_number, mman_alias_page_number, mman_find_number, mman_get_page_number, mman_release_page_number, sched_create_thd_number, sched_exit_number, sched_next_number, sched_sleep_number, sched_yield_number, tread_number, trelease_number, tseek_number, tsplit_number, twrite_number}
 use Rattle.sg_load.specs.Sizes.{alias_spaces, event_count, file_count, lock_count, page_bytes, page_count, priority_count, read_bytes, trigger_count}
 use Rattle.sg_script.specs.declared.script.Arg.{Arg}
 use Rattle.sg_script.specs.declared.script.Arg.TheVariants.{Number, Text, Back}
@@ -22,27 +22,27 @@ times (suc count) c = c ∷ times count c
 
 -- the setup makes the locks or the events; the other services have none
 abbrev pub setup_of : ServiceKind → List ScriptCall
-setup_of Locks = times lock_count (call lock_alloc [])
-setup_of Events = times event_count (call evt_split [])
+setup_of Locks = times lock_count (call lock_alloc_number [])
+setup_of Events = times event_count (call evt_split_number [])
 setup_of _ = []
 
 -- ---- a group of each service
 
 -- it takes a lock, and releases it
 abbrev pub lock_group : ℕ → List ScriptCall
-lock_group lock = call lock_take (Number lock ∷ []) ∷ call lock_release (Number lock ∷ []) ∷ []
+lock_group lock = call lock_take_number (Number lock ∷ []) ∷ call lock_release_number (Number lock ∷ []) ∷ []
 
 -- it triggers an event, and waits for it
 abbrev pub event_group : ℕ → List ScriptCall
-event_group event = call evt_trigger (Number event ∷ Number trigger_count ∷ []) ∷ call evt_wait (Number event ∷ []) ∷ []
+event_group event = call evt_trigger_number (Number event ∷ Number trigger_count ∷ []) ∷ call evt_wait_number (Number event ∷ []) ∷ []
 
 -- it maps a page at an address, makes an alias of it in the client's space for that, finds its own page, and releases it;
 -- `first` is the number of the group's first call, which made the page
 abbrev pub page_group : ℕ → ℕ → ℕ → List ScriptCall
 page_group client first addr =
-    call mman_get_page (Number addr ∷ [])
-    ∷ call mman_alias_page (Back first ∷ Number (alias_spaces + client) ∷ Number addr ∷ [])
-    ∷ call mman_find (Number client ∷ Number addr ∷ []) ∷ call mman_release_page (Back first ∷ []) ∷ []
+    call mman_get_page_number (Number addr ∷ [])
+    ∷ call mman_alias_page_number (Back first ∷ Number (alias_spaces + client) ∷ Number addr ∷ [])
+    ∷ call mman_find_number (Number client ∷ Number addr ∷ []) ∷ call mman_release_page_number (Back first ∷ []) ∷ []
 
 -- the name of a file
 abbrev pub file_name : ℕ → List ℕ
@@ -55,14 +55,14 @@ file_text client group = decimal client ++ (codes ":" ++ decimal group)
 -- it opens a file as a root, writes into it, goes back to its start, reads it, and closes it
 abbrev pub file_group : ℕ → ℕ → ℕ → ℕ → List ScriptCall
 file_group client first group file =
-    call tsplit (Number 0 ∷ Text (file_name file) ∷ []) ∷ call twrite (Back first ∷ Text (file_text client group) ∷ [])
-    ∷ call tseek (Back first ∷ Number 0 ∷ []) ∷ call tread (Back first ∷ Number read_bytes ∷ []) ∷ call trelease (Back first ∷ []) ∷ []
+    call tsplit_number (Number 0 ∷ Text (file_name file) ∷ []) ∷ call twrite_number (Back first ∷ Text (file_text client group) ∷ [])
+    ∷ call tseek_number (Back first ∷ Number 0 ∷ []) ∷ call tread_number (Back first ∷ Number read_bytes ∷ []) ∷ call trelease_number (Back first ∷ []) ∷ []
 
 -- it makes a thread of a priority, yields it, asks which is next, puts it to sleep, and ends it
 abbrev pub thread_group : ℕ → ℕ → List ScriptCall
 thread_group first priority =
-    call sched_create_thd (Number priority ∷ []) ∷ call sched_yield (Back first ∷ []) ∷ call sched_next []
-    ∷ call sched_sleep (Back first ∷ []) ∷ call sched_exit (Back first ∷ []) ∷ []
+    call sched_create_thd_number (Number priority ∷ []) ∷ call sched_yield_number (Back first ∷ []) ∷ call sched_next_number []
+    ∷ call sched_sleep_number (Back first ∷ []) ∷ call sched_exit_number (Back first ∷ []) ∷ []
 
 -- a group of a service: its client, the number of its first call among the client's calls, its own number among the
 -- client's groups, both from 1, and the number that was drawn for it

@@ -1,7 +1,8 @@
 // Plays a script.
 ghost use Rattle.std.specs.Prelude.{◌≡◌, [], true, IfOk};
+ghost use Rattle.sg_facts.specs.Trace.{run_of};
 ghost use Rattle.sg_play_laws.specs.Playable.{IsPlayable};
-ghost use Rattle.sg_sim.specs.Played.{IsPlayed};
+ghost use Rattle.sg_sim.specs.Played.{FollowsSchedule, IsPlayed};
 ghost use Rattle.sg_wake_laws.specs.Waking.{no_query_waits};
 
 use sg_base::{NoMemory, Stops};
@@ -11,7 +12,8 @@ use sg_sim::{Play, Played};
 use std::alloc::Global;
 
 /// Plays a script to its end on a service, by its tables: until no client can take a turn. The service stops where its stops say, of
-/// which none was asked yet. `NoMemory` also where a step of its world wanted memory.
+/// which none was asked yet, and until then the turns are those of the play without stops. `NoMemory` also where a step of its world
+/// wanted memory.
 pub fn play<S: Service, T: Stops>(
     alloc: Global,
     tables: Tables,
@@ -23,7 +25,8 @@ pub fn play<S: Service, T: Stops>(
     requires waits { no_query_waits tables.iface.facts ≡ true }
     requires unasked { T.asked stops ≡ 0 }
     requires unstruck { T.struck stops ≡ [] }
-    ensures { IfOk result (λ played. IsPlayed (record { interface = tables.iface; ask = S.ask; parts = S.parts; walks = tables.walks }) T.test script (T.plan stops) played) }
+    ensures played { IfOk result (IsPlayed (record { interface = tables.iface; ask = S.ask; parts = S.parts; walks = tables.walks }) T.test script (T.plan stops)) }
+    ensures schedule { IfOk result (λ ended. FollowsSchedule tables.iface S.ask script (run_of ended.trace) ended.history.items) }
 {
     let mut play = Play::<S, T>::new(alloc, tables, script, stops)?;
     play.play(alloc)

@@ -80,25 +80,29 @@ all_taken (s ∷ seats) = ap (λ l. s ∷ l) (all_taken seats)
 not_withdrawn : (w : WorldView) → w.withdrawn ≡ [] → unanswered w ≡ flat_map offered_by w.seats
 not_withdrawn w none = ap (λ l. flat_map offered_by w.seats ++ map (λ x. x.call) l) none ∙ append-nil (flat_map offered_by w.seats)
 
-module _ (z : Setting) (test : ℕ → List ℕ → List ℕ → Type 0) (script : Script) (plan : List ℕ) (w : WorldView) (given : List (List ℕ)) (passed last : ℕ)
-    (is : KeepsPlay z script w given passed last) (told : RecoversSoFar z w) (settled : is_setting_up script w.seats ≡ false) (nobody : NobodyGoes script w.seats) where
+module _ (z : Setting) (test : ℕ → List ℕ → List ℕ → Type 0) (script : Script) (plan : List ℕ) (w : WorldView) (given : List (List ℕ)) (passed last : ℕ) (in_order : Bool)
+    (is : KeepsPlay z script w given passed last in_order) (told : RecoversSoFar z w) (settled : is_setting_up script w.seats ≡ false) (nobody : NobodyGoes script w.seats) where
   blocks : (o : Object) (call : Call) → z.ask o call ≡ None → (fun_at z.iface.facts.funs call.fun).block ≡ true
   blocks = told.set.law.shape.blocks
 
   some : 1 ≤ most_client script.clients
   some = clients_from_one 0 script.clients is.playing.playable.clients
 
-  follows : FollowsSchedule z.iface z.ask script w.run w.history
-  follows =
+  follows : in_order ≡ true → FollowsSchedule z.iface z.ask script w.run w.history
+  follows so =
       let plain = plain_ends z.iface z.ask script blocks is.playing.playable.setup some is.playing.playable.turns in
       record {
         plain = plain.0;
         is_plain = plain.1;
-        follows = following_end z script w passed last is.following (nobody_next z.iface script w given passed last is.playing settled nobody) plain.0 plain.1;
+        follows = following_end z script w passed last (is.following so) (nobody_next z.iface script w given passed last is.playing settled nobody) plain.0 plain.1;
         alone = plain_alone z.iface z.ask script blocks is.playing.playable.setup is.playing.playable.turns some (is.playing.playable.fit 1) w.history plain.0 (ends_from script 1 w.seats)
             (IsLegal-from z.iface z.ask w.history told.legal) (playing_calls z.iface script w.history w.seats given is.playing)
             (playing_ends z.iface z.ask script w.history w.seats given is.playing nobody (λ client first there. told.waits client first there)) plain.1;
       }
+
+  pub follows_plain : in_order ≡ true → (ended : Ended) → ended.history.items ≡ w.history → run_of ended.trace ≡ w.run → FollowsSchedule z.iface z.ask script (run_of ended.trace) ended.history.items
+  follows_plain so ended history run =
+      subst (λ h. FollowsSchedule z.iface z.ask script (run_of ended.trace) h) (sym history) (subst (λ r. FollowsSchedule z.iface z.ask script r w.history) (sym run) (follows so))
 
   pub played : (ended : Ended) → ended.history.items ≡ w.history → run_of ended.trace ≡ w.run → ended.ends ≡ ends_from script 1 w.seats
       → IsRecovered (stubs_of z) w.history w.run (unanswered w) → test w.run.points (struck_in w.run) plan → IsPlayed (stubs_of z) test script plan ended
@@ -114,6 +118,5 @@ module _ (z : Setting) (test : ℕ → List ℕ → List ℕ → Type 0) (script
     stops = subst (λ r. test r.points (struck_in r) plan) (sym run) stops;
     ends = subst (λ h. AreEnds z.iface z.ask h script ended.ends) (sym history) (subst (AreEnds z.iface z.ask w.history script) (sym ends)
         (playing_ends z.iface z.ask script w.history w.seats given is.playing nobody (λ client first there. told.waits client first there)));
-    schedule = subst (λ h. FollowsSchedule z.iface z.ask script (run_of ended.trace) h) (sym history) (subst (λ r. FollowsSchedule z.iface z.ask script r w.history) (sym run) follows);
     woken = subst (λ h. AreWoken z.iface.facts h (run_of ended.trace)) (sym history) (subst (AreWoken z.iface.facts w.history) (sym run) (waking_woken z w is.none_waits is.waking));
   }

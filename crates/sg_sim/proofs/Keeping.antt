@@ -1,4 +1,4 @@
--- A play keeps what it keeps, at a turn, and where a turn wants memory.
+-- A play keeps what it keeps, at a turn in its order or out of it, and where a turn wants memory.
 use Rattle.std.proofs.Common.{◌≡◌, ◌⊎◌, ℕ, ◌-◌, ◌≤◌, Bool, true, false, cond, List, [], length, map, refl, sym, ◌∙◌, ap, subst, inl, inr, arith, replicate, None, Some}
 use Rattle.std.specs.declared.option.Option.{Option}
 use Rattle.std.specs.Prelude.{nat_lt}
@@ -98,47 +98,58 @@ as_many : (z : Setting) (script : Script) (w now : WorldView) (given later : Lis
 as_many z script w now given later was is = is.clients ∙ sym was.clients
 
 pub kept_new : (z : Setting) (script : Script) → IsPlayable z.iface script → no_query_waits z.iface.facts ≡ true → (w : WorldView) → w ≡ new_world (replicate (most_client script.clients) no_seat)
-    → KeepsPlay z script w (replicate (most_client script.clients) []) 0 0
-kept_new z script playable none_waits w new = subst (λ x. KeepsPlay z script x (replicate (most_client script.clients) []) 0 0) (sym new) (record {
+    → KeepsPlay z script w (replicate (most_client script.clients) []) 0 0 true
+kept_new z script playable none_waits w new = subst (λ x. KeepsPlay z script x (replicate (most_client script.clients) []) 0 0 true) (sym new) (record {
   playing = playing_new z.iface script playable;
   none_withdrawn = refl;
   last_there = omega arith;
-  following = following_new z script (new_world (replicate (most_client script.clients) no_seat)) refl;
+  following = λ ordered. following_new z script (new_world (replicate (most_client script.clients) no_seat)) refl;
   waking = waking_new z (new_world (replicate (most_client script.clients) no_seat)) (most_client script.clients) refl;
   none_waits = none_waits;
 })
 
-module _ (z : Setting) (script : Script) (w : WorldView) (given : List (List ℕ)) (passed last : ℕ) (is : KeepsPlay z script w given passed last) where
-  -- a client took its turn, of which so many turns of the schedule are behind it then
-  pub kept_turn : (client : ℕ) → 1 ≤ client → client ≤ length w.seats → (later : ℕ) → IsNextTurn script (stage_of script w passed last) client later → (now : WorldView) (gave : List (List ℕ)) → TakesTurn z script w given client now gave
-      → KeepsPlay z script now gave later client
-  kept_turn client first there later next now gave t = record {
+module _ (z : Setting) (script : Script) (w : WorldView) (given : List (List ℕ)) (passed last : ℕ) (in_order : Bool) (is : KeepsPlay z script w given passed last in_order) where
+  -- a turn out of order may follow
+  pub kept_aside : KeepsPlay z script w given passed last false
+  kept_aside = record {
+    playing = is.playing;
+    none_withdrawn = is.none_withdrawn;
+    last_there = is.last_there;
+    following = λ ordered. absurd (cc ordered);
+    waking = is.waking;
+    none_waits = is.none_waits;
+  }
+
+  -- a client took its turn, of which so many turns of the schedule are behind it then, and which may have been the next
+  pub kept_turn : (client : ℕ) → 1 ≤ client → client ≤ length w.seats → (later : ℕ) (ordered : Bool) → (ordered ≡ true → (in_order ≡ true) × IsNextTurn script (stage_of script w passed last) client later)
+      → (handed : Option ℕ) (now : WorldView) (gave : List (List ℕ)) → TakesTurn z script w given client handed now gave → KeepsPlay z script now gave later client ordered
+  kept_turn client first there later ordered next handed now gave t = record {
     playing = t.playing;
-    none_withdrawn = none_stepped z script (behind_offer z script w given client) client t.handed now t.steps ∙ none_offered z.iface.facts script w client ∙ is.none_withdrawn;
+    none_withdrawn = none_stepped z script (behind_offer z script w given client) client handed now t.steps ∙ none_offered z.iface.facts script w client ∙ is.none_withdrawn;
     last_there = omega (arith, there, as_many z script w now given gave is.playing t.playing);
-    following = following_taken z script w given client passed last is.playing first there is.following now later t.handed next t.offered t.told_before t.told t.steps;
-    waking = waking_turn z script (behind_offer z script w given client) now given client t.handed t.offered t.told_before t.told first
+    following = λ so. following_taken z script w given client passed last is.playing first there (is.following (next so).0) now later handed (next so).1 t.offered t.told_before t.told t.steps;
+    waking = waking_turn z script (behind_offer z script w given client) now given client handed t.offered t.told_before t.told first
         (subst (λ n. client ≤ n) (sym (as_many z script w (behind_offer z script w given client) given given is.playing t.offered)) there)
         (waking_offer z script w given client is.playing first there is.waking) t.steps;
     none_waits = is.none_waits;
   }
 
   -- a turn wanted memory
-  pub kept_miss : (client : ℕ) → 1 ≤ client → client ≤ length w.seats → (now : WorldView) (gave : List (List ℕ)) → MissesTurn z script w given client now gave → KeepsPlay z script now gave passed last
-  kept_miss client first there now gave m = subst (λ l. KeepsPlay z script now l passed last) (sym m.same) (record {
+  pub kept_miss : (client : ℕ) → 1 ≤ client → client ≤ length w.seats → (now : WorldView) (gave : List (List ℕ)) → MissesTurn z script w given client now gave → KeepsPlay z script now gave passed last in_order
+  kept_miss client first there now gave m = subst (λ l. KeepsPlay z script now l passed last in_order) (sym m.same) (record {
     playing = m.playing;
     none_withdrawn = by m.missed ∙ is.none_withdrawn;
     last_there = omega (arith, is.last_there, as_many z script w now given given is.playing m.playing);
-    following = following m.missed;
+    following = λ so. following (is.following so) m.missed;
     waking = waking m.missed;
     none_waits = is.none_waits;
   })
     where
-      following : (now ≡ w) ⊎ (now ≡ happened w) ⊎ (IsPlaying z.iface script (behind_offer z script w given client).history (behind_offer z script w given client).seats given × WantsMemory z (behind_offer z script w given client) client now)
+      following : IsFollowing z script w passed last → (now ≡ w) ⊎ (now ≡ happened w) ⊎ (IsPlaying z.iface script (behind_offer z script w given client).history (behind_offer z script w given client).seats given × WantsMemory z (behind_offer z script w given client) client now)
           → IsFollowing z script now passed last
-      following (inl same) = subst (λ x. IsFollowing z script x passed last) (sym same) is.following
-      following (inr (inl same)) = subst (λ x. IsFollowing z script x passed last) (sym same) (following_happened z script w passed last is.following)
-      following (inr (inr both)) = following_wanted z script (behind_offer z script w given client) now client passed last both.1 (following_offer z script w client passed last first there is.following)
+      following f (inl same) = subst (λ x. IsFollowing z script x passed last) (sym same) f
+      following f (inr (inl same)) = subst (λ x. IsFollowing z script x passed last) (sym same) (following_happened z script w passed last f)
+      following f (inr (inr both)) = following_wanted z script (behind_offer z script w given client) now client passed last both.1 (following_offer z script w client passed last first there f)
 
       waking : (now ≡ w) ⊎ (now ≡ happened w) ⊎ (IsPlaying z.iface script (behind_offer z script w given client).history (behind_offer z script w given client).seats given × WantsMemory z (behind_offer z script w given client) client now)
           → IsWaking z now

@@ -1,3 +1,4 @@
+mod AnyTurn
 mod Beginning
 mod Calls
 mod Ending

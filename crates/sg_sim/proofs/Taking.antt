@@ -19,11 +19,10 @@ on_err P (Err e) holds = holds
 module _ (z : Setting) (script : Script) (w : WorldView) (given : List (List ℕ)) (client : ℕ) where
   pub taken : (x now : WorldView) (handed : Option ℕ) (later : List (List ℕ)) → x ≡ with_offer z.iface.facts script w client → IsPlaying z.iface script x.history x.seats given → RecoversSoFar z x
       → StepsInTurn z script x client handed now → later ≡ with_handed given client handed → IsPlaying z.iface script now.history now.seats (with_handed given client handed) → RecoversSoFar z now
-      → TakesTurn z script w given client now later
+      → TakesTurn z script w given client handed now later
   taken x now handed later offer playing told steps gives is told_now = record {
     offered = subst (λ (v : WorldView). IsPlaying z.iface script v.history v.seats given) offer playing;
     told_before = subst (RecoversSoFar z) offer told;
-    handed = handed;
     steps = subst (λ v. StepsInTurn z script v client handed now) offer steps;
     gives = gives;
     playing = subst (IsPlaying z.iface script now.history now.seats) (sym gives) is;

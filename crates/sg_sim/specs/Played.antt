@@ -1,4 +1,5 @@
--- What a play promises of its run, whatever its stops.
+-- What a play promises of its run, whatever its stops and whoever took its turns, and what it promises where its turns were those of the
+-- play without stops.
 use Rattle.std.specs.Prelude.{ℕ, List}
 use Rattle.sg_facts.specs.Interface.{Declared}
 use Rattle.sg_facts.specs.Legal.{IsLegal, Table}
@@ -31,7 +32,5 @@ pub record IsPlayed (s : Stubs) (test : ℕ → List ℕ → List ℕ → Type 0
   pub stops : test (run_of ended.trace).points (struck_in (run_of ended.trace)) plan
   -- each client with a call is done, or waits in its next call, which the service can't answer
   pub ends : AreEnds s.interface s.ask ended.history.items script ended.ends
-  -- the turns are those of the play without stops until the service stops
-  pub schedule : FollowsSchedule s.interface s.ask script (run_of ended.trace) ended.history.items
   -- who waits is woken before it waits again
   pub woken : AreWoken s.interface.facts ended.history.items (run_of ended.trace)

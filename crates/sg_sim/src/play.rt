@@ -1,15 +1,18 @@
 // A play: whose turn it is, and the play to its end.
-ghost use Rattle.std.specs.Prelude.{◌≡◌, ◌≤◌, ◌<◌, ◌++◌, ℕ, List, [], true, false, None, IfOk, IfSome, OnOk, length, nat_lt, replicate};
+ghost use Rattle.std.specs.Prelude.{◌≡◌, ◌≤◌, ◌<◌, ◌++◌, ℕ, List, [], true, false, None, IfOk, IfSome, OnErr, OnOk, length, nat_lt, replicate};
 ghost use Rattle.sg_play_laws.specs.Callers.{is_setting_up};
 ghost use Rattle.sg_play_laws.specs.Ends.{end_of, ends_from};
 ghost use Rattle.sg_sim.specs.Inside.Ends.{end_by};
 ghost use Rattle.sg_play_laws.specs.Playable.{IsPlayable};
 ghost use Rattle.sg_play_laws.specs.Turns.{NobodyGoes, may_go};
+ghost use Rattle.sg_facts.specs.Trace.{run_of};
 ghost use Rattle.sg_plain.specs.Calls.{most_client, script_calls};
+ghost use Rattle.sg_play.specs.Turning.{StepsInTurn, with_offer};
 ghost use Rattle.sg_follow_laws.specs.Stages.{IsNextTurn};
 ghost use Rattle.sg_sim.specs.Inside.Next.{IsFirstBehind, NoneBehind, NoneScheduled, may_go_next, stage_now};
 ghost use Rattle.sg_seat.specs.WorldView.{is_blocked_phase, new_world, no_seat, seat_of};
-ghost use Rattle.sg_sim.specs.Played.{IsPlayed};
+ghost use Rattle.sg_sim.specs.Played.{FollowsSchedule, IsPlayed};
+ghost use Rattle.sg_sim.specs.Playing.{can_step};
 ghost use Rattle.sg_wake_laws.specs.Waking.{no_query_waits};
 ghost use Rattle.sg_world.specs.Worlded.{setting_of};
 ghost use Rattle.sg_world_laws.specs.Setting.{stubs_of};
@@ -44,6 +47,8 @@ pub struct Play<S: Service, T: Stops> {
     passed: usize,
     // The client of the last turn, 0 before the first.
     last: u8,
+    // Whether each turn so far was that of the play without stops.
+    in_order: bool,
 }
 
 impl<S: Service, T: Stops> Model for Play<S, T> {
@@ -54,9 +59,9 @@ impl<S: Service, T: Stops> Model for Play<S, T> {
 
     ghost Value = { Playing };
 
-    ghost view = { λ p. record { tables = p.world.tables; script = p.script; plan = p.world.plan; view = p.world.view; passed = p.passed; last = p.last } };
+    ghost view = { λ p. record { tables = p.world.tables; script = p.script; plan = p.world.plan; view = p.world.view; passed = p.passed; last = p.last; in_order = p.in_order } };
 
-    ghost invariant = { λ p. KeepsPlay (setting_of S.ask S.sound S.parts p.world.tables) p.script p.world.view (lists_of p.given) p.passed p.last };
+    ghost invariant = { λ p. KeepsPlay (setting_of S.ask S.sound S.parts p.world.tables) p.script p.world.view (lists_of p.given) p.passed p.last p.in_order };
 }
 
 // A turn that is to be taken: its client, and how many turns of the schedule are behind it.
@@ -85,6 +90,7 @@ impl<S: Service, T: Stops> Play<S, T> {
         ensures view { IfOk result (λ p. p.view ≡ new_world (replicate (most_client script.clients) no_seat)) }
         ensures passed { IfOk result (λ p. p.passed ≡ 0) }
         ensures last { IfOk result (λ p. p.last ≡ 0) }
+        ensures in_order { IfOk result (λ p. p.in_order ≡ true) }
     {
         let clients = most_client(script.clients.as_slice());
         let given = Given::new(alloc, clients)?;
@@ -95,6 +101,7 @@ impl<S: Service, T: Stops> Play<S, T> {
             given,
             passed: 0,
             last: 0,
+            in_order: true,
         })
     }
 
@@ -104,6 +111,7 @@ impl<S: Service, T: Stops> Play<S, T> {
         ensures tables { self.new.tables ≡ self.old.tables }
         ensures script { self.new.script ≡ self.old.script }
         ensures plan { self.new.plan ≡ self.old.plan }
+        ensures in_order { self.new.in_order ≡ self.old.in_order }
     {
         for _ in 0..MOST_TURNS {
             if !self.is_setting_up() {
@@ -115,12 +123,62 @@ impl<S: Service, T: Stops> Play<S, T> {
         Err(NoMemory)
     }
 
-    /// Plays all that is left, to the end: until no client can take a turn. `NoMemory` also where a step of its world wanted memory.
-    pub fn play(&mut self, alloc: Global) -> Result<Played, NoMemory>
-        ensures played { IfOk result (λ played. IsPlayed (stubs_of (setting_of S.ask S.sound S.parts self.old.tables)) T.test self.old.script self.old.plan played) }
+    /// Whether a client is one of the play's.
+    pub fn has(&self, client: u8) -> bool
+        ensures first { result ≡ true → 1 ≤ client }
+        ensures last { result ≡ true → client ≤ length self.now.view.seats }
+        ensures beyond { result ≡ false → 1 ≤ client → length self.now.view.seats < client }
+    {
+        client >= FIRST && client <= self.clients()
+    }
+
+    /// Whether a client is one of the play's and can take a turn: it has a call under way that doesn't wait, or it has none and has more
+    /// calls.
+    pub fn can_step(&self, client: u8) -> bool
+        ensures can { result ≡ can_step self.now client }
+        ensures first { result ≡ true → 1 ≤ client }
+        ensures last { result ≡ true → client ≤ length self.now.view.seats }
+    {
+        self.can_go(client)
+    }
+
+    /// Makes one turn of a client, whatever the schedule says: the client offers its next call where it has none under way, makes a step,
+    /// and leaves behind its last call. Gives the descriptor of the reply that was handed over, 0 for none; None where no reply was.
+    /// After `NoMemory` the turn may be made again.
+    pub fn turn(&mut self, alloc: Global, client: u8) -> Result<Option<u64>, NoMemory>
+        requires can { can_step self.old client ≡ true }
+        requires setup { is_setting_up self.old.script self.old.view.seats ≡ true → client ≡ 1 }
+        ensures steps { let z = setting_of S.ask S.sound S.parts self.old.tables in
+            IfOk result (λ handed. StepsInTurn z self.old.script (with_offer z.iface.facts self.old.script self.old.view client) client handed self.new.view) }
+        ensures again { OnErr result (can_step self.new client ≡ true) }
+        ensures settled { is_setting_up self.old.script self.old.view.seats ≡ false → is_setting_up self.new.script self.new.view.seats ≡ false }
+        ensures clients { length self.new.view.seats ≡ length self.old.view.seats }
+        ensures in_order { self.new.in_order ≡ false }
         ensures tables { self.new.tables ≡ self.old.tables }
         ensures script { self.new.script ≡ self.old.script }
         ensures plan { self.new.plan ≡ self.old.plan }
+    {
+        self.in_order = false;
+        let handed = take_turn(
+            alloc,
+            &mut self.world,
+            &self.script,
+            &mut self.given,
+            client,
+        )?;
+        self.last = client;
+        Ok(handed)
+    }
+
+    /// Plays all that is left, to the end: until no client can take a turn. Where each turn before was that of the play without stops, so
+    /// are these. `NoMemory` also where a step of its world wanted memory.
+    pub fn play(&mut self, alloc: Global) -> Result<Played, NoMemory>
+        ensures played { IfOk result (IsPlayed (stubs_of (setting_of S.ask S.sound S.parts self.old.tables)) T.test self.old.script self.old.plan) }
+        ensures schedule { self.old.in_order ≡ true → IfOk result (λ ended. FollowsSchedule self.old.tables.iface S.ask self.old.script (run_of ended.trace) ended.history.items) }
+        ensures tables { self.new.tables ≡ self.old.tables }
+        ensures script { self.new.script ≡ self.old.script }
+        ensures plan { self.new.plan ≡ self.old.plan }
+        ensures in_order { self.new.in_order ≡ self.old.in_order }
     {
         for _ in 0..MOST_TURNS {
             match self.next_turn() {
@@ -149,6 +207,7 @@ impl<S: Service, T: Stops> Play<S, T> {
         ensures tables { self.new.tables ≡ self.old.tables }
         ensures script { self.new.script ≡ self.old.script }
         ensures plan { self.new.plan ≡ self.old.plan }
+        ensures in_order { self.new.in_order ≡ self.old.in_order }
     {
         take_turn(
             alloc,
@@ -268,20 +327,12 @@ impl<S: Service, T: Stops> Play<S, T> {
         ensures first { result ≡ true → 1 ≤ client }
         ensures last { result ≡ true → client ≤ length self.now.view.seats }
         ensures may { 1 ≤ client → result ≡ may_go_next self.now client }
+        ensures can { result ≡ can_step self.now client }
     {
         if !self.has(client) {
             return false;
         }
         may_go(self.world.phase(client), self.has_more(client))
-    }
-
-    // Whether a client is one of the world.
-    fn has(&self, client: u8) -> bool
-        ensures first { result ≡ true → 1 ≤ client }
-        ensures last { result ≡ true → client ≤ length self.now.view.seats }
-        ensures beyond { result ≡ false → 1 ≤ client → length self.now.view.seats < client }
-    {
-        client >= FIRST && client <= self.clients()
     }
 
     // Whether a client has more calls than it has entries.
@@ -298,7 +349,8 @@ impl<S: Service, T: Stops> Play<S, T> {
     fn end(&self, alloc: Global) -> Result<Played, NoMemory>
         requires settled { is_setting_up self.now.script self.now.view.seats ≡ false }
         requires nobody { NobodyGoes self.now.script self.now.view.seats }
-        ensures { IfOk result (λ played. IsPlayed (stubs_of (setting_of S.ask S.sound S.parts self.now.tables)) T.test self.now.script self.now.plan played) }
+        ensures played { IfOk result (IsPlayed (stubs_of (setting_of S.ask S.sound S.parts self.now.tables)) T.test self.now.script self.now.plan) }
+        ensures schedule { self.now.in_order ≡ true → IfOk result (λ ended. FollowsSchedule self.now.tables.iface S.ask self.now.script (run_of ended.trace) ended.history.items) }
     {
         if self.world.refused() > 0 {
             return Err(NoMemory);

@@ -1,5 +1,5 @@
 // The turn of a client.
-ghost use Rattle.std.specs.Prelude.{◌≡◌, ◌≤◌, ℕ, List, [], true, OnOk, OnErr, length};
+ghost use Rattle.std.specs.Prelude.{◌≡◌, ◌≤◌, ℕ, List, [], true, IfOk, OnErr, length};
 ghost use Rattle.sg_play.specs.Recovering.{RecoversSoFar};
 ghost use Rattle.sg_play_laws.specs.Callers.{is_setting_up};
 ghost use Rattle.sg_play_laws.specs.Plays.{IsPlaying};
@@ -16,19 +16,19 @@ use sg_world::World;
 use std::alloc::Global;
 
 /// A client takes its turn: it offers its next call where it has none under way, makes a step, and leaves behind its last call. What it
-/// is given is noted where a reply is handed over.
+/// is given is noted where a reply is handed over: the descriptor, 0 for none. None where no reply was.
 pub fn take_turn<S: Service, T: Stops>(
     alloc: Global,
     world: &mut World<S, T>,
     script: &Script,
     given: &mut Given,
     client: u8,
-) -> Result<(), NoMemory>
+) -> Result<Option<u64>, NoMemory>
     requires first { 1 ≤ client }
     requires last { client ≤ length world.old.view.seats }
     requires setup { is_setting_up script.now world.old.view.seats ≡ true → client ≡ 1 }
     requires playing { IsPlaying world.old.tables.iface script.now world.old.view.history world.old.view.seats (lists_of given.old) }
-    ensures taken { OnOk result (TakesTurn (setting_of S.ask S.sound S.parts world.old.tables) script.now world.old.view (lists_of given.old) client world.new.view (lists_of given.new)) }
+    ensures taken { IfOk result (λ handed. TakesTurn (setting_of S.ask S.sound S.parts world.old.tables) script.now world.old.view (lists_of given.old) client handed world.new.view (lists_of given.new)) }
     ensures missed { OnErr result (MissesTurn (setting_of S.ask S.sound S.parts world.old.tables) script.now world.old.view (lists_of given.old) client world.new.view (lists_of given.new)) }
     ensures tables { world.new.tables ≡ world.old.tables }
     ensures plan { world.new.plan ≡ world.old.plan }
@@ -36,11 +36,12 @@ pub fn take_turn<S: Service, T: Stops>(
     given.reserve(client)?;
     offer_next(alloc, world, script, given.of(client), client)?;
     tell(world);
-    if let Some(id) = make_step(alloc, world, script, client)? {
+    let handed = make_step(alloc, world, script, client)?;
+    if let Some(id) = handed {
         given.add(client, id);
     }
     tell(world);
-    Ok(())
+    Ok(handed)
 }
 
 // What a world tells of itself. Nothing is done.

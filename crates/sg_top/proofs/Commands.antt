@@ -11,7 +11,7 @@ use Rattle.sg_load.specs.declared.kind.ServiceKind.TheVariants.{Locks, Events, P
 use Rattle.sg_script.specs.Numbers.{value_of_digits}
 use Rattle.sg_top.specs.declared.command.Command.{Command}
 use Rattle.sg_top.specs.declared.command.Command.TheVariants.{Sim, SimTrace, Check, Compile, Load}
-use Rattle.sg_top.specs.Answer.{AreDigitsOf, AreWords, IsCommand}
+use Rattle.sg_top.specs.Answer.{AreDigitsOf, SayTexts, IsCommand}
 use Rattle.sg_top.specs.Inside.Words.{IsLoadOf, IsPairOf, IsWordOf}
 
 -- ---- names

@@ -17,7 +17,7 @@ use Rattle.sg_lex.specs.Table.{IsNumber}
 use Rattle.sg_load.specs.Services.{facts_by}
 use Rattle.sg_plain.specs.Promises.{somebody_waits}
 use Rattle.sg_script.specs.Numbers.{greatest_number, value_of_digits}
-use Rattle.sg_top.specs.Headline.{IsLoad, IsRunOfInput, played_services}
+use Rattle.sg_top.specs.Headline.{IsRunOfLoad, IsRunOfInput, played_services}
 use Rattle.sg_top.specs.declared.command.Command.{Command}
 use Rattle.sg_top.specs.declared.command.Command.TheVariants.{Sim, SimTrace, Check, Compile, Load}
 use Rattle.sg_top.specs.declared.status.Status.{Status}
@@ -30,17 +30,17 @@ abbrev pub AreDigitsOf : ℕ → List ℕ → Type 0
 AreDigitsOf number digits = IsNumber digits × (value_of_digits digits ≡ number) × (number ≤ greatest_number)
 
 -- words are these texts, one by one
-abbrev pub AreWords : List (List ℕ) → List (String Global) → Type 0
-AreWords texts words = map string_bytes words ≡ texts
+abbrev pub SayTexts : List (List ℕ) → List (String Global) → Type 0
+SayTexts texts words = map string_bytes words ≡ texts
 
 -- the words say a command
 abbrev pub IsCommand : List (String Global) → Command → Type 0
-IsCommand words Sim = AreWords (codes "sim" ∷ []) words
-IsCommand words SimTrace = AreWords (codes "sim" ∷ codes "trace" ∷ []) words
-IsCommand words Check = AreWords (codes "check" ∷ []) words
-IsCommand words Compile = AreWords (codes "compile" ∷ []) words
+IsCommand words Sim = SayTexts (codes "sim" ∷ []) words
+IsCommand words SimTrace = SayTexts (codes "sim" ∷ codes "trace" ∷ []) words
+IsCommand words Check = SayTexts (codes "check" ∷ []) words
+IsCommand words Compile = SayTexts (codes "compile" ∷ []) words
 IsCommand words (Load service number) =
-    (digits : List ℕ) × AreDigitsOf number digits × AreWords (codes "load" ∷ (facts_by service).name ∷ digits ∷ []) words
+    (digits : List ℕ) × AreDigitsOf number digits × SayTexts (codes "load" ∷ (facts_by service).name ∷ digits ∷ []) words
 
 -- whether a command is a play
 abbrev pub is_play : Command → Bool
@@ -104,7 +104,7 @@ IsOutput (Load service number) bytes ended status output = ⊥
 
 -- the output of a command without an input, its status and its run
 abbrev pub IsOwnOutput : Command → Option Ended → Status → List ℕ → Type 0
-IsOwnOutput (Load service number) (Some ended) status output = (status ≡ ended_status ended.ends) × IsLoad service number ended output
+IsOwnOutput (Load service number) (Some ended) status output = (status ≡ ended_status ended.ends) × IsRunOfLoad service number ended output
 IsOwnOutput command ended status output = ⊥
 
 -- the line with which a command refuses bytes that aren't too many

@@ -86,7 +86,7 @@ pub record IsRunOfInput (bytes : List ℕ) (with_trace : Bool) (ended : Ended) (
   pub output : written ≡ report_of i.facts ended with_trace
 
 -- this is a run of the script that is generated from a number for a service, under its standard interface, with its output
-pub record IsLoad (kind : ServiceKind) (number : ℕ) (ended : Ended) (written : List ℕ) : Type 0 where
+pub record IsRunOfLoad (kind : ServiceKind) (number : ℕ) (ended : Ended) (written : List ℕ) : Type 0 where
   pub run : IsRunOf (whole (facts_by kind)) (answering kind) (generated kind number) ended
   -- the turns are those of the play without stops until the service stops
   pub schedule : FollowsSchedule (whole (facts_by kind)) (answering kind).ask (generated kind number) (run_of ended.trace) ended.history.items

@@ -1,5 +1,5 @@
 -- What a play keeps between turns.
-use Rattle.std.specs.Prelude.{ℕ, ◌≡◌, ◌≤◌, List, [], true, length}
+use Rattle.std.specs.Prelude.{ℕ, ◌≡◌, ◌≤◌, Bool, List, [], true, length}
 use Rattle.sg_follow_laws.specs.Follows.{IsFollowing}
 use Rattle.sg_play_laws.specs.Plays.{IsPlaying}
 use Rattle.sg_script.specs.declared.script.Script.{Script}
@@ -8,11 +8,11 @@ use Rattle.sg_wake_laws.specs.Waking.{IsWaking, no_query_waits}
 use Rattle.sg_world_laws.specs.Setting.{Setting}
 
 -- the clients make the script's calls, none is withdrawn, the client of the last turn is one of the world, the play without
--- stops is followed, and who waits is woken before it waits again
-pub record KeepsPlay (z : Setting) (script : Script) (w : WorldView) (given : List (List ℕ)) (passed last : ℕ) : Type 0 where
+-- stops is followed where each turn was its, and who waits is woken before it waits again
+pub record KeepsPlay (z : Setting) (script : Script) (w : WorldView) (given : List (List ℕ)) (passed last : ℕ) (in_order : Bool) : Type 0 where
   pub playing : IsPlaying z.iface script w.history w.seats given
   pub none_withdrawn : w.withdrawn ≡ []
   pub last_there : last ≤ length w.seats
-  pub following : IsFollowing z script w passed last
+  pub following : in_order ≡ true → IsFollowing z script w passed last
   pub waking : IsWaking z w
   pub none_waits : no_query_waits z.iface.facts ≡ true

@@ -15,11 +15,10 @@ module _ (z : Setting) (script : Script) (w : WorldView) (given : List (List ℕ
   abbrev pub behind_offer : WorldView
   behind_offer = with_offer z.iface.facts script w client
 
-  -- the client took its turn
-  pub record TakesTurn (now : WorldView) (later : List (List ℕ)) : Type 0 where
+  -- the client took its turn, which may have handed a reply over
+  pub record TakesTurn (handed : Option ℕ) (now : WorldView) (later : List (List ℕ)) : Type 0 where
     pub offered : IsPlaying z.iface script behind_offer.history behind_offer.seats given
     pub told_before : RecoversSoFar z behind_offer
-    pub handed : Option ℕ
     pub steps : StepsInTurn z script behind_offer client handed now
     pub gives : later ≡ with_handed given client handed
     pub playing : IsPlaying z.iface script now.history now.seats later

@@ -1,12 +1,13 @@
 -- What the play came to.
-use Rattle.std.proofs.Common.{◌≡◌, ◌∙◌, ◌≤◌, ℕ, false, ap, sym, subst, arith}
+use Rattle.std.proofs.Common.{◌≡◌, ◌∙◌, ◌≤◌, ℕ, true, false, ap, sym, subst, arith}
 use Rattle.sg_facts.specs.Trace.{run_of}
+use Rattle.sg_hist.specs.declared.ended.Ended.{Ended}
 use Rattle.sg_play_laws.specs.Callers.{is_setting_up}
 use Rattle.sg_play_laws.specs.Ends.{ends_from}
 use Rattle.sg_play_laws.specs.Turns.{NobodyGoes}
 use Rattle.sg_sim.proofs.Calls.{at_zero}
-use Rattle.sg_sim.proofs.Ending.{played}
-use Rattle.sg_sim.specs.Played.{IsPlayed}
+use Rattle.sg_sim.proofs.Ending.{follows_plain, played}
+use Rattle.sg_sim.specs.Played.{FollowsSchedule, IsPlayed}
 use Rattle.sg_world_laws.specs.Setting.{Setting, stubs_of}
 use Rattle.sg_sim.specs.Inside.Givens.{lists_of}
 use Rattle.sg_sim.specs.Inside.Keeps.{KeepsPlay}
@@ -14,8 +15,8 @@ use Rattle.sg_sim.specs.Playing.{Playing}
 use Rattle.sg_world.specs.Worlded.{setting_of}
 use Rattle.sg_sim.proofs.play.Play.end.Goals as goal
 
-pub returns : goal.returns
-returns g c =
+pub returns-clause-played : goal.returns-clause-played
+returns-clause-played g c =
     let x = c.self.inside in
     let z : Setting = setting_of g.S.Service.ask g.S.Service.sound g.S.Service.parts x.world.tables in
     let settled : is_setting_up x.script x.world.view.seats ≡ false = subst (λ (q : Playing). is_setting_up q.script q.view.seats ≡ false) (sym c.self.view_is) c.requires.settled in
@@ -23,8 +24,22 @@ returns g c =
     let ends = c.in_ok-ends.ensures ∙ ap (λ (q : Playing). ends_from q.script 1 q.view.seats) (sym c.self.view_is) in
     subst (λ (q : Playing). IsPlayed (stubs_of (setting_of g.S.Service.ask g.S.Service.sound g.S.Service.parts q.tables)) g.T.Stops.test q.script q.plan c.new.result) c.self.view_is
     (subst (IsPlayed (stubs_of z) g.T.Stops.test x.script x.world.plan) (sym c.new.ensures)
-    (played z g.T.Stops.test x.script x.world.plan x.world.view (lists_of x.given) x.passed x.last c.self.invariant
+    (played z g.T.Stops.test x.script x.world.plan x.world.view (lists_of x.given) x.passed x.last x.in_order c.self.invariant
     (record { set = c.interface.ensures.set; legal = c.history.ensures.legal; recovering = c.trace.ensures.recovering; waits = c.history.ensures.waits })
     settled nobody _
     (c.in_ok-copied.ensures ∙ c.history.ensures.items) (c.in_ok-copied-2.ensures ∙ c.trace.ensures.run) ends
     (c.trace.ensures.recovered (sym c.refused.ensures ∙ at_zero c.refused.result c.if-refused-gt0.false)) c.trace.ensures.stopped))
+
+pub returns-clause-schedule : goal.returns-clause-schedule
+returns-clause-schedule g c = λ so.
+    let x = c.self.inside in
+    let z : Setting = setting_of g.S.Service.ask g.S.Service.sound g.S.Service.parts x.world.tables in
+    let settled : is_setting_up x.script x.world.view.seats ≡ false = subst (λ (q : Playing). is_setting_up q.script q.view.seats ≡ false) (sym c.self.view_is) c.requires.settled in
+    let nobody : NobodyGoes x.script x.world.view.seats = subst (λ (q : Playing). NobodyGoes q.script q.view.seats) (sym c.self.view_is) c.requires.nobody in
+    let ordered : x.in_order ≡ true = subst (λ (q : Playing). q.in_order ≡ true) (sym c.self.view_is) so in
+    let history = ap (λ (e : Ended). e.history.items) c.new.ensures ∙ (c.in_ok-copied.ensures ∙ c.history.ensures.items) in
+    let run = ap (λ (e : Ended). run_of e.trace) c.new.ensures ∙ (c.in_ok-copied-2.ensures ∙ c.trace.ensures.run) in
+    subst (λ (q : Playing). FollowsSchedule q.tables.iface g.S.Service.ask q.script (run_of c.new.result.trace) c.new.result.history.items) c.self.view_is
+    (follows_plain z g.T.Stops.test x.script x.world.plan x.world.view (lists_of x.given) x.passed x.last x.in_order c.self.invariant
+    (record { set = c.interface.ensures.set; legal = c.history.ensures.legal; recovering = c.trace.ensures.recovering; waits = c.history.ensures.waits })
+    settled nobody ordered c.new.result history run)

@@ -1,5 +1,5 @@
 -- A new play.
-use Rattle.std.proofs.Common.{◌≡◌, ◌∙◌, ◌≤◌, [], replicate, ap, sym, subst}
+use Rattle.std.proofs.Common.{◌≡◌, ◌∙◌, ◌≤◌, true, [], replicate, ap, sym, subst}
 use Rattle.sg_facts.specs.Limits.{last_client}
 use Rattle.sg_facts.specs.Tables.{Compiled}
 use Rattle.sg_plain.specs.Calls.{most_client}
@@ -23,5 +23,5 @@ invariant_of-result g c =
     let z : Setting = setting_of g.S.Service.ask g.S.Service.sound g.S.Service.parts c.args.tables in
     let world = c.in_ok-world.ensures.view ∙ ap (λ n. new_world (replicate n no_seat)) count in
     let kept = kept_new z c.args.script c.requires.playable c.requires.waits c.in_ok-world.world.view world in
-    subst (λ (t : Compiled). KeepsPlay (setting_of g.S.Service.ask g.S.Service.sound g.S.Service.parts t) c.args.script c.in_ok-world.world.view (lists_of c.in_ok-given.given) 0 0) (sym c.in_ok-world.ensures.tables)
-    (subst (λ l. KeepsPlay z c.args.script c.in_ok-world.world.view l 0 0) (sym (c.in_ok-given.ensures ∙ ap (λ n. replicate n []) count)) kept)
+    subst (λ (t : Compiled). KeepsPlay (setting_of g.S.Service.ask g.S.Service.sound g.S.Service.parts t) c.args.script c.in_ok-world.world.view (lists_of c.in_ok-given.given) 0 0 true) (sym c.in_ok-world.ensures.tables)
+    (subst (λ l. KeepsPlay z c.args.script c.in_ok-world.world.view l 0 0 true) (sym (c.in_ok-given.ensures ∙ ap (λ n. replicate n []) count)) kept)

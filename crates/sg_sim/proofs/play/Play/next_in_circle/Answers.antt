@@ -30,7 +30,7 @@ pub returns-in-None-clause-over : goal.returns-in-None-clause-over
 returns-in-None-clause-over g c = λ none client first within.
     let p = c.args.self.now in
     let last : c.self.inside.last ≡ p.last = ap (λ (q : Playing). q.last) c.self.view_is in
-    let keeps = subst (λ (q : Playing). KeepsPlay (setting_of g.S.Service.ask g.S.Service.sound g.S.Service.parts q.tables) q.script q.view (lists_of c.self.inside.given) q.passed q.last) c.self.view_is c.self.invariant in
+    let keeps = subst (λ (q : Playing). KeepsPlay (setting_of g.S.Service.ask g.S.Service.sound g.S.Service.parts q.tables) q.script q.view (lists_of c.self.inside.given) q.passed q.last q.in_order) c.self.view_is c.self.invariant in
     let behind = subst (λ n. NoneBehind p n (length p.view.seats)) last (subst (λ n. NoneBehind p c.self.inside.last n) c.clients.ensures (c.next_behind.ensures.none c.in_default.is)) in
     let around = subst (NoneBehind p 0) last (c.next_behind-2.ensures.none c.in-None.is) in
     nobody p.tables.iface p (lists_of c.self.inside.given) keeps.playing behind around client first within

@@ -21,7 +21,7 @@ returns-then-can_go-clause-next g c =
 pub turns-preserved : goal.turns-preserved
 turns-preserved g c =
     let p = c.args.self.now in
-    let keeps = subst (λ (q : Playing). KeepsPlay (setting_of g.S.Service.ask g.S.Service.sound g.S.Service.parts q.tables) q.script q.view (lists_of c.self.inside.given) q.passed q.last) c.self.view_is c.self.invariant in
+    let keeps = subst (λ (q : Playing). KeepsPlay (setting_of g.S.Service.ask g.S.Service.sound g.S.Service.parts q.tables) q.script q.view (lists_of c.self.inside.given) q.passed q.last q.in_order) c.self.view_is c.self.invariant in
     let schedule = c.as_slice-schedule.ensures ∙ ap (λ (q : Playing). q.script.schedule) c.self.view_is in
     let client = slice_index_or c.as_slice-schedule.result.now c.turns.at 0 in
     let there : slice_get p.script.schedule c.turns.at ≡ Some client = ap (λ l. slice_get l c.turns.at) (sym schedule) ∙ number_at c.as_slice-schedule.result.now c.turns.at c.turns-test.true in

@@ -12,7 +12,7 @@ use Rattle.sg_sim.proofs.play.Play.setup_turn.Goals as goal
 
 pub returns-clause-last : goal.returns-clause-last
 returns-clause-last g c =
-    let keeps = subst (λ (q : Playing). KeepsPlay (setting_of g.S.Service.ask g.S.Service.sound g.S.Service.parts q.tables) q.script q.view (lists_of c.self.inside.given) q.passed q.last) c.self.view_is c.self.invariant in
+    let keeps = subst (λ (q : Playing). KeepsPlay (setting_of g.S.Service.ask g.S.Service.sound g.S.Service.parts q.tables) q.script q.view (lists_of c.self.inside.given) q.passed q.last q.in_order) c.self.view_is c.self.invariant in
     omega (arith, keeps.playing.clients, clients_from_one 0 c.args.self.now.script.clients keeps.playing.playable.clients)
 
 pub returns-clause-next : goal.returns-clause-next

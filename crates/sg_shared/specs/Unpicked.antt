@@ -1,0 +1,11 @@
+-- Tables and a script of no run, which stand where none was picked yet.
+use Rattle.std.specs.Prelude.{[]}
+use Rattle.sg_facts.specs.Facts.{no_facts}
+use Rattle.sg_facts.specs.Tables.{Compiled}
+use Rattle.sg_script.specs.declared.script.Script.{Script}
+
+abbrev pub no_tables : Compiled
+no_tables = record { iface = record { facts = no_facts; declared = 0; moves = []; steps = [] }; walks = [] }
+
+abbrev pub no_script : Script
+no_script = record { setup = []; clients = []; schedule = []; stops = [] }

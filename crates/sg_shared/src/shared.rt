@@ -1,0 +1,120 @@
+// The play that threads share. Each takes one turn at a time.
+ghost use Rattle.std.specs.Prelude.{◌≡◌, true, false};
+ghost use Rattle.sg_play_laws.specs.Callers.{is_setting_up};
+
+use sg_base::NoMemory;
+use sg_edge::AtPoints;
+use sg_facts::{LAST_CLIENT, Service};
+use sg_seat::Phase;
+use sg_sim::Play;
+use std::alloc::Global;
+use std::marker::{Brand, PhantomData};
+
+/// Which play is shared: its tables and its script. Each run picks its own.
+pub trait Naming {
+    ghost use Rattle.sg_facts.specs.Tables.{Compiled};
+    ghost use Rattle.sg_script.specs.declared.script.Script.{Script};
+
+    ghost tables: { Compiled };
+
+    ghost script: { Script };
+}
+
+impl Naming for Brand {
+    ghost use Rattle.sg_shared.specs.Unpicked.{no_script, no_tables};
+
+    ghost tables = { no_tables };
+
+    ghost script = { no_script };
+}
+
+/// What a client is to do next.
+#[derive(Clone, Copy, Debug)]
+pub enum Next {
+    /// It offers its call of this number, and makes a step.
+    Offers(u32),
+    /// It makes a step in the call that it has under way.
+    GoesOn,
+    /// It waits, while others can go on.
+    Waits,
+    /// It has no call left, or nobody can go on.
+    Through,
+}
+
+/// A play of the script that is shared, and whether some turn wanted memory. Until then its setup is done.
+#[derive(Drop)]
+pub struct Shared<S: Service, N: Naming> {
+    pub play: Play<S, AtPoints>,
+    pub short: bool,
+    pub of: PhantomData<N>,
+    ghost tables: { play.tables ≡ N.tables },
+    ghost script: { play.script ≡ N.script },
+    ghost plan: { play.plan ≡ N.script.stops },
+    ghost settled: { short ≡ false → is_setting_up play.script play.view.seats ≡ false },
+}
+
+impl<S: Service, N: Naming> Shared<S, N> {
+    /// A play whose setup was played, or wanted memory.
+    pub fn new(play: Play<S, AtPoints>, short: bool) -> Shared<S, N>
+        requires tables { play.tables ≡ N.tables }
+        requires script { play.script ≡ N.script }
+        requires plan { play.plan ≡ N.script.stops }
+        requires settled { short ≡ false → is_setting_up play.script play.view.seats ≡ false }
+    {
+        Shared {
+            play,
+            short,
+            of: PhantomData,
+        }
+    }
+
+    /// What a client is to do next. Where a turn wanted memory every client is through.
+    pub fn next(&self, client: u8) -> Next {
+        if self.short || !self.play.has(client) {
+            return Next::Through;
+        }
+        let world = self.play.world();
+        match world.phase(client) {
+            Phase::Idle | Phase::Left => {
+                if self.play.can_step(client) {
+                    Next::Offers(world.seq(client).saturating_add(1))
+                } else {
+                    Next::Through
+                }
+            }
+            Phase::Asked | Phase::Held | Phase::Receipted => Next::GoesOn,
+            Phase::Blocked => {
+                if self.somebody_goes() {
+                    Next::Waits
+                } else {
+                    Next::Through
+                }
+            }
+        }
+    }
+
+    /// Makes a turn of a client, where it can take one. Gives the number of its call where that was answered.
+    pub fn turn(&mut self, alloc: Global, client: u8) -> Option<u32> {
+        if self.short || !self.play.can_step(client) {
+            return None;
+        }
+        match self.play.turn(alloc, client) {
+            Ok(Some(_)) => Some(self.play.world().seq(client)),
+            Ok(None) => None,
+            Err(NoMemory) => {
+                self.short = true;
+                None
+            }
+        }
+    }
+
+    // Whether some client can take a turn.
+    fn somebody_goes(&self) -> bool {
+        'clients: for before in 0..LAST_CLIENT {
+            if self.play.can_step(before + 1) {
+                return true;
+            }
+        }
+        false
+    }
+}
