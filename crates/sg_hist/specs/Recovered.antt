@@ -42,6 +42,11 @@ use Rattle.sg_hist.specs.Reading.{Place, behind, is_by_guard, is_made, is_item_o
 abbrev pub calls_made : List Entry → List Call → List Call
 calls_made history unanswered = map (λ e. e.call) history ++ unanswered
 
+-- whether a client waits at its end
+abbrev pub is_blocked : End → Bool
+is_blocked Done = false
+is_blocked (Blocked call) = true
+
 -- the call in which a client waits at its end, if there is one
 abbrev pub waiting_in : End → List Call
 waiting_in Done = []

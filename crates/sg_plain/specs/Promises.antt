@@ -11,10 +11,9 @@ use Rattle.sg_facts.specs.declared.trace.Tag.TheVariants.{Walk, Load, Client}
 use Rattle.sg_facts.specs.Facts.{Facts, is_visible}
 use Rattle.sg_facts.specs.Trace.{Boot, Run}
 use Rattle.sg_hist.specs.declared.ended.End.{End}
-use Rattle.sg_hist.specs.declared.ended.End.TheVariants.{Done, Blocked}
 use Rattle.sg_hist.specs.Clients.{calls_of}
 use Rattle.sg_hist.specs.Reading.{Place, behind, is_by_guard, is_item_of, is_tagged, items_of, object_before, places_in, places_of}
-use Rattle.sg_hist.specs.Recovered.{struck_in}
+use Rattle.sg_hist.specs.Recovered.{is_blocked, struck_in}
 use Rattle.sg_script.specs.declared.script.Script.{Script}
 use Rattle.sg_script.specs.declared.script.ScriptCall.{ScriptCall}
 use Rattle.sg_plain.specs.Calls.{callers, resolved_by, script_calls}
@@ -43,10 +42,6 @@ abbrev pub AreScriptsStops : Script → Run → Type 0
 AreScriptsStops script run = struck_in run ≡ filter (λ stop. nat_le stop run.points) script.stops
 
 -- ---- ends
-
-abbrev pub is_blocked : End → Bool
-is_blocked Done = false
-is_blocked (Blocked call) = true
 
 -- whether some client waits at its end
 abbrev pub somebody_waits : List (ℕ × End) → Bool

@@ -25,6 +25,7 @@ use Rattle.sg_hist.specs.declared.ended.End.{End}
 use Rattle.sg_hist.specs.declared.ended.End.TheVariants.{Done, Blocked}
 use Rattle.sg_hist.specs.declared.ended.Ended.{Ended}
 use Rattle.sg_hist.specs.Reading.{items_of}
+use Rattle.sg_hist.specs.Recovered.{is_blocked}
 
 -- ---- words
 
@@ -177,15 +178,9 @@ report_of facts ended with_trace =
 
 -- ---- generated loads
 
--- 1 for the end of a client that waits, else 0
-abbrev pub blocked_once : End → ℕ
-blocked_once Done = 0
-blocked_once (Blocked call) = 1
-
 -- how many of these ends are those of clients that wait
 abbrev pub blocked_among : List (ℕ × End) → ℕ
-blocked_among [] = 0
-blocked_among (e ∷ ends) = blocked_once e.1 + blocked_among ends
+blocked_among ends = length (filter (λ e. is_blocked e.1) ends)
 
 -- the line of a generated load: its service's name and the number that it was generated from, the counts, and how many clients wait
 abbrev pub load_line_of : List ℕ → ℕ → Ended → List ℕ

@@ -3,7 +3,8 @@ ghost use Rattle.std.specs.Prelude.{◌≡◌, ℕ, List, true, false, IfOk, Non
 ghost use Rattle.sg_edge.specs.Stops.{AscendsAbove};
 ghost use Rattle.sg_input.specs.Inputs.{IsReady};
 ghost use Rattle.sg_play_laws.specs.Playable.{IsPlayable};
-ghost use Rattle.sg_plain.specs.Promises.{is_blocked, somebody_waits};
+ghost use Rattle.sg_hist.specs.Recovered.{is_blocked};
+ghost use Rattle.sg_plain.specs.Promises.{somebody_waits};
 ghost use Rattle.sg_load.specs.Generated.{generated};
 ghost use Rattle.sg_facts.specs.Laws.{whole};
 ghost use Rattle.sg_load.specs.Services.{facts_by};
