@@ -11,7 +11,8 @@ use Rattle.sg_load.specs.declared.kind.ServiceKind.{ServiceKind}
 use Rattle.sg_load.specs.declared.kind.ServiceKind.TheVariants.{Locks, Events, Pages, Files, Threads}
 use Rattle.sg_load.specs.Drawn.{after_draws, drawn, stops_from, upper}
 use Rattle.sg_load.specs.Functions.{evt_split_number, lock_alloc_number}
-use Rattle.sg_load.specs.Generated.{calls_before, calls_of_client, clients_from, generated, groups_from, groups_of, setup_count}
+use Rattle.sg_load.specs.Generated.{calls_of_client, clients_from, generated, groups_from, groups_of, setup_count}
+use Rattle.sg_script.specs.Flaws.{calls_before}
 use Rattle.sg_load.specs.Groups.{call, group_of, group_size, setup_of, times}
 use Rattle.sg_load.specs.Sizes.{calls_each, client_count, lock_count, event_count, most_distance, stop_count}
 use Rattle.sg_facts.specs.Laws.{whole}
@@ -166,14 +167,14 @@ first_fit service c = at (c == 1)
     at true = setup_fits service
     at false = refl
 
-first_length : (service : ServiceKind) (c : ℕ) → length (first_calls service c) ≡ calls_before service c
+first_length : (service : ServiceKind) (c : ℕ) → length (first_calls service c) ≡ calls_before (setup_count service) c
 first_length service c = at (c == 1)
   where
     at : (b : Bool) → length (if b then setup_of service else []) ≡ (if b then setup_count service else 0)
     at true = setup_length service
     at false = refl
 
-few_before : (service : ServiceKind) (c : ℕ) → calls_before service c ≤ 16
+few_before : (service : ServiceKind) (c : ℕ) → calls_before (setup_count service) c ≤ 16
 few_before service c = at service (c == 1)
   where
     at : (s : ServiceKind) (b : Bool) → (if b then setup_count s else 0) ≤ 16
@@ -196,8 +197,8 @@ some_size Threads = omega arith
 
 part_length : (service : ServiceKind) (c y : ℕ) → length (calls_of_client service c y) ≤ calls_each
 part_length service c y =
-    let same = groups_length service c y (1 + calls_before service c) 1 (groups_of service c) in
-    let few = few_in (group_size service) (calls_each - calls_before service c) (some_size service) in
+    let same = groups_length service c y (1 + calls_before (setup_count service) c) 1 (groups_of service c) in
+    let few = few_in (group_size service) (calls_each - calls_before (setup_count service) c) (some_size service) in
     omega (arith, same, few)
 
 -- ---- the script
@@ -210,16 +211,16 @@ module _ (service : ServiceKind) (number c : ℕ) where
   script_fits = elim (part_is service c 1 (after_draws number stop_count) client_count) [
     | inl none ↦ behind [] none refl
     | inr some ↦ behind (calls_of_client service c some.0) some.1
-        (groups_fit service c some.0 (1 + calls_before service c) 1 (groups_of service c) (omega arith))
+        (groups_fit service c some.0 (1 + calls_before (setup_count service) c) 1 (groups_of service c) (omega arith))
   ]
     where
       behind : (calls : List ScriptCall) → part_of c (generated service number).clients ≡ calls
-          → calls_fit (whole (facts_by service)) (1 + calls_before service c) calls ≡ true
+          → calls_fit (whole (facts_by service)) (1 + calls_before (setup_count service) c) calls ≡ true
           → calls_fit (whole (facts_by service)) 1 (script_calls (generated service number) c) ≡ true
       behind calls is fit =
           fit_both (whole (facts_by service)) 1 (first_calls service c) (part_of c (generated service number).clients) (first_fit service c)
           (subst (λ m. calls_fit (whole (facts_by service)) (1 + m) (part_of c (generated service number).clients) ≡ true) (sym (first_length service c))
-          (subst (λ s. calls_fit (whole (facts_by service)) (1 + calls_before service c) s ≡ true) (sym is) fit))
+          (subst (λ s. calls_fit (whole (facts_by service)) (1 + calls_before (setup_count service) c) s ≡ true) (sym is) fit))
 
   script_few : length (script_calls (generated service number) c) ≤ most_script_calls
   script_few = elim (part_is service c 1 (after_draws number stop_count) client_count) [

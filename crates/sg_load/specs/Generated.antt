@@ -1,10 +1,11 @@
 -- The script that is generated for a service from a number.
-use Rattle.std.specs.Prelude.{ℕ, zero, suc, ◌+◌, ◌-◌, ◌/◌, ◌==◌, if◌then◌else◌, List, [], ◌∷◌, ◌++◌}
+use Rattle.std.specs.Prelude.{ℕ, zero, suc, ◌+◌, ◌-◌, ◌/◌, List, [], ◌∷◌, ◌++◌}
 use Rattle.sg_load.specs.declared.kind.ServiceKind.{ServiceKind}
 use Rattle.sg_load.specs.declared.kind.ServiceKind.TheVariants.{Locks, Events}
 use Rattle.sg_load.specs.Drawn.{after_draws, drawn, stops_from, upper}
 use Rattle.sg_load.specs.Groups.{group_of, group_size, setup_of}
 use Rattle.sg_load.specs.Sizes.{calls_each, client_count, event_count, lock_count, stop_count}
+use Rattle.sg_script.specs.Flaws.{calls_before}
 use Rattle.sg_script.specs.declared.script.Script.{Script}
 use Rattle.sg_script.specs.declared.script.ScriptCall.{ScriptCall}
 
@@ -14,13 +15,9 @@ setup_count Locks = lock_count
 setup_count Events = event_count
 setup_count _ = 0
 
--- how many calls a client has before its groups: client 1 those of the setup
-abbrev pub calls_before : ServiceKind → ℕ → ℕ
-calls_before service client = if client == 1 then setup_count service else 0
-
--- how many groups a client makes of the calls that are left to it
+-- how many groups a client makes of the calls that are left to it: client 1 has those of the setup before
 abbrev pub groups_of : ServiceKind → ℕ → ℕ
-groups_of service client = (calls_each - calls_before service client) / group_size service
+groups_of service client = (calls_each - calls_before (setup_count service) client) / group_size service
 
 -- so many groups of a client, a draw for each, from the group on that begins with the client's call of a number
 unfoldable pub groups_from : ServiceKind → ℕ → ℕ → ℕ → ℕ → ℕ → List ScriptCall
@@ -31,7 +28,7 @@ groups_from service client x first group (suc count) =
 
 -- the calls of a client but for the setup
 abbrev pub calls_of_client : ServiceKind → ℕ → ℕ → List ScriptCall
-calls_of_client service client x = groups_from service client x (1 + calls_before service client) 1 (groups_of service client)
+calls_of_client service client x = groups_from service client x (1 + calls_before (setup_count service) client) 1 (groups_of service client)
 
 -- so many clients, from one on; the draws of one go on where those of the one before it ended
 unfoldable pub clients_from : ServiceKind → ℕ → ℕ → ℕ → List (ℕ × List ScriptCall)

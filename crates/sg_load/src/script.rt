@@ -2,7 +2,8 @@
 ghost use Rattle.std.specs.Prelude.{◌≡◌, ◌+◌, ◌<◌, ◌≤◌, OnOk, IfOk};
 ghost use Rattle.sg_edge.specs.Stops.{AscendsAbove};
 ghost use Rattle.sg_load.specs.Drawn.{after_draws, stops_from};
-ghost use Rattle.sg_load.specs.Generated.{calls_before, calls_of_client, clients_from, generated, groups_from, groups_of, setup_count};
+ghost use Rattle.sg_load.specs.Generated.{calls_of_client, clients_from, generated, groups_from, groups_of, setup_count};
+ghost use Rattle.sg_script.specs.Flaws.{calls_before};
 ghost use Rattle.sg_load.specs.Sizes.{client_count, stop_count};
 ghost use Rattle.sg_facts.specs.Laws.{whole};
 ghost use Rattle.sg_load.specs.Services.{facts_by};
@@ -96,7 +97,7 @@ fn calls_of(
 
 // How many calls a client has before its groups.
 fn calls_before(service: ServiceKind, client: u8) -> u32
-    ensures count { result ≡ calls_before service client }
+    ensures count { result ≡ calls_before (setup_count service) client }
     ensures few { result ≤ LOCKS }
 {
     if client == 1 { setup_count(service) } else { 0 }

@@ -6,12 +6,12 @@ use Rattle.sg_edge.specs.Edge.{Rose, ConsumesJust}
 use Rattle.sg_hist.specs.declared.ended.End.{End}
 use Rattle.sg_hist.specs.declared.ended.Ended.{Ended}
 use Rattle.sg_top.specs.declared.command.Command.{Command}
-use Rattle.sg_top.specs.declared.command.Command.TheVariants.{Sim, SimTrace, Check, Compile, Load}
+use Rattle.sg_top.specs.declared.command.Command.TheVariants.{Play, Check, Compile, Load}
 use Rattle.sg_top.specs.declared.status.Status.{Status}
 use Rattle.sg_top.specs.declared.status.Status.TheVariants.{Done, Waits, OtherWords, Refused, ReadFault, WriteFault, NoMemory}
 use Rattle.sg_input.specs.Lines.{too_long_line}
 use Rattle.sg_plain.specs.Promises.{somebody_waits}
-use Rattle.sg_top.specs.Answer.{Ends, HasRead, IsAnswer, IsOutput, IsOwnOutput, IsPlayOutput, IsRefusal, IsUntouched, SaysRefused, ended_status, has_input, is_play, most_bytes}
+use Rattle.sg_top.specs.Answer.{Ends, HasRead, IsAnswer, IsOutput, IsOwnOutput, IsPlayOutput, IsRefusal, IsUntouched, ReadsInput, SaysRefused, ended_status, has_input, is_play, most_bytes}
 use Rattle.sg_top.specs.Inside.Delivery.{IsDelivered, IsWritten}
 use Rattle.sg_top.proofs.Refusals.{never_refused, refuses_nothing}
 
@@ -63,10 +63,8 @@ ends_good ends is = by (somebody_waits ends) is
 -- an output of an input that is refused has its refusal, and no run came to its end
 refusal : (command : Command) (bytes : List ℕ) (ended : Option Ended) (status : Status) (output : List ℕ) → status ≡ Refused → length bytes ≤ most_bytes command
     → IsOutput command bytes ended status output → (ended ≡ None) × IsRefusal command bytes output
-refusal Sim bytes None status output two short is = (refl, inl (short, is.1))
-refusal Sim bytes (Some e) status output two short is = absurd (ends_good e.ends (sym is.0 ∙ two))
-refusal SimTrace bytes None status output two short is = (refl, inl (short, is.1))
-refusal SimTrace bytes (Some e) status output two short is = absurd (ends_good e.ends (sym is.0 ∙ two))
+refusal (Play threads trace) bytes None status output two short is = (refl, inl (short, is.1))
+refusal (Play threads trace) bytes (Some e) status output two short is = absurd (ends_good e.ends (sym is.0 ∙ two))
 refusal Check bytes ended status output two short (none, inl accepted) = absurd (cc (two, accepted.0))
 refusal Compile bytes ended status output two short (none, inl accepted) = absurd (cc (two, accepted.0))
 refusal Check bytes ended status output two short (none, inr refused) = (none, inl (short, refused.1))
@@ -77,8 +75,7 @@ refusal (Load service number) bytes ended status output two short is = absurd is
 own_good : (command : Command) (ended : Option Ended) (status : Status) (output : List ℕ) → IsOwnOutput command ended status output → status ≡ Refused → ⊥
 own_good (Load service number) (Some e) status output own two = ends_good e.ends (sym own.0 ∙ two)
 own_good (Load service number) None status output own two = own
-own_good Sim ended status output own two = own
-own_good SimTrace ended status output own two = own
+own_good (Play threads trace) ended status output own two = own
 own_good Check ended status output own two = own
 own_good Compile ended status output own two = own
 
@@ -91,8 +88,7 @@ own_is (Load service number) (Some e) status output own = (by (ends_so e.ends), 
     by (inl done) = inl (own.0 ∙ done)
     by (inr waits) = inr (inl (own.0 ∙ waits))
 own_is (Load service number) None status output own = absurd own
-own_is Sim ended status output own = absurd own
-own_is SimTrace ended status output own = absurd own
+own_is (Play threads trace) ended status output own = absurd own
 own_is Check ended status output own = absurd own
 own_is Compile ended status output own = absurd own
 
@@ -114,10 +110,10 @@ told_refused command source source' ended status output two has = refused_by com
 
 -- ---- statuses and runs
 
-played_status : (bytes : List ℕ) (with_trace : Bool) (ended : Option Ended) (status : Status) (output : List ℕ)
-    → IsPlayOutput bytes with_trace ended status output → (status ≡ Done) ⊎ (status ≡ Waits) ⊎ (status ≡ Refused)
-played_status bytes with_trace None status output is = inr (inr is.0)
-played_status bytes with_trace (Some e) status output is = by (ends_so e.ends)
+played_status : (bytes : List ℕ) (in_threads with_trace : Bool) (ended : Option Ended) (status : Status) (output : List ℕ)
+    → IsPlayOutput bytes in_threads with_trace ended status output → (status ≡ Done) ⊎ (status ≡ Waits) ⊎ (status ≡ Refused)
+played_status bytes in_threads with_trace None status output is = inr (inr is.0)
+played_status bytes in_threads with_trace (Some e) status output is = by (ends_so e.ends)
   where
     by : (ended_status e.ends ≡ Done) ⊎ (ended_status e.ends ≡ Waits) → (status ≡ Done) ⊎ (status ≡ Waits) ⊎ (status ≡ Refused)
     by (inl done) = inl (is.0 ∙ done)
@@ -125,8 +121,7 @@ played_status bytes with_trace (Some e) status output is = by (ends_so e.ends)
 
 output_status : (command : Command) (bytes : List ℕ) (ended : Option Ended) (status : Status) (output : List ℕ)
     → IsOutput command bytes ended status output → (status ≡ Done) ⊎ (status ≡ Waits) ⊎ (status ≡ Refused)
-output_status Sim bytes ended status output is = played_status bytes false ended status output is
-output_status SimTrace bytes ended status output is = played_status bytes true ended status output is
+output_status (Play threads trace) bytes ended status output is = played_status bytes threads trace ended status output is
 output_status Check bytes ended status output (none, inl accepted) = inl accepted.0
 output_status Compile bytes ended status output (none, inl accepted) = inl accepted.0
 output_status Check bytes ended status output (none, inr refused) = inr (inr refused.0)
@@ -144,15 +139,14 @@ status_is : (command : Command) (source source' : Ends) (ended : Option Ended) (
     → HasRead command source source' ended status output → (status ≡ Done) ⊎ (status ≡ Waits) ⊎ (status ≡ Refused)
 status_is command source source' ended status output has = status_by command source source' ended status output has.read
 
-played_run : (bytes : List ℕ) (with_trace : Bool) (ended : Option Ended) (status : Status) (output : List ℕ) → (status ≡ Refused → ⊥)
-    → IsPlayOutput bytes with_trace ended status output → IsSome ended
-played_run bytes with_trace None status output good is = absurd (good is.0)
-played_run bytes with_trace (Some e) status output good is = refl
+played_run : (bytes : List ℕ) (in_threads with_trace : Bool) (ended : Option Ended) (status : Status) (output : List ℕ) → (status ≡ Refused → ⊥)
+    → IsPlayOutput bytes in_threads with_trace ended status output → IsSome ended
+played_run bytes in_threads with_trace None status output good is = absurd (good is.0)
+played_run bytes in_threads with_trace (Some e) status output good is = refl
 
 output_run : (command : Command) (bytes : List ℕ) (ended : Option Ended) (status : Status) (output : List ℕ) → (status ≡ Refused → ⊥) → is_play command ≡ true
     → IsOutput command bytes ended status output → IsSome ended
-output_run Sim bytes ended status output good play is = played_run bytes false ended status output good is
-output_run SimTrace bytes ended status output good play is = played_run bytes true ended status output good is
+output_run (Play threads trace) bytes ended status output good play is = played_run bytes threads trace ended status output good is
 output_run Check bytes ended status output good play is = absurd (cc play)
 output_run Compile bytes ended status output good play is = absurd (cc play)
 output_run (Load service number) bytes ended status output good play is = absurd is
@@ -174,8 +168,7 @@ no_run (Some e) none some = cc
 
 output_play : (command : Command) (bytes : List ℕ) (ended : Option Ended) (status : Status) (output : List ℕ)
     → IsOutput command bytes ended status output → IsSome ended → is_play command ≡ true
-output_play Sim bytes ended status output is some = refl
-output_play SimTrace bytes ended status output is some = refl
+output_play (Play threads trace) bytes ended status output is some = refl
 output_play Check bytes ended status output is some = absurd (no_run ended is.0 some)
 output_play Compile bytes ended status output is some = absurd (no_run ended is.0 some)
 output_play (Load service number) bytes ended status output is some = absurd is
@@ -223,8 +216,7 @@ says_good command source source' ended status wanted output good has = says_by c
 
 -- a command without an input has no output for bytes
 no_output : (command : Command) (bytes : List ℕ) (ended : Option Ended) (status : Status) (output : List ℕ) → has_input command ≡ false → IsOutput command bytes ended status output → ⊥
-no_output Sim bytes ended status output without is = cc without
-no_output SimTrace bytes ended status output without is = cc without
+no_output (Play threads trace) bytes ended status output without is = cc without
 no_output Check bytes ended status output without is = cc without
 no_output Compile bytes ended status output without is = cc without
 no_output (Load service number) bytes ended status output without is = is
@@ -458,9 +450,14 @@ said_answer said source source' sink sink' status ended command one is_said a = 
 pub one_given : (command : Command) → IsOne (λ c. c ≡ command)
 one_given command a b is isn't = is ∙ sym isn't
 
+-- what was read for a command was read for the words that say it
+pub said_reads : (said : Command → Type 0) (told told' : Option (List ℕ)) (command : Command) → IsOne said → said command
+    → ReadsInput (λ c. c ≡ command) told told' → ReadsInput said told told'
+said_reads said told told' command one is_said (inl (c, is, has, consumed)) = inl (c, subst said (sym is) is_said, has, consumed)
+said_reads said told told' command one is_said (inr (without, same)) = inr (λ c said_c. without c (one c command said_c is_said), same)
+
 -- each command but a load has an input
-pub with_input : (c : Command) → (c ≡ Sim) ⊎ ((c ≡ SimTrace) ⊎ ((c ≡ Check) ⊎ (c ≡ Compile))) → has_input c ≡ true
-with_input c (inl is) = ap has_input is
+pub with_input : (c : Command) → ((threads : Bool) × (trace : Bool) × (c ≡ Play threads trace)) ⊎ ((c ≡ Check) ⊎ (c ≡ Compile)) → has_input c ≡ true
+with_input c (inl (threads, trace, is)) = ap has_input is
 with_input c (inr (inl is)) = ap has_input is
-with_input c (inr (inr (inl is))) = ap has_input is
-with_input c (inr (inr (inr is))) = ap has_input is
+with_input c (inr (inr is)) = ap has_input is

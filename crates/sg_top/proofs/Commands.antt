@@ -1,7 +1,8 @@
 -- The words say at most one command.
-use Rattle.std.proofs.Common.{◌≡◌, ◌<◌, ◌≤◌, ℕ, ◌+◌, ◌*◌, List, [], ◌∷◌, None, Some, get_or, length, map, slice_index_or, refl, sym, ◌∙◌, ap, subst, arith}
+use Rattle.std.proofs.Common.{◌≡◌, ◌<◌, ◌≤◌, ℕ, Bool, true, false, List, [], ◌∷◌, None, Some, get_or, length, map, slice_index_or, refl, sym, ◌∙◌, ap, subst, arith}
 use Rattle.std.proofs.lemmas.List.{length-map}
-use Rattle.std.specs.Prelude.{MatchOption, codes, string_bytes}
+use Rattle.std.specs.Prelude.{◌==◌, if◌then◌else◌, MatchOption, codes, string_bytes}
+use Rattle.std.specs.Str.{bytes_eq}
 use Rattle.std.specs.declared.option.Option.{Option}
 use Rattle.std.specs.declared.string.String.{String}
 use Rattle.std.specs.declared.alloc.Global.{Global}
@@ -10,49 +11,26 @@ use Rattle.sg_load.specs.declared.kind.ServiceKind.{ServiceKind}
 use Rattle.sg_load.specs.declared.kind.ServiceKind.TheVariants.{Locks, Events, Pages, Files, Threads}
 use Rattle.sg_script.specs.Numbers.{value_of_digits}
 use Rattle.sg_top.specs.declared.command.Command.{Command}
-use Rattle.sg_top.specs.declared.command.Command.TheVariants.{Sim, SimTrace, Check, Compile, Load}
+use Rattle.sg_top.specs.declared.command.Command.TheVariants.{Play, Check, Compile, Load}
 use Rattle.sg_top.specs.Answer.{AreDigitsOf, SayTexts, IsCommand}
+use Rattle.sg_top.specs.Inside.Kinds.{kind_called}
 use Rattle.sg_top.specs.Inside.Words.{IsLoadOf, IsPairOf, IsWordOf}
 
 -- ---- names
 
--- what tells the names of the services apart: their lengths, and their first letters
-abbrev letters : List ℕ → ℕ
-letters name = 1000 * length name + get_or name 0 0
-
-one_kind : (a b : ServiceKind) → letters (facts_by a).name ≡ letters (facts_by b).name → a ≡ b
-one_kind Locks Locks e = refl
-one_kind Locks Events e = absurd (omega (arith, e))
-one_kind Locks Pages e = absurd (omega (arith, e))
-one_kind Locks Files e = absurd (omega (arith, e))
-one_kind Locks Threads e = absurd (omega (arith, e))
-one_kind Events Locks e = absurd (omega (arith, e))
-one_kind Events Events e = refl
-one_kind Events Pages e = absurd (omega (arith, e))
-one_kind Events Files e = absurd (omega (arith, e))
-one_kind Events Threads e = absurd (omega (arith, e))
-one_kind Pages Locks e = absurd (omega (arith, e))
-one_kind Pages Events e = absurd (omega (arith, e))
-one_kind Pages Pages e = refl
-one_kind Pages Files e = absurd (omega (arith, e))
-one_kind Pages Threads e = absurd (omega (arith, e))
-one_kind Files Locks e = absurd (omega (arith, e))
-one_kind Files Events e = absurd (omega (arith, e))
-one_kind Files Pages e = absurd (omega (arith, e))
-one_kind Files Files e = refl
-one_kind Files Threads e = absurd (omega (arith, e))
-one_kind Threads Locks e = absurd (omega (arith, e))
-one_kind Threads Events e = absurd (omega (arith, e))
-one_kind Threads Pages e = absurd (omega (arith, e))
-one_kind Threads Files e = absurd (omega (arith, e))
-one_kind Threads Threads e = refl
+-- the kind of a service is the one that its name says
+pub called : (kind : ServiceKind) → kind_called (facts_by kind).name ≡ kind
+called Locks = refl
+called Events = refl
+called Pages = refl
+called Files = refl
+called Threads = refl
 
 -- ---- texts
 
 -- the texts of a command, with these digits
 abbrev texts_of : Command → List ℕ → List (List ℕ)
-texts_of Sim digits = codes "sim" ∷ []
-texts_of SimTrace digits = codes "sim" ∷ codes "trace" ∷ []
+texts_of (Play threads trace) digits = (if threads then codes "run" else codes "sim") ∷ (if trace then codes "trace" ∷ [] else [])
 texts_of Check digits = codes "check" ∷ []
 texts_of Compile digits = codes "compile" ∷ []
 texts_of (Load service number) digits = codes "load" ∷ (facts_by service).name ∷ digits ∷ []
@@ -63,8 +41,7 @@ Digits (Load service number) digits = AreDigitsOf number digits
 Digits _ digits = Unit {0}
 
 says : (words : List (String Global)) (c : Command) → IsCommand words c → (digits : List ℕ) × Digits c digits × (map string_bytes words ≡ texts_of c digits)
-says words Sim is = ([], tt, is)
-says words SimTrace is = ([], tt, is)
+says words (Play threads trace) is = ([], tt, is)
 says words Check is = ([], tt, is)
 says words Compile is = ([], tt, is)
 says words (Load service number) is = (is.0, is.1, is.2)
@@ -72,44 +49,28 @@ says words (Load service number) is = (is.0, is.1, is.2)
 abbrev text_at : ℕ → List (List ℕ) → List ℕ
 text_at n texts = get_or texts n []
 
--- what tells the commands apart: how many texts they have, and the length of the first
-abbrev tag : List (List ℕ) → ℕ
-tag texts = 100 * length texts + length (text_at 0 texts)
+-- the command that texts say, if they say one
+abbrev command_in : List (List ℕ) → Command
+command_in texts =
+    if bytes_eq (text_at 0 texts) (codes "load") then Load (kind_called (text_at 1 texts)) (value_of_digits (text_at 2 texts))
+    else if bytes_eq (text_at 0 texts) (codes "check") then Check
+    else if bytes_eq (text_at 0 texts) (codes "compile") then Compile
+    else Play (bytes_eq (text_at 0 texts) (codes "run")) (length texts == 2)
 
-one_by : (a b : Command) (da db : List ℕ) → Digits a da → Digits b db → texts_of a da ≡ texts_of b db → a ≡ b
-one_by Sim Sim da db x y e = refl
-one_by Sim SimTrace da db x y e = absurd (omega (arith, ap tag e))
-one_by Sim Check da db x y e = absurd (omega (arith, ap tag e))
-one_by Sim Compile da db x y e = absurd (omega (arith, ap tag e))
-one_by Sim (Load s n) da db x y e = absurd (omega (arith, ap tag e))
-one_by SimTrace Sim da db x y e = absurd (omega (arith, ap tag e))
-one_by SimTrace SimTrace da db x y e = refl
-one_by SimTrace Check da db x y e = absurd (omega (arith, ap tag e))
-one_by SimTrace Compile da db x y e = absurd (omega (arith, ap tag e))
-one_by SimTrace (Load s n) da db x y e = absurd (omega (arith, ap tag e))
-one_by Check Sim da db x y e = absurd (omega (arith, ap tag e))
-one_by Check SimTrace da db x y e = absurd (omega (arith, ap tag e))
-one_by Check Check da db x y e = refl
-one_by Check Compile da db x y e = absurd (omega (arith, ap tag e))
-one_by Check (Load s n) da db x y e = absurd (omega (arith, ap tag e))
-one_by Compile Sim da db x y e = absurd (omega (arith, ap tag e))
-one_by Compile SimTrace da db x y e = absurd (omega (arith, ap tag e))
-one_by Compile Check da db x y e = absurd (omega (arith, ap tag e))
-one_by Compile Compile da db x y e = refl
-one_by Compile (Load s n) da db x y e = absurd (omega (arith, ap tag e))
-one_by (Load s n) Sim da db x y e = absurd (omega (arith, ap tag e))
-one_by (Load s n) SimTrace da db x y e = absurd (omega (arith, ap tag e))
-one_by (Load s n) Check da db x y e = absurd (omega (arith, ap tag e))
-one_by (Load s n) Compile da db x y e = absurd (omega (arith, ap tag e))
-one_by (Load s n) (Load r m) da db x y e =
-    let kinds : s ≡ r = one_kind s r (ap (λ t. letters (text_at 1 t)) e) in
-    let digits : da ≡ db = ap (text_at 2) e in
-    let numbers : n ≡ m = sym x.1 ∙ ap value_of_digits digits ∙ y.1 in cc (kinds, numbers)
+it_is : (c : Command) (digits : List ℕ) → Digits c digits → command_in (texts_of c digits) ≡ c
+it_is (Play false false) digits fit = refl
+it_is (Play false true) digits fit = refl
+it_is (Play true false) digits fit = refl
+it_is (Play true true) digits fit = refl
+it_is Check digits fit = refl
+it_is Compile digits fit = refl
+it_is (Load service number) digits fit = ap (λ k. Load k (value_of_digits digits)) (called service) ∙ ap (Load service) fit.1
 
 pub one_command : (words : List (String Global)) (a b : Command) → IsCommand words a → IsCommand words b → a ≡ b
 one_command words a b x y =
     let u = says words a x in
-    let v = says words b y in one_by a b u.0 v.0 u.1 v.1 (sym u.2 ∙ v.2)
+    let v = says words b y in
+    sym (it_is a u.0 u.1) ∙ ap command_in (sym u.2 ∙ v.2) ∙ it_is b v.0 v.1
 
 -- ---- how many words
 
@@ -118,8 +79,8 @@ pub count_is : (words : List (String Global)) (c : Command) → IsCommand words 
 count_is words c is = let u = says words c is in by c u.0 (sym (length-map words string_bytes) ∙ ap length u.2)
   where
     by : (c : Command) (digits : List ℕ) → length words ≡ length (texts_of c digits) → (1 ≤ length words) × (length words ≤ 3)
-    by Sim digits l = (omega (arith, l), omega (arith, l))
-    by SimTrace digits l = (omega (arith, l), omega (arith, l))
+    by (Play threads false) digits l = (omega (arith, l), omega (arith, l))
+    by (Play threads true) digits l = (omega (arith, l), omega (arith, l))
     by Check digits l = (omega (arith, l), omega (arith, l))
     by Compile digits l = (omega (arith, l), omega (arith, l))
     by (Load s n) digits l = (omega (arith, l), omega (arith, l))
@@ -127,15 +88,19 @@ count_is words c is = let u = says words c is in by c u.0 (sym (length-map words
 -- ---- one word
 
 word_of : (word : String Global) (command : Command) → IsCommand (word ∷ []) command → IsWordOf (string_bytes word) command
-word_of word Sim is = ap (text_at 0) is
-word_of word SimTrace is = absurd (omega (arith, ap length is))
+word_of word (Play false false) is = ap (text_at 0) is
+word_of word (Play true false) is = ap (text_at 0) is
+word_of word (Play false true) is = absurd (omega (arith, ap length is))
+word_of word (Play true true) is = absurd (omega (arith, ap length is))
 word_of word Check is = ap (text_at 0) is
 word_of word Compile is = ap (text_at 0) is
 word_of word (Load s n) is = absurd (omega (arith, ap length is.2))
 
 of_word : (word : String Global) (command : Command) → IsWordOf (string_bytes word) command → IsCommand (word ∷ []) command
-of_word word Sim is = ap (λ t. t ∷ []) is
-of_word word SimTrace is = absurd is
+of_word word (Play false false) is = ap (λ t. t ∷ []) is
+of_word word (Play true false) is = ap (λ t. t ∷ []) is
+of_word word (Play false true) is = absurd is
+of_word word (Play true true) is = absurd is
 of_word word Check is = ap (λ t. t ∷ []) is
 of_word word Compile is = ap (λ t. t ∷ []) is
 of_word word (Load s n) is = absurd is
@@ -163,15 +128,19 @@ two_of (w ∷ v ∷ []) word more second third is isn't = cc (is, isn't)
 two_of (w ∷ v ∷ u ∷ words) word more second third is isn't = absurd (omega (arith, third))
 
 pair_of : (word more : String Global) (command : Command) → IsCommand (word ∷ more ∷ []) command → IsPairOf (string_bytes word) (string_bytes more) command
-pair_of word more Sim is = absurd (omega (arith, ap length is))
-pair_of word more SimTrace is = (ap (text_at 0) is, ap (text_at 1) is)
+pair_of word more (Play false false) is = absurd (omega (arith, ap length is))
+pair_of word more (Play true false) is = absurd (omega (arith, ap length is))
+pair_of word more (Play false true) is = (ap (text_at 0) is, ap (text_at 1) is)
+pair_of word more (Play true true) is = (ap (text_at 0) is, ap (text_at 1) is)
 pair_of word more Check is = absurd (omega (arith, ap length is))
 pair_of word more Compile is = absurd (omega (arith, ap length is))
 pair_of word more (Load s n) is = absurd (omega (arith, ap length is.2))
 
 of_pair : (word more : String Global) (command : Command) → IsPairOf (string_bytes word) (string_bytes more) command → IsCommand (word ∷ more ∷ []) command
-of_pair word more Sim is = absurd is
-of_pair word more SimTrace is = cc (is.0, is.1)
+of_pair word more (Play false false) is = absurd is
+of_pair word more (Play true false) is = absurd is
+of_pair word more (Play false true) is = cc (is.0, is.1)
+of_pair word more (Play true true) is = cc (is.0, is.1)
 of_pair word more Check is = absurd is
 of_pair word more Compile is = absurd is
 of_pair word more (Load s n) is = absurd is
@@ -200,22 +169,20 @@ three_of (w ∷ v ∷ u ∷ t ∷ words) word name digits third fourth a b c = a
 
 -- where no service has the name, or the digits stand for no number, nothing is said
 pub no_service : (word name digits : List ℕ) → ((kind : ServiceKind) → name ≡ (facts_by kind).name → ⊥) → (command : Command) → IsLoadOf word name digits command → ⊥
-no_service word name digits none Sim is = is
-no_service word name digits none SimTrace is = is
+no_service word name digits none (Play threads trace) is = is
 no_service word name digits none Check is = is
 no_service word name digits none Compile is = is
 no_service word name digits none (Load s n) is = none s is.1
 
 load_of : (word name digits : String Global) (command : Command) → IsCommand (word ∷ name ∷ digits ∷ []) command → IsLoadOf (string_bytes word) (string_bytes name) (string_bytes digits) command
-load_of word name digits Sim is = absurd (omega (arith, ap length is))
-load_of word name digits SimTrace is = absurd (omega (arith, ap length is))
+load_of word name digits (Play threads false) is = absurd (omega (arith, ap length is))
+load_of word name digits (Play threads true) is = absurd (omega (arith, ap length is))
 load_of word name digits Check is = absurd (omega (arith, ap length is))
 load_of word name digits Compile is = absurd (omega (arith, ap length is))
 load_of word name digits (Load s n) is = (ap (text_at 0) is.2, ap (text_at 1) is.2, subst (AreDigitsOf n) (sym (ap (text_at 2) is.2)) is.1)
 
 of_load : (word name digits : String Global) (command : Command) → IsLoadOf (string_bytes word) (string_bytes name) (string_bytes digits) command → IsCommand (word ∷ name ∷ digits ∷ []) command
-of_load word name digits Sim is = absurd is
-of_load word name digits SimTrace is = absurd is
+of_load word name digits (Play threads trace) is = absurd is
 of_load word name digits Check is = absurd is
 of_load word name digits Compile is = absurd is
 of_load word name digits (Load s n) is = (string_bytes digits, is.2, cc (is.0, is.1))

@@ -11,7 +11,7 @@ use Rattle.sg_input.specs.Inputs.{IsInputOf}
 use Rattle.sg_input.proofs.OneInput.{never_ready, not_refused}
 use Rattle.sg_top.specs.Headline.{IsRunOfInput}
 use Rattle.sg_top.specs.declared.command.Command.{Command}
-use Rattle.sg_top.specs.declared.command.Command.TheVariants.{Sim, SimTrace, Check, Compile, Load}
+use Rattle.sg_top.specs.declared.command.Command.TheVariants.{Play, Check, Compile, Load}
 use Rattle.sg_top.specs.declared.status.Status.{Status}
 use Rattle.sg_top.specs.declared.status.Status.TheVariants.{Refused}
 use Rattle.sg_top.specs.Answer.{IsOutput, IsPlayOutput, IsRefusal, IsRefusedAs, has_input, most_bytes, services}
@@ -26,18 +26,17 @@ not_untabled : (text line output : List ℕ) → IsCompiled services text (accep
 not_untabled text line output (tree, tables, parses, is, are, prints) bad = not_refused services text tables.iface line (tree, parses, is) bad
 
 -- an input that is played isn't refused
-not_unplayed : (bytes line output : List ℕ) (with_trace : Bool) (ended : Ended) → IsRunOfInput bytes with_trace ended output → IsInputOf services bytes (refused_input line) → ⊥
-not_unplayed bytes line output with_trace ended run bad = never_ready services bytes line run.i run.script bad run.ready
+not_unplayed : (bytes line output : List ℕ) (in_threads with_trace : Bool) (ended : Ended) → IsRunOfInput bytes in_threads with_trace ended output → IsInputOf services bytes (refused_input line) → ⊥
+not_unplayed bytes line output in_threads with_trace ended run bad = never_ready services bytes line run.i run.script bad run.ready
 
-played_alone : (bytes : List ℕ) (with_trace : Bool) (ended : Option Ended) (status : Status) (output line : List ℕ) → (status ≡ Refused → ⊥)
-    → IsPlayOutput bytes with_trace ended status output → IsInputOf services bytes (refused_input line) → ⊥
-played_alone bytes with_trace None status output line good is bad = good is.0
-played_alone bytes with_trace (Some e) status output line good is bad = not_unplayed bytes line output with_trace e is.1 bad
+played_alone : (bytes : List ℕ) (in_threads with_trace : Bool) (ended : Option Ended) (status : Status) (output line : List ℕ) → (status ≡ Refused → ⊥)
+    → IsPlayOutput bytes in_threads with_trace ended status output → IsInputOf services bytes (refused_input line) → ⊥
+played_alone bytes in_threads with_trace None status output line good is bad = good is.0
+played_alone bytes in_threads with_trace (Some e) status output line good is bad = not_unplayed bytes line output in_threads with_trace e is.1 bad
 
 good_alone : (command : Command) (bytes : List ℕ) (ended : Option Ended) (status : Status) (output line : List ℕ) → (status ≡ Refused → ⊥)
     → IsOutput command bytes ended status output → IsRefusedAs command bytes line → ⊥
-good_alone Sim bytes ended status output line good is bad = played_alone bytes false ended status output line good is bad
-good_alone SimTrace bytes ended status output line good is bad = played_alone bytes true ended status output line good is bad
+good_alone (Play threads trace) bytes ended status output line good is bad = played_alone bytes threads trace ended status output line good is bad
 good_alone Check bytes ended status output line good (none, inl accepts) bad = not_both bytes line output accepts.1 bad
 good_alone Compile bytes ended status output line good (none, inl accepts) bad = not_untabled bytes line output accepts.1 bad
 good_alone Check bytes ended status output line good (none, inr other) bad = good other.0
@@ -52,8 +51,7 @@ never_refused command bytes ended status output line good short is (inr (has, lo
 
 -- a command without an input refuses nothing
 pub refuses_nothing : (command : Command) (bytes line : List ℕ) → has_input command ≡ false → IsRefusal command bytes line → ⊥
-refuses_nothing Sim bytes line without is = cc without
-refuses_nothing SimTrace bytes line without is = cc without
+refuses_nothing (Play threads trace) bytes line without is = cc without
 refuses_nothing Check bytes line without is = cc without
 refuses_nothing Compile bytes line without is = cc without
 refuses_nothing (Load service number) bytes line without (inl is) = is.1

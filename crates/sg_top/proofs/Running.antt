@@ -1,5 +1,5 @@
 -- What a play promises is what the headline says of it.
-use Rattle.std.proofs.Common.{◌≡◌, ℕ, ◌<◌, Bool, true, cond, List, [], ◌∷◌, Some, Ok, Err, filter, refl, sym, ◌∙◌, ap, subst, arith}
+use Rattle.std.proofs.Common.{◌≡◌, ℕ, ◌<◌, Bool, true, false, cond, List, [], ◌∷◌, Some, Ok, Err, filter, refl, sym, ◌∙◌, ap, subst, arith}
 use Rattle.std.specs.Result.{IfOk}
 use Rattle.std.specs.declared.option.Option.{Option}
 use Rattle.std.specs.declared.result.Result.{Result}
@@ -8,11 +8,12 @@ use Rattle.std.proofs.lemmas.Bool.Decides.{nat_tests}
 use Rattle.sg_edge.specs.Stops.{AscendsAbove, up_to}
 use Rattle.sg_facts.specs.Interface.{Declared}
 use Rattle.sg_facts.specs.Tables.{AreTables}
+use Rattle.sg_facts.specs.Trace.{run_of}
 use Rattle.sg_facts.specs.declared.tables.WalkLine.{WalkLine}
 use Rattle.sg_hist.specs.declared.ended.Ended.{Ended}
 use Rattle.sg_report.specs.Report.{report_of}
 use Rattle.sg_script.specs.declared.script.Script.{Script}
-use Rattle.sg_sim.specs.Played.{IsPlayed}
+use Rattle.sg_sim.specs.Played.{FollowsSchedule, IsPlayed}
 use Rattle.sg_input.specs.Inputs.{IsReady}
 use Rattle.sg_top.proofs.Fitting.{is_served, kind_is}
 use Rattle.sg_top.specs.Answer.{IsPlayOutput, ended_status, services}
@@ -20,6 +21,11 @@ use Rattle.sg_top.specs.declared.status.Status.{Status}
 use Rattle.sg_top.specs.Headline.{Answering, IsRunOf, IsRunOfInput, answering}
 use Rattle.sg_top.specs.Inside.Kinds.{IsOneOfFive, kind_by}
 use Rattle.sg_top.specs.Inside.Runs.{IsPlayInOrder, IsPlayedOn}
+
+-- what three facts of an outcome make
+pub of_three : {A E : Type 0} (r : Result A E) (P Q R S : A → Type 0) → ((a : A) → P a → Q a → R a → S a) → IfOk r P → IfOk r Q → IfOk r R → IfOk r S
+of_three (Ok a) P Q R S make p q r = make a p q r
+of_three (Err e) P Q R S make p q r = tt
 
 -- stops that ascend are the listed ones up to a point
 listed : (low : ℕ) (stops : List ℕ) (points : ℕ) → AscendsAbove low stops → up_to points stops ≡ filter (λ stop. nat_le stop points) stops
@@ -31,42 +37,68 @@ listed low (n ∷ stops) points ascend =
     from_one : (n low : ℕ) → low < n → nat_le 1 n ≡ true
     from_one n low above = grind (arith, nat_tests)
 
-run_so : (i : Declared) (service : Answering) (walks : List WalkLine) (script : Script) (plan : List ℕ) (ended : Ended) → AreTables i walks → plan ≡ script.stops → AscendsAbove 0 script.stops
-    → IsPlayed (record { interface = i; ask = service.ask; parts = service.parts; walks = walks }) (λ asked struck plan. struck ≡ up_to asked plan) script plan ended
+run_so : (i : Declared) (service : Answering) (walks : List WalkLine) (script : Script) (ended : Ended) → AreTables i walks → AscendsAbove 0 script.stops
+    → IsPlayed (record { interface = i; ask = service.ask; parts = service.parts; walks = walks }) (λ asked struck plan. struck ≡ up_to asked plan) script script.stops ended
     → IsRunOf i service script ended
-run_so i service walks script plan ended tables same ascend played = record {
+run_so i service walks script ended tables ascend played = record {
   legal = played.legal;
   calls = played.calls;
   recovered = (walks, tables, played.recovered);
-  stops = played.stops ∙ ap (up_to _) same ∙ listed 0 script.stops _ ascend;
+  stops = played.stops ∙ listed 0 script.stops _ ascend;
   ends = played.ends;
   woken = played.woken;
 }
 
+-- a play by the tables of an interface is a run
+pub is_run : {E : Type 0} (i : Declared) (service : Answering) (script : Script) (r : Result Ended E) → AscendsAbove 0 script.stops → IfOk r (IsPlayedOn i service script)
+    → IfOk r (IsRunOf i service script)
+is_run i service script (Ok ended) ascend on = run_so i service on.0 script ended on.1 ascend on.2
+is_run i service script (Err e) ascend on = tt
+
 -- a play in one thread is a run that follows the play without stops
 pub in_order : {E : Type 0} (i : Declared) (service : Answering) (script : Script) (r : Result Ended E) → AscendsAbove 0 script.stops → IfOk r (IsPlayedOn i service script)
-    → IfOk r (IsPlayInOrder i service script)
-in_order i service script (Ok ended) ascend on = (run_so i service on.0 script script.stops ended on.1 refl ascend on.2, on.2.schedule)
-in_order i service script (Err e) ascend on = tt
+    → IfOk r (λ ended. FollowsSchedule i service.ask script (run_of ended.trace) ended.history.items) → IfOk r (IsPlayInOrder i service script)
+in_order i service script (Ok ended) ascend on follows = (run_so i service on.0 script ended on.1 ascend on.2, follows)
+in_order i service script (Err e) ascend on follows = tt
 
 -- a run of an input that is ready, with its report
-run_ready : (bytes : List ℕ) (i : Declared) (script : Script) (with_trace : Bool) (ended : Ended) (written : List ℕ) → IsReady services bytes i script → IsOneOfFive i.facts
-    → IsPlayInOrder i (answering (kind_by i.facts)) script ended → written ≡ report_of i.facts ended with_trace → IsRunOfInput bytes with_trace ended written
-run_ready bytes i script with_trace ended written ready one run is = record {
+run_ready : (bytes : List ℕ) (i : Declared) (script : Script) (in_threads with_trace : Bool) (ended : Ended) (written : List ℕ) → IsReady services bytes i script → IsOneOfFive i.facts
+    → IsRunOf i (answering (kind_by i.facts)) script ended
+    → (in_threads ≡ false → FollowsSchedule i (answering (kind_by i.facts)).ask script (run_of ended.trace) ended.history.items)
+    → written ≡ report_of i.facts ended with_trace → IsRunOfInput bytes in_threads with_trace ended written
+run_ready bytes i script in_threads with_trace ended written ready one run follows is = record {
   i = i;
   script = script;
   ready = ready;
   service = answering (kind_by i.facts);
   is_served = is_served (kind_by i.facts);
   its = kind_is i.facts one;
-  run = run.0;
-  schedule = run.1;
+  run = run;
+  schedule = follows;
   output = is;
 }
 
--- what is made of an input that is ready
-pub play_output : (bytes : List ℕ) (i : Declared) (script : Script) (with_trace : Bool) (played : Ended) (ended : Option Ended) (status : Status) (written : List ℕ) → IsReady services bytes i script
-    → IsOneOfFive i.facts → IsPlayInOrder i (answering (kind_by i.facts)) script played → ended ≡ Some played → status ≡ ended_status played.ends → written ≡ report_of i.facts played with_trace
-    → IsPlayOutput bytes with_trace ended status written
-play_output bytes i script with_trace played ended status written ready one run is its_status text =
-    subst (λ e. IsPlayOutput bytes with_trace e status written) (sym is) (its_status, run_ready bytes i script with_trace played written ready one run text)
+-- what is made of an input that is ready and was played
+play_output : (bytes : List ℕ) (i : Declared) (script : Script) (in_threads with_trace : Bool) (played : Ended) (ended : Option Ended) (status : Status) (written : List ℕ)
+    → IsReady services bytes i script → IsOneOfFive i.facts → IsRunOf i (answering (kind_by i.facts)) script played
+    → (in_threads ≡ false → FollowsSchedule i (answering (kind_by i.facts)).ask script (run_of played.trace) played.history.items)
+    → ended ≡ Some played → status ≡ ended_status played.ends → written ≡ report_of i.facts played with_trace
+    → IsPlayOutput bytes in_threads with_trace ended status written
+play_output bytes i script in_threads with_trace played ended status written ready one run follows is its_status text =
+    subst (λ e. IsPlayOutput bytes in_threads with_trace e status written) (sym is)
+    (its_status, run_ready bytes i script in_threads with_trace played written ready one run follows text)
+
+-- in one thread, and with a thread for each client
+pub output_in_order : (bytes : List ℕ) (i : Declared) (script : Script) (with_trace : Bool) (played : Ended) (ended : Option Ended) (status : Status) (written : List ℕ)
+    → IsReady services bytes i script → IsOneOfFive i.facts → IsPlayInOrder i (answering (kind_by i.facts)) script played
+    → ended ≡ Some played → status ≡ ended_status played.ends → written ≡ report_of i.facts played with_trace
+    → IsPlayOutput bytes false with_trace ended status written
+output_in_order bytes i script with_trace played ended status written ready one run is its_status text =
+    play_output bytes i script false with_trace played ended status written ready one run.0 (λ alone. run.1) is its_status text
+
+pub output_in_threads : (bytes : List ℕ) (i : Declared) (script : Script) (with_trace : Bool) (played : Ended) (ended : Option Ended) (status : Status) (written : List ℕ)
+    → IsReady services bytes i script → IsOneOfFive i.facts → IsRunOf i (answering (kind_by i.facts)) script played
+    → ended ≡ Some played → status ≡ ended_status played.ends → written ≡ report_of i.facts played with_trace
+    → IsPlayOutput bytes true with_trace ended status written
+output_in_threads bytes i script with_trace played ended status written ready one run is its_status text =
+    play_output bytes i script true with_trace played ended status written ready one run (λ alone. absurd (cc alone)) is its_status text

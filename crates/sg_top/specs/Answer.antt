@@ -19,7 +19,7 @@ use Rattle.sg_plain.specs.Promises.{somebody_waits}
 use Rattle.sg_script.specs.Numbers.{greatest_number, value_of_digits}
 use Rattle.sg_top.specs.Headline.{IsRunOfLoad, IsRunOfInput, played_services}
 use Rattle.sg_top.specs.declared.command.Command.{Command}
-use Rattle.sg_top.specs.declared.command.Command.TheVariants.{Sim, SimTrace, Check, Compile, Load}
+use Rattle.sg_top.specs.declared.command.Command.TheVariants.{Play, Check, Compile, Load}
 use Rattle.sg_top.specs.declared.status.Status.{Status}
 use Rattle.sg_top.specs.declared.status.Status.TheVariants.{Done, Waits, OtherWords, Refused, ReadFault, WriteFault, NoMemory}
 
@@ -35,8 +35,7 @@ SayTexts texts words = map string_bytes words ≡ texts
 
 -- the words say a command
 abbrev pub IsCommand : List (String Global) → Command → Type 0
-IsCommand words Sim = SayTexts (codes "sim" ∷ []) words
-IsCommand words SimTrace = SayTexts (codes "sim" ∷ codes "trace" ∷ []) words
+IsCommand words (Play threads trace) = SayTexts ((if threads then codes "run" else codes "sim") ∷ (if trace then codes "trace" ∷ [] else [])) words
 IsCommand words Check = SayTexts (codes "check" ∷ []) words
 IsCommand words Compile = SayTexts (codes "compile" ∷ []) words
 IsCommand words (Load service number) =
@@ -44,16 +43,25 @@ IsCommand words (Load service number) =
 
 -- whether a command is a play
 abbrev pub is_play : Command → Bool
-is_play Sim = true
-is_play SimTrace = true
+is_play (Play threads trace) = true
 is_play Check = false
 is_play Compile = false
 is_play (Load service number) = true
 
+-- whether a command is a play whose clients have threads of their own
+abbrev pub is_in_threads : Command → Bool
+is_in_threads (Play threads trace) = threads
+is_in_threads Check = false
+is_in_threads Compile = false
+is_in_threads (Load service number) = false
+
+-- the words say a command that one thread does
+abbrev pub IsSerialCommand : List (String Global) → Command → Type 0
+IsSerialCommand words command = IsCommand words command × (is_in_threads command ≡ false)
+
 -- whether a command has an input
 abbrev pub has_input : Command → Bool
-has_input Sim = true
-has_input SimTrace = true
+has_input (Play threads trace) = true
 has_input Check = true
 has_input Compile = true
 has_input (Load service number) = false
@@ -62,8 +70,7 @@ has_input (Load service number) = false
 
 -- the greatest number of bytes of a command's input
 abbrev pub most_bytes : Command → ℕ
-most_bytes Sim = most_input
-most_bytes SimTrace = most_input
+most_bytes (Play threads trace) = most_input
 most_bytes Check = most_interface
 most_bytes Compile = most_interface
 most_bytes (Load service number) = 0
@@ -79,9 +86,9 @@ abbrev pub ended_status : List (ℕ × End) → Status
 ended_status ends = if somebody_waits ends then Waits else Done
 
 -- the output of a play, and its status: the report of the run, or the line of an input that is refused
-abbrev pub IsPlayOutput : List ℕ → Bool → Option Ended → Status → List ℕ → Type 0
-IsPlayOutput bytes with_trace None status output = (status ≡ Refused) × IsInputOf services bytes (refused_input output)
-IsPlayOutput bytes with_trace (Some ended) status output = (status ≡ ended_status ended.ends) × IsRunOfInput bytes with_trace ended output
+abbrev pub IsPlayOutput : List ℕ → Bool → Bool → Option Ended → Status → List ℕ → Type 0
+IsPlayOutput bytes in_threads with_trace None status output = (status ≡ Refused) × IsInputOf services bytes (refused_input output)
+IsPlayOutput bytes in_threads with_trace (Some ended) status output = (status ≡ ended_status ended.ends) × IsRunOfInput bytes in_threads with_trace ended output
 
 -- the output of a check, and its status: the line of a text that is accepted, or of a text that is refused
 abbrev pub IsChecked : List ℕ → Status → List ℕ → Type 0
@@ -96,8 +103,7 @@ IsTabled text status output =
 
 -- the output of a command for an input, its status, and the run where there was one: only a play has one
 abbrev pub IsOutput : Command → List ℕ → Option Ended → Status → List ℕ → Type 0
-IsOutput Sim bytes ended status output = IsPlayOutput bytes false ended status output
-IsOutput SimTrace bytes ended status output = IsPlayOutput bytes true ended status output
+IsOutput (Play threads trace) bytes ended status output = IsPlayOutput bytes threads trace ended status output
 IsOutput Check bytes ended status output = (ended ≡ None) × IsChecked bytes status output
 IsOutput Compile bytes ended status output = (ended ≡ None) × IsTabled bytes status output
 IsOutput (Load service number) bytes ended status output = ⊥
@@ -109,8 +115,7 @@ IsOwnOutput command ended status output = ⊥
 
 -- the line with which a command refuses bytes that aren't too many
 abbrev pub IsRefusedAs : Command → List ℕ → List ℕ → Type 0
-IsRefusedAs Sim bytes output = IsInputOf services bytes (refused_input output)
-IsRefusedAs SimTrace bytes output = IsInputOf services bytes (refused_input output)
+IsRefusedAs (Play threads trace) bytes output = IsInputOf services bytes (refused_input output)
 IsRefusedAs Check bytes output = IsVerdict services bytes (refused output)
 IsRefusedAs Compile bytes output = IsVerdict services bytes (refused output)
 IsRefusedAs (Load service number) bytes output = ⊥

@@ -1,5 +1,5 @@
 -- What a play promises, and of which inputs.
-use Rattle.std.specs.Prelude.{ℕ, ◌≡◌, Bool, List, [], ◌∷◌, map}
+use Rattle.std.specs.Prelude.{ℕ, ◌≡◌, Bool, false, List, [], ◌∷◌, map}
 use Rattle.std.specs.List.{Contains}
 use Rattle.sg_event.specs.EventFacts.{event_facts}
 use Rattle.sg_event.specs.EventTable.{event_parts, event_table}
@@ -71,8 +71,8 @@ pub record IsRunOf (i : Declared) (service : Answering) (script : Script) (ended
 
 -- ---- inputs
 
--- an input is an interface of a service and a script for it, and this is a run of it with its output
-pub record IsRunOfInput (bytes : List ℕ) (with_trace : Bool) (ended : Ended) (written : List ℕ) : Type 0 where
+-- an input is an interface of a service and a script for it, and this is a run of it, in threads or in one thread, with its output
+pub record IsRunOfInput (bytes : List ℕ) (in_threads with_trace : Bool) (ended : Ended) (written : List ℕ) : Type 0 where
   pub i : Declared
   pub script : Script
   pub ready : IsReady (map (λ s. s.facts) played_services) bytes i script
@@ -80,8 +80,8 @@ pub record IsRunOfInput (bytes : List ℕ) (with_trace : Bool) (ended : Ended) (
   pub is_served : Contains played_services service
   pub its : service.facts ≡ i.facts
   pub run : IsRunOf i service script ended
-  -- the turns are those of the play without stops until the service stops
-  pub schedule : FollowsSchedule i service.ask script (run_of ended.trace) ended.history.items
+  -- in one thread the turns are those of the play without stops until the service stops
+  pub schedule : in_threads ≡ false → FollowsSchedule i service.ask script (run_of ended.trace) ended.history.items
   -- the bytes written are the report of the play
   pub output : written ≡ report_of i.facts ended with_trace
 

@@ -11,10 +11,9 @@ use sg_load::ServiceKind;
 /// A command of the program.
 #[derive(Clone, Copy, Debug, PartialEq, Eq)]
 pub enum Command {
-    /// `sim`: plays an input, and prints the report of its run.
-    Sim,
-    /// `sim trace`: plays an input, and prints the report of its run with all that was done to the service.
-    SimTrace,
+    /// `sim`, or `run` with a thread for each client: plays an input, and prints the report of its run; with `trace` behind it too
+    /// what was done to the service.
+    Play { threads: bool, trace: bool },
     /// `check`: says whether an input is the text of an interface that is accepted.
     Check,
     /// `compile`: prints the tables of the text of an interface that is accepted.
@@ -26,7 +25,7 @@ pub enum Command {
 impl Command {
     ghost use Rattle.std.specs.Prelude.{◌≡◌, MatchOption};
     ghost use Rattle.sg_top.specs.declared.command.Command.{Command as Asked};
-    ghost use Rattle.sg_top.specs.Answer.{IsCommand, most_bytes};
+    ghost use Rattle.sg_top.specs.Answer.{IsCommand, is_in_threads, most_bytes};
     ghost use Rattle.sg_top.specs.Inside.Words.{IsLoadOf, IsPairOf, IsWordOf};
 
     /// The command of these words; None where they are no command's.
@@ -48,7 +47,8 @@ impl Command {
         ensures { MatchOption result ((command : Asked) → IsWordOf word.now command → ⊥) (IsWordOf word.now) }
     {
         match word {
-            "sim" => Some(Command::Sim),
+            "sim" => Some(Command::Play { threads: false, trace: false }),
+            "run" => Some(Command::Play { threads: true, trace: false }),
             "check" => Some(Command::Check),
             "compile" => Some(Command::Compile),
             _ => None,
@@ -63,7 +63,8 @@ impl Command {
             return None;
         }
         match word {
-            "sim" => Some(Command::SimTrace),
+            "sim" => Some(Command::Play { threads: false, trace: true }),
+            "run" => Some(Command::Play { threads: true, trace: true }),
             _ => None,
         }
     }
@@ -80,12 +81,19 @@ impl Command {
         Some(Command::Load { service, number })
     }
 
+    /// Whether the command is a play with a thread for each client.
+    pub fn is_in_threads(self) -> bool
+        ensures { result ≡ is_in_threads self }
+    {
+        matches!(self, Command::Play { threads: true, .. })
+    }
+
     /// The greatest number of bytes of the command's input.
     pub fn most_bytes(self) -> usize
         ensures { result ≡ most_bytes self }
     {
         match self {
-            Command::Sim | Command::SimTrace => MOST_INPUT,
+            Command::Play { .. } => MOST_INPUT,
             Command::Check | Command::Compile => MOST_INTERFACE,
             Command::Load { .. } => 0,
         }

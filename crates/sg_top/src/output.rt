@@ -8,20 +8,23 @@ ghost use Rattle.sg_plain.specs.Promises.{somebody_waits};
 ghost use Rattle.sg_load.specs.Generated.{generated};
 ghost use Rattle.sg_facts.specs.Laws.{whole};
 ghost use Rattle.sg_load.specs.Services.{facts_by};
-ghost use Rattle.sg_top.specs.Answer.{IsChecked, IsOutput, IsOwnOutput, IsPlayOutput, IsTabled, ended_status, has_input, services};
+ghost use Rattle.sg_top.specs.Answer.{IsChecked, IsOutput, IsOwnOutput, IsPlayOutput, IsTabled, ended_status, has_input, is_in_threads, services};
+ghost use Rattle.sg_report.specs.Report.{report_of};
 ghost use Rattle.sg_top.specs.Headline.{answering};
 ghost use Rattle.sg_top.specs.Inside.Runs.{IsPlayInOrder};
 ghost use Rattle.sg_top.specs.declared.command.Command.TheVariants.{Load as load};
+ghost use Rattle.sg_top.specs.declared.status.Status.TheVariants.{Refused as refused_status};
 ghost use Rattle.sg_top.specs.Inside.Delivery.{IsSaid};
 ghost use Rattle.sg_top.specs.Inside.Kinds.{IsOneOfFive};
 
 use crate::command::Command;
-use crate::runs::{played_as, played_of};
+use crate::runs::{played_as, played_of, shared_of};
 use crate::services::shapes;
 use crate::status::Status;
 use sg_base::{Bytes, NoMemory};
 use sg_check::Accepted;
 use sg_diagnose::{Verdict, compiled, verdict};
+use sg_edge::Gate;
 use sg_hist::End;
 use sg_input::{Input, read_input};
 use sg_load::{ServiceKind, generate, standard};
@@ -29,6 +32,8 @@ use sg_report::{load_line, text};
 use sg_script::Script;
 use sg_sim::Played;
 use std::alloc::Global;
+use std::sync::Wait;
+use std::thread::Threads;
 
 /// What a command makes: the bytes to be written, the status where they are written whole, and the run of a play
 /// that came to its end.
@@ -39,14 +44,14 @@ pub struct Output {
     pub ended: Option<Played>,
 }
 
-/// What a command with an input makes of it.
+/// What a command with an input makes of it in one thread.
 pub fn output_of(alloc: Global, command: Command, bytes: &[u8]) -> Result<Output, NoMemory>
-    requires { has_input command ≡ true }
+    requires has { has_input command ≡ true }
+    requires alone { is_in_threads command ≡ false }
     ensures { IfOk result (λ o. IsOutput command bytes.now o.ended o.status o.text) }
 {
     match command {
-        Command::Sim => simulated(alloc, bytes, false),
-        Command::SimTrace => simulated(alloc, bytes, true),
+        Command::Play { trace, .. } => simulated(alloc, bytes, trace),
         Command::Check => checked(alloc, bytes),
         Command::Compile => tabled(alloc, bytes),
         Command::Load { .. } => unreachable!(),
@@ -87,21 +92,48 @@ fn output_saying(said: Verdict) -> Output
     }
 }
 
-// The run of an input, with its report; or the line of an input that is refused.
+// The run of an input in one thread, with its report; or the line of an input that is refused.
 fn simulated(alloc: Global, bytes: &[u8], with_trace: bool) -> Result<Output, NoMemory>
-    ensures { IfOk result (λ o. IsPlayOutput bytes.now with_trace o.ended o.status o.text) }
+    ensures { IfOk result (λ o. IsPlayOutput bytes.now false with_trace o.ended o.status o.text) }
 {
     match read_input(alloc, bytes, &shapes())? {
         Input::Ready(accepted, script) => run_of(alloc, &accepted, script, with_trace),
-        Input::Refused(text) => Ok(Output {
-            text,
-            status: Status::Refused,
-            ended: None,
-        }),
+        Input::Refused(line) => Ok(refusing(line)),
     }
 }
 
-// The run of a script under its interface, with its report.
+/// The run of an input with a thread for each client, with its report; or the line of an input that is refused.
+pub fn output_of_threads<R: Threads + Wait + Sync, G: Gate>(
+    rt: &R,
+    alloc: Global,
+    bytes: &[u8],
+    with_trace: bool,
+    gate: &G,
+) -> Result<Output, NoMemory>
+    ensures { IfOk result (λ o. IsPlayOutput bytes.now true with_trace o.ended o.status o.text) }
+{
+    match read_input(alloc, bytes, &shapes())? {
+        Input::Ready(accepted, script) => {
+            run_in_threads(rt, alloc, &accepted, script, with_trace, gate)
+        }
+        Input::Refused(line) => Ok(refusing(line)),
+    }
+}
+
+// The output that refuses an input with this line.
+fn refusing(line: Bytes) -> Output
+    ensures ended { result.ended ≡ None }
+    ensures status { result.status ≡ refused_status }
+    ensures line { result.text ≡ line }
+{
+    Output {
+        text: line,
+        status: Status::Refused,
+        ended: None,
+    }
+}
+
+// The run of a script under its interface in one thread, with its report.
 fn run_of(
     alloc: Global,
     accepted: &Accepted,
@@ -111,9 +143,41 @@ fn run_of(
     requires service { IsOneOfFive accepted.now.facts }
     requires playable { IsPlayable accepted.now script }
     requires stops { AscendsAbove 0 script.stops }
-    ensures { IfOk result (λ o. (bytes : List ℕ) → IsReady services bytes accepted.now script → IsPlayOutput bytes with_trace o.ended o.status o.text) }
+    ensures { IfOk result (λ o. (bytes : List ℕ) → IsReady services bytes accepted.now script → IsPlayOutput bytes false with_trace o.ended o.status o.text) }
 {
     let played = played_of(alloc, accepted, script)?;
+    reported(alloc, accepted, played, with_trace)
+}
+
+// The run of a script under its interface with a thread for each client, with its report.
+fn run_in_threads<R: Threads + Wait + Sync, G: Gate>(
+    rt: &R,
+    alloc: Global,
+    accepted: &Accepted,
+    script: Script,
+    with_trace: bool,
+    gate: &G,
+) -> Result<Output, NoMemory>
+    requires service { IsOneOfFive accepted.now.facts }
+    requires playable { IsPlayable accepted.now script }
+    requires stops { AscendsAbove 0 script.stops }
+    ensures { IfOk result (λ o. (bytes : List ℕ) → IsReady services bytes accepted.now script → IsPlayOutput bytes true with_trace o.ended o.status o.text) }
+{
+    let played = shared_of(rt, alloc, accepted, script, gate)?;
+    reported(alloc, accepted, played, with_trace)
+}
+
+// The output of a run under an interface: its report.
+fn reported(
+    alloc: Global,
+    accepted: &Accepted,
+    played: Played,
+    with_trace: bool,
+) -> Result<Output, NoMemory>
+    ensures text { IfOk result (λ o. o.text ≡ report_of accepted.now.facts played with_trace) }
+    ensures status { IfOk result (λ o. o.status ≡ ended_status played.ends) }
+    ensures ended { IfOk result (λ o. o.ended ≡ Some played) }
+{
     let text = text(alloc, accepted.interface(), played.ended(), with_trace)?;
     Ok(output_of_run(played, text))
 }

@@ -1,9 +1,11 @@
-// The runs of scripts.
+// The runs of scripts, in one thread or with a thread for each client.
 ghost use Rattle.std.specs.Prelude.{◌≡◌, [], true, IfOk};
 ghost use Rattle.sg_edge.specs.Stops.{AscendsAbove, struck_of};
+ghost use Rattle.sg_facts.specs.Trace.{run_of};
 ghost use Rattle.sg_load.specs.Services.{facts_by};
 ghost use Rattle.sg_play_laws.specs.Playable.{IsPlayable};
-ghost use Rattle.sg_top.specs.Headline.{answering};
+ghost use Rattle.sg_sim.specs.Played.{FollowsSchedule};
+ghost use Rattle.sg_top.specs.Headline.{IsRunOf, answering};
 ghost use Rattle.sg_top.specs.Inside.Runs.{IsPlayedOn, IsPlayInOrder};
 ghost use Rattle.sg_top.specs.Inside.Kinds.{IsOneOfFive, kind_by};
 ghost use Rattle.sg_wake_laws.specs.Waking.{no_query_waits};
@@ -11,7 +13,7 @@ ghost use Rattle.sg_wake_laws.specs.Waking.{no_query_waits};
 use crate::services::kind_of;
 use sg_base::{NoMemory, TryCopy};
 use sg_check::Accepted;
-use sg_edge::AtPoints;
+use sg_edge::{AtPoints, Gate};
 use sg_event::EventService;
 use sg_facts::Service;
 use sg_load::ServiceKind;
@@ -21,11 +23,14 @@ use sg_ramfs::RamfsService;
 use sg_sched::SchedService;
 use sg_script::Script;
 use sg_serial::play;
+use sg_shared::run;
 use sg_sim::Played;
 use sg_stub::compile;
 use std::alloc::Global;
+use std::sync::Wait;
+use std::thread::Threads;
 
-/// The run of a script under an accepted interface.
+/// The run of a script under an accepted interface, in one thread.
 pub fn played_of(alloc: Global, accepted: &Accepted, script: Script) -> Result<Played, NoMemory>
     requires service { IsOneOfFive accepted.now.facts }
     requires playable { IsPlayable accepted.now script }
@@ -35,7 +40,7 @@ pub fn played_of(alloc: Global, accepted: &Accepted, script: Script) -> Result<P
     played_as(alloc, kind_of(accepted.interface()), accepted, script)
 }
 
-/// The run of a script under an accepted interface of a service.
+/// The run of a script under an accepted interface of a service, in one thread.
 pub fn played_as(
     alloc: Global,
     kind: ServiceKind,
@@ -56,7 +61,7 @@ pub fn played_as(
     }
 }
 
-// The run of a script on a service.
+// The run of a script on a service, in one thread.
 fn play_on<S: Service>(
     alloc: Global,
     accepted: &Accepted,
@@ -82,7 +87,7 @@ fn stops_of(alloc: Global, script: &Script) -> Result<AtPoints, NoMemory>
     Ok(AtPoints::new(script.stops.copy(alloc)?))
 }
 
-// The run of a script on a service, by the tables of an interface.
+// The run of a script on a service, by the tables of an interface, in one thread.
 fn play_with<S: Service>(
     alloc: Global,
     accepted: &Accepted,
@@ -95,8 +100,49 @@ fn play_with<S: Service>(
     requires plan { stops.plan ≡ script.stops }
     requires asked { stops.asked ≡ 0 }
     requires struck { struck_of stops ≡ [] }
-    ensures { IfOk result (IsPlayedOn accepted.now (record { facts = S.facts; ask = S.ask; parts = S.parts }) script) }
+    ensures played { IfOk result (IsPlayedOn accepted.now (record { facts = S.facts; ask = S.ask; parts = S.parts }) script) }
+    ensures schedule { IfOk result (λ ended. FollowsSchedule accepted.now S.ask script (run_of ended.trace) ended.history.items) }
 {
     let tables = compile(alloc, accepted)?;
     play::<S, AtPoints>(alloc, tables, script, stops)
+}
+
+/// The run of a script under an accepted interface, with a thread for each client, which passes the gate around each of its calls.
+pub fn shared_of<R: Threads + Wait + Sync, G: Gate>(
+    rt: &R,
+    alloc: Global,
+    accepted: &Accepted,
+    script: Script,
+    gate: &G,
+) -> Result<Played, NoMemory>
+    requires service { IsOneOfFive accepted.now.facts }
+    requires playable { IsPlayable accepted.now script }
+    requires stops { AscendsAbove 0 script.stops }
+    ensures { IfOk result (IsRunOf accepted.now (answering (kind_by accepted.now.facts)) script) }
+{
+    match kind_of(accepted.interface()) {
+        ServiceKind::Locks => share_on::<R, LockService, G>(rt, alloc, accepted, script, gate),
+        ServiceKind::Events => share_on::<R, EventService, G>(rt, alloc, accepted, script, gate),
+        ServiceKind::Pages => share_on::<R, MmService, G>(rt, alloc, accepted, script, gate),
+        ServiceKind::Files => share_on::<R, RamfsService, G>(rt, alloc, accepted, script, gate),
+        ServiceKind::Threads => share_on::<R, SchedService, G>(rt, alloc, accepted, script, gate),
+    }
+}
+
+// The run of a script on a service, with a thread for each client.
+fn share_on<R: Threads + Wait + Sync, S: Service + Send, G: Gate>(
+    rt: &R,
+    alloc: Global,
+    accepted: &Accepted,
+    script: Script,
+    gate: &G,
+) -> Result<Played, NoMemory>
+    requires service { accepted.now.facts ≡ S.facts }
+    requires waits { no_query_waits S.facts ≡ true }
+    requires playable { IsPlayable accepted.now script }
+    requires stops { AscendsAbove 0 script.stops }
+    ensures { IfOk result (IsRunOf accepted.now (record { facts = S.facts; ask = S.ask; parts = S.parts }) script) }
+{
+    let tables = compile(alloc, accepted)?;
+    run::<R, S, G>(rt, alloc, tables, script, gate)
 }

@@ -1,15 +1,15 @@
 // The top call.
-ghost use Rattle.std.specs.Prelude.{◌≡◌, ◌≤◌, ◌+◌, true, None};
+ghost use Rattle.std.specs.Prelude.{◌≡◌, ◌≤◌, ◌+◌, true, false, None};
 ghost use Rattle.sg_edge.specs.Edge.{ConsumesAtMost};
-ghost use Rattle.sg_top.specs.Answer.{IsAnswer, IsCommand, IsOutput, IsOwnOutput, ReadsInput, has_input, most_bytes};
+ghost use Rattle.sg_top.specs.Answer.{IsAnswer, IsCommand, IsOutput, IsOwnOutput, IsPlayOutput, IsSerialCommand, ReadsInput, has_input, is_in_threads, most_bytes};
 ghost use Rattle.sg_top.specs.Inside.Delivery.{IsDelivered, IsWritten};
-ghost use Rattle.sg_top.specs.declared.command.Command.TheVariants.{Load as load};
+ghost use Rattle.sg_top.specs.declared.command.Command.TheVariants.{Load as load, Play as play};
 
 use crate::command::Command;
-use crate::output::{Output, loaded, output_of};
+use crate::output::{Output, loaded, output_of, output_of_threads};
 use crate::status::Status;
 use sg_edge::{Gate, Intake, ReadError, Sink, Source, read_all, write_all};
-use sg_input::TOO_LONG;
+use sg_input::{MOST_INPUT, TOO_LONG};
 use sg_load::ServiceKind;
 use sg_sim::Played;
 use std::alloc::Global;
@@ -25,36 +25,20 @@ pub struct Answer {
     pub ended: Option<Played>,
 }
 
-/// Does what the words after the program's name say: `sim` plays the input, `sim trace` too
-/// and prints what was done to the service, `check` says whether it is the text of an
+/// Does what the words after the program's name say: `sim` plays the input in one thread, `run` with a thread for each client,
+/// and `sim trace` and `run trace` print too what was done to the service; `check` says whether the input is the text of an
 /// interface that is accepted, `compile` prints the tables of such a text, `load SERVICE NUMBER` plays the script that is
 /// generated for a service from a number and prints one line, and any other words are answered by `OtherWords`.
-/// It reads nothing for a load, and else at most one byte more than the command's input may have, makes its whole output before it writes any of it, and
-/// answers with the status that says how it ended, and with the run of a play. The handle and the gate are for plays in threads,
-/// which aren't built yet.
+/// It reads nothing for a load, and else at most one byte more than the command's input may have, makes its whole output before it
+/// writes any of it, and answers with the status that says how it ended, and with the run of a play. For `run` each thread passes the
+/// gate before it offers a call of its client, and after the call was answered.
 pub fn superglue<R: Threads + Wait + Sync, I: Source, O: Sink, G: Gate>(
-    _: &R,
+    rt: &R,
     alloc: Global,
     words: &[String],
     input: &mut I,
     output: &mut O,
-    _: &G,
-) -> Answer
-    ensures answer { IsAnswer (IsCommand words.now)
-        (record { told = I.left input.old; faults = I.faults input.old }) (record { told = I.left input.new; faults = I.faults input.new })
-        (record { told = O.written output.old; faults = O.faults output.old }) (record { told = O.written output.new; faults = O.faults output.new })
-        result.status result.ended }
-    ensures most_read { ReadsInput (IsCommand words.now) (I.left input.old) (I.left input.new) }
-{
-    serial(alloc, words, input, output)
-}
-
-/// What `superglue` does, in one thread and with no handle, for all words that need no other thread. It always returns.
-pub fn serial<I: Source, O: Sink>(
-    alloc: Global,
-    words: &[String],
-    input: &mut I,
-    output: &mut O,
+    gate: &G,
 ) -> Answer
     ensures answer { IsAnswer (IsCommand words.now)
         (record { told = I.left input.old; faults = I.faults input.old }) (record { told = I.left input.new; faults = I.faults input.new })
@@ -66,21 +50,113 @@ pub fn serial<I: Source, O: Sink>(
         return without_run(Status::OtherWords);
     };
     match command {
+        Command::Play {
+            threads: true,
+            trace,
+        } => with_threads(rt, alloc, trace, input, output, gate),
+        _ => in_one_thread(alloc, command, input, output),
+    }
+}
+
+/// What `superglue` does, in one thread and with no handle, for all words but those of `run`, which are other words here. It always
+/// returns.
+pub fn serial<I: Source, O: Sink>(
+    alloc: Global,
+    words: &[String],
+    input: &mut I,
+    output: &mut O,
+) -> Answer
+    ensures answer { IsAnswer (IsSerialCommand words.now)
+        (record { told = I.left input.old; faults = I.faults input.old }) (record { told = I.left input.new; faults = I.faults input.new })
+        (record { told = O.written output.old; faults = O.faults output.old }) (record { told = O.written output.new; faults = O.faults output.new })
+        result.status result.ended }
+    ensures most_read { ReadsInput (IsSerialCommand words.now) (I.left input.old) (I.left input.new) }
+{
+    let Some(command) = Command::of_words(words) else {
+        return without_run(Status::OtherWords);
+    };
+    if command.is_in_threads() {
+        return without_run(Status::OtherWords);
+    }
+    in_one_thread(alloc, command, input, output)
+}
+
+// Does what a command says that one thread does.
+fn in_one_thread<I: Source, O: Sink>(
+    alloc: Global,
+    command: Command,
+    input: &mut I,
+    output: &mut O,
+) -> Answer
+    requires { is_in_threads command ≡ false }
+    ensures answer { IsAnswer (λ said. said ≡ command)
+        (record { told = I.left input.old; faults = I.faults input.old }) (record { told = I.left input.new; faults = I.faults input.new })
+        (record { told = O.written output.old; faults = O.faults output.old }) (record { told = O.written output.new; faults = O.faults output.new })
+        result.status result.ended }
+    ensures most_read { ReadsInput (λ said. said ≡ command) (I.left input.old) (I.left input.new) }
+{
+    match command {
         Command::Load { service, number } => run_load(alloc, service, number, output),
-        Command::Sim | Command::SimTrace | Command::Check | Command::Compile => {
+        Command::Play { .. } | Command::Check | Command::Compile => {
             with_input(alloc, command, input, output)
         }
     }
 }
 
-// Reads the input of a command that has one, and writes what the command makes of it.
+// Reads the input of a play with a thread for each client, and writes its report.
+fn with_threads<R: Threads + Wait + Sync, I: Source, O: Sink, G: Gate>(
+    rt: &R,
+    alloc: Global,
+    trace: bool,
+    input: &mut I,
+    output: &mut O,
+    gate: &G,
+) -> Answer
+    ensures answer { IsAnswer (λ said. said ≡ play true trace)
+        (record { told = I.left input.old; faults = I.faults input.old }) (record { told = I.left input.new; faults = I.faults input.new })
+        (record { told = O.written output.old; faults = O.faults output.old }) (record { told = O.written output.new; faults = O.faults output.new })
+        result.status result.ended }
+    ensures most_read { ReadsInput (λ said. said ≡ play true trace) (I.left input.old) (I.left input.new) }
+{
+    match read_all(alloc, input, MOST_INPUT) {
+        Ok(Intake::Whole(bytes)) => {
+            run_threads(rt, alloc, bytes.as_slice(), trace, output, gate)
+        }
+        Ok(Intake::TooLong) => deliver(output, TOO_LONG, Status::Refused, None),
+        Err(ReadError::Failed) => without_run(Status::ReadFault),
+        Err(ReadError::NoMemory) => without_run(Status::NoMemory),
+    }
+}
+
+// Writes what a play with a thread for each client makes of an input.
+fn run_threads<R: Threads + Wait + Sync, O: Sink, G: Gate>(
+    rt: &R,
+    alloc: Global,
+    bytes: &[u8],
+    trace: bool,
+    output: &mut O,
+    gate: &G,
+) -> Answer
+    ensures done { IsDelivered (IsPlayOutput bytes.now true trace)
+        (record { told = O.written output.old; faults = O.faults output.old }) (record { told = O.written output.new; faults = O.faults output.new })
+        result.status result.ended }
+    ensures count { O.faults output.old ≤ O.faults output.new }
+{
+    match output_of_threads(rt, alloc, bytes, trace, gate) {
+        Ok(made) => deliver_made(output, made),
+        Err(_) => without_run(Status::NoMemory),
+    }
+}
+
+// Reads the input of a command that has one, and writes what the command makes of it in one thread.
 fn with_input<I: Source, O: Sink>(
     alloc: Global,
     command: Command,
     input: &mut I,
     output: &mut O,
 ) -> Answer
-    requires { has_input command ≡ true }
+    requires has { has_input command ≡ true }
+    requires alone { is_in_threads command ≡ false }
     ensures answer { IsAnswer (λ said. said ≡ command)
         (record { told = I.left input.old; faults = I.faults input.old }) (record { told = I.left input.new; faults = I.faults input.new })
         (record { told = O.written output.old; faults = O.faults output.old }) (record { told = O.written output.new; faults = O.faults output.new })
@@ -95,9 +171,10 @@ fn with_input<I: Source, O: Sink>(
     }
 }
 
-// Writes what a command with an input makes of it.
+// Writes what a command with an input makes of it in one thread.
 fn run_command<O: Sink>(alloc: Global, command: Command, bytes: &[u8], output: &mut O) -> Answer
-    requires { has_input command ≡ true }
+    requires has { has_input command ≡ true }
+    requires alone { is_in_threads command ≡ false }
     ensures done { IsDelivered (IsOutput command bytes.now)
         (record { told = O.written output.old; faults = O.faults output.old }) (record { told = O.written output.new; faults = O.faults output.new })
         result.status result.ended }

@@ -14,7 +14,7 @@ static OTHER_WORDS: [[&str; 2]; 9] = [
     ["SIM", ""],
     ["sim trace", ""],
     ["checks", ""],
-    ["run", ""],
+    ["runs", ""],
     ["trace", "sim"],
     ["sim", "traces"],
     ["check", "check"],
@@ -42,6 +42,26 @@ fn touches_nothing_at_other_words(rt: HostRuntime) -> Result<(), Fail> {
         let answer = serial(alloc, &words, &mut source, &mut sink);
         assert_eq!(rt; answer.status, Status::OtherWords, "{texts:?}");
         assert!(rt; answer.ended.is_none() && sink.written().is_empty());
+    }
+    Ok(())
+}
+
+// The words of plays with a thread for each client.
+static THREAD_WORDS: [[&str; 2]; 2] = [["run", ""], ["run", "trace"]];
+
+#[test]
+fn leaves_threads_to_the_whole_call(rt: HostRuntime) -> Result<(), Fail> {
+    let alloc = rt.alloc();
+    for texts in &THREAD_WORDS {
+        let words = words_of(alloc, texts)?;
+        assert!(rt; Command::of_words(&words).is_some());
+        let mut source = MemSource::new(alloc, LOCK, 400, &[1])?;
+        let mut sink = MemSink::new(alloc, 400, &[1])?;
+        let answer = serial(alloc, &words, &mut source, &mut sink);
+        assert_eq!(rt; answer.status, Status::OtherWords, "{texts:?}");
+        assert!(rt; answer.ended.is_none() && sink.written().is_empty());
+        let answer = superglue(&rt, alloc, &words, &mut source, &mut sink, &OpenGate);
+        assert_eq!(rt; answer.status, Status::ReadFault, "{texts:?}");
     }
     Ok(())
 }

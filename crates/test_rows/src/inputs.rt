@@ -16,7 +16,7 @@ type Changed = (
     &'static str,
 );
 
-static CHANGED: [Changed; 9] = [
+static CHANGED: [Changed; 8] = [
     // a script without calls
     ("lock", 1, "sim", b"%%\n", 0, "calls 0 boots 1 replays 0\n"),
     // a lock that is owned has no walk
@@ -78,29 +78,6 @@ calls 4 boots 1 replays 0
         2,
         "interface refused at 26:1: Lex\n",
     ),
-    // tables
-    (
-        "lock",
-        1,
-        "compile",
-        b"",
-        0,
-        "service lock
-facts parent=none close=refuse global=true block=true desc_data=true resc_data=false
-fun 1 lock_alloc creation -> lock_alloc
-fun 2 lock_take desc block -> lock_take owner=caller
-fun 3 lock_release desc wakeup -> lock_alloc owner=0
-fun 4 lock_free desc terminal -> end
-move lock_alloc lock_take
-move lock_alloc lock_free
-move lock_take lock_take
-move lock_take lock_release
-move lock_take lock_free
-step lock_alloc lock_take
-walk lock_alloc lock_alloc - : lock_alloc
-walk lock_alloc lock_take owner : lock_alloc lock_take
-",
-    ),
 ];
 
 // The interface of locks, in which each line with a word stands so often.
@@ -123,7 +100,7 @@ fn judges_other_interfaces(rt: HostRuntime) -> Result<(), Fail> {
         let mut input = with_lines(alloc, word, *times)?;
         input.extend_from_slice(behind)?;
         assert!(rt;
-            comes_to(alloc, words, &input, *status, wanted)?,
+            comes_to(&rt, words, &input, *status, wanted)?,
             "{words} {word} {times}"
         );
     }
@@ -147,7 +124,7 @@ static WHOLE: [(&str, &[u8], u8, &str); 4] = [
 fn refuses_inputs(rt: HostRuntime) -> Result<(), Fail> {
     for (words, input, status, wanted) in &WHOLE {
         assert!(rt;
-            comes_to(rt.alloc(), words, input, *status, wanted)?,
+            comes_to(&rt, words, input, *status, wanted)?,
             "{words}"
         );
     }
@@ -170,9 +147,9 @@ fn takes_the_longest_interface(rt: HostRuntime) -> Result<(), Fail> {
     for _ in LOCK.len()..65_536 {
         text.push(b' ')?;
     }
-    assert!(rt; comes_to(alloc, "check", &text, 0, "accepted lock\n")?);
+    assert!(rt; comes_to(&rt, "check", &text, 0, "accepted lock\n")?);
     text.push(b' ')?;
-    assert!(rt; comes_to(alloc, "check", &text, 2, "input refused: TooLong\n")?);
+    assert!(rt; comes_to(&rt, "check", &text, 2, "input refused: TooLong\n")?);
     Ok(())
 }
 
@@ -183,12 +160,12 @@ fn refuses_one_call_and_one_byte_more(rt: HostRuntime) -> Result<(), Fail> {
     calls.push_str("}\n")?;
     let input = input_of(alloc, LOCK, &calls)?;
     let line = "script refused at 65538:1: Limit\n";
-    assert!(rt; comes_to(alloc, "sim", &input, 2, line)?);
+    assert!(rt; comes_to(&rt, "sim", &input, 2, line)?);
     let mut name = repeated(alloc, "client 1 { tsplit(0, \"", "a", 257)?;
     name.push_str("\"); }\n")?;
     let input = input_of(alloc, RAMFS, &name)?;
     let line = "script refused at 1:22: Limit\n";
-    assert!(rt; comes_to(alloc, "sim", &input, 2, line)?);
+    assert!(rt; comes_to(&rt, "sim", &input, 2, line)?);
     Ok(())
 }
 
@@ -208,9 +185,9 @@ fn makes_1024_locks(rt: HostRuntime) -> Result<(), Fail> {
     let mut script = repeated(alloc, "client 1 {", " lock_alloc();", 1_025)?;
     script.push_str(" lock_free($1); lock_alloc(); } stop 5124;\n")?;
     let input = input_of(alloc, LOCK, &script)?;
-    assert!(rt; comes_to(alloc, "sim", &input, 0, FULL)?);
+    assert!(rt; comes_to(&rt, "sim", &input, 0, FULL)?);
     let mut traced = FULL.to_string(alloc)?;
     traced.push_str("..\npoints 5129\n")?;
-    assert!(rt; comes_to(alloc, "sim trace", &input, 0, &traced)?);
+    assert!(rt; comes_to(&rt, "sim trace", &input, 0, &traced)?);
     Ok(())
 }

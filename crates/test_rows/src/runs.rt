@@ -1,22 +1,32 @@
 // Whether each run comes out as it is written.
 use crate::texts::{EVENTS, FILES, LOCKS, PAGES, THREADS};
 use sg_base::NoMemory;
-use sg_edge::{MemSink, MemSource};
-use sg_top::serial;
+use sg_edge::{Gate, MemSink, MemSource, OpenGate};
+use sg_top::superglue;
 use std::alloc::Global;
-use std::process::Abort;
 use std::test::Fail;
 use test_interfaces::{EVENT, LOCK, MM, RAMFS, SCHED};
 
 /// What words and an input come to: the number of the status, and what is printed.
-pub fn played(alloc: Global, words: &str, input: &[u8]) -> Result<(u8, Vec<u8>), NoMemory> {
+pub fn played(rt: &HostRuntime, words: &str, input: &[u8]) -> Result<(u8, Vec<u8>), NoMemory> {
+    played_with(rt, words, input, &OpenGate)
+}
+
+/// What they come to where each thread passes a gate around its calls.
+pub fn played_with<G: Gate>(
+    rt: &HostRuntime,
+    words: &str,
+    input: &[u8],
+    gate: &G,
+) -> Result<(u8, Vec<u8>), NoMemory> {
+    let alloc = rt.alloc();
     let mut list = Vec::new(alloc);
     for word in words.split_whitespace() {
         list.push(word.to_string(alloc)?)?;
     }
     let mut source = MemSource::new(alloc, input, 4_096, &[])?;
     let mut sink = MemSink::new(alloc, 4_096, &[])?;
-    let answer = serial(alloc, &list, &mut source, &mut sink);
+    let answer = superglue(rt, alloc, &list, &mut source, &mut sink, gate);
     Ok((
         answer.status.number(),
         Vec::from_slice(alloc, sink.written())?,
@@ -47,13 +57,13 @@ fn fits(printed: &str, wanted: &str) -> bool {
 
 /// Whether words and an input come to this status, and to these lines.
 pub fn comes_to(
-    alloc: Global,
+    rt: &HostRuntime,
     words: &str,
     input: &[u8],
     status: u8,
     wanted: &str,
 ) -> Result<bool, NoMemory> {
-    let (number, printed) = played(alloc, words, input)?;
+    let (number, printed) = played(rt, words, input)?;
     let printed = str::from_utf8(&printed).unwrap_or("");
     Ok(number == status && fits(printed, wanted))
 }
@@ -89,12 +99,12 @@ fn row_of(text: &str) -> Option<Row<'_>> {
 }
 
 // Each run of a text under an interface comes out as it is written.
-fn try_each(rt: &impl Abort, alloc: Global, interface: &[u8], text: &str) -> Result<(), Fail> {
+fn try_each(rt: &HostRuntime, interface: &[u8], text: &str) -> Result<(), Fail> {
     for told in text.split("\n\n") {
         let row = row_of(told).ok_or("no run")?;
-        let input = input_of(alloc, interface, row.script)?;
+        let input = input_of(rt.alloc(), interface, row.script)?;
         assert!(rt;
-            comes_to(alloc, row.words, &input, row.status, row.printed)?,
+            comes_to(rt, row.words, &input, row.status, row.printed)?,
             "{told}"
         );
     }
@@ -103,27 +113,27 @@ fn try_each(rt: &impl Abort, alloc: Global, interface: &[u8], text: &str) -> Res
 
 #[test]
 fn plays_locks(rt: HostRuntime) -> Result<(), Fail> {
-    try_each(&rt, rt.alloc(), LOCK, LOCKS)
+    try_each(&rt, LOCK, LOCKS)
 }
 
 #[test]
 fn plays_events(rt: HostRuntime) -> Result<(), Fail> {
-    try_each(&rt, rt.alloc(), EVENT, EVENTS)
+    try_each(&rt, EVENT, EVENTS)
 }
 
 #[test]
 fn plays_pages(rt: HostRuntime) -> Result<(), Fail> {
-    try_each(&rt, rt.alloc(), MM, PAGES)
+    try_each(&rt, MM, PAGES)
 }
 
 #[test]
 fn plays_files(rt: HostRuntime) -> Result<(), Fail> {
-    try_each(&rt, rt.alloc(), RAMFS, FILES)
+    try_each(&rt, RAMFS, FILES)
 }
 
 #[test]
 fn plays_threads(rt: HostRuntime) -> Result<(), Fail> {
-    try_each(&rt, rt.alloc(), SCHED, THREADS)
+    try_each(&rt, SCHED, THREADS)
 }
 
 // Runs with stops, of locks, of files and of threads: each with lines of its trace.
@@ -142,15 +152,22 @@ const THREAD_STOPS: [&str; 2] = [
     "..\nwalk 1.2 for c2 by c1 sched_place(1, 1) replied\n..\npoints 28\n",
 ];
 
+// A lock that a client uses in a thread of its own.
+const LOCK_IN_THREADS: [&str; 2] = [
+    "client 1 { lock_alloc(); lock_take($1); lock_release($1); lock_free($1); }",
+    "..\nclient 1 done\ncalls 4 boots 1 replays 0\n",
+];
+
 // Where an allocation fails, nothing is printed and the status says so; else the run comes out.
 fn comes_or_wants_memory(
-    alloc: Global,
+    rt: &HostRuntime,
+    words: &str,
     interface: &[u8],
     run: [&str; 2],
 ) -> Result<bool, NoMemory> {
     let [script, wanted] = run;
-    let input = input_of(alloc, interface, script)?;
-    let (number, printed) = played(alloc, "sim trace", &input)?;
+    let input = input_of(rt.alloc(), interface, script)?;
+    let (number, printed) = played(rt, words, &input)?;
     let text = str::from_utf8(&printed).unwrap_or("");
     Ok(number == 6 && printed.is_empty() || number == 0 && fits(text, wanted))
 }
@@ -158,15 +175,25 @@ fn comes_or_wants_memory(
 #[test]
 fn comes_out_or_wants_memory(rt: HostRuntime) {
     let runs = [
-        (LOCK, LOCK_STOPS),
-        (RAMFS, FILE_STOPS),
-        (SCHED, THREAD_STOPS),
+        ("sim trace", LOCK, LOCK_STOPS),
+        ("sim trace", RAMFS, FILE_STOPS),
+        ("sim trace", SCHED, THREAD_STOPS),
+        ("run", LOCK, LOCK_IN_THREADS),
     ];
-    for (interface, run) in runs {
+    for (words, interface, run) in runs {
         // What the test itself has no memory for tells nothing.
-        match comes_or_wants_memory(rt.alloc(), interface, run) {
+        match comes_or_wants_memory(&rt, words, interface, run) {
             Ok(comes) => assert!(rt; comes, "{run:?}"),
             Err(_) => return,
         }
+    }
+}
+
+#[test]
+fn load_comes_out_or_wants_memory(rt: HostRuntime) {
+    if let Ok((number, printed)) = played(&rt, "load sched 1", b"") {
+        let text = str::from_utf8(&printed).unwrap_or("");
+        let comes = text.starts_with("load sched 1: calls 20000 boots 33 replays ");
+        assert!(rt; number == 6 && printed.is_empty() || number == 0 && comes);
     }
 }

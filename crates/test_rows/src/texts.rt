@@ -3,6 +3,34 @@
 
 /// Locks.
 pub const LOCKS: &str = "\
+run: 0
+client 1 { lock_alloc(); lock_take($1); lock_release($1); lock_free($1); }
+c1.1 lock_alloc() = ok #1
+c1.2 lock_take(1) = ok
+c1.3 lock_release(1) = ok
+c1.4 lock_free(1) = ok
+client 1 done
+calls 4 boots 1 replays 0
+
+run trace: 0
+client 1 { lock_alloc(); lock_take($1); lock_release($1); lock_free($1); } stop 9;
+c1.1 lock_alloc() = ok #1
+c1.2 lock_take(1) = ok
+c1.3 lock_release(1) = ok
+c1.4 lock_free(1) = ok
+client 1 done
+calls 4 boots 2 replays 2
+boot 1
+call c1.1 lock_alloc() replied
+call c1.2 lock_take(1) replied
+stop 9
+boot 2
+walk 1.1 for c1 by c1 lock_alloc() replied
+walk 1.2 for c1 by c1 lock_take(1) replied
+call c1.3 lock_release(1) replied
+call c1.4 lock_free(1) replied
+points 24
+
 sim: 0
 client 1 { lock_alloc(); lock_take($1); lock_release($1); lock_free($1); }
 c1.1 lock_alloc() = ok #1
@@ -158,6 +186,19 @@ script refused at 1:9: Twice
 
 /// Events.
 pub const EVENTS: &str = "\
+run: 3
+client 1 { evt_split(); evt_wait($1); }
+c1.1 evt_split() = ok #1
+client 1 blocked evt_wait(1)
+calls 1 boots 1 replays 0
+
+run: 3
+setup { evt_split(); } client 1 { evt_wait(1); } client 3 { evt_wait(1); }
+c1.1 evt_split() = ok #1
+client 1 blocked evt_wait(1)
+client 3 blocked evt_wait(1)
+calls 1 boots 1 replays 0
+
 sim: 3
 setup { evt_split(); } client 1 { evt_trigger(1, 1); } client 2 { evt_wait(1); evt_wait(1); } schedule 1 2 2 2 2 2 1; stop 9;
 c1.1 evt_split() = ok #1

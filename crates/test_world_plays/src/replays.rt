@@ -1,10 +1,6 @@
-// Plays with one stop at each point: a world that never stops is asked the calls of each history in their order, one after another, and
-// gives the same replies.
-ghost use Rattle.std.specs.Prelude.{◌≡◌};
-
-use sg_base::{NoMemory, Stops, Value};
-use sg_edge::{MemSink, MemSource, Never};
-use sg_facts::{Entry, Service, Tables};
+// Plays in one thread with a stop at each point: their entries come again.
+use crate::again::come_again;
+use sg_edge::{MemSink, MemSource};
 use sg_lock::LockService;
 use sg_mm::MmService;
 use sg_ramfs::RamfsService;
@@ -14,7 +10,6 @@ use std::alloc::Global;
 use std::test::Fail;
 use test_interfaces::{LOCK, MM, RAMFS, SCHED};
 use test_tables::{lock_tables, mm_tables, ramfs_tables, sched_tables};
-use test_world::{Asked, Judge, Run, judged};
 
 /// The number of clients of each play.
 const CLIENTS: u8 = 2;
@@ -51,80 +46,12 @@ fn played(alloc: Global, interface: &[u8], script: &str, point: u32) -> Result<P
     Ok(ended.ok_or("no run")?)
 }
 
-/// The entries of a history, of which each is to come again.
-#[derive(Clone, Copy, Debug)]
-struct Again<'a> {
-    entries: &'a [Entry],
-}
-
-impl<S: Service, T: Stops> Judge<S, T> for Again<'_> {
-    type Said = Result<bool, Fail>;
-
-    fn judge(&self, alloc: Global, run: &mut Run<S, T>) -> Result<bool, Fail> {
-        for entry in self.entries {
-            if !comes_again(alloc, run, entry)? {
-                return Ok(false);
-            }
-        }
-        Ok(true)
-    }
-}
-
-// Makes the call of an entry, and says whether it gets its reply.
-fn comes_again<S: Service, T: Stops>(
-    alloc: Global,
-    run: &mut Run<S, T>,
-    entry: &Entry,
-) -> Result<bool, Fail> {
-    let call = &entry.call;
-    let fun = format!(in alloc; "{}", call.fun)?;
-    let args = written(alloc, call.args.as_slice())?;
-    let asked = Asked {
-        fun: &fun,
-        desc: call.desc,
-        args: &args,
-    };
-    match run.call(alloc, call.client, &asked)? {
-        Some(reply) => Ok(reply == entry.reply),
-        None => Ok(false),
-    }
-}
-
-// Arguments as a text that tells a call has them. None of them holds a space here.
-fn written(alloc: Global, values: &[Value]) -> Result<String, NoMemory> {
-    let mut text = String::new(alloc);
-    for value in values {
-        match value {
-            Value::Word(number) => text.push_str(&format!(in alloc; "{number} ")?)?,
-            Value::Text(bytes) => {
-                let bytes = str::from_utf8(bytes.bytes()).unwrap_or("");
-                text.push_str(&format!(in alloc; "\"{bytes}\" ")?)?
-            }
-        }
-    }
-    Ok(text)
-}
-
-// Whether the entries of a play with a stop at a point come again.
-fn replays<S: Service>(
-    alloc: Global,
-    tables: Tables,
-    interface: &[u8],
-    script: &str,
-    point: u32,
-) -> Result<bool, Fail>
-    requires { tables.iface.facts ≡ S.facts }
-{
-    let played = played(alloc, interface, script, point)?;
-    let entries = played.ended().history.as_slice();
-    judged::<S, _, _>(alloc, tables, CLIENTS, Never::new(), &Again { entries })?
-}
-
 #[test]
 fn locks_come_again(rt: HostRuntime) -> Result<(), Fail> {
     let alloc = rt.alloc();
     for point in 1..=LAST {
-        let again = replays::<LockService>(alloc, lock_tables(alloc)?, LOCK, LOCKS, point)?;
+        let played = played(alloc, LOCK, LOCKS, point)?;
+        let again = come_again::<LockService>(alloc, lock_tables(alloc)?, CLIENTS, &played)?;
         assert!(rt; again, "stop {point}");
     }
     Ok(())
@@ -134,7 +61,8 @@ fn locks_come_again(rt: HostRuntime) -> Result<(), Fail> {
 fn pages_come_again(rt: HostRuntime) -> Result<(), Fail> {
     let alloc = rt.alloc();
     for point in 1..=LAST {
-        let again = replays::<MmService>(alloc, mm_tables(alloc)?, MM, PAGES, point)?;
+        let played = played(alloc, MM, PAGES, point)?;
+        let again = come_again::<MmService>(alloc, mm_tables(alloc)?, CLIENTS, &played)?;
         assert!(rt; again, "stop {point}");
     }
     Ok(())
@@ -144,7 +72,8 @@ fn pages_come_again(rt: HostRuntime) -> Result<(), Fail> {
 fn files_come_again(rt: HostRuntime) -> Result<(), Fail> {
     let alloc = rt.alloc();
     for point in 1..=LAST {
-        let again = replays::<RamfsService>(alloc, ramfs_tables(alloc)?, RAMFS, FILES, point)?;
+        let played = played(alloc, RAMFS, FILES, point)?;
+        let again = come_again::<RamfsService>(alloc, ramfs_tables(alloc)?, CLIENTS, &played)?;
         assert!(rt; again, "stop {point}");
     }
     Ok(())
@@ -154,7 +83,8 @@ fn files_come_again(rt: HostRuntime) -> Result<(), Fail> {
 fn threads_come_again(rt: HostRuntime) -> Result<(), Fail> {
     let alloc = rt.alloc();
     for point in 1..=LAST {
-        let again = replays::<SchedService>(alloc, sched_tables(alloc)?, SCHED, THREADS, point)?;
+        let played = played(alloc, SCHED, THREADS, point)?;
+        let again = come_again::<SchedService>(alloc, sched_tables(alloc)?, CLIENTS, &played)?;
         assert!(rt; again, "stop {point}");
     }
     Ok(())

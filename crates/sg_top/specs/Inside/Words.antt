@@ -1,20 +1,22 @@
 -- Commands of one word, of two, and of three.
-use Rattle.std.specs.Prelude.{ℕ, ◌≡◌, List, codes}
+use Rattle.std.specs.Prelude.{ℕ, ◌≡◌, true, false, List, codes}
 use Rattle.sg_load.specs.Services.{facts_by}
 use Rattle.sg_top.specs.Answer.{AreDigitsOf}
 use Rattle.sg_top.specs.declared.command.Command.{Command}
-use Rattle.sg_top.specs.declared.command.Command.TheVariants.{Sim, SimTrace, Check, Compile, Load}
+use Rattle.sg_top.specs.declared.command.Command.TheVariants.{Play, Check, Compile, Load}
 
 -- a word alone says a command
 abbrev pub IsWordOf : List ℕ → Command → Type 0
-IsWordOf word Sim = word ≡ codes "sim"
+IsWordOf word (Play false false) = word ≡ codes "sim"
+IsWordOf word (Play true false) = word ≡ codes "run"
 IsWordOf word Check = word ≡ codes "check"
 IsWordOf word Compile = word ≡ codes "compile"
 IsWordOf word _ = ⊥
 
 -- a word and a second one say a command
 abbrev pub IsPairOf : List ℕ → List ℕ → Command → Type 0
-IsPairOf word more SimTrace = (word ≡ codes "sim") × (more ≡ codes "trace")
+IsPairOf word more (Play false true) = (word ≡ codes "sim") × (more ≡ codes "trace")
+IsPairOf word more (Play true true) = (word ≡ codes "run") × (more ≡ codes "trace")
 IsPairOf word more _ = ⊥
 
 -- a word, a name and digits say a load

@@ -1,14 +1,10 @@
--- A run of an input that is ready, with its status.
-use Rattle.std.proofs.Common.{◌∙◌, ap}
-use Rattle.sg_facts.specs.Interface.{Declared}
-use Rattle.sg_hist.specs.declared.ended.Ended.{Ended}
-use Rattle.sg_report.specs.Report.{report_of}
-use Rattle.sg_top.proofs.Running.{play_output}
+-- A run of an input that is ready in one thread, with its status.
+use Rattle.sg_top.proofs.Running.{of_three, output_in_order}
 use Rattle.sg_top.proofs.output.run_of.Goals as goal
 
 pub returns : goal.returns
-returns c = λ bytes ready.
-    play_output bytes c.args.accepted.now c.args.script c.args.with_trace c.in_ok-played.played c.output_of_run.result.ended c.output_of_run.result.status c.output_of_run.result.text
-    ready c.requires.service c.in_ok-played.ensures c.output_of_run.ensures.ended c.output_of_run.ensures.status
-    (c.output_of_run.ensures.text ∙ c.in_ok-text.ensures ∙ ap (λ (i : Declared). report_of i.facts c.ended.result.now c.args.with_trace) c.interface.ensures.same
-    ∙ ap (λ (e : Ended). report_of c.args.accepted.now.facts e c.args.with_trace) c.ended.ensures)
+returns c =
+    of_three c.reported.result _ _ _ _
+    (λ o text status ended bytes ready.
+    output_in_order bytes c.args.accepted.now c.args.script c.args.with_trace c.in_ok-played.played o.ended o.status o.text ready c.requires.service c.in_ok-played.ensures ended status text)
+    c.reported.ensures.text c.reported.ensures.status c.reported.ensures.ended

@@ -26,4 +26,4 @@ pub returns-in-Ready : goal.returns-in-Ready
 returns-in-Ready c =
     let ready : IsReady services c.args.bytes.now c.in-Ready.accepted c.in-Ready.script =
     ready_for c.args.bytes.now (map facts_of c.shapes.result) c.in_ok-accepted.field-0 c.in-Ready.accepted c.in-Ready.accepted c.in-Ready.script c.shapes.ensures.facts c.in-Ready.is refl c.in_ok-accepted.ensures.input in
-    IfOk-weaker c.run_of.result _ (λ o. IsPlayOutput c.args.bytes.now c.args.with_trace o.ended o.status o.text) (λ o all. all c.args.bytes.now ready) c.run_of.ensures
+    IfOk-weaker c.run_of.result _ (λ o. IsPlayOutput c.args.bytes.now false c.args.with_trace o.ended o.status o.text) (λ o all. all c.args.bytes.now ready) c.run_of.ensures

@@ -1,0 +1,78 @@
+// Whether the entries of a history come again: a world that never stops is asked the calls in their order, one after another, and gives
+// the same replies.
+ghost use Rattle.std.specs.Prelude.{◌≡◌};
+
+use sg_base::{NoMemory, Stops, Value};
+use sg_edge::Never;
+use sg_facts::{Entry, Service, Tables};
+use sg_top::Played;
+use std::alloc::Global;
+use std::test::Fail;
+use test_world::{Asked, Judge, Run, judged};
+
+// The entries of a history, of which each is to come again.
+#[derive(Clone, Copy, Debug)]
+struct Again<'a> {
+    entries: &'a [Entry],
+}
+
+impl<S: Service, T: Stops> Judge<S, T> for Again<'_> {
+    type Said = Result<bool, Fail>;
+
+    fn judge(&self, alloc: Global, run: &mut Run<S, T>) -> Result<bool, Fail> {
+        for entry in self.entries {
+            if !comes_again(alloc, run, entry)? {
+                return Ok(false);
+            }
+        }
+        Ok(true)
+    }
+}
+
+// Makes the call of an entry, and says whether it gets its reply.
+fn comes_again<S: Service, T: Stops>(
+    alloc: Global,
+    run: &mut Run<S, T>,
+    entry: &Entry,
+) -> Result<bool, Fail> {
+    let call = &entry.call;
+    let fun = format!(in alloc; "{}", call.fun)?;
+    let args = written(alloc, call.args.as_slice())?;
+    let asked = Asked {
+        fun: &fun,
+        desc: call.desc,
+        args: &args,
+    };
+    match run.call(alloc, call.client, &asked)? {
+        Some(reply) => Ok(reply == entry.reply),
+        None => Ok(false),
+    }
+}
+
+// Arguments as a text that tells a call has them. None of them holds a space here.
+fn written(alloc: Global, values: &[Value]) -> Result<String, NoMemory> {
+    let mut text = String::new(alloc);
+    for value in values {
+        match value {
+            Value::Word(number) => text.push_str(&format!(in alloc; "{number} ")?)?,
+            Value::Text(bytes) => {
+                let bytes = str::from_utf8(bytes.bytes()).unwrap_or("");
+                text.push_str(&format!(in alloc; "\"{bytes}\" ")?)?
+            }
+        }
+    }
+    Ok(text)
+}
+
+/// Whether the entries of a play come again in a world of so many clients.
+pub fn come_again<S: Service>(
+    alloc: Global,
+    tables: Tables,
+    clients: u8,
+    played: &Played,
+) -> Result<bool, Fail>
+    requires { tables.iface.facts ≡ S.facts }
+{
+    let entries = played.ended().history.as_slice();
+    judged::<S, _, _>(alloc, tables, clients, Never::new(), &Again { entries })?
+}

@@ -1,0 +1,139 @@
+// Plays with a thread for each of 8 clients and two stops, 200 of each service: their entries come again.
+use crate::again::come_again;
+use sg_edge::{MemSink, MemSource, OpenGate};
+use sg_event::EventService;
+use sg_lock::LockService;
+use sg_mm::MmService;
+use sg_ramfs::RamfsService;
+use sg_sched::SchedService;
+use sg_top::{Answer, Played, superglue};
+use std::alloc::Global;
+use std::test::Fail;
+use test_interfaces::{EVENT, LOCK, MM, RAMFS, SCHED};
+use test_tables::{event_tables, lock_tables, mm_tables, ramfs_tables, sched_tables};
+
+/// The number of clients of each play.
+const CLIENTS: u8 = 8;
+
+/// The number of plays of each service.
+const ROUNDS: u32 = 200;
+
+// The calls of the setup, and those of each client.
+type Calls = (&'static str, &'static str);
+
+/// The clients take two locks, one after the other.
+const LOCKS: Calls = (
+    "lock_alloc(); lock_alloc();",
+    "lock_take(1); lock_release(1); lock_take(2); lock_release(2);",
+);
+
+/// The clients trigger two events, and wait for them.
+const EVENTS: Calls = (
+    "evt_split(); evt_split();",
+    "evt_trigger(1, 1); evt_wait(1); evt_trigger(2, 1); evt_wait(2);",
+);
+
+/// The clients alias pages of their own at one place of client 1, and find there what stands there.
+const PAGES: Calls = (
+    "mman_get_page(16384);",
+    "mman_get_page(4096); mman_alias_page($1, 1, 8192); mman_find(1, 8192); mman_release_page($1);",
+);
+
+/// The clients write and read one file.
+const FILES: Calls = (
+    "tsplit(0, \"a\");",
+    "tsplit(0, \"a\"); twrite($1, \"hello\"); tseek($1, 3); tread($1, 16); trelease($1);",
+);
+
+/// The clients put threads to sleep, and wake them.
+const THREADS: Calls = (
+    "sched_create_thd(5);",
+    "sched_create_thd(3); sched_sleep($1); sched_wakeup($1); sched_yield($1); sched_next();",
+);
+
+// The script of a round: each client makes the same calls, and the service stops at two points.
+fn script_of(alloc: Global, calls: Calls, round: u32) -> Result<String, Fail> {
+    let (setup, body) = calls;
+    let mut text = format!(in alloc; "setup {{ {setup} }}")?;
+    for client in 1..=CLIENTS {
+        text.push_str(&format!(in alloc; " client {client} {{ {body} }}")?)?;
+    }
+    let first = round % 97 + 1;
+    let second = first + round % 41 + 1;
+    text.push_str(&format!(in alloc; " stop {first} {second};\n")?)?;
+    Ok(text)
+}
+
+// The play of a round.
+fn played(
+    rt: &HostRuntime,
+    interface: &[u8],
+    calls: Calls,
+    round: u32,
+) -> Result<Played, Fail> {
+    let alloc = rt.alloc();
+    let mut words = Vec::new(alloc);
+    words.push("run".to_string(alloc)?)?;
+    let mut input = Vec::from_slice(alloc, interface)?;
+    input.extend_from_slice(b"%%\n")?;
+    input.extend_from_slice(script_of(alloc, calls, round)?.as_bytes())?;
+    let mut source = MemSource::new(alloc, &input, 4_096, &[])?;
+    let mut sink = MemSink::new(alloc, 4_096, &[])?;
+    let Answer { ended, .. } = superglue(rt, alloc, &words, &mut source, &mut sink, &OpenGate);
+    Ok(ended.ok_or("no run")?)
+}
+
+#[test]
+fn locks_come_again(rt: HostRuntime) -> Result<(), Fail> {
+    let alloc = rt.alloc();
+    for round in 0..ROUNDS {
+        let played = played(&rt, LOCK, LOCKS, round)?;
+        let again = come_again::<LockService>(alloc, lock_tables(alloc)?, CLIENTS, &played)?;
+        assert!(rt; again, "round {round}");
+    }
+    Ok(())
+}
+
+#[test]
+fn events_come_again(rt: HostRuntime) -> Result<(), Fail> {
+    let alloc = rt.alloc();
+    for round in 0..ROUNDS {
+        let played = played(&rt, EVENT, EVENTS, round)?;
+        let again = come_again::<EventService>(alloc, event_tables(alloc)?, CLIENTS, &played)?;
+        assert!(rt; again, "round {round}");
+    }
+    Ok(())
+}
+
+#[test]
+fn pages_come_again(rt: HostRuntime) -> Result<(), Fail> {
+    let alloc = rt.alloc();
+    for round in 0..ROUNDS {
+        let played = played(&rt, MM, PAGES, round)?;
+        let again = come_again::<MmService>(alloc, mm_tables(alloc)?, CLIENTS, &played)?;
+        assert!(rt; again, "round {round}");
+    }
+    Ok(())
+}
+
+#[test]
+fn files_come_again(rt: HostRuntime) -> Result<(), Fail> {
+    let alloc = rt.alloc();
+    for round in 0..ROUNDS {
+        let played = played(&rt, RAMFS, FILES, round)?;
+        let again = come_again::<RamfsService>(alloc, ramfs_tables(alloc)?, CLIENTS, &played)?;
+        assert!(rt; again, "round {round}");
+    }
+    Ok(())
+}
+
+#[test]
+fn threads_come_again(rt: HostRuntime) -> Result<(), Fail> {
+    let alloc = rt.alloc();
+    for round in 0..ROUNDS {
+        let played = played(&rt, SCHED, THREADS, round)?;
+        let again = come_again::<SchedService>(alloc, sched_tables(alloc)?, CLIENTS, &played)?;
+        assert!(rt; again, "round {round}");
+    }
+    Ok(())
+}
