@@ -8,7 +8,7 @@ use sg_stub::compile;
 use std::alloc::Global;
 use std::process::Abort;
 use std::test::Fail;
-use test_interfaces::{EVENT, EVENT_TABLES, LOCK, LOCK_TABLES, MM, RAMFS, SCHED};
+use test_interfaces::{EVENT, LOCK, MM, RAMFS, SCHED};
 
 // A creation, a state, the number of a set of fields, and the walk.
 type Line = (u8, u8, u8, &'static [u8]);
@@ -46,6 +46,36 @@ static SCHED_LINES: [Line; 8] = [
     (1, 3, 2, &[1, 7, 3]),
     (1, 3, 3, &[1, 7, 3]),
 ];
+
+static LOCK_TEXT: &[u8] = b"service lock
+facts parent=none close=refuse global=true block=true desc_data=true resc_data=false
+fun 1 lock_alloc creation -> lock_alloc
+fun 2 lock_take desc block -> lock_take owner=caller
+fun 3 lock_release desc wakeup -> lock_alloc owner=0
+fun 4 lock_free desc terminal -> end
+move lock_alloc lock_take
+move lock_alloc lock_free
+move lock_take lock_take
+move lock_take lock_release
+move lock_take lock_free
+step lock_alloc lock_take
+walk lock_alloc lock_alloc - : lock_alloc
+walk lock_alloc lock_take owner : lock_alloc lock_take
+";
+
+static EVENT_TEXT: &[u8] = b"service event
+facts parent=none close=refuse global=true block=true desc_data=true resc_data=false
+fun 1 evt_split creation -> evt_split
+fun 2 evt_wait desc block -> same count-1
+fun 3 evt_trigger desc word wakeup -> same count+arg2
+fun 4 evt_free desc terminal -> end
+move evt_split evt_wait
+move evt_split evt_trigger
+move evt_split evt_free
+step evt_split evt_trigger
+walk evt_split evt_split - : evt_split
+walk evt_split evt_split count : evt_split evt_trigger
+";
 
 static MM_TEXT: &[u8] = b"service mm
 facts parent=cross close=subtree global=true block=false desc_data=true resc_data=false
@@ -165,8 +195,8 @@ fn prints(alloc: Global, text: &[u8], want: &[u8]) -> Result<bool, Fail> {
 #[test]
 fn tables_of_the_standard_interfaces(rt: HostRuntime) -> Result<(), Fail> {
     let tables: [Table; 5] = [
-        (LOCK, &LOCK_LINES, LOCK_TABLES),
-        (EVENT, &EVENT_LINES, EVENT_TABLES),
+        (LOCK, &LOCK_LINES, LOCK_TEXT),
+        (EVENT, &EVENT_LINES, EVENT_TEXT),
         (MM, &MM_LINES, MM_TEXT),
         (RAMFS, &RAMFS_LINES, RAMFS_TEXT),
         (SCHED, &SCHED_LINES, SCHED_TEXT),

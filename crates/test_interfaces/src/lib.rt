@@ -1,6 +1,6 @@
 //! The standard interfaces of the services, as texts; and tests of what reads and prints the interface language.
 //!
-//! - `texts`: the texts (`LOCK`, `EVENT`, `MM`, `RAMFS`, `SCHED`), and the texts of two's tables (`LOCK_TABLES`, `EVENT_TABLES`)
+//! - `texts`: the texts (`LOCK`, `EVENT`, `MM`, `RAMFS`, `SCHED`)
 //!
 //! The tests:
 //! - `tokens`: the tokens of texts
@@ -16,4 +16,4 @@ mod tokens;
 #[cfg(test)]
 mod trees;
 
-pub use texts::{EVENT, EVENT_TABLES, LOCK, LOCK_TABLES, MM, RAMFS, SCHED};
+pub use texts::{EVENT, LOCK, MM, RAMFS, SCHED};

@@ -139,35 +139,3 @@ int sched_wait(spdid_t spdid, unsigned long desc(tid));\n\
 int sched_next(spdid_t spdid);\n\
 int sched_place(spdid_t spdid, unsigned long desc(tid), unsigned long desc_data(rank));\n\
 int sched_exit(spdid_t spdid, unsigned long desc(tid));\n";
-
-/// The text of the tables of locks.
-pub const LOCK_TABLES: &[u8] = b"service lock
-facts parent=none close=refuse global=true block=true desc_data=true resc_data=false
-fun 1 lock_alloc creation -> lock_alloc
-fun 2 lock_take desc block -> lock_take owner=caller
-fun 3 lock_release desc wakeup -> lock_alloc owner=0
-fun 4 lock_free desc terminal -> end
-move lock_alloc lock_take
-move lock_alloc lock_free
-move lock_take lock_take
-move lock_take lock_release
-move lock_take lock_free
-step lock_alloc lock_take
-walk lock_alloc lock_alloc - : lock_alloc
-walk lock_alloc lock_take owner : lock_alloc lock_take
-";
-
-/// The text of the tables of events.
-pub const EVENT_TABLES: &[u8] = b"service event
-facts parent=none close=refuse global=true block=true desc_data=true resc_data=false
-fun 1 evt_split creation -> evt_split
-fun 2 evt_wait desc block -> same count-1
-fun 3 evt_trigger desc word wakeup -> same count+arg2
-fun 4 evt_free desc terminal -> end
-move evt_split evt_wait
-move evt_split evt_trigger
-move evt_split evt_free
-step evt_split evt_trigger
-walk evt_split evt_split - : evt_split
-walk evt_split evt_split count : evt_split evt_trigger
-";

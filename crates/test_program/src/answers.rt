@@ -6,7 +6,7 @@ use sg_top::{Status, serial};
 use std::alloc::{AllocError, Global};
 use std::process::Abort;
 use std::test::Fail;
-use test_interfaces::{EVENT, EVENT_TABLES, LOCK, LOCK_TABLES, MM, RAMFS, SCHED};
+use test_interfaces::{EVENT, LOCK, MM, RAMFS, SCHED};
 
 /// What stands behind a text in an input, and the status and the output that the input comes to.
 pub type Case = (&'static [u8], Status, &'static [u8]);
@@ -372,6 +372,36 @@ fn checks_texts(rt: HostRuntime) -> Result<(), Fail> {
     try_each(&rt, alloc, "sim", &front, &NARROWER_SCRIPTS)
 }
 
+const TABLES: &[u8] = b"service lock
+facts parent=none close=refuse global=true block=true desc_data=true resc_data=false
+fun 1 lock_alloc creation -> lock_alloc
+fun 2 lock_take desc block -> lock_take owner=caller
+fun 3 lock_release desc wakeup -> lock_alloc owner=0
+fun 4 lock_free desc terminal -> end
+move lock_alloc lock_take
+move lock_alloc lock_free
+move lock_take lock_take
+move lock_take lock_release
+move lock_take lock_free
+step lock_alloc lock_take
+walk lock_alloc lock_alloc - : lock_alloc
+walk lock_alloc lock_take owner : lock_alloc lock_take
+";
+
+const EVENT_TABLES: &[u8] = b"service event
+facts parent=none close=refuse global=true block=true desc_data=true resc_data=false
+fun 1 evt_split creation -> evt_split
+fun 2 evt_wait desc block -> same count-1
+fun 3 evt_trigger desc word wakeup -> same count+arg2
+fun 4 evt_free desc terminal -> end
+move evt_split evt_wait
+move evt_split evt_trigger
+move evt_split evt_free
+step evt_split evt_trigger
+walk evt_split evt_split - : evt_split
+walk evt_split evt_split count : evt_split evt_trigger
+";
+
 #[test]
 fn knows_every_service(rt: HostRuntime) -> Result<(), Fail> {
     let alloc = rt.alloc();
@@ -411,7 +441,7 @@ static FAULTS: [(&str, u32, u32, Status, &[u8]); 16] = [
     ("check", 2, 0, ReadFault, b""),
     ("check", 0, 1, WriteFault, b""),
     ("check", 0, 2, WriteFault, b"accepted l"),
-    ("compile", 0, 0, Done, LOCK_TABLES),
+    ("compile", 0, 0, Done, TABLES),
     ("compile", 1, 0, ReadFault, b""),
     ("compile", 0, 1, WriteFault, b""),
     ("compile", 0, 2, WriteFault, b"service lo"),
