@@ -47,8 +47,14 @@ impl Command {
         ensures { MatchOption result ((command : Asked) → IsWordOf word.now command → ⊥) (IsWordOf word.now) }
     {
         match word {
-            "sim" => Some(Command::Play { threads: false, trace: false }),
-            "run" => Some(Command::Play { threads: true, trace: false }),
+            "sim" => Some(Command::Play {
+                threads: false,
+                trace: false,
+            }),
+            "run" => Some(Command::Play {
+                threads: true,
+                trace: false,
+            }),
             "check" => Some(Command::Check),
             "compile" => Some(Command::Compile),
             _ => None,
@@ -63,8 +69,14 @@ impl Command {
             return None;
         }
         match word {
-            "sim" => Some(Command::Play { threads: false, trace: true }),
-            "run" => Some(Command::Play { threads: true, trace: true }),
+            "sim" => Some(Command::Play {
+                threads: false,
+                trace: true,
+            }),
+            "run" => Some(Command::Play {
+                threads: true,
+                trace: true,
+            }),
             _ => None,
         }
     }

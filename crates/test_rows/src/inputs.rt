@@ -123,10 +123,7 @@ static WHOLE: [(&str, &[u8], u8, &str); 4] = [
 #[test]
 fn refuses_inputs(rt: HostRuntime) -> Result<(), Fail> {
     for (words, input, status, wanted) in &WHOLE {
-        assert!(rt;
-            comes_to(&rt, words, input, *status, wanted)?,
-            "{words}"
-        );
+        assert!(rt; comes_to(&rt, words, input, *status, wanted)?, "{words}");
     }
     Ok(())
 }

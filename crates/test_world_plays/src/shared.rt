@@ -65,12 +65,7 @@ fn script_of(alloc: Global, calls: Calls, round: u32) -> Result<String, Fail> {
 }
 
 // The play of a round.
-fn played(
-    rt: &HostRuntime,
-    interface: &[u8],
-    calls: Calls,
-    round: u32,
-) -> Result<Played, Fail> {
+fn played(rt: &HostRuntime, interface: &[u8], calls: Calls, round: u32) -> Result<Played, Fail> {
     let alloc = rt.alloc();
     let mut words = Vec::new(alloc);
     words.push("run".to_string(alloc)?)?;
