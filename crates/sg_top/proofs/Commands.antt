@@ -1,5 +1,5 @@
 -- The words say at most one command.
-use Rattle.std.proofs.Common.{◌≡◌, ◌<◌, ◌≤◌, ℕ, Bool, true, false, List, [], ◌∷◌, None, Some, get_or, length, map, slice_index_or, refl, sym, ◌∙◌, ap, subst, arith}
+use Rattle.std.proofs.Common.{◌≡◌, ◌<◌, ◌≤◌, ℕ, true, false, List, [], ◌∷◌, None, Some, get_or, length, map, slice_index_or, refl, sym, ◌∙◌, ap, subst, arith}
 use Rattle.std.proofs.lemmas.List.{length-map}
 use Rattle.std.specs.Prelude.{◌==◌, if◌then◌else◌, MatchOption, codes, string_bytes}
 use Rattle.std.specs.Str.{bytes_eq}
@@ -12,7 +12,7 @@ use Rattle.sg_load.specs.declared.kind.ServiceKind.TheVariants.{Locks, Events, P
 use Rattle.sg_script.specs.Numbers.{value_of_digits}
 use Rattle.sg_top.specs.declared.command.Command.{Command}
 use Rattle.sg_top.specs.declared.command.Command.TheVariants.{Play, Check, Compile, Load}
-use Rattle.sg_top.specs.Answer.{AreDigitsOf, SayTexts, IsCommand}
+use Rattle.sg_top.specs.Answer.{AreDigitsOf, IsCommand, IsSerialCommand}
 use Rattle.sg_top.specs.Inside.Kinds.{kind_called}
 use Rattle.sg_top.specs.Inside.Words.{IsLoadOf, IsPairOf, IsWordOf}
 
@@ -71,6 +71,10 @@ one_command words a b x y =
     let u = says words a x in
     let v = says words b y in
     sym (it_is a u.0 u.1) ∙ ap command_in (sym u.2 ∙ v.2) ∙ it_is b v.0 v.1
+
+-- the words say at most one command that one thread does
+pub one_serial : (words : List (String Global)) (a b : Command) → IsSerialCommand words a → IsSerialCommand words b → a ≡ b
+one_serial words a b x y = one_command words a b x.0 y.0
 
 -- ---- how many words
 

@@ -1,5 +1,5 @@
 -- An output that isn't a refusal refuses nothing: a text has one verdict, and an input is one thing.
-use Rattle.std.proofs.Common.{◌≡◌, ℕ, ◌≤◌, inl, inr, Bool, true, false, List, None, Some, arith, length}
+use Rattle.std.proofs.Common.{◌≡◌, ℕ, ◌≤◌, inl, inr, Bool, false, List, None, Some, arith, length}
 use Rattle.std.specs.declared.option.Option.{Option}
 use Rattle.sg_hist.specs.declared.ended.Ended.{Ended}
 use Rattle.sg_diagnose.specs.declared.outcome.Verdict.{Verdict}

@@ -49,6 +49,17 @@ run_so i service walks script ended tables ascend played = record {
   woken = played.woken;
 }
 
+-- a play under the interface of tables is one by these tables
+pub by_tables : {E : Type 0} (i j : Declared) (service : Answering) (walks : List WalkLine) (script : Script) (r : Result Ended E) → j ≡ i → AreTables i walks
+    → IfOk r (IsPlayed (record { interface = j; ask = service.ask; parts = service.parts; walks = walks }) (λ asked struck plan. struck ≡ up_to asked plan) script script.stops)
+    → IfOk r (IsPlayedOn i service script)
+by_tables i j service walks script (Ok ended) same tables played = (
+  walks,
+  tables,
+  subst (λ v. IsPlayed (record { interface = v; ask = service.ask; parts = service.parts; walks = walks }) (λ asked struck plan. struck ≡ up_to asked plan) script script.stops ended) same played,
+)
+by_tables i j service walks script (Err e) same tables played = tt
+
 -- a play by the tables of an interface is a run
 pub is_run : {E : Type 0} (i : Declared) (service : Answering) (script : Script) (r : Result Ended E) → AscendsAbove 0 script.stops → IfOk r (IsPlayedOn i service script)
     → IfOk r (IsRunOf i service script)

@@ -50,10 +50,9 @@ pub fn superglue<R: Threads + Wait + Sync, I: Source, O: Sink, G: Gate>(
         return without_run(Status::OtherWords);
     };
     match command {
-        Command::Play {
-            threads: true,
-            trace,
-        } => with_threads(rt, alloc, trace, input, output, gate),
+        Command::Play { threads, trace } if threads => {
+            with_threads(rt, alloc, trace, input, output, gate)
+        }
         _ => in_one_thread(alloc, command, input, output),
     }
 }

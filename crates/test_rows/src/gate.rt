@@ -10,7 +10,7 @@ use test_interfaces::LOCK;
 const MOST_LOOKS: u32 = 50_000_000;
 
 // Holds client 1 before its first call until the first call of client 2 was answered.
-#[derive(Debug)]
+#[derive(Debug, Drop)]
 struct TwoFirst {
     two_answered: AtomicBool,
     gave_up: AtomicBool,
@@ -59,7 +59,7 @@ fn two_at_once(rt: HostRuntime) -> Result<(), Fail> {
         two_answered: AtomicBool::new(false),
         gave_up: AtomicBool::new(false),
     };
-    let (number, printed) = played_with(&rt, "run", &input, &gate)?;
+    let (number, printed) = played_with(&rt, rt.alloc(), "run", &input, &gate)?;
     assert!(rt; !gate.gave_up.load(Ordering::SeqCst));
     assert_eq!(rt; number, 0);
     assert!(rt; printed.as_slice() == TWO_FIRST.as_bytes());

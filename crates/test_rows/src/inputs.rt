@@ -100,7 +100,7 @@ fn judges_other_interfaces(rt: HostRuntime) -> Result<(), Fail> {
         let mut input = with_lines(alloc, word, *times)?;
         input.extend_from_slice(behind)?;
         assert!(rt;
-            comes_to(&rt, words, &input, *status, wanted)?,
+            comes_to(&rt, alloc, words, &input, *status, wanted)?,
             "{words} {word} {times}"
         );
     }
@@ -123,7 +123,10 @@ static WHOLE: [(&str, &[u8], u8, &str); 4] = [
 #[test]
 fn refuses_inputs(rt: HostRuntime) -> Result<(), Fail> {
     for (words, input, status, wanted) in &WHOLE {
-        assert!(rt; comes_to(&rt, words, input, *status, wanted)?, "{words}");
+        assert!(rt;
+            comes_to(&rt, rt.alloc(), words, input, *status, wanted)?,
+            "{words}"
+        );
     }
     Ok(())
 }
@@ -144,9 +147,9 @@ fn takes_the_longest_interface(rt: HostRuntime) -> Result<(), Fail> {
     for _ in LOCK.len()..65_536 {
         text.push(b' ')?;
     }
-    assert!(rt; comes_to(&rt, "check", &text, 0, "accepted lock\n")?);
+    assert!(rt; comes_to(&rt, alloc, "check", &text, 0, "accepted lock\n")?);
     text.push(b' ')?;
-    assert!(rt; comes_to(&rt, "check", &text, 2, "input refused: TooLong\n")?);
+    assert!(rt; comes_to(&rt, alloc, "check", &text, 2, "input refused: TooLong\n")?);
     Ok(())
 }
 
@@ -157,12 +160,12 @@ fn refuses_one_call_and_one_byte_more(rt: HostRuntime) -> Result<(), Fail> {
     calls.push_str("}\n")?;
     let input = input_of(alloc, LOCK, &calls)?;
     let line = "script refused at 65538:1: Limit\n";
-    assert!(rt; comes_to(&rt, "sim", &input, 2, line)?);
+    assert!(rt; comes_to(&rt, alloc, "sim", &input, 2, line)?);
     let mut name = repeated(alloc, "client 1 { tsplit(0, \"", "a", 257)?;
     name.push_str("\"); }\n")?;
     let input = input_of(alloc, RAMFS, &name)?;
     let line = "script refused at 1:22: Limit\n";
-    assert!(rt; comes_to(&rt, "sim", &input, 2, line)?);
+    assert!(rt; comes_to(&rt, alloc, "sim", &input, 2, line)?);
     Ok(())
 }
 
@@ -182,9 +185,9 @@ fn makes_1024_locks(rt: HostRuntime) -> Result<(), Fail> {
     let mut script = repeated(alloc, "client 1 {", " lock_alloc();", 1_025)?;
     script.push_str(" lock_free($1); lock_alloc(); } stop 5124;\n")?;
     let input = input_of(alloc, LOCK, &script)?;
-    assert!(rt; comes_to(&rt, "sim", &input, 0, FULL)?);
+    assert!(rt; comes_to(&rt, alloc, "sim", &input, 0, FULL)?);
     let mut traced = FULL.to_string(alloc)?;
     traced.push_str("..\npoints 5129\n")?;
-    assert!(rt; comes_to(&rt, "sim trace", &input, 0, &traced)?);
+    assert!(rt; comes_to(&rt, alloc, "sim trace", &input, 0, &traced)?);
     Ok(())
 }

@@ -4,22 +4,30 @@ use sg_base::NoMemory;
 use sg_edge::{Gate, MemSink, MemSource, OpenGate};
 use sg_top::superglue;
 use std::alloc::Global;
+use std::process::Abort;
+use std::sync::Wait;
 use std::test::Fail;
+use std::thread::Threads;
 use test_interfaces::{EVENT, LOCK, MM, RAMFS, SCHED};
 
 /// What words and an input come to: the number of the status, and what is printed.
-pub fn played(rt: &HostRuntime, words: &str, input: &[u8]) -> Result<(u8, Vec<u8>), NoMemory> {
-    played_with(rt, words, input, &OpenGate)
+pub fn played<R: Threads + Wait + Sync>(
+    rt: &R,
+    alloc: Global,
+    words: &str,
+    input: &[u8],
+) -> Result<(u8, Vec<u8>), NoMemory> {
+    played_with(rt, alloc, words, input, &OpenGate)
 }
 
 /// What they come to where each thread passes a gate around its calls.
-pub fn played_with<G: Gate>(
-    rt: &HostRuntime,
+pub fn played_with<R: Threads + Wait + Sync, G: Gate>(
+    rt: &R,
+    alloc: Global,
     words: &str,
     input: &[u8],
     gate: &G,
 ) -> Result<(u8, Vec<u8>), NoMemory> {
-    let alloc = rt.alloc();
     let mut list = Vec::new(alloc);
     for word in words.split_whitespace() {
         list.push(word.to_string(alloc)?)?;
@@ -56,14 +64,15 @@ fn fits(printed: &str, wanted: &str) -> bool {
 }
 
 /// Whether words and an input come to this status, and to these lines.
-pub fn comes_to(
-    rt: &HostRuntime,
+pub fn comes_to<R: Threads + Wait + Sync>(
+    rt: &R,
+    alloc: Global,
     words: &str,
     input: &[u8],
     status: u8,
     wanted: &str,
 ) -> Result<bool, NoMemory> {
-    let (number, printed) = played(rt, words, input)?;
+    let (number, printed) = played(rt, alloc, words, input)?;
     let printed = str::from_utf8(&printed).unwrap_or("");
     Ok(number == status && fits(printed, wanted))
 }
@@ -99,12 +108,17 @@ fn row_of(text: &str) -> Option<Row<'_>> {
 }
 
 // Each run of a text under an interface comes out as it is written.
-fn try_each(rt: &HostRuntime, interface: &[u8], text: &str) -> Result<(), Fail> {
+fn try_each<R: Threads + Wait + Sync + Abort>(
+    rt: &R,
+    alloc: Global,
+    interface: &[u8],
+    text: &str,
+) -> Result<(), Fail> {
     for told in text.split("\n\n") {
         let row = row_of(told).ok_or("no run")?;
-        let input = input_of(rt.alloc(), interface, row.script)?;
+        let input = input_of(alloc, interface, row.script)?;
         assert!(rt;
-            comes_to(rt, row.words, &input, row.status, row.printed)?,
+            comes_to(rt, alloc, row.words, &input, row.status, row.printed)?,
             "{told}"
         );
     }
@@ -113,27 +127,27 @@ fn try_each(rt: &HostRuntime, interface: &[u8], text: &str) -> Result<(), Fail> 
 
 #[test]
 fn plays_locks(rt: HostRuntime) -> Result<(), Fail> {
-    try_each(&rt, LOCK, LOCKS)
+    try_each(&rt, rt.alloc(), LOCK, LOCKS)
 }
 
 #[test]
 fn plays_events(rt: HostRuntime) -> Result<(), Fail> {
-    try_each(&rt, EVENT, EVENTS)
+    try_each(&rt, rt.alloc(), EVENT, EVENTS)
 }
 
 #[test]
 fn plays_pages(rt: HostRuntime) -> Result<(), Fail> {
-    try_each(&rt, MM, PAGES)
+    try_each(&rt, rt.alloc(), MM, PAGES)
 }
 
 #[test]
 fn plays_files(rt: HostRuntime) -> Result<(), Fail> {
-    try_each(&rt, RAMFS, FILES)
+    try_each(&rt, rt.alloc(), RAMFS, FILES)
 }
 
 #[test]
 fn plays_threads(rt: HostRuntime) -> Result<(), Fail> {
-    try_each(&rt, SCHED, THREADS)
+    try_each(&rt, rt.alloc(), SCHED, THREADS)
 }
 
 // Runs with stops, of locks, of files and of threads: each with lines of its trace.
@@ -159,15 +173,16 @@ const LOCK_IN_THREADS: [&str; 2] = [
 ];
 
 // Where an allocation fails, nothing is printed and the status says so; else the run comes out.
-fn comes_or_wants_memory(
-    rt: &HostRuntime,
+fn comes_or_wants_memory<R: Threads + Wait + Sync>(
+    rt: &R,
+    alloc: Global,
     words: &str,
     interface: &[u8],
     run: [&str; 2],
 ) -> Result<bool, NoMemory> {
     let [script, wanted] = run;
-    let input = input_of(rt.alloc(), interface, script)?;
-    let (number, printed) = played(rt, words, &input)?;
+    let input = input_of(alloc, interface, script)?;
+    let (number, printed) = played(rt, alloc, words, &input)?;
     let text = str::from_utf8(&printed).unwrap_or("");
     Ok(number == 6 && printed.is_empty() || number == 0 && fits(text, wanted))
 }
@@ -182,7 +197,7 @@ fn comes_out_or_wants_memory(rt: HostRuntime) {
     ];
     for (words, interface, run) in runs {
         // What the test itself has no memory for tells nothing.
-        match comes_or_wants_memory(&rt, words, interface, run) {
+        match comes_or_wants_memory(&rt, rt.alloc(), words, interface, run) {
             Ok(comes) => assert!(rt; comes, "{run:?}"),
             Err(_) => return,
         }
@@ -191,7 +206,7 @@ fn comes_out_or_wants_memory(rt: HostRuntime) {
 
 #[test]
 fn load_comes_out_or_wants_memory(rt: HostRuntime) {
-    if let Ok((number, printed)) = played(&rt, "load sched 1", b"") {
+    if let Ok((number, printed)) = played(&rt, rt.alloc(), "load sched 1", b"") {
         let text = str::from_utf8(&printed).unwrap_or("");
         let comes = text.starts_with("load sched 1: calls 20000 boots 33 replays ");
         assert!(rt; number == 6 && printed.is_empty() || number == 0 && comes);

@@ -1,6 +1,10 @@
 // Runs with a stop at each point, and with two: their entries are those without stops.
 use crate::runs::{input_of, played};
+use std::alloc::Global;
+use std::process::Abort;
+use std::sync::Wait;
 use std::test::Fail;
+use std::thread::Threads;
 use test_interfaces::{EVENT, LOCK, RAMFS, SCHED};
 
 const LOCKS: &str = "client 1 { lock_alloc(); lock_take($1); lock_release($1); lock_free($1); }";
@@ -20,16 +24,16 @@ const MOST: u32 = 60;
 const MOST_OF_TWO: u32 = 40;
 
 // The entries of a run: the lines before those of how clients ended.
-fn entries_of(
-    rt: &HostRuntime,
+fn entries_of<R: Threads + Wait + Sync>(
+    rt: &R,
+    alloc: Global,
     interface: &[u8],
     script: &str,
     stops: &str,
 ) -> Result<String, Fail> {
-    let alloc = rt.alloc();
     let text = format!(in alloc; "{script} stop {stops};\n")?;
     let input = input_of(alloc, interface, &text)?;
-    let (status, printed) = played(rt, "sim", &input)?;
+    let (status, printed) = played(rt, alloc, "sim", &input)?;
     if status != 0 {
         return Err("not done")?;
     }
@@ -39,24 +43,34 @@ fn entries_of(
 }
 
 // With one stop at each point the entries are those without stops.
-fn try_each(rt: &HostRuntime, interface: &[u8], script: &str) -> Result<(), Fail> {
-    let wanted = entries_of(rt, interface, script, "")?;
+fn try_each<R: Threads + Wait + Sync + Abort>(
+    rt: &R,
+    alloc: Global,
+    interface: &[u8],
+    script: &str,
+) -> Result<(), Fail> {
+    let wanted = entries_of(rt, alloc, interface, script, "")?;
     assert!(rt; !wanted.is_empty());
     for first in 1..=MOST {
-        let stops = format!(in rt.alloc(); "{first}")?;
-        let entries = entries_of(rt, interface, script, &stops)?;
+        let stops = format!(in alloc; "{first}")?;
+        let entries = entries_of(rt, alloc, interface, script, &stops)?;
         assert!(rt; entries == wanted, "stop {stops}");
     }
     Ok(())
 }
 
 // With stops at each two points the entries are those without stops.
-fn try_each_two(rt: &HostRuntime, interface: &[u8], script: &str) -> Result<(), Fail> {
-    let wanted = entries_of(rt, interface, script, "")?;
+fn try_each_two<R: Threads + Wait + Sync + Abort>(
+    rt: &R,
+    alloc: Global,
+    interface: &[u8],
+    script: &str,
+) -> Result<(), Fail> {
+    let wanted = entries_of(rt, alloc, interface, script, "")?;
     for first in 1..=MOST_OF_TWO {
         for second in first + 1..=MOST_OF_TWO {
-            let stops = format!(in rt.alloc(); "{first} {second}")?;
-            let entries = entries_of(rt, interface, script, &stops)?;
+            let stops = format!(in alloc; "{first} {second}")?;
+            let entries = entries_of(rt, alloc, interface, script, &stops)?;
             assert!(rt; entries == wanted, "stop {stops}");
         }
     }
@@ -65,30 +79,30 @@ fn try_each_two(rt: &HostRuntime, interface: &[u8], script: &str) -> Result<(), 
 
 #[test]
 fn locks_stop_once(rt: HostRuntime) -> Result<(), Fail> {
-    try_each(&rt, LOCK, LOCKS)
+    try_each(&rt, rt.alloc(), LOCK, LOCKS)
 }
 
 #[test]
 fn events_stop_once(rt: HostRuntime) -> Result<(), Fail> {
-    try_each(&rt, EVENT, EVENTS)
+    try_each(&rt, rt.alloc(), EVENT, EVENTS)
 }
 
 #[test]
 fn files_stop_once(rt: HostRuntime) -> Result<(), Fail> {
-    try_each(&rt, RAMFS, FILES)
+    try_each(&rt, rt.alloc(), RAMFS, FILES)
 }
 
 #[test]
 fn threads_stop_once(rt: HostRuntime) -> Result<(), Fail> {
-    try_each(&rt, SCHED, THREADS)
+    try_each(&rt, rt.alloc(), SCHED, THREADS)
 }
 
 #[test]
 fn locks_stop_twice(rt: HostRuntime) -> Result<(), Fail> {
-    try_each_two(&rt, LOCK, LOCKS)
+    try_each_two(&rt, rt.alloc(), LOCK, LOCKS)
 }
 
 #[test]
 fn events_stop_twice(rt: HostRuntime) -> Result<(), Fail> {
-    try_each_two(&rt, EVENT, EVENTS)
+    try_each_two(&rt, rt.alloc(), EVENT, EVENTS)
 }

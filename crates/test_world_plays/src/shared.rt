@@ -8,7 +8,9 @@ use sg_ramfs::RamfsService;
 use sg_sched::SchedService;
 use sg_top::{Answer, Played, superglue};
 use std::alloc::Global;
+use std::sync::Wait;
 use std::test::Fail;
+use std::thread::Threads;
 use test_interfaces::{EVENT, LOCK, MM, RAMFS, SCHED};
 use test_tables::{event_tables, lock_tables, mm_tables, ramfs_tables, sched_tables};
 
@@ -65,8 +67,13 @@ fn script_of(alloc: Global, calls: Calls, round: u32) -> Result<String, Fail> {
 }
 
 // The play of a round.
-fn played(rt: &HostRuntime, interface: &[u8], calls: Calls, round: u32) -> Result<Played, Fail> {
-    let alloc = rt.alloc();
+fn played<R: Threads + Wait + Sync>(
+    rt: &R,
+    alloc: Global,
+    interface: &[u8],
+    calls: Calls,
+    round: u32,
+) -> Result<Played, Fail> {
     let mut words = Vec::new(alloc);
     words.push("run".to_string(alloc)?)?;
     let mut input = Vec::from_slice(alloc, interface)?;
@@ -82,7 +89,7 @@ fn played(rt: &HostRuntime, interface: &[u8], calls: Calls, round: u32) -> Resul
 fn locks_come_again(rt: HostRuntime) -> Result<(), Fail> {
     let alloc = rt.alloc();
     for round in 0..ROUNDS {
-        let played = played(&rt, LOCK, LOCKS, round)?;
+        let played = played(&rt, alloc, LOCK, LOCKS, round)?;
         let again = come_again::<LockService>(alloc, lock_tables(alloc)?, CLIENTS, &played)?;
         assert!(rt; again, "round {round}");
     }
@@ -93,7 +100,7 @@ fn locks_come_again(rt: HostRuntime) -> Result<(), Fail> {
 fn events_come_again(rt: HostRuntime) -> Result<(), Fail> {
     let alloc = rt.alloc();
     for round in 0..ROUNDS {
-        let played = played(&rt, EVENT, EVENTS, round)?;
+        let played = played(&rt, alloc, EVENT, EVENTS, round)?;
         let again = come_again::<EventService>(alloc, event_tables(alloc)?, CLIENTS, &played)?;
         assert!(rt; again, "round {round}");
     }
@@ -104,7 +111,7 @@ fn events_come_again(rt: HostRuntime) -> Result<(), Fail> {
 fn pages_come_again(rt: HostRuntime) -> Result<(), Fail> {
     let alloc = rt.alloc();
     for round in 0..ROUNDS {
-        let played = played(&rt, MM, PAGES, round)?;
+        let played = played(&rt, alloc, MM, PAGES, round)?;
         let again = come_again::<MmService>(alloc, mm_tables(alloc)?, CLIENTS, &played)?;
         assert!(rt; again, "round {round}");
     }
@@ -115,7 +122,7 @@ fn pages_come_again(rt: HostRuntime) -> Result<(), Fail> {
 fn files_come_again(rt: HostRuntime) -> Result<(), Fail> {
     let alloc = rt.alloc();
     for round in 0..ROUNDS {
-        let played = played(&rt, RAMFS, FILES, round)?;
+        let played = played(&rt, alloc, RAMFS, FILES, round)?;
         let again = come_again::<RamfsService>(alloc, ramfs_tables(alloc)?, CLIENTS, &played)?;
         assert!(rt; again, "round {round}");
     }
@@ -126,7 +133,7 @@ fn files_come_again(rt: HostRuntime) -> Result<(), Fail> {
 fn threads_come_again(rt: HostRuntime) -> Result<(), Fail> {
     let alloc = rt.alloc();
     for round in 0..ROUNDS {
-        let played = played(&rt, SCHED, THREADS, round)?;
+        let played = played(&rt, alloc, SCHED, THREADS, round)?;
         let again = come_again::<SchedService>(alloc, sched_tables(alloc)?, CLIENTS, &played)?;
         assert!(rt; again, "round {round}");
     }

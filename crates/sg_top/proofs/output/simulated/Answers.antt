@@ -1,6 +1,6 @@
 -- A script that is ready is played.
 use Rattle.std.proofs.lemmas.Result.{IfOk-weaker}
-use Rattle.std.proofs.Common.{map, refl}
+use Rattle.std.proofs.Common.{false, map, refl}
 use Rattle.sg_facts.specs.Facts.{facts_of}
 use Rattle.sg_input.specs.Inputs.{IsReady}
 use Rattle.sg_top.specs.Answer.{IsPlayOutput, services}

@@ -1,5 +1,5 @@
 -- The service is the one of its kind, and so is its run.
-use Rattle.std.proofs.Common.{◌≡◌, ◌∙◌, ap, subst}
+use Rattle.std.proofs.Common.{◌∙◌, ap, subst}
 use Rattle.std.specs.Result.{IfOk}
 use Rattle.sg_facts.specs.Interface.{Declared}
 use Rattle.sg_top.proofs.Fitting.{of_kind}

@@ -1,8 +1,6 @@
 -- A name that no service has says nothing.
-use Rattle.std.proofs.Common.{◌∙◌, ap, subst, sym}
+use Rattle.std.proofs.Common.{◌∙◌, subst, sym}
 use Rattle.std.specs.Prelude.{MatchOption}
-use Rattle.sg_load.specs.Services.{facts_by}
-use Rattle.sg_load.specs.declared.kind.ServiceKind.{ServiceKind}
 use Rattle.sg_top.specs.declared.command.Command.{Command}
 use Rattle.sg_top.specs.Inside.Words.{IsLoadOf}
 use Rattle.sg_top.proofs.Commands.{no_service}
