@@ -32,7 +32,11 @@ fn input_of(alloc: Global, interface: usize, script: usize) -> Result<Vec<u8>, A
 fn takes_the_longest_input(rt: HostRuntime) -> Result<(), Fail> {
     let alloc = rt.alloc();
     assert_eq!(rt; MOST_INPUT, MOST_INTERFACE + MOST_DIVIDER + MOST_SCRIPT);
-    assert_eq!(rt; Command::Sim.most_bytes(), 4_259_844);
+    let play = Command::Play {
+        threads: false,
+        trace: false,
+    };
+    assert_eq!(rt; play.most_bytes(), 4_259_844);
     assert_eq!(rt; Command::Check.most_bytes(), 65_536);
     let longest = input_of(alloc, 65_536, 4_194_304)?;
     assert_eq!(rt; longest.len(), 4_259_844);
