@@ -30,6 +30,7 @@ use Rattle.sg_seat.specs.WorldView.{WorldView, held_in, unanswered}
 use Rattle.sg_world_laws.specs.Keeping.{AreDrawn, KeepsPromise, Stands, Stub, standing}
 use Rattle.sg_world_laws.specs.Setting.{IsSetting, Setting, stubs_of}
 use Rattle.sg_world_laws.specs.Turns.{IsLetIn}
+use Rattle.sg_world_laws.proofs.Waits.{keeps_parts}
 use Rattle.sg_world_laws.proofs.Orders.{all_drawn, back_es, call_es, good_now, needs_es, none_es, time_es, wait_es}
 use Rattle.sg_advance_laws.specs.Advancing.{IsDue, IsLeftToLoad, IsLoadItem, StandsBehind, loaded_stub}
 use Rattle.sg_advance_laws.proofs.Admitted.{ascends_es, known_item, lets_es, seqs_es}
@@ -40,23 +41,7 @@ use Rattle.sg_advance_laws.proofs.Rebuilding.{told_is}
 -- a function that uses a file is of a service that has files
 uses_files : (facts : Facts) (n : ℕ) → is_allowed facts ≡ true → 1 ≤ n → n ≤ length facts.funs → (fun_at facts.funs n).uses_file ≡ true → facts.resc_data ≡ true
 uses_files facts n allowed first last uses =
-    let few = nat_le (length facts.fields) 8 in
-    let all = list_all (keeps_to facts) facts.funs in
-    let f = fun_at facts.funs n in
-    let front = (both_true (few && keeps_private facts && all) (replays_all facts (length facts.funs)) (first_four facts allowed)).0 in
-    let each : all ≡ true = (both_true (few && keeps_private facts) all front).1 in
-    let its : keeps_to facts (fun_at facts.funs n) ≡ true = each_fun (keeps_to facts) facts.funs n each first last in
-    let a = implies f.query (not (takes_desc f) && not (takes_parent f)) in
-    let b = implies f.uses_file (facts.resc_data && takes_desc f) in
-    let c = f.creation || list_all (λ e. not (is_text_field facts.fields e.0)) f.effects in
-    let d = sets_once f.effects in
-    let blk = implies f.block (not f.creation && not f.terminal) in
-    let five = (both_true (a && b && c && d && blk) (leaves_own facts.funs f.leaves) its).0 in
-    let four = (both_true (a && b && c && d) blk five).0 in
-    let three = (both_true (a && b && c) d four).0 in
-    let two = (both_true (a && b) c three).0 in
-    let one : b ≡ true = (both_true a b two).1 in
-    turn f.uses_file facts.resc_data (takes_desc f) uses one
+    let f = fun_at facts.funs n in turn f.uses_file facts.resc_data (takes_desc f) uses (keeps_parts facts n allowed first last).0
   where
     turn : (u r t : Bool) → u ≡ true → implies u (r && t) ≡ true → r ≡ true
     turn true true t is all = refl

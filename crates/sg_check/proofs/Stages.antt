@@ -28,7 +28,7 @@ use Rattle.sg_check_statements.specs.Flaws.{HasNoWalk, IsProtoWhere, IsUnreached
 use Rattle.sg_check_statements.specs.Says.{service_of}
 use Rattle.sg_check_statements.specs.Stages.{IsFirstFault}
 use Rattle.sg_check.specs.declared.candidate.Candidate.{Candidate}
-use Rattle.sg_check.specs.Answers.{IsThisFault}
+use Rattle.sg_check.specs.Inside.Answers.{IsThisFault}
 use Rattle.sg_check.specs.Inside.Candidates.{HasReach, HasWalks, IsCandidate}
 use Rattle.sg_check.specs.Inside.Numbers.{has_number, marked}
 use Rattle.sg_check.specs.Inside.Reached.{AreTriples, AreUnreached}

@@ -6,7 +6,7 @@ ghost use Rattle.sg_reach.specs.Limits.{HasFourFields};
 ghost use Rattle.sg_check_statements.specs.Faults.{IsAccepted, IsFault};
 ghost use Rattle.sg_check_statements.specs.Stages.{IsFirstFault};
 ghost use Rattle.sg_check_statements.specs.declared.fault.CheckKind.{CheckKind as Kind};
-ghost use Rattle.sg_check.specs.Answers.{IsThisFault};
+ghost use Rattle.sg_check.specs.Inside.Answers.{IsThisFault};
 ghost use Rattle.sg_check.specs.Inside.Reached.{AreTriples};
 ghost use Rattle.sg_check.specs.Inside.Candidates.{HasReach, HasWalks, IsCandidate, IsStageOf};
 ghost use Rattle.sg_check.specs.Shapes.{are_shapes};

@@ -7,7 +7,7 @@ ghost use Rattle.sg_check.specs.Inside.Reached.{AreStates, AreTriples, AreUnreac
 
 use crate::numbers::Numbers;
 use sg_base::NoMemory;
-use sg_facts::Interface;
+use sg_facts::{END_OF_FUNS, Interface};
 use sg_reach::Triple;
 use std::alloc::Global;
 
@@ -29,7 +29,7 @@ fn unreached_in(alloc: Global, iface: &Interface, states: &Numbers) -> Result<Nu
     ensures { IfOk result (λ numbers. (fun : ℕ) → (has_number numbers fun ≡ true) ↔ ((fun < 33) × (is_unreached iface.now states.now fun ≡ true))) }
 {
     let mut unreached = Numbers::new(alloc);
-    'funs: for fun in 0..33 {
+    'funs: for fun in 0..END_OF_FUNS {
         if is_unreached(iface, states, fun) {
             unreached.add(usize::from(fun))?;
         }

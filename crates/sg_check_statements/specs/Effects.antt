@@ -19,12 +19,12 @@ Named_effect = List ℕ × Effect
 
 -- ---- what is declared
 
--- by the first parameter
+-- the effects that a prototype's first parameter declares: its field is set to the caller
 abbrev pub caller_effects : List Param → List Named_effect
 caller_effects [] = []
 caller_effects (p ∷ params) = if has_word p.form (codes "desc_data") then (p.name.bytes, SetCaller) ∷ [] else []
 
--- by later parameters: descriptor and parent are no arguments, and the others are numbered from one on
+-- the effects that later parameters declare: descriptor and parent are no arguments, and the others are numbered from a number on
 abbrev pub arg_effects : ℕ → List Param → List Named_effect
 arg_effects k [] = []
 arg_effects k (p ∷ params) =
@@ -33,18 +33,18 @@ arg_effects k (p ∷ params) =
     else (if has_word p.form (codes "desc_data_add") then (p.name.bytes, AddArg k) ∷ arg_effects (k + 1) params
     else arg_effects (k + 1) params))
 
--- by the parameters behind the first
+-- the effects that a prototype's parameters behind the first declare
 abbrev pub later_effects : List Param → List Named_effect
 later_effects [] = []
 later_effects (p ∷ params) = arg_effects 0 params
 
--- by the return
+-- the effects that a prototype's return declares: the returned word is set in a field, or added to one
 abbrev pub ret_effects : Ret → List Named_effect
 ret_effects (Plain ty) = []
 ret_effects (Set ty field) = (field.bytes, SetRet) ∷ []
 ret_effects (Add ty field) = (field.bytes, AddRet) ∷ []
 
--- by a statement of its own
+-- the effects that one statement declares for a function: a field is cleared, or one is subtracted from it
 abbrev pub statement_effects : List ℕ → Statement → List Named_effect
 statement_effects f (One word fun) = []
 statement_effects f (Two word first second) =

@@ -102,7 +102,7 @@ fit_leaves facts statements f (Of other) =
     not (says statements (codes "sm_keep") f) && says_of statements (codes "sm_state") f (fun_at facts.funs other).name
     && not (list_any (leaves_another f (fun_at facts.funs other).name) statements)
 
--- whether the flags are
+-- whether each flag of a function is declared exactly where the service has it
 abbrev pub fit_flags : List Statement → List ℕ → Fun → Bool
 fit_flags statements f fun =
     agree fun.creation (says statements (codes "sm_creation") f) && agree fun.terminal (says statements (codes "sm_terminal") f)
@@ -121,7 +121,7 @@ wrong_flag facts statements (One word fun) = None
 wrong_flag facts statements (Two word first second) = None
 wrong_flag facts statements (Proto ret name params) = place_if (not (is_declared facts statements name.bytes)) name.at
 
--- one whose effects are
+-- a prototype of a function whose effects are declared otherwise than the service has them
 abbrev pub wrong_effect : Facts → List Statement → Statement → Option ℕ
 wrong_effect facts statements (One word fun) = None
 wrong_effect facts statements (Two word first second) = None

@@ -13,7 +13,7 @@ use crate::change::Change;
 use crate::declared::{Proto, Test, any_declared};
 use crate::funs::fun_of_name;
 use crate::judge::{Judge, first_flaw};
-use sg_facts::{Effect, FunShape, Shape};
+use sg_facts::{Effect, FunShape, Shape, field_name};
 use sg_grammar::Statement;
 
 /// Looks for prototypes of functions whose effects are declared otherwise.
@@ -88,7 +88,7 @@ fn all_declared(shape: &Shape, effects: &[(u8, Effect)], proto: &Proto) -> bool
         (declared_effects proto.now.statements.now proto.now.name.now proto.now.ret.now proto.now.params.now)
         (field_name (facts_of shape.now).fields e.0, e.1)) effects.now }
 {
-    effects.iter().all(|effect| is_declared(field_name(shape, effect.0), effect.1, proto))
+    effects.iter().all(|effect| is_declared(field_name(shape.fields, effect.0), effect.1, proto))
 }
 
 // Whether an effect is declared.
@@ -111,17 +111,7 @@ fn has_effect(shape: &Shape, fun: &FunShape, field: &[u8], change: Change) -> bo
 fn is_among(shape: &Shape, effects: &[(u8, Effect)], field: &[u8], change: Change) -> bool
     ensures { result ≡ list_any (λ e. bytes_eq (field_name (facts_of shape.now).fields e.0) field.now && same_effect e.1 (change_effect change)) effects.now }
 {
-    effects.iter().any(|effect| field_name(shape, effect.0) == field && change.is(effect.1))
-}
-
-// The name of a field, or none.
-fn field_name(shape: &Shape, number: u8) -> &'static [u8]
-    ensures { result.now ≡ field_name (facts_of shape.now).fields number }
-{
-    match shape.fields.get(usize::from(number)) {
-        Some(field) => field.name,
-        None => &[],
-    }
+    effects.iter().any(|effect| field_name(shape.fields, effect.0) == field && change.is(effect.1))
 }
 
 // The effects that a function hasn't.

@@ -18,7 +18,7 @@ use Rattle.sg_event.specs.declared.event.Event.{Event}
 use Rattle.sg_event.specs.EventFacts.{event_facts}
 use Rattle.sg_event.specs.EventTable.{event_table, event_parts, count_in, most_count, event_wait_answer, trigger_answer}
 use Rattle.sg_event.specs.EventRow.{event_body}
-use Rattle.sg_event.specs.EventDecision.{set_count, on_event_wait, on_trigger}
+use Rattle.sg_event.specs.Inside.EventDecision.{set_count, on_event_wait, on_trigger}
 
 module _ (held : Held Event) (ids : AreIds 0 held.given held.entries) (client seq desc : ℕ) (args : List Value) (event : Event) (there : entry_at held.entries desc ≡ Some event) where
   abbrev call_of : ℕ → Call

@@ -53,6 +53,7 @@ event_answer_of no_event_fun given count n = Some (Refused NotFound)
 abbrev pub event_answer : ℕ → ℕ → ℕ → ℕ → Option Reply
 event_answer fun given count n = event_answer_of (event_fun fun) given count n
 
+-- what a service of events answers a call at an object; None where the caller has to wait
 abbrev pub event_table : Table
 event_table o call = event_answer call.fun o.given (count_in (row_at o.rows call.desc)) (word_of (arg_at call 0))
 

@@ -1,6 +1,5 @@
 pub mod EventAlikeLaw
 pub mod EventBlockedLaw
-pub mod EventDecision
 pub mod EventFacts
 pub mod EventObject
 pub mod EventRow
@@ -9,3 +8,4 @@ pub mod EventSound
 pub mod EventSoundLaw
 pub mod EventTable
 pub mod EventWalkLaw
+pub mod Inside

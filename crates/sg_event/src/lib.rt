@@ -1,11 +1,13 @@
 //! Events: each has a count, which a trigger adds to and a wait takes one from.
 //!
+//! - `functions`: the numbers of the service's functions
 //! - `shape`: the facts of the service, those of its standard interface (`event_shape`)
 //! - `event`: one event (`Event`)
 //! - `service`: the service (`EventService`)
 #![tactic(auto)]
 
 mod event;
+pub mod functions;
 mod service;
 mod shape;
 

@@ -14,10 +14,11 @@ ghost use Rattle.sg_event.specs.EventBlockedLaw.{event_blocked_stays};
 ghost use Rattle.sg_event.specs.EventShapeLaw.{event_shape_allows, event_counts_slowly};
 ghost use Rattle.sg_event.specs.EventSound.{IsEventSound};
 ghost use Rattle.sg_event.specs.EventSoundLaw.{event_answers_and_keeps};
-ghost use Rattle.sg_event.specs.EventDecision.{on_split, on_event_wait, on_trigger, set_count};
+ghost use Rattle.sg_event.specs.Inside.EventDecision.{on_split, on_event_wait, on_trigger, set_count};
 
 use crate::Event;
-use crate::shape::{SPLIT, TRIGGER, WAIT, event_shape};
+use crate::functions::{SPLIT, TRIGGER, WAIT};
+use crate::shape::event_shape;
 use sg_base::{Call, Code, NoMemory, Path, Stops, Value};
 use sg_facts::{Outcome, Service, Shape};
 use sg_slots::{Decision, Slots, carry_out};

@@ -3,19 +3,8 @@ ghost use Rattle.std.specs.Prelude.{◌≡◌};
 ghost use Rattle.sg_facts.specs.Facts.{facts_of};
 ghost use Rattle.sg_event.specs.EventFacts.{event_facts};
 
+use crate::functions::{FREE, SPLIT, TRIGGER, WAIT};
 use sg_facts::{Effect, FieldShape, FunShape, Kind, Leaves, Parents, Shape};
-
-/// `evt_split`: makes an event of count 0.
-pub(crate) const SPLIT: u8 = 1;
-
-/// `evt_wait`: takes one from its count.
-pub(crate) const WAIT: u8 = 2;
-
-/// `evt_trigger`: adds to its count.
-pub(crate) const TRIGGER: u8 = 3;
-
-/// `evt_free`: ends it.
-pub(crate) const FREE: u8 = 4;
 
 static FIELDS: [FieldShape; 1] = [FieldShape {
     name: b"count",

@@ -60,7 +60,7 @@ pub record Serves (facts : Facts) (names : List (ℕ × ℕ)) (o held : Object) 
   pub needed : (r : Row) → row_at o.rows r.id ≡ Some r → is_needed facts o.rows call r ≡ true → HasAlike names held r
   pub file : SameFile o held call.desc (named names call.desc) (needs facts o call).file
 
--- the same call under the service's ids
+-- a call with its descriptor's id replaced by the service's id
 abbrev pub under_names : List (ℕ × ℕ) → Call → Call
 under_names names call = record call { desc = named names call.desc }
 

@@ -32,7 +32,7 @@ abbrev pub IsLegal : Declared → Table → List Entry → Type 0
 IsLegal i ask history = (before : List Entry) (e : Entry) (rest : List Entry) → history ≡ before ++ e ∷ rest
     → answer i ask (object_of i.facts before) e.call ≡ Some e.reply
 
--- the same from the front on, from an object
+-- a history from an object on is legal: each reply is the answer at the object that the entries before it lead to
 abbrev pub LegalFrom : Declared → Table → Object → List Entry → Type 0
 LegalFrom i ask o [] = Unit {0}
 LegalFrom i ask o (e ∷ history) = (answer i ask o e.call ≡ Some e.reply) × LegalFrom i ask (after i.facts o e.call e.reply) history

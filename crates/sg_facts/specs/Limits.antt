@@ -9,6 +9,10 @@ most_funs = 32
 abbrev pub most_fields : ℕ
 most_fields = 4
 
+-- the greatest number of calls of a script
+abbrev pub most_script_calls : ℕ
+most_script_calls = 65536
+
 -- the greatest number of a client; the first is 1
 abbrev pub last_client : ℕ
 last_client = 64

@@ -24,6 +24,7 @@ pub record Object : Type 0 where
   pub files : List (List ℕ × List ℕ)
   pub given : ℕ
 
+-- the object without rows and files, when no id was given
 abbrev pub empty_object : Object
 empty_object = record { rows = []; files = []; given = 0 }
 
@@ -76,7 +77,7 @@ abbrev pub place_in : List (ℕ × Effect) → List Value → ℕ
 place_in [] fields = 0
 place_in (e ∷ es) fields = if adds_word e.1 then word_of (field_at fields e.0) else place_in es fields
 
--- that of a live row
+-- the place in the file where a function reads or writes, by the fields of a live row; 0 where there is no row
 abbrev pub place_of : Fun → Option Row → ℕ
 place_of f None = 0
 place_of f (Some r) = place_in f.effects r.fields
@@ -118,5 +119,6 @@ abbrev pub object_from : Facts → Object → List Entry → Object
 object_from facts o [] = o
 object_from facts o (e ∷ history) = object_from facts (after facts o e.call e.reply) history
 
+-- the object after a history, from the empty object
 abbrev pub object_of : Facts → List Entry → Object
 object_of facts history = object_from facts empty_object history

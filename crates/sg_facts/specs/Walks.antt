@@ -82,14 +82,14 @@ pub record Spot : Type 0 where
   pub state : ℕ
   pub marks : List Mark
 
--- after the creation
+-- where a walk has come to after the creation that it begins with
 abbrev pub first_spot : Facts → ℕ → Spot
 first_spot facts fun = record {
   state = state_after facts fun fun;
   marks = marks_after (fun_at facts.funs fun).effects (map (λ f. unset) facts.fields);
 }
 
--- after one more function
+-- where a walk has come to after one more function
 abbrev pub next_spot : Facts → ℕ → Spot → Spot
 next_spot facts fun s = record {
   state = state_after facts fun s.state;
@@ -124,12 +124,14 @@ restores_field good set = true
 restores_field unset set = not set
 restores_field unknown set = false
 
+-- whether marks restore fields: there is a mark for each field, and it restores whether the field is set
 abbrev pub restores_fields : List Mark → List Bool → Bool
 restores_fields [] [] = true
 restores_fields (m ∷ marks) (b ∷ set) = restores_field m b && restores_fields marks set
 restores_fields [] (b ∷ set) = false
 restores_fields (m ∷ marks) [] = false
 
+-- whether a walk that leads to a spot restores a state with a set of fields; no walk, None, restores nothing
 abbrev pub restores_at : Option Spot → ℕ → List Bool → Bool
 restores_at None state set = false
 restores_at (Some s) state set = (s.state == state) && restores_fields s.marks set
@@ -138,6 +140,7 @@ restores_at (Some s) state set = (s.state == state) && restores_fields s.marks s
 abbrev pub restores : Declared → List ℕ → ℕ → List Bool → Bool
 restores i walk state set = restores_at (spot_of i walk) state set
 
+-- a walk restores a state with a set of fields
 abbrev pub Restores : Declared → List ℕ → ℕ → List Bool → Type 0
 Restores i walk state set = restores i walk state set ≡ true
 

@@ -10,7 +10,8 @@
 //! - `tables`: an interface with its walks (`Tables`, `WalkLine`)
 //! - `walk`: the functions whose calls rebuild a descriptor (`Walk`)
 //! - `service`: the trait `Service`
-//! - `words`: the words of the interface language for facts (`parents_word`, `close_word`, `flag_word`)
+//! - `words`: the words of the interface language for facts (`parents_word`, `close_word`, `flag_word`), and the names of fields
+//!   (`field_name`)
 //! - `limits`: the limits of every run
 //! - `laws`: laws of the definitions (`legal_from_the_front`)
 //!
@@ -36,7 +37,9 @@ mod words;
 pub use entry::Entry;
 pub use interface::Interface;
 pub use laws::legal_from_the_front;
-pub use limits::{LAST_CLIENT, MOST_FIELDS, MOST_FUNS, MOST_LIVE, MOST_PATH, MOST_WRITTEN};
+pub use limits::{
+    END_OF_FUNS, LAST_CLIENT, MOST_FIELDS, MOST_FILE, MOST_FUNS, MOST_LIVE, MOST_PATH, MOST_WRITTEN,
+};
 pub use outcome::{Outcome, Patch, PatchRoom};
 pub use path::FilePath;
 pub use row::{Fields, FieldsRoom, Row};
@@ -45,4 +48,4 @@ pub use shape::{Effect, FieldShape, FunShape, Kind, Leaves, Parents, Shape};
 pub use tables::{Tables, WalkLine, WalkList};
 pub use trace::{BootList, BootLog, Item, ItemList, Tag, Trace};
 pub use walk::Walk;
-pub use words::{close_word, flag_word, parents_word};
+pub use words::{close_word, field_name, flag_word, parents_word};

@@ -3,6 +3,9 @@
 /// The greatest number of functions of a service.
 pub const MOST_FUNS: u8 = 32;
 
+/// The first number behind those of functions.
+pub const END_OF_FUNS: u8 = MOST_FUNS + 1;
+
 /// The greatest number of fields of a row.
 pub const MOST_FIELDS: u8 = 4;
 
@@ -14,6 +17,9 @@ pub const MOST_LIVE: usize = 1024;
 
 /// The greatest number of bytes of a file's path.
 pub const MOST_PATH: usize = 256;
+
+/// The greatest number of bytes of a file.
+pub const MOST_FILE: u64 = 65_536;
 
 /// The greatest number of bytes that a call writes into a file.
 pub const MOST_WRITTEN: usize = 256;

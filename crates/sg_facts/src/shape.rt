@@ -35,7 +35,7 @@ pub enum Leaves {
     Own,
     /// The one before the call.
     Same,
-    /// That of another function.
+    /// The state of another function, by its number.
     Of(u8),
 }
 

@@ -1,8 +1,8 @@
 // The words of the interface language that stand for facts of a service.
-ghost use Rattle.std.specs.Prelude.{◌≡◌};
-ghost use Rattle.sg_facts.specs.Words.{close_word, flag_word, parents_word};
+ghost use Rattle.std.specs.Prelude.{◌≡◌, map};
+ghost use Rattle.sg_facts.specs.Words.{close_word, field_name, flag_word, parents_word};
 
-use crate::Parents;
+use crate::{FieldShape, Parents};
 
 /// The word for which parents descriptors may have.
 pub fn parents_word(parents: Parents) -> &'static [u8]
@@ -27,4 +27,14 @@ pub fn flag_word(flag: bool) -> &'static [u8]
     ensures { result.now ≡ flag_word flag }
 {
     if flag { b"true" } else { b"false" }
+}
+
+/// The name of a field; empty where there is no such field.
+pub fn field_name(fields: &[FieldShape], field: u8) -> &'static [u8]
+    ensures { result.now ≡ field_name (map (λ f. record { name = f.name.now; text = f.text }) fields.now) field }
+{
+    match fields.get(usize::from(field)) {
+        Some(field) => field.name,
+        None => b"",
+    }
 }

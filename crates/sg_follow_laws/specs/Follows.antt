@@ -26,7 +26,7 @@ pub record HoldsSo (facts : Facts) (s : Seat) : Type 0 where
   pub hidden : s.phase ≡ Held → is_visible facts s.call.fun ≡ false
   pub receipt : s.phase ≡ Receipted → 1 ≤ s.seq
 
--- so it is with each client
+-- a reply that any client holds is of a call that isn't visible, and one that a client has a receipt for is of a call that it made
 abbrev pub HoldAll : Facts → List Seat → Type 0
 HoldAll facts seats = (client : ℕ) → 1 ≤ client → HoldsSo facts (seat_in seats client)
 

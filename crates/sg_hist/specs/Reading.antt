@@ -33,10 +33,11 @@ pub record Place : Type 0 where
   pub rest : List Item
   pub newer : List Item
 
--- all items before it, and it with all behind it
+-- all items before a place: of the boots before, and the earlier ones of its boot
 abbrev pub past : Place → List Item
 past p = p.older ++ p.front
 
+-- all items behind a place, without its own: the later ones of its boot, and all of the boots behind
 abbrev pub behind : Place → List Item
 behind p = p.rest ++ p.newer
 
@@ -46,6 +47,7 @@ places_in older front [] newer = []
 places_in older front (item ∷ rest) newer =
     record { older = older; front = front; item = item; rest = rest; newer = newer } ∷ places_in older (front ++ item ∷ []) rest newer
 
+-- all items of boots, boot by boot
 abbrev pub items_of : List Boot → List Item
 items_of boots = flat_map (λ b. b.items) boots
 
@@ -66,6 +68,7 @@ is_tagged client seq (Walk id k c) = false
 is_tagged client seq (Load key c) = false
 is_tagged client seq (Client c s) = (c == client) && (s == seq)
 
+-- whether an item is of an entry's call
 abbrev pub is_item_of : Entry → Item → Bool
 is_item_of e item = is_tagged e.call.client e.call.seq item.tag
 
@@ -119,6 +122,7 @@ given_by facts o tag call Blocks = o
 given_by facts o tag call Stopped = o
 given_by facts o tag call NoMemory = o
 
+-- what the service holds after an item, from what it held before the item
 abbrev pub after_item : Facts → Object → Item → Object
 after_item facts o item = given_by facts o item.tag (service_call item) item.outcome
 
@@ -133,6 +137,7 @@ abbrev pub desc_of : Reply → ℕ
 desc_of (Ok good) = good.desc
 desc_of (Refused code) = 0
 
+-- the descriptor of an entry's reply, 0 where there is no entry
 abbrev pub desc_in : Option Entry → ℕ
 desc_in None = 0
 desc_in (Some e) = desc_of e.reply
@@ -176,6 +181,7 @@ made_by facts history id fun (Walk i k client) = false
 made_by facts history id fun (Load key client) = false
 made_by facts history id fun (Client client seq) = (fun_at facts.funs fun).creation && (id_given history client seq == id)
 
+-- whether an item is an Ok of the creation that an id was given for
 abbrev pub is_made : Facts → List Entry → ℕ → Item → Bool
 is_made facts history id item = is_ok item.outcome && made_by facts history id item.shown.fun item.tag
 
@@ -184,6 +190,7 @@ abbrev pub walk_in : List WalkLine → Option Row → Option (List ℕ)
 walk_in walks None = None
 walk_in walks (Some r) = walk_of walks r.made r.state (mask_of r.fields)
 
+-- whether there is a walk, and the walk has so many calls
 abbrev pub has_length : ℕ → Option (List ℕ) → Bool
 has_length n None = false
 has_length n (Some walk) = length walk == n
@@ -195,6 +202,7 @@ ends_walk facts walks history id p (Walk i k client) =
 ends_walk facts walks history id p (Load key client) = false
 ends_walk facts walks history id p (Client client seq) = false
 
+-- whether the item at a place is an Ok of the last call of the walk of an id
 abbrev pub is_rebuilt_at : Facts → List WalkLine → List Entry → ℕ → Place → Bool
 is_rebuilt_at facts walks history id p = is_ok p.item.outcome && ends_walk facts walks history id p p.item.tag
 

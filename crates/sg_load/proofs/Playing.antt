@@ -7,6 +7,7 @@ use Rattle.std.proofs.lemmas.Bool.Decides.{eqb_tells, nat_tests}
 use Rattle.sg_edge.specs.Stops.{AscendsAbove}
 use Rattle.sg_facts.specs.Facts.{fun_at}
 use Rattle.sg_facts.specs.Interface.{Declared}
+use Rattle.sg_facts.specs.Limits.{most_script_calls}
 use Rattle.sg_load.specs.declared.kind.ServiceKind.{ServiceKind}
 use Rattle.sg_load.specs.declared.kind.ServiceKind.TheVariants.{Locks, Events, Pages, Files, Threads}
 use Rattle.sg_load.specs.Drawn.{after_draws, drawn, stops_from, upper}
@@ -19,7 +20,7 @@ use Rattle.sg_facts.specs.Laws.{whole}
 use Rattle.sg_load.specs.Services.{facts_by}
 use Rattle.sg_plain.specs.Calls.{part_of, script_calls}
 use Rattle.sg_plain.specs.Script.{call_fits, calls_fit}
-use Rattle.sg_play_laws.specs.Playable.{AreClients, IsPlayable, most_script_calls}
+use Rattle.sg_play_laws.specs.Playable.{AreClients, IsPlayable}
 use Rattle.sg_script.specs.declared.script.ScriptCall.{ScriptCall}
 
 -- ---- stops

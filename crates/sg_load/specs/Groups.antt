@@ -28,15 +28,15 @@ setup_of _ = []
 
 -- ---- a group of each service
 
--- it takes a lock, and releases it
+-- a group on a lock: the client takes the lock, and releases it
 abbrev pub lock_group : ℕ → List ScriptCall
 lock_group lock = call lock_take_number (Number lock ∷ []) ∷ call lock_release_number (Number lock ∷ []) ∷ []
 
--- it triggers an event, and waits for it
+-- a group on an event: the client triggers the event, and waits for it
 abbrev pub event_group : ℕ → List ScriptCall
 event_group event = call evt_trigger_number (Number event ∷ Number trigger_count ∷ []) ∷ call evt_wait_number (Number event ∷ []) ∷ []
 
--- it maps a page at an address, makes an alias of it in the client's space for that, finds its own page, and releases it;
+-- a group on a page: the client maps a page at an address, makes an alias of it in a second space, finds the page, and releases it;
 -- `first` is the number of the group's first call, which made the page
 abbrev pub page_group : ℕ → ℕ → ℕ → List ScriptCall
 page_group client first addr =
@@ -52,13 +52,13 @@ file_name file = codes "f" ++ decimal file
 abbrev pub file_text : ℕ → ℕ → List ℕ
 file_text client group = decimal client ++ (codes ":" ++ decimal group)
 
--- it opens a file as a root, writes into it, goes back to its start, reads it, and closes it
+-- a group on a file: the client opens the file as a root, writes into it, goes back to its start, reads it, and closes it
 abbrev pub file_group : ℕ → ℕ → ℕ → ℕ → List ScriptCall
 file_group client first group file =
     call tsplit_number (Number 0 ∷ Text (file_name file) ∷ []) ∷ call twrite_number (Back first ∷ Text (file_text client group) ∷ [])
     ∷ call tseek_number (Back first ∷ Number 0 ∷ []) ∷ call tread_number (Back first ∷ Number read_bytes ∷ []) ∷ call trelease_number (Back first ∷ []) ∷ []
 
--- it makes a thread of a priority, yields it, asks which is next, puts it to sleep, and ends it
+-- a group on a thread: the client makes a thread of a priority, yields it, asks which is next, puts it to sleep, and ends it
 abbrev pub thread_group : ℕ → ℕ → List ScriptCall
 thread_group first priority =
     call sched_create_thd_number (Number priority ∷ []) ∷ call sched_yield_number (Back first ∷ []) ∷ call sched_next_number []
@@ -73,7 +73,7 @@ group_of Pages client first group u = page_group client first (page_bytes * (u %
 group_of Files client first group u = file_group client first group (u % file_count)
 group_of Threads client first group u = thread_group first (u % priority_count)
 
--- the number of its calls
+-- the number of calls of a group of a service
 abbrev pub group_size : ServiceKind → ℕ
 group_size Locks = 2
 group_size Events = 2
@@ -81,6 +81,6 @@ group_size Pages = 4
 group_size Files = 5
 group_size Threads = 5
 
--- the greatest of these
+-- the greatest number of calls of a group of any service
 abbrev pub most_group : ℕ
 most_group = 5

@@ -24,7 +24,7 @@ impl Model for Draws {
 }
 
 impl Draws {
-    /// Those that begin with a number as the state.
+    /// Draws that begin with a number as the state.
     pub(crate) fn new(number: u64) -> Draws
         ensures { result ≡ number }
     {

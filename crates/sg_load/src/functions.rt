@@ -1,41 +1,18 @@
-// The numbers of the functions that are called.
+// The functions that are called, by their services' numbers.
 
-pub(crate) const LOCK_ALLOC: u8 = 1;
-
-pub(crate) const LOCK_TAKE: u8 = 2;
-
-pub(crate) const LOCK_RELEASE: u8 = 3;
-
-pub(crate) const EVT_SPLIT: u8 = 1;
-
-pub(crate) const EVT_WAIT: u8 = 2;
-
-pub(crate) const EVT_TRIGGER: u8 = 3;
-
-pub(crate) const MMAN_GET_PAGE: u8 = 1;
-
-pub(crate) const MMAN_ALIAS_PAGE: u8 = 2;
-
-pub(crate) const MMAN_RELEASE_PAGE: u8 = 3;
-
-pub(crate) const MMAN_FIND: u8 = 4;
-
-pub(crate) const TSPLIT: u8 = 1;
-
-pub(crate) const TREAD: u8 = 2;
-
-pub(crate) const TWRITE: u8 = 3;
-
-pub(crate) const TSEEK: u8 = 4;
-
-pub(crate) const TRELEASE: u8 = 5;
-
-pub(crate) const SCHED_CREATE_THD: u8 = 1;
-
-pub(crate) const SCHED_YIELD: u8 = 2;
-
-pub(crate) const SCHED_SLEEP: u8 = 3;
-
-pub(crate) const SCHED_NEXT: u8 = 6;
-
-pub(crate) const SCHED_EXIT: u8 = 8;
+pub(crate) use sg_event::functions::{
+    SPLIT as EVT_SPLIT, TRIGGER as EVT_TRIGGER, WAIT as EVT_WAIT,
+};
+pub(crate) use sg_lock::functions::{
+    ALLOC as LOCK_ALLOC, RELEASE as LOCK_RELEASE, TAKE as LOCK_TAKE,
+};
+pub(crate) use sg_mm::functions::{
+    ALIAS as MMAN_ALIAS_PAGE, FIND as MMAN_FIND, GET as MMAN_GET_PAGE, RELEASE as MMAN_RELEASE_PAGE,
+};
+pub(crate) use sg_ramfs::functions::{
+    READ as TREAD, RELEASE as TRELEASE, SEEK as TSEEK, SPLIT as TSPLIT, WRITE as TWRITE,
+};
+pub(crate) use sg_sched::functions::{
+    CREATE as SCHED_CREATE_THD, EXIT as SCHED_EXIT, NEXT as SCHED_NEXT, SLEEP as SCHED_SLEEP,
+    YIELD as SCHED_YIELD,
+};

@@ -17,7 +17,7 @@ pub fn standard(alloc: Global, service: ServiceKind) -> Result<Accepted, NoMemor
     Ok(Accepted::new(iface))
 }
 
-// The same interface, before it is known to fit.
+// The interface of a service that declares all, before the interface is known to fit.
 fn whole_interface(alloc: Global, service: ServiceKind) -> Result<Interface, NoMemory>
     ensures { IfOk result (λ iface. iface ≡ whole (facts_by service)) }
 {

@@ -28,7 +28,7 @@ pub fn generate(alloc: Global, service: ServiceKind, number: u64) -> Result<Scri
     Ok(script)
 }
 
-// The same script, before it is known to be played.
+// The script that is generated for a service from a number, before the script is known to be playable.
 fn script_of(alloc: Global, service: ServiceKind, number: u64) -> Result<Script, NoMemory>
     ensures { IfOk result (λ script. script ≡ generated service number) }
 {

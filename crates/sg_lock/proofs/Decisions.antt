@@ -20,7 +20,7 @@ use Rattle.sg_lock.specs.declared.lock.Lock.{Lock}
 use Rattle.sg_lock.specs.LockFacts.{lock_facts}
 use Rattle.sg_lock.specs.LockTable.{lock_table, lock_parts, owner_in, take_answer, release_answer, free_answer}
 use Rattle.sg_lock.specs.LockRow.{lock_body}
-use Rattle.sg_lock.specs.LockDecision.{set_owner, on_take, on_release, on_free}
+use Rattle.sg_lock.specs.Inside.LockDecision.{set_owner, on_take, on_release, on_free}
 
 module _ (held : Held Lock) (ids : AreIds 0 held.given held.entries) (client seq desc : ℕ) (args : List Value) (lock : Lock)
     (is_client : 1 ≤ client) (there : entry_at held.entries desc ≡ Some lock) where

@@ -1,6 +1,6 @@
+pub mod Inside
 pub mod LockAlikeLaw
 pub mod LockBlockedLaw
-pub mod LockDecision
 pub mod LockFacts
 pub mod LockObject
 pub mod LockRow

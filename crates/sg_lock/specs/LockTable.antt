@@ -53,6 +53,7 @@ lock_answer_of no_lock_fun given owner client = Some (Refused NotFound)
 abbrev pub lock_answer : ℕ → ℕ → ℕ → ℕ → Option Reply
 lock_answer fun given owner client = lock_answer_of (lock_fun fun) given owner client
 
+-- what a service of locks answers a call at an object; None where the caller has to wait
 abbrev pub lock_table : Table
 lock_table o call = lock_answer call.fun o.given (owner_in (row_at o.rows call.desc)) call.client
 

@@ -1,10 +1,12 @@
 //! Locks: each is free or owned by one client.
 //!
+//! - `functions`: the numbers of the service's functions
 //! - `shape`: the facts of the service, those of its standard interface
 //! - `lock`: one lock (`Lock`)
 //! - `service`: the service (`LockService`)
 #![tactic(auto)]
 
+pub mod functions;
 mod lock;
 mod service;
 mod shape;

@@ -14,10 +14,11 @@ ghost use Rattle.sg_lock.specs.LockShapeLaw.{lock_shape_allows, lock_counts_slow
 ghost use Rattle.sg_lock.specs.LockSound.{IsLockSound};
 ghost use Rattle.sg_lock.specs.LockSoundLaw.{lock_answers_and_keeps};
 ghost use Rattle.sg_lock.specs.LockWalkLaw.{lock_walk_goes_on};
-ghost use Rattle.sg_lock.specs.LockDecision.{on_allocate, on_take, on_release, on_free, set_owner};
+ghost use Rattle.sg_lock.specs.Inside.LockDecision.{on_allocate, on_take, on_release, on_free, set_owner};
 
 use crate::Lock;
-use crate::shape::{ALLOC, RELEASE, TAKE, lock_shape};
+use crate::functions::{ALLOC, RELEASE, TAKE};
+use crate::shape::lock_shape;
 use sg_base::{Call, Code, NoMemory, Path, Stops};
 use sg_facts::{Outcome, Service, Shape};
 use sg_slots::{Decision, Slots, carry_out};

@@ -3,19 +3,8 @@ ghost use Rattle.std.specs.Prelude.{◌≡◌};
 ghost use Rattle.sg_facts.specs.Facts.{facts_of};
 ghost use Rattle.sg_lock.specs.LockFacts.{lock_facts};
 
+use crate::functions::{ALLOC, FREE, RELEASE, TAKE};
 use sg_facts::{Effect, FieldShape, FunShape, Kind, Leaves, Parents, Shape};
-
-/// `lock_alloc`: makes a free lock.
-pub(crate) const ALLOC: u8 = 1;
-
-/// `lock_take`: makes the caller its owner.
-pub(crate) const TAKE: u8 = 2;
-
-/// `lock_release`: frees it.
-pub(crate) const RELEASE: u8 = 3;
-
-/// `lock_free`: ends it.
-pub(crate) const FREE: u8 = 4;
 
 static FIELDS: [FieldShape; 1] = [FieldShape {
     name: b"owner",

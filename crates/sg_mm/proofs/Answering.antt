@@ -18,7 +18,7 @@ use Rattle.sg_facts.specs.Object.{Object, after, patch_of}
 use Rattle.sg_facts.specs.Track.{arg_at, ends_with}
 use Rattle.sg_slots.specs.Slots.{Held, object_of}
 use Rattle.sg_mm.specs.declared.page.Page.{Page}
-use Rattle.sg_mm.specs.MmDoes.{Does, IsBrokenOff, after_new, alias_page, got_page, held_with, held_without, hung, new_reply, ok_about, parts_of_new}
+use Rattle.sg_mm.specs.Inside.MmDoes.{Does, IsBrokenOff, after_new, alias_page, got_page, held_with, held_without, hung, new_reply, ok_about, parts_of_new}
 use Rattle.sg_mm.specs.MmFacts.{mm_facts}
 use Rattle.sg_mm.specs.MmRow.{page_body}
 use Rattle.sg_mm.specs.MmTable.{is_at, mm_parts, mm_table, number_at}

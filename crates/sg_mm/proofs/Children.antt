@@ -16,7 +16,7 @@ use Rattle.sg_walk_laws.proofs.Steps.{both_true}
 use Rattle.sg_mm.specs.declared.child.Child.{Child}
 use Rattle.sg_mm.specs.declared.page.Page.{Page}
 use Rattle.sg_mm.specs.Inside.Children.{AreOfPages, child_cmp, is_below, is_child, is_hung}
-use Rattle.sg_mm.specs.MmDoes.{hung}
+use Rattle.sg_mm.specs.Inside.MmDoes.{hung}
 
 -- ---- a page comes
 

@@ -20,8 +20,8 @@ use Rattle.sg_slots.specs.Slots.{Held}
 use Rattle.sg_mm.specs.declared.child.Child.{Child}
 use Rattle.sg_mm.specs.declared.page.Page.{Page}
 use Rattle.sg_mm.specs.declared.page.Place.{Place}
-use Rattle.sg_mm.specs.MmDoes.{Does, IsDone, after_new, held_with, hung, new_parts, new_reply, ok_about, parts_of_new}
-use Rattle.sg_mm.specs.MmIndex.{AreIndexed, id_in}
+use Rattle.sg_mm.specs.Inside.MmDoes.{Does, IsDone, after_new, held_with, hung, new_parts, new_reply, ok_about, parts_of_new}
+use Rattle.sg_mm.specs.Inside.MmIndex.{AreIndexed, id_in}
 use Rattle.sg_mm.specs.MmTable.{is_at}
 use Rattle.sg_mm.proofs.Indexed.{rows, taken}
 

@@ -22,7 +22,7 @@ use Rattle.sg_mm.specs.declared.page.Page.{Page}
 use Rattle.sg_mm.specs.declared.page.Place.{Place}
 use Rattle.sg_mm.specs.Inside.Children.{IsSubtree, has_id, is_below, is_child}
 use Rattle.sg_mm.specs.MmFacts.{mm_facts}
-use Rattle.sg_mm.specs.MmIndex.{AreIndexed}
+use Rattle.sg_mm.specs.Inside.MmIndex.{AreIndexed}
 use Rattle.sg_mm.specs.MmRow.{page_body}
 use Rattle.sg_mm.proofs.Indexed.{EndWith, rows}
 

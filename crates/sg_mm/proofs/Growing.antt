@@ -8,7 +8,7 @@ use Rattle.std.proofs.lemmas.Bool.Decides.{nat_tests}
 use Rattle.sg_walk_laws.proofs.Found.{same_test}
 use Rattle.sg_mm.specs.declared.child.Child.{Child}
 use Rattle.sg_mm.specs.Inside.Children.{AreAboveParents, IsSubtree, has_id, is_child}
-use Rattle.sg_mm.specs.MmIndex.{IsNext}
+use Rattle.sg_mm.specs.Inside.MmIndex.{IsNext}
 
 -- an id comes before the next that is looked at
 abbrev pub IsPassed : Option ℕ → ℕ → Type 0

@@ -23,10 +23,10 @@ use Rattle.sg_mm.specs.declared.child.Child.{Child}
 use Rattle.sg_mm.specs.declared.page.Page.{Page}
 use Rattle.sg_mm.specs.declared.page.Place.{Place}
 use Rattle.sg_mm.specs.Inside.Children.{AreAboveParents, HangsOne, TakesOneOff, has_id, is_below, is_child, is_hung}
-use Rattle.sg_mm.specs.MmDoes.{MayHang, held_with, held_without, hung}
+use Rattle.sg_mm.specs.Inside.MmDoes.{MayHang, held_with, held_without, hung}
 use Rattle.sg_mm.specs.MmFacts.{mm_facts}
-use Rattle.sg_mm.specs.MmIndex.{AreAscending, AreIndexed, ArePlaced, Gains, Loses, id_in, is_in_place, is_place}
-use Rattle.sg_mm.specs.MmPlaces.{first_at, first_passes, none_left, own_left, own_more, page_is_first, place_of_test, some_first, two_apart}
+use Rattle.sg_mm.specs.Inside.MmIndex.{AreAscending, AreIndexed, ArePlaced, Gains, Loses, id_in, is_in_place, is_place}
+use Rattle.sg_mm.specs.Inside.MmPlaces.{first_at, first_passes, none_left, own_left, own_more, page_is_first, place_of_test, some_first, two_apart}
 use Rattle.sg_mm.specs.MmRow.{page_body}
 use Rattle.sg_mm.specs.MmSound.{HaveOwnAddresses}
 use Rattle.sg_mm.specs.MmTable.{addr_of, is_at, page_at, space_of}

@@ -4,7 +4,7 @@ use Rattle.std.specs.Prelude.{◌==◌}
 use Rattle.std.proofs.lemmas.Bool.Decides.{nat_tests}
 use Rattle.sg_walk_laws.proofs.Steps.{both_true}
 use Rattle.sg_mm.specs.declared.page.Place.{Place}
-use Rattle.sg_mm.specs.MmIndex.{is_place}
+use Rattle.sg_mm.specs.Inside.MmIndex.{is_place}
 
 -- places that are told to be one are
 pub one_place : (a b : Place) → is_place a b ≡ true → a ≡ b

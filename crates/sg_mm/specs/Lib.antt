@@ -1,11 +1,8 @@
 pub mod Inside
 pub mod MmAlikeLaw
 pub mod MmBlockedLaw
-pub mod MmDoes
 pub mod MmFacts
-pub mod MmIndex
 pub mod MmObject
-pub mod MmPlaces
 pub mod MmRow
 pub mod MmShapeLaw
 pub mod MmSound

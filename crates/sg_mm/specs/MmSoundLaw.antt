@@ -25,7 +25,7 @@ use Rattle.sg_slots.proofs.SoundRows.{none_applies}
 use Rattle.sg_walk_laws.proofs.Found.{above, within}
 use Rattle.sg_walk_laws.proofs.Subtrees.{sound_without}
 use Rattle.sg_mm.specs.MmFacts.{mm_facts}
-use Rattle.sg_mm.specs.MmPlaces.{own_left, own_more}
+use Rattle.sg_mm.specs.Inside.MmPlaces.{own_left, own_more}
 use Rattle.sg_mm.specs.MmSound.{IsMmSound, IsOfClient}
 use Rattle.sg_mm.specs.MmTable.{is_at, mm_answer, mm_table, number_at, page_answer}
 

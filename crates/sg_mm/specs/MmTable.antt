@@ -67,6 +67,7 @@ mm_answer_of no_mm_fun o call = Some (Refused NotFound)
 abbrev pub mm_answer : ℕ → Object → Call → Option Reply
 mm_answer fun o call = mm_answer_of (mm_fun fun) o call
 
+-- what a service of pages answers a call at an object; no caller has to wait
 abbrev pub mm_table : Table
 mm_table o call = mm_answer call.fun o call
 

@@ -21,7 +21,7 @@ use Rattle.sg_facts.specs.Track.{empty_field, field_at, row_at, word_of}
 use Rattle.sg_facts.specs.Walks.{Mark, Spot, first_spot, good, may_go_on, spot_of}
 use Rattle.sg_mm.specs.MmFacts.{mm_facts}
 use Rattle.sg_mm.specs.MmTable.{addr_of, is_at, mm_table, space_of}
-use Rattle.sg_mm.specs.MmPlaces.{two_apart}
+use Rattle.sg_mm.specs.Inside.MmPlaces.{two_apart}
 use Rattle.sg_mm.specs.MmSound.{IsMmSound, IsOfClient}
 use Rattle.sg_mm.specs.MmSoundLaw.{mm_answers_and_keeps}
 use Rattle.sg_walk_laws.specs.Replays.{AnswersCreations, AnswersReplays, AnswersSteps, IsAnsweredOk, IsHalfway}

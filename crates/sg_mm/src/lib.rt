@@ -1,5 +1,6 @@
 //! Pages: each is in a space at an address, and one made from another goes with it.
 //!
+//! - `functions`: the numbers of the service's functions
 //! - `shape`: the facts of the service, those of its standard interface (`mm_shape`)
 //! - `page`: one page (`Page`), and its place (`Place`)
 //! - `place`, `child`: the indexes of the pages, by their places and by their parents
@@ -8,6 +9,7 @@
 #![tactic(auto)]
 
 mod child;
+pub mod functions;
 mod page;
 mod pages;
 mod place;

@@ -4,8 +4,8 @@ ghost use Rattle.std.specs.Option.{option_copied};
 ghost use Rattle.sg_facts.specs.Track.{is_live};
 ghost use Rattle.sg_slots.specs.Slots.{entry_at, rows_of, AreIds};
 ghost use Rattle.sg_mm.specs.Inside.Children.{HangsOne};
-ghost use Rattle.sg_mm.specs.MmDoes.{Does, MayHang, after_new, held_with, held_without, hung, new_parts, new_reply, ok_about, parts_of_new};
-ghost use Rattle.sg_mm.specs.MmIndex.{id_in, Gains, Keeps};
+ghost use Rattle.sg_mm.specs.Inside.MmDoes.{Does, MayHang, after_new, held_with, held_without, hung, new_parts, new_reply, ok_about, parts_of_new};
+ghost use Rattle.sg_mm.specs.Inside.MmIndex.{id_in, Gains, Keeps};
 ghost use Rattle.sg_mm.specs.MmRow.{page_body};
 ghost use Rattle.sg_mm.specs.MmTable.{page_at};
 
@@ -34,7 +34,7 @@ pub(crate) struct Pages {
 impl Model for Pages {
     ghost use Rattle.sg_slots.specs.Slots.{Held};
     ghost use Rattle.sg_mm.specs.declared.page.Page.{Page as IsPage};
-    ghost use Rattle.sg_mm.specs.MmIndex.{AreIndexed};
+    ghost use Rattle.sg_mm.specs.Inside.MmIndex.{AreIndexed};
 
     ghost Value = { Held IsPage };
 

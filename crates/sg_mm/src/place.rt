@@ -2,7 +2,7 @@
 ghost use Rattle.std.specs.Prelude.{◌≡◌, ℕ, ◌==◌, not, OnOk, OnErr};
 ghost use Rattle.std.proofs.lemmas.Map.Entries.{option_filter};
 ghost use Rattle.sg_mm.specs.Inside.Children.{has_id};
-ghost use Rattle.sg_mm.specs.MmIndex.{id_in, ArePlaced, Gains, Keeps, Loses};
+ghost use Rattle.sg_mm.specs.Inside.MmIndex.{id_in, ArePlaced, Gains, Keeps, Loses};
 
 use crate::{Page, Place};
 use sg_base::NoMemory;

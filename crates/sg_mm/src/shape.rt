@@ -3,16 +3,8 @@ ghost use Rattle.std.specs.Prelude.{◌≡◌};
 ghost use Rattle.sg_facts.specs.Facts.{facts_of};
 ghost use Rattle.sg_mm.specs.MmFacts.{mm_facts};
 
+use crate::functions::{ALIAS, GET, RELEASE};
 use sg_facts::{Effect, FieldShape, FunShape, Kind, Leaves, Parents, Shape};
-
-/// `mman_get_page`: makes a page of the caller's space at an address.
-pub(crate) const GET: u8 = 1;
-
-/// `mman_alias_page`: makes a page below another, in a space at an address.
-pub(crate) const ALIAS: u8 = 2;
-
-/// `mman_release_page`: ends it with all below it.
-pub(crate) const RELEASE: u8 = 3;
 
 static FIELDS: [FieldShape; 2] = [
     FieldShape {

@@ -1,7 +1,7 @@
 // The end of a page with all below it.
 ghost use Rattle.std.specs.Prelude.{◌≡◌, filter, not, IfOk};
 ghost use Rattle.sg_mm.specs.Inside.Children.{has_id, AreAboveParents, IsSubtree};
-ghost use Rattle.sg_mm.specs.MmIndex.{AreAscending, IsNext};
+ghost use Rattle.sg_mm.specs.Inside.MmIndex.{AreAscending, IsNext};
 
 use crate::Page;
 use crate::child::{Child, add_children};

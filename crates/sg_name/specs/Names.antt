@@ -23,7 +23,7 @@ abbrev pub name_by : Option ℕ → ℕ → Named
 name_by None real = Live real
 name_by (Some done) real = Partial real done
 
--- the same the other way round
+-- the name of a service id and how far its descriptor is rebuilt; None is the name of an id for which nothing stands
 abbrev pub name_of : Option Standing → Named
 name_of None = Unnamed
 name_of (Some s) = name_by s.done s.real

@@ -46,7 +46,7 @@ impl Named {
 }
 
 impl Standing {
-    /// The same as a name.
+    /// The name of a service id and of how far its descriptor is rebuilt.
     pub(crate) fn named(self) -> Named
         ensures { result ≡ name_of (Some self) }
     {

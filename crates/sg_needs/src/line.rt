@@ -26,7 +26,7 @@ pub(crate) fn line_to(alloc: Global, rows: &Tracker, id: u64) -> Result<IdList, 
     Ok(line)
 }
 
-/// Those of the ids that are live.
+/// The live ids among some ids.
 pub(crate) fn live_of(alloc: Global, rows: &Tracker, ids: &[u64]) -> Result<IdList, NoMemory>
     ensures { IfOk result (λ live. live ≡ filter (is_live rows.now.rows) ids.now) }
 {

@@ -44,7 +44,7 @@ pub record Stage : Type 0 where
 abbrev pub player_at : Script → ℕ → ℕ → Player
 player_at script client done = record { done = done; phase = if nat_lt done (length (script_calls script client)) then ready else through }
 
--- the beginning
+-- the stage at which a play begins: an empty history, no call of a client is done, and the whole schedule is still to come
 abbrev pub first_stage : Script → Stage
 first_stage script = record {
   history = [];
@@ -166,7 +166,7 @@ next_turn script s =
     if nat_lt (player_of s 1).done (length script.setup) then Some 1
     else some_or (first_of s s.schedule) (first_of s (in_a_circle s))
 
--- the schedule behind that turn
+-- the schedule that is left behind the next turn: all of it until the setup calls of client 1 are done
 abbrev pub left_schedule : Script → Stage → List ℕ
 left_schedule script s = if nat_lt (player_of s 1).done (length script.setup) then s.schedule else behind_first s s.schedule
 

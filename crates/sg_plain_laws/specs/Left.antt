@@ -21,7 +21,7 @@ FitsCalls facts calls done (holding reply) = done < length calls
 FitsCalls facts calls done blocked = WaitsIn facts calls done
 FitsCalls facts calls done through = length calls ≤ done
 
--- so it is for clients, numbered from a number on
+-- what each client has done and is at fits its calls of the script, where the clients are numbered from a number on
 abbrev pub FitScript : Facts → Script → ℕ → List Player → Type 0
 FitScript facts script n [] = Unit {0}
 FitScript facts script n (p ∷ players) = FitsCalls facts (script_calls script n) p.done p.phase × FitScript facts script (n + 1) players

@@ -14,13 +14,13 @@ use Rattle.sg_seat.specs.declared.phase.Phase.TheVariants.{Idle, Asked, Held, Re
 
 -- ---- a client
 
--- its entries are its first calls of the script, it has the number of the last, and its call that isn't answered is the next
+-- a client's entries are its first calls of the script, its seat has the number of the last, and its call under way is the next
 pub record IsCaller (facts : Facts) (script : Script) (history : List Entry) (client : ℕ) (s : Seat) : Type 0 where
   pub made : AreFirstCalls facts history client 1 (calls_of history client) (script_calls script client)
   pub count : s.seq ≡ length (calls_of history client)
   pub next : is_offered s.phase ≡ true → call_after facts script history client (length (calls_of history client)) ≡ Some s.call
 
--- so is each client, and each entry is of one of them
+-- each client has made its first calls of the script, and each entry is of one of the clients
 pub record AreCallers (facts : Facts) (script : Script) (history : List Entry) (seats : List Seat) : Type 0 where
   pub each : (client : ℕ) → 1 ≤ client → client ≤ length seats → IsCaller facts script history client (seat_in seats client)
   pub none_else : (client : ℕ) → calls_of history client ≢ [] → (1 ≤ client) × (client ≤ length seats)
@@ -73,7 +73,7 @@ pub record EntersNothing (history : List Entry) (seats : List Seat) (c : ℕ) (n
   pub each : (client : ℕ) → 1 ≤ client → KeepsCall (seat_in seats client) (seat_in later client)
   pub handed_on : HandsOn seats c later
 
--- it made an entry, of its call that wasn't answered before
+-- a client's step made an entry, of the client's call that wasn't answered before
 pub record EntersCall (history : List Entry) (seats : List Seat) (c : ℕ) (now : List Entry) (later : List Seat) : Type 0 where
   pub reply : Reply
   pub entered : now ≡ history ++ record { call = (seat_in seats c).call; reply = reply } ∷ []

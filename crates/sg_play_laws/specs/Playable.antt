@@ -3,7 +3,7 @@ use Rattle.std.specs.Prelude.{ℕ, ◌≡◌, ◌<◌, ◌≤◌, true, not, nat
 use Rattle.std.specs.List.{list_all}
 use Rattle.sg_facts.specs.Facts.{fun_at}
 use Rattle.sg_facts.specs.Interface.{Declared}
-use Rattle.sg_facts.specs.Limits.{last_client}
+use Rattle.sg_facts.specs.Limits.{last_client, most_script_calls}
 use Rattle.sg_plain.specs.Calls.{script_calls}
 use Rattle.sg_script.specs.declared.script.Script.{Script}
 use Rattle.sg_script.specs.declared.script.ScriptCall.{ScriptCall}
@@ -13,10 +13,6 @@ use Rattle.sg_plain.specs.Script.{calls_fit}
 abbrev pub AreClients : ℕ → List (ℕ × List ScriptCall) → Type 0
 AreClients above [] = Unit {0}
 AreClients above (c ∷ clients) = (above < c.0) × (c.0 ≤ last_client) × AreClients c.0 clients
-
--- the greatest number of calls of a script
-abbrev pub most_script_calls : ℕ
-most_script_calls = 65536
 
 -- each client's calls fit the interface, numbered from 1, and are no more than a script may have; the clients ascend; no call of
 -- the setup is of a function that may wait; and the turns of the schedule are those of clients, numbered from 1

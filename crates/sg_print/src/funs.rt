@@ -2,12 +2,11 @@
 ghost use Rattle.std.specs.Prelude.{◌≡◌, ◌++◌, ◌+◌, ◌<◌, ◌^◌, length, map, OnOk};
 ghost use Rattle.std.specs.Fmt.{decimal};
 ghost use Rattle.sg_facts.specs.Facts.{facts_of, fun_at, fun_of_shape};
-ghost use Rattle.sg_facts.specs.Words.{field_name};
 ghost use Rattle.sg_print.specs.TablesText.{called_text, effect_piece, effect_word, effects_text, flag_piece, flag_pieces, fun_line, kind_word, kinds_text, left_text, param_number, state_word};
 
 use crate::parts::put;
 use sg_base::{Bytes, NoMemory};
-use sg_facts::{Effect, FieldShape, FunShape, Kind, Leaves, Shape};
+use sg_facts::{Effect, FieldShape, FunShape, Kind, Leaves, Shape, field_name};
 use std::alloc::Global;
 
 /// Adds the line of the function of a number.
@@ -196,15 +195,5 @@ fn param_number(first: usize, kinds: &[Kind], arg: u8) -> usize
         [Kind::Desc | Kind::Parent, rest @ ..] => param_number(first + 1, rest, arg),
         [Kind::Word | Kind::Text, ..] if arg == 0 => first,
         [Kind::Word | Kind::Text, rest @ ..] => param_number(first + 1, rest, arg - 1),
-    }
-}
-
-// The name of a field; empty where there is no such field.
-fn field_name(fields: &[FieldShape], field: u8) -> &'static [u8]
-    ensures { result.now ≡ field_name (map (λ f. record { name = f.name.now; text = f.text }) fields.now) field }
-{
-    match fields.get(usize::from(field)) {
-        Some(field) => field.name,
-        None => b"",
     }
 }

@@ -9,12 +9,10 @@ use crate::funs::put_fun;
 use crate::parts::put;
 use sg_base::{Bytes, NoMemory};
 use sg_facts::{
-    FieldShape, Interface, Shape, Tables, WalkLine, close_word, flag_word, parents_word,
+    END_OF_FUNS, FieldShape, Interface, Shape, Tables, WalkLine, close_word, flag_word,
+    parents_word,
 };
 use std::alloc::Global;
-
-// One more than the greatest number of a function.
-const END_OF_FUNS: u8 = 33;
 
 /// The text of tables: the facts of the service, the declared functions, the transitions and recover steps by their numbers,
 /// and the walks in the order of the lines. `NoMemory` only where there is no memory for it.

@@ -21,12 +21,12 @@ use Rattle.sg_slots.proofs.Deciding.{with_fun}
 use Rattle.sg_slots.proofs.Rows.{is_live-rows_of}
 use Rattle.sg_walk_laws.proofs.Found.{within}
 use Rattle.sg_ramfs.specs.declared.open_file.OpenFile.{OpenFile}
-use Rattle.sg_ramfs.specs.RamfsDecision.{on_open, on_read, on_seek, on_write, CarriesBytes, WritesFile}
+use Rattle.sg_ramfs.specs.Inside.RamfsDecision.{on_open, on_read, on_seek, on_write, CarriesBytes, WritesFile}
 use Rattle.sg_ramfs.specs.RamfsFacts.{ramfs_facts}
 use Rattle.sg_ramfs.specs.RamfsObject.{Served, object_with, ramfs_object}
 use Rattle.sg_ramfs.specs.RamfsRow.{file_body}
 use Rattle.sg_ramfs.specs.RamfsTable.{is_bad_name, ramfs_parts, ramfs_table}
-use Rattle.sg_ramfs.specs.RamfsTree.{FitsTree, IsNested, IsTree, tree_rows}
+use Rattle.sg_ramfs.specs.Inside.RamfsTree.{FitsTree, IsNested, IsTree, tree_rows}
 use Rattle.sg_ramfs.proofs.Right.{Does, carried_out, plainly, read_right, release_right, seek_right, split_right}
 use Rattle.sg_ramfs.proofs.RightWrites.{write_does}
 

@@ -30,13 +30,13 @@ use Rattle.sg_slots.specs.Slots.{Held, entry_at, row_with}
 use Rattle.sg_slots.proofs.Rows.{rows_of-more, rows_of-set, rows_of-without}
 use Rattle.sg_ramfs.specs.declared.open_file.OpenFile.{OpenFile}
 use Rattle.sg_ramfs.specs.declared.plan.ReadPlan.{ReadPlan}
-use Rattle.sg_ramfs.specs.RamfsDecision.{on_open, on_read, on_seek, with_bytes, CarriesBytes}
+use Rattle.sg_ramfs.specs.Inside.RamfsDecision.{on_open, on_read, on_seek, with_bytes, CarriesBytes}
 use Rattle.sg_ramfs.specs.RamfsFacts.{ramfs_facts, tread}
 use Rattle.sg_ramfs.specs.RamfsObject.{object_with}
 use Rattle.sg_ramfs.specs.RamfsRow.{file_body}
 use Rattle.sg_ramfs.specs.RamfsTable.{is_bad_name, most_read, moved, ramfs_parts, ramfs_table, read_answer}
 use Rattle.sg_facts.specs.Limits.{most_file}
-use Rattle.sg_ramfs.specs.RamfsTree.{IsTree, tree_rows}
+use Rattle.sg_ramfs.specs.Inside.RamfsTree.{IsTree, tree_rows}
 use Rattle.sg_ramfs.proofs.Trees.{file_row}
 
 module _ (held : Held OpenFile) (files : List (List ℕ × List ℕ)) (call : Call) where

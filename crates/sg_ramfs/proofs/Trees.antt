@@ -23,9 +23,9 @@ use Rattle.sg_slots.proofs.Ids.{ids_more, ids_set, ids_without}
 use Rattle.sg_slots.proofs.Rows.{row_at-rows_of, rows_of-more, rows_of-set, rows_of-without}
 use Rattle.sg_walk_laws.proofs.Found.{above, from_left, met, within}
 use Rattle.sg_ramfs.specs.declared.open_file.OpenFile.{OpenFile}
-use Rattle.sg_ramfs.specs.RamfsPaths.{IsBelow, path_below, path_changed, path_last, path_left, path_more, path_of_none}
+use Rattle.sg_ramfs.specs.Inside.RamfsPaths.{IsBelow, path_below, path_changed, path_last, path_left, path_more, path_of_none}
 use Rattle.sg_ramfs.specs.RamfsRow.{file_body}
-use Rattle.sg_ramfs.specs.RamfsTree.{FitsTree, IsNested, IsTree, tree_rows}
+use Rattle.sg_ramfs.specs.Inside.RamfsTree.{FitsTree, IsNested, IsTree, tree_rows}
 
 -- the rows of a tree have parents of smaller ids
 pub tree_below : (held : Held OpenFile) → IsTree held → AreRows IsBelow 0 held.given (tree_rows held)

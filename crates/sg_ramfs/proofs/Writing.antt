@@ -8,7 +8,7 @@ use Rattle.sg_facts.specs.Object.{file_at, over, set_file}
 use Rattle.sg_slots.specs.Slots.{Held}
 use Rattle.sg_walk_laws.proofs.Files.{told}
 use Rattle.sg_ramfs.specs.declared.open_file.OpenFile.{OpenFile}
-use Rattle.sg_ramfs.specs.RamfsDecision.{Overwrites, Puts}
+use Rattle.sg_ramfs.specs.Inside.RamfsDecision.{Overwrites, Puts}
 use Rattle.sg_ramfs.specs.RamfsFiles.{place_at}
 use Rattle.sg_ramfs.proofs.Indexing.{behind, first_place}
 

@@ -1,16 +1,12 @@
+pub mod Inside
 pub mod RamfsAlikeLaw
 pub mod RamfsBlockedLaw
-pub mod RamfsDecision
 pub mod RamfsFacts
 pub mod RamfsFiles
 pub mod RamfsObject
-pub mod RamfsPaths
-pub mod RamfsPlans
-pub mod RamfsReplies
 pub mod RamfsRow
 pub mod RamfsShapeLaw
 pub mod RamfsSound
 pub mod RamfsSoundLaw
 pub mod RamfsTable
-pub mod RamfsTree
 pub mod RamfsWalkLaw

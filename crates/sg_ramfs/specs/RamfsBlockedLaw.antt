@@ -3,7 +3,7 @@ use Rattle.sg_facts.specs.Laws.{BlockedStays}
 use Rattle.sg_ramfs.specs.RamfsFacts.{ramfs_facts}
 use Rattle.sg_ramfs.specs.RamfsSound.{IsRamfsSound}
 use Rattle.sg_ramfs.specs.RamfsTable.{ramfs_table}
-use Rattle.sg_ramfs.specs.RamfsReplies.{always_answered}
+use Rattle.sg_ramfs.specs.Inside.RamfsReplies.{always_answered}
 
 pub ramfs_blocked_stays : BlockedStays ramfs_facts ramfs_table IsRamfsSound
 ramfs_blocked_stays = record {

@@ -3,7 +3,7 @@ use Rattle.std.specs.Prelude.{ℕ, List}
 use Rattle.sg_facts.specs.Object.{Object}
 use Rattle.sg_slots.specs.Slots.{Held}
 use Rattle.sg_ramfs.specs.declared.open_file.OpenFile.{OpenFile}
-use Rattle.sg_ramfs.specs.RamfsTree.{tree_rows}
+use Rattle.sg_ramfs.specs.Inside.RamfsTree.{tree_rows}
 
 -- open files, and files as pairs of path and bytes
 pub record Served : Type 0 where

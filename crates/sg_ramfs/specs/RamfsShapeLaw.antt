@@ -21,7 +21,7 @@ use Rattle.sg_facts.specs.Sound.{AreFields, AreRows, IsRow}
 use Rattle.sg_facts.specs.Track.{arg_at, field_at, new_row, row_after, word_of}
 use Rattle.sg_facts.proofs.RowLists.{both}
 use Rattle.sg_ramfs.specs.RamfsFacts.{ramfs_facts}
-use Rattle.sg_ramfs.specs.RamfsReplies.{IsGiven, always_answered, is_given}
+use Rattle.sg_ramfs.specs.Inside.RamfsReplies.{IsGiven, always_answered, is_given}
 use Rattle.sg_ramfs.specs.RamfsSound.{IsPlaced, IsRamfsSound}
 use Rattle.sg_ramfs.specs.RamfsSoundLaw.{ramfs_answers_and_keeps}
 use Rattle.sg_ramfs.specs.RamfsTable.{ramfs_table}

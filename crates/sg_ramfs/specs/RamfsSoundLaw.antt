@@ -29,7 +29,7 @@ use Rattle.sg_walk_laws.proofs.Creating.{below_it}
 use Rattle.sg_walk_laws.proofs.Files.{are_files_patched}
 use Rattle.sg_walk_laws.proofs.Found.{above, from_left, met, within}
 use Rattle.sg_ramfs.specs.RamfsFacts.{ramfs_facts, tread, twrite}
-use Rattle.sg_ramfs.specs.RamfsPaths.{IsBelow, path_changed, path_last, path_left, path_more}
+use Rattle.sg_ramfs.specs.Inside.RamfsPaths.{IsBelow, path_changed, path_last, path_left, path_more}
 use Rattle.sg_ramfs.specs.RamfsSound.{IsFile, IsPlaced, IsRamfsSound}
 use Rattle.sg_ramfs.specs.RamfsTable.{file_of, is_bad_name, moved, most_read, ramfs_answer, ramfs_table, read_answer, seek_answer, split_answer, write_answer}
 

@@ -87,6 +87,7 @@ ramfs_answer_of no_ramfs_fun o call = Some (Refused NotFound)
 abbrev pub ramfs_answer : ℕ → Object → Call → Option Reply
 ramfs_answer fun o call = ramfs_answer_of (ramfs_fun fun) o call
 
+-- what a service of files answers a call at an object; no caller has to wait
 abbrev pub ramfs_table : Table
 ramfs_table o call = ramfs_answer call.fun o call
 

@@ -1,5 +1,6 @@
 //! Files in memory: each descriptor has a name, a path and a place in the file of its path.
 //!
+//! - `functions`: the numbers of the service's functions
 //! - `shape`: the facts of the service, those of its standard interface (`ramfs_shape`)
 //! - `open_file`: one descriptor (`OpenFile`)
 //! - `tree`: the descriptors by service id, and their paths
@@ -9,6 +10,7 @@
 #![tactic(auto)]
 
 mod files;
+pub mod functions;
 mod moves;
 mod open_file;
 mod plan;

@@ -4,10 +4,10 @@ ghost use Rattle.sg_slots.specs.declared.decision.Decision.TheVariants.{Set};
 ghost use Rattle.sg_facts.specs.Object.{file_at};
 ghost use Rattle.sg_slots.specs.Carry.{IsAbout};
 ghost use Rattle.sg_slots.specs.Slots.{entry_at};
-ghost use Rattle.sg_ramfs.specs.RamfsDecision.{with_bytes, outcome_of, CarriesBytes, Moves, Overwrites, Puts, WritesFile};
+ghost use Rattle.sg_ramfs.specs.Inside.RamfsDecision.{with_bytes, outcome_of, CarriesBytes, Moves, Overwrites, Puts, WritesFile};
 ghost use Rattle.sg_ramfs.specs.RamfsFiles.{files_of, place_at, AreFilesIndexed};
-ghost use Rattle.sg_ramfs.specs.RamfsPlans.{FitsWrite};
-ghost use Rattle.sg_ramfs.specs.RamfsTree.{FitsTree};
+ghost use Rattle.sg_ramfs.specs.Inside.RamfsPlans.{FitsWrite};
+ghost use Rattle.sg_ramfs.specs.Inside.RamfsTree.{FitsTree};
 
 use crate::OpenFile;
 use crate::files::{Files, write_over};
@@ -52,7 +52,7 @@ fn move_first<T: Stops>(
         entry,
         word: Some(count),
     };
-    match tree.carry_out(alloc, stops, id, decision) {
+    match tree.apply(alloc, stops, id, decision) {
         Outcome::Replied { reply, .. } => {
             if stops.strikes(Point::Part(2)) {
                 return Moved::Stopped;
@@ -84,7 +84,7 @@ pub(crate) fn carry_read<T: Stops>(
         → T.test (T.asked stops.new) (T.struck stops.new) (T.plan stops.new) }
 {
     let ReadPlan { decision, bytes } = plan;
-    match tree.carry_out(alloc, stops, id, decision) {
+    match tree.apply(alloc, stops, id, decision) {
         Outcome::Replied { reply, patch } => Outcome::Replied {
             reply: with_bytes(reply, bytes),
             patch,

@@ -25,7 +25,7 @@ impl Entry for OpenFile {
 }
 
 impl OpenFile {
-    /// The same at another place.
+    /// A copy of the descriptor that reads and writes next at another place.
     pub(crate) fn moved(&self, alloc: Global, place: u64) -> Result<OpenFile, NoMemory>
         ensures { IfOk result (λ moved. moved ≡ record self.now { place = place }) }
     {

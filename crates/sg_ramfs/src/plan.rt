@@ -4,16 +4,16 @@ ghost use Rattle.std.specs.List.{list_any};
 ghost use Rattle.sg_facts.specs.Object.{file_at, first_text, path_of};
 ghost use Rattle.sg_facts.specs.Track.{arg_at, word_of};
 ghost use Rattle.sg_slots.specs.Slots.{entry_at};
-ghost use Rattle.sg_ramfs.specs.RamfsDecision.{on_open, on_read, on_write, on_seek};
+ghost use Rattle.sg_ramfs.specs.Inside.RamfsDecision.{on_open, on_read, on_write, on_seek};
 ghost use Rattle.sg_ramfs.specs.RamfsFiles.{files_of, AreFilesIndexed};
 ghost use Rattle.sg_ramfs.specs.RamfsTable.{is_bad_name};
-ghost use Rattle.sg_ramfs.specs.RamfsTree.{tree_rows, IsTree};
+ghost use Rattle.sg_ramfs.specs.Inside.RamfsTree.{tree_rows, IsTree};
 
 use crate::OpenFile;
 use crate::files::{Files, part_of};
 use crate::tree::Tree;
 use sg_base::{Bytes, Call, Code, NoMemory, Value};
-use sg_facts::{FilePath, MOST_PATH, Patch};
+use sg_facts::{FilePath, MOST_FILE, MOST_PATH, Patch};
 use sg_slots::Decision;
 use std::alloc::Global;
 
@@ -22,9 +22,6 @@ const MOST_NAME: usize = 64;
 
 /// The greatest number of bytes that a call reads.
 const MOST_READ: u64 = 256;
-
-/// The greatest number of bytes of a file.
-const MOST_FILE: u64 = 65_536;
 
 /// The byte between names in a path.
 const SLASH: u8 = b'/';

@@ -8,7 +8,7 @@ ghost use Rattle.sg_slots.specs.Carry.{Carries};
 ghost use Rattle.sg_ramfs.specs.declared.open_file.OpenFile.{OpenFile as IsOpenFile};
 ghost use Rattle.sg_ramfs.specs.RamfsAlikeLaw.{ramfs_answers_alike};
 ghost use Rattle.sg_ramfs.specs.RamfsBlockedLaw.{ramfs_blocked_stays};
-ghost use Rattle.sg_ramfs.specs.RamfsDecision.{on_open, on_read, on_seek, on_write, CarriesBytes, WritesFile};
+ghost use Rattle.sg_ramfs.specs.Inside.RamfsDecision.{on_open, on_read, on_seek, on_write, CarriesBytes, WritesFile};
 ghost use Rattle.sg_ramfs.specs.RamfsFacts.{ramfs_facts};
 ghost use Rattle.sg_ramfs.specs.RamfsFiles.{files_of, AreFilesIndexed};
 ghost use Rattle.sg_ramfs.specs.RamfsObject.{ramfs_object};
@@ -17,12 +17,13 @@ ghost use Rattle.sg_ramfs.specs.RamfsShapeLaw.{ramfs_shape_allows, ramfs_counts_
 ghost use Rattle.sg_ramfs.specs.RamfsSound.{IsRamfsSound};
 ghost use Rattle.sg_ramfs.specs.RamfsSoundLaw.{ramfs_answers_and_keeps};
 ghost use Rattle.sg_ramfs.specs.RamfsTable.{ramfs_table, ramfs_parts};
-ghost use Rattle.sg_ramfs.specs.RamfsTree.{tree_rows, IsTree};
+ghost use Rattle.sg_ramfs.specs.Inside.RamfsTree.{tree_rows, IsTree};
 ghost use Rattle.sg_ramfs.specs.RamfsWalkLaw.{ramfs_walk_goes_on};
 
 use crate::files::Files;
+use crate::functions::{READ, SEEK, SPLIT, WRITE};
 use crate::moves::{carry_read, carry_write};
-use crate::shape::{READ, SEEK, SPLIT, WRITE, ramfs_shape};
+use crate::shape::ramfs_shape;
 use crate::tree::Tree;
 use crate::{OpenFile, plan};
 use sg_base::{Call, NoMemory, Path, Stops, TryCopy};
@@ -106,9 +107,7 @@ impl Service for RamfsService {
             READ => read(&mut self.tree, &self.files, alloc, stops, call),
             WRITE => write(&mut self.tree, &mut self.files, alloc, stops, call),
             SEEK => seek(&mut self.tree, alloc, stops, call),
-            _ => self
-                .tree
-                .carry_out(alloc, stops, call.desc, Decision::Remove),
+            _ => self.tree.apply(alloc, stops, call.desc, Decision::Remove),
         }
     }
 
@@ -131,7 +130,7 @@ fn split<T: Stops>(tree: &mut Tree, alloc: Global, stops: &mut T, call: &Call) -
         → T.test (T.asked stops.new) (T.struck stops.new) (T.plan stops.new) }
 {
     match plan::split(tree, alloc, call) {
-        Ok(decision) => tree.carry_out(alloc, stops, call.desc, decision),
+        Ok(decision) => tree.apply(alloc, stops, call.desc, decision),
         Err(_) => Outcome::NoMemory,
     }
 }
@@ -209,7 +208,7 @@ fn seek<T: Stops>(tree: &mut Tree, alloc: Global, stops: &mut T, call: &Call) ->
         → T.test (T.asked stops.new) (T.struck stops.new) (T.plan stops.new) }
 {
     match plan::seek(tree, alloc, call.desc, plan::number(call)) {
-        Ok(decision) => tree.carry_out(alloc, stops, call.desc, decision),
+        Ok(decision) => tree.apply(alloc, stops, call.desc, decision),
         Err(_) => Outcome::NoMemory,
     }
 }

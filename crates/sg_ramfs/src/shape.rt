@@ -3,22 +3,8 @@ ghost use Rattle.std.specs.Prelude.{◌≡◌};
 ghost use Rattle.sg_facts.specs.Facts.{facts_of};
 ghost use Rattle.sg_ramfs.specs.RamfsFacts.{ramfs_facts};
 
+use crate::functions::{READ, RELEASE, SEEK, SPLIT, WRITE};
 use sg_facts::{Effect, FieldShape, FunShape, Kind, Leaves, Parents, Shape};
-
-/// `tsplit`: makes a descriptor.
-pub(crate) const SPLIT: u8 = 1;
-
-/// `tread`: reads from its file.
-pub(crate) const READ: u8 = 2;
-
-/// `twrite`: writes into its file.
-pub(crate) const WRITE: u8 = 3;
-
-/// `tseek`: sets its place.
-pub(crate) const SEEK: u8 = 4;
-
-/// `trelease`: ends it.
-pub(crate) const RELEASE: u8 = 5;
 
 static FIELDS: [FieldShape; 2] = [
     FieldShape {

@@ -4,7 +4,7 @@ ghost use Rattle.std.specs.Option.{option_copied};
 ghost use Rattle.sg_facts.specs.Object.{path_of};
 ghost use Rattle.sg_slots.specs.Slots.{entry_at};
 ghost use Rattle.sg_slots.specs.Carry.{Carries, IsAbout};
-ghost use Rattle.sg_ramfs.specs.RamfsTree.{IsTree, FitsTree, tree_rows};
+ghost use Rattle.sg_ramfs.specs.Inside.RamfsTree.{IsTree, FitsTree, tree_rows};
 
 use crate::OpenFile;
 use sg_base::{NoMemory, Path, Stops};
@@ -24,7 +24,7 @@ pub(crate) struct Tree {
 impl Model for Tree {
     ghost use Rattle.sg_slots.specs.Slots.{Held};
     ghost use Rattle.sg_ramfs.specs.declared.open_file.OpenFile.{OpenFile as IsOpenFile};
-    ghost use Rattle.sg_ramfs.specs.RamfsTree.{IsTree};
+    ghost use Rattle.sg_ramfs.specs.Inside.RamfsTree.{IsTree};
 
     ghost Value = { Held IsOpenFile };
 
@@ -76,7 +76,7 @@ impl Tree {
     }
 
     /// Carries a decision on the open file of an id out.
-    pub(crate) fn carry_out<T: Stops>(
+    pub(crate) fn apply<T: Stops>(
         &mut self,
         alloc: Global,
         stops: &mut T,

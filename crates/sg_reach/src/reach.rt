@@ -12,7 +12,7 @@ use crate::closing::{add_begins, close};
 use crate::found::Found;
 use crate::place::Triple;
 use sg_base::{ListOf, NoMemory};
-use sg_facts::Interface;
+use sg_facts::{END_OF_FUNS, Interface};
 use std::alloc::Global;
 
 /// What descriptors can come to.
@@ -29,7 +29,7 @@ pub fn reachable(alloc: Global, iface: &Interface) -> Result<TripleList, NoMemor
     ensures all { IfOk result (λ triples. (t : OneTriple) → t.made ≤ most_funs → IsReachedTriple iface.now t → Contains triples t) }
 {
     let mut triples = TripleList::new(alloc);
-    'made: for made in 1..33 {
+    'made: for made in 1..END_OF_FUNS {
         let found = places_of(alloc, iface, made)?;
         add_triples(made, &found, &mut triples)?;
     }

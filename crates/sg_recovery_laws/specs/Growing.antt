@@ -146,7 +146,7 @@ IsSameFor facts h h' fun (Client client seq) NoMemory = Unit {0}
 IsSameFor facts h h' fun (Walk id k client) outcome = Unit {0}
 IsSameFor facts h h' fun (Load key client) outcome = Unit {0}
 
--- so it is for an item
+-- an item that is an Ok of a creation was given the same id in two histories
 abbrev pub IsSameId : Facts → List Entry → List Entry → Item → Type 0
 IsSameId facts h h' x = IsSameFor facts h h' x.shown.fun x.tag x.outcome
 

@@ -18,9 +18,9 @@ use Rattle.sg_slots.specs.Carry.{Carries, held_after}
 use Rattle.sg_slots.proofs.Ids.{absent, ids_more, ids_set, ids_without}
 use Rattle.sg_sched.specs.declared.key.Key.{Key}
 use Rattle.sg_sched.specs.declared.thread.Thread.{Thread}
-use Rattle.sg_sched.specs.SchedKeys.{has}
+use Rattle.sg_sched.specs.Inside.SchedKeys.{has}
 use Rattle.sg_sched.specs.declared.index.Indexes.{Indexes as Both}
-use Rattle.sg_sched.specs.SchedIndex.{Indexes, IsIndexed, is_queued, is_ranked, Grows, MayGrow, Shrinks, IsChange}
+use Rattle.sg_sched.specs.Inside.SchedIndex.{Indexes, IsIndexed, is_queued, is_ranked, Grows, MayGrow, Shrinks, IsChange}
 
 -- ---- entries after a change
 

@@ -24,7 +24,7 @@ use Rattle.sg_sched.specs.declared.thread.Thread.{Thread}
 use Rattle.sg_sched.specs.SchedFacts.{sched_facts}
 use Rattle.sg_sched.specs.SchedTable.{sched_table, sched_parts, sched_wait_answer, next_answer, next_rank, first_ready}
 use Rattle.sg_sched.specs.SchedRow.{thread_body}
-use Rattle.sg_sched.specs.SchedDecision.{on_create, on_yield, on_sleep, on_wakeup, on_thread_wait, on_next, on_place}
+use Rattle.sg_sched.specs.Inside.SchedDecision.{on_create, on_yield, on_sleep, on_wakeup, on_thread_wait, on_next, on_place}
 
 or_false : (b : Bool) → (b || false) ≡ b
 or_false true = refl

@@ -19,12 +19,12 @@ use Rattle.sg_slots.proofs.Rows.{row_at-rows_of}
 use Rattle.sg_slots.proofs.FoundRows.{all_rows}
 use Rattle.sg_sched.specs.declared.key.Key.{Key}
 use Rattle.sg_sched.specs.declared.thread.Thread.{Thread}
-use Rattle.sg_sched.specs.SchedKeys.{key_cmp, has}
-use Rattle.sg_sched.specs.SchedIndex.{Indexes, is_queued, is_ranked}
+use Rattle.sg_sched.specs.Inside.SchedKeys.{key_cmp, has}
+use Rattle.sg_sched.specs.Inside.SchedIndex.{Indexes, is_queued, is_ranked}
 use Rattle.sg_sched.specs.SchedRow.{thread_body}
 use Rattle.sg_sched.specs.SchedTable.{goes_before, first_ready, is_ready, rank_of}
-use Rattle.sg_sched.specs.SchedFirst.{by, by_same, by_more, sides, first_meets, is_first}
-use Rattle.sg_sched.specs.SchedRanks.{most, most_within, found_most}
+use Rattle.sg_sched.specs.Inside.SchedFirst.{by, by_same, by_more, sides, first_meets, is_first}
+use Rattle.sg_sched.specs.Inside.SchedRanks.{most, most_within, found_most}
 
 -- the row of a thread
 abbrev pub row_of : ℕ → Thread → Row

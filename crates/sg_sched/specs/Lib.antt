@@ -1,12 +1,8 @@
+pub mod Inside
 pub mod SchedAlikeLaw
 pub mod SchedBlockedLaw
-pub mod SchedDecision
 pub mod SchedFacts
-pub mod SchedFirst
-pub mod SchedIndex
-pub mod SchedKeys
 pub mod SchedObject
-pub mod SchedRanks
 pub mod SchedRow
 pub mod SchedShapeLaw
 pub mod SchedSound

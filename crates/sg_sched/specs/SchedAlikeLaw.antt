@@ -20,8 +20,8 @@ use Rattle.sg_sched.specs.SchedFacts.{sched_facts}
 use Rattle.sg_sched.specs.SchedTable.{sched_table, sched_answer, sched_wait_answer, next_answer, first_ready, next_rank, prio_of, rank_of, is_ready}
 use Rattle.sg_sched.specs.SchedSound.{IsSchedSound}
 use Rattle.sg_slots.proofs.FoundRows.{all_rows, same_test}
-use Rattle.sg_sched.specs.SchedFirst.{first_meets, first_least, none_ready, neither_by_rank}
-use Rattle.sg_sched.specs.SchedRanks.{most_within, found_most, one_row}
+use Rattle.sg_sched.specs.Inside.SchedFirst.{first_meets, first_least, none_ready, neither_by_rank}
+use Rattle.sg_sched.specs.Inside.SchedRanks.{most_within, found_most, one_row}
 
 -- a call that passes finds its row
 there : (found : Option Row) → not (is_there found) ≡ false → (r : Row) × (found ≡ Some r)

@@ -47,7 +47,7 @@ next_allowed : (found : Option Row) → IsAllowed false (next_answer found)
 next_allowed None = refl
 next_allowed (Some r) = tt
 
--- so is every answer
+-- the answer of every function is no refusal of the guard's, and has a word where one is wanted
 allowed_at : (fun : ℕ) (o : Object) (call : Call) → IsAllowed (wants_word (fun_at sched_facts.funs fun)) (sched_answer fun o call)
 allowed_at zero o call = refl
 allowed_at (suc zero) o call = omega arith
@@ -107,7 +107,7 @@ rank_counted (v ∷ w ∷ fields) call good =
     let is : most_in sched_facts 0 (fields_after call good (fun_at sched_facts.funs 2).effects (v ∷ w ∷ fields)) ≡ max 0 (max (first_word good) (most_in sched_facts 2 fields)) = refl in
     omega (arith, was, is)
 
--- the same after it was placed
+-- the counted word of a row's fields after the row was placed
 place_counted : (fields : List Value) (call : Call) (good : Good) → most_in sched_facts 0 (fields_after call good (fun_at sched_facts.funs 7).effects fields) ≤ max (word_of (arg_at call 0)) (most_in sched_facts 0 fields)
 place_counted [] call good = omega arith
 place_counted (v ∷ []) call good = omega arith

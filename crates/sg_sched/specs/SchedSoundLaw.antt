@@ -23,7 +23,7 @@ use Rattle.sg_slots.proofs.SoundRows.{none_applies, change, change_id, sound_mor
 use Rattle.sg_sched.specs.SchedFacts.{sched_facts}
 use Rattle.sg_sched.specs.SchedTable.{sched_table, sched_answer, sched_wait_answer, next_rank, rank_of}
 use Rattle.sg_sched.specs.SchedSound.{IsSchedSound, IsRanked}
-use Rattle.sg_sched.specs.SchedRanks.{most, own_more, own_left, own_changed, own_set}
+use Rattle.sg_sched.specs.Inside.SchedRanks.{most, own_more, own_left, own_changed, own_set}
 
 -- ---- ranks are counted words
 

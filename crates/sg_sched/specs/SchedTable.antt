@@ -93,6 +93,7 @@ sched_answer_of no_sched_fun o call = Some (Refused NotFound)
 abbrev pub sched_answer : ℕ → Object → Call → Option Reply
 sched_answer fun o call = sched_answer_of (sched_fun fun) o call
 
+-- what a service of threads answers a call at an object; None where the caller has to wait
 abbrev pub sched_table : Table
 sched_table o call = sched_answer call.fun o call
 

@@ -1,6 +1,6 @@
 // The indexes of the threads.
 ghost use Rattle.std.specs.Prelude.{◌≡◌, [], true, OnOk, OnErr};
-ghost use Rattle.sg_sched.specs.SchedIndex.{is_queued, is_ranked, IsKeyOf, Grows, MayGrow, Shrinks};
+ghost use Rattle.sg_sched.specs.Inside.SchedIndex.{is_queued, is_ranked, IsKeyOf, Grows, MayGrow, Shrinks};
 
 use crate::Thread;
 use crate::key::{Key, add, take_out};

@@ -1,6 +1,6 @@
 // The keys of the indexes.
 ghost use Rattle.std.specs.Prelude.{◌≡◌, OnOk, OnErr};
-ghost use Rattle.sg_sched.specs.SchedKeys.{has, GainsKey, LosesKey};
+ghost use Rattle.sg_sched.specs.Inside.SchedKeys.{has, GainsKey, LosesKey};
 
 use sg_base::NoMemory;
 use std::collections::BTreeSet;

@@ -1,11 +1,13 @@
 //! Threads: each is ready or asleep, with a priority and a rank in the queue.
 //!
+//! - `functions`: the numbers of the service's functions
 //! - `shape`: the facts of the service, those of its standard interface
 //! - `thread`: one thread (`Thread`)
 //! - `key`, `index`, `queue`: the threads, and the indexes that tell which is next and the greatest rank
 //! - `service`: the service (`SchedService`)
 #![tactic(auto)]
 
+pub mod functions;
 mod index;
 mod key;
 mod queue;

@@ -3,7 +3,7 @@ ghost use Rattle.std.specs.Prelude.{◌≡◌, ◌^◌, ◌<◌, [], length};
 ghost use Rattle.std.specs.Option.{option_map, option_copied};
 ghost use Rattle.sg_slots.specs.Slots.{entry_at, rows_of, AreIds};
 ghost use Rattle.sg_slots.specs.Carry.{Carries, IsAbout};
-ghost use Rattle.sg_sched.specs.SchedIndex.{IsChange};
+ghost use Rattle.sg_sched.specs.Inside.SchedIndex.{IsChange};
 ghost use Rattle.sg_sched.specs.SchedRow.{thread_body};
 ghost use Rattle.sg_sched.specs.SchedTable.{first_ready, next_rank};
 
@@ -26,7 +26,7 @@ pub(crate) struct Queue {
 impl Model for Queue {
     ghost use Rattle.sg_slots.specs.Slots.{Held};
     ghost use Rattle.sg_sched.specs.declared.thread.Thread.{Thread as IsThread};
-    ghost use Rattle.sg_sched.specs.SchedIndex.{IsIndexed};
+    ghost use Rattle.sg_sched.specs.Inside.SchedIndex.{IsIndexed};
 
     ghost Value = { Held IsThread };
 
@@ -82,7 +82,7 @@ impl Queue {
 
     /// Carries a decision on the thread of an id out. All memory is taken first: the keys that the thread will have are
     /// added before the first part is asked, and those that it had are taken out after the last.
-    pub(crate) fn carry_out<T: Stops>(
+    pub(crate) fn apply<T: Stops>(
         &mut self,
         alloc: Global,
         stops: &mut T,

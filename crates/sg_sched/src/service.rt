@@ -16,11 +16,12 @@ ghost use Rattle.sg_sched.specs.SchedBlockedLaw.{sched_blocked_stays};
 ghost use Rattle.sg_sched.specs.SchedShapeLaw.{sched_shape_allows, sched_counts_slowly};
 ghost use Rattle.sg_sched.specs.SchedSound.{IsSchedSound};
 ghost use Rattle.sg_sched.specs.SchedSoundLaw.{sched_answers_and_keeps};
-ghost use Rattle.sg_sched.specs.SchedDecision.{on_create, on_yield, on_sleep, on_wakeup, on_thread_wait, on_next, on_place};
+ghost use Rattle.sg_sched.specs.Inside.SchedDecision.{on_create, on_yield, on_sleep, on_wakeup, on_thread_wait, on_next, on_place};
 
 use crate::Thread;
+use crate::functions::{CREATE, NEXT, PLACE, SLEEP, WAIT, WAKEUP, YIELD};
 use crate::queue::Queue;
-use crate::shape::{CREATE, NEXT, PLACE, SLEEP, WAIT, WAKEUP, YIELD, sched_shape};
+use crate::shape::sched_shape;
 use sg_base::{Call, Code, NoMemory, Path, Stops, Value};
 use sg_facts::{Outcome, Service, Shape};
 use sg_slots::Decision;
@@ -90,7 +91,7 @@ impl Service for SchedService {
 
     fn invoke<T: Stops>(&mut self, alloc: Global, stops: &mut T, call: &Call) -> Outcome {
         let decision = decide(&self.queue, call);
-        self.queue.carry_out(alloc, stops, call.desc, decision)
+        self.queue.apply(alloc, stops, call.desc, decision)
     }
 
     fn load(&mut self, _: Global, _: &Path, _: &[u8]) -> Result<(), NoMemory> {

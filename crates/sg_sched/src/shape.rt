@@ -3,31 +3,8 @@ ghost use Rattle.std.specs.Prelude.{◌≡◌};
 ghost use Rattle.sg_facts.specs.Facts.{facts_of};
 ghost use Rattle.sg_sched.specs.SchedFacts.{sched_facts};
 
+use crate::functions::{CREATE, EXIT, PLACE, SLEEP, WAIT, WAKEUP, YIELD};
 use sg_facts::{Effect, FieldShape, FunShape, Kind, Leaves, Parents, Shape};
-
-/// `sched_create_thd`: makes a thread.
-pub(crate) const CREATE: u8 = 1;
-
-/// `sched_yield`: puts it at the end of the queue.
-pub(crate) const YIELD: u8 = 2;
-
-/// `sched_sleep`: puts it to sleep.
-pub(crate) const SLEEP: u8 = 3;
-
-/// `sched_wakeup`: makes it ready again.
-pub(crate) const WAKEUP: u8 = 4;
-
-/// `sched_wait`: waits until it is ready.
-pub(crate) const WAIT: u8 = 5;
-
-/// `sched_next`: tells which thread is next.
-pub(crate) const NEXT: u8 = 6;
-
-/// `sched_place`: sets its rank.
-pub(crate) const PLACE: u8 = 7;
-
-/// `sched_exit`: ends it.
-pub(crate) const EXIT: u8 = 8;
 
 static FIELDS: [FieldShape; 2] = [
     FieldShape {

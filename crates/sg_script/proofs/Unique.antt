@@ -7,7 +7,7 @@ use Rattle.sg_lex.specs.Tokens.{answers_of}
 use Rattle.sg_script_grammar.specs.declared.error.ParseError.{ParseError}
 use Rattle.sg_script_grammar.specs.declared.error.ParseError.TheVariants.{NoMemory as no_memory, Syntax as syntax}
 use Rattle.sg_script_grammar.specs.declared.tree.Part.{Part}
-use Rattle.sg_script_grammar.specs.Parses.{Parses}
+use Rattle.sg_script_grammar.specs.Parses.{ScriptParses}
 use Rattle.sg_script_grammar.proofs.Readings.{only_answer}
 use Rattle.sg_script.specs.declared.script.Script.{Script}
 use Rattle.sg_script.specs.declared.fault.ScriptFault.{ScriptFault}
@@ -21,7 +21,7 @@ use Rattle.sg_script.proofs.Earliest.{one_at_most}
 abbrev Parsed : Type 0
 Parsed = Result (List Part) ParseError
 
-one_parse : (text : List ℕ) (a b : Parsed) → Parses text a → Parses text b → a ≢ Err no_memory → b ≢ Err no_memory → a ≡ b
+one_parse : (text : List ℕ) (a b : Parsed) → ScriptParses text a → ScriptParses text b → a ≢ Err no_memory → b ≢ Err no_memory → a ≡ b
 one_parse text a b h g n m = sym (only_answer (length text) (answers_of text) a h n) ∙ only_answer (length text) (answers_of text) b g m
 
 read_parts : (parts : List Part) → ◌≡◌ {A = Parsed} (Ok parts) (Err no_memory) → ⊥
@@ -30,15 +30,15 @@ read_parts parts e = absurd cc
 failed_there : (at : ℕ) → ◌≡◌ {A = Parsed} (Err (syntax at)) (Err no_memory) → ⊥
 failed_there at e = absurd cc
 
-one_list : (text : List ℕ) (one other : List Part) → Parses text (Ok one) → Parses text (Ok other) → one ≡ other
+one_list : (text : List ℕ) (one other : List Part) → ScriptParses text (Ok one) → ScriptParses text (Ok other) → one ≡ other
 one_list text one other h g =
     let same : ◌≡◌ {A = Parsed} (Ok one) (Ok other) = one_parse text (Ok one) (Ok other) h g (read_parts one) (read_parts other) in cc same
 
-one_place : (text : List ℕ) (here there : ℕ) → Parses text (Err (syntax here)) → Parses text (Err (syntax there)) → here ≡ there
+one_place : (text : List ℕ) (here there : ℕ) → ScriptParses text (Err (syntax here)) → ScriptParses text (Err (syntax there)) → here ≡ there
 one_place text here there h g =
     let same : ◌≡◌ {A = Parsed} (Err (syntax here)) (Err (syntax there)) = one_parse text (Err (syntax here)) (Err (syntax there)) h g (failed_there here) (failed_there there) in cc same
 
-not_both : (text : List ℕ) (parts : List Part) (at : ℕ) → Parses text (Ok parts) → Parses text (Err (syntax at)) → ⊥
+not_both : (text : List ℕ) (parts : List Part) (at : ℕ) → ScriptParses text (Ok parts) → ScriptParses text (Err (syntax at)) → ⊥
 not_both text parts at h g =
     let same : ◌≡◌ {A = Parsed} (Ok parts) (Err (syntax at)) = one_parse text (Ok parts) (Err (syntax at)) h g (read_parts parts) (failed_there at) in absurd cc
 

@@ -6,6 +6,7 @@ use Rattle.sg_facts.specs.declared.shape.Kind.{Kind}
 use Rattle.sg_facts.specs.declared.shape.Kind.TheVariants.{Text as IsText}
 use Rattle.sg_facts.specs.Facts.{fun_at}
 use Rattle.sg_facts.specs.Interface.{Declared}
+use Rattle.sg_facts.specs.Limits.{most_script_calls}
 use Rattle.sg_script_grammar.specs.Spelling.{Spelling}
 use Rattle.sg_script_grammar.specs.declared.tree.WrittenArg.{WrittenArg}
 use Rattle.sg_script_grammar.specs.declared.tree.WrittenArg.TheVariants.{Number, Text, Back}
@@ -66,7 +67,7 @@ fun_flaws i in_setup own c (Some f) =
 
 -- the number of the first call that is one too many
 abbrev pub too_many_calls : ℕ
-too_many_calls = 65537
+too_many_calls = most_script_calls + 1
 
 -- a call: whether it stands in a setup, its number among all calls of the text, and its number among its client's
 abbrev pub call_flaws : Declared → Bool → ℕ → ℕ → WrittenCall → List ScriptFault

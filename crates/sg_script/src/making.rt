@@ -38,8 +38,8 @@ fn arg_of(alloc: Global, arg: &WrittenArg) -> Result<Arg, NoMemory>
     }
 }
 
-// The text of these bytes.
-fn text_of(alloc: Global, bytes: &[u8]) -> Result<Text, NoMemory>
+/// The text of these bytes, which are one.
+pub fn text_of(alloc: Global, bytes: &[u8]) -> Result<Text, NoMemory>
     requires { is_text bytes.now ≡ true }
     ensures { IfOk result (λ text. text ≡ bytes.now) }
 {

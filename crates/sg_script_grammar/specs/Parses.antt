@@ -16,5 +16,5 @@ ScriptParsesTo answers end (Err (Syntax place)) =
     FailsAtByte (List Part) IsScriptSentence answers place ⊎ (FailsAtToken (List Part) IsScriptSentence answers place ⊎ FailsAtEnd (List Part) IsScriptSentence answers end place)
 
 -- what a parser may answer on a text
-abbrev pub Parses : List ℕ → Result (List Part) ParseError → Type 0
-Parses text answer = ScriptParsesTo (answers_of text) (length text) answer
+abbrev pub ScriptParses : List ℕ → Result (List Part) ParseError → Type 0
+ScriptParses text answer = ScriptParsesTo (answers_of text) (length text) answer

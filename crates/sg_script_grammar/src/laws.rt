@@ -5,7 +5,7 @@ ghost use Rattle.sg_lex.specs.Lexeme.{Lexeme};
 ghost use Rattle.sg_script_grammar.specs.declared.error.ParseError.{ParseError};
 ghost use Rattle.sg_script_grammar.specs.declared.error.ParseError.TheVariants.{NoMemory as no_memory};
 ghost use Rattle.sg_script_grammar.specs.declared.tree.Part.{Part};
-ghost use Rattle.sg_script_grammar.specs.Parses.{Parses};
+ghost use Rattle.sg_script_grammar.specs.Parses.{ScriptParses};
 ghost use Rattle.sg_script_grammar.specs.Sentence.{IsScriptSentence};
 
 /// A script has one list of parts.
@@ -15,7 +15,7 @@ pub fn one_list_of_parts()
 
 /// A text has just one answer, out of memory aside: the parts of a script, or the one error at the one place.
 pub fn one_answer()
-    ensures some { (text : List ℕ) → (answer : Result (List Part) ParseError) × Parses text answer × (answer ≢ failed no_memory) }
-    ensures alone { (text : List ℕ) (one other : Result (List Part) ParseError) → Parses text one → Parses text other →
+    ensures some { (text : List ℕ) → (answer : Result (List Part) ParseError) × ScriptParses text answer × (answer ≢ failed no_memory) }
+    ensures alone { (text : List ℕ) (one other : Result (List Part) ParseError) → ScriptParses text one → ScriptParses text other →
         one ≢ failed no_memory → other ≢ failed no_memory → one ≡ other }
 {}

@@ -6,18 +6,18 @@ use Rattle.sg_lex.specs.Tokens.{answers_of}
 use Rattle.sg_script_grammar.specs.declared.error.ParseError.{ParseError}
 use Rattle.sg_script_grammar.specs.declared.error.ParseError.TheVariants.{NoMemory, Syntax}
 use Rattle.sg_script_grammar.specs.declared.tree.Part.{Part}
-use Rattle.sg_script_grammar.specs.Parses.{Parses, ScriptParsesTo}
+use Rattle.sg_script_grammar.specs.Parses.{ScriptParses, ScriptParsesTo}
 use Rattle.sg_script_grammar.specs.Inside.States.{script_start, scripts}
 use Rattle.sg_lex.specs.Inside.Automata.{read, Answers}
 use Rattle.sg_script_grammar.proofs.Readings.{may_answer, only_answer}
 
-pub may : (text : List ℕ) (answer : Result (List Part) ParseError) → Answers scripts (read scripts script_start (record { rest = answers_of text; end = length text })) answer → Parses text answer
+pub may : (text : List ℕ) (answer : Result (List Part) ParseError) → Answers scripts (read scripts script_start (record { rest = answers_of text; end = length text })) answer → ScriptParses text answer
 may text (Ok parts) h = subst (ScriptParsesTo (answers_of text) (length text)) (h (λ e. cc)) (may_answer (length text) (answers_of text))
 may text (Err NoMemory) h = tt
 may text (Err (Syntax at)) h = subst (ScriptParsesTo (answers_of text) (length text)) (h (λ e. cc)) (may_answer (length text) (answers_of text))
 
 pub only : (text : List ℕ) (answer other : Result (List Part) ParseError) → Answers scripts (read scripts script_start (record { rest = answers_of text; end = length text })) answer
-    → Parses text other → other ≢ Err NoMemory → (answer ≡ other) ⊎ (answer ≡ Err NoMemory)
+    → ScriptParses text other → other ≢ Err NoMemory → (answer ≡ other) ⊎ (answer ≡ Err NoMemory)
 only text (Ok parts) other h p n = inl (sym (h (λ e. cc)) ∙ only_answer (length text) (answers_of text) other p n)
 only text (Err NoMemory) other h p n = inr refl
 only text (Err (Syntax at)) other h p n = inl (sym (h (λ e. cc)) ∙ only_answer (length text) (answers_of text) other p n)

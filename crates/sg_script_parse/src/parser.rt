@@ -4,7 +4,7 @@ ghost use Rattle.std.specs.declared.result.Result.{Result as Answered};
 ghost use Rattle.sg_lex.specs.Tokens.{answers_of};
 ghost use Rattle.sg_script_grammar.specs.declared.error.ParseError.{ParseError as Fault};
 ghost use Rattle.sg_script_grammar.specs.declared.tree.Part.{Part as Written};
-ghost use Rattle.sg_script_grammar.specs.Parses.{Parses};
+ghost use Rattle.sg_script_grammar.specs.Parses.{ScriptParses};
 ghost use Rattle.sg_script_grammar.specs.Inside.States.{script_start, scripts};
 ghost use Rattle.sg_lex.specs.Inside.Automata.{read, Answers};
 
@@ -20,9 +20,9 @@ use std::alloc::Global;
 /// tokens begin a script and are none. `NoMemory` where there was no memory for the parts; nothing else is told then.
 #[tactic(auto, using(crate::proofs::Whole::may, crate::proofs::Whole::only))]
 pub fn parse<'a>(alloc: Global, text: &'a [u8]) -> Result<PartList<'a>, ParseError>
-    ensures answer { Parses text.now result }
+    ensures answer { ScriptParses text.now result }
     // No other answer may be given, out of memory aside.
-    ensures only { (other : Answered (List Written) Fault) → Parses text.now other → other ≢ failed ParseError.NoMemory →
+    ensures only { (other : Answered (List Written) Fault) → ScriptParses text.now other → other ≢ failed ParseError.NoMemory →
         (result ≡ other) ⊎ (result ≡ failed ParseError.NoMemory) }
 {
     parts_of(alloc, text)

@@ -183,11 +183,11 @@ committed facts w e = record (with_mark w e.call.client IsEntered) {
   seats = map (woken_seat (wakes_seat facts (object_of facts w.history).rows e.call e.reply)) w.seats;
 }
 
--- its client has it then as its last, with its reply to be handed over
+-- the client of an entry has the entry's call as its last, with the reply still to be handed over
 abbrev pub given_to : WorldView → Entry → WorldView
 given_to w e = with_seat w e.call.client (record (seat_of w e.call.client) { phase = Receipted; seq = e.call.seq; reply = e.reply })
 
--- or with its reply handed over at once
+-- the client of an entry has the entry's call as its last, with the reply handed over at once
 abbrev pub answered_to : WorldView → Entry → WorldView
 answered_to w e = with_mark (with_seat w e.call.client (record (seat_of w e.call.client) { phase = Idle; seq = e.call.seq; reply = no_reply })) e.call.client Answer
 
@@ -225,7 +225,7 @@ service_is w v = record w { running = Some v }
 abbrev pub struck_at : WorldView → ℕ → WorldView
 struck_at w point = record w { run = record { boots = struck w.run.boots point; points = point }; running = None }
 
--- it is booted afresh: who waited is asked
+-- the service is booted afresh, and holds nothing: who waited is asked
 abbrev pub rebooted : WorldView → WorldView
 rebooted w = record w {
   run = record { boots = booted w.run.boots; points = w.run.points };

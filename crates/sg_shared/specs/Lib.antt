@@ -1,1 +1,1 @@
-pub mod Unpicked
+pub mod Inside

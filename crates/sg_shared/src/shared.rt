@@ -1,6 +1,9 @@
 // The play that threads share. Each takes one turn at a time.
-ghost use Rattle.std.specs.Prelude.{◌≡◌, true, false};
+ghost use Rattle.std.specs.Prelude.{◌≡◌, ◌&&◌, None, not, true, false};
 ghost use Rattle.sg_play_laws.specs.Callers.{is_setting_up};
+ghost use Rattle.sg_shared.specs.Inside.Next.{HasTurned, SomebodyGoes, takes_turn};
+ghost use Rattle.sg_sim.specs.Playing.{can_step};
+ghost use Rattle.sg_world.specs.Worlded.{setting_of};
 
 use sg_base::NoMemory;
 use sg_edge::AtPoints;
@@ -21,7 +24,7 @@ pub trait Naming {
 }
 
 impl Naming for Brand {
-    ghost use Rattle.sg_shared.specs.Unpicked.{no_script, no_tables};
+    ghost use Rattle.sg_shared.specs.Inside.Unpicked.{no_script, no_tables};
 
     ghost tables = { no_tables };
 
@@ -60,6 +63,8 @@ impl<S: Service, N: Naming> Shared<S, N> {
         requires script { play.script ≡ N.script }
         requires plan { play.plan ≡ N.script.stops }
         requires settled { short ≡ false → is_setting_up play.script play.view.seats ≡ false }
+        ensures play { result.play ≡ play }
+        ensures short { result.short ≡ short }
     {
         Shared {
             play,
@@ -68,8 +73,12 @@ impl<S: Service, N: Naming> Shared<S, N> {
         }
     }
 
-    /// What a client is to do next. Where a turn wanted memory every client is through.
-    pub fn next(&self, client: u8) -> Next {
+    /// What a client is to do next: it takes a turn exactly where it can, and waits only where some other can. Where a turn wanted memory
+    /// every client is through.
+    pub fn next(&self, client: u8) -> Next
+        ensures turns { takes_turn result ≡ (not self.now.short && can_step self.now.play client) }
+        ensures waits { result ≡ Next.Waits → SomebodyGoes self.now.play }
+    {
         if self.short || !self.play.has(client) {
             return Next::Through;
         }
@@ -94,7 +103,12 @@ impl<S: Service, N: Naming> Shared<S, N> {
     }
 
     /// Makes a turn of a client, where it can take one. Gives the number of its call where that was answered.
-    pub fn turn(&mut self, alloc: Global, client: u8) -> Option<u32> {
+    pub fn turn(&mut self, alloc: Global, client: u8) -> Option<u32>
+        ensures made { let z = setting_of S.ask S.sound S.parts self.old.play.tables in
+            can_step self.old.play client ≡ true → self.new.short ≡ false → HasTurned z self.old.play client result self.new.play.view }
+        ensures short { self.old.short ≡ true → self.new.short ≡ true }
+        ensures stays { can_step self.old.play client ≡ false → self.new.play ≡ self.old.play }
+    {
         if self.short || !self.play.can_step(client) {
             return None;
         }
@@ -109,7 +123,9 @@ impl<S: Service, N: Naming> Shared<S, N> {
     }
 
     // Whether some client can take a turn.
-    fn somebody_goes(&self) -> bool {
+    fn somebody_goes(&self) -> bool
+        ensures { result ≡ true → SomebodyGoes self.now.play }
+    {
         'clients: for before in 0..LAST_CLIENT {
             if self.play.can_step(before + 1) {
                 return true;

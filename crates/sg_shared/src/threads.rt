@@ -11,6 +11,9 @@ use std::thread::Threads;
 
 const MOST_CLIENTS: usize = LAST_CLIENT as usize;
 
+// The number that no client has.
+const NOBODY: u8 = 0;
+
 /// Plays the clients that have calls left, each in a thread of its own; those that get no thread are played here, turn by turn. Comes
 /// back when each thread ended.
 pub fn play_clients<R: Threads + Wait + Sync, S: Service + Send, G: Gate, N: Naming + Send + Sync>(
@@ -20,17 +23,18 @@ pub fn play_clients<R: Threads + Wait + Sync, S: Service + Send, G: Gate, N: Nam
     gate: &G,
 ) {
     thread::scope(thread::scope_env(), rt, |scope| {
-        let mut here = [false; MOST_CLIENTS];
+        let mut here = [NOBODY; MOST_CLIENTS];
         'clients: for before in 0..LAST_CLIENT {
             let client = before + 1;
             if is_through(rt, shared, client) {
                 continue;
             }
-            here[usize::from(before)] = scope
-                .spawn(move || play_client(rt, alloc, shared, gate, client))
-                .is_err();
+            let begun = scope.spawn(move || play_each(rt, alloc, shared, gate, &[client]));
+            if begun.is_err() {
+                here[usize::from(before)] = client;
+            }
         }
-        play_here(rt, alloc, shared, gate, &here);
+        play_each(rt, alloc, shared, gate, &here);
     });
 }
 
@@ -44,31 +48,16 @@ fn is_through<R: Wait, S: Service, N: Naming>(
     matches!(next, Next::Through)
 }
 
-// Plays a client until it has no call left, or nobody can go on.
-fn play_client<R: Wait, S: Service, G: Gate, N: Naming>(
+// Plays these clients, turn by turn, until each has no call left, or nobody can go on.
+fn play_each<R: Wait, S: Service, G: Gate, N: Naming>(
     rt: &R,
     alloc: Global,
     shared: &Mutex<Shared<S, N>>,
     gate: &G,
-    client: u8,
+    clients: &[u8],
 ) {
     for _ in rt.forever() {
-        if !goes_on(rt, alloc, shared, gate, client) {
-            break;
-        }
-    }
-}
-
-// Plays these clients, those with numbers one greater than the places of true, turn by turn.
-fn play_here<R: Wait, S: Service, G: Gate, N: Naming>(
-    rt: &R,
-    alloc: Global,
-    shared: &Mutex<Shared<S, N>>,
-    gate: &G,
-    here: &[bool; MOST_CLIENTS],
-) {
-    for _ in rt.forever() {
-        if !go_round(rt, alloc, shared, gate, here) {
+        if !go_round(rt, alloc, shared, gate, clients) {
             break;
         }
     }
@@ -80,11 +69,11 @@ fn go_round<R: Wait, S: Service, G: Gate, N: Naming>(
     alloc: Global,
     shared: &Mutex<Shared<S, N>>,
     gate: &G,
-    here: &[bool; MOST_CLIENTS],
+    clients: &[u8],
 ) -> bool {
     let mut some = false;
-    'clients: for before in 0..LAST_CLIENT {
-        if here[usize::from(before)] && goes_on(rt, alloc, shared, gate, before + 1) {
+    'clients: for client in clients {
+        if *client != NOBODY && goes_on(rt, alloc, shared, gate, *client) {
             some = true;
         }
     }

@@ -7,13 +7,10 @@ ghost use Rattle.sg_store.specs.Inside.Places.{HasSpan};
 use crate::buffer::{add_copy, write_at};
 use crate::places::{Place, Places, add_place, place_of, set_place};
 use sg_base::{NoMemory, Path};
-use sg_facts::{MOST_WRITTEN, Patch};
+use sg_facts::{MOST_FILE, MOST_WRITTEN, Patch};
 use std::alloc::Global;
 use std::collections::BTreeMap;
 use std::marker::Model;
-
-/// The greatest number of bytes of a file.
-const MOST_FILE: usize = 65_536;
 
 /// The files in one buffer, each in a room of its own that is no other's. Contracts see the buffer, and where each file stands
 /// in it.
@@ -188,7 +185,7 @@ fn needed_room(len: usize) -> usize
     requires { len ≤ most_file }
     ensures { result ≡ min (len + most_written) most_file }
 {
-    (len + MOST_WRITTEN).min(MOST_FILE)
+    (len + MOST_WRITTEN).min(MOST_FILE as usize)
 }
 
 /// Writes a patch, where there is one.

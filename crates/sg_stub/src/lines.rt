@@ -9,12 +9,9 @@ ghost use Rattle.sg_stub.specs.Inside.Triples.{AreIn, IsReachedBy};
 
 use crate::triples::TripleSet;
 use sg_base::NoMemory;
-use sg_facts::{Interface, WalkLine, WalkList};
+use sg_facts::{END_OF_FUNS, Interface, WalkLine, WalkList};
 use sg_walk::shortest;
 use std::alloc::Global;
-
-// One more than the greatest number of a function.
-const END_OF_FUNS: u8 = 33;
 
 // One more than the greatest number of a set of at most four fields.
 const END_OF_SETS: u8 = 16;

@@ -20,7 +20,7 @@ drafted call (Arg k) = arg_at call k
 abbrev pub blank_draft : FieldShape → Draft
 blank_draft f = if f.text then Blank else Number 0
 
--- the same as a value
+-- the value of a field when its row is made: 0, or the empty text
 abbrev pub empty_shape : FieldShape → Value
 empty_shape f = if f.text then Text [] else Word 0
 

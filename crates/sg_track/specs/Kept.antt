@@ -52,7 +52,7 @@ count_rows test (r ∷ rows) = (if test r then 1 else 0) + count_rows test rows
 abbrev pub children_of : List Row → ℕ → ℕ
 children_of rows id = count_rows (λ r. r.parent == id) rows
 
--- the same without the row of an id that ends
+-- the number of rows with an id as their parent, without the row of an id that ends
 abbrev pub others_of : ℕ → List Row → ℕ → ℕ
 others_of gone rows id = count_rows (λ r. (r.parent == id) && not (r.id == gone)) rows
 

@@ -43,7 +43,7 @@ AnswersCreations i ask sound = (names : List (ℕ × ℕ)) (o held : Object) (r 
     → row_at o.rows r.id ≡ Some r → named names r.id ≡ 0 → ParentIsWhole names o held r → IsWalkOf i (r.made ∷ rest) r.made r.state (set_of r)
     → IsAnsweredOk i.facts ask held (next_call i.facts names r [] r.made) (map empty_field i.facts.fields)
 
--- so is the next step of a row that it holds
+-- the next step of the walk of a row that a service holds in part is answered Ok there
 abbrev pub AnswersSteps : Declared → Table → (Object → Type 0) → Type 0
 AnswersSteps i ask sound = (names : List (ℕ × ℕ)) (o held : Object) (r w : Row) (first : ℕ) (done rest : List ℕ) (fun : ℕ) → IsHalfway i sound names o held
     → row_at o.rows r.id ≡ Some r → row_at held.rows (named names r.id) ≡ Some w → IsWalkOf i ((first ∷ done) ++ fun ∷ rest) r.made r.state (set_of r)

@@ -23,8 +23,11 @@ use Rattle.sg_object_laws.specs.Serving.{IsAnsweredAt, IsLegalObject, IsService}
 use Rattle.sg_seat.specs.WorldView.{wakes_seat}
 use Rattle.sg_walk_laws.proofs.Steps.{both_true, each_fun}
 
-pub block_keeps : (facts : Facts) (n : ℕ) → is_allowed facts ≡ true → 1 ≤ n → n ≤ length facts.funs → (fun_at facts.funs n).block ≡ true → ((fun_at facts.funs n).creation ≡ false) × ((fun_at facts.funs n).terminal ≡ false)
-block_keeps facts n allowed first last blocks =
+-- what every function keeps to: who uses a file, and who may block
+pub keeps_parts : (facts : Facts) (n : ℕ) → is_allowed facts ≡ true → 1 ≤ n → n ≤ length facts.funs
+    → (implies (fun_at facts.funs n).uses_file (facts.resc_data && takes_desc (fun_at facts.funs n)) ≡ true)
+    × (implies (fun_at facts.funs n).block (not (fun_at facts.funs n).creation && not (fun_at facts.funs n).terminal) ≡ true)
+keeps_parts facts n allowed first last =
     let few = nat_le (length facts.fields) 8 in
     let all = list_all (keeps_to facts) facts.funs in
     let f = fun_at facts.funs n in
@@ -36,9 +39,13 @@ block_keeps facts n allowed first last blocks =
     let c = f.creation || list_all (λ e. not (is_text_field facts.fields e.0)) f.effects in
     let d = sets_once f.effects in
     let blk = implies f.block (not f.creation && not f.terminal) in
-    let one = (both_true (a && b && c && d && blk) (leaves_own facts.funs f.leaves) its).0 in
-    let two : blk ≡ true = (both_true (a && b && c && d) blk one).1 in
-    turn f.block f.creation f.terminal blocks two
+    let five = (both_true (a && b && c && d && blk) (leaves_own facts.funs f.leaves) its).0 in
+    let four = both_true (a && b && c && d) blk five in
+    let two = (both_true (a && b) c (both_true (a && b && c) d four.0).0).0 in ((both_true a b two).1, four.1)
+
+pub block_keeps : (facts : Facts) (n : ℕ) → is_allowed facts ≡ true → 1 ≤ n → n ≤ length facts.funs → (fun_at facts.funs n).block ≡ true → ((fun_at facts.funs n).creation ≡ false) × ((fun_at facts.funs n).terminal ≡ false)
+block_keeps facts n allowed first last blocks =
+    let f = fun_at facts.funs n in turn f.block f.creation f.terminal blocks (keeps_parts facts n allowed first last).1
   where
     turn : (b c t : Bool) → b ≡ true → implies b (not c && not t) ≡ true → (c ≡ false) × (t ≡ false)
     turn true false false is all = (refl, refl)

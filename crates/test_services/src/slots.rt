@@ -7,6 +7,9 @@ use std::process::Abort;
 use std::test::Fail;
 use test_asking::Once;
 
+// The most ids that the calls of a script can give.
+const MOST_IDS: u64 = 65_536;
+
 // A seat, with its guest.
 #[derive(Clone, Copy, Debug, PartialEq, Eq)]
 struct Seat {
@@ -27,7 +30,7 @@ fn make<T: Stops>(
     stops: &mut T,
     guest: u8,
 ) -> Outcome {
-    assert!(rt; slots.given() < 2000);
+    assert!(rt; slots.given() < MOST_IDS);
     let entry = Seat { guest };
     carry_out(
         slots,
@@ -50,7 +53,7 @@ fn set<T: Stops>(
     id: u64,
     guest: u8,
 ) -> Outcome {
-    assert!(rt; slots.given() < 2000);
+    assert!(rt; slots.given() < MOST_IDS);
     assert!(rt; slots.get(id).is_some());
     let entry = Seat { guest };
     carry_out(slots, alloc, stops, id, Decision::Set { entry, word: None })
@@ -64,7 +67,7 @@ fn remove<T: Stops>(
     stops: &mut T,
     id: u64,
 ) -> Outcome {
-    assert!(rt; slots.given() < 2000);
+    assert!(rt; slots.given() <= MOST_IDS);
     assert!(rt; slots.get(id).is_some());
     carry_out(slots, alloc, stops, id, Decision::Remove)
 }
@@ -107,6 +110,23 @@ fn carries_decisions_out(rt: HostRuntime) -> Result<(), Fail> {
         );
     }
     assert_eq!(rt; slots.len(), 1023);
+    Ok(())
+}
+
+#[test]
+fn ids_ascend_behind_ended_ones(rt: HostRuntime) -> Result<(), Fail> {
+    let alloc = rt.alloc();
+    let mut slots: Slots<Seat> = Slots::new(alloc);
+    let mut stops = Once::new(0);
+    for id in 1..=MOST_IDS - 1 {
+        let outcome = make(&rt, &mut slots, alloc, &mut stops, 7);
+        assert!(rt; is_ok(&outcome, id, &[70]), "{outcome:?}");
+        let outcome = remove(&rt, &mut slots, alloc, &mut stops, id);
+        assert!(rt; is_ok(&outcome, 0, &[]), "{outcome:?}");
+    }
+    let outcome = make(&rt, &mut slots, alloc, &mut stops, 7);
+    assert!(rt; is_ok(&outcome, MOST_IDS, &[70]), "{outcome:?}");
+    assert_eq!(rt; slots.len(), 1);
     Ok(())
 }
 

@@ -8,7 +8,7 @@ use Rattle.sg_slots.proofs.Rows.{is_live-rows_of}
 use Rattle.sg_event.specs.EventFacts.{event_facts}
 use Rattle.sg_event.specs.EventTable.{event_table, event_parts}
 use Rattle.sg_event.specs.EventRow.{event_body}
-use Rattle.sg_event.specs.EventDecision.{on_event_wait, on_trigger}
+use Rattle.sg_event.specs.Inside.EventDecision.{on_event_wait, on_trigger}
 use Rattle.sg_event.proofs.Decisions.{wait_right, trigger_right, free_right, on_event}
 use Rattle.sg_event.proofs.service.decide.Goals as goal
 

@@ -8,7 +8,7 @@ use Rattle.sg_facts.specs.Invoke.{Points}
 use Rattle.sg_slots.specs.Slots.{Held}
 use Rattle.sg_slots.proofs.Maps.{absent-above, insert-new}
 use Rattle.sg_mm.specs.declared.page.Page.{Page}
-use Rattle.sg_mm.specs.MmDoes.{IsDone, held_with, hung, new_parts, ok_about}
+use Rattle.sg_mm.specs.Inside.MmDoes.{IsDone, held_with, hung, new_parts, ok_about}
 use Rattle.sg_mm.proofs.Doing.{asked_thrice, asked_twice}
 use Rattle.sg_mm.proofs.pages.add.Goals as goal
 

@@ -3,7 +3,7 @@ use Rattle.std.proofs.Common.{◌≡◌, not}
 use Rattle.std.proofs.lemmas.Map.Entries.{option_filter}
 use Rattle.sg_mm.specs.declared.page.Place.{Place}
 use Rattle.sg_mm.specs.Inside.Children.{has_id}
-use Rattle.sg_mm.specs.MmIndex.{ArePlaced, id_in}
+use Rattle.sg_mm.specs.Inside.MmIndex.{ArePlaced, id_in}
 use Rattle.sg_mm.proofs.Ending.{is_left}
 use Rattle.sg_mm.proofs.place.free_all.Given as goal
 

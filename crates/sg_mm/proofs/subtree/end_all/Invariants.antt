@@ -1,7 +1,7 @@
 -- Once the ids that are left are gone, all are gone that end.
 use Rattle.std.proofs.Common.{◌≡◌, not, filter}
 use Rattle.sg_mm.specs.Inside.Children.{has_id}
-use Rattle.sg_mm.specs.MmIndex.{AreAscending}
+use Rattle.sg_mm.specs.Inside.MmIndex.{AreAscending}
 use Rattle.sg_mm.proofs.Ending.{is_left}
 use Rattle.sg_mm.proofs.subtree.end_all.Given as goal
 

@@ -2,7 +2,7 @@
 use Rattle.std.proofs.Common.{◌≡◌, None, refl, ◌∙◌, ap, subst}
 use Rattle.sg_facts.specs.Invoke.{Points}
 use Rattle.sg_facts.specs.Object.{over, set_file}
-use Rattle.sg_ramfs.specs.RamfsDecision.{IsMoved}
+use Rattle.sg_ramfs.specs.Inside.RamfsDecision.{IsMoved}
 use Rattle.sg_ramfs.specs.RamfsFiles.{files_of, place_at}
 use Rattle.sg_ramfs.proofs.Indexing.{none_there}
 use Rattle.sg_ramfs.proofs.Writing.{over_none}

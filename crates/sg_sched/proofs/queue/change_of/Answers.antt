@@ -1,7 +1,7 @@
 -- What a decision changes is the thread of one id.
 use Rattle.std.proofs.Common.{◌+◌, None, Some, sym, ◌∙◌, subst}
 use Rattle.sg_slots.specs.Carry.{IsAbout}
-use Rattle.sg_sched.specs.SchedIndex.{IsChange}
+use Rattle.sg_sched.specs.Inside.SchedIndex.{IsChange}
 use Rattle.sg_sched.proofs.Changes.{make_changes, set_changes, remove_changes}
 use Rattle.sg_sched.proofs.queue.change_of.Goals as goal
 

@@ -10,8 +10,8 @@ use Rattle.sg_slots.specs.Slots.{Held}
 use Rattle.sg_walk_laws.proofs.Subtrees.{IsAboveParent}
 use Rattle.sg_mm.specs.declared.page.Page.{Page}
 use Rattle.sg_mm.specs.Inside.Children.{HangsOne}
-use Rattle.sg_mm.specs.MmDoes.{Does, MayHang, after_new, held_with, hung, new_parts, new_reply, ok_about, parts_of_new}
-use Rattle.sg_mm.specs.MmIndex.{AreIndexed, Gains, id_in}
+use Rattle.sg_mm.specs.Inside.MmDoes.{Does, MayHang, after_new, held_with, hung, new_parts, new_reply, ok_about, parts_of_new}
+use Rattle.sg_mm.specs.Inside.MmIndex.{AreIndexed, Gains, id_in}
 use Rattle.sg_mm.specs.MmTable.{is_at}
 use Rattle.sg_mm.proofs.Doing.{changed_so, if_done, made, refused, taken_by}
 use Rattle.sg_mm.proofs.Indexed.{given_back, ids_of_rows, indexed_more, rows}

@@ -5,8 +5,8 @@ use Rattle.sg_facts.specs.Track.{is_live}
 use Rattle.sg_slots.specs.Slots.{Held}
 use Rattle.sg_mm.specs.declared.page.Page.{Page}
 use Rattle.sg_mm.specs.Inside.Children.{has_id}
-use Rattle.sg_mm.specs.MmDoes.{held_without}
-use Rattle.sg_mm.specs.MmIndex.{AreIndexed}
+use Rattle.sg_mm.specs.Inside.MmDoes.{held_without}
+use Rattle.sg_mm.specs.Inside.MmIndex.{AreIndexed}
 use Rattle.sg_mm.proofs.Doing.{asked_twice}
 use Rattle.sg_mm.proofs.Ending.{subtree_ends}
 use Rattle.sg_mm.proofs.Indexed.{above_parents, ascending, indexed_left, placed, rows, told_left}

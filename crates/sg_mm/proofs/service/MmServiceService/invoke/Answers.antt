@@ -8,7 +8,7 @@ use Rattle.sg_facts.specs.Kinds.{kinds_fit}
 use Rattle.sg_slots.specs.Slots.{Held, object_of}
 use Rattle.sg_slots.proofs.Deciding.{with_fun}
 use Rattle.sg_mm.specs.declared.page.Page.{Page}
-use Rattle.sg_mm.specs.MmDoes.{Does, after_new, new_reply, parts_of_new}
+use Rattle.sg_mm.specs.Inside.MmDoes.{Does, after_new, new_reply, parts_of_new}
 use Rattle.sg_mm.specs.MmFacts.{mm_facts}
 use Rattle.sg_mm.specs.MmRow.{page_body}
 use Rattle.sg_mm.specs.MmTable.{mm_parts, mm_table}

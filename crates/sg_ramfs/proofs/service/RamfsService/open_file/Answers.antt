@@ -5,7 +5,7 @@ use Rattle.sg_facts.specs.Track.{row_at}
 use Rattle.sg_slots.specs.Slots.{row_with}
 use Rattle.sg_slots.proofs.Rows.{row_at-rows_of}
 use Rattle.sg_ramfs.specs.RamfsRow.{file_body}
-use Rattle.sg_ramfs.specs.RamfsTree.{tree_rows}
+use Rattle.sg_ramfs.specs.Inside.RamfsTree.{tree_rows}
 use Rattle.sg_ramfs.proofs.service.RamfsService.open_file.Goals as goal
 
 pub returns : goal.returns

@@ -23,8 +23,8 @@ write-requires-clause-place g c = place_there c.self.inside.tree (files_of c.sel
 pub seek-requires-clause-there : goal.seek-requires-clause-there
 seek-requires-clause-there g c = there c.self.inside.tree (files_of c.self.inside.files) c.args.self.now c.self.view_is c.args.call.now c.requires 4 c.in-4.is refl
 
-pub carry_out-requires-clause-there : goal.carry_out-requires-clause-there
-carry_out-requires-clause-there g c =
+pub apply-requires-clause-there : goal.apply-requires-clause-there
+apply-requires-clause-there g c =
     let last : c.args.call.now.fun ≤ 5 = c.requires.is_call.last in
     let is : c.args.call.now.fun ≡ 5 = omega (arith, last, c.requires.is_call.first, c.in_default) in
     there c.self.inside.tree (files_of c.self.inside.files) c.args.self.now c.self.view_is c.args.call.now c.requires 5 is refl
@@ -76,5 +76,5 @@ returns-in_default-clause-outcome g c =
     let last : c.args.call.now.fun ≤ 5 = c.requires.is_call.last in
     let is : c.args.call.now.fun ≡ 5 = omega (arith, last, c.requires.is_call.first, c.in_default) in
     let before : Points = record { asked = g.T.Stops.asked c.args.stops.now; struck = g.T.Stops.struck c.args.stops.now } in
-    let later : Points = record { asked = g.T.Stops.asked c.carry_out.new.stops; struck = g.T.Stops.struck c.carry_out.new.stops } in
-    (release_serves c.self.inside.tree (files_of c.self.inside.files) c.args.self.now c.self.view_is c.args.call.now c.requires before c.carry_out.result c.carry_out.new.self later c.carry_out.ensures.tree is c.carry_out.ensures.outcome).0
+    let later : Points = record { asked = g.T.Stops.asked c.apply.new.stops; struck = g.T.Stops.struck c.apply.new.stops } in
+    (release_serves c.self.inside.tree (files_of c.self.inside.files) c.args.self.now c.self.view_is c.args.call.now c.requires before c.apply.result c.apply.new.self later c.apply.ensures.tree is c.apply.ensures.outcome).0

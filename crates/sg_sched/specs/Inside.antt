@@ -1,0 +1,6 @@
+-- What private clauses and proofs speak of.
+pub mod SchedDecision
+pub mod SchedFirst
+pub mod SchedIndex
+pub mod SchedKeys
+pub mod SchedRanks
