@@ -62,24 +62,5 @@ fn run_named<R: Threads + Wait + Sync, S: Service + Send, G: Gate, N: Naming + S
     let short = play.setup(alloc).is_err();
     let shared = Mutex::new(Shared::<S, N>::new(play, short));
     play_clients(rt, alloc, &shared, gate);
-    let Shared {
-        mut play,
-        short,
-        of: _,
-    } = shared.into_inner();
-    play_rest(alloc, &mut play, short)
-}
-
-// Plays what is left of a play, unless some turn wanted memory.
-fn play_rest<S: Service>(
-    alloc: Global,
-    play: &mut Play<S, AtPoints>,
-    short: bool,
-) -> Result<Played, NoMemory>
-    ensures { IfOk result (IsPlayed (stubs_of (setting_of S.ask S.sound S.parts play.old.tables)) (λ asked struck plan. struck ≡ up_to asked plan) play.old.script play.old.plan) }
-{
-    if short {
-        return Err(NoMemory);
-    }
-    play.play(alloc)
+    shared.into_inner().finish(alloc)
 }

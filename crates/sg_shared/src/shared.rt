@@ -1,15 +1,18 @@
 // The play that threads share. Each takes one turn at a time.
-ghost use Rattle.std.specs.Prelude.{◌≡◌, ◌&&◌, None, not, true, false};
+ghost use Rattle.std.specs.Prelude.{◌≡◌, ◌&&◌, None, IfOk, not, true, false};
+ghost use Rattle.sg_edge.specs.Stops.{up_to};
 ghost use Rattle.sg_play_laws.specs.Callers.{is_setting_up};
 ghost use Rattle.sg_shared.specs.Inside.Next.{HasTurned, SomebodyGoes, takes_turn};
+ghost use Rattle.sg_sim.specs.Played.{IsPlayed};
 ghost use Rattle.sg_sim.specs.Playing.{can_step};
 ghost use Rattle.sg_world.specs.Worlded.{setting_of};
+ghost use Rattle.sg_world_laws.specs.Setting.{stubs_of};
 
 use sg_base::NoMemory;
 use sg_edge::AtPoints;
 use sg_facts::{LAST_CLIENT, Service};
 use sg_seat::Phase;
-use sg_sim::Play;
+use sg_sim::{Play, Played};
 use std::alloc::Global;
 use std::marker::{Brand, PhantomData};
 
@@ -45,7 +48,6 @@ pub enum Next {
 }
 
 /// A play of the script that is shared, and whether some turn wanted memory. Until then its setup is done.
-#[derive(Drop)]
 pub struct Shared<S: Service, N: Naming> {
     pub play: Play<S, AtPoints>,
     pub short: bool,
@@ -120,6 +122,18 @@ impl<S: Service, N: Naming> Shared<S, N> {
                 None
             }
         }
+    }
+
+    /// Plays what is left of the play, and ends it. `NoMemory` also where some turn wanted memory.
+    pub fn finish(self, alloc: Global) -> Result<Played, NoMemory>
+        ensures { IfOk result (IsPlayed (stubs_of (setting_of S.ask S.sound S.parts N.tables)) (λ asked struck plan. struck ≡ up_to asked plan) N.script N.script.stops) }
+    {
+        let Shared { play, short, of: _ } = self;
+        if short {
+            play.abandon();
+            return Err(NoMemory);
+        }
+        play.finish(alloc)
     }
 
     // Whether some client can take a turn.

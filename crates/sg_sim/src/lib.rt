@@ -2,6 +2,7 @@
 //!
 //! - `play`: a play (`Play`)
 //! - `played`: a run that came to its end (`Played`)
+//! - `plays`: plays a script to its end (`play_script`)
 //! - `turn`: the turn of a client
 //! - `given`: what the calls of the clients were given
 //!
@@ -11,7 +12,9 @@
 mod given;
 mod play;
 mod played;
+mod plays;
 mod turn;
 
 pub use play::Play;
 pub use played::Played;
+pub use plays::play_script;

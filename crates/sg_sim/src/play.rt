@@ -189,6 +189,18 @@ impl<S: Service, T: Stops> Play<S, T> {
         Err(NoMemory)
     }
 
+    /// Plays all that is left, to the end, as `play` does, and ends the play.
+    pub fn finish(self, alloc: Global) -> Result<Played, NoMemory>
+        ensures played { IfOk result (IsPlayed (stubs_of (setting_of S.ask S.sound S.parts self.tables)) T.test self.script self.plan) }
+        ensures schedule { self.in_order ≡ true → IfOk result (λ ended. FollowsSchedule self.tables.iface S.ask self.script (run_of ended.trace) ended.history.items) }
+    {
+        let mut play = self;
+        play.play(alloc)
+    }
+
+    /// Ends the play where it stands.
+    pub fn abandon(self) {}
+
     /// Its world, lent.
     pub fn world(&self) -> &World<S, T>
         ensures tables { result.now.tables ≡ self.now.tables }

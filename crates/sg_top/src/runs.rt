@@ -22,9 +22,8 @@ use sg_mm::MmService;
 use sg_ramfs::RamfsService;
 use sg_sched::SchedService;
 use sg_script::Script;
-use sg_serial::play;
 use sg_shared::run;
-use sg_sim::Played;
+use sg_sim::{Played, play_script};
 use sg_stub::compile;
 use std::alloc::Global;
 use std::sync::Wait;
@@ -104,7 +103,7 @@ fn play_with<S: Service>(
     ensures schedule { IfOk result (λ ended. FollowsSchedule accepted.now S.ask script (run_of ended.trace) ended.history.items) }
 {
     let tables = compile(alloc, accepted)?;
-    play::<S, AtPoints>(alloc, tables, script, stops)
+    play_script::<S, AtPoints>(alloc, tables, script, stops)
 }
 
 /// The run of a script under an accepted interface, with a thread for each client, which passes the gate around each of its calls.

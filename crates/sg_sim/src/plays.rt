@@ -5,16 +5,16 @@ ghost use Rattle.sg_play_laws.specs.Playable.{IsPlayable};
 ghost use Rattle.sg_sim.specs.Played.{FollowsSchedule, IsPlayed};
 ghost use Rattle.sg_wake_laws.specs.Waking.{no_query_waits};
 
+use crate::{Play, Played};
 use sg_base::{NoMemory, Stops};
 use sg_facts::{Service, Tables};
 use sg_script::Script;
-use sg_sim::{Play, Played};
 use std::alloc::Global;
 
 /// Plays a script to its end on a service, by its tables: until no client can take a turn. The service stops where its stops say, of
 /// which none was asked yet, and until then the turns are those of the play without stops. `NoMemory` also where a step of its world
 /// wanted memory.
-pub fn play<S: Service, T: Stops>(
+pub fn play_script<S: Service, T: Stops>(
     alloc: Global,
     tables: Tables,
     script: Script,
@@ -28,6 +28,6 @@ pub fn play<S: Service, T: Stops>(
     ensures played { IfOk result (IsPlayed (record { interface = tables.iface; ask = S.ask; parts = S.parts; walks = tables.walks }) T.test script (T.plan stops)) }
     ensures schedule { IfOk result (λ ended. FollowsSchedule tables.iface S.ask script (run_of ended.trace) ended.history.items) }
 {
-    let mut play = Play::<S, T>::new(alloc, tables, script, stops)?;
-    play.play(alloc)
+    let play = Play::<S, T>::new(alloc, tables, script, stops)?;
+    play.finish(alloc)
 }
