@@ -75,10 +75,6 @@ module _ (services : List Facts) (tree : Tree) where
   not_of_another Flaw facts is none at (f, other, first) =
       not_none (Flaw facts) tree.statements at (subst (λ g. IsFirstStatement (Flaw g) tree.statements at) (one_service f facts other is) first) none
 
-  not_found : (found : Facts → Option ℕ) (facts : Facts) → IsOf services tree facts → None ≡ found facts → (at : ℕ) → ((f : Facts) × IsOf services tree f × (found f ≡ Some at)) → ⊥
-  not_found found facts is same at (f, other, first) =
-      let no : None ≡ Some at = same ∙ ap found (one_service facts f is other) ∙ first in cc no
-
   each_of_tree : (Flaw : Facts → List Statement → Statement → ℕ → Type 0) (facts : Facts) (flaw : Option ℕ) → IsOf services tree facts
       → MatchOption flaw (NoStatement (Flaw facts) tree.statements) (IsFirstStatement (Flaw facts) tree.statements)
       → MatchOption flaw ((at : ℕ) → ((f : Facts) × IsOf services tree f × IsFirstStatement (Flaw f) tree.statements at) → ⊥) (λ at. (f : Facts) × IsOf services tree f × IsFirstStatement (Flaw f) tree.statements at)
@@ -92,9 +88,3 @@ module _ (services : List Facts) (tree : Tree) where
       (λ at. (f : Facts) × IsOf services tree f × IsFirstStatement (Flaw tree.statements f) tree.statements at)
   each_statement Flaw facts flaw is own same told =
       each_of_tree (Flaw tree.statements) facts flaw is (subst (λ l. MatchOption flaw (NoStatement (Flaw l facts) l) (IsFirstStatement (Flaw l facts) l)) same told)
-
-  -- a flaw that is looked for once
-  pub at_once : (found : Facts → Option ℕ) (facts : Facts) (flaw : Option ℕ) → IsOf services tree facts → flaw ≡ found facts
-      → MatchOption flaw ((at : ℕ) → ((f : Facts) × IsOf services tree f × (found f ≡ Some at)) → ⊥) (λ at. (f : Facts) × IsOf services tree f × (found f ≡ Some at))
-  at_once found facts None is same = not_found found facts is same
-  at_once found facts (Some at) is same = (facts, is, sym same)

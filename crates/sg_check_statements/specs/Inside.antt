@@ -1,3 +1,3 @@
--- What no public clause cites: changes of a field, and the stages of the checker.
+-- What no public clause cites: changes of a field, and what is found of one kind of faults.
 pub mod Changes
-pub mod OneStage
+pub mod OneKind

@@ -1,9 +1,10 @@
 // The kinds of faults up to whether a text makes a descriptor at all, looked for in the order of `CheckKind`.
-ghost use Rattle.std.specs.Prelude.{◌≡◌, ℕ, None, Some, map};
+ghost use Rattle.std.specs.Prelude.{◌≡◌, ℕ, ◌≤◌, None, Some, IfOk, map};
 ghost use Rattle.std.specs.Result.{MatchResult};
 ghost use Rattle.sg_facts.specs.Facts.{facts_of};
 ghost use Rattle.sg_check_statements.specs.declared.fault.CheckError.TheVariants.{Fault};
-ghost use Rattle.sg_check_statements.specs.Inside.OneStage.{IsStage};
+ghost use Rattle.sg_check_statements.specs.Faults.{kind_rank};
+ghost use Rattle.sg_check_statements.specs.Inside.OneKind.{IsFirstPlace};
 ghost use Rattle.sg_check_statements.specs.Stages.{IsClear, IsFirstFault};
 
 use crate::effects::wrong_effect_in;
@@ -15,9 +16,23 @@ use crate::params::bad_params_in;
 use crate::protos::duplicate_in;
 use crate::services::{no_creation, service_in};
 use crate::unknown::unknown_in;
+use sg_base::NoMemory;
 use sg_facts::Shape;
 use sg_grammar::Tree;
 use std::alloc::Global;
+
+// The kinds that are looked for in a text once its service is known, in their order.
+static KINDS: [CheckKind; 9] = [
+    CheckKind::DuplicateName,
+    CheckKind::UnknownFunction,
+    CheckKind::BadParams,
+    CheckKind::WrongFact,
+    CheckKind::WrongFlag,
+    CheckKind::WrongEffect,
+    CheckKind::ForeignTransition,
+    CheckKind::ForeignRecover,
+    CheckKind::NoCreation,
+];
 
 /// The service of a text, where some function makes a descriptor, and nothing of the kinds before is wrong with the text. Else
 /// the error tells, of the first ten kinds that are wrong, the first in the order of `CheckKind`, at its first place.
@@ -29,15 +44,9 @@ pub fn fit_one_by_one<'a>(
     ensures { MatchResult result (λ s. IsClear (map facts_of services.now) tree.now (facts_of s.now) 10) (IsFirstFault (map facts_of services.now) tree.now) }
 {
     let shape = service_of(services, tree)?;
-    named_once(alloc, shape, tree)?;
-    names_known(alloc, shape, tree)?;
-    params_fit(shape, tree)?;
-    facts_fit(shape, tree)?;
-    flags_fit(shape, tree)?;
-    effects_fit(shape, tree)?;
-    moves_fit(shape, tree)?;
-    steps_fit(shape, tree)?;
-    makes_descriptors(shape, tree)?;
+    for kind in &KINDS {
+        unless(*kind, first_of(*kind, alloc, shape, tree)?)?;
+    }
     Ok(shape)
 }
 
@@ -66,89 +75,28 @@ fn service_of<'a>(services: &'a [Shape], tree: &Tree) -> Result<&'a Shape, Check
     }
 }
 
-// No function has a second prototype.
-fn named_once(alloc: Global, shape: &Shape, tree: &Tree) -> Result<(), CheckError>
-    ensures { IsStage tree.now (facts_of shape.now) 1 result }
+// The place of the first fault of this kind, one of `KINDS`, where a text of this service has one.
+fn first_of(
+    kind: CheckKind,
+    alloc: Global,
+    shape: &Shape,
+    tree: &Tree,
+) -> Result<Option<usize>, NoMemory>
+    requires first { 1 ≤ kind_rank kind }
+    requires last { kind_rank kind ≤ 9 }
+    ensures { IfOk result (IsFirstPlace tree.now (facts_of shape.now) kind) }
 {
-    unless(
-        CheckKind::DuplicateName,
-        duplicate_in(alloc, tree.statements.as_slice())?,
-    )
-}
-
-// The functions that statements name are declared, and are the service's.
-fn names_known(alloc: Global, shape: &Shape, tree: &Tree) -> Result<(), CheckError>
-    ensures { IsStage tree.now (facts_of shape.now) 2 result }
-{
-    unless(
-        CheckKind::UnknownFunction,
-        unknown_in(alloc, shape, tree.statements.as_slice())?,
-    )
-}
-
-// Prototypes have the parameters of their functions.
-fn params_fit(shape: &Shape, tree: &Tree) -> Result<(), CheckError>
-    ensures { IsStage tree.now (facts_of shape.now) 3 result }
-{
-    unless(
-        CheckKind::BadParams,
-        bad_params_in(shape, tree.statements.as_slice()),
-    )
-}
-
-// The facts at the head are the service's.
-fn facts_fit(shape: &Shape, tree: &Tree) -> Result<(), CheckError>
-    ensures { IsStage tree.now (facts_of shape.now) 4 result }
-{
-    unless(CheckKind::WrongFact, wrong_fact(shape, &tree.facts))
-}
-
-// Flags and states are declared as the service has them.
-fn flags_fit(shape: &Shape, tree: &Tree) -> Result<(), CheckError>
-    ensures { IsStage tree.now (facts_of shape.now) 5 result }
-{
-    unless(
-        CheckKind::WrongFlag,
-        wrong_flag_in(shape, tree.statements.as_slice()),
-    )
-}
-
-// Effects are declared as the service has them.
-fn effects_fit(shape: &Shape, tree: &Tree) -> Result<(), CheckError>
-    ensures { IsStage tree.now (facts_of shape.now) 6 result }
-{
-    unless(
-        CheckKind::WrongEffect,
-        wrong_effect_in(shape, tree.statements.as_slice()),
-    )
-}
-
-// The transitions are the service's.
-fn moves_fit(shape: &Shape, tree: &Tree) -> Result<(), CheckError>
-    ensures { IsStage tree.now (facts_of shape.now) 7 result }
-{
-    unless(
-        CheckKind::ForeignTransition,
-        foreign_transition(shape, tree.statements.as_slice()),
-    )
-}
-
-// The recover steps are the service's.
-fn steps_fit(shape: &Shape, tree: &Tree) -> Result<(), CheckError>
-    ensures { IsStage tree.now (facts_of shape.now) 8 result }
-{
-    unless(
-        CheckKind::ForeignRecover,
-        foreign_recover(shape, tree.statements.as_slice()),
-    )
-}
-
-// Some function makes a descriptor.
-fn makes_descriptors(shape: &Shape, tree: &Tree) -> Result<(), CheckError>
-    ensures { IsStage tree.now (facts_of shape.now) 9 result }
-{
-    unless(
-        CheckKind::NoCreation,
-        no_creation(shape, tree.statements.as_slice()),
-    )
+    let statements = tree.statements.as_slice();
+    match kind {
+        CheckKind::DuplicateName => duplicate_in(alloc, statements),
+        CheckKind::UnknownFunction => unknown_in(alloc, shape, statements),
+        CheckKind::BadParams => Ok(bad_params_in(shape, statements)),
+        CheckKind::WrongFact => Ok(wrong_fact(shape, &tree.facts)),
+        CheckKind::WrongFlag => Ok(wrong_flag_in(shape, statements)),
+        CheckKind::WrongEffect => Ok(wrong_effect_in(shape, statements)),
+        CheckKind::ForeignTransition => Ok(foreign_transition(shape, statements)),
+        CheckKind::ForeignRecover => Ok(foreign_recover(shape, statements)),
+        CheckKind::NoCreation => Ok(no_creation(shape, statements)),
+        CheckKind::UnknownService | CheckKind::Unreached | CheckKind::NoWalk => unreachable!(),
+    }
 }

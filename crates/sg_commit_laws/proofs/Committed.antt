@@ -51,9 +51,6 @@ use Rattle.sg_world_laws.proofs.Struck.{no_drawn}
 module _ (z : Setting) (set : IsSetting z) (w : WorldView) (b : Boot) (boots : List Boot) (v : Object) (stub : Stub) (k : KeepsPromise z (standing w b boots (Some v)) stub)
     (call : Call) (item : Item) (reply other : Reply) (patch : Option Patch) (s : IsServedCall z (standing w b boots (Some v)) stub v call item reply other patch)
     (w' : WorldView) (c : IsCommittedIn z (standing w b boots (Some v)) stub v call item reply other w') where
-  abbrev up : Stands z (standing w b boots (Some v)) stub v
-  up = k.stands
-
   abbrev facts : Facts
   facts = z.iface.facts
 
@@ -154,7 +151,7 @@ module _ (z : Setting) (set : IsSetting z) (w : WorldView) (b : Boot) (boots : L
     stands_now : Stands z later stub' v1
     stands_now = record {
       numbers = subst (λ x. AreNumbers facts stub'.told (length (w.history ++ e ∷ [])) x v1) (sym behind_now) numbers_now;
-      named_live = λ id. elim (named_is_live facts o call reply other stub stub' tells s.replied.same (acts facts call.fun set.law.shape.shape s.let_in.passes.is_call.first s.let_in.passes.is_call.last) up.named_live id) [
+      named_live = λ id. elim (named_is_live facts o call reply other stub stub' tells s.replied.same (acts facts call.fun set.law.shape.shape s.let_in.passes.is_call.first s.let_in.passes.is_call.last) k.stands.named_live id) [
         | inl none ↦ inl none
         | inr live ↦ inr (ap (λ y. is_live y.rows id) object_now ∙ live)
       ];

@@ -70,9 +70,6 @@ waiting_put facts ask o (x ∷ front) back e own none all = (
 module _ (z : Setting) (set : IsSetting z) (w : WorldView) (b : Boot) (boots : List Boot) (v : Object) (stub : Stub) (k : KeepsPromise z (standing w b boots (Some v)) stub)
     (call : Call) (item : Item) (reply other : Reply) (patch : Option Patch) (s : IsServedCall z (standing w b boots (Some v)) stub v call item reply other patch)
     (hidden : is_visible z.iface.facts call.fun ≡ false) (front back : List Entry) (w' : WorldView) (c : IsHeldBy z (standing w b boots (Some v)) stub v call item reply other front back w') where
-  abbrev up : Stands z (standing w b boots (Some v)) stub v
-  up = k.stands
-
   abbrev facts : Facts
   facts = z.iface.facts
 
@@ -84,9 +81,6 @@ module _ (z : Setting) (set : IsSetting z) (w : WorldView) (b : Boot) (boots : L
 
   abbrev e : Entry
   e = record { call = call; reply = reply }
-
-  abbrev o1 : Object
-  o1 = after z.iface.facts (object_of z.iface.facts w.history) call reply
 
   abbrev v1 : Object
   v1 = after z.iface.facts v (under_names stub.names call) other
@@ -230,13 +224,13 @@ module _ (z : Setting) (set : IsSetting z) (w : WorldView) (b : Boot) (boots : L
       ∙ ap (λ q. cond q (pair_of (id_given (w.history ++ es) call.client call.seq) (Replied other patch)) []) quiet)
       ∙ append-nil (names_at facts (w.history ++ es) (last_items (b ∷ boots)))
       ∙ names_any z set w b boots v stub k call item reply other patch s [] es)
-      ∙ up.unnamed [] (no_drawn ws) id above
+      ∙ k.stands.unnamed [] (no_drawn ws) id above
 
   -- ---- the service
 
   -- the object behind all held replies is that behind the new one and the others
-  behind_all : object_from facts o1 ws ≡ object_from facts o (front ++ e ∷ back)
-  behind_all = ap (object_from facts o1) c.held_before
+  behind_all : object_from facts (after z.iface.facts o call reply) ws ≡ object_from facts o (front ++ e ∷ back)
+  behind_all = ap (object_from facts (after z.iface.facts o call reply)) c.held_before
       ∙ committed_same facts z.ask z.sound set.law o front back e (good_now z set w b boots (Some v) stub k) (time_now z set w b boots (Some v) stub k (suc (suc (length (front ++ e ∷ back)))) (omega (arith, few_held))) waits
 
   same_names : (r p : Reply) (id : ℕ) → named stub.names id ≡ named (names_by facts stub.names call r p) id
@@ -251,7 +245,7 @@ module _ (z : Setting) (set : IsSetting z) (w : WorldView) (b : Boot) (boots : L
   under_now : IsInRecovery z.iface z.walks stub.names stub.told stub.present (object_from facts o (front ++ e ∷ back)) v1
   under_now =
       subst (λ x. IsInRecovery z.iface z.walks stub.names stub.told stub.present x v1) behind_all
-      (under_named z.iface z.walks (names_by facts stub.names call reply other) stub.names (same_names reply other) (object_from facts o1 ws) v1 (told_by facts call reply stub.told) stub.told
+      (under_named z.iface z.walks (names_by facts stub.names call reply other) stub.names (same_names reply other) (object_from facts (after z.iface.facts o call reply) ws) v1 (told_by facts call reply stub.told) stub.told
       (present_with (patch_of facts o call reply) stub.present) stub.present (same_told reply)
       (λ path. ap (λ q. present_with q stub.present path) (sym no_patch ∙ patch_it z set w b boots v stub k call item reply other patch s))
       (moved z set w b boots v stub k call item reply other patch s).in_recovery)
@@ -263,7 +257,7 @@ module _ (z : Setting) (set : IsSetting z) (w : WorldView) (b : Boot) (boots : L
   stands_now : Stands z later stub v1
   stands_now = record {
     numbers = subst (λ l. AreNumbers facts stub.told (length w.history) (object_from facts o l) v1) (sym same_held) numbers_now;
-    named_live = up.named_live;
+    named_live = k.stands.named_live;
     in_recovery = subst (λ l. IsInRecovery z.iface z.walks stub.names stub.told stub.present (object_from facts o l) v1) (sym same_held) under_now;
     read = λ es drawn. read_now es (subst (λ l. AreDrawn l es) same_held drawn);
     unnamed = λ es drawn. unnamed_now es;

@@ -16,7 +16,8 @@ use Rattle.sg_facts.specs.Laws.{BlockedStays, Passes, state_in, leaves_blocked}
 use Rattle.sg_facts.proofs.RowLists.{row_at-more, row_at-changed, row_at-left}
 use Rattle.sg_slots.proofs.RowLaws.{row_of_call, two_rows, on_another}
 use Rattle.sg_event.specs.EventFacts.{event_facts}
-use Rattle.sg_event.specs.EventTable.{event_table, event_answer, count_in, event_wait_answer, most_count}
+use Rattle.sg_event.specs.EventTable.{event_table, count_in, event_wait_answer, most_count}
+use Rattle.sg_event.specs.Inside.EventAnswer.{event_answer}
 use Rattle.sg_event.specs.EventSound.{IsEventSound}
 
 abbrev done_ok : Option Reply

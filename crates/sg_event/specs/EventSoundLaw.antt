@@ -13,9 +13,10 @@ use Rattle.sg_facts.specs.Track.{row_at, new_row, fields_after, word_of, field_a
 use Rattle.sg_facts.specs.Object.{Object, after}
 use Rattle.sg_facts.specs.Sound.{AreFields}
 use Rattle.sg_facts.specs.Laws.{AnswersAndKeeps, Passes}
-use Rattle.sg_slots.proofs.RowLaws.{childless, sound_more, sound_changed, sound_left}
+use Rattle.sg_slots.proofs.RowLaws.{childless, next_of_first, sound_more, sound_changed, sound_left}
 use Rattle.sg_event.specs.EventFacts.{event_facts}
-use Rattle.sg_event.specs.EventTable.{event_table, event_answer, count_in, most_count, trigger_answer}
+use Rattle.sg_event.specs.EventTable.{event_table, count_in, most_count, trigger_answer}
+use Rattle.sg_event.specs.Inside.EventAnswer.{event_answer}
 use Rattle.sg_event.specs.EventSound.{IsEventSound, IsCounted}
 
 -- ---- the fields of an event's row after a wait and a trigger
@@ -69,21 +70,10 @@ module _ (o : Object) (client seq desc : ℕ) (args : List Value) where
       record { general = kept.0; counted = kept.1 }
   keeps_at (suc (suc (suc (suc (suc n))))) good sound passes is = absurd (cc is)
 
--- the id of a new event is the next one
-next_at : (fun given count n : ℕ) (good : Good) → event_answer fun given count n ≡ Some (Ok good) → (fun_at event_facts.funs fun).creation ≡ true → good.desc ≡ given + 1
-next_at zero given count n good is makes = absurd (cc makes)
-next_at (suc zero) given count n good is makes =
-    let one : record { desc = given + 1; words = []; bytes = [] } ≡ good = cc is in
-    sym (ap (λ g. g.desc) one)
-next_at (suc (suc zero)) given count n good is makes = absurd (cc makes)
-next_at (suc (suc (suc zero))) given count n good is makes = absurd (cc makes)
-next_at (suc (suc (suc (suc zero)))) given count n good is makes = absurd (cc makes)
-next_at (suc (suc (suc (suc (suc m))))) given count n good is makes = absurd (cc makes)
-
 pub event_answers_and_keeps : AnswersAndKeeps event_facts event_table IsEventSound
 event_answers_and_keeps = record {
   empty = record { general = record { rows = tt; files = tt }; counted = tt };
   general = λ o sound. sound.general;
   keeps = λ o call good sound passes is. keeps_at o call.client call.seq call.desc call.args call.fun good sound passes is;
-  next = λ o call good is makes. next_at call.fun o.given (count_in (row_at o.rows call.desc)) (word_of (arg_at call 0)) good is makes;
+  next = λ o call. next_of_first event_facts o.given (λ f. event_answer f o.given (count_in (row_at o.rows call.desc)) (word_of (arg_at call 0))) (record { desc = o.given + 1; words = []; bytes = [] }) refl refl refl call.fun;
 }

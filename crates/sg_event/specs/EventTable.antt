@@ -49,13 +49,9 @@ event_answer_of event_trigger_fun given count n = trigger_answer count n
 event_answer_of event_free_fun given count n = done 0
 event_answer_of no_event_fun given count n = Some (Refused NotFound)
 
--- the answer by the function's number
-abbrev pub event_answer : ℕ → ℕ → ℕ → ℕ → Option Reply
-event_answer fun given count n = event_answer_of (event_fun fun) given count n
-
 -- what a service of events answers a call at an object; None where the caller has to wait
 abbrev pub event_table : Table
-event_table o call = event_answer call.fun o.given (count_in (row_at o.rows call.desc)) (word_of (arg_at call 0))
+event_table o call = event_answer_of (event_fun call.fun) o.given (count_in (row_at o.rows call.desc)) (word_of (arg_at call 0))
 
 -- the parts of an Ok: two of evt_split, one of the others
 abbrev pub event_parts : ℕ → ℕ

@@ -1,6 +1,6 @@
 -- The event service rebuilds its events.
-use Rattle.std.proofs.Common.{◌≡◌, ℕ, zero, suc, ◌+◌, ◌≤◌, Bool, true, false, cond, List, [], ◌∷◌, ◌++◌, Some, map, refl, sym, ◌∙◌, ap, subst, arith}
-use Rattle.std.specs.Prelude.{◌==◌, ◌||◌, ◌&&◌, nat_lt}
+use Rattle.std.proofs.Common.{◌≡◌, ℕ, ◌+◌, ◌≤◌, Bool, true, false, cond, List, [], ◌∷◌, ◌++◌, Some, map, refl, sym, ◌∙◌, ap, subst, arith}
+use Rattle.std.specs.Prelude.{nat_lt}
 use Rattle.std.proofs.lemmas.Bool.Decides.{nat_tests}
 use Rattle.sg_base.specs.declared.value.Value.{Value}
 use Rattle.sg_base.specs.declared.value.Value.TheVariants.{Word, Text}
@@ -23,6 +23,7 @@ use Rattle.sg_event.specs.EventFacts.{event_facts}
 use Rattle.sg_event.specs.EventTable.{count_in, event_table, most_count, trigger_answer}
 use Rattle.sg_event.specs.EventSound.{IsCounted, IsEventSound}
 use Rattle.sg_event.specs.EventSoundLaw.{event_answers_and_keeps}
+use Rattle.sg_slots.proofs.RowLaws.{first_makes, one_pair}
 use Rattle.sg_walk_laws.specs.Replays.{AnswersCreations, AnswersReplays, AnswersSteps, IsAnsweredOk}
 use Rattle.sg_walk_laws.proofs.Found.{met}
 use Rattle.sg_walk_laws.proofs.Goes.{walk_goes_on}
@@ -31,20 +32,10 @@ use Rattle.sg_walk_laws.proofs.Steps.{rest_meets}
 
 -- evt_split alone makes events, and evt_trigger is the one step
 one_creation : (f : ℕ) → (fun_at event_facts.funs f).creation ≡ true → f ≡ 1
-one_creation zero is = absurd (cc is)
-one_creation (suc zero) is = refl
-one_creation (suc (suc zero)) is = absurd (cc is)
-one_creation (suc (suc (suc zero))) is = absurd (cc is)
-one_creation (suc (suc (suc (suc zero)))) is = absurd (cc is)
-one_creation (suc (suc (suc (suc (suc n))))) is = absurd (cc is)
+one_creation f is = first_makes event_facts.funs refl f is
 
 one_step : (state f : ℕ) → has_pair event_facts.steps state f ≡ true → f ≡ 3
-one_step state f is = at (1 == state) (3 == f) refl is
-  where
-    at : (a b : Bool) → (3 == f) ≡ b → ((a && b) || false) ≡ true → f ≡ 3
-    at true true y is = grind (arith, nat_tests, y)
-    at true false y is = absurd (cc is)
-    at false b y is = absurd (cc is)
+one_step state f is = (one_pair 1 3 state f is).1
 
 module _ (declared : ℕ) (moves steps : List (ℕ × ℕ)) where
   abbrev i : Declared

@@ -1,7 +1,7 @@
 pub mod EventAlikeLaw
 pub mod EventBlockedLaw
 pub mod EventFacts
-pub mod EventObject
+pub mod EventModel
 pub mod EventRow
 pub mod EventShapeLaw
 pub mod EventSound

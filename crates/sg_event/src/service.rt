@@ -1,116 +1,41 @@
 // The event service.
-ghost use Rattle.std.specs.Prelude.{◌≡◌, ◌<◌, ℕ, false, length, IsSome};
-ghost use Rattle.std.specs.Option.{option_map, option_copied};
-ghost use Rattle.sg_facts.specs.Kinds.{MayAsk};
-ghost use Rattle.sg_facts.specs.Track.{arg_at, has_child, row_at, word_of};
-ghost use Rattle.sg_slots.specs.Slots.{row_with, entry_at, object_of};
-ghost use Rattle.sg_slots.specs.Decide.{Decides};
-ghost use Rattle.sg_event.specs.EventWalkLaw.{event_walk_goes_on};
-ghost use Rattle.sg_event.specs.EventFacts.{event_facts};
-ghost use Rattle.sg_event.specs.EventTable.{event_table, event_parts};
-ghost use Rattle.sg_event.specs.EventRow.{event_body};
-ghost use Rattle.sg_event.specs.EventAlikeLaw.{event_answers_alike};
-ghost use Rattle.sg_event.specs.EventBlockedLaw.{event_blocked_stays};
-ghost use Rattle.sg_event.specs.EventShapeLaw.{event_shape_allows, event_counts_slowly};
-ghost use Rattle.sg_event.specs.EventSound.{IsEventSound};
-ghost use Rattle.sg_event.specs.EventSoundLaw.{event_answers_and_keeps};
+ghost use Rattle.std.specs.Prelude.{◌≡◌, refl};
+ghost use Rattle.sg_facts.specs.Track.{arg_at, word_of};
+ghost use Rattle.sg_event.specs.EventModel.{event_model};
 ghost use Rattle.sg_event.specs.Inside.EventDecision.{on_split, on_event_wait, on_trigger, set_count};
 
 use crate::Event;
 use crate::functions::{SPLIT, TRIGGER, WAIT};
 use crate::shape::event_shape;
-use sg_base::{Call, Code, NoMemory, Path, Stops, Value};
-use sg_facts::{Outcome, Service, Shape};
-use sg_slots::{Decision, Slots, carry_out};
-use std::alloc::Global;
+use sg_base::{Call, Code, Value};
+use sg_facts::Shape;
+use sg_slots::{Decision, RowRules, RowService, Slots};
 
 /// The event service: it makes, triggers and ends events, and blocks who waits for one whose count is 0.
-#[derive(Debug, Drop)]
-pub struct EventService {
-    events: Slots<Event>,
-}
+pub type EventService = RowService<Event>;
 
-impl EventService {
-    ghost use Rattle.sg_event.specs.EventObject.{event_object};
-
-    /// The event of an id, lent; None where no event has it. Ids count from 1.
-    pub fn event(&self, id: u64) -> Option<&Event>
-        ensures row { row_at (event_object self.now).rows id ≡ option_map (λ e. row_with id (event_body e)) (option_copied result) }
-        ensures id { IsSome result → 0 < id }
-        ensures childless { (parent : ℕ) → 0 < parent → has_child (event_object self.now).rows parent ≡ false }
-    {
-        self.events.get(id)
-    }
-
-    /// The number of events.
-    pub fn live(&self) -> usize
-        ensures { result ≡ length (event_object self.now).rows }
-    {
-        self.events.len()
-    }
-}
-
-impl Service for EventService {
-    ghost use Rattle.sg_event.specs.EventObject.{event_object};
-
-    ghost facts = { event_facts };
-
-    ghost object = { event_object };
-
-    ghost ask = { event_table };
-
-    ghost parts = { event_parts };
-
-    ghost sound = { IsEventSound };
-
-    ghost answers_and_keeps = { event_answers_and_keeps };
-
-    ghost answers_alike = { event_answers_alike };
-
-    ghost walk_goes_on = { event_walk_goes_on };
-
-    ghost blocked_stays = { event_blocked_stays };
-
-    ghost shape_allows = { event_shape_allows };
-
-    ghost counts_slowly = { event_counts_slowly };
+impl RowRules for Event {
+    ghost model = { event_model };
 
     fn shape() -> Shape {
         event_shape()
     }
 
-    fn fresh(alloc: Global) -> Self {
-        EventService {
-            events: Slots::new(alloc),
+    fn decide(events: &Slots<Self>, call: &Call) -> Decision<Self> {
+        if call.fun == SPLIT {
+            return split(call.client);
+        }
+        match events.get(call.desc) {
+            Some(event) => match call.fun {
+                WAIT => wait(event),
+                TRIGGER => trigger(event, number(call)),
+                _ => Decision::Remove,
+            },
+            None => unreachable!(),
         }
     }
 
-    fn invoke<T: Stops>(&mut self, alloc: Global, stops: &mut T, call: &Call) -> Outcome {
-        let decision = decide(&self.events, call);
-        carry_out(&mut self.events, alloc, stops, call.desc, decision)
-    }
-
-    fn load(&mut self, _: Global, _: &Path, _: &[u8]) -> Result<(), NoMemory> {
-        Ok(())
-    }
-}
-
-// What to do with a call.
-fn decide(events: &Slots<Event>, call: &Call) -> Decision<Event>
-    requires { MayAsk event_facts (object_of event_body events.now) call.now }
-    ensures { Decides event_facts event_table event_parts event_body events.now call.now result }
-{
-    if call.fun == SPLIT {
-        return split(call.client);
-    }
-    match events.get(call.desc) {
-        Some(event) => match call.fun {
-            WAIT => wait(event),
-            TRIGGER => trigger(event, number(call)),
-            _ => Decision::Remove,
-        },
-        None => unreachable!(),
-    }
+    ghost alone = { λ event. refl };
 }
 
 // Makes an event that nobody triggered.

@@ -4,7 +4,8 @@ ghost use Rattle.sg_facts.specs.Facts.{facts_of};
 ghost use Rattle.sg_event.specs.EventFacts.{event_facts};
 
 use crate::functions::{FREE, SPLIT, TRIGGER, WAIT};
-use sg_facts::{Effect, FieldShape, FunShape, Kind, Leaves, Parents, Shape};
+use sg_facts::{Effect, FieldShape, FunShape, Kind, Leaves, Shape};
+use sg_slots::SINGLE_ROWS;
 
 static FIELDS: [FieldShape; 1] = [FieldShape {
     name: b"count",
@@ -52,15 +53,10 @@ pub fn event_shape() -> Shape
 {
     Shape {
         name: b"event",
-        parents: Parents::Never,
-        subtree: false,
-        global: true,
-        block: true,
-        has_data: true,
-        resc_data: false,
         fields: &FIELDS,
         funs: &FUNS,
         moves: &MOVES,
         steps: &STEPS,
+        ..SINGLE_ROWS
     }
 }

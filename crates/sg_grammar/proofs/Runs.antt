@@ -5,6 +5,7 @@ use Rattle.std.specs.List.{flat_map}
 use Rattle.std.proofs.lemmas.List.{append-nil}
 use Rattle.std.proofs.lemmas.List.Elements.{All-nil}
 use Rattle.sg_lex.specs.Lexeme.{Lexeme}
+use Rattle.sg_lex.specs.Marks.{close_brace_byte}
 use Rattle.sg_lex.specs.Sentences.{Begins, ArePieces}
 use Rattle.sg_lex.proofs.Automata.{Runs}
 use Rattle.sg_lex.proofs.Answers.{Reached, ReadsJust}
@@ -15,8 +16,8 @@ use Rattle.sg_grammar.specs.declared.tree.Tree.{Tree}
 use Rattle.sg_grammar.specs.declared.words.Sort.{Sort}
 use Rattle.sg_grammar.specs.declared.words.Sort.TheVariants.{Name, Form, Parents, Closing, Flag}
 use Rattle.sg_grammar.specs.Named.{Named}
-use Rattle.sg_grammar.specs.Pieces.{Piece, word, name, IsPiece}
-use Rattle.sg_grammar.specs.Sentence.{star, comma, close_bracket, close_brace, open_brace, equals, semicolon, more_params, fact_pieces, tree_pieces, statement_pieces, ret_pieces, IsStatement, IsWellFormed, IsSentence}
+use Rattle.sg_grammar.specs.Pieces.{Piece, word, mark, name, IsPiece}
+use Rattle.sg_grammar.specs.Sentence.{star, comma, close_bracket, open_brace, equals, semicolon, more_params, fact_pieces, tree_pieces, statement_pieces, ret_pieces, IsStatement, IsWellFormed, IsSentence}
 use Rattle.sg_grammar.specs.Inside.States.{State, dead, due, want, names, stars, either, listed, statements, fact, head1, head2, head3, head4, head5, head6, head7, start, tree_at, trees}
 use Rattle.sg_grammar.proofs.Rests.{Rest, front_of, last_of}
 use Rattle.sg_grammar.proofs.Steps.{back, forth}
@@ -180,7 +181,7 @@ start_back tree ps r =
     let d = fact_back (codes "desc_is_global") Flag comma (head4 a.value b.value c.value) tree c.behind c.rest in
     let e = fact_back (codes "desc_block") Flag comma (head5 a.value b.value c.value d.value) tree d.behind d.rest in
     let f = fact_back (codes "desc_has_data") Flag comma (head6 a.value b.value c.value d.value e.value) tree e.behind e.rest in
-    let g = fact_back (codes "resc_has_data") Flag close_brace (head7 a.value b.value c.value d.value e.value f.value) tree f.behind f.rest in
+    let g = fact_back (codes "resc_has_data") Flag (mark close_brace_byte) (head7 a.value b.value c.value d.value e.value f.value) tree f.behind f.rest in
     let s = g.rest.rest in
     let facts : Facts = record { service = a.value; parent = b.value; close = c.value; global = d.value; block = e.value; has_data = f.value; resc_data = g.value } in
     let is : tree ≡ record { facts = facts; statements = s.more } = s.is in (
@@ -191,7 +192,7 @@ start_back tree ps r =
           (d.all ∙ ap (fact_pieces (codes "desc_is_global") Flag d.value comma)
           (e.all ∙ ap (fact_pieces (codes "desc_block") Flag e.value comma)
           (f.all ∙ ap (fact_pieces (codes "desc_has_data") Flag f.value comma)
-          (g.all ∙ ap (fact_pieces (codes "resc_has_data") Flag g.value close_brace)
+          (g.all ∙ ap (fact_pieces (codes "resc_has_data") Flag g.value (mark close_brace_byte))
           (g.rest.all ∙ ap (λ v. semicolon ∷ v) s.all))))))))))
           ∙ ap tree_pieces (sym is),
       subst IsWellFormed (sym is) s.each,
@@ -201,7 +202,7 @@ start_forth : (tree : Tree) → IsWellFormed tree → Rest start (tree_pieces tr
 start_forth tree h =
     let q = tree.facts in
     let last : List Piece = semicolon ∷ flat_map statement_pieces tree.statements in
-    let p7 = fact_pieces (codes "resc_has_data") Flag q.resc_data close_brace last in
+    let p7 = fact_pieces (codes "resc_has_data") Flag q.resc_data (mark close_brace_byte) last in
     let p6 = fact_pieces (codes "desc_has_data") Flag q.has_data comma p7 in
     let p5 = fact_pieces (codes "desc_block") Flag q.block comma p6 in
     let p4 = fact_pieces (codes "desc_is_global") Flag q.global comma p5 in
@@ -213,7 +214,7 @@ start_forth tree h =
       all = refl;
       rest = record { more = tree.statements; all = refl; each = h; is = refl };
     } in
-    let r7 = fact_forth (codes "resc_has_data") Flag close_brace (head7 q.service q.parent q.close q.global q.block q.has_data) tree q.resc_data last r8 in
+    let r7 = fact_forth (codes "resc_has_data") Flag (mark close_brace_byte) (head7 q.service q.parent q.close q.global q.block q.has_data) tree q.resc_data last r8 in
     let r6 = fact_forth (codes "desc_has_data") Flag comma (head6 q.service q.parent q.close q.global q.block) tree q.has_data p7 r7 in
     let r5 = fact_forth (codes "desc_block") Flag comma (head5 q.service q.parent q.close q.global) tree q.block p6 r6 in
     let r4 = fact_forth (codes "desc_is_global") Flag comma (head4 q.service q.parent q.close) tree q.global p5 r5 in

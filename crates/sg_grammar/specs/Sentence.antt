@@ -23,9 +23,6 @@ use Rattle.sg_lex.specs.Marks.{open_brace_byte, close_brace_byte, open_bracket_b
 abbrev pub open_brace : Piece
 open_brace = mark open_brace_byte
 
-abbrev pub close_brace : Piece
-close_brace = mark close_brace_byte
-
 abbrev pub open_bracket : Piece
 open_bracket = mark open_bracket_byte
 
@@ -59,7 +56,7 @@ facts_pieces f more =
     fact_pieces (codes "desc_is_global") Flag f.global comma (
     fact_pieces (codes "desc_block") Flag f.block comma (
     fact_pieces (codes "desc_has_data") Flag f.has_data comma (
-    fact_pieces (codes "resc_has_data") Flag f.resc_data close_brace (
+    fact_pieces (codes "resc_has_data") Flag f.resc_data (mark close_brace_byte) (
     semicolon ∷ more)))))))
 
 -- names, and then stars

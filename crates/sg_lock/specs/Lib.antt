@@ -2,7 +2,7 @@ pub mod Inside
 pub mod LockAlikeLaw
 pub mod LockBlockedLaw
 pub mod LockFacts
-pub mod LockObject
+pub mod LockModel
 pub mod LockRow
 pub mod LockShapeLaw
 pub mod LockSound

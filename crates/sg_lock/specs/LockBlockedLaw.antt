@@ -15,7 +15,8 @@ use Rattle.sg_facts.specs.Laws.{BlockedStays, state_in, leaves_blocked}
 use Rattle.sg_facts.proofs.RowLists.{row_at-more, row_at-changed, row_at-left}
 use Rattle.sg_slots.proofs.RowLaws.{two_rows, on_another}
 use Rattle.sg_lock.specs.LockFacts.{lock_facts}
-use Rattle.sg_lock.specs.LockTable.{lock_table, lock_answer, take_answer, owner_in}
+use Rattle.sg_lock.specs.LockTable.{lock_table, take_answer, owner_in}
+use Rattle.sg_lock.specs.Inside.LockAnswer.{lock_answer}
 use Rattle.sg_lock.specs.LockSound.{IsLockSound}
 
 abbrev done_ok : Option Reply

@@ -12,9 +12,10 @@ use Rattle.sg_facts.specs.Track.{row_at, new_row, fields_after, word_of, field_a
 use Rattle.sg_facts.specs.Object.{Object, after}
 use Rattle.sg_facts.specs.Sound.{AreFields}
 use Rattle.sg_facts.specs.Laws.{AnswersAndKeeps, Passes}
-use Rattle.sg_slots.proofs.RowLaws.{childless, sound_more, sound_changed, sound_left}
+use Rattle.sg_slots.proofs.RowLaws.{childless, next_of_first, sound_more, sound_changed, sound_left}
 use Rattle.sg_lock.specs.LockFacts.{lock_facts}
-use Rattle.sg_lock.specs.LockTable.{lock_table, lock_answer, owner_in}
+use Rattle.sg_lock.specs.LockTable.{lock_table, owner_in}
+use Rattle.sg_lock.specs.Inside.LockAnswer.{lock_answer}
 use Rattle.sg_lock.specs.LockSound.{IsLockSound, IsOwned, is_owner_in}
 
 -- ---- the fields of a lock's row after a take and a release
@@ -65,20 +66,10 @@ module _ (o : Object) (client seq desc : ℕ) (args : List Value) where
       record { general = kept.0; owned = kept.1 }
   keeps_at (suc (suc (suc (suc (suc n))))) good sound passes is = absurd (cc is)
 
-next_at : (fun given owner client : ℕ) (good : Good) → lock_answer fun given owner client ≡ Some (Ok good) → (fun_at lock_facts.funs fun).creation ≡ true → good.desc ≡ given + 1
-next_at zero given owner client good is makes = absurd (cc makes)
-next_at (suc zero) given owner client good is makes =
-    let one : record { desc = given + 1; words = []; bytes = [] } ≡ good = cc is in
-    sym (ap (λ g. g.desc) one)
-next_at (suc (suc zero)) given owner client good is makes = absurd (cc makes)
-next_at (suc (suc (suc zero))) given owner client good is makes = absurd (cc makes)
-next_at (suc (suc (suc (suc zero)))) given owner client good is makes = absurd (cc makes)
-next_at (suc (suc (suc (suc (suc n))))) given owner client good is makes = absurd (cc makes)
-
 pub lock_answers_and_keeps : AnswersAndKeeps lock_facts lock_table IsLockSound
 lock_answers_and_keeps = record {
   empty = record { general = record { rows = tt; files = tt }; owned = tt };
   general = λ o sound. sound.general;
   keeps = λ o call good sound passes is. keeps_at o call.client call.seq call.desc call.args call.fun good sound passes is;
-  next = λ o call good is makes. next_at call.fun o.given (owner_in (row_at o.rows call.desc)) call.client good is makes;
+  next = λ o call. next_of_first lock_facts o.given (λ f. lock_answer f o.given (owner_in (row_at o.rows call.desc)) call.client) (record { desc = o.given + 1; words = []; bytes = [] }) refl refl refl call.fun;
 }

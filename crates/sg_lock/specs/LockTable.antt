@@ -49,13 +49,9 @@ lock_answer_of lock_release_fun given owner client = release_answer owner client
 lock_answer_of lock_free_fun given owner client = free_answer owner
 lock_answer_of no_lock_fun given owner client = Some (Refused NotFound)
 
--- the answer by the function's number
-abbrev pub lock_answer : ℕ → ℕ → ℕ → ℕ → Option Reply
-lock_answer fun given owner client = lock_answer_of (lock_fun fun) given owner client
-
 -- what a service of locks answers a call at an object; None where the caller has to wait
 abbrev pub lock_table : Table
-lock_table o call = lock_answer call.fun o.given (owner_in (row_at o.rows call.desc)) call.client
+lock_table o call = lock_answer_of (lock_fun call.fun) o.given (owner_in (row_at o.rows call.desc)) call.client
 
 -- the parts of an Ok: two of lock_alloc, one of the others
 abbrev pub lock_parts : ℕ → ℕ

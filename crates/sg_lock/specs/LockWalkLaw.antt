@@ -1,6 +1,6 @@
 -- The lock service rebuilds its locks.
-use Rattle.std.proofs.Common.{◌≡◌, ℕ, zero, suc, ◌+◌, ◌≤◌, Bool, true, false, cond, List, [], ◌∷◌, ◌++◌, Some, map, refl, sym, ◌∙◌, ap, subst, arith}
-use Rattle.std.specs.Prelude.{◌==◌, ◌||◌, ◌&&◌, nat_le}
+use Rattle.std.proofs.Common.{◌≡◌, ℕ, ◌+◌, ◌≤◌, true, false, cond, List, [], ◌∷◌, ◌++◌, Some, map, refl, sym, ◌∙◌, ap, subst, arith}
+use Rattle.std.specs.Prelude.{◌==◌, ◌&&◌, nat_le}
 use Rattle.std.proofs.lemmas.Bool.Decides.{nat_tests}
 use Rattle.sg_base.specs.declared.value.Value.{Value}
 use Rattle.sg_base.specs.declared.value.Value.TheVariants.{Word, Text}
@@ -22,6 +22,7 @@ use Rattle.sg_lock.specs.LockFacts.{lock_facts}
 use Rattle.sg_lock.specs.LockTable.{lock_table, owner_in, take_answer}
 use Rattle.sg_lock.specs.LockSound.{IsLockSound, IsOwned, is_owner_in}
 use Rattle.sg_lock.specs.LockSoundLaw.{lock_answers_and_keeps}
+use Rattle.sg_slots.proofs.RowLaws.{first_makes, one_pair}
 use Rattle.sg_walk_laws.specs.Replays.{AnswersCreations, AnswersReplays, AnswersSteps, IsAnsweredOk}
 use Rattle.sg_walk_laws.proofs.Found.{met}
 use Rattle.sg_walk_laws.proofs.Goes.{walk_goes_on}
@@ -30,20 +31,10 @@ use Rattle.sg_walk_laws.proofs.Steps.{begins, both_true, rest_meets, spots_meet}
 
 -- lock_alloc alone makes locks, and lock_take is the one step
 one_creation : (f : ℕ) → (fun_at lock_facts.funs f).creation ≡ true → f ≡ 1
-one_creation zero is = absurd (cc is)
-one_creation (suc zero) is = refl
-one_creation (suc (suc zero)) is = absurd (cc is)
-one_creation (suc (suc (suc zero))) is = absurd (cc is)
-one_creation (suc (suc (suc (suc zero)))) is = absurd (cc is)
-one_creation (suc (suc (suc (suc (suc n))))) is = absurd (cc is)
+one_creation f is = first_makes lock_facts.funs refl f is
 
 one_step : (state f : ℕ) → has_pair lock_facts.steps state f ≡ true → (state ≡ 1) × (f ≡ 2)
-one_step state f is = at (1 == state) (2 == f) refl refl is
-  where
-    at : (a b : Bool) → (1 == state) ≡ a → (2 == f) ≡ b → ((a && b) || false) ≡ true → (state ≡ 1) × (f ≡ 2)
-    at true true x y is = (grind (arith, nat_tests, x), grind (arith, nat_tests, y))
-    at true false x y is = absurd (cc is)
-    at false b x y is = absurd (cc is)
+one_step state f is = one_pair 1 2 state f is
 
 module _ (declared : ℕ) (moves steps : List (ℕ × ℕ)) where
   abbrev i : Declared

@@ -4,7 +4,8 @@ ghost use Rattle.sg_facts.specs.Facts.{facts_of};
 ghost use Rattle.sg_lock.specs.LockFacts.{lock_facts};
 
 use crate::functions::{ALLOC, FREE, RELEASE, TAKE};
-use sg_facts::{Effect, FieldShape, FunShape, Kind, Leaves, Parents, Shape};
+use sg_facts::{Effect, FieldShape, FunShape, Kind, Leaves, Shape};
+use sg_slots::SINGLE_ROWS;
 
 static FIELDS: [FieldShape; 1] = [FieldShape {
     name: b"owner",
@@ -58,15 +59,10 @@ pub fn lock_shape() -> Shape
 {
     Shape {
         name: b"lock",
-        parents: Parents::Never,
-        subtree: false,
-        global: true,
-        block: true,
-        has_data: true,
-        resc_data: false,
         fields: &FIELDS,
         funs: &FUNS,
         moves: &MOVES,
         steps: &STEPS,
+        ..SINGLE_ROWS
     }
 }

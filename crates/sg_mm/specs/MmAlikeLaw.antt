@@ -20,7 +20,8 @@ use Rattle.sg_walk_laws.proofs.Served.{row_held, row_live}
 use Rattle.sg_mm.specs.MmFacts.{mm_facts}
 use Rattle.sg_mm.specs.Inside.MmPlaces.{first_at, first_passes, none_passes_it, page_is_first, place_of_test, some_first, two_apart}
 use Rattle.sg_mm.specs.MmSound.{IsMmSound}
-use Rattle.sg_mm.specs.MmTable.{find_answer, is_at, mm_answer, mm_table, number_at, page_at}
+use Rattle.sg_mm.specs.MmTable.{find_answer, is_at, mm_table, number_at, page_at}
+use Rattle.sg_mm.specs.Inside.MmAnswer.{mm_answer}
 
 -- a new page, or a refusal, under either service's next id
 same_page : (names : List (ℕ × ℕ)) (given given' : ℕ) (b c : Bool) → c ≡ b

@@ -27,7 +27,8 @@ use Rattle.sg_walk_laws.proofs.Subtrees.{sound_without}
 use Rattle.sg_mm.specs.MmFacts.{mm_facts}
 use Rattle.sg_mm.specs.Inside.MmPlaces.{own_left, own_more}
 use Rattle.sg_mm.specs.MmSound.{IsMmSound, IsOfClient}
-use Rattle.sg_mm.specs.MmTable.{is_at, mm_answer, mm_table, number_at, page_answer}
+use Rattle.sg_mm.specs.MmTable.{is_at, mm_table, number_at, page_answer}
+use Rattle.sg_mm.specs.Inside.MmAnswer.{mm_answer}
 
 -- an Ok of a new page: its place was free, and its id is the next one
 new_page : (rows : List Row) (given space addr : ℕ) (good : Good) → page_answer rows given space addr ≡ Some (Ok good)

@@ -63,13 +63,9 @@ mm_answer_of mm_release_page_fun o call = done 0
 mm_answer_of mm_find_fun o call = find_answer (page_at o.rows (number_at call 0) (number_at call 1))
 mm_answer_of no_mm_fun o call = Some (Refused NotFound)
 
--- the answer by the function's number
-abbrev pub mm_answer : ℕ → Object → Call → Option Reply
-mm_answer fun o call = mm_answer_of (mm_fun fun) o call
-
 -- what a service of pages answers a call at an object; no caller has to wait
 abbrev pub mm_table : Table
-mm_table o call = mm_answer call.fun o call
+mm_table o call = mm_answer_of (mm_fun call.fun) o call
 
 -- the parts of an Ok: three of mman_alias_page, none of mman_find, two of the others
 abbrev pub mm_parts : ℕ → ℕ

@@ -144,26 +144,22 @@ module _ (facts : Facts) (call : Call) (good : Good) where
     pub on : (fun_at facts.funs call.fun).query ≡ false → (fun_at facts.funs call.fun).creation ≡ false → IsOwnRow rows call.client call.desc
     pub next : (fun_at facts.funs call.fun).creation ≡ true → good.desc ≡ given + 1
 
-  same_id_at : (r : Row) → (change_at facts call good r).id ≡ r.id
-  same_id_at r = at (r.id == call.desc)
+  -- what it keeps of the row that it changes, it keeps of each
+  kept_at : (part : Row → ℕ) → ((r : Row) → part (row_after facts call good r) ≡ part r) → (r : Row) → part (change_at facts call good r) ≡ part r
+  kept_at part keeps r = at (r.id == call.desc)
     where
-      at : (b : Bool) → (cond b (row_after facts call good r) r).id ≡ r.id
-      at true = refl
+      at : (b : Bool) → part (cond b (row_after facts call good r) r) ≡ part r
+      at true = keeps r
       at false = refl
+
+  same_id_at : (r : Row) → (change_at facts call good r).id ≡ r.id
+  same_id_at = kept_at (λ r. r.id) (λ r. refl)
 
   same_creator_at : (r : Row) → (change_at facts call good r).creator ≡ r.creator
-  same_creator_at r = at (r.id == call.desc)
-    where
-      at : (b : Bool) → (cond b (row_after facts call good r) r).creator ≡ r.creator
-      at true = refl
-      at false = refl
+  same_creator_at = kept_at (λ r. r.creator) (λ r. refl)
 
   same_parent_at : (r : Row) → (change_at facts call good r).parent ≡ r.parent
-  same_parent_at r = at (r.id == call.desc)
-    where
-      at : (b : Bool) → (cond b (row_after facts call good r) r).parent ≡ r.parent
-      at true = refl
-      at false = refl
+  same_parent_at = kept_at (λ r. r.parent) (λ r. refl)
 
   -- it leaves the rows of others
   module _ (rows : List Row) (given d : ℕ) (own : AreOwn rows) (acts : IsOnOwn rows given) (other : call.client ≡ d → ⊥) where

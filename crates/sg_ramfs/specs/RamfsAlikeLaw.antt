@@ -25,7 +25,8 @@ use Rattle.sg_ramfs.specs.RamfsFacts.{ramfs_facts, tread, twrite}
 use Rattle.sg_ramfs.specs.Inside.RamfsPaths.{IsBelow, SameStep, below, no_path, same_path}
 use Rattle.sg_ramfs.specs.RamfsSound.{IsRamfsSound}
 use Rattle.sg_ramfs.specs.RamfsSoundLaw.{parent_lives, parent_row, rows_below}
-use Rattle.sg_ramfs.specs.RamfsTable.{file_of, is_bad_name, most_read, moved, ramfs_answer, ramfs_table, read_answer, seek_answer, split_answer, write_answer}
+use Rattle.sg_ramfs.specs.RamfsTable.{file_of, is_bad_name, most_read, moved, ramfs_table, read_answer, seek_answer, split_answer, write_answer}
+use Rattle.sg_ramfs.specs.Inside.RamfsAnswer.{ramfs_answer}
 
 -- ---- answers that say the same
 

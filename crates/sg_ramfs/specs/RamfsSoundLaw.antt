@@ -23,7 +23,7 @@ use Rattle.sg_facts.specs.Sound.{AreFields, AreRows, IsOfField, IsRow, IsSound}
 use Rattle.sg_facts.specs.Laws.{AnswersAndKeeps, Passes}
 use Rattle.sg_facts.proofs.RowLists.{more, changed, id_of_row, is_live-more, live_of_row}
 use Rattle.sg_slots.proofs.FoundRows.{all_rows}
-use Rattle.sg_slots.proofs.RowLaws.{childless, row_of_call, sound_changed}
+use Rattle.sg_slots.proofs.RowLaws.{childless, first_makes, row_of_call, sound_changed}
 use Rattle.sg_slots.proofs.SoundRows.{change, change_id, none_applies, sound_more, sound_left}
 use Rattle.sg_walk_laws.proofs.Creating.{below_it}
 use Rattle.sg_walk_laws.proofs.Files.{are_files_patched}
@@ -31,7 +31,8 @@ use Rattle.sg_walk_laws.proofs.Found.{above, from_left, met, within}
 use Rattle.sg_ramfs.specs.RamfsFacts.{ramfs_facts, tread, twrite}
 use Rattle.sg_ramfs.specs.Inside.RamfsPaths.{IsBelow, path_changed, path_last, path_left, path_more}
 use Rattle.sg_ramfs.specs.RamfsSound.{IsFile, IsPlaced, IsRamfsSound}
-use Rattle.sg_ramfs.specs.RamfsTable.{file_of, is_bad_name, moved, most_read, ramfs_answer, ramfs_table, read_answer, seek_answer, split_answer, write_answer}
+use Rattle.sg_ramfs.specs.RamfsTable.{file_of, is_bad_name, moved, most_read, ramfs_table, read_answer, seek_answer, split_answer, write_answer}
+use Rattle.sg_ramfs.specs.Inside.RamfsAnswer.{ramfs_answer}
 
 -- ---- what an Ok tells
 
@@ -392,21 +393,13 @@ module _ (o : Object) (client seq desc : ℕ) (args : List Value) where
   keeps_at (suc (suc (suc (suc (suc zero))))) good sound passes is = releases good sound passes
   keeps_at (suc (suc (suc (suc (suc (suc n)))))) good sound passes is = absurd (cc is)
 
--- a descriptor that is made has the next id
-next_at : (fun : ℕ) (o : Object) (call : Call) (good : Good) → ramfs_answer fun o call ≡ Some (Ok good) → (fun_at ramfs_facts.funs fun).creation ≡ true → good.desc ≡ o.given + 1
-next_at zero o call good is makes = absurd (cc makes)
-next_at (suc zero) o call good is makes = (split_ok o.given (path_of o.rows call.desc) (first_text call.args) good is).2
-next_at (suc (suc zero)) o call good is makes = absurd (cc makes)
-next_at (suc (suc (suc zero))) o call good is makes = absurd (cc makes)
-next_at (suc (suc (suc (suc zero)))) o call good is makes = absurd (cc makes)
-next_at (suc (suc (suc (suc (suc zero))))) o call good is makes = absurd (cc makes)
-next_at (suc (suc (suc (suc (suc (suc n)))))) o call good is makes = absurd (cc makes)
-
 -- the law
 pub ramfs_answers_and_keeps : AnswersAndKeeps ramfs_facts ramfs_table IsRamfsSound
 ramfs_answers_and_keeps = record {
   empty = record { general = record { rows = tt; files = tt }; placed = tt; files = tt };
   general = λ o sound. sound.general;
   keeps = λ o call good sound passes is. keeps_at o call.client call.seq call.desc call.args call.fun good sound passes is;
-  next = λ o call good is makes. next_at call.fun o call good is makes;
+  next = λ o call good is makes.
+      let first : ramfs_answer 1 o call ≡ Some (Ok good) = ap (λ f. ramfs_answer f o call) (sym (first_makes ramfs_facts.funs refl call.fun makes)) ∙ is in
+      (split_ok o.given (path_of o.rows call.desc) (first_text call.args) good first).2;
 }

@@ -83,13 +83,9 @@ ramfs_answer_of ramfs_seek_fun o call = seek_answer (word_of (arg_at call 0))
 ramfs_answer_of ramfs_release_fun o call = done 0
 ramfs_answer_of no_ramfs_fun o call = Some (Refused NotFound)
 
--- the answer by the function's number
-abbrev pub ramfs_answer : ℕ → Object → Call → Option Reply
-ramfs_answer fun o call = ramfs_answer_of (ramfs_fun fun) o call
-
 -- what a service of files answers a call at an object; no caller has to wait
 abbrev pub ramfs_table : Table
-ramfs_table o call = ramfs_answer call.fun o call
+ramfs_table o call = ramfs_answer_of (ramfs_fun call.fun) o call
 
 -- the parts of an Ok: two of tsplit and twrite, one of the others
 abbrev pub ramfs_parts : ℕ → ℕ

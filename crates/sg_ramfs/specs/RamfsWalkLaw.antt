@@ -1,6 +1,6 @@
 -- The file service rebuilds its descriptors.
-use Rattle.std.proofs.Common.{◌≡◌, ℕ, zero, suc, ◌+◌, ◌≤◌, Bool, true, false, cond, List, [], ◌∷◌, ◌++◌, Some, length, map, refl, sym, ◌∙◌, ap, subst, arith}
-use Rattle.std.specs.Prelude.{◌==◌, ◌||◌, ◌&&◌, nat_lt}
+use Rattle.std.proofs.Common.{◌≡◌, ℕ, ◌+◌, ◌≤◌, true, false, cond, List, [], ◌∷◌, ◌++◌, Some, length, map, refl, sym, ◌∙◌, ap, subst, arith}
+use Rattle.std.specs.Prelude.{nat_lt}
 use Rattle.std.proofs.lemmas.Bool.Decides.{nat_tests}
 use Rattle.sg_base.specs.declared.value.Value.{Value}
 use Rattle.sg_base.specs.declared.value.Value.TheVariants.{Word, Text}
@@ -24,6 +24,7 @@ use Rattle.sg_ramfs.specs.RamfsFacts.{ramfs_facts}
 use Rattle.sg_ramfs.specs.RamfsTable.{is_bad_name, ramfs_table, seek_answer, split_answer}
 use Rattle.sg_ramfs.specs.RamfsSound.{IsPlaced, IsRamfsSound}
 use Rattle.sg_ramfs.specs.RamfsSoundLaw.{ramfs_answers_and_keeps}
+use Rattle.sg_slots.proofs.RowLaws.{first_makes, one_pair}
 use Rattle.sg_walk_laws.proofs.Paths.{path_below}
 use Rattle.sg_walk_laws.specs.Replays.{AnswersCreations, AnswersReplays, AnswersSteps, IsAnsweredOk}
 use Rattle.sg_walk_laws.proofs.Found.{met}
@@ -32,21 +33,10 @@ use Rattle.sg_walk_laws.proofs.Service.{begun_by, of_facts, step_of}
 
 -- tsplit alone makes descriptors, and tseek is the one step
 one_creation : (f : ℕ) → (fun_at ramfs_facts.funs f).creation ≡ true → f ≡ 1
-one_creation zero is = absurd (cc is)
-one_creation (suc zero) is = refl
-one_creation (suc (suc zero)) is = absurd (cc is)
-one_creation (suc (suc (suc zero))) is = absurd (cc is)
-one_creation (suc (suc (suc (suc zero)))) is = absurd (cc is)
-one_creation (suc (suc (suc (suc (suc zero))))) is = absurd (cc is)
-one_creation (suc (suc (suc (suc (suc (suc n)))))) is = absurd (cc is)
+one_creation f is = first_makes ramfs_facts.funs refl f is
 
 one_step : (state f : ℕ) → has_pair ramfs_facts.steps state f ≡ true → f ≡ 4
-one_step state f is = at (1 == state) (4 == f) refl is
-  where
-    at : (a b : Bool) → (4 == f) ≡ b → ((a && b) || false) ≡ true → f ≡ 4
-    at true true y is = grind (arith, nat_tests, y)
-    at true false y is = absurd (cc is)
-    at false b y is = absurd (cc is)
+one_step state f is = (one_pair 1 4 state f is).1
 
 module _ (declared : ℕ) (moves steps : List (ℕ × ℕ)) where
   abbrev i : Declared

@@ -17,7 +17,8 @@ use Rattle.sg_facts.specs.Laws.{AnswersAlike, Passes, state_in}
 use Rattle.sg_facts.proofs.RowLists.{id_of_row, row_of_live}
 use Rattle.sg_slots.proofs.SoundRows.{none_applies}
 use Rattle.sg_sched.specs.SchedFacts.{sched_facts}
-use Rattle.sg_sched.specs.SchedTable.{sched_table, sched_answer, sched_wait_answer, next_answer, first_ready, next_rank, prio_of, rank_of, is_ready}
+use Rattle.sg_sched.specs.SchedTable.{sched_table, sched_wait_answer, next_answer, first_ready, next_rank, prio_of, rank_of, is_ready}
+use Rattle.sg_sched.specs.Inside.SchedAnswer.{sched_answer}
 use Rattle.sg_sched.specs.SchedSound.{IsSchedSound}
 use Rattle.sg_slots.proofs.FoundRows.{all_rows, same_test}
 use Rattle.sg_sched.specs.Inside.SchedFirst.{first_meets, first_least, none_ready, neither_by_rank}

@@ -14,7 +14,8 @@ use Rattle.sg_facts.specs.Laws.{BlockedStays, state_in, leaves_blocked}
 use Rattle.sg_facts.proofs.RowLists.{id_of_row, row_at-more, row_at-left}
 use Rattle.sg_slots.proofs.SoundRows.{change, change_id, found_changed}
 use Rattle.sg_sched.specs.SchedFacts.{sched_facts}
-use Rattle.sg_sched.specs.SchedTable.{sched_table, sched_answer, sched_wait_answer, next_answer, first_ready}
+use Rattle.sg_sched.specs.SchedTable.{sched_table, sched_wait_answer, next_answer, first_ready}
+use Rattle.sg_sched.specs.Inside.SchedAnswer.{sched_answer}
 use Rattle.sg_sched.specs.SchedSound.{IsSchedSound}
 
 -- a wait that blocks finds its thread asleep

@@ -20,7 +20,8 @@ use Rattle.sg_facts.specs.Object.{Object, after}
 use Rattle.sg_facts.specs.Laws.{ShapeAllows, CountsSlowly, Passes, state_in, slow, most_set}
 use Rattle.sg_slots.proofs.SoundRows.{change}
 use Rattle.sg_sched.specs.SchedFacts.{sched_facts}
-use Rattle.sg_sched.specs.SchedTable.{sched_table, sched_answer, sched_wait_answer, next_answer, first_ready, next_rank}
+use Rattle.sg_sched.specs.SchedTable.{sched_table, sched_wait_answer, next_answer, first_ready, next_rank}
+use Rattle.sg_sched.specs.Inside.SchedAnswer.{sched_answer}
 use Rattle.sg_sched.specs.SchedSound.{IsSchedSound}
 use Rattle.sg_sched.specs.SchedBlockedLaw.{next_told}
 use Rattle.sg_sched.specs.SchedSoundLaw.{most_is_counted, never_placed}

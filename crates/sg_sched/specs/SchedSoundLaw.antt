@@ -20,8 +20,10 @@ use Rattle.sg_facts.specs.Sound.{IsOfField, IsRow, AreRows, AreFields}
 use Rattle.sg_facts.specs.Laws.{AnswersAndKeeps, Passes, whole}
 use Rattle.sg_facts.proofs.RowLists.{more, changed, left, other}
 use Rattle.sg_slots.proofs.SoundRows.{none_applies, change, change_id, sound_more, sound_changed, sound_left}
+use Rattle.sg_slots.proofs.RowLaws.{next_of_first}
 use Rattle.sg_sched.specs.SchedFacts.{sched_facts}
-use Rattle.sg_sched.specs.SchedTable.{sched_table, sched_answer, sched_wait_answer, next_rank, rank_of}
+use Rattle.sg_sched.specs.SchedTable.{sched_table, sched_wait_answer, next_rank, rank_of}
+use Rattle.sg_sched.specs.Inside.SchedAnswer.{sched_answer}
 use Rattle.sg_sched.specs.SchedSound.{IsSchedSound, IsRanked}
 use Rattle.sg_sched.specs.Inside.SchedRanks.{most, own_more, own_left, own_changed, own_set}
 
@@ -201,26 +203,11 @@ module _ (o : Object) (client seq desc : ℕ) (args : List Value) where
       }
   keeps_at (suc (suc (suc (suc (suc (suc (suc (suc (suc n))))))))) good sound passes is = absurd (cc is)
 
--- a thread that is made has the next id
-next_at : (fun : ℕ) (o : Object) (call : Call) (good : Good) → sched_answer fun o call ≡ Some (Ok good) → (fun_at sched_facts.funs fun).creation ≡ true → good.desc ≡ o.given + 1
-next_at zero o call good is makes = absurd (cc makes)
-next_at (suc zero) o call good is makes =
-    let one : with_rank (o.given + 1) (next_rank o.rows) ≡ good = cc is in
-    sym (ap (λ g. g.desc) one)
-next_at (suc (suc zero)) o call good is makes = absurd (cc makes)
-next_at (suc (suc (suc zero))) o call good is makes = absurd (cc makes)
-next_at (suc (suc (suc (suc zero)))) o call good is makes = absurd (cc makes)
-next_at (suc (suc (suc (suc (suc zero))))) o call good is makes = absurd (cc makes)
-next_at (suc (suc (suc (suc (suc (suc zero)))))) o call good is makes = absurd (cc makes)
-next_at (suc (suc (suc (suc (suc (suc (suc zero))))))) o call good is makes = absurd (cc makes)
-next_at (suc (suc (suc (suc (suc (suc (suc (suc zero)))))))) o call good is makes = absurd (cc makes)
-next_at (suc (suc (suc (suc (suc (suc (suc (suc (suc n))))))))) o call good is makes = absurd (cc makes)
-
 -- the law
 pub sched_answers_and_keeps : AnswersAndKeeps sched_facts sched_table IsSchedSound
 sched_answers_and_keeps = record {
   empty = record { general = record { rows = tt; files = tt }; ranked = tt; apart = tt };
   general = λ o sound. sound.general;
   keeps = λ o call good sound passes is. keeps_at o call.client call.seq call.desc call.args call.fun good sound passes is;
-  next = λ o call good is makes. next_at call.fun o call good is makes;
+  next = λ o call. next_of_first sched_facts o.given (λ f. sched_answer f o call) (with_rank (o.given + 1) (next_rank o.rows)) refl refl refl call.fun;
 }

@@ -89,13 +89,9 @@ sched_answer_of sched_place_fun o call = done 0
 sched_answer_of sched_exit_fun o call = done 0
 sched_answer_of no_sched_fun o call = Some (Refused NotFound)
 
--- the answer by the function's number
-abbrev pub sched_answer : ℕ → Object → Call → Option Reply
-sched_answer fun o call = sched_answer_of (sched_fun fun) o call
-
 -- what a service of threads answers a call at an object; None where the caller has to wait
 abbrev pub sched_table : Table
-sched_table o call = sched_answer call.fun o call
+sched_table o call = sched_answer_of (sched_fun call.fun) o call
 
 -- the parts of an Ok: two of sched_create_thd, none of sched_wait and sched_next, one of the others
 abbrev pub sched_parts : ℕ → ℕ

@@ -1,5 +1,5 @@
 -- The thread service rebuilds its threads.
-use Rattle.std.proofs.Common.{◌≡◌, ℕ, zero, suc, ◌+◌, ◌^◌, ◌<◌, ◌≤◌, Bool, true, false, List, [], ◌∷◌, Some, map, refl, sym, subst, inl, inr, ◌⊎◌, arith}
+use Rattle.std.proofs.Common.{◌≡◌, ℕ, ◌+◌, ◌^◌, ◌<◌, ◌≤◌, Bool, true, false, List, [], ◌∷◌, Some, map, refl, sym, subst, inl, inr, ◌⊎◌, arith}
 use Rattle.std.specs.Prelude.{◌==◌, ◌||◌, ◌&&◌, fold, max}
 use Rattle.std.proofs.lemmas.Bool.Decides.{nat_tests}
 use Rattle.sg_base.specs.declared.value.Value.{Value}
@@ -21,6 +21,7 @@ use Rattle.sg_sched.specs.SchedTable.{next_rank, rank_of, sched_table}
 use Rattle.sg_sched.specs.SchedSound.{IsSchedSound}
 use Rattle.sg_facts.specs.Counted.{most_counted, most_in}
 use Rattle.sg_sched.specs.SchedSoundLaw.{sched_answers_and_keeps}
+use Rattle.sg_slots.proofs.RowLaws.{first_makes}
 use Rattle.sg_walk_laws.specs.Replays.{AnswersCreations, AnswersReplays, AnswersSteps, IsAnsweredOk}
 use Rattle.sg_walk_laws.proofs.Found.{met}
 use Rattle.sg_walk_laws.proofs.Goes.{walk_goes_on}
@@ -28,16 +29,7 @@ use Rattle.sg_walk_laws.proofs.Service.{begun_by, of_facts, step_of}
 
 -- sched_create_thd alone makes threads; sched_sleep and sched_place are the steps
 one_creation : (f : ℕ) → (fun_at sched_facts.funs f).creation ≡ true → f ≡ 1
-one_creation zero is = absurd (cc is)
-one_creation (suc zero) is = refl
-one_creation (suc (suc zero)) is = absurd (cc is)
-one_creation (suc (suc (suc zero))) is = absurd (cc is)
-one_creation (suc (suc (suc (suc zero)))) is = absurd (cc is)
-one_creation (suc (suc (suc (suc (suc zero))))) is = absurd (cc is)
-one_creation (suc (suc (suc (suc (suc (suc zero)))))) is = absurd (cc is)
-one_creation (suc (suc (suc (suc (suc (suc (suc zero))))))) is = absurd (cc is)
-one_creation (suc (suc (suc (suc (suc (suc (suc (suc zero)))))))) is = absurd (cc is)
-one_creation (suc (suc (suc (suc (suc (suc (suc (suc (suc n))))))))) is = absurd (cc is)
+one_creation f is = first_makes sched_facts.funs refl f is
 
 two_steps : (state f : ℕ) → has_pair sched_facts.steps state f ≡ true → (f ≡ 3) ⊎ (f ≡ 7)
 two_steps state f is = at (1 == state) (3 == f) (7 == f) refl refl is

@@ -4,7 +4,8 @@ ghost use Rattle.sg_facts.specs.Facts.{facts_of};
 ghost use Rattle.sg_sched.specs.SchedFacts.{sched_facts};
 
 use crate::functions::{CREATE, EXIT, PLACE, SLEEP, WAIT, WAKEUP, YIELD};
-use sg_facts::{Effect, FieldShape, FunShape, Kind, Leaves, Parents, Shape};
+use sg_facts::{Effect, FieldShape, FunShape, Kind, Leaves, Shape};
+use sg_slots::SINGLE_ROWS;
 
 static FIELDS: [FieldShape; 2] = [
     FieldShape {
@@ -94,15 +95,10 @@ pub fn sched_shape() -> Shape
 {
     Shape {
         name: b"sched",
-        parents: Parents::Never,
-        subtree: false,
-        global: true,
-        block: true,
-        has_data: true,
-        resc_data: false,
         fields: &FIELDS,
         funs: &FUNS,
         moves: &MOVES,
         steps: &STEPS,
+        ..SINGLE_ROWS
     }
 }

@@ -16,6 +16,7 @@ use Rattle.sg_facts.specs.declared.row.Row.{Row}
 use Rattle.sg_facts.specs.declared.shape.Effect.{Effect}
 use Rattle.sg_facts.specs.Facts.{Facts, Fun, fun_at, no_fun, takes_desc, takes_parent}
 use Rattle.sg_facts.specs.Allowed.{wants_word}
+use Rattle.sg_facts.specs.Interface.{has_pair}
 use Rattle.sg_facts.specs.Limits.{most_live}
 use Rattle.sg_facts.specs.Track.{row_at, is_live, has_child, ends_with, is_ancestor, row_after, word_of}
 use Rattle.sg_facts.specs.Object.{Object, after}
@@ -321,3 +322,43 @@ module _ (facts : Facts) (none : list_any wants_word facts.funs ≡ false) where
     calls = λ o call good is_sound passes is. omega (arith, none_counted (after facts o call (Ok good)).rows);
     replays = λ held call good may replayed is. omega (arith, none_counted (after facts held call (Ok good)).rows);
   }
+
+-- ---- which function makes descriptors, and which step there is
+
+-- no function but the first makes descriptors
+abbrev pub only_first : List Fun → Bool
+only_first [] = true
+only_first (f ∷ funs) = not (list_any (λ g. g.creation) funs)
+
+no_maker : (b c : Bool) → not (b || c) ≡ true → (b ≡ false) × (not c ≡ true)
+no_maker true c is = absurd (cc is)
+no_maker false c is = (refl, is)
+
+none_makes : (funs : List Fun) (n : ℕ) → not (list_any (λ g. g.creation) funs) ≡ true → (unwrap_or (slice_get funs n) no_fun).creation ≡ true → ⊥
+none_makes [] n none is = cc is
+none_makes (g ∷ funs) zero none is = let own = no_maker g.creation (list_any (λ g. g.creation) funs) none in cc (sym own.0 ∙ is)
+none_makes (g ∷ funs) (suc n) none is = none_makes funs n (no_maker g.creation (list_any (λ g. g.creation) funs) none).1 is
+
+-- a function that makes descriptors is the first then
+pub first_makes : (funs : List Fun) → only_first funs ≡ true → (n : ℕ) → (fun_at funs n).creation ≡ true → n ≡ 1
+first_makes funs only zero is = absurd (cc is)
+first_makes [] only (suc n) is = absurd (cc is)
+first_makes (f ∷ funs) only (suc zero) is = refl
+first_makes (f ∷ funs) only (suc (suc n)) is = absurd (none_makes funs n only is)
+
+-- of one pair alone, each part is the one that is asked for
+pub one_pair : (a b state fun : ℕ) → has_pair ((a, b) ∷ []) state fun ≡ true → (state ≡ a) × (fun ≡ b)
+one_pair a b state fun is = at (a == state) (b == fun) refl refl is
+  where
+    at : (x y : Bool) → (a == state) ≡ x → (b == fun) ≡ y → ((x && y) || false) ≡ true → (state ≡ a) × (fun ≡ b)
+    at true true one other both = (grind (arith, nat_tests, one), grind (arith, nat_tests, other))
+    at true false one other both = absurd (cc both)
+    at false y one other both = absurd (cc both)
+
+-- where the first function alone makes descriptors, and answers an Ok with the next id, each new id is the next
+pub next_of_first : (facts : Facts) (given : ℕ) (answer : ℕ → Option Reply) (one : Good) → only_first facts.funs ≡ true → answer 1 ≡ Some (Ok one) → one.desc ≡ given + 1
+    → (fun : ℕ) (good : Good) → answer fun ≡ Some (Ok good) → (fun_at facts.funs fun).creation ≡ true → good.desc ≡ given + 1
+next_of_first facts given answer one only first next fun good is makes =
+    let same : Some (Ok one) ≡ Some (Ok good) = sym first ∙ ap answer (sym (first_makes facts.funs only fun makes)) ∙ is in
+    let goods : one ≡ good = cc same in
+    sym (ap (λ g. g.desc) goods) ∙ next

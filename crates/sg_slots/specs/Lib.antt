@@ -1,3 +1,4 @@
 pub mod Slots
 pub mod Carry
 pub mod Decide
+pub mod RowModel

@@ -4,12 +4,16 @@
 //! - `entry`: what a service keeps of one descriptor (`Entry`)
 //! - `slots`: the entries by service id, and the number of ids given (`Slots`)
 //! - `decision`: what a service decides to do (`Decision`), and how it is done (`carry_out`)
+//! - `service`: a service of single rows (`RowService`), by its rules (`RowRules`), and what their shapes have in common
+//!   (`SINGLE_ROWS`)
 #![tactic(auto)]
 
 mod decision;
 mod entry;
+mod service;
 mod slots;
 
 pub use decision::{Decision, carry_out};
 pub use entry::Entry;
+pub use service::{RowRules, RowService, SINGLE_ROWS};
 pub use slots::Slots;

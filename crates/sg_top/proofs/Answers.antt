@@ -214,6 +214,20 @@ says_good : (command : Command) (source source' : Ends) (ended : Option Ended) (
     → HasRead command source source' ended wanted output → IfSome source.told (SaysRefused command status)
 says_good command source source' ended status wanted output good has = says_by command source source' ended status wanted output good has.read
 
+-- an output that is written whole says whether its bytes are refused
+says_whole : (command : Command) (source source' : Ends) (ended : Option Ended) (status wanted : Status) (output : List ℕ) → status ≡ wanted
+    → (wanted ≡ Done) ⊎ (wanted ≡ Waits) ⊎ (wanted ≡ Refused) → HasRead command source source' ended wanted output → IfSome source.told (SaysRefused command status)
+says_whole command source source' ended status wanted output same (inl done) has = says_good command source source' ended status wanted output (λ is. cc (is, done)) has
+says_whole command source source' ended status wanted output same (inr (inl waits)) has = says_good command source source' ended status wanted output (λ is. cc (is, waits)) has
+says_whole command source source' ended status wanted output same (inr (inr two)) has = says_refused command source.told status (inl (same ∙ two))
+
+-- a status of an output is neither that of other words nor one of a fault or of no memory
+no_fault : (status wanted : Status) → status ≡ wanted → (wanted ≡ Done) ⊎ (wanted ≡ Waits) ⊎ (wanted ≡ Refused)
+    → (status ≡ OtherWords → ⊥) × (status ≡ ReadFault → ⊥) × (status ≡ WriteFault → ⊥) × (status ≡ NoMemory → ⊥)
+no_fault status wanted same (inl done) = (λ is. cc (is, same, done), λ is. cc (is, same, done), λ is. cc (is, same, done), λ is. cc (is, same, done))
+no_fault status wanted same (inr (inl waits)) = (λ is. cc (is, same, waits), λ is. cc (is, same, waits), λ is. cc (is, same, waits), λ is. cc (is, same, waits))
+no_fault status wanted same (inr (inr two)) = (λ is. cc (is, same, two), λ is. cc (is, same, two), λ is. cc (is, same, two), λ is. cc (is, same, two))
+
 -- a command without an input has no output for bytes
 no_output : (command : Command) (bytes : List ℕ) (ended : Option Ended) (status : Status) (output : List ℕ) → has_input command ≡ false → IsOutput command bytes ended status output → ⊥
 no_output (Play threads trace) bytes ended status output without is = cc without
@@ -240,67 +254,27 @@ no_rise old new same rose = absurd (omega (arith, same, rose))
 answered : (said : Command → Type 0) (source source' sink sink' : Ends) (status : Status) (ended : Option Ended) (command : Command) (wanted : Status) (output : List ℕ)
     → IsOne said → said command → HasRead command source source' ended wanted output → IsWritten sink sink' output wanted status
     → source'.faults ≡ source.faults → sink.faults ≤ sink'.faults → (wanted ≡ Done) ⊎ (wanted ≡ Waits) ⊎ (wanted ≡ Refused) → IsAnswer said source source' sink sink' status ended
-answered said source source' sink sink' status ended command wanted output one is_said has (inl written) steady writes (inl done) =
-    let is_done : status ≡ Done = written.0 ∙ done in
-    let good : wanted ≡ Refused → ⊥ = λ is. cc (sym done ∙ is) in record {
-      words = λ is. absurd (cc (is, is_done));
+answered said source source' sink sink' status ended command wanted output one is_said has (inl (same, appended, kept)) steady writes so =
+    let no = no_fault status wanted same so in
+    let has_as : (s : Status) → status ≡ s → HasRead command source source' ended s output = λ s is. subst (λ w. HasRead command source source' ended w output) (sym same ∙ is) has in record {
+      words = λ is. absurd (no.0 is);
       other_words = λ other. absurd (other command is_said);
-      done = λ is. (command, is_said, output, subst (λ w. HasRead command source source' ended w output) done has, written.1);
-      waits = λ is. absurd (cc (is, is_done));
-      refused = λ is. absurd (cc (is, is_done));
-      refuses = λ c said_c. subst (λ v. IfSome source.told (SaysRefused v status)) (one command c is_said said_c) (says_good command source source' ended status wanted output good has);
-      read_fault = λ is. absurd (cc (is, is_done));
+      done = λ is. (command, is_said, output, has_as Done is, appended);
+      waits = λ is. (command, is_said, output, has_as Waits is, appended);
+      refused = λ is. let no_run = told_refused command source source' ended wanted output (sym same ∙ is) has in (no_run.0, (command, is_said, output, has_as Refused is, appended, no_run.1));
+      refuses = λ c said_c. subst (λ v. IfSome source.told (SaysRefused v status)) (one command c is_said said_c) (says_whole command source source' ended status wanted output same so has);
+      read_fault = λ is. absurd (no.1 is);
       only_read_fault = λ rose. no_rise source.faults source'.faults steady rose;
-      no_read = λ c said_c without. (untouched said source source' ended command c wanted output one is_said has said_c without, λ is. cc (is, is_done));
-      write_fault = λ is. absurd (cc (is, is_done));
-      only_write_fault = λ rose. no_rise sink.faults sink'.faults written.2 rose;
-      no_memory = λ is. absurd (cc (is, is_done));
-      played = λ is c said_c play. good_run command source source' ended wanted output good (ap is_play (one command c is_said said_c) ∙ play) has;
+      no_read = λ c said_c without. (untouched said source source' ended command c wanted output one is_said has said_c without, no.1);
+      write_fault = λ is. absurd (no.2 is);
+      only_write_fault = λ rose. no_rise sink.faults sink'.faults kept rose;
+      no_memory = λ is. absurd (no.3 is);
+      played = λ is c said_c play. good_run command source source' ended wanted output (λ two. elim is [ inl done ↦ cc (same, two, done) | inr waits ↦ cc (same, two, waits) ]) (ap is_play (one command c is_said said_c) ∙ play) has;
       only_played = λ some. (command, is_said, run_play command source source' ended wanted output has some);
       reads = omega (arith, steady);
       writes = writes;
     }
-answered said source source' sink sink' status ended command wanted output one is_said has (inl written) steady writes (inr (inl waits)) =
-    let is_waits : status ≡ Waits = written.0 ∙ waits in
-    let good : wanted ≡ Refused → ⊥ = λ is. cc (sym waits ∙ is) in record {
-      words = λ is. absurd (cc (is, is_waits));
-      other_words = λ other. absurd (other command is_said);
-      waits = λ is. (command, is_said, output, subst (λ w. HasRead command source source' ended w output) waits has, written.1);
-      done = λ is. absurd (cc (is, is_waits));
-      refused = λ is. absurd (cc (is, is_waits));
-      refuses = λ c said_c. subst (λ v. IfSome source.told (SaysRefused v status)) (one command c is_said said_c) (says_good command source source' ended status wanted output good has);
-      read_fault = λ is. absurd (cc (is, is_waits));
-      only_read_fault = λ rose. no_rise source.faults source'.faults steady rose;
-      no_read = λ c said_c without. (untouched said source source' ended command c wanted output one is_said has said_c without, λ is. cc (is, is_waits));
-      write_fault = λ is. absurd (cc (is, is_waits));
-      only_write_fault = λ rose. no_rise sink.faults sink'.faults written.2 rose;
-      no_memory = λ is. absurd (cc (is, is_waits));
-      played = λ is c said_c play. good_run command source source' ended wanted output good (ap is_play (one command c is_said said_c) ∙ play) has;
-      only_played = λ some. (command, is_said, run_play command source source' ended wanted output has some);
-      reads = omega (arith, steady);
-      writes = writes;
-    }
-answered said source source' sink sink' status ended command wanted output one is_said has (inl written) steady writes (inr (inr two)) =
-    let is_refused : status ≡ Refused = written.0 ∙ two in
-    let no_run = told_refused command source source' ended wanted output two has in record {
-      words = λ is. absurd (cc (is, is_refused));
-      other_words = λ other. absurd (other command is_said);
-      done = λ is. absurd (cc (is, is_refused));
-      waits = λ is. absurd (cc (is, is_refused));
-      refused = λ is. (no_run.0, (command, is_said, output, subst (λ w. HasRead command source source' ended w output) two has, written.1, no_run.1));
-      refuses = λ c said_c. says_refused c source.told status (inl is_refused);
-      read_fault = λ is. absurd (cc (is, is_refused));
-      only_read_fault = λ rose. no_rise source.faults source'.faults steady rose;
-      no_read = λ c said_c without. (untouched said source source' ended command c wanted output one is_said has said_c without, λ is. cc (is, is_refused));
-      write_fault = λ is. absurd (cc (is, is_refused));
-      only_write_fault = λ rose. no_rise sink.faults sink'.faults written.2 rose;
-      no_memory = λ is. absurd (cc (is, is_refused));
-      played = λ is c said_c play. absurd (elim is [ inl done ↦ cc (done, is_refused) | inr waits ↦ cc (waits, is_refused) ]);
-      only_played = λ some. (command, is_said, run_play command source source' ended wanted output has some);
-      reads = omega (arith, steady);
-      writes = writes;
-    }
-answered said source source' sink sink' status ended command wanted output one is_said has (inr cut) steady writes done_or_refused = record {
+answered said source source' sink sink' status ended command wanted output one is_said has (inr cut) steady writes so = record {
   words = λ is. absurd (cc (is, cut.0));
   other_words = λ other. absurd (other command is_said);
   done = λ is. absurd (cc (is, cut.0));

@@ -1,5 +1,5 @@
 -- One step more of what a call needs, as the engine does it: it may be done, the world keeps what it keeps behind it, and it is the line of the step.
-use Rattle.std.proofs.Common.{List, Some, [], ap, arith, if◌then◌else◌, length, refl, subst, sym, true, ℕ, ◌++◌, ◌+◌, ◌-◌, ◌<◌, ◌∙◌, ◌∷◌, ◌≡◌, ◌≤◌}
+use Rattle.std.proofs.Common.{List, Some, [], ap, arith, if◌then◌else◌, inl, inr, length, refl, subst, sym, true, ℕ, ◌++◌, ◌+◌, ◌-◌, ◌<◌, ◌∙◌, ◌∷◌, ◌≡◌, ◌≤◌}
 use Rattle.std.proofs.lemmas.Bool.{ltb-true}
 use Rattle.std.specs.declared.result.Result.{Result}
 use Rattle.std.specs.declared.result.Result.TheVariants.{Err, Ok as Done}
@@ -45,8 +45,10 @@ use Rattle.sg_world.proofs.Missing.{due_is}
 use Rattle.sg_world.proofs.Points.{not_stopped, shown_on, stops_noted, stops_struck}
 use Rattle.sg_world.proofs.Upright.{Upright, keeps_upright}
 use Rattle.sg_world.specs.Due.{needs_in}
-use Rattle.sg_world.specs.Steps.{Loads, PassesGuard, Replays, StopsReplay, UsesService}
+use Rattle.sg_world.specs.Steps.{Loads, PassesGuard, Replays, Steps, StopsReplay, UsesService}
 use Rattle.sg_world.specs.Worlded.{IsWorld, Rooms}
+use Rattle.sg_world.specs.declared.did.Did.{Did}
+use Rattle.sg_world.specs.declared.did.Did.TheVariants.{Loaded as DidLoad, Replayed as DidReplay, Struck as DidStop}
 use Rattle.sg_world_laws.proofs.LetIn.{let_in as is_let_in}
 use Rattle.sg_world_laws.proofs.Moves.{its_seat}
 use Rattle.sg_world_laws.proofs.Seating.{HasSeat, has_seat}
@@ -124,6 +126,12 @@ IsTurn z e needs client v start (Done Replayed) new later = WasReplayed z e need
 IsTurn z e needs client v start (Done Struck) new later = WasStruck z e needs client v start new later
 IsTurn z e needs client v start (Done Loaded) new later = WasLoaded z e needs client v start new later
 IsTurn z e needs client v start (Err error) new later = IsUnchanged e start new later × KeepsPresent e new
+
+-- what the engine did, as a step of the world
+abbrev pub step_of : Advanced → Did
+step_of Replayed = DidReplay
+step_of Loaded = DidLoad
+step_of Struck = DidStop
 
 -- ---- in a world
 
@@ -257,7 +265,7 @@ module _ (z : Setting) (e : Engined) (w : WorldView) (rooms : Rooms) (is : IsWor
       start_is : start.asked ≡ asked_after asked 1
       start_is = sym counted ∙ points
 
-      pub replays_line : WasReplayed z e needed (seat_of w client).call.client v start new later → Replays z (with_points w asked) client (as_shown w new)
+      replays_line : WasReplayed z e needed (seat_of w client).call.client v start new later → Replays z (with_points w asked) client (as_shown w new)
       replays_line t =
           let item : Item = item_of_call (Walk t.id t.k (seat_of w client).call.client) t.shown (real_call e t.shown).desc later.asked (Replied (Ok t.did.good) t.did.patch) in
           record {
@@ -281,7 +289,7 @@ module _ (z : Setting) (e : Engined) (w : WorldView) (rooms : Rooms) (is : IsWor
                 ∙ ap (λ r. record w { run = with_item w.run item later.asked; running = r }) t.did.notes.running;
           }
 
-      pub loads_line : WasLoaded z e needed (seat_of w client).call.client v start new later → Loads z (with_points w asked) client (as_shown w new)
+      loads_line : WasLoaded z e needed (seat_of w client).call.client v start new later → Loads z (with_points w asked) client (as_shown w new)
       loads_line t =
           let item : Item = item_of_load (seat_of w client).call.client start.asked t.key (bytes_of e.stored t.key) in
           record {
@@ -301,7 +309,7 @@ module _ (z : Setting) (e : Engined) (w : WorldView) (rooms : Rooms) (is : IsWor
                 (t.did.running ∙ ap (λ b. Some (if b then record v { files = set_file v.files t.key (bytes_of e.stored t.key) } else v)) ((may ToLoad t.is_due).load refl));
           }
 
-      pub strikes_line : WasStruck z e needed (seat_of w client).call.client v start new later → StopsReplay z (with_points w asked) client (as_shown w new)
+      strikes_line : WasStruck z e needed (seat_of w client).call.client v start new later → StopsReplay z (with_points w asked) client (as_shown w new)
       strikes_line t =
           let item : Item = item_of_call (Walk t.id t.k (seat_of w client).call.client) t.shown (real_call e t.shown).desc later.asked Stopped in
           let folded : IsUp z.iface.facts w.run.boots v = subst (IsRunning z.iface.facts w.run.boots) up is.keeps.cell.runs in
@@ -323,3 +331,9 @@ module _ (z : Setting) (e : Engined) (w : WorldView) (rooms : Rooms) (is : IsWor
             now = ap (λ (r : Run). record w { run = r; running = new.cell.running }) (t.did.notes.run ∙ ap (λ (x : Run). with_stop (with_item x item later.asked) later.asked) run)
                 ∙ ap (λ r. record w { run = with_stop (with_item w.run item later.asked) later.asked; running = r }) t.did.notes.running;
           }
+
+      -- the line of what was done
+      pub line_of : (did : Advanced) → IsTurn z e needed (seat_of w client).call.client v start (Done did) new later → Steps z (with_points w asked) client (step_of did) (as_shown w new)
+      line_of Replayed t = replays_line t
+      line_of Loaded t = loads_line t
+      line_of Struck t = inr (inl (strikes_line t))

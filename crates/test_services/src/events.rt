@@ -61,7 +61,7 @@ fn trigger(alloc: Global, n: u64) -> Result<Call, NoMemory>
 
 // A service with one event.
 fn one_event(alloc: Global) -> Result<EventService, Outcome>
-    ensures { IfOk result (λ service. object_of event_body service.events
+    ensures { IfOk result (λ service. object_of event_body service.slots
         ≡ object_of event_body (record { entries = (1, record { creator = 1; count = 0 }) ∷ []; given = 1 })) }
 {
     let mut service = EventService::fresh(alloc);
@@ -81,9 +81,9 @@ fn one_event(alloc: Global) -> Result<EventService, Outcome>
 
 // Triggers an event of count 0.
 fn raise(service: &mut EventService, alloc: Global, count: u32) -> Result<(), Outcome>
-    requires { object_of event_body service.old.events
+    requires { object_of event_body service.old.slots
         ≡ object_of event_body (record { entries = (1, record { creator = 1; count = 0 }) ∷ []; given = 1 }) }
-    ensures { OnOk result (object_of event_body service.new.events
+    ensures { OnOk result (object_of event_body service.new.slots
         ≡ object_of event_body (record { entries = (1, record { creator = 1; count = count }) ∷ []; given = 1 })) }
 {
     match trigger(alloc, u64::from(count)) {
@@ -100,7 +100,7 @@ fn raise(service: &mut EventService, alloc: Global, count: u32) -> Result<(), Ou
 
 // The outcome of a call on the one event, whose count is as told.
 fn outcome(service: &mut EventService, alloc: Global, count: u32, asked: Asked) -> Outcome
-    requires { object_of event_body service.old.events
+    requires { object_of event_body service.old.slots
         ≡ object_of event_body (record { entries = (1, record { creator = 1; count = count }) ∷ []; given = 1 }) }
 {
     let call = match asked {
@@ -119,7 +119,7 @@ fn answered(alloc: Global, count: u32, asked: Asked) -> Result<(Answer, Option<u
     let mut service = one_event(alloc)?;
     raise(&mut service, alloc, count)?;
     let answer = answer_of(outcome(&mut service, alloc, count, asked))?;
-    Ok((answer, service.event(1).map(|event| event.count)))
+    Ok((answer, service.get(1).map(|event| event.count)))
 }
 
 #[test]

@@ -18,10 +18,10 @@ fn make(
     stops: &mut Once,
     client: u8,
 ) -> Result<Good, Outcome>
-    requires fresh { object_of lock_body service.old.locks ≡ empty_object }
+    requires fresh { object_of lock_body service.old.slots ≡ empty_object }
     requires client_first { 1 ≤ client }
     requires client_last { client ≤ 64 }
-    ensures { OnOk result (object_of lock_body service.new.locks
+    ensures { OnOk result (object_of lock_body service.new.slots
         ≡ object_of lock_body (record { entries = (1, record { creator = client; owner = 0 }) ∷ []; given = 1 })) }
 {
     let call = call(alloc, client, 1, 0);
@@ -46,12 +46,12 @@ fn change(
     fun: u8,
     lock: Lock,
 ) -> Result<Good, Outcome>
-    requires lock { object_of lock_body service.old.locks ≡ object_of lock_body (record { entries = (1, lock) ∷ []; given = 1 }) }
+    requires lock { object_of lock_body service.old.slots ≡ object_of lock_body (record { entries = (1, lock) ∷ []; given = 1 }) }
     requires client_first { 1 ≤ client }
     requires client_last { client ≤ 64 }
     requires fun_first { 2 ≤ fun }
     requires fun_last { fun ≤ 4 }
-    ensures { OnOk result (fun < 4 → object_of lock_body service.new.locks
+    ensures { OnOk result (fun < 4 → object_of lock_body service.new.slots
         ≡ object_of lock_body (record { entries = (1, record { creator = lock.creator; owner = if fun == 2 then client else 0 }) ∷ []; given = 1 })) }
 {
     let call = call(alloc, client, fun, 1);
@@ -77,12 +77,12 @@ fn refusal(
     fun: u8,
     lock: Lock,
 ) -> Result<Option<Code>, Outcome>
-    requires lock { object_of lock_body service.old.locks ≡ object_of lock_body (record { entries = (1, lock) ∷ []; given = 1 }) }
+    requires lock { object_of lock_body service.old.slots ≡ object_of lock_body (record { entries = (1, lock) ∷ []; given = 1 }) }
     requires client_first { 1 ≤ client }
     requires client_last { client ≤ 64 }
     requires fun_first { 2 ≤ fun }
     requires fun_last { fun ≤ 4 }
-    ensures { OnOk result (object_of lock_body service.new.locks ≡ object_of lock_body service.old.locks) }
+    ensures { OnOk result (object_of lock_body service.new.slots ≡ object_of lock_body service.old.slots) }
 {
     let call = call(alloc, client, fun, 1);
     match ask(service, alloc, stops, &call) {

@@ -1,22 +1,20 @@
 // A play goes on behind a step that wanted memory.
-ghost use Rattle.std.specs.Prelude.{◌≡◌, IfOk};
+ghost use Rattle.std.specs.Prelude.{◌≡◌};
 ghost use Rattle.sg_lock.specs.LockFacts.{lock_facts};
 ghost use Rattle.sg_play_laws.specs.Playable.{IsPlayable};
 
+use crate::ready::ready;
 use crate::scarce::Scarce;
 use sg_base::{Bytes, NoMemory};
 use sg_check::Accepted;
 use sg_edge::Never;
-use sg_facts::Service;
 use sg_hist::{EndList, Ended};
-use sg_input::{Input, read_input};
 use sg_report::text;
 use sg_script::Script;
 use sg_sim::Play;
 use sg_stub::compile;
 use std::alloc::Global;
 use std::test::Fail;
-use test_interfaces::LOCK;
 
 const SCRIPT: &[u8] =
     b"%%\nclient 1 { lock_alloc(); lock_take($1); lock_release($1); lock_free($1); }\n";
@@ -28,21 +26,7 @@ c1.4 lock_free(1) = ok
 calls 4 boots 1 replays 0
 ";
 
-// The interface of locks, and the script.
-fn ready(alloc: Global) -> Result<(Accepted, Script), Fail>
-    ensures service { IfOk result (λ r. r.0.facts ≡ lock_facts) }
-    ensures playable { IfOk result (λ r. IsPlayable r.0 r.1) }
-{
-    let mut input = Bytes::from_slice(alloc, LOCK)?;
-    input.extend_from_slice(SCRIPT)?;
-    match read_input(alloc, input.as_slice(), &[Scarce::shape()])? {
-        Input::Ready(accepted, script) => Ok((accepted, script)),
-        Input::Refused(_) => Err("refused")?,
-    }
-}
-
-// What was done in a play that wanted memory in one step, and then went on, printed; None where it came to an end. The play is dropped
-// here alone.
+// What was done in a play that wanted memory in one step, and then went on, printed; None where it came to an end.
 fn played_again(
     alloc: Global,
     accepted: &Accepted,
@@ -53,7 +37,9 @@ fn played_again(
 {
     let tables = compile(alloc, accepted)?;
     let mut play = Play::<Scarce, Never>::new(alloc, tables, script, Never::new())?;
-    done_again(alloc, accepted, &mut play)
+    let done = done_again(alloc, accepted, &mut play);
+    play.abandon();
+    done
 }
 
 // What was done in a play that wants memory in one step and goes on, printed; None where it comes to an end, as it never does behind such
@@ -77,7 +63,7 @@ fn done_again(
 #[test]
 fn step_without_memory_is_made_again(rt: HostRuntime) -> Result<(), Fail> {
     let alloc = rt.alloc();
-    let (accepted, script) = ready(alloc)?;
+    let (accepted, script) = ready(alloc, SCRIPT)?;
     let printed = played_again(alloc, &accepted, script)?;
     assert!(rt; printed.is_some_and(|text| text.as_slice() == PRINTED));
     Ok(())

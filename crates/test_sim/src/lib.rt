@@ -1,12 +1,18 @@
 //! Plays, tried from outside.
 //!
+//! - `ready`: the input of a play of locks (`ready`)
 //! - `scarce`: locks that have no memory for one of their calls (`Scarce`)
 //!
 //! The tests:
 //! - `again`: a play goes on behind a step that wanted memory
+//! - `by_hand`: a script is played at once, and by hand in another order
 #![tactic(auto)]
 
 #[cfg(test)]
 mod again;
+#[cfg(test)]
+mod by_hand;
+#[cfg(test)]
+mod ready;
 #[cfg(test)]
 mod scarce;

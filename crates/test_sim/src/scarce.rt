@@ -18,16 +18,17 @@ impl Service for Scarce {
     ghost use Rattle.sg_lock.specs.LockAlikeLaw.{lock_answers_alike};
     ghost use Rattle.sg_lock.specs.LockBlockedLaw.{lock_blocked_stays};
     ghost use Rattle.sg_lock.specs.LockFacts.{lock_facts};
-    ghost use Rattle.sg_lock.specs.LockObject.{lock_object};
+    ghost use Rattle.sg_lock.specs.LockRow.{lock_body};
     ghost use Rattle.sg_lock.specs.LockShapeLaw.{lock_counts_slowly, lock_shape_allows};
     ghost use Rattle.sg_lock.specs.LockSound.{IsLockSound};
     ghost use Rattle.sg_lock.specs.LockSoundLaw.{lock_answers_and_keeps};
     ghost use Rattle.sg_lock.specs.LockTable.{lock_parts, lock_table};
     ghost use Rattle.sg_lock.specs.LockWalkLaw.{lock_walk_goes_on};
+    ghost use Rattle.sg_slots.specs.Slots.{object_of};
 
     ghost facts = { lock_facts };
 
-    ghost object = { λ scarce. lock_object scarce.locks };
+    ghost object = { λ scarce. object_of lock_body scarce.locks.slots };
 
     ghost ask = { lock_table };
 

@@ -21,8 +21,9 @@ use Rattle.sg_grammar.specs.declared.words.Sort.{Sort}
 use Rattle.sg_grammar.specs.declared.words.Sort.TheVariants.{Name, One as one_word, Two as two_word, Form, Parents, Closing, Flag}
 use Rattle.sg_grammar.specs.Named.{Named}
 use Rattle.sg_grammar.specs.Words.{is_of}
+use Rattle.sg_lex.specs.Marks.{close_brace_byte}
 use Rattle.sg_grammar.specs.Pieces.{Piece, word, mark, name}
-use Rattle.sg_grammar.specs.Sentence.{open_brace, close_brace, open_bracket, close_bracket, equals, comma, semicolon, star}
+use Rattle.sg_grammar.specs.Sentence.{open_brace, open_bracket, close_bracket, equals, comma, semicolon, star}
 
 -- ---- tests of tokens
 
@@ -137,7 +138,7 @@ abbrev pub head7 : (a b c d e f g : Named) → State
 head7 a b c d e f g = due semicolon (statements (record { service = a; parent = b; close = c; global = d; block = e; has_data = f; resc_data = g }) [])
 
 abbrev pub head6 : (a b c d e f : Named) → State
-head6 a b c d e f = fact (codes "resc_has_data") Flag close_brace (head7 a b c d e f)
+head6 a b c d e f = fact (codes "resc_has_data") Flag (mark close_brace_byte) (head7 a b c d e f)
 
 abbrev pub head5 : (a b c d e : Named) → State
 head5 a b c d e = fact (codes "desc_has_data") Flag comma (head6 a b c d e)

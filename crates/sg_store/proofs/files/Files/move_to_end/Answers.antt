@@ -14,38 +14,16 @@ returns-in_err-add_copy-clause-files c = λ k.
     ap (λ b. span_bytes b (span_at (spans_of f.places.entries) k)) grew.1 ∙ bytes_front f.buffer.items grew.0 (spans_of f.places.entries) k c.self.invariant
     ∙ ap (λ g. bytes_in g k) c.self.view_is
 
-pub returns-clause-files : goal.returns-clause-files
-returns-clause-files c =
+pub returns : goal.returns
+returns c =
     let end : c.len-from.result ≡ length c.self.inside.buffer.items = grind (arith, common_steps, c.len-from.ensures) in
     let old : Filed = record { buffer = c.self.inside.buffer.items; spans = spans_of c.self.inside.places.entries } in
     let new : Filed = record { buffer = c.add_copy.new.buffer.items; spans = spans_of c.set_place.new.places.entries } in
     let m = moves old c.args.self.now new c.args.key.now c.as_slice.result.now c.args.place c.len-from.result c.args.room c.self.view_is c.self.invariant c.requires.there c.as_slice.ensures
     c.set_place.ensures c.in_ok-add_copy.ensures.kept c.in_ok-add_copy.ensures.copied end c.requires.twice c.requires.enough in
-    m.files
-
-pub returns-clause-room : goal.returns-clause-room
-returns-clause-room c =
-    let end : c.len-from.result ≡ length c.self.inside.buffer.items = grind (arith, common_steps, c.len-from.ensures) in
-    let old : Filed = record { buffer = c.self.inside.buffer.items; spans = spans_of c.self.inside.places.entries } in
-    let new : Filed = record { buffer = c.add_copy.new.buffer.items; spans = spans_of c.set_place.new.places.entries } in
-    let m = moves old c.args.self.now new c.args.key.now c.as_slice.result.now c.args.place c.len-from.result c.args.room c.self.view_is c.self.invariant c.requires.there c.as_slice.ensures
-    c.set_place.ensures c.in_ok-add_copy.ensures.kept c.in_ok-add_copy.ensures.copied end c.requires.twice c.requires.enough in
-    m.room
-
-pub returns-clause-rooms : goal.returns-clause-rooms
-returns-clause-rooms c =
-    let end : c.len-from.result ≡ length c.self.inside.buffer.items = grind (arith, common_steps, c.len-from.ensures) in
-    let old : Filed = record { buffer = c.self.inside.buffer.items; spans = spans_of c.self.inside.places.entries } in
-    let new : Filed = record { buffer = c.add_copy.new.buffer.items; spans = spans_of c.set_place.new.places.entries } in
-    let m = moves old c.args.self.now new c.args.key.now c.as_slice.result.now c.args.place c.len-from.result c.args.room c.self.view_is c.self.invariant c.requires.there c.as_slice.ensures
-    c.set_place.ensures c.in_ok-add_copy.ensures.kept c.in_ok-add_copy.ensures.copied end c.requires.twice c.requires.enough in
-    m.rooms
-
-pub returns-clause-twice : goal.returns-clause-twice
-returns-clause-twice c =
-    let end : c.len-from.result ≡ length c.self.inside.buffer.items = grind (arith, common_steps, c.len-from.ensures) in
-    let old : Filed = record { buffer = c.self.inside.buffer.items; spans = spans_of c.self.inside.places.entries } in
-    let new : Filed = record { buffer = c.add_copy.new.buffer.items; spans = spans_of c.set_place.new.places.entries } in
-    let m = moves old c.args.self.now new c.args.key.now c.as_slice.result.now c.args.place c.len-from.result c.args.room c.self.view_is c.self.invariant c.requires.there c.as_slice.ensures
-    c.set_place.ensures c.in_ok-add_copy.ensures.kept c.in_ok-add_copy.ensures.copied end c.requires.twice c.requires.enough in
-    m.twice
+    record {
+      files = m.files;
+      room = m.room;
+      rooms = m.rooms;
+      twice = m.twice;
+    }

@@ -1,17 +1,20 @@
 -- The parts stay in order where the engine does one step more of what a call needs, and it is the line of the step.
-use Rattle.std.proofs.Common.{Ok, Some, ap, inl, inr, length, refl, subst, sym, ◌∙◌, ◌≡◌, ◌≤◌}
+use Rattle.std.proofs.Common.{Ok, Some, ap, length, refl, subst, sym, ℕ, ◌∙◌, ◌≡◌, ◌≤◌}
 use Rattle.std.specs.declared.result.Result.{Result}
+use Rattle.sg_base.specs.Stops.{asked_after}
 use Rattle.sg_base.specs.declared.memory.NoMemory.{NoMemory}
 use Rattle.sg_engine_laws.specs.Engines.{as_shown}
 use Rattle.sg_facts.specs.Invoke.{Points}
 use Rattle.sg_facts.specs.Object.{Object}
 use Rattle.sg_replay.specs.declared.advance.Advanced.{Advanced}
-use Rattle.sg_seat.specs.WorldView.{WorldView, seat_of}
+use Rattle.sg_replay.specs.declared.advance.Advanced.TheVariants.{Loaded, Replayed, Struck}
+use Rattle.sg_seat.specs.WorldView.{WorldView, seat_of, with_points}
 use Rattle.sg_world.specs.Due.{needs_in}
 use Rattle.sg_world.specs.Inners.{IsInOrder, rooms_in, view_in}
+use Rattle.sg_world.specs.Steps.{Steps}
 use Rattle.sg_world.specs.Worlded.{IsWorld, setting_of, view_of}
 use Rattle.sg_world.proofs.Points.{some_is}
-use Rattle.sg_world.proofs.Rebuilding.{IsTurn, advanced_on, counts_on, loads_line, may_of, nothing_on, on_err, replays_line, strikes_line, turn_of}
+use Rattle.sg_world.proofs.Rebuilding.{IsTurn, advanced_on, counts_on, line_of, may_of, nothing_on, on_err, step_of, turn_of}
 use Rattle.sg_world_laws.specs.Setting.{Setting}
 use Rattle.sg_world.proofs.inner.Inner.advance.Given
 use Rattle.sg_world.proofs.inner.Inner.advance.Goals.{After-advance}
@@ -66,6 +69,12 @@ module _ (g : Given.Over) (c : After-advance g) where
         service = ap (λ t. t.iface.facts) c.advance.ensures.tables ∙ c.requires.order.service;
       }
 
+  -- the line of what it did
+  line : (did : Advanced) → c.advance.result ≡ Ok did → (asked : ℕ) → w.run.points ≡ asked_after asked 1 → Steps z (with_points w asked) c.args.client (step_of did) (as_shown w c.advance.new.self)
+  line did is asked points =
+      line_of z c.args.self.now.engine w (rooms_in c.args.self.now) c.requires.order.world refl refl refl c.args.client c.requires.first c.requires.last c.requires.let_in held.0 held.1
+      start c.advance.new.self later asked points c.requires.order.points.asked_so did (turn (Ok did) is)
+
 pub returns-in_err-advance-clause-order : goal.returns-in_err-advance-clause-order
 returns-in_err-advance-clause-order g c = order g (goal.at.returns-in_err-advance-clause-order g c).After-advance
 
@@ -81,28 +90,16 @@ pub returns-in-Replayed-clause-order : goal.returns-in-Replayed-clause-order
 returns-in-Replayed-clause-order g c = order g (goal.at.returns-in-Replayed-clause-order g c).After-advance
 
 pub returns-in-Replayed-clause-did : goal.returns-in-Replayed-clause-did
-returns-in-Replayed-clause-did g c = λ asked points.
-    let x = c.args.self.now in
-    let s = (goal.at.returns-in-Replayed-clause-did g c).After-advance in
-    replays_line (z g s) x.engine (w g s) (rooms_in x) c.requires.order.world refl refl refl c.args.client c.requires.first c.requires.last c.requires.let_in (held g s).0 (held g s).1
-    (start g s) c.advance.new.self (later g s) asked points c.requires.order.points.asked_so (turn g s _ (c.in_ok-advance.was ∙ ap (λ did. Ok did) c.in-Replayed.is))
+returns-in-Replayed-clause-did g c = line g (goal.at.returns-in-Replayed-clause-did g c).After-advance Replayed (c.in_ok-advance.was ∙ ap (λ did. Ok did) c.in-Replayed.is)
 
 pub returns-in-Loaded-clause-order : goal.returns-in-Loaded-clause-order
 returns-in-Loaded-clause-order g c = order g (goal.at.returns-in-Loaded-clause-order g c).After-advance
 
 pub returns-in-Loaded-clause-did : goal.returns-in-Loaded-clause-did
-returns-in-Loaded-clause-did g c = λ asked points.
-    let x = c.args.self.now in
-    let s = (goal.at.returns-in-Loaded-clause-did g c).After-advance in
-    loads_line (z g s) x.engine (w g s) (rooms_in x) c.requires.order.world refl refl refl c.args.client c.requires.first c.requires.last c.requires.let_in (held g s).0 (held g s).1
-    (start g s) c.advance.new.self (later g s) asked points c.requires.order.points.asked_so (turn g s _ (c.in_ok-advance.was ∙ ap (λ did. Ok did) c.in-Loaded.is))
+returns-in-Loaded-clause-did g c = line g (goal.at.returns-in-Loaded-clause-did g c).After-advance Loaded (c.in_ok-advance.was ∙ ap (λ did. Ok did) c.in-Loaded.is)
 
 pub returns-in-Struck-clause-order : goal.returns-in-Struck-clause-order
 returns-in-Struck-clause-order g c = order g (goal.at.returns-in-Struck-clause-order g c).After-advance
 
 pub returns-in-Struck-clause-did : goal.returns-in-Struck-clause-did
-returns-in-Struck-clause-did g c = λ asked points.
-    let x = c.args.self.now in
-    let s = (goal.at.returns-in-Struck-clause-did g c).After-advance in
-    inr (inl (strikes_line (z g s) x.engine (w g s) (rooms_in x) c.requires.order.world refl refl refl c.args.client c.requires.first c.requires.last c.requires.let_in (held g s).0 (held g s).1
-    (start g s) c.advance.new.self (later g s) asked points c.requires.order.points.asked_so (turn g s _ (c.in_ok-advance.was ∙ ap (λ did. Ok did) c.in-Struck.is))))
+returns-in-Struck-clause-did g c = line g (goal.at.returns-in-Struck-clause-did g c).After-advance Struck (c.in_ok-advance.was ∙ ap (λ did. Ok did) c.in-Struck.is)

@@ -1,5 +1,5 @@
 -- A world keeps what it keeps where the guard refuses a call.
-use Rattle.std.proofs.Common.{length, ◌-◌, ap, arith, subst, ◌++◌, ◌∙◌, ◌∷◌, [], ◌≡◌, ◌<◌, ◌^◌}
+use Rattle.std.proofs.Common.{length, ◌-◌, ap, arith, subst, ◌++◌, ◌∙◌, ◌∷◌, [], ◌≡◌, ◌<◌, ◌≤◌, ◌^◌}
 use Rattle.sg_base.specs.declared.reply.Reply.TheVariants.{Refused}
 use Rattle.sg_seat.specs.WorldView.{Seat, no_reply, seat_in}
 use Rattle.sg_seat.specs.declared.phase.Phase.TheVariants.{Idle}
@@ -9,25 +9,21 @@ use Rattle.sg_world.specs.Inners.{rooms_in, view_in}
 use Rattle.sg_world.specs.Worlded.{Rooms, setting_of}
 use Rattle.sg_world.proofs.Denying.{denial_rooms, denied_on, denied_view}
 use Rattle.sg_world.proofs.inner.Inner.refuse.Given
+use Rattle.sg_world.proofs.inner.Inner.refuse.Goals.{Start}
 use Rattle.sg_world.proofs.inner.Inner.refuse.Goals as goal
 
+-- there is room for what is added
+rooms : (g : Given.Over) (c : Start g) → (1 ≤ c.args.self.now.history.room) × (3 ≤ c.args.self.now.marks.room)
+rooms g c = denial_rooms (setting_of g.S.Service.ask g.S.Service.sound g.S.Service.parts c.args.self.now.engine.tables) c.args.self.now.engine (view_in c.args.self.now) (rooms_in c.args.self.now) c.requires.order.world c.args.client c.requires.first c.requires.last c.requires.asks c.args.code c.requires.refuses
+
 pub add-requires : goal.add-requires
-add-requires g c =
-    let x = c.args.self.now in
-    (denial_rooms (setting_of g.S.Service.ask g.S.Service.sound g.S.Service.parts x.engine.tables) x.engine (view_in x) (rooms_in x) c.requires.order.world c.args.client c.requires.first c.requires.last c.requires.asks c.args.code c.requires.refuses).0
+add-requires g c = (rooms g (goal.at.add-requires g c).Start).0
 
 pub add-requires-2 : goal.add-requires-2
-add-requires-2 g c =
-    let x = c.args.self.now in
-    let some = (denial_rooms (setting_of g.S.Service.ask g.S.Service.sound g.S.Service.parts x.engine.tables) x.engine (view_in x) (rooms_in x) c.requires.order.world c.args.client c.requires.first c.requires.last c.requires.asks c.args.code c.requires.refuses).1 in
-    omega (arith, some)
+add-requires-2 g c = omega (arith, (rooms g (goal.at.add-requires-2 g c).Start).1)
 
 pub add-requires-3 : goal.add-requires-3
-add-requires-3 g c =
-    let x = c.args.self.now in
-    let some = (denial_rooms (setting_of g.S.Service.ask g.S.Service.sound g.S.Service.parts x.engine.tables) x.engine (view_in x) (rooms_in x) c.requires.order.world c.args.client c.requires.first c.requires.last c.requires.asks c.args.code c.requires.refuses).1 in
-    let one = c.add-2.ensures.room in
-    omega (arith, some, one)
+add-requires-3 g c = omega (arith, (rooms g (goal.at.add-requires-3 g c).Start).1, c.add-2.ensures.room)
 
 -- what `denied_on` and `denied_view` take
 module _ (g : Given.Over) (c : goal.After-add-3 g) where

@@ -15,6 +15,7 @@ use Rattle.std.proofs.lemmas.List.{length-map}
 use Rattle.sg_world.proofs.Rooming.{length_set}
 use Rattle.sg_seat.specs.declared.phase.Phase.TheVariants.{Idle}
 use Rattle.sg_world.proofs.inner.Inner.return_held.Given
+use Rattle.sg_world.proofs.inner.Inner.return_held.Goals.{Start}
 use Rattle.sg_world.proofs.inner.Inner.return_held.Goals as goal
 
 pub commit-requires : goal.commit-requires
@@ -26,23 +27,18 @@ commit-requires g c =
     (subst (λ r. MayCommitAt x.engine.tables.iface.facts x.engine s.call r None) (sym c.give_back-entry.ensures.reply)
     (may_return (setting_of g.S.Service.ask g.S.Service.sound g.S.Service.parts x.engine.tables) x.engine (view_in x) (rooms_in x) c.requires.order.world c.args.client c.requires.first c.requires.last c.requires.held c.requires.up c.requires.boot)))
 
+-- there is room for what is added
+rooms : (g : Given.Over) (c : Start g) → (1 ≤ c.args.self.now.history.room) × (3 ≤ c.args.self.now.marks.room)
+rooms g c = has_rooms (setting_of g.S.Service.ask g.S.Service.sound g.S.Service.parts c.args.self.now.engine.tables) c.args.self.now.engine (view_in c.args.self.now) (rooms_in c.args.self.now) c.requires.order.world c.args.client c.requires.first c.requires.last c.requires.held c.requires.up c.requires.boot
+
 pub add-requires : goal.add-requires
-add-requires g c =
-    let x = c.args.self.now in
-    (has_rooms (setting_of g.S.Service.ask g.S.Service.sound g.S.Service.parts x.engine.tables) x.engine (view_in x) (rooms_in x) c.requires.order.world c.args.client c.requires.first c.requires.last c.requires.held c.requires.up c.requires.boot).0
+add-requires g c = (rooms g (goal.at.add-requires g c).Start).0
 
 pub add-requires-2 : goal.add-requires-2
-add-requires-2 g c =
-    let x = c.args.self.now in
-    let some = (has_rooms (setting_of g.S.Service.ask g.S.Service.sound g.S.Service.parts x.engine.tables) x.engine (view_in x) (rooms_in x) c.requires.order.world c.args.client c.requires.first c.requires.last c.requires.held c.requires.up c.requires.boot).1 in
-    omega (arith, some)
+add-requires-2 g c = omega (arith, (rooms g (goal.at.add-requires-2 g c).Start).1)
 
 pub add-requires-3 : goal.add-requires-3
-add-requires-3 g c =
-    let x = c.args.self.now in
-    let some = (has_rooms (setting_of g.S.Service.ask g.S.Service.sound g.S.Service.parts x.engine.tables) x.engine (view_in x) (rooms_in x) c.requires.order.world c.args.client c.requires.first c.requires.last c.requires.held c.requires.up c.requires.boot).1 in
-    let one = c.add-2.ensures.room in
-    omega (arith, some, one)
+add-requires-3 g c = omega (arith, (rooms g (goal.at.add-requires-3 g c).Start).1, c.add-2.ensures.room)
 
 pub returns-clause-reply : goal.returns-clause-reply
 returns-clause-reply g c = c.give_back-entry.ensures.answer

@@ -8,7 +8,7 @@ use Rattle.sg_lock.specs.LockFacts.{lock_facts}
 use Rattle.sg_lock.specs.LockTable.{lock_table, lock_parts}
 use Rattle.sg_lock.specs.LockRow.{lock_body}
 use Rattle.sg_lock.proofs.Decisions.{take_right, release_right, free_right, on_lock}
-use Rattle.sg_lock.proofs.service.decide.Goals as goal
+use Rattle.sg_lock.proofs.service.LockRowRules.decide.Goals as goal
 
 pub unreachable-requires : goal.unreachable-requires
 unreachable-requires c =

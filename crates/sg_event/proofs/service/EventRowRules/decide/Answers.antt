@@ -10,7 +10,7 @@ use Rattle.sg_event.specs.EventTable.{event_table, event_parts}
 use Rattle.sg_event.specs.EventRow.{event_body}
 use Rattle.sg_event.specs.Inside.EventDecision.{on_event_wait, on_trigger}
 use Rattle.sg_event.proofs.Decisions.{wait_right, trigger_right, free_right, on_event}
-use Rattle.sg_event.proofs.service.decide.Goals as goal
+use Rattle.sg_event.proofs.service.EventRowRules.decide.Goals as goal
 
 pub unreachable-requires : goal.unreachable-requires
 unreachable-requires c =

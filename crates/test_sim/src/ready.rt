@@ -1,0 +1,27 @@
+// The input of a play of locks.
+ghost use Rattle.std.specs.Prelude.{◌≡◌, IfOk};
+ghost use Rattle.sg_lock.specs.LockFacts.{lock_facts};
+ghost use Rattle.sg_play_laws.specs.Playable.{IsPlayable};
+
+use sg_base::Bytes;
+use sg_check::Accepted;
+use sg_facts::Service;
+use sg_input::{Input, read_input};
+use sg_lock::LockService;
+use sg_script::Script;
+use std::alloc::Global;
+use std::test::Fail;
+use test_interfaces::LOCK;
+
+/// The interface of locks, and the script of a text.
+pub fn ready(alloc: Global, script: &[u8]) -> Result<(Accepted, Script), Fail>
+    ensures service { IfOk result (λ r. r.0.facts ≡ lock_facts) }
+    ensures playable { IfOk result (λ r. IsPlayable r.0 r.1) }
+{
+    let mut input = Bytes::from_slice(alloc, LOCK)?;
+    input.extend_from_slice(script)?;
+    match read_input(alloc, input.as_slice(), &[LockService::shape()])? {
+        Input::Ready(accepted, script) => Ok((accepted, script)),
+        Input::Refused(_) => Err("refused")?,
+    }
+}
