@@ -18,8 +18,8 @@ use Rattle.sg_facts.specs.Object.{Object, after, empty_object, set_file}
 use Rattle.sg_facts.specs.Trace.{Boot}
 use Rattle.sg_hist.specs.Reading.{after_item, value_at}
 use Rattle.sg_hist.specs.Recovered.{ends_stopped, is_stopped}
-use Rattle.sg_recovery_laws.proofs.Growing.{value_at-more}
-use Rattle.sg_recovery_laws.specs.Growing.{booted, last_items, noted, struck}
+use Rattle.sg_hist.proofs.Growing.{value_at-more}
+use Rattle.sg_hist.specs.Growing.{booted, last_items, noted, struck}
 
 -- a service that failed, behind the stop of its boot
 pub kept_struck : (facts : Facts) (boots : List Boot) (stop : ℕ) → boots ≢ [] → IsCell facts None (struck boots stop)

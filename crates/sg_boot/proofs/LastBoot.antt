@@ -6,7 +6,7 @@ use Rattle.sg_facts.specs.declared.trace.BootLog.{BootLog}
 use Rattle.sg_facts.specs.declared.trace.Item.{Item}
 use Rattle.sg_facts.specs.Trace.{Boot, boot_of}
 use Rattle.sg_hist.specs.Recovered.{ends_stopped, is_stopped}
-use Rattle.sg_recovery_laws.specs.Growing.{booted, last_items, last_stop, noted, struck}
+use Rattle.sg_hist.specs.Growing.{booted, last_items, last_stop, noted, struck}
 
 -- ---- boots with room
 

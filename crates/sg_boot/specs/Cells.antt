@@ -6,7 +6,7 @@ use Rattle.sg_facts.specs.Object.{Object}
 use Rattle.sg_facts.specs.Trace.{Boot, Run}
 use Rattle.sg_hist.specs.Reading.{value_at}
 use Rattle.sg_hist.specs.Recovered.{ends_stopped}
-use Rattle.sg_recovery_laws.specs.Growing.{last_items, last_stop}
+use Rattle.sg_hist.specs.Growing.{last_items, last_stop}
 
 -- what contracts see of a cell: what the running service holds, None for one that failed; what was done; and for how many items
 -- and boots more there is room

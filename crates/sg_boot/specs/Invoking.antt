@@ -18,7 +18,7 @@ use Rattle.sg_facts.specs.Kinds.{MayAsk}
 use Rattle.sg_facts.specs.Legal.{Table}
 use Rattle.sg_facts.specs.Object.{Object, after, patch_of}
 use Rattle.sg_facts.specs.Trace.{Run}
-use Rattle.sg_recovery_laws.specs.Growing.{noted, struck}
+use Rattle.sg_hist.specs.Growing.{noted, struck}
 
 -- ---- items
 

@@ -4,7 +4,7 @@ ghost use Rattle.std.specs.Option.{is_some, option_copied, option_map};
 ghost use Rattle.sg_facts.specs.Invoke.{FitsRoom, loaded};
 ghost use Rattle.sg_facts.specs.Object.{Object, empty_object};
 ghost use Rattle.sg_facts.specs.Trace.{run_of};
-ghost use Rattle.sg_recovery_laws.specs.Growing.{booted};
+ghost use Rattle.sg_hist.specs.Growing.{booted};
 ghost use Rattle.sg_boot.specs.Cells.{IsCell};
 ghost use Rattle.sg_boot.specs.Invoking.{Invoked, MayInvoke, item_of_load, with_item, with_stop};
 

@@ -24,11 +24,11 @@ use Rattle.sg_event.specs.EventTable.{count_in, event_table, most_count, trigger
 use Rattle.sg_event.specs.EventSound.{IsCounted, IsEventSound}
 use Rattle.sg_event.specs.EventSoundLaw.{event_answers_and_keeps}
 use Rattle.sg_slots.proofs.RowLaws.{first_makes, one_pair}
-use Rattle.sg_walk_laws.specs.Replays.{AnswersCreations, AnswersReplays, AnswersSteps, IsAnsweredOk}
-use Rattle.sg_walk_laws.proofs.Found.{met}
-use Rattle.sg_walk_laws.proofs.Goes.{walk_goes_on}
-use Rattle.sg_walk_laws.proofs.Service.{begun_by, ends, of_facts, step_of}
-use Rattle.sg_walk_laws.proofs.Steps.{rest_meets}
+use Rattle.sg_facts.specs.Replaying.Replays.{AnswersCreations, AnswersReplays, AnswersSteps, IsAnsweredOk}
+use Rattle.sg_facts.proofs.Replaying.Found.{met}
+use Rattle.sg_facts.proofs.Replaying.Goes.{walk_goes_on}
+use Rattle.sg_facts.proofs.Replaying.Service.{begun_by, ends, of_facts, step_of}
+use Rattle.sg_facts.proofs.Replaying.Steps.{rest_meets}
 
 -- evt_split alone makes events, and evt_trigger is the one step
 one_creation : (f : ℕ) → (fun_at event_facts.funs f).creation ≡ true → f ≡ 1

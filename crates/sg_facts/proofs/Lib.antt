@@ -1,4 +1,5 @@
 pub mod Halving
 pub mod Legality
+pub mod Replaying
 pub mod RowLists
 pub mod WalkLists

@@ -14,6 +14,7 @@ pub mod Legal
 pub mod Limits
 pub mod Needs
 pub mod Object
+pub mod Replaying
 pub mod Sound
 pub mod Tables
 pub mod Trace

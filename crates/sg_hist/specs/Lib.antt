@@ -1,3 +1,4 @@
 pub mod Clients
+pub mod Growing
 pub mod Reading
 pub mod Recovered

@@ -20,7 +20,7 @@ use Rattle.sg_facts.specs.Laws.{whole}
 use Rattle.sg_load.specs.Services.{facts_by}
 use Rattle.sg_plain.specs.Calls.{part_of, script_calls}
 use Rattle.sg_plain.specs.Script.{call_fits, calls_fit}
-use Rattle.sg_play_laws.specs.Playable.{AreClients, IsPlayable}
+use Rattle.sg_plain.specs.Playing.Playable.{AreClients, IsPlayable}
 use Rattle.sg_script.specs.declared.script.ScriptCall.{ScriptCall}
 
 -- ---- stops

@@ -7,7 +7,7 @@ ghost use Rattle.sg_script.specs.Flaws.{calls_before};
 ghost use Rattle.sg_load.specs.Sizes.{client_count, stop_count};
 ghost use Rattle.sg_facts.specs.Laws.{whole};
 ghost use Rattle.sg_load.specs.Services.{facts_by};
-ghost use Rattle.sg_play_laws.specs.Playable.{IsPlayable};
+ghost use Rattle.sg_plain.specs.Playing.Playable.{IsPlayable};
 
 use crate::ServiceKind;
 use crate::draws::Draws;

@@ -23,11 +23,11 @@ use Rattle.sg_lock.specs.LockTable.{lock_table, owner_in, take_answer}
 use Rattle.sg_lock.specs.LockSound.{IsLockSound, IsOwned, is_owner_in}
 use Rattle.sg_lock.specs.LockSoundLaw.{lock_answers_and_keeps}
 use Rattle.sg_slots.proofs.RowLaws.{first_makes, one_pair}
-use Rattle.sg_walk_laws.specs.Replays.{AnswersCreations, AnswersReplays, AnswersSteps, IsAnsweredOk}
-use Rattle.sg_walk_laws.proofs.Found.{met}
-use Rattle.sg_walk_laws.proofs.Goes.{walk_goes_on}
-use Rattle.sg_walk_laws.proofs.Service.{begun_by, ends, of_facts, step_of}
-use Rattle.sg_walk_laws.proofs.Steps.{begins, both_true, rest_meets, spots_meet}
+use Rattle.sg_facts.specs.Replaying.Replays.{AnswersCreations, AnswersReplays, AnswersSteps, IsAnsweredOk}
+use Rattle.sg_facts.proofs.Replaying.Found.{met}
+use Rattle.sg_facts.proofs.Replaying.Goes.{walk_goes_on}
+use Rattle.sg_facts.proofs.Replaying.Service.{begun_by, ends, of_facts, step_of}
+use Rattle.sg_facts.proofs.Replaying.Steps.{begins, both_true, rest_meets, spots_meet}
 
 -- lock_alloc alone makes locks, and lock_take is the one step
 one_creation : (f : ℕ) → (fun_at lock_facts.funs f).creation ≡ true → f ≡ 1

@@ -11,8 +11,8 @@ use Rattle.std.proofs.lemmas.Bool.Decides.{nat_tests}
 use Rattle.std.proofs.lemmas.Map.Entries.{lookup-filter-keys}
 use Rattle.sg_slots.specs.Slots.{AreIds, entry_at}
 use Rattle.sg_slots.proofs.Ids.{absent}
-use Rattle.sg_walk_laws.proofs.Found.{same_test}
-use Rattle.sg_walk_laws.proofs.Steps.{both_true}
+use Rattle.sg_facts.proofs.Replaying.Found.{same_test}
+use Rattle.sg_facts.proofs.Replaying.Steps.{both_true}
 use Rattle.sg_mm.specs.declared.child.Child.{Child}
 use Rattle.sg_mm.specs.declared.page.Page.{Page}
 use Rattle.sg_mm.specs.Inside.Children.{AreOfPages, child_cmp, is_below, is_child, is_hung}

@@ -14,9 +14,9 @@ use Rattle.sg_facts.specs.Track.{ancestors, ends_with, is_live, nearest, parent_
 use Rattle.sg_facts.proofs.RowLists.{live_of_row}
 use Rattle.sg_slots.specs.Slots.{AreIds, Held, entry_at, row_with, without}
 use Rattle.sg_slots.proofs.Rows.{is_live-rows_of, row_at-rows_of}
-use Rattle.sg_walk_laws.proofs.Found.{met, same_test}
-use Rattle.sg_walk_laws.proofs.Steps.{both_true}
-use Rattle.sg_walk_laws.proofs.Subtrees.{IsAboveParent, ends_by_parent}
+use Rattle.sg_facts.proofs.Replaying.Found.{met, same_test}
+use Rattle.sg_facts.proofs.Replaying.Steps.{both_true}
+use Rattle.sg_facts.proofs.Replaying.Subtrees.{IsAboveParent, ends_by_parent}
 use Rattle.sg_mm.specs.declared.child.Child.{Child}
 use Rattle.sg_mm.specs.declared.page.Page.{Page}
 use Rattle.sg_mm.specs.declared.page.Place.{Place}

@@ -5,7 +5,7 @@ use Rattle.std.specs.declared.option.Option.{Option}
 use Rattle.std.specs.BTreeSet.{BTreeSet}
 use Rattle.std.proofs.lemmas.Bool.{cases_Bool, or_cases}
 use Rattle.std.proofs.lemmas.Bool.Decides.{nat_tests}
-use Rattle.sg_walk_laws.proofs.Found.{same_test}
+use Rattle.sg_facts.proofs.Replaying.Found.{same_test}
 use Rattle.sg_mm.specs.declared.child.Child.{Child}
 use Rattle.sg_mm.specs.Inside.Children.{AreAboveParents, IsSubtree, has_id, is_child}
 use Rattle.sg_mm.specs.Inside.MmIndex.{IsNext}

@@ -16,9 +16,9 @@ use Rattle.sg_facts.proofs.RowLists.{left, more, row_of_live}
 use Rattle.sg_slots.specs.Slots.{Held, AreIds, entry_at, row_with, rows_of}
 use Rattle.sg_slots.proofs.Ids.{absent}
 use Rattle.sg_slots.proofs.Rows.{row_at-rows_of}
-use Rattle.sg_walk_laws.proofs.Found.{above, met, other_test, same_test, within}
-use Rattle.sg_walk_laws.proofs.Steps.{both_true}
-use Rattle.sg_walk_laws.proofs.Subtrees.{IsAboveParent}
+use Rattle.sg_facts.proofs.Replaying.Found.{above, met, other_test, same_test, within}
+use Rattle.sg_facts.proofs.Replaying.Steps.{both_true}
+use Rattle.sg_facts.proofs.Replaying.Subtrees.{IsAboveParent}
 use Rattle.sg_mm.specs.declared.child.Child.{Child}
 use Rattle.sg_mm.specs.declared.page.Page.{Page}
 use Rattle.sg_mm.specs.declared.page.Place.{Place}

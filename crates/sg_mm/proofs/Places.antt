@@ -2,7 +2,7 @@
 use Rattle.std.proofs.Common.{◌≡◌, ◌∙◌, true, ap, arith}
 use Rattle.std.specs.Prelude.{◌==◌}
 use Rattle.std.proofs.lemmas.Bool.Decides.{nat_tests}
-use Rattle.sg_walk_laws.proofs.Steps.{both_true}
+use Rattle.sg_facts.proofs.Replaying.Steps.{both_true}
 use Rattle.sg_mm.specs.declared.page.Place.{Place}
 use Rattle.sg_mm.specs.Inside.MmIndex.{is_place}
 

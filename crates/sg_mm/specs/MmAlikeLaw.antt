@@ -16,7 +16,7 @@ use Rattle.sg_facts.specs.Object.{Object}
 use Rattle.sg_facts.specs.Sound.{IsRow}
 use Rattle.sg_facts.specs.Alike.{named, IsAlike, SameReply, Serves}
 use Rattle.sg_facts.specs.Laws.{AnswersAlike}
-use Rattle.sg_walk_laws.proofs.Served.{row_held, row_live}
+use Rattle.sg_facts.proofs.Replaying.Served.{row_held, row_live}
 use Rattle.sg_mm.specs.MmFacts.{mm_facts}
 use Rattle.sg_mm.specs.Inside.MmPlaces.{first_at, first_passes, none_passes_it, page_is_first, place_of_test, some_first, two_apart}
 use Rattle.sg_mm.specs.MmSound.{IsMmSound}

@@ -22,8 +22,8 @@ use Rattle.sg_facts.specs.Laws.{AnswersAndKeeps, Passes}
 use Rattle.sg_facts.proofs.RowLists.{id_of_row, is_live-more, left, live_of_row}
 use Rattle.sg_slots.proofs.RowLaws.{sound_more}
 use Rattle.sg_slots.proofs.SoundRows.{none_applies}
-use Rattle.sg_walk_laws.proofs.Found.{above, within}
-use Rattle.sg_walk_laws.proofs.Subtrees.{sound_without}
+use Rattle.sg_facts.proofs.Replaying.Found.{above, within}
+use Rattle.sg_facts.proofs.Replaying.Subtrees.{sound_without}
 use Rattle.sg_mm.specs.MmFacts.{mm_facts}
 use Rattle.sg_mm.specs.Inside.MmPlaces.{own_left, own_more}
 use Rattle.sg_mm.specs.MmSound.{IsMmSound, IsOfClient}

@@ -24,12 +24,12 @@ use Rattle.sg_mm.specs.MmTable.{addr_of, is_at, mm_table, space_of}
 use Rattle.sg_mm.specs.Inside.MmPlaces.{two_apart}
 use Rattle.sg_mm.specs.MmSound.{IsMmSound, IsOfClient}
 use Rattle.sg_mm.specs.MmSoundLaw.{mm_answers_and_keeps}
-use Rattle.sg_walk_laws.specs.Replays.{AnswersCreations, AnswersReplays, AnswersSteps, IsAnsweredOk, IsHalfway}
-use Rattle.sg_walk_laws.proofs.Found.{above, all_found, held_at, met, same_test}
-use Rattle.sg_walk_laws.proofs.Above.{name_of_held}
-use Rattle.sg_walk_laws.proofs.Goes.{walk_goes_on}
-use Rattle.sg_walk_laws.proofs.Service.{begun_by, of_facts, step_of}
-use Rattle.sg_walk_laws.proofs.Steps.{begins, both_true, spots_meet}
+use Rattle.sg_facts.specs.Replaying.Replays.{AnswersCreations, AnswersReplays, AnswersSteps, IsAnsweredOk, IsHalfway}
+use Rattle.sg_facts.proofs.Replaying.Found.{above, all_found, held_at, met, same_test}
+use Rattle.sg_facts.proofs.Replaying.Above.{name_of_held}
+use Rattle.sg_facts.proofs.Replaying.Goes.{walk_goes_on}
+use Rattle.sg_facts.proofs.Replaying.Service.{begun_by, of_facts, step_of}
+use Rattle.sg_facts.proofs.Replaying.Steps.{begins, both_true, spots_meet}
 
 -- two functions make pages, and there are no steps
 two_creations : (f : ℕ) → (fun_at mm_facts.funs f).creation ≡ true → (f ≡ 1) ⊎ (f ≡ 2)

@@ -7,9 +7,9 @@ use Rattle.std.specs.Ordering.{nat_cmp, ordering_index}
 use Rattle.std.proofs.lemmas.Bool.{cases_lt}
 use Rattle.std.proofs.lemmas.Bool.Decides.{eqb_tells}
 use Rattle.sg_plain.specs.Calls.{most_client, part_of}
-use Rattle.sg_play_laws.specs.Playable.{AreClients}
+use Rattle.sg_plain.specs.Playing.Playable.{AreClients}
 use Rattle.sg_script.specs.declared.script.ScriptCall.{ScriptCall}
-use Rattle.sg_walk_laws.proofs.Found.{other_test, same_test}
+use Rattle.sg_facts.proofs.Replaying.Found.{other_test, same_test}
 
 -- the greatest number of a client is that of the last part
 pub last_is_most : (clients : List (ℕ × List ScriptCall)) (d : ℕ × List ScriptCall) → 1 ≤ length clients → (slice_index_or clients (length clients - 1) d).0 ≡ most_client clients

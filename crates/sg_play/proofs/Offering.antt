@@ -23,13 +23,13 @@ use Rattle.sg_seat.specs.WorldView.{Seat, seat_in}
 use Rattle.sg_seat.specs.declared.phase.Phase.{Phase}
 use Rattle.sg_seat.specs.declared.phase.Phase.TheVariants.{Idle, Asked, Held, Receipted, Blocked, Left}
 use Rattle.sg_plain.specs.Script.{arg_fits, args_fit, call_fits, desc_among, values_of}
-use Rattle.sg_play_laws.specs.Callers.{handed, is_receipted, is_setting_up}
-use Rattle.sg_play_laws.specs.Given.{GaveIds, given_in}
-use Rattle.sg_play_laws.specs.Plays.{IsPlaying}
-use Rattle.sg_play_laws.specs.Turns.{is_free_phase}
-use Rattle.sg_play_laws.proofs.Lines.{length_set, same_or_other, seat_here, seat_there}
-use Rattle.sg_play_laws.proofs.Playing.{playing_offer}
-use Rattle.sg_play_laws.proofs.Resolving.{fits_at}
+use Rattle.sg_plain.specs.Playing.Callers.{handed, is_receipted, is_setting_up}
+use Rattle.sg_plain.specs.Playing.Given.{GaveIds, given_in}
+use Rattle.sg_plain.specs.Playing.Plays.{IsPlaying}
+use Rattle.sg_plain.specs.Playing.Turns.{is_free_phase}
+use Rattle.sg_plain.proofs.Playing.Lines.{length_set, same_or_other, seat_here, seat_there}
+use Rattle.sg_plain.proofs.Playing.Playing.{playing_offer}
+use Rattle.sg_plain.proofs.Playing.Resolving.{fits_at}
 
 -- ---- a call that fits
 

@@ -13,12 +13,12 @@ use Rattle.sg_world.specs.declared.did.Did.TheVariants.{Answered, Blocked as Wai
 use Rattle.sg_world.specs.Steps.{AnswersLast, HasStepped, WantsMemory}
 use Rattle.sg_world_laws.specs.Seats.{last_of}
 use Rattle.sg_world_laws.specs.Setting.{Setting}
-use Rattle.sg_play_laws.specs.Callers.{handed, is_receipted, is_setting_up}
-use Rattle.sg_play_laws.specs.Given.{HandsReply, given_in}
-use Rattle.sg_play_laws.specs.Plays.{IsPlaying}
-use Rattle.sg_play_laws.proofs.Calling.{callers_step, its_client, next_of}
-use Rattle.sg_play_laws.proofs.Lines.{line_set, seat_here}
-use Rattle.sg_play_laws.proofs.Playing.{playing_step, playing_still}
+use Rattle.sg_plain.specs.Playing.Callers.{handed, is_receipted, is_setting_up}
+use Rattle.sg_plain.specs.Playing.Given.{HandsReply, given_in}
+use Rattle.sg_plain.specs.Playing.Plays.{IsPlaying}
+use Rattle.sg_plain.proofs.Playing.Calling.{callers_step, its_client, next_of}
+use Rattle.sg_plain.proofs.Playing.Lines.{line_set, seat_here}
+use Rattle.sg_plain.proofs.Playing.Playing.{playing_step, playing_still}
 use Rattle.sg_play.specs.Turning.{behind_step, handed_by}
 use Rattle.sg_play.proofs.Stepping.{IsHandedTo, handed_step, quiet_step}
 

@@ -1,2 +1,4 @@
+pub mod Following
 pub mod Recovering
 pub mod Turning
+pub mod Waking

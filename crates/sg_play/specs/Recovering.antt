@@ -2,7 +2,7 @@
 use Rattle.std.specs.Prelude.{ℕ, ◌≡◌, ◌≤◌, None, length}
 use Rattle.sg_facts.specs.Legal.{LegalFrom, answer}
 use Rattle.sg_facts.specs.Object.{empty_object, object_of}
-use Rattle.sg_recovery_laws.specs.Growing.{IsRecovering}
+use Rattle.sg_hist.specs.Growing.{IsRecovering}
 use Rattle.sg_seat.specs.WorldView.{WorldView, seat_of, unanswered}
 use Rattle.sg_seat.specs.declared.phase.Phase.TheVariants.{Blocked}
 use Rattle.sg_world_laws.specs.Setting.{IsSetting, Setting, stubs_of}

@@ -6,7 +6,7 @@ use Rattle.sg_facts.specs.Facts.{Facts}
 use Rattle.sg_hist.specs.Clients.{calls_of}
 use Rattle.sg_hist.specs.Reading.{desc_of}
 use Rattle.sg_plain.specs.Calls.{call_after, script_calls}
-use Rattle.sg_play_laws.specs.Turns.{is_free_phase}
+use Rattle.sg_plain.specs.Playing.Turns.{is_free_phase}
 use Rattle.sg_script.specs.declared.script.Script.{Script}
 use Rattle.sg_seat.specs.WorldView.{WorldView, happened, offered, seat_of, with_leave}
 use Rattle.sg_world.specs.declared.did.Did.{Did}

@@ -2,7 +2,7 @@
 ghost use Rattle.std.specs.Prelude.{◌≡◌, ◌∷◌, [], List, IfOk};
 ghost use Rattle.sg_facts.specs.Kinds.{AreWords};
 ghost use Rattle.sg_facts.specs.declared.entry.Entry.{Entry as IsEntry};
-ghost use Rattle.sg_play_laws.specs.Given.{GaveIds};
+ghost use Rattle.sg_plain.specs.Playing.Given.{GaveIds};
 ghost use Rattle.sg_plain.specs.Script.{arg_value, desc_among, id_of_call, value_of, values_of};
 
 use sg_base::{Args, NoMemory, TryCopy, Value};

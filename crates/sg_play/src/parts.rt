@@ -3,7 +3,7 @@ ghost use Rattle.std.specs.Ordering.{nat_cmp};
 ghost use Rattle.std.specs.Prelude.{◌≡◌, length, slice_get};
 ghost use Rattle.std.specs.Option.{option_copied};
 ghost use Rattle.sg_plain.specs.Calls.{most_client, part_of, script_calls};
-ghost use Rattle.sg_play_laws.specs.Playable.{AreClients};
+ghost use Rattle.sg_plain.specs.Playing.Playable.{AreClients};
 
 use sg_script::{CallList, Script, ScriptCall};
 use std::cmp::Ordering;

@@ -1,16 +1,16 @@
 // What a client does in its turn: it offers its next call, makes a step, and leaves behind its last call.
 ghost use Rattle.std.specs.Prelude.{◌≡◌, ◌⊎◌, ◌≤◌, ℕ, List, true, None, IfOk, OnOk, OnErr, length};
 ghost use Rattle.sg_hist.specs.Reading.{desc_of};
-ghost use Rattle.sg_play_laws.specs.Callers.{is_setting_up};
-ghost use Rattle.sg_play_laws.specs.Given.{given_in, with_handed};
-ghost use Rattle.sg_play_laws.specs.Playable.{AreClients};
-ghost use Rattle.sg_play_laws.specs.Plays.{IsPlaying};
+ghost use Rattle.sg_plain.specs.Playing.Callers.{is_setting_up};
+ghost use Rattle.sg_plain.specs.Playing.Given.{given_in, with_handed};
+ghost use Rattle.sg_plain.specs.Playing.Playable.{AreClients};
+ghost use Rattle.sg_plain.specs.Playing.Plays.{IsPlaying};
 ghost use Rattle.sg_play.specs.Turning.{StepsInTurn, with_leaving, with_offer};
 ghost use Rattle.sg_seat.specs.WorldView.{happened, seat_of};
 ghost use Rattle.sg_world.specs.Steps.{WantsMemory};
 ghost use Rattle.sg_world.specs.Worlded.{setting_of};
 ghost use Rattle.sg_seat.specs.declared.phase.Phase.TheVariants.{Idle};
-ghost use Rattle.sg_play_laws.specs.Turns.{is_free_phase};
+ghost use Rattle.sg_plain.specs.Playing.Turns.{is_free_phase};
 
 use crate::calls::{desc_among, values_of};
 use crate::parts::script_call;

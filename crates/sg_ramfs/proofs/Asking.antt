@@ -19,7 +19,7 @@ use Rattle.sg_slots.specs.Carry.{Carries}
 use Rattle.sg_slots.specs.Slots.{Held, entry_at, rows_of}
 use Rattle.sg_slots.proofs.Deciding.{with_fun}
 use Rattle.sg_slots.proofs.Rows.{is_live-rows_of}
-use Rattle.sg_walk_laws.proofs.Found.{within}
+use Rattle.sg_facts.proofs.Replaying.Found.{within}
 use Rattle.sg_ramfs.specs.declared.open_file.OpenFile.{OpenFile}
 use Rattle.sg_ramfs.specs.Inside.RamfsDecision.{on_open, on_read, on_seek, on_write, CarriesBytes, WritesFile}
 use Rattle.sg_ramfs.specs.RamfsFacts.{ramfs_facts}

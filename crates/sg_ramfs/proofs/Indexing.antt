@@ -9,7 +9,7 @@ use Rattle.std.specs.BTreeMap.{BTreeMap, UpdatesBy, is_at}
 use Rattle.std.specs.Cmp.Lexicographic.{slice_cmp, texts_ties}
 use Rattle.std.specs.Ordering.{nat_cmp}
 use Rattle.sg_facts.specs.Object.{file_at, set_file}
-use Rattle.sg_walk_laws.proofs.Files.{told}
+use Rattle.sg_facts.proofs.Replaying.Files.{told}
 use Rattle.sg_ramfs.specs.declared.files.File.{File}
 use Rattle.sg_ramfs.specs.RamfsFiles.{AreFilesIndexed, IsPrepared, index_at, place_at}
 

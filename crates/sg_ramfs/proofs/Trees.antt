@@ -21,7 +21,7 @@ use Rattle.sg_slots.specs.Slots.{Held, entry_at, row_with, set_entry, without}
 use Rattle.sg_slots.proofs.FoundRows.{all_rows}
 use Rattle.sg_slots.proofs.Ids.{ids_more, ids_set, ids_without}
 use Rattle.sg_slots.proofs.Rows.{row_at-rows_of, rows_of-more, rows_of-set, rows_of-without}
-use Rattle.sg_walk_laws.proofs.Found.{above, from_left, met, within}
+use Rattle.sg_facts.proofs.Replaying.Found.{above, from_left, met, within}
 use Rattle.sg_ramfs.specs.declared.open_file.OpenFile.{OpenFile}
 use Rattle.sg_ramfs.specs.Inside.RamfsPaths.{IsBelow, path_below, path_changed, path_last, path_left, path_more, path_of_none}
 use Rattle.sg_ramfs.specs.RamfsRow.{file_body}

@@ -6,7 +6,7 @@ use Rattle.sg_facts.specs.declared.outcome.Patch.{Patch}
 use Rattle.sg_facts.specs.Invoke.{Points}
 use Rattle.sg_facts.specs.Object.{file_at, over, set_file}
 use Rattle.sg_slots.specs.Slots.{Held}
-use Rattle.sg_walk_laws.proofs.Files.{told}
+use Rattle.sg_facts.proofs.Replaying.Files.{told}
 use Rattle.sg_ramfs.specs.declared.open_file.OpenFile.{OpenFile}
 use Rattle.sg_ramfs.specs.Inside.RamfsDecision.{Overwrites, Puts}
 use Rattle.sg_ramfs.specs.RamfsFiles.{place_at}

@@ -19,8 +19,8 @@ use Rattle.sg_facts.specs.Track.{arg_at, is_ancestor, nearest, parent_in, row_at
 use Rattle.sg_facts.proofs.RowLists.{id_of_row, row_of_live}
 use Rattle.sg_slots.proofs.RowLaws.{alike_row, row_of_call, same_done}
 use Rattle.sg_slots.proofs.SoundRows.{none_applies}
-use Rattle.sg_walk_laws.proofs.Found.{above, met, other_test, same_test}
-use Rattle.sg_walk_laws.proofs.Above.{one_above}
+use Rattle.sg_facts.proofs.Replaying.Found.{above, met, other_test, same_test}
+use Rattle.sg_facts.proofs.Replaying.Above.{one_above}
 use Rattle.sg_ramfs.specs.RamfsFacts.{ramfs_facts, tread, twrite}
 use Rattle.sg_ramfs.specs.Inside.RamfsPaths.{IsBelow, SameStep, below, no_path, same_path}
 use Rattle.sg_ramfs.specs.RamfsSound.{IsRamfsSound}

@@ -25,9 +25,9 @@ use Rattle.sg_facts.proofs.RowLists.{more, changed, id_of_row, is_live-more, liv
 use Rattle.sg_slots.proofs.FoundRows.{all_rows}
 use Rattle.sg_slots.proofs.RowLaws.{childless, first_makes, row_of_call, sound_changed}
 use Rattle.sg_slots.proofs.SoundRows.{change, change_id, none_applies, sound_more, sound_left}
-use Rattle.sg_walk_laws.proofs.Creating.{below_it}
-use Rattle.sg_walk_laws.proofs.Files.{are_files_patched}
-use Rattle.sg_walk_laws.proofs.Found.{above, from_left, met, within}
+use Rattle.sg_facts.proofs.Replaying.Creating.{below_it}
+use Rattle.sg_facts.proofs.Replaying.Files.{are_files_patched}
+use Rattle.sg_facts.proofs.Replaying.Found.{above, from_left, met, within}
 use Rattle.sg_ramfs.specs.RamfsFacts.{ramfs_facts, tread, twrite}
 use Rattle.sg_ramfs.specs.Inside.RamfsPaths.{IsBelow, path_changed, path_last, path_left, path_more}
 use Rattle.sg_ramfs.specs.RamfsSound.{IsFile, IsPlaced, IsRamfsSound}

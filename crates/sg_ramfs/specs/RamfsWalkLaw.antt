@@ -25,11 +25,11 @@ use Rattle.sg_ramfs.specs.RamfsTable.{is_bad_name, ramfs_table, seek_answer, spl
 use Rattle.sg_ramfs.specs.RamfsSound.{IsPlaced, IsRamfsSound}
 use Rattle.sg_ramfs.specs.RamfsSoundLaw.{ramfs_answers_and_keeps}
 use Rattle.sg_slots.proofs.RowLaws.{first_makes, one_pair}
-use Rattle.sg_walk_laws.proofs.Paths.{path_below}
-use Rattle.sg_walk_laws.specs.Replays.{AnswersCreations, AnswersReplays, AnswersSteps, IsAnsweredOk}
-use Rattle.sg_walk_laws.proofs.Found.{met}
-use Rattle.sg_walk_laws.proofs.Goes.{walk_goes_on}
-use Rattle.sg_walk_laws.proofs.Service.{begun_by, of_facts, step_of}
+use Rattle.sg_facts.proofs.Replaying.Paths.{path_below}
+use Rattle.sg_facts.specs.Replaying.Replays.{AnswersCreations, AnswersReplays, AnswersSteps, IsAnsweredOk}
+use Rattle.sg_facts.proofs.Replaying.Found.{met}
+use Rattle.sg_facts.proofs.Replaying.Goes.{walk_goes_on}
+use Rattle.sg_facts.proofs.Replaying.Service.{begun_by, of_facts, step_of}
 
 -- tsplit alone makes descriptors, and tseek is the one step
 one_creation : (f : ℕ) → (fun_at ramfs_facts.funs f).creation ≡ true → f ≡ 1

@@ -9,10 +9,10 @@ use Rattle.sg_facts.specs.declared.trace.Tag.TheVariants.{Walk, Load, Client}
 use Rattle.sg_facts.specs.Facts.{Facts}
 use Rattle.sg_facts.specs.Legal.{Table}
 use Rattle.sg_facts.specs.Trace.{Boot}
-use Rattle.sg_recovery_laws.proofs.Growing.{places-more}
+use Rattle.sg_hist.proofs.Growing.{places-more}
 use Rattle.sg_recovery_laws.proofs.Lists.{each_append, each_push, each_split}
 use Rattle.sg_recovery_laws.proofs.Same.{again, again_is}
-use Rattle.sg_recovery_laws.specs.Growing.{AreGrown, HasOneMore, IsGrown, booted, last_stop, noted, place_behind, struck}
+use Rattle.sg_hist.specs.Growing.{AreGrown, HasOneMore, IsGrown, booted, last_stop, noted, place_behind, struck}
 use Rattle.sg_hist.specs.Reading.{Place, behind, items_of, places_from, places_in}
 use Rattle.sg_hist.specs.Recovered.{AreStopped, AskedAs, IsLastIfStopped, IsRebooted, ends_stopped, is_stopped}
 

@@ -16,7 +16,7 @@ use Rattle.sg_facts.specs.declared.trace.Tag.{Tag}
 use Rattle.sg_facts.specs.declared.trace.Tag.TheVariants.{Walk, Load, Client}
 use Rattle.sg_facts.specs.Facts.{Facts, fun_at, is_visible}
 use Rattle.sg_facts.specs.Trace.{Boot}
-use Rattle.sg_recovery_laws.specs.Growing.{IsSameFor, IsSameId}
+use Rattle.sg_hist.specs.Growing.{IsSameFor, IsSameId}
 use Rattle.sg_recovery_laws.proofs.Lists.{each_append, each_push, each_split}
 use Rattle.sg_hist.specs.Reading.{Place, behind, desc_in, desc_of, id_given, is_by_guard, is_made, is_item_of, is_ok, is_tagged, items_of, made_by, names_at, names_in, pair_of, places_from, places_in}
 use Rattle.sg_hist.specs.Recovered.{IsCommitted, is_clients, is_entered, is_replied, is_visible_reply}

@@ -1,8 +1,10 @@
 pub mod Events
 pub mod Given
-pub mod Growing
 pub mod InBoots
+pub mod LastItem
 pub mod Lists
+pub mod Midway
+pub mod Objects
 pub mod Onward
 pub mod Points
 pub mod Same

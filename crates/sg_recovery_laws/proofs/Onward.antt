@@ -14,12 +14,12 @@ use Rattle.sg_facts.specs.Facts.{Facts, is_visible}
 use Rattle.sg_facts.specs.Trace.{Boot, Run}
 use Rattle.sg_recovery_laws.proofs.Events.{no_behind, own_item, reboots_noted, stopped_booted, stopped_struck, with_last}
 use Rattle.sg_recovery_laws.proofs.Given.{IsGiven, committed_given, each_front, given_same, names_same, refused_same}
-use Rattle.sg_recovery_laws.proofs.Growing.{past_all, places-booted, places-more, places-struck}
+use Rattle.sg_hist.proofs.Growing.{past_all, places-booted, places-more, places-struck}
 use Rattle.sg_recovery_laws.proofs.Lists.{each_both, each_map, each_push}
 use Rattle.sg_recovery_laws.proofs.Same.{IsSame, again_is, demanded_same, tracked_same, walked_same}
 use Rattle.sg_recovery_laws.proofs.Served.{IsNamed, committed_stay, entered_later, item_of-own, items_stay, committed_later, has_same, order_push, order_stays}
 use Rattle.sg_recovery_laws.proofs.Stays.{same_committed, same_held, same_noted, same_refused}
-use Rattle.sg_recovery_laws.specs.Growing.{AreKept, HasOneMore, IsGrown, IsHeldReply, IsItemOf, IsLastCall, IsNextItem, IsRecovering, IsSettled, IsOfNoEntry, booted, last_stop, noted, place_behind, struck, IsSameId}
+use Rattle.sg_hist.specs.Growing.{AreKept, HasOneMore, IsGrown, IsHeldReply, IsItemOf, IsLastCall, IsNextItem, IsRecovering, IsSettled, IsOfNoEntry, booted, last_stop, noted, place_behind, struck, IsSameId}
 use Rattle.sg_hist.specs.Reading.{Place, behind, is_by_guard, is_item_of, item_of, items_of, past, places_from, places_in, places_of, stands_before}
 use Rattle.sg_hist.specs.Recovered.{AreInOrder, AreStopped, ComeBefore, HasItem, GivesEntry, IsCommitted, AskedAs, IsAdmitted, IsDemanded, IsItsCall, IsLastIfStopped, IsTrackedAt, IsUnderWay, IsWalked, Stubs, is_entered, is_visible_reply}
 

@@ -17,7 +17,7 @@ use Rattle.sg_facts.specs.Interface.{Declared}
 use Rattle.sg_facts.specs.Needs.{is_needed, needs}
 use Rattle.sg_facts.specs.Object.{object_of}
 use Rattle.sg_facts.specs.Track.{row_at}
-use Rattle.sg_recovery_laws.specs.Growing.{AreGrown, IsGrown}
+use Rattle.sg_hist.specs.Growing.{AreGrown, IsGrown}
 use Rattle.sg_hist.specs.Reading.{Place, entries_before, ends_walk, has_length, is_made, is_ok, is_rebuilt_at, is_whole_at, names_at, object_before, value_at, walk_in}
 use Rattle.sg_hist.specs.Recovered.{IsAdmitted, IsAlikeTo, IsCallOfRow, IsDemanded, IsLoad, IsTracked, IsTrackedAt, IsUnderWay, IsWalked}
 

@@ -9,10 +9,10 @@ use Rattle.sg_facts.specs.declared.entry.Entry.{Entry}
 use Rattle.sg_facts.specs.declared.trace.Item.{Item}
 use Rattle.sg_facts.specs.Facts.{Facts, is_visible}
 use Rattle.sg_facts.specs.Trace.{Run}
-use Rattle.sg_recovery_laws.proofs.Growing.{both_grown}
+use Rattle.sg_hist.proofs.Growing.{both_grown}
 use Rattle.sg_recovery_laws.proofs.Lists.{each_push}
 use Rattle.sg_recovery_laws.proofs.Stays.{stands_each}
-use Rattle.sg_recovery_laws.specs.Growing.{AreGrown, HasOneMore, IsGrown, IsOfNoEntry}
+use Rattle.sg_hist.specs.Growing.{AreGrown, HasOneMore, IsGrown, IsOfNoEntry}
 use Rattle.sg_hist.specs.Reading.{Place, behind, is_by_guard, is_item_of, item_of, names_at, places_of, stands_before}
 use Rattle.sg_hist.specs.Recovered.{AreInOrder, ComeBefore, HasItem, GivesEntry, IsCommitted, IsReplyOf, is_entered, is_visible_reply}
 

@@ -12,11 +12,11 @@ use Rattle.sg_facts.specs.declared.trace.Item.{Item}
 use Rattle.sg_facts.specs.Facts.{Facts}
 use Rattle.sg_facts.specs.Object.{object_of}
 use Rattle.sg_recovery_laws.proofs.Given.{IsGiven, given_same, made_same, names_same, refused_same}
-use Rattle.sg_recovery_laws.proofs.Growing.{entries_before-committed, entries_before-more, entries_before-not_yet, entries_before-refused, in_older, stands_before-more, stands_before-own}
+use Rattle.sg_hist.proofs.Growing.{entries_before-committed, entries_before-more, entries_before-not_yet, entries_before-refused, in_older, stands_before-more, stands_before-own}
 use Rattle.sg_recovery_laws.proofs.Lists.{each_map}
 use Rattle.sg_recovery_laws.proofs.Same.{IsSame, again, any_rebuilt, any_same, rebuilt_again}
 use Rattle.sg_hist.specs.Clients.{calls_of}
-use Rattle.sg_recovery_laws.specs.Growing.{AreKept, IsGrown, IsLastCall, IsOfNoEntry, IsSameId}
+use Rattle.sg_hist.specs.Growing.{AreKept, IsGrown, IsLastCall, IsOfNoEntry, IsSameId}
 use Rattle.sg_hist.specs.Reading.{Place, behind, entries_before, is_by_guard, is_made, is_item_of, is_rebuilt_at, is_whole_at, past, places_in, stands_before}
 use Rattle.sg_hist.specs.Recovered.{IsUnderWay, calls_made}
 

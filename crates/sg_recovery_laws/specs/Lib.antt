@@ -1,1 +1,3 @@
-pub mod Growing
+pub mod LastItem
+pub mod Midway
+pub mod Objects

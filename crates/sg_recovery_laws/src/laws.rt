@@ -9,7 +9,7 @@ ghost use Rattle.sg_facts.specs.Interface.{Declared};
 ghost use Rattle.sg_facts.specs.Legal.{IsLegal, Table, answer};
 ghost use Rattle.sg_facts.specs.Object.{object_of};
 ghost use Rattle.sg_facts.specs.Trace.{Boot, Run};
-ghost use Rattle.sg_recovery_laws.specs.Growing.{AreKept, HasOneMore, IsGrown, IsHeldReply, IsInLast, IsItemOf, IsLastCall, IsNextItem, IsRecovering, IsSettled, IsOfNoEntry, asked_over, booted, last_items, last_stop, noted, place_behind, struck};
+ghost use Rattle.sg_hist.specs.Growing.{AreKept, HasOneMore, IsGrown, IsHeldReply, IsInLast, IsItemOf, IsLastCall, IsNextItem, IsRecovering, IsSettled, IsOfNoEntry, asked_over, booted, last_items, last_stop, noted, place_behind, struck};
 ghost use Rattle.sg_hist.specs.Reading.{Place, after_item, entries_before, is_by_guard, is_item_of, names_at, names_in, places_from, places_of, stands_before, value_at};
 ghost use Rattle.sg_hist.specs.Recovered.{AreInBoots, ArePointsOf, IsCount, IsPointOf, Stubs, answer_to, asked_behind, ends_committed, is_stopped, is_visible_reply};
 

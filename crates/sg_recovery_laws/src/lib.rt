@@ -6,8 +6,10 @@
 #![tactic(auto)]
 
 mod laws;
+mod told;
 
 pub use laws::{
     entries_stay, held_stay_in_boots, legal_stays, places_grow, points_go_on, recovering_goes_on,
     values_grow,
 };
+pub use told::{items_settle, last_place, legal_is_reachable, legal_is_sound, told_grows};

@@ -6,7 +6,7 @@ ghost use Rattle.sg_facts.specs.Needs.{needs as the_needs};
 ghost use Rattle.sg_facts.specs.Object.{Object, empty_object};
 ghost use Rattle.sg_facts.specs.Track.{row_at};
 ghost use Rattle.sg_facts.specs.Trace.{run_of};
-ghost use Rattle.sg_recovery_laws.specs.Growing.{booted};
+ghost use Rattle.sg_hist.specs.Growing.{booted};
 ghost use Rattle.sg_boot.specs.Invoking.{with_stop};
 ghost use Rattle.sg_store.specs.Stored.{bytes_of, receipt_at};
 ghost use Rattle.sg_replay.specs.Missing.{missing, missing_file};

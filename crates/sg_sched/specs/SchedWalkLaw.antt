@@ -22,10 +22,10 @@ use Rattle.sg_sched.specs.SchedSound.{IsSchedSound}
 use Rattle.sg_facts.specs.Counted.{most_counted, most_in}
 use Rattle.sg_sched.specs.SchedSoundLaw.{sched_answers_and_keeps}
 use Rattle.sg_slots.proofs.RowLaws.{first_makes}
-use Rattle.sg_walk_laws.specs.Replays.{AnswersCreations, AnswersReplays, AnswersSteps, IsAnsweredOk}
-use Rattle.sg_walk_laws.proofs.Found.{met}
-use Rattle.sg_walk_laws.proofs.Goes.{walk_goes_on}
-use Rattle.sg_walk_laws.proofs.Service.{begun_by, of_facts, step_of}
+use Rattle.sg_facts.specs.Replaying.Replays.{AnswersCreations, AnswersReplays, AnswersSteps, IsAnsweredOk}
+use Rattle.sg_facts.proofs.Replaying.Found.{met}
+use Rattle.sg_facts.proofs.Replaying.Goes.{walk_goes_on}
+use Rattle.sg_facts.proofs.Replaying.Service.{begun_by, of_facts, step_of}
 
 -- sched_create_thd alone makes threads; sched_sleep and sched_place are the steps
 one_creation : (f : ℕ) → (fun_at sched_facts.funs f).creation ≡ true → f ≡ 1

@@ -13,7 +13,7 @@ use Rattle.sg_facts.specs.Facts.{Facts, fun_at}
 use Rattle.sg_facts.specs.Object.{Object, empty_object, object_of}
 use Rattle.sg_facts.specs.Trace.{Boot, Run}
 use Rattle.sg_facts.specs.Track.{ends_with}
-use Rattle.sg_recovery_laws.specs.Growing.{booted, noted, struck}
+use Rattle.sg_hist.specs.Growing.{booted, noted, struck}
 use Rattle.sg_seat.specs.declared.mark.Mark.{Mark}
 use Rattle.sg_seat.specs.declared.mark.MarkKind.{MarkKind}
 use Rattle.sg_seat.specs.declared.mark.MarkKind.TheVariants.{Offer, Entry as IsEntered, Answer, Withdraw, Leave}

@@ -1,9 +1,9 @@
 // Plays a script on threads.
 ghost use Rattle.std.specs.Prelude.{◌≡◌, [], true, IfOk};
 ghost use Rattle.sg_edge.specs.Stops.{AscendsAbove, struck_of, up_to};
-ghost use Rattle.sg_play_laws.specs.Playable.{IsPlayable};
+ghost use Rattle.sg_plain.specs.Playing.Playable.{IsPlayable};
 ghost use Rattle.sg_sim.specs.Played.{IsPlayed};
-ghost use Rattle.sg_wake_laws.specs.Waking.{no_query_waits};
+ghost use Rattle.sg_play.specs.Waking.Waking.{no_query_waits};
 ghost use Rattle.sg_world.specs.Worlded.{setting_of};
 ghost use Rattle.sg_world_laws.specs.Setting.{stubs_of};
 

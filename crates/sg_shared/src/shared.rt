@@ -1,7 +1,7 @@
 // The play that threads share. Each takes one turn at a time.
 ghost use Rattle.std.specs.Prelude.{◌≡◌, ◌&&◌, None, IfOk, not, true, false};
 ghost use Rattle.sg_edge.specs.Stops.{up_to};
-ghost use Rattle.sg_play_laws.specs.Callers.{is_setting_up};
+ghost use Rattle.sg_plain.specs.Playing.Callers.{is_setting_up};
 ghost use Rattle.sg_shared.specs.Inside.Next.{HasTurned, SomebodyGoes, takes_turn};
 ghost use Rattle.sg_sim.specs.Played.{IsPlayed};
 ghost use Rattle.sg_sim.specs.Playing.{can_step};

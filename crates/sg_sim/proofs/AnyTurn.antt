@@ -8,10 +8,10 @@ use Rattle.std.proofs.lemmas.List.{length-append}
 use Rattle.sg_facts.specs.Interface.{Declared}
 use Rattle.sg_facts.specs.declared.entry.Entry.{Entry}
 use Rattle.sg_plain.specs.Calls.{script_calls}
-use Rattle.sg_play_laws.specs.Callers.{handed, is_setting_up}
-use Rattle.sg_play_laws.specs.Given.{given_in, with_handed}
-use Rattle.sg_play_laws.specs.Plays.{IsPlaying}
-use Rattle.sg_play_laws.specs.Turns.{may_go, may_take_turn}
+use Rattle.sg_plain.specs.Playing.Callers.{handed, is_setting_up}
+use Rattle.sg_plain.specs.Playing.Given.{given_in, with_handed}
+use Rattle.sg_plain.specs.Playing.Plays.{IsPlaying}
+use Rattle.sg_plain.specs.Playing.Turns.{may_go, may_take_turn}
 use Rattle.sg_script.specs.declared.script.Script.{Script}
 use Rattle.sg_seat.specs.WorldView.{Seat, WorldView, happened, seat_in, seat_of}
 use Rattle.sg_sim.proofs.Beginning.{clients_from_one, given_count}

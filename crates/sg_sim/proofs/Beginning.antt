@@ -9,10 +9,10 @@ use Rattle.sg_facts.specs.declared.entry.Entry.{Entry}
 use Rattle.sg_hist.specs.Clients.{calls_of}
 use Rattle.sg_hist.specs.Reading.{desc_of}
 use Rattle.sg_plain.specs.Calls.{most_client}
-use Rattle.sg_play_laws.specs.Callers.{AreCallers, IsCaller, SetsUpFirst, all_of_first, handed, is_receipted}
-use Rattle.sg_play_laws.specs.Given.{given_in}
-use Rattle.sg_play_laws.specs.Playable.{AreClients, IsPlayable}
-use Rattle.sg_play_laws.specs.Plays.{IsPlaying}
+use Rattle.sg_plain.specs.Playing.Callers.{AreCallers, IsCaller, SetsUpFirst, all_of_first, handed, is_receipted}
+use Rattle.sg_plain.specs.Playing.Given.{given_in}
+use Rattle.sg_plain.specs.Playing.Playable.{AreClients, IsPlayable}
+use Rattle.sg_plain.specs.Playing.Plays.{IsPlaying}
 use Rattle.sg_script.specs.declared.script.Script.{Script}
 use Rattle.sg_script.specs.declared.script.ScriptCall.{ScriptCall}
 use Rattle.sg_seat.specs.WorldView.{Seat, is_offered, no_seat, seat_in}

@@ -9,27 +9,27 @@ use Rattle.sg_facts.specs.Trace.{run_of}
 use Rattle.sg_base.specs.declared.call.Call.{Call}
 use Rattle.sg_facts.specs.Facts.{fun_at}
 use Rattle.sg_facts.specs.Object.{Object}
-use Rattle.sg_follow_laws.proofs.Following.{following_end}
-use Rattle.sg_follow_laws.proofs.Whose.{nobody_next}
+use Rattle.sg_play.proofs.Following.Following.{following_end}
+use Rattle.sg_play.proofs.Following.Whose.{nobody_next}
 use Rattle.sg_hist.specs.Recovered.{EndsUsed, HasRecovered, IsRecovered, struck_in}
 use Rattle.sg_hist.specs.declared.ended.End.{End}
 use Rattle.sg_hist.specs.declared.ended.Ended.{Ended}
 use Rattle.sg_plain.specs.Calls.{AreEnds, most_client}
-use Rattle.sg_plain_laws.proofs.Alone.{plain_alone}
-use Rattle.sg_plain_laws.proofs.Plays.{plain_ends}
-use Rattle.sg_play_laws.specs.Callers.{is_setting_up}
+use Rattle.sg_plain.proofs.Ending.Alone.{plain_alone}
+use Rattle.sg_plain.proofs.Ending.Plays.{plain_ends}
+use Rattle.sg_plain.specs.Playing.Callers.{is_setting_up}
 use Rattle.sg_plain.specs.Promises.{AreScriptsCalls, AreWoken}
 use Rattle.sg_play.specs.Recovering.{RecoversSoFar}
-use Rattle.sg_play_laws.proofs.Ending.{playing_ends, playing_waiting}
-use Rattle.sg_play_laws.proofs.Playing.{playing_calls}
-use Rattle.sg_play_laws.specs.Ends.{end_of, ends_from, has_calls}
-use Rattle.sg_play_laws.specs.Turns.{NobodyGoes}
+use Rattle.sg_plain.proofs.Playing.Ending.{playing_ends, playing_waiting}
+use Rattle.sg_plain.proofs.Playing.Playing.{playing_calls}
+use Rattle.sg_plain.specs.Playing.Ends.{end_of, ends_from, has_calls}
+use Rattle.sg_plain.specs.Playing.Turns.{NobodyGoes}
 use Rattle.sg_script.specs.declared.script.Script.{Script}
 use Rattle.sg_seat.specs.WorldView.{Seat, WorldView, no_seat, offered_by, seat_in, unanswered}
 use Rattle.sg_sim.specs.Inside.Keeps.{KeepsPlay}
 use Rattle.sg_sim.proofs.Beginning.{clients_from_one}
 use Rattle.sg_sim.specs.Played.{FollowsSchedule, IsPlayed}
-use Rattle.sg_wake_laws.proofs.Waking.{waking_used, waking_woken}
+use Rattle.sg_play.proofs.Waking.Waking.{waking_used, waking_woken}
 use Rattle.sg_world_laws.specs.Setting.{Setting, stubs_of}
 
 -- ---- ends

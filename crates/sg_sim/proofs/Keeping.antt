@@ -4,15 +4,15 @@ use Rattle.std.specs.declared.option.Option.{Option}
 use Rattle.std.specs.Prelude.{nat_lt}
 use Rattle.sg_base.specs.declared.call.Call.{Call}
 use Rattle.sg_facts.specs.Facts.{Facts}
-use Rattle.sg_follow_laws.proofs.Following.{following_happened, following_new, following_offer, following_taken, following_wanted}
-use Rattle.sg_follow_laws.specs.Follows.{IsFollowing}
-use Rattle.sg_follow_laws.specs.Stages.{IsNextTurn, stage_of}
+use Rattle.sg_play.proofs.Following.Following.{following_happened, following_new, following_offer, following_taken, following_wanted}
+use Rattle.sg_play.specs.Following.Follows.{IsFollowing}
+use Rattle.sg_play.specs.Following.Stages.{IsNextTurn, stage_of}
 use Rattle.sg_hist.specs.Clients.{calls_of}
 use Rattle.sg_plain.specs.Calls.{call_after, most_client, script_calls}
 use Rattle.sg_play.specs.Turning.{StepsInTurn, behind_step, with_call, with_offer, with_leaving}
-use Rattle.sg_play_laws.specs.Playable.{IsPlayable}
-use Rattle.sg_play_laws.specs.Plays.{IsPlaying}
-use Rattle.sg_play_laws.specs.Turns.{is_free_phase}
+use Rattle.sg_plain.specs.Playing.Playable.{IsPlayable}
+use Rattle.sg_plain.specs.Playing.Plays.{IsPlaying}
+use Rattle.sg_plain.specs.Playing.Turns.{is_free_phase}
 use Rattle.sg_script.specs.declared.script.Script.{Script}
 use Rattle.sg_seat.specs.WorldView.{WorldView, happened, in_phase, is_left_phase, new_world, no_seat, seat_of, with_mark}
 use Rattle.sg_seat.specs.declared.mark.MarkKind.TheVariants.{Leave}
@@ -20,8 +20,8 @@ use Rattle.sg_seat.specs.declared.phase.Phase.TheVariants.{Left}
 use Rattle.sg_sim.proofs.Beginning.{playing_new}
 use Rattle.sg_sim.specs.Inside.Keeps.{KeepsPlay}
 use Rattle.sg_sim.specs.Inside.Taken.{MissesTurn, TakesTurn, behind_offer}
-use Rattle.sg_wake_laws.proofs.Waking.{waking_happened, waking_new, waking_offer, waking_turn, waking_wanted}
-use Rattle.sg_wake_laws.specs.Waking.{IsWaking, no_query_waits}
+use Rattle.sg_play.proofs.Waking.Waking.{waking_happened, waking_new, waking_offer, waking_turn, waking_wanted}
+use Rattle.sg_play.specs.Waking.Waking.{IsWaking, no_query_waits}
 use Rattle.sg_world.specs.declared.did.Did.{Did}
 use Rattle.sg_world.specs.declared.did.Did.TheVariants.{Answered, Blocked as Waits, Booted, Loaded, Lost, Replayed, Served, Skipped, Struck}
 use Rattle.sg_world.specs.Steps.{Commits, Steps, WantsMemory}

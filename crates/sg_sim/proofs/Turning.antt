@@ -2,13 +2,13 @@
 use Rattle.std.proofs.Common.{◌≡◌, ◌⊎◌, inl, inr, ℕ, zero, suc, ◌+◌, ◌<◌, ◌≤◌, true, false, List, [], ◌∷◌, None, Some, length, refl, sym, ◌∙◌, ap, subst, arith}
 use Rattle.std.specs.Prelude.{slice_get}
 use Rattle.std.proofs.lemmas.Bool.{cases_lt}
-use Rattle.sg_follow_laws.proofs.Turns.{turns_alike, turns_beyond}
-use Rattle.sg_follow_laws.proofs.Whose.{next_around, next_behind, scheduled_turn, setup_turn}
-use Rattle.sg_follow_laws.specs.Stages.{IsNextTurn, stage_of}
+use Rattle.sg_play.proofs.Following.Turns.{turns_alike, turns_beyond}
+use Rattle.sg_play.proofs.Following.Whose.{next_around, next_behind, scheduled_turn, setup_turn}
+use Rattle.sg_play.specs.Following.Stages.{IsNextTurn, stage_of}
 use Rattle.sg_facts.specs.Interface.{Declared}
-use Rattle.sg_play_laws.specs.Callers.{is_setting_up}
-use Rattle.sg_play_laws.specs.Plays.{IsPlaying}
-use Rattle.sg_play_laws.specs.Turns.{NobodyGoes}
+use Rattle.sg_plain.specs.Playing.Callers.{is_setting_up}
+use Rattle.sg_plain.specs.Playing.Plays.{IsPlaying}
+use Rattle.sg_plain.specs.Playing.Turns.{NobodyGoes}
 use Rattle.sg_sim.specs.Inside.Next.{IsFirstBehind, NoneBehind, NoneScheduled, may_go_next, stage_now}
 use Rattle.sg_sim.specs.Playing.{Playing}
 

@@ -1,7 +1,7 @@
 -- What contracts see of a play.
 use Rattle.std.specs.Prelude.{ℕ, Bool, ◌&&◌, nat_le, List, length}
 use Rattle.sg_facts.specs.Tables.{Compiled}
-use Rattle.sg_play_laws.specs.Turns.{may_take_turn}
+use Rattle.sg_plain.specs.Playing.Turns.{may_take_turn}
 use Rattle.sg_script.specs.declared.script.Script.{Script}
 use Rattle.sg_seat.specs.WorldView.{WorldView, seat_of}
 

@@ -1,6 +1,6 @@
 // What the calls of the clients were given.
 ghost use Rattle.std.specs.Prelude.{◌≡◌, ◌≤◌, ◌<◌, [], Some, IfOk, OnOk, length, replicate};
-ghost use Rattle.sg_play_laws.specs.Given.{given_in, with_handed};
+ghost use Rattle.sg_plain.specs.Playing.Given.{given_in, with_handed};
 ghost use Rattle.sg_sim.specs.Inside.Givens.{lists_of, room_for};
 
 use sg_base::{NoMemory, RoomyList};

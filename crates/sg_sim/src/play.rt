@@ -1,19 +1,19 @@
 // A play: whose turn it is, and the play to its end.
 ghost use Rattle.std.specs.Prelude.{◌≡◌, ◌≤◌, ◌<◌, ◌++◌, ℕ, List, [], true, false, None, IfOk, IfSome, OnErr, OnOk, length, nat_lt, replicate};
-ghost use Rattle.sg_play_laws.specs.Callers.{is_setting_up};
-ghost use Rattle.sg_play_laws.specs.Ends.{end_of, ends_from};
+ghost use Rattle.sg_plain.specs.Playing.Callers.{is_setting_up};
+ghost use Rattle.sg_plain.specs.Playing.Ends.{end_of, ends_from};
 ghost use Rattle.sg_sim.specs.Inside.Ends.{end_by};
-ghost use Rattle.sg_play_laws.specs.Playable.{IsPlayable};
-ghost use Rattle.sg_play_laws.specs.Turns.{NobodyGoes, may_go};
+ghost use Rattle.sg_plain.specs.Playing.Playable.{IsPlayable};
+ghost use Rattle.sg_plain.specs.Playing.Turns.{NobodyGoes, may_go};
 ghost use Rattle.sg_facts.specs.Trace.{run_of};
 ghost use Rattle.sg_plain.specs.Calls.{most_client, script_calls};
 ghost use Rattle.sg_play.specs.Turning.{StepsInTurn, with_offer};
-ghost use Rattle.sg_follow_laws.specs.Stages.{IsNextTurn};
+ghost use Rattle.sg_play.specs.Following.Stages.{IsNextTurn};
 ghost use Rattle.sg_sim.specs.Inside.Next.{IsFirstBehind, NoneBehind, NoneScheduled, may_go_next, stage_now};
 ghost use Rattle.sg_seat.specs.WorldView.{is_blocked_phase, new_world, no_seat, seat_of};
 ghost use Rattle.sg_sim.specs.Played.{FollowsSchedule, IsPlayed};
 ghost use Rattle.sg_sim.specs.Playing.{can_step};
-ghost use Rattle.sg_wake_laws.specs.Waking.{no_query_waits};
+ghost use Rattle.sg_play.specs.Waking.Waking.{no_query_waits};
 ghost use Rattle.sg_world.specs.Worlded.{setting_of};
 ghost use Rattle.sg_world_laws.specs.Setting.{stubs_of};
 

@@ -1,9 +1,9 @@
 // Plays a script.
 ghost use Rattle.std.specs.Prelude.{◌≡◌, [], true, IfOk};
 ghost use Rattle.sg_facts.specs.Trace.{run_of};
-ghost use Rattle.sg_play_laws.specs.Playable.{IsPlayable};
+ghost use Rattle.sg_plain.specs.Playing.Playable.{IsPlayable};
 ghost use Rattle.sg_sim.specs.Played.{FollowsSchedule, IsPlayed};
-ghost use Rattle.sg_wake_laws.specs.Waking.{no_query_waits};
+ghost use Rattle.sg_play.specs.Waking.Waking.{no_query_waits};
 
 use crate::{Play, Played};
 use sg_base::{NoMemory, Stops};

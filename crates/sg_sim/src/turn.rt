@@ -1,8 +1,8 @@
 // The turn of a client.
 ghost use Rattle.std.specs.Prelude.{◌≡◌, ◌≤◌, ℕ, List, [], true, IfOk, OnErr, length};
 ghost use Rattle.sg_play.specs.Recovering.{RecoversSoFar};
-ghost use Rattle.sg_play_laws.specs.Callers.{is_setting_up};
-ghost use Rattle.sg_play_laws.specs.Plays.{IsPlaying};
+ghost use Rattle.sg_plain.specs.Playing.Callers.{is_setting_up};
+ghost use Rattle.sg_plain.specs.Playing.Plays.{IsPlaying};
 ghost use Rattle.sg_sim.specs.Inside.Givens.{lists_of};
 ghost use Rattle.sg_sim.specs.Inside.Taken.{MissesTurn, TakesTurn};
 ghost use Rattle.sg_world.specs.Worlded.{setting_of};

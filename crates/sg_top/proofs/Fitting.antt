@@ -13,11 +13,11 @@ use Rattle.sg_input.specs.Inputs.{IsInputOf, IsReady}
 use Rattle.sg_load.specs.Services.{facts_by}
 use Rattle.sg_lock.specs.LockFacts.{lock_facts}
 use Rattle.sg_mm.specs.MmFacts.{mm_facts}
-use Rattle.sg_play_laws.specs.Playable.{IsPlayable}
+use Rattle.sg_plain.specs.Playing.Playable.{IsPlayable}
 use Rattle.sg_ramfs.specs.RamfsFacts.{ramfs_facts}
 use Rattle.sg_sched.specs.SchedFacts.{sched_facts}
 use Rattle.sg_script.specs.declared.script.Script.{Script}
-use Rattle.sg_script_laws.proofs.Flawless.{script_playable, script_stops}
+use Rattle.sg_plain.proofs.Flawless.Flawless.{script_playable, script_stops}
 use Rattle.sg_top.specs.Answer.{services}
 use Rattle.sg_top.specs.Headline.{answering, played_services}
 use Rattle.sg_top.specs.Inside.Kinds.{IsOneOfFive, kind_by}

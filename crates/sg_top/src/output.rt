@@ -2,7 +2,7 @@
 ghost use Rattle.std.specs.Prelude.{◌≡◌, ℕ, List, true, false, IfOk, None, Some};
 ghost use Rattle.sg_edge.specs.Stops.{AscendsAbove};
 ghost use Rattle.sg_input.specs.Inputs.{IsReady};
-ghost use Rattle.sg_play_laws.specs.Playable.{IsPlayable};
+ghost use Rattle.sg_plain.specs.Playing.Playable.{IsPlayable};
 ghost use Rattle.sg_hist.specs.Recovered.{is_blocked};
 ghost use Rattle.sg_plain.specs.Promises.{somebody_waits};
 ghost use Rattle.sg_load.specs.Generated.{generated};

@@ -3,12 +3,12 @@ ghost use Rattle.std.specs.Prelude.{◌≡◌, [], true, IfOk};
 ghost use Rattle.sg_edge.specs.Stops.{AscendsAbove, struck_of};
 ghost use Rattle.sg_facts.specs.Trace.{run_of};
 ghost use Rattle.sg_load.specs.Services.{facts_by};
-ghost use Rattle.sg_play_laws.specs.Playable.{IsPlayable};
+ghost use Rattle.sg_plain.specs.Playing.Playable.{IsPlayable};
 ghost use Rattle.sg_sim.specs.Played.{FollowsSchedule};
 ghost use Rattle.sg_top.specs.Headline.{IsRunOf, answering};
 ghost use Rattle.sg_top.specs.Inside.Runs.{IsPlayedOn, IsPlayInOrder};
 ghost use Rattle.sg_top.specs.Inside.Kinds.{IsOneOfFive, kind_by};
-ghost use Rattle.sg_wake_laws.specs.Waking.{no_query_waits};
+ghost use Rattle.sg_play.specs.Waking.Waking.{no_query_waits};
 
 use crate::services::kind_of;
 use sg_base::{NoMemory, TryCopy};

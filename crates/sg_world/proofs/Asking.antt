@@ -4,10 +4,10 @@ use Rattle.std.specs.Prelude.{IfSome}
 use Rattle.sg_base.specs.Stops.{asked_after}
 use Rattle.sg_base.specs.declared.call.Call.{Call}
 use Rattle.sg_base.specs.declared.reply.Reply.{Reply}
-use Rattle.sg_engine_laws.proofs.Looking.{tell_same}
-use Rattle.sg_engine_laws.proofs.Serving.{may_serve}
-use Rattle.sg_engine_laws.specs.Engines.{as_shown}
-use Rattle.sg_engine_laws.specs.Stubs.{stub_of, told_of}
+use Rattle.sg_world.proofs.Engines.Looking.{tell_same}
+use Rattle.sg_world.proofs.Engines.Serving.{may_serve}
+use Rattle.sg_world.specs.Engines.Engines.{as_shown}
+use Rattle.sg_world.specs.Engines.Stubs.{stub_of, told_of}
 use Rattle.sg_facts.specs.declared.outcome.Outcome.TheVariants.{Blocks, NoMemory, Replied, Stopped}
 use Rattle.sg_facts.specs.declared.outcome.Patch.{Patch}
 use Rattle.sg_facts.specs.Facts.{Facts}

@@ -12,7 +12,7 @@ use Rattle.sg_facts.specs.declared.trace.Item.{Item}
 use Rattle.sg_facts.specs.declared.trace.Tag.{Tag}
 use Rattle.sg_facts.specs.declared.trace.Tag.TheVariants.{Client, Load, Walk}
 use Rattle.sg_hist.specs.Recovered.{ArePoints, ArePointsOf, IsCount, IsPointOf, IsPointOfCall, IsStopOf, answer_to, asked_behind, asked_in}
-use Rattle.sg_recovery_laws.specs.Growing.{asked_over}
+use Rattle.sg_hist.specs.Growing.{asked_over}
 
 -- ---- counts
 

@@ -4,13 +4,13 @@ use Rattle.std.specs.List.{Contains}
 use Rattle.sg_base.specs.declared.call.Call.{Call}
 use Rattle.sg_base.specs.declared.reply.Code.{Code}
 use Rattle.sg_base.specs.declared.reply.Reply.TheVariants.{Refused}
-use Rattle.sg_engine_laws.specs.Stubs.{stub_of}
+use Rattle.sg_world.specs.Engines.Stubs.{stub_of}
 use Rattle.sg_facts.specs.Guard.{guard}
 use Rattle.sg_facts.specs.Legal.{refused_or}
 use Rattle.sg_facts.specs.Object.{Object, empty_object, file_at, object_of}
 use Rattle.sg_facts.specs.Trace.{Boot}
 use Rattle.sg_facts.specs.declared.entry.Entry.{Entry}
-use Rattle.sg_object_laws.specs.Waiting.{NoneBy}
+use Rattle.sg_recovery_laws.specs.Objects.Waiting.{NoneBy}
 use Rattle.sg_replay.specs.Engined.{Engined}
 use Rattle.sg_seat.specs.WorldView.{Seat, WorldView, answered_to, committed, held_in, held_replies, is_blocked_phase, is_held_in, is_held_phase, is_offered, no_reply, offered_by, seat_of, unanswered, wakes_seat, woken_seat}
 use Rattle.sg_seat.specs.declared.mark.Mark.{Mark}

@@ -13,7 +13,7 @@ use Rattle.sg_base.specs.Stops.{asked_after}
 use Rattle.sg_base.specs.declared.memory.NoMemory.{NoMemory}
 use Rattle.sg_base.specs.declared.reply.Reply.{Reply}
 use Rattle.sg_boot.specs.Cells.{IsCell}
-use Rattle.sg_engine_laws.specs.Stubs.{stub_of}
+use Rattle.sg_world.specs.Engines.Stubs.{stub_of}
 use Rattle.sg_facts.specs.declared.entry.Entry.{Entry}
 use Rattle.sg_hist.specs.Clients.{calls_of}
 use Rattle.sg_replay.specs.Engined.{Engined}

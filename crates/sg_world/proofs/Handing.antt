@@ -2,12 +2,12 @@
 use Rattle.std.proofs.Common.{Bool, List, None, Option, Some, [], ap, arith, false, flat_map, if◌then◌else◌, inl, inr, length, refl, slice_get, slice_set, subst, sym, true, ℕ, ◌&&◌, ◌++◌, ◌+◌, ◌-◌, ◌<◌, ◌∙◌, ◌∷◌, ◌≡◌, ◌≢◌, ◌≤◌, ◌⊎◌}
 use Rattle.sg_facts.specs.Object.{Object}
 use Rattle.sg_replay.specs.Engined.{Engined}
-use Rattle.sg_engine_laws.specs.Stubs.{stub_of}
+use Rattle.sg_world.specs.Engines.Stubs.{stub_of}
 use Rattle.sg_seat.specs.WorldView.{Seat, WorldView, boot_number, is_held_phase, is_offered, no_reply, offered_by, seat_of}
 use Rattle.sg_seat.specs.declared.mark.Mark.{Mark}
 use Rattle.sg_seat.specs.declared.mark.MarkKind.TheVariants.{Answer}
 use Rattle.sg_seat.specs.declared.phase.Phase.TheVariants.{Asked, Held, Idle, Receipted}
-use Rattle.sg_walk_laws.proofs.Found.{other_test}
+use Rattle.sg_facts.proofs.Replaying.Found.{other_test}
 use Rattle.sg_world.proofs.Marking.{marks_on}
 use Rattle.sg_world.proofs.Moving.{rooms_moved, told_moved}
 use Rattle.sg_world.proofs.Rooming.{marks_set, marks_some, offers_set}

@@ -1,6 +1,7 @@
 pub mod Asking
 pub mod Counting
 pub mod Denying
+pub mod Engines
 pub mod Entering
 pub mod Events
 pub mod Handing
@@ -11,8 +12,8 @@ pub mod Points
 pub mod Reaching
 pub mod Rebooting
 pub mod Rebuilding
-pub mod Replying
 pub mod Recovered
+pub mod Replying
 pub mod Reserving
 pub mod Returning
 pub mod Rooming

@@ -9,8 +9,8 @@ use Rattle.sg_seat.specs.declared.mark.MarkKind.{MarkKind}
 use Rattle.sg_seat.specs.declared.mark.MarkKind.TheVariants.{Withdraw}
 use Rattle.sg_seat.specs.WorldView.{Seat, WorldView, no_seat}
 use Rattle.sg_seat.specs.declared.withdrawn.Withdrawn.{Withdrawn}
-use Rattle.sg_walk_laws.proofs.Files.{told}
-use Rattle.sg_walk_laws.proofs.Found.{other_test, same_test}
+use Rattle.sg_facts.proofs.Replaying.Files.{told}
+use Rattle.sg_facts.proofs.Replaying.Found.{other_test, same_test}
 use Rattle.sg_world.specs.Marked.{TellsAll, AreTold, IsPhaseAfter, is_entry_mark, is_withdrawal_mark, last_kind, marked_as, or_later}
 use Rattle.sg_world_laws.proofs.Refusing.{refused}
 use Rattle.sg_world_laws.proofs.Seating.{HasSeat, has_seat}

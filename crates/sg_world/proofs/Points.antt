@@ -2,15 +2,15 @@
 use Rattle.std.proofs.Common.{IsSome, List, None, Option, Some, [], ap, append_assoc, flat_map, refl, subst, sym, ℕ, ◌++◌, ◌∙◌, ◌∷◌, ◌≡◌, ◌≢◌}
 use Rattle.sg_boot.specs.Cells.{IsRunning}
 use Rattle.sg_boot.specs.Invoking.{with_stop}
-use Rattle.sg_engine_laws.specs.Engines.{as_shown}
-use Rattle.sg_engine_laws.specs.Stubs.{stub_of}
+use Rattle.sg_world.specs.Engines.Engines.{as_shown}
+use Rattle.sg_world.specs.Engines.Stubs.{stub_of}
 use Rattle.sg_facts.specs.Facts.{Facts}
 use Rattle.sg_facts.specs.Object.{Object}
 use Rattle.sg_facts.specs.Trace.{Boot}
 use Rattle.sg_facts.specs.declared.entry.Entry.{Entry}
 use Rattle.sg_facts.specs.declared.trace.Item.{Item}
 use Rattle.sg_hist.specs.Recovered.{stop_in}
-use Rattle.sg_recovery_laws.specs.Growing.{booted, last_stop, noted, struck}
+use Rattle.sg_hist.specs.Growing.{booted, last_stop, noted, struck}
 use Rattle.sg_replay.specs.Engined.{Engined}
 use Rattle.sg_seat.specs.WorldView.{WorldView, with_points}
 use Rattle.sg_store.specs.Stored.{bytes_of}

@@ -2,17 +2,17 @@
 -- the service replies.
 use Rattle.std.proofs.Common.{IsSome, List, None, Some, [], ap, if◌then◌else◌, inl, length, refl, slice_set, subst, sym, true, ℕ, ◌++◌, ◌-◌, ◌∙◌, ◌∷◌, ◌≡◌, ◌≤◌}
 use Rattle.std.proofs.lemmas.Bool.{ltb-true}
-use Rattle.sg_advance_laws.proofs.Advances.{call_stopped, stopped_next, waited, waiting_next, would_wait}
-use Rattle.sg_advance_laws.proofs.Noted.{length_noted}
+use Rattle.sg_world_laws.proofs.Advancing.Advances.{call_stopped, stopped_next, waited, waiting_next, would_wait}
+use Rattle.sg_world_laws.proofs.Advancing.Noted.{length_noted}
 use Rattle.sg_base.specs.Counts.{last_count}
 use Rattle.sg_base.specs.Stops.{asked_after}
 use Rattle.sg_base.specs.declared.call.Call.{Call}
 use Rattle.sg_boot.proofs.LastBoot.{begun_noted, stop_noted}
 use Rattle.sg_boot.specs.Cells.{IsRunning, IsUp}
 use Rattle.sg_boot.specs.Invoking.{NotesStop, item_of_call, with_item, with_stop}
-use Rattle.sg_engine_laws.proofs.Left.{has_all}
-use Rattle.sg_engine_laws.specs.Engines.{as_shown}
-use Rattle.sg_engine_laws.specs.Stubs.{stub_of}
+use Rattle.sg_world.proofs.Engines.Left.{has_all}
+use Rattle.sg_world.specs.Engines.Engines.{as_shown}
+use Rattle.sg_world.specs.Engines.Stubs.{stub_of}
 use Rattle.sg_facts.specs.declared.outcome.Outcome.TheVariants.{Blocks, Stopped}
 use Rattle.sg_facts.specs.declared.trace.Item.{Item}
 use Rattle.sg_facts.specs.declared.trace.Tag.TheVariants.{Client}
@@ -21,7 +21,7 @@ use Rattle.sg_facts.specs.Legal.{answer, refused_or}
 use Rattle.sg_facts.specs.Object.{Object, object_of}
 use Rattle.sg_facts.specs.Trace.{Run}
 use Rattle.sg_hist.specs.Recovered.{IsStopInCall, answer_to, struck_in}
-use Rattle.sg_recovery_laws.specs.Growing.{IsNextItem, last_items, noted, place_behind}
+use Rattle.sg_hist.specs.Growing.{IsNextItem, last_items, noted, place_behind}
 use Rattle.sg_replay.specs.Engined.{Engined}
 use Rattle.sg_replay.specs.Missing.{missing}
 use Rattle.sg_replay.specs.Serving.{real_call}

@@ -1,12 +1,12 @@
 -- A world keeps what it keeps where its service, which failed, is booted afresh.
 use Rattle.std.proofs.Common.{List, None, Some, [], ap, map, subst, sym, false, true, ℕ, ◌∙◌, ◌≡◌}
-use Rattle.sg_engine_laws.specs.Stubs.{stub_of, told_of}
+use Rattle.sg_world.specs.Engines.Stubs.{stub_of, told_of}
 use Rattle.sg_facts.specs.Alike.{named}
 use Rattle.sg_facts.specs.Object.{empty_object}
 use Rattle.sg_facts.specs.Trace.{Boot, Run}
-use Rattle.sg_held_laws.specs.Progress.{fresh}
+use Rattle.sg_recovery_laws.specs.Midway.Progress.{fresh}
 use Rattle.sg_name.specs.Names.{named_at}
-use Rattle.sg_recovery_laws.specs.Growing.{booted}
+use Rattle.sg_hist.specs.Growing.{booted}
 use Rattle.sg_replay.specs.Engined.{Engined}
 use Rattle.sg_replay.specs.Present.{is_present}
 use Rattle.sg_replay.specs.Serving.{pairs_of}

@@ -13,10 +13,10 @@ use Rattle.sg_base.specs.declared.reply.Reply.TheVariants.{Ok, Refused}
 use Rattle.sg_boot.proofs.LastBoot.{begun_noted, stop_noted}
 use Rattle.sg_boot.specs.Cells.{IsRunning, IsUp}
 use Rattle.sg_boot.specs.Invoking.{item_of_call, item_of_load, with_item, with_stop}
-use Rattle.sg_engine_laws.proofs.Advancing.{it, loads_next, loads_shown, may_advance, replayable, replays_next, replays_shown, struck_next, struck_shown, unchanged_shown}
-use Rattle.sg_engine_laws.proofs.Left.{left_to_load}
-use Rattle.sg_engine_laws.specs.Engines.{IsEngineOf, as_shown}
-use Rattle.sg_engine_laws.specs.Stubs.{stub_of}
+use Rattle.sg_world.proofs.Engines.Advancing.{it, loads_next, loads_shown, may_advance, replayable, replays_next, replays_shown, struck_next, struck_shown, unchanged_shown}
+use Rattle.sg_world.proofs.Engines.Left.{left_to_load}
+use Rattle.sg_world.specs.Engines.Engines.{IsEngineOf, as_shown}
+use Rattle.sg_world.specs.Engines.Stubs.{stub_of}
 use Rattle.sg_facts.specs.Facts.{Facts}
 use Rattle.sg_facts.specs.Invoke.{Points, parts_of}
 use Rattle.sg_facts.specs.Laws.{is_none}
@@ -30,7 +30,7 @@ use Rattle.sg_facts.specs.declared.outcome.Outcome.TheVariants.{Replied, Stopped
 use Rattle.sg_facts.specs.declared.trace.Item.{Item}
 use Rattle.sg_facts.specs.declared.trace.Tag.TheVariants.{Load, Walk}
 use Rattle.sg_hist.specs.Recovered.{IsStopInCall, answer_to, struck_in}
-use Rattle.sg_recovery_laws.specs.Growing.{IsNextItem, last_items, noted, place_behind}
+use Rattle.sg_hist.specs.Growing.{IsNextItem, last_items, noted, place_behind}
 use Rattle.sg_replay.specs.Engined.{Engined}
 use Rattle.sg_replay.specs.Missing.{missing}
 use Rattle.sg_replay.specs.Replaying.{IsStruck, IsUnchanged, KeepsPresent, Loads as LoadsFile, LoadsOne, MayAdvance, Replays as ReplaysCall, ReplaysOne, replay_of}

@@ -2,7 +2,7 @@
 use Rattle.std.proofs.Common.{ℕ, List, length, [], append-nil, subst, sym, ◌≡◌, ◌≤◌}
 use Rattle.std.specs.Prelude.{◌==◌}
 use Rattle.sg_hist.specs.Recovered.{ArePointsOf, IsRecovered, struck_in}
-use Rattle.sg_recovery_laws.specs.Growing.{IsRecovering}
+use Rattle.sg_hist.specs.Growing.{IsRecovering}
 use Rattle.sg_seat.specs.WorldView.{WorldView, held_replies, seat_of, unanswered}
 use Rattle.sg_world.specs.Worlded.{CountsAll, CountsPoints}
 use Rattle.sg_world_laws.proofs.Moves.{its_seat}

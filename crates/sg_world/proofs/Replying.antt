@@ -2,24 +2,24 @@
 use Rattle.std.proofs.Common.{Bool, List, None, Option, Some, [], ap, arith, false, if◌then◌else◌, length, map, refl, slice_get, slice_set, subst, sym, true, unwrap_or, ℕ, ◌++◌, ◌+◌, ◌-◌, ◌<◌, ◌^◌, ◌∙◌, ◌∷◌, ◌≡◌, ◌≤◌, ◌||◌}
 use Rattle.std.specs.Prelude.{IfSome, nat_lt}
 use Rattle.std.proofs.lemmas.Bool.{ltb-true}
-use Rattle.sg_advance_laws.proofs.Noted.{length_noted}
+use Rattle.sg_world_laws.proofs.Advancing.Noted.{length_noted}
 use Rattle.sg_base.specs.Counts.{last_count}
 use Rattle.sg_base.specs.Stops.{asked_after}
 use Rattle.sg_base.specs.declared.call.Call.{Call}
 use Rattle.sg_base.specs.declared.reply.Reply.{Reply}
 use Rattle.sg_base.specs.declared.reply.Reply.TheVariants.{Ok, Refused}
 use Rattle.sg_boot.specs.Invoking.{item_of_call, with_item}
-use Rattle.sg_commit_laws.proofs.Behind.{patch_it}
-use Rattle.sg_commit_laws.proofs.Committed.{committed_keeps, committed_next}
-use Rattle.sg_commit_laws.proofs.Holding.{held_keeps, held_next}
-use Rattle.sg_commit_laws.proofs.Storing.{makes_next, may_track_it, writes_needed}
-use Rattle.sg_commit_laws.proofs.Turning.{given_back, holds_back}
-use Rattle.sg_commit_laws.specs.Serving.{IsCommittedIn, IsHeldBy, IsServedCall}
-use Rattle.sg_commit_laws.specs.Telling.{TellsAfter}
-use Rattle.sg_engine_laws.proofs.Looking.{serve_tells_same, tells_after}
-use Rattle.sg_engine_laws.proofs.Serving.{served}
-use Rattle.sg_engine_laws.specs.Engines.{as_shown}
-use Rattle.sg_engine_laws.specs.Stubs.{stub_of, told_of}
+use Rattle.sg_world_laws.proofs.Committing.Behind.{patch_it}
+use Rattle.sg_world_laws.proofs.Committing.Committed.{committed_keeps, committed_next}
+use Rattle.sg_world_laws.proofs.Committing.Holding.{held_keeps, held_next}
+use Rattle.sg_world_laws.proofs.Committing.Storing.{makes_next, may_track_it, writes_needed}
+use Rattle.sg_world_laws.proofs.Committing.Turning.{given_back, holds_back}
+use Rattle.sg_world_laws.specs.Committing.Serving.{IsCommittedIn, IsHeldBy, IsServedCall}
+use Rattle.sg_world_laws.specs.Committing.Telling.{TellsAfter}
+use Rattle.sg_world.proofs.Engines.Looking.{serve_tells_same, tells_after}
+use Rattle.sg_world.proofs.Engines.Serving.{served}
+use Rattle.sg_world.specs.Engines.Engines.{as_shown}
+use Rattle.sg_world.specs.Engines.Stubs.{stub_of, told_of}
 use Rattle.sg_facts.specs.declared.entry.Entry.{Entry}
 use Rattle.sg_facts.specs.declared.outcome.Outcome.TheVariants.{Replied}
 use Rattle.sg_facts.specs.declared.outcome.Patch.{Patch}
@@ -36,9 +36,9 @@ use Rattle.sg_hist.specs.Reading.{after_item}
 use Rattle.sg_hist.specs.Recovered.{IsPointOfCall, answer_to, struck_in}
 use Rattle.sg_name.specs.Names.{named_at}
 use Rattle.sg_name.specs.declared.named.Named.TheVariants.{Live}
-use Rattle.sg_object_laws.proofs.Waiting.{hidden_is}
-use Rattle.sg_recovery_laws.specs.Growing.{IsNextItem, last_items, noted, place_behind}
-use Rattle.sg_held_laws.specs.Progress.{IsNone}
+use Rattle.sg_recovery_laws.proofs.Objects.Waiting.{hidden_is}
+use Rattle.sg_hist.specs.Growing.{IsNextItem, last_items, noted, place_behind}
+use Rattle.sg_recovery_laws.specs.Midway.Progress.{IsNone}
 use Rattle.sg_replay.proofs.Fitting.{fits_stored}
 use Rattle.sg_replay.specs.Committing.{MayCommitAt, MayStore, is_written, name_left}
 use Rattle.sg_replay.specs.Engined.{AreGiven, Engined, IsEngine}

@@ -1,6 +1,6 @@
 -- A world keeps what it keeps where its engine took memory.
 use Rattle.std.proofs.Common.{List, ap, ℕ, ◌∙◌, ◌≡◌}
-use Rattle.sg_engine_laws.specs.Stubs.{stub_of, told_of}
+use Rattle.sg_world.specs.Engines.Stubs.{stub_of, told_of}
 use Rattle.sg_facts.specs.Alike.{named}
 use Rattle.sg_name.specs.Names.{named_at}
 use Rattle.sg_replay.specs.Engined.{Engined}

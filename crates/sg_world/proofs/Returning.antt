@@ -6,7 +6,7 @@ use Rattle.std.specs.Prelude.{◌||◌}
 use Rattle.sg_base.specs.declared.call.Call.{Call}
 use Rattle.sg_base.specs.declared.reply.Reply.{Reply}
 use Rattle.sg_base.specs.declared.reply.Reply.TheVariants.{Ok, Refused}
-use Rattle.sg_engine_laws.specs.Stubs.{stub_of, told_of}
+use Rattle.sg_world.specs.Engines.Stubs.{stub_of, told_of}
 use Rattle.sg_facts.specs.Alike.{named}
 use Rattle.sg_facts.specs.Facts.{Facts, fun_at}
 use Rattle.sg_facts.specs.Legal.{Table}
@@ -20,10 +20,10 @@ use Rattle.sg_facts.specs.declared.row.Row.{Row}
 use Rattle.sg_name.specs.Names.{named_at}
 use Rattle.sg_name.specs.declared.named.Named.{Named}
 use Rattle.sg_name.specs.declared.named.Named.TheVariants.{Unnamed}
-use Rattle.sg_object_laws.proofs.Steady.{after_good}
-use Rattle.sg_object_laws.proofs.Waiting.{hidden_is}
-use Rattle.sg_object_laws.specs.Serving.{IsAnsweredAt, IsLegalObject, IsService}
-use Rattle.sg_object_laws.specs.Waiting.{AreWaiting, IsWaiting}
+use Rattle.sg_recovery_laws.proofs.Objects.Steady.{after_good}
+use Rattle.sg_recovery_laws.proofs.Objects.Waiting.{hidden_is}
+use Rattle.sg_recovery_laws.specs.Objects.Serving.{IsAnsweredAt, IsLegalObject, IsService}
+use Rattle.sg_recovery_laws.specs.Objects.Waiting.{AreWaiting, IsWaiting}
 use Rattle.sg_replay.proofs.Naming.{named_in_pairs, real_or_zero}
 use Rattle.sg_replay.specs.Committing.{MayCommitAt, is_written, name_left}
 use Rattle.sg_replay.specs.Engined.{Engined}
@@ -32,13 +32,13 @@ use Rattle.sg_seat.specs.WorldView.{Seat, WorldView, held_in, is_held_in, is_hel
 use Rattle.sg_seat.specs.declared.phase.Phase.TheVariants.{Held, Idle}
 use Rattle.sg_track.proofs.Premises.{may_track}
 use Rattle.sg_track.specs.Tracked.{MayTrack, Tracked}
-use Rattle.sg_walk_laws.proofs.Found.{same_test}
+use Rattle.sg_facts.proofs.Replaying.Found.{same_test}
 use Rattle.std.proofs.Common.{unwrap_or}
 use Rattle.std.specs.Prelude.{IsSome}
 use Rattle.sg_base.specs.Lists.{Each}
 use Rattle.sg_facts.specs.Object.{given_after}
 use Rattle.sg_facts.specs.Trace.{Run}
-use Rattle.sg_held_laws.specs.Progress.{IsNone}
+use Rattle.sg_recovery_laws.specs.Midway.Progress.{IsNone}
 use Rattle.sg_seat.specs.WorldView.{answered_to, boot_number, committed, is_blocked_phase, no_seat, seat_in, seat_of}
 use Rattle.sg_seat.specs.declared.mark.Mark.{Mark}
 use Rattle.sg_seat.specs.declared.mark.MarkKind.TheVariants.{Answer, Entry as IsEntered}

@@ -2,7 +2,7 @@
 
 -- the service keeps its laws, and the walks are those of its interface
 use Rattle.std.proofs.Common.{List, Some, [], ap, arith, false, flat_map, length, refl, replicate, subst, suc, sym, zero, ℕ, ◌∙◌, ◌≡◌, ◌≤◌, true}
-use Rattle.sg_engine_laws.specs.Stubs.{stub_of, told_of}
+use Rattle.sg_world.specs.Engines.Stubs.{stub_of, told_of}
 use Rattle.sg_facts.specs.Facts.{Facts}
 use Rattle.sg_facts.specs.Legal.{Table}
 use Rattle.sg_facts.specs.Limits.{last_client}
@@ -11,9 +11,9 @@ use Rattle.sg_facts.specs.Tables.{AreTables, Compiled}
 use Rattle.sg_facts.specs.declared.entry.Entry.{Entry}
 use Rattle.sg_hist.specs.Recovered.{struck_in, ArePointsOf}
 use Rattle.sg_name.specs.Names.{named_at}
-use Rattle.sg_object_laws.specs.Serving.{IsService}
+use Rattle.sg_recovery_laws.specs.Objects.Serving.{IsService}
 use Rattle.sg_recovery_laws.proofs.Points.{points_begin}
-use Rattle.sg_recovery_laws.specs.Growing.{booted, struck}
+use Rattle.sg_hist.specs.Growing.{booted, struck}
 use Rattle.sg_replay.specs.Engined.{Engined}
 use Rattle.sg_replay.specs.Present.{is_present}
 use Rattle.sg_replay.specs.Serving.{pairs_of}

@@ -17,7 +17,7 @@ use Rattle.sg_facts.specs.Object.{Object}
 use Rattle.sg_facts.specs.Trace.{Boot}
 use Rattle.sg_hist.specs.Recovered.{ArePointsOf, IsCount, IsPointOf, answer_to, asked_behind, asked_in, ends_committed, is_clients, is_replied, is_stopped, is_visible_reply}
 use Rattle.sg_recovery_laws.proofs.Points.{points_booted, points_counted, points_noted, points_stopped, points_struck}
-use Rattle.sg_recovery_laws.specs.Growing.{asked_over, booted, last_items, last_stop, noted, struck}
+use Rattle.sg_hist.specs.Growing.{asked_over, booted, last_items, last_stop, noted, struck}
 use Rattle.sg_seat.specs.WorldView.{WorldView, seat_of, struck_at, with_points}
 use Rattle.sg_world.proofs.Counting.{count_on, grows, point_of, sum_is, weak_of}
 use Rattle.sg_world.specs.declared.did.Did.{Did}

@@ -9,11 +9,11 @@ use Rattle.sg_facts.specs.declared.outcome.Patch.{Patch}
 use Rattle.sg_facts.specs.Facts.{Facts}
 use Rattle.sg_facts.specs.Object.{after, empty_object, file_at, given_after, object_of, over, patch_of, patched}
 use Rattle.sg_facts.specs.Track.{track}
-use Rattle.sg_object_laws.proofs.Files.{set_other, set_own}
+use Rattle.sg_recovery_laws.proofs.Objects.Files.{set_other, set_own}
 use Rattle.sg_replay.specs.Engined.{Engined}
 use Rattle.sg_store.specs.Spans.{patched_at}
 use Rattle.sg_store.specs.Stored.{bytes_of}
-use Rattle.sg_walk_laws.proofs.Files.{told}
+use Rattle.sg_facts.proofs.Replaying.Files.{told}
 use Rattle.sg_world.specs.Worlded.{StoresObject}
 use Rattle.sg_world_laws.proofs.Drawn.{object_behind}
 

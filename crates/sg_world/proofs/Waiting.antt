@@ -7,7 +7,7 @@ use Rattle.sg_facts.specs.declared.entry.Entry.{Entry}
 use Rattle.sg_facts.specs.Guard.{guard}
 use Rattle.sg_facts.specs.Legal.{refused_or}
 use Rattle.sg_facts.specs.Object.{object_of}
-use Rattle.sg_held_laws.specs.Progress.{IsNone}
+use Rattle.sg_recovery_laws.specs.Midway.Progress.{IsNone}
 use Rattle.sg_seat.specs.WorldView.{Seat, is_blocked_phase, is_offered}
 use Rattle.sg_seat.specs.declared.phase.Phase.{Phase}
 use Rattle.sg_seat.specs.declared.phase.Phase.TheVariants.{Asked, Blocked, Held, Idle, Left, Receipted}

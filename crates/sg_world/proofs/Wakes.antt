@@ -16,12 +16,12 @@ use Rattle.sg_facts.specs.Facts.{Facts, Fun, fun_at}
 use Rattle.sg_facts.specs.Kinds.{IsCall}
 use Rattle.sg_facts.specs.Track.{ends_with, is_ancestor, is_live, nearest, new_row, parent_in, row_after, row_at, rows_after, track}
 use Rattle.sg_facts.specs.declared.row.Row.{Row}
-use Rattle.sg_held_laws.specs.Progress.{IsNone}
-use Rattle.sg_object_laws.proofs.Guarded.{acts, keeps}
+use Rattle.sg_recovery_laws.specs.Midway.Progress.{IsNone}
+use Rattle.sg_recovery_laws.proofs.Objects.Guarded.{acts, keeps}
 use Rattle.std.proofs.lemmas.Bool.Decides.{nat_tests}
 use Rattle.sg_recovery_laws.proofs.Lists.{each_map}
 use Rattle.sg_seat.specs.WorldView.{Seat, is_blocked_phase, wakes_seat, woken_seat}
-use Rattle.sg_walk_laws.proofs.Found.{other_test, same_test}
+use Rattle.sg_facts.proofs.Replaying.Found.{other_test, same_test}
 use Rattle.sg_world.specs.Inside.Waiting.{WaitOnLive}
 
 -- ---- seats that are woken

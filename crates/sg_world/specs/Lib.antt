@@ -1,4 +1,5 @@
 pub mod Due
+pub mod Engines
 pub mod Inners
 pub mod Inside
 pub mod Marked

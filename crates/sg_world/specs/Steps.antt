@@ -17,7 +17,7 @@ use Rattle.sg_facts.specs.Object.{Object, object_of}
 use Rattle.sg_hist.specs.Clients.{calls_of}
 use Rattle.sg_hist.specs.Reading.{after_item}
 use Rattle.sg_hist.specs.Recovered.{IsPointOf, answer_to, is_replied, is_stopped}
-use Rattle.sg_recovery_laws.specs.Growing.{IsNextItem, last_items, place_behind}
+use Rattle.sg_hist.specs.Growing.{IsNextItem, last_items, place_behind}
 use Rattle.sg_replay.specs.declared.todo.Todo.TheVariants.{Load as ToLoad, Walk as ToWalk}
 use Rattle.sg_seat.specs.WorldView.{Seat, WorldView, answered_to, boot_number, committed, given_to, happened, in_phase, item_noted, rebooted, reply_handed_over, seat_of, service_is, struck_at, unanswered, with_points, with_seat}
 use Rattle.sg_seat.specs.declared.phase.Phase.TheVariants.{Asked, Blocked, Held, Idle, Left, Receipted}

@@ -6,7 +6,7 @@ use Rattle.sg_facts.specs.Facts.{Facts}
 use Rattle.sg_facts.specs.Legal.{Table}
 use Rattle.sg_facts.specs.Object.{Object, file_at, object_of}
 use Rattle.sg_facts.specs.Tables.{Compiled}
-use Rattle.sg_engine_laws.specs.Stubs.{stub_of}
+use Rattle.sg_world.specs.Engines.Stubs.{stub_of}
 use Rattle.sg_facts.specs.declared.entry.Entry.{Entry}
 use Rattle.sg_hist.specs.Recovered.{ArePointsOf, struck_in}
 use Rattle.sg_replay.specs.Engined.{Engined}

@@ -10,7 +10,7 @@ ghost use Rattle.sg_facts.specs.Object.{empty_object, object_of};
 ghost use Rattle.sg_facts.specs.Trace.{run_of};
 ghost use Rattle.sg_hist.specs.Clients.{calls_of};
 ghost use Rattle.sg_hist.specs.Recovered.{AreInBoots, IsRecovered, struck_in};
-ghost use Rattle.sg_recovery_laws.specs.Growing.{IsRecovering};
+ghost use Rattle.sg_hist.specs.Growing.{IsRecovering};
 ghost use Rattle.sg_world_laws.specs.Setting.{IsSetting, stubs_of};
 ghost use Rattle.sg_world.specs.Steps.{AnswersLast, HasStepped, WantsMemory};
 ghost use Rattle.sg_world.specs.Worlded.{CountsAll, setting_of};

@@ -12,15 +12,15 @@ use Rattle.sg_facts.specs.Facts.{is_visible}
 use Rattle.sg_facts.specs.Trace.{Boot, Run}
 use Rattle.sg_hist.specs.Reading.{Place, behind, is_by_guard, is_item_of, past, places_from, places_of, stands_before}
 use Rattle.sg_hist.specs.Recovered.{Stubs, is_visible_reply}
-use Rattle.sg_recovery_laws.specs.Growing.{AreKept, IsHeldReply, IsItemOf, IsLastCall, IsNextItem, IsRecovering, IsSettled, IsOfNoEntry, noted, place_behind}
-use Rattle.sg_recovery_laws.proofs.Growing.{places-more, stands_before-own}
+use Rattle.sg_hist.specs.Growing.{AreKept, IsHeldReply, IsItemOf, IsLastCall, IsNextItem, IsRecovering, IsSettled, IsOfNoEntry, noted, place_behind}
+use Rattle.sg_hist.proofs.Growing.{places-more, stands_before-own}
 use Rattle.sg_recovery_laws.proofs.Events.{own_item, with_last}
 use Rattle.sg_recovery_laws.proofs.Lists.{each_append, each_contains, each_map}
 use Rattle.sg_recovery_laws.proofs.Onward.{committed_stays, held_stays, noted_stays, refused_stays}
 use Rattle.sg_world_laws.specs.Keeping.{ClientsDiffer, AreDrawn}
-use Rattle.sg_object_laws.specs.Waiting.{NoneBy}
+use Rattle.sg_recovery_laws.specs.Objects.Waiting.{NoneBy}
 use Rattle.sg_world_laws.proofs.Drawn.{none_apart}
-use Rattle.sg_trace_laws.proofs.Reorder.{moved_front}
+use Rattle.sg_recovery_laws.proofs.LastItem.Reorder.{moved_front}
 
 -- whichever held replies are committed first, the run recovers
 abbrev pub AllRecover : Stubs → List Entry → List Entry → Run → List Call → Type 0

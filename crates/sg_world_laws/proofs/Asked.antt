@@ -15,24 +15,24 @@ use Rattle.sg_facts.specs.declared.row.Row.{Row}
 use Rattle.sg_facts.specs.declared.trace.Item.{Item}
 use Rattle.sg_facts.specs.declared.trace.Tag.{Tag}
 use Rattle.sg_facts.specs.declared.trace.Tag.TheVariants.{Client, Load, Walk}
-use Rattle.sg_held_laws.proofs.Served.{serves_it}
-use Rattle.sg_held_laws.specs.Progress.{IsNone, complete}
+use Rattle.sg_recovery_laws.proofs.Midway.Served.{serves_it}
+use Rattle.sg_recovery_laws.specs.Midway.Progress.{IsNone, complete}
 use Rattle.sg_hist.specs.Reading.{is_tagged, service_call}
 use Rattle.sg_hist.specs.Recovered.{AskedAs, IsAdmitted, IsByTable, IsCallOf, IsDemanded, IsItsCall, IsTracked, IsTrackedAt, IsWalked}
-use Rattle.sg_object_laws.proofs.Apart.{Ascends}
-use Rattle.sg_object_laws.proofs.Room.{guard_behind}
-use Rattle.sg_object_laws.proofs.Serves.{its_own}
-use Rattle.sg_object_laws.proofs.Steady.{ascends}
-use Rattle.sg_object_laws.proofs.Waiting.{behind_same}
+use Rattle.sg_recovery_laws.proofs.Objects.Apart.{Ascends}
+use Rattle.sg_recovery_laws.proofs.Objects.Room.{guard_behind}
+use Rattle.sg_recovery_laws.proofs.Objects.Serves.{its_own}
+use Rattle.sg_recovery_laws.proofs.Objects.Steady.{ascends}
+use Rattle.sg_recovery_laws.proofs.Objects.Waiting.{behind_same}
 use Rattle.sg_recovery_laws.proofs.InBoots.{place_is}
 use Rattle.sg_recovery_laws.proofs.Lists.{each_map}
-use Rattle.sg_recovery_laws.specs.Growing.{IsNextItem, IsOfNoEntry, last_items, older_items, place_behind}
+use Rattle.sg_hist.specs.Growing.{IsNextItem, IsOfNoEntry, last_items, older_items, place_behind}
 use Rattle.sg_seat.specs.WorldView.{WorldView, held_in, unanswered}
-use Rattle.sg_trace_laws.proofs.Noting.{admitted_last, client_tracked}
-use Rattle.sg_trace_laws.specs.LastPlace.{last_place}
-use Rattle.sg_trace_laws.specs.Told.{IsKnown}
+use Rattle.sg_recovery_laws.proofs.LastItem.Noting.{admitted_last, client_tracked}
+use Rattle.sg_recovery_laws.specs.LastItem.LastPlace.{last_place}
+use Rattle.sg_recovery_laws.specs.LastItem.Told.{IsKnown}
 use Rattle.sg_track.proofs.Above.{root}
-use Rattle.sg_walk_laws.proofs.Found.{other_test}
+use Rattle.sg_facts.proofs.Replaying.Found.{other_test}
 use Rattle.sg_world_laws.proofs.Orders.{above_es, back_es, call_es, few_now, good_now, known_es, needs_es, none_es, there_es, time_es, time_now, wait_es}
 use Rattle.sg_world_laws.specs.Keeping.{AreDrawn, KeepsPromise, Stands, Stub, standing}
 use Rattle.sg_world_laws.specs.Setting.{IsSetting, Setting, stubs_of}

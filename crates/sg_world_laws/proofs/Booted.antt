@@ -13,18 +13,18 @@ use Rattle.sg_facts.specs.Trace.{Boot}
 use Rattle.sg_facts.specs.declared.entry.Entry.{Entry}
 use Rattle.sg_facts.specs.declared.tables.WalkLine.{WalkLine}
 use Rattle.sg_facts.specs.declared.trace.Item.{Item}
-use Rattle.sg_held_laws.proofs.Numbers.{few_rows, sum_fresh}
-use Rattle.sg_held_laws.specs.Numbers.{AreNumbers, left_of, unbegun}
-use Rattle.sg_held_laws.specs.Progress.{HasFile, IsInRecovery, fresh}
+use Rattle.sg_recovery_laws.proofs.Midway.Numbers.{few_rows, sum_fresh}
+use Rattle.sg_recovery_laws.specs.Midway.Numbers.{AreNumbers, left_of, unbegun}
+use Rattle.sg_recovery_laws.specs.Midway.Progress.{HasFile, IsInRecovery, fresh}
 use Rattle.sg_hist.specs.Reading.{names_at}
-use Rattle.sg_object_laws.proofs.Steady.{ascends}
-use Rattle.sg_object_laws.specs.Waiting.{AreWaiting}
+use Rattle.sg_recovery_laws.proofs.Objects.Steady.{ascends}
+use Rattle.sg_recovery_laws.specs.Objects.Waiting.{AreWaiting}
 use Rattle.sg_recovery_laws.proofs.InBoots.{boots_booted}
 use Rattle.sg_recovery_laws.proofs.Onward.{booted_stays}
-use Rattle.sg_recovery_laws.specs.Growing.{IsInLast, IsRecovering, booted, last_items, older_items}
+use Rattle.sg_hist.specs.Growing.{IsInLast, IsRecovering, booted, last_items, older_items}
 use Rattle.sg_seat.specs.WorldView.{Seat, WorldView, held_in, unanswered, woken_seat}
-use Rattle.sg_trace_laws.specs.LastPlace.{HaveItems}
-use Rattle.sg_trace_laws.specs.Told.{IsRead}
+use Rattle.sg_recovery_laws.specs.LastItem.LastPlace.{HaveItems}
+use Rattle.sg_recovery_laws.specs.LastItem.Told.{IsRead}
 use Rattle.sg_world_laws.proofs.Struck.{no_drawn, none_drawn}
 use Rattle.sg_world_laws.proofs.Woken.{held_woken, none_held, offered_woken, seats_woken}
 use Rattle.sg_world_laws.specs.Keeping.{AreDrawn, KeepsPromise, MayEnter, Stub, standing}

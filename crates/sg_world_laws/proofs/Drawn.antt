@@ -9,10 +9,10 @@ use Rattle.sg_facts.specs.Legal.{Table}
 use Rattle.sg_facts.specs.Object.{Object, after, object_from}
 use Rattle.sg_recovery_laws.proofs.Lists.{each_append, each_contains, each_map, each_split}
 use Rattle.sg_world_laws.specs.Keeping.{ClientsDiffer, AreDrawn}
-use Rattle.sg_object_laws.specs.Serving.{HasTime, IsLegalObject, IsService}
-use Rattle.sg_object_laws.specs.Waiting.{AreWaiting, IsWaiting, NoneBy}
-use Rattle.sg_object_laws.proofs.Waiting.{acting_is, hidden_is, less_time, past_waiting, time_after, waiting_after}
-use Rattle.sg_object_laws.proofs.Steady.{after_good}
+use Rattle.sg_recovery_laws.specs.Objects.Serving.{HasTime, IsLegalObject, IsService}
+use Rattle.sg_recovery_laws.specs.Objects.Waiting.{AreWaiting, IsWaiting, NoneBy}
+use Rattle.sg_recovery_laws.proofs.Objects.Waiting.{acting_is, hidden_is, less_time, past_waiting, time_after, waiting_after}
+use Rattle.sg_recovery_laws.proofs.Objects.Steady.{after_good}
 
 -- the object behind two lists
 pub object_behind : (facts : Facts) (o : Object) (xs ys : List Entry) → object_from facts o (xs ++ ys) ≡ object_from facts (object_from facts o xs) ys

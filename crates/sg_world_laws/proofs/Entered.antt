@@ -14,8 +14,8 @@ use Rattle.sg_seat.specs.WorldView.{Seat, wakes_seat, woken_seat}
 use Rattle.sg_seat.specs.declared.phase.Phase.{Phase}
 use Rattle.sg_seat.specs.declared.phase.Phase.TheVariants.{Asked, Blocked, Held, Idle, Left, Receipted}
 use Rattle.sg_seat.specs.declared.withdrawn.Withdrawn.{Withdrawn}
-use Rattle.sg_walk_laws.proofs.Apart.{apart}
-use Rattle.sg_walk_laws.proofs.Found.{same_test}
+use Rattle.sg_facts.proofs.Replaying.Apart.{apart}
+use Rattle.sg_facts.proofs.Replaying.Found.{same_test}
 use Rattle.sg_world_laws.proofs.Onseat.{seat_on}
 use Rattle.sg_world_laws.proofs.Orders.{far}
 use Rattle.sg_world_laws.proofs.Seating.{gone_is, length_at, seat_is, seated_append, seated_split, seqs_at}

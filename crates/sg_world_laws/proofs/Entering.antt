@@ -14,10 +14,10 @@ use Rattle.sg_facts.specs.Legal.{LegalFrom, Table, answer}
 use Rattle.sg_facts.specs.Object.{Object, after, empty_object, given_after, object_from, object_of}
 use Rattle.sg_facts.specs.declared.entry.Entry.{Entry}
 use Rattle.sg_hist.specs.Reading.{is_by_guard}
-use Rattle.sg_object_laws.proofs.Steady.{after_good}
-use Rattle.sg_object_laws.specs.Serving.{IsAnsweredAt, IsLegalObject}
-use Rattle.sg_recovery_laws.specs.Growing.{AreKept}
-use Rattle.sg_trace_laws.proofs.Behind.{guard_leaves}
+use Rattle.sg_recovery_laws.proofs.Objects.Steady.{after_good}
+use Rattle.sg_recovery_laws.specs.Objects.Serving.{IsAnsweredAt, IsLegalObject}
+use Rattle.sg_hist.specs.Growing.{AreKept}
+use Rattle.sg_recovery_laws.proofs.LastItem.Behind.{guard_leaves}
 use Rattle.sg_world_laws.proofs.Drawn.{object_behind}
 use Rattle.sg_world_laws.proofs.Orders.{legal_append}
 use Rattle.sg_world_laws.specs.Keeping.{IsSettledObject}

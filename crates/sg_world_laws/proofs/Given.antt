@@ -19,7 +19,7 @@ use Rattle.sg_hist.specs.Reading.{Place, desc_in, entries_before, id_given, is_b
 use Rattle.sg_hist.specs.Recovered.{IsCommitted, is_clients, is_replied}
 use Rattle.sg_recovery_laws.proofs.Given.{HasEntry, IsGiven, committed_given, is_numbered, made_visible}
 use Rattle.sg_recovery_laws.proofs.Lists.{each_map, each_split}
-use Rattle.sg_recovery_laws.specs.Growing.{IsSameFor, IsSameId, last_items}
+use Rattle.sg_hist.specs.Growing.{IsSameFor, IsSameId, last_items}
 use Rattle.sg_seat.specs.WorldView.{WorldView, held_replies}
 use Rattle.sg_world_laws.proofs.Struck.{no_drawn}
 use Rattle.sg_world_laws.specs.Keeping.{KeepsPromise, Stub, standing}

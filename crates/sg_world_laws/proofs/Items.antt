@@ -13,8 +13,8 @@ use Rattle.sg_facts.specs.declared.trace.Item.{Item}
 use Rattle.sg_hist.specs.Reading.{Place, is_by_guard, is_item_of, items_of, places_from, places_in, places_of}
 use Rattle.sg_recovery_laws.proofs.Lists.{each_append}
 use Rattle.sg_recovery_laws.proofs.Served.{Has, each_reverse, found_has}
-use Rattle.sg_recovery_laws.specs.Growing.{IsInLast, last_items, older_items}
-use Rattle.sg_walk_laws.proofs.Found.{within}
+use Rattle.sg_hist.specs.Growing.{IsInLast, last_items, older_items}
+use Rattle.sg_facts.proofs.Replaying.Found.{within}
 
 abbrev pub IsAmong : List Item → Place → Type 0
 IsAmong items p = (test : Item → Bool) → test p.item ≡ true → list_any test items ≡ true

@@ -23,11 +23,11 @@ use Rattle.sg_facts.specs.declared.entry.Entry.{Entry}
 use Rattle.sg_facts.specs.declared.row.Row.{Row}
 use Rattle.sg_facts.specs.declared.shape.Parents.{Parents}
 use Rattle.sg_facts.specs.declared.shape.Parents.TheVariants.{Never, Same, Cross}
-use Rattle.sg_held_laws.specs.Progress.{IsNone}
+use Rattle.sg_recovery_laws.specs.Midway.Progress.{IsNone}
 use Rattle.sg_hist.specs.Clients.{calls_of}
 use Rattle.sg_hist.specs.Reading.{behind}
-use Rattle.sg_object_laws.proofs.Guarded.{IsLetPass, keeps, let_pass}
-use Rattle.sg_object_laws.specs.Waiting.{NoneBy}
+use Rattle.sg_recovery_laws.proofs.Objects.Guarded.{IsLetPass, keeps, let_pass}
+use Rattle.sg_recovery_laws.specs.Objects.Waiting.{NoneBy}
 use Rattle.sg_recovery_laws.proofs.Lists.{each_append, each_contains, each_map}
 use Rattle.sg_seat.specs.WorldView.{Seat, WorldView, held_in, held_replies, is_held_in, is_held_phase, is_offered, offered, offered_by, unanswered}
 use Rattle.sg_seat.specs.declared.phase.Phase.{Phase}

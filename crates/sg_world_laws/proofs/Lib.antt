@@ -1,8 +1,10 @@
+pub mod Advancing
 pub mod Ahead
 pub mod Alike
 pub mod Asked
 pub mod Begun
 pub mod Booted
+pub mod Committing
 pub mod Drawn
 pub mod Entered
 pub mod Entering

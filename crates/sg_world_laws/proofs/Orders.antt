@@ -24,25 +24,25 @@ use Rattle.sg_facts.specs.Track.{is_live, row_at}
 use Rattle.sg_facts.specs.declared.entry.Entry.{Entry}
 use Rattle.sg_facts.specs.declared.row.Row.{Row}
 use Rattle.sg_facts.specs.declared.trace.Item.{Item}
-use Rattle.sg_held_laws.specs.Progress.{IsNone}
+use Rattle.sg_recovery_laws.specs.Midway.Progress.{IsNone}
 use Rattle.sg_hist.specs.Reading.{is_by_guard, is_item_of}
 use Rattle.sg_hist.specs.Recovered.{IsCallOf}
-use Rattle.sg_object_laws.proofs.Guarded.{acts}
-use Rattle.sg_object_laws.proofs.Narrow.{guard_stays}
-use Rattle.sg_object_laws.proofs.Needed.{needed_back, needed_same, needs_same}
-use Rattle.sg_object_laws.proofs.Serves.{fewer_behind, needed_behind}
-use Rattle.sg_object_laws.proofs.Steady.{after_good, others_stay}
-use Rattle.sg_object_laws.proofs.Waiting.{good_behind, hidden_is, less_time, time_after, waiting_after}
-use Rattle.sg_object_laws.specs.Serving.{HasTime, IsAnsweredAt, IsLegalObject}
-use Rattle.sg_object_laws.specs.Waiting.{AreWaiting, NoneBy}
+use Rattle.sg_recovery_laws.proofs.Objects.Guarded.{acts}
+use Rattle.sg_recovery_laws.proofs.Objects.Narrow.{guard_stays}
+use Rattle.sg_recovery_laws.proofs.Objects.Needed.{needed_back, needed_same, needs_same}
+use Rattle.sg_recovery_laws.proofs.Objects.Serves.{fewer_behind, needed_behind}
+use Rattle.sg_recovery_laws.proofs.Objects.Steady.{after_good, others_stay}
+use Rattle.sg_recovery_laws.proofs.Objects.Waiting.{good_behind, hidden_is, less_time, time_after, waiting_after}
+use Rattle.sg_recovery_laws.specs.Objects.Serving.{HasTime, IsAnsweredAt, IsLegalObject}
+use Rattle.sg_recovery_laws.specs.Objects.Waiting.{AreWaiting, NoneBy}
 use Rattle.sg_recovery_laws.proofs.Lists.{each_append, each_contains, each_map, each_split}
-use Rattle.sg_recovery_laws.specs.Growing.{IsInLast, IsOfNoEntry, last_items, older_items}
+use Rattle.sg_hist.specs.Growing.{IsInLast, IsOfNoEntry, last_items, older_items}
 use Rattle.sg_seat.specs.WorldView.{Seat, WorldView, held_in, held_replies, is_held_in, unanswered}
 use Rattle.sg_seat.specs.declared.withdrawn.Withdrawn.{Withdrawn}
-use Rattle.sg_trace_laws.proofs.Reached.{reach_all}
-use Rattle.sg_trace_laws.specs.Asked.{IsClientsCall}
-use Rattle.sg_trace_laws.specs.LastPlace.{HaveItems}
-use Rattle.sg_trace_laws.specs.Told.{IsKnown, IsRead}
+use Rattle.sg_recovery_laws.proofs.LastItem.Reached.{reach_all}
+use Rattle.sg_recovery_laws.specs.LastItem.Asked.{IsClientsCall}
+use Rattle.sg_recovery_laws.specs.LastItem.LastPlace.{HaveItems}
+use Rattle.sg_recovery_laws.specs.LastItem.Told.{IsKnown, IsRead}
 use Rattle.sg_world_laws.proofs.Drawn.{drawn_waiting, object_behind, waiting_apart}
 use Rattle.sg_world_laws.proofs.Items.{has_item}
 use Rattle.sg_world_laws.specs.Keeping.{AreDrawn, KeepsPromise, MayEnter, Stands, Stub, standing}

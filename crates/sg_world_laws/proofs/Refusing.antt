@@ -19,20 +19,20 @@ use Rattle.sg_facts.specs.Object.{Object, empty_object, object_from, object_of}
 use Rattle.sg_facts.specs.Trace.{Boot}
 use Rattle.sg_facts.specs.Track.{is_live, has_child, row_at}
 use Rattle.sg_facts.specs.declared.entry.Entry.{Entry}
-use Rattle.sg_held_laws.specs.Numbers.{left_of, sum_told, unbegun}
-use Rattle.sg_held_laws.specs.Progress.{IsInRecovery}
+use Rattle.sg_recovery_laws.specs.Midway.Numbers.{left_of, sum_told, unbegun}
+use Rattle.sg_recovery_laws.specs.Midway.Progress.{IsInRecovery}
 use Rattle.sg_hist.specs.Reading.{is_by_guard, is_item_of, is_made, is_rebuilt_at, names_at, places_in}
-use Rattle.sg_object_laws.specs.Waiting.{AreWaiting, NoneBy}
+use Rattle.sg_recovery_laws.specs.Objects.Waiting.{AreWaiting, NoneBy}
 use Rattle.sg_recovery_laws.proofs.Given.{IsGiven, made_same, names_same}
 use Rattle.sg_recovery_laws.proofs.InBoots.{boots_refused}
 use Rattle.sg_recovery_laws.proofs.Lists.{each_append, each_map}
 use Rattle.sg_recovery_laws.proofs.Same.{any_same, rebuilt_again}
-use Rattle.sg_recovery_laws.specs.Growing.{IsInLast, IsSameId, last_items, older_items}
+use Rattle.sg_hist.specs.Growing.{IsInLast, IsSameId, last_items, older_items}
 use Rattle.sg_seat.specs.WorldView.{WorldView, held_in, held_replies, unanswered}
-use Rattle.sg_trace_laws.proofs.Reading.{unnamed}
-use Rattle.sg_trace_laws.specs.Told.{IsRead, whole_behind}
+use Rattle.sg_recovery_laws.proofs.LastItem.Reading.{unnamed}
+use Rattle.sg_recovery_laws.specs.LastItem.Told.{IsRead, whole_behind}
 use Rattle.sg_track.proofs.KeptLists.{read}
-use Rattle.sg_walk_laws.proofs.Above.{up}
+use Rattle.sg_facts.proofs.Replaying.Above.{up}
 use Rattle.sg_world_laws.proofs.Ahead.{refused_ahead}
 use Rattle.sg_world_laws.proofs.Entering.{kept_with, legal_push, object_refused, settled_refused}
 use Rattle.sg_world_laws.proofs.Given.{before_same, given_any, given_now}

@@ -5,13 +5,13 @@ use Rattle.std.specs.List.{Contains}
 use Rattle.sg_base.specs.Lists.{Each}
 use Rattle.sg_base.specs.declared.call.Call.{Call}
 use Rattle.sg_facts.specs.Object.{Object, object_from, object_of}
-use Rattle.sg_held_laws.specs.Numbers.{AreNumbers}
-use Rattle.sg_held_laws.specs.Progress.{IsInRecovery}
-use Rattle.sg_object_laws.specs.Waiting.{AreWaiting}
+use Rattle.sg_recovery_laws.specs.Midway.Numbers.{AreNumbers}
+use Rattle.sg_recovery_laws.specs.Midway.Progress.{IsInRecovery}
+use Rattle.sg_recovery_laws.specs.Objects.Waiting.{AreWaiting}
 use Rattle.sg_recovery_laws.proofs.Onward.{made_stays}
-use Rattle.sg_recovery_laws.specs.Growing.{IsInLast}
+use Rattle.sg_hist.specs.Growing.{IsInLast}
 use Rattle.sg_seat.specs.WorldView.{WorldView, held_replies, unanswered}
-use Rattle.sg_walk_laws.proofs.Above.{up}
+use Rattle.sg_facts.proofs.Replaying.Above.{up}
 use Rattle.sg_world_laws.proofs.Entering.{kept_all}
 use Rattle.sg_world_laws.specs.Keeping.{AreDrawn, KeepsPromise, MayEnter, StandsIn, Stub}
 use Rattle.sg_world_laws.specs.Seats.{HaveSeats}

@@ -16,24 +16,24 @@ use Rattle.sg_facts.specs.Trace.{Boot}
 use Rattle.sg_facts.specs.Track.{is_live}
 use Rattle.sg_facts.specs.declared.entry.Entry.{Entry}
 use Rattle.sg_facts.specs.declared.row.Row.{Row}
-use Rattle.sg_held_laws.proofs.Dropped.{under_dropped}
-use Rattle.sg_held_laws.specs.Numbers.{AreNumbers, left_of, sum_told, unbegun}
-use Rattle.sg_held_laws.specs.Progress.{IsInRecovery, IsNone, TellsCalls, Told, is_complete}
+use Rattle.sg_recovery_laws.proofs.Midway.Dropped.{under_dropped}
+use Rattle.sg_recovery_laws.specs.Midway.Numbers.{AreNumbers, left_of, sum_told, unbegun}
+use Rattle.sg_recovery_laws.specs.Midway.Progress.{IsInRecovery, IsNone, TellsCalls, Told, is_complete}
 use Rattle.sg_hist.specs.Reading.{is_by_guard, is_item_of, names_at}
 use Rattle.sg_hist.specs.Recovered.{is_walk_of}
-use Rattle.sg_object_laws.proofs.Serves.{fewer_behind}
-use Rattle.sg_object_laws.proofs.Steady.{after_good}
-use Rattle.sg_object_laws.proofs.Waiting.{hidden_is, time_after}
-use Rattle.sg_object_laws.specs.Serving.{HasTime, IsLegalObject}
-use Rattle.sg_object_laws.specs.Waiting.{AreWaiting, IsWaiting}
+use Rattle.sg_recovery_laws.proofs.Objects.Serves.{fewer_behind}
+use Rattle.sg_recovery_laws.proofs.Objects.Steady.{after_good}
+use Rattle.sg_recovery_laws.proofs.Objects.Waiting.{hidden_is, time_after}
+use Rattle.sg_recovery_laws.specs.Objects.Serving.{HasTime, IsLegalObject}
+use Rattle.sg_recovery_laws.specs.Objects.Waiting.{AreWaiting, IsWaiting}
 use Rattle.sg_recovery_laws.proofs.InBoots.{boots_appended}
 use Rattle.sg_recovery_laws.proofs.Lists.{each_append, each_both, each_map, each_split}
 use Rattle.sg_recovery_laws.proofs.Onward.{made_stays}
-use Rattle.sg_recovery_laws.specs.Growing.{IsInLast, last_items, older_items}
+use Rattle.sg_hist.specs.Growing.{IsInLast, last_items, older_items}
 use Rattle.sg_seat.specs.WorldView.{WorldView, held_in, unanswered}
-use Rattle.sg_trace_laws.specs.Told.{IsRead}
-use Rattle.sg_walk_laws.proofs.Files.{told}
-use Rattle.sg_walk_laws.proofs.Found.{above, same_test}
+use Rattle.sg_recovery_laws.specs.LastItem.Told.{IsRead}
+use Rattle.sg_facts.proofs.Replaying.Files.{told}
+use Rattle.sg_facts.proofs.Replaying.Found.{above, same_test}
 use Rattle.sg_world_laws.proofs.Ahead.{drawn_with, held_ahead}
 use Rattle.sg_world_laws.proofs.Drawn.{committed_same, committed_waiting, none_apart, object_behind, waiting_apart, waiting_one, waiting_without}
 use Rattle.sg_world_laws.proofs.Entering.{kept_within, legal_push, settled_after}

@@ -14,7 +14,7 @@ use Rattle.sg_recovery_laws.proofs.Lists.{each_append, each_split}
 use Rattle.sg_seat.specs.WorldView.{Seat, held_in, is_held_in, is_offered, offered, offered_by, woken_seat}
 use Rattle.sg_seat.specs.declared.withdrawn.Withdrawn.{Withdrawn}
 use Rattle.sg_track.proofs.Ascending.{later}
-use Rattle.sg_walk_laws.proofs.Apart.{apart}
+use Rattle.sg_facts.proofs.Replaying.Apart.{apart}
 use Rattle.sg_world_laws.specs.Seats.{AreGone, AreSeated, HaveSeats, IsSeated, all_seqs}
 use Rattle.sg_world_laws.specs.Setting.{Setting}
 

@@ -8,7 +8,7 @@ use Rattle.sg_base.specs.Lists.{Each}
 use Rattle.sg_facts.specs.declared.entry.Entry.{Entry}
 use Rattle.sg_recovery_laws.proofs.Lists.{each_append, each_contains, each_split}
 use Rattle.sg_world_laws.specs.Keeping.{ClientsDiffer, AreDrawn}
-use Rattle.sg_object_laws.specs.Waiting.{NoneBy}
+use Rattle.sg_recovery_laws.specs.Objects.Waiting.{NoneBy}
 use Rattle.sg_world_laws.proofs.Drawn.{none_apart}
 
 -- a list has an entry of a client at a place, or none

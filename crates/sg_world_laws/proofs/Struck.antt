@@ -8,9 +8,9 @@ use Rattle.sg_facts.specs.declared.trace.Item.{Item}
 use Rattle.sg_hist.specs.Recovered.{AreInBoots}
 use Rattle.sg_recovery_laws.proofs.InBoots.{boots_struck}
 use Rattle.sg_recovery_laws.proofs.Onward.{struck_stays}
-use Rattle.sg_recovery_laws.specs.Growing.{IsRecovering, last_items, older_items, struck}
+use Rattle.sg_hist.specs.Growing.{IsRecovering, last_items, older_items, struck}
 use Rattle.sg_seat.specs.WorldView.{WorldView, held_replies, unanswered}
-use Rattle.sg_trace_laws.specs.LastPlace.{HaveItems}
+use Rattle.sg_recovery_laws.specs.LastItem.LastPlace.{HaveItems}
 use Rattle.sg_track.proofs.Ascending.{later}
 use Rattle.sg_world_laws.specs.Keeping.{AreDrawn, KeepsPromise, Stub}
 use Rattle.sg_world_laws.specs.Setting.{Setting, stubs_of}

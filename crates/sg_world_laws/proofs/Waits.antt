@@ -16,12 +16,12 @@ use Rattle.sg_facts.specs.Laws.{Passes, leaves_blocked}
 use Rattle.sg_facts.specs.Legal.{Table, answer, refused_or}
 use Rattle.sg_facts.specs.Object.{Object, after}
 use Rattle.sg_facts.specs.Track.{ends_with}
-use Rattle.sg_object_laws.proofs.Blocked.{passes_on, row_stays}
-use Rattle.sg_object_laws.proofs.Guarded.{acts, first_four, keeps}
-use Rattle.sg_object_laws.proofs.Serves.{desc_row}
-use Rattle.sg_object_laws.specs.Serving.{IsAnsweredAt, IsLegalObject, IsService}
+use Rattle.sg_recovery_laws.proofs.Objects.Blocked.{passes_on, row_stays}
+use Rattle.sg_recovery_laws.proofs.Objects.Guarded.{acts, first_four, keeps}
+use Rattle.sg_recovery_laws.proofs.Objects.Serves.{desc_row}
+use Rattle.sg_recovery_laws.specs.Objects.Serving.{IsAnsweredAt, IsLegalObject, IsService}
 use Rattle.sg_seat.specs.WorldView.{wakes_seat}
-use Rattle.sg_walk_laws.proofs.Steps.{both_true, each_fun}
+use Rattle.sg_facts.proofs.Replaying.Steps.{both_true, each_fun}
 
 -- what every function keeps to: who uses a file, and who may block
 pub keeps_parts : (facts : Facts) (n : ℕ) → is_allowed facts ≡ true → 1 ≤ n → n ≤ length facts.funs

@@ -13,7 +13,7 @@ use Rattle.sg_seat.specs.declared.phase.Phase.{Phase}
 use Rattle.sg_seat.specs.declared.phase.Phase.TheVariants.{Idle, Asked, Held, Receipted, Blocked, Left}
 use Rattle.sg_seat.specs.declared.withdrawn.Withdrawn.{Withdrawn}
 use Rattle.sg_track.proofs.Ascending.{later}
-use Rattle.sg_walk_laws.proofs.Found.{other_test}
+use Rattle.sg_facts.proofs.Replaying.Found.{other_test}
 use Rattle.sg_world_laws.specs.Seats.{AreGone, AreSeated, HaveSeats, IsSeated, all_seqs}
 use Rattle.sg_world_laws.specs.Setting.{Setting}
 

@@ -13,16 +13,16 @@ use Rattle.sg_facts.specs.Legal.{LegalFrom}
 use Rattle.sg_facts.specs.Object.{Object, empty_object, object_from, object_of}
 use Rattle.sg_facts.specs.Trace.{Boot}
 use Rattle.sg_facts.specs.Track.{is_live}
-use Rattle.sg_held_laws.specs.Numbers.{AreNumbers}
-use Rattle.sg_held_laws.specs.Progress.{IsInRecovery, Told}
+use Rattle.sg_recovery_laws.specs.Midway.Numbers.{AreNumbers}
+use Rattle.sg_recovery_laws.specs.Midway.Progress.{IsInRecovery, Told}
 use Rattle.sg_hist.specs.Reading.{names_at}
 use Rattle.sg_hist.specs.Recovered.{AreInBoots}
-use Rattle.sg_object_laws.specs.Serving.{IsLegalObject}
-use Rattle.sg_object_laws.specs.Waiting.{AreWaiting, NoneBy}
-use Rattle.sg_recovery_laws.specs.Growing.{IsInLast, IsRecovering, last_items, older_items}
+use Rattle.sg_recovery_laws.specs.Objects.Serving.{IsLegalObject}
+use Rattle.sg_recovery_laws.specs.Objects.Waiting.{AreWaiting, NoneBy}
+use Rattle.sg_hist.specs.Growing.{IsInLast, IsRecovering, last_items, older_items}
 use Rattle.sg_seat.specs.WorldView.{WorldView, held_replies, unanswered}
-use Rattle.sg_trace_laws.specs.LastPlace.{HaveItems}
-use Rattle.sg_trace_laws.specs.Told.{IsRead}
+use Rattle.sg_recovery_laws.specs.LastItem.LastPlace.{HaveItems}
+use Rattle.sg_recovery_laws.specs.LastItem.Told.{IsRead}
 use Rattle.sg_world_laws.specs.Seats.{HaveSeats, MayBeMade}
 use Rattle.sg_world_laws.specs.Setting.{Setting, stubs_of}
 

@@ -1,3 +1,5 @@
+pub mod Advancing
+pub mod Committing
 pub mod Keeping
 pub mod Seats
 pub mod Setting

@@ -12,7 +12,7 @@ use Rattle.sg_hist.specs.Clients.{calls_of}
 use Rattle.sg_seat.specs.WorldView.{Seat, is_offered}
 use Rattle.sg_seat.specs.declared.phase.Phase.TheVariants.{Blocked, Receipted}
 use Rattle.sg_seat.specs.declared.withdrawn.Withdrawn.{Withdrawn}
-use Rattle.sg_trace_laws.specs.Asked.{IsClientsCall}
+use Rattle.sg_recovery_laws.specs.LastItem.Asked.{IsClientsCall}
 use Rattle.sg_world_laws.specs.Setting.{Setting}
 
 -- a call that a client may make: of a declared function, with the arguments that it takes

@@ -17,10 +17,10 @@ use Rattle.sg_facts.specs.Laws.{Passes}
 use Rattle.sg_facts.specs.Needs.{is_needed}
 use Rattle.sg_facts.specs.Object.{Object, file_at, object_of, path_of}
 use Rattle.sg_facts.specs.Track.{row_at}
-use Rattle.sg_held_laws.specs.Progress.{IsNone, complete}
+use Rattle.sg_recovery_laws.specs.Midway.Progress.{IsNone, complete}
 use Rattle.sg_hist.specs.Reading.{service_call}
 use Rattle.sg_hist.specs.Recovered.{IsByTable}
-use Rattle.sg_object_laws.specs.Waiting.{NoneBy}
+use Rattle.sg_recovery_laws.specs.Objects.Waiting.{NoneBy}
 use Rattle.sg_seat.specs.WorldView.{WorldView, held_replies, unanswered}
 use Rattle.sg_world_laws.specs.Keeping.{Stub}
 use Rattle.sg_world_laws.specs.Seats.{MayBeMade}

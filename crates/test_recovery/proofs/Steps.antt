@@ -9,7 +9,7 @@ use Rattle.test_histories.specs.Written.{entry, ok_at}
 use Rattle.test_recovery.specs.Written.{bare_call, called, replied, walked}
 use Rattle.sg_recovery_laws.proofs.Lists.{each_contains}
 use Rattle.sg_recovery_laws.proofs.Onward.{booted_stays, committed_stays, made_stays, noted_stays, nothing_yet, struck_stays}
-use Rattle.sg_recovery_laws.specs.Growing.{IsItemOf, IsNextItem, IsRecovering, booted, noted, place_behind, struck}
+use Rattle.sg_hist.specs.Growing.{IsItemOf, IsNextItem, IsRecovering, booted, noted, place_behind, struck}
 
 abbrev alloc : Call
 alloc = bare_call 1 1 1 0

@@ -1,7 +1,7 @@
 // A play goes on behind a step that wanted memory.
 ghost use Rattle.std.specs.Prelude.{◌≡◌};
 ghost use Rattle.sg_lock.specs.LockFacts.{lock_facts};
-ghost use Rattle.sg_play_laws.specs.Playable.{IsPlayable};
+ghost use Rattle.sg_plain.specs.Playing.Playable.{IsPlayable};
 
 use crate::ready::ready;
 use crate::scarce::Scarce;

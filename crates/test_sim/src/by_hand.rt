@@ -1,7 +1,7 @@
 // A script is played at once, and by hand in another order than the play without stops has.
 ghost use Rattle.std.specs.Prelude.{◌≡◌};
 ghost use Rattle.sg_lock.specs.LockFacts.{lock_facts};
-ghost use Rattle.sg_play_laws.specs.Playable.{IsPlayable};
+ghost use Rattle.sg_plain.specs.Playing.Playable.{IsPlayable};
 
 use crate::ready::ready;
 use sg_base::{Bytes, NoMemory};

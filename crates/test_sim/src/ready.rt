@@ -1,7 +1,7 @@
 // The input of a play of locks.
 ghost use Rattle.std.specs.Prelude.{◌≡◌, IfOk};
 ghost use Rattle.sg_lock.specs.LockFacts.{lock_facts};
-ghost use Rattle.sg_play_laws.specs.Playable.{IsPlayable};
+ghost use Rattle.sg_plain.specs.Playing.Playable.{IsPlayable};
 
 use sg_base::Bytes;
 use sg_check::Accepted;

@@ -12,7 +12,7 @@ use Rattle.sg_mm.specs.declared.page.Page.{Page}
 use Rattle.sg_mm.specs.declared.page.Place.{Place}
 use Rattle.sg_mm.specs.Inside.Children.{AreChildren, has_id}
 use Rattle.sg_mm.specs.MmRow.{page_body}
-use Rattle.sg_walk_laws.proofs.Subtrees.{IsAboveParent}
+use Rattle.sg_facts.proofs.Replaying.Subtrees.{IsAboveParent}
 use Rattle.sg_mm.specs.MmSound.{HaveOwnAddresses}
 use Rattle.sg_mm.specs.MmTable.{page_at}
 

@@ -10,7 +10,7 @@ use Rattle.std.proofs.lemmas.List.Folds.{list_any-append}
 use Rattle.sg_facts.specs.declared.row.Row.{Row}
 use Rattle.sg_facts.specs.Sound.{AreRows}
 use Rattle.sg_facts.specs.Track.{row_at}
-use Rattle.sg_walk_laws.proofs.Found.{other_test, same_test}
+use Rattle.sg_facts.proofs.Replaying.Found.{other_test, same_test}
 use Rattle.sg_mm.specs.MmSound.{HaveOwnAddresses}
 use Rattle.sg_mm.specs.MmTable.{addr_of, is_at, page_at, space_of}
 

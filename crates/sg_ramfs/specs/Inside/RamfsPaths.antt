@@ -10,7 +10,7 @@ use Rattle.sg_facts.specs.Object.{first_text, path_of, step_to}
 use Rattle.sg_facts.specs.Sound.{AreRows}
 use Rattle.sg_facts.specs.Track.{has_child, nearest, parent_in, row_at}
 use Rattle.sg_facts.proofs.RowLists.{id_of_row, none_pass, row_at-left}
-use Rattle.sg_walk_laws.proofs.Found.{above, from_map, last_found, met, other_test, same_test, to_map}
+use Rattle.sg_facts.proofs.Replaying.Found.{above, from_map, last_found, met, other_test, same_test, to_map}
 
 -- the path of an id over so many of its ancestors
 abbrev pub path_over : List Row → ℕ → ℕ → List ℕ

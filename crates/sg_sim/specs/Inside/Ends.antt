@@ -1,7 +1,7 @@
 -- How one client ends.
 use Rattle.std.specs.Prelude.{ℕ, if◌then◌else◌, List, [], ◌∷◌}
 use Rattle.sg_hist.specs.declared.ended.End.{End}
-use Rattle.sg_play_laws.specs.Ends.{end_of, has_calls}
+use Rattle.sg_plain.specs.Playing.Ends.{end_of, has_calls}
 use Rattle.sg_script.specs.declared.script.Script.{Script}
 use Rattle.sg_seat.specs.WorldView.{Seat}
 

@@ -1,10 +1,10 @@
 -- What a play keeps between turns.
 use Rattle.std.specs.Prelude.{ℕ, ◌≡◌, ◌≤◌, Bool, List, [], true, length}
-use Rattle.sg_follow_laws.specs.Follows.{IsFollowing}
-use Rattle.sg_play_laws.specs.Plays.{IsPlaying}
+use Rattle.sg_play.specs.Following.Follows.{IsFollowing}
+use Rattle.sg_plain.specs.Playing.Plays.{IsPlaying}
 use Rattle.sg_script.specs.declared.script.Script.{Script}
 use Rattle.sg_seat.specs.WorldView.{WorldView}
-use Rattle.sg_wake_laws.specs.Waking.{IsWaking, no_query_waits}
+use Rattle.sg_play.specs.Waking.Waking.{IsWaking, no_query_waits}
 use Rattle.sg_world_laws.specs.Setting.{Setting}
 
 -- the clients make the script's calls, none is withdrawn, the client of the last turn is one of the world, the play without

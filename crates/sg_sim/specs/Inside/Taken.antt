@@ -3,8 +3,8 @@ use Rattle.std.specs.Prelude.{ℕ, ◌≡◌, ◌⊎◌, List}
 use Rattle.std.specs.declared.option.Option.{Option}
 use Rattle.sg_play.specs.Recovering.{RecoversSoFar}
 use Rattle.sg_play.specs.Turning.{StepsInTurn, with_offer}
-use Rattle.sg_play_laws.specs.Given.{with_handed}
-use Rattle.sg_play_laws.specs.Plays.{IsPlaying}
+use Rattle.sg_plain.specs.Playing.Given.{with_handed}
+use Rattle.sg_plain.specs.Playing.Plays.{IsPlaying}
 use Rattle.sg_script.specs.declared.script.Script.{Script}
 use Rattle.sg_seat.specs.WorldView.{WorldView, happened}
 use Rattle.sg_world.specs.Steps.{WantsMemory}

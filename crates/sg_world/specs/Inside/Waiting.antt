@@ -6,7 +6,7 @@ use Rattle.sg_facts.specs.declared.row.Row.{Row}
 use Rattle.sg_facts.specs.Allowed.{is_allowed}
 use Rattle.sg_facts.specs.Facts.{Facts}
 use Rattle.sg_facts.specs.Kinds.{IsCall}
-use Rattle.sg_held_laws.specs.Progress.{IsNone}
+use Rattle.sg_recovery_laws.specs.Midway.Progress.{IsNone}
 use Rattle.sg_seat.specs.WorldView.{Seat, is_blocked_phase}
 
 -- an answered call is one that may be made, of an interface that is allowed, and whoever waits, waits in a call on no descriptor or on a

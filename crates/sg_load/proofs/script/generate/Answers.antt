@@ -5,7 +5,7 @@ use Rattle.sg_facts.specs.Laws.{whole}
 use Rattle.sg_load.specs.Services.{facts_by}
 use Rattle.sg_load.proofs.Playing.{generated_playable, generated_stops}
 use Rattle.sg_load.proofs.script.generate.Goals as goal
-use Rattle.sg_play_laws.specs.Playable.{IsPlayable}
+use Rattle.sg_plain.specs.Playing.Playable.{IsPlayable}
 use Rattle.sg_script.specs.declared.script.Script.{Script}
 
 pub returns-clause-playable : goal.returns-clause-playable

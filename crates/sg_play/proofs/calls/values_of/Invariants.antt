@@ -4,7 +4,7 @@ use Rattle.std.specs.Slice.Iter.{iter_rest}
 use Rattle.sg_facts.specs.declared.entry.Entry.{Entry}
 use Rattle.sg_facts.specs.Kinds.{AreWords}
 use Rattle.sg_plain.specs.Script.{values_of}
-use Rattle.sg_play_laws.specs.Given.{GaveIds}
+use Rattle.sg_plain.specs.Playing.Given.{GaveIds}
 use Rattle.sg_play.proofs.calls.values_of.Given as goal
 
 abbrev pub invariant-loop-kind : goal.invariant-loop-kind

@@ -1,8 +1,8 @@
 -- A step hands a reply over or nothing; behind its last reply a client leaves.
 use Rattle.std.proofs.Common.{[], Some, slice_set, ◌++◌, ◌-◌, ◌∷◌, ap, subst, sym}
 use Rattle.sg_hist.specs.Reading.{desc_of}
-use Rattle.sg_play_laws.specs.Given.{given_in}
-use Rattle.sg_play_laws.specs.Plays.{IsPlaying}
+use Rattle.sg_plain.specs.Playing.Given.{given_in}
+use Rattle.sg_plain.specs.Playing.Plays.{IsPlaying}
 use Rattle.sg_world.specs.declared.did.Did.TheVariants.{Answered}
 use Rattle.sg_world.specs.Worlded.{setting_of}
 use Rattle.sg_world_laws.specs.Setting.{Setting}

@@ -6,10 +6,10 @@ use Rattle.sg_facts.specs.declared.entry.Entry.{Entry}
 use Rattle.sg_hist.specs.Clients.{calls_of}
 use Rattle.sg_plain.specs.Calls.{call_after, script_calls}
 use Rattle.sg_play.specs.Turning.{with_call, with_offer}
-use Rattle.sg_play_laws.specs.Callers.{is_setting_up}
-use Rattle.sg_play_laws.specs.Given.{GaveIds}
-use Rattle.sg_play_laws.specs.Plays.{IsPlaying}
-use Rattle.sg_play_laws.specs.Turns.{is_free_phase}
+use Rattle.sg_plain.specs.Playing.Callers.{is_setting_up}
+use Rattle.sg_plain.specs.Playing.Given.{GaveIds}
+use Rattle.sg_plain.specs.Playing.Plays.{IsPlaying}
+use Rattle.sg_plain.specs.Playing.Turns.{is_free_phase}
 use Rattle.sg_seat.specs.WorldView.{WorldView, seat_in}
 use Rattle.sg_plain.specs.Script.{desc_among, values_of}
 use Rattle.sg_world.specs.Worlded.{Worlded}

@@ -1,4 +1,4 @@
-use Rattle.sg_recovery_laws.proofs.Growing.{places-booted, places-more, places-struck}
+use Rattle.sg_hist.proofs.Growing.{places-booted, places-more, places-struck}
 use Rattle.sg_recovery_laws.proofs.laws.places_grow.Goals as goal
 
 pub returns : goal.returns

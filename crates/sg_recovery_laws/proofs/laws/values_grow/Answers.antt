@@ -1,4 +1,4 @@
-use Rattle.sg_recovery_laws.proofs.Growing.{names_at-more, value_at-more}
+use Rattle.sg_hist.proofs.Growing.{names_at-more, value_at-more}
 use Rattle.sg_recovery_laws.proofs.laws.values_grow.Goals as goal
 
 pub returns : goal.returns

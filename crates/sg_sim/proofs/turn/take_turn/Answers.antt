@@ -4,8 +4,8 @@ use Rattle.std.specs.declared.option.Option.{Option}
 use Rattle.sg_facts.specs.Tables.{Compiled}
 use Rattle.sg_play.specs.Recovering.{RecoversSoFar}
 use Rattle.sg_play.specs.Turning.{StepsInTurn}
-use Rattle.sg_play_laws.specs.Given.{with_handed}
-use Rattle.sg_play_laws.specs.Plays.{IsPlaying}
+use Rattle.sg_plain.specs.Playing.Given.{with_handed}
+use Rattle.sg_plain.specs.Playing.Plays.{IsPlaying}
 use Rattle.sg_sim.proofs.Taking.{missed_offer, missed_step, on_err, taken}
 use Rattle.sg_sim.specs.Inside.Givens.{lists_of}
 use Rattle.sg_sim.specs.Inside.Taken.{MissesTurn, TakesTurn}

@@ -1,7 +1,7 @@
 -- The ids ascend with the rows.
 use Rattle.std.proofs.Common.{subst}
 use Rattle.sg_slots.specs.Slots.{AreIds}
-use Rattle.sg_walk_laws.proofs.Subtrees.{IsAboveParent}
+use Rattle.sg_facts.proofs.Replaying.Subtrees.{IsAboveParent}
 use Rattle.sg_mm.proofs.Indexed.{ids_of_rows}
 use Rattle.sg_mm.proofs.pages.Pages.get.Goals as goal
 

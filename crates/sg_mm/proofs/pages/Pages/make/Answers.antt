@@ -7,7 +7,7 @@ use Rattle.sg_facts.specs.declared.outcome.Outcome.{Outcome}
 use Rattle.sg_facts.specs.declared.outcome.Outcome.TheVariants.{Replied, Stopped}
 use Rattle.sg_facts.specs.Invoke.{Points}
 use Rattle.sg_slots.specs.Slots.{Held}
-use Rattle.sg_walk_laws.proofs.Subtrees.{IsAboveParent}
+use Rattle.sg_facts.proofs.Replaying.Subtrees.{IsAboveParent}
 use Rattle.sg_mm.specs.declared.page.Page.{Page}
 use Rattle.sg_mm.specs.Inside.Children.{HangsOne}
 use Rattle.sg_mm.specs.Inside.MmDoes.{Does, MayHang, after_new, held_with, hung, new_parts, new_reply, ok_about, parts_of_new}

@@ -1,7 +1,7 @@
 -- A client may take a turn in a play where it may in the play without stops, and a client of the play can step there.
 use Rattle.std.proofs.Common.{◌≡◌, ◌∙◌, ap, sym, subst}
-use Rattle.sg_follow_laws.proofs.Turns.{turns_alike, turns_beyond}
-use Rattle.sg_play_laws.specs.Turns.{may_go, may_take_turn}
+use Rattle.sg_play.proofs.Following.Turns.{turns_alike, turns_beyond}
+use Rattle.sg_plain.specs.Playing.Turns.{may_go, may_take_turn}
 use Rattle.sg_seat.specs.WorldView.{seat_of}
 use Rattle.sg_sim.proofs.AnyTurn.{can_not, can_so}
 use Rattle.sg_sim.specs.Inside.Givens.{lists_of}

@@ -2,9 +2,9 @@
 use Rattle.std.proofs.Common.{◌≡◌, ◌∙◌, ◌≤◌, ℕ, true, false, ap, sym, subst, arith}
 use Rattle.sg_facts.specs.Trace.{run_of}
 use Rattle.sg_hist.specs.declared.ended.Ended.{Ended}
-use Rattle.sg_play_laws.specs.Callers.{is_setting_up}
-use Rattle.sg_play_laws.specs.Ends.{ends_from}
-use Rattle.sg_play_laws.specs.Turns.{NobodyGoes}
+use Rattle.sg_plain.specs.Playing.Callers.{is_setting_up}
+use Rattle.sg_plain.specs.Playing.Ends.{ends_from}
+use Rattle.sg_plain.specs.Playing.Turns.{NobodyGoes}
 use Rattle.sg_sim.proofs.Calls.{at_zero}
 use Rattle.sg_sim.proofs.Ending.{follows_plain, played}
 use Rattle.sg_sim.specs.Played.{FollowsSchedule, IsPlayed}

@@ -1,7 +1,7 @@
 -- Client 1 takes the next turn while the setup goes on.
 use Rattle.std.proofs.Common.{ℕ, ◌≤◌, length, ap, subst, sym, arith}
-use Rattle.sg_follow_laws.proofs.Whose.{setup_turn}
-use Rattle.sg_follow_laws.specs.Stages.{IsNextTurn}
+use Rattle.sg_play.proofs.Following.Whose.{setup_turn}
+use Rattle.sg_play.specs.Following.Stages.{IsNextTurn}
 use Rattle.sg_sim.proofs.Beginning.{clients_from_one}
 use Rattle.sg_sim.specs.Inside.Next.{stage_now}
 use Rattle.sg_sim.specs.Inside.Givens.{lists_of}

@@ -1,7 +1,7 @@
 -- The turn was taken, or is still to be taken.
 use Rattle.std.proofs.Common.{length, ◌≡◌, ◌∙◌, ◌≤◌, ap, sym, subst}
 use Rattle.sg_facts.specs.Tables.{Compiled}
-use Rattle.sg_follow_laws.specs.Stages.{IsNextTurn, stage_of}
+use Rattle.sg_play.specs.Following.Stages.{IsNextTurn, stage_of}
 use Rattle.sg_sim.proofs.Keeping.{kept_miss, kept_turn}
 use Rattle.sg_sim.specs.Inside.Givens.{lists_of}
 use Rattle.sg_sim.specs.Inside.Keeps.{KeepsPlay}

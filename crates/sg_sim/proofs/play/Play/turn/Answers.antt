@@ -3,7 +3,7 @@ use Rattle.std.proofs.Common.{true, false, length, ◌≡◌, ◌∙◌, ◌≤�
 use Rattle.std.specs.Prelude.{◌&&◌, nat_le}
 use Rattle.sg_facts.specs.Tables.{Compiled}
 use Rattle.sg_play.specs.Turning.{StepsInTurn, with_offer}
-use Rattle.sg_play_laws.specs.Callers.{is_setting_up}
+use Rattle.sg_plain.specs.Playing.Callers.{is_setting_up}
 use Rattle.sg_sim.proofs.AnyTurn.{can_again, can_first, can_last, clients_missed, clients_taken, settled_missed, settled_taken}
 use Rattle.sg_sim.proofs.Keeping.{kept_aside, kept_miss, kept_turn}
 use Rattle.sg_sim.proofs.Taking.{on_err}

@@ -3,7 +3,7 @@ use Rattle.std.proofs.Common.{Ok, Some, ap, length, refl, subst, sym, ℕ, ◌�
 use Rattle.std.specs.declared.result.Result.{Result}
 use Rattle.sg_base.specs.Stops.{asked_after}
 use Rattle.sg_base.specs.declared.memory.NoMemory.{NoMemory}
-use Rattle.sg_engine_laws.specs.Engines.{as_shown}
+use Rattle.sg_world.specs.Engines.Engines.{as_shown}
 use Rattle.sg_facts.specs.Invoke.{Points}
 use Rattle.sg_facts.specs.Object.{Object}
 use Rattle.sg_replay.specs.declared.advance.Advanced.{Advanced}

@@ -1,6 +1,6 @@
 -- The history is legal, and who waits has no answer behind it.
 use Rattle.std.proofs.Common.{None, ℕ, length, subst, ◌≡◌, ◌≤◌}
-use Rattle.sg_engine_laws.specs.Stubs.{stub_of}
+use Rattle.sg_world.specs.Engines.Stubs.{stub_of}
 use Rattle.sg_facts.specs.Legal.{LegalFrom, answer}
 use Rattle.sg_facts.specs.Object.{empty_object, object_of}
 use Rattle.sg_seat.specs.WorldView.{seat_of}

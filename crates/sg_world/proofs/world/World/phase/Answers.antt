@@ -1,6 +1,6 @@
 -- Who waits, waits in a call that has no answer.
 use Rattle.std.proofs.Common.{None, length, subst, sym, ◌∙◌, ◌≡◌, ◌≤◌}
-use Rattle.sg_engine_laws.specs.Stubs.{stub_of}
+use Rattle.sg_world.specs.Engines.Stubs.{stub_of}
 use Rattle.sg_facts.specs.Legal.{answer}
 use Rattle.sg_facts.specs.Object.{object_of}
 use Rattle.sg_seat.specs.WorldView.{seat_of}

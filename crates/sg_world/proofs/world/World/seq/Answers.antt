@@ -1,6 +1,6 @@
 -- A client has as many entries as its last number says.
 use Rattle.std.proofs.Common.{ap, length, subst, sym, ◌∙◌, ◌≤◌}
-use Rattle.sg_engine_laws.specs.Stubs.{stub_of}
+use Rattle.sg_world.specs.Engines.Stubs.{stub_of}
 use Rattle.sg_hist.specs.Clients.{calls_of}
 use Rattle.sg_world.proofs.Recovered.{seated_now}
 use Rattle.sg_world.specs.Inners.{view_in}

@@ -9,7 +9,7 @@ use Rattle.sg_world.specs.Steps.{WantsMemory}
 use Rattle.sg_world.specs.Worlded.{CountsAll, Worlded, setting_of}
 use Rattle.sg_world_laws.proofs.Moves.{its_seat}
 use Rattle.sg_world_laws.proofs.Turns.{seat_there}
-use Rattle.sg_engine_laws.specs.Stubs.{stub_of}
+use Rattle.sg_world.specs.Engines.Stubs.{stub_of}
 use Rattle.sg_world.proofs.world.World.step.Goals as goal
 
 pub invariant_of-self : goal.invariant_of-self

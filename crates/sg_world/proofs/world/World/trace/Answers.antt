@@ -1,8 +1,8 @@
 -- The run recovers, and its points and stops are what the world keeps of them.
 use Rattle.std.proofs.Common.{subst, ◌≡◌}
-use Rattle.sg_engine_laws.specs.Stubs.{stub_of}
+use Rattle.sg_world.specs.Engines.Stubs.{stub_of}
 use Rattle.sg_hist.specs.Recovered.{AreInBoots, IsRecovered, struck_in}
-use Rattle.sg_recovery_laws.specs.Growing.{IsRecovering}
+use Rattle.sg_hist.specs.Growing.{IsRecovering}
 use Rattle.sg_seat.specs.WorldView.{unanswered}
 use Rattle.sg_world.proofs.Recovered.{recovered_now, recovering_now, tested_now}
 use Rattle.sg_world.specs.Inners.{view_in}

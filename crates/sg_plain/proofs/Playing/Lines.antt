@@ -1,0 +1,148 @@
+-- What small changes of the clients' seats do to their calls.
+use Rattle.std.proofs.Common.{◌≡◌, ◌≢◌, ◌⊎◌, ℕ, zero, ◌-◌, ◌≤◌, Bool, true, false, cond, List, [], ◌∷◌, ◌++◌, length, map, refl, sym, ◌∙◌, ap, subst, inl, inr, arith, slice_set, suc, get_or-set_same, get_or-set_other}
+use Rattle.std.specs.Prelude.{◌==◌, ◌&&◌, slice_get, unwrap_or}
+use Rattle.std.proofs.lemmas.Option.{unwrap_or-slice_get}
+use Rattle.sg_base.specs.declared.call.Call.{Call}
+use Rattle.sg_base.specs.declared.reply.Reply.{Reply}
+use Rattle.sg_facts.specs.declared.entry.Entry.{Entry}
+use Rattle.sg_seat.specs.WorldView.{Seat, is_blocked_phase, is_offered, no_seat, seat_in, woken_seat}
+use Rattle.sg_seat.specs.declared.phase.Phase.{Phase}
+use Rattle.sg_seat.specs.declared.phase.Phase.TheVariants.{Idle, Asked, Held, Receipted, Blocked, Left}
+use Rattle.std.proofs.lemmas.Bool.Decides.{nat_tests}
+use Rattle.sg_plain.specs.Playing.Callers.{EntersCall, EntersNothing, KeepsCall, handed, is_receipted}
+
+-- ---- seats by their clients
+
+-- one number or another
+pub same_or_other : (m n : ℕ) → (m ≡ n) ⊎ (m ≢ n)
+same_or_other m n = by (m == n) refl
+  where
+    by : (b : Bool) → (m == n) ≡ b → (m ≡ n) ⊎ (m ≢ n)
+    by true is = inl (grind (arith, nat_tests))
+    by false is = inr (grind (arith, nat_tests))
+
+pub seat_here : (seats : List Seat) (c : ℕ) (new : Seat) → 1 ≤ c → c ≤ length seats → seat_in (slice_set seats (c - 1) new) c ≡ new
+seat_here seats c new first last = unwrap_or-slice_get (slice_set seats (c - 1) new) (c - 1) no_seat ∙ get_or-set_same seats (c - 1) new no_seat (omega (arith, first, last))
+
+pub seat_there : (seats : List Seat) (c client : ℕ) (new : Seat) → 1 ≤ c → 1 ≤ client → client ≢ c → seat_in (slice_set seats (c - 1) new) client ≡ seat_in seats client
+seat_there seats c client new first from other =
+    unwrap_or-slice_get (slice_set seats (c - 1) new) (client - 1) no_seat
+    ∙ get_or-set_other seats (c - 1) (client - 1) new no_seat (λ same. other (omega (arith, first, from, same)))
+    ∙ sym (unwrap_or-slice_get seats (client - 1) no_seat)
+
+pub length_set : (seats : List Seat) (at : ℕ) (new : Seat) → length (slice_set seats at new) ≡ length seats
+length_set [] at new = refl
+length_set (s ∷ seats) zero new = refl
+length_set (s ∷ seats) (suc at) new = ap suc (length_set seats at new)
+
+-- ---- seats that are woken
+
+pub length_map : (f : Seat → Seat) (seats : List Seat) → length (map f seats) ≡ length seats
+length_map f [] = refl
+length_map f (s ∷ seats) = ap suc (length_map f seats)
+
+woken_at : (f : Call → Bool) (seats : List Seat) (at : ℕ) → unwrap_or (slice_get (map (woken_seat f) seats) at) no_seat ≡ woken_seat f (unwrap_or (slice_get seats at) no_seat)
+woken_at f [] at = refl
+woken_at f (s ∷ seats) zero = refl
+woken_at f (s ∷ seats) (suc at) = woken_at f seats at
+
+pub seat_woken : (f : Call → Bool) (seats : List Seat) (client : ℕ) → seat_in (map (woken_seat f) seats) client ≡ woken_seat f (seat_in seats client)
+seat_woken f seats client = woken_at f seats (client - 1)
+
+was_offered : (p : Phase) → is_blocked_phase p ≡ true → is_offered p ≡ true
+was_offered Blocked is = refl
+was_offered Idle is = absurd (cc is)
+was_offered Asked is = refl
+was_offered Held is = refl
+was_offered Receipted is = absurd (cc is)
+was_offered Left is = absurd (cc is)
+
+not_receipted : (p : Phase) → is_blocked_phase p ≡ true → is_receipted p ≡ false
+not_receipted Blocked is = refl
+not_receipted Idle is = refl
+not_receipted Asked is = refl
+not_receipted Held is = refl
+not_receipted Receipted is = absurd (cc is)
+not_receipted Left is = refl
+
+pub keeps_woken : (f : Call → Bool) (s : Seat) → KeepsCall s (woken_seat f s)
+keeps_woken f s = by (is_blocked_phase s.phase) refl (f s.call)
+  where
+    by : (b : Bool) → is_blocked_phase s.phase ≡ b → (t : Bool) → KeepsCall s (cond (b && t) (record s { phase = Asked }) s)
+    by true blocked true = record { offered = λ offers. was_offered s.phase blocked; call = refl; seq = refl }
+    by true blocked false = record { offered = λ offers. offers; call = refl; seq = refl }
+    by false blocked t = record { offered = λ offers. offers; call = refl; seq = refl }
+
+pub handed_woken : (f : Call → Bool) (s : Seat) → handed (woken_seat f s) ≡ handed s
+handed_woken f s = by (is_blocked_phase s.phase) refl (f s.call)
+  where
+    by : (b : Bool) → is_blocked_phase s.phase ≡ b → (t : Bool) → handed (cond (b && t) (record s { phase = Asked }) s) ≡ handed s
+    by true blocked true = ap (λ r. cond r (s.seq - 1) s.seq) (sym (not_receipted s.phase blocked))
+    by true blocked false = refl
+    by false blocked t = refl
+
+same_call : (s : Seat) → KeepsCall s s
+same_call s = record { offered = λ offers. offers; call = refl; seq = refl }
+
+-- ---- no entry
+
+-- nothing changes
+pub line_same : (history : List Entry) (seats : List Seat) (c : ℕ) → EntersNothing history seats c history seats
+line_same history seats c = record {
+  same = refl;
+  clients = refl;
+  each = λ client from. same_call (seat_in seats client);
+  handed_on = record { own = omega arith; others = λ client from other. refl };
+}
+
+-- one seat changes, and not its call
+pub line_set : (history : List Entry) (seats : List Seat) (c : ℕ) (new : Seat) → 1 ≤ c → c ≤ length seats → KeepsCall (seat_in seats c) new → handed (seat_in seats c) ≤ handed new
+    → EntersNothing history seats c history (slice_set seats (c - 1) new)
+line_set history seats c new first last keeps more = record {
+  same = refl;
+  clients = length_set seats (c - 1) new;
+  each = λ client from. by client from (same_or_other client c);
+  handed_on = record {
+    own = subst (λ s. handed (seat_in seats c) ≤ handed s) (sym (seat_here seats c new first last)) more;
+    others = λ client from other. ap handed (seat_there seats c client new first from other);
+  };
+}
+  where
+    by : (client : ℕ) → 1 ≤ client → (client ≡ c) ⊎ (client ≢ c) → KeepsCall (seat_in seats client) (seat_in (slice_set seats (c - 1) new) client)
+    by client from (inl same) = subst (λ n. KeepsCall (seat_in seats n) (seat_in (slice_set seats (c - 1) new) n)) (sym same) (subst (KeepsCall (seat_in seats c)) (sym (seat_here seats c new first last)) keeps)
+    by client from (inr other) = subst (KeepsCall (seat_in seats client)) (sym (seat_there seats c client new first from other)) (same_call (seat_in seats client))
+
+-- whoever waits is woken where a test is met
+pub line_woken : (history : List Entry) (seats : List Seat) (c : ℕ) (f : Call → Bool) → EntersNothing history seats c history (map (woken_seat f) seats)
+line_woken history seats c f = record {
+  same = refl;
+  clients = length_map (woken_seat f) seats;
+  each = λ client from. subst (KeepsCall (seat_in seats client)) (sym (seat_woken f seats client)) (keeps_woken f (seat_in seats client));
+  handed_on = record {
+    own = omega (arith, ap handed (seat_woken f seats c) ∙ handed_woken f (seat_in seats c));
+    others = λ client from other. ap handed (seat_woken f seats client) ∙ handed_woken f (seat_in seats client);
+  };
+}
+
+-- ---- an entry
+
+-- a call is entered with a reply, clients are woken, and its client's seat is another then
+pub line_entered : (history : List Entry) (seats : List Seat) (c : ℕ) (f : Call → Bool) (reply : Reply) (new : Seat) → 1 ≤ c → c ≤ length seats → is_offered (seat_in seats c).phase ≡ true
+    → is_offered new.phase ≡ false → new.seq ≡ (seat_in seats c).call.seq → handed (seat_in seats c) ≤ handed new
+    → EntersCall history seats c (history ++ record { call = (seat_in seats c).call; reply = reply } ∷ []) (slice_set (map (woken_seat f) seats) (c - 1) new)
+line_entered history seats c f reply new first last offers answered number more =
+    let woken = map (woken_seat f) seats in
+    let within : c ≤ length woken = omega (arith, last, length_map (woken_seat f) seats) in
+    record {
+      reply = reply;
+      entered = refl;
+      clients = length_set woken (c - 1) new ∙ length_map (woken_seat f) seats;
+      offered = offers;
+      answered = ap (λ s. is_offered s.phase) (seat_here woken c new first within) ∙ answered;
+      number = ap (λ s. s.seq) (seat_here woken c new first within) ∙ number;
+      others = λ client from other. subst (KeepsCall (seat_in seats client)) (sym (seat_there woken c client new first from other ∙ seat_woken f seats client)) (keeps_woken f (seat_in seats client));
+      handed_on = record {
+        own = subst (λ s. handed (seat_in seats c) ≤ handed s) (sym (seat_here woken c new first within)) more;
+        others = λ client from other. ap handed (seat_there woken c client new first from other ∙ seat_woken f seats client) ∙ handed_woken f (seat_in seats client);
+      };
+    }

@@ -1,0 +1,102 @@
+-- The calls of a play: entries have the numbers up to their clients', and the call under way of a client is of none of them and fits.
+use Rattle.std.proofs.Common.{◌≡◌, ℕ, ◌+◌, ◌<◌, ◌≤◌, Bool, true, false, cond, ◌&&◌, List, [], ◌∷◌, length, filter, refl, sym, ◌∙◌, ap, subst, inl, inr, arith}
+use Rattle.std.specs.Prelude.{◌==◌, ◌-◌, nat_le}
+use Rattle.std.specs.Int.{bit_at}
+use Rattle.std.proofs.lemmas.Bool.{and_parts}
+use Rattle.std.proofs.lemmas.Bool.Decides.{eqb_tells, nat_tests}
+use Rattle.sg_base.specs.Lists.{Each}
+use Rattle.sg_facts.specs.declared.entry.Entry.{Entry}
+use Rattle.sg_facts.specs.declared.trace.Item.{Item}
+use Rattle.sg_facts.specs.declared.trace.Tag.{Tag}
+use Rattle.sg_facts.specs.declared.trace.Tag.TheVariants.{Walk, Load, Client}
+use Rattle.sg_facts.specs.Facts.{Facts, fun_at}
+use Rattle.sg_facts.specs.Fits.{Fits}
+use Rattle.sg_facts.specs.Interface.{Declared, declares}
+use Rattle.sg_hist.specs.Clients.{calls_of}
+use Rattle.sg_hist.specs.Reading.{is_tagged}
+use Rattle.sg_hist.specs.Recovered.{is_clients}
+use Rattle.sg_plain.specs.Calls.{script_calls}
+use Rattle.sg_plain.specs.Promises.{AreFirstCalls}
+use Rattle.sg_plain.specs.Script.{args_fit, calls_fit}
+use Rattle.sg_plain.proofs.Playing.Calling.{next_of}
+use Rattle.sg_plain.proofs.Playing.Resolving.{fits_at}
+use Rattle.sg_plain.specs.Playing.Callers.{IsCaller}
+use Rattle.sg_play.proofs.Offering.{no_desc}
+use Rattle.sg_recovery_laws.proofs.Lists.{each_map}
+use Rattle.sg_hist.specs.Growing.{IsOfNoEntry}
+use Rattle.sg_script.specs.declared.script.Script.{Script}
+use Rattle.sg_script.specs.declared.script.ScriptCall.{ScriptCall}
+use Rattle.sg_seat.specs.WorldView.{Seat, is_offered}
+use Rattle.sg_play.proofs.Waking.Private.{IsFitCall}
+use Rattle.sg_facts.proofs.Replaying.Found.{other_test}
+
+pub test_same : (m n : ℕ) → (m == n) ≡ true → m ≡ n
+test_same m n is = elim (eqb_tells m n) [ inl same ↦ same.1 | inr apart ↦ absurd (cc (is, apart.0)) ]
+
+-- ---- numbers
+
+numbers_below : (facts : Facts) (history : List Entry) (client seq : ℕ) (es : List Entry) (calls : List ScriptCall) → AreFirstCalls facts history client seq es calls
+    → Each (λ e. e.call.seq < seq + length es) es
+numbers_below facts history client seq [] calls are = tt
+numbers_below facts history client seq (e ∷ es) [] are = absurd are
+numbers_below facts history client seq (e ∷ es) (c ∷ calls) are =
+    let own : e.call.seq ≡ seq = ap (λ c. c.seq) are.0 in (
+      omega (arith, own),
+      each_map (λ x. x.call.seq < (seq + 1) + length es) (λ x. x.call.seq < seq + length (e ∷ es)) es (λ x below. omega (arith, below)) (numbers_below facts history client (seq + 1) es calls are.1),
+    )
+
+unfiltered : (P : Entry → Type 0) (client : ℕ) (history : List Entry) → Each P (filter (λ e. e.call.client == client) history) → Each (λ e. (e.call.client == client) ≡ true → P e) history
+unfiltered P client [] all = tt
+unfiltered P client (e ∷ history) all = by (e.call.client == client) refl all (unfiltered P client history)
+  where
+    by : (b : Bool) → (e.call.client == client) ≡ b → Each P (cond b (e ∷ filter (λ x. x.call.client == client) history) (filter (λ x. x.call.client == client) history))
+        → (Each P (filter (λ x. x.call.client == client) history) → Each (λ x. (x.call.client == client) ≡ true → P x) history) → Each (λ x. (x.call.client == client) ≡ true → P x) (e ∷ history)
+    by true is each more = ((λ own. each.0), more each.1)
+    by false is each more = ((λ own. absurd (cc (is, own))), more each)
+
+-- the entries of a client have no greater number than its last
+pub entries_below : (facts : Facts) (script : Script) (history : List Entry) (client : ℕ) (s : Seat) → IsCaller facts script history client s
+    → Each (λ e. (e.call.client == client) ≡ true → e.call.seq ≤ s.seq) history
+entries_below facts script history client s is =
+    unfiltered (λ e. e.call.seq ≤ s.seq) client history
+    (each_map (λ e. e.call.seq < 1 + length (calls_of history client)) (λ e. e.call.seq ≤ s.seq) (calls_of history client) (λ e below. omega (arith, below, is.count))
+    (numbers_below facts history client 1 (calls_of history client) (script_calls script client) is.made))
+
+-- so an item of a greater number is of none
+pub none_of_next : (item : Item) (client seq last : ℕ) (history : List Entry) → item.tag ≡ Client client seq → last < seq → Each (λ e. (e.call.client == client) ≡ true → e.call.seq ≤ last) history → IsOfNoEntry item history
+none_of_next item client seq last [] tag more all = tt
+none_of_next item client seq last (e ∷ history) tag more all =
+    (ap (λ t. is_tagged e.call.client e.call.seq t) tag ∙ by (client == e.call.client) refl, none_of_next item client seq last history tag more all.1)
+  where
+    by : (b : Bool) → (client == e.call.client) ≡ b → (b && (seq == e.call.seq)) ≡ false
+    by false is = refl
+    by true is =
+        let own : (e.call.client == client) ≡ true = (let same : client ≡ e.call.client = test_same client e.call.client is in ap (λ n. n == client) (sym same) ∙ ap (λ n. client == n) same ∙ is) in
+        other_test seq e.call.seq (λ same. omega (arith, same, more, all.0 own))
+
+-- what rebuilds or loads is of no client's call
+pub stub_tagged : (client seq : ℕ) (tag : Tag) → is_clients tag ≡ false → is_tagged client seq tag ≡ false
+stub_tagged client seq (Walk id k c) is = refl
+stub_tagged client seq (Load key c) is = refl
+stub_tagged client seq (Client c n) is = absurd (cc is)
+
+pub none_of_stub : (item : Item) (history : List Entry) → is_clients item.tag ≡ false → IsOfNoEntry item history
+none_of_stub item [] stub = tt
+none_of_stub item (e ∷ history) stub = (stub_tagged e.call.client e.call.seq item.tag stub, none_of_stub item history stub)
+
+-- ---- calls that fit
+
+-- the call under way of a client is of a function of the service
+pub fit_call : (i : Declared) (script : Script) (history : List Entry) (client : ℕ) (s : Seat) → Fits i → calls_fit i 1 (script_calls script client) ≡ true → IsCaller i.facts script history client s
+    → is_offered s.phase ≡ true → IsFitCall i.facts s.call
+fit_call i script history client s fits fit is offers =
+    let done = length (calls_of history client) in
+    let next = next_of i.facts script history client done s.call (is.next offers) in
+    let w = next.written in
+    let declared : declares i w.fun ≡ true = (and_parts (declares i w.fun) (args_fit (1 + done) (fun_at i.facts.funs w.fun).kinds w.args) (fits_at i 1 (script_calls script client) done w fit next.there)).0 in
+    let one : nat_le 1 w.fun ≡ true = (and_parts (nat_le 1 w.fun) (bit_at i.declared (w.fun - 1) == 1) declared).0 in
+    subst (IsFitCall i.facts) (sym next.is) (record {
+      first = grind (arith, nat_tests, one);
+      last = fits.funs w.fun declared;
+      desc = λ desc parent. no_desc (calls_of history client) (fun_at i.facts.funs w.fun).kinds w.args desc parent;
+    })

@@ -1,2 +1,0 @@
-//! Laws: a script without a flaw may be played.
-#![tactic(auto)]

@@ -1,7 +1,0 @@
-use Rattle.std.proofs.Common.{[]}
-use Rattle.sg_recovery_laws.proofs.InBoots.{place_is}
-use Rattle.sg_trace_laws.proofs.Behind.{object_before_last, whole_last}
-use Rattle.sg_trace_laws.proofs.laws.last_place.Goals as goal
-
-pub returns : goal.returns
-returns c = record { object = object_before_last; whole = whole_last; noted = place_is [] }
