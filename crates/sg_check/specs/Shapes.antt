@@ -6,7 +6,7 @@ use Rattle.sg_facts.specs.declared.shape.Leaves.TheVariants.{Own, Same, Of}
 use Rattle.sg_facts.specs.Facts.{Facts}
 use Rattle.sg_facts.specs.Interface.{Declared}
 use Rattle.sg_facts.specs.Limits.{most_fields, most_funs}
-use Rattle.sg_check_statements.specs.Names.{has_name}
+use Rattle.sg_check_statements.specs.NameSet.{has_name}
 
 -- whether a number is that of one of so many functions
 abbrev pub is_fun : ℕ → ℕ → Bool

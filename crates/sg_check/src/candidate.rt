@@ -1,6 +1,6 @@
 // What a text declares of a shape, before it is accepted.
 use sg_facts::{Interface, Shape};
-use sg_reach::TripleList;
+use sg_walk::TripleList;
 
 /// The shape of a text, the interface that the text declares of it, and all that descriptors can come to.
 #[derive(Debug, Drop)]

@@ -2,7 +2,7 @@
 ghost use Rattle.std.specs.Prelude.{◌≡◌, ℕ, true, map, OnOk};
 ghost use Rattle.std.specs.Result.{MatchResult};
 ghost use Rattle.sg_facts.specs.Facts.{facts_of};
-ghost use Rattle.sg_reach.specs.Limits.{HasFourFields};
+ghost use Rattle.sg_walk.specs.Reach.Limits.{HasFourFields};
 ghost use Rattle.sg_check_statements.specs.Faults.{IsAccepted, IsFault};
 ghost use Rattle.sg_check_statements.specs.Stages.{IsFirstFault};
 ghost use Rattle.sg_check_statements.specs.declared.fault.CheckKind.{CheckKind as Kind};
@@ -19,8 +19,8 @@ use crate::reached::unreached_of;
 use crate::stuck::stuck_of;
 use sg_check_statements::{CheckError, CheckKind, fit_one_by_one, unless};
 use sg_facts::Shape;
-use sg_grammar::Tree;
-use sg_reach::reachable;
+use sg_parse::Tree;
+use sg_walk::reachable;
 use std::alloc::Global;
 
 /// The interface that a text declares of one of these shapes, where nothing is wrong with it; else, of the kinds that are,

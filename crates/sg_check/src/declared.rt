@@ -9,7 +9,7 @@ ghost use Rattle.sg_check_statements.specs.Says.{has_proto, says_of};
 use sg_base::{NoMemory, PairList};
 use sg_check_statements::{Protos, says_of};
 use sg_facts::{FunShape, Interface, Shape};
-use sg_grammar::Statement;
+use sg_parse::Statement;
 use std::alloc::Global;
 
 /// The interface that statements declare of a shape: the functions that have a prototype, and those of the shape's

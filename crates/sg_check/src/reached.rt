@@ -8,7 +8,7 @@ ghost use Rattle.sg_check.specs.Inside.Reached.{AreStates, AreTriples, AreUnreac
 use crate::numbers::Numbers;
 use sg_base::NoMemory;
 use sg_facts::{END_OF_FUNS, Interface};
-use sg_reach::Triple;
+use sg_walk::Triple;
 use std::alloc::Global;
 
 /// The numbers of the functions that are to be reached and aren't, where descriptors come to these triples.

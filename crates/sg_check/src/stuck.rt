@@ -1,13 +1,13 @@
 // The states that have no walk.
 ghost use Rattle.std.specs.Prelude.{◌≡◌, ◌≤◌, length, IfOk};
-ghost use Rattle.sg_reach.specs.Limits.{HasFourFields};
+ghost use Rattle.sg_walk.specs.Reach.Limits.{HasFourFields};
 ghost use Rattle.sg_check.specs.Inside.Reached.{AreTriples};
 ghost use Rattle.sg_check.specs.Inside.Stuck.{AreStuck, TellsWalk};
 
 use crate::numbers::Numbers;
 use sg_base::NoMemory;
 use sg_facts::Interface;
-use sg_reach::Triple;
+use sg_walk::Triple;
 use sg_walk::shortest;
 use std::alloc::Global;
 

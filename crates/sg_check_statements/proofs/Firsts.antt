@@ -1,7 +1,7 @@
 -- Statements without a flaw, and the first with one.
 use Rattle.std.proofs.Common.{◌≡◌, ◌⊎◌, ℕ, ◌+◌, ◌<◌, List, [], ◌∷◌, ◌++◌, length, take, drop, get_or, refl, sym, ◌∙◌, ap, subst, inl, inr, append_assoc}
 use Rattle.std.proofs.lemmas.List.{take_more, take-append-drop}
-use Rattle.sg_grammar.specs.declared.tree.Statement.{Statement}
+use Rattle.sg_parse.specs.declared.tree.Statement.{Statement}
 use Rattle.sg_check_statements.specs.Faults.{IsFirstStatement, NoStatement}
 
 -- a list that ends in one more: the end is that one, or stands before

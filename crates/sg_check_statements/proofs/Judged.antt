@@ -5,11 +5,11 @@ use Rattle.std.specs.Str.{bytes_eq}
 use Rattle.std.proofs.lemmas.List.Folds.{list_any-append, list_all-map}
 use Rattle.sg_facts.specs.declared.shape.Effect.{Effect}
 use Rattle.sg_facts.specs.Facts.{Facts, Fun}
-use Rattle.sg_grammar.specs.declared.tree.Param.{Param}
-use Rattle.sg_grammar.specs.declared.tree.Ret.{Ret}
-use Rattle.sg_grammar.specs.declared.tree.Statement.{Statement}
-use Rattle.sg_grammar.specs.declared.tree.Statement.TheVariants.{Proto}
-use Rattle.sg_grammar.specs.Named.{Named}
+use Rattle.sg_parse.specs.declared.tree.Param.{Param}
+use Rattle.sg_parse.specs.declared.tree.Ret.{Ret}
+use Rattle.sg_parse.specs.declared.tree.Statement.{Statement}
+use Rattle.sg_parse.specs.declared.tree.Statement.TheVariants.{Proto}
+use Rattle.sg_parse.specs.Grammar.Named.{Named}
 use Rattle.sg_check_statements.specs.Flaws.{place_if, fun_of_name, wrong_effect}
 use Rattle.sg_facts.specs.Words.{field_name}
 use Rattle.sg_check_statements.specs.Effects.{Named_effect, caller_effects, declared_effects, has_effect, later_effects, ret_effects, same_effect, same_effects, service_effects, statement_effects}

@@ -9,13 +9,13 @@ use Rattle.std.specs.Str.{bytes_eq}
 use Rattle.std.proofs.lemmas.Bool.Decides.{same_from_decides}
 use Rattle.std.proofs.lemmas.Slice.Eq.{bytes_eq-Decides}
 use Rattle.std.proofs.lemmas.List.Folds.{list_any-append}
-use Rattle.sg_grammar.specs.declared.tree.Statement.{Statement}
-use Rattle.sg_grammar.specs.Named.{Named}
-use Rattle.sg_grammar.specs.declared.tree.Param.{Param}
-use Rattle.sg_grammar.specs.declared.tree.Ret.{Ret}
-use Rattle.sg_grammar.specs.declared.tree.Statement.TheVariants.{Proto, Two}
+use Rattle.sg_parse.specs.declared.tree.Statement.{Statement}
+use Rattle.sg_parse.specs.Grammar.Named.{Named}
+use Rattle.sg_parse.specs.declared.tree.Param.{Param}
+use Rattle.sg_parse.specs.declared.tree.Ret.{Ret}
+use Rattle.sg_parse.specs.declared.tree.Statement.TheVariants.{Proto, Two}
 use Rattle.sg_check_statements.specs.Flaws.{duplicate, place_if, names_two, first_place, unknown}
-use Rattle.sg_check_statements.specs.Names.{AreOf, has_name}
+use Rattle.sg_check_statements.specs.NameSet.{AreOf, has_name}
 use Rattle.sg_check_statements.specs.Says.{has_proto, is_proto}
 
 other_way : (xs ys : List ℕ) → bytes_eq xs ys ≡ bytes_eq ys xs

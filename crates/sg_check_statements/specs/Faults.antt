@@ -4,8 +4,8 @@ use Rattle.sg_facts.specs.Facts.{Facts, fun_at}
 use Rattle.sg_facts.specs.Fields.{number_of as number_of_bits}
 use Rattle.sg_facts.specs.Fits.{Fits}
 use Rattle.sg_facts.specs.Interface.{Declared}
-use Rattle.sg_grammar.specs.declared.tree.Statement.{Statement}
-use Rattle.sg_grammar.specs.declared.tree.Tree.{Tree}
+use Rattle.sg_parse.specs.declared.tree.Statement.{Statement}
+use Rattle.sg_parse.specs.declared.tree.Tree.{Tree}
 use Rattle.sg_check_statements.specs.declared.fault.CheckKind.{CheckKind}
 use Rattle.sg_check_statements.specs.declared.fault.CheckKind.TheVariants.{UnknownService, DuplicateName, UnknownFunction, BadParams, WrongFact, WrongFlag, WrongEffect, ForeignTransition, ForeignRecover, NoCreation, Unreached, NoWalk}
 use Rattle.sg_check_statements.specs.Says.{has_proto, says_of, service_of}

@@ -11,10 +11,10 @@ use Rattle.sg_facts.specs.Fits.{IsReached, needs_reach}
 use Rattle.sg_facts.specs.Interface.{Declared, has_pair}
 use Rattle.sg_facts.specs.Words.{close_word, flag_word, parents_word}
 use Rattle.sg_facts.specs.Walks.{IsReachable, begin_of, most_calls, restores}
-use Rattle.sg_grammar.specs.Named.{Named}
-use Rattle.sg_grammar.specs.declared.tree.Facts.{Facts as Head}
-use Rattle.sg_grammar.specs.declared.tree.Statement.{Statement}
-use Rattle.sg_grammar.specs.declared.tree.Statement.TheVariants.{One, Two, Proto}
+use Rattle.sg_parse.specs.Grammar.Named.{Named}
+use Rattle.sg_parse.specs.declared.tree.Facts.{Facts as Head}
+use Rattle.sg_parse.specs.declared.tree.Statement.{Statement}
+use Rattle.sg_parse.specs.declared.tree.Statement.TheVariants.{One, Two, Proto}
 use Rattle.sg_check_statements.specs.Says.{has_proto, fun_number, says, says_of}
 use Rattle.sg_check_statements.specs.Params.{fit_params}
 use Rattle.sg_check_statements.specs.Effects.{declared_effects, same_effects, service_effects}

@@ -2,7 +2,7 @@ pub mod Effects
 pub mod Faults
 pub mod Flaws
 pub mod Inside
-pub mod Names
+pub mod NameSet
 pub mod Params
 pub mod Says
 pub mod Stages

@@ -2,7 +2,7 @@
 use Rattle.std.specs.Prelude.{ℕ, ◌≡◌, Bool, List}
 use Rattle.std.specs.List.{list_any}
 use Rattle.std.specs.Str.{bytes_eq}
-use Rattle.sg_grammar.specs.declared.tree.Statement.{Statement}
+use Rattle.sg_parse.specs.declared.tree.Statement.{Statement}
 use Rattle.sg_check_statements.specs.Says.{has_proto}
 
 -- whether a name is among these

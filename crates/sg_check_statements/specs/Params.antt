@@ -5,9 +5,9 @@ use Rattle.std.specs.Str.{bytes_eq}
 use Rattle.sg_facts.specs.declared.shape.Kind.{Kind}
 use Rattle.sg_facts.specs.declared.shape.Kind.TheVariants.{Desc, Parent, Word, Text}
 use Rattle.sg_facts.specs.Facts.{Fun}
-use Rattle.sg_grammar.specs.declared.tree.Param.{Param}
-use Rattle.sg_grammar.specs.declared.tree.TypeName.{TypeName}
-use Rattle.sg_grammar.specs.Named.{Named}
+use Rattle.sg_parse.specs.declared.tree.Param.{Param}
+use Rattle.sg_parse.specs.declared.tree.TypeName.{TypeName}
+use Rattle.sg_parse.specs.Grammar.Named.{Named}
 
 -- whether a name, where there is one, is this word
 abbrev pub has_word : Option Named → List ℕ → Bool

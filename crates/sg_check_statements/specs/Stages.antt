@@ -1,7 +1,7 @@
 -- How far a text is found to be good.
 use Rattle.std.specs.Prelude.{ℕ, ◌<◌, List}
 use Rattle.sg_facts.specs.Facts.{Facts}
-use Rattle.sg_grammar.specs.declared.tree.Tree.{Tree}
+use Rattle.sg_parse.specs.declared.tree.Tree.{Tree}
 use Rattle.sg_check_statements.specs.declared.fault.CheckError.{CheckError}
 use Rattle.sg_check_statements.specs.declared.fault.CheckError.TheVariants.{NoMemory, Fault}
 use Rattle.sg_check_statements.specs.declared.fault.CheckKind.{CheckKind}

@@ -8,7 +8,7 @@ ghost use Rattle.sg_facts.specs.declared.shape.Effect.TheVariants.{SetArg, AddAr
 
 use crate::change::Change;
 use crate::params::has_word;
-use sg_grammar::{Param, Ret, Statement};
+use sg_parse::{Param, Ret, Statement};
 
 /// A test of effects.
 pub trait Test {

@@ -14,7 +14,7 @@ use crate::declared::{Proto, Test, any_declared};
 use crate::funs::fun_of_name;
 use crate::judge::{Judge, first_flaw};
 use sg_facts::{Effect, FunShape, Shape, field_name};
-use sg_grammar::Statement;
+use sg_parse::Statement;
 
 /// Looks for prototypes of functions whose effects are declared otherwise.
 #[derive(Clone, Copy)]

@@ -10,7 +10,7 @@ use crate::funs::fun_of_name;
 use crate::judge::{Judge, first_flaw};
 use crate::says::{says, says_of};
 use sg_facts::{FunShape, Leaves, Shape};
-use sg_grammar::Statement;
+use sg_parse::Statement;
 
 /// Looks for prototypes of functions whose flags, or whose state, are declared otherwise.
 #[derive(Clone, Copy)]

@@ -4,7 +4,7 @@ ghost use Rattle.sg_facts.specs.Facts.{facts_of};
 ghost use Rattle.sg_check_statements.specs.Flaws.{other_value, wrong_fact};
 
 use sg_facts::{Shape, close_word, flag_word, parents_word};
-use sg_grammar::{Facts, Name};
+use sg_parse::{Facts, Name};
 
 /// The place of the first fact that isn't the service's.
 pub fn wrong_fact(shape: &Shape, facts: &Facts) -> Option<usize>

@@ -1,10 +1,10 @@
 // What can be wrong with a statement by itself, and the first that is.
 ghost use Rattle.std.specs.Prelude.{◌≡◌, ℕ, List, Some, MatchOption};
 ghost use Rattle.std.specs.declared.option.Option.{Option as Maybe};
-ghost use Rattle.sg_grammar.specs.declared.tree.Statement.{Statement as One};
+ghost use Rattle.sg_parse.specs.declared.tree.Statement.{Statement as One};
 ghost use Rattle.sg_check_statements.specs.Faults.{IsFirstStatement, NoStatement};
 
-use sg_grammar::Statement;
+use sg_parse::Statement;
 
 /// What looks for one kind of flaw in a statement.
 pub trait Judge {

@@ -1,6 +1,6 @@
 // Sets of names.
 ghost use Rattle.std.specs.Prelude.{◌≡◌, ◌||◌, ℕ, List, [], OnOk, OnErr};
-ghost use Rattle.sg_check_statements.specs.Names.{has_name};
+ghost use Rattle.sg_check_statements.specs.NameSet.{has_name};
 ghost use Rattle.std.specs.Str.{bytes_eq};
 
 use sg_base::NoMemory;
@@ -10,11 +10,11 @@ use std::marker::Model;
 
 /// A set of names. Contracts see their bytes, in some order.
 #[derive(Drop)]
-pub struct Names<'a> {
+pub struct NameSet<'a> {
     names: HashSet<&'a [u8]>,
 }
 
-impl<'a> Model for Names<'a> {
+impl<'a> Model for NameSet<'a> {
     ghost use Rattle.std.specs.Prelude.{ℕ, List, map};
 
     ghost Value = { List (List ℕ) };
@@ -22,12 +22,12 @@ impl<'a> Model for Names<'a> {
     ghost view = { λ n. map (λ k. k.now) n.names.keys };
 }
 
-impl<'a> Names<'a> {
+impl<'a> NameSet<'a> {
     /// None. It takes no memory.
-    pub fn new(alloc: Global) -> Names<'a>
+    pub fn new(alloc: Global) -> NameSet<'a>
         ensures { result ≡ [] }
     {
-        Names {
+        NameSet {
             names: HashSet::new(alloc),
         }
     }

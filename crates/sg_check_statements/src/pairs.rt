@@ -8,7 +8,7 @@ ghost use Rattle.sg_check_statements.specs.Flaws.{foreign, has_pair_at};
 use crate::funs::fun_number;
 use crate::judge::{Judge, first_flaw};
 use sg_facts::Shape;
-use sg_grammar::Statement;
+use sg_parse::Statement;
 
 /// Looks for pairs under a word that aren't among these pairs of the shape's functions.
 #[derive(Clone, Copy)]

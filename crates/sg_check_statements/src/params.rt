@@ -8,7 +8,7 @@ ghost use Rattle.sg_check_statements.specs.Params.{are_of_kinds, fit_params, is_
 use crate::funs::fun_of_name;
 use crate::judge::{Judge, first_flaw};
 use sg_facts::{FunShape, Kind, Shape};
-use sg_grammar::{Name, Param, Statement, TypeName};
+use sg_parse::{Name, Param, Statement, TypeName};
 
 /// Looks for prototypes whose parameters aren't their function's.
 #[derive(Clone, Copy)]

@@ -2,13 +2,13 @@
 ghost use Rattle.std.specs.Prelude.{◌≡◌, ◌||◌, ℕ, List, Some, IfOk, OnOk, MatchOption};
 ghost use Rattle.sg_check_statements.specs.Faults.{IsFirstStatement, NoStatement};
 ghost use Rattle.sg_check_statements.specs.Flaws.{duplicate};
-ghost use Rattle.sg_check_statements.specs.Names.{AreOf, has_name};
+ghost use Rattle.sg_check_statements.specs.NameSet.{AreOf, has_name};
 ghost use Rattle.sg_check_statements.specs.Says.{has_proto, is_proto};
-ghost use Rattle.sg_grammar.specs.declared.tree.Statement.{Statement as One};
+ghost use Rattle.sg_parse.specs.declared.tree.Statement.{Statement as One};
 
-use crate::names::Names;
+use crate::names::NameSet;
 use sg_base::NoMemory;
-use sg_grammar::Statement;
+use sg_parse::Statement;
 use std::alloc::Global;
 use std::marker::Model;
 
@@ -16,13 +16,13 @@ use std::marker::Model;
 #[derive(Drop)]
 pub struct Protos<'s, 'a> {
     statements: &'s [Statement<'a>],
-    names: Names<'a>,
+    names: NameSet<'a>,
 }
 
 impl<'s, 'a> Model for Protos<'s, 'a> {
     ghost use Rattle.std.specs.Prelude.{List};
-    ghost use Rattle.sg_check_statements.specs.Names.{AreOf};
-    ghost use Rattle.sg_grammar.specs.declared.tree.Statement.{Statement as One};
+    ghost use Rattle.sg_check_statements.specs.NameSet.{AreOf};
+    ghost use Rattle.sg_parse.specs.declared.tree.Statement.{Statement as One};
 
     ghost Value = { List One };
 
@@ -49,10 +49,10 @@ impl<'s, 'a> Protos<'s, 'a> {
 }
 
 // The names of the functions that have a prototype.
-fn names_of<'a>(alloc: Global, statements: &[Statement<'a>]) -> Result<Names<'a>, NoMemory>
+fn names_of<'a>(alloc: Global, statements: &[Statement<'a>]) -> Result<NameSet<'a>, NoMemory>
     ensures { IfOk result (λ names. AreOf names statements.now) }
 {
-    let mut names = Names::new(alloc);
+    let mut names = NameSet::new(alloc);
     'statements: for statement in statements {
         add_proto(&mut names, statement)?;
     }
@@ -60,7 +60,7 @@ fn names_of<'a>(alloc: Global, statements: &[Statement<'a>]) -> Result<Names<'a>
 }
 
 // Adds the function of a prototype.
-fn add_proto<'a>(names: &mut Names<'a>, statement: &Statement<'a>) -> Result<(), NoMemory>
+fn add_proto<'a>(names: &mut NameSet<'a>, statement: &Statement<'a>) -> Result<(), NoMemory>
     ensures { OnOk result ((f : List ℕ) → has_name names.new f ≡ (is_proto f statement.now || has_name names.old f)) }
 {
     match statement {
@@ -74,7 +74,7 @@ pub fn duplicate_in(alloc: Global, statements: &[Statement]) -> Result<Option<us
     ensures { IfOk result (λ r. MatchOption r (NoStatement (λ before s p. duplicate before s ≡ Some p) statements.now)
         (IsFirstStatement (λ before s p. duplicate before s ≡ Some p) statements.now)) }
 {
-    let mut names = Names::new(alloc);
+    let mut names = NameSet::new(alloc);
     'statements: for statement in statements {
         if let Some(at) = second_in(&names, statement) {
             return Ok(Some(at));
@@ -85,7 +85,7 @@ pub fn duplicate_in(alloc: Global, statements: &[Statement]) -> Result<Option<us
 }
 
 // The place of a prototype of a function that has one before.
-fn second_in(names: &Names, statement: &Statement) -> Option<usize>
+fn second_in(names: &NameSet, statement: &Statement) -> Option<usize>
     ensures { (before : List One) → AreOf names.now before → result ≡ duplicate before statement.now }
 {
     match statement {

@@ -2,7 +2,7 @@
 ghost use Rattle.std.specs.Prelude.{◌≡◌, codes};
 ghost use Rattle.sg_check_statements.specs.Says.{has_proto, is_one, is_proto, is_two, says, says_of};
 
-use sg_grammar::Statement;
+use sg_parse::Statement;
 
 /// Whether a statement says a word of a function.
 pub fn says(statements: &[Statement], word: &[u8], fun: &[u8]) -> bool

@@ -8,7 +8,7 @@ ghost use Rattle.sg_check_statements.specs.Says.{has_proto, service_of};
 
 use crate::says::has_proto;
 use sg_facts::{FunShape, Shape};
-use sg_grammar::Statement;
+use sg_parse::Statement;
 
 /// The first of these services that has a name.
 pub fn service_in<'a>(services: &'a [Shape], name: &[u8]) -> Option<&'a Shape>

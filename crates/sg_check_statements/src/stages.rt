@@ -18,7 +18,7 @@ use crate::services::{no_creation, service_in};
 use crate::unknown::unknown_in;
 use sg_base::NoMemory;
 use sg_facts::Shape;
-use sg_grammar::Tree;
+use sg_parse::Tree;
 use std::alloc::Global;
 
 // The kinds that are looked for in a text once its service is known, in their order.

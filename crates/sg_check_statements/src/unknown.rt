@@ -10,7 +10,7 @@ use crate::judge::{Judge, first_flaw};
 use crate::protos::Protos;
 use sg_base::NoMemory;
 use sg_facts::Shape;
-use sg_grammar::{Name, Statement};
+use sg_parse::{Name, Statement};
 use std::alloc::Global;
 
 /// Looks for names of functions that have no prototype, and for prototypes of functions that the service hasn't.

@@ -6,11 +6,11 @@ use Rattle.sg_base.specs.declared.memory.NoMemory.{NoMemory}
 use Rattle.sg_lex.specs.Tokens.{answers_of}
 use Rattle.sg_facts.specs.Facts.{Facts}
 use Rattle.sg_facts.specs.Interface.{Declared}
-use Rattle.sg_grammar.specs.declared.error.ParseError.{ParseError}
-use Rattle.sg_grammar.specs.declared.error.ParseError.TheVariants.{NoMemory as no_memory, Lex as lex_fault, Syntax as syntax_fault}
-use Rattle.sg_grammar.specs.declared.tree.Tree.{Tree}
-use Rattle.sg_grammar.specs.Parses.{Parses}
-use Rattle.sg_grammar.proofs.Readings.{only_answer}
+use Rattle.sg_parse.specs.declared.error.ParseError.{ParseError}
+use Rattle.sg_parse.specs.declared.error.ParseError.TheVariants.{NoMemory as no_memory, Lex as lex_fault, Syntax as syntax_fault}
+use Rattle.sg_parse.specs.declared.tree.Tree.{Tree}
+use Rattle.sg_parse.specs.Grammar.Parses.{Parses}
+use Rattle.sg_parse.proofs.Grammar.Readings.{only_answer}
 use Rattle.sg_facts.specs.Tables.{AreTables}
 use Rattle.sg_print.specs.TablesText.{tables_text}
 use Rattle.sg_check_statements.specs.Faults.{IsAccepted, IsFault, interface_of}

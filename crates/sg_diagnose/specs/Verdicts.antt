@@ -6,9 +6,9 @@ use Rattle.sg_facts.specs.Facts.{Facts}
 use Rattle.sg_facts.specs.Interface.{Declared}
 use Rattle.sg_facts.specs.Tables.{AreTables, Compiled}
 use Rattle.sg_print.specs.TablesText.{tables_text}
-use Rattle.sg_grammar.specs.declared.error.ParseError.TheVariants.{Lex as lex_fault, Syntax as syntax_fault}
-use Rattle.sg_grammar.specs.declared.tree.Tree.{Tree}
-use Rattle.sg_grammar.specs.Parses.{Parses}
+use Rattle.sg_parse.specs.declared.error.ParseError.TheVariants.{Lex as lex_fault, Syntax as syntax_fault}
+use Rattle.sg_parse.specs.declared.tree.Tree.{Tree}
+use Rattle.sg_parse.specs.Grammar.Parses.{Parses}
 use Rattle.sg_check_statements.specs.declared.fault.CheckKind.{CheckKind}
 use Rattle.sg_check_statements.specs.declared.fault.CheckKind.TheVariants.{UnknownService, DuplicateName, UnknownFunction, BadParams, WrongFact, WrongFlag, WrongEffect, ForeignTransition, ForeignRecover, NoCreation, Unreached, NoWalk}
 use Rattle.sg_check_statements.specs.Faults.{IsAccepted, IsFault}

@@ -1,7 +1,7 @@
 // What is said of a text.
 ghost use Rattle.std.specs.Prelude.{◌≡◌, Ok, List, true, map, IfOk};
 ghost use Rattle.sg_facts.specs.Facts.{Facts, facts_of};
-ghost use Rattle.sg_grammar.specs.Parses.{Parses};
+ghost use Rattle.sg_parse.specs.Grammar.Parses.{Parses};
 ghost use Rattle.sg_check.specs.Shapes.{are_shapes};
 ghost use Rattle.sg_diagnose.specs.declared.outcome.Verdict.{Verdict as Outcome};
 ghost use Rattle.sg_diagnose.specs.declared.examined.Examined.{Examined as Answer};
@@ -14,7 +14,7 @@ use crate::{RefusalKind, Verdict};
 use sg_base::NoMemory;
 use sg_check::{CheckError, check};
 use sg_facts::Shape;
-use sg_grammar::{ParseError, Tree};
+use sg_parse::{ParseError, Tree};
 use sg_parse::parse;
 use sg_print::print_tables;
 use sg_stub::compile;

@@ -1,14 +1,14 @@
 -- The event service as plain data, with the laws that it keeps to.
 use Rattle.std.specs.Prelude.{refl}
 use Rattle.sg_slots.specs.RowModel.{RowModel}
-use Rattle.sg_event.specs.EventAlikeLaw.{event_answers_alike}
-use Rattle.sg_event.specs.EventBlockedLaw.{event_blocked_stays}
+use Rattle.sg_event.specs.Laws.EventAlikeLaw.{event_answers_alike}
+use Rattle.sg_event.specs.Laws.EventBlockedLaw.{event_blocked_stays}
 use Rattle.sg_event.specs.EventFacts.{event_facts}
-use Rattle.sg_event.specs.EventShapeLaw.{event_counts_slowly, event_shape_allows}
+use Rattle.sg_event.specs.Laws.EventShapeLaw.{event_counts_slowly, event_shape_allows}
 use Rattle.sg_event.specs.EventSound.{IsEventSound}
-use Rattle.sg_event.specs.EventSoundLaw.{event_answers_and_keeps}
+use Rattle.sg_event.specs.Laws.EventSoundLaw.{event_answers_and_keeps}
 use Rattle.sg_event.specs.EventTable.{event_parts, event_table}
-use Rattle.sg_event.specs.EventWalkLaw.{event_walk_goes_on}
+use Rattle.sg_event.specs.Laws.EventWalkLaw.{event_walk_goes_on}
 
 abbrev pub event_model : RowModel
 event_model = record {

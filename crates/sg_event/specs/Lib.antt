@@ -1,11 +1,7 @@
-pub mod EventAlikeLaw
-pub mod EventBlockedLaw
 pub mod EventFacts
 pub mod EventModel
 pub mod EventRow
-pub mod EventShapeLaw
 pub mod EventSound
-pub mod EventSoundLaw
 pub mod EventTable
-pub mod EventWalkLaw
 pub mod Inside
+pub mod Laws

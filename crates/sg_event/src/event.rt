@@ -1,5 +1,5 @@
 // One event.
-use sg_slots::Entry;
+use sg_slots::Slot;
 
 /// An event.
 #[derive(Clone, Copy, Debug, PartialEq, Eq)]
@@ -10,7 +10,7 @@ pub struct Event {
     pub count: u32,
 }
 
-impl Entry for Event {
+impl Slot for Event {
     ghost use Rattle.sg_event.specs.EventRow.{event_body};
 
     ghost body = { event_body };

@@ -12,7 +12,7 @@ use Rattle.sg_facts.specs.Object.{Object, after, empty_object, object_from, obje
 use Rattle.sg_facts.proofs.Legality.{IsLegal-from, LegalFrom-is}
 use Rattle.sg_facts.specs.Trace.{Boot}
 use Rattle.sg_hist.specs.Growing.{AreGrown, HasOneMore, IsGrown, IsOfNoEntry, booted, noted, place_behind, struck}
-use Rattle.sg_hist.specs.Reading.{Place, after_item, behind, entries_before, is_by_guard, is_item_of, items_of, names_at, names_in, past, places_from, places_in, stands_before, value_at}
+use Rattle.sg_hist.specs.Reading.{Position, after_item, behind, entries_before, is_by_guard, is_item_of, items_of, names_at, names_in, past, places_from, places_in, stands_before, value_at}
 
 -- ---- an entry more
 
@@ -51,11 +51,11 @@ any_last test (x ∷ items) item one = ap (λ b. test x || b) (any_last test ite
     either true = refl
     either false = refl
 
-past_same : (item : Item) (p q : Place) → IsGrown item p q → past q ≡ past p
+past_same : (item : Item) (p q : Position) → IsGrown item p q → past q ≡ past p
 past_same item p q g = ap (λ v. v ++ q.front) g.older ∙ ap (λ v. p.older ++ v) g.front
 
 -- an entry whose item isn't the one that was noted stands before a place as it did
-pub stands_before-more : (item : Item) (p q : Place) (e : Entry) → IsGrown item p q → is_item_of e item ≡ false → stands_before q e ≡ stands_before p e
+pub stands_before-more : (item : Item) (p q : Position) (e : Entry) → IsGrown item p q → is_item_of e item ≡ false → stands_before q e ≡ stands_before p e
 stands_before-more item p q e g none =
     let earlier : list_any (is_item_of e) (past q) ≡ list_any (is_item_of e) (past p) = ap (list_any (is_item_of e)) (past_same item p q g) in
     let own : is_item_of e q.item ≡ is_item_of e p.item = ap (is_item_of e) g.own in
@@ -65,7 +65,7 @@ stands_before-more item p q e g none =
     ∙ ap (λ b. not (is_by_guard e.reply) && list_any (is_item_of e) (past p) && not (is_item_of e p.item || b)) later
 
 -- the entry of the item that was noted doesn't stand before any place that was there
-pub stands_before-own : (item : Item) (p q : Place) (e : Entry) → IsGrown item p q → is_item_of e item ≡ true → stands_before q e ≡ false
+pub stands_before-own : (item : Item) (p q : Position) (e : Entry) → IsGrown item p q → is_item_of e item ≡ true → stands_before q e ≡ false
 stands_before-own item p q e g one =
     let later : list_any (is_item_of e) (behind q) ≡ true = ap (list_any (is_item_of e)) g.behind_it ∙ any_last (is_item_of e) (behind p) item one in
     ap (λ b. not (is_by_guard e.reply) && list_any (is_item_of e) (past q) && not (is_item_of e q.item || b)) later
@@ -78,7 +78,7 @@ stands_before-own item p q e g one =
     nothing false b c = refl
 
 -- the entries before a place stay where an item is noted that is none of theirs
-pub entries_before-more : (item : Item) (p q : Place) (history : List Entry) → IsGrown item p q → IsOfNoEntry item history
+pub entries_before-more : (item : Item) (p q : Position) (history : List Entry) → IsGrown item p q → IsOfNoEntry item history
     → entries_before history q ≡ entries_before history p
 entries_before-more item p q [] g none = refl
 entries_before-more item p q (e ∷ history) g none =
@@ -90,18 +90,18 @@ filter_more test [] e none = ap (λ b. cond b (e ∷ []) []) none
 filter_more test (x ∷ history) e none = ap (λ v. cond (test x) (x ∷ v) v) (filter_more test history e none)
 
 -- they stay where an item is noted together with its entry
-pub entries_before-committed : (item : Item) (p q : Place) (history : List Entry) (e : Entry) → IsGrown item p q → IsOfNoEntry item history → is_item_of e item ≡ true
+pub entries_before-committed : (item : Item) (p q : Position) (history : List Entry) (e : Entry) → IsGrown item p q → IsOfNoEntry item history → is_item_of e item ≡ true
     → entries_before (history ++ e ∷ []) q ≡ entries_before history p
 entries_before-committed item p q history e g none own =
     filter_more (stands_before q) history e (stands_before-own item p q e g own) ∙ entries_before-more item p q history g none
 
 -- they stay where a refusal by the guard is appended, for which nothing was noted
-pub entries_before-refused : (p : Place) (history : List Entry) (e : Entry) → is_by_guard e.reply ≡ true → entries_before (history ++ e ∷ []) p ≡ entries_before history p
+pub entries_before-refused : (p : Position) (history : List Entry) (e : Entry) → is_by_guard e.reply ≡ true → entries_before (history ++ e ∷ []) p ≡ entries_before history p
 entries_before-refused p history e guards =
     filter_more (stands_before p) history e (ap (λ b. not b && list_any (is_item_of e) (past p) && not (list_any (is_item_of e) (p.item ∷ behind p))) guards)
 
 -- a held reply that is committed stands before the places behind its item
-pub entries_before-held : (p : Place) (history : List Entry) (e : Entry) → stands_before p e ≡ true → entries_before (history ++ e ∷ []) p ≡ entries_before history p ++ e ∷ []
+pub entries_before-held : (p : Position) (history : List Entry) (e : Entry) → stands_before p e ≡ true → entries_before (history ++ e ∷ []) p ≡ entries_before history p ++ e ∷ []
 entries_before-held p [] e before = ap (λ b. cond b (e ∷ []) []) before
 entries_before-held p (x ∷ history) e before = by (entries_before-held p history e before) (stands_before p x)
   where
@@ -111,13 +111,13 @@ entries_before-held p (x ∷ history) e before = by (entries_before-held p histo
     by rest false = rest
 
 -- and before no other
-pub entries_before-not_yet : (p : Place) (history : List Entry) (e : Entry) → stands_before p e ≡ false → entries_before (history ++ e ∷ []) p ≡ entries_before history p
+pub entries_before-not_yet : (p : Position) (history : List Entry) (e : Entry) → stands_before p e ≡ false → entries_before (history ++ e ∷ []) p ≡ entries_before history p
 entries_before-not_yet p history e before = filter_more (stands_before p) history e before
 
 -- ---- an item more
 
 -- the place of an item behind those of its boot
-abbrev pub last_in : List Item → List Item → Item → Place
+abbrev pub last_in : List Item → List Item → Item → Position
 last_in older front item = record { older = older; front = front; item = item; rest = []; newer = [] }
 
 pub in_boot : (older front items : List Item) (item : Item)
@@ -129,7 +129,7 @@ in_boot older front [] item = record {
 }
 in_boot older front (x ∷ items) item =
     let more = in_boot older (front ++ x ∷ []) items item in
-    let own : Place = record { older = older; front = front; item = x; rest = items ++ item ∷ []; newer = [] } in
+    let own : Position = record { older = older; front = front; item = x; rest = items ++ item ∷ []; newer = [] } in
     record {
       grown = own ∷ more.grown;
       are = ap (λ v. own ∷ v) more.are
@@ -154,7 +154,7 @@ in_older older front (x ∷ items) newer item = (
   in_older older (front ++ x ∷ []) items newer item,
 )
 
-pub both_grown : (item : Item) (ps qs ps' qs' : List Place) → AreGrown item ps qs → AreGrown item ps' qs' → AreGrown item (ps ++ ps') (qs ++ qs')
+pub both_grown : (item : Item) (ps qs ps' qs' : List Position) → AreGrown item ps qs → AreGrown item ps' qs' → AreGrown item (ps ++ ps') (qs ++ qs')
 both_grown item [] [] ps' qs' one other = other
 both_grown item [] (q ∷ qs) ps' qs' one other = absurd one
 both_grown item (p ∷ ps) [] ps' qs' one other = absurd one

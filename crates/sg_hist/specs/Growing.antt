@@ -14,7 +14,7 @@ use Rattle.sg_facts.specs.declared.trace.Tag.TheVariants.{Walk, Load, Client}
 use Rattle.sg_base.specs.declared.reply.Reply.TheVariants.{Ok, Refused}
 use Rattle.sg_facts.specs.Facts.{Facts, fun_at, is_visible}
 use Rattle.sg_facts.specs.Trace.{Boot, Run}
-use Rattle.sg_hist.specs.Reading.{Place, behind, id_given, is_by_guard, is_item_of, item_of, names_at, places_of}
+use Rattle.sg_hist.specs.Reading.{Position, behind, id_given, is_by_guard, is_item_of, item_of, names_at, places_of}
 use Rattle.sg_hist.specs.Recovered.{AskedAs, GivesEntry, IsDemanded, IsItsCall, IsRebooted, IsReplyOf, IsServed, IsTrackedAt, IsWalked, Stubs, asked_in, calls_made, ends_stopped}
 
 -- ---- boots and places
@@ -36,7 +36,7 @@ abbrev pub booted : List Boot → List Boot
 booted boots = boots ++ record { items = []; stop = None } ∷ []
 
 -- the place of an item that is noted in the last boot, behind others
-abbrev pub place_behind : List Item → List Boot → Item → Place
+abbrev pub place_behind : List Item → List Boot → Item → Position
 place_behind older [] item = record { older = older; front = []; item = item; rest = []; newer = [] }
 place_behind older (b ∷ []) item = record { older = older; front = b.items; item = item; rest = []; newer = [] }
 place_behind older (b ∷ c ∷ boots) item = place_behind (older ++ b.items) (c ∷ boots) item
@@ -60,22 +60,22 @@ older_items before (b ∷ []) = before
 older_items before (b ∷ c ∷ boots) = older_items (before ++ b.items) (c ∷ boots)
 
 -- a place is the same but that an item more stands behind it
-pub record IsGrown (item : Item) (p q : Place) : Type 0 where
+pub record IsGrown (item : Item) (p q : Position) : Type 0 where
   pub older : q.older ≡ p.older
   pub front : q.front ≡ p.front
   pub own : q.item ≡ p.item
   pub behind_it : behind q ≡ behind p ++ item ∷ []
 
 -- places are the same, one by one, but that an item more stands behind each
-abbrev pub AreGrown : Item → List Place → List Place → Type 0
+abbrev pub AreGrown : Item → List Position → List Position → Type 0
 AreGrown item [] [] = Unit {0}
 AreGrown item (p ∷ ps) (q ∷ qs) = IsGrown item p q × AreGrown item ps qs
 AreGrown item [] (q ∷ qs) = ⊥
 AreGrown item (p ∷ ps) [] = ⊥
 
 -- places are those before, each grown, and one behind them
-pub record HasOneMore (item : Item) (last : Place) (before now : List Place) : Type 0 where
-  pub grown : List Place
+pub record HasOneMore (item : Item) (last : Position) (before now : List Position) : Type 0 where
+  pub grown : List Position
   pub are : now ≡ grown ++ last ∷ []
   pub each : AreGrown item before grown
 
@@ -95,13 +95,13 @@ pub record IsRecovering (s : Stubs) (history : List Entry) (run : Run) (unanswer
   pub tracked_state : Each (λ p. IsTrackedAt s.interface.facts s.walks history p p.item.tag) (places_of run)
 
 -- an item is the next call of a walk, is needed, and finds what it needs as it is tracked, each where it is asked of it
-pub record IsSettled (s : Stubs) (history : List Entry) (unanswered : List Call) (p : Place) : Type 0 where
+pub record IsSettled (s : Stubs) (history : List Entry) (unanswered : List Call) (p : Position) : Type 0 where
   pub walk : IsWalked s.interface.facts s.walks history p p.item.tag
   pub demand : IsDemanded s.interface s.walks history unanswered p p.item.tag
   pub state : IsTrackedAt s.interface.facts s.walks history p p.item.tag
 
 -- what is asked of an item when it is noted: it is noted in a boot that wasn't stopped, answered by the table, and settled
-pub record IsNextItem (s : Stubs) (history : List Entry) (unanswered : List Call) (p : Place) : Type 0 where
+pub record IsNextItem (s : Stubs) (history : List Entry) (unanswered : List Call) (p : Position) : Type 0 where
   pub running : ends_stopped p.front ≡ false
   pub table : AskedAs s.interface.facts s.ask p p.item.tag
   pub call : IsItsCall history unanswered p.item.shown p.item.tag
@@ -116,7 +116,7 @@ abbrev pub IsLastCall : List Entry → List Call → Call → Type 0
 IsLastCall history unanswered last = (call : Call) → Contains (calls_made history unanswered) call → call.client ≡ last.client → call.seq ≤ last.seq
 
 -- an item is that of an entry that is appended with it: it has its call and its reply
-pub record IsItemOf (facts : Facts) (history : List Entry) (p : Place) (e : Entry) : Type 0 where
+pub record IsItemOf (facts : Facts) (history : List Entry) (p : Position) (e : Entry) : Type 0 where
   pub tagged : is_item_of e p.item ≡ true
   pub served : is_by_guard e.reply ≡ false
   pub shown : p.item.shown ≡ e.call
@@ -130,7 +130,7 @@ pub record IsHeldReply (facts : Facts) (history : List Entry) (run : Run) (e : E
 
 -- the item of an entry stands in the last boot
 pub record IsInLast (run : Run) (e : Entry) : Type 0 where
-  pub place : Place
+  pub place : Position
   pub its : item_of run e ≡ Some place
   pub older : place.older ≡ older_items [] run.boots
 

@@ -26,7 +26,7 @@ use Rattle.sg_facts.specs.Track.{row_at}
 
 -- an item in its place: the items of the boots before, the earlier items of its boot, itself, the later items of its boot, and
 -- those of the boots behind
-pub record Place : Type 0 where
+pub record Position : Type 0 where
   pub older : List Item
   pub front : List Item
   pub item : Item
@@ -34,15 +34,15 @@ pub record Place : Type 0 where
   pub newer : List Item
 
 -- all items before a place: of the boots before, and the earlier ones of its boot
-abbrev pub past : Place → List Item
+abbrev pub past : Position → List Item
 past p = p.older ++ p.front
 
 -- all items behind a place, without its own: the later ones of its boot, and all of the boots behind
-abbrev pub behind : Place → List Item
+abbrev pub behind : Position → List Item
 behind p = p.rest ++ p.newer
 
 -- the places in a boot
-abbrev pub places_in : List Item → List Item → List Item → List Item → List Place
+abbrev pub places_in : List Item → List Item → List Item → List Item → List Position
 places_in older front [] newer = []
 places_in older front (item ∷ rest) newer =
     record { older = older; front = front; item = item; rest = rest; newer = newer } ∷ places_in older (front ++ item ∷ []) rest newer
@@ -52,12 +52,12 @@ abbrev pub items_of : List Boot → List Item
 items_of boots = flat_map (λ b. b.items) boots
 
 -- the places in boots, behind others
-abbrev pub places_from : List Item → List Boot → List Place
+abbrev pub places_from : List Item → List Boot → List Position
 places_from older [] = []
 places_from older (b ∷ boots) = places_in older [] b.items (items_of boots) ++ places_from (older ++ b.items) boots
 
 -- the places of a run, boot by boot
-abbrev pub places_of : Run → List Place
+abbrev pub places_of : Run → List Position
 places_of run = places_from [] run.boots
 
 -- ---- items of entries
@@ -73,7 +73,7 @@ abbrev pub is_item_of : Entry → Item → Bool
 is_item_of e item = is_tagged e.call.client e.call.seq item.tag
 
 -- the place of an entry's item: the last that is of its call
-abbrev pub item_of : Run → Entry → Option Place
+abbrev pub item_of : Run → Entry → Option Position
 item_of run e = find (λ p. is_item_of e p.item) (reverse (places_of run))
 
 -- whether a reply is a refusal by the guard, which the service wasn't asked for
@@ -82,15 +82,15 @@ is_by_guard (Ok good) = false
 is_by_guard (Refused code) = is_guards code
 
 -- whether an entry's item stands before a place
-abbrev pub stands_before : Place → Entry → Bool
+abbrev pub stands_before : Position → Entry → Bool
 stands_before p e = not (is_by_guard e.reply) && list_any (is_item_of e) (past p) && not (list_any (is_item_of e) (p.item ∷ behind p))
 
 -- the entries whose items stand before a place, in the order of the history
-abbrev pub entries_before : List Entry → Place → List Entry
+abbrev pub entries_before : List Entry → Position → List Entry
 entries_before history p = filter (stands_before p) history
 
 -- the fault-free object that these entries make
-abbrev pub object_before : Facts → List Entry → Place → Object
+abbrev pub object_before : Facts → List Entry → Position → Object
 object_before facts history p = object_of facts (entries_before history p)
 
 -- ---- replies
@@ -196,18 +196,18 @@ has_length n None = false
 has_length n (Some walk) = length walk == n
 
 -- whether an item is the last call of the walk of an id
-abbrev pub ends_walk : Facts → List WalkLine → List Entry → ℕ → Place → Tag → Bool
+abbrev pub ends_walk : Facts → List WalkLine → List Entry → ℕ → Position → Tag → Bool
 ends_walk facts walks history id p (Walk i k client) =
     (i == id) && has_length k (walk_in walks (row_at (object_before facts history p).rows id))
 ends_walk facts walks history id p (Load key client) = false
 ends_walk facts walks history id p (Client client seq) = false
 
 -- whether the item at a place is an Ok of the last call of the walk of an id
-abbrev pub is_rebuilt_at : Facts → List WalkLine → List Entry → ℕ → Place → Bool
+abbrev pub is_rebuilt_at : Facts → List WalkLine → List Entry → ℕ → Position → Bool
 is_rebuilt_at facts walks history id p = is_ok p.item.outcome && ends_walk facts walks history id p p.item.tag
 
 -- whether an id is whole at a place: earlier in the boot an item made it for an entry, or all calls of its walk replied
-abbrev pub is_whole_at : Facts → List WalkLine → List Entry → Place → ℕ → Bool
+abbrev pub is_whole_at : Facts → List WalkLine → List Entry → Position → ℕ → Bool
 is_whole_at facts walks history p id =
     list_any (is_made facts history id) p.front
     || list_any (is_rebuilt_at facts walks history id) (places_in p.older [] p.front (p.item ∷ behind p))

@@ -33,7 +33,7 @@ use Rattle.sg_facts.specs.Walks.{replayed_call}
 use Rattle.sg_hist.specs.declared.ended.End.{End}
 use Rattle.sg_hist.specs.declared.ended.End.TheVariants.{Done, Blocked}
 use Rattle.sg_hist.specs.Clients.{calls_of}
-use Rattle.sg_hist.specs.Reading.{Place, behind, is_by_guard, is_made, is_item_of, is_whole_at, item_of, names_at, object_before, places_of, replied_of, service_call, stands_before, value_at, walk_in}
+use Rattle.sg_hist.specs.Reading.{Position, behind, is_by_guard, is_made, is_item_of, is_whole_at, item_of, names_at, object_before, places_of, replied_of, service_call, stands_before, value_at, walk_in}
 
 -- ---- the calls of clients
 
@@ -72,7 +72,7 @@ IsByTable facts ask held call Stopped = IsSome (ask held call)
 IsByTable facts ask held call NoMemory = ⊥
 
 -- what was asked of the service for an item, by its tag: a call of a walk or of a client; a load is asked of no table
-abbrev pub AskedAs : Facts → Table → Place → Tag → Type 0
+abbrev pub AskedAs : Facts → Table → Position → Tag → Type 0
 AskedAs facts ask p (Load key client) = Unit {0}
 AskedAs facts ask p (Walk id k client) = IsByTable facts ask (value_at facts p.front) (service_call p.item) p.item.outcome
 AskedAs facts ask p (Client client seq) = IsByTable facts ask (value_at facts p.front) (service_call p.item) p.item.outcome
@@ -126,7 +126,7 @@ IsReplyOf names outcome reply = of (replied_of outcome)
     of None = ⊥
 
 -- the item at a place has the call and the reply of an entry
-abbrev pub GivesEntry : Facts → List Entry → Entry → Option Place → Type 0
+abbrev pub GivesEntry : Facts → List Entry → Entry → Option Position → Type 0
 GivesEntry facts history e None = ⊥
 GivesEntry facts history e (Some p) = (p.item.shown ≡ e.call) × IsReplyOf (names_at facts history (p.front ++ p.item ∷ [])) p.item.outcome e.reply
 
@@ -149,15 +149,15 @@ abbrev pub is_visible_reply : Facts → Item → Bool
 is_visible_reply facts item = is_clients item.tag && is_visible facts item.shown.fun && is_replied item.outcome
 
 -- whether an item is that of an entry: it is of its call, and no later one is
-abbrev pub is_entered : List Entry → Place → Bool
+abbrev pub is_entered : List Entry → Position → Bool
 is_entered history p = list_any (λ e. not (is_by_guard e.reply) && is_item_of e p.item && not (list_any (is_item_of e) (behind p))) history
 
 -- a visible reply is committed: none is given twice, and none is lost
-abbrev pub IsCommitted : Facts → List Entry → Place → Type 0
+abbrev pub IsCommitted : Facts → List Entry → Position → Type 0
 IsCommitted facts history p = When (is_visible_reply facts p.item) (is_entered history p ≡ true)
 
 -- the items of earlier entries stand before the place of a later one
-abbrev pub ComeBefore : List Entry → Option Place → Type 0
+abbrev pub ComeBefore : List Entry → Option Position → Type 0
 ComeBefore earlier None = Unit {0}
 ComeBefore earlier (Some p) = list_all (λ e. is_by_guard e.reply || stands_before p e) earlier ≡ true
 
@@ -202,7 +202,7 @@ IsOkOrStopped Stopped = Unit {0}
 IsOkOrStopped NoMemory = ⊥
 
 -- a row is rebuilt by the next call of its shortest walk, from its present values, once its parent is whole
-pub record IsNextCall (facts : Facts) (walks : List WalkLine) (history : List Entry) (p : Place) (id k : ℕ) (r : Row) : Type 0 where
+pub record IsNextCall (facts : Facts) (walks : List WalkLine) (history : List Entry) (p : Position) (id k : ℕ) (r : Row) : Type 0 where
   pub unmade : list_any (is_made facts history id) p.front ≡ false
   pub next : length (filter (λ item. is_walk_of id item.tag) p.front) + 1 ≡ k
   pub parent : (r.parent == 0) || is_whole_at facts walks history p r.parent ≡ true
@@ -211,12 +211,12 @@ pub record IsNextCall (facts : Facts) (walks : List WalkLine) (history : List En
   pub outcome : IsOkOrStopped p.item.outcome
 
 -- an item is the next call of the walk of a row, which is live
-abbrev pub IsCallOfRow : Facts → List WalkLine → List Entry → Place → ℕ → ℕ → Option Row → Type 0
+abbrev pub IsCallOfRow : Facts → List WalkLine → List Entry → Position → ℕ → ℕ → Option Row → Type 0
 IsCallOfRow facts walks history p id k None = ⊥
 IsCallOfRow facts walks history p id k (Some r) = IsNextCall facts walks history p id k r
 
 -- an item that rebuilds a row is the next call of that row's walk; nothing is asked here of other items
-abbrev pub IsWalked : Facts → List WalkLine → List Entry → Place → Tag → Type 0
+abbrev pub IsWalked : Facts → List WalkLine → List Entry → Position → Tag → Type 0
 IsWalked facts walks history p (Walk id k client) = IsCallOfRow facts walks history p id k (row_at (object_before facts history p).rows id)
 IsWalked facts walks history p (Load key client) = Unit {0}
 IsWalked facts walks history p (Client client seq) = Unit {0}
@@ -225,13 +225,13 @@ IsWalked facts walks history p (Client client seq) = Unit {0}
 
 -- a client's call that is under way at a place: its number is above those that were answered before, and not above those that
 -- are answered later
-pub record IsUnderWay (history : List Entry) (unanswered : List Call) (p : Place) (client : ℕ) (call : Call) : Type 0 where
+pub record IsUnderWay (history : List Entry) (unanswered : List Call) (p : Position) (client : ℕ) (call : Call) : Type 0 where
   pub its : IsCallOf history unanswered client call
   pub above : list_all (λ e. not (stands_before p e) || nat_lt e.call.seq call.seq) (calls_of history client) ≡ true
   pub first : list_all (λ e. is_by_guard e.reply || stands_before p e || nat_le call.seq e.call.seq) (calls_of history client) ≡ true
 
 -- a client's call is admitted at a place: it is under way there, and the guard lets it pass
-pub record IsAdmitted (i : Declared) (history : List Entry) (unanswered : List Call) (p : Place) (client : ℕ) (call : Call) : Type 0 where
+pub record IsAdmitted (i : Declared) (history : List Entry) (unanswered : List Call) (p : Position) (client : ℕ) (call : Call) : Type 0 where
   pub under_way : IsUnderWay history unanswered p client call
   pub guarded : guard i (object_before i.facts history p) call ≡ None
 
@@ -252,13 +252,13 @@ IsLoad o key outcome = of (replied_of outcome)
     of _ = ⊥
 
 -- what is rebuilt is needed by an admitted call of the client in whose turn it is rebuilt, and is the least that isn't whole
-pub record IsRebuiltFor (i : Declared) (walks : List WalkLine) (history : List Entry) (unanswered : List Call) (p : Place) (client id : ℕ) : Type 0 where
+pub record IsRebuiltFor (i : Declared) (walks : List WalkLine) (history : List Entry) (unanswered : List Call) (p : Position) (client id : ℕ) : Type 0 where
   pub call : Call
   pub admitted : IsAdmitted i history unanswered p client call
   pub least : find (λ id. not (is_whole_at i.facts walks history p id)) (needs i.facts (object_before i.facts history p) call).ids ≡ Some id
 
 -- what is loaded is needed, once all needed rows are whole, isn't empty, and isn't in this boot yet
-pub record IsLoadedFor (i : Declared) (walks : List WalkLine) (history : List Entry) (unanswered : List Call) (p : Place) (client : ℕ) (key : List ℕ) : Type 0 where
+pub record IsLoadedFor (i : Declared) (walks : List WalkLine) (history : List Entry) (unanswered : List Call) (p : Position) (client : ℕ) (key : List ℕ) : Type 0 where
   pub call : Call
   pub admitted : IsAdmitted i history unanswered p client call
   pub rows : list_all (is_whole_at i.facts walks history p) (needs i.facts (object_before i.facts history p) call).ids ≡ true
@@ -268,7 +268,7 @@ pub record IsLoadedFor (i : Declared) (walks : List WalkLine) (history : List En
 
 -- an item was due: a row or a file was brought back because a call that was admitted needs it, and a client's call is the one that
 -- was, so that each client's items stand in its own order
-abbrev pub IsDemanded : Declared → List WalkLine → List Entry → List Call → Place → Tag → Type 0
+abbrev pub IsDemanded : Declared → List WalkLine → List Entry → List Call → Position → Tag → Type 0
 IsDemanded i walks history unanswered p (Walk id k client) = IsRebuiltFor i walks history unanswered p client id
 IsDemanded i walks history unanswered p (Load key client) = IsLoadedFor i walks history unanswered p client key
 IsDemanded i walks history unanswered p (Client client seq) = IsAdmitted i history unanswered p client p.item.shown
@@ -281,7 +281,7 @@ IsAlikeTo names r None = ⊥
 IsAlikeTo names r (Some v) = IsAlike names r v
 
 -- when a client's call reaches the service, all that it needs is whole there and as it is tracked
-pub record IsTracked (facts : Facts) (walks : List WalkLine) (history : List Entry) (p : Place) : Type 0 where
+pub record IsTracked (facts : Facts) (walks : List WalkLine) (history : List Entry) (p : Position) : Type 0 where
   pub whole : list_all (is_whole_at facts walks history p) (needs facts (object_before facts history p) p.item.shown).ids ≡ true
   pub rows : Each (λ r. IsAlikeTo (names_at facts history p.front) r (row_at (value_at facts p.front).rows (named (names_at facts history p.front) r.id)))
       (filter (is_needed facts (object_before facts history p).rows p.item.shown) (object_before facts history p).rows)
@@ -289,7 +289,7 @@ pub record IsTracked (facts : Facts) (walks : List WalkLine) (history : List Ent
   pub file : SameFile (object_before facts history p) (value_at facts p.front) p.item.shown.desc p.item.real (needs facts (object_before facts history p) p.item.shown).file
 
 -- an item of a client reached the service where what it needs is as tracked; nothing is asked here of other items
-abbrev pub IsTrackedAt : Facts → List WalkLine → List Entry → Place → Tag → Type 0
+abbrev pub IsTrackedAt : Facts → List WalkLine → List Entry → Position → Tag → Type 0
 IsTrackedAt facts walks history p (Client client seq) = IsTracked facts walks history p
 IsTrackedAt facts walks history p (Walk id k client) = Unit {0}
 IsTrackedAt facts walks history p (Load key client) = Unit {0}
@@ -391,7 +391,7 @@ struck_in run = flat_map (λ b. stop_in b.stop) run.boots
 -- ---- held replies
 
 -- how many items stand in the boots before that of an entry's item; where it has none, as many as before
-abbrev pub boot_start : Option Place → ℕ → ℕ
+abbrev pub boot_start : Option Position → ℕ → ℕ
 boot_start None low = low
 boot_start (Some p) low = length p.older
 

@@ -6,10 +6,10 @@ use Rattle.sg_base.specs.declared.memory.NoMemory.{NoMemory}
 use Rattle.sg_lex.specs.Tokens.{answers_of}
 use Rattle.sg_facts.specs.Facts.{Facts}
 use Rattle.sg_facts.specs.Interface.{Declared}
-use Rattle.sg_grammar.specs.declared.error.ParseError.{ParseError}
-use Rattle.sg_grammar.specs.declared.tree.Tree.{Tree}
-use Rattle.sg_grammar.specs.Parses.{Parses}
-use Rattle.sg_grammar.proofs.Readings.{only_answer}
+use Rattle.sg_parse.specs.declared.error.ParseError.{ParseError}
+use Rattle.sg_parse.specs.declared.tree.Tree.{Tree}
+use Rattle.sg_parse.specs.Grammar.Parses.{Parses}
+use Rattle.sg_parse.proofs.Grammar.Readings.{only_answer}
 use Rattle.sg_check_statements.specs.Faults.{IsAccepted, interface_of}
 use Rattle.sg_diagnose.specs.declared.outcome.Verdict.{Verdict}
 use Rattle.sg_diagnose.specs.declared.outcome.Verdict.TheVariants.{Accepted as accepted, Refused as refused}

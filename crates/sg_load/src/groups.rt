@@ -147,7 +147,7 @@ fn add_thread_group(
 /// Where a group stands: its client, the number of its first call among the client's calls, and its own number among the
 /// client's groups, both from 1.
 #[derive(Clone, Copy, Debug)]
-pub(crate) struct Standing {
+pub(crate) struct GroupState {
     pub(crate) client: u8,
     pub(crate) first: u32,
     pub(crate) group: u32,
@@ -158,7 +158,7 @@ pub(crate) fn add_group(
     calls: &mut CallList,
     alloc: Global,
     service: ServiceKind,
-    at: Standing,
+    at: GroupState,
     drawn: u32,
 ) -> Result<(), NoMemory>
     ensures { OnOk result (calls.new ≡ calls.old ++ group_of service at.client at.first at.group drawn) }

@@ -11,7 +11,7 @@ ghost use Rattle.sg_plain.specs.Playing.Playable.{IsPlayable};
 
 use crate::ServiceKind;
 use crate::draws::Draws;
-use crate::groups::{Standing, add_group, group_size, setup};
+use crate::groups::{GroupState, add_group, group_size, setup};
 use crate::sizes::{CALLS_EACH, CLIENTS, EVENTS, LOCKS, MOST_DISTANCE, STOPS};
 use sg_base::{NoMemory, PointList};
 use sg_script::{CallList, ClientList, Script, TurnList};
@@ -84,7 +84,7 @@ fn calls_of(
     let mut calls = CallList::new(alloc);
     let mut first = 1 + calls_before(service, client);
     'each: for done in 0..groups_of(service, client) {
-        let at = Standing {
+        let at = GroupState {
             client,
             first,
             group: done + 1,

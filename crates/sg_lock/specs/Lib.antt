@@ -1,11 +1,7 @@
 pub mod Inside
-pub mod LockAlikeLaw
-pub mod LockBlockedLaw
+pub mod Laws
 pub mod LockFacts
 pub mod LockModel
 pub mod LockRow
-pub mod LockShapeLaw
 pub mod LockSound
-pub mod LockSoundLaw
 pub mod LockTable
-pub mod LockWalkLaw

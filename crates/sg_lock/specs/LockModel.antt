@@ -1,14 +1,14 @@
 -- The lock service as plain data, with the laws that it keeps to.
 use Rattle.std.specs.Prelude.{refl}
 use Rattle.sg_slots.specs.RowModel.{RowModel}
-use Rattle.sg_lock.specs.LockAlikeLaw.{lock_answers_alike}
-use Rattle.sg_lock.specs.LockBlockedLaw.{lock_blocked_stays}
+use Rattle.sg_lock.specs.Laws.LockAlikeLaw.{lock_answers_alike}
+use Rattle.sg_lock.specs.Laws.LockBlockedLaw.{lock_blocked_stays}
 use Rattle.sg_lock.specs.LockFacts.{lock_facts}
-use Rattle.sg_lock.specs.LockShapeLaw.{lock_counts_slowly, lock_shape_allows}
+use Rattle.sg_lock.specs.Laws.LockShapeLaw.{lock_counts_slowly, lock_shape_allows}
 use Rattle.sg_lock.specs.LockSound.{IsLockSound}
-use Rattle.sg_lock.specs.LockSoundLaw.{lock_answers_and_keeps}
+use Rattle.sg_lock.specs.Laws.LockSoundLaw.{lock_answers_and_keeps}
 use Rattle.sg_lock.specs.LockTable.{lock_parts, lock_table}
-use Rattle.sg_lock.specs.LockWalkLaw.{lock_walk_goes_on}
+use Rattle.sg_lock.specs.Laws.LockWalkLaw.{lock_walk_goes_on}
 
 abbrev pub lock_model : RowModel
 lock_model = record {

@@ -1,5 +1,5 @@
 // One lock.
-use sg_slots::Entry;
+use sg_slots::Slot;
 
 /// A lock.
 #[derive(Clone, Copy, Debug, PartialEq, Eq)]
@@ -10,7 +10,7 @@ pub struct Lock {
     pub owner: u8,
 }
 
-impl Entry for Lock {
+impl Slot for Lock {
     ghost use Rattle.sg_lock.specs.LockRow.{lock_body};
 
     ghost body = { lock_body };

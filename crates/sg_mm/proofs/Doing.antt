@@ -19,7 +19,7 @@ use Rattle.sg_facts.specs.Invoke.{Points}
 use Rattle.sg_slots.specs.Slots.{Held}
 use Rattle.sg_mm.specs.declared.child.Child.{Child}
 use Rattle.sg_mm.specs.declared.page.Page.{Page}
-use Rattle.sg_mm.specs.declared.page.Place.{Place}
+use Rattle.sg_mm.specs.declared.page.PageKey.{PageKey}
 use Rattle.sg_mm.specs.Inside.MmDoes.{Does, IsDone, after_new, held_with, hung, new_parts, new_reply, ok_about, parts_of_new}
 use Rattle.sg_mm.specs.Inside.MmIndex.{AreIndexed, id_in}
 use Rattle.sg_mm.specs.MmTable.{is_at}
@@ -41,7 +41,7 @@ changed_so parts answer old after points reply None new later does = does.change
 changed_so parts answer old after points reply (Some patch) new later does = absurd does
 
 -- the place of a page is taken where the index has an id for it
-pub taken_by : (held : Held Page) (places : BTreeMap Place ℕ) (children : BTreeSet Child) (place : Place) (page : Page) → AreIndexed held places children → place.space ≡ page.space → place.addr ≡ page.addr
+pub taken_by : (held : Held Page) (places : BTreeMap PageKey ℕ) (children : BTreeSet Child) (place : PageKey) (page : Page) → AreIndexed held places children → place.space ≡ page.space → place.addr ≡ page.addr
     → is_some (id_in places place) ≡ list_any (is_at page.space page.addr) (rows held.entries)
 taken_by held places children place page are space addr =
     taken held places children place are ∙ ap (λ s. list_any (is_at s place.addr) (rows held.entries)) space ∙ ap (λ a. list_any (is_at page.space a) (rows held.entries)) addr

@@ -19,7 +19,7 @@ use Rattle.sg_facts.proofs.Replaying.Steps.{both_true}
 use Rattle.sg_facts.proofs.Replaying.Subtrees.{IsAboveParent, ends_by_parent}
 use Rattle.sg_mm.specs.declared.child.Child.{Child}
 use Rattle.sg_mm.specs.declared.page.Page.{Page}
-use Rattle.sg_mm.specs.declared.page.Place.{Place}
+use Rattle.sg_mm.specs.declared.page.PageKey.{PageKey}
 use Rattle.sg_mm.specs.Inside.Children.{IsSubtree, has_id, is_below, is_child}
 use Rattle.sg_mm.specs.MmFacts.{mm_facts}
 use Rattle.sg_mm.specs.Inside.MmIndex.{AreIndexed}
@@ -49,7 +49,7 @@ same_bools true b to from = sym (to refl)
 same_bools false true to from = from refl
 same_bools false false to from = refl
 
-module _ (held : Held Page) (places : BTreeMap Place ℕ) (children : BTreeSet Child) (id : ℕ) (ends : BTreeSet ℕ) (are : AreIndexed held places children) (live : is_live (rows held.entries) id ≡ true)
+module _ (held : Held Page) (places : BTreeMap PageKey ℕ) (children : BTreeSet Child) (id : ℕ) (ends : BTreeSet ℕ) (are : AreIndexed held places children) (live : is_live (rows held.entries) id ≡ true)
     (subtree : IsSubtree children id ends) where
   abbrev ends_too : ℕ → Bool
   ends_too n = ends_with mm_facts (rows held.entries) id n

@@ -21,7 +21,7 @@ use Rattle.sg_facts.proofs.Replaying.Steps.{both_true}
 use Rattle.sg_facts.proofs.Replaying.Subtrees.{IsAboveParent}
 use Rattle.sg_mm.specs.declared.child.Child.{Child}
 use Rattle.sg_mm.specs.declared.page.Page.{Page}
-use Rattle.sg_mm.specs.declared.page.Place.{Place}
+use Rattle.sg_mm.specs.declared.page.PageKey.{PageKey}
 use Rattle.sg_mm.specs.Inside.Children.{AreAboveParents, HangsOne, TakesOneOff, has_id, is_below, is_child, is_hung}
 use Rattle.sg_mm.specs.Inside.MmDoes.{MayHang, held_with, held_without, hung}
 use Rattle.sg_mm.specs.MmFacts.{mm_facts}
@@ -83,7 +83,7 @@ mapped_some None = refl
 mapped_some (Some r) = refl
 
 -- a place is taken where the index has an id for it
-pub taken : (held : Held Page) (places : BTreeMap Place ℕ) (children : BTreeSet Child) (place : Place) → AreIndexed held places children → is_some (id_in places place) ≡ list_any (is_at place.space place.addr) (rows held.entries)
+pub taken : (held : Held Page) (places : BTreeMap PageKey ℕ) (children : BTreeSet Child) (place : PageKey) → AreIndexed held places children → is_some (id_in places place) ≡ list_any (is_at place.space place.addr) (rows held.entries)
 taken held places children place are =
     ap is_some (are.indexed place ∙ page_is_first IsAboveParent 0 held.given (rows held.entries) place.space place.addr are.rows)
     ∙ mapped_some (first_at (rows held.entries) place.space place.addr) ∙ sym (some_first (is_at place.space place.addr) (rows held.entries))
@@ -125,7 +125,7 @@ page_more given rs new space addr are id lower free =
     at false other = ap (option_map (λ r. r.id)) (first_others (is_at space addr) rs new other)
 
 -- what a page may hang below is no 0
-hung_some : (held : Held Page) (places : BTreeMap Place ℕ) (children : BTreeSet Child) (below : Option ℕ) → AreIndexed held places children → MayHang held below → (parent : ℕ) → below ≡ Some parent → 0 < parent
+hung_some : (held : Held Page) (places : BTreeMap PageKey ℕ) (children : BTreeSet Child) (below : Option ℕ) → AreIndexed held places children → MayHang held below → (parent : ℕ) → below ≡ Some parent → 0 < parent
 hung_some held places children None are may parent is = absurd (cc is)
 hung_some held places children (Some one) are may parent is =
     let row = row_of_live (rows held.entries) one may in
@@ -134,7 +134,7 @@ hung_some held places children (Some one) are may parent is =
     omega (arith, low, row.2, same)
 
 -- what a page may hang below was given
-hung_lower : (held : Held Page) (places : BTreeMap Place ℕ) (children : BTreeSet Child) (page : Page) (below : Option ℕ) → AreIndexed held places children → page.parent ≡ 0 → MayHang held below
+hung_lower : (held : Held Page) (places : BTreeMap PageKey ℕ) (children : BTreeSet Child) (page : Page) (below : Option ℕ) → AreIndexed held places children → page.parent ≡ 0 → MayHang held below
     → (hung page below).parent < held.given + 1
 hung_lower held places children page None are own may = omega (arith, own)
 hung_lower held places children page (Some parent) are own may =
@@ -143,7 +143,7 @@ hung_lower held places children page (Some parent) are own may =
     omega (arith, most, row.2)
 
 -- the indexes have a page more
-pub indexed_more : (held : Held Page) (places places' : BTreeMap Place ℕ) (children children' : BTreeSet Child) (page : Page) (below : Option ℕ) (place : Place) → AreIndexed held places children
+pub indexed_more : (held : Held Page) (places places' : BTreeMap PageKey ℕ) (children children' : BTreeSet Child) (page : Page) (below : Option ℕ) (place : PageKey) → AreIndexed held places children
     → place.space ≡ page.space → place.addr ≡ page.addr → page.parent ≡ 0 → MayHang held below → list_any (is_at page.space page.addr) (rows held.entries) ≡ false
     → Gains places places' place (held.given + 1) → HangsOne children children' below (held.given + 1) → AreIndexed (held_with held (hung page below)) places' children'
 indexed_more held places places' children children' page below place are space addr parentless may free gains hangs = record {
@@ -170,7 +170,7 @@ indexed_more held places places' children children' page below place are space a
     there None = (refl, refl)
     there (Some parent) = (refl, refl)
 
-    same : (q : Place) → is_place place q ≡ is_at q.space q.addr new
+    same : (q : PageKey) → is_place place q ≡ is_at q.space q.addr new
     same q =
         ap (λ n. (n == q.space) && (place.addr == q.addr)) (space ∙ sym (there below).0)
         ∙ ap (λ n. ((hung page below).space == q.space) && (n == q.addr)) (addr ∙ sym (there below).1)
@@ -209,8 +209,8 @@ page_left low high rs keep space addr are own =
     first_left (r ∷ xs) own = one r xs (test r) (keep r.id) refl own.0 refl (first_left xs own.1)
 
 -- the indexes without the pages that end
-pub indexed_left : (held : Held Page) (places places' : BTreeMap Place ℕ) (children children' : BTreeSet Child) (keep : ℕ → Bool) → AreIndexed held places children
-    → ((place : Place) → id_in places' place ≡ option_filter keep (id_in places place)) → ((parent id : ℕ) → is_child children' parent id ≡ (is_child children parent id && keep id))
+pub indexed_left : (held : Held Page) (places places' : BTreeMap PageKey ℕ) (children children' : BTreeSet Child) (keep : ℕ → Bool) → AreIndexed held places children
+    → ((place : PageKey) → id_in places' place ≡ option_filter keep (id_in places place)) → ((parent id : ℕ) → is_child children' parent id ≡ (is_child children parent id && keep id))
     → AreIndexed (record { entries = filter (λ e. keep e.0) held.entries; given = held.given }) places' children'
 indexed_left held places places' children children' keep are loses comes_off = record {
   rows = subst (AreRows IsAboveParent 0 held.given) (sym rest) (left IsAboveParent (λ r. keep r.id) 0 held.given (rows held.entries) are.rows);
@@ -229,7 +229,7 @@ told_left held id ends told =
     (λ e live. ap not (told e.0 ∙ ap (λ b. b && ends_with mm_facts (rows held.entries) id e.0) live))
 
 -- indexes that tell the same
-indexed_same : (held : Held Page) (places places' : BTreeMap Place ℕ) (children children' : BTreeSet Child) → AreIndexed held places children → ((place : Place) → id_in places' place ≡ id_in places place)
+indexed_same : (held : Held Page) (places places' : BTreeMap PageKey ℕ) (children children' : BTreeSet Child) → AreIndexed held places children → ((place : PageKey) → id_in places' place ≡ id_in places place)
     → ((parent id : ℕ) → is_child children' parent id ≡ is_child children parent id) → AreIndexed held places' children'
 indexed_same held places places' children children' are same same_below = record {
   rows = are.rows;
@@ -239,14 +239,14 @@ indexed_same held places places' children children' are same same_below = record
 }
 
 -- the indexes are given back what they took for a page that doesn't come
-pub given_back : (held : Held Page) (places places' places'' : BTreeMap Place ℕ) (children children' children'' : BTreeSet Child) (below : Option ℕ) (one : Place) → AreIndexed held places children → id_in places one ≡ None
+pub given_back : (held : Held Page) (places places' places'' : BTreeMap PageKey ℕ) (children children' children'' : BTreeSet Child) (below : Option ℕ) (one : PageKey) → AreIndexed held places children → id_in places one ≡ None
     → Gains places places' one (held.given + 1) → Loses places' places'' one → HangsOne children children' below (held.given + 1) → TakesOneOff children' children'' below (held.given + 1) → AreIndexed held places'' children''
 given_back held places places' places'' children children' children'' below one are free gains loses hangs takes =
     indexed_same held places places'' children children'' are
     (λ place. loses place ∙ ap (λ o. cond (is_place one place) None o) (gains place) ∙ same_place place (is_place one place) refl)
     (λ parent id. takes parent id ∙ ap (λ b. b && not (is_hung below (held.given + 1) parent id)) (hangs parent id) ∙ same_child (is_child children parent id) (is_hung below (held.given + 1) parent id) (not_both parent id))
   where
-    same_place : (place : Place) (b : Bool) → is_place one place ≡ b → cond b None (cond b (Some (held.given + 1)) (id_in places place)) ≡ id_in places place
+    same_place : (place : PageKey) (b : Bool) → is_place one place ≡ b → cond b None (cond b (Some (held.given + 1)) (id_in places place)) ≡ id_in places place
     same_place place true is = sym (ap (id_in places) (sym (one_place one place is)) ∙ free)
     same_place place false is = refl
 
@@ -273,7 +273,7 @@ given_back held places places' places'' children children' children'' below one 
 -- ---- what the indexes say of the pages
 
 -- the pages stand under ascending ids
-pub ascending : (held : Held Page) (places : BTreeMap Place ℕ) (children : BTreeSet Child) → AreIndexed held places children → AreAscending held.entries
+pub ascending : (held : Held Page) (places : BTreeMap PageKey ℕ) (children : BTreeSet Child) → AreIndexed held places children → AreAscending held.entries
 ascending held places children are = record { most = held.given; ids = ids_of_rows IsAboveParent 0 held.given held.entries are.rows }
 
 -- the row of a page
@@ -281,7 +281,7 @@ row_of : (pages : List (ℕ × Page)) (id : ℕ) (page : Page) → entry_at page
 row_of pages id page there = row_at-rows_of page_body pages id ∙ ap (option_map (λ e. row_with id (page_body e))) there
 
 -- what is below another is a page of a greater id
-pub above_parents : (held : Held Page) (places : BTreeMap Place ℕ) (children : BTreeSet Child) → AreIndexed held places children → held.given < 2 ^ 64 → AreAboveParents children
+pub above_parents : (held : Held Page) (places : BTreeMap PageKey ℕ) (children : BTreeSet Child) → AreIndexed held places children → held.given < 2 ^ 64 → AreAboveParents children
 above_parents held places children are fits parent id child = at (entry_at held.entries id) refl (sym (are.below parent id) ∙ child)
   where
     at : (o : Option Page) → entry_at held.entries id ≡ o → is_below o parent ≡ true → (parent < id) × (id < 2 ^ 64)
@@ -295,7 +295,7 @@ above_parents held places children are fits parent id child = at (entry_at held.
         (omega (arith, lower, same), omega (arith, most, fits))
 
 -- the row of a page that is found in a place tells of each other page whether it is there
-module _ (held : Held Page) (place : Place) (n id : ℕ) (apart : HaveOwnAddresses (rows held.entries)) (r : Row) (found : row_at (rows held.entries) r.id ≡ Some r)
+module _ (held : Held Page) (place : PageKey) (n id : ℕ) (apart : HaveOwnAddresses (rows held.entries)) (r : Row) (found : row_at (rows held.entries) r.id ≡ Some r)
     (here : (space_of r ≡ place.space) × (addr_of r ≡ place.addr)) (is : r.id ≡ n) where
   -- it is in the place where it is the one
   in_it : (page : Page) → entry_at held.entries id ≡ Some page → (n == id) ≡ true → is_in_place (Some page) place ≡ true
@@ -327,7 +327,7 @@ module _ (held : Held Page) (place : Place) (n id : ℕ) (apart : HaveOwnAddress
   its_place (Some page) there = elim (cases_Bool (n == id)) [ inl same ↦ same ∙ sym (in_it page there same) | inr other ↦ other ∙ sym (not_in_it page there other) ]
 
 -- just the page whose id is told for a place is there
-pub placed : (held : Held Page) (places : BTreeMap Place ℕ) (children : BTreeSet Child) → AreIndexed held places children → ArePlaced held.entries places
+pub placed : (held : Held Page) (places : BTreeMap PageKey ℕ) (children : BTreeSet Child) → AreIndexed held places children → ArePlaced held.entries places
 placed held places children are place n id told =
     at (first_at (rows held.entries) place.space place.addr) refl (sym (page_is_first IsAboveParent 0 held.given (rows held.entries) place.space place.addr are.rows) ∙ sym (are.indexed place) ∙ told)
   where
@@ -341,8 +341,8 @@ placed held places children are place n id told =
 -- ---- one page goes from an index
 
 -- the place of a page is freed, and no other
-pub freed : (pages : List (ℕ × Page)) (places : BTreeMap Place ℕ) (id : ℕ) (page : Page) (one : Place) → ArePlaced pages places → entry_at pages id ≡ Some page → one.space ≡ page.space → one.addr ≡ page.addr
-    → (place : Place) → cond (is_place one place) None (id_in places place) ≡ option_filter (λ n. not (n == id)) (id_in places place)
+pub freed : (pages : List (ℕ × Page)) (places : BTreeMap PageKey ℕ) (id : ℕ) (page : Page) (one : PageKey) → ArePlaced pages places → entry_at pages id ≡ Some page → one.space ≡ page.space → one.addr ≡ page.addr
+    → (place : PageKey) → cond (is_place one place) None (id_in places place) ≡ option_filter (λ n. not (n == id)) (id_in places place)
 freed pages places id page one are there space addr place = at (id_in places place) refl (is_place one place) same
   where
     same : is_place one place ≡ is_in_place (entry_at pages id) place
@@ -360,7 +360,7 @@ freed pages places id page one are there space addr place = at (id_in places pla
         so false = refl
 
 -- where no page has the id, no place has it
-pub none_freed : (pages : List (ℕ × Page)) (places : BTreeMap Place ℕ) (id : ℕ) → ArePlaced pages places → entry_at pages id ≡ None → (place : Place) → id_in places place ≡ option_filter (λ n. not (n == id)) (id_in places place)
+pub none_freed : (pages : List (ℕ × Page)) (places : BTreeMap PageKey ℕ) (id : ℕ) → ArePlaced pages places → entry_at pages id ≡ None → (place : PageKey) → id_in places place ≡ option_filter (λ n. not (n == id)) (id_in places place)
 none_freed pages places id are none place = at (id_in places place) refl
   where
     at : (o : Option ℕ) → id_in places place ≡ o → o ≡ option_filter (λ n. not (n == id)) o

@@ -3,11 +3,11 @@ use Rattle.std.proofs.Common.{◌≡◌, ◌∙◌, true, ap, arith}
 use Rattle.std.specs.Prelude.{◌==◌}
 use Rattle.std.proofs.lemmas.Bool.Decides.{nat_tests}
 use Rattle.sg_facts.proofs.Replaying.Steps.{both_true}
-use Rattle.sg_mm.specs.declared.page.Place.{Place}
+use Rattle.sg_mm.specs.declared.page.PageKey.{PageKey}
 use Rattle.sg_mm.specs.Inside.MmIndex.{is_place}
 
 -- places that are told to be one are
-pub one_place : (a b : Place) → is_place a b ≡ true → a ≡ b
+pub one_place : (a b : PageKey) → is_place a b ≡ true → a ≡ b
 one_place a b is =
     let both = both_true (a.space == b.space) (a.addr == b.addr) is in
     let space : a.space ≡ b.space = let s = both.0 in grind (arith, nat_tests, s) in

@@ -1,11 +1,7 @@
 pub mod Inside
-pub mod MmAlikeLaw
-pub mod MmBlockedLaw
+pub mod Laws
 pub mod MmFacts
 pub mod MmObject
 pub mod MmRow
-pub mod MmShapeLaw
 pub mod MmSound
-pub mod MmSoundLaw
 pub mod MmTable
-pub mod MmWalkLaw

@@ -2,7 +2,7 @@
 //!
 //! - `functions`: the numbers of the service's functions
 //! - `shape`: the facts of the service, those of its standard interface (`mm_shape`)
-//! - `page`: one page (`Page`), and its place (`Place`)
+//! - `page`: one page (`Page`), and its place (`PageKey`)
 //! - `place`, `child`: the indexes of the pages, by their places and by their parents
 //! - `subtree`, `pages`: the pages, and which of them end with one
 //! - `service`: the service (`MmService`)
@@ -17,6 +17,6 @@ mod service;
 mod shape;
 mod subtree;
 
-pub use page::{Page, Place};
+pub use page::{Page, PageKey};
 pub use service::MmService;
 pub use shape::mm_shape;

@@ -1,7 +1,7 @@
 // One page, and its place.
 ghost use Rattle.std.specs.Prelude.{◌≡◌};
 
-use sg_slots::Entry;
+use sg_slots::Slot;
 
 /// A page.
 #[derive(Clone, Copy, Debug, PartialEq, Eq)]
@@ -20,25 +20,25 @@ pub struct Page {
 
 /// A place for a page: an address in a space.
 #[derive(Clone, Copy, Debug, PartialEq, Eq, PartialOrd, Ord)]
-pub struct Place {
+pub struct PageKey {
     pub space: u64,
     pub addr: u64,
 }
 
 impl Page {
     /// Its place.
-    pub fn place(&self) -> Place
+    pub fn place(&self) -> PageKey
         ensures space { result.space ≡ self.now.space }
         ensures addr { result.addr ≡ self.now.addr }
     {
-        Place {
+        PageKey {
             space: self.space,
             addr: self.addr,
         }
     }
 }
 
-impl Entry for Page {
+impl Slot for Page {
     ghost use Rattle.sg_mm.specs.MmRow.{page_body};
 
     ghost body = { page_body };

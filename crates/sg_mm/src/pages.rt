@@ -12,7 +12,7 @@ ghost use Rattle.sg_mm.specs.MmTable.{page_at};
 use crate::child::{Child, hang, take_off, take_off_all};
 use crate::place::{free, free_all, id_in, put};
 use crate::subtree::{end_all, ending};
-use crate::{Page, Place};
+use crate::{Page, PageKey};
 use sg_base::{Bytes, Code, Good, NoMemory, Point, Reply, Stops, Words};
 use sg_facts::Outcome;
 use std::alloc::Global;
@@ -26,7 +26,7 @@ use std::marker::Model;
 #[derive(Debug, Drop)]
 pub(crate) struct Pages {
     pages: BTreeMap<u64, Page>,
-    places: BTreeMap<Place, u64>,
+    places: BTreeMap<PageKey, u64>,
     children: BTreeSet<Child>,
     given: u64,
 }
@@ -80,7 +80,7 @@ impl Pages {
     }
 
     /// The id of the page in a place; None where there is none.
-    pub(crate) fn find(&self, place: Place) -> Option<u64>
+    pub(crate) fn find(&self, place: PageKey) -> Option<u64>
         ensures { result ≡ page_at (rows_of page_body self.now.entries) place.space place.addr }
     {
         id_in(&self.places, place)
@@ -166,9 +166,9 @@ impl Pages {
 // Makes room in both indexes for a page that is to come: the entries by its place, which is free, and by its parent, where it
 // is to have one. After `NoMemory` both are as before.
 fn reserve(
-    places: &mut BTreeMap<Place, u64>,
+    places: &mut BTreeMap<PageKey, u64>,
     children: &mut BTreeSet<Child>,
-    place: Place,
+    place: PageKey,
     below: Option<u64>,
     id: u64,
 ) -> Result<(), NoMemory>

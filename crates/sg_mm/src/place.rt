@@ -4,19 +4,19 @@ ghost use Rattle.std.proofs.lemmas.Map.Entries.{option_filter};
 ghost use Rattle.sg_mm.specs.Inside.Children.{has_id};
 ghost use Rattle.sg_mm.specs.Inside.MmIndex.{id_in, ArePlaced, Gains, Keeps, Loses};
 
-use crate::{Page, Place};
+use crate::{Page, PageKey};
 use sg_base::NoMemory;
 use std::collections::{BTreeMap, BTreeSet};
 
 /// The id of the page in a place; None where there is none.
-pub(crate) fn id_in(places: &BTreeMap<Place, u64>, place: Place) -> Option<u64>
+pub(crate) fn id_in(places: &BTreeMap<PageKey, u64>, place: PageKey) -> Option<u64>
     ensures { result ≡ id_in places.now place }
 {
     places.get(&place).copied()
 }
 
 /// Puts an id in a place. After `NoMemory` the places are as before.
-pub(crate) fn put(places: &mut BTreeMap<Place, u64>, place: Place, id: u64) -> Result<(), NoMemory>
+pub(crate) fn put(places: &mut BTreeMap<PageKey, u64>, place: PageKey, id: u64) -> Result<(), NoMemory>
     ensures ok { OnOk result (Gains places.old places.new place id) }
     ensures err { OnErr result (Keeps places.old places.new) }
 {
@@ -25,7 +25,7 @@ pub(crate) fn put(places: &mut BTreeMap<Place, u64>, place: Place, id: u64) -> R
 }
 
 /// Frees a place. It takes no memory.
-pub(crate) fn free(places: &mut BTreeMap<Place, u64>, place: Place)
+pub(crate) fn free(places: &mut BTreeMap<PageKey, u64>, place: PageKey)
     ensures { Loses places.old places.new place }
 {
     places.remove(&place);
@@ -33,12 +33,12 @@ pub(crate) fn free(places: &mut BTreeMap<Place, u64>, place: Place)
 
 /// Frees the places of the pages that end. It takes no memory.
 pub(crate) fn free_all(
-    places: &mut BTreeMap<Place, u64>,
+    places: &mut BTreeMap<PageKey, u64>,
     pages: &BTreeMap<u64, Page>,
     ends: &BTreeSet<u64>,
 )
     requires { ArePlaced pages.now.entries places.old }
-    ensures { (place : Place) → id_in places.new place ≡ option_filter (λ id. not (has_id ends.now id)) (id_in places.old place) }
+    ensures { (place : PageKey) → id_in places.new place ≡ option_filter (λ id. not (has_id ends.now id)) (id_in places.old place) }
 {
     'ids: for id in ends.iter() {
         free_page(places, pages, *id);
@@ -46,9 +46,9 @@ pub(crate) fn free_all(
 }
 
 // Frees the place of a page.
-fn free_page(places: &mut BTreeMap<Place, u64>, pages: &BTreeMap<u64, Page>, id: u64)
+fn free_page(places: &mut BTreeMap<PageKey, u64>, pages: &BTreeMap<u64, Page>, id: u64)
     requires { ArePlaced pages.now.entries places.old }
-    ensures { (place : Place) → id_in places.new place ≡ option_filter (λ n. not (n == id)) (id_in places.old place) }
+    ensures { (place : PageKey) → id_in places.new place ≡ option_filter (λ n. not (n == id)) (id_in places.old place) }
 {
     if let Some(page) = pages.get(&id) {
         free(places, page.place());

@@ -4,21 +4,21 @@ ghost use Rattle.std.specs.Option.{option_map, option_copied};
 ghost use Rattle.sg_facts.specs.Track.{row_at};
 ghost use Rattle.sg_facts.specs.declared.outcome.Outcome.{Outcome as IsOutcome};
 ghost use Rattle.sg_slots.specs.Slots.{row_with};
-ghost use Rattle.sg_mm.specs.MmAlikeLaw.{mm_answers_alike};
-ghost use Rattle.sg_mm.specs.MmBlockedLaw.{mm_blocked_stays};
+ghost use Rattle.sg_mm.specs.Laws.MmAlikeLaw.{mm_answers_alike};
+ghost use Rattle.sg_mm.specs.Laws.MmBlockedLaw.{mm_blocked_stays};
 ghost use Rattle.sg_mm.specs.Inside.MmDoes.{alias_page, found_reply, got_page};
 ghost use Rattle.sg_mm.specs.MmFacts.{mm_facts};
 ghost use Rattle.sg_mm.specs.MmRow.{page_body};
-ghost use Rattle.sg_mm.specs.MmShapeLaw.{mm_shape_allows, mm_counts_slowly};
+ghost use Rattle.sg_mm.specs.Laws.MmShapeLaw.{mm_shape_allows, mm_counts_slowly};
 ghost use Rattle.sg_mm.specs.MmSound.{IsMmSound};
-ghost use Rattle.sg_mm.specs.MmSoundLaw.{mm_answers_and_keeps};
+ghost use Rattle.sg_mm.specs.Laws.MmSoundLaw.{mm_answers_and_keeps};
 ghost use Rattle.sg_mm.specs.MmTable.{mm_table, mm_parts, number_at};
-ghost use Rattle.sg_mm.specs.MmWalkLaw.{mm_walk_goes_on};
+ghost use Rattle.sg_mm.specs.Laws.MmWalkLaw.{mm_walk_goes_on};
 
 use crate::functions::{ALIAS, GET, RELEASE};
 use crate::pages::{Pages, answer};
 use crate::shape::mm_shape;
-use crate::{Page, Place};
+use crate::{Page, PageKey};
 use sg_base::{Call, Code, NoMemory, Path, Reply, Stops, Value};
 use sg_facts::{Outcome, Service, Shape};
 use std::alloc::Global;
@@ -134,11 +134,11 @@ fn alias_page(call: &Call) -> Page
 }
 
 // The place that `mman_find` asks for.
-fn asked_place(call: &Call) -> Place
+fn asked_place(call: &Call) -> PageKey
     ensures space { result.space ≡ number_at call.now 0 }
     ensures addr { result.addr ≡ number_at call.now 1 }
 {
-    Place {
+    PageKey {
         space: number(call, 0),
         addr: number(call, 1),
     }

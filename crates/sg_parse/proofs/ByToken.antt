@@ -5,24 +5,24 @@ use Rattle.std.specs.declared.result.Result.{Result}
 use Rattle.sg_lex.specs.declared.token.LexFault.{LexFault}
 use Rattle.sg_lex.specs.Lexeme.{Lexeme}
 use Rattle.sg_lex.specs.Tokens.{Answer}
-use Rattle.sg_grammar.specs.declared.error.ParseError.{ParseError}
-use Rattle.sg_grammar.specs.declared.error.ParseError.TheVariants.{Lex, Syntax}
-use Rattle.sg_grammar.specs.Inside.States.{State, dead, due, want, names, stars, either, listed, statements, param, declared, type_of, with_statement, statement_behind, one_rest, two_rest, plain_rest, returned_rest, has_sort, fits, named_by, step, tree_at, trees}
+use Rattle.sg_parse.specs.declared.error.ParseError.{ParseError}
+use Rattle.sg_parse.specs.declared.error.ParseError.TheVariants.{Lex, Syntax}
+use Rattle.sg_parse.specs.Grammar.Inside.States.{State, dead, due, want, names, stars, either, listed, statements, param, declared, type_of, with_statement, statement_behind, one_rest, two_rest, plain_rest, returned_rest, has_sort, fits, named_by, step, tree_at, trees}
 use Rattle.sg_lex.specs.Inside.Automata.{Reading, read, read_on}
-use Rattle.sg_grammar.proofs.Basics.{if_then, if_else}
+use Rattle.sg_parse.proofs.Grammar.Basics.{if_then, if_else}
 use Rattle.sg_lex.proofs.Automata.{read_failed, read_next, read_end, alike}
 use Rattle.std.proofs.Math.Dec.{eqb-suc-zero}
-use Rattle.sg_grammar.specs.declared.tree.Facts.{Facts}
-use Rattle.sg_grammar.specs.declared.tree.Ret.TheVariants.{Set, Add}
-use Rattle.sg_grammar.specs.declared.tree.Statement.{Statement}
-use Rattle.sg_grammar.specs.declared.tree.TypeName.{TypeName}
-use Rattle.sg_grammar.specs.declared.tree.Param.{Param}
-use Rattle.sg_grammar.specs.declared.words.Sort.{Sort}
-use Rattle.sg_grammar.specs.declared.words.Sort.TheVariants.{Name, Form, One as one_word, Two as two_word}
-use Rattle.sg_grammar.specs.Sentence.{star, comma, close_bracket}
-use Rattle.sg_grammar.specs.Named.{Named}
-use Rattle.sg_grammar.specs.Words.{is_of}
-use Rattle.sg_grammar.specs.Pieces.{Piece, word}
+use Rattle.sg_parse.specs.declared.tree.Facts.{Facts}
+use Rattle.sg_parse.specs.declared.tree.Ret.TheVariants.{Set, Add}
+use Rattle.sg_parse.specs.declared.tree.Statement.{Statement}
+use Rattle.sg_parse.specs.declared.tree.TypeName.{TypeName}
+use Rattle.sg_parse.specs.declared.tree.Param.{Param}
+use Rattle.sg_parse.specs.declared.words.Sort.{Sort}
+use Rattle.sg_parse.specs.declared.words.Sort.TheVariants.{Name, Form, One as one_word, Two as two_word}
+use Rattle.sg_parse.specs.Grammar.Sentence.{star, comma, close_bracket}
+use Rattle.sg_parse.specs.Grammar.Named.{Named}
+use Rattle.sg_parse.specs.Grammar.Words.{is_of}
+use Rattle.sg_parse.specs.Grammar.Pieces.{Piece, word}
 use Rattle.sg_parse.specs.Inside.{named_token}
 use Rattle.sg_lex.specs.Inside.Ahead.{Off, Came}
 

@@ -3,8 +3,8 @@ use Rattle.std.specs.Prelude.{None, Some}
 use Rattle.std.specs.declared.option.Option.{Option}
 use Rattle.sg_lex.specs.declared.token.TokenKind.TheVariants.{Word}
 use Rattle.sg_lex.specs.Lexeme.{Lexeme}
-use Rattle.sg_grammar.specs.Named.{Named}
-use Rattle.sg_grammar.specs.Inside.States.{State}
+use Rattle.sg_parse.specs.Grammar.Named.{Named}
+use Rattle.sg_parse.specs.Grammar.Inside.States.{State}
 
 -- the word that is a name
 abbrev pub named_token : Named → Lexeme

@@ -1,12 +1,14 @@
 // The facts at the head of a text.
 ghost use Rattle.std.specs.Prelude.{[]};
-ghost use Rattle.sg_grammar.specs.Named.{Named};
-ghost use Rattle.sg_grammar.specs.Pieces.{mark};
-ghost use Rattle.sg_grammar.specs.Inside.States.{State, fact, statements, start, trees};
+ghost use Rattle.sg_parse.specs.Grammar.Named.{Named};
+ghost use Rattle.sg_parse.specs.Grammar.Pieces.{mark};
+ghost use Rattle.sg_parse.specs.Grammar.Inside.States.{State, fact, statements, start, trees};
 ghost use Rattle.sg_lex.specs.Inside.Automata.{read, Leads};
 
 use crate::reader::{fixed, mark, word_of};
-use sg_grammar::{Facts, Name, ParseError, Sort};
+use crate::error::ParseError;
+use crate::tree::{Facts, Name};
+use crate::words::Sort;
 use sg_lex::Reader;
 
 /// The facts at the head of a text.

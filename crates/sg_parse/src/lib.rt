@@ -1,19 +1,30 @@
-//! The parser of the interface language: the tree of a text, or the place at which the text ceases to be one.
+//! The interface language: the grammar, with the tree of a text, and the parser, which answers with that tree or with the
+//! place at which a text ceases to be one.
 //!
+//! - `tree`: a text's tree (`Tree`), whose names are lent from the text (`Name`)
+//! - `words`: the words that the grammar keeps for itself
+//! - `error`: why a text has no tree (`ParseError`)
+//! - `laws`: a sentence has one tree, and a text one answer
 //! - `reader`: tokens taken from a text, and the error where another comes than may
-//! - `head`, `types`, `params`, `statements`: the parts of the grammar
+//! - `head`, `types`, `params`, `statements`: the parts of the grammar, as they are read
 //! - `parser`: the whole (`parse`)
 #![tactic(auto)]
 
+mod error;
 mod head;
+mod laws;
 mod params;
 mod parser;
 mod reader;
 mod statements;
+mod tree;
 mod types;
+mod words;
 
+pub use error::ParseError;
+pub use laws::{one_answer, one_tree};
 pub use parser::parse;
-pub use sg_grammar::{
-    Facts, Name, NameList, Param, ParamList, ParseError, Ret, Statement, StatementList, Tree,
-    TypeName,
+pub use tree::{
+    Facts, Name, NameList, Param, ParamList, Ret, Statement, StatementList, Tree, TypeName,
 };
+pub use words::Sort;

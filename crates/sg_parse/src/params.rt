@@ -1,16 +1,18 @@
 // Parameters of a prototype.
 ghost use Rattle.std.specs.Prelude.{◌≡◌, ◌≤◌, List, [], ◌∷◌, ◌++◌, length, OnOk, Some as with_form, None as without};
-ghost use Rattle.sg_grammar.specs.declared.tree.Param.{Param as Declared};
-ghost use Rattle.sg_grammar.specs.declared.words.Sort.TheVariants.{Name as a_name};
-ghost use Rattle.sg_grammar.specs.Named.{Named};
-ghost use Rattle.sg_grammar.specs.Sentence.{open_bracket, close_bracket};
-ghost use Rattle.sg_grammar.specs.Inside.States.{State, due, want, either, listed, declared, param, param_behind, with_param, type_of, trees};
+ghost use Rattle.sg_parse.specs.declared.tree.Param.{Param as Declared};
+ghost use Rattle.sg_parse.specs.declared.words.Sort.TheVariants.{Name as a_name};
+ghost use Rattle.sg_parse.specs.Grammar.Named.{Named};
+ghost use Rattle.sg_parse.specs.Grammar.Sentence.{open_bracket, close_bracket};
+ghost use Rattle.sg_parse.specs.Grammar.Inside.States.{State, due, want, either, listed, declared, param, param_behind, with_param, type_of, trees};
 ghost use Rattle.sg_lex.specs.Inside.Automata.{read, Leads};
 ghost use Rattle.sg_parse.specs.Inside.{either_of};
 
 use crate::reader::{mark, take_mark, take_word, word_of};
-use crate::types::{Spelled, declared, spelling};
-use sg_grammar::{Name, Param, ParamList, ParseError, Sort};
+use crate::types::{SpelledType, declared, spelling};
+use crate::error::ParseError;
+use crate::tree::{Name, Param, ParamList};
+use crate::words::Sort;
 use sg_lex::Reader;
 use std::alloc::Global;
 
@@ -41,7 +43,7 @@ fn param<'a>(reader: &mut Reader<'a>, alloc: Global) -> Result<Param<'a>, ParseE
 }
 
 /// A parameter behind its type: its form, if one comes, and its name.
-fn behind_type<'a>(reader: &mut Reader<'a>, spelled: Spelled<'a>) -> Result<Param<'a>, ParseError>
+fn behind_type<'a>(reader: &mut Reader<'a>, spelled: SpelledType<'a>) -> Result<Param<'a>, ParseError>
     ensures leads { (params : List Declared) (k : List Declared → State) →
         Leads trees (read trees (param_behind k params spelled.entry.front spelled.entry.last spelled.entry.stars) reader.old)
         result (λ p. listed (params ++ p ∷ []) k) reader.new }
@@ -63,7 +65,7 @@ fn form<'a>(reader: &mut Reader<'a>) -> Result<Option<Name<'a>>, ParseError>
 }
 
 /// A parameter behind its type, where no form comes.
-fn unformed<'a>(reader: &mut Reader<'a>, spelled: Spelled<'a>) -> Result<Param<'a>, ParseError>
+fn unformed<'a>(reader: &mut Reader<'a>, spelled: SpelledType<'a>) -> Result<Param<'a>, ParseError>
     ensures leads { (params : List Declared) (k : List Declared → State) →
         Leads trees (read trees (declared (λ ty n. with_param k params ty without n) spelled.entry.front spelled.entry.last spelled.entry.stars) reader.old)
         result (λ p. listed (params ++ p ∷ []) k) reader.new }
@@ -80,7 +82,7 @@ fn unformed<'a>(reader: &mut Reader<'a>, spelled: Spelled<'a>) -> Result<Param<'
 /// A parameter behind its type and its form: its name in brackets.
 fn formed<'a>(
     reader: &mut Reader<'a>,
-    spelled: Spelled<'a>,
+    spelled: SpelledType<'a>,
     form: Name<'a>,
 ) -> Result<Param<'a>, ParseError>
     ensures leads { (params : List Declared) (k : List Declared → State) →

@@ -2,15 +2,16 @@
 ghost use Rattle.std.specs.Prelude.{◌≡◌, ◌≢◌, ◌⊎◌, length, Err as failed};
 ghost use Rattle.std.specs.declared.result.Result.{Result as Answered};
 ghost use Rattle.sg_lex.specs.Tokens.{answers_of};
-ghost use Rattle.sg_grammar.specs.declared.error.ParseError.{ParseError as Fault};
-ghost use Rattle.sg_grammar.specs.declared.tree.Tree.{Tree as Whole};
-ghost use Rattle.sg_grammar.specs.Parses.{Parses};
-ghost use Rattle.sg_grammar.specs.Inside.States.{start, trees};
+ghost use Rattle.sg_parse.specs.declared.error.ParseError.{ParseError as Fault};
+ghost use Rattle.sg_parse.specs.declared.tree.Tree.{Tree as Whole};
+ghost use Rattle.sg_parse.specs.Grammar.Parses.{Parses};
+ghost use Rattle.sg_parse.specs.Grammar.Inside.States.{start, trees};
 ghost use Rattle.sg_lex.specs.Inside.Automata.{read, Answers};
 
 use crate::head::facts;
 use crate::statements::statements;
-use sg_grammar::{ParseError, Tree};
+use crate::error::ParseError;
+use crate::tree::Tree;
 use sg_lex::Reader;
 use std::alloc::Global;
 

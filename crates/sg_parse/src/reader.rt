@@ -1,14 +1,16 @@
 // What a tree is read by: the tokens of a text, and the errors where they don't come.
 ghost use Rattle.std.specs.Prelude.{◌≡◌, ◌≤◌, [], ◌∷◌, length, true, IfOk, IfErr, OnOk, MatchOption, MatchBool, Ok as answered};
-ghost use Rattle.sg_grammar.specs.Words.{is_of};
-ghost use Rattle.sg_grammar.specs.Named.{Named};
-ghost use Rattle.sg_grammar.specs.Inside.States.{State, dead, due, want, has_sort, fits, named_by, trees};
-ghost use Rattle.sg_grammar.specs.Pieces.{mark, word};
+ghost use Rattle.sg_parse.specs.Grammar.Words.{is_of};
+ghost use Rattle.sg_parse.specs.Grammar.Named.{Named};
+ghost use Rattle.sg_parse.specs.Grammar.Inside.States.{State, dead, due, want, has_sort, fits, named_by, trees};
+ghost use Rattle.sg_parse.specs.Grammar.Pieces.{mark, word};
 ghost use Rattle.sg_lex.specs.Inside.Automata.{read, Leads};
 ghost use Rattle.sg_lex.specs.Inside.Ahead.{Off, Came};
 ghost use Rattle.sg_parse.specs.Inside.{named_token};
 
-use sg_grammar::{Name, ParseError, Sort};
+use crate::error::ParseError;
+use crate::tree::Name;
+use crate::words::Sort;
 use sg_lex::{IsWord, LexFault, Reader, Token, TokenKind, TokenTest};
 
 /// Takes the next token; None at the end of the text. A byte that begins none is a `Lex` error.

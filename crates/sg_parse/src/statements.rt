@@ -1,17 +1,19 @@
 // Statements.
 ghost use Rattle.std.specs.Prelude.{◌≡◌, ◌≤◌, List, [], ◌∷◌, ◌++◌, length, OnOk};
-ghost use Rattle.sg_grammar.specs.declared.tree.Ret.{Ret as Returned};
-ghost use Rattle.sg_grammar.specs.declared.tree.Statement.{Statement as Stated};
-ghost use Rattle.sg_grammar.specs.declared.tree.TypeName.{TypeName as Typed};
-ghost use Rattle.sg_grammar.specs.declared.words.Sort.TheVariants.{Name as a_name};
-ghost use Rattle.sg_grammar.specs.Named.{Named};
-ghost use Rattle.sg_grammar.specs.Inside.States.{State, want, statements, statement_behind, one_rest, two_rest, proto_rest, plain_rest, returned_rest, trees};
+ghost use Rattle.sg_parse.specs.declared.tree.Ret.{Ret as Returned};
+ghost use Rattle.sg_parse.specs.declared.tree.Statement.{Statement as Stated};
+ghost use Rattle.sg_parse.specs.declared.tree.TypeName.{TypeName as Typed};
+ghost use Rattle.sg_parse.specs.declared.words.Sort.TheVariants.{Name as a_name};
+ghost use Rattle.sg_parse.specs.Grammar.Named.{Named};
+ghost use Rattle.sg_parse.specs.Grammar.Inside.States.{State, want, statements, statement_behind, one_rest, two_rest, proto_rest, plain_rest, returned_rest, trees};
 ghost use Rattle.sg_lex.specs.Inside.Automata.{read, Leads, Answers, read_on};
 
 use crate::params::params;
 use crate::reader::{has_sort, mark, name_of, next_token, word_of};
 use crate::types::{declared, spelling};
-use sg_grammar::{Facts, Name, ParseError, Ret, Sort, Statement, StatementList, Tree, TypeName};
+use crate::error::ParseError;
+use crate::tree::{Facts, Name, Ret, Statement, StatementList, Tree, TypeName};
+use crate::words::Sort;
 use sg_lex::{Reader, Token};
 use std::alloc::Global;
 

@@ -1,26 +1,28 @@
 // Types, and the names that are declared behind them.
 ghost use Rattle.std.specs.Prelude.{◌≡◌, ◌≤◌, ◌<◌, ◌+◌, ℕ, List, [], ◌∷◌, ◌++◌, length, IfOk, OnOk};
-ghost use Rattle.sg_grammar.specs.declared.tree.TypeName.{TypeName as Typed};
-ghost use Rattle.sg_grammar.specs.Named.{Named};
-ghost use Rattle.sg_grammar.specs.Inside.States.{State, names, stars, declared, type_of, trees};
+ghost use Rattle.sg_parse.specs.declared.tree.TypeName.{TypeName as Typed};
+ghost use Rattle.sg_parse.specs.Grammar.Named.{Named};
+ghost use Rattle.sg_parse.specs.Grammar.Inside.States.{State, names, stars, declared, type_of, trees};
 ghost use Rattle.sg_lex.specs.Inside.Automata.{read, Leads};
 
 use crate::reader::{take_mark, take_word, unexpected, word_of};
 use sg_base::NoMemory;
-use sg_grammar::{Name, NameList, ParseError, Sort, TypeName};
+use crate::error::ParseError;
+use crate::tree::{Name, NameList, TypeName};
+use crate::words::Sort;
 use sg_lex::Reader;
 use std::alloc::Global;
 
 /// The names of a type, the last apart, and the number of its stars. Without stars the last name may be the one that is
 /// declared.
 #[derive(Debug, Drop)]
-pub struct Spelled<'a> {
+pub struct SpelledType<'a> {
     pub front: NameList<'a>,
     pub last: Name<'a>,
     pub stars: usize,
 }
 
-impl<'a> Spelled<'a> {
+impl<'a> SpelledType<'a> {
     /// The type of all these names.
     pub fn whole(self) -> Result<TypeName<'a>, NoMemory>
         ensures { IfOk result (λ ty. ty ≡ type_of self.entry.front self.entry.last self.entry.stars) }
@@ -39,14 +41,14 @@ pub fn spelling<'a>(
     reader: &mut Reader<'a>,
     alloc: Global,
     first: Name<'a>,
-) -> Result<Spelled<'a>, ParseError>
+) -> Result<SpelledType<'a>, ParseError>
     ensures leads { (k : List Named → Named → ℕ → State) →
         Leads trees (read trees (names [] first.entry k) reader.old) result (λ s. k s.front s.last s.stars) reader.new }
     ensures fewer { OnOk result (length reader.new.rest ≤ length reader.old.rest) }
 {
     let (front, last) = names(reader, alloc, first)?;
     let stars = stars(reader)?;
-    Ok(Spelled { front, last, stars })
+    Ok(SpelledType { front, last, stars })
 }
 
 /// The names of a type whose first name was taken, the last apart.
@@ -89,7 +91,7 @@ fn stars(reader: &mut Reader<'_>) -> Result<usize, ParseError>
 #[tactic(auto, using(crate::proofs::ByToken::declared_none, crate::proofs::ByToken::declared_bare, crate::proofs::ByToken::declared_starred))]
 pub fn declared<'a>(
     reader: &mut Reader<'a>,
-    spelled: Spelled<'a>,
+    spelled: SpelledType<'a>,
 ) -> Result<(TypeName<'a>, Name<'a>), ParseError>
     ensures leads { (go : Typed → Named → State) →
         Leads trees (read trees (declared go spelled.entry.front spelled.entry.last spelled.entry.stars) reader.old) result (λ r. go r.0 r.1) reader.new }

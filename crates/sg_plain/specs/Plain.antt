@@ -20,17 +20,17 @@ use Rattle.sg_plain.specs.Calls.{most_client, call_after, ascending_from, script
 
 -- what a client is at: it has a next call; its visible call was answered; it holds a reply that isn't committed; it is blocked; or
 -- it has no call left
-pub data Phase : Type 0 where
-  ready : Phase
-  replied : Phase
-  holding : Reply → Phase
-  blocked : Phase
-  through : Phase
+pub data PlainPhase : Type 0 where
+  ready : PlainPhase
+  replied : PlainPhase
+  holding : Reply → PlainPhase
+  blocked : PlainPhase
+  through : PlainPhase
 
 -- how many of its calls are done, and what it is at
 pub record Player : Type 0 where
   pub done : ℕ
-  pub phase : Phase
+  pub phase : PlainPhase
 
 -- the history so far, the clients from 1 on, the turns that the schedule still gives, and the client of the last turn, 0 before
 -- the first
@@ -72,7 +72,7 @@ abbrev pub waits_on : Option Call → ℕ
 waits_on None = 0
 waits_on (Some call) = call.desc
 
-abbrev pub woken_phase : Bool → Phase → Phase
+abbrev pub woken_phase : Bool → PlainPhase → PlainPhase
 woken_phase true blocked = ready
 woken_phase false blocked = blocked
 woken_phase woke ready = ready
@@ -98,7 +98,7 @@ appended facts script s call reply = record s {
 abbrev pub gone_on : Script → ℕ → Stage → Stage
 gone_on script client s = with_player s client (player_at script client ((player_of s client).done + 1))
 
-abbrev pub at_phase : ℕ → Phase → Stage → Stage
+abbrev pub at_phase : ℕ → PlainPhase → Stage → Stage
 at_phase client phase s = with_player s client (record (player_of s client) { phase = phase })
 
 -- ---- turns
@@ -122,7 +122,7 @@ handed_over facts script client s reply None = s
 handed_over facts script client s reply (Some call) = gone_on script client (appended facts script s call reply)
 
 -- what a client's turn does, by what it is at
-abbrev pub turned : Declared → Table → Script → ℕ → Stage → Phase → Stage
+abbrev pub turned : Declared → Table → Script → ℕ → Stage → PlainPhase → Stage
 turned i ask script client s ready = after_call i ask script client s (call_after i.facts script s.history client (player_of s client).done)
 turned i ask script client s replied = gone_on script client s
 turned i ask script client s (holding reply) =
@@ -132,7 +132,7 @@ turned i ask script client s through = s
 
 -- ---- whose turn it is
 
-abbrev pub is_under_way : Phase → Bool
+abbrev pub is_under_way : PlainPhase → Bool
 is_under_way ready = true
 is_under_way replied = true
 is_under_way (holding reply) = true

@@ -12,7 +12,7 @@ use Rattle.sg_facts.specs.Facts.{Facts, is_visible}
 use Rattle.sg_facts.specs.Trace.{Boot, Run}
 use Rattle.sg_hist.specs.declared.ended.End.{End}
 use Rattle.sg_hist.specs.Clients.{calls_of}
-use Rattle.sg_hist.specs.Reading.{Place, behind, is_by_guard, is_item_of, is_tagged, items_of, object_before, places_in, places_of}
+use Rattle.sg_hist.specs.Reading.{Position, behind, is_by_guard, is_item_of, is_tagged, items_of, object_before, places_in, places_of}
 use Rattle.sg_hist.specs.Recovered.{is_blocked, struck_in}
 use Rattle.sg_script.specs.declared.script.Script.{Script}
 use Rattle.sg_script.specs.declared.script.ScriptCall.{ScriptCall}
@@ -79,19 +79,19 @@ has_blocked Stopped = false
 has_blocked NoMemory = false
 
 -- whether a place's item is that of an entry which wakes who waits on a descriptor
-abbrev pub wakes_at : Facts → List Entry → ℕ → Place → Bool
+abbrev pub wakes_at : Facts → List Entry → ℕ → Position → Bool
 wakes_at facts history id p =
     list_any (λ e. not (is_by_guard e.reply) && is_item_of e p.item && not (list_any (is_item_of e) (behind p))
     && wakes facts (object_before facts history p).rows e.call e.reply id) history
 
 -- whether a call of a client waits at none of these places before one that wakes who waits on a descriptor
-abbrev pub is_woken_first : Facts → List Entry → ℕ → ℕ → ℕ → List Place → Bool
+abbrev pub is_woken_first : Facts → List Entry → ℕ → ℕ → ℕ → List Position → Bool
 is_woken_first facts history client seq id [] = true
 is_woken_first facts history client seq id (p ∷ ps) =
     wakes_at facts history id p || (not (is_tagged client seq p.item.tag && has_blocked p.item.outcome) && is_woken_first facts history client seq id ps)
 
 -- a call that waits at a place doesn't wait again in that boot before it was woken
-abbrev pub IsWokenBetween : Facts → List Entry → Place → Tag → Type 0
+abbrev pub IsWokenBetween : Facts → List Entry → Position → Tag → Type 0
 IsWokenBetween facts history p (Walk id k client) = Unit {0}
 IsWokenBetween facts history p (Load key client) = Unit {0}
 IsWokenBetween facts history p (Client client seq) =

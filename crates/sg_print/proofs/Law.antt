@@ -7,9 +7,9 @@ use Rattle.sg_lex.specs.Tokens.{Answer, answers_of}
 use Rattle.sg_lex.specs.Sentences.{Accepts, answered, ArePieces}
 use Rattle.sg_lex.specs.Reading.{IsReading, ends, passes, gives, faults}
 use Rattle.sg_lex.proofs.Readings.{reads}
-use Rattle.sg_grammar.specs.declared.tree.Tree.{Tree}
-use Rattle.sg_grammar.specs.Pieces.{Piece, word, mark, name, IsPiece}
-use Rattle.sg_grammar.specs.Sentence.{tree_pieces, IsSentence}
+use Rattle.sg_parse.specs.declared.tree.Tree.{Tree}
+use Rattle.sg_parse.specs.Grammar.Pieces.{Piece, word, mark, name, IsPiece}
+use Rattle.sg_parse.specs.Grammar.Sentence.{tree_pieces, IsSentence}
 use Rattle.sg_print.specs.Printed.{printed}
 use Rattle.sg_print.specs.PrintsBack.{PrintsBack}
 use Rattle.sg_print.proofs.Leads.{Leads, IsProper, AreProper}

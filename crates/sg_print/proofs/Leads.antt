@@ -11,10 +11,10 @@ use Rattle.sg_lex.specs.Tokens.{answers_behind}
 use Rattle.sg_lex.proofs.Steps.{answers_after, answers_step}
 use Rattle.sg_lex.proofs.Forward.{front_word, front_mark, front_blank}
 use Rattle.sg_lex.proofs.Runs.{all_exact, all_whole}
-use Rattle.sg_grammar.specs.declared.words.Sort.{Sort}
-use Rattle.sg_grammar.specs.Named.{Named}
-use Rattle.sg_grammar.specs.Words.{is_of}
-use Rattle.sg_grammar.specs.Pieces.{Piece, word, mark, name}
+use Rattle.sg_parse.specs.declared.words.Sort.{Sort}
+use Rattle.sg_parse.specs.Grammar.Named.{Named}
+use Rattle.sg_parse.specs.Grammar.Words.{is_of}
+use Rattle.sg_parse.specs.Grammar.Pieces.{Piece, word, mark, name}
 
 -- a token is such a piece, but for its place
 abbrev pub IsLike : Lexeme → Piece → Type 0

@@ -3,14 +3,14 @@ use Rattle.std.proofs.Common.{ℕ, ◌≡◌, List, [], ◌∷◌, ◌++◌, Opt
 use Rattle.std.specs.Prelude.{◌==◌, if◌then◌else◌}
 use Rattle.std.specs.List.{flat_map, concat}
 use Rattle.std.specs.Option.{option_map}
-use Rattle.sg_grammar.specs.declared.tree.Statement.{Statement}
-use Rattle.sg_grammar.specs.declared.tree.Statement.TheVariants.{One, Two, Proto}
-use Rattle.sg_grammar.specs.declared.tree.Ret.{Ret}
-use Rattle.sg_grammar.specs.declared.tree.Ret.TheVariants.{Plain, Set, Add}
-use Rattle.sg_grammar.specs.declared.tree.TypeName.{TypeName}
-use Rattle.sg_grammar.specs.declared.tree.Param.{Param}
-use Rattle.sg_grammar.specs.declared.tree.Tree.{Tree}
-use Rattle.sg_grammar.specs.Named.{Named}
+use Rattle.sg_parse.specs.declared.tree.Statement.{Statement}
+use Rattle.sg_parse.specs.declared.tree.Statement.TheVariants.{One, Two, Proto}
+use Rattle.sg_parse.specs.declared.tree.Ret.{Ret}
+use Rattle.sg_parse.specs.declared.tree.Ret.TheVariants.{Plain, Set, Add}
+use Rattle.sg_parse.specs.declared.tree.TypeName.{TypeName}
+use Rattle.sg_parse.specs.declared.tree.Param.{Param}
+use Rattle.sg_parse.specs.declared.tree.Tree.{Tree}
+use Rattle.sg_parse.specs.Grammar.Named.{Named}
 use Rattle.sg_print.specs.Plain.{plain_name, plain_type, plain_param, plain_ret, plain_statement, plain}
 use Rattle.sg_print.specs.Printed.{names_text, stars_text, type_text, type_before_comma, form_text, param_text, params_text, returned_text, ret_text, statement_text, facts_text, printed}
 

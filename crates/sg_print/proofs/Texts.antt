@@ -5,18 +5,18 @@ use Rattle.std.specs.List.{flat_map}
 use Rattle.std.specs.Prelude.{All, ◌==◌}
 use Rattle.std.proofs.lemmas.List.Elements.{All-head, All-tail}
 use Rattle.sg_lex.specs.Table.{IsWord}
-use Rattle.sg_grammar.specs.declared.tree.Facts.{Facts}
-use Rattle.sg_grammar.specs.declared.tree.Statement.{Statement}
-use Rattle.sg_grammar.specs.declared.tree.Statement.TheVariants.{One, Two, Proto}
-use Rattle.sg_grammar.specs.declared.tree.Ret.{Ret}
-use Rattle.sg_grammar.specs.declared.tree.Ret.TheVariants.{Plain, Set, Add}
-use Rattle.sg_grammar.specs.declared.tree.TypeName.{TypeName}
-use Rattle.sg_grammar.specs.declared.tree.Param.{Param}
-use Rattle.sg_grammar.specs.declared.tree.Tree.{Tree}
-use Rattle.sg_grammar.specs.declared.words.Sort.TheVariants.{Name, One as one_word, Two as two_word, Form, Parents, Closing, Flag}
-use Rattle.sg_grammar.specs.Named.{Named}
-use Rattle.sg_grammar.specs.Pieces.{Piece, word, mark, name}
-use Rattle.sg_grammar.specs.Sentence.{open_bracket, close_bracket, comma, semicolon, star, type_pieces, form_pieces, param_pieces, more_params, params_pieces, returned_pieces, ret_pieces, statement_pieces, facts_pieces, tree_pieces, IsType, IsRet, IsStatement, IsWellFormed}
+use Rattle.sg_parse.specs.declared.tree.Facts.{Facts}
+use Rattle.sg_parse.specs.declared.tree.Statement.{Statement}
+use Rattle.sg_parse.specs.declared.tree.Statement.TheVariants.{One, Two, Proto}
+use Rattle.sg_parse.specs.declared.tree.Ret.{Ret}
+use Rattle.sg_parse.specs.declared.tree.Ret.TheVariants.{Plain, Set, Add}
+use Rattle.sg_parse.specs.declared.tree.TypeName.{TypeName}
+use Rattle.sg_parse.specs.declared.tree.Param.{Param}
+use Rattle.sg_parse.specs.declared.tree.Tree.{Tree}
+use Rattle.sg_parse.specs.declared.words.Sort.TheVariants.{Name, One as one_word, Two as two_word, Form, Parents, Closing, Flag}
+use Rattle.sg_parse.specs.Grammar.Named.{Named}
+use Rattle.sg_parse.specs.Grammar.Pieces.{Piece, word, mark, name}
+use Rattle.sg_parse.specs.Grammar.Sentence.{open_bracket, close_bracket, comma, semicolon, star, type_pieces, form_pieces, param_pieces, more_params, params_pieces, returned_pieces, ret_pieces, statement_pieces, facts_pieces, tree_pieces, IsType, IsRet, IsStatement, IsWellFormed}
 use Rattle.sg_print.specs.Printed.{names_text, stars_text, type_text, type_before_comma, form_text, param_text, params_text, returned_text, ret_text, statement_text, facts_text, printed}
 use Rattle.sg_print.proofs.Leads.{Leads, Stops, end_leads, blank_leads, mark_leads, fixed_leads, name_leads, AreProper, proper_left, proper_right}
 

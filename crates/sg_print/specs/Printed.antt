@@ -2,15 +2,15 @@
 use Rattle.std.specs.Prelude.{ℕ, ◌==◌, if◌then◌else◌, List, [], ◌∷◌, ◌++◌, None, Some, codes, replicate}
 use Rattle.std.specs.List.{concat, flat_map, join_by}
 use Rattle.std.specs.declared.option.Option.{Option}
-use Rattle.sg_grammar.specs.declared.tree.Facts.{Facts}
-use Rattle.sg_grammar.specs.declared.tree.Statement.{Statement}
-use Rattle.sg_grammar.specs.declared.tree.Statement.TheVariants.{One, Two, Proto}
-use Rattle.sg_grammar.specs.declared.tree.Ret.{Ret}
-use Rattle.sg_grammar.specs.declared.tree.Ret.TheVariants.{Plain, Set, Add}
-use Rattle.sg_grammar.specs.declared.tree.TypeName.{TypeName}
-use Rattle.sg_grammar.specs.declared.tree.Param.{Param}
-use Rattle.sg_grammar.specs.declared.tree.Tree.{Tree}
-use Rattle.sg_grammar.specs.Named.{Named}
+use Rattle.sg_parse.specs.declared.tree.Facts.{Facts}
+use Rattle.sg_parse.specs.declared.tree.Statement.{Statement}
+use Rattle.sg_parse.specs.declared.tree.Statement.TheVariants.{One, Two, Proto}
+use Rattle.sg_parse.specs.declared.tree.Ret.{Ret}
+use Rattle.sg_parse.specs.declared.tree.Ret.TheVariants.{Plain, Set, Add}
+use Rattle.sg_parse.specs.declared.tree.TypeName.{TypeName}
+use Rattle.sg_parse.specs.declared.tree.Param.{Param}
+use Rattle.sg_parse.specs.declared.tree.Tree.{Tree}
+use Rattle.sg_parse.specs.Grammar.Named.{Named}
 use Rattle.sg_facts.specs.Words.{line_end}
 
 -- names, with a space between two

@@ -1,7 +1,7 @@
 -- A printed tree reads back.
 use Rattle.std.specs.Prelude.{◌≡◌, Ok}
-use Rattle.sg_grammar.specs.declared.tree.Tree.{Tree}
-use Rattle.sg_grammar.specs.Parses.{Parses}
+use Rattle.sg_parse.specs.declared.tree.Tree.{Tree}
+use Rattle.sg_parse.specs.Grammar.Parses.{Parses}
 use Rattle.sg_print.specs.Plain.{plain}
 use Rattle.sg_print.specs.Printed.{printed}
 

@@ -1,7 +1,7 @@
 // Laws of the canonical text.
 ghost use Rattle.std.specs.Prelude.{◌≡◌, Ok, List, ℕ};
-ghost use Rattle.sg_grammar.specs.declared.tree.Tree.{Tree};
-ghost use Rattle.sg_grammar.specs.Parses.{Parses};
+ghost use Rattle.sg_parse.specs.declared.tree.Tree.{Tree};
+ghost use Rattle.sg_parse.specs.Grammar.Parses.{Parses};
 ghost use Rattle.sg_print.specs.Plain.{plain};
 ghost use Rattle.sg_print.specs.Printed.{printed};
 ghost use Rattle.sg_print.specs.PrintsBack.{PrintsBack};

@@ -5,7 +5,7 @@ ghost use Rattle.sg_print.specs.Printed.{names_text, type_text, type_before_comm
 
 use crate::parts::{put, put_stars};
 use sg_base::{Bytes, NoMemory};
-use sg_grammar::{Name, Param, Ret, TypeName};
+use sg_parse::{Name, Param, Ret, TypeName};
 
 // Adds names at the end, with a space between two.
 fn put_names(out: &mut Bytes, names: &[Name<'_>]) -> Result<(), NoMemory>

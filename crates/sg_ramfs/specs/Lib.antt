@@ -1,12 +1,8 @@
 pub mod Inside
-pub mod RamfsAlikeLaw
-pub mod RamfsBlockedLaw
+pub mod Laws
 pub mod RamfsFacts
 pub mod RamfsFiles
 pub mod RamfsObject
 pub mod RamfsRow
-pub mod RamfsShapeLaw
 pub mod RamfsSound
-pub mod RamfsSoundLaw
 pub mod RamfsTable
-pub mod RamfsWalkLaw

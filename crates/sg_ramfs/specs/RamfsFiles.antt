@@ -6,10 +6,10 @@ use Rattle.std.specs.declared.option.Option.{Option}
 use Rattle.std.specs.BTreeMap.{BTreeMap, get}
 use Rattle.std.specs.Cmp.Lexicographic.{slice_cmp}
 use Rattle.std.specs.Ordering.{nat_cmp}
-use Rattle.sg_ramfs.specs.declared.files.Files.{Files}
+use Rattle.sg_ramfs.specs.declared.files.OpenFiles.{OpenFiles}
 
 -- the files, as pairs of path and bytes
-abbrev pub files_of : Files → List (List ℕ × List ℕ)
+abbrev pub files_of : OpenFiles → List (List ℕ × List ℕ)
 files_of files = map (λ f. (f.path, f.bytes.items)) files.list.items
 
 -- the place of the file of a path among files, from 0

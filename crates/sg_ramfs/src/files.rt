@@ -18,18 +18,18 @@ pub(crate) struct File {
 /// The files in the order in which they were first set, and the place of each by its path. A file is found by its path in
 /// time that grows with the logarithm of the files.
 #[derive(Debug, Drop)]
-pub(crate) struct Files {
+pub(crate) struct OpenFiles {
     pub list: Vec<File>,
     pub index: BTreeMap<FilePath, usize>,
 }
 
-impl Files {
+impl OpenFiles {
     /// No file. It takes no memory.
-    pub(crate) fn new(alloc: Global) -> Files
+    pub(crate) fn new(alloc: Global) -> OpenFiles
         ensures files { files_of result ≡ [] }
         ensures index { AreFilesIndexed (files_of result) result.index }
     {
-        Files {
+        OpenFiles {
             list: Vec::new(alloc),
             index: BTreeMap::new(alloc),
         }

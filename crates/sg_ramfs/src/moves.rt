@@ -10,9 +10,9 @@ ghost use Rattle.sg_ramfs.specs.Inside.RamfsPlans.{FitsWrite};
 ghost use Rattle.sg_ramfs.specs.Inside.RamfsTree.{FitsTree};
 
 use crate::OpenFile;
-use crate::files::{Files, write_over};
+use crate::files::{OpenFiles, write_over};
 use crate::plan::{ReadPlan, WritePlan};
-use crate::tree::Tree;
+use crate::tree::FileTree;
 use sg_base::{Bytes, Good, Point, Reply, Stops, TryCopy};
 use sg_facts::{FilePath, Outcome, Patch};
 use sg_slots::Decision;
@@ -31,7 +31,7 @@ pub(crate) enum Moved {
 
 // Sets a descriptor in the first of two parts, and asks the second. All memory is taken before.
 fn move_first<T: Stops>(
-    tree: &mut Tree,
+    tree: &mut FileTree,
     alloc: Global,
     stops: &mut T,
     id: u64,
@@ -67,7 +67,7 @@ fn move_first<T: Stops>(
 
 /// Carries a read out: a descriptor is set, and the reply has the bytes.
 pub(crate) fn carry_read<T: Stops>(
-    tree: &mut Tree,
+    tree: &mut FileTree,
     alloc: Global,
     stops: &mut T,
     id: u64,
@@ -107,8 +107,8 @@ fn with_bytes(reply: Reply, bytes: Bytes) -> Reply
 
 /// Carries a write out: a descriptor is set in the first part, and the bytes are written in the second.
 pub(crate) fn carry_write<T: Stops>(
-    tree: &mut Tree,
-    files: &mut Files,
+    tree: &mut FileTree,
+    files: &mut OpenFiles,
     alloc: Global,
     stops: &mut T,
     id: u64,
@@ -149,8 +149,8 @@ fn replied(moved: Moved) -> Outcome
 
 // Sets a descriptor, and writes a patch into its file.
 fn put<T: Stops>(
-    tree: &mut Tree,
-    files: &mut Files,
+    tree: &mut FileTree,
+    files: &mut OpenFiles,
     alloc: Global,
     stops: &mut T,
     id: u64,
@@ -190,7 +190,7 @@ fn put<T: Stops>(
 
 // Sets a descriptor, and writes a patch over the bytes of its file. The room for it is taken first.
 fn overwrite<T: Stops>(
-    tree: &mut Tree,
+    tree: &mut FileTree,
     file: &mut Vec<u8>,
     alloc: Global,
     stops: &mut T,
@@ -228,8 +228,8 @@ fn overwrite<T: Stops>(
 
 // Sets a descriptor, and writes a patch into a file that comes with it. The room for it is taken first.
 fn put_new<T: Stops>(
-    tree: &mut Tree,
-    files: &mut Files,
+    tree: &mut FileTree,
+    files: &mut OpenFiles,
     alloc: Global,
     stops: &mut T,
     id: u64,

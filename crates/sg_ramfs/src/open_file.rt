@@ -2,7 +2,7 @@
 ghost use Rattle.std.specs.Prelude.{◌≡◌, IfOk};
 
 use sg_base::{Bytes, NoMemory, TryCopy};
-use sg_slots::Entry;
+use sg_slots::Slot;
 use std::alloc::Global;
 
 /// A descriptor of a file.
@@ -18,7 +18,7 @@ pub struct OpenFile {
     pub place: u64,
 }
 
-impl Entry for OpenFile {
+impl Slot for OpenFile {
     ghost use Rattle.sg_ramfs.specs.RamfsRow.{file_body};
 
     ghost body = { file_body };

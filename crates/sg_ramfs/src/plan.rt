@@ -10,8 +10,8 @@ ghost use Rattle.sg_ramfs.specs.RamfsTable.{is_bad_name};
 ghost use Rattle.sg_ramfs.specs.Inside.RamfsTree.{tree_rows, IsTree};
 
 use crate::OpenFile;
-use crate::files::{Files, part_of};
-use crate::tree::Tree;
+use crate::files::{OpenFiles, part_of};
+use crate::tree::FileTree;
 use sg_base::{Bytes, Call, Code, NoMemory, Value};
 use sg_facts::{FilePath, MOST_FILE, MOST_PATH, Patch};
 use sg_slots::Decision;
@@ -82,7 +82,7 @@ fn has_slash(name: &[u8]) -> bool
 }
 
 /// Makes a descriptor below that of the call, or as a root.
-pub(crate) fn split(tree: &Tree, alloc: Global, call: &Call) -> Result<Decision<OpenFile>, NoMemory>
+pub(crate) fn split(tree: &FileTree, alloc: Global, call: &Call) -> Result<Decision<OpenFile>, NoMemory>
     ensures decision { IfOk result (λ d. d ≡ on_open tree.now call.now) }
     ensures tree { IsTree tree.now }
 {
@@ -107,8 +107,8 @@ pub(crate) fn split(tree: &Tree, alloc: Global, call: &Call) -> Result<Decision<
 
 /// Reads at most so many bytes at the place of a descriptor.
 pub(crate) fn read(
-    tree: &Tree,
-    files: &Files,
+    tree: &FileTree,
+    files: &OpenFiles,
     alloc: Global,
     id: u64,
     most: u64,
@@ -154,8 +154,8 @@ fn read_at(file: &OpenFile, bytes: &[u8], alloc: Global, most: u64) -> Result<Re
 
 /// Writes bytes at the place of a descriptor.
 pub(crate) fn write(
-    tree: &Tree,
-    files: &Files,
+    tree: &FileTree,
+    files: &OpenFiles,
     alloc: Global,
     id: u64,
     bytes: &[u8],
@@ -214,7 +214,7 @@ fn write_at(
 
 /// Sets the place of a descriptor.
 pub(crate) fn seek(
-    tree: &Tree,
+    tree: &FileTree,
     alloc: Global,
     id: u64,
     place: u64,

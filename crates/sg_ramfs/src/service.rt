@@ -6,25 +6,25 @@ ghost use Rattle.sg_facts.specs.Track.{arg_at, is_live, row_at, word_of};
 ghost use Rattle.sg_slots.specs.Slots.{entry_at, row_with};
 ghost use Rattle.sg_slots.specs.Carry.{Carries};
 ghost use Rattle.sg_ramfs.specs.declared.open_file.OpenFile.{OpenFile as IsOpenFile};
-ghost use Rattle.sg_ramfs.specs.RamfsAlikeLaw.{ramfs_answers_alike};
-ghost use Rattle.sg_ramfs.specs.RamfsBlockedLaw.{ramfs_blocked_stays};
+ghost use Rattle.sg_ramfs.specs.Laws.RamfsAlikeLaw.{ramfs_answers_alike};
+ghost use Rattle.sg_ramfs.specs.Laws.RamfsBlockedLaw.{ramfs_blocked_stays};
 ghost use Rattle.sg_ramfs.specs.Inside.RamfsDecision.{on_open, on_read, on_seek, on_write, CarriesBytes, WritesFile};
 ghost use Rattle.sg_ramfs.specs.RamfsFacts.{ramfs_facts};
 ghost use Rattle.sg_ramfs.specs.RamfsFiles.{files_of, AreFilesIndexed};
 ghost use Rattle.sg_ramfs.specs.RamfsObject.{ramfs_object};
 ghost use Rattle.sg_ramfs.specs.RamfsRow.{file_body};
-ghost use Rattle.sg_ramfs.specs.RamfsShapeLaw.{ramfs_shape_allows, ramfs_counts_slowly};
+ghost use Rattle.sg_ramfs.specs.Laws.RamfsShapeLaw.{ramfs_shape_allows, ramfs_counts_slowly};
 ghost use Rattle.sg_ramfs.specs.RamfsSound.{IsRamfsSound};
-ghost use Rattle.sg_ramfs.specs.RamfsSoundLaw.{ramfs_answers_and_keeps};
+ghost use Rattle.sg_ramfs.specs.Laws.RamfsSoundLaw.{ramfs_answers_and_keeps};
 ghost use Rattle.sg_ramfs.specs.RamfsTable.{ramfs_table, ramfs_parts};
 ghost use Rattle.sg_ramfs.specs.Inside.RamfsTree.{tree_rows, IsTree};
-ghost use Rattle.sg_ramfs.specs.RamfsWalkLaw.{ramfs_walk_goes_on};
+ghost use Rattle.sg_ramfs.specs.Laws.RamfsWalkLaw.{ramfs_walk_goes_on};
 
-use crate::files::Files;
+use crate::files::OpenFiles;
 use crate::functions::{READ, SEEK, SPLIT, WRITE};
 use crate::moves::{carry_read, carry_write};
 use crate::shape::ramfs_shape;
-use crate::tree::Tree;
+use crate::tree::FileTree;
 use crate::{OpenFile, plan};
 use sg_base::{Call, NoMemory, Path, Stops, TryCopy};
 use sg_facts::{FilePath, Outcome, Service, Shape};
@@ -36,8 +36,8 @@ use std::marker::Model;
 /// paths. Nobody waits.
 #[derive(Debug, Drop)]
 pub struct RamfsService {
-    tree: Tree,
-    files: Files,
+    tree: FileTree,
+    files: OpenFiles,
 }
 
 impl Model for RamfsService {
@@ -96,8 +96,8 @@ impl Service for RamfsService {
 
     fn fresh(alloc: Global) -> Self {
         RamfsService {
-            tree: Tree::new(alloc),
-            files: Files::new(alloc),
+            tree: FileTree::new(alloc),
+            files: OpenFiles::new(alloc),
         }
     }
 
@@ -118,7 +118,7 @@ impl Service for RamfsService {
 }
 
 // Makes a descriptor.
-fn split<T: Stops>(tree: &mut Tree, alloc: Global, stops: &mut T, call: &Call) -> Outcome
+fn split<T: Stops>(tree: &mut FileTree, alloc: Global, stops: &mut T, call: &Call) -> Outcome
     requires parent { (is_live (tree_rows tree.old) call.now.desc || (call.now.desc == 0)) ≡ true }
     requires room { tree.old.given < 2 ^ 63 }
     ensures outcome { Carries tree.old call.now.desc (on_open tree.old call.now)
@@ -137,8 +137,8 @@ fn split<T: Stops>(tree: &mut Tree, alloc: Global, stops: &mut T, call: &Call) -
 
 // Reads from the file of a descriptor.
 fn read<T: Stops>(
-    tree: &mut Tree,
-    files: &Files,
+    tree: &mut FileTree,
+    files: &OpenFiles,
     alloc: Global,
     stops: &mut T,
     call: &Call,
@@ -165,8 +165,8 @@ fn read<T: Stops>(
 
 // Writes into the file of a descriptor.
 fn write<T: Stops>(
-    tree: &mut Tree,
-    files: &mut Files,
+    tree: &mut FileTree,
+    files: &mut OpenFiles,
     alloc: Global,
     stops: &mut T,
     call: &Call,
@@ -195,7 +195,7 @@ fn write<T: Stops>(
 }
 
 // Sets the place of a descriptor.
-fn seek<T: Stops>(tree: &mut Tree, alloc: Global, stops: &mut T, call: &Call) -> Outcome
+fn seek<T: Stops>(tree: &mut FileTree, alloc: Global, stops: &mut T, call: &Call) -> Outcome
     requires there { IsSome (entry_at tree.old.entries call.now.desc) }
     requires room { tree.old.given < 2 ^ 63 }
     ensures outcome { (f : IsOpenFile) → entry_at tree.old.entries call.now.desc ≡ Some f

@@ -17,11 +17,11 @@ use std::marker::Model;
 /// none, and has a path of at most 256 bytes. One is found, set and ended in time that grows with the logarithm of the
 /// open files, and its path told in that of its ancestors too.
 #[derive(Debug, Drop)]
-pub(crate) struct Tree {
+pub(crate) struct FileTree {
     files: Slots<OpenFile>,
 }
 
-impl Model for Tree {
+impl Model for FileTree {
     ghost use Rattle.sg_slots.specs.Slots.{Held};
     ghost use Rattle.sg_ramfs.specs.declared.open_file.OpenFile.{OpenFile as IsOpenFile};
     ghost use Rattle.sg_ramfs.specs.Inside.RamfsTree.{IsTree};
@@ -33,13 +33,13 @@ impl Model for Tree {
     ghost invariant = { λ t. IsTree t.files };
 }
 
-impl Tree {
+impl FileTree {
     /// No open file, and no id given. It takes no memory.
     pub(crate) fn new(alloc: Global) -> Self
         ensures entries { result.entries ≡ [] }
         ensures given { result.given ≡ 0 }
     {
-        Tree {
+        FileTree {
             files: Slots::new(alloc),
         }
     }
@@ -100,7 +100,7 @@ impl Tree {
             Outcome::NoMemory => Outcome::NoMemory,
             Outcome::Stopped => {
                 // A stop takes all that was held: nothing is known of the open files now, so none is kept.
-                *self = Tree::new(alloc);
+                *self = FileTree::new(alloc);
                 Outcome::Stopped
             }
         }

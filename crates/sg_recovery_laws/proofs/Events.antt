@@ -13,7 +13,7 @@ use Rattle.sg_hist.proofs.Growing.{places-more}
 use Rattle.sg_recovery_laws.proofs.Lists.{each_append, each_push, each_split}
 use Rattle.sg_recovery_laws.proofs.Same.{again, again_is}
 use Rattle.sg_hist.specs.Growing.{AreGrown, HasOneMore, IsGrown, booted, last_stop, noted, place_behind, struck}
-use Rattle.sg_hist.specs.Reading.{Place, behind, items_of, places_from, places_in}
+use Rattle.sg_hist.specs.Reading.{Position, behind, items_of, places_from, places_in}
 use Rattle.sg_hist.specs.Recovered.{AreStopped, AskedAs, IsLastIfStopped, IsRebooted, ends_stopped, is_stopped}
 
 -- ---- the place of the item that is noted last
@@ -27,20 +27,20 @@ no_behind older b [] item = refl
 no_behind older b (c ∷ boots) item = no_behind (older ++ b.items) c boots item
 
 -- what holds of each place, grown, and of the last, holds of all places
-carried : (item : Item) (P Q : Place → Type 0) (ps qs : List Place) → ((p q : Place) → IsGrown item p q → P p → Q q) → AreGrown item ps qs → Each P ps → Each Q qs
+carried : (item : Item) (P Q : Position → Type 0) (ps qs : List Position) → ((p q : Position) → IsGrown item p q → P p → Q q) → AreGrown item ps qs → Each P ps → Each Q qs
 carried item P Q [] [] so g all = tt
 carried item P Q [] (q ∷ qs) so g all = absurd g
 carried item P Q (p ∷ ps) [] so g all = absurd g
 carried item P Q (p ∷ ps) (q ∷ qs) so g all = (so p q g.0 all.0, carried item P Q ps qs so g.1 all.1)
 
-pub with_last : (item : Item) (last : Place) (P Q : Place → Type 0) (ps qs : List Place) → HasOneMore item last ps qs → ((p q : Place) → IsGrown item p q → P p → Q q)
+pub with_last : (item : Item) (last : Position) (P Q : Position → Type 0) (ps qs : List Position) → HasOneMore item last ps qs → ((p q : Position) → IsGrown item p q → P p → Q q)
     → Q last → Each P ps → Each Q qs
 with_last item last P Q ps qs more so one all =
     subst (Each Q) (sym more.are) (each_push Q more.grown last (carried item P Q ps more.grown so more.each all) one)
 
 -- ---- reboots
 
-asked_again : (facts : Facts) (ask : Table) (item : Item) (p q : Place) → IsGrown item p q → AskedAs facts ask p p.item.tag → AskedAs facts ask q q.item.tag
+asked_again : (facts : Facts) (ask : Table) (item : Item) (p q : Position) → IsGrown item p q → AskedAs facts ask p p.item.tag → AskedAs facts ask q q.item.tag
 asked_again facts ask item p q g asked =
     subst (λ v. AskedAs facts ask v v.item.tag) (again_is item p q g) (by p.item.tag asked)
   where
@@ -89,12 +89,12 @@ last_more : (older : List Item) (b : Boot) (boots : List Boot) (item : Item) →
     → Each (λ p. IsLastIfStopped p.rest p.item.outcome) (places_from older (b ∷ boots))
     → Each (λ p. IsLastIfStopped p.rest p.item.outcome) (places_from older (noted (b ∷ boots) item))
 last_more older b [] item running all =
-    let P : Place → Type 0 = λ p. IsLastIfStopped p.rest p.item.outcome in
+    let P : Position → Type 0 = λ p. IsLastIfStopped p.rest p.item.outcome in
     let before = each_split P (places_in older [] b.items []) [] all in
     each_append P (places_in older [] (b.items ++ item ∷ []) []) []
     (stops_to older [] (b.items ++ item ∷ []) [] (stops_more b.items item running (stops_from older [] b.items [] before.0))) tt
 last_more older b (c ∷ boots) item running all =
-    let P : Place → Type 0 = λ p. IsLastIfStopped p.rest p.item.outcome in
+    let P : Position → Type 0 = λ p. IsLastIfStopped p.rest p.item.outcome in
     let both = each_split P (places_in older [] b.items (items_of (c ∷ boots))) (places_from (older ++ b.items) (c ∷ boots)) all in
     each_append P (places_in older [] b.items (items_of (noted (c ∷ boots) item))) (places_from (older ++ b.items) (noted (c ∷ boots) item))
     (stops_to older [] b.items (items_of (noted (c ∷ boots) item)) (stops_from older [] b.items (items_of (c ∷ boots)) both.0))

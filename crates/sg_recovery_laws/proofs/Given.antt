@@ -18,7 +18,7 @@ use Rattle.sg_facts.specs.Facts.{Facts, fun_at, is_visible}
 use Rattle.sg_facts.specs.Trace.{Boot}
 use Rattle.sg_hist.specs.Growing.{IsSameFor, IsSameId}
 use Rattle.sg_recovery_laws.proofs.Lists.{each_append, each_push, each_split}
-use Rattle.sg_hist.specs.Reading.{Place, behind, desc_in, desc_of, id_given, is_by_guard, is_made, is_item_of, is_ok, is_tagged, items_of, made_by, names_at, names_in, pair_of, places_from, places_in}
+use Rattle.sg_hist.specs.Reading.{Position, behind, desc_in, desc_of, id_given, is_by_guard, is_made, is_item_of, is_ok, is_tagged, items_of, made_by, names_at, names_in, pair_of, places_from, places_in}
 use Rattle.sg_hist.specs.Recovered.{IsCommitted, is_clients, is_entered, is_replied, is_visible_reply}
 
 -- whether an entry has the number of a client's call
@@ -54,7 +54,7 @@ turned : (a n : Bool) (c s x y : ℕ) → a && ((c == x) && (s == y)) && n ≡ t
 turned a n c s x y e = grind (arith, nat_tests, e)
 
 -- what is committed is given
-pub committed_given : (facts : Facts) (h : List Entry) (p : Place) → IsCommitted facts h p → IsGiven facts h p.item
+pub committed_given : (facts : Facts) (h : List Entry) (p : Position) → IsCommitted facts h p → IsGiven facts h p.item
 committed_given facts h p committed = by (is_visible_reply facts p.item) committed
   where
     entry : (tag : Tag) → list_any (λ e. not (is_by_guard e.reply) && is_tagged e.call.client e.call.seq tag && not (list_any (is_item_of e) (behind p))) h ≡ true → HasEntry h tag

@@ -5,7 +5,7 @@ use Rattle.sg_base.specs.Lists.{Each}
 use Rattle.sg_facts.specs.declared.entry.Entry.{Entry}
 use Rattle.sg_facts.specs.declared.trace.Item.{Item}
 use Rattle.sg_facts.specs.Trace.{Boot, Run}
-use Rattle.sg_hist.specs.Reading.{Place, is_by_guard, is_item_of, item_of, items_of, places_from, places_in, places_of}
+use Rattle.sg_hist.specs.Reading.{Position, is_by_guard, is_item_of, item_of, items_of, places_from, places_in, places_of}
 use Rattle.sg_hist.specs.Recovered.{AreInBoots, boot_start, start_of}
 use Rattle.sg_hist.specs.Growing.{IsGrown, IsInLast, IsOfNoEntry, booted, last_items, noted, older_items, place_behind, struck}
 use Rattle.sg_recovery_laws.proofs.Events.{own_item}
@@ -34,7 +34,7 @@ place_is before b (c ∷ boots) item = place_is (before ++ b.items) c boots item
 
 -- ---- no item stands behind more boots than those of the last
 
-abbrev IsBehind : ℕ → Place → Type 0
+abbrev IsBehind : ℕ → Position → Type 0
 IsBehind most p = length p.older ≤ most
 
 each_in : (most : ℕ) (older front items newer : List Item) → length older ≤ most → Each (IsBehind most) (places_in older front items newer)
@@ -54,7 +54,7 @@ each_behind before (b ∷ c ∷ boots) =
     each_append (IsBehind most) (places_in before [] b.items (items_of (c ∷ boots))) (places_from (before ++ b.items) (c ∷ boots))
     (each_in most before [] b.items (items_of (c ∷ boots)) (grows before (b ∷ c ∷ boots))) (each_behind (before ++ b.items) (c ∷ boots))
 
-no_later : (run : Run) (e : Entry) (p : Place) → item_of run e ≡ Some p → length p.older ≤ length (older_items [] run.boots)
+no_later : (run : Run) (e : Entry) (p : Position) → item_of run e ≡ Some p → length p.older ≤ length (older_items [] run.boots)
 no_later run e p is =
     let most = length (older_items [] run.boots) in
     subst (Has (IsBehind most)) is
@@ -76,7 +76,7 @@ boots_appended run h e served last all = from 0 h (omega arith) all
     from low [] le all = (subst (λ n. low ≤ n) (sym (starts low)) le, tt)
     from low (x ∷ h) le all = (all.0, from (start_of run x low) h (by (is_by_guard x.reply) (item_of run x) refl) all.1)
       where
-        by : (g : Bool) (o : Option Place) → item_of run x ≡ o → cond g low (boot_start o low) ≤ top
+        by : (g : Bool) (o : Option Position) → item_of run x ≡ o → cond g low (boot_start o low) ≤ top
         by true o is = le
         by false None is = le
         by false (Some p) is = no_later run x p is
@@ -108,7 +108,7 @@ boots_noted b boots points later item h none all = stays run now h 0 (each h non
     now : Run
     now = record { boots = noted (b ∷ boots) item; points = later }
 
-    grown : (o o' : Option Place) (n : ℕ) → IsGrownTo item o o' → boot_start o' n ≡ boot_start o n
+    grown : (o o' : Option Position) (n : ℕ) → IsGrownTo item o o' → boot_start o' n ≡ boot_start o n
     grown None None n g = refl
     grown (Some p) (Some q) n g = ap length g.older
     grown None (Some q) n g = absurd g
@@ -159,6 +159,6 @@ still_last b boots points later item e none last =
     now : Run
     now = record { boots = noted (b ∷ boots) item; points = later }
 
-    by : (o : Option Place) → item_of now e ≡ o → IsGrownTo item (Some last.place) o → IsInLast now e
+    by : (o : Option Position) → item_of now e ≡ o → IsGrownTo item (Some last.place) o → IsInLast now e
     by None is g = absurd g
     by (Some q) is g = record { place = q; its = is; older = g.older ∙ last.older ∙ sym (older_noted [] b boots item) }

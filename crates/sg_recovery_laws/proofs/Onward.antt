@@ -20,7 +20,7 @@ use Rattle.sg_recovery_laws.proofs.Same.{IsSame, again_is, demanded_same, tracke
 use Rattle.sg_recovery_laws.proofs.Served.{IsNamed, committed_stay, entered_later, item_of-own, items_stay, committed_later, has_same, order_push, order_stays}
 use Rattle.sg_recovery_laws.proofs.Stays.{same_committed, same_held, same_noted, same_refused}
 use Rattle.sg_hist.specs.Growing.{AreKept, HasOneMore, IsGrown, IsHeldReply, IsItemOf, IsLastCall, IsNextItem, IsRecovering, IsSettled, IsOfNoEntry, booted, last_stop, noted, place_behind, struck, IsSameId}
-use Rattle.sg_hist.specs.Reading.{Place, behind, is_by_guard, is_item_of, item_of, items_of, past, places_from, places_in, places_of, stands_before}
+use Rattle.sg_hist.specs.Reading.{Position, behind, is_by_guard, is_item_of, item_of, items_of, past, places_from, places_in, places_of, stands_before}
 use Rattle.sg_hist.specs.Recovered.{AreInOrder, AreStopped, ComeBefore, HasItem, GivesEntry, IsCommitted, AskedAs, IsAdmitted, IsDemanded, IsItsCall, IsLastIfStopped, IsTrackedAt, IsUnderWay, IsWalked, Stubs, is_entered, is_visible_reply}
 
 -- ---- calls
@@ -31,7 +31,7 @@ its_kept h u h' u' shown kept (Client client seq) its = (record { its = its.0.it
 its_kept h u h' u' shown kept (Walk id k client) its = tt
 its_kept h u h' u' shown kept (Load key client) its = tt
 
-its_again : (h : List Entry) (u : List Call) (h' : List Entry) (u' : List Call) (item : Item) (p q : Place) → AreKept h u h' u' → IsGrown item p q
+its_again : (h : List Entry) (u : List Call) (h' : List Entry) (u' : List Call) (item : Item) (p q : Position) → AreKept h u h' u' → IsGrown item p q
     → IsItsCall h u p.item.shown p.item.tag → IsItsCall h' u' q.item.shown q.item.tag
 its_again h u h' u' item p q kept g its = subst (λ i. IsItsCall h' u' i.shown i.tag) (sym g.own) (its_kept h u h' u' p.item.shown kept p.item.tag its)
 
@@ -42,14 +42,14 @@ pub noted_stays : (s : Stubs) (h : List Entry) (b : Boot) (boots : List Boot) (p
     → IsRecovering s h (record { boots = b ∷ boots; points = points }) u
     → IsRecovering s h (record { boots = noted (b ∷ boots) item; points = later }) u'
 noted_stays s h b boots points later u u' item none hidden kept next r =
-    let last : Place = place_behind [] (b ∷ boots) item in
-    let before : List Place = places_from [] (b ∷ boots) in
-    let now : List Place = places_from [] (noted (b ∷ boots) item) in
+    let last : Position = place_behind [] (b ∷ boots) item in
+    let before : List Position = places_from [] (b ∷ boots) in
+    let now : List Position = places_from [] (noted (b ∷ boots) item) in
     let more : HasOneMore item last before now = places-more [] b boots item in
     let own : last.item ≡ item = own_item [] b boots item in
     let old : Run = record { boots = b ∷ boots; points = points } in
     let new : Run = record { boots = noted (b ∷ boots) item; points = later } in
-    let same : (p q : Place) → IsGrown item p q → IsSame s.interface.facts s.walks h u h u' p q.rest q.newer
+    let same : (p q : Position) → IsGrown item p q → IsSame s.interface.facts s.walks h u h u' p q.rest q.newer
     = λ p q g. same_noted s.interface.facts s.walks h u u' item p q.rest q.newer none g.behind_it kept in
     record {
       reboots = reboots_noted s.interface.facts s.ask b boots points later item next.running next.table r.reboots;
@@ -73,7 +73,7 @@ noted_stays s h b boots points later u u' item none hidden kept next r =
           next.settled.state r.tracked_state;
     }
   where
-    all_named : (ps : List Place) → Each (IsNamed s.interface.facts h h) ps
+    all_named : (ps : List Position) → Each (IsNamed s.interface.facts h h) ps
     all_named [] = tt
     all_named (p ∷ ps) = (refl, all_named ps)
 
@@ -92,11 +92,11 @@ any_places e older (b ∷ boots) =
     ∙ ap (λ v. list_any (is_item_of e) b.items || v) (any_places e (older ++ b.items) boots)
     ∙ sym (list_any-append (is_item_of e) b.items (items_of boots))
 
-abbrev IsFound : Option Place → Type 0
+abbrev IsFound : Option Position → Type 0
 IsFound None = ⊥
 IsFound (Some p) = Unit {0}
 
-found_any : (test : Place → Bool) (ps : List Place) → IsFound (find test ps) → list_any test ps ≡ true
+found_any : (test : Position → Bool) (ps : List Position) → IsFound (find test ps) → list_any test ps ≡ true
 found_any test [] found = absurd found
 found_any test (p ∷ ps) found = by (found_any test ps) (test p) found
   where
@@ -104,14 +104,14 @@ found_any test (p ∷ ps) found = by (found_any test ps) (test p) found
     by rest true found = refl
     by rest false found = rest found
 
-was_found : (facts : Facts) (h : List Entry) (e : Entry) (o : Option Place) → GivesEntry facts h e o → IsFound o
+was_found : (facts : Facts) (h : List Entry) (e : Entry) (o : Option Position) → GivesEntry facts h e o → IsFound o
 was_found facts h e None a = a
 was_found facts h e (Some p) a = tt
 
 has_any : (facts : Facts) (h : List Entry) (b : Boot) (boots : List Boot) (points : ℕ) (e : Entry)
     → GivesEntry facts h e (item_of (record { boots = b ∷ boots; points = points }) e) → list_any (is_item_of e) (items_of (b ∷ boots)) ≡ true
 has_any facts h b boots points e a =
-    let ps : List Place = places_from [] (b ∷ boots) in
+    let ps : List Position = places_from [] (b ∷ boots) in
     sym (any_places e [] (b ∷ boots)) ∙ list_any-IsPermutation (λ p. is_item_of e p.item) ps (reverse ps) (IsPermutation-reverse ps)
     ∙ found_any (λ p. is_item_of e p.item) (reverse ps) (was_found facts h e (find (λ p. is_item_of e p.item) (reverse ps)) a)
 
@@ -119,11 +119,11 @@ come_last : (facts : Facts) (h : List Entry) (b : Boot) (boots : List Boot) (poi
     → Each (HasItem facts h (record { boots = b ∷ boots; points = points })) es → ComeBefore es (Some (place_behind [] (b ∷ boots) item))
 come_last facts h b boots points item [] none has = refl
 come_last facts h b boots points item (e ∷ es) none has =
-    let last : Place = place_behind [] (b ∷ boots) item in
+    let last : Position = place_behind [] (b ∷ boots) item in
     let one : is_by_guard e.reply || stands_before last e ≡ true = by (is_by_guard e.reply) has.0 in
     ap (λ v. v && list_all (λ x. is_by_guard x.reply || stands_before last x) es) one ∙ come_last facts h b boots points item es none.1 has.1
   where
-    last_of : Place
+    last_of : Position
     last_of = place_behind [] (b ∷ boots) item
 
     none_at : is_item_of e last_of.item || list_any (is_item_of e) (behind last_of) ≡ false
@@ -143,9 +143,9 @@ pub committed_stays : (s : Stubs) (h : List Entry) (b : Boot) (boots : List Boot
     → IsRecovering s h (record { boots = b ∷ boots; points = points }) u
     → IsRecovering s (h ++ e ∷ []) (record { boots = noted (b ∷ boots) item; points = later }) u'
 committed_stays s h b boots points later u u' item e none of_it last_call kept next r =
-    let last : Place = place_behind [] (b ∷ boots) item in
-    let before : List Place = places_from [] (b ∷ boots) in
-    let now : List Place = places_from [] (noted (b ∷ boots) item) in
+    let last : Position = place_behind [] (b ∷ boots) item in
+    let before : List Position = places_from [] (b ∷ boots) in
+    let now : List Position = places_from [] (noted (b ∷ boots) item) in
     let more : HasOneMore item last before now = places-more [] b boots item in
     let own : last.item ≡ item = own_item [] b boots item in
     let h' : List Entry = h ++ e ∷ [] in
@@ -154,7 +154,7 @@ committed_stays s h b boots points later u u' item e none of_it last_call kept n
     let tagged : is_item_of e item ≡ true = ap (is_item_of e) (sym own) ∙ of_it.tagged in
     let given : Each (λ p. IsGiven s.interface.facts h p.item) before = each_map (IsCommitted s.interface.facts h) (λ p. IsGiven s.interface.facts h p.item) before (committed_given s.interface.facts h) r.served.committed in
     let fronts : Each (λ p. Each (IsGiven s.interface.facts h) p.front) before = each_front (IsGiven s.interface.facts h) [] (b ∷ boots) given in
-    let same : (p q : Place) → IsGrown item p q → Each (IsGiven s.interface.facts h) p.front → IsSame s.interface.facts s.walks h u h' u' p q.rest q.newer
+    let same : (p q : Position) → IsGrown item p q → Each (IsGiven s.interface.facts h) p.front → IsSame s.interface.facts s.walks h u h' u' p q.rest q.newer
     = λ p q g ids. same_committed s.interface.facts s.walks h u u' e item p q.rest q.newer none tagged g.behind_it kept last_call ids in
     let its : item_of new e ≡ Some last = item_of-own item e last old new more own tagged in
     record {
@@ -183,7 +183,7 @@ committed_stays s h b boots points later u u' item e none of_it last_call kept n
           next.settled.state (each_both (λ p. Each (IsGiven s.interface.facts h) p.front) (λ p. IsTrackedAt s.interface.facts s.walks h p p.item.tag) before fronts r.tracked_state);
     }
   where
-    named : (p : Place) → Each (IsGiven s.interface.facts h) p.front × IsGiven s.interface.facts h p.item → IsNamed s.interface.facts h (h ++ e ∷ []) p
+    named : (p : Position) → Each (IsGiven s.interface.facts h) p.front × IsGiven s.interface.facts h p.item → IsNamed s.interface.facts h (h ++ e ∷ []) p
     named p both = names_same s.interface.facts h (h ++ e ∷ []) (p.front ++ p.item ∷ [])
         (each_map (IsGiven s.interface.facts h) (IsSameId s.interface.facts h (h ++ e ∷ [])) (p.front ++ p.item ∷ []) (given_same s.interface.facts h e) (each_push (IsGiven s.interface.facts h) p.front p.item both.0 both.1))
 
@@ -195,7 +195,7 @@ committed_stays s h b boots points later u u' item e none of_it last_call kept n
     either true = refl
     either false = refl
 
-    last_entered : (last : Place) → is_item_of e last.item ≡ true → behind last ≡ [] → IsCommitted s.interface.facts (h ++ e ∷ []) last
+    last_entered : (last : Position) → is_item_of e last.item ≡ true → behind last ≡ [] → IsCommitted s.interface.facts (h ++ e ∷ []) last
     last_entered last tagged nothing =
         let own : not (is_by_guard e.reply) && is_item_of e last.item && not (list_any (is_item_of e) (behind last)) ≡ true
         = ap (λ v. not v && is_item_of e last.item && not (list_any (is_item_of e) (behind last))) of_it.served
@@ -207,7 +207,7 @@ committed_stays s h b boots points later u u' item e none of_it last_call kept n
 -- ---- a refusal by the guard
 
 -- each item's names stay with a refusal by the guard
-named_refused : (facts : Facts) (h : List Entry) (e : Entry) → is_by_guard e.reply ≡ true → (ps : List Place) → Each (IsNamed facts h (h ++ e ∷ [])) ps
+named_refused : (facts : Facts) (h : List Entry) (e : Entry) → is_by_guard e.reply ≡ true → (ps : List Position) → Each (IsNamed facts h (h ++ e ∷ [])) ps
 named_refused facts h e guards [] = tt
 named_refused facts h e guards (p ∷ ps) = (names_same facts h (h ++ e ∷ []) (p.front ++ p.item ∷ []) (all (p.front ++ p.item ∷ [])), named_refused facts h e guards ps)
   where
@@ -219,7 +219,7 @@ pub refused_stays : (s : Stubs) (h : List Entry) (run : Run) (u u' : List Call) 
     → IsRecovering s h run u → IsRecovering s (h ++ e ∷ []) run u'
 refused_stays s h run u u' e guards kept r =
     let h' : List Entry = h ++ e ∷ [] in
-    let same : (p : Place) → IsSame s.interface.facts s.walks h u h' u' p p.rest p.newer = λ p. same_refused s.interface.facts s.walks h u u' e p guards kept in
+    let same : (p : Position) → IsSame s.interface.facts s.walks h u h' u' p p.rest p.newer = λ p. same_refused s.interface.facts s.walks h u u' e p guards kept in
     record {
       reboots = r.reboots;
       served = record {
@@ -238,7 +238,7 @@ refused_stays s h run u u' e guards kept r =
           (λ p w. tracked_same s.interface.facts s.walks h u h' u' p p.rest p.newer (same p) w) r.tracked_state;
     }
   where
-    later : (p : Place) → IsCommitted s.interface.facts h p → IsCommitted s.interface.facts (h ++ e ∷ []) p
+    later : (p : Position) → IsCommitted s.interface.facts h p → IsCommitted s.interface.facts (h ++ e ∷ []) p
     later p c = by (is_visible_reply s.interface.facts p.item) c
       where
         by : (b : Bool) → When b (is_entered h p ≡ true) → When b (is_entered (h ++ e ∷ []) p ≡ true)
@@ -252,7 +252,7 @@ refused_stays s h run u u' e guards kept r =
 -- ---- a held reply that is committed
 
 -- the names stay with an entry more, where what gives a name belongs to an entry
-given_named : (facts : Facts) (h : List Entry) (e : Entry) (p : Place) → Each (IsGiven facts h) p.front × IsGiven facts h p.item → IsNamed facts h (h ++ e ∷ []) p
+given_named : (facts : Facts) (h : List Entry) (e : Entry) (p : Position) → Each (IsGiven facts h) p.front × IsGiven facts h p.item → IsNamed facts h (h ++ e ∷ []) p
 given_named facts h e p both = names_same facts h (h ++ e ∷ []) (p.front ++ p.item ∷ [])
     (each_map (IsGiven facts h) (IsSameId facts h (h ++ e ∷ [])) (p.front ++ p.item ∷ []) (given_same facts h e) (each_push (IsGiven facts h) p.front p.item both.0 both.1))
 
@@ -260,7 +260,7 @@ pub held_stays : (s : Stubs) (h : List Entry) (run : Run) (u u' : List Call) (e 
     → Each (λ p. stands_before p e ≡ true → IsSettled s (h ++ e ∷ []) u' p) (places_of run) → IsRecovering s h run u → IsRecovering s (h ++ e ∷ []) run u'
 held_stays s h run u u' e held last kept behind_it r =
     let h' : List Entry = h ++ e ∷ [] in
-    let ps : List Place = places_of run in
+    let ps : List Position = places_of run in
     let given : Each (λ p. IsGiven s.interface.facts h p.item) ps = each_map (IsCommitted s.interface.facts h) (λ p. IsGiven s.interface.facts h p.item) ps (committed_given s.interface.facts h) r.served.committed in
     let fronts : Each (λ p. Each (IsGiven s.interface.facts h) p.front) ps = each_front (IsGiven s.interface.facts h) [] run.boots given in
     let named : Each (IsNamed s.interface.facts h h') ps = each_map (λ p. Each (IsGiven s.interface.facts h) p.front × IsGiven s.interface.facts h p.item) (IsNamed s.interface.facts h h') ps (given_named s.interface.facts h e)
@@ -286,12 +286,12 @@ held_stays s h run u u' e held last kept behind_it r =
       tracked_state = each_map (λ p. IsSettled s h' u' p) (λ p. IsTrackedAt s.interface.facts s.walks h' p p.item.tag) ps (λ p is. is.state) now;
     }
   where
-    settled_each : (ps : List Place) → Each (λ p. IsWalked s.interface.facts s.walks h p p.item.tag) ps → Each (λ p. IsDemanded s.interface s.walks h u p p.item.tag) ps
+    settled_each : (ps : List Position) → Each (λ p. IsWalked s.interface.facts s.walks h p p.item.tag) ps → Each (λ p. IsDemanded s.interface s.walks h u p p.item.tag) ps
         → Each (λ p. IsTrackedAt s.interface.facts s.walks h p p.item.tag) ps → Each (λ p. IsSettled s h u p) ps
     settled_each [] walks demands states = tt
     settled_each (p ∷ ps) walks demands states = (record { walk = walks.0; demand = demands.0; state = states.0 }, settled_each ps walks.1 demands.1 states.1)
 
-    settled : (p : Place) → (stands_before p e ≡ true → IsSettled s (h ++ e ∷ []) u' p) × (Each (IsGiven s.interface.facts h) p.front × IsSettled s h u p) → IsSettled s (h ++ e ∷ []) u' p
+    settled : (p : Position) → (stands_before p e ≡ true → IsSettled s (h ++ e ∷ []) u' p) × (Each (IsGiven s.interface.facts h) p.front × IsSettled s h u p) → IsSettled s (h ++ e ∷ []) u' p
     settled p has = by (stands_before p e) refl
       where
         by : (b : Bool) → stands_before p e ≡ b → IsSettled s (h ++ e ∷ []) u' p
@@ -322,13 +322,13 @@ made_stays s h run u u' kept r = record {
   tracked_state = r.tracked_state;
 }
   where
-    under : (p : Place) (client : ℕ) (call : Call) → IsUnderWay h u p client call → IsUnderWay h u' p client call
+    under : (p : Position) (client : ℕ) (call : Call) → IsUnderWay h u p client call → IsUnderWay h u' p client call
     under p client call w = record { its = record { its = w.its.its; made = kept call w.its.made }; above = w.above; first = w.first }
 
-    admitted : (p : Place) (client : ℕ) (call : Call) → IsAdmitted s.interface h u p client call → IsAdmitted s.interface h u' p client call
+    admitted : (p : Position) (client : ℕ) (call : Call) → IsAdmitted s.interface h u p client call → IsAdmitted s.interface h u' p client call
     admitted p client call a = record { under_way = under p client call a.under_way; guarded = a.guarded }
 
-    demanded : (p : Place) → IsDemanded s.interface s.walks h u p p.item.tag → IsDemanded s.interface s.walks h u' p p.item.tag
+    demanded : (p : Position) → IsDemanded s.interface s.walks h u p p.item.tag → IsDemanded s.interface s.walks h u' p p.item.tag
     demanded p d = by p.item.tag d
       where
         by : (tag : Tag) → IsDemanded s.interface s.walks h u p tag → IsDemanded s.interface s.walks h u' p tag

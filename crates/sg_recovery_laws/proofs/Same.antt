@@ -18,7 +18,7 @@ use Rattle.sg_facts.specs.Needs.{is_needed, needs}
 use Rattle.sg_facts.specs.Object.{object_of}
 use Rattle.sg_facts.specs.Track.{row_at}
 use Rattle.sg_hist.specs.Growing.{AreGrown, IsGrown}
-use Rattle.sg_hist.specs.Reading.{Place, entries_before, ends_walk, has_length, is_made, is_ok, is_rebuilt_at, is_whole_at, names_at, object_before, value_at, walk_in}
+use Rattle.sg_hist.specs.Reading.{Position, entries_before, ends_walk, has_length, is_made, is_ok, is_rebuilt_at, is_whole_at, names_at, object_before, value_at, walk_in}
 use Rattle.sg_hist.specs.Recovered.{IsAdmitted, IsAlikeTo, IsCallOfRow, IsDemanded, IsLoad, IsTracked, IsTrackedAt, IsUnderWay, IsWalked}
 
 -- ---- lists
@@ -38,26 +38,26 @@ find_same f g (x ∷ xs) same = ap (λ b. cond b (Some x) (find f xs)) (same x) 
 -- ---- places
 
 -- a place with other items behind it
-abbrev pub again : Place → List Item → List Item → Place
+abbrev pub again : Position → List Item → List Item → Position
 again p r n = record { older = p.older; front = p.front; item = p.item; rest = r; newer = n }
 
 -- a place that has grown is such a one
-pub again_is : (item : Item) (p q : Place) → IsGrown item p q → again p q.rest q.newer ≡ q
+pub again_is : (item : Item) (p q : Position) → IsGrown item p q → again p q.rest q.newer ≡ q
 again_is item p q g =
     ap (λ v. place v p.front p.item) (sym g.older) ∙ ap (λ v. place q.older v p.item) (sym g.front) ∙ ap (λ v. place q.older q.front v) (sym g.own)
   where
-    place : List Item → List Item → Item → Place
+    place : List Item → List Item → Item → Position
     place older front i = record { older = older; front = front; item = i; rest = q.rest; newer = q.newer }
 
 -- what an item rests on is the same in two histories, with other items behind it
-pub record IsSame (facts : Facts) (walks : List WalkLine) (h : List Entry) (u : List Call) (h' : List Entry) (u' : List Call) (p : Place) (r n : List Item) : Type 0 where
+pub record IsSame (facts : Facts) (walks : List WalkLine) (h : List Entry) (u : List Call) (h' : List Entry) (u' : List Call) (p : Position) (r n : List Item) : Type 0 where
   pub object : object_before facts h' (again p r n) ≡ object_before facts h p
   pub names : names_at facts h' p.front ≡ names_at facts h p.front
   pub made : (id : ℕ) → list_any (is_made facts h' id) p.front ≡ list_any (is_made facts h id) p.front
   pub whole : (id : ℕ) → is_whole_at facts walks h' (again p r n) id ≡ is_whole_at facts walks h p id
   pub under_way : (client : ℕ) (call : Call) → IsUnderWay h u p client call → IsUnderWay h' u' (again p r n) client call
 
-pub walked_same : (facts : Facts) (walks : List WalkLine) (h : List Entry) (u : List Call) (h' : List Entry) (u' : List Call) (p : Place) (r n : List Item)
+pub walked_same : (facts : Facts) (walks : List WalkLine) (h : List Entry) (u : List Call) (h' : List Entry) (u' : List Call) (p : Position) (r n : List Item)
     → IsSame facts walks h u h' u' p r n → IsWalked facts walks h p p.item.tag → IsWalked facts walks h' (again p r n) p.item.tag
 walked_same facts walks h u h' u' p r n same w = by p.item.tag w
   where
@@ -78,7 +78,7 @@ walked_same facts walks h u h' u' p r n same w = by p.item.tag w
     by (Load key client) w = tt
     by (Client client seq) w = tt
 
-pub demanded_same : (i : Declared) (walks : List WalkLine) (h : List Entry) (u : List Call) (h' : List Entry) (u' : List Call) (p : Place) (r n : List Item)
+pub demanded_same : (i : Declared) (walks : List WalkLine) (h : List Entry) (u : List Call) (h' : List Entry) (u' : List Call) (p : Position) (r n : List Item)
     → IsSame i.facts walks h u h' u' p r n → IsDemanded i walks h u p p.item.tag → IsDemanded i walks h' u' (again p r n) p.item.tag
 demanded_same i walks h u h' u' p r n same d = by p.item.tag d
   where
@@ -107,7 +107,7 @@ demanded_same i walks h u h' u' p r n same d = by p.item.tag d
     }
     by (Client client seq) d = admitted client p.item.shown d
 
-pub tracked_same : (facts : Facts) (walks : List WalkLine) (h : List Entry) (u : List Call) (h' : List Entry) (u' : List Call) (p : Place) (r n : List Item)
+pub tracked_same : (facts : Facts) (walks : List WalkLine) (h : List Entry) (u : List Call) (h' : List Entry) (u' : List Call) (p : Position) (r n : List Item)
     → IsSame facts walks h u h' u' p r n → IsTrackedAt facts walks h p p.item.tag → IsTrackedAt facts walks h' (again p r n) p.item.tag
 tracked_same facts walks h u h' u' p r n same t = by p.item.tag t
   where
@@ -130,7 +130,7 @@ tracked_same facts walks h u h' u' p r n same t = by p.item.tag t
 
 -- ---- what is whole
 
-pub rebuilt_again : (facts : Facts) (walks : List WalkLine) (h h' : List Entry) (id : ℕ) (p : Place) (r n : List Item)
+pub rebuilt_again : (facts : Facts) (walks : List WalkLine) (h h' : List Entry) (id : ℕ) (p : Position) (r n : List Item)
     → object_before facts h' (again p r n) ≡ object_before facts h p → is_rebuilt_at facts walks h' id (again p r n) ≡ is_rebuilt_at facts walks h id p
 rebuilt_again facts walks h h' id p r n same = ap (λ b. is_ok p.item.outcome && b) (by p.item.tag)
   where
@@ -140,8 +140,8 @@ rebuilt_again facts walks h h' id p r n same = ap (λ b. is_ok p.item.outcome &&
     by (Client client seq) = refl
 
 -- what was rebuilt at places that have grown was so before
-pub any_rebuilt : (facts : Facts) (walks : List WalkLine) (h h' : List Entry) (id : ℕ) (item : Item) (ps qs : List Place)
-    → ((p q : Place) → IsGrown item p q → entries_before h' q ≡ entries_before h p) → AreGrown item ps qs
+pub any_rebuilt : (facts : Facts) (walks : List WalkLine) (h h' : List Entry) (id : ℕ) (item : Item) (ps qs : List Position)
+    → ((p q : Position) → IsGrown item p q → entries_before h' q ≡ entries_before h p) → AreGrown item ps qs
     → list_any (is_rebuilt_at facts walks h' id) qs ≡ list_any (is_rebuilt_at facts walks h id) ps
 any_rebuilt facts walks h h' id item [] [] same grown = refl
 any_rebuilt facts walks h h' id item [] (q ∷ qs) same grown = absurd grown

@@ -13,7 +13,7 @@ use Rattle.sg_hist.proofs.Growing.{both_grown}
 use Rattle.sg_recovery_laws.proofs.Lists.{each_push}
 use Rattle.sg_recovery_laws.proofs.Stays.{stands_each}
 use Rattle.sg_hist.specs.Growing.{AreGrown, HasOneMore, IsGrown, IsOfNoEntry}
-use Rattle.sg_hist.specs.Reading.{Place, behind, is_by_guard, is_item_of, item_of, names_at, places_of, stands_before}
+use Rattle.sg_hist.specs.Reading.{Position, behind, is_by_guard, is_item_of, item_of, names_at, places_of, stands_before}
 use Rattle.sg_hist.specs.Recovered.{AreInOrder, ComeBefore, HasItem, GivesEntry, IsCommitted, IsReplyOf, is_entered, is_visible_reply}
 
 -- ---- lists from behind
@@ -26,7 +26,7 @@ pub each_reverse : {A : Type 0} (P : A → Type 0) (xs : List A) → Each P xs �
 each_reverse P [] all = tt
 each_reverse P (x ∷ xs) all = subst (Each P) (sym (reverse_onto xs x [])) (each_push P (reverse xs) x (each_reverse P xs all.1) all.0)
 
-reverse_grown : (item : Item) (ps qs : List Place) → AreGrown item ps qs → AreGrown item (reverse ps) (reverse qs)
+reverse_grown : (item : Item) (ps qs : List Position) → AreGrown item ps qs → AreGrown item (reverse ps) (reverse qs)
 reverse_grown item [] [] g = tt
 reverse_grown item [] (q ∷ qs) g = absurd g
 reverse_grown item (p ∷ ps) [] g = absurd g
@@ -38,11 +38,11 @@ reverse_grown item (p ∷ ps) (q ∷ qs) g =
 -- ---- items of entries
 
 -- the place of an entry's item, where there is one, has a property
-abbrev pub Has : (Place → Type 0) → Option Place → Type 0
+abbrev pub Has : (Position → Type 0) → Option Position → Type 0
 Has P None = Unit {0}
 Has P (Some p) = P p
 
-pub found_has : (P : Place → Type 0) (test : Place → Bool) (ps : List Place) → Each P ps → Has P (find test ps)
+pub found_has : (P : Position → Type 0) (test : Position → Bool) (ps : List Position) → Each P ps → Has P (find test ps)
 found_has P test [] all = tt
 found_has P test (p ∷ ps) all = by (found_has P test ps all.1) (test p)
   where
@@ -51,13 +51,13 @@ found_has P test (p ∷ ps) all = by (found_has P test ps all.1) (test p)
     by rest false = rest
 
 -- it grew, or there is none
-abbrev pub IsGrownTo : Item → Option Place → Option Place → Type 0
+abbrev pub IsGrownTo : Item → Option Position → Option Position → Type 0
 IsGrownTo item None None = Unit {0}
 IsGrownTo item (Some p) (Some q) = IsGrown item p q
 IsGrownTo item None (Some q) = ⊥
 IsGrownTo item (Some p) None = ⊥
 
-found_grown : (item : Item) (e : Entry) (ps qs : List Place) → AreGrown item ps qs → IsGrownTo item (find (λ p. is_item_of e p.item) ps) (find (λ p. is_item_of e p.item) qs)
+found_grown : (item : Item) (e : Entry) (ps qs : List Position) → AreGrown item ps qs → IsGrownTo item (find (λ p. is_item_of e p.item) ps) (find (λ p. is_item_of e p.item) qs)
 found_grown item e [] [] g = tt
 found_grown item e [] (q ∷ qs) g = absurd g
 found_grown item e (p ∷ ps) [] g = absurd g
@@ -71,11 +71,11 @@ found_grown item e (p ∷ ps) (q ∷ qs) g =
     by rest false = rest
 
 -- of places one of which was added behind, the item of an entry is the last one's, or it is where it was
-find_last : (e : Entry) (grown : List Place) (last : Place) → find (λ p. is_item_of e p.item) (reverse (grown ++ last ∷ []))
+find_last : (e : Entry) (grown : List Position) (last : Position) → find (λ p. is_item_of e p.item) (reverse (grown ++ last ∷ []))
     ≡ cond (is_item_of e last.item) (Some last) (find (λ p. is_item_of e p.item) (reverse grown))
 find_last e grown last = ap (find (λ p. is_item_of e p.item)) (reverse_push grown last)
 
-pub item_of-more : (item : Item) (e : Entry) (last : Place) (run later : Run) → HasOneMore item last (places_of run) (places_of later) → last.item ≡ item
+pub item_of-more : (item : Item) (e : Entry) (last : Position) (run later : Run) → HasOneMore item last (places_of run) (places_of later) → last.item ≡ item
     → is_item_of e item ≡ false → IsGrownTo item (item_of run e) (item_of later e)
 item_of-more item e last run later more own none =
     let is : item_of later e ≡ find (λ p. is_item_of e p.item) (reverse more.grown)
@@ -84,7 +84,7 @@ item_of-more item e last run later more own none =
     subst (IsGrownTo item (item_of run e)) (sym is)
     (found_grown item e (reverse (places_of run)) (reverse more.grown) (reverse_grown item (places_of run) more.grown more.each))
 
-pub item_of-own : (item : Item) (e : Entry) (last : Place) (run later : Run) → HasOneMore item last (places_of run) (places_of later) → last.item ≡ item
+pub item_of-own : (item : Item) (e : Entry) (last : Position) (run later : Run) → HasOneMore item last (places_of run) (places_of later) → last.item ≡ item
     → is_item_of e item ≡ true → item_of later e ≡ Some last
 item_of-own item e last run later more own one =
     ap (λ ps. find (λ p. is_item_of e p.item) (reverse ps)) more.are ∙ find_last e more.grown last
@@ -93,7 +93,7 @@ item_of-own item e last run later more own one =
 -- ---- entries have their items
 
 -- the names behind a place are the same in two histories
-abbrev pub IsNamed : Facts → List Entry → List Entry → Place → Type 0
+abbrev pub IsNamed : Facts → List Entry → List Entry → Position → Type 0
 IsNamed facts h h' p = names_at facts h' (p.front ++ p.item ∷ []) ≡ names_at facts h (p.front ++ p.item ∷ [])
 
 -- an entry keeps its item
@@ -101,7 +101,7 @@ has_item : (facts : Facts) (h h' : List Entry) (item : Item) (e : Entry) (run la
     → Has (IsNamed facts h h') (item_of run e) → HasItem facts h run e → HasItem facts h' later e
 has_item facts h h' item e run later grown named has = by (not (is_by_guard e.reply)) has
   where
-    at : (p q : Option Place) → IsGrownTo item p q → Has (IsNamed facts h h') p → GivesEntry facts h e p → GivesEntry facts h' e q
+    at : (p q : Option Position) → IsGrownTo item p q → Has (IsNamed facts h h') p → GivesEntry facts h e p → GivesEntry facts h' e q
     at None None g named a = a
     at None (Some q) g named a = absurd g
     at (Some p) None g named a = absurd g
@@ -116,7 +116,7 @@ has_item facts h h' item e run later grown named has = by (not (is_by_guard e.re
     by true a = at (item_of run e) (item_of later e) grown named a
     by false a = tt
 
-pub items_stay : (facts : Facts) (h h' : List Entry) (item : Item) (last : Place) (run later : Run) (es : List Entry)
+pub items_stay : (facts : Facts) (h h' : List Entry) (item : Item) (last : Position) (run later : Run) (es : List Entry)
     → HasOneMore item last (places_of run) (places_of later) → last.item ≡ item → IsOfNoEntry item es → Each (IsNamed facts h h') (places_of run)
     → Each (HasItem facts h run) es → Each (HasItem facts h' later) es
 items_stay facts h h' item last run later [] more own none named has = tt
@@ -131,7 +131,7 @@ pub has_same : (facts : Facts) (h h' : List Entry) (run : Run) → Each (IsNamed
 has_same facts h h' run named e has =
     by (found_has (IsNamed facts h h') (λ p. is_item_of e p.item) (reverse (places_of run)) (each_reverse (IsNamed facts h h') (places_of run) named)) (not (is_by_guard e.reply)) has
   where
-    at : (p : Option Place) → Has (IsNamed facts h h') p → GivesEntry facts h e p → GivesEntry facts h' e p
+    at : (p : Option Position) → Has (IsNamed facts h h') p → GivesEntry facts h e p → GivesEntry facts h' e p
     at None named a = a
     at (Some p) named a = (a.0, subst (λ ns. IsReplyOf ns p.item.outcome e.reply) (sym named) a.1)
 
@@ -142,7 +142,7 @@ has_same facts h h' run named e has =
 -- ---- visible replies have their entries
 
 -- no item more is of an entry that has another
-behind_more : (item : Item) (p q : Place) (e : Entry) → IsGrown item p q → is_item_of e item ≡ false
+behind_more : (item : Item) (p q : Position) (e : Entry) → IsGrown item p q → is_item_of e item ≡ false
     → (not (is_by_guard e.reply) && is_item_of e q.item && not (list_any (is_item_of e) (behind q)))
     ≡ (not (is_by_guard e.reply) && is_item_of e p.item && not (list_any (is_item_of e) (behind p)))
 behind_more item p q e g none =
@@ -156,18 +156,18 @@ behind_more item p q e g none =
     or_none true = refl
     or_none false = refl
 
-entered_more : (item : Item) (p q : Place) (h : List Entry) → IsGrown item p q → IsOfNoEntry item h → is_entered h q ≡ is_entered h p
+entered_more : (item : Item) (p q : Position) (h : List Entry) → IsGrown item p q → IsOfNoEntry item h → is_entered h q ≡ is_entered h p
 entered_more item p q [] g none = refl
 entered_more item p q (e ∷ h) g none =
     ap (λ b. b || is_entered h q) (behind_more item p q e g none.0)
     ∙ ap (λ b. (not (is_by_guard e.reply) && is_item_of e p.item && not (list_any (is_item_of e) (behind p))) || b) (entered_more item p q h g none.1)
 
 -- what was entered is so with entries more
-pub entered_later : (p : Place) (h es : List Entry) → is_entered h p ≡ true → is_entered (h ++ es) p ≡ true
+pub entered_later : (p : Position) (h es : List Entry) → is_entered h p ≡ true → is_entered (h ++ es) p ≡ true
 entered_later p h es is =
     list_any-append (λ e. not (is_by_guard e.reply) && is_item_of e p.item && not (list_any (is_item_of e) (behind p))) h es ∙ ap (λ b. b || is_entered es p) is
 
-pub committed_stay : (facts : Facts) (item : Item) (h es : List Entry) (p q : Place) → IsGrown item p q → IsOfNoEntry item h → IsCommitted facts h p → IsCommitted facts (h ++ es) q
+pub committed_stay : (facts : Facts) (item : Item) (h es : List Entry) (p q : Position) → IsGrown item p q → IsOfNoEntry item h → IsCommitted facts h p → IsCommitted facts (h ++ es) q
 committed_stay facts item h es p q g none committed =
     subst (λ i. When (is_visible_reply facts i) (is_entered (h ++ es) q ≡ true)) (sym g.own) (by (is_visible_reply facts p.item) committed)
   where
@@ -175,7 +175,7 @@ committed_stay facts item h es p q g none committed =
     by true is = entered_later q h es (entered_more item p q h g none ∙ is)
     by false is = tt
 
-pub committed_later : (facts : Facts) (h es : List Entry) (p : Place) → IsCommitted facts h p → IsCommitted facts (h ++ es) p
+pub committed_later : (facts : Facts) (h es : List Entry) (p : Position) → IsCommitted facts h p → IsCommitted facts (h ++ es) p
 committed_later facts h es p committed = by (is_visible_reply facts p.item) committed
   where
     by : (b : Bool) → When b (is_entered h p ≡ true) → When b (is_entered (h ++ es) p ≡ true)
@@ -184,14 +184,14 @@ committed_later facts h es p committed = by (is_visible_reply facts p.item) comm
 
 -- ---- the order of visible calls
 
-earlier_stay : (item : Item) (p q : Place) (es : List Entry) → Each (λ e. stands_before q e ≡ stands_before p e) es
+earlier_stay : (item : Item) (p q : Position) (es : List Entry) → Each (λ e. stands_before q e ≡ stands_before p e) es
     → list_all (λ e. is_by_guard e.reply || stands_before q e) es ≡ list_all (λ e. is_by_guard e.reply || stands_before p e) es
 earlier_stay item p q [] same = refl
 earlier_stay item p q (e ∷ es) same =
     ap (λ b. (is_by_guard e.reply || b) && list_all (λ x. is_by_guard x.reply || stands_before q x) es) same.0
     ∙ ap (λ b. (is_by_guard e.reply || stands_before p e) && b) (earlier_stay item p q es same.1)
 
-come_stay : (item : Item) (earlier : List Entry) (p q : Option Place) → IsOfNoEntry item earlier → IsGrownTo item p q → ComeBefore earlier p → ComeBefore earlier q
+come_stay : (item : Item) (earlier : List Entry) (p q : Option Position) → IsOfNoEntry item earlier → IsGrownTo item p q → ComeBefore earlier p → ComeBefore earlier q
 come_stay item earlier None None none g come = come
 come_stay item earlier None (Some q) none g come = absurd g
 come_stay item earlier (Some p) None none g come = absurd g
@@ -201,7 +201,7 @@ none_push : (item : Item) (h : List Entry) (e : Entry) → IsOfNoEntry item h �
 none_push item [] e none one = (one, tt)
 none_push item (x ∷ h) e none one = (none.0, none_push item h e none.1 one)
 
-pub order_stays : (facts : Facts) (item : Item) (last : Place) (run later : Run) (earlier es : List Entry) → HasOneMore item last (places_of run) (places_of later)
+pub order_stays : (facts : Facts) (item : Item) (last : Position) (run later : Run) (earlier es : List Entry) → HasOneMore item last (places_of run) (places_of later)
     → last.item ≡ item → IsOfNoEntry item earlier → IsOfNoEntry item es → AreInOrder facts run earlier es → AreInOrder facts later earlier es
 order_stays facts item last run later earlier [] more own before none order = tt
 order_stays facts item last run later earlier (e ∷ es) more own before none order = (

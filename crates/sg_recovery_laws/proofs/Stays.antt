@@ -17,14 +17,14 @@ use Rattle.sg_recovery_laws.proofs.Lists.{each_map}
 use Rattle.sg_recovery_laws.proofs.Same.{IsSame, again, any_rebuilt, any_same, rebuilt_again}
 use Rattle.sg_hist.specs.Clients.{calls_of}
 use Rattle.sg_hist.specs.Growing.{AreKept, IsGrown, IsLastCall, IsOfNoEntry, IsSameId}
-use Rattle.sg_hist.specs.Reading.{Place, behind, entries_before, is_by_guard, is_made, is_item_of, is_rebuilt_at, is_whole_at, past, places_in, stands_before}
+use Rattle.sg_hist.specs.Reading.{Position, behind, entries_before, is_by_guard, is_made, is_item_of, is_rebuilt_at, is_whole_at, past, places_in, stands_before}
 use Rattle.sg_hist.specs.Recovered.{IsUnderWay, calls_made}
 
 -- ---- what is whole
 
-whole_grown : (facts : Facts) (walks : List WalkLine) (h h' : List Entry) (item : Item) (p : Place) (r n : List Item) (id : ℕ)
+whole_grown : (facts : Facts) (walks : List WalkLine) (h h' : List Entry) (item : Item) (p : Position) (r n : List Item) (id : ℕ)
     → list_any (is_made facts h' id) p.front ≡ list_any (is_made facts h id) p.front
-    → ((p q : Place) → IsGrown item p q → entries_before h' q ≡ entries_before h p) → r ++ n ≡ behind p ++ item ∷ []
+    → ((p q : Position) → IsGrown item p q → entries_before h' q ≡ entries_before h p) → r ++ n ≡ behind p ++ item ∷ []
     → is_whole_at facts walks h' (again p r n) id ≡ is_whole_at facts walks h p id
 whole_grown facts walks h h' item p r n id made same more =
     ap (λ b. b || list_any (is_rebuilt_at facts walks h' id) (places_in p.older [] p.front (p.item ∷ (r ++ n)))) made
@@ -59,23 +59,23 @@ all_more f client (x ∷ h) e own = by (all_more f client h e own) (x.call.clien
     by rest false = rest
 
 -- entries stand before a place as they did before it grew
-pub stands_each : (item : Item) (p q : Place) (h : List Entry) → IsOfNoEntry item h → IsGrown item p q → Each (λ e. stands_before q e ≡ stands_before p e) h
+pub stands_each : (item : Item) (p q : Position) (h : List Entry) → IsOfNoEntry item h → IsGrown item p q → Each (λ e. stands_before q e ≡ stands_before p e) h
 stands_each item p q [] none g = tt
 stands_each item p q (e ∷ h) none g = (stands_before-more item p q e g none.0, stands_each item p q h none.1 g)
 
-above_each : (p q : Place) (call : Call) (h : List Entry) → Each (λ e. stands_before q e ≡ stands_before p e) h
+above_each : (p q : Position) (call : Call) (h : List Entry) → Each (λ e. stands_before q e ≡ stands_before p e) h
     → Each (λ e. (not (stands_before q e) || nat_lt e.call.seq call.seq) ≡ (not (stands_before p e) || nat_lt e.call.seq call.seq)) h
 above_each p q call h same =
     each_map (λ e. stands_before q e ≡ stands_before p e) (λ e. (not (stands_before q e) || nat_lt e.call.seq call.seq) ≡ (not (stands_before p e) || nat_lt e.call.seq call.seq)) h
     (λ e is. ap (λ b. not b || nat_lt e.call.seq call.seq) is) same
 
-first_each : (p q : Place) (call : Call) (h : List Entry) → Each (λ e. stands_before q e ≡ stands_before p e) h
+first_each : (p q : Position) (call : Call) (h : List Entry) → Each (λ e. stands_before q e ≡ stands_before p e) h
     → Each (λ e. (is_by_guard e.reply || stands_before q e || nat_le call.seq e.call.seq) ≡ (is_by_guard e.reply || stands_before p e || nat_le call.seq e.call.seq)) h
 first_each p q call h same =
     each_map (λ e. stands_before q e ≡ stands_before p e) (λ e. (is_by_guard e.reply || stands_before q e || nat_le call.seq e.call.seq) ≡ (is_by_guard e.reply || stands_before p e || nat_le call.seq e.call.seq)) h
     (λ e is. ap (λ b. is_by_guard e.reply || b || nat_le call.seq e.call.seq) is) same
 
-under_noted : (item : Item) (p q : Place) (h : List Entry) (u u' : List Call) → IsOfNoEntry item h → IsGrown item p q → AreKept h u h u'
+under_noted : (item : Item) (p q : Position) (h : List Entry) (u u' : List Call) → IsOfNoEntry item h → IsGrown item p q → AreKept h u h u'
     → (client : ℕ) (call : Call) → IsUnderWay h u p client call → IsUnderWay h u' q client call
 under_noted item p q h u u' none g kept client call w =
     let same = stands_each item p q h none g in
@@ -88,7 +88,7 @@ under_noted item p q h u u' none g kept client call w =
     }
 
 -- with an entry more that stands before no place that was there
-under_more : (h : List Entry) (e : Entry) (u u' : List Call) (q : Place) → stands_before q e ≡ false
+under_more : (h : List Entry) (e : Entry) (u u' : List Call) (q : Position) → stands_before q e ≡ false
     → ((call : Call) → Contains (calls_made h u) call → call.client ≡ e.call.client → is_by_guard e.reply || nat_le call.seq e.call.seq ≡ true)
     → AreKept h u (h ++ e ∷ []) u' → (client : ℕ) (call : Call) → IsUnderWay h u q client call → IsUnderWay (h ++ e ∷ []) u' q client call
 under_more h e u u' q stands last kept client call w = record {
@@ -108,7 +108,7 @@ under_more h e u u' q stands last kept client call w = record {
 
 -- ---- what an item rests on
 
-pub same_noted : (facts : Facts) (walks : List WalkLine) (h : List Entry) (u u' : List Call) (item : Item) (p : Place) (r n : List Item)
+pub same_noted : (facts : Facts) (walks : List WalkLine) (h : List Entry) (u u' : List Call) (item : Item) (p : Position) (r n : List Item)
     → IsOfNoEntry item h → r ++ n ≡ behind p ++ item ∷ [] → AreKept h u h u' → IsSame facts walks h u h u' p r n
 same_noted facts walks h u u' item p r n none more kept =
     let g : IsGrown item p (again p r n) = record { older = refl; front = refl; own = refl; behind_it = more } in
@@ -120,7 +120,7 @@ same_noted facts walks h u u' item p r n none more kept =
       under_way = under_noted item p (again p r n) h u u' none g kept;
     }
 
-pub same_committed : (facts : Facts) (walks : List WalkLine) (h : List Entry) (u u' : List Call) (e : Entry) (item : Item) (p : Place) (r n : List Item)
+pub same_committed : (facts : Facts) (walks : List WalkLine) (h : List Entry) (u u' : List Call) (e : Entry) (item : Item) (p : Position) (r n : List Item)
     → IsOfNoEntry item h → is_item_of e item ≡ true → r ++ n ≡ behind p ++ item ∷ [] → AreKept h u (h ++ e ∷ []) u'
     → ((call : Call) → Contains (calls_made h u) call → call.client ≡ e.call.client → call.seq ≤ e.call.seq)
     → Each (IsGiven facts h) p.front → IsSame facts walks h u (h ++ e ∷ []) u' p r n
@@ -142,7 +142,7 @@ same_committed facts walks h u u' e item p r n none own more kept last given =
     later true a b le = refl
     later false a b le = grind (arith, nat_tests, le)
 
-pub same_refused : (facts : Facts) (walks : List WalkLine) (h : List Entry) (u u' : List Call) (e : Entry) (p : Place)
+pub same_refused : (facts : Facts) (walks : List WalkLine) (h : List Entry) (u u' : List Call) (e : Entry) (p : Position)
     → is_by_guard e.reply ≡ true → AreKept h u (h ++ e ∷ []) u' → IsSame facts walks h u (h ++ e ∷ []) u' p p.rest p.newer
 same_refused facts walks h u u' e p guards kept =
     let ids : Each (IsSameId facts h (h ++ e ∷ [])) p.front = all p.front in
@@ -205,7 +205,7 @@ rebuilt_earlier : (facts : Facts) (walks : List WalkLine) (h : List Entry) (e : 
     → list_any (is_rebuilt_at facts walks (h ++ e ∷ []) id) (places_in older done items newer) ≡ list_any (is_rebuilt_at facts walks h id) (places_in older done items newer)
 rebuilt_earlier facts walks h e id older done [] newer is = refl
 rebuilt_earlier facts walks h e id older done (x ∷ items) newer is =
-    let p : Place = record { older = older; front = done; item = x; rest = items; newer = newer } in
+    let p : Position = record { older = older; front = done; item = x; rest = items; newer = newer } in
     let one : is_rebuilt_at facts walks (h ++ e ∷ []) id p ≡ is_rebuilt_at facts walks h id p
     = rebuilt_again facts walks h (h ++ e ∷ []) id p items newer (ap (object_of facts) (entries_before-not_yet p h e (earlier_place e older done x items newer is))) in
     let rest : list_any (is_rebuilt_at facts walks (h ++ e ∷ []) id) (places_in older (done ++ x ∷ []) items newer) ≡ list_any (is_rebuilt_at facts walks h id) (places_in older (done ++ x ∷ []) items newer)
@@ -214,7 +214,7 @@ rebuilt_earlier facts walks h e id older done (x ∷ items) newer is =
     ap (λ b. b || list_any (is_rebuilt_at facts walks (h ++ e ∷ []) id) (places_in older (done ++ x ∷ []) items newer)) one
     ∙ ap (λ b. is_rebuilt_at facts walks h id p || b) rest
 
-pub same_held : (facts : Facts) (walks : List WalkLine) (h : List Entry) (u u' : List Call) (e : Entry) (p : Place)
+pub same_held : (facts : Facts) (walks : List WalkLine) (h : List Entry) (u u' : List Call) (e : Entry) (p : Position)
     → stands_before p e ≡ false → AreKept h u (h ++ e ∷ []) u' → IsLastCall h u e.call
     → Each (IsGiven facts h) p.front → IsSame facts walks h u (h ++ e ∷ []) u' p p.rest p.newer
 same_held facts walks h u u' e p behind_it kept last given =

@@ -10,7 +10,7 @@ ghost use Rattle.sg_facts.specs.Legal.{IsLegal, Table, answer};
 ghost use Rattle.sg_facts.specs.Object.{object_of};
 ghost use Rattle.sg_facts.specs.Trace.{Boot, Run};
 ghost use Rattle.sg_hist.specs.Growing.{AreKept, HasOneMore, IsGrown, IsHeldReply, IsInLast, IsItemOf, IsLastCall, IsNextItem, IsRecovering, IsSettled, IsOfNoEntry, asked_over, booted, last_items, last_stop, noted, place_behind, struck};
-ghost use Rattle.sg_hist.specs.Reading.{Place, after_item, entries_before, is_by_guard, is_item_of, names_at, names_in, places_from, places_of, stands_before, value_at};
+ghost use Rattle.sg_hist.specs.Reading.{Position, after_item, entries_before, is_by_guard, is_item_of, names_at, names_in, places_from, places_of, stands_before, value_at};
 ghost use Rattle.sg_hist.specs.Recovered.{AreInBoots, ArePointsOf, IsCount, IsPointOf, Stubs, answer_to, asked_behind, ends_committed, is_stopped, is_visible_reply};
 
 /// A legal history stays so with an entry that is the answer behind it.
@@ -23,15 +23,15 @@ pub fn legal_stays()
 /// and where a refusal by the guard is appended. An entry that is appended behind its item, as a held reply is, is among those
 /// before the places behind that item, and before no other.
 pub fn entries_stay()
-    ensures noted { (item : Item) (p q : Place) (history : List Entry) → IsGrown item p q → IsOfNoEntry item history
+    ensures noted { (item : Item) (p q : Position) (history : List Entry) → IsGrown item p q → IsOfNoEntry item history
         → entries_before history q ≡ entries_before history p }
-    ensures committed { (item : Item) (p q : Place) (history : List Entry) (e : Entry) → IsGrown item p q → IsOfNoEntry item history → is_item_of e item ≡ true
+    ensures committed { (item : Item) (p q : Position) (history : List Entry) (e : Entry) → IsGrown item p q → IsOfNoEntry item history → is_item_of e item ≡ true
         → entries_before (history ++ e ∷ []) q ≡ entries_before history p }
-    ensures refused { (p : Place) (history : List Entry) (e : Entry) → is_by_guard e.reply ≡ true
+    ensures refused { (p : Position) (history : List Entry) (e : Entry) → is_by_guard e.reply ≡ true
         → entries_before (history ++ e ∷ []) p ≡ entries_before history p }
-    ensures held { (p : Place) (history : List Entry) (e : Entry) → stands_before p e ≡ true
+    ensures held { (p : Position) (history : List Entry) (e : Entry) → stands_before p e ≡ true
         → entries_before (history ++ e ∷ []) p ≡ entries_before history p ++ e ∷ [] }
-    ensures not_yet { (p : Place) (history : List Entry) (e : Entry) → stands_before p e ≡ false
+    ensures not_yet { (p : Position) (history : List Entry) (e : Entry) → stands_before p e ≡ false
         → entries_before (history ++ e ∷ []) p ≡ entries_before history p }
 {}
 

@@ -26,7 +26,7 @@ ghost use Rattle.sg_facts.specs.Object.{Object, empty_object, object_of};
 ghost use Rattle.sg_facts.specs.Trace.{Boot};
 ghost use Rattle.sg_facts.specs.Track.{is_live, row_at};
 ghost use Rattle.sg_facts.specs.Walks.{replayed_call};
-ghost use Rattle.sg_hist.specs.Reading.{Place, entries_before, id_given, is_made, is_rebuilt_at, is_whole_at, names_at, names_in, object_before, value_at, walk_in};
+ghost use Rattle.sg_hist.specs.Reading.{Position, entries_before, id_given, is_made, is_rebuilt_at, is_whole_at, names_at, names_in, object_before, value_at, walk_in};
 ghost use Rattle.sg_hist.specs.Recovered.{IsAdmitted, IsCallOf, IsCallOfRow, IsLoad, IsLoadedFor, IsOkOrStopped, IsTracked, is_patch_at, is_walk_of};
 ghost use Rattle.sg_hist.specs.Growing.{IsGrown, IsOfNoEntry, IsSameId, last_items, older_items, place_behind};
 ghost use Rattle.sg_recovery_laws.specs.Midway.Progress.{TellsCalls, IsNone, Told, complete, fresh, is_complete};
@@ -96,13 +96,13 @@ pub fn told_grows()
         → is_complete (told id) ≡ false → TellsCalls (told id) (length done) → (told id ≡ fresh → done ≡ []) → is_live rows id ≡ true
         → IsRead facts walks h older (front ++ item ∷ []) (names_after names r done good) (told_after told id done rest) present rows }
     ensures made { (facts : Facts) (walks : List WalkLine) (h later : List Entry) (older front : List Item) (item : Item) (names : List (ℕ × ℕ)) (told : ℕ → Told)
-        (present : List ℕ → Bool) (rows rows' : List Row) (client seq : ℕ) (good other : Good) → ((p q : Place) → IsGrown item p q → entries_before later q ≡ entries_before h p)
+        (present : List ℕ → Bool) (rows rows' : List Row) (client seq : ℕ) (good other : Good) → ((p q : Position) → IsGrown item p q → entries_before later q ≡ entries_before h p)
         → Each (IsSameId facts h later) front → IsRead facts walks h older front names told present rows → item.tag ≡ Client client seq → item.outcome ≡ Replied (Ok other) None
         → (fun_at facts.funs item.shown.fun).creation ≡ true → id_given later client seq ≡ good.desc → list_any (λ n. n.0 == good.desc) (names_at facts h front) ≡ false
         → ((id : ℕ) → is_live rows' id ≡ true → (id ≡ good.desc) ⊎ ((id ≢ good.desc) × (is_live rows id ≡ true))) → good.desc ≢ 0
         → IsRead facts walks later older (front ++ item ∷ []) ((good.desc, other.desc) ∷ names) (λ x. if x == good.desc then complete else told x) present rows' }
     ensures put { (facts : Facts) (walks : List WalkLine) (h later : List Entry) (older front : List Item) (item : Item) (names : List (ℕ × ℕ)) (told : ℕ → Told)
-        (present : List ℕ → Bool) (rows : List Row) → ((p q : Place) → IsGrown item p q → entries_before later q ≡ entries_before h p)
+        (present : List ℕ → Bool) (rows : List Row) → ((p q : Position) → IsGrown item p q → entries_before later q ≡ entries_before h p)
         → Each (IsSameId facts h later) front → IsRead facts walks h older front names told present rows → ((id : ℕ) → is_made facts later id item ≡ false)
         → ((id : ℕ) → is_walk_of id item.tag ≡ false) → ((id : ℕ) → is_rebuilt_at facts walks later id (last_place older front item) ≡ false)
         → names_in facts later item.shown.fun item.tag item.outcome ≡ []

@@ -1,11 +1,7 @@
 pub mod Inside
-pub mod SchedAlikeLaw
-pub mod SchedBlockedLaw
+pub mod Laws
 pub mod SchedFacts
 pub mod SchedObject
 pub mod SchedRow
-pub mod SchedShapeLaw
 pub mod SchedSound
-pub mod SchedSoundLaw
 pub mod SchedTable
-pub mod SchedWalkLaw

@@ -20,7 +20,7 @@ pub(crate) struct Indexes {
 
 /// What becomes of the thread of an id; None where it isn't there.
 #[derive(Clone, Copy, Debug)]
-pub(crate) struct Change {
+pub(crate) struct ThreadChange {
     pub id: u64,
     pub before: Option<Thread>,
     pub after: Option<Thread>,
@@ -40,7 +40,7 @@ impl Indexes {
 
     /// Adds the keys that a thread will have, so that no memory is needed once it has changed. After `NoMemory` some are
     /// added.
-    pub(crate) fn prepare(&mut self, change: &Change) -> Result<(), NoMemory>
+    pub(crate) fn prepare(&mut self, change: &ThreadChange) -> Result<(), NoMemory>
         ensures ready { OnOk result (Grows is_queued change.now.id change.now.after self.old.ready self.new.ready true) }
         ensures ranks { OnOk result (Grows is_ranked change.now.id change.now.after self.old.ranks self.new.ranks true) }
         ensures some_ready { OnErr result (MayGrow is_queued change.now.id change.now.after self.old.ready self.new.ready) }

@@ -8,7 +8,7 @@ ghost use Rattle.sg_sched.specs.SchedRow.{thread_body};
 ghost use Rattle.sg_sched.specs.SchedTable.{first_ready, next_rank};
 
 use crate::Thread;
-use crate::index::{Change, Indexes};
+use crate::index::{ThreadChange, Indexes};
 use sg_base::Stops;
 use sg_facts::Outcome;
 use sg_slots::{Decision, Slots, carry_out};
@@ -126,29 +126,29 @@ impl Queue {
 }
 
 // What a decision on an id changes.
-fn change_of(threads: &Slots<Thread>, id: u64, decision: &Decision<Thread>) -> Change
+fn change_of(threads: &Slots<Thread>, id: u64, decision: &Decision<Thread>) -> ThreadChange
     requires there { IsAbout threads.now id decision.now }
     requires room { threads.now.given < 2 ^ 63 }
     ensures { IsChange threads.now id decision.now result.id result.before result.after }
 {
     let before = threads.get(id).copied();
     match decision {
-        Decision::Make { entry, .. } => Change {
+        Decision::Make { entry, .. } => ThreadChange {
             id: threads.given() + 1,
             before: None,
             after: Some(*entry),
         },
-        Decision::Set { entry, .. } => Change {
+        Decision::Set { entry, .. } => ThreadChange {
             id,
             before,
             after: Some(*entry),
         },
-        Decision::Remove => Change {
+        Decision::Remove => ThreadChange {
             id,
             before,
             after: None,
         },
-        _ => Change {
+        _ => ThreadChange {
             id,
             before,
             after: before,

@@ -1,5 +1,5 @@
 // One thread.
-use sg_slots::Entry;
+use sg_slots::Slot;
 
 /// A thread.
 #[derive(Clone, Copy, Debug, PartialEq, Eq)]
@@ -14,7 +14,7 @@ pub struct Thread {
     pub ready: bool,
 }
 
-impl Entry for Thread {
+impl Slot for Thread {
     ghost use Rattle.sg_sched.specs.SchedRow.{thread_body};
 
     ghost body = { thread_body };

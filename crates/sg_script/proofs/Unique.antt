@@ -4,11 +4,11 @@ use Rattle.std.specs.declared.result.Result.{Result}
 use Rattle.std.specs.List.{Contains}
 use Rattle.sg_facts.specs.Interface.{Declared}
 use Rattle.sg_lex.specs.Tokens.{answers_of}
-use Rattle.sg_script_grammar.specs.declared.error.ParseError.{ParseError}
-use Rattle.sg_script_grammar.specs.declared.error.ParseError.TheVariants.{NoMemory as no_memory, Syntax as syntax}
-use Rattle.sg_script_grammar.specs.declared.tree.Part.{Part}
-use Rattle.sg_script_grammar.specs.Parses.{ScriptParses}
-use Rattle.sg_script_grammar.proofs.Readings.{only_answer}
+use Rattle.sg_script_parse.specs.declared.error.ScriptSyntax.{ScriptSyntax}
+use Rattle.sg_script_parse.specs.declared.error.ScriptSyntax.TheVariants.{NoMemory as no_memory, Syntax as syntax}
+use Rattle.sg_script_parse.specs.declared.tree.Part.{Part}
+use Rattle.sg_script_parse.specs.Grammar.Parses.{ScriptParses}
+use Rattle.sg_script_parse.proofs.Grammar.Readings.{only_answer}
 use Rattle.sg_script.specs.declared.script.Script.{Script}
 use Rattle.sg_script.specs.declared.fault.ScriptFault.{ScriptFault}
 use Rattle.sg_script.specs.declared.fault.ScriptError.{ScriptError}
@@ -19,7 +19,7 @@ use Rattle.sg_script.specs.Scripts.{script_of}
 use Rattle.sg_script.proofs.Earliest.{one_at_most}
 
 abbrev Parsed : Type 0
-Parsed = Result (List Part) ParseError
+Parsed = Result (List Part) ScriptSyntax
 
 one_parse : (text : List ℕ) (a b : Parsed) → ScriptParses text a → ScriptParses text b → a ≢ Err no_memory → b ≢ Err no_memory → a ≡ b
 one_parse text a b h g n m = sym (only_answer (length text) (answers_of text) a h n) ∙ only_answer (length text) (answers_of text) b g m

@@ -7,12 +7,12 @@ use Rattle.sg_facts.specs.declared.shape.Kind.TheVariants.{Text as IsText}
 use Rattle.sg_facts.specs.Facts.{fun_at}
 use Rattle.sg_facts.specs.Interface.{Declared}
 use Rattle.sg_facts.specs.Limits.{most_script_calls}
-use Rattle.sg_script_grammar.specs.Spelling.{Spelling}
-use Rattle.sg_script_grammar.specs.declared.tree.WrittenArg.{WrittenArg}
-use Rattle.sg_script_grammar.specs.declared.tree.WrittenArg.TheVariants.{Number, Text, Back}
-use Rattle.sg_script_grammar.specs.declared.tree.WrittenCall.{WrittenCall}
-use Rattle.sg_script_grammar.specs.declared.tree.Part.{Part}
-use Rattle.sg_script_grammar.specs.declared.tree.Part.TheVariants.{Setup, Client, Schedule, Stop}
+use Rattle.sg_script_parse.specs.Grammar.Spelling.{Spelling}
+use Rattle.sg_script_parse.specs.declared.tree.WrittenArg.{WrittenArg}
+use Rattle.sg_script_parse.specs.declared.tree.WrittenArg.TheVariants.{Number, Text, Back}
+use Rattle.sg_script_parse.specs.declared.tree.WrittenCall.{WrittenCall}
+use Rattle.sg_script_parse.specs.declared.tree.Part.{Part}
+use Rattle.sg_script_parse.specs.declared.tree.Part.TheVariants.{Setup, Client, Schedule, Stop}
 use Rattle.sg_script.specs.declared.fault.ScriptKind.{ScriptKind}
 use Rattle.sg_script.specs.declared.fault.ScriptKind.TheVariants.{Syntax, UnknownFunction, BadArgs, BadClient, Twice, NotAscending, Blocking, Limit}
 use Rattle.sg_script.specs.declared.fault.ScriptFault.{ScriptFault}

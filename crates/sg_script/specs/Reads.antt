@@ -2,9 +2,9 @@
 use Rattle.std.specs.Prelude.{ℕ, ◌≡◌, ◌⊎◌, List, [], Ok, Err}
 use Rattle.std.specs.declared.result.Result.{Result}
 use Rattle.sg_facts.specs.Interface.{Declared}
-use Rattle.sg_script_grammar.specs.declared.error.ParseError.TheVariants.{Syntax as syntax}
-use Rattle.sg_script_grammar.specs.declared.tree.Part.{Part}
-use Rattle.sg_script_grammar.specs.Parses.{ScriptParses}
+use Rattle.sg_script_parse.specs.declared.error.ScriptSyntax.TheVariants.{Syntax as syntax}
+use Rattle.sg_script_parse.specs.declared.tree.Part.{Part}
+use Rattle.sg_script_parse.specs.Grammar.Parses.{ScriptParses}
 use Rattle.sg_script.specs.declared.script.Script.{Script}
 use Rattle.sg_script.specs.declared.fault.ScriptKind.TheVariants.{Syntax}
 use Rattle.sg_script.specs.declared.fault.ScriptFault.{ScriptFault}

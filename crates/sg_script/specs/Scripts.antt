@@ -5,12 +5,12 @@ use Rattle.std.specs.List.{flat_map, fold}
 use Rattle.std.specs.Str.{bytes_eq}
 use Rattle.sg_facts.specs.Facts.{Fun}
 use Rattle.sg_facts.specs.Interface.{Declared, declares}
-use Rattle.sg_script_grammar.specs.Spelling.{Spelling}
-use Rattle.sg_script_grammar.specs.declared.tree.WrittenArg.{WrittenArg}
-use Rattle.sg_script_grammar.specs.declared.tree.WrittenArg.TheVariants.{Number as number, Text as text, Back as back}
-use Rattle.sg_script_grammar.specs.declared.tree.WrittenCall.{WrittenCall}
-use Rattle.sg_script_grammar.specs.declared.tree.Part.{Part}
-use Rattle.sg_script_grammar.specs.declared.tree.Part.TheVariants.{Setup, Client, Schedule, Stop}
+use Rattle.sg_script_parse.specs.Grammar.Spelling.{Spelling}
+use Rattle.sg_script_parse.specs.declared.tree.WrittenArg.{WrittenArg}
+use Rattle.sg_script_parse.specs.declared.tree.WrittenArg.TheVariants.{Number as number, Text as text, Back as back}
+use Rattle.sg_script_parse.specs.declared.tree.WrittenCall.{WrittenCall}
+use Rattle.sg_script_parse.specs.declared.tree.Part.{Part}
+use Rattle.sg_script_parse.specs.declared.tree.Part.TheVariants.{Setup, Client, Schedule, Stop}
 use Rattle.sg_script.specs.declared.script.Arg.{Arg}
 use Rattle.sg_script.specs.declared.script.Arg.TheVariants.{Number, Text, Back}
 use Rattle.sg_script.specs.declared.script.ScriptCall.{ScriptCall}

@@ -1,16 +1,16 @@
 // The parts of a script that were judged, as far as later ones depend on them.
 ghost use Rattle.std.specs.Prelude.{◌≡◌, ◌≤◌, ◌<◌, ◌+◌, ◌++◌, ◌∷◌, ◌^◌, ◌&&◌, [], List, false, true, slice_index_or, slice_set};
-ghost use Rattle.sg_script_grammar.specs.declared.tree.Part.{Part as OnePart};
+ghost use Rattle.sg_script_parse.specs.declared.tree.Part.{Part as OnePart};
 ghost use Rattle.sg_script.specs.Flaws.{comes_again};
 ghost use Rattle.sg_script.specs.Numbers.{is_known_client};
 ghost use Rattle.sg_script.specs.Inside.Fronts.{IsFront};
 
 use crate::numbers::{counts_as, is_known_client};
-use sg_script_grammar::Part;
+use sg_script_parse::Part;
 
 /// What is kept of the parts of a script that were judged.
 #[derive(Drop)]
-pub struct Front {
+pub struct SeenParts {
     /// Whether there was a `setup`.
     pub setup: bool,
     /// Which clients had a part, by their numbers up to the last.
@@ -23,13 +23,13 @@ pub struct Front {
     pub calls: u128,
 }
 
-impl Front {
+impl SeenParts {
     /// No part.
     pub fn new() -> Self
         ensures front { IsFront result [] }
         ensures calls { result.calls ≡ 0 }
     {
-        Front {
+        SeenParts {
             setup: false,
             clients: [false; 65],
             schedule: false,

@@ -1,7 +1,7 @@
 // What is first wrong with the parts of a script.
 ghost use Rattle.std.specs.Prelude.{◌≡◌, ◌<◌, ◌+◌, ◌^◌, ◌&&◌, [], None, List, length, nat_le, nat_lt, MatchOption};
 ghost use Rattle.std.specs.List.{flat_map};
-ghost use Rattle.sg_script_grammar.specs.declared.tree.Part.{Part as OnePart};
+ghost use Rattle.sg_script_parse.specs.declared.tree.Part.{Part as OnePart};
 ghost use Rattle.sg_script.specs.Inside.Firsts.{first_behind};
 ghost use Rattle.sg_script.specs.Inside.Fronts.{IsFront};
 ghost use Rattle.sg_script.specs.Flaws.{IsFirstFlaw, written_arg_fits, arg_flaws, written_args_fit, call_flaws, calls_before, calls_flaws, client_flaws, flaws_behind, flaws_of, fun_flaws, inner_flaws, number_flaws, part_flaws, part_place, stops_flaws};
@@ -10,11 +10,11 @@ ghost use Rattle.sg_script.specs.Numbers.{counts_as};
 
 use crate::fault::{ScriptFault, ScriptKind};
 use crate::first::First;
-use crate::front::Front;
+use crate::front::SeenParts;
 use crate::names::declared_fun;
 use crate::numbers::{counts_as, is_above, is_known_client, is_text, unquoted};
 use sg_facts::{Interface, Kind};
-use sg_script_grammar::{Part, Spelled, WrittenArg, WrittenCall};
+use sg_script_parse::{Part, Spelled, WrittenArg, WrittenCall};
 
 // The number of the first call that is one too many.
 const TOO_MANY_CALLS: u128 = 65_537;
@@ -215,7 +215,7 @@ fn judge_inside(first: &mut First, iface: &Interface, setup: u128, before: u128,
 }
 
 // Notes what is wrong with a part behind others.
-fn judge_part(first: &mut First, iface: &Interface, setup: u128, front: &Front, part: &Part)
+fn judge_part(first: &mut First, iface: &Interface, setup: u128, front: &SeenParts, part: &Part)
     requires setup { setup + 2 ^ 65 < 2 ^ 128 }
     requires before { front.now.calls + 2 ^ 65 < 2 ^ 128 }
     ensures { (parts : List OnePart) → IsFront front.now parts → first.new ≡ first_behind first.old (part_flaws iface.now setup parts part.now) }
@@ -244,7 +244,7 @@ fn first_in(parts: &[Part], iface: &Interface) -> First
 {
     let setup = setup_calls(parts);
     let mut first = First::new();
-    let mut front = Front::new();
+    let mut front = SeenParts::new();
     'each: for part in parts {
         judge_part(&mut first, iface, setup, &front, part);
         front.add(part);

@@ -11,7 +11,7 @@ use crate::numbers::{counts_as, unquoted};
 use crate::script::{Arg, ArgList, CallList, ClientList, Script, ScriptCall, TurnList};
 use sg_base::{NoMemory, PointList, Text, TextFault};
 use sg_facts::Interface;
-use sg_script_grammar::{Part, Spelled, WrittenArg, WrittenCall};
+use sg_script_parse::{Part, Spelled, WrittenArg, WrittenCall};
 use std::alloc::Global;
 
 // ---- numbers

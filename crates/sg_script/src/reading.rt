@@ -9,7 +9,7 @@ use crate::judging::judge;
 use crate::making::script_of;
 use crate::{Script, ScriptError, ScriptFault, ScriptKind};
 use sg_facts::Interface;
-use sg_script_grammar::ParseError;
+use sg_script_parse::ScriptSyntax;
 use sg_script_parse::parse;
 use std::alloc::Global;
 
@@ -34,8 +34,8 @@ fn script_in(alloc: Global, text: &[u8], iface: &Interface) -> Result<Script, Sc
 {
     let parts = match parse(alloc, text) {
         Ok(parts) => parts,
-        Err(ParseError::NoMemory) => return Err(ScriptError::NoMemory),
-        Err(ParseError::Syntax { at }) => return Err(fault_of(at, ScriptKind::Syntax)),
+        Err(ScriptSyntax::NoMemory) => return Err(ScriptError::NoMemory),
+        Err(ScriptSyntax::Syntax { at }) => return Err(fault_of(at, ScriptKind::Syntax)),
     };
     match judge(parts.as_slice(), iface) {
         Some(fault) => Err(ScriptError::Fault(fault)),

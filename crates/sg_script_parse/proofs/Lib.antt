@@ -1,2 +1,3 @@
 pub mod ByToken
+pub mod Grammar
 pub mod Whole

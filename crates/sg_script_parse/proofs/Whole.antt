@@ -3,20 +3,20 @@ use Rattle.std.proofs.Common.{◌≡◌, ◌≢◌, ◌⊎◌, inl, inr, ℕ, Li
 use Rattle.std.specs.Prelude.{Ok, Err}
 use Rattle.std.specs.declared.result.Result.{Result}
 use Rattle.sg_lex.specs.Tokens.{answers_of}
-use Rattle.sg_script_grammar.specs.declared.error.ParseError.{ParseError}
-use Rattle.sg_script_grammar.specs.declared.error.ParseError.TheVariants.{NoMemory, Syntax}
-use Rattle.sg_script_grammar.specs.declared.tree.Part.{Part}
-use Rattle.sg_script_grammar.specs.Parses.{ScriptParses, ScriptParsesTo}
-use Rattle.sg_script_grammar.specs.Inside.States.{script_start, scripts}
+use Rattle.sg_script_parse.specs.declared.error.ScriptSyntax.{ScriptSyntax}
+use Rattle.sg_script_parse.specs.declared.error.ScriptSyntax.TheVariants.{NoMemory, Syntax}
+use Rattle.sg_script_parse.specs.declared.tree.Part.{Part}
+use Rattle.sg_script_parse.specs.Grammar.Parses.{ScriptParses, ScriptParsesTo}
+use Rattle.sg_script_parse.specs.Grammar.Inside.States.{script_start, scripts}
 use Rattle.sg_lex.specs.Inside.Automata.{read, Answers}
-use Rattle.sg_script_grammar.proofs.Readings.{may_answer, only_answer}
+use Rattle.sg_script_parse.proofs.Grammar.Readings.{may_answer, only_answer}
 
-pub may : (text : List ℕ) (answer : Result (List Part) ParseError) → Answers scripts (read scripts script_start (record { rest = answers_of text; end = length text })) answer → ScriptParses text answer
+pub may : (text : List ℕ) (answer : Result (List Part) ScriptSyntax) → Answers scripts (read scripts script_start (record { rest = answers_of text; end = length text })) answer → ScriptParses text answer
 may text (Ok parts) h = subst (ScriptParsesTo (answers_of text) (length text)) (h (λ e. cc)) (may_answer (length text) (answers_of text))
 may text (Err NoMemory) h = tt
 may text (Err (Syntax at)) h = subst (ScriptParsesTo (answers_of text) (length text)) (h (λ e. cc)) (may_answer (length text) (answers_of text))
 
-pub only : (text : List ℕ) (answer other : Result (List Part) ParseError) → Answers scripts (read scripts script_start (record { rest = answers_of text; end = length text })) answer
+pub only : (text : List ℕ) (answer other : Result (List Part) ScriptSyntax) → Answers scripts (read scripts script_start (record { rest = answers_of text; end = length text })) answer
     → ScriptParses text other → other ≢ Err NoMemory → (answer ≡ other) ⊎ (answer ≡ Err NoMemory)
 only text (Ok parts) other h p n = inl (sym (h (λ e. cc)) ∙ only_answer (length text) (answers_of text) other p n)
 only text (Err NoMemory) other h p n = inr refl

@@ -1,21 +1,20 @@
 // Calls and their arguments.
 ghost use Rattle.std.specs.Prelude.{◌≡◌, ◌≤◌, List, [], ◌∷◌, length, IfOk, OnOk};
-ghost use Rattle.sg_script_grammar.specs.declared.tree.WrittenArg.{WrittenArg as Arg};
-ghost use Rattle.sg_script_grammar.specs.declared.tree.WrittenCall.{WrittenCall as Call};
-ghost use Rattle.sg_script_grammar.specs.Inside.States.{ScriptState, argument, bracketed, call_rest, braced, scripts};
+ghost use Rattle.sg_script_parse.specs.declared.tree.WrittenArg.{WrittenArg as Arg};
+ghost use Rattle.sg_script_parse.specs.declared.tree.WrittenCall.{WrittenCall as Call};
+ghost use Rattle.sg_script_parse.specs.Grammar.Inside.States.{ScriptState, argument, bracketed, call_rest, braced, scripts};
 ghost use Rattle.sg_lex.specs.Inside.Automata.{read, Leads};
 
 use crate::reader::{mark, number, take_mark, take_spelled};
 use sg_base::NoMemory;
 use sg_lex::{Reader, TokenKind};
-use sg_script_grammar::{
-    ParseError, Spelled, WrittenArg, WrittenArgList, WrittenCall, WrittenCallList,
-};
+use crate::error::ScriptSyntax;
+use crate::tree::{Spelled, WrittenArg, WrittenArgList, WrittenCall, WrittenCallList};
 use std::alloc::Global;
 
 /// Calls in braces.
 #[tactic(auto, using(crate::proofs::ByToken::name_came, crate::proofs::ByToken::name_missing))]
-pub fn braced<'a>(reader: &mut Reader<'a>, alloc: Global) -> Result<WrittenCallList<'a>, ParseError>
+pub fn braced<'a>(reader: &mut Reader<'a>, alloc: Global) -> Result<WrittenCallList<'a>, ScriptSyntax>
     ensures leads { (k : List Call → ScriptState) → Leads scripts (read scripts (braced k) reader.old) result k reader.new }
     ensures fewer { OnOk result (length reader.new.rest ≤ length reader.old.rest) }
 {
@@ -33,7 +32,7 @@ fn call<'a>(
     reader: &mut Reader<'a>,
     alloc: Global,
     name: Spelled<'a>,
-) -> Result<WrittenCall<'a>, ParseError>
+) -> Result<WrittenCall<'a>, ScriptSyntax>
     ensures leads { (k : Call → ScriptState) → Leads scripts (read scripts (call_rest k name.entry) reader.old) result k reader.new }
     ensures fewer { OnOk result (length reader.new.rest ≤ length reader.old.rest) }
 {
@@ -45,7 +44,7 @@ fn call<'a>(
 
 /// The arguments behind the bracket that opens them, and the bracket that closes them.
 #[tactic(auto, using(crate::proofs::ByToken::no_argument, crate::proofs::ByToken::some_argument, crate::proofs::ByToken::comma_came, crate::proofs::ByToken::comma_missing))]
-fn bracketed<'a>(reader: &mut Reader<'a>, alloc: Global) -> Result<WrittenArgList<'a>, ParseError>
+fn bracketed<'a>(reader: &mut Reader<'a>, alloc: Global) -> Result<WrittenArgList<'a>, ScriptSyntax>
     ensures leads { (k : List Arg → ScriptState) → Leads scripts (read scripts (bracketed k) reader.old) result k reader.new }
     ensures fewer { OnOk result (length reader.new.rest ≤ length reader.old.rest) }
 {
@@ -62,7 +61,7 @@ fn bracketed<'a>(reader: &mut Reader<'a>, alloc: Global) -> Result<WrittenArgLis
 
 /// An argument.
 #[tactic(auto, using(crate::proofs::ByToken::dollar_came, crate::proofs::ByToken::text_came, crate::proofs::ByToken::neither_came))]
-fn argument<'a>(reader: &mut Reader<'a>) -> Result<WrittenArg<'a>, ParseError>
+fn argument<'a>(reader: &mut Reader<'a>) -> Result<WrittenArg<'a>, ScriptSyntax>
     ensures leads { (k : Arg → ScriptState) → Leads scripts (read scripts (argument k) reader.old) result k reader.new }
     ensures fewer { OnOk result (length reader.new.rest ≤ length reader.old.rest) }
 {

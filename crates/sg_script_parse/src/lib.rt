@@ -1,17 +1,25 @@
-//! The parser of scripts: the parts of a text, or the place at which the text ceases to be a script.
+//! The language of scripts: the grammar, with the parts of a script as they are written, and the parser, which answers with
+//! those parts or with the place at which a text ceases to be a script.
 //!
+//! - `tree`: the parts of a script (`Part`), whose words, numbers and texts are lent from the text (`Spelled`)
+//! - `error`: why a text is no script (`ScriptSyntax`)
+//! - `laws`: a script has one list of parts, and a text one answer
 //! - `reader`: tokens taken from a text, and the error where another comes than may
-//! - `calls`, `parts`: calls with their arguments, and the parts of a script
+//! - `calls`, `parts`: calls with their arguments, and the parts of a script, as they are read
 //! - `parser`: the whole (`parse`)
 #![tactic(auto)]
 
 mod calls;
+mod error;
+mod laws;
 mod parser;
 mod parts;
 mod reader;
+mod tree;
 
+pub use error::ScriptSyntax;
+pub use laws::{one_answer, one_list_of_parts};
 pub use parser::parse;
-pub use sg_script_grammar::{
-    ParseError, Part, PartList, Spelled, SpelledList, WrittenArg, WrittenArgList, WrittenCall,
-    WrittenCallList,
+pub use tree::{
+    Part, PartList, Spelled, SpelledList, WrittenArg, WrittenArgList, WrittenCall, WrittenCallList,
 };

@@ -2,15 +2,16 @@
 ghost use Rattle.std.specs.Prelude.{◌≡◌, ◌≢◌, ◌⊎◌, List, length, Err as failed};
 ghost use Rattle.std.specs.declared.result.Result.{Result as Answered};
 ghost use Rattle.sg_lex.specs.Tokens.{answers_of};
-ghost use Rattle.sg_script_grammar.specs.declared.error.ParseError.{ParseError as Fault};
-ghost use Rattle.sg_script_grammar.specs.declared.tree.Part.{Part as Written};
-ghost use Rattle.sg_script_grammar.specs.Parses.{ScriptParses};
-ghost use Rattle.sg_script_grammar.specs.Inside.States.{script_start, scripts};
+ghost use Rattle.sg_script_parse.specs.declared.error.ScriptSyntax.{ScriptSyntax as Fault};
+ghost use Rattle.sg_script_parse.specs.declared.tree.Part.{Part as Written};
+ghost use Rattle.sg_script_parse.specs.Grammar.Parses.{ScriptParses};
+ghost use Rattle.sg_script_parse.specs.Grammar.Inside.States.{script_start, scripts};
 ghost use Rattle.sg_lex.specs.Inside.Automata.{read, Answers};
 
 use crate::parts::parts;
 use sg_lex::Reader;
-use sg_script_grammar::{ParseError, PartList};
+use crate::error::ScriptSyntax;
+use crate::tree::PartList;
 use std::alloc::Global;
 
 /// The parts of a script. What they spell is lent from the text.
@@ -19,17 +20,17 @@ use std::alloc::Global;
 /// and no token begins at the place, or a text or a comment without an end; or, at the text's length, where the text's
 /// tokens begin a script and are none. `NoMemory` where there was no memory for the parts; nothing else is told then.
 #[tactic(auto, using(crate::proofs::Whole::may, crate::proofs::Whole::only))]
-pub fn parse<'a>(alloc: Global, text: &'a [u8]) -> Result<PartList<'a>, ParseError>
+pub fn parse<'a>(alloc: Global, text: &'a [u8]) -> Result<PartList<'a>, ScriptSyntax>
     ensures answer { ScriptParses text.now result }
     // No other answer may be given, out of memory aside.
-    ensures only { (other : Answered (List Written) Fault) → ScriptParses text.now other → other ≢ failed ParseError.NoMemory →
-        (result ≡ other) ⊎ (result ≡ failed ParseError.NoMemory) }
+    ensures only { (other : Answered (List Written) Fault) → ScriptParses text.now other → other ≢ failed ScriptSyntax.NoMemory →
+        (result ≡ other) ⊎ (result ≡ failed ScriptSyntax.NoMemory) }
 {
     parts_of(alloc, text)
 }
 
 // The parts that are read, or why there are none.
-fn parts_of<'a>(alloc: Global, text: &'a [u8]) -> Result<PartList<'a>, ParseError>
+fn parts_of<'a>(alloc: Global, text: &'a [u8]) -> Result<PartList<'a>, ScriptSyntax>
     ensures { Answers scripts (read scripts script_start (record { rest = answers_of text.now; end = length text.now })) result }
 {
     let mut reader = Reader::new(text);

@@ -1,19 +1,20 @@
 // The parts of a script.
 ghost use Rattle.std.specs.Prelude.{◌≡◌, ◌≤◌, List, [], length, OnOk};
-ghost use Rattle.sg_script_grammar.specs.declared.tree.Part.{Part as Written};
-ghost use Rattle.sg_script_grammar.specs.Spelling.{Spelling};
-ghost use Rattle.sg_script_grammar.specs.Inside.States.{ScriptState, script, counts, part_behind, setup_rest, client_rest, schedule_rest, stop_rest, scripts};
+ghost use Rattle.sg_script_parse.specs.declared.tree.Part.{Part as Written};
+ghost use Rattle.sg_script_parse.specs.Grammar.Spelling.{Spelling};
+ghost use Rattle.sg_script_parse.specs.Grammar.Inside.States.{ScriptState, script, counts, part_behind, setup_rest, client_rest, schedule_rest, stop_rest, scripts};
 ghost use Rattle.sg_lex.specs.Inside.Automata.{read, Leads, Answers, read_on};
 
 use crate::calls::braced;
 use crate::reader::{mark, next_token, number, take_spelled};
 use sg_lex::{Reader, Token, TokenKind};
-use sg_script_grammar::{ParseError, Part, PartList, SpelledList};
+use crate::error::ScriptSyntax;
+use crate::tree::{Part, PartList, SpelledList};
 use std::alloc::Global;
 
 /// The parts up to the end of the text.
 #[tactic(auto, using(crate::proofs::ByToken::part_came, crate::proofs::ByToken::script_end))]
-pub fn parts<'a>(reader: &mut Reader<'a>, alloc: Global) -> Result<PartList<'a>, ParseError>
+pub fn parts<'a>(reader: &mut Reader<'a>, alloc: Global) -> Result<PartList<'a>, ScriptSyntax>
     ensures { Answers scripts (read scripts (script []) reader.old) result }
 {
     let mut parts = PartList::new(alloc);
@@ -29,7 +30,7 @@ fn part<'a>(
     reader: &mut Reader<'a>,
     alloc: Global,
     token: Token<'a>,
-) -> Result<Part<'a>, ParseError>
+) -> Result<Part<'a>, ScriptSyntax>
     ensures leads { (go : Written → ScriptState) →
         Leads scripts (read_on scripts (part_behind go token.entry) token.entry reader.old) result go reader.new }
     ensures fewer { OnOk result (length reader.new.rest ≤ length reader.old.rest) }
@@ -46,11 +47,11 @@ fn part<'a>(
     if token.is_word(b"stop") {
         return stop(reader, alloc, token.at);
     }
-    Err(ParseError::Syntax { at: token.at })
+    Err(ScriptSyntax::Syntax { at: token.at })
 }
 
 /// The calls of the setup, behind its word at this place.
-fn setup<'a>(reader: &mut Reader<'a>, alloc: Global, at: usize) -> Result<Part<'a>, ParseError>
+fn setup<'a>(reader: &mut Reader<'a>, alloc: Global, at: usize) -> Result<Part<'a>, ScriptSyntax>
     ensures leads { (go : Written → ScriptState) → Leads scripts (read scripts (setup_rest go at) reader.old) result go reader.new }
     ensures fewer { OnOk result (length reader.new.rest ≤ length reader.old.rest) }
 {
@@ -59,7 +60,7 @@ fn setup<'a>(reader: &mut Reader<'a>, alloc: Global, at: usize) -> Result<Part<'
 }
 
 /// The number and the calls of a client, behind the word at this place.
-fn client<'a>(reader: &mut Reader<'a>, alloc: Global, at: usize) -> Result<Part<'a>, ParseError>
+fn client<'a>(reader: &mut Reader<'a>, alloc: Global, at: usize) -> Result<Part<'a>, ScriptSyntax>
     ensures leads { (go : Written → ScriptState) → Leads scripts (read scripts (client_rest go at) reader.old) result go reader.new }
     ensures fewer { OnOk result (length reader.new.rest ≤ length reader.old.rest) }
 {
@@ -69,7 +70,7 @@ fn client<'a>(reader: &mut Reader<'a>, alloc: Global, at: usize) -> Result<Part<
 }
 
 /// The numbers of the schedule, behind its word at this place.
-fn schedule<'a>(reader: &mut Reader<'a>, alloc: Global, at: usize) -> Result<Part<'a>, ParseError>
+fn schedule<'a>(reader: &mut Reader<'a>, alloc: Global, at: usize) -> Result<Part<'a>, ScriptSyntax>
     ensures leads { (go : Written → ScriptState) → Leads scripts (read scripts (schedule_rest go at) reader.old) result go reader.new }
     ensures fewer { OnOk result (length reader.new.rest ≤ length reader.old.rest) }
 {
@@ -78,7 +79,7 @@ fn schedule<'a>(reader: &mut Reader<'a>, alloc: Global, at: usize) -> Result<Par
 }
 
 /// The numbers of the stops, behind the word at this place.
-fn stop<'a>(reader: &mut Reader<'a>, alloc: Global, at: usize) -> Result<Part<'a>, ParseError>
+fn stop<'a>(reader: &mut Reader<'a>, alloc: Global, at: usize) -> Result<Part<'a>, ScriptSyntax>
     ensures leads { (go : Written → ScriptState) → Leads scripts (read scripts (stop_rest go at) reader.old) result go reader.new }
     ensures fewer { OnOk result (length reader.new.rest ≤ length reader.old.rest) }
 {
@@ -88,7 +89,7 @@ fn stop<'a>(reader: &mut Reader<'a>, alloc: Global, at: usize) -> Result<Part<'a
 
 /// Numbers up to a semicolon.
 #[tactic(auto, using(crate::proofs::ByToken::count_came, crate::proofs::ByToken::count_missing))]
-fn numbers<'a>(reader: &mut Reader<'a>, alloc: Global) -> Result<SpelledList<'a>, ParseError>
+fn numbers<'a>(reader: &mut Reader<'a>, alloc: Global) -> Result<SpelledList<'a>, ScriptSyntax>
     ensures leads { (k : List Spelling → ScriptState) → Leads scripts (read scripts (counts [] k) reader.old) result k reader.new }
     ensures fewer { OnOk result (length reader.new.rest ≤ length reader.old.rest) }
 {

@@ -8,7 +8,7 @@ ghost use Rattle.sg_slots.specs.Decide.{Decides};
 ghost use Rattle.sg_slots.specs.RowModel.{RowModel};
 ghost use Rattle.sg_slots.specs.Slots.{object_of, row_with, rows_of};
 
-use crate::{Decision, Entry, Slots, carry_out};
+use crate::{Decision, Slot, Slots, carry_out};
 use sg_base::{Call, NoMemory, Path, Stops};
 use sg_facts::{Outcome, Parents, Service, Shape};
 use std::alloc::Global;
@@ -31,7 +31,7 @@ pub const SINGLE_ROWS: Shape = Shape {
 };
 
 /// What tells a service of single rows from the others: its shape, and what it decides of a call on its entries.
-pub trait RowRules: Entry + Sized {
+pub trait RowRules: Slot + Sized {
     /// The service as plain data, with the laws that it keeps to.
     ghost model: { RowModel };
 
@@ -45,7 +45,7 @@ pub trait RowRules: Entry + Sized {
         ensures { Decides model.facts model.ask model.parts Self.body slots.now call.now result };
 
     /// No descriptor has a parent.
-    ghost alone: { (e : Self) → (Self.Entry.body e).parent ≡ 0 };
+    ghost alone: { (e : Self) → (Self.Slot.body e).parent ≡ 0 };
 }
 
 /// A service of single rows: it holds an entry for each descriptor, does with a call what its entries' rules decide, and

@@ -5,7 +5,7 @@ ghost use Rattle.sg_store.specs.Spans.{AreApart, FitsPatch, GrowsTwice, HasRoomI
 ghost use Rattle.sg_store.specs.Inside.Places.{HasSpan};
 
 use crate::buffer::{add_copy, write_at};
-use crate::places::{Place, Places, add_place, place_of, set_place};
+use crate::places::{Span, Places, add_place, place_of, set_place};
 use sg_base::{NoMemory, Path};
 use sg_facts::{MOST_FILE, MOST_WRITTEN, Patch};
 use std::alloc::Global;
@@ -107,7 +107,7 @@ impl Files {
         ensures there { OnOk result (IsSome (span_at self.new.spans key.now)) }
         ensures rooms { (k : List ℕ) → room_in self.new.spans k ≡ room_in self.old.spans k }
     {
-        let place = Place {
+        let place = Span {
             from: 0,
             len: 0,
             room: 0,
@@ -136,7 +136,7 @@ impl Files {
     }
 
     // Moves a file to the end of the buffer, into a greater room.
-    fn move_to_end(&mut self, key: &Path, place: Place, room: usize) -> Result<(), NoMemory>
+    fn move_to_end(&mut self, key: &Path, place: Span, room: usize) -> Result<(), NoMemory>
         requires there { HasSpan self.old.spans key.now place }
         requires twice { 2 * place.room ≤ room }
         requires enough { min (place.len + most_written) most_file ≤ room }
@@ -147,7 +147,7 @@ impl Files {
     {
         let from = self.buffer.len();
         add_copy(&mut self.buffer, place.from, place.len, room)?;
-        let moved = Place {
+        let moved = Span {
             from,
             len: place.len,
             room,
@@ -168,7 +168,7 @@ impl Files {
         match place_of(&self.places, key) {
             Some(place) => {
                 write_at(&mut self.buffer, place.from + at, bytes);
-                let written = Place {
+                let written = Span {
                     from: place.from,
                     len: place.len.max(at + bytes.len()),
                     room: place.room,

@@ -19,10 +19,10 @@ use Rattle.sg_facts.specs.Interface.{Declared, declares}
 use Rattle.sg_facts.specs.Tables.{AreTables, is_for, line_order, walk_of}
 use Rattle.sg_facts.specs.Walks.{IsReachable, IsWalkOf, made, moved}
 use Rattle.sg_facts.proofs.Halving.{not_found, of_before}
-use Rattle.sg_reach.proofs.Adding.{four_fields}
-use Rattle.sg_reach.proofs.Closure.{there}
-use Rattle.sg_reach.proofs.Marks.{only}
-use Rattle.sg_reach.proofs.Reaching.{made_declared, place_reached}
+use Rattle.sg_walk.proofs.Reach.Adding.{four_fields}
+use Rattle.sg_walk.proofs.Reach.Closure.{there}
+use Rattle.sg_walk.proofs.Reach.Marks.{only}
+use Rattle.sg_walk.proofs.Reach.Reaching.{made_declared, place_reached}
 use Rattle.sg_check.specs.Shapes.{IsSmall}
 use Rattle.sg_check.proofs.Seeking.{walked_set}
 use Rattle.sg_stub.specs.Inside.Lines.{AreBefore, IsBefore, IsGood, IsLineOf}

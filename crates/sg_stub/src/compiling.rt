@@ -7,7 +7,7 @@ use crate::triples::TripleSet;
 use sg_base::{NoMemory, TryCopy};
 use sg_check::Accepted;
 use sg_facts::Tables;
-use sg_reach::reachable;
+use sg_walk::reachable;
 use std::alloc::Global;
 
 /// The tables of an accepted interface: one line for each creation, state and set of fields that its descriptors can come to,

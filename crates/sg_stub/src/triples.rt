@@ -3,7 +3,7 @@ ghost use Rattle.std.specs.Prelude.{◌≡◌, IfOk};
 ghost use Rattle.sg_stub.specs.Inside.Triples.{SameTriples, has_triple};
 
 use sg_base::NoMemory;
-use sg_reach::Triple;
+use sg_walk::Triple;
 use std::alloc::Global;
 use std::collections::HashSet;
 use std::marker::Model;

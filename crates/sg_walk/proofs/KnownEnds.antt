@@ -7,8 +7,8 @@ use Rattle.std.proofs.lemmas.Bool.{cases_Bool, and_parts}
 use Rattle.std.proofs.lemmas.Bool.Decides.{nat_tests}
 use Rattle.std.proofs.lemmas.List.Folds.{list_any_at}
 use Rattle.std.proofs.lemmas.List.Elements.{Contains-append_right}
-use Rattle.sg_walk.specs.declared.spot.Mark.{Mark}
-use Rattle.sg_walk.specs.declared.spot.Mark.TheVariants.{Unset, Good, Unknown}
+use Rattle.sg_walk.specs.declared.spot.FieldState.{FieldState}
+use Rattle.sg_walk.specs.declared.spot.FieldState.TheVariants.{Unset, Good, Unknown}
 use Rattle.sg_walk.specs.declared.ends.DeadEnd.{DeadEnd}
 use Rattle.sg_walk.specs.Inside.Ends.{GainsEnd}
 use Rattle.sg_walk.specs.contracts.ends.DeadEndPartialEq.TheImpl.{eq-value}
@@ -16,7 +16,7 @@ use Rattle.sg_walk.specs.contracts.spot.MarkPartialEq.TheImpl.{eq-value as mark-
 
 -- ---- what is told apart is not the same
 
-same_mark : (a b : Mark) → mark-eq.it a b ≡ true → a ≡ b
+same_mark : (a b : FieldState) → mark-eq.it a b ≡ true → a ≡ b
 same_mark Unset Unset same = refl
 same_mark Unset Good same = cc same
 same_mark Unset Unknown same = cc same
@@ -27,12 +27,12 @@ same_mark Unknown Unset same = cc same
 same_mark Unknown Good same = cc same
 same_mark Unknown Unknown same = refl
 
-mark_itself : (a : Mark) → mark-eq.it a a ≡ true
+mark_itself : (a : FieldState) → mark-eq.it a a ≡ true
 mark_itself Unset = refl
 mark_itself Good = refl
 mark_itself Unknown = refl
 
-same_marks : (xs ys : List Mark) → pointwise mark-eq.it xs ys ≡ true → xs ≡ ys
+same_marks : (xs ys : List FieldState) → pointwise mark-eq.it xs ys ≡ true → xs ≡ ys
 same_marks [] [] same = refl
 same_marks [] (y ∷ ys) same = absurd (cc same)
 same_marks (x ∷ xs) [] same = absurd (cc same)
@@ -42,7 +42,7 @@ same_marks (x ∷ xs) (y ∷ ys) same =
     let rest : xs ≡ ys = same_marks xs ys parts.1 in
     cc
 
-marks_themselves : (xs : List Mark) → pointwise mark-eq.it xs xs ≡ true
+marks_themselves : (xs : List FieldState) → pointwise mark-eq.it xs xs ≡ true
 marks_themselves [] = refl
 marks_themselves (x ∷ xs) = rw (mark_itself x) (marks_themselves xs)
 

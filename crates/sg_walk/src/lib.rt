@@ -1,16 +1,25 @@
-//! The walks by which a descriptor is rebuilt: whether a walk restores a state, and the least walk that does.
+//! What descriptors come to, and the walks by which they are rebuilt: what each creation's descriptors reach by declared
+//! calls, whether a walk restores a state, and the least walk that does.
 //!
+//! - `reach`: all that descriptors can come to (`reachable`), by `closing` (the places that declared calls lead to),
+//!   `effects` (what a function's effects make of a set of fields), `found` (the places that were found, each once) and
+//!   `place` (a state with a set of fields, and with the creation: `Triple`)
 //! - `restoring`: whether a walk restores a state and a set of fields (`restores`)
 //! - `least`: the least walk that does (`shortest`)
 //! - `search`: the first walk of a given length
 //! - `ends`: from where a search is known to find nothing (`DeadEnds`)
 //! - `steps`: how a walk begins and goes on
 //! - `step_set`: recover steps, to be looked up (`StepSet`)
-//! - `spot`: where a walk has come to (`Spot`, `Mark`), and what is sought (`Goal`)
+//! - `spot`: where a walk has come to (`Spot`, `FieldState`), and what is sought (`Goal`)
 #![tactic(auto)]
 
+mod closing;
+mod effects;
 mod ends;
+mod found;
 mod least;
+mod place;
+mod reach;
 mod restoring;
 mod search;
 mod spot;
@@ -18,4 +27,6 @@ mod step_set;
 mod steps;
 
 pub use least::shortest;
+pub use place::Triple;
+pub use reach::{TripleList, reachable};
 pub use restoring::restores;

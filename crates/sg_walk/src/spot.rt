@@ -7,7 +7,7 @@ use sg_facts::Effect;
 
 /// What is known of a field when a walk has come so far.
 #[derive(Clone, Copy, Debug, PartialEq, Eq, Hash)]
-pub enum Mark {
+pub enum FieldState {
     /// The field is 0 or empty.
     Unset,
     /// The field has the row's value.
@@ -20,7 +20,7 @@ pub enum Mark {
 #[derive(Clone, Copy, Debug, PartialEq, Eq, Hash)]
 pub struct Spot {
     pub state: u8,
-    pub marks: [Mark; 8],
+    pub marks: [FieldState; 8],
 }
 
 /// The state that is sought, and the number of the set of fields.
@@ -30,19 +30,19 @@ pub struct Goal {
     pub mask: u8,
 }
 
-impl Mark {
+impl FieldState {
     /// The mark after an effect.
-    pub fn after(self, effect: Effect) -> Mark
+    pub fn after(self, effect: Effect) -> FieldState
         ensures { known_of result ≡ mark_after effect (known_of self) }
     {
         match effect {
-            Effect::SetCaller | Effect::SetArg(_) => Mark::Good,
+            Effect::SetCaller | Effect::SetArg(_) => FieldState::Good,
             Effect::AddArg(_) => match self {
-                Mark::Unset => Mark::Good,
-                Mark::Good | Mark::Unknown => Mark::Unknown,
+                FieldState::Unset => FieldState::Good,
+                FieldState::Good | FieldState::Unknown => FieldState::Unknown,
             },
-            Effect::SetRet | Effect::AddRet | Effect::SubOne => Mark::Unknown,
-            Effect::Clear => Mark::Unset,
+            Effect::SetRet | Effect::AddRet | Effect::SubOne => FieldState::Unknown,
+            Effect::Clear => FieldState::Unset,
         }
     }
 
@@ -51,15 +51,15 @@ impl Mark {
         ensures { result ≡ restores_field (known_of self) is_set }
     {
         match self {
-            Mark::Unset => !is_set,
-            Mark::Good => true,
-            Mark::Unknown => false,
+            FieldState::Unset => !is_set,
+            FieldState::Good => true,
+            FieldState::Unknown => false,
         }
     }
 }
 
 /// The marks after a function's effects, where rows have so many fields.
-pub fn marked(marks: [Mark; 8], count: usize, effects: &[(u8, Effect)]) -> [Mark; 8]
+pub fn marked(marks: [FieldState; 8], count: usize, effects: &[(u8, Effect)]) -> [FieldState; 8]
     requires { count ≤ 8 }
     ensures { shown_marks count result ≡ marks_after (map (λ p. (p.0, p.1)) effects.now) (shown_marks count marks) }
 {
@@ -69,7 +69,7 @@ pub fn marked(marks: [Mark; 8], count: usize, effects: &[(u8, Effect)]) -> [Mark
 }
 
 // Marks the fields that effects name.
-fn mark_each(marks: &mut [Mark], effects: &[(u8, Effect)])
+fn mark_each(marks: &mut [FieldState], effects: &[(u8, Effect)])
     ensures len { length marks.new ≡ length marks.old }
     ensures marked { map known_of marks.new ≡ marks_after (map (λ p. (p.0, p.1)) effects.now) (map known_of marks.old) }
 {
@@ -82,7 +82,7 @@ fn mark_each(marks: &mut [Mark], effects: &[(u8, Effect)])
 }
 
 /// Whether marks restore the set of fields that has a number: bit i for field i.
-pub fn restores_number(marks: &[Mark], number: u8) -> bool
+pub fn restores_number(marks: &[FieldState], number: u8) -> bool
     ensures { result ≡ restores_number (map known_of marks.now) number }
 {
     match marks {

@@ -5,7 +5,7 @@ ghost use Rattle.sg_facts.specs.Walks.{unset, may_begin, may_go_on, first_spot, 
 ghost use Rattle.sg_walk.specs.Limits.{HasFewFields};
 ghost use Rattle.sg_walk.specs.Inside.Spots.{shown, shown_marks, is_goal};
 
-use crate::spot::{Goal, Mark, Spot, marked, restores_number};
+use crate::spot::{Goal, FieldState, Spot, marked, restores_number};
 use sg_facts::Interface;
 
 /// Where a walk has come to after its creation; None exactly where no walk begins with this function.
@@ -55,11 +55,11 @@ pub fn is_goal(iface: &Interface, spot: Spot, goal: Goal) -> bool
 }
 
 // The marks where nothing is set yet.
-fn none_set(iface: &Interface) -> [Mark; 8]
+fn none_set(iface: &Interface) -> [FieldState; 8]
     requires { HasFewFields iface.now }
     ensures { shown_marks (length iface.now.facts.fields) result ≡ map (λ f. unset) iface.now.facts.fields }
 {
-    [Mark::Unset; 8]
+    [FieldState::Unset; 8]
 }
 
 // The number of fields of a row.

@@ -10,7 +10,7 @@ use Rattle.sg_facts.specs.declared.entry.Entry.{Entry}
 use Rattle.sg_facts.specs.declared.trace.Item.{Item}
 use Rattle.sg_facts.specs.Facts.{is_visible}
 use Rattle.sg_facts.specs.Trace.{Boot, Run}
-use Rattle.sg_hist.specs.Reading.{Place, behind, is_by_guard, is_item_of, past, places_from, places_of, stands_before}
+use Rattle.sg_hist.specs.Reading.{Position, behind, is_by_guard, is_item_of, past, places_from, places_of, stands_before}
 use Rattle.sg_hist.specs.Recovered.{Stubs, is_visible_reply}
 use Rattle.sg_hist.specs.Growing.{AreKept, IsHeldReply, IsItemOf, IsLastCall, IsNextItem, IsRecovering, IsSettled, IsOfNoEntry, noted, place_behind}
 use Rattle.sg_hist.proofs.Growing.{places-more, stands_before-own}
@@ -59,7 +59,7 @@ held_ahead s h pre post p run u apart all es drawn =
 
 -- ---- a refusal by the guard
 
-guard_nowhere : (e : Entry) → is_by_guard e.reply ≡ true → (ps : List Place) → Each (λ p. stands_before p e ≡ false) ps
+guard_nowhere : (e : Entry) → is_by_guard e.reply ≡ true → (ps : List Position) → Each (λ p. stands_before p e ≡ false) ps
 guard_nowhere e guards [] = tt
 guard_nowhere e guards (p ∷ ps) = (ap (λ b. not b && list_any (is_item_of e) (past p) && not (list_any (is_item_of e) (p.item ∷ behind p))) guards, guard_nowhere e guards ps)
 
@@ -87,7 +87,7 @@ own_nowhere b boots item e own =
     with_last item (place_behind [] (b ∷ boots) item) (λ p. Unit {0}) (λ p. stands_before p e ≡ false) (places_from [] (b ∷ boots)) (places_from [] (noted (b ∷ boots) item)) (places-more [] b boots item)
     (λ p q g is. stands_before-own item p q e g own) (last (place_behind [] (b ∷ boots) item) (own_item [] b boots item)) (nothing (places_from [] (b ∷ boots)))
   where
-    nothing : (ps : List Place) → Each (λ p. Unit {0}) ps
+    nothing : (ps : List Position) → Each (λ p. Unit {0}) ps
     nothing [] = tt
     nothing (p ∷ ps) = (tt, nothing ps)
 
@@ -97,7 +97,7 @@ own_nowhere b boots item e own =
     at true false true is = refl
     at true true true is = refl
 
-    last : (q : Place) → q.item ≡ item → stands_before q e ≡ false
+    last : (q : Position) → q.item ≡ item → stands_before q e ≡ false
     last q same = three (not (is_by_guard e.reply)) (list_any (is_item_of e) (past q)) (is_item_of e q.item) (list_any (is_item_of e) (behind q)) (ap (is_item_of e) same ∙ own)
       where
         three : (g a o r : Bool) → o ≡ true → (g && a && not (o || r)) ≡ false

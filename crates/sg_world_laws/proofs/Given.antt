@@ -15,7 +15,7 @@ use Rattle.sg_facts.specs.declared.outcome.Outcome.TheVariants.{Blocks, NoMemory
 use Rattle.sg_facts.specs.declared.trace.Item.{Item}
 use Rattle.sg_facts.specs.declared.trace.Tag.{Tag}
 use Rattle.sg_facts.specs.declared.trace.Tag.TheVariants.{Client, Load, Walk}
-use Rattle.sg_hist.specs.Reading.{Place, desc_in, entries_before, id_given, is_by_guard, is_item_of, items_of, places_from, places_in, stands_before}
+use Rattle.sg_hist.specs.Reading.{Position, desc_in, entries_before, id_given, is_by_guard, is_item_of, items_of, places_from, places_in, stands_before}
 use Rattle.sg_hist.specs.Recovered.{IsCommitted, is_clients, is_replied}
 use Rattle.sg_recovery_laws.proofs.Given.{HasEntry, IsGiven, committed_given, is_numbered, made_visible}
 use Rattle.sg_recovery_laws.proofs.Lists.{each_map, each_split}
@@ -66,12 +66,12 @@ given_any facts h xs ys front all = each_map (IsGiven facts h) (IsSameId facts (
 
 -- ---- a refusal by the guard
 
-any_same : (f g : Place → Bool) (ps : List Place) → ((p : Place) → f p ≡ g p) → list_any f ps ≡ list_any g ps
+any_same : (f g : Position → Bool) (ps : List Position) → ((p : Position) → f p ≡ g p) → list_any f ps ≡ list_any g ps
 any_same f g [] so = refl
 any_same f g (p ∷ ps) so = ap (λ b. b || list_any f ps) (so p) ∙ ap (λ b. g p || b) (any_same f g ps so)
 
 -- it stands before no place
-pub before_same : (h es : List Entry) (e : Entry) (p : Place) → is_by_guard e.reply ≡ true → entries_before (h ++ e ∷ es) p ≡ entries_before (h ++ es) p
+pub before_same : (h es : List Entry) (e : Entry) (p : Position) → is_by_guard e.reply ≡ true → entries_before (h ++ e ∷ es) p ≡ entries_before (h ++ es) p
 before_same h es e p guards =
     filter-append (stands_before p) h (e ∷ es)
     ∙ ap (λ q. filter (stands_before p) h ++ cond q (e ∷ filter (stands_before p) es) (filter (stands_before p) es)) (ap (λ q. not q && list_any (is_item_of e) (p.older ++ p.front) && not (list_any (is_item_of e) (p.item ∷ (p.rest ++ p.newer)))) guards)

@@ -10,13 +10,13 @@ use Rattle.sg_facts.proofs.Halving.{found}
 use Rattle.sg_facts.specs.Trace.{Boot, Run}
 use Rattle.sg_facts.specs.declared.entry.Entry.{Entry}
 use Rattle.sg_facts.specs.declared.trace.Item.{Item}
-use Rattle.sg_hist.specs.Reading.{Place, is_by_guard, is_item_of, items_of, places_from, places_in, places_of}
+use Rattle.sg_hist.specs.Reading.{Position, is_by_guard, is_item_of, items_of, places_from, places_in, places_of}
 use Rattle.sg_recovery_laws.proofs.Lists.{each_append}
 use Rattle.sg_recovery_laws.proofs.Served.{Has, each_reverse, found_has}
 use Rattle.sg_hist.specs.Growing.{IsInLast, last_items, older_items}
 use Rattle.sg_facts.proofs.Replaying.Found.{within}
 
-abbrev pub IsAmong : List Item → Place → Type 0
+abbrev pub IsAmong : List Item → Position → Type 0
 IsAmong items p = (test : Item → Bool) → test p.item ≡ true → list_any test items ≡ true
 
 or_left : (a c : Bool) → a ≡ true → (a || c) ≡ true
@@ -53,7 +53,7 @@ among_places before (b ∷ c ∷ boots) =
     (among_in all before [] b.items (items_of (c ∷ boots)) (λ test is. within_older (before ++ b.items) (c ∷ boots) test (any_right test before b.items is)))
     (among_places (before ++ b.items) (c ∷ boots))
 
-pub found_passes : (f : Place → Bool) (ps : List Place) (p : Place) → find f ps ≡ Some p → f p ≡ true
+pub found_passes : (f : Position → Bool) (ps : List Position) (p : Position) → find f ps ≡ Some p → f p ≡ true
 found_passes f [] p is = absurd (cc is)
 found_passes f (x ∷ ps) p is = at (f x) refl (found_passes f ps p) is
   where

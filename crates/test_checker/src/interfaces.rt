@@ -1,6 +1,6 @@
 // Interfaces that no text declares.
 ghost use Rattle.std.specs.Prelude.{IfOk};
-ghost use Rattle.sg_reach.specs.Limits.{HasFourFields};
+ghost use Rattle.sg_walk.specs.Reach.Limits.{HasFourFields};
 ghost use Rattle.sg_walk.specs.Limits.{HasFewFields};
 
 use sg_base::PairList;

@@ -4,7 +4,7 @@ use sg_event::event_shape;
 use sg_facts::{Service, Shape};
 use sg_lock::LockService;
 use sg_ramfs::ramfs_shape;
-use sg_reach::{Triple, reachable};
+use sg_walk::{Triple, reachable};
 use std::test::Fail;
 
 // A shape, the functions and transitions that are declared, and all that descriptors come to.

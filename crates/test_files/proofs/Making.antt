@@ -13,7 +13,7 @@ use Rattle.sg_facts.specs.Object.{Object, after}
 use Rattle.sg_facts.specs.Track.{row_at, is_live}
 use Rattle.sg_facts.proofs.RowLists.{live_of_row}
 use Rattle.sg_ramfs.specs.RamfsFacts.{ramfs_facts}
-use Rattle.sg_ramfs.specs.RamfsShapeLaw.{ramfs_counts_slowly}
+use Rattle.sg_ramfs.specs.Laws.RamfsShapeLaw.{ramfs_counts_slowly}
 use Rattle.sg_ramfs.specs.RamfsTable.{ramfs_table}
 use Rattle.test_files.specs.Few.{AreFew, making_of, may_be_below}
 

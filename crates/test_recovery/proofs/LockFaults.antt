@@ -7,7 +7,7 @@ use Rattle.sg_recovery_laws.proofs.Lists.{each_contains}
 use Rattle.std.proofs.lemmas.Bool.Decides.{nat_tests}
 use Rattle.test_recovery.specs.LockRuns.{lock_stubs, out_of_order, two_makers_ends, two_makers_history, another_id, boot_without_a_stop, asked_after_a_stop, reply_without_an_item, taken_twice, walk_from_its_middle, walk_by_another, walk_too_long, rebuilt_for_nobody, rebuilt_too_late, served_without_a_walk, half_a_walk, stop_at_another_number, point_asked_in_vain, point_left_out, rebuilt_needlessly, stop_after_take_ends, stop_after_take_history, stop_before_storage_ends, stop_before_storage_history, two_locks_ends, two_locks_history}
 use Rattle.sg_hist.specs.Recovered.{ArePointsOf, IsRebuiltFor, IsRecovered, calls_made, waiting}
-use Rattle.sg_hist.specs.Reading.{Place, is_whole_at, object_before}
+use Rattle.sg_hist.specs.Reading.{Position, is_whole_at, object_before}
 use Rattle.test_histories.specs.Written.{ok, ok_at}
 use Rattle.test_recovery.specs.Written.{bare_call, called, replied, walked}
 use Rattle.sg_facts.specs.Needs.{needs}
@@ -17,7 +17,7 @@ use Rattle.test_recovery.proofs.Apart.{caller_of, desc_given, false_true, id_in,
 third : (seq : ℕ) → nat_lt 1 seq && (nat_lt 2 seq && true) ≡ true → nat_le seq 3 && true ≡ true → seq ≡ 3
 third seq above first = grind (arith, nat_tests, above, first)
 
-abbrev place : Place
+abbrev place : Position
 place = record {
   older = called (bare_call 1 1 1 0) 0 4 (replied (ok_at 1)) ∷ called (bare_call 1 2 1 0) 0 9 (replied (ok_at 2)) ∷ [];
   front = [];

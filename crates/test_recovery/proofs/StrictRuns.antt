@@ -4,7 +4,7 @@ use Rattle.std.specs.Prelude.{ℕ, ◌&&◌, ◌<◌, ◌⊎◌, ◌≢◌, IsSo
 use Rattle.std.proofs.lemmas.Bool.Decides.{nat_tests}
 use Rattle.sg_base.specs.Lists.{Each}
 use Rattle.sg_facts.specs.Guard.{guard}
-use Rattle.sg_hist.specs.Reading.{Place, object_before}
+use Rattle.sg_hist.specs.Reading.{Position, object_before}
 use Rattle.sg_hist.specs.Recovered.{HasRecovered, IsRebuiltFor, IsRecovered, IsUsed, calls_made}
 use Rattle.sg_recovery_laws.proofs.Lists.{each_contains}
 use Rattle.test_histories.specs.Written.{ok_at}
@@ -29,7 +29,7 @@ write_before_seek-wrong r = false_true r.on_demand.1.1.0.under_way.first
 pub refused_was_asked-wrong : IsRecovered lock_stubs free_released refused_was_asked [] → ⊥
 refused_was_asked-wrong r = some_none r.on_demand.1.0.guarded
 
-abbrev place : Place
+abbrev place : Position
 place = record {
   older = called alloc 0 4 (replied (ok_at 1)) ∷ [];
   front = [];

@@ -1,5 +1,5 @@
 // Which texts are scripts, where the others fail, and what the parts of a script keep.
-use sg_script_parse::{ParseError, Part, Spelled, WrittenArg, parse};
+use sg_script_parse::{ScriptSyntax, Part, Spelled, WrittenArg, parse};
 use std::alloc::Global;
 use std::process::Abort;
 use std::test::Fail;
@@ -10,8 +10,8 @@ type Case = (&'static [u8], Option<Result<usize, usize>>);
 fn answer_on(alloc: Global, text: &[u8]) -> Option<Result<usize, usize>> {
     match parse(alloc, text) {
         Ok(parts) => Some(Ok(parts.len())),
-        Err(ParseError::Syntax { at }) => Some(Err(at)),
-        Err(ParseError::NoMemory) => None,
+        Err(ScriptSyntax::Syntax { at }) => Some(Err(at)),
+        Err(ScriptSyntax::NoMemory) => None,
     }
 }
 

@@ -1,7 +1,7 @@
 // What no clause says: that each decision is carried out where there is memory.
 use sg_base::{Code, Reply, Stops};
 use sg_facts::Outcome;
-use sg_slots::{Decision, Entry, Slots, carry_out};
+use sg_slots::{Decision, Slot, Slots, carry_out};
 use std::alloc::Global;
 use std::process::Abort;
 use std::test::Fail;
@@ -16,7 +16,7 @@ struct Seat {
     guest: u8,
 }
 
-impl Entry for Seat {
+impl Slot for Seat {
     ghost use Rattle.std.specs.Prelude.{[]};
 
     ghost body = { λ seat. record { made = 1; creator = seat.guest; parent = 0; state = 1; fields = [] } };

@@ -15,15 +15,15 @@ pub struct Scarce {
 }
 
 impl Service for Scarce {
-    ghost use Rattle.sg_lock.specs.LockAlikeLaw.{lock_answers_alike};
-    ghost use Rattle.sg_lock.specs.LockBlockedLaw.{lock_blocked_stays};
+    ghost use Rattle.sg_lock.specs.Laws.LockAlikeLaw.{lock_answers_alike};
+    ghost use Rattle.sg_lock.specs.Laws.LockBlockedLaw.{lock_blocked_stays};
     ghost use Rattle.sg_lock.specs.LockFacts.{lock_facts};
     ghost use Rattle.sg_lock.specs.LockRow.{lock_body};
-    ghost use Rattle.sg_lock.specs.LockShapeLaw.{lock_counts_slowly, lock_shape_allows};
+    ghost use Rattle.sg_lock.specs.Laws.LockShapeLaw.{lock_counts_slowly, lock_shape_allows};
     ghost use Rattle.sg_lock.specs.LockSound.{IsLockSound};
-    ghost use Rattle.sg_lock.specs.LockSoundLaw.{lock_answers_and_keeps};
+    ghost use Rattle.sg_lock.specs.Laws.LockSoundLaw.{lock_answers_and_keeps};
     ghost use Rattle.sg_lock.specs.LockTable.{lock_parts, lock_table};
-    ghost use Rattle.sg_lock.specs.LockWalkLaw.{lock_walk_goes_on};
+    ghost use Rattle.sg_lock.specs.Laws.LockWalkLaw.{lock_walk_goes_on};
     ghost use Rattle.sg_slots.specs.Slots.{object_of};
 
     ghost facts = { lock_facts };

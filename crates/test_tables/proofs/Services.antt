@@ -3,7 +3,7 @@ use Rattle.std.proofs.Common.{◌≡◌, ℕ, Bool, true, false, cond, List, [],
 use Rattle.std.specs.Str.{bytes_eq}
 use Rattle.sg_facts.specs.Facts.{Facts}
 use Rattle.sg_facts.specs.Interface.{Declared}
-use Rattle.sg_grammar.specs.declared.tree.Tree.{Tree}
+use Rattle.sg_parse.specs.declared.tree.Tree.{Tree}
 use Rattle.sg_check_statements.specs.Faults.{IsAccepted}
 use Rattle.sg_check_statements.specs.Says.{service_of}
 

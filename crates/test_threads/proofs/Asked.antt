@@ -16,7 +16,7 @@ use Rattle.sg_facts.specs.Track.{row_at, is_live, has_child, arg_at, word_of}
 use Rattle.sg_facts.proofs.RowLists.{live_of_row}
 use Rattle.sg_sched.specs.SchedFacts.{sched_facts}
 use Rattle.sg_sched.specs.SchedTable.{sched_table}
-use Rattle.sg_sched.specs.SchedShapeLaw.{replays_at}
+use Rattle.sg_sched.specs.Laws.SchedShapeLaw.{replays_at}
 use Rattle.test_threads.specs.Small.{AreSmall, is_on}
 
 -- no function sets a rank to more than its argument

@@ -4,7 +4,7 @@ use Rattle.std.specs.List.{Contains}
 use Rattle.sg_facts.specs.Fields.{number_of}
 use Rattle.sg_facts.specs.Interface.{Declared}
 use Rattle.sg_facts.specs.Walks.{IsReachable, begin_of, most_calls, restores}
-use Rattle.sg_reach.specs.declared.place.Triple.{Triple}
+use Rattle.sg_walk.specs.declared.place.Triple.{Triple}
 use Rattle.sg_check_statements.specs.Flaws.{HasNoWalk}
 use Rattle.sg_check.specs.Inside.Numbers.{has_number}
 

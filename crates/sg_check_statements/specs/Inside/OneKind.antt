@@ -2,7 +2,7 @@
 use Rattle.std.specs.Prelude.{ℕ, List, MatchOption}
 use Rattle.std.specs.declared.option.Option.{Option}
 use Rattle.sg_facts.specs.Facts.{Facts}
-use Rattle.sg_grammar.specs.declared.tree.Tree.{Tree}
+use Rattle.sg_parse.specs.declared.tree.Tree.{Tree}
 use Rattle.sg_check_statements.specs.declared.fault.CheckKind.{CheckKind}
 use Rattle.sg_check_statements.specs.Faults.{FirstOf, IsOf}
 

@@ -20,7 +20,7 @@ use Rattle.sg_hist.specs.Clients.{calls_of}
 use Rattle.sg_hist.specs.declared.ended.End.{End}
 use Rattle.sg_hist.specs.declared.ended.End.TheVariants.{Done, Blocked}
 use Rattle.sg_plain.specs.Calls.{AreEnds, EachEnd, IsEnd, ascending_from, call_after, callers, most_client, resolved, resolved_by, script_calls}
-use Rattle.sg_plain.specs.Plain.{IsPlainPlay, Phase, Player, Stage, after_call, after_guard, after_turn, after_wakes, appended, at_phase, blocked, first_stage, handed_over, holding, is_under_way, left_schedule, may_turn, next_stage, next_turn, player_at, player_of, ready, replied, served, stage_after, stage_from, through, turned, waits_on, wakes, woken_phase}
+use Rattle.sg_plain.specs.Plain.{IsPlainPlay, PlainPhase, Player, Stage, after_call, after_guard, after_turn, after_wakes, appended, at_phase, blocked, first_stage, handed_over, holding, is_under_way, left_schedule, may_turn, next_stage, next_turn, player_at, player_of, ready, replied, served, stage_after, stage_from, through, turned, waits_on, wakes, woken_phase}
 use Rattle.sg_plain.specs.Promises.{AreFirstCalls, AreScriptsCalls, GetsPlainAlone}
 use Rattle.sg_plain.specs.Script.{call_fits, calls_fit}
 use Rattle.sg_plain.proofs.Ending.Plays.{first_is_stage, goes_on, has_next, next_is, nobody}
@@ -113,7 +113,7 @@ through_woken facts script history rows call reply n [] all = tt
 through_woken facts script history rows call reply n (p ∷ players) all =
     (by p.phase all.0 (wakes facts rows call reply (waits_on (call_after facts script history n p.done))), through_woken facts script history rows call reply (n + 1) players all.1)
   where
-    by : (f : Phase) → f ≡ through → (b : Bool) → woken_phase b f ≡ through
+    by : (f : PlainPhase) → f ≡ through → (b : Bool) → woken_phase b f ≡ through
     by through is true = refl
     by through is false = refl
     by ready is b = absurd (cc is)
@@ -122,7 +122,7 @@ through_woken facts script history rows call reply n (p ∷ players) all =
     by blocked is b = absurd (cc is)
 
 -- where client 1 stands with its calls, by what is still to come of the history
-abbrev StandsAt : ℕ → ℕ → List Entry → Phase → Type 0
+abbrev StandsAt : ℕ → ℕ → List Entry → PlainPhase → Type 0
 StandsAt done entries rest ready = done ≡ entries
 StandsAt done entries rest replied = done + 1 ≡ entries
 StandsAt done entries rest (holding reply) = (done ≡ entries) × (e : Entry) × (more : List Entry) × (rest ≡ e ∷ more) × (e.reply ≡ reply)
@@ -252,7 +252,7 @@ module _ (i : Declared) (ask : Table) (script : Script) (history : List Entry) (
               by false = moved (record p { phase = holding reply }) (same, e, more, has, sym said)
 
     -- client 1 takes its turn
-    turn_alone : (f : Phase) → p.phase ≡ f → StandsAt p.done (length front) rest f → FitsCalls i.facts (script_calls script 1) p.done f → IsFront history (turned i ask script 1 now f)
+    turn_alone : (f : PlainPhase) → p.phase ≡ f → StandsAt p.done (length front) rest f → FitsCalls i.facts (script_calls script 1) p.done f → IsFront history (turned i ask script 1 now f)
     turn_alone ready phase stands below =
         let next = has_next (script_calls script 1) p.done below in
         let there : slice_get (script_calls script 1) (length front) ≡ Some next.0 = ap (slice_get (script_calls script 1)) (sym stands) ∙ next.1 in
@@ -330,7 +330,7 @@ module _ (i : Declared) (ask : Table) (script : Script) (history : List Entry) (
       may_not : may_turn s 1 ≡ false
       may_not = nobody i ask script blocks s over stage.some
 
-      under_way : (f : Phase) → is_front.p.phase ≡ f → is_under_way f ≡ true → ⊥
+      under_way : (f : PlainPhase) → is_front.p.phase ≡ f → is_under_way f ≡ true → ⊥
       under_way f same may = cc (sym may ∙ ap is_under_way (sym same) ∙ sym (ap (λ (l : List Player). is_under_way (unwrap_or (slice_get l 0) (record { done = 0; phase = through })).phase) is_front.players) ∙ may_not)
 
       nothing : (l : List Entry) → length l ≡ 0 → l ≡ []
@@ -341,7 +341,7 @@ module _ (i : Declared) (ask : Table) (script : Script) (history : List Entry) (
       length_two [] ys = omega arith
       length_two (x ∷ xs) ys = omega (arith, length_two xs ys)
 
-      by : (f : Phase) → is_front.p.phase ≡ f → StandsAt is_front.p.done (length s.history) is_front.rest f → FitsCalls i.facts (script_calls script 1) is_front.p.done f → is_front.rest ≡ []
+      by : (f : PlainPhase) → is_front.p.phase ≡ f → StandsAt is_front.p.done (length s.history) is_front.rest f → FitsCalls i.facts (script_calls script 1) is_front.p.done f → is_front.rest ≡ []
       by ready same stands below = absurd (under_way ready same refl)
       by replied same stands below = absurd (under_way replied same refl)
       by (holding reply) same stands below = absurd (under_way (holding reply) same refl)

@@ -7,7 +7,7 @@ use Rattle.sg_facts.specs.Facts.{Facts}
 use Rattle.sg_facts.specs.declared.entry.Entry.{Entry}
 use Rattle.sg_facts.specs.declared.row.Row.{Row}
 use Rattle.sg_plain.specs.Calls.{call_after, script_calls}
-use Rattle.sg_plain.specs.Plain.{Phase, Player, after_wakes, blocked, holding, ready, replied, through, waits_on, wakes, woken_phase}
+use Rattle.sg_plain.specs.Plain.{PlainPhase, Player, after_wakes, blocked, holding, ready, replied, through, waits_on, wakes, woken_phase}
 use Rattle.sg_plain.specs.Ending.Left.{FitScript, FitsCalls, all_before, all_to_come, entries_to_come, turns_before}
 use Rattle.sg_script.specs.declared.script.Script.{Script}
 use Rattle.sg_script.specs.declared.script.ScriptCall.{ScriptCall}
@@ -54,7 +54,7 @@ fit_at facts script n (x ∷ players) (suc k) p there all = subst (λ m. FitsCal
 -- ---- some are woken
 
 -- what stays of a phase that is woken
-record StaysSo (facts : Facts) (calls : List ScriptCall) (done : ℕ) (was now : Phase) : Type 0 where
+record StaysSo (facts : Facts) (calls : List ScriptCall) (done : ℕ) (was now : PlainPhase) : Type 0 where
   fits : FitsCalls facts calls done was → FitsCalls facts calls done now
   to_come : (left : ℕ) → entries_to_come left now ≡ entries_to_come left was
   before : turns_before now ≤ 3
@@ -64,7 +64,7 @@ there_below [] k c there = absurd (cc there)
 there_below (d ∷ calls) zero c there = omega arith
 there_below (d ∷ calls) (suc k) c there = omega (arith, there_below calls k c there)
 
-woken_stays : (facts : Facts) (calls : List ScriptCall) (done : ℕ) (woke : Bool) (p : Phase) → StaysSo facts calls done p (woken_phase woke p)
+woken_stays : (facts : Facts) (calls : List ScriptCall) (done : ℕ) (woke : Bool) (p : PlainPhase) → StaysSo facts calls done p (woken_phase woke p)
 woken_stays facts calls done true blocked = record { fits = λ waits. there_below calls done waits.call waits.there; to_come = λ left. refl; before = omega arith }
 woken_stays facts calls done false blocked = record { fits = λ waits. waits; to_come = λ left. refl; before = omega arith }
 woken_stays facts calls done woke ready = record { fits = λ is. is; to_come = λ left. refl; before = omega arith }

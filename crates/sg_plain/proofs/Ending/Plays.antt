@@ -15,7 +15,7 @@ use Rattle.sg_facts.specs.Legal.{Table}
 use Rattle.sg_facts.specs.Object.{Object, object_of}
 use Rattle.sg_facts.specs.declared.entry.Entry.{Entry}
 use Rattle.sg_plain.specs.Calls.{ascending_from, call_after, most_client, part_of, resolved, resolved_by, script_calls}
-use Rattle.sg_plain.specs.Plain.{IsPlainPlay, Phase, Player, Stage, after_call, after_guard, after_turn, appended, at_phase, blocked, behind_first, first_of, first_stage, gone_on, handed_over, holding, in_a_circle, is_under_way, left_schedule, may_turn, next_stage, next_turn, player_at, player_of, ready, replied, served, some_or, stage_after, stage_from, through, turned, woken_phase}
+use Rattle.sg_plain.specs.Plain.{IsPlainPlay, PlainPhase, Player, Stage, after_call, after_guard, after_turn, appended, at_phase, blocked, behind_first, first_of, first_stage, gone_on, handed_over, holding, in_a_circle, is_under_way, left_schedule, may_turn, next_stage, next_turn, player_at, player_of, ready, replied, served, some_or, stage_after, stage_from, through, turned, woken_phase}
 use Rattle.sg_plain.specs.Ending.Left.{FitScript, FitsCalls, IsPlayStage, all_before, all_to_come, entries_to_come, turns_before, turns_left}
 use Rattle.sg_plain.proofs.Ending.Players.{before_set, fit_at, fit_set, fit_woken, length_set, length_woken, to_come_set, to_come_woken, woken_at, woken_from}
 use Rattle.sg_script.specs.declared.script.Script.{Script}
@@ -139,7 +139,7 @@ module _ (i : Declared) (ask : Table) (script : Script) (blocks : (o : Object) (
               (fewer (all_to_come script 1 s.players) (all_before s.players) (all_to_come script 1 (slice_set woken (client - 1) q)) (all_before (slice_set woken (client - 1) q)) (length s.players) less most);
         }
       where
-        few_before : (f : Phase) → turns_before f ≤ 3
+        few_before : (f : PlainPhase) → turns_before f ≤ 3
         few_before ready = omega arith
         few_before replied = omega arith
         few_before (holding reply) = omega arith
@@ -160,7 +160,7 @@ module _ (i : Declared) (ask : Table) (script : Script) (blocks : (o : Object) (
     gone : (later : Stage) → slice_get later.players (client - 1) ≡ Some p → gone_on script client later ≡ record later { players = slice_set later.players (client - 1) (player_at script client (p.done + 1)) }
     gone later at = ap (λ (o : Option Player). record later { players = slice_set later.players (client - 1) (player_at script client ((unwrap_or o (record { done = 0; phase = through })).done + 1)) }) at
 
-    put : (later : Stage) (f : Phase) → slice_get later.players (client - 1) ≡ Some p → at_phase client f later ≡ record later { players = slice_set later.players (client - 1) (record p { phase = f }) }
+    put : (later : Stage) (f : PlainPhase) → slice_get later.players (client - 1) ≡ Some p → at_phase client f later ≡ record later { players = slice_set later.players (client - 1) (record p { phase = f }) }
     put later f at = ap (λ (o : Option Player). record later { players = slice_set later.players (client - 1) (record (unwrap_or o (record { done = 0; phase = through })) { phase = f }) }) at
 
     enter_next : (call : Call) (reply : Reply) → ((b : Bool) → woken_phase b p.phase ≡ p.phase) → p.done < length calls → entries_to_come (length calls - p.done) p.phase ≡ length calls - p.done
@@ -213,7 +213,7 @@ module _ (i : Declared) (ask : Table) (script : Script) (blocks : (o : Object) (
     next_call c at = ap (λ o. resolved i.facts s.history client (p.done + 1) o) at
 
     -- a turn of a client that can take one
-    turn_by : (f : Phase) → p.phase ≡ f → is_under_way f ≡ true → GoesOn i.facts script s (turned i ask script client s f)
+    turn_by : (f : PlainPhase) → p.phase ≡ f → is_under_way f ≡ true → GoesOn i.facts script s (turned i ask script client s f)
     turn_by ready same may =
         let below : p.done < length calls = subst (FitsCalls i.facts calls p.done) same fits in
         let next = has_next calls p.done below in
@@ -384,7 +384,7 @@ module _ (i : Declared) (ask : Table) (script : Script) (blocks : (o : Object) (
         more [] back = omega arith
         more (c ∷ front) back = omega (arith, more front back)
 
-        by : (p : Player) → p.done < length script.setup → (f : Phase) → FitsCalls i.facts (script_calls script 1) p.done f → is_under_way f ≡ true
+        by : (p : Player) → p.done < length script.setup → (f : PlainPhase) → FitsCalls i.facts (script_calls script 1) p.done f → is_under_way f ≡ true
         by p below ready fits = refl
         by p below replied fits = refl
         by p below (holding reply) fits = refl

@@ -16,12 +16,12 @@ use Rattle.sg_facts.specs.Limits.{last_client}
 use Rattle.sg_plain.specs.Calls.{part_of}
 use Rattle.sg_plain.specs.Script.{args_fit, call_fits, calls_fit}
 use Rattle.sg_plain.specs.Playing.Playable.{AreClients}
-use Rattle.sg_script_grammar.specs.Spelling.{Spelling}
-use Rattle.sg_script_grammar.specs.declared.tree.WrittenArg.{WrittenArg}
-use Rattle.sg_script_grammar.specs.declared.tree.WrittenArg.TheVariants.{Number, Text, Back}
-use Rattle.sg_script_grammar.specs.declared.tree.WrittenCall.{WrittenCall}
-use Rattle.sg_script_grammar.specs.declared.tree.Part.{Part}
-use Rattle.sg_script_grammar.specs.declared.tree.Part.TheVariants.{Setup, Client, Schedule, Stop}
+use Rattle.sg_script_parse.specs.Grammar.Spelling.{Spelling}
+use Rattle.sg_script_parse.specs.declared.tree.WrittenArg.{WrittenArg}
+use Rattle.sg_script_parse.specs.declared.tree.WrittenArg.TheVariants.{Number, Text, Back}
+use Rattle.sg_script_parse.specs.declared.tree.WrittenCall.{WrittenCall}
+use Rattle.sg_script_parse.specs.declared.tree.Part.{Part}
+use Rattle.sg_script_parse.specs.declared.tree.Part.TheVariants.{Setup, Client, Schedule, Stop}
 use Rattle.sg_script.specs.declared.fault.ScriptKind.TheVariants.{BadClient, Blocking, Twice}
 use Rattle.sg_script.specs.declared.script.ScriptCall.{ScriptCall}
 use Rattle.sg_script.specs.Numbers.{counts_as, is_known_client}

@@ -3,7 +3,7 @@ use Rattle.std.specs.Prelude.{ℕ, ◌≡◌, ◌+◌, ◌-◌, ◌*◌, ◌<◌
 use Rattle.std.specs.List.{list_all}
 use Rattle.sg_facts.specs.Facts.{Facts, fun_at}
 use Rattle.sg_plain.specs.Calls.{script_calls}
-use Rattle.sg_plain.specs.Plain.{Phase, Player, Stage, blocked, holding, ready, replied, through}
+use Rattle.sg_plain.specs.Plain.{PlainPhase, Player, Stage, blocked, holding, ready, replied, through}
 use Rattle.sg_script.specs.declared.script.Script.{Script}
 use Rattle.sg_script.specs.declared.script.ScriptCall.{ScriptCall}
 
@@ -14,7 +14,7 @@ pub record WaitsIn (facts : Facts) (calls : List ScriptCall) (done : ℕ) : Type
   pub may_wait : (fun_at facts.funs call.fun).block ≡ true
 
 -- a client with a call under way has a call, and one that is through has no more
-abbrev pub FitsCalls : Facts → List ScriptCall → ℕ → Phase → Type 0
+abbrev pub FitsCalls : Facts → List ScriptCall → ℕ → PlainPhase → Type 0
 FitsCalls facts calls done ready = done < length calls
 FitsCalls facts calls done replied = done < length calls
 FitsCalls facts calls done (holding reply) = done < length calls
@@ -27,7 +27,7 @@ FitScript facts script n [] = Unit {0}
 FitScript facts script n (p ∷ players) = FitsCalls facts (script_calls script n) p.done p.phase × FitScript facts script (n + 1) players
 
 -- how many entries are still to come of a client's calls, where so many calls are left
-abbrev pub entries_to_come : ℕ → Phase → ℕ
+abbrev pub entries_to_come : ℕ → PlainPhase → ℕ
 entries_to_come left ready = left
 entries_to_come left replied = left - 1
 entries_to_come left (holding reply) = left
@@ -39,7 +39,7 @@ all_to_come script n [] = 0
 all_to_come script n (p ∷ players) = entries_to_come (length (script_calls script n) - p.done) p.phase + all_to_come script (n + 1) players
 
 -- how many turns a client can take, at most, before it has to make an entry
-abbrev pub turns_before : Phase → ℕ
+abbrev pub turns_before : PlainPhase → ℕ
 turns_before ready = 2
 turns_before replied = 3
 turns_before (holding reply) = 1

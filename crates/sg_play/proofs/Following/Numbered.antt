@@ -11,7 +11,7 @@ use Rattle.sg_facts.specs.declared.trace.Tag.TheVariants.{Walk, Load, Client}
 use Rattle.sg_facts.specs.Facts.{Facts}
 use Rattle.sg_facts.specs.Trace.{Run}
 use Rattle.sg_hist.specs.Clients.{calls_of}
-use Rattle.sg_hist.specs.Reading.{Place, desc_in, desc_of, id_given, is_by_guard, is_item_of, is_tagged, item_of, places_in, places_of}
+use Rattle.sg_hist.specs.Reading.{Position, desc_in, desc_of, id_given, is_by_guard, is_item_of, is_tagged, item_of, places_in, places_of}
 use Rattle.sg_hist.specs.Recovered.{GivesEntry, HasItem}
 use Rattle.sg_plain.specs.Promises.{AreFirstCalls}
 use Rattle.sg_world_laws.proofs.Items.{IsAmong, among_in, found_passes}
@@ -92,7 +92,7 @@ have_items facts h items points (e ∷ es) all = (by (is_by_guard e.reply) all.0
     found = found_has (IsAmong items) (λ p. is_item_of e p.item) (reverse (places_of run)) (each_reverse (IsAmong items) (places_of run)
         (each_append (IsAmong items) (places_in [] [] items []) [] (among_in items [] [] items [] (λ test is. is)) tt))
 
-    at : (o : Option Place) → item_of run e ≡ o → Has (IsAmong items) o → GivesEntry facts h e o → list_any (is_item_of e) items ≡ true
+    at : (o : Option Position) → item_of run e ≡ o → Has (IsAmong items) o → GivesEntry facts h e o → list_any (is_item_of e) items ≡ true
     at None is among gives = absurd gives
     at (Some p) is among gives = among (is_item_of e) (found_passes (λ q. is_item_of e q.item) (reverse (places_of run)) p is)
 

@@ -13,7 +13,7 @@ use Rattle.sg_facts.specs.Interface.{Declared}
 use Rattle.sg_facts.specs.Legal.{Table}
 use Rattle.sg_facts.specs.Object.{object_of}
 use Rattle.sg_plain.specs.Calls.{call_after}
-use Rattle.sg_plain.specs.Plain.{IsPlainPlay, Phase, Stage, after_call, after_guard, after_turn, appended, at_phase, blocked, first_stage, handed_over, holding, left_schedule, next_stage, next_turn, player_of, ready, replied, served, stage_after, stage_from, through, turned}
+use Rattle.sg_plain.specs.Plain.{IsPlainPlay, PlainPhase, Stage, after_call, after_guard, after_turn, appended, at_phase, blocked, first_stage, handed_over, holding, left_schedule, next_stage, next_turn, player_of, ready, replied, served, stage_after, stage_from, through, turned}
 use Rattle.sg_script.specs.declared.script.Script.{Script}
 
 -- a list begins with another
@@ -61,7 +61,7 @@ module _ (i : Declared) (ask : Table) (script : Script) where
   grows_handed c s reply None = begins_same s.history
   grows_handed c s reply (Some call) = own s call reply
 
-  grows_turned : (c : ℕ) (s : Stage) (p : Phase) → Begins s.history (turned i ask script c s p).history
+  grows_turned : (c : ℕ) (s : Stage) (p : PlainPhase) → Begins s.history (turned i ask script c s p).history
   grows_turned c s ready = grows_called c s (call_after i.facts script s.history c (player_of s c).done)
   grows_turned c s replied = begins_same s.history
   grows_turned c s (holding reply) = grows_handed c s reply (call_after i.facts script s.history c (player_of s c).done)

@@ -21,7 +21,7 @@ use Rattle.sg_facts.specs.Facts.{Facts, fun_at, is_visible}
 use Rattle.sg_facts.specs.Object.{Object, file_at, first_text, object_of, patch_of, path_of, writes}
 use Rattle.sg_facts.specs.Track.{is_live, row_at}
 use Rattle.sg_facts.proofs.RowLists.{live_of_row}
-use Rattle.sg_hist.specs.Reading.{Place, desc_of, id_given, is_by_guard, is_item_of, is_made, is_ok, is_tagged, item_of, made_by, names_at, object_before, service_call, stands_before, value_at}
+use Rattle.sg_hist.specs.Reading.{Position, desc_of, id_given, is_by_guard, is_item_of, is_made, is_ok, is_tagged, item_of, made_by, names_at, object_before, service_call, stands_before, value_at}
 use Rattle.sg_hist.specs.Recovered.{AskedAs, GivesEntry, HasItem, IsByTable, IsCallOfRow, IsDemanded, IsLoad, IsLoadedFor, IsRenamed, IsReplyOf, IsTracked, IsTrackedAt, IsWalked, Stubs, is_patch_at, is_replied}
 use Rattle.sg_hist.specs.Growing.{IsNextItem, IsOfNoEntry}
 use Rattle.sg_recovery_laws.proofs.Given.{is_numbered, made_visible}
@@ -175,7 +175,7 @@ module _ (s : Stubs) (history : List Entry) (items : List Item) (is : IsAllThere
   abbrev h : List Entry
   h = history ++ e ∷ []
 
-  abbrev p : Place
+  abbrev p : Position
   p = last_place [] items item
 
   abbrev held : Object

@@ -12,7 +12,7 @@ use Rattle.sg_facts.specs.Interface.{Declared}
 use Rattle.sg_facts.specs.Legal.{Table}
 use Rattle.sg_facts.specs.Object.{object_of}
 use Rattle.sg_plain.specs.Calls.{call_after, script_calls}
-use Rattle.sg_plain.specs.Plain.{Phase, Player, Stage, after_call, after_guard, appended, at_phase, blocked, gone_on, handed_over, holding, player_at, player_of, ready, replied, served, through, turned}
+use Rattle.sg_plain.specs.Plain.{PlainPhase, Player, Stage, after_call, after_guard, appended, at_phase, blocked, gone_on, handed_over, holding, player_at, player_of, ready, replied, served, through, turned}
 use Rattle.sg_plain.specs.Playing.Callers.{AreCallers, IsCaller, handed, is_receipted}
 use Rattle.sg_plain.specs.Playing.Turns.{is_free_phase}
 use Rattle.sg_plain.proofs.Playing.Lines.{length_map}
@@ -60,7 +60,7 @@ module _ (i : Declared) (ask : Table) (script : Script) (history : List Entry) (
   phase_is : (p : SeatPhase) → s.phase ≡ p → (player_of now c).phase ≡ phase_by p s.reply (player_at script c (handed s)).phase
   phase_is p is = ap (λ x. x.phase) (player_is history seats last) ∙ ap (λ q. phase_by q s.reply (player_at script c (handed s)).phase) is
 
-  turn_by : (p : Phase) → (player_of now c).phase ≡ p → turn ≡ turned i ask script c now p
+  turn_by : (p : PlainPhase) → (player_of now c).phase ≡ p → turn ≡ turned i ask script c now p
   turn_by p is = ap (turned i ask script c now) is
 
   -- ---- changes of the client's player
@@ -72,7 +72,7 @@ module _ (i : Declared) (ask : Table) (script : Script) (history : List Entry) (
       ∙ ap (λ p. record (stage_with h l) { players = slice_set (players_by script 1 l) (c - 1) p }) (sym same)
       ∙ ap (λ ps. record (stage_with h l) { players = ps }) (sym (set_player script l c new first))
 
-  phase_with : (h : List Entry) (l : List Seat) (new : Seat) (p : Phase) → c ≤ length l → player_by script c new ≡ record { done = handed (seat_in l c); phase = p }
+  phase_with : (h : List Entry) (l : List Seat) (new : Seat) (p : PlainPhase) → c ≤ length l → player_by script c new ≡ record { done = handed (seat_in l c); phase = p }
       → at_phase c p (stage_with h l) ≡ stage_with h (slice_set l (c - 1) new)
   phase_with h l new p within same =
       ap (λ (x : Player). record (stage_with h l) { players = slice_set (players_by script 1 l) (c - 1) (record x { phase = p }) }) (player_is h l within)

@@ -8,7 +8,7 @@ use Rattle.sg_facts.specs.declared.trace.Item.{Item}
 use Rattle.sg_facts.specs.declared.trace.Tag.{Tag}
 use Rattle.sg_facts.specs.declared.trace.Tag.TheVariants.{Walk, Load, Client}
 use Rattle.sg_facts.specs.Facts.{Facts}
-use Rattle.sg_hist.specs.Reading.{Place, is_tagged, places_in}
+use Rattle.sg_hist.specs.Reading.{Position, is_tagged, places_in}
 use Rattle.sg_plain.specs.Promises.{IsWokenBetween, has_blocked, is_woken_first, wakes_at}
 use Rattle.sg_hist.proofs.Growing.{in_boot, in_older}
 use Rattle.sg_hist.specs.Growing.{AreGrown, IsGrown}
@@ -39,7 +39,7 @@ own_tag client seq = ap (λ b. b && (seq == seq)) (same_test client client refl)
 
 module _ (facts : Facts) (entries : List Entry) where
   -- one wait more comes first behind others only where one of these wakes it
-  first_more : (client seq id : ℕ) (ps : List Place) (last : Place) → (waits_at client seq last ≡ true → list_any (wakes_at facts entries id) ps ≡ true)
+  first_more : (client seq id : ℕ) (ps : List Position) (last : Position) → (waits_at client seq last ≡ true → list_any (wakes_at facts entries id) ps ≡ true)
       → is_woken_first facts entries client seq id ps ≡ true → is_woken_first facts entries client seq id (ps ++ last ∷ []) ≡ true
   first_more client seq id [] last again is = by (waits_at client seq last) refl
     where
@@ -58,11 +58,11 @@ module _ (facts : Facts) (entries : List Entry) where
       by false false again is rest = rest again is
       by false true again is rest = absurd (cc is)
 
-module _ (facts : Facts) (entries now : List Entry) (x : Item) (same : (id : ℕ) (p q : Place) → IsGrown x p q → wakes_at facts now id q ≡ wakes_at facts entries id p) where
-  waits_same : (client seq : ℕ) (p q : Place) → IsGrown x p q → waits_at client seq q ≡ waits_at client seq p
+module _ (facts : Facts) (entries now : List Entry) (x : Item) (same : (id : ℕ) (p q : Position) → IsGrown x p q → wakes_at facts now id q ≡ wakes_at facts entries id p) where
+  waits_same : (client seq : ℕ) (p q : Position) → IsGrown x p q → waits_at client seq q ≡ waits_at client seq p
   waits_same client seq p q g = ap (λ item. is_tagged client seq item.tag && has_blocked item.outcome) g.own
 
-  first_grown : (client seq id : ℕ) (ps qs : List Place) → AreGrown x ps qs → is_woken_first facts now client seq id qs ≡ is_woken_first facts entries client seq id ps
+  first_grown : (client seq id : ℕ) (ps qs : List Position) → AreGrown x ps qs → is_woken_first facts now client seq id qs ≡ is_woken_first facts entries client seq id ps
   first_grown client seq id [] [] g = refl
   first_grown client seq id [] (q ∷ qs) g = absurd g
   first_grown client seq id (p ∷ ps) [] g = absurd g
@@ -71,7 +71,7 @@ module _ (facts : Facts) (entries now : List Entry) (x : Item) (same : (id : ℕ
       ∙ ap (λ b. wakes_at facts entries id p || (not b && is_woken_first facts now client seq id qs)) (waits_same client seq p q g.0)
       ∙ ap (λ b. wakes_at facts entries id p || (not (waits_at client seq p) && b)) (first_grown client seq id ps qs g.1)
 
-  any_grown : (id : ℕ) (ps qs : List Place) → AreGrown x ps qs → list_any (wakes_at facts now id) qs ≡ list_any (wakes_at facts entries id) ps
+  any_grown : (id : ℕ) (ps qs : List Position) → AreGrown x ps qs → list_any (wakes_at facts now id) qs ≡ list_any (wakes_at facts entries id) ps
   any_grown id [] [] g = refl
   any_grown id [] (q ∷ qs) g = absurd g
   any_grown id (p ∷ ps) [] g = absurd g
@@ -143,7 +143,7 @@ since_woken facts now x client seq id none older front [] its wake = ((λ waits.
 since_woken facts now x client seq id none older front (item ∷ rest) its wake = (
   λ waits.
       let more = in_boot older (front ++ item ∷ []) rest x in
-      let last : Place = last_place older ((front ++ item ∷ []) ++ rest) x in
+      let last : Position = last_place older ((front ++ item ∷ []) ++ rest) x in
       let here : wakes_at facts now id last ≡ true = ap (λ l. wakes_at facts now id (last_place older l x)) (append_assoc front (item ∷ []) rest) ∙ wake in
       ap (list_any (wakes_at facts now item.shown.desc)) more.are
       ∙ any_end (wakes_at facts now item.shown.desc) more.grown last (ap (λ d. wakes_at facts now d last) (its.0 (first_of (is_tagged client seq item.tag) (has_blocked item.outcome) waits)) ∙ here),
@@ -156,18 +156,18 @@ since_woken facts now x client seq id none older front (item ∷ rest) its wake 
 
 -- ---- no place more
 
-module _ (facts : Facts) (entries now : List Entry) (same : (id : ℕ) (p : Place) → wakes_at facts now id p ≡ wakes_at facts entries id p) where
-  first_same : (client seq id : ℕ) (ps : List Place) → is_woken_first facts now client seq id ps ≡ is_woken_first facts entries client seq id ps
+module _ (facts : Facts) (entries now : List Entry) (same : (id : ℕ) (p : Position) → wakes_at facts now id p ≡ wakes_at facts entries id p) where
+  first_same : (client seq id : ℕ) (ps : List Position) → is_woken_first facts now client seq id ps ≡ is_woken_first facts entries client seq id ps
   first_same client seq id [] = refl
   first_same client seq id (p ∷ ps) =
       ap (λ b. b || (not (waits_at client seq p) && is_woken_first facts now client seq id ps)) (same id p)
       ∙ ap (λ b. wakes_at facts entries id p || (not (waits_at client seq p) && b)) (first_same client seq id ps)
 
-  any_same : (id : ℕ) (ps : List Place) → list_any (wakes_at facts now id) ps ≡ list_any (wakes_at facts entries id) ps
+  any_same : (id : ℕ) (ps : List Position) → list_any (wakes_at facts now id) ps ≡ list_any (wakes_at facts entries id) ps
   any_same id [] = refl
   any_same id (p ∷ ps) = ap (λ b. b || list_any (wakes_at facts now id) ps) (same id p) ∙ ap (λ b. wakes_at facts entries id p || b) (any_same id ps)
 
-  pub between_same : (ps : List Place) → Each (λ p. IsWokenBetween facts entries p p.item.tag) ps → Each (λ p. IsWokenBetween facts now p p.item.tag) ps
+  pub between_same : (ps : List Position) → Each (λ p. IsWokenBetween facts entries p p.item.tag) ps → Each (λ p. IsWokenBetween facts now p p.item.tag) ps
   between_same [] all = tt
   between_same (p ∷ ps) all = (by p.item.tag all.0, between_same ps all.1)
     where
@@ -175,11 +175,11 @@ module _ (facts : Facts) (entries now : List Entry) (same : (id : ℕ) (p : Plac
       by (Walk id k client) is = tt
       by (Load key client) is = tt
       by (Client client seq) is =
-          let ps : List Place = places_in p.older (p.front ++ p.item ∷ []) p.rest p.newer in
+          let ps : List Position = places_in p.older (p.front ++ p.item ∷ []) p.rest p.newer in
           when_so (has_blocked p.item.outcome) (is_woken_first facts entries client seq p.item.shown.desc ps ≡ true) (is_woken_first facts now client seq p.item.shown.desc ps ≡ true)
           (λ blocks woken. first_same client seq p.item.shown.desc ps ∙ woken) is
 
-  pub since_same : (client seq : ℕ) (ps : List Place) → Each (IsWokenSince facts entries client seq) ps → Each (IsWokenSince facts now client seq) ps
+  pub since_same : (client seq : ℕ) (ps : List Position) → Each (IsWokenSince facts entries client seq) ps → Each (IsWokenSince facts now client seq) ps
   since_same client seq [] all = tt
   since_same client seq (p ∷ ps) all = (
     λ waits. any_same p.item.shown.desc (places_in p.older (p.front ++ p.item ∷ []) p.rest p.newer) ∙ all.0 waits,
@@ -188,7 +188,7 @@ module _ (facts : Facts) (entries now : List Entry) (same : (id : ℕ) (p : Plac
 
 -- where waits are told by no entry at all, they are by any
 module _ (facts : Facts) (now : List Entry) where
-  first_none : (client seq id : ℕ) (ps : List Place) → is_woken_first facts [] client seq id ps ≡ true → is_woken_first facts now client seq id ps ≡ true
+  first_none : (client seq id : ℕ) (ps : List Position) → is_woken_first facts [] client seq id ps ≡ true → is_woken_first facts now client seq id ps ≡ true
   first_none client seq id [] is = refl
   first_none client seq id (p ∷ ps) is = by (waits_at client seq p) is (first_none client seq id ps)
     where
@@ -197,7 +197,7 @@ module _ (facts : Facts) (now : List Entry) where
       by true is rest = absurd (cc is)
       by false is rest = ap (λ b. wakes_at facts now id p || b) (rest is) ∙ or_true (wakes_at facts now id p)
 
-  pub between_none : (ps : List Place) → Each (λ p. IsWokenBetween facts [] p p.item.tag) ps → Each (λ p. IsWokenBetween facts now p p.item.tag) ps
+  pub between_none : (ps : List Position) → Each (λ p. IsWokenBetween facts [] p p.item.tag) ps → Each (λ p. IsWokenBetween facts now p p.item.tag) ps
   between_none [] all = tt
   between_none (p ∷ ps) all = (by p.item.tag all.0, between_none ps all.1)
     where
@@ -205,6 +205,6 @@ module _ (facts : Facts) (now : List Entry) where
       by (Walk id k client) is = tt
       by (Load key client) is = tt
       by (Client client seq) is =
-          let ps : List Place = places_in p.older (p.front ++ p.item ∷ []) p.rest p.newer in
+          let ps : List Position = places_in p.older (p.front ++ p.item ∷ []) p.rest p.newer in
           when_so (has_blocked p.item.outcome) (is_woken_first facts [] client seq p.item.shown.desc ps ≡ true) (is_woken_first facts now client seq p.item.shown.desc ps ≡ true)
           (λ blocks woken. first_none client seq p.item.shown.desc ps woken) is

@@ -5,7 +5,7 @@ use Rattle.sg_facts.specs.declared.entry.Entry.{Entry}
 use Rattle.sg_facts.specs.declared.trace.Item.{Item}
 use Rattle.sg_facts.specs.Facts.{Facts}
 use Rattle.sg_facts.specs.Trace.{Boot}
-use Rattle.sg_hist.specs.Reading.{Place, is_tagged, items_of, places_from, places_in}
+use Rattle.sg_hist.specs.Reading.{Position, is_tagged, items_of, places_from, places_in}
 use Rattle.sg_plain.specs.Promises.{IsWokenBetween, has_blocked, wakes_at}
 use Rattle.sg_hist.proofs.Growing.{items_more}
 use Rattle.sg_recovery_laws.proofs.InBoots.{older_noted}
@@ -55,7 +55,7 @@ at_places P older front (item ∷ items) newer all = (all.0, at_places P older (
 
 -- ---- all places
 
-module _ (facts : Facts) (entries now : List Entry) (x : Item) (same : (id : ℕ) (p q : Place) → IsGrown x p q → wakes_at facts now id q ≡ wakes_at facts entries id p) where
+module _ (facts : Facts) (entries now : List Entry) (x : Item) (same : (id : ℕ) (p q : Position) → IsGrown x p q → wakes_at facts now id q ≡ wakes_at facts entries id p) where
   -- who waits is woken between where an item is noted, if it was woken before it waits there
   pub between_noted : (older : List Item) (b : Boot) (boots : List Boot) → Each (λ p. IsWokenBetween facts entries p p.item.tag) (places_from older (b ∷ boots))
       → ((client seq : ℕ) → (is_tagged client seq x.tag && has_blocked x.outcome) ≡ true

@@ -8,7 +8,7 @@ use Rattle.sg_facts.specs.declared.entry.Entry.{Entry}
 use Rattle.sg_facts.specs.declared.trace.Item.{Item}
 use Rattle.sg_facts.specs.Facts.{Facts}
 use Rattle.sg_facts.specs.Trace.{Run}
-use Rattle.sg_hist.specs.Reading.{Place, is_by_guard, is_item_of, item_of, places_of}
+use Rattle.sg_hist.specs.Reading.{Position, is_by_guard, is_item_of, item_of, places_of}
 use Rattle.sg_hist.specs.Recovered.{GivesEntry, HasItem}
 use Rattle.sg_recovery_laws.proofs.Lists.{each_map}
 use Rattle.sg_recovery_laws.proofs.Served.{Has, each_reverse, found_has}
@@ -23,7 +23,7 @@ has_item facts history run e has = by (is_by_guard e.reply) (item_of run e) refl
     all : List Item
     all = older_items [] run.boots ++ last_items run.boots
 
-    by : (g : Bool) (o : Option Place) → item_of run e ≡ o → When (not g) (GivesEntry facts history e o) → (g || list_any (is_item_of e) (older_items [] run.boots ++ last_items run.boots)) ≡ true
+    by : (g : Bool) (o : Option Position) → item_of run e ≡ o → When (not g) (GivesEntry facts history e o) → (g || list_any (is_item_of e) (older_items [] run.boots ++ last_items run.boots)) ≡ true
     by true o is gives = refl
     by false None is gives = absurd gives
     by false (Some p) is gives =

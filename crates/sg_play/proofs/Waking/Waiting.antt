@@ -16,7 +16,7 @@ use Rattle.sg_facts.specs.Interface.{Declared}
 use Rattle.sg_facts.specs.Legal.{LegalFrom, Table, answer}
 use Rattle.sg_facts.specs.Object.{Object, after, object_from, object_of}
 use Rattle.sg_facts.specs.Trace.{Boot}
-use Rattle.sg_hist.specs.Reading.{Place, is_by_guard, is_item_of, is_tagged, places_from}
+use Rattle.sg_hist.specs.Reading.{Position, is_by_guard, is_item_of, is_tagged, places_from}
 use Rattle.sg_hist.specs.Recovered.{is_clients}
 use Rattle.sg_plain.specs.Plain.{wakes}
 use Rattle.sg_plain.specs.Promises.{IsWokenBetween, has_blocked, wakes_at}
@@ -114,7 +114,7 @@ module _ (z : Setting) (script : Script) (x : WorldView) (given : List (List ℕ
       by true = none
       by false = tt
 
-  same_noted : (item : Item) → IsOfNoEntry item x.history → (id : ℕ) (p q : Place) → IsGrown item p q → wakes_at facts old id q ≡ wakes_at facts old id p
+  same_noted : (item : Item) → IsOfNoEntry item x.history → (id : ℕ) (p q : Position) → IsGrown item p q → wakes_at facts old id q ≡ wakes_at facts old id p
   same_noted item none id p q g = wakes_noted facts id item p q old (none_waking item none) g
 
   -- one that rebuilds or loads
@@ -191,7 +191,7 @@ module _ (z : Setting) (script : Script) (x : WorldView) (given : List (List ℕ
   NobodyWoken reply = EachSeat (λ client t. client ≢ c → t.phase ≡ Blocked → test_of reply t.call ≡ false) x.seats
 
   -- it is entered without an item, and wakes nobody
-  line_entered : (reply : Reply) (p : Phase) (kept : Reply) → is_offered s.phase ≡ true → is_asking p ≡ false → is_held_phase p ≡ false → ((id : ℕ) (q : Place) → wakes_at facts (now_with reply) id q ≡ wakes_at facts old id q)
+  line_entered : (reply : Reply) (p : Phase) (kept : Reply) → is_offered s.phase ≡ true → is_asking p ≡ false → is_held_phase p ≡ false → ((id : ℕ) (q : Position) → wakes_at facts (now_with reply) id q ≡ wakes_at facts old id q)
       → NobodyWoken reply → AreWokenSoFar facts (x.history ++ entry_with facts x c reply ∷ []) boots (slice_set (woken facts x c reply) (c - 1) (seat_behind facts x c reply p kept))
   line_entered reply p kept offers not_asking free same nobody = record {
     woken = between_same facts old (now_with reply) same (places_from [] boots) is.woken;
@@ -243,7 +243,7 @@ module _ (z : Setting) (script : Script) (x : WorldView) (given : List (List ℕ
       guards : is_by_guard reply ≡ true
       guards = ap is_by_guard its ∙ by_the_guard z.iface (object_of facts x.history) s.call code guarded
 
-      by : (id : ℕ) (q : Place) (g : Bool) → wakes_at facts (cond g (x.history ++ entry_with facts x c reply ∷ []) []) id q ≡ wakes_at facts (cond g x.history []) id q
+      by : (id : ℕ) (q : Position) (g : Bool) → wakes_at facts (cond g (x.history ++ entry_with facts x c reply ∷ []) []) id q ≡ wakes_at facts (cond g x.history []) id q
       by id q true = wakes_refused facts id q x.history (entry_with facts x c reply) guards
       by id q false = refl
 
@@ -260,7 +260,7 @@ module _ (z : Setting) (script : Script) (x : WorldView) (given : List (List ℕ
     own_item =
         ap (is_tagged s.call.client s.call.seq) tag ∙ ap (λ n. is_tagged n s.call.seq (Client c s.call.seq)) (call_is_own facts script x.history c s (caller c first last) offers) ∙ own_tag c s.call.seq
 
-    same_entered : (id : ℕ) (p q : Place) → IsGrown item p q → wakes_at facts (now_with reply) id q ≡ wakes_at facts old id p
+    same_entered : (id : ℕ) (p q : Position) → IsGrown item p q → wakes_at facts (now_with reply) id q ≡ wakes_at facts old id p
     same_entered id p q g = by facts.global
       where
         by : (b : Bool) → wakes_at facts (cond b (x.history ++ entry_with facts x c reply ∷ []) []) id q ≡ wakes_at facts (cond b x.history []) id p

@@ -6,7 +6,7 @@ use Rattle.sg_facts.specs.declared.row.Row.{Row}
 use Rattle.sg_facts.specs.declared.trace.Item.{Item}
 use Rattle.sg_facts.specs.Facts.{Facts}
 use Rattle.sg_facts.specs.Object.{object_of}
-use Rattle.sg_hist.specs.Reading.{Place, behind, is_by_guard, is_item_of, object_before, stands_before}
+use Rattle.sg_hist.specs.Reading.{Position, behind, is_by_guard, is_item_of, object_before, stands_before}
 use Rattle.sg_plain.specs.Plain.{wakes}
 use Rattle.sg_plain.specs.Promises.{wakes_at}
 use Rattle.sg_hist.proofs.Growing.{entries_before-committed, entries_before-more, entries_before-not_yet, entries_before-refused}
@@ -38,22 +38,22 @@ any_end test (y ∷ xs) x one = ap (λ b. test y || b) (any_end test xs x one) �
 
 module _ (facts : Facts) (id : ℕ) where
   -- whether an entry's item stands at a place, and wakes
-  abbrev wakes_by : List Row → Place → Entry → Bool
+  abbrev wakes_by : List Row → Position → Entry → Bool
   wakes_by rows p e = not (is_by_guard e.reply) && is_item_of e p.item && not (list_any (is_item_of e) (behind p)) && wakes facts rows e.call e.reply id
 
-  by_grown : (rows : List Row) (item : Item) (p q : Place) (e : Entry) → IsGrown item p q → is_item_of e item ≡ false → wakes_by rows q e ≡ wakes_by rows p e
+  by_grown : (rows : List Row) (item : Item) (p q : Position) (e : Entry) → IsGrown item p q → is_item_of e item ≡ false → wakes_by rows q e ≡ wakes_by rows p e
   by_grown rows item p q e g none =
       let later : list_any (is_item_of e) (behind q) ≡ list_any (is_item_of e) (behind p) = ap (list_any (is_item_of e)) g.behind_it ∙ any_but (is_item_of e) (behind p) item none in
       ap (λ x. not (is_by_guard e.reply) && is_item_of e x && not (list_any (is_item_of e) (behind q)) && wakes facts rows e.call e.reply id) g.own
       ∙ ap (λ b. not (is_by_guard e.reply) && is_item_of e p.item && not b && wakes facts rows e.call e.reply id) later
 
-  any_grown : (rows : List Row) (item : Item) (p q : Place) (history : List Entry) → IsGrown item p q → IsOfNoEntry item history → list_any (wakes_by rows q) history ≡ list_any (wakes_by rows p) history
+  any_grown : (rows : List Row) (item : Item) (p q : Position) (history : List Entry) → IsGrown item p q → IsOfNoEntry item history → list_any (wakes_by rows q) history ≡ list_any (wakes_by rows p) history
   any_grown rows item p q [] g none = refl
   any_grown rows item p q (e ∷ history) g none =
       ap (λ b. b || list_any (wakes_by rows q) history) (by_grown rows item p q e g none.0) ∙ ap (λ b. wakes_by rows p e || b) (any_grown rows item p q history g none.1)
 
   -- an item is noted that is of no entry
-  pub wakes_noted : (item : Item) (p q : Place) (history : List Entry) → IsOfNoEntry item history → IsGrown item p q → wakes_at facts history id q ≡ wakes_at facts history id p
+  pub wakes_noted : (item : Item) (p q : Position) (history : List Entry) → IsOfNoEntry item history → IsGrown item p q → wakes_at facts history id q ≡ wakes_at facts history id p
   wakes_noted item p q history none g =
       ap (λ es. list_any (wakes_by (object_of facts es).rows q) history) (entries_before-more item p q history g none)
       ∙ any_grown (object_before facts history p).rows item p q history g none
@@ -64,7 +64,7 @@ module _ (facts : Facts) (id : ℕ) where
   nothing false b w = refl
 
   -- an item is noted with its entry
-  pub wakes_entered : (item : Item) (p q : Place) (history : List Entry) (e : Entry) → IsOfNoEntry item history → is_item_of e item ≡ true → IsGrown item p q
+  pub wakes_entered : (item : Item) (p q : Position) (history : List Entry) (e : Entry) → IsOfNoEntry item history → is_item_of e item ≡ true → IsGrown item p q
       → wakes_at facts (history ++ e ∷ []) id q ≡ wakes_at facts history id p
   wakes_entered item p q history e none own g =
       let rows : List Row = (object_before facts history p).rows in
@@ -76,7 +76,7 @@ module _ (facts : Facts) (id : ℕ) where
       ∙ any_grown rows item p q history g none
 
   -- a refusal by the guard is entered
-  pub wakes_refused : (p : Place) (history : List Entry) (e : Entry) → is_by_guard e.reply ≡ true → wakes_at facts (history ++ e ∷ []) id p ≡ wakes_at facts history id p
+  pub wakes_refused : (p : Position) (history : List Entry) (e : Entry) → is_by_guard e.reply ≡ true → wakes_at facts (history ++ e ∷ []) id p ≡ wakes_at facts history id p
   wakes_refused p history e guards =
       let rows : List Row = (object_before facts history p).rows in
       ap (λ es. list_any (wakes_by (object_of facts es).rows p) (history ++ e ∷ [])) (entries_before-refused p history e guards)
@@ -96,7 +96,7 @@ module _ (facts : Facts) (id : ℕ) where
   pub wakes_last : (older front : List Item) (item : Item) (history : List Entry) (e : Entry) → IsOfNoEntry item history → HaveItems (older ++ front) history → is_item_of e item ≡ true
       → is_by_guard e.reply ≡ false → wakes facts (object_of facts history).rows e.call e.reply id ≡ true → wakes_at facts (history ++ e ∷ []) id (last_place older front item) ≡ true
   wakes_last older front item history e none items own served wake =
-      let last : Place = last_place older front item in
+      let last : Position = last_place older front item in
       let rows : List Row = (object_of facts history).rows in
       ap (λ es. list_any (wakes_by (object_of facts es).rows last) (history ++ e ∷ [])) (entries_before-not_yet last history e (not_before older front item e own))
       ∙ ap (λ o. list_any (wakes_by o.rows last) (history ++ e ∷ [])) (object_before_last facts older front item history none items)

@@ -11,7 +11,7 @@ use Rattle.sg_facts.specs.declared.trace.Tag.{Tag}
 use Rattle.sg_facts.specs.declared.trace.Tag.TheVariants.{Walk, Load, Client}
 use Rattle.sg_facts.specs.Facts.{Facts}
 use Rattle.sg_facts.specs.Trace.{Boot}
-use Rattle.sg_hist.specs.Reading.{Place, is_tagged, places_from, places_in}
+use Rattle.sg_hist.specs.Reading.{Position, is_tagged, places_from, places_in}
 use Rattle.sg_hist.specs.Recovered.{is_clients, is_replied}
 use Rattle.sg_plain.specs.Promises.{IsWokenBetween, has_blocked, wakes_at}
 use Rattle.sg_recovery_laws.proofs.Lists.{each_map, each_push}
@@ -71,11 +71,11 @@ made_kept client s later so items all = each_map (λ item. IsMadeSoFar client s 
     by shown (Load key c) was = tt
     by shown (Client c seq) was = λ own. so shown seq (was own)
 
-since_call : (facts : Facts) (entries : List Entry) (client : ℕ) (ps : List Place) (call later : Call) → later ≡ call → Each (IsWokenSince facts entries client call.seq) ps → Each (IsWokenSince facts entries client later.seq) ps
+since_call : (facts : Facts) (entries : List Entry) (client : ℕ) (ps : List Position) (call later : Call) → later ≡ call → Each (IsWokenSince facts entries client call.seq) ps → Each (IsWokenSince facts entries client later.seq) ps
 since_call facts entries client ps call later same all = subst (λ (k : Call). Each (IsWokenSince facts entries client k.seq) ps) (sym same) all
 
 -- the boots stay, and the entries, as far as waits go
-pub seat_moved : (facts : Facts) (entries now : List Entry) (boots : List Boot) (client : ℕ) (s later : Seat) → ((id : ℕ) (p : Place) → wakes_at facts now id p ≡ wakes_at facts entries id p)
+pub seat_moved : (facts : Facts) (entries now : List Entry) (boots : List Boot) (client : ℕ) (s later : Seat) → ((id : ℕ) (p : Position) → wakes_at facts now id p ≡ wakes_at facts entries id p)
     → IsWokenSeat facts entries boots client s → Moves facts s later → IsWokenSeat facts now boots client later
 seat_moved facts entries now boots client s later same is moves = record {
   items = made_kept client s later moves.made (last_items boots) is.items;
@@ -124,7 +124,7 @@ seat_offered facts entries boots client s call free next is = record {
           | inr its ↦ (let offers = its.0 in cc (offers, free))
         ])
 
-    at_all : (ps : List Place) → Each (λ p. IsMadeSoFar client s p.item.shown p.item.tag) ps → Each (IsWokenSince facts entries client call.seq) ps
+    at_all : (ps : List Position) → Each (λ p. IsMadeSoFar client s p.item.shown p.item.tag) ps → Each (IsWokenSince facts entries client call.seq) ps
     at_all [] all = tt
     at_all (p ∷ ps) all = (
       λ waits. absurd (let not_so = ap (λ b. b && has_blocked p.item.outcome) (none p.item.shown p.item.tag all.0) in cc (not_so, waits)),
@@ -167,7 +167,7 @@ replied_goes NoMemory is = refl
 pub stopped_goes : (outcome : Outcome) → outcome ≡ Stopped → has_blocked outcome ≡ false
 stopped_goes outcome is = ap has_blocked is
 
-module _ (facts : Facts) (entries now : List Entry) (item : Item) (same : (id : ℕ) (p q : Place) → IsGrown item p q → wakes_at facts now id q ≡ wakes_at facts entries id p) (boots : List Boot) (begun : boots ≢ []) where
+module _ (facts : Facts) (entries now : List Entry) (item : Item) (same : (id : ℕ) (p q : Position) → IsGrown item p q → wakes_at facts now id q ≡ wakes_at facts entries id p) (boots : List Boot) (begun : boots ≢ []) where
   count_items : (l : List Boot) → l ≢ [] → last_items (noted l item) ≡ last_items l ++ item ∷ []
   count_items [] some = absurd (some refl)
   count_items (b ∷ l) some = items_noted b l item

@@ -1,7 +1,7 @@
 -- Which stage of the play without stops a play is at, and whose turn it is there.
 use Rattle.std.specs.Prelude.{ℕ, ◌≡◌, ◌+◌, List, [], ◌∷◌, Some, drop}
 use Rattle.sg_base.specs.declared.reply.Reply.{Reply}
-use Rattle.sg_plain.specs.Plain.{Phase, Player, Stage, blocked, holding, left_schedule, next_turn, player_at, replied}
+use Rattle.sg_plain.specs.Plain.{PlainPhase, Player, Stage, blocked, holding, left_schedule, next_turn, player_at, replied}
 use Rattle.sg_plain.specs.Playing.Callers.{handed}
 use Rattle.sg_script.specs.declared.script.Script.{Script}
 use Rattle.sg_seat.specs.WorldView.{Seat, WorldView}
@@ -9,7 +9,7 @@ use Rattle.sg_seat.specs.declared.phase.Phase.{Phase as SeatPhase}
 use Rattle.sg_seat.specs.declared.phase.Phase.TheVariants.{Idle, Asked, Held, Receipted, Blocked, Left}
 
 -- what a client is at, by the phase of its seat and the reply there; and what it is at where it has no reply to come and doesn't wait
-abbrev pub phase_by : SeatPhase → Reply → Phase → Phase
+abbrev pub phase_by : SeatPhase → Reply → PlainPhase → PlainPhase
 phase_by Idle reply going = going
 phase_by Left reply going = going
 phase_by Asked reply going = going

@@ -11,7 +11,7 @@ use Rattle.sg_facts.specs.Guard.{guard}
 use Rattle.sg_facts.specs.Interface.{Declared}
 use Rattle.sg_facts.specs.Object.{object_of}
 use Rattle.sg_facts.specs.Trace.{Boot}
-use Rattle.sg_hist.specs.Reading.{Place, is_tagged, places_from, places_in}
+use Rattle.sg_hist.specs.Reading.{Position, is_tagged, places_from, places_in}
 use Rattle.sg_hist.specs.Recovered.{EndsUsed}
 use Rattle.sg_plain.specs.Promises.{IsWokenBetween, has_blocked, wakes_at}
 use Rattle.sg_hist.specs.Growing.{last_items, older_items}
@@ -56,16 +56,16 @@ abbrev pub no_query_waits : Facts → Bool
 no_query_waits facts = facts.global || list_all (λ f. not (f.query && f.block)) facts.funs
 
 -- whether the call of a number of a client had to wait at a place
-abbrev pub waits_at : ℕ → ℕ → Place → Bool
+abbrev pub waits_at : ℕ → ℕ → Position → Bool
 waits_at client seq p = is_tagged client seq p.item.tag && has_blocked p.item.outcome
 
 -- where it did, it was woken since in that boot
-abbrev pub IsWokenSince : Facts → List Entry → ℕ → ℕ → Place → Type 0
+abbrev pub IsWokenSince : Facts → List Entry → ℕ → ℕ → Position → Type 0
 IsWokenSince facts history client seq p =
     waits_at client seq p ≡ true → list_any (wakes_at facts history p.item.shown.desc) (places_in p.older (p.front ++ p.item ∷ []) p.rest p.newer) ≡ true
 
 -- the places in the last boot
-abbrev pub last_places : List Boot → List Place
+abbrev pub last_places : List Boot → List Position
 last_places boots = places_in (older_items [] boots) [] (last_items boots) []
 
 -- a call of a number is the one of a seat that isn't answered

@@ -18,7 +18,7 @@ use Rattle.sg_facts.specs.declared.trace.Tag.TheVariants.{Client}
 use Rattle.sg_facts.specs.Alike.{named}
 use Rattle.sg_facts.specs.Facts.{Facts, fun_at}
 use Rattle.sg_facts.specs.Track.{is_live}
-use Rattle.sg_hist.specs.Reading.{Place, ends_walk, entries_before, desc_in, id_given, is_made, is_item_of, is_ok, is_rebuilt_at, made_by, names_at, names_in, pair_of, places_in, stands_before}
+use Rattle.sg_hist.specs.Reading.{Position, ends_walk, entries_before, desc_in, id_given, is_made, is_item_of, is_ok, is_rebuilt_at, made_by, names_at, names_in, pair_of, places_in, stands_before}
 use Rattle.sg_hist.specs.Recovered.{is_patch_at, is_walk_of}
 use Rattle.sg_hist.specs.Growing.{IsGrown, IsOfNoEntry, IsSameId}
 use Rattle.sg_recovery_laws.proofs.Given.{is_numbered, made_same, names_same}
@@ -30,7 +30,7 @@ use Rattle.sg_recovery_laws.specs.LastItem.LastPlace.{last_place}
 use Rattle.sg_facts.proofs.Replaying.Found.{other_test, same_test}
 use Rattle.sg_recovery_laws.proofs.LastItem.Reading.{named_push}
 
-module _ (facts : Facts) (walks : List WalkLine) (h later : List Entry) (older front : List Item) (item : Item) (same_entries : (p q : Place) → IsGrown item p q → entries_before later q ≡ entries_before h p) (ids : Each (IsSameId facts h later) front)
+module _ (facts : Facts) (walks : List WalkLine) (h later : List Entry) (older front : List Item) (item : Item) (same_entries : (p q : Position) → IsGrown item p q → entries_before later q ≡ entries_before h p) (ids : Each (IsSameId facts h later) front)
     (names : List (ℕ × ℕ)) (told : ℕ → Told) (present : List ℕ → Bool) (rows rows' : List Row) (read : IsRead facts walks h older front names told present rows)
     (c seq : ℕ) (good other : Good) (tag : item.tag ≡ Client c seq) (outcome : item.outcome ≡ Replied (Ok other) None) (makes : (fun_at facts.funs item.shown.fun).creation ≡ true)
     (new_id : id_given later c seq ≡ good.desc) (unnamed : list_any (λ n. n.0 == good.desc) (names_at facts h front) ≡ false)
@@ -128,7 +128,7 @@ module _ (facts : Facts) (walks : List WalkLine) (h later : List Entry) (older f
           (subst (λ l. TellsCalls (told x) (length l)) (sym (same_count x)) (read.calls x there.1))
 
 -- an entry that is put before held replies with its item leaves what stood before each earlier item
-pub entries_put : (h es : List Entry) (e : Entry) (item : Item) (p q : Place) → IsOfNoEntry item (h ++ es) → is_item_of e item ≡ true → IsGrown item p q → entries_before (h ++ e ∷ es) q ≡ entries_before (h ++ es) p
+pub entries_put : (h es : List Entry) (e : Entry) (item : Item) (p q : Position) → IsOfNoEntry item (h ++ es) → is_item_of e item ≡ true → IsGrown item p q → entries_before (h ++ e ∷ es) q ≡ entries_before (h ++ es) p
 entries_put h es e item p q none own g =
     filter-append (stands_before q) h (e ∷ es)
     ∙ ap (λ b. filter (stands_before q) h ++ cond b (e ∷ filter (stands_before q) es) (filter (stands_before q) es)) (stands_before-own item p q e g own)
@@ -150,7 +150,7 @@ ids_put facts h es e front client seq any = ap desc_in (in_front h any)
 
 -- the same for an item that gives no name and makes nothing whole, as that of a call that makes no descriptor, also where its entry is put among
 -- those that are held
-module _ (facts : Facts) (walks : List WalkLine) (h later : List Entry) (older front : List Item) (item : Item) (same_entries : (p q : Place) → IsGrown item p q → entries_before later q ≡ entries_before h p) (ids : Each (IsSameId facts h later) front)
+module _ (facts : Facts) (walks : List WalkLine) (h later : List Entry) (older front : List Item) (item : Item) (same_entries : (p q : Position) → IsGrown item p q → entries_before later q ≡ entries_before h p) (ids : Each (IsSameId facts h later) front)
     (names : List (ℕ × ℕ)) (told : ℕ → Told) (present : List ℕ → Bool) (rows : List Row) (read : IsRead facts walks h older front names told present rows)
     (unmade : (id : ℕ) → is_made facts later id item ≡ false) (no_walk : (id : ℕ) → is_walk_of id item.tag ≡ false) (unbuilt : (id : ℕ) → is_rebuilt_at facts walks later id (last_place older front item) ≡ false)
     (no_name : names_in facts later item.shown.fun item.tag item.outcome ≡ []) where

@@ -21,7 +21,7 @@ use Rattle.sg_facts.specs.Track.{is_live, row_at}
 use Rattle.sg_facts.specs.Walks.{replayed_call}
 use Rattle.sg_facts.proofs.RowLists.{live_of_row}
 use Rattle.sg_hist.specs.Clients.{calls_of}
-use Rattle.sg_hist.specs.Reading.{Place, is_by_guard, is_made, is_item_of, is_rebuilt_at, is_whole_at, names_at, object_before, places_in, stands_before, value_at, walk_in}
+use Rattle.sg_hist.specs.Reading.{Position, is_by_guard, is_made, is_item_of, is_rebuilt_at, is_whole_at, names_at, object_before, places_in, stands_before, value_at, walk_in}
 use Rattle.sg_hist.specs.Recovered.{IsAdmitted, IsAlikeTo, IsCallOf, IsCallOfRow, IsLoad, IsOkOrStopped, IsLoadedFor, IsTracked, IsUnderWay as IsMade, call_in, is_walk_of}
 use Rattle.sg_hist.specs.Growing.{IsOfNoEntry}
 use Rattle.sg_recovery_laws.specs.Midway.Progress.{Told, fresh, begun, complete, TellsCalls, IsNone, is_complete}
@@ -52,7 +52,7 @@ each_mapped P (r ∷ rows) each = (each.0, each_mapped P rows each.1)
 module _ (i : Declared) (walks : List WalkLine) (history : List Entry) (u : List Call) (older front : List Item) (item : Item) (names : List (ℕ × ℕ)) (told : ℕ → Told) (present : List ℕ → Bool) (o : Object)
     (is_o : object_of i.facts history ≡ o) (sound : IsSound i.facts o) (are : Ascends 0 o.given o.rows) (none : IsOfNoEntry item history) (items : HaveItems (older ++ front) history)
     (read : IsRead i.facts walks history older front names told present o.rows) where
-  abbrev place : Place
+  abbrev place : Position
   place = last_place older front item
 
   pub object_is : object_before i.facts history (last_place older front item) ≡ o

@@ -19,7 +19,7 @@ use Rattle.sg_facts.specs.Facts.{Facts, fun_at, is_visible}
 use Rattle.sg_facts.specs.Object.{object_of}
 use Rattle.sg_facts.specs.Trace.{Run}
 use Rattle.sg_hist.specs.Clients.{calls_of}
-use Rattle.sg_hist.specs.Reading.{Place, behind, desc_in, entries_before, id_given, is_by_guard, is_made, is_item_of, is_ok, is_rebuilt_at, item_of, made_by, names_at, names_in, pair_of, places_in, places_of, stands_before}
+use Rattle.sg_hist.specs.Reading.{Position, behind, desc_in, entries_before, id_given, is_by_guard, is_made, is_item_of, is_ok, is_rebuilt_at, item_of, made_by, names_at, names_in, pair_of, places_in, places_of, stands_before}
 use Rattle.sg_hist.specs.Recovered.{AreInOrder, ComeBefore, HasItem, IsCommitted, IsDemanded, IsItsCall, IsTrackedAt, IsUnderWay, IsWalked, Stubs, calls_made, is_entered, is_visible_reply}
 use Rattle.sg_hist.specs.Growing.{IsRecovering}
 use Rattle.sg_recovery_laws.proofs.Lists.{each_append, each_both, each_map, each_split}
@@ -91,7 +91,7 @@ module _ (h es : List Entry) (e : Entry) (none : NoneBy e.call.client es) where
 
   -- ---- places before which the entry doesn't stand
 
-  pub entries_moved : (p : Place) → stands_before p e ≡ false → entries_before (h ++ e ∷ es) p ≡ entries_before (h ++ (es ++ e ∷ [])) p
+  pub entries_moved : (p : Position) → stands_before p e ≡ false → entries_before (h ++ e ∷ es) p ≡ entries_before (h ++ (es ++ e ∷ [])) p
   entries_moved p isn't =
       filter-append (stands_before p) h (e ∷ es)
       ∙ ap (λ b. filter (stands_before p) h ++ cond b (e ∷ filter (stands_before p) es) (filter (stands_before p) es)) isn't
@@ -105,7 +105,7 @@ module _ (h es : List Entry) (e : Entry) (none : NoneBy e.call.client es) where
       → list_any (is_rebuilt_at facts walks (h ++ e ∷ es) id) (places_in older done items newer) ≡ list_any (is_rebuilt_at facts walks (h ++ (es ++ e ∷ [])) id) (places_in older done items newer)
   rebuilt_moved facts walks id older done [] newer is = refl
   rebuilt_moved facts walks id older done (x ∷ items) newer is =
-      let p : Place = record { older = older; front = done; item = x; rest = items; newer = newer } in
+      let p : Position = record { older = older; front = done; item = x; rest = items; newer = newer } in
       let one : is_rebuilt_at facts walks (h ++ e ∷ es) id p ≡ is_rebuilt_at facts walks (h ++ (es ++ e ∷ [])) id p
       = rebuilt_again facts walks (h ++ (es ++ e ∷ [])) (h ++ e ∷ es) id p items newer (ap (object_of facts) (entries_moved p (earlier_place e older done x items newer is))) in
       let rest : list_any (is_rebuilt_at facts walks (h ++ e ∷ es) id) (places_in older (done ++ x ∷ []) items newer) ≡ list_any (is_rebuilt_at facts walks (h ++ (es ++ e ∷ [])) id) (places_in older (done ++ x ∷ []) items newer)
@@ -157,14 +157,14 @@ module _ (h es : List Entry) (e : Entry) (none : NoneBy e.call.client es) where
         | inr one ↦ Contains-append_right (map (λ x. x.call) h) (map (λ x. x.call) (e ∷ es)) call (in_es (subst (λ l. Contains l call) (map-append (λ x. x.call) es (e ∷ [])) one))
       ]
 
-  under_moved : (u : List Call) (p : Place) (client : ℕ) (call : Call) → IsUnderWay (h ++ (es ++ e ∷ [])) u p client call → IsUnderWay (h ++ e ∷ es) u p client call
+  under_moved : (u : List Call) (p : Position) (client : ℕ) (call : Call) → IsUnderWay (h ++ (es ++ e ∷ [])) u p client call → IsUnderWay (h ++ e ∷ es) u p client call
   under_moved u p client call w = record {
     its = record { its = w.its.its; made = contains_moved u call w.its.made };
     above = ap (list_all _) (calls_moved client) ∙ w.above;
     first = ap (list_all _) (calls_moved client) ∙ w.first;
   }
 
-  same_moved : (facts : Facts) (walks : List WalkLine) (u : List Call) (p : Place) → stands_before p e ≡ false → IsSame facts walks (h ++ (es ++ e ∷ [])) u (h ++ e ∷ es) u p p.rest p.newer
+  same_moved : (facts : Facts) (walks : List WalkLine) (u : List Call) (p : Position) → stands_before p e ≡ false → IsSame facts walks (h ++ (es ++ e ∷ [])) u (h ++ e ∷ es) u p p.rest p.newer
   same_moved facts walks u p isn't = record {
     object = ap (object_of facts) (entries_moved p isn't);
     names = names_moved facts p.front;
@@ -192,7 +192,7 @@ module _ (h es : List Entry) (e : Entry) (none : NoneBy e.call.client es) where
   order_hidden facts run earlier (x ∷ xs) all =
       (subst (λ b. When (b && not (is_by_guard x.reply)) (ComeBefore earlier (item_of run x))) (sym all.0) tt, order_hidden facts run (earlier ++ x ∷ []) xs all.1)
 
-  come_front : (xs ys : List Entry) (p : Option Place) → ComeBefore (xs ++ ys) p → ComeBefore xs p
+  come_front : (xs ys : List Entry) (p : Option Position) → ComeBefore (xs ++ ys) p → ComeBefore xs p
   come_front xs ys None come = come
   come_front xs ys (Some p) come = front xs come
     where
@@ -222,7 +222,7 @@ module _ (h es : List Entry) (e : Entry) (none : NoneBy e.call.client es) where
   pub reordered : (s : Stubs) (run : Run) (u : List Call) → Each (λ p. stands_before p e ≡ false) (places_of run) → Each (λ x. is_visible s.interface.facts x.call.fun ≡ false) es
       → IsRecovering s (h ++ (es ++ e ∷ [])) run u → IsRecovering s (h ++ e ∷ es) run u
   reordered s run u isn't hidden r =
-      let ps : List Place = places_of run in
+      let ps : List Position = places_of run in
       let H : List Entry = h ++ (es ++ e ∷ []) in
       let H' : List Entry = h ++ e ∷ es in
       let has : (x : Entry) → HasItem s.interface.facts H run x → HasItem s.interface.facts H' run x = has_same s.interface.facts H H' run (all_named ps) in
@@ -248,7 +248,7 @@ module _ (h es : List Entry) (e : Entry) (none : NoneBy e.call.client es) where
             (each_both (λ p. stands_before p e ≡ false) (λ p. IsTrackedAt s.interface.facts s.walks H p p.item.tag) ps isn't r.tracked_state);
       }
     where
-      all_named : (ps : List Place) → Each (λ p. names_at s.interface.facts (h ++ e ∷ es) (p.front ++ p.item ∷ []) ≡ names_at s.interface.facts (h ++ (es ++ e ∷ [])) (p.front ++ p.item ∷ [])) ps
+      all_named : (ps : List Position) → Each (λ p. names_at s.interface.facts (h ++ e ∷ es) (p.front ++ p.item ∷ []) ≡ names_at s.interface.facts (h ++ (es ++ e ∷ [])) (p.front ++ p.item ∷ [])) ps
       all_named [] = tt
       all_named (p ∷ ps) = (names_moved s.interface.facts (p.front ++ p.item ∷ []), all_named ps)
 
@@ -259,7 +259,7 @@ module _ (h es : List Entry) (e : Entry) (none : NoneBy e.call.client es) where
       swap_or false false true = refl
       swap_or false false false = refl
 
-      committed : (p : Place) (b : Bool) → When b (is_entered (h ++ (es ++ e ∷ [])) p ≡ true) → When b (is_entered (h ++ e ∷ es) p ≡ true)
+      committed : (p : Position) (b : Bool) → When b (is_entered (h ++ (es ++ e ∷ [])) p ≡ true) → When b (is_entered (h ++ e ∷ es) p ≡ true)
       committed p false is = tt
       committed p true is =
           let test : Entry → Bool = λ x. not (is_by_guard x.reply) && is_item_of x p.item && not (list_any (is_item_of x) (behind p)) in

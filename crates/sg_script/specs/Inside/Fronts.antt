@@ -1,13 +1,13 @@
 -- What is kept of the parts of a script that were judged.
 use Rattle.std.specs.Prelude.{ℕ, ◌≡◌, ◌≤◌, false, List, length, slice_index_or}
 use Rattle.std.specs.List.{flat_map, list_any}
-use Rattle.sg_script_grammar.specs.declared.tree.Part.{Part}
-use Rattle.sg_script.specs.declared.front.Front.{Front}
+use Rattle.sg_script_parse.specs.declared.tree.Part.{Part}
+use Rattle.sg_script.specs.declared.front.SeenParts.{SeenParts}
 use Rattle.sg_script.specs.Flaws.{calls_in, is_of_client, is_schedule, is_setup, is_stop}
 
 -- what is kept of these parts: whether there was a setup, schedule or stop part among them, which clients had one, and how many
 -- calls they have
-pub record IsFront (front : Front) (parts : List Part) : Type 0 where
+pub record IsFront (front : SeenParts) (parts : List Part) : Type 0 where
   pub setup : front.setup ≡ list_any is_setup parts
   pub clients : (k : ℕ) → k ≤ 64 → slice_index_or front.clients k false ≡ list_any (is_of_client k) parts
   pub schedule : front.schedule ≡ list_any is_schedule parts

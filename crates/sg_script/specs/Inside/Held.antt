@@ -1,12 +1,12 @@
 -- Parts whose numbers and texts have room in the types of a script.
 use Rattle.std.specs.Prelude.{◌&&◌, ◌^◌, Bool, true, nat_lt}
 use Rattle.std.specs.List.{list_all}
-use Rattle.sg_script_grammar.specs.Spelling.{Spelling}
-use Rattle.sg_script_grammar.specs.declared.tree.WrittenArg.{WrittenArg}
-use Rattle.sg_script_grammar.specs.declared.tree.WrittenArg.TheVariants.{Number, Text, Back}
-use Rattle.sg_script_grammar.specs.declared.tree.WrittenCall.{WrittenCall}
-use Rattle.sg_script_grammar.specs.declared.tree.Part.{Part}
-use Rattle.sg_script_grammar.specs.declared.tree.Part.TheVariants.{Setup, Client, Schedule, Stop}
+use Rattle.sg_script_parse.specs.Grammar.Spelling.{Spelling}
+use Rattle.sg_script_parse.specs.declared.tree.WrittenArg.{WrittenArg}
+use Rattle.sg_script_parse.specs.declared.tree.WrittenArg.TheVariants.{Number, Text, Back}
+use Rattle.sg_script_parse.specs.declared.tree.WrittenCall.{WrittenCall}
+use Rattle.sg_script_parse.specs.declared.tree.Part.{Part}
+use Rattle.sg_script_parse.specs.declared.tree.Part.TheVariants.{Setup, Client, Schedule, Stop}
 use Rattle.sg_script.specs.Numbers.{counts_as, is_known_client, is_text, unquoted}
 
 -- whether digits count as a client's number

@@ -3,19 +3,19 @@ use Rattle.std.specs.Prelude.{ℕ, ◌/◌, ◌%◌, ◌==◌, Bool, false, ◌&
 use Rattle.std.specs.declared.option.Option.{Option}
 use Rattle.sg_facts.specs.Interface.{Declared}
 use Rattle.sg_facts.specs.Walks.{Mark as Known, unset, good, unknown, Spot as Place, restores_field, spot_from, spot_of}
-use Rattle.sg_walk.specs.declared.spot.Mark.{Mark}
-use Rattle.sg_walk.specs.declared.spot.Mark.TheVariants.{Unset, Good, Unknown}
+use Rattle.sg_walk.specs.declared.spot.FieldState.{FieldState}
+use Rattle.sg_walk.specs.declared.spot.FieldState.TheVariants.{Unset, Good, Unknown}
 use Rattle.sg_walk.specs.declared.spot.Spot.{Spot}
 use Rattle.sg_walk.specs.declared.spot.Goal.{Goal}
 
 -- what is known of a field by the mark of the code
-abbrev pub known_of : Mark → Known
+abbrev pub known_of : FieldState → Known
 known_of Unset = unset
 known_of Good = good
 known_of Unknown = unknown
 
 -- the marks of the first fields
-abbrev pub shown_marks : ℕ → List Mark → List Known
+abbrev pub shown_marks : ℕ → List FieldState → List Known
 shown_marks count marks = map known_of (take count marks)
 
 -- a spot, with a mark for each field of the interface's rows

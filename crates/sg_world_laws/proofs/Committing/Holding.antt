@@ -29,7 +29,7 @@ use Rattle.sg_recovery_laws.specs.Midway.Numbers.{AreNumbers}
 use Rattle.sg_recovery_laws.specs.Midway.Progress.{IsInRecovery, complete}
 use Rattle.sg_recovery_laws.specs.Midway.Stepping.{present_with}
 use Rattle.sg_recovery_laws.proofs.Midway.Glue.{under_named}
-use Rattle.sg_hist.specs.Reading.{Place, entries_before, id_given, is_ok, item_of, names_at, pair_of}
+use Rattle.sg_hist.specs.Reading.{Position, entries_before, id_given, is_ok, item_of, names_at, pair_of}
 use Rattle.sg_hist.specs.Recovered.{GivesEntry, is_clients, is_patch_at, is_replied, is_visible_reply}
 use Rattle.sg_recovery_laws.specs.Objects.Waiting.{AreWaiting, IsWaiting, NoneBy}
 use Rattle.sg_recovery_laws.proofs.Objects.Waiting.{hidden_is}
@@ -182,7 +182,7 @@ module _ (z : Setting) (set : IsSetting z) (w : WorldView) (b : Boot) (boots : L
   no_patch : patch ≡ None
   no_patch = hidden_writes_none z set w b boots v stub k call item reply other patch s hidden
 
-  read_at : (xs ys : List Entry) → AreDrawn ws xs → ((p q : Place) → IsGrown item p q → entries_before (w.history ++ ys) q ≡ entries_before (w.history ++ xs) p)
+  read_at : (xs ys : List Entry) → AreDrawn ws xs → ((p q : Position) → IsGrown item p q → entries_before (w.history ++ ys) q ≡ entries_before (w.history ++ xs) p)
       → IsRead facts z.walks (w.history ++ ys) (older_items [] (b ∷ boots)) (last_items (b ∷ boots) ++ item ∷ []) stub.names stub.told stub.present o.rows
   read_at xs ys drawn same_entries =
       read_alike facts z.walks (w.history ++ ys) (older_items [] (b ∷ boots)) (last_items (b ∷ boots) ++ item ∷ []) stub.names stub.names stub.told stub.told (λ path. stub.present path || is_patch_at path item.outcome) stub.present
@@ -194,7 +194,7 @@ module _ (z : Setting) (set : IsSetting z) (w : WorldView) (b : Boot) (boots : L
       or_false true = refl
       or_false false = refl
 
-  put_at : (xs ys : List Entry) (p q : Place) → IsOfNoEntry item (w.history ++ (xs ++ ys)) → IsGrown item p q → entries_before (w.history ++ (xs ++ e ∷ ys)) q ≡ entries_before (w.history ++ (xs ++ ys)) p
+  put_at : (xs ys : List Entry) (p q : Position) → IsOfNoEntry item (w.history ++ (xs ++ ys)) → IsGrown item p q → entries_before (w.history ++ (xs ++ e ∷ ys)) q ≡ entries_before (w.history ++ (xs ++ ys)) p
   put_at xs ys p q none g =
       ap (λ l. entries_before l q) (sym (append_assoc w.history xs (e ∷ ys)))
       ∙ entries_put (w.history ++ xs) ys e item p q (subst (IsOfNoEntry item) (sym (append_assoc w.history xs ys)) none) (own z set w b boots v stub k call item reply other patch s) g

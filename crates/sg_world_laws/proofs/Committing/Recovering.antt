@@ -21,7 +21,7 @@ use Rattle.sg_facts.specs.Object.{Object, object_of}
 use Rattle.sg_facts.specs.Trace.{Boot}
 use Rattle.sg_recovery_laws.specs.Midway.Progress.{IsNone}
 use Rattle.sg_recovery_laws.proofs.Midway.Back.{named_or_none}
-use Rattle.sg_hist.specs.Reading.{Place, desc_in, desc_of, id_given, is_by_guard, is_item_of, is_tagged, names_at, places_from}
+use Rattle.sg_hist.specs.Reading.{Position, desc_in, desc_of, id_given, is_by_guard, is_item_of, is_tagged, names_at, places_from}
 use Rattle.sg_hist.specs.Recovered.{IsCommitted, IsReplyOf}
 use Rattle.sg_recovery_laws.specs.Objects.Waiting.{AreWaiting}
 use Rattle.sg_hist.specs.Growing.{AreKept, IsItemOf, IsLastCall, IsNextItem, IsRecovering, IsSameId, IsSettled, last_items, noted, older_items, place_behind}
@@ -169,7 +169,7 @@ module _ (z : Setting) (set : IsSetting z) (w : WorldView) (b : Boot) (boots : L
       pub kept_es : AreKept (w.history ++ es) (unanswered (standing w b boots (Some v))) ((w.history ++ es) ++ (record { call = call; reply = reply }) ∷ []) u'
       kept_es = kept_with (w.history ++ es) e u u' left
 
-      abbrev p : Place
+      abbrev p : Position
       p = last_place (older_items [] (b ∷ boots)) (last_items (b ∷ boots)) item
 
       -- what the item owes it owes with its entry too

@@ -27,7 +27,7 @@ use Rattle.sg_facts.specs.Track.{is_live, new_row, row_at}
 use Rattle.sg_facts.proofs.RowLists.{live_of_row, row_of_live}
 use Rattle.sg_recovery_laws.specs.Midway.Progress.{Told, complete}
 use Rattle.sg_recovery_laws.specs.Midway.Stepping.{present_with, told_with}
-use Rattle.sg_hist.specs.Reading.{Place, desc_of, ends_walk, entries_before, id_given, is_ok, made_by, names_at, names_in, pair_of}
+use Rattle.sg_hist.specs.Reading.{Position, desc_of, ends_walk, entries_before, id_given, is_ok, made_by, names_at, names_in, pair_of}
 use Rattle.sg_hist.specs.Recovered.{is_patch_at, is_walk_of}
 use Rattle.sg_recovery_laws.proofs.Objects.Apart.{makes_row}
 use Rattle.sg_recovery_laws.proofs.Objects.Guarded.{acts, keeps}
@@ -97,7 +97,7 @@ module _ (z : Setting) (set : IsSetting z) (w : WorldView) (b : Boot) (boots : L
 
   -- ---- an item that gives no name
 
-  pub read_plain : (xs ys : List Entry) → AreDrawn (held_in (length (b ∷ boots)) w.seats) xs → ((p q : Place) → IsGrown item p q → entries_before (w.history ++ ys) q ≡ entries_before (w.history ++ xs) p)
+  pub read_plain : (xs ys : List Entry) → AreDrawn (held_in (length (b ∷ boots)) w.seats) xs → ((p q : Position) → IsGrown item p q → entries_before (w.history ++ ys) q ≡ entries_before (w.history ++ xs) p)
       → (is_ok (Replied other patch) && (fun_at z.iface.facts.funs call.fun).creation) ≡ false
       → IsRead z.iface.facts z.walks (w.history ++ ys) (older_items [] (b ∷ boots)) (last_items (b ∷ boots) ++ item ∷ []) stub.names stub.told (λ path. stub.present path || is_patch_at path item.outcome) (object_of z.iface.facts w.history).rows
   read_plain xs ys drawn same_entries makes_none =
@@ -126,7 +126,7 @@ module _ (z : Setting) (set : IsSetting z) (w : WorldView) (b : Boot) (boots : L
     its_id : id_given (w.history ++ e ∷ es) call.client call.seq ≡ desc_of reply
     its_id = given_pushed h e (each_split (λ x. x.call.client ≡ call.client → x.call.seq < call.seq) h ws s.let_in.above).0 es
 
-    same_before : (p q : Place) → IsGrown item p q → entries_before (w.history ++ e ∷ es) q ≡ entries_before (w.history ++ es) p
+    same_before : (p q : Position) → IsGrown item p q → entries_before (w.history ++ e ∷ es) q ≡ entries_before (w.history ++ es) p
     same_before p q g = entries_put h es e item p q (none_of z set w b boots v stub k call s.let_in s.all item s.replied.asked es drawn) (own z set w b boots v stub k call item reply other patch s) g
 
     present_is : (r p : Reply) → item.outcome ≡ Replied p patch → patch ≡ patch_of facts o call r → (path : List ℕ)

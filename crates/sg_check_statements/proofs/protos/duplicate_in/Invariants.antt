@@ -2,7 +2,7 @@
 use Rattle.std.proofs.Common.{◌≡◌, Some, take}
 use Rattle.sg_check_statements.specs.Faults.{NoStatement}
 use Rattle.sg_check_statements.specs.Flaws.{duplicate}
-use Rattle.sg_check_statements.specs.Names.{AreOf}
+use Rattle.sg_check_statements.specs.NameSet.{AreOf}
 use Rattle.sg_check_statements.proofs.protos.duplicate_in.Given as goal
 
 abbrev pub invariant-statements : goal.invariant-statements

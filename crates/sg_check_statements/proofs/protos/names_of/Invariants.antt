@@ -1,6 +1,6 @@
 -- The names so far.
 use Rattle.std.proofs.Common.{take}
-use Rattle.sg_check_statements.specs.Names.{AreOf}
+use Rattle.sg_check_statements.specs.NameSet.{AreOf}
 use Rattle.sg_check_statements.proofs.protos.names_of.Given as goal
 
 abbrev pub invariant-statements : goal.invariant-statements

@@ -2,9 +2,9 @@
 use Rattle.std.proofs.Common.{◌∙◌, []}
 use Rattle.std.specs.Prelude.{codes}
 use Rattle.std.proofs.lemmas.Result.{err_from_is_err_and}
-use Rattle.sg_grammar.specs.declared.words.Sort.TheVariants.{Name}
-use Rattle.sg_grammar.specs.Sentence.{equals, open_brace, comma}
-use Rattle.sg_grammar.specs.Inside.States.{due, fact, statements, head1, head2, head3, head4, head5, head6, head7}
+use Rattle.sg_parse.specs.declared.words.Sort.TheVariants.{Name}
+use Rattle.sg_parse.specs.Grammar.Sentence.{equals, open_brace, comma}
+use Rattle.sg_parse.specs.Grammar.Inside.States.{due, fact, statements, head1, head2, head3, head4, head5, head6, head7}
 use Rattle.sg_parse.proofs.head.facts.Goals as goal
 
 pub returns-in_err-fixed : goal.returns-in_err-fixed

@@ -1,7 +1,7 @@
 -- The parameters so far were read.
 use Rattle.std.proofs.Common.{◌≡◌, ◌≤◌, List, [], length}
-use Rattle.sg_grammar.specs.declared.tree.Param.{Param}
-use Rattle.sg_grammar.specs.Inside.States.{State, listed, param, trees}
+use Rattle.sg_parse.specs.declared.tree.Param.{Param}
+use Rattle.sg_parse.specs.Grammar.Inside.States.{State, listed, param, trees}
 use Rattle.sg_lex.specs.Inside.Automata.{read}
 use Rattle.sg_parse.proofs.params.params.Given as goal
 

@@ -1,7 +1,7 @@
 -- The parameter is the declared type and name.
 use Rattle.std.specs.Prelude.{None}
 use Rattle.std.proofs.lemmas.Result.{err_from_is_err_and}
-use Rattle.sg_grammar.specs.Inside.States.{with_param}
+use Rattle.sg_parse.specs.Grammar.Inside.States.{with_param}
 use Rattle.sg_parse.proofs.params.unformed.Goals as goal
 
 pub returns-in_err-ty-clause-leads : goal.returns-in_err-ty-clause-leads

@@ -1,8 +1,8 @@
 -- The type and the name, and then the rest of the prototype.
 use Rattle.std.proofs.Common.{◌∙◌}
 use Rattle.std.proofs.lemmas.Result.{err_from_is_err_and}
-use Rattle.sg_grammar.specs.declared.tree.Ret.TheVariants.{Plain}
-use Rattle.sg_grammar.specs.Inside.States.{declared, proto_rest, trees}
+use Rattle.sg_parse.specs.declared.tree.Ret.TheVariants.{Plain}
+use Rattle.sg_parse.specs.Grammar.Inside.States.{declared, proto_rest, trees}
 use Rattle.sg_lex.proofs.Automata.{leads_along}
 use Rattle.sg_parse.proofs.statements.plain.Goals as goal
 

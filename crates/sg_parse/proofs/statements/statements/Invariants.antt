@@ -1,6 +1,6 @@
 -- The statements so far were read.
 use Rattle.std.proofs.Common.{◌≡◌, [], length}
-use Rattle.sg_grammar.specs.Inside.States.{statements, trees}
+use Rattle.sg_parse.specs.Grammar.Inside.States.{statements, trees}
 use Rattle.sg_lex.specs.Inside.Automata.{read}
 use Rattle.sg_parse.proofs.statements.statements.Given as goal
 

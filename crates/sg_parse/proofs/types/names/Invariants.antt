@@ -1,7 +1,7 @@
 -- The names so far were read.
 use Rattle.std.proofs.Common.{◌≡◌, ◌≤◌, List, [], ℕ, length}
-use Rattle.sg_grammar.specs.Named.{Named}
-use Rattle.sg_grammar.specs.Inside.States.{State, names, trees}
+use Rattle.sg_parse.specs.Grammar.Named.{Named}
+use Rattle.sg_parse.specs.Grammar.Inside.States.{State, names, trees}
 use Rattle.sg_lex.specs.Inside.Automata.{read}
 use Rattle.sg_parse.proofs.types.names.Given as goal
 

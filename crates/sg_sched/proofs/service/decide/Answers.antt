@@ -12,7 +12,7 @@ use Rattle.sg_sched.specs.declared.thread.Thread.{Thread}
 use Rattle.sg_sched.specs.SchedFacts.{sched_facts}
 use Rattle.sg_sched.specs.SchedTable.{sched_table, sched_parts, next_rank}
 use Rattle.sg_sched.specs.SchedRow.{thread_body}
-use Rattle.sg_sched.specs.SchedSoundLaw.{next_is_word}
+use Rattle.sg_sched.specs.Laws.SchedSoundLaw.{next_is_word}
 use Rattle.sg_sched.specs.Inside.SchedDecision.{on_sleep, on_thread_wait, on_wakeup, on_yield}
 use Rattle.sg_sched.proofs.Decisions.{yield_right, sleep_right, wake_right, wait_right, place_right, exit_right, on_thread}
 use Rattle.sg_sched.proofs.service.decide.Goals.{In-Some}

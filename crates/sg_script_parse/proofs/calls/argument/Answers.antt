@@ -1,7 +1,7 @@
 -- A `$`, and then the number.
 use Rattle.std.proofs.Common.{◌≡◌, ◌∙◌}
 use Rattle.std.proofs.lemmas.Result.{err_from_is_err_and}
-use Rattle.sg_script_grammar.specs.declared.tree.WrittenArg.TheVariants.{Back}
+use Rattle.sg_script_parse.specs.declared.tree.WrittenArg.TheVariants.{Back}
 use Rattle.sg_lex.specs.Inside.Tests.{is_this_mark}
 use Rattle.sg_lex.specs.Inside.Ahead.{Came, Off}
 use Rattle.sg_script_parse.proofs.ByToken.{dollar_came}

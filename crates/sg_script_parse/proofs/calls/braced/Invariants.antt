@@ -1,7 +1,7 @@
 -- The calls so far were read.
 use Rattle.std.proofs.Common.{◌≡◌, ◌≤◌, List, length}
-use Rattle.sg_script_grammar.specs.declared.tree.WrittenCall.{WrittenCall}
-use Rattle.sg_script_grammar.specs.Inside.States.{ScriptState, braced, body, scripts}
+use Rattle.sg_script_parse.specs.declared.tree.WrittenCall.{WrittenCall}
+use Rattle.sg_script_parse.specs.Grammar.Inside.States.{ScriptState, braced, body, scripts}
 use Rattle.sg_lex.specs.Inside.Automata.{read}
 use Rattle.sg_script_parse.proofs.calls.braced.Given as goal
 

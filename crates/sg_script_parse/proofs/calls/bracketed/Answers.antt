@@ -2,7 +2,7 @@
 use Rattle.std.proofs.Common.{◌≡◌, ◌∙◌, [], ◌∷◌, ◌++◌, ap, sym, arith}
 use Rattle.std.proofs.lemmas.Grind.{common_steps}
 use Rattle.std.proofs.lemmas.Result.{err_from_is_err_and}
-use Rattle.sg_script_grammar.specs.Inside.States.{listed, scripts}
+use Rattle.sg_script_parse.specs.Grammar.Inside.States.{listed, scripts}
 use Rattle.sg_lex.specs.Inside.Tests.{is_this_mark}
 use Rattle.sg_lex.specs.Inside.Automata.{read}
 use Rattle.sg_lex.specs.Inside.Ahead.{Came, Off}

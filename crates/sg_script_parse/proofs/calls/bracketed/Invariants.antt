@@ -1,7 +1,7 @@
 -- The arguments so far were read.
 use Rattle.std.proofs.Common.{◌≡◌, ◌≤◌, List, length}
-use Rattle.sg_script_grammar.specs.declared.tree.WrittenArg.{WrittenArg}
-use Rattle.sg_script_grammar.specs.Inside.States.{ScriptState, bracketed, listed, scripts}
+use Rattle.sg_script_parse.specs.declared.tree.WrittenArg.{WrittenArg}
+use Rattle.sg_script_parse.specs.Grammar.Inside.States.{ScriptState, bracketed, listed, scripts}
 use Rattle.sg_lex.specs.Inside.Automata.{read}
 use Rattle.sg_script_parse.proofs.calls.bracketed.Given as goal
 

@@ -3,7 +3,7 @@ use Rattle.std.proofs.Common.{◌≡◌, ◌∙◌, [], ◌∷◌, ap, sym}
 use Rattle.std.specs.Prelude.{Ok, Err}
 use Rattle.std.proofs.lemmas.Result.{err_from_is_err_and}
 use Rattle.sg_lex.specs.Lexeme.{Lexeme}
-use Rattle.sg_script_grammar.specs.Inside.States.{script, with_part, scripts}
+use Rattle.sg_script_parse.specs.Grammar.Inside.States.{script, with_part, scripts}
 use Rattle.sg_lex.specs.Inside.Automata.{read}
 use Rattle.sg_script_parse.proofs.ByToken.{part_came}
 use Rattle.sg_lex.proofs.Chains.{on_some}

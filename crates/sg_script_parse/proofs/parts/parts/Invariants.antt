@@ -1,6 +1,6 @@
 -- The parts so far were read.
 use Rattle.std.proofs.Common.{◌≡◌, [], length}
-use Rattle.sg_script_grammar.specs.Inside.States.{script, scripts}
+use Rattle.sg_script_parse.specs.Grammar.Inside.States.{script, scripts}
 use Rattle.sg_lex.specs.Inside.Automata.{read}
 use Rattle.sg_script_parse.proofs.parts.parts.Given as goal
 

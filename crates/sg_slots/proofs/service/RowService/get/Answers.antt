@@ -9,7 +9,7 @@ use Rattle.sg_slots.proofs.service.RowService.get.Goals as goal
 
 pub returns : goal.returns
 returns g c =
-    let body = g.E.Entry.body in
+    let body = g.E.Slot.body in
     let held = c.args.self.now.slots in
     record {
       row = row_at-rows_of body held.entries c.args.id ∙ ap (option_map (λ e. row_with c.args.id (body e))) (sym c.get.ensures.entry);

@@ -1,0 +1,381 @@
+-- Statements: from the state before one, and as pieces.
+use Rattle.std.proofs.Common.{◌≡◌, ◌≢◌, ℕ, true, if◌then◌else◌, List, [], ◌∷◌, ◌++◌, refl, sym, ap, subst, ◌∙◌, append_assoc}
+use Rattle.std.specs.Prelude.{None, Some, All, codes}
+use Rattle.std.specs.declared.option.Option.{Option}
+use Rattle.std.proofs.lemmas.List.Elements.{All-cons, All-head, All-tail}
+use Rattle.sg_lex.specs.Lexeme.{Lexeme}
+use Rattle.sg_parse.specs.declared.tree.Statement.{Statement}
+use Rattle.sg_parse.specs.declared.tree.Statement.TheVariants.{One, Two, Proto}
+use Rattle.sg_parse.specs.declared.tree.Ret.{Ret}
+use Rattle.sg_parse.specs.declared.tree.Ret.TheVariants.{Plain, Set, Add}
+use Rattle.sg_parse.specs.declared.tree.TypeName.{TypeName}
+use Rattle.sg_parse.specs.declared.tree.Param.{Param}
+use Rattle.sg_parse.specs.declared.tree.Tree.{Tree}
+use Rattle.sg_parse.specs.declared.words.Sort.TheVariants.{Name, One as one_word, Two as two_word}
+use Rattle.sg_parse.specs.Grammar.Named.{Named}
+use Rattle.sg_parse.specs.Grammar.Words.{one_words, two_words}
+use Rattle.sg_parse.specs.Grammar.Pieces.{Piece, word, name, IsPiece}
+use Rattle.sg_parse.specs.Grammar.Sentence.{comma, semicolon, open_bracket, close_bracket, type_pieces, param_pieces, more_params, params_pieces, returned_pieces, ret_pieces, statement_pieces, IsType, IsRet, IsStatement}
+use Rattle.sg_parse.specs.Grammar.Inside.States.{State, due, want, has_sort, fits, named_by, type_of, declared, param, one_rest, two_rest, proto_rest, returned_behind, returned_rest, plain_rest, statement_behind}
+use Rattle.sg_parse.proofs.Grammar.Basics.{some_is, none_is, by_test, if_then, if_else, has_sort-is, is-has_sort, named, fits-is, is-fits, sort-has_sort, sort-fits_word, word-has_sort, word-fits_word, apart, name_apart}
+use Rattle.sg_parse.proofs.Grammar.Rests.{Rest, Whole, whole_of, closed-star, closed-sort}
+use Rattle.sg_parse.proofs.Grammar.Parts.{declared_back, declared_forth, param_back, param_forth, type_forth, ends, listed_closed}
+
+pub head_is : {X : Type 0} {x y : X} {xs ys : List X} → x ∷ xs ≡ y ∷ ys → x ≡ y
+head_is e = cc
+
+pub tail_is : {X : Type 0} {x y : X} {xs ys : List X} → x ∷ xs ≡ y ∷ ys → xs ≡ ys
+tail_is e = cc
+
+-- ---- behind the name of a prototype
+
+pub record ProtoRest (P : List Param → List Piece → Type 0) (ps : List Piece) : Type 0 where
+  pub params : List Param
+  pub behind : List Piece
+  pub all : ps ≡ open_bracket ∷ (params_pieces params ++ close_bracket ∷ semicolon ∷ behind)
+  pub full : params ≢ []
+  pub types : All (λ p. IsType p.ty) params
+  pub rest : P params behind
+
+proto_back : (go : Statement → State) (ret : Ret) (n : Named) (tree : Tree) (ps : List Piece) → Rest (proto_rest go ret n) ps tree
+    → ProtoRest (λ params behind. Rest (go (Proto ret n params)) behind tree) ps
+proto_back go ret n tree ps r =
+    let p = param_back (λ params. due semicolon (go (Proto ret n params))) [] tree r.behind r.rest in
+    let more = p.rest in
+    let last = more.rest in
+    record {
+      params = p.value ∷ more.more;
+      behind = last.behind;
+      all = r.all ∙ ap (λ v. open_bracket ∷ v)
+          (p.all ∙ ap (λ v. param_pieces p.value ++ v) (more.all ∙ ap (λ v. more_params more.more ++ close_bracket ∷ v) last.all)
+          ∙ sym (append_assoc (param_pieces p.value) (more_params more.more) (close_bracket ∷ semicolon ∷ last.behind)));
+      full = λ e. cc;
+      types = All-cons (λ q. IsType q.ty) p.value more.more p.is_type more.types;
+      rest = last.rest;
+    }
+
+proto_forth : (go : Statement → State) (ret : Ret) (n : Named) (tree : Tree) (params : List Param) (qs : List Piece)
+    → params ≢ [] → All (λ p. IsType p.ty) params → Rest (go (Proto ret n params)) qs tree
+    → Rest (proto_rest go ret n) (open_bracket ∷ (params_pieces params ++ close_bracket ∷ semicolon ∷ qs)) tree
+proto_forth go ret n tree [] qs full types r = absurd (full refl)
+proto_forth go ret n tree (p ∷ more) qs full types r =
+    let end : List Piece = close_bracket ∷ semicolon ∷ qs in
+    let k = λ (params : List Param). due semicolon (go (Proto ret n params)) in
+    let whole = param_forth k [] tree p (more_params more ++ end) (All-head (λ q. IsType q.ty) p more types) (listed_closed more (semicolon ∷ qs))
+    (record {
+      more = more;
+      behind = semicolon ∷ qs;
+      all = refl;
+      types = All-tail (λ q. IsType q.ty) p more types;
+      rest = record { behind = qs; all = refl; rest = r };
+    }) in
+    record {
+      behind = params_pieces (p ∷ more) ++ end;
+      all = refl;
+      rest = subst (λ v. Rest (param k []) v tree) (sym (append_assoc (param_pieces p) (more_params more) end)) whole;
+    }
+
+-- the pieces of a prototype with what follows them
+proto_all : (ret : Ret) (n : Named) (params : List Param) (qs : List Piece)
+    → ret_pieces ret ++ (name Name n ∷ open_bracket ∷ (params_pieces params ++ close_bracket ∷ semicolon ∷ qs)) ≡ statement_pieces (Proto ret n params) ++ qs
+proto_all ret n params qs =
+    ap (λ v. ret_pieces ret ++ (name Name n ∷ open_bracket ∷ v)) (sym (append_assoc (params_pieces params) (close_bracket ∷ semicolon ∷ []) qs))
+    ∙ sym (append_assoc (ret_pieces ret) (name Name n ∷ open_bracket ∷ (params_pieces params ++ close_bracket ∷ semicolon ∷ [])) qs)
+
+-- ---- statements
+
+-- the token and these pieces are a statement, and what follows it
+pub record Spelled (go : Statement → State) (tree : Tree) (token : Lexeme) (ps : List Piece) : Type 0 where
+  pub piece : Piece
+  pub statement : Statement
+  pub behind : List Piece
+  pub is : IsPiece token piece
+  pub all : piece ∷ ps ≡ statement_pieces statement ++ behind
+  pub is_statement : IsStatement statement
+  pub rest : Rest (go statement) behind tree
+
+one_back : (go : Statement → State) (tree : Tree) (token : Lexeme) (ps : List Piece) → has_sort one_word token ≡ true → Rest (one_rest go (named_by token)) ps tree → Spelled go tree token ps
+one_back go tree token ps h r =
+    let fun = r.rest in let close = fun.rest in let end = close.rest in
+    record {
+      piece = name one_word (named_by token);
+      statement = One (named_by token) fun.value;
+      behind = end.behind;
+      is = has_sort-is one_word token h;
+      all = ap (λ v. name one_word (named_by token) ∷ v) (r.all ∙ ap (λ v. open_bracket ∷ v) (fun.all ∙ ap (λ v. name Name fun.value ∷ v) (close.all ∙ ap (λ v. close_bracket ∷ v) end.all)));
+      is_statement = tt;
+      rest = end.rest;
+    }
+
+two_back : (go : Statement → State) (tree : Tree) (token : Lexeme) (ps : List Piece) → has_sort two_word token ≡ true → Rest (two_rest go (named_by token)) ps tree → Spelled go tree token ps
+two_back go tree token ps h r =
+    let first = r.rest in let sep = first.rest in let second = sep.rest in let close = second.rest in let end = close.rest in
+    record {
+      piece = name two_word (named_by token);
+      statement = Two (named_by token) first.value second.value;
+      behind = end.behind;
+      is = has_sort-is two_word token h;
+      all = ap (λ v. name two_word (named_by token) ∷ v) (r.all ∙ ap (λ v. open_bracket ∷ v) (first.all ∙ ap (λ v. name Name first.value ∷ v)
+          (sep.all ∙ ap (λ v. comma ∷ v) (second.all ∙ ap (λ v. name Name second.value ∷ v) (close.all ∙ ap (λ v. close_bracket ∷ v) end.all)))));
+      is_statement = tt;
+      rest = end.rest;
+    }
+
+plain_back : (go : Statement → State) (tree : Tree) (token : Lexeme) (ps : List Piece) → has_sort Name token ≡ true → Rest (plain_rest go (named_by token)) ps tree → Spelled go tree token ps
+plain_back go tree token ps h r =
+    let then_proto = λ (ty : TypeName) (n : Named). proto_rest go (Plain ty) n in
+    let w = whole_of (λ f l n qs. Rest (declared then_proto f l n) qs tree) (named_by token) ps r in
+    let d = declared_back then_proto tree w.front w.last w.count (name Name (named_by token) ∷ ps) w.behind w.all w.rest in
+    let p = proto_back go (Plain d.ty) d.value tree d.behind d.rest in
+    record {
+      piece = name Name (named_by token);
+      statement = Proto (Plain d.ty) d.value p.params;
+      behind = p.behind;
+      is = has_sort-is Name token h;
+      all = d.all ∙ ap (λ v. type_pieces d.ty ++ name Name d.value ∷ v) p.all ∙ proto_all (Plain d.ty) d.value p.params p.behind;
+      is_statement = (d.is_type, p.full, p.types);
+      rest = p.rest;
+    }
+
+returned_back : (go : Statement → State) (tree : Tree) (token : Lexeme) (ps : List Piece) (what : List ℕ) (make : TypeName → Named → Ret)
+    → ((ty : TypeName) (field : Named) → ret_pieces (make ty field) ≡ returned_pieces what ty field)
+    → ((ty : TypeName) (field : Named) → IsType ty → IsRet (make ty field))
+    → fits (word what) token ≡ true → Rest (returned_rest go make) ps tree → Spelled go tree token ps
+returned_back go tree token ps what make pieces is_ret h r =
+    let first = r.rest in
+    let w = whole_of (λ f l n qs. Rest (returned_behind go make f l n) qs tree) first.value first.behind first.rest in
+    let ty = type_of w.front w.last w.count in
+    let sep = w.rest in let field = sep.rest in let close = field.rest in let n = close.rest in
+    let p = proto_back go (make ty field.value) n.value tree n.behind n.rest in
+    let tail = name Name n.value ∷ open_bracket ∷ (params_pieces p.params ++ close_bracket ∷ semicolon ∷ p.behind) in
+    record {
+      piece = word what;
+      statement = Proto (make ty field.value) n.value p.params;
+      behind = p.behind;
+      is = fits-is (word what) token h;
+      all = ap (λ v. word what ∷ v) (r.all ∙ ap (λ v. open_bracket ∷ v) (first.all ∙ w.all ∙ ap (λ v. type_pieces ty ++ v)
+          (sep.all ∙ ap (λ v. comma ∷ v) (field.all ∙ ap (λ v. name Name field.value ∷ v) (close.all ∙ ap (λ v. close_bracket ∷ v) (n.all ∙ ap (λ v. name Name n.value ∷ v) p.all))))
+          ∙ sym (append_assoc (type_pieces ty) (comma ∷ name Name field.value ∷ close_bracket ∷ []) tail)))
+          ∙ ap (λ v. v ++ tail) (sym (pieces ty field.value))
+          ∙ proto_all (make ty field.value) n.value p.params p.behind;
+      is_statement = (is_ret ty field.value (full w.front w.last), p.full, p.types);
+      rest = p.rest;
+    }
+  where
+    full : (front : List Named) (last : Named) → front ++ last ∷ [] ≢ []
+    full [] last e = cc
+    full (x ∷ xs) last e = cc
+
+pub statement_back : (go : Statement → State) (tree : Tree) (token : Lexeme) (next : State) (ps : List Piece)
+    → statement_behind go token ≡ Some next → Rest next ps tree → Spelled go tree token ps
+statement_back go tree token next ps e r =
+    by_test (has_sort one_word token)
+    (λ h. one_back go tree token ps h (along (one_rest go (named_by token)) (sym (if_then (has_sort one_word token) _ _ h) ∙ e)))
+    (λ h1. let e1 = sym (if_else (has_sort one_word token) _ _ h1) ∙ e in
+    by_test (has_sort two_word token)
+    (λ h. two_back go tree token ps h (along (two_rest go (named_by token)) (sym (if_then (has_sort two_word token) _ _ h) ∙ e1)))
+    (λ h2. let e2 = sym (if_else (has_sort two_word token) _ _ h2) ∙ e1 in
+    by_test (fits (word (codes "desc_data_retval")) token)
+    (λ h. returned_back go tree token ps (codes "desc_data_retval") Set (λ ty field. refl) (λ ty field t. t) h
+    (along (returned_rest go Set) (sym (if_then (fits (word (codes "desc_data_retval")) token) _ _ h) ∙ e2)))
+    (λ h3. let e3 = sym (if_else (fits (word (codes "desc_data_retval")) token) _ _ h3) ∙ e2 in
+    by_test (fits (word (codes "desc_data_retval_add")) token)
+    (λ h. returned_back go tree token ps (codes "desc_data_retval_add") Add (λ ty field. refl) (λ ty field t. t) h
+    (along (returned_rest go Add) (sym (if_then (fits (word (codes "desc_data_retval_add")) token) _ _ h) ∙ e3)))
+    (λ h4. let e4 = sym (if_else (fits (word (codes "desc_data_retval_add")) token) _ _ h4) ∙ e3 in
+    by_test (has_sort Name token)
+    (λ h. plain_back go tree token ps h (along (plain_rest go (named_by token)) (sym (if_then (has_sort Name token) _ _ h) ∙ e4)))
+    (λ h5. none_is (Spelled go tree token ps) next (if has_sort Name token then Some (plain_rest go (named_by token)) else None)
+    (if_else (has_sort Name token) (Some (plain_rest go (named_by token))) None h5) e4)))))
+  where
+    along : (s : State) → Some s ≡ Some next → Rest s ps tree
+    along s g = subst (λ v. Rest v ps tree) (sym (some_is s next g)) r
+
+-- ---- from the pieces of a statement to the state behind its first token
+
+-- the token may come, and these pieces go on from there
+pub record Follows (at : Option State) (ps : List Piece) (tree : Tree) : Type 0 where
+  pub next : State
+  pub is : at ≡ Some next
+  pub rest : Rest next ps tree
+
+one_forth : (go : Statement → State) (tree : Tree) (token : Lexeme) (w fun : Named) (qs : List Piece)
+    → IsPiece token (name one_word w) → Rest (go (One w fun)) qs tree
+    → Follows (statement_behind go token) (open_bracket ∷ name Name fun ∷ close_bracket ∷ semicolon ∷ qs) tree
+one_forth go tree token w fun qs is r = record {
+  next = one_rest go (named_by token);
+  is = if_then (has_sort one_word token) _ _ (is-has_sort one_word token w is);
+  rest = subst (λ v. Rest (one_rest go v) (open_bracket ∷ name Name fun ∷ close_bracket ∷ semicolon ∷ qs) tree) (sym (named one_word token w is))
+      (record {
+        behind = name Name fun ∷ close_bracket ∷ semicolon ∷ qs;
+        all = refl;
+        rest = record {
+          value = fun;
+          behind = close_bracket ∷ semicolon ∷ qs;
+          all = refl;
+          rest = record {
+            behind = semicolon ∷ qs;
+            all = refl;
+            rest = record { behind = qs; all = refl; rest = r };
+          };
+        };
+      });
+}
+
+two_forth : (go : Statement → State) (tree : Tree) (token : Lexeme) (w first second : Named) (qs : List Piece)
+    → IsPiece token (name two_word w) → Rest (go (Two w first second)) qs tree
+    → Follows (statement_behind go token) (open_bracket ∷ name Name first ∷ comma ∷ name Name second ∷ close_bracket ∷ semicolon ∷ qs) tree
+two_forth go tree token w first second qs is r = record {
+  next = two_rest go (named_by token);
+  is = if_else (has_sort one_word token) _ _ (sort-has_sort two_word one_word token w is (apart two_words one_words w.bytes refl is.3))
+      ∙ if_then (has_sort two_word token) _ _ (is-has_sort two_word token w is);
+  rest = subst (λ v. Rest (two_rest go v) (open_bracket ∷ name Name first ∷ comma ∷ name Name second ∷ close_bracket ∷ semicolon ∷ qs) tree) (sym (named two_word token w is))
+      (record {
+        behind = name Name first ∷ comma ∷ name Name second ∷ close_bracket ∷ semicolon ∷ qs;
+        all = refl;
+        rest = record {
+          value = first;
+          behind = comma ∷ name Name second ∷ close_bracket ∷ semicolon ∷ qs;
+          all = refl;
+          rest = record {
+            behind = name Name second ∷ close_bracket ∷ semicolon ∷ qs;
+            all = refl;
+            rest = record {
+              value = second;
+              behind = close_bracket ∷ semicolon ∷ qs;
+              all = refl;
+              rest = record {
+                behind = semicolon ∷ qs;
+                all = refl;
+                rest = record { behind = qs; all = refl; rest = r };
+              };
+            };
+          };
+        };
+      });
+}
+
+-- the first token of a plain return is none of the words before it
+plain_is : (go : Statement → State) (token : Lexeme) (n : Named) → IsPiece token (name Name n) → statement_behind go token ≡ Some (plain_rest go (named_by token))
+plain_is go token n is =
+    if_else (has_sort one_word token) _ _ (sort-has_sort Name one_word token n is (name_apart one_words n.bytes refl is.3))
+    ∙ if_else (has_sort two_word token) _ _ (sort-has_sort Name two_word token n is (name_apart two_words n.bytes refl is.3))
+    ∙ if_else (fits (word (codes "desc_data_retval")) token) _ _ (sort-fits_word Name (codes "desc_data_retval") token n is (name_apart (codes "desc_data_retval" ∷ []) n.bytes refl is.3))
+    ∙ if_else (fits (word (codes "desc_data_retval_add")) token) _ _ (sort-fits_word Name (codes "desc_data_retval_add") token n is (name_apart (codes "desc_data_retval_add" ∷ []) n.bytes refl is.3))
+    ∙ if_then (has_sort Name token) _ _ (is-has_sort Name token n is)
+
+-- a type and a name, and then the rest of a prototype
+typed_forth : (go : Statement → State) (tree : Tree) (ty : TypeName) (n : Named) (params : List Param) (qs : List Piece)
+    → IsType ty → params ≢ [] → All (λ p. IsType p.ty) params → Rest (go (Proto (Plain ty) n params)) qs tree
+    → Rest (want Name (λ first. plain_rest go first))
+    (type_pieces ty ++ (name Name n ∷ open_bracket ∷ (params_pieces params ++ close_bracket ∷ semicolon ∷ qs))) tree
+typed_forth go tree ty n params qs is_type full types r =
+    let k = λ (ty : TypeName) (n : Named). proto_rest go (Plain ty) n in
+    let tail : List Piece = open_bracket ∷ (params_pieces params ++ close_bracket ∷ semicolon ∷ qs) in
+    type_forth (declared k) tree ty (name Name n ∷ tail) is_type
+    (declared_forth k tree (λ f l c rs. Rest (declared k f l c) rs tree) (λ f l c rs off d. d) ty n tail is_type refl
+    (proto_forth go (Plain ty) n tree params qs full types r))
+
+plain_forth : (go : Statement → State) (tree : Tree) (token : Lexeme) (p : Piece) (ps : List Piece) (ty : TypeName) (n : Named) (params : List Param) (qs : List Piece)
+    → IsPiece token p → p ∷ ps ≡ statement_pieces (Proto (Plain ty) n params) ++ qs
+    → IsType ty → params ≢ [] → All (λ q. IsType q.ty) params → Rest (go (Proto (Plain ty) n params)) qs tree
+    → Follows (statement_behind go token) ps tree
+plain_forth go tree token p ps ty n params qs is all is_type full types r =
+    let w = typed_forth go tree ty n params qs is_type full types r in
+    let e : p ∷ ps ≡ name Name w.value ∷ w.behind = all ∙ sym (proto_all (Plain ty) n params qs) ∙ w.all in
+    let e0 : p ≡ name Name w.value = cc in
+    let e1 : w.behind ≡ ps = cc in
+    let is1 = subst (IsPiece token) e0 is in
+    record {
+      next = plain_rest go (named_by token);
+      is = plain_is go token w.value is1;
+      rest = subst (λ v. Rest (plain_rest go v) ps tree) (sym (named Name token w.value is1)) (subst (λ v. Rest (plain_rest go w.value) v tree) e1 w.rest);
+    }
+
+returned_forth : (go : Statement → State) (tree : Tree) (what : List ℕ) (make : TypeName → Named → Ret) (ty : TypeName) (field n : Named) (params : List Param) (qs : List Piece)
+    → IsType ty → params ≢ [] → All (λ q. IsType q.ty) params → Rest (go (Proto (make ty field) n params)) qs tree
+    → Rest (returned_rest go make) (open_bracket ∷ (type_pieces ty ++ (comma ∷ name Name field ∷ close_bracket ∷ name Name n ∷ open_bracket ∷ (params_pieces params ++ close_bracket ∷ semicolon ∷ qs)))) tree
+returned_forth go tree what make ty field n params qs is_type full types r =
+    let tail : List Piece = open_bracket ∷ (params_pieces params ++ close_bracket ∷ semicolon ∷ qs) in
+    let behind : List Piece = comma ∷ name Name field ∷ close_bracket ∷ name Name n ∷ tail in
+    let t = ends ty.names is_type in
+    let same : ty ≡ type_of t.front t.last ty.stars = ap (λ v. record { names = v; stars = ty.stars }) t.all in
+    let w : Whole (λ f l c rs. Rest (returned_behind go make f l c) rs tree) (type_pieces ty ++ behind) = record {
+      front = t.front;
+      last = t.last;
+      count = ty.stars;
+      behind = behind;
+      all = ap (λ v. type_pieces v ++ behind) same;
+      off_star = closed-star behind refl;
+      off_name = λ _. closed-sort Name behind refl;
+      rest = record {
+        behind = name Name field ∷ close_bracket ∷ name Name n ∷ tail;
+        all = refl;
+        rest = record {
+          value = field;
+          behind = close_bracket ∷ name Name n ∷ tail;
+          all = refl;
+          rest = record {
+            behind = name Name n ∷ tail;
+            all = refl;
+            rest = record {
+              value = n;
+              behind = tail;
+              all = refl;
+              rest = subst (λ v. Rest (proto_rest go (make v field) n) tail tree) same (proto_forth go (make ty field) n tree params qs full types r);
+            };
+          };
+        };
+      };
+    } in
+    record { behind = type_pieces ty ++ behind; all = refl; rest = type_forth (returned_behind go make) tree ty behind is_type w }
+
+-- the pieces of a return that sets a field, with what follows them
+returned_all : (what : List ℕ) (make : TypeName → Named → Ret) (ty : TypeName) (field n : Named) (params : List Param) (qs : List Piece)
+    → ret_pieces (make ty field) ≡ returned_pieces what ty field
+    → statement_pieces (Proto (make ty field) n params) ++ qs
+    ≡ word what ∷ open_bracket ∷ (type_pieces ty ++ (comma ∷ name Name field ∷ close_bracket ∷ name Name n ∷ open_bracket ∷ (params_pieces params ++ close_bracket ∷ semicolon ∷ qs)))
+returned_all what make ty field n params qs pieces =
+    let tail : List Piece = name Name n ∷ open_bracket ∷ (params_pieces params ++ close_bracket ∷ semicolon ∷ qs) in
+    sym (proto_all (make ty field) n params qs) ∙ ap (λ v. v ++ tail) pieces
+    ∙ ap (λ v. word what ∷ open_bracket ∷ v) (append_assoc (type_pieces ty) (comma ∷ name Name field ∷ close_bracket ∷ []) tail)
+
+-- the word of a return that sets a field is none of the words before it
+retval_is : (go : Statement → State) (token : Lexeme) → IsPiece token (word (codes "desc_data_retval")) → statement_behind go token ≡ Some (returned_rest go Set)
+retval_is go token is =
+    if_else (has_sort one_word token) _ _ (word-has_sort one_word (codes "desc_data_retval") token is refl)
+    ∙ if_else (has_sort two_word token) _ _ (word-has_sort two_word (codes "desc_data_retval") token is refl)
+    ∙ if_then (fits (word (codes "desc_data_retval")) token) _ _ (is-fits (word (codes "desc_data_retval")) token is)
+
+retval_add_is : (go : Statement → State) (token : Lexeme) → IsPiece token (word (codes "desc_data_retval_add")) → statement_behind go token ≡ Some (returned_rest go Add)
+retval_add_is go token is =
+    if_else (has_sort one_word token) _ _ (word-has_sort one_word (codes "desc_data_retval_add") token is refl)
+    ∙ if_else (has_sort two_word token) _ _ (word-has_sort two_word (codes "desc_data_retval_add") token is refl)
+    ∙ if_else (fits (word (codes "desc_data_retval")) token) _ _ (word-fits_word (codes "desc_data_retval_add") (codes "desc_data_retval") token is refl)
+    ∙ if_then (fits (word (codes "desc_data_retval_add")) token) _ _ (is-fits (word (codes "desc_data_retval_add")) token is)
+
+pub statement_forth : (go : Statement → State) (tree : Tree) (token : Lexeme) (p : Piece) (ps : List Piece) (statement : Statement) (qs : List Piece)
+    → IsPiece token p → p ∷ ps ≡ statement_pieces statement ++ qs → IsStatement statement → Rest (go statement) qs tree
+    → Follows (statement_behind go token) ps tree
+statement_forth go tree token p ps (One w fun) qs is all s r =
+    let e0 : p ≡ name one_word w = cc in
+    let e1 : open_bracket ∷ name Name fun ∷ close_bracket ∷ semicolon ∷ qs ≡ ps = cc in
+    subst (λ v. Follows (statement_behind go token) v tree) e1 (one_forth go tree token w fun qs (subst (IsPiece token) e0 is) r)
+statement_forth go tree token p ps (Two w first second) qs is all s r =
+    let e0 : p ≡ name two_word w = cc in
+    let e1 : open_bracket ∷ name Name first ∷ comma ∷ name Name second ∷ close_bracket ∷ semicolon ∷ qs ≡ ps = cc in
+    subst (λ v. Follows (statement_behind go token) v tree) e1 (two_forth go tree token w first second qs (subst (IsPiece token) e0 is) r)
+statement_forth go tree token p ps (Proto (Plain ty) n params) qs is all s r =
+    plain_forth go tree token p ps ty n params qs is all s.0 s.1 s.2 r
+statement_forth go tree token p ps (Proto (Set ty field) n params) qs is all s r =
+    let f = returned_forth go tree (codes "desc_data_retval") Set ty field n params qs s.0 s.1 s.2 r in
+    let e = all ∙ returned_all (codes "desc_data_retval") Set ty field n params qs refl in
+    let e0 : p ≡ word (codes "desc_data_retval") = head_is e in
+    let e1 = tail_is e in
+    record { next = returned_rest go Set; is = retval_is go token (subst (IsPiece token) e0 is); rest = subst (λ v. Rest (returned_rest go Set) v tree) (sym e1) f }
+statement_forth go tree token p ps (Proto (Add ty field) n params) qs is all s r =
+    let f = returned_forth go tree (codes "desc_data_retval_add") Add ty field n params qs s.0 s.1 s.2 r in
+    let e = all ∙ returned_all (codes "desc_data_retval_add") Add ty field n params qs refl in
+    let e0 : p ≡ word (codes "desc_data_retval_add") = head_is e in
+    let e1 = tail_is e in
+    record { next = returned_rest go Add; is = retval_add_is go token (subst (IsPiece token) e0 is); rest = subst (λ v. Rest (returned_rest go Add) v tree) (sym e1) f }

@@ -1,0 +1,38 @@
+-- What is read on a text is the one answer that a parser may give, out of memory aside.
+use Rattle.std.proofs.Common.{◌≡◌, ◌≢◌, ℕ, inl, inr, List, refl}
+use Rattle.std.specs.Prelude.{Ok, Err}
+use Rattle.std.specs.declared.result.Result.{Result}
+use Rattle.sg_lex.specs.Tokens.{Answer}
+use Rattle.sg_lex.specs.Inside.Automata.{read_from}
+use Rattle.sg_lex.proofs.Automata.{reads_no_other}
+use Rattle.sg_lex.proofs.Answers.{may_answer as any_may, only_value, only_byte, only_token, only_end}
+use Rattle.sg_parse.specs.declared.error.ParseError.{ParseError}
+use Rattle.sg_parse.specs.declared.error.ParseError.TheVariants.{NoMemory, Lex, Syntax}
+use Rattle.sg_parse.specs.declared.tree.Tree.{Tree}
+use Rattle.sg_parse.specs.Grammar.Sentence.{IsSentence}
+use Rattle.sg_parse.specs.Grammar.Parses.{ParsesTo}
+use Rattle.sg_parse.specs.Grammar.Inside.States.{State, start, trees}
+use Rattle.sg_parse.proofs.Grammar.Runs.{just}
+
+pub may_answer : (length : ℕ) (answers : List Answer) → ParsesTo answers length (read_from trees length start answers)
+may_answer length answers = any_may trees IsSentence just answers length (ParsesTo answers length) (record {
+  value = λ tree f. f;
+  byte = λ place f. f;
+  token = λ place f. inl f;
+  end = λ place f. inr f;
+})
+
+pub only_answer : (length : ℕ) (answers : List Answer) (other : Result Tree ParseError) → ParsesTo answers length other → other ≢ Err NoMemory
+    → read_from trees length start answers ≡ other
+only_answer length answers (Ok tree) h n = only_value trees IsSentence just answers length tree h
+only_answer length answers (Err NoMemory) h n = absurd (n refl)
+only_answer length answers (Err (Lex place)) h n = only_byte trees IsSentence just answers length place h
+only_answer length answers (Err (Syntax place)) h n =
+    elim h [
+      | inl f ↦ only_token trees IsSentence just answers length place f
+      | inr f ↦ only_end trees IsSentence just answers length place f
+    ]
+
+-- reading is never out of memory
+pub reads_no_memory : (length : ℕ) (s : State) (answers : List Answer) → read_from trees length s answers ≢ Err NoMemory
+reads_no_memory length s answers = reads_no_other trees length s answers NoMemory (λ at e. cc) (λ at e. cc)

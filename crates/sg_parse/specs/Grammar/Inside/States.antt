@@ -1,0 +1,195 @@
+-- How far a text has been read: an automaton over tokens, whose states carry the tree so far. Nothing public rests on the automaton;
+-- the automaton is proved to read exactly the sentences, and says in what steps the parser goes.
+use Rattle.std.specs.Prelude.{ℕ, ◌+◌, ◌==◌, ◌&&◌, Bool, if◌then◌else◌, List, [], ◌∷◌, ◌++◌, None, Some, codes, nat_eq, length}
+use Rattle.std.specs.declared.option.Option.{Option}
+use Rattle.std.specs.Cmp.Lexicographic.{pointwise}
+use Rattle.sg_lex.specs.declared.token.TokenKind.TheVariants.{Word}
+use Rattle.sg_lex.specs.Lexeme.{Lexeme}
+use Rattle.sg_lex.specs.Inside.Automata.{Automaton}
+use Rattle.sg_lex.specs.Inside.Tests.{has_kind, is_this_mark, is_fixed}
+use Rattle.sg_parse.specs.declared.error.ParseError.{ParseError}
+use Rattle.sg_parse.specs.declared.error.ParseError.TheVariants.{NoMemory, Lex, Syntax}
+use Rattle.sg_parse.specs.declared.tree.Facts.{Facts}
+use Rattle.sg_parse.specs.declared.tree.Statement.{Statement}
+use Rattle.sg_parse.specs.declared.tree.Statement.TheVariants.{One, Two, Proto}
+use Rattle.sg_parse.specs.declared.tree.Ret.{Ret}
+use Rattle.sg_parse.specs.declared.tree.Ret.TheVariants.{Plain, Set, Add}
+use Rattle.sg_parse.specs.declared.tree.TypeName.{TypeName}
+use Rattle.sg_parse.specs.declared.tree.Param.{Param}
+use Rattle.sg_parse.specs.declared.tree.Tree.{Tree}
+use Rattle.sg_parse.specs.declared.words.Sort.{Sort}
+use Rattle.sg_parse.specs.declared.words.Sort.TheVariants.{Name, One as one_word, Two as two_word, Form, Parents, Closing, Flag}
+use Rattle.sg_parse.specs.Grammar.Named.{Named}
+use Rattle.sg_parse.specs.Grammar.Words.{is_of}
+use Rattle.sg_lex.specs.Marks.{close_brace_byte}
+use Rattle.sg_parse.specs.Grammar.Pieces.{Piece, word, mark, name}
+use Rattle.sg_parse.specs.Grammar.Sentence.{open_brace, open_bracket, close_bracket, equals, comma, semicolon, star}
+
+-- ---- tests of tokens
+
+-- a token is a word of a sort
+abbrev pub has_sort : Sort → Lexeme → Bool
+has_sort sort token = has_kind Word token && is_of sort token.bytes
+
+-- a token is this piece
+abbrev pub fits : Piece → Lexeme → Bool
+fits (word bytes) token = is_fixed bytes token
+fits (mark byte) token = is_this_mark byte token
+fits (name sort n) token = has_sort sort token && (pointwise nat_eq token.bytes n.bytes && (token.at == n.at))
+
+-- the name that a token is
+abbrev pub named_by : Lexeme → Named
+named_by token = record { bytes = token.bytes; at = token.at }
+
+-- ---- states
+
+-- what follows a type whose names are so many and a last one, and that has so many stars
+abbrev pub Behind : Type 0 → Type 0
+Behind State = List Named → Named → ℕ → State
+
+pub data State : Type 0 where
+  -- no token may come
+  dead : State
+  -- this piece, and then the state
+  due : Piece → State → State
+  -- a word of a sort, and then the state of it
+  want : Sort → (Named → State) → State
+  -- in a type, behind its names so far: a further name, a star, or what follows the type
+  names : List Named → Named → (List Named → Named → ℕ → State) → State
+  -- in a type, behind so many stars: a further star, or what follows the type
+  stars : List Named → Named → ℕ → (List Named → Named → ℕ → State) → State
+  -- a form and then the state of it, or as the second state
+  either : (Named → State) → State → State
+  -- behind a parameter: a comma and a further one, or the end of the parameters and then the state of them all
+  listed : List Param → (List Param → State) → State
+  -- before a statement or the end
+  statements : Facts → List Statement → State
+
+-- all names of a type
+abbrev pub type_of : List Named → Named → ℕ → TypeName
+type_of front last n = record { names = front ++ last ∷ []; stars = n }
+
+-- a type and a name: without stars the last of at least two names is that name
+abbrev pub declared : (TypeName → Named → State) → List Named → Named → ℕ → State
+declared go front last n =
+    if n == 0
+    then (if length front == 0 then dead else go (record { names = front; stars = 0 }) last)
+    else want Name (λ n'. go (type_of front last n) n')
+
+-- a parameter behind others
+abbrev pub with_param : (List Param → State) → List Param → TypeName → Option Named → Named → State
+with_param go params ty form n = listed (params ++ record { ty = ty; form = form; name = n } ∷ []) go
+
+abbrev pub param_behind : (List Param → State) → List Param → List Named → Named → ℕ → State
+param_behind go params front last n =
+    either
+    (λ form. due open_bracket (want Name (λ n'. due close_bracket (with_param go params (type_of front last n) (Some form) n'))))
+    (declared (λ ty n'. with_param go params ty None n') front last n)
+
+abbrev pub param : (List Param → State) → List Param → State
+param go params = want Name (λ first. names [] first (param_behind go params))
+
+-- behind the word of a statement over one function
+abbrev pub one_rest : (Statement → State) → Named → State
+one_rest go w = due open_bracket (want Name (λ fun. due close_bracket (due semicolon (go (One w fun)))))
+
+abbrev pub two_rest : (Statement → State) → Named → State
+two_rest go w =
+    due open_bracket (want Name (λ first. due comma (want Name (λ second.
+    due close_bracket (due semicolon (go (Two w first second)))))))
+
+-- behind the name of a function
+abbrev pub proto_rest : (Statement → State) → Ret → Named → State
+proto_rest go ret n = due open_bracket (param (λ params. due semicolon (go (Proto ret n params))) [])
+
+-- behind the word of a return that sets a field
+abbrev pub returned_behind : (Statement → State) → (TypeName → Named → Ret) → List Named → Named → ℕ → State
+returned_behind go make front last n =
+    due comma (want Name (λ field. due close_bracket (want Name (λ n'.
+    proto_rest go (make (type_of front last n) field) n'))))
+
+abbrev pub returned_rest : (Statement → State) → (TypeName → Named → Ret) → State
+returned_rest go make = due open_bracket (want Name (λ first. names [] first (returned_behind go make)))
+
+-- behind the first name of a plain return
+abbrev pub plain_rest : (Statement → State) → Named → State
+plain_rest go first = names [] first (declared (λ ty n. proto_rest go (Plain ty) n))
+
+-- behind the first token of a statement
+abbrev pub statement_behind : (Statement → State) → Lexeme → Option State
+statement_behind go token =
+    if has_sort one_word token then Some (one_rest go (named_by token))
+    else (if has_sort two_word token then Some (two_rest go (named_by token))
+    else (if fits (word (codes "desc_data_retval")) token then Some (returned_rest go Set)
+    else (if fits (word (codes "desc_data_retval_add")) token then Some (returned_rest go Add)
+    else (if has_sort Name token then Some (plain_rest go (named_by token))
+    else None))))
+
+-- with one statement more
+abbrev pub with_statement : Facts → List Statement → Statement → State
+with_statement facts before statement = statements facts (before ++ statement ∷ [])
+
+-- a fact of the head, and what follows it
+abbrev pub fact : List ℕ → Sort → Piece → (Named → State) → State
+fact what sort end go = due (word what) (due equals (want sort (λ value. due end (go value))))
+
+-- the states behind each fact of the head, from the last to the first
+abbrev pub head7 : (a b c d e f g : Named) → State
+head7 a b c d e f g = due semicolon (statements (record { service = a; parent = b; close = c; global = d; block = e; has_data = f; resc_data = g }) [])
+
+abbrev pub head6 : (a b c d e f : Named) → State
+head6 a b c d e f = fact (codes "resc_has_data") Flag (mark close_brace_byte) (head7 a b c d e f)
+
+abbrev pub head5 : (a b c d e : Named) → State
+head5 a b c d e = fact (codes "desc_has_data") Flag comma (head6 a b c d e)
+
+abbrev pub head4 : (a b c d : Named) → State
+head4 a b c d = fact (codes "desc_block") Flag comma (head5 a b c d)
+
+abbrev pub head3 : (a b c : Named) → State
+head3 a b c = fact (codes "desc_is_global") Flag comma (head4 a b c)
+
+abbrev pub head2 : (a b : Named) → State
+head2 a b = fact (codes "desc_close") Closing comma (head3 a b)
+
+abbrev pub head1 : Named → State
+head1 a = fact (codes "desc_has_parent") Parents comma (head2 a)
+
+-- before the first token
+abbrev pub start : State
+start = due (word (codes "service_global_info")) (due equals (due open_brace (fact (codes "service") Name comma head1)))
+
+-- ---- steps
+
+-- the state behind a token; None where the token may not come
+unfoldable pub step : State → Lexeme → Option State
+step dead token = None
+step (due piece s) token = if fits piece token then Some s else None
+step (want sort k) token = if has_sort sort token then Some (k (named_by token)) else None
+step (names front last k) token =
+    if has_sort Name token then Some (names (front ++ last ∷ []) (named_by token) k)
+    else (if fits star token then Some (stars front last 1 k)
+    else step (k front last 0) token)
+step (stars front last n k) token =
+    if fits star token then Some (stars front last (n + 1) k) else step (k front last n) token
+step (either k s) token = if has_sort Form token then Some (k (named_by token)) else step s token
+step (listed params k) token =
+    if fits comma token then Some (param k params)
+    else (if fits close_bracket token then Some (k params)
+    else None)
+step (statements facts before) token = statement_behind (with_statement facts before) token
+
+-- the tree, where the text may end here
+unfoldable pub tree_at : State → Option Tree
+tree_at dead = None
+tree_at (due piece s) = None
+tree_at (want sort k) = None
+tree_at (names front last k) = tree_at (k front last 0)
+tree_at (stars front last n k) = tree_at (k front last n)
+tree_at (either k s) = tree_at s
+tree_at (listed params k) = None
+tree_at (statements facts before) = Some (record { facts = facts; statements = before })
+
+-- how the automaton reads a text
+abbrev pub trees : Automaton State Tree ParseError
+trees = record { start = start; step = step; value_at = tree_at; no_token = Lex; no_sentence = Syntax; no_memory = NoMemory }

@@ -1,9 +1,0 @@
--- Reading the tokens has one end.
-use Rattle.sg_lex.proofs.Answers.{one_value}
-use Rattle.sg_script_grammar.specs.Sentence.{IsScriptSentence}
-use Rattle.sg_script_grammar.specs.Inside.States.{scripts}
-use Rattle.sg_script_grammar.proofs.Runs.{just}
-use Rattle.sg_script_grammar.proofs.laws.one_list_of_parts.Goals as goal
-
-pub returns : goal.returns
-returns c = one_value scripts IsScriptSentence just

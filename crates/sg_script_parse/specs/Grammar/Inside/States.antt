@@ -1,0 +1,122 @@
+-- How far a script has been read: an automaton over tokens, whose states carry the parts so far. Nothing public rests on
+-- the automaton, which is proved to read exactly the scripts, and says in what steps the parser goes.
+use Rattle.std.specs.Prelude.{ℕ, if◌then◌else◌, List, [], ◌∷◌, ◌++◌, None, Some, codes}
+use Rattle.std.specs.declared.option.Option.{Option}
+use Rattle.sg_lex.specs.declared.token.TokenKind.TheVariants.{Word, Number, Text}
+use Rattle.sg_lex.specs.Lexeme.{Lexeme}
+use Rattle.sg_lex.specs.Inside.Automata.{Automaton}
+use Rattle.sg_lex.specs.Inside.Tests.{has_kind, is_this_mark, is_fixed}
+use Rattle.sg_script_parse.specs.declared.error.ScriptSyntax.{ScriptSyntax}
+use Rattle.sg_script_parse.specs.declared.error.ScriptSyntax.TheVariants.{NoMemory, Syntax}
+use Rattle.sg_script_parse.specs.declared.tree.WrittenArg.{WrittenArg}
+use Rattle.sg_script_parse.specs.declared.tree.WrittenArg.TheVariants.{Number as number_arg, Text as text_arg, Back as back_arg}
+use Rattle.sg_script_parse.specs.declared.tree.WrittenCall.{WrittenCall}
+use Rattle.sg_script_parse.specs.declared.tree.Part.{Part}
+use Rattle.sg_script_parse.specs.declared.tree.Part.TheVariants.{Setup, Client, Schedule, Stop}
+use Rattle.sg_script_parse.specs.Grammar.Spelling.{Spelling}
+use Rattle.sg_lex.specs.Marks.{dollar_byte, open_bracket_byte, semicolon_byte, open_brace_byte, close_bracket_byte, comma_byte, close_brace_byte}
+
+-- what a token spells
+abbrev pub spelt_by : Lexeme → Spelling
+spelt_by token = record { bytes = token.bytes; at = token.at }
+
+-- ---- states
+
+pub data ScriptState : Type 0 where
+  -- no token may come
+  dead : ScriptState
+  -- this mark, and then the state
+  due : ℕ → ScriptState → ScriptState
+  -- a number, and then the state of it
+  want : (Spelling → ScriptState) → ScriptState
+  -- an argument, and then the state of it
+  argument : (WrittenArg → ScriptState) → ScriptState
+  -- behind `(`: arguments or none, `)`, and then the state of them
+  bracketed : (List WrittenArg → ScriptState) → ScriptState
+  -- behind an argument: a comma and a further one, or `)` and then the state of them all
+  listed : List WrittenArg → (List WrittenArg → ScriptState) → ScriptState
+  -- behind `{` and calls: a further one, or `}` and then the state of them all
+  body : List WrittenCall → (List WrittenCall → ScriptState) → ScriptState
+  -- behind numbers: a further one, or `;` and then the state of them all
+  counts : List Spelling → (List Spelling → ScriptState) → ScriptState
+  -- before a part or the end
+  script : List Part → ScriptState
+
+-- behind the first token of an argument
+abbrev pub argument_behind : (WrittenArg → ScriptState) → Lexeme → Option ScriptState
+argument_behind k token =
+    if is_this_mark dollar_byte token then Some (want (λ n. k (back_arg n)))
+    else (if has_kind Text token then Some (k (text_arg (spelt_by token)))
+    else (if has_kind Number token then Some (k (number_arg (spelt_by token)))
+    else None))
+
+-- behind a call's name
+abbrev pub call_rest : (WrittenCall → ScriptState) → Spelling → ScriptState
+call_rest k name = due open_bracket_byte (bracketed (λ args. due semicolon_byte (k (record { name = name; args = args }))))
+
+-- calls in braces
+abbrev pub braced : (List WrittenCall → ScriptState) → ScriptState
+braced k = due open_brace_byte (body [] k)
+
+-- behind the first word of a part
+abbrev pub setup_rest : (Part → ScriptState) → ℕ → ScriptState
+setup_rest go at = braced (λ calls. go (Setup at calls))
+
+abbrev pub client_rest : (Part → ScriptState) → ℕ → ScriptState
+client_rest go at = want (λ n. braced (λ calls. go (Client at n calls)))
+
+abbrev pub schedule_rest : (Part → ScriptState) → ℕ → ScriptState
+schedule_rest go at = counts [] (λ numbers. go (Schedule at numbers))
+
+abbrev pub stop_rest : (Part → ScriptState) → ℕ → ScriptState
+stop_rest go at = counts [] (λ numbers. go (Stop at numbers))
+
+-- behind the first token of a part
+abbrev pub part_behind : (Part → ScriptState) → Lexeme → Option ScriptState
+part_behind go token =
+    if is_fixed (codes "setup") token then Some (setup_rest go token.at)
+    else (if is_fixed (codes "client") token then Some (client_rest go token.at)
+    else (if is_fixed (codes "schedule") token then Some (schedule_rest go token.at)
+    else (if is_fixed (codes "stop") token then Some (stop_rest go token.at)
+    else None)))
+
+-- with one part more
+abbrev pub with_part : List Part → Part → ScriptState
+with_part parts part = script (parts ++ part ∷ [])
+
+-- before the first token
+abbrev pub script_start : ScriptState
+script_start = script []
+
+-- ---- steps
+
+-- the state behind a token; None where the token may not come
+unfoldable pub step : ScriptState → Lexeme → Option ScriptState
+step dead token = None
+step (due byte s) token = if is_this_mark byte token then Some s else None
+step (want k) token = if has_kind Number token then Some (k (spelt_by token)) else None
+step (argument k) token = argument_behind k token
+step (bracketed k) token =
+    if is_this_mark close_bracket_byte token then Some (k []) else argument_behind (λ a. listed (a ∷ []) k) token
+step (listed args k) token =
+    if is_this_mark comma_byte token then Some (argument (λ a. listed (args ++ a ∷ []) k))
+    else (if is_this_mark close_bracket_byte token then Some (k args)
+    else None)
+step (body calls k) token =
+    if has_kind Word token then Some (call_rest (λ c. body (calls ++ c ∷ []) k) (spelt_by token))
+    else (if is_this_mark close_brace_byte token then Some (k calls)
+    else None)
+step (counts numbers k) token =
+    if has_kind Number token then Some (counts (numbers ++ spelt_by token ∷ []) k)
+    else (if is_this_mark semicolon_byte token then Some (k numbers)
+    else None)
+step (script parts) token = part_behind (with_part parts) token
+
+-- the parts, where the text may end here
+unfoldable pub parts_at : ScriptState → Option (List Part)
+parts_at (script parts) = Some parts
+parts_at s = None
+
+-- how the automaton reads a text
+abbrev pub scripts : Automaton ScriptState (List Part) ScriptSyntax
+scripts = record { start = script_start; step = step; value_at = parts_at; no_token = Syntax; no_sentence = Syntax; no_memory = NoMemory }

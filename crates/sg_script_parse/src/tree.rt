@@ -1,0 +1,74 @@
+// The parts of a script, as they are written.
+use sg_base::ListOf;
+use std::marker::Model;
+
+/// A word, a number or a text in a script. Contracts see its bytes and its place.
+#[derive(Debug, Drop)]
+pub struct Spelled<'a> {
+    /// Its bytes, lent from the script; the quotes of a text are with it.
+    pub slice: &'a [u8],
+    /// The place of its first byte in the script, counted from 0.
+    pub at: usize,
+}
+
+impl<'a> Model for Spelled<'a> {
+    ghost use Rattle.sg_script_parse.specs.Grammar.Spelling.{Spelling};
+
+    ghost Value = { Spelling };
+
+    ghost view = { λ s. record { bytes = s.slice.now; at = s.at } };
+}
+
+/// The numbers of a part.
+pub type SpelledList<'a> = ListOf<Spelled<'a>>;
+/// The arguments of a call.
+pub type WrittenArgList<'a> = ListOf<WrittenArg<'a>>;
+/// The calls of a part.
+pub type WrittenCallList<'a> = ListOf<WrittenCall<'a>>;
+/// The parts of a script.
+pub type PartList<'a> = ListOf<Part<'a>>;
+
+/// An argument of a call.
+#[derive(Debug, Drop)]
+pub enum WrittenArg<'a> {
+    /// A number.
+    Number(Spelled<'a>),
+    /// A text, its quotes with it.
+    Text(Spelled<'a>),
+    /// `$` and this number.
+    Back(Spelled<'a>),
+}
+
+/// A call.
+#[derive(Debug, Drop)]
+pub struct WrittenCall<'a> {
+    /// The name of its function.
+    pub name: Spelled<'a>,
+    pub args: WrittenArgList<'a>,
+}
+
+/// A part of a script. `at` is the place of its first word.
+#[derive(Debug, Drop)]
+pub enum Part<'a> {
+    /// `setup`: calls that come first of all.
+    Setup {
+        at: usize,
+        calls: WrittenCallList<'a>,
+    },
+    /// `client`: its number and its calls.
+    Client {
+        at: usize,
+        number: Spelled<'a>,
+        calls: WrittenCallList<'a>,
+    },
+    /// `schedule`: the numbers of clients, turn by turn.
+    Schedule {
+        at: usize,
+        numbers: SpelledList<'a>,
+    },
+    /// `stop`: the numbers of the points at which the service stops.
+    Stop {
+        at: usize,
+        numbers: SpelledList<'a>,
+    },
+}

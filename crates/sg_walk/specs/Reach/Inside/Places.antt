@@ -1,0 +1,81 @@
+-- What descriptors can come to, by a state and the number of the set of fields.
+use Rattle.std.specs.Prelude.{ℕ, suc, ◌≡◌, ◌+◌, ◌*◌, ◌^◌, ◌<◌, ◌⊎◌, ◌↔◌, Bool, true, false, List, [], ◌∷◌, ◌++◌, length}
+use Rattle.std.specs.List.{Contains, slice_index_or}
+use Rattle.sg_facts.specs.declared.shape.Effect.{Effect}
+use Rattle.sg_facts.specs.Facts.{fun_at, state_after}
+use Rattle.sg_facts.specs.Interface.{Declared, declares, moves_on}
+use Rattle.sg_facts.specs.Walks.{IsReachable, may_lead}
+use Rattle.sg_walk.specs.declared.place.Place.{Place}
+use Rattle.sg_walk.specs.declared.place.Triple.{Triple}
+use Rattle.sg_walk.specs.Reach.Triples.{AreDistinct}
+use Rattle.sg_walk.specs.Reach.Inside.Bits.{bits, set_numbered}
+
+-- effects lead from one set of so many fields to a place in a state
+abbrev pub IsLed : List (ℕ × Effect) → ℕ → ℕ → ℕ → Place → Type 0
+IsLed effects count old state q =
+    (q.state ≡ state) × (q.mask < 2 ^ count) × (may_lead effects 0 (bits count old) (bits count q.mask) ≡ true)
+
+-- a place that a creation leads to
+pub record IsMadeAt (i : Declared) (fun : ℕ) (q : Place) : Type 0 where
+  pub declared : declares i fun ≡ true
+  pub creation : (fun_at i.facts.funs fun).creation ≡ true
+  pub led : IsLed (fun_at i.facts.funs fun).effects (length i.facts.fields) 0 (state_after i.facts fun fun) q
+
+-- a place that one call of a function leads to from another
+pub record LeadsBy (i : Declared) (fun : ℕ) (p q : Place) : Type 0 where
+  pub moves : moves_on i p.state fun ≡ true
+  pub goes_on : (fun_at i.facts.funs fun).terminal ≡ false
+  pub led : IsLed (fun_at i.facts.funs fun).effects (length i.facts.fields) p.mask (state_after i.facts fun p.state) q
+
+-- the cell of a place in the table of marks
+abbrev pub cell_of : Place → ℕ
+cell_of p = p.state * 16 + p.mask
+
+-- how many cells aren't marked
+abbrev pub unmarked : List Bool → ℕ
+unmarked [] = 0
+unmarked (true ∷ marks) = unmarked marks
+unmarked (false ∷ marks) = suc (unmarked marks)
+
+-- the places that were found, each once, are those that are marked
+pub record AreMarked (marks : List Bool) (places : List Place) : Type 0 where
+  pub cells : length marks ≡ 4096
+  pub told : (p : Place) → p.state < 256 → p.mask < 16 → (slice_index_or marks (cell_of p) false ≡ true) ↔ Contains places p
+  pub small : (p : Place) → Contains places p → (p.state < 256) × (p.mask < 16)
+  pub count : unmarked marks + length places ≡ 4096
+  pub once : AreDistinct places
+
+-- a place was found already, or is found now and goes last
+abbrev pub AddsOnce : List Place → List Place → Place → Type 0
+AddsOnce old new p = (Contains old p × (new ≡ old)) ⊎ ((Contains old p → ⊥) × (new ≡ old ++ p ∷ []))
+
+-- places were added behind others: all that have a property, and no other
+pub record AddsJust (P : Place → Type 0) (old new : List Place) : Type 0 where
+  pub more : List Place
+  pub behind : new ≡ old ++ more
+  pub all : (q : Place) → P q → Contains new q
+  pub only : (q : Place) → Contains new q → Contains old q ⊎ P q
+
+-- a place that one call leads to from another
+abbrev pub LeadsTo : Declared → Place → Place → Type 0
+LeadsTo i p q = (fun : ℕ) × LeadsBy i fun p q
+
+-- the places that descriptors which a function made can come to
+abbrev pub IsPlace : Declared → ℕ → Place → Type 0
+IsPlace i made p = (p.mask < 2 ^ length i.facts.fields) × IsReachable i made p.state (set_numbered i p.mask)
+
+-- each is a place that descriptors which a function made can come to
+abbrev pub AreReached : Declared → ℕ → List Place → Type 0
+AreReached i made places = (p : Place) → Contains places p → IsPlace i made p
+
+-- all that one call leads to from a place was found, whichever was found
+abbrev pub IsClosed : Declared → List Place → Type 0
+IsClosed i places = (p q : Place) → Contains places p → LeadsTo i p q → Contains places q
+
+-- the triples of a function are those of the places, and the others are as before; none stands twice, where all before are of
+-- functions before
+pub record AddsTriples (made : ℕ) (places : List Place) (old new : List Triple) : Type 0 where
+  pub all : (p : Place) → Contains places p → Contains new (record { made = made; state = p.state; mask = p.mask })
+  pub kept : (t : Triple) → Contains old t → Contains new t
+  pub only : (t : Triple) → Contains new t → Contains old t ⊎ ((t.made ≡ made) × Contains places (record { state = t.state; mask = t.mask }))
+  pub once : ((t : Triple) → Contains old t → t.made < made) → AreDistinct old → AreDistinct places → AreDistinct new
