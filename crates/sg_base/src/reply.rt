@@ -43,7 +43,7 @@ pub enum Code {
     NotFound = 9,
     /// The count would pass its greatest number.
     Overflow = 10,
-    /// The place is behind the end of the file.
+    /// The place is after the end of the file.
     Gap = 11,
     /// The number of bytes, or the place, is above its limit.
     TooBig = 12,

@@ -1,7 +1,7 @@
 -- What is done to a cell keeps what it says of its service.
 use Rattle.std.proofs.Common.{◌≡◌, ◌≢◌, ℕ, List, [], None, Some, refl, sym, ◌∙◌, ap, subst, true, false, rules, if◌then◌else◌}
 use Rattle.std.specs.Prelude.{IsSome}
-use Rattle.sg_base.specs.declared.call.Call.{Call}
+use Rattle.sg_facts.specs.sg_base.declared.call.Call.{Call}
 use Rattle.sg_boot.proofs.LastBoot.{begun_booted, begun_noted, begun_struck, items_booted, items_noted, stop_booted, stop_noted, stop_struck, stopped_at_end}
 use Rattle.sg_boot.specs.Cells.{IsCell}
 use Rattle.sg_boot.specs.Invoking.{item_of_call, item_of_load}
@@ -21,7 +21,7 @@ use Rattle.sg_hist.specs.Recovered.{ends_stopped, is_stopped}
 use Rattle.sg_hist.proofs.Growing.{value_at-more}
 use Rattle.sg_hist.specs.Growing.{booted, last_items, noted, struck}
 
--- a service that failed, behind the stop of its boot
+-- a service that failed, after the stop of its boot
 pub kept_struck : (facts : Facts) (boots : List Boot) (stop : ℕ) → boots ≢ [] → IsCell facts None (struck boots stop)
 kept_struck facts boots stop begun = record {
   begun = begun_struck boots stop begun;

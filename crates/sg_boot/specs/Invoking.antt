@@ -1,10 +1,10 @@
 -- What it means to ask the service of a cell.
 use Rattle.std.specs.Prelude.{ℕ, ◌≡◌, ◌≢◌, ◌+◌, ◌<◌, ◌≤◌, List, [], ◌∷◌, ◌++◌, None, Some}
 use Rattle.std.specs.declared.option.Option.{Option}
-use Rattle.sg_base.specs.Stops.{asked_after}
-use Rattle.sg_base.specs.declared.call.Call.{Call}
-use Rattle.sg_base.specs.declared.reply.Reply.{Reply}
-use Rattle.sg_base.specs.declared.reply.Reply.TheVariants.{Ok}
+use Rattle.sg_facts.specs.sg_base.Stops.{asked_after}
+use Rattle.sg_facts.specs.sg_base.declared.call.Call.{Call}
+use Rattle.sg_facts.specs.sg_base.declared.reply.Reply.{Reply}
+use Rattle.sg_facts.specs.sg_base.declared.reply.Reply.TheVariants.{Ok}
 use Rattle.sg_boot.specs.Cells.{Celled}
 use Rattle.sg_facts.specs.declared.outcome.Outcome.{Outcome}
 use Rattle.sg_facts.specs.declared.outcome.Outcome.TheVariants.{Replied, Blocks, Stopped, NoMemory}
@@ -59,14 +59,14 @@ pub record MayInvoke (facts : Facts) (c : Celled) (tag : Tag) (shown call : Call
   pub same : call ≡ record shown { desc = call.desc }
 
 -- the service answered as its table says, with the patch that belongs to the reply; each part of an Ok was asked, and the point
--- behind the reply
+-- after the reply
 pub record AnswersCall (facts : Facts) (ask : Table) (parts : ℕ → ℕ) (old : Object) (call : Call) (points : Points) (reply : Reply) (patch : Option Patch) (later : Points) : Type 0 where
   pub answered : ask old call ≡ Some reply
   pub written : patch ≡ patch_of facts old call reply
   pub asked : later.asked ≡ asked_after (asked_after points.asked (parts_of parts call reply)) 1
   pub struck : later.struck ≡ points.struck
 
--- the service stopped within a call that it would have answered: at a part of an Ok, or at the point behind the reply. The last
+-- the service stopped within a call that it would have answered: at a part of an Ok, or at the point after the reply. The last
 -- point asked struck
 pub record Stops (ask : Table) (parts : ℕ → ℕ) (old : Object) (call : Call) (points later : Points) : Type 0 where
   pub reply : Reply
@@ -75,7 +75,7 @@ pub record Stops (ask : Table) (parts : ℕ → ℕ) (old : Object) (call : Call
   pub last : later.asked ≤ points.asked + parts_of parts call reply + 1
   pub struck : later.struck ≡ points.struck ++ later.asked ∷ []
 
--- the service replied and goes on behind the call, whose item is noted with the points asked
+-- the service replied and goes on after the call, whose item is noted with the points asked
 pub record NotesReply (facts : Facts) (ask : Table) (parts : ℕ → ℕ) (held : Object) (old : Celled) (tag : Tag) (shown call : Call) (points : Points) (reply : Reply) (patch : Option Patch) (new : Celled) (later : Points) : Type 0 where
   pub answers : AnswersCall facts ask parts held call points reply patch later
   pub running : new.running ≡ Some (after facts held call reply)

@@ -1,15 +1,14 @@
-// Asking a service, with the point behind its reply.
+// Asking a service, with the point after its reply.
 ghost use Rattle.std.specs.Prelude.{◌≡◌};
 ghost use Rattle.sg_facts.specs.Invoke.{FitsRoom};
 ghost use Rattle.sg_facts.specs.Kinds.{MayAsk};
 ghost use Rattle.sg_boot.specs.Inside.Asking.{Asks};
 ghost use Rattle.sg_boot.specs.Inside.Rooms.{FitsItemRoom};
 
-use sg_base::{Call, Point, Stops};
-use sg_facts::{Outcome, Service};
+use sg_facts::{Call, Outcome, Point, Service, Stops};
 use std::alloc::Global;
 
-/// Asks a service, and then the point behind its reply. `Stopped` comes from a part of an Ok or from that point; nothing is
+/// Asks a service, and then the point after its reply. `Stopped` comes from a part of an Ok or from that point; nothing is
 /// known of the service's value then.
 pub(crate) fn ask<S: Service, T: Stops>(
     service: &mut S,

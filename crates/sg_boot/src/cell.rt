@@ -11,8 +11,7 @@ ghost use Rattle.sg_boot.specs.Invoking.{Invoked, MayInvoke, item_of_load, with_
 use crate::ask::ask;
 use crate::journal::Journal;
 use crate::load::load_item;
-use sg_base::{Call, NoMemory, Path, Stops};
-use sg_facts::{Outcome, Service, Tag, Trace};
+use sg_facts::{Call, NoMemory, Outcome, Path, Service, Stops, Tag, Trace};
 use std::alloc::Global;
 use std::marker::Model;
 
@@ -89,7 +88,7 @@ impl<S: Service> Cell<S> {
         self.journal.reserve(alloc)
     }
 
-    /// Asks the running service a call, and then the point behind its reply, and notes the item with the number of points asked,
+    /// Asks the running service a call, and then the point after its reply, and notes the item with the number of points asked,
     /// in the room that was taken for it. `shown` is the call under the clients' ids. `Stopped` comes from a part of an Ok or from
     /// that point: the service has failed then, and its boot ends at the last point asked. After `NoMemory`, which is the
     /// service's own, nothing changed. A reply has at most 4 words and 256 bytes, and a patch fits its file.

@@ -7,8 +7,7 @@ ghost use Rattle.sg_boot.specs.Inside.Journals.{last_room};
 ghost use Rattle.sg_boot.specs.Inside.Rooms.{FitsItemRoom};
 
 use crate::room::ItemRoom;
-use sg_base::{Call, NoMemory};
-use sg_facts::{BootList, BootLog, Item, ItemList, Outcome, Tag, Trace};
+use sg_facts::{BootList, BootLog, Call, Item, ItemList, NoMemory, Outcome, Tag, Trace};
 use std::alloc::Global;
 use std::marker::Model;
 

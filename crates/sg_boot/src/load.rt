@@ -2,8 +2,9 @@
 ghost use Rattle.std.specs.Prelude.{◌≡◌, IfOk};
 ghost use Rattle.sg_boot.specs.Invoking.{item_of_load, load_call, load_outcome};
 
-use sg_base::{Args, Bytes, Call, Good, NoMemory, Path, Reply, TryCopy, Words};
-use sg_facts::{Item, Outcome, Patch, Tag};
+use sg_facts::{
+    Args, Bytes, Call, Good, Item, NoMemory, Outcome, Patch, Path, Reply, Tag, TryCopy, Words,
+};
 use std::alloc::Global;
 
 /// The item of a load of a file, for a client.

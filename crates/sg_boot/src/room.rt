@@ -2,8 +2,7 @@
 ghost use Rattle.std.specs.Prelude.{◌≡◌};
 ghost use Rattle.sg_boot.specs.Inside.Rooms.{FitsItemRoom, FitsPatchRoom};
 
-use sg_base::{NoMemory, Reply, ReplyRoom};
-use sg_facts::{Outcome, Patch, PatchRoom};
+use sg_facts::{NoMemory, Outcome, Patch, PatchRoom, Reply, ReplyRoom};
 use std::alloc::Global;
 
 /// Room for the outcome of one item: 4 words, a key, and two lists of 256 bytes. It is used up when the outcome is made.

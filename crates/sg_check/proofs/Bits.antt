@@ -7,7 +7,7 @@ use Rattle.std.proofs.lemmas.Nat.Bits.{bit_at-suc, bit_at-zero, bit_at_lowest}
 use Rattle.sg_facts.specs.Facts.{Facts, Fun, fun_at}
 use Rattle.sg_facts.specs.Fields.{number_of}
 use Rattle.sg_facts.specs.Interface.{declares}
-use Rattle.sg_parse.specs.declared.tree.Statement.{Statement}
+use Rattle.sg_check_statements.specs.sg_parse.declared.tree.Statement.{Statement}
 use Rattle.sg_check_statements.specs.Faults.{interface_of}
 use Rattle.sg_check_statements.specs.Says.{has_proto}
 

@@ -50,7 +50,7 @@ in_second (p ∷ pairs) first fun is = elim (or_cases ((p.0 == first) && (p.1 ==
   | inr later ↦ or_right (p.1 == fun) (list_any (λ q. q.1 == fun) pairs) (in_second pairs first fun later)
 ]
 
--- it does behind one of some states
+-- it does after one of some states
 called_in : (pairs : List (ℕ × ℕ)) (states : List ℕ) (fun : ℕ) → list_any (λ p. (p.1 == fun) && has_number states p.0) pairs ≡ true
     → (state : ℕ) × (has_pair pairs state fun ≡ true) × (has_number states state ≡ true)
 called_in [] states fun is = absurd (cc is)

@@ -13,12 +13,12 @@ use Rattle.sg_facts.specs.Facts.{Facts, Fun, fun_at, left_by}
 use Rattle.sg_facts.specs.Fits.{Fits, LeavesDeclared, needs_reach}
 use Rattle.sg_facts.specs.Interface.{Declared, declares, has_pair, moves_on, steps_on}
 use Rattle.sg_facts.specs.Walks.{IsReachable, made, moved}
-use Rattle.sg_parse.specs.Grammar.Named.{Named}
-use Rattle.sg_parse.specs.declared.tree.Param.{Param}
-use Rattle.sg_parse.specs.declared.tree.Ret.{Ret}
-use Rattle.sg_parse.specs.declared.tree.Statement.{Statement}
-use Rattle.sg_parse.specs.declared.tree.Statement.TheVariants.{One, Two, Proto}
-use Rattle.sg_parse.specs.declared.tree.Tree.{Tree}
+use Rattle.sg_check_statements.specs.sg_parse.Grammar.Named.{Named}
+use Rattle.sg_check_statements.specs.sg_parse.declared.tree.Param.{Param}
+use Rattle.sg_check_statements.specs.sg_parse.declared.tree.Ret.{Ret}
+use Rattle.sg_check_statements.specs.sg_parse.declared.tree.Statement.{Statement}
+use Rattle.sg_check_statements.specs.sg_parse.declared.tree.Statement.TheVariants.{One, Two, Proto}
+use Rattle.sg_check_statements.specs.sg_parse.declared.tree.Tree.{Tree}
 use Rattle.sg_check_statements.specs.declared.fault.CheckKind.TheVariants.{NoCreation, NoWalk, UnknownFunction, Unreached, WrongFlag}
 use Rattle.sg_check_statements.specs.Faults.{IsFirstStatement, NoStatement, interface_of}
 use Rattle.sg_check_statements.specs.Flaws.{HasNoWalk, IsProtoWhere, IsUnreached, fit_flags, fit_leaves, place_if, fun_of_name, is_declared, leaves_another, names_two, first_place, unknown, wrong_flag}

@@ -7,3 +7,4 @@ pub mod Seeking
 pub mod Unique
 pub mod Fitting
 pub mod Stages
+pub use Rattle.sg_walk.proofs as sg_walk

@@ -6,7 +6,7 @@ use Rattle.sg_facts.specs.declared.shape.Shape.{Shape}
 use Rattle.sg_facts.specs.Facts.{facts_of, fun_at, fun_of_shape}
 use Rattle.sg_facts.specs.Fields.{number_of}
 use Rattle.sg_facts.specs.Interface.{Declared}
-use Rattle.sg_parse.specs.declared.tree.Statement.{Statement}
+use Rattle.sg_check_statements.specs.sg_parse.declared.tree.Statement.{Statement}
 use Rattle.sg_check_statements.specs.Faults.{interface_of}
 use Rattle.sg_check_statements.specs.Says.{has_proto, says_of}
 use Rattle.sg_check_statements.proofs.Judged.{same_pairs}

@@ -4,8 +4,8 @@ use Rattle.std.specs.Prelude.{◌↔◌, if◌then◌else◌, unwrap_or, MatchOp
 use Rattle.std.specs.declared.option.Option.{Option}
 use Rattle.std.specs.Str.{bytes_eq}
 use Rattle.sg_facts.specs.Facts.{Facts, Fun}
-use Rattle.sg_parse.specs.declared.tree.Statement.{Statement}
-use Rattle.sg_parse.specs.declared.tree.Statement.TheVariants.{One, Two, Proto}
+use Rattle.sg_check_statements.specs.sg_parse.declared.tree.Statement.{Statement}
+use Rattle.sg_check_statements.specs.sg_parse.declared.tree.Statement.TheVariants.{One, Two, Proto}
 use Rattle.sg_check_statements.specs.Faults.{IsFirstStatement, NoStatement}
 use Rattle.sg_check_statements.specs.Flaws.{IsProtoWhere, place_if}
 use Rattle.sg_check_statements.specs.Says.{fun_number_from, fun_number}

@@ -13,8 +13,8 @@ use Rattle.sg_facts.specs.declared.shape.Shape.{Shape}
 use Rattle.sg_facts.specs.Facts.{Facts, facts_of, fun_of_shape}
 use Rattle.sg_facts.specs.Interface.{Declared}
 use Rattle.sg_facts.specs.Fits.{Fits}
-use Rattle.sg_parse.specs.declared.tree.Statement.{Statement}
-use Rattle.sg_parse.specs.declared.tree.Tree.{Tree}
+use Rattle.sg_check_statements.specs.sg_parse.declared.tree.Statement.{Statement}
+use Rattle.sg_check_statements.specs.sg_parse.declared.tree.Tree.{Tree}
 use Rattle.sg_walk.specs.declared.place.Triple.{Triple}
 use Rattle.sg_walk.specs.Reach.Triples.{IsReachedTriple}
 use Rattle.sg_walk.proofs.Reach.Reaching.{made_declared}

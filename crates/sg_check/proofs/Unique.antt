@@ -5,9 +5,9 @@ use Rattle.std.specs.Prelude.{codes}
 use Rattle.std.proofs.lemmas.Bool.{cases_lt}
 use Rattle.std.proofs.lemmas.Bool.Decides.{eqb_tells}
 use Rattle.sg_facts.specs.Facts.{Facts}
-use Rattle.sg_parse.specs.declared.tree.Statement.{Statement}
-use Rattle.sg_parse.specs.declared.tree.Statement.TheVariants.{One, Two, Proto}
-use Rattle.sg_parse.specs.declared.tree.Tree.{Tree}
+use Rattle.sg_check_statements.specs.sg_parse.declared.tree.Statement.{Statement}
+use Rattle.sg_check_statements.specs.sg_parse.declared.tree.Statement.TheVariants.{One, Two, Proto}
+use Rattle.sg_check_statements.specs.sg_parse.declared.tree.Tree.{Tree}
 use Rattle.sg_check_statements.specs.declared.fault.CheckKind.{CheckKind}
 use Rattle.sg_check_statements.specs.declared.fault.CheckKind.TheVariants.{UnknownService, DuplicateName, UnknownFunction, BadParams, WrongFact, WrongFlag, WrongEffect, ForeignTransition, ForeignRecover, NoCreation, Unreached, NoWalk}
 use Rattle.sg_check_statements.specs.Faults.{FirstOf, IsFault, IsFirstStatement, IsOf, interface_of, kind_rank}

@@ -17,9 +17,8 @@ use crate::declared::interface_of;
 use crate::protos::first_proto_in;
 use crate::reached::unreached_of;
 use crate::stuck::stuck_of;
-use sg_check_statements::{CheckError, CheckKind, fit_one_by_one, unless};
+use sg_check_statements::{CheckError, CheckKind, Tree, fit_one_by_one, unless};
 use sg_facts::Shape;
-use sg_parse::Tree;
 use sg_walk::reachable;
 use std::alloc::Global;
 

@@ -6,10 +6,8 @@ ghost use Rattle.sg_facts.specs.Limits.{most_funs};
 ghost use Rattle.sg_check_statements.specs.Faults.{interface_of};
 ghost use Rattle.sg_check_statements.specs.Says.{has_proto, says_of};
 
-use sg_base::{NoMemory, PairList};
-use sg_check_statements::{Protos, says_of};
-use sg_facts::{FunShape, Interface, Shape};
-use sg_parse::Statement;
+use sg_check_statements::{Protos, Statement, says_of};
+use sg_facts::{FunShape, Interface, NoMemory, PairList, Shape};
 use std::alloc::Global;
 
 /// The interface that statements declare of a shape: the functions that have a prototype, and those of the shape's

@@ -25,4 +25,5 @@ mod stuck;
 pub use accepted::Accepted;
 pub use checking::check;
 pub use laws::one_fault;
-pub use sg_check_statements::{CheckError, CheckFault, CheckKind};
+pub use sg_check_statements::{CheckError, CheckFault, CheckKind, parse};
+pub use sg_walk::{Triple, reachable, restores, shortest};

@@ -5,9 +5,8 @@ ghost use Rattle.sg_check_statements.specs.Faults.{IsFirstStatement, NoStatement
 ghost use Rattle.sg_check.specs.Inside.Numbers.{marked};
 
 use crate::numbers::Numbers;
-use sg_check_statements::{Judge, first_flaw, fun_number};
+use sg_check_statements::{Judge, Statement, first_flaw, fun_number};
 use sg_facts::Shape;
-use sg_parse::Statement;
 
 /// Looks for prototypes of functions whose numbers are in a set.
 #[derive(Clone, Copy)]

@@ -6,8 +6,7 @@ ghost use Rattle.sg_check.specs.Inside.Numbers.{has_number};
 ghost use Rattle.sg_check.specs.Inside.Reached.{AreStates, AreTriples, AreUnreached, is_reached, is_unreached};
 
 use crate::numbers::Numbers;
-use sg_base::NoMemory;
-use sg_facts::{END_OF_FUNS, Interface};
+use sg_facts::{END_OF_FUNS, Interface, NoMemory};
 use sg_walk::Triple;
 use std::alloc::Global;
 

@@ -5,10 +5,8 @@ ghost use Rattle.sg_check.specs.Inside.Reached.{AreTriples};
 ghost use Rattle.sg_check.specs.Inside.Stuck.{AreStuck, TellsWalk};
 
 use crate::numbers::Numbers;
-use sg_base::NoMemory;
-use sg_facts::Interface;
-use sg_walk::Triple;
-use sg_walk::shortest;
+use sg_facts::{Interface, NoMemory};
+use sg_walk::{Triple, shortest};
 use std::alloc::Global;
 
 /// The states in which some descriptor has no walk, where descriptors come to these triples. It looks for one walk for each

@@ -33,7 +33,7 @@ arg_effects k (p ∷ params) =
     else (if has_word p.form (codes "desc_data_add") then (p.name.bytes, AddArg k) ∷ arg_effects (k + 1) params
     else arg_effects (k + 1) params))
 
--- the effects that a prototype's parameters behind the first declare
+-- the effects that a prototype's parameters after the first declare
 abbrev pub later_effects : List Param → List Named_effect
 later_effects [] = []
 later_effects (p ∷ params) = arg_effects 0 params

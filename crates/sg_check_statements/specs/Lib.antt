@@ -6,3 +6,4 @@ pub mod NameSet
 pub mod Params
 pub mod Says
 pub mod Stages
+pub use Rattle.sg_parse.specs as sg_parse

@@ -1,5 +1,5 @@
 // Why a text is no interface that can be recovered.
-use sg_base::NoMemory;
+use sg_facts::NoMemory;
 use thiserror::Error;
 
 /// What is wrong with an interface, in the order in which it is looked for.

@@ -36,4 +36,5 @@ pub use funs::fun_number;
 pub use judge::{Judge, first_flaw};
 pub use protos::Protos;
 pub use says::says_of;
+pub use sg_parse::{Statement, Tree, parse};
 pub use stages::{fit_one_by_one, unless};

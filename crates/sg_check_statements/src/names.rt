@@ -3,7 +3,7 @@ ghost use Rattle.std.specs.Prelude.{◌≡◌, ◌||◌, ℕ, List, [], OnOk, On
 ghost use Rattle.sg_check_statements.specs.NameSet.{has_name};
 ghost use Rattle.std.specs.Str.{bytes_eq};
 
-use sg_base::NoMemory;
+use sg_facts::NoMemory;
 use std::alloc::Global;
 use std::collections::HashSet;
 use std::marker::Model;

@@ -7,7 +7,7 @@ ghost use Rattle.sg_check_statements.specs.Says.{has_proto, is_proto};
 ghost use Rattle.sg_parse.specs.declared.tree.Statement.{Statement as One};
 
 use crate::names::NameSet;
-use sg_base::NoMemory;
+use sg_facts::NoMemory;
 use sg_parse::Statement;
 use std::alloc::Global;
 use std::marker::Model;

@@ -16,8 +16,7 @@ use crate::params::bad_params_in;
 use crate::protos::duplicate_in;
 use crate::services::{no_creation, service_in};
 use crate::unknown::unknown_in;
-use sg_base::NoMemory;
-use sg_facts::Shape;
+use sg_facts::{NoMemory, Shape};
 use sg_parse::Tree;
 use std::alloc::Global;
 

@@ -8,8 +8,7 @@ ghost use Rattle.sg_check_statements.specs.Says.{has_proto};
 use crate::funs::fun_number;
 use crate::judge::{Judge, first_flaw};
 use crate::protos::Protos;
-use sg_base::NoMemory;
-use sg_facts::Shape;
+use sg_facts::{NoMemory, Shape};
 use sg_parse::{Name, Statement};
 use std::alloc::Global;
 

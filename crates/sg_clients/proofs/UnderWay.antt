@@ -4,7 +4,7 @@ use Rattle.std.specs.Prelude.{◌==◌, ◌&&◌, ◌||◌}
 use Rattle.std.specs.BTreeSet.{BTreeSet}
 use Rattle.std.proofs.lemmas.Bool.{cases_Bool}
 use Rattle.std.proofs.lemmas.Bool.Decides.{nat_tests}
-use Rattle.sg_base.specs.declared.call.Call.{Call}
+use Rattle.sg_facts.specs.sg_base.declared.call.Call.{Call}
 use Rattle.sg_clients.specs.declared.under_way.UnderWay.{UnderWay}
 use Rattle.sg_clients.specs.Inside.Waiting.{AreUnderWay, GainsCall, IsAmong, HasItsCall, LosesCall, has_call, is_call, may_be_under_way}
 use Rattle.sg_clients.proofs.Seats.{Reads, is_read, seat_elsewhere, seat_here}

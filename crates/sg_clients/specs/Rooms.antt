@@ -1,9 +1,9 @@
 -- The memory that is taken ahead for a client's call, and for the reply that it gets.
 use Rattle.std.specs.Prelude.{◌≡◌, ◌≤◌, true, [], None, Some, vec_capacity}
 use Rattle.std.specs.declared.option.Option.{Option}
-use Rattle.sg_base.specs.declared.call.Call.{Call}
-use Rattle.sg_base.specs.declared.reply.Reply.{Reply}
-use Rattle.sg_base.specs.Reply.{FitsReplyRoom}
+use Rattle.sg_facts.specs.sg_base.declared.call.Call.{Call}
+use Rattle.sg_facts.specs.sg_base.declared.reply.Reply.{Reply}
+use Rattle.sg_facts.specs.sg_base.Reply.{FitsReplyRoom}
 use Rattle.sg_clients.specs.declared.seat.SeatRoom.{SeatRoom}
 use Rattle.sg_facts.specs.Limits.{last_client}
 use Rattle.sg_seat.specs.WorldView.{is_offered}

@@ -1,7 +1,7 @@
 // The clients of a world.
 ghost use Rattle.std.specs.Prelude.{◌≡◌, ◌<◌, ◌≤◌, ◌-◌, ◌+◌, ◌^◌, ◌==◌, ◌∷◌, ◌++◌, ℕ, Bool, true, [], length, map, replicate, vec_capacity, IfOk, OnOk, OnErr, slice_set};
 ghost use Rattle.std.specs.List.{list_all};
-ghost use Rattle.sg_base.specs.Reply.{FitsReplyRoom};
+ghost use Rattle.sg_facts.specs.sg_base.Reply.{FitsReplyRoom};
 ghost use Rattle.sg_clients.specs.Inside.Waiting.{AreUnderWay};
 ghost use Rattle.sg_clients.specs.Rooms.{FitsSeatRoom};
 ghost use Rattle.sg_facts.specs.Limits.{last_client};
@@ -11,8 +11,7 @@ ghost use Rattle.sg_seat.specs.declared.phase.Phase.TheVariants.{Idle, Asked, He
 
 use crate::seat::{ClientSeat, Returned, SeatRoom};
 use crate::under_way::{UnderWay, add, take_out};
-use sg_base::{Call, ListOf, NoMemory, Reply};
-use sg_facts::Entry;
+use sg_facts::{Call, Entry, ListOf, NoMemory, Reply};
 use sg_seat::{Phase, Withdrawn};
 use std::alloc::Global;
 use std::collections::BTreeSet;

@@ -1,13 +1,12 @@
 // One client, with its call and the memory that was taken for it.
 ghost use Rattle.std.specs.Prelude.{◌≡◌, ◌≤◌, ◌+◌, ◌<◌, ◌^◌, true, length, IfOk};
-ghost use Rattle.sg_base.specs.Reply.{FitsReplyRoom};
+ghost use Rattle.sg_facts.specs.sg_base.Reply.{FitsReplyRoom};
 ghost use Rattle.sg_clients.specs.Rooms.{FitsSeatRoom};
 ghost use Rattle.sg_facts.specs.Limits.{last_client};
 ghost use Rattle.sg_seat.specs.WorldView.{is_at_rest, is_blocked_phase, is_left_phase, is_offered, no_reply, no_seat, woken_seat};
 ghost use Rattle.sg_seat.specs.declared.phase.Phase.TheVariants.{Idle, Asked, Held, Receipted, Blocked, Left};
 
-use sg_base::{Args, Bytes, Call, Good, NoMemory, Reply, ReplyRoom, TryCopy, Words};
-use sg_facts::Entry;
+use sg_facts::{Args, Bytes, Call, Entry, Good, NoMemory, Reply, ReplyRoom, TryCopy, Words};
 use sg_seat::Phase;
 use std::alloc::Global;
 use std::marker::Model;

@@ -2,7 +2,7 @@
 ghost use Rattle.std.specs.Prelude.{◌≡◌, OnOk, OnErr};
 ghost use Rattle.sg_clients.specs.Inside.Waiting.{GainsCall, LosesCall};
 
-use sg_base::NoMemory;
+use sg_facts::NoMemory;
 use std::collections::BTreeSet;
 
 /// A call under way: the descriptor that it is on, and its client.

@@ -1,4 +1,4 @@
--- What stands behind the last line end is as long as the run without one at the end.
+-- What stands after the last line end is as long as the run without one at the end.
 use Rattle.std.proofs.Common.{◌≡◌, ℕ, ◌-◌, Bool, not, List, length, arith, length-drop}
 use Rattle.std.specs.List.{after_last, suffix_len}
 use Rattle.std.proofs.lemmas.List.Sums.{suffix_len-le-length}

@@ -2,19 +2,19 @@
 use Rattle.std.proofs.Common.{◌≡◌, ◌≢◌, ℕ, List, Some, IfOk, length, refl, sym, ◌∙◌, ap, subst}
 use Rattle.std.specs.Prelude.{Ok, Err}
 use Rattle.std.specs.declared.result.Result.{Result}
-use Rattle.sg_base.specs.declared.memory.NoMemory.{NoMemory}
-use Rattle.sg_lex.specs.Tokens.{answers_of}
+use Rattle.sg_facts.specs.sg_base.declared.memory.NoMemory.{NoMemory}
+use Rattle.sg_print.specs.sg_lex.Tokens.{answers_of}
 use Rattle.sg_facts.specs.Facts.{Facts}
 use Rattle.sg_facts.specs.Interface.{Declared}
-use Rattle.sg_parse.specs.declared.error.ParseError.{ParseError}
-use Rattle.sg_parse.specs.declared.error.ParseError.TheVariants.{NoMemory as no_memory, Lex as lex_fault, Syntax as syntax_fault}
-use Rattle.sg_parse.specs.declared.tree.Tree.{Tree}
-use Rattle.sg_parse.specs.Grammar.Parses.{Parses}
-use Rattle.sg_parse.proofs.Grammar.Readings.{only_answer}
+use Rattle.sg_print.specs.sg_parse.declared.error.ParseError.{ParseError}
+use Rattle.sg_print.specs.sg_parse.declared.error.ParseError.TheVariants.{NoMemory as no_memory, Lex as lex_fault, Syntax as syntax_fault}
+use Rattle.sg_print.specs.sg_parse.declared.tree.Tree.{Tree}
+use Rattle.sg_print.specs.sg_parse.Grammar.Parses.{Parses}
+use Rattle.sg_print.proofs.sg_parse.Grammar.Readings.{only_answer}
 use Rattle.sg_facts.specs.Tables.{AreTables}
 use Rattle.sg_print.specs.TablesText.{tables_text}
-use Rattle.sg_check_statements.specs.Faults.{IsAccepted, IsFault, interface_of}
-use Rattle.sg_check.proofs.Unique.{same_fault}
+use Rattle.sg_stub.specs.sg_check_statements.Faults.{IsAccepted, IsFault, interface_of}
+use Rattle.sg_stub.proofs.sg_check.Unique.{same_fault}
 use Rattle.sg_stub.proofs.OneTable.{one_table}
 use Rattle.sg_diagnose.specs.declared.examined.Examined.{Examined}
 use Rattle.sg_diagnose.specs.declared.examined.Examined.TheVariants.{Accepted as accepted, Refused as refused}

@@ -1,9 +1,9 @@
 -- What comes of a text before anything is said of it.
 use Rattle.std.specs.Prelude.{ℕ, List, Ok}
 use Rattle.sg_facts.specs.Facts.{Facts}
-use Rattle.sg_parse.specs.declared.tree.Tree.{Tree}
-use Rattle.sg_parse.specs.Grammar.Parses.{Parses}
-use Rattle.sg_check_statements.specs.Faults.{IsAccepted}
+use Rattle.sg_print.specs.sg_parse.declared.tree.Tree.{Tree}
+use Rattle.sg_print.specs.sg_parse.Grammar.Parses.{Parses}
+use Rattle.sg_stub.specs.sg_check_statements.Faults.{IsAccepted}
 use Rattle.sg_diagnose.specs.declared.examined.Examined.{Examined}
 use Rattle.sg_diagnose.specs.declared.examined.Examined.TheVariants.{Accepted, Refused}
 use Rattle.sg_diagnose.specs.declared.outcome.Verdict.TheVariants.{Refused as refused}

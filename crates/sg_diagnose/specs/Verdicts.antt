@@ -6,12 +6,12 @@ use Rattle.sg_facts.specs.Facts.{Facts}
 use Rattle.sg_facts.specs.Interface.{Declared}
 use Rattle.sg_facts.specs.Tables.{AreTables, Compiled}
 use Rattle.sg_print.specs.TablesText.{tables_text}
-use Rattle.sg_parse.specs.declared.error.ParseError.TheVariants.{Lex as lex_fault, Syntax as syntax_fault}
-use Rattle.sg_parse.specs.declared.tree.Tree.{Tree}
-use Rattle.sg_parse.specs.Grammar.Parses.{Parses}
-use Rattle.sg_check_statements.specs.declared.fault.CheckKind.{CheckKind}
-use Rattle.sg_check_statements.specs.declared.fault.CheckKind.TheVariants.{UnknownService, DuplicateName, UnknownFunction, BadParams, WrongFact, WrongFlag, WrongEffect, ForeignTransition, ForeignRecover, NoCreation, Unreached, NoWalk}
-use Rattle.sg_check_statements.specs.Faults.{IsAccepted, IsFault}
+use Rattle.sg_print.specs.sg_parse.declared.error.ParseError.TheVariants.{Lex as lex_fault, Syntax as syntax_fault}
+use Rattle.sg_print.specs.sg_parse.declared.tree.Tree.{Tree}
+use Rattle.sg_print.specs.sg_parse.Grammar.Parses.{Parses}
+use Rattle.sg_stub.specs.sg_check_statements.declared.fault.CheckKind.{CheckKind}
+use Rattle.sg_stub.specs.sg_check_statements.declared.fault.CheckKind.TheVariants.{UnknownService, DuplicateName, UnknownFunction, BadParams, WrongFact, WrongFlag, WrongEffect, ForeignTransition, ForeignRecover, NoCreation, Unreached, NoWalk}
+use Rattle.sg_stub.specs.sg_check_statements.Faults.{IsAccepted, IsFault}
 use Rattle.sg_diagnose.specs.declared.outcome.Verdict.{Verdict}
 use Rattle.sg_diagnose.specs.declared.outcome.Verdict.TheVariants.{Accepted, Refused}
 use Rattle.sg_diagnose.specs.declared.refusal.RefusalKind.{RefusalKind}

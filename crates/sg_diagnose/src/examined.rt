@@ -1,6 +1,6 @@
 // What comes of a text before anything is said of it.
-use sg_base::Bytes;
-use sg_check::Accepted;
+use sg_facts::Bytes;
+use sg_stub::Accepted;
 
 /// What comes of a text before anything is said of it.
 #[derive(Debug, Drop)]

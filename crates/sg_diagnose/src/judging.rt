@@ -1,8 +1,8 @@
 // What is said of a text.
 ghost use Rattle.std.specs.Prelude.{◌≡◌, Ok, List, true, map, IfOk};
 ghost use Rattle.sg_facts.specs.Facts.{Facts, facts_of};
-ghost use Rattle.sg_parse.specs.Grammar.Parses.{Parses};
-ghost use Rattle.sg_check.specs.Shapes.{are_shapes};
+ghost use Rattle.sg_print.specs.sg_parse.Grammar.Parses.{Parses};
+ghost use Rattle.sg_stub.specs.sg_check.Shapes.{are_shapes};
 ghost use Rattle.sg_diagnose.specs.declared.outcome.Verdict.{Verdict as Outcome};
 ghost use Rattle.sg_diagnose.specs.declared.examined.Examined.{Examined as Answer};
 ghost use Rattle.sg_diagnose.specs.Examined.{IsExamined};
@@ -11,13 +11,9 @@ ghost use Rattle.sg_diagnose.specs.Verdicts.{IsCompiled, IsRefused, IsVerdict};
 use crate::examined::Examined;
 use crate::lines::{accepted_line, refusal_line};
 use crate::{RefusalKind, Verdict};
-use sg_base::NoMemory;
-use sg_check::{CheckError, check};
-use sg_facts::Shape;
-use sg_parse::{ParseError, Tree};
-use sg_parse::parse;
-use sg_print::print_tables;
-use sg_stub::compile;
+use sg_facts::{NoMemory, Shape};
+use sg_print::{ParseError, Tree, parse, print_tables};
+use sg_stub::{CheckError, check, compile};
 use std::alloc::Global;
 
 /// What is said of an interface text, where it may be of one of these shapes: the line `accepted SERVICE` where the text is

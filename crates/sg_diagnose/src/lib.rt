@@ -25,3 +25,7 @@ pub use laws::one_verdict;
 pub use outcome::Verdict;
 pub use places::{column_of, line_of};
 pub use refusal::RefusalKind;
+pub use sg_print::parse;
+pub use sg_stub::{
+    Accepted, CheckError, CheckKind, Triple, check, compile, reachable, restores, shortest,
+};

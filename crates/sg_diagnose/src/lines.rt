@@ -4,7 +4,7 @@ ghost use Rattle.sg_diagnose.specs.Verdicts.{accepted_line, refusal_line};
 
 use crate::places::{column_of, line_of};
 use crate::refusal::{RefusalKind, name_of};
-use sg_base::{Bytes, NoMemory};
+use sg_facts::{Bytes, NoMemory};
 use std::alloc::Global;
 
 /// The line of a text that is accepted, by its service's name.

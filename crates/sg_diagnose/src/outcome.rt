@@ -1,5 +1,5 @@
 // What is said of a text.
-use sg_base::Bytes;
+use sg_facts::Bytes;
 
 /// What is said of a text, with the bytes that say it: a line or more, with their LFs.
 #[derive(Debug, Drop)]

@@ -3,7 +3,7 @@ ghost use Rattle.std.specs.Prelude.{◌≡◌, ◌<◌, ◌^◌, take, not, coun
 ghost use Rattle.std.specs.List.{suffix_len};
 ghost use Rattle.sg_diagnose.specs.Lines.{line_of, column_of, ends_line};
 
-/// The line of a place, counted from 1. The place is counted in bytes from 0; the text's length is the place behind its last
+/// The line of a place, counted from 1. The place is counted in bytes from 0; the text's length is the place after its last
 /// byte.
 pub fn line_of(text: &[u8], at: usize) -> usize
     ensures { result ≡ line_of text.now at }
@@ -34,7 +34,7 @@ fn line_ends_in(bytes: &[u8]) -> usize
     bytes.iter().filter(|byte| **byte == b'\n').count()
 }
 
-// The number of bytes behind the last line end, or of all where there is none.
+// The number of bytes after the last line end, or of all where there is none.
 fn length_of_last_line(bytes: &[u8]) -> usize
     ensures count { result ≡ suffix_len (λ byte. not (ends_line byte)) bytes.now }
     ensures bound { result < 2 ^ 63 }

@@ -2,7 +2,7 @@
 ghost use Rattle.std.specs.Prelude.{◌≡◌};
 ghost use Rattle.sg_diagnose.specs.Verdicts.{check_name, refusal_name};
 
-use sg_check_statements::CheckKind;
+use sg_stub::CheckKind;
 
 /// Why a text is refused.
 #[derive(Clone, Copy, Debug, PartialEq, Eq)]

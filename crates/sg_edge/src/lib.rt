@@ -18,6 +18,7 @@ mod stops;
 
 pub use gate::{Gate, OpenGate};
 pub use memory::{MemSink, MemSource};
+pub use sg_base::NoMemory;
 pub use sink::{CutOff, Sink, write_all};
 pub use source::{Failed, Intake, ReadError, Source, read_all};
 pub use standard::{StdSink, StdSource};

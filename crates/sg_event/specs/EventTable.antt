@@ -1,9 +1,9 @@
 -- What the event service answers.
 use Rattle.std.specs.Prelude.{ℕ, zero, suc, ◌+◌, ◌==◌, nat_lt, if◌then◌else◌, None, Some}
 use Rattle.std.specs.declared.option.Option.{Option}
-use Rattle.sg_base.specs.declared.reply.Code.TheVariants.{NotFound, Overflow}
-use Rattle.sg_base.specs.declared.reply.Reply.{Reply}
-use Rattle.sg_base.specs.declared.reply.Reply.TheVariants.{Refused}
+use Rattle.sg_facts.specs.sg_base.declared.reply.Code.TheVariants.{NotFound, Overflow}
+use Rattle.sg_facts.specs.sg_base.declared.reply.Reply.{Reply}
+use Rattle.sg_facts.specs.sg_base.declared.reply.Reply.TheVariants.{Refused}
 use Rattle.sg_facts.specs.declared.row.Row.{Row}
 use Rattle.sg_facts.specs.Track.{row_at, word_of, field_at, arg_at}
 use Rattle.sg_facts.specs.Legal.{Table, done}

@@ -7,8 +7,7 @@ ghost use Rattle.sg_event.specs.Inside.EventDecision.{on_split, on_event_wait, o
 use crate::Event;
 use crate::functions::{SPLIT, TRIGGER, WAIT};
 use crate::shape::event_shape;
-use sg_base::{Call, Code, Value};
-use sg_facts::Shape;
+use sg_facts::{Call, Code, Shape, Value};
 use sg_slots::{Decision, RowRules, RowService, Slots};
 
 /// The event service: it makes, triggers and ends events, and blocks who waits for one whose count is 0.

@@ -22,3 +22,4 @@ pub mod Track
 pub mod WalkArray
 pub mod Walks
 pub mod Words
+pub use Rattle.sg_base.specs as sg_base

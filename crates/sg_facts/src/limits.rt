@@ -3,7 +3,7 @@
 /// The greatest number of functions of a service.
 pub const MOST_FUNS: u8 = 32;
 
-/// The first number behind those of functions.
+/// The first number after those of functions.
 pub const END_OF_FUNS: u8 = MOST_FUNS + 1;
 
 /// The greatest number of fields of a row.

@@ -11,8 +11,8 @@ use Rattle.sg_facts.specs.Legal.{IsLegal, LegalFrom, Table, answer}
 use Rattle.sg_facts.specs.Object.{Object, after, empty_object, object_from, object_of}
 use Rattle.sg_facts.proofs.Legality.{IsLegal-from, LegalFrom-is}
 use Rattle.sg_facts.specs.Trace.{Boot}
-use Rattle.sg_hist.specs.Growing.{AreGrown, HasOneMore, IsGrown, IsOfNoEntry, booted, noted, place_behind, struck}
-use Rattle.sg_hist.specs.Reading.{Position, after_item, behind, entries_before, is_by_guard, is_item_of, items_of, names_at, names_in, past, places_from, places_in, stands_before, value_at}
+use Rattle.sg_hist.specs.Growing.{AreGrown, HasOneMore, IsGrown, IsOfNoEntry, booted, noted, place_after, struck}
+use Rattle.sg_hist.specs.Reading.{Position, after_item, items_after, entries_before, is_by_guard, is_item_of, items_of, names_at, names_in, past, places_from, places_in, stands_before, value_at}
 
 -- ---- an entry more
 
@@ -21,7 +21,7 @@ object_more : (facts : Facts) (o : Object) (history : List Entry) (e : Entry)
 object_more facts o [] e = refl
 object_more facts o (x ∷ history) e = object_more facts (after facts o x.call x.reply) history e
 
--- the object behind an entry more
+-- the object after an entry more
 pub object_of-more : (facts : Facts) (history : List Entry) (e : Entry)
     → object_of facts (history ++ e ∷ []) ≡ after facts (object_of facts history) e.call e.reply
 object_of-more facts history e = object_more facts empty_object history e
@@ -31,7 +31,7 @@ legal_from-more : (i : Declared) (ask : Table) (o : Object) (history : List Entr
 legal_from-more i ask o [] e legal is = (is, tt)
 legal_from-more i ask o (x ∷ history) e legal is = (legal.0, legal_from-more i ask (after i.facts o x.call x.reply) history e legal.1 is)
 
--- a legal history stays so with an entry that is the answer behind it
+-- a legal history stays so with an entry that is the answer after it
 pub legal-more : (i : Declared) (ask : Table) (history : List Entry) (e : Entry) → IsLegal i ask history
     → answer i ask (object_of i.facts history) e.call ≡ Some e.reply → IsLegal i ask (history ++ e ∷ [])
 legal-more i ask history e legal is =
@@ -59,15 +59,15 @@ pub stands_before-more : (item : Item) (p q : Position) (e : Entry) → IsGrown 
 stands_before-more item p q e g none =
     let earlier : list_any (is_item_of e) (past q) ≡ list_any (is_item_of e) (past p) = ap (list_any (is_item_of e)) (past_same item p q g) in
     let own : is_item_of e q.item ≡ is_item_of e p.item = ap (is_item_of e) g.own in
-    let later : list_any (is_item_of e) (behind q) ≡ list_any (is_item_of e) (behind p) = ap (list_any (is_item_of e)) g.behind_it ∙ any_more (is_item_of e) (behind p) item none in
-    ap (λ b. not (is_by_guard e.reply) && b && not (is_item_of e q.item || list_any (is_item_of e) (behind q))) earlier
-    ∙ ap (λ b. not (is_by_guard e.reply) && list_any (is_item_of e) (past p) && not (b || list_any (is_item_of e) (behind q))) own
+    let later : list_any (is_item_of e) (items_after q) ≡ list_any (is_item_of e) (items_after p) = ap (list_any (is_item_of e)) g.behind_it ∙ any_more (is_item_of e) (items_after p) item none in
+    ap (λ b. not (is_by_guard e.reply) && b && not (is_item_of e q.item || list_any (is_item_of e) (items_after q))) earlier
+    ∙ ap (λ b. not (is_by_guard e.reply) && list_any (is_item_of e) (past p) && not (b || list_any (is_item_of e) (items_after q))) own
     ∙ ap (λ b. not (is_by_guard e.reply) && list_any (is_item_of e) (past p) && not (is_item_of e p.item || b)) later
 
 -- the entry of the item that was noted doesn't stand before any place that was there
 pub stands_before-own : (item : Item) (p q : Position) (e : Entry) → IsGrown item p q → is_item_of e item ≡ true → stands_before q e ≡ false
 stands_before-own item p q e g one =
-    let later : list_any (is_item_of e) (behind q) ≡ true = ap (list_any (is_item_of e)) g.behind_it ∙ any_last (is_item_of e) (behind p) item one in
+    let later : list_any (is_item_of e) (items_after q) ≡ true = ap (list_any (is_item_of e)) g.behind_it ∙ any_last (is_item_of e) (items_after p) item one in
     ap (λ b. not (is_by_guard e.reply) && list_any (is_item_of e) (past q) && not (is_item_of e q.item || b)) later
     ∙ nothing (not (is_by_guard e.reply)) (list_any (is_item_of e) (past q)) (is_item_of e q.item)
   where
@@ -98,9 +98,9 @@ entries_before-committed item p q history e g none own =
 -- they stay where a refusal by the guard is appended, for which nothing was noted
 pub entries_before-refused : (p : Position) (history : List Entry) (e : Entry) → is_by_guard e.reply ≡ true → entries_before (history ++ e ∷ []) p ≡ entries_before history p
 entries_before-refused p history e guards =
-    filter_more (stands_before p) history e (ap (λ b. not b && list_any (is_item_of e) (past p) && not (list_any (is_item_of e) (p.item ∷ behind p))) guards)
+    filter_more (stands_before p) history e (ap (λ b. not b && list_any (is_item_of e) (past p) && not (list_any (is_item_of e) (p.item ∷ items_after p))) guards)
 
--- a held reply that is committed stands before the places behind its item
+-- a held reply that is committed stands before the places after its item
 pub entries_before-held : (p : Position) (history : List Entry) (e : Entry) → stands_before p e ≡ true → entries_before (history ++ e ∷ []) p ≡ entries_before history p ++ e ∷ []
 entries_before-held p [] e before = ap (λ b. cond b (e ∷ []) []) before
 entries_before-held p (x ∷ history) e before = by (entries_before-held p history e before) (stands_before p x)
@@ -116,7 +116,7 @@ entries_before-not_yet p history e before = filter_more (stands_before p) histor
 
 -- ---- an item more
 
--- the place of an item behind those of its boot
+-- the place of an item after those of its boot
 abbrev pub last_in : List Item → List Item → Item → Position
 last_in older front item = record { older = older; front = front; item = item; rest = []; newer = [] }
 
@@ -164,9 +164,9 @@ pub items_more : (b : Boot) (boots : List Boot) (item : Item) → items_of (note
 items_more b [] item = append-nil (b.items ++ item ∷ []) ∙ ap (λ v. v ++ item ∷ []) (sym (append-nil b.items))
 items_more b (c ∷ boots) item = ap (λ v. b.items ++ v) (items_more c boots item) ∙ sym (append_assoc b.items (items_of (c ∷ boots)) (item ∷ []))
 
--- the places of boots, one of which there is, are those before with an item more behind each, and its own
+-- the places of boots, one of which there is, are those before with an item more after each, and its own
 pub places-more : (older : List Item) (b : Boot) (boots : List Boot) (item : Item)
-    → HasOneMore item (place_behind older (b ∷ boots) item) (places_from older (b ∷ boots)) (places_from older (noted (b ∷ boots) item))
+    → HasOneMore item (place_after older (b ∷ boots) item) (places_from older (b ∷ boots)) (places_from older (noted (b ∷ boots) item))
 places-more older b [] item =
     let more = in_boot older [] b.items item in
     record {
@@ -178,7 +178,7 @@ places-more older b (c ∷ boots) item =
     let more = places-more (older ++ b.items) c boots item in
     let items = items_more c boots item in
     let here = places_in older [] b.items (items_of (c ∷ boots) ++ item ∷ []) in
-    let last = place_behind older (b ∷ c ∷ boots) item in
+    let last = place_after older (b ∷ c ∷ boots) item in
     record {
       grown = here ++ more.grown;
       are = ap (λ v. places_in older [] b.items v ++ places_from (older ++ b.items) (noted (c ∷ boots) item)) items
@@ -187,8 +187,8 @@ places-more older b (c ∷ boots) item =
           (in_older older [] b.items (items_of (c ∷ boots)) item) more.each;
     }
 
--- behind all items of the boots stands the place of the item that is noted last
-pub past_all : (older : List Item) (b : Boot) (boots : List Boot) (item : Item) → past (place_behind older (b ∷ boots) item) ≡ older ++ items_of (b ∷ boots)
+-- after all items of the boots stands the place of the item that is noted last
+pub past_all : (older : List Item) (b : Boot) (boots : List Boot) (item : Item) → past (place_after older (b ∷ boots) item) ≡ older ++ items_of (b ∷ boots)
 past_all older b [] item = ap (λ v. older ++ v) (sym (append-nil b.items))
 past_all older b (c ∷ boots) item = past_all (older ++ b.items) c boots item ∙ append_assoc older b.items (items_of (c ∷ boots))
 
@@ -225,7 +225,7 @@ value_from : (facts : Facts) (o : Object) (front : List Item) (item : Item)
 value_from facts o [] item = refl
 value_from facts o (x ∷ front) item = value_from facts (after_item facts o x) front item
 
--- what it holds behind an item more is what the item makes of what it held
+-- what it holds after an item more is what the item makes of what it held
 pub value_at-more : (facts : Facts) (front : List Item) (item : Item) → value_at facts (front ++ item ∷ []) ≡ after_item facts (value_at facts front) item
 value_at-more facts front item = value_from facts empty_object front item
 

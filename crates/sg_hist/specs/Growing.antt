@@ -3,18 +3,18 @@
 use Rattle.std.specs.Prelude.{ℕ, ◌≡◌, ◌≤◌, false, true, ◌++◌, List, [], ◌∷◌, None, Some, unwrap_or}
 use Rattle.std.specs.declared.option.Option.{Option}
 use Rattle.std.specs.List.{Contains}
-use Rattle.sg_base.specs.Lists.{Each}
-use Rattle.sg_base.specs.declared.call.Call.{Call}
+use Rattle.sg_facts.specs.sg_base.Lists.{Each}
+use Rattle.sg_facts.specs.sg_base.declared.call.Call.{Call}
 use Rattle.sg_facts.specs.declared.trace.Item.{Item}
 use Rattle.sg_facts.specs.declared.entry.Entry.{Entry}
 use Rattle.sg_facts.specs.declared.outcome.Outcome.{Outcome}
 use Rattle.sg_facts.specs.declared.outcome.Outcome.TheVariants.{Replied, Blocks, Stopped, NoMemory}
 use Rattle.sg_facts.specs.declared.trace.Tag.{Tag}
 use Rattle.sg_facts.specs.declared.trace.Tag.TheVariants.{Walk, Load, Client}
-use Rattle.sg_base.specs.declared.reply.Reply.TheVariants.{Ok, Refused}
+use Rattle.sg_facts.specs.sg_base.declared.reply.Reply.TheVariants.{Ok, Refused}
 use Rattle.sg_facts.specs.Facts.{Facts, fun_at, is_visible}
 use Rattle.sg_facts.specs.Trace.{Boot, Run}
-use Rattle.sg_hist.specs.Reading.{Position, behind, id_given, is_by_guard, is_item_of, item_of, names_at, places_of}
+use Rattle.sg_hist.specs.Reading.{Position, items_after, id_given, is_by_guard, is_item_of, item_of, names_at, places_of}
 use Rattle.sg_hist.specs.Recovered.{AskedAs, GivesEntry, IsDemanded, IsItsCall, IsRebooted, IsReplyOf, IsServed, IsTrackedAt, IsWalked, Stubs, asked_in, calls_made, ends_stopped}
 
 -- ---- boots and places
@@ -35,11 +35,11 @@ struck (b ∷ c ∷ boots) stop = b ∷ struck (c ∷ boots) stop
 abbrev pub booted : List Boot → List Boot
 booted boots = boots ++ record { items = []; stop = None } ∷ []
 
--- the place of an item that is noted in the last boot, behind others
-abbrev pub place_behind : List Item → List Boot → Item → Position
-place_behind older [] item = record { older = older; front = []; item = item; rest = []; newer = [] }
-place_behind older (b ∷ []) item = record { older = older; front = b.items; item = item; rest = []; newer = [] }
-place_behind older (b ∷ c ∷ boots) item = place_behind (older ++ b.items) (c ∷ boots) item
+-- the place of an item that is noted in the last boot, after others
+abbrev pub place_after : List Item → List Boot → Item → Position
+place_after older [] item = record { older = older; front = []; item = item; rest = []; newer = [] }
+place_after older (b ∷ []) item = record { older = older; front = b.items; item = item; rest = []; newer = [] }
+place_after older (b ∷ c ∷ boots) item = place_after (older ++ b.items) (c ∷ boots) item
 
 -- the stop of the last boot
 abbrev pub last_stop : List Boot → Option ℕ
@@ -53,27 +53,27 @@ last_items [] = []
 last_items (b ∷ []) = b.items
 last_items (b ∷ c ∷ boots) = last_items (c ∷ boots)
 
--- the items of the boots before the last, behind others
+-- the items of the boots before the last, after others
 abbrev pub older_items : List Item → List Boot → List Item
 older_items before [] = before
 older_items before (b ∷ []) = before
 older_items before (b ∷ c ∷ boots) = older_items (before ++ b.items) (c ∷ boots)
 
--- a place is the same but that an item more stands behind it
+-- a place is the same but that an item more stands after it
 pub record IsGrown (item : Item) (p q : Position) : Type 0 where
   pub older : q.older ≡ p.older
   pub front : q.front ≡ p.front
   pub own : q.item ≡ p.item
-  pub behind_it : behind q ≡ behind p ++ item ∷ []
+  pub behind_it : items_after q ≡ items_after p ++ item ∷ []
 
--- places are the same, one by one, but that an item more stands behind each
+-- places are the same, one by one, but that an item more stands after each
 abbrev pub AreGrown : Item → List Position → List Position → Type 0
 AreGrown item [] [] = Unit {0}
 AreGrown item (p ∷ ps) (q ∷ qs) = IsGrown item p q × AreGrown item ps qs
 AreGrown item [] (q ∷ qs) = ⊥
 AreGrown item (p ∷ ps) [] = ⊥
 
--- places are those before, each grown, and one behind them
+-- places are those before, each grown, and one after them
 pub record HasOneMore (item : Item) (last : Position) (before now : List Position) : Type 0 where
   pub grown : List Position
   pub are : now ≡ grown ++ last ∷ []
@@ -122,7 +122,7 @@ pub record IsItemOf (facts : Facts) (history : List Entry) (p : Position) (e : E
   pub shown : p.item.shown ≡ e.call
   pub reply : IsReplyOf (names_at facts (history ++ e ∷ []) (p.front ++ p.item ∷ [])) p.item.outcome e.reply
 
--- an entry is appended behind its item, as a held reply is: it isn't visible, and its item has its call and its reply
+-- an entry is appended after its item, as a held reply is: it isn't visible, and its item has its call and its reply
 pub record IsHeldReply (facts : Facts) (history : List Entry) (run : Run) (e : Entry) : Type 0 where
   pub hidden : is_visible facts e.call.fun ≡ false
   pub served : is_by_guard e.reply ≡ false
@@ -152,7 +152,7 @@ IsSameId facts h h' x = IsSameFor facts h h' x.shown.fun x.tag x.outcome
 
 -- ---- points
 
--- how many points were asked behind boots, where so many were asked before
+-- how many points were asked after boots, where so many were asked before
 abbrev pub asked_over : Facts → ℕ → List Boot → ℕ
 asked_over facts asked [] = asked
 asked_over facts asked (b ∷ boots) = asked_over facts (unwrap_or b.stop (asked_in facts asked b.items)) boots

@@ -2,9 +2,9 @@
 use Rattle.std.specs.Prelude.{ℕ, ◌==◌, Bool, true, false, ◌&&◌, ◌||◌, not, if◌then◌else◌, List, [], ◌∷◌, ◌++◌, None, Some, length, filter, find, reverse}
 use Rattle.std.specs.declared.option.Option.{Option}
 use Rattle.std.specs.List.{flat_map, fold, list_any}
-use Rattle.sg_base.specs.declared.call.Call.{Call}
-use Rattle.sg_base.specs.declared.reply.Reply.{Reply}
-use Rattle.sg_base.specs.declared.reply.Reply.TheVariants.{Ok, Refused}
+use Rattle.sg_facts.specs.sg_base.declared.call.Call.{Call}
+use Rattle.sg_facts.specs.sg_base.declared.reply.Reply.{Reply}
+use Rattle.sg_facts.specs.sg_base.declared.reply.Reply.TheVariants.{Ok, Refused}
 use Rattle.sg_facts.specs.declared.entry.Entry.{Entry}
 use Rattle.sg_facts.specs.declared.outcome.Outcome.{Outcome}
 use Rattle.sg_facts.specs.declared.outcome.Outcome.TheVariants.{Replied, Blocks, Stopped, NoMemory}
@@ -25,7 +25,7 @@ use Rattle.sg_facts.specs.Track.{row_at}
 -- ---- places
 
 -- an item in its place: the items of the boots before, the earlier items of its boot, itself, the later items of its boot, and
--- those of the boots behind
+-- those of the boots after
 pub record Position : Type 0 where
   pub older : List Item
   pub front : List Item
@@ -37,9 +37,9 @@ pub record Position : Type 0 where
 abbrev pub past : Position → List Item
 past p = p.older ++ p.front
 
--- all items behind a place, without its own: the later ones of its boot, and all of the boots behind
-abbrev pub behind : Position → List Item
-behind p = p.rest ++ p.newer
+-- all items after a place, without its own: the later ones of its boot, and all of the boots after
+abbrev pub items_after : Position → List Item
+items_after p = p.rest ++ p.newer
 
 -- the places in a boot
 abbrev pub places_in : List Item → List Item → List Item → List Item → List Position
@@ -51,7 +51,7 @@ places_in older front (item ∷ rest) newer =
 abbrev pub items_of : List Boot → List Item
 items_of boots = flat_map (λ b. b.items) boots
 
--- the places in boots, behind others
+-- the places in boots, after others
 abbrev pub places_from : List Item → List Boot → List Position
 places_from older [] = []
 places_from older (b ∷ boots) = places_in older [] b.items (items_of boots) ++ places_from (older ++ b.items) boots
@@ -83,7 +83,7 @@ is_by_guard (Refused code) = is_guards code
 
 -- whether an entry's item stands before a place
 abbrev pub stands_before : Position → Entry → Bool
-stands_before p e = not (is_by_guard e.reply) && list_any (is_item_of e) (past p) && not (list_any (is_item_of e) (p.item ∷ behind p))
+stands_before p e = not (is_by_guard e.reply) && list_any (is_item_of e) (past p) && not (list_any (is_item_of e) (p.item ∷ items_after p))
 
 -- the entries whose items stand before a place, in the order of the history
 abbrev pub entries_before : List Entry → Position → List Entry
@@ -126,7 +126,7 @@ given_by facts o tag call NoMemory = o
 abbrev pub after_item : Facts → Object → Item → Object
 after_item facts o item = given_by facts o item.tag (service_call item) item.outcome
 
--- what the service holds behind items of one boot
+-- what the service holds after items of one boot
 abbrev pub value_at : Facts → List Item → Object
 value_at facts front = fold (after_item facts) empty_object front
 
@@ -161,7 +161,7 @@ names_in facts history fun (Load key client) outcome = []
 names_in facts history fun (Client client seq) outcome =
     if (fun_at facts.funs fun).creation then pair_of (id_given history client seq) outcome else []
 
--- the pairs of client ids and service ids behind items of one boot
+-- the pairs of client ids and service ids after items of one boot
 abbrev pub names_at : Facts → List Entry → List Item → List (ℕ × ℕ)
 names_at facts history front = flat_map (λ item. names_in facts history item.shown.fun item.tag item.outcome) front
 
@@ -210,4 +210,4 @@ is_rebuilt_at facts walks history id p = is_ok p.item.outcome && ends_walk facts
 abbrev pub is_whole_at : Facts → List WalkLine → List Entry → Position → ℕ → Bool
 is_whole_at facts walks history p id =
     list_any (is_made facts history id) p.front
-    || list_any (is_rebuilt_at facts walks history id) (places_in p.older [] p.front (p.item ∷ behind p))
+    || list_any (is_rebuilt_at facts walks history id) (places_in p.older [] p.front (p.item ∷ items_after p))

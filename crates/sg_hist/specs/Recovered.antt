@@ -4,11 +4,11 @@ use Rattle.std.specs.Prelude.{ℕ, ◌≡◌, ◌≢◌, ◌⊎◌, ◌+◌, ◌
 use Rattle.std.specs.declared.option.Option.{Option}
 use Rattle.std.specs.Option.{is_some}
 use Rattle.std.specs.List.{Contains, flat_map, list_all, list_any}
-use Rattle.sg_base.specs.Lists.{Each, When}
-use Rattle.sg_base.specs.Counts.{last_count}
-use Rattle.sg_base.specs.declared.call.Call.{Call}
-use Rattle.sg_base.specs.declared.reply.Reply.{Reply}
-use Rattle.sg_base.specs.declared.reply.Reply.TheVariants.{Ok, Refused}
+use Rattle.sg_facts.specs.sg_base.Lists.{Each, When}
+use Rattle.sg_facts.specs.sg_base.Counts.{last_count}
+use Rattle.sg_facts.specs.sg_base.declared.call.Call.{Call}
+use Rattle.sg_facts.specs.sg_base.declared.reply.Reply.{Reply}
+use Rattle.sg_facts.specs.sg_base.declared.reply.Reply.TheVariants.{Ok, Refused}
 use Rattle.std.specs.Str.{bytes_eq}
 use Rattle.sg_facts.specs.declared.entry.Entry.{Entry}
 use Rattle.sg_facts.specs.declared.outcome.Outcome.{Outcome}
@@ -33,7 +33,7 @@ use Rattle.sg_facts.specs.Walks.{replayed_call}
 use Rattle.sg_hist.specs.declared.ended.End.{End}
 use Rattle.sg_hist.specs.declared.ended.End.TheVariants.{Done, Blocked}
 use Rattle.sg_hist.specs.Clients.{calls_of}
-use Rattle.sg_hist.specs.Reading.{Position, behind, is_by_guard, is_made, is_item_of, is_whole_at, item_of, names_at, object_before, places_of, replied_of, service_call, stands_before, value_at, walk_in}
+use Rattle.sg_hist.specs.Reading.{Position, items_after, is_by_guard, is_made, is_item_of, is_whole_at, item_of, names_at, object_before, places_of, replied_of, service_call, stands_before, value_at, walk_in}
 
 -- ---- the calls of clients
 
@@ -91,7 +91,7 @@ IsLastIfStopped rest Blocks = Unit {0}
 IsLastIfStopped rest NoMemory = Unit {0}
 
 -- there is a boot, and each is of a fresh service: its answers are those of its table since the boot, the next boot comes only
--- after a stop, and nothing is asked behind a stop
+-- after a stop, and nothing is asked after a stop
 pub record IsRebooted (facts : Facts) (ask : Table) (run : Run) : Type 0 where
   pub booted : run.boots ≢ []
   pub table : Each (λ p. AskedAs facts ask p p.item.tag) (places_of run)
@@ -150,7 +150,7 @@ is_visible_reply facts item = is_clients item.tag && is_visible facts item.shown
 
 -- whether an item is that of an entry: it is of its call, and no later one is
 abbrev pub is_entered : List Entry → Position → Bool
-is_entered history p = list_any (λ e. not (is_by_guard e.reply) && is_item_of e p.item && not (list_any (is_item_of e) (behind p))) history
+is_entered history p = list_any (λ e. not (is_by_guard e.reply) && is_item_of e p.item && not (list_any (is_item_of e) (items_after p))) history
 
 -- a visible reply is committed: none is given twice, and none is lost
 abbrev pub IsCommitted : Facts → List Entry → Position → Type 0
@@ -324,25 +324,25 @@ IsPointOf exact parts asked answer (Load key client) fun outcome points = IsCoun
 IsPointOf exact parts asked answer (Walk id k client) fun outcome points = IsPointOfCall exact parts asked answer fun outcome points
 IsPointOf exact parts asked answer (Client client seq) fun outcome points = IsPointOfCall exact parts asked answer fun outcome points
 
--- what the service answers an item behind others of its boot
+-- what the service answers an item after others of its boot
 abbrev pub answer_to : Facts → Table → List Item → Item → Option Reply
 answer_to facts ask front item = ask (value_at facts front) (service_call item)
 
--- how many points were asked behind an item: one more where a visible call was committed
-abbrev pub asked_behind : Facts → Item → ℕ
-asked_behind facts item = if is_visible_reply facts item then item.points + 1 else item.points
+-- how many points were asked after an item: one more where a visible call was committed
+abbrev pub asked_with_commit : Facts → Item → ℕ
+asked_with_commit facts item = if is_visible_reply facts item then item.points + 1 else item.points
 
--- the points of the items of a boot, one after the other, behind others of it, where so many were asked before
+-- the points of the items of a boot, one after the other, after others of it, where so many were asked before
 abbrev pub ArePoints : Bool → Facts → Table → (ℕ → ℕ) → ℕ → List Item → List Item → Type 0
 ArePoints exact facts ask parts asked front [] = Unit {0}
 ArePoints exact facts ask parts asked front (item ∷ items) =
     IsPointOf exact parts asked (answer_to facts ask front item) item.tag item.shown.fun item.outcome item.points
-    × ArePoints exact facts ask parts (asked_behind facts item) (front ++ item ∷ []) items
+    × ArePoints exact facts ask parts (asked_with_commit facts item) (front ++ item ∷ []) items
 
--- how many points were asked behind the items of a boot
+-- how many points were asked after the items of a boot
 abbrev pub asked_in : Facts → ℕ → List Item → ℕ
 asked_in facts asked [] = asked
-asked_in facts asked (item ∷ items) = asked_in facts (asked_behind facts item) items
+asked_in facts asked (item ∷ items) = asked_in facts (asked_with_commit facts item) items
 
 -- whether the service stopped within a call
 abbrev pub is_stopped : Outcome → Bool

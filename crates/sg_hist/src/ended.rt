@@ -1,7 +1,6 @@
 // How a run ended.
 use crate::History;
-use sg_base::{Call, ListOf, NoMemory, TryCopy};
-use sg_facts::Trace;
+use sg_facts::{Call, ListOf, NoMemory, Trace, TryCopy};
 use std::alloc::Global;
 
 /// How a client ended.

@@ -3,8 +3,7 @@ ghost use Rattle.std.specs.Prelude.{◌≡◌, ◌↔◌, ◌+◌, ◌<◌, ◌�
 ghost use Rattle.std.specs.Option.{option_copied};
 ghost use Rattle.sg_hist.specs.Clients.{calls_of};
 
-use sg_base::{NoMemory, RoomyList, TryCopy};
-use sg_facts::Entry;
+use sg_facts::{Entry, NoMemory, RoomyList, TryCopy};
 use std::alloc::Global;
 use std::marker::Model;
 
@@ -16,7 +15,7 @@ pub struct History {
 }
 
 impl Model for History {
-    ghost use Rattle.sg_base.specs.Room.{Roomy};
+    ghost use Rattle.sg_facts.specs.sg_base.Room.{Roomy};
     ghost use Rattle.sg_facts.specs.declared.entry.Entry.{Entry};
 
     ghost Value = { Roomy Entry };

@@ -9,11 +9,11 @@ use Rattle.sg_input.specs.Divider.{AreLines, Divides, IsCut, IsDivider}
 abbrev NoneAt : List ℕ → ℕ → Type 0
 NoneAt input at = (line behind : List ℕ) → IsDivider line behind → drop at input ≢ line ++ behind
 
--- what stands behind the bytes before such a line
+-- what stands after the bytes before such a line
 pub behind_lines : (input b c : List ℕ) (d : Divides input b c) → drop (length b) input ≡ d.line ++ c
 behind_lines input b c d = ap (drop (length b)) d.whole ∙ drop-append_seam b (d.line ++ c)
 
--- such a line at or behind a place at which none stands has an LF before it, at or behind that place
+-- such a line at or after a place at which none stands has an LF before it, at or after that place
 pub record EndsAt (input : List ℕ) (at : ℕ) (b : List ℕ) : Type 0 where
   pub j : ℕ
   pub long : length b ≡ at + j + 1
@@ -55,7 +55,7 @@ cut_at input at before rest line behind le lines first f r n d e =
       first = λ b c other. subst (λ v. v ≤ length b) (sym n) (first b c other);
     }
 
--- no such line stands anywhere, where none stands at a place and no LF behind it
+-- no such line stands anywhere, where none stands at a place and no LF after it
 pub no_cut : (input : List ℕ) (at : ℕ) (rest : List ℕ) → ((b c : List ℕ) → Divides input b c → at ≤ length b) → rest ≡ drop at input
     → ((line behind : List ℕ) → IsDivider line behind → rest ≢ line ++ behind) → ((k : ℕ) → k < length rest → get_or rest k 0 ≢ 10)
     → (b c : List ℕ) → Divides input b c → ⊥
@@ -65,7 +65,7 @@ no_cut input at rest first r none no_lf b c d =
     (omega (arith, ap length r ∙ length-drop at input, e.within))
     (ap (λ v. get_or v e.j 0) r ∙ get_or-drop at input e.j 0 ∙ e.is)
 
--- the next line begins behind the next LF, and no such line stands before it
+-- the next line begins after the next LF, and no such line stands before it
 pub next_line : (input : List ℕ) (at : ℕ) (rest : List ℕ) (j : ℕ) → at ≤ length input → ((b c : List ℕ) → Divides input b c → at ≤ length b) → rest ≡ drop at input
     → ((line behind : List ℕ) → IsDivider line behind → rest ≢ line ++ behind) → j < length rest → get_or rest j 0 ≡ 10
     → ((k : ℕ) → k < j → get_or rest k 0 ≢ 10)

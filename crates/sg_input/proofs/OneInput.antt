@@ -2,15 +2,15 @@
 use Rattle.std.proofs.Common.{◌≡◌, inl, inr, ℕ, ◌<◌, ◌≤◌, List, Some, IfOk, length, refl, sym, ◌∙◌, ap, subst, arith}
 use Rattle.std.specs.Prelude.{Ok, Err}
 use Rattle.std.specs.declared.result.Result.{Result}
-use Rattle.sg_base.specs.declared.memory.NoMemory.{NoMemory}
-use Rattle.sg_lex.specs.Tokens.{answers_of}
+use Rattle.sg_facts.specs.sg_base.declared.memory.NoMemory.{NoMemory}
+use Rattle.sg_script.specs.sg_lex.Tokens.{answers_of}
 use Rattle.sg_facts.specs.Facts.{Facts}
 use Rattle.sg_facts.specs.Interface.{Declared}
-use Rattle.sg_parse.specs.declared.error.ParseError.{ParseError}
-use Rattle.sg_parse.specs.declared.tree.Tree.{Tree}
-use Rattle.sg_parse.specs.Grammar.Parses.{Parses}
-use Rattle.sg_parse.proofs.Grammar.Readings.{only_answer}
-use Rattle.sg_check_statements.specs.Faults.{IsAccepted, interface_of}
+use Rattle.sg_diagnose.specs.sg_parse.declared.error.ParseError.{ParseError}
+use Rattle.sg_diagnose.specs.sg_parse.declared.tree.Tree.{Tree}
+use Rattle.sg_diagnose.specs.sg_parse.Grammar.Parses.{Parses}
+use Rattle.sg_diagnose.proofs.sg_parse.Grammar.Readings.{only_answer}
+use Rattle.sg_diagnose.specs.sg_check_statements.Faults.{IsAccepted, interface_of}
 use Rattle.sg_diagnose.specs.declared.outcome.Verdict.{Verdict}
 use Rattle.sg_diagnose.specs.declared.outcome.Verdict.TheVariants.{Accepted as accepted, Refused as refused}
 use Rattle.sg_diagnose.specs.Verdicts.{IsVerdict, accepted_line}

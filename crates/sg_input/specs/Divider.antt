@@ -6,7 +6,7 @@ use Rattle.sg_facts.specs.Words.{line_end}
 abbrev pub carriage_return : ℕ
 carriage_return = 13
 
--- a line of `%%` alone, with its end and before what stands behind it: it ends with LF, with CR LF, or with the input
+-- a line of `%%` alone, with its end and before what stands after it: it ends with LF, with CR LF, or with the input
 abbrev pub IsDivider : List ℕ → List ℕ → Type 0
 IsDivider line behind =
     (line ≡ codes "%%" ++ line_end) ⊎ ((line ≡ codes "%%" ++ carriage_return ∷ line_end) ⊎ ((line ≡ codes "%%") × (behind ≡ [])))

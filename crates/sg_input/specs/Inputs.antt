@@ -2,9 +2,9 @@
 use Rattle.std.specs.Prelude.{ℕ, ◌≡◌, ◌+◌, ◌<◌, ◌≤◌, ◌⊎◌, List, Ok, Err, length}
 use Rattle.sg_facts.specs.Facts.{Facts}
 use Rattle.sg_facts.specs.Interface.{Declared}
-use Rattle.sg_parse.specs.declared.tree.Tree.{Tree}
-use Rattle.sg_parse.specs.Grammar.Parses.{Parses}
-use Rattle.sg_check_statements.specs.Faults.{IsAccepted}
+use Rattle.sg_diagnose.specs.sg_parse.declared.tree.Tree.{Tree}
+use Rattle.sg_diagnose.specs.sg_parse.Grammar.Parses.{Parses}
+use Rattle.sg_diagnose.specs.sg_check_statements.Faults.{IsAccepted}
 use Rattle.sg_diagnose.specs.declared.outcome.Verdict.TheVariants.{Refused as refused}
 use Rattle.sg_diagnose.specs.Verdicts.{IsVerdict}
 use Rattle.sg_script.specs.declared.fault.ScriptError.TheVariants.{Fault}

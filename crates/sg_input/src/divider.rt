@@ -2,7 +2,7 @@
 ghost use Rattle.std.specs.Prelude.{◌≡◌, ◌≢◌, ◌≤◌, ◌<◌, ◌++◌, ◌+◌, ◌⊎◌, ℕ, List, [], codes, length, take, drop, slice_index, MatchOption};
 ghost use Rattle.sg_input.specs.Divider.{AreLines, Divides, IsCut, IsDivider};
 
-/// What stands before and behind the first line that is `%%` alone, ended by LF, by CR LF, or by the end of the input;
+/// What stands before and after the first line that is `%%` alone, ended by LF, by CR LF, or by the end of the input;
 /// None exactly where there is no such line. Lines are looked for before any token is, within comments too.
 pub fn cut(input: &[u8]) -> Option<(&[u8], &[u8])>
     ensures { MatchOption result ((before behind : List ℕ) → Divides input.now before behind → ⊥) (λ p. IsCut input.now p.0.now p.1.now) }
@@ -30,7 +30,7 @@ fn line_length(rest: &[u8]) -> Option<usize>
     None
 }
 
-// What stands behind the line in front, where that line is `%%` alone.
+// What stands after the line in front, where that line is `%%` alone.
 #[tactic(auto, using(crate::proofs::Dividers::no_divider))]
 fn behind_divider(rest: &[u8]) -> Option<&[u8]>
     ensures { MatchOption result ((line behind : List ℕ) → IsDivider line behind → rest.now ≢ line ++ behind)

@@ -1,6 +1,6 @@
 // What an input is.
-use sg_base::Bytes;
-use sg_check::Accepted;
+use sg_diagnose::Accepted;
+use sg_facts::Bytes;
 use sg_script::Script;
 
 /// What an input is.

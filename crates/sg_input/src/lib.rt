@@ -2,7 +2,7 @@
 //!
 //! - `reading`: what an input is, or the line that refuses it (`read_input`)
 //! - `input`: an input that is refused or ready (`Input`)
-//! - `divider`: the two texts before and behind the first line of `%%` alone (`cut`)
+//! - `divider`: the two texts before and after the first line of `%%` alone (`cut`)
 //! - `limits`: the greatest numbers of bytes
 //! - `lines`: the lines that refuse an input
 //! - `laws`: an input is divided in one way, and is one thing
@@ -24,3 +24,5 @@ pub use laws::{one_cut, one_input};
 pub use limits::{MOST_DIVIDER, MOST_INPUT, MOST_INTERFACE, MOST_SCRIPT};
 pub use lines::TOO_LONG;
 pub use reading::read_input;
+pub use sg_diagnose::{Accepted, Verdict, compile, compiled, parse, verdict};
+pub use sg_script::Script;

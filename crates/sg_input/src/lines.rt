@@ -2,8 +2,8 @@
 ghost use Rattle.std.specs.Prelude.{◌≡◌, IfOk};
 ghost use Rattle.sg_input.specs.Lines.{script_kind_name, script_line};
 
-use sg_base::{Bytes, NoMemory};
 use sg_diagnose::{column_of, line_of};
+use sg_facts::{Bytes, NoMemory};
 use sg_script::{ScriptFault, ScriptKind};
 use std::alloc::Global;
 

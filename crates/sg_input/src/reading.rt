@@ -1,7 +1,7 @@
 // What an input is, or why it is refused.
 ghost use Rattle.std.specs.Prelude.{◌≡◌, ◌≤◌, ℕ, List, map, length, true, IfOk};
 ghost use Rattle.sg_facts.specs.Facts.{Facts, facts_of};
-ghost use Rattle.sg_check.specs.Shapes.{are_shapes};
+ghost use Rattle.sg_diagnose.specs.sg_check.Shapes.{are_shapes};
 ghost use Rattle.sg_diagnose.specs.Examined.{IsExamined};
 ghost use Rattle.sg_diagnose.specs.declared.examined.Examined.TheVariants.{Accepted as accepted_as};
 ghost use Rattle.sg_input.specs.declared.input.Input.{Input as OneInput};
@@ -11,16 +11,14 @@ use crate::Input;
 use crate::divider::cut;
 use crate::limits::{MOST_INTERFACE, MOST_SCRIPT};
 use crate::lines::{NO_DIVIDER, TOO_LONG, script_line};
-use sg_base::{Bytes, NoMemory};
-use sg_check::Accepted;
-use sg_diagnose::{Examined, examine};
-use sg_facts::Shape;
+use sg_diagnose::{Accepted, Examined, examine};
+use sg_facts::{Bytes, NoMemory, Shape};
 use sg_script::{ScriptError, read};
 use std::alloc::Global;
 
 /// What an input is, where its interface may be of one of these shapes: an interface that is accepted with a script for it
 /// without a flaw, or else the line that refuses it, by the first of these that applies. `input refused: NoDivider`: no line is
-/// `%%` alone. `input refused: TooLong`: more than 65,536 bytes stand before the first such line, or more than 4,194,304 behind
+/// `%%` alone. `input refused: TooLong`: more than 65,536 bytes stand before the first such line, or more than 4,194,304 after
 /// it. `interface refused at L:C: KIND`: as `verdict` says. `script refused at L:C: KIND`: the script's first flaw. L and C are
 /// the line and the byte in the line, from 1, in that text alone. The shapes are as for `verdict`. The only error is want of
 /// memory.

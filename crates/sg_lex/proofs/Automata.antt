@@ -114,7 +114,7 @@ cut a s end (x ∷ xs) ys h =
     let c = cut a h.0 end xs ys h.2 in
     record { mid = c.mid; first = (h.0, h.1, c.first); second = c.second }
 
--- what is read behind tokens, and of tokens alone
+-- what is read after tokens, and of tokens alone
 pub reads : {S V E : Type 0} (a : Automaton S V E) (length : ℕ) (s end : S) (tokens : List Lexeme) (behind : List Answer) → Runs a s tokens end
     → read_from a length s (answered tokens ++ behind) ≡ read_from a length end behind
 reads a length s end [] behind h = ap (λ v. read_from a length v behind) h

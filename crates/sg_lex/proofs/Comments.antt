@@ -5,7 +5,7 @@ use Rattle.std.proofs.lemmas.Bool.{and_parts, and_from, false≢true, eqb-true, 
 use Rattle.sg_lex.specs.Table.{HasNoClose}
 use Rattle.sg_lex.specs.Fronts.{closed_after}
 
--- bytes up to the first `*/` and with it, and the bytes behind them
+-- bytes up to the first `*/` and with it, and the bytes after them
 pub record IsClosed (bs : List ℕ) (n : ℕ) : Type 0 where
   pub inner : List ℕ
   pub behind : List ℕ

@@ -3,7 +3,7 @@ use Rattle.std.proofs.Common.{ℕ, zero, suc, ◌+◌, ◌-◌, ◌≤◌, List,
 use Rattle.sg_lex.specs.declared.front.Front.{Front}
 use Rattle.sg_lex.specs.declared.front.Front.TheVariants.{Ended, Gap, Token, Fault}
 use Rattle.sg_lex.specs.Fronts.{front_of}
-use Rattle.sg_lex.specs.Tokens.{Answer, answers_at, answers_behind, answers_of}
+use Rattle.sg_lex.specs.Tokens.{Answer, answers_at, later_answers, answers_of}
 
 at_most : (front : Front) (at : ℕ) (text : List ℕ) (n : ℕ) (behind : ℕ → List Answer) → ((k : ℕ) → length (behind k) ≤ n) → length (answers_at front at text behind) ≤ suc n
 at_most Ended at text n behind h = omega arith
@@ -11,10 +11,10 @@ at_most (Gap k) at text n behind h = omega (arith, h (k - 1))
 at_most (Token kind k) at text n behind h = omega (arith, h (k - 1))
 at_most Fault at text n behind h = omega arith
 
-few_answers : (passed at : ℕ) (text : List ℕ) → length (answers_behind passed at text) ≤ length text
+few_answers : (passed at : ℕ) (text : List ℕ) → length (later_answers passed at text) ≤ length text
 few_answers passed at [] = omega arith
 few_answers (suc n) at (b ∷ bs) = omega (arith, few_answers n (at + 1) bs)
-few_answers zero at (b ∷ bs) = at_most (front_of (b ∷ bs)) at (b ∷ bs) (length bs) (λ n. answers_behind n (at + 1) bs) (λ n. few_answers n (at + 1) bs)
+few_answers zero at (b ∷ bs) = at_most (front_of (b ∷ bs)) at (b ∷ bs) (length bs) (λ n. later_answers n (at + 1) bs) (λ n. few_answers n (at + 1) bs)
 
 pub answers_fit : (text : List ℕ) → length (answers_of text) ≤ length text
 answers_fit text = few_answers 0 0 text

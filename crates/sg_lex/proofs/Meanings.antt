@@ -79,7 +79,7 @@ no_gap b bs f s bytes behind e (inr (inr (inner, q, first))) =
 
 -- ---- a quote
 
--- a text at the front has all text bytes behind its quote, and then a quote
+-- a text at the front has all text bytes after its quote, and then a quote
 quoted : (bs cs behind : List ℕ) → bs ≡ cs ++ behind → IsToken Text (0x22 ∷ cs)
     → (length (0x22 ∷ cs) ≡ prefix_len is_text_byte bs + 2) × (get_or bs (prefix_len is_text_byte bs) 0 ≡ 0x22)
 quoted bs cs behind p (inner, e, a) =
@@ -124,7 +124,7 @@ quote_means bs =
 slash_no_token : (bs : List ℕ) (kind : TokenKind) (bytes behind : List ℕ) → 0x2F ∷ bs ≡ bytes ++ behind → IsToken kind bytes → ⊥
 slash_no_token bs = no_token 0x2F bs refl refl refl (λ cs behind p t. different 0x22 0x2F (sym (token_starts Text 0x2F cs t)) (lit< tt))
 
--- a slash begins no comment if neither a line comment nor a block comment goes on behind it
+-- a slash begins no comment if neither a line comment nor a block comment goes on after it
 slash_no_gap : (bs : List ℕ) → ((inner behind : List ℕ) → bs ≡ 0x2F ∷ inner ++ behind → ⊥)
     → ((inner behind : List ℕ) → bs ≡ 0x2A ∷ inner ++ 0x2A ∷ 0x2F ∷ behind → ⊥)
     → (bytes behind : List ℕ) → 0x2F ∷ bs ≡ bytes ++ behind → IsGap bytes behind → ⊥

@@ -5,7 +5,7 @@ use Rattle.sg_lex.specs.declared.front.Front.{Front}
 use Rattle.sg_lex.specs.declared.front.Front.TheVariants.{Ended, Gap, Token, Fault}
 use Rattle.sg_lex.specs.Fronts.{front_of}
 use Rattle.sg_lex.specs.Table.{IsToken, AtMost, BeginsNothing}
-use Rattle.sg_lex.specs.Tokens.{Answer, answers_at, answers_behind, answers_of}
+use Rattle.sg_lex.specs.Tokens.{Answer, answers_at, later_answers, answers_of}
 use Rattle.sg_lex.specs.Reading.{IsReading, ends, passes, gives, faults, AreSlices}
 use Rattle.sg_lex.proofs.Fronts.{HasBytes, has_bytes}
 use Rattle.sg_lex.proofs.Firsts.{not_empty, no_empty_token}
@@ -15,26 +15,26 @@ use Rattle.sg_lex.proofs.Steps.{answers_after, answers_step}
 
 -- ---- the answers are a reading
 
--- what is read behind a first part of a text, where that part has bytes
+-- what is read after a first part of a text, where that part has bytes
 behind_part : (n at b : ℕ) (bs : List ℕ) → 1 ≤ n → n ≤ length (b ∷ bs)
-    → ((m place : ℕ) → m ≤ length bs → IsReading (place + m) (drop m bs) (answers_behind m place bs))
-    → IsReading (at + length (take n (b ∷ bs))) (drop n (b ∷ bs)) (answers_behind (n - 1) (at + 1) bs)
+    → ((m place : ℕ) → m ≤ length bs → IsReading (place + m) (drop m bs) (later_answers m place bs))
+    → IsReading (at + length (take n (b ∷ bs))) (drop n (b ∷ bs)) (later_answers (n - 1) (at + 1) bs)
 behind_part zero at b bs l f ih = absurd (omega arith)
 behind_part (suc n) at b bs l f ih =
     let less : suc n - 1 ≡ n = omega arith in
     let long : length (take (suc n) (b ∷ bs)) ≡ suc n = length-take-le (suc n) (b ∷ bs) f in
     let place : (at + 1) + n ≡ at + length (take (suc n) (b ∷ bs)) = omega arith in
-    rw less (subst (λ m. IsReading m (drop n bs) (answers_behind n (at + 1) bs)) place (ih n (at + 1) (omega arith)))
+    rw less (subst (λ m. IsReading m (drop n bs) (later_answers n (at + 1) bs)) place (ih n (at + 1) (omega arith)))
 
 reads_front : (front : Front) (at b : ℕ) (bs : List ℕ) → Means (b ∷ bs) front → HasBytes front
-    → ((m place : ℕ) → m ≤ length bs → IsReading (place + m) (drop m bs) (answers_behind m place bs))
-    → IsReading at (b ∷ bs) (answers_at front at (b ∷ bs) (λ n. answers_behind n (at + 1) bs))
+    → ((m place : ℕ) → m ≤ length bs → IsReading (place + m) (drop m bs) (later_answers m place bs))
+    → IsReading at (b ∷ bs) (answers_at front at (b ∷ bs) (λ n. later_answers n (at + 1) bs))
 reads_front Ended at b bs m h ih = absurd (not_empty b bs (sym m))
 reads_front (Gap n) at b bs m h ih =
-    subst (λ xs. IsReading at xs (answers_behind (n - 1) (at + 1) bs)) (take-append-drop n (b ∷ bs))
-    (passes at (take n (b ∷ bs)) (drop n (b ∷ bs)) (answers_behind (n - 1) (at + 1) bs) m.1 (behind_part n at b bs h m.0 ih))
+    subst (λ xs. IsReading at xs (later_answers (n - 1) (at + 1) bs)) (take-append-drop n (b ∷ bs))
+    (passes at (take n (b ∷ bs)) (drop n (b ∷ bs)) (later_answers (n - 1) (at + 1) bs) m.1 (behind_part n at b bs h m.0 ih))
 reads_front (Token kind n) at b bs m h ih =
-    let answers : List Answer = answers_behind (n - 1) (at + 1) bs in
+    let answers : List Answer = later_answers (n - 1) (at + 1) bs in
     let text : List ℕ = b ∷ bs in
     let long : length (take n text) ≡ n = length-take-le n text m.0 in
     let most : AtMost (length (take n text)) (take n text ++ drop n text)
@@ -43,16 +43,16 @@ reads_front (Token kind n) at b bs m h ih =
     (gives at kind (take n text) (drop n text) answers m.1 most (behind_part n at b bs h m.0 ih))
 reads_front Fault at b bs m h ih = faults at (b ∷ bs) m.0 m.1
 
-reads_behind : (n at : ℕ) (text : List ℕ) → n ≤ length text → IsReading (at + n) (drop n text) (answers_behind n at text)
+reads_behind : (n at : ℕ) (text : List ℕ) → n ≤ length text → IsReading (at + n) (drop n text) (later_answers n at text)
 reads_behind zero at [] l = ends (at + 0)
 reads_behind (suc n) at [] l = absurd (omega arith)
 reads_behind zero at (b ∷ bs) l =
     let place : at ≡ at + 0 = omega arith in
-    subst (λ m. IsReading m (b ∷ bs) (answers_behind 0 at (b ∷ bs))) place
+    subst (λ m. IsReading m (b ∷ bs) (later_answers 0 at (b ∷ bs))) place
     (reads_front (front_of (b ∷ bs)) at b bs (means_front (b ∷ bs)) (has_bytes (b ∷ bs)) (λ m place l. reads_behind m place bs l))
 reads_behind (suc n) at (b ∷ bs) l =
     let place : (at + 1) + n ≡ at + suc n = omega arith in
-    subst (λ m. IsReading m (drop n bs) (answers_behind n (at + 1) bs)) place (reads_behind n (at + 1) bs (omega arith))
+    subst (λ m. IsReading m (drop n bs) (later_answers n (at + 1) bs)) place (reads_behind n (at + 1) bs (omega arith))
 
 pub reads : (text : List ℕ) → IsReading 0 text (answers_of text)
 reads text = reads_behind 0 0 text (omega arith)
@@ -66,22 +66,22 @@ fault_front text (Token kind n) m occupied none =
     absurd (none.no_token kind (take n text) (drop n text) (sym (take-append-drop n text)) m.1)
 fault_front text Fault m occupied none = refl
 
-pub only_reading : {at : ℕ} {text : List ℕ} {answers : List Answer} → IsReading at text answers → answers ≡ answers_behind 0 at text
+pub only_reading : {at : ℕ} {text : List ℕ} {answers : List Answer} → IsReading at text answers → answers ≡ later_answers 0 at text
 only_reading (ends at) = refl
 only_reading (passes at gap behind answers g r) =
-    let rest : answers ≡ answers_behind 0 (at + length gap) behind = only_reading r in
-    let step : answers_behind 0 at (gap ++ behind) ≡ answers_behind 0 (at + length gap) (drop (length gap) (gap ++ behind))
+    let rest : answers ≡ later_answers 0 (at + length gap) behind = only_reading r in
+    let step : later_answers 0 at (gap ++ behind) ≡ later_answers 0 (at + length gap) (drop (length gap) (gap ++ behind))
     = answers_step at (gap ++ behind) ∙ ap (λ f. answers_after f at (gap ++ behind)) (gap_front gap behind g) in
-    rest ∙ sym (step ∙ ap (λ xs. answers_behind 0 (at + length gap) xs) (drop_at gap behind (length gap) refl))
+    rest ∙ sym (step ∙ ap (λ xs. later_answers 0 (at + length gap) xs) (drop_at gap behind (length gap) refl))
 only_reading (gives at kind bytes behind answers t most r) =
-    let rest : answers ≡ answers_behind 0 (at + length bytes) behind = only_reading r in
+    let rest : answers ≡ later_answers 0 (at + length bytes) behind = only_reading r in
     let n : ℕ = length bytes in
-    let step : answers_behind 0 at (bytes ++ behind)
-    ≡ Ok (record { kind = kind; bytes = take n (bytes ++ behind); at = at }) ∷ answers_behind 0 (at + n) (drop n (bytes ++ behind))
+    let step : later_answers 0 at (bytes ++ behind)
+    ≡ Ok (record { kind = kind; bytes = take n (bytes ++ behind); at = at }) ∷ later_answers 0 (at + n) (drop n (bytes ++ behind))
     = answers_step at (bytes ++ behind) ∙ ap (λ f. answers_after f at (bytes ++ behind)) (token_front kind bytes behind t most) in
     rw rest (sym (step
-    ∙ (ap (λ xs. Ok (record { kind = kind; bytes = xs; at = at }) ∷ answers_behind 0 (at + n) (drop n (bytes ++ behind))) (take_at bytes behind n refl)
-    ∙ ap (λ xs. Ok (record { kind = kind; bytes = bytes; at = at }) ∷ answers_behind 0 (at + n) xs) (drop_at bytes behind n refl))))
+    ∙ (ap (λ xs. Ok (record { kind = kind; bytes = xs; at = at }) ∷ later_answers 0 (at + n) (drop n (bytes ++ behind))) (take_at bytes behind n refl)
+    ∙ ap (λ xs. Ok (record { kind = kind; bytes = bytes; at = at }) ∷ later_answers 0 (at + n) xs) (drop_at bytes behind n refl))))
 only_reading (faults at text occupied none) =
     sym (answers_step at text ∙ ap (λ f. answers_after f at text) (fault_front text (front_of text) (means_front text) occupied none))
 

@@ -37,7 +37,7 @@ all_exact p (b ∷ bs) c behind e f =
     let more : prefix_len p (bs ++ c ∷ behind) ≡ length bs = all_exact p bs c behind (and_parts (p b) (list_all p bs) e).1 f in
     rw (here, more) (omega arith)
 
--- a line ends behind its bytes
+-- a line ends after its bytes
 pub line_ends : (bs : List ℕ) → EndsLine (drop (prefix_len (λ b. not (b == 0x0A)) bs) bs)
 line_ends [] = tt
 line_ends (b ∷ bs) =

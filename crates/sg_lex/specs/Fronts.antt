@@ -21,7 +21,7 @@ abbrev pub block_front : Option ℕ → Front
 block_front None = Fault
 block_front (Some n) = Gap (2 + n)
 
--- behind a `/`: a comment up to the end of its line, or up to the first `*/`; nothing else begins with a `/`
+-- after a `/`: a comment up to the end of its line, or up to the first `*/`; nothing else begins with a `/`
 abbrev pub slash_front : List ℕ → Front
 slash_front [] = Fault
 slash_front (b ∷ bs) =
@@ -29,7 +29,7 @@ slash_front (b ∷ bs) =
     else (if b == 0x2A then block_front (closed_after bs)
     else Fault)
 
--- behind a `"`: the bytes that a text may have, and then a `"`
+-- after a `"`: the bytes that a text may have, and then a `"`
 abbrev pub quote_front : List ℕ → Front
 quote_front bs =
     let n = prefix_len is_text_byte bs in

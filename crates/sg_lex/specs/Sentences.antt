@@ -15,7 +15,7 @@ ArePieces IsPiece (token ∷ tokens) (piece ∷ pieces) = IsPiece token piece ×
 ArePieces IsPiece [] (piece ∷ pieces) = ⊥
 ArePieces IsPiece (token ∷ tokens) [] = ⊥
 
--- the tokens begin a sentence: with some tokens behind them they are one
+-- the tokens begin a sentence: with some tokens after them they are one
 abbrev pub Begins : {V : Type 0} → (List Lexeme → V → Type 0) → List Lexeme → Type 0
 Begins {V = V} IsSentence tokens = (more : List Lexeme) × (value : V) × IsSentence (tokens ++ more) value
 

@@ -55,7 +55,7 @@ abbrev pub EndsLine : List ℕ → Type 0
 EndsLine [] = Unit {0}
 EndsLine (b ∷ bs) = b ≡ 0x0A
 
--- bytes stand between tokens, before the bytes behind them: a blank, or a comment that is whole there
+-- bytes stand between tokens, before the bytes after them: a blank, or a comment that is whole there
 abbrev pub IsGap : List ℕ → List ℕ → Type 0
 IsGap bs behind = IsBlank bs ⊎ ((IsLineComment bs × EndsLine behind) ⊎ IsBlockComment bs)
 

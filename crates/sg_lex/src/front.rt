@@ -44,7 +44,7 @@ pub fn front_of(text: &[u8]) -> Front
     }
 }
 
-// What stands at the front behind a `"`.
+// What stands at the front after a `"`.
 fn quote_front(behind: &[u8]) -> Front
     ensures value { result ≡ quote_front behind.now }
     ensures within { front_len result ≤ 1 + length behind.now }
@@ -56,7 +56,7 @@ fn quote_front(behind: &[u8]) -> Front
     }
 }
 
-// What stands at the front behind a `/`.
+// What stands at the front after a `/`.
 fn slash_front(behind: &[u8]) -> Front
     ensures value { result ≡ slash_front behind.now }
     ensures within { front_len result ≤ 1 + length behind.now }

@@ -2,7 +2,7 @@
 ghost use Rattle.std.specs.Prelude.{◌≡◌, ◌+◌, ◌≤◌, ℕ, length, drop, take, slice_get};
 ghost use Rattle.std.specs.Iterator.{YieldsFirst, item_count};
 ghost use Rattle.sg_lex.specs.Fronts.{front_of, front_len, IsNoGap};
-ghost use Rattle.sg_lex.specs.Tokens.{answers_of, answers_behind};
+ghost use Rattle.sg_lex.specs.Tokens.{answers_of, later_answers};
 
 use crate::front::{Front, front_of};
 use crate::{LexFault, Token, TokenKind};
@@ -21,11 +21,11 @@ impl<'a> Model for Lexer<'a> {
     ghost use Rattle.std.specs.declared.result.Result.{Result};
     ghost use Rattle.sg_lex.specs.declared.token.LexFault.{LexFault};
     ghost use Rattle.sg_lex.specs.Lexeme.{Lexeme};
-    ghost use Rattle.sg_lex.specs.Tokens.{answers_behind};
+    ghost use Rattle.sg_lex.specs.Tokens.{later_answers};
 
     ghost Value = { List (Result Lexeme LexFault) };
 
-    ghost view = { λ l. answers_behind 0 l.at (drop l.at l.text.now) };
+    ghost view = { λ l. later_answers 0 l.at (drop l.at l.text.now) };
 
     ghost invariant = { λ l. l.at ≤ length l.text.now };
 }
@@ -89,13 +89,13 @@ fn token_at(text: &[u8], kind: TokenKind, at: usize, len: usize) -> Token<'_>
     }
 }
 
-// The first place at or behind this one at which no gap stands, and what stands there.
+// The first place at or after this one at which no gap stands, and what stands there.
 fn behind_gaps(text: &[u8], from: usize) -> (usize, Front)
     requires { from ≤ length text.now }
     ensures front { result.1 ≡ front_of (drop result.0 text.now) }
     ensures no_gap { IsNoGap result.1 }
     ensures within { result.0 + front_len result.1 ≤ length text.now }
-    ensures answers { answers_behind 0 result.0 (drop result.0 text.now) ≡ answers_behind 0 from (drop from text.now) }
+    ensures answers { later_answers 0 result.0 (drop result.0 text.now) ≡ later_answers 0 from (drop from text.now) }
 {
     let mut at = from;
     'gaps: loop {

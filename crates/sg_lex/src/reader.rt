@@ -50,7 +50,7 @@ impl<'a> Reader<'a> {
         self.end
     }
 
-    /// Takes the next token; None at the end of the text. The lexer's fault is an error, and nothing comes behind it.
+    /// Takes the next token; None at the end of the text. The lexer's fault is an error, and nothing comes after it.
     pub fn next(&mut self) -> Result<Option<Token<'a>>, LexFault>
         ensures token { IfOk result (λ next. MatchOption next ((self.old.rest ≡ []) × (self.new.rest ≡ []))
             (λ token. self.old.rest ≡ answered token ∷ self.new.rest)) }

@@ -4,3 +4,4 @@ pub mod Printable
 pub mod Services
 pub mod Steps
 pub mod Wholes
+pub use Rattle.sg_plain.proofs as sg_plain

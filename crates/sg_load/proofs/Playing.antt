@@ -4,7 +4,7 @@ use Rattle.std.specs.Prelude.{◌==◌, if◌then◌else◌, nat_le, nat_lt, not
 use Rattle.std.specs.List.{list_all}
 use Rattle.std.proofs.lemmas.Bool.{and_parts}
 use Rattle.std.proofs.lemmas.Bool.Decides.{eqb_tells, nat_tests}
-use Rattle.sg_edge.specs.Stops.{AscendsAbove}
+use Rattle.sg_plain.specs.sg_edge.Stops.{AscendsAbove}
 use Rattle.sg_facts.specs.Facts.{fun_at}
 use Rattle.sg_facts.specs.Interface.{Declared}
 use Rattle.sg_facts.specs.Limits.{most_script_calls}
@@ -13,7 +13,7 @@ use Rattle.sg_load.specs.declared.kind.ServiceKind.TheVariants.{Locks, Events, P
 use Rattle.sg_load.specs.Drawn.{after_draws, drawn, stops_from, upper}
 use Rattle.sg_load.specs.Functions.{evt_split_number, lock_alloc_number}
 use Rattle.sg_load.specs.Generated.{calls_of_client, clients_from, generated, groups_from, groups_of, setup_count}
-use Rattle.sg_script.specs.Flaws.{calls_before}
+use Rattle.sg_plain.specs.sg_script.Flaws.{calls_before}
 use Rattle.sg_load.specs.Groups.{call, group_of, group_size, setup_of, times}
 use Rattle.sg_load.specs.Sizes.{calls_each, client_count, lock_count, event_count, most_distance, stop_count}
 use Rattle.sg_facts.specs.Laws.{whole}
@@ -21,7 +21,7 @@ use Rattle.sg_load.specs.Services.{facts_by}
 use Rattle.sg_plain.specs.Calls.{part_of, script_calls}
 use Rattle.sg_plain.specs.Script.{call_fits, calls_fit}
 use Rattle.sg_plain.specs.Playing.Playable.{AreClients, IsPlayable}
-use Rattle.sg_script.specs.declared.script.ScriptCall.{ScriptCall}
+use Rattle.sg_plain.specs.sg_script.declared.script.ScriptCall.{ScriptCall}
 
 -- ---- stops
 
@@ -38,7 +38,7 @@ both : (a b : Bool) → a ≡ true → b ≡ true → (a && b) ≡ true
 both true b one other = other
 both false b one other = absurd (cc one)
 
--- calls fit behind others
+-- calls fit after others
 fit_both : (i : Declared) (n : ℕ) (xs ys : List ScriptCall) → calls_fit i n xs ≡ true → calls_fit i (n + length xs) ys ≡ true → calls_fit i n (xs ++ ys) ≡ true
 fit_both i n [] ys one two = let e : n + 0 ≡ n = omega arith in subst (λ m. calls_fit i m ys ≡ true) e two
 fit_both i n (x ∷ xs) ys one two =

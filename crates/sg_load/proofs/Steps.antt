@@ -5,7 +5,7 @@ use Rattle.sg_load.specs.Drawn.{after_draws, drawn, stops_from, upper}
 use Rattle.sg_load.specs.Generated.{calls_of_client, clients_from, groups_from, groups_of}
 use Rattle.sg_load.specs.Groups.{group_of, group_size, times}
 use Rattle.sg_load.specs.Sizes.{most_distance}
-use Rattle.sg_script.specs.declared.script.ScriptCall.{ScriptCall}
+use Rattle.sg_plain.specs.sg_script.declared.script.ScriptCall.{ScriptCall}
 
 append_none : {A : Type 0} (xs : List A) → xs ++ [] ≡ xs
 append_none [] = refl

@@ -22,7 +22,7 @@ unfoldable pub after_draws : ℕ → ℕ → ℕ
 after_draws x zero = x
 after_draws x (suc count) = after_draws (drawn x) count
 
--- so many stops behind one, a draw for each
+-- so many stops after one, a draw for each
 unfoldable pub stops_from : ℕ → ℕ → ℕ → List ℕ
 stops_from x stop zero = []
 stops_from x stop (suc count) =

@@ -5,9 +5,9 @@ use Rattle.sg_load.specs.declared.kind.ServiceKind.TheVariants.{Locks, Events}
 use Rattle.sg_load.specs.Drawn.{after_draws, drawn, stops_from, upper}
 use Rattle.sg_load.specs.Groups.{group_of, group_size, setup_of}
 use Rattle.sg_load.specs.Sizes.{calls_each, client_count, event_count, lock_count, stop_count}
-use Rattle.sg_script.specs.Flaws.{calls_before}
-use Rattle.sg_script.specs.declared.script.Script.{Script}
-use Rattle.sg_script.specs.declared.script.ScriptCall.{ScriptCall}
+use Rattle.sg_plain.specs.sg_script.Flaws.{calls_before}
+use Rattle.sg_plain.specs.sg_script.declared.script.Script.{Script}
+use Rattle.sg_plain.specs.sg_script.declared.script.ScriptCall.{ScriptCall}
 
 -- the number of the calls of the setup
 abbrev pub setup_count : ServiceKind → ℕ

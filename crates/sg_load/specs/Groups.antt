@@ -5,9 +5,9 @@ use Rattle.sg_load.specs.declared.kind.ServiceKind.{ServiceKind}
 use Rattle.sg_load.specs.declared.kind.ServiceKind.TheVariants.{Locks, Events, Pages, Files, Threads}
 use Rattle.sg_load.specs.Functions.{evt_split_number, evt_trigger_number, evt_wait_number, lock_alloc_number, lock_release_number, lock_take_number, mman_alias_page_number, mman_find_number, mman_get_page_number, mman_release_page_number, sched_create_thd_number, sched_exit_number, sched_next_number, sched_sleep_number, sched_yield_number, tread_number, trelease_number, tseek_number, tsplit_number, twrite_number}
 use Rattle.sg_load.specs.Sizes.{alias_spaces, event_count, file_count, lock_count, page_bytes, page_count, priority_count, read_bytes, trigger_count}
-use Rattle.sg_script.specs.declared.script.Arg.{Arg}
-use Rattle.sg_script.specs.declared.script.Arg.TheVariants.{Number, Text, Back}
-use Rattle.sg_script.specs.declared.script.ScriptCall.{ScriptCall}
+use Rattle.sg_plain.specs.sg_script.declared.script.Arg.{Arg}
+use Rattle.sg_plain.specs.sg_script.declared.script.Arg.TheVariants.{Number, Text, Back}
+use Rattle.sg_plain.specs.sg_script.declared.script.ScriptCall.{ScriptCall}
 
 -- a call of a function
 abbrev pub call : ℕ → List Arg → ScriptCall

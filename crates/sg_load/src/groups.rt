@@ -12,8 +12,8 @@ use crate::sizes::{
     ALIAS_SPACES, EVENTS, FILES, LOCKS, PAGE_BYTES, PAGES, PRIORITIES, READ_BYTES, TRIGGER_COUNT,
 };
 use crate::texts::{file_name, file_text};
-use sg_base::NoMemory;
-use sg_script::{Arg, ArgList, CallList, ScriptCall};
+use sg_facts::NoMemory;
+use sg_plain::{Arg, ArgList, CallList, ScriptCall};
 use std::alloc::Global;
 
 // Adds a call of a function.

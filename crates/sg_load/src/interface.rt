@@ -4,9 +4,8 @@ ghost use Rattle.sg_facts.specs.Laws.{whole};
 ghost use Rattle.sg_load.specs.Services.{facts_by};
 
 use crate::ServiceKind;
-use sg_base::{NoMemory, PairList};
 use sg_check::Accepted;
-use sg_facts::Interface;
+use sg_facts::{Interface, NoMemory, PairList};
 use std::alloc::Global;
 
 /// The interface of a service that declares each of its functions, with all its transitions and recover steps.

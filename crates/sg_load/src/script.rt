@@ -1,9 +1,9 @@
 // The script that is generated for a service from a number.
 ghost use Rattle.std.specs.Prelude.{◌≡◌, ◌+◌, ◌<◌, ◌≤◌, OnOk, IfOk};
-ghost use Rattle.sg_edge.specs.Stops.{AscendsAbove};
+ghost use Rattle.sg_plain.specs.sg_edge.Stops.{AscendsAbove};
 ghost use Rattle.sg_load.specs.Drawn.{after_draws, stops_from};
 ghost use Rattle.sg_load.specs.Generated.{calls_of_client, clients_from, generated, groups_from, groups_of, setup_count};
-ghost use Rattle.sg_script.specs.Flaws.{calls_before};
+ghost use Rattle.sg_plain.specs.sg_script.Flaws.{calls_before};
 ghost use Rattle.sg_load.specs.Sizes.{client_count, stop_count};
 ghost use Rattle.sg_facts.specs.Laws.{whole};
 ghost use Rattle.sg_load.specs.Services.{facts_by};
@@ -13,8 +13,8 @@ use crate::ServiceKind;
 use crate::draws::Draws;
 use crate::groups::{GroupState, add_group, group_size, setup};
 use crate::sizes::{CALLS_EACH, CLIENTS, EVENTS, LOCKS, MOST_DISTANCE, STOPS};
-use sg_base::{NoMemory, PointList};
-use sg_script::{CallList, ClientList, Script, TurnList};
+use sg_facts::{NoMemory, PointList};
+use sg_plain::{CallList, ClientList, Script, TurnList};
 use std::alloc::Global;
 
 /// The script that is generated for a service from a number, on the service's standard interface: 20,000 calls of 8 clients,

@@ -2,8 +2,8 @@
 ghost use Rattle.std.specs.Prelude.{◌≡◌, IfOk};
 ghost use Rattle.sg_load.specs.Groups.{file_name, file_text};
 
-use sg_base::{NoMemory, Text};
-use sg_script::text_of;
+use sg_facts::{NoMemory, Text};
+use sg_plain::text_of;
 use std::alloc::Global;
 
 /// The name of a file.

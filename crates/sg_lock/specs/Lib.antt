@@ -5,3 +5,4 @@ pub mod LockModel
 pub mod LockRow
 pub mod LockSound
 pub mod LockTable
+pub use Rattle.sg_slots.specs as sg_slots

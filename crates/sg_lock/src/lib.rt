@@ -13,3 +13,4 @@ mod shape;
 
 pub use lock::Lock;
 pub use service::LockService;
+pub use sg_slots::{Decision, Slot, Slots, carry_out};

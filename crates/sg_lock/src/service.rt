@@ -6,8 +6,7 @@ ghost use Rattle.sg_lock.specs.Inside.LockDecision.{on_allocate, on_take, on_rel
 use crate::Lock;
 use crate::functions::{ALLOC, RELEASE, TAKE};
 use crate::shape::lock_shape;
-use sg_base::{Call, Code};
-use sg_facts::Shape;
+use sg_facts::{Call, Code, Shape};
 use sg_slots::{Decision, RowRules, RowService, Slots};
 
 /// The lock service: it makes, takes, releases and ends locks, and blocks who takes a lock that another client owns.

@@ -8,10 +8,10 @@ use Rattle.std.specs.declared.result.Result.TheVariants.{Ok, Err}
 use Rattle.std.specs.Result.{is_err, OnOk}
 use Rattle.std.specs.BTreeMap.{BTreeMap}
 use Rattle.std.specs.BTreeSet.{BTreeSet}
-use Rattle.sg_base.specs.declared.reply.Code.TheVariants.{Occupied}
-use Rattle.sg_base.specs.declared.reply.Reply.{Reply}
-use Rattle.sg_base.specs.declared.reply.Reply.TheVariants.{Refused}
-use Rattle.sg_base.specs.Stops.{asked_after}
+use Rattle.sg_facts.specs.sg_base.declared.reply.Code.TheVariants.{Occupied}
+use Rattle.sg_facts.specs.sg_base.declared.reply.Reply.{Reply}
+use Rattle.sg_facts.specs.sg_base.declared.reply.Reply.TheVariants.{Refused}
+use Rattle.sg_facts.specs.sg_base.Stops.{asked_after}
 use Rattle.sg_facts.specs.declared.outcome.Outcome.{Outcome}
 use Rattle.sg_facts.specs.declared.outcome.Outcome.TheVariants.{Replied}
 use Rattle.sg_facts.specs.declared.outcome.Patch.{Patch}

@@ -5,3 +5,4 @@ pub mod MmObject
 pub mod MmRow
 pub mod MmSound
 pub mod MmTable
+pub use Rattle.sg_slots.specs as sg_slots

@@ -1,6 +1,6 @@
 -- The row that a page stands for.
 use Rattle.std.specs.Prelude.{[], ◌∷◌}
-use Rattle.sg_base.specs.declared.value.Value.TheVariants.{Word}
+use Rattle.sg_facts.specs.sg_base.declared.value.Value.TheVariants.{Word}
 use Rattle.sg_slots.specs.Slots.{Body}
 use Rattle.sg_mm.specs.declared.page.Page.{Page}
 

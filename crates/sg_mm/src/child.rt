@@ -3,7 +3,7 @@ ghost use Rattle.std.specs.Prelude.{◌≡◌, ℕ, ◌&&◌, ◌||◌, ◌==◌
 ghost use Rattle.sg_mm.specs.Inside.Children.{has_id, is_child, AreOfPages, AreAboveParents, HangsOne, TakesOneOff};
 
 use crate::Page;
-use sg_base::NoMemory;
+use sg_facts::NoMemory;
 use std::collections::{BTreeMap, BTreeSet};
 
 /// A page below another.

@@ -5,7 +5,7 @@ ghost use Rattle.sg_mm.specs.Inside.Children.{has_id};
 ghost use Rattle.sg_mm.specs.Inside.MmIndex.{id_in, ArePlaced, Gains, Keeps, Loses};
 
 use crate::{Page, PageKey};
-use sg_base::NoMemory;
+use sg_facts::NoMemory;
 use std::collections::{BTreeMap, BTreeSet};
 
 /// The id of the page in a place; None where there is none.
@@ -16,7 +16,11 @@ pub(crate) fn id_in(places: &BTreeMap<PageKey, u64>, place: PageKey) -> Option<u
 }
 
 /// Puts an id in a place. After `NoMemory` the places are as before.
-pub(crate) fn put(places: &mut BTreeMap<PageKey, u64>, place: PageKey, id: u64) -> Result<(), NoMemory>
+pub(crate) fn put(
+    places: &mut BTreeMap<PageKey, u64>,
+    place: PageKey,
+    id: u64,
+) -> Result<(), NoMemory>
     ensures ok { OnOk result (Gains places.old places.new place id) }
     ensures err { OnErr result (Keeps places.old places.new) }
 {

@@ -19,8 +19,7 @@ use crate::functions::{ALIAS, GET, RELEASE};
 use crate::pages::{Pages, answer};
 use crate::shape::mm_shape;
 use crate::{Page, PageKey};
-use sg_base::{Call, Code, NoMemory, Path, Reply, Stops, Value};
-use sg_facts::{Outcome, Service, Shape};
+use sg_facts::{Call, Code, NoMemory, Outcome, Path, Reply, Service, Shape, Stops, Value};
 use std::alloc::Global;
 
 /// The memory mapping service: it makes pages in spaces at addresses, from each other too, tells which page is in a place,

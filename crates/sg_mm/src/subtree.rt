@@ -5,7 +5,7 @@ ghost use Rattle.sg_mm.specs.Inside.MmIndex.{AreAscending, IsNext};
 
 use crate::Page;
 use crate::child::{Child, add_children};
-use sg_base::NoMemory;
+use sg_facts::NoMemory;
 use std::alloc::Global;
 use std::collections::{BTreeMap, BTreeSet};
 use std::ops::Bound;

@@ -43,7 +43,7 @@ module _ {X : Type 0} where
       at true is more = is
       at false is more = more is
 
-  -- what comes behind them, where they have no such key
+  -- what comes after them, where they have no such key
   past : (test : ℕ → Bool) (front rest : List (ℕ × X)) → lookup test front ≡ None → lookup test (front ++ rest) ≡ lookup test rest
   past test [] rest none = refl
   past test (x ∷ front) rest none = at (test x.0) none (past test front rest)

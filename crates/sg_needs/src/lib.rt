@@ -14,3 +14,4 @@ mod replayed;
 pub use needs::{Needs, needs_of};
 pub use refusals::guard;
 pub use replayed::{replayed_call, walk_of_row};
+pub use sg_track::Tracker;

@@ -7,8 +7,7 @@ ghost use Rattle.sg_facts.specs.Track.{ancestors, is_live, row_at};
 ghost use Rattle.sg_track.specs.Tracked.{AreTracked};
 ghost use Rattle.sg_needs.specs.Inside.Lines.{line_to};
 
-use sg_base::{IdList, NoMemory, Path, Value};
-use sg_facts::Row;
+use sg_facts::{IdList, NoMemory, Path, Row, Value};
 use sg_track::Tracker;
 use std::alloc::Global;
 

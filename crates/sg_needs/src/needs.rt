@@ -7,8 +7,7 @@ ghost use Rattle.sg_track.specs.Tracked.{AreTracked};
 ghost use Rattle.sg_needs.specs.Inside.Lines.{ids_in, line_to};
 
 use crate::line::{line_to, live_of, path_along};
-use sg_base::{Call, IdList, NoMemory, Path};
-use sg_facts::{FunShape, Interface};
+use sg_facts::{Call, FunShape, IdList, Interface, NoMemory, Path};
 use sg_track::Tracker;
 use std::alloc::Global;
 use std::marker::Model;

@@ -6,8 +6,7 @@ ghost use Rattle.sg_facts.specs.Guard.{guard as the_guard, in_state, may_be_pare
 ghost use Rattle.sg_facts.specs.Object.{Object};
 ghost use Rattle.sg_needs.specs.Refused.{refused_by_rows};
 
-use sg_base::{Call, Code};
-use sg_facts::{FunShape, Interface, MOST_LIVE, Parents, Row};
+use sg_facts::{Call, Code, FunShape, Interface, MOST_LIVE, Parents, Row};
 use sg_track::Tracker;
 
 /// The guard's refusal of a call, by the tracked rows alone; None where the call may reach the service. The first cause that

@@ -8,8 +8,9 @@ ghost use Rattle.sg_facts.specs.Tables.{walk_of};
 ghost use Rattle.sg_facts.specs.Fields.{mask_of};
 ghost use Rattle.sg_facts.specs.Track.{field_at, word_of};
 
-use sg_base::{Args, Call, NoMemory, TryCopy, Value};
-use sg_facts::{Effect, Fields, Interface, Kind, Row, Tables, Walk};
+use sg_facts::{
+    Args, Call, Effect, Fields, Interface, Kind, NoMemory, Row, Tables, TryCopy, Value, Walk,
+};
 use std::alloc::Global;
 
 /// The walk of a row, by its creation, its state and which of its fields are set; None exactly where the tables have none. It

@@ -166,7 +166,7 @@ pub statement_end : (facts : Facts) (before : List Statement) (old : Reading) �
 unfolding tree_at
 statement_end facts before old e = read_end trees (statements facts before) old e
 
--- behind the first token of a statement, by the tests that fail and the one that holds
+-- after the first token of a statement, by the tests that fail and the one that holds
 
 pub is_one : (go : Statement → State) (token : Lexeme) (r : Reading) → has_sort one_word token ≡ true
     → read_on trees (statement_behind go token) token r ≡ read trees (one_rest go (named_by token)) r

@@ -10,7 +10,7 @@ use Rattle.sg_parse.specs.Grammar.Inside.States.{State}
 abbrev pub named_token : Named → Lexeme
 named_token n = record { kind = Word; bytes = n.bytes; at = n.at }
 
--- the state behind a form that may have come
+-- the state after a form that may have come
 abbrev pub either_of : (Named → State) → State → Option Named → State
 either_of k s None = s
 either_of k s (Some form) = k form

@@ -1,2 +1,3 @@
 pub mod Grammar
 pub mod Inside
+pub use Rattle.sg_lex.specs as sg_lex

@@ -5,8 +5,8 @@ ghost use Rattle.sg_parse.specs.Grammar.Pieces.{mark};
 ghost use Rattle.sg_parse.specs.Grammar.Inside.States.{State, fact, statements, start, trees};
 ghost use Rattle.sg_lex.specs.Inside.Automata.{read, Leads};
 
-use crate::reader::{fixed, mark, word_of};
 use crate::error::ParseError;
+use crate::reader::{fixed, mark, word_of};
 use crate::tree::{Facts, Name};
 use crate::words::Sort;
 use sg_lex::Reader;
@@ -37,7 +37,7 @@ pub fn facts<'a>(reader: &mut Reader<'a>) -> Result<Facts<'a>, ParseError>
     })
 }
 
-/// A fact: its word, its value of this sort, and the mark behind it.
+/// A fact: its word, its value of this sort, and the mark after it.
 fn fact<'a>(
     reader: &mut Reader<'a>,
     what: &[u8],

@@ -24,6 +24,7 @@ mod words;
 pub use error::ParseError;
 pub use laws::{one_answer, one_tree};
 pub use parser::parse;
+pub use sg_lex::{LexFault, Lexer, TokenKind, first_token};
 pub use tree::{
     Facts, Name, NameList, Param, ParamList, Ret, Statement, StatementList, Tree, TypeName,
 };

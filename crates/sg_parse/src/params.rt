@@ -8,15 +8,15 @@ ghost use Rattle.sg_parse.specs.Grammar.Inside.States.{State, due, want, either,
 ghost use Rattle.sg_lex.specs.Inside.Automata.{read, Leads};
 ghost use Rattle.sg_parse.specs.Inside.{either_of};
 
-use crate::reader::{mark, take_mark, take_word, word_of};
-use crate::types::{SpelledType, declared, spelling};
 use crate::error::ParseError;
+use crate::reader::{mark, take_mark, take_word, word_of};
 use crate::tree::{Name, Param, ParamList};
+use crate::types::{SpelledType, declared, spelling};
 use crate::words::Sort;
 use sg_lex::Reader;
 use std::alloc::Global;
 
-/// The parameters behind the bracket that opens them, at least one, and the bracket that closes them.
+/// The parameters after the bracket that opens them, at least one, and the bracket that closes them.
 #[tactic(auto, using(crate::proofs::ByToken::comma_came, crate::proofs::ByToken::comma_missing))]
 pub fn params<'a>(reader: &mut Reader<'a>, alloc: Global) -> Result<ParamList<'a>, ParseError>
     ensures leads { (k : List Declared → State) → Leads trees (read trees (param k []) reader.old) result k reader.new }
@@ -31,7 +31,7 @@ pub fn params<'a>(reader: &mut Reader<'a>, alloc: Global) -> Result<ParamList<'a
     Ok(params)
 }
 
-/// A parameter, behind others.
+/// A parameter, after others.
 fn param<'a>(reader: &mut Reader<'a>, alloc: Global) -> Result<Param<'a>, ParseError>
     ensures leads { (params : List Declared) (k : List Declared → State) →
         Leads trees (read trees (param k params) reader.old) result (λ p. listed (params ++ p ∷ []) k) reader.new }
@@ -42,8 +42,11 @@ fn param<'a>(reader: &mut Reader<'a>, alloc: Global) -> Result<Param<'a>, ParseE
     behind_type(reader, spelled)
 }
 
-/// A parameter behind its type: its form, if one comes, and its name.
-fn behind_type<'a>(reader: &mut Reader<'a>, spelled: SpelledType<'a>) -> Result<Param<'a>, ParseError>
+/// A parameter after its type: its form, if one comes, and its name.
+fn behind_type<'a>(
+    reader: &mut Reader<'a>,
+    spelled: SpelledType<'a>,
+) -> Result<Param<'a>, ParseError>
     ensures leads { (params : List Declared) (k : List Declared → State) →
         Leads trees (read trees (param_behind k params spelled.entry.front spelled.entry.last spelled.entry.stars) reader.old)
         result (λ p. listed (params ++ p ∷ []) k) reader.new }
@@ -64,7 +67,7 @@ fn form<'a>(reader: &mut Reader<'a>) -> Result<Option<Name<'a>>, ParseError>
     take_word(reader, Sort::Form)
 }
 
-/// A parameter behind its type, where no form comes.
+/// A parameter after its type, where no form comes.
 fn unformed<'a>(reader: &mut Reader<'a>, spelled: SpelledType<'a>) -> Result<Param<'a>, ParseError>
     ensures leads { (params : List Declared) (k : List Declared → State) →
         Leads trees (read trees (declared (λ ty n. with_param k params ty without n) spelled.entry.front spelled.entry.last spelled.entry.stars) reader.old)
@@ -79,7 +82,7 @@ fn unformed<'a>(reader: &mut Reader<'a>, spelled: SpelledType<'a>) -> Result<Par
     })
 }
 
-/// A parameter behind its type and its form: its name in brackets.
+/// A parameter after its type and its form: its name in brackets.
 fn formed<'a>(
     reader: &mut Reader<'a>,
     spelled: SpelledType<'a>,

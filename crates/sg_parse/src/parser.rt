@@ -8,9 +8,9 @@ ghost use Rattle.sg_parse.specs.Grammar.Parses.{Parses};
 ghost use Rattle.sg_parse.specs.Grammar.Inside.States.{start, trees};
 ghost use Rattle.sg_lex.specs.Inside.Automata.{read, Answers};
 
+use crate::error::ParseError;
 use crate::head::facts;
 use crate::statements::statements;
-use crate::error::ParseError;
 use crate::tree::Tree;
 use sg_lex::Reader;
 use std::alloc::Global;

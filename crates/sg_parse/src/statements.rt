@@ -8,16 +8,16 @@ ghost use Rattle.sg_parse.specs.Grammar.Named.{Named};
 ghost use Rattle.sg_parse.specs.Grammar.Inside.States.{State, want, statements, statement_behind, one_rest, two_rest, proto_rest, plain_rest, returned_rest, trees};
 ghost use Rattle.sg_lex.specs.Inside.Automata.{read, Leads, Answers, read_on};
 
+use crate::error::ParseError;
 use crate::params::params;
 use crate::reader::{has_sort, mark, name_of, next_token, word_of};
-use crate::types::{declared, spelling};
-use crate::error::ParseError;
 use crate::tree::{Facts, Name, Ret, Statement, StatementList, Tree, TypeName};
+use crate::types::{declared, spelling};
 use crate::words::Sort;
 use sg_lex::{Reader, Token};
 use std::alloc::Global;
 
-/// The statements behind the facts, up to the end of the text.
+/// The statements after the facts, up to the end of the text.
 #[tactic(auto, using(crate::proofs::ByToken::statement_came, crate::proofs::ByToken::statement_end))]
 pub fn statements<'a>(
     reader: &mut Reader<'a>,
@@ -62,7 +62,7 @@ fn statement<'a>(
     Err(ParseError::Syntax { at: token.at })
 }
 
-/// A statement over one function, behind its word.
+/// A statement over one function, after its word.
 fn one<'a>(reader: &mut Reader<'a>, word: Name<'a>) -> Result<Statement<'a>, ParseError>
     ensures leads { (go : Stated → State) → Leads trees (read trees (one_rest go word.entry) reader.old) result go reader.new }
     ensures fewer { OnOk result (length reader.new.rest ≤ length reader.old.rest) }
@@ -74,7 +74,7 @@ fn one<'a>(reader: &mut Reader<'a>, word: Name<'a>) -> Result<Statement<'a>, Par
     Ok(Statement::One { word, fun })
 }
 
-/// A statement over two names, behind its word.
+/// A statement over two names, after its word.
 fn two<'a>(reader: &mut Reader<'a>, word: Name<'a>) -> Result<Statement<'a>, ParseError>
     ensures leads { (go : Stated → State) → Leads trees (read trees (two_rest go word.entry) reader.old) result go reader.new }
     ensures fewer { OnOk result (length reader.new.rest ≤ length reader.old.rest) }
@@ -92,7 +92,7 @@ fn two<'a>(reader: &mut Reader<'a>, word: Name<'a>) -> Result<Statement<'a>, Par
     })
 }
 
-/// A prototype whose return is a type alone, behind the type's first name.
+/// A prototype whose return is a type alone, after the type's first name.
 fn plain<'a>(
     reader: &mut Reader<'a>,
     alloc: Global,
@@ -106,7 +106,7 @@ fn plain<'a>(
     proto(reader, alloc, Ret::Plain(ty), name)
 }
 
-/// A prototype whose returned word sets a field, behind the word that says so.
+/// A prototype whose returned word sets a field, after the word that says so.
 fn set<'a>(reader: &mut Reader<'a>, alloc: Global) -> Result<Statement<'a>, ParseError>
     ensures leads { (go : Stated → State) → Leads trees (read trees (returned_rest go Ret.Set) reader.old) result go reader.new }
     ensures fewer { OnOk result (length reader.new.rest ≤ length reader.old.rest) }
@@ -116,7 +116,7 @@ fn set<'a>(reader: &mut Reader<'a>, alloc: Global) -> Result<Statement<'a>, Pars
     proto(reader, alloc, Ret::Set { ty, field }, name)
 }
 
-/// A prototype whose returned word is added to a field, behind the word that says so.
+/// A prototype whose returned word is added to a field, after the word that says so.
 fn add<'a>(reader: &mut Reader<'a>, alloc: Global) -> Result<Statement<'a>, ParseError>
     ensures leads { (go : Stated → State) → Leads trees (read trees (returned_rest go Ret.Add) reader.old) result go reader.new }
     ensures fewer { OnOk result (length reader.new.rest ≤ length reader.old.rest) }
@@ -145,7 +145,7 @@ fn returned<'a>(
     Ok((ty, field))
 }
 
-/// A prototype behind its return and its name.
+/// A prototype after its return and its name.
 fn proto<'a>(
     reader: &mut Reader<'a>,
     alloc: Global,

@@ -42,7 +42,7 @@ pub struct Facts<'a> {
     pub resc_data: Name<'a>,
 }
 
-/// A statement behind the facts.
+/// A statement after the facts.
 #[derive(Debug, Drop)]
 pub enum Statement<'a> {
     /// A word over one function, as in `sm_creation(f);`.
@@ -75,7 +75,7 @@ pub enum Ret<'a> {
     Add { ty: TypeName<'a>, field: Name<'a> },
 }
 
-/// A type: its names, at least one in a sentence's tree, and the number of stars behind them.
+/// A type: its names, at least one in a sentence's tree, and the number of stars after them.
 #[derive(Debug, Drop)]
 pub struct TypeName<'a> {
     pub names: NameList<'a>,

@@ -1,15 +1,15 @@
-// Types, and the names that are declared behind them.
+// Types, and the names that are declared after them.
 ghost use Rattle.std.specs.Prelude.{◌≡◌, ◌≤◌, ◌<◌, ◌+◌, ℕ, List, [], ◌∷◌, ◌++◌, length, IfOk, OnOk};
 ghost use Rattle.sg_parse.specs.declared.tree.TypeName.{TypeName as Typed};
 ghost use Rattle.sg_parse.specs.Grammar.Named.{Named};
 ghost use Rattle.sg_parse.specs.Grammar.Inside.States.{State, names, stars, declared, type_of, trees};
 ghost use Rattle.sg_lex.specs.Inside.Automata.{read, Leads};
 
-use crate::reader::{take_mark, take_word, unexpected, word_of};
-use sg_base::NoMemory;
 use crate::error::ParseError;
+use crate::reader::{take_mark, take_word, unexpected, word_of};
 use crate::tree::{Name, NameList, TypeName};
 use crate::words::Sort;
+use sg_base::NoMemory;
 use sg_lex::Reader;
 use std::alloc::Global;
 
@@ -87,7 +87,7 @@ fn stars(reader: &mut Reader<'_>) -> Result<usize, ParseError>
     Ok(count)
 }
 
-/// The type and the name that is declared: without stars the last of at least two names, else the name behind them.
+/// The type and the name that is declared: without stars the last of at least two names, else the name after them.
 #[tactic(auto, using(crate::proofs::ByToken::declared_none, crate::proofs::ByToken::declared_bare, crate::proofs::ByToken::declared_starred))]
 pub fn declared<'a>(
     reader: &mut Reader<'a>,

@@ -1,15 +1,15 @@
 -- The calls of a script's clients, and how clients end.
 use Rattle.std.specs.Prelude.{ℕ, zero, suc, ◌≡◌, ◌+◌, ◌==◌, not, if◌then◌else◌, List, [], ◌∷◌, ◌++◌, None, Some, filter, length, map, slice_get}
 use Rattle.std.specs.declared.option.Option.{Option}
-use Rattle.sg_base.specs.declared.call.Call.{Call}
+use Rattle.sg_facts.specs.sg_base.declared.call.Call.{Call}
 use Rattle.sg_facts.specs.declared.entry.Entry.{Entry}
 use Rattle.sg_facts.specs.Facts.{Facts, fun_at}
 use Rattle.sg_facts.specs.Interface.{Declared}
 use Rattle.sg_facts.specs.Legal.{Table, answer}
 use Rattle.sg_facts.specs.Object.{object_of}
-use Rattle.sg_hist.specs.declared.ended.End.{End}
-use Rattle.sg_hist.specs.declared.ended.End.TheVariants.{Done, Blocked}
-use Rattle.sg_hist.specs.Clients.{calls_of}
+use Rattle.sg_seat.specs.sg_hist.declared.ended.End.{End}
+use Rattle.sg_seat.specs.sg_hist.declared.ended.End.TheVariants.{Done, Blocked}
+use Rattle.sg_seat.specs.sg_hist.Clients.{calls_of}
 use Rattle.sg_script.specs.declared.script.Script.{Script}
 use Rattle.sg_script.specs.declared.script.ScriptCall.{ScriptCall}
 use Rattle.sg_plain.specs.Script.{desc_among, values_of}

@@ -1,10 +1,10 @@
 -- The play of a script without stops, turn by turn.
 use Rattle.std.specs.Prelude.{ℕ, zero, suc, ◌≡◌, ◌+◌, ◌-◌, ◌==◌, Bool, true, false, ◌&&◌, ◌||◌, nat_lt, if◌then◌else◌, List, [], ◌∷◌, ◌++◌, None, Some, length, map, slice_get, slice_set, unwrap_or}
 use Rattle.std.specs.declared.option.Option.{Option}
-use Rattle.sg_base.specs.declared.call.Call.{Call}
-use Rattle.sg_base.specs.declared.reply.Code.{Code}
-use Rattle.sg_base.specs.declared.reply.Reply.{Reply}
-use Rattle.sg_base.specs.declared.reply.Reply.TheVariants.{Ok, Refused}
+use Rattle.sg_facts.specs.sg_base.declared.call.Call.{Call}
+use Rattle.sg_facts.specs.sg_base.declared.reply.Code.{Code}
+use Rattle.sg_facts.specs.sg_base.declared.reply.Reply.{Reply}
+use Rattle.sg_facts.specs.sg_base.declared.reply.Reply.TheVariants.{Ok, Refused}
 use Rattle.sg_facts.specs.declared.entry.Entry.{Entry}
 use Rattle.sg_facts.specs.declared.row.Row.{Row}
 use Rattle.sg_facts.specs.Facts.{Facts, fun_at, is_visible}
@@ -147,12 +147,12 @@ abbrev pub first_of : Stage → List ℕ → Option ℕ
 first_of s [] = None
 first_of s (client ∷ clients) = if may_turn s client then Some client else first_of s clients
 
--- the turns behind those that are passed over, and the one that is taken
-abbrev pub behind_first : Stage → List ℕ → List ℕ
-behind_first s [] = []
-behind_first s (client ∷ schedule) = if may_turn s client then schedule else behind_first s schedule
+-- the turns after those that are passed over, and the one that is taken
+abbrev pub left_after_first : Stage → List ℕ → List ℕ
+left_after_first s [] = []
+left_after_first s (client ∷ schedule) = if may_turn s client then schedule else left_after_first s schedule
 
--- in ascending numbers behind the last turn, and then from 1 on
+-- in ascending numbers after the last turn, and then from 1 on
 abbrev pub in_a_circle : Stage → List ℕ
 in_a_circle s = ascending_from (s.last + 1) (length s.players - s.last) ++ ascending_from 1 s.last
 
@@ -168,7 +168,7 @@ next_turn script s =
 
 -- the schedule that is left behind the next turn: all of it until the setup calls of client 1 are done
 abbrev pub left_schedule : Script → Stage → List ℕ
-left_schedule script s = if nat_lt (player_of s 1).done (length script.setup) then s.schedule else behind_first s s.schedule
+left_schedule script s = if nat_lt (player_of s 1).done (length script.setup) then s.schedule else left_after_first s s.schedule
 
 abbrev pub after_turn : Declared → Table → Script → Stage → Option ℕ → Stage
 after_turn i ask script s None = s

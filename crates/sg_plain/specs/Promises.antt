@@ -1,7 +1,7 @@
 -- What a play promises of its history, its trace and its clients' ends, for any number of clients and any stops.
 use Rattle.std.specs.Prelude.{ℕ, ◌≡◌, ◌+◌, ◌==◌, Bool, true, false, ◌&&◌, ◌||◌, not, nat_le, if◌then◌else◌, List, [], ◌∷◌, ◌++◌, filter, length, take}
 use Rattle.std.specs.List.{list_all, list_any}
-use Rattle.sg_base.specs.Lists.{Each, When}
+use Rattle.sg_facts.specs.sg_base.Lists.{Each, When}
 use Rattle.sg_facts.specs.declared.entry.Entry.{Entry}
 use Rattle.sg_facts.specs.declared.outcome.Outcome.{Outcome}
 use Rattle.sg_facts.specs.declared.outcome.Outcome.TheVariants.{Replied, Blocks, Stopped, NoMemory}
@@ -10,10 +10,10 @@ use Rattle.sg_facts.specs.declared.trace.Tag.{Tag}
 use Rattle.sg_facts.specs.declared.trace.Tag.TheVariants.{Walk, Load, Client}
 use Rattle.sg_facts.specs.Facts.{Facts, is_visible}
 use Rattle.sg_facts.specs.Trace.{Boot, Run}
-use Rattle.sg_hist.specs.declared.ended.End.{End}
-use Rattle.sg_hist.specs.Clients.{calls_of}
-use Rattle.sg_hist.specs.Reading.{Position, behind, is_by_guard, is_item_of, is_tagged, items_of, object_before, places_in, places_of}
-use Rattle.sg_hist.specs.Recovered.{is_blocked, struck_in}
+use Rattle.sg_seat.specs.sg_hist.declared.ended.End.{End}
+use Rattle.sg_seat.specs.sg_hist.Clients.{calls_of}
+use Rattle.sg_seat.specs.sg_hist.Reading.{Position, items_after, is_by_guard, is_item_of, is_tagged, items_of, object_before, places_in, places_of}
+use Rattle.sg_seat.specs.sg_hist.Recovered.{is_blocked, struck_in}
 use Rattle.sg_script.specs.declared.script.Script.{Script}
 use Rattle.sg_script.specs.declared.script.ScriptCall.{ScriptCall}
 use Rattle.sg_plain.specs.Calls.{callers, resolved_by, script_calls}
@@ -81,7 +81,7 @@ has_blocked NoMemory = false
 -- whether a place's item is that of an entry which wakes who waits on a descriptor
 abbrev pub wakes_at : Facts → List Entry → ℕ → Position → Bool
 wakes_at facts history id p =
-    list_any (λ e. not (is_by_guard e.reply) && is_item_of e p.item && not (list_any (is_item_of e) (behind p))
+    list_any (λ e. not (is_by_guard e.reply) && is_item_of e p.item && not (list_any (is_item_of e) (items_after p))
     && wakes facts (object_before facts history p).rows e.call e.reply id) history
 
 -- whether a call of a client waits at none of these places before one that wakes who waits on a descriptor

@@ -8,7 +8,7 @@ use Rattle.std.proofs.lemmas.Bool.{cases_lt}
 use Rattle.std.proofs.lemmas.Bool.Decides.{eqb_tells}
 use Rattle.sg_plain.specs.Calls.{most_client, part_of}
 use Rattle.sg_plain.specs.Playing.Playable.{AreClients}
-use Rattle.sg_script.specs.declared.script.ScriptCall.{ScriptCall}
+use Rattle.sg_plain.specs.sg_script.declared.script.ScriptCall.{ScriptCall}
 use Rattle.sg_facts.proofs.Replaying.Found.{other_test, same_test}
 
 -- the greatest number of a client is that of the last part
@@ -36,7 +36,7 @@ equal_of x y is = elim (compared x y) [
   | inr rest ↦ elim rest [ inl same ↦ same.1 | inr more ↦ absurd (cc (is, more.0)) ]
 ]
 
--- a number is no other than those before and behind it
+-- a number is no other than those before and after it
 never_equal : (x y : ℕ) → (nat_cmp x y ≡ Less) ⊎ (nat_cmp x y ≡ Greater) → x ≢ y
 never_equal x y is same = elim is [ inl less ↦ cc (less, nat_cmp_is x y Equal same) | inr more ↦ cc (more, nat_cmp_is x y Equal same) ]
 

@@ -1,15 +1,15 @@
 -- What calls were given, as their entries tell it.
 use Rattle.std.proofs.Common.{◌≡◌, ◌⊎◌, ℕ, zero, suc, ◌-◌, ◌<◌, ◌≤◌, List, [], ◌∷◌, ◌++◌, length, refl, sym, ap, inl, inr, arith}
 use Rattle.std.specs.Prelude.{slice_get, slice_index_or}
-use Rattle.sg_base.specs.declared.value.Value.{Value}
-use Rattle.sg_base.specs.declared.value.Value.TheVariants.{Word, Text}
+use Rattle.sg_facts.specs.sg_base.declared.value.Value.{Value}
+use Rattle.sg_facts.specs.sg_base.declared.value.Value.TheVariants.{Word, Text}
 use Rattle.sg_facts.specs.Kinds.{AreWords}
 use Rattle.sg_facts.specs.declared.entry.Entry.{Entry}
 use Rattle.sg_facts.specs.declared.shape.Kind.{Kind}
 use Rattle.sg_facts.specs.declared.shape.Kind.TheVariants.{Desc, Parent, Word as IsWord, Text as IsText}
-use Rattle.sg_hist.specs.Reading.{desc_in}
+use Rattle.sg_plain.specs.sg_hist.Reading.{desc_in}
 use Rattle.sg_plain.specs.Playing.Given.{GaveIds}
-use Rattle.sg_script.specs.declared.script.Arg.{Arg}
+use Rattle.sg_plain.specs.sg_script.declared.script.Arg.{Arg}
 use Rattle.sg_plain.specs.Script.{desc_among, id_of_call, value_of, values_of}
 
 -- the descriptor at a place
@@ -19,7 +19,7 @@ given_at [] (g ∷ given) k d are within = absurd (cc are)
 given_at (e ∷ own) (g ∷ given) zero d are within = sym (cc are)
 given_at (e ∷ own) (g ∷ given) (suc k) d are within = given_at own given k d (cc are) (omega (arith, within))
 
--- behind the last there is none
+-- after the last there is none
 pub given_none : (own : List Entry) (given : List ℕ) (k : ℕ) → GaveIds own given → length given ≤ k → 0 ≡ desc_in (slice_get own k)
 given_none [] given k are past = refl
 given_none (e ∷ own) [] k are past = absurd (cc are)

@@ -5,3 +5,4 @@ pub mod Offering
 pub mod Stepping
 pub mod Turning
 pub mod Waking
+pub use Rattle.sg_plain.proofs as sg_plain

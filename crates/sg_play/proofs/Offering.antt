@@ -5,23 +5,23 @@ use Rattle.std.specs.List.{list_any}
 use Rattle.std.specs.declared.result.Result.{Result}
 use Rattle.std.specs.declared.result.Result.TheVariants.{Ok, Err}
 use Rattle.std.proofs.lemmas.Bool.{and_parts}
-use Rattle.sg_base.specs.declared.call.Call.{Call}
-use Rattle.sg_base.specs.declared.value.Value.{Value}
+use Rattle.sg_facts.specs.sg_base.declared.call.Call.{Call}
+use Rattle.sg_facts.specs.sg_base.declared.value.Value.{Value}
 use Rattle.sg_facts.specs.declared.entry.Entry.{Entry}
 use Rattle.sg_facts.specs.declared.shape.Kind.{Kind}
 use Rattle.sg_facts.specs.declared.shape.Kind.TheVariants.{Desc, Parent, Word as IsWord, Text as IsText}
 use Rattle.sg_facts.specs.Facts.{fun_at, is_desc, is_parent}
 use Rattle.sg_facts.specs.Interface.{Declared, declares}
 use Rattle.sg_facts.specs.Kinds.{FitsKinds, kinds_fit}
-use Rattle.sg_hist.specs.Clients.{calls_of}
+use Rattle.sg_plain.specs.sg_hist.Clients.{calls_of}
 use Rattle.sg_plain.specs.Calls.{call_after, resolved, script_calls}
-use Rattle.sg_script.specs.declared.script.Arg.{Arg}
-use Rattle.sg_script.specs.declared.script.Arg.TheVariants.{Number, Text, Back}
-use Rattle.sg_script.specs.declared.script.Script.{Script}
-use Rattle.sg_script.specs.declared.script.ScriptCall.{ScriptCall}
-use Rattle.sg_seat.specs.WorldView.{Seat, seat_in}
-use Rattle.sg_seat.specs.declared.phase.Phase.{Phase}
-use Rattle.sg_seat.specs.declared.phase.Phase.TheVariants.{Idle, Asked, Held, Receipted, Blocked, Left}
+use Rattle.sg_plain.specs.sg_script.declared.script.Arg.{Arg}
+use Rattle.sg_plain.specs.sg_script.declared.script.Arg.TheVariants.{Number, Text, Back}
+use Rattle.sg_plain.specs.sg_script.declared.script.Script.{Script}
+use Rattle.sg_plain.specs.sg_script.declared.script.ScriptCall.{ScriptCall}
+use Rattle.sg_plain.specs.sg_seat.WorldView.{Seat, seat_in}
+use Rattle.sg_plain.specs.sg_seat.declared.phase.Phase.{Phase}
+use Rattle.sg_plain.specs.sg_seat.declared.phase.Phase.TheVariants.{Idle, Asked, Held, Receipted, Blocked, Left}
 use Rattle.sg_plain.specs.Script.{arg_fits, args_fit, call_fits, desc_among, values_of}
 use Rattle.sg_plain.specs.Playing.Callers.{handed, is_receipted, is_setting_up}
 use Rattle.sg_plain.specs.Playing.Given.{GaveIds, given_in}

@@ -1,15 +1,15 @@
 -- What a step of a world does to the calls of a play.
 use Rattle.std.proofs.Common.{◌≡◌, ℕ, ◌+◌, ◌-◌, ◌≤◌, true, false, cond, List, [], ◌∷◌, ◌++◌, length, map, refl, sym, ◌∙◌, ap, subst, inl, inr, arith, slice_set}
-use Rattle.sg_base.specs.declared.reply.Reply.{Reply}
+use Rattle.sg_facts.specs.sg_base.declared.reply.Reply.{Reply}
 use Rattle.sg_facts.specs.declared.entry.Entry.{Entry}
 use Rattle.sg_facts.specs.Object.{object_of}
-use Rattle.sg_seat.specs.WorldView.{Seat, WorldView, answered_to, committed, given_to, is_offered, no_reply, seat_in, seat_of, wakes_seat, with_seat, woken_seat}
-use Rattle.sg_seat.specs.declared.phase.Phase.{Phase}
-use Rattle.sg_seat.specs.declared.phase.Phase.TheVariants.{Idle, Asked, Held, Receipted, Blocked, Left}
+use Rattle.sg_plain.specs.sg_seat.WorldView.{Seat, WorldView, answered_to, committed, given_to, is_offered, no_reply, seat_in, seat_of, wakes_seat, with_seat, woken_seat}
+use Rattle.sg_plain.specs.sg_seat.declared.phase.Phase.{Phase}
+use Rattle.sg_plain.specs.sg_seat.declared.phase.Phase.TheVariants.{Idle, Asked, Held, Receipted, Blocked, Left}
 use Rattle.sg_world.specs.declared.did.Did.{Did}
 use Rattle.sg_world.specs.declared.did.Did.TheVariants.{Answered, Blocked as Waits, Booted, Loaded, Lost, Replayed, Served, Skipped, Struck}
 use Rattle.sg_world.specs.Steps.{Boots, Commits, Loses, Skips, Steps}
-use Rattle.sg_world_laws.specs.Setting.{Setting}
+use Rattle.sg_world.specs.sg_world_laws.Setting.{Setting}
 use Rattle.sg_plain.specs.Playing.Callers.{EntersCall, EntersNothing, StepsOn, handed, is_receipted}
 use Rattle.sg_plain.proofs.Playing.Lines.{line_entered, line_same, line_set, line_woken, seat_here, length_map, seat_woken, handed_woken}
 
@@ -67,7 +67,7 @@ module _ (z : Setting) (w : WorldView) (c : ℕ) (first : 1 ≤ c) (last : c ≤
   within : (reply : Reply) → c ≤ length (woken reply)
   within reply = omega (arith, last, length_map (woken_seat (wakes_seat z.iface.facts (object_of z.iface.facts w.history).rows s.call reply)) w.seats)
 
-  -- the client's seat behind the entry
+  -- the client's seat after the entry
   abbrev behind : Reply → Phase → Reply → Seat
   behind reply p kept = record (seat_in (woken reply) c) { phase = p; seq = s.call.seq; reply = kept }
 

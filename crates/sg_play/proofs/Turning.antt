@@ -1,18 +1,18 @@
 -- A play keeps what it keeps where a client steps, or leaves.
 use Rattle.std.proofs.Common.{◌≡◌, ◌⊎◌, ℕ, ◌+◌, ◌-◌, ◌≤◌, true, false, cond, List, [], ◌∷◌, ◌++◌, None, Some, length, refl, sym, ◌∙◌, ap, subst, inl, inr, arith, slice_set}
-use Rattle.sg_base.specs.declared.reply.Reply.{Reply}
+use Rattle.sg_facts.specs.sg_base.declared.reply.Reply.{Reply}
 use Rattle.sg_facts.specs.declared.entry.Entry.{Entry}
-use Rattle.sg_hist.specs.Clients.{calls_of}
-use Rattle.sg_hist.specs.Reading.{desc_of}
-use Rattle.sg_script.specs.declared.script.Script.{Script}
-use Rattle.sg_seat.specs.WorldView.{Seat, WorldView, happened, in_phase, is_left_phase, is_offered, seat_of, with_leave, with_mark}
-use Rattle.sg_seat.specs.declared.mark.MarkKind.TheVariants.{Leave}
-use Rattle.sg_seat.specs.declared.phase.Phase.TheVariants.{Idle, Left}
+use Rattle.sg_plain.specs.sg_hist.Clients.{calls_of}
+use Rattle.sg_plain.specs.sg_hist.Reading.{desc_of}
+use Rattle.sg_plain.specs.sg_script.declared.script.Script.{Script}
+use Rattle.sg_plain.specs.sg_seat.WorldView.{Seat, WorldView, happened, in_phase, is_left_phase, is_offered, seat_of, with_leave, with_mark}
+use Rattle.sg_plain.specs.sg_seat.declared.mark.MarkKind.TheVariants.{Leave}
+use Rattle.sg_plain.specs.sg_seat.declared.phase.Phase.TheVariants.{Idle, Left}
 use Rattle.sg_world.specs.declared.did.Did.{Did}
 use Rattle.sg_world.specs.declared.did.Did.TheVariants.{Answered, Blocked as Waits, Booted, Loaded, Lost, Replayed, Served, Skipped, Struck}
 use Rattle.sg_world.specs.Steps.{AnswersLast, HasStepped, WantsMemory}
-use Rattle.sg_world_laws.specs.Seats.{last_of}
-use Rattle.sg_world_laws.specs.Setting.{Setting}
+use Rattle.sg_world.specs.sg_world_laws.Seats.{last_of}
+use Rattle.sg_world.specs.sg_world_laws.Setting.{Setting}
 use Rattle.sg_plain.specs.Playing.Callers.{handed, is_receipted, is_setting_up}
 use Rattle.sg_plain.specs.Playing.Given.{HandsReply, given_in}
 use Rattle.sg_plain.specs.Playing.Plays.{IsPlaying}

@@ -2,12 +2,12 @@
 use Rattle.std.specs.Prelude.{ℕ, ◌≡◌, ◌≤◌, None, length}
 use Rattle.sg_facts.specs.Legal.{LegalFrom, answer}
 use Rattle.sg_facts.specs.Object.{empty_object, object_of}
-use Rattle.sg_hist.specs.Growing.{IsRecovering}
-use Rattle.sg_seat.specs.WorldView.{WorldView, seat_of, unanswered}
-use Rattle.sg_seat.specs.declared.phase.Phase.TheVariants.{Blocked}
-use Rattle.sg_world_laws.specs.Setting.{IsSetting, Setting, stubs_of}
+use Rattle.sg_plain.specs.sg_hist.Growing.{IsRecovering}
+use Rattle.sg_plain.specs.sg_seat.WorldView.{WorldView, seat_of, unanswered}
+use Rattle.sg_plain.specs.sg_seat.declared.phase.Phase.TheVariants.{Blocked}
+use Rattle.sg_world.specs.sg_world_laws.Setting.{IsSetting, Setting, stubs_of}
 
--- the interface can be recovered; the history is legal, and the run recovers; and who waits has no answer behind the history
+-- the interface can be recovered; the history is legal, and the run recovers; and who waits has no answer after the history
 pub record RecoversSoFar (z : Setting) (w : WorldView) : Type 0 where
   pub set : IsSetting z
   pub legal : LegalFrom z.iface z.ask empty_object w.history

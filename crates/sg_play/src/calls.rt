@@ -5,9 +5,8 @@ ghost use Rattle.sg_facts.specs.declared.entry.Entry.{Entry as IsEntry};
 ghost use Rattle.sg_plain.specs.Playing.Given.{GaveIds};
 ghost use Rattle.sg_plain.specs.Script.{arg_value, desc_among, id_of_call, value_of, values_of};
 
-use sg_base::{Args, NoMemory, TryCopy, Value};
-use sg_facts::Kind;
-use sg_script::Arg;
+use sg_facts::{Args, Kind, NoMemory, TryCopy, Value};
+use sg_plain::Arg;
 use std::alloc::Global;
 
 /// The descriptor or parent among arguments, 0 where no parameter is one.

@@ -1,4 +1,4 @@
-//! What a client of a script does in its turn on a world: it offers its next call, makes a step, and leaves behind its last call.
+//! What a client of a script does in its turn on a world: it offers its next call, makes a step, and leaves after its last call.
 //!
 //! - `turn`: the offer and the step (`offer_next`, `make_step`)
 //! - `calls`: what a script's call comes to, by the descriptors that its client's earlier calls were given
@@ -12,4 +12,6 @@ mod parts;
 mod turn;
 
 pub use parts::{most_client, script_call};
+pub use sg_plain::{End, EndList, Ended, Phase, Script};
+pub use sg_world::World;
 pub use turn::{make_step, offer_next};

@@ -5,7 +5,7 @@ ghost use Rattle.std.specs.Option.{option_copied};
 ghost use Rattle.sg_plain.specs.Calls.{most_client, part_of, script_calls};
 ghost use Rattle.sg_plain.specs.Playing.Playable.{AreClients};
 
-use sg_script::{CallList, Script, ScriptCall};
+use sg_plain::{CallList, Script, ScriptCall};
 use std::cmp::Ordering;
 
 // The first client.

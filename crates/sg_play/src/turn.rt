@@ -1,23 +1,21 @@
-// What a client does in its turn: it offers its next call, makes a step, and leaves behind its last call.
+// What a client does in its turn: it offers its next call, makes a step, and leaves after its last call.
 ghost use Rattle.std.specs.Prelude.{◌≡◌, ◌⊎◌, ◌≤◌, ℕ, List, true, None, IfOk, OnOk, OnErr, length};
-ghost use Rattle.sg_hist.specs.Reading.{desc_of};
+ghost use Rattle.sg_plain.specs.sg_hist.Reading.{desc_of};
 ghost use Rattle.sg_plain.specs.Playing.Callers.{is_setting_up};
 ghost use Rattle.sg_plain.specs.Playing.Given.{given_in, with_handed};
 ghost use Rattle.sg_plain.specs.Playing.Playable.{AreClients};
 ghost use Rattle.sg_plain.specs.Playing.Plays.{IsPlaying};
 ghost use Rattle.sg_play.specs.Turning.{StepsInTurn, with_leaving, with_offer};
-ghost use Rattle.sg_seat.specs.WorldView.{happened, seat_of};
+ghost use Rattle.sg_plain.specs.sg_seat.WorldView.{happened, seat_of};
 ghost use Rattle.sg_world.specs.Steps.{WantsMemory};
 ghost use Rattle.sg_world.specs.Worlded.{setting_of};
-ghost use Rattle.sg_seat.specs.declared.phase.Phase.TheVariants.{Idle};
+ghost use Rattle.sg_plain.specs.sg_seat.declared.phase.Phase.TheVariants.{Idle};
 ghost use Rattle.sg_plain.specs.Playing.Turns.{is_free_phase};
 
 use crate::calls::{desc_among, values_of};
 use crate::parts::script_call;
-use sg_base::{NoMemory, Reply, Stops};
-use sg_facts::Service;
-use sg_script::Script;
-use sg_seat::Phase;
+use sg_facts::{NoMemory, Reply, Service, Stops};
+use sg_plain::{Phase, Script};
 use sg_world::{Did, World};
 use std::alloc::Global;
 

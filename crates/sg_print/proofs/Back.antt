@@ -4,7 +4,7 @@ use Rattle.std.specs.Prelude.{All}
 use Rattle.std.specs.List.{flat_map}
 use Rattle.std.specs.Option.{option_map}
 use Rattle.std.proofs.lemmas.List.Elements.{All-head, All-tail, All-cons}
-use Rattle.sg_lex.specs.Lexeme.{Lexeme}
+use Rattle.sg_parse.specs.sg_lex.Lexeme.{Lexeme}
 use Rattle.sg_parse.specs.declared.tree.Facts.{Facts}
 use Rattle.sg_parse.specs.declared.tree.Statement.{Statement}
 use Rattle.sg_parse.specs.declared.tree.Statement.TheVariants.{One, Two, Proto}
@@ -18,7 +18,7 @@ use Rattle.sg_parse.specs.declared.words.Sort.TheVariants.{Name, One as one_word
 use Rattle.sg_parse.specs.Grammar.Named.{Named}
 use Rattle.sg_parse.specs.Grammar.Words.{is_of}
 use Rattle.sg_parse.specs.Grammar.Pieces.{Piece, word, mark, name, IsPiece}
-use Rattle.sg_lex.specs.Sentences.{ArePieces}
+use Rattle.sg_parse.specs.sg_lex.Sentences.{ArePieces}
 use Rattle.sg_parse.specs.Grammar.Sentence.{open_brace, equals, open_bracket, close_bracket, comma, semicolon, star, fact_pieces, facts_pieces, type_pieces, form_pieces, param_pieces, more_params, params_pieces, returned_pieces, ret_pieces, statement_pieces, tree_pieces, IsType, IsRet, IsStatement, IsWellFormed}
 use Rattle.sg_print.specs.Plain.{plain_name, plain_type, plain_param, plain_ret, plain_statement, plain_facts, plain}
 use Rattle.sg_print.proofs.Leads.{AreLike}

@@ -1,12 +1,12 @@
 -- A printed tree reads back.
 use Rattle.std.proofs.Common.{ℕ, suc, ◌≡◌, List, [], ◌∷◌, Ok, length, sym, ap, subst, arith}
-use Rattle.sg_lex.specs.declared.token.TokenKind.TheVariants.{Word}
-use Rattle.sg_lex.specs.Lexeme.{Lexeme}
-use Rattle.sg_lex.specs.Table.{IsToken}
-use Rattle.sg_lex.specs.Tokens.{Answer, answers_of}
-use Rattle.sg_lex.specs.Sentences.{Accepts, answered, ArePieces}
-use Rattle.sg_lex.specs.Reading.{IsReading, ends, passes, gives, faults}
-use Rattle.sg_lex.proofs.Readings.{reads}
+use Rattle.sg_parse.specs.sg_lex.declared.token.TokenKind.TheVariants.{Word}
+use Rattle.sg_parse.specs.sg_lex.Lexeme.{Lexeme}
+use Rattle.sg_parse.specs.sg_lex.Table.{IsToken}
+use Rattle.sg_parse.specs.sg_lex.Tokens.{Answer, answers_of}
+use Rattle.sg_parse.specs.sg_lex.Sentences.{Accepts, answered, ArePieces}
+use Rattle.sg_parse.specs.sg_lex.Reading.{IsReading, ends, passes, gives, faults}
+use Rattle.sg_parse.proofs.sg_lex.Readings.{reads}
 use Rattle.sg_parse.specs.declared.tree.Tree.{Tree}
 use Rattle.sg_parse.specs.Grammar.Pieces.{Piece, word, mark, name, IsPiece}
 use Rattle.sg_parse.specs.Grammar.Sentence.{tree_pieces, IsSentence}

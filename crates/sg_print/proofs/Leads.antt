@@ -1,16 +1,16 @@
 -- A text that a lexer reads as given pieces.
 use Rattle.std.proofs.Common.{ℕ, ◌+◌, ◌≡◌, true, false, List, [], ◌∷◌, ◌++◌, Ok, map, length, drop, refl, ap, ◌∙◌}
 use Rattle.std.proofs.lemmas.List.{drop_at, take_at}
-use Rattle.sg_lex.specs.declared.token.TokenKind.TheVariants.{Word, Mark}
-use Rattle.sg_lex.specs.declared.front.Front.TheVariants.{Token}
-use Rattle.sg_lex.specs.Lexeme.{Lexeme}
-use Rattle.sg_lex.specs.Bytes.{is_blank, is_in_word, is_mark}
-use Rattle.sg_lex.specs.Table.{IsWord}
-use Rattle.sg_lex.specs.Fronts.{front_of}
-use Rattle.sg_lex.specs.Tokens.{answers_behind}
-use Rattle.sg_lex.proofs.Steps.{answers_after, answers_step}
-use Rattle.sg_lex.proofs.Forward.{front_word, front_mark, front_blank}
-use Rattle.sg_lex.proofs.Runs.{all_exact, all_whole}
+use Rattle.sg_parse.specs.sg_lex.declared.token.TokenKind.TheVariants.{Word, Mark}
+use Rattle.sg_parse.specs.sg_lex.declared.front.Front.TheVariants.{Token}
+use Rattle.sg_parse.specs.sg_lex.Lexeme.{Lexeme}
+use Rattle.sg_parse.specs.sg_lex.Bytes.{is_blank, is_in_word, is_mark}
+use Rattle.sg_parse.specs.sg_lex.Table.{IsWord}
+use Rattle.sg_parse.specs.sg_lex.Fronts.{front_of}
+use Rattle.sg_parse.specs.sg_lex.Tokens.{later_answers}
+use Rattle.sg_parse.proofs.sg_lex.Steps.{answers_after, answers_step}
+use Rattle.sg_parse.proofs.sg_lex.Forward.{front_word, front_mark, front_blank}
+use Rattle.sg_parse.proofs.sg_lex.Runs.{all_exact, all_whole}
 use Rattle.sg_parse.specs.declared.words.Sort.{Sort}
 use Rattle.sg_parse.specs.Grammar.Named.{Named}
 use Rattle.sg_parse.specs.Grammar.Words.{is_of}
@@ -32,7 +32,7 @@ AreLike (token ∷ tokens) [] = ⊥
 pub record Leads (text : List ℕ) (pieces : List Piece) : Type 0 where
   pub tokens : ℕ → List Lexeme
   pub like : (at : ℕ) → AreLike (tokens at) pieces
-  pub answers : (at : ℕ) → answers_behind 0 at text ≡ map Ok (tokens at)
+  pub answers : (at : ℕ) → later_answers 0 at text ≡ map Ok (tokens at)
 
 -- no word goes on with the first byte of a text
 abbrev pub Stops : List ℕ → Type 0
@@ -70,9 +70,9 @@ word_leads w rest piece pieces t s l k = record {
   like = λ at. (l at, k.like (at + length w));
   answers = λ at.
       answers_step at (w ++ rest) ∙ (ap (λ f. answers_after f at (w ++ rest)) (word_first w rest t s)
-      ∙ (ap (λ xs. Ok (record { kind = Word; bytes = xs; at = at }) ∷ answers_behind 0 (at + length w) (drop (length w) (w ++ rest)))
+      ∙ (ap (λ xs. Ok (record { kind = Word; bytes = xs; at = at }) ∷ later_answers 0 (at + length w) (drop (length w) (w ++ rest)))
       (take_at w rest (length w) refl)
-      ∙ (ap (λ xs. Ok (record { kind = Word; bytes = w; at = at }) ∷ answers_behind 0 (at + length w) xs) (drop_at w rest (length w) refl)
+      ∙ (ap (λ xs. Ok (record { kind = Word; bytes = w; at = at }) ∷ later_answers 0 (at + length w) xs) (drop_at w rest (length w) refl)
       ∙ ap (λ xs. Ok (record { kind = Word; bytes = w; at = at }) ∷ xs) (k.answers (at + length w)))));
 }
 

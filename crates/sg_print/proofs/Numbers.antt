@@ -17,7 +17,7 @@ numbers_last n zero = let none : n ≡ n + 0 = omega arith in ap (λ m. m ∷ []
 numbers_last n (suc k) = let next : (n + 1) + k ≡ n + suc k = omega arith in ap (λ l. n ∷ l) (numbers_last (n + 1) k) ∙ ap (λ m. n ∷ fun_numbers_from (n + 1) k ++ m ∷ []) next
 
 module _ (part : ℕ → List ℕ) (initial : List ℕ) where
-  -- the parts of the first numbers stand behind what was there
+  -- the parts of the first numbers stand after what was there
   abbrev pub Stands : List ℕ → ℕ → Type 0
   Stands out n = out ≡ initial ++ flat_map part (fun_numbers_from 1 (n - 1))
 
@@ -89,7 +89,7 @@ pub name_more : (old new : List (Bor (List ℕ))) (n : Bor (List ℕ)) (total : 
 name_more old new n total rest is stands =
     stands ∙ ap (λ l. l ++ rest) (sym (ap (map (λ m. m.now)) is ∙ map-append (λ m. m.now) old (n ∷ [])))
 
--- names behind the first one, each behind a comma
+-- names after the first one, each after a comma
 pub joined : (first : Bor (List ℕ)) (more names : List (Bor (List ℕ))) (initial out : List ℕ) → names ≡ first ∷ more → out ≡ (initial ++ first.now) ++ flat_map (λ n. codes "," ++ n.now) more
     → out ≡ initial ++ set_word (map (λ n. n.now) names)
 joined first more names initial out is stands =

@@ -4,7 +4,7 @@ use Rattle.std.proofs.lemmas.Bool.{ne_eqb}
 use Rattle.std.specs.List.{flat_map}
 use Rattle.std.specs.Prelude.{All, ◌==◌}
 use Rattle.std.proofs.lemmas.List.Elements.{All-head, All-tail}
-use Rattle.sg_lex.specs.Table.{IsWord}
+use Rattle.sg_parse.specs.sg_lex.Table.{IsWord}
 use Rattle.sg_parse.specs.declared.tree.Facts.{Facts}
 use Rattle.sg_parse.specs.declared.tree.Statement.{Statement}
 use Rattle.sg_parse.specs.declared.tree.Statement.TheVariants.{One, Two, Proto}

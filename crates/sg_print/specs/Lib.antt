@@ -2,3 +2,5 @@ pub mod Plain
 pub mod Printed
 pub mod PrintsBack
 pub mod TablesText
+pub use Rattle.sg_parse.specs.sg_lex
+pub use Rattle.sg_parse.specs as sg_parse

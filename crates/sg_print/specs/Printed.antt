@@ -21,11 +21,11 @@ names_text names = join_by (λ n. n.bytes) (codes " ") names
 abbrev pub stars_text : ℕ → List ℕ
 stars_text n = 0x20 ∷ replicate n 0x2A
 
--- a type before a name or a form: a space stands behind its names, and its stars directly before what follows
+-- a type before a name or a form: a space stands after its names, and its stars directly before what follows
 abbrev pub type_text : TypeName → List ℕ
 type_text ty = names_text ty.names ++ stars_text ty.stars
 
--- a type before a comma: no space stands behind its names where it has no stars
+-- a type before a comma: no space stands after its names where it has no stars
 abbrev pub type_before_comma : TypeName → List ℕ
 type_before_comma ty = names_text ty.names ++ (if ty.stars == 0 then [] else stars_text ty.stars)
 
@@ -41,7 +41,7 @@ param_text p = type_text p.ty ++ form_text p.form p.name
 abbrev pub params_text : List Param → List ℕ
 params_text params = join_by param_text (codes ", ") params
 
--- what becomes of a returned word, with its type and its field; a space stands behind it
+-- what becomes of a returned word, with its type and its field; a space stands after it
 abbrev pub returned_text : List ℕ → TypeName → Named → List ℕ
 returned_text what ty field = concat (what ∷ codes "(" ∷ type_before_comma ty ∷ codes ", " ∷ field.bytes ∷ codes ") " ∷ [])
 
@@ -58,7 +58,7 @@ statement_text (Two word first second) =
 statement_text (Proto ret n params) =
     concat (ret_text ret ∷ n.bytes ∷ codes "(" ∷ params_text params ∷ codes ");" ∷ line_end ∷ [])
 
--- the lines of the facts: each fact stands behind four spaces
+-- the lines of the facts: each fact stands after four spaces
 abbrev pub facts_text : Facts → List ℕ
 facts_text f = concat (
     codes "service_global_info = {" ∷ line_end

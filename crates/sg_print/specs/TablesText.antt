@@ -33,11 +33,11 @@ kind_word Parent = codes "parent"
 kind_word Word = codes "word"
 kind_word Text = codes "text"
 
--- what parameters are, each behind a space
+-- what parameters are, each after a space
 abbrev pub kinds_text : List Kind → List ℕ
 kinds_text kinds = flat_map (λ kind. codes " " ++ kind_word kind) kinds
 
--- a word behind a space, where a function has a flag
+-- a word after a space, where a function has a flag
 abbrev pub flag_piece : Bool → List ℕ → List ℕ
 flag_piece true word = codes " " ++ word
 flag_piece false word = []
@@ -78,11 +78,11 @@ effect_word kinds AddRet = codes "+ret"
 effect_word kinds Clear = codes "=0"
 effect_word kinds SubOne = codes "-1"
 
--- what is done to one field, behind a space
+-- what is done to one field, after a space
 abbrev pub effect_piece : List Field → List Kind → ℕ × Effect → List ℕ
 effect_piece fields kinds e = concat (codes " " ∷ field_name fields e.0 ∷ effect_word kinds e.1 ∷ [])
 
--- what a function does to fields, each behind a space
+-- what a function does to fields, each after a space
 unfoldable pub effects_text : List Field → Fun → List ℕ
 effects_text fields f = flat_map (effect_piece fields f.kinds) f.effects
 
@@ -113,17 +113,17 @@ numbers = fun_numbers_from 1 32
 abbrev pub fun_lines : Declared → List ℕ
 fun_lines i = flat_map (λ n. if declares i n then fun_line i.facts n (fun_at i.facts.funs n) else []) numbers
 
--- the line of a pair of functions behind a word
+-- the line of a pair of functions after a word
 abbrev pub pair_line : List ℕ → List Fun → ℕ → ℕ → List ℕ
 pair_line word funs a b = concat (word ∷ codes " " ∷ (fun_at funs a).name ∷ codes " " ∷ (fun_at funs b).name ∷ line_end ∷ [])
 
 -- the lines of the listed pairs with this first function, by the second number
-abbrev pub pairs_behind : List ℕ → List Fun → List (ℕ × ℕ) → ℕ → List ℕ
-pairs_behind word funs pairs a = flat_map (λ b. if has_pair pairs a b then pair_line word funs a b else []) numbers
+abbrev pub pairs_from : List ℕ → List Fun → List (ℕ × ℕ) → ℕ → List ℕ
+pairs_from word funs pairs a = flat_map (λ b. if has_pair pairs a b then pair_line word funs a b else []) numbers
 
 -- the lines of all listed pairs, by the first and then by the second number
 abbrev pub pair_lines : List ℕ → List Fun → List (ℕ × ℕ) → List ℕ
-pair_lines word funs pairs = flat_map (pairs_behind word funs pairs) numbers
+pair_lines word funs pairs = flat_map (pairs_from word funs pairs) numbers
 
 -- the names of the fields of a set, by its number
 abbrev pub set_names : List Field → ℕ → List (List ℕ)
@@ -135,7 +135,7 @@ abbrev pub set_word : List (List ℕ) → List ℕ
 set_word [] = codes "-"
 set_word (name ∷ names) = name ++ flat_map (λ n. codes "," ++ n) names
 
--- the names of functions, each behind a space
+-- the names of functions, each after a space
 abbrev pub walk_names : List Fun → List ℕ → List ℕ
 walk_names funs walk = flat_map (λ n. codes " " ++ (fun_at funs n).name) walk
 

@@ -5,8 +5,7 @@ ghost use Rattle.sg_facts.specs.Facts.{facts_of, fun_at, fun_of_shape};
 ghost use Rattle.sg_print.specs.TablesText.{called_text, effect_piece, effect_word, effects_text, flag_piece, flag_pieces, fun_line, kind_word, kinds_text, left_text, param_number, state_word};
 
 use crate::parts::put;
-use sg_base::{Bytes, NoMemory};
-use sg_facts::{Effect, FieldShape, FunShape, Kind, Leaves, Shape, field_name};
+use sg_facts::{Bytes, Effect, FieldShape, FunShape, Kind, Leaves, NoMemory, Shape, field_name};
 use std::alloc::Global;
 
 /// Adds the line of the function of a number.
@@ -59,7 +58,7 @@ fn put_number(out: &mut Bytes, alloc: Global, number: usize) -> Result<(), NoMem
     Ok(())
 }
 
-// Adds what parameters are, each behind a space.
+// Adds what parameters are, each after a space.
 fn put_kinds(out: &mut Bytes, kinds: &[Kind]) -> Result<(), NoMemory>
     ensures { OnOk result (out.new ≡ out.old ++ kinds_text kinds.now) }
 {
@@ -81,7 +80,7 @@ fn kind_word(kind: Kind) -> &'static [u8]
     }
 }
 
-// Adds the flags of a function, each behind a space.
+// Adds the flags of a function, each after a space.
 #[tactic(auto, unfolding(crate::specs::TablesText::flag_pieces))]
 fn put_flags(out: &mut Bytes, fun: &FunShape) -> Result<(), NoMemory>
     ensures { OnOk result (out.new ≡ out.old ++ flag_pieces (fun_of_shape fun.now)) }
@@ -95,7 +94,7 @@ fn put_flags(out: &mut Bytes, fun: &FunShape) -> Result<(), NoMemory>
     put_flag(out, fun.uses_file(), b"data")
 }
 
-// Adds a flag behind a space, where a function has it.
+// Adds a flag after a space, where a function has it.
 fn put_flag(out: &mut Bytes, has: bool, word: &[u8]) -> Result<(), NoMemory>
     ensures { OnOk result (out.new ≡ out.old ++ flag_piece has word.now) }
 {
@@ -170,7 +169,7 @@ fn put_change(
     }
 }
 
-// Adds an argument behind a word, by its number among the parameters.
+// Adds an argument after a word, by its number among the parameters.
 fn put_arg(
     out: &mut Bytes,
     alloc: Global,

@@ -15,5 +15,8 @@ mod tables;
 mod types;
 
 pub use laws::{places_are_not_printed, prints_parse_back};
+pub use sg_parse::{
+    LexFault, Lexer, ParseError, Ret, Statement, TokenKind, Tree, first_token, parse,
+};
 pub use statements::print;
 pub use tables::print_tables;

@@ -2,9 +2,9 @@
 ghost use Rattle.std.specs.Prelude.{◌≡◌, ◌++◌, ◌∷◌, OnOk, replicate};
 ghost use Rattle.std.specs.List.{flat_map};
 
-use sg_base::{Bytes, NoMemory};
+use sg_facts::{Bytes, NoMemory};
 
-/// Adds these parts at the end, one behind the other.
+/// Adds these parts at the end, one after the other.
 pub fn put(out: &mut Bytes, parts: &[&[u8]]) -> Result<(), NoMemory>
     ensures { OnOk result (out.new ≡ out.old ++ flat_map (λ part. part.now) parts.now) }
 {

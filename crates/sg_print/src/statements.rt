@@ -4,7 +4,7 @@ ghost use Rattle.sg_print.specs.Printed.{statement_text, facts_text, printed};
 
 use crate::parts::put;
 use crate::types::{put_params, put_ret};
-use sg_base::{Bytes, NoMemory};
+use sg_facts::{Bytes, NoMemory};
 use sg_parse::{Facts, Statement, Tree};
 use std::alloc::Global;
 

@@ -3,14 +3,13 @@ ghost use Rattle.std.specs.Prelude.{◌≡◌, ◌++◌, map, OnOk, IfOk};
 ghost use Rattle.std.specs.List.{flat_map};
 ghost use Rattle.sg_facts.specs.Facts.{facts_of, fun_at, fun_of_shape};
 ghost use Rattle.sg_facts.specs.Interface.{has_pair};
-ghost use Rattle.sg_print.specs.TablesText.{facts_lines, fun_lines, walk_names, pair_line, pair_lines, pairs_behind, set_names, set_word, tables_text, walk_line};
+ghost use Rattle.sg_print.specs.TablesText.{facts_lines, fun_lines, walk_names, pair_line, pair_lines, pairs_from, set_names, set_word, tables_text, walk_line};
 
 use crate::funs::put_fun;
 use crate::parts::put;
-use sg_base::{Bytes, NoMemory};
 use sg_facts::{
-    END_OF_FUNS, FieldShape, Interface, Shape, Tables, WalkLine, close_word, flag_word,
-    parents_word,
+    Bytes, END_OF_FUNS, FieldShape, Interface, NoMemory, Shape, Tables, WalkLine, close_word,
+    flag_word, parents_word,
 };
 use std::alloc::Global;
 
@@ -89,7 +88,7 @@ fn put_pairs_behind(
     pairs: &[(u8, u8)],
     first: u8,
 ) -> Result<(), NoMemory>
-    ensures { OnOk result (out.new ≡ out.old ++ pairs_behind word.now (facts_of shape.now).funs pairs.now first) }
+    ensures { OnOk result (out.new ≡ out.old ++ pairs_from word.now (facts_of shape.now).funs pairs.now first) }
 {
     'seconds: for second in 1..END_OF_FUNS {
         if has_pair(pairs, first, second) {
@@ -151,7 +150,7 @@ fn put_walk(out: &mut Bytes, alloc: Global, shape: &Shape, line: &WalkLine) -> R
     put(out, &[b"\n"])
 }
 
-// Adds the names of functions, each behind a space.
+// Adds the names of functions, each after a space.
 fn put_names(out: &mut Bytes, shape: &Shape, walk: &[u8]) -> Result<(), NoMemory>
     ensures { OnOk result (out.new ≡ out.old ++ walk_names (facts_of shape.now).funs walk.now) }
 {

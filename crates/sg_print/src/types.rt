@@ -4,7 +4,7 @@ ghost use Rattle.std.specs.List.{flat_map};
 ghost use Rattle.sg_print.specs.Printed.{names_text, type_text, type_before_comma, form_text, param_text, params_text, returned_text, ret_text};
 
 use crate::parts::{put, put_stars};
-use sg_base::{Bytes, NoMemory};
+use sg_facts::{Bytes, NoMemory};
 use sg_parse::{Name, Param, Ret, TypeName};
 
 // Adds names at the end, with a space between two.

@@ -3,8 +3,8 @@ use Rattle.std.proofs.Common.{◌≡◌, ℕ, ◌^◌, ◌<◌, ◌≤◌, Bool,
 use Rattle.std.specs.Prelude.{◌==◌, ◌||◌, nat_eq, nat_lt}
 use Rattle.std.specs.declared.option.Option.{Option}
 use Rattle.std.proofs.lemmas.Bool.Decides.{nat_tests}
-use Rattle.sg_base.specs.declared.call.Call.{Call}
-use Rattle.sg_base.specs.declared.reply.Code.TheVariants.{BadName, TooBig}
+use Rattle.sg_facts.specs.sg_base.declared.call.Call.{Call}
+use Rattle.sg_facts.specs.sg_base.declared.reply.Code.TheVariants.{BadName, TooBig}
 use Rattle.sg_facts.specs.declared.outcome.Outcome.{Outcome}
 use Rattle.sg_facts.specs.Counted.{most_counted, most_in}
 use Rattle.sg_facts.specs.Facts.{fun_at, takes_desc, takes_parent}

@@ -15,7 +15,7 @@ use Rattle.sg_ramfs.specs.RamfsFiles.{AreFilesIndexed, IsPrepared, index_at, pla
 
 -- ---- places
 
--- a place behind the first file
+-- a place after the first file
 pub behind : (found : Option ℕ) (at : ℕ) → option_map suc found ≡ Some at → (k : ℕ) × (found ≡ Some k) × (suc k ≡ at)
 behind None at is = absurd (cc is)
 behind (Some k) at is = (k, refl, cc is)
@@ -61,7 +61,7 @@ set_new (f ∷ files) path bytes none = elim (told f.0 path) [
       ∙ ap (λ b. cond b ((path, bytes) ∷ files) (f ∷ set_file files path bytes)) (sym apart.0)
 ]
 
--- and has the place behind all others
+-- and has the place after all others
 pub place_new : (files : List (List ℕ × List ℕ)) (new bytes path : List ℕ) → place_at files new ≡ None
     → place_at (files ++ (new, bytes) ∷ []) path ≡ cond (bytes_eq new path) (Some (length files)) (place_at files path)
 place_new [] new bytes path none = refl

@@ -5,15 +5,15 @@ use Rattle.std.specs.Option.{option_map}
 use Rattle.std.specs.declared.option.Option.{Option}
 use Rattle.std.proofs.lemmas.Bool.Decides.{nat_tests}
 use Rattle.std.proofs.lemmas.List.{length-take}
-use Rattle.sg_base.specs.declared.value.Value.{Value}
-use Rattle.sg_base.specs.declared.value.Value.TheVariants.{Word, Text}
-use Rattle.sg_base.specs.declared.call.Call.{Call}
-use Rattle.sg_base.specs.declared.reply.Code.TheVariants.{TooBig, BadName}
-use Rattle.sg_base.specs.declared.reply.Good.{Good}
-use Rattle.sg_base.specs.declared.reply.Reply.{Reply}
-use Rattle.sg_base.specs.declared.reply.Reply.TheVariants.{Ok, Refused}
-use Rattle.sg_base.specs.Reply.{FitsReplyRoom}
-use Rattle.sg_base.specs.Stops.{asked_after}
+use Rattle.sg_facts.specs.sg_base.declared.value.Value.{Value}
+use Rattle.sg_facts.specs.sg_base.declared.value.Value.TheVariants.{Word, Text}
+use Rattle.sg_facts.specs.sg_base.declared.call.Call.{Call}
+use Rattle.sg_facts.specs.sg_base.declared.reply.Code.TheVariants.{TooBig, BadName}
+use Rattle.sg_facts.specs.sg_base.declared.reply.Good.{Good}
+use Rattle.sg_facts.specs.sg_base.declared.reply.Reply.{Reply}
+use Rattle.sg_facts.specs.sg_base.declared.reply.Reply.TheVariants.{Ok, Refused}
+use Rattle.sg_facts.specs.sg_base.Reply.{FitsReplyRoom}
+use Rattle.sg_facts.specs.sg_base.Stops.{asked_after}
 use Rattle.sg_facts.specs.declared.outcome.Outcome.{Outcome}
 use Rattle.sg_facts.specs.declared.outcome.Outcome.TheVariants.{Replied, Blocks, Stopped, NoMemory}
 use Rattle.sg_facts.specs.Facts.{fun_at}

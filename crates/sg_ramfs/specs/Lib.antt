@@ -6,3 +6,4 @@ pub mod RamfsObject
 pub mod RamfsRow
 pub mod RamfsSound
 pub mod RamfsTable
+pub use Rattle.sg_slots.specs as sg_slots

@@ -10,7 +10,7 @@ use Rattle.sg_facts.specs.declared.shape.Effect.TheVariants.{SetArg, AddRet}
 abbrev pub tsplit : Fun
 tsplit = record no_fun { name = codes "tsplit"; kinds = Parent ∷ Text ∷ []; creation = true; effects = (0, SetArg 0) ∷ [] }
 
--- tread(id, n) reads at most n bytes, and moves its place behind them
+-- tread(id, n) reads at most n bytes, and moves its place after them
 abbrev pub tread : Fun
 tread = record no_fun {
   name = codes "tread";
@@ -20,7 +20,7 @@ tread = record no_fun {
   effects = (1, AddRet) ∷ [];
 }
 
--- twrite(id, bytes) writes bytes, and moves its place behind them
+-- twrite(id, bytes) writes bytes, and moves its place after them
 abbrev pub twrite : Fun
 twrite = record no_fun {
   name = codes "twrite";

@@ -1,6 +1,6 @@
 -- The row that an open file stands for.
 use Rattle.std.specs.Prelude.{[], ◌∷◌}
-use Rattle.sg_base.specs.declared.value.Value.TheVariants.{Word, Text}
+use Rattle.sg_facts.specs.sg_base.declared.value.Value.TheVariants.{Word, Text}
 use Rattle.sg_slots.specs.Slots.{Body}
 use Rattle.sg_ramfs.specs.declared.open_file.OpenFile.{OpenFile}
 

@@ -3,8 +3,7 @@ ghost use Rattle.std.specs.Prelude.{◌≡◌, ◌<◌, ◌≤◌, ◌+◌, [], 
 ghost use Rattle.sg_facts.specs.Object.{file_at, over, set_file};
 ghost use Rattle.sg_ramfs.specs.RamfsFiles.{files_of, place_at, AreFilesIndexed, IsPrepared};
 
-use sg_base::{NoMemory, TryCopy};
-use sg_facts::FilePath;
+use sg_facts::{FilePath, NoMemory, TryCopy};
 use std::alloc::Global;
 use std::collections::BTreeMap;
 

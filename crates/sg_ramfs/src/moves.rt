@@ -13,8 +13,7 @@ use crate::OpenFile;
 use crate::files::{OpenFiles, write_over};
 use crate::plan::{ReadPlan, WritePlan};
 use crate::tree::FileTree;
-use sg_base::{Bytes, Good, Point, Reply, Stops, TryCopy};
-use sg_facts::{FilePath, Outcome, Patch};
+use sg_facts::{Bytes, FilePath, Good, Outcome, Patch, Point, Reply, Stops, TryCopy};
 use sg_slots::Decision;
 use std::alloc::Global;
 

@@ -1,7 +1,7 @@
 // One open file.
 ghost use Rattle.std.specs.Prelude.{◌≡◌, IfOk};
 
-use sg_base::{Bytes, NoMemory, TryCopy};
+use sg_facts::{Bytes, NoMemory, TryCopy};
 use sg_slots::Slot;
 use std::alloc::Global;
 

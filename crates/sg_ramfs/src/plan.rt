@@ -12,8 +12,7 @@ ghost use Rattle.sg_ramfs.specs.Inside.RamfsTree.{tree_rows, IsTree};
 use crate::OpenFile;
 use crate::files::{OpenFiles, part_of};
 use crate::tree::FileTree;
-use sg_base::{Bytes, Call, Code, NoMemory, Value};
-use sg_facts::{FilePath, MOST_FILE, MOST_PATH, Patch};
+use sg_facts::{Bytes, Call, Code, FilePath, MOST_FILE, MOST_PATH, NoMemory, Patch, Value};
 use sg_slots::Decision;
 use std::alloc::Global;
 
@@ -82,7 +81,11 @@ fn has_slash(name: &[u8]) -> bool
 }
 
 /// Makes a descriptor below that of the call, or as a root.
-pub(crate) fn split(tree: &FileTree, alloc: Global, call: &Call) -> Result<Decision<OpenFile>, NoMemory>
+pub(crate) fn split(
+    tree: &FileTree,
+    alloc: Global,
+    call: &Call,
+) -> Result<Decision<OpenFile>, NoMemory>
     ensures decision { IfOk result (λ d. d ≡ on_open tree.now call.now) }
     ensures tree { IsTree tree.now }
 {

@@ -7,8 +7,7 @@ ghost use Rattle.sg_slots.specs.Carry.{Carries, IsAbout};
 ghost use Rattle.sg_ramfs.specs.Inside.RamfsTree.{IsTree, FitsTree, tree_rows};
 
 use crate::OpenFile;
-use sg_base::{NoMemory, Path, Stops};
-use sg_facts::Outcome;
+use sg_facts::{NoMemory, Outcome, Path, Stops};
 use sg_slots::{Decision, Slots, carry_out};
 use std::alloc::Global;
 use std::marker::Model;

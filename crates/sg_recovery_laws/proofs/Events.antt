@@ -1,6 +1,6 @@
 -- Where an item is noted last, and that the service was rebooted as it should be.
 use Rattle.std.proofs.Common.{◌≡◌, ℕ, false, ◌≢◌, List, [], ◌∷◌, ◌++◌, IsSome, refl, sym, subst}
-use Rattle.sg_base.specs.Lists.{Each}
+use Rattle.sg_facts.specs.sg_base.Lists.{Each}
 use Rattle.sg_facts.specs.declared.outcome.Outcome.{Outcome}
 use Rattle.sg_facts.specs.declared.outcome.Outcome.TheVariants.{Replied, Blocks, Stopped, NoMemory}
 use Rattle.sg_facts.specs.declared.trace.Item.{Item}
@@ -12,17 +12,17 @@ use Rattle.sg_facts.specs.Trace.{Boot}
 use Rattle.sg_hist.proofs.Growing.{places-more}
 use Rattle.sg_recovery_laws.proofs.Lists.{each_append, each_push, each_split}
 use Rattle.sg_recovery_laws.proofs.Same.{again, again_is}
-use Rattle.sg_hist.specs.Growing.{AreGrown, HasOneMore, IsGrown, booted, last_stop, noted, place_behind, struck}
-use Rattle.sg_hist.specs.Reading.{Position, behind, items_of, places_from, places_in}
+use Rattle.sg_hist.specs.Growing.{AreGrown, HasOneMore, IsGrown, booted, last_stop, noted, place_after, struck}
+use Rattle.sg_hist.specs.Reading.{Position, items_after, items_of, places_from, places_in}
 use Rattle.sg_hist.specs.Recovered.{AreStopped, AskedAs, IsLastIfStopped, IsRebooted, ends_stopped, is_stopped}
 
 -- ---- the place of the item that is noted last
 
-pub own_item : (older : List Item) (b : Boot) (boots : List Boot) (item : Item) → (place_behind older (b ∷ boots) item).item ≡ item
+pub own_item : (older : List Item) (b : Boot) (boots : List Boot) (item : Item) → (place_after older (b ∷ boots) item).item ≡ item
 own_item older b [] item = refl
 own_item older b (c ∷ boots) item = own_item (older ++ b.items) c boots item
 
-pub no_behind : (older : List Item) (b : Boot) (boots : List Boot) (item : Item) → behind (place_behind older (b ∷ boots) item) ≡ []
+pub no_behind : (older : List Item) (b : Boot) (boots : List Boot) (item : Item) → items_after (place_after older (b ∷ boots) item) ≡ []
 no_behind older b [] item = refl
 no_behind older b (c ∷ boots) item = no_behind (older ++ b.items) c boots item
 
@@ -85,7 +85,7 @@ stops_more (x ∷ []) item running all = (goes_on (item ∷ []) x.outcome runnin
 stops_more (x ∷ y ∷ items) item running all =
     (not_stopped y items ((y ∷ items) ++ item ∷ []) x.outcome all.0, stops_more (y ∷ items) item running all.1)
 
-last_more : (older : List Item) (b : Boot) (boots : List Boot) (item : Item) → ends_stopped (place_behind older (b ∷ boots) item).front ≡ false
+last_more : (older : List Item) (b : Boot) (boots : List Boot) (item : Item) → ends_stopped (place_after older (b ∷ boots) item).front ≡ false
     → Each (λ p. IsLastIfStopped p.rest p.item.outcome) (places_from older (b ∷ boots))
     → Each (λ p. IsLastIfStopped p.rest p.item.outcome) (places_from older (noted (b ∷ boots) item))
 last_more older b [] item running all =
@@ -116,13 +116,13 @@ stopped_booted b [] last are = (last, tt)
 stopped_booted b (c ∷ boots) last are = (are.0, stopped_booted c boots last are.1)
 
 pub reboots_noted : (facts : Facts) (ask : Table) (b : Boot) (boots : List Boot) (points later : ℕ) (item : Item)
-    → ends_stopped (place_behind [] (b ∷ boots) item).front ≡ false
-    → AskedAs facts ask (place_behind [] (b ∷ boots) item) (place_behind [] (b ∷ boots) item).item.tag
+    → ends_stopped (place_after [] (b ∷ boots) item).front ≡ false
+    → AskedAs facts ask (place_after [] (b ∷ boots) item) (place_after [] (b ∷ boots) item).item.tag
     → IsRebooted facts ask (record { boots = b ∷ boots; points = points })
     → IsRebooted facts ask (record { boots = noted (b ∷ boots) item; points = later })
 reboots_noted facts ask b boots points later item running asked r = record {
   booted = some b boots;
-  table = with_last item (place_behind [] (b ∷ boots) item) (λ p. AskedAs facts ask p p.item.tag) (λ p. AskedAs facts ask p p.item.tag)
+  table = with_last item (place_after [] (b ∷ boots) item) (λ p. AskedAs facts ask p p.item.tag) (λ p. AskedAs facts ask p p.item.tag)
       (places_from [] (b ∷ boots)) (places_from [] (noted (b ∷ boots) item)) (places-more [] b boots item) (asked_again facts ask item) asked r.table;
   stopped = stopped_noted b boots item r.stopped;
   last = last_more [] b boots item running r.last;

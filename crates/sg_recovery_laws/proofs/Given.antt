@@ -3,10 +3,10 @@ use Rattle.std.proofs.Common.{◌≡◌, ℕ, Bool, true, false, ◌==◌, not, 
 use Rattle.std.proofs.lemmas.Bool.Decides.{nat_tests}
 use Rattle.std.specs.List.{list_any}
 use Rattle.std.specs.Prelude.{find}
-use Rattle.sg_base.specs.Lists.{Each, When}
-use Rattle.sg_base.specs.declared.reply.Good.{Good}
-use Rattle.sg_base.specs.declared.reply.Reply.{Reply}
-use Rattle.sg_base.specs.declared.reply.Reply.TheVariants.{Ok, Refused}
+use Rattle.sg_facts.specs.sg_base.Lists.{Each, When}
+use Rattle.sg_facts.specs.sg_base.declared.reply.Good.{Good}
+use Rattle.sg_facts.specs.sg_base.declared.reply.Reply.{Reply}
+use Rattle.sg_facts.specs.sg_base.declared.reply.Reply.TheVariants.{Ok, Refused}
 use Rattle.sg_facts.specs.declared.entry.Entry.{Entry}
 use Rattle.sg_facts.specs.declared.outcome.Outcome.{Outcome}
 use Rattle.sg_facts.specs.declared.outcome.Patch.{Patch}
@@ -18,7 +18,7 @@ use Rattle.sg_facts.specs.Facts.{Facts, fun_at, is_visible}
 use Rattle.sg_facts.specs.Trace.{Boot}
 use Rattle.sg_hist.specs.Growing.{IsSameFor, IsSameId}
 use Rattle.sg_recovery_laws.proofs.Lists.{each_append, each_push, each_split}
-use Rattle.sg_hist.specs.Reading.{Position, behind, desc_in, desc_of, id_given, is_by_guard, is_made, is_item_of, is_ok, is_tagged, items_of, made_by, names_at, names_in, pair_of, places_from, places_in}
+use Rattle.sg_hist.specs.Reading.{Position, items_after, desc_in, desc_of, id_given, is_by_guard, is_made, is_item_of, is_ok, is_tagged, items_of, made_by, names_at, names_in, pair_of, places_from, places_in}
 use Rattle.sg_hist.specs.Recovered.{IsCommitted, is_clients, is_entered, is_replied, is_visible_reply}
 
 -- whether an entry has the number of a client's call
@@ -57,10 +57,10 @@ turned a n c s x y e = grind (arith, nat_tests, e)
 pub committed_given : (facts : Facts) (h : List Entry) (p : Position) → IsCommitted facts h p → IsGiven facts h p.item
 committed_given facts h p committed = by (is_visible_reply facts p.item) committed
   where
-    entry : (tag : Tag) → list_any (λ e. not (is_by_guard e.reply) && is_tagged e.call.client e.call.seq tag && not (list_any (is_item_of e) (behind p))) h ≡ true → HasEntry h tag
+    entry : (tag : Tag) → list_any (λ e. not (is_by_guard e.reply) && is_tagged e.call.client e.call.seq tag && not (list_any (is_item_of e) (items_after p))) h ≡ true → HasEntry h tag
     entry (Client client seq) any =
-        any_implies (λ e. not (is_by_guard e.reply) && is_tagged e.call.client e.call.seq (Client client seq) && not (list_any (is_item_of e) (behind p))) (is_numbered client seq) h
-        (λ e. turned (not (is_by_guard e.reply)) (not (list_any (is_item_of e) (behind p))) client seq e.call.client e.call.seq) any
+        any_implies (λ e. not (is_by_guard e.reply) && is_tagged e.call.client e.call.seq (Client client seq) && not (list_any (is_item_of e) (items_after p))) (is_numbered client seq) h
+        (λ e. turned (not (is_by_guard e.reply)) (not (list_any (is_item_of e) (items_after p))) client seq e.call.client e.call.seq) any
     entry (Walk id k client) any = tt
     entry (Load key client) any = tt
 

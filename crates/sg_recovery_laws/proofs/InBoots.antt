@@ -1,13 +1,13 @@
 -- Along a history the boots of the entries' items never go back, whatever comes next.
 use Rattle.std.proofs.Common.{◌≡◌, ℕ, ◌≤◌, Bool, true, false, cond, List, [], ◌∷◌, ◌++◌, Option, None, Some, length, length-append, refl, sym, ◌∙◌, ap, subst, arith}
 use Rattle.std.specs.Prelude.{find, reverse}
-use Rattle.sg_base.specs.Lists.{Each}
+use Rattle.sg_facts.specs.sg_base.Lists.{Each}
 use Rattle.sg_facts.specs.declared.entry.Entry.{Entry}
 use Rattle.sg_facts.specs.declared.trace.Item.{Item}
 use Rattle.sg_facts.specs.Trace.{Boot, Run}
 use Rattle.sg_hist.specs.Reading.{Position, is_by_guard, is_item_of, item_of, items_of, places_from, places_in, places_of}
 use Rattle.sg_hist.specs.Recovered.{AreInBoots, boot_start, start_of}
-use Rattle.sg_hist.specs.Growing.{IsGrown, IsInLast, IsOfNoEntry, booted, last_items, noted, older_items, place_behind, struck}
+use Rattle.sg_hist.specs.Growing.{IsGrown, IsInLast, IsOfNoEntry, booted, last_items, noted, older_items, place_after, struck}
 use Rattle.sg_recovery_laws.proofs.Events.{own_item}
 use Rattle.sg_hist.proofs.Growing.{places-booted, places-more, places-struck}
 use Rattle.sg_recovery_laws.proofs.Lists.{each_append}
@@ -28,11 +28,11 @@ older_struck before (b ∷ c ∷ d ∷ boots) stop = older_struck (before ++ b.i
 
 -- where an item is noted it stands in the last boot
 pub place_is : (before : List Item) (b : Boot) (boots : List Boot) (item : Item)
-    → place_behind before (b ∷ boots) item ≡ record { older = older_items before (b ∷ boots); front = last_items (b ∷ boots); item = item; rest = []; newer = [] }
+    → place_after before (b ∷ boots) item ≡ record { older = older_items before (b ∷ boots); front = last_items (b ∷ boots); item = item; rest = []; newer = [] }
 place_is before b [] item = refl
 place_is before b (c ∷ boots) item = place_is (before ++ b.items) c boots item
 
--- ---- no item stands behind more boots than those of the last
+-- ---- no item stands after more boots than those of the last
 
 abbrev IsBehind : ℕ → Position → Type 0
 IsBehind most p = length p.older ≤ most
@@ -118,7 +118,7 @@ boots_noted b boots points later item h none all = stays run now h 0 (each h non
     each [] none = tt
     each (e ∷ h) none = (
       λ n. ap (cond (is_by_guard e.reply) n) (grown (item_of run e) (item_of now e) n
-          (item_of-more item e (place_behind [] (b ∷ boots) item) run now (places-more [] b boots item) (own_item [] b boots item) none.0)),
+          (item_of-more item e (place_after [] (b ∷ boots) item) run now (places-more [] b boots item) (own_item [] b boots item) none.0)),
       each h none.1,
     )
 
@@ -143,8 +143,8 @@ boots_booted boots points later h all = same_starts (record { boots = boots; poi
 -- the entry of the item noted last
 pub own_last : (b : Boot) (boots : List Boot) (points later : ℕ) (item : Item) (e : Entry) → is_item_of e item ≡ true → IsInLast (record { boots = noted (b ∷ boots) item; points = later }) e
 own_last b boots points later item e own = record {
-  place = place_behind [] (b ∷ boots) item;
-  its = item_of-own item e (place_behind [] (b ∷ boots) item) (record { boots = b ∷ boots; points = points }) (record { boots = noted (b ∷ boots) item; points = later })
+  place = place_after [] (b ∷ boots) item;
+  its = item_of-own item e (place_after [] (b ∷ boots) item) (record { boots = b ∷ boots; points = points }) (record { boots = noted (b ∷ boots) item; points = later })
       (places-more [] b boots item) (own_item [] b boots item) own;
   older = ap (λ p. p.older) (place_is [] b boots item) ∙ sym (older_noted [] b boots item);
 }
@@ -154,7 +154,7 @@ pub still_last : (b : Boot) (boots : List Boot) (points later : ℕ) (item : Ite
     → IsInLast (record { boots = b ∷ boots; points = points }) e → IsInLast (record { boots = noted (b ∷ boots) item; points = later }) e
 still_last b boots points later item e none last =
     by (item_of now e) refl (subst (λ o. IsGrownTo item o (item_of now e)) last.its
-    (item_of-more item e (place_behind [] (b ∷ boots) item) (record { boots = b ∷ boots; points = points }) now (places-more [] b boots item) (own_item [] b boots item) none))
+    (item_of-more item e (place_after [] (b ∷ boots) item) (record { boots = b ∷ boots; points = points }) now (places-more [] b boots item) (own_item [] b boots item) none))
   where
     now : Run
     now = record { boots = noted (b ∷ boots) item; points = later }

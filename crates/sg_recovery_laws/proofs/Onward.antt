@@ -4,8 +4,8 @@ use Rattle.std.proofs.lemmas.List.Folds.{list_any-append}
 use Rattle.std.proofs.lemmas.List.Sorted.{IsPermutation-reverse, list_any-IsPermutation}
 use Rattle.std.specs.List.{list_all, list_any}
 use Rattle.std.specs.Prelude.{find, reverse}
-use Rattle.sg_base.specs.Lists.{Each, When}
-use Rattle.sg_base.specs.declared.call.Call.{Call}
+use Rattle.sg_facts.specs.sg_base.Lists.{Each, When}
+use Rattle.sg_facts.specs.sg_base.declared.call.Call.{Call}
 use Rattle.sg_facts.specs.declared.entry.Entry.{Entry}
 use Rattle.sg_facts.specs.declared.trace.Item.{Item}
 use Rattle.sg_facts.specs.declared.trace.Tag.{Tag}
@@ -19,8 +19,8 @@ use Rattle.sg_recovery_laws.proofs.Lists.{each_both, each_map, each_push}
 use Rattle.sg_recovery_laws.proofs.Same.{IsSame, again_is, demanded_same, tracked_same, walked_same}
 use Rattle.sg_recovery_laws.proofs.Served.{IsNamed, committed_stay, entered_later, item_of-own, items_stay, committed_later, has_same, order_push, order_stays}
 use Rattle.sg_recovery_laws.proofs.Stays.{same_committed, same_held, same_noted, same_refused}
-use Rattle.sg_hist.specs.Growing.{AreKept, HasOneMore, IsGrown, IsHeldReply, IsItemOf, IsLastCall, IsNextItem, IsRecovering, IsSettled, IsOfNoEntry, booted, last_stop, noted, place_behind, struck, IsSameId}
-use Rattle.sg_hist.specs.Reading.{Position, behind, is_by_guard, is_item_of, item_of, items_of, past, places_from, places_in, places_of, stands_before}
+use Rattle.sg_hist.specs.Growing.{AreKept, HasOneMore, IsGrown, IsHeldReply, IsItemOf, IsLastCall, IsNextItem, IsRecovering, IsSettled, IsOfNoEntry, booted, last_stop, noted, place_after, struck, IsSameId}
+use Rattle.sg_hist.specs.Reading.{Position, items_after, is_by_guard, is_item_of, item_of, items_of, past, places_from, places_in, places_of, stands_before}
 use Rattle.sg_hist.specs.Recovered.{AreInOrder, AreStopped, ComeBefore, HasItem, GivesEntry, IsCommitted, AskedAs, IsAdmitted, IsDemanded, IsItsCall, IsLastIfStopped, IsTrackedAt, IsUnderWay, IsWalked, Stubs, is_entered, is_visible_reply}
 
 -- ---- calls
@@ -38,11 +38,11 @@ its_again h u h' u' item p q kept g its = subst (λ i. IsItsCall h' u' i.shown i
 -- ---- an item that is of no entry
 
 pub noted_stays : (s : Stubs) (h : List Entry) (b : Boot) (boots : List Boot) (points later : ℕ) (u u' : List Call) (item : Item)
-    → IsOfNoEntry item h → is_visible_reply s.interface.facts item ≡ false → AreKept h u h u' → IsNextItem s h u' (place_behind [] (b ∷ boots) item)
+    → IsOfNoEntry item h → is_visible_reply s.interface.facts item ≡ false → AreKept h u h u' → IsNextItem s h u' (place_after [] (b ∷ boots) item)
     → IsRecovering s h (record { boots = b ∷ boots; points = points }) u
     → IsRecovering s h (record { boots = noted (b ∷ boots) item; points = later }) u'
 noted_stays s h b boots points later u u' item none hidden kept next r =
-    let last : Position = place_behind [] (b ∷ boots) item in
+    let last : Position = place_after [] (b ∷ boots) item in
     let before : List Position = places_from [] (b ∷ boots) in
     let now : List Position = places_from [] (noted (b ∷ boots) item) in
     let more : HasOneMore item last before now = places-more [] b boots item in
@@ -116,34 +116,34 @@ has_any facts h b boots points e a =
     ∙ found_any (λ p. is_item_of e p.item) (reverse ps) (was_found facts h e (find (λ p. is_item_of e p.item) (reverse ps)) a)
 
 come_last : (facts : Facts) (h : List Entry) (b : Boot) (boots : List Boot) (points : ℕ) (item : Item) (es : List Entry) → IsOfNoEntry item es
-    → Each (HasItem facts h (record { boots = b ∷ boots; points = points })) es → ComeBefore es (Some (place_behind [] (b ∷ boots) item))
+    → Each (HasItem facts h (record { boots = b ∷ boots; points = points })) es → ComeBefore es (Some (place_after [] (b ∷ boots) item))
 come_last facts h b boots points item [] none has = refl
 come_last facts h b boots points item (e ∷ es) none has =
-    let last : Position = place_behind [] (b ∷ boots) item in
+    let last : Position = place_after [] (b ∷ boots) item in
     let one : is_by_guard e.reply || stands_before last e ≡ true = by (is_by_guard e.reply) has.0 in
     ap (λ v. v && list_all (λ x. is_by_guard x.reply || stands_before last x) es) one ∙ come_last facts h b boots points item es none.1 has.1
   where
     last_of : Position
-    last_of = place_behind [] (b ∷ boots) item
+    last_of = place_after [] (b ∷ boots) item
 
-    none_at : is_item_of e last_of.item || list_any (is_item_of e) (behind last_of) ≡ false
-    none_at = ap (λ i. is_item_of e i || list_any (is_item_of e) (behind last_of)) (own_item [] b boots item)
+    none_at : is_item_of e last_of.item || list_any (is_item_of e) (items_after last_of) ≡ false
+    none_at = ap (λ i. is_item_of e i || list_any (is_item_of e) (items_after last_of)) (own_item [] b boots item)
         ∙ ap (λ v. is_item_of e item || list_any (is_item_of e) v) (no_behind [] b boots item) ∙ ap (λ v. v || false) none.0
 
     by : (g : Bool) → When (not g) (GivesEntry facts h e (item_of (record { boots = b ∷ boots; points = points }) e))
-        → g || (not g && list_any (is_item_of e) (past last_of) && not (is_item_of e last_of.item || list_any (is_item_of e) (behind last_of))) ≡ true
+        → g || (not g && list_any (is_item_of e) (past last_of) && not (is_item_of e last_of.item || list_any (is_item_of e) (items_after last_of))) ≡ true
     by true a = refl
-    by false a = ap (λ v. v && not (is_item_of e last_of.item || list_any (is_item_of e) (behind last_of)))
+    by false a = ap (λ v. v && not (is_item_of e last_of.item || list_any (is_item_of e) (items_after last_of)))
         (ap (list_any (is_item_of e)) (past_all [] b boots item) ∙ has_any facts h b boots points e a)
         ∙ ap not none_at
 
 pub committed_stays : (s : Stubs) (h : List Entry) (b : Boot) (boots : List Boot) (points later : ℕ) (u u' : List Call) (item : Item) (e : Entry)
-    → IsOfNoEntry item h → IsItemOf s.interface.facts h (place_behind [] (b ∷ boots) item) e → IsLastCall h u e.call → AreKept h u (h ++ e ∷ []) u'
-    → IsNextItem s (h ++ e ∷ []) u' (place_behind [] (b ∷ boots) item)
+    → IsOfNoEntry item h → IsItemOf s.interface.facts h (place_after [] (b ∷ boots) item) e → IsLastCall h u e.call → AreKept h u (h ++ e ∷ []) u'
+    → IsNextItem s (h ++ e ∷ []) u' (place_after [] (b ∷ boots) item)
     → IsRecovering s h (record { boots = b ∷ boots; points = points }) u
     → IsRecovering s (h ++ e ∷ []) (record { boots = noted (b ∷ boots) item; points = later }) u'
 committed_stays s h b boots points later u u' item e none of_it last_call kept next r =
-    let last : Position = place_behind [] (b ∷ boots) item in
+    let last : Position = place_after [] (b ∷ boots) item in
     let before : List Position = places_from [] (b ∷ boots) in
     let now : List Position = places_from [] (noted (b ∷ boots) item) in
     let more : HasOneMore item last before now = places-more [] b boots item in
@@ -195,13 +195,13 @@ committed_stays s h b boots points later u u' item e none of_it last_call kept n
     either true = refl
     either false = refl
 
-    last_entered : (last : Position) → is_item_of e last.item ≡ true → behind last ≡ [] → IsCommitted s.interface.facts (h ++ e ∷ []) last
+    last_entered : (last : Position) → is_item_of e last.item ≡ true → items_after last ≡ [] → IsCommitted s.interface.facts (h ++ e ∷ []) last
     last_entered last tagged nothing =
-        let own : not (is_by_guard e.reply) && is_item_of e last.item && not (list_any (is_item_of e) (behind last)) ≡ true
-        = ap (λ v. not v && is_item_of e last.item && not (list_any (is_item_of e) (behind last))) of_it.served
-        ∙ ap (λ v. v && not (list_any (is_item_of e) (behind last))) tagged ∙ ap (λ v. not (list_any (is_item_of e) v)) nothing in
+        let own : not (is_by_guard e.reply) && is_item_of e last.item && not (list_any (is_item_of e) (items_after last)) ≡ true
+        = ap (λ v. not v && is_item_of e last.item && not (list_any (is_item_of e) (items_after last))) of_it.served
+        ∙ ap (λ v. v && not (list_any (is_item_of e) (items_after last))) tagged ∙ ap (λ v. not (list_any (is_item_of e) v)) nothing in
         always (is_visible_reply s.interface.facts last.item)
-        (list_any-append (λ x. not (is_by_guard x.reply) && is_item_of x last.item && not (list_any (is_item_of x) (behind last))) h (e ∷ [])
+        (list_any-append (λ x. not (is_by_guard x.reply) && is_item_of x last.item && not (list_any (is_item_of x) (items_after last))) h (e ∷ [])
         ∙ ap (λ v. is_entered h last || (v || false)) own ∙ either (is_entered h last))
 
 -- ---- a refusal by the guard

@@ -8,7 +8,7 @@ use Rattle.sg_facts.specs.Facts.{Facts, is_visible}
 use Rattle.sg_facts.specs.Legal.{Table}
 use Rattle.sg_facts.specs.Trace.{Boot}
 use Rattle.sg_hist.specs.Growing.{asked_over, booted, last_items, last_stop, noted, struck}
-use Rattle.sg_hist.specs.Recovered.{ArePoints, ArePointsOf, IsCount, IsPointOf, IsStopOf, answer_to, asked_behind, asked_in, ends_committed, ends_stopped, is_clients, is_replied, is_stopped}
+use Rattle.sg_hist.specs.Recovered.{ArePoints, ArePointsOf, IsCount, IsPointOf, IsStopOf, answer_to, asked_with_commit, asked_in, ends_committed, ends_stopped, is_clients, is_replied, is_stopped}
 
 -- ---- an item more in a boot
 
@@ -20,14 +20,14 @@ points_push exact facts ask parts asked front [] item all one =
     (subst (λ f. IsPointOf exact parts asked (answer_to facts ask f item) item.tag item.shown.fun item.outcome item.points) (append-nil front) one, tt)
 points_push exact facts ask parts asked front (x ∷ items) item all one = (
   all.0,
-  points_push exact facts ask parts (asked_behind facts x) (front ++ x ∷ []) items item all.1
-      (subst (λ f. IsPointOf exact parts (asked_in facts (asked_behind facts x) items) (answer_to facts ask f item) item.tag item.shown.fun item.outcome item.points)
+  points_push exact facts ask parts (asked_with_commit facts x) (front ++ x ∷ []) items item all.1
+      (subst (λ f. IsPointOf exact parts (asked_in facts (asked_with_commit facts x) items) (answer_to facts ask f item) item.tag item.shown.fun item.outcome item.points)
       (sym (append_assoc front (x ∷ []) items)) one),
 )
 
-asked_push : (facts : Facts) (asked : ℕ) (items : List Item) (item : Item) → asked_in facts asked (items ++ item ∷ []) ≡ asked_behind facts item
+asked_push : (facts : Facts) (asked : ℕ) (items : List Item) (item : Item) → asked_in facts asked (items ++ item ∷ []) ≡ asked_with_commit facts item
 asked_push facts asked [] item = refl
-asked_push facts asked (x ∷ items) item = asked_push facts (asked_behind facts x) items item
+asked_push facts asked (x ∷ items) item = asked_push facts (asked_with_commit facts x) items item
 
 stopped_push : (items : List Item) (item : Item) → ends_stopped (items ++ item ∷ []) ≡ is_stopped item.outcome
 stopped_push [] item = refl
@@ -35,7 +35,7 @@ stopped_push (x ∷ []) item = refl
 stopped_push (x ∷ y ∷ items) item = stopped_push (y ∷ items) item
 
 -- an item that stopped is no reply
-stopped_asked : (facts : Facts) (item : Item) → is_stopped item.outcome ≡ true → asked_behind facts item ≡ item.points
+stopped_asked : (facts : Facts) (item : Item) → is_stopped item.outcome ≡ true → asked_with_commit facts item ≡ item.points
 stopped_asked facts item stopped = ap (λ b. if b then item.points + 1 else item.points) (hidden (is_clients item.tag) (is_visible facts item.shown.fun) item.outcome stopped)
   where
     hidden : (a b : Bool) (outcome : Outcome) → is_stopped outcome ≡ true → a && b && is_replied outcome ≡ false
@@ -50,7 +50,7 @@ stopped_asked facts item stopped = ap (λ b. if b then item.points + 1 else item
 
 pub points_noted : (exact : Bool) (facts : Facts) (ask : Table) (parts : ℕ → ℕ) (asked : ℕ) (b : Boot) (boots : List Boot) (points later : ℕ) (item : Item)
     → last_stop (b ∷ boots) ≡ None → is_stopped item.outcome ≡ false
-    → IsPointOf exact parts (asked_over facts asked (b ∷ boots)) (answer_to facts ask (last_items (b ∷ boots)) item) item.tag item.shown.fun item.outcome item.points → IsCount exact later (asked_behind facts item)
+    → IsPointOf exact parts (asked_over facts asked (b ∷ boots)) (answer_to facts ask (last_items (b ∷ boots)) item) item.tag item.shown.fun item.outcome item.points → IsCount exact later (asked_with_commit facts item)
     → ArePointsOf exact facts ask parts asked (b ∷ boots) points → ArePointsOf exact facts ask parts asked (noted (b ∷ boots) item) later
 points_noted exact facts ask parts asked b [] points later item running going one count all =
     let n : ℕ = asked_in facts asked b.items in (
@@ -110,7 +110,7 @@ points_struck exact facts ask parts asked b boots points later stop running at c
     from asked b (c ∷ d ∷ boots) running at all =
         (all.0, all.1, from (unwrap_or b.stop (asked_in facts asked b.items)) c (d ∷ boots) running at all.2)
 
--- a boot behind one that was stopped
+-- a boot after one that was stopped
 pub points_booted : (exact : Bool) (facts : Facts) (ask : Table) (parts : ℕ → ℕ) (asked : ℕ) (b : Boot) (boots : List Boot) (points : ℕ)
     → ArePointsOf exact facts ask parts asked (b ∷ boots) points → ArePointsOf exact facts ask parts asked (booted (b ∷ boots)) points
 points_booted exact facts ask parts asked b [] points all = (all.0, all.1, (tt, refl, all.2))

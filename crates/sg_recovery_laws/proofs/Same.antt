@@ -1,9 +1,9 @@
--- What is said of an item in its place stays where more stands behind it, as long as the same was committed before it.
+-- What is said of an item in its place stays where more stands after it, as long as the same was committed before it.
 use Rattle.std.proofs.Common.{◌≡◌, ℕ, Bool, true, ◌==◌, not, ◌&&◌, ◌||◌, List, [], ◌∷◌, Option, None, Some, cond, refl, sym, ◌∙◌, ap, subst}
 use Rattle.std.specs.List.{list_all, list_any}
 use Rattle.std.specs.Prelude.{filter, find}
-use Rattle.sg_base.specs.Lists.{Each}
-use Rattle.sg_base.specs.declared.call.Call.{Call}
+use Rattle.sg_facts.specs.sg_base.Lists.{Each}
+use Rattle.sg_facts.specs.sg_base.declared.call.Call.{Call}
 use Rattle.sg_facts.specs.declared.entry.Entry.{Entry}
 use Rattle.sg_facts.specs.declared.row.Row.{Row}
 use Rattle.sg_facts.specs.declared.tables.WalkLine.{WalkLine}
@@ -37,7 +37,7 @@ find_same f g (x ∷ xs) same = ap (λ b. cond b (Some x) (find f xs)) (same x) 
 
 -- ---- places
 
--- a place with other items behind it
+-- a place with other items after it
 abbrev pub again : Position → List Item → List Item → Position
 again p r n = record { older = p.older; front = p.front; item = p.item; rest = r; newer = n }
 
@@ -49,7 +49,7 @@ again_is item p q g =
     place : List Item → List Item → Item → Position
     place older front i = record { older = older; front = front; item = i; rest = q.rest; newer = q.newer }
 
--- what an item rests on is the same in two histories, with other items behind it
+-- what an item rests on is the same in two histories, with other items after it
 pub record IsSame (facts : Facts) (walks : List WalkLine) (h : List Entry) (u : List Call) (h' : List Entry) (u' : List Call) (p : Position) (r n : List Item) : Type 0 where
   pub object : object_before facts h' (again p r n) ≡ object_before facts h p
   pub names : names_at facts h' p.front ≡ names_at facts h p.front

@@ -4,7 +4,7 @@ use Rattle.std.proofs.lemmas.Grind.{reverse_onto}
 use Rattle.std.proofs.lemmas.List.Folds.{list_any-append}
 use Rattle.std.specs.List.{list_all, list_any}
 use Rattle.std.specs.Prelude.{find, reverse}
-use Rattle.sg_base.specs.Lists.{Each, When}
+use Rattle.sg_facts.specs.sg_base.Lists.{Each, When}
 use Rattle.sg_facts.specs.declared.entry.Entry.{Entry}
 use Rattle.sg_facts.specs.declared.trace.Item.{Item}
 use Rattle.sg_facts.specs.Facts.{Facts, is_visible}
@@ -13,10 +13,10 @@ use Rattle.sg_hist.proofs.Growing.{both_grown}
 use Rattle.sg_recovery_laws.proofs.Lists.{each_push}
 use Rattle.sg_recovery_laws.proofs.Stays.{stands_each}
 use Rattle.sg_hist.specs.Growing.{AreGrown, HasOneMore, IsGrown, IsOfNoEntry}
-use Rattle.sg_hist.specs.Reading.{Position, behind, is_by_guard, is_item_of, item_of, names_at, places_of, stands_before}
+use Rattle.sg_hist.specs.Reading.{Position, items_after, is_by_guard, is_item_of, item_of, names_at, places_of, stands_before}
 use Rattle.sg_hist.specs.Recovered.{AreInOrder, ComeBefore, HasItem, GivesEntry, IsCommitted, IsReplyOf, is_entered, is_visible_reply}
 
--- ---- lists from behind
+-- ---- lists from after
 
 reverse_push : {A : Type 0} (xs : List A) (x : A) → reverse (xs ++ x ∷ []) ≡ x ∷ reverse xs
 reverse_push [] x = refl
@@ -70,7 +70,7 @@ found_grown item e (p ∷ ps) (q ∷ qs) g =
     by rest true = g.0
     by rest false = rest
 
--- of places one of which was added behind, the item of an entry is the last one's, or it is where it was
+-- of places one of which was added after, the item of an entry is the last one's, or it is where it was
 find_last : (e : Entry) (grown : List Position) (last : Position) → find (λ p. is_item_of e p.item) (reverse (grown ++ last ∷ []))
     ≡ cond (is_item_of e last.item) (Some last) (find (λ p. is_item_of e p.item) (reverse grown))
 find_last e grown last = ap (find (λ p. is_item_of e p.item)) (reverse_push grown last)
@@ -92,7 +92,7 @@ item_of-own item e last run later more own one =
 
 -- ---- entries have their items
 
--- the names behind a place are the same in two histories
+-- the names after a place are the same in two histories
 abbrev pub IsNamed : Facts → List Entry → List Entry → Position → Type 0
 IsNamed facts h h' p = names_at facts h' (p.front ++ p.item ∷ []) ≡ names_at facts h (p.front ++ p.item ∷ [])
 
@@ -143,13 +143,13 @@ has_same facts h h' run named e has =
 
 -- no item more is of an entry that has another
 behind_more : (item : Item) (p q : Position) (e : Entry) → IsGrown item p q → is_item_of e item ≡ false
-    → (not (is_by_guard e.reply) && is_item_of e q.item && not (list_any (is_item_of e) (behind q)))
-    ≡ (not (is_by_guard e.reply) && is_item_of e p.item && not (list_any (is_item_of e) (behind p)))
+    → (not (is_by_guard e.reply) && is_item_of e q.item && not (list_any (is_item_of e) (items_after q)))
+    ≡ (not (is_by_guard e.reply) && is_item_of e p.item && not (list_any (is_item_of e) (items_after p)))
 behind_more item p q e g none =
-    let later : list_any (is_item_of e) (behind q) ≡ list_any (is_item_of e) (behind p)
-    = ap (list_any (is_item_of e)) g.behind_it ∙ list_any-append (is_item_of e) (behind p) (item ∷ []) ∙ ap (λ b. list_any (is_item_of e) (behind p) || (b || false)) none
-    ∙ or_none (list_any (is_item_of e) (behind p)) in
-    ap (λ i. not (is_by_guard e.reply) && is_item_of e i && not (list_any (is_item_of e) (behind q))) g.own
+    let later : list_any (is_item_of e) (items_after q) ≡ list_any (is_item_of e) (items_after p)
+    = ap (list_any (is_item_of e)) g.behind_it ∙ list_any-append (is_item_of e) (items_after p) (item ∷ []) ∙ ap (λ b. list_any (is_item_of e) (items_after p) || (b || false)) none
+    ∙ or_none (list_any (is_item_of e) (items_after p)) in
+    ap (λ i. not (is_by_guard e.reply) && is_item_of e i && not (list_any (is_item_of e) (items_after q))) g.own
     ∙ ap (λ b. not (is_by_guard e.reply) && is_item_of e p.item && not b) later
   where
     or_none : (b : Bool) → b || (false || false) ≡ b
@@ -160,12 +160,12 @@ entered_more : (item : Item) (p q : Position) (h : List Entry) → IsGrown item 
 entered_more item p q [] g none = refl
 entered_more item p q (e ∷ h) g none =
     ap (λ b. b || is_entered h q) (behind_more item p q e g none.0)
-    ∙ ap (λ b. (not (is_by_guard e.reply) && is_item_of e p.item && not (list_any (is_item_of e) (behind p))) || b) (entered_more item p q h g none.1)
+    ∙ ap (λ b. (not (is_by_guard e.reply) && is_item_of e p.item && not (list_any (is_item_of e) (items_after p))) || b) (entered_more item p q h g none.1)
 
 -- what was entered is so with entries more
 pub entered_later : (p : Position) (h es : List Entry) → is_entered h p ≡ true → is_entered (h ++ es) p ≡ true
 entered_later p h es is =
-    list_any-append (λ e. not (is_by_guard e.reply) && is_item_of e p.item && not (list_any (is_item_of e) (behind p))) h es ∙ ap (λ b. b || is_entered es p) is
+    list_any-append (λ e. not (is_by_guard e.reply) && is_item_of e p.item && not (list_any (is_item_of e) (items_after p))) h es ∙ ap (λ b. b || is_entered es p) is
 
 pub committed_stay : (facts : Facts) (item : Item) (h es : List Entry) (p q : Position) → IsGrown item p q → IsOfNoEntry item h → IsCommitted facts h p → IsCommitted facts (h ++ es) q
 committed_stay facts item h es p q g none committed =
@@ -213,7 +213,7 @@ order_stays facts item last run later earlier (e ∷ es) more own before none or
     by true come = come_stay item earlier (item_of run e) (item_of later e) before (item_of-more item e last run later more own none.0) come
     by false come = tt
 
--- an entry more comes behind all
+-- an entry more comes after all
 pub order_push : (facts : Facts) (run : Run) (earlier es : List Entry) (e : Entry) → AreInOrder facts run earlier es
     → When (is_visible facts e.call.fun && not (is_by_guard e.reply)) (ComeBefore (earlier ++ es) (item_of run e)) → AreInOrder facts run earlier (es ++ e ∷ [])
 order_push facts run earlier [] e order one =

@@ -4,8 +4,8 @@ use Rattle.std.proofs.lemmas.Bool.Decides.{nat_tests}
 use Rattle.std.proofs.lemmas.List.Folds.{list_any-append}
 use Rattle.std.specs.List.{Contains, list_all, list_any}
 use Rattle.std.specs.Prelude.{nat_le, nat_lt}
-use Rattle.sg_base.specs.Lists.{Each}
-use Rattle.sg_base.specs.declared.call.Call.{Call}
+use Rattle.sg_facts.specs.sg_base.Lists.{Each}
+use Rattle.sg_facts.specs.sg_base.declared.call.Call.{Call}
 use Rattle.sg_facts.specs.declared.entry.Entry.{Entry}
 use Rattle.sg_facts.specs.declared.tables.WalkLine.{WalkLine}
 use Rattle.sg_facts.specs.declared.trace.Item.{Item}
@@ -17,21 +17,21 @@ use Rattle.sg_recovery_laws.proofs.Lists.{each_map}
 use Rattle.sg_recovery_laws.proofs.Same.{IsSame, again, any_rebuilt, any_same, rebuilt_again}
 use Rattle.sg_hist.specs.Clients.{calls_of}
 use Rattle.sg_hist.specs.Growing.{AreKept, IsGrown, IsLastCall, IsOfNoEntry, IsSameId}
-use Rattle.sg_hist.specs.Reading.{Position, behind, entries_before, is_by_guard, is_made, is_item_of, is_rebuilt_at, is_whole_at, past, places_in, stands_before}
+use Rattle.sg_hist.specs.Reading.{Position, items_after, entries_before, is_by_guard, is_made, is_item_of, is_rebuilt_at, is_whole_at, past, places_in, stands_before}
 use Rattle.sg_hist.specs.Recovered.{IsUnderWay, calls_made}
 
 -- ---- what is whole
 
 whole_grown : (facts : Facts) (walks : List WalkLine) (h h' : List Entry) (item : Item) (p : Position) (r n : List Item) (id : ℕ)
     → list_any (is_made facts h' id) p.front ≡ list_any (is_made facts h id) p.front
-    → ((p q : Position) → IsGrown item p q → entries_before h' q ≡ entries_before h p) → r ++ n ≡ behind p ++ item ∷ []
+    → ((p q : Position) → IsGrown item p q → entries_before h' q ≡ entries_before h p) → r ++ n ≡ items_after p ++ item ∷ []
     → is_whole_at facts walks h' (again p r n) id ≡ is_whole_at facts walks h p id
 whole_grown facts walks h h' item p r n id made same more =
     ap (λ b. b || list_any (is_rebuilt_at facts walks h' id) (places_in p.older [] p.front (p.item ∷ (r ++ n)))) made
     ∙ ap (λ v. list_any (is_made facts h id) p.front || list_any (is_rebuilt_at facts walks h' id) (places_in p.older [] p.front (p.item ∷ v))) more
     ∙ ap (λ b. list_any (is_made facts h id) p.front || b)
-    (any_rebuilt facts walks h h' id item (places_in p.older [] p.front (p.item ∷ behind p)) (places_in p.older [] p.front ((p.item ∷ behind p) ++ item ∷ [])) same
-    (in_older p.older [] p.front (p.item ∷ behind p) item))
+    (any_rebuilt facts walks h h' id item (places_in p.older [] p.front (p.item ∷ items_after p)) (places_in p.older [] p.front ((p.item ∷ items_after p) ++ item ∷ [])) same
+    (in_older p.older [] p.front (p.item ∷ items_after p) item))
 
 -- ---- calls that are under way
 
@@ -109,7 +109,7 @@ under_more h e u u' q stands last kept client call w = record {
 -- ---- what an item rests on
 
 pub same_noted : (facts : Facts) (walks : List WalkLine) (h : List Entry) (u u' : List Call) (item : Item) (p : Position) (r n : List Item)
-    → IsOfNoEntry item h → r ++ n ≡ behind p ++ item ∷ [] → AreKept h u h u' → IsSame facts walks h u h u' p r n
+    → IsOfNoEntry item h → r ++ n ≡ items_after p ++ item ∷ [] → AreKept h u h u' → IsSame facts walks h u h u' p r n
 same_noted facts walks h u u' item p r n none more kept =
     let g : IsGrown item p (again p r n) = record { older = refl; front = refl; own = refl; behind_it = more } in
     record {
@@ -121,7 +121,7 @@ same_noted facts walks h u u' item p r n none more kept =
     }
 
 pub same_committed : (facts : Facts) (walks : List WalkLine) (h : List Entry) (u u' : List Call) (e : Entry) (item : Item) (p : Position) (r n : List Item)
-    → IsOfNoEntry item h → is_item_of e item ≡ true → r ++ n ≡ behind p ++ item ∷ [] → AreKept h u (h ++ e ∷ []) u'
+    → IsOfNoEntry item h → is_item_of e item ≡ true → r ++ n ≡ items_after p ++ item ∷ [] → AreKept h u (h ++ e ∷ []) u'
     → ((call : Call) → Contains (calls_made h u) call → call.client ≡ e.call.client → call.seq ≤ e.call.seq)
     → Each (IsGiven facts h) p.front → IsSame facts walks h u (h ++ e ∷ []) u' p r n
 same_committed facts walks h u u' e item p r n none own more kept last given =
@@ -151,11 +151,11 @@ same_refused facts walks h u u' e p guards kept =
       object = ap (object_of facts) (entries_before-refused p h e guards);
       names = names_same facts h (h ++ e ∷ []) p.front ids;
       made = made;
-      whole = λ id. ap (λ b. b || list_any (is_rebuilt_at facts walks (h ++ e ∷ []) id) (places_in p.older [] p.front (p.item ∷ behind p))) (made id)
+      whole = λ id. ap (λ b. b || list_any (is_rebuilt_at facts walks (h ++ e ∷ []) id) (places_in p.older [] p.front (p.item ∷ items_after p))) (made id)
           ∙ ap (λ b. list_any (is_made facts h id) p.front || b)
-          (any_same (is_rebuilt_at facts walks (h ++ e ∷ []) id) (is_rebuilt_at facts walks h id) (places_in p.older [] p.front (p.item ∷ behind p))
+          (any_same (is_rebuilt_at facts walks (h ++ e ∷ []) id) (is_rebuilt_at facts walks h id) (places_in p.older [] p.front (p.item ∷ items_after p))
           (λ x. rebuilt_again facts walks h (h ++ e ∷ []) id x x.rest x.newer (ap (object_of facts) (entries_before-refused x h e guards))));
-      under_way = under_more h e u u' p (ap (λ b. not b && list_any (is_item_of e) (past p) && not (list_any (is_item_of e) (p.item ∷ behind p))) guards)
+      under_way = under_more h e u u' p (ap (λ b. not b && list_any (is_item_of e) (past p) && not (list_any (is_item_of e) (p.item ∷ items_after p))) guards)
           (λ made has its. ap (λ b. b || nat_le made.seq e.call.seq) guards) kept;
     }
   where
@@ -223,8 +223,8 @@ same_held facts walks h u u' e p behind_it kept last given =
       object = ap (object_of facts) (entries_before-not_yet p h e behind_it);
       names = names_same facts h (h ++ e ∷ []) p.front ids;
       made = λ id. made_same facts h (h ++ e ∷ []) id p.front ids;
-      whole = λ id. ap (λ b. b || list_any (is_rebuilt_at facts walks (h ++ e ∷ []) id) (places_in p.older [] p.front (p.item ∷ behind p))) (made_same facts h (h ++ e ∷ []) id p.front ids)
-          ∙ ap (λ b. list_any (is_made facts h id) p.front || b) (rebuilt_earlier facts walks h e id p.older [] p.front (p.item ∷ behind p) behind_it);
+      whole = λ id. ap (λ b. b || list_any (is_rebuilt_at facts walks (h ++ e ∷ []) id) (places_in p.older [] p.front (p.item ∷ items_after p))) (made_same facts h (h ++ e ∷ []) id p.front ids)
+          ∙ ap (λ b. list_any (is_made facts h id) p.front || b) (rebuilt_earlier facts walks h e id p.older [] p.front (p.item ∷ items_after p) behind_it);
       under_way = under_more h e u u' p behind_it (λ made has its. later (is_by_guard e.reply) made.seq e.call.seq (last made has its)) kept;
     }
   where

@@ -1,7 +1,7 @@
 // What stays as it is where a run grows: an entry more, an item more, a stop, a boot.
 ghost use Rattle.std.specs.Prelude.{◌≡◌, ◌⊎◌, ◌+◌, ◌++◌, ◌∷◌, [], ℕ, Bool, List, None, Some, IsSome, false, true};
-ghost use Rattle.sg_base.specs.Lists.{Each};
-ghost use Rattle.sg_base.specs.declared.call.Call.{Call};
+ghost use Rattle.sg_facts.specs.sg_base.Lists.{Each};
+ghost use Rattle.sg_facts.specs.sg_base.declared.call.Call.{Call};
 ghost use Rattle.sg_facts.specs.declared.entry.Entry.{Entry};
 ghost use Rattle.sg_facts.specs.declared.trace.Item.{Item};
 ghost use Rattle.sg_facts.specs.Facts.{Facts};
@@ -9,19 +9,19 @@ ghost use Rattle.sg_facts.specs.Interface.{Declared};
 ghost use Rattle.sg_facts.specs.Legal.{IsLegal, Table, answer};
 ghost use Rattle.sg_facts.specs.Object.{object_of};
 ghost use Rattle.sg_facts.specs.Trace.{Boot, Run};
-ghost use Rattle.sg_hist.specs.Growing.{AreKept, HasOneMore, IsGrown, IsHeldReply, IsInLast, IsItemOf, IsLastCall, IsNextItem, IsRecovering, IsSettled, IsOfNoEntry, asked_over, booted, last_items, last_stop, noted, place_behind, struck};
+ghost use Rattle.sg_hist.specs.Growing.{AreKept, HasOneMore, IsGrown, IsHeldReply, IsInLast, IsItemOf, IsLastCall, IsNextItem, IsRecovering, IsSettled, IsOfNoEntry, asked_over, booted, last_items, last_stop, noted, place_after, struck};
 ghost use Rattle.sg_hist.specs.Reading.{Position, after_item, entries_before, is_by_guard, is_item_of, names_at, names_in, places_from, places_of, stands_before, value_at};
-ghost use Rattle.sg_hist.specs.Recovered.{AreInBoots, ArePointsOf, IsCount, IsPointOf, Stubs, answer_to, asked_behind, ends_committed, is_stopped, is_visible_reply};
+ghost use Rattle.sg_hist.specs.Recovered.{AreInBoots, ArePointsOf, IsCount, IsPointOf, Stubs, answer_to, asked_with_commit, ends_committed, is_stopped, is_visible_reply};
 
-/// A legal history stays so with an entry that is the answer behind it.
+/// A legal history stays so with an entry that is the answer after it.
 pub fn legal_stays()
     ensures { (i : Declared) (ask : Table) (history : List Entry) (e : Entry) → IsLegal i ask history
         → answer i ask (object_of i.facts history) e.call ≡ Some e.reply → IsLegal i ask (history ++ e ∷ []) }
 {}
 
 /// The entries before a place stay: where an item is noted that is none of theirs; where it is noted together with its entry;
-/// and where a refusal by the guard is appended. An entry that is appended behind its item, as a held reply is, is among those
-/// before the places behind that item, and before no other.
+/// and where a refusal by the guard is appended. An entry that is appended after its item, as a held reply is, is among those
+/// before the places after that item, and before no other.
 pub fn entries_stay()
     ensures noted { (item : Item) (p q : Position) (history : List Entry) → IsGrown item p q → IsOfNoEntry item history
         → entries_before history q ≡ entries_before history p }
@@ -35,15 +35,15 @@ pub fn entries_stay()
         → entries_before (history ++ e ∷ []) p ≡ entries_before history p }
 {}
 
-/// Where an item is noted, each place has it behind it, and it has a place of its own. A stop and a boot change no place.
+/// Where an item is noted, each place has it after it, and it has a place of its own. A stop and a boot change no place.
 pub fn places_grow()
     ensures noted { (older : List Item) (b : Boot) (boots : List Boot) (item : Item)
-        → HasOneMore item (place_behind older (b ∷ boots) item) (places_from older (b ∷ boots)) (places_from older (noted (b ∷ boots) item)) }
+        → HasOneMore item (place_after older (b ∷ boots) item) (places_from older (b ∷ boots)) (places_from older (noted (b ∷ boots) item)) }
     ensures stopped { (older : List Item) (boots : List Boot) (stop : ℕ) → places_from older (struck boots stop) ≡ places_from older boots }
     ensures again { (older : List Item) (boots : List Boot) → places_from older (booted boots) ≡ places_from older boots }
 {}
 
-/// What the service holds, and the names, behind an item more.
+/// What the service holds, and the names, after an item more.
 pub fn values_grow()
     ensures value { (facts : Facts) (front : List Item) (item : Item) → value_at facts (front ++ item ∷ []) ≡ after_item facts (value_at facts front) item }
     ensures names { (facts : Facts) (history : List Entry) (front : List Item) (item : Item)
@@ -53,17 +53,17 @@ pub fn values_grow()
 /// A run that recovers goes on to do so. It begins with a boot in which nothing was asked. Then these steps are made: an item is
 /// noted that belongs to no entry (a client's call that isn't committed, a call of a walk, or a load); an item is noted together
 /// with its entry. A refusal by the guard is appended. A held reply is committed:
-/// then what stands behind its item is to be settled anew. A call is made. The service stops, and is booted again. Beside that,
+/// then what stands after its item is to be settled anew. A call is made. The service stops, and is booted again. Beside that,
 /// what each item must meet is asked of it when it is noted, and never again.
 pub fn recovering_goes_on()
     ensures begins { (s : Stubs) → IsRecovering s [] (record { boots = booted []; points = 0 }) [] }
     ensures noted { (s : Stubs) (h : List Entry) (b : Boot) (boots : List Boot) (points later : ℕ) (u u' : List Call) (item : Item)
-        → IsOfNoEntry item h → is_visible_reply s.interface.facts item ≡ false → AreKept h u h u' → IsNextItem s h u' (place_behind [] (b ∷ boots) item)
+        → IsOfNoEntry item h → is_visible_reply s.interface.facts item ≡ false → AreKept h u h u' → IsNextItem s h u' (place_after [] (b ∷ boots) item)
         → IsRecovering s h (record { boots = b ∷ boots; points = points }) u
         → IsRecovering s h (record { boots = noted (b ∷ boots) item; points = later }) u' }
     ensures committed { (s : Stubs) (h : List Entry) (b : Boot) (boots : List Boot) (points later : ℕ) (u u' : List Call) (item : Item) (e : Entry)
-        → IsOfNoEntry item h → IsItemOf s.interface.facts h (place_behind [] (b ∷ boots) item) e → IsLastCall h u e.call → AreKept h u (h ++ e ∷ []) u'
-        → IsNextItem s (h ++ e ∷ []) u' (place_behind [] (b ∷ boots) item)
+        → IsOfNoEntry item h → IsItemOf s.interface.facts h (place_after [] (b ∷ boots) item) e → IsLastCall h u e.call → AreKept h u (h ++ e ∷ []) u'
+        → IsNextItem s (h ++ e ∷ []) u' (place_after [] (b ∷ boots) item)
         → IsRecovering s h (record { boots = b ∷ boots; points = points }) u
         → IsRecovering s (h ++ e ∷ []) (record { boots = noted (b ∷ boots) item; points = later }) u' }
     ensures refused { (s : Stubs) (h : List Entry) (run : Run) (u u' : List Call) (e : Entry) → is_by_guard e.reply ≡ true
@@ -87,7 +87,7 @@ pub fn points_go_on()
         → last_stop (b ∷ boots) ≡ None → is_stopped item.outcome ≡ false
         → IsPointOf exact parts (asked_over facts asked (b ∷ boots)) (answer_to facts ask (last_items (b ∷ boots)) item)
         item.tag item.shown.fun item.outcome item.points
-        → IsCount exact later (asked_behind facts item)
+        → IsCount exact later (asked_with_commit facts item)
         → ArePointsOf exact facts ask parts asked (b ∷ boots) points → ArePointsOf exact facts ask parts asked (noted (b ∷ boots) item) later }
     ensures within { (exact : Bool) (facts : Facts) (ask : Table) (parts : ℕ → ℕ) (asked : ℕ) (b : Boot) (boots : List Boot) (points later : ℕ) (item : Item)
         → last_stop (b ∷ boots) ≡ None → is_stopped item.outcome ≡ true

@@ -2,10 +2,10 @@
 ghost use Rattle.std.specs.Prelude.{◌≡◌, ◌≢◌, if◌then◌else◌, ◌⊎◌, ◌+◌, ◌++◌, ◌<◌, ◌∷◌, ◌==◌, ◌||◌, [], ℕ, Bool, List, None, Some, false, true, find, length, not};
 ghost use Rattle.std.specs.declared.option.Option.{Option};
 ghost use Rattle.std.specs.List.{list_any};
-ghost use Rattle.sg_base.specs.Lists.{Each};
-ghost use Rattle.sg_base.specs.declared.call.Call.{Call};
-ghost use Rattle.sg_base.specs.declared.reply.Good.{Good};
-ghost use Rattle.sg_base.specs.declared.reply.Reply.TheVariants.{Ok};
+ghost use Rattle.sg_facts.specs.sg_base.Lists.{Each};
+ghost use Rattle.sg_facts.specs.sg_base.declared.call.Call.{Call};
+ghost use Rattle.sg_facts.specs.sg_base.declared.reply.Good.{Good};
+ghost use Rattle.sg_facts.specs.sg_base.declared.reply.Reply.TheVariants.{Ok};
 ghost use Rattle.sg_facts.specs.declared.entry.Entry.{Entry};
 ghost use Rattle.sg_facts.specs.declared.outcome.Outcome.TheVariants.{Replied};
 ghost use Rattle.sg_facts.specs.declared.row.Row.{Row};
@@ -28,7 +28,7 @@ ghost use Rattle.sg_facts.specs.Track.{is_live, row_at};
 ghost use Rattle.sg_facts.specs.Walks.{replayed_call};
 ghost use Rattle.sg_hist.specs.Reading.{Position, entries_before, id_given, is_made, is_rebuilt_at, is_whole_at, names_at, names_in, object_before, value_at, walk_in};
 ghost use Rattle.sg_hist.specs.Recovered.{IsAdmitted, IsCallOf, IsCallOfRow, IsLoad, IsLoadedFor, IsOkOrStopped, IsTracked, is_patch_at, is_walk_of};
-ghost use Rattle.sg_hist.specs.Growing.{IsGrown, IsOfNoEntry, IsSameId, last_items, older_items, place_behind};
+ghost use Rattle.sg_hist.specs.Growing.{IsGrown, IsOfNoEntry, IsSameId, last_items, older_items, place_after};
 ghost use Rattle.sg_recovery_laws.specs.Midway.Progress.{TellsCalls, IsNone, Told, complete, fresh, is_complete};
 ghost use Rattle.sg_recovery_laws.specs.Midway.Stepping.{told_after};
 ghost use Rattle.sg_recovery_laws.specs.LastItem.Asked.{IsClientsCall, IsComeTo};
@@ -37,7 +37,7 @@ ghost use Rattle.sg_recovery_laws.specs.LastItem.Told.{IsKnown, IsRead, whole_be
 
 use sg_facts::Service;
 
-/// Where an item is noted last, the object before it is that of the whole history, and what is whole there is what is whole behind all
+/// Where an item is noted last, the object before it is that of the whole history, and what is whole there is what is whole after all
 /// items; and that is where an item is noted in the last boot.
 pub fn last_place()
     ensures object { (facts : Facts) (older front : List Item) (item : Item) (history : List Entry) → IsOfNoEntry item history → HaveItems (older ++ front) history
@@ -45,7 +45,7 @@ pub fn last_place()
     ensures whole { (facts : Facts) (walks : List WalkLine) (older front : List Item) (item : Item) (history : List Entry) (id : ℕ) → IsOfNoEntry item history
         → is_whole_at facts walks history (last_place older front item) id ≡ whole_behind facts walks history older front id }
     ensures noted { (b : Boot) (boots : List Boot) (item : Item)
-        → place_behind [] (b ∷ boots) item ≡ last_place (older_items [] (b ∷ boots)) (last_items (b ∷ boots)) item }
+        → place_after [] (b ∷ boots) item ≡ last_place (older_items [] (b ∷ boots)) (last_items (b ∷ boots)) item }
 {}
 
 /// What an item owes where it is noted last: a call of a client that has no later one, and passes the guard, is admitted; the call of an

@@ -7,10 +7,10 @@ use Rattle.std.specs.Map.{lookup}
 use Rattle.std.specs.Option.{option_copied, option_map}
 use Rattle.std.specs.declared.option.Option.{Option}
 use Rattle.std.proofs.lemmas.Bool.Decides.{eqb_tells}
-use Rattle.sg_base.specs.declared.call.Call.{Call}
-use Rattle.sg_base.specs.declared.reply.Good.{Good}
-use Rattle.sg_base.specs.declared.reply.Reply.{Reply}
-use Rattle.sg_base.specs.declared.reply.Reply.TheVariants.{Ok, Refused}
+use Rattle.sg_facts.specs.sg_base.declared.call.Call.{Call}
+use Rattle.sg_facts.specs.sg_base.declared.reply.Good.{Good}
+use Rattle.sg_facts.specs.sg_base.declared.reply.Reply.{Reply}
+use Rattle.sg_facts.specs.sg_base.declared.reply.Reply.TheVariants.{Ok, Refused}
 use Rattle.sg_facts.specs.declared.row.Row.{Row}
 use Rattle.sg_facts.specs.Facts.{Facts, fun_at}
 use Rattle.sg_facts.specs.Object.{Object}
@@ -20,8 +20,8 @@ use Rattle.sg_name.specs.Names.{name_by, name_of, named_at, real_at, real_of}
 use Rattle.sg_name.specs.declared.named.Named.{Named}
 use Rattle.sg_name.specs.declared.named.Named.TheVariants.{Unnamed, Partial}
 use Rattle.sg_name.specs.declared.named.Standing.{Standing}
-use Rattle.sg_track.specs.Tracked.{AreTracked}
-use Rattle.sg_track.proofs.Above.{from_parent, up_from}
+use Rattle.sg_needs.specs.sg_track.Tracked.{AreTracked}
+use Rattle.sg_needs.proofs.sg_track.Above.{from_parent, up_from}
 use Rattle.sg_replay.specs.Committing.{name_left}
 use Rattle.sg_replay.specs.Engined.{AreGiven, AreInWalks}
 use Rattle.sg_replay.specs.Inside.Ends.{ends_rows, is_ended}

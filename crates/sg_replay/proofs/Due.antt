@@ -1,7 +1,7 @@
 -- What is due, and a file that was loaded.
 use Rattle.std.proofs.Common.{◌≡◌, ℕ, Bool, true, false, cond, not, ◌||◌, List, [], ◌∷◌, None, Some, IsSome, Result, Ok, Err, refl, sym, ◌∙◌, ap, subst, arith, find}
 use Rattle.std.specs.declared.option.Option.{Option}
-use Rattle.sg_base.specs.declared.memory.NoMemory.{NoMemory}
+use Rattle.sg_facts.specs.sg_base.declared.memory.NoMemory.{NoMemory}
 use Rattle.sg_facts.specs.Facts.{Facts}
 use Rattle.sg_facts.specs.Invoke.{loaded}
 use Rattle.sg_facts.specs.Needs.{Needs}

@@ -10,7 +10,7 @@ use Rattle.sg_name.specs.Names.{Naming, named_at, real_at}
 use Rattle.sg_name.specs.declared.named.Named.TheVariants.{Partial}
 use Rattle.sg_name.specs.declared.named.Standing.{Standing}
 use Rattle.sg_store.specs.Stored.{Stored}
-use Rattle.sg_track.specs.Tracked.{Tracked}
+use Rattle.sg_needs.specs.sg_track.Tracked.{Tracked}
 use Rattle.sg_replay.specs.Present.{Marks}
 
 -- what contracts see of an engine: the tables, the service with its journal, what outlives a stop, the rows that stubs keep, the

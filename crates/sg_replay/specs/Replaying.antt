@@ -4,10 +4,10 @@ use Rattle.std.specs.Str.{bytes_eq}
 use Rattle.std.specs.declared.option.Option.{Option}
 use Rattle.std.specs.declared.result.Result.{Result}
 use Rattle.std.specs.declared.result.Result.TheVariants.{Ok as Done, Err}
-use Rattle.sg_base.specs.declared.call.Call.{Call}
-use Rattle.sg_base.specs.declared.reply.Good.{Good}
-use Rattle.sg_base.specs.declared.memory.NoMemory.{NoMemory}
-use Rattle.sg_base.specs.declared.reply.Reply.TheVariants.{Ok}
+use Rattle.sg_facts.specs.sg_base.declared.call.Call.{Call}
+use Rattle.sg_facts.specs.sg_base.declared.reply.Good.{Good}
+use Rattle.sg_facts.specs.sg_base.declared.memory.NoMemory.{NoMemory}
+use Rattle.sg_facts.specs.sg_base.declared.reply.Reply.TheVariants.{Ok}
 use Rattle.sg_facts.specs.declared.outcome.Patch.{Patch}
 use Rattle.sg_facts.specs.declared.row.Row.{Row}
 use Rattle.sg_facts.specs.declared.tables.WalkLine.{WalkLine}
@@ -19,8 +19,8 @@ use Rattle.sg_facts.specs.Legal.{Table}
 use Rattle.sg_facts.specs.Needs.{Needs}
 use Rattle.sg_facts.specs.Object.{Object}
 use Rattle.sg_facts.specs.Track.{row_at}
-use Rattle.sg_hist.specs.Reading.{walk_in}
-use Rattle.sg_hist.specs.Recovered.{call_in}
+use Rattle.sg_boot.specs.sg_hist.Reading.{walk_in}
+use Rattle.sg_boot.specs.sg_hist.Recovered.{call_in}
 use Rattle.sg_boot.specs.Invoking.{NotesReply, NotesStop, item_of_load, with_item}
 use Rattle.sg_name.specs.Names.{named_at}
 use Rattle.sg_name.specs.declared.named.Named.{Named}

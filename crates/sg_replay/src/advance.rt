@@ -1,7 +1,7 @@
 // One step more of what a call needs: a call of a walk.
 ghost use Rattle.std.specs.Prelude.{◌≡◌, ◌<◌, ◌≤◌, ◌^◌, ℕ, List, true, [], None, Some, IsSome, IfOk, OnErr, length};
 ghost use Rattle.std.specs.Option.{option_copied};
-ghost use Rattle.sg_base.specs.declared.call.Call.{Call as IsCall};
+ghost use Rattle.sg_facts.specs.sg_base.declared.call.Call.{Call as IsCall};
 ghost use Rattle.sg_facts.specs.Object.{Object};
 ghost use Rattle.sg_facts.specs.declared.row.Row.{Row as IsRow};
 ghost use Rattle.sg_facts.specs.Track.{row_at};
@@ -11,8 +11,7 @@ ghost use Rattle.sg_replay.specs.Replaying.{KeepsPresent, LoadsOne, MayAdvance, 
 use crate::engine::Engine;
 use crate::names::real_call;
 use crate::todo::Todo;
-use sg_base::{Call, NoMemory, Path, Reply, Stops};
-use sg_facts::{Outcome, Row, Service, Tables, Tag};
+use sg_facts::{Call, NoMemory, Outcome, Path, Reply, Row, Service, Stops, Tables, Tag};
 use sg_name::Named;
 use sg_needs::{Needs, replayed_call, walk_of_row};
 use std::alloc::Global;

@@ -6,10 +6,9 @@ ghost use Rattle.sg_name.specs.declared.named.Named.TheVariants.{Unnamed};
 ghost use Rattle.sg_replay.specs.Committing.{name_left};
 ghost use Rattle.sg_replay.specs.Inside.Ends.{ends_rows, is_ended};
 
-use sg_base::{Call, Reply};
-use sg_facts::Interface;
+use sg_facts::{Call, Interface, Reply};
 use sg_name::Names;
-use sg_track::Tracker;
+use sg_needs::Tracker;
 
 /// Drops the names of the ids whose rows an answered call ends. It takes no memory.
 pub(crate) fn forget_ended(

@@ -6,7 +6,7 @@ ghost use Rattle.sg_facts.specs.Needs.{needs as the_needs};
 ghost use Rattle.sg_facts.specs.Object.{Object, empty_object};
 ghost use Rattle.sg_facts.specs.Track.{row_at};
 ghost use Rattle.sg_facts.specs.Trace.{run_of};
-ghost use Rattle.sg_hist.specs.Growing.{booted};
+ghost use Rattle.sg_boot.specs.sg_hist.Growing.{booted};
 ghost use Rattle.sg_boot.specs.Invoking.{with_stop};
 ghost use Rattle.sg_store.specs.Stored.{bytes_of, receipt_at};
 ghost use Rattle.sg_replay.specs.Missing.{missing, missing_file};
@@ -14,13 +14,11 @@ ghost use Rattle.sg_replay.specs.Present.{is_present};
 
 use crate::present::Present;
 use crate::todo::{Todo, missing_row};
-use sg_base::{Call, Code, NoMemory, Path, Reply};
 use sg_boot::Cell;
-use sg_facts::{Interface, Row, Service, Tables, Trace};
+use sg_facts::{Call, Code, Interface, NoMemory, Path, Reply, Row, Service, Tables, Trace};
 use sg_name::Names;
-use sg_needs::{Needs, guard, needs_of};
+use sg_needs::{Needs, Tracker, guard, needs_of};
 use sg_store::Storage;
-use sg_track::Tracker;
 use std::alloc::Global;
 use std::marker::Model;
 

@@ -6,7 +6,7 @@ ghost use Rattle.sg_name.specs.declared.named.Named.TheVariants.{Live};
 ghost use Rattle.sg_replay.specs.Inside.Telling.{MayTell, MayTellDesc};
 ghost use Rattle.sg_replay.specs.Serving.{IsDescTold, IsReplyTold, is_named_by, pairs_of, real_in};
 
-use sg_base::{Call, Good, NoMemory, Reply, TryCopy};
+use sg_facts::{Call, Good, NoMemory, Reply, TryCopy};
 use sg_name::{Named, Names};
 use std::alloc::Global;
 

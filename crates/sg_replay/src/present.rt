@@ -4,7 +4,7 @@ ghost use Rattle.std.specs.Option.{is_some};
 ghost use Rattle.std.specs.Str.{bytes_eq};
 ghost use Rattle.sg_replay.specs.Present.{HasMark, is_present, mark_at, marks_of};
 
-use sg_base::{NoMemory, Path};
+use sg_facts::{NoMemory, Path};
 use std::alloc::Global;
 use std::collections::BTreeMap;
 use std::marker::Model;

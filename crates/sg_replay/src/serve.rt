@@ -6,14 +6,13 @@ ghost use Rattle.sg_replay.specs.Serving.{MayServe, ServesOne, makes};
 
 use crate::engine::Engine;
 use crate::names::{real_call, tell};
-use sg_base::{Call, Stops, TryCopy};
-use sg_facts::{Outcome, Service, Tables, Tag};
+use sg_facts::{Call, Outcome, Service, Stops, Tables, Tag, TryCopy};
 use std::alloc::Global;
 
 impl<S: Service> Engine<S> {
     /// Serves a call that needs nothing any more: asks the running service under its own ids, and tells its answer under the
     /// clients'. What a creation made gets the next id, which stands for the service's from then on. `Stopped` comes where the
-    /// service stopped within the call or at the point behind its reply: it has failed then. After `NoMemory` nothing changed, and
+    /// service stopped within the call or at the point after its reply: it has failed then. After `NoMemory` nothing changed, and
     /// nothing was asked. The rows, the receipts, the files and which of them are present stay, whatever the answer. A reply has
     /// at most 4 words and 256 bytes, and a patch fits its file as the service had it.
     pub fn serve<T: Stops>(&mut self, alloc: Global, stops: &mut T, call: &Call) -> Outcome

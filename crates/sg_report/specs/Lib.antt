@@ -1,1 +1,2 @@
 pub mod Report
+pub use Rattle.sg_hist.specs as sg_hist

@@ -13,3 +13,4 @@ mod traced;
 mod words;
 
 pub use printed::{load_line, text};
+pub use sg_hist::{End, EndList, Ended, History};

@@ -9,8 +9,7 @@ ghost use Rattle.sg_report.specs.Report.{blocked_among, counts_text, end_line, e
 
 use crate::traced::{push_trace, replays_in};
 use crate::words::{push_answer, push_call, push_number};
-use sg_base::{Bytes, NoMemory};
-use sg_facts::{Entry, Interface, Shape, Trace};
+use sg_facts::{Bytes, Entry, Interface, NoMemory, Shape, Trace};
 use sg_hist::{End, Ended};
 use std::alloc::Global;
 

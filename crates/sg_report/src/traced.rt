@@ -7,8 +7,7 @@ ghost use Rattle.sg_hist.specs.Reading.{items_of};
 ghost use Rattle.sg_report.specs.Report.{boot_lines, boots_lines, call_text, greatest_count, is_replay, item_line, item_text, outcome_text, replays_of, stop_line, trace_lines};
 
 use crate::words::{push_call, push_number};
-use sg_base::{Bytes, Call, NoMemory};
-use sg_facts::{BootLog, Interface, Item, Outcome, Tag, Trace};
+use sg_facts::{BootLog, Bytes, Call, Interface, Item, NoMemory, Outcome, Tag, Trace};
 use std::alloc::Global;
 
 /// What was done to the service, boot by boot, and the number of points asked.
@@ -121,7 +120,7 @@ fn push_walk(
     push_number(out, alloc, u64::from(caller))
 }
 
-// A call behind a space, and how it ended.
+// A call after a space, and how it ended.
 fn push_asked(
     out: &mut Bytes,
     alloc: Global,

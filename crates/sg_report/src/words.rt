@@ -3,12 +3,11 @@ ghost use Rattle.std.specs.Prelude.{◌≡◌, ◌++◌, ◌==◌, ◌||◌, if�
 ghost use Rattle.std.specs.Fmt.{decimal};
 ghost use Rattle.std.specs.List.{flat_map};
 ghost use Rattle.std.specs.Str.{bytes_eq};
-ghost use Rattle.sg_base.specs.declared.value.Value.TheVariants.{Word};
+ghost use Rattle.sg_facts.specs.sg_base.declared.value.Value.TheVariants.{Word};
 ghost use Rattle.sg_facts.specs.Facts.{fun_at, fun_of_shape, takes_desc, takes_parent};
 ghost use Rattle.sg_report.specs.Report.{call_text, code_name, good_text, listed, next_value, quoted, reply_text, value_text};
 
-use sg_base::{Bytes, Call, Code, Good, NoMemory, Reply, Value};
-use sg_facts::{FunShape, Interface};
+use sg_facts::{Bytes, Call, Code, FunShape, Good, Interface, NoMemory, Reply, Value};
 use std::alloc::Global;
 
 /// A call: its function's name, and in brackets its descriptor or parent, where the function takes one, and its arguments.
@@ -52,7 +51,7 @@ fn push_listed(out: &mut Bytes, alloc: Global, values: &[Value]) -> Result<(), N
     }
 }
 
-// Values behind others.
+// Values after others.
 fn push_more(out: &mut Bytes, alloc: Global, values: &[Value]) -> Result<(), NoMemory>
     ensures { OnOk result (out.new ≡ out.old ++ flat_map next_value values.now) }
 {
@@ -117,7 +116,7 @@ fn push_good(out: &mut Bytes, alloc: Global, fun: &FunShape, good: &Good) -> Res
     Ok(())
 }
 
-// Words, each behind a space.
+// Words, each after a space.
 fn push_words(out: &mut Bytes, alloc: Global, words: &[u64]) -> Result<(), NoMemory>
     ensures { OnOk result (out.new ≡ out.old ++ flat_map (λ word. codes " " ++ decimal word) words.now) }
 {

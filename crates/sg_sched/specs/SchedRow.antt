@@ -1,6 +1,6 @@
 -- The row that a thread stands for.
 use Rattle.std.specs.Prelude.{if◌then◌else◌, [], ◌∷◌}
-use Rattle.sg_base.specs.declared.value.Value.TheVariants.{Word}
+use Rattle.sg_facts.specs.sg_base.declared.value.Value.TheVariants.{Word}
 use Rattle.sg_slots.specs.Slots.{Body}
 use Rattle.sg_sched.specs.declared.thread.Thread.{Thread}
 

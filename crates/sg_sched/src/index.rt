@@ -4,7 +4,7 @@ ghost use Rattle.sg_sched.specs.Inside.SchedIndex.{is_queued, is_ranked, IsKeyOf
 
 use crate::Thread;
 use crate::key::{Key, add, take_out};
-use sg_base::NoMemory;
+use sg_facts::NoMemory;
 use std::alloc::Global;
 use std::collections::BTreeSet;
 

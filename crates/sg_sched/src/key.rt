@@ -2,7 +2,7 @@
 ghost use Rattle.std.specs.Prelude.{◌≡◌, OnOk, OnErr};
 ghost use Rattle.sg_sched.specs.Inside.SchedKeys.{has, GainsKey, LosesKey};
 
-use sg_base::NoMemory;
+use sg_facts::NoMemory;
 use std::collections::BTreeSet;
 
 /// A thread in an index: by two numbers, then by its id.

@@ -8,9 +8,8 @@ ghost use Rattle.sg_sched.specs.SchedRow.{thread_body};
 ghost use Rattle.sg_sched.specs.SchedTable.{first_ready, next_rank};
 
 use crate::Thread;
-use crate::index::{ThreadChange, Indexes};
-use sg_base::Stops;
-use sg_facts::Outcome;
+use crate::index::{Indexes, ThreadChange};
+use sg_facts::{Outcome, Stops};
 use sg_slots::{Decision, Slots, carry_out};
 use std::alloc::Global;
 use std::marker::Model;

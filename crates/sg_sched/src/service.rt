@@ -1,7 +1,7 @@
 // The thread service.
 ghost use Rattle.std.specs.Prelude.{◌≡◌, ◌^◌, ◌<◌, ℕ, true, false, [], ◌∷◌, length, IsSome};
 ghost use Rattle.std.specs.Option.{option_map, option_copied};
-ghost use Rattle.sg_base.specs.declared.value.Value.TheVariants.{Word};
+ghost use Rattle.sg_facts.specs.sg_base.declared.value.Value.TheVariants.{Word};
 ghost use Rattle.sg_facts.specs.declared.shape.Kind.TheVariants.{Word as IsWord};
 ghost use Rattle.sg_facts.specs.Kinds.{MayAsk, kinds_fit};
 ghost use Rattle.sg_facts.specs.Track.{row_at, has_child, arg_at};
@@ -22,8 +22,7 @@ use crate::Thread;
 use crate::functions::{CREATE, NEXT, PLACE, SLEEP, WAIT, WAKEUP, YIELD};
 use crate::queue::Queue;
 use crate::shape::sched_shape;
-use sg_base::{Call, Code, NoMemory, Path, Stops, Value};
-use sg_facts::{Outcome, Service, Shape};
+use sg_facts::{Call, Code, NoMemory, Outcome, Path, Service, Shape, Stops, Value};
 use sg_slots::Decision;
 use std::alloc::Global;
 

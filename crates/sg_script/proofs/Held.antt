@@ -4,7 +4,7 @@ use Rattle.std.specs.Prelude.{nat_le, nat_lt, position, ◌==◌}
 use Rattle.std.specs.List.{flat_map, list_all, position_or_len}
 use Rattle.std.proofs.lemmas.Bool.Decides.{nat_tests}
 use Rattle.std.proofs.lemmas.Grind.{flat_map-append}
-use Rattle.sg_base.specs.Text.{is_bad_byte, is_text_byte}
+use Rattle.sg_facts.specs.sg_base.Text.{is_bad_byte, is_text_byte}
 use Rattle.sg_facts.specs.declared.shape.Kind.{Kind}
 use Rattle.sg_facts.specs.declared.shape.Kind.TheVariants.{Desc, Parent, Word, Text as IsText}
 use Rattle.sg_facts.specs.Facts.{fun_at}
@@ -113,7 +113,7 @@ counted front p =
     ap length (flat_map-append calls_in front (p ∷ []) ∙ ap (λ v. flat_map calls_in front ++ v) (append-nil (calls_in p)))
     ∙ length-append (flat_map calls_in front) (calls_in p)
 
--- what is wrong within the next part, and behind it
+-- what is wrong within the next part, and after it
 pub inner_none : (i : Declared) (setup : ℕ) (front : List Part) (p : Part) (parts : List Part) → flaws_behind i setup front (p ∷ parts) ≡ []
     → inner_flaws i setup (length (flat_map calls_in front)) p ≡ []
 inner_none i setup front p parts e =

@@ -3,7 +3,7 @@ use Rattle.std.proofs.Common.{◌≡◌, ◌≢◌, ◌⊎◌, inl, inr, ℕ, Li
 use Rattle.std.specs.declared.result.Result.{Result}
 use Rattle.std.specs.List.{Contains}
 use Rattle.sg_facts.specs.Interface.{Declared}
-use Rattle.sg_lex.specs.Tokens.{answers_of}
+use Rattle.sg_script_parse.specs.sg_lex.Tokens.{answers_of}
 use Rattle.sg_script_parse.specs.declared.error.ScriptSyntax.{ScriptSyntax}
 use Rattle.sg_script_parse.specs.declared.error.ScriptSyntax.TheVariants.{NoMemory as no_memory, Syntax as syntax}
 use Rattle.sg_script_parse.specs.declared.tree.Part.{Part}

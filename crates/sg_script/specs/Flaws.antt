@@ -87,7 +87,7 @@ calls_flaws i in_setup nth own (c ∷ calls) = call_flaws i in_setup nth own c +
 abbrev pub too_many_stops : ℕ
 too_many_stops = 65
 
--- stops that follow one another, the first of which has a number among them, behind a number that it has to be above
+-- stops that follow one another, the first of which has a number among them, after a number that it has to be above
 abbrev pub stops_flaws : ℕ → ℕ → List Spelling → List ScriptFault
 stops_flaws nth before [] = []
 stops_flaws nth before (n ∷ numbers) =
@@ -134,7 +134,7 @@ calls_in (Stop at numbers) = []
 abbrev pub calls_before : ℕ → ℕ → ℕ
 calls_before setup client = if client == 1 then setup else 0
 
--- whether a part is a second `setup`, `schedule` or `stop`, or a second part of one client, behind others
+-- whether a part is a second `setup`, `schedule` or `stop`, or a second part of one client, after others
 abbrev pub comes_again : List Part → Part → Bool
 comes_again front (Setup at calls) = list_any is_setup front
 comes_again front (Client at n calls) = is_known_client (counts_as n.bytes) && list_any (is_of_client (counts_as n.bytes)) front
@@ -148,7 +148,7 @@ part_place (Client at n calls) = at
 part_place (Schedule at numbers) = at
 part_place (Stop at numbers) = at
 
--- what is wrong within a part, behind so many calls of the text, in a script whose setup has so many calls
+-- what is wrong within a part, after so many calls of the text, in a script whose setup has so many calls
 abbrev pub inner_flaws : Declared → ℕ → ℕ → Part → List ScriptFault
 inner_flaws i setup before (Setup at calls) = calls_flaws i true (before + 1) 1 calls
 inner_flaws i setup before (Client at n calls) =
@@ -156,12 +156,12 @@ inner_flaws i setup before (Client at n calls) =
 inner_flaws i setup before (Schedule at numbers) = flat_map client_flaws numbers
 inner_flaws i setup before (Stop at numbers) = stops_flaws 1 0 numbers
 
--- a part behind others
+-- a part after others
 abbrev pub part_flaws : Declared → ℕ → List Part → Part → List ScriptFault
 part_flaws i setup front p =
     script_flaw_if (comes_again front p) Twice (part_place p) ++ inner_flaws i setup (length (flat_map calls_in front)) p
 
--- parts behind others
+-- parts after others
 abbrev pub flaws_behind : Declared → ℕ → List Part → List Part → List ScriptFault
 flaws_behind i setup front [] = []
 flaws_behind i setup front (p ∷ parts) = part_flaws i setup front p ++ flaws_behind i setup (front ++ p ∷ []) parts

@@ -2,7 +2,7 @@
 use Rattle.std.specs.Prelude.{ℕ, ◌+◌, ◌*◌, ◌-◌, ◌^◌, Bool, ◌&&◌, not, nat_le, if◌then◌else◌, List, None, Some, length, take, drop}
 use Rattle.std.specs.declared.option.Option.{Option}
 use Rattle.std.specs.List.{fold, list_all}
-use Rattle.sg_base.specs.Text.{is_text_byte}
+use Rattle.sg_facts.specs.sg_base.Text.{is_text_byte}
 use Rattle.sg_facts.specs.Limits.{last_client}
 
 -- what digits stand for

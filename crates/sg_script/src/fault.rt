@@ -1,5 +1,5 @@
 // Why a text is no script for an interface.
-use sg_base::NoMemory;
+use sg_facts::NoMemory;
 use thiserror::Error;
 
 /// What is wrong with a script, in the order that counts at one place.

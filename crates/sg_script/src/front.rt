@@ -38,7 +38,7 @@ impl SeenParts {
         }
     }
 
-    /// Whether a part comes a second time behind these parts.
+    /// Whether a part comes a second time after these parts.
     pub fn comes_again(&self, part: &Part) -> bool
         ensures { (parts : List OnePart) → IsFront self.now parts → result ≡ comes_again parts part.now }
     {
@@ -57,7 +57,7 @@ impl SeenParts {
         is_known_client(number) && self.clients[number as usize]
     }
 
-    /// Puts a part behind these parts.
+    /// Puts a part after these parts.
     pub fn add(&mut self, part: &Part)
         requires { self.old.calls + 2 ^ 64 < 2 ^ 128 }
         ensures front { (parts : List OnePart) → IsFront self.old parts → IsFront self.new (parts ++ part.now ∷ []) }

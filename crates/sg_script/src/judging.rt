@@ -194,7 +194,7 @@ fn calls_before(setup: u128, client: u64) -> u128
     if client == 1 { setup } else { 0 }
 }
 
-// Notes what is wrong within a part, behind so many calls, in a script whose setup has so many.
+// Notes what is wrong within a part, after so many calls, in a script whose setup has so many.
 fn judge_inside(first: &mut First, iface: &Interface, setup: u128, before: u128, part: &Part)
     requires setup { setup + 2 ^ 65 < 2 ^ 128 }
     requires before { before + 2 ^ 65 < 2 ^ 128 }
@@ -214,7 +214,7 @@ fn judge_inside(first: &mut First, iface: &Interface, setup: u128, before: u128,
     }
 }
 
-// Notes what is wrong with a part behind others.
+// Notes what is wrong with a part after others.
 fn judge_part(first: &mut First, iface: &Interface, setup: u128, front: &SeenParts, part: &Part)
     requires setup { setup + 2 ^ 65 < 2 ^ 128 }
     requires before { front.now.calls + 2 ^ 65 < 2 ^ 128 }

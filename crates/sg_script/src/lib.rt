@@ -22,3 +22,4 @@ pub use fault::{ScriptError, ScriptFault, ScriptKind};
 pub use making::text_of;
 pub use reading::read;
 pub use script::{Arg, ArgList, CallList, ClientList, Script, ScriptCall, TurnList};
+pub use sg_script_parse::{Part, ScriptSyntax, Spelled, WrittenArg, parse};

@@ -9,8 +9,7 @@ ghost use Rattle.sg_script.specs.Scripts.{arg_of, script_call_of, calls_of_setup
 use crate::names::declared_fun;
 use crate::numbers::{counts_as, unquoted};
 use crate::script::{Arg, ArgList, CallList, ClientList, Script, ScriptCall, TurnList};
-use sg_base::{NoMemory, PointList, Text, TextFault};
-use sg_facts::Interface;
+use sg_facts::{Interface, NoMemory, PointList, Text, TextFault};
 use sg_script_parse::{Part, Spelled, WrittenArg, WrittenCall};
 use std::alloc::Global;
 
@@ -78,7 +77,7 @@ fn script_call_of(
     })
 }
 
-// Puts what calls stand for behind others.
+// Puts what calls stand for after others.
 fn add_calls(
     alloc: Global,
     iface: &Interface,
@@ -167,7 +166,7 @@ fn clients_of(alloc: Global, iface: &Interface, parts: &[Part]) -> Result<Client
 
 // ---- turns and stops
 
-// Puts turns behind others.
+// Puts turns after others.
 fn add_turns(numbers: &[Spelled], made: &mut Vec<u8>) -> Result<(), NoMemory>
     requires { list_all is_client_number numbers.now ≡ true }
     ensures { OnOk result (made.new.items ≡ made.old.items ++ map (λ n. counts_as n.bytes) numbers.now) }
@@ -193,7 +192,7 @@ fn schedule_of(alloc: Global, parts: &[Part]) -> Result<TurnList, NoMemory>
     Ok(TurnList::from_vec(made))
 }
 
-// Puts the numbers of stops behind others.
+// Puts the numbers of stops after others.
 fn add_stops(numbers: &[Spelled], made: &mut Vec<u64>) -> Result<(), NoMemory>
     ensures { OnOk result (made.new.items ≡ made.old.items ++ map (λ n. counts_as n.bytes) numbers.now) }
 {

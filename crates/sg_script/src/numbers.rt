@@ -2,10 +2,9 @@
 ghost use Rattle.std.specs.Prelude.{◌≡◌, ◌+◌, ◌*◌, ◌-◌};
 ghost use Rattle.std.specs.List.{list_all};
 ghost use Rattle.sg_script.specs.Numbers.{bounded, counts_as, is_above, is_known_client, is_text, number_of_digits, unquoted};
-ghost use Rattle.sg_base.specs.Text.{is_text_byte};
+ghost use Rattle.sg_facts.specs.sg_base.Text.{is_text_byte};
 
-use sg_base::{Text, is_text_byte};
-use sg_facts::LAST_CLIENT;
+use sg_facts::{LAST_CLIENT, Text, is_text_byte};
 
 /// What digits count as: a number above the greatest of 64 bits counts as the greatest.
 pub fn counts_as(digits: &[u8]) -> u64
@@ -56,7 +55,7 @@ fn number_of_digits(digits: &[u8]) -> Option<u64>
     Some(value)
 }
 
-// A number with one digit more behind it; None where that is above the greatest of 64 bits.
+// A number with one digit more after it; None where that is above the greatest of 64 bits.
 fn with_digit(value: u64, digit: u8) -> Option<u64>
     ensures { result ≡ bounded (10 * value + (digit - 48)) }
 {

@@ -9,8 +9,7 @@ use crate::judging::judge;
 use crate::making::script_of;
 use crate::{Script, ScriptError, ScriptFault, ScriptKind};
 use sg_facts::Interface;
-use sg_script_parse::ScriptSyntax;
-use sg_script_parse::parse;
+use sg_script_parse::{ScriptSyntax, parse};
 use std::alloc::Global;
 
 /// The script of a text for an interface.

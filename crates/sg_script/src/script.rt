@@ -1,5 +1,5 @@
 // A script for an interface.
-use sg_base::{ListOf, PointList, Text};
+use sg_facts::{ListOf, PointList, Text};
 
 /// What a call is given in place of a descriptor, a parent, a number or a text.
 #[derive(Debug, Drop)]

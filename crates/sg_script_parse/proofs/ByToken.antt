@@ -153,7 +153,7 @@ pub script_end : (parts : List Part) (old : Reading) → old.rest ≡ [] → rea
 unfolding parts_at
 script_end parts old e = read_end scripts (script parts) old e
 
--- behind the first token of a part, by the tests that fail and the one that holds
+-- after the first token of a part, by the tests that fail and the one that holds
 
 pub is_setup : (go : Part → ScriptState) (token : Lexeme) (r : Reading) → is_fixed (codes "setup") token ≡ true
     → read_on scripts (part_behind go token) token r ≡ read scripts (setup_rest go token.at) r

@@ -5,16 +5,19 @@ ghost use Rattle.sg_script_parse.specs.declared.tree.WrittenCall.{WrittenCall as
 ghost use Rattle.sg_script_parse.specs.Grammar.Inside.States.{ScriptState, argument, bracketed, call_rest, braced, scripts};
 ghost use Rattle.sg_lex.specs.Inside.Automata.{read, Leads};
 
+use crate::error::ScriptSyntax;
 use crate::reader::{mark, number, take_mark, take_spelled};
+use crate::tree::{Spelled, WrittenArg, WrittenArgList, WrittenCall, WrittenCallList};
 use sg_base::NoMemory;
 use sg_lex::{Reader, TokenKind};
-use crate::error::ScriptSyntax;
-use crate::tree::{Spelled, WrittenArg, WrittenArgList, WrittenCall, WrittenCallList};
 use std::alloc::Global;
 
 /// Calls in braces.
 #[tactic(auto, using(crate::proofs::ByToken::name_came, crate::proofs::ByToken::name_missing))]
-pub fn braced<'a>(reader: &mut Reader<'a>, alloc: Global) -> Result<WrittenCallList<'a>, ScriptSyntax>
+pub fn braced<'a>(
+    reader: &mut Reader<'a>,
+    alloc: Global,
+) -> Result<WrittenCallList<'a>, ScriptSyntax>
     ensures leads { (k : List Call → ScriptState) → Leads scripts (read scripts (braced k) reader.old) result k reader.new }
     ensures fewer { OnOk result (length reader.new.rest ≤ length reader.old.rest) }
 {
@@ -42,7 +45,7 @@ fn call<'a>(
     Ok(WrittenCall { name, args })
 }
 
-/// The arguments behind the bracket that opens them, and the bracket that closes them.
+/// The arguments after the bracket that opens them, and the bracket that closes them.
 #[tactic(auto, using(crate::proofs::ByToken::no_argument, crate::proofs::ByToken::some_argument, crate::proofs::ByToken::comma_came, crate::proofs::ByToken::comma_missing))]
 fn bracketed<'a>(reader: &mut Reader<'a>, alloc: Global) -> Result<WrittenArgList<'a>, ScriptSyntax>
     ensures leads { (k : List Arg → ScriptState) → Leads scripts (read scripts (bracketed k) reader.old) result k reader.new }

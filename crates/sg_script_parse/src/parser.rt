@@ -8,10 +8,10 @@ ghost use Rattle.sg_script_parse.specs.Grammar.Parses.{ScriptParses};
 ghost use Rattle.sg_script_parse.specs.Grammar.Inside.States.{script_start, scripts};
 ghost use Rattle.sg_lex.specs.Inside.Automata.{read, Answers};
 
-use crate::parts::parts;
-use sg_lex::Reader;
 use crate::error::ScriptSyntax;
+use crate::parts::parts;
 use crate::tree::PartList;
+use sg_lex::Reader;
 use std::alloc::Global;
 
 /// The parts of a script. What they spell is lent from the text.

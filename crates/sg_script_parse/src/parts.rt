@@ -6,10 +6,10 @@ ghost use Rattle.sg_script_parse.specs.Grammar.Inside.States.{ScriptState, scrip
 ghost use Rattle.sg_lex.specs.Inside.Automata.{read, Leads, Answers, read_on};
 
 use crate::calls::braced;
-use crate::reader::{mark, next_token, number, take_spelled};
-use sg_lex::{Reader, Token, TokenKind};
 use crate::error::ScriptSyntax;
+use crate::reader::{mark, next_token, number, take_spelled};
 use crate::tree::{Part, PartList, SpelledList};
+use sg_lex::{Reader, Token, TokenKind};
 use std::alloc::Global;
 
 /// The parts up to the end of the text.
@@ -50,7 +50,7 @@ fn part<'a>(
     Err(ScriptSyntax::Syntax { at: token.at })
 }
 
-/// The calls of the setup, behind its word at this place.
+/// The calls of the setup, after its word at this place.
 fn setup<'a>(reader: &mut Reader<'a>, alloc: Global, at: usize) -> Result<Part<'a>, ScriptSyntax>
     ensures leads { (go : Written → ScriptState) → Leads scripts (read scripts (setup_rest go at) reader.old) result go reader.new }
     ensures fewer { OnOk result (length reader.new.rest ≤ length reader.old.rest) }
@@ -59,7 +59,7 @@ fn setup<'a>(reader: &mut Reader<'a>, alloc: Global, at: usize) -> Result<Part<'
     Ok(Part::Setup { at, calls })
 }
 
-/// The number and the calls of a client, behind the word at this place.
+/// The number and the calls of a client, after the word at this place.
 fn client<'a>(reader: &mut Reader<'a>, alloc: Global, at: usize) -> Result<Part<'a>, ScriptSyntax>
     ensures leads { (go : Written → ScriptState) → Leads scripts (read scripts (client_rest go at) reader.old) result go reader.new }
     ensures fewer { OnOk result (length reader.new.rest ≤ length reader.old.rest) }
@@ -69,7 +69,7 @@ fn client<'a>(reader: &mut Reader<'a>, alloc: Global, at: usize) -> Result<Part<
     Ok(Part::Client { at, number, calls })
 }
 
-/// The numbers of the schedule, behind its word at this place.
+/// The numbers of the schedule, after its word at this place.
 fn schedule<'a>(reader: &mut Reader<'a>, alloc: Global, at: usize) -> Result<Part<'a>, ScriptSyntax>
     ensures leads { (go : Written → ScriptState) → Leads scripts (read scripts (schedule_rest go at) reader.old) result go reader.new }
     ensures fewer { OnOk result (length reader.new.rest ≤ length reader.old.rest) }
@@ -78,7 +78,7 @@ fn schedule<'a>(reader: &mut Reader<'a>, alloc: Global, at: usize) -> Result<Par
     Ok(Part::Schedule { at, numbers })
 }
 
-/// The numbers of the stops, behind the word at this place.
+/// The numbers of the stops, after the word at this place.
 fn stop<'a>(reader: &mut Reader<'a>, alloc: Global, at: usize) -> Result<Part<'a>, ScriptSyntax>
     ensures leads { (go : Written → ScriptState) → Leads scripts (read scripts (stop_rest go at) reader.old) result go reader.new }
     ensures fewer { OnOk result (length reader.new.rest ≤ length reader.old.rest) }

@@ -1,5 +1,5 @@
 // What happened to clients, in its order.
-use sg_base::ListOf;
+use sg_facts::ListOf;
 
 /// What happened to a client.
 #[derive(Clone, Copy, Debug, PartialEq, Eq)]

@@ -1,5 +1,5 @@
 // How far a client has come with its call.
-use sg_base::ListOf;
+use sg_facts::ListOf;
 
 /// How far a client has come with its call.
 #[derive(Clone, Copy, Debug, PartialEq, Eq)]

@@ -1,6 +1,6 @@
 // A call that its client withdrew.
 use crate::PhaseList;
-use sg_base::{Call, ListOf};
+use sg_facts::{Call, ListOf};
 
 /// A call that its client withdrew before it was answered.
 #[derive(Debug, Drop)]

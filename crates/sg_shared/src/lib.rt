@@ -5,7 +5,7 @@
 //! - `shared`: the play that they share (`Shared`), and its name (`Naming`)
 //!
 //! A lock shows a play of which nothing is known but its type. So its type says of which script the play is and by which tables, and a play
-//! that comes back behind the threads still is of these.
+//! that comes back after the threads still is of these.
 #![tactic(auto)]
 
 mod runs;
@@ -13,3 +13,4 @@ mod shared;
 mod threads;
 
 pub use runs::run;
+pub use sg_sim::{Played, play_script};

@@ -1,19 +1,17 @@
 // Plays a script on threads.
 ghost use Rattle.std.specs.Prelude.{◌≡◌, [], true, IfOk};
 ghost use Rattle.sg_edge.specs.Stops.{AscendsAbove, struck_of, up_to};
-ghost use Rattle.sg_plain.specs.Playing.Playable.{IsPlayable};
+ghost use Rattle.sg_sim.specs.sg_plain.Playing.Playable.{IsPlayable};
 ghost use Rattle.sg_sim.specs.Played.{IsPlayed};
-ghost use Rattle.sg_play.specs.Waking.Waking.{no_query_waits};
-ghost use Rattle.sg_world.specs.Worlded.{setting_of};
-ghost use Rattle.sg_world_laws.specs.Setting.{stubs_of};
+ghost use Rattle.sg_sim.specs.sg_play.Waking.Waking.{no_query_waits};
+ghost use Rattle.sg_sim.specs.sg_world.Worlded.{setting_of};
+ghost use Rattle.sg_sim.specs.sg_world_laws.Setting.{stubs_of};
 
 use crate::shared::{Naming, Shared};
 use crate::threads::play_clients;
-use sg_base::{NoMemory, TryCopy};
 use sg_edge::{AtPoints, Gate};
-use sg_facts::{Service, Tables};
-use sg_script::Script;
-use sg_sim::{Play, Played};
+use sg_facts::{NoMemory, Service, Tables, TryCopy};
+use sg_sim::{Play, Played, Script};
 use std::alloc::Global;
 use std::marker::Brand;
 use std::sync::{Mutex, Wait};

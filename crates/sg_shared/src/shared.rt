@@ -1,25 +1,23 @@
 // The play that threads share. Each takes one turn at a time.
 ghost use Rattle.std.specs.Prelude.{◌≡◌, ◌&&◌, None, IfOk, not, true, false};
 ghost use Rattle.sg_edge.specs.Stops.{up_to};
-ghost use Rattle.sg_plain.specs.Playing.Callers.{is_setting_up};
+ghost use Rattle.sg_sim.specs.sg_plain.Playing.Callers.{is_setting_up};
 ghost use Rattle.sg_shared.specs.Inside.Next.{HasTurned, SomebodyGoes, takes_turn};
 ghost use Rattle.sg_sim.specs.Played.{IsPlayed};
 ghost use Rattle.sg_sim.specs.Playing.{can_step};
-ghost use Rattle.sg_world.specs.Worlded.{setting_of};
-ghost use Rattle.sg_world_laws.specs.Setting.{stubs_of};
+ghost use Rattle.sg_sim.specs.sg_world.Worlded.{setting_of};
+ghost use Rattle.sg_sim.specs.sg_world_laws.Setting.{stubs_of};
 
-use sg_base::NoMemory;
 use sg_edge::AtPoints;
-use sg_facts::{LAST_CLIENT, Service};
-use sg_seat::Phase;
-use sg_sim::{Play, Played};
+use sg_facts::{LAST_CLIENT, NoMemory, Service};
+use sg_sim::{Phase, Play, Played};
 use std::alloc::Global;
 use std::marker::{Brand, PhantomData};
 
 /// Which play is shared: its tables and its script. Each run picks its own.
 pub trait Naming {
     ghost use Rattle.sg_facts.specs.Tables.{Compiled};
-    ghost use Rattle.sg_script.specs.declared.script.Script.{Script};
+    ghost use Rattle.sg_sim.specs.sg_script.declared.script.Script.{Script};
 
     ghost tables: { Compiled };
 

@@ -1,4 +1,4 @@
--- A turn of a client, whatever the schedule says: whether the client can take it, and what stays behind it.
+-- A turn of a client, whatever the schedule says: whether the client can take it, and what stays after it.
 use Rattle.std.proofs.Common.{◌≡◌, ◌⊎◌, inl, inr, ℕ, zero, suc, ◌-◌, ◌<◌, ◌≤◌, Bool, true, false, ◌&&◌, List, [], ◌∷◌, ◌++◌, None, Some, length, refl, sym, ◌∙◌, ap, subst, arith, slice_set}
 use Rattle.std.specs.declared.option.Option.{Option}
 use Rattle.std.specs.Prelude.{nat_le, nat_lt, slice_get, unwrap_or}
@@ -7,18 +7,18 @@ use Rattle.std.proofs.lemmas.Bool.Decides.{nat_tests}
 use Rattle.std.proofs.lemmas.List.{length-append}
 use Rattle.sg_facts.specs.Interface.{Declared}
 use Rattle.sg_facts.specs.declared.entry.Entry.{Entry}
-use Rattle.sg_plain.specs.Calls.{script_calls}
-use Rattle.sg_plain.specs.Playing.Callers.{handed, is_setting_up}
-use Rattle.sg_plain.specs.Playing.Given.{given_in, with_handed}
-use Rattle.sg_plain.specs.Playing.Plays.{IsPlaying}
-use Rattle.sg_plain.specs.Playing.Turns.{may_go, may_take_turn}
-use Rattle.sg_script.specs.declared.script.Script.{Script}
-use Rattle.sg_seat.specs.WorldView.{Seat, WorldView, happened, seat_in, seat_of}
+use Rattle.sg_play.specs.sg_plain.Calls.{script_calls}
+use Rattle.sg_play.specs.sg_plain.Playing.Callers.{handed, is_setting_up}
+use Rattle.sg_play.specs.sg_plain.Playing.Given.{given_in, with_handed}
+use Rattle.sg_play.specs.sg_plain.Playing.Plays.{IsPlaying}
+use Rattle.sg_play.specs.sg_plain.Playing.Turns.{may_go, may_take_turn}
+use Rattle.sg_play.specs.sg_script.declared.script.Script.{Script}
+use Rattle.sg_play.specs.sg_seat.WorldView.{Seat, WorldView, happened, seat_in, seat_of}
 use Rattle.sg_sim.proofs.Beginning.{clients_from_one, given_count}
 use Rattle.sg_sim.specs.Inside.Taken.{MissesTurn, TakesTurn, behind_offer}
 use Rattle.sg_sim.specs.Playing.{Playing, can_step}
-use Rattle.sg_world.specs.Steps.{WantsMemory}
-use Rattle.sg_world_laws.specs.Setting.{Setting}
+use Rattle.sg_play.specs.sg_world.Steps.{WantsMemory}
+use Rattle.sg_play.specs.sg_world_laws.Setting.{Setting}
 
 -- ---- whether a client can step
 
@@ -89,7 +89,7 @@ module _ (i : Declared) (script : Script) (history now : List Entry) (seats late
       let behind = given_count i script now later gave is 1 (omega arith) first_is in
       past (handed (seat_in seats 1)) (handed (seat_in later 1)) (length script.setup) (omega (arith, more, before, behind)) settled
 
--- ---- behind a turn
+-- ---- after a turn
 
 module _ (z : Setting) (script : Script) (w : WorldView) (given : List (List ℕ)) (client : ℕ) (was : IsPlaying z.iface script w.history w.seats given) where
   pub settled_taken : (told : Option ℕ) (now : WorldView) (gave : List (List ℕ)) → TakesTurn z script w given client told now gave → is_setting_up script w.seats ≡ false → is_setting_up script now.seats ≡ false

@@ -6,16 +6,16 @@ use Rattle.sg_facts.specs.Facts.{Facts}
 use Rattle.sg_facts.specs.Interface.{Declared}
 use Rattle.sg_facts.specs.Limits.{last_client}
 use Rattle.sg_facts.specs.declared.entry.Entry.{Entry}
-use Rattle.sg_hist.specs.Clients.{calls_of}
-use Rattle.sg_hist.specs.Reading.{desc_of}
-use Rattle.sg_plain.specs.Calls.{most_client}
-use Rattle.sg_plain.specs.Playing.Callers.{AreCallers, IsCaller, SetsUpFirst, all_of_first, handed, is_receipted}
-use Rattle.sg_plain.specs.Playing.Given.{given_in}
-use Rattle.sg_plain.specs.Playing.Playable.{AreClients, IsPlayable}
-use Rattle.sg_plain.specs.Playing.Plays.{IsPlaying}
-use Rattle.sg_script.specs.declared.script.Script.{Script}
-use Rattle.sg_script.specs.declared.script.ScriptCall.{ScriptCall}
-use Rattle.sg_seat.specs.WorldView.{Seat, is_offered, no_seat, seat_in}
+use Rattle.sg_play.specs.sg_hist.Clients.{calls_of}
+use Rattle.sg_play.specs.sg_hist.Reading.{desc_of}
+use Rattle.sg_play.specs.sg_plain.Calls.{most_client}
+use Rattle.sg_play.specs.sg_plain.Playing.Callers.{AreCallers, IsCaller, SetsUpFirst, all_of_first, handed, is_receipted}
+use Rattle.sg_play.specs.sg_plain.Playing.Given.{given_in}
+use Rattle.sg_play.specs.sg_plain.Playing.Playable.{AreClients, IsPlayable}
+use Rattle.sg_play.specs.sg_plain.Playing.Plays.{IsPlaying}
+use Rattle.sg_play.specs.sg_script.declared.script.Script.{Script}
+use Rattle.sg_play.specs.sg_script.declared.script.ScriptCall.{ScriptCall}
+use Rattle.sg_play.specs.sg_seat.WorldView.{Seat, is_offered, no_seat, seat_in}
 
 -- there is a first client, and no more than there may be
 pub clients_from_one : (above : ℕ) (clients : List (ℕ × List ScriptCall)) → AreClients above clients → 1 ≤ most_client clients

@@ -6,31 +6,31 @@ use Rattle.std.proofs.lemmas.Bool.Decides.{nat_tests}
 use Rattle.sg_facts.specs.Legal.{IsLegal}
 use Rattle.sg_facts.proofs.Legality.{IsLegal-from}
 use Rattle.sg_facts.specs.Trace.{run_of}
-use Rattle.sg_base.specs.declared.call.Call.{Call}
+use Rattle.sg_facts.specs.sg_base.declared.call.Call.{Call}
 use Rattle.sg_facts.specs.Facts.{fun_at}
 use Rattle.sg_facts.specs.Object.{Object}
 use Rattle.sg_play.proofs.Following.Following.{following_end}
 use Rattle.sg_play.proofs.Following.Whose.{nobody_next}
-use Rattle.sg_hist.specs.Recovered.{EndsUsed, HasRecovered, IsRecovered, struck_in}
-use Rattle.sg_hist.specs.declared.ended.End.{End}
-use Rattle.sg_hist.specs.declared.ended.Ended.{Ended}
-use Rattle.sg_plain.specs.Calls.{AreEnds, most_client}
-use Rattle.sg_plain.proofs.Ending.Alone.{plain_alone}
-use Rattle.sg_plain.proofs.Ending.Plays.{plain_ends}
-use Rattle.sg_plain.specs.Playing.Callers.{is_setting_up}
-use Rattle.sg_plain.specs.Promises.{AreScriptsCalls, AreWoken}
+use Rattle.sg_play.specs.sg_hist.Recovered.{EndsUsed, HasRecovered, IsRecovered, struck_in}
+use Rattle.sg_play.specs.sg_hist.declared.ended.End.{End}
+use Rattle.sg_play.specs.sg_hist.declared.ended.Ended.{Ended}
+use Rattle.sg_play.specs.sg_plain.Calls.{AreEnds, most_client}
+use Rattle.sg_play.proofs.sg_plain.Ending.Alone.{plain_alone}
+use Rattle.sg_play.proofs.sg_plain.Ending.Plays.{plain_ends}
+use Rattle.sg_play.specs.sg_plain.Playing.Callers.{is_setting_up}
+use Rattle.sg_play.specs.sg_plain.Promises.{AreScriptsCalls, AreWoken}
 use Rattle.sg_play.specs.Recovering.{RecoversSoFar}
-use Rattle.sg_plain.proofs.Playing.Ending.{playing_ends, playing_waiting}
-use Rattle.sg_plain.proofs.Playing.Playing.{playing_calls}
-use Rattle.sg_plain.specs.Playing.Ends.{end_of, ends_from, has_calls}
-use Rattle.sg_plain.specs.Playing.Turns.{NobodyGoes}
-use Rattle.sg_script.specs.declared.script.Script.{Script}
-use Rattle.sg_seat.specs.WorldView.{Seat, WorldView, no_seat, offered_by, seat_in, unanswered}
+use Rattle.sg_play.proofs.sg_plain.Playing.Ending.{playing_ends, playing_waiting}
+use Rattle.sg_play.proofs.sg_plain.Playing.Playing.{playing_calls}
+use Rattle.sg_play.specs.sg_plain.Playing.Ends.{end_of, ends_from, has_calls}
+use Rattle.sg_play.specs.sg_plain.Playing.Turns.{NobodyGoes}
+use Rattle.sg_play.specs.sg_script.declared.script.Script.{Script}
+use Rattle.sg_play.specs.sg_seat.WorldView.{Seat, WorldView, no_seat, offered_by, seat_in, unanswered}
 use Rattle.sg_sim.specs.Inside.Keeps.{KeepsPlay}
 use Rattle.sg_sim.proofs.Beginning.{clients_from_one}
 use Rattle.sg_sim.specs.Played.{FollowsSchedule, IsPlayed}
 use Rattle.sg_play.proofs.Waking.Waking.{waking_used, waking_woken}
-use Rattle.sg_world_laws.specs.Setting.{Setting, stubs_of}
+use Rattle.sg_play.specs.sg_world_laws.Setting.{Setting, stubs_of}
 
 -- ---- ends
 
@@ -60,7 +60,7 @@ length_taken seats zero below = refl
 length_taken [] (suc k) below = absurd (omega (arith, below))
 length_taken (s ∷ seats) (suc k) below = ap suc (length_taken seats k (omega (arith, below)))
 
--- behind the ends of so many clients comes that of the next, where it has a call
+-- after the ends of so many clients comes that of the next, where it has a call
 pub next_end : (script : Script) (seats : List Seat) (k : ℕ) → k < length seats
     → ends_from script 1 (take (k + 1) seats) ≡ ends_from script 1 (take k seats) ++ cond (has_calls script (k + 1)) ((k + 1, end_of (seat_in seats (k + 1))) ∷ []) []
 next_end script seats k below =

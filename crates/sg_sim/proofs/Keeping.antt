@@ -2,30 +2,30 @@
 use Rattle.std.proofs.Common.{◌≡◌, ◌⊎◌, ℕ, ◌-◌, ◌≤◌, Bool, true, false, cond, List, [], length, map, refl, sym, ◌∙◌, ap, subst, inl, inr, arith, replicate, None, Some}
 use Rattle.std.specs.declared.option.Option.{Option}
 use Rattle.std.specs.Prelude.{nat_lt}
-use Rattle.sg_base.specs.declared.call.Call.{Call}
+use Rattle.sg_facts.specs.sg_base.declared.call.Call.{Call}
 use Rattle.sg_facts.specs.Facts.{Facts}
 use Rattle.sg_play.proofs.Following.Following.{following_happened, following_new, following_offer, following_taken, following_wanted}
 use Rattle.sg_play.specs.Following.Follows.{IsFollowing}
 use Rattle.sg_play.specs.Following.Stages.{IsNextTurn, stage_of}
-use Rattle.sg_hist.specs.Clients.{calls_of}
-use Rattle.sg_plain.specs.Calls.{call_after, most_client, script_calls}
+use Rattle.sg_play.specs.sg_hist.Clients.{calls_of}
+use Rattle.sg_play.specs.sg_plain.Calls.{call_after, most_client, script_calls}
 use Rattle.sg_play.specs.Turning.{StepsInTurn, behind_step, with_call, with_offer, with_leaving}
-use Rattle.sg_plain.specs.Playing.Playable.{IsPlayable}
-use Rattle.sg_plain.specs.Playing.Plays.{IsPlaying}
-use Rattle.sg_plain.specs.Playing.Turns.{is_free_phase}
-use Rattle.sg_script.specs.declared.script.Script.{Script}
-use Rattle.sg_seat.specs.WorldView.{WorldView, happened, in_phase, is_left_phase, new_world, no_seat, seat_of, with_mark}
-use Rattle.sg_seat.specs.declared.mark.MarkKind.TheVariants.{Leave}
-use Rattle.sg_seat.specs.declared.phase.Phase.TheVariants.{Left}
+use Rattle.sg_play.specs.sg_plain.Playing.Playable.{IsPlayable}
+use Rattle.sg_play.specs.sg_plain.Playing.Plays.{IsPlaying}
+use Rattle.sg_play.specs.sg_plain.Playing.Turns.{is_free_phase}
+use Rattle.sg_play.specs.sg_script.declared.script.Script.{Script}
+use Rattle.sg_play.specs.sg_seat.WorldView.{WorldView, happened, in_phase, is_left_phase, new_world, no_seat, seat_of, with_mark}
+use Rattle.sg_play.specs.sg_seat.declared.mark.MarkKind.TheVariants.{Leave}
+use Rattle.sg_play.specs.sg_seat.declared.phase.Phase.TheVariants.{Left}
 use Rattle.sg_sim.proofs.Beginning.{playing_new}
 use Rattle.sg_sim.specs.Inside.Keeps.{KeepsPlay}
 use Rattle.sg_sim.specs.Inside.Taken.{MissesTurn, TakesTurn, behind_offer}
 use Rattle.sg_play.proofs.Waking.Waking.{waking_happened, waking_new, waking_offer, waking_turn, waking_wanted}
 use Rattle.sg_play.specs.Waking.Waking.{IsWaking, no_query_waits}
-use Rattle.sg_world.specs.declared.did.Did.{Did}
-use Rattle.sg_world.specs.declared.did.Did.TheVariants.{Answered, Blocked as Waits, Booted, Loaded, Lost, Replayed, Served, Skipped, Struck}
-use Rattle.sg_world.specs.Steps.{Commits, Steps, WantsMemory}
-use Rattle.sg_world_laws.specs.Setting.{Setting}
+use Rattle.sg_play.specs.sg_world.declared.did.Did.{Did}
+use Rattle.sg_play.specs.sg_world.declared.did.Did.TheVariants.{Answered, Blocked as Waits, Booted, Loaded, Lost, Replayed, Served, Skipped, Struck}
+use Rattle.sg_play.specs.sg_world.Steps.{Commits, Steps, WantsMemory}
+use Rattle.sg_play.specs.sg_world_laws.Setting.{Setting}
 
 -- ---- nothing is withdrawn
 
@@ -120,7 +120,7 @@ module _ (z : Setting) (script : Script) (w : WorldView) (given : List (List ℕ
     none_waits = is.none_waits;
   }
 
-  -- a client took its turn, of which so many turns of the schedule are behind it then, and which may have been the next
+  -- a client took its turn, of which so many turns of the schedule are after it then, and which may have been the next
   pub kept_turn : (client : ℕ) → 1 ≤ client → client ≤ length w.seats → (later : ℕ) (ordered : Bool) → (ordered ≡ true → (in_order ≡ true) × IsNextTurn script (stage_of script w passed last) client later)
       → (handed : Option ℕ) (now : WorldView) (gave : List (List ℕ)) → TakesTurn z script w given client handed now gave → KeepsPlay z script now gave later client ordered
   kept_turn client first there later ordered next handed now gave t = record {

@@ -6,3 +6,4 @@ mod Keeping
 mod Lists
 mod Taking
 mod Turning
+pub use Rattle.sg_play.proofs.sg_plain

@@ -4,13 +4,13 @@ use Rattle.std.specs.declared.option.Option.{Option}
 use Rattle.std.specs.declared.result.Result.{Result}
 use Rattle.sg_play.specs.Recovering.{RecoversSoFar}
 use Rattle.sg_play.specs.Turning.{StepsInTurn, with_offer}
-use Rattle.sg_plain.specs.Playing.Given.{with_handed}
-use Rattle.sg_plain.specs.Playing.Plays.{IsPlaying}
-use Rattle.sg_script.specs.declared.script.Script.{Script}
-use Rattle.sg_seat.specs.WorldView.{WorldView, happened}
+use Rattle.sg_play.specs.sg_plain.Playing.Given.{with_handed}
+use Rattle.sg_play.specs.sg_plain.Playing.Plays.{IsPlaying}
+use Rattle.sg_play.specs.sg_script.declared.script.Script.{Script}
+use Rattle.sg_play.specs.sg_seat.WorldView.{WorldView, happened}
 use Rattle.sg_sim.specs.Inside.Taken.{MissesTurn, TakesTurn, behind_offer}
-use Rattle.sg_world.specs.Steps.{WantsMemory}
-use Rattle.sg_world_laws.specs.Setting.{Setting}
+use Rattle.sg_play.specs.sg_world.Steps.{WantsMemory}
+use Rattle.sg_play.specs.sg_world_laws.Setting.{Setting}
 
 pub on_err : {A E : Type 0} (P : Type 0) (r : Result A E) → P → OnErr r P
 on_err P (Ok a) holds = tt

@@ -6,9 +6,9 @@ use Rattle.sg_play.proofs.Following.Turns.{turns_alike, turns_beyond}
 use Rattle.sg_play.proofs.Following.Whose.{next_around, next_behind, scheduled_turn, setup_turn}
 use Rattle.sg_play.specs.Following.Stages.{IsNextTurn, stage_of}
 use Rattle.sg_facts.specs.Interface.{Declared}
-use Rattle.sg_plain.specs.Playing.Callers.{is_setting_up}
-use Rattle.sg_plain.specs.Playing.Plays.{IsPlaying}
-use Rattle.sg_plain.specs.Playing.Turns.{NobodyGoes}
+use Rattle.sg_play.specs.sg_plain.Playing.Callers.{is_setting_up}
+use Rattle.sg_play.specs.sg_plain.Playing.Plays.{IsPlaying}
+use Rattle.sg_play.specs.sg_plain.Playing.Turns.{NobodyGoes}
 use Rattle.sg_sim.specs.Inside.Next.{IsFirstBehind, NoneBehind, NoneScheduled, may_go_next, stage_now}
 use Rattle.sg_sim.specs.Playing.{Playing}
 

@@ -5,12 +5,12 @@ use Rattle.sg_facts.specs.Interface.{Declared}
 use Rattle.sg_facts.specs.Legal.{IsLegal, Table}
 use Rattle.sg_facts.specs.Trace.{Run, run_of}
 use Rattle.sg_facts.specs.declared.entry.Entry.{Entry}
-use Rattle.sg_hist.specs.declared.ended.Ended.{Ended}
-use Rattle.sg_hist.specs.Recovered.{HasRecovered, Stubs, struck_in}
-use Rattle.sg_plain.specs.Calls.{AreEnds}
-use Rattle.sg_plain.specs.Plain.{IsPlainPlay}
-use Rattle.sg_plain.specs.Promises.{AreScriptsCalls, AreWoken, FollowsPlain, GetsPlainAlone}
-use Rattle.sg_script.specs.declared.script.Script.{Script}
+use Rattle.sg_play.specs.sg_hist.declared.ended.Ended.{Ended}
+use Rattle.sg_play.specs.sg_hist.Recovered.{HasRecovered, Stubs, struck_in}
+use Rattle.sg_play.specs.sg_plain.Calls.{AreEnds}
+use Rattle.sg_play.specs.sg_plain.Plain.{IsPlainPlay}
+use Rattle.sg_play.specs.sg_plain.Promises.{AreScriptsCalls, AreWoken, FollowsPlain, GetsPlainAlone}
+use Rattle.sg_play.specs.sg_script.declared.script.Script.{Script}
 
 -- the play of the script without stops ends; up to the last visible entry of the first boot the history is its, and wholly so where
 -- nothing stopped, or where client 1 alone has calls

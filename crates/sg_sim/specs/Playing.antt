@@ -1,9 +1,9 @@
 -- What contracts see of a play.
 use Rattle.std.specs.Prelude.{ℕ, Bool, ◌&&◌, nat_le, List, length}
 use Rattle.sg_facts.specs.Tables.{Compiled}
-use Rattle.sg_plain.specs.Playing.Turns.{may_take_turn}
-use Rattle.sg_script.specs.declared.script.Script.{Script}
-use Rattle.sg_seat.specs.WorldView.{WorldView, seat_of}
+use Rattle.sg_play.specs.sg_plain.Playing.Turns.{may_take_turn}
+use Rattle.sg_play.specs.sg_script.declared.script.Script.{Script}
+use Rattle.sg_play.specs.sg_seat.WorldView.{WorldView, seat_of}
 
 -- its tables, its script and the plan of its stops, which don't change, its world, how many turns of the schedule were taken or passed
 -- over, the client of the last turn, 0 before the first, and whether each turn so far was that of the play without stops

@@ -1,9 +1,9 @@
 // What the calls of the clients were given.
 ghost use Rattle.std.specs.Prelude.{◌≡◌, ◌≤◌, ◌<◌, [], Some, IfOk, OnOk, length, replicate};
-ghost use Rattle.sg_plain.specs.Playing.Given.{given_in, with_handed};
+ghost use Rattle.sg_play.specs.sg_plain.Playing.Given.{given_in, with_handed};
 ghost use Rattle.sg_sim.specs.Inside.Givens.{lists_of, room_for};
 
-use sg_base::{NoMemory, RoomyList};
+use sg_facts::{NoMemory, RoomyList};
 use std::alloc::Global;
 use std::marker::Model;
 
@@ -16,7 +16,7 @@ pub struct Given {
 
 impl Model for Given {
     ghost use Rattle.std.specs.Prelude.{ℕ, List};
-    ghost use Rattle.sg_base.specs.Room.{Roomy};
+    ghost use Rattle.sg_facts.specs.sg_base.Room.{Roomy};
 
     ghost Value = { List (Roomy ℕ) };
 

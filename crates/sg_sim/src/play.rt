@@ -1,32 +1,27 @@
 // A play: whose turn it is, and the play to its end.
 ghost use Rattle.std.specs.Prelude.{◌≡◌, ◌≤◌, ◌<◌, ◌++◌, ℕ, List, [], true, false, None, IfOk, IfSome, OnErr, OnOk, length, nat_lt, replicate};
-ghost use Rattle.sg_plain.specs.Playing.Callers.{is_setting_up};
-ghost use Rattle.sg_plain.specs.Playing.Ends.{end_of, ends_from};
+ghost use Rattle.sg_play.specs.sg_plain.Playing.Callers.{is_setting_up};
+ghost use Rattle.sg_play.specs.sg_plain.Playing.Ends.{end_of, ends_from};
 ghost use Rattle.sg_sim.specs.Inside.Ends.{end_by};
-ghost use Rattle.sg_plain.specs.Playing.Playable.{IsPlayable};
-ghost use Rattle.sg_plain.specs.Playing.Turns.{NobodyGoes, may_go};
+ghost use Rattle.sg_play.specs.sg_plain.Playing.Playable.{IsPlayable};
+ghost use Rattle.sg_play.specs.sg_plain.Playing.Turns.{NobodyGoes, may_go};
 ghost use Rattle.sg_facts.specs.Trace.{run_of};
-ghost use Rattle.sg_plain.specs.Calls.{most_client, script_calls};
+ghost use Rattle.sg_play.specs.sg_plain.Calls.{most_client, script_calls};
 ghost use Rattle.sg_play.specs.Turning.{StepsInTurn, with_offer};
 ghost use Rattle.sg_play.specs.Following.Stages.{IsNextTurn};
 ghost use Rattle.sg_sim.specs.Inside.Next.{IsFirstBehind, NoneBehind, NoneScheduled, may_go_next, stage_now};
-ghost use Rattle.sg_seat.specs.WorldView.{is_blocked_phase, new_world, no_seat, seat_of};
+ghost use Rattle.sg_play.specs.sg_seat.WorldView.{is_blocked_phase, new_world, no_seat, seat_of};
 ghost use Rattle.sg_sim.specs.Played.{FollowsSchedule, IsPlayed};
 ghost use Rattle.sg_sim.specs.Playing.{can_step};
 ghost use Rattle.sg_play.specs.Waking.Waking.{no_query_waits};
-ghost use Rattle.sg_world.specs.Worlded.{setting_of};
-ghost use Rattle.sg_world_laws.specs.Setting.{stubs_of};
+ghost use Rattle.sg_play.specs.sg_world.Worlded.{setting_of};
+ghost use Rattle.sg_play.specs.sg_world_laws.Setting.{stubs_of};
 
 use crate::given::Given;
 use crate::played::Played;
 use crate::turn::take_turn;
-use sg_base::{NoMemory, Stops, TryCopy};
-use sg_facts::{Service, Tables};
-use sg_hist::{End, EndList, Ended};
-use sg_play::{most_client, script_call};
-use sg_script::Script;
-use sg_seat::Phase;
-use sg_world::World;
+use sg_facts::{NoMemory, Service, Stops, Tables, TryCopy};
+use sg_play::{End, EndList, Ended, Phase, Script, World, most_client, script_call};
 use std::alloc::Global;
 use std::marker::Model;
 
@@ -55,7 +50,7 @@ impl<S: Service, T: Stops> Model for Play<S, T> {
     ghost use Rattle.sg_sim.specs.Inside.Givens.{lists_of};
     ghost use Rattle.sg_sim.specs.Inside.Keeps.{KeepsPlay};
     ghost use Rattle.sg_sim.specs.Playing.{Playing};
-    ghost use Rattle.sg_world.specs.Worlded.{setting_of};
+    ghost use Rattle.sg_play.specs.sg_world.Worlded.{setting_of};
 
     ghost Value = { Playing };
 
@@ -64,7 +59,7 @@ impl<S: Service, T: Stops> Model for Play<S, T> {
     ghost invariant = { λ p. KeepsPlay (setting_of S.ask S.sound S.parts p.world.tables) p.script p.world.view (lists_of p.given) p.passed p.last p.in_order };
 }
 
-// A turn that is to be taken: its client, and how many turns of the schedule are behind it.
+// A turn that is to be taken: its client, and how many turns of the schedule are after it.
 #[derive(Clone, Copy, Debug)]
 struct Turn {
     client: u8,
@@ -143,7 +138,7 @@ impl<S: Service, T: Stops> Play<S, T> {
     }
 
     /// Makes one turn of a client, whatever the schedule says: the client offers its next call where it has none under way, makes a step,
-    /// and leaves behind its last call. Gives the descriptor of the reply that was handed over, 0 for none; None where no reply was.
+    /// and leaves after its last call. Gives the descriptor of the reply that was handed over, 0 for none; None where no reply was.
     /// After `NoMemory` the turn may be made again.
     pub fn turn(&mut self, alloc: Global, client: u8) -> Result<Option<u64>, NoMemory>
         requires can { can_step self.old client ≡ true }
@@ -279,7 +274,7 @@ impl<S: Service, T: Stops> Play<S, T> {
         }
     }
 
-    // The next turn of the schedule whose client can take it, behind the setup.
+    // The next turn of the schedule whose client can take it, after the setup.
     fn next_scheduled(&self) -> Option<Turn>
         requires settled { is_setting_up self.now.script self.now.view.seats ≡ false }
         ensures first { IfSome result (λ turn. 1 ≤ turn.client) }
@@ -300,7 +295,7 @@ impl<S: Service, T: Stops> Play<S, T> {
         None
     }
 
-    // The turn of the next client that can take one, where the schedule gives none: in ascending numbers behind the client of the last
+    // The turn of the next client that can take one, where the schedule gives none: in ascending numbers after the client of the last
     // turn, and then from 1 on.
     fn next_in_circle(&self) -> Option<Turn>
         requires settled { is_setting_up self.now.script self.now.view.seats ≡ false }
@@ -320,7 +315,7 @@ impl<S: Service, T: Stops> Play<S, T> {
         }
     }
 
-    // The first client behind one, and up to another, that can take a turn.
+    // The first client after one, and up to another, that can take a turn.
     fn next_behind(&self, behind: u8, last: u8) -> Option<u8>
         requires { last ≤ length self.now.view.seats }
         ensures some { IfSome result (IsFirstBehind self.now behind last) }

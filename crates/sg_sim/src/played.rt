@@ -1,5 +1,5 @@
 // A run that was played.
-use sg_hist::Ended;
+use sg_play::Ended;
 use std::marker::Model;
 
 /// A run that came to its end. Only a play makes one. Contracts see what the run came to.
@@ -9,7 +9,7 @@ pub struct Played {
 }
 
 impl Model for Played {
-    ghost use Rattle.sg_hist.specs.declared.ended.Ended.{Ended as WhatItCameTo};
+    ghost use Rattle.sg_play.specs.sg_hist.declared.ended.Ended.{Ended as WhatItCameTo};
 
     ghost Value = { WhatItCameTo };
 

@@ -1,14 +1,13 @@
 // Plays a script.
 ghost use Rattle.std.specs.Prelude.{◌≡◌, [], true, IfOk};
 ghost use Rattle.sg_facts.specs.Trace.{run_of};
-ghost use Rattle.sg_plain.specs.Playing.Playable.{IsPlayable};
+ghost use Rattle.sg_play.specs.sg_plain.Playing.Playable.{IsPlayable};
 ghost use Rattle.sg_sim.specs.Played.{FollowsSchedule, IsPlayed};
 ghost use Rattle.sg_play.specs.Waking.Waking.{no_query_waits};
 
 use crate::{Play, Played};
-use sg_base::{NoMemory, Stops};
-use sg_facts::{Service, Tables};
-use sg_script::Script;
+use sg_facts::{NoMemory, Service, Stops, Tables};
+use sg_play::Script;
 use std::alloc::Global;
 
 /// Plays a script to its end on a service, by its tables: until no client can take a turn. The service stops where its stops say, of

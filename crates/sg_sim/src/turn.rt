@@ -1,21 +1,18 @@
 // The turn of a client.
 ghost use Rattle.std.specs.Prelude.{◌≡◌, ◌≤◌, ℕ, List, [], true, IfOk, OnErr, length};
 ghost use Rattle.sg_play.specs.Recovering.{RecoversSoFar};
-ghost use Rattle.sg_plain.specs.Playing.Callers.{is_setting_up};
-ghost use Rattle.sg_plain.specs.Playing.Plays.{IsPlaying};
+ghost use Rattle.sg_play.specs.sg_plain.Playing.Callers.{is_setting_up};
+ghost use Rattle.sg_play.specs.sg_plain.Playing.Plays.{IsPlaying};
 ghost use Rattle.sg_sim.specs.Inside.Givens.{lists_of};
 ghost use Rattle.sg_sim.specs.Inside.Taken.{MissesTurn, TakesTurn};
-ghost use Rattle.sg_world.specs.Worlded.{setting_of};
+ghost use Rattle.sg_play.specs.sg_world.Worlded.{setting_of};
 
 use crate::given::Given;
-use sg_base::{NoMemory, Stops};
-use sg_facts::Service;
-use sg_play::{make_step, offer_next};
-use sg_script::Script;
-use sg_world::World;
+use sg_facts::{NoMemory, Service, Stops};
+use sg_play::{Script, World, make_step, offer_next};
 use std::alloc::Global;
 
-/// A client takes its turn: it offers its next call where it has none under way, makes a step, and leaves behind its last call. What it
+/// A client takes its turn: it offers its next call where it has none under way, makes a step, and leaves after its last call. What it
 /// is given is noted where a reply is handed over: the descriptor, 0 for none. None where no reply was.
 pub fn take_turn<S: Service, T: Stops>(
     alloc: Global,

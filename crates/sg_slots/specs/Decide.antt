@@ -1,7 +1,7 @@
 -- When a decision is the right one.
 use Rattle.std.specs.Prelude.{ℕ, ◌≡◌, None, IfSome}
-use Rattle.sg_base.specs.declared.call.Call.{Call}
-use Rattle.sg_base.specs.declared.reply.Reply.{Reply}
+use Rattle.sg_facts.specs.sg_base.declared.call.Call.{Call}
+use Rattle.sg_facts.specs.sg_base.declared.reply.Reply.{Reply}
 use Rattle.sg_facts.specs.Facts.{Facts}
 use Rattle.sg_facts.specs.Object.{after, patch_of}
 use Rattle.sg_facts.specs.Legal.{Table}

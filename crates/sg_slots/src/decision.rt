@@ -5,8 +5,7 @@ ghost use Rattle.sg_slots.specs.Slots.{entry_at, set_entry, AreIds};
 ghost use Rattle.sg_slots.specs.Carry.{Adds, Carries, AnswersOnly, IsAbout, words_of, ok_reply};
 
 use crate::Slots;
-use sg_base::{Bytes, Code, Good, NoMemory, Point, Reply, Stops, Words};
-use sg_facts::Outcome;
+use sg_facts::{Bytes, Code, Good, NoMemory, Outcome, Point, Reply, Stops, Words};
 use std::alloc::Global;
 use std::collections::BTreeMap;
 use std::collections::btree_map::Entry;

@@ -9,8 +9,7 @@ ghost use Rattle.sg_slots.specs.RowModel.{RowModel};
 ghost use Rattle.sg_slots.specs.Slots.{object_of, row_with, rows_of};
 
 use crate::{Decision, Slot, Slots, carry_out};
-use sg_base::{Call, NoMemory, Path, Stops};
-use sg_facts::{Outcome, Parents, Service, Shape};
+use sg_facts::{Call, NoMemory, Outcome, Parents, Path, Service, Shape, Stops};
 use std::alloc::Global;
 
 /// What shapes of services of single rows have in common: no parents, every client may use every descriptor, some function

@@ -13,7 +13,7 @@ part_front old more from len within =
     ap (take len) (drop-append-le from old more (omega arith))
     ∙ take-append-le len (drop from old) more (omega (arith, length-drop from old))
 
--- the first bytes behind the front
+-- the first bytes after the front
 pub part_more : (old copy more : List ℕ) (len : ℕ) → length copy ≡ len → buffer_part ((old ++ copy) ++ more) (length old) len ≡ copy
 part_more old copy more len is =
     ap (λ l. buffer_part l (length old) len) (append_assoc old copy more) ∙ ap (take len) (drop_at old (copy ++ more) (length old) refl) ∙ take_at copy more len is
@@ -36,7 +36,7 @@ part_before old bytes at from len before within =
     ∙ part_front (take at old) (bytes ++ drop (at + length bytes) old) from len short
     ∙ sym (part_front (take at old) (drop at old) from len short) ∙ ap (λ l. buffer_part l from len) (take-append-drop at old)
 
--- a part behind what is written
+-- a part after what is written
 pub part_behind : (old bytes : List ℕ) (at from len : ℕ) → at + length bytes ≤ from → at ≤ length old → buffer_part (over old at bytes) from len ≡ buffer_part old from len
 part_behind old bytes at from len behind within =
     let m = from - (at + length bytes) in
@@ -47,7 +47,7 @@ part_behind old bytes at from len behind within =
     ∙ drop-drop m (at + length bytes) old ∙ ap (λ k. drop k old) is
     )
 
--- what is written behind a place is written into what follows the place
+-- what is written after a place is written into what follows the place
 drop_over : (old bytes : List ℕ) (from at : ℕ) → from + at ≤ length old → drop from (over old (from + at) bytes) ≡ over (drop from old) at bytes
 drop_over old bytes from at within =
     let rest = drop (from + at + length bytes) old in

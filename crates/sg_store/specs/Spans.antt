@@ -86,6 +86,6 @@ abbrev pub patched_at : Option Patch → List ℕ → List ℕ → List ℕ
 patched_at None key bytes = bytes
 patched_at (Some p) key bytes = if bytes_eq key p.key then over bytes p.from p.bytes else bytes
 
--- the bytes of a file from a place up to another; None where the first is behind the second, or the second past the end
+-- the bytes of a file from a place up to another; None where the first is after the second, or the second past the end
 abbrev pub cut : List ℕ → ℕ → ℕ → Option (List ℕ)
 cut file from to = if nat_le from to && nat_le to (length file) then Some (slice_range file from to) else None

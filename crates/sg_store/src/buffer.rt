@@ -5,7 +5,7 @@ ghost use Rattle.std.specs.Option.{option_copied};
 ghost use Rattle.sg_store.specs.Spans.{cut};
 ghost use Rattle.sg_store.specs.Inside.Buffers.{IsFrontOf, HasCopy};
 
-use sg_base::NoMemory;
+use sg_facts::NoMemory;
 
 /// Writes bytes over those of a buffer from a place on.
 pub(crate) fn write_at(buffer: &mut Vec<u8>, at: usize, bytes: &[u8])
@@ -35,7 +35,7 @@ pub(crate) fn add_copy(
     Ok(())
 }
 
-/// The bytes of a file from a place up to another; None exactly where the first is behind the second, or the second past the
+/// The bytes of a file from a place up to another; None exactly where the first is after the second, or the second past the
 /// end.
 pub(crate) fn cut(file: &[u8], from: u32, to: u32) -> Option<&[u8]>
     ensures { option_copied result ≡ cut file.now from to }

@@ -5,9 +5,8 @@ ghost use Rattle.sg_store.specs.Spans.{AreApart, FitsPatch, GrowsTwice, HasRoomI
 ghost use Rattle.sg_store.specs.Inside.Places.{HasSpan};
 
 use crate::buffer::{add_copy, write_at};
-use crate::places::{Span, Places, add_place, place_of, set_place};
-use sg_base::{NoMemory, Path};
-use sg_facts::{MOST_FILE, MOST_WRITTEN, Patch};
+use crate::places::{Places, Span, add_place, place_of, set_place};
+use sg_facts::{MOST_FILE, MOST_WRITTEN, NoMemory, Patch, Path};
 use std::alloc::Global;
 use std::collections::BTreeMap;
 use std::marker::Model;

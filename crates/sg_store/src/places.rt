@@ -4,7 +4,7 @@ ghost use Rattle.std.specs.Str.{bytes_eq};
 ghost use Rattle.sg_store.specs.Spans.{span_at};
 ghost use Rattle.sg_store.specs.Inside.Places.{span_of, placed_span, spans_of};
 
-use sg_base::NoMemory;
+use sg_facts::NoMemory;
 use std::alloc::Global;
 use std::collections::BTreeMap;
 

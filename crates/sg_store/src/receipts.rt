@@ -3,7 +3,7 @@ ghost use Rattle.std.specs.Prelude.{◌≡◌, ◌+◌, ◌-◌, ◌≤◌, None
 ghost use Rattle.std.specs.Option.{option_copied};
 ghost use Rattle.sg_store.specs.Stored.{receipt_in};
 
-use sg_base::{NoMemory, Reply};
+use sg_facts::{NoMemory, Reply};
 use std::alloc::Global;
 
 /// That the effect of a client's call is in the storage.

@@ -6,8 +6,7 @@ ghost use Rattle.sg_facts.specs.Track.{row_at, track};
 ghost use Rattle.sg_store.specs.Committing.{MayFollow, NamesNext};
 ghost use Rattle.sg_track.specs.Tracked.{spare_after};
 
-use sg_base::{Call, NoMemory, Reply};
-use sg_facts::{Interface, Row, Tables};
+use sg_facts::{Call, Interface, NoMemory, Reply, Row, Tables};
 use sg_track::Tracker;
 use std::alloc::Global;
 use std::marker::Model;

@@ -12,8 +12,7 @@ use crate::buffer::cut;
 use crate::files::{Files, write_patch};
 use crate::receipts::{Receipt, no_receipts, put_receipt, receipt_of};
 use crate::rows::Rows;
-use sg_base::{Call, NoMemory, Path, Reply};
-use sg_facts::{Patch, Row, Tables};
+use sg_facts::{Call, NoMemory, Patch, Path, Reply, Row, Tables};
 use std::alloc::Global;
 use std::marker::Model;
 

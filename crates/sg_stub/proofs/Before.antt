@@ -19,10 +19,10 @@ use Rattle.sg_facts.specs.Interface.{Declared, declares}
 use Rattle.sg_facts.specs.Tables.{AreTables, is_for, line_order, walk_of}
 use Rattle.sg_facts.specs.Walks.{IsReachable, IsWalkOf, made, moved}
 use Rattle.sg_facts.proofs.Halving.{not_found, of_before}
-use Rattle.sg_walk.proofs.Reach.Adding.{four_fields}
-use Rattle.sg_walk.proofs.Reach.Closure.{there}
-use Rattle.sg_walk.proofs.Reach.Marks.{only}
-use Rattle.sg_walk.proofs.Reach.Reaching.{made_declared, place_reached}
+use Rattle.sg_check.proofs.sg_walk.Reach.Adding.{four_fields}
+use Rattle.sg_check.proofs.sg_walk.Reach.Closure.{there}
+use Rattle.sg_check.proofs.sg_walk.Reach.Marks.{only}
+use Rattle.sg_check.proofs.sg_walk.Reach.Reaching.{made_declared, place_reached}
 use Rattle.sg_check.specs.Shapes.{IsSmall}
 use Rattle.sg_check.proofs.Seeking.{walked_set}
 use Rattle.sg_stub.specs.Inside.Lines.{AreBefore, IsBefore, IsGood, IsLineOf}
@@ -61,7 +61,7 @@ module _ (i : Declared) (fits : Fits i) (small : IsSmall i) where
       let less = (place_reached i by state set reached).0 in
       omega (arith, few, less)
 
--- ---- the walk of a line behind others
+-- ---- the walk of a line after others
 
 walk_kept : (lines : List WalkLine) (x : WalkLine) (m s k : ℕ) (walk : List ℕ) → walk_of lines m s k ≡ Some walk → walk_of (lines ++ x ∷ []) m s k ≡ Some walk
 walk_kept [] x m s k walk is = absurd (cc is)

@@ -1,3 +1,4 @@
 pub mod TripleSets
 pub mod Before
 pub mod OneTable
+pub use Rattle.sg_check.proofs as sg_check

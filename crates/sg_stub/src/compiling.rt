@@ -4,10 +4,8 @@ ghost use Rattle.sg_facts.specs.Tables.{AreTables};
 
 use crate::lines::lines_of;
 use crate::triples::TripleSet;
-use sg_base::{NoMemory, TryCopy};
-use sg_check::Accepted;
-use sg_facts::Tables;
-use sg_walk::reachable;
+use sg_check::{Accepted, reachable};
+use sg_facts::{NoMemory, Tables, TryCopy};
 use std::alloc::Global;
 
 /// The tables of an accepted interface: one line for each creation, state and set of fields that its descriptors can come to,

@@ -1,16 +1,15 @@
 // The lines of tables, in order.
 ghost use Rattle.std.specs.Prelude.{◌≡◌, ◌≤◌, ◌<◌, ◌+◌, true, IfOk, OnOk, length};
 ghost use Rattle.sg_facts.specs.Tables.{AreTables};
-ghost use Rattle.sg_walk.specs.Reach.Limits.{HasFourFields};
+ghost use Rattle.sg_check.specs.sg_walk.Reach.Limits.{HasFourFields};
 ghost use Rattle.sg_check.specs.Shapes.{IsSmall};
 ghost use Rattle.sg_facts.specs.Fits.{Fits};
 ghost use Rattle.sg_stub.specs.Inside.Lines.{AreBefore, IsLineOf};
 ghost use Rattle.sg_stub.specs.Inside.Triples.{AreIn, IsReachedBy};
 
 use crate::triples::TripleSet;
-use sg_base::NoMemory;
-use sg_facts::{END_OF_FUNS, Interface, WalkLine, WalkList};
-use sg_walk::shortest;
+use sg_check::shortest;
+use sg_facts::{END_OF_FUNS, Interface, NoMemory, WalkLine, WalkList};
 use std::alloc::Global;
 
 // One more than the greatest number of a set of at most four fields.

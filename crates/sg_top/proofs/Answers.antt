@@ -3,14 +3,14 @@ use Rattle.std.proofs.Common.{◌≡◌, ℕ, ◌+◌, ◌<◌, ◌≤◌, ◌�
 use Rattle.std.specs.declared.option.Option.{Option}
 use Rattle.std.specs.Io.KnownBytes.{Consumes, IsAtEnd}
 use Rattle.sg_edge.specs.Edge.{Rose, ConsumesJust}
-use Rattle.sg_hist.specs.declared.ended.End.{End}
-use Rattle.sg_hist.specs.declared.ended.Ended.{Ended}
+use Rattle.sg_report.specs.sg_hist.declared.ended.End.{End}
+use Rattle.sg_report.specs.sg_hist.declared.ended.Ended.{Ended}
 use Rattle.sg_top.specs.declared.command.Command.{Command}
 use Rattle.sg_top.specs.declared.command.Command.TheVariants.{Play, Check, Compile, Load}
 use Rattle.sg_top.specs.declared.status.Status.{Status}
 use Rattle.sg_top.specs.declared.status.Status.TheVariants.{Done, Waits, OtherWords, Refused, ReadFault, WriteFault, NoMemory}
 use Rattle.sg_input.specs.Lines.{too_long_line}
-use Rattle.sg_plain.specs.Promises.{somebody_waits}
+use Rattle.sg_load.specs.sg_plain.Promises.{somebody_waits}
 use Rattle.sg_top.specs.Answer.{Ends, HasRead, IsAnswer, IsOutput, IsOwnOutput, IsPlayOutput, IsRefusal, IsUntouched, ReadsInput, SaysRefused, ended_status, has_input, is_play, most_bytes}
 use Rattle.sg_top.specs.Inside.Delivery.{IsDelivered, IsWritten}
 use Rattle.sg_top.proofs.Refusals.{never_refused, refuses_nothing}

@@ -2,22 +2,22 @@
 use Rattle.std.proofs.Common.{◌≡◌, inl, inr, ℕ, Bool, true, false, List, None, Some, cond, refl, sym, ◌∙◌, ap, subst, arith}
 use Rattle.std.specs.List.{Contains}
 use Rattle.std.specs.Str.{bytes_eq}
-use Rattle.sg_check_statements.specs.Says.{service_of}
+use Rattle.sg_load.specs.sg_check_statements.Says.{service_of}
 use Rattle.sg_edge.specs.Stops.{AscendsAbove}
-use Rattle.sg_event.specs.EventFacts.{event_facts}
+use Rattle.sg_load.specs.sg_event.EventFacts.{event_facts}
 use Rattle.sg_facts.specs.Facts.{Facts}
 use Rattle.sg_facts.specs.Interface.{Declared}
 use Rattle.sg_input.specs.declared.input.Input.{Input}
 use Rattle.sg_input.specs.declared.input.Input.TheVariants.{Ready}
 use Rattle.sg_input.specs.Inputs.{IsInputOf, IsReady}
 use Rattle.sg_load.specs.Services.{facts_by}
-use Rattle.sg_lock.specs.LockFacts.{lock_facts}
-use Rattle.sg_mm.specs.MmFacts.{mm_facts}
-use Rattle.sg_plain.specs.Playing.Playable.{IsPlayable}
-use Rattle.sg_ramfs.specs.RamfsFacts.{ramfs_facts}
-use Rattle.sg_sched.specs.SchedFacts.{sched_facts}
-use Rattle.sg_script.specs.declared.script.Script.{Script}
-use Rattle.sg_plain.proofs.Flawless.Flawless.{script_playable, script_stops}
+use Rattle.sg_load.specs.sg_lock.LockFacts.{lock_facts}
+use Rattle.sg_load.specs.sg_mm.MmFacts.{mm_facts}
+use Rattle.sg_load.specs.sg_plain.Playing.Playable.{IsPlayable}
+use Rattle.sg_load.specs.sg_ramfs.RamfsFacts.{ramfs_facts}
+use Rattle.sg_load.specs.sg_sched.SchedFacts.{sched_facts}
+use Rattle.sg_input.specs.sg_script.declared.script.Script.{Script}
+use Rattle.sg_load.proofs.sg_plain.Flawless.Flawless.{script_playable, script_stops}
 use Rattle.sg_top.specs.Answer.{services}
 use Rattle.sg_top.specs.Headline.{answering, played_services}
 use Rattle.sg_top.specs.Inside.Kinds.{IsOneOfFive, kind_by}

@@ -10,10 +10,10 @@ use Rattle.sg_facts.specs.Interface.{Declared}
 use Rattle.sg_facts.specs.Tables.{AreTables}
 use Rattle.sg_facts.specs.Trace.{run_of}
 use Rattle.sg_facts.specs.declared.tables.WalkLine.{WalkLine}
-use Rattle.sg_hist.specs.declared.ended.Ended.{Ended}
+use Rattle.sg_report.specs.sg_hist.declared.ended.Ended.{Ended}
 use Rattle.sg_report.specs.Report.{report_of}
-use Rattle.sg_script.specs.declared.script.Script.{Script}
-use Rattle.sg_sim.specs.Played.{FollowsSchedule, IsPlayed}
+use Rattle.sg_input.specs.sg_script.declared.script.Script.{Script}
+use Rattle.sg_shared.specs.sg_sim.Played.{FollowsSchedule, IsPlayed}
 use Rattle.sg_input.specs.Inputs.{IsReady}
 use Rattle.sg_top.proofs.Fitting.{is_served, kind_is}
 use Rattle.sg_top.specs.Answer.{IsPlayOutput, ended_status, services}

@@ -6,17 +6,17 @@ use Rattle.std.specs.declared.string.String.{String}
 use Rattle.std.specs.declared.alloc.Global.{Global}
 use Rattle.sg_facts.specs.Facts.{Facts}
 use Rattle.sg_edge.specs.Edge.{Rose, ConsumesAtMost}
-use Rattle.sg_hist.specs.declared.ended.End.{End}
-use Rattle.sg_hist.specs.declared.ended.Ended.{Ended}
-use Rattle.sg_diagnose.specs.declared.outcome.Verdict.TheVariants.{Accepted as accepted, Refused as refused}
-use Rattle.sg_diagnose.specs.Verdicts.{IsCompiled, IsVerdict}
+use Rattle.sg_report.specs.sg_hist.declared.ended.End.{End}
+use Rattle.sg_report.specs.sg_hist.declared.ended.Ended.{Ended}
+use Rattle.sg_input.specs.sg_diagnose.declared.outcome.Verdict.TheVariants.{Accepted as accepted, Refused as refused}
+use Rattle.sg_input.specs.sg_diagnose.Verdicts.{IsCompiled, IsVerdict}
 use Rattle.sg_input.specs.declared.input.Input.TheVariants.{Refused as refused_input}
 use Rattle.sg_input.specs.Inputs.{IsInputOf, most_input, most_interface}
 use Rattle.sg_input.specs.Lines.{too_long_line}
-use Rattle.sg_lex.specs.Table.{IsNumber}
+use Rattle.sg_input.specs.sg_lex.Table.{IsNumber}
 use Rattle.sg_load.specs.Services.{facts_by}
-use Rattle.sg_plain.specs.Promises.{somebody_waits}
-use Rattle.sg_script.specs.Numbers.{greatest_number, value_of_digits}
+use Rattle.sg_load.specs.sg_plain.Promises.{somebody_waits}
+use Rattle.sg_input.specs.sg_script.Numbers.{greatest_number, value_of_digits}
 use Rattle.sg_top.specs.Headline.{IsRunOfLoad, IsRunOfInput, played_services}
 use Rattle.sg_top.specs.declared.command.Command.{Command}
 use Rattle.sg_top.specs.declared.command.Command.TheVariants.{Play, Check, Compile, Load}

@@ -1,35 +1,35 @@
 -- What a play promises, and of which inputs.
 use Rattle.std.specs.Prelude.{ℕ, ◌≡◌, Bool, false, List, [], ◌∷◌, map}
 use Rattle.std.specs.List.{Contains}
-use Rattle.sg_event.specs.EventFacts.{event_facts}
-use Rattle.sg_event.specs.EventTable.{event_parts, event_table}
+use Rattle.sg_load.specs.sg_event.EventFacts.{event_facts}
+use Rattle.sg_load.specs.sg_event.EventTable.{event_parts, event_table}
 use Rattle.sg_facts.specs.Facts.{Facts}
 use Rattle.sg_facts.specs.Interface.{Declared}
 use Rattle.sg_facts.specs.Legal.{IsLegal, Table}
 use Rattle.sg_facts.specs.Tables.{AreTables}
 use Rattle.sg_facts.specs.Trace.{run_of}
 use Rattle.sg_facts.specs.declared.tables.WalkLine.{WalkLine}
-use Rattle.sg_hist.specs.Recovered.{HasRecovered}
-use Rattle.sg_hist.specs.declared.ended.Ended.{Ended}
+use Rattle.sg_report.specs.sg_hist.Recovered.{HasRecovered}
+use Rattle.sg_report.specs.sg_hist.declared.ended.Ended.{Ended}
 use Rattle.sg_input.specs.Inputs.{IsReady}
 use Rattle.sg_load.specs.Generated.{generated}
 use Rattle.sg_facts.specs.Laws.{whole}
 use Rattle.sg_load.specs.Services.{facts_by}
 use Rattle.sg_load.specs.declared.kind.ServiceKind.{ServiceKind}
 use Rattle.sg_load.specs.declared.kind.ServiceKind.TheVariants.{Locks, Events, Pages, Files, Threads}
-use Rattle.sg_lock.specs.LockFacts.{lock_facts}
-use Rattle.sg_lock.specs.LockTable.{lock_parts, lock_table}
-use Rattle.sg_mm.specs.MmFacts.{mm_facts}
-use Rattle.sg_mm.specs.MmTable.{mm_parts, mm_table}
-use Rattle.sg_plain.specs.Calls.{AreEnds}
-use Rattle.sg_plain.specs.Promises.{AreScriptsCalls, AreScriptsStops, AreWoken}
-use Rattle.sg_ramfs.specs.RamfsFacts.{ramfs_facts}
-use Rattle.sg_ramfs.specs.RamfsTable.{ramfs_parts, ramfs_table}
+use Rattle.sg_load.specs.sg_lock.LockFacts.{lock_facts}
+use Rattle.sg_load.specs.sg_lock.LockTable.{lock_parts, lock_table}
+use Rattle.sg_load.specs.sg_mm.MmFacts.{mm_facts}
+use Rattle.sg_load.specs.sg_mm.MmTable.{mm_parts, mm_table}
+use Rattle.sg_load.specs.sg_plain.Calls.{AreEnds}
+use Rattle.sg_load.specs.sg_plain.Promises.{AreScriptsCalls, AreScriptsStops, AreWoken}
+use Rattle.sg_load.specs.sg_ramfs.RamfsFacts.{ramfs_facts}
+use Rattle.sg_load.specs.sg_ramfs.RamfsTable.{ramfs_parts, ramfs_table}
 use Rattle.sg_report.specs.Report.{load_line_of, report_of}
-use Rattle.sg_sched.specs.SchedFacts.{sched_facts}
-use Rattle.sg_sched.specs.SchedTable.{sched_parts, sched_table}
-use Rattle.sg_script.specs.declared.script.Script.{Script}
-use Rattle.sg_sim.specs.Played.{FollowsSchedule}
+use Rattle.sg_load.specs.sg_sched.SchedFacts.{sched_facts}
+use Rattle.sg_load.specs.sg_sched.SchedTable.{sched_parts, sched_table}
+use Rattle.sg_input.specs.sg_script.declared.script.Script.{Script}
+use Rattle.sg_shared.specs.sg_sim.Played.{FollowsSchedule}
 
 -- ---- services
 

@@ -11,7 +11,7 @@ use sg_load::ServiceKind;
 /// A command of the program.
 #[derive(Clone, Copy, Debug, PartialEq, Eq)]
 pub enum Command {
-    /// `sim`, or `run` with a thread for each client: plays an input, and prints the report of its run; with `trace` behind it too
+    /// `sim`, or `run` with a thread for each client: plays an input, and prints the report of its run; with `trace` after it too
     /// what was done to the service.
     Play { threads: bool, trace: bool },
     /// `check`: says whether an input is the text of an interface that is accepted.

@@ -19,7 +19,12 @@ mod status;
 mod top;
 
 pub use command::Command;
-pub use sg_load::ServiceKind;
-pub use sg_sim::Played;
+pub use sg_input::{
+    Input, MOST_DIVIDER, MOST_INPUT, MOST_INTERFACE, MOST_SCRIPT, cut, one_cut, one_input, parse,
+    read_input,
+};
+pub use sg_load::{ServiceKind, check, standard};
+pub use sg_report::{End, EndList, Ended, History, text};
+pub use sg_shared::Played;
 pub use status::Status;
 pub use top::{Answer, serial, superglue};

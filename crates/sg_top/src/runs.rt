@@ -3,28 +3,21 @@ ghost use Rattle.std.specs.Prelude.{◌≡◌, [], true, IfOk};
 ghost use Rattle.sg_edge.specs.Stops.{AscendsAbove, struck_of};
 ghost use Rattle.sg_facts.specs.Trace.{run_of};
 ghost use Rattle.sg_load.specs.Services.{facts_by};
-ghost use Rattle.sg_plain.specs.Playing.Playable.{IsPlayable};
-ghost use Rattle.sg_sim.specs.Played.{FollowsSchedule};
+ghost use Rattle.sg_load.specs.sg_plain.Playing.Playable.{IsPlayable};
+ghost use Rattle.sg_shared.specs.sg_sim.Played.{FollowsSchedule};
 ghost use Rattle.sg_top.specs.Headline.{IsRunOf, answering};
 ghost use Rattle.sg_top.specs.Inside.Runs.{IsPlayedOn, IsPlayInOrder};
 ghost use Rattle.sg_top.specs.Inside.Kinds.{IsOneOfFive, kind_by};
-ghost use Rattle.sg_play.specs.Waking.Waking.{no_query_waits};
+ghost use Rattle.sg_shared.specs.sg_play.Waking.Waking.{no_query_waits};
 
 use crate::services::kind_of;
-use sg_base::{NoMemory, TryCopy};
-use sg_check::Accepted;
 use sg_edge::{AtPoints, Gate};
-use sg_event::EventService;
-use sg_facts::Service;
-use sg_load::ServiceKind;
-use sg_lock::LockService;
-use sg_mm::MmService;
-use sg_ramfs::RamfsService;
-use sg_sched::SchedService;
-use sg_script::Script;
-use sg_shared::run;
-use sg_sim::{Played, play_script};
-use sg_stub::compile;
+use sg_facts::{NoMemory, Service, TryCopy};
+use sg_input::{Script, compile};
+use sg_load::{
+    Accepted, EventService, LockService, MmService, RamfsService, SchedService, ServiceKind,
+};
+use sg_shared::{Played, play_script, run};
 use std::alloc::Global;
 use std::sync::Wait;
 use std::thread::Threads;

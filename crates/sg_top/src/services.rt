@@ -3,17 +3,12 @@ ghost use Rattle.std.specs.Prelude.{◌≡◌, true, map, MatchOption};
 ghost use Rattle.sg_load.specs.Services.{facts_by};
 ghost use Rattle.sg_load.specs.declared.kind.ServiceKind.{ServiceKind as Kind};
 ghost use Rattle.sg_facts.specs.Facts.{facts_of};
-ghost use Rattle.sg_check.specs.Shapes.{are_shapes};
+ghost use Rattle.sg_load.specs.sg_check.Shapes.{are_shapes};
 ghost use Rattle.sg_top.specs.Answer.{services};
 ghost use Rattle.sg_top.specs.Inside.Kinds.{kind_by};
 
-use sg_event::EventService;
 use sg_facts::{Interface, Service, Shape};
-use sg_load::ServiceKind;
-use sg_lock::LockService;
-use sg_mm::MmService;
-use sg_ramfs::RamfsService;
-use sg_sched::SchedService;
+use sg_load::{EventService, LockService, MmService, RamfsService, SchedService, ServiceKind};
 
 /// The services whose interfaces may be accepted.
 pub fn shapes() -> [Shape; 5]

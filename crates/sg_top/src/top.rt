@@ -11,7 +11,7 @@ use crate::status::Status;
 use sg_edge::{Gate, Intake, ReadError, Sink, Source, read_all, write_all};
 use sg_input::{MOST_INPUT, TOO_LONG};
 use sg_load::ServiceKind;
-use sg_sim::Played;
+use sg_shared::Played;
 use std::alloc::Global;
 use std::sync::Wait;
 use std::thread::Threads;

@@ -9,7 +9,7 @@ use Rattle.sg_facts.specs.Sound.{AreRows}
 use Rattle.sg_facts.specs.Track.{has_child, is_ancestor, parent_in, row_at}
 use Rattle.sg_facts.proofs.RowLists.{id_of_row, other as each_other}
 use Rattle.sg_track.specs.declared.kept.Kept.{Kept}
-use Rattle.sg_base.specs.Lists.{Each}
+use Rattle.sg_facts.specs.sg_base.Lists.{Each}
 use Rattle.sg_track.specs.Kept.{Counts, HasRow, children_of, count_rows, ends_below, less_at, more_at, others_of, rows_of}
 use Rattle.sg_track.specs.Tracked.{HasLowerParent}
 use Rattle.sg_track.proofs.Above.{ends_child}

@@ -11,7 +11,7 @@ use Rattle.sg_facts.specs.Sound.{AreRows}
 use Rattle.sg_facts.specs.Track.{row_at}
 use Rattle.sg_facts.proofs.RowLists.{id_of_row}
 use Rattle.sg_track.specs.declared.kept.Kept.{Kept}
-use Rattle.sg_base.specs.Lists.{Each}
+use Rattle.sg_facts.specs.sg_base.Lists.{Each}
 use Rattle.sg_track.specs.Kept.{AreKeyed, HasRow, IsTold, TellsAt, ends_below, rows_in, rows_of}
 use Rattle.sg_track.specs.Tracked.{HasLowerParent}
 use Rattle.sg_track.proofs.Above.{ends_child, ends_itself, ends_nowhere, ends_root}

@@ -7,7 +7,7 @@ use Rattle.indexmap.specs.IndexMap.{set_value_at}
 use Rattle.sg_facts.specs.declared.row.Row.{Row}
 use Rattle.sg_facts.proofs.RowLists.{left, more}
 use Rattle.sg_track.specs.declared.kept.Kept.{Kept}
-use Rattle.sg_base.specs.Lists.{Each}
+use Rattle.sg_facts.specs.sg_base.Lists.{Each}
 use Rattle.sg_track.specs.Kept.{AreKeyed, Counts, HasRow, children_of, ends_below, more_at, others_of, rows_in, rows_of}
 use Rattle.sg_track.specs.Tracked.{AreTracked, HasLowerParent}
 use Rattle.sg_track.proofs.Counts.{children-changed, children-left, children-more, children-removed, counts_as, counts_beside, counts_left, each_more, more_other, no_children}

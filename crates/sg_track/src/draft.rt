@@ -4,8 +4,7 @@ ghost use Rattle.sg_facts.specs.Track.{cleared, effect_of, field_at, fields_afte
 ghost use Rattle.sg_track.specs.Drafts.{EachNew, IsValue, drafted};
 
 use crate::words::{arg_word, first_word};
-use sg_base::{Call, Good, Value};
-use sg_facts::Effect;
+use sg_facts::{Call, Effect, Good, Value};
 
 /// What a field of a row will be.
 #[derive(Clone, Copy, Debug)]

@@ -8,8 +8,7 @@ ghost use Rattle.sg_track.specs.Kept.{AreKeyed, rows_in};
 
 use crate::words::set_words;
 use indexmap::IndexMap;
-use sg_base::{Call, Good};
-use sg_facts::{Interface, Row};
+use sg_facts::{Call, Good, Interface, Row};
 
 /// A row with what is kept beside it.
 #[derive(Debug, Drop)]

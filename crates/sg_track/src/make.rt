@@ -6,8 +6,7 @@ ghost use Rattle.sg_track.specs.Drafts.{EachNew, IsValue, blank_draft, empty_sha
 
 use crate::draft::{Draft, draft_each};
 use crate::room::RowRoom;
-use sg_base::{Call, Good};
-use sg_facts::{FieldShape, Fields, FunShape, Interface, Row};
+use sg_facts::{Call, FieldShape, Fields, FunShape, Good, Interface, Row};
 
 /// The row that an Ok of a creation makes, in the room for it.
 pub(crate) fn made_row(interface: &Interface, call: &Call, good: &Good, room: RowRoom) -> Row

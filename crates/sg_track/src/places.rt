@@ -6,7 +6,7 @@ ghost use Rattle.sg_facts.specs.Track.{ancestors, parent_in, row_at};
 ghost use Rattle.sg_track.specs.Kept.{AreKeyed, Ascends, HasRow, rows_in};
 
 use crate::kept::KeptRows;
-use sg_base::{IdList, NoMemory};
+use sg_facts::{IdList, NoMemory};
 use std::alloc::Global;
 
 /// The place of an id among rows under their ids; None exactly where no row has it.

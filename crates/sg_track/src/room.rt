@@ -3,8 +3,7 @@ ghost use Rattle.std.specs.Prelude.{◌≡◌, ◌≤◌, [], length, map, IfOk,
 ghost use Rattle.sg_track.specs.Drafts.{drafted};
 
 use crate::draft::Draft;
-use sg_base::{Call, NoMemory, Text, TextRoom, Value};
-use sg_facts::Fields;
+use sg_facts::{Call, Fields, NoMemory, Text, TextRoom, Value};
 use std::alloc::Global;
 
 /// Room for the fields of one row, with a text of 256 bytes in each, which is used up when the fields are made.

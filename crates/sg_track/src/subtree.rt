@@ -2,7 +2,7 @@
 ghost use Rattle.std.specs.Prelude.{◌≡◌, ◌<◌, ◌≤◌, ℕ, filter, length, nat_eq, not};
 ghost use Rattle.std.specs.Map.{remove_entry, values_of};
 ghost use Rattle.indexmap.specs.IndexMap.{spare};
-ghost use Rattle.sg_base.specs.Lists.{Each};
+ghost use Rattle.sg_facts.specs.sg_base.Lists.{Each};
 ghost use Rattle.sg_track.specs.Kept.{AreKeyed, Ascends, Counts, IsTold, TellsAt, ends_below, rows_in};
 
 use crate::kept::{Kept, KeptRows};
@@ -52,7 +52,7 @@ pub(crate) fn close_up(kept: &mut KeptRows)
     );
 }
 
-/// Removes the row of an id, if there is one. Those behind it move up.
+/// Removes the row of an id, if there is one. Those after it move up.
 pub(crate) fn remove_row(kept: &mut KeptRows, id: u64)
     ensures entries { kept.new.entries ≡ remove_entry (nat_eq id) kept.old.entries }
     ensures spare { spare kept.old ≤ spare kept.new }

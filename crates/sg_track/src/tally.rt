@@ -2,7 +2,7 @@
 ghost use Rattle.std.specs.Prelude.{◌≡◌, ◌+◌, ◌<◌, ◌^◌, ℕ};
 ghost use Rattle.std.specs.Map.{values_of};
 ghost use Rattle.indexmap.specs.IndexMap.{spare};
-ghost use Rattle.sg_base.specs.Lists.{Each};
+ghost use Rattle.sg_facts.specs.sg_base.Lists.{Each};
 ghost use Rattle.sg_track.specs.Kept.{AreKeyed, Ascends, Counts, children_of, less_at, more_at, others_of, rows_in};
 
 use crate::kept::KeptRows;

@@ -12,8 +12,7 @@ use crate::room::RowRoom;
 use crate::subtree::{close_up, mark_below, remove_row};
 use crate::tally::{count_child, discount_row};
 use indexmap::IndexMap;
-use sg_base::{Call, Good, IdList, NoMemory, Reply};
-use sg_facts::{Interface, Row, Tables};
+use sg_facts::{Call, Good, IdList, Interface, NoMemory, Reply, Row, Tables};
 use std::alloc::Global;
 use std::marker::Model;
 

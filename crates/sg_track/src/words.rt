@@ -1,11 +1,10 @@
 // The words that effects set.
 ghost use Rattle.std.specs.Prelude.{◌≡◌, ◌<◌, length, map, slice_set};
-ghost use Rattle.sg_base.specs.declared.value.Value.TheVariants.{Word};
+ghost use Rattle.sg_facts.specs.sg_base.declared.value.Value.TheVariants.{Word};
 ghost use Rattle.sg_facts.specs.Track.{arg_at, effect_of, field_at, fields_after, first_word, word_of};
 ghost use Rattle.sg_track.specs.Drafts.{EachNew, IsDraftWord};
 
-use sg_base::{Call, Good, Value};
-use sg_facts::{Effect, Fields};
+use sg_facts::{Call, Effect, Fields, Good, Value};
 
 /// The number in a value; 0 for a text.
 pub(crate) fn word_of(value: &Value) -> u64

@@ -11,8 +11,7 @@ ghost use Rattle.sg_walk.specs.Reach.Inside.Places.{AddsJust, AreReached, IsMade
 use crate::effects::may_lead;
 use crate::found::Found;
 use crate::place::Place;
-use sg_base::NoMemory;
-use sg_facts::{Effect, Interface};
+use sg_facts::{Effect, Interface, NoMemory};
 
 // Adds the places in a state to which effects lead from a set of so many fields.
 fn add_led(

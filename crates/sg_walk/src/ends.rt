@@ -4,7 +4,7 @@ ghost use Rattle.std.specs.List.{Contains};
 ghost use Rattle.sg_walk.specs.Inside.Ends.{GainsEnd};
 
 use crate::spot::Spot;
-use sg_base::NoMemory;
+use sg_facts::NoMemory;
 use std::alloc::Global;
 use std::collections::HashSet;
 use std::marker::Model;

@@ -5,7 +5,7 @@ ghost use Rattle.sg_walk.specs.Reach.Inside.Places.{AddsOnce};
 ghost use Rattle.sg_walk.specs.Reach.Triples.{AreDistinct};
 
 use crate::place::Place;
-use sg_base::NoMemory;
+use sg_facts::NoMemory;
 use std::alloc::Global;
 use std::marker::Model;
 

@@ -11,8 +11,7 @@ use crate::search::{Sought, search};
 use crate::spot::{Goal, Spot};
 use crate::step_set::StepSet;
 use crate::steps::begin;
-use sg_base::NoMemory;
-use sg_facts::{Interface, Walk};
+use sg_facts::{Interface, NoMemory, Walk};
 use std::alloc::Global;
 
 /// The walk of what a function made, in a state, with the set of fields that has a number (bit i for field i): of the walks

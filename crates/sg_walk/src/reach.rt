@@ -11,8 +11,7 @@ ghost use Rattle.sg_walk.specs.Reach.Triples.{AreDistinct, IsReachedTriple};
 use crate::closing::{add_begins, close};
 use crate::found::Found;
 use crate::place::Triple;
-use sg_base::{ListOf, NoMemory};
-use sg_facts::{END_OF_FUNS, Interface};
+use sg_facts::{END_OF_FUNS, Interface, ListOf, NoMemory};
 use std::alloc::Global;
 
 /// What descriptors can come to.

@@ -9,8 +9,7 @@ use crate::ends::{DeadEnd, DeadEnds};
 use crate::spot::{Goal, Spot};
 use crate::step_set::StepSet;
 use crate::steps::{go_on, is_goal};
-use sg_base::NoMemory;
-use sg_facts::{Interface, MOST_FUNS, Walk};
+use sg_facts::{Interface, MOST_FUNS, NoMemory, Walk};
 
 /// What is sought, and by which recover steps.
 #[derive(Clone, Copy, Debug)]

@@ -3,7 +3,7 @@ ghost use Rattle.std.specs.Prelude.{◌≡◌, ℕ, IfOk};
 ghost use Rattle.sg_facts.specs.Interface.{has_pair};
 ghost use Rattle.sg_walk.specs.Inside.StepSets.{SamePairs};
 
-use sg_base::NoMemory;
+use sg_facts::NoMemory;
 use std::alloc::Global;
 use std::collections::HashSet;
 use std::marker::Model;

@@ -5,7 +5,7 @@ ghost use Rattle.sg_facts.specs.Walks.{unset, may_begin, may_go_on, first_spot, 
 ghost use Rattle.sg_walk.specs.Limits.{HasFewFields};
 ghost use Rattle.sg_walk.specs.Inside.Spots.{shown, shown_marks, is_goal};
 
-use crate::spot::{Goal, FieldState, Spot, marked, restores_number};
+use crate::spot::{FieldState, Goal, Spot, marked, restores_number};
 use sg_facts::Interface;
 
 /// Where a walk has come to after its creation; None exactly where no walk begins with this function.

@@ -1,9 +1,9 @@
 -- The parts of a world where a call that has all that it needs is asked of the service.
 use Rattle.std.proofs.Common.{IsSome, List, None, Option, Some, ap, if◌then◌else◌, length, refl, slice_set, subst, sym, ℕ, ◌-◌, ◌∙◌, ◌≡◌, ◌≤◌, ◌||◌}
 use Rattle.std.specs.Prelude.{IfSome}
-use Rattle.sg_base.specs.Stops.{asked_after}
-use Rattle.sg_base.specs.declared.call.Call.{Call}
-use Rattle.sg_base.specs.declared.reply.Reply.{Reply}
+use Rattle.sg_facts.specs.sg_base.Stops.{asked_after}
+use Rattle.sg_facts.specs.sg_base.declared.call.Call.{Call}
+use Rattle.sg_facts.specs.sg_base.declared.reply.Reply.{Reply}
 use Rattle.sg_world.proofs.Engines.Looking.{tell_same}
 use Rattle.sg_world.proofs.Engines.Serving.{may_serve}
 use Rattle.sg_world.specs.Engines.Engines.{as_shown}
@@ -16,18 +16,18 @@ use Rattle.sg_facts.specs.Legal.{Table}
 use Rattle.sg_facts.specs.Needs.{Needs}
 use Rattle.sg_facts.specs.Object.{Object}
 use Rattle.sg_facts.specs.Trace.{Run}
-use Rattle.sg_hist.specs.Recovered.{struck_in}
-use Rattle.sg_boot.specs.Invoking.{item_of_call}
+use Rattle.sg_replay.specs.sg_hist.Recovered.{struck_in}
+use Rattle.sg_replay.specs.sg_boot.Invoking.{item_of_call}
 use Rattle.sg_facts.specs.declared.trace.Tag.TheVariants.{Client}
-use Rattle.sg_name.specs.Names.{named_at}
+use Rattle.sg_replay.specs.sg_name.Names.{named_at}
 use Rattle.sg_replay.specs.Engined.{Engined, IsEngine}
 use Rattle.sg_replay.specs.Missing.{is_empty, missing, missing_file, missing_row, or_else}
 use Rattle.sg_replay.specs.Present.{HasMark, is_present}
 use Rattle.sg_replay.specs.Serving.{MayServe, ServesOne, real_call}
 use Rattle.sg_replay.specs.declared.todo.Todo.TheVariants.{Load}
-use Rattle.sg_seat.specs.WorldView.{Seat, WorldView, seat_in, with_points}
-use Rattle.sg_seat.specs.declared.phase.Phase.TheVariants.{Blocked}
-use Rattle.sg_store.specs.Stored.{HasRoom, bytes_of}
+use Rattle.sg_world_laws.specs.sg_seat.WorldView.{Seat, WorldView, seat_in, with_points}
+use Rattle.sg_world_laws.specs.sg_seat.declared.phase.Phase.TheVariants.{Blocked}
+use Rattle.sg_replay.specs.sg_store.Stored.{HasRoom, bytes_of}
 use Rattle.sg_world.proofs.Points.{some_is, stops_noted, stores_same}
 use Rattle.sg_world.proofs.Reaching.{all_there, k, sp, stops_counted, stops_line, stops_on, waits_line, waits_on}
 use Rattle.sg_world.proofs.Rebuilding.{let_in_now}
@@ -137,7 +137,7 @@ module _ {S T : Type 0} {facts : Facts} {ask : Table} {sound : Object → Type 0
       (let_in_now z e w (rooms_in x) world refl refl walks_are client first last passes held held_is) (all_there z e w (rooms_in x) world refl refl walks_are client first last passes held held_is all_whole)
       world.tracked.given held_is room name_room))
 
-  -- ---- behind the asking
+  -- ---- after the asking
 
   abbrev start : Points
   start = record { asked = asked x.stops; struck = struck x.stops }

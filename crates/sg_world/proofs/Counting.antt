@@ -1,8 +1,8 @@
--- The points of a world are counted behind every step.
+-- The points of a world are counted after every step.
 use Rattle.std.proofs.Common.{Bool, List, None, Option, Some, [], arith, false, inl, inr, subst, true, ℕ, ◌++◌, ◌+◌, ◌∷◌, ◌≡◌, ◌≤◌, ◌<◌}
 use Rattle.std.specs.Prelude.{unwrap_or}
-use Rattle.sg_base.specs.declared.reply.Reply.{Reply}
-use Rattle.sg_base.specs.declared.reply.Reply.TheVariants.{Ok, Refused}
+use Rattle.sg_facts.specs.sg_base.declared.reply.Reply.{Reply}
+use Rattle.sg_facts.specs.sg_base.declared.reply.Reply.TheVariants.{Ok, Refused}
 use Rattle.sg_facts.specs.Facts.{Facts}
 use Rattle.sg_facts.specs.Legal.{Table}
 use Rattle.sg_facts.specs.Trace.{Boot}
@@ -11,8 +11,8 @@ use Rattle.sg_facts.specs.declared.outcome.Outcome.TheVariants.{Blocks, NoMemory
 use Rattle.sg_facts.specs.declared.trace.Item.{Item}
 use Rattle.sg_facts.specs.declared.trace.Tag.{Tag}
 use Rattle.sg_facts.specs.declared.trace.Tag.TheVariants.{Client, Load, Walk}
-use Rattle.sg_hist.specs.Recovered.{ArePoints, ArePointsOf, IsCount, IsPointOf, IsPointOfCall, IsStopOf, answer_to, asked_behind, asked_in}
-use Rattle.sg_hist.specs.Growing.{asked_over}
+use Rattle.sg_replay.specs.sg_hist.Recovered.{ArePoints, ArePointsOf, IsCount, IsPointOf, IsPointOfCall, IsStopOf, answer_to, asked_with_commit, asked_in}
+use Rattle.sg_replay.specs.sg_hist.Growing.{asked_over}
 
 -- ---- counts
 
@@ -26,7 +26,7 @@ pub at_least : (exact : Bool) (points sum : ℕ) → IsCount exact points sum �
 at_least true points sum is = omega (arith, is)
 at_least false points sum is = is
 
--- a number of points exactly behind another that is counted
+-- a number of points exactly after another that is counted
 pub count_on : (exact : Bool) (n points asked more : ℕ) → IsCount exact points n → asked ≡ points + more → IsCount exact asked (n + more)
 count_on true n points asked more is next = omega (arith, is, next)
 count_on false n points asked more is next = omega (arith, is, next)
@@ -48,7 +48,7 @@ point_of exact parts n points answer (Client client seq) fun outcome own is one 
 point_of true parts n points answer (Load key client) fun outcome own is one = subst (λ m. own ≡ m + 1) is one
 point_of false parts n points answer (Load key client) fun outcome own is one = omega (arith, is, one)
 
--- no fewer points were asked behind an item than before it
+-- no fewer points were asked after an item than before it
 grows_call : (parts : ℕ → ℕ) (points : ℕ) (answer : Option Reply) (fun : ℕ) (outcome : Outcome) (own : ℕ) → IsPointOfCall true parts points answer fun outcome own → points < own
 grows_call parts points answer fun (Replied (Ok good) patch) own one = omega (arith, one)
 grows_call parts points answer fun (Replied (Refused code) patch) own one = omega (arith, one)
@@ -71,7 +71,7 @@ weak_points : (facts : Facts) (ask : Table) (parts : ℕ → ℕ) (asked : ℕ) 
 weak_points facts ask parts asked front [] all = tt
 weak_points facts ask parts asked front (item ∷ items) all = (
   point_of false parts asked asked (answer_to facts ask front item) item.tag item.shown.fun item.outcome item.points (omega arith) all.0,
-  weak_points facts ask parts (asked_behind facts item) (front ++ item ∷ []) items all.1,
+  weak_points facts ask parts (asked_with_commit facts item) (front ++ item ∷ []) items all.1,
 )
 
 weak_stop : (facts : Facts) (items : List Item) (asked : ℕ) (stop : Option ℕ) → IsStopOf true facts items asked stop → IsStopOf false facts items asked stop

@@ -1,21 +1,21 @@
 -- A world keeps what it keeps where the guard refuses a call, whose refusal is committed and told at once.
 use Rattle.std.proofs.Common.{Bool, List, None, Option, Some, [], ap, arith, false, flat_map, if◌then◌else◌, inl, inr, length, map, refl, slice_get, slice_set, subst, sym, true, ℕ, ◌&&◌, ◌++◌, ◌+◌, ◌-◌, ◌<◌, ◌==◌, ◌^◌, ◌∙◌, ◌∷◌, ◌≡◌, ◌≤◌, ◌⊎◌}
 use Rattle.std.specs.List.{Contains}
-use Rattle.sg_base.specs.declared.call.Call.{Call}
-use Rattle.sg_base.specs.declared.reply.Code.{Code}
-use Rattle.sg_base.specs.declared.reply.Reply.TheVariants.{Refused}
+use Rattle.sg_facts.specs.sg_base.declared.call.Call.{Call}
+use Rattle.sg_facts.specs.sg_base.declared.reply.Code.{Code}
+use Rattle.sg_facts.specs.sg_base.declared.reply.Reply.TheVariants.{Refused}
 use Rattle.sg_world.specs.Engines.Stubs.{stub_of}
 use Rattle.sg_facts.specs.Guard.{guard}
 use Rattle.sg_facts.specs.Legal.{refused_or}
 use Rattle.sg_facts.specs.Object.{Object, empty_object, file_at, object_of}
 use Rattle.sg_facts.specs.Trace.{Boot}
 use Rattle.sg_facts.specs.declared.entry.Entry.{Entry}
-use Rattle.sg_recovery_laws.specs.Objects.Waiting.{NoneBy}
+use Rattle.sg_world_laws.specs.sg_recovery_laws.Objects.Waiting.{NoneBy}
 use Rattle.sg_replay.specs.Engined.{Engined}
-use Rattle.sg_seat.specs.WorldView.{Seat, WorldView, answered_to, committed, held_in, held_replies, is_blocked_phase, is_held_in, is_held_phase, is_offered, no_reply, offered_by, seat_of, unanswered, wakes_seat, woken_seat}
-use Rattle.sg_seat.specs.declared.mark.Mark.{Mark}
-use Rattle.sg_seat.specs.declared.mark.MarkKind.TheVariants.{Answer, Entry as IsEntered}
-use Rattle.sg_seat.specs.declared.phase.Phase.TheVariants.{Asked, Idle}
+use Rattle.sg_world_laws.specs.sg_seat.WorldView.{Seat, WorldView, answered_to, committed, held_in, held_replies, is_blocked_phase, is_held_in, is_held_phase, is_offered, no_reply, offered_by, seat_of, unanswered, wakes_seat, woken_seat}
+use Rattle.sg_world_laws.specs.sg_seat.declared.mark.Mark.{Mark}
+use Rattle.sg_world_laws.specs.sg_seat.declared.mark.MarkKind.TheVariants.{Answer, Entry as IsEntered}
+use Rattle.sg_world_laws.specs.sg_seat.declared.phase.Phase.TheVariants.{Asked, Idle}
 use Rattle.sg_world.proofs.Entering.{answered_told, entered_rooms, entered_some}
 use Rattle.sg_world.proofs.Returning.{view_answered}
 use Rattle.sg_world.proofs.Upright.{Upright, keeps_upright}
@@ -126,7 +126,7 @@ module _ (z : Setting) (e : Engined) (w : WorldView) (rooms : Rooms) (is : IsWor
   pub denial_rooms : (1 ≤ rooms.entries) × (3 ≤ rooms.marks)
   denial_rooms = entered_some w.seats rooms is.rooms_are (client - 1) (seat_of w client) there offered
 
-  -- what stands behind the refusal
+  -- what stands after the refusal
   module _ (later : Rooms) (fits : (seat_of w client).call.seq < 2 ^ 32) (history : List Entry) (history_is : history ≡ w.history ++ (record { call = (seat_of w client).call; reply = Refused code }) ∷ [])
       (seats : List Seat) (set : seats ≡ slice_set w.seats (client - 1) (record (seat_of w client) { phase = Idle; seq = (seat_of w client).call.seq; reply = no_reply }))
       (marks : List Mark) (marks_are : marks ≡ (w.marks ++ record { client = client; kind = IsEntered } ∷ []) ++ record { client = client; kind = Answer } ∷ []) where

@@ -1,11 +1,11 @@
 -- What a world's marks and memory come to where an answered call comes into the history.
 use Rattle.std.proofs.Common.{Bool, List, Some, [], ap, append-nil, arith, false, if◌then◌else◌, length, map, refl, slice_get, slice_set, suc, sym, true, zero, ℕ, ◌++◌, ◌+◌, ◌-◌, ◌∙◌, ◌∷◌, ◌≡◌, ◌≤◌, subst}
-use Rattle.sg_base.specs.declared.call.Call.{Call}
+use Rattle.sg_facts.specs.sg_base.declared.call.Call.{Call}
 use Rattle.sg_facts.specs.declared.entry.Entry.{Entry}
-use Rattle.sg_seat.specs.WorldView.{Seat, WorldView, is_blocked_phase, is_offered, offered_by, woken_seat}
-use Rattle.sg_seat.specs.declared.mark.MarkKind.TheVariants.{Answer, Entry as IsEntered}
-use Rattle.sg_seat.specs.declared.phase.Phase.{Phase}
-use Rattle.sg_seat.specs.declared.phase.Phase.TheVariants.{Asked, Blocked, Held, Idle, Left, Receipted}
+use Rattle.sg_world_laws.specs.sg_seat.WorldView.{Seat, WorldView, is_blocked_phase, is_offered, offered_by, woken_seat}
+use Rattle.sg_world_laws.specs.sg_seat.declared.mark.MarkKind.TheVariants.{Answer, Entry as IsEntered}
+use Rattle.sg_world_laws.specs.sg_seat.declared.phase.Phase.{Phase}
+use Rattle.sg_world_laws.specs.sg_seat.declared.phase.Phase.TheVariants.{Asked, Blocked, Held, Idle, Left, Receipted}
 use Rattle.sg_world.proofs.Marking.{marked_push, told_set}
 use Rattle.sg_world.proofs.Moving.{answered_seats, marks_woken, offers_woken, told_woken}
 use Rattle.sg_world.proofs.Rooming.{marks_set, marks_some, offers_set, offers_some}
@@ -89,7 +89,7 @@ entered_some seats rooms have at s there is =
     let left = have.marks in
     (omega (arith, one, offers, entries), omega (arith, three, marks, left))
 
--- and takes it behind its entry, where others are woken
+-- and takes it after its entry, where others are woken
 pub entered_rooms : (seats : List Seat) (rooms later : Rooms) (have : HaveRooms seats rooms) (at : ℕ) (s : Seat) → slice_get seats at ≡ Some s → is_offered s.phase ≡ true → is_blocked_phase s.phase ≡ false
     → (test : Call → Bool) (new : Seat) → is_offered new.phase ≡ false → rooms.entries ≤ later.entries + 1 → rooms.withdrawals ≤ later.withdrawals → rooms.marks + marks_due new.phase ≤ later.marks + 3
     → HaveRooms (slice_set (map (woken_seat test) seats) at new) later

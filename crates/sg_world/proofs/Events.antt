@@ -1,23 +1,23 @@
--- The points of a world are counted behind every event, also where a step gets no memory, and a reply that is handed over is that of its
+-- The points of a world are counted after every event, also where a step gets no memory, and a reply that is handed over is that of its
 -- client's last entry.
 use Rattle.std.proofs.Common.{Bool, Some, [], ap, false, inl, inr, refl, subst, sym, true, ℕ, ◌++◌, ◌+◌, ◌∙◌, ◌∷◌, ◌≡◌, ◌⊎◌}
 use Rattle.std.proofs.lemmas.List.{length-map}
 use Rattle.std.specs.Prelude.{IfOk, OnErr, length, map, min, slice_set}
-use Rattle.sg_base.specs.declared.call.Call.{Call}
+use Rattle.sg_facts.specs.sg_base.declared.call.Call.{Call}
 use Rattle.sg_world.proofs.Rooming.{length_set}
 use Rattle.std.specs.Result.{is_err}
 use Rattle.std.specs.declared.result.Result.{Result}
 use Rattle.std.specs.declared.result.Result.TheVariants.{Err, Ok as Done}
-use Rattle.sg_base.specs.Counts.{last_count}
-use Rattle.sg_base.specs.Stops.{asked_after}
-use Rattle.sg_base.specs.declared.memory.NoMemory.{NoMemory}
-use Rattle.sg_base.specs.declared.reply.Reply.{Reply}
-use Rattle.sg_boot.specs.Cells.{IsCell}
+use Rattle.sg_facts.specs.sg_base.Counts.{last_count}
+use Rattle.sg_facts.specs.sg_base.Stops.{asked_after}
+use Rattle.sg_facts.specs.sg_base.declared.memory.NoMemory.{NoMemory}
+use Rattle.sg_facts.specs.sg_base.declared.reply.Reply.{Reply}
+use Rattle.sg_replay.specs.sg_boot.Cells.{IsCell}
 use Rattle.sg_world.specs.Engines.Stubs.{stub_of}
 use Rattle.sg_facts.specs.declared.entry.Entry.{Entry}
-use Rattle.sg_hist.specs.Clients.{calls_of}
+use Rattle.sg_replay.specs.sg_hist.Clients.{calls_of}
 use Rattle.sg_replay.specs.Engined.{Engined}
-use Rattle.sg_seat.specs.WorldView.{Seat, WorldView, happened, is_offered, seat_of, with_points, woken_seat}
+use Rattle.sg_world_laws.specs.sg_seat.WorldView.{Seat, WorldView, happened, is_offered, seat_of, with_points, woken_seat}
 use Rattle.sg_world.proofs.Stepped.{steps_counted, wants_counted}
 use Rattle.sg_world.specs.declared.did.Did.{Did}
 use Rattle.sg_world.specs.declared.did.Did.TheVariants.{Answered, Blocked as Waits, Booted, Loaded, Lost, Replayed, Served, Skipped, Struck}

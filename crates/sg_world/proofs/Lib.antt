@@ -24,3 +24,5 @@ pub mod Turning
 pub mod Upright
 pub mod Waiting
 pub mod Wakes
+pub use Rattle.sg_world_laws.proofs.sg_recovery_laws
+pub use Rattle.sg_world_laws.proofs as sg_world_laws

@@ -1,25 +1,25 @@
 -- What an engine finds missing for a call is what is due in its world, as the trace tells it.
 use Rattle.std.proofs.Common.{arith, Bool, List, None, Option, Some, [], ap, cond, false, filter, find, map, not, refl, subst, sym, true, ℕ, ◌+◌, ◌==◌, ◌||◌, ◌∙◌, ◌∷◌, ◌≡◌, append-nil}
-use Rattle.sg_base.specs.declared.call.Call.{Call}
-use Rattle.sg_base.specs.Lists.{Each}
+use Rattle.sg_facts.specs.sg_base.declared.call.Call.{Call}
+use Rattle.sg_facts.specs.sg_base.Lists.{Each}
 use Rattle.sg_world.specs.Engines.Stubs.{stub_of, told_of}
 use Rattle.sg_facts.specs.Needs.{is_needed}
 use Rattle.sg_facts.specs.Object.{Object, object_of}
 use Rattle.sg_facts.specs.Track.{is_live}
 use Rattle.sg_facts.specs.declared.row.Row.{Row}
-use Rattle.sg_recovery_laws.specs.Midway.Progress.{TellsCalls, is_complete}
-use Rattle.sg_name.specs.Names.{named_at}
-use Rattle.sg_name.specs.declared.named.Named.{Named}
-use Rattle.sg_name.specs.declared.named.Named.TheVariants.{Live, Partial, Unnamed}
-use Rattle.sg_name.specs.declared.named.Standing.{Standing}
-use Rattle.sg_recovery_laws.proofs.Lists.{each_map}
-use Rattle.sg_hist.specs.Growing.{last_items, older_items}
+use Rattle.sg_world_laws.specs.sg_recovery_laws.Midway.Progress.{TellsCalls, is_complete}
+use Rattle.sg_replay.specs.sg_name.Names.{named_at}
+use Rattle.sg_replay.specs.sg_name.declared.named.Named.{Named}
+use Rattle.sg_replay.specs.sg_name.declared.named.Named.TheVariants.{Live, Partial, Unnamed}
+use Rattle.sg_replay.specs.sg_name.declared.named.Standing.{Standing}
+use Rattle.sg_world_laws.proofs.sg_recovery_laws.Lists.{each_map}
+use Rattle.sg_replay.specs.sg_hist.Growing.{last_items, older_items}
 use Rattle.sg_replay.specs.Engined.{Engined}
 use Rattle.sg_replay.specs.Missing.{is_empty, is_whole, missing, missing_file, next_number, or_else, todo_of}
 use Rattle.sg_replay.specs.declared.todo.Todo.TheVariants.{Load, Walk}
-use Rattle.sg_seat.specs.WorldView.{WorldView, held_replies}
-use Rattle.sg_store.specs.Stored.{bytes_of}
-use Rattle.sg_recovery_laws.specs.LastItem.Told.{IsRead}
+use Rattle.sg_world_laws.specs.sg_seat.WorldView.{WorldView, held_replies}
+use Rattle.sg_replay.specs.sg_store.Stored.{bytes_of}
+use Rattle.sg_world_laws.specs.sg_recovery_laws.LastItem.Told.{IsRead}
 use Rattle.sg_facts.proofs.Replaying.Found.{same_test}
 use Rattle.sg_world.specs.Due.{due, is_present_in, is_whole_in, needs_in, next_load, next_walk, replayed_in}
 use Rattle.sg_world.specs.Worlded.{IsWorld, Rooms}

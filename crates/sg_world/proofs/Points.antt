@@ -1,7 +1,7 @@
 -- A world keeps what it keeps where only the number of its points changes, and where its service stops at a point.
 use Rattle.std.proofs.Common.{IsSome, List, None, Option, Some, [], ap, append_assoc, flat_map, refl, subst, sym, ℕ, ◌++◌, ◌∙◌, ◌∷◌, ◌≡◌, ◌≢◌}
-use Rattle.sg_boot.specs.Cells.{IsRunning}
-use Rattle.sg_boot.specs.Invoking.{with_stop}
+use Rattle.sg_replay.specs.sg_boot.Cells.{IsRunning}
+use Rattle.sg_replay.specs.sg_boot.Invoking.{with_stop}
 use Rattle.sg_world.specs.Engines.Engines.{as_shown}
 use Rattle.sg_world.specs.Engines.Stubs.{stub_of}
 use Rattle.sg_facts.specs.Facts.{Facts}
@@ -9,11 +9,11 @@ use Rattle.sg_facts.specs.Object.{Object}
 use Rattle.sg_facts.specs.Trace.{Boot}
 use Rattle.sg_facts.specs.declared.entry.Entry.{Entry}
 use Rattle.sg_facts.specs.declared.trace.Item.{Item}
-use Rattle.sg_hist.specs.Recovered.{stop_in}
-use Rattle.sg_hist.specs.Growing.{booted, last_stop, noted, struck}
+use Rattle.sg_replay.specs.sg_hist.Recovered.{stop_in}
+use Rattle.sg_replay.specs.sg_hist.Growing.{booted, last_stop, noted, struck}
 use Rattle.sg_replay.specs.Engined.{Engined}
-use Rattle.sg_seat.specs.WorldView.{WorldView, with_points}
-use Rattle.sg_store.specs.Stored.{bytes_of}
+use Rattle.sg_world_laws.specs.sg_seat.WorldView.{WorldView, with_points}
+use Rattle.sg_replay.specs.sg_store.Stored.{bytes_of}
 use Rattle.sg_world.specs.Worlded.{IsWorld, Rooms, StoresObject}
 use Rattle.sg_world_laws.proofs.Points.{with_points_keeps}
 use Rattle.sg_world_laws.proofs.Struck.{stopped_between}

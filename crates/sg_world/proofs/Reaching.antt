@@ -4,12 +4,12 @@ use Rattle.std.proofs.Common.{IsSome, List, None, Some, [], ap, if◌then◌else
 use Rattle.std.proofs.lemmas.Bool.{ltb-true}
 use Rattle.sg_world_laws.proofs.Advancing.Advances.{call_stopped, stopped_next, waited, waiting_next, would_wait}
 use Rattle.sg_world_laws.proofs.Advancing.Noted.{length_noted}
-use Rattle.sg_base.specs.Counts.{last_count}
-use Rattle.sg_base.specs.Stops.{asked_after}
-use Rattle.sg_base.specs.declared.call.Call.{Call}
-use Rattle.sg_boot.proofs.LastBoot.{begun_noted, stop_noted}
-use Rattle.sg_boot.specs.Cells.{IsRunning, IsUp}
-use Rattle.sg_boot.specs.Invoking.{NotesStop, item_of_call, with_item, with_stop}
+use Rattle.sg_facts.specs.sg_base.Counts.{last_count}
+use Rattle.sg_facts.specs.sg_base.Stops.{asked_after}
+use Rattle.sg_facts.specs.sg_base.declared.call.Call.{Call}
+use Rattle.sg_replay.proofs.sg_boot.LastBoot.{begun_noted, stop_noted}
+use Rattle.sg_replay.specs.sg_boot.Cells.{IsRunning, IsUp}
+use Rattle.sg_replay.specs.sg_boot.Invoking.{NotesStop, item_of_call, with_item, with_stop}
 use Rattle.sg_world.proofs.Engines.Left.{has_all}
 use Rattle.sg_world.specs.Engines.Engines.{as_shown}
 use Rattle.sg_world.specs.Engines.Stubs.{stub_of}
@@ -20,13 +20,13 @@ use Rattle.sg_facts.specs.Invoke.{Points}
 use Rattle.sg_facts.specs.Legal.{answer, refused_or}
 use Rattle.sg_facts.specs.Object.{Object, object_of}
 use Rattle.sg_facts.specs.Trace.{Run}
-use Rattle.sg_hist.specs.Recovered.{IsStopInCall, answer_to, struck_in}
-use Rattle.sg_hist.specs.Growing.{IsNextItem, last_items, noted, place_behind}
+use Rattle.sg_replay.specs.sg_hist.Recovered.{IsStopInCall, answer_to, struck_in}
+use Rattle.sg_replay.specs.sg_hist.Growing.{IsNextItem, last_items, noted, place_after}
 use Rattle.sg_replay.specs.Engined.{Engined}
 use Rattle.sg_replay.specs.Missing.{missing}
 use Rattle.sg_replay.specs.Serving.{real_call}
-use Rattle.sg_seat.specs.WorldView.{Seat, WorldView, is_held_phase, is_offered, seat_of, unanswered, with_points}
-use Rattle.sg_seat.specs.declared.phase.Phase.TheVariants.{Blocked}
+use Rattle.sg_world_laws.specs.sg_seat.WorldView.{Seat, WorldView, is_held_phase, is_offered, seat_of, unanswered, with_points}
+use Rattle.sg_world_laws.specs.sg_seat.declared.phase.Phase.TheVariants.{Blocked}
 use Rattle.sg_world.proofs.Missing.{due_is}
 use Rattle.sg_world.proofs.Moving.{rooms_moved, told_moved}
 use Rattle.sg_world.proofs.Points.{not_stopped, stops_noted, stops_struck}
@@ -85,8 +85,8 @@ module _ (z : Setting) (e : Engined) (w : WorldView) (rooms : Rooms) (is : IsWor
       waits_at = ap (λ g. refused_or g (z.ask (object_of z.iface.facts w.history) call)) let_in.passes
           ∙ would_wait z is.set w sp.first sp.others v (stub_of e) k call (let_in_now z e w rooms is run running walks client first last let_in v up) all_there waiting waits_asked refl
 
-      pub waits_next : IsNextItem (stubs_of z) w.history (unanswered w) (place_behind [] w.run.boots (item_of_call (Client (seat_of w client).call.client (seat_of w client).call.seq) (seat_of w client).call (real_call e (seat_of w client).call).desc points Blocks))
-      waits_next = subst (λ l. IsNextItem (stubs_of z) w.history (unanswered w) (place_behind [] l waiting)) (sym sp.boots)
+      pub waits_next : IsNextItem (stubs_of z) w.history (unanswered w) (place_after [] w.run.boots (item_of_call (Client (seat_of w client).call.client (seat_of w client).call.seq) (seat_of w client).call (real_call e (seat_of w client).call).desc points Blocks))
+      waits_next = subst (λ l. IsNextItem (stubs_of z) w.history (unanswered w) (place_after [] l waiting)) (sym sp.boots)
           (waiting_next z is.set w sp.first sp.others v (stub_of e) k call (let_in_now z e w rooms is run running walks client first last let_in v up) all_there waiting waits_asked refl)
 
       -- the world with its item
@@ -161,8 +161,8 @@ module _ (z : Setting) (e : Engined) (w : WorldView) (rooms : Rooms) (is : IsWor
       stops_asked : IsAskedItem z (stub_of e) v (seat_of w client).call (item_of_call (Client (seat_of w client).call.client (seat_of w client).call.seq) (seat_of w client).call (real_call e (seat_of w client).call).desc points Stopped)
       stops_asked = record { tag = refl; shown = refl; real = refl; table = answered }
 
-      stops_next : IsNextItem (stubs_of z) w.history (unanswered w) (place_behind [] w.run.boots (item_of_call (Client (seat_of w client).call.client (seat_of w client).call.seq) (seat_of w client).call (real_call e (seat_of w client).call).desc points Stopped))
-      stops_next = subst (λ l. IsNextItem (stubs_of z) w.history (unanswered w) (place_behind [] l stopping)) (sym sp.boots)
+      stops_next : IsNextItem (stubs_of z) w.history (unanswered w) (place_after [] w.run.boots (item_of_call (Client (seat_of w client).call.client (seat_of w client).call.seq) (seat_of w client).call (real_call e (seat_of w client).call).desc points Stopped))
+      stops_next = subst (λ l. IsNextItem (stubs_of z) w.history (unanswered w) (place_after [] l stopping)) (sym sp.boots)
           (stopped_next z is.set w sp.first sp.others v (stub_of e) k call (let_in_now z e w rooms is run running walks client first last let_in v up) all_there stopping stops_asked refl)
 
       stops_keeps : (later : Stub)

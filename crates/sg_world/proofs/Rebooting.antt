@@ -4,13 +4,13 @@ use Rattle.sg_world.specs.Engines.Stubs.{stub_of, told_of}
 use Rattle.sg_facts.specs.Alike.{named}
 use Rattle.sg_facts.specs.Object.{empty_object}
 use Rattle.sg_facts.specs.Trace.{Boot, Run}
-use Rattle.sg_recovery_laws.specs.Midway.Progress.{fresh}
-use Rattle.sg_name.specs.Names.{named_at}
-use Rattle.sg_hist.specs.Growing.{booted}
+use Rattle.sg_world_laws.specs.sg_recovery_laws.Midway.Progress.{fresh}
+use Rattle.sg_replay.specs.sg_name.Names.{named_at}
+use Rattle.sg_replay.specs.sg_hist.Growing.{booted}
 use Rattle.sg_replay.specs.Engined.{Engined}
 use Rattle.sg_replay.specs.Present.{is_present}
 use Rattle.sg_replay.specs.Serving.{pairs_of}
-use Rattle.sg_seat.specs.WorldView.{Seat, WorldView, woken_seat}
+use Rattle.sg_world_laws.specs.sg_seat.WorldView.{Seat, WorldView, woken_seat}
 use Rattle.sg_world.proofs.Moving.{rooms_woken, told_woken}
 use Rattle.sg_world.proofs.Points.{stores_same}
 use Rattle.sg_world.proofs.Upright.{Upright, keeps_upright}

@@ -1,18 +1,18 @@
--- One step more of what a call needs, as the engine does it: it may be done, the world keeps what it keeps behind it, and it is the line of the step.
+-- One step more of what a call needs, as the engine does it: it may be done, the world keeps what it keeps after it, and it is the line of the step.
 use Rattle.std.proofs.Common.{List, Some, [], ap, arith, if◌then◌else◌, inl, inr, length, refl, subst, sym, true, ℕ, ◌++◌, ◌+◌, ◌-◌, ◌<◌, ◌∙◌, ◌∷◌, ◌≡◌, ◌≤◌}
 use Rattle.std.proofs.lemmas.Bool.{ltb-true}
 use Rattle.std.specs.declared.result.Result.{Result}
 use Rattle.std.specs.declared.result.Result.TheVariants.{Err, Ok as Done}
 use Rattle.std.specs.Prelude.{OnErr}
-use Rattle.sg_base.specs.Counts.{last_count}
-use Rattle.sg_base.specs.Stops.{asked_after}
-use Rattle.sg_base.specs.declared.call.Call.{Call}
-use Rattle.sg_base.specs.declared.memory.NoMemory.{NoMemory}
-use Rattle.sg_base.specs.declared.reply.Reply.{Reply}
-use Rattle.sg_base.specs.declared.reply.Reply.TheVariants.{Ok, Refused}
-use Rattle.sg_boot.proofs.LastBoot.{begun_noted, stop_noted}
-use Rattle.sg_boot.specs.Cells.{IsRunning, IsUp}
-use Rattle.sg_boot.specs.Invoking.{item_of_call, item_of_load, with_item, with_stop}
+use Rattle.sg_facts.specs.sg_base.Counts.{last_count}
+use Rattle.sg_facts.specs.sg_base.Stops.{asked_after}
+use Rattle.sg_facts.specs.sg_base.declared.call.Call.{Call}
+use Rattle.sg_facts.specs.sg_base.declared.memory.NoMemory.{NoMemory}
+use Rattle.sg_facts.specs.sg_base.declared.reply.Reply.{Reply}
+use Rattle.sg_facts.specs.sg_base.declared.reply.Reply.TheVariants.{Ok, Refused}
+use Rattle.sg_replay.proofs.sg_boot.LastBoot.{begun_noted, stop_noted}
+use Rattle.sg_replay.specs.sg_boot.Cells.{IsRunning, IsUp}
+use Rattle.sg_replay.specs.sg_boot.Invoking.{item_of_call, item_of_load, with_item, with_stop}
 use Rattle.sg_world.proofs.Engines.Advancing.{it, loads_next, loads_shown, may_advance, replayable, replays_next, replays_shown, struck_next, struck_shown, unchanged_shown}
 use Rattle.sg_world.proofs.Engines.Left.{left_to_load}
 use Rattle.sg_world.specs.Engines.Engines.{IsEngineOf, as_shown}
@@ -29,8 +29,8 @@ use Rattle.sg_facts.specs.Walks.{replayed_call}
 use Rattle.sg_facts.specs.declared.outcome.Outcome.TheVariants.{Replied, Stopped}
 use Rattle.sg_facts.specs.declared.trace.Item.{Item}
 use Rattle.sg_facts.specs.declared.trace.Tag.TheVariants.{Load, Walk}
-use Rattle.sg_hist.specs.Recovered.{IsStopInCall, answer_to, struck_in}
-use Rattle.sg_hist.specs.Growing.{IsNextItem, last_items, noted, place_behind}
+use Rattle.sg_replay.specs.sg_hist.Recovered.{IsStopInCall, answer_to, struck_in}
+use Rattle.sg_replay.specs.sg_hist.Growing.{IsNextItem, last_items, noted, place_after}
 use Rattle.sg_replay.specs.Engined.{Engined}
 use Rattle.sg_replay.specs.Missing.{missing}
 use Rattle.sg_replay.specs.Replaying.{IsStruck, IsUnchanged, KeepsPresent, Loads as LoadsFile, LoadsOne, MayAdvance, Replays as ReplaysCall, ReplaysOne, replay_of}
@@ -39,8 +39,8 @@ use Rattle.sg_replay.specs.declared.advance.Advanced.{Advanced}
 use Rattle.sg_replay.specs.declared.advance.Advanced.TheVariants.{Loaded, Replayed, Struck}
 use Rattle.sg_replay.specs.declared.todo.Todo.{Todo}
 use Rattle.sg_replay.specs.declared.todo.Todo.TheVariants.{Load as ToLoad, Walk as ToWalk}
-use Rattle.sg_seat.specs.WorldView.{WorldView, is_held_phase, is_offered, seat_of, unanswered, with_points}
-use Rattle.sg_store.specs.Stored.{bytes_of}
+use Rattle.sg_world_laws.specs.sg_seat.WorldView.{WorldView, is_held_phase, is_offered, seat_of, unanswered, with_points}
+use Rattle.sg_replay.specs.sg_store.Stored.{bytes_of}
 use Rattle.sg_world.proofs.Missing.{due_is}
 use Rattle.sg_world.proofs.Points.{not_stopped, shown_on, stops_noted, stops_struck}
 use Rattle.sg_world.proofs.Upright.{Upright, keeps_upright}
@@ -259,8 +259,8 @@ module _ (z : Setting) (e : Engined) (w : WorldView) (rooms : Rooms) (is : IsWor
       uses_now : UsesService z (with_points w asked) client v
       uses_now = record { let_in = record { phase = let_in.phase; passes = let_in.passes }; running = up }
 
-      at_end : (item : Item) → IsNextItem (stubs_of z) w.history (unanswered w) (place_behind [] (spelt.first ∷ spelt.others) item) → IsNextItem (stubs_of z) w.history (unanswered w) (place_behind [] w.run.boots item)
-      at_end item next = subst (λ l. IsNextItem (stubs_of z) w.history (unanswered w) (place_behind [] l item)) (sym spelt.boots) next
+      at_end : (item : Item) → IsNextItem (stubs_of z) w.history (unanswered w) (place_after [] (spelt.first ∷ spelt.others) item) → IsNextItem (stubs_of z) w.history (unanswered w) (place_after [] w.run.boots item)
+      at_end item next = subst (λ l. IsNextItem (stubs_of z) w.history (unanswered w) (place_after [] l item)) (sym spelt.boots) next
 
       start_is : start.asked ≡ asked_after asked 1
       start_is = sym counted ∙ points

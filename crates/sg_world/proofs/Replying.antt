@@ -3,12 +3,12 @@ use Rattle.std.proofs.Common.{Bool, List, None, Option, Some, [], ap, arith, fal
 use Rattle.std.specs.Prelude.{IfSome, nat_lt}
 use Rattle.std.proofs.lemmas.Bool.{ltb-true}
 use Rattle.sg_world_laws.proofs.Advancing.Noted.{length_noted}
-use Rattle.sg_base.specs.Counts.{last_count}
-use Rattle.sg_base.specs.Stops.{asked_after}
-use Rattle.sg_base.specs.declared.call.Call.{Call}
-use Rattle.sg_base.specs.declared.reply.Reply.{Reply}
-use Rattle.sg_base.specs.declared.reply.Reply.TheVariants.{Ok, Refused}
-use Rattle.sg_boot.specs.Invoking.{item_of_call, with_item}
+use Rattle.sg_facts.specs.sg_base.Counts.{last_count}
+use Rattle.sg_facts.specs.sg_base.Stops.{asked_after}
+use Rattle.sg_facts.specs.sg_base.declared.call.Call.{Call}
+use Rattle.sg_facts.specs.sg_base.declared.reply.Reply.{Reply}
+use Rattle.sg_facts.specs.sg_base.declared.reply.Reply.TheVariants.{Ok, Refused}
+use Rattle.sg_replay.specs.sg_boot.Invoking.{item_of_call, with_item}
 use Rattle.sg_world_laws.proofs.Committing.Behind.{patch_it}
 use Rattle.sg_world_laws.proofs.Committing.Committed.{committed_keeps, committed_next}
 use Rattle.sg_world_laws.proofs.Committing.Holding.{held_keeps, held_next}
@@ -32,27 +32,27 @@ use Rattle.sg_facts.specs.Legal.{answer, refused_or}
 use Rattle.sg_facts.specs.Object.{Object, file_at, given_after, object_of, patch_of}
 use Rattle.sg_facts.specs.Trace.{Boot, Run}
 use Rattle.sg_facts.specs.Track.{track}
-use Rattle.sg_hist.specs.Reading.{after_item}
-use Rattle.sg_hist.specs.Recovered.{IsPointOfCall, answer_to, struck_in}
-use Rattle.sg_name.specs.Names.{named_at}
-use Rattle.sg_name.specs.declared.named.Named.TheVariants.{Live}
-use Rattle.sg_recovery_laws.proofs.Objects.Waiting.{hidden_is}
-use Rattle.sg_hist.specs.Growing.{IsNextItem, last_items, noted, place_behind}
-use Rattle.sg_recovery_laws.specs.Midway.Progress.{IsNone}
+use Rattle.sg_replay.specs.sg_hist.Reading.{after_item}
+use Rattle.sg_replay.specs.sg_hist.Recovered.{IsPointOfCall, answer_to, struck_in}
+use Rattle.sg_replay.specs.sg_name.Names.{named_at}
+use Rattle.sg_replay.specs.sg_name.declared.named.Named.TheVariants.{Live}
+use Rattle.sg_world_laws.proofs.sg_recovery_laws.Objects.Waiting.{hidden_is}
+use Rattle.sg_replay.specs.sg_hist.Growing.{IsNextItem, last_items, noted, place_after}
+use Rattle.sg_world_laws.specs.sg_recovery_laws.Midway.Progress.{IsNone}
 use Rattle.sg_replay.proofs.Fitting.{fits_stored}
 use Rattle.sg_replay.specs.Committing.{MayCommitAt, MayStore, is_written, name_left}
 use Rattle.sg_replay.specs.Engined.{AreGiven, Engined, IsEngine}
 use Rattle.sg_replay.specs.Missing.{missing}
 use Rattle.sg_replay.specs.Present.{HasMark, is_present}
 use Rattle.sg_replay.specs.Serving.{TellsReply, is_named_by, pairs_of, real_call, real_in}
-use Rattle.sg_seat.specs.WorldView.{Seat, WorldView, held_in, is_blocked_phase, is_held_phase, is_offered, no_seat, seat_in, seat_of, unanswered, wakes_seat, with_points, woken_seat}
-use Rattle.sg_seat.specs.declared.mark.Mark.{Mark}
-use Rattle.sg_seat.specs.declared.mark.MarkKind.TheVariants.{Entry as IsEntered}
-use Rattle.sg_seat.specs.declared.phase.Phase.TheVariants.{Held, Receipted}
-use Rattle.sg_store.specs.Spans.{patched_at}
-use Rattle.sg_store.specs.Committing.{NamesNext}
-use Rattle.sg_store.specs.Stored.{HasRoom, bytes_of, tracked_in}
-use Rattle.sg_track.specs.Tracked.{MayTrack}
+use Rattle.sg_world_laws.specs.sg_seat.WorldView.{Seat, WorldView, held_in, is_blocked_phase, is_held_phase, is_offered, no_seat, seat_in, seat_of, unanswered, wakes_seat, with_points, woken_seat}
+use Rattle.sg_world_laws.specs.sg_seat.declared.mark.Mark.{Mark}
+use Rattle.sg_world_laws.specs.sg_seat.declared.mark.MarkKind.TheVariants.{Entry as IsEntered}
+use Rattle.sg_world_laws.specs.sg_seat.declared.phase.Phase.TheVariants.{Held, Receipted}
+use Rattle.sg_replay.specs.sg_store.Spans.{patched_at}
+use Rattle.sg_replay.specs.sg_store.Committing.{NamesNext}
+use Rattle.sg_replay.specs.sg_store.Stored.{HasRoom, bytes_of, tracked_in}
+use Rattle.sg_replay.specs.sg_track.Tracked.{MayTrack}
 use Rattle.sg_world.proofs.Entering.{entered_rooms, entered_told}
 use Rattle.sg_world.proofs.Moving.{answered_seats, rooms_moved, told_moved}
 use Rattle.sg_world.proofs.Points.{stops_noted, stores_same}
@@ -148,8 +148,8 @@ module _ (z : Setting) (e : Engined) (w : WorldView) (rooms : Rooms) (is : IsWor
   pub replied_up : new.cell.running ≡ Some (after_item z.iface.facts v item)
   replied_up = t.notes.running
 
-  at_place : (l : List Entry) (u : List Call) → IsNextItem (stubs_of z) l u (place_behind [] (b ∷ boots) item) → IsNextItem (stubs_of z) l u (place_behind [] w.run.boots item)
-  at_place l u next = subst (λ x. IsNextItem (stubs_of z) l u (place_behind [] x item)) (sym (sp z e w rooms is run running walks client first last let_in v up whole).boots) next
+  at_place : (l : List Entry) (u : List Call) → IsNextItem (stubs_of z) l u (place_after [] (b ∷ boots) item) → IsNextItem (stubs_of z) l u (place_after [] w.run.boots item)
+  at_place l u next = subst (λ x. IsNextItem (stubs_of z) l u (place_after [] x item)) (sym (sp z e w rooms is run running walks client first last let_in v up whole).boots) next
 
   abbrev asks_now : (asked : ℕ) → AsksService z (with_points w asked) client
   asks_now asked = record { service = v; reaches = reaches_now z e w rooms is run running walks client first last let_in v up whole asked; item = item; tag = ap (λ c. Client c call.seq) own_client; shown = refl }

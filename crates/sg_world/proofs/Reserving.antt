@@ -2,12 +2,12 @@
 use Rattle.std.proofs.Common.{List, ap, ℕ, ◌∙◌, ◌≡◌}
 use Rattle.sg_world.specs.Engines.Stubs.{stub_of, told_of}
 use Rattle.sg_facts.specs.Alike.{named}
-use Rattle.sg_name.specs.Names.{named_at}
+use Rattle.sg_replay.specs.sg_name.Names.{named_at}
 use Rattle.sg_replay.specs.Engined.{Engined}
 use Rattle.sg_replay.specs.Present.{is_present}
 use Rattle.sg_replay.specs.Serving.{pairs_of}
-use Rattle.sg_seat.specs.WorldView.{WorldView}
-use Rattle.sg_store.specs.Stored.{bytes_of}
+use Rattle.sg_world_laws.specs.sg_seat.WorldView.{WorldView}
+use Rattle.sg_replay.specs.sg_store.Stored.{bytes_of}
 use Rattle.sg_world.specs.Worlded.{IsWorld, Rooms}
 use Rattle.sg_world_laws.proofs.Alike.{keeps_alike}
 use Rattle.sg_world_laws.specs.Keeping.{TellSame}

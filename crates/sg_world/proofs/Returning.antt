@@ -3,9 +3,9 @@ use Rattle.std.proofs.Common.{Bool, List, None, Option, Some, [], ap, arith, con
 use Rattle.std.proofs.Math.Path.{fun_ext}
 use Rattle.std.specs.List.{Contains}
 use Rattle.std.specs.Prelude.{◌||◌}
-use Rattle.sg_base.specs.declared.call.Call.{Call}
-use Rattle.sg_base.specs.declared.reply.Reply.{Reply}
-use Rattle.sg_base.specs.declared.reply.Reply.TheVariants.{Ok, Refused}
+use Rattle.sg_facts.specs.sg_base.declared.call.Call.{Call}
+use Rattle.sg_facts.specs.sg_base.declared.reply.Reply.{Reply}
+use Rattle.sg_facts.specs.sg_base.declared.reply.Reply.TheVariants.{Ok, Refused}
 use Rattle.sg_world.specs.Engines.Stubs.{stub_of, told_of}
 use Rattle.sg_facts.specs.Alike.{named}
 use Rattle.sg_facts.specs.Facts.{Facts, fun_at}
@@ -17,33 +17,33 @@ use Rattle.sg_facts.specs.Track.{is_live, rows_after, track}
 use Rattle.sg_facts.specs.declared.entry.Entry.{Entry}
 use Rattle.sg_facts.specs.declared.outcome.Patch.{Patch}
 use Rattle.sg_facts.specs.declared.row.Row.{Row}
-use Rattle.sg_name.specs.Names.{named_at}
-use Rattle.sg_name.specs.declared.named.Named.{Named}
-use Rattle.sg_name.specs.declared.named.Named.TheVariants.{Unnamed}
-use Rattle.sg_recovery_laws.proofs.Objects.Steady.{after_good}
-use Rattle.sg_recovery_laws.proofs.Objects.Waiting.{hidden_is}
-use Rattle.sg_recovery_laws.specs.Objects.Serving.{IsAnsweredAt, IsLegalObject, IsService}
-use Rattle.sg_recovery_laws.specs.Objects.Waiting.{AreWaiting, IsWaiting}
+use Rattle.sg_replay.specs.sg_name.Names.{named_at}
+use Rattle.sg_replay.specs.sg_name.declared.named.Named.{Named}
+use Rattle.sg_replay.specs.sg_name.declared.named.Named.TheVariants.{Unnamed}
+use Rattle.sg_world_laws.proofs.sg_recovery_laws.Objects.Steady.{after_good}
+use Rattle.sg_world_laws.proofs.sg_recovery_laws.Objects.Waiting.{hidden_is}
+use Rattle.sg_world_laws.specs.sg_recovery_laws.Objects.Serving.{IsAnsweredAt, IsLegalObject, IsService}
+use Rattle.sg_world_laws.specs.sg_recovery_laws.Objects.Waiting.{AreWaiting, IsWaiting}
 use Rattle.sg_replay.proofs.Naming.{named_in_pairs, real_or_zero}
 use Rattle.sg_replay.specs.Committing.{MayCommitAt, is_written, name_left}
 use Rattle.sg_replay.specs.Engined.{Engined}
 use Rattle.sg_replay.specs.Present.{is_present}
-use Rattle.sg_seat.specs.WorldView.{Seat, WorldView, held_in, is_held_in, is_held_phase, is_offered, no_reply, offered_by, unanswered, wakes_seat, woken_seat}
-use Rattle.sg_seat.specs.declared.phase.Phase.TheVariants.{Held, Idle}
-use Rattle.sg_track.proofs.Premises.{may_track}
-use Rattle.sg_track.specs.Tracked.{MayTrack, Tracked}
+use Rattle.sg_world_laws.specs.sg_seat.WorldView.{Seat, WorldView, held_in, is_held_in, is_held_phase, is_offered, no_reply, offered_by, unanswered, wakes_seat, woken_seat}
+use Rattle.sg_world_laws.specs.sg_seat.declared.phase.Phase.TheVariants.{Held, Idle}
+use Rattle.sg_replay.proofs.sg_track.Premises.{may_track}
+use Rattle.sg_replay.specs.sg_track.Tracked.{MayTrack, Tracked}
 use Rattle.sg_facts.proofs.Replaying.Found.{same_test}
 use Rattle.std.proofs.Common.{unwrap_or}
 use Rattle.std.specs.Prelude.{IsSome}
-use Rattle.sg_base.specs.Lists.{Each}
+use Rattle.sg_facts.specs.sg_base.Lists.{Each}
 use Rattle.sg_facts.specs.Object.{given_after}
 use Rattle.sg_facts.specs.Trace.{Run}
-use Rattle.sg_recovery_laws.specs.Midway.Progress.{IsNone}
-use Rattle.sg_seat.specs.WorldView.{answered_to, boot_number, committed, is_blocked_phase, no_seat, seat_in, seat_of}
-use Rattle.sg_seat.specs.declared.mark.Mark.{Mark}
-use Rattle.sg_seat.specs.declared.mark.MarkKind.TheVariants.{Answer, Entry as IsEntered}
-use Rattle.sg_store.specs.Spans.{patched_at}
-use Rattle.sg_store.specs.Stored.{bytes_of}
+use Rattle.sg_world_laws.specs.sg_recovery_laws.Midway.Progress.{IsNone}
+use Rattle.sg_world_laws.specs.sg_seat.WorldView.{answered_to, boot_number, committed, is_blocked_phase, no_seat, seat_in, seat_of}
+use Rattle.sg_world_laws.specs.sg_seat.declared.mark.Mark.{Mark}
+use Rattle.sg_world_laws.specs.sg_seat.declared.mark.MarkKind.TheVariants.{Answer, Entry as IsEntered}
+use Rattle.sg_replay.specs.sg_store.Spans.{patched_at}
+use Rattle.sg_replay.specs.sg_store.Stored.{bytes_of}
 use Rattle.sg_world.proofs.Entering.{answered_told, entered_rooms, entered_some}
 use Rattle.sg_world.proofs.Moving.{answered_seats}
 use Rattle.sg_world.proofs.Storing.{stored_on}
@@ -95,7 +95,7 @@ module _ (facts : Facts) (ask : Table) (sound : Object → Type 0) (law : IsServ
 
 -- ---- names
 
--- what stands for ids behind a commit
+-- what stands for ids after a commit
 module _ (before after : List Row) (old new : Named) (id : ℕ) (is : new ≡ name_left before after id old) where
   name_kept : is_live after id ≡ true → new ≡ old
   name_kept live = is ∙ at (is_live before id) (is_live after id) live
@@ -240,7 +240,7 @@ some_of : (r : Option Object) → IsSome r → (v : Object) × (r ≡ Some v)
 some_of None up = absurd (cc up)
 some_of (Some v) up = (v, refl)
 
--- the view behind an entry of a client that doesn't wait, whose reply is handed over at once
+-- the view after an entry of a client that doesn't wait, whose reply is handed over at once
 module _ (facts : Facts) (w : WorldView) (client : ℕ) (s : Seat) (there : slice_get w.seats (client - 1) ≡ Some s) (stays : is_blocked_phase s.phase ≡ false) (e : Entry) (its : e.call.client ≡ client) where
   abbrev woken : List Seat
   woken = map (woken_seat (wakes_seat facts (object_of facts w.history).rows e.call e.reply)) w.seats
@@ -320,7 +320,7 @@ module _ (z : Setting) (e : Engined) (w : WorldView) (rooms : Rooms) (is : IsWor
         (subst (λ rs. Each (λ s. is_blocked_phase s.phase ≡ true → IsNone rs s.call.desc) w.seats) (sym is.tracked.rows) (wait_on_live z is.set w.history w.withdrawn 1 w.seats is.keeps.seats.each));
   })
 
-  -- what stands behind the commit
+  -- what stands after the commit
   module _ (new : Engined) (later : Rooms) (fits : (seat_of w client).call.seq < 2 ^ 32) (rows : new.tracked.rows ≡ track z.iface.facts e.tracked.rows (seat_of w client).call (seat_of w client).reply)
       (given : new.tracked.given ≡ given_after z.iface.facts e.tracked.given (seat_of w client).call (seat_of w client).reply)
       (files : (key : List ℕ) → bytes_of new.stored key ≡ patched_at None key (bytes_of e.stored key))

@@ -9,18 +9,18 @@ use Rattle.sg_facts.specs.Limits.{last_client}
 use Rattle.sg_facts.specs.Object.{Object, empty_object}
 use Rattle.sg_facts.specs.Tables.{AreTables, Compiled}
 use Rattle.sg_facts.specs.declared.entry.Entry.{Entry}
-use Rattle.sg_hist.specs.Recovered.{struck_in, ArePointsOf}
-use Rattle.sg_name.specs.Names.{named_at}
-use Rattle.sg_recovery_laws.specs.Objects.Serving.{IsService}
-use Rattle.sg_recovery_laws.proofs.Points.{points_begin}
-use Rattle.sg_hist.specs.Growing.{booted, struck}
+use Rattle.sg_replay.specs.sg_hist.Recovered.{struck_in, ArePointsOf}
+use Rattle.sg_replay.specs.sg_name.Names.{named_at}
+use Rattle.sg_world_laws.specs.sg_recovery_laws.Objects.Serving.{IsService}
+use Rattle.sg_world_laws.proofs.sg_recovery_laws.Points.{points_begin}
+use Rattle.sg_replay.specs.sg_hist.Growing.{booted, struck}
 use Rattle.sg_replay.specs.Engined.{Engined}
 use Rattle.sg_replay.specs.Present.{is_present}
 use Rattle.sg_replay.specs.Serving.{pairs_of}
-use Rattle.sg_seat.specs.WorldView.{WorldView, new_world, no_seat, offered_by, Seat}
-use Rattle.sg_seat.specs.declared.mark.Mark.{Mark}
-use Rattle.sg_seat.specs.declared.withdrawn.Withdrawn.{Withdrawn}
-use Rattle.sg_store.specs.Stored.{bytes_of}
+use Rattle.sg_world_laws.specs.sg_seat.WorldView.{WorldView, new_world, no_seat, offered_by, Seat}
+use Rattle.sg_world_laws.specs.sg_seat.declared.mark.Mark.{Mark}
+use Rattle.sg_world_laws.specs.sg_seat.declared.withdrawn.Withdrawn.{Withdrawn}
+use Rattle.sg_replay.specs.sg_store.Stored.{bytes_of}
 use Rattle.sg_world.proofs.Marking.{new_told}
 use Rattle.sg_world.specs.Worlded.{CountsAll, CountsPoints, IsWorld, Rooms, marks_left, setting_of, view_of}
 use Rattle.sg_world_laws.proofs.Begun.{AreNew, new_keeps}

@@ -3,10 +3,10 @@ use Rattle.std.proofs.Common.{Bool, List, None, Some, [], ap, arith, false, inl,
 use Rattle.std.specs.Prelude.{◌==◌, if◌then◌else◌, min, nat_lt, unwrap_or}
 use Rattle.std.proofs.lemmas.Bool.{lt-ltb, ltb-true}
 use Rattle.std.proofs.lemmas.Bool.Decides.{nat_tests}
-use Rattle.sg_base.specs.Counts.{last_count}
-use Rattle.sg_base.specs.Stops.{asked_after}
-use Rattle.sg_base.specs.declared.call.Call.{Call}
-use Rattle.sg_boot.specs.Cells.{IsCell, IsRunning}
+use Rattle.sg_facts.specs.sg_base.Counts.{last_count}
+use Rattle.sg_facts.specs.sg_base.Stops.{asked_after}
+use Rattle.sg_facts.specs.sg_base.declared.call.Call.{Call}
+use Rattle.sg_replay.specs.sg_boot.Cells.{IsCell, IsRunning}
 use Rattle.sg_facts.specs.declared.entry.Entry.{Entry}
 use Rattle.sg_facts.specs.declared.outcome.Outcome.{Outcome}
 use Rattle.sg_facts.specs.declared.outcome.Outcome.TheVariants.{Blocks, NoMemory, Replied, Stopped}
@@ -15,10 +15,10 @@ use Rattle.sg_facts.specs.Facts.{Facts, is_visible}
 use Rattle.sg_facts.specs.Legal.{Table}
 use Rattle.sg_facts.specs.Object.{Object}
 use Rattle.sg_facts.specs.Trace.{Boot}
-use Rattle.sg_hist.specs.Recovered.{ArePointsOf, IsCount, IsPointOf, answer_to, asked_behind, asked_in, ends_committed, is_clients, is_replied, is_stopped, is_visible_reply}
-use Rattle.sg_recovery_laws.proofs.Points.{points_booted, points_counted, points_noted, points_stopped, points_struck}
-use Rattle.sg_hist.specs.Growing.{asked_over, booted, last_items, last_stop, noted, struck}
-use Rattle.sg_seat.specs.WorldView.{WorldView, seat_of, struck_at, with_points}
+use Rattle.sg_replay.specs.sg_hist.Recovered.{ArePointsOf, IsCount, IsPointOf, answer_to, asked_with_commit, asked_in, ends_committed, is_clients, is_replied, is_stopped, is_visible_reply}
+use Rattle.sg_world_laws.proofs.sg_recovery_laws.Points.{points_booted, points_counted, points_noted, points_stopped, points_struck}
+use Rattle.sg_replay.specs.sg_hist.Growing.{asked_over, booted, last_items, last_stop, noted, struck}
+use Rattle.sg_world_laws.specs.sg_seat.WorldView.{WorldView, seat_of, struck_at, with_points}
 use Rattle.sg_world.proofs.Counting.{count_on, grows, point_of, sum_is, weak_of}
 use Rattle.sg_world.specs.declared.did.Did.{Did}
 use Rattle.sg_world.specs.declared.did.Did.TheVariants.{Answered, Blocked as Waits, Booted, Loaded, Lost, Replayed, Served, Skipped, Struck}
@@ -29,7 +29,7 @@ use Rattle.sg_world_laws.specs.Setting.{Setting}
 -- ---- the last boot, however the boots are given
 
 noted_on : (exact : Bool) (facts : Facts) (ask : Table) (parts : ℕ → ℕ) (boots : List Boot) (points later : ℕ) (item : Item) → boots ≢ [] → last_stop boots ≡ None → is_stopped item.outcome ≡ false
-    → IsPointOf exact parts (asked_over facts 0 boots) (answer_to facts ask (last_items boots) item) item.tag item.shown.fun item.outcome item.points → IsCount exact later (asked_behind facts item)
+    → IsPointOf exact parts (asked_over facts 0 boots) (answer_to facts ask (last_items boots) item) item.tag item.shown.fun item.outcome item.points → IsCount exact later (asked_with_commit facts item)
     → ArePointsOf exact facts ask parts 0 boots points → ArePointsOf exact facts ask parts 0 (noted boots item) later
 noted_on exact facts ask parts [] points later item begun running going one count all = absurd (begun refl)
 noted_on exact facts ask parts (b ∷ boots) points later item begun running going one count all = points_noted exact facts ask parts 0 b boots points later item running going one count all
@@ -72,14 +72,14 @@ committed_last facts (b ∷ []) item begun visible = pushed b.items
 committed_last facts (b ∷ c ∷ []) item begun visible = committed_last facts (c ∷ []) item (λ none. cc none) visible
 committed_last facts (b ∷ c ∷ d ∷ boots) item begun visible = committed_last facts (c ∷ d ∷ boots) item (λ none. cc none) visible
 
-asked_noted : (facts : Facts) (boots : List Boot) (item : Item) → boots ≢ [] → last_stop boots ≡ None → asked_over facts 0 (noted boots item) ≡ asked_behind facts item
+asked_noted : (facts : Facts) (boots : List Boot) (item : Item) → boots ≢ [] → last_stop boots ≡ None → asked_over facts 0 (noted boots item) ≡ asked_with_commit facts item
 asked_noted facts boots item = from 0 boots
   where
-    in_boot : (n : ℕ) (items : List Item) → asked_in facts n (items ++ item ∷ []) ≡ asked_behind facts item
+    in_boot : (n : ℕ) (items : List Item) → asked_in facts n (items ++ item ∷ []) ≡ asked_with_commit facts item
     in_boot n [] = refl
-    in_boot n (x ∷ items) = in_boot (asked_behind facts x) items
+    in_boot n (x ∷ items) = in_boot (asked_with_commit facts x) items
 
-    from : (n : ℕ) (boots : List Boot) → boots ≢ [] → last_stop boots ≡ None → asked_over facts n (noted boots item) ≡ asked_behind facts item
+    from : (n : ℕ) (boots : List Boot) → boots ≢ [] → last_stop boots ≡ None → asked_over facts n (noted boots item) ≡ asked_with_commit facts item
     from n [] begun running = absurd (begun refl)
     from n (b ∷ []) begun running = ap (λ x. unwrap_or x (asked_in facts n (b.items ++ item ∷ []))) running ∙ in_boot n b.items
     from n (b ∷ d ∷ boots) begun running = from (unwrap_or b.stop (asked_in facts n b.items)) (d ∷ boots) (λ none. cc none) running
@@ -103,7 +103,7 @@ fun_hidden facts item call shown is = ap (λ t. is_clients item.tag && t && is_r
     none true b = refl
     none false b = refl
 
-behind_hidden : (facts : Facts) (item : Item) → is_visible_reply facts item ≡ false → asked_behind facts item ≡ item.points
+behind_hidden : (facts : Facts) (item : Item) → is_visible_reply facts item ≡ false → asked_with_commit facts item ≡ item.points
 behind_hidden facts item is = ap (λ t. if t then item.points + 1 else item.points) is
 
 reply_going : (outcome : Outcome) → is_replied outcome ≡ true → is_stopped outcome ≡ false
@@ -137,11 +137,11 @@ module _ (z : Setting) (w : WorldView) (c : ℕ) (cell : IsCell z.iface.facts w.
     one = point_of (w.refused == 0) z.parts (asked_over z.iface.facts 0 w.run.boots) w.run.points (answer_to z.iface.facts z.ask (last_items w.run.boots) item) item.tag item.shown.fun item.outcome item.points
         (sum_is (w.refused == 0) z.iface.facts z.ask z.parts 0 w.run.boots w.run.points all) (n.points less)
 
-    noted_counts : is_stopped item.outcome ≡ false → (later : ℕ) → IsCount (w.refused == 0) later (asked_behind z.iface.facts item) → ArePointsOf (w.refused == 0) z.iface.facts z.ask z.parts 0 (noted w.run.boots item) later
+    noted_counts : is_stopped item.outcome ≡ false → (later : ℕ) → IsCount (w.refused == 0) later (asked_with_commit z.iface.facts item) → ArePointsOf (w.refused == 0) z.iface.facts z.ask z.parts 0 (noted w.run.boots item) later
     noted_counts goes later count = noted_on (w.refused == 0) z.iface.facts z.ask z.parts w.run.boots w.run.points later item cell.begun (going v up) goes one count all
 
     hidden_counts : is_stopped item.outcome ≡ false → is_visible_reply z.iface.facts item ≡ false → ArePointsOf (w.refused == 0) z.iface.facts z.ask z.parts 0 (noted w.run.boots item) item.points
-    hidden_counts goes hidden = noted_counts goes item.points (same_count (w.refused == 0) item.points (asked_behind z.iface.facts item) (sym (behind_hidden z.iface.facts item hidden)))
+    hidden_counts goes hidden = noted_counts goes item.points (same_count (w.refused == 0) item.points (asked_with_commit z.iface.facts item) (sym (behind_hidden z.iface.facts item hidden)))
 
     stopped_counts : is_stopped item.outcome ≡ true → ArePointsOf (w.refused == 0) z.iface.facts z.ask z.parts 0 (struck (noted w.run.boots item) item.points) item.points
     stopped_counts stopped = stopped_on (w.refused == 0) z.iface.facts z.ask z.parts w.run.boots w.run.points item.points item cell.begun (going v up) stopped one (same_count (w.refused == 0) item.points item.points refl) all
@@ -161,7 +161,7 @@ module _ (z : Setting) (w : WorldView) (c : ℕ) (cell : IsCell z.iface.facts w.
       (inr (count_on (w.refused == 0) (asked_over z.iface.facts 0 w.run.boots) w.run.points (asked_after w.run.points 1) 1 (sum_is (w.refused == 0) z.iface.facts z.ask z.parts 0 w.run.boots w.run.points sum) next))
       (same_count (w.refused == 0) (asked_after w.run.points 1) (asked_after w.run.points 1) refl) sum
 
-  -- a point behind the commit of a visible call
+  -- a point after the commit of a visible call
   module _ (between : WorldView) (s : Commits z w c between) where
     between_run : (between.run.boots ≡ noted w.run.boots s.asks.item) × (between.run.points ≡ s.asks.item.points) × (between.refused ≡ w.refused)
     between_run = (ap (λ x. x.run.boots) s.now, ap (λ x. x.run.points) s.now, ap (λ x. x.refused) s.now)
@@ -175,7 +175,7 @@ module _ (z : Setting) (w : WorldView) (c : ℕ) (cell : IsCell z.iface.facts w.
         both true false d p q r = absurd (cc q)
         both true true false p q r = absurd (cc r)
 
-    behind_one : asked_behind z.iface.facts s.asks.item ≡ s.asks.item.points + 1
+    behind_one : asked_with_commit z.iface.facts s.asks.item ≡ s.asks.item.points + 1
     behind_one = ap (λ t. if t then s.asks.item.points + 1 else s.asks.item.points) visible_reply
 
     less_item : nat_lt (asked_after between.run.points 1) last_count ≡ true → (nat_lt s.asks.item.points last_count ≡ true) × (asked_after between.run.points 1 ≡ s.asks.item.points + 1)
@@ -192,13 +192,13 @@ module _ (z : Setting) (w : WorldView) (c : ℕ) (cell : IsCell z.iface.facts w.
         subst (λ r. ArePointsOf (r == 0) z.iface.facts z.ask z.parts 0 between.run.boots (asked_after between.run.points 1)) (sym between_run.2)
         (subst (λ b. ArePointsOf (w.refused == 0) z.iface.facts z.ask z.parts 0 b (asked_after between.run.points 1)) (sym between_run.0)
         (noted_counts s.asks.service s.asks.reaches.uses.running s.asks.item (w.history ++ record { call = (seat_of w c).call; reply = s.reply } ∷ []) _ s.noted its.0 (reply_going s.asks.item.outcome s.outcome) (asked_after between.run.points 1)
-        (same_count (w.refused == 0) (asked_after between.run.points 1) (asked_behind z.iface.facts s.asks.item) (its.1 ∙ sym behind_one))))
+        (same_count (w.refused == 0) (asked_after between.run.points 1) (asked_with_commit z.iface.facts s.asks.item) (its.1 ∙ sym behind_one))))
 
     behind_counts : CountsAll z (struck_at between (asked_after between.run.points 1))
     behind_counts less =
         let its = less_item less in
         let noted_all = noted_counts s.asks.service s.asks.reaches.uses.running s.asks.item (w.history ++ record { call = (seat_of w c).call; reply = s.reply } ∷ []) _ s.noted its.0 (reply_going s.asks.item.outcome s.outcome) (s.asks.item.points + 1)
-        (same_count (w.refused == 0) (s.asks.item.points + 1) (asked_behind z.iface.facts s.asks.item) (sym behind_one)) in
+        (same_count (w.refused == 0) (s.asks.item.points + 1) (asked_with_commit z.iface.facts s.asks.item) (sym behind_one)) in
         subst (λ r. ArePointsOf (r == 0) z.iface.facts z.ask z.parts 0 (struck between.run.boots (asked_after between.run.points 1)) (asked_after between.run.points 1)) (sym between_run.2)
         (subst (λ b. ArePointsOf (w.refused == 0) z.iface.facts z.ask z.parts 0 (struck b (asked_after between.run.points 1)) (asked_after between.run.points 1)) (sym between_run.0)
         (struck_on (w.refused == 0) z.iface.facts z.ask z.parts (noted w.run.boots s.asks.item) (s.asks.item.points + 1) (asked_after between.run.points 1) (asked_after between.run.points 1)
@@ -206,7 +206,7 @@ module _ (z : Setting) (w : WorldView) (c : ℕ) (cell : IsCell z.iface.facts w.
         (inl (committed_last z.iface.facts w.run.boots s.asks.item cell.begun visible_reply, its.1 ∙ sym behind_one ∙ sym (asked_noted z.iface.facts w.run.boots s.asks.item cell.begun (going s.asks.service s.asks.reaches.uses.running))))
         (same_count (w.refused == 0) (asked_after between.run.points 1) (asked_after between.run.points 1) refl) noted_all))
 
-  -- whatever a step does, the points are counted behind it
+  -- whatever a step does, the points are counted after it
   pub steps_counted : (did : Did) (later : WorldView) → Steps z w c did later → CountsAll z later
   steps_counted Skipped later s = subst (CountsAll z) (sym s.now) was
   steps_counted (Answered reply) later (inl s) = subst (CountsAll z) (sym s.now) was

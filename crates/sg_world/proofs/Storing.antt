@@ -1,23 +1,23 @@
--- What stubs and storage keep behind the commit of an engine is the object of the longer history.
+-- What stubs and storage keep after the commit of an engine is the object of the longer history.
 use Rattle.std.proofs.Common.{List, None, Option, Some, [], ap, inl, inr, refl, subst, sym, ℕ, ◌++◌, ◌∙◌, ◌∷◌, ◌≡◌, ◌⊎◌, if◌then◌else◌, true, false}
 use Rattle.std.specs.Prelude.{◌≢◌}
 use Rattle.std.specs.Str.{bytes_eq}
-use Rattle.sg_base.specs.declared.call.Call.{Call}
-use Rattle.sg_base.specs.declared.reply.Reply.{Reply}
+use Rattle.sg_facts.specs.sg_base.declared.call.Call.{Call}
+use Rattle.sg_facts.specs.sg_base.declared.reply.Reply.{Reply}
 use Rattle.sg_facts.specs.declared.entry.Entry.{Entry}
 use Rattle.sg_facts.specs.declared.outcome.Patch.{Patch}
 use Rattle.sg_facts.specs.Facts.{Facts}
 use Rattle.sg_facts.specs.Object.{after, empty_object, file_at, given_after, object_of, over, patch_of, patched}
 use Rattle.sg_facts.specs.Track.{track}
-use Rattle.sg_recovery_laws.proofs.Objects.Files.{set_other, set_own}
+use Rattle.sg_world_laws.proofs.sg_recovery_laws.Objects.Files.{set_other, set_own}
 use Rattle.sg_replay.specs.Engined.{Engined}
-use Rattle.sg_store.specs.Spans.{patched_at}
-use Rattle.sg_store.specs.Stored.{bytes_of}
+use Rattle.sg_replay.specs.sg_store.Spans.{patched_at}
+use Rattle.sg_replay.specs.sg_store.Stored.{bytes_of}
 use Rattle.sg_facts.proofs.Replaying.Files.{told}
 use Rattle.sg_world.specs.Worlded.{StoresObject}
 use Rattle.sg_world_laws.proofs.Drawn.{object_behind}
 
--- the file of a path behind a patch, which may be of another
+-- the file of a path after a patch, which may be of another
 pub patched_file : (files : List (List ℕ × List ℕ)) (patch : Option Patch) (path : List ℕ) → file_at (patched files patch) path ≡ patched_at patch path (file_at files path)
 patched_file files None path = refl
 patched_file files (Some p) path = at (told path p.key)

@@ -1,17 +1,17 @@
 -- Whoever waits in a world waits in a call on no descriptor or on a live one.
 use Rattle.std.proofs.Common.{List, None, Option, Some, [], ap, refl, slice_set, suc, true, zero, ℕ, ◌+◌, ◌∷◌, ◌≡◌}
-use Rattle.sg_base.specs.Lists.{Each}
-use Rattle.sg_base.specs.declared.reply.Code.{Code}
-use Rattle.sg_base.specs.declared.reply.Reply.{Reply}
+use Rattle.sg_facts.specs.sg_base.Lists.{Each}
+use Rattle.sg_facts.specs.sg_base.declared.reply.Code.{Code}
+use Rattle.sg_facts.specs.sg_base.declared.reply.Reply.{Reply}
 use Rattle.sg_facts.specs.declared.entry.Entry.{Entry}
 use Rattle.sg_facts.specs.Guard.{guard}
 use Rattle.sg_facts.specs.Legal.{refused_or}
 use Rattle.sg_facts.specs.Object.{object_of}
-use Rattle.sg_recovery_laws.specs.Midway.Progress.{IsNone}
-use Rattle.sg_seat.specs.WorldView.{Seat, is_blocked_phase, is_offered}
-use Rattle.sg_seat.specs.declared.phase.Phase.{Phase}
-use Rattle.sg_seat.specs.declared.phase.Phase.TheVariants.{Asked, Blocked, Held, Idle, Left, Receipted}
-use Rattle.sg_seat.specs.declared.withdrawn.Withdrawn.{Withdrawn}
+use Rattle.sg_world_laws.specs.sg_recovery_laws.Midway.Progress.{IsNone}
+use Rattle.sg_world_laws.specs.sg_seat.WorldView.{Seat, is_blocked_phase, is_offered}
+use Rattle.sg_world_laws.specs.sg_seat.declared.phase.Phase.{Phase}
+use Rattle.sg_world_laws.specs.sg_seat.declared.phase.Phase.TheVariants.{Asked, Blocked, Held, Idle, Left, Receipted}
+use Rattle.sg_world_laws.specs.sg_seat.declared.withdrawn.Withdrawn.{Withdrawn}
 use Rattle.sg_world_laws.proofs.LetIn.{desc_there}
 use Rattle.sg_world_laws.specs.Seats.{AreSeated}
 use Rattle.sg_world_laws.specs.Setting.{IsSetting, Setting}

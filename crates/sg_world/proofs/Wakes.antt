@@ -3,24 +3,24 @@ use Rattle.std.proofs.Common.{Bool, List, [], ap, arith, cond, false, filter, in
 use Rattle.std.specs.List.{list_any}
 use Rattle.std.specs.Prelude.{nat_lt}
 use Rattle.std.proofs.lemmas.Bool.Decides.{eqb_tells}
-use Rattle.sg_seat.specs.declared.phase.Phase.TheVariants.{Asked}
-use Rattle.sg_base.specs.Lists.{Each}
-use Rattle.sg_base.specs.declared.call.Call.{Call}
-use Rattle.sg_base.specs.declared.reply.Good.{Good}
-use Rattle.sg_base.specs.declared.reply.Code.{Code}
-use Rattle.sg_base.specs.declared.reply.Reply.{Reply}
-use Rattle.sg_base.specs.declared.reply.Reply.TheVariants.{Ok, Refused}
+use Rattle.sg_world_laws.specs.sg_seat.declared.phase.Phase.TheVariants.{Asked}
+use Rattle.sg_facts.specs.sg_base.Lists.{Each}
+use Rattle.sg_facts.specs.sg_base.declared.call.Call.{Call}
+use Rattle.sg_facts.specs.sg_base.declared.reply.Good.{Good}
+use Rattle.sg_facts.specs.sg_base.declared.reply.Code.{Code}
+use Rattle.sg_facts.specs.sg_base.declared.reply.Reply.{Reply}
+use Rattle.sg_facts.specs.sg_base.declared.reply.Reply.TheVariants.{Ok, Refused}
 use Rattle.sg_facts.proofs.RowLists.{is_live-left}
 use Rattle.sg_facts.specs.Allowed.{is_allowed}
 use Rattle.sg_facts.specs.Facts.{Facts, Fun, fun_at}
 use Rattle.sg_facts.specs.Kinds.{IsCall}
 use Rattle.sg_facts.specs.Track.{ends_with, is_ancestor, is_live, nearest, new_row, parent_in, row_after, row_at, rows_after, track}
 use Rattle.sg_facts.specs.declared.row.Row.{Row}
-use Rattle.sg_recovery_laws.specs.Midway.Progress.{IsNone}
-use Rattle.sg_recovery_laws.proofs.Objects.Guarded.{acts, keeps}
+use Rattle.sg_world_laws.specs.sg_recovery_laws.Midway.Progress.{IsNone}
+use Rattle.sg_world_laws.proofs.sg_recovery_laws.Objects.Guarded.{acts, keeps}
 use Rattle.std.proofs.lemmas.Bool.Decides.{nat_tests}
-use Rattle.sg_recovery_laws.proofs.Lists.{each_map}
-use Rattle.sg_seat.specs.WorldView.{Seat, is_blocked_phase, wakes_seat, woken_seat}
+use Rattle.sg_world_laws.proofs.sg_recovery_laws.Lists.{each_map}
+use Rattle.sg_world_laws.specs.sg_seat.WorldView.{Seat, is_blocked_phase, wakes_seat, woken_seat}
 use Rattle.sg_facts.proofs.Replaying.Found.{other_test, same_test}
 use Rattle.sg_world.specs.Inside.Waiting.{WaitOnLive}
 
@@ -225,7 +225,7 @@ module _ (facts : Facts) (rows : List Row) (call : Call) (good : Good) (allowed 
       when true t l = refl
       when false t l = sym (woken_none l)
 
--- the same for an answered call, by the rows that are tracked behind it
+-- the same for an answered call, by the rows that are tracked after it
 pub woken_by : (facts : Facts) (rows tracked : List Row) (call : Call) (reply : Reply) (seats between later : List Seat) (good : Good) → reply ≡ Ok good → tracked ≡ track facts rows call reply → WaitOnLive facts rows call seats
     → between ≡ cond ((fun_at facts.funs call.fun).wakeup || (fun_at facts.funs call.fun).terminal) (map (woken_seat (λ c. call.desc == c.desc)) seats) seats
     → later ≡ cond ((fun_at facts.funs call.fun).terminal && facts.subtree) (map (woken_seat (λ c. is_gone tracked c.desc)) between) between

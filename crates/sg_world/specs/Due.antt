@@ -3,16 +3,16 @@ use Rattle.std.specs.Prelude.{ℕ, ◌+◌, ◌||◌, Bool, not, if◌then◌els
 use Rattle.std.specs.List.{list_any}
 use Rattle.std.specs.Option.{option_map}
 use Rattle.std.specs.declared.option.Option.{Option}
-use Rattle.sg_base.specs.declared.call.Call.{Call}
+use Rattle.sg_facts.specs.sg_base.declared.call.Call.{Call}
 use Rattle.sg_facts.specs.Needs.{Needs, needs}
 use Rattle.sg_facts.specs.Object.{Object, file_at, object_of}
-use Rattle.sg_hist.specs.Recovered.{is_patch_at, is_walk_of}
-use Rattle.sg_hist.specs.Growing.{last_items, older_items}
+use Rattle.sg_replay.specs.sg_hist.Recovered.{is_patch_at, is_walk_of}
+use Rattle.sg_replay.specs.sg_hist.Growing.{last_items, older_items}
 use Rattle.sg_replay.specs.declared.todo.Todo.{Todo}
 use Rattle.sg_replay.specs.declared.todo.Todo.TheVariants.{Walk, Load}
 use Rattle.sg_replay.specs.Missing.{is_empty, or_else}
-use Rattle.sg_seat.specs.WorldView.{WorldView}
-use Rattle.sg_recovery_laws.specs.LastItem.Told.{whole_behind}
+use Rattle.sg_world_laws.specs.sg_seat.WorldView.{WorldView}
+use Rattle.sg_world_laws.specs.sg_recovery_laws.LastItem.Told.{whole_behind}
 use Rattle.sg_world_laws.specs.Setting.{Setting}
 
 -- what a call needs, at the object of the history

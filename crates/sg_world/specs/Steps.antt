@@ -1,11 +1,11 @@
 -- What a step of a client does to a world: one relation by what it answers.
 use Rattle.std.specs.Prelude.{ℕ, ◌≡◌, ◌≢◌, ◌⊎◌, ◌+◌, true, false, List, [], ◌∷◌, ◌++◌, None, Some, IsSome, min, nat_lt}
-use Rattle.sg_base.specs.Counts.{last_count}
-use Rattle.sg_base.specs.Stops.{asked_after}
-use Rattle.sg_base.specs.declared.call.Call.{Call}
-use Rattle.sg_base.specs.declared.reply.Code.{Code}
-use Rattle.sg_base.specs.declared.reply.Reply.{Reply}
-use Rattle.sg_base.specs.declared.reply.Reply.TheVariants.{Refused}
+use Rattle.sg_facts.specs.sg_base.Counts.{last_count}
+use Rattle.sg_facts.specs.sg_base.Stops.{asked_after}
+use Rattle.sg_facts.specs.sg_base.declared.call.Call.{Call}
+use Rattle.sg_facts.specs.sg_base.declared.reply.Code.{Code}
+use Rattle.sg_facts.specs.sg_base.declared.reply.Reply.{Reply}
+use Rattle.sg_facts.specs.sg_base.declared.reply.Reply.TheVariants.{Refused}
 use Rattle.sg_facts.specs.declared.entry.Entry.{Entry}
 use Rattle.sg_facts.specs.declared.outcome.Outcome.TheVariants.{Blocks, Stopped}
 use Rattle.sg_facts.specs.declared.trace.Item.{Item}
@@ -14,13 +14,13 @@ use Rattle.sg_facts.specs.Facts.{is_visible}
 use Rattle.sg_facts.specs.Guard.{guard}
 use Rattle.sg_facts.specs.Legal.{answer}
 use Rattle.sg_facts.specs.Object.{Object, object_of}
-use Rattle.sg_hist.specs.Clients.{calls_of}
-use Rattle.sg_hist.specs.Reading.{after_item}
-use Rattle.sg_hist.specs.Recovered.{IsPointOf, answer_to, is_replied, is_stopped}
-use Rattle.sg_hist.specs.Growing.{IsNextItem, last_items, place_behind}
+use Rattle.sg_replay.specs.sg_hist.Clients.{calls_of}
+use Rattle.sg_replay.specs.sg_hist.Reading.{after_item}
+use Rattle.sg_replay.specs.sg_hist.Recovered.{IsPointOf, answer_to, is_replied, is_stopped}
+use Rattle.sg_replay.specs.sg_hist.Growing.{IsNextItem, last_items, place_after}
 use Rattle.sg_replay.specs.declared.todo.Todo.TheVariants.{Load as ToLoad, Walk as ToWalk}
-use Rattle.sg_seat.specs.WorldView.{Seat, WorldView, answered_to, boot_number, committed, given_to, happened, in_phase, item_noted, rebooted, reply_handed_over, seat_of, service_is, struck_at, unanswered, with_points, with_seat}
-use Rattle.sg_seat.specs.declared.phase.Phase.TheVariants.{Asked, Blocked, Held, Idle, Left, Receipted}
+use Rattle.sg_world_laws.specs.sg_seat.WorldView.{Seat, WorldView, answered_to, boot_number, committed, given_to, happened, in_phase, item_noted, rebooted, reply_handed_over, seat_of, service_is, struck_at, unanswered, with_points, with_seat}
+use Rattle.sg_world_laws.specs.sg_seat.declared.phase.Phase.TheVariants.{Asked, Blocked, Held, Idle, Left, Receipted}
 use Rattle.sg_world.specs.declared.did.Did.{Did}
 use Rattle.sg_world.specs.declared.did.Did.TheVariants.{Answered, Blocked as Waits, Booted, Loaded, Lost, Replayed, Served, Skipped, Struck}
 use Rattle.sg_world.specs.Due.{due}
@@ -66,7 +66,7 @@ module _ (z : Setting) (w : WorldView) (c : ℕ) where
   -- an item is what may be noted next, where the history and the calls that aren't answered come to these; and its number of points is
   -- that of its call, up to the end of their count
   pub record IsNotedBy (item : Item) (history : List Entry) (left : List Call) : Type 0 where
-    pub next : IsNextItem (stubs_of z) history left (place_behind [] w.run.boots item)
+    pub next : IsNextItem (stubs_of z) history left (place_after [] w.run.boots item)
     pub points : nat_lt item.points last_count ≡ true
         → IsPointOf true z.parts w.run.points (answer_to z.iface.facts z.ask (last_items w.run.boots) item) item.tag item.shown.fun item.outcome item.points
 
@@ -180,7 +180,7 @@ module _ (z : Setting) (w : WorldView) (c : ℕ) where
     pub noted : IsNotedBy asks.item (w.history ++ entry_with reply ∷ []) (unanswered later)
     pub now : later ≡ given_to (committed z.iface.facts (service_is (item_noted w asks.item) (after_item z.iface.facts asks.service asks.item)) (entry_with reply)) (entry_with reply)
 
-  -- behind the commit the service goes on, or stops
+  -- after the commit the service goes on, or stops
   pub record GoesOnBehind (later : WorldView) : Type 0 where
     pub between : WorldView
     pub commits : Commits between

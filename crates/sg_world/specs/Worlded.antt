@@ -1,21 +1,21 @@
 -- What contracts see of a world, and what it keeps.
 use Rattle.std.specs.List.{flat_map}
 use Rattle.std.specs.Prelude.{ℕ, ◌≡◌, ◌+◌, ◌≤◌, List, [], ◌∷◌, length, true, ◌==◌, nat_lt}
-use Rattle.sg_base.specs.Counts.{last_count}
+use Rattle.sg_facts.specs.sg_base.Counts.{last_count}
 use Rattle.sg_facts.specs.Facts.{Facts}
 use Rattle.sg_facts.specs.Legal.{Table}
 use Rattle.sg_facts.specs.Object.{Object, file_at, object_of}
 use Rattle.sg_facts.specs.Tables.{Compiled}
 use Rattle.sg_world.specs.Engines.Stubs.{stub_of}
 use Rattle.sg_facts.specs.declared.entry.Entry.{Entry}
-use Rattle.sg_hist.specs.Recovered.{ArePointsOf, struck_in}
+use Rattle.sg_replay.specs.sg_hist.Recovered.{ArePointsOf, struck_in}
 use Rattle.sg_replay.specs.Engined.{Engined}
-use Rattle.sg_seat.specs.WorldView.{Seat, WorldView, offered_by}
-use Rattle.sg_seat.specs.declared.mark.Mark.{Mark}
-use Rattle.sg_seat.specs.declared.phase.Phase.{Phase}
-use Rattle.sg_seat.specs.declared.phase.Phase.TheVariants.{Idle, Asked, Held, Receipted, Blocked, Left}
-use Rattle.sg_seat.specs.declared.withdrawn.Withdrawn.{Withdrawn}
-use Rattle.sg_store.specs.Stored.{bytes_of}
+use Rattle.sg_world_laws.specs.sg_seat.WorldView.{Seat, WorldView, offered_by}
+use Rattle.sg_world_laws.specs.sg_seat.declared.mark.Mark.{Mark}
+use Rattle.sg_world_laws.specs.sg_seat.declared.phase.Phase.{Phase}
+use Rattle.sg_world_laws.specs.sg_seat.declared.phase.Phase.TheVariants.{Idle, Asked, Held, Receipted, Blocked, Left}
+use Rattle.sg_world_laws.specs.sg_seat.declared.withdrawn.Withdrawn.{Withdrawn}
+use Rattle.sg_replay.specs.sg_store.Stored.{bytes_of}
 use Rattle.sg_world_laws.specs.Keeping.{KeepsPromise}
 use Rattle.sg_world.specs.Marked.{TellsAll}
 use Rattle.sg_world_laws.specs.Setting.{IsSetting, Setting}

@@ -1,5 +1,5 @@
 // What a step of a client did.
-use sg_base::Reply;
+use sg_facts::Reply;
 
 /// What a step of a client did.
 #[derive(Debug, PartialEq, Eq, Drop)]

@@ -1,10 +1,8 @@
 // The parts of a world: the service, its clients, and what they did.
-use sg_base::{RoomyList, Stops};
 use sg_clients::Clients;
-use sg_facts::Service;
-use sg_hist::History;
-use sg_replay::Engine;
-use sg_seat::{Mark, Withdrawn};
+use sg_facts::{RoomyList, Service, Stops};
+use sg_replay::{Engine, History};
+use sg_world_laws::{Mark, Withdrawn};
 
 /// The parts of a world. While an event goes on they may stand out of their order.
 #[derive(Debug, Drop)]

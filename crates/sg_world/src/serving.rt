@@ -1,11 +1,11 @@
 // A client's call that needs nothing any more reaches the service.
 ghost use Rattle.std.specs.Prelude.{◌≡◌, ◌≤◌, ℕ, false, true, None, IsSome, IfOk, OnErr, length};
 ghost use Rattle.std.specs.declared.option.Option.{Option as IsOption};
-ghost use Rattle.sg_base.specs.Stops.{asked_after};
+ghost use Rattle.sg_facts.specs.sg_base.Stops.{asked_after};
 ghost use Rattle.sg_facts.specs.Facts.{is_visible};
 ghost use Rattle.sg_facts.specs.declared.outcome.Patch.{Patch as IsPatch};
 ghost use Rattle.sg_replay.specs.Missing.{missing};
-ghost use Rattle.sg_seat.specs.WorldView.{seat_in, with_points};
+ghost use Rattle.sg_world_laws.specs.sg_seat.WorldView.{seat_in, with_points};
 ghost use Rattle.sg_world.specs.Due.{needs_in};
 ghost use Rattle.sg_world.specs.Inners.{IsInOrder, KeepsRest, view_in};
 ghost use Rattle.sg_world.specs.Inside.Served.{HasServed, view_with};
@@ -15,10 +15,9 @@ ghost use Rattle.sg_world.specs.Worlded.{setting_of};
 use crate::did::Did;
 use crate::inner::Inner;
 use crate::waking::wake;
-use sg_base::{NoMemory, Point, Reply, Stops};
-use sg_facts::{Outcome, Patch, Service};
-use sg_needs::Needs;
-use sg_seat::{Mark, MarkKind};
+use sg_facts::{NoMemory, Outcome, Patch, Point, Reply, Service, Stops};
+use sg_replay::Needs;
+use sg_world_laws::{Mark, MarkKind};
 use std::alloc::Global;
 
 impl<S: Service, T: Stops> Inner<S, T> {
@@ -59,7 +58,7 @@ impl<S: Service, T: Stops> Inner<S, T> {
         }
     }
 
-    // The service replied: a visible call is committed, behind which the service may stop, and the reply of another is held.
+    // The service replied: a visible call is committed, after which the service may stop, and the reply of another is held.
     fn answer(&mut self, client: u8, reply: Reply, patch: Option<Patch>) -> Did
         requires service { self.old.engine.tables.iface.facts ≡ S.facts }
         requires first { 1 ≤ client }

@@ -1,8 +1,8 @@
 // One step of a client: which of its lines it takes.
 ghost use Rattle.std.specs.Prelude.{◌≡◌, ◌≤◌, ℕ, None, Some, IsSome, IfOk, OnErr, length};
-ghost use Rattle.sg_base.specs.Stops.{asked_after};
-ghost use Rattle.sg_seat.specs.WorldView.{seat_in, with_points};
-ghost use Rattle.sg_seat.specs.declared.phase.Phase.TheVariants.{Asked, Held};
+ghost use Rattle.sg_facts.specs.sg_base.Stops.{asked_after};
+ghost use Rattle.sg_world_laws.specs.sg_seat.WorldView.{seat_in, with_points};
+ghost use Rattle.sg_world_laws.specs.sg_seat.declared.phase.Phase.TheVariants.{Asked, Held};
 ghost use Rattle.sg_world.specs.Due.{needs_in};
 ghost use Rattle.sg_world.specs.Inners.{IsInOrder, KeepsRest, view_in};
 ghost use Rattle.sg_world.specs.Inside.Lines.{NoMemoryLeft};
@@ -11,10 +11,9 @@ ghost use Rattle.sg_world.specs.Worlded.{setting_of};
 
 use crate::did::Did;
 use crate::inner::Inner;
-use sg_base::{NoMemory, Point, Stops};
-use sg_facts::Service;
-use sg_needs::Needs;
-use sg_seat::Phase;
+use sg_facts::{NoMemory, Point, Service, Stops};
+use sg_replay::Needs;
+use sg_world_laws::Phase;
 use std::alloc::Global;
 
 impl<S: Service, T: Stops> Inner<S, T> {

@@ -1,8 +1,8 @@
 // The service is used: it may stop at a point between calls, is booted where it failed, and is rebuilt by one step more.
 ghost use Rattle.std.specs.Prelude.{◌≡◌, ◌≤◌, ℕ, None, Some, IsSome, IfOk, OnOk, OnErr, if◌then◌else◌, length};
-ghost use Rattle.sg_base.specs.Stops.{asked_after};
+ghost use Rattle.sg_facts.specs.sg_base.Stops.{asked_after};
 ghost use Rattle.sg_replay.specs.Missing.{missing};
-ghost use Rattle.sg_seat.specs.WorldView.{rebooted, seat_in, struck_at, with_points};
+ghost use Rattle.sg_world_laws.specs.sg_seat.WorldView.{rebooted, seat_in, struck_at, with_points};
 ghost use Rattle.sg_world.specs.Due.{needs_in};
 ghost use Rattle.sg_world.specs.Inners.{IsInOrder, KeepsRest, view_in};
 ghost use Rattle.sg_world.specs.Steps.{PassesGuard, Steps};
@@ -10,10 +10,8 @@ ghost use Rattle.sg_world.specs.Worlded.{setting_of};
 
 use crate::did::Did;
 use crate::inner::Inner;
-use sg_base::{NoMemory, Point, Stops};
-use sg_facts::Service;
-use sg_needs::Needs;
-use sg_replay::{Advanced, Todo};
+use sg_facts::{NoMemory, Point, Service, Stops};
+use sg_replay::{Advanced, Needs, Todo};
 use std::alloc::Global;
 
 impl<S: Service, T: Stops> Inner<S, T> {

@@ -1,13 +1,12 @@
 // Who waits is asked again where an answered call may have given it what it waits for.
 ghost use Rattle.std.specs.Prelude.{◌≡◌, ◌&&◌, List, map, nat_lt, not};
 ghost use Rattle.sg_facts.specs.Track.{is_live, track};
-ghost use Rattle.sg_seat.specs.WorldView.{wakes_seat, woken_seat};
+ghost use Rattle.sg_world_laws.specs.sg_seat.WorldView.{wakes_seat, woken_seat};
 ghost use Rattle.sg_facts.specs.declared.row.Row.{Row as IsRow};
 ghost use Rattle.sg_world.specs.Inside.Waiting.{WaitOnLive};
 
-use sg_base::Reply;
 use sg_clients::Clients;
-use sg_facts::{Entry, Service};
+use sg_facts::{Entry, Reply, Service};
 use sg_replay::Engine;
 
 /// Wakes whoever waits where a call that was committed wakes him: on the descriptor of an Ok of a wake-up, or on one that ended with it.

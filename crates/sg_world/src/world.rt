@@ -8,23 +8,21 @@ ghost use Rattle.sg_facts.specs.Limits.{last_client};
 ghost use Rattle.sg_facts.specs.Legal.{LegalFrom, answer};
 ghost use Rattle.sg_facts.specs.Object.{empty_object, object_of};
 ghost use Rattle.sg_facts.specs.Trace.{run_of};
-ghost use Rattle.sg_hist.specs.Clients.{calls_of};
-ghost use Rattle.sg_hist.specs.Recovered.{AreInBoots, IsRecovered, struck_in};
-ghost use Rattle.sg_hist.specs.Growing.{IsRecovering};
+ghost use Rattle.sg_replay.specs.sg_hist.Clients.{calls_of};
+ghost use Rattle.sg_replay.specs.sg_hist.Recovered.{AreInBoots, IsRecovered, struck_in};
+ghost use Rattle.sg_replay.specs.sg_hist.Growing.{IsRecovering};
 ghost use Rattle.sg_world_laws.specs.Setting.{IsSetting, stubs_of};
 ghost use Rattle.sg_world.specs.Steps.{AnswersLast, HasStepped, WantsMemory};
 ghost use Rattle.sg_world.specs.Worlded.{CountsAll, setting_of};
-ghost use Rattle.sg_seat.specs.declared.phase.Phase.TheVariants.{Blocked};
-ghost use Rattle.sg_seat.specs.WorldView.{IsFree, MayWithdraw, happened, is_at_rest, with_leave, new_world, no_seat, offered, seat_of, unanswered, withdrawn_by};
+ghost use Rattle.sg_world_laws.specs.sg_seat.declared.phase.Phase.TheVariants.{Blocked};
+ghost use Rattle.sg_world_laws.specs.sg_seat.WorldView.{IsFree, MayWithdraw, happened, is_at_rest, with_leave, new_world, no_seat, offered, seat_of, unanswered, withdrawn_by};
 
 use crate::did::Did;
 use crate::inner::Inner;
-use sg_base::{Args, Call, NoMemory, RoomyList, Stops};
 use sg_clients::Clients;
-use sg_facts::{Interface, Service, Tables, Trace};
-use sg_hist::History;
-use sg_replay::Engine;
-use sg_seat::{Mark, MarkKind, Phase, Withdrawn};
+use sg_facts::{Args, Call, Interface, NoMemory, RoomyList, Service, Stops, Tables, Trace};
+use sg_replay::{Engine, History};
+use sg_world_laws::{Mark, MarkKind, Phase, Withdrawn};
 use std::alloc::Global;
 use std::marker::Model;
 
@@ -81,7 +79,7 @@ impl<S: Service, T: Stops> World<S, T> {
         })
     }
 
-    /// The calls that were done, lent: a history of a service that never failed. Who waits, waits in a call that has no answer behind
+    /// The calls that were done, lent: a history of a service that never failed. Who waits, waits in a call that has no answer after
     /// them.
     pub fn history(&self) -> &History
         ensures items { result.now.items ≡ self.now.view.history }

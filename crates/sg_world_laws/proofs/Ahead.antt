@@ -4,16 +4,16 @@ use Rattle.std.proofs.Common.{◌≡◌, ℕ, suc, ◌+◌, Bool, true, false, L
 use Rattle.std.specs.Prelude.{◌≢◌, ◌||◌, ◌&&◌}
 use Rattle.std.specs.List.{Contains, list_any}
 use Rattle.std.proofs.lemmas.List.Elements.{Contains-append_left, Contains-append_right, Contains-append_cases}
-use Rattle.sg_base.specs.Lists.{Each}
-use Rattle.sg_base.specs.declared.call.Call.{Call}
+use Rattle.sg_facts.specs.sg_base.Lists.{Each}
+use Rattle.sg_facts.specs.sg_base.declared.call.Call.{Call}
 use Rattle.sg_facts.specs.declared.entry.Entry.{Entry}
 use Rattle.sg_facts.specs.declared.trace.Item.{Item}
 use Rattle.sg_facts.specs.Facts.{is_visible}
 use Rattle.sg_facts.specs.Trace.{Boot, Run}
-use Rattle.sg_hist.specs.Reading.{Position, behind, is_by_guard, is_item_of, past, places_from, places_of, stands_before}
-use Rattle.sg_hist.specs.Recovered.{Stubs, is_visible_reply}
-use Rattle.sg_hist.specs.Growing.{AreKept, IsHeldReply, IsItemOf, IsLastCall, IsNextItem, IsRecovering, IsSettled, IsOfNoEntry, noted, place_behind}
-use Rattle.sg_hist.proofs.Growing.{places-more, stands_before-own}
+use Rattle.sg_recovery_laws.specs.sg_hist.Reading.{Position, items_after, is_by_guard, is_item_of, past, places_from, places_of, stands_before}
+use Rattle.sg_recovery_laws.specs.sg_hist.Recovered.{Stubs, is_visible_reply}
+use Rattle.sg_recovery_laws.specs.sg_hist.Growing.{AreKept, IsHeldReply, IsItemOf, IsLastCall, IsNextItem, IsRecovering, IsSettled, IsOfNoEntry, noted, place_after}
+use Rattle.sg_recovery_laws.proofs.sg_hist.Growing.{places-more, stands_before-own}
 use Rattle.sg_recovery_laws.proofs.Events.{own_item, with_last}
 use Rattle.sg_recovery_laws.proofs.Lists.{each_append, each_contains, each_map}
 use Rattle.sg_recovery_laws.proofs.Onward.{committed_stays, held_stays, noted_stays, refused_stays}
@@ -61,7 +61,7 @@ held_ahead s h pre post p run u apart all es drawn =
 
 guard_nowhere : (e : Entry) → is_by_guard e.reply ≡ true → (ps : List Position) → Each (λ p. stands_before p e ≡ false) ps
 guard_nowhere e guards [] = tt
-guard_nowhere e guards (p ∷ ps) = (ap (λ b. not b && list_any (is_item_of e) (past p) && not (list_any (is_item_of e) (p.item ∷ behind p))) guards, guard_nowhere e guards ps)
+guard_nowhere e guards (p ∷ ps) = (ap (λ b. not b && list_any (is_item_of e) (past p) && not (list_any (is_item_of e) (p.item ∷ items_after p))) guards, guard_nowhere e guards ps)
 
 pub refused_ahead : (s : Stubs) (h ws : List Entry) (e : Entry) (run : Run) (u u' : List Call) → is_by_guard e.reply ≡ true → NoneBy e.call.client ws → Each (λ x. is_visible s.interface.facts x.call.fun ≡ false) ws
     → ((es : List Entry) → AreDrawn ws es → AreKept (h ++ es) u ((h ++ es) ++ e ∷ []) u') → AllRecover s h ws run u → AllRecover s (h ++ e ∷ []) ws run u'
@@ -73,7 +73,7 @@ refused_ahead s h ws e run u u' guards none hidden kept all es drawn =
 -- ---- an item is noted
 
 pub noted_ahead : (s : Stubs) (h ws : List Entry) (b : Boot) (boots : List Boot) (points later : ℕ) (u u' : List Call) (item : Item) → is_visible_reply s.interface.facts item ≡ false
-    → ((es : List Entry) → AreDrawn ws es → IsOfNoEntry item (h ++ es) × AreKept (h ++ es) u (h ++ es) u' × IsNextItem s (h ++ es) u' (place_behind [] (b ∷ boots) item))
+    → ((es : List Entry) → AreDrawn ws es → IsOfNoEntry item (h ++ es) × AreKept (h ++ es) u (h ++ es) u' × IsNextItem s (h ++ es) u' (place_after [] (b ∷ boots) item))
     → AllRecover s h ws (record { boots = b ∷ boots; points = points }) u → AllRecover s h ws (record { boots = noted (b ∷ boots) item; points = later }) u'
 noted_ahead s h ws b boots points later u u' item plain each all es drawn =
     let so = each es drawn in
@@ -84,8 +84,8 @@ noted_ahead s h ws b boots points later u u' item plain each all es drawn =
 -- the entry stands before no place, as its item is the last
 own_nowhere : (b : Boot) (boots : List Boot) (item : Item) (e : Entry) → is_item_of e item ≡ true → Each (λ p. stands_before p e ≡ false) (places_from [] (noted (b ∷ boots) item))
 own_nowhere b boots item e own =
-    with_last item (place_behind [] (b ∷ boots) item) (λ p. Unit {0}) (λ p. stands_before p e ≡ false) (places_from [] (b ∷ boots)) (places_from [] (noted (b ∷ boots) item)) (places-more [] b boots item)
-    (λ p q g is. stands_before-own item p q e g own) (last (place_behind [] (b ∷ boots) item) (own_item [] b boots item)) (nothing (places_from [] (b ∷ boots)))
+    with_last item (place_after [] (b ∷ boots) item) (λ p. Unit {0}) (λ p. stands_before p e ≡ false) (places_from [] (b ∷ boots)) (places_from [] (noted (b ∷ boots) item)) (places-more [] b boots item)
+    (λ p q g is. stands_before-own item p q e g own) (last (place_after [] (b ∷ boots) item) (own_item [] b boots item)) (nothing (places_from [] (b ∷ boots)))
   where
     nothing : (ps : List Position) → Each (λ p. Unit {0}) ps
     nothing [] = tt
@@ -98,7 +98,7 @@ own_nowhere b boots item e own =
     at true true true is = refl
 
     last : (q : Position) → q.item ≡ item → stands_before q e ≡ false
-    last q same = three (not (is_by_guard e.reply)) (list_any (is_item_of e) (past q)) (is_item_of e q.item) (list_any (is_item_of e) (behind q)) (ap (is_item_of e) same ∙ own)
+    last q same = three (not (is_by_guard e.reply)) (list_any (is_item_of e) (past q)) (is_item_of e q.item) (list_any (is_item_of e) (items_after q)) (ap (is_item_of e) same ∙ own)
       where
         three : (g a o r : Bool) → o ≡ true → (g && a && not (o || r)) ≡ false
         three g a false r is = absurd (cc is)
@@ -109,8 +109,8 @@ own_nowhere b boots item e own =
 pub served_ahead : (s : Stubs) (h ws : List Entry) (b : Boot) (boots : List Boot) (points later : ℕ) (u u' : List Call) (item : Item) (e : Entry) → is_item_of e item ≡ true → NoneBy e.call.client ws
     → Each (λ x. is_visible s.interface.facts x.call.fun ≡ false) ws
     → ((es : List Entry) → AreDrawn ws es
-    → IsOfNoEntry item (h ++ es) × IsItemOf s.interface.facts (h ++ es) (place_behind [] (b ∷ boots) item) e × IsLastCall (h ++ es) u e.call × AreKept (h ++ es) u ((h ++ es) ++ e ∷ []) u'
-    × IsNextItem s ((h ++ es) ++ e ∷ []) u' (place_behind [] (b ∷ boots) item))
+    → IsOfNoEntry item (h ++ es) × IsItemOf s.interface.facts (h ++ es) (place_after [] (b ∷ boots) item) e × IsLastCall (h ++ es) u e.call × AreKept (h ++ es) u ((h ++ es) ++ e ∷ []) u'
+    × IsNextItem s ((h ++ es) ++ e ∷ []) u' (place_after [] (b ∷ boots) item))
     → AllRecover s h ws (record { boots = b ∷ boots; points = points }) u → AllRecover s (h ++ e ∷ []) ws (record { boots = noted (b ∷ boots) item; points = later }) u'
 served_ahead s h ws b boots points later u u' item e own none hidden each all es drawn =
     let so = each es drawn in

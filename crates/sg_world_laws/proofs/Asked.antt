@@ -1,8 +1,8 @@
 -- What a client's item owes where it is noted last, whichever held replies are committed first.
 use Rattle.std.proofs.Common.{Bool, List, None, Option, Some, [], ap, arith, false, inl, inr, length, refl, subst, suc, sym, true, ℕ, ◌&&◌, ◌++◌, ◌<◌, ◌==◌, ◌∙◌, ◌∷◌, ◌≡◌}
 use Rattle.std.proofs.lemmas.Bool.Decides.{nat_tests}
-use Rattle.sg_base.specs.Lists.{Each}
-use Rattle.sg_base.specs.declared.call.Call.{Call}
+use Rattle.sg_facts.specs.sg_base.Lists.{Each}
+use Rattle.sg_facts.specs.sg_base.declared.call.Call.{Call}
 use Rattle.sg_facts.proofs.RowLists.{live_of_row, row_of_live}
 use Rattle.sg_facts.specs.Alike.{HasAlike, SameFile, Serves, named}
 use Rattle.sg_facts.specs.Guard.{guard}
@@ -17,8 +17,8 @@ use Rattle.sg_facts.specs.declared.trace.Tag.{Tag}
 use Rattle.sg_facts.specs.declared.trace.Tag.TheVariants.{Client, Load, Walk}
 use Rattle.sg_recovery_laws.proofs.Midway.Served.{serves_it}
 use Rattle.sg_recovery_laws.specs.Midway.Progress.{IsNone, complete}
-use Rattle.sg_hist.specs.Reading.{is_tagged, service_call}
-use Rattle.sg_hist.specs.Recovered.{AskedAs, IsAdmitted, IsByTable, IsCallOf, IsDemanded, IsItsCall, IsTracked, IsTrackedAt, IsWalked}
+use Rattle.sg_recovery_laws.specs.sg_hist.Reading.{is_tagged, service_call}
+use Rattle.sg_recovery_laws.specs.sg_hist.Recovered.{AskedAs, IsAdmitted, IsByTable, IsCallOf, IsDemanded, IsItsCall, IsTracked, IsTrackedAt, IsWalked}
 use Rattle.sg_recovery_laws.proofs.Objects.Apart.{Ascends}
 use Rattle.sg_recovery_laws.proofs.Objects.Room.{guard_behind}
 use Rattle.sg_recovery_laws.proofs.Objects.Serves.{its_own}
@@ -26,12 +26,12 @@ use Rattle.sg_recovery_laws.proofs.Objects.Steady.{ascends}
 use Rattle.sg_recovery_laws.proofs.Objects.Waiting.{behind_same}
 use Rattle.sg_recovery_laws.proofs.InBoots.{place_is}
 use Rattle.sg_recovery_laws.proofs.Lists.{each_map}
-use Rattle.sg_hist.specs.Growing.{IsNextItem, IsOfNoEntry, last_items, older_items, place_behind}
+use Rattle.sg_recovery_laws.specs.sg_hist.Growing.{IsNextItem, IsOfNoEntry, last_items, older_items, place_after}
 use Rattle.sg_seat.specs.WorldView.{WorldView, held_in, unanswered}
 use Rattle.sg_recovery_laws.proofs.LastItem.Noting.{admitted_last, client_tracked}
 use Rattle.sg_recovery_laws.specs.LastItem.LastPlace.{last_place}
 use Rattle.sg_recovery_laws.specs.LastItem.Told.{IsKnown}
-use Rattle.sg_track.proofs.Above.{root}
+use Rattle.sg_recovery_laws.proofs.sg_track.Above.{root}
 use Rattle.sg_facts.proofs.Replaying.Found.{other_test}
 use Rattle.sg_world_laws.proofs.Orders.{above_es, back_es, call_es, few_now, good_now, known_es, needs_es, none_es, there_es, time_es, time_now, wait_es}
 use Rattle.sg_world_laws.specs.Keeping.{AreDrawn, KeepsPromise, Stands, Stub, standing}
@@ -124,7 +124,7 @@ module _ (z : Setting) (set : IsSetting z) (w : WorldView) (b : Boot) (boots : L
         (subst (λ x. SameFile (object_from z.iface.facts (object_of z.iface.facts w.history) es) v x.desc (named stub.names x.desc) (needs z.iface.facts (object_from z.iface.facts (object_of z.iface.facts w.history) es) x).file) (sym asked.shown) file_es)
 
     -- and pays all that an item owes
-    pub next_es : (u : List Call) → IsItsCall (w.history ++ es) u item.shown item.tag → IsNextItem (stubs_of z) (w.history ++ es) u (place_behind [] (b ∷ boots) item)
+    pub next_es : (u : List Call) → IsItsCall (w.history ++ es) u item.shown item.tag → IsNextItem (stubs_of z) (w.history ++ es) u (place_after [] (b ∷ boots) item)
     next_es u its = subst (IsNextItem (stubs_of z) (w.history ++ es) u) (sym (place_is [] b boots item)) (record {
       running = k.cell.runs.unbroken;
       table = table_of item.tag asked.tag;

@@ -3,7 +3,7 @@
 -- a client that did nothing yet
 use Rattle.std.proofs.Common.{Bool, List, [], ap, arith, false, flat_map, if◌then◌else◌, inl, length, refl, subst, sym, ℕ, ◌++◌, ◌+◌, ◌∙◌, ◌∷◌, ◌≡◌, ◌≤◌}
 use Rattle.std.proofs.Math.ListN.{set}
-use Rattle.sg_base.specs.Lists.{Each}
+use Rattle.sg_facts.specs.sg_base.Lists.{Each}
 use Rattle.sg_boot.proofs.Keeping.{kept_booted}
 use Rattle.sg_facts.specs.Limits.{last_client}
 use Rattle.sg_facts.specs.Object.{empty_object, object_from}
@@ -11,7 +11,7 @@ use Rattle.sg_recovery_laws.specs.Midway.Numbers.{AreNumbers}
 use Rattle.sg_recovery_laws.specs.Midway.Progress.{fresh}
 use Rattle.sg_recovery_laws.specs.Objects.Waiting.{AreWaiting}
 use Rattle.sg_recovery_laws.proofs.Onward.{nothing_yet}
-use Rattle.sg_hist.specs.Growing.{IsInLast, IsRecovering}
+use Rattle.sg_recovery_laws.specs.sg_hist.Growing.{IsInLast, IsRecovering}
 use Rattle.sg_seat.specs.WorldView.{Seat, held_in, held_replies, is_held_in, no_seat, offered_by, unanswered, new_world}
 use Rattle.sg_world_laws.proofs.Booted.{begins}
 use Rattle.sg_world_laws.proofs.Struck.{none_drawn}

@@ -3,7 +3,7 @@
 -- an empty service stands at the beginning of a recovery
 use Rattle.std.proofs.Common.{Bool, List, None, Some, [], ap, append-nil, arith, false, inl, length, length-append, map, refl, subst, sym, true, ℕ, ◌++◌, ◌+◌, ◌==◌, ◌∙◌, ◌∷◌, ◌≡◌}
 use Rattle.std.specs.List.{list_any}
-use Rattle.sg_base.specs.Lists.{Each}
+use Rattle.sg_facts.specs.sg_base.Lists.{Each}
 use Rattle.sg_boot.proofs.Keeping.{kept_booted}
 use Rattle.sg_boot.proofs.LastBoot.{items_booted}
 use Rattle.sg_facts.specs.Interface.{Declared}
@@ -16,12 +16,12 @@ use Rattle.sg_facts.specs.declared.trace.Item.{Item}
 use Rattle.sg_recovery_laws.proofs.Midway.Numbers.{few_rows, sum_fresh}
 use Rattle.sg_recovery_laws.specs.Midway.Numbers.{AreNumbers, left_of, unbegun}
 use Rattle.sg_recovery_laws.specs.Midway.Progress.{HasFile, IsInRecovery, fresh}
-use Rattle.sg_hist.specs.Reading.{names_at}
+use Rattle.sg_recovery_laws.specs.sg_hist.Reading.{names_at}
 use Rattle.sg_recovery_laws.proofs.Objects.Steady.{ascends}
 use Rattle.sg_recovery_laws.specs.Objects.Waiting.{AreWaiting}
 use Rattle.sg_recovery_laws.proofs.InBoots.{boots_booted}
 use Rattle.sg_recovery_laws.proofs.Onward.{booted_stays}
-use Rattle.sg_hist.specs.Growing.{IsInLast, IsRecovering, booted, last_items, older_items}
+use Rattle.sg_recovery_laws.specs.sg_hist.Growing.{IsInLast, IsRecovering, booted, last_items, older_items}
 use Rattle.sg_seat.specs.WorldView.{Seat, WorldView, held_in, unanswered, woken_seat}
 use Rattle.sg_recovery_laws.specs.LastItem.LastPlace.{HaveItems}
 use Rattle.sg_recovery_laws.specs.LastItem.Told.{IsRead}

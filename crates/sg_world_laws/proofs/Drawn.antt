@@ -2,7 +2,7 @@
 use Rattle.std.proofs.Common.{◌≡◌, suc, ◌≤◌, List, [], ◌∷◌, ◌++◌, length, refl, sym, ◌∙◌, ap, arith}
 use Rattle.std.specs.Prelude.{◌≢◌}
 use Rattle.std.specs.List.{Contains}
-use Rattle.sg_base.specs.Lists.{Each}
+use Rattle.sg_facts.specs.sg_base.Lists.{Each}
 use Rattle.sg_facts.specs.declared.entry.Entry.{Entry}
 use Rattle.sg_facts.specs.Facts.{Facts}
 use Rattle.sg_facts.specs.Legal.{Table}
@@ -14,7 +14,7 @@ use Rattle.sg_recovery_laws.specs.Objects.Waiting.{AreWaiting, IsWaiting, NoneBy
 use Rattle.sg_recovery_laws.proofs.Objects.Waiting.{acting_is, hidden_is, less_time, past_waiting, time_after, waiting_after}
 use Rattle.sg_recovery_laws.proofs.Objects.Steady.{after_good}
 
--- the object behind two lists
+-- the object after two lists
 pub object_behind : (facts : Facts) (o : Object) (xs ys : List Entry) → object_from facts o (xs ++ ys) ≡ object_from facts (object_from facts o xs) ys
 object_behind facts o [] ys = refl
 object_behind facts o (x ∷ xs) ys = object_behind facts (after facts o x.call x.reply) xs ys
@@ -60,7 +60,7 @@ waiting_without facts ask o (x ∷ pre) post p all =
 
 module _ (facts : Facts) (ask : Table) (sound : Object → Type 0) (law : IsService facts ask sound) (o : Object) (pre post : List Entry) (p : Entry) (ok : IsLegalObject facts sound o)
     (time : HasTime facts (suc (suc (length (pre ++ p ∷ post)))) o) (all : AreWaiting facts ask o (pre ++ p ∷ post)) where
-  -- one that is committed first leaves the object behind all as it was
+  -- one that is committed first leaves the object after all as it was
   pub committed_same : object_from facts (after facts o p.call p.reply) (pre ++ post) ≡ object_from facts o (pre ++ p ∷ post)
   committed_same =
       let own = waiting_one facts ask o pre post p all in

@@ -1,14 +1,14 @@
--- The seats of a world behind an entry: its client has it as its last, and the others wait on, or are woken.
+-- The seats of a world after an entry: its client has it as its last, and the others wait on, or are woken.
 use Rattle.std.proofs.Common.{Bool, List, Some, [], ap, append-nil, append_assoc, arith, cond, length, length-append, map, refl, subst, suc, sym, ℕ, ◌++◌, ◌+◌, ◌<◌, ◌==◌, ◌^◌, ◌∙◌, ◌∷◌, ◌≡◌, ◌≢◌, ◌≤◌}
 use Rattle.std.proofs.lemmas.List.Elements.{filter-append}
-use Rattle.sg_base.specs.Lists.{Each}
-use Rattle.sg_base.specs.declared.call.Call.{Call}
-use Rattle.sg_base.specs.declared.reply.Reply.{Reply}
+use Rattle.sg_facts.specs.sg_base.Lists.{Each}
+use Rattle.sg_facts.specs.sg_base.declared.call.Call.{Call}
+use Rattle.sg_facts.specs.sg_base.declared.reply.Reply.{Reply}
 use Rattle.sg_facts.specs.Laws.{slow}
 use Rattle.sg_facts.specs.Legal.{answer}
 use Rattle.sg_facts.specs.Object.{object_of}
 use Rattle.sg_facts.specs.declared.entry.Entry.{Entry}
-use Rattle.sg_hist.specs.Clients.{calls_of}
+use Rattle.sg_recovery_laws.specs.sg_hist.Clients.{calls_of}
 use Rattle.sg_recovery_laws.proofs.Lists.{each_append, each_map, each_split}
 use Rattle.sg_seat.specs.WorldView.{Seat, wakes_seat, woken_seat}
 use Rattle.sg_seat.specs.declared.phase.Phase.{Phase}

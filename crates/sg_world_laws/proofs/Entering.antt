@@ -2,9 +2,9 @@
 use Rattle.std.proofs.Common.{Bool, List, Ok, Some, [], ap, arith, cond, false, inl, inr, length, length-append, map, refl, subst, sym, true, ◌++◌, ◌+◌, ◌∙◌, ◌∷◌, ◌≡◌, ◌≤◌, ◌⊎◌}
 use Rattle.std.proofs.lemmas.List.Elements.{Contains-append_cases, Contains-append_left, Contains-append_right}
 use Rattle.std.specs.List.{Contains}
-use Rattle.sg_base.specs.declared.call.Call.{Call}
-use Rattle.sg_base.specs.declared.reply.Reply.{Reply}
-use Rattle.sg_base.specs.declared.reply.Reply.TheVariants.{Ok, Refused}
+use Rattle.sg_facts.specs.sg_base.declared.call.Call.{Call}
+use Rattle.sg_facts.specs.sg_base.declared.reply.Reply.{Reply}
+use Rattle.sg_facts.specs.sg_base.declared.reply.Reply.TheVariants.{Ok, Refused}
 use Rattle.sg_facts.proofs.RowLists.{left, more}
 use Rattle.sg_facts.specs.Counted.{most_counted}
 use Rattle.sg_facts.specs.Facts.{fun_at}
@@ -13,10 +13,10 @@ use Rattle.sg_facts.specs.Laws.{slow}
 use Rattle.sg_facts.specs.Legal.{LegalFrom, Table, answer}
 use Rattle.sg_facts.specs.Object.{Object, after, empty_object, given_after, object_from, object_of}
 use Rattle.sg_facts.specs.declared.entry.Entry.{Entry}
-use Rattle.sg_hist.specs.Reading.{is_by_guard}
+use Rattle.sg_recovery_laws.specs.sg_hist.Reading.{is_by_guard}
 use Rattle.sg_recovery_laws.proofs.Objects.Steady.{after_good}
 use Rattle.sg_recovery_laws.specs.Objects.Serving.{IsAnsweredAt, IsLegalObject}
-use Rattle.sg_hist.specs.Growing.{AreKept}
+use Rattle.sg_recovery_laws.specs.sg_hist.Growing.{AreKept}
 use Rattle.sg_recovery_laws.proofs.LastItem.Behind.{guard_leaves}
 use Rattle.sg_world_laws.proofs.Drawn.{object_behind}
 use Rattle.sg_world_laws.proofs.Orders.{legal_append}
@@ -49,7 +49,7 @@ module _ (z : Setting) (set : IsSetting z) (h : List Entry) (e : Entry) (object 
       at true = omega (arith, longer, object.given)
       at false = omega (arith, longer, object.given)
 
-  -- it is settled behind an answered call
+  -- it is settled after an answered call
   pub settled_after : IsAnsweredAt z.iface.facts z.ask (object_of z.iface.facts h) e.call e.reply → IsSettledObject z (h ++ e ∷ [])
   settled_after is = record {
     good = subst (IsLegalObject z.iface.facts z.sound) (sym now) (after_good z.iface.facts z.ask z.sound set.law (object_of z.iface.facts h) e.call e.reply object.good is);
@@ -57,7 +57,7 @@ module _ (z : Setting) (set : IsSetting z) (h : List Entry) (e : Entry) (object 
     given = subst (λ o. o.given ≤ length (h ++ e ∷ [])) (sym now) (given_now e.reply);
   }
 
-  -- and behind a refusal by the guard, which leaves it as it was
+  -- and after a refusal by the guard, which leaves it as it was
   pub object_refused : is_by_guard e.reply ≡ true → object_of z.iface.facts (h ++ e ∷ []) ≡ object_of z.iface.facts h
   object_refused guards = now ∙ guard_leaves z.iface.facts (object_of z.iface.facts h) e.call e.reply guards
 

@@ -1,11 +1,11 @@
--- What the trace gave names to, whatever stands behind the history; and what stands before a refusal by the guard.
+-- What the trace gave names to, whatever stands after the history; and what stands before a refusal by the guard.
 
 -- what holds of the items of all places holds of those of the last boot
 use Rattle.std.proofs.Common.{Bool, List, Option, Some, [], ap, append-nil, cond, false, filter, find, not, refl, subst, sym, true, ℕ, ◌&&◌, ◌++◌, ◌||◌, ◌∙◌, ◌∷◌, ◌≡◌}
 use Rattle.std.proofs.lemmas.List.Elements.{filter-append}
 use Rattle.std.specs.List.{list_any}
-use Rattle.sg_base.specs.Lists.{Each, When}
-use Rattle.sg_base.specs.declared.reply.Reply.TheVariants.{Ok, Refused}
+use Rattle.sg_facts.specs.sg_base.Lists.{Each, When}
+use Rattle.sg_facts.specs.sg_base.declared.reply.Reply.TheVariants.{Ok, Refused}
 use Rattle.sg_facts.specs.Facts.{Facts, fun_at, is_visible}
 use Rattle.sg_facts.specs.Object.{Object}
 use Rattle.sg_facts.specs.Trace.{Boot}
@@ -15,11 +15,11 @@ use Rattle.sg_facts.specs.declared.outcome.Outcome.TheVariants.{Blocks, NoMemory
 use Rattle.sg_facts.specs.declared.trace.Item.{Item}
 use Rattle.sg_facts.specs.declared.trace.Tag.{Tag}
 use Rattle.sg_facts.specs.declared.trace.Tag.TheVariants.{Client, Load, Walk}
-use Rattle.sg_hist.specs.Reading.{Position, desc_in, entries_before, id_given, is_by_guard, is_item_of, items_of, places_from, places_in, stands_before}
-use Rattle.sg_hist.specs.Recovered.{IsCommitted, is_clients, is_replied}
+use Rattle.sg_recovery_laws.specs.sg_hist.Reading.{Position, desc_in, entries_before, id_given, is_by_guard, is_item_of, items_of, places_from, places_in, stands_before}
+use Rattle.sg_recovery_laws.specs.sg_hist.Recovered.{IsCommitted, is_clients, is_replied}
 use Rattle.sg_recovery_laws.proofs.Given.{HasEntry, IsGiven, committed_given, is_numbered, made_visible}
 use Rattle.sg_recovery_laws.proofs.Lists.{each_map, each_split}
-use Rattle.sg_hist.specs.Growing.{IsSameFor, IsSameId, last_items}
+use Rattle.sg_recovery_laws.specs.sg_hist.Growing.{IsSameFor, IsSameId, last_items}
 use Rattle.sg_seat.specs.WorldView.{WorldView, held_replies}
 use Rattle.sg_world_laws.proofs.Struck.{no_drawn}
 use Rattle.sg_world_laws.specs.Keeping.{KeepsPromise, Stub, standing}
@@ -33,7 +33,7 @@ pub front_items : (Q : Item → Type 0) (older : List Item) (b : Boot) (boots : 
 front_items Q older b [] all = items_in Q older [] b.items (items_of []) (each_split (λ p. Q p.item) (places_in older [] b.items (items_of [])) [] all).0
 front_items Q older b (c ∷ boots) all = front_items Q (older ++ b.items) c boots (each_split (λ p. Q p.item) (places_in older [] b.items (items_of (c ∷ boots))) (places_from (older ++ b.items) (c ∷ boots)) all).1
 
--- what gave a name has the id that its entry gives, whatever stands behind
+-- what gave a name has the id that its entry gives, whatever stands after
 pub given_any : (facts : Facts) (h xs ys : List Entry) (front : List Item) → Each (IsGiven facts h) front → Each (IsSameId facts (h ++ xs) (h ++ ys)) front
 given_any facts h xs ys front all = each_map (IsGiven facts h) (IsSameId facts (h ++ xs) (h ++ ys)) front one all
   where

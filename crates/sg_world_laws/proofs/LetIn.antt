@@ -7,8 +7,8 @@ use Rattle.std.proofs.Common.{Bool, List, None, Option, Some, [], ap, arith, con
 use Rattle.std.proofs.lemmas.Bool.Decides.{nat_tests}
 use Rattle.std.proofs.lemmas.List.Elements.{Contains-append_cases}
 use Rattle.std.specs.List.{Contains}
-use Rattle.sg_base.specs.Lists.{Each}
-use Rattle.sg_base.specs.declared.call.Call.{Call}
+use Rattle.sg_facts.specs.sg_base.Lists.{Each}
+use Rattle.sg_facts.specs.sg_base.declared.call.Call.{Call}
 use Rattle.sg_facts.proofs.RowLists.{live_of_row}
 use Rattle.sg_facts.specs.Allowed.{is_allowed}
 use Rattle.sg_facts.specs.Facts.{fun_at, takes_desc, takes_parent}
@@ -24,8 +24,8 @@ use Rattle.sg_facts.specs.declared.row.Row.{Row}
 use Rattle.sg_facts.specs.declared.shape.Parents.{Parents}
 use Rattle.sg_facts.specs.declared.shape.Parents.TheVariants.{Never, Same, Cross}
 use Rattle.sg_recovery_laws.specs.Midway.Progress.{IsNone}
-use Rattle.sg_hist.specs.Clients.{calls_of}
-use Rattle.sg_hist.specs.Reading.{behind}
+use Rattle.sg_recovery_laws.specs.sg_hist.Clients.{calls_of}
+use Rattle.sg_recovery_laws.specs.sg_hist.Reading.{items_after}
 use Rattle.sg_recovery_laws.proofs.Objects.Guarded.{IsLetPass, keeps, let_pass}
 use Rattle.sg_recovery_laws.specs.Objects.Waiting.{NoneBy}
 use Rattle.sg_recovery_laws.proofs.Lists.{each_append, each_contains, each_map}
@@ -129,7 +129,7 @@ module _ (z : Setting) (set : IsSetting z) (w : WorldView) (b : Boot) (boots : L
           | inl before ↦ absurd (offered_other z w.history w.withdrawn 1 (length front + 1) front parts.0 (inr (omega arith)) x before (own ∙ its))
           | inr rest ↦ elim (Contains-append_cases (offered_by s) (flat_map offered_by back) x rest) [
             | inl mine ↦ let one : x ≡ s.call = one_is s.call x (subst (λ q. Contains (if q then s.call ∷ [] else []) x) offers mine) in let same : x.seq ≡ s.call.seq = ap (λ y. y.seq) one in omega (arith, same)
-            | inr behind ↦ absurd (offered_other z w.history w.withdrawn ((1 + length front) + 1) (length front + 1) back parts.1.2 (inl (omega arith)) x behind (own ∙ its))
+            | inr items_after ↦ absurd (offered_other z w.history w.withdrawn ((1 + length front) + 1) (length front + 1) back parts.1.2 (inl (omega arith)) x items_after (own ∙ its))
           ]
         ]
         | inr withdrawn ↦ let few = gone w.withdrawn (gone_is z w.history w.withdrawn (length (b ∷ boots)) front back s have) x withdrawn (own ∙ its) in omega (arith, few, next)

@@ -24,3 +24,4 @@ pub mod Struck
 pub mod Turns
 pub mod Waits
 pub mod Woken
+pub use Rattle.sg_recovery_laws.proofs as sg_recovery_laws

@@ -5,7 +5,7 @@
 use Rattle.std.proofs.Common.{List, None, Option, Some, [], ap, arith, false, flat_map, if◌then◌else◌, inl, inr, length, map, refl, slice_get, slice_set, subst, sym, ℕ, ◌++◌, ◌+◌, ◌-◌, ◌∙◌, ◌∷◌, ◌≡◌, ◌≢◌, ◌≤◌, ◌⊎◌}
 use Rattle.std.proofs.lemmas.List.Elements.{Contains-append_left, Contains-append_right}
 use Rattle.std.specs.List.{Contains}
-use Rattle.sg_base.specs.declared.call.Call.{Call}
+use Rattle.sg_facts.specs.sg_base.declared.call.Call.{Call}
 use Rattle.sg_facts.specs.Limits.{last_client}
 use Rattle.sg_facts.specs.Object.{Object}
 use Rattle.sg_facts.specs.WalkArray.{back}

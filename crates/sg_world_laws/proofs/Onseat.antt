@@ -4,17 +4,17 @@
 use Rattle.std.proofs.Common.{Bool, List, None, Option, Some, [], ap, append-nil, arith, cond, false, length, refl, subst, sym, true, ℕ, ◌++◌, ◌+◌, ◌<◌, ◌==◌, ◌^◌, ◌∙◌, ◌∷◌, ◌≡◌, ◌≢◌}
 use Rattle.std.proofs.Math.ListN.{set}
 use Rattle.std.proofs.lemmas.List.Elements.{filter-append}
-use Rattle.sg_base.specs.declared.call.Call.{Call}
-use Rattle.sg_base.specs.declared.reply.Code.{Code}
-use Rattle.sg_base.specs.declared.reply.Reply.{Reply}
-use Rattle.sg_base.specs.declared.reply.Reply.TheVariants.{Ok, Refused}
+use Rattle.sg_facts.specs.sg_base.declared.call.Call.{Call}
+use Rattle.sg_facts.specs.sg_base.declared.reply.Code.{Code}
+use Rattle.sg_facts.specs.sg_base.declared.reply.Reply.{Reply}
+use Rattle.sg_facts.specs.sg_base.declared.reply.Reply.TheVariants.{Ok, Refused}
 use Rattle.sg_facts.specs.Guard.{guard}
 use Rattle.sg_facts.specs.Laws.{Passes, slow}
 use Rattle.sg_facts.specs.Legal.{answer, refused_or}
 use Rattle.sg_facts.specs.Object.{after, empty_object, object_of}
 use Rattle.sg_facts.specs.declared.entry.Entry.{Entry}
 use Rattle.sg_recovery_laws.proofs.Midway.Tabled.{passes_whole}
-use Rattle.sg_hist.specs.Clients.{calls_of}
+use Rattle.sg_recovery_laws.specs.sg_hist.Clients.{calls_of}
 use Rattle.sg_seat.specs.WorldView.{Seat, wakes_seat, woken_seat}
 use Rattle.sg_seat.specs.declared.phase.Phase.{Phase}
 use Rattle.sg_seat.specs.declared.phase.Phase.TheVariants.{Asked, Blocked, Held, Idle, Left, Receipted}

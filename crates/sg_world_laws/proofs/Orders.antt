@@ -6,9 +6,9 @@
 use Rattle.std.proofs.Common.{Bool, List, None, Option, Some, [], ap, arith, false, if◌then◌else◌, inl, inr, length, length-append, map, refl, subst, suc, sym, true, ℕ, ◌*◌, ◌++◌, ◌+◌, ◌<◌, ◌^◌, ◌||◌, ◌∙◌, ◌∷◌, ◌≡◌, ◌≢◌, ◌≤◌}
 use Rattle.std.proofs.lemmas.List.Elements.{Contains-append_right}
 use Rattle.std.specs.List.{Contains, list_any}
-use Rattle.sg_base.specs.Lists.{Each}
-use Rattle.sg_base.specs.declared.call.Call.{Call}
-use Rattle.sg_base.specs.declared.reply.Reply.{Reply}
+use Rattle.sg_facts.specs.sg_base.Lists.{Each}
+use Rattle.sg_facts.specs.sg_base.declared.call.Call.{Call}
+use Rattle.sg_facts.specs.sg_base.declared.reply.Reply.{Reply}
 use Rattle.sg_facts.proofs.RowLists.{row_of_live}
 use Rattle.sg_facts.specs.Guard.{guard}
 use Rattle.sg_facts.specs.Held.{AreReachable}
@@ -25,8 +25,8 @@ use Rattle.sg_facts.specs.declared.entry.Entry.{Entry}
 use Rattle.sg_facts.specs.declared.row.Row.{Row}
 use Rattle.sg_facts.specs.declared.trace.Item.{Item}
 use Rattle.sg_recovery_laws.specs.Midway.Progress.{IsNone}
-use Rattle.sg_hist.specs.Reading.{is_by_guard, is_item_of}
-use Rattle.sg_hist.specs.Recovered.{IsCallOf}
+use Rattle.sg_recovery_laws.specs.sg_hist.Reading.{is_by_guard, is_item_of}
+use Rattle.sg_recovery_laws.specs.sg_hist.Recovered.{IsCallOf}
 use Rattle.sg_recovery_laws.proofs.Objects.Guarded.{acts}
 use Rattle.sg_recovery_laws.proofs.Objects.Narrow.{guard_stays}
 use Rattle.sg_recovery_laws.proofs.Objects.Needed.{needed_back, needed_same, needs_same}
@@ -36,7 +36,7 @@ use Rattle.sg_recovery_laws.proofs.Objects.Waiting.{good_behind, hidden_is, less
 use Rattle.sg_recovery_laws.specs.Objects.Serving.{HasTime, IsAnsweredAt, IsLegalObject}
 use Rattle.sg_recovery_laws.specs.Objects.Waiting.{AreWaiting, NoneBy}
 use Rattle.sg_recovery_laws.proofs.Lists.{each_append, each_contains, each_map, each_split}
-use Rattle.sg_hist.specs.Growing.{IsInLast, IsOfNoEntry, last_items, older_items}
+use Rattle.sg_recovery_laws.specs.sg_hist.Growing.{IsInLast, IsOfNoEntry, last_items, older_items}
 use Rattle.sg_seat.specs.WorldView.{Seat, WorldView, held_in, held_replies, is_held_in, unanswered}
 use Rattle.sg_seat.specs.declared.withdrawn.Withdrawn.{Withdrawn}
 use Rattle.sg_recovery_laws.proofs.LastItem.Reached.{reach_all}
@@ -81,7 +81,7 @@ pub legal_append : (i : Declared) (ask : Table) (o : Object) (xs ys : List Entry
 legal_append i ask o [] ys was more = more
 legal_append i ask o (x ∷ xs) ys was more = (was.0, legal_append i ask (after i.facts o x.call x.reply) xs ys was.1 more)
 
--- what the guard lets pass of other clients' held replies, it lets pass behind an answered call
+-- what the guard lets pass of other clients' held replies, it lets pass after an answered call
 module _ (z : Setting) (set : IsSetting z) where
   pub lets_after : (o : Object) (call : Call) (reply : Reply) → z.iface.facts.global ≡ false → IsLegalObject z.iface.facts z.sound o → IsAnsweredAt z.iface.facts z.ask o call reply → (es : List Entry)
       → NoneBy call.client es → AreWaiting z.iface.facts z.ask o es → Each (λ e. guard z.iface o e.call ≡ None) es → Each (λ e. guard z.iface (after z.iface.facts o call reply) e.call ≡ None) es
@@ -109,7 +109,7 @@ module _ (z : Setting) (set : IsSetting z) where
         legal_held (after z.iface.facts o e.call e.reply) es ok' later wait' (lets_after o e.call e.reply hidden.alone ok own es wait.1 wait.2 lets.1),
       )
 
--- ---- at the objects behind some of the held replies
+-- ---- at the objects after some of the held replies
 
 module _ (z : Setting) (set : IsSetting z) (w : WorldView) (b : Boot) (boots : List Boot) (running : Option Object) (stub : Stub) (k : KeepsPromise z (standing w b boots running) stub) where
   abbrev o : Object
@@ -183,7 +183,7 @@ module _ (z : Setting) (set : IsSetting z) (w : WorldView) (b : Boot) (boots : L
         (each_map (IsInLast (standing w b boots running).run) (λ e. is_by_guard e.reply || list_any (is_item_of e) (older_items [] (b ∷ boots) ++ last_items (b ∷ boots)) ≡ true) ws
         (λ e in_last. has_item (standing w b boots running).run e in_last) k.held_items))
 
-    -- what is live behind them is live at the history
+    -- what is live after them is live at the history
     pub live_es : (x : ℕ) → is_live (object_from z.iface.facts (object_of z.iface.facts w.history) es).rows x ≡ true → is_live (object_of z.iface.facts w.history).rows x ≡ true
     live_es x live =
         let found = row_of_live (object_from z.iface.facts o es).rows x live in
@@ -222,7 +222,7 @@ module _ (z : Setting) (set : IsSetting z) (w : WorldView) (b : Boot) (boots : L
 
 module _ (z : Setting) (set : IsSetting z) (w : WorldView) (b : Boot) (boots : List Boot) (v : Object) (stub : Stub) (k : KeepsPromise z (standing w b boots (Some v)) stub) (es : List Entry)
     (drawn : AreDrawn (held_replies (standing w b boots (Some v))) es) where
-  -- what is told is read of the rows behind them too, as these are among the live ones
+  -- what is told is read of the rows after them too, as these are among the live ones
   pub read_es : IsRead z.iface.facts z.walks (w.history ++ es) (older_items [] (b ∷ boots)) (last_items (b ∷ boots)) stub.names stub.told stub.present (object_from z.iface.facts (object_of z.iface.facts w.history) es).rows
   read_es =
       let up : Stands z (standing w b boots (Some v)) stub v = k.stands in

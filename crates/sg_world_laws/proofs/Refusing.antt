@@ -2,11 +2,11 @@
 use Rattle.std.proofs.Common.{List, None, Option, Some, [], ap, append_assoc, arith, false, inl, inr, length, length-append, refl, subst, sym, true, ℕ, ◌*◌, ◌++◌, ◌+◌, ◌<◌, ◌==◌, ◌||◌, ◌∙◌, ◌∷◌, ◌≡◌, ◌≤◌, ◌⊎◌, Bool, if◌then◌else◌, not, ◌&&◌}
 use Rattle.std.specs.List.{Contains, list_any}
 use Rattle.std.specs.Prelude.{nat_le}
-use Rattle.sg_base.specs.Lists.{Each}
-use Rattle.sg_base.specs.declared.call.Call.{Call}
-use Rattle.sg_base.specs.declared.reply.Code.{Code}
-use Rattle.sg_base.specs.declared.reply.Code.TheVariants.{BadState, Full, HasChildren, NoDesc, NoParent}
-use Rattle.sg_base.specs.declared.reply.Reply.TheVariants.{Refused}
+use Rattle.sg_facts.specs.sg_base.Lists.{Each}
+use Rattle.sg_facts.specs.sg_base.declared.call.Call.{Call}
+use Rattle.sg_facts.specs.sg_base.declared.reply.Code.{Code}
+use Rattle.sg_facts.specs.sg_base.declared.reply.Code.TheVariants.{BadState, Full, HasChildren, NoDesc, NoParent}
+use Rattle.sg_facts.specs.sg_base.declared.reply.Reply.TheVariants.{Refused}
 use Rattle.sg_facts.specs.Alike.{named}
 use Rattle.sg_facts.specs.Counted.{most_counted}
 use Rattle.sg_facts.specs.Facts.{is_visible, fun_at, takes_desc, takes_parent}
@@ -21,17 +21,17 @@ use Rattle.sg_facts.specs.Track.{is_live, has_child, row_at}
 use Rattle.sg_facts.specs.declared.entry.Entry.{Entry}
 use Rattle.sg_recovery_laws.specs.Midway.Numbers.{left_of, sum_told, unbegun}
 use Rattle.sg_recovery_laws.specs.Midway.Progress.{IsInRecovery}
-use Rattle.sg_hist.specs.Reading.{is_by_guard, is_item_of, is_made, is_rebuilt_at, names_at, places_in}
+use Rattle.sg_recovery_laws.specs.sg_hist.Reading.{is_by_guard, is_item_of, is_made, is_rebuilt_at, names_at, places_in}
 use Rattle.sg_recovery_laws.specs.Objects.Waiting.{AreWaiting, NoneBy}
 use Rattle.sg_recovery_laws.proofs.Given.{IsGiven, made_same, names_same}
 use Rattle.sg_recovery_laws.proofs.InBoots.{boots_refused}
 use Rattle.sg_recovery_laws.proofs.Lists.{each_append, each_map}
 use Rattle.sg_recovery_laws.proofs.Same.{any_same, rebuilt_again}
-use Rattle.sg_hist.specs.Growing.{IsInLast, IsSameId, last_items, older_items}
+use Rattle.sg_recovery_laws.specs.sg_hist.Growing.{IsInLast, IsSameId, last_items, older_items}
 use Rattle.sg_seat.specs.WorldView.{WorldView, held_in, held_replies, unanswered}
 use Rattle.sg_recovery_laws.proofs.LastItem.Reading.{unnamed}
 use Rattle.sg_recovery_laws.specs.LastItem.Told.{IsRead, whole_behind}
-use Rattle.sg_track.proofs.KeptLists.{read}
+use Rattle.sg_recovery_laws.proofs.sg_track.KeptLists.{read}
 use Rattle.sg_facts.proofs.Replaying.Above.{up}
 use Rattle.sg_world_laws.proofs.Ahead.{refused_ahead}
 use Rattle.sg_world_laws.proofs.Entering.{kept_with, legal_push, object_refused, settled_refused}

@@ -2,14 +2,14 @@
 -- that is handed over, a reply that was lost, a withdrawal, and a client that leaves.
 use Rattle.std.proofs.Common.{None, Option, Some, ap, length, refl, subst, sym, ◌++◌, ◌∙◌, ◌≡◌}
 use Rattle.std.specs.List.{Contains}
-use Rattle.sg_base.specs.Lists.{Each}
-use Rattle.sg_base.specs.declared.call.Call.{Call}
+use Rattle.sg_facts.specs.sg_base.Lists.{Each}
+use Rattle.sg_facts.specs.sg_base.declared.call.Call.{Call}
 use Rattle.sg_facts.specs.Object.{Object, object_from, object_of}
 use Rattle.sg_recovery_laws.specs.Midway.Numbers.{AreNumbers}
 use Rattle.sg_recovery_laws.specs.Midway.Progress.{IsInRecovery}
 use Rattle.sg_recovery_laws.specs.Objects.Waiting.{AreWaiting}
 use Rattle.sg_recovery_laws.proofs.Onward.{made_stays}
-use Rattle.sg_hist.specs.Growing.{IsInLast}
+use Rattle.sg_recovery_laws.specs.sg_hist.Growing.{IsInLast}
 use Rattle.sg_seat.specs.WorldView.{WorldView, held_replies, unanswered}
 use Rattle.sg_facts.proofs.Replaying.Above.{up}
 use Rattle.sg_world_laws.proofs.Entering.{kept_all}

@@ -1,10 +1,10 @@
 -- The world keeps what it keeps where a held reply is committed and handed over.
 use Rattle.std.proofs.Common.{Bool, List, None, Some, [], ap, append_assoc, arith, cond, false, filter, inl, inr, length, length-append, refl, subst, suc, sym, true, ℕ, ◌++◌, ◌+◌, ◌<◌, ◌==◌, ◌||◌, ◌∙◌, ◌∷◌, ◌≡◌, ◌≢◌, ◌≤◌, ◌⊎◌}
 use Rattle.std.specs.List.{Contains, list_any}
-use Rattle.sg_base.specs.Lists.{Each}
-use Rattle.sg_base.specs.declared.call.Call.{Call}
-use Rattle.sg_base.specs.declared.reply.Reply.{Reply}
-use Rattle.sg_base.specs.declared.reply.Reply.TheVariants.{Ok, Refused}
+use Rattle.sg_facts.specs.sg_base.Lists.{Each}
+use Rattle.sg_facts.specs.sg_base.declared.call.Call.{Call}
+use Rattle.sg_facts.specs.sg_base.declared.reply.Reply.{Reply}
+use Rattle.sg_facts.specs.sg_base.declared.reply.Reply.TheVariants.{Ok, Refused}
 use Rattle.sg_facts.proofs.RowLists.{row_of_live}
 use Rattle.sg_facts.specs.Alike.{named}
 use Rattle.sg_facts.specs.Facts.{fun_at}
@@ -19,8 +19,8 @@ use Rattle.sg_facts.specs.declared.row.Row.{Row}
 use Rattle.sg_recovery_laws.proofs.Midway.Dropped.{under_dropped}
 use Rattle.sg_recovery_laws.specs.Midway.Numbers.{AreNumbers, left_of, sum_told, unbegun}
 use Rattle.sg_recovery_laws.specs.Midway.Progress.{IsInRecovery, IsNone, TellsCalls, Told, is_complete}
-use Rattle.sg_hist.specs.Reading.{is_by_guard, is_item_of, names_at}
-use Rattle.sg_hist.specs.Recovered.{is_walk_of}
+use Rattle.sg_recovery_laws.specs.sg_hist.Reading.{is_by_guard, is_item_of, names_at}
+use Rattle.sg_recovery_laws.specs.sg_hist.Recovered.{is_walk_of}
 use Rattle.sg_recovery_laws.proofs.Objects.Serves.{fewer_behind}
 use Rattle.sg_recovery_laws.proofs.Objects.Steady.{after_good}
 use Rattle.sg_recovery_laws.proofs.Objects.Waiting.{hidden_is, time_after}
@@ -29,7 +29,7 @@ use Rattle.sg_recovery_laws.specs.Objects.Waiting.{AreWaiting, IsWaiting}
 use Rattle.sg_recovery_laws.proofs.InBoots.{boots_appended}
 use Rattle.sg_recovery_laws.proofs.Lists.{each_append, each_both, each_map, each_split}
 use Rattle.sg_recovery_laws.proofs.Onward.{made_stays}
-use Rattle.sg_hist.specs.Growing.{IsInLast, last_items, older_items}
+use Rattle.sg_recovery_laws.specs.sg_hist.Growing.{IsInLast, last_items, older_items}
 use Rattle.sg_seat.specs.WorldView.{WorldView, held_in, unanswered}
 use Rattle.sg_recovery_laws.specs.LastItem.Told.{IsRead}
 use Rattle.sg_facts.proofs.Replaying.Files.{told}
@@ -145,7 +145,7 @@ module _ (z : Setting) (set : IsSetting z) (w : WorldView) (b : Boot) (boots : L
         (each_map (λ e. MayEnter z w.history e × (guard z.iface (after z.iface.facts (object_of z.iface.facts w.history) p.call p.reply) e.call ≡ None)) (MayEnter z (w.history ++ p ∷ [])) (pre ++ post)
         (λ e is. record { may = is.0.may; guarded = subst (λ o. guard z.iface o e.call ≡ None) (sym object_now) is.1 }) both)
 
-    -- behind all of them the object is as it was
+    -- after all of them the object is as it was
     behind_all : object_from z.iface.facts (object_of z.iface.facts (w.history ++ p ∷ [])) (held_in (length (b ∷ boots)) w'.seats) ≡ object_from z.iface.facts (object_of z.iface.facts w.history) (held_in (length (b ∷ boots)) w.seats)
     behind_all =
         ap (λ o. object_from z.iface.facts o (held_in (length (b ∷ boots)) w'.seats)) object_now
@@ -156,7 +156,7 @@ module _ (z : Setting) (set : IsSetting z) (w : WorldView) (b : Boot) (boots : L
     sound_all : IsSound z.iface.facts (object_from z.iface.facts (object_of z.iface.facts (w.history ++ p ∷ [])) (held_in (length (b ∷ boots)) w'.seats))
     sound_all = subst (IsSound z.iface.facts) (sym behind_all) (sound_es z set w b boots (Some v) stub k (held_in (length (b ∷ boots)) w.seats) (all_drawn z set w b boots (Some v) stub k))
 
-    -- what is live behind all is live behind the entry, and at the history
+    -- what is live after all is live after the entry, and at the history
     live_after : (x : ℕ) → is_live (object_of z.iface.facts (w.history ++ p ∷ [])).rows x ≡ true → is_live (after z.iface.facts (object_of z.iface.facts w.history) p.call p.reply).rows x ≡ true
     live_after x live = ap (λ y. is_live y.rows x) (sym object_now) ∙ live
 

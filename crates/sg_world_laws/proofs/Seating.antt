@@ -5,15 +5,15 @@ use Rattle.std.proofs.Common.{Bool, List, Some, [], ap, arith, false, flat_map, 
 use Rattle.std.proofs.lemmas.Grind.{flat_map-append}
 use Rattle.std.proofs.lemmas.List.Elements.{Contains-append_cases, Contains-append_left, Contains-append_right}
 use Rattle.std.specs.List.{Contains}
-use Rattle.sg_base.specs.declared.call.Call.{Call}
+use Rattle.sg_facts.specs.sg_base.declared.call.Call.{Call}
 use Rattle.sg_facts.proofs.RowLists.{more}
 use Rattle.sg_facts.specs.Limits.{last_client}
 use Rattle.sg_facts.specs.declared.entry.Entry.{Entry}
-use Rattle.sg_hist.specs.Reading.{behind}
+use Rattle.sg_recovery_laws.specs.sg_hist.Reading.{items_after}
 use Rattle.sg_recovery_laws.proofs.Lists.{each_append, each_split}
 use Rattle.sg_seat.specs.WorldView.{Seat, held_in, is_held_in, is_offered, offered, offered_by, woken_seat}
 use Rattle.sg_seat.specs.declared.withdrawn.Withdrawn.{Withdrawn}
-use Rattle.sg_track.proofs.Ascending.{later}
+use Rattle.sg_recovery_laws.proofs.sg_track.Ascending.{later}
 use Rattle.sg_facts.proofs.Replaying.Apart.{apart}
 use Rattle.sg_world_laws.specs.Seats.{AreGone, AreSeated, HaveSeats, IsSeated, all_seqs}
 use Rattle.sg_world_laws.specs.Setting.{Setting}
@@ -22,7 +22,7 @@ pub get_at : (front back : List Seat) (s : Seat) → slice_get (front ++ s ∷ b
 get_at [] back s = refl
 get_at (x ∷ front) back s = get_at front back s
 
--- a seat stands in a list, which is told by what is before and behind it
+-- a seat stands in a list, which is told by what is before and after it
 pub record HasSeat (seats : List Seat) (i : ℕ) (s : Seat) : Type 0 where
   pub front : List Seat
   pub back : List Seat
@@ -75,7 +75,7 @@ still_offered front back s new gone more x kept has = elim (Contains-append_case
     | inl before ↦ inr (now (Contains-append_left (flat_map offered_by front) (offered_by new ++ flat_map offered_by back) x before))
     | inr rest ↦ elim (Contains-append_cases (offered_by s) (flat_map offered_by back) x rest) [
       | inl own ↦ inl own
-      | inr behind ↦ inr (now (Contains-append_right (flat_map offered_by front) (offered_by new ++ flat_map offered_by back) x (Contains-append_right (offered_by new) (flat_map offered_by back) x behind)))
+      | inr items_after ↦ inr (now (Contains-append_right (flat_map offered_by front) (offered_by new ++ flat_map offered_by back) x (Contains-append_right (offered_by new) (flat_map offered_by back) x items_after)))
     ]
   ]
   | inr was ↦ inr (Contains-append_right (flat_map offered_by (front ++ new ∷ back)) more x (kept x was))

@@ -1,17 +1,17 @@
 -- The world keeps what it keeps where the service stops: nothing is held then, and nothing stands in the service.
 use Rattle.std.proofs.Common.{List, None, [], ap, arith, length, refl, subst, suc, sym, ℕ, ◌++◌, ◌∙◌, ◌∷◌, ◌≡◌, ◌≢◌, ◌≤◌}
-use Rattle.sg_base.specs.Lists.{Each}
+use Rattle.sg_facts.specs.sg_base.Lists.{Each}
 use Rattle.sg_boot.proofs.Keeping.{kept_struck}
 use Rattle.sg_facts.specs.Trace.{Boot, Run}
 use Rattle.sg_facts.specs.declared.entry.Entry.{Entry}
 use Rattle.sg_facts.specs.declared.trace.Item.{Item}
-use Rattle.sg_hist.specs.Recovered.{AreInBoots}
+use Rattle.sg_recovery_laws.specs.sg_hist.Recovered.{AreInBoots}
 use Rattle.sg_recovery_laws.proofs.InBoots.{boots_struck}
 use Rattle.sg_recovery_laws.proofs.Onward.{struck_stays}
-use Rattle.sg_hist.specs.Growing.{IsRecovering, last_items, older_items, struck}
+use Rattle.sg_recovery_laws.specs.sg_hist.Growing.{IsRecovering, last_items, older_items, struck}
 use Rattle.sg_seat.specs.WorldView.{WorldView, held_replies, unanswered}
 use Rattle.sg_recovery_laws.specs.LastItem.LastPlace.{HaveItems}
-use Rattle.sg_track.proofs.Ascending.{later}
+use Rattle.sg_recovery_laws.proofs.sg_track.Ascending.{later}
 use Rattle.sg_world_laws.specs.Keeping.{AreDrawn, KeepsPromise, Stub}
 use Rattle.sg_world_laws.specs.Setting.{Setting, stubs_of}
 
@@ -50,7 +50,7 @@ pub record IsCutOff (z : Setting) (w : WorldView) (run : Run) : Type 0 where
   pub recovers : IsRecovering (stubs_of z) (w.history ++ []) run (unanswered w)
 
 module _ (z : Setting) (w : WorldView) (stub later : Stub) (k : KeepsPromise z w stub) (run : Run) (cut : IsCutOff z w run) (stop points : ℕ) where
-  -- the service stops at a point, behind this run
+  -- the service stops at a point, after this run
   pub stopped : KeepsPromise z (record w { run = record { boots = struck run.boots stop; points = points }; running = None }) later
   stopped = record {
     legal = k.legal;
@@ -68,7 +68,7 @@ module _ (z : Setting) (w : WorldView) (stub later : Stub) (k : KeepsPromise z w
     stands = tt;
   }
 
--- at the point before a use, or behind a commit
+-- at the point before a use, or after a commit
 pub stopped_between : (z : Setting) (w : WorldView) (stub later : Stub) → KeepsPromise z w stub → (stop points : ℕ) → KeepsPromise z (record w { run = record { boots = struck w.run.boots stop; points = points }; running = None }) later
 stopped_between z w stub later k stop points =
     stopped z w stub later k w.run

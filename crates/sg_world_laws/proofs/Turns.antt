@@ -4,10 +4,10 @@
 use Rattle.std.proofs.Common.{List, None, Option, Some, [], ap, arith, false, if◌then◌else◌, inl, inr, length, map, refl, slice_get, slice_set, subst, suc, sym, true, unwrap_or, zero, ℕ, ◌&&◌, ◌++◌, ◌+◌, ◌-◌, ◌<◌, ◌==◌, ◌∙◌, ◌∷◌, ◌≡◌, ◌≤◌}
 use Rattle.std.proofs.lemmas.List.Elements.{Contains-append_left, Contains-append_right}
 use Rattle.std.specs.List.{Contains}
-use Rattle.sg_base.specs.declared.call.Call.{Call}
-use Rattle.sg_base.specs.declared.reply.Reply.{Reply}
+use Rattle.sg_facts.specs.sg_base.declared.call.Call.{Call}
+use Rattle.sg_facts.specs.sg_base.declared.reply.Reply.{Reply}
 use Rattle.sg_facts.specs.Object.{Object}
-use Rattle.sg_hist.specs.Clients.{calls_of}
+use Rattle.sg_recovery_laws.specs.sg_hist.Clients.{calls_of}
 use Rattle.sg_recovery_laws.proofs.Lists.{each_append}
 use Rattle.sg_seat.specs.WorldView.{Seat, WorldView, is_held_phase, is_offered, no_seat, offered_by, seat_of, IsFree, MayWithdraw}
 use Rattle.sg_seat.specs.declared.mark.Mark.{Mark}

@@ -2,8 +2,8 @@
 
 -- a seat that is woken is the same, or was blocked and is asked
 use Rattle.std.proofs.Common.{Bool, List, [], ap, arith, cond, false, flat_map, if◌then◌else◌, inl, inr, length, map, refl, subst, suc, sym, true, ℕ, ◌++◌, ◌+◌, ◌==◌, ◌∙◌, ◌∷◌, ◌≡◌, ◌≤◌, ◌⊎◌}
-use Rattle.sg_base.specs.Lists.{Each}
-use Rattle.sg_base.specs.declared.call.Call.{Call}
+use Rattle.sg_facts.specs.sg_base.Lists.{Each}
+use Rattle.sg_facts.specs.sg_base.declared.call.Call.{Call}
 use Rattle.sg_facts.proofs.RowLists.{more}
 use Rattle.sg_facts.specs.Limits.{last_client}
 use Rattle.sg_facts.specs.declared.entry.Entry.{Entry}
@@ -12,7 +12,7 @@ use Rattle.sg_seat.specs.WorldView.{Seat, held_in, is_held_in, is_offered, woken
 use Rattle.sg_seat.specs.declared.phase.Phase.{Phase}
 use Rattle.sg_seat.specs.declared.phase.Phase.TheVariants.{Idle, Asked, Held, Receipted, Blocked, Left}
 use Rattle.sg_seat.specs.declared.withdrawn.Withdrawn.{Withdrawn}
-use Rattle.sg_track.proofs.Ascending.{later}
+use Rattle.sg_recovery_laws.proofs.sg_track.Ascending.{later}
 use Rattle.sg_facts.proofs.Replaying.Found.{other_test}
 use Rattle.sg_world_laws.specs.Seats.{AreGone, AreSeated, HaveSeats, IsSeated, all_seqs}
 use Rattle.sg_world_laws.specs.Setting.{Setting}

@@ -2,7 +2,7 @@
 use Rattle.std.specs.Prelude.{ℕ, ◌≡◌, ◌⊎◌, ◌+◌, ◌<◌, ◌≤◌, ◌==◌, Bool, false, true, List, ◌∷◌, ◌++◌, None, Some, [], length}
 use Rattle.std.specs.List.{Contains, list_any}
 use Rattle.std.specs.declared.option.Option.{Option}
-use Rattle.sg_base.specs.Lists.{Each}
+use Rattle.sg_facts.specs.sg_base.Lists.{Each}
 use Rattle.sg_boot.specs.Cells.{IsCell}
 use Rattle.sg_facts.specs.declared.entry.Entry.{Entry}
 use Rattle.sg_facts.specs.Alike.{named}
@@ -15,11 +15,11 @@ use Rattle.sg_facts.specs.Trace.{Boot}
 use Rattle.sg_facts.specs.Track.{is_live}
 use Rattle.sg_recovery_laws.specs.Midway.Numbers.{AreNumbers}
 use Rattle.sg_recovery_laws.specs.Midway.Progress.{IsInRecovery, Told}
-use Rattle.sg_hist.specs.Reading.{names_at}
-use Rattle.sg_hist.specs.Recovered.{AreInBoots}
+use Rattle.sg_recovery_laws.specs.sg_hist.Reading.{names_at}
+use Rattle.sg_recovery_laws.specs.sg_hist.Recovered.{AreInBoots}
 use Rattle.sg_recovery_laws.specs.Objects.Serving.{IsLegalObject}
 use Rattle.sg_recovery_laws.specs.Objects.Waiting.{AreWaiting, NoneBy}
-use Rattle.sg_hist.specs.Growing.{IsInLast, IsRecovering, last_items, older_items}
+use Rattle.sg_recovery_laws.specs.sg_hist.Growing.{IsInLast, IsRecovering, last_items, older_items}
 use Rattle.sg_seat.specs.WorldView.{WorldView, held_replies, unanswered}
 use Rattle.sg_recovery_laws.specs.LastItem.LastPlace.{HaveItems}
 use Rattle.sg_recovery_laws.specs.LastItem.Told.{IsRead}
@@ -64,7 +64,7 @@ pub record MayEnter (z : Setting) (history : List Entry) (e : Entry) : Type 0 wh
   pub may : MayBeMade z.iface e.call
   pub guarded : guard z.iface (object_of z.iface.facts history) e.call ≡ None
 
--- the service stands for the object behind the held replies, and what the stubs tell is what the trace tells, whichever held replies
+-- the service stands for the object after the held replies, and what the stubs tell is what the trace tells, whichever held replies
 -- are committed first
 pub record Stands (z : Setting) (w : WorldView) (stub : Stub) (v : Object) : Type 0 where
   pub numbers : AreNumbers z.iface.facts stub.told (length w.history) (object_from z.iface.facts (object_of z.iface.facts w.history) (held_replies w)) v

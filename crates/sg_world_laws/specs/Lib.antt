@@ -4,3 +4,5 @@ pub mod Keeping
 pub mod Seats
 pub mod Setting
 pub mod Turns
+pub use Rattle.sg_recovery_laws.specs as sg_recovery_laws
+pub use Rattle.sg_seat.specs as sg_seat

@@ -1,14 +1,14 @@
 -- The seats of a world's clients, and the numbers of their calls.
 use Rattle.std.specs.Prelude.{ℕ, ◌≡◌, ◌+◌, ◌^◌, ◌<◌, ◌≤◌, true, List, [], ◌∷◌, ◌++◌, None, Some, length}
 use Rattle.std.specs.declared.option.Option.{Option}
-use Rattle.sg_base.specs.Lists.{Each}
+use Rattle.sg_facts.specs.sg_base.Lists.{Each}
 use Rattle.sg_facts.specs.declared.entry.Entry.{Entry}
 use Rattle.sg_facts.specs.Interface.{Declared, declares}
 use Rattle.sg_facts.specs.Legal.{answer}
 use Rattle.sg_facts.specs.Limits.{last_client}
 use Rattle.sg_facts.specs.Object.{object_of}
-use Rattle.sg_base.specs.declared.call.Call.{Call}
-use Rattle.sg_hist.specs.Clients.{calls_of}
+use Rattle.sg_facts.specs.sg_base.declared.call.Call.{Call}
+use Rattle.sg_recovery_laws.specs.sg_hist.Clients.{calls_of}
 use Rattle.sg_seat.specs.WorldView.{Seat, is_offered}
 use Rattle.sg_seat.specs.declared.phase.Phase.TheVariants.{Blocked, Receipted}
 use Rattle.sg_seat.specs.declared.withdrawn.Withdrawn.{Withdrawn}
@@ -52,7 +52,7 @@ abbrev pub all_seqs : List Seat → ℕ
 all_seqs [] = 0
 all_seqs (s ∷ seats) = s.seq + all_seqs seats
 
--- the calls of each client are numbered one after the other, behind earlier entries
+-- the calls of each client are numbered one after the other, after earlier entries
 abbrev pub AreNumbered : List Entry → List Entry → Type 0
 AreNumbered before [] = Unit {0}
 AreNumbered before (e ∷ history) = (e.call.seq ≡ length (calls_of before e.call.client) + 1) × AreNumbered (before ++ e ∷ []) history

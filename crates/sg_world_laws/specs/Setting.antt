@@ -6,7 +6,7 @@ use Rattle.sg_facts.specs.Interface.{Declared}
 use Rattle.sg_facts.specs.Legal.{Table}
 use Rattle.sg_facts.specs.Object.{Object}
 use Rattle.sg_facts.specs.Tables.{AreTables}
-use Rattle.sg_hist.specs.Recovered.{Stubs}
+use Rattle.sg_recovery_laws.specs.sg_hist.Recovered.{Stubs}
 use Rattle.sg_recovery_laws.specs.Objects.Serving.{IsService}
 
 -- what doesn't change in a world: the interface, the walks of its tables, and the service by its table, by what it keeps to, and by the

@@ -2,9 +2,9 @@
 use Rattle.std.specs.Prelude.{ℕ, ◌≡◌, ◌⊎◌, ◌<◌, ◌≤◌, true, List, [], ◌++◌, None, Some}
 use Rattle.std.specs.declared.option.Option.{Option}
 use Rattle.std.specs.List.{Contains}
-use Rattle.sg_base.specs.Lists.{Each}
-use Rattle.sg_base.specs.declared.call.Call.{Call}
-use Rattle.sg_base.specs.declared.reply.Reply.{Reply}
+use Rattle.sg_facts.specs.sg_base.Lists.{Each}
+use Rattle.sg_facts.specs.sg_base.declared.call.Call.{Call}
+use Rattle.sg_facts.specs.sg_base.declared.reply.Reply.{Reply}
 use Rattle.sg_facts.specs.declared.outcome.Outcome.TheVariants.{Replied}
 use Rattle.sg_facts.specs.declared.outcome.Patch.{Patch}
 use Rattle.sg_facts.specs.declared.row.Row.{Row}
@@ -18,8 +18,8 @@ use Rattle.sg_facts.specs.Needs.{is_needed}
 use Rattle.sg_facts.specs.Object.{Object, file_at, object_of, path_of}
 use Rattle.sg_facts.specs.Track.{row_at}
 use Rattle.sg_recovery_laws.specs.Midway.Progress.{IsNone, complete}
-use Rattle.sg_hist.specs.Reading.{service_call}
-use Rattle.sg_hist.specs.Recovered.{IsByTable}
+use Rattle.sg_recovery_laws.specs.sg_hist.Reading.{service_call}
+use Rattle.sg_recovery_laws.specs.sg_hist.Recovered.{IsByTable}
 use Rattle.sg_recovery_laws.specs.Objects.Waiting.{NoneBy}
 use Rattle.sg_seat.specs.WorldView.{WorldView, held_replies, unanswered}
 use Rattle.sg_world_laws.specs.Keeping.{Stub}

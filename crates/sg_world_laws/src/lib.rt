@@ -3,3 +3,5 @@
 //!
 //! There is no code here: `specs/` has the words, `proofs/` what is shown of them, for the crates above.
 #![tactic(auto)]
+
+pub use sg_seat::{Mark, MarkKind, Phase, Withdrawn};

@@ -3,8 +3,7 @@ ghost use Rattle.std.specs.Prelude.{◌≡◌, []};
 ghost use Rattle.sg_facts.specs.Kinds.{MayAsk};
 ghost use Rattle.sg_facts.specs.Invoke.{Invokes};
 
-use sg_base::{Args, Call, Stops};
-use sg_facts::{Outcome, Service};
+use sg_facts::{Args, Call, Outcome, Service, Stops};
 use std::alloc::Global;
 
 /// Asks a service through its bound alone.

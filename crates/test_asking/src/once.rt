@@ -1,5 +1,5 @@
 // A plan of one stop.
-use sg_base::{Point, Stops};
+use sg_facts::{Point, Stops};
 
 /// Stops once, at the point of a number; at none where the number is 0.
 #[derive(Debug, Drop)]

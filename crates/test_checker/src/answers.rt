@@ -1,14 +1,12 @@
 // What is answered on a text, and what is to be.
 ghost use Rattle.std.specs.Prelude.{◌≡◌, true, map};
 ghost use Rattle.sg_facts.specs.Facts.{facts_of};
-ghost use Rattle.sg_check.specs.Shapes.{are_shapes};
+ghost use Rattle.sg_diagnose.specs.sg_check.Shapes.{are_shapes};
 
 use crate::edits::{Edit, Layout, edited};
 use crate::shapes::standard_shapes;
-use sg_check::{CheckError, CheckKind, check};
-use sg_diagnose::{column_of, line_of};
+use sg_diagnose::{CheckError, CheckKind, check, column_of, line_of, parse};
 use sg_facts::Shape;
-use sg_parse::parse;
 use std::alloc::Global;
 use std::process::Abort;
 use std::test::Fail;

@@ -12,7 +12,7 @@ pub enum Edit {
     As(usize, &'static [u8]),
     /// Another follows it, or more.
     Then(usize, &'static [u8]),
-    /// All lines behind it are left out.
+    /// All lines after it are left out.
     Front(usize),
 }
 

@@ -1,10 +1,9 @@
 // Interfaces that no text declares.
 ghost use Rattle.std.specs.Prelude.{IfOk};
-ghost use Rattle.sg_walk.specs.Reach.Limits.{HasFourFields};
-ghost use Rattle.sg_walk.specs.Limits.{HasFewFields};
+ghost use Rattle.sg_diagnose.specs.sg_walk.Reach.Limits.{HasFourFields};
+ghost use Rattle.sg_diagnose.specs.sg_walk.Limits.{HasFewFields};
 
-use sg_base::PairList;
-use sg_facts::{Interface, Shape};
+use sg_facts::{Interface, PairList, Shape};
 use std::alloc::Global;
 use std::test::Fail;
 

@@ -1,15 +1,13 @@
 // Large services and long texts. No proof speaks of time, nor of memory that there is.
 ghost use Rattle.std.specs.Prelude.{◌≡◌, true};
 ghost use Rattle.sg_facts.specs.Facts.{facts_of};
-ghost use Rattle.sg_check.specs.Shapes.{is_shape};
+ghost use Rattle.sg_diagnose.specs.sg_check.Shapes.{is_shape};
 
 use crate::answers::answer;
 use sg_check::CheckKind::NoWalk;
-use sg_check::check;
+use sg_diagnose::{check, compile, parse};
 use sg_facts::{Effect, FieldShape, FunShape, Kind, Leaves, Parents, Service, Shape};
 use sg_lock::LockService;
-use sg_parse::parse;
-use sg_stub::compile;
 use std::alloc::{AllocError, Global};
 use std::test::Fail;
 use test_interfaces::LOCK;

@@ -54,7 +54,7 @@ pub static OF_LOCKS: [Case; 11] = [
         &[As(12, b"/* sm_block(lock_take); /* */ sm_block(lock_take);")],
         None,
     ),
-    // The name that is declared is a type's last, behind its stars.
+    // The name that is declared is a type's last, after its stars.
     (
         &[
             Without(11),

@@ -50,7 +50,7 @@ pub static TRANSITIONS: [Case; 10] = [
         )],
         Some((ForeignTransition, 10, 15)),
     ),
-    // Behind the prototypes.
+    // After the prototypes.
     (
         &[Then(25, b"sm_transition(lock_free, lock_take);")],
         Some((ForeignTransition, 26, 15)),

@@ -23,7 +23,7 @@ pub static NO_CREATIONS: [Case; 4] = [
         &[Front(9), As(1, b"\n// Locks.\n\n  service_global_info = {")],
         Some((NoCreation, 1, 1)),
     ),
-    // With functions that aren't reached, before them; behind a recover step that the service hasn't.
+    // With functions that aren't reached, before them; after a recover step that the service hasn't.
     (&[Front(9), Then(9, END)], Some((NoCreation, 1, 1))),
     (&[Front(9), Then(9, TAKE)], Some((NoCreation, 1, 1))),
     (
@@ -124,7 +124,7 @@ pub static OF_FILES: [Case; 6] = [
     (&[Without(19), Without(21)], Some((Unreached, 23, 5))),
     // A place is set by replaying alone.
     (&[Without(19)], None),
-    // A place behind what was read isn't restored by making a descriptor; nor is one that was set.
+    // A place after what was read isn't restored by making a descriptor; nor is one that was set.
     (&[Without(21)], Some((NoWalk, 21, 15))),
     (
         &[

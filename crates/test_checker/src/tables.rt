@@ -1,10 +1,7 @@
 // The tables of the standard interfaces, and their text.
 use crate::shapes::standard_shapes;
-use sg_check::check;
-use sg_diagnose::{Verdict, compiled};
+use sg_diagnose::{Verdict, check, compile, compiled, parse};
 use sg_facts::Tables;
-use sg_parse::parse;
-use sg_stub::compile;
 use std::alloc::Global;
 use std::process::Abort;
 use std::test::Fail;

@@ -1,10 +1,10 @@
 // What descriptors come to: the creation, the state and the set of fields.
 use crate::interfaces::{Pairs, interface};
+use sg_diagnose::{Triple, reachable};
 use sg_event::event_shape;
 use sg_facts::{Service, Shape};
 use sg_lock::LockService;
 use sg_ramfs::ramfs_shape;
-use sg_walk::{Triple, reachable};
 use std::test::Fail;
 
 // A shape, the functions and transitions that are declared, and all that descriptors come to.

@@ -1,13 +1,12 @@
 // The walks by which descriptors are rebuilt.
 use crate::interfaces::{Pairs, interface};
-use sg_base::NoMemory;
+use sg_diagnose::{restores, shortest};
 use sg_event::event_shape;
-use sg_facts::{FunShape, Leaves, Parents, Service, Shape, Walk};
+use sg_facts::{FunShape, Leaves, NoMemory, Parents, Service, Shape, Walk};
 use sg_lock::LockService;
 use sg_mm::mm_shape;
 use sg_ramfs::ramfs_shape;
 use sg_sched::sched_shape;
-use sg_walk::{restores, shortest};
 use std::test::Fail;
 
 // What was made, its state, the set of fields, and the walk that is to be found.

@@ -3,10 +3,10 @@ use Rattle.std.proofs.Common.{◌≡◌, ℕ, ◌+◌, ◌^◌, ◌<◌, ◌≤�
 use Rattle.std.specs.Prelude.{◌==◌, ◌||◌}
 use Rattle.std.specs.declared.option.Option.{Option}
 use Rattle.std.specs.Option.{option_map, option_copied, is_some}
-use Rattle.sg_base.specs.declared.value.Value.TheVariants.{Text}
-use Rattle.sg_base.specs.declared.call.Call.{Call}
-use Rattle.sg_base.specs.declared.reply.Reply.{Reply}
-use Rattle.sg_base.specs.declared.reply.Reply.TheVariants.{Ok, Refused}
+use Rattle.sg_facts.specs.sg_base.declared.value.Value.TheVariants.{Text}
+use Rattle.sg_facts.specs.sg_base.declared.call.Call.{Call}
+use Rattle.sg_facts.specs.sg_base.declared.reply.Reply.{Reply}
+use Rattle.sg_facts.specs.sg_base.declared.reply.Reply.TheVariants.{Ok, Refused}
 use Rattle.sg_facts.specs.declared.row.Row.{Row}
 use Rattle.sg_facts.specs.Kinds.{MayAsk}
 use Rattle.sg_facts.specs.Object.{Object, after}
@@ -45,7 +45,7 @@ pub live_where_lent : {E : Type 0} (rows : List Row) (id : ℕ) (row : E → Row
 live_where_lent rows id row None is some = absurd (cc some)
 live_where_lent rows id row (Some e) is some = live_of_row rows id (row e.now) is
 
--- a test that holds behind another
+-- a test that holds after another
 pub behind : (a b : Bool) → b ≡ true → (a || b) ≡ true
 behind true true is = refl
 behind true false is = refl

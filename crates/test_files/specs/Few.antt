@@ -1,7 +1,7 @@
 -- Descriptors that were asked little.
 use Rattle.std.specs.Prelude.{ℕ, ◌+◌, ◌≤◌, ◌==◌, ◌||◌, Bool, List, [], ◌∷◌, ◌≡◌}
-use Rattle.sg_base.specs.declared.value.Value.TheVariants.{Text}
-use Rattle.sg_base.specs.declared.call.Call.{Call}
+use Rattle.sg_facts.specs.sg_base.declared.value.Value.TheVariants.{Text}
+use Rattle.sg_facts.specs.sg_base.declared.call.Call.{Call}
 use Rattle.sg_facts.specs.Counted.{most_counted}
 use Rattle.sg_facts.specs.Laws.{slow}
 use Rattle.sg_facts.specs.Object.{Object}

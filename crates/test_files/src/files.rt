@@ -1,12 +1,11 @@
 // What no clause says: that calls on a file are answered where there is memory.
 ghost use Rattle.std.specs.Prelude.{◌≡◌, ◌<◌, ◌≤◌, ◌^◌, [], ◌∷◌, IfOk, OnOk};
-ghost use Rattle.sg_base.specs.declared.value.Value.TheVariants.{Text as IsText, Word};
+ghost use Rattle.sg_facts.specs.sg_base.declared.value.Value.TheVariants.{Text as IsText, Word};
 ghost use Rattle.sg_facts.specs.Object.{empty_object};
 ghost use Rattle.sg_ramfs.specs.RamfsObject.{ramfs_object};
 ghost use Rattle.test_files.specs.OneFile.{IsMade, IsOneFile};
 
-use sg_base::{Args, Call, Code, NoMemory, Path, Reply, Text, Value};
-use sg_facts::{Outcome, Service};
+use sg_facts::{Args, Call, Code, NoMemory, Outcome, Path, Reply, Service, Text, Value};
 use sg_ramfs::RamfsService;
 use std::alloc::Global;
 use std::process::Abort;

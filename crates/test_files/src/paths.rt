@@ -4,8 +4,7 @@ ghost use Rattle.sg_ramfs.specs.RamfsObject.{ramfs_object};
 ghost use Rattle.test_files.specs.Few.{AreFew, IsMaking, may_be_below};
 
 use crate::files::{Answer, answer_in, text, with_text};
-use sg_base::{Call, Code, NoMemory};
-use sg_facts::{Outcome, Service};
+use sg_facts::{Call, Code, NoMemory, Outcome, Service};
 use sg_ramfs::RamfsService;
 use std::alloc::Global;
 use std::process::Abort;

@@ -1,8 +1,8 @@
 -- What an answer carries, so that answers that differ in it are told apart.
 use Rattle.std.proofs.Common.{ℕ, List, [], Some}
 use Rattle.std.specs.declared.option.Option.{Option}
-use Rattle.sg_base.specs.declared.reply.Reply.{Reply}
-use Rattle.sg_base.specs.declared.reply.Reply.TheVariants.{Ok}
+use Rattle.sg_facts.specs.sg_base.declared.reply.Reply.{Reply}
+use Rattle.sg_facts.specs.sg_base.declared.reply.Reply.TheVariants.{Ok}
 
 -- the descriptor of an answer
 abbrev pub desc_in : Option Reply → ℕ

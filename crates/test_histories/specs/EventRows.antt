@@ -1,8 +1,8 @@
 -- Histories of the event service. Its functions: 1 evt_split, 2 evt_wait, 3 evt_trigger, 4 evt_free.
 use Rattle.std.specs.Prelude.{List, [], ◌∷◌, ◌++◌}
-use Rattle.sg_base.specs.declared.value.Value.TheVariants.{Word}
-use Rattle.sg_base.specs.declared.call.Call.{Call}
-use Rattle.sg_base.specs.declared.reply.Code.TheVariants.{Overflow}
+use Rattle.sg_facts.specs.sg_base.declared.value.Value.TheVariants.{Word}
+use Rattle.sg_facts.specs.sg_base.declared.call.Call.{Call}
+use Rattle.sg_facts.specs.sg_base.declared.reply.Code.TheVariants.{Overflow}
 use Rattle.sg_facts.specs.declared.entry.Entry.{Entry}
 use Rattle.test_histories.specs.Written.{call_of, ok, ok_at, refused, entry}
 

@@ -1,7 +1,7 @@
 -- Histories of the lock service. Its functions: 1 lock_alloc, 2 lock_take, 3 lock_release, 4 lock_free.
 use Rattle.std.specs.Prelude.{List, [], ◌∷◌, ◌++◌}
-use Rattle.sg_base.specs.declared.call.Call.{Call}
-use Rattle.sg_base.specs.declared.reply.Code.TheVariants.{NoDesc, BadState, NotOwner, Held}
+use Rattle.sg_facts.specs.sg_base.declared.call.Call.{Call}
+use Rattle.sg_facts.specs.sg_base.declared.reply.Code.TheVariants.{NoDesc, BadState, NotOwner, Held}
 use Rattle.sg_facts.specs.declared.entry.Entry.{Entry}
 use Rattle.test_histories.specs.Written.{call_of, ok, ok_at, refused, entry}
 

@@ -1,8 +1,8 @@
 -- Histories of the memory mapping service. Its functions: 1 mman_get_page, 2 mman_alias_page, 3 mman_release_page,
 -- 4 mman_find.
 use Rattle.std.specs.Prelude.{List, [], ◌∷◌}
-use Rattle.sg_base.specs.declared.value.Value.TheVariants.{Word}
-use Rattle.sg_base.specs.declared.reply.Code.TheVariants.{NoDesc, NoParent, Occupied, NotFound}
+use Rattle.sg_facts.specs.sg_base.declared.value.Value.TheVariants.{Word}
+use Rattle.sg_facts.specs.sg_base.declared.reply.Code.TheVariants.{NoDesc, NoParent, Occupied, NotFound}
 use Rattle.sg_facts.specs.declared.entry.Entry.{Entry}
 use Rattle.test_histories.specs.Written.{call_of, ok, ok_at, refused, entry}
 

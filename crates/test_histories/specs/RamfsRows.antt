@@ -1,7 +1,7 @@
 -- Histories of the file service. Its functions: 1 tsplit, 2 tread, 3 twrite, 4 tseek, 5 trelease.
 use Rattle.std.specs.Prelude.{List, [], ◌∷◌, codes}
-use Rattle.sg_base.specs.declared.value.Value.TheVariants.{Word, Text}
-use Rattle.sg_base.specs.declared.reply.Code.TheVariants.{NoDesc, NoParent, HasChildren, Gap, TooBig, BadName}
+use Rattle.sg_facts.specs.sg_base.declared.value.Value.TheVariants.{Word, Text}
+use Rattle.sg_facts.specs.sg_base.declared.reply.Code.TheVariants.{NoDesc, NoParent, HasChildren, Gap, TooBig, BadName}
 use Rattle.sg_facts.specs.declared.entry.Entry.{Entry}
 use Rattle.test_histories.specs.Written.{call_of, ok, ok_at, ok_with, ok_bytes, refused, entry}
 

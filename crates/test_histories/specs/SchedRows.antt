@@ -1,9 +1,9 @@
 -- Histories of the thread service. Its functions: 1 sched_create_thd, 2 sched_yield, 3 sched_sleep, 4 sched_wakeup,
 -- 5 sched_wait, 6 sched_next, 7 sched_place, 8 sched_exit.
 use Rattle.std.specs.Prelude.{List, [], ◌∷◌, ◌++◌}
-use Rattle.sg_base.specs.declared.value.Value.TheVariants.{Word}
-use Rattle.sg_base.specs.declared.call.Call.{Call}
-use Rattle.sg_base.specs.declared.reply.Code.TheVariants.{BadState, NotFound}
+use Rattle.sg_facts.specs.sg_base.declared.value.Value.TheVariants.{Word}
+use Rattle.sg_facts.specs.sg_base.declared.call.Call.{Call}
+use Rattle.sg_facts.specs.sg_base.declared.reply.Code.TheVariants.{BadState, NotFound}
 use Rattle.sg_facts.specs.declared.entry.Entry.{Entry}
 use Rattle.test_histories.specs.Written.{call_of, ok, ok_at, ok_with, refused, entry}
 

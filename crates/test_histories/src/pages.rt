@@ -1,5 +1,5 @@
 // Pages.
-ghost use Rattle.sg_base.specs.declared.reply.Code.TheVariants.{NoParent};
+ghost use Rattle.sg_facts.specs.sg_base.declared.reply.Code.TheVariants.{NoParent};
 ghost use Rattle.sg_facts.specs.Laws.{whole};
 ghost use Rattle.sg_facts.specs.Legal.{IsLegal};
 ghost use Rattle.sg_mm.specs.MmFacts.{mm_facts};

@@ -1,7 +1,7 @@
 // Which texts are sentences of the interface language, and where the others fail.
 use crate::sentences::Answer::{Lex, NoMemory, Syntax, Tree};
 use crate::{EVENT, LOCK, MM, RAMFS, SCHED};
-use sg_parse::{ParseError, parse};
+use sg_print::{ParseError, parse};
 use std::alloc::Global;
 use std::process::Abort;
 use std::test::Fail;
@@ -24,7 +24,7 @@ fn answer_on(alloc: Global, text: &[u8]) -> Answer {
     }
 }
 
-// What stands behind a front, and how the whole is answered; places count from the end of the front.
+// What stands after a front, and how the whole is answered; places count from the end of the front.
 type Case = (&'static [u8], Answer);
 
 static ALONE: [Case; 12] = [
@@ -101,7 +101,7 @@ static BEHIND_FACTS: [Case; 38] = [
     (b"desc_data f(a b);", Syntax(0)),
 ];
 
-// Asserts that each case is answered so behind the front.
+// Asserts that each case is answered so after the front.
 fn try_each(rt: &impl Abort, alloc: Global, front: &[u8], cases: &[Case]) -> Result<(), Fail> {
     for (tail, want) in cases {
         let mut text = Vec::from_slice(alloc, front)?;

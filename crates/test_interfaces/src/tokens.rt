@@ -1,10 +1,10 @@
 // The tokens of texts, with values from outside.
 use sg_lex::TokenKind::{Mark, Number, Text, Word};
-use sg_lex::{LexFault, Lexer, TokenKind, first_token};
+use sg_print::{LexFault, Lexer, TokenKind, first_token};
 use std::process::Abort;
 use std::test::Fail;
 
-// A text; its tokens, each by its kind, its place and its number of bytes; and the place of the fault behind them.
+// A text; its tokens, each by its kind, its place and its number of bytes; and the place of the fault after them.
 type Case = (
     &'static [u8],
     &'static [(TokenKind, usize, usize)],

@@ -1,7 +1,6 @@
 // What the tree of a text keeps, and texts that are printed as they stand.
 use crate::{EVENT, LOCK, MM, RAMFS, SCHED};
-use sg_parse::{Ret, Statement, parse};
-use sg_print::print;
+use sg_print::{Ret, Statement, parse, print};
 use std::test::Fail;
 
 // A statement of each kind, returns of each kind, forms, and stars.

@@ -1,13 +1,11 @@
 // The standard interfaces are those that the texts declare.
 ghost use Rattle.std.specs.Prelude.{◌≡◌, true};
-ghost use Rattle.sg_check.specs.Shapes.{is_shape};
-ghost use Rattle.sg_load.specs.Services.{facts_by};
+ghost use Rattle.sg_top.specs.sg_check.Shapes.{is_shape};
+ghost use Rattle.sg_top.specs.sg_load.Services.{facts_by};
 
-use sg_check::check;
 use sg_facts::{Interface, MOST_FUNS};
-use sg_load::{ServiceKind, standard};
-use sg_parse::parse;
 use sg_top::ServiceKind::{Events, Files, Locks, Pages, Threads};
+use sg_top::{ServiceKind, check, parse, standard};
 use std::alloc::Global;
 use std::process::Abort;
 use std::test::Fail;

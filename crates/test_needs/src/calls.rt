@@ -1,8 +1,7 @@
 // What is refused, and what is needed.
 use crate::rows::{ALLOC, add_lock, call};
-use sg_base::Code;
-use sg_needs::{guard, needs_of};
-use sg_track::Tracker;
+use sg_facts::Code;
+use sg_needs::{Tracker, guard, needs_of};
 use std::test::Fail;
 use test_tables::{lock_tables, ramfs_tables};
 

@@ -1,11 +1,10 @@
 // Calls, and rows of locks.
 ghost use Rattle.std.specs.Prelude.{◌≡◌, ◌+◌, [], OnOk};
-ghost use Rattle.sg_lock.specs.LockFacts.{lock_facts};
+ghost use Rattle.test_tables.specs.sg_lock.LockFacts.{lock_facts};
 ghost use Rattle.test_histories.specs.Written.{call_of};
 
-use sg_base::{Args, Bytes, Call, Good, NoMemory, Reply, Words};
-use sg_facts::Tables;
-use sg_track::Tracker;
+use sg_facts::{Args, Bytes, Call, Good, NoMemory, Reply, Tables, Words};
+use sg_needs::Tracker;
 use std::alloc::Global;
 
 /// The function that makes a lock.

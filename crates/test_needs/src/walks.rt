@@ -1,11 +1,10 @@
 // The walk of a row, and its calls.
 ghost use Rattle.std.specs.Prelude.{◌≡◌, ◌∷◌, [], ◌<◌, IfOk};
-ghost use Rattle.sg_base.specs.declared.value.Value.TheVariants.{Word};
-ghost use Rattle.sg_lock.specs.LockFacts.{lock_facts};
+ghost use Rattle.sg_facts.specs.sg_base.declared.value.Value.TheVariants.{Word};
+ghost use Rattle.test_tables.specs.sg_lock.LockFacts.{lock_facts};
 
 use crate::rows::ALLOC;
-use sg_base::{Call, NoMemory, Value};
-use sg_facts::{Fields, Row, Tables};
+use sg_facts::{Call, Fields, NoMemory, Row, Tables, Value};
 use sg_needs::{replayed_call, walk_of_row};
 use std::alloc::Global;
 use std::test::Fail;

@@ -1,9 +1,8 @@
 // What no clause says: that calls on pages are answered where there is memory.
 ghost use Rattle.std.specs.Prelude.{◌≡◌, [], ◌∷◌, IfOk};
-ghost use Rattle.sg_base.specs.declared.value.Value.TheVariants.{Word};
+ghost use Rattle.sg_facts.specs.sg_base.declared.value.Value.TheVariants.{Word};
 
-use sg_base::{Args, Call, Code, NoMemory, Reply, Stops, Value};
-use sg_facts::{Outcome, Service};
+use sg_facts::{Args, Call, Code, NoMemory, Outcome, Reply, Service, Stops, Value};
 use sg_mm::MmService;
 use std::alloc::Global;
 use std::test::Fail;

@@ -1,11 +1,11 @@
 -- A script of files, and its play. The functions: 1 tsplit, 2 tread, 3 twrite, 4 tseek, 5 trelease.
 use Rattle.std.specs.Prelude.{List, [], ◌∷◌, codes}
-use Rattle.sg_base.specs.declared.reply.Code.TheVariants.{NoDesc}
-use Rattle.sg_base.specs.declared.reply.Reply.TheVariants.{Refused}
-use Rattle.sg_base.specs.declared.value.Value.TheVariants.{Word as word, Text as text}
+use Rattle.sg_facts.specs.sg_base.declared.reply.Code.TheVariants.{NoDesc}
+use Rattle.sg_facts.specs.sg_base.declared.reply.Reply.TheVariants.{Refused}
+use Rattle.sg_facts.specs.sg_base.declared.value.Value.TheVariants.{Word as word, Text as text}
 use Rattle.sg_facts.specs.declared.entry.Entry.{Entry}
-use Rattle.sg_script.specs.declared.script.Arg.TheVariants.{Number, Text, Back}
-use Rattle.sg_script.specs.declared.script.Script.{Script}
+use Rattle.sg_plain.specs.sg_script.declared.script.Arg.TheVariants.{Number, Text, Back}
+use Rattle.sg_plain.specs.sg_script.declared.script.Script.{Script}
 use Rattle.test_plays.specs.LockPlays.{entry_of, made, ok_desc}
 
 -- client 1 seeks in a file, which is held till it returns; client 2 may not read it, and makes one of its own meanwhile

@@ -1,15 +1,15 @@
 -- Scripts of locks, and their plays. The functions: 1 lock_alloc, 2 lock_take, 3 lock_release, 4 lock_free.
 use Rattle.std.specs.Prelude.{ℕ, List, [], ◌∷◌}
-use Rattle.sg_base.specs.declared.call.Call.{Call}
-use Rattle.sg_base.specs.declared.reply.Reply.{Reply}
-use Rattle.sg_base.specs.declared.reply.Reply.TheVariants.{Ok}
+use Rattle.sg_facts.specs.sg_base.declared.call.Call.{Call}
+use Rattle.sg_facts.specs.sg_base.declared.reply.Reply.{Reply}
+use Rattle.sg_facts.specs.sg_base.declared.reply.Reply.TheVariants.{Ok}
 use Rattle.sg_facts.specs.declared.entry.Entry.{Entry}
-use Rattle.sg_hist.specs.declared.ended.End.{End}
-use Rattle.sg_hist.specs.declared.ended.End.TheVariants.{Done, Blocked}
-use Rattle.sg_script.specs.declared.script.Arg.{Arg}
-use Rattle.sg_script.specs.declared.script.Arg.TheVariants.{Number, Back}
-use Rattle.sg_script.specs.declared.script.Script.{Script}
-use Rattle.sg_script.specs.declared.script.ScriptCall.{ScriptCall}
+use Rattle.sg_plain.specs.sg_hist.declared.ended.End.{End}
+use Rattle.sg_plain.specs.sg_hist.declared.ended.End.TheVariants.{Done, Blocked}
+use Rattle.sg_plain.specs.sg_script.declared.script.Arg.{Arg}
+use Rattle.sg_plain.specs.sg_script.declared.script.Arg.TheVariants.{Number, Back}
+use Rattle.sg_plain.specs.sg_script.declared.script.Script.{Script}
+use Rattle.sg_plain.specs.sg_script.declared.script.ScriptCall.{ScriptCall}
 
 abbrev pub made : ℕ → List Arg → ScriptCall
 made fun args = record { fun = fun; args = args }

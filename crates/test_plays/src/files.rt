@@ -2,10 +2,10 @@
 ghost use Rattle.sg_facts.specs.Laws.{whole};
 ghost use Rattle.test_plays.specs.FilePlays.{held_reply, held_reply_history};
 ghost use Rattle.sg_plain.specs.Plain.{IsPlainPlay};
-ghost use Rattle.sg_ramfs.specs.RamfsFacts.{ramfs_facts};
-ghost use Rattle.sg_ramfs.specs.RamfsTable.{ramfs_table};
+ghost use Rattle.test_histories.specs.sg_ramfs.RamfsFacts.{ramfs_facts};
+ghost use Rattle.test_histories.specs.sg_ramfs.RamfsTable.{ramfs_table};
 
-/// A reply that others don't see is committed when it is handed over, behind what others did meanwhile.
+/// A reply that others don't see is committed when it is handed over, after what others did meanwhile.
 pub fn held_reply()
     ensures play { IsPlainPlay (whole ramfs_facts) ramfs_table held_reply held_reply_history }
 {}

@@ -1,10 +1,10 @@
 // What plays with stops promise.
 ghost use Rattle.std.specs.Prelude.{◌≡◌, [], false, true};
-ghost use Rattle.sg_event.specs.EventFacts.{event_facts};
-ghost use Rattle.sg_event.specs.EventTable.{event_table};
+ghost use Rattle.test_histories.specs.sg_event.EventFacts.{event_facts};
+ghost use Rattle.test_histories.specs.sg_event.EventTable.{event_table};
 ghost use Rattle.sg_facts.specs.Laws.{whole};
-ghost use Rattle.sg_lock.specs.LockFacts.{lock_facts};
-ghost use Rattle.sg_lock.specs.LockTable.{lock_table};
+ghost use Rattle.test_histories.specs.sg_lock.LockFacts.{lock_facts};
+ghost use Rattle.test_histories.specs.sg_lock.LockTable.{lock_table};
 ghost use Rattle.sg_plain.specs.Calls.{AreEnds};
 ghost use Rattle.sg_plain.specs.Plain.{IsPlainPlay};
 ghost use Rattle.sg_plain.specs.Promises.{AreScriptsCalls, AreScriptsStops, AreWoken, FollowsPlain, GetsPlainAlone, somebody_waits};
@@ -13,7 +13,7 @@ ghost use Rattle.test_plays.specs.StopPlays.{asked_in_vain, blocked_redone_scrip
 ghost use Rattle.test_recovery.specs.EventRuns.{blocked_redone, blocked_redone_ends, blocked_redone_history, trigger_not_twice, trigger_not_twice_ends, trigger_not_twice_history};
 ghost use Rattle.test_recovery.specs.LockRuns.{boot_without_a_stop, stop_after_take, stop_after_take_ends, stop_after_take_history, stop_before_storage, stop_before_storage_history, stop_in_walk, stop_in_walk_history};
 
-/// One client's four calls, with a stop behind the second: it gets the play without stops.
+/// One client's four calls, with a stop after the second: it gets the play without stops.
 pub fn stop_after_take()
     ensures calls { AreScriptsCalls lock_facts stop_after_take_script stop_after_take_history }
     ensures stops { AreScriptsStops stop_after_take_script stop_after_take }

@@ -1,6 +1,6 @@
 // What commands answer: tables of inputs, statuses and outputs. No clause says that an input is played where there is memory.
-use sg_base::NoMemory;
 use sg_edge::{MemSink, MemSource};
+use sg_facts::NoMemory;
 use sg_top::Status::{Done, ReadFault, Refused, Waits, WriteFault};
 use sg_top::{Status, serial};
 use std::alloc::{AllocError, Global};
@@ -8,7 +8,7 @@ use std::process::Abort;
 use std::test::Fail;
 use test_interfaces::{EVENT, LOCK, MM, RAMFS, SCHED};
 
-/// What stands behind a text in an input, and the status and the output that the input comes to.
+/// What stands after a text in an input, and the status and the output that the input comes to.
 pub type Case = (&'static [u8], Status, &'static [u8]);
 
 /// The line that divides an input.
@@ -36,7 +36,7 @@ const ONE_LOCK: &[u8] = b"c1.1 lock_alloc() = ok #1\nclient 1 done\ncalls 1 boot
 
 const ACCEPTED: &[u8] = b"accepted lock\n";
 
-/// Bytes behind others.
+/// Bytes after others.
 pub fn joined(alloc: Global, front: &[u8], back: &[u8]) -> Result<Vec<u8>, AllocError> {
     let mut bytes = Vec::from_slice(alloc, front)?;
     bytes.extend_from_slice(back)?;
@@ -81,7 +81,7 @@ pub fn answers(
     comes_to(alloc, (command, 0, 0), input, status, written)
 }
 
-// Each case behind this text comes to its status and its output.
+// Each case after this text comes to its status and its output.
 fn try_each(
     rt: &impl Abort,
     alloc: Global,
@@ -99,7 +99,7 @@ fn try_each(
     Ok(())
 }
 
-// Behind the interface of locks and the divider.
+// After the interface of locks and the divider.
 static SCRIPTS: [Case; 31] = [
     // one script in several spellings
     (
@@ -243,7 +243,7 @@ calls 3 boots 1 replays 0
     ),
 ];
 
-// Behind the interface of locks.
+// After the interface of locks.
 static DIVIDED: [Case; 9] = [
     (
         b"%%\r\nclient 1 { lock_alloc(); lock_take(1); lock_release(1); lock_free(1); }",
@@ -304,7 +304,7 @@ static TEXTS: [Case; 3] = [
 // The beginning of the interface of locks, for a service that there isn't.
 const DOOR: &[u8] = b"service_global_info = {\n    service = door";
 
-// Behind the interface of locks, where `check` reads the text.
+// After the interface of locks, where `check` reads the text.
 static CHECKED: [Case; 2] = [
     (b"", Done, ACCEPTED),
     (b"%%\n", Refused, b"interface refused at 26:1: Lex\n"),
@@ -325,7 +325,7 @@ static NARROWER: [Case; 3] = [
     ),
 ];
 
-// Behind the interface of locks without `lock_free`, and the divider.
+// After the interface of locks without `lock_free`, and the divider.
 static NARROWER_SCRIPTS: [Case; 2] = [
     (
         b"client 1 { lock_free(1); }",

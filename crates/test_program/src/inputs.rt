@@ -1,10 +1,10 @@
 // Where inputs are divided, and in which order they are refused.
-use sg_base::NoMemory;
-use sg_input::{Input, cut, one_cut, one_input, read_input};
+use sg_facts::NoMemory;
+use sg_top::{Input, cut, one_cut, one_input, read_input};
 use std::alloc::Global;
 use std::test::Fail;
 
-// An input, and the texts before and behind its first divider.
+// An input, and the texts before and after its first divider.
 static CUTS: [(&[u8], &[u8], &[u8]); 15] = [
     (b"a\n%%\nb", b"a\n", b"b"),
     (b"%%\nb\n", b"", b"b\n"),
@@ -22,7 +22,7 @@ static CUTS: [(&[u8], &[u8], &[u8]); 15] = [
     // within a comment and within a text
     (b"/* a\n%%\nb */", b"/* a\n", b"b */"),
     (b"\"a\n%%\nb\"", b"\"a\n", b"b\""),
-    // behind lines that aren't dividers
+    // after lines that aren't dividers
     (b"%%%\n %%\n%% \n%%\nb", b"%%%\n %%\n%% \n", b"b"),
     (b"%%\r\r\n%\n%%\r\nb", b"%%\r\r\n%\n", b"b"),
     (b"//%%\n%%b\n%%\n", b"//%%\n%%b\n", b""),

@@ -1,8 +1,7 @@
 // The longest inputs, texts and scripts, and longer ones.
 use crate::answers::{DIVIDER, NOTHING, answers, joined};
-use sg_input::{MOST_DIVIDER, MOST_INPUT, MOST_INTERFACE, MOST_SCRIPT};
-use sg_top::Command;
 use sg_top::Status::{Done, Refused};
+use sg_top::{Command, MOST_DIVIDER, MOST_INPUT, MOST_INTERFACE, MOST_SCRIPT};
 use std::alloc::{AllocError, Global};
 use std::fmt::Write;
 use std::test::Fail;
@@ -12,7 +11,7 @@ const TOO_LONG: &[u8] = b"input refused: TooLong\n";
 
 const NO_DIVIDER: &[u8] = b"input refused: NoDivider\n";
 
-// Bytes, and blanks behind them up to this length.
+// Bytes, and blanks after them up to this length.
 fn padded(alloc: Global, bytes: &[u8], length: usize) -> Result<Vec<u8>, AllocError> {
     let mut padded = Vec::from_slice(alloc, bytes)?;
     for _ in bytes.len()..length {
@@ -73,7 +72,7 @@ fn refuses_longer_inputs(rt: HostRuntime) -> Result<(), Fail> {
     Ok(())
 }
 
-// The input of a call so many times, each on a line of its own behind the first.
+// The input of a call so many times, each on a line of its own after the first.
 fn input_of_calls(alloc: Global, call: &[u8], calls: usize) -> Result<Vec<u8>, AllocError> {
     let front = joined(alloc, LOCK, DIVIDER)?;
     let mut input = joined(alloc, &front, b"client 1 {\n")?;

@@ -1,11 +1,10 @@
 // Printed runs. No clause says that a run is printed where there is memory, nor what a whole report looks like.
-use sg_base::{Args, Bytes, Call, Code, Good, NoMemory, PairList, Path, Reply, Text, Value, Words};
 use sg_facts::{
-    BootList, BootLog, Entry, FunShape, Interface, Item, ItemList, Kind, Leaves, Outcome, Parents,
-    Shape, Tag, Trace,
+    Args, BootList, BootLog, Bytes, Call, Code, Entry, FunShape, Good, Interface, Item, ItemList,
+    Kind, Leaves, NoMemory, Outcome, PairList, Parents, Path, Reply, Shape, Tag, Text, Trace,
+    Value, Words,
 };
-use sg_hist::{End, EndList, Ended, History};
-use sg_report::text;
+use sg_top::{End, EndList, Ended, History, text};
 use std::alloc::Global;
 use std::test::Fail;
 

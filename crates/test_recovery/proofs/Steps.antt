@@ -1,7 +1,7 @@
 -- A run of locks that recovers so far, step by step.
 use Rattle.std.proofs.Common.{◌≤◌, refl, arith, [], ◌∷◌, None, Some}
 use Rattle.std.proofs.lemmas.List.Elements.{Contains-append_left}
-use Rattle.sg_base.specs.declared.call.Call.{Call}
+use Rattle.sg_facts.specs.sg_base.declared.call.Call.{Call}
 use Rattle.sg_facts.specs.declared.entry.Entry.{Entry}
 use Rattle.sg_facts.specs.declared.trace.Item.{Item}
 use Rattle.test_recovery.specs.LockRuns.{lock_stubs, rebuilt_for_take}
@@ -9,7 +9,7 @@ use Rattle.test_histories.specs.Written.{entry, ok_at}
 use Rattle.test_recovery.specs.Written.{bare_call, called, replied, walked}
 use Rattle.sg_recovery_laws.proofs.Lists.{each_contains}
 use Rattle.sg_recovery_laws.proofs.Onward.{booted_stays, committed_stays, made_stays, noted_stays, nothing_yet, struck_stays}
-use Rattle.sg_hist.specs.Growing.{IsItemOf, IsNextItem, IsRecovering, booted, noted, place_behind, struck}
+use Rattle.sg_recovery_laws.specs.sg_hist.Growing.{IsItemOf, IsNextItem, IsRecovering, booted, noted, place_after, struck}
 
 abbrev alloc : Call
 alloc = bare_call 1 1 1 0
@@ -35,10 +35,10 @@ committed : IsRecovering lock_stubs (made ∷ []) (record { boots = noted (boote
 committed = committed_stays lock_stubs [] (record { items = []; stop = None }) [] 0 5 (alloc ∷ []) [] first made tt its
     (λ call c same. each_contains (λ x. x.seq ≤ 1) (alloc ∷ []) call (omega arith, tt) c) (λ call c. c) next offered
   where
-    its : IsItemOf lock_stubs.interface.facts [] (place_behind [] (booted []) first) made
+    its : IsItemOf lock_stubs.interface.facts [] (place_after [] (booted []) first) made
     its = record { tagged = refl; served = refl; shown = refl; reply = (refl, refl, refl) }
 
-    next : IsNextItem lock_stubs (made ∷ []) [] (place_behind [] (booted []) first)
+    next : IsNextItem lock_stubs (made ∷ []) [] (place_after [] (booted []) first)
     next = record {
       running = refl;
       table = (refl, refl);
@@ -58,7 +58,7 @@ pub rebuilt_for_take-recovering : IsRecovering lock_stubs (made ∷ []) rebuilt_
 rebuilt_for_take-recovering = noted_stays lock_stubs (made ∷ []) (record { items = first ∷ []; stop = Some 5 }) (record { items = []; stop = None } ∷ []) 5 9 (take ∷ []) (take ∷ []) again
     (refl, tt) refl (λ call c. c) next rebooted
   where
-    next : IsNextItem lock_stubs (made ∷ []) (take ∷ []) (place_behind [] (booted (struck (noted (booted []) first) 5)) again)
+    next : IsNextItem lock_stubs (made ∷ []) (take ∷ []) (place_after [] (booted (struck (noted (booted []) first) 5)) again)
     next = record {
       running = refl;
       table = (refl, refl);

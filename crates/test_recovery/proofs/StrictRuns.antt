@@ -2,10 +2,10 @@
 use Rattle.std.proofs.Common.{◌≡◌, ◌∙◌, ap, arith, inl, inr, refl, subst, sym}
 use Rattle.std.specs.Prelude.{ℕ, ◌&&◌, ◌<◌, ◌⊎◌, ◌≢◌, IsSome, None, Some, [], ◌∷◌, false, nat_lt, true}
 use Rattle.std.proofs.lemmas.Bool.Decides.{nat_tests}
-use Rattle.sg_base.specs.Lists.{Each}
+use Rattle.sg_facts.specs.sg_base.Lists.{Each}
 use Rattle.sg_facts.specs.Guard.{guard}
-use Rattle.sg_hist.specs.Reading.{Position, object_before}
-use Rattle.sg_hist.specs.Recovered.{HasRecovered, IsRebuiltFor, IsRecovered, IsUsed, calls_made}
+use Rattle.sg_recovery_laws.specs.sg_hist.Reading.{Position, object_before}
+use Rattle.sg_recovery_laws.specs.sg_hist.Recovered.{HasRecovered, IsRebuiltFor, IsRecovered, IsUsed, calls_made}
 use Rattle.sg_recovery_laws.proofs.Lists.{each_contains}
 use Rattle.test_histories.specs.Written.{ok_at}
 use Rattle.test_recovery.specs.EventRuns.{event_stubs}

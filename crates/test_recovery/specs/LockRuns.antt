@@ -5,11 +5,11 @@ use Rattle.sg_facts.specs.declared.outcome.Outcome.TheVariants.{Stopped}
 use Rattle.sg_facts.specs.declared.tables.WalkLine.{WalkLine}
 use Rattle.sg_facts.specs.Laws.{whole}
 use Rattle.sg_facts.specs.Trace.{Run}
-use Rattle.sg_hist.specs.declared.ended.End.{End}
-use Rattle.sg_hist.specs.declared.ended.End.TheVariants.{Done}
-use Rattle.sg_lock.specs.LockFacts.{lock_facts}
-use Rattle.sg_lock.specs.LockTable.{lock_parts, lock_table}
-use Rattle.sg_hist.specs.Recovered.{Stubs}
+use Rattle.sg_recovery_laws.specs.sg_hist.declared.ended.End.{End}
+use Rattle.sg_recovery_laws.specs.sg_hist.declared.ended.End.TheVariants.{Done}
+use Rattle.test_histories.specs.sg_lock.LockFacts.{lock_facts}
+use Rattle.test_histories.specs.sg_lock.LockTable.{lock_parts, lock_table}
+use Rattle.sg_recovery_laws.specs.sg_hist.Recovered.{Stubs}
 use Rattle.test_histories.specs.Written.{entry, ok, ok_at}
 use Rattle.test_recovery.specs.Written.{boot, bare_call, called, replied, walked}
 

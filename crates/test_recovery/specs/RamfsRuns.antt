@@ -1,16 +1,16 @@
 -- Runs of the ramfs service. Its functions: 1 tsplit, 2 tread, 3 twrite, 4 tseek, 5 trelease.
 use Rattle.std.specs.Prelude.{ℕ, List, [], ◌∷◌, None, Some, codes}
-use Rattle.sg_base.specs.declared.reply.Code.TheVariants.{Gap, NoDesc}
-use Rattle.sg_base.specs.declared.reply.Reply.TheVariants.{Refused}
+use Rattle.sg_facts.specs.sg_base.declared.reply.Code.TheVariants.{Gap, NoDesc}
+use Rattle.sg_facts.specs.sg_base.declared.reply.Reply.TheVariants.{Refused}
 use Rattle.sg_facts.specs.declared.entry.Entry.{Entry}
 use Rattle.sg_facts.specs.declared.tables.WalkLine.{WalkLine}
 use Rattle.sg_facts.specs.Laws.{whole}
 use Rattle.sg_facts.specs.Trace.{Run}
-use Rattle.sg_hist.specs.declared.ended.End.{End}
-use Rattle.sg_hist.specs.declared.ended.End.TheVariants.{Done}
-use Rattle.sg_ramfs.specs.RamfsFacts.{ramfs_facts}
-use Rattle.sg_ramfs.specs.RamfsTable.{ramfs_parts, ramfs_table}
-use Rattle.sg_hist.specs.Recovered.{Stubs}
+use Rattle.sg_recovery_laws.specs.sg_hist.declared.ended.End.{End}
+use Rattle.sg_recovery_laws.specs.sg_hist.declared.ended.End.TheVariants.{Done}
+use Rattle.test_histories.specs.sg_ramfs.RamfsFacts.{ramfs_facts}
+use Rattle.test_histories.specs.sg_ramfs.RamfsTable.{ramfs_parts, ramfs_table}
+use Rattle.sg_recovery_laws.specs.sg_hist.Recovered.{Stubs}
 use Rattle.test_histories.specs.Written.{entry, ok, ok_at, ok_bytes, ok_with}
 use Rattle.test_recovery.specs.Written.{boot, brought, call_with, called, replied, text, walked, word, written}
 
@@ -90,7 +90,7 @@ held_lost = record {
   points = 25;
 }
 
--- a reply that others don't see is committed behind a creation that was asked for later
+-- a reply that others don't see is committed after a creation that was asked for later
 abbrev pub held_behind_history : List Entry
 held_behind_history =
     entry (call_with 1 1 1 0 ((text (codes "a")) ∷ [])) (ok_at 1)

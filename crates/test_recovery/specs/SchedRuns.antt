@@ -5,11 +5,11 @@ use Rattle.sg_facts.specs.declared.outcome.Outcome.TheVariants.{Blocks}
 use Rattle.sg_facts.specs.declared.tables.WalkLine.{WalkLine}
 use Rattle.sg_facts.specs.Laws.{whole}
 use Rattle.sg_facts.specs.Trace.{Run}
-use Rattle.sg_hist.specs.declared.ended.End.{End}
-use Rattle.sg_hist.specs.declared.ended.End.TheVariants.{Done}
-use Rattle.sg_sched.specs.SchedFacts.{sched_facts}
-use Rattle.sg_sched.specs.SchedTable.{sched_parts, sched_table}
-use Rattle.sg_hist.specs.Recovered.{Stubs}
+use Rattle.sg_recovery_laws.specs.sg_hist.declared.ended.End.{End}
+use Rattle.sg_recovery_laws.specs.sg_hist.declared.ended.End.TheVariants.{Done}
+use Rattle.test_histories.specs.sg_sched.SchedFacts.{sched_facts}
+use Rattle.test_histories.specs.sg_sched.SchedTable.{sched_parts, sched_table}
+use Rattle.sg_recovery_laws.specs.sg_hist.Recovered.{Stubs}
 use Rattle.test_histories.specs.Written.{entry, ok, ok_at, ok_with}
 use Rattle.test_recovery.specs.Written.{boot, bare_call, call_with, called, replied, walked, word}
 

@@ -1,20 +1,20 @@
 -- Runs that do not recover, each for one reason alone: a client's own order, the guard, a call that would have been answered, the
 -- boot of a held reply, boots that were for nothing, and walks of other tables.
 use Rattle.std.specs.Prelude.{ℕ, List, [], ◌∷◌, None, Some, codes}
-use Rattle.sg_base.specs.declared.call.Call.{Call}
-use Rattle.sg_base.specs.declared.reply.Code.TheVariants.{BadState, NoDesc}
-use Rattle.sg_base.specs.declared.reply.Reply.TheVariants.{Refused}
+use Rattle.sg_facts.specs.sg_base.declared.call.Call.{Call}
+use Rattle.sg_facts.specs.sg_base.declared.reply.Code.TheVariants.{BadState, NoDesc}
+use Rattle.sg_facts.specs.sg_base.declared.reply.Reply.TheVariants.{Refused}
 use Rattle.sg_facts.specs.declared.entry.Entry.{Entry}
 use Rattle.sg_facts.specs.declared.outcome.Outcome.TheVariants.{Stopped}
 use Rattle.sg_facts.specs.declared.tables.WalkLine.{WalkLine}
 use Rattle.sg_facts.specs.declared.trace.Item.{Item}
 use Rattle.sg_facts.specs.Laws.{whole}
 use Rattle.sg_facts.specs.Trace.{Run}
-use Rattle.sg_hist.specs.declared.ended.End.{End}
-use Rattle.sg_hist.specs.declared.ended.End.TheVariants.{Done}
-use Rattle.sg_hist.specs.Recovered.{Stubs}
-use Rattle.sg_lock.specs.LockFacts.{lock_facts}
-use Rattle.sg_lock.specs.LockTable.{lock_parts, lock_table}
+use Rattle.sg_recovery_laws.specs.sg_hist.declared.ended.End.{End}
+use Rattle.sg_recovery_laws.specs.sg_hist.declared.ended.End.TheVariants.{Done}
+use Rattle.sg_recovery_laws.specs.sg_hist.Recovered.{Stubs}
+use Rattle.test_histories.specs.sg_lock.LockFacts.{lock_facts}
+use Rattle.test_histories.specs.sg_lock.LockTable.{lock_parts, lock_table}
 use Rattle.test_histories.specs.Written.{entry, ok, ok_at, ok_with}
 use Rattle.test_recovery.specs.Written.{bare_call, boot, call_with, called, replied, text, walked, word, written}
 

@@ -1,6 +1,6 @@
 // Runs of events.
 ghost use Rattle.test_recovery.specs.EventRuns.{event_stubs, earlier_value, trigger_not_twice, trigger_not_twice_ends, trigger_not_twice_history, present_value, present_value_ends, present_value_history, blocked_redone, blocked_redone_ends, blocked_redone_history};
-ghost use Rattle.sg_hist.specs.Recovered.{IsRecovered, waiting};
+ghost use Rattle.sg_recovery_laws.specs.sg_hist.Recovered.{IsRecovered, waiting};
 
 /// A trigger is committed before the stop, and the other client gets its count once.
 pub fn trigger_not_twice()

@@ -1,6 +1,6 @@
 // Runs of files.
 ghost use Rattle.test_recovery.specs.RamfsRuns.{ramfs_stubs, loaded_twice, file_loaded, file_loaded_ends, file_loaded_history, held_behind, held_behind_ends, held_behind_history, held_lost, held_lost_ends, held_lost_history};
-ghost use Rattle.sg_hist.specs.Recovered.{IsRecovered, waiting};
+ghost use Rattle.sg_recovery_laws.specs.sg_hist.Recovered.{IsRecovered, waiting};
 
 /// A file that was written before the stop is loaded before it is read.
 pub fn file_loaded()
@@ -12,7 +12,7 @@ pub fn held_lost()
     ensures recovered { IsRecovered ramfs_stubs held_lost_history held_lost (waiting held_lost_ends) }
 {}
 
-/// A reply that others don't see is committed behind a creation that was asked for later.
+/// A reply that others don't see is committed after a creation that was asked for later.
 pub fn held_behind()
     ensures recovered { IsRecovered ramfs_stubs held_behind_history held_behind (waiting held_behind_ends) }
 {}

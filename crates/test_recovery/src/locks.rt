@@ -1,8 +1,8 @@
 // Runs of locks.
 ghost use Rattle.std.specs.Prelude.{◌≡◌, ◌∷◌, [], false};
 ghost use Rattle.test_recovery.specs.LockRuns.{lock_stubs, out_of_order, two_makers_ends, two_makers_history, point_asked_in_vain, rebuilt_for_take, another_id, boot_without_a_stop, asked_after_a_stop, reply_without_an_item, taken_twice, walk_from_its_middle, walk_by_another, walk_too_long, rebuilt_for_nobody, rebuilt_too_late, served_without_a_walk, half_a_walk, stop_at_another_number, point_left_out, rebuilt_needlessly, two_locks_ends, two_locks_history, stop_after_take, stop_after_take_ends, stop_after_take_history, stop_before_storage, stop_before_storage_ends, stop_before_storage_history, stop_in_walk, stop_in_walk_ends, stop_in_walk_history};
-ghost use Rattle.sg_hist.specs.Recovered.{ArePointsOf, IsRecovered, struck_in, waiting};
-ghost use Rattle.sg_hist.specs.Growing.{IsRecovering};
+ghost use Rattle.sg_recovery_laws.specs.sg_hist.Recovered.{ArePointsOf, IsRecovered, struck_in, waiting};
+ghost use Rattle.sg_recovery_laws.specs.sg_hist.Growing.{IsRecovering};
 ghost use Rattle.test_histories.specs.Written.{entry, ok_at};
 ghost use Rattle.test_recovery.specs.Written.{bare_call};
 

@@ -1,6 +1,6 @@
 // Runs of pages.
 ghost use Rattle.test_recovery.specs.MmRuns.{mm_stubs, child_first, parent_first, parent_first_ends, parent_first_history, occupied_after_stop, occupied_after_stop_ends, occupied_after_stop_history, subtree, subtree_ends, subtree_history};
-ghost use Rattle.sg_hist.specs.Recovered.{IsRecovered, waiting};
+ghost use Rattle.sg_recovery_laws.specs.sg_hist.Recovered.{IsRecovered, waiting};
 
 /// A page is rebuilt after the page that it was made from.
 pub fn parent_first()

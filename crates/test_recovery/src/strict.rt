@@ -1,6 +1,6 @@
 // Runs that one part alone refuses.
 ghost use Rattle.std.specs.Prelude.{◌∷◌, []};
-ghost use Rattle.sg_hist.specs.Recovered.{HasRecovered, IsRecovered};
+ghost use Rattle.sg_recovery_laws.specs.sg_hist.Recovered.{HasRecovered, IsRecovered};
 ghost use Rattle.test_recovery.specs.EventRuns.{event_stubs};
 ghost use Rattle.test_recovery.specs.LockRuns.{lock_stubs};
 ghost use Rattle.test_recovery.specs.RamfsRuns.{ramfs_stubs};
@@ -72,7 +72,7 @@ pub fn empty_boot_more()
     ensures recovered { IsRecovered lock_stubs one_made empty_boot_more [] }
 {}
 
-/// A run that ended hasn't recovered where it was booted so behind a second stop.
+/// A run that ended hasn't recovered where it was booted so after a second stop.
 pub fn two_boots_more()
     ensures wrong { HasRecovered lock_stubs one_made two_boots_more one_made_ends → ⊥ }
 {}

@@ -1,6 +1,6 @@
 // Runs of threads.
 ghost use Rattle.test_recovery.specs.SchedRuns.{sched_stubs, service_id_shown, shown_id_ends, shown_id_history, ranks_kept, ranks_kept_ends, ranks_kept_history, one_walk_two_clients, one_walk_two_clients_ends, one_walk_two_clients_history};
-ghost use Rattle.sg_hist.specs.Recovered.{IsRecovered, waiting};
+ghost use Rattle.sg_recovery_laws.specs.sg_hist.Recovered.{IsRecovered, waiting};
 
 /// Threads come back under other ids of the service, with their ranks.
 pub fn ranks_kept()

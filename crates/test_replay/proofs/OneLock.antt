@@ -3,10 +3,10 @@ use Rattle.std.proofs.Common.{◌≡◌, ℕ, ◌+◌, ◌≤◌, ◌<◌, true,
 use Rattle.std.specs.Prelude.{◌^◌}
 use Rattle.std.specs.declared.option.Option.{Option}
 use Rattle.std.specs.declared.result.Result.TheVariants.{Ok as Done}
-use Rattle.sg_base.specs.declared.call.Call.{Call}
-use Rattle.sg_base.specs.declared.reply.Good.{Good}
-use Rattle.sg_base.specs.declared.reply.Reply.{Reply}
-use Rattle.sg_base.specs.declared.reply.Reply.TheVariants.{Ok, Refused}
+use Rattle.sg_facts.specs.sg_base.declared.call.Call.{Call}
+use Rattle.sg_facts.specs.sg_base.declared.reply.Good.{Good}
+use Rattle.sg_facts.specs.sg_base.declared.reply.Reply.{Reply}
+use Rattle.sg_facts.specs.sg_base.declared.reply.Reply.TheVariants.{Ok, Refused}
 use Rattle.sg_facts.specs.declared.outcome.Patch.{Patch}
 use Rattle.sg_facts.specs.Alike.{under_names}
 use Rattle.sg_facts.specs.Invoke.{Points}
@@ -14,11 +14,11 @@ use Rattle.sg_facts.specs.Kinds.{MayAsk}
 use Rattle.sg_facts.specs.Needs.{Needs, needs}
 use Rattle.sg_facts.specs.Object.{Object, after, empty_object, patch_of}
 use Rattle.sg_facts.specs.Track.{row_at}
-use Rattle.sg_hist.specs.Recovered.{call_in}
-use Rattle.sg_lock.specs.LockFacts.{lock_facts}
-use Rattle.sg_lock.specs.LockTable.{lock_parts, lock_table}
-use Rattle.sg_name.specs.Names.{named_at}
-use Rattle.sg_name.specs.declared.named.Standing.{Standing}
+use Rattle.sg_replay.specs.sg_hist.Recovered.{call_in}
+use Rattle.test_tables.specs.sg_lock.LockFacts.{lock_facts}
+use Rattle.test_tables.specs.sg_lock.LockTable.{lock_parts, lock_table}
+use Rattle.sg_replay.specs.sg_name.Names.{named_at}
+use Rattle.sg_replay.specs.sg_name.declared.named.Standing.{Standing}
 use Rattle.sg_replay.proofs.Naming.{named_in_pairs, real_or_zero}
 use Rattle.sg_replay.specs.declared.advance.Advanced.{Advanced}
 use Rattle.sg_replay.specs.declared.advance.Advanced.TheVariants.{Replayed, Loaded, Struck}
@@ -29,8 +29,8 @@ use Rattle.sg_replay.specs.Replaying.{IsReplayable, MayAdvance, Replays, Replays
 use Rattle.sg_replay.specs.Serving.{IsReplyTold, MayServe, TellsReply, pairs_of, real_call}
 use Rattle.sg_replay.specs.declared.todo.Todo.{Todo}
 use Rattle.sg_replay.specs.declared.todo.Todo.TheVariants.{Walk as ToWalk}
-use Rattle.sg_store.specs.Stored.{tracked_in}
-use Rattle.sg_track.specs.Tracked.{MayTrack, Tracked}
+use Rattle.sg_replay.specs.sg_store.Stored.{tracked_in}
+use Rattle.sg_replay.specs.sg_track.Tracked.{MayTrack, Tracked}
 use Rattle.test_histories.specs.Written.{call_of, ok_at}
 use Rattle.test_replay.specs.Turns.{HasFirst, IsFresh, IsRebuilt, WalksLocks, first_lock, one_lock}
 

@@ -1,13 +1,13 @@
 -- A lock that is made, lost in a stop, and rebuilt.
 use Rattle.std.specs.Prelude.{◌≡◌, [], ◌∷◌, Some}
-use Rattle.sg_base.specs.declared.value.Value.TheVariants.{Word}
+use Rattle.sg_facts.specs.sg_base.declared.value.Value.TheVariants.{Word}
 use Rattle.sg_facts.specs.declared.row.Row.{Row}
 use Rattle.sg_facts.specs.Object.{Object, empty_object}
 use Rattle.sg_facts.specs.Tables.{Compiled}
-use Rattle.sg_hist.specs.Reading.{walk_in}
-use Rattle.sg_lock.specs.LockFacts.{lock_facts}
-use Rattle.sg_name.specs.Names.{named_at}
-use Rattle.sg_name.specs.declared.named.Named.TheVariants.{Live}
+use Rattle.sg_replay.specs.sg_hist.Reading.{walk_in}
+use Rattle.test_tables.specs.sg_lock.LockFacts.{lock_facts}
+use Rattle.sg_replay.specs.sg_name.Names.{named_at}
+use Rattle.sg_replay.specs.sg_name.declared.named.Named.TheVariants.{Live}
 use Rattle.sg_replay.specs.Engined.{Engined}
 
 -- the first lock, which client 1 made and nobody owns

@@ -3,13 +3,13 @@ ghost use Rattle.std.specs.Prelude.{◌≤◌};
 ghost use Rattle.test_replay.specs.Turns.{HasNone, IsFresh, WalksLocks};
 
 use crate::turns::{first_take, lose, make, rebuild, take, walked_tables};
-use sg_base::{Call, NoMemory, Reply, Value};
-use sg_lock::LockService;
+use sg_facts::{Call, NoMemory, Reply, Value};
 use sg_replay::{Advanced, Engine, Todo};
 use std::alloc::Global;
 use std::process::Abort;
 use std::test::Fail;
 use test_asking::Once;
+use test_tables::LockService;
 
 // What is missing for a call.
 fn missing(

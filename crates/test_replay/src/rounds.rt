@@ -1,19 +1,16 @@
 // A stop, a boot, and what an engine tells then.
 ghost use Rattle.std.specs.Prelude.{◌≡◌, ◌≤◌, None, IsSome, OnOk};
 
-use sg_base::{Call, NoMemory};
-use sg_event::EventService;
-use sg_facts::Service;
-use sg_lock::LockService;
-use sg_mm::MmService;
-use sg_ramfs::RamfsService;
+use sg_facts::{Call, NoMemory, Service};
 use sg_replay::Engine;
-use sg_sched::SchedService;
 use std::alloc::Global;
 use std::process::Abort;
 use std::test::Fail;
 use test_asking::call;
-use test_tables::{event_tables, lock_tables, mm_tables, ramfs_tables, sched_tables};
+use test_tables::{
+    EventService, LockService, MmService, RamfsService, SchedService, event_tables, lock_tables,
+    mm_tables, ramfs_tables, sched_tables,
+};
 
 // Whether an engine is up in a boot, after so many points, with nothing of the first descriptor and the first client.
 fn is_empty_in<S: Service>(engine: &Engine<S>, boot: u64, points: u64) -> bool {

@@ -1,18 +1,16 @@
 // A lock that is made, lost in a stop, rebuilt, and taken.
 ghost use Rattle.std.specs.Prelude.{◌≡◌, ◌≤◌, true, [], IfOk, IsSome, OnOk};
-ghost use Rattle.sg_lock.specs.LockFacts.{lock_facts};
+ghost use Rattle.test_tables.specs.sg_lock.LockFacts.{lock_facts};
 ghost use Rattle.sg_replay.specs.declared.advance.Advanced.TheVariants.{Replayed};
 ghost use Rattle.test_histories.specs.Written.{call_of};
 ghost use Rattle.test_replay.specs.Turns.{HasFirst, HasNone, IsFresh, IsRebuilt, WalksLocks};
 
-use sg_base::Call;
-use sg_facts::{Outcome, Tables};
-use sg_lock::LockService;
+use sg_facts::{Call, Outcome, Tables};
 use sg_replay::{Advanced, Engine};
 use std::alloc::Global;
 use std::test::Fail;
 use test_asking::{Once, call};
-use test_tables::lock_tables;
+use test_tables::{LockService, lock_tables};
 
 /// The function that makes a lock.
 const ALLOC: u8 = 1;

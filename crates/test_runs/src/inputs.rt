@@ -1,11 +1,11 @@
 // Runs whose inputs are made: long ones, other interfaces, and what is refused.
 use crate::runs::{comes_to, input_of};
-use sg_base::NoMemory;
+use sg_edge::NoMemory;
 use std::alloc::Global;
 use std::test::Fail;
 use test_interfaces::{LOCK, RAMFS};
 
-// A word, how often each line of the interface of locks stands in which it is, the command, what stands behind the interface, and
+// A word, how often each line of the interface of locks stands in which it is, the command, what stands after the interface, and
 // the status with what is printed.
 type Changed = (
     &'static str,
@@ -131,7 +131,7 @@ fn refuses_inputs(rt: HostRuntime) -> Result<(), Fail> {
     Ok(())
 }
 
-// A text, and a piece behind it so often.
+// A text, and a piece after it so often.
 fn repeated(alloc: Global, front: &str, piece: &str, times: u32) -> Result<String, NoMemory> {
     let mut text = front.to_string(alloc)?;
     for _ in 0..times {

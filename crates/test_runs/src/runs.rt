@@ -1,7 +1,6 @@
 // Whether each run comes out as it is written.
 use crate::texts::{EVENTS, FILES, LOCKS, PAGES, THREADS};
-use sg_base::NoMemory;
-use sg_edge::{Gate, MemSink, MemSource, OpenGate};
+use sg_edge::{Gate, MemSink, MemSource, NoMemory, OpenGate};
 use sg_top::superglue;
 use std::alloc::Global;
 use std::process::Abort;

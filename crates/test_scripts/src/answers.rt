@@ -1,8 +1,7 @@
 // What is answered on a script, and what is to be.
 use crate::shapes::known_shapes;
-use sg_check::{Accepted, check};
+use sg_check::{Accepted, check, parse};
 use sg_facts::Interface;
-use sg_parse::parse;
 use sg_script::{ScriptError, ScriptKind, read};
 use std::alloc::Global;
 use std::process::Abort;

@@ -32,7 +32,7 @@ fn on_calls(alloc: Global, calls: usize) -> Result<Answer, Fail> {
     answer_on(alloc, LOCK, script.as_slice())
 }
 
-// The answer on so many calls in a setup behind 1,000 of client 7.
+// The answer on so many calls in a setup after 1,000 of client 7.
 fn on_parts(alloc: Global, calls: usize) -> Result<Answer, Fail> {
     let mut script = repeated(alloc, b"client 7 {", b" lock_alloc();", 1_000, b" }")?;
     let setup = repeated(alloc, b"setup   {", b" lock_alloc();", calls, b" }")?;
@@ -62,7 +62,7 @@ fn on_text(alloc: Global, bytes: usize) -> Result<Answer, Fail> {
 
 static TEN: &[u8] = b" 10 11 12 13 14 15 16 17 18 19";
 
-// 60 stops of two digits, with some before and some behind them.
+// 60 stops of two digits, with some before and some after them.
 fn on_stops(alloc: Global, before: &[u8], behind: &[u8]) -> Result<Answer, Fail> {
     let mut script = Vec::from_slice(alloc, before)?;
     for tens in b'1'..=b'6' {

@@ -1,5 +1,5 @@
 // Which texts are scripts, where the others fail, and what the parts of a script keep.
-use sg_script_parse::{ScriptSyntax, Part, Spelled, WrittenArg, parse};
+use sg_script::{Part, ScriptSyntax, Spelled, WrittenArg, parse};
 use std::alloc::Global;
 use std::process::Abort;
 use std::test::Fail;

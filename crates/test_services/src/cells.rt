@@ -2,9 +2,8 @@
 ghost use Rattle.std.specs.Prelude.{◌≡◌, Some, IsSome, OnOk};
 ghost use Rattle.sg_facts.specs.Object.{empty_object};
 
-use sg_base::{Good, Reply, Stops};
 use sg_boot::Cell;
-use sg_facts::{Outcome, Tag};
+use sg_facts::{Good, Outcome, Reply, Stops, Tag};
 use sg_lock::LockService;
 use std::alloc::Global;
 use std::test::Fail;

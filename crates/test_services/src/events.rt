@@ -1,13 +1,12 @@
 // What no clause says: that calls on an event are answered where there is memory.
 ghost use Rattle.std.specs.Prelude.{◌≡◌, ◌≤◌, ◌≢◌, [], ◌∷◌, IfOk, OnOk};
-ghost use Rattle.sg_base.specs.declared.value.Value.TheVariants.{Word};
+ghost use Rattle.sg_facts.specs.sg_base.declared.value.Value.TheVariants.{Word};
 ghost use Rattle.sg_facts.specs.Object.{empty_object};
-ghost use Rattle.sg_slots.specs.Slots.{object_of};
+ghost use Rattle.sg_lock.specs.sg_slots.Slots.{object_of};
 ghost use Rattle.sg_event.specs.EventRow.{event_body};
 
-use sg_base::{Args, Call, Code, NoMemory, Reply, Value};
 use sg_event::{Event, EventService};
-use sg_facts::{Outcome, Service};
+use sg_facts::{Args, Call, Code, NoMemory, Outcome, Reply, Service, Value};
 use std::alloc::Global;
 use std::test::Fail;
 use test_asking::{Once, ask, call};

@@ -1,10 +1,8 @@
 // What no clause says: that each call does its work where there is memory, and values from outside.
-use sg_base::{
-    Args, Bytes, Call, Good, NoMemory, PairList, Path, Reply, Text, TryCopy, Value, Words,
-};
 use sg_facts::{
-    Effect, Entry, FieldShape, Fields, FunShape, Interface, Kind, Leaves, Parents, Patch, Row,
-    Shape, Walk, close_word, flag_word, legal_from_the_front, parents_word,
+    Args, Bytes, Call, Effect, Entry, FieldShape, Fields, FunShape, Good, Interface, Kind, Leaves,
+    NoMemory, PairList, Parents, Patch, Path, Reply, Row, Shape, Text, TryCopy, Value, Walk, Words,
+    close_word, flag_word, legal_from_the_front, parents_word,
 };
 use std::alloc::Global;
 use std::fmt::Debug;

@@ -1,7 +1,6 @@
 // What no clause says: that entries and ends are taken where there is memory.
-use sg_base::{Args, Call, Code, NoMemory, Reply, TryCopy};
-use sg_facts::Entry;
-use sg_hist::{End, EndList, History};
+use sg_boot::{End, EndList, History};
+use sg_facts::{Args, Call, Code, Entry, NoMemory, Reply, TryCopy};
 use std::alloc::Global;
 use std::test::Fail;
 

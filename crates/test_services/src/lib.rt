@@ -5,7 +5,7 @@
 //! - `slots`: decisions on many slots, and stops at each part
 //! - `locks`: one lock, and stops at each part
 //! - `events`: one event, at each call and count where the answer turns
-//! - `cells`: a service that is booted after a stop, and stops within a call and behind its reply
+//! - `cells`: a service that is booted after a stop, and stops within a call and after its reply
 //! - `histories`: entries, ends, and as many entries as a script has calls
 #![tactic(auto)]
 

@@ -1,11 +1,10 @@
 // What no clause says: that calls are answered where there is memory, and stopped where a point strikes.
 ghost use Rattle.std.specs.Prelude.{◌≡◌, ◌≤◌, ◌<◌, ◌==◌, if◌then◌else◌, [], ◌∷◌, OnOk};
 ghost use Rattle.sg_facts.specs.Object.{empty_object};
-ghost use Rattle.sg_slots.specs.Slots.{object_of};
+ghost use Rattle.sg_lock.specs.sg_slots.Slots.{object_of};
 ghost use Rattle.sg_lock.specs.LockRow.{lock_body};
 
-use sg_base::{Code, Good, Path, Reply, Stops};
-use sg_facts::{Outcome, Service};
+use sg_facts::{Code, Good, Outcome, Path, Reply, Service, Stops};
 use sg_lock::{Lock, LockService};
 use std::alloc::Global;
 use std::test::Fail;

@@ -1,7 +1,6 @@
 // What no clause says: that each decision is carried out where there is memory.
-use sg_base::{Code, Reply, Stops};
-use sg_facts::Outcome;
-use sg_slots::{Decision, Slot, Slots, carry_out};
+use sg_facts::{Code, Outcome, Reply, Stops};
+use sg_lock::{Decision, Slot, Slots, carry_out};
 use std::alloc::Global;
 use std::process::Abort;
 use std::test::Fail;

@@ -1,18 +1,15 @@
-// A play goes on behind a step that wanted memory.
+// A play goes on after a step that wanted memory.
 ghost use Rattle.std.specs.Prelude.{◌≡◌};
 ghost use Rattle.sg_lock.specs.LockFacts.{lock_facts};
-ghost use Rattle.sg_plain.specs.Playing.Playable.{IsPlayable};
+ghost use Rattle.sg_sim.specs.sg_plain.Playing.Playable.{IsPlayable};
 
 use crate::ready::ready;
 use crate::scarce::Scarce;
-use sg_base::{Bytes, NoMemory};
-use sg_check::Accepted;
 use sg_edge::Never;
-use sg_hist::{EndList, Ended};
-use sg_report::text;
-use sg_script::Script;
+use sg_facts::{Bytes, NoMemory};
+use sg_input::{Accepted, Script, compile};
+use sg_report::{EndList, Ended, text};
 use sg_sim::Play;
-use sg_stub::compile;
 use std::alloc::Global;
 use std::test::Fail;
 
@@ -42,7 +39,7 @@ fn played_again(
     done
 }
 
-// What was done in a play that wants memory in one step and goes on, printed; None where it comes to an end, as it never does behind such
+// What was done in a play that wants memory in one step and goes on, printed; None where it comes to an end, as it never does after such
 // a step.
 fn done_again(
     alloc: Global,

@@ -1,17 +1,15 @@
 // A script is played at once, and by hand in another order than the play without stops has.
 ghost use Rattle.std.specs.Prelude.{◌≡◌};
 ghost use Rattle.sg_lock.specs.LockFacts.{lock_facts};
-ghost use Rattle.sg_plain.specs.Playing.Playable.{IsPlayable};
+ghost use Rattle.sg_sim.specs.sg_plain.Playing.Playable.{IsPlayable};
 
 use crate::ready::ready;
-use sg_base::{Bytes, NoMemory};
-use sg_check::Accepted;
 use sg_edge::Never;
+use sg_facts::{Bytes, NoMemory};
+use sg_input::{Accepted, Script, compile};
 use sg_lock::LockService;
 use sg_report::text;
-use sg_script::Script;
 use sg_sim::{Play, play_script};
-use sg_stub::compile;
 use std::alloc::Global;
 use std::test::Fail;
 

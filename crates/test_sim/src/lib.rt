@@ -4,7 +4,7 @@
 //! - `scarce`: locks that have no memory for one of their calls (`Scarce`)
 //!
 //! The tests:
-//! - `again`: a play goes on behind a step that wanted memory
+//! - `again`: a play goes on after a step that wanted memory
 //! - `by_hand`: a script is played at once, and by hand in another order
 #![tactic(auto)]
 

@@ -1,14 +1,11 @@
 // The input of a play of locks.
 ghost use Rattle.std.specs.Prelude.{◌≡◌, IfOk};
 ghost use Rattle.sg_lock.specs.LockFacts.{lock_facts};
-ghost use Rattle.sg_plain.specs.Playing.Playable.{IsPlayable};
+ghost use Rattle.sg_sim.specs.sg_plain.Playing.Playable.{IsPlayable};
 
-use sg_base::Bytes;
-use sg_check::Accepted;
-use sg_facts::Service;
-use sg_input::{Input, read_input};
+use sg_facts::{Bytes, Service};
+use sg_input::{Accepted, Input, Script, read_input};
 use sg_lock::LockService;
-use sg_script::Script;
 use std::alloc::Global;
 use std::test::Fail;
 use test_interfaces::LOCK;

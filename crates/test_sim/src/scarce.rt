@@ -1,6 +1,5 @@
 // Locks that have no memory for one of their calls.
-use sg_base::{Call, NoMemory, Path, Stops};
-use sg_facts::{Outcome, Service, Shape};
+use sg_facts::{Call, NoMemory, Outcome, Path, Service, Shape, Stops};
 use sg_lock::LockService;
 use std::alloc::Global;
 
@@ -24,7 +23,7 @@ impl Service for Scarce {
     ghost use Rattle.sg_lock.specs.Laws.LockSoundLaw.{lock_answers_and_keeps};
     ghost use Rattle.sg_lock.specs.LockTable.{lock_parts, lock_table};
     ghost use Rattle.sg_lock.specs.Laws.LockWalkLaw.{lock_walk_goes_on};
-    ghost use Rattle.sg_slots.specs.Slots.{object_of};
+    ghost use Rattle.sg_lock.specs.sg_slots.Slots.{object_of};
 
     ghost facts = { lock_facts };
 

@@ -1,18 +1,18 @@
 -- Which answered calls may be committed under the tables of files, and of locks.
 use Rattle.std.proofs.Common.{◌≡◌, ℕ, ◌+◌, ◌≤◌, false, true, List, [], None, Some, length, refl, sym, subst, arith}
 use Rattle.std.specs.declared.option.Option.{Option}
-use Rattle.sg_base.specs.declared.call.Call.{Call}
-use Rattle.sg_base.specs.declared.reply.Code.{Code}
-use Rattle.sg_base.specs.declared.reply.Reply.{Reply}
-use Rattle.sg_base.specs.declared.reply.Reply.TheVariants.{Refused}
+use Rattle.sg_facts.specs.sg_base.declared.call.Call.{Call}
+use Rattle.sg_facts.specs.sg_base.declared.reply.Code.{Code}
+use Rattle.sg_facts.specs.sg_base.declared.reply.Reply.{Reply}
+use Rattle.sg_facts.specs.sg_base.declared.reply.Reply.TheVariants.{Refused}
 use Rattle.sg_facts.specs.declared.outcome.Patch.{Patch}
 use Rattle.sg_facts.specs.Facts.{Facts}
-use Rattle.sg_lock.specs.LockFacts.{lock_facts}
-use Rattle.sg_ramfs.specs.RamfsFacts.{ramfs_facts}
+use Rattle.test_tables.specs.sg_lock.LockFacts.{lock_facts}
+use Rattle.test_tables.specs.sg_ramfs.RamfsFacts.{ramfs_facts}
 use Rattle.sg_store.specs.Committing.{MayCommit, MayFollow}
 use Rattle.sg_store.specs.Spans.{FitsPatch}
 use Rattle.sg_store.specs.Stored.{Stored, files_in}
-use Rattle.sg_track.specs.Tracked.{Tracked}
+use Rattle.sg_store.specs.sg_track.Tracked.{Tracked}
 use Rattle.test_histories.specs.Written.{call_of, ok_at}
 
 carried : {facts other : Facts} {call other_call : Call} {reply other_reply : Reply} (s : Stored) (patch : Option Patch) → facts ≡ other → call ≡ other_call → reply ≡ other_reply

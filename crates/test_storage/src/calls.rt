@@ -2,7 +2,7 @@
 ghost use Rattle.std.specs.Prelude.{◌≡◌, []};
 ghost use Rattle.test_histories.specs.Written.{call_of, ok_at};
 
-use sg_base::{Args, Bytes, Call, Good, Reply, Words};
+use sg_facts::{Args, Bytes, Call, Good, Reply, Words};
 use std::alloc::Global;
 
 /// A client's call of a function, without arguments.

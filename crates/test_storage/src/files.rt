@@ -1,16 +1,15 @@
 // Files.
 ghost use Rattle.std.specs.Prelude.{◌≡◌, ◌≤◌, length, IfOk};
-ghost use Rattle.sg_ramfs.specs.RamfsFacts.{ramfs_facts};
+ghost use Rattle.test_tables.specs.sg_ramfs.RamfsFacts.{ramfs_facts};
 
 use crate::calls::{call, done};
-use sg_base::{Bytes, NoMemory, Path};
-use sg_facts::{Patch, Tables};
+use sg_facts::{Bytes, NoMemory, Patch, Path, Tables};
 use sg_store::Storage;
 use std::alloc::Global;
 use std::test::Fail;
 use test_tables::ramfs_tables;
 
-// Writes bytes into a file from a place on; false where the place is behind the file's end, or too far.
+// Writes bytes into a file from a place on; false where the place is after the file's end, or too far.
 fn write(
     alloc: Global,
     storage: &mut Storage,

@@ -2,7 +2,7 @@
 ghost use Rattle.std.specs.Prelude.{◌≡◌, ℕ, Some, IsTrue};
 ghost use Rattle.sg_name.specs.Names.{real_at, real_of};
 
-use sg_base::NoMemory;
+use sg_facts::NoMemory;
 use sg_name::{Named, Names};
 use std::test::Fail;
 

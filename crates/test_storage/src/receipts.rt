@@ -1,11 +1,10 @@
 // Receipts, rows and ids.
 ghost use Rattle.std.specs.Prelude.{◌≡◌, ◌+◌, ◌≤◌, IfOk, OnOk};
-ghost use Rattle.sg_lock.specs.LockFacts.{lock_facts};
-ghost use Rattle.sg_ramfs.specs.RamfsFacts.{ramfs_facts};
+ghost use Rattle.test_tables.specs.sg_lock.LockFacts.{lock_facts};
+ghost use Rattle.test_tables.specs.sg_ramfs.RamfsFacts.{ramfs_facts};
 
 use crate::calls::{call, done};
-use sg_base::{Code, NoMemory, Reply};
-use sg_facts::Tables;
+use sg_facts::{Code, NoMemory, Reply, Tables};
 use sg_store::Storage;
 use std::alloc::Global;
 use std::test::Fail;

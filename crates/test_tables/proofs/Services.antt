@@ -3,9 +3,9 @@ use Rattle.std.proofs.Common.{◌≡◌, ℕ, Bool, true, false, cond, List, [],
 use Rattle.std.specs.Str.{bytes_eq}
 use Rattle.sg_facts.specs.Facts.{Facts}
 use Rattle.sg_facts.specs.Interface.{Declared}
-use Rattle.sg_parse.specs.declared.tree.Tree.{Tree}
-use Rattle.sg_check_statements.specs.Faults.{IsAccepted}
-use Rattle.sg_check_statements.specs.Says.{service_of}
+use Rattle.sg_stub.specs.sg_parse.declared.tree.Tree.{Tree}
+use Rattle.sg_stub.specs.sg_check_statements.Faults.{IsAccepted}
+use Rattle.sg_stub.specs.sg_check_statements.Says.{service_of}
 
 only : (service : Facts) (name : List ℕ) (facts : Facts) → service_of (service ∷ []) name ≡ Some facts → facts ≡ service
 only service name facts is = by (bytes_eq service.name name) is

@@ -5,4 +5,9 @@
 
 mod tables;
 
+pub use sg_event::EventService;
+pub use sg_lock::LockService;
+pub use sg_mm::MmService;
+pub use sg_ramfs::RamfsService;
+pub use sg_sched::SchedService;
 pub use tables::{event_tables, lock_tables, mm_tables, ramfs_tables, sched_tables};

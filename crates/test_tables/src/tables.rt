@@ -1,22 +1,20 @@
 // The tables of the standard interfaces.
 ghost use Rattle.std.specs.Prelude.{◌≡◌, true, IfOk};
 ghost use Rattle.sg_facts.specs.Facts.{facts_of};
-ghost use Rattle.sg_check.specs.Shapes.{is_shape};
+ghost use Rattle.sg_stub.specs.sg_check.Shapes.{is_shape};
 ghost use Rattle.sg_lock.specs.LockFacts.{lock_facts};
 ghost use Rattle.sg_event.specs.EventFacts.{event_facts};
 ghost use Rattle.sg_mm.specs.MmFacts.{mm_facts};
 ghost use Rattle.sg_ramfs.specs.RamfsFacts.{ramfs_facts};
 ghost use Rattle.sg_sched.specs.SchedFacts.{sched_facts};
 
-use sg_check::check;
 use sg_event::event_shape;
 use sg_facts::{Service, Shape, Tables};
 use sg_lock::LockService;
 use sg_mm::mm_shape;
-use sg_parse::parse;
 use sg_ramfs::ramfs_shape;
 use sg_sched::sched_shape;
-use sg_stub::compile;
+use sg_stub::{check, compile, parse};
 use std::alloc::Global;
 use std::test::Fail;
 use test_interfaces::{EVENT, LOCK, MM, RAMFS, SCHED};

@@ -6,8 +6,7 @@ ghost use Rattle.sg_sched.specs.SchedFacts.{sched_facts};
 ghost use Rattle.sg_sched.specs.SchedObject.{sched_object};
 ghost use Rattle.test_threads.specs.Small.{AreSmall, args_of, is_on};
 
-use sg_base::{Args, Call, Code, Reply, Stops, Value};
-use sg_facts::{Outcome, Service};
+use sg_facts::{Args, Call, Code, Outcome, Reply, Service, Stops, Value};
 use sg_sched::SchedService;
 use std::alloc::Global;
 use std::process::Abort;

@@ -1,7 +1,7 @@
 -- What may be tracked, under equal facts, calls and replies.
 use Rattle.std.proofs.Common.{◌≡◌, sym, subst}
-use Rattle.sg_base.specs.declared.call.Call.{Call}
-use Rattle.sg_base.specs.declared.reply.Reply.{Reply}
+use Rattle.sg_facts.specs.sg_base.declared.call.Call.{Call}
+use Rattle.sg_facts.specs.sg_base.declared.reply.Reply.{Reply}
 use Rattle.sg_facts.specs.Facts.{Facts}
 use Rattle.sg_track.specs.Tracked.{MayTrack, Tracked}
 

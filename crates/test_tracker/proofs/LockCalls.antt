@@ -2,9 +2,9 @@
 use Rattle.std.proofs.Common.{◌≡◌, ℕ, ◌+◌, ◌<◌, ◌≤◌, [], Some, sym, ◌∙◌, ap, subst, arith}
 use Rattle.std.specs.Prelude.{◌^◌}
 use Rattle.std.specs.Option.{option_map}
-use Rattle.sg_base.specs.declared.value.Value.TheVariants.{Word}
+use Rattle.sg_facts.specs.sg_base.declared.value.Value.TheVariants.{Word}
 use Rattle.sg_facts.specs.Track.{cleared, field_at}
-use Rattle.sg_lock.specs.LockFacts.{lock_facts}
+use Rattle.test_tables.specs.sg_lock.LockFacts.{lock_facts}
 use Rattle.sg_track.specs.Drafts.{IsDraftWord}
 use Rattle.sg_track.specs.Tracked.{MayTrack, Tracked}
 use Rattle.test_tracker.specs.Answered.{HasOwner, asked}

@@ -1,10 +1,10 @@
 // Calls and replies.
 ghost use Rattle.std.specs.Prelude.{◌≡◌, map, IfOk};
-ghost use Rattle.sg_base.specs.declared.value.Value.TheVariants.{Word};
+ghost use Rattle.sg_facts.specs.sg_base.declared.value.Value.TheVariants.{Word};
 ghost use Rattle.test_histories.specs.Written.{ok_at};
 ghost use Rattle.test_tracker.specs.Answered.{asked};
 
-use sg_base::{Args, Bytes, Call, Good, NoMemory, Reply, Value, Words};
+use sg_facts::{Args, Bytes, Call, Good, NoMemory, Reply, Value, Words};
 use std::alloc::Global;
 
 /// A client's call of a function, with words.

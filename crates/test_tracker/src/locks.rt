@@ -1,11 +1,10 @@
 // Locks.
 ghost use Rattle.std.specs.Prelude.{◌≡◌, ◌+◌, ◌≤◌, IfSome, OnOk};
-ghost use Rattle.sg_lock.specs.LockFacts.{lock_facts};
+ghost use Rattle.test_tables.specs.sg_lock.LockFacts.{lock_facts};
 ghost use Rattle.test_tracker.specs.Answered.{HasOwner};
 
 use crate::calls::{call, done};
-use sg_base::{NoMemory, Value};
-use sg_facts::Tables;
+use sg_facts::{NoMemory, Tables, Value};
 use sg_track::Tracker;
 use std::alloc::Global;
 use std::test::Fail;

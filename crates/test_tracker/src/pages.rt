@@ -1,10 +1,9 @@
 // Pages.
 ghost use Rattle.std.specs.Prelude.{◌≡◌, ◌+◌, ◌≤◌, IfOk, OnOk};
-ghost use Rattle.sg_mm.specs.MmFacts.{mm_facts};
+ghost use Rattle.test_tables.specs.sg_mm.MmFacts.{mm_facts};
 
 use crate::calls::{call, done};
-use sg_base::{Code, NoMemory, Reply, Value};
-use sg_facts::Tables;
+use sg_facts::{Code, NoMemory, Reply, Tables, Value};
 use sg_track::Tracker;
 use std::alloc::Global;
 use std::test::Fail;

@@ -1,7 +1,7 @@
 -- Values that are words, and one more.
 use Rattle.std.proofs.Common.{List, [], ◌∷◌, ◌++◌}
-use Rattle.sg_base.specs.declared.value.Value.{Value}
-use Rattle.sg_base.specs.declared.value.Value.TheVariants.{Word, Text}
+use Rattle.sg_facts.specs.sg_base.declared.value.Value.{Value}
+use Rattle.sg_facts.specs.sg_base.declared.value.Value.TheVariants.{Word, Text}
 use Rattle.sg_facts.specs.Kinds.{AreWords}
 
 -- an argument more

@@ -1,6 +1,6 @@
 // Whether texts tell what steps did, and what was replied.
 use crate::words::{Written, first_word};
-use sg_base::{Code, Good, Reply};
+use sg_facts::{Code, Good, Reply};
 use sg_world::Did;
 
 /// Whether a text tells what a step did: a word, or the reply that it handed over.
@@ -18,7 +18,7 @@ pub fn tells(text: &str, did: &Did) -> bool {
     }
 }
 
-/// Whether a text tells a reply: `refused Held`, or `ok` with what it gives behind, as in `ok #1 2 "a"`.
+/// Whether a text tells a reply: `refused Held`, or `ok` with what it gives after, as in `ok #1 2 "a"`.
 pub fn tells_reply(text: &str, reply: &Reply) -> bool {
     let (what, behind) = first_word(text);
     match reply {

@@ -4,8 +4,7 @@ ghost use Rattle.std.specs.Prelude.{◌≡◌};
 use crate::answers::tells_reply;
 use crate::events::Asked;
 use crate::run::{Judge, Run, Unmade, judged, stops_at};
-use sg_base::Stops;
-use sg_facts::{Service, Tables, Trace};
+use sg_facts::{Service, Stops, Tables, Trace};
 use std::alloc::Global;
 
 /// Makes the calls of a text, as `lock_take 1 = ok` on each line, with stops at points: each gets its reply and is one entry, and the

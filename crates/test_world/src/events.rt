@@ -4,7 +4,7 @@ ghost use Rattle.sg_facts.specs.Kinds.{AreWords};
 
 use crate::run::Unmade;
 use crate::words::{Written, first_word};
-use sg_base::{Args, Text, TextFault, Value};
+use sg_facts::{Args, Text, TextFault, Value};
 use std::alloc::Global;
 
 /// An event of a world.

@@ -3,8 +3,7 @@ ghost use Rattle.std.specs.Prelude.{◌≡◌, ℕ, true};
 ghost use Rattle.sg_facts.specs.Interface.{declares};
 ghost use Rattle.sg_facts.specs.Kinds.{FitsKinds, kinds_fit};
 
-use sg_base::{Args, Value};
-use sg_facts::{Interface, Kind, MOST_FUNS};
+use sg_facts::{Args, Interface, Kind, MOST_FUNS, Value};
 
 /// The number of a function, by its name or number; None where there is none of a name.
 pub fn number_of(iface: &Interface, fun: &str) -> Option<u8> {

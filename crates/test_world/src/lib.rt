@@ -26,4 +26,5 @@ pub use events::{Asked, Event};
 pub use plays::play;
 pub use run::{Judge, Run, Unmade, judged, stops_at};
 pub use seen::shows;
+pub use sg_world::{Did, Phase, World};
 pub use words::headed;

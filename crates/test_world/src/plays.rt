@@ -4,8 +4,7 @@ ghost use Rattle.std.specs.Prelude.{◌≡◌};
 use crate::run::{Judge, Run, Unmade, judged, stops_at};
 use crate::seen::shows;
 use crate::words::headed;
-use sg_base::{PointList, Stops};
-use sg_facts::{Service, Tables};
+use sg_facts::{PointList, Service, Stops, Tables};
 use std::alloc::Global;
 
 /// The parts of a text that tells a play.
@@ -24,7 +23,7 @@ struct Parts<'a> {
 }
 
 impl<'a> Parts<'a> {
-    // The parts of a text: `clients 2` and `stops 9 15` on the first lines, the events, and behind an empty line each what is seen and the
+    // The parts of a text: `clients 2` and `stops 9 15` on the first lines, the events, and after an empty line each what is seen and the
     // printed run; None where the text has other parts.
     fn read(text: &'a str) -> Option<Self> {
         let (clients, lines) = headed(text, "clients")?;

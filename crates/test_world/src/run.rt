@@ -1,18 +1,18 @@
 // A world with its interface beside it, so that each event is checked before it is made.
 ghost use Rattle.std.specs.Prelude.{◌≡◌, ◌≤◌, ◌<◌, ◌+◌, ◌^◌, [], IfOk, length, true};
 ghost use Rattle.sg_edge.specs.Stops.{AscendsAbove, struck_of};
-ghost use Rattle.sg_seat.specs.WorldView.{IsFree, MayWithdraw, seat_of};
+ghost use Rattle.sg_world.specs.sg_seat.WorldView.{IsFree, MayWithdraw, seat_of};
 
 use crate::answers::tells;
 use crate::events::{Asked, Event, args_of};
 use crate::fits::{number_of, takes};
-use sg_base::{Args, Bytes, Call, NoMemory, PointList, Reply, Stops, TryCopy};
 use sg_edge::AtPoints;
-use sg_facts::{Interface, LAST_CLIENT, Service, Tables, Tag, Trace};
-use sg_hist::{End, EndList, Ended};
-use sg_report::text;
-use sg_seat::Phase;
-use sg_world::{Did, World};
+use sg_facts::{
+    Args, Bytes, Call, Interface, LAST_CLIENT, NoMemory, PointList, Reply, Service, Stops, Tables,
+    Tag, Trace, TryCopy,
+};
+use sg_report::{End, EndList, Ended, text};
+use sg_world::{Did, Phase, World};
 use std::alloc::Global;
 
 /// Why an event wasn't made, or a play isn't as it is told.

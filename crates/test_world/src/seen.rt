@@ -1,15 +1,14 @@
 // Whether texts tell what is seen of a world.
 use crate::run::Run;
 use crate::words::first_word;
-use sg_base::Stops;
-use sg_facts::Service;
-use sg_seat::{Mark, MarkKind, Phase, Withdrawn};
+use sg_facts::{Service, Stops};
+use sg_world::{Mark, MarkKind, Phase, Withdrawn};
 
 /// Whether a line tells what is seen of a world:
 /// - `up` or `down`: whether its service runs
 /// - `ends left blocked`: the phase of each client
 /// - `seqs 3 1`: the number of each client's last entry
-/// - `marks 1 offer entry answer 2 leave`: its marks, behind the number of their client
+/// - `marks 1 offer entry answer 2 leave`: its marks, after the number of their client
 /// - `withdrawn 2 1 4 idle asked`: its only withdrawn call, by client and number, the number of entries then, and the phase of each client
 ///   just before
 /// - `entries 3`, `points 18`, `refused 0`: how many entries and points it has, and how many of its steps wanted memory
@@ -42,7 +41,7 @@ fn counts<S: Service, T: Stops>(run: &Run<S, T>, numbers: &str) -> bool {
         .eq(numbers.split_whitespace().map(|word| word.parse().ok()))
 }
 
-// Whether marks are those that a text names, each client's behind its number.
+// Whether marks are those that a text names, each client's after its number.
 fn are_marks(marks: &[Mark], text: &str) -> bool {
     let mut client = 0;
     let mut marks = marks;

@@ -1,6 +1,6 @@
 // The words of texts, and values as they are written.
 
-/// The first word of a line, and what stands behind it.
+/// The first word of a line, and what stands after it.
 pub fn first_word(line: &str) -> (&str, &str) {
     match line.split_once(' ') {
         Some(parts) => parts,
@@ -8,7 +8,7 @@ pub fn first_word(line: &str) -> (&str, &str) {
     }
 }
 
-/// What stands behind a word on the first line of a text, and the other lines; None where another word stands there.
+/// What stands after a word on the first line of a text, and the other lines; None where another word stands there.
 pub fn headed<'a>(text: &'a str, word: &str) -> Option<(&'a str, &'a str)> {
     let (line, lines) = text.split_once('\n')?;
     let (first, behind) = first_word(line);

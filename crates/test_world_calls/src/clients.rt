@@ -1,19 +1,14 @@
 // Clients that leave.
-use sg_base::Stops;
 use sg_edge::Never;
-use sg_event::EventService;
-use sg_facts::Service;
-use sg_lock::LockService;
-use sg_mm::MmService;
-use sg_ramfs::RamfsService;
-use sg_sched::SchedService;
-use sg_seat::Phase;
-use sg_world::World;
+use sg_facts::{Service, Stops};
 use std::alloc::Global;
 use std::process::Abort;
 use std::test::Fail;
-use test_tables::{event_tables, lock_tables, mm_tables, ramfs_tables, sched_tables};
-use test_world::{Judge, Run, judged};
+use test_tables::{
+    EventService, LockService, MmService, RamfsService, SchedService, event_tables, lock_tables,
+    mm_tables, ramfs_tables, sched_tables,
+};
+use test_world::{Judge, Phase, Run, World, judged};
 
 // Whether nothing was done in a world: the service is up in its first boot, and no point was asked.
 fn is_quiet<S: Service, T: Stops>(world: &World<S, T>) -> bool {

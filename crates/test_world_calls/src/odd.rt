@@ -1,16 +1,11 @@
 // Steps of clients that have no call under way, and events that may not be made.
-use sg_base::Stops;
 use sg_edge::Never;
-use sg_event::EventService;
-use sg_facts::Service;
-use sg_lock::LockService;
-use sg_seat::Phase;
-use sg_world::Did;
+use sg_facts::{Service, Stops};
 use std::alloc::Global;
 use std::process::Abort;
 use std::test::Fail;
-use test_tables::{event_tables, lock_tables};
-use test_world::{Asked, Judge, Run, Unmade, judged};
+use test_tables::{EventService, LockService, event_tables, lock_tables};
+use test_world::{Asked, Did, Judge, Phase, Run, Unmade, judged};
 
 /// The first client is idle, the second waits, and the third has left.
 const RESTING: &str = "offer 1 lock_alloc 0

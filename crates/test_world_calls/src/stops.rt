@@ -1,17 +1,15 @@
 // Stops at every point: one client's calls get the replies of a run without stops.
-use sg_event::EventService;
-use sg_lock::LockService;
-use sg_mm::MmService;
-use sg_ramfs::RamfsService;
-use sg_sched::SchedService;
 use std::test::Fail;
-use test_tables::{event_tables, lock_tables, mm_tables, ramfs_tables, sched_tables};
+use test_tables::{
+    EventService, LockService, MmService, RamfsService, SchedService, event_tables, lock_tables,
+    mm_tables, ramfs_tables, sched_tables,
+};
 use test_world::answered;
 
 /// The last point at which a service stops here. Each run asks as many at least.
 const LAST: u64 = 40;
 
-/// The point of the first of two stops: what stands behind it in a run is rebuilt by walks.
+/// The point of the first of two stops: what stands after it in a run is rebuilt by walks.
 const FIRST: u64 = 20;
 
 // Calls of the only client, and the reply that each is to get.

@@ -1,7 +1,7 @@
 // A plan of one stop within a step.
 ghost use Rattle.std.specs.Prelude.{◌≡◌, None};
 
-use sg_base::{Point, Stops};
+use sg_facts::{Point, Stops};
 
 /// Stops once, at the point of a number among those that aren't asked between calls: a step that is made again for want of memory asks
 /// no such point twice.
@@ -29,7 +29,7 @@ impl Inside {
 
 impl Stops for Inside {
     ghost use Rattle.std.specs.Prelude.{[]};
-    ghost use Rattle.sg_slots.specs.Carry.{words_of};
+    ghost use Rattle.test_tables.specs.sg_slots.Carry.{words_of};
 
     ghost asked = { λ inside. inside.asked };
 

@@ -3,17 +3,14 @@
 ghost use Rattle.std.specs.Prelude.{◌≡◌};
 
 use crate::inside::Inside;
-use sg_base::{Bytes, NoMemory};
-use sg_event::EventService;
-use sg_facts::{Service, Tables};
-use sg_lock::LockService;
-use sg_mm::MmService;
-use sg_ramfs::RamfsService;
-use sg_sched::SchedService;
+use sg_facts::{Bytes, NoMemory, Service, Tables};
 use std::alloc::Global;
 use std::process::Abort;
 use std::test::Fail;
-use test_tables::{event_tables, lock_tables, mm_tables, ramfs_tables, sched_tables};
+use test_tables::{
+    EventService, LockService, MmService, RamfsService, SchedService, event_tables, lock_tables,
+    mm_tables, ramfs_tables, sched_tables,
+};
 use test_world::{Event, Judge, Run, Unmade, headed, judged};
 
 /// Events of two clients around one stop.
@@ -30,7 +27,7 @@ struct Case<'a> {
 }
 
 impl<'a> Case<'a> {
-    // The case of a text: `stop 7` and `marks 17` on the first lines, the events, and behind an empty line the printed run.
+    // The case of a text: `stop 7` and `marks 17` on the first lines, the events, and after an empty line the printed run.
     fn read(text: &'a str) -> Option<Self> {
         let (stop, lines) = headed(text, "stop")?;
         let (marks, lines) = headed(lines, "marks")?;

@@ -2,9 +2,8 @@
 // the same replies.
 ghost use Rattle.std.specs.Prelude.{◌≡◌};
 
-use sg_base::{NoMemory, Stops, Value};
 use sg_edge::Never;
-use sg_facts::{Entry, Service, Tables};
+use sg_facts::{Entry, NoMemory, Service, Stops, Tables, Value};
 use sg_top::Played;
 use std::alloc::Global;
 use std::test::Fail;

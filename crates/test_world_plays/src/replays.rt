@@ -1,15 +1,14 @@
 // Plays in one thread with a stop at each point: their entries come again.
 use crate::again::come_again;
 use sg_edge::{MemSink, MemSource};
-use sg_lock::LockService;
-use sg_mm::MmService;
-use sg_ramfs::RamfsService;
-use sg_sched::SchedService;
 use sg_top::{Answer, Played, serial};
 use std::alloc::Global;
 use std::test::Fail;
 use test_interfaces::{LOCK, MM, RAMFS, SCHED};
-use test_tables::{lock_tables, mm_tables, ramfs_tables, sched_tables};
+use test_tables::{
+    LockService, MmService, RamfsService, SchedService, lock_tables, mm_tables, ramfs_tables,
+    sched_tables,
+};
 
 /// The number of clients of each play.
 const CLIENTS: u8 = 2;

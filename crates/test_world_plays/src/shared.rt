@@ -1,18 +1,16 @@
 // Plays with a thread for each of 8 clients and two stops, 200 of each service: their entries come again.
 use crate::again::come_again;
 use sg_edge::{MemSink, MemSource, OpenGate};
-use sg_event::EventService;
-use sg_lock::LockService;
-use sg_mm::MmService;
-use sg_ramfs::RamfsService;
-use sg_sched::SchedService;
 use sg_top::{Answer, Played, superglue};
 use std::alloc::Global;
 use std::sync::Wait;
 use std::test::Fail;
 use std::thread::Threads;
 use test_interfaces::{EVENT, LOCK, MM, RAMFS, SCHED};
-use test_tables::{event_tables, lock_tables, mm_tables, ramfs_tables, sched_tables};
+use test_tables::{
+    EventService, LockService, MmService, RamfsService, SchedService, event_tables, lock_tables,
+    mm_tables, ramfs_tables, sched_tables,
+};
 
 /// The number of clients of each play.
 const CLIENTS: u8 = 8;

@@ -1,8 +1,7 @@
 // Plays of events, event by event.
-use sg_event::EventService;
 use std::alloc::Global;
 use std::test::Fail;
-use test_tables::event_tables;
+use test_tables::{EventService, event_tables};
 use test_world::play;
 
 // A trigger is stored as the service stops: another client gets its count, and it is not added again.

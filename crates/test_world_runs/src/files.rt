@@ -1,8 +1,7 @@
 // Plays of files, event by event.
-use sg_ramfs::RamfsService;
 use std::alloc::Global;
 use std::test::Fail;
-use test_tables::ramfs_tables;
+use test_tables::{RamfsService, ramfs_tables};
 use test_world::play;
 
 // A file is loaded for a client that reads it, and the offset of another is rebuilt.

@@ -1,8 +1,7 @@
 // Plays of locks, event by event.
-use sg_lock::LockService;
 use std::alloc::Global;
 use std::test::Fail;
-use test_tables::lock_tables;
+use test_tables::{LockService, lock_tables};
 use test_world::play;
 
 // The service stops once a take is stored: the take is answered, and the lock is rebuilt as it was taken.

@@ -1,8 +1,7 @@
 // Plays of mappings, event by event.
-use sg_mm::MmService;
 use std::alloc::Global;
 use std::test::Fail;
-use test_tables::mm_tables;
+use test_tables::{MmService, mm_tables};
 use test_world::play;
 
 // A page is rebuilt before its alias, each in the name of its maker.

@@ -1,8 +1,7 @@
 // Plays of threads, event by event.
-use sg_sched::SchedService;
 use std::alloc::Global;
 use std::test::Fail;
-use test_tables::sched_tables;
+use test_tables::{SchedService, sched_tables};
 use test_world::play;
 
 // Threads come back under other ids of the service, with their ranks.

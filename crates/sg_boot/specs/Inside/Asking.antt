@@ -1,6 +1,6 @@
--- What asking a service and the point behind its reply does.
+-- What asking a service and the point after its reply does.
 use Rattle.std.specs.Prelude.{ℕ, ◌≡◌, None}
-use Rattle.sg_base.specs.declared.call.Call.{Call}
+use Rattle.sg_facts.specs.sg_base.declared.call.Call.{Call}
 use Rattle.sg_boot.specs.Invoking.{AnswersCall, Stops}
 use Rattle.sg_facts.specs.declared.outcome.Outcome.{Outcome}
 use Rattle.sg_facts.specs.declared.outcome.Outcome.TheVariants.{Replied, Blocks, Stopped, NoMemory}

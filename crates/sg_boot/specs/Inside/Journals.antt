@@ -1,7 +1,7 @@
 -- What a journal keeps.
 use Rattle.std.specs.Prelude.{ℕ, List, [], ◌∷◌, None, Some, min}
 use Rattle.std.specs.declared.option.Option.{Option}
-use Rattle.sg_base.specs.Room.{Roomy}
+use Rattle.sg_facts.specs.sg_base.Room.{Roomy}
 use Rattle.sg_boot.specs.declared.room.ItemRoom.{ItemRoom}
 use Rattle.sg_facts.specs.declared.trace.BootLog.{BootLog}
 use Rattle.sg_facts.specs.Trace.{Run}

@@ -1,7 +1,7 @@
 -- What is noted in room that was taken ahead.
 use Rattle.std.specs.Prelude.{◌≤◌, None, Some, length}
 use Rattle.std.specs.declared.option.Option.{Option}
-use Rattle.sg_base.specs.Reply.{FitsReplyRoom}
+use Rattle.sg_facts.specs.sg_base.Reply.{FitsReplyRoom}
 use Rattle.sg_facts.specs.declared.outcome.Outcome.{Outcome}
 use Rattle.sg_facts.specs.declared.outcome.Outcome.TheVariants.{Replied, Blocks, Stopped, NoMemory}
 use Rattle.sg_facts.specs.declared.outcome.Patch.{Patch}

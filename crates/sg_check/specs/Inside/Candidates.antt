@@ -6,7 +6,7 @@ use Rattle.sg_facts.specs.Facts.{Facts, facts_of}
 use Rattle.sg_facts.specs.Fits.{IsReached}
 use Rattle.sg_facts.specs.Interface.{Declared}
 use Rattle.sg_facts.specs.Walks.{IsReachable}
-use Rattle.sg_parse.specs.declared.tree.Tree.{Tree}
+use Rattle.sg_check_statements.specs.sg_parse.declared.tree.Tree.{Tree}
 use Rattle.sg_check_statements.specs.declared.fault.CheckError.{CheckError}
 use Rattle.sg_check_statements.specs.Faults.{interface_of}
 use Rattle.sg_check_statements.specs.Flaws.{HasNoWalk}

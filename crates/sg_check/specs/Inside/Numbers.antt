@@ -3,8 +3,8 @@ use Rattle.std.specs.Prelude.{ℕ, ◌≡◌, ◌==◌, Bool, ◌||◌, List, No
 use Rattle.std.specs.declared.option.Option.{Option}
 use Rattle.std.specs.List.{list_any}
 use Rattle.sg_facts.specs.Facts.{Facts}
-use Rattle.sg_parse.specs.declared.tree.Statement.{Statement}
-use Rattle.sg_parse.specs.declared.tree.Statement.TheVariants.{One, Two, Proto}
+use Rattle.sg_check_statements.specs.sg_parse.declared.tree.Statement.{Statement}
+use Rattle.sg_check_statements.specs.sg_parse.declared.tree.Statement.TheVariants.{One, Two, Proto}
 use Rattle.sg_check_statements.specs.Flaws.{place_if}
 use Rattle.sg_check_statements.specs.Says.{fun_number}
 

@@ -1,6 +1,6 @@
 -- What the event service decides on an event.
 use Rattle.std.specs.Prelude.{ℕ, ◌+◌, ◌-◌, ◌==◌, nat_lt, if◌then◌else◌, None}
-use Rattle.sg_base.specs.declared.reply.Code.TheVariants.{Overflow}
+use Rattle.sg_facts.specs.sg_base.declared.reply.Code.TheVariants.{Overflow}
 use Rattle.sg_slots.specs.declared.decision.Decision.{Decision}
 use Rattle.sg_slots.specs.declared.decision.Decision.TheVariants.{Refuse, Block, Make, Set}
 use Rattle.sg_event.specs.declared.event.Event.{Event}

@@ -1,4 +1,4 @@
--- What is to come behind a token that was looked at, and tests of what is to come.
+-- What is to come after a token that was looked at, and tests of what is to come.
 use Rattle.std.specs.Prelude.{◌≡◌, Bool, true, false, List, [], ◌∷◌, None, Some, Ok, Err}
 use Rattle.std.specs.declared.option.Option.{Option}
 use Rattle.sg_lex.specs.Lexeme.{Lexeme}

@@ -7,7 +7,7 @@ use Rattle.std.specs.Option.{option_map_or}
 use Rattle.sg_lex.specs.Lexeme.{Lexeme}
 use Rattle.sg_lex.specs.Tokens.{Answer}
 
--- the first state; the state behind a token, None where the token may not come; the value, where the text may end; and
+-- the first state; the state after a token, None where the token may not come; the value, where the text may end; and
 -- the errors, by their places: no token begins there, no sentence goes on so there, and out of memory
 pub record Automaton (S V E : Type 0) : Type 0 where
   pub start : S
@@ -38,7 +38,7 @@ pub record Reading : Type 0 where
 abbrev pub read : {S V E : Type 0} → Automaton S V E → S → Reading → Result V E
 read a s reading = read_from a reading.end s reading.rest
 
--- the answer where reading goes on from the state behind this token, if there is one
+-- the answer where reading goes on from the state after this token, if there is one
 abbrev pub read_on : {S V E : Type 0} → Automaton S V E → Option S → Lexeme → Reading → Result V E
 read_on a None token reading = Err (a.no_sentence token.at)
 read_on a (Some s) token reading = read a s reading

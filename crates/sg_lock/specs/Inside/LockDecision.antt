@@ -1,6 +1,6 @@
 -- What the lock service decides on a lock.
 use Rattle.std.specs.Prelude.{ℕ, ◌==◌, if◌then◌else◌, None}
-use Rattle.sg_base.specs.declared.reply.Code.TheVariants.{Held, NotOwner}
+use Rattle.sg_facts.specs.sg_base.declared.reply.Code.TheVariants.{Held, NotOwner}
 use Rattle.sg_slots.specs.declared.decision.Decision.{Decision}
 use Rattle.sg_slots.specs.declared.decision.Decision.TheVariants.{Refuse, Block, Make, Set, Remove}
 use Rattle.sg_lock.specs.declared.lock.Lock.{Lock}

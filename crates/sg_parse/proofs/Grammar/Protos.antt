@@ -27,7 +27,7 @@ head_is e = cc
 pub tail_is : {X : Type 0} {x y : X} {xs ys : List X} → x ∷ xs ≡ y ∷ ys → xs ≡ ys
 tail_is e = cc
 
--- ---- behind the name of a prototype
+-- ---- after the name of a prototype
 
 pub record ProtoRest (P : List Param → List Piece → Type 0) (ps : List Piece) : Type 0 where
   pub params : List Param
@@ -191,7 +191,7 @@ statement_back go tree token next ps e r =
     along : (s : State) → Some s ≡ Some next → Rest s ps tree
     along s g = subst (λ v. Rest v ps tree) (sym (some_is s next g)) r
 
--- ---- from the pieces of a statement to the state behind its first token
+-- ---- from the pieces of a statement to the state after its first token
 
 -- the token may come, and these pieces go on from there
 pub record Follows (at : Option State) (ps : List Piece) (tree : Tree) : Type 0 where

@@ -40,7 +40,7 @@ pub record TypeRest (P : List Named → Named → ℕ → List Piece → Type 0)
   pub off_name : count ≡ 0 → Off (has_sort Name) behind
   pub rest : P (front_of front last more) (last_of last more) count behind
 
--- behind stars: further ones, and then what follows the type
+-- after stars: further ones, and then what follows the type
 pub record StarRest (P : ℕ → List Piece → Type 0) (ps : List Piece) : Type 0 where
   pub count : ℕ
   pub behind : List Piece

@@ -1,4 +1,4 @@
--- One token: from the state before it, and from the state behind it.
+-- One token: from the state before it, and from the state after it.
 use Rattle.std.proofs.Common.{◌≡◌, ℕ, zero, suc, ◌+◌, inl, inr, false, if◌then◌else◌, List, [], ◌∷◌, ◌++◌, map, refl, sym, ap, subst, ◌∙◌, append_assoc, arith}
 use Rattle.std.specs.Prelude.{None, Some, replicate, All}
 use Rattle.std.specs.List.{flat_map}

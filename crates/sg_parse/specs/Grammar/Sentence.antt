@@ -71,7 +71,7 @@ form_pieces (Some form) n = name Form form ∷ open_bracket ∷ name Name n ∷ 
 abbrev pub param_pieces : Param → List Piece
 param_pieces p = type_pieces p.ty ++ form_pieces p.form p.name
 
--- parameters behind the first, each with its comma
+-- parameters after the first, each with its comma
 abbrev pub more_params : List Param → List Piece
 more_params params = flat_map (λ p. comma ∷ param_pieces p) params
 
@@ -79,7 +79,7 @@ abbrev pub params_pieces : List Param → List Piece
 params_pieces [] = []
 params_pieces (p ∷ params) = param_pieces p ++ more_params params
 
--- a type and the name of a field in brackets, behind the word that says what becomes of the returned word
+-- a type and the name of a field in brackets, after the word that says what becomes of the returned word
 abbrev pub returned_pieces : List ℕ → TypeName → Named → List Piece
 returned_pieces what ty field =
     word what ∷ open_bracket ∷ (type_pieces ty ++ comma ∷ name Name field ∷ close_bracket ∷ [])

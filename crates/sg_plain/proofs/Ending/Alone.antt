@@ -4,11 +4,11 @@ use Rattle.std.specs.Prelude.{slice_get, nat_le, nat_lt, unwrap_or, ◌==◌, �
 use Rattle.std.specs.List.{list_all, list_any}
 use Rattle.std.specs.declared.option.Option.{Option}
 use Rattle.std.proofs.lemmas.Bool.Decides.{nat_tests}
-use Rattle.sg_base.specs.declared.call.Call.{Call}
-use Rattle.sg_base.specs.declared.reply.Code.{Code}
-use Rattle.sg_base.specs.declared.reply.Reply.{Reply}
-use Rattle.sg_base.specs.declared.reply.Reply.TheVariants.{Refused}
-use Rattle.sg_base.specs.Lists.{Each}
+use Rattle.sg_facts.specs.sg_base.declared.call.Call.{Call}
+use Rattle.sg_facts.specs.sg_base.declared.reply.Code.{Code}
+use Rattle.sg_facts.specs.sg_base.declared.reply.Reply.{Reply}
+use Rattle.sg_facts.specs.sg_base.declared.reply.Reply.TheVariants.{Refused}
+use Rattle.sg_facts.specs.sg_base.Lists.{Each}
 use Rattle.sg_facts.specs.Facts.{Facts, fun_at, is_visible}
 use Rattle.sg_facts.specs.Guard.{guard}
 use Rattle.sg_facts.specs.Interface.{Declared}
@@ -16,9 +16,9 @@ use Rattle.sg_facts.specs.Legal.{IsLegal, Table, answer, refused_or}
 use Rattle.sg_facts.specs.Object.{Object, object_of}
 use Rattle.sg_facts.specs.declared.entry.Entry.{Entry}
 use Rattle.sg_facts.specs.declared.row.Row.{Row}
-use Rattle.sg_hist.specs.Clients.{calls_of}
-use Rattle.sg_hist.specs.declared.ended.End.{End}
-use Rattle.sg_hist.specs.declared.ended.End.TheVariants.{Done, Blocked}
+use Rattle.sg_seat.specs.sg_hist.Clients.{calls_of}
+use Rattle.sg_seat.specs.sg_hist.declared.ended.End.{End}
+use Rattle.sg_seat.specs.sg_hist.declared.ended.End.TheVariants.{Done, Blocked}
 use Rattle.sg_plain.specs.Calls.{AreEnds, EachEnd, IsEnd, ascending_from, call_after, callers, most_client, resolved, resolved_by, script_calls}
 use Rattle.sg_plain.specs.Plain.{IsPlainPlay, PlainPhase, Player, Stage, after_call, after_guard, after_turn, after_wakes, appended, at_phase, blocked, first_stage, handed_over, holding, is_under_way, left_schedule, may_turn, next_stage, next_turn, player_at, player_of, ready, replied, served, stage_after, stage_from, through, turned, waits_on, wakes, woken_phase}
 use Rattle.sg_plain.specs.Promises.{AreFirstCalls, AreScriptsCalls, GetsPlainAlone}
@@ -68,7 +68,7 @@ by_front i seq c fits front (x ∷ rest) all few =
     more [] x = refl
     more (y ∷ l) x = omega (arith, more l x)
 
--- the entry behind a front is the next call
+-- the entry after a front is the next call
 entry_at : (facts : Facts) (history : List Entry) (seq : ℕ) (front : List Entry) (e : Entry) (rest : List Entry) (calls : List ScriptCall) (c : ScriptCall)
     → AreFirstCalls facts history 1 seq (front ++ e ∷ rest) calls → slice_get calls (length front) ≡ Some c → e.call ≡ resolved_by facts history 1 (seq + length front) c
 entry_at facts history seq [] e rest [] c are at = absurd (cc at)

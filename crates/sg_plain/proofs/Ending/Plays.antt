@@ -4,10 +4,10 @@ use Rattle.std.specs.Prelude.{slice_get, nat_le, nat_lt, unwrap_or, ◌==◌, �
 use Rattle.std.specs.List.{list_all, list_any}
 use Rattle.std.specs.declared.option.Option.{Option}
 use Rattle.std.proofs.lemmas.Bool.Decides.{nat_tests}
-use Rattle.sg_base.specs.declared.call.Call.{Call}
-use Rattle.sg_base.specs.declared.reply.Code.{Code}
-use Rattle.sg_base.specs.declared.reply.Reply.{Reply}
-use Rattle.sg_base.specs.declared.reply.Reply.TheVariants.{Refused}
+use Rattle.sg_facts.specs.sg_base.declared.call.Call.{Call}
+use Rattle.sg_facts.specs.sg_base.declared.reply.Code.{Code}
+use Rattle.sg_facts.specs.sg_base.declared.reply.Reply.{Reply}
+use Rattle.sg_facts.specs.sg_base.declared.reply.Reply.TheVariants.{Refused}
 use Rattle.sg_facts.specs.Facts.{Facts, fun_at, is_visible}
 use Rattle.sg_facts.specs.Guard.{guard}
 use Rattle.sg_facts.specs.Interface.{Declared}
@@ -15,7 +15,7 @@ use Rattle.sg_facts.specs.Legal.{Table}
 use Rattle.sg_facts.specs.Object.{Object, object_of}
 use Rattle.sg_facts.specs.declared.entry.Entry.{Entry}
 use Rattle.sg_plain.specs.Calls.{ascending_from, call_after, most_client, part_of, resolved, resolved_by, script_calls}
-use Rattle.sg_plain.specs.Plain.{IsPlainPlay, PlainPhase, Player, Stage, after_call, after_guard, after_turn, appended, at_phase, blocked, behind_first, first_of, first_stage, gone_on, handed_over, holding, in_a_circle, is_under_way, left_schedule, may_turn, next_stage, next_turn, player_at, player_of, ready, replied, served, some_or, stage_after, stage_from, through, turned, woken_phase}
+use Rattle.sg_plain.specs.Plain.{IsPlainPlay, PlainPhase, Player, Stage, after_call, after_guard, after_turn, appended, at_phase, blocked, left_after_first, first_of, first_stage, gone_on, handed_over, holding, in_a_circle, is_under_way, left_schedule, may_turn, next_stage, next_turn, player_at, player_of, ready, replied, served, some_or, stage_after, stage_from, through, turned, woken_phase}
 use Rattle.sg_plain.specs.Ending.Left.{FitScript, FitsCalls, IsPlayStage, all_before, all_to_come, entries_to_come, turns_before, turns_left}
 use Rattle.sg_plain.proofs.Ending.Players.{before_set, fit_at, fit_set, fit_woken, length_set, length_woken, to_come_set, to_come_woken, woken_at, woken_from}
 use Rattle.sg_script.specs.declared.script.Script.{Script}
@@ -275,12 +275,12 @@ module _ (i : Declared) (ask : Table) (script : Script) (blocks : (o : Object) (
       by false may true from is all more = more all is
       by false may false from is all more = absurd (cc all)
 
-  rest_of : (s : Stage) (clients : List ℕ) → list_all (λ c. nat_le 1 c) clients ≡ true → list_all (λ c. nat_le 1 c) (behind_first s clients) ≡ true
+  rest_of : (s : Stage) (clients : List ℕ) → list_all (λ c. nat_le 1 c) clients ≡ true → list_all (λ c. nat_le 1 c) (left_after_first s clients) ≡ true
   rest_of s [] all = refl
   rest_of s (c ∷ clients) all = by (may_turn s c) (nat_le 1 c) all (λ rest. rest_of s clients rest)
     where
-      by : (b from : Bool) → from && list_all (λ c. nat_le 1 c) clients ≡ true → (list_all (λ c. nat_le 1 c) clients ≡ true → list_all (λ c. nat_le 1 c) (behind_first s clients) ≡ true)
-          → list_all (λ c. nat_le 1 c) (cond b clients (behind_first s clients)) ≡ true
+      by : (b from : Bool) → from && list_all (λ c. nat_le 1 c) clients ≡ true → (list_all (λ c. nat_le 1 c) clients ≡ true → list_all (λ c. nat_le 1 c) (left_after_first s clients) ≡ true)
+          → list_all (λ c. nat_le 1 c) (cond b clients (left_after_first s clients)) ≡ true
       by true true all more = all
       by true false all more = absurd (cc all)
       by false true all more = more all
@@ -410,7 +410,7 @@ module _ (i : Declared) (ask : Table) (script : Script) (blocks : (o : Object) (
     rest_is : (s : Stage) → IsPlayStage i.facts script s → list_all (λ c. nat_le 1 c) (left_schedule script s) ≡ true
     rest_is s is = by (nat_lt (player_of s 1).done (length script.setup))
       where
-        by : (b : Bool) → list_all (λ c. nat_le 1 c) (cond b s.schedule (behind_first s s.schedule)) ≡ true
+        by : (b : Bool) → list_all (λ c. nat_le 1 c) (cond b s.schedule (left_after_first s s.schedule)) ≡ true
         by true = is.turns
         by false = rest_of s s.schedule is.turns
 

@@ -4,7 +4,7 @@ use Rattle.std.proofs.lemmas.List.{length-map}
 use Rattle.std.specs.Prelude.{◌&&◌, ◌||◌, ◌==◌, nat_le}
 use Rattle.std.proofs.lemmas.Bool.Decides.{nat_tests}
 use Rattle.std.specs.List.{flat_map, list_all, list_any}
-use Rattle.sg_base.specs.Lists.{Each}
+use Rattle.sg_facts.specs.sg_base.Lists.{Each}
 use Rattle.sg_edge.specs.Stops.{AscendsAbove}
 use Rattle.sg_facts.specs.Facts.{fun_at}
 use Rattle.sg_facts.specs.Interface.{Declared}
@@ -12,9 +12,9 @@ use Rattle.sg_facts.specs.Limits.{last_client}
 use Rattle.sg_plain.specs.Calls.{part_of, script_calls}
 use Rattle.sg_plain.specs.Script.{call_fits, calls_fit}
 use Rattle.sg_plain.specs.Playing.Playable.{IsPlayable}
-use Rattle.sg_script_parse.specs.Grammar.Spelling.{Spelling}
-use Rattle.sg_script_parse.specs.declared.tree.Part.{Part}
-use Rattle.sg_script_parse.specs.declared.tree.Part.TheVariants.{Setup, Client, Schedule, Stop}
+use Rattle.sg_script.specs.sg_script_parse.Grammar.Spelling.{Spelling}
+use Rattle.sg_script.specs.sg_script_parse.declared.tree.Part.{Part}
+use Rattle.sg_script.specs.sg_script_parse.declared.tree.Part.TheVariants.{Setup, Client, Schedule, Stop}
 use Rattle.sg_script.specs.declared.fault.ScriptKind.TheVariants.{BadClient, NotAscending, Twice}
 use Rattle.sg_script.specs.declared.script.Script.{Script}
 use Rattle.sg_script.specs.declared.script.ScriptCall.{ScriptCall}

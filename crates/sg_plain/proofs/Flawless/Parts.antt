@@ -7,7 +7,7 @@ use Rattle.std.specs.Str.{bytes_eq}
 use Rattle.std.proofs.lemmas.Bool.Decides.{nat_tests}
 use Rattle.std.specs.declared.option.Option.{Option}
 use Rattle.std.specs.List.{flat_map, fold, list_all, list_any}
-use Rattle.sg_base.specs.Lists.{Each}
+use Rattle.sg_facts.specs.sg_base.Lists.{Each}
 use Rattle.sg_facts.specs.declared.shape.Kind.{Kind}
 use Rattle.sg_facts.specs.declared.shape.Kind.TheVariants.{Desc, Parent, Word, Text as IsText}
 use Rattle.sg_facts.specs.Facts.{Fun, fun_at}
@@ -16,12 +16,12 @@ use Rattle.sg_facts.specs.Limits.{last_client}
 use Rattle.sg_plain.specs.Calls.{part_of}
 use Rattle.sg_plain.specs.Script.{args_fit, call_fits, calls_fit}
 use Rattle.sg_plain.specs.Playing.Playable.{AreClients}
-use Rattle.sg_script_parse.specs.Grammar.Spelling.{Spelling}
-use Rattle.sg_script_parse.specs.declared.tree.WrittenArg.{WrittenArg}
-use Rattle.sg_script_parse.specs.declared.tree.WrittenArg.TheVariants.{Number, Text, Back}
-use Rattle.sg_script_parse.specs.declared.tree.WrittenCall.{WrittenCall}
-use Rattle.sg_script_parse.specs.declared.tree.Part.{Part}
-use Rattle.sg_script_parse.specs.declared.tree.Part.TheVariants.{Setup, Client, Schedule, Stop}
+use Rattle.sg_script.specs.sg_script_parse.Grammar.Spelling.{Spelling}
+use Rattle.sg_script.specs.sg_script_parse.declared.tree.WrittenArg.{WrittenArg}
+use Rattle.sg_script.specs.sg_script_parse.declared.tree.WrittenArg.TheVariants.{Number, Text, Back}
+use Rattle.sg_script.specs.sg_script_parse.declared.tree.WrittenCall.{WrittenCall}
+use Rattle.sg_script.specs.sg_script_parse.declared.tree.Part.{Part}
+use Rattle.sg_script.specs.sg_script_parse.declared.tree.Part.TheVariants.{Setup, Client, Schedule, Stop}
 use Rattle.sg_script.specs.declared.fault.ScriptKind.TheVariants.{BadClient, Blocking, Twice}
 use Rattle.sg_script.specs.declared.script.ScriptCall.{ScriptCall}
 use Rattle.sg_script.specs.Numbers.{counts_as, is_known_client}
@@ -115,7 +115,7 @@ abbrev pub all_calls : List (ℕ × List ScriptCall) → ℕ
 all_calls [] = 0
 all_calls (c ∷ clients) = length c.1 + all_calls clients
 
--- the calls of a client fit, behind so many setup calls
+-- the calls of a client fit, after so many setup calls
 abbrev pub Fit : Declared → ℕ → ℕ × List ScriptCall → Type 0
 Fit i setup c = calls_fit i (calls_before setup c.0 + 1) c.1 ≡ true
 

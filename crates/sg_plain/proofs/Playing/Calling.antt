@@ -3,11 +3,11 @@ use Rattle.std.proofs.Common.{◌≡◌, ◌≢◌, ◌⊎◌, ℕ, ◌+◌, ◌
 use Rattle.std.specs.Prelude.{◌==◌, slice_get}
 use Rattle.std.specs.declared.option.Option.{Option}
 use Rattle.std.proofs.lemmas.List.Elements.{filter-append}
-use Rattle.sg_base.specs.declared.call.Call.{Call}
+use Rattle.sg_facts.specs.sg_base.declared.call.Call.{Call}
 use Rattle.sg_facts.specs.declared.entry.Entry.{Entry}
 use Rattle.sg_facts.specs.Facts.{Facts, fun_at}
 use Rattle.sg_facts.specs.Interface.{Declared}
-use Rattle.sg_hist.specs.Clients.{calls_of}
+use Rattle.sg_seat.specs.sg_hist.Clients.{calls_of}
 use Rattle.sg_plain.specs.Calls.{call_after, resolved, resolved_by, script_calls}
 use Rattle.sg_plain.specs.Promises.{AreFirstCalls}
 use Rattle.sg_script.specs.declared.script.Script.{Script}

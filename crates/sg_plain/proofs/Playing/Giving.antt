@@ -1,11 +1,11 @@
--- What clients were given, behind a step.
+-- What clients were given, after a step.
 use Rattle.std.proofs.Common.{◌≡◌, ◌≢◌, ◌⊎◌, ℕ, zero, suc, ◌-◌, ◌≤◌, List, [], ◌∷◌, ◌++◌, None, Some, length, map, take, refl, sym, ◌∙◌, ap, subst, inl, inr, arith, length-append, slice_set, get_or-set_same, get_or-set_other}
 use Rattle.std.specs.declared.option.Option.{Option}
 use Rattle.std.proofs.lemmas.Option.{unwrap_or-slice_get}
 use Rattle.sg_facts.specs.declared.entry.Entry.{Entry}
 use Rattle.sg_facts.specs.Interface.{Declared}
-use Rattle.sg_hist.specs.Clients.{calls_of}
-use Rattle.sg_hist.specs.Reading.{desc_of}
+use Rattle.sg_seat.specs.sg_hist.Clients.{calls_of}
+use Rattle.sg_seat.specs.sg_hist.Reading.{desc_of}
 use Rattle.sg_seat.specs.WorldView.{Seat, seat_in}
 use Rattle.sg_script.specs.declared.script.Script.{Script}
 use Rattle.sg_plain.proofs.Playing.Lines.{same_or_other}

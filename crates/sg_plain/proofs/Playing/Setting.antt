@@ -4,7 +4,7 @@ use Rattle.std.specs.Prelude.{◌==◌, ◌&&◌, nat_lt}
 use Rattle.std.proofs.lemmas.Bool.{and_parts}
 use Rattle.std.proofs.lemmas.Bool.Decides.{nat_tests}
 use Rattle.sg_facts.specs.declared.entry.Entry.{Entry}
-use Rattle.sg_hist.specs.Clients.{calls_of}
+use Rattle.sg_seat.specs.sg_hist.Clients.{calls_of}
 use Rattle.sg_script.specs.declared.script.Script.{Script}
 use Rattle.sg_facts.proofs.Replaying.Found.{same_test}
 use Rattle.sg_plain.proofs.Playing.Lines.{same_or_other}

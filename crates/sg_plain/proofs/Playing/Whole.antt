@@ -4,10 +4,10 @@ use Rattle.std.specs.Prelude.{◌==◌, ◌&&◌, ◌||◌, nat_lt}
 use Rattle.std.specs.List.{list_all, list_any}
 use Rattle.std.proofs.lemmas.Bool.Decides.{nat_tests}
 use Rattle.std.proofs.lemmas.List.Elements.{filter-append}
-use Rattle.sg_base.specs.Lists.{Each}
+use Rattle.sg_facts.specs.sg_base.Lists.{Each}
 use Rattle.sg_facts.specs.declared.entry.Entry.{Entry}
 use Rattle.sg_facts.specs.Facts.{Facts}
-use Rattle.sg_hist.specs.Clients.{calls_of}
+use Rattle.sg_seat.specs.sg_hist.Clients.{calls_of}
 use Rattle.sg_plain.specs.Calls.{ascending_from, callers, most_client, script_calls}
 use Rattle.sg_plain.specs.Promises.{AreFirstCalls, AreScriptsCalls}
 use Rattle.sg_script.specs.declared.script.Script.{Script}

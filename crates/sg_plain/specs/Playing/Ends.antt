@@ -1,7 +1,7 @@
 -- How the clients of a play end, by their seats.
 use Rattle.std.specs.Prelude.{ℕ, ◌+◌, ◌==◌, Bool, not, if◌then◌else◌, List, [], ◌∷◌, length}
-use Rattle.sg_hist.specs.declared.ended.End.{End}
-use Rattle.sg_hist.specs.declared.ended.End.TheVariants.{Done, Blocked}
+use Rattle.sg_seat.specs.sg_hist.declared.ended.End.{End}
+use Rattle.sg_seat.specs.sg_hist.declared.ended.End.TheVariants.{Done, Blocked}
 use Rattle.sg_plain.specs.Calls.{script_calls}
 use Rattle.sg_script.specs.declared.script.Script.{Script}
 use Rattle.sg_seat.specs.WorldView.{Seat, is_blocked_phase}

@@ -2,8 +2,8 @@
 use Rattle.std.specs.Prelude.{ℕ, ◌≡◌, ◌+◌, ◌-◌, ◌≤◌, List, [], ◌∷◌, ◌++◌, None, Some, length, map, slice_get, slice_set, take, unwrap_or}
 use Rattle.std.specs.declared.option.Option.{Option}
 use Rattle.sg_facts.specs.declared.entry.Entry.{Entry}
-use Rattle.sg_hist.specs.Clients.{calls_of}
-use Rattle.sg_hist.specs.Reading.{desc_of}
+use Rattle.sg_seat.specs.sg_hist.Clients.{calls_of}
+use Rattle.sg_seat.specs.sg_hist.Reading.{desc_of}
 use Rattle.sg_plain.specs.Playing.Callers.{handed}
 use Rattle.sg_seat.specs.WorldView.{Seat, seat_in}
 

@@ -1,4 +1,4 @@
--- Which ids are live and which files have bytes behind an answered call, and what an item made stays made where entries are added.
+-- Which ids are live and which files have bytes after an answered call, and what an item made stays made where entries are added.
 use Rattle.std.proofs.Common.{◌≡◌, ◌≢◌, ◌⊎◌, ℕ, ◌≤◌, Bool, true, false, cond, List, [], ◌∷◌, ◌++◌, None, Some, find, refl, sym, ◌∙◌, ap, inl, inr, arith}
 use Rattle.std.specs.Prelude.{◌==◌, ◌&&◌, ◌||◌}
 use Rattle.std.specs.List.{list_any}
@@ -7,10 +7,10 @@ use Rattle.std.specs.declared.option.Option.{Option}
 use Rattle.std.proofs.lemmas.Bool.{and_parts, or_cases, or_left, or_right}
 use Rattle.std.proofs.lemmas.Bool.Decides.{nat_tests}
 use Rattle.std.proofs.lemmas.List.Folds.{list_any-append}
-use Rattle.sg_base.specs.declared.call.Call.{Call}
-use Rattle.sg_base.specs.declared.reply.Good.{Good}
-use Rattle.sg_base.specs.declared.reply.Reply.{Reply}
-use Rattle.sg_base.specs.declared.reply.Reply.TheVariants.{Ok, Refused}
+use Rattle.sg_facts.specs.sg_base.declared.call.Call.{Call}
+use Rattle.sg_facts.specs.sg_base.declared.reply.Good.{Good}
+use Rattle.sg_facts.specs.sg_base.declared.reply.Reply.{Reply}
+use Rattle.sg_facts.specs.sg_base.declared.reply.Reply.TheVariants.{Ok, Refused}
 use Rattle.sg_facts.specs.declared.entry.Entry.{Entry}
 use Rattle.sg_facts.specs.declared.outcome.Patch.{Patch}
 use Rattle.sg_facts.specs.declared.row.Row.{Row}
@@ -21,11 +21,11 @@ use Rattle.sg_facts.specs.Facts.{Facts, fun_at}
 use Rattle.sg_facts.specs.Object.{Object, file_at, first_text, over, patch_at, patch_of, patched, path_of, place_of, writes}
 use Rattle.sg_facts.specs.Track.{is_live, new_row, row_at, rows_after, track}
 use Rattle.sg_facts.proofs.RowLists.{row_of_live}
-use Rattle.sg_hist.specs.Reading.{desc_in, id_given, is_made, is_ok, made_by}
-use Rattle.sg_recovery_laws.proofs.Objects.Apart.{makes_row, query_keeps}
-use Rattle.sg_recovery_laws.proofs.Objects.Files.{set_other}
-use Rattle.sg_recovery_laws.proofs.Objects.Steady.{fewer_after}
-use Rattle.sg_recovery_laws.proofs.Given.{is_numbered}
+use Rattle.sg_plain.specs.sg_hist.Reading.{desc_in, id_given, is_made, is_ok, made_by}
+use Rattle.sg_world.proofs.sg_recovery_laws.Objects.Apart.{makes_row, query_keeps}
+use Rattle.sg_world.proofs.sg_recovery_laws.Objects.Files.{set_other}
+use Rattle.sg_world.proofs.sg_recovery_laws.Objects.Steady.{fewer_after}
+use Rattle.sg_world.proofs.sg_recovery_laws.Given.{is_numbered}
 use Rattle.sg_facts.proofs.Replaying.Files.{told}
 
 -- ---- ids
@@ -37,7 +37,7 @@ pub record Makes (facts : Facts) (call : Call) (reply : Reply) (id : ℕ) : Type
   pub creation : (fun_at facts.funs call.fun).creation ≡ true
   pub own : good.desc ≡ id
 
--- an id that is live behind a call was so before, or its reply made it
+-- an id that is live after a call was so before, or its reply made it
 pub live_before : (facts : Facts) (rows : List Row) (call : Call) (reply : Reply) (id : ℕ) → is_live (track facts rows call reply) id ≡ true → (is_live rows id ≡ true) ⊎ Makes facts call reply id
 live_before facts rows call (Refused code) id live = inl live
 live_before facts rows call (Ok good) id live = by (fun_at facts.funs call.fun).query refl (fun_at facts.funs call.fun).creation refl
@@ -61,7 +61,7 @@ live_before facts rows call (Ok good) id live = by (fun_at facts.funs call.fun).
 
 -- ---- files
 
--- a file that has bytes behind a patch had some before, or is the patch's
+-- a file that has bytes after a patch had some before, or is the patch's
 pub bytes_before : (files : List (List ℕ × List ℕ)) (patch : Option Patch) (path : List ℕ) → file_at (patched files patch) path ≢ []
     → (file_at files path ≢ []) ⊎ ((p : Patch) × (patch ≡ Some p) × (p.key ≡ path))
 bytes_before files None path some = inl some

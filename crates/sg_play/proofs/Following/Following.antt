@@ -4,14 +4,14 @@ use Rattle.std.specs.Prelude.{nat_lt, slice_get, unwrap_or}
 use Rattle.std.specs.List.{flat_map}
 use Rattle.std.specs.declared.option.Option.{Option}
 use Rattle.std.proofs.lemmas.Bool.Decides.{nat_tests}
-use Rattle.sg_base.specs.Lists.{Each}
-use Rattle.sg_base.specs.declared.call.Call.{Call}
-use Rattle.sg_base.specs.declared.reply.Reply.{Reply}
+use Rattle.sg_facts.specs.sg_base.Lists.{Each}
+use Rattle.sg_facts.specs.sg_base.declared.call.Call.{Call}
+use Rattle.sg_facts.specs.sg_base.declared.reply.Reply.{Reply}
 use Rattle.sg_facts.specs.declared.entry.Entry.{Entry}
 use Rattle.sg_facts.specs.Facts.{Facts}
 use Rattle.sg_facts.specs.Trace.{Boot, Run}
-use Rattle.sg_hist.specs.Clients.{calls_of}
-use Rattle.sg_hist.specs.Recovered.{HasItem, stop_in, struck_in}
+use Rattle.sg_plain.specs.sg_hist.Clients.{calls_of}
+use Rattle.sg_plain.specs.sg_hist.Recovered.{HasItem, stop_in, struck_in}
 use Rattle.sg_plain.specs.Calls.{call_after, most_client, resolved, script_calls}
 use Rattle.sg_plain.specs.Plain.{IsPlainPlay, Stage, left_schedule, next_turn, player_at, stage_after}
 use Rattle.sg_plain.specs.Promises.{FollowsPlain, is_in_first_boot, up_to_last}
@@ -20,17 +20,17 @@ use Rattle.sg_play.specs.Turning.{StepsInTurn, behind_step, with_call, with_leav
 use Rattle.sg_plain.specs.Playing.Plays.{IsPlaying}
 use Rattle.sg_plain.specs.Playing.Turns.{is_free_phase}
 use Rattle.sg_plain.proofs.Playing.Lines.{seat_here}
-use Rattle.sg_script.specs.declared.script.Script.{Script}
-use Rattle.sg_script.specs.declared.script.ScriptCall.{ScriptCall}
-use Rattle.sg_seat.specs.WorldView.{Seat, WorldView, happened, in_phase, is_left_phase, new_world, no_seat, offered, seat_of, with_leave, with_mark, with_seat}
-use Rattle.sg_seat.specs.declared.mark.MarkKind.{MarkKind}
-use Rattle.sg_seat.specs.declared.mark.MarkKind.TheVariants.{Leave, Offer}
-use Rattle.sg_seat.specs.declared.phase.Phase.{Phase as SeatPhase}
-use Rattle.sg_seat.specs.declared.phase.Phase.TheVariants.{Idle, Asked, Held, Receipted, Blocked, Left}
+use Rattle.sg_plain.specs.sg_script.declared.script.Script.{Script}
+use Rattle.sg_plain.specs.sg_script.declared.script.ScriptCall.{ScriptCall}
+use Rattle.sg_plain.specs.sg_seat.WorldView.{Seat, WorldView, happened, in_phase, is_left_phase, new_world, no_seat, offered, seat_of, with_leave, with_mark, with_seat}
+use Rattle.sg_plain.specs.sg_seat.declared.mark.MarkKind.{MarkKind}
+use Rattle.sg_plain.specs.sg_seat.declared.mark.MarkKind.TheVariants.{Leave, Offer}
+use Rattle.sg_plain.specs.sg_seat.declared.phase.Phase.{Phase as SeatPhase}
+use Rattle.sg_plain.specs.sg_seat.declared.phase.Phase.TheVariants.{Idle, Asked, Held, Receipted, Blocked, Left}
 use Rattle.sg_world.specs.declared.did.Did.{Did}
 use Rattle.sg_world.specs.declared.did.Did.TheVariants.{Answered, Blocked as Waits, Booted, Loaded, Lost, Replayed, Served, Skipped, Struck}
 use Rattle.sg_world.specs.Steps.{Steps, WantsMemory}
-use Rattle.sg_world_laws.specs.Setting.{Setting}
+use Rattle.sg_world.specs.sg_world_laws.Setting.{Setting}
 use Rattle.sg_play.specs.Following.Follows.{IsPastStop, HoldsSo, IsFollowing, NeverStopped}
 use Rattle.sg_play.specs.Following.Stages.{IsNextTurn, player_by, stage_of}
 use Rattle.sg_play.proofs.Following.Fronts.{up_to_front, up_to_takes}
@@ -121,7 +121,7 @@ following_offer z script w client passed last first within f =
         following_happened z script (offered w client call) passed last (remarked z script (with_seat w client new) passed last client Offer
         (reseated z script w passed last client new first within f (sym (free_player script client (seat_of w client) free)) (λ held. cc held) (λ receipted. cc receipted)))
 
--- and the stage behind it is that before
+-- and the stage after it is that before
 pub stage_offered : (facts : Facts) (script : Script) (w : WorldView) (client passed last : ℕ) → 1 ≤ client → client ≤ length w.seats
     → stage_of script (with_offer facts script w client) passed last ≡ stage_of script w passed last
 stage_offered facts script w client passed last first within = by (is_free_phase (seat_of w client).phase) refl (call_after facts script w.history client (length (calls_of w.history client)))
@@ -144,7 +144,7 @@ no_more calls k none = not_below k (length calls) (by calls k none)
     by (c ∷ l) zero none = absurd (cc none)
     by (c ∷ l) (suc m) none = omega (arith, by l m none)
 
--- and behind it who has no call under way has none left
+-- and after it who has no call under way has none left
 pub offered_first : (z : Setting) (script : Script) (w : WorldView) (given : List (List ℕ)) (client : ℕ) → IsPlaying z.iface script w.history w.seats given → 1 ≤ client → client ≤ length w.seats
     → is_free_phase (seat_of (with_offer z.iface.facts script w client) client).phase ≡ true
     → nat_lt (seat_of (with_offer z.iface.facts script w client) client).seq (length (script_calls script client)) ≡ false
@@ -216,11 +216,11 @@ module _ (z : Setting) (script : Script) (x now : WorldView) (given : List (List
   by_did Waits w l y counted same = plain Waits w l (same ∙ counted)
   by_did Lost w l y counted same = plain Lost w l (same ∙ counted)
 
-  -- the turn of the client whose turn it is in the play without stops, behind its offer
+  -- the turn of the client whose turn it is in the play without stops, after its offer
   pub following_turn : (handed : Option ℕ) → StepsInTurn z script x client handed now → IsFollowing z script now later client
   following_turn handed t = by_did t.did t.stepped.later t.stepped.steps t.later t.stepped.counted t.is
 
--- the same of an offer with the turn behind it
+-- the same of an offer with the turn after it
 module _ (z : Setting) (script : Script) (w : WorldView) (given : List (List ℕ)) (client passed last : ℕ) (is : IsPlaying z.iface script w.history w.seats given) (first : 1 ≤ client)
     (within : client ≤ length w.seats) (f : IsFollowing z script w passed last) where
   abbrev behind : WorldView

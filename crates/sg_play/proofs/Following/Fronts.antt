@@ -15,7 +15,7 @@ module _ (test : Entry → Bool) where
   none_left [] none = refl
   none_left (e ∷ l) none = ap (λ b. cond b (e ∷ up_to_last test l) []) none
 
-  -- what comes behind and meets it nowhere makes no difference
+  -- what comes after and meets it nowhere makes no difference
   pub up_to_front : (front more : List Entry) → list_any test more ≡ false → up_to_last test (front ++ more) ≡ up_to_last test front
   up_to_front [] more none = none_left more none
   up_to_front (e ∷ front) more none =

@@ -4,23 +4,23 @@ use Rattle.std.specs.Prelude.{◌==◌, ◌&&◌, ◌||◌, reverse}
 use Rattle.std.specs.List.{list_any}
 use Rattle.std.specs.declared.option.Option.{Option}
 use Rattle.std.proofs.lemmas.Bool.Decides.{nat_tests}
-use Rattle.sg_base.specs.Lists.{Each, When}
+use Rattle.sg_facts.specs.sg_base.Lists.{Each, When}
 use Rattle.sg_facts.specs.declared.entry.Entry.{Entry}
 use Rattle.sg_facts.specs.declared.trace.Item.{Item}
 use Rattle.sg_facts.specs.declared.trace.Tag.TheVariants.{Walk, Load, Client}
 use Rattle.sg_facts.specs.Facts.{Facts}
 use Rattle.sg_facts.specs.Trace.{Run}
-use Rattle.sg_hist.specs.Clients.{calls_of}
-use Rattle.sg_hist.specs.Reading.{Position, desc_in, desc_of, id_given, is_by_guard, is_item_of, is_tagged, item_of, places_in, places_of}
-use Rattle.sg_hist.specs.Recovered.{GivesEntry, HasItem}
+use Rattle.sg_plain.specs.sg_hist.Clients.{calls_of}
+use Rattle.sg_plain.specs.sg_hist.Reading.{Position, desc_in, desc_of, id_given, is_by_guard, is_item_of, is_tagged, item_of, places_in, places_of}
+use Rattle.sg_plain.specs.sg_hist.Recovered.{GivesEntry, HasItem}
 use Rattle.sg_plain.specs.Promises.{AreFirstCalls}
-use Rattle.sg_world_laws.proofs.Items.{IsAmong, among_in, found_passes}
-use Rattle.sg_hist.specs.Growing.{IsOfNoEntry}
-use Rattle.sg_recovery_laws.proofs.Given.{is_numbered}
-use Rattle.sg_recovery_laws.proofs.Lists.{each_append}
-use Rattle.sg_recovery_laws.proofs.Served.{Has, each_reverse, found_has}
-use Rattle.sg_script.specs.declared.script.ScriptCall.{ScriptCall}
-use Rattle.sg_recovery_laws.specs.LastItem.LastPlace.{HaveItems}
+use Rattle.sg_world.proofs.sg_world_laws.Items.{IsAmong, among_in, found_passes}
+use Rattle.sg_plain.specs.sg_hist.Growing.{IsOfNoEntry}
+use Rattle.sg_world.proofs.sg_recovery_laws.Given.{is_numbered}
+use Rattle.sg_world.proofs.sg_recovery_laws.Lists.{each_append}
+use Rattle.sg_world.proofs.sg_recovery_laws.Served.{Has, each_reverse, found_has}
+use Rattle.sg_plain.specs.sg_script.declared.script.ScriptCall.{ScriptCall}
+use Rattle.sg_world.specs.sg_recovery_laws.LastItem.LastPlace.{HaveItems}
 use Rattle.sg_facts.proofs.Replaying.Found.{other_test}
 
 -- ---- numbers

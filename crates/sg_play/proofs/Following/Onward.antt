@@ -2,10 +2,10 @@
 use Rattle.std.proofs.Common.{◌≡◌, ◌⊎◌, ℕ, zero, suc, ◌+◌, ◌-◌, ◌<◌, ◌≤◌, Bool, true, false, cond, List, [], ◌∷◌, ◌++◌, None, Some, refl, sym, ◌∙◌, ap, subst, inl, inr, arith, append-nil, append_assoc}
 use Rattle.std.specs.declared.option.Option.{Option}
 use Rattle.std.proofs.lemmas.Bool.{cases_lt}
-use Rattle.sg_base.specs.declared.call.Call.{Call}
-use Rattle.sg_base.specs.declared.reply.Code.{Code}
-use Rattle.sg_base.specs.declared.reply.Reply.{Reply}
-use Rattle.sg_base.specs.declared.reply.Reply.TheVariants.{Refused}
+use Rattle.sg_facts.specs.sg_base.declared.call.Call.{Call}
+use Rattle.sg_facts.specs.sg_base.declared.reply.Code.{Code}
+use Rattle.sg_facts.specs.sg_base.declared.reply.Reply.{Reply}
+use Rattle.sg_facts.specs.sg_base.declared.reply.Reply.TheVariants.{Refused}
 use Rattle.sg_facts.specs.declared.entry.Entry.{Entry}
 use Rattle.sg_facts.specs.Facts.{is_visible}
 use Rattle.sg_facts.specs.Guard.{guard}
@@ -14,7 +14,7 @@ use Rattle.sg_facts.specs.Legal.{Table}
 use Rattle.sg_facts.specs.Object.{object_of}
 use Rattle.sg_plain.specs.Calls.{call_after}
 use Rattle.sg_plain.specs.Plain.{IsPlainPlay, PlainPhase, Stage, after_call, after_guard, after_turn, appended, at_phase, blocked, first_stage, handed_over, holding, left_schedule, next_stage, next_turn, player_of, ready, replied, served, stage_after, stage_from, through, turned}
-use Rattle.sg_script.specs.declared.script.Script.{Script}
+use Rattle.sg_plain.specs.sg_script.declared.script.Script.{Script}
 
 -- a list begins with another
 pub record Begins (front whole : List Entry) : Type 0 where

@@ -1,10 +1,10 @@
--- The players of seats, by look-ups and behind small changes of the seats.
+-- The players of seats, by look-ups and after small changes of the seats.
 use Rattle.std.proofs.Common.{◌≡◌, ℕ, zero, suc, ◌+◌, ◌-◌, ◌<◌, ◌≤◌, Bool, true, false, cond, List, [], ◌∷◌, None, Some, length, map, refl, sym, ◌∙◌, ap, subst, arith, slice_set, replicate}
 use Rattle.std.specs.Prelude.{nat_lt, slice_get, unwrap_or}
 use Rattle.std.proofs.lemmas.Bool.Decides.{nat_tests}
-use Rattle.sg_base.specs.declared.call.Call.{Call}
-use Rattle.sg_base.specs.declared.reply.Reply.{Reply}
-use Rattle.sg_base.specs.declared.reply.Reply.TheVariants.{Ok, Refused}
+use Rattle.sg_facts.specs.sg_base.declared.call.Call.{Call}
+use Rattle.sg_facts.specs.sg_base.declared.reply.Reply.{Reply}
+use Rattle.sg_facts.specs.sg_base.declared.reply.Reply.TheVariants.{Ok, Refused}
 use Rattle.sg_facts.specs.declared.entry.Entry.{Entry}
 use Rattle.sg_facts.specs.declared.row.Row.{Row}
 use Rattle.sg_facts.specs.Facts.{Facts}
@@ -12,11 +12,11 @@ use Rattle.sg_plain.specs.Calls.{ascending_from, call_after, script_calls}
 use Rattle.sg_plain.specs.Plain.{Player, after_wakes, blocked, holding, player_at, ready, replied, through, waits_on, wakes, woken_phase}
 use Rattle.sg_plain.specs.Playing.Callers.{IsCaller, handed}
 use Rattle.sg_plain.proofs.Playing.Calling.{IsNext, next_of}
-use Rattle.sg_script.specs.declared.script.Script.{Script}
-use Rattle.sg_script.specs.declared.script.ScriptCall.{ScriptCall}
-use Rattle.sg_seat.specs.WorldView.{Seat, no_seat, seat_in, wakes_seat, woken_seat}
-use Rattle.sg_seat.specs.declared.phase.Phase.{Phase as SeatPhase}
-use Rattle.sg_seat.specs.declared.phase.Phase.TheVariants.{Idle, Asked, Held, Receipted, Blocked, Left}
+use Rattle.sg_plain.specs.sg_script.declared.script.Script.{Script}
+use Rattle.sg_plain.specs.sg_script.declared.script.ScriptCall.{ScriptCall}
+use Rattle.sg_plain.specs.sg_seat.WorldView.{Seat, no_seat, seat_in, wakes_seat, woken_seat}
+use Rattle.sg_plain.specs.sg_seat.declared.phase.Phase.{Phase as SeatPhase}
+use Rattle.sg_plain.specs.sg_seat.declared.phase.Phase.TheVariants.{Idle, Asked, Held, Receipted, Blocked, Left}
 use Rattle.sg_play.specs.Following.Stages.{player_by, players_by}
 
 -- ---- look-ups

@@ -1,11 +1,11 @@
 -- What holds of each seat, where one is another then, or those who wait are woken.
 use Rattle.std.proofs.Common.{◌≡◌, ◌≢◌, ◌⊎◌, ℕ, ◌-◌, ◌≤◌, Bool, true, false, cond, List, length, map, sym, subst, inl, inr, slice_set}
 use Rattle.std.specs.Prelude.{◌&&◌}
-use Rattle.sg_base.specs.declared.call.Call.{Call}
+use Rattle.sg_facts.specs.sg_base.declared.call.Call.{Call}
 use Rattle.sg_facts.specs.Facts.{Facts}
 use Rattle.sg_plain.proofs.Playing.Lines.{same_or_other, seat_here, seat_there, seat_woken}
-use Rattle.sg_seat.specs.WorldView.{Seat, is_blocked_phase, seat_in, woken_seat}
-use Rattle.sg_seat.specs.declared.phase.Phase.TheVariants.{Asked, Held, Receipted}
+use Rattle.sg_plain.specs.sg_seat.WorldView.{Seat, is_blocked_phase, seat_in, woken_seat}
+use Rattle.sg_plain.specs.sg_seat.declared.phase.Phase.TheVariants.{Asked, Held, Receipted}
 use Rattle.sg_play.specs.Following.Follows.{HoldsSo}
 
 -- a reply that is held is of the first boot

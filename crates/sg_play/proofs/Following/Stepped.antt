@@ -2,12 +2,12 @@
 use Rattle.std.proofs.Common.{◌≡◌, ◌≢◌, ◌⊎◌, ℕ, suc, ◌+◌, ◌-◌, ◌≤◌, Bool, true, false, List, [], ◌∷◌, ◌++◌, None, Some, IsSome, drop, is_some, length, map, refl, sym, ◌∙◌, ap, subst, inl, inr, arith, slice_set}
 use Rattle.std.specs.Prelude.{◌==◌, ◌&&◌, nat_lt}
 use Rattle.std.specs.declared.option.Option.{Option}
-use Rattle.sg_base.specs.Lists.{Each}
-use Rattle.sg_base.specs.Stops.{asked_after}
-use Rattle.sg_base.specs.declared.call.Call.{Call}
-use Rattle.sg_base.specs.declared.reply.Good.{Good}
-use Rattle.sg_base.specs.declared.reply.Reply.{Reply}
-use Rattle.sg_base.specs.declared.reply.Reply.TheVariants.{Ok, Refused}
+use Rattle.sg_facts.specs.sg_base.Lists.{Each}
+use Rattle.sg_facts.specs.sg_base.Stops.{asked_after}
+use Rattle.sg_facts.specs.sg_base.declared.call.Call.{Call}
+use Rattle.sg_facts.specs.sg_base.declared.reply.Good.{Good}
+use Rattle.sg_facts.specs.sg_base.declared.reply.Reply.{Reply}
+use Rattle.sg_facts.specs.sg_base.declared.reply.Reply.TheVariants.{Ok, Refused}
 use Rattle.sg_facts.specs.declared.entry.Entry.{Entry}
 use Rattle.sg_facts.specs.declared.trace.Item.{Item}
 use Rattle.sg_facts.specs.declared.trace.Tag.TheVariants.{Client}
@@ -16,9 +16,9 @@ use Rattle.sg_facts.specs.Guard.{guard}
 use Rattle.sg_facts.specs.Legal.{answer, refused_or}
 use Rattle.sg_facts.specs.Object.{Object, object_of}
 use Rattle.sg_facts.specs.Trace.{Boot, Run}
-use Rattle.sg_hist.specs.Clients.{calls_of}
-use Rattle.sg_hist.specs.Reading.{after_item, is_by_guard, is_item_of, is_tagged}
-use Rattle.sg_hist.specs.Recovered.{HasItem}
+use Rattle.sg_plain.specs.sg_hist.Clients.{calls_of}
+use Rattle.sg_plain.specs.sg_hist.Reading.{after_item, is_by_guard, is_item_of, is_tagged}
+use Rattle.sg_plain.specs.sg_hist.Recovered.{HasItem}
 use Rattle.sg_plain.specs.Calls.{script_calls}
 use Rattle.sg_plain.specs.Plain.{Stage, after_turn, blocked, holding, left_schedule, next_turn, player_at, player_of, replied, stage_after, turned}
 use Rattle.sg_play.specs.Recovering.{RecoversSoFar}
@@ -27,18 +27,18 @@ use Rattle.sg_plain.specs.Playing.Plays.{IsPlaying}
 use Rattle.sg_plain.specs.Playing.Turns.{is_free_phase}
 use Rattle.sg_plain.proofs.Playing.Calling.{its_client, next_of}
 use Rattle.sg_plain.proofs.Playing.Lines.{handed_woken, length_map, length_set, seat_here, seat_woken}
-use Rattle.sg_hist.specs.Growing.{IsNextItem, noted, place_behind, struck}
-use Rattle.sg_script.specs.declared.script.Script.{Script}
-use Rattle.sg_seat.specs.WorldView.{Seat, WorldView, answered_to, boot_number, committed, given_to, is_offered, item_noted, no_reply, rebooted, seat_in, seat_of, struck_at, unanswered, wakes_seat, woken_seat}
-use Rattle.sg_seat.specs.declared.phase.Phase.{Phase as SeatPhase}
-use Rattle.sg_seat.specs.declared.phase.Phase.TheVariants.{Idle, Asked, Held, Receipted, Blocked, Left}
-use Rattle.sg_recovery_laws.specs.LastItem.LastPlace.{HaveItems, last_place}
+use Rattle.sg_plain.specs.sg_hist.Growing.{IsNextItem, noted, place_after, struck}
+use Rattle.sg_plain.specs.sg_script.declared.script.Script.{Script}
+use Rattle.sg_plain.specs.sg_seat.WorldView.{Seat, WorldView, answered_to, boot_number, committed, given_to, is_offered, item_noted, no_reply, rebooted, seat_in, seat_of, struck_at, unanswered, wakes_seat, woken_seat}
+use Rattle.sg_plain.specs.sg_seat.declared.phase.Phase.{Phase as SeatPhase}
+use Rattle.sg_plain.specs.sg_seat.declared.phase.Phase.TheVariants.{Idle, Asked, Held, Receipted, Blocked, Left}
+use Rattle.sg_world.specs.sg_recovery_laws.LastItem.LastPlace.{HaveItems, last_place}
 use Rattle.sg_facts.proofs.Replaying.Found.{same_test}
 use Rattle.sg_world.specs.declared.did.Did.{Did}
 use Rattle.sg_world.specs.declared.did.Did.TheVariants.{Answered, Blocked as Waits, Booted, Loaded, Lost, Replayed, Served, Skipped, Struck}
 use Rattle.sg_world.specs.Steps.{Commits, HandsOver, Holds, Loads, Loses, Refuses, Replays, Returns, Skips, Steps, WaitsNow}
-use Rattle.sg_world_laws.proofs.Refusing.{by_the_guard}
-use Rattle.sg_world_laws.specs.Setting.{Setting, stubs_of}
+use Rattle.sg_world.proofs.sg_world_laws.Refusing.{by_the_guard}
+use Rattle.sg_world.specs.sg_world_laws.Setting.{Setting, stubs_of}
 use Rattle.sg_play.specs.Following.Follows.{IsPastStop, HoldAll, HoldsSo, IsAllThere, IsFollowing, NeverStopped}
 use Rattle.sg_play.specs.Following.Stages.{player_by, stage_of}
 use Rattle.sg_play.proofs.Following.Numbered.{NoneHas, have_items, next_is_new, one_boot}
@@ -87,7 +87,7 @@ module _ (z : Setting) (script : Script) (x : WorldView) (given : List (List ℕ
       ap handed (seat_woken (wakes_seat z.iface.facts (object_of z.iface.facts x.history).rows s.call reply) x.seats c)
       ∙ handed_woken (wakes_seat z.iface.facts (object_of z.iface.facts x.history).rows s.call reply) s
 
-  -- its seat behind an entry
+  -- its seat after an entry
   abbrev behind : Reply → SeatPhase → Reply → Seat
   behind reply p kept = record (seat_in (woken reply) c) { phase = p; seq = s.call.seq; reply = kept }
 
@@ -129,7 +129,7 @@ module _ (z : Setting) (script : Script) (x : WorldView) (given : List (List ℕ
   abbrev At : WorldView → Type 0
   At y = HoldAll z.iface.facts y.seats
 
-  -- each client's seat behind a step
+  -- each client's seat after a step
   pub hold_stepped : (did : Did) (w : WorldView) → Steps z x c did w → HoldAll z.iface.facts w.seats
   hold_stepped did w l = by did l
     where
@@ -329,12 +329,12 @@ module _ (z : Setting) (script : Script) (x : WorldView) (given : List (List ℕ
     -- nothing is to be brought back
     now_replays : (w : WorldView) → Replays z x c w → ⊥
     now_replays w l =
-        let next : IsNextItem (stubs_of z) x.history (unanswered x) (last_place [] a.items l.item) = subst (λ b. IsNextItem (stubs_of z) x.history (unanswered x) (place_behind [] b l.item)) a.one l.noted.next in
+        let next : IsNextItem (stubs_of z) x.history (unanswered x) (last_place [] a.items l.item) = subst (λ b. IsNextItem (stubs_of z) x.history (unanswered x) (place_after [] b l.item)) a.one l.noted.next in
         none_walked z.iface.facts (stubs_of z) x.history a.items l.item l.id l.k c a.all_there has l.tag next.settled.walk
 
     now_loads : (w : WorldView) → Loads z x c w → ⊥
     now_loads w l =
-        let next : IsNextItem (stubs_of z) x.history (unanswered x) (last_place [] a.items l.item) = subst (λ b. IsNextItem (stubs_of z) x.history (unanswered x) (place_behind [] b l.item)) a.one l.noted.next in
+        let next : IsNextItem (stubs_of z) x.history (unanswered x) (last_place [] a.items l.item) = subst (λ b. IsNextItem (stubs_of z) x.history (unanswered x) (place_after [] b l.item)) a.one l.noted.next in
         none_loaded (stubs_of z) x.history (unanswered x) a.items l.item l.key c a.all_there has l.tag next.settled.demand
 
     now_waits : (w : WorldView) → WaitsNow z x c w → Now w
@@ -392,12 +392,12 @@ module _ (z : Setting) (script : Script) (x : WorldView) (given : List (List ℕ
       boots_now : w.run.boots ≡ record { items = a.items ++ l.asks.item ∷ []; stop = None } ∷ []
       boots_now = ap (λ (y : WorldView). y.run.boots) l.now ∙ noted_is l.asks.item
 
-      -- all is there behind it, where each entry has its item
+      -- all is there after it, where each entry has its item
       there_then : Each (HasItem z.iface.facts w.history w.run) w.history → IsAllThere z.iface.facts (x.history ++ entry_by l.reply ∷ []) (a.items ++ l.asks.item ∷ [])
       there_then served =
           there_committed (stubs_of z) x.history a.items a.all_there has s.call l.reply l.asks.item next_id
           (l.asks.tag ∙ ap (λ n. Client n s.call.seq) (sym (its offering))) l.asks.shown l.outcome new_number (unanswered w)
-          (subst (λ b. IsNextItem (stubs_of z) (x.history ++ entry_by l.reply ∷ []) (unanswered w) (place_behind [] b l.asks.item)) a.one l.noted.next) w.run.points
+          (subst (λ b. IsNextItem (stubs_of z) (x.history ++ entry_by l.reply ∷ []) (unanswered w) (place_after [] b l.asks.item)) a.one l.noted.next) w.run.points
           (subst (λ h. Each (HasItem z.iface.facts h (one_boot (a.items ++ l.asks.item ∷ []) w.run.points)) h) history_now
           (subst (λ (r : Run). Each (HasItem z.iface.facts w.history r) w.history) (ap (λ b. record { boots = b; points = w.run.points }) boots_now) served))
         where
@@ -415,7 +415,7 @@ module _ (z : Setting) (script : Script) (x : WorldView) (given : List (List ℕ
           (goes_on (x.history ++ entry_by l.reply ∷ []) w.run.boots (Some (after_item z.iface.facts l.asks.service l.asks.item)) (slice_set (woken l.reply) (c - 1) new_seat) (a.items ++ l.asks.item ∷ []) boots_now refl
           (there_then served) (held_entered l.reply new_seat (λ held. absurd (cc held))) turn_is_commit)))
 
-      -- or the service stops behind it
+      -- or the service stops after it
       stops_behind : (stop : ℕ) → IsPastStop z script w.history (struck w.run.boots stop) None
       stops_behind stop =
           stops_first z script w.history (struck w.run.boots stop) (a.items ++ l.asks.item ∷ []) stop (suc a.turns) (ap (λ b. struck b stop) boots_now) (history_now ∙ history_then)

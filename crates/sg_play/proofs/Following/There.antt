@@ -4,11 +4,11 @@ use Rattle.std.specs.Prelude.{◌==◌, ◌&&◌, ◌||◌}
 use Rattle.std.specs.List.{list_any}
 use Rattle.std.specs.Str.{bytes_eq}
 use Rattle.std.specs.declared.option.Option.{Option}
-use Rattle.sg_base.specs.Lists.{Each, When}
-use Rattle.sg_base.specs.declared.call.Call.{Call}
-use Rattle.sg_base.specs.declared.reply.Good.{Good}
-use Rattle.sg_base.specs.declared.reply.Reply.{Reply}
-use Rattle.sg_base.specs.declared.reply.Reply.TheVariants.{Ok, Refused}
+use Rattle.sg_facts.specs.sg_base.Lists.{Each, When}
+use Rattle.sg_facts.specs.sg_base.declared.call.Call.{Call}
+use Rattle.sg_facts.specs.sg_base.declared.reply.Good.{Good}
+use Rattle.sg_facts.specs.sg_base.declared.reply.Reply.{Reply}
+use Rattle.sg_facts.specs.sg_base.declared.reply.Reply.TheVariants.{Ok, Refused}
 use Rattle.sg_facts.specs.declared.entry.Entry.{Entry}
 use Rattle.sg_facts.specs.declared.outcome.Outcome.{Outcome}
 use Rattle.sg_facts.specs.declared.outcome.Outcome.TheVariants.{Replied, Blocks, Stopped, NoMemory}
@@ -21,15 +21,15 @@ use Rattle.sg_facts.specs.Facts.{Facts, fun_at, is_visible}
 use Rattle.sg_facts.specs.Object.{Object, file_at, first_text, object_of, patch_of, path_of, writes}
 use Rattle.sg_facts.specs.Track.{is_live, row_at}
 use Rattle.sg_facts.proofs.RowLists.{live_of_row}
-use Rattle.sg_hist.specs.Reading.{Position, desc_of, id_given, is_by_guard, is_item_of, is_made, is_ok, is_tagged, item_of, made_by, names_at, object_before, service_call, stands_before, value_at}
-use Rattle.sg_hist.specs.Recovered.{AskedAs, GivesEntry, HasItem, IsByTable, IsCallOfRow, IsDemanded, IsLoad, IsLoadedFor, IsRenamed, IsReplyOf, IsTracked, IsTrackedAt, IsWalked, Stubs, is_patch_at, is_replied}
-use Rattle.sg_hist.specs.Growing.{IsNextItem, IsOfNoEntry}
-use Rattle.sg_recovery_laws.proofs.Given.{is_numbered, made_visible}
-use Rattle.sg_hist.proofs.Growing.{entries_before-not_yet, object_of-more, places-more}
-use Rattle.sg_recovery_laws.proofs.Lists.{each_split}
-use Rattle.sg_recovery_laws.proofs.Served.{item_of-own}
-use Rattle.sg_recovery_laws.specs.LastItem.LastPlace.{HaveItems, last_place}
-use Rattle.sg_recovery_laws.proofs.LastItem.Behind.{object_before_last}
+use Rattle.sg_plain.specs.sg_hist.Reading.{Position, desc_of, id_given, is_by_guard, is_item_of, is_made, is_ok, is_tagged, item_of, made_by, names_at, object_before, service_call, stands_before, value_at}
+use Rattle.sg_plain.specs.sg_hist.Recovered.{AskedAs, GivesEntry, HasItem, IsByTable, IsCallOfRow, IsDemanded, IsLoad, IsLoadedFor, IsRenamed, IsReplyOf, IsTracked, IsTrackedAt, IsWalked, Stubs, is_patch_at, is_replied}
+use Rattle.sg_plain.specs.sg_hist.Growing.{IsNextItem, IsOfNoEntry}
+use Rattle.sg_world.proofs.sg_recovery_laws.Given.{is_numbered, made_visible}
+use Rattle.sg_plain.proofs.sg_hist.Growing.{entries_before-not_yet, object_of-more, places-more}
+use Rattle.sg_world.proofs.sg_recovery_laws.Lists.{each_split}
+use Rattle.sg_world.proofs.sg_recovery_laws.Served.{item_of-own}
+use Rattle.sg_world.specs.sg_recovery_laws.LastItem.LastPlace.{HaveItems, last_place}
+use Rattle.sg_world.proofs.sg_recovery_laws.LastItem.Behind.{object_before_last}
 use Rattle.sg_facts.proofs.Replaying.Files.{told}
 use Rattle.sg_facts.proofs.Replaying.Found.{same_test}
 use Rattle.sg_play.specs.Following.Follows.{IsAllThere}
@@ -65,7 +65,7 @@ module _ (facts : Facts) (history : List Entry) (call : Call) (reply : Reply) (i
   file_then path some = bytes_before (object_of facts history).files (patch_of facts (object_of facts history) call reply) path
       (λ none. some (ap (λ (o : Object). file_at o.files path) (object_of-more facts history entry) ∙ none))
 
-  -- all is there behind it where that is which it made and wrote
+  -- all is there after it where that is which it made and wrote
   pub there_entered : (later : List Item)
       → ((test : Item → Bool) → list_any test items ≡ true → list_any test later ≡ true)
       → ((id : ℕ) → Makes facts call reply id → (1 ≤ id) × (list_any (is_made facts (history ++ entry ∷ []) id) later ≡ true))
@@ -255,6 +255,6 @@ module _ (s : Stubs) (history : List Entry) (items : List Item) (is : IsAllThere
           by (inl yes_it) = yes_it.0
           by (inr other) = absurd (other.1 is_it)
 
-  -- all is there behind a visible reply that was committed
+  -- all is there after a visible reply that was committed
   pub there_committed : IsAllThere facts h (items ++ item ∷ [])
   there_committed = there_entered facts history call reply items is (items ++ item ∷ []) (λ test any. any_left test items (item ∷ []) any) made written

@@ -6,12 +6,12 @@ use Rattle.std.proofs.lemmas.Bool.{and_parts, cases_lt}
 use Rattle.std.proofs.lemmas.Bool.Decides.{nat_tests}
 use Rattle.sg_facts.specs.Interface.{Declared}
 use Rattle.sg_plain.specs.Calls.{ascending_from}
-use Rattle.sg_plain.specs.Plain.{Stage, behind_first, first_of, in_a_circle, left_schedule, may_turn, next_turn, player_of, some_or}
+use Rattle.sg_plain.specs.Plain.{Stage, left_after_first, first_of, in_a_circle, left_schedule, may_turn, next_turn, player_of, some_or}
 use Rattle.sg_plain.specs.Playing.Callers.{is_setting_up}
 use Rattle.sg_plain.specs.Playing.Plays.{IsPlaying}
 use Rattle.sg_plain.specs.Playing.Turns.{NobodyGoes}
-use Rattle.sg_script.specs.declared.script.Script.{Script}
-use Rattle.sg_seat.specs.WorldView.{WorldView}
+use Rattle.sg_plain.specs.sg_script.declared.script.Script.{Script}
+use Rattle.sg_plain.specs.sg_seat.WorldView.{WorldView}
 use Rattle.sg_play.specs.Following.Stages.{IsNextTurn, stage_of}
 use Rattle.sg_play.proofs.Following.Turns.{clients_alike, setup_alike, turns_alike, turns_beyond}
 
@@ -22,25 +22,25 @@ module _ (s : Stage) where
   abbrev pub NoneMay : List ℕ → Type 0
   NoneMay clients = (k client : ℕ) → slice_get clients k ≡ Some client → may_turn s client ≡ false
 
-  none_first : (clients : List ℕ) → NoneMay clients → (first_of s clients ≡ None) × (behind_first s clients ≡ [])
+  none_first : (clients : List ℕ) → NoneMay clients → (first_of s clients ≡ None) × (left_after_first s clients ≡ [])
   none_first [] none = (refl, refl)
   none_first (c ∷ clients) none =
       let here : may_turn s c ≡ false = none zero c refl in
       let rest = none_first clients (λ k client there. none (suc k) client there) in
-      (ap (λ b. cond b (Some c) (first_of s clients)) here ∙ rest.0, ap (λ b. cond b clients (behind_first s clients)) here ∙ rest.1)
+      (ap (λ b. cond b (Some c) (first_of s clients)) here ∙ rest.0, ap (λ b. cond b clients (left_after_first s clients)) here ∙ rest.1)
 
   first_at : (clients : List ℕ) (k client : ℕ) → slice_get clients k ≡ Some client → may_turn s client ≡ true → ((j other : ℕ) → j < k → slice_get clients j ≡ Some other → may_turn s other ≡ false)
-      → (first_of s clients ≡ Some client) × (behind_first s clients ≡ drop (k + 1) clients)
+      → (first_of s clients ≡ Some client) × (left_after_first s clients ≡ drop (k + 1) clients)
   first_at [] k client there may before = absurd (cc there)
   first_at (c ∷ clients) zero client there may before =
       let same : c ≡ client = cc there in
       let here : may_turn s c ≡ true = ap (may_turn s) same ∙ may in
-      (ap (λ b. cond b (Some c) (first_of s clients)) here ∙ there, ap (λ b. cond b clients (behind_first s clients)) here)
+      (ap (λ b. cond b (Some c) (first_of s clients)) here ∙ there, ap (λ b. cond b clients (left_after_first s clients)) here)
   first_at (c ∷ clients) (suc k) client there may before =
       let here : may_turn s c ≡ false = before zero c (omega arith) refl in
       let rest = first_at clients k client there may (λ j other below at. before (suc j) other (omega (arith, below)) at) in (
         ap (λ b. cond b (Some c) (first_of s clients)) here ∙ rest.0,
-        ap (λ b. cond b clients (behind_first s clients)) here ∙ rest.1 ∙ ap (λ n. drop n (c ∷ clients)) (let same : suc (k + 1) ≡ suc k + 1 = omega arith in same),
+        ap (λ b. cond b clients (left_after_first s clients)) here ∙ rest.1 ∙ ap (λ n. drop n (c ∷ clients)) (let same : suc (k + 1) ≡ suc k + 1 = omega arith in same),
       )
 
   -- those of numbers one after the other
@@ -99,7 +99,7 @@ module _ (script : Script) (w : WorldView) (passed last : ℕ) where
       let same = setup_alike script w passed last ∙ is in
       record {
         turn = ap (λ b. cond b (Some 1) (some_or (first_of s s.schedule) (first_of s (in_a_circle s)))) same;
-        schedule = sym (ap (λ b. cond b s.schedule (behind_first s s.schedule)) same);
+        schedule = sym (ap (λ b. cond b s.schedule (left_after_first s s.schedule)) same);
       }
 
   module _ (over : is_setting_up script w.seats ≡ false) where
@@ -109,8 +109,8 @@ module _ (script : Script) (w : WorldView) (passed last : ℕ) where
     turn_is : next_turn script s ≡ some_or (first_of s s.schedule) (first_of s (in_a_circle s))
     turn_is = ap (λ b. cond b (Some 1) (some_or (first_of s s.schedule) (first_of s (in_a_circle s)))) no_setup
 
-    left_is : left_schedule script s ≡ behind_first s s.schedule
-    left_is = ap (λ b. cond b s.schedule (behind_first s s.schedule)) no_setup
+    left_is : left_schedule script s ≡ left_after_first s s.schedule
+    left_is = ap (λ b. cond b s.schedule (left_after_first s s.schedule)) no_setup
 
     -- then the first of the schedule that can
     pub scheduled_turn : (at client : ℕ) → passed ≤ at → slice_get script.schedule at ≡ Some client → may_turn s client ≡ true
@@ -125,7 +125,7 @@ module _ (script : Script) (w : WorldView) (passed last : ℕ) where
         }
 
     module _ (none : (k other : ℕ) → passed ≤ k → slice_get script.schedule k ≡ Some other → may_turn s other ≡ false) where
-      skipped : (first_of s s.schedule ≡ None) × (behind_first s s.schedule ≡ [])
+      skipped : (first_of s s.schedule ≡ None) × (left_after_first s s.schedule ≡ [])
       skipped = none_first s (drop passed script.schedule) (λ k client there. none (passed + k) client (omega arith) (sym (get_drop script.schedule passed k) ∙ there))
 
       circle_is : next_turn script s ≡ first_of s (in_a_circle s)
@@ -134,7 +134,7 @@ module _ (script : Script) (w : WorldView) (passed last : ℕ) where
       ends_schedule : drop (length script.schedule) script.schedule ≡ left_schedule script s
       ends_schedule = drop_whole script.schedule ∙ sym (left_is ∙ skipped.1)
 
-      -- then the next behind the last turn's client that can
+      -- then the next after the last turn's client that can
       pub next_behind : (client : ℕ) → last < client → client ≤ length w.seats → may_turn s client ≡ true → ((other : ℕ) → last < other → other < client → may_turn s other ≡ false)
           → IsNextTurn script s client (length script.schedule)
       next_behind client above within may before = record {

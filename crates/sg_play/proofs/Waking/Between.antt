@@ -2,17 +2,17 @@
 use Rattle.std.proofs.Common.{◌≡◌, ℕ, Bool, true, false, not, ◌&&◌, ◌||◌, List, [], ◌∷◌, ◌++◌, refl, sym, ◌∙◌, ap, append_assoc}
 use Rattle.std.specs.Prelude.{◌==◌}
 use Rattle.std.specs.List.{list_any}
-use Rattle.sg_base.specs.Lists.{Each, When}
+use Rattle.sg_facts.specs.sg_base.Lists.{Each, When}
 use Rattle.sg_facts.specs.declared.entry.Entry.{Entry}
 use Rattle.sg_facts.specs.declared.trace.Item.{Item}
 use Rattle.sg_facts.specs.declared.trace.Tag.{Tag}
 use Rattle.sg_facts.specs.declared.trace.Tag.TheVariants.{Walk, Load, Client}
 use Rattle.sg_facts.specs.Facts.{Facts}
-use Rattle.sg_hist.specs.Reading.{Position, is_tagged, places_in}
+use Rattle.sg_plain.specs.sg_hist.Reading.{Position, is_tagged, places_in}
 use Rattle.sg_plain.specs.Promises.{IsWokenBetween, has_blocked, is_woken_first, wakes_at}
-use Rattle.sg_hist.proofs.Growing.{in_boot, in_older}
-use Rattle.sg_hist.specs.Growing.{AreGrown, IsGrown}
-use Rattle.sg_recovery_laws.specs.LastItem.LastPlace.{last_place}
+use Rattle.sg_plain.proofs.sg_hist.Growing.{in_boot, in_older}
+use Rattle.sg_plain.specs.sg_hist.Growing.{AreGrown, IsGrown}
+use Rattle.sg_world.specs.sg_recovery_laws.LastItem.LastPlace.{last_place}
 use Rattle.sg_play.proofs.Waking.Wakers.{any_end, any_front}
 use Rattle.sg_play.specs.Waking.Waking.{IsWokenSince, waits_at}
 use Rattle.sg_facts.proofs.Replaying.Found.{same_test}
@@ -38,7 +38,7 @@ own_tag client seq = ap (λ b. b && (seq == seq)) (same_test client client refl)
 -- ---- one place more
 
 module _ (facts : Facts) (entries : List Entry) where
-  -- one wait more comes first behind others only where one of these wakes it
+  -- one wait more comes first after others only where one of these wakes it
   first_more : (client seq id : ℕ) (ps : List Position) (last : Position) → (waits_at client seq last ≡ true → list_any (wakes_at facts entries id) ps ≡ true)
       → is_woken_first facts entries client seq id ps ≡ true → is_woken_first facts entries client seq id (ps ++ last ∷ []) ≡ true
   first_more client seq id [] last again is = by (waits_at client seq last) refl

@@ -3,18 +3,18 @@ use Rattle.std.proofs.Common.{◌≡◌, Bool, true, false, not, ◌||◌, List,
 use Rattle.std.specs.List.{list_any}
 use Rattle.std.specs.Prelude.{reverse}
 use Rattle.std.specs.declared.option.Option.{Option}
-use Rattle.sg_base.specs.Lists.{Each, When}
+use Rattle.sg_facts.specs.sg_base.Lists.{Each, When}
 use Rattle.sg_facts.specs.declared.entry.Entry.{Entry}
 use Rattle.sg_facts.specs.declared.trace.Item.{Item}
 use Rattle.sg_facts.specs.Facts.{Facts}
 use Rattle.sg_facts.specs.Trace.{Run}
-use Rattle.sg_hist.specs.Reading.{Position, is_by_guard, is_item_of, item_of, places_of}
-use Rattle.sg_hist.specs.Recovered.{GivesEntry, HasItem}
-use Rattle.sg_recovery_laws.proofs.Lists.{each_map}
-use Rattle.sg_recovery_laws.proofs.Served.{Has, each_reverse, found_has}
-use Rattle.sg_hist.specs.Growing.{last_items, older_items}
-use Rattle.sg_recovery_laws.specs.LastItem.LastPlace.{HaveItems}
-use Rattle.sg_world_laws.proofs.Items.{IsAmong, among_places, found_passes}
+use Rattle.sg_plain.specs.sg_hist.Reading.{Position, is_by_guard, is_item_of, item_of, places_of}
+use Rattle.sg_plain.specs.sg_hist.Recovered.{GivesEntry, HasItem}
+use Rattle.sg_world.proofs.sg_recovery_laws.Lists.{each_map}
+use Rattle.sg_world.proofs.sg_recovery_laws.Served.{Has, each_reverse, found_has}
+use Rattle.sg_plain.specs.sg_hist.Growing.{last_items, older_items}
+use Rattle.sg_world.specs.sg_recovery_laws.LastItem.LastPlace.{HaveItems}
+use Rattle.sg_world.proofs.sg_world_laws.Items.{IsAmong, among_places, found_passes}
 
 has_item : (facts : Facts) (history : List Entry) (run : Run) (e : Entry) → HasItem facts history run e
     → (is_by_guard e.reply || list_any (is_item_of e) (older_items [] run.boots ++ last_items run.boots)) ≡ true

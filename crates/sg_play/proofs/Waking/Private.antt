@@ -3,11 +3,11 @@ use Rattle.std.proofs.Common.{◌≡◌, ◌≢◌, ◌⊎◌, ℕ, zero, suc, �
 use Rattle.std.specs.Prelude.{◌==◌, slice_get, unwrap_or}
 use Rattle.std.specs.List.{list_all, list_any}
 use Rattle.std.specs.declared.option.Option.{Option}
-use Rattle.sg_base.specs.declared.call.Call.{Call}
-use Rattle.sg_base.specs.declared.reply.Code.{Code}
-use Rattle.sg_base.specs.declared.reply.Good.{Good}
-use Rattle.sg_base.specs.declared.reply.Reply.{Reply}
-use Rattle.sg_base.specs.declared.reply.Reply.TheVariants.{Ok, Refused}
+use Rattle.sg_facts.specs.sg_base.declared.call.Call.{Call}
+use Rattle.sg_facts.specs.sg_base.declared.reply.Code.{Code}
+use Rattle.sg_facts.specs.sg_base.declared.reply.Good.{Good}
+use Rattle.sg_facts.specs.sg_base.declared.reply.Reply.{Reply}
+use Rattle.sg_facts.specs.sg_base.declared.reply.Reply.TheVariants.{Ok, Refused}
 use Rattle.sg_facts.specs.declared.entry.Entry.{Entry}
 use Rattle.sg_facts.specs.declared.row.Row.{Row}
 use Rattle.sg_facts.specs.Facts.{Facts, Fun, fun_at, no_fun, takes_desc, takes_parent}
@@ -16,16 +16,16 @@ use Rattle.sg_facts.specs.Interface.{Declared}
 use Rattle.sg_facts.specs.Legal.{LegalFrom, Table, answer, refused_or}
 use Rattle.sg_facts.specs.Object.{Object, after, empty_object, object_from, object_of}
 use Rattle.sg_facts.specs.Track.{is_ancestor, nearest, new_row, parent_in, row_at, rows_after}
-use Rattle.sg_recovery_laws.proofs.Objects.Apart.{IsOwnRow, changes_row, ends_rows, makes_row, query_keeps}
-use Rattle.sg_recovery_laws.proofs.Objects.Changed.{change_at, same_parent_at}
-use Rattle.sg_recovery_laws.proofs.Objects.Commute.{given_with, same_creator_at, same_id_at}
-use Rattle.sg_recovery_laws.proofs.Objects.Guarded.{ActsOnOne, acts, each_fun, keeps, let_pass, own_desc, own_parent}
-use Rattle.sg_recovery_laws.proofs.Objects.Left.{stays}
-use Rattle.sg_recovery_laws.specs.Objects.Serving.{IsService}
-use Rattle.sg_seat.specs.WorldView.{wakes_seat}
+use Rattle.sg_world.proofs.sg_recovery_laws.Objects.Apart.{IsOwnRow, changes_row, ends_rows, makes_row, query_keeps}
+use Rattle.sg_world.proofs.sg_recovery_laws.Objects.Changed.{change_at, same_parent_at}
+use Rattle.sg_world.proofs.sg_recovery_laws.Objects.Commute.{given_with, same_creator_at, same_id_at}
+use Rattle.sg_world.proofs.sg_recovery_laws.Objects.Guarded.{ActsOnOne, acts, each_fun, keeps, let_pass, own_desc, own_parent}
+use Rattle.sg_world.proofs.sg_recovery_laws.Objects.Left.{stays}
+use Rattle.sg_world.specs.sg_recovery_laws.Objects.Serving.{IsService}
+use Rattle.sg_plain.specs.sg_seat.WorldView.{wakes_seat}
 use Rattle.sg_play.specs.Waking.Waking.{no_query_waits}
 use Rattle.sg_facts.proofs.Replaying.Found.{from_left, from_map, from_more, other_test}
-use Rattle.sg_world_laws.proofs.Waits.{block_keeps, waits_both}
+use Rattle.sg_world.proofs.sg_world_laws.Waits.{block_keeps, waits_both}
 
 -- ---- rows of clients
 

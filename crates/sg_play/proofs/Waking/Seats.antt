@@ -1,10 +1,10 @@
 -- What holds of each client's seat, where one is set and where some are woken.
 use Rattle.std.proofs.Common.{◌≡◌, ◌≢◌, ◌⊎◌, ℕ, ◌-◌, ◌≤◌, List, length, map, refl, sym, ◌∙◌, subst, inl, inr, slice_set}
-use Rattle.sg_base.specs.declared.call.Call.{Call}
-use Rattle.sg_seat.specs.WorldView.{Seat, seat_in, woken_seat}
-use Rattle.sg_seat.specs.declared.phase.Phase.TheVariants.{Asked, Held, Blocked}
+use Rattle.sg_facts.specs.sg_base.declared.call.Call.{Call}
+use Rattle.sg_plain.specs.sg_seat.WorldView.{Seat, seat_in, woken_seat}
+use Rattle.sg_plain.specs.sg_seat.declared.phase.Phase.TheVariants.{Asked, Held, Blocked}
 use Rattle.sg_plain.proofs.Playing.Lines.{length_map, length_set, same_or_other, seat_here, seat_there, seat_woken}
-use Rattle.sg_world_laws.proofs.Woken.{woken_is}
+use Rattle.sg_world.proofs.sg_world_laws.Woken.{woken_is}
 use Rattle.std.specs.Prelude.{Bool}
 use Rattle.sg_play.specs.Waking.Waking.{EachSeat}
 
@@ -68,6 +68,6 @@ pub others_entered : (test : Call → Bool) (seats : List Seat) (c : ℕ) (new :
 others_entered test seats c new first last =
     each_entered (λ client s. client ≢ c → Stays (seat_in seats client) s) test seats c new first last (λ other. absurd (other refl)) (λ client from to apart other. stays_woken test (seat_in seats client))
 
--- the seat that was set behind those that were woken
+-- the seat that was set after those that were woken
 pub here_entered : (test : Call → Bool) (seats : List Seat) (c : ℕ) (new : Seat) → 1 ≤ c → c ≤ length seats → seat_in (slice_set (map (woken_seat test) seats) (c - 1) new) c ≡ new
 here_entered test seats c new first last = seat_here (map (woken_seat test) seats) c new first (subst (λ n. c ≤ n) (sym (length_map (woken_seat test) seats)) last)

@@ -1,16 +1,16 @@
--- What the seats are behind a client's entry, and whose the calls of seats are.
+-- What the seats are after a client's entry, and whose the calls of seats are.
 use Rattle.std.proofs.Common.{◌≡◌, ℕ, ◌+◌, ◌-◌, true, List, length, map, sym, ◌∙◌, ap, slice_set}
-use Rattle.sg_base.specs.declared.reply.Reply.{Reply}
+use Rattle.sg_facts.specs.sg_base.declared.reply.Reply.{Reply}
 use Rattle.sg_facts.specs.declared.entry.Entry.{Entry}
 use Rattle.sg_facts.specs.Facts.{Facts}
 use Rattle.sg_facts.specs.Object.{object_of}
-use Rattle.sg_hist.specs.Clients.{calls_of}
+use Rattle.sg_plain.specs.sg_hist.Clients.{calls_of}
 use Rattle.sg_plain.proofs.Playing.Calling.{its_client, next_of}
 use Rattle.sg_plain.specs.Playing.Callers.{IsCaller}
-use Rattle.sg_script.specs.declared.script.Script.{Script}
-use Rattle.sg_seat.specs.WorldView.{Seat, WorldView, answered_to, committed, given_to, is_offered, no_reply, seat_in, seat_of, wakes_seat, woken_seat}
-use Rattle.sg_seat.specs.declared.phase.Phase.{Phase}
-use Rattle.sg_seat.specs.declared.phase.Phase.TheVariants.{Idle, Receipted}
+use Rattle.sg_plain.specs.sg_script.declared.script.Script.{Script}
+use Rattle.sg_plain.specs.sg_seat.WorldView.{Seat, WorldView, answered_to, committed, given_to, is_offered, no_reply, seat_in, seat_of, wakes_seat, woken_seat}
+use Rattle.sg_plain.specs.sg_seat.declared.phase.Phase.{Phase}
+use Rattle.sg_plain.specs.sg_seat.declared.phase.Phase.TheVariants.{Idle, Receipted}
 
 module _ (facts : Facts) (w : WorldView) (c : ℕ) where
   abbrev pub s : Seat
@@ -23,7 +23,7 @@ module _ (facts : Facts) (w : WorldView) (c : ℕ) where
   abbrev pub woken : Reply → List Seat
   woken reply = map (woken_seat (wakes_seat facts (object_of facts w.history).rows s.call reply)) w.seats
 
-  -- the client's seat behind the entry
+  -- the client's seat after the entry
   abbrev pub seat_behind : Reply → Phase → Reply → Seat
   seat_behind reply p kept = record (seat_in (woken reply) c) { phase = p; seq = s.call.seq; reply = kept }
 

@@ -1,22 +1,22 @@
 -- A play keeps its boots used and its waits woken, whatever happens in it.
 use Rattle.std.proofs.Common.{◌≡◌, ℕ, ◌-◌, ◌≤◌, Bool, true, false, cond, ◌||◌, List, [], ◌∷◌, ◌++◌, length, refl, sym, ◌∙◌, ap, subst, inl, inr, arith, slice_set}
-use Rattle.sg_base.specs.Stops.{asked_after}
-use Rattle.sg_base.specs.declared.reply.Reply.{Reply}
+use Rattle.sg_facts.specs.sg_base.Stops.{asked_after}
+use Rattle.sg_facts.specs.sg_base.declared.reply.Reply.{Reply}
 use Rattle.sg_facts.specs.declared.entry.Entry.{Entry}
 use Rattle.sg_facts.specs.Facts.{Facts, fun_at, is_visible}
 use Rattle.sg_facts.specs.Legal.{LegalFrom}
 use Rattle.sg_facts.specs.Object.{empty_object, object_of}
 use Rattle.sg_facts.specs.Trace.{Boot}
-use Rattle.sg_hist.specs.Recovered.{is_clients}
+use Rattle.sg_plain.specs.sg_hist.Recovered.{is_clients}
 use Rattle.sg_play.specs.Recovering.{RecoversSoFar}
 use Rattle.sg_plain.proofs.Playing.Lines.{length_set, seat_here}
 use Rattle.sg_plain.specs.Playing.Plays.{IsPlaying}
-use Rattle.sg_hist.specs.Growing.{noted}
-use Rattle.sg_script.specs.declared.script.Script.{Script}
-use Rattle.sg_seat.specs.WorldView.{Seat, WorldView, happened, in_phase, is_left_phase, is_offered, no_reply, seat_in, seat_of, wakes_seat, with_leave, with_mark}
-use Rattle.sg_seat.specs.declared.mark.MarkKind.TheVariants.{Leave}
-use Rattle.sg_seat.specs.declared.phase.Phase.{Phase}
-use Rattle.sg_seat.specs.declared.phase.Phase.TheVariants.{Idle, Asked, Held, Receipted, Blocked, Left}
+use Rattle.sg_plain.specs.sg_hist.Growing.{noted}
+use Rattle.sg_plain.specs.sg_script.declared.script.Script.{Script}
+use Rattle.sg_plain.specs.sg_seat.WorldView.{Seat, WorldView, happened, in_phase, is_left_phase, is_offered, no_reply, seat_in, seat_of, wakes_seat, with_leave, with_mark}
+use Rattle.sg_plain.specs.sg_seat.declared.mark.MarkKind.TheVariants.{Leave}
+use Rattle.sg_plain.specs.sg_seat.declared.phase.Phase.{Phase}
+use Rattle.sg_plain.specs.sg_seat.declared.phase.Phase.TheVariants.{Idle, Asked, Held, Receipted, Blocked, Left}
 use Rattle.sg_play.proofs.Waking.Seats.{here_entered, length_entered, others_set}
 use Rattle.sg_play.proofs.Waking.Shapes.{answered_seats, call_is_own, entry_with, given_seats, seat_behind, woken}
 use Rattle.sg_play.proofs.Waking.Used.{used_kept}
@@ -27,7 +27,7 @@ use Rattle.sg_play.specs.Waking.Waking.{AreWokenSoFar, IsWaking, is_asking, no_q
 use Rattle.sg_world.specs.declared.did.Did.{Did}
 use Rattle.sg_world.specs.declared.did.Did.TheVariants.{Answered, Blocked as Waits, Booted, Loaded, Lost, Replayed, Served, Skipped, Struck}
 use Rattle.sg_world.specs.Steps.{Commits, Steps}
-use Rattle.sg_world_laws.specs.Setting.{Setting}
+use Rattle.sg_world.specs.sg_world_laws.Setting.{Setting}
 
 -- ---- a step
 

@@ -6,10 +6,10 @@ use Rattle.sg_facts.specs.Guard.{guard}
 use Rattle.sg_facts.specs.Interface.{Declared}
 use Rattle.sg_facts.specs.Object.{object_of}
 use Rattle.sg_facts.specs.Trace.{Boot}
-use Rattle.sg_hist.specs.Recovered.{EndsUsed}
-use Rattle.sg_hist.specs.Growing.{booted, noted, struck}
-use Rattle.sg_seat.specs.WorldView.{Seat, seat_in, woken_seat}
-use Rattle.sg_seat.specs.declared.phase.Phase.TheVariants.{Asked, Held}
+use Rattle.sg_plain.specs.sg_hist.Recovered.{EndsUsed}
+use Rattle.sg_plain.specs.sg_hist.Growing.{booted, noted, struck}
+use Rattle.sg_plain.specs.sg_seat.WorldView.{Seat, seat_in, woken_seat}
+use Rattle.sg_plain.specs.sg_seat.declared.phase.Phase.TheVariants.{Asked, Held}
 use Rattle.sg_plain.proofs.Playing.Lines.{length_map, same_or_other, seat_woken}
 use Rattle.sg_play.specs.Waking.Waking.{EachSeat, IsHeldUsed, IsUsedSoFar, SomebodyAsks}
 use Rattle.sg_play.proofs.Waking.Seats.{OthersStay, each_woken, stays_woken}

@@ -1,22 +1,22 @@
--- The last boot of a play is used, or somebody will use it, behind each step of a client.
+-- The last boot of a play is used, or somebody will use it, after each step of a client.
 use Rattle.std.proofs.Common.{◌≡◌, ℕ, ◌-◌, ◌≤◌, true, List, [], ◌∷◌, ◌++◌, length, refl, sym, ◌∙◌, ap, subst, inl, inr, arith, slice_set}
-use Rattle.sg_base.specs.Stops.{asked_after}
-use Rattle.sg_base.specs.declared.call.Call.{Call}
-use Rattle.sg_base.specs.declared.reply.Code.{Code}
-use Rattle.sg_base.specs.declared.reply.Reply.{Reply}
-use Rattle.sg_base.specs.declared.reply.Reply.TheVariants.{Refused}
+use Rattle.sg_facts.specs.sg_base.Stops.{asked_after}
+use Rattle.sg_facts.specs.sg_base.declared.call.Call.{Call}
+use Rattle.sg_facts.specs.sg_base.declared.reply.Code.{Code}
+use Rattle.sg_facts.specs.sg_base.declared.reply.Reply.{Reply}
+use Rattle.sg_facts.specs.sg_base.declared.reply.Reply.TheVariants.{Refused}
 use Rattle.sg_facts.specs.declared.entry.Entry.{Entry}
 use Rattle.sg_facts.specs.declared.trace.Item.{Item}
 use Rattle.sg_facts.specs.Facts.{Facts}
 use Rattle.sg_facts.specs.Object.{object_of}
 use Rattle.sg_facts.specs.Trace.{Boot}
-use Rattle.sg_hist.specs.Recovered.{EndsUsed}
+use Rattle.sg_plain.specs.sg_hist.Recovered.{EndsUsed}
 use Rattle.sg_plain.proofs.Playing.Lines.{length_set, seat_here}
-use Rattle.sg_hist.proofs.Growing.{object_of-more}
-use Rattle.sg_hist.specs.Growing.{noted, struck}
-use Rattle.sg_seat.specs.WorldView.{Seat, WorldView, is_offered, no_reply, seat_of, wakes_seat}
-use Rattle.sg_seat.specs.declared.phase.Phase.{Phase}
-use Rattle.sg_seat.specs.declared.phase.Phase.TheVariants.{Idle, Asked, Held, Receipted, Blocked}
+use Rattle.sg_plain.proofs.sg_hist.Growing.{object_of-more}
+use Rattle.sg_plain.specs.sg_hist.Growing.{noted, struck}
+use Rattle.sg_plain.specs.sg_seat.WorldView.{Seat, WorldView, is_offered, no_reply, seat_of, wakes_seat}
+use Rattle.sg_plain.specs.sg_seat.declared.phase.Phase.{Phase}
+use Rattle.sg_plain.specs.sg_seat.declared.phase.Phase.TheVariants.{Idle, Asked, Held, Receipted, Blocked}
 use Rattle.sg_play.proofs.Waking.Seats.{here_entered, length_entered, others_entered, others_same, others_set}
 use Rattle.sg_play.proofs.Waking.Shapes.{answered_seats, entry_with, given_seats, seat_behind, woken}
 use Rattle.sg_play.proofs.Waking.Used.{length_noted, length_struck, used_booted, used_kept, used_noted, used_now, used_struck}
@@ -24,7 +24,7 @@ use Rattle.sg_play.specs.Waking.Waking.{IsUsedSoFar}
 use Rattle.sg_world.specs.declared.did.Did.{Did}
 use Rattle.sg_world.specs.declared.did.Did.TheVariants.{Answered, Blocked as Waits, Booted, Loaded, Lost, Replayed, Served, Skipped, Struck}
 use Rattle.sg_world.specs.Steps.{Boots, Commits, HandsOver, Loses, Refuses, Returns, Skips, Steps}
-use Rattle.sg_world_laws.specs.Setting.{Setting}
+use Rattle.sg_world.specs.sg_world_laws.Setting.{Setting}
 
 -- a refusal leaves the object
 object_refused : (facts : Facts) (history : List Entry) (call : Call) (reply : Reply) (code : Code) → reply ≡ Refused code

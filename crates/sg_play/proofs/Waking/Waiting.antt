@@ -1,11 +1,11 @@
--- Who waits goes on to be woken before it waits again, behind each step of a client.
+-- Who waits goes on to be woken before it waits again, after each step of a client.
 use Rattle.std.proofs.Common.{◌≡◌, ◌≢◌, ◌⊎◌, ℕ, ◌+◌, ◌-◌, ◌≤◌, Bool, true, false, cond, ◌&&◌, List, [], ◌∷◌, ◌++◌, Some, length, map, refl, sym, ◌∙◌, ap, subst, inl, inr, arith, slice_set}
 use Rattle.std.specs.Prelude.{◌==◌}
-use Rattle.sg_base.specs.Lists.{Each}
-use Rattle.sg_base.specs.declared.call.Call.{Call}
-use Rattle.sg_base.specs.declared.reply.Code.{Code}
-use Rattle.sg_base.specs.declared.reply.Reply.{Reply}
-use Rattle.sg_base.specs.declared.reply.Reply.TheVariants.{Ok, Refused}
+use Rattle.sg_facts.specs.sg_base.Lists.{Each}
+use Rattle.sg_facts.specs.sg_base.declared.call.Call.{Call}
+use Rattle.sg_facts.specs.sg_base.declared.reply.Code.{Code}
+use Rattle.sg_facts.specs.sg_base.declared.reply.Reply.{Reply}
+use Rattle.sg_facts.specs.sg_base.declared.reply.Reply.TheVariants.{Ok, Refused}
 use Rattle.sg_facts.specs.declared.entry.Entry.{Entry}
 use Rattle.sg_facts.specs.declared.row.Row.{Row}
 use Rattle.sg_facts.specs.declared.trace.Item.{Item}
@@ -16,21 +16,21 @@ use Rattle.sg_facts.specs.Interface.{Declared}
 use Rattle.sg_facts.specs.Legal.{LegalFrom, Table, answer}
 use Rattle.sg_facts.specs.Object.{Object, after, object_from, object_of}
 use Rattle.sg_facts.specs.Trace.{Boot}
-use Rattle.sg_hist.specs.Reading.{Position, is_by_guard, is_item_of, is_tagged, places_from}
-use Rattle.sg_hist.specs.Recovered.{is_clients}
+use Rattle.sg_plain.specs.sg_hist.Reading.{Position, is_by_guard, is_item_of, is_tagged, places_from}
+use Rattle.sg_plain.specs.sg_hist.Recovered.{is_clients}
 use Rattle.sg_plain.specs.Plain.{wakes}
 use Rattle.sg_plain.specs.Promises.{IsWokenBetween, has_blocked, wakes_at}
 use Rattle.sg_play.specs.Recovering.{RecoversSoFar}
 use Rattle.sg_plain.proofs.Playing.Lines.{same_or_other}
 use Rattle.sg_plain.specs.Playing.Callers.{IsCaller}
 use Rattle.sg_plain.specs.Playing.Plays.{IsPlaying}
-use Rattle.sg_hist.proofs.Growing.{places-booted, places-struck}
-use Rattle.sg_hist.specs.Growing.{IsGrown, IsOfNoEntry, booted, last_items, noted, older_items, struck}
-use Rattle.sg_script.specs.declared.script.Script.{Script}
-use Rattle.sg_seat.specs.WorldView.{Seat, WorldView, is_blocked_phase, is_held_phase, is_offered, seat_in, seat_of, wakes_seat, woken_seat}
-use Rattle.sg_seat.specs.declared.phase.Phase.{Phase}
-use Rattle.sg_seat.specs.declared.phase.Phase.TheVariants.{Idle, Asked, Held, Receipted, Blocked, Left}
-use Rattle.sg_recovery_laws.specs.LastItem.LastPlace.{last_place}
+use Rattle.sg_plain.proofs.sg_hist.Growing.{places-booted, places-struck}
+use Rattle.sg_plain.specs.sg_hist.Growing.{IsGrown, IsOfNoEntry, booted, last_items, noted, older_items, struck}
+use Rattle.sg_plain.specs.sg_script.declared.script.Script.{Script}
+use Rattle.sg_plain.specs.sg_seat.WorldView.{Seat, WorldView, is_blocked_phase, is_held_phase, is_offered, seat_in, seat_of, wakes_seat, woken_seat}
+use Rattle.sg_plain.specs.sg_seat.declared.phase.Phase.{Phase}
+use Rattle.sg_plain.specs.sg_seat.declared.phase.Phase.TheVariants.{Idle, Asked, Held, Receipted, Blocked, Left}
+use Rattle.sg_world.specs.sg_recovery_laws.LastItem.LastPlace.{last_place}
 use Rattle.sg_play.proofs.Waking.Between.{between_same, own_tag}
 use Rattle.sg_play.proofs.Waking.Calls.{entries_below, fit_call, none_of_next, none_of_stub, test_same}
 use Rattle.sg_play.proofs.Waking.Items.{have_items}
@@ -40,12 +40,12 @@ use Rattle.sg_play.proofs.Waking.Shapes.{call_is_next, call_is_own, entry_with, 
 use Rattle.sg_play.proofs.Waking.Wakers.{wakes_entered, wakes_last, wakes_noted, wakes_refused}
 use Rattle.sg_play.proofs.Waking.Woken.{Moves, all_noted, goes_on_waits, moves_free, moves_same, other_made, other_waits, seat_booted, seat_moved, seat_noted, seat_struck, seat_woken_by, stub_made, stub_waits}
 use Rattle.sg_play.specs.Waking.Waking.{AreWokenSoFar, EachSeat, IsMadeSoFar, IsWokenSeat, IsWokenSince, is_asking, last_places, no_query_waits, waking_entries}
-use Rattle.sg_world_laws.proofs.Refusing.{by_the_guard}
-use Rattle.sg_world_laws.specs.Setting.{Setting}
+use Rattle.sg_world.proofs.sg_world_laws.Refusing.{by_the_guard}
+use Rattle.sg_world.specs.sg_world_laws.Setting.{Setting}
 
 -- ---- replies
 
--- the last entry of a legal history has the answer behind the others
+-- the last entry of a legal history has the answer after the others
 pub legal_last : (i : Declared) (ask : Table) (o : Object) (history : List Entry) (e : Entry) → LegalFrom i ask o (history ++ e ∷ []) → answer i ask (object_from i.facts o history) e.call ≡ Some e.reply
 legal_last i ask o [] e legal = legal.0
 legal_last i ask o (x ∷ history) e legal = legal_last i ask (after i.facts o x.call x.reply) history e legal.1

@@ -6,13 +6,13 @@ use Rattle.sg_facts.specs.declared.row.Row.{Row}
 use Rattle.sg_facts.specs.declared.trace.Item.{Item}
 use Rattle.sg_facts.specs.Facts.{Facts}
 use Rattle.sg_facts.specs.Object.{object_of}
-use Rattle.sg_hist.specs.Reading.{Position, behind, is_by_guard, is_item_of, object_before, stands_before}
+use Rattle.sg_plain.specs.sg_hist.Reading.{Position, items_after, is_by_guard, is_item_of, object_before, stands_before}
 use Rattle.sg_plain.specs.Plain.{wakes}
 use Rattle.sg_plain.specs.Promises.{wakes_at}
-use Rattle.sg_hist.proofs.Growing.{entries_before-committed, entries_before-more, entries_before-not_yet, entries_before-refused}
-use Rattle.sg_hist.specs.Growing.{IsGrown, IsOfNoEntry}
-use Rattle.sg_recovery_laws.proofs.LastItem.Behind.{object_before_last}
-use Rattle.sg_recovery_laws.specs.LastItem.LastPlace.{HaveItems, last_place}
+use Rattle.sg_plain.proofs.sg_hist.Growing.{entries_before-committed, entries_before-more, entries_before-not_yet, entries_before-refused}
+use Rattle.sg_plain.specs.sg_hist.Growing.{IsGrown, IsOfNoEntry}
+use Rattle.sg_world.proofs.sg_recovery_laws.LastItem.Behind.{object_before_last}
+use Rattle.sg_world.specs.sg_recovery_laws.LastItem.LastPlace.{HaveItems, last_place}
 
 -- ---- tests of lists
 
@@ -39,12 +39,12 @@ any_end test (y ∷ xs) x one = ap (λ b. test y || b) (any_end test xs x one) �
 module _ (facts : Facts) (id : ℕ) where
   -- whether an entry's item stands at a place, and wakes
   abbrev wakes_by : List Row → Position → Entry → Bool
-  wakes_by rows p e = not (is_by_guard e.reply) && is_item_of e p.item && not (list_any (is_item_of e) (behind p)) && wakes facts rows e.call e.reply id
+  wakes_by rows p e = not (is_by_guard e.reply) && is_item_of e p.item && not (list_any (is_item_of e) (items_after p)) && wakes facts rows e.call e.reply id
 
   by_grown : (rows : List Row) (item : Item) (p q : Position) (e : Entry) → IsGrown item p q → is_item_of e item ≡ false → wakes_by rows q e ≡ wakes_by rows p e
   by_grown rows item p q e g none =
-      let later : list_any (is_item_of e) (behind q) ≡ list_any (is_item_of e) (behind p) = ap (list_any (is_item_of e)) g.behind_it ∙ any_but (is_item_of e) (behind p) item none in
-      ap (λ x. not (is_by_guard e.reply) && is_item_of e x && not (list_any (is_item_of e) (behind q)) && wakes facts rows e.call e.reply id) g.own
+      let later : list_any (is_item_of e) (items_after q) ≡ list_any (is_item_of e) (items_after p) = ap (list_any (is_item_of e)) g.behind_it ∙ any_but (is_item_of e) (items_after p) item none in
+      ap (λ x. not (is_by_guard e.reply) && is_item_of e x && not (list_any (is_item_of e) (items_after q)) && wakes facts rows e.call e.reply id) g.own
       ∙ ap (λ b. not (is_by_guard e.reply) && is_item_of e p.item && not b && wakes facts rows e.call e.reply id) later
 
   any_grown : (rows : List Row) (item : Item) (p q : Position) (history : List Entry) → IsGrown item p q → IsOfNoEntry item history → list_any (wakes_by rows q) history ≡ list_any (wakes_by rows p) history
@@ -68,7 +68,7 @@ module _ (facts : Facts) (id : ℕ) where
       → wakes_at facts (history ++ e ∷ []) id q ≡ wakes_at facts history id p
   wakes_entered item p q history e none own g =
       let rows : List Row = (object_before facts history p).rows in
-      let later : list_any (is_item_of e) (behind q) ≡ true = ap (list_any (is_item_of e)) g.behind_it ∙ any_end (is_item_of e) (behind p) item own in
+      let later : list_any (is_item_of e) (items_after q) ≡ true = ap (list_any (is_item_of e)) g.behind_it ∙ any_end (is_item_of e) (items_after p) item own in
       ap (λ es. list_any (wakes_by (object_of facts es).rows q) (history ++ e ∷ [])) (entries_before-committed item p q history e g none own)
       ∙ any_but (wakes_by rows q) history e
       (ap (λ b. not (is_by_guard e.reply) && is_item_of e q.item && not b && wakes facts rows e.call e.reply id) later
@@ -80,7 +80,7 @@ module _ (facts : Facts) (id : ℕ) where
   wakes_refused p history e guards =
       let rows : List Row = (object_before facts history p).rows in
       ap (λ es. list_any (wakes_by (object_of facts es).rows p) (history ++ e ∷ [])) (entries_before-refused p history e guards)
-      ∙ any_but (wakes_by rows p) history e (ap (λ b. not b && is_item_of e p.item && not (list_any (is_item_of e) (behind p)) && wakes facts rows e.call e.reply id) guards)
+      ∙ any_but (wakes_by rows p) history e (ap (λ b. not b && is_item_of e p.item && not (list_any (is_item_of e) (items_after p)) && wakes facts rows e.call e.reply id) guards)
 
   not_before : (older front : List Item) (item : Item) (e : Entry) → is_item_of e item ≡ true → stands_before (last_place older front item) e ≡ false
   not_before older front item e own =

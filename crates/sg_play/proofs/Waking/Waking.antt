@@ -3,14 +3,14 @@
 use Rattle.std.proofs.Common.{◌≡◌, ◌⊎◌, ℕ, zero, suc, ◌+◌, ◌-◌, ◌≤◌, Bool, true, false, cond, List, [], None, Some, length, refl, sym, ◌∙◌, ap, subst, inl, inr, arith, slice_set}
 use Rattle.std.specs.Prelude.{nat_lt, replicate, slice_get, unwrap_or}
 use Rattle.std.specs.declared.option.Option.{Option}
-use Rattle.sg_base.specs.declared.call.Call.{Call}
+use Rattle.sg_facts.specs.sg_base.declared.call.Call.{Call}
 use Rattle.sg_facts.specs.declared.entry.Entry.{Entry}
 use Rattle.sg_facts.specs.Legal.{LegalFrom}
 use Rattle.sg_facts.specs.Object.{empty_object}
-use Rattle.sg_base.specs.Lists.{Each}
-use Rattle.sg_hist.specs.Clients.{calls_of}
-use Rattle.sg_hist.specs.Reading.{places_from}
-use Rattle.sg_hist.specs.Recovered.{EndsUsed}
+use Rattle.sg_facts.specs.sg_base.Lists.{Each}
+use Rattle.sg_plain.specs.sg_hist.Clients.{calls_of}
+use Rattle.sg_plain.specs.sg_hist.Reading.{places_from}
+use Rattle.sg_plain.specs.sg_hist.Recovered.{EndsUsed}
 use Rattle.sg_plain.specs.Calls.{call_after, script_calls}
 use Rattle.sg_plain.specs.Promises.{AreWoken, IsWokenBetween}
 use Rattle.sg_play.specs.Recovering.{RecoversSoFar}
@@ -19,11 +19,11 @@ use Rattle.sg_plain.proofs.Playing.Calling.{next_of}
 use Rattle.sg_plain.proofs.Playing.Lines.{length_set, seat_here}
 use Rattle.sg_plain.specs.Playing.Plays.{IsPlaying}
 use Rattle.sg_plain.specs.Playing.Turns.{NobodyGoes, is_free_phase, may_go}
-use Rattle.sg_script.specs.declared.script.Script.{Script}
-use Rattle.sg_seat.specs.WorldView.{Seat, WorldView, happened, in_phase, is_held_phase, is_left_phase, is_offered, new_world, no_seat, seat_of, with_leave, with_mark}
-use Rattle.sg_seat.specs.declared.mark.MarkKind.TheVariants.{Leave}
-use Rattle.sg_seat.specs.declared.phase.Phase.{Phase}
-use Rattle.sg_seat.specs.declared.phase.Phase.TheVariants.{Idle, Asked, Held, Receipted, Blocked, Left}
+use Rattle.sg_plain.specs.sg_script.declared.script.Script.{Script}
+use Rattle.sg_plain.specs.sg_seat.WorldView.{Seat, WorldView, happened, in_phase, is_held_phase, is_left_phase, is_offered, new_world, no_seat, seat_of, with_leave, with_mark}
+use Rattle.sg_plain.specs.sg_seat.declared.mark.MarkKind.TheVariants.{Leave}
+use Rattle.sg_plain.specs.sg_seat.declared.phase.Phase.{Phase}
+use Rattle.sg_plain.specs.sg_seat.declared.phase.Phase.TheVariants.{Idle, Asked, Held, Receipted, Blocked, Left}
 use Rattle.sg_play.proofs.Waking.Between.{between_none}
 use Rattle.sg_play.proofs.Waking.Seats.{each_set, others_set}
 use Rattle.sg_play.proofs.Waking.Used.{used_kept}
@@ -32,7 +32,7 @@ use Rattle.sg_play.specs.Waking.Waking.{IsWaking, IsWokenSeat, SomebodyAsks, no_
 use Rattle.sg_world.specs.declared.did.Did.{Did}
 use Rattle.sg_world.specs.declared.did.Did.TheVariants.{Answered, Blocked as Waits, Booted, Loaded, Lost, Replayed, Served, Skipped, Struck}
 use Rattle.sg_world.specs.Steps.{Steps, WantsMemory}
-use Rattle.sg_world_laws.specs.Setting.{Setting}
+use Rattle.sg_world.specs.sg_world_laws.Setting.{Setting}
 use Rattle.sg_play.proofs.Waking.Turned.{idle_step, same_clients, stepped, waking_left}
 
 -- a client takes a turn

@@ -9,14 +9,14 @@ use Rattle.sg_facts.specs.Facts.{Facts, is_visible}
 use Rattle.sg_facts.specs.Object.{Object, file_at, object_of}
 use Rattle.sg_facts.specs.Trace.{Boot}
 use Rattle.sg_facts.specs.Track.{is_live}
-use Rattle.sg_hist.specs.Reading.{is_made}
-use Rattle.sg_hist.specs.Recovered.{is_patch_at}
+use Rattle.sg_plain.specs.sg_hist.Reading.{is_made}
+use Rattle.sg_plain.specs.sg_hist.Recovered.{is_patch_at}
 use Rattle.sg_plain.specs.Plain.{Stage, stage_after}
 use Rattle.sg_plain.specs.Promises.{is_in_first_boot}
-use Rattle.sg_script.specs.declared.script.Script.{Script}
-use Rattle.sg_seat.specs.WorldView.{Seat, WorldView, seat_in}
-use Rattle.sg_seat.specs.declared.phase.Phase.TheVariants.{Held, Receipted}
-use Rattle.sg_world_laws.specs.Setting.{Setting}
+use Rattle.sg_plain.specs.sg_script.declared.script.Script.{Script}
+use Rattle.sg_plain.specs.sg_seat.WorldView.{Seat, WorldView, seat_in}
+use Rattle.sg_plain.specs.sg_seat.declared.phase.Phase.TheVariants.{Held, Receipted}
+use Rattle.sg_world.specs.sg_world_laws.Setting.{Setting}
 use Rattle.sg_play.specs.Following.Stages.{stage_of}
 
 -- ---- clients
@@ -51,7 +51,7 @@ pub record NeverStopped (z : Setting) (script : Script) (history : List Entry) (
 
 -- ---- once it stopped
 
--- the service stopped in its first boot: up to then the history was that of a stage of the play without stops, and no entry behind that
+-- the service stopped in its first boot: up to then the history was that of a stage of the play without stops, and no entry after that
 -- has its item in the first boot and is visible
 pub record IsPastStop (z : Setting) (script : Script) (history : List Entry) (boots : List Boot) (running : Option Object) : Type 0 where
   pub first : Boot

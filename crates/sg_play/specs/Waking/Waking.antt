@@ -1,8 +1,8 @@
 -- What a play keeps of its boots and its waits: no service is booted for nothing, and who waits is woken before it waits again.
 use Rattle.std.specs.Prelude.{ℕ, ◌≡◌, ◌⊎◌, ◌≤◌, Bool, true, false, ◌&&◌, ◌||◌, not, if◌then◌else◌, List, [], ◌∷◌, ◌++◌, None, length}
 use Rattle.std.specs.List.{list_all, list_any}
-use Rattle.sg_base.specs.Lists.{Each}
-use Rattle.sg_base.specs.declared.call.Call.{Call}
+use Rattle.sg_facts.specs.sg_base.Lists.{Each}
+use Rattle.sg_facts.specs.sg_base.declared.call.Call.{Call}
 use Rattle.sg_facts.specs.declared.entry.Entry.{Entry}
 use Rattle.sg_facts.specs.declared.trace.Tag.{Tag}
 use Rattle.sg_facts.specs.declared.trace.Tag.TheVariants.{Walk, Load, Client}
@@ -11,14 +11,14 @@ use Rattle.sg_facts.specs.Guard.{guard}
 use Rattle.sg_facts.specs.Interface.{Declared}
 use Rattle.sg_facts.specs.Object.{object_of}
 use Rattle.sg_facts.specs.Trace.{Boot}
-use Rattle.sg_hist.specs.Reading.{Position, is_tagged, places_from, places_in}
-use Rattle.sg_hist.specs.Recovered.{EndsUsed}
+use Rattle.sg_plain.specs.sg_hist.Reading.{Position, is_tagged, places_from, places_in}
+use Rattle.sg_plain.specs.sg_hist.Recovered.{EndsUsed}
 use Rattle.sg_plain.specs.Promises.{IsWokenBetween, has_blocked, wakes_at}
-use Rattle.sg_hist.specs.Growing.{last_items, older_items}
-use Rattle.sg_seat.specs.WorldView.{Seat, WorldView, is_held_phase, is_offered, seat_in}
-use Rattle.sg_seat.specs.declared.phase.Phase.{Phase}
-use Rattle.sg_seat.specs.declared.phase.Phase.TheVariants.{Idle, Asked, Held, Receipted, Blocked, Left}
-use Rattle.sg_world_laws.specs.Setting.{Setting}
+use Rattle.sg_plain.specs.sg_hist.Growing.{last_items, older_items}
+use Rattle.sg_plain.specs.sg_seat.WorldView.{Seat, WorldView, is_held_phase, is_offered, seat_in}
+use Rattle.sg_plain.specs.sg_seat.declared.phase.Phase.{Phase}
+use Rattle.sg_plain.specs.sg_seat.declared.phase.Phase.TheVariants.{Idle, Asked, Held, Receipted, Blocked, Left}
+use Rattle.sg_world.specs.sg_world_laws.Setting.{Setting}
 
 -- a fact of each client's seat
 abbrev pub EachSeat : (ℕ → Seat → Type 0) → List Seat → Type 0

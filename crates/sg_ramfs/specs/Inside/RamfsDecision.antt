@@ -1,10 +1,10 @@
 -- What the file service decides.
 use Rattle.std.specs.Prelude.{ℕ, ◌≡◌, ◌+◌, ◌<◌, ◌≤◌, nat_lt, if◌then◌else◌, List, [], ◌∷◌, ◌++◌, None, Some, length, take, drop}
-use Rattle.sg_base.specs.declared.call.Call.{Call}
-use Rattle.sg_base.specs.declared.reply.Code.TheVariants.{Gap, TooBig, BadName}
-use Rattle.sg_base.specs.declared.reply.Reply.{Reply}
-use Rattle.sg_base.specs.declared.reply.Reply.TheVariants.{Ok, Refused}
-use Rattle.sg_base.specs.Stops.{asked_after}
+use Rattle.sg_facts.specs.sg_base.declared.call.Call.{Call}
+use Rattle.sg_facts.specs.sg_base.declared.reply.Code.TheVariants.{Gap, TooBig, BadName}
+use Rattle.sg_facts.specs.sg_base.declared.reply.Reply.{Reply}
+use Rattle.sg_facts.specs.sg_base.declared.reply.Reply.TheVariants.{Ok, Refused}
+use Rattle.sg_facts.specs.sg_base.Stops.{asked_after}
 use Rattle.sg_facts.specs.declared.outcome.Outcome.{Outcome}
 use Rattle.sg_facts.specs.declared.outcome.Outcome.TheVariants.{Replied, Blocks, Stopped, NoMemory}
 use Rattle.sg_facts.specs.declared.outcome.Patch.{Patch}
@@ -34,7 +34,7 @@ on_open held call =
     else if nat_lt most_path (length (path_of (tree_rows held) call.desc ++ 47 ∷ name)) then Refuse TooBig
     else Make (record { creator = call.client; parent = call.desc; name = name; place = 0 }) None
 
--- a descriptor reads at most so many bytes of its file, and moves its place behind them
+-- a descriptor reads at most so many bytes of its file, and moves its place after them
 abbrev pub on_read : OpenFile → List ℕ → ℕ → ReadPlan
 on_read f file n =
     let bytes = take n (drop f.place file) in
@@ -46,7 +46,7 @@ abbrev pub put_at : List ℕ → OpenFile → List ℕ → WritePlan
 put_at path f [] = Move (record f { place = f.place + 0 })
 put_at path f (b ∷ bytes) = Put (record f { place = f.place + length (b ∷ bytes) }) (record { key = path; from = f.place; bytes = b ∷ bytes })
 
--- a descriptor writes bytes into its file, and moves its place behind them
+-- a descriptor writes bytes into its file, and moves its place after them
 abbrev pub on_write : OpenFile → List ℕ → List ℕ → List ℕ → WritePlan
 on_write f path file bytes =
     if nat_lt (length file) f.place then RefuseWrite Gap

@@ -2,10 +2,10 @@
 use Rattle.std.proofs.Common.{◌≡◌, ℕ, zero, suc, ◌+◌, ◌<◌, Bool, true, false, cond, List, [], ◌∷◌, ◌++◌, None, Some, length, take, drop, refl, arith}
 use Rattle.std.specs.Prelude.{nat_lt}
 use Rattle.std.specs.declared.option.Option.{Option}
-use Rattle.sg_base.specs.declared.call.Call.{Call}
-use Rattle.sg_base.specs.declared.reply.Code.TheVariants.{BadName, Gap, TooBig}
-use Rattle.sg_base.specs.declared.reply.Reply.{Reply}
-use Rattle.sg_base.specs.declared.reply.Reply.TheVariants.{Ok, Refused}
+use Rattle.sg_facts.specs.sg_base.declared.call.Call.{Call}
+use Rattle.sg_facts.specs.sg_base.declared.reply.Code.TheVariants.{BadName, Gap, TooBig}
+use Rattle.sg_facts.specs.sg_base.declared.reply.Reply.{Reply}
+use Rattle.sg_facts.specs.sg_base.declared.reply.Reply.TheVariants.{Ok, Refused}
 use Rattle.sg_facts.specs.Allowed.{wants_word}
 use Rattle.sg_facts.specs.Facts.{fun_at}
 use Rattle.sg_facts.specs.Guard.{is_guards}

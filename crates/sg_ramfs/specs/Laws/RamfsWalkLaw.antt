@@ -2,11 +2,11 @@
 use Rattle.std.proofs.Common.{◌≡◌, ℕ, ◌+◌, ◌≤◌, true, false, cond, List, [], ◌∷◌, ◌++◌, Some, length, map, refl, sym, ◌∙◌, ap, subst, arith}
 use Rattle.std.specs.Prelude.{nat_lt}
 use Rattle.std.proofs.lemmas.Bool.Decides.{nat_tests}
-use Rattle.sg_base.specs.declared.value.Value.{Value}
-use Rattle.sg_base.specs.declared.value.Value.TheVariants.{Word, Text}
-use Rattle.sg_base.specs.declared.call.Call.{Call}
-use Rattle.sg_base.specs.declared.reply.Good.{Good}
-use Rattle.sg_base.specs.declared.reply.Reply.TheVariants.{Ok, Refused}
+use Rattle.sg_facts.specs.sg_base.declared.value.Value.{Value}
+use Rattle.sg_facts.specs.sg_base.declared.value.Value.TheVariants.{Word, Text}
+use Rattle.sg_facts.specs.sg_base.declared.call.Call.{Call}
+use Rattle.sg_facts.specs.sg_base.declared.reply.Good.{Good}
+use Rattle.sg_facts.specs.sg_base.declared.reply.Reply.TheVariants.{Ok, Refused}
 use Rattle.sg_facts.specs.declared.row.Row.{Row}
 use Rattle.sg_facts.specs.Alike.{named}
 use Rattle.sg_facts.specs.Facts.{fun_at}
@@ -18,7 +18,7 @@ use Rattle.sg_facts.specs.Limits.{most_file, most_path}
 use Rattle.sg_facts.specs.Object.{Object}
 use Rattle.sg_facts.specs.Sound.{AreFields, IsRow}
 use Rattle.sg_facts.specs.Track.{empty_field, field_at, fields_after, row_at, word_of}
-use Rattle.sg_base.specs.declared.reply.Code.TheVariants.{BadName, TooBig}
+use Rattle.sg_facts.specs.sg_base.declared.reply.Code.TheVariants.{BadName, TooBig}
 use Rattle.sg_facts.specs.Object.{first_text, path_of}
 use Rattle.sg_ramfs.specs.RamfsFacts.{ramfs_facts}
 use Rattle.sg_ramfs.specs.RamfsTable.{is_bad_name, ramfs_table, seek_answer, split_answer}

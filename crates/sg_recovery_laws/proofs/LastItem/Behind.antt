@@ -2,10 +2,10 @@
 use Rattle.std.proofs.Common.{◌≡◌, ℕ, Bool, true, false, cond, not, List, [], ◌∷◌, ◌++◌, Some, map, filter, refl, sym, ◌∙◌, ap, arith}
 use Rattle.std.specs.Prelude.{◌||◌, ◌&&◌}
 use Rattle.std.specs.List.{list_all, list_any}
-use Rattle.sg_base.specs.Lists.{Each}
-use Rattle.sg_base.specs.declared.call.Call.{Call}
-use Rattle.sg_base.specs.declared.reply.Reply.{Reply}
-use Rattle.sg_base.specs.declared.reply.Reply.TheVariants.{Ok, Refused}
+use Rattle.sg_facts.specs.sg_base.Lists.{Each}
+use Rattle.sg_facts.specs.sg_base.declared.call.Call.{Call}
+use Rattle.sg_facts.specs.sg_base.declared.reply.Reply.{Reply}
+use Rattle.sg_facts.specs.sg_base.declared.reply.Reply.TheVariants.{Ok, Refused}
 use Rattle.sg_facts.specs.declared.entry.Entry.{Entry}
 use Rattle.sg_facts.specs.declared.row.Row.{Row}
 use Rattle.sg_facts.specs.declared.tables.WalkLine.{WalkLine}
@@ -56,7 +56,7 @@ pub object_before_last : (facts : Facts) (older front : List Item) (item : Item)
     → object_before facts history (last_place older front item) ≡ object_of facts history
 object_before_last facts older front item history none has = object_last facts older front item empty_object history none has
 
--- what is whole at the item is what is whole behind the items
+-- what is whole at the item is what is whole after the items
 pub whole_last : (facts : Facts) (walks : List WalkLine) (older front : List Item) (item : Item) (history : List Entry) (id : ℕ) → IsOfNoEntry item history
     → is_whole_at facts walks history (last_place older front item) id ≡ whole_behind facts walks history older front id
 whole_last facts walks older front item history id none =

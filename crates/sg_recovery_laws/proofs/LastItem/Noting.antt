@@ -4,8 +4,8 @@ use Rattle.std.specs.Prelude.{◌==◌, ◌||◌, ◌&&◌, find, nat_le, nat_lt
 use Rattle.std.specs.List.{list_all, list_any}
 use Rattle.std.specs.declared.option.Option.{Option}
 use Rattle.std.proofs.lemmas.Bool.Decides.{nat_tests}
-use Rattle.sg_base.specs.Lists.{Each}
-use Rattle.sg_base.specs.declared.call.Call.{Call}
+use Rattle.sg_facts.specs.sg_base.Lists.{Each}
+use Rattle.sg_facts.specs.sg_base.declared.call.Call.{Call}
 use Rattle.sg_facts.specs.declared.entry.Entry.{Entry}
 use Rattle.sg_facts.specs.declared.row.Row.{Row}
 use Rattle.sg_facts.specs.declared.tables.WalkLine.{WalkLine}

@@ -5,8 +5,8 @@ use Rattle.std.specs.List.{list_any}
 use Rattle.std.proofs.lemmas.Bool.Decides.{eqb_tells, nat_tests}
 use Rattle.std.proofs.lemmas.List.Folds.{list_any-append}
 use Rattle.std.proofs.lemmas.List.Elements.{filter-append}
-use Rattle.sg_base.specs.declared.reply.Good.{Good}
-use Rattle.sg_base.specs.declared.reply.Reply.TheVariants.{Ok, Refused}
+use Rattle.sg_facts.specs.sg_base.declared.reply.Good.{Good}
+use Rattle.sg_facts.specs.sg_base.declared.reply.Reply.TheVariants.{Ok, Refused}
 use Rattle.sg_facts.specs.declared.entry.Entry.{Entry}
 use Rattle.sg_facts.specs.declared.outcome.Outcome.{Outcome}
 use Rattle.sg_facts.specs.declared.outcome.Outcome.TheVariants.{Replied, Blocks, Stopped, NoMemory}
@@ -30,7 +30,7 @@ use Rattle.sg_recovery_laws.specs.LastItem.Told.{IsRead, whole_behind}
 use Rattle.sg_recovery_laws.specs.LastItem.LastPlace.{last_place}
 use Rattle.sg_facts.proofs.Replaying.Found.{other_test, same_test}
 
--- ---- names with a pair more behind them
+-- ---- names with a pair more after them
 
 pub named_push : (l : List (ℕ × ℕ)) (id real x : ℕ) → list_any (λ n. n.0 == id) l ≡ false → named (l ++ (id, real) ∷ []) x ≡ named ((id, real) ∷ l) x
 named_push [] id real x none = refl

@@ -1,4 +1,4 @@
--- An entry that stands before no item yet may be put before held replies: the run recovers with it there as it does with it behind them.
+-- An entry that stands before no item yet may be put before held replies: the run recovers with it there as it does with it after them.
 use Rattle.std.proofs.Common.{◌≡◌, ℕ, Bool, true, false, cond, not, List, [], ◌∷◌, ◌++◌, None, Some, map, filter, refl, sym, ◌∙◌, ap, subst, inl, inr, ◌⊎◌, append_assoc, append-nil, arith}
 use Rattle.std.specs.Prelude.{◌==◌, ◌≢◌, ◌||◌, ◌&&◌, find}
 use Rattle.std.specs.List.{Contains, list_all, list_any}
@@ -7,8 +7,8 @@ use Rattle.std.proofs.lemmas.Bool.Decides.{eqb_tells, nat_tests}
 use Rattle.std.proofs.lemmas.List.Elements.{Contains-append_left, Contains-append_right, Contains-append_cases, filter-append}
 use Rattle.std.proofs.lemmas.List.Folds.{list_any-append}
 use Rattle.std.proofs.lemmas.List.{map-append}
-use Rattle.sg_base.specs.Lists.{Each, When}
-use Rattle.sg_base.specs.declared.call.Call.{Call}
+use Rattle.sg_facts.specs.sg_base.Lists.{Each, When}
+use Rattle.sg_facts.specs.sg_base.declared.call.Call.{Call}
 use Rattle.sg_facts.specs.declared.entry.Entry.{Entry}
 use Rattle.sg_facts.specs.declared.outcome.Outcome.{Outcome}
 use Rattle.sg_facts.specs.declared.tables.WalkLine.{WalkLine}
@@ -19,7 +19,7 @@ use Rattle.sg_facts.specs.Facts.{Facts, fun_at, is_visible}
 use Rattle.sg_facts.specs.Object.{object_of}
 use Rattle.sg_facts.specs.Trace.{Run}
 use Rattle.sg_hist.specs.Clients.{calls_of}
-use Rattle.sg_hist.specs.Reading.{Position, behind, desc_in, entries_before, id_given, is_by_guard, is_made, is_item_of, is_ok, is_rebuilt_at, item_of, made_by, names_at, names_in, pair_of, places_in, places_of, stands_before}
+use Rattle.sg_hist.specs.Reading.{Position, items_after, desc_in, entries_before, id_given, is_by_guard, is_made, is_item_of, is_ok, is_rebuilt_at, item_of, made_by, names_at, names_in, pair_of, places_in, places_of, stands_before}
 use Rattle.sg_hist.specs.Recovered.{AreInOrder, ComeBefore, HasItem, IsCommitted, IsDemanded, IsItsCall, IsTrackedAt, IsUnderWay, IsWalked, Stubs, calls_made, is_entered, is_visible_reply}
 use Rattle.sg_hist.specs.Growing.{IsRecovering}
 use Rattle.sg_recovery_laws.proofs.Lists.{each_append, each_both, each_map, each_split}
@@ -169,8 +169,8 @@ module _ (h es : List Entry) (e : Entry) (none : NoneBy e.call.client es) where
     object = ap (object_of facts) (entries_moved p isn't);
     names = names_moved facts p.front;
     made = λ id. made_moved facts id p.front;
-    whole = λ id. ap (λ b. b || list_any (is_rebuilt_at facts walks (h ++ e ∷ es) id) (places_in p.older [] p.front (p.item ∷ behind p))) (made_moved facts id p.front)
-        ∙ ap (λ b. list_any (is_made facts (h ++ (es ++ e ∷ [])) id) p.front || b) (rebuilt_moved facts walks id p.older [] p.front (p.item ∷ behind p) isn't);
+    whole = λ id. ap (λ b. b || list_any (is_rebuilt_at facts walks (h ++ e ∷ es) id) (places_in p.older [] p.front (p.item ∷ items_after p))) (made_moved facts id p.front)
+        ∙ ap (λ b. list_any (is_made facts (h ++ (es ++ e ∷ [])) id) p.front || b) (rebuilt_moved facts walks id p.older [] p.front (p.item ∷ items_after p) isn't);
     under_way = under_moved u p;
   }
 
@@ -262,7 +262,7 @@ module _ (h es : List Entry) (e : Entry) (none : NoneBy e.call.client es) where
       committed : (p : Position) (b : Bool) → When b (is_entered (h ++ (es ++ e ∷ [])) p ≡ true) → When b (is_entered (h ++ e ∷ es) p ≡ true)
       committed p false is = tt
       committed p true is =
-          let test : Entry → Bool = λ x. not (is_by_guard x.reply) && is_item_of x p.item && not (list_any (is_item_of x) (behind p)) in
+          let test : Entry → Bool = λ x. not (is_by_guard x.reply) && is_item_of x p.item && not (list_any (is_item_of x) (items_after p)) in
           list_any-append test h (e ∷ es) ∙ sym (list_any-append test h (es ++ e ∷ []) ∙ ap (λ b. list_any test h || b) (list_any-append test es (e ∷ [])) ∙ swap_or (list_any test h) (list_any test es) (test e)) ∙ is
 
 -- in the form that the laws of a run give

@@ -1,14 +1,14 @@
 -- A call whose needs are whole gets from the service the answer at the object of the history, whatever replies of others are held, and the
--- service stands as before: its rows for those of the object behind the call and the held replies.
+-- service stands as before: its rows for those of the object after the call and the held replies.
 use Rattle.std.proofs.Common.{◌≡◌, ℕ, suc, ◌+◌, Bool, true, false, cond, List, [], ◌∷◌, None, Some, length, refl, sym, ◌∙◌, ap, subst, inl, inr, ◌⊎◌, arith}
 use Rattle.std.specs.Prelude.{◌==◌, ◌||◌, ◌&&◌, ◌≢◌, if◌then◌else◌}
 use Rattle.std.specs.List.{list_any}
 use Rattle.std.specs.declared.option.Option.{Option}
 use Rattle.std.proofs.lemmas.Bool.Decides.{nat_tests}
-use Rattle.sg_base.specs.declared.call.Call.{Call}
-use Rattle.sg_base.specs.declared.reply.Good.{Good}
-use Rattle.sg_base.specs.declared.reply.Reply.{Reply}
-use Rattle.sg_base.specs.declared.reply.Reply.TheVariants.{Ok, Refused}
+use Rattle.sg_facts.specs.sg_base.declared.call.Call.{Call}
+use Rattle.sg_facts.specs.sg_base.declared.reply.Good.{Good}
+use Rattle.sg_facts.specs.sg_base.declared.reply.Reply.{Reply}
+use Rattle.sg_facts.specs.sg_base.declared.reply.Reply.TheVariants.{Ok, Refused}
 use Rattle.sg_facts.specs.declared.entry.Entry.{Entry}
 use Rattle.sg_facts.specs.declared.outcome.Patch.{Patch}
 use Rattle.sg_facts.specs.declared.row.Row.{Row}
@@ -230,7 +230,7 @@ module _ (i : Declared) (ask : Table) (sound : Object → Type 0) (walks : List 
       (less_time i.facts ask sound law (suc (length es)) (length es) (after i.facts o call reply) (omega arith) later)
       (waiting_after i.facts ask sound law o call reply es ok answered (less_time i.facts ask sound law (suc (length es)) 0 (after i.facts o call reply) (omega arith) later) none_by waiting)).is_sound)
 
-  -- ---- what the service holds behind an Ok
+  -- ---- what the service holds after an Ok
 
   module _ (good other : Good) (is : ask o call ≡ Some (Ok good)) (is_h : ask held (under_names names call) ≡ Some (Ok other)) (words : other.words ≡ good.words) where
     abbrev o1 : Object
@@ -498,7 +498,7 @@ module _ (i : Declared) (ask : Table) (sound : Object → Type 0) (walks : List 
               (under.files path))
         ]
 
-    -- the service stands as before, at the object behind the call and the held replies
+    -- the service stands as before, at the object after the call and the held replies
     pub under_served : IsInRecovery i walks names1 (told_with i.facts call good told) (present_with (patch_of i.facts o call (Ok good)) present) (object_from i.facts (after i.facts o call (Ok good)) es) h1
     under_served = subst (λ x. IsInRecovery i walks names1 (told_with i.facts call good told) (present_with (patch_of i.facts o call (Ok good)) present) x h1) (sym (past_held (Ok good) is)) (record {
       holds = holds_served i names (object_from i.facts o es) held call good other under.holds sound_o (sound_after (Ok good) is) (acts i.facts call.fun law.shape.shape passes.is_call.first passes.is_call.last) words next_it on_whole (λ takes. parent_whole takes) no_children;

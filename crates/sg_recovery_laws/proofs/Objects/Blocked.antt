@@ -2,11 +2,11 @@
 use Rattle.std.proofs.Common.{◌≡◌, ℕ, Bool, true, false, cond, not, List, None, Some, length, refl, sym, ◌∙◌, ap}
 use Rattle.std.specs.Prelude.{◌==◌, ◌&&◌, if◌then◌else◌, nat_le}
 use Rattle.std.specs.declared.option.Option.{Option}
-use Rattle.sg_base.specs.declared.call.Call.{Call}
-use Rattle.sg_base.specs.declared.reply.Code.{Code}
-use Rattle.sg_base.specs.declared.reply.Code.TheVariants.{NoDesc, NoParent, BadState, HasChildren, Full}
-use Rattle.sg_base.specs.declared.reply.Good.{Good}
-use Rattle.sg_base.specs.declared.reply.Reply.TheVariants.{Ok}
+use Rattle.sg_facts.specs.sg_base.declared.call.Call.{Call}
+use Rattle.sg_facts.specs.sg_base.declared.reply.Code.{Code}
+use Rattle.sg_facts.specs.sg_base.declared.reply.Code.TheVariants.{NoDesc, NoParent, BadState, HasChildren, Full}
+use Rattle.sg_facts.specs.sg_base.declared.reply.Good.{Good}
+use Rattle.sg_facts.specs.sg_base.declared.reply.Reply.TheVariants.{Ok}
 use Rattle.sg_facts.specs.declared.row.Row.{Row}
 use Rattle.sg_facts.specs.Allowed.{implies}
 use Rattle.sg_facts.specs.Facts.{Facts, fun_at, takes_desc, takes_parent}

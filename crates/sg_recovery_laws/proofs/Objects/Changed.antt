@@ -2,8 +2,8 @@
 use Rattle.std.proofs.Common.{◌≡◌, ℕ, ◌≤◌, Bool, true, false, cond, List, Some, map, refl, sym, ◌∙◌, ap, subst, inl, inr, arith}
 use Rattle.std.specs.Prelude.{◌==◌, ◌||◌, ◌&&◌, nat_lt, if◌then◌else◌}
 use Rattle.std.proofs.lemmas.Bool.Decides.{nat_tests}
-use Rattle.sg_base.specs.declared.call.Call.{Call}
-use Rattle.sg_base.specs.declared.reply.Good.{Good}
+use Rattle.sg_facts.specs.sg_base.declared.call.Call.{Call}
+use Rattle.sg_facts.specs.sg_base.declared.reply.Good.{Good}
 use Rattle.sg_facts.specs.declared.row.Row.{Row}
 use Rattle.sg_facts.specs.Alike.{HasAlike, IsAlike, named, under_names}
 use Rattle.sg_facts.specs.Facts.{Facts}

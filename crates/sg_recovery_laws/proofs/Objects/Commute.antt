@@ -2,8 +2,8 @@
 use Rattle.std.proofs.Common.{◌≡◌, ℕ, ◌+◌, Bool, true, false, cond, List, [], ◌∷◌, ◌++◌, map, filter, refl, sym, ◌∙◌, ap, subst, inl, inr, ◌⊎◌, arith}
 use Rattle.std.specs.Prelude.{◌==◌, if◌then◌else◌}
 use Rattle.std.proofs.lemmas.Bool.Decides.{eqb_tells}
-use Rattle.sg_base.specs.declared.call.Call.{Call}
-use Rattle.sg_base.specs.declared.reply.Good.{Good}
+use Rattle.sg_facts.specs.sg_base.declared.call.Call.{Call}
+use Rattle.sg_facts.specs.sg_base.declared.reply.Good.{Good}
 use Rattle.sg_facts.specs.declared.row.Row.{Row}
 use Rattle.sg_facts.specs.Facts.{Facts, fun_at, takes_parent}
 use Rattle.sg_facts.specs.Object.{Object}
@@ -16,7 +16,7 @@ use Rattle.sg_recovery_laws.proofs.Objects.Changed.{change_at}
 use Rattle.sg_facts.proofs.Replaying.Found.{from_left, from_map, from_more, to_map}
 use Rattle.sg_recovery_laws.proofs.Objects.Left.{parent_stays, stays}
 
--- the number of ids given behind it
+-- the number of ids given after it
 abbrev pub given_with : Facts → Call → ℕ → ℕ
 given_with facts call given = if (fun_at facts.funs call.fun).creation then given + 1 else given
 

@@ -1,9 +1,9 @@
--- What a call needs is the same behind the held replies of others.
+-- What a call needs is the same after the held replies of others.
 use Rattle.std.proofs.Common.{◌≡◌, ℕ, Bool, true, false, cond, List, [], ◌∷◌, None, Some, length, map, filter, refl, sym, ◌∙◌, ap, subst, inl, inr}
 use Rattle.std.specs.Prelude.{◌==◌, ◌||◌, if◌then◌else◌}
 use Rattle.std.specs.List.{list_any}
 use Rattle.std.specs.declared.option.Option.{Option}
-use Rattle.sg_base.specs.declared.call.Call.{Call}
+use Rattle.sg_facts.specs.sg_base.declared.call.Call.{Call}
 use Rattle.sg_facts.specs.declared.entry.Entry.{Entry}
 use Rattle.sg_facts.specs.declared.row.Row.{Row}
 use Rattle.sg_facts.specs.Facts.{Facts, fun_at}
@@ -47,7 +47,7 @@ module _ (facts : Facts) (ask : Table) (sound : Object → Type 0) (law : IsServ
   pub needed_same : (r : Row) → is_needed facts (object_from facts o es).rows call r ≡ is_needed facts o.rows call r
   needed_same r = ap (λ ids. (fun_at facts.funs call.fun).all || (r.id == call.desc) || list_any (λ a. a == r.id) ids) above_same
 
-  -- what is needed behind them is there before them
+  -- what is needed after them is there before them
   pub needed_back : (r : Row) → row_at (object_from facts o es).rows r.id ≡ Some r → is_needed facts (object_from facts o es).rows call r ≡ true → row_at o.rows r.id ≡ Some r
   needed_back r there need = by es refl waiting
     where

@@ -1,11 +1,11 @@
--- What the guard lets pass of a client, it lets pass behind replies held by others too: also a creation, as those make no rows.
+-- What the guard lets pass of a client, it lets pass after replies held by others too: also a creation, as those make no rows.
 use Rattle.std.proofs.Common.{◌≡◌, ℕ, suc, ◌≤◌, Bool, true, false, cond, not, List, [], ◌∷◌, None, Some, length, map, filter, refl, sym, ◌∙◌, ap, inl, inr, ◌⊎◌, arith}
 use Rattle.std.specs.Prelude.{◌==◌, ◌||◌, ◌&&◌, nat_le, if◌then◌else◌}
 use Rattle.std.proofs.lemmas.Bool.Decides.{nat_tests}
-use Rattle.sg_base.specs.declared.call.Call.{Call}
-use Rattle.sg_base.specs.declared.reply.Code.TheVariants.{NoDesc, NoParent, BadState, HasChildren, Full}
-use Rattle.sg_base.specs.declared.reply.Reply.{Reply}
-use Rattle.sg_base.specs.declared.reply.Reply.TheVariants.{Ok, Refused}
+use Rattle.sg_facts.specs.sg_base.declared.call.Call.{Call}
+use Rattle.sg_facts.specs.sg_base.declared.reply.Code.TheVariants.{NoDesc, NoParent, BadState, HasChildren, Full}
+use Rattle.sg_facts.specs.sg_base.declared.reply.Reply.{Reply}
+use Rattle.sg_facts.specs.sg_base.declared.reply.Reply.TheVariants.{Ok, Refused}
 use Rattle.sg_facts.specs.declared.entry.Entry.{Entry}
 use Rattle.sg_facts.specs.declared.row.Row.{Row}
 use Rattle.sg_facts.specs.declared.shape.Parents.{Parents}
@@ -112,7 +112,7 @@ module _ (j : Declared) (ask : Table) (sound : Object → Type 0) (law : IsServi
           same_may (inl root) Never is may = absurd (let none = acting.never (ap is_never is) in cc (none, takes))
           same_may (inl root) Cross is may = absurd (let none = private_parents j.facts law.shape.shape alone in let c : is_cross j.facts.parents ≡ true = ap is_cross is in cc (none, c))
 
-  -- so behind replies held by others
+  -- so after replies held by others
   pub guard_behind : (o : Object) (es : List Entry) (call : Call) → IsLegalObject j.facts sound o → HasTime j.facts (length es) o → AreWaiting j.facts ask o es → NoneBy call.client es
       → 1 ≤ call.fun → call.fun ≤ length j.facts.funs → guard j o call ≡ None → guard j (object_from j.facts o es) call ≡ None
   guard_behind o [] call ok time all none first last passes = passes

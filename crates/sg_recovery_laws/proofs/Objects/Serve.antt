@@ -1,9 +1,9 @@
 -- What a service holds goes on to stand for an object's rows when an answered call changes both.
 use Rattle.std.proofs.Common.{◌≡◌, ℕ, ◌+◌, ◌≤◌, Bool, true, false, cond, List, [], ◌∷◌, ◌++◌, None, Some, map, filter, refl, sym, ◌∙◌, ap, subst, inl, inr, ◌⊎◌, arith}
 use Rattle.std.specs.Prelude.{if◌then◌else◌}
-use Rattle.sg_base.specs.declared.call.Call.{Call}
-use Rattle.sg_base.specs.declared.reply.Good.{Good}
-use Rattle.sg_base.specs.declared.reply.Reply.TheVariants.{Ok}
+use Rattle.sg_facts.specs.sg_base.declared.call.Call.{Call}
+use Rattle.sg_facts.specs.sg_base.declared.reply.Good.{Good}
+use Rattle.sg_facts.specs.sg_base.declared.reply.Reply.TheVariants.{Ok}
 use Rattle.sg_facts.specs.declared.row.Row.{Row}
 use Rattle.sg_facts.specs.Alike.{HasAlike, named, under_names}
 use Rattle.sg_facts.specs.Facts.{Facts, fun_at, takes_parent}
@@ -61,7 +61,7 @@ module _ (i : Declared) (names : List (ℕ × ℕ)) (o held : Object) (call : Ca
     (on : (fun_at i.facts.funs call.fun).query ≡ false → (fun_at i.facts.funs call.fun).creation ≡ false → IsWholeRow names o held call.desc)
     (parent : takes_parent (fun_at i.facts.funs call.fun) ≡ true → (call.desc ≡ 0) ⊎ IsWholeRow names o held call.desc)
     (alone : (fun_at i.facts.funs call.fun).query ≡ false → (fun_at i.facts.funs call.fun).creation ≡ false → (fun_at i.facts.funs call.fun).terminal ≡ true → i.facts.subtree ≡ false → has_child o.rows call.desc ≡ false) where
-  -- what holds of what stands in the service behind the call, by what the call does
+  -- what holds of what stands in the service after the call, by what the call does
   record IsServed (names' : List (ℕ × ℕ)) (o' held' : Object) : Type 0 where
     all : HoldsPart i names' o' held'
     whole : (r r' : Row) → row_at o.rows r.id ≡ Some r → HasAlike names held r → row_at o'.rows r.id ≡ Some r' → HasAlike names' held' r'
@@ -179,7 +179,7 @@ module _ (i : Declared) (names : List (ℕ × ℕ)) (o held : Object) (call : Ca
       by_creation true makes = served_make makes
       by_creation false makes = by_query (fun_at i.facts.funs call.fun).query refl makes
 
-  -- the service holds the object's rows behind the call
+  -- the service holds the object's rows after the call
   pub holds_served : HoldsPart i (names_served i.facts names call good other) (after i.facts o call (Ok good)) (after i.facts held (under_names names call) (Ok other))
   holds_served = served.all
 

@@ -7,10 +7,10 @@ use Rattle.std.proofs.lemmas.Bool.Decides.{nat_tests}
 use Rattle.std.proofs.lemmas.Grind.{reverse_onto}
 use Rattle.std.proofs.lemmas.List.Folds.{flat_map-map}
 use Rattle.std.proofs.lemmas.List.{map-append}
-use Rattle.sg_base.specs.Lists.{Each}
-use Rattle.sg_base.specs.declared.call.Call.{Call}
-use Rattle.sg_base.specs.declared.reply.Reply.{Reply}
-use Rattle.sg_base.specs.declared.reply.Reply.TheVariants.{Ok, Refused}
+use Rattle.sg_facts.specs.sg_base.Lists.{Each}
+use Rattle.sg_facts.specs.sg_base.declared.call.Call.{Call}
+use Rattle.sg_facts.specs.sg_base.declared.reply.Reply.{Reply}
+use Rattle.sg_facts.specs.sg_base.declared.reply.Reply.TheVariants.{Ok, Refused}
 use Rattle.sg_facts.specs.declared.entry.Entry.{Entry}
 use Rattle.sg_facts.specs.declared.row.Row.{Row}
 use Rattle.sg_facts.specs.Alike.{EachStands, HasAlike, SameFile, Serves, named}
@@ -106,7 +106,7 @@ module _ (facts : Facts) (ask : Table) (sound : Object → Type 0) (law : IsServ
       by_query true query = let k = (keeps facts call.fun law.shape.shape passes.is_call.first passes.is_call.last).query query in inl (passes.is_call.fits.desc k.0 k.1)
       by_query false row = by_takes (takes_parent (fun_at facts.funs call.fun)) (takes_desc (fun_at facts.funs call.fun)) row refl refl
 
-  -- what a call needs is the same behind the held replies of others
+  -- what a call needs is the same after the held replies of others
   pub needed_behind : (o : Object) (es : List Entry) (call : Call) (r : Row) → IsLegalObject facts sound o → HasTime facts (length es) o → AreWaiting facts ask o es → NoneBy call.client es → Passes facts o call
       → row_at o.rows r.id ≡ Some r → is_needed facts o.rows call r ≡ true → row_at (object_from facts o es).rows r.id ≡ Some r
   needed_behind o [] call r good time all none passes there need = there
@@ -128,7 +128,7 @@ module _ (facts : Facts) (ask : Table) (sound : Object → Type 0) (law : IsServ
       at true None is may = absurd (cc may)
       at false None is may = absurd (cc may)
 
-  -- the path of the descriptor is the same behind the held replies of others
+  -- the path of the descriptor is the same after the held replies of others
   pub path_behind : (o : Object) (es : List Entry) (call : Call) → IsLegalObject facts sound o → HasTime facts (length es) o → AreWaiting facts ask o es → NoneBy call.client es → Passes facts o call
       → takes_desc (fun_at facts.funs call.fun) ≡ true → (fun_at facts.funs call.fun).query ≡ false → path_of (object_from facts o es).rows call.desc ≡ path_of o.rows call.desc
   path_behind o [] call good time all none passes takes row = refl

@@ -2,10 +2,10 @@
 use Rattle.std.proofs.Common.{◌≡◌, ℕ, suc, ◌+◌, ◌^◌, ◌<◌, ◌≤◌, Bool, true, false, cond, List, [], ◌∷◌, None, Some, length, refl, sym, ◌∙◌, ap, subst, arith}
 use Rattle.std.specs.Prelude.{◌||◌, ◌&&◌}
 use Rattle.std.specs.List.{list_any}
-use Rattle.sg_base.specs.declared.call.Call.{Call}
-use Rattle.sg_base.specs.declared.reply.Good.{Good}
-use Rattle.sg_base.specs.declared.reply.Reply.{Reply}
-use Rattle.sg_base.specs.declared.reply.Reply.TheVariants.{Ok, Refused}
+use Rattle.sg_facts.specs.sg_base.declared.call.Call.{Call}
+use Rattle.sg_facts.specs.sg_base.declared.reply.Good.{Good}
+use Rattle.sg_facts.specs.sg_base.declared.reply.Reply.{Reply}
+use Rattle.sg_facts.specs.sg_base.declared.reply.Reply.TheVariants.{Ok, Refused}
 use Rattle.sg_facts.specs.declared.entry.Entry.{Entry}
 use Rattle.sg_facts.specs.declared.row.Row.{Row}
 use Rattle.sg_facts.specs.Facts.{Facts, fun_at, is_visible, takes_desc}
@@ -140,7 +140,7 @@ module _ (facts : Facts) (ask : Table) (sound : Object → Type 0) (law : IsServ
         waiting_after o e re es good is time none.1 all.2,
       )
 
-  -- the object behind held replies is one of legal histories
+  -- the object after held replies is one of legal histories
   pub good_behind : (o : Object) (es : List Entry) → IsLegalObject facts sound o → HasTime facts (length es) o → AreWaiting facts ask o es → IsLegalObject facts sound (object_from facts o es)
   good_behind o [] good time all = good
   good_behind o (p ∷ es) good time all =
@@ -148,7 +148,7 @@ module _ (facts : Facts) (ask : Table) (sound : Object → Type 0) (law : IsServ
       good_behind (after facts o p.call p.reply) es (after_good facts ask sound law o p.call p.reply good all.0.answered) later
       (waiting_after o p.call p.reply es good all.0.answered (less_time (length es) 0 (after facts o p.call p.reply) (omega arith) later) all.1 all.2)
 
-  -- an answered call before held replies of others is as one behind them
+  -- an answered call before held replies of others is as one after them
   pub past_waiting : (o : Object) (e : Call) (re : Reply) (es : List Entry) → IsLegalObject facts sound o → IsLegalObject facts sound (after facts o e re) → IsActing facts o e re → NoneBy e.client es
       → HasTime facts (suc (length es)) o → HasTime facts (length es) (after facts o e re) → AreWaiting facts ask o es → AreWaiting facts ask (after facts o e re) es
       → object_from facts (after facts o e re) es ≡ after facts (object_from facts o es) e re

@@ -1,6 +1,6 @@
 -- Calls as clients may make them, and what holds of the object of a legal history of such calls.
 use Rattle.std.specs.Prelude.{ℕ, ◌+◌, ◌≤◌}
-use Rattle.sg_base.specs.declared.call.Call.{Call}
+use Rattle.sg_facts.specs.sg_base.declared.call.Call.{Call}
 use Rattle.sg_facts.specs.Counted.{most_counted}
 use Rattle.sg_facts.specs.Facts.{Facts}
 use Rattle.sg_facts.specs.Kinds.{AreWords, IsCall}

@@ -16,7 +16,7 @@ use Rattle.sg_hist.specs.Reading.{is_made, is_rebuilt_at, names_at, places_in}
 use Rattle.sg_hist.specs.Recovered.{is_patch_at, is_walk_of}
 use Rattle.sg_recovery_laws.specs.Midway.Progress.{TellsCalls, IsNone, Told, is_complete}
 
--- whether an id is whole behind the items of a boot
+-- whether an id is whole after the items of a boot
 abbrev pub whole_behind : Facts → List WalkLine → List Entry → List Item → List Item → ℕ → Bool
 whole_behind facts walks history older front id =
     list_any (is_made facts history id) front || list_any (is_rebuilt_at facts walks history id) (places_in older [] front [])

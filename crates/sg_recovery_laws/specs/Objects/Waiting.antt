@@ -1,6 +1,6 @@
 -- Replies that are held: answered at the object of the history, and not yet in it.
 use Rattle.std.specs.Prelude.{ℕ, ◌≡◌, ◌≢◌, false, List, [], ◌∷◌}
-use Rattle.sg_base.specs.Lists.{Each}
+use Rattle.sg_facts.specs.sg_base.Lists.{Each}
 use Rattle.sg_facts.specs.declared.entry.Entry.{Entry}
 use Rattle.sg_facts.specs.Facts.{Facts, is_visible}
 use Rattle.sg_facts.specs.Legal.{Table}

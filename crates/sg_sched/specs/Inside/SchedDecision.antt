@@ -1,7 +1,7 @@
 -- What the thread service decides.
 use Rattle.std.specs.Prelude.{ℕ, true, false, if◌then◌else◌, None, Some}
 use Rattle.std.specs.declared.option.Option.{Option}
-use Rattle.sg_base.specs.declared.reply.Code.TheVariants.{NotFound}
+use Rattle.sg_facts.specs.sg_base.declared.reply.Code.TheVariants.{NotFound}
 use Rattle.sg_slots.specs.declared.decision.Decision.{Decision}
 use Rattle.sg_slots.specs.declared.decision.Decision.TheVariants.{Refuse, Block, Make, Set, Keep}
 use Rattle.sg_sched.specs.declared.thread.Thread.{Thread}

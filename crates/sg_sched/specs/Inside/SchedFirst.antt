@@ -39,7 +39,7 @@ by_same a b further is =
     let equal : (a == b) ≡ true = grind (arith, nat_tests) in
     ap (λ t. t || ((a == b) && further)) test ∙ ap (λ t. t && further) equal
 
--- the greater number goes behind
+-- the greater number goes after
 pub by_more : (a b : ℕ) (further : Bool) → b < a → by a b further ≡ false
 by_more a b further is =
     let test : nat_lt a b ≡ false = grind (arith, nat_tests) in
@@ -115,7 +115,7 @@ before_itself r = elim (cases_Bool (goes_before r r)) [
   | inr is ↦ is
 ]
 
--- the one of two that goes first isn't behind the first, nor behind the second
+-- the one of two that goes first isn't after the first, nor after the second
 first_of_two : (r s : Row) → goes_before r (next_of r s) ≡ false
 first_of_two r s = elim (cases_Bool (goes_before s r)) [
   | inl is ↦ subst (λ b. goes_before r (cond b s r) ≡ false) (sym is) (one_before s r is)

@@ -1,4 +1,4 @@
--- Tokens that are the pieces of a script lead from the state before them to the state behind them.
+-- Tokens that are the pieces of a script lead from the state before them to the state after them.
 use Rattle.std.proofs.Common.{◌≡◌, ℕ, List, [], ◌∷◌, ◌++◌, refl, sym, ap, subst, append_assoc}
 use Rattle.std.specs.Prelude.{None, Some, codes}
 use Rattle.std.proofs.lemmas.List.{append-nil}

@@ -30,7 +30,7 @@ HasRead (body calls k) f = (more : List WrittenCall) → HasRead (k (calls ++ mo
 HasRead (counts numbers k) f = (more : List Spelling) → HasRead (k (numbers ++ more)) (λ r. f (numbers_then more r))
 HasRead (script parts) f = (r : List ScriptPiece) → f r ≡ parts_then parts r
 
--- the token is a piece, and the state behind it has read that too
+-- the token is a piece, and the state after it has read that too
 pub record Grown (f : List ScriptPiece → List ScriptPiece) (token : Lexeme) (next : ScriptState) : Type 0 where
   pub piece : ScriptPiece
   pub is : IsScriptPiece token piece

@@ -1,12 +1,12 @@
 -- What a client of a shared play does next, and what a turn of it does.
 use Rattle.std.specs.Prelude.{ℕ, ◌≡◌, Bool, true, false, option_map}
 use Rattle.std.specs.declared.option.Option.{Option}
-use Rattle.sg_play.specs.Turning.{StepsInTurn, with_offer}
-use Rattle.sg_seat.specs.WorldView.{WorldView, seat_of}
+use Rattle.sg_sim.specs.sg_play.Turning.{StepsInTurn, with_offer}
+use Rattle.sg_sim.specs.sg_seat.WorldView.{WorldView, seat_of}
 use Rattle.sg_shared.specs.declared.shared.Next.{Next}
 use Rattle.sg_shared.specs.declared.shared.Next.TheVariants.{Offers, GoesOn, Waits, Through}
 use Rattle.sg_sim.specs.Playing.{Playing, can_step}
-use Rattle.sg_world_laws.specs.Setting.{Setting}
+use Rattle.sg_sim.specs.sg_world_laws.Setting.{Setting}
 
 -- whether a client takes a turn by what it does next
 abbrev pub takes_turn : Next → Bool

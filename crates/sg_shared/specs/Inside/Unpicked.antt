@@ -2,7 +2,7 @@
 use Rattle.std.specs.Prelude.{[]}
 use Rattle.sg_facts.specs.Facts.{no_facts}
 use Rattle.sg_facts.specs.Tables.{Compiled}
-use Rattle.sg_script.specs.declared.script.Script.{Script}
+use Rattle.sg_sim.specs.sg_script.declared.script.Script.{Script}
 
 abbrev pub no_tables : Compiled
 no_tables = record { iface = record { facts = no_facts; declared = 0; moves = []; steps = [] }; walks = [] }

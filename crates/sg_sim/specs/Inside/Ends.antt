@@ -1,9 +1,9 @@
 -- How one client ends.
 use Rattle.std.specs.Prelude.{ℕ, if◌then◌else◌, List, [], ◌∷◌}
-use Rattle.sg_hist.specs.declared.ended.End.{End}
-use Rattle.sg_plain.specs.Playing.Ends.{end_of, has_calls}
-use Rattle.sg_script.specs.declared.script.Script.{Script}
-use Rattle.sg_seat.specs.WorldView.{Seat}
+use Rattle.sg_play.specs.sg_hist.declared.ended.End.{End}
+use Rattle.sg_play.specs.sg_plain.Playing.Ends.{end_of, has_calls}
+use Rattle.sg_play.specs.sg_script.declared.script.Script.{Script}
+use Rattle.sg_play.specs.sg_seat.WorldView.{Seat}
 
 -- the end of a client, where it has a call
 abbrev pub end_by : Script → ℕ → Seat → List (ℕ × End)

@@ -1,6 +1,6 @@
 -- Lists of descriptors, each with its room.
 use Rattle.std.specs.Prelude.{ℕ, ◌-◌, List, [], map, slice_get, unwrap_or}
-use Rattle.sg_base.specs.Room.{Roomy}
+use Rattle.sg_facts.specs.sg_base.Room.{Roomy}
 
 -- the descriptors of each client
 abbrev pub lists_of : List (Roomy ℕ) → List (List ℕ)

@@ -1,11 +1,11 @@
 -- What a play keeps between turns.
 use Rattle.std.specs.Prelude.{ℕ, ◌≡◌, ◌≤◌, Bool, List, [], true, length}
 use Rattle.sg_play.specs.Following.Follows.{IsFollowing}
-use Rattle.sg_plain.specs.Playing.Plays.{IsPlaying}
-use Rattle.sg_script.specs.declared.script.Script.{Script}
-use Rattle.sg_seat.specs.WorldView.{WorldView}
+use Rattle.sg_play.specs.sg_plain.Playing.Plays.{IsPlaying}
+use Rattle.sg_play.specs.sg_script.declared.script.Script.{Script}
+use Rattle.sg_play.specs.sg_seat.WorldView.{WorldView}
 use Rattle.sg_play.specs.Waking.Waking.{IsWaking, no_query_waits}
-use Rattle.sg_world_laws.specs.Setting.{Setting}
+use Rattle.sg_play.specs.sg_world_laws.Setting.{Setting}
 
 -- the clients make the script's calls, none is withdrawn, the client of the last turn is one of the world, the play without
 -- stops is followed where each turn was its, and who waits is woken before it waits again

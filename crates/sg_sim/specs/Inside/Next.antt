@@ -1,7 +1,7 @@
 -- Whose turn it is.
 use Rattle.std.specs.Prelude.{ℕ, ◌≡◌, ◌<◌, ◌≤◌, Bool, true, false, Some, slice_get}
 use Rattle.sg_play.specs.Following.Stages.{IsNextTurn, stage_of}
-use Rattle.sg_plain.specs.Plain.{Stage, may_turn}
+use Rattle.sg_play.specs.sg_plain.Plain.{Stage, may_turn}
 use Rattle.sg_sim.specs.Playing.{Playing}
 
 -- the stage that a play is at, and whether a client may take a turn there
@@ -11,7 +11,7 @@ stage_now p = stage_of p.script p.view p.passed p.last
 abbrev pub may_go_next : Playing → ℕ → Bool
 may_go_next p client = may_turn (stage_now p) client
 
--- the first client behind one, and up to another, that may take a turn
+-- the first client after one, and up to another, that may take a turn
 pub record IsFirstBehind (p : Playing) (behind last client : ℕ) : Type 0 where
   pub above : behind < client
   pub within : client ≤ last

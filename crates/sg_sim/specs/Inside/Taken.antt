@@ -3,15 +3,15 @@ use Rattle.std.specs.Prelude.{ℕ, ◌≡◌, ◌⊎◌, List}
 use Rattle.std.specs.declared.option.Option.{Option}
 use Rattle.sg_play.specs.Recovering.{RecoversSoFar}
 use Rattle.sg_play.specs.Turning.{StepsInTurn, with_offer}
-use Rattle.sg_plain.specs.Playing.Given.{with_handed}
-use Rattle.sg_plain.specs.Playing.Plays.{IsPlaying}
-use Rattle.sg_script.specs.declared.script.Script.{Script}
-use Rattle.sg_seat.specs.WorldView.{WorldView, happened}
-use Rattle.sg_world.specs.Steps.{WantsMemory}
-use Rattle.sg_world_laws.specs.Setting.{Setting}
+use Rattle.sg_play.specs.sg_plain.Playing.Given.{with_handed}
+use Rattle.sg_play.specs.sg_plain.Playing.Plays.{IsPlaying}
+use Rattle.sg_play.specs.sg_script.declared.script.Script.{Script}
+use Rattle.sg_play.specs.sg_seat.WorldView.{WorldView, happened}
+use Rattle.sg_play.specs.sg_world.Steps.{WantsMemory}
+use Rattle.sg_play.specs.sg_world_laws.Setting.{Setting}
 
 module _ (z : Setting) (script : Script) (w : WorldView) (given : List (List ℕ)) (client : ℕ) where
-  -- the world behind the client's offer
+  -- the world after the client's offer
   abbrev pub behind_offer : WorldView
   behind_offer = with_offer z.iface.facts script w client
 

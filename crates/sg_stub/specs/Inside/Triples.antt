@@ -4,7 +4,7 @@ use Rattle.std.specs.List.{Contains, list_any}
 use Rattle.sg_facts.specs.Fields.{number_of}
 use Rattle.sg_facts.specs.Interface.{Declared}
 use Rattle.sg_facts.specs.Walks.{IsReachable}
-use Rattle.sg_walk.specs.declared.place.Triple.{Triple}
+use Rattle.sg_check.specs.sg_walk.declared.place.Triple.{Triple}
 
 -- whether a creation, a state and the number of a set of fields are among these
 abbrev pub has_triple : List (ℕ × ℕ × ℕ) → ℕ → ℕ → ℕ → Bool

@@ -1,12 +1,12 @@
 -- Which service an interface is of.
 use Rattle.std.specs.Prelude.{ℕ, ◌≡◌, ◌⊎◌, if◌then◌else◌, List}
 use Rattle.std.specs.Str.{bytes_eq}
-use Rattle.sg_event.specs.EventFacts.{event_facts}
+use Rattle.sg_load.specs.sg_event.EventFacts.{event_facts}
 use Rattle.sg_facts.specs.Facts.{Facts}
-use Rattle.sg_lock.specs.LockFacts.{lock_facts}
-use Rattle.sg_mm.specs.MmFacts.{mm_facts}
-use Rattle.sg_ramfs.specs.RamfsFacts.{ramfs_facts}
-use Rattle.sg_sched.specs.SchedFacts.{sched_facts}
+use Rattle.sg_load.specs.sg_lock.LockFacts.{lock_facts}
+use Rattle.sg_load.specs.sg_mm.MmFacts.{mm_facts}
+use Rattle.sg_load.specs.sg_ramfs.RamfsFacts.{ramfs_facts}
+use Rattle.sg_load.specs.sg_sched.SchedFacts.{sched_facts}
 use Rattle.sg_load.specs.declared.kind.ServiceKind.{ServiceKind}
 use Rattle.sg_load.specs.declared.kind.ServiceKind.TheVariants.{Locks, Events, Pages, Files, Threads}
 

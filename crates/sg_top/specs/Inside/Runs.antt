@@ -5,9 +5,9 @@ use Rattle.sg_facts.specs.Interface.{Declared}
 use Rattle.sg_facts.specs.Tables.{AreTables}
 use Rattle.sg_facts.specs.Trace.{run_of}
 use Rattle.sg_facts.specs.declared.tables.WalkLine.{WalkLine}
-use Rattle.sg_hist.specs.declared.ended.Ended.{Ended}
-use Rattle.sg_script.specs.declared.script.Script.{Script}
-use Rattle.sg_sim.specs.Played.{FollowsSchedule, IsPlayed}
+use Rattle.sg_report.specs.sg_hist.declared.ended.Ended.{Ended}
+use Rattle.sg_input.specs.sg_script.declared.script.Script.{Script}
+use Rattle.sg_shared.specs.sg_sim.Played.{FollowsSchedule, IsPlayed}
 use Rattle.sg_top.specs.Headline.{Answering, IsRunOf}
 
 -- the play of a script on a service, by the tables of an interface and with the script's stops, came to this end

@@ -1,4 +1,4 @@
--- An engine's advance in a world: what is missing may be done, and what it does is the next event, behind which the world keeps what it keeps.
+-- An engine's advance in a world: what is missing may be done, and what it does is the next event, after which the world keeps what it keeps.
 use Rattle.std.proofs.Common.{Bool, List, None, Some, [], ap, arith, cond, false, inl, inr, length, refl, subst, suc, sym, true, ℕ, ◌++◌, ◌+◌, ◌==◌, ◌∙◌, ◌∷◌, ◌≡◌, ◌≢◌, ◌≤◌, ◌⊎◌, ◌||◌}
 use Rattle.std.proofs.lemmas.Bool.Decides.{eqb_tells}
 use Rattle.std.specs.Str.{bytes_eq}
@@ -6,9 +6,9 @@ use Rattle.sg_world_laws.proofs.Advancing.Advances.{file_loaded, loaded_next, re
 use Rattle.sg_world_laws.proofs.Advancing.Loading.{has_files}
 use Rattle.sg_world_laws.proofs.Advancing.Rebuilding.{is_new}
 use Rattle.sg_world_laws.specs.Advancing.Advancing.{IsFirstLeft, IsLeftToLoad, IsLoadItem, IsRebuildable, IsReplayItem, loaded_stub, replayed_stub, stopped_within, with_noted}
-use Rattle.sg_base.specs.declared.call.Call.{Call}
-use Rattle.sg_base.specs.declared.reply.Reply.TheVariants.{Ok}
-use Rattle.sg_boot.specs.Invoking.{item_of_call, item_of_load, load_outcome, with_item, with_stop}
+use Rattle.sg_facts.specs.sg_base.declared.call.Call.{Call}
+use Rattle.sg_facts.specs.sg_base.declared.reply.Reply.TheVariants.{Ok}
+use Rattle.sg_replay.specs.sg_boot.Invoking.{item_of_call, item_of_load, load_outcome, with_item, with_stop}
 use Rattle.sg_world.proofs.Engines.Left.{first_left, left_to_load}
 use Rattle.sg_world.specs.Engines.Engines.{IsEngineOf, as_shown}
 use Rattle.sg_world.specs.Engines.Stubs.{stub_of, told_of}
@@ -25,14 +25,14 @@ use Rattle.sg_facts.specs.declared.outcome.Outcome.{Outcome}
 use Rattle.sg_facts.specs.declared.outcome.Outcome.TheVariants.{Replied, Stopped}
 use Rattle.sg_facts.specs.declared.trace.Item.{Item}
 use Rattle.sg_facts.specs.declared.trace.Tag.TheVariants.{Walk}
-use Rattle.sg_recovery_laws.specs.Midway.Progress.{TellsCalls, begun, fresh, is_complete}
-use Rattle.sg_recovery_laws.specs.Midway.Stepping.{so_far}
-use Rattle.sg_hist.specs.Reading.{walk_in}
-use Rattle.sg_hist.specs.Recovered.{call_in}
-use Rattle.sg_name.specs.Names.{named_at}
-use Rattle.sg_name.specs.declared.named.Named.{Named}
-use Rattle.sg_name.specs.declared.named.Named.TheVariants.{Live, Partial, Unnamed}
-use Rattle.sg_hist.specs.Growing.{IsNextItem, place_behind}
+use Rattle.sg_world_laws.specs.sg_recovery_laws.Midway.Progress.{TellsCalls, begun, fresh, is_complete}
+use Rattle.sg_world_laws.specs.sg_recovery_laws.Midway.Stepping.{so_far}
+use Rattle.sg_replay.specs.sg_hist.Reading.{walk_in}
+use Rattle.sg_replay.specs.sg_hist.Recovered.{call_in}
+use Rattle.sg_replay.specs.sg_name.Names.{named_at}
+use Rattle.sg_replay.specs.sg_name.declared.named.Named.{Named}
+use Rattle.sg_replay.specs.sg_name.declared.named.Named.TheVariants.{Live, Partial, Unnamed}
+use Rattle.sg_replay.specs.sg_hist.Growing.{IsNextItem, place_after}
 use Rattle.sg_replay.proofs.Naming.{named_in_pairs, real_or_zero}
 use Rattle.sg_replay.specs.Engined.{Engined}
 use Rattle.sg_replay.specs.Missing.{missing, next_number}
@@ -41,8 +41,8 @@ use Rattle.sg_replay.specs.Replaying.{IsReplayable, IsStruck, IsUnchanged, Keeps
 use Rattle.sg_replay.specs.Serving.{pairs_of, real_call}
 use Rattle.sg_replay.specs.declared.todo.Todo.{Todo}
 use Rattle.sg_replay.specs.declared.todo.Todo.TheVariants.{Load as ToLoad, Walk as ToWalk}
-use Rattle.sg_seat.specs.WorldView.{WorldView, unanswered}
-use Rattle.sg_store.specs.Stored.{bytes_of}
+use Rattle.sg_world_laws.specs.sg_seat.WorldView.{WorldView, unanswered}
+use Rattle.sg_replay.specs.sg_store.Stored.{bytes_of}
 use Rattle.sg_facts.proofs.Replaying.Files.{told as which}
 use Rattle.sg_facts.proofs.Replaying.Found.{other_test, same_test}
 use Rattle.sg_world_laws.proofs.Alike.{keeps_alike}
@@ -74,7 +74,7 @@ real_named_after real k last = at (k == last)
     at true = refl
     at false = refl
 
--- a row is as far behind a call as the rest of its walk says
+-- a row is as far after a call as the rest of its walk says
 told_next : (real k : ℕ) (done rest : List ℕ) (fun : ℕ) → k ≡ length done + 1 → told_of (name_after real k (length (done ++ fun ∷ rest))) ≡ so_far rest (suc (length done))
 told_next real k done rest fun is = by rest (long done rest)
   where
@@ -181,7 +181,7 @@ module _ (z : Setting) (set : IsSetting z) (w : WorldView) (b : Boot) (boots : L
         abbrev stopped_item : Item
         stopped_item = item_of_call (Walk id n call.client) shown (real_call e shown).desc points Stopped
 
-        pub struck_next : IsNextItem (stubs_of z) w.history (unanswered (standing w b boots (Some v))) (place_behind [] (b ∷ boots) stopped_item)
+        pub struck_next : IsNextItem (stubs_of z) w.history (unanswered (standing w b boots (Some v))) (place_after [] (b ∷ boots) stopped_item)
         struck_next = replay_stopped_next z set w b boots v (stub_of e) k call let_in id left it stopped_item (its_item points Stopped) refl
 
         pub struck_keeps : (later : Stub) → KeepsPromise z (stopped_within (standing w b boots (Some v)) stopped_item points points) later
@@ -265,7 +265,7 @@ module _ (z : Setting) (set : IsSetting z) (w : WorldView) (b : Boot) (boots : L
             told_by x false = refl
 
         -- its item is the next, and the world keeps what it keeps
-        pub replays_next : IsNextItem (stubs_of z) w.history (unanswered (standing w b boots (Some v))) (place_behind [] (b ∷ boots) replayed_item)
+        pub replays_next : IsNextItem (stubs_of z) w.history (unanswered (standing w b boots (Some v))) (place_after [] (b ∷ boots) replayed_item)
         replays_next = replayed_next z set w b boots v (stub_of e) k call let_in id left it replayed_item (its_item later.asked (Replied (Ok r.good) r.patch)) replied_is
 
         pub replays_keeps : KeepsPromise z (with_noted (standing w b boots (Some v)) replayed_item later.asked (after z.iface.facts v (real_call e shown) (Ok r.good)) w.seats) (stub_of new)
@@ -299,7 +299,7 @@ module _ (z : Setting) (set : IsSetting z) (w : WorldView) (b : Boot) (boots : L
     its_load = record { tag = refl; outcome = ap (load_outcome key) (stands.files key) }
 
     -- its item is the next, and the world keeps what it keeps
-    pub loads_next : IsNextItem (stubs_of z) w.history (unanswered (standing w b boots (Some v))) (place_behind [] (b ∷ boots) loaded_item)
+    pub loads_next : IsNextItem (stubs_of z) w.history (unanswered (standing w b boots (Some v))) (place_after [] (b ∷ boots) loaded_item)
     loads_next = loaded_next z set w b boots v (stub_of e) k call let_in key to_load loaded_item its_load
 
     module _ (new : Engined) (l : Loads z.iface.facts v e call.client key points new) where

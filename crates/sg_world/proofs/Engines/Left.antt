@@ -1,24 +1,24 @@
 -- What an engine finds missing for a call is what the world has to rebuild or load for it, and where nothing is missing all that it needs is there.
 use Rattle.std.proofs.Common.{Bool, List, None, Option, Some, [], ap, cond, false, filter, find, inl, inr, map, not, refl, sym, true, ℕ, ◌==◌, ◌||◌, ◌∙◌, ◌∷◌, ◌≡◌, ◌≢◌, ◌⊎◌}
 use Rattle.sg_world_laws.specs.Advancing.Advancing.{IsFirstLeft, IsLeftToLoad}
-use Rattle.sg_base.specs.declared.call.Call.{Call}
+use Rattle.sg_facts.specs.sg_base.declared.call.Call.{Call}
 use Rattle.sg_world.specs.Engines.Engines.{IsEngineOf}
 use Rattle.sg_world.specs.Engines.Stubs.{stub_of, told_of}
 use Rattle.sg_facts.specs.Needs.{is_needed, needs}
 use Rattle.sg_facts.specs.Object.{Object, object_of, path_of}
 use Rattle.sg_facts.specs.Track.{row_at}
 use Rattle.sg_facts.specs.declared.row.Row.{Row}
-use Rattle.sg_recovery_laws.specs.Midway.Progress.{complete, is_complete}
-use Rattle.sg_name.specs.Names.{named_at}
-use Rattle.sg_name.specs.declared.named.Named.{Named}
-use Rattle.sg_name.specs.declared.named.Named.TheVariants.{Live, Partial, Unnamed}
-use Rattle.sg_name.specs.declared.named.Standing.{Standing}
+use Rattle.sg_world_laws.specs.sg_recovery_laws.Midway.Progress.{complete, is_complete}
+use Rattle.sg_replay.specs.sg_name.Names.{named_at}
+use Rattle.sg_replay.specs.sg_name.declared.named.Named.{Named}
+use Rattle.sg_replay.specs.sg_name.declared.named.Named.TheVariants.{Live, Partial, Unnamed}
+use Rattle.sg_replay.specs.sg_name.declared.named.Standing.{Standing}
 use Rattle.sg_replay.specs.Engined.{Engined}
 use Rattle.sg_replay.specs.Missing.{is_empty, is_whole, missing, missing_file, missing_row, next_number, or_else, todo_of}
 use Rattle.sg_replay.specs.Present.{is_present}
 use Rattle.sg_replay.specs.declared.todo.Todo.{Todo}
-use Rattle.sg_seat.specs.WorldView.{WorldView}
-use Rattle.sg_store.specs.Stored.{bytes_of}
+use Rattle.sg_world_laws.specs.sg_seat.WorldView.{WorldView}
+use Rattle.sg_replay.specs.sg_store.Stored.{bytes_of}
 use Rattle.sg_world_laws.proofs.LetIn.{desc_there}
 use Rattle.sg_world_laws.specs.Setting.{IsSetting, Setting}
 use Rattle.sg_world_laws.specs.Turns.{HasAll, IsLetIn, IsThere}

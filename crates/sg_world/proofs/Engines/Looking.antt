@@ -4,10 +4,10 @@ use Rattle.std.proofs.Common.{◌≡◌, ℕ, ◌<◌, ◌≤◌, Bool, true, fa
 use Rattle.std.specs.Prelude.{◌==◌, ◌||◌, ◌&&◌, if◌then◌else◌}
 use Rattle.std.specs.declared.option.Option.{Option}
 use Rattle.std.specs.Str.{bytes_eq}
-use Rattle.sg_base.specs.declared.call.Call.{Call}
-use Rattle.sg_base.specs.declared.reply.Good.{Good}
-use Rattle.sg_base.specs.declared.reply.Reply.{Reply}
-use Rattle.sg_base.specs.declared.reply.Reply.TheVariants.{Ok, Refused}
+use Rattle.sg_facts.specs.sg_base.declared.call.Call.{Call}
+use Rattle.sg_facts.specs.sg_base.declared.reply.Good.{Good}
+use Rattle.sg_facts.specs.sg_base.declared.reply.Reply.{Reply}
+use Rattle.sg_facts.specs.sg_base.declared.reply.Reply.TheVariants.{Ok, Refused}
 use Rattle.sg_world_laws.specs.Committing.Telling.{IsDescToldBy, IsToldBy, TellsAfter, has_ended, makes_id}
 use Rattle.sg_world_laws.specs.Keeping.{TellSame}
 use Rattle.sg_world_laws.proofs.Committing.Behind.{apart_ok, apart_refused}
@@ -15,13 +15,13 @@ use Rattle.sg_facts.specs.declared.outcome.Patch.{Patch}
 use Rattle.sg_facts.specs.Alike.{SameReply, named}
 use Rattle.sg_facts.specs.Facts.{Facts, fun_at}
 use Rattle.sg_facts.specs.Object.{Object, after, patch_of}
-use Rattle.sg_recovery_laws.specs.Midway.Progress.{Told, complete, fresh}
-use Rattle.sg_recovery_laws.specs.Midway.Stepping.{present_with}
-use Rattle.sg_hist.specs.Reading.{desc_of}
-use Rattle.sg_name.specs.Names.{named_at, real_at, real_of}
-use Rattle.sg_name.specs.declared.named.Named.{Named}
-use Rattle.sg_name.specs.declared.named.Named.TheVariants.{Unnamed, Partial, Live}
-use Rattle.sg_name.specs.declared.named.Standing.{Standing}
+use Rattle.sg_world_laws.specs.sg_recovery_laws.Midway.Progress.{Told, complete, fresh}
+use Rattle.sg_world_laws.specs.sg_recovery_laws.Midway.Stepping.{present_with}
+use Rattle.sg_replay.specs.sg_hist.Reading.{desc_of}
+use Rattle.sg_replay.specs.sg_name.Names.{named_at, real_at, real_of}
+use Rattle.sg_replay.specs.sg_name.declared.named.Named.{Named}
+use Rattle.sg_replay.specs.sg_name.declared.named.Named.TheVariants.{Unnamed, Partial, Live}
+use Rattle.sg_replay.specs.sg_name.declared.named.Standing.{Standing}
 use Rattle.sg_replay.specs.Committing.{is_written, name_left}
 use Rattle.sg_replay.specs.Serving.{IsDescTold, IsReplyTold, is_named_by, pairs_of, real_in}
 use Rattle.sg_replay.proofs.Naming.{named_in_pairs, real_in_named, real_or_zero}
@@ -154,7 +154,7 @@ module _ (told_of : Named → Told) (untold : told_of Unnamed ≡ fresh) (lives 
         by None = or_false (present path)
         by (Some p) = ap (λ t. present path || t) (turned path p.key)
 
-    -- what is told behind a call that was served and committed
+    -- what is told after a call that was served and committed
     pub tells_after : TellsAfter facts o call reply other (record { names = pairs_of old; told = λ id. told_of (named_at old id); present = present }) (record { names = pairs_of new; told = λ id. told_of (named_at new id); present = now })
     tells_after = record {
       names = λ id. named_in_pairs new id ∙ ap real_or_zero (names_now id) ∙ real_left (ended id) (makes_id facts call reply id) (desc_of other) (named_at old id)

@@ -1,9 +1,9 @@
 -- An engine may serve a call that is let in and finds what it needs, and what it tells is the answer at the object of the history.
 use Rattle.std.proofs.Common.{◌≡◌, ℕ, ◌+◌, ◌≤◌, Bool, true, false, List, Some, refl, ap, subst, arith}
 use Rattle.std.specs.declared.option.Option.{Option}
-use Rattle.sg_base.specs.declared.call.Call.{Call}
-use Rattle.sg_base.specs.declared.reply.Reply.{Reply}
-use Rattle.sg_boot.specs.Invoking.{item_of_call}
+use Rattle.sg_facts.specs.sg_base.declared.call.Call.{Call}
+use Rattle.sg_facts.specs.sg_base.declared.reply.Reply.{Reply}
+use Rattle.sg_replay.specs.sg_boot.Invoking.{item_of_call}
 use Rattle.sg_world_laws.specs.Committing.Serving.{IsServedCall}
 use Rattle.sg_world_laws.specs.Committing.Telling.{IsToldBy}
 use Rattle.sg_world_laws.proofs.Committing.Serving.{back_there, may_ask, next_there, replied_item}
@@ -15,10 +15,10 @@ use Rattle.sg_facts.specs.Facts.{fun_at}
 use Rattle.sg_facts.specs.Invoke.{Points}
 use Rattle.sg_facts.specs.Object.{Object, object_of}
 use Rattle.sg_facts.specs.Trace.{Boot}
-use Rattle.sg_recovery_laws.specs.Midway.Progress.{Told}
+use Rattle.sg_world_laws.specs.sg_recovery_laws.Midway.Progress.{Told}
 use Rattle.sg_replay.specs.Engined.{AreGiven, Engined}
 use Rattle.sg_replay.specs.Serving.{MayServe, TellsReply, pairs_of, real_call}
-use Rattle.sg_seat.specs.WorldView.{WorldView}
+use Rattle.sg_world_laws.specs.sg_seat.WorldView.{WorldView}
 use Rattle.sg_world_laws.specs.Keeping.{KeepsPromise, Stub, standing}
 use Rattle.sg_world_laws.specs.Setting.{IsSetting, Setting}
 use Rattle.sg_world_laws.specs.Turns.{HasAll, IsLetIn}

@@ -1,8 +1,8 @@
 -- What an engine's names and marks say of what its stubs tell.
-use Rattle.sg_recovery_laws.specs.Midway.Progress.{Told, fresh, begun, complete}
-use Rattle.sg_name.specs.Names.{named_at}
-use Rattle.sg_name.specs.declared.named.Named.{Named}
-use Rattle.sg_name.specs.declared.named.Named.TheVariants.{Unnamed, Partial, Live}
+use Rattle.sg_world_laws.specs.sg_recovery_laws.Midway.Progress.{Told, fresh, begun, complete}
+use Rattle.sg_replay.specs.sg_name.Names.{named_at}
+use Rattle.sg_replay.specs.sg_name.declared.named.Named.{Named}
+use Rattle.sg_replay.specs.sg_name.declared.named.Named.TheVariants.{Unnamed, Partial, Live}
 use Rattle.sg_replay.specs.Engined.{Engined}
 use Rattle.sg_replay.specs.Present.{is_present}
 use Rattle.sg_replay.specs.Serving.{pairs_of}

@@ -1,7 +1,7 @@
 -- The parts of a world whose service was asked a client's call and replied, before the call is committed or its reply is held.
 use Rattle.std.specs.Prelude.{ℕ, ◌≡◌, ◌≤◌, List, None, Some, IfSome, length}
 use Rattle.std.specs.declared.option.Option.{Option}
-use Rattle.sg_base.specs.declared.reply.Reply.{Reply}
+use Rattle.sg_facts.specs.sg_base.declared.reply.Reply.{Reply}
 use Rattle.sg_facts.specs.declared.outcome.Outcome.TheVariants.{Replied}
 use Rattle.sg_facts.specs.declared.outcome.Patch.{Patch}
 use Rattle.sg_facts.specs.Invoke.{FitsRoom, Points}
@@ -10,8 +10,8 @@ use Rattle.sg_replay.specs.Engined.{Engined, IsEngine}
 use Rattle.sg_replay.specs.Missing.{missing}
 use Rattle.sg_replay.specs.Present.{HasMark}
 use Rattle.sg_replay.specs.Serving.{TellsReply}
-use Rattle.sg_seat.specs.WorldView.{WorldView, seat_in}
-use Rattle.sg_store.specs.Stored.{HasRoom}
+use Rattle.sg_world_laws.specs.sg_seat.WorldView.{WorldView, seat_in}
+use Rattle.sg_replay.specs.sg_store.Stored.{HasRoom}
 use Rattle.sg_world.specs.declared.inner.Inner.{Inner}
 use Rattle.sg_world.specs.Due.{needs_in}
 use Rattle.sg_world.specs.Inners.{rooms_in}

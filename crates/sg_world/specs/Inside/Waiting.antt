@@ -1,13 +1,13 @@
 -- In which calls clients wait, where a call is answered.
 use Rattle.std.specs.Prelude.{◌≡◌, true, List}
-use Rattle.sg_base.specs.Lists.{Each}
-use Rattle.sg_base.specs.declared.call.Call.{Call}
+use Rattle.sg_facts.specs.sg_base.Lists.{Each}
+use Rattle.sg_facts.specs.sg_base.declared.call.Call.{Call}
 use Rattle.sg_facts.specs.declared.row.Row.{Row}
 use Rattle.sg_facts.specs.Allowed.{is_allowed}
 use Rattle.sg_facts.specs.Facts.{Facts}
 use Rattle.sg_facts.specs.Kinds.{IsCall}
-use Rattle.sg_recovery_laws.specs.Midway.Progress.{IsNone}
-use Rattle.sg_seat.specs.WorldView.{Seat, is_blocked_phase}
+use Rattle.sg_world_laws.specs.sg_recovery_laws.Midway.Progress.{IsNone}
+use Rattle.sg_world_laws.specs.sg_seat.WorldView.{Seat, is_blocked_phase}
 
 -- an answered call is one that may be made, of an interface that is allowed, and whoever waits, waits in a call on no descriptor or on a
 -- live one

@@ -1,15 +1,15 @@
 -- A call that is let in is admitted where an item is noted that is of no entry, whichever held replies are committed first.
 use Rattle.std.proofs.Common.{List, None, Some, [], arith, length, true, ◌++◌, ◌<◌, ◌==◌, ◌∷◌, ◌≡◌}
 use Rattle.std.proofs.lemmas.Bool.Decides.{nat_tests}
-use Rattle.sg_base.specs.Lists.{Each}
-use Rattle.sg_base.specs.declared.call.Call.{Call}
+use Rattle.sg_facts.specs.sg_base.Lists.{Each}
+use Rattle.sg_facts.specs.sg_base.declared.call.Call.{Call}
 use Rattle.sg_facts.specs.Guard.{guard}
 use Rattle.sg_facts.specs.Object.{Object, object_from, object_of}
 use Rattle.sg_facts.specs.Trace.{Boot}
 use Rattle.sg_facts.specs.declared.entry.Entry.{Entry}
 use Rattle.sg_facts.specs.declared.trace.Item.{Item}
-use Rattle.sg_hist.specs.Recovered.{IsAdmitted}
-use Rattle.sg_hist.specs.Growing.{IsOfNoEntry, last_items, older_items}
+use Rattle.sg_recovery_laws.specs.sg_hist.Recovered.{IsAdmitted}
+use Rattle.sg_recovery_laws.specs.sg_hist.Growing.{IsOfNoEntry, last_items, older_items}
 use Rattle.sg_recovery_laws.proofs.Lists.{each_map}
 use Rattle.sg_recovery_laws.proofs.Objects.Apart.{Ascends}
 use Rattle.sg_recovery_laws.proofs.Objects.Room.{guard_behind}

@@ -3,9 +3,9 @@ use Rattle.std.proofs.Common.{IsSome, List, None, Option, Some, [], ap, arith, c
 use Rattle.std.proofs.lemmas.Bool.Decides.{nat_tests}
 use Rattle.std.specs.List.{list_all}
 use Rattle.std.specs.Prelude.{nat_le}
-use Rattle.sg_base.specs.declared.call.Call.{Call}
-use Rattle.sg_base.specs.declared.reply.Good.{Good}
-use Rattle.sg_base.specs.declared.reply.Reply.TheVariants.{Ok}
+use Rattle.sg_facts.specs.sg_base.declared.call.Call.{Call}
+use Rattle.sg_facts.specs.sg_base.declared.reply.Good.{Good}
+use Rattle.sg_facts.specs.sg_base.declared.reply.Reply.TheVariants.{Ok}
 use Rattle.sg_facts.specs.Allowed.{acts_on_one, is_allowed, keeps_private, keeps_to, replays_all}
 use Rattle.sg_facts.specs.Facts.{Facts, fun_at}
 use Rattle.sg_facts.specs.Fields.{is_set}
@@ -21,9 +21,9 @@ use Rattle.sg_facts.specs.declared.row.Row.{Row}
 use Rattle.sg_facts.specs.declared.trace.Item.{Item}
 use Rattle.sg_facts.proofs.Replaying.Found.{other_test}
 use Rattle.sg_facts.proofs.Replaying.Steps.{declared_within}
-use Rattle.sg_hist.specs.Reading.{service_call}
-use Rattle.sg_hist.specs.Recovered.{IsByTable, IsOkOrStopped, call_in, is_replied, is_stopped, is_visible_reply}
-use Rattle.sg_hist.specs.Growing.{IsNextItem, noted, place_behind}
+use Rattle.sg_recovery_laws.specs.sg_hist.Reading.{service_call}
+use Rattle.sg_recovery_laws.specs.sg_hist.Recovered.{IsByTable, IsOkOrStopped, call_in, is_replied, is_stopped, is_visible_reply}
+use Rattle.sg_recovery_laws.specs.sg_hist.Growing.{IsNextItem, noted, place_after}
 use Rattle.sg_recovery_laws.proofs.Objects.Guarded.{both_true, first_four, well_allowed, writes_none}
 use Rattle.sg_recovery_laws.proofs.Midway.Tabled.{reach_length}
 use Rattle.sg_recovery_laws.proofs.Midway.Walking.{MayReplay, may_replay, replayed_is, writes_no}
@@ -133,7 +133,7 @@ module _ (z : Setting) (set : IsSetting z) (w : WorldView) (b : Boot) (boots : L
           (subst (IsByTable z.iface.facts z.ask v (service_call item)) (sym replied) (ap (z.ask v) asked_is ∙ it.answered, sym (ap (λ x. patch_of z.iface.facts v x (Ok it.good)) asked_is ∙ it.unwritten)))
 
       -- it was replayed: its item is the next, and the world keeps what it keeps, with the row so much further
-      pub replayed_next : IsNextItem (stubs_of z) w.history (unanswered (standing w b boots (Some v))) (place_behind [] (b ∷ boots) item)
+      pub replayed_next : IsNextItem (stubs_of z) w.history (unanswered (standing w b boots (Some v))) (place_after [] (b ∷ boots) item)
       replayed_next = next_now z set w b boots v stub k item hidden due_replied w.run.points
 
       pub replayed : (points : ℕ)
@@ -151,7 +151,7 @@ module _ (z : Setting) (set : IsSetting z) (w : WorldView) (b : Boot) (boots : L
           (subst (IsByTable z.iface.facts z.ask v (service_call item)) (sym stops) (subst IsSome (sym (ap (z.ask v) asked_is ∙ it.answered)) refl))
 
       -- the service stopped within it: its item is the next, and the world keeps what it keeps, with no service
-      pub replay_stopped_next : IsNextItem (stubs_of z) w.history (unanswered (standing w b boots (Some v))) (place_behind [] (b ∷ boots) item)
+      pub replay_stopped_next : IsNextItem (stubs_of z) w.history (unanswered (standing w b boots (Some v))) (place_after [] (b ∷ boots) item)
       replay_stopped_next = next_now z set w b boots v stub k item hidden due_stopped w.run.points
 
       pub replay_stopped : (stop points : ℕ) (later : Stub) → KeepsPromise z (stopped_within (standing w b boots (Some v)) item points stop) later
@@ -169,7 +169,7 @@ module _ (z : Setting) (set : IsSetting z) (w : WorldView) (b : Boot) (boots : L
   load_due_now = load_due z set w b boots v stub k call let_in key left item is
 
   -- the item is the next, and the world keeps what it keeps, with the file in its service
-  pub loaded_next : IsNextItem (stubs_of z) w.history (unanswered (standing w b boots (Some v))) (place_behind [] (b ∷ boots) item)
+  pub loaded_next : IsNextItem (stubs_of z) w.history (unanswered (standing w b boots (Some v))) (place_after [] (b ∷ boots) item)
   loaded_next = next_now z set w b boots v stub k item load_hidden_now load_due_now w.run.points
 
   pub file_loaded : (points : ℕ)
@@ -195,7 +195,7 @@ module _ (z : Setting) (set : IsSetting z) (w : WorldView) (b : Boot) (boots : L
     pub would_wait : z.ask (object_of z.iface.facts w.history) call ≡ None
     would_wait = waits_there z set w b boots v stub k call let_in all item asked waits
 
-    pub waiting_next : IsNextItem (stubs_of z) w.history (unanswered (standing w b boots (Some v))) (place_behind [] (b ∷ boots) item)
+    pub waiting_next : IsNextItem (stubs_of z) w.history (unanswered (standing w b boots (Some v))) (place_after [] (b ∷ boots) item)
     waiting_next = next_now z set w b boots v stub k item waits_hidden due_asked w.run.points
 
     pub waited : (points : ℕ) (seats : List Seat) → held_in (length (b ∷ boots)) seats ≡ held_in (length (b ∷ boots)) w.seats
@@ -210,7 +210,7 @@ module _ (z : Setting) (set : IsSetting z) (w : WorldView) (b : Boot) (boots : L
     stops_hidden = asked_hidden z set w b boots v stub k call let_in all item asked (ap is_replied stops)
 
     -- the service stopped within it: its item is the next, and the world keeps what it keeps, with no service
-    pub stopped_next : IsNextItem (stubs_of z) w.history (unanswered (standing w b boots (Some v))) (place_behind [] (b ∷ boots) item)
+    pub stopped_next : IsNextItem (stubs_of z) w.history (unanswered (standing w b boots (Some v))) (place_after [] (b ∷ boots) item)
     stopped_next = next_now z set w b boots v stub k item stops_hidden due_asked w.run.points
 
     pub call_stopped : (stop points : ℕ) (later : Stub) → KeepsPromise z (stopped_within (standing w b boots (Some v)) item points stop) later

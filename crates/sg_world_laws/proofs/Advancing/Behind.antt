@@ -1,4 +1,4 @@
--- The counted words of the object behind the held replies: its calls are a legal history.
+-- The counted words of the object after the held replies: its calls are a legal history.
 use Rattle.std.proofs.Common.{List, None, Option, ap, arith, length, length-append, ◌++◌, ◌+◌, ◌≡◌, ◌≤◌}
 use Rattle.sg_facts.specs.Counted.{most_counted}
 use Rattle.sg_facts.specs.Guard.{guard}

@@ -1,10 +1,10 @@
--- The numbers of a recovery behind a replayed call.
+-- The numbers of a recovery after a replayed call.
 use Rattle.std.proofs.Common.{Bool, List, Some, [], ap, arith, cond, false, length, length-append, refl, suc, sym, true, zero, ℕ, ◌*◌, ◌++◌, ◌+◌, ◌<◌, ◌==◌, ◌∙◌, ◌∷◌, ◌≡◌, ◌≢◌, ◌≤◌}
 use Rattle.std.specs.Prelude.{max}
-use Rattle.sg_base.specs.declared.call.Call.{Call}
-use Rattle.sg_base.specs.declared.reply.Good.{Good}
-use Rattle.sg_base.specs.declared.reply.Reply.TheVariants.{Ok}
-use Rattle.sg_base.specs.declared.value.Value.{Value}
+use Rattle.sg_facts.specs.sg_base.declared.call.Call.{Call}
+use Rattle.sg_facts.specs.sg_base.declared.reply.Good.{Good}
+use Rattle.sg_facts.specs.sg_base.declared.reply.Reply.TheVariants.{Ok}
+use Rattle.sg_facts.specs.sg_base.declared.value.Value.{Value}
 use Rattle.sg_facts.specs.Counted.{is_counted, most_counted, most_in}
 use Rattle.sg_facts.specs.Facts.{Facts, fun_at}
 use Rattle.sg_facts.specs.Fits.{Fits}

@@ -1,9 +1,9 @@
--- A file is loaded that a call needs: what its item owes, and what stands behind it.
+-- A file is loaded that a call needs: what its item owes, and what stands after it.
 use Rattle.std.proofs.Common.{Bool, List, None, Some, [], ap, cond, false, filter, find, length, map, not, refl, subst, sym, true, ℕ, ◌&&◌, ◌++◌, ◌==◌, ◌||◌, ◌∙◌, ◌∷◌, ◌≡◌, ◌≤◌}
 use Rattle.std.specs.List.{list_all}
 use Rattle.std.specs.Prelude.{nat_le}
 use Rattle.std.specs.Str.{bytes_eq}
-use Rattle.sg_base.specs.declared.call.Call.{Call}
+use Rattle.sg_facts.specs.sg_base.declared.call.Call.{Call}
 use Rattle.sg_facts.specs.Allowed.{implies, is_allowed, is_text_field, keeps_private, keeps_to, leaves_own, replays_all, sets_once}
 use Rattle.sg_facts.specs.Facts.{Facts, fun_at, is_visible, takes_desc, takes_parent}
 use Rattle.sg_facts.specs.Invoke.{loaded}
@@ -16,9 +16,9 @@ use Rattle.sg_facts.specs.declared.row.Row.{Row}
 use Rattle.sg_facts.specs.declared.trace.Item.{Item}
 use Rattle.sg_facts.specs.declared.trace.Tag.TheVariants.{Load}
 use Rattle.sg_facts.proofs.Replaying.Steps.{each_fun}
-use Rattle.sg_hist.specs.Reading.{after_item, given_by, is_tagged, service_call}
-use Rattle.sg_hist.specs.Recovered.{AskedAs, IsDemanded, IsItsCall, IsLoad, IsLoadedFor, IsTrackedAt, IsWalked, is_clients, is_patch_at, is_replied, is_visible_reply}
-use Rattle.sg_hist.specs.Growing.{IsNextItem, IsOfNoEntry, last_items, older_items}
+use Rattle.sg_recovery_laws.specs.sg_hist.Reading.{after_item, given_by, is_tagged, service_call}
+use Rattle.sg_recovery_laws.specs.sg_hist.Recovered.{AskedAs, IsDemanded, IsItsCall, IsLoad, IsLoadedFor, IsTrackedAt, IsWalked, is_clients, is_patch_at, is_replied, is_visible_reply}
+use Rattle.sg_recovery_laws.specs.sg_hist.Growing.{IsNextItem, IsOfNoEntry, last_items, older_items}
 use Rattle.sg_recovery_laws.proofs.InBoots.{place_is}
 use Rattle.sg_boot.specs.Invoking.{load_outcome}
 use Rattle.sg_recovery_laws.proofs.Objects.Guarded.{both_true, first_four}
@@ -133,7 +133,7 @@ module _ (z : Setting) (set : IsSetting z) (w : WorldView) (b : Boot) (boots : L
         });
       }
 
-    -- ---- what stands behind it
+    -- ---- what stands after it
 
     later_is : loaded z.iface.facts v key (file_at (object_of z.iface.facts w.history).files key) ≡ record v { files = set_file v.files key (file_at (object_of z.iface.facts w.history).files key) }
     later_is = ap (λ t. cond t (record v { files = set_file v.files key (file_at (object_of z.iface.facts w.history).files key) }) v) has_files

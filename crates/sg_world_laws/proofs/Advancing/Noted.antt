@@ -2,15 +2,15 @@
 use Rattle.std.proofs.Common.{Bool, List, Some, [], ap, append-nil, append_assoc, false, length, refl, subst, suc, sym, true, ℕ, ◌++◌, ◌<◌, ◌==◌, ◌||◌, ◌∙◌, ◌∷◌, ◌≡◌}
 use Rattle.std.proofs.lemmas.List.Folds.{list_any-append}
 use Rattle.std.specs.List.{list_any}
-use Rattle.sg_base.specs.Lists.{Each}
+use Rattle.sg_facts.specs.sg_base.Lists.{Each}
 use Rattle.sg_facts.specs.Object.{Object, object_from, object_of}
 use Rattle.sg_facts.specs.Trace.{Boot}
 use Rattle.sg_facts.specs.declared.entry.Entry.{Entry}
 use Rattle.sg_facts.specs.declared.trace.Item.{Item}
-use Rattle.sg_hist.specs.Reading.{after_item, is_by_guard, is_item_of, names_at, names_in}
-use Rattle.sg_hist.specs.Recovered.{AreInBoots, is_stopped, is_visible_reply}
-use Rattle.sg_hist.specs.Growing.{IsInLast, IsNextItem, IsOfNoEntry, IsRecovering, last_items, noted, older_items, place_behind}
-use Rattle.sg_hist.proofs.Growing.{names_at-more}
+use Rattle.sg_recovery_laws.specs.sg_hist.Reading.{after_item, is_by_guard, is_item_of, names_at, names_in}
+use Rattle.sg_recovery_laws.specs.sg_hist.Recovered.{AreInBoots, is_stopped, is_visible_reply}
+use Rattle.sg_recovery_laws.specs.sg_hist.Growing.{IsInLast, IsNextItem, IsOfNoEntry, IsRecovering, last_items, noted, older_items, place_after}
+use Rattle.sg_recovery_laws.proofs.sg_hist.Growing.{names_at-more}
 use Rattle.sg_recovery_laws.proofs.InBoots.{boots_noted, older_noted, still_last}
 use Rattle.sg_recovery_laws.proofs.Lists.{each_map}
 use Rattle.sg_boot.proofs.Keeping.{kept_noted}
@@ -40,8 +40,8 @@ module _ (z : Setting) (set : IsSetting z) (w : WorldView) (b : Boot) (boots : L
   ws = held_in (length (b ∷ boots)) w.seats
 
   -- the item is the next at the history itself
-  pub next_now : IsNextItem (stubs_of z) w.history (unanswered (standing w b boots (Some v))) (place_behind [] (b ∷ boots) item)
-  next_now = subst (λ h. IsNextItem (stubs_of z) h (unanswered (standing w b boots (Some v))) (place_behind [] (b ∷ boots) item)) (append-nil w.history) (due [] (no_drawn ws)).next
+  pub next_now : IsNextItem (stubs_of z) w.history (unanswered (standing w b boots (Some v))) (place_after [] (b ∷ boots) item)
+  next_now = subst (λ h. IsNextItem (stubs_of z) h (unanswered (standing w b boots (Some v))) (place_after [] (b ∷ boots) item)) (append-nil w.history) (due [] (no_drawn ws)).next
 
   none_now : IsOfNoEntry item w.history
   none_now = subst (IsOfNoEntry item) (append-nil w.history) (due [] (no_drawn ws)).none

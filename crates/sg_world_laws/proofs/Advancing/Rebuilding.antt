@@ -1,7 +1,7 @@
--- The first needed row that isn't whole, and the next call of its walk, at the history and behind held replies.
+-- The first needed row that isn't whole, and the next call of its walk, at the history and after held replies.
 use Rattle.std.proofs.Common.{Bool, List, Some, [], ap, arith, cond, false, inl, inr, length, not, refl, subst, suc, sym, take, true, zero, ℕ, ◌*◌, ◌++◌, ◌+◌, ◌<◌, ◌==◌, ◌^◌, ◌∙◌, ◌∷◌, ◌≡◌, ◌≤◌, ◌⊎◌}
 use Rattle.std.specs.Prelude.{find}
-use Rattle.sg_base.specs.declared.call.Call.{Call}
+use Rattle.sg_facts.specs.sg_base.declared.call.Call.{Call}
 use Rattle.sg_facts.specs.Alike.{named}
 use Rattle.sg_facts.specs.Counted.{CountedBelow}
 use Rattle.sg_facts.specs.Held.{AreReachable, IsAt, ParentIsWhole, set_of}
@@ -16,7 +16,7 @@ use Rattle.sg_facts.specs.Walks.{IsReachable, IsWalkOf}
 use Rattle.sg_facts.specs.declared.entry.Entry.{Entry}
 use Rattle.sg_facts.specs.declared.row.Row.{Row}
 use Rattle.sg_facts.proofs.RowLists.{id_of_row, row_of_live}
-use Rattle.sg_hist.specs.Reading.{walk_in}
+use Rattle.sg_recovery_laws.specs.sg_hist.Reading.{walk_in}
 use Rattle.sg_recovery_laws.proofs.Objects.Waiting.{behind_same}
 use Rattle.sg_recovery_laws.specs.Midway.Progress.{IsSoFar, TellsCalls, Told, begun, complete, fresh, is_complete}
 use Rattle.sg_recovery_laws.specs.Midway.Stepping.{IsStepped}
@@ -48,7 +48,7 @@ take_done : (done rest : List ℕ) → take (length done) (done ++ rest) ≡ don
 take_done [] rest = refl
 take_done (d ∷ done) rest = ap (λ l. d ∷ l) (take_done done rest)
 
--- a list has something behind so many of its first
+-- a list has something after so many of its first
 pub record IsCut (n : ℕ) (walk : List ℕ) : Type 0 where
   pub done : List ℕ
   pub fun : ℕ

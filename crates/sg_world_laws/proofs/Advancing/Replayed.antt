@@ -1,10 +1,10 @@
--- A call more of a walk is replayed, or the service stops within it: what its item owes, and what stands behind it.
+-- A call more of a walk is replayed, or the service stops within it: what its item owes, and what stands after it.
 use Rattle.std.proofs.Common.{Bool, List, None, Some, [], ap, arith, cond, false, inl, inr, length, refl, subst, sym, true, ℕ, ◌&&◌, ◌++◌, ◌+◌, ◌<◌, ◌==◌, ◌||◌, ◌∙◌, ◌∷◌, ◌≡◌, ◌⊎◌}
 use Rattle.std.proofs.lemmas.Bool.Decides.{eqb_tells}
 use Rattle.std.specs.List.{list_any}
-use Rattle.sg_base.specs.declared.call.Call.{Call}
-use Rattle.sg_base.specs.declared.reply.Good.{Good}
-use Rattle.sg_base.specs.declared.reply.Reply.TheVariants.{Ok}
+use Rattle.sg_facts.specs.sg_base.declared.call.Call.{Call}
+use Rattle.sg_facts.specs.sg_base.declared.reply.Good.{Good}
+use Rattle.sg_facts.specs.sg_base.declared.reply.Reply.TheVariants.{Ok}
 use Rattle.sg_facts.specs.Alike.{named, under_names}
 use Rattle.sg_facts.specs.Facts.{is_visible}
 use Rattle.sg_facts.specs.Laws.{is_none, names_after, next_call}
@@ -20,9 +20,9 @@ use Rattle.sg_facts.specs.declared.trace.Tag.TheVariants.{Client, Load, Walk}
 use Rattle.sg_facts.specs.declared.trace.Tag.{Tag}
 use Rattle.sg_facts.proofs.RowLists.{live_of_row}
 use Rattle.sg_facts.proofs.Replaying.Found.{other_test, within}
-use Rattle.sg_hist.specs.Reading.{after_item, given_by, is_tagged, names_in, pair_of, service_call}
-use Rattle.sg_hist.specs.Recovered.{AskedAs, IsByTable, IsDemanded, IsItsCall, IsOkOrStopped, IsTrackedAt, IsWalked, is_clients, is_replied, is_visible_reply}
-use Rattle.sg_hist.specs.Growing.{IsNextItem, IsOfNoEntry, last_items, older_items, place_behind}
+use Rattle.sg_recovery_laws.specs.sg_hist.Reading.{after_item, given_by, is_tagged, names_in, pair_of, service_call}
+use Rattle.sg_recovery_laws.specs.sg_hist.Recovered.{AskedAs, IsByTable, IsDemanded, IsItsCall, IsOkOrStopped, IsTrackedAt, IsWalked, is_clients, is_replied, is_visible_reply}
+use Rattle.sg_recovery_laws.specs.sg_hist.Growing.{IsNextItem, IsOfNoEntry, last_items, older_items, place_after}
 use Rattle.sg_recovery_laws.proofs.InBoots.{place_is}
 use Rattle.sg_recovery_laws.proofs.Objects.Apart.{Ascends}
 use Rattle.sg_recovery_laws.proofs.Objects.Steady.{ascends}
@@ -96,7 +96,7 @@ module _ (z : Setting) (set : IsSetting z) (w : WorldView) (b : Boot) (boots : L
         at true = above parent
         at false = inr (live_of_row (object_from z.iface.facts (object_of z.iface.facts w.history) es).rows r.id r (row_es z set w b boots v stub k call let_in id first r its.there es drawn))
 
-    next_es : IsNextItem (stubs_of z) (w.history ++ es) (unanswered (standing w b boots (Some v))) (place_behind [] (b ∷ boots) item)
+    next_es : IsNextItem (stubs_of z) (w.history ++ es) (unanswered (standing w b boots (Some v))) (place_after [] (b ∷ boots) item)
     next_es = subst (IsNextItem (stubs_of z) (w.history ++ es) (unanswered (standing w b boots (Some v)))) (sym (place_is [] b boots item)) (record {
       running = k.cell.runs.unbroken;
       table = table_of item.tag is.tag;
@@ -144,7 +144,7 @@ module _ (z : Setting) (set : IsSetting z) (w : WorldView) (b : Boot) (boots : L
   pub call_is : service_call item ≡ next_call z.iface.facts stub.names r done fun
   call_is = ap (λ n. record item.shown { desc = n }) is.real ∙ ap (under_names stub.names) is.shown
 
-  -- ---- what stands behind it
+  -- ---- what stands after it
 
   module _ (good : Good) (answered : z.ask v (next_call z.iface.facts stub.names r done fun) ≡ Some (Ok good)) (outcome : item.outcome ≡ Replied (Ok good) None) where
     all : AreDrawn (held_in (length (b ∷ boots)) w.seats) (held_in (length (b ∷ boots)) w.seats)

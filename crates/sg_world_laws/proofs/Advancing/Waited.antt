@@ -1,6 +1,6 @@
--- A client's call that the service lets wait, or stops within: what its item owes, and what stands behind it.
+-- A client's call that the service lets wait, or stops within: what its item owes, and what stands after it.
 use Rattle.std.proofs.Common.{Bool, List, None, Some, [], ap, arith, false, length, refl, subst, suc, sym, true, ℕ, ◌&&◌, ◌||◌, ◌∙◌, ◌∷◌, ◌≡◌}
-use Rattle.sg_base.specs.declared.call.Call.{Call}
+use Rattle.sg_facts.specs.sg_base.declared.call.Call.{Call}
 use Rattle.sg_facts.specs.Alike.{named, under_names}
 use Rattle.sg_facts.specs.Facts.{is_visible}
 use Rattle.sg_facts.specs.Object.{Object, object_of}
@@ -8,9 +8,9 @@ use Rattle.sg_facts.specs.Trace.{Boot}
 use Rattle.sg_facts.specs.declared.entry.Entry.{Entry}
 use Rattle.sg_facts.specs.declared.outcome.Outcome.TheVariants.{Blocks}
 use Rattle.sg_facts.specs.declared.trace.Item.{Item}
-use Rattle.sg_hist.specs.Reading.{after_item, given_by, service_call}
-use Rattle.sg_hist.specs.Recovered.{IsByTable, is_clients, is_patch_at, is_replied, is_visible_reply}
-use Rattle.sg_hist.specs.Growing.{last_items, older_items}
+use Rattle.sg_recovery_laws.specs.sg_hist.Reading.{after_item, given_by, service_call}
+use Rattle.sg_recovery_laws.specs.sg_hist.Recovered.{IsByTable, is_clients, is_patch_at, is_replied, is_visible_reply}
+use Rattle.sg_recovery_laws.specs.sg_hist.Growing.{last_items, older_items}
 use Rattle.sg_recovery_laws.proofs.Midway.Served.{blocks_alike}
 use Rattle.sg_seat.specs.WorldView.{WorldView, held_in, unanswered}
 use Rattle.sg_world_laws.specs.Keeping.{KeepsPromise, Stands, Stub, standing}

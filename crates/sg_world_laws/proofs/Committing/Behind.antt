@@ -1,11 +1,11 @@
--- The object behind a served call, with and without the held replies, and how the service stands for it.
+-- The object after a served call, with and without the held replies, and how the service stands for it.
 use Rattle.std.proofs.Common.{◌≡◌, ℕ, suc, ◌+◌, ◌≤◌, Bool, true, false, List, ◌∷◌, Some, length, refl, ◌∙◌, ap, subst, arith}
 use Rattle.std.specs.declared.option.Option.{Option}
-use Rattle.sg_base.specs.declared.call.Call.{Call}
-use Rattle.sg_base.specs.declared.reply.Code.{Code}
-use Rattle.sg_base.specs.declared.reply.Good.{Good}
-use Rattle.sg_base.specs.declared.reply.Reply.{Reply}
-use Rattle.sg_base.specs.declared.reply.Reply.TheVariants.{Ok, Refused}
+use Rattle.sg_facts.specs.sg_base.declared.call.Call.{Call}
+use Rattle.sg_facts.specs.sg_base.declared.reply.Code.{Code}
+use Rattle.sg_facts.specs.sg_base.declared.reply.Good.{Good}
+use Rattle.sg_facts.specs.sg_base.declared.reply.Reply.{Reply}
+use Rattle.sg_facts.specs.sg_base.declared.reply.Reply.TheVariants.{Ok, Refused}
 use Rattle.sg_world_laws.specs.Committing.Serving.{IsServedCall}
 use Rattle.sg_facts.specs.declared.entry.Entry.{Entry}
 use Rattle.sg_facts.specs.declared.outcome.Outcome.TheVariants.{Replied}
@@ -21,8 +21,8 @@ use Rattle.sg_facts.proofs.RowLists.{row_of_live}
 use Rattle.sg_recovery_laws.specs.Midway.Progress.{IsInRecovery, Told}
 use Rattle.sg_recovery_laws.specs.Midway.Stepping.{present_with, told_with}
 use Rattle.sg_recovery_laws.proofs.Midway.Served.{past_held, same_patch_h, same_words, under_served}
-use Rattle.sg_hist.specs.Reading.{service_call}
-use Rattle.sg_hist.specs.Recovered.{IsByTable}
+use Rattle.sg_recovery_laws.specs.sg_hist.Reading.{service_call}
+use Rattle.sg_recovery_laws.specs.sg_hist.Recovered.{IsByTable}
 use Rattle.sg_recovery_laws.specs.Objects.Serving.{HasTime, IsAnsweredAt, IsLegalObject}
 use Rattle.sg_recovery_laws.specs.Objects.Waiting.{AreWaiting}
 use Rattle.sg_recovery_laws.proofs.Objects.Serve.{names_served}
@@ -34,7 +34,7 @@ use Rattle.sg_world_laws.specs.Keeping.{KeepsPromise, Stands, Stub, standing}
 use Rattle.sg_world_laws.specs.Setting.{IsSetting, Setting}
 use Rattle.sg_world_laws.proofs.Orders.{few_now, good_now, time_now}
 
--- the names and what is told behind a reply
+-- the names and what is told after a reply
 abbrev pub names_by : Facts → List (ℕ × ℕ) → Call → Reply → Reply → List (ℕ × ℕ)
 names_by facts names call (Ok good) (Ok other) = names_served facts names call good other
 names_by facts names call (Ok good) (Refused code) = names
@@ -79,7 +79,7 @@ module _ (z : Setting) (set : IsSetting z) (w : WorldView) (b : Boot) (boots : L
   later_time : HasTime z.iface.facts (length (held_in (length (b ∷ boots)) w.seats)) (after z.iface.facts (object_of z.iface.facts w.history) call reply)
   later_time = time_after z.iface.facts z.ask z.sound set.law (length ws) o call reply good answered_it (less_time z.iface.facts z.ask z.sound set.law (1 + length ws) (suc (length ws)) o (omega arith) (time_ws 1 (omega arith)))
 
-  -- the held replies could be committed behind it
+  -- the held replies could be committed after it
   pub wait_after : AreWaiting z.iface.facts z.ask (after z.iface.facts (object_of z.iface.facts w.history) call reply) (held_in (length (b ∷ boots)) w.seats)
   wait_after = waiting_after z.iface.facts z.ask z.sound set.law o call reply ws good answered_it
       (less_time z.iface.facts z.ask z.sound set.law (length ws) 0 (after z.iface.facts o call reply) (omega arith) later_time) s.let_in.none_by k.waiting
@@ -90,7 +90,7 @@ module _ (z : Setting) (set : IsSetting z) (w : WorldView) (b : Boot) (boots : L
   pub sound_all : IsSound z.iface.facts (object_from z.iface.facts (after z.iface.facts (object_of z.iface.facts w.history) call reply) (held_in (length (b ∷ boots)) w.seats))
   sound_all = set.law.keeps.general (object_from z.iface.facts (after z.iface.facts o call reply) ws) good_all.is_sound
 
-  -- what is live behind them all is live behind the call
+  -- what is live after them all is live after the call
   pub live_all : (x : ℕ) → is_live (object_from z.iface.facts (after z.iface.facts (object_of z.iface.facts w.history) call reply) (held_in (length (b ∷ boots)) w.seats)).rows x ≡ true
       → is_live (after z.iface.facts (object_of z.iface.facts w.history) call reply).rows x ≡ true
   live_all x live =
@@ -100,7 +100,7 @@ module _ (z : Setting) (set : IsSetting z) (w : WorldView) (b : Boot) (boots : L
   time_two : HasTime z.iface.facts (suc (suc (length (held_in (length (b ∷ boots)) w.seats)))) (object_of z.iface.facts w.history)
   time_two = less_time z.iface.facts z.ask z.sound set.law (2 + length ws) (suc (suc (length ws))) o (omega arith) (time_ws 2 (omega arith))
 
-  -- the call may go before the held replies, or behind them
+  -- the call may go before the held replies, or after them
   pub past : object_from z.iface.facts (after z.iface.facts (object_of z.iface.facts w.history) call reply) (held_in (length (b ∷ boots)) w.seats)
       ≡ after z.iface.facts (object_from z.iface.facts (object_of z.iface.facts w.history) (held_in (length (b ∷ boots)) w.seats)) call reply
   past = past_held z.iface z.ask z.sound z.walks stub.names stub.told stub.present o v ws set.law good k.waiting time_two up.in_recovery call s.let_in.passes s.let_in.none_by s.all.rows s.all.file reply s.replied.answered
@@ -108,9 +108,9 @@ module _ (z : Setting) (set : IsSetting z) (w : WorldView) (b : Boot) (boots : L
   pub call_is : service_call item ≡ under_names stub.names call
   call_is = ap (λ n. record item.shown { desc = n }) s.replied.asked.real ∙ ap (λ (c : Call). record c { desc = named stub.names call.desc }) s.replied.asked.shown
 
-  -- ---- the service behind it
+  -- ---- the service after it
 
-  -- its patch is that of the call at the object of the history, and it stands for the object behind the call and the held replies
+  -- its patch is that of the call at the object of the history, and it stands for the object after the call and the held replies
   pub record IsMoved (r p : Reply) : Type 0 where
     pub patch_is : patch_of z.iface.facts v (under_names stub.names call) p ≡ patch_of z.iface.facts (object_of z.iface.facts w.history) call r
     pub in_recovery : IsInRecovery z.iface z.walks (names_by z.iface.facts stub.names call r p) (told_by z.iface.facts call r stub.told) (present_with (patch_of z.iface.facts (object_of z.iface.facts w.history) call r) stub.present)

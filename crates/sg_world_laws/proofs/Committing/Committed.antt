@@ -3,9 +3,9 @@ use Rattle.std.proofs.Common.{◌≡◌, ℕ, ◌+◌, ◌<◌, true, false, Lis
 use Rattle.std.specs.Prelude.{◌==◌, ◌||◌}
 use Rattle.std.specs.List.{list_any}
 use Rattle.std.specs.declared.option.Option.{Option}
-use Rattle.sg_base.specs.Lists.{Each}
-use Rattle.sg_base.specs.declared.call.Call.{Call}
-use Rattle.sg_base.specs.declared.reply.Reply.{Reply}
+use Rattle.sg_facts.specs.sg_base.Lists.{Each}
+use Rattle.sg_facts.specs.sg_base.declared.call.Call.{Call}
+use Rattle.sg_facts.specs.sg_base.declared.reply.Reply.{Reply}
 use Rattle.sg_world_laws.specs.Committing.Serving.{IsCommittedIn, IsServedCall}
 use Rattle.sg_world_laws.specs.Committing.Telling.{TellsAfter}
 use Rattle.sg_world_laws.proofs.Alike.{read_alike}
@@ -30,11 +30,11 @@ use Rattle.sg_recovery_laws.specs.Midway.Progress.{IsInRecovery}
 use Rattle.sg_recovery_laws.specs.Midway.Stepping.{present_with}
 use Rattle.sg_recovery_laws.proofs.Midway.Dropped.{under_dropped}
 use Rattle.sg_recovery_laws.proofs.Midway.Glue.{under_named}
-use Rattle.sg_hist.specs.Reading.{is_by_guard, is_item_of, names_at}
+use Rattle.sg_recovery_laws.specs.sg_hist.Reading.{is_by_guard, is_item_of, names_at}
 use Rattle.sg_recovery_laws.specs.Objects.Waiting.{AreWaiting, NoneBy}
 use Rattle.sg_recovery_laws.proofs.Objects.Guarded.{acts}
 use Rattle.sg_recovery_laws.proofs.Objects.Waiting.{hidden_is}
-use Rattle.sg_hist.specs.Growing.{IsInLast, IsNextItem, last_items, noted, older_items, place_behind}
+use Rattle.sg_recovery_laws.specs.sg_hist.Growing.{IsInLast, IsNextItem, last_items, noted, older_items, place_after}
 use Rattle.sg_recovery_laws.proofs.InBoots.{boots_appended, older_noted}
 use Rattle.sg_recovery_laws.proofs.Lists.{each_append, each_map}
 use Rattle.sg_seat.specs.WorldView.{WorldView, held_in, unanswered}
@@ -63,7 +63,7 @@ module _ (z : Setting) (set : IsSetting z) (w : WorldView) (b : Boot) (boots : L
   abbrev e : Entry
   e = record { call = call; reply = reply }
 
-  -- the object of the history behind it, and the service
+  -- the object of the history after it, and the service
   abbrev o1 : Object
   o1 = after z.iface.facts (object_of z.iface.facts w.history) call reply
 
@@ -103,7 +103,7 @@ module _ (z : Setting) (set : IsSetting z) (w : WorldView) (b : Boot) (boots : L
       both [] was now = tt
       both (x ∷ l) was now = (record { may = was.0.may; guarded = ap (λ y. guard z.iface y x.call) object_now ∙ now.0 }, both l was.1 now.1)
 
-  -- ---- the service stands for the object behind it
+  -- ---- the service stands for the object after it
 
   module _ (stub' : Stub) (tells : TellsAfter z.iface.facts (object_of z.iface.facts w.history) call reply other stub stub') where
     under_now : IsInRecovery z.iface z.walks stub'.names stub'.told stub'.present (object_from facts o1 ws) v1
@@ -144,7 +144,7 @@ module _ (z : Setting) (set : IsSetting z) (w : WorldView) (b : Boot) (boots : L
         numbers_served z set w b boots v stub k call item reply other patch s stub'.told (length (w.history ++ e ∷ [])) (let n : length (w.history ++ e ∷ []) ≡ length w.history + 1 = length-append w.history (e ∷ []) in omega (arith, n))
         (λ id live. told_live_on facts o call reply other stub stub' tells s.replied.same id (live_all z set w b boots v stub k call item reply other patch s id live))
 
-    -- the object behind the held replies, at the later world
+    -- the object after the held replies, at the later world
     behind_now : object_from facts (object_of z.iface.facts (w.history ++ e ∷ [])) (held_in (length (noted (b ∷ boots) item)) w'.seats) ≡ object_from facts o1 ws
     behind_now = ap (object_from facts (object_of z.iface.facts (w.history ++ e ∷ []))) same_held ∙ ap (λ x. object_from facts x ws) object_now
 
@@ -181,6 +181,6 @@ module _ (z : Setting) (set : IsSetting z) (w : WorldView) (b : Boot) (boots : L
     })
 
   -- its item pays what it owes, with its entry
-  pub committed_next : IsNextItem (stubs_of z) (w.history ++ (record { call = call; reply = reply }) ∷ []) (unanswered w') (place_behind [] (b ∷ boots) item)
-  committed_next = subst (λ l. IsNextItem (stubs_of z) (l ++ e ∷ []) (unanswered w') (place_behind [] (b ∷ boots) item)) (append-nil w.history)
+  pub committed_next : IsNextItem (stubs_of z) (w.history ++ (record { call = call; reply = reply }) ∷ []) (unanswered w') (place_after [] (b ∷ boots) item)
+  committed_next = subst (λ l. IsNextItem (stubs_of z) (l ++ e ∷ []) (unanswered w') (place_after [] (b ∷ boots) item)) (append-nil w.history)
       (next_now z set w b boots v stub k call item reply other patch s [] (no_drawn ws) (unanswered w') c.left)

@@ -3,10 +3,10 @@ use Rattle.std.proofs.Common.{◌≡◌, ℕ, suc, ◌<◌, ◌≤◌, Bool, tru
 use Rattle.std.specs.Prelude.{◌==◌, ◌||◌, ◌&&◌, ◌≢◌}
 use Rattle.std.specs.List.{Contains, list_any}
 use Rattle.std.specs.declared.option.Option.{Option}
-use Rattle.sg_base.specs.Lists.{Each}
-use Rattle.sg_base.specs.declared.call.Call.{Call}
-use Rattle.sg_base.specs.declared.reply.Reply.{Reply}
-use Rattle.sg_base.specs.declared.reply.Reply.TheVariants.{Ok, Refused}
+use Rattle.sg_facts.specs.sg_base.Lists.{Each}
+use Rattle.sg_facts.specs.sg_base.declared.call.Call.{Call}
+use Rattle.sg_facts.specs.sg_base.declared.reply.Reply.{Reply}
+use Rattle.sg_facts.specs.sg_base.declared.reply.Reply.TheVariants.{Ok, Refused}
 use Rattle.sg_world_laws.specs.Committing.Serving.{IsHeldBy, IsServedCall}
 use Rattle.sg_world_laws.proofs.Alike.{read_alike}
 use Rattle.sg_world_laws.proofs.Committing.Behind.{answered_it, moved, names_by, patch_it, told_by}
@@ -29,13 +29,13 @@ use Rattle.sg_recovery_laws.specs.Midway.Numbers.{AreNumbers}
 use Rattle.sg_recovery_laws.specs.Midway.Progress.{IsInRecovery, complete}
 use Rattle.sg_recovery_laws.specs.Midway.Stepping.{present_with}
 use Rattle.sg_recovery_laws.proofs.Midway.Glue.{under_named}
-use Rattle.sg_hist.specs.Reading.{Position, entries_before, id_given, is_ok, item_of, names_at, pair_of}
-use Rattle.sg_hist.specs.Recovered.{GivesEntry, is_clients, is_patch_at, is_replied, is_visible_reply}
+use Rattle.sg_recovery_laws.specs.sg_hist.Reading.{Position, entries_before, id_given, is_ok, item_of, names_at, pair_of}
+use Rattle.sg_recovery_laws.specs.sg_hist.Recovered.{GivesEntry, is_clients, is_patch_at, is_replied, is_visible_reply}
 use Rattle.sg_recovery_laws.specs.Objects.Waiting.{AreWaiting, IsWaiting, NoneBy}
 use Rattle.sg_recovery_laws.proofs.Objects.Waiting.{hidden_is}
-use Rattle.sg_hist.specs.Growing.{AreKept, IsGrown, IsInLast, IsNextItem, IsOfNoEntry, IsRecovering, last_items, noted, older_items, place_behind}
+use Rattle.sg_recovery_laws.specs.sg_hist.Growing.{AreKept, IsGrown, IsInLast, IsNextItem, IsOfNoEntry, IsRecovering, last_items, noted, older_items, place_after}
 use Rattle.sg_recovery_laws.proofs.Events.{own_item}
-use Rattle.sg_hist.proofs.Growing.{entries_before-more, names_at-more, places-more}
+use Rattle.sg_recovery_laws.proofs.sg_hist.Growing.{entries_before-more, names_at-more, places-more}
 use Rattle.sg_recovery_laws.proofs.InBoots.{older_noted}
 use Rattle.sg_recovery_laws.proofs.Lists.{each_append, each_contains, each_map, each_split}
 use Rattle.sg_recovery_laws.proofs.Onward.{its_kept, made_stays}
@@ -143,8 +143,8 @@ module _ (z : Setting) (set : IsSetting z) (w : WorldView) (b : Boot) (boots : L
   noted_now = noted_ahead (stubs_of z) w.history ws b boots w.run.points w'.run.points u u item unseen
       (λ es drawn. (none_es es drawn, (λ x has. has), next_old z set w b boots v stub k call item reply other patch s es drawn)) k.recovering
 
-  place_of_it : item_of run_now e ≡ Some (place_behind [] (b ∷ boots) item)
-  place_of_it = item_of-own item e (place_behind [] (b ∷ boots) item) (record { boots = b ∷ boots; points = w.run.points }) run_now (places-more [] b boots item) (own_item [] b boots item)
+  place_of_it : item_of run_now e ≡ Some (place_after [] (b ∷ boots) item)
+  place_of_it = item_of-own item e (place_after [] (b ∷ boots) item) (record { boots = b ∷ boots; points = w.run.points }) run_now (places-more [] b boots item) (own_item [] b boots item)
       (own z set w b boots v stub k call item reply other patch s)
 
   hidden_were : Each (λ x. is_visible facts x.call.fun ≡ false) (front ++ back)
@@ -228,7 +228,7 @@ module _ (z : Setting) (set : IsSetting z) (w : WorldView) (b : Boot) (boots : L
 
   -- ---- the service
 
-  -- the object behind all held replies is that behind the new one and the others
+  -- the object after all held replies is that after the new one and the others
   behind_all : object_from facts (after z.iface.facts o call reply) ws ≡ object_from facts o (front ++ e ∷ back)
   behind_all = ap (object_from facts (after z.iface.facts o call reply)) c.held_before
       ∙ committed_same facts z.ask z.sound set.law o front back e (good_now z set w b boots (Some v) stub k) (time_now z set w b boots (Some v) stub k (suc (suc (length (front ++ e ∷ back)))) (omega (arith, few_held))) waits
@@ -282,7 +282,7 @@ module _ (z : Setting) (set : IsSetting z) (w : WorldView) (b : Boot) (boots : L
   })
 
   -- its item pays what it owes, before its entry
-  pub held_next : IsNextItem (stubs_of z) w.history (unanswered w') (place_behind [] (b ∷ boots) item)
-  held_next = subst (λ l. IsNextItem (stubs_of z) l (unanswered w') (place_behind [] (b ∷ boots) item)) (append-nil w.history)
+  pub held_next : IsNextItem (stubs_of z) w.history (unanswered w') (place_after [] (b ∷ boots) item)
+  held_next = subst (λ l. IsNextItem (stubs_of z) l (unanswered w') (place_after [] (b ∷ boots) item)) (append-nil w.history)
       (next_es z set w b boots v stub k call s.let_in s.all item s.replied.asked [] (no_drawn ws) (unanswered w')
       (its_kept (w.history ++ []) u (w.history ++ []) (unanswered w') item.shown (kept_all (w.history ++ []) u (unanswered w') c.left) item.tag (its_es z set w b boots v stub k call s.let_in s.all item s.replied.asked [] (no_drawn ws))))

@@ -4,9 +4,9 @@ use Rattle.std.specs.Prelude.{◌||◌}
 use Rattle.std.specs.List.{list_any}
 use Rattle.std.specs.declared.option.Option.{Option}
 use Rattle.std.proofs.lemmas.List.Folds.{list_any-append}
-use Rattle.sg_base.specs.Lists.{Each}
-use Rattle.sg_base.specs.declared.call.Call.{Call}
-use Rattle.sg_base.specs.declared.reply.Reply.{Reply}
+use Rattle.sg_facts.specs.sg_base.Lists.{Each}
+use Rattle.sg_facts.specs.sg_base.declared.call.Call.{Call}
+use Rattle.sg_facts.specs.sg_base.declared.reply.Reply.{Reply}
 use Rattle.sg_boot.specs.Cells.{IsCell}
 use Rattle.sg_boot.proofs.Keeping.{kept_noted}
 use Rattle.sg_world_laws.specs.Committing.Serving.{IsServedCall}
@@ -21,9 +21,9 @@ use Rattle.sg_facts.specs.declared.trace.Tag.TheVariants.{Walk, Load, Client}
 use Rattle.sg_facts.specs.Alike.{under_names}
 use Rattle.sg_facts.specs.Object.{Object, after}
 use Rattle.sg_facts.specs.Trace.{Boot}
-use Rattle.sg_hist.specs.Reading.{given_by, is_by_guard, is_item_of}
-use Rattle.sg_hist.specs.Recovered.{AreInBoots, is_stopped}
-use Rattle.sg_hist.specs.Growing.{IsInLast, IsOfNoEntry, last_items, noted, older_items}
+use Rattle.sg_recovery_laws.specs.sg_hist.Reading.{given_by, is_by_guard, is_item_of}
+use Rattle.sg_recovery_laws.specs.sg_hist.Recovered.{AreInBoots, is_stopped}
+use Rattle.sg_recovery_laws.specs.sg_hist.Growing.{IsInLast, IsOfNoEntry, last_items, noted, older_items}
 use Rattle.sg_recovery_laws.proofs.InBoots.{boots_noted, older_noted, own_last, still_last}
 use Rattle.sg_seat.specs.WorldView.{WorldView, held_in}
 use Rattle.sg_recovery_laws.specs.LastItem.LastPlace.{HaveItems}

@@ -1,10 +1,10 @@
--- The numbers of the running service behind a served call: no recovery is further from its end than before.
+-- The numbers of the running service after a served call: no recovery is further from its end than before.
 use Rattle.std.proofs.Common.{◌≡◌, ℕ, ◌+◌, ◌≤◌, Bool, true, false, cond, List, ◌∷◌, Some, length, refl, sym, ◌∙◌, ap, subst, arith}
 use Rattle.std.specs.Prelude.{◌||◌, max}
 use Rattle.std.specs.declared.option.Option.{Option}
-use Rattle.sg_base.specs.declared.call.Call.{Call}
-use Rattle.sg_base.specs.declared.reply.Reply.{Reply}
-use Rattle.sg_base.specs.declared.reply.Reply.TheVariants.{Ok, Refused}
+use Rattle.sg_facts.specs.sg_base.declared.call.Call.{Call}
+use Rattle.sg_facts.specs.sg_base.declared.reply.Reply.{Reply}
+use Rattle.sg_facts.specs.sg_base.declared.reply.Reply.TheVariants.{Ok, Refused}
 use Rattle.sg_world_laws.specs.Committing.Serving.{IsServedCall}
 use Rattle.sg_world_laws.proofs.Committing.Behind.{apart_ok, apart_refused, moved, past, sound_all, told_by}
 use Rattle.sg_world_laws.proofs.Committing.Counting.{served_counted, sum_after, sum_live, sum_most}

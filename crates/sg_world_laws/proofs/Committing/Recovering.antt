@@ -5,11 +5,11 @@ use Rattle.std.specs.List.{Contains, list_any}
 use Rattle.std.proofs.lemmas.Bool.Decides.{nat_tests}
 use Rattle.std.proofs.lemmas.List.Elements.{Contains-append_cases}
 use Rattle.std.specs.declared.option.Option.{Option}
-use Rattle.sg_base.specs.Lists.{Each}
-use Rattle.sg_base.specs.declared.call.Call.{Call}
-use Rattle.sg_base.specs.declared.reply.Good.{Good}
-use Rattle.sg_base.specs.declared.reply.Reply.{Reply}
-use Rattle.sg_base.specs.declared.reply.Reply.TheVariants.{Ok, Refused}
+use Rattle.sg_facts.specs.sg_base.Lists.{Each}
+use Rattle.sg_facts.specs.sg_base.declared.call.Call.{Call}
+use Rattle.sg_facts.specs.sg_base.declared.reply.Good.{Good}
+use Rattle.sg_facts.specs.sg_base.declared.reply.Reply.{Reply}
+use Rattle.sg_facts.specs.sg_base.declared.reply.Reply.TheVariants.{Ok, Refused}
 use Rattle.sg_world_laws.specs.Committing.Serving.{IsServedCall}
 use Rattle.sg_world_laws.proofs.Committing.Behind.{apart_ok}
 use Rattle.sg_facts.specs.declared.entry.Entry.{Entry}
@@ -21,10 +21,10 @@ use Rattle.sg_facts.specs.Object.{Object, object_of}
 use Rattle.sg_facts.specs.Trace.{Boot}
 use Rattle.sg_recovery_laws.specs.Midway.Progress.{IsNone}
 use Rattle.sg_recovery_laws.proofs.Midway.Back.{named_or_none}
-use Rattle.sg_hist.specs.Reading.{Position, desc_in, desc_of, id_given, is_by_guard, is_item_of, is_tagged, names_at, places_from}
-use Rattle.sg_hist.specs.Recovered.{IsCommitted, IsReplyOf}
+use Rattle.sg_recovery_laws.specs.sg_hist.Reading.{Position, desc_in, desc_of, id_given, is_by_guard, is_item_of, is_tagged, names_at, places_from}
+use Rattle.sg_recovery_laws.specs.sg_hist.Recovered.{IsCommitted, IsReplyOf}
 use Rattle.sg_recovery_laws.specs.Objects.Waiting.{AreWaiting}
-use Rattle.sg_hist.specs.Growing.{AreKept, IsItemOf, IsLastCall, IsNextItem, IsRecovering, IsSameId, IsSettled, last_items, noted, older_items, place_behind}
+use Rattle.sg_recovery_laws.specs.sg_hist.Growing.{AreKept, IsItemOf, IsLastCall, IsNextItem, IsRecovering, IsSameId, IsSettled, last_items, noted, older_items, place_after}
 use Rattle.sg_recovery_laws.proofs.Given.{IsGiven, committed_given, given_same, is_numbered, names_same}
 use Rattle.sg_recovery_laws.proofs.InBoots.{place_is}
 use Rattle.sg_recovery_laws.proofs.Lists.{each_contains, each_map}
@@ -47,7 +47,7 @@ each_call : (P : Call → Type 0) (h : List Entry) → Each (λ e. P e.call) h �
 each_call P [] all = tt
 each_call P (e ∷ h) all = (all.0, each_call P h all.1)
 
--- the number of an entry that is appended behind others of lower numbers finds it
+-- the number of an entry that is appended after others of lower numbers finds it
 pub given_pushed : (h : List Entry) (e : Entry) → Each (λ x. x.call.client ≡ e.call.client → x.call.seq < e.call.seq) h → (rest : List Entry) → id_given (h ++ e ∷ rest) e.call.client e.call.seq ≡ desc_of e.reply
 given_pushed [] e all rest =
     ap desc_in (ap (λ t. cond t (Some e) (find (is_numbered e.call.client e.call.seq) rest)) (two (same_test e.call.client e.call.client refl) (same_test e.call.seq e.call.seq refl)))
@@ -126,7 +126,7 @@ module _ (z : Setting) (set : IsSetting z) (w : WorldView) (b : Boot) (boots : L
     ]
 
     -- its item may be noted there, before its entry
-    pub next_old : IsNextItem (stubs_of z) (w.history ++ es) (unanswered (standing w b boots (Some v))) (place_behind [] (b ∷ boots) item)
+    pub next_old : IsNextItem (stubs_of z) (w.history ++ es) (unanswered (standing w b boots (Some v))) (place_after [] (b ∷ boots) item)
     next_old = next_es z set w b boots v stub k call s.let_in s.all item s.replied.asked es drawn u (its_es z set w b boots v stub k call s.let_in s.all item s.replied.asked es drawn)
 
     -- the item has the entry's reply
@@ -156,7 +156,7 @@ module _ (z : Setting) (set : IsSetting z) (w : WorldView) (b : Boot) (boots : L
         (λ g is makes. ap (λ l. named l g.desc) names_es ∙ (up.read es drawn).names_are g.desc (known g is makes))
         no_desc
 
-    pub item_es : IsItemOf z.iface.facts (w.history ++ es) (place_behind [] (b ∷ boots) item) (record { call = call; reply = reply })
+    pub item_es : IsItemOf z.iface.facts (w.history ++ es) (place_after [] (b ∷ boots) item) (record { call = call; reply = reply })
     item_es = subst (λ p. IsItemOf z.iface.facts (w.history ++ es) p e) (sym (place_is [] b boots item)) (record {
       tagged = own;
       served = served_it;
@@ -190,7 +190,7 @@ module _ (z : Setting) (set : IsSetting z) (w : WorldView) (b : Boot) (boots : L
           three true false true is = refl
           three true true true is = refl
 
-      pub next_now : IsNextItem (stubs_of z) ((w.history ++ es) ++ (record { call = call; reply = reply }) ∷ []) u' (place_behind [] (b ∷ boots) item)
+      pub next_now : IsNextItem (stubs_of z) ((w.history ++ es) ++ (record { call = call; reply = reply }) ∷ []) u' (place_after [] (b ∷ boots) item)
       next_now =
           let n : IsNextItem (stubs_of z) (w.history ++ es) u p = subst (IsNextItem (stubs_of z) (w.history ++ es) u) (place_is [] b boots item) next_old in
           subst (IsNextItem (stubs_of z) ((w.history ++ es) ++ e ∷ []) u') (sym (place_is [] b boots item)) (record {

@@ -4,10 +4,10 @@ use Rattle.std.proofs.Common.{◌≡◌, ℕ, ◌+◌, ◌<◌, Bool, true, fals
 use Rattle.std.specs.Prelude.{◌==◌, ◌||◌, ◌&&◌}
 use Rattle.std.specs.declared.option.Option.{Option}
 use Rattle.std.proofs.lemmas.Bool.Decides.{eqb_tells, nat_tests}
-use Rattle.sg_base.specs.declared.call.Call.{Call}
-use Rattle.sg_base.specs.declared.reply.Good.{Good}
-use Rattle.sg_base.specs.declared.reply.Reply.{Reply}
-use Rattle.sg_base.specs.declared.reply.Reply.TheVariants.{Ok, Refused}
+use Rattle.sg_facts.specs.sg_base.declared.call.Call.{Call}
+use Rattle.sg_facts.specs.sg_base.declared.reply.Good.{Good}
+use Rattle.sg_facts.specs.sg_base.declared.reply.Reply.{Reply}
+use Rattle.sg_facts.specs.sg_base.declared.reply.Reply.TheVariants.{Ok, Refused}
 use Rattle.sg_world_laws.specs.Committing.Telling.{IsToldBy}
 use Rattle.sg_facts.specs.declared.entry.Entry.{Entry}
 use Rattle.sg_facts.specs.declared.outcome.Outcome.TheVariants.{Replied}
@@ -32,8 +32,8 @@ use Rattle.sg_facts.proofs.RowLists.{id_of_row, live_of_row}
 use Rattle.sg_recovery_laws.proofs.Midway.Back.{named_or_none}
 use Rattle.sg_recovery_laws.proofs.Midway.Numbers.{counted_below}
 use Rattle.sg_recovery_laws.proofs.Midway.Served.{HasReply, reply_of}
-use Rattle.sg_hist.specs.Reading.{service_call}
-use Rattle.sg_hist.specs.Recovered.{IsByTable}
+use Rattle.sg_recovery_laws.specs.sg_hist.Reading.{service_call}
+use Rattle.sg_recovery_laws.specs.sg_hist.Recovered.{IsByTable}
 use Rattle.sg_recovery_laws.specs.Objects.Waiting.{AreWaiting}
 use Rattle.sg_recovery_laws.proofs.Objects.Answered.{child_same}
 use Rattle.sg_recovery_laws.proofs.Objects.Guarded.{ActsOnOne, acts, keeps, let_pass, own_desc}
@@ -79,7 +79,7 @@ module _ (z : Setting) (set : IsSetting z) (w : WorldView) (b : Boot) (boots : L
   abbrev f : Fun
   f = fun_at z.iface.facts.funs call.fun
 
-  -- the object behind the held replies
+  -- the object after the held replies
   abbrev behind : Object
   behind = object_from z.iface.facts (object_of z.iface.facts w.history) (held_in (length (b ∷ boots)) w.seats)
 
@@ -164,7 +164,7 @@ module _ (z : Setting) (set : IsSetting z) (w : WorldView) (b : Boot) (boots : L
       by_query true query = absurd (let none = ((keeps z.iface.facts call.fun set.law.shape.shape let_in.passes.is_call.first let_in.passes.is_call.last).query query).1 in cc (takes, none))
       by_query false row = at z.iface.facts.parents ((let_pass (whole_interface z.iface.facts) o call row let_in.passes.guarded).parent takes)
 
-  -- its row has no child behind the held replies either
+  -- its row has no child after the held replies either
   no_children : f.query ≡ false → f.creation ≡ false → f.terminal ≡ true → z.iface.facts.subtree ≡ false → has_child behind.rows call.desc ≡ false
   no_children row makes ends alone = by_held ws refl k.waiting
     where

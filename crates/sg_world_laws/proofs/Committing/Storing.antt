@@ -3,10 +3,10 @@ use Rattle.std.proofs.Common.{◌≡◌, ℕ, ◌+◌, ◌≤◌, Bool, true, fa
 use Rattle.std.specs.Prelude.{◌==◌, ◌||◌, ◌&&◌}
 use Rattle.std.specs.List.{list_any}
 use Rattle.std.specs.declared.option.Option.{Option}
-use Rattle.sg_base.specs.declared.call.Call.{Call}
-use Rattle.sg_base.specs.declared.reply.Good.{Good}
-use Rattle.sg_base.specs.declared.reply.Reply.{Reply}
-use Rattle.sg_base.specs.declared.reply.Reply.TheVariants.{Ok, Refused}
+use Rattle.sg_facts.specs.sg_base.declared.call.Call.{Call}
+use Rattle.sg_facts.specs.sg_base.declared.reply.Good.{Good}
+use Rattle.sg_facts.specs.sg_base.declared.reply.Reply.{Reply}
+use Rattle.sg_facts.specs.sg_base.declared.reply.Reply.TheVariants.{Ok, Refused}
 use Rattle.sg_world_laws.specs.Committing.Serving.{IsServedCall}
 use Rattle.sg_world_laws.proofs.Committing.Behind.{answered_it, patch_it}
 use Rattle.sg_facts.specs.declared.outcome.Patch.{Patch}
@@ -24,8 +24,8 @@ use Rattle.sg_recovery_laws.specs.Objects.Serving.{IsAnsweredAt, IsLegalObject, 
 use Rattle.sg_recovery_laws.proofs.Objects.Steady.{after_good}
 use Rattle.sg_recovery_laws.proofs.Objects.Waiting.{hidden_is}
 use Rattle.sg_seat.specs.WorldView.{WorldView}
-use Rattle.sg_track.specs.Tracked.{MayTrack, Tracked}
-use Rattle.sg_track.proofs.Premises.{may_track}
+use Rattle.sg_recovery_laws.specs.sg_track.Tracked.{MayTrack, Tracked}
+use Rattle.sg_recovery_laws.proofs.sg_track.Premises.{may_track}
 use Rattle.sg_facts.proofs.Replaying.Found.{same_test}
 use Rattle.sg_world_laws.specs.Keeping.{KeepsPromise, Stub, standing}
 use Rattle.sg_world_laws.specs.Setting.{IsSetting, Setting}

@@ -1,11 +1,11 @@
--- What stubs tell behind an answered call, by what they told before.
+-- What stubs tell after an answered call, by what they told before.
 use Rattle.std.proofs.Common.{◌≡◌, ℕ, Bool, true, false, cond, not, List, [], ◌∷◌, Some, refl, sym, ◌∙◌, ap, inl, inr, ◌⊎◌}
 use Rattle.std.specs.Prelude.{◌==◌, ◌||◌, ◌&&◌}
 use Rattle.std.proofs.lemmas.Bool.Decides.{eqb_tells}
 use Rattle.std.proofs.lemmas.List.Folds.{list_any-append}
-use Rattle.sg_base.specs.declared.call.Call.{Call}
-use Rattle.sg_base.specs.declared.reply.Reply.{Reply}
-use Rattle.sg_base.specs.declared.reply.Reply.TheVariants.{Ok, Refused}
+use Rattle.sg_facts.specs.sg_base.declared.call.Call.{Call}
+use Rattle.sg_facts.specs.sg_base.declared.reply.Reply.{Reply}
+use Rattle.sg_facts.specs.sg_base.declared.reply.Reply.TheVariants.{Ok, Refused}
 use Rattle.sg_world_laws.specs.Committing.Telling.{TellsAfter, has_ended, makes_id}
 use Rattle.sg_world_laws.proofs.Committing.Behind.{apart_ok, names_by, told_by}
 use Rattle.sg_facts.specs.Alike.{SameReply, named}
@@ -13,7 +13,7 @@ use Rattle.sg_facts.specs.Facts.{Facts, fun_at}
 use Rattle.sg_facts.specs.Object.{Object, after}
 use Rattle.sg_facts.specs.Track.{is_live, new_row, rows_after}
 use Rattle.sg_recovery_laws.specs.Midway.Progress.{Told, complete, fresh}
-use Rattle.sg_hist.specs.Reading.{desc_of}
+use Rattle.sg_recovery_laws.specs.sg_hist.Reading.{desc_of}
 use Rattle.sg_recovery_laws.proofs.Objects.Apart.{makes_row}
 use Rattle.sg_recovery_laws.proofs.Objects.Guarded.{ActsOnOne}
 use Rattle.sg_facts.proofs.Replaying.Found.{other_test, same_test}
@@ -51,7 +51,7 @@ module _ (facts : Facts) (o : Object) (call : Call) (reply other : Reply) (stub 
   named_left : (id : ℕ) → has_ended o.rows (after facts o call reply).rows id ≡ false → named later.names id ≡ cond (makes_id facts call reply id) (desc_of other) (named stub.names id)
   named_left id is = tells.names id ∙ ap (λ t. cond t 0 (cond (makes_id facts call reply id) (desc_of other) (named stub.names id))) is
 
-  -- of what is live behind it
+  -- of what is live after it
   pub named_live_on : (id : ℕ) → is_live (after facts o call reply).rows id ≡ true → named later.names id ≡ named (names_by facts stub.names call reply other) id
   named_live_on id live = named_left id (not_ended id live) ∙ names_made facts stub.names call reply other same id
 

@@ -1,14 +1,14 @@
--- What the trace tells behind the item of a served call, with and without its entry, whichever held replies are committed first.
+-- What the trace tells after the item of a served call, with and without its entry, whichever held replies are committed first.
 use Rattle.std.proofs.Common.{◌≡◌, ℕ, ◌+◌, ◌<◌, Bool, true, false, cond, List, [], ◌∷◌, ◌++◌, None, Some, length, refl, sym, ◌∙◌, ap, subst, inl, inr, ◌⊎◌, arith}
 use Rattle.std.specs.Prelude.{◌==◌, ◌||◌, ◌&&◌, ◌≢◌, if◌then◌else◌}
 use Rattle.std.specs.List.{list_any}
 use Rattle.std.specs.declared.option.Option.{Option}
 use Rattle.std.proofs.lemmas.List.Folds.{list_any-append}
-use Rattle.sg_base.specs.Lists.{Each}
-use Rattle.sg_base.specs.declared.call.Call.{Call}
-use Rattle.sg_base.specs.declared.reply.Good.{Good}
-use Rattle.sg_base.specs.declared.reply.Reply.{Reply}
-use Rattle.sg_base.specs.declared.reply.Reply.TheVariants.{Ok, Refused}
+use Rattle.sg_facts.specs.sg_base.Lists.{Each}
+use Rattle.sg_facts.specs.sg_base.declared.call.Call.{Call}
+use Rattle.sg_facts.specs.sg_base.declared.reply.Good.{Good}
+use Rattle.sg_facts.specs.sg_base.declared.reply.Reply.{Reply}
+use Rattle.sg_facts.specs.sg_base.declared.reply.Reply.TheVariants.{Ok, Refused}
 use Rattle.sg_world_laws.specs.Committing.Serving.{IsServedCall}
 use Rattle.sg_world_laws.proofs.Alike.{read_alike}
 use Rattle.sg_world_laws.proofs.Committing.Behind.{apart_ok, apart_refused, names_by, patch_it, told_by}
@@ -27,15 +27,15 @@ use Rattle.sg_facts.specs.Track.{is_live, new_row, row_at}
 use Rattle.sg_facts.proofs.RowLists.{live_of_row, row_of_live}
 use Rattle.sg_recovery_laws.specs.Midway.Progress.{Told, complete}
 use Rattle.sg_recovery_laws.specs.Midway.Stepping.{present_with, told_with}
-use Rattle.sg_hist.specs.Reading.{Position, desc_of, ends_walk, entries_before, id_given, is_ok, made_by, names_at, names_in, pair_of}
-use Rattle.sg_hist.specs.Recovered.{is_patch_at, is_walk_of}
+use Rattle.sg_recovery_laws.specs.sg_hist.Reading.{Position, desc_of, ends_walk, entries_before, id_given, is_ok, made_by, names_at, names_in, pair_of}
+use Rattle.sg_recovery_laws.specs.sg_hist.Recovered.{is_patch_at, is_walk_of}
 use Rattle.sg_recovery_laws.proofs.Objects.Apart.{makes_row}
 use Rattle.sg_recovery_laws.proofs.Objects.Guarded.{acts, keeps}
 use Rattle.sg_recovery_laws.proofs.Objects.Serve.{names_served}
 use Rattle.sg_recovery_laws.proofs.Objects.Steady.{fewer_after}
-use Rattle.sg_hist.specs.Growing.{IsGrown, last_items, older_items}
+use Rattle.sg_recovery_laws.specs.sg_hist.Growing.{IsGrown, last_items, older_items}
 use Rattle.sg_recovery_laws.proofs.Given.{IsGiven, names_same}
-use Rattle.sg_hist.proofs.Growing.{names_at-more}
+use Rattle.sg_recovery_laws.proofs.sg_hist.Growing.{names_at-more}
 use Rattle.sg_recovery_laws.proofs.Lists.{each_split}
 use Rattle.sg_seat.specs.WorldView.{WorldView, held_in}
 use Rattle.sg_recovery_laws.specs.LastItem.LastPlace.{last_place}
@@ -80,7 +80,7 @@ module _ (z : Setting) (set : IsSetting z) (w : WorldView) (b : Boot) (boots : L
   given_h : Each (IsGiven z.iface.facts w.history) (last_items (b ∷ boots))
   given_h = given_now z w b boots (Some v) stub k
 
-  -- the names so far are the same, whatever stands behind the history
+  -- the names so far are the same, whatever stands after the history
   pub names_any : (xs ys : List Entry) → names_at z.iface.facts (w.history ++ ys) (last_items (b ∷ boots)) ≡ names_at z.iface.facts (w.history ++ xs) (last_items (b ∷ boots))
   names_any xs ys = names_same facts (h ++ xs) (h ++ ys) front (given_any facts h xs ys front given_h)
 

@@ -1,10 +1,10 @@
--- The seats of a world behind a client's turn in which its call was served: its reply is given to it with its entry, or it holds it.
+-- The seats of a world after a client's turn in which its call was served: its reply is given to it with its entry, or it holds it.
 use Rattle.std.proofs.Common.{◌≡◌, ℕ, ◌+◌, ◌^◌, ◌<◌, Bool, true, false, List, [], ◌∷◌, ◌++◌, Some, length, map, refl, sym, ◌∙◌, ap, subst, inl, inr, ◌⊎◌, arith}
 use Rattle.std.specs.Prelude.{◌==◌, ◌&&◌, if◌then◌else◌}
 use Rattle.std.specs.List.{Contains, flat_map}
 use Rattle.std.specs.declared.option.Option.{Option}
-use Rattle.sg_base.specs.declared.call.Call.{Call}
-use Rattle.sg_base.specs.declared.reply.Reply.{Reply}
+use Rattle.sg_facts.specs.sg_base.declared.call.Call.{Call}
+use Rattle.sg_facts.specs.sg_base.declared.reply.Reply.{Reply}
 use Rattle.sg_world_laws.specs.Committing.Serving.{IsCommittedIn, IsHeldBy, IsServedCall}
 use Rattle.sg_facts.specs.declared.entry.Entry.{Entry}
 use Rattle.sg_facts.specs.declared.outcome.Patch.{Patch}
@@ -13,7 +13,7 @@ use Rattle.sg_facts.specs.Alike.{under_names}
 use Rattle.sg_facts.specs.Legal.{refused_or}
 use Rattle.sg_facts.specs.Object.{Object, after, object_of}
 use Rattle.sg_facts.specs.Trace.{Boot}
-use Rattle.sg_hist.specs.Growing.{noted}
+use Rattle.sg_recovery_laws.specs.sg_hist.Growing.{noted}
 use Rattle.sg_seat.specs.WorldView.{Seat, WorldView, held_in, is_held_in, is_held_phase, is_offered, offered_by, unanswered, wakes_seat, woken_seat}
 use Rattle.sg_seat.specs.declared.phase.Phase.{Phase}
 use Rattle.sg_seat.specs.declared.phase.Phase.TheVariants.{Asked, Blocked, Held, Idle, Left, Receipted}

@@ -1,10 +1,10 @@
--- An item more in a world: what it has to be, what stands behind it, and the world then.
+-- An item more in a world: what it has to be, what stands after it, and the world then.
 use Rattle.std.specs.List.{list_any}
 use Rattle.std.specs.Prelude.{List, None, Some, [], false, find, length, not, true, ℕ, ◌++◌, ◌+◌, ◌<◌, ◌==◌, ◌||◌, ◌∷◌, ◌≡◌, ◌≢◌, ◌≤◌, ◌⊎◌}
 use Rattle.std.specs.Str.{bytes_eq}
-use Rattle.sg_base.specs.declared.call.Call.{Call}
-use Rattle.sg_base.specs.declared.reply.Good.{Good}
-use Rattle.sg_base.specs.declared.reply.Reply.TheVariants.{Ok}
+use Rattle.sg_facts.specs.sg_base.declared.call.Call.{Call}
+use Rattle.sg_facts.specs.sg_base.declared.reply.Good.{Good}
+use Rattle.sg_facts.specs.sg_base.declared.reply.Reply.TheVariants.{Ok}
 use Rattle.sg_facts.specs.Alike.{named}
 use Rattle.sg_facts.specs.Facts.{Facts, fun_at}
 use Rattle.sg_facts.specs.Kinds.{MayAsk}
@@ -18,9 +18,9 @@ use Rattle.sg_facts.specs.declared.row.Row.{Row}
 use Rattle.sg_facts.specs.declared.tables.WalkLine.{WalkLine}
 use Rattle.sg_facts.specs.declared.trace.Item.{Item}
 use Rattle.sg_facts.specs.declared.trace.Tag.TheVariants.{Load, Walk}
-use Rattle.sg_hist.specs.Reading.{is_made, is_rebuilt_at, names_in, walk_in}
-use Rattle.sg_hist.specs.Recovered.{call_in, is_walk_of}
-use Rattle.sg_hist.specs.Growing.{IsNextItem, IsOfNoEntry, last_items, noted, older_items, place_behind, struck}
+use Rattle.sg_recovery_laws.specs.sg_hist.Reading.{is_made, is_rebuilt_at, names_in, walk_in}
+use Rattle.sg_recovery_laws.specs.sg_hist.Recovered.{call_in, is_walk_of}
+use Rattle.sg_recovery_laws.specs.sg_hist.Growing.{IsNextItem, IsOfNoEntry, last_items, noted, older_items, place_after, struck}
 use Rattle.sg_boot.specs.Invoking.{load_outcome}
 use Rattle.sg_recovery_laws.specs.Midway.Numbers.{AreNumbers}
 use Rattle.sg_recovery_laws.specs.Midway.Progress.{IsInRecovery, TellsCalls, complete, fresh, is_complete}
@@ -34,13 +34,13 @@ use Rattle.sg_world_laws.specs.Setting.{Setting, stubs_of}
 -- an item owes nothing where it is noted: it is of no entry, and all that is asked of it holds
 pub record IsDue (z : Setting) (w : WorldView) (item : Item) (es : List Entry) : Type 0 where
   pub none : IsOfNoEntry item (w.history ++ es)
-  pub next : IsNextItem (stubs_of z) (w.history ++ es) (unanswered w) (place_behind [] w.run.boots item)
+  pub next : IsNextItem (stubs_of z) (w.history ++ es) (unanswered w) (place_after [] w.run.boots item)
 
 -- whichever held replies are committed first
 abbrev pub IsEverDue : Setting → WorldView → Item → Type 0
 IsEverDue z w item = (es : List Entry) → AreDrawn (held_replies w) es → IsDue z w item es
 
--- what stands of a service behind an item more, and what the stubs tell then
+-- what stands of a service after an item more, and what the stubs tell then
 pub record StandsBehind (z : Setting) (w : WorldView) (item : Item) (stub : Stub) (v : Object) : Type 0 where
   pub numbers : AreNumbers z.iface.facts stub.told (length w.history) (object_from z.iface.facts (object_of z.iface.facts w.history) (held_replies w)) v
   pub named_live : (id : ℕ) → (named stub.names id ≡ 0) ⊎ (is_live (object_of z.iface.facts w.history).rows id ≡ true)
@@ -94,7 +94,7 @@ pub record IsReplayItem (facts : Facts) (stub : Stub) (id client : ℕ) (row : R
   pub shown : item.shown ≡ replayed_call facts row (is_none done) fun
   pub real : item.real ≡ named stub.names item.shown.desc
 
--- what the stubs tell behind the call
+-- what the stubs tell after the call
 abbrev pub replayed_stub : Stub → ℕ → Row → List ℕ → List ℕ → Good → Stub
 replayed_stub stub id row done rest good = record { names = names_after stub.names row done good; told = told_after stub.told id done rest; present = stub.present }
 
@@ -112,7 +112,7 @@ pub record IsLoadItem (client : ℕ) (key bytes : List ℕ) (item : Item) : Type
   pub tag : item.tag ≡ Load key client
   pub outcome : item.outcome ≡ load_outcome key bytes
 
--- what the stubs tell behind it
+-- what the stubs tell after it
 abbrev pub loaded_stub : Stub → List ℕ → Stub
 loaded_stub stub key = record { names = stub.names; told = stub.told; present = λ path. stub.present path || bytes_eq key path }
 

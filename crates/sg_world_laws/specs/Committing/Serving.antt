@@ -2,14 +2,14 @@
 use Rattle.std.specs.Prelude.{◌≡◌, ◌⊎◌, ◌++◌, ◌∷◌, List, [], Some, length}
 use Rattle.std.specs.List.{Contains}
 use Rattle.std.specs.declared.option.Option.{Option}
-use Rattle.sg_base.specs.declared.call.Call.{Call}
-use Rattle.sg_base.specs.declared.reply.Reply.{Reply}
+use Rattle.sg_facts.specs.sg_base.declared.call.Call.{Call}
+use Rattle.sg_facts.specs.sg_base.declared.reply.Reply.{Reply}
 use Rattle.sg_facts.specs.declared.entry.Entry.{Entry}
 use Rattle.sg_facts.specs.declared.outcome.Patch.{Patch}
 use Rattle.sg_facts.specs.declared.trace.Item.{Item}
 use Rattle.sg_facts.specs.Alike.{under_names}
 use Rattle.sg_facts.specs.Object.{Object, after}
-use Rattle.sg_hist.specs.Growing.{noted}
+use Rattle.sg_recovery_laws.specs.sg_hist.Growing.{noted}
 use Rattle.sg_seat.specs.WorldView.{WorldView, held_in, unanswered}
 use Rattle.sg_world_laws.specs.Keeping.{Stub}
 use Rattle.sg_world_laws.specs.Seats.{HaveSeats}
@@ -23,7 +23,7 @@ pub record IsServedCall (z : Setting) (w : WorldView) (stub : Stub) (v : Object)
   pub all : HasAll z w stub call
   pub replied : IsRepliedItem z w stub v call item reply other patch
 
--- the later world has a served call in its history, its item in the running boot, and what the service holds behind it; the same replies
+-- the later world has a served call in its history, its item in the running boot, and what the service holds after it; the same replies
 -- are held, and no other call that wasn't answered is left out
 pub record IsCommittedIn (z : Setting) (w : WorldView) (stub : Stub) (v : Object) (call : Call) (item : Item) (reply other : Reply) (later : WorldView) : Type 0 where
   pub history : later.history ≡ w.history ++ record { call = call; reply = reply } ∷ []

@@ -1,8 +1,8 @@
--- What the stubs tell behind an answered call.
+-- What the stubs tell after an answered call.
 use Rattle.std.specs.Prelude.{ℕ, ◌≡◌, ◌⊎◌, ◌<◌, ◌==◌, ◌&&◌, not, Bool, true, false, if◌then◌else◌, List}
-use Rattle.sg_base.specs.declared.call.Call.{Call}
-use Rattle.sg_base.specs.declared.reply.Reply.{Reply}
-use Rattle.sg_base.specs.declared.reply.Reply.TheVariants.{Ok, Refused}
+use Rattle.sg_facts.specs.sg_base.declared.call.Call.{Call}
+use Rattle.sg_facts.specs.sg_base.declared.reply.Reply.{Reply}
+use Rattle.sg_facts.specs.sg_base.declared.reply.Reply.TheVariants.{Ok, Refused}
 use Rattle.sg_facts.specs.declared.row.Row.{Row}
 use Rattle.sg_facts.specs.Alike.{named}
 use Rattle.sg_facts.specs.Facts.{Facts, fun_at}
@@ -10,10 +10,10 @@ use Rattle.sg_facts.specs.Object.{Object, after, patch_of}
 use Rattle.sg_facts.specs.Track.{is_live}
 use Rattle.sg_recovery_laws.specs.Midway.Progress.{complete, fresh}
 use Rattle.sg_recovery_laws.specs.Midway.Stepping.{present_with}
-use Rattle.sg_hist.specs.Reading.{desc_of}
+use Rattle.sg_recovery_laws.specs.sg_hist.Reading.{desc_of}
 use Rattle.sg_world_laws.specs.Keeping.{Stub}
 
--- ---- behind an answered call
+-- ---- after an answered call
 
 -- whether an answered call made an id
 abbrev pub makes_id : Facts → Call → Reply → ℕ → Bool
@@ -24,7 +24,7 @@ makes_id facts call (Refused code) id = false
 abbrev pub has_ended : List Row → List Row → ℕ → Bool
 has_ended before later id = is_live before id && not (is_live later id)
 
--- what stubs tell behind a call at an object that the service gave a reply to: what it made is whole, under the service's id; of what
+-- what stubs tell after a call at an object that the service gave a reply to: what it made is whole, under the service's id; of what
 -- it ended nothing is told; and the file that it wrote is present
 pub record TellsAfter (facts : Facts) (o : Object) (call : Call) (reply other : Reply) (stub later : Stub) : Type 0 where
   pub names : (id : ℕ) → named later.names id

@@ -4,7 +4,7 @@ use Rattle.sg_load.specs.Generated.{calls_of_client, clients_from}
 use Rattle.sg_load.specs.Sizes.{client_count}
 use Rattle.sg_load.proofs.Steps.{clients_more, clients_none}
 use Rattle.sg_load.proofs.script.clients.Goals as goal
-use Rattle.sg_script.specs.declared.script.ScriptCall.{ScriptCall}
+use Rattle.sg_plain.specs.sg_script.declared.script.ScriptCall.{ScriptCall}
 
 pub each-preserved : goal.each-preserved
 each-preserved c =

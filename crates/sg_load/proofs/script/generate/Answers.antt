@@ -1,12 +1,12 @@
 -- A generated script is played, and its stops ascend.
 use Rattle.std.proofs.Common.{sym, subst}
-use Rattle.sg_edge.specs.Stops.{AscendsAbove}
+use Rattle.sg_plain.specs.sg_edge.Stops.{AscendsAbove}
 use Rattle.sg_facts.specs.Laws.{whole}
 use Rattle.sg_load.specs.Services.{facts_by}
 use Rattle.sg_load.proofs.Playing.{generated_playable, generated_stops}
 use Rattle.sg_load.proofs.script.generate.Goals as goal
 use Rattle.sg_plain.specs.Playing.Playable.{IsPlayable}
-use Rattle.sg_script.specs.declared.script.Script.{Script}
+use Rattle.sg_plain.specs.sg_script.declared.script.Script.{Script}
 
 pub returns-clause-playable : goal.returns-clause-playable
 returns-clause-playable c =

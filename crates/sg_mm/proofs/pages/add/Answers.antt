@@ -3,7 +3,7 @@ use Rattle.std.proofs.Common.{◌≡◌, ℕ, ◌+◌, List, IsSome, refl, sym, 
 use Rattle.std.specs.declared.option.Option.{Option}
 use Rattle.std.specs.BTreeMap.Entry.{map_with_value}
 use Rattle.std.specs.declared.collections.btree_map.Entry.TheVariants.{Vacant}
-use Rattle.sg_base.specs.Stops.{asked_after}
+use Rattle.sg_facts.specs.sg_base.Stops.{asked_after}
 use Rattle.sg_facts.specs.Invoke.{Points}
 use Rattle.sg_slots.specs.Slots.{Held}
 use Rattle.sg_slots.proofs.Maps.{absent-above, insert-new}

@@ -1,4 +1,4 @@
--- A form comes behind the type.
+-- A form comes after the type.
 use Rattle.std.proofs.Common.{◌∙◌, ap}
 use Rattle.std.specs.Prelude.{None, Some}
 use Rattle.sg_parse.specs.declared.words.Sort.TheVariants.{Name}

@@ -54,13 +54,13 @@ pub data State : Type 0 where
   due : Piece → State → State
   -- a word of a sort, and then the state of it
   want : Sort → (Named → State) → State
-  -- in a type, behind its names so far: a further name, a star, or what follows the type
+  -- in a type, after its names so far: a further name, a star, or what follows the type
   names : List Named → Named → (List Named → Named → ℕ → State) → State
-  -- in a type, behind so many stars: a further star, or what follows the type
+  -- in a type, after so many stars: a further star, or what follows the type
   stars : List Named → Named → ℕ → (List Named → Named → ℕ → State) → State
   -- a form and then the state of it, or as the second state
   either : (Named → State) → State → State
-  -- behind a parameter: a comma and a further one, or the end of the parameters and then the state of them all
+  -- after a parameter: a comma and a further one, or the end of the parameters and then the state of them all
   listed : List Param → (List Param → State) → State
   -- before a statement or the end
   statements : Facts → List Statement → State
@@ -76,7 +76,7 @@ declared go front last n =
     then (if length front == 0 then dead else go (record { names = front; stars = 0 }) last)
     else want Name (λ n'. go (type_of front last n) n')
 
--- a parameter behind others
+-- a parameter after others
 abbrev pub with_param : (List Param → State) → List Param → TypeName → Option Named → Named → State
 with_param go params ty form n = listed (params ++ record { ty = ty; form = form; name = n } ∷ []) go
 
@@ -89,7 +89,7 @@ param_behind go params front last n =
 abbrev pub param : (List Param → State) → List Param → State
 param go params = want Name (λ first. names [] first (param_behind go params))
 
--- behind the word of a statement over one function
+-- after the word of a statement over one function
 abbrev pub one_rest : (Statement → State) → Named → State
 one_rest go w = due open_bracket (want Name (λ fun. due close_bracket (due semicolon (go (One w fun)))))
 
@@ -98,11 +98,11 @@ two_rest go w =
     due open_bracket (want Name (λ first. due comma (want Name (λ second.
     due close_bracket (due semicolon (go (Two w first second)))))))
 
--- behind the name of a function
+-- after the name of a function
 abbrev pub proto_rest : (Statement → State) → Ret → Named → State
 proto_rest go ret n = due open_bracket (param (λ params. due semicolon (go (Proto ret n params))) [])
 
--- behind the word of a return that sets a field
+-- after the word of a return that sets a field
 abbrev pub returned_behind : (Statement → State) → (TypeName → Named → Ret) → List Named → Named → ℕ → State
 returned_behind go make front last n =
     due comma (want Name (λ field. due close_bracket (want Name (λ n'.
@@ -111,11 +111,11 @@ returned_behind go make front last n =
 abbrev pub returned_rest : (Statement → State) → (TypeName → Named → Ret) → State
 returned_rest go make = due open_bracket (want Name (λ first. names [] first (returned_behind go make)))
 
--- behind the first name of a plain return
+-- after the first name of a plain return
 abbrev pub plain_rest : (Statement → State) → Named → State
 plain_rest go first = names [] first (declared (λ ty n. proto_rest go (Plain ty) n))
 
--- behind the first token of a statement
+-- after the first token of a statement
 abbrev pub statement_behind : (Statement → State) → Lexeme → Option State
 statement_behind go token =
     if has_sort one_word token then Some (one_rest go (named_by token))
@@ -133,7 +133,7 @@ with_statement facts before statement = statements facts (before ++ statement �
 abbrev pub fact : List ℕ → Sort → Piece → (Named → State) → State
 fact what sort end go = due (word what) (due equals (want sort (λ value. due end (go value))))
 
--- the states behind each fact of the head, from the last to the first
+-- the states after each fact of the head, from the last to the first
 abbrev pub head7 : (a b c d e f g : Named) → State
 head7 a b c d e f g = due semicolon (statements (record { service = a; parent = b; close = c; global = d; block = e; has_data = f; resc_data = g }) [])
 
@@ -161,7 +161,7 @@ start = due (word (codes "service_global_info")) (due equals (due open_brace (fa
 
 -- ---- steps
 
--- the state behind a token; None where the token may not come
+-- the state after a token; None where the token may not come
 unfoldable pub step : State → Lexeme → Option State
 step dead token = None
 step (due piece s) token = if fits piece token then Some s else None

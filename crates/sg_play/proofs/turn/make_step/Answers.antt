@@ -1,11 +1,11 @@
--- A step hands a reply over or nothing; behind its last reply a client leaves.
+-- A step hands a reply over or nothing; after its last reply a client leaves.
 use Rattle.std.proofs.Common.{[], Some, slice_set, ◌++◌, ◌-◌, ◌∷◌, ap, subst, sym}
-use Rattle.sg_hist.specs.Reading.{desc_of}
+use Rattle.sg_plain.specs.sg_hist.Reading.{desc_of}
 use Rattle.sg_plain.specs.Playing.Given.{given_in}
 use Rattle.sg_plain.specs.Playing.Plays.{IsPlaying}
 use Rattle.sg_world.specs.declared.did.Did.TheVariants.{Answered}
 use Rattle.sg_world.specs.Worlded.{setting_of}
-use Rattle.sg_world_laws.specs.Setting.{Setting}
+use Rattle.sg_world.specs.sg_world_laws.Setting.{Setting}
 use Rattle.sg_world.specs.Steps.{AnswersLast, HasStepped}
 use Rattle.sg_play.proofs.Turning.{stepped_handed, stepped_idle, plain_step, stepped_quiet}
 use Rattle.sg_play.proofs.turn.make_step.Goals as goal

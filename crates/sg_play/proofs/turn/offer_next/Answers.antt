@@ -3,14 +3,14 @@ use Rattle.std.proofs.Common.{List, cond, length, ◌+◌, ◌≡◌, Some, true
 use Rattle.std.specs.Option.{option_copied}
 use Rattle.sg_facts.specs.Facts.{fun_at}
 use Rattle.sg_facts.specs.declared.entry.Entry.{Entry}
-use Rattle.sg_hist.specs.Clients.{calls_of}
+use Rattle.sg_plain.specs.sg_hist.Clients.{calls_of}
 use Rattle.sg_plain.specs.Calls.{call_after, script_calls}
 use Rattle.sg_play.specs.Turning.{with_call, with_offer}
 use Rattle.sg_plain.specs.Playing.Callers.{is_setting_up}
 use Rattle.sg_plain.specs.Playing.Given.{GaveIds}
 use Rattle.sg_plain.specs.Playing.Plays.{IsPlaying}
 use Rattle.sg_plain.specs.Playing.Turns.{is_free_phase}
-use Rattle.sg_seat.specs.WorldView.{WorldView, seat_in}
+use Rattle.sg_plain.specs.sg_seat.WorldView.{WorldView, seat_in}
 use Rattle.sg_plain.specs.Script.{desc_among, values_of}
 use Rattle.sg_world.specs.Worlded.{Worlded}
 use Rattle.sg_play.proofs.Offering.{all_given, call_declared, call_fits_kinds, call_numbered, either_way, next, offered_playing, offered_setup, ok_so}

@@ -1,4 +1,4 @@
--- The first name, and then each behind a comma.
+-- The first name, and then each after a comma.
 use Rattle.std.proofs.Common.{◌++◌, codes, ◌∙◌, ap}
 use Rattle.std.specs.List.{flat_map}
 use Rattle.std.proofs.lemmas.List.{take_all}

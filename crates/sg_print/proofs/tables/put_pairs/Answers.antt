@@ -1,13 +1,13 @@
 -- Number by number.
 use Rattle.std.proofs.Common.{◌≡◌, arith}
 use Rattle.sg_facts.specs.Facts.{facts_of}
-use Rattle.sg_print.specs.TablesText.{pairs_behind}
+use Rattle.sg_print.specs.TablesText.{pairs_from}
 use Rattle.sg_print.proofs.Numbers.{all_stand, one_more}
 use Rattle.sg_print.proofs.tables.put_pairs.Goals as goal
 
 pub firsts-preserved : goal.firsts-preserved
 firsts-preserved c =
-    one_more (pairs_behind c.args.word.now (facts_of c.args.shape.now).funs c.args.pairs.now) c.args.out.now c.firsts.out c.put_pairs_behind.new.out c.firsts.first
+    one_more (pairs_from c.args.word.now (facts_of c.args.shape.now).funs c.args.pairs.now) c.args.out.now c.firsts.out c.put_pairs_behind.new.out c.firsts.first
     c.firsts.auto.first c.firsts.invariant c.in_ok-put_pairs_behind.ensures
 
 pub returns : goal.returns

@@ -1,5 +1,5 @@
 use Rattle.std.proofs.Common.{subst, sym, length}
-use Rattle.sg_base.specs.Lists.{Each}
+use Rattle.sg_facts.specs.sg_base.Lists.{Each}
 use Rattle.sg_facts.specs.Laws.{AnswersAndKeeps, CountsSlowly}
 use Rattle.sg_facts.specs.Object.{object_of}
 use Rattle.sg_recovery_laws.specs.LastItem.Asked.{IsClientsCall, IsComeTo}

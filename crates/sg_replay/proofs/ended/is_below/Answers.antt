@@ -2,7 +2,7 @@
 use Rattle.std.proofs.Common.{sym, ◌∙◌, ap, arith}
 use Rattle.std.specs.Prelude.{◌==◌}
 use Rattle.std.specs.List.{list_any}
-use Rattle.sg_track.proofs.Above.{from_parent, parent_below, up_from}
+use Rattle.sg_needs.proofs.sg_track.Above.{from_parent, parent_below, up_from}
 use Rattle.sg_replay.proofs.Committed.{one_higher}
 use Rattle.sg_replay.proofs.ended.is_below.Goals as goal
 

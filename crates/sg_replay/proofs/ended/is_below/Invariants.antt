@@ -3,7 +3,7 @@ use Rattle.std.proofs.Common.{◌≡◌}
 use Rattle.std.specs.Prelude.{◌==◌}
 use Rattle.std.specs.List.{list_any}
 use Rattle.sg_facts.specs.Track.{is_ancestor}
-use Rattle.sg_track.proofs.Above.{up_from}
+use Rattle.sg_needs.proofs.sg_track.Above.{up_from}
 use Rattle.sg_replay.proofs.ended.is_below.Given as goal
 
 abbrev pub invariant-up : goal.invariant-up

@@ -1,7 +1,7 @@
 -- What is done with a call is right.
 use Rattle.std.proofs.Common.{◌≡◌, ℕ, ◌≤◌, true, Some, List, refl, sym, ◌∙◌, ap, arith}
 use Rattle.std.specs.Option.{is_some}
-use Rattle.sg_base.specs.declared.value.Value.{Value}
+use Rattle.sg_facts.specs.sg_base.declared.value.Value.{Value}
 use Rattle.sg_slots.specs.declared.decision.Decision.{Decision}
 use Rattle.sg_slots.specs.declared.decision.Decision.TheVariants.{Remove}
 use Rattle.sg_slots.specs.Decide.{Decides}

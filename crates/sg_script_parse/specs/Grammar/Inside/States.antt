@@ -31,18 +31,18 @@ pub data ScriptState : Type 0 where
   want : (Spelling → ScriptState) → ScriptState
   -- an argument, and then the state of it
   argument : (WrittenArg → ScriptState) → ScriptState
-  -- behind `(`: arguments or none, `)`, and then the state of them
+  -- after `(`: arguments or none, `)`, and then the state of them
   bracketed : (List WrittenArg → ScriptState) → ScriptState
-  -- behind an argument: a comma and a further one, or `)` and then the state of them all
+  -- after an argument: a comma and a further one, or `)` and then the state of them all
   listed : List WrittenArg → (List WrittenArg → ScriptState) → ScriptState
-  -- behind `{` and calls: a further one, or `}` and then the state of them all
+  -- after `{` and calls: a further one, or `}` and then the state of them all
   body : List WrittenCall → (List WrittenCall → ScriptState) → ScriptState
-  -- behind numbers: a further one, or `;` and then the state of them all
+  -- after numbers: a further one, or `;` and then the state of them all
   counts : List Spelling → (List Spelling → ScriptState) → ScriptState
   -- before a part or the end
   script : List Part → ScriptState
 
--- behind the first token of an argument
+-- after the first token of an argument
 abbrev pub argument_behind : (WrittenArg → ScriptState) → Lexeme → Option ScriptState
 argument_behind k token =
     if is_this_mark dollar_byte token then Some (want (λ n. k (back_arg n)))
@@ -50,7 +50,7 @@ argument_behind k token =
     else (if has_kind Number token then Some (k (number_arg (spelt_by token)))
     else None))
 
--- behind a call's name
+-- after a call's name
 abbrev pub call_rest : (WrittenCall → ScriptState) → Spelling → ScriptState
 call_rest k name = due open_bracket_byte (bracketed (λ args. due semicolon_byte (k (record { name = name; args = args }))))
 
@@ -58,7 +58,7 @@ call_rest k name = due open_bracket_byte (bracketed (λ args. due semicolon_byte
 abbrev pub braced : (List WrittenCall → ScriptState) → ScriptState
 braced k = due open_brace_byte (body [] k)
 
--- behind the first word of a part
+-- after the first word of a part
 abbrev pub setup_rest : (Part → ScriptState) → ℕ → ScriptState
 setup_rest go at = braced (λ calls. go (Setup at calls))
 
@@ -71,7 +71,7 @@ schedule_rest go at = counts [] (λ numbers. go (Schedule at numbers))
 abbrev pub stop_rest : (Part → ScriptState) → ℕ → ScriptState
 stop_rest go at = counts [] (λ numbers. go (Stop at numbers))
 
--- behind the first token of a part
+-- after the first token of a part
 abbrev pub part_behind : (Part → ScriptState) → Lexeme → Option ScriptState
 part_behind go token =
     if is_fixed (codes "setup") token then Some (setup_rest go token.at)
@@ -90,7 +90,7 @@ script_start = script []
 
 -- ---- steps
 
--- the state behind a token; None where the token may not come
+-- the state after a token; None where the token may not come
 unfoldable pub step : ScriptState → Lexeme → Option ScriptState
 step dead token = None
 step (due byte s) token = if is_this_mark byte token then Some s else None

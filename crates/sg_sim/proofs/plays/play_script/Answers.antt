@@ -3,7 +3,7 @@ use Rattle.std.proofs.Common.{subst}
 use Rattle.std.specs.Result.{IfOk}
 use Rattle.sg_facts.specs.Tables.{Compiled}
 use Rattle.sg_facts.specs.Trace.{run_of}
-use Rattle.sg_script.specs.declared.script.Script.{Script}
+use Rattle.sg_play.specs.sg_script.declared.script.Script.{Script}
 use Rattle.sg_sim.specs.Played.{FollowsSchedule}
 use Rattle.sg_sim.proofs.plays.play_script.Goals as goal
 

@@ -4,14 +4,14 @@ use Rattle.std.specs.declared.option.Option.{Option}
 use Rattle.sg_facts.specs.Tables.{Compiled}
 use Rattle.sg_play.specs.Recovering.{RecoversSoFar}
 use Rattle.sg_play.specs.Turning.{StepsInTurn}
-use Rattle.sg_plain.specs.Playing.Given.{with_handed}
-use Rattle.sg_plain.specs.Playing.Plays.{IsPlaying}
+use Rattle.sg_play.specs.sg_plain.Playing.Given.{with_handed}
+use Rattle.sg_play.specs.sg_plain.Playing.Plays.{IsPlaying}
 use Rattle.sg_sim.proofs.Taking.{missed_offer, missed_step, on_err, taken}
 use Rattle.sg_sim.specs.Inside.Givens.{lists_of}
 use Rattle.sg_sim.specs.Inside.Taken.{MissesTurn, TakesTurn}
-use Rattle.sg_world.specs.Steps.{WantsMemory}
-use Rattle.sg_world.specs.Worlded.{setting_of}
-use Rattle.sg_world_laws.specs.Setting.{Setting}
+use Rattle.sg_play.specs.sg_world.Steps.{WantsMemory}
+use Rattle.sg_play.specs.sg_world.Worlded.{setting_of}
+use Rattle.sg_play.specs.sg_world_laws.Setting.{Setting}
 use Rattle.sg_sim.proofs.turn.take_turn.Goals as goal
 use Rattle.sg_sim.proofs.turn.take_turn.Goals.{in-Some, in_default}
 

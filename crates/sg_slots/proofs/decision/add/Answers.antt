@@ -2,7 +2,7 @@
 use Rattle.std.proofs.Common.{◌≡◌, ℕ, ◌+◌, IsSome, refl, sym, ◌∙◌, ap, subst, arith, rules}
 use Rattle.std.specs.BTreeMap.Entry.{map_with_value, entry_map_ref}
 use Rattle.std.specs.declared.collections.btree_map.Entry.TheVariants.{Vacant}
-use Rattle.sg_base.specs.Stops.{asked_after}
+use Rattle.sg_facts.specs.sg_base.Stops.{asked_after}
 use Rattle.sg_slots.specs.Slots.{AreIds}
 use Rattle.sg_slots.proofs.Ids.{wider, ids_more}
 use Rattle.sg_slots.proofs.Maps.{insert-new, absent-above}

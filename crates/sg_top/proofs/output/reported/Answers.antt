@@ -1,7 +1,7 @@
 -- The text is the report of the run under the interface.
 use Rattle.std.proofs.Common.{◌∙◌, ap}
 use Rattle.sg_facts.specs.Interface.{Declared}
-use Rattle.sg_hist.specs.declared.ended.Ended.{Ended}
+use Rattle.sg_report.specs.sg_hist.declared.ended.Ended.{Ended}
 use Rattle.sg_report.specs.Report.{report_of}
 use Rattle.sg_top.proofs.output.reported.Goals as goal
 

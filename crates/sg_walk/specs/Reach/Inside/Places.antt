@@ -49,7 +49,7 @@ pub record AreMarked (marks : List Bool) (places : List Place) : Type 0 where
 abbrev pub AddsOnce : List Place → List Place → Place → Type 0
 AddsOnce old new p = (Contains old p × (new ≡ old)) ⊎ ((Contains old p → ⊥) × (new ≡ old ++ p ∷ []))
 
--- places were added behind others: all that have a property, and no other
+-- places were added after others: all that have a property, and no other
 pub record AddsJust (P : Place → Type 0) (old new : List Place) : Type 0 where
   pub more : List Place
   pub behind : new ≡ old ++ more

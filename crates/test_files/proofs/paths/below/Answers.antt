@@ -2,7 +2,7 @@
 use Rattle.std.proofs.Common.{◌≡◌, true, rules, is_some}
 use Rattle.std.specs.Prelude.{◌==◌}
 use Rattle.sg_facts.specs.Track.{is_live}
-use Rattle.sg_slots.specs.Slots.{row_with}
+use Rattle.sg_ramfs.specs.sg_slots.Slots.{row_with}
 use Rattle.sg_ramfs.specs.RamfsObject.{ramfs_object}
 use Rattle.sg_ramfs.specs.RamfsRow.{file_body}
 use Rattle.test_files.proofs.Making.{behind, live_where_lent}

@@ -1,6 +1,6 @@
 -- The replies compute, and the other one doesn't.
 use Rattle.std.proofs.Common.{refl}
-use Rattle.sg_base.specs.declared.reply.Code.TheVariants.{NoParent}
+use Rattle.sg_facts.specs.sg_base.declared.reply.Code.TheVariants.{NoParent}
 use Rattle.sg_facts.specs.Laws.{whole}
 use Rattle.sg_mm.specs.MmFacts.{mm_facts}
 use Rattle.sg_mm.specs.MmTable.{mm_table}

@@ -1,7 +1,7 @@
 -- A page below one that is there may be asked for.
 use Rattle.std.proofs.Common.{◌≡◌, ◌<◌, true, not, sym, ◌∙◌, ap, subst, arith}
 use Rattle.sg_facts.specs.Kinds.{MayAsk}
-use Rattle.sg_slots.specs.Slots.{row_with}
+use Rattle.sg_mm.specs.sg_slots.Slots.{row_with}
 use Rattle.sg_mm.specs.MmFacts.{mm_facts}
 use Rattle.sg_mm.specs.MmObject.{mm_object}
 use Rattle.sg_mm.specs.MmRow.{page_body}

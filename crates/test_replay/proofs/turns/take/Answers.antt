@@ -1,6 +1,6 @@
 -- The first lock has its own id in the service, and is free.
 use Rattle.std.proofs.Common.{◌∙◌, ap}
-use Rattle.sg_name.specs.Names.{named_at}
+use Rattle.sg_replay.specs.sg_name.Names.{named_at}
 use Rattle.test_replay.proofs.OneLock.{may_serve_take}
 use Rattle.test_replay.proofs.turns.take.Goals as goal
 

@@ -2,7 +2,7 @@
 use Rattle.std.proofs.Common.{◌≡◌, true, sym, subst, rules}
 use Rattle.std.specs.Option.{option_copied, is_some}
 use Rattle.sg_facts.specs.Kinds.{MayAsk}
-use Rattle.sg_slots.specs.Slots.{row_with}
+use Rattle.sg_sched.specs.sg_slots.Slots.{row_with}
 use Rattle.sg_sched.specs.SchedFacts.{sched_facts}
 use Rattle.sg_sched.specs.SchedObject.{sched_object}
 use Rattle.sg_sched.specs.SchedRow.{thread_body}

@@ -1,6 +1,6 @@
 -- What was told to end goes, from the indexes too.
 use Rattle.std.proofs.Common.{◌≡◌, true, not, refl, sym, ◌∙◌, ap, subst, arith}
-use Rattle.sg_base.specs.Stops.{asked_after}
+use Rattle.sg_facts.specs.sg_base.Stops.{asked_after}
 use Rattle.sg_facts.specs.Track.{is_live}
 use Rattle.sg_slots.specs.Slots.{Held}
 use Rattle.sg_mm.specs.declared.page.Page.{Page}

@@ -1,6 +1,6 @@
 -- What is done with the pages is what the table says.
 use Rattle.std.proofs.Common.{◌≡◌, ℕ, true, None, Some, sym, subst}
-use Rattle.sg_base.specs.declared.call.Call.{Call}
+use Rattle.sg_facts.specs.sg_base.declared.call.Call.{Call}
 use Rattle.sg_facts.specs.declared.outcome.Outcome.{Outcome}
 use Rattle.sg_facts.specs.Facts.{fun_at}
 use Rattle.sg_facts.specs.Invoke.{Invokes, Points}

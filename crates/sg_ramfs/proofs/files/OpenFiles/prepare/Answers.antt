@@ -1,4 +1,4 @@
--- The index has the place behind the last file.
+-- The index has the place after the last file.
 use Rattle.std.proofs.Common.{◌≡◌, length, Some, arith, sym, ◌∙◌, ap, subst}
 use Rattle.std.specs.BTreeMap.{UpdatesBy}
 use Rattle.std.specs.Cmp.Lexicographic.{slice_cmp}

@@ -1,7 +1,7 @@
 -- The engine is one call further in a walk, or its service has stopped.
 use Rattle.std.proofs.Common.{◌≡◌, ℕ, ◌≤◌, cond, None, Some, refl, sym, ◌∙◌, ap, subst, option_copied}
 use Rattle.std.specs.Prelude.{◌==◌}
-use Rattle.sg_base.specs.declared.reply.Reply.TheVariants.{Ok}
+use Rattle.sg_facts.specs.sg_base.declared.reply.Reply.TheVariants.{Ok}
 use Rattle.sg_facts.specs.Invoke.{Points}
 use Rattle.sg_facts.specs.Object.{after}
 use Rattle.sg_facts.specs.Track.{row_at}

@@ -1,7 +1,7 @@
 -- The client's list has one more.
 use Rattle.std.proofs.Common.{[], ℕ, List, length, ◌≤◌, ◌<◌, ◌-◌, ◌+◌, ◌++◌, ◌∷◌, ◌∙◌, ap, arith, slice_set}
-use Rattle.sg_base.specs.Room.{Roomy}
-use Rattle.sg_plain.specs.Playing.Given.{given_in}
+use Rattle.sg_facts.specs.sg_base.Room.{Roomy}
+use Rattle.sg_play.specs.sg_plain.Playing.Given.{given_in}
 use Rattle.sg_sim.proofs.Lists.{added}
 use Rattle.sg_sim.specs.Inside.Givens.{lists_of}
 use Rattle.sg_sim.proofs.given.Given.add.Goals as goal

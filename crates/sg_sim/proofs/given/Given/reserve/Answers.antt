@@ -1,6 +1,6 @@
 -- The lists stay.
 use Rattle.std.proofs.Common.{ℕ, ◌-◌, ◌∙◌, ap}
-use Rattle.sg_base.specs.Room.{Roomy}
+use Rattle.sg_facts.specs.sg_base.Room.{Roomy}
 use Rattle.sg_sim.proofs.Lists.{reserved}
 use Rattle.sg_sim.specs.Inside.Givens.{lists_of}
 use Rattle.sg_sim.proofs.given.Given.reserve.Goals as goal

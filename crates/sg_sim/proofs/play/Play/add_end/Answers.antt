@@ -1,8 +1,8 @@
 -- A client with a call has its end.
 use Rattle.std.proofs.Common.{◌≡◌, ◌∙◌, ◌∷◌, ◌++◌, [], true, false, cond, not, ap, sym, subst, append-nil}
-use Rattle.sg_plain.specs.Playing.Ends.{end_of, has_calls}
-use Rattle.sg_seat.specs.WorldView.{seat_of}
-use Rattle.sg_plain.specs.Calls.{script_calls}
+use Rattle.sg_play.specs.sg_plain.Playing.Ends.{end_of, has_calls}
+use Rattle.sg_play.specs.sg_seat.WorldView.{seat_of}
+use Rattle.sg_play.specs.sg_plain.Calls.{script_calls}
 use Rattle.sg_sim.proofs.Calls.{some_first}
 use Rattle.sg_sim.specs.Inside.Ends.{end_by}
 use Rattle.sg_sim.specs.Playing.{Playing}

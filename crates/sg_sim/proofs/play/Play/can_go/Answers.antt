@@ -1,13 +1,13 @@
 -- A client may take a turn in a play where it may in the play without stops, and a client of the play can step there.
 use Rattle.std.proofs.Common.{◌≡◌, ◌∙◌, ap, sym, subst}
 use Rattle.sg_play.proofs.Following.Turns.{turns_alike, turns_beyond}
-use Rattle.sg_plain.specs.Playing.Turns.{may_go, may_take_turn}
-use Rattle.sg_seat.specs.WorldView.{seat_of}
+use Rattle.sg_play.specs.sg_plain.Playing.Turns.{may_go, may_take_turn}
+use Rattle.sg_play.specs.sg_seat.WorldView.{seat_of}
 use Rattle.sg_sim.proofs.AnyTurn.{can_not, can_so}
 use Rattle.sg_sim.specs.Inside.Givens.{lists_of}
 use Rattle.sg_sim.specs.Inside.Keeps.{KeepsPlay}
 use Rattle.sg_sim.specs.Playing.{Playing}
-use Rattle.sg_world.specs.Worlded.{setting_of}
+use Rattle.sg_play.specs.sg_world.Worlded.{setting_of}
 use Rattle.sg_sim.proofs.play.Play.can_go.Goals as goal
 
 pub returns-then-not-has-clause-can : goal.returns-then-not-has-clause-can

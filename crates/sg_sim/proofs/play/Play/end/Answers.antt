@@ -1,18 +1,18 @@
 -- What the play came to.
 use Rattle.std.proofs.Common.{◌≡◌, ◌∙◌, ◌≤◌, ℕ, true, false, ap, sym, subst, arith}
 use Rattle.sg_facts.specs.Trace.{run_of}
-use Rattle.sg_hist.specs.declared.ended.Ended.{Ended}
-use Rattle.sg_plain.specs.Playing.Callers.{is_setting_up}
-use Rattle.sg_plain.specs.Playing.Ends.{ends_from}
-use Rattle.sg_plain.specs.Playing.Turns.{NobodyGoes}
+use Rattle.sg_play.specs.sg_hist.declared.ended.Ended.{Ended}
+use Rattle.sg_play.specs.sg_plain.Playing.Callers.{is_setting_up}
+use Rattle.sg_play.specs.sg_plain.Playing.Ends.{ends_from}
+use Rattle.sg_play.specs.sg_plain.Playing.Turns.{NobodyGoes}
 use Rattle.sg_sim.proofs.Calls.{at_zero}
 use Rattle.sg_sim.proofs.Ending.{follows_plain, played}
 use Rattle.sg_sim.specs.Played.{FollowsSchedule, IsPlayed}
-use Rattle.sg_world_laws.specs.Setting.{Setting, stubs_of}
+use Rattle.sg_play.specs.sg_world_laws.Setting.{Setting, stubs_of}
 use Rattle.sg_sim.specs.Inside.Givens.{lists_of}
 use Rattle.sg_sim.specs.Inside.Keeps.{KeepsPlay}
 use Rattle.sg_sim.specs.Playing.{Playing}
-use Rattle.sg_world.specs.Worlded.{setting_of}
+use Rattle.sg_play.specs.sg_world.Worlded.{setting_of}
 use Rattle.sg_sim.proofs.play.Play.end.Goals as goal
 
 pub returns-clause-played : goal.returns-clause-played

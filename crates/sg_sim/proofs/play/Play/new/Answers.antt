@@ -2,15 +2,15 @@
 use Rattle.std.proofs.Common.{◌≡◌, ◌∙◌, ◌≤◌, true, [], replicate, ap, sym, subst}
 use Rattle.sg_facts.specs.Limits.{last_client}
 use Rattle.sg_facts.specs.Tables.{Compiled}
-use Rattle.sg_plain.specs.Calls.{most_client}
-use Rattle.sg_seat.specs.WorldView.{new_world, no_seat}
+use Rattle.sg_play.specs.sg_plain.Calls.{most_client}
+use Rattle.sg_play.specs.sg_seat.WorldView.{new_world, no_seat}
 use Rattle.sg_sim.proofs.Beginning.{few_clients}
 use Rattle.sg_sim.proofs.Keeping.{kept_new}
 use Rattle.sg_sim.specs.Inside.Givens.{lists_of}
 use Rattle.sg_sim.specs.Inside.Keeps.{KeepsPlay}
 use Rattle.sg_sim.specs.Playing.{Playing}
-use Rattle.sg_world.specs.Worlded.{setting_of}
-use Rattle.sg_world_laws.specs.Setting.{Setting}
+use Rattle.sg_play.specs.sg_world.Worlded.{setting_of}
+use Rattle.sg_play.specs.sg_world_laws.Setting.{Setting}
 use Rattle.sg_sim.proofs.play.Play.new.Goals as goal
 
 pub new-requires-2-clause-few : goal.new-requires-2-clause-few

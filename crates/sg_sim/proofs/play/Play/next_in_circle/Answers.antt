@@ -1,4 +1,4 @@
--- The next behind the client of the last turn, and then from 1 on.
+-- The next after the client of the last turn, and then from 1 on.
 use Rattle.std.proofs.Common.{ℕ, ◌≡◌, ◌∙◌, length, ap, subst, sym}
 use Rattle.sg_play.specs.Following.Stages.{IsNextTurn}
 use Rattle.sg_sim.proofs.Turning.{from_around, from_behind, nobody}
@@ -6,7 +6,7 @@ use Rattle.sg_sim.specs.Inside.Next.{IsFirstBehind, NoneBehind, stage_now}
 use Rattle.sg_sim.specs.Inside.Givens.{lists_of}
 use Rattle.sg_sim.specs.Inside.Keeps.{KeepsPlay}
 use Rattle.sg_sim.specs.Playing.{Playing}
-use Rattle.sg_world.specs.Worlded.{setting_of}
+use Rattle.sg_play.specs.sg_world.Worlded.{setting_of}
 use Rattle.sg_sim.proofs.play.Play.next_in_circle.Goals as goal
 
 pub returns-in-Some-clause-next : goal.returns-in-Some-clause-next

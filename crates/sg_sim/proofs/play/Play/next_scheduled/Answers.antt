@@ -6,7 +6,7 @@ use Rattle.sg_sim.proofs.Turning.{from_schedule, more_scheduled}
 use Rattle.sg_sim.specs.Inside.Givens.{lists_of}
 use Rattle.sg_sim.specs.Inside.Keeps.{KeepsPlay}
 use Rattle.sg_sim.specs.Playing.{Playing}
-use Rattle.sg_world.specs.Worlded.{setting_of}
+use Rattle.sg_play.specs.sg_world.Worlded.{setting_of}
 use Rattle.sg_sim.proofs.play.Play.next_scheduled.Goals as goal
 
 pub returns-then-can_go-clause-next : goal.returns-then-can_go-clause-next

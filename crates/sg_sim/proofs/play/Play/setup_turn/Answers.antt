@@ -7,7 +7,7 @@ use Rattle.sg_sim.specs.Inside.Next.{stage_now}
 use Rattle.sg_sim.specs.Inside.Givens.{lists_of}
 use Rattle.sg_sim.specs.Inside.Keeps.{KeepsPlay}
 use Rattle.sg_sim.specs.Playing.{Playing}
-use Rattle.sg_world.specs.Worlded.{setting_of}
+use Rattle.sg_play.specs.sg_world.Worlded.{setting_of}
 use Rattle.sg_sim.proofs.play.Play.setup_turn.Goals as goal
 
 pub returns-clause-last : goal.returns-clause-last

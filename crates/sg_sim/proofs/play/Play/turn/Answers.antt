@@ -3,15 +3,15 @@ use Rattle.std.proofs.Common.{true, false, length, ◌≡◌, ◌∙◌, ◌≤�
 use Rattle.std.specs.Prelude.{◌&&◌, nat_le}
 use Rattle.sg_facts.specs.Tables.{Compiled}
 use Rattle.sg_play.specs.Turning.{StepsInTurn, with_offer}
-use Rattle.sg_plain.specs.Playing.Callers.{is_setting_up}
+use Rattle.sg_play.specs.sg_plain.Playing.Callers.{is_setting_up}
 use Rattle.sg_sim.proofs.AnyTurn.{can_again, can_first, can_last, clients_missed, clients_taken, settled_missed, settled_taken}
 use Rattle.sg_sim.proofs.Keeping.{kept_aside, kept_miss, kept_turn}
 use Rattle.sg_sim.proofs.Taking.{on_err}
 use Rattle.sg_sim.specs.Inside.Givens.{lists_of}
 use Rattle.sg_sim.specs.Inside.Keeps.{KeepsPlay}
 use Rattle.sg_sim.specs.Playing.{Playing, can_step}
-use Rattle.sg_world.specs.Worlded.{setting_of}
-use Rattle.sg_world_laws.specs.Setting.{Setting}
+use Rattle.sg_play.specs.sg_world.Worlded.{setting_of}
+use Rattle.sg_play.specs.sg_world_laws.Setting.{Setting}
 use Rattle.sg_sim.proofs.play.Play.turn.Goals as goal
 
 pub take_turn-requires-clause-first : goal.take_turn-requires-clause-first

@@ -1,7 +1,7 @@
 -- What is left when a row ends.
 use Rattle.std.proofs.Common.{◌≡◌, ◌∙◌, ap, subst, sym, arith, false, not, filter}
 use Rattle.std.specs.Map.{values_of}
-use Rattle.sg_base.specs.Lists.{Each}
+use Rattle.sg_facts.specs.sg_base.Lists.{Each}
 use Rattle.sg_facts.specs.Track.{is_ancestor}
 use Rattle.sg_track.specs.Kept.{ends_below, others_of, rows_in, rows_of}
 use Rattle.sg_track.specs.Tracked.{AreTracked, left_rows}

@@ -1,14 +1,14 @@
 -- The parts stay in order where the engine does one step more of what a call needs, and it is the line of the step.
 use Rattle.std.proofs.Common.{Ok, Some, ap, length, refl, subst, sym, ℕ, ◌∙◌, ◌≡◌, ◌≤◌}
 use Rattle.std.specs.declared.result.Result.{Result}
-use Rattle.sg_base.specs.Stops.{asked_after}
-use Rattle.sg_base.specs.declared.memory.NoMemory.{NoMemory}
+use Rattle.sg_facts.specs.sg_base.Stops.{asked_after}
+use Rattle.sg_facts.specs.sg_base.declared.memory.NoMemory.{NoMemory}
 use Rattle.sg_world.specs.Engines.Engines.{as_shown}
 use Rattle.sg_facts.specs.Invoke.{Points}
 use Rattle.sg_facts.specs.Object.{Object}
 use Rattle.sg_replay.specs.declared.advance.Advanced.{Advanced}
 use Rattle.sg_replay.specs.declared.advance.Advanced.TheVariants.{Loaded, Replayed, Struck}
-use Rattle.sg_seat.specs.WorldView.{WorldView, seat_of, with_points}
+use Rattle.sg_world_laws.specs.sg_seat.WorldView.{WorldView, seat_of, with_points}
 use Rattle.sg_world.specs.Due.{needs_in}
 use Rattle.sg_world.specs.Inners.{IsInOrder, rooms_in, view_in}
 use Rattle.sg_world.specs.Steps.{Steps}

@@ -1,8 +1,8 @@
 -- A call that the guard lets pass boots a service that failed, and else uses it.
 use Rattle.std.proofs.Common.{◌≡◌, ◌∙◌, ap, if◌then◌else◌, inl, inr, subst, sym}
 use Rattle.std.specs.Prelude.{IfOk, IsSome}
-use Rattle.sg_base.specs.Stops.{asked_after}
-use Rattle.sg_seat.specs.WorldView.{WorldView, struck_at, with_points}
+use Rattle.sg_facts.specs.sg_base.Stops.{asked_after}
+use Rattle.sg_world_laws.specs.sg_seat.WorldView.{WorldView, struck_at, with_points}
 use Rattle.sg_world.specs.Inners.{view_in}
 use Rattle.sg_world.specs.Inside.Lines.{NoMemoryLeft}
 use Rattle.sg_world.specs.Steps.{StopsIdle, Steps}

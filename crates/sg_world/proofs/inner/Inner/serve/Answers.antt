@@ -1,14 +1,14 @@
 -- The parts stay in order where a call reaches the service.
 use Rattle.std.proofs.Common.{ap, inl, inr, subst, sym, ◌∙◌, ◌≡◌, ℕ}
-use Rattle.sg_base.specs.Stops.{asked_after}
-use Rattle.sg_base.specs.declared.call.Call.{Call}
+use Rattle.sg_facts.specs.sg_base.Stops.{asked_after}
+use Rattle.sg_facts.specs.sg_base.declared.call.Call.{Call}
 use Rattle.sg_facts.specs.Facts.{Facts}
 use Rattle.sg_facts.specs.Invoke.{FitsRoom, Points}
 use Rattle.sg_facts.specs.Tables.{Compiled}
 use Rattle.sg_facts.specs.declared.outcome.Outcome.{Outcome}
 use Rattle.sg_facts.specs.declared.outcome.Outcome.TheVariants.{Replied}
 use Rattle.sg_replay.specs.Serving.{ServesOne}
-use Rattle.sg_seat.specs.WorldView.{WorldView, seat_in, with_points}
+use Rattle.sg_world_laws.specs.sg_seat.WorldView.{WorldView, seat_in, with_points}
 use Rattle.sg_world.specs.Inners.{view_in}
 use Rattle.sg_world.specs.Inside.Served.{HasServed, view_with}
 use Rattle.sg_world.specs.Steps.{Steps}

@@ -1,8 +1,8 @@
 -- The parts stay in order where the service is asked at a point, and stops there or not.
 use Rattle.std.proofs.Common.{length, true, ◌≤◌, ap, sym, subst, ◌∙◌}
-use Rattle.sg_base.specs.Stops.{struck_after}
-use Rattle.sg_hist.specs.Recovered.{struck_in}
-use Rattle.sg_seat.specs.WorldView.{WorldView}
+use Rattle.sg_facts.specs.sg_base.Stops.{struck_after}
+use Rattle.sg_replay.specs.sg_hist.Recovered.{struck_in}
+use Rattle.sg_world_laws.specs.sg_seat.WorldView.{WorldView}
 use Rattle.sg_world.specs.Inners.{rooms_in, view_in}
 use Rattle.sg_world.specs.Worlded.{IsWorld, Rooms, setting_of, view_of}
 use Rattle.sg_world.proofs.Points.{counted_on, not_stopped_up, stopped_on, stops_struck}

@@ -1,7 +1,7 @@
 -- A new world keeps what worlds keep.
 use Rattle.std.proofs.Common.{sym, ◌∙◌, ap, subst, arith, length}
 use Rattle.sg_facts.specs.Tables.{AreTables}
-use Rattle.sg_recovery_laws.specs.Objects.Serving.{IsService}
+use Rattle.sg_world_laws.specs.sg_recovery_laws.Objects.Serving.{IsService}
 use Rattle.sg_world_laws.specs.Setting.{IsSetting}
 use Rattle.sg_world.specs.Worlded.{Rooms, setting_of}
 use Rattle.sg_world.proofs.Starting.{IsNewEngine, as_many, is_setting, new_counted, new_is_world_of, new_points}

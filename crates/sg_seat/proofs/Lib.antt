@@ -1,0 +1,1 @@
+pub use Rattle.sg_hist.proofs as sg_hist
