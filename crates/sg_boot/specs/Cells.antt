@@ -8,8 +8,8 @@ use Rattle.sg_hist.specs.Reading.{value_at}
 use Rattle.sg_hist.specs.Recovered.{ends_stopped}
 use Rattle.sg_hist.specs.Growing.{last_items, last_stop}
 
--- what contracts see of a cell: what the running service holds, None for one that failed; what was done; and for how many items
--- and boots more there is room
+-- what contracts see of a cell: what the running service holds, None for one that failed; the trace of what was done to it; and
+-- how many items and boots more can be noted without memory
 pub record Celled : Type 0 where
   pub running : Option Object
   pub run : Run

@@ -1,2 +1,3 @@
 pub mod Inside
 pub mod Rooms
+pub use Rattle.sg_seat.specs as sg_seat

@@ -13,3 +13,4 @@ mod under_way;
 
 pub use clients::Clients;
 pub use seat::Returned;
+pub use sg_seat::{Mark, MarkKind, Phase, Withdrawn};

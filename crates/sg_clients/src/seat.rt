@@ -6,14 +6,16 @@ ghost use Rattle.sg_facts.specs.Limits.{last_client};
 ghost use Rattle.sg_seat.specs.WorldView.{is_at_rest, is_blocked_phase, is_left_phase, is_offered, no_reply, no_seat, woken_seat};
 ghost use Rattle.sg_seat.specs.declared.phase.Phase.TheVariants.{Idle, Asked, Held, Receipted, Blocked, Left};
 
-use sg_facts::{Args, Bytes, Call, Entry, Good, NoMemory, Reply, ReplyRoom, TryCopy, Words};
+use sg_facts::{
+    Args, Bytes, Call, Entry, Good, LAST_CLIENT, NoMemory, Reply, ReplyRoom, TryCopy, Words,
+};
 use sg_seat::Phase;
 use std::alloc::Global;
 use std::marker::Model;
 use std::mem;
 
 /// The greatest number of clients.
-const MOST_CLIENTS: usize = 64;
+const MOST_CLIENTS: usize = LAST_CLIENT as usize;
 
 /// Memory that was taken when a call was offered: a copy of the call for its entry or its withdrawal, room for the entry's reply, for
 /// the reply that is handed over, and for the phases at a withdrawal.

@@ -1,2 +1,3 @@
+-- That a script without a flaw may be played.
 pub mod Flawless
 mod Parts

@@ -1,3 +1,4 @@
+-- That each turn keeps it.
 pub mod Calling
 pub mod Ending
 pub mod Giving

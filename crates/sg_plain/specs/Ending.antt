@@ -1,1 +1,2 @@
+-- A play that came to its end.
 pub mod Left

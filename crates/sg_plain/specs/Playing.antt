@@ -1,3 +1,4 @@
+-- What a play keeps while it goes on.
 pub mod Callers
 pub mod Ends
 pub mod Given

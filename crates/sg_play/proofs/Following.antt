@@ -1,3 +1,4 @@
+-- That a play follows the play without stops until the service stops.
 pub mod Created
 pub mod Following
 pub mod Fronts

@@ -1,3 +1,4 @@
+-- That who waits is woken before it waits again.
 pub mod Between
 pub mod Boots
 pub mod Calls

@@ -1,1 +1,2 @@
+-- Who waits, and is woken.
 pub mod Waking

@@ -4,7 +4,8 @@
 //! - `calls`: what a script's call comes to, by the descriptors that its client's earlier calls were given
 //! - `parts`: the calls of a client, found by halving (`script_call`, `most_client`)
 //!
-//! `sg_plain` says which calls a client makes, and `sg_play_laws` what a play keeps while it goes on.
+//! `sg_plain` says which calls a client makes, and what a play keeps while it goes on. Of plays over a world the room `Following` shows
+//! that a play follows the play without stops until the service stops, and the room `Waking` that who waits is woken.
 #![tactic(auto)]
 
 mod calls;

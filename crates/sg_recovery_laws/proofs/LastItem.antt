@@ -1,3 +1,4 @@
+-- That a run's last item has what it owes.
 pub mod Behind
 pub mod Making
 pub mod Noting

@@ -1,3 +1,4 @@
+-- What a service in the middle of a recovery answers.
 pub mod Back
 pub mod Dropped
 pub mod Glue

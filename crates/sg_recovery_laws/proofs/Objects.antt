@@ -1,3 +1,4 @@
+-- What calls do to objects, and in which orders they may come.
 pub mod Above
 pub mod Answered
 pub mod Apart

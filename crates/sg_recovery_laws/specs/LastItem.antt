@@ -1,3 +1,4 @@
+-- What a run's last item owes.
 pub mod Asked
 pub mod LastPlace
 pub mod Told

@@ -1,3 +1,4 @@
+-- Words for what calls do to objects.
 pub mod Apart
 pub mod Serving
 pub mod Waiting

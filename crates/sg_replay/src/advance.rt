@@ -160,19 +160,15 @@ fn walk_call(
     ensures last { IfOk result (λ p. p.1 ≡ walk_length tables.now.walks (option_copied row.entry)) }
     ensures short { IfOk result (λ p. (k ≤ p.1) × (p.1 ≤ most_calls)) }
 {
-    match row {
-        Some(row) => match walk_of_row(tables, row) {
-            Some(walk) => match walk.get(usize::from(k) - 1) {
-                Some(fun) => {
-                    let shown = replayed_call(alloc, tables.interface(), row, k == 1, *fun)?;
-                    Ok((shown, walk.as_slice().len() as u8))
-                }
-                None => unreachable!(),
-            },
-            None => unreachable!(),
-        },
-        None => unreachable!(),
-    }
+    let Some(row) = row else { unreachable!() };
+    let Some(walk) = walk_of_row(tables, row) else {
+        unreachable!()
+    };
+    let Some(fun) = walk.get(usize::from(k) - 1) else {
+        unreachable!()
+    };
+    let shown = replayed_call(alloc, tables.interface(), row, k == 1, *fun)?;
+    Ok((shown, walk.as_slice().len() as u8))
 }
 
 // What stands for an id after a call of its walk: its first call gives its service id, its last makes it whole.

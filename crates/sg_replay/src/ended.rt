@@ -74,6 +74,7 @@ fn is_ended(rows: &Tracker, gone: u64, id: u64) -> bool
 fn is_below(rows: &Tracker, above: u64, id: u64) -> bool
     ensures { result ≡ is_ancestor rows.now.rows above id }
 {
+    // Nothing is done: the proof takes what this call promises.
     let _tracked = rows.live();
     let mut parent = parent_of(rows, id);
     'up: while parent != 0 {

@@ -6,7 +6,11 @@ ghost use Rattle.sg_script.specs.Numbers.{is_known_client};
 ghost use Rattle.sg_script.specs.Inside.Fronts.{IsFront};
 
 use crate::numbers::{counts_as, is_known_client};
+use sg_facts::LAST_CLIENT;
 use sg_script_parse::Part;
+
+// A place for each number up to that of the last client.
+const CLIENT_PLACES: usize = LAST_CLIENT as usize + 1;
 
 /// What is kept of the parts of a script that were judged.
 #[derive(Drop)]
@@ -14,7 +18,7 @@ pub struct SeenParts {
     /// Whether there was a `setup`.
     pub setup: bool,
     /// Which clients had a part, by their numbers up to the last.
-    pub clients: [bool; 65],
+    pub clients: [bool; CLIENT_PLACES],
     /// Whether there was a `schedule`.
     pub schedule: bool,
     /// Whether there was a `stop`.
@@ -31,7 +35,7 @@ impl SeenParts {
     {
         SeenParts {
             setup: false,
-            clients: [false; 65],
+            clients: [false; CLIENT_PLACES],
             schedule: false,
             stop: false,
             calls: 0,
@@ -81,7 +85,7 @@ impl SeenParts {
     fn add_client(&mut self, number: u64)
         ensures { self.new ≡ record self.old { clients = slice_set self.old.clients number true } }
     {
-        if number <= 64 {
+        if number <= u64::from(LAST_CLIENT) {
             self.clients[number as usize] = true;
         }
     }

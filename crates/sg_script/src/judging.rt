@@ -16,11 +16,13 @@ use crate::numbers::{counts_as, is_above, is_known_client, is_text, unquoted};
 use sg_facts::{Interface, Kind};
 use sg_script_parse::{Part, Spelled, WrittenArg, WrittenCall};
 
-// The number of the first call that is one too many.
-const TOO_MANY_CALLS: u128 = 65_537;
+// The greatest number of calls of a script, and the number of the first that is one too many.
+const MOST_CALLS: u128 = 65_536;
+const TOO_MANY_CALLS: u128 = MOST_CALLS + 1;
 
-// The number of the first stop that is one too many.
-const TOO_MANY_STOPS: usize = 65;
+// The greatest number of stops of a script, and the number of the first that is one too many.
+const MOST_STOPS: usize = 64;
+const TOO_MANY_STOPS: usize = MOST_STOPS + 1;
 
 // ---- numbers and texts
 

@@ -362,6 +362,7 @@ impl<S: Service, T: Stops> Play<S, T> {
         if self.world.refused() > 0 {
             return Err(NoMemory);
         }
+        // Nothing is done: the proof takes what this call promises.
         let _ = self.world.interface();
         Ok(Played::new(Ended {
             history: self.world.history().copied(alloc)?,

@@ -41,7 +41,7 @@ pub fn take_turn<S: Service, T: Stops>(
     Ok(handed)
 }
 
-// What a world tells of itself. Nothing is done.
+// What a world keeps, for the proof: nothing is done, and it takes what these calls promise.
 fn tell<S: Service, T: Stops>(world: &World<S, T>)
     ensures { RecoversSoFar (setting_of S.ask S.sound S.parts world.now.tables) world.now.view }
 {

@@ -109,6 +109,7 @@ fn count_id(tracker: &mut Tracker, interface: &Interface, call: &Call, reply: &R
 {
     match reply {
         Reply::Ok(good) => {
+            // Nothing is done: the proof takes what is known of this value.
             let _next = good.desc;
             if interface.fun(call.fun).is_creation() {
                 tracker.skip();

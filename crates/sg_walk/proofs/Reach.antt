@@ -1,3 +1,4 @@
+-- That all that descriptors can come to is found, each once.
 pub mod Marks
 pub mod Adding
 pub mod Leading

@@ -1,3 +1,4 @@
+-- What descriptors can come to.
 pub mod Inside
 pub mod Limits
 pub mod Triples

@@ -78,6 +78,7 @@ fn search_each(
     ensures none { IfOk result (λ found. IfNone found (LeadsNowhere sought.now.iface.now (shown sought.now.iface.now spot) sought.now.goal left)) }
 {
     let iface = sought.iface;
+    // Nothing is done: the proof takes what is known of this value.
     let _declared = iface.declared;
     'funs: for fun in 1..MOST_FUNS + 1 {
         if let Some(found) = search_by(sought, ends, spot, walk, left, fun)? {

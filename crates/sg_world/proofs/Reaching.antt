@@ -25,8 +25,8 @@ use Rattle.sg_replay.specs.sg_hist.Growing.{IsNextItem, last_items, noted, place
 use Rattle.sg_replay.specs.Engined.{Engined}
 use Rattle.sg_replay.specs.Missing.{missing}
 use Rattle.sg_replay.specs.Serving.{real_call}
-use Rattle.sg_world_laws.specs.sg_seat.WorldView.{Seat, WorldView, is_held_phase, is_offered, seat_of, unanswered, with_points}
-use Rattle.sg_world_laws.specs.sg_seat.declared.phase.Phase.TheVariants.{Blocked}
+use Rattle.sg_clients.specs.sg_seat.WorldView.{Seat, WorldView, is_held_phase, is_offered, seat_of, unanswered, with_points}
+use Rattle.sg_clients.specs.sg_seat.declared.phase.Phase.TheVariants.{Blocked}
 use Rattle.sg_world.proofs.Missing.{due_is}
 use Rattle.sg_world.proofs.Moving.{rooms_moved, told_moved}
 use Rattle.sg_world.proofs.Points.{not_stopped, stops_noted, stops_struck}

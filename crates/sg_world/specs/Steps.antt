@@ -19,8 +19,8 @@ use Rattle.sg_replay.specs.sg_hist.Reading.{after_item}
 use Rattle.sg_replay.specs.sg_hist.Recovered.{IsPointOf, answer_to, is_replied, is_stopped}
 use Rattle.sg_replay.specs.sg_hist.Growing.{IsNextItem, last_items, place_after}
 use Rattle.sg_replay.specs.declared.todo.Todo.TheVariants.{Load as ToLoad, Walk as ToWalk}
-use Rattle.sg_world_laws.specs.sg_seat.WorldView.{Seat, WorldView, answered_to, boot_number, committed, given_to, happened, in_phase, item_noted, rebooted, reply_handed_over, seat_of, service_is, struck_at, unanswered, with_points, with_seat}
-use Rattle.sg_world_laws.specs.sg_seat.declared.phase.Phase.TheVariants.{Asked, Blocked, Held, Idle, Left, Receipted}
+use Rattle.sg_clients.specs.sg_seat.WorldView.{Seat, WorldView, answered_to, boot_number, committed, given_to, happened, in_phase, item_noted, rebooted, reply_handed_over, seat_of, service_is, struck_at, unanswered, with_points, with_seat}
+use Rattle.sg_clients.specs.sg_seat.declared.phase.Phase.TheVariants.{Asked, Blocked, Held, Idle, Left, Receipted}
 use Rattle.sg_world.specs.declared.did.Did.{Did}
 use Rattle.sg_world.specs.declared.did.Did.TheVariants.{Answered, Blocked as Waits, Booted, Loaded, Lost, Replayed, Served, Skipped, Struck}
 use Rattle.sg_world.specs.Due.{due}
@@ -45,17 +45,17 @@ module _ (z : Setting) (w : WorldView) (c : ℕ) where
     pub phase : seat_now.phase ≡ Asked
     pub passes : guard z.iface object_now seat_now.call ≡ None
 
-  -- and the service is up
+  -- the guard lets the client's call pass, and the service is up
   pub record UsesService (service : Object) : Type 0 where
     pub let_in : PassesGuard
     pub running : w.running ≡ Some service
 
-  -- and nothing is due any more
+  -- the client's call may use the service, and no replay or load is due before it
   pub record ReachesService (service : Object) : Type 0 where
     pub uses : UsesService service
     pub nothing_due : due z w seat_now.call ≡ None
 
-  -- and is asked it: an item is of the call
+  -- the client's call reaches the service and is asked: an item is of the call
   pub record AsksService : Type 0 where
     pub service : Object
     pub reaches : ReachesService service

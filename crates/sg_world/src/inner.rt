@@ -1,8 +1,7 @@
 // The parts of a world: the service, its clients, and what they did.
-use sg_clients::Clients;
+use sg_clients::{Clients, Mark, Withdrawn};
 use sg_facts::{RoomyList, Service, Stops};
 use sg_replay::{Engine, History};
-use sg_world_laws::{Mark, Withdrawn};
 
 /// The parts of a world. While an event goes on they may stand out of their order.
 #[derive(Debug, Drop)]

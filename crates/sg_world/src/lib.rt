@@ -19,5 +19,5 @@ mod waking;
 mod world;
 
 pub use did::Did;
-pub use sg_world_laws::{Mark, MarkKind, Phase, Withdrawn};
+pub use sg_clients::{Mark, MarkKind, Phase, Withdrawn};
 pub use world::World;

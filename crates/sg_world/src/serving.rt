@@ -5,7 +5,7 @@ ghost use Rattle.sg_facts.specs.sg_base.Stops.{asked_after};
 ghost use Rattle.sg_facts.specs.Facts.{is_visible};
 ghost use Rattle.sg_facts.specs.declared.outcome.Patch.{Patch as IsPatch};
 ghost use Rattle.sg_replay.specs.Missing.{missing};
-ghost use Rattle.sg_world_laws.specs.sg_seat.WorldView.{seat_in, with_points};
+ghost use Rattle.sg_clients.specs.sg_seat.WorldView.{seat_in, with_points};
 ghost use Rattle.sg_world.specs.Due.{needs_in};
 ghost use Rattle.sg_world.specs.Inners.{IsInOrder, KeepsRest, view_in};
 ghost use Rattle.sg_world.specs.Inside.Served.{HasServed, view_with};
@@ -15,9 +15,9 @@ ghost use Rattle.sg_world.specs.Worlded.{setting_of};
 use crate::did::Did;
 use crate::inner::Inner;
 use crate::waking::wake;
+use sg_clients::{Mark, MarkKind};
 use sg_facts::{NoMemory, Outcome, Patch, Point, Reply, Service, Stops};
 use sg_replay::Needs;
-use sg_world_laws::{Mark, MarkKind};
 use std::alloc::Global;
 
 impl<S: Service, T: Stops> Inner<S, T> {

@@ -1,8 +1,8 @@
 // One step of a client: which of its lines it takes.
 ghost use Rattle.std.specs.Prelude.{◌≡◌, ◌≤◌, ℕ, None, Some, IsSome, IfOk, OnErr, length};
 ghost use Rattle.sg_facts.specs.sg_base.Stops.{asked_after};
-ghost use Rattle.sg_world_laws.specs.sg_seat.WorldView.{seat_in, with_points};
-ghost use Rattle.sg_world_laws.specs.sg_seat.declared.phase.Phase.TheVariants.{Asked, Held};
+ghost use Rattle.sg_clients.specs.sg_seat.WorldView.{seat_in, with_points};
+ghost use Rattle.sg_clients.specs.sg_seat.declared.phase.Phase.TheVariants.{Asked, Held};
 ghost use Rattle.sg_world.specs.Due.{needs_in};
 ghost use Rattle.sg_world.specs.Inners.{IsInOrder, KeepsRest, view_in};
 ghost use Rattle.sg_world.specs.Inside.Lines.{NoMemoryLeft};
@@ -11,9 +11,9 @@ ghost use Rattle.sg_world.specs.Worlded.{setting_of};
 
 use crate::did::Did;
 use crate::inner::Inner;
+use sg_clients::Phase;
 use sg_facts::{NoMemory, Point, Service, Stops};
 use sg_replay::Needs;
-use sg_world_laws::Phase;
 use std::alloc::Global;
 
 impl<S: Service, T: Stops> Inner<S, T> {
@@ -31,7 +31,7 @@ impl<S: Service, T: Stops> Inner<S, T> {
             Phase::Idle | Phase::Blocked | Phase::Left => Ok(Did::Skipped),
             Phase::Receipted => Ok(Did::Answered(self.hand_over(alloc, client))),
             Phase::Held => Ok(self.return_or_lose(alloc, client)),
-            Phase::Asked => self.ask(alloc, client),
+            Phase::Asked => self.judge(alloc, client),
         }
     }
 
@@ -55,7 +55,7 @@ impl<S: Service, T: Stops> Inner<S, T> {
     }
 
     // The guard judges a client's call first.
-    fn ask(&mut self, alloc: Global, client: u8) -> Result<Did, NoMemory>
+    fn judge(&mut self, alloc: Global, client: u8) -> Result<Did, NoMemory>
         requires order { IsInOrder S.facts S.ask S.sound S.parts T.test T.asked T.struck T.plan self.old }
         requires first { 1 ≤ client }
         requires last { client ≤ length self.old.clients }

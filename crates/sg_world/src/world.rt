@@ -14,15 +14,14 @@ ghost use Rattle.sg_replay.specs.sg_hist.Growing.{IsRecovering};
 ghost use Rattle.sg_world_laws.specs.Setting.{IsSetting, stubs_of};
 ghost use Rattle.sg_world.specs.Steps.{AnswersLast, HasStepped, WantsMemory};
 ghost use Rattle.sg_world.specs.Worlded.{CountsAll, setting_of};
-ghost use Rattle.sg_world_laws.specs.sg_seat.declared.phase.Phase.TheVariants.{Blocked};
-ghost use Rattle.sg_world_laws.specs.sg_seat.WorldView.{IsFree, MayWithdraw, happened, is_at_rest, with_leave, new_world, no_seat, offered, seat_of, unanswered, withdrawn_by};
+ghost use Rattle.sg_clients.specs.sg_seat.declared.phase.Phase.TheVariants.{Blocked};
+ghost use Rattle.sg_clients.specs.sg_seat.WorldView.{IsFree, MayWithdraw, happened, is_at_rest, with_leave, new_world, no_seat, offered, seat_of, unanswered, withdrawn_by};
 
 use crate::did::Did;
 use crate::inner::Inner;
-use sg_clients::Clients;
+use sg_clients::{Clients, Mark, MarkKind, Phase, Withdrawn};
 use sg_facts::{Args, Call, Interface, NoMemory, RoomyList, Service, Stops, Tables, Trace};
 use sg_replay::{Engine, History};
-use sg_world_laws::{Mark, MarkKind, Phase, Withdrawn};
 use std::alloc::Global;
 use std::marker::Model;
 

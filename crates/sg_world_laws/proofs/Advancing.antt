@@ -1,3 +1,4 @@
+-- What a world keeps where a row is rebuilt or a file loaded.
 pub mod Admitted
 pub mod Advances
 pub mod Behind

@@ -1,3 +1,4 @@
+-- What a world keeps where a call is served, and its reply held or committed.
 pub mod Behind
 pub mod Committed
 pub mod Counting

@@ -1,1 +1,2 @@
+-- Replays and loads, before a call is served.
 pub mod Advancing

@@ -57,7 +57,7 @@ is_take (suc (suc (suc (suc zero)))) given owner client is = absurd (at (owner =
     at false is = cc is
 is_take (suc (suc (suc (suc (suc n))))) given owner client is = absurd (cc is)
 
--- and it blocks as long as its lock has this owner, whatever else is given
+-- a call that blocks on a lock goes on to block as long as the lock has this owner, whatever else is given
 still : (fun given given' owner client : ℕ) → lock_answer fun given owner client ≡ None → lock_answer fun given' owner client ≡ None
 still zero given given' owner client is = absurd (cc is)
 still (suc zero) given given' owner client is = absurd (cc is)

@@ -87,7 +87,7 @@ module _ (names : List (ℕ × ℕ)) (o held : Object) (call : Call) (sound : Is
           let same = one_id r q.0 found.0 q.1.live found.1 (sym (same_test names space addr q.0 v q.1.alike) ∙ found'.1) in
           ap (named names) (sym same) ∙ q.1.alike.id
 
-  -- so a place is taken where it is for the other
+  -- an address of a space is taken in one service where it is taken in the other
   same_taken : list_any (is_at space addr) held.rows ≡ list_any (is_at space addr) o.rows
   same_taken =
       some_first (is_at space addr) held.rows ∙ at (first_at o.rows space addr) (first_at held.rows space addr) same_first ∙ sym (some_first (is_at space addr) o.rows)
@@ -98,7 +98,7 @@ module _ (names : List (ℕ × ℕ)) (o held : Object) (call : Call) (sound : Is
       at None (Some v) same = absurd same
       at (Some r) None same = absurd same
 
-  -- and the page that is found is that of the other
+  -- the page that is found at an address of a space in one service is that of the other
   same_found : SameReply names false (find_answer (page_at o.rows space addr)) (find_answer (page_at held.rows space addr))
   same_found =
       let mine = page_is_first (IsRow mm_facts o.rows) 0 o.given o.rows space addr sound.general.rows in

@@ -8,8 +8,8 @@ use Rattle.sg_replay.specs.sg_hist.Recovered.{struck_in}
 use Rattle.sg_facts.specs.Track.{track}
 use Rattle.sg_facts.specs.declared.entry.Entry.{Entry}
 use Rattle.sg_replay.specs.Committing.{MayCommitAt}
-use Rattle.sg_world_laws.specs.sg_seat.WorldView.{Seat, is_offered, seat_in, wakes_seat, woken_seat}
-use Rattle.sg_world_laws.specs.sg_seat.declared.phase.Phase.TheVariants.{Receipted}
+use Rattle.sg_clients.specs.sg_seat.WorldView.{Seat, is_offered, seat_in, wakes_seat, woken_seat}
+use Rattle.sg_clients.specs.sg_seat.declared.phase.Phase.TheVariants.{Receipted}
 use Rattle.sg_world.specs.Inners.{rooms_in}
 use Rattle.sg_world.specs.Inside.Served.{view_with}
 use Rattle.sg_world.specs.Inside.Waiting.{WaitOnLive}

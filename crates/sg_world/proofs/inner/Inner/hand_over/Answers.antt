@@ -1,8 +1,8 @@
 -- A world keeps what it keeps where a reply is handed over.
 use Rattle.std.proofs.Common.{arith}
 use Rattle.std.proofs.Common.{ap, length, arith, ◌∙◌, ◌-◌}
-use Rattle.sg_world_laws.specs.sg_seat.WorldView.{no_reply, seat_in}
-use Rattle.sg_world_laws.specs.sg_seat.declared.phase.Phase.TheVariants.{Idle}
+use Rattle.sg_clients.specs.sg_seat.WorldView.{no_reply, seat_in}
+use Rattle.sg_clients.specs.sg_seat.declared.phase.Phase.TheVariants.{Idle}
 use Rattle.sg_world.proofs.Rooming.{length_set}
 use Rattle.sg_world.specs.Inners.{rooms_in, view_in}
 use Rattle.sg_world.specs.Worlded.{Rooms, setting_of}
