@@ -4,7 +4,7 @@ use Rattle.std.specs.Prelude.{max, min}
 use Rattle.sg_facts.specs.declared.outcome.Patch.{Patch}
 use Rattle.sg_facts.specs.Limits.{most_file, most_written}
 use Rattle.sg_facts.specs.Object.{over}
-use Rattle.sg_store.specs.declared.places.Span.{Span}
+use Rattle.sg_store.specs.declared.places.FilePlace.{FilePlace}
 use Rattle.sg_store.specs.Spans.{Filed, FitsPatch, GrowsTwice, HasRoomIn, Span, bytes_in, patched_at, span_at, span_room, span_stand, stand_in}
 use Rattle.sg_store.specs.Inside.Buffers.{IsFrontOf, HasCopy}
 use Rattle.sg_store.specs.Inside.Places.{AreSpans, HasSpan, span_of}
@@ -34,7 +34,7 @@ moves_own f g key s moved are there set grew copied from len twice enough =
     }
 
 -- a file moves to the end of the buffer
-pub moves : (f now g : Filed) (key key' : List ℕ) (place : Span) (end room : ℕ) → f ≡ now → AreSpans f.buffer f.spans → HasSpan now.spans key place → key' ≡ key
+pub moves : (f now g : Filed) (key key' : List ℕ) (place : FilePlace) (end room : ℕ) → f ≡ now → AreSpans f.buffer f.spans → HasSpan now.spans key place → key' ≡ key
     → IsSet f.spans g.spans key' (span_of key' (record { from = end; len = place.len; room = room })) → IsFrontOf f.buffer g.buffer → HasCopy f.buffer place.from place.len room g.buffer
     → end ≡ length f.buffer → 2 * place.room ≤ room → min (place.len + most_written) most_file ≤ room → Moves now g key
 moves f now g key key' place end room view are there same set grew copied is more enough =
@@ -49,7 +49,7 @@ pub record Writes (old new : Filed) (p : Patch) : Type 0 where
   pub stands : (k : List ℕ) → stand_in new.spans k ≡ stand_in old.spans k
 
 -- a patch is written into its file
-pub writes : (f now g : Filed) (p : Patch) (key : List ℕ) (place : Span) (bytes : List ℕ) (len : ℕ) → f ≡ now → AreSpans f.buffer f.spans → FitsPatch now p → key ≡ p.key → bytes ≡ p.bytes
+pub writes : (f now g : Filed) (p : Patch) (key : List ℕ) (place : FilePlace) (bytes : List ℕ) (len : ℕ) → f ≡ now → AreSpans f.buffer f.spans → FitsPatch now p → key ≡ p.key → bytes ≡ p.bytes
     → Some (span_of key place) ≡ span_at f.spans key → IsSet f.spans g.spans key (span_of key (record { from = place.from; len = len; room = place.room }))
     → g.buffer ≡ over f.buffer (place.from + p.from) bytes → len ≡ max place.len (p.from + length bytes) → Writes now g p
 writes f now g p key place bytes len view are fits same same' there set written is =

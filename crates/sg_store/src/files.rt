@@ -5,7 +5,7 @@ ghost use Rattle.sg_store.specs.Spans.{AreApart, FitsPatch, GrowsTwice, HasRoomI
 ghost use Rattle.sg_store.specs.Inside.Places.{HasSpan};
 
 use crate::buffer::{add_copy, write_at};
-use crate::places::{Places, Span, add_place, place_of, set_place};
+use crate::places::{FilePlace, Places, add_place, place_of, set_place};
 use sg_facts::{MOST_FILE, MOST_WRITTEN, NoMemory, Patch, Path};
 use std::alloc::Global;
 use std::collections::BTreeMap;
@@ -106,7 +106,7 @@ impl Files {
         ensures there { OnOk result (IsSome (span_at self.new.spans key.now)) }
         ensures rooms { (k : List ℕ) → room_in self.new.spans k ≡ room_in self.old.spans k }
     {
-        let place = Span {
+        let place = FilePlace {
             from: 0,
             len: 0,
             room: 0,
@@ -135,7 +135,7 @@ impl Files {
     }
 
     // Moves a file to the end of the buffer, into a greater room.
-    fn move_to_end(&mut self, key: &Path, place: Span, room: usize) -> Result<(), NoMemory>
+    fn move_to_end(&mut self, key: &Path, place: FilePlace, room: usize) -> Result<(), NoMemory>
         requires there { HasSpan self.old.spans key.now place }
         requires twice { 2 * place.room ≤ room }
         requires enough { min (place.len + most_written) most_file ≤ room }
@@ -146,7 +146,7 @@ impl Files {
     {
         let from = self.buffer.len();
         add_copy(&mut self.buffer, place.from, place.len, room)?;
-        let moved = Span {
+        let moved = FilePlace {
             from,
             len: place.len,
             room,
@@ -167,7 +167,7 @@ impl Files {
         match place_of(&self.places, key) {
             Some(place) => {
                 write_at(&mut self.buffer, place.from + at, bytes);
-                let written = Span {
+                let written = FilePlace {
                     from: place.from,
                     len: place.len.max(at + bytes.len()),
                     room: place.room,

@@ -10,7 +10,7 @@ use std::collections::BTreeMap;
 
 /// Where a file stands in the buffer.
 #[derive(Clone, Copy, Debug)]
-pub(crate) struct Span {
+pub(crate) struct FilePlace {
     /// The place of its first byte, from 0.
     pub from: usize,
     /// The number of its bytes.
@@ -20,10 +20,10 @@ pub(crate) struct Span {
 }
 
 /// The place of each file. A path is looked up as its bytes, so that a look-up copies nothing.
-pub(crate) type Places = BTreeMap<Vec<u8>, Span>;
+pub(crate) type Places = BTreeMap<Vec<u8>, FilePlace>;
 
 /// The place of a file; None where it has none.
-pub(crate) fn place_of(places: &Places, key: &[u8]) -> Option<Span>
+pub(crate) fn place_of(places: &Places, key: &[u8]) -> Option<FilePlace>
     ensures { placed_span key.now result ≡ span_at (spans_of places.now.entries) key.now }
 {
     places.get(key).copied()
@@ -34,7 +34,7 @@ pub(crate) fn add_place(
     places: &mut Places,
     alloc: Global,
     key: &[u8],
-    place: Span,
+    place: FilePlace,
 ) -> Result<(), NoMemory>
     ensures ok { OnOk result ((k : List ℕ) → span_at (spans_of places.new.entries) k ≡ (if bytes_eq k key.now then Some (span_of key.now place) else span_at (spans_of places.old.entries) k)) }
     ensures err { OnErr result (spans_of places.new.entries ≡ spans_of places.old.entries) }
@@ -44,7 +44,7 @@ pub(crate) fn add_place(
 }
 
 /// Puts a file that has a place into another. It takes no memory.
-pub(crate) fn set_place(places: &mut Places, key: &[u8], place: Span)
+pub(crate) fn set_place(places: &mut Places, key: &[u8], place: FilePlace)
     requires { IsSome (span_at (spans_of places.old.entries) key.now) }
     ensures { (k : List ℕ) → span_at (spans_of places.new.entries) k ≡ (if bytes_eq k key.now then Some (span_of key.now place) else span_at (spans_of places.old.entries) k) }
 {

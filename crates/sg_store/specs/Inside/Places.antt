@@ -4,23 +4,23 @@ use Rattle.std.specs.declared.alloc.Global.{Global}
 use Rattle.std.specs.Option.{option_map}
 use Rattle.std.specs.declared.option.Option.{Option}
 use Rattle.sg_facts.specs.Limits.{most_file}
-use Rattle.sg_store.specs.declared.places.Span.{Span}
+use Rattle.sg_store.specs.declared.places.FilePlace.{FilePlace}
 use Rattle.sg_store.specs.Spans.{AreApart, Span, span_at}
 
 -- the span of a path at a place
-abbrev pub span_of : List ℕ → Span → Span
+abbrev pub span_of : List ℕ → FilePlace → Span
 span_of key place = record { key = key; from = place.from; len = place.len; room = place.room }
 
 -- the spans of all paths that have a place
-abbrev pub spans_of : List (Vec ℕ Global × Span) → List Span
+abbrev pub spans_of : List (Vec ℕ Global × FilePlace) → List Span
 spans_of entries = map (λ e. span_of e.0.items e.1) entries
 
 -- the span of a path, where it has a place
-abbrev pub placed_span : List ℕ → Option Span → Option Span
+abbrev pub placed_span : List ℕ → Option FilePlace → Option Span
 placed_span key place = option_map (span_of key) place
 
 -- a path has a place
-abbrev pub HasSpan : List Span → List ℕ → Span → Type 0
+abbrev pub HasSpan : List Span → List ℕ → FilePlace → Type 0
 HasSpan spans key place = span_at spans key ≡ Some (span_of key place)
 
 -- a span lies within a buffer, and its file within its room
