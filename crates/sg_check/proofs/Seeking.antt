@@ -14,9 +14,9 @@ use Rattle.sg_facts.specs.Interface.{Declared}
 use Rattle.sg_facts.specs.Walks.{IsReachable, Mark, Spot, first_spot, made, marks_after, may_begin, may_go_on, moved, next_spot, none_set, restores, restores_at, restores_field, restores_fields, spot_from, unset}
 use Rattle.sg_walk.specs.declared.place.Triple.{Triple}
 use Rattle.std.proofs.lemmas.Option.{slice_get-get_or}
-use Rattle.sg_walk.proofs.Reach.Closure.{there}
-use Rattle.sg_walk.proofs.Reach.Marks.{itself, only}
-use Rattle.sg_walk.proofs.Reach.Sets.{length-led}
+use Rattle.sg_walk.proofs.ReachedStates.Closure.{there}
+use Rattle.sg_walk.proofs.ReachedStates.Marks.{itself, only}
+use Rattle.sg_walk.proofs.ReachedStates.Sets.{length-led}
 use Rattle.sg_check_statements.specs.Flaws.{HasNoWalk}
 use Rattle.sg_check.specs.Inside.Candidates.{HasWalks}
 use Rattle.sg_check.specs.Inside.Numbers.{GainsNumber, has_number}

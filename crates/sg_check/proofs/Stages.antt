@@ -16,8 +16,8 @@ use Rattle.sg_facts.specs.Fits.{Fits}
 use Rattle.sg_check_statements.specs.sg_parse.declared.tree.Statement.{Statement}
 use Rattle.sg_check_statements.specs.sg_parse.declared.tree.Tree.{Tree}
 use Rattle.sg_walk.specs.declared.place.Triple.{Triple}
-use Rattle.sg_walk.specs.Reach.Triples.{IsReachedTriple}
-use Rattle.sg_walk.proofs.Reach.Reaching.{made_declared}
+use Rattle.sg_walk.specs.ReachedStates.Triples.{IsReachedTriple}
+use Rattle.sg_walk.proofs.ReachedStates.Reaching.{made_declared}
 use Rattle.sg_check_statements.specs.declared.fault.CheckError.{CheckError}
 use Rattle.sg_check_statements.specs.declared.fault.CheckError.TheVariants.{NoMemory, Fault}
 use Rattle.sg_check_statements.specs.declared.fault.CheckKind.{CheckKind}

@@ -2,7 +2,7 @@
 ghost use Rattle.std.specs.Prelude.{◌≡◌, ℕ, true, map, OnOk};
 ghost use Rattle.std.specs.Result.{MatchResult};
 ghost use Rattle.sg_facts.specs.Facts.{facts_of};
-ghost use Rattle.sg_walk.specs.Reach.Limits.{HasFourFields};
+ghost use Rattle.sg_walk.specs.ReachedStates.Limits.{HasFourFields};
 ghost use Rattle.sg_check_statements.specs.Faults.{IsAccepted, IsFault};
 ghost use Rattle.sg_check_statements.specs.Stages.{IsFirstFault};
 ghost use Rattle.sg_check_statements.specs.declared.fault.CheckKind.{CheckKind as Kind};

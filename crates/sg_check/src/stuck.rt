@@ -1,6 +1,6 @@
 // The states that have no walk.
 ghost use Rattle.std.specs.Prelude.{◌≡◌, ◌≤◌, length, IfOk};
-ghost use Rattle.sg_walk.specs.Reach.Limits.{HasFourFields};
+ghost use Rattle.sg_walk.specs.ReachedStates.Limits.{HasFourFields};
 ghost use Rattle.sg_check.specs.Inside.Reached.{AreTriples};
 ghost use Rattle.sg_check.specs.Inside.Stuck.{AreStuck, TellsWalk};
 

@@ -1,3 +1,4 @@
+-- A sentence has one tree, and a text one answer.
 pub mod Alive
 pub mod Basics
 pub mod Parts

@@ -1,3 +1,4 @@
+-- The grammar of the interface language.
 pub mod Inside
 pub mod Named
 pub mod Parses

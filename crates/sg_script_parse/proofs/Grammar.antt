@@ -1,3 +1,4 @@
+-- A script has one list of parts, and a text one answer.
 pub mod Basics
 pub mod Goes
 pub mod Grown

@@ -1,3 +1,4 @@
+-- The grammar of scripts.
 pub mod Inside
 pub mod Parses
 pub mod Pieces

@@ -19,10 +19,10 @@ use Rattle.sg_facts.specs.Interface.{Declared, declares}
 use Rattle.sg_facts.specs.Tables.{AreTables, is_for, line_order, walk_of}
 use Rattle.sg_facts.specs.Walks.{IsReachable, IsWalkOf, made, moved}
 use Rattle.sg_facts.proofs.Halving.{not_found, of_before}
-use Rattle.sg_check.proofs.sg_walk.Reach.Adding.{four_fields}
-use Rattle.sg_check.proofs.sg_walk.Reach.Closure.{there}
-use Rattle.sg_check.proofs.sg_walk.Reach.Marks.{only}
-use Rattle.sg_check.proofs.sg_walk.Reach.Reaching.{made_declared, place_reached}
+use Rattle.sg_check.proofs.sg_walk.ReachedStates.Adding.{four_fields}
+use Rattle.sg_check.proofs.sg_walk.ReachedStates.Closure.{there}
+use Rattle.sg_check.proofs.sg_walk.ReachedStates.Marks.{only}
+use Rattle.sg_check.proofs.sg_walk.ReachedStates.Reaching.{made_declared, place_reached}
 use Rattle.sg_check.specs.Shapes.{IsSmall}
 use Rattle.sg_check.proofs.Seeking.{walked_set}
 use Rattle.sg_stub.specs.Inside.Lines.{AreBefore, IsBefore, IsGood, IsLineOf}

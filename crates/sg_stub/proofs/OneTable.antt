@@ -14,7 +14,7 @@ use Rattle.sg_facts.specs.Fields.{number_of}
 use Rattle.sg_facts.specs.Interface.{Declared}
 use Rattle.sg_facts.specs.Tables.{AreTables, is_for, line_order, walk_of}
 use Rattle.sg_facts.specs.Walks.{IsReachable, IsWalkOf, no_later, no_worse}
-use Rattle.sg_check.proofs.sg_walk.Reach.Triples.{none_in}
+use Rattle.sg_check.proofs.sg_walk.ReachedStates.Triples.{none_in}
 use Rattle.sg_check.proofs.Seeking.{walked_set}
 
 -- ---- lists that ascend

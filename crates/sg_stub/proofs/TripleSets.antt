@@ -8,8 +8,8 @@ use Rattle.std.proofs.lemmas.List.{take_more}
 use Rattle.std.proofs.lemmas.List.Elements.{Contains-append_cases, Contains-append_left, Contains-append_right}
 use Rattle.sg_facts.specs.Interface.{Declared}
 use Rattle.sg_check.specs.sg_walk.declared.place.Triple.{Triple}
-use Rattle.sg_check.specs.sg_walk.Reach.Triples.{IsReachedTriple}
-use Rattle.sg_check.proofs.sg_walk.Reach.Marks.{itself, only}
+use Rattle.sg_check.specs.sg_walk.ReachedStates.Triples.{IsReachedTriple}
+use Rattle.sg_check.proofs.sg_walk.ReachedStates.Marks.{itself, only}
 use Rattle.sg_stub.specs.Inside.Triples.{AreIn, SameTriples, has_triple}
 
 same_number : (a b : ℕ) → (a == b) ≡ true → a ≡ b

@@ -1,7 +1,7 @@
 // The lines of tables, in order.
 ghost use Rattle.std.specs.Prelude.{◌≡◌, ◌≤◌, ◌<◌, ◌+◌, true, IfOk, OnOk, length};
 ghost use Rattle.sg_facts.specs.Tables.{AreTables};
-ghost use Rattle.sg_check.specs.sg_walk.Reach.Limits.{HasFourFields};
+ghost use Rattle.sg_check.specs.sg_walk.ReachedStates.Limits.{HasFourFields};
 ghost use Rattle.sg_check.specs.Shapes.{IsSmall};
 ghost use Rattle.sg_facts.specs.Fits.{Fits};
 ghost use Rattle.sg_stub.specs.Inside.Lines.{AreBefore, IsLineOf};

@@ -12,7 +12,7 @@ use Rattle.sg_walk.specs.declared.spot.FieldState.TheVariants.{Unset, Good, Unkn
 use Rattle.sg_walk.specs.declared.ends.DeadEnd.{DeadEnd}
 use Rattle.sg_walk.specs.Inside.Ends.{GainsEnd}
 use Rattle.sg_walk.specs.contracts.ends.DeadEndPartialEq.TheImpl.{eq-value}
-use Rattle.sg_walk.specs.contracts.spot.MarkPartialEq.TheImpl.{eq-value as mark-eq}
+use Rattle.sg_walk.specs.contracts.spot.FieldStatePartialEq.TheImpl.{eq-value as mark-eq}
 
 -- ---- what is told apart is not the same
 

@@ -2,6 +2,6 @@ pub mod KnownEnds
 pub mod LeastWalks
 pub mod Marks
 pub mod PairSets
-pub mod Reach
+pub mod ReachedStates
 pub mod Searching
 pub mod Sets

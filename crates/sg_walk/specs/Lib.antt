@@ -1,3 +1,3 @@
 pub mod Inside
 pub mod Limits
-pub mod Reach
+pub mod ReachedStates

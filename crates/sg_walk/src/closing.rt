@@ -4,9 +4,9 @@ ghost use Rattle.std.specs.List.{Contains};
 ghost use Rattle.sg_facts.specs.Facts.{fun_at};
 ghost use Rattle.sg_facts.specs.Interface.{moves_on};
 ghost use Rattle.sg_facts.specs.Limits.{most_fields};
-ghost use Rattle.sg_walk.specs.Reach.Limits.{HasFourFields};
+ghost use Rattle.sg_walk.specs.ReachedStates.Limits.{HasFourFields};
 ghost use Rattle.sg_walk.specs.declared.place.Place.{Place as OnePlace};
-ghost use Rattle.sg_walk.specs.Reach.Inside.Places.{AddsJust, AreReached, IsMadeAt, IsClosed, IsLed, LeadsTo, LeadsBy};
+ghost use Rattle.sg_walk.specs.ReachedStates.Inside.Places.{AddsJust, AreReached, IsMadeAt, IsClosed, IsLed, LeadsTo, LeadsBy};
 
 use crate::effects::may_lead;
 use crate::found::Found;

@@ -1,7 +1,7 @@
 // What effects can make of a set of fields.
 ghost use Rattle.std.specs.Prelude.{◌≡◌, ◌+◌, ◌<◌, map, Some};
 ghost use Rattle.sg_facts.specs.Walks.{effect_on, may_leave, may_lead};
-ghost use Rattle.sg_walk.specs.Reach.Inside.Bits.{bits};
+ghost use Rattle.sg_walk.specs.ReachedStates.Inside.Bits.{bits};
 
 use sg_facts::Effect;
 

@@ -1,8 +1,8 @@
 // The places that were found.
 ghost use Rattle.std.specs.Prelude.{◌≡◌, ◌<◌, ◌≤◌, [], length, IfOk, OnOk, OnErr, slice_get};
 ghost use Rattle.std.specs.Option.{option_copied};
-ghost use Rattle.sg_walk.specs.Reach.Inside.Places.{AddsOnce};
-ghost use Rattle.sg_walk.specs.Reach.Triples.{AreDistinct};
+ghost use Rattle.sg_walk.specs.ReachedStates.Inside.Places.{AddsOnce};
+ghost use Rattle.sg_walk.specs.ReachedStates.Triples.{AreDistinct};
 
 use crate::place::Place;
 use sg_facts::NoMemory;
@@ -20,7 +20,7 @@ pub struct Found {
 impl Model for Found {
     ghost use Rattle.std.specs.Prelude.{List};
     ghost use Rattle.sg_walk.specs.declared.place.Place.{Place};
-    ghost use Rattle.sg_walk.specs.Reach.Inside.Places.{AreMarked};
+    ghost use Rattle.sg_walk.specs.ReachedStates.Inside.Places.{AreMarked};
 
     ghost Value = { List Place };
 

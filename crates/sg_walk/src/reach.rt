@@ -2,11 +2,11 @@
 ghost use Rattle.std.specs.Prelude.{◌≡◌, ◌↔◌, ◌≤◌, IfOk, OnOk, OnErr};
 ghost use Rattle.std.specs.List.{Contains};
 ghost use Rattle.sg_facts.specs.Limits.{most_funs};
-ghost use Rattle.sg_walk.specs.Reach.Limits.{HasFourFields};
+ghost use Rattle.sg_walk.specs.ReachedStates.Limits.{HasFourFields};
 ghost use Rattle.sg_walk.specs.declared.place.Place.{Place as OnePlace};
 ghost use Rattle.sg_walk.specs.declared.place.Triple.{Triple as OneTriple};
-ghost use Rattle.sg_walk.specs.Reach.Inside.Places.{AddsTriples, IsPlace};
-ghost use Rattle.sg_walk.specs.Reach.Triples.{AreDistinct, IsReachedTriple};
+ghost use Rattle.sg_walk.specs.ReachedStates.Inside.Places.{AddsTriples, IsPlace};
+ghost use Rattle.sg_walk.specs.ReachedStates.Triples.{AreDistinct, IsReachedTriple};
 
 use crate::closing::{add_begins, close};
 use crate::found::Found;

@@ -1,9 +1,9 @@
 -- Where a function is no declared creation, nothing begins by it.
 use Rattle.std.proofs.Common.{◌≡◌, true, false, ◌∙◌, sym, ap}
 use Rattle.sg_facts.specs.Facts.{fun_of_shape}
-use Rattle.sg_walk.specs.Reach.Inside.Places.{IsMadeAt}
-use Rattle.sg_walk.proofs.Reach.Adding.{adds_none}
-use Rattle.sg_walk.proofs.Reach.Leading.{adds_begins}
+use Rattle.sg_walk.specs.ReachedStates.Inside.Places.{IsMadeAt}
+use Rattle.sg_walk.proofs.ReachedStates.Adding.{adds_none}
+use Rattle.sg_walk.proofs.ReachedStates.Leading.{adds_begins}
 use Rattle.sg_walk.proofs.closing.add_begins.Goals as goal
 use Rattle.sg_walk.proofs.closing.add_begins.Goals.{else-declares-via-then-declares+else-is_creation, else-declares-via-else-declares}
 

@@ -1,9 +1,9 @@
 -- An end leads nowhere, and any other function by its effects.
 use Rattle.std.proofs.Common.{◌≡◌, true, false, ◌∙◌, sym, ap}
 use Rattle.sg_facts.specs.Facts.{fun_of_shape}
-use Rattle.sg_walk.specs.Reach.Inside.Places.{LeadsBy}
-use Rattle.sg_walk.proofs.Reach.Adding.{adds_none}
-use Rattle.sg_walk.proofs.Reach.Leading.{adds_by}
+use Rattle.sg_walk.specs.ReachedStates.Inside.Places.{LeadsBy}
+use Rattle.sg_walk.proofs.ReachedStates.Adding.{adds_none}
+use Rattle.sg_walk.proofs.ReachedStates.Leading.{adds_by}
 use Rattle.sg_walk.proofs.closing.add_by.Goals as goal
 
 pub returns-in_ok-add_led : goal.returns-in_ok-add_led

@@ -1,7 +1,7 @@
 -- Mask by mask.
 use Rattle.std.proofs.Common.{◌+◌, ◌<◌, ◌^◌, ◌∙◌, sym, subst, map, arith}
-use Rattle.sg_walk.specs.Reach.Inside.Places.{AddsJust}
-use Rattle.sg_walk.proofs.Reach.Leading.{Below, below_none, below_more, below_same, below_all}
+use Rattle.sg_walk.specs.ReachedStates.Inside.Places.{AddsJust}
+use Rattle.sg_walk.proofs.ReachedStates.Leading.{Below, below_none, below_more, below_same, below_all}
 use Rattle.sg_walk.proofs.closing.add_led.Goals as goal
 use Rattle.sg_walk.proofs.closing.add_led.Goals.{then-may_lead+in_ok-add, else-may_lead}
 

@@ -1,6 +1,6 @@
 -- The places of the first masks were added.
 use Rattle.std.proofs.Common.{◌<◌, map}
-use Rattle.sg_walk.specs.Reach.Inside.Places.{AddsJust, IsLed}
+use Rattle.sg_walk.specs.ReachedStates.Inside.Places.{AddsJust, IsLed}
 use Rattle.sg_walk.proofs.closing.add_led.Given as goal
 
 abbrev pub invariant-masks : goal.invariant-masks

@@ -2,8 +2,8 @@
 use Rattle.std.proofs.Common.{◌≡◌, ◌+◌, ◌∙◌, true, take, get_or, sym, subst}
 use Rattle.std.proofs.lemmas.List.{take_all}
 use Rattle.sg_facts.specs.Interface.{has_pair}
-use Rattle.sg_walk.specs.Reach.Inside.Places.{AddsJust}
-use Rattle.sg_walk.proofs.Reach.Moves.{IsNextIn, next_more, next_same, next_all, pair_at}
+use Rattle.sg_walk.specs.ReachedStates.Inside.Places.{AddsJust}
+use Rattle.sg_walk.proofs.ReachedStates.Moves.{IsNextIn, next_more, next_same, next_all, pair_at}
 use Rattle.sg_walk.proofs.closing.add_next.Goals as goal
 use Rattle.sg_walk.proofs.closing.add_next.Goals.{then-state-place+in_ok-add_by, else-state-place}
 

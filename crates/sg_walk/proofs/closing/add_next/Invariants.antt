@@ -1,7 +1,7 @@
 -- What the first transitions lead to was added.
 use Rattle.std.proofs.Common.{take}
-use Rattle.sg_walk.specs.Reach.Inside.Places.{AddsJust}
-use Rattle.sg_walk.proofs.Reach.Moves.{IsNextIn}
+use Rattle.sg_walk.specs.ReachedStates.Inside.Places.{AddsJust}
+use Rattle.sg_walk.proofs.ReachedStates.Moves.{IsNextIn}
 use Rattle.sg_walk.proofs.closing.add_next.Given as goal
 
 abbrev pub invariant-moves : goal.invariant-moves

@@ -1,9 +1,9 @@
 -- Place by place.
 use Rattle.std.proofs.Common.{◌≡◌, Some, sym}
 use Rattle.std.specs.Prelude.{slice_get}
-use Rattle.sg_walk.specs.Reach.Inside.Places.{LeadsTo}
-use Rattle.sg_walk.proofs.Reach.Adding.{adds_keeps}
-use Rattle.sg_walk.proofs.Reach.Closure.{closed_all, closed_more, ended, longer, reached_more}
+use Rattle.sg_walk.specs.ReachedStates.Inside.Places.{LeadsTo}
+use Rattle.sg_walk.proofs.ReachedStates.Adding.{adds_keeps}
+use Rattle.sg_walk.proofs.ReachedStates.Closure.{closed_all, closed_more, ended, longer, reached_more}
 use Rattle.sg_walk.proofs.closing.close.Goals as goal
 
 pub places-preserved : goal.places-preserved

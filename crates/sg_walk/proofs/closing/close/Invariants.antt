@@ -3,7 +3,7 @@ use Rattle.std.proofs.Common.{◌≡◌, ◌-◌, ◌<◌, ◌≤◌, ℕ, Some,
 use Rattle.std.specs.Prelude.{slice_get}
 use Rattle.std.specs.List.{Contains}
 use Rattle.sg_walk.specs.declared.place.Place.{Place}
-use Rattle.sg_walk.specs.Reach.Inside.Places.{AreReached, LeadsTo}
+use Rattle.sg_walk.specs.ReachedStates.Inside.Places.{AreReached, LeadsTo}
 use Rattle.sg_walk.proofs.closing.close.Given as goal
 
 abbrev pub invariant-places : goal.invariant-places

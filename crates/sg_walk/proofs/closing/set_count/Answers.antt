@@ -1,6 +1,6 @@
 -- At most 4 fields have at most 16 sets.
 use Rattle.std.proofs.Common.{◌≤◌, subst, sym}
-use Rattle.sg_walk.proofs.Reach.Adding.{four_fields, shifted}
+use Rattle.sg_walk.proofs.ReachedStates.Adding.{four_fields, shifted}
 use Rattle.sg_walk.proofs.closing.set_count.Goals as goal
 
 pub returns-clause-value : goal.returns-clause-value

@@ -1,7 +1,7 @@
 -- Place by place.
 use Rattle.std.proofs.Common.{sym}
-use Rattle.sg_walk.proofs.Reach.Closure.{ended}
-use Rattle.sg_walk.proofs.Reach.Triples.{triples_more, triples_all}
+use Rattle.sg_walk.proofs.ReachedStates.Closure.{ended}
+use Rattle.sg_walk.proofs.ReachedStates.Triples.{triples_more, triples_all}
 use Rattle.sg_walk.proofs.reach.add_triples.Goals as goal
 
 pub places-preserved : goal.places-preserved

@@ -1,6 +1,6 @@
 -- The triples of the first places were added.
 use Rattle.std.proofs.Common.{◌-◌, take}
-use Rattle.sg_walk.specs.Reach.Inside.Places.{AddsTriples}
+use Rattle.sg_walk.specs.ReachedStates.Inside.Places.{AddsTriples}
 use Rattle.sg_walk.proofs.reach.add_triples.Given as goal
 
 abbrev pub invariant-places : goal.invariant-places

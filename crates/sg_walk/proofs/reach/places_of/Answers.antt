@@ -1,8 +1,8 @@
 -- Found is just what is reached.
 use Rattle.std.proofs.Common.{subst, inl, inr}
 use Rattle.std.specs.List.{Contains}
-use Rattle.sg_walk.proofs.Reach.Reaching.{all_found, begun_reached}
-use Rattle.sg_walk.proofs.Reach.Triples.{none_in}
+use Rattle.sg_walk.proofs.ReachedStates.Reaching.{all_found, begun_reached}
+use Rattle.sg_walk.proofs.ReachedStates.Triples.{none_in}
 use Rattle.sg_walk.proofs.reach.places_of.Goals as goal
 
 pub returns : goal.returns

@@ -1,8 +1,8 @@
 -- Creation by creation.
 use Rattle.std.proofs.Common.{sym, subst, arith}
 use Rattle.std.specs.List.{Contains}
-use Rattle.sg_walk.proofs.Reach.Triples.{all_more, below_more, none_in, only_more, zero_none}
-use Rattle.sg_walk.specs.Reach.Triples.{AreDistinct}
+use Rattle.sg_walk.proofs.ReachedStates.Triples.{all_more, below_more, none_in, only_more, zero_none}
+use Rattle.sg_walk.specs.ReachedStates.Triples.{AreDistinct}
 use Rattle.sg_walk.proofs.reach.reachable.Goals as goal
 
 pub made-init : goal.made-init

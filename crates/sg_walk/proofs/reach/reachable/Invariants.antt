@@ -2,7 +2,7 @@
 use Rattle.std.proofs.Common.{◌<◌}
 use Rattle.std.specs.List.{Contains}
 use Rattle.sg_walk.specs.declared.place.Triple.{Triple}
-use Rattle.sg_walk.specs.Reach.Triples.{AreDistinct, IsReachedTriple}
+use Rattle.sg_walk.specs.ReachedStates.Triples.{AreDistinct, IsReachedTriple}
 use Rattle.sg_walk.proofs.reach.reachable.Given as goal
 
 abbrev pub invariant-made : goal.invariant-made

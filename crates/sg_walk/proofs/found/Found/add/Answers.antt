@@ -1,7 +1,7 @@
 -- A place that wasn't found is marked, and goes last.
 use Rattle.std.proofs.Common.{◌≡◌, ◌<◌, ◌+◌, ◌*◌, false, get_or, sym, ◌∙◌, ap, arith}
-use Rattle.sg_walk.specs.Reach.Inside.Places.{cell_of}
-use Rattle.sg_walk.proofs.Reach.Marks.{marked_more}
+use Rattle.sg_walk.specs.ReachedStates.Inside.Places.{cell_of}
+use Rattle.sg_walk.proofs.ReachedStates.Marks.{marked_more}
 use Rattle.sg_walk.proofs.found.Found.add.Goals as goal
 
 pub invariant_of-self-2 : goal.invariant_of-self-2

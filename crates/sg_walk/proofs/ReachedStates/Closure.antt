@@ -7,9 +7,9 @@ use Rattle.std.proofs.lemmas.Option.{slice_get-get_or, slice_get_within, get_or_
 use Rattle.sg_facts.specs.Interface.{Declared}
 use Rattle.sg_facts.specs.Walks.{IsReachable, moved}
 use Rattle.sg_walk.specs.declared.place.Place.{Place}
-use Rattle.sg_walk.specs.Reach.Inside.Bits.{set_numbered}
-use Rattle.sg_walk.specs.Reach.Inside.Places.{AddsJust, AreReached, IsClosed, LeadsTo, IsPlace}
-use Rattle.sg_walk.proofs.Reach.Adding.{adds_keeps}
+use Rattle.sg_walk.specs.ReachedStates.Inside.Bits.{set_numbered}
+use Rattle.sg_walk.specs.ReachedStates.Inside.Places.{AddsJust, AreReached, IsClosed, LeadsTo, IsPlace}
+use Rattle.sg_walk.proofs.ReachedStates.Adding.{adds_keeps}
 
 get_before : {X : Type 0} (xs ys : List X) (k : ℕ) → k < length xs → slice_get (xs ++ ys) k ≡ slice_get xs k
 get_before [] ys k within = absurd (omega arith)

@@ -7,7 +7,7 @@ use Rattle.sg_facts.specs.declared.shape.Effect.{Effect}
 use Rattle.sg_facts.specs.Facts.{Field}
 use Rattle.sg_facts.specs.Fields.{number_of}
 use Rattle.sg_facts.specs.Walks.{may_lead, none_set}
-use Rattle.sg_walk.specs.Reach.Inside.Bits.{bits}
+use Rattle.sg_walk.specs.ReachedStates.Inside.Bits.{bits}
 
 bit : (m : ℕ) → (if (m % 2 == 1) then 1 else 0) ≡ m % 2
 bit m = grind (arith, nat_tests)

@@ -3,8 +3,8 @@ use Rattle.std.proofs.Common.{◌≡◌, ◌⊎◌, ℕ, zero, suc, ◌*◌, ◌
 use Rattle.std.specs.List.{Contains}
 use Rattle.std.proofs.lemmas.List.Elements.{Contains-append_left, Contains-append_right, Contains-append_cases}
 use Rattle.sg_walk.specs.declared.place.Place.{Place}
-use Rattle.sg_walk.specs.Reach.Inside.Places.{AddsJust, AddsOnce}
-use Rattle.sg_walk.proofs.Reach.Marks.{itself, only}
+use Rattle.sg_walk.specs.ReachedStates.Inside.Places.{AddsJust, AddsOnce}
+use Rattle.sg_walk.proofs.ReachedStates.Marks.{itself, only}
 
 pub four_fields : (count : ℕ) → count ≤ 4 → 2 ^ count ≤ 16
 four_fields zero few = omega arith

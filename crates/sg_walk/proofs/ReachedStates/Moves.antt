@@ -7,8 +7,8 @@ use Rattle.std.proofs.lemmas.List.{take_more}
 use Rattle.std.proofs.lemmas.List.Folds.{list_any-append}
 use Rattle.sg_facts.specs.Interface.{Declared, has_pair}
 use Rattle.sg_walk.specs.declared.place.Place.{Place}
-use Rattle.sg_walk.specs.Reach.Inside.Places.{AddsJust, LeadsTo, LeadsBy}
-use Rattle.sg_walk.proofs.Reach.Adding.{adds_none, adds_same, adds_then}
+use Rattle.sg_walk.specs.ReachedStates.Inside.Places.{AddsJust, LeadsTo, LeadsBy}
+use Rattle.sg_walk.proofs.ReachedStates.Adding.{adds_none, adds_same, adds_then}
 
 -- a place that one of some transitions leads to
 abbrev pub IsNextIn : Declared → List (ℕ × ℕ) → Place → Place → Type 0

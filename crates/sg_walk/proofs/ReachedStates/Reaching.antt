@@ -7,10 +7,10 @@ use Rattle.sg_facts.specs.Interface.{Declared, declares}
 use Rattle.sg_facts.specs.Walks.{IsReachable, made, moved, may_lead, none_set}
 use Rattle.sg_walk.specs.declared.place.Place.{Place}
 use Rattle.sg_walk.specs.declared.place.Triple.{Triple}
-use Rattle.sg_walk.specs.Reach.Inside.Bits.{bits, set_numbered}
-use Rattle.sg_walk.specs.Reach.Inside.Places.{IsMadeAt, IsClosed, IsPlace}
-use Rattle.sg_walk.specs.Reach.Triples.{IsReachedTriple}
-use Rattle.sg_walk.proofs.Reach.Sets.{bits-none, bits-number_of, length-led, number_of-bits, number_of-small}
+use Rattle.sg_walk.specs.ReachedStates.Inside.Bits.{bits, set_numbered}
+use Rattle.sg_walk.specs.ReachedStates.Inside.Places.{IsMadeAt, IsClosed, IsPlace}
+use Rattle.sg_walk.specs.ReachedStates.Triples.{IsReachedTriple}
+use Rattle.sg_walk.proofs.ReachedStates.Sets.{bits-none, bits-number_of, length-led, number_of-bits, number_of-small}
 
 length-none : (fields : List Field) → length (none_set fields) ≡ length fields
 length-none [] = refl

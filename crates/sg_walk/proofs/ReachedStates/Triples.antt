@@ -11,10 +11,10 @@ use Rattle.std.proofs.lemmas.Option.{slice_get_within, get_or_from_slice_get}
 use Rattle.sg_facts.specs.Interface.{Declared, declares}
 use Rattle.sg_walk.specs.declared.place.Place.{Place}
 use Rattle.sg_walk.specs.declared.place.Triple.{Triple}
-use Rattle.sg_walk.specs.Reach.Inside.Places.{AddsTriples, IsPlace}
-use Rattle.sg_walk.specs.Reach.Triples.{AreDistinct, IsReachedTriple}
-use Rattle.sg_walk.proofs.Reach.Marks.{at_place, itself, only}
-use Rattle.sg_walk.proofs.Reach.Reaching.{made_declared, place_triple, triple_place}
+use Rattle.sg_walk.specs.ReachedStates.Inside.Places.{AddsTriples, IsPlace}
+use Rattle.sg_walk.specs.ReachedStates.Triples.{AreDistinct, IsReachedTriple}
+use Rattle.sg_walk.proofs.ReachedStates.Marks.{at_place, itself, only}
+use Rattle.sg_walk.proofs.ReachedStates.Reaching.{made_declared, place_triple, triple_place}
 
 pub none_in : {X : Type 0} (x : X) → Contains [] x → ⊥
 none_in x (k, within, is) = absurd (omega (arith, within))

@@ -7,8 +7,8 @@ use Rattle.sg_facts.specs.Interface.{Declared, declares, moves_on}
 use Rattle.sg_facts.specs.Walks.{IsReachable, may_lead}
 use Rattle.sg_walk.specs.declared.place.Place.{Place}
 use Rattle.sg_walk.specs.declared.place.Triple.{Triple}
-use Rattle.sg_walk.specs.Reach.Triples.{AreDistinct}
-use Rattle.sg_walk.specs.Reach.Inside.Bits.{bits, set_numbered}
+use Rattle.sg_walk.specs.ReachedStates.Triples.{AreDistinct}
+use Rattle.sg_walk.specs.ReachedStates.Inside.Bits.{bits, set_numbered}
 
 -- effects lead from one set of so many fields to a place in a state
 abbrev pub IsLed : List (ℕ × Effect) → ℕ → ℕ → ℕ → Place → Type 0

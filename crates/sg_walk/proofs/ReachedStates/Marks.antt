@@ -9,7 +9,7 @@ use Rattle.std.proofs.lemmas.List.Elements.{Contains-append_left, Contains-appen
 use Rattle.sg_walk.specs.declared.place.Place.{Place}
 use Rattle.std.proofs.lemmas.List.Quantifiers.{all_pairs_push}
 use Rattle.std.proofs.lemmas.Option.{slice_get-get_or, get_or_from_slice_get}
-use Rattle.sg_walk.specs.Reach.Inside.Places.{AreMarked, cell_of, unmarked}
+use Rattle.sg_walk.specs.ReachedStates.Inside.Places.{AreMarked, cell_of, unmarked}
 
 -- the one element of a list of one
 pub only : {X : Type 0} (x y : X) → Contains (x ∷ []) y → y ≡ x

@@ -5,9 +5,9 @@ use Rattle.sg_facts.specs.Facts.{Fun, fun_at, left_by}
 use Rattle.sg_facts.specs.Interface.{Declared, declares, moves_on}
 use Rattle.sg_facts.specs.Walks.{may_lead}
 use Rattle.sg_walk.specs.declared.place.Place.{Place}
-use Rattle.sg_walk.specs.Reach.Inside.Bits.{bits}
-use Rattle.sg_walk.specs.Reach.Inside.Places.{AddsJust, AddsOnce, IsMadeAt, IsLed, LeadsBy}
-use Rattle.sg_walk.proofs.Reach.Adding.{adds_none, adds_one, adds_same, adds_then}
+use Rattle.sg_walk.specs.ReachedStates.Inside.Bits.{bits}
+use Rattle.sg_walk.specs.ReachedStates.Inside.Places.{AddsJust, AddsOnce, IsMadeAt, IsLed, LeadsBy}
+use Rattle.sg_walk.proofs.ReachedStates.Adding.{adds_none, adds_one, adds_same, adds_then}
 use Rattle.std.proofs.lemmas.Bool.Decides.{eqb_tells}
 
 same_place : (p q : Place) → p.state ≡ q.state → p.mask ≡ q.mask → p ≡ q
