@@ -18,10 +18,12 @@ use sg_script_parse::{Part, Spelled, WrittenArg, WrittenCall};
 
 // The greatest number of calls of a script, and the number of the first that is one too many.
 const MOST_CALLS: u128 = 65_536;
+
 const TOO_MANY_CALLS: u128 = MOST_CALLS + 1;
 
 // The greatest number of stops of a script, and the number of the first that is one too many.
 const MOST_STOPS: usize = 64;
+
 const TOO_MANY_STOPS: usize = MOST_STOPS + 1;
 
 // ---- numbers and texts
