@@ -15,6 +15,7 @@ pub record FitsSeatRoom (call : Call) (room : SeatRoom) : Type 0 where
   pub empty : room.phases.items ≡ []
   pub phases : last_client ≤ vec_capacity room.phases
 
+-- memory was taken for a call: there is some, and it is enough
 abbrev pub IsSeatRoom : Call → Option SeatRoom → Type 0
 IsSeatRoom call None = ⊥
 IsSeatRoom call (Some room) = FitsSeatRoom call room

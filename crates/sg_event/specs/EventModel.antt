@@ -10,6 +10,7 @@ use Rattle.sg_event.specs.Laws.EventSoundLaw.{event_answers_and_keeps}
 use Rattle.sg_event.specs.EventTable.{event_parts, event_table}
 use Rattle.sg_event.specs.Laws.EventWalkLaw.{event_walk_goes_on}
 
+-- the event service: its facts, its table, the parts of its Oks, its sound objects, and the laws that it keeps to
 abbrev pub event_model : RowModel
 event_model = record {
   facts = event_facts;

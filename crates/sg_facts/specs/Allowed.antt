@@ -15,11 +15,13 @@ use Rattle.sg_facts.specs.Counted.{takes_word}
 use Rattle.sg_facts.specs.Walks.{carries_arg, sets_caller}
 use Rattle.sg_facts.specs.Object.{writes}
 
+-- whether no descriptor has a parent
 abbrev pub is_never : Parents → Bool
 is_never Never = true
 is_never SameClient = false
 is_never Cross = false
 
+-- whether the parent of a descriptor may be one of any client
 abbrev pub is_cross : Parents → Bool
 is_cross Cross = true
 is_cross Never = false
@@ -33,6 +35,7 @@ implies a b = not a || b
 abbrev pub keeps_private : Facts → Bool
 keeps_private facts = implies (not facts.global) (not (is_cross facts.parents) && list_all (λ f. not f.all) facts.funs)
 
+-- whether a field is a text; no field is none
 abbrev pub text_in : Option Field → Bool
 text_in None = false
 text_in (Some f) = f.text
@@ -41,6 +44,7 @@ text_in (Some f) = f.text
 abbrev pub is_text_field : List Field → ℕ → Bool
 is_text_field fields x = text_in (slice_get fields x)
 
+-- whether a function leaves its own state
 abbrev pub is_own_state : Leaves → Bool
 is_own_state Own = true
 is_own_state _ = false

@@ -51,24 +51,32 @@ has_flag flags bit = bit_at flags bit == 1
 
 -- the bits of a function's flags: it makes a descriptor; it ends its own; it may block; its Ok wakes who is blocked on its descriptor;
 -- it changes no descriptor; it looks at all live rows; it reads or writes the file of its descriptor
+
+-- the bit of the flag of a function that makes a descriptor
 abbrev pub creation_bit : ℕ
 creation_bit = 0
 
+-- the bit of the flag of a function that ends its descriptor
 abbrev pub terminal_bit : ℕ
 terminal_bit = 1
 
+-- the bit of the flag of a function that may block
 abbrev pub block_bit : ℕ
 block_bit = 2
 
+-- the bit of the flag of a function whose Ok wakes who is blocked on its descriptor
 abbrev pub wakeup_bit : ℕ
 wakeup_bit = 3
 
+-- the bit of the flag of a function that changes no descriptor
 abbrev pub query_bit : ℕ
 query_bit = 4
 
+-- the bit of the flag of a function that looks at all live rows
 abbrev pub all_bit : ℕ
 all_bit = 5
 
+-- the bit of the flag of a function that reads or writes the file of its descriptor
 abbrev pub uses_file_bit : ℕ
 uses_file_bit = 6
 
@@ -141,18 +149,23 @@ abbrev pub fun_at : List Fun → ℕ → Fun
 fun_at funs zero = no_fun
 fun_at funs (suc n) = unwrap_or (slice_get funs n) no_fun
 
+-- whether a parameter is the descriptor that its function is called on
 abbrev pub is_desc : Kind → Bool
 is_desc Desc = true
 is_desc _ = false
 
+-- whether a parameter is the parent of the descriptor that its function makes
 abbrev pub is_parent : Kind → Bool
 is_parent Parent = true
 is_parent _ = false
 
 -- whether a function is called on a descriptor, or takes a parent
+
+-- whether a function is called on a descriptor
 abbrev pub takes_desc : Fun → Bool
 takes_desc f = list_any is_desc f.kinds
 
+-- whether a function takes a parent
 abbrev pub takes_parent : Fun → Bool
 takes_parent f = list_any is_parent f.kinds
 
@@ -162,6 +175,7 @@ left_by Own fun state = fun
 left_by Same fun state = state
 left_by (Of other) fun state = other
 
+-- the state of a row after a function of a service that was called in a state
 abbrev pub state_after : Facts → ℕ → ℕ → ℕ
 state_after facts fun state = left_by (fun_at facts.funs fun).leaves fun state
 

@@ -20,6 +20,7 @@ abbrev pub is_own : Option Row → ℕ → Bool
 is_own None client = false
 is_own (Some r) client = r.creator == client
 
+-- whether there is a live row
 abbrev pub is_there : Option Row → Bool
 is_there None = false
 is_there (Some r) = true

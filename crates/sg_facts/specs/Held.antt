@@ -24,6 +24,7 @@ FieldHolds unset v held = held ≡ cleared v
 FieldHolds good v held = held ≡ v
 FieldHolds unknown v held = SameKind v held
 
+-- the service's values of all fields of a row, each by what is known of it; there is one mark and one value for each
 abbrev pub FieldsHold : List Mark → List Value → List Value → Type 0
 FieldsHold [] [] [] = Unit {0}
 FieldsHold (m ∷ marks) (v ∷ vs) (w ∷ ws) = FieldHolds m v w × FieldsHold marks vs ws
@@ -44,11 +45,14 @@ pub record IsPartOf (i : Declared) (names : List (ℕ × ℕ)) (r : Row) (done :
   pub fields : FieldsHold spot.marks r.fields held.fields
 
 -- the parent of a row is none, or its row is in the service, whole
+
+-- the parent of a row is live, and the service has its row whole
 pub record HasParent (names : List (ℕ × ℕ)) (o held : Object) (r : Row) : Type 0 where
   pub row : Row
   pub of : row_at o.rows r.parent ≡ Some row
   pub whole : HasAlike names held row
 
+-- a row has no parent, or the service has the row of its parent whole
 abbrev pub ParentIsWhole : List (ℕ × ℕ) → Object → Object → Row → Type 0
 ParentIsWhole names o held r = (r.parent ≡ 0) ⊎ HasParent names o held r
 
@@ -57,12 +61,14 @@ pub data IsHeldFor (i : Declared) (names : List (ℕ × ℕ)) (r held : Row) : T
   whole : IsAlike names r held → IsHeldFor i names r held
   partly : (done rest : List ℕ) → IsWalkOf i (done ++ rest) r.made r.state (set_of r) → IsPartOf i names r done held → IsHeldFor i names r held
 
+-- a row of the service is that of a live row, whole or partly rebuilt, which has no parent or a whole one
 pub record IsHeld (i : Declared) (names : List (ℕ × ℕ)) (o held : Object) (w : Row) : Type 0 where
   pub row : Row
   pub live : row_at o.rows row.id ≡ Some row
   pub held_for : IsHeldFor i names row w
   pub parent : ParentIsWhole names o held row
 
+-- each of these rows of the service is that of a live row, whole or partly rebuilt, which has no parent or a whole one
 abbrev pub EachHeld : Declared → List (ℕ × ℕ) → Object → Object → List Row → Type 0
 EachHeld i names o held [] = Unit {0}
 EachHeld i names o held (w ∷ ws) = IsHeld i names o held w × EachHeld i names o held ws

@@ -60,6 +60,7 @@ pub record FitsFile (o : Object) (p : Patch) : Type 0 where
   pub within : p.from ≤ length (file_at o.files p.key)
   pub end : p.from + length p.bytes ≤ most_file
 
+-- there is no patch, or it fits its file
 abbrev pub IfPatch : Object → Option Patch → Type 0
 IfPatch o None = Unit {0}
 IfPatch o (Some p) = FitsFile o p

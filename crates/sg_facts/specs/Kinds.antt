@@ -48,6 +48,7 @@ pub record IsWithin (facts : Facts) (o : Object) (call : Call) : Type 0 where
   pub counted : CountedBelow end_of_counts facts o.rows
   pub given : o.given < end_of_counts
 
+-- whether a function that takes a parent may be given none, and makes a root: only where parents are of the same client
 abbrev pub may_be_root : Parents → Bool
 may_be_root Same = true
 may_be_root Never = false

@@ -57,6 +57,7 @@ pub record AnswersAlike (facts : Facts) (ask : Table) (sound : Object → Type 0
 
 -- ---- a walk goes on
 
+-- whether a list of functions is empty: no call of a walk is done
 abbrev pub is_none : List ℕ → Bool
 is_none [] = true
 is_none (n ∷ ns) = false

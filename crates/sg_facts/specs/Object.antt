@@ -60,10 +60,13 @@ abbrev pub over : List ℕ → ℕ → List ℕ → List ℕ
 over old from bytes = take from old ++ bytes ++ drop (from + length bytes) old
 
 -- whether a function writes a file: it uses the file, and takes a text
+
+-- whether a parameter is a text
 abbrev pub is_text_kind : Kind → Bool
 is_text_kind IsText = true
 is_text_kind _ = false
 
+-- whether a function writes the file of its descriptor: it uses the file, and takes a text
 abbrev pub writes : Fun → Bool
 writes f = f.uses_file && list_any is_text_kind f.kinds
 

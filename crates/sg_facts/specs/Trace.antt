@@ -15,8 +15,10 @@ pub record Run : Type 0 where
   pub boots : List Boot
   pub points : ℕ
 
+-- a boot of a trace as plain data
 abbrev pub boot_of : BootLog → Boot
 boot_of log = record { items = log.items.items; stop = log.stop }
 
+-- a trace as plain data
 abbrev pub run_of : Trace → Run
 run_of trace = record { boots = map boot_of trace.boots.items; points = trace.points }

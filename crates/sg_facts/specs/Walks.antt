@@ -173,10 +173,12 @@ pub record IsWalkOf (i : Declared) (walk : List ℕ) (by state : ℕ) (set : Lis
 
 -- ---- replayed calls
 
+-- whether an effect sets its field to the caller
 abbrev pub sets_caller : Effect → Bool
 sets_caller SetCaller = true
 sets_caller _ = false
 
+-- whether an effect sets its field to the argument of a number, from 0, or adds that argument
 abbrev pub carries_arg : ℕ → Effect → Bool
 carries_arg k (SetArg j) = j == k
 carries_arg k (AddArg j) = j == k

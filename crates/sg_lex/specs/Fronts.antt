@@ -35,6 +35,7 @@ quote_front bs =
     let n = prefix_len is_text_byte bs in
     if slice_index bs n == 0x22 then Token Text (n + 2) else Fault
 
+-- what stands at the front of a text: nothing, bytes between tokens, a token, or a fault
 abbrev pub front_of : List ℕ → Front
 front_of [] = Ended
 front_of (b ∷ bs) =

@@ -3,9 +3,12 @@ use Rattle.std.specs.Prelude.{ℕ, zero, suc, ◌+◌, ◌*◌, ◌/◌, ◌%◌
 use Rattle.sg_load.specs.Sizes.{most_distance}
 
 -- the factor and the summand of a draw
+
+-- what the state is multiplied by at a draw
 abbrev pub draw_factor : ℕ
 draw_factor = 6364136223846793005
 
+-- what is added at a draw, after the state was multiplied
 abbrev pub draw_summand : ℕ
 draw_summand = 1442695040888963407
 

@@ -10,16 +10,22 @@ abbrev pub calls_each : ℕ
 calls_each = 2500
 
 -- the stops, and the greatest distance from one to the next
+
+-- how many stops there are
 abbrev pub stop_count : ℕ
 stop_count = 32
 
+-- the greatest distance from one stop to the next, in points
 abbrev pub most_distance : ℕ
 most_distance = 1500
 
 -- the locks, and the events, that the setup makes
+
+-- how many locks the setup makes
 abbrev pub lock_count : ℕ
 lock_count = 16
 
+-- how many events the setup makes
 abbrev pub event_count : ℕ
 event_count = 16
 
@@ -28,9 +34,12 @@ abbrev pub trigger_count : ℕ
 trigger_count = 1
 
 -- the pages that are mapped: how many, and how many bytes each has
+
+-- at how many addresses pages are mapped
 abbrev pub page_count : ℕ
 page_count = 64
 
+-- how many bytes a page has; the addresses of pages are multiples of it
 abbrev pub page_bytes : ℕ
 page_bytes = 4096
 

@@ -10,6 +10,7 @@ use Rattle.sg_lock.specs.Laws.LockSoundLaw.{lock_answers_and_keeps}
 use Rattle.sg_lock.specs.LockTable.{lock_parts, lock_table}
 use Rattle.sg_lock.specs.Laws.LockWalkLaw.{lock_walk_goes_on}
 
+-- the lock service: its facts, its table, the parts of its Oks, its sound objects, and the laws that it keeps to
 abbrev pub lock_model : RowModel
 lock_model = record {
   facts = lock_facts;

@@ -10,6 +10,7 @@ use Rattle.sg_lock.specs.LockFacts.{lock_facts}
 abbrev pub is_owner_in : ℕ → ℕ → Bool
 is_owner_in state owner = if state == 1 then owner == 0 else nat_le 1 owner && nat_le owner 64
 
+-- a row's owner is 0 in the state that lock_alloc leaves, and else a client, from 1 to 64
 abbrev pub IsOwned : Row → Type 0
 IsOwned r = is_owner_in r.state (word_of (field_at r.fields 0)) ≡ true
 

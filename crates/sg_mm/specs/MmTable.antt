@@ -12,9 +12,12 @@ use Rattle.sg_facts.specs.Object.{Object}
 use Rattle.sg_facts.specs.Legal.{Table, done}
 
 -- the space of a page, and its address there
+
+-- the space of a page
 abbrev pub space_of : Row → ℕ
 space_of r = word_of (field_at r.fields 0)
 
+-- the address of a page in its space
 abbrev pub addr_of : Row → ℕ
 addr_of r = word_of (field_at r.fields 1)
 

@@ -67,6 +67,7 @@ IsEnd i ask history script client Done = length (calls_of history client) ≡ le
 IsEnd i ask history script client (Blocked call) =
     (call_after i.facts script history client (length (calls_of history client)) ≡ Some call) × (answer i ask (object_of i.facts history) call ≡ None)
 
+-- each of these clients has ended as is told: its calls are done, or it waits in the call that is named
 abbrev pub EachEnd : Declared → Table → List Entry → Script → List (ℕ × End) → Type 0
 EachEnd i ask history script [] = Unit {0}
 EachEnd i ask history script (e ∷ ends) = IsEnd i ask history script e.0 e.1 × EachEnd i ask history script ends

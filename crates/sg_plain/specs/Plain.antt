@@ -57,6 +57,7 @@ first_stage script = record {
 abbrev pub player_of : Stage → ℕ → Player
 player_of s client = unwrap_or (slice_get s.players (client - 1)) (record { done = 0; phase = through })
 
+-- a stage with the client of a number, from 1, replaced
 abbrev pub with_player : Stage → ℕ → Player → Stage
 with_player s client p = record s { players = slice_set s.players (client - 1) p }
 
@@ -68,10 +69,12 @@ wakes facts rows call (Refused code) id = false
 wakes facts rows call (Ok good) id =
     ((fun_at facts.funs call.fun).wakeup && (call.desc == id)) || ((fun_at facts.funs call.fun).terminal && ends_with facts rows call.desc id)
 
+-- the descriptor of the call that a client is at, 0 where it has none
 abbrev pub waits_on : Option Call → ℕ
 waits_on None = 0
 waits_on (Some call) = call.desc
 
+-- what a client is at after an answered call that wakes it, or not: only one that was blocked is ready again
 abbrev pub woken_phase : Bool → PlainPhase → PlainPhase
 woken_phase true blocked = ready
 woken_phase false blocked = blocked
@@ -98,6 +101,7 @@ appended facts script s call reply = record s {
 abbrev pub gone_on : Script → ℕ → Stage → Stage
 gone_on script client s = with_player s client (player_at script client ((player_of s client).done + 1))
 
+-- a stage with this as what a client is at
 abbrev pub at_phase : ℕ → PlainPhase → Stage → Stage
 at_phase client phase s = with_player s client (record (player_of s client) { phase = phase })
 
@@ -109,14 +113,17 @@ served facts script client s call None = at_phase client blocked s
 served facts script client s call (Some reply) =
     if is_visible facts call.fun then at_phase client replied (appended facts script s call reply) else at_phase client (holding reply) s
 
+-- a client's call after the guard: a refusal is appended, and the client goes on; any other call is asked of the service
 abbrev pub after_guard : Declared → Table → Script → ℕ → Stage → Call → Option Code → Stage
 after_guard i ask script client s call (Some code) = gone_on script client (appended i.facts script s call (Refused code))
 after_guard i ask script client s call None = served i.facts script client s call (ask (object_of i.facts s.history) call)
 
+-- the stage after a client makes its next call; as before where it has none
 abbrev pub after_call : Declared → Table → Script → ℕ → Stage → Option Call → Stage
 after_call i ask script client s None = s
 after_call i ask script client s (Some call) = after_guard i ask script client s call (guard i (object_of i.facts s.history) call)
 
+-- a client's held reply is appended with its call, and the client goes on; as before where it has no call
 abbrev pub handed_over : Facts → Script → ℕ → Stage → Reply → Option Call → Stage
 handed_over facts script client s reply None = s
 handed_over facts script client s reply (Some call) = gone_on script client (appended facts script s call reply)
@@ -132,6 +139,7 @@ turned i ask script client s through = s
 
 -- ---- whose turn it is
 
+-- whether a client can go on by itself: it is neither blocked nor without a call
 abbrev pub is_under_way : PlainPhase → Bool
 is_under_way ready = true
 is_under_way replied = true
@@ -139,6 +147,7 @@ is_under_way (holding reply) = true
 is_under_way blocked = false
 is_under_way through = false
 
+-- whether the client of a number, from 1, can take a turn
 abbrev pub may_turn : Stage → ℕ → Bool
 may_turn s client = is_under_way (player_of s client).phase
 
@@ -156,6 +165,7 @@ left_after_first s (client ∷ schedule) = if may_turn s client then schedule el
 abbrev pub in_a_circle : Stage → List ℕ
 in_a_circle s = ascending_from (s.last + 1) (length s.players - s.last) ++ ascending_from 1 s.last
 
+-- the first number, or the second where there is no first
 abbrev pub some_or : Option ℕ → Option ℕ → Option ℕ
 some_or (Some n) other = Some n
 some_or None other = other
@@ -170,6 +180,7 @@ next_turn script s =
 abbrev pub left_schedule : Script → Stage → List ℕ
 left_schedule script s = if nat_lt (player_of s 1).done (length script.setup) then s.schedule else left_after_first s s.schedule
 
+-- the stage after the turn of a client; as before where nobody takes one
 abbrev pub after_turn : Declared → Table → Script → Stage → Option ℕ → Stage
 after_turn i ask script s None = s
 after_turn i ask script s (Some client) =
@@ -186,6 +197,7 @@ abbrev pub stage_from : Declared → Table → Script → Stage → ℕ → Stag
 stage_from i ask script s zero = s
 stage_from i ask script s (suc turns) = stage_from i ask script (next_stage i ask script s) turns
 
+-- the stage after so many turns of a play
 abbrev pub stage_after : Declared → Table → Script → ℕ → Stage
 stage_after i ask script turns = stage_from i ask script (first_stage script) turns
 

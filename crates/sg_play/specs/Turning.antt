@@ -16,6 +16,7 @@ use Rattle.sg_world.specs.sg_world_laws.Setting.{Setting}
 
 -- ---- the offer
 
+-- a world after the offer of a call by a client, which is an event; as before where there is no call
 abbrev pub with_call : WorldView → ℕ → Option Call → WorldView
 with_call w client None = w
 with_call w client (Some call) = happened (offered w client call)
@@ -43,6 +44,7 @@ handed_by Lost = None
 abbrev pub with_leaving : Script → WorldView → ℕ → WorldView
 with_leaving script w client = if nat_lt (seat_of w client).seq (length (script_calls script client)) then w else happened (with_leave w client)
 
+-- a world after a client's step and what follows it: the client leaves where its last call was answered
 abbrev pub behind_step : Script → ℕ → Did → WorldView → WorldView
 behind_step script client (Answered reply) later = with_leaving script later client
 behind_step script client _ later = later

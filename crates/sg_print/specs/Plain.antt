@@ -12,25 +12,32 @@ use Rattle.sg_parse.specs.declared.tree.Tree.{Tree}
 use Rattle.sg_parse.specs.Grammar.Named.{Named}
 
 -- a name at place 0, and so each name of what follows
+
+-- a name at place 0
 abbrev pub plain_name : Named → Named
 plain_name n = record { bytes = n.bytes; at = 0 }
 
+-- a type with each name at place 0
 abbrev pub plain_type : TypeName → TypeName
 plain_type ty = record { names = map plain_name ty.names; stars = ty.stars }
 
+-- a parameter with each name at place 0
 abbrev pub plain_param : Param → Param
 plain_param p = record { ty = plain_type p.ty; form = option_map plain_name p.form; name = plain_name p.name }
 
+-- what a prototype returns, with each name at place 0
 abbrev pub plain_ret : Ret → Ret
 plain_ret (Plain ty) = Plain (plain_type ty)
 plain_ret (Set ty field) = Set (plain_type ty) (plain_name field)
 plain_ret (Add ty field) = Add (plain_type ty) (plain_name field)
 
+-- a statement with each name at place 0
 abbrev pub plain_statement : Statement → Statement
 plain_statement (One word fun) = One (plain_name word) (plain_name fun)
 plain_statement (Two word first second) = Two (plain_name word) (plain_name first) (plain_name second)
 plain_statement (Proto ret n params) = Proto (plain_ret ret) (plain_name n) (map plain_param params)
 
+-- the facts of a head with each name at place 0
 abbrev pub plain_facts : Facts → Facts
 plain_facts f = record {
   service = plain_name f.service;

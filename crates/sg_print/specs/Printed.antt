@@ -34,6 +34,7 @@ abbrev pub form_text : Option Named → Named → List ℕ
 form_text None n = n.bytes
 form_text (Some form) n = concat (form.bytes ∷ codes "(" ∷ n.bytes ∷ codes ")" ∷ [])
 
+-- a parameter: its type, and its name with or without a form
 abbrev pub param_text : Param → List ℕ
 param_text p = type_text p.ty ++ form_text p.form p.name
 
@@ -45,6 +46,7 @@ params_text params = join_by param_text (codes ", ") params
 abbrev pub returned_text : List ℕ → TypeName → Named → List ℕ
 returned_text what ty field = concat (what ∷ codes "(" ∷ type_before_comma ty ∷ codes ", " ∷ field.bytes ∷ codes ") " ∷ [])
 
+-- what stands before a prototype's name: a type, or what becomes of the returned word
 abbrev pub ret_text : Ret → List ℕ
 ret_text (Plain ty) = type_text ty
 ret_text (Set ty field) = returned_text (codes "desc_data_retval") ty field

@@ -42,6 +42,7 @@ abbrev pub flag_piece : Bool → List ℕ → List ℕ
 flag_piece true word = codes " " ++ word
 flag_piece false word = []
 
+-- the words of the flags that a function has, each after a space
 unfoldable pub flag_pieces : Fun → List ℕ
 flag_pieces f = concat (
     flag_piece f.creation (codes "creation") ∷ flag_piece f.terminal (codes "terminal") ∷ flag_piece f.block (codes "block")

@@ -14,5 +14,6 @@ pub record Served : Type 0 where
 abbrev pub object_with : Held OpenFile → List (List ℕ × List ℕ) → Object
 object_with tree files = record { rows = tree_rows tree; files = files; given = tree.given }
 
+-- what the file service holds, as an object
 abbrev pub ramfs_object : Served → Object
 ramfs_object s = object_with s.tree s.files

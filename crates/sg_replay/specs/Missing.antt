@@ -24,13 +24,17 @@ next_number (Partial real done) = done + 1
 next_number (Live real) = 1
 
 -- the next call of the walk of the first of these ids that isn't whole
+
+-- the next call of the walk of an id; None where there is no id
 abbrev pub todo_of : List (ℕ × Standing) → Option ℕ → Option Todo
 todo_of known None = None
 todo_of known (Some id) = Some (Walk id (next_number (named_at known id)))
 
+-- the next call of the walk of the first of some ids that isn't whole; None where all are
 abbrev pub missing_row : List (ℕ × Standing) → List ℕ → Option Todo
 missing_row known ids = todo_of known (find (λ id. not (is_whole (named_at known id))) ids)
 
+-- whether a file has no bytes
 abbrev pub is_empty : List ℕ → Bool
 is_empty [] = true
 is_empty (b ∷ bytes) = false
@@ -40,6 +44,7 @@ abbrev pub missing_file : Engined → Option (List ℕ) → Option Todo
 missing_file e None = None
 missing_file e (Some key) = if is_empty (bytes_of e.stored key) || is_present e.present key then None else Some Load
 
+-- what the first says is to be done, or the second where the first says nothing
 abbrev pub or_else : Option Todo → Option Todo → Option Todo
 or_else None other = other
 or_else (Some todo) other = Some todo

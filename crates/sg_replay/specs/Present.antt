@@ -20,6 +20,7 @@ mark_at marks key = find (λ m. bytes_eq key m.0) marks
 abbrev pub HasMark : Marks → List ℕ → Type 0
 HasMark marks key = IsSome (mark_at marks key)
 
+-- a mark that was found; false where none was
 abbrev pub mark_of : Option (List ℕ × Bool) → Bool
 mark_of None = false
 mark_of (Some m) = m.1

@@ -45,6 +45,7 @@ abbrev pub length_of : Option (List ℕ) → ℕ
 length_of None = 0
 length_of (Some walk) = length walk
 
+-- the number of calls of the walk of a row, 0 where there is no walk
 abbrev pub walk_length : List WalkLine → Option Row → ℕ
 walk_length walks row = length_of (walk_in walks row)
 

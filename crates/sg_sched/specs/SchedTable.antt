@@ -13,9 +13,12 @@ use Rattle.sg_facts.specs.Legal.{Table, done}
 use Rattle.sg_facts.specs.Laws.{state_in}
 
 -- the priority of a thread, and its rank in the queue
+
+-- the priority of a thread; a smaller one goes before
 abbrev pub prio_of : Row → ℕ
 prio_of r = word_of (field_at r.fields 0)
 
+-- the rank of a thread in the queue; of one priority a smaller rank goes before
 abbrev pub rank_of : Row → ℕ
 rank_of r = word_of (field_at r.fields 1)
 
@@ -29,6 +32,7 @@ goes_before r s =
     nat_lt (prio_of r) (prio_of s)
     || ((prio_of r == prio_of s) && (nat_lt (rank_of r) (rank_of s) || ((rank_of r == rank_of s) && nat_lt r.id s.id)))
 
+-- the one of two threads that goes before the other
 abbrev pub next_of : Row → Row → Row
 next_of r s = if goes_before s r then s else r
 

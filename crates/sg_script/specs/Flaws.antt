@@ -98,6 +98,7 @@ stops_flaws nth before (n ∷ numbers) =
 
 -- ---- parts
 
+-- whether a part is a setup
 abbrev pub is_setup : Part → Bool
 is_setup (Setup at calls) = true
 is_setup (Client at n calls) = false
@@ -111,12 +112,14 @@ is_of_client k (Client at n calls) = counts_as n.bytes == k
 is_of_client k (Schedule at numbers) = false
 is_of_client k (Stop at numbers) = false
 
+-- whether a part is a schedule
 abbrev pub is_schedule : Part → Bool
 is_schedule (Setup at calls) = false
 is_schedule (Client at n calls) = false
 is_schedule (Schedule at numbers) = true
 is_schedule (Stop at numbers) = false
 
+-- whether a part has the stops
 abbrev pub is_stop : Part → Bool
 is_stop (Setup at calls) = false
 is_stop (Client at n calls) = false

@@ -30,11 +30,13 @@ declared_fun i name = declared_from i name 1 i.facts.funs
 
 -- ---- calls
 
+-- what a written argument stands for
 abbrev pub arg_of : WrittenArg → Arg
 arg_of (number n) = Number (counts_as n.bytes)
 arg_of (text t) = Text (unquoted t.bytes)
 arg_of (back n) = Back (counts_as n.bytes)
 
+-- what a written call stands for; the function is 0 where the interface declares none of its name
 abbrev pub script_call_of : Declared → WrittenCall → ScriptCall
 script_call_of i c = record { fun = unwrap_or (declared_fun i c.name.bytes) 0; args = map arg_of c.args }
 
@@ -48,12 +50,15 @@ calls_of_setup (Schedule at numbers) = []
 calls_of_setup (Stop at numbers) = []
 
 -- the turns that a part gives, and its stops
+
+-- the turns that a part gives: the clients of a schedule
 abbrev pub turns_of : Part → List Spelling
 turns_of (Setup at calls) = []
 turns_of (Client at n calls) = []
 turns_of (Schedule at numbers) = numbers
 turns_of (Stop at numbers) = []
 
+-- the stops that a part gives
 abbrev pub stops_of : Part → List Spelling
 stops_of (Setup at calls) = []
 stops_of (Client at n calls) = []

@@ -45,9 +45,11 @@ pub record WorldView : Type 0 where
 
 -- ---- seats
 
+-- a call of nobody, which stands where none was offered
 abbrev pub no_call : Call
 no_call = record { client = 0; seq = 0; fun = 0; desc = 0; args = [] }
 
+-- an empty Ok, which stands where no reply is
 abbrev pub no_reply : Reply
 no_reply = Ok (record { desc = 0; words = []; bytes = [] })
 
@@ -59,12 +61,15 @@ no_seat = record { phase = Idle; call = no_call; seq = 0; boot = 0; reply = no_r
 abbrev pub seat_in : List Seat → ℕ → Seat
 seat_in seats client = unwrap_or (slice_get seats (client - 1)) no_seat
 
+-- the seat of a client of a world; clients are numbered from 1
 abbrev pub seat_of : WorldView → ℕ → Seat
 seat_of w client = seat_in w.seats client
 
+-- a world with the seat of a client replaced
 abbrev pub with_seat : WorldView → ℕ → Seat → WorldView
 with_seat w client seat = record w { seats = slice_set w.seats (client - 1) seat }
 
+-- a world with the seat of a client in another phase
 abbrev pub in_phase : WorldView → ℕ → Phase → WorldView
 in_phase w client phase = with_seat w client (record (seat_of w client) { phase = phase })
 
@@ -85,6 +90,7 @@ is_resting Asked = false
 is_resting Held = false
 is_resting Receipted = false
 
+-- whether the client of a seat waits or has left
 abbrev pub is_at_rest : Seat → Bool
 is_at_rest s = is_resting s.phase
 
@@ -112,6 +118,7 @@ MayWithdraw Receipted = ⊥
 abbrev pub boot_number : WorldView → ℕ
 boot_number w = length w.run.boots
 
+-- whether a client's reply is held: the service gave it, and it isn't in the history yet
 abbrev pub is_held_phase : Phase → Bool
 is_held_phase Held = true
 is_held_phase Idle = false
@@ -162,6 +169,7 @@ wakes_seat facts rows call (Refused code) other = false
 wakes_seat facts rows call (Ok good) other =
     ((fun_at facts.funs call.fun).wakeup && (call.desc == other.desc)) || ((fun_at facts.funs call.fun).terminal && ends_with facts rows call.desc other.desc)
 
+-- whether a client's call has to wait
 abbrev pub is_blocked_phase : Phase → Bool
 is_blocked_phase Blocked = true
 is_blocked_phase Idle = false
@@ -195,6 +203,7 @@ answered_to w e = with_mark (with_seat w e.call.client (record (seat_of w e.call
 abbrev pub reply_handed_over : WorldView → ℕ → WorldView
 reply_handed_over w client = with_mark (with_seat w client (record (seat_of w client) { phase = Idle; reply = no_reply })) client Answer
 
+-- whether a client has left
 abbrev pub is_left_phase : Phase → Bool
 is_left_phase Left = true
 is_left_phase Idle = false
@@ -215,9 +224,11 @@ happened w = record w { events = min (w.events + 1) last_count }
 abbrev pub item_noted : WorldView → Item → WorldView
 item_noted w item = record w { run = record { boots = noted w.run.boots item; points = item.points } }
 
+-- a world in whose run so many points were asked
 abbrev pub with_points : WorldView → ℕ → WorldView
 with_points w points = record w { run = record { boots = w.run.boots; points = points } }
 
+-- a world whose service is up and holds this object
 abbrev pub service_is : WorldView → Object → WorldView
 service_is w v = record w { running = Some v }
 

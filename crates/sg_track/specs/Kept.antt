@@ -57,9 +57,12 @@ abbrev pub others_of : ℕ → List Row → ℕ → ℕ
 others_of gone rows id = count_rows (λ r. (r.parent == id) && not (r.id == gone)) rows
 
 -- one more, or one less, for one id
+
+-- a number for each id, with one more for one of them
 abbrev pub more_at : ℕ → (ℕ → ℕ) → ℕ → ℕ
 more_at one number id = if id == one then number id + 1 else number id
 
+-- a number for each id, with one less for one of them
 abbrev pub less_at : ℕ → (ℕ → ℕ) → ℕ → ℕ
 less_at one number id = if id == one then number id - 1 else number id
 

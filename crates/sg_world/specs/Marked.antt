@@ -8,6 +8,7 @@ use Rattle.sg_clients.specs.sg_seat.declared.mark.MarkKind.TheVariants.{Offer, E
 use Rattle.sg_clients.specs.sg_seat.declared.phase.Phase.{Phase}
 use Rattle.sg_clients.specs.sg_seat.declared.phase.Phase.TheVariants.{Idle, Receipted, Left}
 
+-- whether a mark is that of an entry
 abbrev pub is_entry_mark : MarkKind → Bool
 is_entry_mark Entry = true
 is_entry_mark Offer = false
@@ -15,6 +16,7 @@ is_entry_mark Answer = false
 is_entry_mark Withdraw = false
 is_entry_mark Leave = false
 
+-- whether a mark is that of a withdrawn call
 abbrev pub is_withdrawal_mark : MarkKind → Bool
 is_withdrawal_mark Withdraw = true
 is_withdrawal_mark Offer = false
@@ -26,6 +28,7 @@ is_withdrawal_mark Leave = false
 abbrev pub marked_as : (MarkKind → Bool) → List Mark → List ℕ
 marked_as test marks = map (λ m. m.client) (filter (λ m. test m.kind) marks)
 
+-- the later of two things that happened, or the earlier where nothing happened later
 abbrev pub or_later : Option MarkKind → Option MarkKind → Option MarkKind
 or_later before None = before
 or_later before (Some kind) = Some kind

@@ -52,6 +52,7 @@ marks_due Asked = 3
 marks_due Held = 3
 marks_due Blocked = 3
 
+-- how much may still happen to these clients together before one of them makes another call
 abbrev pub marks_left : List Seat → ℕ
 marks_left [] = 0
 marks_left (s ∷ seats) = marks_due s.phase + marks_left seats

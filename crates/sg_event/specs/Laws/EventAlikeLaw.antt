@@ -44,6 +44,7 @@ module _ (names : List (ℕ × ℕ)) (o held : Object) (client seq desc : ℕ) (
   alike_at (suc (suc (suc (suc zero)))) passes serves = same_done names serves.names_are.none
   alike_at (suc (suc (suc (suc (suc m))))) passes serves = refl
 
+-- the event service gives a call the same answer, but for ids, from whatever it holds that serves the call
 pub event_answers_alike : AnswersAlike event_facts event_table IsEventSound
 event_answers_alike = record {
   alike = λ names o held call sound passes serves. alike_at names o held call.client call.seq call.desc call.args call.fun passes serves;

@@ -92,6 +92,7 @@ blocked_row o other call good passes blocked is leaves =
     row_stays o call.client call.seq call.desc call.args other found.0 found.1
     (none_left other.fun o.given (count_in (row_at o.rows other.desc)) (word_of (arg_at other 0)) blocked) call.fun good is leaves
 
+-- who is blocked on an event stays blocked after any call that neither triggers nor ends the event
 pub event_blocked_stays : BlockedStays event_facts event_table IsEventSound
 event_blocked_stays = record {
   blocked = λ o other call good sound passes blocked passes_too is leaves.

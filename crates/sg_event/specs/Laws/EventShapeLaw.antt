@@ -42,6 +42,8 @@ blocks_at (suc (suc (suc zero))) given count n is = absurd (at (nat_lt most_coun
 blocks_at (suc (suc (suc (suc zero)))) given count n is = absurd (cc is)
 blocks_at (suc (suc (suc (suc (suc m))))) given count n is = absurd (cc is)
 
+-- the event service has a shape that is allowed, a call blocks only where its function may, no refusal is the guard's,
+-- and an Ok has a word where a field takes one
 pub event_shape_allows : ShapeAllows event_facts event_table
 event_shape_allows = record {
   shape = refl;
@@ -50,5 +52,6 @@ event_shape_allows = record {
   words = λ o call good is wants. absurd (cc (sym (wants_none event_facts refl call.fun) ∙ wants));
 }
 
+-- the counted words of the event service rise slowly: it has none
 pub event_counts_slowly : CountsSlowly event_facts event_table IsEventSound
 event_counts_slowly = never_counts event_facts refl event_table IsEventSound

@@ -70,6 +70,7 @@ module _ (o : Object) (client seq desc : ℕ) (args : List Value) where
       record { general = kept.0; counted = kept.1 }
   keeps_at (suc (suc (suc (suc (suc n))))) good sound passes is = absurd (cc is)
 
+-- the empty object of the event service is sound, an Ok keeps an object sound, and a new event has the next id
 pub event_answers_and_keeps : AnswersAndKeeps event_facts event_table IsEventSound
 event_answers_and_keeps = record {
   empty = record { general = record { rows = tt; files = tt }; counted = tt };

@@ -120,11 +120,13 @@ module _ (declared : ℕ) (moves steps : List (ℕ × ℕ)) where
         fields = triggered names r (first ∷ done) w.fields (record { desc = 0; words = []; bytes = [] }) counted none row.fields;
       })
 
+-- in the middle of a recovery the event service answers Ok to each replayed creation and to each recover step
 pub event_answers_replays : AnswersReplays event_facts event_table IsEventSound
 event_answers_replays = record {
   creations = of_facts (λ i. AnswersCreations i event_table IsEventSound) event_facts creates;
   steps = of_facts (λ i. AnswersSteps i event_table IsEventSound) event_facts steps_on_it;
 }
 
+-- in the middle of a recovery the next call of the walk of an event is answered Ok, and brings it one step on
 pub event_walk_goes_on : WalkGoesOn event_facts event_table IsEventSound
 event_walk_goes_on = walk_goes_on event_facts event_table IsEventSound refl event_answers_and_keeps event_answers_replays

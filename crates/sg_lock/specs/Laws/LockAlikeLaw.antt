@@ -50,6 +50,7 @@ module _ (names : List (ℕ × ℕ)) (o held : Object) (client seq desc : ℕ) (
       (same_either names (owner == 0) _ _ (same_done names serves.names_are.none) refl)
   alike_at (suc (suc (suc (suc (suc n))))) passes serves = refl
 
+-- the lock service gives a call the same answer, but for ids, from whatever it holds that serves the call
 pub lock_answers_alike : AnswersAlike lock_facts lock_table IsLockSound
 lock_answers_alike = record {
   alike = λ names o held call sound passes serves. alike_at names o held call.client call.seq call.desc call.args call.fun passes serves;

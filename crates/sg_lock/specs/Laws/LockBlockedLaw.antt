@@ -100,6 +100,7 @@ blocked_row o other call good blocked is leaves =
     (owned (owner_in (row_at o.rows other.desc)) other.client (is_take other.fun o.given (owner_in (row_at o.rows other.desc)) other.client blocked))
     call.fun good is leaves
 
+-- who is blocked on a lock stays blocked after any call that neither releases nor ends the lock
 pub lock_blocked_stays : BlockedStays lock_facts lock_table IsLockSound
 lock_blocked_stays = record {
   blocked = λ o other call good sound passes blocked passes_too is leaves.

@@ -52,6 +52,8 @@ blocks_at (suc (suc (suc (suc zero)))) given owner client is = absurd (at (owner
     at false is = cc is
 blocks_at (suc (suc (suc (suc (suc n))))) given owner client is = absurd (cc is)
 
+-- the lock service has a shape that is allowed, a call blocks only where its function may, no refusal is the guard's,
+-- and an Ok has a word where a field takes one
 pub lock_shape_allows : ShapeAllows lock_facts lock_table
 lock_shape_allows = record {
   shape = refl;
@@ -60,8 +62,10 @@ lock_shape_allows = record {
   words = λ o call good is wants. absurd (cc (sym (wants_none lock_facts refl call.fun) ∙ wants));
 }
 
+-- no row of the lock service has a counted word, so the greatest is 0
 pub none_in_rows : (rows : List Row) → most_counted lock_facts rows ≡ 0
 none_in_rows = none_counted lock_facts refl
 
+-- the counted words of the lock service rise slowly: it has none
 pub lock_counts_slowly : CountsSlowly lock_facts lock_table IsLockSound
 lock_counts_slowly = never_counts lock_facts refl lock_table IsLockSound

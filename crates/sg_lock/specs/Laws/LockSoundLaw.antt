@@ -66,6 +66,7 @@ module _ (o : Object) (client seq desc : ℕ) (args : List Value) where
       record { general = kept.0; owned = kept.1 }
   keeps_at (suc (suc (suc (suc (suc n))))) good sound passes is = absurd (cc is)
 
+-- the empty object of the lock service is sound, an Ok keeps an object sound, and a new lock has the next id
 pub lock_answers_and_keeps : AnswersAndKeeps lock_facts lock_table IsLockSound
 lock_answers_and_keeps = record {
   empty = record { general = record { rows = tt; files = tt }; owned = tt };

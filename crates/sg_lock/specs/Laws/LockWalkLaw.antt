@@ -116,11 +116,13 @@ module _ (declared : ℕ) (moves steps : List (ℕ × ℕ)) where
         fields = taken_fields names r (first ∷ done) w.fields (record { desc = 0; words = []; bytes = [] }) client.1 row.fields;
       })
 
+-- in the middle of a recovery the lock service answers Ok to each replayed creation and to each recover step
 pub lock_answers_replays : AnswersReplays lock_facts lock_table IsLockSound
 lock_answers_replays = record {
   creations = of_facts (λ i. AnswersCreations i lock_table IsLockSound) lock_facts creates;
   steps = of_facts (λ i. AnswersSteps i lock_table IsLockSound) lock_facts steps_on_it;
 }
 
+-- in the middle of a recovery the next call of the walk of a lock is answered Ok, and brings it one step on
 pub lock_walk_goes_on : WalkGoesOn lock_facts lock_table IsLockSound
 lock_walk_goes_on = walk_goes_on lock_facts lock_table IsLockSound refl lock_answers_and_keeps lock_answers_replays

@@ -125,6 +125,7 @@ module _ (names : List (ℕ × ℕ)) (o held : Object) (client seq desc : ℕ) (
   alike_at (suc (suc (suc (suc zero)))) serves = same_found names o held (call_of 4) sound serves refl (number_at (call_of 4) 0) (number_at (call_of 4) 1)
   alike_at (suc (suc (suc (suc (suc n))))) serves = refl
 
+-- the memory mapping service gives a call the same answer, but for ids, from whatever it holds that serves the call
 pub mm_answers_alike : AnswersAlike mm_facts mm_table IsMmSound
 mm_answers_alike = record {
   alike = λ names o held call sound passes serves. alike_at names o held call.client call.seq call.desc call.args sound call.fun serves;

@@ -33,6 +33,7 @@ never_waits (suc (suc (suc zero))) o call is = cc is
 never_waits (suc (suc (suc (suc zero)))) o call is = find_is_told (page_at o.rows (number_at call 0) (number_at call 1)) is
 never_waits (suc (suc (suc (suc (suc n))))) o call is = cc is
 
+-- who is blocked at the memory mapping service stays blocked: nobody ever is
 pub mm_blocked_stays : BlockedStays mm_facts mm_table IsMmSound
 mm_blocked_stays = record {
   blocked = λ o other call good sound passes waits passes_too is leaves. absurd (never_waits other.fun o other waits);

@@ -35,6 +35,8 @@ refuses_at (suc (suc (suc zero))) o call = tt
 refuses_at (suc (suc (suc (suc zero)))) o call = find_refuses (page_at o.rows (number_at call 0) (number_at call 1))
 refuses_at (suc (suc (suc (suc (suc n))))) o call = refl
 
+-- the memory mapping service has a shape that is allowed, no call blocks, no refusal is the guard's,
+-- and an Ok has a word where a field takes one
 pub mm_shape_allows : ShapeAllows mm_facts mm_table
 mm_shape_allows = record {
   shape = refl;
@@ -43,5 +45,6 @@ mm_shape_allows = record {
   words = λ o call good is wants. absurd (cc (sym (wants_none mm_facts refl call.fun) ∙ wants));
 }
 
+-- the counted words of the memory mapping service rise slowly: it has none
 pub mm_counts_slowly : CountsSlowly mm_facts mm_table IsMmSound
 mm_counts_slowly = never_counts mm_facts refl mm_table IsMmSound

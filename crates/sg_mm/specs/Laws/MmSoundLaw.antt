@@ -133,6 +133,7 @@ next_at (suc (suc (suc zero))) o call good is makes = absurd (cc makes)
 next_at (suc (suc (suc (suc zero)))) o call good is makes = absurd (cc makes)
 next_at (suc (suc (suc (suc (suc n))))) o call good is makes = absurd (cc makes)
 
+-- the empty object of the memory mapping service is sound, an Ok keeps an object sound, and a new page has the next id
 pub mm_answers_and_keeps : AnswersAndKeeps mm_facts mm_table IsMmSound
 mm_answers_and_keeps = record {
   empty = record { general = record { rows = tt; files = tt }; of_clients = tt; apart = tt };

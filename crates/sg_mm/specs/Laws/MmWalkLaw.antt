@@ -167,11 +167,13 @@ module _ (declared : ℕ) (moves steps : List (ℕ × ℕ)) where
   steps_on_it : AnswersSteps i mm_table IsMmSound
   steps_on_it names o held r w first done rest fun half there found walk part may = absurd (let none = step_of i part.spot fun half.fits may in cc none)
 
+-- in the middle of a recovery the memory mapping service answers Ok to each replayed creation and to each recover step
 pub mm_answers_replays : AnswersReplays mm_facts mm_table IsMmSound
 mm_answers_replays = record {
   creations = of_facts (λ i. AnswersCreations i mm_table IsMmSound) mm_facts creates;
   steps = of_facts (λ i. AnswersSteps i mm_table IsMmSound) mm_facts steps_on_it;
 }
 
+-- in the middle of a recovery the next call of the walk of a page is answered Ok, and brings it one step on
 pub mm_walk_goes_on : WalkGoesOn mm_facts mm_table IsMmSound
 mm_walk_goes_on = walk_goes_on mm_facts mm_table IsMmSound refl mm_answers_and_keeps mm_answers_replays

@@ -20,24 +20,31 @@ use Rattle.sg_lex.specs.Marks.{open_brace_byte, close_brace_byte, open_bracket_b
 
 -- ---- the marks
 
+-- the mark `{`
 abbrev pub open_brace : Piece
 open_brace = mark open_brace_byte
 
+-- the mark `(`
 abbrev pub open_bracket : Piece
 open_bracket = mark open_bracket_byte
 
+-- the mark `)`
 abbrev pub close_bracket : Piece
 close_bracket = mark close_bracket_byte
 
+-- the mark `=`
 abbrev pub equals : Piece
 equals = mark equals_byte
 
+-- the mark `,`
 abbrev pub comma : Piece
 comma = mark comma_byte
 
+-- the mark `;`
 abbrev pub semicolon : Piece
 semicolon = mark semicolon_byte
 
+-- the mark `*`
 abbrev pub star : Piece
 star = mark star_byte
 
@@ -47,6 +54,7 @@ star = mark star_byte
 abbrev pub fact_pieces : List ℕ → Sort → Named → Piece → List Piece → List Piece
 fact_pieces fact sort value end more = word fact ∷ equals ∷ name sort value ∷ end ∷ more
 
+-- the head, with its seven facts in order, and what follows it
 abbrev pub facts_pieces : Facts → List Piece → List Piece
 facts_pieces f more =
     word (codes "service_global_info") ∷ equals ∷ open_brace ∷
@@ -68,6 +76,7 @@ abbrev pub form_pieces : Option Named → Named → List Piece
 form_pieces None n = name Name n ∷ []
 form_pieces (Some form) n = name Form form ∷ open_bracket ∷ name Name n ∷ close_bracket ∷ []
 
+-- a parameter: its type, and its name with or without a form
 abbrev pub param_pieces : Param → List Piece
 param_pieces p = type_pieces p.ty ++ form_pieces p.form p.name
 
@@ -75,6 +84,7 @@ param_pieces p = type_pieces p.ty ++ form_pieces p.form p.name
 abbrev pub more_params : List Param → List Piece
 more_params params = flat_map (λ p. comma ∷ param_pieces p) params
 
+-- parameters, with commas between them
 abbrev pub params_pieces : List Param → List Piece
 params_pieces [] = []
 params_pieces (p ∷ params) = param_pieces p ++ more_params params
@@ -84,11 +94,13 @@ abbrev pub returned_pieces : List ℕ → TypeName → Named → List Piece
 returned_pieces what ty field =
     word what ∷ open_bracket ∷ (type_pieces ty ++ comma ∷ name Name field ∷ close_bracket ∷ [])
 
+-- what stands before a prototype's name: a type, or what becomes of the returned word
 abbrev pub ret_pieces : Ret → List Piece
 ret_pieces (Plain ty) = type_pieces ty
 ret_pieces (Set ty field) = returned_pieces (codes "desc_data_retval") ty field
 ret_pieces (Add ty field) = returned_pieces (codes "desc_data_retval_add") ty field
 
+-- a statement up to its semicolon: a word with one name or two in brackets, or a prototype
 abbrev pub statement_pieces : Statement → List Piece
 statement_pieces (One w fun) =
     name one_word w ∷ open_bracket ∷ name Name fun ∷ close_bracket ∷ semicolon ∷ []
@@ -97,6 +109,7 @@ statement_pieces (Two w first second) =
 statement_pieces (Proto ret n params) =
     ret_pieces ret ++ (name Name n ∷ open_bracket ∷ (params_pieces params ++ close_bracket ∷ semicolon ∷ []))
 
+-- a tree: its head, and then its statements in order
 abbrev pub tree_pieces : Tree → List Piece
 tree_pieces tree = facts_pieces tree.facts (flat_map statement_pieces tree.statements)
 
@@ -106,6 +119,7 @@ tree_pieces tree = facts_pieces tree.facts (flat_map statement_pieces tree.state
 abbrev pub IsType : TypeName → Type 0
 IsType ty = ty.names ≢ []
 
+-- the type of what a prototype returns has at least one name
 abbrev pub IsRet : Ret → Type 0
 IsRet (Plain ty) = IsType ty
 IsRet (Set ty field) = IsType ty
@@ -117,6 +131,7 @@ IsStatement (One w fun) = Unit {0}
 IsStatement (Two w first second) = Unit {0}
 IsStatement (Proto ret n params) = IsRet ret × (params ≢ []) × All (λ p. IsType p.ty) params
 
+-- each prototype of a tree has at least one parameter, and each type at least one name
 abbrev pub IsWellFormed : Tree → Type 0
 IsWellFormed tree = All IsStatement tree.statements
 

@@ -34,6 +34,7 @@ entries_to_come left (holding reply) = left
 entries_to_come left blocked = left
 entries_to_come left through = left
 
+-- how many entries are still to come of the calls of these clients, which are numbered from a number on
 abbrev pub all_to_come : Script → ℕ → List Player → ℕ
 all_to_come script n [] = 0
 all_to_come script n (p ∷ players) = entries_to_come (length (script_calls script n) - p.done) p.phase + all_to_come script (n + 1) players
@@ -46,6 +47,7 @@ turns_before (holding reply) = 1
 turns_before blocked = 0
 turns_before through = 0
 
+-- how many turns these clients can take together, at most, before one of them has to make an entry
 abbrev pub all_before : List Player → ℕ
 all_before [] = 0
 all_before (p ∷ players) = turns_before p.phase + all_before players

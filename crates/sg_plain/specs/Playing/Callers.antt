@@ -27,6 +27,7 @@ pub record AreCallers (facts : Facts) (script : Script) (history : List Entry) (
 
 -- ---- the setup
 
+-- whether a client's reply is still to be handed over, when its call is in the history
 abbrev pub is_receipted : Phase → Bool
 is_receipted Receipted = true
 is_receipted Idle = false

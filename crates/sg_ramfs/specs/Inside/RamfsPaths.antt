@@ -68,9 +68,11 @@ module _ (name : ℕ → ℕ) (none : name 0 ≡ 0) (P : ℕ → Type 0) (rows r
 
 -- ---- rows whose parents have smaller ids
 
+-- a row's parent has a smaller id than the row
 abbrev pub IsBelow : Row → Type 0
 IsBelow r = r.parent < r.id
 
+-- where each row's parent has a smaller id, the parent of an id above 0 is smaller; without a row it is 0
 pub below : (high id : ℕ) (rows : List Row) → AreRows IsBelow 0 high rows → 0 < id → parent_in (row_at rows id) < id
 below high id rows are low = at (row_at rows id) refl
   where

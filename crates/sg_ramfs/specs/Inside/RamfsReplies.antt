@@ -64,6 +64,7 @@ given_at (suc (suc (suc (suc zero)))) o call = seek_given (word_of (arg_at call 
 given_at (suc (suc (suc (suc (suc zero))))) o call = tt
 given_at (suc (suc (suc (suc (suc (suc n)))))) o call = refl
 
+-- the answer of the file service to a call is a reply, is no refusal of the guard's, and has a word where one is wanted
 pub is_given : (o : Object) (call : Call) → IsGiven (wants_word (fun_at ramfs_facts.funs call.fun)) (ramfs_table o call)
 is_given o call = given_at call.fun o call
 

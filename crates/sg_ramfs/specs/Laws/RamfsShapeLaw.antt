@@ -40,6 +40,8 @@ with_word false answer given wanted good is = absurd (cc wanted)
 with_word true (Some (Refused cause)) given wanted good is = absurd (cc is)
 with_word true (Some (Ok told)) given wanted good is = let one : told ≡ good = cc is in subst (λ g. 0 < length g.words) one given
 
+-- the file service has a shape that is allowed, no call blocks, no refusal is the guard's,
+-- and an Ok has a word where a field takes one
 pub ramfs_shape_allows : ShapeAllows ramfs_facts ramfs_table
 ramfs_shape_allows = record {
   shape = refl;
@@ -127,6 +129,7 @@ module _ (client seq desc : ℕ) (args : List Value) where
   replays_at (suc (suc (suc (suc (suc zero))))) o good replayed = absurd (cc replayed)
   replays_at (suc (suc (suc (suc (suc (suc n)))))) o good replayed = absurd (none_more n replayed)
 
+-- the counted words of the file service, the places in open files, rise slowly
 pub ramfs_counts_slowly : CountsSlowly ramfs_facts ramfs_table IsRamfsSound
 ramfs_counts_slowly = record {
   calls = λ o call good sound passes is.

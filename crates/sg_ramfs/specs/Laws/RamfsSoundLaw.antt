@@ -66,6 +66,7 @@ pub record HasWritten (file : List ℕ) (from : ℕ) (bytes : List ℕ) (good : 
   pub ends : from + length bytes ≤ most_file
   pub count : first_word good ≡ length bytes
 
+-- a write that is answered Ok begins within the file, ends within the greatest length, and tells how many bytes it wrote
 pub write_ok : (file : List ℕ) (from : ℕ) (bytes : List ℕ) (good : Good) → write_answer file from bytes ≡ Some (Ok good) → HasWritten file from bytes good
 write_ok file from bytes good is = at (nat_lt (length file) from) (nat_lt most_file (from + length bytes)) refl refl is
   where

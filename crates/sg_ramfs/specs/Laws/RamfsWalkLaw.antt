@@ -124,11 +124,13 @@ module _ (declared : ℕ) (moves steps : List (ℕ × ℕ)) where
         fields = sought_fields r.fields w.fields names r (first ∷ done) (record { desc = 0; words = []; bytes = [] }) refl own.fields row.fields;
       })
 
+-- in the middle of a recovery the file service answers Ok to each replayed creation and to each recover step
 pub ramfs_answers_replays : AnswersReplays ramfs_facts ramfs_table IsRamfsSound
 ramfs_answers_replays = record {
   creations = of_facts (λ i. AnswersCreations i ramfs_table IsRamfsSound) ramfs_facts creates;
   steps = of_facts (λ i. AnswersSteps i ramfs_table IsRamfsSound) ramfs_facts steps_on_it;
 }
 
+-- in the middle of a recovery the next call of the walk of an open file is answered Ok, and brings it one step on
 pub ramfs_walk_goes_on : WalkGoesOn ramfs_facts ramfs_table IsRamfsSound
 ramfs_walk_goes_on = walk_goes_on ramfs_facts ramfs_table IsRamfsSound refl ramfs_answers_and_keeps ramfs_answers_replays

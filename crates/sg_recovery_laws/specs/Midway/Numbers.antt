@@ -13,6 +13,7 @@ left_of fresh = 8
 left_of (begun n) = 8 - n
 left_of complete = 0
 
+-- 1 for a row for which nothing was done in this boot, else 0
 abbrev pub unbegun : Told → ℕ
 unbegun fresh = 1
 unbegun (begun n) = 0

@@ -23,6 +23,7 @@ pub record IsBegun (i : Declared) (walks : List WalkLine) (names : List (ℕ × 
   pub left : n < length walk
   pub at : IsAt i names held r (take n walk)
 
+-- a row is as far rebuilt in a service as is told: not at all, by so many calls of its walk, or whole
 abbrev pub IsSoFar : Declared → List WalkLine → List (ℕ × ℕ) → Object → Row → Told → Type 0
 IsSoFar i walks names held r fresh = named names r.id ≡ 0
 IsSoFar i walks names held r (begun n) = IsBegun i walks names held r n

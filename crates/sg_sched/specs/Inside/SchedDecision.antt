@@ -15,9 +15,12 @@ abbrev pub on_yield : Thread → ℕ → Decision Thread
 on_yield t rank = Set (record t { rank = rank }) (Some rank)
 
 -- a thread is put to sleep, or woken
+
+-- a thread is put to sleep: it isn't ready
 abbrev pub on_sleep : Thread → Decision Thread
 on_sleep t = Set (record t { ready = false }) None
 
+-- a thread is woken: it is ready
 abbrev pub on_wakeup : Thread → Decision Thread
 on_wakeup t = Set (record t { ready = true }) None
 

@@ -37,6 +37,7 @@ IsKeyOf test id thread key = (k : Key) → is_key key k ≡ ((id == k.id) && tes
 abbrev pub Grows : (Option Thread → Key → Bool) → ℕ → Option Thread → BTreeSet Key → BTreeSet Key → Bool → Type 0
 Grows test id thread old new grown = (k : Key) → has new k ≡ (has old k || (grown && ((id == k.id) && test thread k)))
 
+-- a set is as it was, but may have the key of a thread more
 abbrev pub MayGrow : (Option Thread → Key → Bool) → ℕ → Option Thread → BTreeSet Key → BTreeSet Key → Type 0
 MayGrow test id thread old new = (grown : Bool) × Grows test id thread old new grown
 

@@ -128,11 +128,13 @@ module _ (declared : ℕ) (moves steps : List (ℕ × ℕ)) where
         })
       ]
 
+-- in the middle of a recovery the thread service answers Ok to each replayed creation and to each recover step
 pub sched_answers_replays : AnswersReplays sched_facts sched_table IsSchedSound
 sched_answers_replays = record {
   creations = of_facts (λ i. AnswersCreations i sched_table IsSchedSound) sched_facts creates;
   steps = of_facts (λ i. AnswersSteps i sched_table IsSchedSound) sched_facts steps_on_it;
 }
 
+-- in the middle of a recovery the next call of the walk of a thread is answered Ok, and brings it one step on
 pub sched_walk_goes_on : WalkGoesOn sched_facts sched_table IsSchedSound
 sched_walk_goes_on = walk_goes_on sched_facts sched_table IsSchedSound refl sched_answers_and_keeps sched_answers_replays

@@ -19,9 +19,11 @@ is_held_arg (Number n) = true
 is_held_arg (Text t) = is_text (unquoted t.bytes)
 is_held_arg (Back n) = nat_lt (counts_as n.bytes) (2 ^ 32)
 
+-- whether the types of a script have room for each argument of a call
 abbrev pub is_held_call : WrittenCall → Bool
 is_held_call c = list_all is_held_arg c.args
 
+-- whether the types of a script have room for a part: for its clients' numbers and the arguments of its calls
 abbrev pub is_held : Part → Bool
 is_held (Setup at calls) = list_all is_held_call calls
 is_held (Client at n calls) = is_client_number n && list_all is_held_call calls

@@ -37,6 +37,7 @@ body_pieces calls = mark open_brace_byte ∷ (flat_map call_pieces calls ++ mark
 abbrev pub numbers_pieces : List Spelling → List ScriptPiece
 numbers_pieces numbers = map number numbers ++ mark semicolon_byte ∷ []
 
+-- a part: its first word, and then calls or numbers; of a client its number comes before its calls
 abbrev pub part_pieces : Part → List ScriptPiece
 part_pieces (Setup at calls) = fixed (codes "setup") at ∷ body_pieces calls
 part_pieces (Client at n calls) = fixed (codes "client") at ∷ number n ∷ body_pieces calls

@@ -5,9 +5,12 @@ use Rattle.sg_play.specs.sg_plain.Plain.{Stage, may_turn}
 use Rattle.sg_sim.specs.Playing.{Playing}
 
 -- the stage that a play is at, and whether a client may take a turn there
+
+-- the stage that a play is at
 abbrev pub stage_now : Playing → Stage
 stage_now p = stage_of p.script p.view p.passed p.last
 
+-- whether a client may take a turn at the stage that a play is at
 abbrev pub may_go_next : Playing → ℕ → Bool
 may_go_next p client = may_turn (stage_now p) client
 

@@ -47,6 +47,7 @@ named_by token = record { bytes = token.bytes; at = token.at }
 abbrev pub Behind : Type 0 → Type 0
 Behind State = List Named → Named → ℕ → State
 
+-- how far a text has been read: what may come next, with the tree so far
 pub data State : Type 0 where
   -- no token may come
   dead : State
@@ -80,12 +81,14 @@ declared go front last n =
 abbrev pub with_param : (List Param → State) → List Param → TypeName → Option Named → Named → State
 with_param go params ty form n = listed (params ++ record { ty = ty; form = form; name = n } ∷ []) go
 
+-- after the names and stars of the type of a parameter: its name, or a form with its name in brackets
 abbrev pub param_behind : (List Param → State) → List Param → List Named → Named → ℕ → State
 param_behind go params front last n =
     either
     (λ form. due open_bracket (want Name (λ n'. due close_bracket (with_param go params (type_of front last n) (Some form) n'))))
     (declared (λ ty n'. with_param go params ty None n') front last n)
 
+-- before a parameter, after those that were read
 abbrev pub param : (List Param → State) → List Param → State
 param go params = want Name (λ first. names [] first (param_behind go params))
 
@@ -93,6 +96,7 @@ param go params = want Name (λ first. names [] first (param_behind go params))
 abbrev pub one_rest : (Statement → State) → Named → State
 one_rest go w = due open_bracket (want Name (λ fun. due close_bracket (due semicolon (go (One w fun)))))
 
+-- after the word of a statement over two names
 abbrev pub two_rest : (Statement → State) → Named → State
 two_rest go w =
     due open_bracket (want Name (λ first. due comma (want Name (λ second.
@@ -103,11 +107,14 @@ abbrev pub proto_rest : (Statement → State) → Ret → Named → State
 proto_rest go ret n = due open_bracket (param (λ params. due semicolon (go (Proto ret n params))) [])
 
 -- after the word of a return that sets a field
+
+-- after the type of a returned word that goes into a field: the field, and then the prototype's name and parameters
 abbrev pub returned_behind : (Statement → State) → (TypeName → Named → Ret) → List Named → Named → ℕ → State
 returned_behind go make front last n =
     due comma (want Name (λ field. due close_bracket (want Name (λ n'.
     proto_rest go (make (type_of front last n) field) n'))))
 
+-- after the word that says what becomes of a returned word: its type and its field in brackets, and then the prototype
 abbrev pub returned_rest : (Statement → State) → (TypeName → Named → Ret) → State
 returned_rest go make = due open_bracket (want Name (λ first. names [] first (returned_behind go make)))
 
@@ -134,24 +141,32 @@ abbrev pub fact : List ℕ → Sort → Piece → (Named → State) → State
 fact what sort end go = due (word what) (due equals (want sort (λ value. due end (go value))))
 
 -- the states after each fact of the head, from the last to the first
+
+-- after all seven facts of the head: a semicolon, and then statements
 abbrev pub head7 : (a b c d e f g : Named) → State
 head7 a b c d e f g = due semicolon (statements (record { service = a; parent = b; close = c; global = d; block = e; has_data = f; resc_data = g }) [])
 
+-- after the first six facts of the head: `resc_has_data` is next
 abbrev pub head6 : (a b c d e f : Named) → State
 head6 a b c d e f = fact (codes "resc_has_data") Flag (mark close_brace_byte) (head7 a b c d e f)
 
+-- after the first five facts of the head: `desc_has_data` is next
 abbrev pub head5 : (a b c d e : Named) → State
 head5 a b c d e = fact (codes "desc_has_data") Flag comma (head6 a b c d e)
 
+-- after the first four facts of the head: `desc_block` is next
 abbrev pub head4 : (a b c d : Named) → State
 head4 a b c d = fact (codes "desc_block") Flag comma (head5 a b c d)
 
+-- after the first three facts of the head: `desc_is_global` is next
 abbrev pub head3 : (a b c : Named) → State
 head3 a b c = fact (codes "desc_is_global") Flag comma (head4 a b c)
 
+-- after the first two facts of the head: `desc_close` is next
 abbrev pub head2 : (a b : Named) → State
 head2 a b = fact (codes "desc_close") Closing comma (head3 a b)
 
+-- after the first fact of the head: `desc_has_parent` is next
 abbrev pub head1 : Named → State
 head1 a = fact (codes "desc_has_parent") Parents comma (head2 a)
 

@@ -22,6 +22,7 @@ spelt_by token = record { bytes = token.bytes; at = token.at }
 
 -- ---- states
 
+-- how far a script has been read: what may come next, with the parts so far
 pub data ScriptState : Type 0 where
   -- no token may come
   dead : ScriptState
@@ -59,15 +60,20 @@ abbrev pub braced : (List WrittenCall → ScriptState) → ScriptState
 braced k = due open_brace_byte (body [] k)
 
 -- after the first word of a part
+
+-- after `setup`: calls in braces
 abbrev pub setup_rest : (Part → ScriptState) → ℕ → ScriptState
 setup_rest go at = braced (λ calls. go (Setup at calls))
 
+-- after `client`: a number, and then calls in braces
 abbrev pub client_rest : (Part → ScriptState) → ℕ → ScriptState
 client_rest go at = want (λ n. braced (λ calls. go (Client at n calls)))
 
+-- after `schedule`: numbers up to a semicolon
 abbrev pub schedule_rest : (Part → ScriptState) → ℕ → ScriptState
 schedule_rest go at = counts [] (λ numbers. go (Schedule at numbers))
 
+-- after `stop`: numbers up to a semicolon
 abbrev pub stop_rest : (Part → ScriptState) → ℕ → ScriptState
 stop_rest go at = counts [] (λ numbers. go (Stop at numbers))
 
