@@ -151,7 +151,7 @@ is_under_way through = false
 abbrev pub may_turn : Stage → ℕ → Bool
 may_turn s client = is_under_way (player_of s client).phase
 
--- a client whose turn it is, with what the schedule gives after it
+-- the first of these clients that can take a turn
 abbrev pub first_of : Stage → List ℕ → Option ℕ
 first_of s [] = None
 first_of s (client ∷ clients) = if may_turn s client then Some client else first_of s clients
@@ -176,7 +176,7 @@ next_turn script s =
     if nat_lt (player_of s 1).done (length script.setup) then Some 1
     else some_or (first_of s s.schedule) (first_of s (in_a_circle s))
 
--- the schedule that is left behind the next turn: all of it until the setup calls of client 1 are done
+-- the schedule that is left after the next turn: all of it until the setup calls of client 1 are done
 abbrev pub left_schedule : Script → Stage → List ℕ
 left_schedule script s = if nat_lt (player_of s 1).done (length script.setup) then s.schedule else left_after_first s s.schedule
 

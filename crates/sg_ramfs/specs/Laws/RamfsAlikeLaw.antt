@@ -199,7 +199,7 @@ module _ (names : List (ℕ × ℕ)) (o held : Object) (client seq desc : ℕ) (
   alike_at (suc (suc (suc (suc (suc zero))))) passes serves = same_done names serves.names_are.none
   alike_at (suc (suc (suc (suc (suc (suc n)))))) passes serves = refl
 
--- the law
+-- the file service gives a call the same answer from whatever serves it, under other ids too
 pub ramfs_answers_alike : AnswersAlike ramfs_facts ramfs_table IsRamfsSound
 ramfs_answers_alike = record {
   alike = λ names o held call sound passes serves. alike_at names o held call.client call.seq call.desc call.args sound call.fun passes serves;

@@ -394,7 +394,7 @@ module _ (o : Object) (client seq desc : ℕ) (args : List Value) where
   keeps_at (suc (suc (suc (suc (suc zero))))) good sound passes is = releases good sound passes
   keeps_at (suc (suc (suc (suc (suc (suc n)))))) good sound passes is = absurd (cc is)
 
--- the law
+-- the file service answers each call that it may be asked, and what it holds stays sound
 pub ramfs_answers_and_keeps : AnswersAndKeeps ramfs_facts ramfs_table IsRamfsSound
 ramfs_answers_and_keeps = record {
   empty = record { general = record { rows = tt; files = tt }; placed = tt; files = tt };

@@ -156,7 +156,7 @@ module _ (names : List (ℕ × ℕ)) (o held : Object) (client seq desc : ℕ) (
   alike_at (suc (suc (suc (suc (suc (suc (suc (suc zero)))))))) passes serves = (refl, refl, sym serves.names_are.none)
   alike_at (suc (suc (suc (suc (suc (suc (suc (suc (suc n))))))))) passes serves = refl
 
--- the law
+-- the thread service gives a call the same answer from whatever serves it, under other ids too
 pub sched_answers_alike : AnswersAlike sched_facts sched_table IsSchedSound
 sched_answers_alike = record {
   alike = λ names o held call sound passes serves. alike_at names o held call.client call.seq call.desc call.args sound call.fun passes serves;

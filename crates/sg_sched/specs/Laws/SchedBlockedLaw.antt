@@ -116,7 +116,7 @@ blocked_state : (o : Object) (other call : Call) (good : Good) → sched_table o
 blocked_state o other call good blocked is leaves =
     state_stays o call.client call.seq call.desc call.args other (asleep (state_in (row_at o.rows other.desc)) (waits other.fun o other blocked)) call.fun good is leaves
 
--- the law
+-- who is blocked on a thread stays blocked until it is woken or ended
 pub sched_blocked_stays : BlockedStays sched_facts sched_table IsSchedSound
 sched_blocked_stays = record {
   blocked = λ o other call good sound passes blocked passes_too is leaves.

@@ -88,7 +88,7 @@ blocks_at (suc (suc (suc (suc (suc (suc (suc zero))))))) o call is = absurd (cc 
 blocks_at (suc (suc (suc (suc (suc (suc (suc (suc zero)))))))) o call is = absurd (cc is)
 blocks_at (suc (suc (suc (suc (suc (suc (suc (suc (suc n))))))))) o call is = absurd (cc is)
 
--- the law
+-- the shape of the thread service, and its answers, keep to what every shape allows
 pub sched_shape_allows : ShapeAllows sched_facts sched_table
 sched_shape_allows = record {
   shape = refl;
@@ -201,7 +201,7 @@ module _ (client seq desc : ℕ) (args : List Value) where
         omega (arith, bound)
   ]
 
--- the law
+-- the ranks of threads stay far from the end of their type
 pub sched_counts_slowly : CountsSlowly sched_facts sched_table IsSchedSound
 sched_counts_slowly = record {
   calls = λ o call good sound passes is. calls_at call.client call.seq call.desc call.args call.fun o good passes is;

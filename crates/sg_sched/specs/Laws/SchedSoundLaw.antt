@@ -203,7 +203,7 @@ module _ (o : Object) (client seq desc : ℕ) (args : List Value) where
       }
   keeps_at (suc (suc (suc (suc (suc (suc (suc (suc (suc n))))))))) good sound passes is = absurd (cc is)
 
--- the law
+-- the thread service answers each call that it may be asked, and what it holds stays sound
 pub sched_answers_and_keeps : AnswersAndKeeps sched_facts sched_table IsSchedSound
 sched_answers_and_keeps = record {
   empty = record { general = record { rows = tt; files = tt }; ranked = tt; apart = tt };
