@@ -37,7 +37,7 @@ impl Journal {
     {
         let mut boots = BootList::new(alloc);
         boots.reserve(1)?;
-        boots.add(unused(alloc));
+        boots.add(empty_boot(alloc));
         Ok(Journal {
             trace: Trace { boots, points: 0 },
             room: None,
@@ -135,12 +135,12 @@ impl Journal {
         requires { 1 ≤ self.old.room }
         ensures { self.new.run ≡ record self.old.run { boots = booted self.old.run.boots } }
     {
-        self.trace.boots.add(unused(alloc));
+        self.trace.boots.add(empty_boot(alloc));
     }
 }
 
 // A boot in which nothing was asked.
-fn unused(alloc: Global) -> BootLog
+fn empty_boot(alloc: Global) -> BootLog
     ensures { boot_of result ≡ record { items = []; stop = None } }
 {
     BootLog {

@@ -2,19 +2,21 @@
 //!
 //! - `did`: what a step did (`Did`)
 //! - `inner`: the parts of a world: the service, its clients, and what they did (`Inner`)
-//! - `stepping`: which line a step takes; `answering`, `using`, `serving`: the lines; `waking`: who is asked again
+//! - `stepping`: which line a step takes
+//! - the lines: `replies` (a reply is handed over, held or lost), `recovery` (a point, a boot, a replay or a load) and `serving` (the
+//!   service is asked); `waking`: who is asked again
 //! - `world`: these as one (`World`)
 //!
 //! `sg_clients` has the clients, `sg_seat` the world as plain data and its small changes; `sg_world_laws` what a world keeps after
 //! every event.
 #![tactic(auto)]
 
-mod answering;
 mod did;
 mod inner;
+mod recovery;
+mod replies;
 mod serving;
 mod stepping;
-mod using;
 mod waking;
 mod world;
 
