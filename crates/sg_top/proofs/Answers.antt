@@ -5,7 +5,11 @@ use Rattle.std.specs.Io.KnownBytes.{Consumes, IsAtEnd}
 use Rattle.sg_edge.specs.Edge.{Rose, ConsumesJust}
 use Rattle.sg_report.specs.sg_hist.declared.ended.End.{End}
 use Rattle.sg_report.specs.sg_hist.declared.ended.Ended.{Ended}
+use Rattle.std.specs.Result.{IfOk, OnErr}
+use Rattle.std.specs.declared.result.Result.{Result}
+use Rattle.std.specs.declared.result.Result.TheVariants.{Ok, Err}
 use Rattle.sg_top.specs.declared.command.Command.{Command}
+use Rattle.sg_top.specs.declared.output.Output.{Output}
 use Rattle.sg_top.specs.declared.command.Command.TheVariants.{Play, Check, Compile, Load}
 use Rattle.sg_top.specs.declared.status.Status.{Status}
 use Rattle.sg_top.specs.declared.status.Status.TheVariants.{Done, Waits, OtherWords, Refused, ReadFault, WriteFault, NoMemory}
@@ -435,3 +439,12 @@ pub with_input : (c : Command) → ((threads : Bool) × (trace : Bool) × (c ≡
 with_input c (inl (threads, trace, is)) = ap has_input is
 with_input c (inr (inl is)) = ap has_input is
 with_input c (inr (inr is)) = ap has_input is
+
+-- ---- deliveries
+
+-- what a command made is one of these, and was delivered; or nothing was made, and nothing is written
+pub delivered : {E : Type 0} (IsOne : Option Ended → Status → List ℕ → Type 0) (sink sink' : Ends) (status : Status) (ended : Option Ended) (made : Result Output E)
+    → IfOk made (λ o. IsOne o.ended o.status o.text) → IfOk made (λ o. (ended ≡ o.ended) × IsWritten sink sink' o.text o.status status)
+    → OnErr made ((status ≡ NoMemory) × (ended ≡ None) × (sink'.told ≡ sink.told) × (sink'.faults ≡ sink.faults)) → IsDelivered IsOne sink sink' status ended
+delivered IsOne sink sink' status ended (Ok o) one written unmade = inl (o.text, o.status, subst (λ e. IsOne e o.status o.text) (sym written.0) one, written.1)
+delivered IsOne sink sink' status ended (Err e) one written unmade = inr (unmade.0, unmade.1, record { told = unmade.2; faults = unmade.3 })

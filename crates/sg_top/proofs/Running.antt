@@ -13,70 +13,25 @@ use Rattle.sg_facts.specs.declared.tables.WalkLine.{WalkLine}
 use Rattle.sg_report.specs.sg_hist.declared.ended.Ended.{Ended}
 use Rattle.sg_report.specs.Report.{report_of}
 use Rattle.sg_input.specs.sg_script.declared.script.Script.{Script}
-use Rattle.sg_shared.specs.sg_sim.Played.{FollowsSchedule, IsPlayed}
+use Rattle.sg_run.specs.sg_sim.Played.{FollowsSchedule, IsPlayed}
 use Rattle.sg_input.specs.Inputs.{IsReady}
 use Rattle.sg_top.proofs.Fitting.{is_served, kind_is}
 use Rattle.sg_top.specs.Answer.{IsPlayOutput, ended_status, services}
 use Rattle.sg_top.specs.declared.status.Status.{Status}
-use Rattle.sg_top.specs.Headline.{Answering, IsRunOf, IsRunOfInput, answering}
+use Rattle.sg_run.specs.Runs.{IsRunInOrder, IsRunOf}
+use Rattle.sg_top.specs.Headline.{IsRunOfInput, answering, played_services}
 use Rattle.sg_top.specs.Inside.Kinds.{IsOneOfFive, kind_by}
-use Rattle.sg_top.specs.Inside.Runs.{IsPlayInOrder, IsPlayedOn}
 
 -- what three facts of an outcome make
 pub of_three : {A E : Type 0} (r : Result A E) (P Q R S : A → Type 0) → ((a : A) → P a → Q a → R a → S a) → IfOk r P → IfOk r Q → IfOk r R → IfOk r S
 of_three (Ok a) P Q R S make p q r = make a p q r
 of_three (Err e) P Q R S make p q r = tt
 
--- stops that ascend are the listed ones up to a point
-listed : (low : ℕ) (stops : List ℕ) (points : ℕ) → AscendsAbove low stops → up_to points stops ≡ filter (λ stop. nat_le stop points) stops
-listed low [] points ascend = refl
-listed low (n ∷ stops) points ascend =
-    ap (λ b. cond (b && nat_le n points) (n ∷ up_to points stops) (up_to points stops)) (from_one n low ascend.0)
-    ∙ ap (λ l. cond (nat_le n points) (n ∷ l) l) (listed n stops points ascend.1)
-  where
-    from_one : (n low : ℕ) → low < n → nat_le 1 n ≡ true
-    from_one n low above = grind (arith, nat_tests)
-
-run_so : (i : Declared) (service : Answering) (walks : List WalkLine) (script : Script) (ended : Ended) → AreTables i walks → AscendsAbove 0 script.stops
-    → IsPlayed (record { interface = i; ask = service.ask; parts = service.parts; walks = walks }) (λ asked struck plan. struck ≡ up_to asked plan) script script.stops ended
-    → IsRunOf i service script ended
-run_so i service walks script ended tables ascend played = record {
-  legal = played.legal;
-  calls = played.calls;
-  recovered = (walks, tables, played.recovered);
-  stops = played.stops ∙ listed 0 script.stops _ ascend;
-  ends = played.ends;
-  woken = played.woken;
-}
-
--- a play under the interface of tables is one by these tables
-pub by_tables : {E : Type 0} (i j : Declared) (service : Answering) (walks : List WalkLine) (script : Script) (r : Result Ended E) → j ≡ i → AreTables i walks
-    → IfOk r (IsPlayed (record { interface = j; ask = service.ask; parts = service.parts; walks = walks }) (λ asked struck plan. struck ≡ up_to asked plan) script script.stops)
-    → IfOk r (IsPlayedOn i service script)
-by_tables i j service walks script (Ok ended) same tables played = (
-  walks,
-  tables,
-  subst (λ v. IsPlayed (record { interface = v; ask = service.ask; parts = service.parts; walks = walks }) (λ asked struck plan. struck ≡ up_to asked plan) script script.stops ended) same played,
-)
-by_tables i j service walks script (Err e) same tables played = tt
-
--- a play by the tables of an interface is a run
-pub is_run : {E : Type 0} (i : Declared) (service : Answering) (script : Script) (r : Result Ended E) → AscendsAbove 0 script.stops → IfOk r (IsPlayedOn i service script)
-    → IfOk r (IsRunOf i service script)
-is_run i service script (Ok ended) ascend on = run_so i service on.0 script ended on.1 ascend on.2
-is_run i service script (Err e) ascend on = tt
-
--- a play in one thread is a run that follows the play without stops
-pub in_order : {E : Type 0} (i : Declared) (service : Answering) (script : Script) (r : Result Ended E) → AscendsAbove 0 script.stops → IfOk r (IsPlayedOn i service script)
-    → IfOk r (λ ended. FollowsSchedule i service.ask script (run_of ended.trace) ended.history.items) → IfOk r (IsPlayInOrder i service script)
-in_order i service script (Ok ended) ascend on follows = (run_so i service on.0 script ended on.1 ascend on.2, follows)
-in_order i service script (Err e) ascend on follows = tt
-
 -- a run of an input that is ready, with its report
 run_ready : (bytes : List ℕ) (i : Declared) (script : Script) (in_threads with_trace : Bool) (ended : Ended) (written : List ℕ) → IsReady services bytes i script → IsOneOfFive i.facts
     → IsRunOf i (answering (kind_by i.facts)) script ended
     → (in_threads ≡ false → FollowsSchedule i (answering (kind_by i.facts)).ask script (run_of ended.trace) ended.history.items)
-    → written ≡ report_of i.facts ended with_trace → IsRunOfInput bytes in_threads with_trace ended written
+    → written ≡ report_of i.facts ended with_trace → IsRunOfInput played_services bytes in_threads with_trace ended written
 run_ready bytes i script in_threads with_trace ended written ready one run follows is = record {
   i = i;
   script = script;
@@ -101,7 +56,7 @@ play_output bytes i script in_threads with_trace played ended status written rea
 
 -- in one thread, and with a thread for each client
 pub output_in_order : (bytes : List ℕ) (i : Declared) (script : Script) (with_trace : Bool) (played : Ended) (ended : Option Ended) (status : Status) (written : List ℕ)
-    → IsReady services bytes i script → IsOneOfFive i.facts → IsPlayInOrder i (answering (kind_by i.facts)) script played
+    → IsReady services bytes i script → IsOneOfFive i.facts → IsRunInOrder i (answering (kind_by i.facts)) script played
     → ended ≡ Some played → status ≡ ended_status played.ends → written ≡ report_of i.facts played with_trace
     → IsPlayOutput bytes false with_trace ended status written
 output_in_order bytes i script with_trace played ended status written ready one run is its_status text =

@@ -88,7 +88,7 @@ ended_status ends = if somebody_waits ends then Waits else Done
 -- the output of a play, and its status: the report of the run, or the line of an input that is refused
 abbrev pub IsPlayOutput : List ℕ → Bool → Bool → Option Ended → Status → List ℕ → Type 0
 IsPlayOutput bytes in_threads with_trace None status output = (status ≡ Refused) × IsInputOf services bytes (refused_input output)
-IsPlayOutput bytes in_threads with_trace (Some ended) status output = (status ≡ ended_status ended.ends) × IsRunOfInput bytes in_threads with_trace ended output
+IsPlayOutput bytes in_threads with_trace (Some ended) status output = (status ≡ ended_status ended.ends) × IsRunOfInput played_services bytes in_threads with_trace ended output
 
 -- the output of a check, and its status: the line of a text that is accepted, or of a text that is refused
 abbrev pub IsChecked : List ℕ → Status → List ℕ → Type 0

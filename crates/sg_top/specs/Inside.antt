@@ -1,5 +1,4 @@
 -- What the contracts of private functions cite.
 pub mod Delivery
 pub mod Kinds
-pub mod Runs
 pub mod Words

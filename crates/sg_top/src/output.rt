@@ -1,32 +1,28 @@
 // What a command makes of its input.
 ghost use Rattle.std.specs.Prelude.{◌≡◌, ℕ, List, true, false, IfOk, None, Some};
-ghost use Rattle.sg_edge.specs.Stops.{AscendsAbove};
-ghost use Rattle.sg_input.specs.Inputs.{IsReady};
-ghost use Rattle.sg_load.specs.sg_plain.Playing.Playable.{IsPlayable};
 ghost use Rattle.sg_report.specs.sg_hist.Recovered.{is_blocked};
 ghost use Rattle.sg_load.specs.sg_plain.Promises.{somebody_waits};
 ghost use Rattle.sg_load.specs.Generated.{generated};
 ghost use Rattle.sg_facts.specs.Laws.{whole};
 ghost use Rattle.sg_load.specs.Services.{facts_by};
-ghost use Rattle.sg_top.specs.Answer.{IsChecked, IsOutput, IsOwnOutput, IsPlayOutput, IsTabled, ended_status, has_input, is_in_threads, services};
+ghost use Rattle.sg_top.specs.Answer.{IsChecked, IsOutput, IsOwnOutput, IsPlayOutput, IsTabled, ended_status, has_input, is_in_threads};
 ghost use Rattle.sg_report.specs.Report.{report_of};
 ghost use Rattle.sg_top.specs.Headline.{answering};
-ghost use Rattle.sg_top.specs.Inside.Runs.{IsPlayInOrder};
+ghost use Rattle.sg_run.specs.Runs.{IsRunInOrder};
 ghost use Rattle.sg_top.specs.declared.command.Command.TheVariants.{Load as load};
 ghost use Rattle.sg_top.specs.declared.status.Status.TheVariants.{Refused as refused_status};
 ghost use Rattle.sg_top.specs.Inside.Delivery.{IsSaid};
-ghost use Rattle.sg_top.specs.Inside.Kinds.{IsOneOfFive};
 
 use crate::command::Command;
-use crate::runs::{played_as, played_of, shared_of};
-use crate::services::shapes;
+use crate::runs::{share_kind, simulate_kind};
+use crate::services::{kind_of, shapes};
 use crate::status::Status;
 use sg_edge::Gate;
 use sg_facts::{Bytes, NoMemory};
 use sg_input::{Input, Script, Verdict, compiled, read_input, verdict};
 use sg_load::{Accepted, ServiceKind, generate, standard};
 use sg_report::{End, load_line, text};
-use sg_shared::Played;
+use sg_run::Played;
 use std::alloc::Global;
 use std::sync::Wait;
 use std::thread::Threads;
@@ -93,7 +89,11 @@ fn simulated(alloc: Global, bytes: &[u8], with_trace: bool) -> Result<Output, No
     ensures { IfOk result (λ o. IsPlayOutput bytes.now false with_trace o.ended o.status o.text) }
 {
     match read_input(alloc, bytes, &shapes())? {
-        Input::Ready(accepted, script) => run_of(alloc, &accepted, script, with_trace),
+        Input::Ready(accepted, script) => {
+            let kind = kind_of(accepted.interface());
+            let played = simulate_kind(alloc, kind, &accepted, script)?;
+            reported(alloc, &accepted, played, with_trace)
+        }
         Input::Refused(line) => Ok(refusing(line)),
     }
 }
@@ -110,7 +110,9 @@ pub fn output_of_threads<R: Threads + Wait + Sync, G: Gate>(
 {
     match read_input(alloc, bytes, &shapes())? {
         Input::Ready(accepted, script) => {
-            run_in_threads(rt, alloc, &accepted, script, with_trace, gate)
+            let kind = kind_of(accepted.interface());
+            let played = share_kind(rt, alloc, kind, &accepted, script, gate)?;
+            reported(alloc, &accepted, played, with_trace)
         }
         Input::Refused(line) => Ok(refusing(line)),
     }
@@ -127,40 +129,6 @@ fn refusing(line: Bytes) -> Output
         status: Status::Refused,
         ended: None,
     }
-}
-
-// The run of a script under its interface in one thread, with its report.
-fn run_of(
-    alloc: Global,
-    accepted: &Accepted,
-    script: Script,
-    with_trace: bool,
-) -> Result<Output, NoMemory>
-    requires service { IsOneOfFive accepted.now.facts }
-    requires playable { IsPlayable accepted.now script }
-    requires stops { AscendsAbove 0 script.stops }
-    ensures { IfOk result (λ o. (bytes : List ℕ) → IsReady services bytes accepted.now script → IsPlayOutput bytes false with_trace o.ended o.status o.text) }
-{
-    let played = played_of(alloc, accepted, script)?;
-    reported(alloc, accepted, played, with_trace)
-}
-
-// The run of a script under its interface with a thread for each client, with its report.
-fn run_in_threads<R: Threads + Wait + Sync, G: Gate>(
-    rt: &R,
-    alloc: Global,
-    accepted: &Accepted,
-    script: Script,
-    with_trace: bool,
-    gate: &G,
-) -> Result<Output, NoMemory>
-    requires service { IsOneOfFive accepted.now.facts }
-    requires playable { IsPlayable accepted.now script }
-    requires stops { AscendsAbove 0 script.stops }
-    ensures { IfOk result (λ o. (bytes : List ℕ) → IsReady services bytes accepted.now script → IsPlayOutput bytes true with_trace o.ended o.status o.text) }
-{
-    let played = shared_of(rt, alloc, accepted, script, gate)?;
-    reported(alloc, accepted, played, with_trace)
 }
 
 // The output of a run under an interface: its report.
@@ -189,11 +157,11 @@ pub fn loaded(alloc: Global, service: ServiceKind, number: u64) -> Result<Output
 
 // The run of the script that is generated for a service from a number.
 fn load_of(alloc: Global, service: ServiceKind, number: u64) -> Result<Played, NoMemory>
-    ensures { IfOk result (IsPlayInOrder (whole (facts_by service)) (answering service) (generated service number)) }
+    ensures { IfOk result (IsRunInOrder (whole (facts_by service)) (answering service) (generated service number)) }
 {
     let accepted = standard(alloc, service)?;
     let script = generate(alloc, service, number)?;
-    played_as(alloc, service, &accepted, script)
+    simulate_kind(alloc, service, &accepted, script)
 }
 
 // The output of a run: this text, and the status of its ends.

@@ -1,17 +1,18 @@
 // The top call.
-ghost use Rattle.std.specs.Prelude.{◌≡◌, ◌≤◌, ◌+◌, true, false, None};
+ghost use Rattle.std.specs.Prelude.{◌≡◌, ◌≤◌, ◌+◌, true, false, None, IfOk, OnErr};
 ghost use Rattle.sg_edge.specs.Edge.{ConsumesAtMost};
-ghost use Rattle.sg_top.specs.Answer.{IsAnswer, IsCommand, IsOutput, IsOwnOutput, IsPlayOutput, IsSerialCommand, ReadsInput, has_input, is_in_threads, most_bytes};
-ghost use Rattle.sg_top.specs.Inside.Delivery.{IsDelivered, IsWritten};
-ghost use Rattle.sg_top.specs.declared.command.Command.TheVariants.{Load as load, Play as play};
+ghost use Rattle.sg_top.specs.Answer.{IsAnswer, IsCommand, IsSerialCommand, ReadsInput, has_input, is_in_threads, most_bytes};
+ghost use Rattle.sg_top.specs.Inside.Delivery.{IsWritten};
+ghost use Rattle.sg_top.specs.declared.command.Command.TheVariants.{Play as play};
+ghost use Rattle.sg_top.specs.declared.status.Status.TheVariants.{NoMemory as no_memory};
 
 use crate::command::Command;
 use crate::output::{Output, loaded, output_of, output_of_threads};
 use crate::status::Status;
 use sg_edge::{Gate, Intake, ReadError, Sink, Source, read_all, write_all};
+use sg_facts::NoMemory;
 use sg_input::{MOST_INPUT, TOO_LONG};
-use sg_load::ServiceKind;
-use sg_shared::Played;
+use sg_run::Played;
 use std::alloc::Global;
 use std::sync::Wait;
 use std::thread::Threads;
@@ -95,7 +96,7 @@ fn in_one_thread<I: Source, O: Sink>(
     ensures most_read { ReadsInput (λ said. said ≡ command) (I.left input.old) (I.left input.new) }
 {
     match command {
-        Command::Load { service, number } => run_load(alloc, service, number, output),
+        Command::Load { service, number } => deliver_made(output, loaded(alloc, service, number)),
         Command::Play { .. } | Command::Check | Command::Compile => {
             with_input(alloc, command, input, output)
         }
@@ -119,31 +120,12 @@ fn with_threads<R: Threads + Wait + Sync, I: Source, O: Sink, G: Gate>(
 {
     match read_all(alloc, input, MOST_INPUT) {
         Ok(Intake::Whole(bytes)) => {
-            run_threads(rt, alloc, bytes.as_slice(), trace, output, gate)
+            let made = output_of_threads(rt, alloc, bytes.as_slice(), trace, gate);
+            deliver_made(output, made)
         }
         Ok(Intake::TooLong) => deliver(output, TOO_LONG, Status::Refused, None),
         Err(ReadError::Failed) => without_run(Status::ReadFault),
         Err(ReadError::NoMemory) => without_run(Status::NoMemory),
-    }
-}
-
-// Writes what a play with a thread for each client makes of an input.
-fn run_threads<R: Threads + Wait + Sync, O: Sink, G: Gate>(
-    rt: &R,
-    alloc: Global,
-    bytes: &[u8],
-    trace: bool,
-    output: &mut O,
-    gate: &G,
-) -> Answer
-    ensures done { IsDelivered (IsPlayOutput bytes.now true trace)
-        (record { told = O.written output.old; faults = O.faults output.old }) (record { told = O.written output.new; faults = O.faults output.new })
-        result.status result.ended }
-    ensures count { O.faults output.old ≤ O.faults output.new }
-{
-    match output_of_threads(rt, alloc, bytes, trace, gate) {
-        Ok(made) => deliver_made(output, made),
-        Err(_) => without_run(Status::NoMemory),
     }
 }
 
@@ -163,55 +145,33 @@ fn with_input<I: Source, O: Sink>(
     ensures most_read { ConsumesAtMost (most_bytes command + 1) (I.left input.old) (I.left input.new) }
 {
     match read_all(alloc, input, command.most_bytes()) {
-        Ok(Intake::Whole(bytes)) => run_command(alloc, command, bytes.as_slice(), output),
+        Ok(Intake::Whole(bytes)) => {
+            deliver_made(output, output_of(alloc, command, bytes.as_slice()))
+        }
         Ok(Intake::TooLong) => deliver(output, TOO_LONG, Status::Refused, None),
         Err(ReadError::Failed) => without_run(Status::ReadFault),
         Err(ReadError::NoMemory) => without_run(Status::NoMemory),
     }
 }
 
-// Writes what a command with an input makes of it in one thread.
-fn run_command<O: Sink>(alloc: Global, command: Command, bytes: &[u8], output: &mut O) -> Answer
-    requires has { has_input command ≡ true }
-    requires alone { is_in_threads command ≡ false }
-    ensures done { IsDelivered (IsOutput command bytes.now)
+// Writes what a command made; or answers that there was no memory for it, and writes nothing.
+fn deliver_made<O: Sink>(output: &mut O, made: Result<Output, NoMemory>) -> Answer
+    ensures made { IfOk made (λ o. (result.ended ≡ o.ended) × IsWritten
         (record { told = O.written output.old; faults = O.faults output.old }) (record { told = O.written output.new; faults = O.faults output.new })
-        result.status result.ended }
+        o.text o.status result.status) }
+    ensures unmade { OnErr made ((result.status ≡ no_memory) × (result.ended ≡ None) × (O.written output.new ≡ O.written output.old) × (O.faults output.new ≡ O.faults output.old)) }
     ensures count { O.faults output.old ≤ O.faults output.new }
 {
-    match output_of(alloc, command, bytes) {
-        Ok(made) => deliver_made(output, made),
+    match made {
+        Ok(
+            Output {
+                text,
+                status,
+                ended,
+            },
+        ) => deliver(output, text.as_slice(), status, ended),
         Err(_) => without_run(Status::NoMemory),
     }
-}
-
-// Writes the line of a generated load.
-fn run_load<O: Sink>(alloc: Global, service: ServiceKind, number: u64, output: &mut O) -> Answer
-    ensures done { IsDelivered (IsOwnOutput (load service number))
-        (record { told = O.written output.old; faults = O.faults output.old }) (record { told = O.written output.new; faults = O.faults output.new })
-        result.status result.ended }
-    ensures count { O.faults output.old ≤ O.faults output.new }
-{
-    match loaded(alloc, service, number) {
-        Ok(made) => deliver_made(output, made),
-        Err(_) => without_run(Status::NoMemory),
-    }
-}
-
-// Writes what a command made.
-fn deliver_made<O: Sink>(output: &mut O, made: Output) -> Answer
-    ensures ended { result.ended ≡ made.ended }
-    ensures written { IsWritten
-        (record { told = O.written output.old; faults = O.faults output.old }) (record { told = O.written output.new; faults = O.faults output.new })
-        made.text made.status result.status }
-    ensures count { O.faults output.old ≤ O.faults output.new }
-{
-    let Output {
-        text,
-        status,
-        ended,
-    } = made;
-    deliver(output, text.as_slice(), status, ended)
 }
 
 // Writes an output, and answers its status, or a write fault where a write failed.

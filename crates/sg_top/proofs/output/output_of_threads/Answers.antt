@@ -1,29 +1,41 @@
 -- A script that is ready is played, with a thread for each client.
-use Rattle.std.proofs.lemmas.Result.{IfOk-weaker}
-use Rattle.std.proofs.Common.{true, map, refl}
+use Rattle.std.proofs.Common.{◌∙◌, ap, map, refl, subst}
 use Rattle.sg_facts.specs.Facts.{facts_of}
+use Rattle.sg_facts.specs.Interface.{Declared}
 use Rattle.sg_input.specs.Inputs.{IsReady}
-use Rattle.sg_top.specs.Answer.{IsPlayOutput, services}
-use Rattle.sg_top.proofs.Fitting.{ready_for, ready_playable, ready_service, ready_stops}
+use Rattle.sg_run.specs.Runs.{IsRunOf}
+use Rattle.sg_top.specs.Answer.{services}
+use Rattle.sg_top.specs.Headline.{answering}
+use Rattle.sg_top.specs.Inside.Kinds.{kind_by}
+use Rattle.sg_top.proofs.Fitting.{of_kind, ready_for, ready_playable, ready_service, ready_stops}
+use Rattle.sg_top.proofs.Running.{of_three, output_in_threads}
 use Rattle.sg_top.proofs.output.output_of_threads.Goals as goal
 
-pub run_in_threads-requires-clause-service : goal.run_in_threads-requires-clause-service
-run_in_threads-requires-clause-service g c = λ lifetimes longer.
-    ready_service c.args.bytes.now c.in-Ready.accepted c.in-Ready.script
-    (ready_for c.args.bytes.now (map facts_of c.shapes.result) c.in_ok-accepted.field-0 c.in-Ready.accepted c.in-Ready.accepted c.in-Ready.script c.shapes.ensures.facts c.in-Ready.is refl c.in_ok-accepted.ensures.input)
+pub share_kind-requires-clause-service : goal.share_kind-requires-clause-service
+share_kind-requires-clause-service g c = λ lifetimes longer.
+    of_kind c.in-Ready.accepted.facts c.kind_of.result
+    (ready_service c.args.bytes.now c.in-Ready.accepted c.in-Ready.script
+    (ready_for c.args.bytes.now (map facts_of c.shapes.result) c.in_ok-accepted.field-0 c.in-Ready.accepted c.in-Ready.accepted c.in-Ready.script c.shapes.ensures.facts c.in-Ready.is refl c.in_ok-accepted.ensures.input))
+    (c.kind_of.ensures ∙ ap (λ (i : Declared). kind_by i.facts) c.interface.ensures.same)
 
-pub run_in_threads-requires-clause-playable : goal.run_in_threads-requires-clause-playable
-run_in_threads-requires-clause-playable g c = λ lifetimes longer.
+pub share_kind-requires-clause-playable : goal.share_kind-requires-clause-playable
+share_kind-requires-clause-playable g c = λ lifetimes longer.
     ready_playable c.args.bytes.now c.in-Ready.accepted c.in-Ready.script
     (ready_for c.args.bytes.now (map facts_of c.shapes.result) c.in_ok-accepted.field-0 c.in-Ready.accepted c.in-Ready.accepted c.in-Ready.script c.shapes.ensures.facts c.in-Ready.is refl c.in_ok-accepted.ensures.input)
 
-pub run_in_threads-requires-clause-stops : goal.run_in_threads-requires-clause-stops
-run_in_threads-requires-clause-stops g c = λ lifetimes longer.
+pub share_kind-requires-clause-stops : goal.share_kind-requires-clause-stops
+share_kind-requires-clause-stops g c = λ lifetimes longer.
     ready_stops c.args.bytes.now c.in-Ready.accepted c.in-Ready.script
     (ready_for c.args.bytes.now (map facts_of c.shapes.result) c.in_ok-accepted.field-0 c.in-Ready.accepted c.in-Ready.accepted c.in-Ready.script c.shapes.ensures.facts c.in-Ready.is refl c.in_ok-accepted.ensures.input)
 
 pub returns-in-Ready : goal.returns-in-Ready
 returns-in-Ready g c =
-    let ready : IsReady services c.args.bytes.now c.in-Ready.accepted c.in-Ready.script =
-    ready_for c.args.bytes.now (map facts_of c.shapes.result) c.in_ok-accepted.field-0 c.in-Ready.accepted c.in-Ready.accepted c.in-Ready.script c.shapes.ensures.facts c.in-Ready.is refl c.in_ok-accepted.ensures.input in
-    IfOk-weaker c.run_in_threads.result _ (λ o. IsPlayOutput c.args.bytes.now true c.args.with_trace o.ended o.status o.text) (λ o all. all c.args.bytes.now ready) c.run_in_threads.ensures
+    let ready : IsReady services c.args.bytes.now c.in-Ready.accepted c.in-Ready.script = ready_for c.args.bytes.now (map facts_of c.shapes.result) c.in_ok-accepted.field-0 c.in-Ready.accepted c.in-Ready.accepted c.in-Ready.script c.shapes.ensures.facts c.in-Ready.is refl c.in_ok-accepted.ensures.input in
+    of_three c.reported.result _ _ _ _
+    (λ o text status ended.
+    output_in_threads c.args.bytes.now c.in-Ready.accepted c.in-Ready.script c.args.with_trace c.in_ok-played.played o.ended o.status o.text ready
+    (ready_service c.args.bytes.now c.in-Ready.accepted c.in-Ready.script ready)
+    (subst (λ k. IsRunOf c.in-Ready.accepted (answering k) c.in-Ready.script c.in_ok-played.played)
+    (c.kind_of.ensures ∙ ap (λ (i : Declared). kind_by i.facts) c.interface.ensures.same) c.in_ok-played.ensures)
+    ended status text)
+    c.reported.ensures.text c.reported.ensures.status c.reported.ensures.ended

@@ -1,29 +1,41 @@
--- A script that is ready is played.
-use Rattle.std.proofs.lemmas.Result.{IfOk-weaker}
-use Rattle.std.proofs.Common.{false, map, refl}
+-- A script that is ready is played in one thread.
+use Rattle.std.proofs.Common.{◌∙◌, ap, map, refl, subst}
 use Rattle.sg_facts.specs.Facts.{facts_of}
+use Rattle.sg_facts.specs.Interface.{Declared}
 use Rattle.sg_input.specs.Inputs.{IsReady}
-use Rattle.sg_top.specs.Answer.{IsPlayOutput, services}
-use Rattle.sg_top.proofs.Fitting.{ready_for, ready_playable, ready_service, ready_stops}
+use Rattle.sg_run.specs.Runs.{IsRunInOrder}
+use Rattle.sg_top.specs.Answer.{services}
+use Rattle.sg_top.specs.Headline.{answering}
+use Rattle.sg_top.specs.Inside.Kinds.{kind_by}
+use Rattle.sg_top.proofs.Fitting.{of_kind, ready_for, ready_playable, ready_service, ready_stops}
+use Rattle.sg_top.proofs.Running.{of_three, output_in_order}
 use Rattle.sg_top.proofs.output.simulated.Goals as goal
 
-pub run_of-requires-clause-service : goal.run_of-requires-clause-service
-run_of-requires-clause-service c =
-    ready_service c.args.bytes.now c.in-Ready.accepted c.in-Ready.script
-    (ready_for c.args.bytes.now (map facts_of c.shapes.result) c.in_ok-accepted.field-0 c.in-Ready.accepted c.in-Ready.accepted c.in-Ready.script c.shapes.ensures.facts c.in-Ready.is refl c.in_ok-accepted.ensures.input)
+pub simulate_kind-requires-clause-service : goal.simulate_kind-requires-clause-service
+simulate_kind-requires-clause-service c =
+    of_kind c.in-Ready.accepted.facts c.kind_of.result
+    (ready_service c.args.bytes.now c.in-Ready.accepted c.in-Ready.script
+    (ready_for c.args.bytes.now (map facts_of c.shapes.result) c.in_ok-accepted.field-0 c.in-Ready.accepted c.in-Ready.accepted c.in-Ready.script c.shapes.ensures.facts c.in-Ready.is refl c.in_ok-accepted.ensures.input))
+    (c.kind_of.ensures ∙ ap (λ (i : Declared). kind_by i.facts) c.interface.ensures.same)
 
-pub run_of-requires-clause-playable : goal.run_of-requires-clause-playable
-run_of-requires-clause-playable c =
+pub simulate_kind-requires-clause-playable : goal.simulate_kind-requires-clause-playable
+simulate_kind-requires-clause-playable c =
     ready_playable c.args.bytes.now c.in-Ready.accepted c.in-Ready.script
     (ready_for c.args.bytes.now (map facts_of c.shapes.result) c.in_ok-accepted.field-0 c.in-Ready.accepted c.in-Ready.accepted c.in-Ready.script c.shapes.ensures.facts c.in-Ready.is refl c.in_ok-accepted.ensures.input)
 
-pub run_of-requires-clause-stops : goal.run_of-requires-clause-stops
-run_of-requires-clause-stops c =
+pub simulate_kind-requires-clause-stops : goal.simulate_kind-requires-clause-stops
+simulate_kind-requires-clause-stops c =
     ready_stops c.args.bytes.now c.in-Ready.accepted c.in-Ready.script
     (ready_for c.args.bytes.now (map facts_of c.shapes.result) c.in_ok-accepted.field-0 c.in-Ready.accepted c.in-Ready.accepted c.in-Ready.script c.shapes.ensures.facts c.in-Ready.is refl c.in_ok-accepted.ensures.input)
 
 pub returns-in-Ready : goal.returns-in-Ready
 returns-in-Ready c =
-    let ready : IsReady services c.args.bytes.now c.in-Ready.accepted c.in-Ready.script =
-    ready_for c.args.bytes.now (map facts_of c.shapes.result) c.in_ok-accepted.field-0 c.in-Ready.accepted c.in-Ready.accepted c.in-Ready.script c.shapes.ensures.facts c.in-Ready.is refl c.in_ok-accepted.ensures.input in
-    IfOk-weaker c.run_of.result _ (λ o. IsPlayOutput c.args.bytes.now false c.args.with_trace o.ended o.status o.text) (λ o all. all c.args.bytes.now ready) c.run_of.ensures
+    let ready : IsReady services c.args.bytes.now c.in-Ready.accepted c.in-Ready.script = ready_for c.args.bytes.now (map facts_of c.shapes.result) c.in_ok-accepted.field-0 c.in-Ready.accepted c.in-Ready.accepted c.in-Ready.script c.shapes.ensures.facts c.in-Ready.is refl c.in_ok-accepted.ensures.input in
+    of_three c.reported.result _ _ _ _
+    (λ o text status ended.
+    output_in_order c.args.bytes.now c.in-Ready.accepted c.in-Ready.script c.args.with_trace c.in_ok-played.played o.ended o.status o.text ready
+    (ready_service c.args.bytes.now c.in-Ready.accepted c.in-Ready.script ready)
+    (subst (λ k. IsRunInOrder c.in-Ready.accepted (answering k) c.in-Ready.script c.in_ok-played.played)
+    (c.kind_of.ensures ∙ ap (λ (i : Declared). kind_by i.facts) c.interface.ensures.same) c.in_ok-played.ensures)
+    ended status text)
+    c.reported.ensures.text c.reported.ensures.status c.reported.ensures.ended

@@ -3,14 +3,15 @@ use Rattle.std.proofs.Common.{true, ◌∙◌, ap, subst, refl, Ok}
 use Rattle.sg_edge.specs.Intake.{TakesIn}
 use Rattle.sg_input.specs.Inputs.{most_input}
 use Rattle.sg_top.specs.declared.command.Command.TheVariants.{Play}
-use Rattle.sg_top.proofs.Answers.{one_given, whole_answer, too_long_answer}
+use Rattle.sg_top.proofs.Answers.{delivered, one_given, whole_answer, too_long_answer}
 use Rattle.sg_top.proofs.top.with_threads.Goals as goal
 
 pub returns-in-Ok-Whole-clause-answer : goal.returns-in-Ok-Whole-clause-answer
 returns-in-Ok-Whole-clause-answer g c =
     whole_answer _ _ _ _ _ _ _ (Play true c.args.trace) _ _ _ c.as_slice.ensures refl (one_given (Play true c.args.trace)) refl refl
     (subst (TakesIn most_input _ _) (c.in-Ok-Whole.is ∙ ap Ok c.in-Ok-Whole.field-0-is) c.read_all.ensures.taken)
-    c.run_threads.ensures.done (c.read_all.ensures.steady (λ failed. absurd (cc (failed, c.in-Ok-Whole.is)))) c.run_threads.ensures.count
+    (delivered _ _ _ _ _ c.output_of_threads.result c.output_of_threads.ensures c.deliver_made.ensures.made c.deliver_made.ensures.unmade)
+    (c.read_all.ensures.steady (λ failed. absurd (cc (failed, c.in-Ok-Whole.is)))) c.deliver_made.ensures.count
 
 pub returns-in-Ok-TooLong-clause-answer : goal.returns-in-Ok-TooLong-clause-answer
 returns-in-Ok-TooLong-clause-answer g c =

@@ -1,7 +1,7 @@
 -- What was played with a thread for each client keeps all that a run promises.
-use Rattle.sg_top.proofs.Running.{by_tables, is_run}
-use Rattle.sg_top.specs.Headline.{Answering}
-use Rattle.sg_top.proofs.runs.share_on.Goals as goal
+use Rattle.sg_run.proofs.Running.{by_tables, is_run}
+use Rattle.sg_run.specs.Runs.{Answering}
+use Rattle.sg_run.proofs.runs.share.Goals as goal
 
 pub returns : goal.returns
 returns g c =
