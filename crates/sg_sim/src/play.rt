@@ -20,6 +20,7 @@ ghost use Rattle.sg_play.specs.sg_world_laws.Setting.{stubs_of};
 use crate::given::Given;
 use crate::played::Played;
 use crate::turn::take_turn;
+use sg_discard::discard;
 use sg_facts::{NoMemory, Service, Stops, Tables, TryCopy};
 use sg_play::{End, EndList, Ended, Phase, Script, World, most_client, script_call};
 use std::alloc::Global;
@@ -190,11 +191,16 @@ impl<S: Service, T: Stops> Play<S, T> {
         ensures schedule { self.in_order ≡ true → IfOk result (λ ended. FollowsSchedule self.tables.iface S.ask self.script (run_of ended.trace) ended.history.items) }
     {
         let mut play = self;
-        play.play(alloc)
+        let played = play.play(alloc);
+        play.abandon();
+        played
     }
 
     /// Ends the play where it stands.
-    pub fn abandon(self) {}
+    pub fn abandon(self) {
+        let Play { world, .. } = self;
+        discard(world);
+    }
 
     /// Its world, lent.
     pub fn world(&self) -> &World<S, T>

@@ -6,6 +6,7 @@ ghost use Rattle.sg_world.specs.sg_seat.WorldView.{IsFree, MayWithdraw, seat_of}
 use crate::answers::tells;
 use crate::events::{Asked, Event, args_of};
 use crate::fits::{number_of, takes};
+use sg_discard::discard;
 use sg_edge::AtPoints;
 use sg_facts::{
     Args, Bytes, Call, Interface, LAST_CLIENT, NoMemory, PointList, Reply, Service, Stops, Tables,
@@ -285,7 +286,7 @@ pub trait Judge<S: Service, T: Stops> {
     fn judge(&self, alloc: Global, run: &mut Run<S, T>) -> Self::Said;
 }
 
-/// What a judge says of a run of so many clients. The run is dropped here and nowhere else: each place where a world is dropped takes
+/// What a judge says of a run of so many clients. The run is ended here and nowhere else: each place where a world is dropped takes
 /// long to prove.
 pub fn judged<S: Service, T: Stops, J: Judge<S, T>>(
     alloc: Global,
@@ -299,7 +300,10 @@ pub fn judged<S: Service, T: Stops, J: Judge<S, T>>(
     requires unstruck { T.struck stops ≡ [] }
 {
     let mut run = Run::new(alloc, tables, clients, stops)?;
-    Ok(judge.judge(alloc, &mut run))
+    let said = judge.judge(alloc, &mut run);
+    let Run { world, .. } = run;
+    discard(world);
+    Ok(said)
 }
 
 // Whether a client in a phase has no call under way.
