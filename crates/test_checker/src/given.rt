@@ -4,7 +4,7 @@ ghost use Rattle.sg_facts.specs.Facts.{facts_of};
 ghost use Rattle.sg_diagnose.specs.sg_check.Shapes.{is_shape};
 
 use crate::answers::answer;
-use sg_check::CheckKind::{UnknownFunction, UnknownService};
+use sg_diagnose::CheckKind::{UnknownFunction, UnknownService};
 use sg_event::event_shape;
 use sg_facts::{Service, Shape};
 use sg_lock::LockService;

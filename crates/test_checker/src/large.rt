@@ -4,7 +4,7 @@ ghost use Rattle.sg_facts.specs.Facts.{facts_of};
 ghost use Rattle.sg_diagnose.specs.sg_check.Shapes.{is_shape};
 
 use crate::answers::answer;
-use sg_check::CheckKind::NoWalk;
+use sg_diagnose::CheckKind::NoWalk;
 use sg_diagnose::{check, compile, parse};
 use sg_facts::{Effect, FieldShape, FunShape, Kind, Leaves, Parents, Service, Shape};
 use sg_lock::LockService;

@@ -1,5 +1,5 @@
 // The tokens of texts, with values from outside.
-use sg_lex::TokenKind::{Mark, Number, Text, Word};
+use sg_print::TokenKind::{Mark, Number, Text, Word};
 use sg_print::{LexFault, Lexer, TokenKind, first_token};
 use std::process::Abort;
 use std::test::Fail;
