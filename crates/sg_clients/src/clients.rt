@@ -1,5 +1,6 @@
 // The clients of a world.
 ghost use Rattle.std.specs.Prelude.{◌≡◌, ◌<◌, ◌≤◌, ◌-◌, ◌+◌, ◌^◌, ◌==◌, ◌∷◌, ◌++◌, ℕ, Bool, true, [], length, map, replicate, vec_capacity, IfOk, OnOk, OnErr, slice_set};
+ghost use Rattle.sg_clients.specs.Clients.{IsClient};
 ghost use Rattle.std.specs.List.{list_all};
 ghost use Rattle.sg_facts.specs.sg_base.Reply.{FitsReplyRoom};
 ghost use Rattle.sg_clients.specs.Inside.Waiting.{AreUnderWay};
@@ -58,8 +59,7 @@ impl Clients {
 
     /// How far a client has come with its call.
     pub fn phase(&self, client: u8) -> Phase
-        requires first { 1 ≤ client }
-        requires last { client ≤ length self.now }
+        requires client { IsClient (length self.now) client }
         ensures { result ≡ (seat_in self.now client).phase }
     {
         self.seats[usize::from(client) - 1].phase()
@@ -67,8 +67,7 @@ impl Clients {
 
     /// Whether a client has left.
     pub fn has_left(&self, client: u8) -> bool
-        requires first { 1 ≤ client }
-        requires last { client ≤ length self.now }
+        requires client { IsClient (length self.now) client }
         ensures { result ≡ is_left_phase (seat_in self.now client).phase }
     {
         self.seats[usize::from(client) - 1].has_left()
@@ -76,8 +75,7 @@ impl Clients {
 
     /// The number of a client's last entry.
     pub fn seq(&self, client: u8) -> u32
-        requires first { 1 ≤ client }
-        requires last { client ≤ length self.now }
+        requires client { IsClient (length self.now) client }
         ensures { result ≡ (seat_in self.now client).seq }
     {
         self.seats[usize::from(client) - 1].seq()
@@ -85,8 +83,7 @@ impl Clients {
 
     /// The boot in which the service gave a client's last held reply.
     pub fn boot(&self, client: u8) -> u64
-        requires first { 1 ≤ client }
-        requires last { client ≤ length self.now }
+        requires client { IsClient (length self.now) client }
         ensures { result ≡ (seat_in self.now client).boot }
     {
         self.seats[usize::from(client) - 1].boot()
@@ -94,8 +91,7 @@ impl Clients {
 
     /// A client's last call, lent.
     pub fn call(&self, client: u8) -> &Call
-        requires first { 1 ≤ client }
-        requires last { client ≤ length self.now }
+        requires client { IsClient (length self.now) client }
         ensures { result.now ≡ (seat_in self.now client).call }
     {
         self.seats[usize::from(client) - 1].call()
@@ -104,8 +100,7 @@ impl Clients {
     /// A client that has no call under way offers its call, and the memory is taken that answering or withdrawing it takes. After
     /// `NoMemory` the clients are as before.
     pub fn offer(&mut self, alloc: Global, call: Call) -> Result<(), NoMemory>
-        requires first { 1 ≤ call.client }
-        requires last { call.client ≤ length self.old }
+        requires client { IsClient (length self.old) call.client }
         requires free { IsFree (seat_in self.old call.client).phase }
         ensures ok { OnOk result (self.new ≡ slice_set self.old (call.client - 1) (record (seat_in self.old call.client) { phase = Asked; call = call })) }
         ensures err { OnErr result (self.new ≡ self.old) }
@@ -133,8 +128,7 @@ impl Clients {
 
     /// A client waits in its call.
     pub fn block(&mut self, client: u8)
-        requires first { 1 ≤ client }
-        requires last { client ≤ length self.old }
+        requires client { IsClient (length self.old) client }
         requires offers { is_offered (seat_in self.old client).phase ≡ true }
         ensures { self.new ≡ slice_set self.old (client - 1) (record (seat_in self.old client) { phase = Blocked }) }
     {
@@ -143,8 +137,7 @@ impl Clients {
 
     /// A client holds a reply that the service gave in a boot.
     pub fn hold(&mut self, client: u8, boot: u64, reply: Reply)
-        requires first { 1 ≤ client }
-        requires last { client ≤ length self.old }
+        requires client { IsClient (length self.old) client }
         requires offers { is_offered (seat_in self.old client).phase ≡ true }
         requires fits { FitsReplyRoom reply }
         ensures { self.new ≡ slice_set self.old (client - 1) (record (seat_in self.old client) { phase = Held; boot = boot; reply = reply }) }
@@ -154,8 +147,7 @@ impl Clients {
 
     /// A client loses the reply that it holds, and asks its call again.
     pub fn lose(&mut self, client: u8)
-        requires first { 1 ≤ client }
-        requires last { client ≤ length self.old }
+        requires client { IsClient (length self.old) client }
         requires offers { is_offered (seat_in self.old client).phase ≡ true }
         ensures { self.new ≡ slice_set self.old (client - 1) (record (seat_in self.old client) { phase = Asked }) }
     {
@@ -165,8 +157,7 @@ impl Clients {
     /// A client's call is answered, and its reply is to be handed over; gives the entry, whose number is one of 32 bits. It takes no
     /// memory.
     pub fn give(&mut self, client: u8, reply: &Reply) -> Entry
-        requires first { 1 ≤ client }
-        requires last { client ≤ length self.old }
+        requires client { IsClient (length self.old) client }
         requires offers { is_offered (seat_in self.old client).phase ≡ true }
         requires fits { FitsReplyRoom reply.now }
         ensures entry { result ≡ record { call = (seat_in self.old client).call; reply = reply.now } }
@@ -181,8 +172,7 @@ impl Clients {
     /// A client's call is answered by the reply that it holds, which is handed over at once; the entry's number is one of 32 bits. It
     /// takes no memory.
     pub fn give_back(&mut self, alloc: Global, client: u8) -> Returned
-        requires first { 1 ≤ client }
-        requires last { client ≤ length self.old }
+        requires client { IsClient (length self.old) client }
         requires offers { is_offered (seat_in self.old client).phase ≡ true }
         ensures entry { result.entry ≡ record { call = (seat_in self.old client).call; reply = (seat_in self.old client).reply } }
         ensures number { result.entry.call.seq < 2 ^ 32 }
@@ -198,8 +188,7 @@ impl Clients {
     /// A client's call is refused, which it is told at once; gives the call for its entry, whose number is one of 32 bits. It takes no
     /// memory.
     pub fn refuse(&mut self, alloc: Global, client: u8) -> Call
-        requires first { 1 ≤ client }
-        requires last { client ≤ length self.old }
+        requires client { IsClient (length self.old) client }
         requires offers { is_offered (seat_in self.old client).phase ≡ true }
         ensures call { result ≡ (seat_in self.old client).call }
         ensures number { result.seq < 2 ^ 32 }
@@ -212,8 +201,7 @@ impl Clients {
 
     /// A client's reply is handed over. It takes no memory.
     pub fn hand_over(&mut self, alloc: Global, client: u8) -> Reply
-        requires first { 1 ≤ client }
-        requires last { client ≤ length self.old }
+        requires client { IsClient (length self.old) client }
         requires receipted { (seat_in self.old client).phase ≡ Receipted }
         ensures reply { result ≡ (seat_in self.old client).reply }
         ensures seats { self.new ≡ slice_set self.old (client - 1) (record (seat_in self.old client) { phase = Idle; reply = no_reply }) }
@@ -223,8 +211,7 @@ impl Clients {
 
     /// A client withdraws its call, where the history has so many entries, in the memory that was taken for it.
     pub fn withdraw(&mut self, client: u8, at: u64) -> Withdrawn
-        requires first { 1 ≤ client }
-        requires last { client ≤ length self.old }
+        requires client { IsClient (length self.old) client }
         requires few { length self.old ≤ last_client }
         requires offers { is_offered (seat_in self.old client).phase ≡ true }
         ensures withdrawn { result ≡ record { call = (seat_in self.old client).call; phases = map (λ s. s.phase) self.old; at = at } }
@@ -243,8 +230,7 @@ impl Clients {
 
     // A client withdraws its call, and gives the memory back that was taken for it.
     fn take_room(&mut self, client: u8) -> SeatRoom
-        requires first { 1 ≤ client }
-        requires last { client ≤ length self.old }
+        requires client { IsClient (length self.old) client }
         requires offers { is_offered (seat_in self.old client).phase ≡ true }
         ensures room { FitsSeatRoom (seat_in self.old client).call result }
         ensures seats { self.new ≡ slice_set self.old (client - 1) (record (seat_in self.old client) { phase = Idle }) }
@@ -256,8 +242,7 @@ impl Clients {
 
     /// A client leaves.
     pub fn leave(&mut self, client: u8)
-        requires first { 1 ≤ client }
-        requires last { client ≤ length self.old }
+        requires client { IsClient (length self.old) client }
         ensures { self.new ≡ slice_set self.old (client - 1) (record (seat_in self.old client) { phase = Left }) }
     {
         self.seats[usize::from(client) - 1].leave();

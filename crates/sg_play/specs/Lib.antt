@@ -8,3 +8,4 @@ pub use Rattle.sg_plain.specs.sg_script
 pub use Rattle.sg_plain.specs.sg_seat
 pub use Rattle.sg_world.specs as sg_world
 pub use Rattle.sg_world.specs.sg_world_laws
+pub use Rattle.sg_world.specs.sg_clients

@@ -1,5 +1,6 @@
 // What a client does in its turn: it offers its next call, makes a step, and leaves after its last call.
 ghost use Rattle.std.specs.Prelude.{◌≡◌, ◌⊎◌, ◌≤◌, ℕ, List, true, None, IfOk, OnOk, OnErr, length};
+ghost use Rattle.sg_world.specs.sg_clients.Clients.{IsClient};
 ghost use Rattle.sg_plain.specs.sg_hist.Reading.{desc_of};
 ghost use Rattle.sg_plain.specs.Playing.Callers.{is_setting_up};
 ghost use Rattle.sg_plain.specs.Playing.Given.{given_in, with_handed};
@@ -28,8 +29,7 @@ pub fn offer_next<S: Service, T: Stops>(
     given: &[u64],
     client: u8,
 ) -> Result<(), NoMemory>
-    requires first { 1 ≤ client }
-    requires last { client ≤ length world.old.view.seats }
+    requires client { IsClient (length world.old.view.seats) client }
     requires setup { is_setting_up script.now world.old.view.seats ≡ true → client ≡ 1 }
     requires playing { (all : List (List ℕ)) × (given_in all client ≡ given.now) × IsPlaying world.old.tables.iface script.now world.old.view.history world.old.view.seats all }
     ensures ok { OnOk result (world.new.view ≡ with_offer world.old.tables.iface.facts script.now world.old.view client) }
@@ -62,8 +62,7 @@ pub fn make_step<S: Service, T: Stops>(
     script: &Script,
     client: u8,
 ) -> Result<Option<u64>, NoMemory>
-    requires first { 1 ≤ client }
-    requires last { client ≤ length world.old.view.seats }
+    requires client { IsClient (length world.old.view.seats) client }
     requires setup { is_setting_up script.now world.old.view.seats ≡ true → client ≡ 1 }
     requires playing { (all : List (List ℕ)) × IsPlaying world.old.tables.iface script.now world.old.view.history world.old.view.seats all }
     ensures steps { IfOk result (λ handed. StepsInTurn (setting_of S.ask S.sound S.parts world.old.tables) script.now world.old.view client handed world.new.view) }
@@ -93,8 +92,7 @@ pub fn make_step<S: Service, T: Stops>(
 
 // A client whose call was answered leaves where it has no more.
 fn leave_if_done<S: Service, T: Stops>(world: &mut World<S, T>, script: &Script, client: u8)
-    requires first { 1 ≤ client }
-    requires last { client ≤ length world.old.view.seats }
+    requires client { IsClient (length world.old.view.seats) client }
     requires idle { (seat_of world.old.view client).phase ≡ Idle }
     requires clients { AreClients 0 script.now.clients }
     ensures view { world.new.view ≡ with_leaving script.now world.old.view client }

@@ -1,5 +1,6 @@
 // What the calls of the clients were given.
 ghost use Rattle.std.specs.Prelude.{◌≡◌, ◌≤◌, ◌<◌, [], Some, IfOk, OnOk, length, replicate};
+ghost use Rattle.sg_play.specs.sg_clients.Clients.{IsClient};
 ghost use Rattle.sg_play.specs.sg_plain.Playing.Given.{given_in, with_handed};
 ghost use Rattle.sg_sim.specs.Inside.Givens.{lists_of, room_for};
 
@@ -37,8 +38,7 @@ impl Given {
 
     /// What a client's calls were given.
     pub fn of(&self, client: u8) -> &[u64]
-        requires first { 1 ≤ client }
-        requires last { client ≤ length self.now }
+        requires client { IsClient (length self.now) client }
         ensures { result.now ≡ given_in (lists_of self.now) client }
     {
         self.lists[usize::from(client) - 1].as_slice()
@@ -46,8 +46,7 @@ impl Given {
 
     /// Takes the memory for a client's next. All that was given stays, whatever the answer.
     pub fn reserve(&mut self, client: u8) -> Result<(), NoMemory>
-        requires first { 1 ≤ client }
-        requires last { client ≤ length self.old }
+        requires client { IsClient (length self.old) client }
         ensures room { OnOk result (0 < room_for self.new client) }
         ensures lists { lists_of self.new ≡ lists_of self.old }
     {
@@ -56,8 +55,7 @@ impl Given {
 
     /// A client's next call was given this, 0 for nothing.
     pub fn add(&mut self, client: u8, id: u64)
-        requires first { 1 ≤ client }
-        requires last { client ≤ length self.old }
+        requires client { IsClient (length self.old) client }
         requires room { 0 < room_for self.old client }
         ensures { lists_of self.new ≡ with_handed (lists_of self.old) client (Some id) }
     {

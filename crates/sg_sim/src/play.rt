@@ -1,5 +1,6 @@
 // A play: whose turn it is, and the play to its end.
 ghost use Rattle.std.specs.Prelude.{◌≡◌, ◌≤◌, ◌<◌, ◌++◌, ℕ, List, [], true, false, None, IfOk, IfSome, OnErr, OnOk, length, nat_lt, replicate};
+ghost use Rattle.sg_play.specs.sg_clients.Clients.{IsClient};
 ghost use Rattle.sg_play.specs.sg_plain.Playing.Callers.{is_setting_up};
 ghost use Rattle.sg_play.specs.sg_plain.Playing.Ends.{end_of, ends_from};
 ghost use Rattle.sg_sim.specs.Inside.Ends.{end_by};
@@ -121,8 +122,7 @@ impl<S: Service, T: Stops> Play<S, T> {
 
     /// Whether a client is one of the play's.
     pub fn has(&self, client: u8) -> bool
-        ensures first { result ≡ true → 1 ≤ client }
-        ensures last { result ≡ true → client ≤ length self.now.view.seats }
+        ensures client { result ≡ true → IsClient (length self.now.view.seats) client }
         ensures beyond { result ≡ false → 1 ≤ client → length self.now.view.seats < client }
     {
         client >= FIRST && client <= self.clients()
@@ -132,8 +132,7 @@ impl<S: Service, T: Stops> Play<S, T> {
     /// calls.
     pub fn can_step(&self, client: u8) -> bool
         ensures can { result ≡ can_step self.now client }
-        ensures first { result ≡ true → 1 ≤ client }
-        ensures last { result ≡ true → client ≤ length self.now.view.seats }
+        ensures client { result ≡ true → IsClient (length self.now.view.seats) client }
     {
         self.can_go(client)
     }
@@ -213,8 +212,7 @@ impl<S: Service, T: Stops> Play<S, T> {
 
     // A client takes its turn, which is the next. After `NoMemory` it has still to take it.
     fn take(&mut self, alloc: Global, turn: Turn) -> Result<(), NoMemory>
-        requires first { 1 ≤ turn.client }
-        requires last { turn.client ≤ length self.old.view.seats }
+        requires client { IsClient (length self.old.view.seats) turn.client }
         requires setup { is_setting_up self.old.script self.old.view.seats ≡ true → turn.client ≡ 1 }
         requires next { IsNextTurn self.old.script (stage_now self.old) turn.client turn.passed }
         ensures tables { self.new.tables ≡ self.old.tables }
@@ -337,8 +335,7 @@ impl<S: Service, T: Stops> Play<S, T> {
 
     // Whether a client is one of the world, and can take a turn.
     fn can_go(&self, client: u8) -> bool
-        ensures first { result ≡ true → 1 ≤ client }
-        ensures last { result ≡ true → client ≤ length self.now.view.seats }
+        ensures client { result ≡ true → IsClient (length self.now.view.seats) client }
         ensures may { 1 ≤ client → result ≡ may_go_next self.now client }
         ensures can { result ≡ can_step self.now client }
     {
@@ -350,8 +347,7 @@ impl<S: Service, T: Stops> Play<S, T> {
 
     // Whether a client has more calls than it has entries.
     fn has_more(&self, client: u8) -> bool
-        requires first { 1 ≤ client }
-        requires last { client ≤ length self.now.view.seats }
+        requires client { IsClient (length self.now.view.seats) client }
         ensures { result ≡ nat_lt (seat_of self.now.view client).seq (length (script_calls self.now.script client)) }
     {
         let done = self.world.seq(client) as usize;
@@ -390,8 +386,7 @@ impl<S: Service, T: Stops> Play<S, T> {
 
     // Adds how a client ended, where it has a call.
     fn add_end(&self, alloc: Global, client: u8, ends: &mut EndList) -> Result<(), NoMemory>
-        requires first { 1 ≤ client }
-        requires last { client ≤ length self.now.view.seats }
+        requires client { IsClient (length self.now.view.seats) client }
         ensures { OnOk result (ends.new ≡ ends.old ++ end_by self.now.script client (seat_of self.now.view client)) }
     {
         if script_call(&self.script, client, 0).is_none() {
@@ -404,8 +399,7 @@ impl<S: Service, T: Stops> Play<S, T> {
 
     // How a client ended.
     fn end_of(&self, alloc: Global, client: u8) -> Result<End, NoMemory>
-        requires first { 1 ≤ client }
-        requires last { client ≤ length self.now.view.seats }
+        requires client { IsClient (length self.now.view.seats) client }
         ensures { IfOk result (λ end. end ≡ end_of (seat_of self.now.view client)) }
     {
         if !waits(self.world.phase(client)) {

@@ -1,5 +1,6 @@
 // The turn of a client.
 ghost use Rattle.std.specs.Prelude.{◌≡◌, ◌≤◌, ℕ, List, [], true, IfOk, OnErr, length};
+ghost use Rattle.sg_play.specs.sg_clients.Clients.{IsClient};
 ghost use Rattle.sg_play.specs.Recovering.{RecoversSoFar};
 ghost use Rattle.sg_play.specs.sg_plain.Playing.Callers.{is_setting_up};
 ghost use Rattle.sg_play.specs.sg_plain.Playing.Plays.{IsPlaying};
@@ -21,8 +22,7 @@ pub fn take_turn<S: Service, T: Stops>(
     given: &mut Given,
     client: u8,
 ) -> Result<Option<u64>, NoMemory>
-    requires first { 1 ≤ client }
-    requires last { client ≤ length world.old.view.seats }
+    requires client { IsClient (length world.old.view.seats) client }
     requires setup { is_setting_up script.now world.old.view.seats ≡ true → client ≡ 1 }
     requires playing { IsPlaying world.old.tables.iface script.now world.old.view.history world.old.view.seats (lists_of given.old) }
     ensures taken { IfOk result (λ handed. TakesTurn (setting_of S.ask S.sound S.parts world.old.tables) script.now world.old.view (lists_of given.old) client handed world.new.view (lists_of given.new)) }

@@ -1,5 +1,6 @@
 // The service is used: it may stop at a point between calls, is booted where it failed, and is rebuilt by one step more.
 ghost use Rattle.std.specs.Prelude.{◌≡◌, ◌≤◌, ℕ, None, Some, IsSome, IfOk, OnOk, OnErr, if◌then◌else◌, length};
+ghost use Rattle.sg_clients.specs.Clients.{IsClient};
 ghost use Rattle.sg_facts.specs.sg_base.Stops.{asked_after};
 ghost use Rattle.sg_replay.specs.Missing.{missing};
 ghost use Rattle.sg_clients.specs.sg_seat.WorldView.{rebooted, seat_in, struck_at, with_points};
@@ -37,8 +38,7 @@ impl<S: Service, T: Stops> Inner<S, T> {
     /// world is as before.
     pub(crate) fn boot(&mut self, alloc: Global, client: u8, needs: &Needs) -> Result<(), NoMemory>
         requires order { IsInOrder S.facts S.ask S.sound S.parts T.test T.asked T.struck T.plan self.old }
-        requires first { 1 ≤ client }
-        requires last { client ≤ length self.old.clients }
+        requires client { IsClient (length self.old.clients) client }
         requires failed { self.old.engine.cell.running ≡ None }
         ensures order { IsInOrder S.facts S.ask S.sound S.parts T.test T.asked T.struck T.plan self.new }
         ensures ok { OnOk result (view_in self.new ≡ rebooted (view_in self.old)) }
@@ -62,8 +62,7 @@ impl<S: Service, T: Stops> Inner<S, T> {
         todo: Todo,
     ) -> Result<Did, NoMemory>
         requires order { IsInOrder S.facts S.ask S.sound S.parts T.test T.asked T.struck T.plan self.old }
-        requires first { 1 ≤ client }
-        requires last { client ≤ length self.old.clients }
+        requires client { IsClient (length self.old.clients) client }
         requires let_in { PassesGuard (setting_of S.ask S.sound S.parts self.old.engine.tables) (view_in self.old) client }
         requires up { IsSome self.old.engine.cell.running }
         requires needs { needs.now ≡ needs_in (setting_of S.ask S.sound S.parts self.old.engine.tables) (view_in self.old) (seat_in self.old.clients client).call }

@@ -1,5 +1,6 @@
 // A reply is handed over or lost, and an answered call comes into the history.
 ghost use Rattle.std.specs.Prelude.{◌≡◌, ◌≢◌, ◌⊎◌, ◌≤◌, None, Some, IsSome, length};
+ghost use Rattle.sg_clients.specs.Clients.{IsClient};
 ghost use Rattle.sg_facts.specs.sg_base.declared.reply.Reply.TheVariants.{Refused};
 ghost use Rattle.sg_facts.specs.declared.entry.Entry.{Entry as IsEntry};
 ghost use Rattle.sg_facts.specs.Guard.{guard as the_guard};
@@ -18,8 +19,7 @@ impl<S: Service, T: Stops> Inner<S, T> {
     /// The reply that a client has a receipt for is handed over. It takes no memory.
     pub(crate) fn hand_over(&mut self, alloc: Global, client: u8) -> Reply
         requires order { IsInOrder S.facts S.ask S.sound S.parts T.test T.asked T.struck T.plan self.old }
-        requires first { 1 ≤ client }
-        requires last { client ≤ length self.old.clients }
+        requires client { IsClient (length self.old.clients) client }
         requires receipted { (seat_in self.old.clients client).phase ≡ Receipted }
         ensures order { IsInOrder S.facts S.ask S.sound S.parts T.test T.asked T.struck T.plan self.new }
         ensures reply { result ≡ (seat_in self.old.clients client).reply }
@@ -37,8 +37,7 @@ impl<S: Service, T: Stops> Inner<S, T> {
     /// A client loses the reply that it holds, since the service failed, and asks its call again. It takes no memory.
     pub(crate) fn lose(&mut self, client: u8)
         requires order { IsInOrder S.facts S.ask S.sound S.parts T.test T.asked T.struck T.plan self.old }
-        requires first { 1 ≤ client }
-        requires last { client ≤ length self.old.clients }
+        requires client { IsClient (length self.old.clients) client }
         requires held { (seat_in self.old.clients client).phase ≡ Held }
         requires gone { (self.old.engine.cell.running ≡ None) ⊎ ((seat_in self.old.clients client).boot ≢ boot_number (view_in self.old)) }
         ensures order { IsInOrder S.facts S.ask S.sound S.parts T.test T.asked T.struck T.plan self.new }
@@ -51,8 +50,7 @@ impl<S: Service, T: Stops> Inner<S, T> {
     /// The guard refuses a client's call, which is committed and told at once. It takes no memory.
     pub(crate) fn refuse(&mut self, alloc: Global, client: u8, code: Code) -> Reply
         requires order { IsInOrder S.facts S.ask S.sound S.parts T.test T.asked T.struck T.plan self.old }
-        requires first { 1 ≤ client }
-        requires last { client ≤ length self.old.clients }
+        requires client { IsClient (length self.old.clients) client }
         requires asks { (seat_in self.old.clients client).phase ≡ Asked }
         requires refuses { the_guard self.old.engine.tables.iface (object_of self.old.engine.tables.iface.facts self.old.history.items) (seat_in self.old.clients client).call ≡ Some code }
         ensures order { IsInOrder S.facts S.ask S.sound S.parts T.test T.asked T.struck T.plan self.new }
@@ -81,8 +79,7 @@ impl<S: Service, T: Stops> Inner<S, T> {
     /// memory.
     pub(crate) fn return_held(&mut self, alloc: Global, client: u8) -> Reply
         requires order { IsInOrder S.facts S.ask S.sound S.parts T.test T.asked T.struck T.plan self.old }
-        requires first { 1 ≤ client }
-        requires last { client ≤ length self.old.clients }
+        requires client { IsClient (length self.old.clients) client }
         requires held { (seat_in self.old.clients client).phase ≡ Held }
         requires up { IsSome self.old.engine.cell.running }
         requires boot { (seat_in self.old.clients client).boot ≡ boot_number (view_in self.old) }

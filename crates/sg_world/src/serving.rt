@@ -1,5 +1,6 @@
 // A client's call that needs nothing any more reaches the service.
 ghost use Rattle.std.specs.Prelude.{◌≡◌, ◌≤◌, ℕ, false, true, None, IsSome, IfOk, OnErr, length};
+ghost use Rattle.sg_clients.specs.Clients.{IsClient};
 ghost use Rattle.std.specs.declared.option.Option.{Option as IsOption};
 ghost use Rattle.sg_facts.specs.sg_base.Stops.{asked_after};
 ghost use Rattle.sg_facts.specs.Facts.{is_visible};
@@ -30,8 +31,7 @@ impl<S: Service, T: Stops> Inner<S, T> {
         needs: &Needs,
     ) -> Result<Did, NoMemory>
         requires order { IsInOrder S.facts S.ask S.sound S.parts T.test T.asked T.struck T.plan self.old }
-        requires first { 1 ≤ client }
-        requires last { client ≤ length self.old.clients }
+        requires client { IsClient (length self.old.clients) client }
         requires let_in { PassesGuard (setting_of S.ask S.sound S.parts self.old.engine.tables) (view_in self.old) client }
         requires up { IsSome self.old.engine.cell.running }
         requires needs { needs.now ≡ needs_in (setting_of S.ask S.sound S.parts self.old.engine.tables) (view_in self.old) (seat_in self.old.clients client).call }
@@ -61,8 +61,7 @@ impl<S: Service, T: Stops> Inner<S, T> {
     // The service replied: a visible call is committed, after which the service may stop, and the reply of another is held.
     fn answer(&mut self, client: u8, reply: Reply, patch: Option<Patch>) -> Did
         requires service { self.old.engine.tables.iface.facts ≡ S.facts }
-        requires first { 1 ≤ client }
-        requires last { client ≤ length self.old.clients }
+        requires client { IsClient (length self.old.clients) client }
         requires served { HasServed (setting_of S.ask S.sound S.parts self.old.engine.tables) T.test T.asked T.struck T.plan self.old client reply patch }
         ensures order { IsInOrder S.facts S.ask S.sound S.parts T.test T.asked T.struck T.plan self.new }
         ensures did { let z = setting_of S.ask S.sound S.parts self.old.engine.tables in
@@ -90,8 +89,7 @@ impl<S: Service, T: Stops> Inner<S, T> {
     // A visible call that the service replied to is committed, and its client has a receipt for the reply.
     fn commit(&mut self, client: u8, reply: Reply, patch: Option<Patch>)
         requires service { self.old.engine.tables.iface.facts ≡ S.facts }
-        requires first { 1 ≤ client }
-        requires last { client ≤ length self.old.clients }
+        requires client { IsClient (length self.old.clients) client }
         requires served { HasServed (setting_of S.ask S.sound S.parts self.old.engine.tables) T.test T.asked T.struck T.plan self.old client reply patch }
         requires visible { is_visible self.old.engine.tables.iface.facts (seat_in self.old.clients client).call.fun ≡ true }
         ensures order { IsInOrder S.facts S.ask S.sound S.parts T.test T.asked T.struck T.plan self.new }
@@ -114,8 +112,7 @@ impl<S: Service, T: Stops> Inner<S, T> {
     // The reply to a call that isn't visible is held by its client.
     fn hold(&mut self, client: u8, reply: Reply)
         requires service { self.old.engine.tables.iface.facts ≡ S.facts }
-        requires first { 1 ≤ client }
-        requires last { client ≤ length self.old.clients }
+        requires client { IsClient (length self.old.clients) client }
         requires served { (patch : IsOption IsPatch) × HasServed (setting_of S.ask S.sound S.parts self.old.engine.tables) T.test T.asked T.struck T.plan self.old client reply patch }
         requires hidden { is_visible self.old.engine.tables.iface.facts (seat_in self.old.clients client).call.fun ≡ false }
         ensures order { IsInOrder S.facts S.ask S.sound S.parts T.test T.asked T.struck T.plan self.new }

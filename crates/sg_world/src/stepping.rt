@@ -1,5 +1,6 @@
 // One step of a client: which of its lines it takes.
 ghost use Rattle.std.specs.Prelude.{◌≡◌, ◌≤◌, ℕ, None, Some, IsSome, IfOk, OnErr, length};
+ghost use Rattle.sg_clients.specs.Clients.{IsClient};
 ghost use Rattle.sg_facts.specs.sg_base.Stops.{asked_after};
 ghost use Rattle.sg_clients.specs.sg_seat.WorldView.{seat_in, with_points};
 ghost use Rattle.sg_clients.specs.sg_seat.declared.phase.Phase.TheVariants.{Asked, Held};
@@ -20,8 +21,7 @@ impl<S: Service, T: Stops> Inner<S, T> {
     /// One step of a client. After `NoMemory` nothing changed but the number of points.
     pub(crate) fn step(&mut self, alloc: Global, client: u8) -> Result<Did, NoMemory>
         requires order { IsInOrder S.facts S.ask S.sound S.parts T.test T.asked T.struck T.plan self.old }
-        requires first { 1 ≤ client }
-        requires last { client ≤ length self.old.clients }
+        requires client { IsClient (length self.old.clients) client }
         ensures order { IsInOrder S.facts S.ask S.sound S.parts T.test T.asked T.struck T.plan self.new }
         ensures did { IfOk result (λ did. Steps (setting_of S.ask S.sound S.parts self.old.engine.tables) (view_in self.old) client did (view_in self.new)) }
         ensures err { OnErr result (NoMemoryLeft (setting_of S.ask S.sound S.parts self.old.engine.tables) (view_in self.old) client (view_in self.new)) }
@@ -38,8 +38,7 @@ impl<S: Service, T: Stops> Inner<S, T> {
     // A client that holds a reply returns it where the service is still in the boot in which it gave it, and else loses it.
     fn return_or_lose(&mut self, alloc: Global, client: u8) -> Did
         requires order { IsInOrder S.facts S.ask S.sound S.parts T.test T.asked T.struck T.plan self.old }
-        requires first { 1 ≤ client }
-        requires last { client ≤ length self.old.clients }
+        requires client { IsClient (length self.old.clients) client }
         requires held { (seat_in self.old.clients client).phase ≡ Held }
         ensures order { IsInOrder S.facts S.ask S.sound S.parts T.test T.asked T.struck T.plan self.new }
         ensures did { Steps (setting_of S.ask S.sound S.parts self.old.engine.tables) (view_in self.old) client result (view_in self.new) }
@@ -57,8 +56,7 @@ impl<S: Service, T: Stops> Inner<S, T> {
     // The guard judges a client's call first.
     fn judge(&mut self, alloc: Global, client: u8) -> Result<Did, NoMemory>
         requires order { IsInOrder S.facts S.ask S.sound S.parts T.test T.asked T.struck T.plan self.old }
-        requires first { 1 ≤ client }
-        requires last { client ≤ length self.old.clients }
+        requires client { IsClient (length self.old.clients) client }
         requires asks { (seat_in self.old.clients client).phase ≡ Asked }
         ensures order { IsInOrder S.facts S.ask S.sound S.parts T.test T.asked T.struck T.plan self.new }
         ensures did { IfOk result (λ did. Steps (setting_of S.ask S.sound S.parts self.old.engine.tables) (view_in self.old) client did (view_in self.new)) }
@@ -74,8 +72,7 @@ impl<S: Service, T: Stops> Inner<S, T> {
     // A call that the guard lets pass boots a service that failed, and else uses it.
     fn let_in(&mut self, alloc: Global, client: u8) -> Result<Did, NoMemory>
         requires order { IsInOrder S.facts S.ask S.sound S.parts T.test T.asked T.struck T.plan self.old }
-        requires first { 1 ≤ client }
-        requires last { client ≤ length self.old.clients }
+        requires client { IsClient (length self.old.clients) client }
         requires let_in { PassesGuard (setting_of S.ask S.sound S.parts self.old.engine.tables) (view_in self.old) client }
         ensures order { IsInOrder S.facts S.ask S.sound S.parts T.test T.asked T.struck T.plan self.new }
         ensures did { IfOk result (λ did. Steps (setting_of S.ask S.sound S.parts self.old.engine.tables) (view_in self.old) client did (view_in self.new)) }
@@ -96,8 +93,7 @@ impl<S: Service, T: Stops> Inner<S, T> {
     // Rebuilds what the call still needs by one step, or serves it.
     fn use_service(&mut self, alloc: Global, client: u8, needs: &Needs) -> Result<Did, NoMemory>
         requires order { IsInOrder S.facts S.ask S.sound S.parts T.test T.asked T.struck T.plan self.old }
-        requires first { 1 ≤ client }
-        requires last { client ≤ length self.old.clients }
+        requires client { IsClient (length self.old.clients) client }
         requires let_in { PassesGuard (setting_of S.ask S.sound S.parts self.old.engine.tables) (view_in self.old) client }
         requires up { IsSome self.old.engine.cell.running }
         requires needs { needs.now ≡ needs_in (setting_of S.ask S.sound S.parts self.old.engine.tables) (view_in self.old) (seat_in self.old.clients client).call }

@@ -1,5 +1,6 @@
 // The service, its clients, and what they did.
 ghost use Rattle.std.specs.Prelude.{◌≡◌, ◌+◌, ◌≤◌, ◌<◌, ◌-◌, ◌^◌, ℕ, true, [], None, IfOk, OnOk, OnErr, length, replicate};
+ghost use Rattle.sg_clients.specs.Clients.{IsClient};
 ghost use Rattle.std.specs.List.{list_all};
 ghost use Rattle.std.specs.Option.{option_copied, option_map};
 ghost use Rattle.sg_facts.specs.Kinds.{AreWords, FitsKinds};
@@ -133,8 +134,7 @@ impl<S: Service, T: Stops> World<S, T> {
 
     /// How far a client has come with its call. Who waits, waits in a call that has no answer at the object of the history.
     pub fn phase(&self, client: u8) -> Phase
-        requires first { 1 ≤ client }
-        requires last { client ≤ length self.now.view.seats }
+        requires client { IsClient (length self.now.view.seats) client }
         ensures phase { result ≡ (seat_of self.now.view client).phase }
         ensures waits { let i = self.now.tables.iface in let w = self.now.view in
             result ≡ Blocked → answer i S.ask (object_of i.facts w.history) (seat_of w client).call ≡ None }
@@ -152,8 +152,7 @@ impl<S: Service, T: Stops> World<S, T> {
 
     /// The call that a client offered last, lent.
     pub fn call(&self, client: u8) -> &Call
-        requires first { 1 ≤ client }
-        requires last { client ≤ length self.now.view.seats }
+        requires client { IsClient (length self.now.view.seats) client }
         ensures { result.now ≡ (seat_of self.now.view client).call }
     {
         self.inner.clients.call(client)
@@ -161,8 +160,7 @@ impl<S: Service, T: Stops> World<S, T> {
 
     /// The number of a client's last entry, 0 for none, which is how many entries it has. Its next call has the next number.
     pub fn seq(&self, client: u8) -> u32
-        requires first { 1 ≤ client }
-        requires last { client ≤ length self.now.view.seats }
+        requires client { IsClient (length self.now.view.seats) client }
         ensures seq { result ≡ (seat_of self.now.view client).seq }
         ensures count { result ≡ length (calls_of self.now.view.history client) }
     {
@@ -179,8 +177,7 @@ impl<S: Service, T: Stops> World<S, T> {
         desc: u64,
         args: Args,
     ) -> Result<(), NoMemory>
-        requires first { 1 ≤ client }
-        requires last { client ≤ length self.old.view.seats }
+        requires client { IsClient (length self.old.view.seats) client }
         requires free { IsFree (seat_of self.old.view client).phase }
         requires numbered { (seat_of self.old.view client).seq + 1 < 2 ^ 32 }
         requires declared { declares self.old.tables.iface fun ≡ true }
@@ -214,8 +211,7 @@ impl<S: Service, T: Stops> World<S, T> {
 
     /// A client withdraws its call, which is in no entry; its number is used again. It takes no memory.
     pub fn withdraw(&mut self, client: u8)
-        requires first { 1 ≤ client }
-        requires last { client ≤ length self.old.view.seats }
+        requires client { IsClient (length self.old.view.seats) client }
         requires may { MayWithdraw (seat_of self.old.view client).phase }
         ensures { self.new ≡ record self.old { view = happened (withdrawn_by self.old.view client) } }
     {
@@ -231,8 +227,7 @@ impl<S: Service, T: Stops> World<S, T> {
 
     /// A client that has no call under way leaves. One that has left goes on to be so. It takes no memory.
     pub fn leave(&mut self, client: u8)
-        requires first { 1 ≤ client }
-        requires last { client ≤ length self.old.view.seats }
+        requires client { IsClient (length self.old.view.seats) client }
         requires free { IsFree (seat_of self.old.view client).phase }
         ensures { self.new ≡ record self.old { view = happened (with_leave self.old.view client) } }
     {
@@ -252,8 +247,7 @@ impl<S: Service, T: Stops> World<S, T> {
     /// `NoMemory`, which comes of a call that the guard lets pass alone, only points and refused steps are counted, and the step may be
     /// made again.
     pub fn step(&mut self, alloc: Global, client: u8) -> Result<Did, NoMemory>
-        requires first { 1 ≤ client }
-        requires last { client ≤ length self.old.view.seats }
+        requires client { IsClient (length self.old.view.seats) client }
         ensures did { IfOk result (λ did. HasStepped (setting_of S.ask S.sound S.parts self.old.tables) self.old.view client did self.new.view) }
         ensures err { OnErr result (WantsMemory (setting_of S.ask S.sound S.parts self.old.tables) self.old.view client self.new.view) }
         ensures answers { IfOk result (AnswersLast self.new.view client) }

@@ -19,7 +19,7 @@ leave_if_done-requires-clause-idle g c =
     let reply = c.in-Answered.reply in
     let stepped : HasStepped z w c.args.client (Answered reply) now = subst (λ d. HasStepped z w c.args.client d now) c.in-Answered.is x.did in
     let answers : AnswersLast now c.args.client (Answered reply) = subst (AnswersLast now c.args.client) c.in-Answered.is x.answers in
-    stepped_idle z c.args.script.now w c.requires.playing.0 c.args.client c.requires.first c.requires.last c.requires.setup c.requires.playing.1 reply now stepped answers
+    stepped_idle z c.args.script.now w c.requires.playing.0 c.args.client c.requires.client.0 c.requires.client.1 c.requires.setup c.requires.playing.1 reply now stepped answers
 
 pub returns-in-Answered-clause-ok : goal.returns-in-Answered-clause-ok
 returns-in-Answered-clause-ok g c = λ all is.
@@ -30,7 +30,7 @@ returns-in-Answered-clause-ok g c = λ all is.
     let reply = c.in-Answered.reply in
     let stepped : HasStepped z w c.args.client (Answered reply) now = subst (λ d. HasStepped z w c.args.client d now) c.in-Answered.is x.did in
     let answers : AnswersLast now c.args.client (Answered reply) = subst (AnswersLast now c.args.client) c.in-Answered.is x.answers in
-    let handed = stepped_handed z c.args.script.now w all c.args.client c.requires.first c.requires.last c.requires.setup is reply now stepped answers in
+    let handed = stepped_handed z c.args.script.now w all c.args.client c.requires.client.0 c.requires.client.1 c.requires.setup is reply now stepped answers in
     let told = slice_set all (c.args.client - 1) (given_in all c.args.client ++ desc_of reply ∷ []) in
     let later = c.leave_if_done.new.world.view in
     let left : IsPlaying c.args.world.now.tables.iface c.args.script.now later.history later.seats told
@@ -46,7 +46,7 @@ returns-in-Skipped g c =
     record {
       steps = record { did = c.in_ok-reply.field-0; later = c.step.new.self.view; stepped = x.did; told = plain.told; is = plain.same c.args.script.now c.args.client c.step.new.self.view };
       wants = tt;
-      ok = λ all is. stepped_quiet z c.args.script.now c.args.world.now.view all c.args.client c.requires.first c.requires.last c.requires.setup is c.in_ok-reply.field-0 c.step.new.self.view plain.none x.did;
+      ok = λ all is. stepped_quiet z c.args.script.now c.args.world.now.view all c.args.client c.requires.client.0 c.requires.client.1 c.requires.setup is c.in_ok-reply.field-0 c.step.new.self.view plain.none x.did;
       err = λ all is. tt;
       tables = x.tables;
       plan = x.plan;

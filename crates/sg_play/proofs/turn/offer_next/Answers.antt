@@ -33,7 +33,7 @@ module _ (g : Given.Over) (c : In_ok-values g) where
   there = ap (slice_get (script_calls c.args.script.now c.args.client)) (sym c.seq-done.ensures.seq) ∙ sym c.script_call.ensures ∙ ap option_copied c.in-Some.is
 
   given : GaveIds own c.args.given.now
-  given = all_given c.args.world.now.tables.iface c.args.script.now view.history view.seats c.requires.playing.0 c.args.client c.requires.first c.requires.last c.requires.playing.2 free c.args.given.now c.requires.playing.1
+  given = all_given c.args.world.now.tables.iface c.args.script.now view.history view.seats c.requires.playing.0 c.args.client c.requires.client.0 c.requires.client.1 c.requires.playing.2 free c.args.given.now c.requires.playing.1
 
   kinds : c.fun.result.kinds.now ≡ (fun_at c.args.world.now.tables.iface.facts.funs c.in-Some.call.now.fun).kinds
   kinds = ap (λ f. f.kinds) c.fun.ensures ∙ ap (λ d. (fun_at d.facts.funs c.in-Some.call.now.fun).kinds) c.interface.ensures.interface
@@ -48,19 +48,19 @@ pub offer-requires-clause-numbered : goal.offer-requires-clause-numbered
 offer-requires-clause-numbered g c =
     let w = c.args.world.now.view in
     let s = (goal.at.offer-requires-clause-numbered g c).In_ok-values in
-    call_numbered c.args.world.now.tables.iface c.args.script.now w.history w.seats c.requires.playing.0 c.args.client c.requires.first c.requires.last c.requires.playing.2 (free g s) c.in-Some.call.now (there g s)
+    call_numbered c.args.world.now.tables.iface c.args.script.now w.history w.seats c.requires.playing.0 c.args.client c.requires.client.0 c.requires.client.1 c.requires.playing.2 (free g s) c.in-Some.call.now (there g s)
 
 pub offer-requires-clause-declared : goal.offer-requires-clause-declared
 offer-requires-clause-declared g c =
     let w = c.args.world.now.view in
     let s = (goal.at.offer-requires-clause-declared g c).In_ok-values in
-    call_declared c.args.world.now.tables.iface c.args.script.now w.history w.seats c.requires.playing.0 c.args.client c.requires.first c.requires.last c.requires.playing.2 (free g s) c.in-Some.call.now (there g s)
+    call_declared c.args.world.now.tables.iface c.args.script.now w.history w.seats c.requires.playing.0 c.args.client c.requires.client.0 c.requires.client.1 c.requires.playing.2 (free g s) c.in-Some.call.now (there g s)
 
 pub offer-requires-clause-fits : goal.offer-requires-clause-fits
 offer-requires-clause-fits g c =
     let w = c.args.world.now.view in
     let s = (goal.at.offer-requires-clause-fits g c).In_ok-values in
-    call_fits_kinds c.args.world.now.tables.iface c.args.script.now w.history w.seats c.requires.playing.0 c.args.client c.requires.first c.requires.last c.requires.playing.2
+    call_fits_kinds c.args.world.now.tables.iface c.args.script.now w.history w.seats c.requires.playing.0 c.args.client c.requires.client.0 c.requires.client.1 c.requires.playing.2
     (free g s) c.in-Some.call.now (there g s) c.fun.result.kinds.now c.desc_among-desc.result c.in_ok-values.values (kinds g s) (desc g s) (values g s)
 
 pub returns-clause-playing : goal.returns-clause-playing
@@ -69,7 +69,7 @@ returns-clause-playing g c = λ all is.
     let s = (goal.at.returns-clause-playing g c).In_ok-values in
     let Plays : Worlded → Type 0 = λ x. IsPlaying c.args.world.now.tables.iface c.args.script.now x.view.history x.view.seats all in
     either_way _ _ c.offer.result c.offer.ensures.ok c.offer.ensures.err
-    (λ now. subst Plays (sym now) (offered_playing c.args.world.now.tables.iface c.args.script.now w.history w.seats all c.args.client c.requires.first c.requires.last is
+    (λ now. subst Plays (sym now) (offered_playing c.args.world.now.tables.iface c.args.script.now w.history w.seats all c.args.client c.requires.client.0 c.requires.client.1 is
     (free g s) c.in-Some.call.now (there g s) c.fun.result.kinds.now c.desc_among-desc.result c.in_ok-values.values (kinds g s) (desc g s) (values g s) c.requires.setup))
     (λ now. subst Plays (sym now) is)
 
@@ -79,7 +79,7 @@ returns-clause-setup g c =
     let s = (goal.at.returns-clause-setup g c).In_ok-values in
     either_way _ _ c.offer.result c.offer.ensures.ok c.offer.ensures.err
     (λ now. subst (λ (x : Worlded). is_setting_up c.args.script.now x.view.seats ≡ true → c.args.client ≡ 1) (sym now)
-    (offered_setup c.args.world.now.tables.iface c.args.script.now w.history w.seats c.requires.playing.0 c.args.client c.requires.first c.requires.last c.requires.playing.2
+    (offered_setup c.args.world.now.tables.iface c.args.script.now w.history w.seats c.requires.playing.0 c.args.client c.requires.client.0 c.requires.client.1 c.requires.playing.2
     (free g s) c.in-Some.call.now (there g s) c.fun.result.kinds.now c.desc_among-desc.result c.in_ok-values.values (kinds g s) (desc g s) (values g s) c.requires.setup))
     (λ now. subst (λ (x : Worlded). is_setting_up c.args.script.now x.view.seats ≡ true → c.args.client ≡ 1) (sym now) c.requires.setup)
 
@@ -90,7 +90,7 @@ returns-clause-ok g c =
     let w = c.args.world.now.view in
     let client = c.args.client in
     let s = (goal.at.returns-clause-ok g c).In_ok-values in
-    let call = next i script w.history w.seats c.requires.playing.0 client c.requires.first c.requires.last c.requires.playing.2
+    let call = next i script w.history w.seats c.requires.playing.0 client c.requires.client.0 c.requires.client.1 c.requires.playing.2
     (free g s) c.in-Some.call.now (there g s) c.fun.result.kinds.now c.desc_among-desc.result c.in_ok-values.values (kinds g s) (desc g s) (values g s) in
     let is : with_offer i.facts script w client ≡ with_call w client (Some (record { client = client; seq = (seat_in w.seats client).seq + 1; fun = c.in-Some.call.now.fun; desc = c.desc_among-desc.result; args = c.in_ok-values.values }))
     = ap (λ b. cond b (with_call w client (call_after i.facts script w.history client (length (calls_of w.history client)))) w) (free g s) ∙ ap (with_call w client) call in

@@ -22,9 +22,11 @@ returns-in_err-offer_next-clause-missed g c =
     (missed_offer z c.args.script.now c.args.world.now.view (lists_of c.args.given.now) c.args.client c.offer_next.new.world.view (lists_of c.reserve.new.self) c.reserve.ensures.lists
     (c.offer_next.ensures.playing (lists_of c.args.given.now) c.requires.playing) c.in_err-offer_next.ensures.err)
 
-pub make_step-requires-clause-last : goal.make_step-requires-clause-last
-make_step-requires-clause-last g c =
-    omega (arith, c.requires.last, c.requires.playing.clients, (c.offer_next.ensures.playing (lists_of c.args.given.now) c.requires.playing).clients)
+pub make_step-requires-clause-client : goal.make_step-requires-clause-client
+make_step-requires-clause-client g c = (
+  c.requires.client.0,
+  omega (arith, c.requires.client.1, c.requires.playing.clients, (c.offer_next.ensures.playing (lists_of c.args.given.now) c.requires.playing).clients),
+)
 
 pub make_step-requires-clause-playing : goal.make_step-requires-clause-playing
 make_step-requires-clause-playing g c = (

@@ -8,7 +8,7 @@ use Rattle.sg_clients.proofs.clients.Clients.refuse.Goals as goal
 
 -- the seat that is read is the client's
 reads : (c : goal.After-self-1) → Reads c.self.inside.seats.items c.args.self.now c.from.result c.args.client c.index_mut.result.now
-reads c = record { same = c.self.view_is; is = c.from.ensures; first = c.requires.first; last = c.requires.last; read = c.index_mut.ensures.value }
+reads c = record { same = c.self.view_is; is = c.from.ensures; first = c.requires.client.0; last = c.requires.client.1; read = c.index_mut.ensures.value }
 
 pub invariant_of-self : goal.invariant_of-self
 invariant_of-self c =

@@ -15,5 +15,5 @@ returns-clause-withdrawn c =
     c.from_vec.ensures ∙ ap (λ n. slice_set c.with_phases-phases.result.items (n - 1) c.phase-was.result) c.from.ensures
     ∙ ap (λ l. slice_set l (c.args.client - 1) c.phase-was.result) (c.with_phases-phases.ensures ∙ ap (map (λ s. s.phase)) (c.as_slice.ensures.value ∙ c.self.view_is ∙ c.take_room-room.ensures.seats))
     ∙ ap (slice_set (map (λ s. s.phase) (slice_set old (c.args.client - 1) idle)) (c.args.client - 1)) c.phase-was.ensures
-    ∙ set_back old (c.args.client - 1) idle (omega (arith, c.requires.first, c.requires.last)) in
+    ∙ set_back old (c.args.client - 1) idle (omega (arith, c.requires.client.0, c.requires.client.1)) in
     ap (λ x. record { call = x; phases = c.from_vec.result; at = c.args.at }) same ∙ ap (λ p. record { call = (seat_in old c.args.client).call; phases = p; at = c.args.at }) phases

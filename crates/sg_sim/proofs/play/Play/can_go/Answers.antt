@@ -24,7 +24,7 @@ returns-clause-may g c = λ first.
     let keeps = subst (λ (q : Playing). KeepsPlay (setting_of g.S.Service.ask g.S.Service.sound g.S.Service.parts q.tables) q.script q.view (lists_of c.self.inside.given) q.passed q.last q.in_order) c.self.view_is c.self.invariant in
     let phase = c.phase.ensures.phase ∙ ap (λ (q : Playing). (seat_of q.view c.args.client).phase) c.self.view_is in
     c.may_go.ensures ∙ ap (λ ph. may_go ph c.has_more.result) phase ∙ ap (may_go (seat_of p.view c.args.client).phase) c.has_more.ensures
-    ∙ sym (turns_alike p.tables.iface p.script p.view (lists_of c.self.inside.given) keeps.playing p.passed p.last c.args.client first (c.has.ensures.last c.if-not-has.false))
+    ∙ sym (turns_alike p.tables.iface p.script p.view (lists_of c.self.inside.given) keeps.playing p.passed p.last c.args.client first ((c.has.ensures.client c.if-not-has.false).1))
 
 pub returns-clause-can : goal.returns-clause-can
 returns-clause-can g c =
@@ -32,4 +32,4 @@ returns-clause-can g c =
     let phase = c.phase.ensures.phase ∙ ap (λ (q : Playing). (seat_of q.view c.args.client).phase) c.self.view_is in
     let goes : c.may_go.result ≡ may_take_turn p.script c.args.client (seat_of p.view c.args.client)
     = c.may_go.ensures ∙ ap (λ ph. may_go ph c.has_more.result) phase ∙ ap (may_go (seat_of p.view c.args.client).phase) c.has_more.ensures in
-    can_so p c.args.client (c.has.ensures.first c.if-not-has.false) (c.has.ensures.last c.if-not-has.false) c.may_go.result goes
+    can_so p c.args.client ((c.has.ensures.client c.if-not-has.false).0) ((c.has.ensures.client c.if-not-has.false).1) c.may_go.result goes

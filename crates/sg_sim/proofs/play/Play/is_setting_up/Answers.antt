@@ -8,10 +8,15 @@ use Rattle.sg_sim.specs.Inside.Givens.{lists_of}
 use Rattle.sg_sim.specs.Playing.{Playing}
 use Rattle.sg_sim.proofs.play.Play.is_setting_up.Goals as goal
 
-pub of-requires-clause-last : goal.of-requires-clause-last
-of-requires-clause-last g c =
+pub of-requires : goal.of-requires
+of-requires g c =
     let is = c.self.invariant.playing in
-    omega (arith, is.have_given.clients, is.clients, length_lists c.self.inside.given, clients_from_one 0 c.self.inside.script.clients is.playable.clients)
+    record {
+      client = (
+        omega arith,
+        omega (arith, is.have_given.clients, is.clients, length_lists c.self.inside.given, clients_from_one 0 c.self.inside.script.clients is.playable.clients),
+      );
+    }
 
 pub returns : goal.returns
 returns g c =

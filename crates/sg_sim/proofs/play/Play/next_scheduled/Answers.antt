@@ -16,7 +16,7 @@ returns-then-can_go-clause-next g c =
     let client = slice_index_or c.as_slice-schedule.result.now c.turns.at 0 in
     let there : slice_get p.script.schedule c.turns.at ≡ Some client = ap (λ l. slice_get l c.turns.at) (sym schedule) ∙ number_at c.as_slice-schedule.result.now c.turns.at c.turns-test.true in
     let from : p.passed ≤ c.turns.at = subst (λ (q : Playing). q.passed ≤ c.turns.at) c.self.view_is c.turns.auto.at in
-    from_schedule p c.requires.settled c.turns.at client from there (sym (c.can_go.ensures.may (c.can_go.ensures.first c.if-can_go.true)) ∙ c.if-can_go.true) c.turns.invariant
+    from_schedule p c.requires.settled c.turns.at client from there (sym (c.can_go.ensures.may (c.can_go.ensures.client c.if-can_go.true).0) ∙ c.if-can_go.true) c.turns.invariant
 
 pub turns-preserved : goal.turns-preserved
 turns-preserved g c =

@@ -14,8 +14,11 @@ use Rattle.sg_play.specs.sg_world.Worlded.{setting_of}
 use Rattle.sg_play.specs.sg_world_laws.Setting.{Setting}
 use Rattle.sg_sim.proofs.play.Play.turn.Goals as goal
 
-pub take_turn-requires-clause-first : goal.take_turn-requires-clause-first
-take_turn-requires-clause-first g c = can_first c.args.self.now c.args.client c.requires.can
+pub take_turn-requires-clause-client : goal.take_turn-requires-clause-client
+take_turn-requires-clause-client g c = (
+  can_first c.args.self.now c.args.client c.requires.can,
+  subst (λ (q : Playing). c.args.client ≤ length q.view.seats) (sym c.self.view_is) (can_last c.args.self.now c.args.client c.requires.can),
+)
 
 pub invariant_of-self : goal.invariant_of-self
 invariant_of-self g c =

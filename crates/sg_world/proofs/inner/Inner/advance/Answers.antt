@@ -25,7 +25,7 @@ advance-requires g c =
     let x = c.args.self.now in
     let z = setting_of g.S.Service.ask g.S.Service.sound g.S.Service.parts x.engine.tables in
     let held = some_is x.engine.cell.running c.requires.up in
-    may_of z x.engine (view_in x) (rooms_in x) c.requires.order.world refl refl refl c.args.client c.requires.first c.requires.last c.requires.let_in held.0 held.1
+    may_of z x.engine (view_in x) (rooms_in x) c.requires.order.world refl refl refl c.args.client c.requires.client.0 c.requires.client.1 c.requires.let_in held.0 held.1
     g.S.Service.facts c.requires.order.service c.args.needs.now c.requires.needs c.args.todo c.requires.due
 
 -- the engine did the step
@@ -50,7 +50,7 @@ module _ (g : Given.Over) (c : After-advance g) where
       → IsTurn z c.args.self.now.engine (needs_in z w (seat_of w c.args.client).call) (seat_of w c.args.client).call.client held.0 start result c.advance.new.self later
   turn result is =
       subst (λ r. IsTurn z c.args.self.now.engine (needs_in z w (seat_of w c.args.client).call) (seat_of w c.args.client).call.client held.0 start r c.advance.new.self later) is
-      (turn_of z c.args.self.now.engine w (rooms_in c.args.self.now) c.requires.order.world refl refl refl c.args.client c.requires.first c.requires.last c.requires.let_in held.0 held.1
+      (turn_of z c.args.self.now.engine w (rooms_in c.args.self.now) c.requires.order.world refl refl refl c.args.client c.requires.client.0 c.requires.client.1 c.requires.let_in held.0 held.1
       g.S.Service.facts c.requires.order.service c.args.needs.now c.requires.needs c.args.todo c.requires.due start c.advance.result c.advance.new.self later
       (record { walk = c.advance.ensures.walk; load = c.advance.ensures.load; stored = c.advance.ensures.stored; tracked = c.advance.ensures.tracked }))
 
@@ -58,11 +58,11 @@ module _ (g : Given.Over) (c : After-advance g) where
   order =
       let x = c.args.self.now in
       let new = c.advance.new.self in
-      let counts = counts_on z x.engine w (rooms_in x) c.requires.order.world refl refl refl c.args.client c.requires.first c.requires.last c.requires.let_in held.0 held.1
+      let counts = counts_on z x.engine w (rooms_in x) c.requires.order.world refl refl refl c.args.client c.requires.client.0 c.requires.client.1 c.requires.let_in held.0 held.1
       start new later c.requires.order.points.asked_so c.requires.order.points.struck_so c.advance.result (turn c.advance.result refl) in
       record {
         world = subst (λ t. IsWorld (setting_of g.S.Service.ask g.S.Service.sound g.S.Service.parts t) new (view_of new x.history.items x.clients x.withdrawn.items x.marks.items x.events x.refused) (rooms_in x)) (sym c.advance.ensures.tables)
-            (advanced_on z x.engine w (rooms_in x) c.requires.order.world refl refl refl c.args.client c.requires.first c.requires.last c.requires.let_in held.0 held.1
+            (advanced_on z x.engine w (rooms_in x) c.requires.order.world refl refl refl c.args.client c.requires.client.0 c.requires.client.1 c.requires.let_in held.0 held.1
             start new later c.advance.ensures.tracked c.advance.ensures.stored c.advance.result (turn c.advance.result refl));
         points = record { asked_so = counts.0; struck_so = counts.1; tested = c.advance.ensures.test c.requires.order.points.tested };
         clients = subst (λ s. length x.clients ≤ s.clients) (sym c.advance.ensures.stored) c.requires.order.clients;
@@ -72,7 +72,7 @@ module _ (g : Given.Over) (c : After-advance g) where
   -- the line of what it did
   line : (did : Advanced) → c.advance.result ≡ Ok did → (asked : ℕ) → w.run.points ≡ asked_after asked 1 → Steps z (with_points w asked) c.args.client (step_of did) (as_shown w c.advance.new.self)
   line did is asked points =
-      line_of z c.args.self.now.engine w (rooms_in c.args.self.now) c.requires.order.world refl refl refl c.args.client c.requires.first c.requires.last c.requires.let_in held.0 held.1
+      line_of z c.args.self.now.engine w (rooms_in c.args.self.now) c.requires.order.world refl refl refl c.args.client c.requires.client.0 c.requires.client.1 c.requires.let_in held.0 held.1
       start c.advance.new.self later asked points c.requires.order.points.asked_so did (turn (Ok did) is)
 
 pub returns-in_err-advance-clause-order : goal.returns-in_err-advance-clause-order
@@ -83,7 +83,7 @@ returns-in_err-advance-clause-err g c =
     let x = c.args.self.now in
     let s = (goal.at.returns-in_err-advance-clause-err g c).After-advance in
     on_err c.from_residual.result (as_shown (w g s) c.advance.new.self ≡ w g s)
-    (nothing_on (z g s) x.engine (w g s) (rooms_in x) c.requires.order.world refl refl refl c.args.client c.requires.first c.requires.last c.requires.let_in (held g s).0 (held g s).1
+    (nothing_on (z g s) x.engine (w g s) (rooms_in x) c.requires.order.world refl refl refl c.args.client c.requires.client.0 c.requires.client.1 c.requires.let_in (held g s).0 (held g s).1
     (start g s) c.advance.new.self (later g s) (turn g s _ c.in_err-advance.was).0)
 
 pub returns-in-Replayed-clause-order : goal.returns-in-Replayed-clause-order

@@ -33,7 +33,7 @@ commit-requires g c =
     let later : Points = record { asked = g.T.Stops.asked x.stops; struck = g.T.Stops.struck x.stops } in
     subst (λ f. MayCommitAt f x.engine c.give-entry.result.call c.args.reply c.args.patch) c.requires.service
     (subst (λ en. MayCommitAt x.engine.tables.iface.facts x.engine en.call c.args.reply c.args.patch) (sym c.give-entry.ensures.entry)
-    (may_commit z s.before w (rooms_in x) s.world refl refl s.walks c.args.client c.requires.first c.requires.last s.let_in s.held s.up s.whole s.is_engine.given
+    (may_commit z s.before w (rooms_in x) s.world refl refl s.walks c.args.client c.requires.client.0 c.requires.client.1 s.let_in s.held s.up s.whole s.is_engine.given
     s.points later c.args.reply c.args.patch x.engine s.tells c.requires.visible s.tracked_same s.stored_same s.present_same s.is_engine s.places s.rooms s.fits))
 
 pub add-requires : goal.add-requires
@@ -41,14 +41,14 @@ add-requires g c =
     let x = c.args.self.now in
     let s = c.requires.served in
     let w = view_with s.before x in
-    (entered_some x.clients (rooms_in x) s.world.rooms_are (c.args.client - 1) (seat_in x.clients c.args.client) (seat_there w c.args.client c.requires.first c.requires.last) (ap is_offered s.let_in.phase)).0
+    (entered_some x.clients (rooms_in x) s.world.rooms_are (c.args.client - 1) (seat_in x.clients c.args.client) (seat_there w c.args.client c.requires.client.0 c.requires.client.1) (ap is_offered s.let_in.phase)).0
 
 pub add-requires-2 : goal.add-requires-2
 add-requires-2 g c =
     let x = c.args.self.now in
     let s = c.requires.served in
     let w = view_with s.before x in
-    let some = (entered_some x.clients (rooms_in x) s.world.rooms_are (c.args.client - 1) (seat_in x.clients c.args.client) (seat_there w c.args.client c.requires.first c.requires.last) (ap is_offered s.let_in.phase)).1 in
+    let some = (entered_some x.clients (rooms_in x) s.world.rooms_are (c.args.client - 1) (seat_in x.clients c.args.client) (seat_there w c.args.client c.requires.client.0 c.requires.client.1) (ap is_offered s.let_in.phase)).1 in
     omega (arith, some)
 
 -- what `committed_on` and `committed_line` take
@@ -86,7 +86,7 @@ module _ (g : Given.Over) (c : goal.After-add-2 g) where
       (rows ∙ ap (λ l. track z.iface.facts l seat.call c.args.reply) same ∙ sym (ap (λ (y : Entry). track z.iface.facts old y.call y.reply) c.give-entry.ensures.entry))
       (subst (λ (y : Entry). WaitOnLive z.iface.facts old y.call c.give-entry.new.self) (sym c.give-entry.ensures.entry)
       (subst (WaitOnLive z.iface.facts old seat.call) (sym c.give-entry.ensures.seats)
-      (waits_live z s.before w (rooms_in x) s.world refl refl s.walks c.args.client c.requires.first c.requires.last s.let_in s.held s.up s.whole s.is_engine.given
+      (waits_live z s.before w (rooms_in x) s.world refl refl s.walks c.args.client c.requires.client.0 c.requires.client.1 s.let_in s.held s.up s.whole s.is_engine.given
       s.points later c.args.reply c.args.patch x.engine s.tells))))
       ∙ ap (map (woken_seat (wakes_seat z.iface.facts old seat.call c.args.reply))) c.give-entry.ensures.seats
 
@@ -97,7 +97,7 @@ returns-clause-up g c =
     let s = c.requires.served in
     let later : Points = record { asked = g.T.Stops.asked x.stops; struck = g.T.Stops.struck x.stops } in
     subst (λ y. IsSome y.running) (sym c.commit.ensures.cell)
-    (subst (λ r. IsSome r) (sym (replied_up z s.before (view_with s.before x) (rooms_in x) s.world refl refl s.walks c.args.client c.requires.first c.requires.last s.let_in s.held s.up s.whole s.is_engine.given
+    (subst (λ r. IsSome r) (sym (replied_up z s.before (view_with s.before x) (rooms_in x) s.world refl refl s.walks c.args.client c.requires.client.0 c.requires.client.1 s.let_in s.held s.up s.whole s.is_engine.given
     s.points later c.args.reply c.args.patch x.engine s.tells)) refl)
 
 pub returns-clause-order : goal.returns-clause-order
@@ -108,11 +108,11 @@ returns-clause-order g c =
     let w = view_with s.before x in
     let later : Points = record { asked = g.T.Stops.asked x.stops; struck = g.T.Stops.struck x.stops } in
     let room : Rooms = record { entries = c.add.new.self.room; withdrawals = x.withdrawn.room; marks = c.add-2.new.self.room } in
-    let counts = replied_counted z s.before w (rooms_in x) s.world refl refl s.walks c.args.client c.requires.first c.requires.last s.let_in s.held s.up s.whole s.is_engine.given
+    let counts = replied_counted z s.before w (rooms_in x) s.world refl refl s.walks c.args.client c.requires.client.0 c.requires.client.1 s.let_in s.held s.up s.whole s.is_engine.given
     s.points later c.args.reply c.args.patch x.engine s.tells s.counts.struck_so in
     record {
       world = subst (λ t. IsWorld (setting_of g.S.Service.ask g.S.Service.sound g.S.Service.parts t) c.commit.new.self (view_of c.commit.new.self c.add.new.self.items c.wake.new.clients x.withdrawn.items c.add-2.new.self.items x.events x.refused) room) (sym c.commit.ensures.tables)
-          (committed_on z s.before w (rooms_in x) s.world refl refl s.walks c.args.client c.requires.first c.requires.last s.let_in s.held s.up s.whole s.is_engine.given
+          (committed_on z s.before w (rooms_in x) s.world refl refl s.walks c.args.client c.requires.client.0 c.requires.client.1 s.let_in s.held s.up s.whole s.is_engine.given
           s.points later c.args.reply c.args.patch x.engine s.tells (fits g c) s.tracked_same s.stored_same s.present_same c.commit.new.self c.commit.ensures.cell (rows g c) (given g c)
           c.commit.ensures.names c.commit.ensures.present c.commit.ensures.files room c.add.ensures.room (omega arith) c.add-2.ensures.room c.add.new.self.items (history g c)
           c.add-2.new.self.items c.add-2.ensures.items c.wake.new.clients (seats g c));
@@ -138,7 +138,7 @@ returns-clause-commits g c = λ s asked was.
     let w = view_with s.before x in
     let later : Points = record { asked = g.T.Stops.asked x.stops; struck = g.T.Stops.struck x.stops } in
     let room : Rooms = record { entries = c.add.new.self.room; withdrawals = x.withdrawn.room; marks = c.add-2.new.self.room } in
-    committed_line z s.before w (rooms_in x) s.world refl refl s.walks c.args.client c.requires.first c.requires.last s.let_in s.held s.up s.whole s.is_engine.given
+    committed_line z s.before w (rooms_in x) s.world refl refl s.walks c.args.client c.requires.client.0 c.requires.client.1 s.let_in s.held s.up s.whole s.is_engine.given
     s.points later c.args.reply c.args.patch x.engine s.tells (fits g c) s.tracked_same s.stored_same s.present_same c.commit.new.self c.commit.ensures.cell (rows g c) (given g c)
     c.commit.ensures.names c.commit.ensures.present c.commit.ensures.files room c.add.ensures.room (omega arith) c.add-2.ensures.room c.add.new.self.items (history g c)
     c.add-2.new.self.items c.add-2.ensures.items c.wake.new.clients (seats g c) asked (sym s.counts.asked_so ∙ was) c.requires.visible

@@ -17,10 +17,10 @@ returns-clause-order g c =
     let s = c.requires.served.1 in
     let w = view_with s.before x in
     let later : Points = record { asked = g.T.Stops.asked x.stops; struck = g.T.Stops.struck x.stops } in
-    let counts = replied_counted z s.before w (rooms_in x) s.world refl refl s.walks c.args.client c.requires.first c.requires.last s.let_in s.held s.up s.whole s.is_engine.given
+    let counts = replied_counted z s.before w (rooms_in x) s.world refl refl s.walks c.args.client c.requires.client.0 c.requires.client.1 s.let_in s.held s.up s.whole s.is_engine.given
     s.points later c.args.reply c.requires.served.0 x.engine s.tells s.counts.struck_so in
     record {
-      world = held_on z s.before w (rooms_in x) s.world refl refl s.walks c.args.client c.requires.first c.requires.last s.let_in s.held s.up s.whole s.is_engine.given
+      world = held_on z s.before w (rooms_in x) s.world refl refl s.walks c.args.client c.requires.client.0 c.requires.client.1 s.let_in s.held s.up s.whole s.is_engine.given
           s.points later c.args.reply c.requires.served.0 x.engine s.tells c.requires.hidden s.tracked_same s.stored_same s.present_same c.boot_number-boot.result c.boot_number-boot.ensures c.hold.new.self c.hold.ensures;
       points = record { asked_so = counts.0; struck_so = counts.1; tested = s.tested };
       clients = (let seat : Seat = seat_in x.clients c.args.client in
@@ -37,6 +37,6 @@ returns-clause-holds g c = λ patch s asked was.
     let z = setting_of g.S.Service.ask g.S.Service.sound g.S.Service.parts x.engine.tables in
     let w = view_with s.before x in
     let later : Points = record { asked = g.T.Stops.asked x.stops; struck = g.T.Stops.struck x.stops } in
-    held_line z s.before w (rooms_in x) s.world refl refl s.walks c.args.client c.requires.first c.requires.last s.let_in s.held s.up s.whole s.is_engine.given
+    held_line z s.before w (rooms_in x) s.world refl refl s.walks c.args.client c.requires.client.0 c.requires.client.1 s.let_in s.held s.up s.whole s.is_engine.given
     s.points later c.args.reply patch x.engine s.tells c.requires.hidden s.tracked_same s.stored_same s.present_same c.boot_number-boot.result c.boot_number-boot.ensures c.hold.new.self c.hold.ensures
     asked (sym s.counts.asked_so ∙ was)

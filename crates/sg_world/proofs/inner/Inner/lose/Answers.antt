@@ -12,7 +12,7 @@ pub returns-clause-order : goal.returns-clause-order
 returns-clause-order g c =
     let x = c.args.self.now in
     record {
-      world = lost_on (setting_of g.S.Service.ask g.S.Service.sound g.S.Service.parts x.engine.tables) x.engine (view_in x) (rooms_in x) (rooms_in x) c.requires.order.world c.args.client c.requires.first c.requires.last
+      world = lost_on (setting_of g.S.Service.ask g.S.Service.sound g.S.Service.parts x.engine.tables) x.engine (view_in x) (rooms_in x) (rooms_in x) c.requires.order.world c.args.client c.requires.client.0 c.requires.client.1
           c.requires.held c.requires.gone c.lose.new.self c.lose.ensures;
       points = record { asked_so = c.requires.order.points.asked_so; struck_so = c.requires.order.points.struck_so; tested = c.requires.order.points.tested };
       clients = (let same = ap length c.lose.ensures ∙ length_set x.clients (c.args.client - 1) (record (seat_in x.clients c.args.client) { phase = Asked }) in let was = c.requires.order.clients in omega (arith, same, was));

@@ -14,7 +14,7 @@ use Rattle.sg_world.proofs.inner.Inner.refuse.Goals as goal
 
 -- there is room for what is added
 rooms : (g : Given.Over) (c : Start g) → (1 ≤ c.args.self.now.history.room) × (3 ≤ c.args.self.now.marks.room)
-rooms g c = denial_rooms (setting_of g.S.Service.ask g.S.Service.sound g.S.Service.parts c.args.self.now.engine.tables) c.args.self.now.engine (view_in c.args.self.now) (rooms_in c.args.self.now) c.requires.order.world c.args.client c.requires.first c.requires.last c.requires.asks c.args.code c.requires.refuses
+rooms g c = denial_rooms (setting_of g.S.Service.ask g.S.Service.sound g.S.Service.parts c.args.self.now.engine.tables) c.args.self.now.engine (view_in c.args.self.now) (rooms_in c.args.self.now) c.requires.order.world c.args.client c.requires.client.0 c.requires.client.1 c.requires.asks c.args.code c.requires.refuses
 
 pub add-requires : goal.add-requires
 add-requires g c = (rooms g (goal.at.add-requires g c).Start).0
@@ -39,7 +39,7 @@ module _ (g : Given.Over) (c : goal.After-add-3 g) where
 pub returns-clause-view : goal.returns-clause-view
 returns-clause-view g c =
     let x = c.args.self.now in
-    denied_view (setting_of g.S.Service.ask g.S.Service.sound g.S.Service.parts x.engine.tables) x.engine (view_in x) (rooms_in x) c.requires.order.world c.args.client c.requires.first c.requires.last c.requires.asks c.args.code c.requires.refuses
+    denied_view (setting_of g.S.Service.ask g.S.Service.sound g.S.Service.parts x.engine.tables) x.engine (view_in x) (rooms_in x) c.requires.order.world c.args.client c.requires.client.0 c.requires.client.1 c.requires.asks c.args.code c.requires.refuses
     (rooms_in x) (fits g c) c.add.new.self.items (history g c) c.refuse-call.new.self c.refuse-call.ensures.seats c.add-3.new.self.items (marks g c)
 
 pub returns-clause-order : goal.returns-clause-order
@@ -47,7 +47,7 @@ returns-clause-order g c =
     let x = c.args.self.now in
     let later : Rooms = record { entries = c.add.new.self.room; withdrawals = x.withdrawn.room; marks = c.add-3.new.self.room } in
     record {
-      world = denied_on (setting_of g.S.Service.ask g.S.Service.sound g.S.Service.parts x.engine.tables) x.engine (view_in x) (rooms_in x) c.requires.order.world c.args.client c.requires.first c.requires.last c.requires.asks c.args.code c.requires.refuses
+      world = denied_on (setting_of g.S.Service.ask g.S.Service.sound g.S.Service.parts x.engine.tables) x.engine (view_in x) (rooms_in x) c.requires.order.world c.args.client c.requires.client.0 c.requires.client.1 c.requires.asks c.args.code c.requires.refuses
           later (fits g c) c.add.new.self.items (history g c) c.refuse-call.new.self c.refuse-call.ensures.seats c.add-3.new.self.items (marks g c)
           c.add.ensures.room (omega arith) (let one = c.add-2.ensures.room in let two = c.add-3.ensures.room in omega (arith, one, two));
       points = record { asked_so = c.requires.order.points.asked_so; struck_so = c.requires.order.points.struck_so; tested = c.requires.order.points.tested };

@@ -25,11 +25,11 @@ commit-requires g c =
     subst (λ f. MayCommitAt f x.engine c.give_back-entry.result.entry.call c.give_back-entry.result.reply None) c.requires.order.service
     (subst (λ en. MayCommitAt x.engine.tables.iface.facts x.engine en.call c.give_back-entry.result.reply None) (sym c.give_back-entry.ensures.entry)
     (subst (λ r. MayCommitAt x.engine.tables.iface.facts x.engine s.call r None) (sym c.give_back-entry.ensures.reply)
-    (may_return (setting_of g.S.Service.ask g.S.Service.sound g.S.Service.parts x.engine.tables) x.engine (view_in x) (rooms_in x) c.requires.order.world c.args.client c.requires.first c.requires.last c.requires.held c.requires.up c.requires.boot)))
+    (may_return (setting_of g.S.Service.ask g.S.Service.sound g.S.Service.parts x.engine.tables) x.engine (view_in x) (rooms_in x) c.requires.order.world c.args.client c.requires.client.0 c.requires.client.1 c.requires.held c.requires.up c.requires.boot)))
 
 -- there is room for what is added
 rooms : (g : Given.Over) (c : Start g) → (1 ≤ c.args.self.now.history.room) × (3 ≤ c.args.self.now.marks.room)
-rooms g c = has_rooms (setting_of g.S.Service.ask g.S.Service.sound g.S.Service.parts c.args.self.now.engine.tables) c.args.self.now.engine (view_in c.args.self.now) (rooms_in c.args.self.now) c.requires.order.world c.args.client c.requires.first c.requires.last c.requires.held c.requires.up c.requires.boot
+rooms g c = has_rooms (setting_of g.S.Service.ask g.S.Service.sound g.S.Service.parts c.args.self.now.engine.tables) c.args.self.now.engine (view_in c.args.self.now) (rooms_in c.args.self.now) c.requires.order.world c.args.client c.requires.client.0 c.requires.client.1 c.requires.held c.requires.up c.requires.boot
 
 pub add-requires : goal.add-requires
 add-requires g c = (rooms g (goal.at.add-requires g c).Start).0
@@ -76,7 +76,7 @@ module _ (g : Given.Over) (c : goal.After-add-3 g) where
       → c.wake.new.clients ≡ map (woken_seat (wakes_seat i.iface.facts x.engine.tracked.rows en.call en.reply)) c.give_back-entry.new.self) c.commit.ensures.tables (c.wake.ensures x.engine.tracked.rows)
       (rows ∙ sym (ap (λ y. track z.iface.facts x.engine.tracked.rows y.call y.reply) c.give_back-entry.ensures.entry))
       (subst (WaitOnLive z.iface.facts x.engine.tracked.rows en.call) (sym c.give_back-entry.ensures.seats)
-      (waits_live z x.engine (view_in x) (rooms_in x) c.requires.order.world c.args.client c.requires.first c.requires.last c.requires.held c.requires.up c.requires.boot en.call (ap (λ y. y.call) c.give_back-entry.ensures.entry)
+      (waits_live z x.engine (view_in x) (rooms_in x) c.requires.order.world c.args.client c.requires.client.0 c.requires.client.1 c.requires.held c.requires.up c.requires.boot en.call (ap (λ y. y.call) c.give_back-entry.ensures.entry)
       (record s { phase = Idle; seq = s.call.seq; reply = no_reply }) refl))
       ∙ ap (λ y. map (woken_seat (wakes_seat z.iface.facts x.engine.tracked.rows y.call y.reply)) c.give_back-entry.new.self) c.give_back-entry.ensures.entry
 
@@ -84,7 +84,7 @@ pub returns-clause-view : goal.returns-clause-view
 returns-clause-view g c =
     let x = c.args.self.now in
     let z = setting_of g.S.Service.ask g.S.Service.sound g.S.Service.parts x.engine.tables in
-    returned_view z x.engine (view_in x) (rooms_in x) c.requires.order.world c.args.client c.requires.first c.requires.last c.requires.held c.requires.up c.requires.boot
+    returned_view z x.engine (view_in x) (rooms_in x) c.requires.order.world c.args.client c.requires.client.0 c.requires.client.1 c.requires.held c.requires.up c.requires.boot
     c.commit.new.self (rooms_in x) (fits g c) (rows g c) (given g c) c.commit.ensures.files c.commit.ensures.names c.commit.ensures.present c.add.new.self.items (history g c) c.give_back-entry.new.self c.wake.new.clients c.give_back-entry.ensures.seats
     (seats g c) c.add-3.new.self.items (marks g c) c.commit.new.self.cell.run c.commit.new.self.cell.running (ap (λ y. y.run) c.commit.ensures.cell) (ap (λ y. y.running) c.commit.ensures.cell)
 
@@ -98,7 +98,7 @@ returns-clause-order g c =
           subst (λ t. IsWorld (setting_of g.S.Service.ask g.S.Service.sound g.S.Service.parts t) c.commit.new.self
           (record (view_in x) { history = c.add.new.self.items; run = c.commit.new.self.cell.run; running = c.commit.new.self.cell.running; seats = c.wake.new.clients; marks = c.add-3.new.self.items }) later) (sym c.commit.ensures.tables)
           (subst (λ y. IsWorld z c.commit.new.self (record (view_in x) { history = c.add.new.self.items; run = y.run; running = y.running; seats = c.wake.new.clients; marks = c.add-3.new.self.items }) later) (sym c.commit.ensures.cell)
-          (returned_on z x.engine (view_in x) (rooms_in x) c.requires.order.world c.args.client c.requires.first c.requires.last c.requires.held c.requires.up c.requires.boot
+          (returned_on z x.engine (view_in x) (rooms_in x) c.requires.order.world c.args.client c.requires.client.0 c.requires.client.1 c.requires.held c.requires.up c.requires.boot
           c.commit.new.self later (fits g c) (rows g c) (given g c) c.commit.ensures.files c.commit.ensures.names c.commit.ensures.present c.add.new.self.items (history g c) c.give_back-entry.new.self c.wake.new.clients c.give_back-entry.ensures.seats
           (seats g c) c.add-3.new.self.items (marks g c) c.add.ensures.room (omega arith) (let one = c.add-2.ensures.room in let two = c.add-3.ensures.room in omega (arith, one, two))));
       points = record {

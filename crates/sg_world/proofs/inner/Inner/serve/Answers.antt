@@ -23,8 +23,8 @@ module _ (g : Given.Over) (c : After-reserve g) where
   may : MayBeServed g.S.Service.facts g.S.Service.ask g.S.Service.sound g.S.Service.parts g.T.Stops.test g.T.Stops.asked g.T.Stops.struck g.T.Stops.plan c.args.self.now c.args.client c.args.needs.now c.reserve.new.self
   may = record {
     order = c.requires.order;
-    first = c.requires.first;
-    last = c.requires.last;
+    first = c.requires.client.0;
+    last = c.requires.client.1;
     let_in = c.requires.let_in;
     up = c.requires.up;
     needs_are = c.requires.needs;

@@ -13,8 +13,8 @@ add-requires g c =
     let e = c.self.inside.inner.engine in
     let w : WorldView = view_in c.self.inside.inner in
     let rooms : Rooms = rooms_in c.self.inside.inner in
-    may_leave (setting_of g.S.Service.ask g.S.Service.sound g.S.Service.parts e.tables) e w rooms rooms c.self.invariant.0.world c.args.client c.requires.first
-    (subst (λ x. c.args.client ≤ length x.view.seats) (sym c.self.view_is) c.requires.last)
+    may_leave (setting_of g.S.Service.ask g.S.Service.sound g.S.Service.parts e.tables) e w rooms rooms c.self.invariant.0.world c.args.client c.requires.client.0
+    (subst (λ x. c.args.client ≤ length x.view.seats) (sym c.self.view_is) c.requires.client.1)
     (subst (λ x. IsFree (seat_of x.view c.args.client).phase) (sym c.self.view_is) c.requires.free) (sym c.has_left.ensures ∙ c.if-not-has_left.true)
 
 pub invariant_of-self : goal.invariant_of-self
@@ -24,8 +24,8 @@ invariant_of-self g c =
     let rooms : Rooms = rooms_in c.self.inside.inner in
     let later : Rooms = record { entries = c.self.inside.inner.history.room; withdrawals = c.self.inside.inner.withdrawn.room; marks = c.add.new.self.room } in (
       record {
-        world = left_on (setting_of g.S.Service.ask g.S.Service.sound g.S.Service.parts e.tables) e w rooms later c.self.invariant.0.world c.args.client c.requires.first
-            (subst (λ x. c.args.client ≤ length x.view.seats) (sym c.self.view_is) c.requires.last)
+        world = left_on (setting_of g.S.Service.ask g.S.Service.sound g.S.Service.parts e.tables) e w rooms later c.self.invariant.0.world c.args.client c.requires.client.0
+            (subst (λ x. c.args.client ≤ length x.view.seats) (sym c.self.view_is) c.requires.client.1)
             (subst (λ x. IsFree (seat_of x.view c.args.client).phase) (sym c.self.view_is) c.requires.free) (sym c.has_left.ensures ∙ c.if-not-has_left.true)
             c.leave.new.self c.add.new.self.items c.saturating_add-self-inside.result c.leave.ensures c.add.ensures.items (omega arith) (omega arith) c.add.ensures.room;
         points = record { asked_so = c.self.invariant.0.points.asked_so; struck_so = c.self.invariant.0.points.struck_so; tested = c.self.invariant.0.points.tested };

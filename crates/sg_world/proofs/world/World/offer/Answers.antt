@@ -21,14 +21,14 @@ invariant_of-self-2 g c =
     let rooms : Rooms = rooms_in c.self.inside.inner in
     let later : Rooms = record { entries = c.reserve.new.self.room; withdrawals = c.reserve-2.new.self.room; marks = c.add.new.self.room } in
     let call : Call = record { client = c.args.client; seq = c.seq.result + 1; fun = c.args.fun; desc = c.args.desc; args = c.args.args } in
-    let last : c.args.client ≤ length w.seats = subst (λ x. c.args.client ≤ length x.view.seats) (sym c.self.view_is) c.requires.last in
+    let last : c.args.client ≤ length w.seats = subst (λ x. c.args.client ≤ length x.view.seats) (sym c.self.view_is) c.requires.client.1 in
     let declared : declares z.iface c.args.fun ≡ true = subst (λ x. declares x.tables.iface c.args.fun ≡ true) (sym c.self.view_is) c.requires.declared in
     let fits : FitsKinds z.iface.facts call
     = subst (λ x. FitsKinds x.tables.iface.facts call) (sym c.self.view_is) (record { args = c.requires.fits.args; desc = c.requires.fits.desc }) in
     let few = c.self.invariant.0.world.keeps.seats.few in
-    let may : MayBeMade z.iface call = may_make z c.self.invariant.0.world.set call c.requires.first (omega (arith, last, few)) declared fits c.requires.words in (
+    let may : MayBeMade z.iface call = may_make z c.self.invariant.0.world.set call c.requires.client.0 (omega (arith, last, few)) declared fits c.requires.words in (
       record {
-        world = offered_again z e w rooms later c.self.invariant.0.world c.args.client c.requires.first last call (subst (λ x. IsFree (seat_of x.view c.args.client).phase) (sym c.self.view_is) c.requires.free) refl
+        world = offered_again z e w rooms later c.self.invariant.0.world c.args.client c.requires.client.0 last call (subst (λ x. IsFree (seat_of x.view c.args.client).phase) (sym c.self.view_is) c.requires.free) refl
             (ap (λ n. n + 1) c.seq.ensures) may c.reserve.new.self.items c.offer.new.self c.reserve-2.new.self.items c.add.new.self.items c.saturating_add-self-inside.result c.reserve.ensures.items c.in_ok-offer.ensures.ok c.reserve-2.ensures.items
             (c.add.ensures.items ∙ ap (λ l. l ++ record { client = c.args.client; kind = Offer } ∷ []) c.reserve-3.ensures.items)
             (let n = c.len-clients.ensures in let room = c.in_ok-reserve.ensures.ok in omega (arith, n, room))

@@ -12,6 +12,6 @@ use Rattle.sg_world.proofs.world.World.phase.Goals as goal
 pub returns-clause-waits : goal.returns-clause-waits
 returns-clause-waits g c = λ blocked.
     let x = c.self.inside.inner in
-    let last = subst (λ (y : Worlded). c.args.client ≤ length y.view.seats) (sym c.self.view_is) c.requires.last in
-    let seated = seated_now (setting_of g.S.Service.ask g.S.Service.sound g.S.Service.parts x.engine.tables) (view_in x) (stub_of x.engine) c.self.invariant.0.world.keeps c.args.client c.requires.first last in
+    let last = subst (λ (y : Worlded). c.args.client ≤ length y.view.seats) (sym c.self.view_is) c.requires.client.1 in
+    let seated = seated_now (setting_of g.S.Service.ask g.S.Service.sound g.S.Service.parts x.engine.tables) (view_in x) (stub_of x.engine) c.self.invariant.0.world.keeps c.args.client c.requires.client.0 last in
     subst (λ (y : Worlded). answer y.tables.iface g.S.Service.ask (object_of y.tables.iface.facts y.view.history) (seat_of y.view c.args.client).call ≡ None) c.self.view_is (seated.waits (sym c.phase.ensures ∙ blocked))

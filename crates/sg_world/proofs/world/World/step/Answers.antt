@@ -67,9 +67,9 @@ returns-else-is_err-clause-answers g c =
     let mid = c.step-did.new.self in
     let z = setting_of g.S.Service.ask g.S.Service.sound g.S.Service.parts x.engine.tables in
     let w : WorldView = view_in x in
-    let last = subst (λ (y : Worlded). c.args.client ≤ length y.view.seats) (sym c.self.view_is) c.requires.last in
+    let last = subst (λ (y : Worlded). c.args.client ≤ length y.view.seats) (sym c.self.view_is) c.requires.client.1 in
     ok_answers z w c.args.client
-    (its_seat z w (stub_of x.engine) c.self.invariant.0.world.keeps c.args.client (seat_of w c.args.client) (seat_there w c.args.client c.requires.first last) c.requires.first (seat_of w c.args.client) w.withdrawn w.marks w.events w.refused)
+    (its_seat z w (stub_of x.engine) c.self.invariant.0.world.keeps c.args.client (seat_of w c.args.client) (seat_there w c.args.client c.requires.client.0 last) c.requires.client.0 (seat_of w c.args.client) w.withdrawn w.marks w.events w.refused)
     (view_in mid) c.step-did.result c.step-did.ensures.did
 
 pub returns-then-is_err-clause-clients : goal.returns-then-is_err-clause-clients

@@ -13,8 +13,8 @@ add-requires g c =
     let e = c.self.inside.inner.engine in
     let w : WorldView = view_in c.self.inside.inner in
     let rooms : Rooms = rooms_in c.self.inside.inner in
-    (may_withdraw (setting_of g.S.Service.ask g.S.Service.sound g.S.Service.parts e.tables) e w rooms rooms c.self.invariant.0.world c.args.client c.requires.first
-    (subst (λ x. c.args.client ≤ length x.view.seats) (sym c.self.view_is) c.requires.last)
+    (may_withdraw (setting_of g.S.Service.ask g.S.Service.sound g.S.Service.parts e.tables) e w rooms rooms c.self.invariant.0.world c.args.client c.requires.client.0
+    (subst (λ x. c.args.client ≤ length x.view.seats) (sym c.self.view_is) c.requires.client.1)
     (subst (λ x. MayWithdraw (seat_of x.view c.args.client).phase) (sym c.self.view_is) c.requires.may)).0
 
 pub add-requires-2 : goal.add-requires-2
@@ -22,8 +22,8 @@ add-requires-2 g c =
     let e = c.self.inside.inner.engine in
     let w : WorldView = view_in c.self.inside.inner in
     let rooms : Rooms = rooms_in c.self.inside.inner in
-    (may_withdraw (setting_of g.S.Service.ask g.S.Service.sound g.S.Service.parts e.tables) e w rooms rooms c.self.invariant.0.world c.args.client c.requires.first
-    (subst (λ x. c.args.client ≤ length x.view.seats) (sym c.self.view_is) c.requires.last)
+    (may_withdraw (setting_of g.S.Service.ask g.S.Service.sound g.S.Service.parts e.tables) e w rooms rooms c.self.invariant.0.world c.args.client c.requires.client.0
+    (subst (λ x. c.args.client ≤ length x.view.seats) (sym c.self.view_is) c.requires.client.1)
     (subst (λ x. MayWithdraw (seat_of x.view c.args.client).phase) (sym c.self.view_is) c.requires.may)).1
 
 pub invariant_of-self : goal.invariant_of-self
@@ -33,8 +33,8 @@ invariant_of-self g c =
     let rooms : Rooms = rooms_in c.self.inside.inner in
     let later : Rooms = record { entries = c.self.inside.inner.history.room; withdrawals = c.add.new.self.room; marks = c.add-2.new.self.room } in (
       record {
-        world = withdrawn_on (setting_of g.S.Service.ask g.S.Service.sound g.S.Service.parts e.tables) e w rooms later c.self.invariant.0.world c.args.client c.requires.first
-            (subst (λ x. c.args.client ≤ length x.view.seats) (sym c.self.view_is) c.requires.last)
+        world = withdrawn_on (setting_of g.S.Service.ask g.S.Service.sound g.S.Service.parts e.tables) e w rooms later c.self.invariant.0.world c.args.client c.requires.client.0
+            (subst (λ x. c.args.client ≤ length x.view.seats) (sym c.self.view_is) c.requires.client.1)
             (subst (λ x. MayWithdraw (seat_of x.view c.args.client).phase) (sym c.self.view_is) c.requires.may)
             c.withdraw-withdrawn.new.self c.add.new.self.items c.withdraw-withdrawn.result c.add-2.new.self.items c.saturating_add-self-inside.result c.withdraw-withdrawn.ensures.seats
             (ap (λ x. x.call) c.withdraw-withdrawn.ensures.withdrawn) c.add.ensures.items c.add-2.ensures.items (omega arith) c.add.ensures.room c.add-2.ensures.room;
