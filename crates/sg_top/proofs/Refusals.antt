@@ -9,7 +9,7 @@ use Rattle.sg_input.proofs.sg_diagnose.OneVerdict.{one_verdict}
 use Rattle.sg_input.specs.declared.input.Input.TheVariants.{Refused as refused_input}
 use Rattle.sg_input.specs.Inputs.{IsInputOf}
 use Rattle.sg_input.proofs.OneInput.{never_ready, not_refused}
-use Rattle.sg_top.specs.Headline.{IsRunOfInput}
+use Rattle.sg_top.specs.Headline.{IsRunOfInput, played_services}
 use Rattle.sg_top.specs.declared.command.Command.{Command}
 use Rattle.sg_top.specs.declared.command.Command.TheVariants.{Play, Check, Compile, Load}
 use Rattle.sg_top.specs.declared.status.Status.{Status}
@@ -26,7 +26,7 @@ not_untabled : (text line output : List ℕ) → IsCompiled services text (accep
 not_untabled text line output (tree, tables, parses, is, are, prints) bad = not_refused services text tables.iface line (tree, parses, is) bad
 
 -- an input that is played isn't refused
-not_unplayed : (bytes line output : List ℕ) (in_threads with_trace : Bool) (ended : Ended) → IsRunOfInput bytes in_threads with_trace ended output → IsInputOf services bytes (refused_input line) → ⊥
+not_unplayed : (bytes line output : List ℕ) (in_threads with_trace : Bool) (ended : Ended) → IsRunOfInput played_services bytes in_threads with_trace ended output → IsInputOf services bytes (refused_input line) → ⊥
 not_unplayed bytes line output in_threads with_trace ended run bad = never_ready services bytes line run.i run.script bad run.ready
 
 played_alone : (bytes : List ℕ) (in_threads with_trace : Bool) (ended : Option Ended) (status : Status) (output line : List ℕ) → (status ≡ Refused → ⊥)

@@ -13,10 +13,10 @@ use Rattle.sg_top.proofs.output.output_of_threads.Goals as goal
 
 pub share_kind-requires-clause-service : goal.share_kind-requires-clause-service
 share_kind-requires-clause-service g c = λ lifetimes longer.
-    of_kind c.in-Ready.accepted.facts c.kind_of.result
+    of_kind c.in-Ready.accepted.facts c.kind_of-kind.result
     (ready_service c.args.bytes.now c.in-Ready.accepted c.in-Ready.script
     (ready_for c.args.bytes.now (map facts_of c.shapes.result) c.in_ok-accepted.field-0 c.in-Ready.accepted c.in-Ready.accepted c.in-Ready.script c.shapes.ensures.facts c.in-Ready.is refl c.in_ok-accepted.ensures.input))
-    (c.kind_of.ensures ∙ ap (λ (i : Declared). kind_by i.facts) c.interface.ensures.same)
+    (c.kind_of-kind.ensures ∙ ap (λ (i : Declared). kind_by i.facts) c.interface.ensures.same)
 
 pub share_kind-requires-clause-playable : goal.share_kind-requires-clause-playable
 share_kind-requires-clause-playable g c = λ lifetimes longer.
@@ -28,14 +28,14 @@ share_kind-requires-clause-stops g c = λ lifetimes longer.
     ready_stops c.args.bytes.now c.in-Ready.accepted c.in-Ready.script
     (ready_for c.args.bytes.now (map facts_of c.shapes.result) c.in_ok-accepted.field-0 c.in-Ready.accepted c.in-Ready.accepted c.in-Ready.script c.shapes.ensures.facts c.in-Ready.is refl c.in_ok-accepted.ensures.input)
 
-pub returns-in-Ready : goal.returns-in-Ready
-returns-in-Ready g c =
+pub returns-in_ok-played-in-Ready : goal.returns-in_ok-played-in-Ready
+returns-in_ok-played-in-Ready g c =
     let ready : IsReady services c.args.bytes.now c.in-Ready.accepted c.in-Ready.script = ready_for c.args.bytes.now (map facts_of c.shapes.result) c.in_ok-accepted.field-0 c.in-Ready.accepted c.in-Ready.accepted c.in-Ready.script c.shapes.ensures.facts c.in-Ready.is refl c.in_ok-accepted.ensures.input in
     of_three c.reported.result _ _ _ _
     (λ o text status ended.
-    output_in_threads c.args.bytes.now c.in-Ready.accepted c.in-Ready.script c.args.with_trace c.in_ok-played.played o.ended o.status o.text ready
+    output_in_threads c.args.bytes.now c.in-Ready.accepted c.in-Ready.script c.args.with_trace c.in_ok-played-in-Ready.played o.ended o.status o.text ready
     (ready_service c.args.bytes.now c.in-Ready.accepted c.in-Ready.script ready)
-    (subst (λ k. IsRunOf c.in-Ready.accepted (answering k) c.in-Ready.script c.in_ok-played.played)
-    (c.kind_of.ensures ∙ ap (λ (i : Declared). kind_by i.facts) c.interface.ensures.same) c.in_ok-played.ensures)
+    (subst (λ k. IsRunOf c.in-Ready.accepted (answering k) c.in-Ready.script c.in_ok-played-in-Ready.played)
+    (c.kind_of-kind.ensures ∙ ap (λ (i : Declared). kind_by i.facts) c.interface.ensures.same) c.in_ok-played-in-Ready.ensures)
     ended status text)
     c.reported.ensures.text c.reported.ensures.status c.reported.ensures.ended
