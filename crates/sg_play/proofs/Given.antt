@@ -7,7 +7,7 @@ use Rattle.sg_facts.specs.Kinds.{AreWords}
 use Rattle.sg_facts.specs.declared.entry.Entry.{Entry}
 use Rattle.sg_facts.specs.declared.shape.Kind.{Kind}
 use Rattle.sg_facts.specs.declared.shape.Kind.TheVariants.{Desc, Parent, Word as IsWord, Text as IsText}
-use Rattle.sg_plain.specs.sg_hist.Reading.{desc_in}
+use Rattle.sg_end_laws.specs.sg_hist.Reading.{desc_in}
 use Rattle.sg_plain.specs.Playing.Given.{GaveIds}
 use Rattle.sg_plain.specs.sg_script.declared.script.Arg.{Arg}
 use Rattle.sg_plain.specs.Script.{desc_among, id_of_call, value_of, values_of}

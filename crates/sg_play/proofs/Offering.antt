@@ -13,7 +13,7 @@ use Rattle.sg_facts.specs.declared.shape.Kind.TheVariants.{Desc, Parent, Word as
 use Rattle.sg_facts.specs.Facts.{fun_at, is_desc, is_parent}
 use Rattle.sg_facts.specs.Interface.{Declared, declares}
 use Rattle.sg_facts.specs.Kinds.{FitsKinds, kinds_fit}
-use Rattle.sg_plain.specs.sg_hist.Clients.{calls_of}
+use Rattle.sg_end_laws.specs.sg_hist.Clients.{calls_of}
 use Rattle.sg_plain.specs.Calls.{call_after, resolved, script_calls}
 use Rattle.sg_plain.specs.sg_script.declared.script.Arg.{Arg}
 use Rattle.sg_plain.specs.sg_script.declared.script.Arg.TheVariants.{Number, Text, Back}

@@ -3,6 +3,7 @@ pub mod Between
 pub mod Boots
 pub mod Calls
 pub mod Items
+pub mod Over
 pub mod Private
 pub mod Seats
 pub mod Shapes

@@ -2,7 +2,7 @@ pub mod Following
 pub mod Recovering
 pub mod Turning
 pub mod Waking
-pub use Rattle.sg_plain.specs.sg_hist
+pub use Rattle.sg_end_laws.specs.sg_hist
 pub use Rattle.sg_plain.specs as sg_plain
 pub use Rattle.sg_plain.specs.sg_script
 pub use Rattle.sg_plain.specs.sg_seat

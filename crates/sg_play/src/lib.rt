@@ -13,6 +13,7 @@ mod parts;
 mod turn;
 
 pub use parts::{most_client, script_call};
-pub use sg_plain::{End, EndList, Ended, Phase, Script};
+pub use sg_end_laws::{End, EndList, Ended};
+pub use sg_plain::{Phase, Script};
 pub use sg_world::World;
 pub use turn::{make_step, offer_next};

@@ -20,6 +20,5 @@ mod todo;
 
 pub use advance::Advanced;
 pub use engine::Engine;
-pub use sg_boot::History;
 pub use sg_needs::Needs;
 pub use todo::Todo;

@@ -13,5 +13,4 @@ mod withdrawn;
 
 pub use mark::{Mark, MarkKind, MarkList};
 pub use phase::{Phase, PhaseList};
-pub use sg_hist::{End, EndList, Ended};
 pub use withdrawn::{Withdrawn, WithdrawnList};

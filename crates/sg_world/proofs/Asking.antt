@@ -16,7 +16,7 @@ use Rattle.sg_facts.specs.Legal.{Table}
 use Rattle.sg_facts.specs.Needs.{Needs}
 use Rattle.sg_facts.specs.Object.{Object}
 use Rattle.sg_facts.specs.Trace.{Run}
-use Rattle.sg_replay.specs.sg_hist.Recovered.{struck_in}
+use Rattle.sg_end_laws.specs.sg_hist.Recovered.{struck_in}
 use Rattle.sg_replay.specs.sg_boot.Invoking.{item_of_call}
 use Rattle.sg_facts.specs.declared.trace.Tag.TheVariants.{Client}
 use Rattle.sg_replay.specs.sg_name.Names.{named_at}

@@ -15,7 +15,7 @@ use Rattle.sg_facts.specs.sg_base.declared.reply.Reply.{Reply}
 use Rattle.sg_replay.specs.sg_boot.Cells.{IsCell}
 use Rattle.sg_world.specs.Engines.Stubs.{stub_of}
 use Rattle.sg_facts.specs.declared.entry.Entry.{Entry}
-use Rattle.sg_replay.specs.sg_hist.Clients.{calls_of}
+use Rattle.sg_end_laws.specs.sg_hist.Clients.{calls_of}
 use Rattle.sg_replay.specs.Engined.{Engined}
 use Rattle.sg_clients.specs.sg_seat.WorldView.{Seat, WorldView, happened, is_offered, seat_of, with_points, woken_seat}
 use Rattle.sg_world.proofs.Stepped.{steps_counted, wants_counted}

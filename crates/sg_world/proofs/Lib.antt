@@ -1,6 +1,8 @@
 pub mod Asking
 pub mod Counting
 pub mod Denying
+pub mod Ending
+pub mod Ends
 pub mod Engines
 pub mod Entering
 pub mod Events
@@ -20,9 +22,9 @@ pub mod Rooming
 pub mod Starting
 pub mod Stepped
 pub mod Storing
+pub mod Telling
 pub mod Turning
 pub mod Upright
 pub mod Waiting
 pub mod Wakes
-pub use Rattle.sg_world_laws.proofs.sg_recovery_laws
 pub use Rattle.sg_world_laws.proofs as sg_world_laws

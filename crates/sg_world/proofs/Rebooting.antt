@@ -6,7 +6,7 @@ use Rattle.sg_facts.specs.Object.{empty_object}
 use Rattle.sg_facts.specs.Trace.{Boot, Run}
 use Rattle.sg_world_laws.specs.sg_recovery_laws.Midway.Progress.{fresh}
 use Rattle.sg_replay.specs.sg_name.Names.{named_at}
-use Rattle.sg_replay.specs.sg_hist.Growing.{booted}
+use Rattle.sg_end_laws.specs.sg_hist.Growing.{booted}
 use Rattle.sg_replay.specs.Engined.{Engined}
 use Rattle.sg_replay.specs.Present.{is_present}
 use Rattle.sg_replay.specs.Serving.{pairs_of}

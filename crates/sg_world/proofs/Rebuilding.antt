@@ -29,8 +29,8 @@ use Rattle.sg_facts.specs.Walks.{replayed_call}
 use Rattle.sg_facts.specs.declared.outcome.Outcome.TheVariants.{Replied, Stopped}
 use Rattle.sg_facts.specs.declared.trace.Item.{Item}
 use Rattle.sg_facts.specs.declared.trace.Tag.TheVariants.{Load, Walk}
-use Rattle.sg_replay.specs.sg_hist.Recovered.{IsStopInCall, answer_to, struck_in}
-use Rattle.sg_replay.specs.sg_hist.Growing.{IsNextItem, last_items, noted, place_after}
+use Rattle.sg_end_laws.specs.sg_hist.Recovered.{IsStopInCall, answer_to, struck_in}
+use Rattle.sg_end_laws.specs.sg_hist.Growing.{IsNextItem, last_items, noted, place_after}
 use Rattle.sg_replay.specs.Engined.{Engined}
 use Rattle.sg_replay.specs.Missing.{missing}
 use Rattle.sg_replay.specs.Replaying.{IsStruck, IsUnchanged, KeepsPresent, Loads as LoadsFile, LoadsOne, MayAdvance, Replays as ReplaysCall, ReplaysOne, replay_of}

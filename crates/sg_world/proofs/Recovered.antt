@@ -1,8 +1,8 @@
 -- What a world keeps, read at its history, its trace and its seats.
 use Rattle.std.proofs.Common.{ℕ, List, length, [], append-nil, subst, sym, ◌≡◌, ◌≤◌}
 use Rattle.std.specs.Prelude.{◌==◌}
-use Rattle.sg_replay.specs.sg_hist.Recovered.{ArePointsOf, IsRecovered, struck_in}
-use Rattle.sg_replay.specs.sg_hist.Growing.{IsRecovering}
+use Rattle.sg_end_laws.specs.sg_hist.Recovered.{ArePointsOf, IsRecovered, struck_in}
+use Rattle.sg_end_laws.specs.sg_hist.Growing.{IsRecovering}
 use Rattle.sg_clients.specs.sg_seat.WorldView.{WorldView, held_replies, seat_of, unanswered}
 use Rattle.sg_world.specs.Worlded.{CountsAll, CountsPoints}
 use Rattle.sg_world_laws.proofs.Moves.{its_seat}

@@ -9,11 +9,11 @@ use Rattle.sg_facts.specs.Limits.{last_client}
 use Rattle.sg_facts.specs.Object.{Object, empty_object}
 use Rattle.sg_facts.specs.Tables.{AreTables, Compiled}
 use Rattle.sg_facts.specs.declared.entry.Entry.{Entry}
-use Rattle.sg_replay.specs.sg_hist.Recovered.{struck_in, ArePointsOf}
+use Rattle.sg_end_laws.specs.sg_hist.Recovered.{struck_in, ArePointsOf}
 use Rattle.sg_replay.specs.sg_name.Names.{named_at}
 use Rattle.sg_world_laws.specs.sg_recovery_laws.Objects.Serving.{IsService}
 use Rattle.sg_world_laws.proofs.sg_recovery_laws.Points.{points_begin}
-use Rattle.sg_replay.specs.sg_hist.Growing.{booted, struck}
+use Rattle.sg_end_laws.specs.sg_hist.Growing.{booted, struck}
 use Rattle.sg_replay.specs.Engined.{Engined}
 use Rattle.sg_replay.specs.Present.{is_present}
 use Rattle.sg_replay.specs.Serving.{pairs_of}

@@ -8,7 +8,7 @@ use Rattle.sg_facts.specs.Object.{Object, file_at, object_of}
 use Rattle.sg_facts.specs.Tables.{Compiled}
 use Rattle.sg_world.specs.Engines.Stubs.{stub_of}
 use Rattle.sg_facts.specs.declared.entry.Entry.{Entry}
-use Rattle.sg_replay.specs.sg_hist.Recovered.{ArePointsOf, struck_in}
+use Rattle.sg_end_laws.specs.sg_hist.Recovered.{ArePointsOf, struck_in}
 use Rattle.sg_replay.specs.Engined.{Engined}
 use Rattle.sg_clients.specs.sg_seat.WorldView.{Seat, WorldView, offered_by}
 use Rattle.sg_clients.specs.sg_seat.declared.mark.Mark.{Mark}

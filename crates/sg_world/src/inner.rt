@@ -1,7 +1,8 @@
 // The parts of a world: the service, its clients, and what they did.
 use sg_clients::{Clients, Mark, Withdrawn};
+use sg_end_laws::History;
 use sg_facts::{RoomyList, Service, Stops};
-use sg_replay::{Engine, History};
+use sg_replay::Engine;
 
 /// The parts of a world. While an event goes on they may stand out of their order.
 #[derive(Debug, Drop)]

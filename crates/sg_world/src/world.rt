@@ -9,10 +9,11 @@ ghost use Rattle.sg_facts.specs.Limits.{last_client};
 ghost use Rattle.sg_facts.specs.Legal.{LegalFrom, answer};
 ghost use Rattle.sg_facts.specs.Object.{empty_object, object_of};
 ghost use Rattle.sg_facts.specs.Trace.{run_of};
-ghost use Rattle.sg_replay.specs.sg_hist.Clients.{calls_of};
-ghost use Rattle.sg_replay.specs.sg_hist.Recovered.{AreInBoots, IsRecovered, struck_in};
-ghost use Rattle.sg_replay.specs.sg_hist.Growing.{IsRecovering};
+ghost use Rattle.sg_end_laws.specs.sg_hist.Clients.{calls_of};
+ghost use Rattle.sg_end_laws.specs.sg_hist.Recovered.{AreInBoots, IsRecovered, struck_in};
+ghost use Rattle.sg_end_laws.specs.sg_hist.Growing.{IsRecovering};
 ghost use Rattle.sg_world_laws.specs.Seats.{last_of};
+ghost use Rattle.sg_end_laws.specs.Ending.{IsEnding};
 ghost use Rattle.sg_world_laws.specs.Setting.{IsSetting, stubs_of};
 ghost use Rattle.sg_world.specs.Marked.{TellsAll};
 ghost use Rattle.sg_world.specs.Steps.{AnswersLast, HasStepped, WantsMemory};
@@ -23,8 +24,9 @@ ghost use Rattle.sg_clients.specs.sg_seat.WorldView.{IsFree, is_offered, MayWith
 use crate::did::Did;
 use crate::inner::Inner;
 use sg_clients::{Clients, Mark, MarkKind, Phase, Withdrawn};
+use sg_end_laws::History;
 use sg_facts::{Args, Call, Interface, NoMemory, RoomyList, Service, Stops, Tables, Trace};
-use sg_replay::{Engine, History};
+use sg_replay::Engine;
 use std::alloc::Global;
 use std::marker::Model;
 
@@ -37,6 +39,7 @@ pub struct World<S: Service, T: Stops> {
 
 impl<S: Service, T: Stops> Model for World<S, T> {
     ghost use Rattle.std.specs.Prelude.{◌≡◌};
+    ghost use Rattle.sg_end_laws.specs.Ending.{IsEnding};
     ghost use Rattle.sg_world.specs.Inners.{IsInOrder, view_in};
     ghost use Rattle.sg_world.specs.Worlded.{CountsAll, Worlded, setting_of};
 
@@ -45,7 +48,8 @@ impl<S: Service, T: Stops> Model for World<S, T> {
     ghost view = { λ w. record { tables = w.inner.engine.tables; view = view_in w.inner; plan = T.plan w.inner.stops } };
 
     ghost invariant = { λ w. IsInOrder S.facts S.ask S.sound S.parts T.test T.asked T.struck T.plan w.inner
-        × CountsAll (setting_of S.ask S.sound S.parts w.inner.engine.tables) (view_in w.inner) };
+        × CountsAll (setting_of S.ask S.sound S.parts w.inner.engine.tables) (view_in w.inner)
+        × IsEnding (setting_of S.ask S.sound S.parts w.inner.engine.tables) (view_in w.inner) };
 }
 
 impl<S: Service, T: Stops> World<S, T> {
@@ -100,6 +104,7 @@ impl<S: Service, T: Stops> World<S, T> {
         ensures recovering { let z = setting_of S.ask S.sound S.parts self.now.tables in let w = self.now.view in IsRecovering (stubs_of z) w.history w.run (unanswered w) }
         ensures recovered { let z = setting_of S.ask S.sound S.parts self.now.tables in let w = self.now.view in w.refused ≡ 0 → IsRecovered (stubs_of z) w.history w.run (unanswered w) }
         ensures held { AreInBoots self.now.view.run 0 self.now.view.history }
+        ensures ending { IsEnding (setting_of S.ask S.sound S.parts self.now.tables) self.now.view }
         ensures stopped { let run = self.now.view.run in T.test run.points (struck_in run) self.now.plan }
         ensures points { CountsAll (setting_of S.ask S.sound S.parts self.now.tables) self.now.view }
     {

@@ -10,17 +10,17 @@ use Rattle.sg_facts.specs.declared.trace.Item.{Item}
 use Rattle.sg_facts.specs.declared.trace.Tag.TheVariants.{Walk, Load, Client}
 use Rattle.sg_facts.specs.Facts.{Facts}
 use Rattle.sg_facts.specs.Trace.{Run}
-use Rattle.sg_plain.specs.sg_hist.Clients.{calls_of}
-use Rattle.sg_plain.specs.sg_hist.Reading.{Position, desc_in, desc_of, id_given, is_by_guard, is_item_of, is_tagged, item_of, places_in, places_of}
-use Rattle.sg_plain.specs.sg_hist.Recovered.{GivesEntry, HasItem}
+use Rattle.sg_end_laws.specs.sg_hist.Clients.{calls_of}
+use Rattle.sg_end_laws.specs.sg_hist.Reading.{Position, desc_in, desc_of, id_given, is_by_guard, is_item_of, is_tagged, item_of, places_in, places_of}
+use Rattle.sg_end_laws.specs.sg_hist.Recovered.{GivesEntry, HasItem}
 use Rattle.sg_plain.specs.Promises.{AreFirstCalls}
 use Rattle.sg_world.proofs.sg_world_laws.Items.{IsAmong, among_in, found_passes}
-use Rattle.sg_plain.specs.sg_hist.Growing.{IsOfNoEntry}
-use Rattle.sg_world.proofs.sg_recovery_laws.Given.{is_numbered}
-use Rattle.sg_world.proofs.sg_recovery_laws.Lists.{each_append}
-use Rattle.sg_world.proofs.sg_recovery_laws.Served.{Has, each_reverse, found_has}
+use Rattle.sg_end_laws.specs.sg_hist.Growing.{IsOfNoEntry}
+use Rattle.sg_end_laws.proofs.sg_recovery_laws.Given.{is_numbered}
+use Rattle.sg_end_laws.proofs.sg_recovery_laws.Lists.{each_append}
+use Rattle.sg_end_laws.proofs.sg_recovery_laws.Served.{Has, each_reverse, found_has}
 use Rattle.sg_plain.specs.sg_script.declared.script.ScriptCall.{ScriptCall}
-use Rattle.sg_world.specs.sg_recovery_laws.LastItem.LastPlace.{HaveItems}
+use Rattle.sg_end_laws.specs.sg_recovery_laws.LastItem.LastPlace.{HaveItems}
 use Rattle.sg_facts.proofs.Replaying.Found.{other_test}
 
 -- ---- numbers

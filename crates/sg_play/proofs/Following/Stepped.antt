@@ -16,9 +16,9 @@ use Rattle.sg_facts.specs.Guard.{guard}
 use Rattle.sg_facts.specs.Legal.{answer, refused_or}
 use Rattle.sg_facts.specs.Object.{Object, object_of}
 use Rattle.sg_facts.specs.Trace.{Boot, Run}
-use Rattle.sg_plain.specs.sg_hist.Clients.{calls_of}
-use Rattle.sg_plain.specs.sg_hist.Reading.{after_item, is_by_guard, is_item_of, is_tagged}
-use Rattle.sg_plain.specs.sg_hist.Recovered.{HasItem}
+use Rattle.sg_end_laws.specs.sg_hist.Clients.{calls_of}
+use Rattle.sg_end_laws.specs.sg_hist.Reading.{after_item, is_by_guard, is_item_of, is_tagged}
+use Rattle.sg_end_laws.specs.sg_hist.Recovered.{HasItem}
 use Rattle.sg_plain.specs.Calls.{script_calls}
 use Rattle.sg_plain.specs.Plain.{Stage, after_turn, blocked, holding, left_schedule, next_turn, player_at, player_of, replied, stage_after, turned}
 use Rattle.sg_play.specs.Recovering.{RecoversSoFar}
@@ -27,12 +27,12 @@ use Rattle.sg_plain.specs.Playing.Plays.{IsPlaying}
 use Rattle.sg_plain.specs.Playing.Turns.{is_free_phase}
 use Rattle.sg_plain.proofs.Playing.Calling.{its_client, next_of}
 use Rattle.sg_plain.proofs.Playing.Lines.{handed_woken, length_map, length_set, seat_here, seat_woken}
-use Rattle.sg_plain.specs.sg_hist.Growing.{IsNextItem, noted, place_after, struck}
+use Rattle.sg_end_laws.specs.sg_hist.Growing.{IsNextItem, noted, place_after, struck}
 use Rattle.sg_plain.specs.sg_script.declared.script.Script.{Script}
 use Rattle.sg_plain.specs.sg_seat.WorldView.{Seat, WorldView, answered_to, boot_number, committed, given_to, is_offered, item_noted, no_reply, rebooted, seat_in, seat_of, struck_at, unanswered, wakes_seat, woken_seat}
 use Rattle.sg_plain.specs.sg_seat.declared.phase.Phase.{Phase as SeatPhase}
 use Rattle.sg_plain.specs.sg_seat.declared.phase.Phase.TheVariants.{Idle, Asked, Held, Receipted, Blocked, Left}
-use Rattle.sg_world.specs.sg_recovery_laws.LastItem.LastPlace.{HaveItems, last_place}
+use Rattle.sg_end_laws.specs.sg_recovery_laws.LastItem.LastPlace.{HaveItems, last_place}
 use Rattle.sg_facts.proofs.Replaying.Found.{same_test}
 use Rattle.sg_world.specs.declared.did.Did.{Did}
 use Rattle.sg_world.specs.declared.did.Did.TheVariants.{Answered, Blocked as Waits, Booted, Loaded, Lost, Replayed, Served, Skipped, Struck}

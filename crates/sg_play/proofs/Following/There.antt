@@ -21,15 +21,15 @@ use Rattle.sg_facts.specs.Facts.{Facts, fun_at, is_visible}
 use Rattle.sg_facts.specs.Object.{Object, file_at, first_text, object_of, patch_of, path_of, writes}
 use Rattle.sg_facts.specs.Track.{is_live, row_at}
 use Rattle.sg_facts.proofs.RowLists.{live_of_row}
-use Rattle.sg_plain.specs.sg_hist.Reading.{Position, desc_of, id_given, is_by_guard, is_item_of, is_made, is_ok, is_tagged, item_of, made_by, names_at, object_before, service_call, stands_before, value_at}
-use Rattle.sg_plain.specs.sg_hist.Recovered.{AskedAs, GivesEntry, HasItem, IsByTable, IsCallOfRow, IsDemanded, IsLoad, IsLoadedFor, IsRenamed, IsReplyOf, IsTracked, IsTrackedAt, IsWalked, Stubs, is_patch_at, is_replied}
-use Rattle.sg_plain.specs.sg_hist.Growing.{IsNextItem, IsOfNoEntry}
-use Rattle.sg_world.proofs.sg_recovery_laws.Given.{is_numbered, made_visible}
-use Rattle.sg_plain.proofs.sg_hist.Growing.{entries_before-not_yet, object_of-more, places-more}
-use Rattle.sg_world.proofs.sg_recovery_laws.Lists.{each_split}
-use Rattle.sg_world.proofs.sg_recovery_laws.Served.{item_of-own}
-use Rattle.sg_world.specs.sg_recovery_laws.LastItem.LastPlace.{HaveItems, last_place}
-use Rattle.sg_world.proofs.sg_recovery_laws.LastItem.Behind.{object_before_last}
+use Rattle.sg_end_laws.specs.sg_hist.Reading.{Position, desc_of, id_given, is_by_guard, is_item_of, is_made, is_ok, is_tagged, item_of, made_by, names_at, object_before, service_call, stands_before, value_at}
+use Rattle.sg_end_laws.specs.sg_hist.Recovered.{AskedAs, GivesEntry, HasItem, IsByTable, IsCallOfRow, IsDemanded, IsLoad, IsLoadedFor, IsRenamed, IsReplyOf, IsTracked, IsTrackedAt, IsWalked, Stubs, is_patch_at, is_replied}
+use Rattle.sg_end_laws.specs.sg_hist.Growing.{IsNextItem, IsOfNoEntry}
+use Rattle.sg_end_laws.proofs.sg_recovery_laws.Given.{is_numbered, made_visible}
+use Rattle.sg_end_laws.proofs.sg_hist.Growing.{entries_before-not_yet, object_of-more, places-more}
+use Rattle.sg_end_laws.proofs.sg_recovery_laws.Lists.{each_split}
+use Rattle.sg_end_laws.proofs.sg_recovery_laws.Served.{item_of-own}
+use Rattle.sg_end_laws.specs.sg_recovery_laws.LastItem.LastPlace.{HaveItems, last_place}
+use Rattle.sg_end_laws.proofs.sg_recovery_laws.LastItem.Behind.{object_before_last}
 use Rattle.sg_facts.proofs.Replaying.Files.{told}
 use Rattle.sg_facts.proofs.Replaying.Found.{same_test}
 use Rattle.sg_play.specs.Following.Follows.{IsAllThere}

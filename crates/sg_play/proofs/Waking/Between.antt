@@ -8,11 +8,11 @@ use Rattle.sg_facts.specs.declared.trace.Item.{Item}
 use Rattle.sg_facts.specs.declared.trace.Tag.{Tag}
 use Rattle.sg_facts.specs.declared.trace.Tag.TheVariants.{Walk, Load, Client}
 use Rattle.sg_facts.specs.Facts.{Facts}
-use Rattle.sg_plain.specs.sg_hist.Reading.{Position, is_tagged, places_in}
+use Rattle.sg_end_laws.specs.sg_hist.Reading.{Position, is_tagged, places_in}
 use Rattle.sg_plain.specs.Promises.{IsWokenBetween, has_blocked, is_woken_first, wakes_at}
-use Rattle.sg_plain.proofs.sg_hist.Growing.{in_boot, in_older}
-use Rattle.sg_plain.specs.sg_hist.Growing.{AreGrown, IsGrown}
-use Rattle.sg_world.specs.sg_recovery_laws.LastItem.LastPlace.{last_place}
+use Rattle.sg_end_laws.proofs.sg_hist.Growing.{in_boot, in_older}
+use Rattle.sg_end_laws.specs.sg_hist.Growing.{AreGrown, IsGrown}
+use Rattle.sg_end_laws.specs.sg_recovery_laws.LastItem.LastPlace.{last_place}
 use Rattle.sg_play.proofs.Waking.Wakers.{any_end, any_front}
 use Rattle.sg_play.specs.Waking.Waking.{IsWokenSince, waits_at}
 use Rattle.sg_facts.proofs.Replaying.Found.{same_test}

@@ -5,12 +5,12 @@ use Rattle.sg_facts.specs.declared.entry.Entry.{Entry}
 use Rattle.sg_facts.specs.declared.trace.Item.{Item}
 use Rattle.sg_facts.specs.Facts.{Facts}
 use Rattle.sg_facts.specs.Trace.{Boot}
-use Rattle.sg_plain.specs.sg_hist.Reading.{Position, is_tagged, items_of, places_from, places_in}
+use Rattle.sg_end_laws.specs.sg_hist.Reading.{Position, is_tagged, items_of, places_from, places_in}
 use Rattle.sg_plain.specs.Promises.{IsWokenBetween, has_blocked, wakes_at}
-use Rattle.sg_plain.proofs.sg_hist.Growing.{items_more}
-use Rattle.sg_world.proofs.sg_recovery_laws.InBoots.{older_noted}
-use Rattle.sg_world.proofs.sg_recovery_laws.Lists.{each_append, each_split}
-use Rattle.sg_plain.specs.sg_hist.Growing.{IsGrown, booted, last_items, noted, older_items, struck}
+use Rattle.sg_end_laws.proofs.sg_hist.Growing.{items_more}
+use Rattle.sg_end_laws.proofs.sg_recovery_laws.InBoots.{older_noted}
+use Rattle.sg_end_laws.proofs.sg_recovery_laws.Lists.{each_append, each_split}
+use Rattle.sg_end_laws.specs.sg_hist.Growing.{IsGrown, booted, last_items, noted, older_items, struck}
 use Rattle.sg_play.proofs.Waking.Between.{between_last, between_older}
 use Rattle.sg_play.specs.Waking.Waking.{IsWokenSince, last_places}
 

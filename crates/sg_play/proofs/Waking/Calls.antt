@@ -12,9 +12,9 @@ use Rattle.sg_facts.specs.declared.trace.Tag.TheVariants.{Walk, Load, Client}
 use Rattle.sg_facts.specs.Facts.{Facts, fun_at}
 use Rattle.sg_facts.specs.Fits.{Fits}
 use Rattle.sg_facts.specs.Interface.{Declared, declares}
-use Rattle.sg_plain.specs.sg_hist.Clients.{calls_of}
-use Rattle.sg_plain.specs.sg_hist.Reading.{is_tagged}
-use Rattle.sg_plain.specs.sg_hist.Recovered.{is_clients}
+use Rattle.sg_end_laws.specs.sg_hist.Clients.{calls_of}
+use Rattle.sg_end_laws.specs.sg_hist.Reading.{is_tagged}
+use Rattle.sg_end_laws.specs.sg_hist.Recovered.{is_clients}
 use Rattle.sg_plain.specs.Calls.{script_calls}
 use Rattle.sg_plain.specs.Promises.{AreFirstCalls}
 use Rattle.sg_plain.specs.Script.{args_fit, calls_fit}
@@ -22,8 +22,8 @@ use Rattle.sg_plain.proofs.Playing.Calling.{next_of}
 use Rattle.sg_plain.proofs.Playing.Resolving.{fits_at}
 use Rattle.sg_plain.specs.Playing.Callers.{IsCaller}
 use Rattle.sg_play.proofs.Offering.{no_desc}
-use Rattle.sg_world.proofs.sg_recovery_laws.Lists.{each_map}
-use Rattle.sg_plain.specs.sg_hist.Growing.{IsOfNoEntry}
+use Rattle.sg_end_laws.proofs.sg_recovery_laws.Lists.{each_map}
+use Rattle.sg_end_laws.specs.sg_hist.Growing.{IsOfNoEntry}
 use Rattle.sg_plain.specs.sg_script.declared.script.Script.{Script}
 use Rattle.sg_plain.specs.sg_script.declared.script.ScriptCall.{ScriptCall}
 use Rattle.sg_plain.specs.sg_seat.WorldView.{Seat, is_offered}

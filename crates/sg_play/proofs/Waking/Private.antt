@@ -16,12 +16,12 @@ use Rattle.sg_facts.specs.Interface.{Declared}
 use Rattle.sg_facts.specs.Legal.{LegalFrom, Table, answer, refused_or}
 use Rattle.sg_facts.specs.Object.{Object, after, empty_object, object_from, object_of}
 use Rattle.sg_facts.specs.Track.{is_ancestor, nearest, new_row, parent_in, row_at, rows_after}
-use Rattle.sg_world.proofs.sg_recovery_laws.Objects.Apart.{IsOwnRow, changes_row, ends_rows, makes_row, query_keeps}
-use Rattle.sg_world.proofs.sg_recovery_laws.Objects.Changed.{change_at, same_parent_at}
-use Rattle.sg_world.proofs.sg_recovery_laws.Objects.Commute.{given_with, same_creator_at, same_id_at}
-use Rattle.sg_world.proofs.sg_recovery_laws.Objects.Guarded.{ActsOnOne, acts, each_fun, keeps, let_pass, own_desc, own_parent}
-use Rattle.sg_world.proofs.sg_recovery_laws.Objects.Left.{stays}
-use Rattle.sg_world.specs.sg_recovery_laws.Objects.Serving.{IsService}
+use Rattle.sg_end_laws.proofs.sg_recovery_laws.Objects.Apart.{IsOwnRow, changes_row, ends_rows, makes_row, query_keeps}
+use Rattle.sg_end_laws.proofs.sg_recovery_laws.Objects.Changed.{change_at, same_parent_at}
+use Rattle.sg_end_laws.proofs.sg_recovery_laws.Objects.Commute.{given_with, same_creator_at, same_id_at}
+use Rattle.sg_end_laws.proofs.sg_recovery_laws.Objects.Guarded.{ActsOnOne, acts, each_fun, keeps, let_pass, own_desc, own_parent}
+use Rattle.sg_end_laws.proofs.sg_recovery_laws.Objects.Left.{stays}
+use Rattle.sg_end_laws.specs.sg_recovery_laws.Objects.Serving.{IsService}
 use Rattle.sg_plain.specs.sg_seat.WorldView.{wakes_seat}
 use Rattle.sg_play.specs.Waking.Waking.{no_query_waits}
 use Rattle.sg_facts.proofs.Replaying.Found.{from_left, from_map, from_more, other_test}

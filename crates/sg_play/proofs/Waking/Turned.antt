@@ -7,11 +7,11 @@ use Rattle.sg_facts.specs.Facts.{Facts, fun_at, is_visible}
 use Rattle.sg_facts.specs.Legal.{LegalFrom}
 use Rattle.sg_facts.specs.Object.{empty_object, object_of}
 use Rattle.sg_facts.specs.Trace.{Boot}
-use Rattle.sg_plain.specs.sg_hist.Recovered.{is_clients}
+use Rattle.sg_end_laws.specs.sg_hist.Recovered.{is_clients}
 use Rattle.sg_play.specs.Recovering.{RecoversSoFar}
 use Rattle.sg_plain.proofs.Playing.Lines.{length_set, seat_here}
 use Rattle.sg_plain.specs.Playing.Plays.{IsPlaying}
-use Rattle.sg_plain.specs.sg_hist.Growing.{noted}
+use Rattle.sg_end_laws.specs.sg_hist.Growing.{noted}
 use Rattle.sg_plain.specs.sg_script.declared.script.Script.{Script}
 use Rattle.sg_plain.specs.sg_seat.WorldView.{Seat, WorldView, happened, in_phase, is_left_phase, is_offered, no_reply, seat_in, seat_of, wakes_seat, with_leave, with_mark}
 use Rattle.sg_plain.specs.sg_seat.declared.mark.MarkKind.TheVariants.{Leave}

@@ -6,8 +6,8 @@ use Rattle.sg_facts.specs.Guard.{guard}
 use Rattle.sg_facts.specs.Interface.{Declared}
 use Rattle.sg_facts.specs.Object.{object_of}
 use Rattle.sg_facts.specs.Trace.{Boot}
-use Rattle.sg_plain.specs.sg_hist.Recovered.{EndsUsed}
-use Rattle.sg_plain.specs.sg_hist.Growing.{booted, noted, struck}
+use Rattle.sg_end_laws.specs.sg_hist.Recovered.{EndsUsed}
+use Rattle.sg_end_laws.specs.sg_hist.Growing.{booted, noted, struck}
 use Rattle.sg_plain.specs.sg_seat.WorldView.{Seat, seat_in, woken_seat}
 use Rattle.sg_plain.specs.sg_seat.declared.phase.Phase.TheVariants.{Asked, Held}
 use Rattle.sg_plain.proofs.Playing.Lines.{length_map, same_or_other, seat_woken}
@@ -24,7 +24,7 @@ used_struck (b ∷ c ∷ []) stop = inr refl
 used_struck (b ∷ c ∷ d ∷ []) stop = used_struck (c ∷ d ∷ []) stop
 used_struck (b ∷ c ∷ d ∷ e ∷ boots) stop = used_struck (c ∷ d ∷ e ∷ boots) stop
 
-some_item : (items : List Item) (item : Item) → items ++ item ∷ [] ≢ []
+pub some_item : (items : List Item) (item : Item) → items ++ item ∷ [] ≢ []
 some_item [] item is = cc is
 some_item (x ∷ items) item is = cc is
 

@@ -10,10 +10,10 @@ use Rattle.sg_facts.specs.declared.trace.Item.{Item}
 use Rattle.sg_facts.specs.Facts.{Facts}
 use Rattle.sg_facts.specs.Object.{object_of}
 use Rattle.sg_facts.specs.Trace.{Boot}
-use Rattle.sg_plain.specs.sg_hist.Recovered.{EndsUsed}
+use Rattle.sg_end_laws.specs.sg_hist.Recovered.{EndsUsed}
 use Rattle.sg_plain.proofs.Playing.Lines.{length_set, seat_here}
-use Rattle.sg_plain.proofs.sg_hist.Growing.{object_of-more}
-use Rattle.sg_plain.specs.sg_hist.Growing.{noted, struck}
+use Rattle.sg_end_laws.proofs.sg_hist.Growing.{object_of-more}
+use Rattle.sg_end_laws.specs.sg_hist.Growing.{noted, struck}
 use Rattle.sg_plain.specs.sg_seat.WorldView.{Seat, WorldView, is_offered, no_reply, seat_of, wakes_seat}
 use Rattle.sg_plain.specs.sg_seat.declared.phase.Phase.{Phase}
 use Rattle.sg_plain.specs.sg_seat.declared.phase.Phase.TheVariants.{Idle, Asked, Held, Receipted, Blocked}

@@ -16,21 +16,21 @@ use Rattle.sg_facts.specs.Interface.{Declared}
 use Rattle.sg_facts.specs.Legal.{LegalFrom, Table, answer}
 use Rattle.sg_facts.specs.Object.{Object, after, object_from, object_of}
 use Rattle.sg_facts.specs.Trace.{Boot}
-use Rattle.sg_plain.specs.sg_hist.Reading.{Position, is_by_guard, is_item_of, is_tagged, places_from}
-use Rattle.sg_plain.specs.sg_hist.Recovered.{is_clients}
+use Rattle.sg_end_laws.specs.sg_hist.Reading.{Position, is_by_guard, is_item_of, is_tagged, places_from}
+use Rattle.sg_end_laws.specs.sg_hist.Recovered.{is_clients}
 use Rattle.sg_plain.specs.Plain.{wakes}
 use Rattle.sg_plain.specs.Promises.{IsWokenBetween, has_blocked, wakes_at}
 use Rattle.sg_play.specs.Recovering.{RecoversSoFar}
 use Rattle.sg_plain.proofs.Playing.Lines.{same_or_other}
 use Rattle.sg_plain.specs.Playing.Callers.{IsCaller}
 use Rattle.sg_plain.specs.Playing.Plays.{IsPlaying}
-use Rattle.sg_plain.proofs.sg_hist.Growing.{places-booted, places-struck}
-use Rattle.sg_plain.specs.sg_hist.Growing.{IsGrown, IsOfNoEntry, booted, last_items, noted, older_items, struck}
+use Rattle.sg_end_laws.proofs.sg_hist.Growing.{places-booted, places-struck}
+use Rattle.sg_end_laws.specs.sg_hist.Growing.{IsGrown, IsOfNoEntry, booted, last_items, noted, older_items, struck}
 use Rattle.sg_plain.specs.sg_script.declared.script.Script.{Script}
 use Rattle.sg_plain.specs.sg_seat.WorldView.{Seat, WorldView, is_blocked_phase, is_held_phase, is_offered, seat_in, seat_of, wakes_seat, woken_seat}
 use Rattle.sg_plain.specs.sg_seat.declared.phase.Phase.{Phase}
 use Rattle.sg_plain.specs.sg_seat.declared.phase.Phase.TheVariants.{Idle, Asked, Held, Receipted, Blocked, Left}
-use Rattle.sg_world.specs.sg_recovery_laws.LastItem.LastPlace.{last_place}
+use Rattle.sg_end_laws.specs.sg_recovery_laws.LastItem.LastPlace.{last_place}
 use Rattle.sg_play.proofs.Waking.Between.{between_same, own_tag}
 use Rattle.sg_play.proofs.Waking.Calls.{entries_below, fit_call, none_of_next, none_of_stub, test_same}
 use Rattle.sg_play.proofs.Waking.Items.{have_items}

@@ -6,13 +6,13 @@ use Rattle.sg_facts.specs.declared.row.Row.{Row}
 use Rattle.sg_facts.specs.declared.trace.Item.{Item}
 use Rattle.sg_facts.specs.Facts.{Facts}
 use Rattle.sg_facts.specs.Object.{object_of}
-use Rattle.sg_plain.specs.sg_hist.Reading.{Position, items_after, is_by_guard, is_item_of, object_before, stands_before}
+use Rattle.sg_end_laws.specs.sg_hist.Reading.{Position, items_after, is_by_guard, is_item_of, object_before, stands_before}
 use Rattle.sg_plain.specs.Plain.{wakes}
 use Rattle.sg_plain.specs.Promises.{wakes_at}
-use Rattle.sg_plain.proofs.sg_hist.Growing.{entries_before-committed, entries_before-more, entries_before-not_yet, entries_before-refused}
-use Rattle.sg_plain.specs.sg_hist.Growing.{IsGrown, IsOfNoEntry}
-use Rattle.sg_world.proofs.sg_recovery_laws.LastItem.Behind.{object_before_last}
-use Rattle.sg_world.specs.sg_recovery_laws.LastItem.LastPlace.{HaveItems, last_place}
+use Rattle.sg_end_laws.proofs.sg_hist.Growing.{entries_before-committed, entries_before-more, entries_before-not_yet, entries_before-refused}
+use Rattle.sg_end_laws.specs.sg_hist.Growing.{IsGrown, IsOfNoEntry}
+use Rattle.sg_end_laws.proofs.sg_recovery_laws.LastItem.Behind.{object_before_last}
+use Rattle.sg_end_laws.specs.sg_recovery_laws.LastItem.LastPlace.{HaveItems, last_place}
 
 -- ---- tests of lists
 
@@ -82,7 +82,7 @@ module _ (facts : Facts) (id : ℕ) where
       ap (λ es. list_any (wakes_by (object_of facts es).rows p) (history ++ e ∷ [])) (entries_before-refused p history e guards)
       ∙ any_but (wakes_by rows p) history e (ap (λ b. not b && is_item_of e p.item && not (list_any (is_item_of e) (items_after p)) && wakes facts rows e.call e.reply id) guards)
 
-  not_before : (older front : List Item) (item : Item) (e : Entry) → is_item_of e item ≡ true → stands_before (last_place older front item) e ≡ false
+  pub not_before : (older front : List Item) (item : Item) (e : Entry) → is_item_of e item ≡ true → stands_before (last_place older front item) e ≡ false
   not_before older front item e own =
       ap (λ b. not (is_by_guard e.reply) && list_any (is_item_of e) (older ++ front) && not (b || false)) own
       ∙ none (not (is_by_guard e.reply)) (list_any (is_item_of e) (older ++ front))

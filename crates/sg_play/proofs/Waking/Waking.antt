@@ -8,9 +8,9 @@ use Rattle.sg_facts.specs.declared.entry.Entry.{Entry}
 use Rattle.sg_facts.specs.Legal.{LegalFrom}
 use Rattle.sg_facts.specs.Object.{empty_object}
 use Rattle.sg_facts.specs.sg_base.Lists.{Each}
-use Rattle.sg_plain.specs.sg_hist.Clients.{calls_of}
-use Rattle.sg_plain.specs.sg_hist.Reading.{places_from}
-use Rattle.sg_plain.specs.sg_hist.Recovered.{EndsUsed}
+use Rattle.sg_end_laws.specs.sg_hist.Clients.{calls_of}
+use Rattle.sg_end_laws.specs.sg_hist.Reading.{places_from}
+use Rattle.sg_end_laws.specs.sg_hist.Recovered.{EndsUsed}
 use Rattle.sg_plain.specs.Calls.{call_after, script_calls}
 use Rattle.sg_plain.specs.Promises.{AreWoken, IsWokenBetween}
 use Rattle.sg_play.specs.Recovering.{RecoversSoFar}

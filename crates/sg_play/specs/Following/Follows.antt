@@ -9,8 +9,8 @@ use Rattle.sg_facts.specs.Facts.{Facts, is_visible}
 use Rattle.sg_facts.specs.Object.{Object, file_at, object_of}
 use Rattle.sg_facts.specs.Trace.{Boot}
 use Rattle.sg_facts.specs.Track.{is_live}
-use Rattle.sg_plain.specs.sg_hist.Reading.{is_made}
-use Rattle.sg_plain.specs.sg_hist.Recovered.{is_patch_at}
+use Rattle.sg_end_laws.specs.sg_hist.Reading.{is_made}
+use Rattle.sg_end_laws.specs.sg_hist.Recovered.{is_patch_at}
 use Rattle.sg_plain.specs.Plain.{Stage, stage_after}
 use Rattle.sg_plain.specs.Promises.{is_in_first_boot}
 use Rattle.sg_plain.specs.sg_script.declared.script.Script.{Script}

@@ -11,10 +11,10 @@ use Rattle.sg_facts.specs.Guard.{guard}
 use Rattle.sg_facts.specs.Interface.{Declared}
 use Rattle.sg_facts.specs.Object.{object_of}
 use Rattle.sg_facts.specs.Trace.{Boot}
-use Rattle.sg_plain.specs.sg_hist.Reading.{Position, is_tagged, places_from, places_in}
-use Rattle.sg_plain.specs.sg_hist.Recovered.{EndsUsed}
+use Rattle.sg_end_laws.specs.sg_hist.Reading.{Position, is_tagged, places_from, places_in}
+use Rattle.sg_end_laws.specs.sg_hist.Recovered.{EndsUsed}
 use Rattle.sg_plain.specs.Promises.{IsWokenBetween, has_blocked, wakes_at}
-use Rattle.sg_plain.specs.sg_hist.Growing.{last_items, older_items}
+use Rattle.sg_end_laws.specs.sg_hist.Growing.{last_items, older_items}
 use Rattle.sg_plain.specs.sg_seat.WorldView.{Seat, WorldView, is_held_phase, is_offered, seat_in}
 use Rattle.sg_plain.specs.sg_seat.declared.phase.Phase.{Phase}
 use Rattle.sg_plain.specs.sg_seat.declared.phase.Phase.TheVariants.{Idle, Asked, Held, Receipted, Blocked, Left}

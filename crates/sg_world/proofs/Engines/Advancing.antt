@@ -27,12 +27,12 @@ use Rattle.sg_facts.specs.declared.trace.Item.{Item}
 use Rattle.sg_facts.specs.declared.trace.Tag.TheVariants.{Walk}
 use Rattle.sg_world_laws.specs.sg_recovery_laws.Midway.Progress.{TellsCalls, begun, fresh, is_complete}
 use Rattle.sg_world_laws.specs.sg_recovery_laws.Midway.Stepping.{so_far}
-use Rattle.sg_replay.specs.sg_hist.Reading.{walk_in}
-use Rattle.sg_replay.specs.sg_hist.Recovered.{call_in}
+use Rattle.sg_end_laws.specs.sg_hist.Reading.{walk_in}
+use Rattle.sg_end_laws.specs.sg_hist.Recovered.{call_in}
 use Rattle.sg_replay.specs.sg_name.Names.{named_at}
 use Rattle.sg_replay.specs.sg_name.declared.named.Named.{Named}
 use Rattle.sg_replay.specs.sg_name.declared.named.Named.TheVariants.{Live, Partial, Unnamed}
-use Rattle.sg_replay.specs.sg_hist.Growing.{IsNextItem, place_after}
+use Rattle.sg_end_laws.specs.sg_hist.Growing.{IsNextItem, place_after}
 use Rattle.sg_replay.proofs.Naming.{named_in_pairs, real_or_zero}
 use Rattle.sg_replay.specs.Engined.{Engined}
 use Rattle.sg_replay.specs.Missing.{missing, next_number}

@@ -17,7 +17,7 @@ use Rattle.sg_facts.specs.Facts.{Facts, fun_at}
 use Rattle.sg_facts.specs.Object.{Object, after, patch_of}
 use Rattle.sg_world_laws.specs.sg_recovery_laws.Midway.Progress.{Told, complete, fresh}
 use Rattle.sg_world_laws.specs.sg_recovery_laws.Midway.Stepping.{present_with}
-use Rattle.sg_replay.specs.sg_hist.Reading.{desc_of}
+use Rattle.sg_end_laws.specs.sg_hist.Reading.{desc_of}
 use Rattle.sg_replay.specs.sg_name.Names.{named_at, real_at, real_of}
 use Rattle.sg_replay.specs.sg_name.declared.named.Named.{Named}
 use Rattle.sg_replay.specs.sg_name.declared.named.Named.TheVariants.{Unnamed, Partial, Live}

@@ -3,7 +3,7 @@ use Rattle.std.proofs.Common.{List, cond, length, ◌+◌, ◌≡◌, Some, true
 use Rattle.std.specs.Option.{option_copied}
 use Rattle.sg_facts.specs.Facts.{fun_at}
 use Rattle.sg_facts.specs.declared.entry.Entry.{Entry}
-use Rattle.sg_plain.specs.sg_hist.Clients.{calls_of}
+use Rattle.sg_end_laws.specs.sg_hist.Clients.{calls_of}
 use Rattle.sg_plain.specs.Calls.{call_after, script_calls}
 use Rattle.sg_play.specs.Turning.{with_call, with_offer}
 use Rattle.sg_plain.specs.Playing.Callers.{is_setting_up}

@@ -2,8 +2,8 @@
 use Rattle.std.proofs.lemmas.List.{length-map}
 use Rattle.std.proofs.Common.{length, true, ◌≤◌, ap, sym, subst, ◌∙◌}
 use Rattle.sg_facts.specs.Trace.{Run}
-use Rattle.sg_replay.specs.sg_hist.Recovered.{struck_in}
-use Rattle.sg_replay.specs.sg_hist.Growing.{booted}
+use Rattle.sg_end_laws.specs.sg_hist.Recovered.{struck_in}
+use Rattle.sg_end_laws.specs.sg_hist.Growing.{booted}
 use Rattle.sg_clients.specs.sg_seat.WorldView.{WorldView, woken_seat}
 use Rattle.sg_world.specs.Inners.{rooms_in, view_in}
 use Rattle.sg_world.specs.Worlded.{IsWorld, Rooms, setting_of, view_of}

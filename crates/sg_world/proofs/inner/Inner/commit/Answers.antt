@@ -4,7 +4,7 @@ use Rattle.std.proofs.lemmas.List.{length-map}
 use Rattle.sg_facts.specs.Invoke.{Points}
 use Rattle.std.specs.Prelude.{slice_set}
 use Rattle.sg_facts.specs.Object.{given_after, object_of}
-use Rattle.sg_replay.specs.sg_hist.Recovered.{struck_in}
+use Rattle.sg_end_laws.specs.sg_hist.Recovered.{struck_in}
 use Rattle.sg_facts.specs.Track.{track}
 use Rattle.sg_facts.specs.declared.entry.Entry.{Entry}
 use Rattle.sg_replay.specs.Committing.{MayCommitAt}

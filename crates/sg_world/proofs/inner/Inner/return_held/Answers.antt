@@ -2,7 +2,7 @@
 use Rattle.std.proofs.Common.{length, ◌-◌, ◌≤◌, None, ap, arith, map, subst, sym, ◌++◌, ◌∙◌, ◌∷◌, [], ◌≡◌, ◌<◌, ◌^◌, refl}
 use Rattle.sg_facts.specs.Object.{given_after}
 use Rattle.sg_facts.specs.Track.{track}
-use Rattle.sg_replay.specs.sg_hist.Recovered.{struck_in}
+use Rattle.sg_end_laws.specs.sg_hist.Recovered.{struck_in}
 use Rattle.sg_replay.specs.Committing.{MayCommitAt}
 use Rattle.sg_clients.specs.sg_seat.WorldView.{wakes_seat, woken_seat, seat_in}
 use Rattle.sg_clients.specs.sg_seat.declared.mark.MarkKind.TheVariants.{Answer, Entry as IsEntered}

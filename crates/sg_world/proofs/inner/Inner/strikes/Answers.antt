@@ -1,7 +1,7 @@
 -- The parts stay in order where the service is asked at a point, and stops there or not.
 use Rattle.std.proofs.Common.{length, true, ◌≤◌, ap, sym, subst, ◌∙◌}
 use Rattle.sg_facts.specs.sg_base.Stops.{struck_after}
-use Rattle.sg_replay.specs.sg_hist.Recovered.{struck_in}
+use Rattle.sg_end_laws.specs.sg_hist.Recovered.{struck_in}
 use Rattle.sg_clients.specs.sg_seat.WorldView.{WorldView}
 use Rattle.sg_world.specs.Inners.{rooms_in, view_in}
 use Rattle.sg_world.specs.Worlded.{IsWorld, Rooms, setting_of, view_of}

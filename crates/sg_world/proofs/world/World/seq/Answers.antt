@@ -1,7 +1,7 @@
 -- A client has as many entries as its last number says.
 use Rattle.std.proofs.Common.{ap, length, subst, sym, ◌∙◌, ◌≤◌}
 use Rattle.sg_world.specs.Engines.Stubs.{stub_of}
-use Rattle.sg_replay.specs.sg_hist.Clients.{calls_of}
+use Rattle.sg_end_laws.specs.sg_hist.Clients.{calls_of}
 use Rattle.sg_world.proofs.Recovered.{seated_now}
 use Rattle.sg_world.specs.Inners.{view_in}
 use Rattle.sg_world.specs.Worlded.{Worlded, setting_of}

@@ -1,1 +1,0 @@
-pub use Rattle.sg_hist.proofs as sg_hist
