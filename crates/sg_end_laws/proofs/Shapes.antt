@@ -1,6 +1,6 @@
 -- What the seats are after a client's entry, and whose the calls of seats are.
 use Rattle.std.proofs.Common.{◌≡◌, ℕ, ◌-◌, List, map, ap, slice_set}
-use Rattle.sg_base.specs.declared.reply.Reply.{Reply}
+use Rattle.sg_facts.specs.sg_base.declared.reply.Reply.{Reply}
 use Rattle.sg_facts.specs.declared.entry.Entry.{Entry}
 use Rattle.sg_facts.specs.Facts.{Facts}
 use Rattle.sg_facts.specs.Object.{object_of}
