@@ -1,15 +1,23 @@
 -- What contracts see of an interface.
-use Rattle.std.specs.Prelude.{ℕ, ◌-◌, ◌==◌, Bool, ◌&&◌, nat_le, List}
+use Rattle.std.specs.Prelude.{ℕ, ◌-◌, ◌≤◌, ◌==◌, Bool, ◌&&◌, nat_le, List, length}
 use Rattle.std.specs.List.{list_any}
 use Rattle.std.specs.Int.{bit_at}
 use Rattle.sg_facts.specs.Facts.{Facts}
+use Rattle.sg_facts.specs.Limits.{most_fields}
 
--- a service's facts, the declared functions (bit f - 1 for function f), transitions and recover steps
+-- a service's facts, the declared functions (bit f - 1 for function f), the version of the language, whether every live
+-- descriptor is rebuilt after a boot before any call is served, the transitions and the recover steps
 pub record Declared : Type 0 where
   pub facts : Facts
   pub declared : ℕ
+  pub version : ℕ
+  pub eager : Bool
   pub moves : List (ℕ × ℕ)
   pub steps : List (ℕ × ℕ)
+
+-- the rows have no more fields than a row may have
+abbrev pub HasFewFields : Declared → Type 0
+HasFewFields i = length i.facts.fields ≤ most_fields
 
 -- whether a function is declared
 abbrev pub declares : Declared → ℕ → Bool

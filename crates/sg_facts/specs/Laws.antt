@@ -27,7 +27,7 @@ use Rattle.sg_facts.specs.Sound.{IsSound}
 
 -- the interface that declares all of a service
 abbrev pub whole : Facts → Declared
-whole facts = record { facts = facts; declared = 2 ^ length facts.funs - 1; moves = facts.moves; steps = facts.steps }
+whole facts = record { facts = facts; declared = 2 ^ length facts.funs - 1; version = 1; eager = false; moves = facts.moves; steps = facts.steps }
 
 -- a call of a client that passes the guard at an object
 pub record Passes (facts : Facts) (o : Object) (call : Call) : Type 0 where

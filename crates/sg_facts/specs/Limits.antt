@@ -7,7 +7,7 @@ most_funs = 32
 
 -- the greatest number of fields of a row
 abbrev pub most_fields : ℕ
-most_fields = 4
+most_fields = 8
 
 -- the greatest number of calls of a script
 abbrev pub most_script_calls : ℕ

@@ -10,7 +10,7 @@ use Rattle.sg_base.specs.declared.reply.Reply.{Reply}
 use Rattle.sg_base.specs.declared.reply.Reply.TheVariants.{Ok, Refused}
 use Rattle.sg_facts.specs.declared.row.Row.{Row}
 use Rattle.sg_facts.specs.declared.shape.Effect.{Effect}
-use Rattle.sg_facts.specs.declared.shape.Effect.TheVariants.{SetCaller, SetArg, AddArg, SetRet, AddRet, Clear, SubOne}
+use Rattle.sg_facts.specs.declared.shape.Effect.TheVariants.{SetCaller, SetArg, AddArg, SetRet, AddRet, Clear, SubOne, SubRet}
 use Rattle.sg_facts.specs.Facts.{Facts, Field, fun_at, takes_parent, state_after}
 
 -- ---- look-ups
@@ -76,6 +76,7 @@ effect_of call good SetRet old = Word (first_word good)
 effect_of call good AddRet old = Word (word_of old + first_word good)
 effect_of call good Clear old = cleared old
 effect_of call good SubOne old = Word (word_of old - 1)
+effect_of call good SubRet old = Word (word_of old - first_word good)
 
 -- the field of a number, from 0
 abbrev pub field_at : List Value → ℕ → Value

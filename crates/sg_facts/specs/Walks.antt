@@ -8,7 +8,7 @@ use Rattle.sg_facts.specs.declared.row.Row.{Row}
 use Rattle.sg_facts.specs.declared.shape.Kind.{Kind}
 use Rattle.sg_facts.specs.declared.shape.Kind.TheVariants.{Desc, Parent, Word as IsWord, Text as IsText}
 use Rattle.sg_facts.specs.declared.shape.Effect.{Effect}
-use Rattle.sg_facts.specs.declared.shape.Effect.TheVariants.{SetCaller, SetArg, AddArg, SetRet, AddRet, Clear, SubOne}
+use Rattle.sg_facts.specs.declared.shape.Effect.TheVariants.{SetCaller, SetArg, AddArg, SetRet, AddRet, Clear, SubOne, SubRet}
 use Rattle.sg_facts.specs.Facts.{Facts, Field, fun_at, state_after}
 use Rattle.sg_facts.specs.Interface.{Declared, declares, moves_on, steps_on}
 use Rattle.sg_facts.specs.Track.{word_of, field_at}
@@ -30,6 +30,7 @@ may_leave (Some SetRet) old new = true
 may_leave (Some AddRet) old new = new || not old
 may_leave (Some Clear) old new = not new
 may_leave (Some SubOne) old new = old || not new
+may_leave (Some SubRet) old new = old || not new
 
 -- whether effects may take one set of fields to another; the fields are numbered from a place on
 abbrev pub may_lead : List (ℕ × Effect) → ℕ → List Bool → List Bool → Bool
@@ -71,6 +72,7 @@ mark_after SetRet mark = unknown
 mark_after AddRet mark = unknown
 mark_after Clear mark = unset
 mark_after SubOne mark = unknown
+mark_after SubRet mark = unknown
 
 -- the marks after a function's effects
 abbrev pub marks_after : List (ℕ × Effect) → List Mark → List Mark

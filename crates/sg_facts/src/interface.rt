@@ -16,6 +16,10 @@ pub struct Interface {
     pub shape: Shape,
     /// The declared functions: bit f - 1 for function f.
     pub declared: u32,
+    /// The version of the language in which it is written: 1 or 2.
+    pub version: u8,
+    /// Whether every live descriptor is rebuilt after a boot before any call is served; else each is when a call needs it.
+    pub eager: bool,
     /// The declared transitions: pairs of a state and a function that may be called in it.
     pub moves: PairList,
     /// The declared recover steps: pairs of a state and a function that may be replayed in it.
@@ -28,7 +32,7 @@ impl Model for Interface {
 
     ghost Value = { Declared };
 
-    ghost view = { λ i. record { facts = facts_of i.shape; declared = i.declared; moves = i.moves; steps = i.steps } };
+    ghost view = { λ i. record { facts = facts_of i.shape; declared = i.declared; version = i.version; eager = i.eager; moves = i.moves; steps = i.steps } };
 }
 
 impl Interface {
@@ -74,6 +78,8 @@ impl TryCopy for Interface {
         Ok(Interface {
             shape: self.shape,
             declared: self.declared,
+            version: self.version,
+            eager: self.eager,
             moves: self.moves.copy(alloc)?,
             steps: self.steps.copy(alloc)?,
         })

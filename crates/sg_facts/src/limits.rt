@@ -7,7 +7,7 @@ pub const MOST_FUNS: u8 = 32;
 pub const END_OF_FUNS: u8 = MOST_FUNS + 1;
 
 /// The greatest number of fields of a row.
-pub const MOST_FIELDS: u8 = 4;
+pub const MOST_FIELDS: u8 = 8;
 
 /// The greatest number of a client; the first is 1.
 pub const LAST_CLIENT: u8 = 64;

@@ -56,6 +56,8 @@ pub enum Effect {
     Clear,
     /// Subtracts one.
     SubOne,
+    /// Subtracts the first word of the reply, which is at most the field.
+    SubRet,
 }
 
 /// A field of a service's rows.
