@@ -11,7 +11,7 @@ use Rattle.sg_facts.specs.Fields.{is_set}
 use Rattle.sg_facts.specs.Held.{FieldHolds, FieldsHold, IsPartOf, set_of}
 use Rattle.sg_facts.specs.declared.row.Row.{Row}
 use Rattle.sg_facts.specs.declared.shape.Effect.{Effect}
-use Rattle.sg_facts.specs.declared.shape.Effect.TheVariants.{SetCaller, SetArg, AddArg, SetRet, AddRet, Clear, SubOne}
+use Rattle.sg_facts.specs.declared.shape.Effect.TheVariants.{SetCaller, SetArg, AddArg, SetRet, AddRet, Clear, SubOne, SubRet}
 use Rattle.sg_facts.specs.Allowed.{has_no_parents, is_allowed, is_replayed, leaves_known}
 use Rattle.sg_facts.specs.Facts.{Facts, Field, Fun, fun_at, takes_parent}
 use Rattle.sg_facts.specs.Interface.{Declared, declares}
@@ -97,6 +97,7 @@ mark_known SetRet m known is = absurd (cc known)
 mark_known AddRet m known is = absurd (cc known)
 mark_known Clear m known is = tt
 mark_known SubOne m known is = absurd (cc known)
+mark_known SubRet m known is = absurd (cc known)
 
 known_at : (marks : List Mark) (x : ℕ) → Each IsKnown marks → IsKnown (unwrap_or (slice_get marks x) unset)
 known_at [] x each = tt

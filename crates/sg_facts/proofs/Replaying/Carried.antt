@@ -11,7 +11,7 @@ use Rattle.sg_facts.specs.declared.row.Row.{Row}
 use Rattle.sg_facts.specs.declared.shape.Kind.{Kind}
 use Rattle.sg_facts.specs.declared.shape.Kind.TheVariants.{Desc, Parent, Word as IsWord, Text as IsText}
 use Rattle.sg_facts.specs.declared.shape.Effect.{Effect}
-use Rattle.sg_facts.specs.declared.shape.Effect.TheVariants.{SetCaller, SetArg, AddArg, SetRet, AddRet, Clear, SubOne}
+use Rattle.sg_facts.specs.declared.shape.Effect.TheVariants.{SetCaller, SetArg, AddArg, SetRet, AddRet, Clear, SubOne, SubRet}
 use Rattle.sg_facts.specs.Allowed.{count_args, each_arg, takes_among}
 use Rattle.sg_facts.specs.Track.{arg_at, field_at, word_of}
 use Rattle.sg_facts.specs.Walks.{carries_arg, replay_arg, replay_args, replay_caller, sets_caller}
@@ -120,6 +120,7 @@ module _ (r : Row) where
     from x AddRet low caller arg = tt
     from x Clear low caller arg = tt
     from x SubOne low caller arg = tt
+    from x SubRet low caller arg = tt
 
     all_from : (xs : List (ℕ × Effect)) → Each (λ e. takes_among (count_args kinds) e.1 ≡ true) xs → Each (λ e. sets_caller e.1 ≡ true → replay_caller es r ≡ word_of (field_at r.fields e.0)) xs
         → Each (λ e. (a : (k : ℕ) × (k < count_args kinds)) → carries_arg a.0 e.1 ≡ true → replay_arg es r a.0 ≡ field_at r.fields e.0) xs → AreFrom call r.fields xs

@@ -9,7 +9,7 @@ use Rattle.sg_base.specs.declared.value.Value.TheVariants.{Word, Text}
 use Rattle.sg_base.specs.declared.call.Call.{Call}
 use Rattle.sg_base.specs.declared.reply.Good.{Good}
 use Rattle.sg_facts.specs.declared.shape.Effect.{Effect}
-use Rattle.sg_facts.specs.declared.shape.Effect.TheVariants.{SetCaller, SetArg, AddArg, SetRet, AddRet, Clear, SubOne}
+use Rattle.sg_facts.specs.declared.shape.Effect.TheVariants.{SetCaller, SetArg, AddArg, SetRet, AddRet, Clear, SubOne, SubRet}
 use Rattle.sg_facts.specs.Facts.{Field}
 use Rattle.sg_facts.specs.Allowed.{sets_once}
 use Rattle.sg_facts.specs.Held.{FieldHolds, FieldsHold, SameKind}
@@ -100,6 +100,7 @@ IsFrom call v SetRet = Unit {0}
 IsFrom call v AddRet = Unit {0}
 IsFrom call v Clear = Unit {0}
 IsFrom call v SubOne = Unit {0}
+IsFrom call v SubRet = Unit {0}
 
 abbrev pub AreFrom : Call → List Value → List (ℕ × Effect) → Type 0
 AreFrom call vs es = Each (λ e. IsFrom call (field_at vs e.0) e.1) es
@@ -138,6 +139,7 @@ module _ (call : Call) (reply : Good) where
   effect_holds AddRet m v old holds from kind = kind
   effect_holds Clear m v old holds from kind = clear_held m v old holds
   effect_holds SubOne m v old holds from kind = kind
+  effect_holds SubRet m v old holds from kind = kind
 
   untouched : (es : List (ℕ × Effect)) (ws : List Value) (x : ℕ) → list_any (λ e. e.0 == x) es ≡ false → field_at (fields_after call reply es ws) x ≡ field_at ws x
   untouched [] ws x none = refl

@@ -8,10 +8,10 @@ use Rattle.sg_facts.specs.Walks.{IsWalkOf, Spot, may_go_on, restores_at, restore
 use Rattle.sg_facts.specs.Fits.{Fits}
 use Rattle.sg_facts.proofs.Replaying.Steps.{begins, both_true, first_of, goes_on_with, some_restored}
 
--- what holds of the interfaces of a service, told of each by its parts
-pub of_facts : (P : Declared → Type 0) (facts : Facts) → ((declared : ℕ) (moves steps : List (ℕ × ℕ)) → P (record { facts = facts; declared = declared; moves = moves; steps = steps }))
+-- what holds of every interface that is given the facts of a service holds of the interfaces of the service
+pub of_facts : (P : Declared → Type 0) (facts : Facts) → ((i : Declared) → P (record i { facts = facts }))
     → (i : Declared) → i.facts ≡ facts → P i
-of_facts P facts so i is = subst (λ f. P (record { facts = f; declared = i.declared; moves = i.moves; steps = i.steps })) (sym is) (so i.declared i.moves i.steps)
+of_facts P facts so i is = subst (λ f. P (record i { facts = f })) (sym is) (so i)
 
 -- the function that begins a walk makes a descriptor
 pub begun_by : (i : Declared) (f : ℕ) (rest : List ℕ) (by state : ℕ) (set : List Bool) → IsWalkOf i (f ∷ rest) by state set → (fun_at i.facts.funs f).creation ≡ true
