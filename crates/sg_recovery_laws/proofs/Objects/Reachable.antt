@@ -1,5 +1,5 @@
 -- What an answered call makes of a row is reachable: each field is set, or not, as its effect may leave it.
-use Rattle.std.proofs.Common.{◌≡◌, ℕ, zero, suc, ◌+◌, ◌<◌, ◌≤◌, Bool, true, false, cond, not, List, [], ◌∷◌, None, Some, length, map, refl, sym, ◌∙◌, ap, inl, inr, arith}
+use Rattle.std.proofs.Common.{◌≡◌, ℕ, zero, suc, ◌+◌, ◌-◌, ◌<◌, ◌≤◌, Bool, true, false, cond, not, List, [], ◌∷◌, None, Some, length, map, refl, sym, ◌∙◌, ap, inl, inr, arith}
 use Rattle.std.specs.Prelude.{◌==◌, ◌||◌, ◌&&◌, if◌then◌else◌}
 use Rattle.std.specs.List.{list_any}
 use Rattle.std.specs.declared.option.Option.{Option}
@@ -12,7 +12,7 @@ use Rattle.sg_facts.specs.sg_base.declared.call.Call.{Call}
 use Rattle.sg_facts.specs.sg_base.declared.reply.Good.{Good}
 use Rattle.sg_facts.specs.declared.row.Row.{Row}
 use Rattle.sg_facts.specs.declared.shape.Effect.{Effect}
-use Rattle.sg_facts.specs.declared.shape.Effect.TheVariants.{SetCaller, SetArg, AddArg, SetRet, AddRet, Clear, SubOne}
+use Rattle.sg_facts.specs.declared.shape.Effect.TheVariants.{SetCaller, SetArg, AddArg, SetRet, AddRet, Clear, SubOne, SubRet}
 use Rattle.sg_facts.specs.Allowed.{sets_once}
 use Rattle.sg_facts.specs.Facts.{Field, fun_at}
 use Rattle.sg_facts.specs.Fields.{is_set}
@@ -46,6 +46,13 @@ adds (Text []) a plain = or_true (is_set (Word (0 + a)))
     or_true false = refl
 adds (Text (b ∷ bs)) a plain = absurd plain
 
+-- what is subtracted from a field leaves one that isn't set so
+subtracts : (v : Value) (a : ℕ) → (is_set v || not (is_set (Word (word_of v - a)))) ≡ true
+subtracts (Word zero) a = ap (λ n. not (is_set (Word n))) (let none : 0 - a ≡ 0 = omega arith in none)
+subtracts (Word (suc n)) a = refl
+subtracts (Text []) a = ap (λ n. not (is_set (Word n))) (let none : 0 - a ≡ 0 = omega arith in none)
+subtracts (Text (b ∷ bs)) a = refl
+
 module _ (call : Call) (good : Good) (client : 1 ≤ call.client) where
   -- an effect leaves its field as it may
   leaves : (e : Effect) (v : Value) → IsNoText v → may_leave (Some e) (is_set v) (is_set (effect_of call good e v)) ≡ true
@@ -60,6 +67,7 @@ module _ (call : Call) (good : Good) (client : 1 ≤ call.client) where
   leaves SubOne (Word (suc n)) plain = refl
   leaves SubOne (Text []) plain = refl
   leaves SubOne (Text (b ∷ bs)) plain = refl
+  leaves SubRet v plain = subtracts v (first_word good)
 
   -- what a field comes to
   abbrev comes_to : Option Effect → Value → Value
