@@ -24,7 +24,7 @@ use Rattle.sg_facts.specs.Legal.{Table}
 use Rattle.sg_facts.specs.Guard.{may_be_parent, may_use, in_state, refusal, is_guards}
 use Rattle.sg_facts.specs.Sound.{IsSound, IsRow, AreRows, AreFields}
 use Rattle.sg_facts.specs.Alike.{named, Serves, SameReply}
-use Rattle.sg_facts.specs.Counted.{takes_word, most_in, most_counted}
+use Rattle.sg_facts.specs.Counted.{raises_by_word, most_in, most_counted}
 use Rattle.sg_facts.specs.Laws.{CountsSlowly, Passes, whole}
 use Rattle.sg_slots.specs.Slots.{Body, rows_of}
 use Rattle.sg_facts.proofs.RowLists.{more, both, changed, left, other, none_pass, is_live-more, is_live-changed, is_live-left, id_of_row}
@@ -285,28 +285,33 @@ wants_at [] none n = refl
 wants_at (f ∷ funs) none zero = (neither (wants_word f) (list_any wants_word funs) none).0
 wants_at (f ∷ funs) none (suc n) = wants_at funs (neither (wants_word f) (list_any wants_word funs) none).1 n
 
--- an effect that takes no returned word takes none into a field
-no_effect : (x : ℕ) (effects : List (ℕ × Effect)) → list_any (λ e. takes_word e.1) effects ≡ false → list_any (λ e. (e.0 == x) && takes_word e.1) effects ≡ false
+-- a service of which no function takes a returned word into a field
+pub wants_none : (facts : Facts) → list_any wants_word facts.funs ≡ false → (fun : ℕ) → wants_word (fun_at facts.funs fun) ≡ false
+wants_none facts none zero = refl
+wants_none facts none (suc n) = wants_at facts.funs none n
+
+-- whether a function sets a field to a returned word, or adds that
+abbrev pub raises_some : Fun → Bool
+raises_some f = list_any (λ e. raises_by_word e.1) f.effects
+
+-- where no effect raises a field by the returned word, none raises this one
+no_effect : (x : ℕ) (effects : List (ℕ × Effect)) → list_any (λ e. raises_by_word e.1) effects ≡ false → list_any (λ e. (e.0 == x) && raises_by_word e.1) effects ≡ false
 no_effect x [] none = refl
-no_effect x (e ∷ effects) none = at (e.0 == x) (takes_word e.1) (neither (takes_word e.1) (list_any (λ d. takes_word d.1) effects) none).0
-    (no_effect x effects (neither (takes_word e.1) (list_any (λ d. takes_word d.1) effects) none).1)
+no_effect x (e ∷ effects) none = at (e.0 == x) (raises_by_word e.1) (neither (raises_by_word e.1) (list_any (λ d. raises_by_word d.1) effects) none).0
+    (no_effect x effects (neither (raises_by_word e.1) (list_any (λ d. raises_by_word d.1) effects) none).1)
   where
-    at : (a b : Bool) → b ≡ false → list_any (λ d. (d.0 == x) && takes_word d.1) effects ≡ false → ((a && b) || list_any (λ d. (d.0 == x) && takes_word d.1) effects) ≡ false
-    at true b out rest = ap (λ c. c || list_any (λ d. (d.0 == x) && takes_word d.1) effects) out ∙ rest
+    at : (a b : Bool) → b ≡ false → list_any (λ d. (d.0 == x) && raises_by_word d.1) effects ≡ false → ((a && b) || list_any (λ d. (d.0 == x) && raises_by_word d.1) effects) ≡ false
+    at true b out rest = ap (λ c. c || list_any (λ d. (d.0 == x) && raises_by_word d.1) effects) out ∙ rest
     at false b out rest = rest
 
-no_field : (x : ℕ) (funs : List Fun) → list_any wants_word funs ≡ false → list_any (λ f. list_any (λ e. (e.0 == x) && takes_word e.1) f.effects) funs ≡ false
+no_field : (x : ℕ) (funs : List Fun) → list_any raises_some funs ≡ false → list_any (λ f. list_any (λ e. (e.0 == x) && raises_by_word e.1) f.effects) funs ≡ false
 no_field x [] none = refl
 no_field x (f ∷ funs) none =
-    ap (λ b. b || list_any (λ g. list_any (λ e. (e.0 == x) && takes_word e.1) g.effects) funs) (no_effect x f.effects (neither (wants_word f) (list_any wants_word funs) none).0)
-    ∙ no_field x funs (neither (wants_word f) (list_any wants_word funs) none).1
+    ap (λ b. b || list_any (λ g. list_any (λ e. (e.0 == x) && raises_by_word e.1) g.effects) funs) (no_effect x f.effects (neither (raises_some f) (list_any raises_some funs) none).0)
+    ∙ no_field x funs (neither (raises_some f) (list_any raises_some funs) none).1
 
--- a service of which no function takes a returned word into a field
-module _ (facts : Facts) (none : list_any wants_word facts.funs ≡ false) where
-  pub wants_none : (fun : ℕ) → wants_word (fun_at facts.funs fun) ≡ false
-  wants_none zero = refl
-  wants_none (suc n) = wants_at facts.funs none n
-
+-- a service of which no function raises a field by a returned word
+module _ (facts : Facts) (none : list_any raises_some facts.funs ≡ false) where
   none_in : (x : ℕ) (fields : List Value) → most_in facts x fields ≡ 0
   none_in x [] = refl
   none_in x (v ∷ fields) =
