@@ -1,5 +1,5 @@
 -- What the service decides is what its table says.
-use Rattle.std.proofs.Common.{◌≡◌, ℕ, zero, suc, ◌+◌, ◌≤◌, Bool, true, false, cond, List, None, Some, refl, ◌∙◌, ap, arith}
+use Rattle.std.proofs.Common.{◌≡◌, ℕ, zero, suc, ◌+◌, ◌≤◌, min, Bool, true, false, cond, List, None, Some, refl, ◌∙◌, ap, arith}
 use Rattle.std.specs.Prelude.{◌-◌, ◌==◌, nat_lt}
 use Rattle.std.specs.Option.{option_map}
 use Rattle.sg_facts.specs.sg_base.declared.value.Value.{Value}
@@ -13,12 +13,12 @@ use Rattle.sg_slots.specs.declared.decision.Decision.TheVariants.{Refuse, Block,
 use Rattle.sg_slots.specs.Slots.{Held, AreIds, entry_at, rows_of, row_with}
 use Rattle.sg_slots.specs.Decide.{Decides}
 use Rattle.sg_slots.proofs.Rows.{row_at-rows_of}
-use Rattle.sg_slots.proofs.Deciding.{plain, refuse_right, block_right, set_right, remove_right}
+use Rattle.sg_slots.proofs.Deciding.{plain, refuse_right, block_right, set_right, set_word_right, remove_right}
 use Rattle.sg_event.specs.declared.event.Event.{Event}
 use Rattle.sg_event.specs.EventFacts.{event_facts}
-use Rattle.sg_event.specs.EventTable.{event_table, event_parts, count_in, most_count, event_wait_answer, trigger_answer}
+use Rattle.sg_event.specs.EventTable.{event_table, event_parts, count_in, most_count, event_wait_answer, take_answer, trigger_answer}
 use Rattle.sg_event.specs.EventRow.{event_body}
-use Rattle.sg_event.specs.Inside.EventDecision.{set_count, on_event_wait, on_trigger}
+use Rattle.sg_event.specs.Inside.EventDecision.{set_count, on_event_wait, on_take, on_trigger}
 
 module _ (held : Held Event) (ids : AreIds 0 held.given held.entries) (client seq desc : ℕ) (args : List Value) (event : Event) (there : entry_at held.entries desc ≡ Some event) where
   abbrev call_of : ℕ → Call
@@ -53,14 +53,20 @@ module _ (held : Held Event) (ids : AreIds 0 held.given held.entries) (client se
   pub trigger_right : IsRight 3 (on_trigger event n)
   trigger_right = trigger_at (nat_lt most_count (event.count + n)) refl
 
+  pub take_right : IsRight 5 (on_take event n)
+  take_right =
+      set_word_right event_facts event_table event_parts event_body held (call_of 5) refl ids event there refl refl refl (Some (min n event.count))
+      (record { creator = event.creator; count = event.count - min n event.count }) (ap (λ c. take_answer c n) count_is) refl refl
+
   pub free_right : IsRight 4 Remove
   free_right = remove_right event_facts event_table event_parts event_body held (call_of 4) refl ids event there refl refl refl refl refl refl
 
 -- every function but the first is called on an event
-pub on_event : (fun : ℕ) → (fun ≡ 1 → ⊥) → 1 ≤ fun → fun ≤ 4 → takes_desc (fun_at event_facts.funs fun) ≡ true
+pub on_event : (fun : ℕ) → (fun ≡ 1 → ⊥) → 1 ≤ fun → fun ≤ 5 → takes_desc (fun_at event_facts.funs fun) ≡ true
 on_event zero other first last = absurd (omega arith)
 on_event (suc zero) other first last = absurd (other refl)
 on_event (suc (suc zero)) other first last = refl
 on_event (suc (suc (suc zero))) other first last = refl
 on_event (suc (suc (suc (suc zero)))) other first last = refl
-on_event (suc (suc (suc (suc (suc n))))) other first last = absurd (omega arith)
+on_event (suc (suc (suc (suc (suc zero))))) other first last = refl
+on_event (suc (suc (suc (suc (suc (suc n)))))) other first last = absurd (omega arith)

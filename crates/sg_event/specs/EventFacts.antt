@@ -3,7 +3,7 @@ use Rattle.std.specs.Prelude.{true, false, [], ◌∷◌, codes}
 use Rattle.sg_facts.specs.Facts.{Facts, Fun, no_facts, no_fun}
 use Rattle.sg_facts.specs.declared.shape.Kind.TheVariants.{Desc, Word}
 use Rattle.sg_facts.specs.declared.shape.Leaves.TheVariants.{Same}
-use Rattle.sg_facts.specs.declared.shape.Effect.TheVariants.{AddArg, SubOne}
+use Rattle.sg_facts.specs.declared.shape.Effect.TheVariants.{AddArg, SubOne, SubRet}
 
 -- evt_split() makes an event that nobody triggered
 abbrev pub evt_split : Fun
@@ -27,6 +27,10 @@ evt_trigger = record no_fun {
 abbrev pub evt_free : Fun
 evt_free = record no_fun { name = codes "evt_free"; kinds = Desc ∷ []; terminal = true }
 
+-- evt_take(id, n) takes from its count, and answers how much
+abbrev pub evt_take : Fun
+evt_take = record no_fun { name = codes "evt_take"; kinds = Desc ∷ Word ∷ []; leaves = Same; effects = (0, SubRet) ∷ [] }
+
 -- the facts of the service: a global one, without parents and files
 abbrev pub event_facts : Facts
 event_facts = record no_facts {
@@ -34,7 +38,7 @@ event_facts = record no_facts {
   block = true;
   has_data = true;
   fields = record { name = codes "count"; text = false } ∷ [];
-  funs = evt_split ∷ evt_wait ∷ evt_trigger ∷ evt_free ∷ [];
-  moves = (1, 2) ∷ (1, 3) ∷ (1, 4) ∷ [];
+  funs = evt_split ∷ evt_wait ∷ evt_trigger ∷ evt_free ∷ evt_take ∷ [];
+  moves = (1, 2) ∷ (1, 3) ∷ (1, 4) ∷ (1, 5) ∷ [];
   steps = (1, 3) ∷ [];
 }

@@ -6,7 +6,7 @@ use sg_slots::Slot;
 pub struct Event {
     /// The client that made it.
     pub creator: u8,
-    /// What its triggers added and no wait has taken yet.
+    /// What its triggers added and no wait and no take has taken yet.
     pub count: u32,
 }
 

@@ -11,3 +11,6 @@ pub const TRIGGER: u8 = 3;
 
 /// `evt_free`: ends an event.
 pub const FREE: u8 = 4;
+
+/// `evt_take`: takes as many from the count of an event as it is given, or as there are.
+pub const TAKE: u8 = 5;

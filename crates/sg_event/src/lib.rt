@@ -1,4 +1,4 @@
-//! Events: each has a count, which a trigger adds to and a wait takes one from.
+//! Events: each has a count, which a trigger adds to, and which a wait takes one from and a take as many as there are.
 //!
 //! - `functions`: the numbers of the service's functions
 //! - `shape`: the facts of the service, those of its standard interface (`event_shape`)

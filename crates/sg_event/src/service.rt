@@ -2,15 +2,15 @@
 ghost use Rattle.std.specs.Prelude.{◌≡◌, refl};
 ghost use Rattle.sg_facts.specs.Track.{arg_at, word_of};
 ghost use Rattle.sg_event.specs.EventModel.{event_model};
-ghost use Rattle.sg_event.specs.Inside.EventDecision.{on_split, on_event_wait, on_trigger, set_count};
+ghost use Rattle.sg_event.specs.Inside.EventDecision.{on_split, on_event_wait, on_take, on_trigger, set_count};
 
 use crate::Event;
-use crate::functions::{SPLIT, TRIGGER, WAIT};
+use crate::functions::{SPLIT, TAKE, TRIGGER, WAIT};
 use crate::shape::event_shape;
 use sg_facts::{Call, Code, Shape, Value};
 use sg_slots::{Decision, RowRules, RowService, Slots};
 
-/// The event service: it makes, triggers and ends events, and blocks who waits for one whose count is 0.
+/// The event service: it makes, triggers, takes from and ends events, and blocks who waits for one whose count is 0.
 pub type EventService = RowService<Event>;
 
 impl RowRules for Event {
@@ -28,6 +28,7 @@ impl RowRules for Event {
             Some(event) => match call.fun {
                 WAIT => wait(event),
                 TRIGGER => trigger(event, number(call)),
+                TAKE => take(event, number(call)),
                 _ => Decision::Remove,
             },
             None => unreachable!(),
@@ -72,7 +73,21 @@ fn trigger(event: &Event, n: u64) -> Decision<Event>
     }
 }
 
-// The number that a trigger adds.
+// Takes from the count of an event, and answers how much: all that it is asked for, or all that there is.
+fn take(event: &Event, n: u64) -> Decision<Event>
+    ensures { result ≡ on_take event.now n }
+{
+    let taken = n.min(u64::from(event.count));
+    Decision::Set {
+        entry: Event {
+            count: event.count - taken as u32,
+            ..*event
+        },
+        word: Some(taken),
+    }
+}
+
+// The number that a trigger adds, or that a take asks for.
 fn number(call: &Call) -> u64
     ensures { result ≡ word_of (arg_at call.now 0) }
 {

@@ -3,7 +3,7 @@ ghost use Rattle.std.specs.Prelude.{◌≡◌};
 ghost use Rattle.sg_facts.specs.Facts.{facts_of};
 ghost use Rattle.sg_event.specs.EventFacts.{event_facts};
 
-use crate::functions::{FREE, SPLIT, TRIGGER, WAIT};
+use crate::functions::{FREE, SPLIT, TAKE, TRIGGER, WAIT};
 use sg_facts::{Effect, FieldShape, FunShape, Kind, Leaves, Shape};
 use sg_slots::SINGLE_ROWS;
 
@@ -12,7 +12,7 @@ static FIELDS: [FieldShape; 1] = [FieldShape {
     text: false,
 }];
 
-static FUNS: [FunShape; 4] = [
+static FUNS: [FunShape; 5] = [
     FunShape {
         name: b"evt_split",
         kinds: &[],
@@ -41,9 +41,21 @@ static FUNS: [FunShape; 4] = [
         leaves: Leaves::Own,
         effects: &[],
     },
+    FunShape {
+        name: b"evt_take",
+        kinds: &[Kind::Desc, Kind::Word],
+        flags: 0,
+        leaves: Leaves::Same,
+        effects: &[(0, Effect::SubRet)],
+    },
 ];
 
-static MOVES: [(u8, u8); 3] = [(SPLIT, WAIT), (SPLIT, TRIGGER), (SPLIT, FREE)];
+static MOVES: [(u8, u8); 4] = [
+    (SPLIT, WAIT),
+    (SPLIT, TRIGGER),
+    (SPLIT, FREE),
+    (SPLIT, TAKE),
+];
 
 static STEPS: [(u8, u8); 1] = [(SPLIT, TRIGGER)];
 

@@ -1,5 +1,5 @@
 -- What the event service decides on an event.
-use Rattle.std.specs.Prelude.{ℕ, ◌+◌, ◌-◌, ◌==◌, nat_lt, if◌then◌else◌, None}
+use Rattle.std.specs.Prelude.{ℕ, ◌+◌, ◌-◌, ◌==◌, min, nat_lt, if◌then◌else◌, None, Some}
 use Rattle.sg_facts.specs.sg_base.declared.reply.Code.TheVariants.{Overflow}
 use Rattle.sg_slots.specs.declared.decision.Decision.{Decision}
 use Rattle.sg_slots.specs.declared.decision.Decision.TheVariants.{Refuse, Block, Make, Set}
@@ -21,3 +21,6 @@ on_event_wait event = if event.count == 0 then Block else set_count event (event
 -- an event is triggered: its count rises by so much, or the call is refused where it would pass the greatest count
 abbrev pub on_trigger : Event → ℕ → Decision Event
 on_trigger event n = if nat_lt most_count (event.count + n) then Refuse Overflow else set_count event (event.count + n)
+
+abbrev pub on_take : Event → ℕ → Decision Event
+on_take event n = Set (record { creator = event.creator; count = event.count - min n event.count }) (Some (min n event.count))

@@ -11,7 +11,7 @@ use Rattle.sg_facts.specs.Alike.{named, Serves, SameReply}
 use Rattle.sg_facts.specs.Laws.{AnswersAlike, Passes}
 use Rattle.sg_slots.proofs.RowLaws.{row_of_call, alike_row, same_either, same_done}
 use Rattle.sg_event.specs.EventFacts.{event_facts}
-use Rattle.sg_event.specs.EventTable.{event_table, count_in, most_count, event_wait_answer, trigger_answer}
+use Rattle.sg_event.specs.EventTable.{event_table, count_in, most_count, event_wait_answer, take_answer, trigger_answer}
 use Rattle.sg_event.specs.Inside.EventAnswer.{event_answer}
 use Rattle.sg_event.specs.EventSound.{IsEventSound}
 
@@ -42,7 +42,10 @@ module _ (names : List (ℕ × ℕ)) (o held : Object) (client seq desc : ℕ) (
       subst (λ c. SameReply names false (trigger_answer count n) (trigger_answer c n)) (same_count 3 serves (row_of_call event_facts o (call_of 3) passes refl refl))
       (same_either names (nat_lt most_count (count + n)) _ _ refl (same_done names serves.names_are.none))
   alike_at (suc (suc (suc (suc zero)))) passes serves = same_done names serves.names_are.none
-  alike_at (suc (suc (suc (suc (suc m))))) passes serves = refl
+  alike_at (suc (suc (suc (suc (suc zero))))) passes serves =
+      subst (λ c. SameReply names false (take_answer count n) (take_answer c n)) (same_count 5 serves (row_of_call event_facts o (call_of 5) passes refl refl))
+      (refl, refl, sym serves.names_are.none)
+  alike_at (suc (suc (suc (suc (suc (suc m)))))) passes serves = refl
 
 -- the event service gives a call the same answer, but for ids, from whatever it holds that serves the call
 pub event_answers_alike : AnswersAlike event_facts event_table IsEventSound

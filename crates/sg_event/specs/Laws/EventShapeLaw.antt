@@ -1,12 +1,14 @@
--- The shape of the event service, and its answers, keep to what every shape allows; and no returned word counts.
-use Rattle.std.proofs.Common.{◌≡◌, ℕ, zero, suc, ◌+◌, Bool, true, false, cond, [], None, Some, refl, sym, ◌∙◌, subst}
+-- The shape of the event service, and its answers, keep to what every shape allows; and no returned word counts: the one that there is only lowers a count.
+use Rattle.std.proofs.Common.{◌≡◌, ℕ, zero, suc, ◌+◌, ◌<◌, Bool, true, false, cond, [], ◌∷◌, None, Some, length, min, refl, ap, subst, arith}
 use Rattle.std.specs.Prelude.{◌==◌, nat_lt}
 use Rattle.sg_facts.specs.sg_base.declared.reply.Code.TheVariants.{Overflow}
+use Rattle.sg_facts.specs.sg_base.declared.reply.Good.{Good}
 use Rattle.sg_facts.specs.sg_base.declared.reply.Reply.TheVariants.{Ok, Refused}
+use Rattle.sg_facts.specs.Allowed.{wants_word}
 use Rattle.sg_facts.specs.Facts.{fun_at}
 use Rattle.sg_facts.specs.Track.{row_at, word_of, arg_at}
 use Rattle.sg_facts.specs.Laws.{ShapeAllows, CountsSlowly}
-use Rattle.sg_slots.proofs.RowLaws.{NotGuards, wants_none, never_counts}
+use Rattle.sg_slots.proofs.RowLaws.{NotGuards, never_counts}
 use Rattle.sg_event.specs.EventFacts.{event_facts}
 use Rattle.sg_event.specs.EventTable.{event_table, count_in, most_count}
 use Rattle.sg_event.specs.Inside.EventAnswer.{event_answer}
@@ -27,7 +29,8 @@ refuses_at (suc (suc (suc zero))) given count n = at (nat_lt most_count (count +
     at true = refl
     at false = tt
 refuses_at (suc (suc (suc (suc zero)))) given count n = tt
-refuses_at (suc (suc (suc (suc (suc m))))) given count n = refl
+refuses_at (suc (suc (suc (suc (suc zero))))) given count n = tt
+refuses_at (suc (suc (suc (suc (suc (suc m)))))) given count n = refl
 
 -- only a wait blocks
 blocks_at : (fun given count n : ℕ) → event_answer fun given count n ≡ None → (fun_at event_facts.funs fun).block ≡ true
@@ -40,7 +43,21 @@ blocks_at (suc (suc (suc zero))) given count n is = absurd (at (nat_lt most_coun
     at true is = cc is
     at false is = cc is
 blocks_at (suc (suc (suc (suc zero)))) given count n is = absurd (cc is)
-blocks_at (suc (suc (suc (suc (suc m))))) given count n is = absurd (cc is)
+blocks_at (suc (suc (suc (suc (suc zero))))) given count n is = absurd (cc is)
+blocks_at (suc (suc (suc (suc (suc (suc m)))))) given count n is = absurd (cc is)
+
+-- only a take gives a word
+words_at : (fun given count n : ℕ) (good : Good) → event_answer fun given count n ≡ Some (Ok good) → wants_word (fun_at event_facts.funs fun) ≡ true → 0 < length good.words
+words_at zero given count n good is wants = absurd (cc wants)
+words_at (suc zero) given count n good is wants = absurd (cc wants)
+words_at (suc (suc zero)) given count n good is wants = absurd (cc wants)
+words_at (suc (suc (suc zero))) given count n good is wants = absurd (cc wants)
+words_at (suc (suc (suc (suc zero)))) given count n good is wants = absurd (cc wants)
+words_at (suc (suc (suc (suc (suc zero))))) given count n good is wants =
+    let one : record { desc = 0; words = min n count ∷ []; bytes = [] } ≡ good = cc is in
+    let some : 1 ≡ length good.words = ap (λ g. length g.words) one in
+    omega (arith, some)
+words_at (suc (suc (suc (suc (suc (suc m)))))) given count n good is wants = absurd (cc wants)
 
 -- the event service has a shape that is allowed, a call blocks only where its function may, no refusal is the guard's,
 -- and an Ok has a word where a field takes one
@@ -49,7 +66,7 @@ event_shape_allows = record {
   shape = refl;
   blocks = λ o call is. blocks_at call.fun o.given (count_in (row_at o.rows call.desc)) (word_of (arg_at call 0)) is;
   refuses = λ o call code is. subst NotGuards is (refuses_at call.fun o.given (count_in (row_at o.rows call.desc)) (word_of (arg_at call 0)));
-  words = λ o call good is wants. absurd (cc (sym (wants_none event_facts refl call.fun) ∙ wants));
+  words = λ o call good is wants. words_at call.fun o.given (count_in (row_at o.rows call.desc)) (word_of (arg_at call 0)) good is wants;
 }
 
 -- the counted words of the event service rise slowly: it has none

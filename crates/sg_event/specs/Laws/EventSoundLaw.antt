@@ -19,7 +19,7 @@ use Rattle.sg_event.specs.EventTable.{event_table, count_in, most_count, trigger
 use Rattle.sg_event.specs.Inside.EventAnswer.{event_answer}
 use Rattle.sg_event.specs.EventSound.{IsEventSound, IsCounted}
 
--- ---- the fields of an event's row after a wait and a trigger
+-- ---- the fields of an event's row after a wait, a trigger and a take
 
 abbrev IsCount : List Value → Type 0
 IsCount fields = AreFields event_facts.fields fields × (word_of (field_at fields 0) ≤ most_count)
@@ -35,6 +35,12 @@ trigger_fields : (fields : List Value) (call : Call) (good : Good) → AreFields
 trigger_fields [] call good are most = absurd are
 trigger_fields (v ∷ []) call good are most = (((refl, omega (arith, most)), tt), omega (arith, most))
 trigger_fields (v ∷ w ∷ fields) call good are most = absurd are.1
+
+take_fields : (fields : List Value) (call : Call) (good : Good) → AreFields event_facts.fields fields → word_of (field_at fields 0) ≤ most_count
+    → IsCount (fields_after call good (fun_at event_facts.funs 5).effects fields)
+take_fields [] call good are most = absurd are
+take_fields (v ∷ []) call good are most = (((refl, omega (arith, most)), tt), omega (arith, most))
+take_fields (v ∷ w ∷ fields) call good are most = absurd are.1
 
 -- a trigger that is done leaves a count up to the greatest
 not_over : (count n : ℕ) (good : Good) → trigger_answer count n ≡ Some (Ok good) → count + n ≤ most_count
@@ -68,7 +74,10 @@ module _ (o : Object) (client seq desc : ℕ) (args : List Value) where
   keeps_at (suc (suc (suc (suc zero)))) good sound passes is =
       let kept = sound_left event_facts IsCounted o desc (sound.general, sound.counted) refl (childless event_facts o (call_of 4) passes refl refl refl) in
       record { general = kept.0; counted = kept.1 }
-  keeps_at (suc (suc (suc (suc (suc n))))) good sound passes is = absurd (cc is)
+  keeps_at (suc (suc (suc (suc (suc zero))))) good sound passes is =
+      let kept = sound_changed event_facts IsCounted o (call_of 5) good (sound.general, sound.counted) (λ r found are most. take_fields r.fields (call_of 5) good are.fields most) in
+      record { general = kept.0; counted = kept.1 }
+  keeps_at (suc (suc (suc (suc (suc (suc n)))))) good sound passes is = absurd (cc is)
 
 -- the empty object of the event service is sound, an Ok keeps an object sound, and a new event has the next id
 pub event_answers_and_keeps : AnswersAndKeeps event_facts event_table IsEventSound

@@ -37,9 +37,9 @@ one_creation f is = first_makes event_facts.funs refl f is
 one_step : (state f : ℕ) → has_pair event_facts.steps state f ≡ true → f ≡ 3
 one_step state f is = (one_pair 1 3 state f is).1
 
-module _ (declared : ℕ) (moves steps : List (ℕ × ℕ)) where
+module _ (own : Declared) where
   abbrev i : Declared
-  i = record { facts = event_facts; declared = declared; moves = moves; steps = steps }
+  i = record own { facts = event_facts }
 
   abbrev Given : Object → Call → List Value → Type 0
   Given held call old = IsAnsweredOk event_facts event_table held call old
