@@ -57,6 +57,7 @@ impl Draft {
             Effect::AddRet => Draft::Number(self.word(call) + first_word(good)),
             Effect::Clear => self.cleared(call),
             Effect::SubOne => Draft::Number(self.word(call).saturating_sub(1)),
+            Effect::SubRet => Draft::Number(self.word(call).saturating_sub(first_word(good))),
         }
     }
 

@@ -74,5 +74,6 @@ fn new_word(old: &Value, effect: Effect, call: &Call, good: &Good) -> u64
         Effect::AddRet => word_of(old) + first_word(good),
         Effect::Clear => 0,
         Effect::SubOne => word_of(old).saturating_sub(1),
+        Effect::SubRet => word_of(old).saturating_sub(first_word(good)),
     }
 }
