@@ -17,7 +17,7 @@ use Rattle.sg_facts.specs.Object.{Object, after}
 use Rattle.sg_facts.specs.Track.{arg_at, field_at, row_at, word_of}
 use Rattle.sg_facts.specs.Walks.{IsWalkOf}
 use Rattle.sg_facts.specs.declared.row.Row.{Row}
-use Rattle.sg_facts.specs.declared.shape.Effect.TheVariants.{AddArg, AddRet, Clear, SetArg, SetCaller, SetRet, SubOne}
+use Rattle.sg_facts.specs.declared.shape.Effect.TheVariants.{AddArg, AddRet, Clear, SetArg, SetCaller, SetRet, SubOne, SubRet}
 use Rattle.sg_facts.specs.declared.shape.Effect.{Effect}
 use Rattle.sg_facts.proofs.Replaying.Carried.{are_from}
 use Rattle.sg_facts.proofs.Replaying.Found.{other_test, same_test}
@@ -85,6 +85,7 @@ set_below facts call fields (e ∷ es) from =
     at true is AddRet from = omega arith
     at true is Clear from = omega arith
     at true is SubOne from = omega arith
+    at true is SubRet from = omega arith
 
 -- ---- what is left
 
