@@ -1,4 +1,3 @@
 -- What descriptors can come to.
 pub mod Inside
-pub mod Limits
 pub mod Triples

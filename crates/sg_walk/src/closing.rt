@@ -2,9 +2,8 @@
 ghost use Rattle.std.specs.Prelude.{◌≡◌, ◌≤◌, ◌^◌, ℕ, true, length, map, OnOk};
 ghost use Rattle.std.specs.List.{Contains};
 ghost use Rattle.sg_facts.specs.Facts.{fun_at};
-ghost use Rattle.sg_facts.specs.Interface.{moves_on};
+ghost use Rattle.sg_facts.specs.Interface.{HasFewFields, moves_on};
 ghost use Rattle.sg_facts.specs.Limits.{most_fields};
-ghost use Rattle.sg_walk.specs.ReachedStates.Limits.{HasFourFields};
 ghost use Rattle.sg_walk.specs.declared.place.Place.{Place as OnePlace};
 ghost use Rattle.sg_walk.specs.ReachedStates.Inside.Places.{AddsJust, AreReached, IsMadeAt, IsClosed, IsLed, LeadsTo, LeadsBy};
 
@@ -24,7 +23,8 @@ fn add_led(
     requires { count ≤ most_fields }
     ensures { OnOk result (AddsJust (IsLed (map (λ p. (p.0, p.1)) effects.now) count old state) found.old found.new) }
 {
-    'masks: for mask in 0..set_count(count) {
+    'masks: for number in 0..set_count(count) {
+        let mask = number as u8;
         if may_lead(effects, 0, count, old, mask) {
             found.add(Place { state, mask })?;
         }
@@ -34,7 +34,7 @@ fn add_led(
 
 /// Adds the places that a creation leads to.
 pub fn add_begins(iface: &Interface, made: u8, found: &mut Found) -> Result<(), NoMemory>
-    requires few { HasFourFields iface.now }
+    requires few { HasFewFields iface.now }
     ensures { OnOk result (AddsJust (IsMadeAt iface.now made) found.old found.new) }
 {
     let fun = iface.fun(made);
@@ -47,7 +47,7 @@ pub fn add_begins(iface: &Interface, made: u8, found: &mut Found) -> Result<(), 
 
 // Adds the places that one call of a function leads to from another.
 fn add_by(iface: &Interface, fun: u8, place: Place, found: &mut Found) -> Result<(), NoMemory>
-    requires few { HasFourFields iface.now }
+    requires few { HasFewFields iface.now }
     requires moves { moves_on iface.now place.state fun ≡ true }
     ensures { OnOk result (AddsJust (LeadsBy iface.now fun place) found.old found.new) }
 {
@@ -66,7 +66,7 @@ fn add_next(
     place: Place,
     found: &mut Found,
 ) -> Result<(), NoMemory>
-    requires few { HasFourFields iface.now }
+    requires few { HasFewFields iface.now }
     requires moves { moves.now ≡ iface.now.moves }
     ensures { OnOk result (AddsJust (LeadsTo iface.now place) found.old found.new) }
 {
@@ -80,7 +80,7 @@ fn add_next(
 
 /// Adds all places that calls lead to from those that were found.
 pub fn close(iface: &Interface, found: &mut Found) -> Result<(), NoMemory>
-    requires few { HasFourFields iface.now }
+    requires few { HasFewFields iface.now }
     ensures closed { OnOk result (IsClosed iface.now found.new) }
     ensures kept { OnOk result ((p : OnePlace) → Contains found.old p → Contains found.new p) }
     ensures reached { OnOk result ((made : ℕ) → AreReached iface.now made found.old → AreReached iface.now made found.new) }
@@ -96,17 +96,17 @@ pub fn close(iface: &Interface, found: &mut Found) -> Result<(), NoMemory>
 
 // The number of fields of a row.
 fn field_count(iface: &Interface) -> u8
-    requires few { HasFourFields iface.now }
+    requires few { HasFewFields iface.now }
     ensures { result ≡ length iface.now.facts.fields }
 {
     iface.shape.fields.len() as u8
 }
 
-// The number of sets of so many fields.
-fn set_count(fields: u8) -> u8
+/// The number of sets of so many fields.
+pub fn set_count(fields: u8) -> u16
     requires { fields ≤ most_fields }
     ensures value { result ≡ 2 ^ fields }
-    ensures few { result ≤ 16 }
+    ensures few { result ≤ 256 }
 {
     1 << fields
 }

@@ -36,6 +36,6 @@ fn may_leave(effect: Option<Effect>, old: bool, new: bool) -> bool
         Some(Effect::SetArg(_) | Effect::SetRet) => true,
         Some(Effect::AddArg(_) | Effect::AddRet) => new || !old,
         Some(Effect::Clear) => !new,
-        Some(Effect::SubOne) => old || !new,
+        Some(Effect::SubOne | Effect::SubRet) => old || !new,
     }
 }

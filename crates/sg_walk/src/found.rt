@@ -9,6 +9,12 @@ use sg_facts::NoMemory;
 use std::alloc::Global;
 use std::marker::Model;
 
+// The number of sets of fields.
+const SETS: usize = 256;
+
+// The number of places: one for each state and each set.
+const PLACES: usize = 256 * SETS;
+
 /// Places, in the order in which they were found, each once. Whether one was found is told by a table, without a scan.
 /// Contracts see the list of the places.
 #[derive(Debug, Drop)]
@@ -35,18 +41,17 @@ impl Found {
         ensures { IfOk result (λ found. found ≡ []) }
     {
         Ok(Found {
-            marks: vec![in alloc; false; 4096]?,
+            marks: vec![in alloc; false; PLACES]?,
             places: Vec::new(alloc),
         })
     }
 
     /// Adds a place, where it wasn't found. After `NoMemory` the places are as before.
     pub fn add(&mut self, place: Place) -> Result<(), NoMemory>
-        requires { place.mask < 16 }
         ensures ok { OnOk result (AddsOnce self.old self.new place) }
         ensures err { OnErr result (self.new ≡ self.old) }
     {
-        let cell = usize::from(place.state) * 16 + usize::from(place.mask);
+        let cell = usize::from(place.state) * SETS + usize::from(place.mask);
         if self.marks[cell] {
             return Ok(());
         }
@@ -55,10 +60,10 @@ impl Found {
         Ok(())
     }
 
-    /// The place of a number, from 0. There are at most 4,096.
+    /// The place of a number, from 0. There are at most 65,536.
     pub fn get(&self, at: usize) -> Option<&Place>
         ensures place { option_copied result ≡ slice_get self.now at }
-        ensures most { length self.now ≤ 4096 }
+        ensures most { length self.now ≤ 65536 }
         ensures once { AreDistinct self.now }
     {
         self.places.get(at)

@@ -2,7 +2,7 @@
 ghost use Rattle.std.specs.Prelude.{◌≡◌, ◌↔◌, ◌≤◌, IfOk, OnOk, OnErr};
 ghost use Rattle.std.specs.List.{Contains};
 ghost use Rattle.sg_facts.specs.Limits.{most_funs};
-ghost use Rattle.sg_walk.specs.ReachedStates.Limits.{HasFourFields};
+ghost use Rattle.sg_facts.specs.Interface.{HasFewFields};
 ghost use Rattle.sg_walk.specs.declared.place.Place.{Place as OnePlace};
 ghost use Rattle.sg_walk.specs.declared.place.Triple.{Triple as OneTriple};
 ghost use Rattle.sg_walk.specs.ReachedStates.Inside.Places.{AddsTriples, IsPlace};
@@ -20,7 +20,7 @@ pub type TripleList = ListOf<Triple>;
 /// All that descriptors can come to: each declared creation, with each state and each set of fields that its descriptors
 /// reach by declared calls. The rows have at most `MOST_FIELDS` fields.
 pub fn reachable(alloc: Global, iface: &Interface) -> Result<TripleList, NoMemory>
-    requires few { HasFourFields iface.now }
+    requires few { HasFewFields iface.now }
     ensures only { IfOk result (λ triples. (t : OneTriple) → Contains triples t → IsReachedTriple iface.now t) }
     // Each is listed once.
     ensures once { IfOk result AreDistinct }
@@ -37,7 +37,7 @@ pub fn reachable(alloc: Global, iface: &Interface) -> Result<TripleList, NoMemor
 
 // What the descriptors of one creation can come to; nothing where the function is no declared creation.
 fn places_of(alloc: Global, iface: &Interface, made: u8) -> Result<Found, NoMemory>
-    requires few { HasFourFields iface.now }
+    requires few { HasFewFields iface.now }
     ensures { IfOk result (λ found. (p : OnePlace) → Contains found p ↔ IsPlace iface.now made p) }
 {
     let mut found = Found::new(alloc)?;

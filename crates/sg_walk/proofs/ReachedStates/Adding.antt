@@ -6,21 +6,29 @@ use Rattle.sg_walk.specs.declared.place.Place.{Place}
 use Rattle.sg_walk.specs.ReachedStates.Inside.Places.{AddsJust, AddsOnce}
 use Rattle.sg_walk.proofs.ReachedStates.Marks.{itself, only}
 
-pub four_fields : (count : ℕ) → count ≤ 4 → 2 ^ count ≤ 16
-four_fields zero few = omega arith
-four_fields (suc zero) few = omega arith
-four_fields (suc (suc zero)) few = omega arith
-four_fields (suc (suc (suc zero))) few = omega arith
-four_fields (suc (suc (suc (suc zero)))) few = omega arith
-four_fields (suc (suc (suc (suc (suc n))))) few = absurd (omega arith)
+pub few_sets : (count : ℕ) → count ≤ 8 → 2 ^ count ≤ 256
+few_sets zero few = omega arith
+few_sets (suc zero) few = omega arith
+few_sets (suc (suc zero)) few = omega arith
+few_sets (suc (suc (suc zero))) few = omega arith
+few_sets (suc (suc (suc (suc zero)))) few = omega arith
+few_sets (suc (suc (suc (suc (suc zero))))) few = omega arith
+few_sets (suc (suc (suc (suc (suc (suc zero)))))) few = omega arith
+few_sets (suc (suc (suc (suc (suc (suc (suc zero))))))) few = omega arith
+few_sets (suc (suc (suc (suc (suc (suc (suc (suc zero)))))))) few = omega arith
+few_sets (suc (suc (suc (suc (suc (suc (suc (suc (suc n))))))))) few = absurd (omega arith)
 
-pub shifted : (count : ℕ) → count ≤ 4 → (1 * 2 ^ count) % 256 ≡ 2 ^ count
+pub shifted : (count : ℕ) → count ≤ 8 → (1 * 2 ^ count) % 65536 ≡ 2 ^ count
 shifted zero few = refl
 shifted (suc zero) few = refl
 shifted (suc (suc zero)) few = refl
 shifted (suc (suc (suc zero))) few = refl
 shifted (suc (suc (suc (suc zero)))) few = refl
-shifted (suc (suc (suc (suc (suc n))))) few = absurd (omega arith)
+shifted (suc (suc (suc (suc (suc zero))))) few = refl
+shifted (suc (suc (suc (suc (suc (suc zero)))))) few = refl
+shifted (suc (suc (suc (suc (suc (suc (suc zero))))))) few = refl
+shifted (suc (suc (suc (suc (suc (suc (suc (suc zero)))))))) few = refl
+shifted (suc (suc (suc (suc (suc (suc (suc (suc (suc n))))))))) few = absurd (omega arith)
 
 -- none was added
 pub adds_none : (P : Place → Type 0) (places : List Place) → ((q : Place) → P q → ⊥) → AddsJust P places places

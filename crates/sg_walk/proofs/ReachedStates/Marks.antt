@@ -39,14 +39,14 @@ pub at_place : {X : Type 0} (xs : List X) (k : ℕ) (d : X) → k < length xs �
 at_place xs k d within = (k, within, get_or_from_slice_get xs k (get_or xs k d) (get_or xs k d) (slice_get-get_or xs k d within))
 
 -- nothing is marked
-pub marked_none : AreMarked (replicate 4096 false) []
+pub marked_none : AreMarked (replicate 65536 false) []
 marked_none = record {
-  cells = length-replicate 4096 false;
+  cells = length-replicate 65536 false;
   told = λ p s m.
-      let k : cell_of p < 4096 = omega (arith, s, m) in
-      (λ is. absurd (cc (is, get_or-replicate 4096 (cell_of p) false false k)), λ has. absurd (none_in p has));
+      let k : cell_of p < 65536 = omega (arith, s, m) in
+      (λ is. absurd (cc (is, get_or-replicate 65536 (cell_of p) false false k)), λ has. absurd (none_in p has));
   small = λ p has. absurd (none_in p has);
-  count = ap (λ n. n + 0) (unmarked-replicate 4096);
+  count = ap (λ n. n + 0) (unmarked-replicate 65536);
   once = λ i j d less within. absurd (omega (arith, within));
 }
 
@@ -54,9 +54,9 @@ same_place : (p q : Place) → p.state ≡ q.state → p.mask ≡ q.mask → p �
 same_place p q s m = rw (s, m)
 
 -- a place that wasn't found is found
-module _ (marks : List Bool) (places : List Place) (p : Place) (are : AreMarked marks places) (s : p.state < 256) (m : p.mask < 16) (new : get_or marks (cell_of p) false ≡ false) where
+module _ (marks : List Bool) (places : List Place) (p : Place) (are : AreMarked marks places) (s : p.state < 256) (m : p.mask < 256) (new : get_or marks (cell_of p) false ≡ false) where
   inside : cell_of p < length marks
-  inside = let all : length marks ≡ 4096 = are.cells in let k : cell_of p < 4096 = omega (arith, s, m) in subst (λ n. cell_of p < n) (sym all) k
+  inside = let all : length marks ≡ 65536 = are.cells in let k : cell_of p < 65536 = omega (arith, s, m) in subst (λ n. cell_of p < n) (sym all) k
 
   abbrev marked : List Bool
   marked = set marks (cell_of p) true
@@ -64,7 +64,7 @@ module _ (marks : List Bool) (places : List Place) (p : Place) (are : AreMarked 
   abbrev longer : List Place
   longer = places ++ p ∷ []
 
-  told_at : (q : Place) → q.state < 256 → q.mask < 16 → (get_or marked (cell_of q) false ≡ true) ↔ Contains longer q
+  told_at : (q : Place) → q.state < 256 → q.mask < 256 → (get_or marked (cell_of q) false ≡ true) ↔ Contains longer q
   told_at q s' m' = elim (eqb_tells (cell_of q) (cell_of p)) [
     | inl (is, same) ↦
         let q_is : q ≡ p = same_place q p (omega (arith, same, m, m')) (omega (arith, same, m, m')) in (
@@ -81,10 +81,10 @@ module _ (marks : List Bool) (places : List Place) (p : Place) (are : AreMarked 
         )
   ]
 
-  small_at : (q : Place) → Contains longer q → (q.state < 256) × (q.mask < 16)
+  small_at : (q : Place) → Contains longer q → (q.state < 256) × (q.mask < 256)
   small_at q has = elim (Contains-append_cases places (p ∷ []) q has) [
     | inl before ↦ are.small q before
-    | inr last ↦ subst (λ x. (x.state < 256) × (x.mask < 16)) (sym (only p q last)) (s, m)
+    | inr last ↦ subst (λ x. (x.state < 256) × (x.mask < 256)) (sym (only p q last)) (s, m)
   ]
 
   not_before : Contains places p → ⊥

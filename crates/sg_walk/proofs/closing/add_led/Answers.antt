@@ -10,13 +10,13 @@ masks-init c = below_none _ _ _ _ c.args.found.now
 
 pub masks-preserved : goal.masks-preserved
 masks-preserved c =
-    let within : c.masks.mask < 2 ^ c.args.count = omega (arith, c.set_count-mask-end.ensures.value) in
+    let within : c.masks.number < 2 ^ c.args.count = omega (arith, c.set_count-number-end.ensures.value) in
     elim c.if-may_lead.branch [
-      | then-may_lead+in_ok-add w ↦ subst (AddsJust (Below (map (λ p. (p.0, p.1)) c.args.effects.now) c.args.count c.args.old c.args.state (c.masks.mask + 1)) c.args.found.now) (sym w.found-is)
-          (below_more _ _ _ _ c.masks.mask c.args.found.now c.masks.found w.add.new.self c.masks.invariant within (sym c.may_lead.ensures ∙ w.if-may_lead.true) w.in_ok-add.ensures.ok)
-      | else-may_lead w ↦ subst (AddsJust (Below (map (λ p. (p.0, p.1)) c.args.effects.now) c.args.count c.args.old c.args.state (c.masks.mask + 1)) c.args.found.now) (sym w.found-is)
-          (below_same _ _ _ _ c.masks.mask c.args.found.now c.masks.found c.masks.invariant (sym c.may_lead.ensures ∙ w.if-may_lead.false))
+      | then-may_lead+in_ok-add w ↦ subst (AddsJust (Below (map (λ p. (p.0, p.1)) c.args.effects.now) c.args.count c.args.old c.args.state (c.masks.number + 1)) c.args.found.now) (sym w.found-is)
+          (below_more _ _ _ _ c.masks.number c.args.found.now c.masks.found w.add.new.self c.masks.invariant within (sym c.may_lead.ensures ∙ w.if-may_lead.true) w.in_ok-add.ensures.ok)
+      | else-may_lead w ↦ subst (AddsJust (Below (map (λ p. (p.0, p.1)) c.args.effects.now) c.args.count c.args.old c.args.state (c.masks.number + 1)) c.args.found.now) (sym w.found-is)
+          (below_same _ _ _ _ c.masks.number c.args.found.now c.masks.found c.masks.invariant (sym c.may_lead.ensures ∙ w.if-may_lead.false))
     ]
 
 pub returns : goal.returns
-returns c = below_all _ _ _ _ c.masks.mask c.args.found.now c.masks.found (omega (arith, c.set_count-mask-end.ensures.value)) c.masks.invariant
+returns c = below_all _ _ _ _ c.masks.number c.args.found.now c.masks.found (omega (arith, c.set_count-number-end.ensures.value)) c.masks.invariant

@@ -15,4 +15,4 @@ invariant-places l = record {
 }
 
 abbrev pub decreases-places : goal.decreases-places
-decreases-places l = 4096 - l.next
+decreases-places l = 65536 - l.next

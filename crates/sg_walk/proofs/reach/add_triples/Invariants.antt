@@ -7,4 +7,4 @@ abbrev pub invariant-places : goal.invariant-places
 invariant-places l = AddsTriples l.made (take l.at l.found) l.initial.triples l.triples
 
 abbrev pub decreases-places : goal.decreases-places
-decreases-places l = 4096 - l.at
+decreases-places l = 65536 - l.at

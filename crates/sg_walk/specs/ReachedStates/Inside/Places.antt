@@ -29,7 +29,7 @@ pub record LeadsBy (i : Declared) (fun : ℕ) (p q : Place) : Type 0 where
 
 -- the cell of a place in the table of marks
 abbrev pub cell_of : Place → ℕ
-cell_of p = p.state * 16 + p.mask
+cell_of p = p.state * 256 + p.mask
 
 -- how many cells aren't marked
 abbrev pub unmarked : List Bool → ℕ
@@ -39,10 +39,10 @@ unmarked (false ∷ marks) = suc (unmarked marks)
 
 -- the places that were found, each once, are those that are marked
 pub record AreMarked (marks : List Bool) (places : List Place) : Type 0 where
-  pub cells : length marks ≡ 4096
-  pub told : (p : Place) → p.state < 256 → p.mask < 16 → (slice_index_or marks (cell_of p) false ≡ true) ↔ Contains places p
-  pub small : (p : Place) → Contains places p → (p.state < 256) × (p.mask < 16)
-  pub count : unmarked marks + length places ≡ 4096
+  pub cells : length marks ≡ 65536
+  pub told : (p : Place) → p.state < 256 → p.mask < 256 → (slice_index_or marks (cell_of p) false ≡ true) ↔ Contains places p
+  pub small : (p : Place) → Contains places p → (p.state < 256) × (p.mask < 256)
+  pub count : unmarked marks + length places ≡ 65536
   pub once : AreDistinct places
 
 -- a place was found already, or is found now and goes last

@@ -8,9 +8,10 @@ pub invariant_of-self-2 : goal.invariant_of-self-2
 invariant_of-self-2 c =
     let marks = c.self.inside.marks.items in
     let places = c.self.inside.places.items in
-    let cell : c.from.result * 16 + c.from-2.result ≡ cell_of c.args.place = omega (arith, c.from.ensures, c.from-2.ensures) in
-    let new : get_or marks (c.from.result * 16 + c.from-2.result) false ≡ false =
-    sym (ap (λ d. get_or marks (c.from.result * 16 + c.from-2.result) d) c.if-index.false) ∙ sym c.index.ensures ∙ c.if-index.false in
+    let cell : c.from.result * 256 + c.from-2.result ≡ cell_of c.args.place = omega (arith, c.from.ensures, c.from-2.ensures) in
+    let new : get_or marks (c.from.result * 256 + c.from-2.result) false ≡ false =
+    sym (ap (λ d. get_or marks (c.from.result * 256 + c.from-2.result) d) c.if-index.false) ∙ sym c.index.ensures ∙ c.if-index.false in
     let s : c.args.place.state < 256 = omega arith in
+    let m : c.args.place.mask < 256 = omega arith in
     rw (cell, c.in_ok-push.ensures.items)
-    (marked_more marks places c.args.place c.self.invariant s c.requires (ap (λ k. get_or marks k false) (sym cell) ∙ new))
+    (marked_more marks places c.args.place c.self.invariant s m (ap (λ k. get_or marks k false) (sym cell) ∙ new))
