@@ -2,7 +2,7 @@
 ghost use Rattle.std.specs.Prelude.{◌≡◌, ◌↔◌, Bool, List, length, IsTrue};
 ghost use Rattle.sg_facts.specs.Fields.{number_of};
 ghost use Rattle.sg_facts.specs.Walks.{Restores};
-ghost use Rattle.sg_walk.specs.Limits.{HasFewFields};
+ghost use Rattle.sg_facts.specs.Interface.{HasFewFields};
 ghost use Rattle.sg_walk.specs.Inside.Spots.{shown, leads, reaches};
 
 use crate::spot::{Goal, Spot};

@@ -1,6 +1,6 @@
 // The first walk of a given length.
 ghost use Rattle.std.specs.Prelude.{◌≡◌, ◌+◌, ◌<◌, ◌≤◌, ℕ, length, IfOk, IfSome, IfNone, OnOk};
-ghost use Rattle.sg_walk.specs.Limits.{HasFewFields};
+ghost use Rattle.sg_facts.specs.Interface.{HasFewFields};
 ghost use Rattle.sg_walk.specs.Inside.Spots.{shown};
 ghost use Rattle.sg_walk.specs.Inside.StepSets.{SamePairs};
 ghost use Rattle.sg_walk.specs.Inside.Search.{Extends, ExtendsBy, LeadsNowhere, LeadsNowhereBy, AreDead};

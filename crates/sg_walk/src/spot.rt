@@ -41,7 +41,8 @@ impl FieldState {
                 FieldState::Unset => FieldState::Good,
                 FieldState::Good | FieldState::Unknown => FieldState::Unknown,
             },
-            Effect::SetRet | Effect::AddRet | Effect::SubOne => FieldState::Unknown,
+            Effect::SetRet | Effect::AddRet | Effect::SubOne | Effect::SubRet =>
+                FieldState::Unknown,
             Effect::Clear => FieldState::Unset,
         }
     }

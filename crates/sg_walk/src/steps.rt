@@ -2,7 +2,7 @@
 ghost use Rattle.std.specs.Prelude.{◌≡◌, true, false, length, map, MatchOption};
 ghost use Rattle.sg_facts.specs.Interface.{steps_on};
 ghost use Rattle.sg_facts.specs.Walks.{unset, may_begin, may_go_on, first_spot, next_spot};
-ghost use Rattle.sg_walk.specs.Limits.{HasFewFields};
+ghost use Rattle.sg_facts.specs.Interface.{HasFewFields};
 ghost use Rattle.sg_walk.specs.Inside.Spots.{shown, shown_marks, is_goal};
 
 use crate::spot::{FieldState, Goal, Spot, marked, restores_number};
