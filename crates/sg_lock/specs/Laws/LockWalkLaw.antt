@@ -36,9 +36,9 @@ one_creation f is = first_makes lock_facts.funs refl f is
 one_step : (state f : ℕ) → has_pair lock_facts.steps state f ≡ true → (state ≡ 1) × (f ≡ 2)
 one_step state f is = one_pair 1 2 state f is
 
-module _ (declared : ℕ) (moves steps : List (ℕ × ℕ)) where
+module _ (own : Declared) where
   abbrev i : Declared
-  i = record { facts = lock_facts; declared = declared; moves = moves; steps = steps }
+  i = record own { facts = lock_facts }
 
   abbrev Given : Object → Call → List Value → Type 0
   Given held call old = IsAnsweredOk lock_facts lock_table held call old

@@ -44,9 +44,9 @@ none_passes : (test : Row → Bool) (low high : ℕ) (rows : List Row) → AreRo
 none_passes test low high [] are = refl
 none_passes test low high (r ∷ rows) are = ap (λ b. b || list_any test rows) are.2 ∙ none_passes test r.id high rows are.3
 
-module _ (declared : ℕ) (moves steps : List (ℕ × ℕ)) where
+module _ (own : Declared) where
   abbrev i : Declared
-  i = record { facts = mm_facts; declared = declared; moves = moves; steps = steps }
+  i = record own { facts = mm_facts }
 
   abbrev Given : Object → Call → List Value → Type 0
   Given held call old = IsAnsweredOk mm_facts mm_table held call old

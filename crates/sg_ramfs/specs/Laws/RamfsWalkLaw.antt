@@ -38,9 +38,9 @@ one_creation f is = first_makes ramfs_facts.funs refl f is
 one_step : (state f : ℕ) → has_pair ramfs_facts.steps state f ≡ true → f ≡ 4
 one_step state f is = (one_pair 1 4 state f is).1
 
-module _ (declared : ℕ) (moves steps : List (ℕ × ℕ)) where
+module _ (own : Declared) where
   abbrev i : Declared
-  i = record { facts = ramfs_facts; declared = declared; moves = moves; steps = steps }
+  i = record own { facts = ramfs_facts }
 
   abbrev Given : Object → Call → List Value → Type 0
   Given held call old = IsAnsweredOk ramfs_facts ramfs_table held call old

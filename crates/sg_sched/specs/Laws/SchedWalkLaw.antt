@@ -56,9 +56,9 @@ most_rank a (r ∷ rows) =
     let own = rank_in r.fields in
     omega (arith, rest, own)
 
-module _ (declared : ℕ) (moves steps : List (ℕ × ℕ)) where
+module _ (own : Declared) where
   abbrev i : Declared
-  i = record { facts = sched_facts; declared = declared; moves = moves; steps = steps }
+  i = record own { facts = sched_facts }
 
   abbrev Given : Object → Call → List Value → Type 0
   Given held call old = IsAnsweredOk sched_facts sched_table held call old
