@@ -203,9 +203,9 @@ module _ (services : List Facts) (tree : Tree) (facts : Facts) (shape : is_shape
   abbrev count : ℕ
   count = length facts.funs
 
-  parts : (nat_le count 32 ≡ true) × (nat_le (length facts.fields) 4 ≡ true) × (all_differ (map (λ f. f.name) facts.funs) ≡ true)
+  parts : (nat_le count 32 ≡ true) × (nat_le (length facts.fields) 8 ≡ true) × (all_differ (map (λ f. f.name) facts.funs) ≡ true)
       × (list_all (are_funs count) facts.moves ≡ true) × (list_all (are_funs count) facts.steps ≡ true) × (list_all (λ f. leaves_fun count f.leaves) facts.funs ≡ true)
-  parts = all_six (nat_le count 32) (nat_le (length facts.fields) 4) (all_differ (map (λ f. f.name) facts.funs)) (list_all (are_funs count) facts.moves)
+  parts = all_six (nat_le count 32) (nat_le (length facts.fields) 8) (all_differ (map (λ f. f.name) facts.funs)) (list_all (are_funs count) facts.moves)
       (list_all (are_funs count) facts.steps) (list_all (λ f. leaves_fun count f.leaves) facts.funs) shape
 
   -- ---- what isn't wrong

@@ -27,9 +27,9 @@ pub whole : (shape : Shape) (statements : List Statement) (declared : ℕ) (move
     → declared ≡ number_of (map (λ f. has_proto statements f.name) (map fun_of_shape shape.funs.now))
     → moves ≡ filter (λ p. says_of statements (codes "sm_transition") (fun_at (facts_of shape).funs p.0).name (fun_at (facts_of shape).funs p.1).name) shape.moves.now
     → steps ≡ filter (λ p. says_of statements (codes "sm_recover") (fun_at (facts_of shape).funs p.0).name (fun_at (facts_of shape).funs p.1).name) shape.steps.now
-    → record { facts = facts_of shape; declared = declared; moves = moves; steps = steps } ≡ interface_of (facts_of shape) statements
+    → record { facts = facts_of shape; declared = declared; version = 1; eager = false; moves = moves; steps = steps } ≡ interface_of (facts_of shape) statements
 whole shape statements declared moves steps d m s =
-    let i : ℕ → List (ℕ × ℕ) → List (ℕ × ℕ) → Declared = λ n ms ss. record { facts = facts_of shape; declared = n; moves = ms; steps = ss } in
+    let i : ℕ → List (ℕ × ℕ) → List (ℕ × ℕ) → Declared = λ n ms ss. record { facts = facts_of shape; declared = n; version = 1; eager = false; moves = ms; steps = ss } in
     let P : ℕ × ℕ → Bool = λ p. says_of statements (codes "sm_transition") (fun_at (facts_of shape).funs p.0).name (fun_at (facts_of shape).funs p.1).name in
     let R : ℕ × ℕ → Bool = λ p. says_of statements (codes "sm_recover") (fun_at (facts_of shape).funs p.0).name (fun_at (facts_of shape).funs p.1).name in
     let D : ℕ = number_of (map (λ f. has_proto statements f.name) (map fun_of_shape shape.funs.now)) in

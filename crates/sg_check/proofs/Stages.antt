@@ -54,16 +54,16 @@ shape_of (s ∷ services) name facts all is =
     by_name (bytes_eq s.name name) s facts (service_of services name) is parts.0 (shape_of services name facts parts.1)
 
 module _ (facts : Facts) (shape : is_shape facts ≡ true) where
-  limits : (nat_le (length facts.funs) 32 ≡ true) × (nat_le (length facts.fields) 4 ≡ true)
+  limits : (nat_le (length facts.funs) 32 ≡ true) × (nat_le (length facts.fields) 8 ≡ true)
   limits =
-      let six = all_six (nat_le (length facts.funs) 32) (nat_le (length facts.fields) 4) (all_differ (map (λ f. f.name) facts.funs)) (list_all (are_funs (length facts.funs)) facts.moves)
+      let six = all_six (nat_le (length facts.funs) 32) (nat_le (length facts.fields) 8) (all_differ (map (λ f. f.name) facts.funs)) (list_all (are_funs (length facts.funs)) facts.moves)
       (list_all (are_funs (length facts.funs)) facts.steps) (list_all (λ f. leaves_fun (length facts.funs) f.leaves) facts.funs) shape in
       (six.0, six.1)
 
   pub few_funs : length facts.funs ≤ 32
   few_funs = let l = limits.0 in grind (arith, nat_tests, l)
 
-  pub few_fields : length facts.fields ≤ 4
+  pub few_fields : length facts.fields ≤ 8
   few_fields = let l = limits.1 in grind (arith, nat_tests, l)
 
   -- what descriptors can come to was made by a function that is declared

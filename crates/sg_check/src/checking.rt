@@ -2,7 +2,7 @@
 ghost use Rattle.std.specs.Prelude.{◌≡◌, ℕ, true, map, OnOk};
 ghost use Rattle.std.specs.Result.{MatchResult};
 ghost use Rattle.sg_facts.specs.Facts.{facts_of};
-ghost use Rattle.sg_walk.specs.ReachedStates.Limits.{HasFourFields};
+ghost use Rattle.sg_facts.specs.Interface.{HasFewFields};
 ghost use Rattle.sg_check_statements.specs.Faults.{IsAccepted, IsFault};
 ghost use Rattle.sg_check_statements.specs.Stages.{IsFirstFault};
 ghost use Rattle.sg_check_statements.specs.declared.fault.CheckKind.{CheckKind as Kind};
@@ -78,7 +78,7 @@ fn funs_reached(alloc: Global, candidate: &Candidate, tree: &Tree) -> Result<(),
 
 // Each state that descriptors can come to has its walks.
 fn walks_fit(alloc: Global, candidate: &Candidate, tree: &Tree) -> Result<(), CheckError>
-    requires few { HasFourFields candidate.now.iface }
+    requires few { HasFewFields candidate.now.iface }
     requires triples { AreTriples candidate.now.iface candidate.now.triples }
     ensures stage { IsStageOf tree.now candidate.now 11 result }
     ensures known { OnOk result (HasWalks candidate.now.iface) }

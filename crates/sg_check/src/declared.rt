@@ -24,6 +24,8 @@ pub fn interface_of(
     Ok(Interface {
         shape: *shape,
         declared: declared_in(shape.funs, &protos),
+        version: 1,
+        eager: false,
         moves: listed(alloc, shape, shape.moves, b"sm_transition", statements)?,
         steps: listed(alloc, shape, shape.steps, b"sm_recover", statements)?,
     })

@@ -1,6 +1,6 @@
 // The states that have no walk.
 ghost use Rattle.std.specs.Prelude.{◌≡◌, ◌≤◌, length, IfOk};
-ghost use Rattle.sg_walk.specs.ReachedStates.Limits.{HasFourFields};
+ghost use Rattle.sg_facts.specs.Interface.{HasFewFields};
 ghost use Rattle.sg_check.specs.Inside.Reached.{AreTriples};
 ghost use Rattle.sg_check.specs.Inside.Stuck.{AreStuck, TellsWalk};
 
@@ -12,7 +12,7 @@ use std::alloc::Global;
 /// The states in which some descriptor has no walk, where descriptors come to these triples. It looks for one walk for each
 /// triple.
 pub fn stuck_of(alloc: Global, iface: &Interface, triples: &[Triple]) -> Result<Numbers, NoMemory>
-    requires few { HasFourFields iface.now }
+    requires few { HasFewFields iface.now }
     requires all { AreTriples iface.now triples.now }
     ensures { IfOk result (AreStuck iface.now) }
 {
@@ -27,7 +27,7 @@ pub fn stuck_of(alloc: Global, iface: &Interface, triples: &[Triple]) -> Result<
 
 // Whether some walk restores a triple.
 fn has_walk(alloc: Global, iface: &Interface, triple: &Triple) -> Result<bool, NoMemory>
-    requires few { HasFourFields iface.now }
+    requires few { HasFewFields iface.now }
     ensures { IfOk result (TellsWalk iface.now triple.now) }
 {
     let walk = shortest(alloc, iface, triple.made, triple.state, triple.mask)?;

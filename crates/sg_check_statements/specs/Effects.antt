@@ -3,7 +3,7 @@ use Rattle.std.specs.Prelude.{ℕ, ◌+◌, ◌==◌, Bool, true, false, ◌&&�
 use Rattle.std.specs.List.{list_any, list_all, flat_map}
 use Rattle.std.specs.Str.{bytes_eq}
 use Rattle.sg_facts.specs.declared.shape.Effect.{Effect}
-use Rattle.sg_facts.specs.declared.shape.Effect.TheVariants.{SetCaller, SetArg, AddArg, SetRet, AddRet, Clear, SubOne}
+use Rattle.sg_facts.specs.declared.shape.Effect.TheVariants.{SetCaller, SetArg, AddArg, SetRet, AddRet, Clear, SubOne, SubRet}
 use Rattle.sg_facts.specs.Facts.{Facts, Fun}
 use Rattle.sg_facts.specs.Words.{field_name}
 use Rattle.sg_parse.specs.declared.tree.Param.{Param}
@@ -75,6 +75,7 @@ same_effect SetRet SetRet = true
 same_effect AddRet AddRet = true
 same_effect Clear Clear = true
 same_effect SubOne SubOne = true
+same_effect SubRet SubRet = true
 same_effect _ _ = false
 
 -- whether an effect on a field of this name is among these

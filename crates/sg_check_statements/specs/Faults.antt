@@ -1,5 +1,5 @@
 -- Which interface a text declares, and what is first wrong with it.
-use Rattle.std.specs.Prelude.{ℕ, ◌≡◌, ◌<◌, List, ◌∷◌, ◌++◌, None, Some, codes, filter, map}
+use Rattle.std.specs.Prelude.{ℕ, ◌≡◌, ◌<◌, false, List, ◌∷◌, ◌++◌, None, Some, codes, filter, map}
 use Rattle.sg_facts.specs.Facts.{Facts, fun_at}
 use Rattle.sg_facts.specs.Fields.{number_of as number_of_bits}
 use Rattle.sg_facts.specs.Fits.{Fits}
@@ -17,6 +17,8 @@ abbrev pub interface_of : Facts → List Statement → Declared
 interface_of facts statements = record {
   facts = facts;
   declared = number_of_bits (map (λ f. has_proto statements f.name) facts.funs);
+  version = 1;
+  eager = false;
   moves = filter (λ p. says_of statements (codes "sm_transition") (fun_at facts.funs p.0).name (fun_at facts.funs p.1).name) facts.moves;
   steps = filter (λ p. says_of statements (codes "sm_recover") (fun_at facts.funs p.0).name (fun_at facts.funs p.1).name) facts.steps;
 }

@@ -15,7 +15,7 @@ pub reachable-requires : goal.reachable-requires
 reachable-requires c =
     let facts = facts_of c.in_ok-shape.shape.now in
     let shape : is_shape facts ≡ true = shape_of (map facts_of c.args.shapes.now) c.args.tree.now.facts.service.bytes facts c.requires c.in_ok-shape.ensures.service in
-    record { few = subst (λ i. length i.facts.fields ≤ 4) (sym c.in_ok-iface.ensures) (few_fields facts shape) }
+    record { few = subst (λ i. length i.facts.fields ≤ 8) (sym c.in_ok-iface.ensures) (few_fields facts shape) }
 
 pub returns : goal.returns
 returns c =
