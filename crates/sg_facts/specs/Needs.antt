@@ -4,6 +4,7 @@ use Rattle.std.specs.declared.option.Option.{Option}
 use Rattle.sg_base.specs.declared.call.Call.{Call}
 use Rattle.sg_facts.specs.declared.row.Row.{Row}
 use Rattle.sg_facts.specs.Facts.{Facts, fun_at}
+use Rattle.sg_facts.specs.Interface.{Declared}
 use Rattle.sg_facts.specs.Track.{is_ancestor}
 use Rattle.sg_facts.specs.Object.{Object, path_of}
 
@@ -21,4 +22,15 @@ abbrev pub needs : Facts → Object → Call → Needs
 needs facts o call = record {
   ids = map (λ r. r.id) (filter (is_needed facts o.rows call) o.rows);
   file = if (fun_at facts.funs call.fun).uses_file then Some (path_of o.rows call.desc) else None;
+}
+
+-- whether a live row has to be whole before a call is served: the call needs it, or the interface rebuilds every live row first
+abbrev pub is_wanted : Declared → List Row → Call → Row → Bool
+is_wanted i rows call r = i.eager || is_needed i.facts rows call r
+
+-- what has to be there before a call is served
+abbrev pub wanted : Declared → Object → Call → Needs
+wanted i o call = record {
+  ids = map (λ r. r.id) (filter (is_wanted i o.rows call) o.rows);
+  file = if (fun_at i.facts.funs call.fun).uses_file then Some (path_of o.rows call.desc) else None;
 }
