@@ -24,7 +24,7 @@ use Rattle.sg_facts.specs.Facts.{Facts, is_visible}
 use Rattle.sg_facts.specs.Guard.{guard}
 use Rattle.sg_facts.specs.Interface.{Declared}
 use Rattle.sg_facts.specs.Legal.{Table}
-use Rattle.sg_facts.specs.Needs.{is_needed, needs}
+use Rattle.sg_facts.specs.Needs.{is_needed, needs, wanted}
 use Rattle.sg_facts.specs.Object.{Object, file_at, patch_of}
 use Rattle.sg_facts.specs.Tables.{AreTables}
 use Rattle.sg_facts.specs.Trace.{Boot, Run}
@@ -251,22 +251,22 @@ IsLoad o key outcome = of (replied_of outcome)
     of (Some (reply, Some patch)) = (patch.key ≡ key) × (patch.from ≡ 0) × (patch.bytes ≡ file_at o.files key) × (patch.bytes ≢ [])
     of _ = ⊥
 
--- what is rebuilt is needed by an admitted call of the client in whose turn it is rebuilt, and is the least that isn't whole
+-- what is rebuilt is wanted for an admitted call of the client in whose turn it is rebuilt, and is the least that isn't whole
 pub record IsRebuiltFor (i : Declared) (walks : List WalkLine) (history : List Entry) (unanswered : List Call) (p : Position) (client id : ℕ) : Type 0 where
   pub call : Call
   pub admitted : IsAdmitted i history unanswered p client call
-  pub least : find (λ id. not (is_whole_at i.facts walks history p id)) (needs i.facts (object_before i.facts history p) call).ids ≡ Some id
+  pub least : find (λ id. not (is_whole_at i.facts walks history p id)) (wanted i (object_before i.facts history p) call).ids ≡ Some id
 
--- what is loaded is needed, once all needed rows are whole, isn't empty, and isn't in this boot yet
+-- what is loaded is needed, once all wanted rows are whole, isn't empty, and isn't in this boot yet
 pub record IsLoadedFor (i : Declared) (walks : List WalkLine) (history : List Entry) (unanswered : List Call) (p : Position) (client : ℕ) (key : List ℕ) : Type 0 where
   pub call : Call
   pub admitted : IsAdmitted i history unanswered p client call
-  pub rows : list_all (is_whole_at i.facts walks history p) (needs i.facts (object_before i.facts history p) call).ids ≡ true
+  pub rows : list_all (is_whole_at i.facts walks history p) (wanted i (object_before i.facts history p) call).ids ≡ true
   pub file : (needs i.facts (object_before i.facts history p) call).file ≡ Some key
   pub absent : list_any (λ item. is_patch_at key item.outcome) p.front ≡ false
   pub whole : IsLoad (object_before i.facts history p) key p.item.outcome
 
--- an item was due: a row or a file was brought back because a call that was admitted needs it, and a client's call is the one that
+-- an item was due: a row or a file was brought back because a call that was admitted wants it, and a client's call is the one that
 -- was, so that each client's items stand in its own order
 abbrev pub IsDemanded : Declared → List WalkLine → List Entry → List Call → Position → Tag → Type 0
 IsDemanded i walks history unanswered p (Walk id k client) = IsRebuiltFor i walks history unanswered p client id
@@ -280,19 +280,19 @@ abbrev pub IsAlikeTo : List (ℕ × ℕ) → Row → Option Row → Type 0
 IsAlikeTo names r None = ⊥
 IsAlikeTo names r (Some v) = IsAlike names r v
 
--- when a client's call reaches the service, all that it needs is whole there and as it is tracked
-pub record IsTracked (facts : Facts) (walks : List WalkLine) (history : List Entry) (p : Position) : Type 0 where
-  pub whole : list_all (is_whole_at facts walks history p) (needs facts (object_before facts history p) p.item.shown).ids ≡ true
-  pub rows : Each (λ r. IsAlikeTo (names_at facts history p.front) r (row_at (value_at facts p.front).rows (named (names_at facts history p.front) r.id)))
-      (filter (is_needed facts (object_before facts history p).rows p.item.shown) (object_before facts history p).rows)
-  pub real : p.item.real ≡ named (names_at facts history p.front) p.item.shown.desc
-  pub file : SameFile (object_before facts history p) (value_at facts p.front) p.item.shown.desc p.item.real (needs facts (object_before facts history p) p.item.shown).file
+-- when a client's call reaches the service, all that is wanted for it is whole there, and all that it needs is as it is tracked
+pub record IsTracked (i : Declared) (walks : List WalkLine) (history : List Entry) (p : Position) : Type 0 where
+  pub whole : list_all (is_whole_at i.facts walks history p) (wanted i (object_before i.facts history p) p.item.shown).ids ≡ true
+  pub rows : Each (λ r. IsAlikeTo (names_at i.facts history p.front) r (row_at (value_at i.facts p.front).rows (named (names_at i.facts history p.front) r.id)))
+      (filter (is_needed i.facts (object_before i.facts history p).rows p.item.shown) (object_before i.facts history p).rows)
+  pub real : p.item.real ≡ named (names_at i.facts history p.front) p.item.shown.desc
+  pub file : SameFile (object_before i.facts history p) (value_at i.facts p.front) p.item.shown.desc p.item.real (needs i.facts (object_before i.facts history p) p.item.shown).file
 
 -- an item of a client reached the service where what it needs is as tracked; nothing is asked here of other items
-abbrev pub IsTrackedAt : Facts → List WalkLine → List Entry → Position → Tag → Type 0
-IsTrackedAt facts walks history p (Client client seq) = IsTracked facts walks history p
-IsTrackedAt facts walks history p (Walk id k client) = Unit {0}
-IsTrackedAt facts walks history p (Load key client) = Unit {0}
+abbrev pub IsTrackedAt : Declared → List WalkLine → List Entry → Position → Tag → Type 0
+IsTrackedAt i walks history p (Client client seq) = IsTracked i walks history p
+IsTrackedAt i walks history p (Walk id k client) = Unit {0}
+IsTrackedAt i walks history p (Load key client) = Unit {0}
 
 -- ---- points
 
@@ -424,11 +424,11 @@ pub record IsRecovered (s : Stubs) (history : List Entry) (run : Run) (unanswere
   pub served : IsServed s.interface.facts history run unanswered
   -- no row is rebuilt by other calls, from other values, for another caller or before its parent
   pub walks : Each (λ p. IsWalked s.interface.facts s.walks history p p.item.tag) (places_of run)
-  -- no row and no file is brought back that no call needs then, or that is there; no call is served out of its client's order, or
+  -- no row and no file is brought back that no call wants then, or that is there; no call is served out of its client's order, or
   -- that the guard refuses
   pub on_demand : Each (λ p. IsDemanded s.interface s.walks history unanswered p p.item.tag) (places_of run)
   -- no call reaches the service where what it needs is missing there, or isn't as it is tracked
-  pub tracked_state : Each (λ p. IsTrackedAt s.interface.facts s.walks history p p.item.tag) (places_of run)
+  pub tracked_state : Each (λ p. IsTrackedAt s.interface s.walks history p p.item.tag) (places_of run)
   -- no point is left out or asked twice, and no stop is at another than the last that was asked
   pub points : (nat_lt run.points last_count ≡ true) → ArePointsOf true s.interface.facts s.ask s.parts 0 run.boots run.points
   -- no reply that was held when the service stopped is committed afterwards
