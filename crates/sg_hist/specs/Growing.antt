@@ -92,13 +92,13 @@ pub record IsRecovering (s : Stubs) (history : List Entry) (run : Run) (unanswer
   pub served : IsServed s.interface.facts history run unanswered
   pub walks : Each (λ p. IsWalked s.interface.facts s.walks history p p.item.tag) (places_of run)
   pub on_demand : Each (λ p. IsDemanded s.interface s.walks history unanswered p p.item.tag) (places_of run)
-  pub tracked_state : Each (λ p. IsTrackedAt s.interface.facts s.walks history p p.item.tag) (places_of run)
+  pub tracked_state : Each (λ p. IsTrackedAt s.interface s.walks history p p.item.tag) (places_of run)
 
 -- an item is the next call of a walk, is needed, and finds what it needs as it is tracked, each where it is asked of it
 pub record IsSettled (s : Stubs) (history : List Entry) (unanswered : List Call) (p : Position) : Type 0 where
   pub walk : IsWalked s.interface.facts s.walks history p p.item.tag
   pub demand : IsDemanded s.interface s.walks history unanswered p p.item.tag
-  pub state : IsTrackedAt s.interface.facts s.walks history p p.item.tag
+  pub state : IsTrackedAt s.interface s.walks history p p.item.tag
 
 -- what is asked of an item when it is noted: it is noted in a boot that wasn't stopped, answered by the table, and settled
 pub record IsNextItem (s : Stubs) (history : List Entry) (unanswered : List Call) (p : Position) : Type 0 where

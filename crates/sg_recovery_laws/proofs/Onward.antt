@@ -68,8 +68,8 @@ noted_stays s h b boots points later u u' item none hidden kept next r =
       on_demand = with_last item last (λ p. IsDemanded s.interface s.walks h u p p.item.tag) (λ p. IsDemanded s.interface s.walks h u' p p.item.tag) before now more
           (λ p q g d. subst (λ v. IsDemanded s.interface s.walks h u' v v.item.tag) (again_is item p q g) (demanded_same s.interface s.walks h u h u' p q.rest q.newer (same p q g) d))
           next.settled.demand r.on_demand;
-      tracked_state = with_last item last (λ p. IsTrackedAt s.interface.facts s.walks h p p.item.tag) (λ p. IsTrackedAt s.interface.facts s.walks h p p.item.tag) before now more
-          (λ p q g t. subst (λ v. IsTrackedAt s.interface.facts s.walks h v v.item.tag) (again_is item p q g) (tracked_same s.interface.facts s.walks h u h u' p q.rest q.newer (same p q g) t))
+      tracked_state = with_last item last (λ p. IsTrackedAt s.interface s.walks h p p.item.tag) (λ p. IsTrackedAt s.interface s.walks h p p.item.tag) before now more
+          (λ p q g t. subst (λ v. IsTrackedAt s.interface s.walks h v v.item.tag) (again_is item p q g) (tracked_same s.interface s.walks h u h u' p q.rest q.newer (same p q g) t))
           next.settled.state r.tracked_state;
     }
   where
@@ -178,9 +178,9 @@ committed_stays s h b boots points later u u' item e none of_it last_call kept n
       on_demand = with_last item last (λ p. Each (IsGiven s.interface.facts h) p.front × IsDemanded s.interface s.walks h u p p.item.tag) (λ p. IsDemanded s.interface s.walks h' u' p p.item.tag) before now more
           (λ p q g w. subst (λ v. IsDemanded s.interface s.walks h' u' v v.item.tag) (again_is item p q g) (demanded_same s.interface s.walks h u h' u' p q.rest q.newer (same p q g w.0) w.1))
           next.settled.demand (each_both (λ p. Each (IsGiven s.interface.facts h) p.front) (λ p. IsDemanded s.interface s.walks h u p p.item.tag) before fronts r.on_demand);
-      tracked_state = with_last item last (λ p. Each (IsGiven s.interface.facts h) p.front × IsTrackedAt s.interface.facts s.walks h p p.item.tag) (λ p. IsTrackedAt s.interface.facts s.walks h' p p.item.tag) before now more
-          (λ p q g w. subst (λ v. IsTrackedAt s.interface.facts s.walks h' v v.item.tag) (again_is item p q g) (tracked_same s.interface.facts s.walks h u h' u' p q.rest q.newer (same p q g w.0) w.1))
-          next.settled.state (each_both (λ p. Each (IsGiven s.interface.facts h) p.front) (λ p. IsTrackedAt s.interface.facts s.walks h p p.item.tag) before fronts r.tracked_state);
+      tracked_state = with_last item last (λ p. Each (IsGiven s.interface.facts h) p.front × IsTrackedAt s.interface s.walks h p p.item.tag) (λ p. IsTrackedAt s.interface s.walks h' p p.item.tag) before now more
+          (λ p q g w. subst (λ v. IsTrackedAt s.interface s.walks h' v v.item.tag) (again_is item p q g) (tracked_same s.interface s.walks h u h' u' p q.rest q.newer (same p q g w.0) w.1))
+          next.settled.state (each_both (λ p. Each (IsGiven s.interface.facts h) p.front) (λ p. IsTrackedAt s.interface s.walks h p p.item.tag) before fronts r.tracked_state);
     }
   where
     named : (p : Position) → Each (IsGiven s.interface.facts h) p.front × IsGiven s.interface.facts h p.item → IsNamed s.interface.facts h (h ++ e ∷ []) p
@@ -234,8 +234,8 @@ refused_stays s h run u u' e guards kept r =
           (λ p w. walked_same s.interface.facts s.walks h u h' u' p p.rest p.newer (same p) w) r.walks;
       on_demand = each_map (λ p. IsDemanded s.interface s.walks h u p p.item.tag) (λ p. IsDemanded s.interface s.walks h' u' p p.item.tag) (places_of run)
           (λ p w. demanded_same s.interface s.walks h u h' u' p p.rest p.newer (same p) w) r.on_demand;
-      tracked_state = each_map (λ p. IsTrackedAt s.interface.facts s.walks h p p.item.tag) (λ p. IsTrackedAt s.interface.facts s.walks h' p p.item.tag) (places_of run)
-          (λ p w. tracked_same s.interface.facts s.walks h u h' u' p p.rest p.newer (same p) w) r.tracked_state;
+      tracked_state = each_map (λ p. IsTrackedAt s.interface s.walks h p p.item.tag) (λ p. IsTrackedAt s.interface s.walks h' p p.item.tag) (places_of run)
+          (λ p w. tracked_same s.interface s.walks h u h' u' p p.rest p.newer (same p) w) r.tracked_state;
     }
   where
     later : (p : Position) → IsCommitted s.interface.facts h p → IsCommitted s.interface.facts (h ++ e ∷ []) p
@@ -283,11 +283,11 @@ held_stays s h run u u' e held last kept behind_it r =
       };
       walks = each_map (λ p. IsSettled s h' u' p) (λ p. IsWalked s.interface.facts s.walks h' p p.item.tag) ps (λ p is. is.walk) now;
       on_demand = each_map (λ p. IsSettled s h' u' p) (λ p. IsDemanded s.interface s.walks h' u' p p.item.tag) ps (λ p is. is.demand) now;
-      tracked_state = each_map (λ p. IsSettled s h' u' p) (λ p. IsTrackedAt s.interface.facts s.walks h' p p.item.tag) ps (λ p is. is.state) now;
+      tracked_state = each_map (λ p. IsSettled s h' u' p) (λ p. IsTrackedAt s.interface s.walks h' p p.item.tag) ps (λ p is. is.state) now;
     }
   where
     settled_each : (ps : List Position) → Each (λ p. IsWalked s.interface.facts s.walks h p p.item.tag) ps → Each (λ p. IsDemanded s.interface s.walks h u p p.item.tag) ps
-        → Each (λ p. IsTrackedAt s.interface.facts s.walks h p p.item.tag) ps → Each (λ p. IsSettled s h u p) ps
+        → Each (λ p. IsTrackedAt s.interface s.walks h p p.item.tag) ps → Each (λ p. IsSettled s h u p) ps
     settled_each [] walks demands states = tt
     settled_each (p ∷ ps) walks demands states = (record { walk = walks.0; demand = demands.0; state = states.0 }, settled_each ps walks.1 demands.1 states.1)
 
@@ -301,7 +301,7 @@ held_stays s h run u u' e held last kept behind_it r =
             record {
               walk = walked_same s.interface.facts s.walks h u (h ++ e ∷ []) u' p p.rest p.newer same has.1.1.walk;
               demand = demanded_same s.interface s.walks h u (h ++ e ∷ []) u' p p.rest p.newer same has.1.1.demand;
-              state = tracked_same s.interface.facts s.walks h u (h ++ e ∷ []) u' p p.rest p.newer same has.1.1.state;
+              state = tracked_same s.interface s.walks h u (h ++ e ∷ []) u' p p.rest p.newer same has.1.1.state;
             }
 
 -- ---- a call more, a stop, a boot
@@ -369,7 +369,7 @@ same_places s h run later u same booted stopped r = record {
   };
   walks = subst (Each (λ p. IsWalked s.interface.facts s.walks h p p.item.tag)) (sym same) r.walks;
   on_demand = subst (Each (λ p. IsDemanded s.interface s.walks h u p p.item.tag)) (sym same) r.on_demand;
-  tracked_state = subst (Each (λ p. IsTrackedAt s.interface.facts s.walks h p p.item.tag)) (sym same) r.tracked_state;
+  tracked_state = subst (Each (λ p. IsTrackedAt s.interface s.walks h p p.item.tag)) (sym same) r.tracked_state;
 }
 
 pub struck_stays : (s : Stubs) (h : List Entry) (boots : List Boot) (points later stop : ℕ) (u : List Call)

@@ -14,7 +14,7 @@ use Rattle.sg_facts.specs.Alike.{SameFile, named}
 use Rattle.sg_facts.specs.Facts.{Facts}
 use Rattle.sg_facts.specs.Guard.{guard}
 use Rattle.sg_facts.specs.Interface.{Declared}
-use Rattle.sg_facts.specs.Needs.{is_needed, needs}
+use Rattle.sg_facts.specs.Needs.{is_needed, needs, wanted}
 use Rattle.sg_facts.specs.Object.{object_of}
 use Rattle.sg_facts.specs.Track.{row_at}
 use Rattle.sg_hist.specs.Growing.{AreGrown, IsGrown}
@@ -92,38 +92,38 @@ demanded_same i walks h u h' u' p r n same d = by p.item.tag d
     by (Walk id k client) d = record {
       call = d.call;
       admitted = admitted client d.call d.admitted;
-      least = subst (λ o. find (λ x. not (is_whole_at i.facts walks h' (again p r n) x)) (needs i.facts o d.call).ids ≡ Some id) (sym same.object)
-          (find_same (λ x. not (is_whole_at i.facts walks h' (again p r n) x)) (λ x. not (is_whole_at i.facts walks h p x)) (needs i.facts (object_before i.facts h p) d.call).ids
+      least = subst (λ o. find (λ x. not (is_whole_at i.facts walks h' (again p r n) x)) (wanted i o d.call).ids ≡ Some id) (sym same.object)
+          (find_same (λ x. not (is_whole_at i.facts walks h' (again p r n) x)) (λ x. not (is_whole_at i.facts walks h p x)) (wanted i (object_before i.facts h p) d.call).ids
           (λ x. ap not (same.whole x)) ∙ d.least);
     }
     by (Load key client) d = record {
       call = d.call;
       admitted = admitted client d.call d.admitted;
-      rows = subst (λ o. list_all (is_whole_at i.facts walks h' (again p r n)) (needs i.facts o d.call).ids ≡ true) (sym same.object)
-          (all_same (is_whole_at i.facts walks h' (again p r n)) (is_whole_at i.facts walks h p) (needs i.facts (object_before i.facts h p) d.call).ids same.whole ∙ d.rows);
+      rows = subst (λ o. list_all (is_whole_at i.facts walks h' (again p r n)) (wanted i o d.call).ids ≡ true) (sym same.object)
+          (all_same (is_whole_at i.facts walks h' (again p r n)) (is_whole_at i.facts walks h p) (wanted i (object_before i.facts h p) d.call).ids same.whole ∙ d.rows);
       file = subst (λ o. (needs i.facts o d.call).file ≡ Some key) (sym same.object) d.file;
       absent = d.absent;
       whole = subst (λ o. IsLoad o key p.item.outcome) (sym same.object) d.whole;
     }
     by (Client client seq) d = admitted client p.item.shown d
 
-pub tracked_same : (facts : Facts) (walks : List WalkLine) (h : List Entry) (u : List Call) (h' : List Entry) (u' : List Call) (p : Position) (r n : List Item)
-    → IsSame facts walks h u h' u' p r n → IsTrackedAt facts walks h p p.item.tag → IsTrackedAt facts walks h' (again p r n) p.item.tag
-tracked_same facts walks h u h' u' p r n same t = by p.item.tag t
+pub tracked_same : (i : Declared) (walks : List WalkLine) (h : List Entry) (u : List Call) (h' : List Entry) (u' : List Call) (p : Position) (r n : List Item)
+    → IsSame i.facts walks h u h' u' p r n → IsTrackedAt i walks h p p.item.tag → IsTrackedAt i walks h' (again p r n) p.item.tag
+tracked_same i walks h u h' u' p r n same t = by p.item.tag t
   where
-    state : IsTracked facts walks h p → IsTracked facts walks h' (again p r n)
+    state : IsTracked i walks h p → IsTracked i walks h' (again p r n)
     state t = record {
-      whole = subst (λ o. list_all (is_whole_at facts walks h' (again p r n)) (needs facts o p.item.shown).ids ≡ true) (sym same.object)
-          (all_same (is_whole_at facts walks h' (again p r n)) (is_whole_at facts walks h p) (needs facts (object_before facts h p) p.item.shown).ids same.whole ∙ t.whole);
-      rows = subst (λ o. Each (λ x. IsAlikeTo (names_at facts h' p.front) x (row_at (value_at facts p.front).rows (named (names_at facts h' p.front) x.id)))
-          (filter (is_needed facts o.rows p.item.shown) o.rows)) (sym same.object)
-          (subst (λ ns. Each (λ x. IsAlikeTo ns x (row_at (value_at facts p.front).rows (named ns x.id)))
-          (filter (is_needed facts (object_before facts h p).rows p.item.shown) (object_before facts h p).rows)) (sym same.names) t.rows);
+      whole = subst (λ o. list_all (is_whole_at i.facts walks h' (again p r n)) (wanted i o p.item.shown).ids ≡ true) (sym same.object)
+          (all_same (is_whole_at i.facts walks h' (again p r n)) (is_whole_at i.facts walks h p) (wanted i (object_before i.facts h p) p.item.shown).ids same.whole ∙ t.whole);
+      rows = subst (λ o. Each (λ x. IsAlikeTo (names_at i.facts h' p.front) x (row_at (value_at i.facts p.front).rows (named (names_at i.facts h' p.front) x.id)))
+          (filter (is_needed i.facts o.rows p.item.shown) o.rows)) (sym same.object)
+          (subst (λ ns. Each (λ x. IsAlikeTo ns x (row_at (value_at i.facts p.front).rows (named ns x.id)))
+          (filter (is_needed i.facts (object_before i.facts h p).rows p.item.shown) (object_before i.facts h p).rows)) (sym same.names) t.rows);
       real = t.real ∙ ap (λ ns. named ns p.item.shown.desc) (sym same.names);
-      file = subst (λ o. SameFile o (value_at facts p.front) p.item.shown.desc p.item.real (needs facts o p.item.shown).file) (sym same.object) t.file;
+      file = subst (λ o. SameFile o (value_at i.facts p.front) p.item.shown.desc p.item.real (needs i.facts o p.item.shown).file) (sym same.object) t.file;
     }
 
-    by : (tag : Tag) → IsTrackedAt facts walks h p tag → IsTrackedAt facts walks h' (again p r n) tag
+    by : (tag : Tag) → IsTrackedAt i walks h p tag → IsTrackedAt i walks h' (again p r n) tag
     by (Client client seq) t = state t
     by (Walk id k client) t = tt
     by (Load key client) t = tt
