@@ -1,4 +1,4 @@
--- The least needed row that isn't whole: it is there, and its parent is none or whole.
+-- The least wanted row that isn't whole: it is there, and its parent is none or whole.
 use Rattle.std.proofs.Common.{◌≡◌, ℕ, zero, suc, ◌<◌, ◌≤◌, Bool, true, false, cond, not, List, [], ◌∷◌, None, Some, map, filter, refl, sym, ◌∙◌, ap, subst, inl, inr, ◌⊎◌, arith}
 use Rattle.std.specs.Prelude.{◌==◌, ◌||◌, ◌&&◌, nat_lt, find}
 use Rattle.std.specs.List.{list_any}
@@ -7,7 +7,8 @@ use Rattle.std.proofs.lemmas.Bool.Decides.{eqb_tells, nat_tests}
 use Rattle.sg_facts.specs.sg_base.declared.call.Call.{Call}
 use Rattle.sg_facts.specs.declared.row.Row.{Row}
 use Rattle.sg_facts.specs.Facts.{Facts, fun_at}
-use Rattle.sg_facts.specs.Needs.{is_needed, needs}
+use Rattle.sg_facts.specs.Interface.{Declared}
+use Rattle.sg_facts.specs.Needs.{is_needed, is_wanted, wanted}
 use Rattle.sg_facts.specs.Object.{Object}
 use Rattle.sg_facts.specs.Sound.{IsRow, IsSound}
 use Rattle.sg_facts.specs.Track.{is_ancestor, is_live, nearest, parent_in, row_at}
@@ -78,15 +79,15 @@ first_of test f low high (r ∷ rows) id are is = at (test r) refl is (first_of 
 
 -- ---- parents are needed with their children
 
-either_of : (a b : Bool) → (a || b) ≡ true → (a ≡ true) ⊎ (b ≡ true)
+pub either_of : (a b : Bool) → (a || b) ≡ true → (a ≡ true) ⊎ (b ≡ true)
 either_of true b is = inl refl
 either_of false b is = inr is
 
-or_left : (a b : Bool) → a ≡ true → (a || b) ≡ true
+pub or_left : (a b : Bool) → a ≡ true → (a || b) ≡ true
 or_left true b is = refl
 or_left false b is = absurd (cc is)
 
-or_right : (a b : Bool) → b ≡ true → (a || b) ≡ true
+pub or_right : (a b : Bool) → b ≡ true → (a || b) ≡ true
 or_right true b is = refl
 or_right false b is = is
 
@@ -166,18 +167,27 @@ module _ (facts : Facts) (o : Object) (sound : IsSound facts o) where
           ap (list_any (λ y. y == r.parent)) (one_above o.rows m r.id r there ∙ ap (λ t. cond t [] (r.parent ∷ nearest o.rows m r.parent)) (other_test r.parent 0 some))
           ∙ ap (λ t. t || list_any (λ y. y == r.parent) (nearest o.rows m r.parent)) (same_test r.parent r.parent refl)
 
-  -- the least needed row that isn't whole, with its parent
+module _ (i : Declared) (o : Object) (sound : IsSound i.facts o) where
+  -- a parent is wanted with its child
+  parent_wanted : (call : Call) (r x : Row) → row_at o.rows r.id ≡ Some r → row_at o.rows x.id ≡ Some x → x.id ≡ r.parent → (r.parent ≡ 0 → ⊥) → is_wanted i o.rows call r ≡ true → is_wanted i o.rows call x ≡ true
+  parent_wanted call r x there there_x its some want =
+      elim (either_of i.eager (is_needed i.facts o.rows call r) want) [
+        | inl all ↦ or_left i.eager (is_needed i.facts o.rows call x) all
+        | inr need ↦ or_right i.eager (is_needed i.facts o.rows call x) (parent_needed i.facts o sound call r x there there_x its some need)
+      ]
+
+  -- the least wanted row that isn't whole, with its parent
   pub record IsLeast (told : ℕ → Told) (call : Call) (id : ℕ) : Type 0 where
     pub row : Row
     pub there : row_at o.rows id ≡ Some row
-    pub need : is_needed facts o.rows call row ≡ true
+    pub want : is_wanted i o.rows call row ≡ true
     pub part : is_complete (told id) ≡ false
     pub parent : (row.parent ≡ 0) ⊎ ((is_live o.rows row.parent ≡ true) × (is_complete (told row.parent) ≡ true))
 
-  pub least_row : (told : ℕ → Told) (call : Call) (id : ℕ) → find (λ a. not (is_complete (told a))) (needs facts o call).ids ≡ Some id → IsLeast told call id
+  pub least_row : (told : ℕ → Told) (call : Call) (id : ℕ) → find (λ a. not (is_complete (told a))) (wanted i o call).ids ≡ Some id → IsLeast told call id
   least_row told call id is =
-      let first = first_of (is_needed facts o.rows call) (λ a. not (is_complete (told a))) 0 o.given o.rows id (ascends facts o sound) is in
-      record { row = first.row; there = first.there; need = first.passes; part = not_true (is_complete (told id)) first.is; parent = parent first (eqb_tells first.row.parent 0) }
+      let first = first_of (is_wanted i o.rows call) (λ a. not (is_complete (told a))) 0 o.given o.rows id (ascends i.facts o sound) is in
+      record { row = first.row; there = first.there; want = first.passes; part = not_true (is_complete (told id)) first.is; parent = parent first (eqb_tells first.row.parent 0) }
     where
       not_true : (b : Bool) → not b ≡ true → b ≡ false
       not_true true is = absurd (cc is)
@@ -187,17 +197,17 @@ module _ (facts : Facts) (o : Object) (sound : IsSound facts o) where
       not_false true is = refl
       not_false false is = absurd (cc is)
 
-      parent : (first : IsFirst (is_needed facts o.rows call) (λ a. not (is_complete (told a))) o.rows id) → ((first.row.parent == 0) ≡ true) × (first.row.parent ≡ 0) ⊎ ((first.row.parent == 0) ≡ false) × (first.row.parent ≡ 0 → ⊥)
+      parent : (first : IsFirst (is_wanted i o.rows call) (λ a. not (is_complete (told a))) o.rows id) → ((first.row.parent == 0) ≡ true) × (first.row.parent ≡ 0) ⊎ ((first.row.parent == 0) ≡ false) × (first.row.parent ≡ 0 → ⊥)
           → (first.row.parent ≡ 0) ⊎ ((is_live o.rows first.row.parent ≡ true) × (is_complete (told first.row.parent) ≡ true))
       parent first (inl none) = inl none.1
       parent first (inr some) =
           let its : first.row.id ≡ id = id_of_row o.rows id first.row first.there in
           let there : row_at o.rows first.row.id ≡ Some first.row = ap (row_at o.rows) its ∙ first.there in
-          let low = parent_of first.row there some.1 in
+          let low = parent_of i.facts o sound first.row there some.1 in
           let x = row_of_live o.rows first.row.parent low.1 in
           let there_x : row_at o.rows x.0.id ≡ Some x.0 = ap (row_at o.rows) x.2 ∙ x.1 in
           inr (
             low.1,
             ap (λ n. is_complete (told n)) (sym x.2)
-                ∙ not_false (is_complete (told x.0.id)) (first.before x.0 there_x (parent_needed call first.row x.0 there there_x x.2 some.1 first.passes) (omega (arith, x.2, low.0, its))),
+                ∙ not_false (is_complete (told x.0.id)) (first.before x.0 there_x (parent_wanted call first.row x.0 there there_x x.2 some.1 first.passes) (omega (arith, x.2, low.0, its))),
           )
