@@ -21,7 +21,7 @@ ghost use Rattle.sg_facts.specs.Interface.{Declared, declares};
 ghost use Rattle.sg_facts.specs.Laws.{is_none, names_after, slow};
 ghost use Rattle.sg_facts.specs.Legal.{LegalFrom};
 ghost use Rattle.sg_facts.specs.Limits.{end_of_counts};
-ghost use Rattle.sg_facts.specs.Needs.{is_needed, needs};
+ghost use Rattle.sg_facts.specs.Needs.{is_needed, is_wanted, needs, wanted};
 ghost use Rattle.sg_facts.specs.Object.{Object, empty_object, object_of};
 ghost use Rattle.sg_facts.specs.Trace.{Boot};
 ghost use Rattle.sg_facts.specs.Track.{is_live, row_at};
@@ -49,7 +49,7 @@ pub fn last_place()
 {}
 
 /// What an item owes where it is noted last: a call of a client that has no later one, and passes the guard, is admitted; the call of an
-/// item reaches the service as it is tracked, where all that it needs is told whole and stands there so; a call of a walk is the next of
+/// item reaches the service as it is tracked, where all that is wanted for it is told whole and what it needs stands there so; a call of a walk is the next of
 /// its row, and the least that isn't whole is so by what is told; and a file is loaded for a call that needs it.
 pub fn items_settle()
     ensures admitted { (i : Declared) (walks : List WalkLine) (h : List Entry) (u : List Call) (older front : List Item) (item : Item) (names : List (ℕ × ℕ)) (told : ℕ → Told)
@@ -57,11 +57,11 @@ pub fn items_settle()
         → Each (λ e. (e.call.client == client) ≡ true → e.call.seq < call.seq) h → guard i o call ≡ None → IsAdmitted i h u (last_place older front item) client call }
     ensures tracked { (i : Declared) (walks : List WalkLine) (h : List Entry) (older front : List Item) (item : Item) (names : List (ℕ × ℕ)) (told : ℕ → Told)
         (present : List ℕ → Bool) (o held : Object) → IsKnown i.facts walks h older front item names told present o → value_at i.facts front ≡ held
-        → ((r : Row) → row_at o.rows r.id ≡ Some r → is_needed i.facts o.rows item.shown r ≡ true → told r.id ≡ complete)
+        → ((r : Row) → row_at o.rows r.id ≡ Some r → is_wanted i o.rows item.shown r ≡ true → told r.id ≡ complete)
         → ((r : Row) → row_at o.rows r.id ≡ Some r → is_needed i.facts o.rows item.shown r ≡ true → HasAlike names held r)
         → IsNone o.rows item.shown.desc → item.real ≡ named names item.shown.desc
         → SameFile o held item.shown.desc (named names item.shown.desc) (needs i.facts o item.shown).file
-        → IsTracked i.facts walks h (last_place older front item) }
+        → IsTracked i walks h (last_place older front item) }
     ensures walked { (i : Declared) (walks : List WalkLine) (h : List Entry) (older front : List Item) (item : Item) (names : List (ℕ × ℕ)) (told : ℕ → Told)
         (present : List ℕ → Bool) (o : Object) (id k client : ℕ) (r : Row) (done rest : List ℕ) (fun : ℕ) → IsKnown i.facts walks h older front item names told present o
         → row_at o.rows id ≡ Some r → is_complete (told id) ≡ false → TellsCalls (told id) (length done) → (told id ≡ fresh → done ≡ []) → k ≡ length done + 1
@@ -71,12 +71,12 @@ pub fn items_settle()
         → IsCallOfRow i.facts walks h (last_place older front item) id k (row_at (object_before i.facts h (last_place older front item)).rows id) }
     ensures least { (i : Declared) (walks : List WalkLine) (h : List Entry) (older front : List Item) (item : Item) (names : List (ℕ × ℕ)) (told : ℕ → Told)
         (present : List ℕ → Bool) (o : Object) (call : Call) (id : ℕ) → IsKnown i.facts walks h older front item names told present o
-        → find (λ a. not (is_complete (told a))) (needs i.facts o call).ids ≡ Some id
-        → find (λ a. not (is_whole_at i.facts walks h (last_place older front item) a)) (needs i.facts (object_before i.facts h (last_place older front item)) call).ids ≡ Some id }
+        → find (λ a. not (is_complete (told a))) (wanted i o call).ids ≡ Some id
+        → find (λ a. not (is_whole_at i.facts walks h (last_place older front item) a)) (wanted i (object_before i.facts h (last_place older front item)) call).ids ≡ Some id }
     ensures loaded { (i : Declared) (walks : List WalkLine) (h : List Entry) (u : List Call) (older front : List Item) (item : Item) (names : List (ℕ × ℕ)) (told : ℕ → Told)
         (present : List ℕ → Bool) (o : Object) (client : ℕ) (key : List ℕ) (call : Call) → IsKnown i.facts walks h older front item names told present o → IsCallOf h u client call
         → Each (λ e. (e.call.client == client) ≡ true → e.call.seq < call.seq) h
-        → ((r : Row) → row_at o.rows r.id ≡ Some r → is_needed i.facts o.rows call r ≡ true → told r.id ≡ complete) → (needs i.facts o call).file ≡ Some key
+        → ((r : Row) → row_at o.rows r.id ≡ Some r → is_wanted i o.rows call r ≡ true → told r.id ≡ complete) → (needs i.facts o call).file ≡ Some key
         → present key ≡ false → IsLoad o key item.outcome → guard i o call ≡ None → IsLoadedFor i walks h u (last_place older front item) client key }
 {}
 

@@ -14,7 +14,7 @@ use Rattle.sg_facts.specs.Alike.{HasAlike, IsAlike, SameFile, named}
 use Rattle.sg_facts.specs.Guard.{guard}
 use Rattle.sg_facts.specs.Interface.{Declared}
 use Rattle.sg_facts.specs.Laws.{is_none}
-use Rattle.sg_facts.specs.Needs.{is_needed, needs}
+use Rattle.sg_facts.specs.Needs.{is_needed, is_wanted, needs, wanted}
 use Rattle.sg_facts.specs.Object.{Object, object_of}
 use Rattle.sg_facts.specs.Sound.{IsRow, IsSound}
 use Rattle.sg_facts.specs.Track.{is_live, row_at}
@@ -73,21 +73,21 @@ module _ (i : Declared) (walks : List WalkLine) (history : List Entry) (u : List
       at true is meets = inl (grind (arith, nat_tests, is))
       at false is meets = inr (second (nat_lt r.parent r.id) (is_live o.rows r.parent) meets)
 
-  -- what a call needs is whole, where it is told so
-  needs_whole : (call : Call) → ((r : Row) → row_at o.rows r.id ≡ Some r → is_needed i.facts o.rows call r ≡ true → told r.id ≡ complete)
-      → list_all (is_whole_at i.facts walks history (last_place older front item)) (needs i.facts o call).ids ≡ true
-  needs_whole call needed =
-      all_mapped (is_whole_at i.facts walks history (last_place older front item)) (filter (is_needed i.facts o.rows call) o.rows)
-      (each_filtered (λ r. is_whole_at i.facts walks history (last_place older front item) r.id ≡ true) (is_needed i.facts o.rows call) 0 o.given o.rows are
-      (λ r there need. whole_told r.id (live_of_row o.rows r.id r there) ∙ ap is_complete (needed r there need)))
+  -- what is wanted for a call is whole, where it is told so
+  wanted_whole : (call : Call) → ((r : Row) → row_at o.rows r.id ≡ Some r → is_wanted i o.rows call r ≡ true → told r.id ≡ complete)
+      → list_all (is_whole_at i.facts walks history (last_place older front item)) (wanted i o call).ids ≡ true
+  wanted_whole call complete_told =
+      all_mapped (is_whole_at i.facts walks history (last_place older front item)) (filter (is_wanted i o.rows call) o.rows)
+      (each_filtered (λ r. is_whole_at i.facts walks history (last_place older front item) r.id ≡ true) (is_wanted i o.rows call) 0 o.given o.rows are
+      (λ r there want. whole_told r.id (live_of_row o.rows r.id r there) ∙ ap is_complete (complete_told r there want)))
 
   -- a call of a client reaches the service with all that it needs
-  pub client_tracked : (held : Object) → value_at i.facts front ≡ held → ((r : Row) → row_at o.rows r.id ≡ Some r → is_needed i.facts o.rows item.shown r ≡ true → told r.id ≡ complete)
+  pub client_tracked : (held : Object) → value_at i.facts front ≡ held → ((r : Row) → row_at o.rows r.id ≡ Some r → is_wanted i o.rows item.shown r ≡ true → told r.id ≡ complete)
       → ((r : Row) → row_at o.rows r.id ≡ Some r → is_needed i.facts o.rows item.shown r ≡ true → HasAlike names held r)
       → IsNone o.rows item.shown.desc → item.real ≡ named names item.shown.desc → SameFile o held item.shown.desc (named names item.shown.desc) (needs i.facts o item.shown).file
-      → IsTracked i.facts walks history (last_place older front item)
-  client_tracked held value needed alike desc real file = record {
-    whole = subst (λ x. list_all (is_whole_at i.facts walks history (last_place older front item)) (needs i.facts x item.shown).ids ≡ true) (sym object_is) (needs_whole item.shown needed);
+      → IsTracked i walks history (last_place older front item)
+  client_tracked held value complete_told alike desc real file = record {
+    whole = subst (λ x. list_all (is_whole_at i.facts walks history (last_place older front item)) (wanted i x item.shown).ids ≡ true) (sym object_is) (wanted_whole item.shown complete_told);
     rows = subst (λ x. Each (λ r. IsAlikeTo (names_at i.facts history front) r (row_at (value_at i.facts front).rows (named (names_at i.facts history front) r.id))) (filter (is_needed i.facts x.rows item.shown) x.rows)) (sym object_is)
         (each_filtered (λ r. IsAlikeTo (names_at i.facts history front) r (row_at (value_at i.facts front).rows (named (names_at i.facts history front) r.id))) (is_needed i.facts o.rows item.shown) 0 o.given o.rows are
         (λ r there need.
@@ -211,23 +211,23 @@ module _ (i : Declared) (walks : List WalkLine) (history : List Entry) (u : List
           numbered x got_it is = simp (got_it ∙ is) refl
 
   -- the least that isn't whole, told and in the trace
-  pub least_told : (call : Call) (id : ℕ) → find (λ a. not (is_complete (told a))) (needs i.facts o call).ids ≡ Some id
-      → find (λ a. not (is_whole_at i.facts walks history (last_place older front item) a)) (needs i.facts (object_before i.facts history (last_place older front item)) call).ids ≡ Some id
+  pub least_told : (call : Call) (id : ℕ) → find (λ a. not (is_complete (told a))) (wanted i o call).ids ≡ Some id
+      → find (λ a. not (is_whole_at i.facts walks history (last_place older front item) a)) (wanted i (object_before i.facts history (last_place older front item)) call).ids ≡ Some id
   least_told call id is =
-      subst (λ x. find (λ a. not (is_whole_at i.facts walks history (last_place older front item) a)) (needs i.facts x call).ids ≡ Some id) (sym object_is)
-      (find_told (λ a. not (is_whole_at i.facts walks history (last_place older front item) a)) (λ a. not (is_complete (told a))) (needs i.facts o call).ids
-      (each_mapped (λ a. not (is_whole_at i.facts walks history (last_place older front item) a) ≡ not (is_complete (told a))) (filter (is_needed i.facts o.rows call) o.rows)
-      (each_filtered (λ r. not (is_whole_at i.facts walks history (last_place older front item) r.id) ≡ not (is_complete (told r.id))) (is_needed i.facts o.rows call) 0 o.given o.rows are
-      (λ r there need. ap not (whole_told r.id (live_of_row o.rows r.id r there))))) ∙ is)
+      subst (λ x. find (λ a. not (is_whole_at i.facts walks history (last_place older front item) a)) (wanted i x call).ids ≡ Some id) (sym object_is)
+      (find_told (λ a. not (is_whole_at i.facts walks history (last_place older front item) a)) (λ a. not (is_complete (told a))) (wanted i o call).ids
+      (each_mapped (λ a. not (is_whole_at i.facts walks history (last_place older front item) a) ≡ not (is_complete (told a))) (filter (is_wanted i o.rows call) o.rows)
+      (each_filtered (λ r. not (is_whole_at i.facts walks history (last_place older front item) r.id) ≡ not (is_complete (told r.id))) (is_wanted i o.rows call) 0 o.given o.rows are
+      (λ r there want. ap not (whole_told r.id (live_of_row o.rows r.id r there))))) ∙ is)
 
   -- a load
   pub load_settled : (client : ℕ) (key : List ℕ) (call : Call) → IsCallOf history u client call → Each (λ e. (e.call.client == client) ≡ true → e.call.seq < call.seq) history
-      → ((r : Row) → row_at o.rows r.id ≡ Some r → is_needed i.facts o.rows call r ≡ true → told r.id ≡ complete) → (needs i.facts o call).file ≡ Some key → present key ≡ false → IsLoad o key item.outcome → guard i o call ≡ None
+      → ((r : Row) → row_at o.rows r.id ≡ Some r → is_wanted i o.rows call r ≡ true → told r.id ≡ complete) → (needs i.facts o call).file ≡ Some key → present key ≡ false → IsLoad o key item.outcome → guard i o call ≡ None
       → IsLoadedFor i walks history u (last_place older front item) client key
-  load_settled client key call its seqs needed file absent load passes = record {
+  load_settled client key call its seqs complete_told file absent load passes = record {
     call = call;
     admitted = admitted_last client call its seqs passes;
-    rows = subst (λ x. list_all (is_whole_at i.facts walks history (last_place older front item)) (needs i.facts x call).ids ≡ true) (sym object_is) (needs_whole call needed);
+    rows = subst (λ x. list_all (is_whole_at i.facts walks history (last_place older front item)) (wanted i x call).ids ≡ true) (sym object_is) (wanted_whole call complete_told);
     file = subst (λ x. (needs i.facts x call).file ≡ Some key) (sym object_is) file;
     absent = read.files key ∙ absent;
     whole = subst (λ x. IsLoad x key item.outcome) (sym object_is) load;

@@ -1,5 +1,5 @@
 -- The rows of the object of a legal history are such as descriptors can come to.
-use Rattle.std.proofs.Common.{◌≡◌, ℕ, zero, suc, ◌+◌, ◌<◌, ◌≤◌, Bool, true, false, cond, List, [], ◌∷◌, ◌++◌, None, Some, length, map, filter, refl, sym, ◌∙◌, ap, subst, arith}
+use Rattle.std.proofs.Common.{◌≡◌, ℕ, zero, suc, ◌+◌, ◌<◌, ◌≤◌, Bool, true, false, cond, List, [], ◌∷◌, ◌++◌, None, Some, length, map, filter, refl, sym, ◌∙◌, ap, arith}
 use Rattle.std.specs.Prelude.{◌==◌, ◌&&◌, not, if◌then◌else◌}
 use Rattle.std.specs.List.{list_all}
 use Rattle.std.specs.declared.option.Option.{Option}
@@ -16,7 +16,7 @@ use Rattle.sg_facts.specs.declared.entry.Entry.{Entry}
 use Rattle.sg_facts.specs.declared.row.Row.{Row}
 use Rattle.sg_facts.specs.declared.shape.Effect.{Effect}
 use Rattle.sg_facts.specs.Allowed.{is_allowed, is_text_field}
-use Rattle.sg_facts.specs.Facts.{Facts, Field, fun_at, takes_desc}
+use Rattle.sg_facts.specs.Facts.{Field, fun_at}
 use Rattle.sg_facts.specs.Fits.{Fits}
 use Rattle.sg_facts.specs.Guard.{guard, in_state}
 use Rattle.sg_facts.specs.Held.{AreReachable, set_of}
@@ -27,9 +27,9 @@ use Rattle.sg_facts.specs.Legal.{LegalFrom, Table, answer, refused_or}
 use Rattle.sg_facts.specs.Limits.{end_of_counts}
 use Rattle.sg_facts.specs.Object.{Object, after, empty_object, object_from, object_of}
 use Rattle.sg_facts.specs.Sound.{AreFields, AreRows, IsRow, IsSound}
-use Rattle.sg_facts.specs.Track.{ends_with, field_at, new_row, row_after, row_at, rows_after, track}
+use Rattle.sg_facts.specs.Track.{ends_with, field_at, new_row, row_after, row_at, rows_after}
 use Rattle.sg_facts.specs.Walks.{IsReachable, effect_on}
-use Rattle.sg_facts.proofs.RowLists.{changed, id_of_row}
+use Rattle.sg_facts.proofs.RowLists.{changed}
 use Rattle.sg_facts.proofs.Replaying.Found.{all_found, met}
 use Rattle.sg_recovery_laws.proofs.Objects.Guarded.{acts, keeps as keeps_to_it, let_pass}
 use Rattle.sg_recovery_laws.proofs.Objects.Reachable.{IsNoText, made_reachable, moved_reachable}

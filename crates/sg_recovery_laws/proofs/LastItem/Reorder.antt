@@ -243,9 +243,9 @@ module _ (h es : List Entry) (e : Entry) (none : NoneBy e.call.client es) where
         on_demand = each_map (λ p. (stands_before p e ≡ false) × IsDemanded s.interface s.walks H u p p.item.tag) (λ p. IsDemanded s.interface s.walks H' u p p.item.tag) ps
             (λ p w. demanded_same s.interface s.walks H u H' u p p.rest p.newer (same_moved s.interface.facts s.walks u p w.0) w.1)
             (each_both (λ p. stands_before p e ≡ false) (λ p. IsDemanded s.interface s.walks H u p p.item.tag) ps isn't r.on_demand);
-        tracked_state = each_map (λ p. (stands_before p e ≡ false) × IsTrackedAt s.interface.facts s.walks H p p.item.tag) (λ p. IsTrackedAt s.interface.facts s.walks H' p p.item.tag) ps
-            (λ p w. tracked_same s.interface.facts s.walks H u H' u p p.rest p.newer (same_moved s.interface.facts s.walks u p w.0) w.1)
-            (each_both (λ p. stands_before p e ≡ false) (λ p. IsTrackedAt s.interface.facts s.walks H p p.item.tag) ps isn't r.tracked_state);
+        tracked_state = each_map (λ p. (stands_before p e ≡ false) × IsTrackedAt s.interface s.walks H p p.item.tag) (λ p. IsTrackedAt s.interface s.walks H' p p.item.tag) ps
+            (λ p w. tracked_same s.interface s.walks H u H' u p p.rest p.newer (same_moved s.interface.facts s.walks u p w.0) w.1)
+            (each_both (λ p. stands_before p e ≡ false) (λ p. IsTrackedAt s.interface s.walks H p p.item.tag) ps isn't r.tracked_state);
       }
     where
       all_named : (ps : List Position) → Each (λ p. names_at s.interface.facts (h ++ e ∷ es) (p.front ++ p.item ∷ []) ≡ names_at s.interface.facts (h ++ (es ++ e ∷ [])) (p.front ++ p.item ∷ [])) ps
