@@ -1,7 +1,7 @@
 // What has to be whole before the service is asked a call.
-ghost use Rattle.std.specs.Prelude.{◌≡◌, IfOk, None, Some, if◌then◌else◌};
+ghost use Rattle.std.specs.Prelude.{◌≡◌, ◌||◌, IfOk, None, Some, if◌then◌else◌};
 ghost use Rattle.sg_facts.specs.Facts.{fun_of_shape};
-ghost use Rattle.sg_facts.specs.Needs.{needs as the_needs};
+ghost use Rattle.sg_facts.specs.Needs.{wanted};
 ghost use Rattle.sg_facts.specs.Object.{Object, path_of};
 ghost use Rattle.sg_track.specs.Tracked.{AreTracked};
 ghost use Rattle.sg_needs.specs.Inside.Lines.{ids_in, line_to};
@@ -12,7 +12,7 @@ use sg_track::Tracker;
 use std::alloc::Global;
 use std::marker::Model;
 
-/// What a call needs: rows, in ascending ids, and a file. Contracts see both.
+/// What has to be there before a call is served: rows, in ascending ids, and a file. Contracts see both.
 #[derive(Debug, Drop)]
 pub struct Needs {
     /// The ids of the rows.
@@ -29,37 +29,51 @@ impl Model for Needs {
     ghost view = { λ n. record { ids = n.ids; file = n.file } };
 }
 
-/// What a call needs: the row of its descriptor or parent and of each ancestor, or all live rows where its function looks at
-/// all; and the file of its descriptor's path, where its function uses that.
+/// What has to be there before a call is served: the row of its descriptor or parent and of each ancestor, or all live rows where
+/// its function looks at all, or where the interface rebuilds every row first; and the file of its descriptor's path, where its
+/// function uses that.
 pub fn needs_of(
     alloc: Global,
     iface: &Interface,
     rows: &Tracker,
     call: &Call,
 ) -> Result<Needs, NoMemory>
-    ensures { IfOk result (λ needed. (o : Object) → o.rows ≡ rows.now.rows → needed ≡ the_needs iface.now.facts o call.now) }
+    ensures { IfOk result (λ needed. (o : Object) → o.rows ≡ rows.now.rows → needed ≡ wanted iface.now o call.now) }
 {
     let fun = iface.fun(call.fun);
     let line = line_to(alloc, rows, call.desc)?;
     Ok(Needs {
-        ids: ids_needed(alloc, &fun, rows, call.desc, line.as_slice())?,
+        ids: ids_needed(
+            alloc,
+            wants_all(iface, &fun),
+            rows,
+            call.desc,
+            line.as_slice(),
+        )?,
         file: file_needed(alloc, &fun, rows, call.desc, line.as_slice())?,
     })
 }
 
-// The ids of the rows that a call on an id needs, which stands at the end of a line.
+// Whether all live rows have to be whole before a call of a function is served.
+fn wants_all(iface: &Interface, fun: &FunShape) -> bool
+    ensures { result ≡ (iface.now.eager || (fun_of_shape fun.now).all) }
+{
+    iface.eager || fun.looks_at_all()
+}
+
+// The ids of all rows, or of those that a call on an id needs, which stands at the end of a line.
 fn ids_needed(
     alloc: Global,
-    fun: &FunShape,
+    all: bool,
     rows: &Tracker,
     id: u64,
     line: &[u64],
 ) -> Result<IdList, NoMemory>
     requires line { line.now ≡ line_to rows.now.rows id }
     requires tracked { AreTracked rows.now.given rows.now.rows }
-    ensures { IfOk result (λ ids. ids ≡ ids_in (fun_of_shape fun.now).all rows.now.rows id) }
+    ensures { IfOk result (λ ids. ids ≡ ids_in all rows.now.rows id) }
 {
-    if fun.looks_at_all() {
+    if all {
         rows.ids(alloc)
     } else {
         live_of(alloc, rows, line)
