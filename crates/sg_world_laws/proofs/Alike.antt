@@ -63,6 +63,7 @@ module _ (z : Setting) (w : WorldView) (stub other : Stub) (same : TellSame stub
     read = λ es drawn. read_alike z.iface.facts z.walks (w.history ++ es) (older_items [] w.run.boots) (last_items w.run.boots) stub.names other.names stub.told other.told stub.present other.present
         (object_of z.iface.facts w.history).rows (object_of z.iface.facts w.history).rows (λ id live. live) (same.names 0) (λ id live. same.names id) (λ id live. same.told id) same.present (up.read es drawn);
     unnamed = up.unnamed;
+    rebuilt = λ eager some id live. same.told id ∙ up.rebuilt eager some id live;
   }
 
   stands_in_alike : (running : Option Object) → StandsIn z w stub running → StandsIn z w other running

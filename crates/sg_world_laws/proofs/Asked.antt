@@ -6,7 +6,7 @@ use Rattle.sg_facts.specs.sg_base.declared.call.Call.{Call}
 use Rattle.sg_facts.proofs.RowLists.{live_of_row, row_of_live}
 use Rattle.sg_facts.specs.Alike.{HasAlike, SameFile, Serves, named}
 use Rattle.sg_facts.specs.Guard.{guard}
-use Rattle.sg_facts.specs.Needs.{is_needed, needs}
+use Rattle.sg_facts.specs.Needs.{is_needed, is_wanted, needs}
 use Rattle.sg_facts.specs.Object.{Object, file_at, object_from, object_of}
 use Rattle.sg_facts.specs.Trace.{Boot}
 use Rattle.sg_facts.specs.Track.{is_live, row_at}
@@ -33,7 +33,7 @@ use Rattle.sg_recovery_laws.specs.LastItem.LastPlace.{last_place}
 use Rattle.sg_recovery_laws.specs.LastItem.Told.{IsKnown}
 use Rattle.sg_recovery_laws.proofs.sg_track.Above.{root}
 use Rattle.sg_facts.proofs.Replaying.Found.{other_test}
-use Rattle.sg_world_laws.proofs.Orders.{above_es, back_es, call_es, few_now, good_now, known_es, needs_es, none_es, there_es, time_es, time_now, wait_es}
+use Rattle.sg_world_laws.proofs.Orders.{above_es, back_es, call_es, few_now, good_now, known_es, needs_es, needs_told, none_es, there_es, time_es, time_now, told_es, wait_es}
 use Rattle.sg_world_laws.specs.Keeping.{AreDrawn, KeepsPromise, Stands, Stub, standing}
 use Rattle.sg_world_laws.specs.Setting.{IsSetting, Setting, stubs_of}
 use Rattle.sg_world_laws.specs.Turns.{HasAll, IsAskedItem, IsLetIn}
@@ -53,7 +53,8 @@ module _ (z : Setting) (set : IsSetting z) (w : WorldView) (b : Boot) (boots : L
   pub serves_call : Serves z.iface.facts stub.names (object_of z.iface.facts w.history) v call
   unfolding up
   serves_call = serves_it z.iface z.ask z.sound z.walks stub.names stub.told stub.present o v ws set.law (good_now z set w b boots (Some v) stub k) k.waiting
-      (time_now z set w b boots (Some v) stub k (suc (suc (length ws))) (let few = few_now z set w b boots (Some v) stub k in omega (arith, few))) up.in_recovery call let_in.passes let_in.none_by all.rows all.file
+      (time_now z set w b boots (Some v) stub k (suc (suc (length ws))) (let few = few_now z set w b boots (Some v) stub k in omega (arith, few))) up.in_recovery call let_in.passes let_in.none_by
+      (needs_told z (standing w b boots (Some v)) stub call all) all.file
 
   module _ (item : Item) (asked : IsAskedItem z stub v call item) (es : List Entry) (drawn : AreDrawn (held_in (length (b ∷ boots)) w.seats) es) where
     abbrev o_es : Object
@@ -110,13 +111,13 @@ module _ (z : Setting) (set : IsSetting z) (w : WorldView) (b : Boot) (boots : L
         by (Some path) same = (same.0, same.1 ∙ ap (λ fs. file_at fs path) (sym files))
 
     -- it is tracked there
-    tracked_es : IsTracked z.iface.facts z.walks (w.history ++ es) (last_place (older_items [] (b ∷ boots)) (last_items (b ∷ boots)) item)
+    tracked_es : IsTracked z.iface z.walks (w.history ++ es) (last_place (older_items [] (b ∷ boots)) (last_items (b ∷ boots)) item)
     unfolding up serves_call
     tracked_es =
         client_tracked z.iface z.walks (w.history ++ es) [] (older_items [] (b ∷ boots)) (last_items (b ∷ boots)) item stub.names stub.told stub.present (object_from z.iface.facts (object_of z.iface.facts w.history) es)
         known.object known.sound are none_of known.items known.read v (sym k.cell.runs.folded)
-        (subst (λ x. (r : Row) → row_at (object_from z.iface.facts (object_of z.iface.facts w.history) es).rows r.id ≡ Some r → is_needed z.iface.facts (object_from z.iface.facts (object_of z.iface.facts w.history) es).rows x r ≡ true → stub.told r.id ≡ complete) (sym asked.shown)
-        (λ r there need. let was = back_es z set w b boots (Some v) stub k es drawn call let_in r there need in all.rows r was.0 was.1))
+        (subst (λ x. (r : Row) → row_at (object_from z.iface.facts (object_of z.iface.facts w.history) es).rows r.id ≡ Some r → is_wanted z.iface (object_from z.iface.facts (object_of z.iface.facts w.history) es).rows x r ≡ true → stub.told r.id ≡ complete) (sym asked.shown)
+        (told_es z set w b boots (Some v) stub k es drawn call let_in all.rows))
         (subst (λ x. (r : Row) → row_at (object_from z.iface.facts (object_of z.iface.facts w.history) es).rows r.id ≡ Some r → is_needed z.iface.facts (object_from z.iface.facts (object_of z.iface.facts w.history) es).rows x r ≡ true → HasAlike stub.names v r) (sym asked.shown)
         (λ r there need. let was = back_es z set w b boots (Some v) stub k es drawn call let_in r there need in serves_call.needed r was.0 was.1))
         (subst (λ x. IsNone (object_from z.iface.facts (object_of z.iface.facts w.history) es).rows x.desc) (sym asked.shown) desc_es)
@@ -163,7 +164,7 @@ module _ (z : Setting) (set : IsSetting z) (w : WorldView) (b : Boot) (boots : L
             subst (λ n. IsAdmitted z.iface (w.history ++ es) u (last_place (older_items [] (b ∷ boots)) (last_items (b ∷ boots)) item) n item.shown) (sym one)
             (subst (IsAdmitted z.iface (w.history ++ es) u (last_place (older_items [] (b ∷ boots)) (last_items (b ∷ boots)) item) call.client) (sym asked.shown) (admitted own))
 
-        state_of : (t : Tag) → t ≡ Client call.client call.seq → IsTrackedAt z.iface.facts z.walks (w.history ++ es) (last_place (older_items [] (b ∷ boots)) (last_items (b ∷ boots)) item) t
+        state_of : (t : Tag) → t ≡ Client call.client call.seq → IsTrackedAt z.iface z.walks (w.history ++ es) (last_place (older_items [] (b ∷ boots)) (last_items (b ∷ boots)) item) t
         state_of (Walk i n x) is = absurd (cc is)
         state_of (Load key x) is = tt
         state_of (Client x s) is = tracked_es

@@ -74,6 +74,7 @@ new_keeps z set seats present new few absent = record {
     in_recovery = begins z.iface z.walks (object_from z.iface.facts empty_object (held_replies (new_world seats))) present absent (set.law.keeps.general empty_object set.law.keeps.empty);
     read = λ es drawn. record { names_are = λ id known. refl; whole = λ id live. refl; calls = λ id live. refl; files = λ path. sym (absent path) };
     unnamed = λ es drawn id above. refl;
+    rebuilt = λ eager some. absurd (some none);
   };
 }
   where

@@ -104,5 +104,6 @@ module _ (z : Setting) (set : IsSetting z) (w : WorldView) (b : Boot) (boots : L
       in_recovery = begins z.iface z.walks (object_from z.iface.facts (object_of z.iface.facts w.history) (held_in (length (booted (b ∷ boots))) (map (woken_seat (λ call. true)) w.seats))) (λ path. false) (λ path. refl) (set.law.keeps.general empty_object set.law.keeps.empty);
       read = λ es drawn. read_fresh es (older_items [] (booted (b ∷ boots))) (last_items (booted (b ∷ boots))) (items_booted (b ∷ boots));
       unnamed = λ es drawn id above. ap (λ f. list_any (λ (n : ℕ × ℕ). n.0 == id) (names_at z.iface.facts (w.history ++ es) f)) (items_booted (b ∷ boots));
+      rebuilt = λ eager some. absurd (some none_now);
     };
   }

@@ -3,28 +3,30 @@
 -- ---- numbers
 
 -- no more replies are held than there are seats
-use Rattle.std.proofs.Common.{Bool, List, None, Option, Some, [], ap, arith, false, if◌then◌else◌, inl, inr, length, length-append, map, refl, subst, suc, sym, true, ℕ, ◌*◌, ◌++◌, ◌+◌, ◌<◌, ◌^◌, ◌||◌, ◌∙◌, ◌∷◌, ◌≡◌, ◌≢◌, ◌≤◌}
+use Rattle.std.proofs.Common.{Bool, List, None, Option, Some, [], ap, arith, false, filter, if◌then◌else◌, inl, inr, length, length-append, map, refl, subst, suc, sym, true, ℕ, ◌*◌, ◌++◌, ◌+◌, ◌<◌, ◌^◌, ◌||◌, ◌∙◌, ◌∷◌, ◌≡◌, ◌≢◌, ◌≤◌}
 use Rattle.std.proofs.lemmas.List.Elements.{Contains-append_right}
 use Rattle.std.specs.List.{Contains, list_any}
 use Rattle.sg_facts.specs.sg_base.Lists.{Each}
 use Rattle.sg_facts.specs.sg_base.declared.call.Call.{Call}
 use Rattle.sg_facts.specs.sg_base.declared.reply.Reply.{Reply}
-use Rattle.sg_facts.proofs.RowLists.{row_of_live}
+use Rattle.sg_facts.proofs.RowLists.{live_of_row, row_of_live}
+use Rattle.sg_facts.specs.Facts.{fun_at}
 use Rattle.sg_facts.specs.Guard.{guard}
 use Rattle.sg_facts.specs.Held.{AreReachable}
 use Rattle.sg_facts.specs.Interface.{Declared, declares}
 use Rattle.sg_facts.specs.Laws.{slow}
 use Rattle.sg_facts.specs.Legal.{LegalFrom, Table, refused_or}
 use Rattle.sg_facts.specs.Limits.{last_client}
-use Rattle.sg_facts.specs.Needs.{is_needed, needs}
-use Rattle.sg_facts.specs.Object.{Object, after, empty_object, object_from, object_of}
+use Rattle.sg_facts.specs.Needs.{Needs, is_needed, is_wanted, needs, wanted}
+use Rattle.sg_facts.specs.Object.{Object, after, empty_object, object_from, object_of, path_of}
 use Rattle.sg_facts.specs.Sound.{IsSound}
 use Rattle.sg_facts.specs.Trace.{Boot}
 use Rattle.sg_facts.specs.Track.{is_live, row_at}
 use Rattle.sg_facts.specs.declared.entry.Entry.{Entry}
 use Rattle.sg_facts.specs.declared.row.Row.{Row}
 use Rattle.sg_facts.specs.declared.trace.Item.{Item}
-use Rattle.sg_recovery_laws.specs.Midway.Progress.{IsNone}
+use Rattle.sg_recovery_laws.proofs.Midway.Least.{either_of, or_left, or_right}
+use Rattle.sg_recovery_laws.specs.Midway.Progress.{IsNone, complete}
 use Rattle.sg_recovery_laws.specs.sg_hist.Reading.{is_by_guard, is_item_of}
 use Rattle.sg_recovery_laws.specs.sg_hist.Recovered.{IsCallOf}
 use Rattle.sg_recovery_laws.proofs.Objects.Guarded.{acts}
@@ -48,7 +50,7 @@ use Rattle.sg_world_laws.proofs.Items.{has_item}
 use Rattle.sg_world_laws.specs.Keeping.{AreDrawn, KeepsPromise, MayEnter, Stands, Stub, standing}
 use Rattle.sg_world_laws.specs.Seats.{AreSeated, HaveSeats, MayBeMade, all_seqs}
 use Rattle.sg_world_laws.specs.Setting.{IsSetting, Setting}
-use Rattle.sg_world_laws.specs.Turns.{IsLetIn}
+use Rattle.sg_world_laws.specs.Turns.{HasAll, IsLetIn}
 
 pub held_few : (boot : ℕ) (seats : List Seat) → length (held_in boot seats) ≤ length seats
 held_few boot [] = omega arith
@@ -209,6 +211,19 @@ module _ (z : Setting) (set : IsSetting z) (w : WorldView) (b : Boot) (boots : L
         sym (needed_same z.iface.facts z.ask z.sound set.law o es call good_now time_es wait_es none_es let_in.passes r) ∙ need,
       )
 
+      -- what is wanted for it there is told whole, where all that is wanted for it at the history is
+      pub told_es : ((r : Row) → row_at (object_of z.iface.facts w.history).rows r.id ≡ Some r → is_wanted z.iface (object_of z.iface.facts w.history).rows call r ≡ true → stub.told r.id ≡ complete)
+          → (r : Row) → row_at (object_from z.iface.facts (object_of z.iface.facts w.history) es).rows r.id ≡ Some r
+          → is_wanted z.iface (object_from z.iface.facts (object_of z.iface.facts w.history) es).rows call r ≡ true → stub.told r.id ≡ complete
+      told_es whole r there want = elim (either_of z.iface.eager (is_needed z.iface.facts (object_from z.iface.facts (object_of z.iface.facts w.history) es).rows call r) want) [
+        | inl all ↦
+            let x = row_of_live (object_of z.iface.facts w.history).rows r.id (live_es r.id (live_of_row (object_from z.iface.facts (object_of z.iface.facts w.history) es).rows r.id r there)) in
+            ap stub.told (sym x.2) ∙ whole x.0 (ap (row_at (object_of z.iface.facts w.history).rows) x.2 ∙ x.1) (or_left z.iface.eager (is_needed z.iface.facts (object_of z.iface.facts w.history).rows call x.0) all)
+        | inr need ↦
+            let was = back_es r there need in
+            whole r was.0 (or_right z.iface.eager (is_needed z.iface.facts (object_of z.iface.facts w.history).rows call r) was.1)
+      ]
+
       -- it is the client's last
       pub above_es : Each (λ e. e.call.client ≡ call.client → e.call.seq < call.seq) (w.history ++ es)
       above_es =
@@ -248,3 +263,17 @@ module _ (z : Setting) (set : IsSetting z) (w : WorldView) (b : Boot) (boots : L
     items = items_es z set w b boots (Some v) stub k es drawn;
     read = read_es;
   }
+
+-- where rows are rebuilt when a call needs them, what is wanted for a call is what it needs
+pub wanted_is : (i : Declared) (o : Object) (call : Call) → i.eager ≡ false → wanted i o call ≡ needs i.facts o call
+wanted_is i o call on_demand =
+    let of : Bool → Needs = λ t. record {
+      ids = map (λ r. r.id) (filter (λ r. t || is_needed i.facts o.rows call r) o.rows);
+      file = if (fun_at i.facts.funs call.fun).uses_file then Some (path_of o.rows call.desc) else None;
+    } in
+    ap of on_demand
+
+-- what a call needs is told whole, where all that is wanted for it is
+pub needs_told : (z : Setting) (w : WorldView) (stub : Stub) (call : Call) → HasAll z w stub call → (r : Row) → row_at (object_of z.iface.facts w.history).rows r.id ≡ Some r
+    → is_needed z.iface.facts (object_of z.iface.facts w.history).rows call r ≡ true → stub.told r.id ≡ complete
+needs_told z w stub call all r there need = all.rows r there (or_right z.iface.eager (is_needed z.iface.facts (object_of z.iface.facts w.history).rows call r) need)

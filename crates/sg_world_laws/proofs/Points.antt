@@ -11,7 +11,7 @@ use Rattle.sg_world_laws.specs.Setting.{Setting, stubs_of}
 
 module _ (z : Setting) (w : WorldView) (stub : Stub) (n : ℕ) where
   stands_counted : (v : Object) → Stands z w stub v → Stands z (with_points w n) stub v
-  stands_counted v up = record { numbers = up.numbers; named_live = up.named_live; in_recovery = up.in_recovery; read = up.read; unnamed = up.unnamed }
+  stands_counted v up = record { numbers = up.numbers; named_live = up.named_live; in_recovery = up.in_recovery; read = up.read; unnamed = up.unnamed; rebuilt = up.rebuilt }
 
   stands_in_counted : (running : Option Object) → StandsIn z w stub running → StandsIn z (with_points w n) stub running
   stands_in_counted None stands = tt

@@ -118,6 +118,7 @@ module _ (z : Setting) (set : IsSetting z) (w : WorldView) (b : Boot) (boots : L
         ap (λ l. list_any (λ (n : ℕ × ℕ). n.0 == id) (names_at z.iface.facts l (last_items (b ∷ boots)))) (append_assoc w.history (e ∷ []) es)
         ∙ ap (λ l. list_any (λ (n : ℕ × ℕ). n.0 == id) l) (names_same z.iface.facts (w.history ++ es) (w.history ++ e ∷ es) (last_items (b ∷ boots)) (given_any z.iface.facts w.history es (e ∷ es) (last_items (b ∷ boots)) given))
         ∙ up.unnamed es (subst (λ l. AreDrawn l es) same drawn) id (subst (λ o. o.given < id) same_o above);
+    rebuilt = λ eager some id live. up.rebuilt eager (λ none. some (same ∙ none)) id (ap (λ o. is_live o.rows id) (sym same_o) ∙ live);
   }
     where
       given : Each (IsGiven z.iface.facts w.history) (last_items (b ∷ boots))

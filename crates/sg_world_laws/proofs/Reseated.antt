@@ -42,6 +42,7 @@ module _ (z : Setting) (w w' : WorldView) (stub : Stub) (history : w'.history �
     in_recovery = subst (λ l. IsInRecovery z.iface z.walks stub.names stub.told stub.present (object_from z.iface.facts (object_of z.iface.facts w.history) l) v) (sym is) up.in_recovery;
     read = λ es drawn. up.read es (subst (λ l. AreDrawn l es) is drawn);
     unnamed = λ es drawn. up.unnamed es (subst (λ l. AreDrawn l es) is drawn);
+    rebuilt = λ eager some. up.rebuilt eager (λ none. some (is ∙ none));
   }
 
   pub reseated : KeepsPromise z w stub → KeepsPromise z w' stub

@@ -258,9 +258,14 @@ module _ (z : Setting) (set : IsSetting z) (w : WorldView) (b : Boot) (boots : L
         read = read_later;
         unnamed = λ es drawn id above. subst (λ l. list_any (λ n. n.0 == id) (names_at z.iface.facts l (last_items (b ∷ boots))) ≡ false) (sym (append_assoc w.history (p ∷ []) es))
             (up.unnamed (p ∷ es) (drawn_p es drawn) id (above_before id (subst (λ x. x.given < id) object_now above)));
+        rebuilt = λ eager some x live. same_told x (live_after x live) ∙ up.rebuilt eager (λ none. some_held pre (sym held ∙ none)) x (live_before x live);
       };
     })
       where
+        some_held : (l : List Entry) → l ++ p ∷ post ≡ [] → ⊥
+        some_held [] is = cc is
+        some_held (e ∷ l) is = cc is
+
         in_last : IsInLast (standing w b boots (Some v)).run p
         in_last = (without (IsInLast (standing w b boots (Some v)).run) k.held_items).1
 

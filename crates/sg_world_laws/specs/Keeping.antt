@@ -1,10 +1,11 @@
 -- What a world keeps after every event.
-use Rattle.std.specs.Prelude.{ℕ, ◌≡◌, ◌⊎◌, ◌+◌, ◌<◌, ◌≤◌, ◌==◌, Bool, false, true, List, ◌∷◌, ◌++◌, None, Some, [], length}
+use Rattle.std.specs.Prelude.{ℕ, ◌≡◌, ◌≢◌, ◌⊎◌, ◌+◌, ◌<◌, ◌≤◌, ◌==◌, Bool, false, true, List, ◌∷◌, ◌++◌, None, Some, [], length}
 use Rattle.std.specs.List.{Contains, list_any}
 use Rattle.std.specs.declared.option.Option.{Option}
 use Rattle.sg_facts.specs.sg_base.Lists.{Each}
 use Rattle.sg_boot.specs.Cells.{IsCell}
 use Rattle.sg_facts.specs.declared.entry.Entry.{Entry}
+use Rattle.sg_facts.specs.declared.row.Row.{Row}
 use Rattle.sg_facts.specs.Alike.{named}
 use Rattle.sg_facts.specs.Counted.{most_counted}
 use Rattle.sg_facts.specs.Guard.{guard}
@@ -14,7 +15,7 @@ use Rattle.sg_facts.specs.Object.{Object, empty_object, object_from, object_of}
 use Rattle.sg_facts.specs.Trace.{Boot}
 use Rattle.sg_facts.specs.Track.{is_live}
 use Rattle.sg_recovery_laws.specs.Midway.Numbers.{AreNumbers}
-use Rattle.sg_recovery_laws.specs.Midway.Progress.{IsInRecovery, Told}
+use Rattle.sg_recovery_laws.specs.Midway.Progress.{IsInRecovery, Told, complete}
 use Rattle.sg_recovery_laws.specs.sg_hist.Reading.{names_at}
 use Rattle.sg_recovery_laws.specs.sg_hist.Recovered.{AreInBoots}
 use Rattle.sg_recovery_laws.specs.Objects.Serving.{IsLegalObject}
@@ -64,6 +65,10 @@ pub record MayEnter (z : Setting) (history : List Entry) (e : Entry) : Type 0 wh
   pub may : MayBeMade z.iface e.call
   pub guarded : guard z.iface (object_of z.iface.facts history) e.call ≡ None
 
+-- where every live row is rebuilt before any call is served, a reply is held only when all of them are whole
+abbrev pub IsRebuiltFirst : Setting → List Entry → (ℕ → Told) → List Row → Type 0
+IsRebuiltFirst z held told rows = z.iface.eager ≡ true → (held ≢ []) → (id : ℕ) → is_live rows id ≡ true → told id ≡ complete
+
 -- the service stands for the object after the held replies, and what the stubs tell is what the trace tells, whichever held replies
 -- are committed first
 pub record Stands (z : Setting) (w : WorldView) (stub : Stub) (v : Object) : Type 0 where
@@ -74,6 +79,7 @@ pub record Stands (z : Setting) (w : WorldView) (stub : Stub) (v : Object) : Typ
       → IsRead z.iface.facts z.walks (w.history ++ es) (older_items [] w.run.boots) (last_items w.run.boots) stub.names stub.told stub.present (object_of z.iface.facts w.history).rows
   pub unnamed : (es : List Entry) → AreDrawn (held_replies w) es → (id : ℕ) → (object_of z.iface.facts w.history).given < id
       → list_any (λ n. n.0 == id) (names_at z.iface.facts (w.history ++ es) (last_items w.run.boots)) ≡ false
+  pub rebuilt : IsRebuiltFirst z (held_replies w) stub.told (object_of z.iface.facts w.history).rows
 
 -- nothing stands in a service that failed
 abbrev pub StandsIn : Setting → WorldView → Stub → Option Object → Type 0

@@ -14,7 +14,7 @@ use Rattle.sg_facts.specs.Alike.{SameReply, named, under_names}
 use Rattle.sg_facts.specs.Facts.{fun_at}
 use Rattle.sg_facts.specs.Guard.{guard}
 use Rattle.sg_facts.specs.Laws.{Passes}
-use Rattle.sg_facts.specs.Needs.{is_needed}
+use Rattle.sg_facts.specs.Needs.{is_wanted}
 use Rattle.sg_facts.specs.Object.{Object, file_at, object_of, path_of}
 use Rattle.sg_facts.specs.Track.{row_at}
 use Rattle.sg_recovery_laws.specs.Midway.Progress.{IsNone, complete}
@@ -40,9 +40,9 @@ pub record IsLetIn (z : Setting) (w : WorldView) (call : Call) : Type 0 where
 abbrev pub IsThere : Stub → Object → List ℕ → Type 0
 IsThere stub o path = (stub.present path ≡ true) ⊎ (file_at o.files path ≡ [])
 
--- all that a call needs is there: its rows are whole, and its file is there; and its descriptor is none, or live
+-- all that is wanted for a call is there: the rows are whole, and its file is there; and its descriptor is none, or live
 pub record HasAll (z : Setting) (w : WorldView) (stub : Stub) (call : Call) : Type 0 where
-  pub rows : (r : Row) → row_at (object_of z.iface.facts w.history).rows r.id ≡ Some r → is_needed z.iface.facts (object_of z.iface.facts w.history).rows call r ≡ true → stub.told r.id ≡ complete
+  pub rows : (r : Row) → row_at (object_of z.iface.facts w.history).rows r.id ≡ Some r → is_wanted z.iface (object_of z.iface.facts w.history).rows call r ≡ true → stub.told r.id ≡ complete
   pub file : (fun_at z.iface.facts.funs call.fun).uses_file ≡ true → IsThere stub (object_of z.iface.facts w.history) (path_of (object_of z.iface.facts w.history).rows call.desc)
   pub desc : IsNone (object_of z.iface.facts w.history).rows call.desc
 
