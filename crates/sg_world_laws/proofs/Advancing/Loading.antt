@@ -1,13 +1,12 @@
 -- A file is loaded that a call needs: what its item owes, and what stands after it.
 use Rattle.std.proofs.Common.{Bool, List, None, Some, [], ap, cond, false, filter, find, length, map, not, refl, subst, sym, true, ℕ, ◌&&◌, ◌++◌, ◌==◌, ◌||◌, ◌∙◌, ◌∷◌, ◌≡◌, ◌≤◌}
-use Rattle.std.specs.List.{list_all}
-use Rattle.std.specs.Prelude.{nat_le}
 use Rattle.std.specs.Str.{bytes_eq}
 use Rattle.sg_facts.specs.sg_base.declared.call.Call.{Call}
-use Rattle.sg_facts.specs.Allowed.{implies, is_allowed, is_text_field, keeps_private, keeps_to, leaves_own, replays_all, sets_once}
-use Rattle.sg_facts.specs.Facts.{Facts, fun_at, is_visible, takes_desc, takes_parent}
+use Rattle.sg_facts.specs.Allowed.{implies, is_allowed}
+use Rattle.sg_facts.specs.Facts.{Facts, fun_at, is_visible, takes_desc}
 use Rattle.sg_facts.specs.Invoke.{loaded}
-use Rattle.sg_facts.specs.Needs.{is_needed, needs}
+use Rattle.sg_facts.specs.Interface.{Declared}
+use Rattle.sg_facts.specs.Needs.{is_wanted, wanted}
 use Rattle.sg_facts.specs.Object.{Object, file_at, object_from, object_of, path_of, set_file}
 use Rattle.sg_facts.specs.Trace.{Boot}
 use Rattle.sg_facts.specs.Track.{row_at}
@@ -15,13 +14,11 @@ use Rattle.sg_facts.specs.declared.entry.Entry.{Entry}
 use Rattle.sg_facts.specs.declared.row.Row.{Row}
 use Rattle.sg_facts.specs.declared.trace.Item.{Item}
 use Rattle.sg_facts.specs.declared.trace.Tag.TheVariants.{Load}
-use Rattle.sg_facts.proofs.Replaying.Steps.{each_fun}
 use Rattle.sg_recovery_laws.specs.sg_hist.Reading.{after_item, given_by, is_tagged, service_call}
 use Rattle.sg_recovery_laws.specs.sg_hist.Recovered.{AskedAs, IsDemanded, IsItsCall, IsLoad, IsLoadedFor, IsTrackedAt, IsWalked, is_clients, is_patch_at, is_replied, is_visible_reply}
 use Rattle.sg_recovery_laws.specs.sg_hist.Growing.{IsNextItem, IsOfNoEntry, last_items, older_items}
 use Rattle.sg_recovery_laws.proofs.InBoots.{place_is}
 use Rattle.sg_boot.specs.Invoking.{load_outcome}
-use Rattle.sg_recovery_laws.proofs.Objects.Guarded.{both_true, first_four}
 use Rattle.sg_recovery_laws.proofs.Objects.Waiting.{behind_same}
 use Rattle.sg_recovery_laws.specs.Midway.Progress.{IsInRecovery, Told, complete, is_complete}
 use Rattle.sg_recovery_laws.specs.LastItem.LastPlace.{last_place}
@@ -31,7 +28,7 @@ use Rattle.sg_world_laws.specs.Keeping.{AreDrawn, KeepsPromise, Stands, Stub, st
 use Rattle.sg_world_laws.specs.Setting.{IsSetting, Setting, stubs_of}
 use Rattle.sg_world_laws.specs.Turns.{IsLetIn}
 use Rattle.sg_world_laws.proofs.Waits.{keeps_parts}
-use Rattle.sg_world_laws.proofs.Orders.{all_drawn, back_es, call_es, good_now, needs_es, none_es, time_es, wait_es}
+use Rattle.sg_world_laws.proofs.Orders.{all_drawn, call_es, good_now, needs_es, none_es, time_es, told_es, wait_es}
 use Rattle.sg_world_laws.specs.Advancing.Advancing.{IsDue, IsLeftToLoad, IsLoadItem, StandsBehind, loaded_stub}
 use Rattle.sg_world_laws.proofs.Advancing.Admitted.{ascends_es, known_item, lets_es, seqs_es}
 use Rattle.sg_world_laws.proofs.Advancing.Files.{with_file_more}
@@ -48,7 +45,7 @@ uses_files facts n allowed first last uses =
     turn true false t is all = absurd (cc all)
     turn false r t is all = absurd (cc is)
 
--- where no needed row is left, all are whole
+-- where no wanted row is left, all are whole
 none_left_of : (test : Row → Bool) (told : ℕ → Told) (rows : List Row) (r : Row) → find (λ a. not (is_complete (told a))) (map (λ x. x.id) (filter test rows)) ≡ None → row_at rows r.id ≡ Some r → test r ≡ true → is_complete (told r.id) ≡ true
 none_left_of test told [] r none there need = absurd (cc there)
 none_left_of test told (x ∷ rows) r none there need = at (test x) refl none (x.id == r.id) there (none_left_of test told rows r)
@@ -64,9 +61,9 @@ none_left_of test told (x ∷ rows) r none there need = at (test x) refl none (x
     at false fails is true there rest = let one : x ≡ r = cc there in absurd (let fails_r : test r ≡ false = subst (λ y. test y ≡ false) one fails in cc (fails_r, need))
     at false fails is false there rest = rest is there need
 
-pub none_left : (facts : Facts) (o : Object) (call : Call) (told : ℕ → Told) → find (λ a. not (is_complete (told a))) (needs facts o call).ids ≡ None
-    → (r : Row) → row_at o.rows r.id ≡ Some r → is_needed facts o.rows call r ≡ true → told r.id ≡ complete
-none_left facts o call told none r there need = told_is (told r.id) (none_left_of (is_needed facts o.rows call) told o.rows r none there need)
+pub none_left : (i : Declared) (o : Object) (call : Call) (told : ℕ → Told) → find (λ a. not (is_complete (told a))) (wanted i o call).ids ≡ None
+    → (r : Row) → row_at o.rows r.id ≡ Some r → is_wanted i o.rows call r ≡ true → told r.id ≡ complete
+none_left i o call told none r there want = told_is (told r.id) (none_left_of (is_wanted i o.rows call) told o.rows r none there want)
 
 none_of_load : (item : Item) (key : List ℕ) (client : ℕ) → item.tag ≡ Load key client → (h : List Entry) → IsOfNoEntry item h
 none_of_load item key client tag [] = tt
@@ -115,7 +112,7 @@ module _ (z : Setting) (set : IsSetting z) (w : WorldView) (b : Boot) (boots : L
           load_settled z.iface z.walks (w.history ++ es) (unanswered (standing w b boots (Some v))) (older_items [] (b ∷ boots)) (last_items (b ∷ boots)) item stub.names stub.told stub.present
           (object_from z.iface.facts (object_of z.iface.facts w.history) es) known.object known.sound (ascends_es z set w b boots v stub k call let_in item es drawn none_of) none_of known.items known.read
           call.client key call (call_es z set w b boots (Some v) stub k es drawn call let_in) (seqs_es z set w b boots v stub k call let_in item es drawn none_of)
-          (λ r there need. let was = back_es z set w b boots (Some v) stub k es drawn call let_in r there need in left.rows r was.0 was.1)
+          (told_es z set w b boots (Some v) stub k es drawn call let_in left.rows)
           (ap (λ n. n.file) (needs_es z set w b boots (Some v) stub k es drawn call let_in) ∙ left.file) left.absent whole_file (lets_es z set w b boots v stub k call let_in item es drawn none_of)
 
       pub load_due : IsDue z (standing w b boots (Some v)) item es
@@ -128,7 +125,7 @@ module _ (z : Setting) (set : IsSetting z) (w : WorldView) (b : Boot) (boots : L
           settled = record {
             walk = subst (IsWalked z.iface.facts z.walks (w.history ++ es) (last_place (older_items [] (b ∷ boots)) (last_items (b ∷ boots)) item)) (sym is.tag) tt;
             demand = subst (IsDemanded z.iface z.walks (w.history ++ es) (unanswered (standing w b boots (Some v))) (last_place (older_items [] (b ∷ boots)) (last_items (b ∷ boots)) item)) (sym is.tag) loaded_for;
-            state = subst (IsTrackedAt z.iface.facts z.walks (w.history ++ es) (last_place (older_items [] (b ∷ boots)) (last_items (b ∷ boots)) item)) (sym is.tag) tt;
+            state = subst (IsTrackedAt z.iface z.walks (w.history ++ es) (last_place (older_items [] (b ∷ boots)) (last_items (b ∷ boots)) item)) (sym is.tag) tt;
           };
         });
       }

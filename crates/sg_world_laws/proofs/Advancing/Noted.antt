@@ -129,6 +129,7 @@ module _ (z : Setting) (set : IsSetting z) (w : WorldView) (b : Boot) (boots : L
         in_recovery = subst (λ l. IsInRecovery z.iface z.walks stub'.names stub'.told stub'.present (object_from z.iface.facts (object_of z.iface.facts w.history) l) v') (sym same_held) stands.in_recovery;
         read = read_now;
         unnamed = unnamed_now;
+        rebuilt = λ eager some. stands.rebuilt eager (λ none. some (same_held ∙ none));
       };
     }
 

@@ -70,4 +70,5 @@ module _ (z : Setting) (w : WorldView) (b : Boot) (boots : List Boot) (v : Objec
     in_recovery = in_recovery;
     read = read_now;
     unnamed = λ es drawn id above. ap (λ l. list_any (λ (n : ℕ × ℕ). n.0 == id) l) (gives.no_name (w.history ++ es));
+    rebuilt = up.rebuilt;
   }

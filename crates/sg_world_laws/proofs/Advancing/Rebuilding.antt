@@ -1,5 +1,5 @@
--- The first needed row that isn't whole, and the next call of its walk, at the history and after held replies.
-use Rattle.std.proofs.Common.{Bool, List, Some, [], ap, arith, cond, false, inl, inr, length, not, refl, subst, suc, sym, take, true, zero, ℕ, ◌*◌, ◌++◌, ◌+◌, ◌<◌, ◌==◌, ◌^◌, ◌∙◌, ◌∷◌, ◌≡◌, ◌≤◌, ◌⊎◌}
+-- The first wanted row that isn't whole, and the next call of its walk, at the history and after held replies.
+use Rattle.std.proofs.Common.{Bool, List, Some, [], ap, arith, cond, false, inl, inr, length, not, refl, subst, suc, sym, take, true, zero, ℕ, ◌*◌, ◌++◌, ◌+◌, ◌<◌, ◌==◌, ◌^◌, ◌∙◌, ◌∷◌, ◌≡◌, ◌≤◌, ◌⊎◌, ◌≢◌, ◌||◌}
 use Rattle.std.specs.Prelude.{find}
 use Rattle.sg_facts.specs.sg_base.declared.call.Call.{Call}
 use Rattle.sg_facts.specs.Alike.{named}
@@ -7,7 +7,7 @@ use Rattle.sg_facts.specs.Counted.{CountedBelow}
 use Rattle.sg_facts.specs.Held.{AreReachable, IsAt, ParentIsWhole, set_of}
 use Rattle.sg_facts.specs.Interface.{Declared}
 use Rattle.sg_facts.specs.Laws.{slow}
-use Rattle.sg_facts.specs.Needs.{is_needed, needs}
+use Rattle.sg_facts.specs.Needs.{is_needed, is_wanted, wanted}
 use Rattle.sg_facts.specs.Object.{Object, object_from, object_of}
 use Rattle.sg_facts.specs.Sound.{IsSound}
 use Rattle.sg_facts.specs.Trace.{Boot}
@@ -15,7 +15,7 @@ use Rattle.sg_facts.specs.Track.{is_live, row_at}
 use Rattle.sg_facts.specs.Walks.{IsReachable, IsWalkOf}
 use Rattle.sg_facts.specs.declared.entry.Entry.{Entry}
 use Rattle.sg_facts.specs.declared.row.Row.{Row}
-use Rattle.sg_facts.proofs.RowLists.{id_of_row, row_of_live}
+use Rattle.sg_facts.proofs.RowLists.{id_of_row, live_of_row, row_of_live}
 use Rattle.sg_recovery_laws.specs.sg_hist.Reading.{walk_in}
 use Rattle.sg_recovery_laws.proofs.Objects.Waiting.{behind_same}
 use Rattle.sg_recovery_laws.specs.Midway.Progress.{IsSoFar, TellsCalls, Told, begun, complete, fresh, is_complete}
@@ -28,7 +28,8 @@ use Rattle.sg_seat.specs.WorldView.{WorldView, held_in}
 use Rattle.sg_world_laws.specs.Keeping.{AreDrawn, KeepsPromise, Stands, Stub, standing}
 use Rattle.sg_world_laws.specs.Setting.{IsSetting, Setting}
 use Rattle.sg_world_laws.specs.Turns.{IsLetIn}
-use Rattle.sg_world_laws.proofs.Orders.{all_drawn, far_now, good_es, good_now, needs_es, reachable_es, sound_es, there_es, time_es}
+use Rattle.sg_world_laws.proofs.Orders.{all_drawn, far_now, good_es, good_now, needs_es, reachable_es, sound_es, there_es, time_es, wanted_is}
+use Rattle.sg_world_laws.proofs.Struck.{none_drawn}
 use Rattle.sg_world_laws.specs.Advancing.Advancing.{IsFirstLeft}
 
 pub told_is : (t : Told) → is_complete t ≡ true → t ≡ complete
@@ -82,31 +83,61 @@ module _ (z : Setting) (set : IsSetting z) (w : WorldView) (b : Boot) (boots : L
   pub sound_now : IsSound z.iface.facts (object_of z.iface.facts w.history)
   sound_now = set.law.keeps.general (object_of z.iface.facts w.history) (good_now z set w b boots (Some v) stub k).is_sound
 
-  pub least : IsLeast z.iface.facts (object_of z.iface.facts w.history) sound_now stub.told call id
-  least = least_row z.iface.facts (object_of z.iface.facts w.history) sound_now stub.told call id first
+  pub least : IsLeast z.iface (object_of z.iface.facts w.history) sound_now stub.told call id
+  least = least_row z.iface (object_of z.iface.facts w.history) sound_now stub.told call id first
+
+  -- where every live row is rebuilt first, no reply is held yet
+  none_held : z.iface.eager ≡ true → held_in (length (b ∷ boots)) w.seats ≡ []
+  unfolding up
+  none_held eager = at (held_in (length (b ∷ boots)) w.seats) refl
+    where
+      whole : held_in (length (b ∷ boots)) w.seats ≢ [] → is_complete (stub.told id) ≡ true
+      whole some = ap is_complete (up.rebuilt eager some id (live_of_row (object_of z.iface.facts w.history).rows id least.row least.there))
+
+      at : (held : List Entry) → held_in (length (b ∷ boots)) w.seats ≡ held → held_in (length (b ∷ boots)) w.seats ≡ []
+      at [] is = is
+      at (e ∷ held) is = absurd (let done = whole (λ none. let wrong : e ∷ held ≡ [] = sym is ∙ none in cc wrong) in let part = least.part in cc (done, part))
+
+  -- so what is drawn of the held replies is nothing, or the call alone tells what is wanted
+  drawn_none : (es : List Entry) → AreDrawn (held_in (length (b ∷ boots)) w.seats) es → (es ≡ []) ⊎ (z.iface.eager ≡ false)
+  drawn_none es drawn = by z.iface.eager refl
+    where
+      by : (t : Bool) → z.iface.eager ≡ t → (es ≡ []) ⊎ (z.iface.eager ≡ false)
+      by false is = inr is
+      by true is = inl (none_drawn es (subst (λ l. AreDrawn l es) (none_held is) drawn))
 
   module _ (r : Row) (there : row_at (object_of z.iface.facts w.history).rows id ≡ Some r) where
     pub id_is : r.id ≡ id
     id_is = id_of_row (object_of z.iface.facts w.history).rows id r there
 
-    pub need : is_needed z.iface.facts (object_of z.iface.facts w.history).rows call r ≡ true
-    need =
+    need : z.iface.eager ≡ false → is_needed z.iface.facts (object_of z.iface.facts w.history).rows call r ≡ true
+    need on_demand =
         let one : Some least.row ≡ Some r = sym least.there ∙ there in
         let rows_are : least.row ≡ r = cc one in
-        subst (λ x. is_needed z.iface.facts (object_of z.iface.facts w.history).rows call x ≡ true) rows_are least.need
+        sym (ap (λ t. t || is_needed z.iface.facts (object_of z.iface.facts w.history).rows call r) on_demand)
+        ∙ subst (λ x. is_wanted z.iface (object_of z.iface.facts w.history).rows call x ≡ true) rows_are least.want
 
     module _ (es : List Entry) (drawn : AreDrawn (held_in (length (b ∷ boots)) w.seats) es) where
       pub row_es : row_at (object_from z.iface.facts (object_of z.iface.facts w.history) es).rows r.id ≡ Some r
-      row_es = there_es z set w b boots (Some v) stub k es drawn call let_in r (ap (row_at (object_of z.iface.facts w.history).rows) id_is ∙ there) need
+      row_es = elim (drawn_none es drawn) [
+        | inl none ↦ ap (λ l. row_at (object_from z.iface.facts (object_of z.iface.facts w.history) l).rows r.id) none ∙ ap (row_at (object_of z.iface.facts w.history).rows) id_is ∙ there
+        | inr on_demand ↦ there_es z set w b boots (Some v) stub k es drawn call let_in r (ap (row_at (object_of z.iface.facts w.history).rows) id_is ∙ there) (need on_demand)
+      ]
 
       pub id_es : row_at (object_from z.iface.facts (object_of z.iface.facts w.history) es).rows id ≡ Some r
       id_es = ap (row_at (object_from z.iface.facts (object_of z.iface.facts w.history) es).rows) (sym id_is) ∙ row_es
 
-      pub first_es : find (λ a. not (is_complete (stub.told a))) (needs z.iface.facts (object_from z.iface.facts (object_of z.iface.facts w.history) es) call).ids ≡ Some id
-      first_es = ap (λ n. find (λ a. not (is_complete (stub.told a))) n.ids) (needs_es z set w b boots (Some v) stub k es drawn call let_in) ∙ first
+      pub first_es : find (λ a. not (is_complete (stub.told a))) (wanted z.iface (object_from z.iface.facts (object_of z.iface.facts w.history) es) call).ids ≡ Some id
+      first_es = elim (drawn_none es drawn) [
+        | inl none ↦ ap (λ l. find (λ a. not (is_complete (stub.told a))) (wanted z.iface (object_from z.iface.facts (object_of z.iface.facts w.history) l) call).ids) none ∙ first
+        | inr on_demand ↦
+            ap (λ n. find (λ a. not (is_complete (stub.told a))) n.ids)
+            (wanted_is z.iface (object_from z.iface.facts (object_of z.iface.facts w.history) es) call on_demand ∙ needs_es z set w b boots (Some v) stub k es drawn call let_in
+            ∙ sym (wanted_is z.iface (object_of z.iface.facts w.history) call on_demand)) ∙ first
+      ]
 
-      least_es : IsLeast z.iface.facts (object_from z.iface.facts (object_of z.iface.facts w.history) es) (sound_es z set w b boots (Some v) stub k es drawn) stub.told call id
-      least_es = least_row z.iface.facts (object_from z.iface.facts (object_of z.iface.facts w.history) es) (sound_es z set w b boots (Some v) stub k es drawn) stub.told call id first_es
+      least_es : IsLeast z.iface (object_from z.iface.facts (object_of z.iface.facts w.history) es) (sound_es z set w b boots (Some v) stub k es drawn) stub.told call id
+      least_es = least_row z.iface (object_from z.iface.facts (object_of z.iface.facts w.history) es) (sound_es z set w b boots (Some v) stub k es drawn) stub.told call id first_es
 
       -- its parent is none or whole
       pub parent_es : (r.parent ≡ 0) ⊎ ((is_live (object_from z.iface.facts (object_of z.iface.facts w.history) es).rows r.parent ≡ true) × (stub.told r.parent ≡ complete))

@@ -109,7 +109,7 @@ module _ (z : Setting) (set : IsSetting z) (w : WorldView) (b : Boot) (boots : L
         its_of (Load key x) tag = tt
         its_of (Client x s) tag = absurd (cc tag)
 
-        state_of : (t : Tag) → t ≡ Walk id (length done + 1) call.client → IsTrackedAt z.iface.facts z.walks (w.history ++ es) (last_place (older_items [] (b ∷ boots)) (last_items (b ∷ boots)) item) t
+        state_of : (t : Tag) → t ≡ Walk id (length done + 1) call.client → IsTrackedAt z.iface z.walks (w.history ++ es) (last_place (older_items [] (b ∷ boots)) (last_items (b ∷ boots)) item) t
         state_of (Walk i n x) tag = tt
         state_of (Load key x) tag = tt
         state_of (Client x s) tag = absurd (cc tag)
@@ -222,6 +222,7 @@ module _ (z : Setting) (set : IsSetting z) (w : WorldView) (b : Boot) (boots : L
       in_recovery = in_recovery_now;
       read = read_now;
       unnamed = λ es drawn x above. unnamed_now es x above;
+      rebuilt = λ eager some. absurd (let whole = up.rebuilt eager some id (live_of_row (object_of z.iface.facts w.history).rows id r its.there) in cc (whole, part));
     }
 
     -- what its item makes of the service

@@ -17,7 +17,7 @@ use Rattle.sg_world_laws.specs.Keeping.{KeepsPromise, Stands, Stub, standing}
 use Rattle.sg_world_laws.specs.Setting.{IsSetting, Setting}
 use Rattle.sg_world_laws.specs.Turns.{HasAll, IsAskedItem, IsLetIn}
 use Rattle.sg_world_laws.proofs.Asked.{its_es, next_es, none_of}
-use Rattle.sg_world_laws.proofs.Orders.{few_now, good_now, time_now}
+use Rattle.sg_world_laws.proofs.Orders.{few_now, good_now, needs_told, time_now}
 use Rattle.sg_world_laws.specs.Advancing.Advancing.{IsEverDue, StandsBehind}
 use Rattle.sg_world_laws.proofs.Advancing.Plain.{stands_plain, waits_give_nothing}
 
@@ -52,7 +52,8 @@ module _ (z : Setting) (set : IsSetting z) (w : WorldView) (b : Boot) (boots : L
     waits_there =
         let few = few_now z set w b boots (Some v) stub k in
         blocks_alike z.iface z.ask z.sound z.walks stub.names stub.told stub.present (object_of z.iface.facts w.history) v ws set.law (good_now z set w b boots (Some v) stub k) k.waiting
-        (time_now z set w b boots (Some v) stub k (suc (suc (length ws))) (omega (arith, few))) up.in_recovery call let_in.passes let_in.none_by all.rows all.file
+        (time_now z set w b boots (Some v) stub k (suc (suc (length ws))) (omega (arith, few))) up.in_recovery call let_in.passes let_in.none_by
+        (needs_told z (standing w b boots (Some v)) stub call all) all.file
         (ap (z.ask v) (sym asked_as) ∙ subst (IsByTable z.iface.facts z.ask v (service_call item)) waits asked.table)
 
     pub waits_makes : v ≡ after_item z.iface.facts v item

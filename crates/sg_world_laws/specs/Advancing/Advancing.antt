@@ -9,7 +9,7 @@ use Rattle.sg_facts.specs.Alike.{named}
 use Rattle.sg_facts.specs.Facts.{Facts, fun_at}
 use Rattle.sg_facts.specs.Kinds.{MayAsk}
 use Rattle.sg_facts.specs.Laws.{is_none, names_after, next_call}
-use Rattle.sg_facts.specs.Needs.{is_needed, needs}
+use Rattle.sg_facts.specs.Needs.{is_wanted, needs, wanted}
 use Rattle.sg_facts.specs.Object.{Object, file_at, object_from, object_of, patch_of}
 use Rattle.sg_facts.specs.Track.{is_live, row_at}
 use Rattle.sg_facts.specs.Walks.{replayed_call}
@@ -28,7 +28,7 @@ use Rattle.sg_recovery_laws.specs.Midway.Stepping.{told_after}
 use Rattle.sg_recovery_laws.specs.LastItem.LastPlace.{last_place}
 use Rattle.sg_recovery_laws.specs.LastItem.Told.{IsRead}
 use Rattle.sg_seat.specs.WorldView.{Seat, WorldView, held_replies, unanswered}
-use Rattle.sg_world_laws.specs.Keeping.{AreDrawn, Stub}
+use Rattle.sg_world_laws.specs.Keeping.{AreDrawn, IsRebuiltFirst, Stub}
 use Rattle.sg_world_laws.specs.Setting.{Setting, stubs_of}
 
 -- an item owes nothing where it is noted: it is of no entry, and all that is asked of it holds
@@ -49,6 +49,7 @@ pub record StandsBehind (z : Setting) (w : WorldView) (item : Item) (stub : Stub
       → IsRead z.iface.facts z.walks (w.history ++ es) (older_items [] w.run.boots) (last_items w.run.boots ++ item ∷ []) stub.names stub.told stub.present (object_of z.iface.facts w.history).rows
   pub unnamed : (es : List Entry) → AreDrawn (held_replies w) es → (id : ℕ) → (object_of z.iface.facts w.history).given < id
       → list_any (λ n. n.0 == id) (names_in z.iface.facts (w.history ++ es) item.shown.fun item.tag item.outcome) ≡ false
+  pub rebuilt : IsRebuiltFirst z (held_replies w) stub.told (object_of z.iface.facts w.history).rows
 
 -- a world with an item more, so many points asked, and its service and its seats then
 abbrev pub with_noted : WorldView → Item → ℕ → Object → List Seat → WorldView
@@ -60,9 +61,9 @@ stopped_within w item points stop = record w { run = record { boots = struck (no
 
 -- ---- a row is rebuilt
 
--- the first row that a call needs and that isn't whole
+-- the first row that is wanted for a call and that isn't whole
 abbrev pub IsFirstLeft : Setting → WorldView → Stub → Call → ℕ → Type 0
-IsFirstLeft z w stub call id = find (λ a. not (is_complete (stub.told a))) (needs z.iface.facts (object_of z.iface.facts w.history) call).ids ≡ Some id
+IsFirstLeft z w stub call id = find (λ a. not (is_complete (stub.told a))) (wanted z.iface (object_of z.iface.facts w.history) call).ids ≡ Some id
 
 -- so much of the walk of an id's row is done, as is told, and this function is the next
 pub record IsNextOf (z : Setting) (w : WorldView) (stub : Stub) (id : ℕ) (row : Row) (done rest : List ℕ) (fun : ℕ) : Type 0 where
@@ -100,9 +101,9 @@ replayed_stub stub id row done rest good = record { names = names_after stub.nam
 
 -- ---- a file is loaded
 
--- a file is to be loaded for a call: all rows that it needs are whole, its file isn't in this boot yet, and isn't empty
+-- a file is to be loaded for a call: all rows that are wanted for it are whole, its file isn't in this boot yet, and isn't empty
 pub record IsLeftToLoad (z : Setting) (w : WorldView) (stub : Stub) (call : Call) (key : List ℕ) : Type 0 where
-  pub rows : (r : Row) → row_at (object_of z.iface.facts w.history).rows r.id ≡ Some r → is_needed z.iface.facts (object_of z.iface.facts w.history).rows call r ≡ true → stub.told r.id ≡ complete
+  pub rows : (r : Row) → row_at (object_of z.iface.facts w.history).rows r.id ≡ Some r → is_wanted z.iface (object_of z.iface.facts w.history).rows call r ≡ true → stub.told r.id ≡ complete
   pub file : (needs z.iface.facts (object_of z.iface.facts w.history) call).file ≡ Some key
   pub absent : stub.present key ≡ false
   pub some : file_at (object_of z.iface.facts w.history).files key ≢ []
