@@ -32,7 +32,7 @@ use Rattle.sg_recovery_laws.proofs.Objects.Waiting.{good_behind, less_time, time
 use Rattle.sg_seat.specs.WorldView.{WorldView, held_in}
 use Rattle.sg_world_laws.specs.Keeping.{KeepsPromise, Stands, Stub, standing}
 use Rattle.sg_world_laws.specs.Setting.{IsSetting, Setting}
-use Rattle.sg_world_laws.proofs.Orders.{few_now, good_now, time_now}
+use Rattle.sg_world_laws.proofs.Orders.{few_now, good_now, needs_told, time_now}
 
 -- the names and what is told after a reply
 abbrev pub names_by : Facts → List (ℕ × ℕ) → Call → Reply → Reply → List (ℕ × ℕ)
@@ -103,7 +103,7 @@ module _ (z : Setting) (set : IsSetting z) (w : WorldView) (b : Boot) (boots : L
   -- the call may go before the held replies, or after them
   pub past : object_from z.iface.facts (after z.iface.facts (object_of z.iface.facts w.history) call reply) (held_in (length (b ∷ boots)) w.seats)
       ≡ after z.iface.facts (object_from z.iface.facts (object_of z.iface.facts w.history) (held_in (length (b ∷ boots)) w.seats)) call reply
-  past = past_held z.iface z.ask z.sound z.walks stub.names stub.told stub.present o v ws set.law good k.waiting time_two up.in_recovery call s.let_in.passes s.let_in.none_by s.all.rows s.all.file reply s.replied.answered
+  past = past_held z.iface z.ask z.sound z.walks stub.names stub.told stub.present o v ws set.law good k.waiting time_two up.in_recovery call s.let_in.passes s.let_in.none_by (needs_told z (standing w b boots (Some v)) stub call s.all) s.all.file reply s.replied.answered
 
   pub call_is : service_call item ≡ under_names stub.names call
   call_is = ap (λ n. record item.shown { desc = n }) s.replied.asked.real ∙ ap (λ (c : Call). record c { desc = named stub.names call.desc }) s.replied.asked.shown
@@ -120,8 +120,8 @@ module _ (z : Setting) (set : IsSetting z) (w : WorldView) (b : Boot) (boots : L
   moved_by (Ok g) (Ok h) is is_v same =
       let words : (h.words ≡ g.words) = (same_words stub.names (fun_at z.iface.facts.funs call.fun).creation g h same).0 in
       record {
-        patch_is = same_patch_h z.iface z.ask z.sound z.walks stub.names stub.told stub.present o v ws set.law good k.waiting time_two up.in_recovery call s.let_in.passes s.let_in.none_by s.all.rows s.all.file g h is is_v words;
-        in_recovery = under_served z.iface z.ask z.sound z.walks stub.names stub.told stub.present o v ws set.law good k.waiting time_two up.in_recovery call s.let_in.passes s.let_in.none_by s.all.rows s.all.file g h is is_v words;
+        patch_is = same_patch_h z.iface z.ask z.sound z.walks stub.names stub.told stub.present o v ws set.law good k.waiting time_two up.in_recovery call s.let_in.passes s.let_in.none_by (needs_told z (standing w b boots (Some v)) stub call s.all) s.all.file g h is is_v words;
+        in_recovery = under_served z.iface z.ask z.sound z.walks stub.names stub.told stub.present o v ws set.law good k.waiting time_two up.in_recovery call s.let_in.passes s.let_in.none_by (needs_told z (standing w b boots (Some v)) stub call s.all) s.all.file g h is is_v words;
       }
   moved_by (Refused code) (Refused real_code) is is_v same = record { patch_is = refl; in_recovery = up.in_recovery }
   moved_by (Ok g) (Refused code) is is_v same = absurd (apart_ok stub.names (fun_at z.iface.facts.funs call.fun).creation g code same)

@@ -13,7 +13,7 @@ use Rattle.sg_world_laws.proofs.Committing.Behind.{answered_it, live_all, moved,
 use Rattle.sg_world_laws.proofs.Committing.Noted.{cell_noted, held_noted, in_boots_noted, items_noted, last_noted, length_noted, own_noted, spelt_is}
 use Rattle.sg_world_laws.proofs.Committing.Numbers.{numbers_served}
 use Rattle.sg_world_laws.proofs.Committing.Recovering.{next_now, served_it, served_recovers}
-use Rattle.sg_world_laws.proofs.Committing.Telling.{named_is_live, named_live_on, named_or_gone, told_live_on}
+use Rattle.sg_world_laws.proofs.Committing.Telling.{named_is_live, named_live_on, named_or_gone, told_live_on, told_whole}
 use Rattle.sg_world_laws.proofs.Committing.Traced.{read_with, unnamed_with}
 use Rattle.sg_facts.specs.declared.entry.Entry.{Entry}
 use Rattle.sg_facts.specs.declared.outcome.Patch.{Patch}
@@ -158,6 +158,8 @@ module _ (z : Setting) (set : IsSetting z) (w : WorldView) (b : Boot) (boots : L
       in_recovery = subst (λ x. IsInRecovery z.iface z.walks stub'.names stub'.told stub'.present x v1) (sym behind_now) under_now;
       read = λ es drawn. read_now es (subst (λ l. AreDrawn l es) same_held drawn);
       unnamed = λ es drawn. unnamed_now es (subst (λ l. AreDrawn l es) same_held drawn);
+      rebuilt = λ eager some id live. told_whole facts o call reply other stub stub' tells s.replied.same (acts facts call.fun set.law.shape.shape s.let_in.passes.is_call.first s.let_in.passes.is_call.last)
+          (k.stands.rebuilt eager (λ none. some (same_held ∙ none))) id (ap (λ y. is_live y.rows id) (sym object_now) ∙ live);
     }
 
     -- the world keeps what it keeps

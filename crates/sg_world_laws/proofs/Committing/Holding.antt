@@ -15,6 +15,7 @@ use Rattle.sg_world_laws.proofs.Committing.Numbers.{numbers_served}
 use Rattle.sg_world_laws.proofs.Committing.Recovering.{hidden_held, item_es, last_es, next_old, own, served_it}
 use Rattle.sg_world_laws.proofs.Committing.Storing.{hidden_writes_none}
 use Rattle.sg_world_laws.proofs.Committing.Traced.{item_names, names_any, read_plain}
+use Rattle.sg_facts.proofs.RowLists.{row_of_live}
 use Rattle.sg_facts.specs.declared.entry.Entry.{Entry}
 use Rattle.sg_facts.specs.declared.outcome.Outcome.TheVariants.{Replied}
 use Rattle.sg_facts.specs.declared.outcome.Patch.{Patch}
@@ -23,12 +24,15 @@ use Rattle.sg_facts.specs.Alike.{named, under_names}
 use Rattle.sg_facts.specs.Facts.{Facts, fun_at, is_visible}
 use Rattle.sg_facts.specs.Legal.{Table}
 use Rattle.sg_facts.specs.Limits.{last_client}
+use Rattle.sg_facts.specs.Needs.{is_needed}
 use Rattle.sg_facts.specs.Object.{Object, after, object_from, object_of, patch_of}
 use Rattle.sg_facts.specs.Trace.{Boot, Run}
+use Rattle.sg_facts.specs.Track.{row_at}
 use Rattle.sg_recovery_laws.specs.Midway.Numbers.{AreNumbers}
 use Rattle.sg_recovery_laws.specs.Midway.Progress.{IsInRecovery, complete}
 use Rattle.sg_recovery_laws.specs.Midway.Stepping.{present_with}
 use Rattle.sg_recovery_laws.proofs.Midway.Glue.{under_named}
+use Rattle.sg_recovery_laws.proofs.Midway.Least.{or_left}
 use Rattle.sg_recovery_laws.specs.sg_hist.Reading.{Position, entries_before, id_given, is_ok, item_of, names_at, pair_of}
 use Rattle.sg_recovery_laws.specs.sg_hist.Recovered.{GivesEntry, is_clients, is_patch_at, is_replied, is_visible_reply}
 use Rattle.sg_recovery_laws.specs.Objects.Waiting.{AreWaiting, IsWaiting, NoneBy}
@@ -261,6 +265,9 @@ module _ (z : Setting) (set : IsSetting z) (w : WorldView) (b : Boot) (boots : L
     in_recovery = subst (λ l. IsInRecovery z.iface z.walks stub.names stub.told stub.present (object_from facts o l) v1) (sym same_held) under_now;
     read = λ es drawn. read_now es (subst (λ l. AreDrawn l es) same_held drawn);
     unnamed = λ es drawn. unnamed_now es;
+    rebuilt = λ eager some id live.
+        let x = row_of_live o.rows id live in
+        ap stub.told (sym x.2) ∙ s.all.rows x.0 (ap (row_at o.rows) x.2 ∙ x.1) (or_left z.iface.eager (is_needed facts o.rows call x.0) eager);
   }
 
   -- the world keeps what it keeps

@@ -181,7 +181,7 @@ module _ (z : Setting) (set : IsSetting z) (w : WorldView) (b : Boot) (boots : L
           record {
             walk = walked_same z.iface.facts z.walks (w.history ++ es) u ((w.history ++ es) ++ e ∷ []) u' p p.rest p.newer same was.walk;
             demand = demanded_same z.iface z.walks (w.history ++ es) u ((w.history ++ es) ++ e ∷ []) u' p p.rest p.newer same was.demand;
-            state = tracked_same z.iface.facts z.walks (w.history ++ es) u ((w.history ++ es) ++ e ∷ []) u' p p.rest p.newer same was.state;
+            state = tracked_same z.iface z.walks (w.history ++ es) u ((w.history ++ es) ++ e ∷ []) u' p p.rest p.newer same was.state;
           }
         where
           three : (g a o : Bool) → o ≡ true → (g && a && not (o || false)) ≡ false

@@ -8,6 +8,7 @@ use Rattle.sg_facts.specs.sg_base.declared.reply.Reply.{Reply}
 use Rattle.sg_facts.specs.sg_base.declared.reply.Reply.TheVariants.{Ok, Refused}
 use Rattle.sg_world_laws.specs.Committing.Telling.{TellsAfter, has_ended, makes_id}
 use Rattle.sg_world_laws.proofs.Committing.Behind.{apart_ok, names_by, told_by}
+use Rattle.sg_facts.proofs.RowLists.{row_of_live}
 use Rattle.sg_facts.specs.Alike.{SameReply, named}
 use Rattle.sg_facts.specs.Facts.{Facts, fun_at}
 use Rattle.sg_facts.specs.Object.{Object, after}
@@ -16,6 +17,7 @@ use Rattle.sg_recovery_laws.specs.Midway.Progress.{Told, complete, fresh}
 use Rattle.sg_recovery_laws.specs.sg_hist.Reading.{desc_of}
 use Rattle.sg_recovery_laws.proofs.Objects.Apart.{makes_row}
 use Rattle.sg_recovery_laws.proofs.Objects.Guarded.{ActsOnOne}
+use Rattle.sg_recovery_laws.proofs.Objects.Steady.{fewer_after}
 use Rattle.sg_facts.proofs.Replaying.Found.{other_test, same_test}
 use Rattle.sg_world_laws.specs.Keeping.{Stub}
 
@@ -100,3 +102,29 @@ module _ (facts : Facts) (o : Object) (call : Call) (reply other : Reply) (stub 
       at : (t : Bool) → has_ended o.rows (after facts o call reply).rows id ≡ t → (named later.names id ≡ 0) ⊎ (is_live (after facts o call reply).rows id ≡ true)
       at true is = inl (tells.names id ∙ ap (λ t. cond t 0 (cond (makes_id facts call reply id) (desc_of other) (named stub.names id))) is)
       at false is = made (makes_id facts call reply id) refl is
+
+  -- what is live after it was live before, or was made by it
+  was_live : ActsOnOne facts (fun_at facts.funs call.fun) → (r : Reply) (id : ℕ) → is_live (after facts o call r).rows id ≡ true → makes_id facts call r id ≡ false → is_live o.rows id ≡ true
+  was_live acts (Refused code) id live made = live
+  was_live acts (Ok g) id live made = at (fun_at facts.funs call.fun).creation refl made
+    where
+      either : (a b : Bool) → (a || (b || false)) ≡ true → b ≡ false → a ≡ true
+      either true b is none = refl
+      either false true is none = absurd (cc none)
+      either false false is none = absurd (cc is)
+
+      at : (c : Bool) → (fun_at facts.funs call.fun).creation ≡ c → (c && (id == g.desc)) ≡ false → is_live o.rows id ≡ true
+      at false makes made = let found = row_of_live (rows_after facts o.rows call g) id live in fewer_after facts o.rows call g makes id found.0 found.1
+      at true makes made =
+          either (is_live o.rows id) (g.desc == id)
+          (sym (ap (λ rs. is_live rs id) (makes_row facts call g o.rows (acts.makes makes).0 makes) ∙ list_any-append (λ r. r.id == id) o.rows (new_row facts call g ∷ [])) ∙ live)
+          (turned g.desc id ∙ made)
+
+  -- where all that was live is told whole, all that is live after it is
+  pub told_whole : ActsOnOne facts (fun_at facts.funs call.fun) → ((id : ℕ) → is_live o.rows id ≡ true → stub.told id ≡ complete) → (id : ℕ) → is_live (after facts o call reply).rows id ≡ true → later.told id ≡ complete
+  told_whole acts whole id live =
+      tells.told id ∙ ap (λ t. cond t fresh (cond (makes_id facts call reply id) complete (stub.told id))) (not_ended id live) ∙ at (makes_id facts call reply id) refl
+    where
+      at : (m : Bool) → makes_id facts call reply id ≡ m → cond m complete (stub.told id) ≡ complete
+      at true made = refl
+      at false made = whole id (was_live acts reply id live made)
