@@ -2,7 +2,7 @@
 ghost use Rattle.std.specs.Prelude.{◌≡◌, ◌≤◌, ℕ, List, false, [], length, None, Some, IsSome, IfOk, MatchOption};
 ghost use Rattle.std.specs.Option.{is_some, option_copied, option_map};
 ghost use Rattle.sg_facts.specs.Guard.{guard as the_guard};
-ghost use Rattle.sg_facts.specs.Needs.{needs as the_needs};
+ghost use Rattle.sg_facts.specs.Needs.{wanted};
 ghost use Rattle.sg_facts.specs.Object.{Object, empty_object};
 ghost use Rattle.sg_facts.specs.Track.{row_at};
 ghost use Rattle.sg_facts.specs.Trace.{run_of};
@@ -127,9 +127,9 @@ impl<S: Service> Engine<S> {
         guard(self.tables.interface(), &self.rows, call)
     }
 
-    /// The rows and the file that a call needs.
+    /// The rows and the file that have to be there before a call is served.
     pub fn needs(&self, alloc: Global, call: &Call) -> Result<Needs, NoMemory>
-        ensures { IfOk result (λ needed. (o : Object) → o.rows ≡ self.now.tracked.rows → needed ≡ the_needs self.now.tables.iface.facts o call.now) }
+        ensures { IfOk result (λ needed. (o : Object) → o.rows ≡ self.now.tracked.rows → needed ≡ wanted self.now.tables.iface o call.now) }
     {
         needs_of(alloc, self.tables.interface(), &self.rows, call)
     }

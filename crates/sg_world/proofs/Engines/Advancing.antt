@@ -16,7 +16,7 @@ use Rattle.sg_facts.proofs.RowLists.{id_of_row}
 use Rattle.sg_facts.specs.Alike.{named}
 use Rattle.sg_facts.specs.Invoke.{Points, loaded}
 use Rattle.sg_facts.specs.Laws.{is_none, names_after, next_call}
-use Rattle.sg_facts.specs.Needs.{Needs, needs}
+use Rattle.sg_facts.specs.Needs.{Needs, wanted}
 use Rattle.sg_facts.specs.Object.{Object, after, file_at, object_of, patch_of}
 use Rattle.sg_facts.specs.Trace.{Boot}
 use Rattle.sg_facts.specs.Track.{row_at}
@@ -129,7 +129,7 @@ unchanged_shown z w e new start later k run_is running_is t present =
 module _ (z : Setting) (set : IsSetting z) (w : WorldView) (b : Boot) (boots : List Boot) (v : Object) (e : Engined) (k : KeepsPromise z (standing w b boots (Some v)) (stub_of e))
     (stands : IsEngineOf z (standing w b boots (Some v)) e) (call : Call) (let_in : IsLetIn z (standing w b boots (Some v)) call) where
   abbrev needs_now : Needs
-  needs_now = needs z.iface.facts (object_of z.iface.facts w.history) call
+  needs_now = wanted z.iface (object_of z.iface.facts w.history) call
 
   -- ---- a row is rebuilt
 

@@ -1,10 +1,11 @@
--- What an engine finds missing for a call is what the world has to rebuild or load for it, and where nothing is missing all that it needs is there.
+-- What an engine finds missing for a call is what the world has to rebuild or load for it, and where nothing is missing all that is
+-- wanted for it is there.
 use Rattle.std.proofs.Common.{Bool, List, None, Option, Some, [], ap, cond, false, filter, find, inl, inr, map, not, refl, sym, true, ℕ, ◌==◌, ◌||◌, ◌∙◌, ◌∷◌, ◌≡◌, ◌≢◌, ◌⊎◌}
 use Rattle.sg_world_laws.specs.Advancing.Advancing.{IsFirstLeft, IsLeftToLoad}
 use Rattle.sg_facts.specs.sg_base.declared.call.Call.{Call}
 use Rattle.sg_world.specs.Engines.Engines.{IsEngineOf}
 use Rattle.sg_world.specs.Engines.Stubs.{stub_of, told_of}
-use Rattle.sg_facts.specs.Needs.{is_needed, needs}
+use Rattle.sg_facts.specs.Needs.{is_wanted, wanted}
 use Rattle.sg_facts.specs.Object.{Object, object_of, path_of}
 use Rattle.sg_facts.specs.Track.{row_at}
 use Rattle.sg_facts.specs.declared.row.Row.{Row}
@@ -26,7 +27,7 @@ use Rattle.sg_replay.specs.declared.todo.Todo.TheVariants.{Walk as ToWalk, Load 
 
 -- ---- ids
 
--- where no id of needed rows passes a test, that of a needed row doesn't
+-- where no id of wanted rows passes a test, that of a wanted row doesn't
 none_left : (test : Row → Bool) (f : ℕ → Bool) (rows : List Row) (id : ℕ) (r : Row) → find f (map (λ x. x.id) (filter test rows)) ≡ None → row_at rows id ≡ Some r → test r ≡ true → f r.id ≡ false
 none_left test f [] id r none there passes = absurd (cc there)
 none_left test f (x ∷ rows) id r none there passes = at (test x) refl none (none_left test f rows id r)
@@ -122,17 +123,17 @@ module _ (z : Setting) (set : IsSetting z) (w : WorldView) (e : Engined) (stores
   abbrev o : Object
   o = object_of z.iface.facts w.history
 
-  -- a row that is needed is whole where none is left
-  rows_whole : find (λ id. not (is_whole (named_at e.names.known id))) (needs z.iface.facts o call).ids ≡ None
-      → (r : Row) → row_at o.rows r.id ≡ Some r → is_needed z.iface.facts o.rows call r ≡ true → (stub_of e).told r.id ≡ complete
-  rows_whole none r there need = whole_told (named_at e.names.known r.id) (none_left (is_needed z.iface.facts o.rows call) (λ id. not (is_whole (named_at e.names.known id))) o.rows r.id r none there need)
+  -- a row that is wanted is whole where none is left
+  rows_whole : find (λ id. not (is_whole (named_at e.names.known id))) (wanted z.iface o call).ids ≡ None
+      → (r : Row) → row_at o.rows r.id ≡ Some r → is_wanted z.iface o.rows call r ≡ true → (stub_of e).told r.id ≡ complete
+  rows_whole none r there want = whole_told (named_at e.names.known r.id) (none_left (is_wanted z.iface o.rows call) (λ id. not (is_whole (named_at e.names.known id))) o.rows r.id r none there want)
 
-  -- where nothing is missing, all that the call needs is there
-  pub has_all : IsLetIn z w call → missing e (needs z.iface.facts o call) ≡ None → HasAll z w (stub_of e) call
+  -- where nothing is missing, all that is wanted for the call is there
+  pub has_all : IsLetIn z w call → missing e (wanted z.iface o call) ≡ None → HasAll z w (stub_of e) call
   has_all let_in none =
-      let both = none_of_both (missing_row e.names.known (needs z.iface.facts o call).ids) (missing_file e (needs z.iface.facts o call).file) none in
+      let both = none_of_both (missing_row e.names.known (wanted z.iface o call).ids) (missing_file e (wanted z.iface o call).file) none in
       record {
-        rows = rows_whole (no_id e.names.known (find (λ id. not (is_whole (named_at e.names.known id))) (needs z.iface.facts o call).ids) both.0);
+        rows = rows_whole (no_id e.names.known (find (λ id. not (is_whole (named_at e.names.known id))) (wanted z.iface o call).ids) both.0);
         file = λ uses. there (file_there e (path_of o.rows call.desc) (sym (ap (λ t. missing_file e (cond t (Some (path_of o.rows call.desc)) None)) uses) ∙ both.1));
         desc = desc_there z.iface o call let_in.passes.is_call set.law.shape.shape let_in.guarded;
       }
@@ -142,15 +143,15 @@ module _ (z : Setting) (set : IsSetting z) (w : WorldView) (e : Engined) (stores
       there (inr empty) = inr (sym (stores.files (path_of o.rows call.desc)) ∙ empty)
 
   -- a walk that is missing is that of the first row that is left, and its next call
-  pub first_left : (id n : ℕ) → missing e (needs z.iface.facts o call) ≡ Some (ToWalk id n) → IsFirstLeft z w (stub_of e) call id × (n ≡ next_number (named_at e.names.known id))
+  pub first_left : (id n : ℕ) → missing e (wanted z.iface o call) ≡ Some (ToWalk id n) → IsFirstLeft z w (stub_of e) call id × (n ≡ next_number (named_at e.names.known id))
   first_left id n is =
-      let first = walk_first e (find (λ a. not (is_whole (named_at e.names.known a))) (needs z.iface.facts o call).ids) (needs z.iface.facts o call).file id n is in
-      (find_alike (λ a. not (is_complete ((stub_of e).told a))) (λ a. not (is_whole (named_at e.names.known a))) (needs z.iface.facts o call).ids (λ a. told_whole (named_at e.names.known a)) ∙ first.0, first.1)
+      let first = walk_first e (find (λ a. not (is_whole (named_at e.names.known a))) (wanted z.iface o call).ids) (wanted z.iface o call).file id n is in
+      (find_alike (λ a. not (is_complete ((stub_of e).told a))) (λ a. not (is_whole (named_at e.names.known a))) (wanted z.iface o call).ids (λ a. told_whole (named_at e.names.known a)) ∙ first.0, first.1)
 
   -- a file that is missing is to be loaded
-  pub left_to_load : missing e (needs z.iface.facts o call) ≡ Some ToLoad → (key : List ℕ) × IsLeftToLoad z w (stub_of e) call key
+  pub left_to_load : missing e (wanted z.iface o call) ≡ Some ToLoad → (key : List ℕ) × IsLeftToLoad z w (stub_of e) call key
   left_to_load is =
-      let first = load_first e (find (λ a. not (is_whole (named_at e.names.known a))) (needs z.iface.facts o call).ids) (needs z.iface.facts o call).file is in
+      let first = load_first e (find (λ a. not (is_whole (named_at e.names.known a))) (wanted z.iface o call).ids) (wanted z.iface o call).file is in
       let file = first.1 in (
         file.key,
         record {
