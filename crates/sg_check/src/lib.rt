@@ -26,4 +26,4 @@ pub use accepted::Accepted;
 pub use checking::check;
 pub use laws::one_fault;
 pub use sg_check_statements::{CheckError, CheckFault, CheckKind, parse};
-pub use sg_walk::{Triple, reachable, restores, shortest};
+pub use sg_walk::{Triple, reachable, restores, set_count, shortest};

@@ -19,7 +19,6 @@ use Rattle.sg_facts.specs.Interface.{Declared, declares}
 use Rattle.sg_facts.specs.Tables.{AreTables, is_for, line_order, walk_of}
 use Rattle.sg_facts.specs.Walks.{IsReachable, IsWalkOf, made, moved}
 use Rattle.sg_facts.proofs.Halving.{not_found, of_before}
-use Rattle.sg_check.proofs.sg_walk.ReachedStates.Adding.{four_fields}
 use Rattle.sg_check.proofs.sg_walk.ReachedStates.Closure.{there}
 use Rattle.sg_check.proofs.sg_walk.ReachedStates.Marks.{only}
 use Rattle.sg_check.proofs.sg_walk.ReachedStates.Reaching.{made_declared, place_reached}
@@ -55,11 +54,8 @@ module _ (i : Declared) (fits : Fits i) (small : IsSmall i) where
   state_within : (by state : ℕ) (set : List Bool) → IsReachable i by state set → (1 ≤ state) × (state ≤ 32)
   state_within by state set reached = fun_within state (state_declared by state set reached)
 
-  set_within : (by state : ℕ) (set : List Bool) → IsReachable i by state set → number_of set < 16
-  set_within by state set reached =
-      let few : 2 ^ length i.facts.fields ≤ 16 = four_fields (length i.facts.fields) small.fields in
-      let less = (place_reached i by state set reached).0 in
-      omega (arith, few, less)
+  set_within : (by state : ℕ) (set : List Bool) → IsReachable i by state set → number_of set < 2 ^ length i.facts.fields
+  set_within by state set reached = (place_reached i by state set reached).0
 
 -- ---- the walk of a line after others
 
@@ -175,7 +171,7 @@ module _ (i : Declared) (fits : Fits i) (small : IsSmall i) where
   }
 
   -- all sets of a state
-  pub next_state : (lines : List WalkLine) (m s : ℕ) → AreBefore i lines m s 16 → AreBefore i lines m (s + 1) 0
+  pub next_state : (lines : List WalkLine) (m s : ℕ) → AreBefore i lines m s (2 ^ length i.facts.fields) → AreBefore i lines m (s + 1) 0
   next_state lines m s are = record {
     each = λ x has. let e = are.each x has in (
       elim e.0 [

@@ -1,19 +1,15 @@
 // The lines of tables, in order.
 ghost use Rattle.std.specs.Prelude.{◌≡◌, ◌≤◌, ◌<◌, ◌+◌, true, IfOk, OnOk, length};
 ghost use Rattle.sg_facts.specs.Tables.{AreTables};
-ghost use Rattle.sg_check.specs.sg_walk.ReachedStates.Limits.{HasFourFields};
 ghost use Rattle.sg_check.specs.Shapes.{IsSmall};
 ghost use Rattle.sg_facts.specs.Fits.{Fits};
 ghost use Rattle.sg_stub.specs.Inside.Lines.{AreBefore, IsLineOf};
 ghost use Rattle.sg_stub.specs.Inside.Triples.{AreIn, IsReachedBy};
 
 use crate::triples::TripleSet;
-use sg_check::shortest;
+use sg_check::{set_count, shortest};
 use sg_facts::{END_OF_FUNS, Interface, NoMemory, WalkLine, WalkList};
 use std::alloc::Global;
-
-// One more than the greatest number of a set of at most four fields.
-const END_OF_SETS: u8 = 16;
 
 /// A line for each of these triples, which are all that descriptors of an interface can come to.
 pub fn lines_of(alloc: Global, iface: &Interface, triples: &TripleSet) -> Result<WalkList, NoMemory>
@@ -64,12 +60,21 @@ fn add_sets(
     requires before { AreBefore iface.now lines.old made state 0 }
     ensures { OnOk result (AreBefore iface.now lines.new made (state + 1) 0) }
 {
-    'sets: for mask in 0..END_OF_SETS {
+    'sets: for number in 0..set_count(field_count(iface)) {
+        let mask = number as u8;
         if triples.has(made, state, mask) {
             lines.push(line_of(alloc, iface, made, state, mask)?)?;
         }
     }
     Ok(())
+}
+
+// The number of fields of a row.
+fn field_count(iface: &Interface) -> u8
+    requires small { IsSmall iface.now }
+    ensures { result ≡ length iface.now.facts.fields }
+{
+    iface.shape.fields.len() as u8
 }
 
 // The line of what descriptors can come to.
