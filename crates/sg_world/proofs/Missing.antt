@@ -3,7 +3,7 @@ use Rattle.std.proofs.Common.{arith, Bool, List, None, Option, Some, [], ap, con
 use Rattle.sg_facts.specs.sg_base.declared.call.Call.{Call}
 use Rattle.sg_facts.specs.sg_base.Lists.{Each}
 use Rattle.sg_world.specs.Engines.Stubs.{stub_of, told_of}
-use Rattle.sg_facts.specs.Needs.{is_needed}
+use Rattle.sg_facts.specs.Needs.{is_wanted}
 use Rattle.sg_facts.specs.Object.{Object, object_of}
 use Rattle.sg_facts.specs.Track.{is_live}
 use Rattle.sg_facts.specs.declared.row.Row.{Row}
@@ -120,5 +120,5 @@ module _ (z : Setting) (e : Engined) (w : WorldView) (rooms : Rooms) (is : IsWor
   due_is v up call =
       let read : Reads = read_now v up in
       ap (λ t. or_else t (next_load (object_of z.iface.facts w.history) w (needs_in z w call).file))
-      (walks_are read (needs_in z w call).ids (ids_live (is_needed z.iface.facts (object_of z.iface.facts w.history).rows call) (object_of z.iface.facts w.history).rows))
+      (walks_are read (needs_in z w call).ids (ids_live (is_wanted z.iface (object_of z.iface.facts w.history).rows call) (object_of z.iface.facts w.history).rows))
       ∙ ap (or_else (todo_of e.names.known (find (λ id. not (is_whole (named_at e.names.known id))) (needs_in z w call).ids))) (load_is read (needs_in z w call).file)

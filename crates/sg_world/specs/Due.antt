@@ -4,7 +4,7 @@ use Rattle.std.specs.List.{list_any}
 use Rattle.std.specs.Option.{option_map}
 use Rattle.std.specs.declared.option.Option.{Option}
 use Rattle.sg_facts.specs.sg_base.declared.call.Call.{Call}
-use Rattle.sg_facts.specs.Needs.{Needs, needs}
+use Rattle.sg_facts.specs.Needs.{Needs, wanted}
 use Rattle.sg_facts.specs.Object.{Object, file_at, object_of}
 use Rattle.sg_replay.specs.sg_hist.Recovered.{is_patch_at, is_walk_of}
 use Rattle.sg_replay.specs.sg_hist.Growing.{last_items, older_items}
@@ -15,9 +15,9 @@ use Rattle.sg_clients.specs.sg_seat.WorldView.{WorldView}
 use Rattle.sg_world_laws.specs.sg_recovery_laws.LastItem.Told.{whole_behind}
 use Rattle.sg_world_laws.specs.Setting.{Setting}
 
--- what a call needs, at the object of the history
+-- what is wanted for a call, at the object of the history
 abbrev pub needs_in : Setting → WorldView → Call → Needs
-needs_in z w call = needs z.iface.facts (object_of z.iface.facts w.history) call
+needs_in z w call = wanted z.iface (object_of z.iface.facts w.history) call
 
 -- whether an id is whole in the running boot
 abbrev pub is_whole_in : Setting → WorldView → ℕ → Bool
@@ -31,7 +31,7 @@ replayed_in w id = length (filter (λ item. is_walk_of id item.tag) (last_items 
 abbrev pub is_present_in : WorldView → List ℕ → Bool
 is_present_in w path = list_any (λ item. is_patch_at path item.outcome) (last_items w.run.boots)
 
--- the next call of the walk of the least needed id that isn't whole
+-- the next call of the walk of the least wanted id that isn't whole
 abbrev pub next_walk : Setting → WorldView → List ℕ → Option Todo
 next_walk z w ids = option_map (λ id. Walk id (replayed_in w id + 1)) (find (λ id. not (is_whole_in z w id)) ids)
 
