@@ -3,7 +3,7 @@ use Rattle.std.specs.Prelude.{ℕ, zero, suc, ◌+◌, ◌/◌, ◌%◌, ◌==�
 use Rattle.std.specs.Fmt.{decimal}
 use Rattle.std.specs.List.{concat, flat_map}
 use Rattle.sg_facts.specs.declared.shape.Effect.{Effect}
-use Rattle.sg_facts.specs.declared.shape.Effect.TheVariants.{SetCaller, SetArg, AddArg, SetRet, AddRet, Clear, SubOne}
+use Rattle.sg_facts.specs.declared.shape.Effect.TheVariants.{SetCaller, SetArg, AddArg, SetRet, AddRet, Clear, SubOne, SubRet}
 use Rattle.sg_facts.specs.declared.shape.Kind.{Kind}
 use Rattle.sg_facts.specs.declared.shape.Kind.TheVariants.{Desc, Parent, Word, Text}
 use Rattle.sg_facts.specs.declared.shape.Leaves.{Leaves}
@@ -78,6 +78,7 @@ effect_word kinds SetRet = codes "=ret"
 effect_word kinds AddRet = codes "+ret"
 effect_word kinds Clear = codes "=0"
 effect_word kinds SubOne = codes "-1"
+effect_word kinds SubRet = codes "-ret"
 
 -- what is done to one field, after a space
 abbrev pub effect_piece : List Field → List Kind → ℕ × Effect → List ℕ

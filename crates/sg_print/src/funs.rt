@@ -166,6 +166,7 @@ fn put_change(
         Effect::AddRet => put(out, &[b"+ret"]),
         Effect::Clear => put(out, &[b"=0"]),
         Effect::SubOne => put(out, &[b"-1"]),
+        Effect::SubRet => put(out, &[b"-ret"]),
     }
 }
 
