@@ -29,6 +29,8 @@ pub type StatementList<'a> = ListOf<Statement<'a>>;
 /// The facts at the head of a text: the value of each, in their order.
 #[derive(Debug, Drop)]
 pub struct Facts<'a> {
+    /// The version of the language: 1 or 2.
+    pub version: u8,
     /// The service's name.
     pub service: Name<'a>,
     /// `none`, `same` or `cross`.
@@ -40,6 +42,8 @@ pub struct Facts<'a> {
     pub block: Name<'a>,
     pub has_data: Name<'a>,
     pub resc_data: Name<'a>,
+    /// Whether every live descriptor is rebuilt after a boot before any call is served; false in a text of version 1.
+    pub eager: bool,
 }
 
 /// A statement after the facts.
@@ -73,6 +77,8 @@ pub enum Ret<'a> {
     Set { ty: TypeName<'a>, field: Name<'a> },
     /// The returned word is added to a field: `desc_data_retval_add(type, field)`.
     Add { ty: TypeName<'a>, field: Name<'a> },
+    /// The returned word is subtracted from a field, in a text of version 2: `desc_data_retval_sub(type, field)`.
+    Sub { ty: TypeName<'a>, field: Name<'a> },
 }
 
 /// A type: its names, at least one in a sentence's tree, and the number of stars after them.

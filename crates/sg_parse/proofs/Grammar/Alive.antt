@@ -1,14 +1,16 @@
 -- Each state that is reached can be completed.
-use Rattle.std.proofs.Common.{◌≡◌, ℕ, suc, ◌+◌, ◌==◌, inl, inr, Bool, true, false, if◌then◌else◌, List, [], ◌∷◌, ◌++◌, length, refl, sym, ap, subst, ◌∙◌, arith}
+use Rattle.std.proofs.Common.{◌≡◌, ℕ, suc, ◌+◌, ◌==◌, inl, inr, Bool, true, false, if◌then◌else◌, List, [], ◌∷◌, ◌++◌, length, map, refl, sym, ap, subst, ◌∙◌, arith}
 use Rattle.std.specs.Prelude.{None, Some, codes}
+use Rattle.std.specs.declared.option.Option.{Option}
+use Rattle.std.specs.Option.{option_map}
 use Rattle.std.proofs.Math.Dec.{eqb-suc-zero}
 use Rattle.std.proofs.lemmas.List.{append-nil}
 use Rattle.std.proofs.lemmas.List.Elements.{All-nil}
-use Rattle.sg_lex.specs.declared.token.TokenKind.TheVariants.{Word, Mark}
+use Rattle.sg_lex.specs.declared.token.TokenKind.TheVariants.{Word, Number, Mark}
 use Rattle.sg_lex.specs.Lexeme.{Lexeme}
 use Rattle.sg_parse.specs.declared.tree.Statement.{Statement}
 use Rattle.sg_parse.specs.declared.tree.Ret.{Ret}
-use Rattle.sg_parse.specs.declared.tree.Ret.TheVariants.{Plain, Set, Add}
+use Rattle.sg_parse.specs.declared.tree.Ret.TheVariants.{Plain, Set, Add, Sub}
 use Rattle.sg_parse.specs.declared.tree.TypeName.{TypeName}
 use Rattle.sg_parse.specs.declared.tree.Param.{Param}
 use Rattle.sg_parse.specs.declared.tree.Tree.{Tree}
@@ -16,11 +18,11 @@ use Rattle.sg_parse.specs.declared.words.Sort.{Sort}
 use Rattle.sg_parse.specs.declared.words.Sort.TheVariants.{Name, One, Two, Form, Parents, Closing, Flag}
 use Rattle.sg_parse.specs.Grammar.Named.{Named}
 use Rattle.sg_parse.specs.Grammar.Words.{is_of}
-use Rattle.sg_parse.specs.Grammar.Pieces.{Piece, word, mark, name, IsPiece}
+use Rattle.sg_parse.specs.Grammar.Pieces.{Piece, word, mark, name, two, kept, newer, kept_word, seen, IsPiece}
 use Rattle.sg_lex.specs.Sentences.{ArePieces}
 use Rattle.sg_parse.specs.Grammar.Sentence.{star, comma, close_bracket, IsType, IsStatement}
-use Rattle.sg_parse.specs.Grammar.Inside.States.{State, dead, due, want, names, stars, either, listed, statements, has_sort, fits, named_by, type_of, declared, with_param, param, one_rest, two_rest, proto_rest, returned_behind, returned_rest, plain_rest, statement_behind, with_statement, start, step}
-use Rattle.sg_parse.proofs.Grammar.Basics.{some_is, none_is, by_test, if_then, if_else, mark-fits_mark}
+use Rattle.sg_parse.specs.Grammar.Inside.States.{State, dead, due, fork, want, names, stars, either, listed, statements, in_newer, has_sort, fits, named_by, type_of, declared, with_param, param, one_rest, two_rest, proto_rest, returned_behind, returned_rest, plain_rest, statement_behind, with_statement, fact, head_end, first_end, second_end, head0, head1, head2, head3, head4, head5, head6, start, step}
+use Rattle.sg_parse.proofs.Grammar.Basics.{some_is, none_is, by_test, if_then, if_else, mark-fits_mark, seen_back}
 use Rattle.sg_parse.proofs.Grammar.Rests.{Off, Rest, closed-star, name-star}
 use Rattle.sg_parse.proofs.Grammar.Parts.{listed_closed}
 use Rattle.sg_parse.proofs.Grammar.Protos.{head_is}
@@ -30,21 +32,27 @@ abbrev pub token_of : Piece → Lexeme
 token_of (word w) = record { kind = Word; bytes = w; at = 0 }
 token_of (mark b) = record { kind = Mark; bytes = b ∷ []; at = 0 }
 token_of (name sort n) = record { kind = Word; bytes = n.bytes; at = n.at }
+token_of two = record { kind = Number; bytes = codes "2"; at = 0 }
+token_of kept = record { kind = Mark; bytes = kept_word; at = 0 }
+token_of (newer p) = seen (token_of p)
 
 -- no star may come first
 abbrev pub Starless : State → Type 0
 Starless dead = Unit {0}
 Starless (due p s) = (token : Lexeme) → IsPiece token p → fits star token ≡ false
+Starless (fork what s other) = ⊥
 Starless (want sort k) = Unit {0}
 Starless (names front last k) = ⊥
 Starless (stars front last n k) = ⊥
 Starless (either k s) = Starless s
 Starless (listed params k) = Unit {0}
 Starless (statements facts before) = ⊥
+Starless (in_newer s) = ⊥
 
 pub starless_off : (s : State) (p : Piece) (ps : List Piece) (tree : Tree) → Starless s → Rest s (p ∷ ps) tree → Off (fits star) (p ∷ ps)
 starless_off dead p ps tree h r = absurd r
 starless_off (due q s) p ps tree h r = λ token is. h token (subst (IsPiece token) (head_is r.all) is)
+starless_off (fork what s other) p ps tree h r = absurd h
 starless_off (want sort k) p ps tree h r = subst (Off (fits star)) (sym r.all) (name-star sort r.value r.behind)
 starless_off (names front last k) p ps tree h r = absurd h
 starless_off (stars front last n k) p ps tree h r = absurd h
@@ -55,11 +63,13 @@ starless_off (either k s) p ps tree h r =
     ]
 starless_off (listed params k) p ps tree h r = subst (Off (fits star)) (sym r.all) (closed-star _ (listed_closed r.more r.behind))
 starless_off (statements facts before) p ps tree h r = absurd h
+starless_off (in_newer s) p ps tree h r = absurd h
 
 -- the state can be completed; or, where it may be, it is dead
 abbrev pub Alive : Bool → State → Type 0
 Alive may dead = may ≡ true
 Alive may (due p s) = IsPiece (token_of p) p × Alive false s
+Alive may (fork what s other) = Alive false s × Alive true other
 Alive may (want sort k) = (n : Named) → Alive false (k n)
 Alive may (names front last k) =
     ((front : List Named) (last : Named) (n : ℕ) → Alive true (k front last n))
@@ -68,6 +78,7 @@ Alive may (stars front last n k) = (m : ℕ) → Alive false (k front last (n + 
 Alive may (either k s) = ((n : Named) → Alive false (k n)) × Alive true s
 Alive may (listed params k) = (params : List Param) → Alive false (k params)
 Alive may (statements facts before) = Unit {0}
+Alive may (in_newer s) = Alive may s
 
 -- ---- a state that is alive can be completed
 
@@ -104,6 +115,13 @@ off_all : (s : State) (ps : List Piece) (tree : Tree) → Starless s → Rest s 
 off_all s [] tree h r = tt
 off_all s (p ∷ ps) tree h r = starless_off s p ps tree h r
 
+-- tokens of a text of version 2, which are turned back
+all_seen : (tokens : List Lexeme) (pieces : List Piece) → ArePieces IsPiece tokens pieces → ArePieces IsPiece (map seen tokens) (map newer pieces)
+all_seen [] [] are = tt
+all_seen [] (p ∷ ps) are = absurd are
+all_seen (t ∷ ts) [] are = absurd are
+all_seen (t ∷ ts) (p ∷ ps) are = (subst (λ v. IsPiece v p) (sym (seen_back t)) are.0, all_seen ts ps are.1)
+
 pub completed : (s : State) → Alive false s → Completed s
 completed dead h = absurd (let e : false ≡ true = h in cc)
 completed (due p s) h =
@@ -114,6 +132,15 @@ completed (due p s) h =
       tree = c.tree;
       are = (h.0, c.are);
       rest = record { behind = c.pieces; all = refl; rest = c.rest };
+    }
+completed (fork what s other) h =
+    let c = completed s h.0 in
+    record {
+      tokens = token_of (word what) ∷ c.tokens;
+      pieces = word what ∷ c.pieces;
+      tree = c.tree;
+      are = ((refl, refl), c.are);
+      rest = inl (record { behind = c.pieces; all = refl; rest = c.rest });
     }
 completed (want sort k) h =
     let n = example_of sort in
@@ -195,18 +222,29 @@ completed (statements facts before) h =
         is = ap (λ v. record { facts = facts; statements = v }) (sym (append-nil before));
       };
     }
+completed (in_newer s) h =
+    let c = completed s h in
+    record {
+      tokens = map seen c.tokens;
+      pieces = map newer c.pieces;
+      tree = c.tree;
+      are = all_seen c.tokens c.pieces c.are;
+      rest = record { behind = c.pieces; all = refl; rest = c.rest };
+    }
 
 -- ---- the states of the grammar are alive
 
 weaker : (s : State) → Alive false s → Alive true s
 weaker dead h = refl
 weaker (due p s) h = h
+weaker (fork what s other) h = h
 weaker (want sort k) h = h
 weaker (names front last k) h = h
 weaker (stars front last n k) h = h
 weaker (either k s) h = h
 weaker (listed params k) h = h
 weaker (statements facts before) h = h
+weaker (in_newer s) h = weaker s h
 
 declared_alive : (go : TypeName → Named → State) → ((ty : TypeName) (n : Named) → Alive false (go ty n))
     → (front : List Named) (last : Named) (n : ℕ) → Alive true (declared go front last n)
@@ -276,10 +314,13 @@ statement_alive go h token next e =
     by_test (fits (word (codes "desc_data_retval_add")) token)
     (λ t. along (returned_rest go Add) (sym (if_then (fits (word (codes "desc_data_retval_add")) token) _ _ t) ∙ e3) (returned_alive go h Add))
     (λ t4. let e4 = sym (if_else (fits (word (codes "desc_data_retval_add")) token) _ _ t4) ∙ e3 in
+    by_test (fits kept token)
+    (λ t. along (returned_rest go Sub) (sym (if_then (fits kept token) _ _ t) ∙ e4) (returned_alive go h Sub))
+    (λ t5. let e5 = sym (if_else (fits kept token) _ _ t5) ∙ e4 in
     by_test (has_sort Name token)
-    (λ t. along (plain_rest go (named_by token)) (sym (if_then (has_sort Name token) _ _ t) ∙ e4) (plain_alive go h (named_by token)))
-    (λ t5. none_is (Alive false next) next (if has_sort Name token then Some (plain_rest go (named_by token)) else None)
-    (if_else (has_sort Name token) (Some (plain_rest go (named_by token))) None t5) e4)))))
+    (λ t. along (plain_rest go (named_by token)) (sym (if_then (has_sort Name token) _ _ t) ∙ e5) (plain_alive go h (named_by token)))
+    (λ t6. none_is (Alive false next) next (if has_sort Name token then Some (plain_rest go (named_by token)) else None)
+    (if_else (has_sort Name token) (Some (plain_rest go (named_by token))) None t6) e5))))))
   where
     along : (s : State) → Some s ≡ Some next → Alive false s → Alive false next
     along s g a = subst (Alive false) (some_is s next g) a
@@ -291,6 +332,10 @@ alive_behind may (due p s) token next a e =
     by_test (fits p token)
     (λ h. subst (Alive false) (some_is s next (sym (if_then (fits p token) (Some s) None h) ∙ e)) a.1)
     (λ h. none_is (Alive false next) next (if fits p token then Some s else None) (if_else (fits p token) (Some s) None h) e)
+alive_behind may (fork what s other) token next a e =
+    by_test (fits (word what) token)
+    (λ h. subst (Alive false) (some_is s next (sym (if_then (fits (word what) token) _ _ h) ∙ e)) a.0)
+    (λ h. alive_behind true other token next a.1 (sym (if_else (fits (word what) token) (Some s) (step other token) h) ∙ e))
 alive_behind may (want sort k) token next a e =
     by_test (has_sort sort token)
     (λ h. subst (Alive false) (some_is (k (named_by token)) next (sym (if_then (has_sort sort token) (Some (k (named_by token))) None h) ∙ e)) (a (named_by token)))
@@ -325,6 +370,30 @@ alive_behind may (listed params k) token next a e =
     (if_else (fits close_bracket token) (Some (k params)) None h) e1))
 alive_behind may (statements facts before) token next a e =
     statement_alive (with_statement facts before) (λ s. tt) token next e
+alive_behind may (in_newer s) token next a e = by (λ inner is. alive_behind may s (seen token) inner a is) (step s (seen token)) refl e
+  where
+    by : ((inner : State) → step s (seen token) ≡ Some inner → Alive false inner) → (found : Option State) → step s (seen token) ≡ found → option_map in_newer found ≡ Some next → Alive false next
+    by deeper None is found = absurd (cc found)
+    by deeper (Some inner) is found = subst (Alive false) (some_is (in_newer inner) next found) (deeper inner is)
+
+-- the end of the head
+end_alive : (version : ℕ) (eager : Bool) (a b c d e f g : Named) → Alive false (head_end version eager a b c d e f g)
+end_alive version eager a b c d e f g = ((refl, refl), ((refl, refl), tt))
+
+-- a fact of the head
+fact_alive : (what : List ℕ) (sort : Sort) (go : Named → State) → ((n : Named) → Alive false (go n)) → Alive false (fact what sort comma go)
+fact_alive what sort go all = ((refl, refl), ((refl, refl), λ n. ((refl, refl), all n)))
+
+-- the facts of the head
+head_alive : (end : (a b c d e f g : Named) → State) → ((a b c d e f g : Named) → Alive false (end a b c d e f g)) → Alive false (head0 end)
+head_alive end all =
+    fact_alive (codes "service") Name (head1 end) (λ a.
+    fact_alive (codes "desc_has_parent") Parents (head2 end a) (λ b.
+    fact_alive (codes "desc_close") Closing (head3 end a b) (λ c.
+    fact_alive (codes "desc_is_global") Flag (head4 end a b c) (λ d.
+    fact_alive (codes "desc_block") Flag (head5 end a b c d) (λ e.
+    fact_alive (codes "desc_has_data") Flag (head6 end a b c d e) (λ f.
+    ((refl, refl), ((refl, refl), λ g. all a b c d e f g))))))))
 
 pub start_alive : Alive false start
 start_alive = (
@@ -334,68 +403,20 @@ start_alive = (
     (
       (refl, refl),
       (
-        (refl, refl),
         (
           (refl, refl),
-          λ service. (
+          (
             (refl, refl),
             (
               (refl, refl),
-              (
+              head_alive second_end (λ a b c d e f g. (
                 (refl, refl),
-                λ parent. (
-                  (refl, refl),
-                  (
-                    (refl, refl),
-                    (
-                      (refl, refl),
-                      λ close. (
-                        (refl, refl),
-                        (
-                          (refl, refl),
-                          (
-                            (refl, refl),
-                            λ global. (
-                              (refl, refl),
-                              (
-                                (refl, refl),
-                                (
-                                  (refl, refl),
-                                  λ block. (
-                                    (refl, refl),
-                                    (
-                                      (refl, refl),
-                                      (
-                                        (refl, refl),
-                                        λ has_data. (
-                                          (refl, refl),
-                                          (
-                                            (refl, refl),
-                                            (
-                                              (refl, refl),
-                                              λ resc_data. (
-                                                (refl, refl),
-                                                ((refl, refl), tt),
-                                              ),
-                                            ),
-                                          ),
-                                        ),
-                                      ),
-                                    ),
-                                  ),
-                                ),
-                              ),
-                            ),
-                          ),
-                        ),
-                      ),
-                    ),
-                  ),
-                ),
-              ),
+                ((refl, refl), ((refl, refl), (end_alive 2 true a b c d e f g, ((refl, refl), end_alive 2 false a b c d e f g)))),
+              )),
             ),
           ),
         ),
+        weaker (head0 first_end) (head_alive first_end (end_alive 1 false)),
       ),
     ),
   ),

@@ -1,11 +1,12 @@
 -- Tests of tokens and what they say.
-use Rattle.std.proofs.Common.{◌≡◌, ℕ, ◌==◌, ◌&&◌, ◌||◌, Bool, true, false, not, if◌then◌else◌, List, [], ◌∷◌, refl, sym, ap, ◌∙◌, nat_eq}
+use Rattle.std.proofs.Common.{◌≡◌, ◌⊎◌, inl, inr, ℕ, ◌==◌, ◌&&◌, ◌||◌, Bool, true, false, not, if◌then◌else◌, List, [], ◌∷◌, refl, sym, ap, ◌∙◌, nat_eq}
 use Rattle.std.specs.Prelude.{None, Some}
 use Rattle.std.specs.declared.option.Option.{Option}
 use Rattle.std.specs.List.{list_all}
 use Rattle.std.specs.Cmp.Lexicographic.{pointwise, bytes_decides}
 use Rattle.std.proofs.lemmas.Bool.{eq-eqb, eqb-true}
-use Rattle.sg_lex.specs.declared.token.TokenKind.TheVariants.{Word, Mark}
+use Rattle.sg_lex.specs.declared.token.TokenKind.{TokenKind}
+use Rattle.sg_lex.specs.declared.token.TokenKind.TheVariants.{Word, Number, Text, Mark}
 use Rattle.sg_lex.specs.Lexeme.{Lexeme}
 use Rattle.sg_lex.specs.Inside.Tests.{same_kind, has_kind}
 use Rattle.sg_lex.proofs.SameKinds.{kind_is}
@@ -13,7 +14,7 @@ use Rattle.sg_parse.specs.declared.words.Sort.{Sort}
 use Rattle.sg_parse.specs.declared.words.Sort.TheVariants.{Name}
 use Rattle.sg_parse.specs.Grammar.Named.{Named}
 use Rattle.sg_parse.specs.Grammar.Words.{is_in, is_of, reserved_words}
-use Rattle.sg_parse.specs.Grammar.Pieces.{Piece, word, mark, name, IsPiece}
+use Rattle.sg_parse.specs.Grammar.Pieces.{Piece, word, mark, name, two, kept, newer, are_two, kept_word, turned, kind_seen, seen, IsPiece}
 use Rattle.sg_parse.specs.Grammar.Inside.States.{has_sort, fits, named_by}
 
 -- ---- tests
@@ -90,6 +91,25 @@ name_apart these w h g =
 pub reserved_apart : (these : List (List ℕ)) (w : List ℕ) → list_all (is_in reserved_words) these ≡ true → is_in these w ≡ true → is_of Name w ≡ false
 reserved_apart these w h g = ap not (carried (is_in reserved_words) these w h g)
 
+-- ---- texts of version 2
+
+turned_back : (kind : TokenKind) → turned (turned kind) ≡ kind
+turned_back Word = refl
+turned_back Number = refl
+turned_back Text = refl
+turned_back Mark = refl
+
+kind_back : (bytes : List ℕ) (kind : TokenKind) → kind_seen bytes (kind_seen bytes kind) ≡ kind
+kind_back bytes kind = at (pointwise nat_eq bytes kept_word)
+  where
+    at : (b : Bool) → (if b then turned (if b then turned kind else kind) else (if b then turned kind else kind)) ≡ kind
+    at true = turned_back kind
+    at false = refl
+
+-- a token that is turned twice is as it was
+pub seen_back : (token : Lexeme) → seen (seen token) ≡ token
+seen_back token = ap (λ k. record token { kind = k }) (kind_back token.bytes token.kind)
+
 -- ---- tokens and pieces
 
 pub has_sort-is : (sort : Sort) (token : Lexeme) → has_sort sort token ≡ true → IsPiece token (name sort (named_by token))
@@ -116,12 +136,19 @@ fits-is (name sort n) token h =
     let bytes = same_bytes token.bytes n.bytes (both_left _ _ r) in
     let at = eqb-true token.at n.at (both_right (pointwise nat_eq token.bytes n.bytes) _ r) in
     (is.0, bytes, at, sym (ap (is_of sort) bytes) ∙ is.3)
+fits-is two token h = (kind_is token.kind Number (both_left _ _ h), both_right (has_kind Number token) (are_two token.bytes) h)
+fits-is kept token h =
+    (kind_is token.kind Mark (both_left _ _ h), same_bytes token.bytes kept_word (both_right (has_kind Mark token) _ h))
+fits-is (newer p) token h = fits-is p (seen token) h
 
 pub is-fits : (p : Piece) (token : Lexeme) → IsPiece token p → fits p token ≡ true
 is-fits (word w) token h = both _ _ (ap (λ k. same_kind k Word) h.0) (bytes_same token.bytes w h.1)
 is-fits (mark b) token h = both _ _ (ap (λ k. same_kind k Mark) h.0) (bytes_same token.bytes (b ∷ []) h.1)
 is-fits (name sort n) token h =
     both _ _ (is-has_sort sort token n h) (both _ _ (bytes_same token.bytes n.bytes h.1) (eq-eqb token.at n.at h.2))
+is-fits two token h = both _ _ (ap (λ k. same_kind k Number) h.0) h.1
+is-fits kept token h = both _ _ (ap (λ k. same_kind k Mark) h.0) (bytes_same token.bytes kept_word h.1)
+is-fits (newer p) token h = is-fits p (seen token) h
 
 -- a mark is no word, a word no mark
 pub mark-has_sort : (sort : Sort) (token : Lexeme) → token.kind ≡ Mark → has_sort sort token ≡ false
@@ -155,18 +182,54 @@ word-has_sort sort w token h g = ap (λ k. same_kind k Word && is_of sort token.
 pub word-fits_word : (w other : List ℕ) (token : Lexeme) → IsPiece token (word w) → pointwise nat_eq w other ≡ false → fits (word other) token ≡ false
 word-fits_word w other token h g = ap (λ k. same_kind k Word && pointwise nat_eq token.bytes other) h.0 ∙ ap (λ v. pointwise nat_eq v other) h.1 ∙ g
 
--- tests of tokens that are one piece answer alike
-pub alike : (p : Piece) (one other : Lexeme) → IsPiece one p → IsPiece other p → (one.kind ≡ other.kind) × (one.bytes ≡ other.bytes)
-alike (word w) one other h g = (h.0 ∙ sym g.0, h.1 ∙ sym g.1)
-alike (mark b) one other h g = (h.0 ∙ sym g.0, h.1 ∙ sym g.1)
-alike (name sort n) one other h g = (h.0 ∙ sym g.0, h.1 ∙ sym g.1)
+pub word-fits_kept : (token : Lexeme) → token.kind ≡ Word → fits kept token ≡ false
+word-fits_kept token h = ap (λ k. same_kind k Mark && pointwise nat_eq token.bytes kept_word) h
+
+-- tokens that are one piece are of one kind, and have the same bytes or are numbers
+record IsAlike (one other : Lexeme) : Type 0 where
+  kind : one.kind ≡ other.kind
+  bytes : (one.bytes ≡ other.bytes) ⊎ (other.kind ≡ Number)
+
+alike : (p : Piece) (one other : Lexeme) → IsPiece one p → IsPiece other p → IsAlike one other
+alike (word w) one other h g = record { kind = h.0 ∙ sym g.0; bytes = inl (h.1 ∙ sym g.1) }
+alike (mark b) one other h g = record { kind = h.0 ∙ sym g.0; bytes = inl (h.1 ∙ sym g.1) }
+alike (name sort n) one other h g = record { kind = h.0 ∙ sym g.0; bytes = inl (h.1 ∙ sym g.1) }
+alike two one other h g = record { kind = h.0 ∙ sym g.0; bytes = inr g.0 }
+alike kept one other h g = record { kind = h.0 ∙ sym g.0; bytes = inl (h.1 ∙ sym g.1) }
+alike (newer p) one other h g =
+    let s = alike p (seen one) (seen other) h g in
+    elim s.bytes [
+      | inl same ↦ record {
+        kind = sym (kind_back one.bytes one.kind) ∙ ap (kind_seen one.bytes) s.kind ∙ ap (λ v. kind_seen v (kind_seen other.bytes other.kind)) same ∙ kind_back other.bytes other.kind;
+        bytes = inl same;
+      }
+      | inr number ↦
+          let its = number_back other number in
+          record { kind = number_back one (s.kind ∙ number) ∙ sym its; bytes = inr its }
+    ]
+  where
+    still : (b : Bool) → (if b then turned Number else Number) ≡ Number
+    still true = refl
+    still false = refl
+
+    number_back : (token : Lexeme) → kind_seen token.bytes token.kind ≡ Number → token.kind ≡ Number
+    number_back token is = sym (kind_back token.bytes token.kind) ∙ ap (kind_seen token.bytes) is ∙ still (pointwise nat_eq token.bytes kept_word)
+
+-- so tests of words and of marks answer alike
+tests_alike : (p : Piece) (test : TokenKind → List ℕ → Bool) → ((bytes : List ℕ) → test Number bytes ≡ false) → (one other : Lexeme) → IsPiece one p → IsPiece other p
+    → test one.kind one.bytes ≡ false → test other.kind other.bytes ≡ false
+tests_alike p test none one other h g e =
+    let s = alike p one other h g in
+    elim s.bytes [
+      | inl same ↦ ap (λ k. test k other.bytes) (sym s.kind) ∙ ap (test one.kind) (sym same) ∙ e
+      | inr number ↦ ap (λ k. test k other.bytes) number ∙ none other.bytes
+    ]
 
 pub alike-has_sort : (sort : Sort) (p : Piece) (one other : Lexeme) → IsPiece one p → IsPiece other p → has_sort sort one ≡ false → has_sort sort other ≡ false
-alike-has_sort sort p one other h g e =
-    let s = alike p one other h g in
-    ap (λ k. same_kind k Word && is_of sort other.bytes) (sym s.0) ∙ ap (λ v. same_kind one.kind Word && is_of sort v) (sym s.1) ∙ e
+alike-has_sort sort p one other h g e = tests_alike p (λ k v. same_kind k Word && is_of sort v) (λ v. refl) one other h g e
 
 pub alike-fits_mark : (b : ℕ) (p : Piece) (one other : Lexeme) → IsPiece one p → IsPiece other p → fits (mark b) one ≡ false → fits (mark b) other ≡ false
-alike-fits_mark b p one other h g e =
-    let s = alike p one other h g in
-    ap (λ k. same_kind k Mark && pointwise nat_eq other.bytes (b ∷ [])) (sym s.0) ∙ ap (λ v. same_kind one.kind Mark && pointwise nat_eq v (b ∷ [])) (sym s.1) ∙ e
+alike-fits_mark b p one other h g e = tests_alike p (λ k v. same_kind k Mark && pointwise nat_eq v (b ∷ [])) (λ v. refl) one other h g e
+
+pub alike-fits_word : (w : List ℕ) (p : Piece) (one other : Lexeme) → IsPiece one p → IsPiece other p → fits (word w) one ≡ false → fits (word w) other ≡ false
+alike-fits_word w p one other h g e = tests_alike p (λ k v. same_kind k Word && pointwise nat_eq v w) (λ v. refl) one other h g e

@@ -7,17 +7,17 @@ use Rattle.sg_lex.specs.Lexeme.{Lexeme}
 use Rattle.sg_parse.specs.declared.tree.Statement.{Statement}
 use Rattle.sg_parse.specs.declared.tree.Statement.TheVariants.{One, Two, Proto}
 use Rattle.sg_parse.specs.declared.tree.Ret.{Ret}
-use Rattle.sg_parse.specs.declared.tree.Ret.TheVariants.{Plain, Set, Add}
+use Rattle.sg_parse.specs.declared.tree.Ret.TheVariants.{Plain, Set, Add, Sub}
 use Rattle.sg_parse.specs.declared.tree.TypeName.{TypeName}
 use Rattle.sg_parse.specs.declared.tree.Param.{Param}
 use Rattle.sg_parse.specs.declared.tree.Tree.{Tree}
 use Rattle.sg_parse.specs.declared.words.Sort.TheVariants.{Name, One as one_word, Two as two_word}
 use Rattle.sg_parse.specs.Grammar.Named.{Named}
 use Rattle.sg_parse.specs.Grammar.Words.{one_words, two_words}
-use Rattle.sg_parse.specs.Grammar.Pieces.{Piece, word, name, IsPiece}
+use Rattle.sg_parse.specs.Grammar.Pieces.{Piece, word, name, kept, IsPiece}
 use Rattle.sg_parse.specs.Grammar.Sentence.{comma, semicolon, open_bracket, close_bracket, type_pieces, param_pieces, more_params, params_pieces, returned_pieces, ret_pieces, statement_pieces, IsType, IsRet, IsStatement}
 use Rattle.sg_parse.specs.Grammar.Inside.States.{State, due, want, has_sort, fits, named_by, type_of, declared, param, one_rest, two_rest, proto_rest, returned_behind, returned_rest, plain_rest, statement_behind}
-use Rattle.sg_parse.proofs.Grammar.Basics.{some_is, none_is, by_test, if_then, if_else, has_sort-is, is-has_sort, named, fits-is, is-fits, sort-has_sort, sort-fits_word, word-has_sort, word-fits_word, apart, name_apart}
+use Rattle.sg_parse.proofs.Grammar.Basics.{some_is, none_is, by_test, if_then, if_else, has_sort-is, is-has_sort, named, fits-is, is-fits, sort-has_sort, sort-fits_word, word-has_sort, word-fits_word, word-fits_kept, mark-has_sort, mark-fits_word, apart, name_apart}
 use Rattle.sg_parse.proofs.Grammar.Rests.{Rest, Whole, whole_of, closed-star, closed-sort}
 use Rattle.sg_parse.proofs.Grammar.Parts.{declared_back, declared_forth, param_back, param_forth, type_forth, ends, listed_closed}
 
@@ -137,10 +137,10 @@ plain_back go tree token ps h r =
       rest = p.rest;
     }
 
-returned_back : (go : Statement → State) (tree : Tree) (token : Lexeme) (ps : List Piece) (what : List ℕ) (make : TypeName → Named → Ret)
+returned_back : (go : Statement → State) (tree : Tree) (token : Lexeme) (ps : List Piece) (what : Piece) (make : TypeName → Named → Ret)
     → ((ty : TypeName) (field : Named) → ret_pieces (make ty field) ≡ returned_pieces what ty field)
     → ((ty : TypeName) (field : Named) → IsType ty → IsRet (make ty field))
-    → fits (word what) token ≡ true → Rest (returned_rest go make) ps tree → Spelled go tree token ps
+    → fits what token ≡ true → Rest (returned_rest go make) ps tree → Spelled go tree token ps
 returned_back go tree token ps what make pieces is_ret h r =
     let first = r.rest in
     let w = whole_of (λ f l n qs. Rest (returned_behind go make f l n) qs tree) first.value first.behind first.rest in
@@ -149,11 +149,11 @@ returned_back go tree token ps what make pieces is_ret h r =
     let p = proto_back go (make ty field.value) n.value tree n.behind n.rest in
     let tail = name Name n.value ∷ open_bracket ∷ (params_pieces p.params ++ close_bracket ∷ semicolon ∷ p.behind) in
     record {
-      piece = word what;
+      piece = what;
       statement = Proto (make ty field.value) n.value p.params;
       behind = p.behind;
-      is = fits-is (word what) token h;
-      all = ap (λ v. word what ∷ v) (r.all ∙ ap (λ v. open_bracket ∷ v) (first.all ∙ w.all ∙ ap (λ v. type_pieces ty ++ v)
+      is = fits-is what token h;
+      all = ap (λ v. what ∷ v) (r.all ∙ ap (λ v. open_bracket ∷ v) (first.all ∙ w.all ∙ ap (λ v. type_pieces ty ++ v)
           (sep.all ∙ ap (λ v. comma ∷ v) (field.all ∙ ap (λ v. name Name field.value ∷ v) (close.all ∙ ap (λ v. close_bracket ∷ v) (n.all ∙ ap (λ v. name Name n.value ∷ v) p.all))))
           ∙ sym (append_assoc (type_pieces ty) (comma ∷ name Name field.value ∷ close_bracket ∷ []) tail)))
           ∙ ap (λ v. v ++ tail) (sym (pieces ty field.value))
@@ -176,17 +176,21 @@ statement_back go tree token next ps e r =
     (λ h. two_back go tree token ps h (along (two_rest go (named_by token)) (sym (if_then (has_sort two_word token) _ _ h) ∙ e1)))
     (λ h2. let e2 = sym (if_else (has_sort two_word token) _ _ h2) ∙ e1 in
     by_test (fits (word (codes "desc_data_retval")) token)
-    (λ h. returned_back go tree token ps (codes "desc_data_retval") Set (λ ty field. refl) (λ ty field t. t) h
+    (λ h. returned_back go tree token ps (word (codes "desc_data_retval")) Set (λ ty field. refl) (λ ty field t. t) h
     (along (returned_rest go Set) (sym (if_then (fits (word (codes "desc_data_retval")) token) _ _ h) ∙ e2)))
     (λ h3. let e3 = sym (if_else (fits (word (codes "desc_data_retval")) token) _ _ h3) ∙ e2 in
     by_test (fits (word (codes "desc_data_retval_add")) token)
-    (λ h. returned_back go tree token ps (codes "desc_data_retval_add") Add (λ ty field. refl) (λ ty field t. t) h
+    (λ h. returned_back go tree token ps (word (codes "desc_data_retval_add")) Add (λ ty field. refl) (λ ty field t. t) h
     (along (returned_rest go Add) (sym (if_then (fits (word (codes "desc_data_retval_add")) token) _ _ h) ∙ e3)))
     (λ h4. let e4 = sym (if_else (fits (word (codes "desc_data_retval_add")) token) _ _ h4) ∙ e3 in
+    by_test (fits kept token)
+    (λ h. returned_back go tree token ps kept Sub (λ ty field. refl) (λ ty field t. t) h
+    (along (returned_rest go Sub) (sym (if_then (fits kept token) _ _ h) ∙ e4)))
+    (λ h5. let e5 = sym (if_else (fits kept token) _ _ h5) ∙ e4 in
     by_test (has_sort Name token)
-    (λ h. plain_back go tree token ps h (along (plain_rest go (named_by token)) (sym (if_then (has_sort Name token) _ _ h) ∙ e4)))
-    (λ h5. none_is (Spelled go tree token ps) next (if has_sort Name token then Some (plain_rest go (named_by token)) else None)
-    (if_else (has_sort Name token) (Some (plain_rest go (named_by token))) None h5) e4)))))
+    (λ h. plain_back go tree token ps h (along (plain_rest go (named_by token)) (sym (if_then (has_sort Name token) _ _ h) ∙ e5)))
+    (λ h6. none_is (Spelled go tree token ps) next (if has_sort Name token then Some (plain_rest go (named_by token)) else None)
+    (if_else (has_sort Name token) (Some (plain_rest go (named_by token))) None h6) e5))))))
   where
     along : (s : State) → Some s ≡ Some next → Rest s ps tree
     along s g = subst (λ v. Rest v ps tree) (sym (some_is s next g)) r
@@ -262,6 +266,7 @@ plain_is go token n is =
     ∙ if_else (has_sort two_word token) _ _ (sort-has_sort Name two_word token n is (name_apart two_words n.bytes refl is.3))
     ∙ if_else (fits (word (codes "desc_data_retval")) token) _ _ (sort-fits_word Name (codes "desc_data_retval") token n is (name_apart (codes "desc_data_retval" ∷ []) n.bytes refl is.3))
     ∙ if_else (fits (word (codes "desc_data_retval_add")) token) _ _ (sort-fits_word Name (codes "desc_data_retval_add") token n is (name_apart (codes "desc_data_retval_add" ∷ []) n.bytes refl is.3))
+    ∙ if_else (fits kept token) _ _ (word-fits_kept token is.0)
     ∙ if_then (has_sort Name token) _ _ (is-has_sort Name token n is)
 
 -- a type and a name, and then the rest of a prototype
@@ -292,7 +297,7 @@ plain_forth go tree token p ps ty n params qs is all is_type full types r =
       rest = subst (λ v. Rest (plain_rest go v) ps tree) (sym (named Name token w.value is1)) (subst (λ v. Rest (plain_rest go w.value) v tree) e1 w.rest);
     }
 
-returned_forth : (go : Statement → State) (tree : Tree) (what : List ℕ) (make : TypeName → Named → Ret) (ty : TypeName) (field n : Named) (params : List Param) (qs : List Piece)
+returned_forth : (go : Statement → State) (tree : Tree) (what : Piece) (make : TypeName → Named → Ret) (ty : TypeName) (field n : Named) (params : List Param) (qs : List Piece)
     → IsType ty → params ≢ [] → All (λ q. IsType q.ty) params → Rest (go (Proto (make ty field) n params)) qs tree
     → Rest (returned_rest go make) (open_bracket ∷ (type_pieces ty ++ (comma ∷ name Name field ∷ close_bracket ∷ name Name n ∷ open_bracket ∷ (params_pieces params ++ close_bracket ∷ semicolon ∷ qs)))) tree
 returned_forth go tree what make ty field n params qs is_type full types r =
@@ -331,14 +336,14 @@ returned_forth go tree what make ty field n params qs is_type full types r =
     record { behind = type_pieces ty ++ behind; all = refl; rest = type_forth (returned_behind go make) tree ty behind is_type w }
 
 -- the pieces of a return that sets a field, with what follows them
-returned_all : (what : List ℕ) (make : TypeName → Named → Ret) (ty : TypeName) (field n : Named) (params : List Param) (qs : List Piece)
+returned_all : (what : Piece) (make : TypeName → Named → Ret) (ty : TypeName) (field n : Named) (params : List Param) (qs : List Piece)
     → ret_pieces (make ty field) ≡ returned_pieces what ty field
     → statement_pieces (Proto (make ty field) n params) ++ qs
-    ≡ word what ∷ open_bracket ∷ (type_pieces ty ++ (comma ∷ name Name field ∷ close_bracket ∷ name Name n ∷ open_bracket ∷ (params_pieces params ++ close_bracket ∷ semicolon ∷ qs)))
+    ≡ what ∷ open_bracket ∷ (type_pieces ty ++ (comma ∷ name Name field ∷ close_bracket ∷ name Name n ∷ open_bracket ∷ (params_pieces params ++ close_bracket ∷ semicolon ∷ qs)))
 returned_all what make ty field n params qs pieces =
     let tail : List Piece = name Name n ∷ open_bracket ∷ (params_pieces params ++ close_bracket ∷ semicolon ∷ qs) in
     sym (proto_all (make ty field) n params qs) ∙ ap (λ v. v ++ tail) pieces
-    ∙ ap (λ v. word what ∷ open_bracket ∷ v) (append_assoc (type_pieces ty) (comma ∷ name Name field ∷ close_bracket ∷ []) tail)
+    ∙ ap (λ v. what ∷ open_bracket ∷ v) (append_assoc (type_pieces ty) (comma ∷ name Name field ∷ close_bracket ∷ []) tail)
 
 -- the word of a return that sets a field is none of the words before it
 retval_is : (go : Statement → State) (token : Lexeme) → IsPiece token (word (codes "desc_data_retval")) → statement_behind go token ≡ Some (returned_rest go Set)
@@ -354,6 +359,14 @@ retval_add_is go token is =
     ∙ if_else (fits (word (codes "desc_data_retval")) token) _ _ (word-fits_word (codes "desc_data_retval_add") (codes "desc_data_retval") token is refl)
     ∙ if_then (fits (word (codes "desc_data_retval_add")) token) _ _ (is-fits (word (codes "desc_data_retval_add")) token is)
 
+retval_sub_is : (go : Statement → State) (token : Lexeme) → IsPiece token kept → statement_behind go token ≡ Some (returned_rest go Sub)
+retval_sub_is go token is =
+    if_else (has_sort one_word token) _ _ (mark-has_sort one_word token is.0)
+    ∙ if_else (has_sort two_word token) _ _ (mark-has_sort two_word token is.0)
+    ∙ if_else (fits (word (codes "desc_data_retval")) token) _ _ (mark-fits_word (codes "desc_data_retval") token is.0)
+    ∙ if_else (fits (word (codes "desc_data_retval_add")) token) _ _ (mark-fits_word (codes "desc_data_retval_add") token is.0)
+    ∙ if_then (fits kept token) _ _ (is-fits kept token is)
+
 pub statement_forth : (go : Statement → State) (tree : Tree) (token : Lexeme) (p : Piece) (ps : List Piece) (statement : Statement) (qs : List Piece)
     → IsPiece token p → p ∷ ps ≡ statement_pieces statement ++ qs → IsStatement statement → Rest (go statement) qs tree
     → Follows (statement_behind go token) ps tree
@@ -368,14 +381,20 @@ statement_forth go tree token p ps (Two w first second) qs is all s r =
 statement_forth go tree token p ps (Proto (Plain ty) n params) qs is all s r =
     plain_forth go tree token p ps ty n params qs is all s.0 s.1 s.2 r
 statement_forth go tree token p ps (Proto (Set ty field) n params) qs is all s r =
-    let f = returned_forth go tree (codes "desc_data_retval") Set ty field n params qs s.0 s.1 s.2 r in
-    let e = all ∙ returned_all (codes "desc_data_retval") Set ty field n params qs refl in
+    let f = returned_forth go tree (word (codes "desc_data_retval")) Set ty field n params qs s.0 s.1 s.2 r in
+    let e = all ∙ returned_all (word (codes "desc_data_retval")) Set ty field n params qs refl in
     let e0 : p ≡ word (codes "desc_data_retval") = head_is e in
     let e1 = tail_is e in
     record { next = returned_rest go Set; is = retval_is go token (subst (IsPiece token) e0 is); rest = subst (λ v. Rest (returned_rest go Set) v tree) (sym e1) f }
 statement_forth go tree token p ps (Proto (Add ty field) n params) qs is all s r =
-    let f = returned_forth go tree (codes "desc_data_retval_add") Add ty field n params qs s.0 s.1 s.2 r in
-    let e = all ∙ returned_all (codes "desc_data_retval_add") Add ty field n params qs refl in
+    let f = returned_forth go tree (word (codes "desc_data_retval_add")) Add ty field n params qs s.0 s.1 s.2 r in
+    let e = all ∙ returned_all (word (codes "desc_data_retval_add")) Add ty field n params qs refl in
     let e0 : p ≡ word (codes "desc_data_retval_add") = head_is e in
     let e1 = tail_is e in
     record { next = returned_rest go Add; is = retval_add_is go token (subst (IsPiece token) e0 is); rest = subst (λ v. Rest (returned_rest go Add) v tree) (sym e1) f }
+statement_forth go tree token p ps (Proto (Sub ty field) n params) qs is all s r =
+    let f = returned_forth go tree kept Sub ty field n params qs s.0 s.1 s.2 r in
+    let e = all ∙ returned_all kept Sub ty field n params qs refl in
+    let e0 : p ≡ kept = head_is e in
+    let e1 = tail_is e in
+    record { next = returned_rest go Sub; is = retval_sub_is go token (subst (IsPiece token) e0 is); rest = subst (λ v. Rest (returned_rest go Sub) v tree) (sym e1) f }

@@ -1,6 +1,8 @@
 -- What is read on a text is the one answer that a parser may give, out of memory aside.
-use Rattle.std.proofs.Common.{◌≡◌, ◌≢◌, ℕ, inl, inr, List, refl}
-use Rattle.std.specs.Prelude.{Ok, Err}
+use Rattle.std.proofs.Common.{◌≡◌, ◌≢◌, ℕ, inl, inr, List, [], ◌∷◌, map, refl}
+use Rattle.std.specs.Prelude.{Ok, Err, None, Some}
+use Rattle.std.specs.declared.option.Option.{Option}
+use Rattle.std.specs.Option.{option_map, option_map_or}
 use Rattle.std.specs.declared.result.Result.{Result}
 use Rattle.sg_lex.specs.Tokens.{Answer}
 use Rattle.sg_lex.specs.Inside.Automata.{read_from}
@@ -11,7 +13,8 @@ use Rattle.sg_parse.specs.declared.error.ParseError.TheVariants.{NoMemory, Lex, 
 use Rattle.sg_parse.specs.declared.tree.Tree.{Tree}
 use Rattle.sg_parse.specs.Grammar.Sentence.{IsSentence}
 use Rattle.sg_parse.specs.Grammar.Parses.{ParsesTo}
-use Rattle.sg_parse.specs.Grammar.Inside.States.{State, start, trees}
+use Rattle.sg_parse.specs.Grammar.Pieces.{seen}
+use Rattle.sg_parse.specs.Grammar.Inside.States.{State, in_newer, start, step, tree_at, trees}
 use Rattle.sg_parse.proofs.Grammar.Runs.{just}
 
 pub may_answer : (length : ℕ) (answers : List Answer) → ParsesTo answers length (read_from trees length start answers)
@@ -36,3 +39,23 @@ only_answer length answers (Err (Syntax place)) h n =
 -- reading is never out of memory
 pub reads_no_memory : (length : ℕ) (s : State) (answers : List Answer) → read_from trees length s answers ≢ Err NoMemory
 reads_no_memory length s answers = reads_no_other trees length s answers NoMemory (λ at e. cc) (λ at e. cc)
+
+-- ---- texts of version 2
+
+-- what a lexer answers, as a text of version 2 has it
+abbrev pub seen_answer : Answer → Answer
+seen_answer (Ok token) = Ok (seen token)
+seen_answer (Err fault) = Err fault
+
+-- to read on in a text of version 2 is to read on what it has
+pub read_newer : (length : ℕ) (s : State) (answers : List Answer) → read_from trees length (in_newer s) answers ≡ read_from trees length s (map seen_answer answers)
+unfolding read_from step tree_at
+read_newer length s [] = refl
+read_newer length s (Err fault ∷ behind) = refl
+read_newer length s (Ok token ∷ behind) = by (λ inner. read_newer length inner behind) (step s (seen token))
+  where
+    by : ((inner : State) → read_from trees length (in_newer inner) behind ≡ read_from trees length inner (map seen_answer behind)) → (found : Option State)
+        → option_map_or (λ next. read_from trees length next behind) (option_map in_newer found) (Err (Syntax token.at))
+        ≡ option_map_or (λ next. read_from trees length next (map seen_answer behind)) found (Err (Syntax token.at))
+    by deeper None = refl
+    by deeper (Some inner) = deeper inner

@@ -11,9 +11,9 @@ use Rattle.sg_parse.specs.declared.words.Sort.{Sort}
 use Rattle.sg_parse.specs.declared.words.Sort.TheVariants.{Name, Form}
 use Rattle.sg_parse.specs.Grammar.Named.{Named}
 use Rattle.sg_parse.specs.Grammar.Words.{form_words}
-use Rattle.sg_parse.specs.Grammar.Pieces.{Piece, word, mark, name, IsPiece}
+use Rattle.sg_parse.specs.Grammar.Pieces.{Piece, word, mark, name, two, kept, newer, IsPiece}
 use Rattle.sg_parse.specs.Grammar.Sentence.{star, close_bracket, type_pieces, more_params, statement_pieces, IsType, IsStatement}
-use Rattle.sg_parse.specs.Grammar.Inside.States.{State, dead, due, want, names, stars, either, listed, statements, has_sort, fits, type_of}
+use Rattle.sg_parse.specs.Grammar.Inside.States.{State, dead, due, fork, want, names, stars, either, listed, statements, in_newer, has_sort, fits, type_of}
 use Rattle.sg_parse.proofs.Grammar.Basics.{mark-has_sort, word-fits_mark, mark-fits_mark, sort-has_sort, name_apart, reserved_apart}
 
 -- the test fails at the first of these pieces
@@ -72,10 +72,17 @@ pub record DueRest (P : List Piece → Type 0) (p : Piece) (ps : List Piece) : T
   pub all : ps ≡ p ∷ behind
   pub rest : P behind
 
+-- in a text of version 2: pieces as it has them
+pub record NewerRest (P : List Piece → Type 0) (ps : List Piece) : Type 0 where
+  pub behind : List Piece
+  pub all : ps ≡ map newer behind
+  pub rest : P behind
+
 -- from a state these pieces complete this tree
 abbrev pub Rest : State → List Piece → Tree → Type 0
 Rest dead ps tree = ⊥
 Rest (due p s) ps tree = DueRest (λ qs. Rest s qs tree) p ps
+Rest (fork what s other) ps tree = DueRest (λ qs. Rest s qs tree) (word what) ps ⊎ (Off (fits (word what)) ps × Rest other ps tree)
 Rest (want sort k) ps tree = NameRest (λ n qs. Rest (k n) qs tree) sort ps
 Rest (names front last k) ps tree = TypeRest (λ f l n qs. Rest (k f l n) qs tree) front last ps
 Rest (stars front last n k) ps tree = StarRest (λ m qs. Rest (k front last (n + m)) qs tree) ps
@@ -83,6 +90,7 @@ Rest (either k s) ps tree = NameRest (λ n qs. Rest (k n) qs tree) Form ps ⊎ (
 Rest (listed params k) ps tree = ParamRest (λ more qs. Rest (k (params ++ more)) qs tree) ps
 Rest (statements facts before) ps tree =
     StatementRest (λ more. record { facts = facts; statements = before ++ more }) ps tree
+Rest (in_newer s) ps tree = NewerRest (λ qs. Rest s qs tree) ps
 
 -- ---- names of a type
 
@@ -171,18 +179,27 @@ Closed [] = ⊥
 Closed (word w ∷ ps) = ⊥
 Closed (mark b ∷ ps) = pointwise nat_eq (b ∷ []) (0x2A ∷ []) ≡ false
 Closed (name sort n ∷ ps) = ⊥
+Closed (two ∷ ps) = ⊥
+Closed (kept ∷ ps) = ⊥
+Closed (newer p ∷ ps) = ⊥
 
 pub closed-star : (ps : List Piece) → Closed ps → Off (fits star) ps
 closed-star (mark b ∷ ps) h = λ token is. mark-fits_mark b 0x2A token is h
 closed-star [] h = absurd h
 closed-star (word w ∷ ps) h = absurd h
 closed-star (name sort n ∷ ps) h = absurd h
+closed-star (two ∷ ps) h = absurd h
+closed-star (kept ∷ ps) h = absurd h
+closed-star (newer p ∷ ps) h = absurd h
 
 pub closed-sort : (sort : Sort) (ps : List Piece) → Closed ps → Off (has_sort sort) ps
 closed-sort sort (mark b ∷ ps) h = λ token is. mark-has_sort sort token is.0
 closed-sort sort [] h = absurd h
 closed-sort sort (word w ∷ ps) h = absurd h
 closed-sort sort (name other n ∷ ps) h = absurd h
+closed-sort sort (two ∷ ps) h = absurd h
+closed-sort sort (kept ∷ ps) h = absurd h
+closed-sort sort (newer p ∷ ps) h = absurd h
 
 pub name-star : (sort : Sort) (n : Named) (ps : List Piece) → Off (fits star) (name sort n ∷ ps)
 name-star sort n ps token is = word-fits_mark 0x2A token is.0

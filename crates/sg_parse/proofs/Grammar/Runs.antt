@@ -1,6 +1,6 @@
 -- Tokens read one after another, and the sentences that they are.
-use Rattle.std.proofs.Common.{◌≡◌, ℕ, zero, suc, ◌+◌, inl, inr, false, List, [], ◌∷◌, ◌++◌, map, refl, sym, ap, subst, ◌∙◌, arith}
-use Rattle.std.specs.Prelude.{None, Some, codes, replicate}
+use Rattle.std.proofs.Common.{◌≡◌, ℕ, zero, suc, ◌+◌, inl, inr, Bool, true, false, List, [], ◌∷◌, ◌++◌, map, refl, sym, ap, subst, ◌∙◌, arith}
+use Rattle.std.specs.Prelude.{None, Some, All, codes, replicate}
 use Rattle.std.specs.List.{flat_map}
 use Rattle.std.proofs.lemmas.List.{append-nil}
 use Rattle.std.proofs.lemmas.List.Elements.{All-nil}
@@ -16,9 +16,10 @@ use Rattle.sg_parse.specs.declared.tree.Tree.{Tree}
 use Rattle.sg_parse.specs.declared.words.Sort.{Sort}
 use Rattle.sg_parse.specs.declared.words.Sort.TheVariants.{Name, Form, Parents, Closing, Flag}
 use Rattle.sg_parse.specs.Grammar.Named.{Named}
-use Rattle.sg_parse.specs.Grammar.Pieces.{Piece, word, mark, name, IsPiece}
-use Rattle.sg_parse.specs.Grammar.Sentence.{star, comma, close_bracket, open_brace, equals, semicolon, more_params, fact_pieces, tree_pieces, statement_pieces, ret_pieces, IsStatement, IsWellFormed, IsSentence}
-use Rattle.sg_parse.specs.Grammar.Inside.States.{State, dead, due, want, names, stars, either, listed, statements, fact, head1, head2, head3, head4, head5, head6, head7, start, tree_at, trees}
+use Rattle.sg_parse.specs.Grammar.Pieces.{Piece, word, mark, name, two, newer, IsPiece}
+use Rattle.sg_parse.specs.Grammar.Sentence.{star, comma, close_bracket, open_brace, equals, semicolon, more_params, fact_pieces, head_pieces, last_pieces, recovery_word, end_pieces, facts_pieces, of_version, tree_pieces, statement_pieces, ret_pieces, IsStatement, IsHead, IsWellFormed, IsSentence}
+use Rattle.sg_parse.specs.Grammar.Inside.States.{State, dead, due, fork, want, names, stars, either, listed, statements, in_newer, fact, head_end, first_end, second_end, head0, head1, head2, head3, head4, head5, head6, start, tree_at, trees}
+use Rattle.sg_parse.proofs.Grammar.Basics.{word-fits_word}
 use Rattle.sg_parse.proofs.Grammar.Rests.{Rest, front_of, last_of}
 use Rattle.sg_parse.proofs.Grammar.Steps.{back, forth}
 use Rattle.sg_parse.proofs.Grammar.Alive.{Alive, completed, alive_behind, start_alive}
@@ -29,6 +30,7 @@ pub done_back : (s : State) (tree : Tree) → tree_at s ≡ Some tree → Rest s
 unfolding tree_at
 done_back dead tree e = absurd cc
 done_back (due p s) tree e = absurd cc
+done_back (fork what s other) tree e = inr (tt, done_back other tree e)
 done_back (want sort k) tree e = absurd cc
 done_back (names front last k) tree e =
     record { more = []; count = 0; behind = []; all = refl; off_star = tt; off_name = λ _. tt; rest = done_back (k front last 0) tree e }
@@ -49,6 +51,7 @@ done_back (statements facts before) tree e =
       each = All-nil IsStatement;
       is = (let f : record { facts = facts; statements = before } ≡ tree = cc in sym f) ∙ ap (λ v. record { facts = facts; statements = v }) (sym (append-nil before));
     }
+done_back (in_newer s) tree e = record { behind = []; all = refl; rest = done_back s tree e }
 
 cons_some : {X : Type 0} (Y : Type 0) (xs ys : List X) (y : X) → [] ≡ xs ++ (y ∷ ys) → Y
 cons_some Y [] ys y e = absurd cc
@@ -62,6 +65,10 @@ no_map : (xs : List Named) → [] ≡ map (name Name) xs → xs ≡ []
 no_map [] e = refl
 no_map (x ∷ xs) e = absurd cc
 
+no_pieces : (ps : List Piece) → [] ≡ map newer ps → ps ≡ []
+no_pieces [] e = refl
+no_pieces (p ∷ ps) e = absurd cc
+
 no_copies : (n : ℕ) → [] ≡ replicate n star → n ≡ 0
 no_copies zero e = refl
 no_copies (suc n) e = absurd cc
@@ -70,6 +77,11 @@ pub done_forth : (s : State) (tree : Tree) → Rest s [] tree → tree_at s ≡ 
 unfolding tree_at
 done_forth dead tree r = absurd r
 done_forth (due p s) tree r = absurd (let e : [] ≡ p ∷ r.behind = r.all in cc)
+done_forth (fork what s other) tree r =
+    elim r [
+      | inl f ↦ absurd (let e : [] ≡ word what ∷ f.behind = f.all in cc)
+      | inr f ↦ done_forth other tree f.1
+    ]
 done_forth (want sort k) tree r = absurd (let e : [] ≡ name sort r.value ∷ r.behind = r.all in cc)
 done_forth (names front last k) tree r =
     let a = no_front (map (name Name) r.more) (replicate r.count star ++ r.behind) r.all in
@@ -102,6 +114,7 @@ done_forth (statements facts before) tree r =
         some_piece (Statement.One w fun) e = cc
         some_piece (Statement.Two w first second) e = cc
         some_piece (Statement.Proto ret n params) e = cons_some ⊥ (ret_pieces ret) _ _ e
+done_forth (in_newer s) tree r = done_forth s tree (subst (λ v. Rest s v tree) (no_pieces r.behind r.all) r.rest)
 
 -- ---- tokens and pieces
 
@@ -172,65 +185,242 @@ fact_forth what sort end go tree value qs r =
       };
     }
 
-start_back : (tree : Tree) (ps : List Piece) → Rest start ps tree → (ps ≡ tree_pieces tree) × IsWellFormed tree
-start_back tree ps r =
-    let o = r.rest.rest in
-    let a = fact_back (codes "service") Name comma head1 tree o.behind o.rest in
-    let b = fact_back (codes "desc_has_parent") Parents comma (head2 a.value) tree a.behind a.rest in
-    let c = fact_back (codes "desc_close") Closing comma (head3 a.value b.value) tree b.behind b.rest in
-    let d = fact_back (codes "desc_is_global") Flag comma (head4 a.value b.value c.value) tree c.behind c.rest in
-    let e = fact_back (codes "desc_block") Flag comma (head5 a.value b.value c.value d.value) tree d.behind d.rest in
-    let f = fact_back (codes "desc_has_data") Flag comma (head6 a.value b.value c.value d.value e.value) tree e.behind e.rest in
-    let g = fact_back (codes "resc_has_data") Flag (mark close_brace_byte) (head7 a.value b.value c.value d.value e.value f.value) tree f.behind f.rest in
-    let s = g.rest.rest in
-    let facts : Facts = record { service = a.value; parent = b.value; close = c.value; global = d.value; block = e.value; has_data = f.value; resc_data = g.value } in
-    let is : tree ≡ record { facts = facts; statements = s.more } = s.is in (
-      r.all ∙ ap (λ v. word (codes "service_global_info") ∷ v) (r.rest.all ∙ ap (λ v. equals ∷ v) (o.all ∙ ap (λ v. open_brace ∷ v)
-          (a.all ∙ ap (fact_pieces (codes "service") Name a.value comma)
+-- the facts of the head, and what follows the value of the last
+record HeadRest (P : (a b c d e f g : Named) → List Piece → Type 0) (ps : List Piece) : Type 0 where
+  a : Named
+  b : Named
+  c : Named
+  d : Named
+  e : Named
+  f : Named
+  g : Named
+  behind : List Piece
+  all : ps ≡ head_pieces a b c d e f g behind
+  rest : P a b c d e f g behind
+
+head_back : (end : (a b c d e f g : Named) → State) (tree : Tree) (ps : List Piece) → Rest (head0 end) ps tree → HeadRest (λ a b c d e f g qs. Rest (end a b c d e f g) qs tree) ps
+head_back end tree ps r =
+    let a = fact_back (codes "service") Name comma (head1 end) tree ps r in
+    let b = fact_back (codes "desc_has_parent") Parents comma (head2 end a.value) tree a.behind a.rest in
+    let c = fact_back (codes "desc_close") Closing comma (head3 end a.value b.value) tree b.behind b.rest in
+    let d = fact_back (codes "desc_is_global") Flag comma (head4 end a.value b.value c.value) tree c.behind c.rest in
+    let e = fact_back (codes "desc_block") Flag comma (head5 end a.value b.value c.value d.value) tree d.behind d.rest in
+    let f = fact_back (codes "desc_has_data") Flag comma (head6 end a.value b.value c.value d.value e.value) tree e.behind e.rest in
+    let w = f.rest in let q = w.rest in let g = q.rest in
+    record {
+      a = a.value;
+      b = b.value;
+      c = c.value;
+      d = d.value;
+      e = e.value;
+      f = f.value;
+      g = g.value;
+      behind = g.behind;
+      all =
+          a.all ∙ ap (fact_pieces (codes "service") Name a.value comma)
           (b.all ∙ ap (fact_pieces (codes "desc_has_parent") Parents b.value comma)
           (c.all ∙ ap (fact_pieces (codes "desc_close") Closing c.value comma)
           (d.all ∙ ap (fact_pieces (codes "desc_is_global") Flag d.value comma)
           (e.all ∙ ap (fact_pieces (codes "desc_block") Flag e.value comma)
           (f.all ∙ ap (fact_pieces (codes "desc_has_data") Flag f.value comma)
-          (g.all ∙ ap (fact_pieces (codes "resc_has_data") Flag g.value (mark close_brace_byte))
-          (g.rest.all ∙ ap (λ v. semicolon ∷ v) s.all))))))))))
-          ∙ ap tree_pieces (sym is),
-      subst IsWellFormed (sym is) s.each,
-    )
+          (w.all ∙ ap (λ v. word (codes "resc_has_data") ∷ v) (q.all ∙ ap (λ v. equals ∷ v) g.all)))))));
+      rest = g.rest;
+    }
 
-start_forth : (tree : Tree) → IsWellFormed tree → Rest start (tree_pieces tree) tree
-start_forth tree h =
-    let q = tree.facts in
-    let last : List Piece = semicolon ∷ flat_map statement_pieces tree.statements in
-    let p7 = fact_pieces (codes "resc_has_data") Flag q.resc_data (mark close_brace_byte) last in
+head_forth : (end : (a b c d e f g : Named) → State) (tree : Tree) (q : Facts) (last : List Piece)
+    → Rest (end q.service q.parent q.close q.global q.block q.has_data q.resc_data) last tree
+    → Rest (head0 end) (head_pieces q.service q.parent q.close q.global q.block q.has_data q.resc_data last) tree
+head_forth end tree q last r8 =
+    let p7 = word (codes "resc_has_data") ∷ equals ∷ name Flag q.resc_data ∷ last in
     let p6 = fact_pieces (codes "desc_has_data") Flag q.has_data comma p7 in
     let p5 = fact_pieces (codes "desc_block") Flag q.block comma p6 in
     let p4 = fact_pieces (codes "desc_is_global") Flag q.global comma p5 in
     let p3 = fact_pieces (codes "desc_close") Closing q.close comma p4 in
     let p2 = fact_pieces (codes "desc_has_parent") Parents q.parent comma p3 in
-    let r8 : Rest (head7 q.service q.parent q.close q.global q.block q.has_data q.resc_data) last tree =
-    record {
-      behind = flat_map statement_pieces tree.statements;
-      all = refl;
-      rest = record { more = tree.statements; all = refl; each = h; is = refl };
-    } in
-    let r7 = fact_forth (codes "resc_has_data") Flag (mark close_brace_byte) (head7 q.service q.parent q.close q.global q.block q.has_data) tree q.resc_data last r8 in
-    let r6 = fact_forth (codes "desc_has_data") Flag comma (head6 q.service q.parent q.close q.global q.block) tree q.has_data p7 r7 in
-    let r5 = fact_forth (codes "desc_block") Flag comma (head5 q.service q.parent q.close q.global) tree q.block p6 r6 in
-    let r4 = fact_forth (codes "desc_is_global") Flag comma (head4 q.service q.parent q.close) tree q.global p5 r5 in
-    let r3 = fact_forth (codes "desc_close") Closing comma (head3 q.service q.parent) tree q.close p4 r4 in
-    let r2 = fact_forth (codes "desc_has_parent") Parents comma (head2 q.service) tree q.parent p3 r3 in
-    let r1 = fact_forth (codes "service") Name comma head1 tree q.service p2 r2 in
-    let p1 = fact_pieces (codes "service") Name q.service comma p2 in
-    record {
-      behind = equals ∷ open_brace ∷ p1;
+    let r7 : Rest (head6 end q.service q.parent q.close q.global q.block q.has_data) p7 tree = record {
+      behind = equals ∷ name Flag q.resc_data ∷ last;
       all = refl;
       rest = record {
-        behind = open_brace ∷ p1;
+        behind = name Flag q.resc_data ∷ last;
         all = refl;
-        rest = record { behind = p1; all = refl; rest = r1 };
+        rest = record { value = q.resc_data; behind = last; all = refl; rest = r8 };
       };
-    }
+    } in
+    let r6 = fact_forth (codes "desc_has_data") Flag comma (head6 end q.service q.parent q.close q.global q.block) tree q.has_data p7 r7 in
+    let r5 = fact_forth (codes "desc_block") Flag comma (head5 end q.service q.parent q.close q.global) tree q.block p6 r6 in
+    let r4 = fact_forth (codes "desc_is_global") Flag comma (head4 end q.service q.parent q.close) tree q.global p5 r5 in
+    let r3 = fact_forth (codes "desc_close") Closing comma (head3 end q.service q.parent) tree q.close p4 r4 in
+    let r2 = fact_forth (codes "desc_has_parent") Parents comma (head2 end q.service) tree q.parent p3 r3 in
+    fact_forth (codes "service") Name comma (head1 end) tree q.service p2 r2
+
+-- the end of the head, and the statements
+record LastRest (facts : Facts) (ps : List Piece) (tree : Tree) : Type 0 where
+  statements : List Statement
+  all : ps ≡ last_pieces (flat_map statement_pieces statements)
+  each : All IsStatement statements
+  is : tree ≡ record { facts = facts; statements = statements }
+
+abbrev facts_by : (version : ℕ) (eager : Bool) (a b c d e f g : Named) → Facts
+facts_by version eager a b c d e f g = record { version = version; service = a; parent = b; close = c; global = d; block = e; has_data = f; resc_data = g; eager = eager }
+
+end_back : (version : ℕ) (eager : Bool) (a b c d e f g : Named) (tree : Tree) (ps : List Piece) → Rest (head_end version eager a b c d e f g) ps tree
+    → LastRest (facts_by version eager a b c d e f g) ps tree
+end_back version eager a b c d e f g tree ps r =
+    let s = r.rest.rest in
+    record { statements = s.more; all = r.all ∙ ap (λ v. mark close_brace_byte ∷ v) (r.rest.all ∙ ap (λ v. semicolon ∷ v) s.all); each = s.each; is = s.is }
+
+end_forth : (facts : Facts) (tree : Tree) → tree.facts ≡ facts → All IsStatement tree.statements
+    → Rest (due (mark close_brace_byte) (due semicolon (statements facts []))) (last_pieces (flat_map statement_pieces tree.statements)) tree
+end_forth facts tree is h = record {
+  behind = semicolon ∷ flat_map statement_pieces tree.statements;
+  all = refl;
+  rest = record {
+    behind = flat_map statement_pieces tree.statements;
+    all = refl;
+    rest = record { more = tree.statements; all = refl; each = h; is = ap (λ f. record { facts = f; statements = tree.statements }) is };
+  };
+}
+
+-- ---- a text of version 1
+
+first_back : (tree : Tree) (ps : List Piece) → Rest (head0 first_end) ps tree
+    → (ps ≡ of_version tree.facts.version (facts_pieces tree.facts (flat_map statement_pieces tree.statements))) × IsWellFormed tree
+first_back tree ps r =
+    let h = head_back first_end tree ps r in
+    let s = end_back 1 false h.a h.b h.c h.d h.e h.f h.g tree h.behind h.rest in (
+      h.all ∙ ap (head_pieces h.a h.b h.c h.d h.e h.f h.g) s.all
+          ∙ ap (λ (t : Tree). of_version t.facts.version (facts_pieces t.facts (flat_map statement_pieces t.statements))) (sym s.is),
+      subst IsWellFormed (sym s.is) (inl (refl, refl), s.each),
+    )
+
+first_forth : (tree : Tree) → tree.facts.version ≡ 1 → tree.facts.eager ≡ false → All IsStatement tree.statements
+    → Rest (head0 first_end) (facts_pieces (record tree.facts { version = 1 }) (flat_map statement_pieces tree.statements)) tree
+first_forth tree one off h =
+    let q = tree.facts in
+    head_forth first_end tree q (last_pieces (flat_map statement_pieces tree.statements))
+    (end_forth (facts_by 1 false q.service q.parent q.close q.global q.block q.has_data q.resc_data) tree
+    (ap (λ n. record q { version = n }) one ∙ ap (λ b. record q { version = 1; eager = b }) off) h)
+
+-- ---- a text of version 2
+
+second_end_back : (a b c d e f g : Named) (tree : Tree) (ps : List Piece) → Rest (second_end a b c d e f g) ps tree
+    → (ps ≡ end_pieces tree.facts (flat_map statement_pieces tree.statements)) × (tree.facts ≡ facts_by 2 tree.facts.eager a b c d e f g) × All IsStatement tree.statements
+second_end_back a b c d e f g tree ps r =
+    let w = r.rest in let q = w.rest in
+    let front : (eager : Bool) (more : List Piece) → q.behind ≡ word (recovery_word eager) ∷ more
+    → ps ≡ comma ∷ word (codes "desc_recover") ∷ equals ∷ word (recovery_word eager) ∷ more
+    = λ eager more is. r.all ∙ ap (λ v. comma ∷ v) (w.all ∙ ap (λ v. word (codes "desc_recover") ∷ v) (q.all ∙ ap (λ v. equals ∷ v) is)) in
+    elim q.rest [
+      | inl t ↦ by true (end_back 2 true a b c d e f g tree t.behind t.rest) (front true t.behind t.all)
+      | inr t ↦ by false (end_back 2 false a b c d e f g tree t.1.behind t.1.rest) (front false t.1.behind t.1.all)
+    ]
+  where
+    by : (eager : Bool) {behind : List Piece} → LastRest (facts_by 2 eager a b c d e f g) behind tree → ps ≡ comma ∷ word (codes "desc_recover") ∷ equals ∷ word (recovery_word eager) ∷ behind
+        → (ps ≡ end_pieces tree.facts (flat_map statement_pieces tree.statements)) × (tree.facts ≡ facts_by 2 tree.facts.eager a b c d e f g) × All IsStatement tree.statements
+    by eager s all = (
+      all ∙ ap (λ v. comma ∷ word (codes "desc_recover") ∷ equals ∷ word (recovery_word eager) ∷ v) s.all
+          ∙ ap (λ (t : Tree). end_pieces t.facts (flat_map statement_pieces t.statements)) (sym s.is),
+      ap (λ (t : Tree). t.facts) s.is ∙ ap (λ (t : Tree). facts_by 2 t.facts.eager a b c d e f g) (sym s.is),
+      subst (λ (t : Tree). All IsStatement t.statements) (sym s.is) s.each,
+    )
+
+second_back : (tree : Tree) (ps : List Piece) → Rest (head0 second_end) ps tree
+    → (word (codes "version") ∷ equals ∷ two ∷ comma ∷ map newer ps ≡ of_version tree.facts.version (facts_pieces tree.facts (flat_map statement_pieces tree.statements))) × IsWellFormed tree
+second_back tree ps r =
+    let h = head_back second_end tree ps r in
+    let s = second_end_back h.a h.b h.c h.d h.e h.f h.g tree h.behind h.rest in
+    let version : tree.facts.version ≡ 2 = ap (λ (f : Facts). f.version) s.1 in (
+      ap (λ v. word (codes "version") ∷ equals ∷ two ∷ comma ∷ map newer v)
+          (h.all ∙ ap (head_pieces h.a h.b h.c h.d h.e h.f h.g) s.0
+          ∙ ap (λ (f : Facts). head_pieces f.service f.parent f.close f.global f.block f.has_data f.resc_data (end_pieces tree.facts (flat_map statement_pieces tree.statements))) (sym s.1))
+          ∙ ap (λ n. of_version n (facts_pieces tree.facts (flat_map statement_pieces tree.statements))) (sym version),
+      (inr version, s.2),
+    )
+
+second_end_forth : (tree : Tree) → tree.facts.version ≡ 2 → All IsStatement tree.statements
+    → (let q = tree.facts in Rest (second_end q.service q.parent q.close q.global q.block q.has_data q.resc_data) (end_pieces (record q { version = 2 }) (flat_map statement_pieces tree.statements)) tree)
+second_end_forth tree version h = record {
+  behind = word (codes "desc_recover") ∷ equals ∷ word (recovery_word tree.facts.eager) ∷ last_pieces (flat_map statement_pieces tree.statements);
+  all = refl;
+  rest = record {
+    behind = equals ∷ word (recovery_word tree.facts.eager) ∷ last_pieces (flat_map statement_pieces tree.statements);
+    all = refl;
+    rest = record {
+      behind = word (recovery_word tree.facts.eager) ∷ last_pieces (flat_map statement_pieces tree.statements);
+      all = refl;
+      rest = by tree.facts.eager refl;
+    };
+  };
+}
+  where
+    its : (eager : Bool) → tree.facts.eager ≡ eager → tree.facts ≡ record tree.facts { version = 2; eager = eager }
+    its eager is = ap (λ n. record tree.facts { version = n }) version ∙ ap (λ b. record tree.facts { version = 2; eager = b }) is
+
+    by : (eager : Bool) → tree.facts.eager ≡ eager
+        → (let q = tree.facts in Rest (fork (codes "eager") (head_end 2 true q.service q.parent q.close q.global q.block q.has_data q.resc_data)
+        (due (word (codes "demand")) (head_end 2 false q.service q.parent q.close q.global q.block q.has_data q.resc_data)))
+        (word (recovery_word eager) ∷ last_pieces (flat_map statement_pieces tree.statements)) tree)
+    by true is = inl (record { behind = last_pieces (flat_map statement_pieces tree.statements); all = refl; rest = end_forth (record tree.facts { version = 2; eager = true }) tree (its true is) h })
+    by false is = inr (
+      λ token p. word-fits_word (codes "demand") (codes "eager") token p refl,
+      record { behind = last_pieces (flat_map statement_pieces tree.statements); all = refl; rest = end_forth (record tree.facts { version = 2; eager = false }) tree (its false is) h },
+    )
+
+-- ---- a text
+
+start_back : (tree : Tree) (ps : List Piece) → Rest start ps tree → (ps ≡ tree_pieces tree) × IsWellFormed tree
+start_back tree ps r =
+    let o = r.rest.rest in
+    let front : (more : List Piece) → o.behind ≡ more → ps ≡ word (codes "service_global_info") ∷ equals ∷ open_brace ∷ more
+    = λ more is. r.all ∙ ap (λ v. word (codes "service_global_info") ∷ v) (r.rest.all ∙ ap (λ v. equals ∷ v) (o.all ∙ ap (λ v. open_brace ∷ v) is)) in
+    elim o.rest [
+      | inl t ↦
+          let q = t.rest in let n = q.rest in let m = n.rest in
+          let both = second_back tree m.rest.behind m.rest.rest in
+          (front _ (t.all ∙ ap (λ v. word (codes "version") ∷ v) (q.all ∙ ap (λ v. equals ∷ v) (n.all ∙ ap (λ v. two ∷ v) (m.all ∙ ap (λ v. comma ∷ v) m.rest.all))) ∙ both.0), both.1)
+      | inr t ↦ let both = first_back tree o.behind t.1 in (front _ both.0, both.1)
+    ]
+
+-- what stands after the first brace, where the text is of a version
+abbrev behind_brace : Tree → ℕ → List Piece
+behind_brace tree n = of_version n (facts_pieces (record tree.facts { version = n }) (flat_map statement_pieces tree.statements))
+
+start_forth : (tree : Tree) → IsWellFormed tree → Rest start (tree_pieces tree) tree
+start_forth tree h = record {
+  behind = equals ∷ open_brace ∷ behind_brace tree tree.facts.version;
+  all = refl;
+  rest = record {
+    behind = open_brace ∷ behind_brace tree tree.facts.version;
+    all = refl;
+    rest = record { behind = behind_brace tree tree.facts.version; all = refl; rest = by h.0 };
+  };
+}
+  where
+    by : IsHead tree.facts → Rest (fork (codes "version") (due equals (due two (due comma (in_newer (head0 second_end))))) (head0 first_end)) (behind_brace tree tree.facts.version) tree
+    by (inl first) =
+        subst (λ n. Rest (fork (codes "version") (due equals (due two (due comma (in_newer (head0 second_end))))) (head0 first_end)) (behind_brace tree n) tree) (sym first.0)
+        (inr (λ token p. word-fits_word (codes "service") (codes "version") token p refl, first_forth tree first.0 first.1 h.1))
+    by (inr version) =
+        let q = tree.facts in
+        let ps = head_pieces q.service q.parent q.close q.global q.block q.has_data q.resc_data (end_pieces (record q { version = 2 }) (flat_map statement_pieces tree.statements)) in
+        subst (λ n. Rest (fork (codes "version") (due equals (due two (due comma (in_newer (head0 second_end))))) (head0 first_end)) (behind_brace tree n) tree) (sym version)
+        (inl (record {
+          behind = equals ∷ two ∷ comma ∷ map newer ps;
+          all = refl;
+          rest = record {
+            behind = two ∷ comma ∷ map newer ps;
+            all = refl;
+            rest = record {
+              behind = comma ∷ map newer ps;
+              all = refl;
+              rest = record {
+                behind = map newer ps;
+                all = refl;
+                rest = record { behind = ps; all = refl; rest = head_forth second_end tree q (end_pieces (record q { version = 2 }) (flat_map statement_pieces tree.statements)) (second_end_forth tree version h.1) };
+              };
+            };
+          };
+        }))
 
 -- ---- sentences
 

@@ -2,6 +2,8 @@
 use Rattle.std.proofs.Common.{◌≡◌, ℕ, zero, suc, ◌+◌, inl, inr, false, if◌then◌else◌, List, [], ◌∷◌, ◌++◌, map, refl, sym, ap, subst, ◌∙◌, append_assoc, arith}
 use Rattle.std.specs.Prelude.{None, Some, replicate, All}
 use Rattle.std.specs.List.{flat_map}
+use Rattle.std.specs.declared.option.Option.{Option}
+use Rattle.std.specs.Option.{option_map}
 use Rattle.std.proofs.lemmas.List.{append-nil}
 use Rattle.std.proofs.lemmas.List.Elements.{All-cons, All-head, All-tail, All-nil}
 use Rattle.sg_lex.specs.Lexeme.{Lexeme}
@@ -10,10 +12,10 @@ use Rattle.sg_parse.specs.declared.tree.Param.{Param}
 use Rattle.sg_parse.specs.declared.tree.Tree.{Tree}
 use Rattle.sg_parse.specs.declared.words.Sort.TheVariants.{Name, Form}
 use Rattle.sg_parse.specs.Grammar.Named.{Named}
-use Rattle.sg_parse.specs.Grammar.Pieces.{Piece, mark, name, IsPiece}
+use Rattle.sg_parse.specs.Grammar.Pieces.{Piece, word, mark, name, newer, seen, IsPiece}
 use Rattle.sg_parse.specs.Grammar.Sentence.{star, comma, close_bracket, param_pieces, more_params, statement_pieces, IsType, IsStatement}
-use Rattle.sg_parse.specs.Grammar.Inside.States.{State, dead, due, want, names, stars, either, listed, statements, has_sort, fits, named_by, param, with_statement, step}
-use Rattle.sg_parse.proofs.Grammar.Basics.{some_is, none_is, by_test, if_then, if_else, has_sort-is, is-has_sort, named, fits-is, is-fits, alike-has_sort, alike-fits_mark, mark-has_sort, mark-fits_mark}
+use Rattle.sg_parse.specs.Grammar.Inside.States.{State, dead, due, fork, want, names, stars, either, listed, statements, in_newer, has_sort, fits, named_by, param, with_statement, step}
+use Rattle.sg_parse.proofs.Grammar.Basics.{some_is, none_is, by_test, if_then, if_else, has_sort-is, is-has_sort, named, fits-is, is-fits, alike-has_sort, alike-fits_mark, alike-fits_word, mark-has_sort, mark-fits_mark}
 use Rattle.sg_parse.proofs.Grammar.Rests.{Off, Rest, front_of, last_of}
 use Rattle.sg_parse.proofs.Grammar.Parts.{param_back, param_forth, listed_closed}
 use Rattle.sg_parse.proofs.Grammar.Protos.{head_is, tail_is, statement_back, statement_forth, Follows}
@@ -37,6 +39,14 @@ back (due p s) token next ps tree e r =
     let g = some_is s next (sym (if_then (fits p token) (Some s) None h) ∙ e) in
     record { piece = p; is = fits-is p token h; rest = record { behind = ps; all = refl; rest = subst (λ v. Rest v ps tree) (sym g) r } })
     (λ h. none_is (Comes (due p s) token ps tree) next (if fits p token then Some s else None) (if_else (fits p token) (Some s) None h) e)
+back (fork what s other) token next ps tree e r =
+    by_test (fits (word what) token)
+    (λ h.
+    let g = some_is s next (sym (if_then (fits (word what) token) _ _ h) ∙ e) in
+    record { piece = word what; is = fits-is (word what) token h; rest = inl (record { behind = ps; all = refl; rest = subst (λ v. Rest v ps tree) (sym g) r }) })
+    (λ h.
+    let c = back other token next ps tree (sym (if_else (fits (word what) token) (Some s) (step other token) h) ∙ e) r in
+    record { piece = c.piece; is = c.is; rest = inr ((λ another g. alike-fits_word what c.piece token another c.is g h), c.rest) })
 back (want sort k) token next ps tree e r =
     by_test (has_sort sort token)
     (λ h.
@@ -188,6 +198,15 @@ back (statements facts before) token next ps tree e r =
         is = m.is ∙ ap (λ v. record { facts = facts; statements = v }) (append_assoc before (s.statement ∷ []) m.more);
       };
     }
+back (in_newer s) token next ps tree e r = by (λ inner qs is rest. back s (seen token) inner qs tree is rest) (step s (seen token)) refl e
+  where
+    by : ((inner : State) (qs : List Piece) → step s (seen token) ≡ Some inner → Rest inner qs tree → Comes s (seen token) qs tree)
+        → (found : Option State) → step s (seen token) ≡ found → option_map in_newer found ≡ Some next → Comes (in_newer s) token ps tree
+    by deeper None is found = absurd (cc found)
+    by deeper (Some inner) is found =
+        let t = subst (λ v. Rest v ps tree) (sym (some_is (in_newer inner) next found)) r in
+        let c = deeper inner t.behind is t.rest in
+        record { piece = newer c.piece; is = c.is; rest = record { behind = c.piece ∷ t.behind; all = ap (λ v. newer c.piece ∷ v) t.all; rest = c.rest } }
 
 -- ---- from the state before a token
 
@@ -201,6 +220,17 @@ forth (due q s) token p ps tree is r =
       is = if_then (fits q token) _ _ (is-fits q token (subst (IsPiece token) e0 is));
       rest = subst (λ v. Rest s v tree) (sym (tail_is r.all)) r.rest;
     }
+forth (fork what s other) token p ps tree is r =
+    elim r [
+      | inl h ↦ record {
+        next = s;
+        is = if_then (fits (word what) token) _ _ (is-fits (word what) token (subst (IsPiece token) (head_is h.all) is));
+        rest = subst (λ v. Rest s v tree) (sym (tail_is h.all)) h.rest;
+      }
+      | inr h ↦
+          let f = forth other token p ps tree is h.1 in
+          record { next = f.next; is = if_else (fits (word what) token) _ _ (h.0 token is) ∙ f.is; rest = f.rest }
+    ]
 forth (want sort k) token p ps tree is r =
     let is1 = subst (IsPiece token) (head_is r.all) is in
     record {
@@ -339,3 +369,12 @@ forth (statements facts before) token p ps tree is r = by r.more refl
           is = r.is ∙ ap (λ v. record { facts = facts; statements = before ++ v }) e
               ∙ ap (λ v. record { facts = facts; statements = v }) (sym (append_assoc before (s ∷ []) more));
         })
+forth (in_newer s) token p ps tree is r = by (λ q qs is' rest. forth s (seen token) q qs tree is' rest) r.behind refl
+  where
+    by : ((q : Piece) (qs : List Piece) → IsPiece (seen token) q → Rest s (q ∷ qs) tree → Follows (step s (seen token)) qs tree)
+        → (qs : List Piece) → r.behind ≡ qs → Follows (step (in_newer s) token) ps tree
+    by deeper [] e = absurd (let all : p ∷ ps ≡ [] = r.all ∙ ap (map newer) e in cc)
+    by deeper (q ∷ qs) e =
+        let all : p ∷ ps ≡ newer q ∷ map newer qs = r.all ∙ ap (map newer) e in
+        let f = deeper q qs (subst (IsPiece token) (head_is all) is) (subst (λ v. Rest s v tree) e r.rest) in
+        record { next = in_newer f.next; is = ap (option_map in_newer) f.is; rest = record { behind = qs; all = tail_is all; rest = f.rest } }

@@ -1,9 +1,10 @@
 -- How far a text has been read: an automaton over tokens, whose states carry the tree so far. Nothing public rests on the automaton;
 -- the automaton is proved to read exactly the sentences, and says in what steps the parser goes.
-use Rattle.std.specs.Prelude.{ℕ, ◌+◌, ◌==◌, ◌&&◌, Bool, if◌then◌else◌, List, [], ◌∷◌, ◌++◌, None, Some, codes, nat_eq, length}
+use Rattle.std.specs.Prelude.{ℕ, ◌+◌, ◌==◌, ◌&&◌, Bool, true, false, if◌then◌else◌, List, [], ◌∷◌, ◌++◌, None, Some, codes, nat_eq, length}
 use Rattle.std.specs.declared.option.Option.{Option}
+use Rattle.std.specs.Option.{option_map}
 use Rattle.std.specs.Cmp.Lexicographic.{pointwise}
-use Rattle.sg_lex.specs.declared.token.TokenKind.TheVariants.{Word}
+use Rattle.sg_lex.specs.declared.token.TokenKind.TheVariants.{Word, Number, Mark}
 use Rattle.sg_lex.specs.Lexeme.{Lexeme}
 use Rattle.sg_lex.specs.Inside.Automata.{Automaton}
 use Rattle.sg_lex.specs.Inside.Tests.{has_kind, is_this_mark, is_fixed}
@@ -13,7 +14,7 @@ use Rattle.sg_parse.specs.declared.tree.Facts.{Facts}
 use Rattle.sg_parse.specs.declared.tree.Statement.{Statement}
 use Rattle.sg_parse.specs.declared.tree.Statement.TheVariants.{One, Two, Proto}
 use Rattle.sg_parse.specs.declared.tree.Ret.{Ret}
-use Rattle.sg_parse.specs.declared.tree.Ret.TheVariants.{Plain, Set, Add}
+use Rattle.sg_parse.specs.declared.tree.Ret.TheVariants.{Plain, Set, Add, Sub}
 use Rattle.sg_parse.specs.declared.tree.TypeName.{TypeName}
 use Rattle.sg_parse.specs.declared.tree.Param.{Param}
 use Rattle.sg_parse.specs.declared.tree.Tree.{Tree}
@@ -22,7 +23,7 @@ use Rattle.sg_parse.specs.declared.words.Sort.TheVariants.{Name, One as one_word
 use Rattle.sg_parse.specs.Grammar.Named.{Named}
 use Rattle.sg_parse.specs.Grammar.Words.{is_of}
 use Rattle.sg_lex.specs.Marks.{close_brace_byte}
-use Rattle.sg_parse.specs.Grammar.Pieces.{Piece, word, mark, name}
+use Rattle.sg_parse.specs.Grammar.Pieces.{Piece, word, mark, name, two, kept, newer, are_two, kept_word, seen}
 use Rattle.sg_parse.specs.Grammar.Sentence.{open_brace, open_bracket, close_bracket, equals, comma, semicolon, star}
 
 -- ---- tests of tokens
@@ -36,6 +37,9 @@ abbrev pub fits : Piece → Lexeme → Bool
 fits (word bytes) token = is_fixed bytes token
 fits (mark byte) token = is_this_mark byte token
 fits (name sort n) token = has_sort sort token && (pointwise nat_eq token.bytes n.bytes && (token.at == n.at))
+fits two token = has_kind Number token && are_two token.bytes
+fits kept token = has_kind Mark token && pointwise nat_eq token.bytes kept_word
+fits (newer p) token = fits p (seen token)
 
 -- the name that a token is
 abbrev pub named_by : Lexeme → Named
@@ -53,6 +57,8 @@ pub data State : Type 0 where
   dead : State
   -- this piece, and then the state
   due : Piece → State → State
+  -- this word and then the state, or as the second state
+  fork : List ℕ → State → State → State
   -- a word of a sort, and then the state of it
   want : Sort → (Named → State) → State
   -- in a type, after its names so far: a further name, a star, or what follows the type
@@ -65,6 +71,8 @@ pub data State : Type 0 where
   listed : List Param → (List Param → State) → State
   -- before a statement or the end
   statements : Facts → List Statement → State
+  -- the state, in a text of version 2
+  in_newer : State → State
 
 -- all names of a type
 abbrev pub type_of : List Named → Named → ℕ → TypeName
@@ -129,8 +137,9 @@ statement_behind go token =
     else (if has_sort two_word token then Some (two_rest go (named_by token))
     else (if fits (word (codes "desc_data_retval")) token then Some (returned_rest go Set)
     else (if fits (word (codes "desc_data_retval_add")) token then Some (returned_rest go Add)
+    else (if fits kept token then Some (returned_rest go Sub)
     else (if has_sort Name token then Some (plain_rest go (named_by token))
-    else None))))
+    else None)))))
 
 -- with one statement more
 abbrev pub with_statement : Facts → List Statement → Statement → State
@@ -140,39 +149,49 @@ with_statement facts before statement = statements facts (before ++ statement �
 abbrev pub fact : List ℕ → Sort → Piece → (Named → State) → State
 fact what sort end go = due (word what) (due equals (want sort (λ value. due end (go value))))
 
--- the states after each fact of the head, from the last to the first
+-- the end of the head, which says the version and when descriptors are rebuilt
+abbrev pub head_end : (version : ℕ) (eager : Bool) (a b c d e f g : Named) → State
+head_end version eager a b c d e f g =
+    due (mark close_brace_byte) (due semicolon
+    (statements (record { version = version; service = a; parent = b; close = c; global = d; block = e; has_data = f; resc_data = g; eager = eager }) []))
 
--- after all seven facts of the head: a semicolon, and then statements
-abbrev pub head7 : (a b c d e f g : Named) → State
-head7 a b c d e f g = due semicolon (statements (record { service = a; parent = b; close = c; global = d; block = e; has_data = f; resc_data = g }) [])
+-- after the last fact that texts of both versions have
+abbrev pub first_end : (a b c d e f g : Named) → State
+first_end a b c d e f g = head_end 1 false a b c d e f g
 
--- after the first six facts of the head: `resc_has_data` is next
-abbrev pub head6 : (a b c d e f : Named) → State
-head6 a b c d e f = fact (codes "resc_has_data") Flag (mark close_brace_byte) (head7 a b c d e f)
+abbrev pub second_end : (a b c d e f g : Named) → State
+second_end a b c d e f g =
+    due comma (due (word (codes "desc_recover")) (due equals
+    (fork (codes "eager") (head_end 2 true a b c d e f g) (due (word (codes "demand")) (head_end 2 false a b c d e f g)))))
 
--- after the first five facts of the head: `desc_has_data` is next
-abbrev pub head5 : (a b c d e : Named) → State
-head5 a b c d e = fact (codes "desc_has_data") Flag comma (head6 a b c d e)
+-- the states after each fact of the head, from the last to the first, where these follow them all
+module _ (end : (a b c d e f g : Named) → State) where
+  abbrev pub head6 : (a b c d e f : Named) → State
+  head6 a b c d e f = due (word (codes "resc_has_data")) (due equals (want Flag (end a b c d e f)))
 
--- after the first four facts of the head: `desc_block` is next
-abbrev pub head4 : (a b c d : Named) → State
-head4 a b c d = fact (codes "desc_block") Flag comma (head5 a b c d)
+  abbrev pub head5 : (a b c d e : Named) → State
+  head5 a b c d e = fact (codes "desc_has_data") Flag comma (head6 a b c d e)
 
--- after the first three facts of the head: `desc_is_global` is next
-abbrev pub head3 : (a b c : Named) → State
-head3 a b c = fact (codes "desc_is_global") Flag comma (head4 a b c)
+  abbrev pub head4 : (a b c d : Named) → State
+  head4 a b c d = fact (codes "desc_block") Flag comma (head5 a b c d)
 
--- after the first two facts of the head: `desc_close` is next
-abbrev pub head2 : (a b : Named) → State
-head2 a b = fact (codes "desc_close") Closing comma (head3 a b)
+  abbrev pub head3 : (a b c : Named) → State
+  head3 a b c = fact (codes "desc_is_global") Flag comma (head4 a b c)
 
--- after the first fact of the head: `desc_has_parent` is next
-abbrev pub head1 : Named → State
-head1 a = fact (codes "desc_has_parent") Parents comma (head2 a)
+  abbrev pub head2 : (a b : Named) → State
+  head2 a b = fact (codes "desc_close") Closing comma (head3 a b)
+
+  abbrev pub head1 : Named → State
+  head1 a = fact (codes "desc_has_parent") Parents comma (head2 a)
+
+  abbrev pub head0 : State
+  head0 = fact (codes "service") Name comma head1
 
 -- before the first token
 abbrev pub start : State
-start = due (word (codes "service_global_info")) (due equals (due open_brace (fact (codes "service") Name comma head1)))
+start =
+    due (word (codes "service_global_info")) (due equals (due open_brace
+    (fork (codes "version") (due equals (due two (due comma (in_newer (head0 second_end))))) (head0 first_end))))
 
 -- ---- steps
 
@@ -180,6 +199,7 @@ start = due (word (codes "service_global_info")) (due equals (due open_brace (fa
 unfoldable pub step : State → Lexeme → Option State
 step dead token = None
 step (due piece s) token = if fits piece token then Some s else None
+step (fork what s other) token = if fits (word what) token then Some s else step other token
 step (want sort k) token = if has_sort sort token then Some (k (named_by token)) else None
 step (names front last k) token =
     if has_sort Name token then Some (names (front ++ last ∷ []) (named_by token) k)
@@ -193,17 +213,20 @@ step (listed params k) token =
     else (if fits close_bracket token then Some (k params)
     else None)
 step (statements facts before) token = statement_behind (with_statement facts before) token
+step (in_newer s) token = option_map in_newer (step s (seen token))
 
 -- the tree, where the text may end here
 unfoldable pub tree_at : State → Option Tree
 tree_at dead = None
 tree_at (due piece s) = None
+tree_at (fork what s other) = tree_at other
 tree_at (want sort k) = None
 tree_at (names front last k) = tree_at (k front last 0)
 tree_at (stars front last n k) = tree_at (k front last n)
 tree_at (either k s) = tree_at s
 tree_at (listed params k) = None
 tree_at (statements facts before) = Some (record { facts = facts; statements = before })
+tree_at (in_newer s) = tree_at s
 
 -- how the automaton reads a text
 abbrev pub trees : Automaton State Tree ParseError
