@@ -3,5 +3,7 @@ pub mod Inside
 pub mod Named
 pub mod Parses
 pub mod Pieces
+pub mod Plain
 pub mod Sentence
+pub mod Upgraded
 pub mod Words

@@ -20,7 +20,7 @@ use Rattle.sg_parse.specs.Grammar.Words.{is_of}
 use Rattle.sg_parse.specs.Grammar.Pieces.{Piece, word, mark, name, IsPiece}
 use Rattle.sg_parse.specs.sg_lex.Sentences.{ArePieces}
 use Rattle.sg_parse.specs.Grammar.Sentence.{open_brace, equals, open_bracket, close_bracket, comma, semicolon, star, fact_pieces, facts_pieces, type_pieces, form_pieces, param_pieces, more_params, params_pieces, returned_pieces, ret_pieces, statement_pieces, tree_pieces, IsType, IsRet, IsStatement, IsWellFormed}
-use Rattle.sg_print.specs.Plain.{plain_name, plain_type, plain_param, plain_ret, plain_statement, plain_facts, plain}
+use Rattle.sg_parse.specs.Grammar.Plain.{plain_name, plain_type, plain_param, plain_ret, plain_statement, plain_facts, plain}
 use Rattle.sg_print.proofs.Leads.{AreLike}
 
 -- tokens begin with what is like the pieces of a part: they begin with the pieces of an equal part, but for places

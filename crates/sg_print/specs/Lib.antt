@@ -1,4 +1,3 @@
-pub mod Plain
 pub mod Printed
 pub mod PrintsBack
 pub mod TablesText

@@ -2,7 +2,7 @@
 use Rattle.std.specs.Prelude.{◌≡◌, Ok}
 use Rattle.sg_parse.specs.declared.tree.Tree.{Tree}
 use Rattle.sg_parse.specs.Grammar.Parses.{Parses}
-use Rattle.sg_print.specs.Plain.{plain}
+use Rattle.sg_parse.specs.Grammar.Plain.{plain}
 use Rattle.sg_print.specs.Printed.{printed}
 
 -- the tree's text is a sentence, whose tree is equal to the printed one but for places

@@ -2,7 +2,7 @@
 ghost use Rattle.std.specs.Prelude.{◌≡◌, Ok, List, ℕ};
 ghost use Rattle.sg_parse.specs.declared.tree.Tree.{Tree};
 ghost use Rattle.sg_parse.specs.Grammar.Parses.{Parses};
-ghost use Rattle.sg_print.specs.Plain.{plain};
+ghost use Rattle.sg_parse.specs.Grammar.Plain.{plain};
 ghost use Rattle.sg_print.specs.Printed.{printed};
 ghost use Rattle.sg_print.specs.PrintsBack.{PrintsBack};
 

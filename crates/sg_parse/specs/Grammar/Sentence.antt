@@ -160,6 +160,7 @@ IsStatement (Proto ret n params) = IsRet ret × (params ≢ []) × All (λ p. Is
 abbrev pub IsHead : Facts → Type 0
 IsHead f = ((f.version ≡ 1) × (f.eager ≡ false)) ⊎ (f.version ≡ 2)
 
+-- the head of a tree is of one of the versions, each prototype has at least one parameter, and each type at least one name
 abbrev pub IsWellFormed : Tree → Type 0
 IsWellFormed tree = IsHead tree.facts × All IsStatement tree.statements
 

@@ -114,8 +114,6 @@ two_rest go w =
 abbrev pub proto_rest : (Statement → State) → Ret → Named → State
 proto_rest go ret n = due open_bracket (param (λ params. due semicolon (go (Proto ret n params))) [])
 
--- after the word of a return that sets a field
-
 -- after the type of a returned word that goes into a field: the field, and then the prototype's name and parameters
 abbrev pub returned_behind : (Statement → State) → (TypeName → Named → Ret) → List Named → Named → ℕ → State
 returned_behind go make front last n =
@@ -159,6 +157,7 @@ head_end version eager a b c d e f g =
 abbrev pub first_end : (a b c d e f g : Named) → State
 first_end a b c d e f g = head_end 1 false a b c d e f g
 
+-- after those facts in a text of version 2: when descriptors are rebuilt, and the end
 abbrev pub second_end : (a b c d e f g : Named) → State
 second_end a b c d e f g =
     due comma (due (word (codes "desc_recover")) (due equals

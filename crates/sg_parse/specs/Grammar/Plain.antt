@@ -5,7 +5,7 @@ use Rattle.sg_parse.specs.declared.tree.Facts.{Facts}
 use Rattle.sg_parse.specs.declared.tree.Statement.{Statement}
 use Rattle.sg_parse.specs.declared.tree.Statement.TheVariants.{One, Two, Proto}
 use Rattle.sg_parse.specs.declared.tree.Ret.{Ret}
-use Rattle.sg_parse.specs.declared.tree.Ret.TheVariants.{Plain, Set, Add}
+use Rattle.sg_parse.specs.declared.tree.Ret.TheVariants.{Plain, Set, Add, Sub}
 use Rattle.sg_parse.specs.declared.tree.TypeName.{TypeName}
 use Rattle.sg_parse.specs.declared.tree.Param.{Param}
 use Rattle.sg_parse.specs.declared.tree.Tree.{Tree}
@@ -30,6 +30,7 @@ abbrev pub plain_ret : Ret → Ret
 plain_ret (Plain ty) = Plain (plain_type ty)
 plain_ret (Set ty field) = Set (plain_type ty) (plain_name field)
 plain_ret (Add ty field) = Add (plain_type ty) (plain_name field)
+plain_ret (Sub ty field) = Sub (plain_type ty) (plain_name field)
 
 -- a statement with each name at place 0
 abbrev pub plain_statement : Statement → Statement
@@ -40,6 +41,7 @@ plain_statement (Proto ret n params) = Proto (plain_ret ret) (plain_name n) (map
 -- the facts of a head with each name at place 0
 abbrev pub plain_facts : Facts → Facts
 plain_facts f = record {
+  version = f.version;
   service = plain_name f.service;
   parent = plain_name f.parent;
   close = plain_name f.close;
@@ -47,6 +49,7 @@ plain_facts f = record {
   block = plain_name f.block;
   has_data = plain_name f.has_data;
   resc_data = plain_name f.resc_data;
+  eager = f.eager;
 }
 
 -- a tree with each name at place 0: two trees are equal but for places where these are equal
