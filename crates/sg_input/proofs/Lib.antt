@@ -1,5 +1,8 @@
-pub mod Dividers
 pub mod Cuts
+pub mod Dividers
+pub mod LastLine
 pub mod OneCut
 pub mod OneInput
-pub use Rattle.sg_diagnose.proofs as sg_diagnose
+pub mod OneVerdict
+pub mod PlacedLine
+pub use Rattle.sg_print.proofs.sg_parse

@@ -6,15 +6,15 @@ use Rattle.sg_facts.specs.sg_base.declared.memory.NoMemory.{NoMemory}
 use Rattle.sg_script.specs.sg_lex.Tokens.{answers_of}
 use Rattle.sg_facts.specs.Facts.{Facts}
 use Rattle.sg_facts.specs.Interface.{Declared}
-use Rattle.sg_diagnose.specs.sg_parse.declared.error.ParseError.{ParseError}
-use Rattle.sg_diagnose.specs.sg_parse.declared.tree.Tree.{Tree}
-use Rattle.sg_diagnose.specs.sg_parse.Grammar.Parses.{Parses}
-use Rattle.sg_diagnose.proofs.sg_parse.Grammar.Readings.{only_answer}
-use Rattle.sg_diagnose.specs.sg_check_statements.Faults.{IsAccepted, interface_of}
-use Rattle.sg_diagnose.specs.declared.outcome.Verdict.{Verdict}
-use Rattle.sg_diagnose.specs.declared.outcome.Verdict.TheVariants.{Accepted as accepted, Refused as refused}
-use Rattle.sg_diagnose.specs.Verdicts.{IsVerdict, accepted_line}
-use Rattle.sg_diagnose.proofs.OneVerdict.{one_verdict}
+use Rattle.sg_input.specs.sg_parse.declared.error.ParseError.{ParseError}
+use Rattle.sg_input.specs.sg_parse.declared.tree.Tree.{Tree}
+use Rattle.sg_input.specs.sg_parse.Grammar.Parses.{Parses}
+use Rattle.sg_input.proofs.sg_parse.Grammar.Readings.{only_answer}
+use Rattle.sg_input.specs.sg_check_statements.Faults.{IsAccepted, interface_of}
+use Rattle.sg_input.specs.declared.outcome.Verdict.{Verdict}
+use Rattle.sg_input.specs.declared.outcome.Verdict.TheVariants.{Accepted as accepted, Refused as refused}
+use Rattle.sg_input.specs.Verdicts.{IsVerdict, accepted_line}
+use Rattle.sg_input.proofs.OneVerdict.{one_verdict}
 use Rattle.sg_script.specs.declared.fault.ScriptError.{ScriptError}
 use Rattle.sg_script.specs.declared.fault.ScriptError.TheVariants.{NoMemory as no_room, Fault}
 use Rattle.sg_script.specs.declared.fault.ScriptFault.{ScriptFault}

@@ -2,11 +2,11 @@
 use Rattle.std.specs.Prelude.{ℕ, ◌≡◌, ◌+◌, ◌<◌, ◌≤◌, ◌⊎◌, List, Ok, Err, length}
 use Rattle.sg_facts.specs.Facts.{Facts}
 use Rattle.sg_facts.specs.Interface.{Declared}
-use Rattle.sg_diagnose.specs.sg_parse.declared.tree.Tree.{Tree}
-use Rattle.sg_diagnose.specs.sg_parse.Grammar.Parses.{Parses}
-use Rattle.sg_diagnose.specs.sg_check_statements.Faults.{IsAccepted}
-use Rattle.sg_diagnose.specs.declared.outcome.Verdict.TheVariants.{Refused as refused}
-use Rattle.sg_diagnose.specs.Verdicts.{IsVerdict}
+use Rattle.sg_input.specs.sg_parse.declared.tree.Tree.{Tree}
+use Rattle.sg_input.specs.sg_parse.Grammar.Parses.{Parses}
+use Rattle.sg_input.specs.sg_check_statements.Faults.{IsAccepted}
+use Rattle.sg_input.specs.declared.outcome.Verdict.TheVariants.{Refused as refused}
+use Rattle.sg_input.specs.Verdicts.{IsVerdict}
 use Rattle.sg_script.specs.declared.fault.ScriptError.TheVariants.{Fault}
 use Rattle.sg_script.specs.declared.fault.ScriptFault.{ScriptFault}
 use Rattle.sg_script.specs.declared.script.Script.{Script}

@@ -1,6 +1,12 @@
 pub mod Divider
+pub mod Examined
 pub mod Inputs
 pub mod Lines
-pub use Rattle.sg_diagnose.specs as sg_diagnose
-pub use Rattle.sg_script.specs.sg_lex
+pub mod Places
+pub mod Verdicts
+pub use Rattle.sg_print.specs.sg_parse
 pub use Rattle.sg_script.specs as sg_script
+pub use Rattle.sg_script.specs.sg_lex
+pub use Rattle.sg_stub.specs.sg_check
+pub use Rattle.sg_stub.specs.sg_check_statements
+pub use Rattle.sg_stub.specs.sg_walk

@@ -1,5 +1,5 @@
 // What an input is.
-use sg_diagnose::Accepted;
+use crate::Accepted;
 use sg_facts::Bytes;
 use sg_script::Script;
 

@@ -1,28 +1,48 @@
-//! The input of a play: the text of an interface, a line of `%%` alone, and a script for it.
+//! What is said of an interface text, and the input of a play: the text of an interface, a line of `%%` alone, and a script
+//! for it.
 //!
+//! - `judging`: what is said of a text (`verdict`), and by its tables (`compiled`); what comes of it before that (`examine`)
+//! - `examined`: its interface, or the line that refuses it (`Examined`)
+//! - `outcome`: that a text is accepted or refused, with what is said (`Verdict`)
+//! - `refusal`: why a text is refused (`RefusalKind`)
+//! - `places`: the line of a place (`line_of`), and the byte in its line (`column_of`)
 //! - `reading`: what an input is, or the line that refuses it (`read_input`)
 //! - `input`: an input that is refused or ready (`Input`)
 //! - `divider`: the two texts before and after the first line of `%%` alone (`cut`)
 //! - `limits`: the greatest numbers of bytes
-//! - `lines`: the lines that refuse an input
-//! - `laws`: an input is divided in one way, and is one thing
+//! - `lines`: the lines that are said of a text, and those that refuse an input
+//! - `laws`: of a text one thing alone can be said; an input is divided in one way, and is one thing
 //!
-//! `specs/Divider.antt` says where an input is divided, `specs/Lines.antt` which lines there are, and `specs/Inputs.antt` when
+//! `specs/Verdicts.antt` says when which line is the right one for a text, and `specs/Places.antt` what lines and columns are;
+//! `specs/Divider.antt` says where an input is divided, `specs/Lines.antt` which lines refuse one, and `specs/Inputs.antt` when
 //! which is the right one.
 #![tactic(auto)]
 
 mod divider;
+mod examined;
 mod input;
+mod judging;
 mod laws;
 mod limits;
 mod lines;
+mod outcome;
+mod places;
 mod reading;
+mod refusal;
 
 pub use divider::cut;
+pub use examined::Examined;
 pub use input::Input;
-pub use laws::{one_cut, one_input};
+pub use judging::{compiled, examine, verdict};
+pub use laws::{one_cut, one_input, one_verdict};
 pub use limits::{MOST_DIVIDER, MOST_INPUT, MOST_INTERFACE, MOST_SCRIPT};
 pub use lines::TOO_LONG;
+pub use outcome::Verdict;
+pub use places::{column_of, line_of};
 pub use reading::read_input;
-pub use sg_diagnose::{Accepted, Verdict, compile, compiled, parse, verdict};
+pub use refusal::RefusalKind;
+pub use sg_print::parse;
 pub use sg_script::Script;
+pub use sg_stub::{
+    Accepted, CheckError, CheckKind, Triple, check, compile, reachable, restores, shortest,
+};

@@ -1,9 +1,9 @@
 // What an input is, or why it is refused.
 ghost use Rattle.std.specs.Prelude.{◌≡◌, ◌≤◌, ℕ, List, map, length, true, IfOk};
 ghost use Rattle.sg_facts.specs.Facts.{Facts, facts_of};
-ghost use Rattle.sg_diagnose.specs.sg_check.Shapes.{are_shapes};
-ghost use Rattle.sg_diagnose.specs.Examined.{IsExamined};
-ghost use Rattle.sg_diagnose.specs.declared.examined.Examined.TheVariants.{Accepted as accepted_as};
+ghost use Rattle.sg_input.specs.sg_check.Shapes.{are_shapes};
+ghost use Rattle.sg_input.specs.Examined.{IsExamined};
+ghost use Rattle.sg_input.specs.declared.examined.Examined.TheVariants.{Accepted as accepted_as};
 ghost use Rattle.sg_input.specs.declared.input.Input.{Input as OneInput};
 ghost use Rattle.sg_input.specs.Inputs.{AreTexts, IsInputOf};
 
@@ -11,7 +11,7 @@ use crate::Input;
 use crate::divider::cut;
 use crate::limits::{MOST_INTERFACE, MOST_SCRIPT};
 use crate::lines::{NO_DIVIDER, TOO_LONG, script_line};
-use sg_diagnose::{Accepted, Examined, examine};
+use crate::{Accepted, Examined, examine};
 use sg_facts::{Bytes, NoMemory, Shape};
 use sg_script::{ScriptError, read};
 use std::alloc::Global;

@@ -1,3 +1,4 @@
--- What the contracts of private functions cite.
+-- What the contracts of private functions, and proofs, cite.
 pub mod Next
+pub mod Played
 pub mod Unpicked

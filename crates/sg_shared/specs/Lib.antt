@@ -1,3 +1,4 @@
 pub mod Inside
-pub use Rattle.sg_sim.specs.sg_play
+pub mod Runs
 pub use Rattle.sg_sim.specs as sg_sim
+pub use Rattle.sg_sim.specs.sg_play

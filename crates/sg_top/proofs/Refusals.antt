@@ -2,10 +2,10 @@
 use Rattle.std.proofs.Common.{◌≡◌, ℕ, ◌≤◌, inl, inr, Bool, false, List, None, Some, arith, length}
 use Rattle.std.specs.declared.option.Option.{Option}
 use Rattle.sg_report.specs.sg_hist.declared.ended.Ended.{Ended}
-use Rattle.sg_input.specs.sg_diagnose.declared.outcome.Verdict.{Verdict}
-use Rattle.sg_input.specs.sg_diagnose.declared.outcome.Verdict.TheVariants.{Accepted as accepted, Refused as refused}
-use Rattle.sg_input.specs.sg_diagnose.Verdicts.{IsCompiled, IsVerdict}
-use Rattle.sg_input.proofs.sg_diagnose.OneVerdict.{one_verdict}
+use Rattle.sg_input.specs.declared.outcome.Verdict.{Verdict}
+use Rattle.sg_input.specs.declared.outcome.Verdict.TheVariants.{Accepted as accepted, Refused as refused}
+use Rattle.sg_input.specs.Verdicts.{IsCompiled, IsVerdict}
+use Rattle.sg_input.proofs.OneVerdict.{one_verdict}
 use Rattle.sg_input.specs.declared.input.Input.TheVariants.{Refused as refused_input}
 use Rattle.sg_input.specs.Inputs.{IsInputOf}
 use Rattle.sg_input.proofs.OneInput.{never_ready, not_refused}

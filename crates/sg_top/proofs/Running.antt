@@ -13,12 +13,12 @@ use Rattle.sg_facts.specs.declared.tables.WalkLine.{WalkLine}
 use Rattle.sg_report.specs.sg_hist.declared.ended.Ended.{Ended}
 use Rattle.sg_report.specs.Report.{report_of}
 use Rattle.sg_input.specs.sg_script.declared.script.Script.{Script}
-use Rattle.sg_run.specs.sg_sim.Played.{FollowsSchedule, IsPlayed}
+use Rattle.sg_shared.specs.sg_sim.Played.{FollowsSchedule, IsPlayed}
 use Rattle.sg_input.specs.Inputs.{IsReady}
 use Rattle.sg_top.proofs.Fitting.{is_served, kind_is}
 use Rattle.sg_top.specs.Answer.{IsPlayOutput, ended_status, services}
 use Rattle.sg_top.specs.declared.status.Status.{Status}
-use Rattle.sg_run.specs.Runs.{IsRunInOrder, IsRunOf}
+use Rattle.sg_shared.specs.Runs.{IsRunInOrder, IsRunOf}
 use Rattle.sg_top.specs.Headline.{IsRunOfInput, answering, played_services}
 use Rattle.sg_top.specs.Inside.Kinds.{IsOneOfFive, kind_by}
 

@@ -8,8 +8,8 @@ use Rattle.sg_facts.specs.Facts.{Facts}
 use Rattle.sg_edge.specs.Edge.{Rose, ConsumesAtMost}
 use Rattle.sg_report.specs.sg_hist.declared.ended.End.{End}
 use Rattle.sg_report.specs.sg_hist.declared.ended.Ended.{Ended}
-use Rattle.sg_input.specs.sg_diagnose.declared.outcome.Verdict.TheVariants.{Accepted as accepted, Refused as refused}
-use Rattle.sg_input.specs.sg_diagnose.Verdicts.{IsCompiled, IsVerdict}
+use Rattle.sg_input.specs.declared.outcome.Verdict.TheVariants.{Accepted as accepted, Refused as refused}
+use Rattle.sg_input.specs.Verdicts.{IsCompiled, IsVerdict}
 use Rattle.sg_input.specs.declared.input.Input.TheVariants.{Refused as refused_input}
 use Rattle.sg_input.specs.Inputs.{IsInputOf, most_input, most_interface}
 use Rattle.sg_input.specs.Lines.{too_long_line}

@@ -22,8 +22,8 @@ use Rattle.sg_report.specs.Report.{load_line_of, report_of}
 use Rattle.sg_load.specs.sg_sched.SchedFacts.{sched_facts}
 use Rattle.sg_load.specs.sg_sched.SchedTable.{sched_parts, sched_table}
 use Rattle.sg_input.specs.sg_script.declared.script.Script.{Script}
-use Rattle.sg_run.specs.Runs.{Answering, IsRunOf}
-use Rattle.sg_run.specs.sg_sim.Played.{FollowsSchedule}
+use Rattle.sg_shared.specs.Runs.{Answering, IsRunOf}
+use Rattle.sg_shared.specs.sg_sim.Played.{FollowsSchedule}
 
 -- ---- services
 

@@ -25,6 +25,6 @@ pub use sg_input::{
 };
 pub use sg_load::{ServiceKind, check, standard};
 pub use sg_report::{End, EndList, Ended, History, text};
-pub use sg_run::Played;
+pub use sg_shared::Played;
 pub use status::Status;
 pub use top::{Answer, serial, superglue};

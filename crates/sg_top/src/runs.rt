@@ -3,7 +3,7 @@ ghost use Rattle.std.specs.Prelude.{◌≡◌, IfOk};
 ghost use Rattle.sg_edge.specs.Stops.{AscendsAbove};
 ghost use Rattle.sg_load.specs.Services.{facts_by};
 ghost use Rattle.sg_load.specs.sg_plain.Playing.Playable.{IsPlayable};
-ghost use Rattle.sg_run.specs.Runs.{IsRunInOrder, IsRunOf};
+ghost use Rattle.sg_shared.specs.Runs.{IsRunInOrder, IsRunOf};
 ghost use Rattle.sg_top.specs.Headline.{answering};
 
 use sg_edge::Gate;
@@ -12,7 +12,7 @@ use sg_input::Script;
 use sg_load::{
     Accepted, EventService, LockService, MmService, RamfsService, SchedService, ServiceKind,
 };
-use sg_run::{Played, share, simulate};
+use sg_shared::{Played, share, simulate};
 use std::alloc::Global;
 use std::sync::Wait;
 use std::thread::Threads;

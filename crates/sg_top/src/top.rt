@@ -12,7 +12,7 @@ use crate::status::Status;
 use sg_edge::{Gate, Intake, ReadError, Sink, Source, read_all, write_all};
 use sg_facts::NoMemory;
 use sg_input::{MOST_INPUT, TOO_LONG};
-use sg_run::Played;
+use sg_shared::Played;
 use std::alloc::Global;
 use std::sync::Wait;
 use std::thread::Threads;

@@ -1,7 +1,7 @@
 // Effects that are declared otherwise than the service has them.
 use crate::answers::Case;
 use crate::edits::Edit::{As, Then, Twice, Without};
-use sg_diagnose::CheckKind::WrongEffect;
+use sg_input::CheckKind::WrongEffect;
 
 pub static OF_LOCKS: [Case; 11] = [
     // The clear of another field, none, another function's beside it, and in its place.

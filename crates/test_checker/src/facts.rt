@@ -1,7 +1,7 @@
 // Facts that aren't the service's.
 use crate::answers::Case;
 use crate::edits::Edit::{As, Then, Twice, Without};
-use sg_diagnose::CheckKind::{WrongFact, WrongFlag};
+use sg_input::CheckKind::{WrongFact, WrongFlag};
 
 pub static OF_LOCKS: [Case; 13] = [
     (

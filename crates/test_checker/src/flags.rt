@@ -1,7 +1,7 @@
 // Flags, and states that functions leave, that are declared otherwise than the service has them.
 use crate::answers::Case;
 use crate::edits::Edit::{As, Then, Twice, Without};
-use sg_diagnose::CheckKind::WrongFlag;
+use sg_input::CheckKind::WrongFlag;
 
 // One flag more than the service has.
 pub static MORE: [Case; 8] = [

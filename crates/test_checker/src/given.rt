@@ -1,10 +1,10 @@
 // Against which shapes a text is checked.
 ghost use Rattle.std.specs.Prelude.{◌≡◌, true};
 ghost use Rattle.sg_facts.specs.Facts.{facts_of};
-ghost use Rattle.sg_diagnose.specs.sg_check.Shapes.{is_shape};
+ghost use Rattle.sg_input.specs.sg_check.Shapes.{is_shape};
 
 use crate::answers::answer;
-use sg_diagnose::CheckKind::{UnknownFunction, UnknownService};
+use sg_input::CheckKind::{UnknownFunction, UnknownService};
 use sg_event::event_shape;
 use sg_facts::{Service, Shape};
 use sg_lock::LockService;

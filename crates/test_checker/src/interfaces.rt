@@ -1,7 +1,7 @@
 // Interfaces that no text declares.
 ghost use Rattle.std.specs.Prelude.{IfOk};
-ghost use Rattle.sg_diagnose.specs.sg_walk.ReachedStates.Limits.{HasFourFields};
-ghost use Rattle.sg_diagnose.specs.sg_walk.Limits.{HasFewFields};
+ghost use Rattle.sg_input.specs.sg_walk.ReachedStates.Limits.{HasFourFields};
+ghost use Rattle.sg_input.specs.sg_walk.Limits.{HasFewFields};
 
 use sg_facts::{Interface, PairList, Shape};
 use std::alloc::Global;

@@ -1,11 +1,11 @@
 // Large services and long texts. No proof speaks of time, nor of memory that there is.
 ghost use Rattle.std.specs.Prelude.{◌≡◌, true};
 ghost use Rattle.sg_facts.specs.Facts.{facts_of};
-ghost use Rattle.sg_diagnose.specs.sg_check.Shapes.{is_shape};
+ghost use Rattle.sg_input.specs.sg_check.Shapes.{is_shape};
 
 use crate::answers::answer;
-use sg_diagnose::CheckKind::NoWalk;
-use sg_diagnose::{check, compile, parse};
+use sg_input::CheckKind::NoWalk;
+use sg_input::{check, compile, parse};
 use sg_facts::{Effect, FieldShape, FunShape, Kind, Leaves, Parents, Service, Shape};
 use sg_lock::LockService;
 use std::alloc::{AllocError, Global};

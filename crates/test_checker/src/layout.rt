@@ -1,7 +1,7 @@
 // Texts that are laid out otherwise: a place counts bytes, whatever stands before it.
 use crate::answers::Case;
 use crate::edits::Edit::{As, Then, Without};
-use sg_diagnose::CheckKind::{ForeignTransition, UnknownFunction, WrongFlag};
+use sg_input::CheckKind::{ForeignTransition, UnknownFunction, WrongFlag};
 
 // A text on one line: a place counts the bytes of the line.
 pub static ON_ONE_LINE: [Case; 1] = [(&[Without(13)], Some((WrongFlag, 1, 644)))];

@@ -1,7 +1,7 @@
 // Each statement of the standard interfaces but that of locks left out.
 use crate::answers::Case;
 use crate::edits::Edit::Without;
-use sg_diagnose::CheckKind::{NoWalk, UnknownFunction, Unreached, WrongEffect, WrongFlag};
+use sg_input::CheckKind::{NoWalk, UnknownFunction, Unreached, WrongEffect, WrongFlag};
 
 pub static OF_EVENTS: [Case; 15] = [
     (&[Without(10)], Some((WrongFlag, 19, 15))),

@@ -1,7 +1,7 @@
 // Names: services that there aren't, second prototypes, functions that there aren't.
 use crate::answers::Case;
 use crate::edits::Edit::{As, Then, Twice, Without};
-use sg_diagnose::CheckKind::{
+use sg_input::CheckKind::{
     BadParams, DuplicateName, UnknownFunction, UnknownService, WrongEffect,
 };
 

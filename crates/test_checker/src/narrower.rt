@@ -3,7 +3,7 @@
 use crate::edits::Edit::{self, Front, Then, Twice, Without};
 use crate::edits::edited;
 use crate::shapes::standard_shapes;
-use sg_diagnose::{check, parse};
+use sg_input::{check, parse};
 use sg_facts::Interface;
 use std::alloc::Global;
 use std::process::Abort;

@@ -1,7 +1,7 @@
 // Transitions and recover steps that the service hasn't.
 use crate::answers::Case;
 use crate::edits::Edit::{As, Then, Twice, Without};
-use sg_diagnose::CheckKind::{ForeignRecover, ForeignTransition};
+use sg_input::CheckKind::{ForeignRecover, ForeignTransition};
 
 pub static TRANSITIONS: [Case; 10] = [
     // From the terminal function, to the creation, one turned round, one that is missing, one to itself.

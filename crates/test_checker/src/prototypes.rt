@@ -1,7 +1,7 @@
 // Prototypes whose parameters aren't the function's.
 use crate::answers::Case;
 use crate::edits::Edit::{As, Then, Without};
-use sg_diagnose::CheckKind::{BadParams, WrongEffect};
+use sg_input::CheckKind::{BadParams, WrongEffect};
 
 pub static CALLERS: [Case; 14] = [
     // No client, or one with a star.

@@ -1,7 +1,7 @@
 // Texts that make no descriptor, functions that can't be reached, states that have no walk.
 use crate::answers::Case;
 use crate::edits::Edit::{As, Front, Then, Without};
-use sg_diagnose::CheckKind::{ForeignRecover, NoCreation, NoWalk, Unreached};
+use sg_input::CheckKind::{ForeignRecover, NoCreation, NoWalk, Unreached};
 
 // The facts of a service, and no statement. The place is the text's first byte.
 pub static FACTS_ALONE: [Case; 1] = [(&[Front(9)], Some((NoCreation, 1, 1)))];

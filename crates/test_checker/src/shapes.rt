@@ -6,7 +6,7 @@ ghost use Rattle.sg_event.specs.EventFacts.{event_facts};
 ghost use Rattle.sg_mm.specs.MmFacts.{mm_facts};
 ghost use Rattle.sg_ramfs.specs.RamfsFacts.{ramfs_facts};
 ghost use Rattle.sg_sched.specs.SchedFacts.{sched_facts};
-ghost use Rattle.sg_diagnose.specs.sg_check.Shapes.{are_shapes};
+ghost use Rattle.sg_input.specs.sg_check.Shapes.{are_shapes};
 
 use sg_event::event_shape;
 use sg_facts::{Service, Shape};

@@ -2,7 +2,7 @@
 
 use crate::answers::Case;
 use crate::edits::Edit::{Twice, Without};
-use sg_diagnose::CheckKind::{
+use sg_input::CheckKind::{
     DuplicateName, NoWalk, UnknownFunction, Unreached, WrongEffect, WrongFlag,
 };
 

@@ -1,6 +1,6 @@
 // The tables of the standard interfaces, and their text.
 use crate::shapes::standard_shapes;
-use sg_diagnose::{Verdict, check, compile, compiled, parse};
+use sg_input::{Verdict, check, compile, compiled, parse};
 use sg_facts::Tables;
 use std::alloc::Global;
 use std::process::Abort;

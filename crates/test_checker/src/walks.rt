@@ -1,6 +1,6 @@
 // The walks by which descriptors are rebuilt.
 use crate::interfaces::{Pairs, interface};
-use sg_diagnose::{restores, shortest};
+use sg_input::{restores, shortest};
 use sg_event::event_shape;
 use sg_facts::{FunShape, Leaves, NoMemory, Parents, Service, Shape, Walk};
 use sg_lock::LockService;

@@ -6,7 +6,7 @@ use Rattle.sg_sim.specs.sg_script.declared.script.Script.{Script}
 
 -- tables of no run: of a service without functions, and without walks
 abbrev pub no_tables : Compiled
-no_tables = record { iface = record { facts = no_facts; declared = 0; moves = []; steps = [] }; walks = [] }
+no_tables = record { iface = record { facts = no_facts; declared = 0; version = 1; eager = false; moves = []; steps = [] }; walks = [] }
 
 -- a script of no run: without calls, turns and stops
 abbrev pub no_script : Script

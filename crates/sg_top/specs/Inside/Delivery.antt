@@ -4,8 +4,8 @@ use Rattle.std.specs.declared.option.Option.{Option}
 use Rattle.std.specs.Io.KnownBytes.{Appends}
 use Rattle.sg_edge.specs.Edge.{Rose}
 use Rattle.sg_report.specs.sg_hist.declared.ended.Ended.{Ended}
-use Rattle.sg_input.specs.sg_diagnose.declared.outcome.Verdict.{Verdict}
-use Rattle.sg_input.specs.sg_diagnose.declared.outcome.Verdict.TheVariants.{Accepted as accepted, Refused as refused}
+use Rattle.sg_input.specs.declared.outcome.Verdict.{Verdict}
+use Rattle.sg_input.specs.declared.outcome.Verdict.TheVariants.{Accepted as accepted, Refused as refused}
 use Rattle.sg_top.specs.declared.status.Status.{Status}
 use Rattle.sg_top.specs.declared.status.Status.TheVariants.{Done, Refused, WriteFault, NoMemory}
 use Rattle.sg_top.specs.Answer.{Ends, IsUntouched}

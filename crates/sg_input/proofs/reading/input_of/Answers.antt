@@ -2,7 +2,7 @@
 use Rattle.std.proofs.Common.{map, arith, subst}
 use Rattle.std.proofs.lemmas.Result.{IfOk-weaker}
 use Rattle.sg_facts.specs.Facts.{facts_of}
-use Rattle.sg_diagnose.specs.Examined.{IsExamined}
+use Rattle.sg_input.specs.Examined.{IsExamined}
 use Rattle.sg_input.specs.Inputs.{AreTexts, IsInputOf}
 use Rattle.sg_input.proofs.reading.input_of.Goals as goal
 

@@ -3,7 +3,7 @@ use Rattle.std.proofs.Common.{◌∙◌, ap, map, refl, subst}
 use Rattle.sg_facts.specs.Facts.{facts_of}
 use Rattle.sg_facts.specs.Interface.{Declared}
 use Rattle.sg_input.specs.Inputs.{IsReady}
-use Rattle.sg_run.specs.Runs.{IsRunInOrder}
+use Rattle.sg_shared.specs.Runs.{IsRunInOrder}
 use Rattle.sg_top.specs.Answer.{services}
 use Rattle.sg_top.specs.Headline.{answering}
 use Rattle.sg_top.specs.Inside.Kinds.{kind_by}

@@ -1,9 +1,0 @@
--- The laws of the parser and of the checker make that of verdicts.
-use Rattle.sg_diagnose.proofs.OneVerdict.{one_refusal, one_verdict}
-use Rattle.sg_diagnose.proofs.laws.one_verdict.Goals as goal
-
-pub returns-clause-refusal : goal.returns-clause-refusal
-returns-clause-refusal c = one_refusal
-
-pub returns-clause-verdict : goal.returns-clause-verdict
-returns-clause-verdict c = one_verdict

@@ -1,0 +1,75 @@
+-- What is said of a text.
+use Rattle.std.specs.Prelude.{ℕ, ◌≡◌, List, ◌++◌, Ok, Err, codes}
+use Rattle.std.specs.Fmt.{decimal}
+use Rattle.sg_facts.specs.Words.{line_end}
+use Rattle.sg_facts.specs.Facts.{Facts}
+use Rattle.sg_facts.specs.Interface.{Declared}
+use Rattle.sg_facts.specs.Tables.{AreTables, Compiled}
+use Rattle.sg_print.specs.TablesText.{tables_text}
+use Rattle.sg_print.specs.sg_parse.declared.error.ParseError.TheVariants.{Lex as lex_fault, Syntax as syntax_fault}
+use Rattle.sg_print.specs.sg_parse.declared.tree.Tree.{Tree}
+use Rattle.sg_print.specs.sg_parse.Grammar.Parses.{Parses}
+use Rattle.sg_stub.specs.sg_check_statements.declared.fault.CheckKind.{CheckKind}
+use Rattle.sg_stub.specs.sg_check_statements.declared.fault.CheckKind.TheVariants.{UnknownService, DuplicateName, UnknownFunction, BadParams, WrongFact, WrongFlag, WrongEffect, ForeignTransition, ForeignRecover, NoCreation, Unreached, NoWalk}
+use Rattle.sg_stub.specs.sg_check_statements.Faults.{IsAccepted, IsFault}
+use Rattle.sg_input.specs.declared.outcome.Verdict.{Verdict}
+use Rattle.sg_input.specs.declared.outcome.Verdict.TheVariants.{Accepted, Refused}
+use Rattle.sg_input.specs.declared.refusal.RefusalKind.{RefusalKind}
+use Rattle.sg_input.specs.declared.refusal.RefusalKind.TheVariants.{Lex, Syntax, Check}
+use Rattle.sg_input.specs.Places.{line_of, column_of}
+
+-- ---- lines
+
+-- the name of a kind of fault of the checker
+abbrev pub check_name : CheckKind → List ℕ
+check_name UnknownService = codes "UnknownService"
+check_name DuplicateName = codes "DuplicateName"
+check_name UnknownFunction = codes "UnknownFunction"
+check_name BadParams = codes "BadParams"
+check_name WrongFact = codes "WrongFact"
+check_name WrongFlag = codes "WrongFlag"
+check_name WrongEffect = codes "WrongEffect"
+check_name ForeignTransition = codes "ForeignTransition"
+check_name ForeignRecover = codes "ForeignRecover"
+check_name NoCreation = codes "NoCreation"
+check_name Unreached = codes "Unreached"
+check_name NoWalk = codes "NoWalk"
+
+-- the name of a kind of refusal
+abbrev pub refusal_name : RefusalKind → List ℕ
+refusal_name Lex = codes "Lex"
+refusal_name Syntax = codes "Syntax"
+refusal_name (Check kind) = check_name kind
+
+-- the line of a text that is accepted, by its service's name
+abbrev pub accepted_line : List ℕ → List ℕ
+accepted_line service = codes "accepted " ++ service ++ line_end
+
+-- the line of a text that is refused for a kind at a place
+abbrev pub refusal_line : List ℕ → RefusalKind → ℕ → List ℕ
+refusal_line text kind at =
+    codes "interface refused at " ++ decimal (line_of text at) ++ codes ":" ++ decimal (column_of text at) ++ codes ": "
+    ++ refusal_name kind ++ line_end
+
+-- ---- verdicts
+
+-- what a text is refused for, and where: no token begins at the place; or the tokens don't go on to a sentence there; or the
+-- text is a sentence, and that is first wrong with its tree. A text is refused for one kind at one place at most.
+abbrev pub IsRefused : List Facts → List ℕ → RefusalKind → ℕ → Type 0
+IsRefused services text Lex at = Parses text (Err (lex_fault at))
+IsRefused services text Syntax at = Parses text (Err (syntax_fault at))
+IsRefused services text (Check kind) at = (tree : Tree) × Parses text (Ok tree) × IsFault services tree kind at
+
+-- what is said of a text: it is a sentence whose tree is accepted, and the line names the service; or it is refused, and the
+-- line says for what and where
+abbrev pub IsVerdict : List Facts → List ℕ → Verdict → Type 0
+IsVerdict services text (Accepted line) =
+    (tree : Tree) × (i : Declared) × Parses text (Ok tree) × IsAccepted services tree i × (line ≡ accepted_line i.facts.name)
+IsVerdict services text (Refused line) = (kind : RefusalKind) × (at : ℕ) × IsRefused services text kind at × (line ≡ refusal_line text kind at)
+
+-- what is said of a text by its tables: it is a sentence whose tree is accepted, and this is the text of the tables of its
+-- interface; or it is refused, as by its verdict
+abbrev pub IsCompiled : List Facts → List ℕ → Verdict → Type 0
+IsCompiled services text (Accepted output) =
+    (tree : Tree) × (tables : Compiled) × Parses text (Ok tree) × IsAccepted services tree tables.iface × AreTables tables.iface tables.walks × (output ≡ tables_text tables)
+IsCompiled services text (Refused line) = IsVerdict services text (Refused line)

@@ -1,0 +1,120 @@
+// What is said of a text.
+ghost use Rattle.std.specs.Prelude.{◌≡◌, Ok, List, true, map, IfOk};
+ghost use Rattle.sg_facts.specs.Facts.{Facts, facts_of};
+ghost use Rattle.sg_print.specs.sg_parse.Grammar.Parses.{Parses};
+ghost use Rattle.sg_stub.specs.sg_check.Shapes.{are_shapes};
+ghost use Rattle.sg_input.specs.declared.outcome.Verdict.{Verdict as Outcome};
+ghost use Rattle.sg_input.specs.declared.examined.Examined.{Examined as Answer};
+ghost use Rattle.sg_input.specs.Examined.{IsExamined};
+ghost use Rattle.sg_input.specs.Verdicts.{IsCompiled, IsRefused, IsVerdict};
+
+use crate::examined::Examined;
+use crate::lines::{accepted_line, refusal_line};
+use crate::{RefusalKind, Verdict};
+use sg_facts::{NoMemory, Shape};
+use sg_print::{ParseError, Tree, parse, print_tables};
+use sg_stub::{CheckError, check, compile};
+use std::alloc::Global;
+
+/// What is said of an interface text, where it may be of one of these shapes: the line `accepted SERVICE` where the text is
+/// accepted, and else the line `interface refused at L:C: KIND` with the first thing that is wrong with it. L is the line of its
+/// place and C the byte in that line, both counted from 1. A shape has at most 32 functions and 4 fields, its numbers name its
+/// own functions, and no two of its functions have one name. The only error is want of memory.
+pub fn verdict(alloc: Global, text: &[u8], shapes: &[Shape]) -> Result<Verdict, NoMemory>
+    requires { are_shapes (map facts_of shapes.now) ≡ true }
+    ensures verdict { IfOk result (IsVerdict (map facts_of shapes.now) text.now) }
+    // No other verdict may be given.
+    ensures only { (other : Outcome) → IsVerdict (map facts_of shapes.now) text.now other → IfOk result (λ v. v ≡ other) }
+{
+    judge(alloc, text, shapes)
+}
+
+/// What is said of an interface text by its tables: their text where the text is accepted, and else the line that `verdict`
+/// refuses it with. The shapes are as for `verdict`. The only error is want of memory.
+pub fn compiled(alloc: Global, text: &[u8], shapes: &[Shape]) -> Result<Verdict, NoMemory>
+    requires { are_shapes (map facts_of shapes.now) ≡ true }
+    ensures verdict { IfOk result (IsCompiled (map facts_of shapes.now) text.now) }
+    // No other verdict may be given.
+    ensures only { (other : Outcome) → IsCompiled (map facts_of shapes.now) text.now other → IfOk result (λ v. v ≡ other) }
+{
+    judge_tables(alloc, text, shapes)
+}
+
+/// The interface of a text that is accepted, or the line that `verdict` refuses it with. The shapes are as for `verdict`. The
+/// only error is want of memory.
+pub fn examine(alloc: Global, text: &[u8], shapes: &[Shape]) -> Result<Examined, NoMemory>
+    requires { are_shapes (map facts_of shapes.now) ≡ true }
+    ensures answer { IfOk result (IsExamined (map facts_of shapes.now) text.now) }
+    // No other answer may be given.
+    ensures only { (other : Answer) → IsExamined (map facts_of shapes.now) text.now other → IfOk result (λ e. e ≡ other) }
+{
+    examine_text(alloc, text, shapes)
+}
+
+// The line that accepts a text or refuses it, for `verdict`.
+fn judge(alloc: Global, text: &[u8], shapes: &[Shape]) -> Result<Verdict, NoMemory>
+    requires { are_shapes (map facts_of shapes.now) ≡ true }
+    ensures { IfOk result (IsVerdict (map facts_of shapes.now) text.now) }
+{
+    match examine_text(alloc, text, shapes)? {
+        Examined::Accepted(accepted) => {
+            let service = accepted.interface().shape.name;
+            Ok(Verdict::Accepted(accepted_line(alloc, service)?))
+        }
+        Examined::Refused(line) => Ok(Verdict::Refused(line)),
+    }
+}
+
+// The text of the tables of a text, or the line that refuses the text, for `compiled`.
+fn judge_tables(alloc: Global, text: &[u8], shapes: &[Shape]) -> Result<Verdict, NoMemory>
+    requires { are_shapes (map facts_of shapes.now) ≡ true }
+    ensures { IfOk result (IsCompiled (map facts_of shapes.now) text.now) }
+{
+    match examine_text(alloc, text, shapes)? {
+        Examined::Accepted(accepted) => {
+            let tables = compile(alloc, &accepted)?;
+            Ok(Verdict::Accepted(print_tables(alloc, &tables)?))
+        }
+        Examined::Refused(line) => Ok(Verdict::Refused(line)),
+    }
+}
+
+// The interface of a text, or the line that refuses the text, by what the parser answers.
+fn examine_text(alloc: Global, text: &[u8], shapes: &[Shape]) -> Result<Examined, NoMemory>
+    requires { are_shapes (map facts_of shapes.now) ≡ true }
+    ensures { IfOk result (IsExamined (map facts_of shapes.now) text.now) }
+{
+    match parse(alloc, text) {
+        Ok(tree) => examine_tree(alloc, text, &tree, shapes),
+        Err(ParseError::NoMemory) => Err(NoMemory),
+        Err(ParseError::Lex { at }) => refuse(alloc, text, RefusalKind::Lex, at),
+        Err(ParseError::Syntax { at }) => refuse(alloc, text, RefusalKind::Syntax, at),
+    }
+}
+
+// The interface of a text that is a sentence, or the line that refuses the text, by what the checker answers.
+fn examine_tree(
+    alloc: Global,
+    text: &[u8],
+    tree: &Tree,
+    shapes: &[Shape],
+) -> Result<Examined, NoMemory>
+    requires shapes { are_shapes (map facts_of shapes.now) ≡ true }
+    requires sentence { Parses text.now (Ok tree.now) }
+    ensures { IfOk result (IsExamined (map facts_of shapes.now) text.now) }
+{
+    match check(alloc, tree, shapes) {
+        Ok(accepted) => Ok(Examined::Accepted(accepted)),
+        Err(CheckError::NoMemory) => Err(NoMemory),
+        Err(CheckError::Fault(fault)) => {
+            refuse(alloc, text, RefusalKind::Check(fault.kind), fault.at)
+        }
+    }
+}
+
+// The line of a kind and a place: what is said of a text that is refused for that kind there, whatever the services.
+fn refuse(alloc: Global, text: &[u8], kind: RefusalKind, at: usize) -> Result<Examined, NoMemory>
+    ensures { IfOk result (λ e. (services : List Facts) → IsRefused services text.now kind at → IsExamined services text.now e) }
+{
+    Ok(Examined::Refused(refusal_line(alloc, text, kind, at)?))
+}
