@@ -63,7 +63,7 @@ one_declared : (services : List Facts) (tree : Tree) (i j : Declared) → IsAcce
 one_declared services tree i j a b =
     let found : Some a.facts ≡ Some b.facts = sym a.service ∙ b.service in
     let same : a.facts ≡ b.facts = cc in
-    a.declared ∙ ap (λ f. interface_of f tree.statements) same ∙ sym b.declared
+    a.declared ∙ ap (λ f. interface_of f tree) same ∙ sym b.declared
 
 one_interface : (services : List Facts) (text : List ℕ) (i j : Declared) → IsInterface services text i → IsInterface services text j → i ≡ j
 one_interface services text i j (tree, p, is) (tree', q, is') =

@@ -10,8 +10,10 @@ use Rattle.sg_print.specs.sg_parse.declared.error.ParseError.{ParseError}
 use Rattle.sg_print.specs.sg_parse.declared.error.ParseError.TheVariants.{NoMemory as no_memory, Lex as lex_fault, Syntax as syntax_fault}
 use Rattle.sg_print.specs.sg_parse.declared.tree.Tree.{Tree}
 use Rattle.sg_print.specs.sg_parse.Grammar.Parses.{Parses}
+use Rattle.sg_print.specs.sg_parse.Grammar.Upgraded.{upgraded}
 use Rattle.sg_print.proofs.sg_parse.Grammar.Readings.{only_answer}
 use Rattle.sg_facts.specs.Tables.{AreTables}
+use Rattle.sg_print.specs.Printed.{printed}
 use Rattle.sg_print.specs.TablesText.{tables_text}
 use Rattle.sg_stub.specs.sg_check_statements.Faults.{IsAccepted, IsFault, interface_of}
 use Rattle.sg_stub.proofs.sg_check.Unique.{same_fault}
@@ -23,7 +25,7 @@ use Rattle.sg_input.specs.declared.outcome.Verdict.{Verdict}
 use Rattle.sg_input.specs.declared.outcome.Verdict.TheVariants.{Accepted, Refused}
 use Rattle.sg_input.specs.declared.refusal.RefusalKind.{RefusalKind}
 use Rattle.sg_input.specs.declared.refusal.RefusalKind.TheVariants.{Lex, Syntax, Check}
-use Rattle.sg_input.specs.Verdicts.{IsCompiled, IsRefused, IsVerdict, accepted_line, refusal_line}
+use Rattle.sg_input.specs.Verdicts.{IsCompiled, IsRefused, IsUpgraded, IsVerdict, accepted_line, refusal_line}
 
 -- a text has one answer of the parser, want of memory aside
 one_answer : (text : List ℕ) (one other : Result Tree ParseError) → Parses text one → Parses text other
@@ -75,7 +77,7 @@ one_interface : (services : List Facts) (tree : Tree) (i j : Declared) → IsAcc
 one_interface services tree i j a b =
     let found : Some a.facts ≡ Some b.facts = sym a.service ∙ b.service in
     let same : a.facts ≡ b.facts = cc in
-    a.declared ∙ ap (λ f. interface_of f tree.statements) same ∙ sym b.declared
+    a.declared ∙ ap (λ f. interface_of f tree) same ∙ sym b.declared
 
 -- an accepted text isn't refused
 not_both : (services : List Facts) (text : List ℕ) (tree : Tree) (i : Declared) (kind : RefusalKind) (at : ℕ)
@@ -112,6 +114,16 @@ one_compiled services text (Accepted output) (Refused line) (tree, tables, p, is
 one_compiled services text (Refused line) (Accepted output) (kind, at, q, said) (tree, tables, p, is, are, said') =
     absurd (not_both services text tree tables.iface kind at p is q)
 one_compiled services text (Refused line) (Refused line') one other = one_verdict services text (Refused line) (Refused line') one other
+
+pub one_upgraded : (services : List Facts) (text : List ℕ) (one other : Verdict)
+    → IsUpgraded services text one → IsUpgraded services text other → one ≡ other
+one_upgraded services text (Accepted output) (Accepted output') (tree, i, p, is, said) (tree', i', q, is', said') =
+    ap Accepted (said ∙ ap (λ t. printed (upgraded t)) (one_tree text tree tree' p q) ∙ sym said')
+one_upgraded services text (Accepted output) (Refused line) (tree, i, p, is, said) (kind, at, q, said') =
+    absurd (not_both services text tree i kind at p is q)
+one_upgraded services text (Refused line) (Accepted output) (kind, at, q, said) (tree, i, p, is, said') =
+    absurd (not_both services text tree i kind at p is q)
+one_upgraded services text (Refused line) (Refused line') one other = one_verdict services text (Refused line) (Refused line') one other
 
 pub one_examined : (services : List Facts) (text : List ℕ) (one other : Examined)
     → IsExamined services text one → IsExamined services text other → one ≡ other

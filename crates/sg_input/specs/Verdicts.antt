@@ -5,10 +5,12 @@ use Rattle.sg_facts.specs.Words.{line_end}
 use Rattle.sg_facts.specs.Facts.{Facts}
 use Rattle.sg_facts.specs.Interface.{Declared}
 use Rattle.sg_facts.specs.Tables.{AreTables, Compiled}
+use Rattle.sg_print.specs.Printed.{printed}
 use Rattle.sg_print.specs.TablesText.{tables_text}
 use Rattle.sg_print.specs.sg_parse.declared.error.ParseError.TheVariants.{Lex as lex_fault, Syntax as syntax_fault}
 use Rattle.sg_print.specs.sg_parse.declared.tree.Tree.{Tree}
 use Rattle.sg_print.specs.sg_parse.Grammar.Parses.{Parses}
+use Rattle.sg_print.specs.sg_parse.Grammar.Upgraded.{upgraded}
 use Rattle.sg_stub.specs.sg_check_statements.declared.fault.CheckKind.{CheckKind}
 use Rattle.sg_stub.specs.sg_check_statements.declared.fault.CheckKind.TheVariants.{UnknownService, DuplicateName, UnknownFunction, BadParams, WrongFact, WrongFlag, WrongEffect, ForeignTransition, ForeignRecover, NoCreation, Unreached, NoWalk}
 use Rattle.sg_stub.specs.sg_check_statements.Faults.{IsAccepted, IsFault}
@@ -73,3 +75,10 @@ abbrev pub IsCompiled : List Facts → List ℕ → Verdict → Type 0
 IsCompiled services text (Accepted output) =
     (tree : Tree) × (tables : Compiled) × Parses text (Ok tree) × IsAccepted services tree tables.iface × AreTables tables.iface tables.walks × (output ≡ tables_text tables)
 IsCompiled services text (Refused line) = IsVerdict services text (Refused line)
+
+-- what is said of a text by what it is upgraded to: it is a sentence whose tree is accepted, and this is the canonical text of that
+-- tree as one of version 2; or it is refused, as by its verdict
+abbrev pub IsUpgraded : List Facts → List ℕ → Verdict → Type 0
+IsUpgraded services text (Accepted output) =
+    (tree : Tree) × (i : Declared) × Parses text (Ok tree) × IsAccepted services tree i × (output ≡ printed (upgraded tree))
+IsUpgraded services text (Refused line) = IsVerdict services text (Refused line)

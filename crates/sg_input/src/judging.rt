@@ -1,24 +1,28 @@
 // What is said of a text.
-ghost use Rattle.std.specs.Prelude.{◌≡◌, Ok, List, true, map, IfOk};
+ghost use Rattle.std.specs.Prelude.{◌≡◌, Ok, Err as failed, List, true, map, IfOk};
 ghost use Rattle.sg_facts.specs.Facts.{Facts, facts_of};
+ghost use Rattle.sg_print.specs.sg_parse.declared.tree.Tree.{Tree as Sentence};
 ghost use Rattle.sg_print.specs.sg_parse.Grammar.Parses.{Parses};
+ghost use Rattle.sg_print.specs.sg_parse.Grammar.Upgraded.{upgraded};
 ghost use Rattle.sg_stub.specs.sg_check.Shapes.{are_shapes};
+ghost use Rattle.sg_stub.specs.sg_check_statements.Stages.{IsFirstFault};
 ghost use Rattle.sg_input.specs.declared.outcome.Verdict.{Verdict as Outcome};
+ghost use Rattle.sg_input.specs.declared.outcome.Verdict.TheVariants.{Refused as refused_with};
 ghost use Rattle.sg_input.specs.declared.examined.Examined.{Examined as Answer};
 ghost use Rattle.sg_input.specs.Examined.{IsExamined};
-ghost use Rattle.sg_input.specs.Verdicts.{IsCompiled, IsRefused, IsVerdict};
+ghost use Rattle.sg_input.specs.Verdicts.{IsCompiled, IsRefused, IsUpgraded, IsVerdict};
 
 use crate::examined::Examined;
 use crate::lines::{accepted_line, refusal_line};
 use crate::{RefusalKind, Verdict};
 use sg_facts::{NoMemory, Shape};
-use sg_print::{ParseError, Tree, parse, print_tables};
+use sg_print::{Facts, ParseError, Tree, parse, print, print_tables};
 use sg_stub::{CheckError, check, compile};
 use std::alloc::Global;
 
 /// What is said of an interface text, where it may be of one of these shapes: the line `accepted SERVICE` where the text is
 /// accepted, and else the line `interface refused at L:C: KIND` with the first thing that is wrong with it. L is the line of its
-/// place and C the byte in that line, both counted from 1. A shape has at most 32 functions and 4 fields, its numbers name its
+/// place and C the byte in that line, both counted from 1. A shape has at most 32 functions and 8 fields, its numbers name its
 /// own functions, and no two of its functions have one name. The only error is want of memory.
 pub fn verdict(alloc: Global, text: &[u8], shapes: &[Shape]) -> Result<Verdict, NoMemory>
     requires { are_shapes (map facts_of shapes.now) ≡ true }
@@ -51,6 +55,18 @@ pub fn examine(alloc: Global, text: &[u8], shapes: &[Shape]) -> Result<Examined,
     examine_text(alloc, text, shapes)
 }
 
+/// What is said of an interface text by what it is upgraded to: the canonical text of its tree as one of version 2 where the text
+/// is accepted, and else the line that `verdict` refuses it with. A tree of version 1 rebuilds descriptors on demand, and one of
+/// version 2 keeps its word. The shapes are as for `verdict`. The only error is want of memory.
+pub fn upgraded(alloc: Global, text: &[u8], shapes: &[Shape]) -> Result<Verdict, NoMemory>
+    requires { are_shapes (map facts_of shapes.now) ≡ true }
+    ensures verdict { IfOk result (IsUpgraded (map facts_of shapes.now) text.now) }
+    // No other verdict may be given.
+    ensures only { (other : Outcome) → IsUpgraded (map facts_of shapes.now) text.now other → IfOk result (λ v. v ≡ other) }
+{
+    judge_upgrade(alloc, text, shapes)
+}
+
 // The line that accepts a text or refuses it, for `verdict`.
 fn judge(alloc: Global, text: &[u8], shapes: &[Shape]) -> Result<Verdict, NoMemory>
     requires { are_shapes (map facts_of shapes.now) ≡ true }
@@ -79,6 +95,48 @@ fn judge_tables(alloc: Global, text: &[u8], shapes: &[Shape]) -> Result<Verdict,
     }
 }
 
+// The text of an interface as one of version 2, or the line that refuses the text, for `upgraded`.
+fn judge_upgrade(alloc: Global, text: &[u8], shapes: &[Shape]) -> Result<Verdict, NoMemory>
+    requires { are_shapes (map facts_of shapes.now) ≡ true }
+    ensures { IfOk result (IsUpgraded (map facts_of shapes.now) text.now) }
+{
+    match parse(alloc, text) {
+        Ok(tree) => upgrade_tree(alloc, text, tree, shapes),
+        Err(error) => Ok(Verdict::Refused(unparsed_line(alloc, text, error)?)),
+    }
+}
+
+// The text of an interface as one of version 2, or the line that refuses it, by what the checker answers of its tree.
+fn upgrade_tree(
+    alloc: Global,
+    text: &[u8],
+    tree: Tree,
+    shapes: &[Shape],
+) -> Result<Verdict, NoMemory>
+    requires shapes { are_shapes (map facts_of shapes.now) ≡ true }
+    requires sentence { Parses text.now (Ok tree.entry) }
+    ensures { IfOk result (IsUpgraded (map facts_of shapes.now) text.now) }
+{
+    match check(alloc, &tree, shapes) {
+        Ok(_) => Ok(Verdict::Accepted(print(alloc, &upgraded_tree(tree))?)),
+        Err(error) => Ok(Verdict::Refused(unaccepted_line(alloc, text, error)?)),
+    }
+}
+
+// The same tree of version 2.
+fn upgraded_tree(tree: Tree<'_>) -> Tree<'_>
+    ensures { result ≡ upgraded tree.entry }
+{
+    let Tree { facts, statements } = tree;
+    Tree {
+        facts: Facts {
+            version: 2,
+            ..facts
+        },
+        statements,
+    }
+}
+
 // The interface of a text, or the line that refuses the text, by what the parser answers.
 fn examine_text(alloc: Global, text: &[u8], shapes: &[Shape]) -> Result<Examined, NoMemory>
     requires { are_shapes (map facts_of shapes.now) ≡ true }
@@ -86,9 +144,7 @@ fn examine_text(alloc: Global, text: &[u8], shapes: &[Shape]) -> Result<Examined
 {
     match parse(alloc, text) {
         Ok(tree) => examine_tree(alloc, text, &tree, shapes),
-        Err(ParseError::NoMemory) => Err(NoMemory),
-        Err(ParseError::Lex { at }) => refuse(alloc, text, RefusalKind::Lex, at),
-        Err(ParseError::Syntax { at }) => refuse(alloc, text, RefusalKind::Syntax, at),
+        Err(error) => Ok(Examined::Refused(unparsed_line(alloc, text, error)?)),
     }
 }
 
@@ -105,16 +161,36 @@ fn examine_tree(
 {
     match check(alloc, tree, shapes) {
         Ok(accepted) => Ok(Examined::Accepted(accepted)),
-        Err(CheckError::NoMemory) => Err(NoMemory),
-        Err(CheckError::Fault(fault)) => {
-            refuse(alloc, text, RefusalKind::Check(fault.kind), fault.at)
-        }
+        Err(error) => Ok(Examined::Refused(unaccepted_line(alloc, text, error)?)),
+    }
+}
+
+// The line of a text that the parser answers with this error, whatever the services.
+fn unparsed_line(alloc: Global, text: &[u8], error: ParseError) -> Result<Bytes, NoMemory>
+    requires { Parses text.now (failed error) }
+    ensures { IfOk result (λ line. (services : List Facts) → IsVerdict services text.now (refused_with line)) }
+{
+    match error {
+        ParseError::NoMemory => Err(NoMemory),
+        ParseError::Lex { at } => refusal(alloc, text, RefusalKind::Lex, at),
+        ParseError::Syntax { at } => refusal(alloc, text, RefusalKind::Syntax, at),
+    }
+}
+
+// The line of a sentence whose tree the checker answers with this error.
+fn unaccepted_line(alloc: Global, text: &[u8], error: CheckError) -> Result<Bytes, NoMemory>
+    ensures { IfOk result (λ line. (services : List Facts) (tree : Sentence) → Parses text.now (Ok tree) → IsFirstFault services tree error
+        → IsVerdict services text.now (refused_with line)) }
+{
+    match error {
+        CheckError::NoMemory => Err(NoMemory),
+        CheckError::Fault(fault) => refusal(alloc, text, RefusalKind::Check(fault.kind), fault.at),
     }
 }
 
 // The line of a kind and a place: what is said of a text that is refused for that kind there, whatever the services.
-fn refuse(alloc: Global, text: &[u8], kind: RefusalKind, at: usize) -> Result<Examined, NoMemory>
-    ensures { IfOk result (λ e. (services : List Facts) → IsRefused services text.now kind at → IsExamined services text.now e) }
+fn refusal(alloc: Global, text: &[u8], kind: RefusalKind, at: usize) -> Result<Bytes, NoMemory>
+    ensures { IfOk result (λ line. (services : List Facts) → IsRefused services text.now kind at → IsVerdict services text.now (refused_with line)) }
 {
-    Ok(Examined::Refused(refusal_line(alloc, text, kind, at)?))
+    refusal_line(alloc, text, kind, at)
 }

@@ -1,11 +1,17 @@
 // Laws of verdicts and of inputs.
-ghost use Rattle.std.specs.Prelude.{◌≡◌, ℕ, List};
+ghost use Rattle.std.specs.Prelude.{◌≡◌, ℕ, List, Ok};
 ghost use Rattle.sg_facts.specs.Facts.{Facts};
+ghost use Rattle.sg_facts.specs.Interface.{Declared};
+ghost use Rattle.sg_print.specs.Printed.{printed};
+ghost use Rattle.sg_print.specs.sg_parse.declared.tree.Tree.{Tree};
+ghost use Rattle.sg_print.specs.sg_parse.Grammar.Parses.{Parses};
+ghost use Rattle.sg_print.specs.sg_parse.Grammar.Upgraded.{IsFree, upgraded};
+ghost use Rattle.sg_stub.specs.sg_check_statements.Faults.{IsAccepted};
 ghost use Rattle.sg_input.specs.declared.input.Input.{Input};
 ghost use Rattle.sg_input.specs.declared.outcome.Verdict.{Verdict};
 ghost use Rattle.sg_input.specs.declared.refusal.RefusalKind.{RefusalKind};
 ghost use Rattle.sg_input.specs.Divider.{IsCut};
-ghost use Rattle.sg_input.specs.Inputs.{IsInputOf};
+ghost use Rattle.sg_input.specs.Inputs.{IsInputOf, IsInterface};
 ghost use Rattle.sg_input.specs.Verdicts.{IsRefused, IsVerdict};
 
 /// Of a text one thing alone can be said: it isn't accepted and refused, it is refused for one kind at one place, and there is
@@ -15,6 +21,13 @@ pub fn one_verdict()
         → IsRefused services text one here → IsRefused services text other there → (one ≡ other) × (here ≡ there) }
     ensures verdict { (services : List Facts) (text : List ℕ) (one other : Verdict)
         → IsVerdict services text one → IsVerdict services text other → one ≡ other }
+{}
+
+/// What an accepted text is upgraded to is accepted, as a text of any length, and declares the same interface but for the version,
+/// where no name in the text is the word that version 2 keeps for itself.
+pub fn upgrades_are_accepted()
+    ensures { (services : List Facts) (text : List ℕ) (tree : Tree) (i : Declared) → Parses text (Ok tree) → IsAccepted services tree i → IsFree tree
+        → IsInterface services (printed (upgraded tree)) (record i { version = 2 }) }
 {}
 
 /// An input is divided in one way at most.

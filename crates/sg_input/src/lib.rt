@@ -1,7 +1,8 @@
 //! What is said of an interface text, and the input of a play: the text of an interface, a line of `%%` alone, and a script
 //! for it.
 //!
-//! - `judging`: what is said of a text (`verdict`), and by its tables (`compiled`); what comes of it before that (`examine`)
+//! - `judging`: what is said of a text (`verdict`), by its tables (`compiled`), and by what it is
+//!   upgraded to (`upgraded`); what comes of it before that (`examine`)
 //! - `examined`: its interface, or the line that refuses it (`Examined`)
 //! - `outcome`: that a text is accepted or refused, with what is said (`Verdict`)
 //! - `refusal`: why a text is refused (`RefusalKind`)
@@ -11,7 +12,7 @@
 //! - `divider`: the two texts before and after the first line of `%%` alone (`cut`)
 //! - `limits`: the greatest numbers of bytes
 //! - `lines`: the lines that are said of a text, and those that refuse an input
-//! - `laws`: of a text one thing alone can be said; an input is divided in one way, and is one thing
+//! - `laws`: of a text one thing alone can be said; what is upgraded is accepted; an input is divided in one way, and is one thing
 //!
 //! `specs/Verdicts.antt` says when which line is the right one for a text, and `specs/Places.antt` what lines and columns are;
 //! `specs/Divider.antt` says where an input is divided, `specs/Lines.antt` which lines refuse one, and `specs/Inputs.antt` when
@@ -33,8 +34,8 @@ mod refusal;
 pub use divider::cut;
 pub use examined::Examined;
 pub use input::Input;
-pub use judging::{compiled, examine, verdict};
-pub use laws::{one_cut, one_input, one_verdict};
+pub use judging::{compiled, examine, upgraded, verdict};
+pub use laws::{one_cut, one_input, one_verdict, upgrades_are_accepted};
 pub use limits::{MOST_DIVIDER, MOST_INPUT, MOST_INTERFACE, MOST_SCRIPT};
 pub use lines::TOO_LONG;
 pub use outcome::Verdict;

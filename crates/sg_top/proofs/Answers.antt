@@ -10,7 +10,7 @@ use Rattle.std.specs.declared.result.Result.{Result}
 use Rattle.std.specs.declared.result.Result.TheVariants.{Ok, Err}
 use Rattle.sg_top.specs.declared.command.Command.{Command}
 use Rattle.sg_top.specs.declared.output.Output.{Output}
-use Rattle.sg_top.specs.declared.command.Command.TheVariants.{Play, Check, Compile, Load}
+use Rattle.sg_top.specs.declared.command.Command.TheVariants.{Play, Check, Compile, Upgrade, Load}
 use Rattle.sg_top.specs.declared.status.Status.{Status}
 use Rattle.sg_top.specs.declared.status.Status.TheVariants.{Done, Waits, OtherWords, Refused, ReadFault, WriteFault, NoMemory}
 use Rattle.sg_input.specs.Lines.{too_long_line}
@@ -71,8 +71,10 @@ refusal (Play threads trace) bytes None status output two short is = (refl, inl 
 refusal (Play threads trace) bytes (Some e) status output two short is = absurd (ends_good e.ends (sym is.0 ∙ two))
 refusal Check bytes ended status output two short (none, inl accepted) = absurd (cc (two, accepted.0))
 refusal Compile bytes ended status output two short (none, inl accepted) = absurd (cc (two, accepted.0))
+refusal Upgrade bytes ended status output two short (none, inl accepted) = absurd (cc (two, accepted.0))
 refusal Check bytes ended status output two short (none, inr refused) = (none, inl (short, refused.1))
 refusal Compile bytes ended status output two short (none, inr refused) = (none, inl (short, refused.1))
+refusal Upgrade bytes ended status output two short (none, inr refused) = (none, inl (short, refused.1))
 refusal (Load service number) bytes ended status output two short is = absurd is
 
 -- an output of a command without an input is no refusal
@@ -82,6 +84,7 @@ own_good (Load service number) None status output own two = own
 own_good (Play threads trace) ended status output own two = own
 own_good Check ended status output own two = own
 own_good Compile ended status output own two = own
+own_good Upgrade ended status output own two = own
 
 -- its status, its run, and that it is a play's
 own_is : (command : Command) (ended : Option Ended) (status : Status) (output : List ℕ) → IsOwnOutput command ended status output
@@ -95,6 +98,7 @@ own_is (Load service number) None status output own = absurd own
 own_is (Play threads trace) ended status output own = absurd own
 own_is Check ended status output own = absurd own
 own_is Compile ended status output own = absurd own
+own_is Upgrade ended status output own = absurd own
 
 refused_by : (command : Command) (source source' : Ends) (ended : Option Ended) (status : Status) (output : List ℕ) → status ≡ Refused
     → Read command source source' ended status output → (ended ≡ None) × IfSome source.told (λ bytes. IsRefusal command bytes output)
@@ -128,8 +132,10 @@ output_status : (command : Command) (bytes : List ℕ) (ended : Option Ended) (s
 output_status (Play threads trace) bytes ended status output is = played_status bytes threads trace ended status output is
 output_status Check bytes ended status output (none, inl accepted) = inl accepted.0
 output_status Compile bytes ended status output (none, inl accepted) = inl accepted.0
+output_status Upgrade bytes ended status output (none, inl accepted) = inl accepted.0
 output_status Check bytes ended status output (none, inr refused) = inr (inr refused.0)
 output_status Compile bytes ended status output (none, inr refused) = inr (inr refused.0)
+output_status Upgrade bytes ended status output (none, inr refused) = inr (inr refused.0)
 output_status (Load service number) bytes ended status output is = absurd is
 
 status_by : (command : Command) (source source' : Ends) (ended : Option Ended) (status : Status) (output : List ℕ)
@@ -153,6 +159,7 @@ output_run : (command : Command) (bytes : List ℕ) (ended : Option Ended) (stat
 output_run (Play threads trace) bytes ended status output good play is = played_run bytes threads trace ended status output good is
 output_run Check bytes ended status output good play is = absurd (cc play)
 output_run Compile bytes ended status output good play is = absurd (cc play)
+output_run Upgrade bytes ended status output good play is = absurd (cc play)
 output_run (Load service number) bytes ended status output good play is = absurd is
 
 run_by : (command : Command) (source source' : Ends) (ended : Option Ended) (status : Status) (output : List ℕ) → (status ≡ Refused → ⊥) → is_play command ≡ true
@@ -175,6 +182,7 @@ output_play : (command : Command) (bytes : List ℕ) (ended : Option Ended) (sta
 output_play (Play threads trace) bytes ended status output is some = refl
 output_play Check bytes ended status output is some = absurd (no_run ended is.0 some)
 output_play Compile bytes ended status output is some = absurd (no_run ended is.0 some)
+output_play Upgrade bytes ended status output is some = absurd (no_run ended is.0 some)
 output_play (Load service number) bytes ended status output is some = absurd is
 
 play_by : (command : Command) (source source' : Ends) (ended : Option Ended) (status : Status) (output : List ℕ)
@@ -237,6 +245,7 @@ no_output : (command : Command) (bytes : List ℕ) (ended : Option Ended) (statu
 no_output (Play threads trace) bytes ended status output without is = cc without
 no_output Check bytes ended status output without is = cc without
 no_output Compile bytes ended status output without is = cc without
+no_output Upgrade bytes ended status output without is = cc without
 no_output (Load service number) bytes ended status output without is = is
 
 read_nothing : (command : Command) (source source' : Ends) (ended : Option Ended) (status : Status) (output : List ℕ) → has_input command ≡ false
@@ -435,10 +444,11 @@ said_reads said told told' command one is_said (inl (c, is, has, consumed)) = in
 said_reads said told told' command one is_said (inr (without, same)) = inr (λ c said_c. without c (one c command said_c is_said), same)
 
 -- each command but a load has an input
-pub with_input : (c : Command) → ((threads : Bool) × (trace : Bool) × (c ≡ Play threads trace)) ⊎ ((c ≡ Check) ⊎ (c ≡ Compile)) → has_input c ≡ true
+pub with_input : (c : Command) → ((threads : Bool) × (trace : Bool) × (c ≡ Play threads trace)) ⊎ ((c ≡ Check) ⊎ ((c ≡ Compile) ⊎ (c ≡ Upgrade))) → has_input c ≡ true
 with_input c (inl (threads, trace, is)) = ap has_input is
 with_input c (inr (inl is)) = ap has_input is
-with_input c (inr (inr is)) = ap has_input is
+with_input c (inr (inr (inl is))) = ap has_input is
+with_input c (inr (inr (inr is))) = ap has_input is
 
 -- ---- deliveries
 

@@ -4,14 +4,14 @@ use Rattle.std.specs.declared.option.Option.{Option}
 use Rattle.sg_report.specs.sg_hist.declared.ended.Ended.{Ended}
 use Rattle.sg_input.specs.declared.outcome.Verdict.{Verdict}
 use Rattle.sg_input.specs.declared.outcome.Verdict.TheVariants.{Accepted as accepted, Refused as refused}
-use Rattle.sg_input.specs.Verdicts.{IsCompiled, IsVerdict}
+use Rattle.sg_input.specs.Verdicts.{IsCompiled, IsUpgraded, IsVerdict}
 use Rattle.sg_input.proofs.OneVerdict.{one_verdict}
 use Rattle.sg_input.specs.declared.input.Input.TheVariants.{Refused as refused_input}
 use Rattle.sg_input.specs.Inputs.{IsInputOf}
 use Rattle.sg_input.proofs.OneInput.{never_ready, not_refused}
 use Rattle.sg_top.specs.Headline.{IsRunOfInput, played_services}
 use Rattle.sg_top.specs.declared.command.Command.{Command}
-use Rattle.sg_top.specs.declared.command.Command.TheVariants.{Play, Check, Compile, Load}
+use Rattle.sg_top.specs.declared.command.Command.TheVariants.{Play, Check, Compile, Upgrade, Load}
 use Rattle.sg_top.specs.declared.status.Status.{Status}
 use Rattle.sg_top.specs.declared.status.Status.TheVariants.{Refused}
 use Rattle.sg_top.specs.Answer.{IsOutput, IsPlayOutput, IsRefusal, IsRefusedAs, has_input, most_bytes, services}
@@ -24,6 +24,10 @@ not_both text line output good bad =
 -- a text that has tables isn't refused
 not_untabled : (text line output : List ℕ) → IsCompiled services text (accepted output) → IsVerdict services text (refused line) → ⊥
 not_untabled text line output (tree, tables, parses, is, are, prints) bad = not_refused services text tables.iface line (tree, parses, is) bad
+
+-- a text that is upgraded isn't refused
+not_unupgraded : (text line output : List ℕ) → IsUpgraded services text (accepted output) → IsVerdict services text (refused line) → ⊥
+not_unupgraded text line output (tree, i, parses, is, prints) bad = not_refused services text i line (tree, parses, is) bad
 
 -- an input that is played isn't refused
 not_unplayed : (bytes line output : List ℕ) (in_threads with_trace : Bool) (ended : Ended) → IsRunOfInput played_services bytes in_threads with_trace ended output → IsInputOf services bytes (refused_input line) → ⊥
@@ -39,8 +43,10 @@ good_alone : (command : Command) (bytes : List ℕ) (ended : Option Ended) (stat
 good_alone (Play threads trace) bytes ended status output line good is bad = played_alone bytes threads trace ended status output line good is bad
 good_alone Check bytes ended status output line good (none, inl accepts) bad = not_both bytes line output accepts.1 bad
 good_alone Compile bytes ended status output line good (none, inl accepts) bad = not_untabled bytes line output accepts.1 bad
+good_alone Upgrade bytes ended status output line good (none, inl accepts) bad = not_unupgraded bytes line output accepts.1 bad
 good_alone Check bytes ended status output line good (none, inr other) bad = good other.0
 good_alone Compile bytes ended status output line good (none, inr other) bad = good other.0
+good_alone Upgrade bytes ended status output line good (none, inr other) bad = good other.0
 good_alone (Load service number) bytes ended status output line good is bad = bad
 
 -- where an output for bytes doesn't refuse them, they aren't refused
@@ -54,5 +60,6 @@ pub refuses_nothing : (command : Command) (bytes line : List ℕ) → has_input 
 refuses_nothing (Play threads trace) bytes line without is = cc without
 refuses_nothing Check bytes line without is = cc without
 refuses_nothing Compile bytes line without is = cc without
+refuses_nothing Upgrade bytes line without is = cc without
 refuses_nothing (Load service number) bytes line without (inl is) = is.1
 refuses_nothing (Load service number) bytes line without (inr is) = cc is.0

@@ -9,7 +9,7 @@ use Rattle.sg_edge.specs.Edge.{Rose, ConsumesAtMost}
 use Rattle.sg_report.specs.sg_hist.declared.ended.End.{End}
 use Rattle.sg_report.specs.sg_hist.declared.ended.Ended.{Ended}
 use Rattle.sg_input.specs.declared.outcome.Verdict.TheVariants.{Accepted as accepted, Refused as refused}
-use Rattle.sg_input.specs.Verdicts.{IsCompiled, IsVerdict}
+use Rattle.sg_input.specs.Verdicts.{IsCompiled, IsUpgraded, IsVerdict}
 use Rattle.sg_input.specs.declared.input.Input.TheVariants.{Refused as refused_input}
 use Rattle.sg_input.specs.Inputs.{IsInputOf, most_input, most_interface}
 use Rattle.sg_input.specs.Lines.{too_long_line}
@@ -19,7 +19,7 @@ use Rattle.sg_load.specs.sg_plain.Promises.{somebody_waits}
 use Rattle.sg_input.specs.sg_script.Numbers.{greatest_number, value_of_digits}
 use Rattle.sg_top.specs.Headline.{IsRunOfLoad, IsRunOfInput, played_services}
 use Rattle.sg_top.specs.declared.command.Command.{Command}
-use Rattle.sg_top.specs.declared.command.Command.TheVariants.{Play, Check, Compile, Load}
+use Rattle.sg_top.specs.declared.command.Command.TheVariants.{Play, Check, Compile, Upgrade, Load}
 use Rattle.sg_top.specs.declared.status.Status.{Status}
 use Rattle.sg_top.specs.declared.status.Status.TheVariants.{Done, Waits, OtherWords, Refused, ReadFault, WriteFault, NoMemory}
 
@@ -38,6 +38,7 @@ abbrev pub IsCommand : List (String Global) → Command → Type 0
 IsCommand words (Play threads trace) = SayTexts ((if threads then codes "run" else codes "sim") ∷ (if trace then codes "trace" ∷ [] else [])) words
 IsCommand words Check = SayTexts (codes "check" ∷ []) words
 IsCommand words Compile = SayTexts (codes "compile" ∷ []) words
+IsCommand words Upgrade = SayTexts (codes "upgrade" ∷ []) words
 IsCommand words (Load service number) =
     (digits : List ℕ) × AreDigitsOf number digits × SayTexts (codes "load" ∷ (facts_by service).name ∷ digits ∷ []) words
 
@@ -46,6 +47,7 @@ abbrev pub is_play : Command → Bool
 is_play (Play threads trace) = true
 is_play Check = false
 is_play Compile = false
+is_play Upgrade = false
 is_play (Load service number) = true
 
 -- whether a command is a play whose clients have threads of their own
@@ -53,6 +55,7 @@ abbrev pub is_in_threads : Command → Bool
 is_in_threads (Play threads trace) = threads
 is_in_threads Check = false
 is_in_threads Compile = false
+is_in_threads Upgrade = false
 is_in_threads (Load service number) = false
 
 -- the words say a command that one thread does
@@ -64,6 +67,7 @@ abbrev pub has_input : Command → Bool
 has_input (Play threads trace) = true
 has_input Check = true
 has_input Compile = true
+has_input Upgrade = true
 has_input (Load service number) = false
 
 -- ---- limits
@@ -73,6 +77,7 @@ abbrev pub most_bytes : Command → ℕ
 most_bytes (Play threads trace) = most_input
 most_bytes Check = most_interface
 most_bytes Compile = most_interface
+most_bytes Upgrade = most_interface
 most_bytes (Load service number) = 0
 
 -- ---- outputs
@@ -101,11 +106,18 @@ abbrev pub IsTabled : List ℕ → Status → List ℕ → Type 0
 IsTabled text status output =
     ((status ≡ Done) × IsCompiled services text (accepted output)) ⊎ ((status ≡ Refused) × IsCompiled services text (refused output))
 
+-- the output of an upgrade, and its status: the text of an interface that is accepted, as one of version 2, or the line of a
+-- text that is refused
+abbrev pub IsUpgradeOf : List ℕ → Status → List ℕ → Type 0
+IsUpgradeOf text status output =
+    ((status ≡ Done) × IsUpgraded services text (accepted output)) ⊎ ((status ≡ Refused) × IsUpgraded services text (refused output))
+
 -- the output of a command for an input, its status, and the run where there was one: only a play has one
 abbrev pub IsOutput : Command → List ℕ → Option Ended → Status → List ℕ → Type 0
 IsOutput (Play threads trace) bytes ended status output = IsPlayOutput bytes threads trace ended status output
 IsOutput Check bytes ended status output = (ended ≡ None) × IsChecked bytes status output
 IsOutput Compile bytes ended status output = (ended ≡ None) × IsTabled bytes status output
+IsOutput Upgrade bytes ended status output = (ended ≡ None) × IsUpgradeOf bytes status output
 IsOutput (Load service number) bytes ended status output = ⊥
 
 -- the output of a command without an input, its status and its run
@@ -118,6 +130,7 @@ abbrev pub IsRefusedAs : Command → List ℕ → List ℕ → Type 0
 IsRefusedAs (Play threads trace) bytes output = IsInputOf services bytes (refused_input output)
 IsRefusedAs Check bytes output = IsVerdict services bytes (refused output)
 IsRefusedAs Compile bytes output = IsVerdict services bytes (refused output)
+IsRefusedAs Upgrade bytes output = IsVerdict services bytes (refused output)
 IsRefusedAs (Load service number) bytes output = ⊥
 
 -- the output of a command that refuses these bytes: as an input, or as more bytes than an input may have
@@ -156,7 +169,7 @@ pub record IsAnswer (said : Command → Type 0) (source source' sink sink' : End
   -- other words: they are no command's, and nothing is read or written
   pub words : status ≡ OtherWords → ((command : Command) → said command → ⊥) × IsUntouched source source' × IsUntouched sink sink' × (ended ≡ None)
   pub other_words : ((command : Command) → said command → ⊥) → status ≡ OtherWords
-  -- done: the input is played and no client waits, or it is accepted or compiled, and its report, line or tables are written
+  -- done: the input is played and no client waits, or it is accepted, compiled or upgraded, and its report, line, tables or text are written
   pub done : status ≡ Done → (command : Command) × said command × (output : List ℕ) × HasRead command source source' ended Done output × Appends sink.told sink'.told output
   -- waits: the input is played, some client waits at the end, and the report is written
   pub waits : status ≡ Waits → (command : Command) × said command × (output : List ℕ) × HasRead command source source' ended Waits output × Appends sink.told sink'.told output

@@ -18,6 +18,8 @@ pub enum Command {
     Check,
     /// `compile`: prints the tables of the text of an interface that is accepted.
     Compile,
+    /// `upgrade`: prints the text of an interface that is accepted as one of version 2.
+    Upgrade,
     /// `load SERVICE NUMBER`: plays the script that is generated for a service from a number, and prints one line. It has no input.
     Load { service: ServiceKind, number: u64 },
 }
@@ -57,6 +59,7 @@ impl Command {
             }),
             "check" => Some(Command::Check),
             "compile" => Some(Command::Compile),
+            "upgrade" => Some(Command::Upgrade),
             _ => None,
         }
     }
@@ -106,7 +109,7 @@ impl Command {
     {
         match self {
             Command::Play { .. } => MOST_INPUT,
-            Command::Check | Command::Compile => MOST_INTERFACE,
+            Command::Check | Command::Compile | Command::Upgrade => MOST_INTERFACE,
             Command::Load { .. } => 0,
         }
     }

@@ -5,7 +5,7 @@ ghost use Rattle.sg_load.specs.sg_plain.Promises.{somebody_waits};
 ghost use Rattle.sg_load.specs.Generated.{generated};
 ghost use Rattle.sg_facts.specs.Laws.{whole};
 ghost use Rattle.sg_load.specs.Services.{facts_by};
-ghost use Rattle.sg_top.specs.Answer.{IsChecked, IsOutput, IsOwnOutput, IsPlayOutput, IsTabled, ended_status, has_input, is_in_threads};
+ghost use Rattle.sg_top.specs.Answer.{IsChecked, IsOutput, IsOwnOutput, IsPlayOutput, IsTabled, IsUpgradeOf, ended_status, has_input, is_in_threads};
 ghost use Rattle.sg_report.specs.Report.{report_of};
 ghost use Rattle.sg_top.specs.Headline.{answering};
 ghost use Rattle.sg_shared.specs.Runs.{IsRunInOrder};
@@ -19,7 +19,7 @@ use crate::services::{kind_of, shapes};
 use crate::status::Status;
 use sg_edge::Gate;
 use sg_facts::{Bytes, NoMemory};
-use sg_input::{Input, Script, Verdict, compiled, read_input, verdict};
+use sg_input::{Input, Script, Verdict, compiled, read_input, upgraded, verdict};
 use sg_load::{Accepted, ServiceKind, generate, standard};
 use sg_report::{End, load_line, text};
 use sg_shared::Played;
@@ -46,6 +46,7 @@ pub fn output_of(alloc: Global, command: Command, bytes: &[u8]) -> Result<Output
         Command::Play { trace, .. } => simulated(alloc, bytes, trace),
         Command::Check => checked(alloc, bytes),
         Command::Compile => tabled(alloc, bytes),
+        Command::Upgrade => upgrade(alloc, bytes),
         Command::Load { .. } => unreachable!(),
     }
 }
@@ -65,6 +66,15 @@ fn tabled(alloc: Global, text: &[u8]) -> Result<Output, NoMemory>
     ensures tables { IfOk result (λ o. IsTabled text.now o.status o.text) }
 {
     let said = compiled(alloc, text, &shapes())?;
+    Ok(output_saying(said))
+}
+
+// The text of an interface that is accepted, as one of version 2, or else the line that refuses it.
+fn upgrade(alloc: Global, text: &[u8]) -> Result<Output, NoMemory>
+    ensures ended { IfOk result (λ o. o.ended ≡ None) }
+    ensures text { IfOk result (λ o. IsUpgradeOf text.now o.status o.text) }
+{
+    let said = upgraded(alloc, text, &shapes())?;
     Ok(output_saying(said))
 }
 

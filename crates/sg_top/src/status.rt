@@ -4,7 +4,7 @@ use std::io::ErrorKind;
 /// How a call of the program ends.
 #[derive(Clone, Copy, Debug, PartialEq, Eq)]
 pub enum Status {
-    /// The input is played and no client waits at the end, or it is accepted or compiled, and the whole output is written.
+    /// The input is played and no client waits at the end, or it is accepted, compiled or upgraded, and the whole output is written.
     Done,
     /// The words are no command's. Nothing is read or written.
     OtherWords,
