@@ -1,7 +1,7 @@
 // What a descriptor can come to.
 
 /// A state of a descriptor, and the set of its fields that aren't 0 or empty: bit i for field i.
-#[derive(Clone, Copy, Debug, PartialEq, Eq)]
+#[derive(Clone, Copy, Debug, PartialEq, Eq, Hash)]
 pub struct Place {
     pub state: u8,
     pub mask: u8,

@@ -40,7 +40,7 @@ fn places_of(alloc: Global, iface: &Interface, made: u8) -> Result<Found, NoMemo
     requires few { HasFewFields iface.now }
     ensures { IfOk result (λ found. (p : OnePlace) → Contains found p ↔ IsPlace iface.now made p) }
 {
-    let mut found = Found::new(alloc)?;
+    let mut found = Found::new(alloc);
     add_begins(iface, made, &mut found)?;
     close(iface, &mut found)?;
     Ok(found)

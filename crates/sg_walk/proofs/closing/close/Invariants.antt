@@ -1,5 +1,5 @@
 -- All that the first places lead to was found.
-use Rattle.std.proofs.Common.{◌≡◌, ◌-◌, ◌<◌, ◌≤◌, ℕ, Some, length}
+use Rattle.std.proofs.Common.{◌≡◌, ◌-◌, ◌^◌, ◌<◌, ◌≤◌, ℕ, Some, length}
 use Rattle.std.specs.Prelude.{slice_get}
 use Rattle.std.specs.List.{Contains}
 use Rattle.sg_walk.specs.declared.place.Place.{Place}
@@ -15,4 +15,4 @@ invariant-places l = record {
 }
 
 abbrev pub decreases-places : goal.decreases-places
-decreases-places l = 65536 - l.next
+decreases-places l = 2 ^ 63 - l.next

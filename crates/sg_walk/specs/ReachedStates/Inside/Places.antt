@@ -1,6 +1,6 @@
 -- What descriptors can come to, by a state and the number of the set of fields.
-use Rattle.std.specs.Prelude.{ℕ, suc, ◌≡◌, ◌+◌, ◌*◌, ◌^◌, ◌<◌, ◌⊎◌, ◌↔◌, Bool, true, false, List, [], ◌∷◌, ◌++◌, length}
-use Rattle.std.specs.List.{Contains, slice_index_or}
+use Rattle.std.specs.Prelude.{ℕ, ◌≡◌, ◌^◌, ◌<◌, ◌⊎◌, true, false, List, [], ◌∷◌, ◌++◌, length}
+use Rattle.std.specs.List.{Contains}
 use Rattle.sg_facts.specs.declared.shape.Effect.{Effect}
 use Rattle.sg_facts.specs.Facts.{fun_at, state_after}
 use Rattle.sg_facts.specs.Interface.{Declared, declares, moves_on}
@@ -26,24 +26,6 @@ pub record LeadsBy (i : Declared) (fun : ℕ) (p q : Place) : Type 0 where
   pub moves : moves_on i p.state fun ≡ true
   pub goes_on : (fun_at i.facts.funs fun).terminal ≡ false
   pub led : IsLed (fun_at i.facts.funs fun).effects (length i.facts.fields) p.mask (state_after i.facts fun p.state) q
-
--- the cell of a place in the table of marks
-abbrev pub cell_of : Place → ℕ
-cell_of p = p.state * 256 + p.mask
-
--- how many cells aren't marked
-abbrev pub unmarked : List Bool → ℕ
-unmarked [] = 0
-unmarked (true ∷ marks) = unmarked marks
-unmarked (false ∷ marks) = suc (unmarked marks)
-
--- the places that were found, each once, are those that are marked
-pub record AreMarked (marks : List Bool) (places : List Place) : Type 0 where
-  pub cells : length marks ≡ 65536
-  pub told : (p : Place) → p.state < 256 → p.mask < 256 → (slice_index_or marks (cell_of p) false ≡ true) ↔ Contains places p
-  pub small : (p : Place) → Contains places p → (p.state < 256) × (p.mask < 256)
-  pub count : unmarked marks + length places ≡ 65536
-  pub once : AreDistinct places
 
 -- a place was found already, or is found now and goes last
 abbrev pub AddsOnce : List Place → List Place → Place → Type 0
