@@ -1,6 +1,6 @@
 // Which texts are sentences of the interface language, and where the others fail.
 use crate::sentences::Answer::{Lex, NoMemory, Syntax, Tree};
-use crate::{EVENT, LOCK, MM, RAMFS, SCHED};
+use crate::{EVENT, EVENT2, LOCK, MM, RAMFS, SCHED};
 use sg_print::{ParseError, parse};
 use std::alloc::Global;
 use std::process::Abort;
@@ -27,7 +27,7 @@ fn answer_on(alloc: Global, text: &[u8]) -> Answer {
 // What stands after a front, and how the whole is answered; places count from the end of the front.
 type Case = (&'static [u8], Answer);
 
-static ALONE: [Case; 12] = [
+static ALONE: [Case; 24] = [
     (b"", Syntax(0)),
     (b"service_global_info = {", Syntax(23)),
     (b"service_global_info = #", Lex(22)),
@@ -46,6 +46,25 @@ static ALONE: [Case; 12] = [
     ),
     (b"service_global_info={service=17", Syntax(29)),
     (b"service_global_info={service=x /* never", Lex(31)),
+    // the version
+    (b"service_global_info={version=3,", Syntax(29)),
+    (b"service_global_info={version=1,", Syntax(29)),
+    (b"service_global_info={version=20,", Syntax(29)),
+    (b"service_global_info={version=02", Syntax(31)),
+    (b"service_global_info={version=two", Syntax(29)),
+    (b"service_global_info={version=002,service=version", Syntax(48)),
+    (b"service_global_info={version=2,version=2", Syntax(31)),
+    (b"service_global_info={service=x,version=2", Syntax(31)),
+    (b"service_global_info={version=2;", Syntax(30)),
+    (
+        b"service_global_info={version=2,service=desc_data_retval_sub",
+        Syntax(39),
+    ),
+    (
+        b"service_global_info={service=desc_data_retval_sub,",
+        Syntax(50),
+    ),
+    (b"service_global_info={version=2,service=17", Syntax(39)),
 ];
 
 // The number of bytes of the facts of locks, which stand before the first statement.
@@ -101,6 +120,33 @@ static BEHIND_FACTS: [Case; 38] = [
     (b"desc_data f(a b);", Syntax(0)),
 ];
 
+// The number of bytes of the facts of events in version 2, and of these up to how descriptors are rebuilt.
+const HEAD_2: usize = 246;
+const HEAD_2_UP_TO_RECOVERY: usize = 209;
+
+static BEHIND_FACTS_2: [Case; 9] = [
+    (b"", Tree),
+    (b"desc_data_retval_sub(long, x) f(a b);", Tree),
+    (b"desc_data_retval_sub(char **, x) f(a b);", Tree),
+    (b"desc_data_retval(long, x) f(a b);", Tree),
+    (b"desc_data_retval_sub f(a b);", Syntax(21)),
+    (b"sm_block(desc_data_retval_sub);", Syntax(9)),
+    (b"int f(a desc_data_retval_sub);", Syntax(8)),
+    (b"int f(desc_data_retval_sub b);", Syntax(6)),
+    (b"eager demand(version desc_recover);", Tree),
+];
+
+static BEHIND_FACTS_OF_BOTH: [Case; 8] = [
+    (b"", Syntax(0)),
+    (b"};", Syntax(0)),
+    (b", desc_recover = eager };", Tree),
+    (b",desc_recover=demand};", Tree),
+    (b", desc_recover = lazy };", Syntax(17)),
+    (b", desc_recover = desc };", Syntax(17)),
+    (b", desc_recover = eager, };", Syntax(22)),
+    (b", };", Syntax(2)),
+];
+
 // Asserts that each case is answered so after the front.
 fn try_each(rt: &impl Abort, alloc: Global, front: &[u8], cases: &[Case]) -> Result<(), Fail> {
     for (tail, want) in cases {
@@ -120,7 +166,11 @@ fn try_each(rt: &impl Abort, alloc: Global, front: &[u8], cases: &[Case]) -> Res
 fn fails_at_the_first_token_that_cannot_go_on(rt: HostRuntime) -> Result<(), Fail> {
     try_each(&rt, rt.alloc(), b"", &ALONE)?;
     let facts = LOCK.get(..HEAD).ok_or("no facts")?;
-    try_each(&rt, rt.alloc(), facts, &BEHIND_FACTS)
+    try_each(&rt, rt.alloc(), facts, &BEHIND_FACTS)?;
+    let facts = EVENT2.get(..HEAD_2).ok_or("no facts")?;
+    try_each(&rt, rt.alloc(), facts, &BEHIND_FACTS_2)?;
+    let facts = EVENT2.get(..HEAD_2_UP_TO_RECOVERY).ok_or("no facts")?;
+    try_each(&rt, rt.alloc(), facts, &BEHIND_FACTS_OF_BOTH)
 }
 
 // A front of a standard interface is a sentence just where it ends with a statement, or with the line of one.
@@ -130,7 +180,7 @@ fn ends_a_statement(front: &[u8]) -> bool {
 
 #[test]
 fn fronts_are_sentences_where_a_statement_ends(rt: HostRuntime) -> Result<(), Fail> {
-    for text in [LOCK, EVENT, MM, RAMFS, SCHED] {
+    for text in [LOCK, EVENT, EVENT2, MM, RAMFS, SCHED] {
         for at in 0..text.len() + 1 {
             let front = text.get(..at).ok_or("no front")?;
             match answer_on(rt.alloc(), front) {

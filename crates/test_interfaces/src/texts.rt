@@ -1,4 +1,25 @@
 // The interfaces of the standard services.
+use std::alloc::{AllocError, Global};
+
+/// A standard interface as a text of version 2, in canonical form, under which descriptors are rebuilt as this word says: `demand`
+/// or `eager`.
+pub fn in_version_2(alloc: Global, text: &[u8], recover: &str) -> Result<Vec<u8>, AllocError> {
+    let mut newer = Vec::new(alloc);
+    for line in text.split(|byte| *byte == b'\n') {
+        newer.extend_from_slice(line)?;
+        if line == b"service_global_info = {".as_slice() {
+            newer.extend_from_slice(b"\n    version = 2,")?;
+        }
+        if line.starts_with(b"    resc_has_data") {
+            newer.extend_from_slice(b",\n    desc_recover = ")?;
+            newer.extend_from_slice(recover.as_bytes())?;
+        }
+        newer.push(b'\n')?;
+    }
+    // what stands after the last line end is no line
+    newer.pop();
+    Ok(newer)
+}
 
 pub static LOCK: &[u8] = b"service_global_info = {\n\
 \x20   service = lock,\n\
@@ -139,3 +160,34 @@ int sched_wait(spdid_t spdid, unsigned long desc(tid));\n\
 int sched_next(spdid_t spdid);\n\
 int sched_place(spdid_t spdid, unsigned long desc(tid), unsigned long desc_data(rank));\n\
 int sched_exit(spdid_t spdid, unsigned long desc(tid));\n";
+
+/// Events with `evt_take`, which only a text of version 2 can declare.
+pub static EVENT2: &[u8] = b"service_global_info = {\n\
+\x20   version = 2,\n\
+\x20   service = event,\n\
+\x20   desc_has_parent = none,\n\
+\x20   desc_close = refuse,\n\
+\x20   desc_is_global = true,\n\
+\x20   desc_block = true,\n\
+\x20   desc_has_data = true,\n\
+\x20   resc_has_data = false,\n\
+\x20   desc_recover = demand\n\
+};\n\
+sm_creation(evt_split);\n\
+sm_terminal(evt_free);\n\
+sm_block(evt_wait);\n\
+sm_wakeup(evt_trigger);\n\
+sm_keep(evt_wait);\n\
+sm_keep(evt_trigger);\n\
+sm_transition(evt_split, evt_wait);\n\
+sm_transition(evt_split, evt_trigger);\n\
+sm_transition(evt_split, evt_free);\n\
+sm_recover(evt_split, evt_trigger);\n\
+unsigned long evt_split(spdid_t spdid);\n\
+int evt_wait(spdid_t spdid, unsigned long desc(id));\n\
+desc_data_sub(evt_wait, count);\n\
+int evt_trigger(spdid_t spdid, unsigned long desc(id), unsigned long desc_data_add(count));\n\
+int evt_free(spdid_t spdid, unsigned long desc(id));\n\
+sm_keep(evt_take);\n\
+sm_transition(evt_split, evt_take);\n\
+desc_data_retval_sub(long, count) evt_take(spdid_t spdid, unsigned long desc(id), unsigned long n);\n";

@@ -1,5 +1,5 @@
 // What the tree of a text keeps, and texts that are printed as they stand.
-use crate::{EVENT, LOCK, MM, RAMFS, SCHED};
+use crate::{EVENT, EVENT2, LOCK, MM, RAMFS, SCHED, in_version_2};
 use sg_print::{Ret, Statement, parse, print};
 use std::test::Fail;
 
@@ -26,6 +26,7 @@ fn canonical_texts_come_back(rt: HostRuntime) -> Result<(), Fail> {
         (EACH_KIND, 6),
         (LOCK, 16),
         (EVENT, 15),
+        (EVENT2, 18),
         (MM, 13),
         (RAMFS, 17),
         (SCHED, 29),
@@ -37,6 +38,18 @@ fn canonical_texts_come_back(rt: HostRuntime) -> Result<(), Fail> {
         );
         let printed = print(rt.alloc(), &tree)?;
         assert!(rt; printed.as_slice() == text, "a text of {count} statements");
+    }
+    Ok(())
+}
+
+#[test]
+fn a_text_of_version_2_keeps_its_word(rt: HostRuntime) -> Result<(), Fail> {
+    for (word, eager) in [("demand", false), ("eager", true)] {
+        let text = in_version_2(rt.alloc(), LOCK, word)?;
+        let tree = parse(rt.alloc(), &text)?;
+        assert!(rt; tree.facts.version == 2 && tree.facts.eager == eager, "{word}");
+        let printed = print(rt.alloc(), &tree)?;
+        assert!(rt; printed.as_slice() == text.as_slice(), "{word}");
     }
     Ok(())
 }

@@ -6,6 +6,7 @@
 //! - `calls`: other words, a run as it is given, and the numbers of statuses
 //! - `inputs`: where inputs are divided, and in which order they are refused
 //! - `reports`: printed runs
+//! - `versions`: texts of both versions, what they are upgraded to, and plays under them
 #![tactic(auto)]
 
 #[cfg(test)]
@@ -18,6 +19,8 @@ mod inputs;
 mod limits;
 #[cfg(test)]
 mod reports;
+#[cfg(test)]
+mod versions;
 
 use sg_edge::{OpenGate, StdSink, StdSource};
 use sg_top::{Status, superglue};

@@ -63,6 +63,8 @@ fn files(alloc: Global) -> Interface {
             steps: &[],
         },
         declared: 31,
+        version: 1,
+        eager: false,
         moves: PairList::new(alloc),
         steps: PairList::new(alloc),
     }

@@ -4,12 +4,15 @@
 //! - `again`: whether the entries of a history come again
 //!
 //! The tests:
+//! - `eager`: plays under interfaces that rebuild all descriptors first, with one stop at each point and with each two
 //! - `replays`: plays with one stop at each point, of locks, pages, files and threads
 //! - `shared`: plays with a thread for each client, of all services
 #![tactic(auto)]
 
 #[cfg(test)]
 mod again;
+#[cfg(test)]
+mod eager;
 #[cfg(test)]
 mod replays;
 #[cfg(test)]

@@ -32,11 +32,20 @@ const FILES: &str =
 const THREADS: &str =
     "setup { sched_create_thd(3); } client 1 { sched_sleep(1); sched_wait(1); sched_yield(1); } client 2 { sched_wakeup(1); sched_next(); } schedule 1 1 1 2 2;";
 
-// The run of a script with a stop at a point.
-fn played(alloc: Global, interface: &[u8], script: &str, point: u32) -> Result<Played, Fail> {
+/// The run of a script with a stop at a point, and at a second one; at 0 none is.
+pub fn played(
+    alloc: Global,
+    interface: &[u8],
+    script: &str,
+    stops: (u32, u32),
+) -> Result<Played, Fail> {
     let mut words = Vec::new(alloc);
     words.push("sim".to_string(alloc)?)?;
-    let text = format!(in alloc; "%%\n{script} stop {point};\n")?;
+    let text = match stops {
+        (0, _) => format!(in alloc; "%%\n{script}\n")?,
+        (point, 0) => format!(in alloc; "%%\n{script} stop {point};\n")?,
+        (first, second) => format!(in alloc; "%%\n{script} stop {first} {second};\n")?,
+    };
     let mut input = Vec::from_slice(alloc, interface)?;
     input.extend_from_slice(text.as_bytes())?;
     let mut source = MemSource::new(alloc, &input, 4_096, &[])?;
@@ -49,7 +58,7 @@ fn played(alloc: Global, interface: &[u8], script: &str, point: u32) -> Result<P
 fn locks_come_again(rt: HostRuntime) -> Result<(), Fail> {
     let alloc = rt.alloc();
     for point in 1..=LAST {
-        let played = played(alloc, LOCK, LOCKS, point)?;
+        let played = played(alloc, LOCK, LOCKS, (point, 0))?;
         let again = come_again::<LockService>(alloc, lock_tables(alloc)?, CLIENTS, &played)?;
         assert!(rt; again, "stop {point}");
     }
@@ -60,7 +69,7 @@ fn locks_come_again(rt: HostRuntime) -> Result<(), Fail> {
 fn pages_come_again(rt: HostRuntime) -> Result<(), Fail> {
     let alloc = rt.alloc();
     for point in 1..=LAST {
-        let played = played(alloc, MM, PAGES, point)?;
+        let played = played(alloc, MM, PAGES, (point, 0))?;
         let again = come_again::<MmService>(alloc, mm_tables(alloc)?, CLIENTS, &played)?;
         assert!(rt; again, "stop {point}");
     }
@@ -71,7 +80,7 @@ fn pages_come_again(rt: HostRuntime) -> Result<(), Fail> {
 fn files_come_again(rt: HostRuntime) -> Result<(), Fail> {
     let alloc = rt.alloc();
     for point in 1..=LAST {
-        let played = played(alloc, RAMFS, FILES, point)?;
+        let played = played(alloc, RAMFS, FILES, (point, 0))?;
         let again = come_again::<RamfsService>(alloc, ramfs_tables(alloc)?, CLIENTS, &played)?;
         assert!(rt; again, "stop {point}");
     }
@@ -82,7 +91,7 @@ fn files_come_again(rt: HostRuntime) -> Result<(), Fail> {
 fn threads_come_again(rt: HostRuntime) -> Result<(), Fail> {
     let alloc = rt.alloc();
     for point in 1..=LAST {
-        let played = played(alloc, SCHED, THREADS, point)?;
+        let played = played(alloc, SCHED, THREADS, (point, 0))?;
         let again = come_again::<SchedService>(alloc, sched_tables(alloc)?, CLIENTS, &played)?;
         assert!(rt; again, "stop {point}");
     }

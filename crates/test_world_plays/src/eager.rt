@@ -1,0 +1,114 @@
+// Plays under interfaces that rebuild all descriptors before any call is served, with one stop at each point and with each two: where
+// one client is alone the entries are those of the play without stops, and else they come again.
+use crate::again::come_again;
+use crate::replays::played;
+use std::alloc::{AllocError, Global};
+use std::test::Fail;
+use test_interfaces::{EVENT, LOCK, MM, RAMFS, SCHED, in_version_2};
+use test_tables::{MmService, RamfsService, SchedService, mm_tables, ramfs_tables, sched_tables};
+
+/// The number of clients of each play.
+const CLIENTS: u8 = 2;
+
+/// The last point of a stop alone.
+const LAST: u32 = 60;
+
+/// The last point of two stops.
+const LAST_OF_TWO: u32 = 40;
+
+// Scripts of client 1 alone, with their interfaces.
+static ALONE: [(&[u8], &str); 3] = [
+    (
+        LOCK,
+        "client 1 { lock_alloc(); lock_take($1); lock_release($1); lock_free($1); }",
+    ),
+    (
+        EVENT,
+        "client 1 { evt_split(); evt_trigger($1, 5); evt_wait($1); evt_wait($1); evt_wait($1); }",
+    ),
+    (
+        SCHED,
+        "client 1 { sched_create_thd(5); sched_create_thd(5); sched_create_thd(5); sched_exit($1); sched_yield($2); sched_next(); }",
+    ),
+];
+
+// Scripts of two clients.
+const ALIAS: &str =
+    "client 1 { mman_get_page(4096); } client 2 { mman_alias_page(1, 2, 8192); mman_release_page($1); } schedule 1 1 2 2;";
+const SUBTREE: &str =
+    "client 1 { mman_get_page(4096); mman_alias_page($1, 1, 8192); mman_alias_page($1, 1, 12288); mman_release_page($1); mman_release_page($2); mman_release_page($3); } client 2 { mman_find(1, 8192); } schedule 1 1 1 1 1 1 2 2 2 2 1 1;";
+const WRITTEN: &str =
+    "client 1 { tsplit(0, \"a\"); twrite($1, \"hello\"); tseek($1, 9); twrite($1, \"x\"); } client 2 { tsplit(0, \"a\"); tread($1, 16); } schedule 1 1 1 2 2 2 2 2 2;";
+const HELD: &str =
+    "client 1 { tsplit(0, \"a\"); tseek($1, 4); tread($1, 8); } client 2 { tread(1, 8); tsplit(0, \"b\"); } schedule 1 1 2 1 2 1;";
+const ASLEEP: &str =
+    "setup { sched_create_thd(3); } client 1 { sched_sleep(1); sched_wait(1); } client 2 { sched_wakeup(1); } schedule 1 1 1 2 2;";
+
+// One stop at each point, and each two.
+fn all_stops(alloc: Global) -> Result<Vec<(u32, u32)>, AllocError> {
+    let mut stops = Vec::new(alloc);
+    for point in 1..=LAST {
+        stops.push((point, 0))?;
+    }
+    for first in 1..LAST_OF_TWO {
+        for second in first + 1..=LAST_OF_TWO {
+            stops.push((first, second))?;
+        }
+    }
+    Ok(stops)
+}
+
+#[test]
+fn a_client_alone_gets_what_it_gets_without_stops(rt: HostRuntime) -> Result<(), Fail> {
+    let alloc = rt.alloc();
+    for (interface, script) in &ALONE {
+        let eager = in_version_2(alloc, interface, "eager")?;
+        let whole = played(alloc, &eager, script, (0, 0))?;
+        for stops in all_stops(alloc)? {
+            let played = played(alloc, &eager, script, stops)?;
+            let (one, other) = (played.ended(), whole.ended());
+            assert!(rt; one.history.as_slice() == other.history.as_slice(), "{script} {stops:?}");
+        }
+    }
+    Ok(())
+}
+
+#[test]
+fn pages_come_again(rt: HostRuntime) -> Result<(), Fail> {
+    let alloc = rt.alloc();
+    let eager = in_version_2(alloc, MM, "eager")?;
+    for script in [ALIAS, SUBTREE] {
+        for stops in all_stops(alloc)? {
+            let played = played(alloc, &eager, script, stops)?;
+            let again = come_again::<MmService>(alloc, mm_tables(alloc)?, CLIENTS, &played)?;
+            assert!(rt; again, "{script} {stops:?}");
+        }
+    }
+    Ok(())
+}
+
+#[test]
+fn files_come_again(rt: HostRuntime) -> Result<(), Fail> {
+    let alloc = rt.alloc();
+    let eager = in_version_2(alloc, RAMFS, "eager")?;
+    for script in [WRITTEN, HELD] {
+        for stops in all_stops(alloc)? {
+            let played = played(alloc, &eager, script, stops)?;
+            let again = come_again::<RamfsService>(alloc, ramfs_tables(alloc)?, CLIENTS, &played)?;
+            assert!(rt; again, "{script} {stops:?}");
+        }
+    }
+    Ok(())
+}
+
+#[test]
+fn threads_come_again(rt: HostRuntime) -> Result<(), Fail> {
+    let alloc = rt.alloc();
+    let eager = in_version_2(alloc, SCHED, "eager")?;
+    for stops in all_stops(alloc)? {
+        let played = played(alloc, &eager, ASLEEP, stops)?;
+        let again = come_again::<SchedService>(alloc, sched_tables(alloc)?, CLIENTS, &played)?;
+        assert!(rt; again, "{stops:?}");
+    }
+    Ok(())
+}
