@@ -7,13 +7,13 @@ use Rattle.sg_lex.specs.Lexeme.{Lexeme}
 use Rattle.sg_lex.specs.Tokens.{Answer}
 use Rattle.sg_parse.specs.declared.error.ParseError.{ParseError}
 use Rattle.sg_parse.specs.declared.error.ParseError.TheVariants.{Lex, Syntax}
-use Rattle.sg_parse.specs.Grammar.Inside.States.{State, dead, due, want, names, stars, either, listed, statements, param, declared, type_of, with_statement, statement_behind, one_rest, two_rest, plain_rest, returned_rest, has_sort, fits, named_by, step, tree_at, trees}
+use Rattle.sg_parse.specs.Grammar.Inside.States.{State, dead, due, fork, want, names, stars, either, listed, statements, param, declared, type_of, with_statement, statement_behind, one_rest, two_rest, plain_rest, returned_rest, has_sort, fits, named_by, step, tree_at, trees}
 use Rattle.sg_lex.specs.Inside.Automata.{Reading, read, read_on}
 use Rattle.sg_parse.proofs.Grammar.Basics.{if_then, if_else}
 use Rattle.sg_lex.proofs.Automata.{read_failed, read_next, read_end, alike}
 use Rattle.std.proofs.Math.Dec.{eqb-suc-zero}
 use Rattle.sg_parse.specs.declared.tree.Facts.{Facts}
-use Rattle.sg_parse.specs.declared.tree.Ret.TheVariants.{Set, Add}
+use Rattle.sg_parse.specs.declared.tree.Ret.TheVariants.{Set, Add, Sub}
 use Rattle.sg_parse.specs.declared.tree.Statement.{Statement}
 use Rattle.sg_parse.specs.declared.tree.TypeName.{TypeName}
 use Rattle.sg_parse.specs.declared.tree.Param.{Param}
@@ -22,7 +22,7 @@ use Rattle.sg_parse.specs.declared.words.Sort.TheVariants.{Name, Form, One as on
 use Rattle.sg_parse.specs.Grammar.Sentence.{star, comma, close_bracket}
 use Rattle.sg_parse.specs.Grammar.Named.{Named}
 use Rattle.sg_parse.specs.Grammar.Words.{is_of}
-use Rattle.sg_parse.specs.Grammar.Pieces.{Piece, word}
+use Rattle.sg_parse.specs.Grammar.Pieces.{Piece, word, kept}
 use Rattle.sg_parse.specs.Inside.{named_token}
 use Rattle.sg_lex.specs.Inside.Ahead.{Off, Came}
 
@@ -59,6 +59,18 @@ due_came s p old new m g =
 pub due_missing : (s : State) (p : Piece) (old : Reading) → Off (fits p) old.rest → read trees (due p s) old ≡ read trees dead old
 unfolding step tree_at
 due_missing s p old o = alike trees (due p s) dead (fits p) old (λ token h. if_else (fits p token) (Some s) None h) refl o
+
+pub fork_came : (bytes : List ℕ) (s other : State) (old new : Reading) → Came (fits (word bytes)) old.rest new.rest → new.end ≡ old.end
+    → read trees (fork bytes s other) old ≡ read trees s new
+unfolding step
+fork_came bytes s other old new m g =
+    read_next trees (fork bytes s other) old new m.token m.all g
+    ∙ ap (λ v. read_on trees v m.token new) (if_then (fits (word bytes) m.token) (Some s) (step other m.token) m.is)
+
+pub fork_missing : (bytes : List ℕ) (s other : State) (old : Reading) → Off (fits (word bytes)) old.rest → read trees (fork bytes s other) old ≡ read trees other old
+unfolding step tree_at
+fork_missing bytes s other old o =
+    alike trees (fork bytes s other) other (fits (word bytes)) old (λ token h. if_else (fits (word bytes) token) (Some s) (step other token) h) refl o
 
 pub word_came : (sort : Sort) (k : Named → State) (n : Named) (old new : Reading) → old.rest ≡ Ok (named_token n) ∷ new.rest → is_of sort n.bytes ≡ true → new.end ≡ old.end
     → read trees (want sort k) old ≡ read trees (k n) new
@@ -191,20 +203,33 @@ is_add go token r a b c h =
     ∙ if_else (fits (word (codes "desc_data_retval")) token) _ _ c
     ∙ if_then (fits (word (codes "desc_data_retval_add")) token) _ _ h)
 
-pub is_plain : (go : Statement → State) (token : Lexeme) (r : Reading) → has_sort one_word token ≡ false → has_sort two_word token ≡ false
-    → fits (word (codes "desc_data_retval")) token ≡ false → fits (word (codes "desc_data_retval_add")) token ≡ false → has_sort Name token ≡ true
-    → read_on trees (statement_behind go token) token r ≡ read trees (plain_rest go (named_by token)) r
-is_plain go token r a b c d h =
+pub is_sub : (go : Statement → State) (token : Lexeme) (r : Reading) → has_sort one_word token ≡ false → has_sort two_word token ≡ false
+    → fits (word (codes "desc_data_retval")) token ≡ false → fits (word (codes "desc_data_retval_add")) token ≡ false → fits kept token ≡ true
+    → read_on trees (statement_behind go token) token r ≡ read trees (returned_rest go Sub) r
+is_sub go token r a b c d h =
     ap (λ v. read_on trees v token r) (if_else (has_sort one_word token) _ _ a ∙ if_else (has_sort two_word token) _ _ b
     ∙ if_else (fits (word (codes "desc_data_retval")) token) _ _ c
     ∙ if_else (fits (word (codes "desc_data_retval_add")) token) _ _ d
+    ∙ if_then (fits kept token) _ _ h)
+
+pub is_plain : (go : Statement → State) (token : Lexeme) (r : Reading) → has_sort one_word token ≡ false → has_sort two_word token ≡ false
+    → fits (word (codes "desc_data_retval")) token ≡ false → fits (word (codes "desc_data_retval_add")) token ≡ false → fits kept token ≡ false
+    → has_sort Name token ≡ true
+    → read_on trees (statement_behind go token) token r ≡ read trees (plain_rest go (named_by token)) r
+is_plain go token r a b c d e h =
+    ap (λ v. read_on trees v token r) (if_else (has_sort one_word token) _ _ a ∙ if_else (has_sort two_word token) _ _ b
+    ∙ if_else (fits (word (codes "desc_data_retval")) token) _ _ c
+    ∙ if_else (fits (word (codes "desc_data_retval_add")) token) _ _ d
+    ∙ if_else (fits kept token) _ _ e
     ∙ if_then (has_sort Name token) _ _ h)
 
 pub is_none : (go : Statement → State) (token : Lexeme) (r : Reading) → has_sort one_word token ≡ false → has_sort two_word token ≡ false
-    → fits (word (codes "desc_data_retval")) token ≡ false → fits (word (codes "desc_data_retval_add")) token ≡ false → has_sort Name token ≡ false
+    → fits (word (codes "desc_data_retval")) token ≡ false → fits (word (codes "desc_data_retval_add")) token ≡ false → fits kept token ≡ false
+    → has_sort Name token ≡ false
     → read_on trees (statement_behind go token) token r ≡ Err (Syntax token.at)
-is_none go token r a b c d h =
+is_none go token r a b c d e h =
     ap (λ v. read_on trees v token r) (if_else (has_sort one_word token) _ _ a ∙ if_else (has_sort two_word token) _ _ b
     ∙ if_else (fits (word (codes "desc_data_retval")) token) _ _ c
     ∙ if_else (fits (word (codes "desc_data_retval_add")) token) _ _ d
+    ∙ if_else (fits kept token) _ _ e
     ∙ if_else (has_sort Name token) (Some (plain_rest go (named_by token))) None h)

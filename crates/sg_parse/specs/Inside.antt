@@ -1,9 +1,11 @@
 -- What the parser's own clauses cite beside the automaton of trees.
-use Rattle.std.specs.Prelude.{None, Some}
+use Rattle.std.specs.Prelude.{Bool, true, false, List, map, None, Some, Ok, Err}
 use Rattle.std.specs.declared.option.Option.{Option}
 use Rattle.sg_lex.specs.declared.token.TokenKind.TheVariants.{Word}
 use Rattle.sg_lex.specs.Lexeme.{Lexeme}
+use Rattle.sg_lex.specs.Tokens.{Answer}
 use Rattle.sg_parse.specs.Grammar.Named.{Named}
+use Rattle.sg_parse.specs.Grammar.Pieces.{seen}
 use Rattle.sg_parse.specs.Grammar.Inside.States.{State}
 
 -- the word that is a name
@@ -14,3 +16,23 @@ named_token n = record { kind = Word; bytes = n.bytes; at = n.at }
 abbrev pub either_of : (Named → State) → State → Option Named → State
 either_of k s None = s
 either_of k s (Some form) = k form
+
+-- a token as a text of its version has it; the flag says that it's of version 2, and so below
+abbrev pub token_seen : Bool → Lexeme → Lexeme
+token_seen true token = seen token
+token_seen false token = token
+
+-- an answer of the lexer, as a text of version 2 has it
+abbrev pub seen_answer : Answer → Answer
+seen_answer (Ok token) = Ok (seen token)
+seen_answer (Err fault) = Err fault
+
+-- what the lexer answers, as a text of its version has it
+abbrev pub answers_seen : Bool → List Answer → List Answer
+answers_seen true answers = map seen_answer answers
+answers_seen false answers = answers
+
+-- the one state or the other
+abbrev pub one_of : State → State → Bool → State
+one_of s other true = s
+one_of s other false = other

@@ -1,32 +1,115 @@
 // The facts at the head of a text.
-ghost use Rattle.std.specs.Prelude.{[]};
+ghost use Rattle.std.specs.Prelude.{Bool, List, [], codes, true, false};
 ghost use Rattle.sg_parse.specs.Grammar.Named.{Named};
-ghost use Rattle.sg_parse.specs.Grammar.Pieces.{mark};
-ghost use Rattle.sg_parse.specs.Grammar.Inside.States.{State, fact, statements, start, trees};
+ghost use Rattle.sg_parse.specs.Grammar.Pieces.{mark, two, word};
+ghost use Rattle.sg_parse.specs.Grammar.Sentence.{comma, equals, open_brace, semicolon};
+ghost use Rattle.sg_parse.specs.Grammar.Inside.States.{State, due, fact, first_end, fork, head0, in_newer, second_end, start, statements, trees, want};
 ghost use Rattle.sg_lex.specs.Inside.Automata.{read, Leads};
+ghost use Rattle.sg_lex.specs.Marks.{close_brace_byte};
 
 use crate::error::ParseError;
-use crate::reader::{fixed, mark, word_of};
+use crate::reader::{fixed, forked, mark, two, word_of};
+use crate::tokens::Reader;
 use crate::tree::{Facts, Name};
 use crate::words::Sort;
-use sg_lex::Reader;
 
-/// The facts at the head of a text.
+/// The facts at the head of a text, of whichever version the text is.
 pub fn facts<'a>(reader: &mut Reader<'a>) -> Result<Facts<'a>, ParseError>
     ensures { Leads trees (read trees start reader.old) result (λ facts. statements facts []) reader.new }
 {
+    opening(reader)?;
+    if forked(reader, b"version")? {
+        second_facts(reader)
+    } else {
+        first_facts(reader)
+    }
+}
+
+// What a text begins with.
+fn opening(reader: &mut Reader<'_>) -> Result<(), ParseError>
+    ensures { (k : State) → Leads trees (read trees (due (word (codes "service_global_info")) (due equals (due open_brace k))) reader.old) result (λ _. k) reader.new }
+{
     fixed(reader, b"service_global_info")?;
     mark(reader, b'=')?;
-    mark(reader, b'{')?;
-    let service = fact(reader, b"service", Sort::Name, b',')?;
-    let parent = fact(reader, b"desc_has_parent", Sort::Parents, b',')?;
-    let close = fact(reader, b"desc_close", Sort::Closing, b',')?;
-    let global = fact(reader, b"desc_is_global", Sort::Flag, b',')?;
-    let block = fact(reader, b"desc_block", Sort::Flag, b',')?;
-    let has_data = fact(reader, b"desc_has_data", Sort::Flag, b',')?;
-    let resc_data = fact(reader, b"resc_has_data", Sort::Flag, b'}')?;
-    mark(reader, b';')?;
+    mark(reader, b'{')
+}
+
+// The facts of a text of version 1, and the end of its head.
+fn first_facts<'a>(reader: &mut Reader<'a>) -> Result<Facts<'a>, ParseError>
+    ensures { Leads trees (read trees (head0 first_end) reader.old) result (λ facts. statements facts []) reader.new }
+{
+    let shared = shared_facts(reader)?;
+    end(reader)?;
     Ok(Facts {
+        version: 1,
+        service: shared.service,
+        parent: shared.parent,
+        close: shared.close,
+        global: shared.global,
+        block: shared.block,
+        has_data: shared.has_data,
+        resc_data: shared.resc_data,
+        eager: false,
+    })
+}
+
+// The number of version 2 after its word, the facts of a text of that version, and the end of its head.
+fn second_facts<'a>(reader: &mut Reader<'a>) -> Result<Facts<'a>, ParseError>
+    ensures { Leads trees (read trees (due equals (due two (due comma (in_newer (head0 second_end))))) reader.old) result (λ facts. statements facts []) reader.new }
+{
+    version_2(reader)?;
+    let shared = shared_facts(reader)?;
+    let eager = recovery(reader)?;
+    end(reader)?;
+    Ok(Facts {
+        version: 2,
+        service: shared.service,
+        parent: shared.parent,
+        close: shared.close,
+        global: shared.global,
+        block: shared.block,
+        has_data: shared.has_data,
+        resc_data: shared.resc_data,
+        eager,
+    })
+}
+
+// The number of version 2 after its word. What comes then is read as a text of that version has it.
+fn version_2(reader: &mut Reader<'_>) -> Result<(), ParseError>
+    ensures { (s : State) → Leads trees (read trees (due equals (due two (due comma (in_newer s)))) reader.old) result (λ _. s) reader.new }
+{
+    mark(reader, b'=')?;
+    two(reader)?;
+    mark(reader, b',')?;
+    reader.go_on_as_version_2();
+    Ok(())
+}
+
+// The facts that texts of both versions have, as in `Facts`.
+#[derive(Drop)]
+struct SharedFacts<'a> {
+    service: Name<'a>,
+    parent: Name<'a>,
+    close: Name<'a>,
+    global: Name<'a>,
+    block: Name<'a>,
+    has_data: Name<'a>,
+    resc_data: Name<'a>,
+}
+
+// The facts that texts of both versions have.
+fn shared_facts<'a>(reader: &mut Reader<'a>) -> Result<SharedFacts<'a>, ParseError>
+    ensures { (end : (a b c d e f g : Named) → State) → Leads trees (read trees (head0 end) reader.old) result
+        (λ s. end s.service s.parent s.close s.global s.block s.has_data s.resc_data) reader.new }
+{
+    let service = fact(reader, b"service", Sort::Name)?;
+    let parent = fact(reader, b"desc_has_parent", Sort::Parents)?;
+    let close = fact(reader, b"desc_close", Sort::Closing)?;
+    let global = fact(reader, b"desc_is_global", Sort::Flag)?;
+    let block = fact(reader, b"desc_block", Sort::Flag)?;
+    let has_data = fact(reader, b"desc_has_data", Sort::Flag)?;
+    let resc_data = value(reader, b"resc_has_data", Sort::Flag)?;
+    Ok(SharedFacts {
         service,
         parent,
         close,
@@ -37,18 +120,44 @@ pub fn facts<'a>(reader: &mut Reader<'a>) -> Result<Facts<'a>, ParseError>
     })
 }
 
-/// A fact: its word, its value of this sort, and the mark after it.
-fn fact<'a>(
-    reader: &mut Reader<'a>,
-    what: &[u8],
-    sort: Sort,
-    end: u8,
-) -> Result<Name<'a>, ParseError>
-    ensures { (go : Named → State) → Leads trees (read trees (fact what.now sort (mark end) go) reader.old) result go reader.new }
+// A fact with the comma after it.
+fn fact<'a>(reader: &mut Reader<'a>, what: &[u8], sort: Sort) -> Result<Name<'a>, ParseError>
+    ensures { (go : Named → State) → Leads trees (read trees (fact what.now sort comma go) reader.old) result go reader.new }
+{
+    let value = value(reader, what, sort)?;
+    mark(reader, b',')?;
+    Ok(value)
+}
+
+// A fact: its word, and its value of this sort.
+fn value<'a>(reader: &mut Reader<'a>, what: &[u8], sort: Sort) -> Result<Name<'a>, ParseError>
+    ensures { (go : Named → State) → Leads trees (read trees (due (word what.now) (due equals (want sort go))) reader.old) result go reader.new }
 {
     fixed(reader, what)?;
     mark(reader, b'=')?;
-    let value = word_of(reader, sort)?;
-    mark(reader, end)?;
-    Ok(value)
+    word_of(reader, sort)
+}
+
+// The last fact of a text of version 2: whether every live descriptor is rebuilt before any call is served.
+fn recovery(reader: &mut Reader<'_>) -> Result<bool, ParseError>
+    ensures { (s : Bool → State) → Leads trees
+        (read trees (due comma (due (word (codes "desc_recover")) (due equals (fork (codes "eager") (s true) (due (word (codes "demand")) (s false)))))) reader.old)
+        result s reader.new }
+{
+    mark(reader, b',')?;
+    fixed(reader, b"desc_recover")?;
+    mark(reader, b'=')?;
+    if forked(reader, b"eager")? {
+        return Ok(true);
+    }
+    fixed(reader, b"demand")?;
+    Ok(false)
+}
+
+// The end of the head.
+fn end(reader: &mut Reader<'_>) -> Result<(), ParseError>
+    ensures { (k : State) → Leads trees (read trees (due (mark close_brace_byte) (due semicolon k)) reader.old) result (λ _. k) reader.new }
+{
+    mark(reader, b'}')?;
+    mark(reader, b';')
 }

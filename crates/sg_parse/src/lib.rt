@@ -5,6 +5,7 @@
 //! - `words`: the words that the grammar keeps for itself
 //! - `error`: why a text has no tree (`ParseError`)
 //! - `laws`: a sentence has one tree, and a text one answer
+//! - `tokens`: the tokens of a text, as a text of its version has them
 //! - `reader`: tokens taken from a text, and the error where another comes than may
 //! - `head`, `types`, `params`, `statements`: the parts of the grammar, as they are read
 //! - `parser`: the whole (`parse`)
@@ -17,6 +18,7 @@ mod params;
 mod parser;
 mod reader;
 mod statements;
+mod tokens;
 mod tree;
 mod types;
 mod words;

@@ -10,10 +10,10 @@ ghost use Rattle.sg_parse.specs.Inside.{either_of};
 
 use crate::error::ParseError;
 use crate::reader::{mark, take_mark, take_word, word_of};
+use crate::tokens::Reader;
 use crate::tree::{Name, Param, ParamList};
 use crate::types::{SpelledType, declared, spelling};
 use crate::words::Sort;
-use sg_lex::Reader;
 use std::alloc::Global;
 
 /// The parameters after the bracket that opens them, at least one, and the bracket that closes them.

@@ -11,8 +11,8 @@ ghost use Rattle.sg_lex.specs.Inside.Automata.{read, Answers};
 use crate::error::ParseError;
 use crate::head::facts;
 use crate::statements::statements;
+use crate::tokens::Reader;
 use crate::tree::Tree;
-use sg_lex::Reader;
 use std::alloc::Global;
 
 /// The tree of a text. Its names are lent from the text.

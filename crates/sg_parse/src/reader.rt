@@ -2,16 +2,17 @@
 ghost use Rattle.std.specs.Prelude.{◌≡◌, ◌≤◌, [], ◌∷◌, length, true, IfOk, IfErr, OnOk, MatchOption, MatchBool, Ok as answered};
 ghost use Rattle.sg_parse.specs.Grammar.Words.{is_of};
 ghost use Rattle.sg_parse.specs.Grammar.Named.{Named};
-ghost use Rattle.sg_parse.specs.Grammar.Inside.States.{State, dead, due, want, has_sort, fits, named_by, trees};
-ghost use Rattle.sg_parse.specs.Grammar.Pieces.{mark, word};
+ghost use Rattle.sg_parse.specs.Grammar.Inside.States.{State, dead, due, fork, want, has_sort, fits, named_by, trees};
+ghost use Rattle.sg_parse.specs.Grammar.Pieces.{mark, word, two, kept, are_two};
 ghost use Rattle.sg_lex.specs.Inside.Automata.{read, Leads};
 ghost use Rattle.sg_lex.specs.Inside.Ahead.{Off, Came};
-ghost use Rattle.sg_parse.specs.Inside.{named_token};
+ghost use Rattle.sg_parse.specs.Inside.{named_token, one_of};
 
 use crate::error::ParseError;
+use crate::tokens::{Reader, is_kept_word};
 use crate::tree::Name;
 use crate::words::Sort;
-use sg_lex::{IsWord, LexFault, Reader, Token, TokenKind, TokenTest};
+use sg_lex::{IsMark, IsWord, LexFault, Token, TokenKind, TokenTest};
 
 /// Takes the next token; None at the end of the text. A byte that begins none is a `Lex` error.
 pub fn next_token<'a>(reader: &mut Reader<'a>) -> Result<Option<Token<'a>>, ParseError>
@@ -43,7 +44,10 @@ pub fn take_mark(reader: &mut Reader<'_>, byte: u8) -> Result<bool, ParseError>
     ensures fault { IfErr result (λ error. (s : State) → read trees s reader.old ≡ Err error) }
     ensures end { reader.new.end ≡ reader.old.end }
 {
-    reader.take_mark(byte).map_err(fault_error)
+    match reader.take(IsMark(byte)) {
+        Ok(taken) => Ok(taken.is_some()),
+        Err(fault) => Err(fault_error(fault)),
+    }
 }
 
 /// Takes this mark.
@@ -66,6 +70,28 @@ pub fn fixed(reader: &mut Reader<'_>, bytes: &[u8]) -> Result<(), ParseError>
     ensures fewer { OnOk result (length reader.new.rest ≤ length reader.old.rest) }
 {
     if take_fixed(reader, bytes)? {
+        Ok(())
+    } else {
+        Err(unexpected(reader))
+    }
+}
+
+/// Takes the next token where it is this word, and says whether it was: the text goes on in the one way or the other.
+#[tactic(auto, using(crate::proofs::ByToken::fork_came, crate::proofs::ByToken::fork_missing))]
+pub fn forked(reader: &mut Reader<'_>, bytes: &[u8]) -> Result<bool, ParseError>
+    ensures leads { (s other : State) → Leads trees (read trees (fork bytes.now s other) reader.old) result (one_of s other) reader.new }
+    ensures fewer { OnOk result (length reader.new.rest ≤ length reader.old.rest) }
+{
+    take_fixed(reader, bytes)
+}
+
+/// Takes the number 2. Zeros may come first in it.
+#[tactic(auto, using(crate::proofs::ByToken::due_came, crate::proofs::ByToken::due_missing))]
+pub fn two(reader: &mut Reader<'_>) -> Result<(), ParseError>
+    ensures leads { (k : State) → Leads trees (read trees (due two k) reader.old) result (λ _. k) reader.new }
+    ensures fewer { OnOk result (length reader.new.rest ≤ length reader.old.rest) }
+{
+    if take_two(reader)? {
         Ok(())
     } else {
         Err(unexpected(reader))
@@ -109,6 +135,19 @@ fn take_fixed(reader: &mut Reader<'_>, bytes: &[u8]) -> Result<bool, ParseError>
     }
 }
 
+// Takes the next token where it is the number 2, and says whether it was; else nothing is taken.
+fn take_two(reader: &mut Reader<'_>) -> Result<bool, ParseError>
+    ensures number { IfOk result (λ taken. MatchBool taken (Came (fits two) reader.old.rest reader.new.rest)
+        ((reader.new ≡ reader.old) × Off (fits two) reader.old.rest)) }
+    ensures fault { IfErr result (λ error. (s : State) → read trees s reader.old ≡ Err error) }
+    ensures end { reader.new.end ≡ reader.old.end }
+{
+    match reader.take(IsTwo) {
+        Ok(taken) => Ok(taken.is_some()),
+        Err(fault) => Err(fault_error(fault)),
+    }
+}
+
 // The error at a byte that begins no token.
 fn fault_error(fault: LexFault) -> ParseError
     ensures { result ≡ ParseError.Lex fault.at }
@@ -131,6 +170,36 @@ pub fn has_sort(token: &Token<'_>, sort: Sort) -> bool
     ensures { result ≡ has_sort sort token.now }
 {
     token.has_kind(TokenKind::Word) && sort.has(token.slice)
+}
+
+/// Whether a token is the word that version 2 keeps for itself, in a text of that version.
+pub fn is_kept(token: &Token<'_>) -> bool
+    ensures { result ≡ fits kept token.now }
+{
+    token.has_kind(TokenKind::Mark) && is_kept_word(token.slice)
+}
+
+// Whether digits are those of 2; zeros may come first.
+fn are_two(digits: &[u8]) -> bool
+    ensures { result ≡ are_two digits.now }
+{
+    let mut left = digits;
+    'zeros: while let [b'0', more @ ..] = left {
+        left = more;
+    }
+    left == b"2".as_slice()
+}
+
+// A token is the number 2.
+#[derive(Drop)]
+struct IsTwo;
+
+impl TokenTest for IsTwo {
+    ghost holds_of = { λ _. fits two };
+
+    fn holds(&self, token: &Token<'_>) -> bool {
+        token.has_kind(TokenKind::Number) && are_two(token.slice)
+    }
 }
 
 // A token is a word of this sort.

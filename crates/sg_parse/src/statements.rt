@@ -10,11 +10,12 @@ ghost use Rattle.sg_lex.specs.Inside.Automata.{read, Leads, Answers, read_on};
 
 use crate::error::ParseError;
 use crate::params::params;
-use crate::reader::{has_sort, mark, name_of, next_token, word_of};
+use crate::reader::{has_sort, is_kept, mark, name_of, next_token, word_of};
+use crate::tokens::Reader;
 use crate::tree::{Facts, Name, Ret, Statement, StatementList, Tree, TypeName};
 use crate::types::{declared, spelling};
 use crate::words::Sort;
-use sg_lex::{Reader, Token};
+use sg_lex::Token;
 use std::alloc::Global;
 
 /// The statements after the facts, up to the end of the text.
@@ -34,7 +35,7 @@ pub fn statements<'a>(
 }
 
 /// A statement whose first token was taken.
-#[tactic(auto, using(crate::proofs::ByToken::is_one, crate::proofs::ByToken::is_two, crate::proofs::ByToken::is_set, crate::proofs::ByToken::is_add, crate::proofs::ByToken::is_plain, crate::proofs::ByToken::is_none))]
+#[tactic(auto, using(crate::proofs::ByToken::is_one, crate::proofs::ByToken::is_two, crate::proofs::ByToken::is_set, crate::proofs::ByToken::is_add, crate::proofs::ByToken::is_sub, crate::proofs::ByToken::is_plain, crate::proofs::ByToken::is_none))]
 fn statement<'a>(
     reader: &mut Reader<'a>,
     alloc: Global,
@@ -55,6 +56,9 @@ fn statement<'a>(
     }
     if token.is_word(b"desc_data_retval_add") {
         return add(reader, alloc);
+    }
+    if is_kept(&token) {
+        return sub(reader, alloc);
     }
     if has_sort(&token, Sort::Name) {
         return plain(reader, alloc, name_of(token));
@@ -126,7 +130,17 @@ fn add<'a>(reader: &mut Reader<'a>, alloc: Global) -> Result<Statement<'a>, Pars
     proto(reader, alloc, Ret::Add { ty, field }, name)
 }
 
-/// The type and the field, in brackets, of a return that sets a field or adds to it.
+/// A prototype whose returned word is subtracted from a field, after the word that says so.
+fn sub<'a>(reader: &mut Reader<'a>, alloc: Global) -> Result<Statement<'a>, ParseError>
+    ensures leads { (go : Stated → State) → Leads trees (read trees (returned_rest go Ret.Sub) reader.old) result go reader.new }
+    ensures fewer { OnOk result (length reader.new.rest ≤ length reader.old.rest) }
+{
+    let (ty, field) = returned(reader, alloc)?;
+    let name = word_of(reader, Sort::Name)?;
+    proto(reader, alloc, Ret::Sub { ty, field }, name)
+}
+
+/// The type and the field, in brackets, of a return that sets a field, adds to it or subtracts from it.
 fn returned<'a>(
     reader: &mut Reader<'a>,
     alloc: Global,

@@ -7,10 +7,10 @@ ghost use Rattle.sg_lex.specs.Inside.Automata.{read, Leads};
 
 use crate::error::ParseError;
 use crate::reader::{take_mark, take_word, unexpected, word_of};
+use crate::tokens::Reader;
 use crate::tree::{Name, NameList, TypeName};
 use crate::words::Sort;
 use sg_base::NoMemory;
-use sg_lex::Reader;
 use std::alloc::Global;
 
 /// The names of a type, the last apart, and the number of its stars. Without stars the last name may be the one that is

@@ -15,6 +15,7 @@ use Rattle.sg_parse.specs.Grammar.Sentence.{IsSentence}
 use Rattle.sg_parse.specs.Grammar.Parses.{ParsesTo}
 use Rattle.sg_parse.specs.Grammar.Pieces.{seen}
 use Rattle.sg_parse.specs.Grammar.Inside.States.{State, in_newer, start, step, tree_at, trees}
+use Rattle.sg_parse.specs.Inside.{seen_answer}
 use Rattle.sg_parse.proofs.Grammar.Runs.{just}
 
 pub may_answer : (length : ℕ) (answers : List Answer) → ParsesTo answers length (read_from trees length start answers)
@@ -41,11 +42,6 @@ pub reads_no_memory : (length : ℕ) (s : State) (answers : List Answer) → rea
 reads_no_memory length s answers = reads_no_other trees length s answers NoMemory (λ at e. cc) (λ at e. cc)
 
 -- ---- texts of version 2
-
--- what a lexer answers, as a text of version 2 has it
-abbrev pub seen_answer : Answer → Answer
-seen_answer (Ok token) = Ok (seen token)
-seen_answer (Err fault) = Err fault
 
 -- to read on in a text of version 2 is to read on what it has
 pub read_newer : (length : ℕ) (s : State) (answers : List Answer) → read_from trees length (in_newer s) answers ≡ read_from trees length s (map seen_answer answers)

@@ -1,143 +1,41 @@
--- The facts come one after another.
-use Rattle.std.proofs.Common.{◌∙◌, []}
+-- What a text begins with, and then its facts by its version.
+use Rattle.std.proofs.Common.{◌∙◌, [], ap}
 use Rattle.std.specs.Prelude.{codes}
 use Rattle.std.proofs.lemmas.Result.{err_from_is_err_and}
-use Rattle.sg_parse.specs.declared.words.Sort.TheVariants.{Name}
-use Rattle.sg_parse.specs.Grammar.Sentence.{equals, open_brace, comma}
-use Rattle.sg_parse.specs.Grammar.Inside.States.{due, fact, statements, head1, head2, head3, head4, head5, head6, head7}
+use Rattle.sg_lex.specs.Inside.Automata.{read}
+use Rattle.sg_lex.proofs.Automata.{leads_along}
+use Rattle.sg_parse.specs.Grammar.Pieces.{two}
+use Rattle.sg_parse.specs.Grammar.Sentence.{comma, equals}
+use Rattle.sg_parse.specs.Grammar.Inside.States.{State, due, first_end, fork, head0, in_newer, second_end, statements, trees}
+use Rattle.sg_parse.specs.Inside.{one_of}
 use Rattle.sg_parse.proofs.head.facts.Goals as goal
 
-pub returns-in_err-fixed : goal.returns-in_err-fixed
-returns-in_err-fixed c =
-    let p = err_from_is_err_and c.from_residual.result c.from_residual.ensures.1 in
-    rw (p.1, p.2) (λ ne.
-    c.in_err-fixed.ensures.leads (due equals (due open_brace (fact (codes "service") Name comma head1))) ne)
+-- before the rest of the head of a text of version 2, and of version 1
+abbrev second : State
+second = due equals (due two (due comma (in_newer (head0 second_end))))
 
-pub returns-in_err-mark : goal.returns-in_err-mark
-returns-in_err-mark c =
-    let p = err_from_is_err_and c.from_residual-in_err-mark.result c.from_residual-in_err-mark.ensures.1 in
-    rw (p.1, p.2) (λ ne.
-    c.in_ok-fixed.ensures.leads (due equals (due open_brace (fact (codes "service") Name comma head1)))
-    ∙ c.in_err-mark.ensures.leads (due open_brace (fact (codes "service") Name comma head1)) ne)
+abbrev first : State
+first = head0 first_end
 
-pub returns-in_err-mark-2 : goal.returns-in_err-mark-2
-returns-in_err-mark-2 c =
-    let p = err_from_is_err_and c.from_residual-in_err-mark-2.result c.from_residual-in_err-mark-2.ensures.1 in
+pub returns-in_err-forked : goal.returns-in_err-forked
+returns-in_err-forked c =
+    let p = err_from_is_err_and c.from_residual-in_err-forked.result c.from_residual-in_err-forked.ensures.1 in
     rw (p.1, p.2) (λ ne.
-    c.in_ok-fixed.ensures.leads (due equals (due open_brace (fact (codes "service") Name comma head1)))
-    ∙ c.in_ok-mark.ensures.leads (due open_brace (fact (codes "service") Name comma head1))
-    ∙ c.in_err-mark-2.ensures.leads (fact (codes "service") Name comma head1) ne)
+    c.in_ok-opening.ensures (fork (codes "version") second first)
+    ∙ c.in_err-forked.ensures.leads second first ne)
 
-pub returns-in_err-service : goal.returns-in_err-service
-returns-in_err-service c =
-    let p = err_from_is_err_and c.from_residual-in_err-service.result c.from_residual-in_err-service.ensures.1 in
-    rw (p.1, p.2) (λ ne.
-    c.in_ok-fixed.ensures.leads (due equals (due open_brace (fact (codes "service") Name comma head1)))
-    ∙ c.in_ok-mark.ensures.leads (due open_brace (fact (codes "service") Name comma head1))
-    ∙ c.in_ok-mark-2.ensures.leads (fact (codes "service") Name comma head1)
-    ∙ c.in_err-service.ensures head1 ne)
+pub returns-then-branch : goal.returns-then-branch
+returns-then-branch c =
+    leads_along trees _ _ c.second_facts.result (λ facts. statements facts []) c.second_facts.new.reader
+    (c.in_ok-opening.ensures (fork (codes "version") second first)
+    ∙ c.in_ok-forked.ensures.leads second first
+    ∙ ap (λ b. read trees (one_of second first b) c.forked.new.reader) c.if-branch.true)
+    c.second_facts.ensures
 
-pub returns-in_err-parent : goal.returns-in_err-parent
-returns-in_err-parent c =
-    let p = err_from_is_err_and c.from_residual-in_err-parent.result c.from_residual-in_err-parent.ensures.1 in
-    rw (p.1, p.2) (λ ne.
-    c.in_ok-fixed.ensures.leads (due equals (due open_brace (fact (codes "service") Name comma head1)))
-    ∙ c.in_ok-mark.ensures.leads (due open_brace (fact (codes "service") Name comma head1))
-    ∙ c.in_ok-mark-2.ensures.leads (fact (codes "service") Name comma head1)
-    ∙ c.in_ok-service.ensures head1
-    ∙ c.in_err-parent.ensures (head2 c.in_ok-service.service) ne)
-
-pub returns-in_err-close : goal.returns-in_err-close
-returns-in_err-close c =
-    let p = err_from_is_err_and c.from_residual-in_err-close.result c.from_residual-in_err-close.ensures.1 in
-    rw (p.1, p.2) (λ ne.
-    c.in_ok-fixed.ensures.leads (due equals (due open_brace (fact (codes "service") Name comma head1)))
-    ∙ c.in_ok-mark.ensures.leads (due open_brace (fact (codes "service") Name comma head1))
-    ∙ c.in_ok-mark-2.ensures.leads (fact (codes "service") Name comma head1)
-    ∙ c.in_ok-service.ensures head1
-    ∙ c.in_ok-parent.ensures (head2 c.in_ok-service.service)
-    ∙ c.in_err-close.ensures (head3 c.in_ok-service.service c.in_ok-parent.parent) ne)
-
-pub returns-in_err-global : goal.returns-in_err-global
-returns-in_err-global c =
-    let p = err_from_is_err_and c.from_residual-in_err-global.result c.from_residual-in_err-global.ensures.1 in
-    rw (p.1, p.2) (λ ne.
-    c.in_ok-fixed.ensures.leads (due equals (due open_brace (fact (codes "service") Name comma head1)))
-    ∙ c.in_ok-mark.ensures.leads (due open_brace (fact (codes "service") Name comma head1))
-    ∙ c.in_ok-mark-2.ensures.leads (fact (codes "service") Name comma head1)
-    ∙ c.in_ok-service.ensures head1
-    ∙ c.in_ok-parent.ensures (head2 c.in_ok-service.service)
-    ∙ c.in_ok-close.ensures (head3 c.in_ok-service.service c.in_ok-parent.parent)
-    ∙ c.in_err-global.ensures (head4 c.in_ok-service.service c.in_ok-parent.parent c.in_ok-close.close) ne)
-
-pub returns-in_err-block : goal.returns-in_err-block
-returns-in_err-block c =
-    let p = err_from_is_err_and c.from_residual-in_err-block.result c.from_residual-in_err-block.ensures.1 in
-    rw (p.1, p.2) (λ ne.
-    c.in_ok-fixed.ensures.leads (due equals (due open_brace (fact (codes "service") Name comma head1)))
-    ∙ c.in_ok-mark.ensures.leads (due open_brace (fact (codes "service") Name comma head1))
-    ∙ c.in_ok-mark-2.ensures.leads (fact (codes "service") Name comma head1)
-    ∙ c.in_ok-service.ensures head1
-    ∙ c.in_ok-parent.ensures (head2 c.in_ok-service.service)
-    ∙ c.in_ok-close.ensures (head3 c.in_ok-service.service c.in_ok-parent.parent)
-    ∙ c.in_ok-global.ensures (head4 c.in_ok-service.service c.in_ok-parent.parent c.in_ok-close.close)
-    ∙ c.in_err-block.ensures (head5 c.in_ok-service.service c.in_ok-parent.parent c.in_ok-close.close c.in_ok-global.global) ne)
-
-pub returns-in_err-has_data : goal.returns-in_err-has_data
-returns-in_err-has_data c =
-    let p = err_from_is_err_and c.from_residual-in_err-has_data.result c.from_residual-in_err-has_data.ensures.1 in
-    rw (p.1, p.2) (λ ne.
-    c.in_ok-fixed.ensures.leads (due equals (due open_brace (fact (codes "service") Name comma head1)))
-    ∙ c.in_ok-mark.ensures.leads (due open_brace (fact (codes "service") Name comma head1))
-    ∙ c.in_ok-mark-2.ensures.leads (fact (codes "service") Name comma head1)
-    ∙ c.in_ok-service.ensures head1
-    ∙ c.in_ok-parent.ensures (head2 c.in_ok-service.service)
-    ∙ c.in_ok-close.ensures (head3 c.in_ok-service.service c.in_ok-parent.parent)
-    ∙ c.in_ok-global.ensures (head4 c.in_ok-service.service c.in_ok-parent.parent c.in_ok-close.close)
-    ∙ c.in_ok-block.ensures (head5 c.in_ok-service.service c.in_ok-parent.parent c.in_ok-close.close c.in_ok-global.global)
-    ∙ c.in_err-has_data.ensures (head6 c.in_ok-service.service c.in_ok-parent.parent c.in_ok-close.close c.in_ok-global.global c.in_ok-block.block) ne)
-
-pub returns-in_err-resc_data : goal.returns-in_err-resc_data
-returns-in_err-resc_data c =
-    let p = err_from_is_err_and c.from_residual-in_err-resc_data.result c.from_residual-in_err-resc_data.ensures.1 in
-    rw (p.1, p.2) (λ ne.
-    c.in_ok-fixed.ensures.leads (due equals (due open_brace (fact (codes "service") Name comma head1)))
-    ∙ c.in_ok-mark.ensures.leads (due open_brace (fact (codes "service") Name comma head1))
-    ∙ c.in_ok-mark-2.ensures.leads (fact (codes "service") Name comma head1)
-    ∙ c.in_ok-service.ensures head1
-    ∙ c.in_ok-parent.ensures (head2 c.in_ok-service.service)
-    ∙ c.in_ok-close.ensures (head3 c.in_ok-service.service c.in_ok-parent.parent)
-    ∙ c.in_ok-global.ensures (head4 c.in_ok-service.service c.in_ok-parent.parent c.in_ok-close.close)
-    ∙ c.in_ok-block.ensures (head5 c.in_ok-service.service c.in_ok-parent.parent c.in_ok-close.close c.in_ok-global.global)
-    ∙ c.in_ok-has_data.ensures (head6 c.in_ok-service.service c.in_ok-parent.parent c.in_ok-close.close c.in_ok-global.global c.in_ok-block.block)
-    ∙ c.in_err-resc_data.ensures (head7 c.in_ok-service.service c.in_ok-parent.parent c.in_ok-close.close c.in_ok-global.global c.in_ok-block.block c.in_ok-has_data.has_data) ne)
-
-pub returns-in_err-mark-3 : goal.returns-in_err-mark-3
-returns-in_err-mark-3 c =
-    let p = err_from_is_err_and c.from_residual-in_err-mark-3.result c.from_residual-in_err-mark-3.ensures.1 in
-    rw (p.1, p.2) (λ ne.
-    c.in_ok-fixed.ensures.leads (due equals (due open_brace (fact (codes "service") Name comma head1)))
-    ∙ c.in_ok-mark.ensures.leads (due open_brace (fact (codes "service") Name comma head1))
-    ∙ c.in_ok-mark-2.ensures.leads (fact (codes "service") Name comma head1)
-    ∙ c.in_ok-service.ensures head1
-    ∙ c.in_ok-parent.ensures (head2 c.in_ok-service.service)
-    ∙ c.in_ok-close.ensures (head3 c.in_ok-service.service c.in_ok-parent.parent)
-    ∙ c.in_ok-global.ensures (head4 c.in_ok-service.service c.in_ok-parent.parent c.in_ok-close.close)
-    ∙ c.in_ok-block.ensures (head5 c.in_ok-service.service c.in_ok-parent.parent c.in_ok-close.close c.in_ok-global.global)
-    ∙ c.in_ok-has_data.ensures (head6 c.in_ok-service.service c.in_ok-parent.parent c.in_ok-close.close c.in_ok-global.global c.in_ok-block.block)
-    ∙ c.in_ok-resc_data.ensures (head7 c.in_ok-service.service c.in_ok-parent.parent c.in_ok-close.close c.in_ok-global.global c.in_ok-block.block c.in_ok-has_data.has_data)
-    ∙ c.in_err-mark-3.ensures.leads (statements (record { service = c.in_ok-service.service; parent = c.in_ok-parent.parent; close = c.in_ok-close.close; global = c.in_ok-global.global; block = c.in_ok-block.block; has_data = c.in_ok-has_data.has_data; resc_data = c.in_ok-resc_data.resc_data }) []) ne)
-
-pub returns : goal.returns
-returns c =
-    c.in_ok-fixed.ensures.leads (due equals (due open_brace (fact (codes "service") Name comma head1)))
-    ∙ c.in_ok-mark.ensures.leads (due open_brace (fact (codes "service") Name comma head1))
-    ∙ c.in_ok-mark-2.ensures.leads (fact (codes "service") Name comma head1)
-    ∙ c.in_ok-service.ensures head1
-    ∙ c.in_ok-parent.ensures (head2 c.in_ok-service.service)
-    ∙ c.in_ok-close.ensures (head3 c.in_ok-service.service c.in_ok-parent.parent)
-    ∙ c.in_ok-global.ensures (head4 c.in_ok-service.service c.in_ok-parent.parent c.in_ok-close.close)
-    ∙ c.in_ok-block.ensures (head5 c.in_ok-service.service c.in_ok-parent.parent c.in_ok-close.close c.in_ok-global.global)
-    ∙ c.in_ok-has_data.ensures (head6 c.in_ok-service.service c.in_ok-parent.parent c.in_ok-close.close c.in_ok-global.global c.in_ok-block.block)
-    ∙ c.in_ok-resc_data.ensures (head7 c.in_ok-service.service c.in_ok-parent.parent c.in_ok-close.close c.in_ok-global.global c.in_ok-block.block c.in_ok-has_data.has_data)
-    ∙ c.in_ok-mark-3.ensures.leads (statements (record { service = c.in_ok-service.service; parent = c.in_ok-parent.parent; close = c.in_ok-close.close; global = c.in_ok-global.global; block = c.in_ok-block.block; has_data = c.in_ok-has_data.has_data; resc_data = c.in_ok-resc_data.resc_data }) [])
+pub returns-else-branch : goal.returns-else-branch
+returns-else-branch c =
+    leads_along trees _ _ c.first_facts.result (λ facts. statements facts []) c.first_facts.new.reader
+    (c.in_ok-opening.ensures (fork (codes "version") second first)
+    ∙ c.in_ok-forked.ensures.leads second first
+    ∙ ap (λ b. read trees (one_of second first b) c.forked.new.reader) c.if-branch.false)
+    c.first_facts.ensures
