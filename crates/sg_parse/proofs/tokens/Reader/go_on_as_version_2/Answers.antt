@@ -1,5 +1,5 @@
 -- A token that is turned twice is as it was.
-use Rattle.std.proofs.Common.{◌∙◌, ap, map, sym}
+use Rattle.std.proofs.Common.{◌∙◌, ap, map}
 use Rattle.sg_lex.specs.Inside.Automata.{Reading}
 use Rattle.sg_parse.specs.Inside.{seen_answer}
 use Rattle.sg_parse.proofs.Seen.{other_seen}
