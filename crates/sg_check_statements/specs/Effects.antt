@@ -8,7 +8,7 @@ use Rattle.sg_facts.specs.Facts.{Facts, Fun}
 use Rattle.sg_facts.specs.Words.{field_name}
 use Rattle.sg_parse.specs.declared.tree.Param.{Param}
 use Rattle.sg_parse.specs.declared.tree.Ret.{Ret}
-use Rattle.sg_parse.specs.declared.tree.Ret.TheVariants.{Plain, Set, Add}
+use Rattle.sg_parse.specs.declared.tree.Ret.TheVariants.{Plain, Set, Add, Sub}
 use Rattle.sg_parse.specs.declared.tree.Statement.{Statement}
 use Rattle.sg_parse.specs.declared.tree.Statement.TheVariants.{One, Two, Proto}
 use Rattle.sg_check_statements.specs.Params.{has_word}
@@ -38,11 +38,12 @@ abbrev pub later_effects : List Param → List Named_effect
 later_effects [] = []
 later_effects (p ∷ params) = arg_effects 0 params
 
--- the effects that a prototype's return declares: the returned word is set in a field, or added to one
+-- the effects that a prototype's return declares: the returned word is set in a field, added to one, or subtracted from one
 abbrev pub ret_effects : Ret → List Named_effect
 ret_effects (Plain ty) = []
 ret_effects (Set ty field) = (field.bytes, SetRet) ∷ []
 ret_effects (Add ty field) = (field.bytes, AddRet) ∷ []
+ret_effects (Sub ty field) = (field.bytes, SubRet) ∷ []
 
 -- the effects that one statement declares for a function: a field is cleared, or one is subtracted from it
 abbrev pub statement_effects : List ℕ → Statement → List Named_effect

@@ -1,5 +1,5 @@
 -- Which interface a text declares, and what is first wrong with it.
-use Rattle.std.specs.Prelude.{ℕ, ◌≡◌, ◌<◌, false, List, ◌∷◌, ◌++◌, None, Some, codes, filter, map}
+use Rattle.std.specs.Prelude.{ℕ, ◌≡◌, ◌<◌, List, ◌∷◌, ◌++◌, None, Some, codes, filter, map}
 use Rattle.sg_facts.specs.Facts.{Facts, fun_at}
 use Rattle.sg_facts.specs.Fields.{number_of as number_of_bits}
 use Rattle.sg_facts.specs.Fits.{Fits}
@@ -11,16 +11,16 @@ use Rattle.sg_check_statements.specs.declared.fault.CheckKind.TheVariants.{Unkno
 use Rattle.sg_check_statements.specs.Says.{has_proto, says_of, service_of}
 use Rattle.sg_check_statements.specs.Flaws.{duplicate, unknown, bad_params, wrong_fact, wrong_flag, wrong_effect, foreign, no_creation, IsProtoWhere, IsUnreached, HasNoWalk}
 
--- the interface that statements declare of a service: the functions that have a prototype, and those of its transitions
--- and recover steps that a statement names
-abbrev pub interface_of : Facts → List Statement → Declared
-interface_of facts statements = record {
+-- the interface that a text declares of a service: the functions that have a prototype, the version of its language, whether
+-- it is eager, and those of the service's transitions and recover steps that a statement names
+abbrev pub interface_of : Facts → Tree → Declared
+interface_of facts tree = record {
   facts = facts;
-  declared = number_of_bits (map (λ f. has_proto statements f.name) facts.funs);
-  version = 1;
-  eager = false;
-  moves = filter (λ p. says_of statements (codes "sm_transition") (fun_at facts.funs p.0).name (fun_at facts.funs p.1).name) facts.moves;
-  steps = filter (λ p. says_of statements (codes "sm_recover") (fun_at facts.funs p.0).name (fun_at facts.funs p.1).name) facts.steps;
+  declared = number_of_bits (map (λ f. has_proto tree.statements f.name) facts.funs);
+  version = tree.facts.version;
+  eager = tree.facts.eager;
+  moves = filter (λ p. says_of tree.statements (codes "sm_transition") (fun_at facts.funs p.0).name (fun_at facts.funs p.1).name) facts.moves;
+  steps = filter (λ p. says_of tree.statements (codes "sm_recover") (fun_at facts.funs p.0).name (fun_at facts.funs p.1).name) facts.steps;
 }
 
 -- no statement, judged with those before it, has a flaw
@@ -56,9 +56,9 @@ FirstOf services tree ForeignRecover at =
     (facts : Facts) × IsOf services tree facts × IsFirstStatement (λ before s p. foreign (codes "sm_recover") facts.steps facts s ≡ Some p) tree.statements at
 FirstOf services tree NoCreation at = (facts : Facts) × IsOf services tree facts × (no_creation facts tree.statements ≡ Some at)
 FirstOf services tree Unreached at =
-    (facts : Facts) × IsOf services tree facts × IsFirstStatement (λ before s p. IsProtoWhere facts (IsUnreached (interface_of facts tree.statements)) s p) tree.statements at
+    (facts : Facts) × IsOf services tree facts × IsFirstStatement (λ before s p. IsProtoWhere facts (IsUnreached (interface_of facts tree)) s p) tree.statements at
 FirstOf services tree NoWalk at =
-    (facts : Facts) × IsOf services tree facts × IsFirstStatement (λ before s p. IsProtoWhere facts (HasNoWalk (interface_of facts tree.statements)) s p) tree.statements at
+    (facts : Facts) × IsOf services tree facts × IsFirstStatement (λ before s p. IsProtoWhere facts (HasNoWalk (interface_of facts tree)) s p) tree.statements at
 
 -- the place of a kind in the order in which kinds are looked for
 abbrev pub kind_rank : CheckKind → ℕ
@@ -85,5 +85,5 @@ pub record IsAccepted (services : List Facts) (tree : Tree) (i : Declared) : Typ
   pub none : (kind : CheckKind) (place : ℕ) → FirstOf services tree kind place → ⊥
   pub facts : Facts
   pub service : IsOf services tree facts
-  pub declared : i ≡ interface_of facts tree.statements
+  pub declared : i ≡ interface_of facts tree
   pub fits : Fits i

@@ -22,6 +22,8 @@ pub enum Change {
     Nothing,
     /// One is subtracted from the field.
     Less,
+    /// The returned word is subtracted from the field.
+    LessRet,
 }
 
 impl Change {
@@ -38,6 +40,7 @@ impl Change {
             (Effect::AddRet, Change::MoreRet) => true,
             (Effect::Clear, Change::Nothing) => true,
             (Effect::SubOne, Change::Less) => true,
+            (Effect::SubRet, Change::LessRet) => true,
             _ => false,
         }
     }

@@ -110,6 +110,7 @@ fn any_by_ret<T: Test>(test: &T, ret: &Ret) -> bool
         Ret::Plain(_) => false,
         Ret::Set { field, .. } => test.has(field.slice, Change::Ret),
         Ret::Add { field, .. } => test.has(field.slice, Change::MoreRet),
+        Ret::Sub { field, .. } => test.has(field.slice, Change::LessRet),
     }
 }
 

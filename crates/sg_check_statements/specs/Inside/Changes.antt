@@ -1,8 +1,8 @@
 -- What the code says of a change of a field, as an effect.
 use Rattle.sg_facts.specs.declared.shape.Effect.{Effect}
-use Rattle.sg_facts.specs.declared.shape.Effect.TheVariants.{SetCaller, SetArg, AddArg, SetRet, AddRet, Clear, SubOne}
+use Rattle.sg_facts.specs.declared.shape.Effect.TheVariants.{SetCaller, SetArg, AddArg, SetRet, AddRet, Clear, SubOne, SubRet}
 use Rattle.sg_check_statements.specs.declared.change.Change.{Change}
-use Rattle.sg_check_statements.specs.declared.change.Change.TheVariants.{Caller, Arg, MoreArg, Ret, MoreRet, Nothing, Less}
+use Rattle.sg_check_statements.specs.declared.change.Change.TheVariants.{Caller, Arg, MoreArg, Ret, MoreRet, Nothing, Less, LessRet}
 
 -- the effect that a change is; the number of an argument isn't bounded
 abbrev pub change_effect : Change → Effect
@@ -13,3 +13,4 @@ change_effect Ret = SetRet
 change_effect MoreRet = AddRet
 change_effect Nothing = Clear
 change_effect Less = SubOne
+change_effect LessRet = SubRet
