@@ -7,7 +7,7 @@ use Rattle.std.proofs.lemmas.Nat.Bits.{bit_at-suc, bit_at-zero, bit_at_lowest}
 use Rattle.sg_facts.specs.Facts.{Facts, Fun, fun_at}
 use Rattle.sg_facts.specs.Fields.{number_of}
 use Rattle.sg_facts.specs.Interface.{declares}
-use Rattle.sg_check_statements.specs.sg_parse.declared.tree.Statement.{Statement}
+use Rattle.sg_check_statements.specs.sg_parse.declared.tree.Tree.{Tree}
 use Rattle.sg_check_statements.specs.Faults.{interface_of}
 use Rattle.sg_check_statements.specs.Says.{has_proto}
 
@@ -38,20 +38,20 @@ module _ (test : Fun → Bool) where
   pass (f ∷ funs) zero within is = is
   pass (f ∷ funs) (suc n) within is = pass funs n (omega (arith, within)) is
 
-module _ (facts : Facts) (statements : List Statement) where
-  declared_bit : (n : ℕ) → declares (interface_of facts statements) (suc n) ≡ get_or (map (λ f. has_proto statements f.name) facts.funs) n false
+module _ (facts : Facts) (tree : Tree) where
+  declared_bit : (n : ℕ) → declares (interface_of facts tree) (suc n) ≡ get_or (map (λ f. has_proto tree.statements f.name) facts.funs) n false
   declared_bit n =
       let before : suc n - 1 ≡ n = omega arith in
       let first : nat_le 1 (suc n) ≡ true = grind (arith, nat_tests) in
-      rw (first, before) (bit_of (map (λ f. has_proto statements f.name) facts.funs) n)
+      rw (first, before) (bit_of (map (λ f. has_proto tree.statements f.name) facts.funs) n)
 
   -- a function that is declared is one of the service, and has a prototype
-  pub declared_one : (fun : ℕ) → declares (interface_of facts statements) fun ≡ true
-      → (n : ℕ) × (fun ≡ suc n) × (n < length facts.funs) × (has_proto statements (fun_at facts.funs fun).name ≡ true)
+  pub declared_one : (fun : ℕ) → declares (interface_of facts tree) fun ≡ true
+      → (n : ℕ) × (fun ≡ suc n) × (n < length facts.funs) × (has_proto tree.statements (fun_at facts.funs fun).name ≡ true)
   declared_one zero is = absurd (cc is)
-  declared_one (suc n) is = let it = passed (λ f. has_proto statements f.name) facts.funs n (sym (declared_bit n) ∙ is) in (n, refl, it.0, it.1)
+  declared_one (suc n) is = let it = passed (λ f. has_proto tree.statements f.name) facts.funs n (sym (declared_bit n) ∙ is) in (n, refl, it.0, it.1)
 
   -- and the other way round
-  pub one_declared : (n : ℕ) → n < length facts.funs → has_proto statements (fun_at facts.funs (suc n)).name ≡ true
-      → declares (interface_of facts statements) (suc n) ≡ true
-  one_declared n within is = declared_bit n ∙ pass (λ f. has_proto statements f.name) facts.funs n within is
+  pub one_declared : (n : ℕ) → n < length facts.funs → has_proto tree.statements (fun_at facts.funs (suc n)).name ≡ true
+      → declares (interface_of facts tree) (suc n) ≡ true
+  one_declared n within is = declared_bit n ∙ pass (λ f. has_proto tree.statements f.name) facts.funs n within is

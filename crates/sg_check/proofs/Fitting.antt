@@ -198,7 +198,7 @@ last_of false b is = absurd (cc is)
 
 module _ (services : List Facts) (tree : Tree) (facts : Facts) (shape : is_shape facts ≡ true) (clear : IsClear services tree facts 12) where
   abbrev iface : Declared
-  iface = interface_of facts tree.statements
+  iface = interface_of facts tree
 
   abbrev count : ℕ
   count = length facts.funs
@@ -254,7 +254,7 @@ module _ (services : List Facts) (tree : Tree) (facts : Facts) (shape : is_shape
   -- a function with a prototype is none of which something holds that no prototype's has
   not_where : (P : ℕ → Type 0) → NoStatement (λ before s p. IsProtoWhere facts P s p) tree.statements → (fun : ℕ) → declares iface fun ≡ true → P fun → ⊥
   not_where P none fun declared holds =
-      let it = declared_one facts tree.statements fun declared in
+      let it = declared_one facts tree fun declared in
       let name : List ℕ = (fun_at facts.funs fun).name in
       let proto = proto_of name it.3 in
       let found : fun_number facts.funs name ≡ Some fun =
@@ -283,7 +283,7 @@ module _ (services : List Facts) (tree : Tree) (facts : Facts) (shape : is_shape
   number_declared : (n : ℕ) → is_fun count n ≡ true → has_proto tree.statements (fun_at facts.funs n).name ≡ true → declares iface n ≡ true
   number_declared n is has =
       let it = within_number count n is in
-      ap (declares iface) it.1 ∙ one_declared facts tree.statements it.0 it.2 (ap (λ m. has_proto tree.statements (fun_at facts.funs m).name) (sym it.1) ∙ has)
+      ap (declares iface) it.1 ∙ one_declared facts tree it.0 it.2 (ap (λ m. has_proto tree.statements (fun_at facts.funs m).name) (sym it.1) ∙ has)
 
   pair_declared : (w : List ℕ) (pairs : List (ℕ × ℕ)) (a b : ℕ) → names_two w ≡ true → list_all (are_funs count) pairs ≡ true
       → has_pair (filter (λ p. says_of tree.statements w (fun_at facts.funs p.0).name (fun_at facts.funs p.1).name) pairs) a b ≡ true
@@ -316,7 +316,7 @@ module _ (services : List Facts) (tree : Tree) (facts : Facts) (shape : is_shape
 
   leaves_declared : (fun : ℕ) → declares iface fun ≡ true → LeavesDeclared iface (fun_at facts.funs fun).leaves
   leaves_declared fun declared =
-      let it = declared_one facts tree.statements fun declared in
+      let it = declared_one facts tree fun declared in
       let f : Fun = fun_at facts.funs fun in
       let proto = proto_of f.name it.3 in
       let fit : is_declared facts tree.statements proto.named.bytes ≡ true =
@@ -351,7 +351,7 @@ module _ (services : List Facts) (tree : Tree) (facts : Facts) (shape : is_shape
       no_place (list_any (λ f. f.creation && has_proto tree.statements f.name) facts.funs) 0 (λ place flaw. clear.none NoCreation place (omega arith) (facts, clear.service, flaw)) in
       let found = found_fun (λ f. f.creation && has_proto tree.statements f.name) facts.funs any in
       let both = and_parts (fun_at facts.funs (suc found.0)).creation (has_proto tree.statements (fun_at facts.funs (suc found.0)).name) found.2 in
-      (suc found.0, one_declared facts tree.statements found.0 found.1 both.1, both.0)
+      (suc found.0, one_declared facts tree found.0 found.1 both.1, both.0)
 
   unreached_known : HasReach iface → (n : ℕ) → IsUnreached iface n ⊎ (IsUnreached iface n → ⊥)
   unreached_known known n = elim (known n) [
@@ -364,7 +364,7 @@ module _ (services : List Facts) (tree : Tree) (facts : Facts) (shape : is_shape
 
   pub fits : HasReach iface → HasWalks iface → Fits iface
   fits known walks = record {
-    funs = λ fun declared. let it = declared_one facts tree.statements fun declared in omega (arith, it.1, it.2);
+    funs = λ fun declared. let it = declared_one facts tree fun declared in omega (arith, it.1, it.2);
     moves = λ state fun is. (moves_declared state fun is).0;
     steps = λ state fun is. (steps_declared state fun is).0;
     moves_declared = λ state fun is. (moves_declared state fun is).1;

@@ -67,18 +67,18 @@ module _ (facts : Facts) (shape : is_shape facts ≡ true) where
   few_fields = let l = limits.1 in grind (arith, nat_tests, l)
 
   -- what descriptors can come to was made by a function that is declared
-  pub made_small : (statements : List Statement) (t : Triple) → IsReachedTriple (interface_of facts statements) t → t.made ≤ 32
-  made_small statements t (set, number, reached) =
-      let it = declared_one facts statements t.made (made_declared (interface_of facts statements) t.made t.state set reached) in
+  pub made_small : (tree : Tree) (t : Triple) → IsReachedTriple (interface_of facts tree) t → t.made ≤ 32
+  made_small tree t (set, number, reached) =
+      let it = declared_one facts tree t.made (made_declared (interface_of facts tree) t.made t.state set reached) in
       let few = few_funs in
       omega (arith, it.1, it.2, few)
 
   -- so all that descriptors can come to is listed
-  pub all_triples : (statements : List Statement) (i : Declared) (triples : List Triple) → i ≡ interface_of facts statements → ((t : Triple) → Contains triples t → IsReachedTriple i t)
+  pub all_triples : (tree : Tree) (i : Declared) (triples : List Triple) → i ≡ interface_of facts tree → ((t : Triple) → Contains triples t → IsReachedTriple i t)
       → ((t : Triple) → t.made ≤ 32 → IsReachedTriple i t → Contains triples t) → AreTriples i triples
-  all_triples statements i triples is only all = record {
+  all_triples tree i triples is only all = record {
     only = only;
-    all = λ t reached. all t (made_small statements t (subst (λ j. IsReachedTriple j t) is reached)) reached;
+    all = λ t reached. all t (made_small tree t (subst (λ j. IsReachedTriple j t) is reached)) reached;
   }
 
 pub shape_funs : (s : Shape) → is_shape (facts_of s) ≡ true → length s.funs.now ≤ 32
@@ -131,14 +131,14 @@ module _ (services : List Facts) (tree : Tree) where
     pub unreached_told : IsCandidate services tree c 10 → AreUnreached c.iface numbers → MatchOption flaw ((at : ℕ) → FirstOf services tree Unreached at → ⊥) (FirstOf services tree Unreached)
     unreached_told good are =
         let few = few_funs (facts_of c.shape) good.shape in
-        each_statement services tree (λ all f before s p. IsProtoWhere f (IsUnreached (interface_of f all)) s p) (facts_of c.shape) flaw good.clear.service tree.statements refl
-        (first_where (facts_of c.shape) numbers (IsUnreached (interface_of (facts_of c.shape) tree.statements))
+        each_statement services tree (λ all f before s p. IsProtoWhere f (IsUnreached (interface_of f tree)) s p) (facts_of c.shape) flaw good.clear.service tree.statements refl
+        (first_where (facts_of c.shape) numbers (IsUnreached (interface_of (facts_of c.shape) tree))
         (λ n within. subst (λ i. (has_number numbers n ≡ true) ↔ IsUnreached i n) good.declared (are.are n (omega (arith, within, few)))) flaw tree.statements of_tree)
 
     pub stuck_told : IsCandidate services tree c 11 → AreStuck c.iface numbers → MatchOption flaw ((at : ℕ) → FirstOf services tree NoWalk at → ⊥) (FirstOf services tree NoWalk)
     stuck_told good are =
-        each_statement services tree (λ all f before s p. IsProtoWhere f (HasNoWalk (interface_of f all)) s p) (facts_of c.shape) flaw good.clear.service tree.statements refl
-        (first_where (facts_of c.shape) numbers (HasNoWalk (interface_of (facts_of c.shape) tree.statements))
+        each_statement services tree (λ all f before s p. IsProtoWhere f (HasNoWalk (interface_of f tree)) s p) (facts_of c.shape) flaw good.clear.service tree.statements refl
+        (first_where (facts_of c.shape) numbers (HasNoWalk (interface_of (facts_of c.shape) tree))
         (λ n within. subst (λ i. (has_number numbers n ≡ true) ↔ HasNoWalk i n) good.declared (stuck_same c.iface numbers are n)) flaw tree.statements of_tree)
 
   -- an interface in which nothing is wrong fits

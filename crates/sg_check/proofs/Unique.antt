@@ -87,11 +87,11 @@ module _ (services : List Facts) (tree : Tree) where
       (λ facts before s. one_place (foreign (codes "sm_recover") facts.steps facts s)) here there first other
   same_place NoCreation here there first other = found_once (λ facts. no_creation facts tree.statements) here there first other
   same_place Unreached here there first other =
-      of_one_service (λ facts before s p. IsProtoWhere facts (IsUnreached (interface_of facts tree.statements)) s p)
-      (λ facts before s. proto_once facts (IsUnreached (interface_of facts tree.statements)) s) here there first other
+      of_one_service (λ facts before s p. IsProtoWhere facts (IsUnreached (interface_of facts tree)) s p)
+      (λ facts before s. proto_once facts (IsUnreached (interface_of facts tree)) s) here there first other
   same_place NoWalk here there first other =
-      of_one_service (λ facts before s p. IsProtoWhere facts (HasNoWalk (interface_of facts tree.statements)) s p)
-      (λ facts before s. proto_once facts (HasNoWalk (interface_of facts tree.statements)) s) here there first other
+      of_one_service (λ facts before s p. IsProtoWhere facts (HasNoWalk (interface_of facts tree)) s p)
+      (λ facts before s. proto_once facts (HasNoWalk (interface_of facts tree)) s) here there first other
 
 -- one number is another, is less, or is greater
 either_way : (m n : ℕ) → (m ≡ n) ⊎ ((m < n) ⊎ (n < m))

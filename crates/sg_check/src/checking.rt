@@ -56,7 +56,7 @@ fn candidate_of(alloc: Global, shapes: &[Shape], tree: &Tree) -> Result<Candidat
     ensures { MatchResult result (λ c. IsCandidate (map facts_of shapes.now) tree.now c 10) (IsFirstFault (map facts_of shapes.now) tree.now) }
 {
     let shape = fit_one_by_one(alloc, shapes, tree)?;
-    let iface = interface_of(alloc, shape, tree.statements.as_slice())?;
+    let iface = interface_of(alloc, shape, tree)?;
     let triples = reachable(alloc, &iface)?;
     Ok(Candidate {
         shape: *shape,

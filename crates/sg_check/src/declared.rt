@@ -6,26 +6,24 @@ ghost use Rattle.sg_facts.specs.Limits.{most_funs};
 ghost use Rattle.sg_check_statements.specs.Faults.{interface_of};
 ghost use Rattle.sg_check_statements.specs.Says.{has_proto, says_of};
 
-use sg_check_statements::{Protos, Statement, says_of};
+use sg_check_statements::{Protos, Statement, Tree, says_of};
 use sg_facts::{FunShape, Interface, NoMemory, PairList, Shape};
 use std::alloc::Global;
 
-/// The interface that statements declare of a shape: the functions that have a prototype, and those of the shape's
-/// transitions and recover steps that a statement names. A shape has at most `MOST_FUNS` functions.
-pub fn interface_of(
-    alloc: Global,
-    shape: &Shape,
-    statements: &[Statement],
-) -> Result<Interface, NoMemory>
+/// The interface that a text declares of a shape: the functions that have a prototype, the version of the text's language,
+/// whether it is eager, and those of the shape's transitions and recover steps that a statement names. A shape has at most
+/// `MOST_FUNS` functions.
+pub fn interface_of(alloc: Global, shape: &Shape, tree: &Tree) -> Result<Interface, NoMemory>
     requires { length shape.now.funs.now ≤ most_funs }
-    ensures { IfOk result (λ i. i ≡ interface_of (facts_of shape.now) statements.now) }
+    ensures { IfOk result (λ i. i ≡ interface_of (facts_of shape.now) tree.now) }
 {
+    let statements = tree.statements.as_slice();
     let protos = Protos::of(alloc, statements)?;
     Ok(Interface {
         shape: *shape,
         declared: declared_in(shape.funs, &protos),
-        version: 1,
-        eager: false,
+        version: tree.facts.version,
+        eager: tree.facts.eager,
         moves: listed(alloc, shape, shape.moves, b"sm_transition", statements)?,
         steps: listed(alloc, shape, shape.steps, b"sm_recover", statements)?,
     })

@@ -21,7 +21,7 @@ use Rattle.sg_check.specs.Inside.Stuck.{HasWalk}
 pub record IsCandidate (services : List Facts) (tree : Tree) (c : Candidate) (kinds : ℕ) : Type 0 where
   pub clear : IsClear services tree (facts_of c.shape) kinds
   pub shape : is_shape (facts_of c.shape) ≡ true
-  pub declared : c.iface ≡ interface_of (facts_of c.shape) tree.statements
+  pub declared : c.iface ≡ interface_of (facts_of c.shape) tree
   pub triples : AreTriples c.iface c.triples
 
 -- what is said of a candidate of which so many kinds are clear: one kind more is, or the error tells what is first wrong

@@ -1,8 +1,7 @@
 -- A text in which the first ten kinds are clear, with its interface.
-use Rattle.std.proofs.Common.{◌≡◌, ◌≤◌, length, map, sym, ◌∙◌, ap, subst}
+use Rattle.std.proofs.Common.{◌≡◌, ◌≤◌, length, map, sym, subst}
 use Rattle.std.specs.Prelude.{true}
 use Rattle.sg_facts.specs.Facts.{facts_of}
-use Rattle.sg_check_statements.specs.Faults.{interface_of}
 use Rattle.sg_check.specs.Shapes.{is_shape}
 use Rattle.sg_check.proofs.Stages.{all_triples, few_fields, shape_funs, shape_of}
 use Rattle.sg_check.proofs.checking.candidate_of.Goals as goal
@@ -24,6 +23,6 @@ returns c =
     record {
       clear = c.in_ok-shape.ensures;
       shape = shape;
-      declared = c.in_ok-iface.ensures ∙ ap (interface_of facts) c.as_slice.ensures;
-      triples = all_triples facts shape c.as_slice.result.now c.in_ok-iface.iface c.in_ok-triples.triples c.in_ok-iface.ensures c.in_ok-triples.ensures.only c.in_ok-triples.ensures.all;
+      declared = c.in_ok-iface.ensures;
+      triples = all_triples facts shape c.args.tree.now c.in_ok-iface.iface c.in_ok-triples.triples c.in_ok-iface.ensures c.in_ok-triples.ensures.only c.in_ok-triples.ensures.all;
     }

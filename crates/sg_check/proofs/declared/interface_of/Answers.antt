@@ -7,6 +7,6 @@ use Rattle.sg_check.proofs.Listing.{whole}
 use Rattle.sg_check.proofs.declared.interface_of.Goals as goal
 
 pub returns : goal.returns
-returns c = whole c.args.shape.now c.args.statements.now c.declared_in.result c.in_ok-listed.field-0 c.in_ok-listed-2.field-0
+returns c = whole c.args.shape.now c.args.tree.now c.as_slice-statements.result.now c.declared_in.result c.in_ok-listed.field-0 c.in_ok-listed-2.field-0 c.as_slice-statements.ensures
     (c.declared_in.ensures.declared ∙ ap (λ l. number_of (map (λ f. has_proto l f.name) (map fun_of_shape c.args.shape.now.funs.now))) c.in_ok-protos.ensures)
     c.in_ok-listed.ensures c.in_ok-listed-2.ensures
