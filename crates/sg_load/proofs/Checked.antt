@@ -1,4 +1,4 @@
--- An interface that declares all of a shape fits, where a list of what its descriptors can come to passes a check.
+-- An interface that declares the first functions of a shape fits, where a list of what its descriptors can come to passes a check.
 use Rattle.std.proofs.Common.{◌≡◌, ◌⊎◌, inl, inr, ℕ, zero, suc, ◌+◌, ◌-◌, ◌≤◌, Bool, true, false, ◌&&◌, ◌||◌, List, [], ◌∷◌, length, refl, ◌∙◌, ap, subst, arith}
 use Rattle.std.specs.Prelude.{◌==◌, ◌^◌, nat_le, not}
 use Rattle.std.specs.Int.{bit_at}
@@ -7,11 +7,10 @@ use Rattle.std.proofs.lemmas.Bool.{and_parts, cases_lt}
 use Rattle.std.proofs.lemmas.Bool.Decides.{nat_tests}
 use Rattle.std.proofs.lemmas.Nat.Bits.{bit_at_ones_above}
 use Rattle.sg_facts.specs.declared.shape.Effect.{Effect}
-use Rattle.sg_facts.specs.Facts.{Facts, fun_at, state_after}
+use Rattle.sg_facts.specs.Facts.{fun_at, state_after}
 use Rattle.sg_facts.specs.Fits.{Fits, IsReached, LeavesDeclared, needs_reach}
-use Rattle.sg_facts.specs.Interface.{declares, has_pair, moves_on}
+use Rattle.sg_facts.specs.Interface.{Declared, declares, has_pair, moves_on}
 use Rattle.sg_facts.specs.Walks.{IsReachable, begin_of, made, may_lead, moved, most_calls, none_set, restores}
-use Rattle.sg_facts.specs.Laws.{whole}
 
 -- ---- tests
 
@@ -159,96 +158,107 @@ line_passes test (l ∷ lines) by state set is all =
 
 -- ---- the check
 
-module _ (facts : Facts) (lines : List Line) where
+-- of an interface that declares so many functions, the first of its shape
+module _ (i : Declared) (count : ℕ) (lines : List Line) where
   -- whether a function is a creation that leads to lines alone
   abbrev pub makes_lines : ℕ → Bool
   makes_lines fun =
-      implies (fun_at facts.funs fun).creation (every (length facts.fields) (λ set.
-      implies (may_lead (fun_at facts.funs fun).effects 0 (none_set facts.fields) set) (knows lines fun (state_after facts fun fun) set)))
+      implies (fun_at i.facts.funs fun).creation (every (length i.facts.fields) (λ set.
+      implies (may_lead (fun_at i.facts.funs fun).effects 0 (none_set i.facts.fields) set) (knows lines fun (state_after i.facts fun fun) set)))
 
   -- whether a call of a function leads from a line to lines alone
   abbrev leads_to_lines : Line → ℕ × ℕ → Bool
   leads_to_lines l p =
-      implies (p.0 == l.state) (implies (not (fun_at facts.funs p.1).terminal) (every (length facts.fields) (λ new.
-      implies (may_lead (fun_at facts.funs p.1).effects 0 l.set new) (knows lines l.by (state_after facts p.1 l.state) new))))
+      implies (p.0 == l.state) (implies (not (fun_at i.facts.funs p.1).terminal) (every (length i.facts.fields) (λ new.
+      implies (may_lead (fun_at i.facts.funs p.1).effects 0 l.set new) (knows lines l.by (state_after i.facts p.1 l.state) new))))
 
   -- whether a line's walk restores it, with a field for each of the shape's, and calls lead from it to lines alone
   abbrev pub is_good : Line → Bool
   is_good l =
-      (begin_of l.walk == l.by) && restores (whole facts) l.walk l.state l.set && nat_le (length l.walk) most_calls
-      && (length l.set == length facts.fields) && list_all (leads_to_lines l) facts.moves
+      (begin_of l.walk == l.by) && restores i l.walk l.state l.set && nat_le (length l.walk) most_calls
+      && (length l.set == length i.facts.fields) && list_all (leads_to_lines l) i.moves
 
   abbrev pub are_declared : ℕ × ℕ → Bool
-  are_declared p = declares (whole facts) p.0 && declares (whole facts) p.1
+  are_declared p = declares i p.0 && declares i p.1
 
-  -- the lines pass the check, and so do the shape's transitions, recover steps and functions
+  abbrev pub is_of : List (ℕ × ℕ) → ℕ × ℕ → Bool
+  is_of pairs p = has_pair pairs p.0 p.1
+
+  -- the lines pass the check, and so do the transitions, the recover steps and the functions
   pub record IsChecked : Type 0 where
-    pub moves : list_all are_declared facts.moves ≡ true
-    pub steps : list_all are_declared facts.steps ≡ true
-    pub leaves : UpTo (λ f. LeavesDeclared (whole facts) (fun_at facts.funs f).leaves) (length facts.funs)
-    pub creation : (declares (whole facts) 1 && (fun_at facts.funs 1).creation) ≡ true
-    pub reached : UpTo (λ f. needs_reach (whole facts) f ≡ true → IsReached (whole facts) f) (length facts.funs)
-    pub made : UpTo (λ f. makes_lines f ≡ true) (length facts.funs)
+    pub declared : i.declared ≡ 2 ^ count - 1
+    pub few : nat_le count (length i.facts.funs) ≡ true
+    pub moves_of : list_all (is_of i.facts.moves) i.moves ≡ true
+    pub steps_of : list_all (is_of i.facts.steps) i.steps ≡ true
+    pub moves : list_all are_declared i.moves ≡ true
+    pub steps : list_all are_declared i.steps ≡ true
+    pub leaves : UpTo (λ f. LeavesDeclared i (fun_at i.facts.funs f).leaves) count
+    pub creation : (declares i 1 && (fun_at i.facts.funs 1).creation) ≡ true
+    pub reached : UpTo (λ f. needs_reach i f ≡ true → IsReached i f) count
+    pub made : UpTo (λ f. makes_lines f ≡ true) count
     pub good : list_all is_good lines ≡ true
 
   module _ (checked : IsChecked) where
-    of_fun : (P : ℕ → Type 0) → UpTo P (length facts.funs) → (fun : ℕ) → declares (whole facts) fun ≡ true → P fun
-    of_fun P all fun declared = let is = declared_within (length facts.funs) fun declared in one_of P (length facts.funs) fun all is.0 is.1
+    of_count : (fun : ℕ) → declares i fun ≡ true → (1 ≤ fun) × (fun ≤ count)
+    of_count fun is = declared_within count fun (subst (λ d. (nat_le 1 fun && (bit_at d (fun - 1) == 1)) ≡ true) checked.declared is)
+
+    of_fun : (P : ℕ → Type 0) → UpTo P count → (fun : ℕ) → declares i fun ≡ true → P fun
+    of_fun P all fun declared = let is = of_count fun declared in one_of P count fun all is.0 is.1
 
     pair_declared : (ps : List (ℕ × ℕ)) → list_all are_declared ps ≡ true → (a b : ℕ) → has_pair ps a b ≡ true
-        → (declares (whole facts) a ≡ true) × (declares (whole facts) b ≡ true)
-    pair_declared ps all a b is = and_parts (declares (whole facts) a) (declares (whole facts) b) (pair_passes are_declared ps a b is all)
+        → (declares i a ≡ true) × (declares i b ≡ true)
+    pair_declared ps all a b is = and_parts (declares i a) (declares i b) (pair_passes are_declared ps a b is all)
 
     -- what is made is a line
-    made_known : (fun : ℕ) (set : List Bool) → declares (whole facts) fun ≡ true → (fun_at facts.funs fun).creation ≡ true
-        → may_lead (fun_at facts.funs fun).effects 0 (none_set facts.fields) set ≡ true → length (none_set facts.fields) ≡ length facts.fields
-        → knows lines fun (state_after facts fun fun) set ≡ true
+    made_known : (fun : ℕ) (set : List Bool) → declares i fun ≡ true → (fun_at i.facts.funs fun).creation ≡ true
+        → may_lead (fun_at i.facts.funs fun).effects 0 (none_set i.facts.fields) set ≡ true → length (none_set i.facts.fields) ≡ length i.facts.fields
+        → knows lines fun (state_after i.facts fun fun) set ≡ true
     made_known fun set declared creates leads many =
-        let test : List Bool → Bool = λ s. implies (may_lead (fun_at facts.funs fun).effects 0 (none_set facts.fields) s) (knows lines fun (state_after facts fun fun) s) in
-        let all = follows (fun_at facts.funs fun).creation (every (length facts.fields) test) (of_fun (λ f. makes_lines f ≡ true) checked.made fun declared) creates in
-        follows _ _ (passes (length facts.fields) test set (as_many (fun_at facts.funs fun).effects 0 (none_set facts.fields) set leads ∙ many) all) leads
+        let test : List Bool → Bool = λ s. implies (may_lead (fun_at i.facts.funs fun).effects 0 (none_set i.facts.fields) s) (knows lines fun (state_after i.facts fun fun) s) in
+        let all = follows (fun_at i.facts.funs fun).creation (every (length i.facts.fields) test) (of_fun (λ f. makes_lines f ≡ true) checked.made fun declared) creates in
+        follows _ _ (passes (length i.facts.fields) test set (as_many (fun_at i.facts.funs fun).effects 0 (none_set i.facts.fields) set leads ∙ many) all) leads
 
     -- what comes of a line is a line
-    moved_known : (by fun state : ℕ) (old new : List Bool) → knows lines by state old ≡ true → moves_on (whole facts) state fun ≡ true
-        → (fun_at facts.funs fun).terminal ≡ false → may_lead (fun_at facts.funs fun).effects 0 old new ≡ true → knows lines by (state_after facts fun state) new ≡ true
+    moved_known : (by fun state : ℕ) (old new : List Bool) → knows lines by state old ≡ true → moves_on i state fun ≡ true
+        → (fun_at i.facts.funs fun).terminal ≡ false → may_lead (fun_at i.facts.funs fun).effects 0 old new ≡ true → knows lines by (state_after i.facts fun state) new ≡ true
     moved_known by fun state old new known moves goes_on leads =
         let it = line_passes is_good lines by state old known checked.good in
         let l : Line = line by state old it.0 in
-        let parts = and_parts _ (list_all (leads_to_lines l) facts.moves) it.1 in
-        let many = same_number (length old) (length facts.fields) (and_parts _ (length old == length facts.fields) parts.0).1 in
-        let test : List Bool → Bool = λ s. implies (may_lead (fun_at facts.funs fun).effects 0 old s) (knows lines by (state_after facts fun state) s) in
-        let here = pair_passes (leads_to_lines l) facts.moves state fun moves parts.1 in
-        let going = follows (state == state) (implies (not (fun_at facts.funs fun).terminal) (every (length facts.fields) test)) here (equal_number state) in
-        let all = follows (not (fun_at facts.funs fun).terminal) (every (length facts.fields) test) going (not_true (fun_at facts.funs fun).terminal goes_on) in
-        follows _ _ (passes (length facts.fields) test new (as_many (fun_at facts.funs fun).effects 0 old new leads ∙ many) all) leads
+        let parts = and_parts _ (list_all (leads_to_lines l) i.moves) it.1 in
+        let many = same_number (length old) (length i.facts.fields) (and_parts _ (length old == length i.facts.fields) parts.0).1 in
+        let test : List Bool → Bool = λ s. implies (may_lead (fun_at i.facts.funs fun).effects 0 old s) (knows lines by (state_after i.facts fun state) s) in
+        let here = pair_passes (leads_to_lines l) i.moves state fun moves parts.1 in
+        let going = follows (state == state) (implies (not (fun_at i.facts.funs fun).terminal) (every (length i.facts.fields) test)) here (equal_number state) in
+        let all = follows (not (fun_at i.facts.funs fun).terminal) (every (length i.facts.fields) test) going (not_true (fun_at i.facts.funs fun).terminal goes_on) in
+        follows _ _ (passes (length i.facts.fields) test new (as_many (fun_at i.facts.funs fun).effects 0 old new leads ∙ many) all) leads
 
     none_many : (fields : List _) → length (none_set fields) ≡ length fields
     none_many [] = refl
     none_many (f ∷ fields) = ap suc (none_many fields)
 
-    known : (by state : ℕ) (set : List Bool) → IsReachable (whole facts) by state set → knows lines by state set ≡ true
-    known by state set (made fun set' declared creates leads) = made_known fun set' declared creates leads (none_many facts.fields)
+    known : (by state : ℕ) (set : List Bool) → IsReachable i by state set → knows lines by state set ≡ true
+    known by state set (made fun set' declared creates leads) = made_known fun set' declared creates leads (none_many i.facts.fields)
     known by state set (moved by' fun state' old new reached moves goes_on leads) =
         moved_known by' fun state' old new (known by' state' old reached) moves goes_on leads
 
     walk_for : (by state : ℕ) (set : List Bool) → knows lines by state set ≡ true
-        → (walk : List ℕ) × (begin_of walk ≡ by) × (restores (whole facts) walk state set ≡ true) × (length walk ≤ most_calls)
+        → (walk : List ℕ) × (begin_of walk ≡ by) × (restores i walk state set ≡ true) × (length walk ≤ most_calls)
     walk_for by state set is =
         let it = line_passes is_good lines by state set is checked.good in
         let first = (and_parts _ _ (and_parts _ _ it.1).0).0 in
         let short = and_parts _ (nat_le (length it.0) most_calls) first in
-        let both = and_parts (begin_of it.0 == by) (restores (whole facts) it.0 state set) short.0 in
+        let both = and_parts (begin_of it.0 == by) (restores i it.0 state set) short.0 in
         (it.0, same_number (begin_of it.0) by both.0, both.1, within (length it.0) most_calls short.1)
 
-    pub fits : Fits (whole facts)
+    pub fits : Fits i
     fits = record {
-      funs = λ fun declared. (declared_within (length facts.funs) fun declared).1;
-      moves = λ state fun is. is;
-      steps = λ state fun is. is;
-      moves_declared = pair_declared facts.moves checked.moves;
-      steps_declared = pair_declared facts.steps checked.steps;
-      leaves_declared = of_fun (λ f. LeavesDeclared (whole facts) (fun_at facts.funs f).leaves) checked.leaves;
-      creation = let both = and_parts (declares (whole facts) 1) (fun_at facts.funs 1).creation checked.creation in (1, both.0, both.1);
-      reached = λ fun declared. of_fun (λ f. needs_reach (whole facts) f ≡ true → IsReached (whole facts) f) checked.reached fun declared;
+      funs = λ fun declared. let some = (of_count fun declared).1 in let few = within count (length i.facts.funs) checked.few in omega (arith, some, few);
+      moves = λ state fun is. pair_passes (is_of i.facts.moves) i.moves state fun is checked.moves_of;
+      steps = λ state fun is. pair_passes (is_of i.facts.steps) i.steps state fun is checked.steps_of;
+      moves_declared = pair_declared i.moves checked.moves;
+      steps_declared = pair_declared i.steps checked.steps;
+      leaves_declared = of_fun (λ f. LeavesDeclared i (fun_at i.facts.funs f).leaves) checked.leaves;
+      creation = let both = and_parts (declares i 1) (fun_at i.facts.funs 1).creation checked.creation in (1, both.0, both.1);
+      reached = λ fun declared. of_fun (λ f. needs_reach i f ≡ true → IsReached i f) checked.reached fun declared;
       walks = λ by state set reached. walk_for by state set (known by state set reached);
     }

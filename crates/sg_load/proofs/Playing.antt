@@ -16,8 +16,7 @@ use Rattle.sg_load.specs.Generated.{calls_of_client, clients_from, generated, gr
 use Rattle.sg_plain.specs.sg_script.Flaws.{calls_before}
 use Rattle.sg_load.specs.Groups.{call, group_of, group_size, setup_of, times}
 use Rattle.sg_load.specs.Sizes.{calls_each, client_count, lock_count, event_count, most_distance, stop_count}
-use Rattle.sg_facts.specs.Laws.{whole}
-use Rattle.sg_load.specs.Services.{facts_by}
+use Rattle.sg_load.specs.Services.{standard}
 use Rattle.sg_plain.specs.Calls.{part_of, script_calls}
 use Rattle.sg_plain.specs.Script.{call_fits, calls_fit}
 use Rattle.sg_plain.specs.Playing.Playable.{AreClients, IsPlayable}
@@ -63,9 +62,9 @@ unfolding times
 times_all test c is zero = refl
 times_all test c is (suc count) = both (test c) (list_all test (times count c)) is (times_all test c is count)
 
-setup_fits : (service : ServiceKind) → calls_fit (whole (facts_by service)) 1 (setup_of service) ≡ true
-setup_fits Locks = times_fit (whole (facts_by Locks)) (call lock_alloc_number []) (λ n. refl) 1 lock_count
-setup_fits Events = times_fit (whole (facts_by Events)) (call evt_split_number []) (λ n. refl) 1 event_count
+setup_fits : (service : ServiceKind) → calls_fit (standard service) 1 (setup_of service) ≡ true
+setup_fits Locks = times_fit (standard Locks) (call lock_alloc_number []) (λ n. refl) 1 lock_count
+setup_fits Events = times_fit (standard Events) (call evt_split_number []) (λ n. refl) 1 event_count
 setup_fits Pages = refl
 setup_fits Files = refl
 setup_fits Threads = refl
@@ -77,9 +76,9 @@ setup_length Pages = refl
 setup_length Files = refl
 setup_length Threads = refl
 
-setup_goes_on : (service : ServiceKind) → list_all (λ c. not (fun_at (facts_by service).funs c.fun).block) (setup_of service) ≡ true
-setup_goes_on Locks = times_all (λ c. not (fun_at (facts_by Locks).funs c.fun).block) (call lock_alloc_number []) refl lock_count
-setup_goes_on Events = times_all (λ c. not (fun_at (facts_by Events).funs c.fun).block) (call evt_split_number []) refl event_count
+setup_goes_on : (service : ServiceKind) → list_all (λ c. not (fun_at (standard service).facts.funs c.fun).block) (setup_of service) ≡ true
+setup_goes_on Locks = times_all (λ c. not (fun_at (standard Locks).facts.funs c.fun).block) (call lock_alloc_number []) refl lock_count
+setup_goes_on Events = times_all (λ c. not (fun_at (standard Events).facts.funs c.fun).block) (call evt_split_number []) refl event_count
 setup_goes_on Pages = refl
 setup_goes_on Files = refl
 setup_goes_on Threads = refl
@@ -102,7 +101,7 @@ module _ (first : ℕ) (low : 1 ≤ first) where
   below_4 : nat_lt first (first + 1 + 1 + 1 + 1) ≡ true
   below_4 = grind (arith, nat_tests)
 
-  group_fits : (service : ServiceKind) (client group u : ℕ) → calls_fit (whole (facts_by service)) first (group_of service client first group u) ≡ true
+  group_fits : (service : ServiceKind) (client group u : ℕ) → calls_fit (standard service) first (group_of service client first group u) ≡ true
   group_fits Locks client group u = refl
   group_fits Events client group u = refl
   group_fits Pages client group u = rw (begun, below_1, below_3) refl
@@ -117,11 +116,11 @@ group_length Files client first group u = refl
 group_length Threads client first group u = refl
 
 groups_fit : (service : ServiceKind) (client x first group count : ℕ) → 1 ≤ first
-    → calls_fit (whole (facts_by service)) first (groups_from service client x first group count) ≡ true
+    → calls_fit (standard service) first (groups_from service client x first group count) ≡ true
 unfolding groups_from
 groups_fit service client x first group zero low = refl
 groups_fit service client x first group (suc count) low =
-    let i = whole (facts_by service) in
+    let i = standard service in
     let here = group_of service client first group (upper (drawn x)) in
     let rest = groups_from service client (drawn x) (first + group_size service) (group + 1) count in
     fit_both i first here rest (group_fits first low service client group (upper (drawn x)))
@@ -161,10 +160,10 @@ clients_ascend service client x (suc count) above more most =
 abbrev first_calls : ServiceKind → ℕ → List ScriptCall
 first_calls service c = if c == 1 then setup_of service else []
 
-first_fit : (service : ServiceKind) (c : ℕ) → calls_fit (whole (facts_by service)) 1 (first_calls service c) ≡ true
+first_fit : (service : ServiceKind) (c : ℕ) → calls_fit (standard service) 1 (first_calls service c) ≡ true
 first_fit service c = at (c == 1)
   where
-    at : (b : Bool) → calls_fit (whole (facts_by service)) 1 (if b then setup_of service else []) ≡ true
+    at : (b : Bool) → calls_fit (standard service) 1 (if b then setup_of service else []) ≡ true
     at true = setup_fits service
     at false = refl
 
@@ -208,7 +207,7 @@ module _ (service : ServiceKind) (number c : ℕ) where
   part : List ScriptCall
   part = part_of c (generated service number).clients
 
-  script_fits : calls_fit (whole (facts_by service)) 1 (script_calls (generated service number) c) ≡ true
+  script_fits : calls_fit (standard service) 1 (script_calls (generated service number) c) ≡ true
   script_fits = elim (part_is service c 1 (after_draws number stop_count) client_count) [
     | inl none ↦ behind [] none refl
     | inr some ↦ behind (calls_of_client service c some.0) some.1
@@ -216,12 +215,12 @@ module _ (service : ServiceKind) (number c : ℕ) where
   ]
     where
       behind : (calls : List ScriptCall) → part_of c (generated service number).clients ≡ calls
-          → calls_fit (whole (facts_by service)) (1 + calls_before (setup_count service) c) calls ≡ true
-          → calls_fit (whole (facts_by service)) 1 (script_calls (generated service number) c) ≡ true
+          → calls_fit (standard service) (1 + calls_before (setup_count service) c) calls ≡ true
+          → calls_fit (standard service) 1 (script_calls (generated service number) c) ≡ true
       behind calls is fit =
-          fit_both (whole (facts_by service)) 1 (first_calls service c) (part_of c (generated service number).clients) (first_fit service c)
-          (subst (λ m. calls_fit (whole (facts_by service)) (1 + m) (part_of c (generated service number).clients) ≡ true) (sym (first_length service c))
-          (subst (λ s. calls_fit (whole (facts_by service)) (1 + calls_before (setup_count service) c) s ≡ true) (sym is) fit))
+          fit_both (standard service) 1 (first_calls service c) (part_of c (generated service number).clients) (first_fit service c)
+          (subst (λ m. calls_fit (standard service) (1 + m) (part_of c (generated service number).clients) ≡ true) (sym (first_length service c))
+          (subst (λ s. calls_fit (standard service) (1 + calls_before (setup_count service) c) s ≡ true) (sym is) fit))
 
   script_few : length (script_calls (generated service number) c) ≤ most_script_calls
   script_few = elim (part_is service c 1 (after_draws number stop_count) client_count) [
@@ -238,7 +237,7 @@ module _ (service : ServiceKind) (number c : ℕ) where
           let same = ap length is in
           omega (arith, joined, first, before, same, few)
 
-pub generated_playable : (service : ServiceKind) (number : ℕ) → IsPlayable (whole (facts_by service)) (generated service number)
+pub generated_playable : (service : ServiceKind) (number : ℕ) → IsPlayable (standard service) (generated service number)
 generated_playable service number = record {
   fit = λ c. script_fits service number c;
   few = λ c. script_few service number c;

@@ -1,7 +1,7 @@
-// The functions that are called, by their services' numbers.
+// The functions that are called, and one that the standard interface of events declares besides, by their services' numbers.
 
 pub(crate) use sg_event::functions::{
-    SPLIT as EVT_SPLIT, TRIGGER as EVT_TRIGGER, WAIT as EVT_WAIT,
+    FREE as EVT_FREE, SPLIT as EVT_SPLIT, TRIGGER as EVT_TRIGGER, WAIT as EVT_WAIT,
 };
 pub(crate) use sg_lock::functions::{
     ALLOC as LOCK_ALLOC, RELEASE as LOCK_RELEASE, TAKE as LOCK_TAKE,

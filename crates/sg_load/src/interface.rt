@@ -1,40 +1,73 @@
 // The standard interface of a service.
 ghost use Rattle.std.specs.Prelude.{◌≡◌, ◌-◌, ◌<◌, ◌≤◌, ◌^◌, IfOk};
+ghost use Rattle.sg_facts.specs.Facts.{facts_of};
 ghost use Rattle.sg_facts.specs.Laws.{whole};
-ghost use Rattle.sg_load.specs.Services.{facts_by};
+ghost use Rattle.sg_load.specs.Services.{facts_by, standard};
 
 use crate::ServiceKind;
+use crate::functions::{EVT_FREE, EVT_SPLIT, EVT_TRIGGER, EVT_WAIT};
 use sg_check::Accepted;
-use sg_facts::{Interface, NoMemory, PairList};
+use sg_facts::{Interface, NoMemory, PairList, Shape};
 use std::alloc::Global;
 
-/// The interface of a service that declares each of its functions, with all its transitions and recover steps.
+// The functions that version 1 of the events' text declares: the first four, without evt_take.
+const EVENT_FUNS: usize = 4;
+
+// The transitions that it declares.
+const EVENT_MOVES: [(u8, u8); 3] = [
+    (EVT_SPLIT, EVT_WAIT),
+    (EVT_SPLIT, EVT_TRIGGER),
+    (EVT_SPLIT, EVT_FREE),
+];
+
+/// The standard interface of a service: each function that version 1 of its text declares, with all transitions and recover steps
+/// of these.
 pub fn standard(alloc: Global, service: ServiceKind) -> Result<Accepted, NoMemory>
-    ensures { IfOk result (λ accepted. accepted ≡ whole (facts_by service)) }
+    ensures standard { IfOk result (λ accepted. accepted ≡ standard service) }
+    ensures facts { IfOk result (λ accepted. accepted.facts ≡ facts_by service) }
 {
-    let iface = whole_interface(alloc, service)?;
+    let iface = standard_interface(alloc, service)?;
     Ok(Accepted::new(iface))
 }
 
-// The interface of a service that declares all, before the interface is known to fit.
-fn whole_interface(alloc: Global, service: ServiceKind) -> Result<Interface, NoMemory>
-    ensures { IfOk result (λ iface. iface ≡ whole (facts_by service)) }
+// The standard interface of a service, before it is known to fit.
+fn standard_interface(alloc: Global, service: ServiceKind) -> Result<Interface, NoMemory>
+    ensures { IfOk result (λ iface. iface ≡ standard service) }
 {
     let shape = service.shape();
-    let count = shape.funs.len();
-    let declared = all_of(count);
-    let moves = PairList::from_slice(alloc, shape.moves)?;
+    match service {
+        ServiceKind::Events => declaring(alloc, shape, EVENT_FUNS, &EVENT_MOVES),
+        ServiceKind::Locks | ServiceKind::Pages | ServiceKind::Files | ServiceKind::Threads => {
+            declaring(alloc, shape, shape.funs.len(), shape.moves)
+        }
+    }
+}
+
+// The interface of a shape that declares so many functions, the first ones, with these transitions and all recover steps.
+fn declaring(
+    alloc: Global,
+    shape: Shape,
+    count: usize,
+    moves: &[(u8, u8)],
+) -> Result<Interface, NoMemory>
+    requires { count < 32 }
+    ensures { IfOk result (λ iface. iface ≡ record (whole (facts_of shape)) { declared = 2 ^ count - 1; moves = moves.now }) }
+{
+    let declared = first_of(count);
+    let moves = PairList::from_slice(alloc, moves)?;
     let steps = PairList::from_slice(alloc, shape.steps)?;
     Ok(Interface {
         shape,
         declared,
+        version: 1,
+        eager: false,
         moves,
         steps,
     })
 }
 
-// So many functions, all declared.
-fn all_of(count: usize) -> u32
+// So many functions, the first ones, all declared.
+fn first_of(count: usize) -> u32
     requires { count < 32 }
     ensures { result ≡ 2 ^ count - 1 }
 {

@@ -1,5 +1,5 @@
-//! The generated load: for each of the five services a script of many calls and stops, from a number, on the interface that
-//! declares all of the service.
+//! The generated load: for each of the five services a script of many calls and stops, from a number, on the service's
+//! standard interface.
 //!
 //! - `kind`: the five services (`ServiceKind`)
 //! - `interface`: the standard interface of a service (`standard`)

@@ -5,8 +5,7 @@ ghost use Rattle.sg_load.specs.Drawn.{after_draws, stops_from};
 ghost use Rattle.sg_load.specs.Generated.{calls_of_client, clients_from, generated, groups_from, groups_of, setup_count};
 ghost use Rattle.sg_plain.specs.sg_script.Flaws.{calls_before};
 ghost use Rattle.sg_load.specs.Sizes.{client_count, stop_count};
-ghost use Rattle.sg_facts.specs.Laws.{whole};
-ghost use Rattle.sg_load.specs.Services.{facts_by};
+ghost use Rattle.sg_load.specs.Services.{standard};
 ghost use Rattle.sg_plain.specs.Playing.Playable.{IsPlayable};
 
 use crate::ServiceKind;
@@ -21,7 +20,7 @@ use std::alloc::Global;
 /// and 32 stops.
 pub fn generate(alloc: Global, service: ServiceKind, number: u64) -> Result<Script, NoMemory>
     ensures script { IfOk result (λ script. script ≡ generated service number) }
-    ensures playable { IfOk result (IsPlayable (whole (facts_by service))) }
+    ensures playable { IfOk result (IsPlayable (standard service)) }
     ensures stops { IfOk result (λ script. AscendsAbove 0 script.stops) }
 {
     let script = script_of(alloc, service, number)?;

@@ -8,8 +8,7 @@ use Rattle.sg_facts.specs.Trace.{run_of}
 use Rattle.sg_report.specs.sg_hist.declared.ended.Ended.{Ended}
 use Rattle.sg_input.specs.Inputs.{IsReady}
 use Rattle.sg_load.specs.Generated.{generated}
-use Rattle.sg_facts.specs.Laws.{whole}
-use Rattle.sg_load.specs.Services.{facts_by}
+use Rattle.sg_load.specs.Services.{facts_by, standard}
 use Rattle.sg_load.specs.declared.kind.ServiceKind.{ServiceKind}
 use Rattle.sg_load.specs.declared.kind.ServiceKind.TheVariants.{Locks, Events, Pages, Files, Threads}
 use Rattle.sg_load.specs.sg_lock.LockFacts.{lock_facts}
@@ -57,8 +56,8 @@ pub record IsRunOfInput (services : List Answering) (bytes : List ℕ) (in_threa
 
 -- this is a run of the script that is generated from a number for a service, under its standard interface, with its output
 pub record IsRunOfLoad (kind : ServiceKind) (number : ℕ) (ended : Ended) (written : List ℕ) : Type 0 where
-  pub run : IsRunOf (whole (facts_by kind)) (answering kind) (generated kind number) ended
+  pub run : IsRunOf (standard kind) (answering kind) (generated kind number) ended
   -- the turns are those of the play without stops until the service stops
-  pub schedule : FollowsSchedule (whole (facts_by kind)) (answering kind).ask (generated kind number) (run_of ended.trace) ended.history.items
+  pub schedule : FollowsSchedule (standard kind) (answering kind).ask (generated kind number) (run_of ended.trace) ended.history.items
   -- the bytes written are the line of the load
   pub output : written ≡ load_line_of (facts_by kind).name number ended

@@ -3,8 +3,7 @@ ghost use Rattle.std.specs.Prelude.{◌≡◌, ℕ, List, true, false, IfOk, Non
 ghost use Rattle.sg_report.specs.sg_hist.Recovered.{is_blocked};
 ghost use Rattle.sg_load.specs.sg_plain.Promises.{somebody_waits};
 ghost use Rattle.sg_load.specs.Generated.{generated};
-ghost use Rattle.sg_facts.specs.Laws.{whole};
-ghost use Rattle.sg_load.specs.Services.{facts_by};
+ghost use Rattle.sg_load.specs.Services.{standard};
 ghost use Rattle.sg_top.specs.Answer.{IsChecked, IsOutput, IsOwnOutput, IsPlayOutput, IsTabled, IsUpgradeOf, ended_status, has_input, is_in_threads};
 ghost use Rattle.sg_report.specs.Report.{report_of};
 ghost use Rattle.sg_top.specs.Headline.{answering};
@@ -167,7 +166,7 @@ pub fn loaded(alloc: Global, service: ServiceKind, number: u64) -> Result<Output
 
 // The run of the script that is generated for a service from a number.
 fn load_of(alloc: Global, service: ServiceKind, number: u64) -> Result<Played, NoMemory>
-    ensures { IfOk result (IsRunInOrder (whole (facts_by service)) (answering service) (generated service number)) }
+    ensures { IfOk result (IsRunInOrder (standard service) (answering service) (generated service number)) }
 {
     let accepted = standard(alloc, service)?;
     let script = generate(alloc, service, number)?;
