@@ -28,7 +28,7 @@ trigger_not_twice-walks = (tt, (tt, (record { unmade = refl; next = refl; parent
 trigger_not_twice-demanded : Each (λ p. IsDemanded event_stubs.interface event_stubs.walks trigger_not_twice_history (waiting trigger_not_twice_ends) p p.item.tag) (places_of trigger_not_twice)
 trigger_not_twice-demanded = (record { under_way = record { its = record { its = refl; made = (0, omega arith, refl) }; above = refl; first = refl }; guarded = refl }, (record { under_way = record { its = record { its = refl; made = (1, omega arith, refl) }; above = refl; first = refl }; guarded = refl }, (record { call = bare_call 2 1 2 1; admitted = record { under_way = record { its = record { its = refl; made = (2, omega arith, refl) }; above = refl; first = refl }; guarded = refl }; least = refl }, (record { call = bare_call 2 1 2 1; admitted = record { under_way = record { its = record { its = refl; made = (2, omega arith, refl) }; above = refl; first = refl }; guarded = refl }; least = refl }, (record { under_way = record { its = record { its = refl; made = (2, omega arith, refl) }; above = refl; first = refl }; guarded = refl }, (record { under_way = record { its = record { its = refl; made = (3, omega arith, refl) }; above = refl; first = refl }; guarded = refl }, tt))))))
 
-trigger_not_twice-tracked : Each (λ p. IsTrackedAt event_stubs.interface.facts event_stubs.walks trigger_not_twice_history p p.item.tag) (places_of trigger_not_twice)
+trigger_not_twice-tracked : Each (λ p. IsTrackedAt event_stubs.interface event_stubs.walks trigger_not_twice_history p p.item.tag) (places_of trigger_not_twice)
 trigger_not_twice-tracked = (record { whole = refl; rows = tt; real = refl; file = tt }, (record { whole = refl; rows = (record { id = refl; made = refl; parent = refl; state = refl; fields = refl }, tt); real = refl; file = tt }, (tt, (tt, (record { whole = refl; rows = (record { id = refl; made = refl; parent = refl; state = refl; fields = refl }, tt); real = refl; file = tt }, (record { whole = refl; rows = (record { id = refl; made = refl; parent = refl; state = refl; fields = refl }, tt); real = refl; file = tt }, tt))))))
 
 trigger_not_twice-points : ArePointsOf true event_stubs.interface.facts event_stubs.ask event_stubs.parts 0 trigger_not_twice.boots trigger_not_twice.points
@@ -67,7 +67,7 @@ present_value-walks = (tt, (tt, (tt, (tt, (record { unmade = refl; next = refl; 
 present_value-demanded : Each (λ p. IsDemanded event_stubs.interface event_stubs.walks present_value_history (waiting present_value_ends) p p.item.tag) (places_of present_value)
 present_value-demanded = (record { under_way = record { its = record { its = refl; made = (0, omega arith, refl) }; above = refl; first = refl }; guarded = refl }, (record { under_way = record { its = record { its = refl; made = (1, omega arith, refl) }; above = refl; first = refl }; guarded = refl }, (record { under_way = record { its = record { its = refl; made = (2, omega arith, refl) }; above = refl; first = refl }; guarded = refl }, (record { under_way = record { its = record { its = refl; made = (3, omega arith, refl) }; above = refl; first = refl }; guarded = refl }, (record { call = bare_call 1 5 2 1; admitted = record { under_way = record { its = record { its = refl; made = (4, omega arith, refl) }; above = refl; first = refl }; guarded = refl }; least = refl }, (record { call = bare_call 1 5 2 1; admitted = record { under_way = record { its = record { its = refl; made = (4, omega arith, refl) }; above = refl; first = refl }; guarded = refl }; least = refl }, (record { under_way = record { its = record { its = refl; made = (4, omega arith, refl) }; above = refl; first = refl }; guarded = refl }, tt)))))))
 
-present_value-tracked : Each (λ p. IsTrackedAt event_stubs.interface.facts event_stubs.walks present_value_history p p.item.tag) (places_of present_value)
+present_value-tracked : Each (λ p. IsTrackedAt event_stubs.interface event_stubs.walks present_value_history p p.item.tag) (places_of present_value)
 present_value-tracked = (record { whole = refl; rows = tt; real = refl; file = tt }, (record { whole = refl; rows = (record { id = refl; made = refl; parent = refl; state = refl; fields = refl }, tt); real = refl; file = tt }, (record { whole = refl; rows = (record { id = refl; made = refl; parent = refl; state = refl; fields = refl }, tt); real = refl; file = tt }, (record { whole = refl; rows = (record { id = refl; made = refl; parent = refl; state = refl; fields = refl }, tt); real = refl; file = tt }, (tt, (tt, (record { whole = refl; rows = (record { id = refl; made = refl; parent = refl; state = refl; fields = refl }, tt); real = refl; file = tt }, tt)))))))
 
 present_value-points : ArePointsOf true event_stubs.interface.facts event_stubs.ask event_stubs.parts 0 present_value.boots present_value.points
@@ -106,7 +106,7 @@ blocked_redone-walks = (tt, (tt, (record { unmade = refl; next = refl; parent = 
 blocked_redone-demanded : Each (λ p. IsDemanded event_stubs.interface event_stubs.walks blocked_redone_history (waiting blocked_redone_ends) p p.item.tag) (places_of blocked_redone)
 blocked_redone-demanded = (record { under_way = record { its = record { its = refl; made = (0, omega arith, refl) }; above = refl; first = refl }; guarded = refl }, (record { under_way = record { its = record { its = refl; made = (2, omega arith, refl) }; above = refl; first = refl }; guarded = refl }, (record { call = bare_call 2 1 2 1; admitted = record { under_way = record { its = record { its = refl; made = (2, omega arith, refl) }; above = refl; first = refl }; guarded = refl }; least = refl }, (record { under_way = record { its = record { its = refl; made = (1, omega arith, refl) }; above = refl; first = refl }; guarded = refl }, (record { under_way = record { its = record { its = refl; made = (2, omega arith, refl) }; above = refl; first = refl }; guarded = refl }, tt)))))
 
-blocked_redone-tracked : Each (λ p. IsTrackedAt event_stubs.interface.facts event_stubs.walks blocked_redone_history p p.item.tag) (places_of blocked_redone)
+blocked_redone-tracked : Each (λ p. IsTrackedAt event_stubs.interface event_stubs.walks blocked_redone_history p p.item.tag) (places_of blocked_redone)
 blocked_redone-tracked = (record { whole = refl; rows = tt; real = refl; file = tt }, (record { whole = refl; rows = (record { id = refl; made = refl; parent = refl; state = refl; fields = refl }, tt); real = refl; file = tt }, (tt, (record { whole = refl; rows = (record { id = refl; made = refl; parent = refl; state = refl; fields = refl }, tt); real = refl; file = tt }, (record { whole = refl; rows = (record { id = refl; made = refl; parent = refl; state = refl; fields = refl }, tt); real = refl; file = tt }, tt)))))
 
 blocked_redone-points : ArePointsOf true event_stubs.interface.facts event_stubs.ask event_stubs.parts 0 blocked_redone.boots blocked_redone.points

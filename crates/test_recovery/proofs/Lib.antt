@@ -1,4 +1,5 @@
 pub mod Apart
+pub mod EagerRuns
 pub mod EventFaults
 pub mod EventRuns
 pub mod LockFaults

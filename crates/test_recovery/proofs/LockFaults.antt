@@ -10,7 +10,7 @@ use Rattle.sg_recovery_laws.specs.sg_hist.Recovered.{ArePointsOf, IsRebuiltFor, 
 use Rattle.sg_recovery_laws.specs.sg_hist.Reading.{Position, is_whole_at, object_before}
 use Rattle.test_histories.specs.Written.{ok, ok_at}
 use Rattle.test_recovery.specs.Written.{bare_call, called, replied, walked}
-use Rattle.sg_facts.specs.Needs.{needs}
+use Rattle.sg_facts.specs.Needs.{wanted}
 use Rattle.test_recovery.proofs.Apart.{caller_of, desc_given, false_true, id_in, neither, none_some, not_empty}
 
 -- the third call alone may be under way
@@ -34,7 +34,7 @@ not_least : IsRebuiltFor lock_stubs.interface lock_stubs.walks two_locks_history
 not_least d =
     let seq = third d.call.seq d.admitted.under_way.above d.admitted.under_way.first in
     let call : bare_call 1 3 2 1 ≡ d.call = sym (each_contains (λ c. c.seq ≡ 3 → c ≡ bare_call 1 3 2 1) (calls_made two_locks_history (waiting two_locks_ends)) d.call own d.admitted.under_way.its.made seq) in
-    let e : 1 ≡ 2 = ap id_in (subst (λ c. find (λ i. not (is_whole_at lock_stubs.interface.facts lock_stubs.walks two_locks_history place i)) (needs lock_stubs.interface.facts (object_before lock_stubs.interface.facts two_locks_history place) c).ids ≡ Some 2) (sym call) d.least) in
+    let e : 1 ≡ 2 = ap id_in (subst (λ c. find (λ i. not (is_whole_at lock_stubs.interface.facts lock_stubs.walks two_locks_history place i)) (wanted lock_stubs.interface (object_before lock_stubs.interface.facts two_locks_history place) c).ids ≡ Some 2) (sym call) d.least) in
     omega (arith, e)
 
 pub another_id-wrong : IsRecovered lock_stubs stop_after_take_history another_id (waiting stop_after_take_ends) → ⊥

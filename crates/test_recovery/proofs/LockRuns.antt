@@ -28,7 +28,7 @@ stop_after_take-walks = (tt, (tt, (record { unmade = refl; next = refl; parent =
 stop_after_take-demanded : Each (λ p. IsDemanded lock_stubs.interface lock_stubs.walks stop_after_take_history (waiting stop_after_take_ends) p p.item.tag) (places_of stop_after_take)
 stop_after_take-demanded = (record { under_way = record { its = record { its = refl; made = (0, omega arith, refl) }; above = refl; first = refl }; guarded = refl }, (record { under_way = record { its = record { its = refl; made = (1, omega arith, refl) }; above = refl; first = refl }; guarded = refl }, (record { call = bare_call 1 3 3 1; admitted = record { under_way = record { its = record { its = refl; made = (2, omega arith, refl) }; above = refl; first = refl }; guarded = refl }; least = refl }, (record { call = bare_call 1 3 3 1; admitted = record { under_way = record { its = record { its = refl; made = (2, omega arith, refl) }; above = refl; first = refl }; guarded = refl }; least = refl }, (record { under_way = record { its = record { its = refl; made = (2, omega arith, refl) }; above = refl; first = refl }; guarded = refl }, (record { under_way = record { its = record { its = refl; made = (3, omega arith, refl) }; above = refl; first = refl }; guarded = refl }, tt))))))
 
-stop_after_take-tracked : Each (λ p. IsTrackedAt lock_stubs.interface.facts lock_stubs.walks stop_after_take_history p p.item.tag) (places_of stop_after_take)
+stop_after_take-tracked : Each (λ p. IsTrackedAt lock_stubs.interface lock_stubs.walks stop_after_take_history p p.item.tag) (places_of stop_after_take)
 stop_after_take-tracked = (record { whole = refl; rows = tt; real = refl; file = tt }, (record { whole = refl; rows = (record { id = refl; made = refl; parent = refl; state = refl; fields = refl }, tt); real = refl; file = tt }, (tt, (tt, (record { whole = refl; rows = (record { id = refl; made = refl; parent = refl; state = refl; fields = refl }, tt); real = refl; file = tt }, (record { whole = refl; rows = (record { id = refl; made = refl; parent = refl; state = refl; fields = refl }, tt); real = refl; file = tt }, tt))))))
 
 stop_after_take-points : ArePointsOf true lock_stubs.interface.facts lock_stubs.ask lock_stubs.parts 0 stop_after_take.boots stop_after_take.points
@@ -67,7 +67,7 @@ stop_before_storage-walks = (tt, (tt, (record { unmade = refl; next = refl; pare
 stop_before_storage-demanded : Each (λ p. IsDemanded lock_stubs.interface lock_stubs.walks stop_before_storage_history (waiting stop_before_storage_ends) p p.item.tag) (places_of stop_before_storage)
 stop_before_storage-demanded = (record { under_way = record { its = record { its = refl; made = (0, omega arith, refl) }; above = refl; first = refl }; guarded = refl }, (record { under_way = record { its = record { its = refl; made = (1, omega arith, refl) }; above = refl; first = refl }; guarded = refl }, (record { call = bare_call 1 2 2 1; admitted = record { under_way = record { its = record { its = refl; made = (1, omega arith, refl) }; above = refl; first = refl }; guarded = refl }; least = refl }, (record { under_way = record { its = record { its = refl; made = (1, omega arith, refl) }; above = refl; first = refl }; guarded = refl }, (record { under_way = record { its = record { its = refl; made = (2, omega arith, refl) }; above = refl; first = refl }; guarded = refl }, (record { under_way = record { its = record { its = refl; made = (3, omega arith, refl) }; above = refl; first = refl }; guarded = refl }, tt))))))
 
-stop_before_storage-tracked : Each (λ p. IsTrackedAt lock_stubs.interface.facts lock_stubs.walks stop_before_storage_history p p.item.tag) (places_of stop_before_storage)
+stop_before_storage-tracked : Each (λ p. IsTrackedAt lock_stubs.interface lock_stubs.walks stop_before_storage_history p p.item.tag) (places_of stop_before_storage)
 stop_before_storage-tracked = (record { whole = refl; rows = tt; real = refl; file = tt }, (record { whole = refl; rows = (record { id = refl; made = refl; parent = refl; state = refl; fields = refl }, tt); real = refl; file = tt }, (tt, (record { whole = refl; rows = (record { id = refl; made = refl; parent = refl; state = refl; fields = refl }, tt); real = refl; file = tt }, (record { whole = refl; rows = (record { id = refl; made = refl; parent = refl; state = refl; fields = refl }, tt); real = refl; file = tt }, (record { whole = refl; rows = (record { id = refl; made = refl; parent = refl; state = refl; fields = refl }, tt); real = refl; file = tt }, tt))))))
 
 stop_before_storage-points : ArePointsOf true lock_stubs.interface.facts lock_stubs.ask lock_stubs.parts 0 stop_before_storage.boots stop_before_storage.points
@@ -106,7 +106,7 @@ stop_in_walk-walks = (tt, (tt, (record { unmade = refl; next = refl; parent = re
 stop_in_walk-demanded : Each (λ p. IsDemanded lock_stubs.interface lock_stubs.walks stop_in_walk_history (waiting stop_in_walk_ends) p p.item.tag) (places_of stop_in_walk)
 stop_in_walk-demanded = (record { under_way = record { its = record { its = refl; made = (0, omega arith, refl) }; above = refl; first = refl }; guarded = refl }, (record { under_way = record { its = record { its = refl; made = (1, omega arith, refl) }; above = refl; first = refl }; guarded = refl }, (record { call = bare_call 1 3 3 1; admitted = record { under_way = record { its = record { its = refl; made = (2, omega arith, refl) }; above = refl; first = refl }; guarded = refl }; least = refl }, (record { call = bare_call 1 3 3 1; admitted = record { under_way = record { its = record { its = refl; made = (2, omega arith, refl) }; above = refl; first = refl }; guarded = refl }; least = refl }, (record { call = bare_call 1 3 3 1; admitted = record { under_way = record { its = record { its = refl; made = (2, omega arith, refl) }; above = refl; first = refl }; guarded = refl }; least = refl }, (record { call = bare_call 1 3 3 1; admitted = record { under_way = record { its = record { its = refl; made = (2, omega arith, refl) }; above = refl; first = refl }; guarded = refl }; least = refl }, (record { under_way = record { its = record { its = refl; made = (2, omega arith, refl) }; above = refl; first = refl }; guarded = refl }, (record { under_way = record { its = record { its = refl; made = (3, omega arith, refl) }; above = refl; first = refl }; guarded = refl }, tt))))))))
 
-stop_in_walk-tracked : Each (λ p. IsTrackedAt lock_stubs.interface.facts lock_stubs.walks stop_in_walk_history p p.item.tag) (places_of stop_in_walk)
+stop_in_walk-tracked : Each (λ p. IsTrackedAt lock_stubs.interface lock_stubs.walks stop_in_walk_history p p.item.tag) (places_of stop_in_walk)
 stop_in_walk-tracked = (record { whole = refl; rows = tt; real = refl; file = tt }, (record { whole = refl; rows = (record { id = refl; made = refl; parent = refl; state = refl; fields = refl }, tt); real = refl; file = tt }, (tt, (tt, (tt, (tt, (record { whole = refl; rows = (record { id = refl; made = refl; parent = refl; state = refl; fields = refl }, tt); real = refl; file = tt }, (record { whole = refl; rows = (record { id = refl; made = refl; parent = refl; state = refl; fields = refl }, tt); real = refl; file = tt }, tt))))))))
 
 stop_in_walk-points : ArePointsOf true lock_stubs.interface.facts lock_stubs.ask lock_stubs.parts 0 stop_in_walk.boots stop_in_walk.points

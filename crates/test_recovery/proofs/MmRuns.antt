@@ -29,7 +29,7 @@ parent_first-walks = (tt, (tt, (record { unmade = refl; next = refl; parent = re
 parent_first-demanded : Each (λ p. IsDemanded mm_stubs.interface mm_stubs.walks parent_first_history (waiting parent_first_ends) p p.item.tag) (places_of parent_first)
 parent_first-demanded = (record { under_way = record { its = record { its = refl; made = (0, omega arith, refl) }; above = refl; first = refl }; guarded = refl }, (record { under_way = record { its = record { its = refl; made = (1, omega arith, refl) }; above = refl; first = refl }; guarded = refl }, (record { call = bare_call 2 2 3 2; admitted = record { under_way = record { its = record { its = refl; made = (2, omega arith, refl) }; above = refl; first = refl }; guarded = refl }; least = refl }, (record { call = bare_call 2 2 3 2; admitted = record { under_way = record { its = record { its = refl; made = (2, omega arith, refl) }; above = refl; first = refl }; guarded = refl }; least = refl }, (record { under_way = record { its = record { its = refl; made = (2, omega arith, refl) }; above = refl; first = refl }; guarded = refl }, tt)))))
 
-parent_first-tracked : Each (λ p. IsTrackedAt mm_stubs.interface.facts mm_stubs.walks parent_first_history p p.item.tag) (places_of parent_first)
+parent_first-tracked : Each (λ p. IsTrackedAt mm_stubs.interface mm_stubs.walks parent_first_history p p.item.tag) (places_of parent_first)
 parent_first-tracked = (record { whole = refl; rows = tt; real = refl; file = tt }, (record { whole = refl; rows = (record { id = refl; made = refl; parent = refl; state = refl; fields = refl }, tt); real = refl; file = tt }, (tt, (tt, (record { whole = refl; rows = (record { id = refl; made = refl; parent = refl; state = refl; fields = refl }, (record { id = refl; made = refl; parent = refl; state = refl; fields = refl }, tt)); real = refl; file = tt }, tt)))))
 
 parent_first-points : ArePointsOf true mm_stubs.interface.facts mm_stubs.ask mm_stubs.parts 0 parent_first.boots parent_first.points
@@ -68,7 +68,7 @@ occupied_after_stop-walks = (tt, (record { unmade = refl; next = refl; parent = 
 occupied_after_stop-demanded : Each (λ p. IsDemanded mm_stubs.interface mm_stubs.walks occupied_after_stop_history (waiting occupied_after_stop_ends) p p.item.tag) (places_of occupied_after_stop)
 occupied_after_stop-demanded = (record { under_way = record { its = record { its = refl; made = (0, omega arith, refl) }; above = refl; first = refl }; guarded = refl }, (record { call = call_with 1 2 1 0 ((word 4096) ∷ []); admitted = record { under_way = record { its = record { its = refl; made = (1, omega arith, refl) }; above = refl; first = refl }; guarded = refl }; least = refl }, (record { under_way = record { its = record { its = refl; made = (1, omega arith, refl) }; above = refl; first = refl }; guarded = refl }, tt)))
 
-occupied_after_stop-tracked : Each (λ p. IsTrackedAt mm_stubs.interface.facts mm_stubs.walks occupied_after_stop_history p p.item.tag) (places_of occupied_after_stop)
+occupied_after_stop-tracked : Each (λ p. IsTrackedAt mm_stubs.interface mm_stubs.walks occupied_after_stop_history p p.item.tag) (places_of occupied_after_stop)
 occupied_after_stop-tracked = (record { whole = refl; rows = tt; real = refl; file = tt }, (tt, (record { whole = refl; rows = (record { id = refl; made = refl; parent = refl; state = refl; fields = refl }, tt); real = refl; file = tt }, tt)))
 
 occupied_after_stop-points : ArePointsOf true mm_stubs.interface.facts mm_stubs.ask mm_stubs.parts 0 occupied_after_stop.boots occupied_after_stop.points
@@ -107,7 +107,7 @@ subtree-walks = (tt, (tt, (tt, (record { unmade = refl; next = refl; parent = re
 subtree-demanded : Each (λ p. IsDemanded mm_stubs.interface mm_stubs.walks subtree_history (waiting subtree_ends) p p.item.tag) (places_of subtree)
 subtree-demanded = (record { under_way = record { its = record { its = refl; made = (0, omega arith, refl) }; above = refl; first = refl }; guarded = refl }, (record { under_way = record { its = record { its = refl; made = (1, omega arith, refl) }; above = refl; first = refl }; guarded = refl }, (record { under_way = record { its = record { its = refl; made = (2, omega arith, refl) }; above = refl; first = refl }; guarded = refl }, (record { call = call_with 2 1 4 0 ((word 1) ∷ (word 8192) ∷ []); admitted = record { under_way = record { its = record { its = refl; made = (4, omega arith, refl) }; above = refl; first = refl }; guarded = refl }; least = refl }, (record { call = call_with 2 1 4 0 ((word 1) ∷ (word 8192) ∷ []); admitted = record { under_way = record { its = record { its = refl; made = (4, omega arith, refl) }; above = refl; first = refl }; guarded = refl }; least = refl }, (record { under_way = record { its = record { its = refl; made = (3, omega arith, refl) }; above = refl; first = refl }; guarded = refl }, (record { under_way = record { its = record { its = refl; made = (4, omega arith, refl) }; above = refl; first = refl }; guarded = refl }, tt)))))))
 
-subtree-tracked : Each (λ p. IsTrackedAt mm_stubs.interface.facts mm_stubs.walks subtree_history p p.item.tag) (places_of subtree)
+subtree-tracked : Each (λ p. IsTrackedAt mm_stubs.interface mm_stubs.walks subtree_history p p.item.tag) (places_of subtree)
 subtree-tracked = (record { whole = refl; rows = tt; real = refl; file = tt }, (record { whole = refl; rows = (record { id = refl; made = refl; parent = refl; state = refl; fields = refl }, tt); real = refl; file = tt }, (record { whole = refl; rows = (record { id = refl; made = refl; parent = refl; state = refl; fields = refl }, (record { id = refl; made = refl; parent = refl; state = refl; fields = refl }, tt)); real = refl; file = tt }, (tt, (tt, (record { whole = refl; rows = (record { id = refl; made = refl; parent = refl; state = refl; fields = refl }, tt); real = refl; file = tt }, (record { whole = refl; rows = tt; real = refl; file = tt }, tt)))))))
 
 subtree-points : ArePointsOf true mm_stubs.interface.facts mm_stubs.ask mm_stubs.parts 0 subtree.boots subtree.points

@@ -29,7 +29,7 @@ file_loaded-walks = (tt, (tt, (tt, (tt, (tt, (record { unmade = refl; next = ref
 file_loaded-demanded : Each (λ p. IsDemanded ramfs_stubs.interface ramfs_stubs.walks file_loaded_history (waiting file_loaded_ends) p p.item.tag) (places_of file_loaded)
 file_loaded-demanded = (record { under_way = record { its = record { its = refl; made = (0, omega arith, refl) }; above = refl; first = refl }; guarded = refl }, (record { under_way = record { its = record { its = refl; made = (1, omega arith, refl) }; above = refl; first = refl }; guarded = refl }, (record { under_way = record { its = record { its = refl; made = (2, omega arith, refl) }; above = refl; first = refl }; guarded = refl }, (record { call = call_with 2 2 2 2 ((word 16) ∷ []); admitted = record { under_way = record { its = record { its = refl; made = (3, omega arith, refl) }; above = refl; first = refl }; guarded = refl }; rows = refl; file = refl; absent = refl; whole = (refl, refl, refl, λ e. cc) }, (record { under_way = record { its = record { its = refl; made = (3, omega arith, refl) }; above = refl; first = refl }; guarded = refl }, (record { call = call_with 1 3 4 1 ((word 9) ∷ []); admitted = record { under_way = record { its = record { its = refl; made = (4, omega arith, refl) }; above = refl; first = refl }; guarded = refl }; least = refl }, (record { call = call_with 1 3 4 1 ((word 9) ∷ []); admitted = record { under_way = record { its = record { its = refl; made = (4, omega arith, refl) }; above = refl; first = refl }; guarded = refl }; least = refl }, (record { under_way = record { its = record { its = refl; made = (4, omega arith, refl) }; above = refl; first = refl }; guarded = refl }, (record { under_way = record { its = record { its = refl; made = (5, omega arith, refl) }; above = refl; first = refl }; guarded = refl }, tt)))))))))
 
-file_loaded-tracked : Each (λ p. IsTrackedAt ramfs_stubs.interface.facts ramfs_stubs.walks file_loaded_history p p.item.tag) (places_of file_loaded)
+file_loaded-tracked : Each (λ p. IsTrackedAt ramfs_stubs.interface ramfs_stubs.walks file_loaded_history p p.item.tag) (places_of file_loaded)
 file_loaded-tracked = (record { whole = refl; rows = tt; real = refl; file = tt }, (record { whole = refl; rows = (record { id = refl; made = refl; parent = refl; state = refl; fields = refl }, tt); real = refl; file = (refl, refl) }, (record { whole = refl; rows = tt; real = refl; file = tt }, (tt, (record { whole = refl; rows = (record { id = refl; made = refl; parent = refl; state = refl; fields = refl }, tt); real = refl; file = (refl, refl) }, (tt, (tt, (record { whole = refl; rows = (record { id = refl; made = refl; parent = refl; state = refl; fields = refl }, tt); real = refl; file = tt }, (record { whole = refl; rows = (record { id = refl; made = refl; parent = refl; state = refl; fields = refl }, tt); real = refl; file = (refl, refl) }, tt)))))))))
 
 file_loaded-points : ArePointsOf true ramfs_stubs.interface.facts ramfs_stubs.ask ramfs_stubs.parts 0 file_loaded.boots file_loaded.points
@@ -68,7 +68,7 @@ held_lost-walks = (tt, (tt, (record { unmade = refl; next = refl; parent = refl;
 held_lost-demanded : Each (λ p. IsDemanded ramfs_stubs.interface ramfs_stubs.walks held_lost_history (waiting held_lost_ends) p p.item.tag) (places_of held_lost)
 held_lost-demanded = (record { under_way = record { its = record { its = refl; made = (0, omega arith, refl) }; above = refl; first = refl }; guarded = refl }, (record { under_way = record { its = record { its = refl; made = (3, omega arith, refl) }; above = refl; first = refl }; guarded = refl }, (record { call = call_with 1 2 4 1 ((word 4) ∷ []); admitted = record { under_way = record { its = record { its = refl; made = (3, omega arith, refl) }; above = refl; first = refl }; guarded = refl }; least = refl }, (record { under_way = record { its = record { its = refl; made = (2, omega arith, refl) }; above = refl; first = refl }; guarded = refl }, (record { under_way = record { its = record { its = refl; made = (3, omega arith, refl) }; above = refl; first = refl }; guarded = refl }, (record { under_way = record { its = record { its = refl; made = (4, omega arith, refl) }; above = refl; first = refl }; guarded = refl }, tt))))))
 
-held_lost-tracked : Each (λ p. IsTrackedAt ramfs_stubs.interface.facts ramfs_stubs.walks held_lost_history p p.item.tag) (places_of held_lost)
+held_lost-tracked : Each (λ p. IsTrackedAt ramfs_stubs.interface ramfs_stubs.walks held_lost_history p p.item.tag) (places_of held_lost)
 held_lost-tracked = (record { whole = refl; rows = tt; real = refl; file = tt }, (record { whole = refl; rows = (record { id = refl; made = refl; parent = refl; state = refl; fields = refl }, tt); real = refl; file = tt }, (tt, (record { whole = refl; rows = tt; real = refl; file = tt }, (record { whole = refl; rows = (record { id = refl; made = refl; parent = refl; state = refl; fields = refl }, tt); real = refl; file = tt }, (record { whole = refl; rows = (record { id = refl; made = refl; parent = refl; state = refl; fields = refl }, tt); real = refl; file = (refl, refl) }, tt))))))
 
 held_lost-points : ArePointsOf true ramfs_stubs.interface.facts ramfs_stubs.ask ramfs_stubs.parts 0 held_lost.boots held_lost.points
@@ -107,7 +107,7 @@ held_behind-walks = (tt, (tt, (tt, (tt, tt))))
 held_behind-demanded : Each (λ p. IsDemanded ramfs_stubs.interface ramfs_stubs.walks held_behind_history (waiting held_behind_ends) p p.item.tag) (places_of held_behind)
 held_behind-demanded = (record { under_way = record { its = record { its = refl; made = (0, omega arith, refl) }; above = refl; first = refl }; guarded = refl }, (record { under_way = record { its = record { its = refl; made = (2, omega arith, refl) }; above = refl; first = refl }; guarded = refl }, (record { under_way = record { its = record { its = refl; made = (1, omega arith, refl) }; above = refl; first = refl }; guarded = refl }, (record { under_way = record { its = record { its = refl; made = (3, omega arith, refl) }; above = refl; first = refl }; guarded = refl }, tt))))
 
-held_behind-tracked : Each (λ p. IsTrackedAt ramfs_stubs.interface.facts ramfs_stubs.walks held_behind_history p p.item.tag) (places_of held_behind)
+held_behind-tracked : Each (λ p. IsTrackedAt ramfs_stubs.interface ramfs_stubs.walks held_behind_history p p.item.tag) (places_of held_behind)
 held_behind-tracked = (record { whole = refl; rows = tt; real = refl; file = tt }, (record { whole = refl; rows = (record { id = refl; made = refl; parent = refl; state = refl; fields = refl }, tt); real = refl; file = tt }, (record { whole = refl; rows = tt; real = refl; file = tt }, (record { whole = refl; rows = (record { id = refl; made = refl; parent = refl; state = refl; fields = refl }, tt); real = refl; file = (refl, refl) }, tt))))
 
 held_behind-points : ArePointsOf true ramfs_stubs.interface.facts ramfs_stubs.ask ramfs_stubs.parts 0 held_behind.boots held_behind.points

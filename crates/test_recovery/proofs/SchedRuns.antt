@@ -28,7 +28,7 @@ ranks_kept-walks = (tt, (tt, (tt, (tt, (tt, (record { unmade = refl; next = refl
 ranks_kept-demanded : Each (λ p. IsDemanded sched_stubs.interface sched_stubs.walks ranks_kept_history (waiting ranks_kept_ends) p p.item.tag) (places_of ranks_kept)
 ranks_kept-demanded = (record { under_way = record { its = record { its = refl; made = (0, omega arith, refl) }; above = refl; first = refl }; guarded = refl }, (record { under_way = record { its = record { its = refl; made = (1, omega arith, refl) }; above = refl; first = refl }; guarded = refl }, (record { under_way = record { its = record { its = refl; made = (2, omega arith, refl) }; above = refl; first = refl }; guarded = refl }, (record { under_way = record { its = record { its = refl; made = (3, omega arith, refl) }; above = refl; first = refl }; guarded = refl }, (record { under_way = record { its = record { its = refl; made = (4, omega arith, refl) }; above = refl; first = refl }; guarded = refl }, (record { call = bare_call 1 6 6 0; admitted = record { under_way = record { its = record { its = refl; made = (5, omega arith, refl) }; above = refl; first = refl }; guarded = refl }; least = refl }, (record { call = bare_call 1 6 6 0; admitted = record { under_way = record { its = record { its = refl; made = (5, omega arith, refl) }; above = refl; first = refl }; guarded = refl }; least = refl }, (record { call = bare_call 1 6 6 0; admitted = record { under_way = record { its = record { its = refl; made = (5, omega arith, refl) }; above = refl; first = refl }; guarded = refl }; least = refl }, (record { call = bare_call 1 6 6 0; admitted = record { under_way = record { its = record { its = refl; made = (5, omega arith, refl) }; above = refl; first = refl }; guarded = refl }; least = refl }, (record { under_way = record { its = record { its = refl; made = (5, omega arith, refl) }; above = refl; first = refl }; guarded = refl }, tt))))))))))
 
-ranks_kept-tracked : Each (λ p. IsTrackedAt sched_stubs.interface.facts sched_stubs.walks ranks_kept_history p p.item.tag) (places_of ranks_kept)
+ranks_kept-tracked : Each (λ p. IsTrackedAt sched_stubs.interface sched_stubs.walks ranks_kept_history p p.item.tag) (places_of ranks_kept)
 ranks_kept-tracked = (record { whole = refl; rows = tt; real = refl; file = tt }, (record { whole = refl; rows = (record { id = refl; made = refl; parent = refl; state = refl; fields = refl }, tt); real = refl; file = tt }, (record { whole = refl; rows = (record { id = refl; made = refl; parent = refl; state = refl; fields = refl }, (record { id = refl; made = refl; parent = refl; state = refl; fields = refl }, tt)); real = refl; file = tt }, (record { whole = refl; rows = (record { id = refl; made = refl; parent = refl; state = refl; fields = refl }, tt); real = refl; file = tt }, (record { whole = refl; rows = (record { id = refl; made = refl; parent = refl; state = refl; fields = refl }, (record { id = refl; made = refl; parent = refl; state = refl; fields = refl }, tt)); real = refl; file = tt }, (tt, (tt, (tt, (tt, (record { whole = refl; rows = (record { id = refl; made = refl; parent = refl; state = refl; fields = refl }, (record { id = refl; made = refl; parent = refl; state = refl; fields = refl }, tt)); real = refl; file = tt }, tt))))))))))
 
 ranks_kept-points : ArePointsOf true sched_stubs.interface.facts sched_stubs.ask sched_stubs.parts 0 ranks_kept.boots ranks_kept.points
@@ -67,7 +67,7 @@ one_walk_two_clients-walks = (tt, (tt, (tt, (record { unmade = refl; next = refl
 one_walk_two_clients-demanded : Each (λ p. IsDemanded sched_stubs.interface sched_stubs.walks one_walk_two_clients_history (waiting one_walk_two_clients_ends) p p.item.tag) (places_of one_walk_two_clients)
 one_walk_two_clients-demanded = (record { under_way = record { its = record { its = refl; made = (0, omega arith, refl) }; above = refl; first = refl }; guarded = refl }, (record { under_way = record { its = record { its = refl; made = (1, omega arith, refl) }; above = refl; first = refl }; guarded = refl }, (record { under_way = record { its = record { its = refl; made = (3, omega arith, refl) }; above = refl; first = refl }; guarded = refl }, (record { call = bare_call 1 3 5 1; admitted = record { under_way = record { its = record { its = refl; made = (3, omega arith, refl) }; above = refl; first = refl }; guarded = refl }; least = refl }, (record { call = bare_call 2 1 4 1; admitted = record { under_way = record { its = record { its = refl; made = (2, omega arith, refl) }; above = refl; first = refl }; guarded = refl }; least = refl }, (record { call = bare_call 1 3 5 1; admitted = record { under_way = record { its = record { its = refl; made = (3, omega arith, refl) }; above = refl; first = refl }; guarded = refl }; least = refl }, (record { under_way = record { its = record { its = refl; made = (2, omega arith, refl) }; above = refl; first = refl }; guarded = refl }, (record { under_way = record { its = record { its = refl; made = (3, omega arith, refl) }; above = refl; first = refl }; guarded = refl }, tt))))))))
 
-one_walk_two_clients-tracked : Each (λ p. IsTrackedAt sched_stubs.interface.facts sched_stubs.walks one_walk_two_clients_history p p.item.tag) (places_of one_walk_two_clients)
+one_walk_two_clients-tracked : Each (λ p. IsTrackedAt sched_stubs.interface sched_stubs.walks one_walk_two_clients_history p p.item.tag) (places_of one_walk_two_clients)
 one_walk_two_clients-tracked = (record { whole = refl; rows = tt; real = refl; file = tt }, (record { whole = refl; rows = (record { id = refl; made = refl; parent = refl; state = refl; fields = refl }, tt); real = refl; file = tt }, (record { whole = refl; rows = (record { id = refl; made = refl; parent = refl; state = refl; fields = refl }, tt); real = refl; file = tt }, (tt, (tt, (tt, (record { whole = refl; rows = (record { id = refl; made = refl; parent = refl; state = refl; fields = refl }, tt); real = refl; file = tt }, (record { whole = refl; rows = (record { id = refl; made = refl; parent = refl; state = refl; fields = refl }, tt); real = refl; file = tt }, tt))))))))
 
 one_walk_two_clients-points : ArePointsOf true sched_stubs.interface.facts sched_stubs.ask sched_stubs.parts 0 one_walk_two_clients.boots one_walk_two_clients.points

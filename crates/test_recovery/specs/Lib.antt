@@ -1,3 +1,4 @@
+pub mod EagerRuns
 pub mod EventRuns
 pub mod LockRuns
 pub mod MmRuns

@@ -4,6 +4,7 @@
 //! `specs/Written.antt` has the words in which runs are written out.
 #![tactic(auto)]
 
+mod eager;
 mod events;
 mod files;
 mod locks;
@@ -11,6 +12,7 @@ mod pages;
 mod strict;
 mod threads;
 
+pub use eager::{both_rebuilt, one_rebuilt, second_first};
 pub use events::{blocked_redone, earlier_value, present_value, trigger_not_twice};
 pub use files::{file_loaded, held_behind, held_lost, loaded_twice};
 pub use locks::{
