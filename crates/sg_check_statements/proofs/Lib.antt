@@ -2,3 +2,4 @@ pub mod Firsts
 pub mod Clear
 pub mod Judged
 pub mod Sets
+pub mod Anywhere

@@ -12,6 +12,7 @@
 //! - `unknown`: names without a prototype; `protos`: the prototypes (`Protos`), and one that is there twice; `names`: sets of
 //!   names
 //! - `says`: what statements say of functions (`says_of`); `funs`: functions by their names (`fun_number`)
+//! - `laws`: a law of the definitions (`accepted_anywhere`)
 #![tactic(auto)]
 
 mod change;
@@ -22,6 +23,7 @@ mod flags;
 mod funs;
 mod heads;
 mod judge;
+mod laws;
 mod names;
 mod pairs;
 mod params;
@@ -34,6 +36,7 @@ mod unknown;
 pub use fault::{CheckError, CheckFault, CheckKind};
 pub use funs::fun_number;
 pub use judge::{Judge, first_flaw};
+pub use laws::accepted_anywhere;
 pub use protos::Protos;
 pub use says::says_of;
 pub use sg_parse::{Statement, Tree, parse};
