@@ -237,7 +237,7 @@ module _ (s : Stubs) (history : List Entry) (items : List Item) (is : IsAllThere
       let ok = ok_item writes_it.good writes_it.is in
       let table : IsByTable facts s.ask held (service_call item) (Replied (Ok ok.real) ok.patch) =
       subst (IsByTable facts s.ask held (service_call item)) ok.outcome (subst (AskedAs facts s.ask p) tag noted_so.table) in
-      let tracked : IsTracked facts s.walks h p = subst (IsTrackedAt facts s.walks h p) tag noted_so.settled.state in
+      let tracked : IsTracked s.interface s.walks h p = subst (IsTrackedAt s.interface s.walks h p) tag noted_so.settled.state in
       let uses : (fun_at facts.funs item.shown.fun).uses_file ≡ true = ap (λ (c : Call). (fun_at facts.funs c.fun).uses_file) shown ∙ writes_file facts call.fun writes_it.writing in
       let file : SameFile (object_before facts h p) held item.shown.desc item.real (Some (path_of (object_before facts h p).rows item.shown.desc)) =
       subst (SameFile (object_before facts h p) held item.shown.desc item.real) (ap (λ b. cond b (Some (path_of (object_before facts h p).rows item.shown.desc)) None) uses) tracked.file in
