@@ -1,7 +1,7 @@
 //! What descriptors come to, and the walks by which they are rebuilt: what each creation's descriptors reach by declared
 //! calls, whether a walk restores a state, and the least walk that does.
 //!
-//! - `reach`: all that descriptors can come to (`reachable`), by `closing` (the places that declared calls lead to),
+//! - `reach`: all that descriptors can come to (`reachable`), by `closing` (the places that declared calls lead to; `set_count`),
 //!   `effects` (what a function's effects make of a set of fields), `found` (the places that were found, each once) and
 //!   `place` (a state with a set of fields, and with the creation: `Triple`)
 //! - `restoring`: whether a walk restores a state and a set of fields (`restores`)
@@ -26,6 +26,7 @@ mod spot;
 mod step_set;
 mod steps;
 
+pub use closing::set_count;
 pub use least::shortest;
 pub use place::Triple;
 pub use reach::{TripleList, reachable};
