@@ -1,6 +1,6 @@
 -- Tokens that are like the pieces of a tree are the pieces of a tree that is equal but for places.
-use Rattle.std.proofs.Common.{ℕ, zero, suc, ◌≡◌, ◌≢◌, true, List, [], ◌∷◌, ◌++◌, Option, None, Some, map, replicate, codes, length, refl, sym, ap, ◌∙◌, subst, arith, append_assoc}
-use Rattle.std.specs.Prelude.{All}
+use Rattle.std.proofs.Common.{ℕ, zero, suc, ◌≡◌, ◌≢◌, Bool, true, false, if◌then◌else◌, List, [], ◌∷◌, ◌++◌, Option, None, Some, map, replicate, codes, length, refl, sym, ap, ◌∙◌, subst, arith, append_assoc, inl, inr}
+use Rattle.std.specs.Prelude.{All, ◌==◌}
 use Rattle.std.specs.List.{flat_map}
 use Rattle.std.specs.Option.{option_map}
 use Rattle.std.proofs.lemmas.List.Elements.{All-head, All-tail, All-cons}
@@ -9,7 +9,7 @@ use Rattle.sg_parse.specs.declared.tree.Facts.{Facts}
 use Rattle.sg_parse.specs.declared.tree.Statement.{Statement}
 use Rattle.sg_parse.specs.declared.tree.Statement.TheVariants.{One, Two, Proto}
 use Rattle.sg_parse.specs.declared.tree.Ret.{Ret}
-use Rattle.sg_parse.specs.declared.tree.Ret.TheVariants.{Plain, Set, Add}
+use Rattle.sg_parse.specs.declared.tree.Ret.TheVariants.{Plain, Set, Add, Sub}
 use Rattle.sg_parse.specs.declared.tree.TypeName.{TypeName}
 use Rattle.sg_parse.specs.declared.tree.Param.{Param}
 use Rattle.sg_parse.specs.declared.tree.Tree.{Tree}
@@ -17,11 +17,11 @@ use Rattle.sg_parse.specs.declared.words.Sort.{Sort}
 use Rattle.sg_parse.specs.declared.words.Sort.TheVariants.{Name, One as one_word, Two as two_word, Form, Parents, Closing, Flag}
 use Rattle.sg_parse.specs.Grammar.Named.{Named}
 use Rattle.sg_parse.specs.Grammar.Words.{is_of}
-use Rattle.sg_parse.specs.Grammar.Pieces.{Piece, word, mark, name, IsPiece}
+use Rattle.sg_parse.specs.Grammar.Pieces.{Piece, word, mark, name, two, kept, newer, seen, IsPiece}
 use Rattle.sg_parse.specs.sg_lex.Sentences.{ArePieces}
-use Rattle.sg_parse.specs.Grammar.Sentence.{open_brace, equals, open_bracket, close_bracket, comma, semicolon, star, fact_pieces, facts_pieces, type_pieces, form_pieces, param_pieces, more_params, params_pieces, returned_pieces, ret_pieces, statement_pieces, tree_pieces, IsType, IsRet, IsStatement, IsWellFormed}
+use Rattle.sg_parse.specs.Grammar.Sentence.{open_brace, equals, open_bracket, close_bracket, comma, semicolon, star, fact_pieces, head_pieces, last_pieces, recovery_word, type_pieces, form_pieces, param_pieces, more_params, params_pieces, returned_pieces, ret_pieces, statement_pieces, tree_pieces, IsType, IsRet, IsStatement, IsHead, IsWellFormed}
 use Rattle.sg_parse.specs.Grammar.Plain.{plain_name, plain_type, plain_param, plain_ret, plain_statement, plain_facts, plain}
-use Rattle.sg_print.proofs.Leads.{AreLike}
+use Rattle.sg_print.proofs.Leads.{AreLike, IsLike}
 
 -- tokens begin with what is like the pieces of a part: they begin with the pieces of an equal part, but for places
 record Again {X : Type 0} (pieces_of : X → List Piece) (plain_of : X → X) (Good : X → Type 0) (x : X) (tokens : List Lexeme) (more : List Piece) : Type 0 where
@@ -41,13 +41,17 @@ record Past (fixed : List Piece) (tokens : List Lexeme) (more : List Piece) : Ty
 abbrev Any : {X : Type 0} → X → Type 0
 Any x = Unit {0}
 
+-- a piece without a name
+fixed_back : (p : Piece) → ((token : Lexeme) → IsLike token p → IsPiece token p) → (more : List Piece) (tokens : List Lexeme) → AreLike tokens (p ∷ more)
+    → Past (p ∷ []) tokens more
+fixed_back p is more [] l = absurd l
+fixed_back p is more (t ∷ ts) l = record { behind = ts; left = l.1; back = λ ps h. (is t l.0, h) }
+
 word_back : (w : List ℕ) (more : List Piece) (tokens : List Lexeme) → AreLike tokens (word w ∷ more) → Past (word w ∷ []) tokens more
-word_back w more [] l = absurd l
-word_back w more (t ∷ ts) l = record { behind = ts; left = l.1; back = λ ps h. (l.0, h) }
+word_back w more tokens l = fixed_back (word w) (λ token h. h) more tokens l
 
 mark_back : (m : ℕ) (more : List Piece) (tokens : List Lexeme) → AreLike tokens (mark m ∷ more) → Past (mark m ∷ []) tokens more
-mark_back m more [] l = absurd l
-mark_back m more (t ∷ ts) l = record { behind = ts; left = l.1; back = λ ps h. (l.0, h) }
+mark_back m more tokens l = fixed_back (mark m) (λ token h. h) more tokens l
 
 stars_back : (k : ℕ) (more : List Piece) (tokens : List Lexeme) → AreLike tokens (replicate k star ++ more) → Past (replicate k star) tokens more
 stars_back zero more tokens l = record { behind = tokens; left = l; back = λ ps h. h }
@@ -207,7 +211,7 @@ params_back (p ∷ params) more tokens l =
 abbrev Returned : Type 0
 Returned = TypeName × Named
 
-abbrev pair_of : List ℕ → Returned → List Piece
+abbrev pair_of : Piece → Returned → List Piece
 pair_of what f = returned_pieces what f.0 f.1
 
 abbrev plain_returned : Returned → Returned
@@ -216,12 +220,12 @@ plain_returned f = (plain_type f.0, plain_name f.1)
 abbrev ReturnsType : Returned → Type 0
 ReturnsType f = IsType f.0
 
-returned_back : (what : List ℕ) (ty : TypeName) (field : Named) (more : List Piece) (tokens : List Lexeme)
+returned_back : (what : Piece) → ((token : Lexeme) → IsLike token what → IsPiece token what) → (ty : TypeName) (field : Named) (more : List Piece) (tokens : List Lexeme)
     → AreLike tokens (returned_pieces what ty field ++ more) → Again (pair_of what) plain_returned ReturnsType (ty, field) tokens more
-returned_back what ty field more tokens l =
+returned_back what is ty field more tokens l =
     let last : List Piece = comma ∷ name Name field ∷ close_bracket ∷ [] in
-    let w = word_back what (open_bracket ∷ (type_pieces ty ++ (last ++ more))) tokens
-    (subst (λ xs. AreLike tokens (word what ∷ open_bracket ∷ xs)) (append_assoc (type_pieces ty) last more) l) in
+    let w = fixed_back what is (open_bracket ∷ (type_pieces ty ++ (last ++ more))) tokens
+    (subst (λ xs. AreLike tokens (what ∷ open_bracket ∷ xs)) (append_assoc (type_pieces ty) last more) l) in
     let o = mark_back 0x28 (type_pieces ty ++ (last ++ more)) w.behind w.left in
     let r = type_back ty (last ++ more) o.behind o.left in
     let d = mark_back 0x2C (name Name field ∷ close_bracket ∷ more) r.behind r.left in
@@ -234,7 +238,7 @@ returned_back what ty field more tokens l =
       back = λ ps h.
           let tail : ArePieces IsPiece r.behind (comma ∷ name Name s.again ∷ close_bracket ∷ ps)
           = d.back (name Name s.again ∷ close_bracket ∷ ps) (s.back (close_bracket ∷ ps) (c.back ps h)) in
-          subst (λ xs. ArePieces IsPiece tokens (word what ∷ open_bracket ∷ xs))
+          subst (λ xs. ArePieces IsPiece tokens (what ∷ open_bracket ∷ xs))
           (sym (append_assoc (type_pieces r.again) (comma ∷ name Name s.again ∷ close_bracket ∷ []) ps))
           (w.back (open_bracket ∷ (type_pieces r.again ++ (comma ∷ name Name s.again ∷ close_bracket ∷ ps)))
           (o.back (type_pieces r.again ++ (comma ∷ name Name s.again ∷ close_bracket ∷ ps))
@@ -250,7 +254,7 @@ ret_back (Plain ty) more tokens l =
     let r = type_back ty more tokens l in
     record { again = Plain r.again; behind = r.behind; left = r.left; back = r.back; same = ap Plain r.same; kept = r.kept }
 ret_back (Set ty field) more tokens l =
-    let r = returned_back (codes "desc_data_retval") ty field more tokens l in
+    let r = returned_back (word (codes "desc_data_retval")) (λ token h. h) ty field more tokens l in
     record {
       again = Set r.again.0 r.again.1;
       behind = r.behind;
@@ -260,13 +264,24 @@ ret_back (Set ty field) more tokens l =
       kept = r.kept;
     }
 ret_back (Add ty field) more tokens l =
-    let r = returned_back (codes "desc_data_retval_add") ty field more tokens l in
+    let r = returned_back (word (codes "desc_data_retval_add")) (λ token h. h) ty field more tokens l in
     record {
       again = Add r.again.0 r.again.1;
       behind = r.behind;
       left = r.left;
       back = r.back;
       same = ap (λ (f : Returned). Add f.0 f.1) r.same;
+      kept = r.kept;
+    }
+
+ret_back (Sub ty field) more tokens l =
+    let r = returned_back kept (λ token h. h) ty field more tokens l in
+    record {
+      again = Sub r.again.0 r.again.1;
+      behind = r.behind;
+      left = r.left;
+      back = r.back;
+      same = ap (λ (f : Returned). Sub f.0 f.1) r.same;
       kept = r.kept;
     }
 
@@ -387,49 +402,83 @@ fact_back what sort end value more tokens l =
       same = v.same;
     }
 
+-- the facts that texts of both versions have
+abbrev shared_pieces : Facts → List Piece → List Piece
+shared_pieces f pieces = head_pieces f.service f.parent f.close f.global f.block f.has_data f.resc_data pieces
+
 record AgainFacts (f : Facts) (tokens : List Lexeme) (more : List Piece) : Type 0 where
   again : Facts
   behind : List Lexeme
   left : AreLike behind more
-  back : (ps : List Piece) → ArePieces IsPiece behind ps → ArePieces IsPiece tokens (facts_pieces again ps)
+  back : (ps : List Piece) → ArePieces IsPiece behind ps → ArePieces IsPiece tokens (shared_pieces again ps)
   same : plain_facts again ≡ plain_facts f
+  version : again.version ≡ f.version
+  eager : again.eager ≡ f.eager
 
-abbrev facts_of : Named → Named → Named → Named → Named → Named → Named → Facts
-facts_of a b c d e g h = record { service = a; parent = b; close = c; global = d; block = e; has_data = g; resc_data = h }
+abbrev facts_of : ℕ → Bool → Named → Named → Named → Named → Named → Named → Named → Facts
+facts_of version eager a b c d e g h =
+    record { version = version; service = a; parent = b; close = c; global = d; block = e; has_data = g; resc_data = h; eager = eager }
 
 -- facts are equal where each of their names is
-same_facts : {a b c d e g h a' b' c' d' e' g' h' : Named} → a ≡ a' → b ≡ b' → c ≡ c' → d ≡ d' → e ≡ e' → g ≡ g' → h ≡ h'
-    → facts_of a b c d e g h ≡ facts_of a' b' c' d' e' g' h'
-same_facts p q r s t u v = cc
+same_facts : (version : ℕ) (eager : Bool) {a b c d e g h a' b' c' d' e' g' h' : Named} → a ≡ a' → b ≡ b' → c ≡ c' → d ≡ d' → e ≡ e' → g ≡ g' → h ≡ h'
+    → facts_of version eager a b c d e g h ≡ facts_of version eager a' b' c' d' e' g' h'
+same_facts version eager p q r s t u v = cc
 
-facts_back : (f : Facts) (more : List Piece) (tokens : List Lexeme) → AreLike tokens (facts_pieces f more) → AgainFacts f tokens more
+facts_back : (f : Facts) (more : List Piece) (tokens : List Lexeme) → AreLike tokens (shared_pieces f more) → AgainFacts f tokens more
 facts_back f more tokens l =
-    let m7 : List Piece = semicolon ∷ more in
-    let m6 : List Piece = fact_pieces (codes "resc_has_data") Flag f.resc_data (mark 0x7D) m7 in
+    let m6 : List Piece = word (codes "resc_has_data") ∷ equals ∷ name Flag f.resc_data ∷ more in
     let m5 : List Piece = fact_pieces (codes "desc_has_data") Flag f.has_data comma m6 in
     let m4 : List Piece = fact_pieces (codes "desc_block") Flag f.block comma m5 in
     let m3 : List Piece = fact_pieces (codes "desc_is_global") Flag f.global comma m4 in
     let m2 : List Piece = fact_pieces (codes "desc_close") Closing f.close comma m3 in
     let m1 : List Piece = fact_pieces (codes "desc_has_parent") Parents f.parent comma m2 in
-    let m0 : List Piece = fact_pieces (codes "service") Name f.service comma m1 in
-    let w = word_back (codes "service_global_info") (equals ∷ open_brace ∷ m0) tokens l in
-    let q = mark_back 0x3D (open_brace ∷ m0) w.behind w.left in
-    let o = mark_back 0x7B m0 q.behind q.left in
-    let v1 = fact_back (codes "service") Name 0x2C f.service m1 o.behind o.left in
+    let v1 = fact_back (codes "service") Name 0x2C f.service m1 tokens l in
     let v2 = fact_back (codes "desc_has_parent") Parents 0x2C f.parent m2 v1.behind v1.left in
     let v3 = fact_back (codes "desc_close") Closing 0x2C f.close m3 v2.behind v2.left in
     let v4 = fact_back (codes "desc_is_global") Flag 0x2C f.global m4 v3.behind v3.left in
     let v5 = fact_back (codes "desc_block") Flag 0x2C f.block m5 v4.behind v4.left in
     let v6 = fact_back (codes "desc_has_data") Flag 0x2C f.has_data m6 v5.behind v5.left in
-    let v7 = fact_back (codes "resc_has_data") Flag 0x7D f.resc_data m7 v6.behind v6.left in
-    let e = mark_back 0x3B more v7.behind v7.left in
+    let w = word_back (codes "resc_has_data") (equals ∷ name Flag f.resc_data ∷ more) v6.behind v6.left in
+    let q = mark_back 0x3D (name Flag f.resc_data ∷ more) w.behind w.left in
+    let v7 = name_back Flag f.resc_data more q.behind q.left in
     record {
-      again = record { service = v1.again; parent = v2.again; close = v3.again; global = v4.again; block = v5.again; has_data = v6.again; resc_data = v7.again };
-      behind = e.behind;
-      left = e.left;
-      back = λ ps h. w.back _ (q.back _ (o.back _ (v1.back _ (v2.back _ (v3.back _ (v4.back _ (v5.back _ (v6.back _ (v7.back _ (e.back ps h))))))))));
-      same = same_facts v1.same v2.same v3.same v4.same v5.same v6.same v7.same;
+      again = record { version = f.version; service = v1.again; parent = v2.again; close = v3.again; global = v4.again; block = v5.again; has_data = v6.again; resc_data = v7.again; eager = f.eager };
+      behind = v7.behind;
+      left = v7.left;
+      back = λ ps h. v1.back _ (v2.back _ (v3.back _ (v4.back _ (v5.back _ (v6.back _ (w.back _ (q.back _ (v7.back ps h))))))));
+      same = same_facts f.version f.eager v1.same v2.same v3.same v4.same v5.same v6.same v7.same;
+      version = refl;
+      eager = refl;
     }
+
+-- ---- the end of the head
+
+-- the end of the head, where the flag says that the text is of version 2, and so below
+abbrev end_by : Bool → Bool → List Piece → List Piece
+end_by version eager more = if version then comma ∷ word (codes "desc_recover") ∷ equals ∷ word (recovery_word eager) ∷ last_pieces more else last_pieces more
+
+record PastEnd (version eager : Bool) (tokens : List Lexeme) (more : List Piece) : Type 0 where
+  behind : List Lexeme
+  left : AreLike behind more
+  back : (ps : List Piece) → ArePieces IsPiece behind ps → ArePieces IsPiece tokens (end_by version eager ps)
+
+last_back : (more : List Piece) (tokens : List Lexeme) → AreLike tokens (last_pieces more) → PastEnd false false tokens more
+last_back more tokens l =
+    let b = mark_back 0x7D (semicolon ∷ more) tokens l in
+    let e = mark_back 0x3B more b.behind b.left in
+    record { behind = e.behind; left = e.left; back = λ ps h. b.back (semicolon ∷ ps) (e.back ps h) }
+
+end_back : (version eager : Bool) (more : List Piece) (tokens : List Lexeme) → AreLike tokens (end_by version eager more) → PastEnd version eager tokens more
+end_back false eager more tokens l =
+    let e = last_back more tokens l in
+    record { behind = e.behind; left = e.left; back = e.back }
+end_back true eager more tokens l =
+    let c = mark_back 0x2C (word (codes "desc_recover") ∷ equals ∷ word (recovery_word eager) ∷ last_pieces more) tokens l in
+    let w = word_back (codes "desc_recover") (equals ∷ word (recovery_word eager) ∷ last_pieces more) c.behind c.left in
+    let q = mark_back 0x3D (word (recovery_word eager) ∷ last_pieces more) w.behind w.left in
+    let v = word_back (recovery_word eager) (last_pieces more) q.behind q.left in
+    let e = last_back more v.behind v.left in
+    record { behind = e.behind; left = e.left; back = λ ps h. c.back _ (w.back _ (q.back _ (v.back _ (e.back ps h)))) }
 
 -- ---- trees
 
@@ -439,14 +488,86 @@ pub record AgainTree (tree : Tree) (tokens : List Lexeme) : Type 0 where
   pub same : plain again ≡ plain tree
   pub kept : IsWellFormed tree → IsWellFormed again
 
-pub tree_back : (tree : Tree) (tokens : List Lexeme) → AreLike tokens (tree_pieces tree) → AgainTree tree tokens
-tree_back tree tokens l =
-    let f = facts_back tree.facts (flat_map statement_pieces tree.statements) tokens l in
-    let s = statements_back tree.statements f.behind f.left in
+abbrev facts_by : Bool → Facts → List Statement → List Piece
+facts_by version f ss = shared_pieces f (end_by version f.eager (flat_map statement_pieces ss))
+
+abbrev behind_brace : Bool → Facts → List Statement → List Piece
+behind_brace version f ss =
+    if version then word (codes "version") ∷ equals ∷ two ∷ comma ∷ map newer (facts_by version f ss) else facts_by version f ss
+
+-- a tree's facts and statements, as the pieces of the version
+record AgainParts (version : Bool) (tree : Tree) (tokens : List Lexeme) (pieces_of : Bool → Facts → List Statement → List Piece) : Type 0 where
+  again : Tree
+  pieces : ArePieces IsPiece tokens (pieces_of version again.facts again.statements)
+  same : plain again ≡ plain tree
+  version_is : again.facts.version ≡ tree.facts.version
+  eager_is : again.facts.eager ≡ tree.facts.eager
+  each : All IsStatement tree.statements → All IsStatement again.statements
+
+parts_back : (version : Bool) (tree : Tree) (tokens : List Lexeme) → AreLike tokens (facts_by version tree.facts tree.statements) → AgainParts version tree tokens facts_by
+parts_back version tree tokens l =
+    let f = facts_back tree.facts (end_by version tree.facts.eager (flat_map statement_pieces tree.statements)) tokens l in
+    let e = end_back version tree.facts.eager (flat_map statement_pieces tree.statements) f.behind f.left in
+    let s = statements_back tree.statements e.behind e.left in
     record {
       again = record { facts = f.again; statements = s.again };
-      pieces = f.back (flat_map statement_pieces s.again) s.pieces;
+      pieces = subst (λ eager. ArePieces IsPiece tokens (shared_pieces f.again (end_by version eager (flat_map statement_pieces s.again)))) (sym f.eager)
+          (f.back _ (e.back (flat_map statement_pieces s.again) s.pieces));
       same = ap (λ (x : Facts). let t : Tree = record { facts = x; statements = map plain_statement s.again } in t) f.same
           ∙ ap (λ (xs : List Statement). let t : Tree = record { facts = plain_facts tree.facts; statements = xs } in t) s.same;
-      kept = s.kept;
+      version_is = f.version;
+      eager_is = f.eager;
+      each = s.kept;
+    }
+
+seen_like : (tokens : List Lexeme) (pieces : List Piece) → AreLike tokens (map newer pieces) → AreLike (map seen tokens) pieces
+seen_like [] [] l = tt
+seen_like [] (p ∷ ps) l = absurd l
+seen_like (t ∷ ts) [] l = absurd l
+seen_like (t ∷ ts) (p ∷ ps) l = (l.0, seen_like ts ps l.1)
+
+newer_pieces : (tokens : List Lexeme) (pieces : List Piece) → ArePieces IsPiece (map seen tokens) pieces → ArePieces IsPiece tokens (map newer pieces)
+newer_pieces [] [] l = tt
+newer_pieces [] (p ∷ ps) l = absurd l
+newer_pieces (t ∷ ts) [] l = absurd l
+newer_pieces (t ∷ ts) (p ∷ ps) l = (l.0, newer_pieces ts ps l.1)
+
+brace_back : (version : Bool) (tree : Tree) (tokens : List Lexeme) → AreLike tokens (behind_brace version tree.facts tree.statements)
+    → AgainParts version tree tokens behind_brace
+brace_back false tree tokens l =
+    let p = parts_back false tree tokens l in
+    record { again = p.again; pieces = p.pieces; same = p.same; version_is = p.version_is; eager_is = p.eager_is; each = p.each }
+brace_back true tree tokens l =
+    let more : List Piece = map newer (facts_by true tree.facts tree.statements) in
+    let w = word_back (codes "version") (equals ∷ two ∷ comma ∷ more) tokens l in
+    let q = mark_back 0x3D (two ∷ comma ∷ more) w.behind w.left in
+    let n = fixed_back two (λ token h. h) (comma ∷ more) q.behind q.left in
+    let c = mark_back 0x2C more n.behind n.left in
+    let p = parts_back true tree (map seen c.behind) (seen_like c.behind (facts_by true tree.facts tree.statements) c.left) in
+    record {
+      again = p.again;
+      pieces = w.back _ (q.back _ (n.back _ (c.back _ (newer_pieces c.behind (facts_by true p.again.facts p.again.statements) p.pieces))));
+      same = p.same;
+      version_is = p.version_is;
+      eager_is = p.eager_is;
+      each = p.each;
+    }
+
+head_kept : (one other : Facts) → one.version ≡ other.version → one.eager ≡ other.eager → IsHead other → IsHead one
+head_kept one other v e (inl h) = inl (v ∙ h.0, e ∙ h.1)
+head_kept one other v e (inr h) = inr (v ∙ h)
+
+pub tree_back : (tree : Tree) (tokens : List Lexeme) → AreLike tokens (tree_pieces tree) → AgainTree tree tokens
+tree_back tree tokens l =
+    let more : List Piece = behind_brace (tree.facts.version == 2) tree.facts tree.statements in
+    let w = word_back (codes "service_global_info") (equals ∷ open_brace ∷ more) tokens l in
+    let q = mark_back 0x3D (open_brace ∷ more) w.behind w.left in
+    let o = mark_back 0x7B more q.behind q.left in
+    let p = brace_back (tree.facts.version == 2) tree o.behind o.left in
+    record {
+      again = p.again;
+      pieces = subst (λ n. ArePieces IsPiece tokens (word (codes "service_global_info") ∷ equals ∷ open_brace ∷ behind_brace (n == 2) p.again.facts p.again.statements))
+          (sym p.version_is) (w.back _ (q.back _ (o.back _ p.pieces)));
+      same = p.same;
+      kept = λ h. (head_kept p.again.facts tree.facts p.version_is p.eager_is h.0, p.each h.1);
     }

@@ -1,7 +1,9 @@
 pub mod Back
+pub mod Free
 pub mod Law
 pub mod Leads
 pub mod Places
 pub mod Texts
 pub mod Numbers
+pub mod Rows
 pub use Rattle.sg_parse.proofs as sg_parse

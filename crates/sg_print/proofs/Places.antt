@@ -6,13 +6,13 @@ use Rattle.std.specs.Option.{option_map}
 use Rattle.sg_parse.specs.declared.tree.Statement.{Statement}
 use Rattle.sg_parse.specs.declared.tree.Statement.TheVariants.{One, Two, Proto}
 use Rattle.sg_parse.specs.declared.tree.Ret.{Ret}
-use Rattle.sg_parse.specs.declared.tree.Ret.TheVariants.{Plain, Set, Add}
+use Rattle.sg_parse.specs.declared.tree.Ret.TheVariants.{Plain, Set, Add, Sub}
 use Rattle.sg_parse.specs.declared.tree.TypeName.{TypeName}
 use Rattle.sg_parse.specs.declared.tree.Param.{Param}
 use Rattle.sg_parse.specs.declared.tree.Tree.{Tree}
 use Rattle.sg_parse.specs.Grammar.Named.{Named}
 use Rattle.sg_parse.specs.Grammar.Plain.{plain_name, plain_type, plain_param, plain_ret, plain_statement, plain}
-use Rattle.sg_print.specs.Printed.{names_text, stars_text, type_text, type_before_comma, form_text, param_text, params_text, returned_text, ret_text, statement_text, facts_text, printed}
+use Rattle.sg_print.specs.Printed.{names_text, stars_text, type_text, type_before_comma, form_text, param_text, params_text, returned_text, ret_text, statement_text, facts_text, shared_text, printed}
 
 -- a list of parts has one text where each part has
 same_flat : {X : Type 0} (text : X → List ℕ) (change : X → X) → ((x : X) → text (change x) ≡ text x) → (xs : List X)
@@ -54,6 +54,7 @@ same_ret : (ret : Ret) → ret_text (plain_ret ret) ≡ ret_text ret
 same_ret (Plain ty) = same_type ty
 same_ret (Set ty field) = same_returned (codes "desc_data_retval") ty field
 same_ret (Add ty field) = same_returned (codes "desc_data_retval_add") ty field
+same_ret (Sub ty field) = same_returned (codes "desc_data_retval_sub") ty field
 
 same_statement : (s : Statement) → statement_text (plain_statement s) ≡ statement_text s
 same_statement (One w fun) = refl
@@ -63,6 +64,7 @@ same_statement (Proto ret n params) =
     ∙ ap (λ xs. concat (ret_text ret ∷ n.bytes ∷ codes "(" ∷ xs ∷ codes ");" ∷ (0x0A ∷ []) ∷ [])) (same_params params)
 
 same_tree : (tree : Tree) → printed (plain tree) ≡ printed tree
+unfolding shared_text
 same_tree tree = ap (λ xs. facts_text tree.facts ++ xs) (same_flat statement_text plain_statement same_statement tree.statements)
 
 pub same_text : (one other : Tree) → plain one ≡ plain other → printed one ≡ printed other

@@ -1,16 +1,17 @@
 -- The canonical text of a tree.
-use Rattle.std.specs.Prelude.{ℕ, ◌==◌, if◌then◌else◌, List, [], ◌∷◌, ◌++◌, None, Some, codes, replicate}
+use Rattle.std.specs.Prelude.{ℕ, Bool, ◌==◌, if◌then◌else◌, List, [], ◌∷◌, ◌++◌, None, Some, codes, replicate}
 use Rattle.std.specs.List.{concat, flat_map, join_by}
 use Rattle.std.specs.declared.option.Option.{Option}
 use Rattle.sg_parse.specs.declared.tree.Facts.{Facts}
 use Rattle.sg_parse.specs.declared.tree.Statement.{Statement}
 use Rattle.sg_parse.specs.declared.tree.Statement.TheVariants.{One, Two, Proto}
 use Rattle.sg_parse.specs.declared.tree.Ret.{Ret}
-use Rattle.sg_parse.specs.declared.tree.Ret.TheVariants.{Plain, Set, Add}
+use Rattle.sg_parse.specs.declared.tree.Ret.TheVariants.{Plain, Set, Add, Sub}
 use Rattle.sg_parse.specs.declared.tree.TypeName.{TypeName}
 use Rattle.sg_parse.specs.declared.tree.Param.{Param}
 use Rattle.sg_parse.specs.declared.tree.Tree.{Tree}
 use Rattle.sg_parse.specs.Grammar.Named.{Named}
+use Rattle.sg_parse.specs.Grammar.Sentence.{recovery_word}
 use Rattle.sg_facts.specs.Words.{line_end}
 
 -- names, with a space between two
@@ -51,6 +52,7 @@ abbrev pub ret_text : Ret → List ℕ
 ret_text (Plain ty) = type_text ty
 ret_text (Set ty field) = returned_text (codes "desc_data_retval") ty field
 ret_text (Add ty field) = returned_text (codes "desc_data_retval_add") ty field
+ret_text (Sub ty field) = returned_text (codes "desc_data_retval_sub") ty field
 
 -- the line of a statement
 abbrev pub statement_text : Statement → List ℕ
@@ -60,17 +62,30 @@ statement_text (Two word first second) =
 statement_text (Proto ret n params) =
     concat (ret_text ret ∷ n.bytes ∷ codes "(" ∷ params_text params ∷ codes ");" ∷ line_end ∷ [])
 
--- the lines of the facts: each fact stands after four spaces
-abbrev pub facts_text : Facts → List ℕ
-facts_text f = concat (
-    codes "service_global_info = {" ∷ line_end
-    ∷ codes "    service = " ∷ f.service.bytes ∷ codes "," ∷ line_end
+-- the line of the version, which a text of version 2 has
+abbrev pub version_line : ℕ → List ℕ
+version_line version = if version == 2 then codes "    version = 2," ++ line_end else []
+
+-- after the last fact that texts of both versions have, one of version 2 says when descriptors are rebuilt
+abbrev pub recovery_text : (version : ℕ) (eager : Bool) → List ℕ
+recovery_text version eager =
+    if version == 2 then codes "," ++ (line_end ++ (codes "    desc_recover = " ++ recovery_word eager)) else []
+
+-- the facts that texts of both versions have, up to the value of the last: each stands after four spaces
+unfoldable pub shared_text : Facts → List ℕ
+shared_text f = concat (
+    codes "    service = " ∷ f.service.bytes ∷ codes "," ∷ line_end
     ∷ codes "    desc_has_parent = " ∷ f.parent.bytes ∷ codes "," ∷ line_end
     ∷ codes "    desc_close = " ∷ f.close.bytes ∷ codes "," ∷ line_end
     ∷ codes "    desc_is_global = " ∷ f.global.bytes ∷ codes "," ∷ line_end
     ∷ codes "    desc_block = " ∷ f.block.bytes ∷ codes "," ∷ line_end
     ∷ codes "    desc_has_data = " ∷ f.has_data.bytes ∷ codes "," ∷ line_end
-    ∷ codes "    resc_has_data = " ∷ f.resc_data.bytes ∷ line_end
+    ∷ codes "    resc_has_data = " ∷ f.resc_data.bytes ∷ [])
+
+-- the lines of the facts
+abbrev pub facts_text : Facts → List ℕ
+facts_text f = concat (
+    codes "service_global_info = {" ∷ line_end ∷ version_line f.version ∷ shared_text f ∷ recovery_text f.version f.eager ∷ line_end
     ∷ codes "};" ∷ line_end ∷ [])
 
 -- the facts, and then each statement on a line of its own, in order

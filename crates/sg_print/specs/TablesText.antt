@@ -13,16 +13,25 @@ use Rattle.sg_facts.specs.Facts.{Facts, Field, Fun, fun_at}
 use Rattle.sg_facts.specs.Interface.{Declared, declares, has_pair}
 use Rattle.sg_facts.specs.Tables.{Compiled}
 use Rattle.sg_facts.specs.Words.{parents_word, close_word, flag_word, field_name, line_end}
+use Rattle.sg_parse.specs.Grammar.Sentence.{recovery_word}
 
 -- ---- facts
 
--- the lines of the service and of its facts
-abbrev pub facts_lines : Facts → List ℕ
-facts_lines f = concat (
+-- the line of the service, and the line of its facts up to the last of them
+unfoldable pub service_lines : Facts → List ℕ
+service_lines f = concat (
     codes "service " ∷ f.name ∷ line_end
     ∷ codes "facts parent=" ∷ parents_word f.parents ∷ codes " close=" ∷ close_word f.subtree
     ∷ codes " global=" ∷ flag_word f.global ∷ codes " block=" ∷ flag_word f.block ∷ codes " desc_data=" ∷ flag_word f.has_data
-    ∷ codes " resc_data=" ∷ flag_word f.resc_data ∷ line_end ∷ [])
+    ∷ codes " resc_data=" ∷ flag_word f.resc_data ∷ [])
+
+-- when descriptors are rebuilt, which an interface of version 2 says
+abbrev pub recover_piece : (version : ℕ) (eager : Bool) → List ℕ
+recover_piece version eager = if version == 2 then codes " recover=" ++ recovery_word eager else []
+
+-- the lines of the service and of its facts
+abbrev pub facts_lines : Declared → List ℕ
+facts_lines i = concat (service_lines i.facts ∷ recover_piece i.version i.eager ∷ line_end ∷ [])
 
 -- ---- functions
 
@@ -150,5 +159,5 @@ walk_line facts line = concat (
 -- the text of tables: the facts; the declared functions; the transitions, and the recover steps; the walks in their order
 abbrev pub tables_text : Compiled → List ℕ
 tables_text t = concat (
-    facts_lines t.iface.facts ∷ fun_lines t.iface ∷ pair_lines (codes "move") t.iface.facts.funs t.iface.moves
+    facts_lines t.iface ∷ fun_lines t.iface ∷ pair_lines (codes "move") t.iface.facts.funs t.iface.moves
     ∷ pair_lines (codes "step") t.iface.facts.funs t.iface.steps ∷ flat_map (walk_line t.iface.facts) t.walks ∷ [])

@@ -4,7 +4,8 @@
 //! - `types`: the texts of types, parameters and returns
 //! - `tables`: the text of tables (`print_tables`); `funs`: the lines of functions
 //! - `parts`: texts in a row
-//! - `laws`: a printed tree reads back, and places are not printed
+//! - `words`: the words for when descriptors are rebuilt
+//! - `laws`: a printed tree reads back, as one of version 2 too; and places are not printed
 #![tactic(auto)]
 
 mod funs;
@@ -13,8 +14,9 @@ mod parts;
 mod statements;
 mod tables;
 mod types;
+mod words;
 
-pub use laws::{places_are_not_printed, prints_parse_back};
+pub use laws::{places_are_not_printed, prints_parse_back, upgrades_parse_back};
 pub use sg_parse::{
     LexFault, Lexer, ParseError, Ret, Statement, TokenKind, Tree, first_token, parse,
 };

@@ -1,9 +1,10 @@
 // The text of a tree.
 ghost use Rattle.std.specs.Prelude.{◌≡◌, ◌++◌, OnOk, IfOk};
-ghost use Rattle.sg_print.specs.Printed.{statement_text, facts_text, printed};
+ghost use Rattle.sg_print.specs.Printed.{statement_text, facts_text, printed, recovery_text, shared_text, version_line};
 
 use crate::parts::put;
 use crate::types::{put_params, put_ret};
+use crate::words::recovery_word;
 use sg_facts::{Bytes, NoMemory};
 use sg_parse::{Facts, Statement, Tree};
 use std::alloc::Global;
@@ -49,8 +50,32 @@ fn put_facts(out: &mut Bytes, facts: &Facts<'_>) -> Result<(), NoMemory>
 {
     put(
         out,
+        &[b"service_global_info = {\n", version_line(facts.version)],
+    )?;
+    put_shared(out, facts)?;
+    put_recovery(out, facts.version, facts.eager)?;
+    put(out, &[b"\n};\n"])
+}
+
+// The line of the version, which a text of version 2 has.
+fn version_line(version: u8) -> &'static [u8]
+    ensures { result.now ≡ version_line version }
+{
+    if version == 2 {
+        b"    version = 2,\n"
+    } else {
+        b""
+    }
+}
+
+// Adds the facts that texts of both versions have, up to the value of the last.
+#[tactic(auto, unfolding(crate::specs::Printed::shared_text))]
+fn put_shared(out: &mut Bytes, facts: &Facts<'_>) -> Result<(), NoMemory>
+    ensures { OnOk result (out.new ≡ out.old ++ shared_text facts.now) }
+{
+    put(
+        out,
         &[
-            b"service_global_info = {\n",
             b"    service = ",
             facts.service.slice,
             b",\n    desc_has_parent = ",
@@ -65,7 +90,17 @@ fn put_facts(out: &mut Bytes, facts: &Facts<'_>) -> Result<(), NoMemory>
             facts.has_data.slice,
             b",\n    resc_has_data = ",
             facts.resc_data.slice,
-            b"\n};\n",
         ],
     )
+}
+
+// Adds when descriptors are rebuilt, which a text of version 2 says after the other facts.
+fn put_recovery(out: &mut Bytes, version: u8, eager: bool) -> Result<(), NoMemory>
+    ensures { OnOk result (out.new ≡ out.old ++ recovery_text version eager) }
+{
+    if version == 2 {
+        put(out, &[b",\n    desc_recover = ", recovery_word(eager)])
+    } else {
+        Ok(())
+    }
 }

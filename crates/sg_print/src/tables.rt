@@ -3,10 +3,11 @@ ghost use Rattle.std.specs.Prelude.{◌≡◌, ◌++◌, map, OnOk, IfOk};
 ghost use Rattle.std.specs.List.{flat_map};
 ghost use Rattle.sg_facts.specs.Facts.{facts_of, fun_at, fun_of_shape};
 ghost use Rattle.sg_facts.specs.Interface.{has_pair};
-ghost use Rattle.sg_print.specs.TablesText.{facts_lines, fun_lines, walk_names, pair_line, pair_lines, pairs_from, set_names, set_word, tables_text, walk_line};
+ghost use Rattle.sg_print.specs.TablesText.{facts_lines, fun_lines, walk_names, pair_line, pair_lines, pairs_from, set_names, recover_piece, service_lines, set_word, tables_text, walk_line};
 
 use crate::funs::put_fun;
 use crate::parts::put;
+use crate::words::recovery_word;
 use sg_facts::{
     Bytes, END_OF_FUNS, FieldShape, Interface, NoMemory, Shape, Tables, WalkLine, close_word,
     flag_word, parents_word,
@@ -20,7 +21,7 @@ pub fn print_tables(alloc: Global, tables: &Tables) -> Result<Bytes, NoMemory>
 {
     let iface = tables.interface();
     let mut out = Bytes::new(alloc);
-    put_facts(&mut out, &iface.shape)?;
+    put_facts(&mut out, iface)?;
     put_funs(&mut out, alloc, iface)?;
     put_pairs(&mut out, b"move", &iface.shape, iface.moves.as_slice())?;
     put_pairs(&mut out, b"step", &iface.shape, iface.steps.as_slice())?;
@@ -29,8 +30,18 @@ pub fn print_tables(alloc: Global, tables: &Tables) -> Result<Bytes, NoMemory>
 }
 
 // Adds the lines of the service and of its facts.
-fn put_facts(out: &mut Bytes, shape: &Shape) -> Result<(), NoMemory>
-    ensures { OnOk result (out.new ≡ out.old ++ facts_lines (facts_of shape.now)) }
+fn put_facts(out: &mut Bytes, iface: &Interface) -> Result<(), NoMemory>
+    ensures { OnOk result (out.new ≡ out.old ++ facts_lines iface.now) }
+{
+    put_service(out, &iface.shape)?;
+    put_recover(out, iface.version, iface.eager)?;
+    put(out, &[b"\n"])
+}
+
+// Adds the line of the service, and the line of its facts up to the last of them.
+#[tactic(auto, unfolding(crate::specs::TablesText::service_lines))]
+fn put_service(out: &mut Bytes, shape: &Shape) -> Result<(), NoMemory>
+    ensures { OnOk result (out.new ≡ out.old ++ service_lines (facts_of shape.now)) }
 {
     put(out, &[b"service ", shape.name, b"\n"])?;
     put(
@@ -48,9 +59,19 @@ fn put_facts(out: &mut Bytes, shape: &Shape) -> Result<(), NoMemory>
             flag_word(shape.has_data),
             b" resc_data=",
             flag_word(shape.resc_data),
-            b"\n",
         ],
     )
+}
+
+// Adds when descriptors are rebuilt, which an interface of version 2 says.
+fn put_recover(out: &mut Bytes, version: u8, eager: bool) -> Result<(), NoMemory>
+    ensures { OnOk result (out.new ≡ out.old ++ recover_piece version eager) }
+{
+    if version == 2 {
+        put(out, &[b" recover=", recovery_word(eager)])
+    } else {
+        Ok(())
+    }
 }
 
 // Adds the lines of the declared functions.

@@ -89,5 +89,6 @@ pub fn put_ret(out: &mut Bytes, ret: &Ret<'_>) -> Result<(), NoMemory>
         Ret::Plain(ty) => put_type(out, ty),
         Ret::Set { ty, field } => put_returned(out, b"desc_data_retval", ty, field),
         Ret::Add { ty, field } => put_returned(out, b"desc_data_retval_add", ty, field),
+        Ret::Sub { ty, field } => put_returned(out, b"desc_data_retval_sub", ty, field),
     }
 }
