@@ -1,5 +1,5 @@
 -- Tokens that are like the pieces of a tree are the pieces of a tree that is equal but for places.
-use Rattle.std.proofs.Common.{ℕ, zero, suc, ◌≡◌, ◌≢◌, Bool, true, false, if◌then◌else◌, List, [], ◌∷◌, ◌++◌, Option, None, Some, map, replicate, codes, length, refl, sym, ap, ◌∙◌, subst, arith, append_assoc, inl, inr}
+use Rattle.std.proofs.Common.{ℕ, zero, suc, ◌≡◌, ◌≢◌, Bool, true, false, List, [], ◌∷◌, ◌++◌, Option, None, Some, map, replicate, codes, length, refl, sym, ap, ◌∙◌, subst, arith, append_assoc, inl, inr}
 use Rattle.std.specs.Prelude.{All, ◌==◌}
 use Rattle.std.specs.List.{flat_map}
 use Rattle.std.specs.Option.{option_map}
@@ -19,8 +19,9 @@ use Rattle.sg_parse.specs.Grammar.Named.{Named}
 use Rattle.sg_parse.specs.Grammar.Words.{is_of}
 use Rattle.sg_parse.specs.Grammar.Pieces.{Piece, word, mark, name, two, kept, newer, seen, IsPiece}
 use Rattle.sg_parse.specs.sg_lex.Sentences.{ArePieces}
-use Rattle.sg_parse.specs.Grammar.Sentence.{open_brace, equals, open_bracket, close_bracket, comma, semicolon, star, fact_pieces, head_pieces, last_pieces, recovery_word, type_pieces, form_pieces, param_pieces, more_params, params_pieces, returned_pieces, ret_pieces, statement_pieces, tree_pieces, IsType, IsRet, IsStatement, IsHead, IsWellFormed}
+use Rattle.sg_parse.specs.Grammar.Sentence.{open_brace, equals, open_bracket, close_bracket, comma, semicolon, star, fact_pieces, last_pieces, recovery_word, type_pieces, form_pieces, param_pieces, more_params, params_pieces, returned_pieces, ret_pieces, statement_pieces, tree_pieces, IsType, IsRet, IsStatement, IsHead, IsWellFormed}
 use Rattle.sg_parse.specs.Grammar.Plain.{plain_name, plain_type, plain_param, plain_ret, plain_statement, plain_facts, plain}
+use Rattle.sg_print.proofs.Heads.{shared_pieces, end_by, behind_brace}
 use Rattle.sg_print.proofs.Leads.{AreLike, IsLike}
 
 -- tokens begin with what is like the pieces of a part: they begin with the pieces of an equal part, but for places
@@ -273,7 +274,6 @@ ret_back (Add ty field) more tokens l =
       same = ap (λ (f : Returned). Add f.0 f.1) r.same;
       kept = r.kept;
     }
-
 ret_back (Sub ty field) more tokens l =
     let r = returned_back kept (λ token h. h) ty field more tokens l in
     record {
@@ -402,10 +402,6 @@ fact_back what sort end value more tokens l =
       same = v.same;
     }
 
--- the facts that texts of both versions have
-abbrev shared_pieces : Facts → List Piece → List Piece
-shared_pieces f pieces = head_pieces f.service f.parent f.close f.global f.block f.has_data f.resc_data pieces
-
 record AgainFacts (f : Facts) (tokens : List Lexeme) (more : List Piece) : Type 0 where
   again : Facts
   behind : List Lexeme
@@ -453,10 +449,7 @@ facts_back f more tokens l =
 
 -- ---- the end of the head
 
--- the end of the head, where the flag says that the text is of version 2, and so below
-abbrev end_by : Bool → Bool → List Piece → List Piece
-end_by version eager more = if version then comma ∷ word (codes "desc_recover") ∷ equals ∷ word (recovery_word eager) ∷ last_pieces more else last_pieces more
-
+-- the flag says that the text is of version 2, and so below
 record PastEnd (version eager : Bool) (tokens : List Lexeme) (more : List Piece) : Type 0 where
   behind : List Lexeme
   left : AreLike behind more
@@ -488,23 +481,19 @@ pub record AgainTree (tree : Tree) (tokens : List Lexeme) : Type 0 where
   pub same : plain again ≡ plain tree
   pub kept : IsWellFormed tree → IsWellFormed again
 
-abbrev facts_by : Bool → Facts → List Statement → List Piece
-facts_by version f ss = shared_pieces f (end_by version f.eager (flat_map statement_pieces ss))
-
-abbrev behind_brace : Bool → Facts → List Statement → List Piece
-behind_brace version f ss =
-    if version then word (codes "version") ∷ equals ∷ two ∷ comma ∷ map newer (facts_by version f ss) else facts_by version f ss
+abbrev facts_by : Bool → Facts → List Piece → List Piece
+facts_by version f more = shared_pieces f (end_by version f.eager more)
 
 -- a tree's facts and statements, as the pieces of the version
-record AgainParts (version : Bool) (tree : Tree) (tokens : List Lexeme) (pieces_of : Bool → Facts → List Statement → List Piece) : Type 0 where
+record AgainParts (version : Bool) (tree : Tree) (tokens : List Lexeme) (pieces_of : Bool → Facts → List Piece → List Piece) : Type 0 where
   again : Tree
-  pieces : ArePieces IsPiece tokens (pieces_of version again.facts again.statements)
+  pieces : ArePieces IsPiece tokens (pieces_of version again.facts (flat_map statement_pieces again.statements))
   same : plain again ≡ plain tree
   version_is : again.facts.version ≡ tree.facts.version
   eager_is : again.facts.eager ≡ tree.facts.eager
   each : All IsStatement tree.statements → All IsStatement again.statements
 
-parts_back : (version : Bool) (tree : Tree) (tokens : List Lexeme) → AreLike tokens (facts_by version tree.facts tree.statements) → AgainParts version tree tokens facts_by
+parts_back : (version : Bool) (tree : Tree) (tokens : List Lexeme) → AreLike tokens (facts_by version tree.facts (flat_map statement_pieces tree.statements)) → AgainParts version tree tokens facts_by
 parts_back version tree tokens l =
     let f = facts_back tree.facts (end_by version tree.facts.eager (flat_map statement_pieces tree.statements)) tokens l in
     let e = end_back version tree.facts.eager (flat_map statement_pieces tree.statements) f.behind f.left in
@@ -532,21 +521,21 @@ newer_pieces [] (p ∷ ps) l = absurd l
 newer_pieces (t ∷ ts) [] l = absurd l
 newer_pieces (t ∷ ts) (p ∷ ps) l = (l.0, newer_pieces ts ps l.1)
 
-brace_back : (version : Bool) (tree : Tree) (tokens : List Lexeme) → AreLike tokens (behind_brace version tree.facts tree.statements)
+brace_back : (version : Bool) (tree : Tree) (tokens : List Lexeme) → AreLike tokens (behind_brace version tree.facts (flat_map statement_pieces tree.statements))
     → AgainParts version tree tokens behind_brace
 brace_back false tree tokens l =
     let p = parts_back false tree tokens l in
     record { again = p.again; pieces = p.pieces; same = p.same; version_is = p.version_is; eager_is = p.eager_is; each = p.each }
 brace_back true tree tokens l =
-    let more : List Piece = map newer (facts_by true tree.facts tree.statements) in
+    let more : List Piece = map newer (facts_by true tree.facts (flat_map statement_pieces tree.statements)) in
     let w = word_back (codes "version") (equals ∷ two ∷ comma ∷ more) tokens l in
     let q = mark_back 0x3D (two ∷ comma ∷ more) w.behind w.left in
     let n = fixed_back two (λ token h. h) (comma ∷ more) q.behind q.left in
     let c = mark_back 0x2C more n.behind n.left in
-    let p = parts_back true tree (map seen c.behind) (seen_like c.behind (facts_by true tree.facts tree.statements) c.left) in
+    let p = parts_back true tree (map seen c.behind) (seen_like c.behind (facts_by true tree.facts (flat_map statement_pieces tree.statements)) c.left) in
     record {
       again = p.again;
-      pieces = w.back _ (q.back _ (n.back _ (c.back _ (newer_pieces c.behind (facts_by true p.again.facts p.again.statements) p.pieces))));
+      pieces = w.back _ (q.back _ (n.back _ (c.back _ (newer_pieces c.behind (facts_by true p.again.facts (flat_map statement_pieces p.again.statements)) p.pieces))));
       same = p.same;
       version_is = p.version_is;
       eager_is = p.eager_is;
@@ -559,14 +548,14 @@ head_kept one other v e (inr h) = inr (v ∙ h)
 
 pub tree_back : (tree : Tree) (tokens : List Lexeme) → AreLike tokens (tree_pieces tree) → AgainTree tree tokens
 tree_back tree tokens l =
-    let more : List Piece = behind_brace (tree.facts.version == 2) tree.facts tree.statements in
+    let more : List Piece = behind_brace (tree.facts.version == 2) tree.facts (flat_map statement_pieces tree.statements) in
     let w = word_back (codes "service_global_info") (equals ∷ open_brace ∷ more) tokens l in
     let q = mark_back 0x3D (open_brace ∷ more) w.behind w.left in
     let o = mark_back 0x7B more q.behind q.left in
     let p = brace_back (tree.facts.version == 2) tree o.behind o.left in
     record {
       again = p.again;
-      pieces = subst (λ n. ArePieces IsPiece tokens (word (codes "service_global_info") ∷ equals ∷ open_brace ∷ behind_brace (n == 2) p.again.facts p.again.statements))
+      pieces = subst (λ n. ArePieces IsPiece tokens (word (codes "service_global_info") ∷ equals ∷ open_brace ∷ behind_brace (n == 2) p.again.facts (flat_map statement_pieces p.again.statements)))
           (sym p.version_is) (w.back _ (q.back _ (o.back _ p.pieces)));
       same = p.same;
       kept = λ h. (head_kept p.again.facts tree.facts p.version_is p.eager_is h.0, p.each h.1);

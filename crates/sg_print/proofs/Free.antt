@@ -16,9 +16,10 @@ use Rattle.sg_parse.specs.declared.words.Sort.TheVariants.{Name, One as one_word
 use Rattle.sg_parse.specs.Grammar.Named.{Named}
 use Rattle.sg_parse.specs.Grammar.Words.{is_of}
 use Rattle.sg_parse.specs.Grammar.Pieces.{Piece, word, mark, name, two, kept, newer, kept_word}
-use Rattle.sg_parse.specs.Grammar.Sentence.{comma, close_bracket, equals, semicolon, star, fact_pieces, head_pieces, end_pieces, last_pieces, type_pieces, form_pieces, param_pieces, more_params, params_pieces, returned_pieces, ret_pieces, statement_pieces}
+use Rattle.sg_parse.specs.Grammar.Sentence.{comma, close_bracket, equals, semicolon, star, fact_pieces, end_pieces, last_pieces, type_pieces, form_pieces, param_pieces, more_params, params_pieces, returned_pieces, ret_pieces, statement_pieces}
 use Rattle.sg_parse.specs.Grammar.Upgraded.{IsFreeName, IsFreeType, IsFreeParam, IsFreeRet, IsFreeStatement}
 use Rattle.sg_parse.proofs.Grammar.Basics.{same_bytes}
+use Rattle.sg_print.proofs.Heads.{shared_pieces}
 use Rattle.sg_print.proofs.Leads.{IsProper, AreProper, proper_left, proper_right}
 
 -- a name isn't the kept word; no word of another sort is
@@ -68,14 +69,12 @@ are_upgraded : (ps : List Piece) → AreFree ps → AreProper false ps → ArePr
 are_upgraded [] f h = tt
 are_upgraded (p ∷ ps) f h = (piece_upgraded p f.0 h.0, are_upgraded ps f.1 h.1)
 
+-- and so are they as pieces of any text
 pub newer_proper : (ps : List Piece) → AreProper true ps → AreProper false (map newer ps)
 newer_proper [] h = tt
 newer_proper (p ∷ ps) h = (h.0, newer_proper ps h.1)
 
 -- ---- parts of a tree
-
-its : (n : Named) → IsFreeName n → IsFreePiece (name Name n)
-its n f = λ e. f
 
 names_free : (ns : List Named) → All IsFreeName ns → AreFree (map (name Name) ns)
 names_free [] f = tt
@@ -133,7 +132,7 @@ fact_free : (what : List ℕ) (sort : Sort) (value : Named) (more : List Piece) 
     → AreFree (fact_pieces what sort value comma more)
 fact_free what sort value more f m = (tt, (tt, (f, (tt, m))))
 
-shared_free : (q : Facts) → IsFreeName q.service → AreFree (head_pieces q.service q.parent q.close q.global q.block q.has_data q.resc_data [])
+shared_free : (q : Facts) → IsFreeName q.service → AreFree (shared_pieces q [])
 shared_free q f =
     let m6 : List Piece = word (codes "resc_has_data") ∷ equals ∷ name Flag q.resc_data ∷ [] in
     let m5 : List Piece = fact_pieces (codes "desc_has_data") Flag q.has_data comma m6 in
@@ -148,10 +147,10 @@ shared_free q f =
 
 -- the end of the head of a text of version 2 has more, in which no name is
 pub upgraded_head : (q : Facts) (more : List Piece) → IsFreeName q.service → AreFree more
-    → AreProper false (head_pieces q.service q.parent q.close q.global q.block q.has_data q.resc_data (last_pieces more))
-    → AreProper true (head_pieces q.service q.parent q.close q.global q.block q.has_data q.resc_data (end_pieces (record q { version = 2 }) more))
+    → AreProper false (shared_pieces q (last_pieces more))
+    → AreProper true (shared_pieces q (end_pieces (record q { version = 2 }) more))
 upgraded_head q more f g h =
-    let head : List Piece = head_pieces q.service q.parent q.close q.global q.block q.has_data q.resc_data [] in
+    let head : List Piece = shared_pieces q [] in
     let before = are_upgraded head (shared_free q f) (proper_left false head (last_pieces more) h) in
     let behind = are_upgraded more g (proper_right false head (last_pieces more) h).1.1 in
     proper-append head (end_pieces (record q { version = 2 }) more) before (tt, (tt, (tt, (tt, (tt, (tt, behind))))))

@@ -14,12 +14,13 @@ use Rattle.sg_parse.specs.sg_lex.Reading.{IsReading, ends, passes, gives, faults
 use Rattle.sg_parse.proofs.sg_lex.Readings.{reads}
 use Rattle.sg_parse.specs.declared.tree.Tree.{Tree}
 use Rattle.sg_parse.specs.Grammar.Pieces.{Piece, word, mark, name, two, kept, newer, kept_word, kind_seen, seen, turned, IsPiece}
-use Rattle.sg_parse.specs.Grammar.Sentence.{of_version, head_pieces, end_pieces, last_pieces, statement_pieces, tree_pieces, IsHead, IsSentence, IsWellFormed}
+use Rattle.sg_parse.specs.Grammar.Sentence.{of_version, end_pieces, last_pieces, statement_pieces, tree_pieces, IsHead, IsSentence, IsWellFormed}
 use Rattle.sg_parse.specs.Grammar.Upgraded.{IsFree, upgraded}
 use Rattle.sg_parse.specs.Inside.{token_seen}
 use Rattle.sg_parse.proofs.Grammar.Basics.{not_both, same_bytes, seen_back}
 use Rattle.sg_print.specs.Printed.{printed}
 use Rattle.sg_print.specs.PrintsBack.{PrintsBack}
+use Rattle.sg_print.proofs.Heads.{shared_pieces}
 use Rattle.sg_print.proofs.Leads.{Leads, AreLike, IsOwn, IsProper, AreProper}
 use Rattle.sg_print.proofs.Free.{newer_proper, statements_free, upgraded_head}
 use Rattle.sg_print.proofs.Texts.{printed_leads}
@@ -138,7 +139,7 @@ upgrades_back text tree a free = by a.sentence.well_formed.0
     by : IsHead tree.facts → PrintsBack (upgraded tree)
     by (inl first) =
         let q = tree.facts in
-        let ps = head_pieces q.service q.parent q.close q.global q.block q.has_data q.resc_data in
+        let ps = shared_pieces q in
         let more = flat_map statement_pieces tree.statements in
         let h : AreProper false (ps (last_pieces more))
         = subst (λ n. AreProper false (of_version n (ps (end_pieces (record q { version = n }) more)))) first.0 (tree_proper text tree a).1.1.1 in

@@ -17,7 +17,7 @@ use Rattle.sg_parse.proofs.sg_lex.Runs.{all_exact, all_whole}
 use Rattle.sg_parse.specs.declared.words.Sort.{Sort}
 use Rattle.sg_parse.specs.Grammar.Named.{Named}
 use Rattle.sg_parse.specs.Grammar.Words.{is_of}
-use Rattle.sg_parse.specs.Grammar.Pieces.{Piece, word, mark, name, two, kept, newer, are_two, kept_word, turned, seen}
+use Rattle.sg_parse.specs.Grammar.Pieces.{Piece, word, mark, name, two, kept, newer, are_two, kept_word, seen}
 use Rattle.sg_parse.specs.Inside.{token_seen}
 
 -- a token is such a piece, but for its place
@@ -91,7 +91,7 @@ word_first (b ∷ bs) (c ∷ rest) t s = front_word b bs (c ∷ rest) t.0 (all_e
 
 -- ---- pieces that a text can have
 
--- a word isn't kept for itself in a text of the version
+-- a text of the version doesn't keep the word for itself
 abbrev pub IsOwn : Bool → List ℕ → Type 0
 IsOwn false w = Unit {0}
 IsOwn true w = pointwise nat_eq w kept_word ≡ false

@@ -1,5 +1,6 @@
 pub mod Back
 pub mod Free
+pub mod Heads
 pub mod Law
 pub mod Leads
 pub mod Places

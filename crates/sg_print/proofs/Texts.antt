@@ -14,10 +14,11 @@ use Rattle.sg_parse.specs.declared.tree.Param.{Param}
 use Rattle.sg_parse.specs.declared.tree.Tree.{Tree}
 use Rattle.sg_parse.specs.declared.words.Sort.TheVariants.{Name, One as one_word, Two as two_word, Form, Parents, Closing, Flag}
 use Rattle.sg_parse.specs.Grammar.Named.{Named}
-use Rattle.sg_parse.specs.Grammar.Pieces.{Piece, word, mark, name, two, kept, newer, kept_word}
-use Rattle.sg_parse.specs.Grammar.Sentence.{open_brace, equals, open_bracket, close_bracket, comma, semicolon, star, type_pieces, form_pieces, param_pieces, more_params, params_pieces, returned_pieces, ret_pieces, statement_pieces, head_pieces, last_pieces, recovery_word, tree_pieces, IsType, IsRet, IsStatement, IsWellFormed}
+use Rattle.sg_parse.specs.Grammar.Pieces.{Piece, word, mark, name, two, kept, kept_word}
+use Rattle.sg_parse.specs.Grammar.Sentence.{open_brace, equals, open_bracket, close_bracket, comma, semicolon, star, type_pieces, form_pieces, param_pieces, more_params, params_pieces, returned_pieces, ret_pieces, statement_pieces, last_pieces, recovery_word, tree_pieces, IsType, IsRet, IsStatement, IsWellFormed}
 use Rattle.sg_print.specs.Printed.{names_text, stars_text, type_text, type_before_comma, form_text, param_text, params_text, returned_text, ret_text, statement_text, shared_text, printed}
 use Rattle.sg_facts.specs.Words.{line_end as line_feed}
+use Rattle.sg_print.proofs.Heads.{shared_pieces, end_by, behind_brace}
 use Rattle.sg_print.proofs.Leads.{Leads, Stops, IsFixed, end_leads, blank_leads, mark_leads, fixed_leads, name_leads, kept_leads, two_leads, newer_leads, AreProper, proper_left, proper_right, proper_newer}
 
 -- ---- types
@@ -189,10 +190,6 @@ fact_leads what value rest pieces w k =
 comma_line : {b : Bool} (rest : List ℕ) (pieces : List Piece) → Leads b rest pieces → Leads b (0x2C ∷ 0x0A ∷ rest) (comma ∷ pieces)
 comma_line rest pieces k = mark_leads 0x2C _ _ refl (blank_leads 0x0A _ _ refl k)
 
--- the facts that texts of both versions have
-abbrev shared_pieces : Facts → List Piece → List Piece
-shared_pieces f pieces = head_pieces f.service f.parent f.close f.global f.block f.has_data f.resc_data pieces
-
 shared_proper : (b : Bool) (f : Facts) (pieces : List Piece) → AreProper b (shared_pieces f pieces) → AreProper b pieces
 shared_proper b f pieces h = proper_right b (shared_pieces f []) pieces h
 
@@ -222,9 +219,6 @@ abbrev end_text : Bool → Bool → List ℕ → List ℕ
 end_text version eager rest =
     (if version then codes "," ++ (line_feed ++ (codes "    desc_recover = " ++ recovery_word eager)) else []) ++ (line_feed ++ (codes "};" ++ (line_feed ++ rest)))
 
-abbrev end_by : Bool → Bool → List Piece → List Piece
-end_by version eager more = if version then comma ∷ word (codes "desc_recover") ∷ equals ∷ word (recovery_word eager) ∷ last_pieces more else last_pieces more
-
 end_proper : (b : Bool) (version eager : Bool) (more : List Piece) → AreProper b (end_by version eager more) → AreProper b more
 end_proper b true eager more h = h.1.1.1.1.1.1
 end_proper b false eager more h = h.1.1
@@ -251,11 +245,6 @@ abbrev head_text : Bool → Facts → List ℕ → List ℕ
 head_text version f rest =
     codes "service_global_info = {" ++ (line_feed ++ ((if version then codes "    version = 2," ++ line_feed else [])
     ++ (shared_text f ++ end_text version f.eager rest)))
-
-abbrev behind_brace : Bool → Facts → List Piece → List Piece
-behind_brace version f more =
-    if version then word (codes "version") ∷ equals ∷ two ∷ comma ∷ map newer (shared_pieces f (end_by version f.eager more))
-    else shared_pieces f (end_by version f.eager more)
 
 -- what follows the head is as a text of the version has it
 behind_lead : (version : Bool) (f : Facts) (rest : List ℕ) (more : List Piece) → AreProper false (behind_brace version f more)
