@@ -32,7 +32,7 @@ abbrev pub answers_seen : Bool → List Answer → List Answer
 answers_seen true answers = map seen_answer answers
 answers_seen false answers = answers
 
--- the one state or the other
+-- the state after a word that may have come, or else the other
 abbrev pub one_of : State → State → Bool → State
 one_of s other true = s
 one_of s other false = other

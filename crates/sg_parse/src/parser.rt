@@ -15,7 +15,7 @@ use crate::tokens::Reader;
 use crate::tree::Tree;
 use std::alloc::Global;
 
-/// The tree of a text. Its names are lent from the text.
+/// The tree of a text, of whichever version the text is. Its names are lent from the text.
 ///
 /// `Lex` where the tokens before the place begin a sentence and the lexer finds no token there. `Syntax` where the tokens
 /// before the place begin a sentence and those with the token at it don't; or, at the text's length, where the text's tokens

@@ -63,7 +63,7 @@ impl<'a> Reader<'a> {
         ensures end { self.new.end ≡ self.old.end }
     {
         match self.tokens.next()? {
-            Some(token) => Ok(Some(seen(token, self.newer))),
+            Some(token) => Ok(Some(seen(&token, self.newer))),
             None => Ok(None),
         }
     }
@@ -77,7 +77,7 @@ impl<'a> Reader<'a> {
     {
         let newer = self.newer;
         match self.tokens.take(AsSeen { test, newer })? {
-            Some(token) => Ok(Some(seen(token, newer))),
+            Some(token) => Ok(Some(seen(&token, newer))),
             None => Ok(None),
         }
     }
@@ -96,27 +96,21 @@ impl<T: TokenTest> TokenTest for AsSeen<T> {
     ghost holds_of = { λ test token. T.holds_of test.test (token_seen test.newer token) };
 
     fn holds(&self, token: &Token<'_>) -> bool {
-        let seen = seen(
-            Token {
-                kind: token.kind,
-                slice: token.slice,
-                at: token.at,
-            },
-            self.newer,
-        );
-        self.test.holds(&seen)
+        self.test.holds(&seen(token, self.newer))
     }
 }
 
 // A token, as a text of its version has it.
-fn seen(token: Token<'_>, newer: bool) -> Token<'_>
-    ensures { result ≡ token_seen newer token.entry }
+fn seen<'a>(token: &Token<'a>, newer: bool) -> Token<'a>
+    ensures { result ≡ token_seen newer token.now }
 {
-    if !newer {
-        return token;
-    }
+    let kind = if newer {
+        kind_seen(token.slice, token.kind)
+    } else {
+        token.kind
+    };
     Token {
-        kind: kind_seen(token.slice, token.kind),
+        kind,
         slice: token.slice,
         at: token.at,
     }
