@@ -1,5 +1,5 @@
 -- Tables and a script of no run, which stand where none was picked yet.
-use Rattle.std.specs.Prelude.{[]}
+use Rattle.std.specs.Prelude.{false, []}
 use Rattle.sg_facts.specs.Facts.{no_facts}
 use Rattle.sg_facts.specs.Tables.{Compiled}
 use Rattle.sg_sim.specs.sg_script.declared.script.Script.{Script}
