@@ -1,5 +1,5 @@
 -- What is served, replayed and committed of the first lock.
-use Rattle.std.proofs.Common.{◌≡◌, ℕ, ◌+◌, ◌≤◌, ◌<◌, true, List, [], None, Some, length, refl, sym, ◌∙◌, ap, subst, inl, arith}
+use Rattle.std.proofs.Common.{◌≡◌, ℕ, ◌+◌, ◌≤◌, ◌<◌, Bool, true, false, List, [], ◌∷◌, None, Some, length, refl, sym, ◌∙◌, ap, subst, inl, arith}
 use Rattle.std.specs.Prelude.{◌^◌}
 use Rattle.std.specs.declared.option.Option.{Option}
 use Rattle.std.specs.declared.result.Result.TheVariants.{Ok as Done}
@@ -11,7 +11,8 @@ use Rattle.sg_facts.specs.declared.outcome.Patch.{Patch}
 use Rattle.sg_facts.specs.Alike.{under_names}
 use Rattle.sg_facts.specs.Invoke.{Points}
 use Rattle.sg_facts.specs.Kinds.{MayAsk}
-use Rattle.sg_facts.specs.Needs.{Needs, needs}
+use Rattle.sg_facts.specs.Interface.{Declared}
+use Rattle.sg_facts.specs.Needs.{Needs, wanted}
 use Rattle.sg_facts.specs.Object.{Object, after, empty_object, patch_of}
 use Rattle.sg_facts.specs.Track.{row_at}
 use Rattle.sg_replay.specs.sg_hist.Recovered.{call_in}
@@ -137,12 +138,24 @@ may_commit_make e call told patch is its room given stored_room stored_given cli
 
 -- ---- it is rebuilt
 
+-- what the take needs is the first lock, whether every row is rebuilt first or not
+abbrev first_needed : Needs
+first_needed = record { ids = 1 ∷ []; file = None }
+
+needs_first : (i : Declared) → wanted (record i { facts = lock_facts }) one_lock take_call ≡ first_needed
+needs_first i = at i.eager
+  where
+    at : (eager : Bool) → wanted (record i { facts = lock_facts; eager = eager }) one_lock take_call ≡ first_needed
+    at true = refl
+    at false = refl
+
 -- what is missing for the take is the creation
-pub missing_first : (e : Engined) (o : Object) (needed : Needs) (call : Call) → call ≡ take_call → IsFresh e → HasFirst e → o.rows ≡ e.tracked.rows → needed ≡ needs lock_facts o call
-    → missing e needed ≡ Some (ToWalk 1 1)
-missing_first e o needed call is fresh first rows its =
-    ap (λ n. missing e n) (its ∙ ap (λ c. needs lock_facts o c) is ∙ ap (λ r. needs lock_facts (record { rows = r; files = o.files; given = o.given }) take_call) (rows ∙ first.rows))
-    ∙ ap (λ known. missing (record e { names = record e.names { known = known } }) (needs lock_facts one_lock take_call)) fresh.unnamed
+pub missing_first : (i : Declared) (e : Engined) (o : Object) (needed : Needs) (call : Call) → i.facts ≡ lock_facts → call ≡ take_call → IsFresh e → HasFirst e → o.rows ≡ e.tracked.rows
+    → needed ≡ wanted i o call → missing e needed ≡ Some (ToWalk 1 1)
+missing_first i e o needed call facts is fresh first rows its =
+    ap (λ n. missing e n) (its ∙ ap (λ c. wanted i o c) is ∙ ap (λ r. wanted i (record { rows = r; files = o.files; given = o.given }) take_call) (rows ∙ first.rows)
+    ∙ ap (λ f. wanted (record i { facts = f }) one_lock take_call) facts ∙ needs_first i)
+    ∙ ap (λ known. missing (record e { names = record e.names { known = known } }) first_needed) fresh.unnamed
 
 -- the creation of the walk may be replayed
 pub may_rebuild : (e : Engined) → WalksLocks e.tables → IsFresh e → HasFirst e → IsReplayable lock_facts lock_table e empty_object 1 1 again_call
