@@ -7,11 +7,10 @@ ghost use Rattle.sg_input.specs.declared.examined.Examined.TheVariants.{Accepted
 ghost use Rattle.sg_input.specs.declared.input.Input.{Input as OneInput};
 ghost use Rattle.sg_input.specs.Inputs.{AreTexts, IsInputOf};
 
-use crate::Input;
 use crate::divider::cut;
 use crate::limits::{MOST_INTERFACE, MOST_SCRIPT};
 use crate::lines::{NO_DIVIDER, TOO_LONG, script_line};
-use crate::{Accepted, Examined, examine};
+use crate::{Accepted, Examined, Input, examine};
 use sg_facts::{Bytes, NoMemory, Shape};
 use sg_script::{ScriptError, read};
 use std::alloc::Global;

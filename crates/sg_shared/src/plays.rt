@@ -5,10 +5,10 @@ ghost use Rattle.sg_plain.specs.Playing.Playable.{IsPlayable};
 ghost use Rattle.sg_shared.specs.Runs.{IsRunInOrder, IsRunOf};
 ghost use Rattle.sg_sim.specs.sg_play.Waking.Waking.{no_query_waits};
 
+use crate::runs::run;
 use sg_edge::{AtPoints, Gate};
 use sg_facts::{NoMemory, Service, TryCopy};
 use sg_plain::Script;
-use crate::runs::run;
 use sg_sim::{Played, play_script};
 use sg_stub::{Accepted, compile};
 use std::alloc::Global;

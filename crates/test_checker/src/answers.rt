@@ -5,8 +5,8 @@ ghost use Rattle.sg_input.specs.sg_check.Shapes.{are_shapes};
 
 use crate::edits::{Edit, Layout, edited};
 use crate::shapes::standard_shapes;
-use sg_input::{CheckError, CheckKind, check, column_of, line_of, parse};
 use sg_facts::Shape;
+use sg_input::{CheckError, CheckKind, check, column_of, line_of, parse};
 use std::alloc::Global;
 use std::process::Abort;
 use std::test::Fail;

@@ -4,9 +4,9 @@ ghost use Rattle.sg_facts.specs.Facts.{facts_of};
 ghost use Rattle.sg_input.specs.sg_check.Shapes.{is_shape};
 
 use crate::answers::answer;
-use sg_input::CheckKind::{UnknownFunction, UnknownService};
 use sg_event::event_shape;
 use sg_facts::{Service, Shape};
+use sg_input::CheckKind::{UnknownFunction, UnknownService};
 use sg_lock::LockService;
 use std::test::Fail;
 use test_interfaces::{EVENT, LOCK};

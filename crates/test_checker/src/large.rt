@@ -4,9 +4,9 @@ ghost use Rattle.sg_facts.specs.Facts.{facts_of};
 ghost use Rattle.sg_input.specs.sg_check.Shapes.{is_shape};
 
 use crate::answers::answer;
+use sg_facts::{Effect, FieldShape, FunShape, Kind, Leaves, Parents, Service, Shape};
 use sg_input::CheckKind::NoWalk;
 use sg_input::{check, compile, parse};
-use sg_facts::{Effect, FieldShape, FunShape, Kind, Leaves, Parents, Service, Shape};
 use sg_lock::LockService;
 use std::alloc::{AllocError, Global};
 use std::test::Fail;

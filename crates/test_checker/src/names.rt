@@ -1,9 +1,7 @@
 // Names: services that there aren't, second prototypes, functions that there aren't.
 use crate::answers::Case;
 use crate::edits::Edit::{As, Then, Twice, Without};
-use sg_input::CheckKind::{
-    BadParams, DuplicateName, UnknownFunction, UnknownService, WrongEffect,
-};
+use sg_input::CheckKind::{BadParams, DuplicateName, UnknownFunction, UnknownService, WrongEffect};
 
 pub static SERVICES: [Case; 7] = [
     (&[As(2, b"service = locks,")], Some((UnknownService, 2, 11))),

@@ -3,8 +3,8 @@
 use crate::edits::Edit::{self, Front, Then, Twice, Without};
 use crate::edits::edited;
 use crate::shapes::standard_shapes;
-use sg_input::{check, parse};
 use sg_facts::Interface;
+use sg_input::{check, parse};
 use std::alloc::Global;
 use std::process::Abort;
 use std::test::Fail;

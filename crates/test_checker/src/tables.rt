@@ -1,7 +1,7 @@
 // The tables of the standard interfaces, and their text.
 use crate::shapes::standard_shapes;
-use sg_input::{Verdict, check, compile, compiled, parse};
 use sg_facts::Tables;
+use sg_input::{Verdict, check, compile, compiled, parse};
 use std::alloc::Global;
 use std::process::Abort;
 use std::test::Fail;

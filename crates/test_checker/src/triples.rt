@@ -1,8 +1,8 @@
 // What descriptors come to: the creation, the state and the set of fields.
 use crate::interfaces::{Pairs, interface};
-use sg_input::{Triple, reachable};
 use sg_event::event_shape;
 use sg_facts::{Service, Shape};
+use sg_input::{Triple, reachable};
 use sg_lock::LockService;
 use sg_ramfs::ramfs_shape;
 use std::test::Fail;

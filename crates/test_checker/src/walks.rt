@@ -1,8 +1,8 @@
 // The walks by which descriptors are rebuilt.
 use crate::interfaces::{Pairs, interface};
-use sg_input::{restores, shortest};
 use sg_event::event_shape;
 use sg_facts::{FunShape, Leaves, NoMemory, Parents, Service, Shape, Walk};
+use sg_input::{restores, shortest};
 use sg_lock::LockService;
 use sg_mm::mm_shape;
 use sg_ramfs::ramfs_shape;

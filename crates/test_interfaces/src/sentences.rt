@@ -52,7 +52,10 @@ static ALONE: [Case; 24] = [
     (b"service_global_info={version=20,", Syntax(29)),
     (b"service_global_info={version=02", Syntax(31)),
     (b"service_global_info={version=two", Syntax(29)),
-    (b"service_global_info={version=002,service=version", Syntax(48)),
+    (
+        b"service_global_info={version=002,service=version",
+        Syntax(48),
+    ),
     (b"service_global_info={version=2,version=2", Syntax(31)),
     (b"service_global_info={service=x,version=2", Syntax(31)),
     (b"service_global_info={version=2;", Syntax(30)),
@@ -122,6 +125,7 @@ static BEHIND_FACTS: [Case; 38] = [
 
 // The number of bytes of the facts of events in version 2, and of these up to how descriptors are rebuilt.
 const HEAD_2: usize = 246;
+
 const HEAD_2_UP_TO_RECOVERY: usize = 209;
 
 static BEHIND_FACTS_2: [Case; 9] = [

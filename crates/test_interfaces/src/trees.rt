@@ -47,7 +47,10 @@ fn a_text_of_version_2_keeps_its_word(rt: HostRuntime) -> Result<(), Fail> {
     for (word, eager) in [("demand", false), ("eager", true)] {
         let text = in_version_2(rt.alloc(), LOCK, word)?;
         let tree = parse(rt.alloc(), &text)?;
-        assert!(rt; tree.facts.version == 2 && tree.facts.eager == eager, "{word}");
+        assert!(rt;
+            tree.facts.version == 2 && tree.facts.eager == eager,
+            "{word}"
+        );
         let printed = print(rt.alloc(), &tree)?;
         assert!(rt; printed.as_slice() == text.as_slice(), "{word}");
     }

@@ -23,9 +23,15 @@ fn upgrades_texts(rt: HostRuntime) -> Result<(), Fail> {
     for text in [LOCK, EVENT, MM, RAMFS, SCHED] {
         let newer = in_version_2(alloc, text, "demand")?;
         assert!(rt; answers(alloc, "upgrade", text, Done, &newer)?, "{text:?}");
-        assert!(rt; answers(alloc, "upgrade", &newer, Done, &newer)?, "{text:?}");
+        assert!(rt;
+            answers(alloc, "upgrade", &newer, Done, &newer)?,
+            "{text:?}"
+        );
         let eager = in_version_2(alloc, text, "eager")?;
-        assert!(rt; answers(alloc, "upgrade", &eager, Done, &eager)?, "{text:?}");
+        assert!(rt;
+            answers(alloc, "upgrade", &eager, Done, &eager)?,
+            "{text:?}"
+        );
     }
     assert!(rt; answers(alloc, "upgrade", EVENT2, Done, EVENT2)?);
     Ok(())
@@ -35,11 +41,41 @@ fn upgrades_texts(rt: HostRuntime) -> Result<(), Fail> {
 static HEADS: [(&str, &str, &str, Status, &[u8]); 7] = [
     ("check", "2", "002", Done, b"accepted lock\n"),
     ("check", "demand", "eager", Done, b"accepted lock\n"),
-    ("upgrade", "2", "3", Refused, b"interface refused at 2:15: Syntax\n"),
-    ("check", ",", ",version=2,", Refused, b"interface refused at 2:17: Syntax\n"),
-    ("check", "demand", "lazy", Refused, b"interface refused at 10:20: Syntax\n"),
-    ("check", "refuse", "subtree", Refused, b"interface refused at 5:18: WrongFact\n"),
-    ("compile", "spdid_t spdid", "spdid_t desc_data_retval_sub", Refused, b"interface refused at 23:34: Syntax\n"),
+    (
+        "upgrade",
+        "2",
+        "3",
+        Refused,
+        b"interface refused at 2:15: Syntax\n",
+    ),
+    (
+        "check",
+        ",",
+        ",version=2,",
+        Refused,
+        b"interface refused at 2:17: Syntax\n",
+    ),
+    (
+        "check",
+        "demand",
+        "lazy",
+        Refused,
+        b"interface refused at 10:20: Syntax\n",
+    ),
+    (
+        "check",
+        "refuse",
+        "subtree",
+        Refused,
+        b"interface refused at 5:18: WrongFact\n",
+    ),
+    (
+        "compile",
+        "spdid_t spdid",
+        "spdid_t desc_data_retval_sub",
+        Refused,
+        b"interface refused at 23:34: Syntax\n",
+    ),
 ];
 
 #[test]
@@ -48,7 +84,10 @@ fn reads_heads_of_version_2(rt: HostRuntime) -> Result<(), Fail> {
     let text = in_version_2(alloc, LOCK, "demand")?;
     for (command, old, new, status, written) in &HEADS {
         let text = changed(alloc, &text, old, new)?;
-        assert!(rt; answers(alloc, command, &text, *status, written)?, "{old} {new}");
+        assert!(rt;
+            answers(alloc, command, &text, *status, written)?,
+            "{old} {new}"
+        );
     }
     Ok(())
 }
@@ -59,7 +98,8 @@ sm_transition(evt_split, evt_take);
 int evt_take(spdid_t spdid, unsigned long desc(id), unsigned long n);
 ";
 
-const TAKE_2: &[u8] = b"desc_data_retval_sub(long, count) evt_take(spdid_t spdid, unsigned long desc(id), unsigned long n);
+const TAKE_2: &[u8] =
+    b"desc_data_retval_sub(long, count) evt_take(spdid_t spdid, unsigned long desc(id), unsigned long n);
 ";
 
 #[test]
@@ -96,7 +136,8 @@ fn traced(alloc: Global, interface: &[u8], script: &[u8]) -> Result<Vec<u8>, Fai
     Ok(Vec::from_slice(alloc, sink.written())?)
 }
 
-const TAKES: &[u8] = b"client 1 { evt_split(); evt_trigger($1, 5); evt_take($1, 3); evt_take($1, 9); evt_take($1, 1); } stop 13;";
+const TAKES: &[u8] =
+    b"client 1 { evt_split(); evt_trigger($1, 5); evt_take($1, 3); evt_take($1, 9); evt_take($1, 1); } stop 13;";
 
 const TAKEN: &[u8] = b"c1.1 evt_split() = ok #1
 c1.2 evt_trigger(1, 5) = ok

@@ -35,12 +35,16 @@ static ALONE: [(&[u8], &str); 3] = [
 // Scripts of two clients.
 const ALIAS: &str =
     "client 1 { mman_get_page(4096); } client 2 { mman_alias_page(1, 2, 8192); mman_release_page($1); } schedule 1 1 2 2;";
+
 const SUBTREE: &str =
     "client 1 { mman_get_page(4096); mman_alias_page($1, 1, 8192); mman_alias_page($1, 1, 12288); mman_release_page($1); mman_release_page($2); mman_release_page($3); } client 2 { mman_find(1, 8192); } schedule 1 1 1 1 1 1 2 2 2 2 1 1;";
+
 const WRITTEN: &str =
     "client 1 { tsplit(0, \"a\"); twrite($1, \"hello\"); tseek($1, 9); twrite($1, \"x\"); } client 2 { tsplit(0, \"a\"); tread($1, 16); } schedule 1 1 1 2 2 2 2 2 2;";
+
 const HELD: &str =
     "client 1 { tsplit(0, \"a\"); tseek($1, 4); tread($1, 8); } client 2 { tread(1, 8); tsplit(0, \"b\"); } schedule 1 1 2 1 2 1;";
+
 const ASLEEP: &str =
     "setup { sched_create_thd(3); } client 1 { sched_sleep(1); sched_wait(1); } client 2 { sched_wakeup(1); } schedule 1 1 1 2 2;";
 
@@ -67,7 +71,10 @@ fn a_client_alone_gets_what_it_gets_without_stops(rt: HostRuntime) -> Result<(),
         for stops in all_stops(alloc)? {
             let played = played(alloc, &eager, script, stops)?;
             let (one, other) = (played.ended(), whole.ended());
-            assert!(rt; one.history.as_slice() == other.history.as_slice(), "{script} {stops:?}");
+            assert!(rt;
+                one.history.as_slice() == other.history.as_slice(),
+                "{script} {stops:?}"
+            );
         }
     }
     Ok(())
