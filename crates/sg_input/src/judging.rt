@@ -15,7 +15,7 @@ ghost use Rattle.sg_input.specs.Verdicts.{IsCompiled, IsRefused, IsUpgraded, IsV
 use crate::examined::Examined;
 use crate::lines::{accepted_line, refusal_line};
 use crate::{RefusalKind, Verdict};
-use sg_facts::{NoMemory, Shape};
+use sg_facts::{Bytes, NoMemory, Shape};
 use sg_print::{Facts, ParseError, Tree, parse, print, print_tables};
 use sg_stub::{CheckError, check, compile};
 use std::alloc::Global;
