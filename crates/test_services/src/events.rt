@@ -17,12 +17,14 @@ enum Asked {
     Wait,
     Trigger(u64),
     Free,
+    Take(u64),
 }
 
 // What is answered.
 #[derive(Clone, Copy, Debug, PartialEq, Eq)]
 enum Answer {
     Done,
+    Took(u64),
     Waits,
     Refused(Code),
 }
@@ -30,29 +32,33 @@ enum Answer {
 // The answer of an outcome.
 fn answer_of(outcome: Outcome) -> Result<Answer, Outcome> {
     match outcome {
-        Outcome::Replied {
-            reply: Reply::Ok(_),
-            ..
-        } => Ok(Answer::Done),
-        Outcome::Replied {
-            reply: Reply::Refused(code),
-            ..
-        } => Ok(Answer::Refused(code)),
+        Outcome::Replied { reply, .. } => Ok(answer_in(&reply)),
         Outcome::Blocks => Ok(Answer::Waits),
         other => Err(other),
     }
 }
 
-// A trigger of the first event.
-fn trigger(alloc: Global, n: u64) -> Result<Call, NoMemory>
-    ensures { IfOk result (λ call. call ≡ record { client = 1; seq = 1; fun = 3; desc = 1; args = Word n ∷ [] }) }
+// The answer of a reply: an Ok with a word says how much was taken.
+fn answer_in(reply: &Reply) -> Answer {
+    match reply {
+        Reply::Ok(good) => match good.words.as_slice().first() {
+            Some(count) => Answer::Took(*count),
+            None => Answer::Done,
+        },
+        Reply::Refused(code) => Answer::Refused(*code),
+    }
+}
+
+// A call of a function on the first event, with a number.
+fn with_number(alloc: Global, fun: u8, n: u64) -> Result<Call, NoMemory>
+    ensures { IfOk result (λ call. call ≡ record { client = 1; seq = 1; fun = fun; desc = 1; args = Word n ∷ [] }) }
 {
     let mut args = Args::new(alloc);
     args.push(Value::Word(n))?;
     Ok(Call {
         client: 1,
         seq: 1,
-        fun: 3,
+        fun,
         desc: 1,
         args,
     })
@@ -85,7 +91,7 @@ fn raise(service: &mut EventService, alloc: Global, count: u32) -> Result<(), Ou
     ensures { OnOk result (object_of event_body service.new.slots
         ≡ object_of event_body (record { entries = (1, record { creator = 1; count = count }) ∷ []; given = 1 })) }
 {
-    match trigger(alloc, u64::from(count)) {
+    match with_number(alloc, 3, u64::from(count)) {
         Ok(call) => match ask(service, alloc, &mut Once::new(0), &call) {
             Outcome::Replied {
                 reply: Reply::Ok(_),
@@ -104,8 +110,9 @@ fn outcome(service: &mut EventService, alloc: Global, count: u32, asked: Asked) 
 {
     let call = match asked {
         Asked::Wait => Ok(call(alloc, 2, 2, 1)),
-        Asked::Trigger(n) => trigger(alloc, n),
+        Asked::Trigger(n) => with_number(alloc, 3, n),
         Asked::Free => Ok(call(alloc, 64, 4, 1)),
+        Asked::Take(n) => with_number(alloc, 5, n),
     };
     match call {
         Ok(call) => ask(service, alloc, &mut Once::new(0), &call),
@@ -139,10 +146,30 @@ fn answers_at_each_count(rt: HostRuntime) -> Result<(), Fail> {
         (MOST, Asked::Trigger(u64::MAX), over, Some(MOST)),
         (0, Asked::Free, Answer::Done, None),
         (MOST, Asked::Free, Answer::Done, None),
+        (0, Asked::Take(0), Answer::Took(0), Some(0)),
+        (0, Asked::Take(u64::MAX), Answer::Took(0), Some(0)),
+        (7, Asked::Take(0), Answer::Took(0), Some(7)),
+        (7, Asked::Take(6), Answer::Took(6), Some(1)),
+        (7, Asked::Take(7), Answer::Took(7), Some(0)),
+        (7, Asked::Take(8), Answer::Took(7), Some(0)),
+        (MOST, Asked::Take(1), Answer::Took(1), Some(4_294_967_294)),
+        (
+            MOST,
+            Asked::Take(u64::MAX),
+            Answer::Took(4_294_967_295),
+            Some(0),
+        ),
     ];
     for (count, asked, answer, left) in cases {
         let got = answered(rt.alloc(), count, asked)?;
         assert_eq!(rt; got, (answer, left), "{asked:?} at {count}");
     }
     Ok(())
+}
+
+#[test]
+fn a_take_never_waits_and_wakes_nobody(rt: HostRuntime) {
+    let take = EventService::shape().fun(5);
+    assert_eq!(rt; take.name, b"evt_take".as_slice());
+    assert_eq!(rt; take.flags, 0);
 }

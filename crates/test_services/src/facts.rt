@@ -74,6 +74,8 @@ fn interface(alloc: Global, global: bool, declared: u32) -> Result<Interface, No
     Ok(Interface {
         shape: files(global),
         declared,
+        version: 1,
+        eager: false,
         moves: PairList::from_slice(alloc, &MOVES)?,
         steps: PairList::new(alloc),
     })
