@@ -1,9 +1,8 @@
 // Interfaces that no text declares.
 ghost use Rattle.std.specs.Prelude.{IfOk};
-ghost use Rattle.sg_input.specs.sg_walk.ReachedStates.Limits.{HasFourFields};
-ghost use Rattle.sg_input.specs.sg_walk.Limits.{HasFewFields};
+ghost use Rattle.sg_facts.specs.Interface.{HasFewFields};
 
-use sg_facts::{Interface, PairList, Shape};
+use sg_facts::{Interface, MOST_FIELDS, PairList, Shape};
 use std::alloc::Global;
 use std::test::Fail;
 
@@ -18,15 +17,16 @@ pub(crate) fn interface(
     moves: &[(u8, u8)],
     steps: &[(u8, u8)],
 ) -> Result<Interface, Fail>
-    ensures four { IfOk result HasFourFields }
-    ensures few { IfOk result HasFewFields }
+    ensures { IfOk result HasFewFields }
 {
-    if shape.fields.len() > 4 {
-        return Err(Fail::new("more than 4 fields"));
+    if shape.fields.len() > usize::from(MOST_FIELDS) {
+        return Err(Fail::new("more fields than a row may have"));
     }
     Ok(Interface {
         shape,
         declared,
+        version: 1,
+        eager: false,
         moves: PairList::from_slice(alloc, moves)?,
         steps: PairList::from_slice(alloc, steps)?,
     })

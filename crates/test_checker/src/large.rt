@@ -86,24 +86,75 @@ static PLAIN: [FunShape; 32] = [
     fun!(b"f32", &[]),
 ];
 
-static FIELDS: [FieldShape; 4] = [
-    FieldShape {
-        name: b"a",
-        text: false,
-    },
-    FieldShape {
-        name: b"b",
-        text: false,
-    },
-    FieldShape {
-        name: b"c",
-        text: false,
-    },
-    FieldShape {
-        name: b"d",
-        text: false,
-    },
+// A field that is a word.
+macro_rules! field {
+    ($name:expr) => {
+        FieldShape {
+            name: $name,
+            text: false,
+        }
+    };
+}
+
+static FIELDS: [FieldShape; 4] = [field!(b"a"), field!(b"b"), field!(b"c"), field!(b"d")];
+
+static EIGHT_FIELDS: [FieldShape; 8] = [
+    field!(b"a"),
+    field!(b"b"),
+    field!(b"c"),
+    field!(b"d"),
+    field!(b"e"),
+    field!(b"f"),
+    field!(b"g"),
+    field!(b"h"),
 ];
+
+static NINE_FIELDS: [FieldShape; 9] = [
+    field!(b"a"),
+    field!(b"b"),
+    field!(b"c"),
+    field!(b"d"),
+    field!(b"e"),
+    field!(b"f"),
+    field!(b"g"),
+    field!(b"h"),
+    field!(b"i"),
+];
+
+// A function that makes a descriptor and sets all of its eight fields.
+macro_rules! setting_eight {
+    ($name:expr) => {
+        FunShape {
+            name: $name,
+            kinds: &[
+                Kind::Word,
+                Kind::Word,
+                Kind::Word,
+                Kind::Word,
+                Kind::Word,
+                Kind::Word,
+                Kind::Word,
+                Kind::Word,
+            ],
+            flags: FunShape::CREATION,
+            leaves: Leaves::Own,
+            effects: &[
+                (0, Effect::SetArg(0)),
+                (1, Effect::SetArg(1)),
+                (2, Effect::SetArg(2)),
+                (3, Effect::SetArg(3)),
+                (4, Effect::SetArg(4)),
+                (5, Effect::SetArg(5)),
+                (6, Effect::SetArg(6)),
+                (7, Effect::SetArg(7)),
+            ],
+        }
+    };
+}
+
+static SETTING_EIGHT: [FunShape; 2] = [setting_eight!(b"f01"), setting_eight!(b"f02")];
+
+static FOUR_PAIRS: [(u8, u8); 4] = [(1, 1), (1, 2), (2, 1), (2, 2)];
 
 static MARKING: [FunShape; 32] = [
     creation!(),
@@ -193,9 +244,9 @@ static SETTING: [FunShape; 32] = [
     setting!(b"f32"),
 ];
 
-// A service of these fields and functions, all of which are joined by transitions and recover steps.
+// A service of these fields and functions, which are joined by these transitions and recover steps.
 macro_rules! joined {
-    ($fields:expr, $funs:expr) => {
+    ($fields:expr, $funs:expr, $pairs:expr) => {
         Shape {
             name: b"large",
             parents: Parents::Never,
@@ -206,8 +257,8 @@ macro_rules! joined {
             resc_data: false,
             fields: $fields,
             funs: $funs,
-            moves: &PAIRS,
-            steps: &PAIRS,
+            moves: $pairs,
+            steps: $pairs,
         }
     };
 }
@@ -216,21 +267,35 @@ macro_rules! joined {
 fn plain_shape() -> Shape
     ensures { is_shape (facts_of result) ≡ true }
 {
-    joined!(&[], &PLAIN)
+    joined!(&[], &PLAIN, &PAIRS)
 }
 
 // Of four fields, two of which functions set, and one function by which the first can't be restored.
 fn marking_shape() -> Shape
     ensures { is_shape (facts_of result) ≡ true }
 {
-    joined!(&FIELDS, &MARKING)
+    joined!(&FIELDS, &MARKING, &PAIRS)
 }
 
 // Of four fields, which each function sets, and each function makes descriptors.
 fn setting_shape() -> Shape
     ensures { is_shape (facts_of result) ≡ true }
 {
-    joined!(&FIELDS, &SETTING)
+    joined!(&FIELDS, &SETTING, &PAIRS)
+}
+
+// Of eight fields, which both functions set, and both make descriptors.
+fn eight_shape() -> Shape
+    ensures { is_shape (facts_of result) ≡ true }
+{
+    joined!(&EIGHT_FIELDS, &SETTING_EIGHT, &FOUR_PAIRS)
+}
+
+/// Of nine fields, which are too many: no text may be checked against it.
+pub fn nine_shape() -> Shape
+    ensures { is_shape (facts_of result) ≡ false }
+{
+    joined!(&NINE_FIELDS, &SETTING_EIGHT, &FOUR_PAIRS)
 }
 
 const HEAD: &[u8] =
@@ -301,29 +366,34 @@ const MARKS: &[u8] = b"int f02(spdid_t s, long desc(id), long desc_data(a));\n\
 int f03(spdid_t s, long desc(id), long desc_data(b));\n\
 desc_data_retval(int, a) f04(spdid_t s, long desc(id), long n);\n";
 
-// The text of the functions that set all fields, with their transitions and recover steps.
-fn setting_text(alloc: Global) -> Result<Vec<u8>, Fail> {
+const FOUR_PARAMS: &[u8] =
+    b"(spdid_t s, long desc_data(a), long desc_data(b), long desc_data(c), long desc_data(d));\n";
+
+const EIGHT_PARAMS: &[u8] = b"(spdid_t s, long desc_data(a), long desc_data(b), long desc_data(c), long desc_data(d),\n\
+long desc_data(e), long desc_data(f), long desc_data(g), long desc_data(h));\n";
+
+// The text of functions that set all fields by these parameters, with their transitions and recover steps.
+fn setting_text(alloc: Global, funs: &[FunShape], params: &[u8]) -> Result<Vec<u8>, Fail> {
     let mut text = Vec::new(alloc);
     text.extend_from_slice(HEAD)?;
-    for fun in &SETTING {
+    for fun in funs {
         text.extend_from_slice(b"sm_creation(")?;
         text.extend_from_slice(fun.name)?;
         text.extend_from_slice(b");\nlong ")?;
         text.extend_from_slice(fun.name)?;
-        text.extend_from_slice(
-            b"(spdid_t s, long desc_data(a), long desc_data(b), long desc_data(c), long desc_data(d));\n",
-        )?;
+        text.extend_from_slice(params)?;
     }
-    add_pairs(&mut text, b"sm_transition(", &SETTING, &SETTING)?;
-    add_pairs(&mut text, b"sm_recover(", &SETTING, &SETTING)?;
+    add_pairs(&mut text, b"sm_transition(", funs, funs)?;
+    add_pairs(&mut text, b"sm_recover(", funs, funs)?;
     Ok(text)
 }
 
-// The number of lines of the tables of the widest interface: 32 creations, 32 states and 16 sets of fields.
-fn lines_of_the_widest(alloc: Global) -> Result<usize, Fail> {
-    let text = setting_text(alloc)?;
-    let tree = parse(alloc, text.as_slice())?;
-    let accepted = check(alloc, &tree, &[setting_shape()])?;
+// The number of lines of the tables of a text that is accepted for a shape.
+fn lines_of(alloc: Global, text: &[u8], shape: Shape) -> Result<usize, Fail>
+    requires { is_shape (facts_of shape) ≡ true }
+{
+    let tree = parse(alloc, text)?;
+    let accepted = check(alloc, &tree, &[shape])?;
     let tables = compile(alloc, &accepted)?;
     Ok(tables.lines().len())
 }
@@ -354,7 +424,12 @@ fn large_services_and_long_texts(rt: HostRuntime) -> Result<(), Fail> {
     let marking = large_text(alloc, MARKS, &MARKING[4..], &MARKING)?;
     let given = answer(alloc, marking.as_slice(), &[marking_shape()])?;
     assert_eq!(rt; given, Some((NoWalk, 7, 26)));
-    assert_eq!(rt; lines_of_the_widest(alloc)?, 16_384);
+    // 32 creations, 32 states and 16 sets of fields; 2 creations, 2 states and 256 sets
+    let widest = setting_text(alloc, &SETTING, FOUR_PARAMS)?;
+    assert_eq!(rt; lines_of(alloc, &widest, setting_shape())?, 16_384);
+    let eight = setting_text(alloc, &SETTING_EIGHT, EIGHT_PARAMS)?;
+    assert_eq!(rt; lines_of(alloc, &eight, eight_shape())?, 1_024);
+    assert_eq!(rt; nine_shape().fields.len(), 9);
     for bytes in [16_384, 32_768, 65_536] {
         assert!(rt; is_accepted(alloc, bytes)?, "of {bytes} bytes");
     }
