@@ -126,7 +126,7 @@ static BEHIND_FACTS: [Case; 38] = [
 // The number of bytes of the facts of events in version 2, and of these up to how descriptors are rebuilt.
 const HEAD_2: usize = 246;
 
-const HEAD_2_UP_TO_RECOVERY: usize = 209;
+const HEAD_2_UP_TO_RECOVERY: usize = 216;
 
 static BEHIND_FACTS_2: [Case; 9] = [
     (b"", Tree),
