@@ -16,21 +16,12 @@ const LAST: u32 = 60;
 /// The last point of two stops.
 const LAST_OF_TWO: u32 = 40;
 
-// Scripts of client 1 alone, with their interfaces.
-static ALONE: [(&[u8], &str); 3] = [
-    (
-        LOCK,
-        "client 1 { lock_alloc(); lock_take($1); lock_release($1); lock_free($1); }",
-    ),
-    (
-        EVENT,
-        "client 1 { evt_split(); evt_trigger($1, 5); evt_wait($1); evt_wait($1); evt_wait($1); }",
-    ),
-    (
-        SCHED,
-        "client 1 { sched_create_thd(5); sched_create_thd(5); sched_create_thd(5); sched_exit($1); sched_yield($2); sched_next(); }",
-    ),
-];
+// Scripts of client 1 alone.
+const LOCKS: &str = "client 1 { lock_alloc(); lock_take($1); lock_release($1); lock_free($1); }";
+const EVENTS: &str =
+    "client 1 { evt_split(); evt_trigger($1, 5); evt_wait($1); evt_wait($1); evt_wait($1); }";
+const RANKS: &str =
+    "client 1 { sched_create_thd(5); sched_create_thd(5); sched_create_thd(5); sched_exit($1); sched_yield($2); sched_next(); }";
 
 // Scripts of two clients.
 const ALIAS: &str =
@@ -65,7 +56,7 @@ fn all_stops(alloc: Global) -> Result<Vec<(u32, u32)>, AllocError> {
 #[test]
 fn a_client_alone_gets_what_it_gets_without_stops(rt: HostRuntime) -> Result<(), Fail> {
     let alloc = rt.alloc();
-    for (interface, script) in &ALONE {
+    for (interface, script) in [(LOCK, LOCKS), (EVENT, EVENTS), (SCHED, RANKS)] {
         let eager = in_version_2(alloc, interface, "eager")?;
         let whole = played(alloc, &eager, script, (0, 0))?;
         for stops in all_stops(alloc)? {
