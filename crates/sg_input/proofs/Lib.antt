@@ -5,4 +5,5 @@ pub mod OneCut
 pub mod OneInput
 pub mod OneVerdict
 pub mod PlacedLine
+pub mod Said
 pub use Rattle.sg_print.proofs.sg_parse

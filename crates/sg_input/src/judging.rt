@@ -16,7 +16,7 @@ use crate::examined::Examined;
 use crate::lines::{accepted_line, refusal_line};
 use crate::{RefusalKind, Verdict};
 use sg_facts::{Bytes, NoMemory, Shape};
-use sg_print::{Facts, ParseError, Tree, parse, print, print_tables};
+use sg_print::{ParseError, Tree, parse, print, print_tables};
 use sg_stub::{CheckError, check, compile};
 use std::alloc::Global;
 
@@ -114,7 +114,7 @@ fn upgrade_tree(
     shapes: &[Shape],
 ) -> Result<Verdict, NoMemory>
     requires shapes { are_shapes (map facts_of shapes.now) ≡ true }
-    requires sentence { Parses text.now (Ok tree.entry) }
+    requires sentence { Parses text.now (Ok tree) }
     ensures { IfOk result (IsUpgraded (map facts_of shapes.now) text.now) }
 {
     match check(alloc, &tree, shapes) {
@@ -124,17 +124,11 @@ fn upgrade_tree(
 }
 
 // The same tree of version 2.
-fn upgraded_tree(tree: Tree<'_>) -> Tree<'_>
+fn upgraded_tree(mut tree: Tree<'_>) -> Tree<'_>
     ensures { result ≡ upgraded tree.entry }
 {
-    let Tree { facts, statements } = tree;
-    Tree {
-        facts: Facts {
-            version: 2,
-            ..facts
-        },
-        statements,
-    }
+    tree.facts.version = 2;
+    tree
 }
 
 // The interface of a text, or the line that refuses the text, by what the parser answers.
