@@ -24,30 +24,8 @@ use Rattle.sg_script.proofs.Unique.{one_reading}
 use Rattle.sg_input.specs.declared.input.Input.{Input}
 use Rattle.sg_input.specs.declared.input.Input.TheVariants.{Refused, Ready}
 use Rattle.sg_input.specs.Lines.{script_line}
-use Rattle.sg_input.specs.Inputs.{AreTexts, HasLongText, HasNoDivider, IsBadInterface, IsBadScript, IsInputOf, IsInterface, IsReady, most_interface, most_script}
+use Rattle.sg_input.specs.Inputs.{AreTexts, HasLongText, HasNoDivider, IsBadInterface, IsBadScript, IsBadSecond, IsInputOf, IsInterface, IsReadAs, IsReady, IsRefusedFront, IsRefusedInput, IsScript, most_interface, most_script}
 use Rattle.sg_input.proofs.OneCut.{one_cut}
-
--- ---- the two texts
-
-same_interface : (input : List ℕ) (a b a' b' : List ℕ) → AreTexts input a b → AreTexts input a' b' → a ≡ a'
-same_interface input a b a' b' t t' = (one_cut input a b a' b' t.cut t'.cut).0
-
-same_script : (input : List ℕ) (a b a' b' : List ℕ) → AreTexts input a b → AreTexts input a' b' → b ≡ b'
-same_script input a b a' b' t t' = (one_cut input a b a' b' t.cut t'.cut).1
-
-not_divided : (input : List ℕ) (a b : List ℕ) → HasNoDivider input → AreTexts input a b → ⊥
-not_divided input a b none t = none a b t.cut.divides
-
-too_long : (n m most : ℕ) → n ≡ m → most < n → m ≤ most → ⊥
-too_long n m most same gt le = omega (arith, same, gt, le)
-
-not_long : (input : List ℕ) (a b : List ℕ) → HasLongText input → AreTexts input a b → ⊥
-not_long input a b long t =
-    let both = one_cut input long.interface long.script a b long.cut t.cut in
-    elim long.long [
-      | inl gt ↦ too_long (length long.interface) (length a) most_interface (ap length both.0) gt t.interface_fits
-      | inr gt ↦ too_long (length long.script) (length b) most_script (ap length both.1) gt t.script_fits
-    ]
 
 -- ---- the interface
 
@@ -74,7 +52,95 @@ not_refused services text i line (tree, p, is) said =
     let same : ◌≡◌ {A = Verdict} (accepted (accepted_line i.facts.name)) (refused line) =
     one_verdict services text (accepted (accepted_line i.facts.name)) (refused line) (tree, i, p, is, refl) said in absurd cc
 
--- ---- the script
+-- ---- the two texts
+
+module _ (most : ℕ) (services : List Facts) (input : List ℕ) where
+  same_interface : (a b a' b' : List ℕ) → AreTexts most input a b → AreTexts most input a' b' → a ≡ a'
+  same_interface a b a' b' t t' = (one_cut input a b a' b' t.cut t'.cut).0
+
+  same_second : (a b a' b' : List ℕ) → AreTexts most input a b → AreTexts most input a' b' → b ≡ b'
+  same_second a b a' b' t t' = (one_cut input a b a' b' t.cut t'.cut).1
+
+  same_declared : (a b a' b' : List ℕ) (i j : Declared) → AreTexts most input a b → AreTexts most input a' b' → IsInterface services a i → IsInterface services a' j → i ≡ j
+  same_declared a b a' b' i j t t' is is' =
+      one_interface services a i j is (subst (λ v. IsInterface services v j) (sym (same_interface a b a' b' t t')) is')
+
+  too_long : (n m limit : ℕ) → n ≡ m → limit < n → m ≤ limit → ⊥
+  too_long n m limit same gt le = omega (arith, same, gt, le)
+
+  not_long : (a b : List ℕ) → HasLongText most input → AreTexts most input a b → ⊥
+  not_long a b long t =
+      let both = one_cut input long.interface long.second a b long.cut t.cut in
+      elim long.long [
+        | inl gt ↦ too_long (length long.interface) (length a) most_interface (ap length both.0) gt t.interface_fits
+        | inr gt ↦ too_long (length long.second) (length b) most (ap length both.1) gt t.second_fits
+      ]
+
+  bad_interfaces : (line line' : List ℕ) → IsBadInterface most services input line → IsBadInterface most services input line' → line ≡ line'
+  bad_interfaces line line' a b =
+      let said = subst (λ v. IsVerdict services v (refused line')) (sym (same_interface a.interface a.second b.interface b.second a.texts b.texts)) b.verdict in
+      let same : ◌≡◌ {A = Verdict} (refused line) (refused line') = one_verdict services a.interface (refused line) (refused line') a.verdict said in cc same
+
+  -- an input that is refused whatever its second text is has no accepted interface beside a text that fits
+  pub not_front : (line a b : List ℕ) (i : Declared) → IsRefusedFront most services input line → AreTexts most input a b → IsInterface services a i → ⊥
+  not_front line a b i (inl (none, said)) t is = none a b t.cut.divides
+  not_front line a b i (inr (inl (long, said))) t is = not_long a b long t
+  not_front line a b i (inr (inr bad)) t is =
+      not_refused services a i line is (subst (λ v. IsVerdict services v (refused line)) (same_interface bad.interface bad.second a b bad.texts t) bad.verdict)
+
+  not_divided : (line : List ℕ) → HasNoDivider input → IsBadInterface most services input line → ⊥
+  not_divided line none bad = none bad.interface bad.second bad.texts.cut.divides
+
+  one_front : (line line' : List ℕ) → IsRefusedFront most services input line → IsRefusedFront most services input line' → line ≡ line'
+  one_front line line' (inl (none, is)) (inl (none', is')) = is ∙ sym is'
+  one_front line line' (inl (none, is)) (inr (inl (long, is'))) = absurd (none long.interface long.second long.cut.divides)
+  one_front line line' (inl (none, is)) (inr (inr bad)) = absurd (not_divided line' none bad)
+  one_front line line' (inr (inl (long, is))) (inl (none, is')) = absurd (none long.interface long.second long.cut.divides)
+  one_front line line' (inr (inl (long, is))) (inr (inl (long', is'))) = is ∙ sym is'
+  one_front line line' (inr (inl (long, is))) (inr (inr bad)) = absurd (not_long bad.interface bad.second long bad.texts)
+  one_front line line' (inr (inr bad)) (inl (none, is')) = absurd (not_divided line none bad)
+  one_front line line' (inr (inr bad)) (inr (inl (long, is'))) = absurd (not_long bad.interface bad.second long bad.texts)
+  one_front line line' (inr (inr bad)) (inr (inr bad')) = bad_interfaces line line' bad bad'
+
+  -- ---- the input, where a text of the second kind stands for one thing or has one fault, and not both
+  module _ {A : Type 0} (Reads : Declared → List ℕ → A → Type 0) (Bad : Declared → List ℕ → List ℕ → Type 0)
+      (one_reading : (i : Declared) (text : List ℕ) (one other : A) → Reads i text one → Reads i text other → one ≡ other)
+      (one_fault : (i : Declared) (text line line' : List ℕ) → Bad i text line → Bad i text line' → line ≡ line')
+      (not_both : (i : Declared) (text : List ℕ) (read : A) (line : List ℕ) → Reads i text read → Bad i text line → ⊥) where
+    moved_bad : (a b a' b' : List ℕ) (i j : Declared) (line : List ℕ) → AreTexts most input a b → AreTexts most input a' b'
+        → IsInterface services a i → IsInterface services a' j → Bad j b' line → Bad i b line
+    moved_bad a b a' b' i j line t t' is is' bad =
+        subst (λ v. Bad v b line) (sym (same_declared a b a' b' i j t t' is is')) (subst (λ v. Bad j v line) (sym (same_second a b a' b' t t')) bad)
+
+    moved : (a b a' b' : List ℕ) (i j : Declared) (read : A) → AreTexts most input a b → AreTexts most input a' b'
+        → IsInterface services a i → IsInterface services a' j → Reads j b' read → Reads i b read
+    moved a b a' b' i j read t t' is is' reads =
+        subst (λ v. Reads v b read) (sym (same_declared a b a' b' i j t t' is is')) (subst (λ v. Reads j v read) (sym (same_second a b a' b' t t')) reads)
+
+    -- an input isn't refused and read
+    pub never_read : (line : List ℕ) (i : Declared) (read : A) → IsRefusedInput most Bad services input line → IsReadAs most Reads services input i read → ⊥
+    never_read line i read (inl front) ready = not_front line ready.interface ready.second i front ready.texts ready.accepted
+    never_read line i read (inr bad) ready =
+        not_both bad.i bad.second read line
+        (moved bad.interface bad.second ready.interface ready.second bad.i i read bad.texts ready.texts bad.accepted ready.accepted ready.reads)
+        bad.bad
+
+    -- it is refused with one line
+    pub one_line : (line line' : List ℕ) → IsRefusedInput most Bad services input line → IsRefusedInput most Bad services input line' → line ≡ line'
+    one_line line line' (inl a) (inl b) = one_front line line' a b
+    one_line line line' (inl a) (inr b) = absurd (not_front line b.interface b.second b.i a b.texts b.accepted)
+    one_line line line' (inr a) (inl b) = absurd (not_front line' a.interface a.second a.i b a.texts a.accepted)
+    one_line line line' (inr a) (inr b) =
+        one_fault a.i a.second line line' a.bad (moved_bad a.interface a.second b.interface b.second a.i b.i line' a.texts b.texts a.accepted b.accepted b.bad)
+
+    -- it is read as one thing
+    pub one_read : (i j : Declared) (read read' : A) → IsReadAs most Reads services input i read → IsReadAs most Reads services input j read' → (i ≡ j) × (read ≡ read')
+    one_read i j read read' a b = (
+      same_declared a.interface a.second b.interface b.second i j a.texts b.texts a.accepted b.accepted,
+      one_reading i a.second read read' a.reads (moved a.interface a.second b.interface b.second i j read' a.texts b.texts a.accepted b.accepted b.reads),
+    )
+
+-- ---- scripts
 
 abbrev Answer : Type 0
 Answer = Result Script ScriptError
@@ -85,89 +151,30 @@ read_well script e = absurd cc
 read_ill : (fault : ScriptFault) → ◌≡◌ {A = Answer} (Err (Fault fault)) (Err no_room) → ⊥
 read_ill fault e = absurd cc
 
-one_script : (i : Declared) (text : List ℕ) (one other : Script) → IsReadingOf i text (Ok one) → IsReadingOf i text (Ok other) → one ≡ other
+one_script : (i : Declared) (text : List ℕ) (one other : Script) → IsScript i text one → IsScript i text other → one ≡ other
 one_script i text one other r s =
     let same : ◌≡◌ {A = Answer} (Ok one) (Ok other) = one_reading i text (Ok one) (Ok other) r s (read_well one) (read_well other) in cc same
 
-one_fault : (i : Declared) (text : List ℕ) (one other : ScriptFault) → IsReadingOf i text (Err (Fault one)) → IsReadingOf i text (Err (Fault other)) → one ≡ other
-one_fault i text one other r s =
-    let same : ◌≡◌ {A = Answer} (Err (Fault one)) (Err (Fault other)) = one_reading i text (Err (Fault one)) (Err (Fault other)) r s (read_ill one) (read_ill other) in cc same
+one_bad_script : (i : Declared) (text line line' : List ℕ) → IsBadScript i text line → IsBadScript i text line' → line ≡ line'
+one_bad_script i text line line' (one, r, is) (other, s, is') =
+    let same : ◌≡◌ {A = Answer} (Err (Fault one)) (Err (Fault other)) = one_reading i text (Err (Fault one)) (Err (Fault other)) r s (read_ill one) (read_ill other) in
+    let faults : one ≡ other = cc same in
+    is ∙ ap (script_line text) faults ∙ sym is'
 
-not_faulty : (i : Declared) (text : List ℕ) (script : Script) (fault : ScriptFault) → IsReadingOf i text (Ok script) → IsReadingOf i text (Err (Fault fault)) → ⊥
-not_faulty i text script fault r s =
+not_faulty : (i : Declared) (text : List ℕ) (script : Script) (line : List ℕ) → IsScript i text script → IsBadScript i text line → ⊥
+not_faulty i text script line r (fault, s, is) =
     let same : ◌≡◌ {A = Answer} (Ok script) (Err (Fault fault)) = one_reading i text (Ok script) (Err (Fault fault)) r s (read_well script) (read_ill fault) in absurd cc
 
--- readings of the two texts of one input are readings of one script for one interface
-moved : (services : List Facts) (input : List ℕ) (a b a' b' : List ℕ) (i j : Declared) (answer : Answer) → AreTexts input a b → AreTexts input a' b'
-    → IsInterface services a i → IsInterface services a' j → IsReadingOf j b' answer → IsReadingOf i b answer
-moved services input a b a' b' i j answer t t' is is' reads =
-    let one : i ≡ j = one_interface services a i j is (subst (λ v. IsInterface services v j) (sym (same_interface input a b a' b' t t')) is') in
-    subst (λ v. IsReadingOf v b answer) (sym one) (subst (λ v. IsReadingOf j v answer) (sym (same_script input a b a' b' t t')) reads)
-
--- ---- the input
-
-bad_interfaces : (services : List Facts) (input line line' : List ℕ) → IsBadInterface services input line → IsBadInterface services input line' → line ≡ line'
-bad_interfaces services input line line' a b =
-    let said = subst (λ v. IsVerdict services v (refused line')) (sym (same_interface input a.interface a.script b.interface b.script a.texts b.texts)) b.verdict in
-    let same : ◌≡◌ {A = Verdict} (refused line) (refused line') = one_verdict services a.interface (refused line) (refused line') a.verdict said in cc same
-
-not_bad : (services : List Facts) (input line a b : List ℕ) (i : Declared) → IsBadInterface services input line → AreTexts input a b → IsInterface services a i → ⊥
-not_bad services input line a b i bad t is =
-    not_refused services a i line is (subst (λ v. IsVerdict services v (refused line)) (same_interface input bad.interface bad.script a b bad.texts t) bad.verdict)
-
-bad_scripts : (services : List Facts) (input line line' : List ℕ) → IsBadScript services input line → IsBadScript services input line' → line ≡ line'
-bad_scripts services input line line' a b =
-    let reads = moved services input a.interface a.script b.interface b.script a.i b.i (Err (Fault b.fault)) a.texts b.texts a.accepted b.accepted b.reads in
-    let fault : a.fault ≡ b.fault = one_fault a.i a.script a.fault b.fault a.reads reads in
-    a.says ∙ ap (script_line a.script) fault
-    ∙ ap (λ v. script_line v b.fault) (same_script input a.interface a.script b.interface b.script a.texts b.texts) ∙ sym b.says
-
-not_bad_script : (services : List Facts) (input line : List ℕ) (i : Declared) (script : Script) → IsBadScript services input line → IsReady services input i script → ⊥
-not_bad_script services input line i script bad ready =
-    not_faulty bad.i bad.script script bad.fault
-    (moved services input bad.interface bad.script ready.interface ready.script bad.i i (Ok script) bad.texts ready.texts bad.accepted ready.accepted ready.reads)
-    bad.reads
-
 pub never_ready : (services : List Facts) (input line : List ℕ) (i : Declared) (script : Script) → IsInputOf services input (Refused line) → IsReady services input i script → ⊥
-never_ready services input line i script (inl (none, is)) ready = not_divided input ready.interface ready.script none ready.texts
-never_ready services input line i script (inr (inl (long, is))) ready = not_long input ready.interface ready.script long ready.texts
-never_ready services input line i script (inr (inr (inl bad))) ready =
-    not_bad services input line ready.interface ready.script i bad ready.texts ready.accepted
-never_ready services input line i script (inr (inr (inr bad))) ready = not_bad_script services input line i script bad ready
-
-one_line : (services : List Facts) (input line line' : List ℕ) → IsInputOf services input (Refused line) → IsInputOf services input (Refused line') → line ≡ line'
-one_line services input line line' (inl (none, is)) (inl (none', is')) = is ∙ sym is'
-one_line services input line line' (inl (none, is)) (inr (inl (long, is'))) =
-    absurd (none long.interface long.script long.cut.divides)
-one_line services input line line' (inl (none, is)) (inr (inr (inl bad))) = absurd (not_divided input bad.interface bad.script none bad.texts)
-one_line services input line line' (inl (none, is)) (inr (inr (inr bad))) = absurd (not_divided input bad.interface bad.script none bad.texts)
-one_line services input line line' (inr (inl (long, is))) (inl (none, is')) =
-    absurd (none long.interface long.script long.cut.divides)
-one_line services input line line' (inr (inl (long, is))) (inr (inl (long', is'))) = is ∙ sym is'
-one_line services input line line' (inr (inl (long, is))) (inr (inr (inl bad))) = absurd (not_long input bad.interface bad.script long bad.texts)
-one_line services input line line' (inr (inl (long, is))) (inr (inr (inr bad))) = absurd (not_long input bad.interface bad.script long bad.texts)
-one_line services input line line' (inr (inr (inl bad))) (inl (none, is')) = absurd (not_divided input bad.interface bad.script none bad.texts)
-one_line services input line line' (inr (inr (inl bad))) (inr (inl (long, is'))) = absurd (not_long input bad.interface bad.script long bad.texts)
-one_line services input line line' (inr (inr (inl bad))) (inr (inr (inl bad'))) = bad_interfaces services input line line' bad bad'
-one_line services input line line' (inr (inr (inl bad))) (inr (inr (inr bad'))) =
-    absurd (not_bad services input line bad'.interface bad'.script bad'.i bad bad'.texts bad'.accepted)
-one_line services input line line' (inr (inr (inr bad))) (inl (none, is')) = absurd (not_divided input bad.interface bad.script none bad.texts)
-one_line services input line line' (inr (inr (inr bad))) (inr (inl (long, is'))) = absurd (not_long input bad.interface bad.script long bad.texts)
-one_line services input line line' (inr (inr (inr bad))) (inr (inr (inl bad'))) =
-    absurd (not_bad services input line' bad.interface bad.script bad.i bad' bad.texts bad.accepted)
-one_line services input line line' (inr (inr (inr bad))) (inr (inr (inr bad'))) = bad_scripts services input line line' bad bad'
+never_ready services input line i script = never_read most_script services input IsScript IsBadScript one_script one_bad_script not_faulty line i script
 
 pub one_ready : (services : List Facts) (input : List ℕ) (i j : Declared) (script script' : Script) → IsReady services input i script → IsReady services input j script'
     → (i ≡ j) × (script ≡ script')
-one_ready services input i j script script' a b = (
-  one_interface services a.interface i j a.accepted
-      (subst (λ v. IsInterface services v j) (sym (same_interface input a.interface a.script b.interface b.script a.texts b.texts)) b.accepted),
-  one_script i a.script script script' a.reads
-      (moved services input a.interface a.script b.interface b.script i j (Ok script') a.texts b.texts a.accepted b.accepted b.reads),
-)
+one_ready services input i j script script' = one_read most_script services input IsScript IsBadScript one_script one_bad_script not_faulty i j script script'
 
 pub one_input : (services : List Facts) (input : List ℕ) (one other : Input) → IsInputOf services input one → IsInputOf services input other → one ≡ other
-one_input services input (Refused line) (Refused line') a b = ap Refused (one_line services input line line' a b)
+one_input services input (Refused line) (Refused line') a b =
+    ap Refused (one_line most_script services input IsScript IsBadScript one_script one_bad_script not_faulty line line' a b)
 one_input services input (Refused line) (Ready i script) a b = absurd (never_ready services input line i script a b)
 one_input services input (Ready i script) (Refused line) a b = absurd (never_ready services input line i script b a)
 one_input services input (Ready i script) (Ready j script') a b =

@@ -32,24 +32,24 @@ most_script = 4194304
 abbrev pub most_input : ℕ
 most_input = most_interface + most_divider + most_script
 
--- ---- the two texts
+-- ---- the two texts: the text of an interface, and after the divider a second one, which has so many bytes at most
 
 -- no line of an input is `%%` alone
 abbrev pub HasNoDivider : List ℕ → Type 0
 HasNoDivider input = (before behind : List ℕ) → Divides input before behind → ⊥
 
 -- an input is divided, and one of the two texts is too long
-pub record HasLongText (input : List ℕ) : Type 0 where
+pub record HasLongText (most : ℕ) (input : List ℕ) : Type 0 where
   pub interface : List ℕ
-  pub script : List ℕ
-  pub cut : IsCut input interface script
-  pub long : (most_interface < length interface) ⊎ (most_script < length script)
+  pub second : List ℕ
+  pub cut : IsCut input interface second
+  pub long : (most_interface < length interface) ⊎ (most < length second)
 
 -- an input is divided into these two texts, and neither is too long
-pub record AreTexts (input interface script : List ℕ) : Type 0 where
-  pub cut : IsCut input interface script
+pub record AreTexts (most : ℕ) (input interface second : List ℕ) : Type 0 where
+  pub cut : IsCut input interface second
   pub interface_fits : length interface ≤ most_interface
-  pub script_fits : length script ≤ most_script
+  pub second_fits : length second ≤ most
 
 -- ---- what they are
 
@@ -58,35 +58,53 @@ abbrev pub IsInterface : List Facts → List ℕ → Declared → Type 0
 IsInterface services text i = (tree : Tree) × Parses text (Ok tree) × IsAccepted services tree i
 
 -- an interface is refused with this line
-pub record IsBadInterface (services : List Facts) (input : List ℕ) (line : List ℕ) : Type 0 where
+pub record IsBadInterface (most : ℕ) (services : List Facts) (input line : List ℕ) : Type 0 where
   pub interface : List ℕ
-  pub script : List ℕ
-  pub texts : AreTexts input interface script
+  pub second : List ℕ
+  pub texts : AreTexts most input interface second
   pub verdict : IsVerdict services interface (refused line)
 
--- an interface is accepted, and its script has this fault first, or is no script
-pub record IsBadScript (services : List Facts) (input : List ℕ) (line : List ℕ) : Type 0 where
+-- an interface is accepted, and under it the second text is bad, as this line says
+pub record IsBadSecond (most : ℕ) (Bad : Declared → List ℕ → List ℕ → Type 0) (services : List Facts) (input line : List ℕ) : Type 0 where
   pub interface : List ℕ
-  pub script : List ℕ
-  pub texts : AreTexts input interface script
+  pub second : List ℕ
+  pub texts : AreTexts most input interface second
   pub i : Declared
   pub accepted : IsInterface services interface i
-  pub fault : ScriptFault
-  pub reads : IsReadingOf i script (Err (Fault fault))
-  pub says : line ≡ script_line script fault
+  pub bad : Bad i second line
+
+-- an interface is accepted, and under it the second text stands for this
+pub record IsReadAs {A : Type 0} (most : ℕ) (Reads : Declared → List ℕ → A → Type 0) (services : List Facts) (input : List ℕ) (i : Declared) (read : A) : Type 0 where
+  pub interface : List ℕ
+  pub second : List ℕ
+  pub texts : AreTexts most input interface second
+  pub accepted : IsInterface services interface i
+  pub reads : Reads i second read
+
+-- this line refuses an input whatever its second text is: it isn't divided, or a text is too long, or the interface is refused
+abbrev pub IsRefusedFront : ℕ → List Facts → List ℕ → List ℕ → Type 0
+IsRefusedFront most services input line =
+    (HasNoDivider input × (line ≡ no_divider_line)) ⊎ ((HasLongText most input × (line ≡ too_long_line)) ⊎ IsBadInterface most services input line)
+
+-- this line refuses an input, by the first of its faults
+abbrev pub IsRefusedInput : ℕ → (Declared → List ℕ → List ℕ → Type 0) → List Facts → List ℕ → List ℕ → Type 0
+IsRefusedInput most Bad services input line = IsRefusedFront most services input line ⊎ IsBadSecond most Bad services input line
+
+-- ---- scripts
+
+-- a text has this fault of a script first, and the line says so
+abbrev pub IsBadScript : Declared → List ℕ → List ℕ → Type 0
+IsBadScript i text line = (fault : ScriptFault) × IsReadingOf i text (Err (Fault fault)) × (line ≡ script_line text fault)
+
+-- a text is a script
+abbrev pub IsScript : Declared → List ℕ → Script → Type 0
+IsScript i text script = IsReadingOf i text (Ok script)
 
 -- an interface is accepted, and this is a script for it
-pub record IsReady (services : List Facts) (input : List ℕ) (i : Declared) (read : Script) : Type 0 where
-  pub interface : List ℕ
-  pub script : List ℕ
-  pub texts : AreTexts input interface script
-  pub accepted : IsInterface services interface i
-  pub reads : IsReadingOf i script (Ok read)
+abbrev pub IsReady : List Facts → List ℕ → Declared → Script → Type 0
+IsReady services input i script = IsReadAs most_script IsScript services input i script
 
 -- an input is refused with this line, or ready with this interface and script
 abbrev pub IsInputOf : List Facts → List ℕ → Input → Type 0
-IsInputOf services input (Refused line) =
-    (HasNoDivider input × (line ≡ no_divider_line))
-    ⊎ ((HasLongText input × (line ≡ too_long_line))
-    ⊎ (IsBadInterface services input line ⊎ IsBadScript services input line))
+IsInputOf services input (Refused line) = IsRefusedInput most_script IsBadScript services input line
 IsInputOf services input (Ready i script) = IsReady services input i script

@@ -1,5 +1,6 @@
 pub mod Divider
 pub mod Examined
+pub mod Inside
 pub mod Inputs
 pub mod Lines
 pub mod Places

@@ -7,6 +7,7 @@
 //! - `outcome`: that a text is accepted or refused, with what is said (`Verdict`)
 //! - `refusal`: why a text is refused (`RefusalKind`)
 //! - `places`: the line of a place (`line_of`), and the byte in its line (`column_of`)
+//! - `front`: an input up to its second text
 //! - `reading`: what an input is, or the line that refuses it (`read_input`)
 //! - `input`: an input that is refused or ready (`Input`)
 //! - `divider`: the two texts before and after the first line of `%%` alone (`cut`)
@@ -21,6 +22,7 @@
 
 mod divider;
 mod examined;
+mod front;
 mod input;
 mod judging;
 mod laws;

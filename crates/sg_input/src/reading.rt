@@ -1,17 +1,15 @@
 // What an input is, or why it is refused.
-ghost use Rattle.std.specs.Prelude.{◌≡◌, ◌≤◌, ℕ, List, map, length, true, IfOk};
+ghost use Rattle.std.specs.Prelude.{◌≡◌, ℕ, List, map, true, IfOk};
 ghost use Rattle.sg_facts.specs.Facts.{Facts, facts_of};
 ghost use Rattle.sg_input.specs.sg_check.Shapes.{are_shapes};
-ghost use Rattle.sg_input.specs.Examined.{IsExamined};
-ghost use Rattle.sg_input.specs.declared.examined.Examined.TheVariants.{Accepted as accepted_as};
 ghost use Rattle.sg_input.specs.declared.input.Input.{Input as OneInput};
-ghost use Rattle.sg_input.specs.Inputs.{AreTexts, IsInputOf};
+ghost use Rattle.sg_input.specs.Inputs.{AreTexts, IsInputOf, IsInterface, most_script};
 
-use crate::divider::cut;
-use crate::limits::{MOST_INTERFACE, MOST_SCRIPT};
-use crate::lines::{NO_DIVIDER, TOO_LONG, script_line};
-use crate::{Accepted, Examined, Input, examine};
-use sg_facts::{Bytes, NoMemory, Shape};
+use crate::front::{Front, front_of};
+use crate::limits::MOST_SCRIPT;
+use crate::lines::script_line;
+use crate::{Accepted, Input};
+use sg_facts::{NoMemory, Shape};
 use sg_script::{ScriptError, read};
 use std::alloc::Global;
 
@@ -35,22 +33,16 @@ fn input_of(alloc: Global, input: &[u8], shapes: &[Shape]) -> Result<Input, NoMe
     requires { are_shapes (map facts_of shapes.now) ≡ true }
     ensures { IfOk result (IsInputOf (map facts_of shapes.now) input.now) }
 {
-    let Some((interface, script)) = cut(input) else {
-        return Ok(Input::Refused(Bytes::from_slice(alloc, NO_DIVIDER)?));
-    };
-    if interface.len() > MOST_INTERFACE || script.len() > MOST_SCRIPT {
-        return Ok(Input::Refused(Bytes::from_slice(alloc, TOO_LONG)?));
-    }
-    match examine(alloc, interface, shapes)? {
-        Examined::Accepted(accepted) => read_script(alloc, accepted, script),
-        Examined::Refused(line) => Ok(Input::Refused(line)),
+    match front_of(alloc, input, MOST_SCRIPT, shapes)? {
+        Front::Ready(accepted, script) => read_script(alloc, accepted, script),
+        Front::Refused(line) => Ok(Input::Refused(line)),
     }
 }
 
 // What an input with this script is, whose interface is accepted.
 fn read_script(alloc: Global, accepted: Accepted, script: &[u8]) -> Result<Input, NoMemory>
-    ensures { IfOk result (λ made. (input interface : List ℕ) (services : List Facts) → AreTexts input interface script.now
-        → IsExamined services interface (accepted_as accepted) → IsInputOf services input made) }
+    ensures { IfOk result (λ made. (input interface : List ℕ) (services : List Facts) → AreTexts most_script input interface script.now
+        → IsInterface services interface accepted → IsInputOf services input made) }
 {
     match read(alloc, script, accepted.interface()) {
         Ok(script) => Ok(Input::Ready(accepted, script)),

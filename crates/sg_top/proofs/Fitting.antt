@@ -83,7 +83,7 @@ ready_service bytes i script ready =
     subst IsOneOfFive (sym (ap (λ v. v.facts) accepted.declared)) (one_of ready.accepted.0.facts.service.bytes accepted.facts accepted.service)
 
 pub ready_playable : (bytes : List ℕ) (i : Declared) (script : Script) → IsReady services bytes i script → IsPlayable i script
-ready_playable bytes i script ready = script_playable i ready.script script ready.reads
+ready_playable bytes i script ready = script_playable i ready.second script ready.reads
 
 pub ready_stops : (bytes : List ℕ) (i : Declared) (script : Script) → IsReady services bytes i script → AscendsAbove 0 script.stops
-ready_stops bytes i script ready = script_stops i ready.script script ready.reads
+ready_stops bytes i script ready = script_stops i ready.second script ready.reads
