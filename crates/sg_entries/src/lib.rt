@@ -1,0 +1,11 @@
+//! The entries of a printed run, read again for an interface.
+//!
+//! - `error`: why a text has no history (`EntriesError`, `EntriesKind`)
+//!
+//! `specs/Lines.antt` says which lines of a text are entries', `specs/Flaws.antt` what can be wrong with these, `specs/Standing.antt`
+//! what they stand for, and `specs/Reads.antt` what is answered on a text.
+#![tactic(auto)]
+
+mod error;
+
+pub use error::{EntriesError, EntriesKind};
