@@ -33,7 +33,7 @@ id_in _ _ = 0
 
 -- a call's other arguments: what stands after its descriptor or parent, where the function takes one; else all
 abbrev pub args_in : Bool → List Value → List Value
-args_in true (v ∷ values) = values
+args_in true (Word n ∷ values) = values
 args_in _ values = values
 
 -- the number of a descriptor; 0 where there is none
