@@ -9,6 +9,9 @@
 
 mod error;
 mod lines;
+mod making;
+mod names;
+mod numbers;
 mod rest;
 
 pub use error::{EntriesError, EntriesKind};
