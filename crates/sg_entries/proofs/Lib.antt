@@ -1,2 +1,4 @@
 pub mod Cutting
+pub mod Halves
 pub mod Made
+pub mod Within

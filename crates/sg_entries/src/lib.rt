@@ -12,6 +12,9 @@ mod lines;
 mod making;
 mod names;
 mod numbers;
+mod placing;
+mod reading;
 mod rest;
 
 pub use error::{EntriesError, EntriesKind};
+pub use reading::read_entries;

@@ -30,6 +30,7 @@ impl<'a> Rest<'a> {
 }
 
 /// The entry lines of a text that are still to come. Contracts see them.
+#[derive(Drop)]
 pub struct EntryLines<'a> {
     rest: Option<Rest<'a>>,
 }
