@@ -30,7 +30,7 @@ are_more (l ∷ lines) more [] others are also = absurd are
 are_more (l ∷ lines) more (e ∷ entries) others are also = (are.0, are_more lines more entries others are.1 also)
 
 -- the entries of the lines after some
-rest_of : (lines more : List Spelling) (entries : List WrittenEntry) → AreEntries (lines ++ more) entries → (others : List WrittenEntry) × AreEntries more others
+pub rest_of : (lines more : List Spelling) (entries : List WrittenEntry) → AreEntries (lines ++ more) entries → (others : List WrittenEntry) × AreEntries more others
 rest_of [] more entries are = (entries, are)
 rest_of (l ∷ lines) more [] are = absurd are
 rest_of (l ∷ lines) more (e ∷ entries) are = rest_of lines more entries are.1
@@ -184,16 +184,16 @@ module _ (i : Declared) (text : List ℕ) (l : Spelling) (left : List Spelling) 
 -- the next entry is made, and so one more is read
 pub goes_on : (i : Declared) (text : List ℕ) (l : Spelling) (left : List Spelling) (history new : List Entry) (nth : ℕ) (e : WrittenEntry) (made : Entry) → IsReadUpTo i text (l ∷ left) history
     → EntryParses l.bytes (Ok e) → nth ≡ length history + 1 → IsMade (map (in_line l) (entry_flaws i nth e)) (entry_of i e) (Ok made) → new ≡ history ++ made ∷ [] → IsReadUpTo i text left new
-goes_on i text l left history new nth e made r parses number is longer =
-    let none : map (in_line l) (entry_flaws i (length history + 1) e) ≡ [] = ap (λ n. map (in_line l) (entry_flaws i n e)) (sym number) ∙ is.0 in
+goes_on i text l left history new nth e made r parses count is longer =
+    let none : map (in_line l) (entry_flaws i (length history + 1) e) ≡ [] = ap (λ n. map (in_line l) (entry_flaws i n e)) (sym count) ∙ is.0 in
     subst (IsReadUpTo i text left) (sym longer) (read_more i text l left history e r parses made none is.1)
 
 -- the next entry isn't made, and so its error is answered
 pub stops : (i : Declared) (text : List ℕ) (l : Spelling) (left : List Spelling) (history : List Entry) (nth : ℕ) (e : WrittenEntry) (error : EntriesError) → IsReadUpTo i text (l ∷ left) history
     → EntryParses l.bytes (Ok e) → nth ≡ length history + 1 → HasEntries text → IsMade (map (in_line l) (entry_flaws i nth e)) (entry_of i e) (Err error) → IsReadOf i text (Err error)
-stops i text l left history nth e NoMemory r parses number all is = tt
-stops i text l left history nth e (Fault kind at) r parses number all is =
-    inr (flawed i text l left history e r parses kind at all (subst (λ n. IsFirst (map (in_line l) (entry_flaws i n e)) (record { kind = kind; at = at })) number is))
+stops i text l left history nth e NoMemory r parses count all is = tt
+stops i text l left history nth e (Fault kind at) r parses count all is =
+    inr (flawed i text l left history e r parses kind at all (subst (λ n. IsFirst (map (in_line l) (entry_flaws i n e)) (record { kind = kind; at = at })) count is))
 
 -- all is read
 pub all_read : (i : Declared) (text : List ℕ) (history : List Entry) → IsReadUpTo i text [] history → IsHistory i text history

@@ -1,4 +1,8 @@
 // The entries of a printed run.
+ghost use Rattle.std.specs.Prelude.{◌≡◌, ◌≢◌, ◌⊎◌, List, Err as failed};
+ghost use Rattle.std.specs.declared.result.Result.{Result as Answered};
+ghost use Rattle.sg_facts.specs.declared.entry.Entry.{Entry as IsEntry};
+ghost use Rattle.sg_entries.specs.declared.error.EntriesError.{EntriesError as Fault};
 ghost use Rattle.sg_entries.specs.Inside.Parsing.{HasEntries, IsChecked};
 ghost use Rattle.sg_entries.specs.Reads.{IsReadOf, entries_read};
 
@@ -13,12 +17,23 @@ use std::alloc::Global;
 ///
 /// `Fault` with the first that is wrong: with kind `Syntax` where an entry line isn't the line of an entry, and else with the flaw at the
 /// first place, and of the first kind at that place. `NoMemory` where there was no memory; nothing else is told then.
+#[tactic(auto, using(crate::proofs::Unique::only))]
 pub fn read_entries(
     alloc: Global,
     text: &[u8],
     iface: &Interface,
 ) -> Result<History, EntriesError>
     ensures reads { IsReadOf iface.now text.now (entries_read result) }
+    // No other answer may be given, want of memory aside.
+    ensures only { (other : Answered (List IsEntry) Fault) → IsReadOf iface.now text.now other → other ≢ failed EntriesError.NoMemory →
+        (entries_read result ≡ other) ⊎ (entries_read result ≡ failed EntriesError.NoMemory) }
+{
+    history_in(alloc, text, iface)
+}
+
+// The history that is printed in a text, or what is first wrong with it.
+fn history_in(alloc: Global, text: &[u8], iface: &Interface) -> Result<History, EntriesError>
+    ensures { IsReadOf iface.now text.now (entries_read result) }
 {
     check(alloc, text)?;
     history_of(alloc, text, iface)
