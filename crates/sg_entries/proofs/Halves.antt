@@ -121,7 +121,7 @@ not_flawed true kind at e = absurd cc
 not_flawed false kind at e = refl
 
 -- an entry without a flaw isn't the first that is one too many
-not_too_many : (i : Declared) (nth : ℕ) (e : WrittenEntry) → entry_flaws i nth e ≡ [] → nth == too_many_entries ≡ false
+pub not_too_many : (i : Declared) (nth : ℕ) (e : WrittenEntry) → entry_flaws i nth e ≡ [] → nth == too_many_entries ≡ false
 not_too_many i nth e none =
     let funs = client_flaws e.client ++ number_flaws 32 e.seq ++ fun_flaws i e (declared_fun i e.name.bytes) in
     let many = flaw_if (nth == too_many_entries) Limit e.name.at in
@@ -129,7 +129,7 @@ not_too_many i nth e none =
     let front : funs ++ many ≡ [] = front_none (funs ++ many) inner (front_none (funs ++ many ++ inner) (answer_flaws e.answer) none) in
     not_flawed (nth == too_many_entries) Limit e.name.at (back_none funs many front)
 
-unmapped : {A B : Type 0} (f : A → B) (xs : List A) → map f xs ≡ [] → xs ≡ []
+pub unmapped : {A B : Type 0} (f : A → B) (xs : List A) → map f xs ≡ [] → xs ≡ []
 unmapped f [] e = refl
 unmapped f (x ∷ xs) e = absurd cc
 

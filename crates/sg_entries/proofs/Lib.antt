@@ -1,4 +1,5 @@
 pub mod Cutting
+pub mod Flawless
 pub mod Halves
 pub mod Made
 pub mod Unique

@@ -1,6 +1,7 @@
 pub mod Flaws
 pub mod Inside
 pub mod Lines
+pub mod Printed
 pub mod Reads
 pub mod Standing
 pub use Rattle.sg_entry_parse.specs as sg_entry_parse

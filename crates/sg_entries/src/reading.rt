@@ -1,7 +1,10 @@
 // The entries of a printed run.
-ghost use Rattle.std.specs.Prelude.{◌≡◌, ◌≢◌, ◌⊎◌, List, Err as failed};
+ghost use Rattle.std.specs.Prelude.{◌≡◌, ◌≢◌, ◌≤◌, ◌⊎◌, List, IfOk, length, Err as failed};
 ghost use Rattle.std.specs.declared.result.Result.{Result as Answered};
+ghost use Rattle.sg_facts.specs.Limits.{most_script_calls};
 ghost use Rattle.sg_facts.specs.declared.entry.Entry.{Entry as IsEntry};
+ghost use Rattle.sg_facts.specs.sg_base.Lists.{Each};
+ghost use Rattle.sg_world_laws.specs.Seats.{MayBeMade};
 ghost use Rattle.sg_entries.specs.declared.error.EntriesError.{EntriesError as Fault};
 ghost use Rattle.sg_entries.specs.Inside.Parsing.{HasEntries, IsChecked};
 ghost use Rattle.sg_entries.specs.Reads.{IsReadOf, entries_read};
@@ -27,6 +30,8 @@ pub fn read_entries(
     // No other answer may be given, want of memory aside.
     ensures only { (other : Answered (List IsEntry) Fault) → IsReadOf iface.now text.now other → other ≢ failed EntriesError.NoMemory →
         (entries_read result ≡ other) ⊎ (entries_read result ≡ failed EntriesError.NoMemory) }
+    ensures calls { IfOk result (λ history. Each (λ e. MayBeMade iface.now e.call) history.items) }
+    ensures few { IfOk result (λ history. length history.items ≤ most_script_calls) }
 {
     history_in(alloc, text, iface)
 }
