@@ -7,6 +7,7 @@ ghost use Rattle.sg_facts.specs.sg_base.Lists.{Each};
 ghost use Rattle.sg_world_laws.specs.Seats.{MayBeMade};
 ghost use Rattle.sg_entries.specs.declared.error.EntriesError.{EntriesError as Fault};
 ghost use Rattle.sg_entries.specs.Inside.Parsing.{HasEntries, IsChecked};
+ghost use Rattle.sg_entries.specs.Printed.{PrintsHistory};
 ghost use Rattle.sg_entries.specs.Reads.{IsReadOf, entries_read};
 
 use crate::EntriesError;
@@ -30,6 +31,7 @@ pub fn read_entries(
     // No other answer may be given, want of memory aside.
     ensures only { (other : Answered (List IsEntry) Fault) → IsReadOf iface.now text.now other → other ≢ failed EntriesError.NoMemory →
         (entries_read result ≡ other) ⊎ (entries_read result ≡ failed EntriesError.NoMemory) }
+    ensures printed { IfOk result (λ history. PrintsHistory iface.now text.now history.items) }
     ensures calls { IfOk result (λ history. Each (λ e. MayBeMade iface.now e.call) history.items) }
     ensures few { IfOk result (λ history. length history.items ≤ most_script_calls) }
 {
