@@ -14,3 +14,4 @@ mod words;
 
 pub use printed::{load_line, text};
 pub use sg_hist::{End, EndList, Ended, History};
+pub use words::{push_answer, push_number};

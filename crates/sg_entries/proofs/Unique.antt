@@ -1,0 +1,123 @@
+-- A text has one answer, want of memory aside.
+use Rattle.std.proofs.Common.{◌≡◌, ◌≢◌, ◌⊎◌, inl, inr, ℕ, ◌+◌, List, [], ◌∷◌, ◌++◌, map, Ok, Err, refl, sym, ◌∙◌, ap, subst}
+use Rattle.std.specs.declared.result.Result.{Result}
+use Rattle.sg_entries.proofs.Halves.{rest_of}
+use Rattle.sg_entries.specs.Flaws.{Flaw, flaws_from}
+use Rattle.sg_entries.specs.Lines.{entry_lines_of}
+use Rattle.sg_entries.specs.Reads.{AreEntries, IsFlawed, IsHistory, IsNoEntry, IsReadOf}
+use Rattle.sg_entries.specs.Standing.{entry_of}
+use Rattle.sg_entries.specs.declared.error.EntriesError.{EntriesError}
+use Rattle.sg_entries.specs.declared.error.EntriesError.TheVariants.{NoMemory, Fault}
+use Rattle.sg_entries.specs.declared.error.EntriesKind.{EntriesKind}
+use Rattle.sg_entry_parse.proofs.Answer.{one_tree, only_answer}
+use Rattle.sg_entry_parse.specs.Parses.{EntryParses}
+use Rattle.sg_entry_parse.specs.Spelling.{Spelling}
+use Rattle.sg_entry_parse.specs.declared.error.EntrySyntax.{EntrySyntax}
+use Rattle.sg_entry_parse.specs.declared.error.EntrySyntax.TheVariants.{NoMemory as no_memory, Syntax as syntax}
+use Rattle.sg_entry_parse.specs.declared.tree.WrittenEntry.{WrittenEntry}
+use Rattle.sg_facts.specs.Interface.{Declared}
+use Rattle.sg_facts.specs.declared.entry.Entry.{Entry}
+
+-- ---- one line
+
+abbrev Answer : Type 0
+Answer = Result WrittenEntry EntrySyntax
+
+one_answer : (line : List ℕ) (one other : Answer) → EntryParses line one → EntryParses line other → one ≢ Err no_memory → other ≢ Err no_memory → one ≡ other
+one_answer line one other h g n m = sym (only_answer line one h n) ∙ only_answer line other g m
+
+failed : (place : ℕ) → ◌≡◌ {A = Answer} (Err (syntax place)) (Err no_memory) → ⊥
+failed place e = absurd cc
+
+parsed : (e : WrittenEntry) → ◌≡◌ {A = Answer} (Ok e) (Err no_memory) → ⊥
+parsed e is = absurd cc
+
+one_place : (line : List ℕ) (here there : ℕ) → EntryParses line (Err (syntax here)) → EntryParses line (Err (syntax there)) → here ≡ there
+one_place line here there h g =
+    let same : ◌≡◌ {A = Answer} (Err (syntax here)) (Err (syntax there)) = one_answer line (Err (syntax here)) (Err (syntax there)) h g (failed here) (failed there) in cc same
+
+not_both : (line : List ℕ) (e : WrittenEntry) (place : ℕ) → EntryParses line (Ok e) → EntryParses line (Err (syntax place)) → ⊥
+not_both line e place h g =
+    let same : ◌≡◌ {A = Answer} (Ok e) (Err (syntax place)) = one_answer line (Ok e) (Err (syntax place)) h g (parsed e) (failed place) in absurd cc
+
+-- ---- lines
+
+one_list : (lines : List Spelling) (one other : List WrittenEntry) → AreEntries lines one → AreEntries lines other → one ≡ other
+one_list [] [] [] h g = refl
+one_list [] [] (e ∷ other) h g = absurd g
+one_list [] (e ∷ one) other h g = absurd h
+one_list (l ∷ lines) [] other h g = absurd h
+one_list (l ∷ lines) (e ∷ one) [] h g = absurd g
+one_list (l ∷ lines) (e ∷ one) (d ∷ other) h g = ap (λ x. x ∷ one) (one_tree l.bytes e d h.0 g.0) ∙ ap (λ xs. d ∷ xs) (one_list lines one other h.1 g.1)
+
+-- a line that is none isn't among lines that are entries'
+not_among : (before rest : List Spelling) (l : Spelling) (entries : List WrittenEntry) (place : ℕ) → AreEntries (before ++ l ∷ rest) entries → EntryParses l.bytes (Err (syntax place)) → ⊥
+not_among before rest l entries place are fails = first (rest_of before (l ∷ rest) entries are)
+  where
+    first : (others : List WrittenEntry) × AreEntries (l ∷ rest) others → ⊥
+    first ([], none) = none
+    first (e ∷ others, also) = not_both l.bytes e place also.0 fails
+
+-- the first line that is none is one line
+one_line : (front before : List Spelling) (l m : Spelling) (rest others : List Spelling) (one other : List WrittenEntry) (here there : ℕ) → front ++ l ∷ rest ≡ before ++ m ∷ others
+    → AreEntries front one → AreEntries before other → EntryParses l.bytes (Err (syntax here)) → EntryParses m.bytes (Err (syntax there)) → l ≡ m
+one_line [] [] l m rest others one other here there is h g fails also = cc is
+one_line [] (k ∷ before) l m rest others one [] here there is h g fails also = absurd g
+one_line [] (k ∷ before) l m rest others one (e ∷ other) here there is h g fails also =
+    let same : l ≡ k = cc is in absurd (not_both k.bytes e here g.0 (subst (λ x. EntryParses x.bytes (Err (syntax here))) same fails))
+one_line (k ∷ front) before l m rest others [] other here there is h g fails also = absurd h
+one_line (k ∷ front) [] l m rest others (e ∷ one) other here there is h g fails also =
+    let same : k ≡ m = cc is in absurd (not_both k.bytes e there h.0 (subst (λ x. EntryParses x.bytes (Err (syntax there))) (sym same) also))
+one_line (k ∷ front) (j ∷ before) l m rest others (e ∷ one) [] here there is h g fails also = absurd g
+one_line (k ∷ front) (j ∷ before) l m rest others (e ∷ one) (d ∷ other) here there is h g fails also =
+    let tails : front ++ l ∷ rest ≡ before ++ m ∷ others = cc is in
+    one_line front before l m rest others one other here there tails h.1 g.1 fails also
+
+-- ---- faults
+
+same_fault : (kind other : EntriesKind) (at there : ℕ) → kind ≡ other → at ≡ there → Fault kind at ≡ Fault other there
+same_fault kind other at there k a = ap (λ x. Fault x at) k ∙ ap (Fault other) a
+
+not_history : (i : Declared) (text : List ℕ) (history : List Entry) (kind : EntriesKind) (at : ℕ) → IsHistory i text history → IsNoEntry text kind at ⊎ IsFlawed i text kind at → ⊥
+not_history i text history kind at good (inl bad) =
+    not_among bad.before bad.rest bad.line good.entries bad.place (subst (λ lines. AreEntries lines good.entries) bad.lines good.parsed) bad.fails
+not_history i text history kind at good (inr bad) =
+    let same = one_list (entry_lines_of text) good.entries bad.entries good.parsed bad.parsed in
+    let both : record { kind = kind; at = at } ∷ bad.first.others ≡ [] = sym bad.first.is ∙ ap (flaws_from i 1 (entry_lines_of text)) (sym same) ∙ good.flawless in
+    absurd cc
+
+one_fault : (i : Declared) (text : List ℕ) (kind other : EntriesKind) (at there : ℕ) → IsNoEntry text kind at ⊎ IsFlawed i text kind at → IsNoEntry text other there ⊎ IsFlawed i text other there
+    → Fault kind at ≡ Fault other there
+one_fault i text kind other at there (inl a) (inl b) =
+    let line = one_line a.before b.before a.line b.line a.rest b.rest a.entries b.entries a.place b.place (sym a.lines ∙ b.lines) a.parsed b.parsed a.fails b.fails in
+    let place = one_place b.line.bytes a.place b.place (subst (λ l. EntryParses l.bytes (Err (syntax a.place))) line a.fails) b.fails in
+    same_fault kind other at there (a.is_syntax ∙ sym b.is_syntax) (a.at_is ∙ ap (λ l. l.at + a.place) line ∙ ap (λ p. b.line.at + p) place ∙ sym b.at_is)
+one_fault i text kind other at there (inl a) (inr b) =
+    absurd (not_among a.before a.rest a.line b.entries a.place (subst (λ lines. AreEntries lines b.entries) a.lines b.parsed) a.fails)
+one_fault i text kind other at there (inr a) (inl b) =
+    absurd (not_among b.before b.rest b.line a.entries b.place (subst (λ lines. AreEntries lines a.entries) b.lines a.parsed) b.fails)
+one_fault i text kind other at there (inr a) (inr b) =
+    let same = one_list (entry_lines_of text) a.entries b.entries a.parsed b.parsed in
+    let first : Flaw = record { kind = kind; at = at } in
+    let second : Flaw = record { kind = other; at = there } in
+    let both : first ∷ a.first.others ≡ second ∷ b.first.others = sym a.first.is ∙ ap (flaws_from i 1 (entry_lines_of text)) same ∙ b.first.is in
+    let head : first ≡ second = cc both in
+    same_fault kind other at there (ap (λ f. f.kind) head) (ap (λ f. f.at) head)
+
+-- two answers on one text are one
+pub one_reading : (i : Declared) (text : List ℕ) (one other : Result (List Entry) EntriesError) → IsReadOf i text one → IsReadOf i text other → one ≢ Err NoMemory → other ≢ Err NoMemory → one ≡ other
+one_reading i text (Ok h) (Ok g) a b n m =
+    let same = one_list (entry_lines_of text) a.entries b.entries a.parsed b.parsed in
+    ap Ok (a.is ∙ ap (map (entry_of i)) same ∙ sym b.is)
+one_reading i text (Ok h) (Err NoMemory) a b n m = absurd (m refl)
+one_reading i text (Ok h) (Err (Fault kind at)) a b n m = absurd (not_history i text h kind at a b)
+one_reading i text (Err NoMemory) other a b n m = absurd (n refl)
+one_reading i text (Err (Fault kind at)) (Ok h) a b n m = absurd (not_history i text h kind at b a)
+one_reading i text (Err (Fault kind at)) (Err NoMemory) a b n m = absurd (m refl)
+one_reading i text (Err (Fault kind at)) (Err (Fault other there)) a b n m = ap (λ f. Err f) (one_fault i text kind other at there a b)
+
+-- an answer is the one that may be given, or there was no memory
+pub only : (i : Declared) (text : List ℕ) (one other : Result (List Entry) EntriesError) → IsReadOf i text one → IsReadOf i text other → other ≢ Err NoMemory → (one ≡ other) ⊎ (one ≡ Err NoMemory)
+only i text (Ok h) other a b m = inl (one_reading i text (Ok h) other a b (λ e. absurd cc) m)
+only i text (Err NoMemory) other a b m = inr refl
+only i text (Err (Fault kind at)) other a b m = inl (one_reading i text (Err (Fault kind at)) other a b (λ e. absurd cc) m)

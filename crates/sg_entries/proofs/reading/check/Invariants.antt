@@ -1,0 +1,10 @@
+-- The lines before those that are left are entries'.
+use Rattle.std.proofs.Common.{length}
+use Rattle.sg_entries.proofs.Halves.{IsUpTo}
+use Rattle.sg_entries.proofs.reading.check.Given as goal
+
+abbrev pub invariant-lines : goal.invariant-lines
+invariant-lines l = IsUpTo l.text l.lines
+
+abbrev pub decreases-lines : goal.decreases-lines
+decreases-lines l = length l.lines

@@ -1,0 +1,10 @@
+-- The lines before those that are left are read.
+use Rattle.std.proofs.Common.{length}
+use Rattle.sg_entries.proofs.Halves.{IsReadUpTo}
+use Rattle.sg_entries.proofs.reading.history_of.Given as goal
+
+abbrev pub invariant-lines : goal.invariant-lines
+invariant-lines l = IsReadUpTo l.iface l.text l.lines l.history.items
+
+abbrev pub decreases-lines : goal.decreases-lines
+decreases-lines l = length l.lines

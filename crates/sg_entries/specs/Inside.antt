@@ -1,0 +1,4 @@
+-- What the contracts of private functions cite.
+pub mod Cutting
+pub mod Making
+pub mod Parsing

@@ -1,0 +1,16 @@
+-- What is left of a text, and its lines.
+use Rattle.std.specs.Prelude.{ℕ, ◌≡◌, ◌+◌, ◌<◌, ◌^◌, List, [], ◌∷◌, None, Some, length}
+use Rattle.std.specs.declared.option.Option.{Option}
+use Rattle.sg_entries.specs.Lines.{lines_from}
+use Rattle.sg_entries.specs.declared.rest.Rest.{Rest}
+use Rattle.sg_entry_parse.specs.Spelling.{Spelling}
+
+-- the lines of what is left of a text, where something is
+abbrev pub lines_left : Option Rest → List Spelling
+lines_left None = []
+lines_left (Some rest) = lines_from rest.at rest.bytes.now
+
+-- the next of some lines, which stands in its text, and what is left of them; None where there is none
+abbrev pub IsNext : List Spelling → Option Spelling → List Spelling → Type 0
+IsNext lines None left = lines ≡ []
+IsNext lines (Some l) left = (lines ≡ l ∷ left) × (l.at + length l.bytes < 2 ^ 64)

@@ -1,0 +1,36 @@
+-- What a line is read to, by its place in the text.
+use Rattle.std.specs.Prelude.{ℕ, ◌≡◌, ◌+◌, List, ◌∷◌, Ok, Err}
+use Rattle.std.specs.declared.result.Result.{Result}
+use Rattle.sg_entries.specs.Reads.{AreEntries, IsNoEntry}
+use Rattle.sg_entries.specs.Lines.{entry_lines_of}
+use Rattle.sg_entries.specs.declared.error.EntriesError.{EntriesError}
+use Rattle.sg_entries.specs.declared.error.EntriesError.TheVariants.{NoMemory, Fault}
+use Rattle.sg_entries.specs.declared.error.EntriesKind.{EntriesKind}
+use Rattle.sg_entries.specs.declared.error.EntriesKind.TheVariants.{Syntax}
+use Rattle.sg_entry_parse.specs.Parses.{EntryParses}
+use Rattle.sg_entry_parse.specs.Spelling.{Spelling}
+use Rattle.sg_entry_parse.specs.declared.error.EntrySyntax.TheVariants.{Syntax as syntax}
+use Rattle.sg_entry_parse.specs.declared.tree.WrittenEntry.{WrittenEntry}
+
+-- a line is no entry's, and fails at this place of the text
+pub record FailsIn (line : Spelling) (kind : EntriesKind) (at : ℕ) : Type 0 where
+  pub is_syntax : kind ≡ Syntax
+  pub place : ℕ
+  pub fails : EntryParses line.bytes (Err (syntax place))
+  pub at_is : at ≡ line.at + place
+
+-- the entry of a line, or where it fails; out of memory may be told at any time
+abbrev pub IsParsed : Spelling → Result WrittenEntry EntriesError → Type 0
+IsParsed line (Ok e) = EntryParses line.bytes (Ok e)
+IsParsed line (Err NoMemory) = Unit {0}
+IsParsed line (Err (Fault kind at)) = FailsIn line kind at
+
+-- each entry line of a text is an entry's
+abbrev pub HasEntries : List ℕ → Type 0
+HasEntries text = (entries : List WrittenEntry) × AreEntries (entry_lines_of text) entries
+
+-- each entry line of a text is an entry's, or which is the first that isn't; out of memory may be told at any time
+abbrev pub IsChecked : List ℕ → Result (Unit {0}) EntriesError → Type 0
+IsChecked text (Ok done) = HasEntries text
+IsChecked text (Err NoMemory) = Unit {0}
+IsChecked text (Err (Fault kind at)) = IsNoEntry text kind at

@@ -1,0 +1,56 @@
+// What a line stands for, with places in its text.
+ghost use Rattle.std.specs.Prelude.{◌≡◌, ◌+◌, ◌<◌, ◌^◌, length, map, Ok};
+ghost use Rattle.sg_entries.specs.Flaws.{entry_flaws, in_line};
+ghost use Rattle.sg_entries.specs.Inside.Making.{IsMade};
+ghost use Rattle.sg_entries.specs.Inside.Parsing.{IsParsed};
+ghost use Rattle.sg_entries.specs.Standing.{entry_of};
+ghost use Rattle.sg_entry_parse.specs.Parses.{EntryParses};
+
+use crate::making::entry_of;
+use crate::{EntriesError, EntriesKind};
+use sg_entry_parse::{EntrySyntax, Spelled, WrittenEntry, parse_entry};
+use sg_facts::{Entry, Interface};
+use std::alloc::Global;
+
+/// The entry of a line as it is written, or where the line fails.
+pub fn written_in<'a>(
+    alloc: Global,
+    line: &Spelled<'a>,
+) -> Result<WrittenEntry<'a>, EntriesError>
+    requires { line.now.at + length line.now.bytes < 2 ^ 64 }
+    ensures { IsParsed line.now result }
+{
+    match parse_entry(alloc, line.slice) {
+        Ok(written) => Ok(written),
+        Err(EntrySyntax::NoMemory) => Err(EntriesError::NoMemory),
+        Err(EntrySyntax::Syntax { at }) => Err(fault_in(line, EntriesKind::Syntax, at)),
+    }
+}
+
+/// What an entry of this number stands for, or what is first wrong with it, with its place in the text of its line.
+pub fn entry_in(
+    alloc: Global,
+    iface: &Interface,
+    nth: u64,
+    line: &Spelled,
+    written: &WrittenEntry,
+) -> Result<Entry, EntriesError>
+    requires within { line.now.at + length line.now.bytes < 2 ^ 64 }
+    requires parsed { EntryParses line.now.bytes (Ok written.now) }
+    ensures { IsMade (map (in_line line.now) (entry_flaws iface.now nth written.now)) (entry_of iface.now written.now) result }
+{
+    match entry_of(alloc, iface, nth, written) {
+        Ok(entry) => Ok(entry),
+        Err(EntriesError::NoMemory) => Err(EntriesError::NoMemory),
+        Err(EntriesError::Fault { kind, at }) => Err(fault_in(line, kind, at)),
+    }
+}
+
+// A fault in a line, by its place in the text of the line.
+fn fault_in(line: &Spelled, kind: EntriesKind, at: usize) -> EntriesError
+    requires { line.now.at + at < 2 ^ 64 }
+    ensures { result ≡ EntriesError.Fault kind (line.now.at + at) }
+{
+    let at = line.at + at;
+    EntriesError::Fault { kind, at }
+}

@@ -1,0 +1,50 @@
+-- What is said of a history: that it is legal, or which entry is the first that is wrong.
+use Rattle.std.specs.Prelude.{ℕ, ◌≡◌, ◌≢◌, ◌+◌, List, [], ◌∷◌, ◌++◌, Some, length}
+use Rattle.std.specs.declared.option.Option.{Option}
+use Rattle.sg_facts.specs.sg_base.declared.reply.Reply.{Reply}
+use Rattle.sg_facts.specs.Interface.{Declared}
+use Rattle.sg_facts.specs.Legal.{IsLegal, Table, answer}
+use Rattle.sg_facts.specs.Object.{object_of}
+use Rattle.sg_facts.specs.declared.entry.Entry.{Entry}
+use Rattle.sg_report.specs.sg_hist.Clients.{calls_of}
+use Rattle.sg_verify.specs.declared.verdict.Verdict.{Verdict}
+use Rattle.sg_verify.specs.declared.verdict.Verdict.TheVariants.{Legal, BadSeq, BadReply}
+use Rattle.sg_world_laws.specs.Seats.{AreNumbered}
+
+-- the number of a client's next call after a history
+abbrev pub next_seq : List Entry → ℕ → ℕ
+next_seq history client = length (calls_of history client) + 1
+
+-- a history is right: a service that never failed could have given each reply, and each client's calls are numbered from 1 on, one
+-- after the other
+pub record IsRight (i : Declared) (ask : Table) (history : List Entry) : Type 0 where
+  pub legal : IsLegal i ask history
+  pub numbered : AreNumbered [] history
+
+-- the entries before a place, counted from 1, are right
+pub record IsRightUpTo (i : Declared) (ask : Table) (history : List Entry) (at : ℕ) : Type 0 where
+  pub before : List Entry
+  pub entry : Entry
+  pub rest : List Entry
+  pub is : history ≡ before ++ entry ∷ rest
+  pub place : at ≡ length before + 1
+  pub right : IsRight i ask before
+
+-- the first wrong entry has another number than its client's next
+pub record IsBadSeq (i : Declared) (ask : Table) (history : List Entry) (at next : ℕ) : Type 0 where
+  pub first : IsRightUpTo i ask history at
+  pub next_is : next ≡ next_seq first.before first.entry.call.client
+  pub other : first.entry.call.seq ≢ next
+
+-- the first wrong entry has its client's next number, and another reply than what is answered there
+pub record IsBadReply (i : Declared) (ask : Table) (history : List Entry) (at : ℕ) (answered : Option Reply) : Type 0 where
+  pub first : IsRightUpTo i ask history at
+  pub numbered : first.entry.call.seq ≡ next_seq first.before first.entry.call.client
+  pub answer_is : answered ≡ answer i ask (object_of i.facts first.before) first.entry.call
+  pub other : answered ≢ Some first.entry.reply
+
+-- this is said of a history
+abbrev pub IsVerdictOf : Declared → Table → List Entry → Verdict → Type 0
+IsVerdictOf i ask history Legal = IsRight i ask history
+IsVerdictOf i ask history (BadSeq at next) = IsBadSeq i ask history at next
+IsVerdictOf i ask history (BadReply at answered) = IsBadReply i ask history at answered
