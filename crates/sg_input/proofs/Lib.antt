@@ -3,6 +3,7 @@ pub mod Dividers
 pub mod LastLine
 pub mod OneCut
 pub mod OneInput
+pub mod OneRun
 pub mod OneVerdict
 pub mod PlacedLine
 pub mod Said

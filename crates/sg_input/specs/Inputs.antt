@@ -1,5 +1,6 @@
 -- What an input is, or why it is refused.
 use Rattle.std.specs.Prelude.{ℕ, ◌≡◌, ◌+◌, ◌<◌, ◌≤◌, ◌⊎◌, List, Ok, Err, length}
+use Rattle.std.proofs.Common.{inl, inr}
 use Rattle.sg_facts.specs.Facts.{Facts}
 use Rattle.sg_facts.specs.Interface.{Declared}
 use Rattle.sg_input.specs.sg_parse.declared.tree.Tree.{Tree}
@@ -7,14 +8,20 @@ use Rattle.sg_input.specs.sg_parse.Grammar.Parses.{Parses}
 use Rattle.sg_input.specs.sg_check_statements.Faults.{IsAccepted}
 use Rattle.sg_input.specs.declared.outcome.Verdict.TheVariants.{Refused as refused}
 use Rattle.sg_input.specs.Verdicts.{IsVerdict}
+use Rattle.sg_entries.specs.Reads.{IsReadOf}
+use Rattle.sg_entries.specs.declared.error.EntriesError.TheVariants.{Fault as EntriesFault}
+use Rattle.sg_entries.specs.declared.error.EntriesKind.{EntriesKind}
+use Rattle.sg_facts.specs.declared.entry.Entry.{Entry}
 use Rattle.sg_script.specs.declared.fault.ScriptError.TheVariants.{Fault}
 use Rattle.sg_script.specs.declared.fault.ScriptFault.{ScriptFault}
 use Rattle.sg_script.specs.declared.script.Script.{Script}
 use Rattle.sg_script.specs.Reads.{IsReadingOf}
 use Rattle.sg_input.specs.declared.input.Input.{Input}
 use Rattle.sg_input.specs.declared.input.Input.TheVariants.{Refused, Ready}
+use Rattle.sg_input.specs.declared.run_input.RunInput.{RunInput}
+use Rattle.sg_input.specs.declared.run_input.RunInput.TheVariants.{Refused as RunRefused, Ready as RunReady}
 use Rattle.sg_input.specs.Divider.{Divides, IsCut}
-use Rattle.sg_input.specs.Lines.{no_divider_line, script_line, too_long_line}
+use Rattle.sg_input.specs.Lines.{no_divider_line, run_line, script_line, too_long_line}
 
 -- the greatest number of bytes of an interface
 abbrev pub most_interface : ℕ
@@ -31,6 +38,14 @@ most_script = 4194304
 -- the greatest number of bytes of an input
 abbrev pub most_input : ℕ
 most_input = most_interface + most_divider + most_script
+
+-- the greatest number of bytes of a printed run
+abbrev pub most_run : ℕ
+most_run = 67108864
+
+-- the greatest number of bytes of an input whose second text is a printed run
+abbrev pub most_run_input : ℕ
+most_run_input = most_interface + most_divider + most_run
 
 -- ---- the two texts: the text of an interface, and after the divider a second one, which has so many bytes at most
 
@@ -108,3 +123,27 @@ IsReady services input i script = IsReadAs most_script IsScript services input i
 abbrev pub IsInputOf : List Facts → List ℕ → Input → Type 0
 IsInputOf services input (Refused line) = IsRefusedInput most_script IsBadScript services input line
 IsInputOf services input (Ready i script) = IsReady services input i script
+
+-- ---- printed runs
+
+-- a text has this fault of a printed run first, and the line says so
+abbrev pub IsBadRun : Declared → List ℕ → List ℕ → Type 0
+IsBadRun i text line = (kind : EntriesKind) × (at : ℕ) × IsReadOf i text (Err (EntriesFault kind at)) × (line ≡ run_line text kind at)
+
+-- a text prints a history
+abbrev pub IsPrinted : Declared → List ℕ → List Entry → Type 0
+IsPrinted i text history = IsReadOf i text (Ok history)
+
+-- an interface is accepted, and this is the history that a run of its service printed
+abbrev pub IsRunReady : List Facts → List ℕ → Declared → List Entry → Type 0
+IsRunReady services input i history = IsReadAs most_run IsPrinted services input i history
+
+-- an input is refused with this line, or ready with this interface and history
+abbrev pub IsRunInputOf : List Facts → List ℕ → RunInput → Type 0
+IsRunInputOf services input (RunRefused line) = IsRefusedInput most_run IsBadRun services input line
+IsRunInputOf services input (RunReady i history) = IsRunReady services input i history.items
+
+-- what an input is: the line that refuses it, or its interface and the entries of its history
+abbrev pub input_read : RunInput → List ℕ ⊎ (Declared × List Entry)
+input_read (RunRefused line) = inl line
+input_read (RunReady i history) = inr (i, history.items)

@@ -1,10 +1,12 @@
 pub mod Divider
 pub mod Examined
 pub mod Inside
+pub mod Judged
 pub mod Inputs
 pub mod Lines
 pub mod Places
 pub mod Verdicts
+pub use Rattle.sg_entries.specs as sg_entries
 pub use Rattle.sg_print.specs.sg_parse
 pub use Rattle.sg_script.specs as sg_script
 pub use Rattle.sg_script.specs.sg_lex

@@ -10,6 +10,7 @@
 //! - `front`: an input up to its second text
 //! - `reading`: what an input is, or the line that refuses it (`read_input`)
 //! - `input`: an input that is refused or ready (`Input`)
+//! - `run_input`: what an input with a printed run is, or the line that refuses it (`read_run`, `RunInput`)
 //! - `divider`: the two texts before and after the first line of `%%` alone (`cut`)
 //! - `limits`: the greatest numbers of bytes
 //! - `lines`: the lines that are said of a text, and those that refuse an input
@@ -32,18 +33,22 @@ mod outcome;
 mod places;
 mod reading;
 mod refusal;
+mod run_input;
 
 pub use divider::cut;
 pub use examined::Examined;
 pub use input::Input;
 pub use judging::{compiled, examine, upgraded, verdict};
 pub use laws::{one_cut, one_input, one_verdict, upgrades_are_accepted};
-pub use limits::{MOST_DIVIDER, MOST_INPUT, MOST_INTERFACE, MOST_SCRIPT};
+pub use limits::{
+    MOST_DIVIDER, MOST_INPUT, MOST_INTERFACE, MOST_RUN, MOST_RUN_INPUT, MOST_SCRIPT,
+};
 pub use lines::TOO_LONG;
 pub use outcome::Verdict;
 pub use places::{column_of, line_of};
 pub use reading::read_input;
 pub use refusal::RefusalKind;
+pub use run_input::{RunInput, read_run};
 pub use sg_print::parse;
 pub use sg_script::Script;
 pub use sg_stub::{

@@ -1,10 +1,11 @@
 // The lines that are said of a text, and those that refuse an input.
 ghost use Rattle.std.specs.Prelude.{◌≡◌, IfOk};
-ghost use Rattle.sg_input.specs.Lines.{script_kind_name, script_line};
+ghost use Rattle.sg_input.specs.Lines.{entries_kind_name, run_line, script_kind_name, script_line};
 ghost use Rattle.sg_input.specs.Verdicts.{accepted_line, refusal_line};
 
 use crate::places::{column_of, line_of};
 use crate::refusal::{RefusalKind, name_of};
+use sg_entries::EntriesKind;
 use sg_facts::{Bytes, NoMemory};
 use sg_script::{ScriptFault, ScriptKind};
 use std::alloc::Global;
@@ -65,5 +66,34 @@ fn script_kind_name(kind: ScriptKind) -> &'static str
         ScriptKind::NotAscending => "NotAscending",
         ScriptKind::Blocking => "Blocking",
         ScriptKind::Limit => "Limit",
+    }
+}
+
+/// The line of a printed run whose entries have a fault of a kind at a place, which is counted in bytes from 0.
+pub fn run_line(
+    alloc: Global,
+    run: &[u8],
+    kind: EntriesKind,
+    at: usize,
+) -> Result<Bytes, NoMemory>
+    ensures { IfOk result (λ line. line ≡ run_line run.now kind at) }
+{
+    let line = line_of(run, at);
+    let column = column_of(run, at);
+    let kind = entries_kind_name(kind);
+    let said = format!(in alloc; "run refused at {line}:{column}: {kind}\n")?;
+    Ok(Bytes::from_vec(said.into_bytes()))
+}
+
+// The name of a kind of fault of entries.
+fn entries_kind_name(kind: EntriesKind) -> &'static str
+    ensures { result.now ≡ entries_kind_name kind }
+{
+    match kind {
+        EntriesKind::Syntax => "Syntax",
+        EntriesKind::UnknownFunction => "UnknownFunction",
+        EntriesKind::BadArgs => "BadArgs",
+        EntriesKind::BadClient => "BadClient",
+        EntriesKind::Limit => "Limit",
     }
 }

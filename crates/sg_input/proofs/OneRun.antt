@@ -1,0 +1,66 @@
+-- An input with a printed run is one thing.
+use Rattle.std.proofs.Common.{◌≡◌, ℕ, List, IfOk, inr, refl, sym, ◌∙◌, ap}
+use Rattle.std.specs.Prelude.{Ok, Err}
+use Rattle.std.specs.declared.result.Result.{Result}
+use Rattle.sg_facts.specs.sg_base.declared.memory.NoMemory.{NoMemory}
+use Rattle.sg_facts.specs.Facts.{Facts}
+use Rattle.sg_facts.specs.Interface.{Declared}
+use Rattle.sg_facts.specs.declared.entry.Entry.{Entry}
+use Rattle.sg_entries.proofs.Unique.{one_reading}
+use Rattle.sg_entries.specs.declared.error.EntriesError.{EntriesError}
+use Rattle.sg_entries.specs.declared.error.EntriesError.TheVariants.{NoMemory as no_room, Fault}
+use Rattle.sg_entries.specs.declared.error.EntriesKind.{EntriesKind}
+use Rattle.sg_input.specs.declared.run_input.RunInput.{RunInput}
+use Rattle.sg_input.specs.declared.run_input.RunInput.TheVariants.{Refused, Ready}
+use Rattle.sg_input.specs.Inputs.{IsBadRun, IsPrinted, IsRunInputOf, IsRunReady, input_read, most_run}
+use Rattle.sg_input.specs.Lines.{run_line}
+use Rattle.sg_input.proofs.OneInput.{never_read, one_line, one_read}
+
+abbrev Answer : Type 0
+Answer = Result (List Entry) EntriesError
+
+read_well : (history : List Entry) → ◌≡◌ {A = Answer} (Ok history) (Err no_room) → ⊥
+read_well history e = absurd cc
+
+read_ill : (kind : EntriesKind) (at : ℕ) → ◌≡◌ {A = Answer} (Err (Fault kind at)) (Err no_room) → ⊥
+read_ill kind at e = absurd cc
+
+one_history : (i : Declared) (text : List ℕ) (one other : List Entry) → IsPrinted i text one → IsPrinted i text other → one ≡ other
+one_history i text one other r s =
+    let same : ◌≡◌ {A = Answer} (Ok one) (Ok other) = one_reading i text (Ok one) (Ok other) r s (read_well one) (read_well other) in cc same
+
+one_bad_run : (i : Declared) (text line line' : List ℕ) → IsBadRun i text line → IsBadRun i text line' → line ≡ line'
+one_bad_run i text line line' (kind, at, r, is) (kind', at', s, is') =
+    let same : ◌≡◌ {A = Answer} (Err (Fault kind at)) (Err (Fault kind' at')) =
+    one_reading i text (Err (Fault kind at)) (Err (Fault kind' at')) r s (read_ill kind at) (read_ill kind' at') in
+    let kinds : kind ≡ kind' = cc same in
+    let places : at ≡ at' = cc same in
+    is ∙ ap (λ k. run_line text k at) kinds ∙ ap (run_line text kind') places ∙ sym is'
+
+not_faulty : (i : Declared) (text : List ℕ) (history : List Entry) (line : List ℕ) → IsPrinted i text history → IsBadRun i text line → ⊥
+not_faulty i text history line r (kind, at, s, is) =
+    let same : ◌≡◌ {A = Answer} (Ok history) (Err (Fault kind at)) = one_reading i text (Ok history) (Err (Fault kind at)) r s (read_well history) (read_ill kind at) in absurd cc
+
+-- an input isn't refused and ready
+pub never_ready : (services : List Facts) (input line : List ℕ) (i : Declared) (history : List Entry) → IsRunInputOf services input (Refused line) → IsRunReady services input i history → ⊥
+never_ready services input line i history = never_read most_run services input IsPrinted IsBadRun one_history one_bad_run not_faulty line i history
+
+-- it is ready with one interface and one history
+pub one_ready : (services : List Facts) (input : List ℕ) (i j : Declared) (history history' : List Entry) → IsRunReady services input i history → IsRunReady services input j history'
+    → (i ≡ j) × (history ≡ history')
+one_ready services input i j history history' = one_read most_run services input IsPrinted IsBadRun one_history one_bad_run not_faulty i j history history'
+
+one_input : (services : List Facts) (input : List ℕ) (one other : RunInput) → IsRunInputOf services input one → IsRunInputOf services input other → input_read one ≡ input_read other
+one_input services input (Refused line) (Refused line') a b =
+    ap (λ l. input_read (Refused l)) (one_line most_run services input IsPrinted IsBadRun one_history one_bad_run not_faulty line line' a b)
+one_input services input (Refused line) (Ready i history) a b = absurd (never_ready services input line i history.items a b)
+one_input services input (Ready i history) (Refused line) a b = absurd (never_ready services input line i history.items b a)
+one_input services input (Ready i history) (Ready j history') a b =
+    let both = one_ready services input i j history.items history'.items a b in
+    ap (λ d. input_read (Ready d history)) both.0 ∙ ap (λ l. inr (j, l)) both.1
+
+-- where it is answered at all, it is that one
+pub only : (services : List Facts) (input : List ℕ) (answer : Result RunInput NoMemory) → IfOk answer (IsRunInputOf services input)
+    → (other : RunInput) → IsRunInputOf services input other → IfOk answer (λ v. input_read v ≡ input_read other)
+only services input (Ok v) is other said = one_input services input v other is said
+only services input (Err e) is other said = tt
