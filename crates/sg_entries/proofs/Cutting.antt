@@ -47,7 +47,9 @@ first_line at text end some = by _ refl some
         let within : position_or_len (λ b. b == line_feed) text < length text = grind (arith, nat_tests, e) in
         let here : end < length text = subst (λ n. n < length text) same within in
         let front : length (take end text) ≡ end = length-take-le end text (omega (arith, here)) in
-        let cut = slice_split_first (λ b. b == line_feed) text 0 within in
-        (ap (placed at) (subst (λ n. slice_split (λ b. b == line_feed) text ≡ take n text ∷ slice_split (λ b. b == line_feed) (drop (n + 1) text)) same cut)
-        ∙ ap (λ n. record { bytes = take end text; at = at } ∷ placed (at + n + 1) (slice_split (λ b. b == line_feed) (drop (end + 1) text))) front
-        ∙ ap (λ rest. record { bytes = take end text; at = at } ∷ lines_from (at + end + 1) rest) (sym (whole text (end + 1))), here)
+        let cut = slice_split_first (λ b. b == line_feed) text 0 within in (
+          ap (placed at) (subst (λ n. slice_split (λ b. b == line_feed) text ≡ take n text ∷ slice_split (λ b. b == line_feed) (drop (n + 1) text)) same cut)
+              ∙ ap (λ n. record { bytes = take end text; at = at } ∷ placed (at + n + 1) (slice_split (λ b. b == line_feed) (drop (end + 1) text))) front
+              ∙ ap (λ rest. record { bytes = take end text; at = at } ∷ lines_from (at + end + 1) rest) (sym (whole text (end + 1))),
+          here,
+        )

@@ -119,8 +119,8 @@ found i name n (g ∷ funs) f e = by (pick (bytes_eq g.name name && declares i n
       last = (let more : length (g ∷ funs) ≡ suc (length funs) = refl in omega (arith, same, more));
       declared = subst (λ v. declares i v ≡ true) same (right (bytes_eq g.name name) (declares i n) is);
       called = (
-        let none : f - n ≡ 0 = omega (arith, same) in
-        ap (λ k. (get_or (g ∷ funs) k no_fun).name) none ∙ (bytes_eq-Decides g.name name).0 (left (bytes_eq g.name name) (declares i n) is));
+          let none : f - n ≡ 0 = omega (arith, same) in
+          ap (λ k. (get_or (g ∷ funs) k no_fun).name) none ∙ (bytes_eq-Decides g.name name).0 (left (bytes_eq g.name name) (declares i n) is));
     }
     by (inr more) later =
         let l = later more in
@@ -131,8 +131,8 @@ found i name n (g ∷ funs) f e = by (pick (bytes_eq g.name name && declares i n
           last = (let longer : length (g ∷ funs) ≡ suc (length funs) = refl in omega (arith, last, longer));
           declared = l.declared;
           called = (
-            let next : f - n ≡ suc (f - (n + 1)) = omega (arith, first) in
-            ap (λ k. (get_or (g ∷ funs) k no_fun).name) next ∙ l.called);
+              let next : f - n ≡ suc (f - (n + 1)) = omega (arith, first) in
+              ap (λ k. (get_or (g ∷ funs) k no_fun).name) next ∙ l.called);
         }
 
 -- the function of a number from 1

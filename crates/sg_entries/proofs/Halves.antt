@@ -160,10 +160,10 @@ module _ (i : Declared) (text : List ℕ) (l : Spelling) (left : List Spelling) 
     flawless = flaws_then [] [] ∙ append-nil own ∙ none;
     is = ap (λ h. h ++ made ∷ []) r.is ∙ ap (λ m. map (entry_of i) r.so_far.entries ++ m ∷ []) is ∙ sym (map_more (entry_of i) r.so_far.entries (e ∷ []));
     few = (
-      let last = not_too_many i (length history + 1) e (unmapped (in_line l) (entry_flaws i (length history + 1) e) none) in
-      let longer : length (history ++ made ∷ []) ≡ length history + 1 = length-append history (made ∷ []) in
-      let most = r.few in
-      grind (arith, nat_tests, last, longer, most));
+        let last = not_too_many i (length history + 1) e (unmapped (in_line l) (entry_flaws i (length history + 1) e) none) in
+        let longer : length (history ++ made ∷ []) ≡ length history + 1 = length-append history (made ∷ []) in
+        let most = r.few in
+        grind (arith, nat_tests, last, longer, most));
   }
 
   -- the next entry has the first flaw

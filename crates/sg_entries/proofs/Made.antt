@@ -22,7 +22,7 @@ not_made flaws xs i x value whole NoMemory within is none h = tt
 not_made flaws xs i x value whole (Fault kind at) within is none h =
     let rest = flat_map flaws (drop (suc i) xs) in
     let split : flat_map flaws xs ≡ flat_map flaws (take i xs) ++ (flaws x ++ rest) =
-        ap (flat_map flaws) (around xs i x within is) ∙ flat_map-append flaws (take i xs) (x ∷ drop (suc i) xs) in
+    ap (flat_map flaws) (around xs i x within is) ∙ flat_map-append flaws (take i xs) (x ∷ drop (suc i) xs) in
     let front : flat_map flaws (take i xs) ++ (flaws x ++ rest) ≡ flaws x ++ rest = ap (λ l. l ++ (flaws x ++ rest)) none in
     let first : flaws x ++ rest ≡ record { kind = kind; at = at } ∷ h.others ++ rest = ap (λ l. l ++ rest) h.is in
     record { others = h.others ++ rest; is = split ∙ front ∙ first }

@@ -62,8 +62,8 @@ digits_test : IsDigitsTest (λ ds. list_all is_ascii_digit ds ≡ true)
 digits_test = record {
   empty = refl;
   parts = λ c cs all. (
-    let one = left (is_ascii_digit c) (list_all is_ascii_digit cs) all in
-    ((grind (arith, nat_tests, one), grind (arith, nat_tests, one)), right (is_ascii_digit c) (list_all is_ascii_digit cs) all));
+      let one = left (is_ascii_digit c) (list_all is_ascii_digit cs) all in
+      ((grind (arith, nat_tests, one), grind (arith, nat_tests, one)), right (is_ascii_digit c) (list_all is_ascii_digit cs) all));
   more = λ c cs range all. both (is_ascii_digit c) (list_all is_ascii_digit cs) (is_digit c range.0 range.1) all;
 }
 
@@ -226,6 +226,7 @@ answer_shown f (good desc words bytes) is none = record {
     hidden true bytes are is = absurd cc
     hidden false None are is = refl
     hidden false (Some t) are is = absurd are
+
     shown : (bytes : Option Spelling) → optional_flaws text_flaws bytes ≡ [] → is_text (bytes_of bytes) ≡ true
     shown None none = refl
     shown (Some t) none = is_true (is_text t.bytes) (not_flawed _ Limit (t.at - 1) none)
@@ -262,22 +263,22 @@ module _ (i : Declared) (line : List ℕ) (e : WrittenEntry) (is : IsEntry line 
       let args = args_printed e.args (each_front IsSpelt (args_pieces e.args) tail rest) f.args in
       let reply = answer_printed fun e.answer (each_back IsSpelt (args_pieces e.args) tail rest).1.1 (subst (λ n. IsAnswer (shows n) e.answer) (sym has.called) is.0.1) f.answer in
       let brackets : listed (if takes_id i.facts (fun_of i e) then Word (id_in (takes_id i.facts (fun_of i e)) (map value_of e.args)) ∷ args_in (takes_id i.facts (fun_of i e)) (map value_of e.args)
-          else args_in (takes_id i.facts (fun_of i e)) (map value_of e.args)) ≡ written (args_pieces e.args) = ap listed values ∙ sym args in
+      else args_in (takes_id i.facts (fun_of i e)) (map value_of e.args)) ≡ written (args_pieces e.args) = ap listed values ∙ sym args in
       let c = decimal (number_of e.client) in
       let q = decimal (number_of e.seq) in
       let l = written (args_pieces e.args) in
       let r = written (answer_pieces e.answer) in
       let inside = listed (if takes_id i.facts (fun_of i e) then Word (id_in (takes_id i.facts (fun_of i e)) (map value_of e.args)) ∷ args_in (takes_id i.facts (fun_of i e)) (map value_of e.args)
-          else args_in (takes_id i.facts (fun_of i e)) (map value_of e.args)) in
+      else args_in (takes_id i.facts (fun_of i e)) (map value_of e.args)) in
       nested (codes "c") c (codes ".") q (codes " ") fun.name (codes "(") inside (codes ")") (codes " = ") (reply_text fun (reply_of e.answer)) line_end
       ∙ ap (λ x. x ++ line_end) (
-          ap (λ x. body x q fun.name inside (reply_text fun (reply_of e.answer))) client
-          ∙ ap (λ x. body e.client.bytes x fun.name inside (reply_text fun (reply_of e.answer))) seq
-          ∙ ap (λ x. body e.client.bytes e.seq.bytes x inside (reply_text fun (reply_of e.answer))) has.called
-          ∙ ap (λ x. body e.client.bytes e.seq.bytes e.name.bytes x (reply_text fun (reply_of e.answer))) brackets
-          ∙ ap (λ x. body e.client.bytes e.seq.bytes e.name.bytes l x) (sym reply)
-          ∙ ap (λ x. codes "c" ++ (e.client.bytes ++ (codes "." ++ (e.seq.bytes ++ (codes " " ++ (e.name.bytes ++ (codes "(" ++ x))))))) (sym (flat_map-append piece_bytes (args_pieces e.args) tail))
-          ∙ sym is.1)
+      ap (λ x. body x q fun.name inside (reply_text fun (reply_of e.answer))) client
+      ∙ ap (λ x. body e.client.bytes x fun.name inside (reply_text fun (reply_of e.answer))) seq
+      ∙ ap (λ x. body e.client.bytes e.seq.bytes x inside (reply_text fun (reply_of e.answer))) has.called
+      ∙ ap (λ x. body e.client.bytes e.seq.bytes e.name.bytes x (reply_text fun (reply_of e.answer))) brackets
+      ∙ ap (λ x. body e.client.bytes e.seq.bytes e.name.bytes l x) (sym reply)
+      ∙ ap (λ x. codes "c" ++ (e.client.bytes ++ (codes "." ++ (e.seq.bytes ++ (codes " " ++ (e.name.bytes ++ (codes "(" ++ x))))))) (sym (flat_map-append piece_bytes (args_pieces e.args) tail))
+      ∙ sym is.1)
 
   -- and it may be printed
   pub may_be_printed : MayBePrinted i (entry_of i e)

@@ -9,7 +9,7 @@ use Rattle.sg_entries.specs.Standing.{entry_of}
 use Rattle.sg_entries.specs.declared.error.EntriesError.{EntriesError}
 use Rattle.sg_entries.specs.declared.error.EntriesError.TheVariants.{NoMemory, Fault}
 use Rattle.sg_entries.specs.declared.error.EntriesKind.{EntriesKind}
-use Rattle.sg_entry_parse.proofs.Answer.{one_tree, only_answer}
+use Rattle.sg_entry_parse.proofs.OneAnswer.{one_tree, only_answer}
 use Rattle.sg_entry_parse.specs.Parses.{EntryParses}
 use Rattle.sg_entry_parse.specs.Spelling.{Spelling}
 use Rattle.sg_entry_parse.specs.declared.error.EntrySyntax.{EntrySyntax}

@@ -1,10 +1,13 @@
 //! The entries of a printed run, read again for an interface.
 //!
-//! - `error`: why a text has no history (`EntriesError`, `EntriesKind`)
+//! - `reading`: the history that a text prints (`read_entries`)
+//! - `error`: why a text has none (`EntriesError`, `EntriesKind`)
 //! - `lines`: the lines in which entries stand; `rest`: what is left of a text
+//! - `placing`: what a line stands for, with places in its text; `making`: what a written entry stands for, or what is first wrong with it
+//! - `names`: functions by their names; `numbers`: what digits stand for
 //!
 //! `specs/Lines.antt` says which lines of a text are entries', `specs/Flaws.antt` what can be wrong with these, `specs/Standing.antt`
-//! what they stand for, and `specs/Reads.antt` what is answered on a text.
+//! what they stand for, `specs/Reads.antt` what is answered on a text, and `specs/Printed.antt` which text prints a history.
 #![tactic(auto)]
 
 mod error;
@@ -18,3 +21,4 @@ mod rest;
 
 pub use error::{EntriesError, EntriesKind};
 pub use reading::read_entries;
+pub use sg_report::History;

@@ -14,8 +14,8 @@ use crate::numbers::{is_text, number_of_digits};
 use crate::{EntriesError, EntriesKind};
 use sg_entry_parse::{Spelled, WrittenAnswer, WrittenArg, WrittenEntry};
 use sg_facts::{
-    Args, Bytes, Call, Entry, FunShape, Good, Interface, Kind, LAST_CLIENT, Reply, Text,
-    Value, Words,
+    Args, Bytes, Call, Entry, FunShape, Good, Interface, Kind, LAST_CLIENT, Reply, Text, Value,
+    Words,
 };
 use sg_script::text_of;
 use std::alloc::Global;
@@ -263,6 +263,12 @@ pub fn entry_of(
     let takes_id = takes_id(&iface.fun(fun));
     let (desc, args) = args_of(alloc, takes_id, entry.args.as_slice())?;
     let reply = reply_of(alloc, &entry.answer)?;
-    let call = Call { client, seq, fun, desc, args };
+    let call = Call {
+        client,
+        seq,
+        fun,
+        desc,
+        args,
+    };
     Ok(Entry { call, reply })
 }

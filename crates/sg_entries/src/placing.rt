@@ -13,10 +13,7 @@ use sg_facts::{Entry, Interface};
 use std::alloc::Global;
 
 /// The entry of a line as it is written, or where the line fails.
-pub fn written_in<'a>(
-    alloc: Global,
-    line: &Spelled<'a>,
-) -> Result<WrittenEntry<'a>, EntriesError>
+pub fn written_in<'a>(alloc: Global, line: &Spelled<'a>) -> Result<WrittenEntry<'a>, EntriesError>
     requires { line.now.at + length line.now.bytes < 2 ^ 64 }
     ensures { IsParsed line.now result }
 {

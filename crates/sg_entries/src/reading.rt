@@ -22,11 +22,7 @@ use std::alloc::Global;
 /// `Fault` with the first that is wrong: with kind `Syntax` where an entry line isn't the line of an entry, and else with the flaw at the
 /// first place, and of the first kind at that place. `NoMemory` where there was no memory; nothing else is told then.
 #[tactic(auto, using(crate::proofs::Unique::only))]
-pub fn read_entries(
-    alloc: Global,
-    text: &[u8],
-    iface: &Interface,
-) -> Result<History, EntriesError>
+pub fn read_entries(alloc: Global, text: &[u8], iface: &Interface) -> Result<History, EntriesError>
     ensures reads { IsReadOf iface.now text.now (entries_read result) }
     // No other answer may be given, want of memory aside.
     ensures only { (other : Answered (List IsEntry) Fault) → IsReadOf iface.now text.now other → other ≢ failed EntriesError.NoMemory →
