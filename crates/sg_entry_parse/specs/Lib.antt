@@ -1,0 +1,7 @@
+pub mod Codes
+pub mod Entry
+pub mod Parses
+pub mod Pieces
+pub mod Spelling
+pub use Rattle.sg_base.specs as sg_base
+pub use Rattle.sg_lex.specs as sg_lex
