@@ -59,7 +59,7 @@ answer_pieces (Ok desc words bytes) = fixed (codes "ok") ∷ (desc_pieces desc +
 abbrev pub entry_pieces : WrittenEntry → List EntryPiece
 entry_pieces e =
     fixed (codes "c") ∷ number e.client ∷ fixed (codes ".") ∷ number e.seq ∷ fixed (codes " ")
-    ∷ name e.name ∷ fixed (codes "(") ∷ (args_pieces e.args ++ fixed (codes ") = ") ∷ answer_pieces e.answer)
+    ∷ name e.name ∷ fixed (codes "(") ∷ (args_pieces e.args ++ fixed (codes ")") ∷ fixed (codes " = ") ∷ answer_pieces e.answer)
 
 -- ---- lines
 

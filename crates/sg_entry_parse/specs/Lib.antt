@@ -1,5 +1,6 @@
 pub mod Codes
 pub mod Entry
+pub mod Inside
 pub mod Parses
 pub mod Pieces
 pub mod Spelling

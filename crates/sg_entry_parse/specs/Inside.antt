@@ -1,0 +1,4 @@
+-- The automaton that the proofs rest on, and no public clause cites.
+pub mod CodeWords
+pub mod Reads
+pub mod States
