@@ -1,6 +1,9 @@
 pub mod Basics
+pub mod Fitting
 pub mod Lang
 pub mod Parts
 pub mod Pieces
+pub mod Reading
 pub mod Steps
+pub mod Whole
 pub mod Words

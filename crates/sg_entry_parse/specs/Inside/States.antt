@@ -111,9 +111,13 @@ call_rest client seq function =
     byte open_bracket_byte (bracketed (λ args. bytes (codes " = ") (answered (shows_bytes function.bytes)
     (λ answer. record { client = client; seq = seq; name = function; args = args; answer = answer }))))
 
+-- after the client's number: the number of the call, its name and the rest
+abbrev pub client_rest : Spelling → EntryState
+client_rest client = byte 0x2E (number (λ seq. byte 0x20 (name (call_rest client seq))))
+
 -- before the first byte
 abbrev pub entry_start : EntryState
-entry_start = byte 0x63 (number (λ client. byte 0x2E (number (λ seq. byte 0x20 (name (λ function. call_rest client seq function))))))
+entry_start = byte 0x63 (number client_rest)
 
 -- ---- steps
 
