@@ -1,3 +1,4 @@
+pub mod Answer
 pub mod Basics
 pub mod Fitting
 pub mod Lang

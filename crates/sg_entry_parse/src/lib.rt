@@ -6,6 +6,7 @@
 #![tactic(auto)]
 
 mod error;
+mod line;
 mod tree;
 
 pub use error::EntrySyntax;
