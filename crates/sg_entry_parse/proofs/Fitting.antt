@@ -21,7 +21,7 @@ use Rattle.sg_entry_parse.specs.Inside.CodeWords.{begins_code}
 use Rattle.sg_entry_parse.specs.Inside.States.{EntryState, done, first, orelse, run, listed, coded, byte, bytes, positive, number, name, text_rest, text, argument, bracketed, comma_rest, words, words_and_bytes, given, answered, call_rest, client_rest, entry_start, step}
 use Rattle.sg_entry_parse.proofs.Basics.{none_some, if_else, chosen, not_both}
 use Rattle.sg_entry_parse.proofs.Words.{begun_word}
-use Rattle.sg_entry_parse.proofs.Pieces.{Goes, fixed_join, none_fixed}
+use Rattle.sg_entry_parse.proofs.Front.{Goes, fixed_join, none_fixed}
 use Rattle.sg_entry_parse.proofs.Lang.{Lang, Blind, Fits}
 
 -- ---- no step by a byte of a class

@@ -15,7 +15,7 @@ use Rattle.sg_entry_parse.specs.Entry.{next_arg_pieces}
 use Rattle.sg_entry_parse.specs.Inside.CodeWords.{code_of, begins_code}
 use Rattle.sg_entry_parse.specs.Inside.States.{EntryState, done, first, orelse, run, listed, coded, comma_rest, step, entry_at}
 use Rattle.sg_entry_parse.proofs.Basics.{some_is, none_some, if_then, if_else, chosen, not_both}
-use Rattle.sg_entry_parse.proofs.Pieces.{Goes}
+use Rattle.sg_entry_parse.proofs.Front.{Goes}
 
 -- so many bytes of the class, and then this of them all
 abbrev pub Ran : (ℕ → Bool) → ℕ → (List ℕ → ℕ → List ℕ → Type 0) → List ℕ → ℕ → List ℕ → Type 0

@@ -13,7 +13,7 @@ use Rattle.sg_entry_parse.specs.Spelling.{Spelling}
 use Rattle.sg_entry_parse.specs.Pieces.{EntryPiece, fixed, number as number_piece, positive as positive_piece, name as name_piece, printable, IsNumber, IsPositive, IsName, IsPrintable}
 use Rattle.sg_entry_parse.specs.Entry.{quote_byte, text_pieces, arg_pieces}
 use Rattle.sg_entry_parse.specs.Inside.States.{EntryState, orelse, byte, bytes, positive, number, name, text_rest, text, argument}
-use Rattle.sg_entry_parse.proofs.Pieces.{Goes, join, cut, over, one_goes, goes_one, fixed_cut, fixed_join, fixed_none, none_fixed}
+use Rattle.sg_entry_parse.proofs.Front.{Goes, join, cut, over, one_goes, goes_one, fixed_cut, fixed_join, fixed_none, none_fixed}
 use Rattle.sg_entry_parse.proofs.Lang.{Lang, Ran}
 
 -- what holds at a state holds in its lines

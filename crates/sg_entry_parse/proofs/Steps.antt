@@ -17,7 +17,7 @@ use Rattle.sg_entry_parse.specs.Inside.CodeWords.{code_of, begins_code}
 use Rattle.sg_entry_parse.specs.Inside.States.{EntryState, done, first, orelse, run, listed, coded, byte, argument, comma_rest, step, entry_at}
 use Rattle.sg_entry_parse.proofs.Basics.{some_is, none_some, if_then, if_else, chosen, not_both}
 use Rattle.sg_entry_parse.proofs.Words.{begun_word, word_begun, word_read, read_word}
-use Rattle.sg_entry_parse.proofs.Pieces.{Goes, join, cut, over, fixed_cut, fixed_join, fixed_none, none_fixed}
+use Rattle.sg_entry_parse.proofs.Front.{Goes, join, cut, over, fixed_cut, fixed_join, fixed_none, none_fixed}
 use Rattle.sg_entry_parse.proofs.Lang.{Lang, Ran, Listed, Blind, Fits}
 use Rattle.sg_entry_parse.proofs.Parts.{byte_to, byte_from, argument_to, argument_from}
 

@@ -16,7 +16,7 @@ use Rattle.sg_entry_parse.specs.Codes.{code_name}
 use Rattle.sg_entry_parse.specs.Pieces.{EntryPiece, fixed, number as number_piece, positive as positive_piece, name as name_piece, printable, piece_bytes, ArePlaced}
 use Rattle.sg_entry_parse.specs.Entry.{quote_byte, text_pieces, arg_pieces, next_arg_pieces, args_pieces, desc_pieces, word_pieces, bytes_pieces, answer_pieces, entry_pieces, shows_bytes, AreShown, IsAnswer, IsEntry}
 use Rattle.sg_entry_parse.specs.Inside.States.{EntryState, done, first, orelse, run, listed, coded, byte, bytes, positive, number, name, text_rest, text, argument, bracketed, comma_rest, words, words_and_bytes, given, answered, call_rest, client_rest, entry_start}
-use Rattle.sg_entry_parse.proofs.Pieces.{Goes, flat, goes_none, none_goes, join, cut, over, one_goes, goes_one, fixed_cut, fixed_join, fixed_none, none_fixed}
+use Rattle.sg_entry_parse.proofs.Front.{Goes, flat, goes_none, none_goes, join, cut, over, one_goes, goes_one, fixed_cut, fixed_join, fixed_none, none_fixed}
 use Rattle.sg_entry_parse.proofs.Lang.{Lang, Listed}
 use Rattle.sg_entry_parse.proofs.Parts.{Into, byte_to, byte_from, bytes_to, bytes_from, positive_to, positive_from, number_to, number_from, name_to, name_from, text_to, text_from, quoted_to, quoted_from, argument_to, argument_from}
 

@@ -5,8 +5,10 @@
 //! - `error`: why a line is no entry (`EntrySyntax`)
 #![tactic(auto)]
 
+mod call;
 mod error;
 mod line;
+mod pieces;
 mod tree;
 
 pub use error::EntrySyntax;
