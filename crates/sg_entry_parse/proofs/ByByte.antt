@@ -1,11 +1,12 @@
 -- What is read from a state, by the bytes that come next.
-use Rattle.std.proofs.Common.{◌≡◌, ◌≢◌, ◌<◌, ◌≤◌, ℕ, zero, suc, ◌+◌, ◌-◌, ◌==◌, if◌then◌else◌, Bool, true, false, List, [], ◌∷◌, ◌++◌, length, take, drop, refl, sym, ap, subst, ◌∙◌, append_assoc, arith, eqb-true, eq-eqb, inl, inr}
-use Rattle.std.specs.Prelude.{None, Some, Ok, Err}
+use Rattle.std.proofs.Common.{◌≡◌, ◌≢◌, ◌<◌, ◌≤◌, ℕ, zero, suc, ◌+◌, ◌-◌, ◌==◌, if◌then◌else◌, Bool, true, false, List, [], ◌∷◌, ◌++◌, length, take, drop, get_or, take_all, refl, sym, ap, subst, ◌∙◌, append_assoc, arith, eqb-true, eq-eqb, inl, inr}
+use Rattle.std.specs.Prelude.{None, Some, Ok, Err, codes, MatchBool}
 use Rattle.std.specs.declared.option.Option.{Option}
 use Rattle.std.specs.declared.result.Result.{Result}
 use Rattle.std.specs.Char.{is_ascii_digit}
 use Rattle.std.specs.List.{prefix_len}
-use Rattle.std.proofs.lemmas.List.{append-nil}
+use Rattle.std.specs.Option.{option_map}
+use Rattle.std.proofs.lemmas.List.{append-nil, take_more, at_drop_more, drop_all}
 use Rattle.std.proofs.lemmas.Bool.{cases_Bool}
 use Rattle.sg_base.specs.declared.reply.Code.{Code}
 use Rattle.sg_base.specs.Text.{is_text_byte}
@@ -24,8 +25,8 @@ use Rattle.sg_entry_parse.specs.Pieces.{is_first_digit}
 use Rattle.sg_entry_parse.specs.Entry.{quote_byte}
 use Rattle.sg_entry_parse.specs.Inside.Ahead.{Came, Off, front_of, behind_of, positive_len, number_len, name_len}
 use Rattle.sg_entry_parse.specs.Inside.CodeWords.{code_of, begins_code}
-use Rattle.sg_entry_parse.specs.Inside.States.{EntryState, done, first, orelse, run, listed, coded, byte, bytes, positive, number, name, text_rest, text, argument, bracketed, comma_rest, words, words_and_bytes, given, answered, step, entry_at}
-use Rattle.sg_entry_parse.specs.Inside.Reads.{Ahead, ended, read_from, read}
+use Rattle.sg_entry_parse.specs.Inside.States.{EntryState, done, first, orelse, run, listed, coded, byte, bytes, positive, number, name, text_rest, text, argument, bracketed, comma_rest, words, words_and_bytes, spaced_rest, shown_rest, given, answered, step, entry_at}
+use Rattle.sg_entry_parse.specs.Inside.Reads.{Ahead, ended, read_from, read, LeadsOn, Ends}
 use Rattle.sg_entry_parse.proofs.Basics.{if_then, if_else}
 use Rattle.sg_entry_parse.proofs.Reading.{read_step, read_stuck, read_end}
 
@@ -261,3 +262,182 @@ end_missing e old n = by old.rest n
     by : (bs : List ℕ) → bs ≢ [] → read_from (done e) old.at bs ≡ Err (Syntax old.at)
     by [] n = absurd (n refl)
     by (b ∷ bs) n = read_stuck (done e) old.at b bs refl
+
+-- ---- words
+
+-- no word may come any more
+pub no_word : (n : ℕ) (desc : Option Spelling) (read_so_far : List Spelling) (k : WrittenAnswer → WrittenEntry) (old : Ahead) → n ≡ 0
+    → read (words n desc read_so_far k) old ≡ read (done (k (gave desc read_so_far None))) old
+unfolding words
+no_word zero desc ws k old e = refl
+no_word (suc n) desc ws k old e = absurd (omega (arith, e))
+
+pub word_came : (n : ℕ) (desc : Option Spelling) (read_so_far : List Spelling) (k : WrittenAnswer → WrittenEntry) (old new : Ahead) → n ≢ 0 → Came 0x20 old new
+    → read (words n desc read_so_far k) old ≡ read (number (λ w. words (n - 1) desc (read_so_far ++ w ∷ []) k)) new
+unfolding words
+word_came zero desc ws k old new n c = absurd (n refl)
+word_came (suc m) desc ws k old new n c =
+    let e : m ≡ suc m - 1 = omega arith in
+    first_came 0x20 (λ place c. number (λ w. words m desc (ws ++ w ∷ []) k)) (done (k (gave desc ws None))) old new c
+    ∙ ap (λ x. read (number (λ w. words x desc (ws ++ w ∷ []) k)) new) e
+
+pub word_missing : (n : ℕ) (desc : Option Spelling) (read_so_far : List Spelling) (k : WrittenAnswer → WrittenEntry) (old : Ahead) → Off 0x20 old.rest
+    → read (words n desc read_so_far k) old ≡ read (done (k (gave desc read_so_far None))) old
+unfolding words
+word_missing zero desc ws k old o = refl
+word_missing (suc m) desc ws k old o = first_missing 0x20 (λ place c. number (λ w. words m desc (ws ++ w ∷ []) k)) (done (k (gave desc ws None))) old o
+
+-- ---- words and bytes
+
+-- what a text at the end is read to
+abbrev pub last_text : Option Spelling → List Spelling → (WrittenAnswer → WrittenEntry) → Spelling → EntryState
+last_text desc ws k t = done (k (gave desc ws (Some t)))
+
+pub text_began : (k : Spelling → EntryState) (old new : Ahead) → Came quote_byte old new → read (text k) old ≡ read (text_rest new.at k) new
+unfolding step
+text_began k old new c =
+    came (text k) (text_rest (old.at + 1) k) quote_byte old new c refl ∙ ap (λ x. read (text_rest x k) new) (sym c.at)
+
+pub text_missing : (k : Spelling → EntryState) (old : Ahead) → Off quote_byte old.rest → read (text k) old ≡ Err (Syntax old.at)
+unfolding step entry_at
+text_missing k old o = missing (text k) quote_byte old (λ c h. if_else (c == quote_byte) (Some (text_rest (old.at + 1) k)) None h) refl o
+
+pub no_text : (n : ℕ) (desc : Option Spelling) (ws : List Spelling) (k : WrittenAnswer → WrittenEntry) (old : Ahead) → n ≡ 0 → Off quote_byte old.rest
+    → read (words_and_bytes n desc ws k) old ≡ Err (Syntax old.at)
+unfolding words_and_bytes
+no_text zero desc ws k old e o = text_missing (last_text desc ws k) old o
+no_text (suc n) desc ws k old e o = absurd (omega (arith, e))
+
+pub bytes_came : (n : ℕ) (desc : Option Spelling) (ws : List Spelling) (k : WrittenAnswer → WrittenEntry) (old new : Ahead) → Came quote_byte old new
+    → read (words_and_bytes n desc ws k) old ≡ read (text_rest new.at (last_text desc ws k)) new
+unfolding words_and_bytes
+bytes_came zero desc ws k old new c = text_began (last_text desc ws k) old new c
+bytes_came (suc n) desc ws k old new c =
+    first_came quote_byte (λ place c. text_rest (place + 1) (last_text desc ws k)) (number (λ w. byte 0x20 (words_and_bytes n desc (ws ++ w ∷ []) k))) old new c
+    ∙ ap (λ x. read (text_rest x (last_text desc ws k)) new) (sym c.at)
+
+pub shown_word : (n : ℕ) (desc : Option Spelling) (ws : List Spelling) (k : WrittenAnswer → WrittenEntry) (old : Ahead) → n ≢ 0 → Off quote_byte old.rest
+    → read (words_and_bytes n desc ws k) old ≡ read (number (λ w. byte 0x20 (words_and_bytes (n - 1) desc (ws ++ w ∷ []) k))) old
+unfolding words_and_bytes
+shown_word zero desc ws k old n o = absurd (n refl)
+shown_word (suc m) desc ws k old n o =
+    let e : m ≡ suc m - 1 = omega arith in
+    first_missing quote_byte (λ place c. text_rest (place + 1) (last_text desc ws k)) (number (λ w. byte 0x20 (words_and_bytes m desc (ws ++ w ∷ []) k))) old o
+    ∙ ap (λ x. read (number (λ w. byte 0x20 (words_and_bytes x desc (ws ++ w ∷ []) k))) old) e
+
+-- ---- what an Ok gave
+
+pub nothing_given : (k : WrittenAnswer → WrittenEntry) (old : Ahead) → Off 0x20 old.rest → read (given false k) old ≡ read (done (k (gave None [] None))) old
+unfolding given
+nothing_given k old o = first_missing 0x20 (λ place c. spaced_rest k) (done (k (gave None [] None))) old o
+
+pub something_given : (k : WrittenAnswer → WrittenEntry) (old new : Ahead) → Came 0x20 old new → read (given false k) old ≡ read (spaced_rest k) new
+unfolding given
+something_given k old new c = first_came 0x20 (λ place c. spaced_rest k) (done (k (gave None [] None))) old new c
+
+pub hash_came : (k : WrittenAnswer → WrittenEntry) (old new : Ahead) → Came 0x23 old new → read (spaced_rest k) old ≡ read (positive (λ d. words 4 (Some d) [] k)) new
+hash_came k old new c =
+    first_came 0x23 (λ place c. positive (λ d. words 4 (Some d) [] k)) (number (λ w. words 3 None (w ∷ []) k)) old new c
+
+pub hash_missing : (k : WrittenAnswer → WrittenEntry) (old : Ahead) → Off 0x23 old.rest → read (spaced_rest k) old ≡ read (number (λ w. words 3 None (w ∷ []) k)) old
+hash_missing k old o =
+    first_missing 0x23 (λ place c. positive (λ d. words 4 (Some d) [] k)) (number (λ w. words 3 None (w ∷ []) k)) old o
+
+pub bytes_given : (k : WrittenAnswer → WrittenEntry) (old : Ahead) → read (given true k) old ≡ read (byte 0x20 (shown_rest k)) old
+unfolding given
+bytes_given k old = refl
+
+pub shown_hash_came : (k : WrittenAnswer → WrittenEntry) (old new : Ahead) → Came 0x23 old new
+    → read (shown_rest k) old ≡ read (positive (λ d. byte 0x20 (words_and_bytes 4 (Some d) [] k))) new
+shown_hash_came k old new c =
+    first_came 0x23 (λ place c. positive (λ d. byte 0x20 (words_and_bytes 4 (Some d) [] k))) (words_and_bytes 4 None [] k) old new c
+
+pub shown_hash_missing : (k : WrittenAnswer → WrittenEntry) (old : Ahead) → Off 0x23 old.rest → read (shown_rest k) old ≡ read (words_and_bytes 4 None [] k) old
+shown_hash_missing k old o =
+    first_missing 0x23 (λ place c. positive (λ d. byte 0x20 (words_and_bytes 4 (Some d) [] k))) (words_and_bytes 4 None [] k) old o
+
+-- ---- answers
+
+-- after `refused `
+abbrev pub code_state : (WrittenAnswer → WrittenEntry) → EntryState
+code_state k = coded [] (λ code. k (refused code))
+
+pub ok_came : (shown : Bool) (k : WrittenAnswer → WrittenEntry) (old new : Ahead) → Came 0x6F old new → read (answered shown k) old ≡ read (byte 0x6B (given shown k)) new
+ok_came shown k old new c = first_came 0x6F (λ place c. byte 0x6B (given shown k)) (bytes (codes "refused ") (code_state k)) old new c
+
+pub ok_missing : (shown : Bool) (k : WrittenAnswer → WrittenEntry) (old new : Ahead) → (new ≡ old) × Off 0x6F old.rest
+    → read (answered shown k) old ≡ read (bytes (codes "refused ") (code_state k)) new
+ok_missing shown k old new o =
+    first_missing 0x6F (λ place c. byte 0x6B (given shown k)) (bytes (codes "refused ") (code_state k)) old o.1
+    ∙ ap (read (bytes (codes "refused ") (code_state k))) (sym o.0)
+
+-- ---- codes
+
+-- the bytes so far begin a code with the next
+pub code_goes : (n : ℕ) (bs : List ℕ) (at : ℕ) (k : Code → WrittenEntry) → begins_code (take (n + 1) bs) ≡ true → n < length bs
+    → read_from (coded (take n bs) k) (at + n) (drop n bs) ≡ read_from (coded (take (n + 1) bs) k) (at + (n + 1)) (drop (n + 1) bs)
+unfolding step
+code_goes n bs at k t short =
+    let b = get_or bs n 0 in
+    let e : take (n + 1) bs ≡ take n bs ++ b ∷ [] = take_more bs n 0 short in
+    let f : (at + n) + 1 ≡ at + (n + 1) = omega arith in
+    let g : step (coded (take n bs) k) (at + n) b ≡ Some (coded (take n bs ++ b ∷ []) k) = if_then (begins_code (take n bs ++ b ∷ [])) _ None (ap begins_code (sym e) ∙ t) in
+    at_drop_more (read_from (coded (take n bs) k) (at + n)) bs n 0 short
+    ∙ read_step (coded (take n bs) k) (coded (take n bs ++ b ∷ []) k) (at + n) b (drop (n + 1) bs) g
+    ∙ ap (λ x. read_from (coded x k) ((at + n) + 1) (drop (n + 1) bs)) (sym e)
+    ∙ ap (λ x. read_from (coded (take (n + 1) bs) k) x (drop (n + 1) bs)) f
+
+-- with the next they don't
+pub code_stops : (n : ℕ) (bs : List ℕ) (at : ℕ) (k : Code → WrittenEntry) → begins_code (take (n + 1) bs) ≡ false → n < length bs
+    → read_from (coded (take n bs) k) (at + n) (drop n bs) ≡ Err (Syntax (at + n))
+unfolding step
+code_stops n bs at k t short =
+    let b = get_or bs n 0 in
+    let e : take (n + 1) bs ≡ take n bs ++ b ∷ [] = take_more bs n 0 short in
+    at_drop_more (read_from (coded (take n bs) k) (at + n)) bs n 0 short
+    ∙ read_stuck (coded (take n bs) k) (at + n) b (drop (n + 1) bs) (if_else (begins_code (take n bs ++ b ∷ [])) _ None (ap begins_code (sym e) ∙ t))
+
+-- the line ends
+code_at_end : (n : ℕ) (bs : List ℕ) (at : ℕ) (k : Code → WrittenEntry) → n ≡ length bs
+    → read_from (coded (take n bs) k) (at + n) (drop n bs) ≡ ended (at + n) (option_map k (code_of bs))
+unfolding entry_at
+code_at_end n bs at k e =
+    let long : length bs ≤ n = omega (arith, e) in
+    ap (read_from (coded (take n bs) k) (at + n)) (drop_all n bs long)
+    ∙ read_end (coded (take n bs) k) (at + n)
+    ∙ ap (λ x. ended (at + n) (option_map k (code_of x))) (take_all n bs long)
+
+pub code_ends : (n : ℕ) (bs : List ℕ) (at : ℕ) (k : Code → WrittenEntry) (code : Code) → n ≡ length bs → code_of bs ≡ Some code
+    → read_from (coded (take n bs) k) (at + n) (drop n bs) ≡ Ok (k code)
+code_ends n bs at k code e f = code_at_end n bs at k e ∙ ap (λ x. ended (at + n) (option_map k x)) f
+
+pub no_code_ends : (n : ℕ) (bs : List ℕ) (at : ℕ) (k : Code → WrittenEntry) → n ≡ length bs → code_of bs ≡ None
+    → read_from (coded (take n bs) k) (at + n) (drop n bs) ≡ Err (Syntax (at + n))
+no_code_ends n bs at k e f = code_at_end n bs at k e ∙ ap (λ x. ended (at + n) (option_map k x)) f
+
+-- no byte of a code was read
+pub code_begins : (bs : List ℕ) (at : ℕ) (k : Code → WrittenEntry) → read_from (coded [] k) at bs ≡ read_from (coded (take 0 bs) k) (at + 0) (drop 0 bs)
+code_begins bs at k = let e : at ≡ at + 0 = omega arith in ap (λ x. read_from (coded [] k) x bs) e
+
+-- ---- along
+
+-- the last part of a parser, before which this was to be read
+pub ends_along : {X : Type 0} (before mid : Result WrittenEntry EntrySyntax) (r : Result X EntrySyntax) (go : X → WrittenEntry) → before ≡ mid → Ends mid r go → Ends before r go
+ends_along before mid (Ok value) go e h = e ∙ h
+ends_along before mid (Err error) go e h = λ n. e ∙ h n
+
+-- a further word came, or none did
+pub on_word : (before : Result WrittenEntry EntrySyntax) (o : Option Spelling) (w : Spelling) (go : Spelling → EntryState) (end : EntryState) (new : Ahead)
+    → LeadsOn before (Ok o) go end new → o ≡ Some w → before ≡ read (go w) new
+on_word before None w go end new h e = absurd (let f = e in cc)
+on_word before (Some v) w go end new h e = h ∙ ap (λ x. read (go x) new) (let f : v ≡ w = cc in f)
+
+pub on_none : (before : Result WrittenEntry EntrySyntax) (o : Option Spelling) (go : Spelling → EntryState) (end : EntryState) (new : Ahead)
+    → LeadsOn before (Ok o) go end new → ((w : Spelling) → o ≡ Some w → ⊥) → before ≡ read end new
+on_none before None go end new h n = h
+on_none before (Some v) go end new h n = absurd (n v refl)
+
+-- a byte that was not taken
+pub on_false : (X : Type 0) (old new : Ahead) (byte : ℕ) (taken : Bool) → MatchBool taken X ((new ≡ old) × Off byte old.rest) → taken ≡ false → (new ≡ old) × Off byte old.rest
+on_false X old new byte true m e = absurd (let f : true ≡ false = e in cc)
+on_false X old new byte false m e = m

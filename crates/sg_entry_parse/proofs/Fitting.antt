@@ -106,6 +106,7 @@ fits_bracketed k h =
 
 fits_words : (n : ℕ) (desc : Option Spelling) (read : List Spelling) (k : WrittenAnswer → WrittenEntry)
     → Fits (words n desc read k) × Blind is_ascii_digit (words n desc read k)
+unfolding words
 fits_words zero desc read k = (tt, blind_done is_ascii_digit (k (Ok desc read None)))
 fits_words (suc n) desc read k =
     let d = done (k (Ok desc read None)) in
@@ -113,7 +114,7 @@ fits_words (suc n) desc read k =
     blind_else is_ascii_digit 0x20 (λ place c. number (λ w. words n desc (read ++ w ∷ []) k)) d refl (blind_done is_ascii_digit (k (Ok desc read None))))
 
 fits_words_and_bytes : (n : ℕ) (desc : Option Spelling) (read : List Spelling) (k : WrittenAnswer → WrittenEntry) → Fits (words_and_bytes n desc read k)
-unfolding step
+unfolding step words_and_bytes
 fits_words_and_bytes zero desc read k = fits_text (λ t. done (k (Ok desc read (Some t)))) (λ t. tt)
 fits_words_and_bytes (suc n) desc read k =
     let go : Spelling → EntryState = λ w. byte 0x20 (words_and_bytes n desc (read ++ w ∷ []) k) in
@@ -122,7 +123,7 @@ fits_words_and_bytes (suc n) desc read k =
     blind_at quote_byte (number go) (λ at. refl))
 
 fits_given : (shown : Bool) (k : WrittenAnswer → WrittenEntry) → Fits (given shown k)
-unfolding step
+unfolding step given words words_and_bytes
 fits_given true k =
     let go : Spelling → EntryState = λ d. byte 0x20 (words_and_bytes 4 (Some d) [] k) in
     let each : (d : Spelling) → Fits (go d) × Blind is_ascii_digit (go d) =

@@ -136,6 +136,7 @@ no_words n desc read k v at bs l =
 
 words_to : (n : ℕ) (desc : Option Spelling) (read : List Spelling) (k : WrittenAnswer → WrittenEntry) (v : WrittenEntry) (at : ℕ) (bs : List ℕ)
     → Lang (words n desc read k) v at bs → Words n desc read k v at bs
+unfolding words
 words_to zero desc read k v at bs l = no_words zero desc read k v at bs l
 words_to (suc n) desc read k v at [] l = no_words (suc n) desc read k v at [] l
 words_to (suc n) desc read k v at (c ∷ cs) (inr l) = no_words (suc n) desc read k v at (c ∷ cs) l
@@ -162,6 +163,7 @@ word_cut w ps R at bs g =
 words_from : (n : ℕ) (more : List Spelling) (desc : Option Spelling) (read : List Spelling) (k : WrittenAnswer → WrittenEntry) (v : WrittenEntry)
     (R : ℕ → List ℕ → Type 0) (at : ℕ) (bs : List ℕ) → length more ≤ n → Goes (words_pieces more) R at bs → Into R (done (k (gave desc (read ++ more) None))) v
     → Lang (words n desc read k) v at bs
+unfolding words
 words_from zero [] desc read k v R at bs few g f =
     subst (λ x. Lang (done (k (gave desc x None))) v at bs) (append-nil read) (f at bs (none_goes R at bs g))
 words_from zero (w ∷ more) desc read k v R at bs few g f = absurd (omega arith)
@@ -205,6 +207,7 @@ spaced_text n desc read k v at c cs e t =
 
 shown_to : (n : ℕ) (desc : Option Spelling) (read : List Spelling) (k : WrittenAnswer → WrittenEntry) (v : WrittenEntry) (at : ℕ) (bs : List ℕ)
     → Lang (byte 0x20 (words_and_bytes n desc read k)) v at bs → Shown n desc read k v at bs
+unfolding words_and_bytes
 shown_to n desc read k v at [] l = absurd l
 shown_to zero desc read k v at (c ∷ cs) l =
     spaced_text zero desc read k v at c cs l.0 (text_to (λ t. done (k (gave desc read (Some t)))) v (at + 1) cs l.1)
@@ -229,6 +232,7 @@ shown_to (suc n) desc read k v at (c ∷ d ∷ ds) (e, inr l) =
 shown_from : (n : ℕ) (more : List Spelling) (t : Spelling) (desc : Option Spelling) (read : List Spelling) (k : WrittenAnswer → WrittenEntry) (v : WrittenEntry)
     (R : ℕ → List ℕ → Type 0) (at : ℕ) (bs : List ℕ) → length more ≤ n → Goes (shown_pieces more t) R at bs → Into R (done (k (gave desc (read ++ more) (Some t)))) v
     → Lang (byte 0x20 (words_and_bytes n desc read k)) v at bs
+unfolding words_and_bytes
 shown_from n [] t desc read k v R at bs few g f =
     byte_from 0x20 (words_and_bytes n desc read k) v (Goes (text_pieces t) R) at bs (cut (fixed (0x20 ∷ []) ∷ []) (text_pieces t) R at bs g)
     (by n)
@@ -301,6 +305,7 @@ words_given k v at bs r =
     }
 
 given_to : (shown : Bool) (k : WrittenAnswer → WrittenEntry) (v : WrittenEntry) (at : ℕ) (bs : List ℕ) → Lang (given shown k) v at bs → Given shown k v at bs
+unfolding given words words_and_bytes
 given_to true k v at [] l = absurd l
 given_to true k v at (c ∷ []) l = shown_given None k v at (c ∷ []) refl (shown_to 4 None [] k v at (c ∷ []) l)
 given_to true k v at (c ∷ b ∷ cs) (t, inr l) = shown_given None k v at (c ∷ b ∷ cs) refl (shown_to 4 None [] k v at (c ∷ b ∷ cs) (t, l))
@@ -344,6 +349,7 @@ byte_more b c g s v at [] l = absurd l
 byte_more b c g s v at (x ∷ xs) l = (l.0, or_else s (λ x. x == c) g v (at + 1) xs l.1)
 
 given_words : (k : WrittenAnswer → WrittenEntry) (v : WrittenEntry) (at : ℕ) (bs : List ℕ) → Lang (words 4 None [] k) v at bs → Lang (given false k) v at bs
+unfolding given words
 given_words k v at [] l = l
 given_words k v at (c ∷ cs) (inr l) = inr l
 given_words k v at (c ∷ cs) (inl l) =
@@ -352,6 +358,7 @@ given_words k v at (c ∷ cs) (inl l) =
 given_from : (shown : Bool) (desc : Option Spelling) (read : List Spelling) (bytes : Option Spelling) (k : WrittenAnswer → WrittenEntry) (v : WrittenEntry)
     (R : ℕ → List ℕ → Type 0) (at : ℕ) (bs : List ℕ) → length read ≤ 4 → AreShown shown bytes → Goes (given_pieces desc read bytes) R at bs
     → Into R (done (k (gave desc read bytes))) v → Lang (given shown k) v at bs
+unfolding given
 given_from true desc read None k v R at bs few h g f = absurd h
 given_from false desc read (Some t) k v R at bs few h g f = absurd h
 given_from true None read (Some t) k v R at bs few h g f =

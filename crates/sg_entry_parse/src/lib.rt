@@ -5,7 +5,9 @@
 //! - `error`: why a line is no entry (`EntrySyntax`)
 #![tactic(auto)]
 
+mod answer;
 mod call;
+mod code;
 mod error;
 mod line;
 mod pieces;

@@ -29,6 +29,16 @@ pub fn byte(line: &mut Line<'_>, wanted: u8) -> Result<(), EntrySyntax>
     }
 }
 
+/// Takes these bytes.
+pub fn fixed(line: &mut Line<'_>, wanted: &[u8]) -> Result<(), EntrySyntax>
+    ensures leads { (k : EntryState) → Leads (read (bytes wanted.now k) line.old) result (λ _. k) line.new }
+{
+    'bytes: for at in 0..wanted.len() {
+        byte(line, wanted[at])?;
+    }
+    Ok(())
+}
+
 /// Takes a number that isn't 0.
 #[tactic(auto, using(crate::proofs::ByByte::positive_came, crate::proofs::ByByte::positive_missing))]
 pub fn positive<'a>(line: &mut Line<'a>) -> Result<Spelled<'a>, EntrySyntax>
