@@ -15,7 +15,7 @@ use Rattle.sg_entry_parse.specs.Spelling.{Spelling}
 use Rattle.sg_entry_parse.specs.Codes.{code_name}
 use Rattle.sg_entry_parse.specs.Pieces.{EntryPiece, fixed, number as number_piece, positive as positive_piece, name as name_piece, printable, piece_bytes, ArePlaced}
 use Rattle.sg_entry_parse.specs.Entry.{quote_byte, text_pieces, arg_pieces, next_arg_pieces, args_pieces, desc_pieces, word_pieces, bytes_pieces, answer_pieces, entry_pieces, shows_bytes, AreShown, IsAnswer, IsEntry}
-use Rattle.sg_entry_parse.specs.Inside.States.{EntryState, done, first, orelse, run, listed, coded, byte, bytes, positive, number, name, text_rest, text, argument, bracketed, comma_rest, words, words_and_bytes, given, answered, call_rest, client_rest, entry_start}
+use Rattle.sg_entry_parse.specs.Inside.States.{EntryState, done, first, orelse, run, listed, coded, byte, bytes, positive, number, name, text_rest, text, argument, bracketed, comma_rest, words, words_and_bytes, given, answered, call_answer, call_rest, client_rest, entry_start}
 use Rattle.sg_entry_parse.proofs.Front.{Goes, flat, goes_none, none_goes, join, cut, over, one_goes, goes_one, fixed_cut, fixed_join, fixed_none, none_fixed}
 use Rattle.sg_entry_parse.proofs.Lang.{Lang, Listed}
 use Rattle.sg_entry_parse.proofs.Parts.{Into, byte_to, byte_from, bytes_to, bytes_from, positive_to, positive_from, number_to, number_from, name_to, name_from, text_to, text_from, quoted_to, quoted_from, argument_to, argument_from}
@@ -442,11 +442,6 @@ record Called (client seq function : Spelling) (v : WrittenEntry) (at : ℕ) (bs
   answer : WrittenAnswer
   is : IsAnswer (shows_bytes function.bytes) answer
   goes : Goes (call_pieces args answer) (Lang (done (record { client = client; seq = seq; name = function; args = args; answer = answer })) v) at bs
-
--- the answer, after the arguments
-abbrev call_answer : Spelling → Spelling → Spelling → List WrittenArg → EntryState
-call_answer client seq function args =
-    bytes (codes " = ") (answered (shows_bytes function.bytes) (λ answer. record { client = client; seq = seq; name = function; args = args; answer = answer }))
 
 brackets : (args : List WrittenArg) (ps : List EntryPiece) → bracketed_pieces args ++ ps ≡ args_pieces args ++ fixed (codes ")") ∷ ps
 brackets args ps = append_assoc (args_pieces args) (fixed (close_bracket_byte ∷ []) ∷ []) ps

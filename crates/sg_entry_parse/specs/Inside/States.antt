@@ -109,11 +109,14 @@ abbrev pub answered : Bool → (WrittenAnswer → WrittenEntry) → EntryState
 answered shown k =
     orelse (λ c. c == 0x6F) (λ place c. byte 0x6B (given shown k)) (bytes (codes "refused ") (coded [] (λ code. k (Refused code))))
 
+-- after the arguments: the answer
+abbrev pub call_answer : Spelling → Spelling → Spelling → List WrittenArg → EntryState
+call_answer client seq function args =
+    bytes (codes " = ") (answered (shows_bytes function.bytes) (λ answer. record { client = client; seq = seq; name = function; args = args; answer = answer }))
+
 -- after the name: the arguments and the answer
 abbrev pub call_rest : Spelling → Spelling → Spelling → EntryState
-call_rest client seq function =
-    byte open_bracket_byte (bracketed (λ args. bytes (codes " = ") (answered (shows_bytes function.bytes)
-    (λ answer. record { client = client; seq = seq; name = function; args = args; answer = answer }))))
+call_rest client seq function = byte open_bracket_byte (bracketed (call_answer client seq function))
 
 -- after the client's number: the number of the call, its name and the rest
 abbrev pub client_rest : Spelling → EntryState
