@@ -1,5 +1,5 @@
 -- What is read from a state, by the bytes that come next.
-use Rattle.std.proofs.Common.{◌≡◌, ◌≢◌, ◌<◌, ◌≤◌, ℕ, zero, suc, ◌+◌, ◌-◌, ◌==◌, if◌then◌else◌, Bool, true, false, List, [], ◌∷◌, ◌++◌, length, take, drop, get_or, take_all, refl, sym, ap, subst, ◌∙◌, append_assoc, arith, eqb-true, eq-eqb, inl, inr}
+use Rattle.std.proofs.Common.{◌≡◌, ◌≢◌, ◌<◌, ◌≤◌, ℕ, zero, suc, ◌+◌, ◌-◌, ◌==◌, if◌then◌else◌, Bool, true, false, List, [], ◌∷◌, ◌++◌, length, take, drop, get_or, take_all, refl, sym, ap, subst, ◌∙◌, append_assoc, arith, eq-eqb, inl, inr}
 use Rattle.std.specs.Prelude.{None, Some, Ok, Err, codes, MatchBool}
 use Rattle.std.specs.declared.option.Option.{Option}
 use Rattle.std.specs.declared.result.Result.{Result}
@@ -20,7 +20,6 @@ use Rattle.sg_entry_parse.specs.declared.tree.WrittenAnswer.{WrittenAnswer}
 use Rattle.sg_entry_parse.specs.declared.tree.WrittenAnswer.TheVariants.{Refused as refused, Ok as gave}
 use Rattle.sg_entry_parse.specs.declared.tree.WrittenEntry.{WrittenEntry}
 use Rattle.sg_entry_parse.specs.Spelling.{Spelling}
-use Rattle.sg_entry_parse.specs.Codes.{code_name}
 use Rattle.sg_entry_parse.specs.Pieces.{is_first_digit}
 use Rattle.sg_entry_parse.specs.Entry.{quote_byte}
 use Rattle.sg_entry_parse.specs.Inside.Ahead.{Came, Off, front_of, behind_of, positive_len, number_len, name_len}
@@ -53,6 +52,7 @@ alike s other byte old h e o = by old.rest o
     go : (b : ℕ) (bs : List ℕ) (o : Option EntryState) → step s old.at b ≡ o → step other old.at b ≡ o → read_from s old.at (b ∷ bs) ≡ read_from other old.at (b ∷ bs)
     go b bs None x y = read_stuck s old.at b bs x ∙ sym (read_stuck other old.at b bs y)
     go b bs (Some next) x y = read_step s next old.at b bs x ∙ sym (read_step other next old.at b bs y)
+
     by : (bs : List ℕ) → Off byte bs → read_from s old.at bs ≡ read_from other old.at bs
     by [] o = read_end s old.at ∙ ap (ended old.at) e ∙ sym (read_end other old.at)
     by (b ∷ bs) o = go b bs (step other old.at b) (h b o) refl
@@ -87,7 +87,7 @@ ran p from [] ds at k =
     ∙ sym (read_end (k s) at) ∙ ap (λ x. read_from (k s) x []) e
 ran p from (b ∷ bs) ds at k =
     elim (cases_Bool (p b)) as (λ x. read_from (run p from ds k) at (b ∷ bs)
-        ≡ read_from (k (record { bytes = ds ++ take (prefix_len p (b ∷ bs)) (b ∷ bs); at = from })) (at + prefix_len p (b ∷ bs)) (drop (prefix_len p (b ∷ bs)) (b ∷ bs))) [
+    ≡ read_from (k (record { bytes = ds ++ take (prefix_len p (b ∷ bs)) (b ∷ bs); at = from })) (at + prefix_len p (b ∷ bs)) (drop (prefix_len p (b ∷ bs)) (b ∷ bs))) [
       | inl t ↦
           let n = prefix_len p bs in
           let e : prefix_len p (b ∷ bs) ≡ suc n = rw t (let g : 1 + n ≡ suc n = omega arith in g) in
@@ -158,8 +158,8 @@ class_reads p q k at b bs =
           let n = prefix_len q bs in
           let g : 1 + n ≡ suc n = omega arith in
           let h : Read s k at (b ∷ bs) (suc n) =
-              class_came p q k at b bs t
-              ∙ ap (λ m. read_from (k (record { bytes = take m (b ∷ bs); at = at })) (at + m) (drop m (b ∷ bs))) g in
+          class_came p q k at b bs t
+          ∙ ap (λ m. read_from (k (record { bytes = take m (b ∷ bs); at = at })) (at + m) (drop m (b ∷ bs))) g in
           subst (Read s k at (b ∷ bs)) (sym g ∙ sym (if_then (p b) (1 + n) 0 t)) h
       | inr t ↦ subst (Read s k at (b ∷ bs)) (sym (if_else (p b) (1 + prefix_len q bs) 0 t)) (class_missing p (λ place c. run q place (c ∷ []) k) at b bs t)
     ]

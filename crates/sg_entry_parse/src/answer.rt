@@ -11,9 +11,9 @@ ghost use Rattle.sg_entry_parse.specs.Inside.Reads.{read, Leads, LeadsOn, Ends};
 use crate::code::code;
 use crate::error::EntrySyntax;
 use crate::line::Line;
+use crate::list::list_of_one;
 use crate::pieces::{byte, end, fixed, number, positive, text_rest};
 use crate::tree::{Spelled, SpelledList, WrittenAnswer};
-use sg_base::NoMemory;
 use std::alloc::Global;
 
 /// How many words an answer may have.
@@ -152,10 +152,7 @@ fn next_word<'a>(line: &mut Line<'a>, left: usize) -> Result<Option<Spelled<'a>>
 
 // A further word and the space after it, where so many may come; else the quote that begins a text is taken.
 #[tactic(auto, using(crate::proofs::ByByte::no_text, crate::proofs::ByByte::bytes_came, crate::proofs::ByByte::shown_word))]
-fn next_shown_word<'a>(
-    line: &mut Line<'a>,
-    left: usize,
-) -> Result<Option<Spelled<'a>>, EntrySyntax>
+fn next_shown_word<'a>(line: &mut Line<'a>, left: usize) -> Result<Option<Spelled<'a>>, EntrySyntax>
     ensures leads { (desc : Maybe Spelling) (ws : List Spelling) (k : Answer → Entry) → LeadsOn (read (words_and_bytes left desc ws k) line.old) result
         (λ w. words_and_bytes (left - 1) desc (ws ++ w ∷ []) k) (text_rest line.new.at (λ t. done (k (gave desc ws (Some t))))) line.new }
     ensures left { IfOk result (λ word. IfSome word (λ _. 0 < left)) }
@@ -169,14 +166,4 @@ fn next_shown_word<'a>(
     let word = number(line)?;
     byte(line, b' ')?;
     Ok(Some(word))
-}
-
-// The list of this word. Most answers have one word, so that it takes room for one alone; a push to an empty list would
-// take more.
-fn list_of_one<'a>(alloc: Global, word: Spelled<'a>) -> Result<SpelledList<'a>, NoMemory>
-    ensures { IfOk result (λ words. words ≡ word.entry ∷ []) }
-{
-    let mut items = Vec::with_capacity(alloc, 1)?;
-    items.push(word)?;
-    Ok(SpelledList::from_vec(items))
 }

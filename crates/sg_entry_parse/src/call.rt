@@ -6,9 +6,9 @@ ghost use Rattle.sg_entry_parse.specs.Inside.Reads.{read, Leads};
 
 use crate::error::EntrySyntax;
 use crate::line::Line;
+use crate::list::list_of_one;
 use crate::pieces::{byte, number, text_rest};
 use crate::tree::{WrittenArg, WrittenArgList};
-use sg_base::NoMemory;
 use std::alloc::Global;
 
 /// The arguments after the bracket that opens them, and the bracket that closes them.
@@ -38,14 +38,4 @@ fn argument<'a>(line: &mut Line<'a>) -> Result<WrittenArg<'a>, EntrySyntax>
         return Ok(WrittenArg::Text(text_rest(line)?));
     }
     Ok(WrittenArg::Number(number(line)?))
-}
-
-// The list of this argument. Most calls have one argument, so that it takes room for one alone; a push to an empty list would
-// take more.
-fn list_of_one<'a>(alloc: Global, arg: WrittenArg<'a>) -> Result<WrittenArgList<'a>, NoMemory>
-    ensures { IfOk result (λ args. args ≡ arg.entry ∷ []) }
-{
-    let mut items = Vec::with_capacity(alloc, 1)?;
-    items.push(arg)?;
-    Ok(WrittenArgList::from_vec(items))
 }

@@ -4,7 +4,7 @@
 //! - `tree`: an entry (`WrittenEntry`), whose numbers, names and texts are lent from the line (`Spelled`)
 //! - `error`: why a line is no entry (`EntrySyntax`)
 //! - `laws`: a line has one entry, and one answer
-//! - `line`: what is still to be read of a line
+//! - `line`: what is still to be read of a line; `list`: lists of one
 //! - `pieces`, `call`, `code`, `answer`: the parts of an entry, as they are read
 //! - `parser`: the whole (`parse_entry`)
 #![tactic(auto)]
@@ -15,6 +15,7 @@ mod code;
 mod error;
 mod laws;
 mod line;
+mod list;
 mod parser;
 mod pieces;
 mod tree;

@@ -43,7 +43,6 @@ pub fn fixed(line: &mut Line<'_>, wanted: &[u8]) -> Result<(), EntrySyntax>
 #[tactic(auto, using(crate::proofs::ByByte::positive_came, crate::proofs::ByByte::positive_missing))]
 pub fn positive<'a>(line: &mut Line<'a>) -> Result<Spelled<'a>, EntrySyntax>
     ensures leads { (k : Spelling → EntryState) → Leads (read (positive k) line.old) result k line.new }
-    ensures fewer { OnOk result (length line.new.rest ≤ length line.old.rest) }
 {
     let len = positive_len(line.rest());
     if len == 0 {

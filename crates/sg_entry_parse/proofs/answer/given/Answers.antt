@@ -12,6 +12,8 @@ returns-then-take_byte c =
     let old = c.args.line.now in
     let new = c.take_byte.new.self in
     let came = on_true (Came 0x20 old new) ((new ≡ old) × Off 0x20 old.rest) c.take_byte.result c.take_byte.ensures c.if-take_byte.true in
-    record { ends = λ k.
-        subst (λ b. Ends (read (given b k) old) c.given_something.result k) (sym c.if-shown.false)
-        (ends_along (read (given false k) old) (read (spaced_rest k) new) c.given_something.result k (something_given k old new came) (c.given_something.ensures.ends k)) }
+    record {
+      ends = λ k.
+          subst (λ b. Ends (read (given b k) old) c.given_something.result k) (sym c.if-shown.false)
+          (ends_along (read (given false k) old) (read (spaced_rest k) new) c.given_something.result k (something_given k old new came) (c.given_something.ensures.ends k));
+    }

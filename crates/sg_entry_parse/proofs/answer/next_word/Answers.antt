@@ -14,8 +14,8 @@ returns-in_err-number-clause-leads c =
     let new = c.take_byte.new.self in
     let came = on_true (Came 0x20 old new) ((new ≡ old) × Off 0x20 old.rest) c.take_byte.result c.take_byte.ensures c.if-not-take_byte.false in
     λ desc ws k.
-        rw (p.1, p.2) (λ ne.
-        word_came c.args.left desc ws k old new c.if-left-eq0.false came ∙ c.in_err-number.ensures.leads (λ w. words (c.args.left - 1) desc (ws ++ w ∷ []) k) ne)
+    rw (p.1, p.2) (λ ne.
+    word_came c.args.left desc ws k old new c.if-left-eq0.false came ∙ c.in_err-number.ensures.leads (λ w. words (c.args.left - 1) desc (ws ++ w ∷ []) k) ne)
 
 pub returns-clause-leads : goal.returns-clause-leads
 returns-clause-leads c =
@@ -23,4 +23,4 @@ returns-clause-leads c =
     let new = c.take_byte.new.self in
     let came = on_true (Came 0x20 old new) ((new ≡ old) × Off 0x20 old.rest) c.take_byte.result c.take_byte.ensures c.if-not-take_byte.false in
     λ desc ws k.
-        word_came c.args.left desc ws k old new c.if-left-eq0.false came ∙ c.in_ok-number.ensures.leads (λ w. words (c.args.left - 1) desc (ws ++ w ∷ []) k)
+    word_came c.args.left desc ws k old new c.if-left-eq0.false came ∙ c.in_ok-number.ensures.leads (λ w. words (c.args.left - 1) desc (ws ++ w ∷ []) k)

@@ -15,8 +15,10 @@ returns-in_err-byte c =
     let old = c.commas.line in
     let new = c.take_byte-in-commas.new.self in
     let came = on_true (Came comma_byte old new) ((new ≡ old) × Off comma_byte old.rest) c.take_byte-in-commas.result c.take_byte-in-commas.ensures c.commas-test.true in
-    record { leads = λ k.
-        rw (p.1, p.2) (λ ne. c.commas.invariant k ∙ comma_came c.commas.args k old new came ∙ c.in_err-byte.ensures.leads (argument (λ a. listed (c.commas.args ++ a ∷ []) k)) ne) }
+    record {
+      leads = λ k.
+          rw (p.1, p.2) (λ ne. c.commas.invariant k ∙ comma_came c.commas.args k old new came ∙ c.in_err-byte.ensures.leads (argument (λ a. listed (c.commas.args ++ a ∷ []) k)) ne);
+    }
 
 pub returns-in_err-argument-2 : goal.returns-in_err-argument-2
 returns-in_err-argument-2 c =
@@ -24,12 +26,14 @@ returns-in_err-argument-2 c =
     let old = c.commas.line in
     let new = c.take_byte-in-commas.new.self in
     let came = on_true (Came comma_byte old new) ((new ≡ old) × Off comma_byte old.rest) c.take_byte-in-commas.result c.take_byte-in-commas.ensures c.commas-test.true in
-    record { leads = λ k.
-        rw (p.1, p.2) (λ ne.
-        c.commas.invariant k
-        ∙ comma_came c.commas.args k old new came
-        ∙ c.in_ok-byte.ensures.leads (argument (λ a. listed (c.commas.args ++ a ∷ []) k))
-        ∙ c.in_err-argument-2.ensures.leads (λ a. listed (c.commas.args ++ a ∷ []) k) ne) }
+    record {
+      leads = λ k.
+          rw (p.1, p.2) (λ ne.
+          c.commas.invariant k
+          ∙ comma_came c.commas.args k old new came
+          ∙ c.in_ok-byte.ensures.leads (argument (λ a. listed (c.commas.args ++ a ∷ []) k))
+          ∙ c.in_err-argument-2.ensures.leads (λ a. listed (c.commas.args ++ a ∷ []) k) ne);
+    }
 
 pub commas-preserved : goal.commas-preserved
 commas-preserved c = λ k.

@@ -1,5 +1,5 @@
 -- The line ends, or a byte comes.
-use Rattle.std.proofs.Common.{◌≡◌, [], length, ap, sym, subst, ◌∙◌, eqb-true}
+use Rattle.std.proofs.Common.{length, ap, sym, ◌∙◌, eqb-true}
 use Rattle.std.specs.Prelude.{Err}
 use Rattle.std.proofs.lemmas.List.{nil_from_length}
 use Rattle.std.proofs.lemmas.Bool.{eqb-false}
@@ -12,6 +12,8 @@ returns-then-is_empty c =
 
 pub returns-else-is_empty : goal.returns-else-is_empty
 returns-else-is_empty c =
-    record { ends = λ e ne.
-        end_missing e c.args.line.now (λ n. eqb-false (length c.rest.result.now) 0 (sym c.is_empty.ensures ∙ c.if-is_empty.false) (ap length (c.rest.ensures ∙ n)))
-        ∙ ap Err (sym c.fault.ensures) }
+    record {
+      ends = λ e ne.
+          end_missing e c.args.line.now (λ n. eqb-false (length c.rest.result.now) 0 (sym c.is_empty.ensures ∙ c.if-is_empty.false) (ap length (c.rest.ensures ∙ n)))
+          ∙ ap Err (sym c.fault.ensures);
+    }

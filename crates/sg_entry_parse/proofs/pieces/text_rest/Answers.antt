@@ -1,5 +1,5 @@
 -- The bytes between the quotes, and then the last quote.
-use Rattle.std.proofs.Common.{◌≡◌, ◌∙◌, ap, sym}
+use Rattle.std.proofs.Common.{◌∙◌, ap, sym}
 use Rattle.std.specs.List.{prefix_len}
 use Rattle.std.proofs.lemmas.Result.{err_from_is_err_and}
 use Rattle.sg_base.specs.Text.{is_text_byte}
