@@ -1,12 +1,12 @@
 // What a call was answered, as it is read up to the end of the line.
-ghost use Rattle.std.specs.Prelude.{◌≡◌, ◌≤◌, ◌<◌, ◌-◌, List, [], ◌∷◌, ◌++◌, true, false, None, Some, length, IfOk, IfSome, OnOk};
+ghost use Rattle.std.specs.Prelude.{◌<◌, ◌-◌, List, [], ◌∷◌, ◌++◌, None, Some, IfOk, IfSome};
 ghost use Rattle.std.specs.declared.option.Option.{Option as Maybe};
 ghost use Rattle.sg_entry_parse.specs.Spelling.{Spelling};
 ghost use Rattle.sg_entry_parse.specs.declared.tree.WrittenAnswer.{WrittenAnswer as Answer};
 ghost use Rattle.sg_entry_parse.specs.declared.tree.WrittenAnswer.TheVariants.{Ok as gave};
 ghost use Rattle.sg_entry_parse.specs.declared.tree.WrittenEntry.{WrittenEntry as Entry};
-ghost use Rattle.sg_entry_parse.specs.Inside.States.{EntryState, done, byte, text_rest, words, words_and_bytes, given, spaced_rest, shown_rest, answered};
-ghost use Rattle.sg_entry_parse.specs.Inside.Reads.{read, Leads, LeadsOn, Ends};
+ghost use Rattle.sg_entry_parse.specs.Inside.States.{done, text_rest, words, words_and_bytes, given, spaced_rest, shown_rest, answered};
+ghost use Rattle.sg_entry_parse.specs.Inside.Reads.{read, LeadsOn, Ends};
 
 use crate::code::code;
 use crate::error::EntrySyntax;

@@ -1,5 +1,5 @@
 // The arguments of a call, as they are read.
-ghost use Rattle.std.specs.Prelude.{◌≡◌, ◌≤◌, List, [], ◌∷◌, length, IfOk, OnOk};
+ghost use Rattle.std.specs.Prelude.{◌≤◌, List, length, OnOk};
 ghost use Rattle.sg_entry_parse.specs.declared.tree.WrittenArg.{WrittenArg as Arg};
 ghost use Rattle.sg_entry_parse.specs.Inside.States.{EntryState, argument, bracketed};
 ghost use Rattle.sg_entry_parse.specs.Inside.Reads.{read, Leads};

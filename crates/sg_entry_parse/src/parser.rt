@@ -1,7 +1,6 @@
 // The whole of an entry's line.
 ghost use Rattle.std.specs.Prelude.{◌≡◌, ◌≢◌, ◌⊎◌, Err as failed};
 ghost use Rattle.std.specs.declared.result.Result.{Result as Answered};
-ghost use Rattle.sg_entry_parse.specs.Spelling.{Spelling};
 ghost use Rattle.sg_entry_parse.specs.Entry.{shows_bytes};
 ghost use Rattle.sg_entry_parse.specs.Parses.{EntryParses};
 ghost use Rattle.sg_entry_parse.specs.declared.error.EntrySyntax.{EntrySyntax as Fault};
