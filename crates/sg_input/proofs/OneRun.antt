@@ -1,5 +1,5 @@
 -- An input with a printed run is one thing.
-use Rattle.std.proofs.Common.{◌≡◌, ℕ, List, IfOk, inr, refl, sym, ◌∙◌, ap}
+use Rattle.std.proofs.Common.{◌≡◌, ℕ, List, IfOk, refl, sym, ◌∙◌, ap}
 use Rattle.std.specs.Prelude.{Ok, Err}
 use Rattle.std.specs.declared.result.Result.{Result}
 use Rattle.sg_facts.specs.sg_base.declared.memory.NoMemory.{NoMemory}
@@ -12,7 +12,7 @@ use Rattle.sg_entries.specs.declared.error.EntriesError.TheVariants.{NoMemory as
 use Rattle.sg_entries.specs.declared.error.EntriesKind.{EntriesKind}
 use Rattle.sg_input.specs.declared.run_input.RunInput.{RunInput}
 use Rattle.sg_input.specs.declared.run_input.RunInput.TheVariants.{Refused, Ready}
-use Rattle.sg_input.specs.Inputs.{IsBadRun, IsPrinted, IsRunInputOf, IsRunReady, input_read, most_run}
+use Rattle.sg_input.specs.Inputs.{IsBadRun, IsPrinted, IsRunInputOf, IsRunReady, IsSameRun, most_run}
 use Rattle.sg_input.specs.Lines.{run_line}
 use Rattle.sg_input.proofs.OneInput.{never_read, one_line, one_read}
 
@@ -50,17 +50,14 @@ pub one_ready : (services : List Facts) (input : List ℕ) (i j : Declared) (his
     → (i ≡ j) × (history ≡ history')
 one_ready services input i j history history' = one_read most_run services input IsPrinted IsBadRun one_history one_bad_run not_faulty i j history history'
 
-one_input : (services : List Facts) (input : List ℕ) (one other : RunInput) → IsRunInputOf services input one → IsRunInputOf services input other → input_read one ≡ input_read other
-one_input services input (Refused line) (Refused line') a b =
-    ap (λ l. input_read (Refused l)) (one_line most_run services input IsPrinted IsBadRun one_history one_bad_run not_faulty line line' a b)
-one_input services input (Refused line) (Ready i history) a b = absurd (never_ready services input line i history.items a b)
-one_input services input (Ready i history) (Refused line) a b = absurd (never_ready services input line i history.items b a)
-one_input services input (Ready i history) (Ready j history') a b =
-    let both = one_ready services input i j history.items history'.items a b in
-    ap (λ d. input_read (Ready d history)) both.0 ∙ ap (λ l. inr (j, l)) both.1
+one_input : (services : List Facts) (input : List ℕ) (one other : RunInput) → IsRunInputOf services input one → IsRunInputOf services input other → IsSameRun one other
+one_input services input (Refused line) (Refused line') a b = one_line most_run services input IsPrinted IsBadRun one_history one_bad_run not_faulty line line' a b
+one_input services input (Refused line) (Ready i history) a b = never_ready services input line i history.items a b
+one_input services input (Ready i history) (Refused line) a b = never_ready services input line i history.items b a
+one_input services input (Ready i history) (Ready j history') a b = one_ready services input i j history.items history'.items a b
 
 -- where it is answered at all, it is that one
 pub only : (services : List Facts) (input : List ℕ) (answer : Result RunInput NoMemory) → IfOk answer (IsRunInputOf services input)
-    → (other : RunInput) → IsRunInputOf services input other → IfOk answer (λ v. input_read v ≡ input_read other)
+    → (other : RunInput) → IsRunInputOf services input other → IfOk answer (λ v. IsSameRun v other)
 only services input (Ok v) is other said = one_input services input v other is said
 only services input (Err e) is other said = tt

@@ -1,6 +1,5 @@
 -- What an input is, or why it is refused.
 use Rattle.std.specs.Prelude.{ℕ, ◌≡◌, ◌+◌, ◌<◌, ◌≤◌, ◌⊎◌, List, Ok, Err, length}
-use Rattle.std.proofs.Common.{inl, inr}
 use Rattle.sg_facts.specs.Facts.{Facts}
 use Rattle.sg_facts.specs.Interface.{Declared}
 use Rattle.sg_input.specs.sg_parse.declared.tree.Tree.{Tree}
@@ -143,7 +142,9 @@ abbrev pub IsRunInputOf : List Facts → List ℕ → RunInput → Type 0
 IsRunInputOf services input (RunRefused line) = IsRefusedInput most_run IsBadRun services input line
 IsRunInputOf services input (RunReady i history) = IsRunReady services input i history.items
 
--- what an input is: the line that refuses it, or its interface and the entries of its history
-abbrev pub input_read : RunInput → List ℕ ⊎ (Declared × List Entry)
-input_read (RunRefused line) = inl line
-input_read (RunReady i history) = inr (i, history.items)
+-- two answers are the same: both refuse with one line, or both have one interface and one history
+abbrev pub IsSameRun : RunInput → RunInput → Type 0
+IsSameRun (RunRefused line) (RunRefused line') = line ≡ line'
+IsSameRun (RunReady i history) (RunReady j history') = (i ≡ j) × (history.items ≡ history'.items)
+IsSameRun (RunRefused line) (RunReady i history) = ⊥
+IsSameRun (RunReady i history) (RunRefused line) = ⊥

@@ -40,15 +40,14 @@ pub use examined::Examined;
 pub use input::Input;
 pub use judging::{compiled, examine, upgraded, verdict};
 pub use laws::{one_cut, one_input, one_verdict, upgrades_are_accepted};
-pub use limits::{
-    MOST_DIVIDER, MOST_INPUT, MOST_INTERFACE, MOST_RUN, MOST_RUN_INPUT, MOST_SCRIPT,
-};
+pub use limits::{MOST_DIVIDER, MOST_INPUT, MOST_INTERFACE, MOST_RUN, MOST_RUN_INPUT, MOST_SCRIPT};
 pub use lines::TOO_LONG;
 pub use outcome::Verdict;
 pub use places::{column_of, line_of};
 pub use reading::read_input;
 pub use refusal::RefusalKind;
 pub use run_input::{RunInput, read_run};
+pub use sg_entries::History;
 pub use sg_print::parse;
 pub use sg_script::Script;
 pub use sg_stub::{

@@ -70,12 +70,7 @@ fn script_kind_name(kind: ScriptKind) -> &'static str
 }
 
 /// The line of a printed run whose entries have a fault of a kind at a place, which is counted in bytes from 0.
-pub fn run_line(
-    alloc: Global,
-    run: &[u8],
-    kind: EntriesKind,
-    at: usize,
-) -> Result<Bytes, NoMemory>
+pub fn run_line(alloc: Global, run: &[u8], kind: EntriesKind, at: usize) -> Result<Bytes, NoMemory>
     ensures { IfOk result (λ line. line ≡ run_line run.now kind at) }
 {
     let line = line_of(run, at);

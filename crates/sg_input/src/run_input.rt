@@ -3,7 +3,7 @@ ghost use Rattle.std.specs.Prelude.{◌≡◌, ℕ, List, map, true, IfOk};
 ghost use Rattle.sg_facts.specs.Facts.{Facts, facts_of};
 ghost use Rattle.sg_input.specs.sg_check.Shapes.{are_shapes};
 ghost use Rattle.sg_input.specs.declared.run_input.RunInput.{RunInput as OneInput};
-ghost use Rattle.sg_input.specs.Inputs.{AreTexts, IsInterface, IsRunInputOf, input_read, most_run};
+ghost use Rattle.sg_input.specs.Inputs.{AreTexts, IsInterface, IsRunInputOf, IsSameRun, most_run};
 ghost use Rattle.sg_input.specs.Judged.{MayBeJudged};
 
 use crate::Accepted;
@@ -33,7 +33,7 @@ pub fn read_run(alloc: Global, input: &[u8], shapes: &[Shape]) -> Result<RunInpu
     requires { are_shapes (map facts_of shapes.now) ≡ true }
     ensures input { IfOk result (IsRunInputOf (map facts_of shapes.now) input.now) }
     // Nothing else may be answered.
-    ensures only { (other : OneInput) → IsRunInputOf (map facts_of shapes.now) input.now other → IfOk result (λ made. input_read made ≡ input_read other) }
+    ensures only { (other : OneInput) → IsRunInputOf (map facts_of shapes.now) input.now other → IfOk result (λ made. IsSameRun made other) }
     ensures may { IfOk result MayBeJudged }
 {
     run_input_of(alloc, input, shapes)

@@ -10,13 +10,16 @@ use Rattle.std.specs.declared.result.Result.{Result}
 use Rattle.std.specs.declared.result.Result.TheVariants.{Ok, Err}
 use Rattle.sg_top.specs.declared.command.Command.{Command}
 use Rattle.sg_top.specs.declared.output.Output.{Output}
-use Rattle.sg_top.specs.declared.command.Command.TheVariants.{Play, Check, Compile, Upgrade, Load}
+use Rattle.sg_top.specs.declared.command.Command.TheVariants.{Play, Check, Compile, Upgrade, Verify, Load}
 use Rattle.sg_top.specs.declared.status.Status.{Status}
-use Rattle.sg_top.specs.declared.status.Status.TheVariants.{Done, Waits, OtherWords, Refused, ReadFault, WriteFault, NoMemory}
+use Rattle.sg_top.specs.declared.status.Status.TheVariants.{Done, Waits, OtherWords, Refused, ReadFault, WriteFault, NoMemory, Illegal}
 use Rattle.sg_input.specs.Lines.{too_long_line}
 use Rattle.sg_load.specs.sg_plain.Promises.{somebody_waits}
-use Rattle.sg_top.specs.Answer.{Ends, HasRead, IsAnswer, IsOutput, IsOwnOutput, IsPlayOutput, IsRefusal, IsUntouched, ReadsInput, SaysRefused, ended_status, has_input, is_play, most_bytes}
+use Rattle.sg_top.specs.Answer.{Ends, HasRead, IsAnswer, IsOutput, IsOwnOutput, IsPlayOutput, IsIllegal, IsRefusal, IsUntouched, ReadsInput, SaysIllegal, SaysRefused, ended_status, has_input, is_play, most_bytes, verdict_status}
+use Rattle.sg_verify.specs.declared.verdict.Verdict.{Verdict as Judgement}
+use Rattle.sg_verify.specs.declared.verdict.Verdict.TheVariants.{Legal, BadSeq, BadReply}
 use Rattle.sg_top.specs.Inside.Delivery.{IsDelivered, IsWritten}
+use Rattle.sg_top.proofs.Judging.{judged_so}
 use Rattle.sg_top.proofs.Refusals.{never_refused, refuses_nothing}
 
 -- ---- what is told of a source
@@ -49,6 +52,21 @@ Read command source source' ended status output =
 too_long : (command : Command) (bytes : List ℕ) → has_input command ≡ true → most_bytes command < length bytes → IsRefusal command bytes too_long_line
 too_long command bytes has long = inr (has, long, refl)
 
+-- the status of what a command makes
+abbrev IsMade : Status → Type 0
+IsMade status = (status ≡ Done) ⊎ (status ≡ Waits) ⊎ (status ≡ Illegal) ⊎ (status ≡ Refused)
+
+-- the status of what is said of a history
+said_so : (said : Judgement) → (verdict_status said ≡ Done) ⊎ (verdict_status said ≡ Illegal)
+said_so Legal = inl refl
+said_so (BadSeq at next) = inr refl
+said_so (BadReply at answered) = inr refl
+
+said_good : (said : Judgement) → verdict_status said ≡ Refused → ⊥
+said_good Legal is = cc is
+said_good (BadSeq at next) is = cc is
+said_good (BadReply at answered) is = cc is
+
 -- the status of a play that came to its end
 ends_so : (ends : List (ℕ × End)) → (ended_status ends ≡ Done) ⊎ (ended_status ends ≡ Waits)
 ends_so ends = by (somebody_waits ends)
@@ -72,9 +90,11 @@ refusal (Play threads trace) bytes (Some e) status output two short is = absurd 
 refusal Check bytes ended status output two short (none, inl accepted) = absurd (cc (two, accepted.0))
 refusal Compile bytes ended status output two short (none, inl accepted) = absurd (cc (two, accepted.0))
 refusal Upgrade bytes ended status output two short (none, inl accepted) = absurd (cc (two, accepted.0))
+refusal Verify bytes ended status output two short (none, inl judged) = absurd (said_good judged.said (sym judged.answered ∙ two))
 refusal Check bytes ended status output two short (none, inr refused) = (none, inl (short, refused.1))
 refusal Compile bytes ended status output two short (none, inr refused) = (none, inl (short, refused.1))
 refusal Upgrade bytes ended status output two short (none, inr refused) = (none, inl (short, refused.1))
+refusal Verify bytes ended status output two short (none, inr refused) = (none, inl (short, refused.1))
 refusal (Load service number) bytes ended status output two short is = absurd is
 
 -- an output of a command without an input is no refusal
@@ -85,13 +105,14 @@ own_good (Play threads trace) ended status output own two = own
 own_good Check ended status output own two = own
 own_good Compile ended status output own two = own
 own_good Upgrade ended status output own two = own
+own_good Verify ended status output own two = own
 
 -- its status, its run, and that it is a play's
 own_is : (command : Command) (ended : Option Ended) (status : Status) (output : List ℕ) → IsOwnOutput command ended status output
-    → ((status ≡ Done) ⊎ (status ≡ Waits) ⊎ (status ≡ Refused)) × IsSome ended × (is_play command ≡ true) × (has_input command ≡ false)
+    → IsMade status × IsSome ended × (is_play command ≡ true) × (has_input command ≡ false)
 own_is (Load service number) (Some e) status output own = (by (ends_so e.ends), refl, refl, refl)
   where
-    by : (ended_status e.ends ≡ Done) ⊎ (ended_status e.ends ≡ Waits) → (status ≡ Done) ⊎ (status ≡ Waits) ⊎ (status ≡ Refused)
+    by : (ended_status e.ends ≡ Done) ⊎ (ended_status e.ends ≡ Waits) → IsMade status
     by (inl done) = inl (own.0 ∙ done)
     by (inr waits) = inr (inl (own.0 ∙ waits))
 own_is (Load service number) None status output own = absurd own
@@ -99,6 +120,7 @@ own_is (Play threads trace) ended status output own = absurd own
 own_is Check ended status output own = absurd own
 own_is Compile ended status output own = absurd own
 own_is Upgrade ended status output own = absurd own
+own_is Verify ended status output own = absurd own
 
 refused_by : (command : Command) (source source' : Ends) (ended : Option Ended) (status : Status) (output : List ℕ) → status ≡ Refused
     → Read command source source' ended status output → (ended ≡ None) × IfSome source.told (λ bytes. IsRefusal command bytes output)
@@ -119,34 +141,40 @@ told_refused command source source' ended status output two has = refused_by com
 -- ---- statuses and runs
 
 played_status : (bytes : List ℕ) (in_threads with_trace : Bool) (ended : Option Ended) (status : Status) (output : List ℕ)
-    → IsPlayOutput bytes in_threads with_trace ended status output → (status ≡ Done) ⊎ (status ≡ Waits) ⊎ (status ≡ Refused)
-played_status bytes in_threads with_trace None status output is = inr (inr is.0)
+    → IsPlayOutput bytes in_threads with_trace ended status output → IsMade status
+played_status bytes in_threads with_trace None status output is = inr (inr (inr is.0))
 played_status bytes in_threads with_trace (Some e) status output is = by (ends_so e.ends)
   where
-    by : (ended_status e.ends ≡ Done) ⊎ (ended_status e.ends ≡ Waits) → (status ≡ Done) ⊎ (status ≡ Waits) ⊎ (status ≡ Refused)
+    by : (ended_status e.ends ≡ Done) ⊎ (ended_status e.ends ≡ Waits) → IsMade status
     by (inl done) = inl (is.0 ∙ done)
     by (inr waits) = inr (inl (is.0 ∙ waits))
 
 output_status : (command : Command) (bytes : List ℕ) (ended : Option Ended) (status : Status) (output : List ℕ)
-    → IsOutput command bytes ended status output → (status ≡ Done) ⊎ (status ≡ Waits) ⊎ (status ≡ Refused)
+    → IsOutput command bytes ended status output → IsMade status
 output_status (Play threads trace) bytes ended status output is = played_status bytes threads trace ended status output is
 output_status Check bytes ended status output (none, inl accepted) = inl accepted.0
 output_status Compile bytes ended status output (none, inl accepted) = inl accepted.0
 output_status Upgrade bytes ended status output (none, inl accepted) = inl accepted.0
-output_status Check bytes ended status output (none, inr refused) = inr (inr refused.0)
-output_status Compile bytes ended status output (none, inr refused) = inr (inr refused.0)
-output_status Upgrade bytes ended status output (none, inr refused) = inr (inr refused.0)
+output_status Verify bytes ended status output (none, inl judged) = by (said_so judged.said)
+  where
+    by : (verdict_status judged.said ≡ Done) ⊎ (verdict_status judged.said ≡ Illegal) → IsMade status
+    by (inl done) = inl (judged.answered ∙ done)
+    by (inr illegal) = inr (inr (inl (judged.answered ∙ illegal)))
+output_status Check bytes ended status output (none, inr refused) = inr (inr (inr refused.0))
+output_status Compile bytes ended status output (none, inr refused) = inr (inr (inr refused.0))
+output_status Upgrade bytes ended status output (none, inr refused) = inr (inr (inr refused.0))
+output_status Verify bytes ended status output (none, inr refused) = inr (inr (inr refused.0))
 output_status (Load service number) bytes ended status output is = absurd is
 
 status_by : (command : Command) (source source' : Ends) (ended : Option Ended) (status : Status) (output : List ℕ)
-    → Read command source source' ended status output → (status ≡ Done) ⊎ (status ≡ Waits) ⊎ (status ≡ Refused)
+    → Read command source source' ended status output → IsMade status
 status_by command source source' ended status output (inl (bytes, short, consumed, at_end, is)) = output_status command bytes ended status output is
-status_by command source source' ended status output (inr (inl (bytes, has, count, consumed, none, is_two, line))) = inr (inr is_two)
+status_by command source source' ended status output (inr (inl (bytes, has, count, consumed, none, is_two, line))) = inr (inr (inr is_two))
 status_by command source source' ended status output (inr (inr (same, own))) = (own_is command ended status output own).0
 
 -- an output is of an input that is done, where some client waits, or that is refused
 status_is : (command : Command) (source source' : Ends) (ended : Option Ended) (status : Status) (output : List ℕ)
-    → HasRead command source source' ended status output → (status ≡ Done) ⊎ (status ≡ Waits) ⊎ (status ≡ Refused)
+    → HasRead command source source' ended status output → IsMade status
 status_is command source source' ended status output has = status_by command source source' ended status output has.read
 
 played_run : (bytes : List ℕ) (in_threads with_trace : Bool) (ended : Option Ended) (status : Status) (output : List ℕ) → (status ≡ Refused → ⊥)
@@ -160,6 +188,7 @@ output_run (Play threads trace) bytes ended status output good play is = played_
 output_run Check bytes ended status output good play is = absurd (cc play)
 output_run Compile bytes ended status output good play is = absurd (cc play)
 output_run Upgrade bytes ended status output good play is = absurd (cc play)
+output_run Verify bytes ended status output good play is = absurd (cc play)
 output_run (Load service number) bytes ended status output good play is = absurd is
 
 run_by : (command : Command) (source source' : Ends) (ended : Option Ended) (status : Status) (output : List ℕ) → (status ≡ Refused → ⊥) → is_play command ≡ true
@@ -183,6 +212,7 @@ output_play (Play threads trace) bytes ended status output is some = refl
 output_play Check bytes ended status output is some = absurd (no_run ended is.0 some)
 output_play Compile bytes ended status output is some = absurd (no_run ended is.0 some)
 output_play Upgrade bytes ended status output is some = absurd (no_run ended is.0 some)
+output_play Verify bytes ended status output is some = absurd (no_run ended is.0 some)
 output_play (Load service number) bytes ended status output is some = absurd is
 
 play_by : (command : Command) (source source' : Ends) (ended : Option Ended) (status : Status) (output : List ℕ)
@@ -207,7 +237,7 @@ told_any : (P : List ℕ → Type 0) (told : Option (List ℕ)) → ((bytes : Li
 told_any P None all = tt
 told_any P (Some bytes) all = all bytes
 
--- any status but `Done` and `OtherWords` will do for bytes that may be refused
+-- a status of a refusal, of a fault or of no memory will do for bytes that may be refused
 pub says_refused : (command : Command) (told : Option (List ℕ)) (status : Status)
     → (status ≡ Refused) ⊎ (status ≡ ReadFault) ⊎ (status ≡ WriteFault) ⊎ (status ≡ NoMemory) → IfSome told (SaysRefused command status)
 says_refused command told status is = told_any (SaysRefused command status) told (λ bytes output refusal. is)
@@ -228,17 +258,44 @@ says_good command source source' ended status wanted output good has = says_by c
 
 -- an output that is written whole says whether its bytes are refused
 says_whole : (command : Command) (source source' : Ends) (ended : Option Ended) (status wanted : Status) (output : List ℕ) → status ≡ wanted
-    → (wanted ≡ Done) ⊎ (wanted ≡ Waits) ⊎ (wanted ≡ Refused) → HasRead command source source' ended wanted output → IfSome source.told (SaysRefused command status)
+    → IsMade wanted → HasRead command source source' ended wanted output → IfSome source.told (SaysRefused command status)
 says_whole command source source' ended status wanted output same (inl done) has = says_good command source source' ended status wanted output (λ is. cc (is, done)) has
 says_whole command source source' ended status wanted output same (inr (inl waits)) has = says_good command source source' ended status wanted output (λ is. cc (is, waits)) has
-says_whole command source source' ended status wanted output same (inr (inr two)) has = says_refused command source.told status (inl (same ∙ two))
+says_whole command source source' ended status wanted output same (inr (inr (inl illegal))) has = says_good command source source' ended status wanted output (λ is. cc (is, illegal)) has
+says_whole command source source' ended status wanted output same (inr (inr (inr two))) has = says_refused command source.told status (inl (same ∙ two))
+
+-- a status of an illegal history, of a fault or of no memory will do for bytes that may print one
+pub says_illegal : (command : Command) (told : Option (List ℕ)) (status : Status)
+    → (status ≡ Illegal) ⊎ (status ≡ ReadFault) ⊎ (status ≡ WriteFault) ⊎ (status ≡ NoMemory) → IfSome told (SaysIllegal command status)
+says_illegal command told status is = told_any (SaysIllegal command status) told (λ bytes output illegal. is)
+
+-- bytes that are too many print no history
+not_longer : (command : Command) (bytes b line : List ℕ) → length bytes ≡ most_bytes command + 1 → length bytes ≤ length b → IsIllegal command b line → ⊥
+not_longer command bytes b line count longer (verifies, short, bad) =
+    let most : most_bytes command ≡ most_bytes Verify = ap most_bytes verifies in absurd (omega (arith, count, longer, short, most))
+
+judges_by : (command : Command) (source source' : Ends) (ended : Option Ended) (status wanted : Status) (output : List ℕ) → status ≡ wanted
+    → Read command source source' ended wanted output → IfSome source.told (SaysIllegal command status)
+judges_by command source source' ended status wanted output same (inl (bytes, short, consumed, at_end, is)) =
+    told_whole (SaysIllegal command status) source.told source'.told bytes consumed at_end
+    (λ line illegal. inl (same ∙ judged_so command bytes ended wanted output line is illegal))
+judges_by command source source' ended status wanted output same (inr (inl (bytes, has, count, consumed, none, is_refused, line))) =
+    told_more (SaysIllegal command status) source.told source'.told bytes consumed (λ b longer line illegal. absurd (not_longer command bytes b line count longer illegal))
+judges_by command source source' ended status wanted output same (inr (inr (untouched, own))) =
+    told_any (SaysIllegal command status) source.told (λ bytes line illegal. absurd (cc (ap has_input illegal.0, (own_is command ended wanted output own).3)))
+
+-- an output that is written whole says whether its bytes print a history that isn't legal
+judges_whole : (command : Command) (source source' : Ends) (ended : Option Ended) (status wanted : Status) (output : List ℕ) → status ≡ wanted
+    → HasRead command source source' ended wanted output → IfSome source.told (SaysIllegal command status)
+judges_whole command source source' ended status wanted output same has = judges_by command source source' ended status wanted output same has.read
 
 -- a status of an output is neither that of other words nor one of a fault or of no memory
-no_fault : (status wanted : Status) → status ≡ wanted → (wanted ≡ Done) ⊎ (wanted ≡ Waits) ⊎ (wanted ≡ Refused)
+no_fault : (status wanted : Status) → status ≡ wanted → IsMade wanted
     → (status ≡ OtherWords → ⊥) × (status ≡ ReadFault → ⊥) × (status ≡ WriteFault → ⊥) × (status ≡ NoMemory → ⊥)
 no_fault status wanted same (inl done) = (λ is. cc (is, same, done), λ is. cc (is, same, done), λ is. cc (is, same, done), λ is. cc (is, same, done))
 no_fault status wanted same (inr (inl waits)) = (λ is. cc (is, same, waits), λ is. cc (is, same, waits), λ is. cc (is, same, waits), λ is. cc (is, same, waits))
-no_fault status wanted same (inr (inr two)) = (λ is. cc (is, same, two), λ is. cc (is, same, two), λ is. cc (is, same, two), λ is. cc (is, same, two))
+no_fault status wanted same (inr (inr (inl illegal))) = (λ is. cc (is, same, illegal), λ is. cc (is, same, illegal), λ is. cc (is, same, illegal), λ is. cc (is, same, illegal))
+no_fault status wanted same (inr (inr (inr two))) = (λ is. cc (is, same, two), λ is. cc (is, same, two), λ is. cc (is, same, two), λ is. cc (is, same, two))
 
 -- a command without an input has no output for bytes
 no_output : (command : Command) (bytes : List ℕ) (ended : Option Ended) (status : Status) (output : List ℕ) → has_input command ≡ false → IsOutput command bytes ended status output → ⊥
@@ -246,6 +303,7 @@ no_output (Play threads trace) bytes ended status output without is = cc without
 no_output Check bytes ended status output without is = cc without
 no_output Compile bytes ended status output without is = cc without
 no_output Upgrade bytes ended status output without is = cc without
+no_output Verify bytes ended status output without is = cc without
 no_output (Load service number) bytes ended status output without is = is
 
 read_nothing : (command : Command) (source source' : Ends) (ended : Option Ended) (status : Status) (output : List ℕ) → has_input command ≡ false
@@ -266,7 +324,7 @@ no_rise old new same rose = absurd (omega (arith, same, rose))
 
 answered : (said : Command → Type 0) (source source' sink sink' : Ends) (status : Status) (ended : Option Ended) (command : Command) (wanted : Status) (output : List ℕ)
     → IsOne said → said command → HasRead command source source' ended wanted output → IsWritten sink sink' output wanted status
-    → source'.faults ≡ source.faults → sink.faults ≤ sink'.faults → (wanted ≡ Done) ⊎ (wanted ≡ Waits) ⊎ (wanted ≡ Refused) → IsAnswer said source source' sink sink' status ended
+    → source'.faults ≡ source.faults → sink.faults ≤ sink'.faults → IsMade wanted → IsAnswer said source source' sink sink' status ended
 answered said source source' sink sink' status ended command wanted output one is_said has (inl (same, appended, kept)) steady writes so =
     let no = no_fault status wanted same so in
     let has_as : (s : Status) → status ≡ s → HasRead command source source' ended s output = λ s is. subst (λ w. HasRead command source source' ended w output) (sym same ∙ is) has in record {
@@ -274,8 +332,10 @@ answered said source source' sink sink' status ended command wanted output one i
       other_words = λ other. absurd (other command is_said);
       done = λ is. (command, is_said, output, has_as Done is, appended);
       waits = λ is. (command, is_said, output, has_as Waits is, appended);
+      illegal = λ is. (command, is_said, output, has_as Illegal is, appended);
       refused = λ is. let no_run = told_refused command source source' ended wanted output (sym same ∙ is) has in (no_run.0, (command, is_said, output, has_as Refused is, appended, no_run.1));
       refuses = λ c said_c. subst (λ v. IfSome source.told (SaysRefused v status)) (one command c is_said said_c) (says_whole command source source' ended status wanted output same so has);
+      judges = λ c said_c. subst (λ v. IfSome source.told (SaysIllegal v status)) (one command c is_said said_c) (judges_whole command source source' ended status wanted output same has);
       read_fault = λ is. absurd (no.1 is);
       only_read_fault = λ rose. no_rise source.faults source'.faults steady rose;
       no_read = λ c said_c without. (untouched said source source' ended command c wanted output one is_said has said_c without, no.1);
@@ -292,8 +352,10 @@ answered said source source' sink sink' status ended command wanted output one i
   other_words = λ other. absurd (other command is_said);
   done = λ is. absurd (cc (is, cut.0));
   waits = λ is. absurd (cc (is, cut.0));
+  illegal = λ is. absurd (cc (is, cut.0));
   refused = λ is. absurd (cc (is, cut.0));
   refuses = λ c said_c. says_refused c source.told status (inr (inr (inl cut.0)));
+  judges = λ c said_c. says_illegal c source.told status (inr (inr (inl cut.0)));
   read_fault = λ is. absurd (cc (is, cut.0));
   only_read_fault = λ rose. no_rise source.faults source'.faults steady rose;
   no_read = λ c said_c without. (untouched said source source' ended command c wanted output one is_said has said_c without, λ is. cc (is, cut.0));
@@ -314,8 +376,10 @@ other_answer said source sink status ended nothing other none = record {
   other_words = λ unsaid. other;
   done = λ is. absurd (cc (is, other));
   waits = λ is. absurd (cc (is, other));
+  illegal = λ is. absurd (cc (is, other));
   refused = λ is. absurd (cc (is, other));
   refuses = λ c said_c. absurd (nothing c said_c);
+  judges = λ c said_c. absurd (nothing c said_c);
   read_fault = λ is. absurd (cc (is, other));
   only_read_fault = λ rose. no_rise source.faults source.faults refl rose;
   no_read = λ c said_c without. absurd (nothing c said_c);
@@ -336,8 +400,10 @@ read_failed said source source' sink status ended command one is_said has failed
   other_words = λ other. absurd (other command is_said);
   done = λ is. absurd (cc (is, failed));
   waits = λ is. absurd (cc (is, failed));
+  illegal = λ is. absurd (cc (is, failed));
   refused = λ is. absurd (cc (is, failed));
   refuses = λ c said_c. says_refused c source.told status (inr (inl failed));
+  judges = λ c said_c. says_illegal c source.told status (inr (inl failed));
   read_fault = λ is. (none, rose, record { told = refl; faults = refl });
   only_read_fault = λ more. failed;
   no_read = λ c said_c without. absurd (cc (ap has_input (one command c is_said said_c), without, has));
@@ -358,8 +424,10 @@ without_memory said source source' sink sink' status ended command one is_said u
   other_words = λ other. absurd (other command is_said);
   done = λ is. absurd (cc (is, without.0));
   waits = λ is. absurd (cc (is, without.0));
+  illegal = λ is. absurd (cc (is, without.0));
   refused = λ is. absurd (cc (is, without.0));
   refuses = λ c said_c. says_refused c source.told status (inr (inr (inr without.0)));
+  judges = λ c said_c. says_illegal c source.told status (inr (inr (inr without.0)));
   read_fault = λ is. absurd (cc (is, without.0));
   only_read_fault = λ rose. no_rise source.faults source'.faults steady rose;
   no_read = λ c said_c lacks. (unread (ap has_input (one command c is_said said_c) ∙ lacks), λ is. cc (is, without.0));
@@ -398,7 +466,7 @@ pub too_long_answer : (said : Command → Type 0) (source source' sink sink' : E
     → source'.faults ≡ source.faults → sink.faults ≤ sink'.faults → IsAnswer said source source' sink sink' status ended
 too_long_answer said source source' sink sink' status ended command line limit same most one is_said has_one (bytes, count, consumed) none written steady writes =
     answered said source source' sink sink' status ended command Refused line one is_said
-    (record { read = inr (inl (bytes, has_one, count ∙ ap (λ n. n + 1) most, consumed, none, refl, same)) }) written steady writes (inr (inr refl))
+    (record { read = inr (inl (bytes, has_one, count ∙ ap (λ n. n + 1) most, consumed, none, refl, same)) }) written steady writes (inr (inr (inr refl)))
 
 -- what a command without an input made, and what was written of it, make the answer; nothing was read
 pub own_answer : (said : Command → Type 0) (source sink sink' : Ends) (status : Status) (ended : Option Ended) (command : Command) → IsOne said → said command
@@ -419,8 +487,10 @@ said_answer said source source' sink sink' status ended command one is_said a = 
   other_words = λ other. absurd (other command is_said);
   done = λ is. let d = a.done is in (d.0, subst said (sym d.1) is_said, d.2, d.3, d.4);
   waits = λ is. let d = a.waits is in (d.0, subst said (sym d.1) is_said, d.2, d.3, d.4);
+  illegal = λ is. let d = a.illegal is in (d.0, subst said (sym d.1) is_said, d.2, d.3, d.4);
   refused = λ is. let d = a.refused is in (d.0, (d.1.0, subst said (sym d.1.1) is_said, d.1.2, d.1.3, d.1.4, d.1.5));
   refuses = λ c said_c. a.refuses c (one c command said_c is_said);
+  judges = λ c said_c. a.judges c (one c command said_c is_said);
   read_fault = a.read_fault;
   only_read_fault = a.only_read_fault;
   no_read = λ c said_c without. a.no_read c (one c command said_c is_said) without;
@@ -444,11 +514,12 @@ said_reads said told told' command one is_said (inl (c, is, has, consumed)) = in
 said_reads said told told' command one is_said (inr (without, same)) = inr (λ c said_c. without c (one c command said_c is_said), same)
 
 -- each command but a load has an input
-pub with_input : (c : Command) → ((threads : Bool) × (trace : Bool) × (c ≡ Play threads trace)) ⊎ ((c ≡ Check) ⊎ ((c ≡ Compile) ⊎ (c ≡ Upgrade))) → has_input c ≡ true
+pub with_input : (c : Command) → ((threads : Bool) × (trace : Bool) × (c ≡ Play threads trace)) ⊎ ((c ≡ Check) ⊎ ((c ≡ Compile) ⊎ ((c ≡ Upgrade) ⊎ (c ≡ Verify)))) → has_input c ≡ true
 with_input c (inl (threads, trace, is)) = ap has_input is
 with_input c (inr (inl is)) = ap has_input is
 with_input c (inr (inr (inl is))) = ap has_input is
-with_input c (inr (inr (inr is))) = ap has_input is
+with_input c (inr (inr (inr (inl is)))) = ap has_input is
+with_input c (inr (inr (inr (inr is)))) = ap has_input is
 
 -- ---- deliveries
 

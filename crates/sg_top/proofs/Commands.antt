@@ -11,7 +11,7 @@ use Rattle.sg_load.specs.declared.kind.ServiceKind.{ServiceKind}
 use Rattle.sg_load.specs.declared.kind.ServiceKind.TheVariants.{Locks, Events, Pages, Files, Threads}
 use Rattle.sg_input.specs.sg_script.Numbers.{value_of_digits}
 use Rattle.sg_top.specs.declared.command.Command.{Command}
-use Rattle.sg_top.specs.declared.command.Command.TheVariants.{Play, Check, Compile, Upgrade, Load}
+use Rattle.sg_top.specs.declared.command.Command.TheVariants.{Play, Check, Compile, Upgrade, Verify, Load}
 use Rattle.sg_top.specs.Answer.{AreDigitsOf, IsCommand, IsSerialCommand}
 use Rattle.sg_top.specs.Inside.Kinds.{kind_called}
 use Rattle.sg_top.specs.Inside.Words.{IsLoadOf, IsPairOf, IsWordOf}
@@ -34,6 +34,7 @@ texts_of (Play threads trace) digits = (if threads then codes "run" else codes "
 texts_of Check digits = codes "check" ∷ []
 texts_of Compile digits = codes "compile" ∷ []
 texts_of Upgrade digits = codes "upgrade" ∷ []
+texts_of Verify digits = codes "verify" ∷ []
 texts_of (Load service number) digits = codes "load" ∷ (facts_by service).name ∷ digits ∷ []
 
 -- the digits fit the command
@@ -46,6 +47,7 @@ says words (Play threads trace) is = ([], tt, is)
 says words Check is = ([], tt, is)
 says words Compile is = ([], tt, is)
 says words Upgrade is = ([], tt, is)
+says words Verify is = ([], tt, is)
 says words (Load service number) is = (is.0, is.1, is.2)
 
 abbrev text_at : ℕ → List (List ℕ) → List ℕ
@@ -58,6 +60,7 @@ command_in texts =
     else if bytes_eq (text_at 0 texts) (codes "check") then Check
     else if bytes_eq (text_at 0 texts) (codes "compile") then Compile
     else if bytes_eq (text_at 0 texts) (codes "upgrade") then Upgrade
+    else if bytes_eq (text_at 0 texts) (codes "verify") then Verify
     else Play (bytes_eq (text_at 0 texts) (codes "run")) (length texts == 2)
 
 it_is : (c : Command) (digits : List ℕ) → Digits c digits → command_in (texts_of c digits) ≡ c
@@ -68,6 +71,7 @@ it_is (Play true true) digits fit = refl
 it_is Check digits fit = refl
 it_is Compile digits fit = refl
 it_is Upgrade digits fit = refl
+it_is Verify digits fit = refl
 it_is (Load service number) digits fit = ap (λ k. Load k (value_of_digits digits)) (called service) ∙ ap (Load service) fit.1
 
 pub one_command : (words : List (String Global)) (a b : Command) → IsCommand words a → IsCommand words b → a ≡ b
@@ -92,6 +96,7 @@ count_is words c is = let u = says words c is in by c u.0 (sym (length-map words
     by Check digits l = (omega (arith, l), omega (arith, l))
     by Compile digits l = (omega (arith, l), omega (arith, l))
     by Upgrade digits l = (omega (arith, l), omega (arith, l))
+    by Verify digits l = (omega (arith, l), omega (arith, l))
     by (Load s n) digits l = (omega (arith, l), omega (arith, l))
 
 -- ---- one word
@@ -104,6 +109,7 @@ word_of word (Play true true) is = absurd (omega (arith, ap length is))
 word_of word Check is = ap (text_at 0) is
 word_of word Compile is = ap (text_at 0) is
 word_of word Upgrade is = ap (text_at 0) is
+word_of word Verify is = ap (text_at 0) is
 word_of word (Load s n) is = absurd (omega (arith, ap length is.2))
 
 of_word : (word : String Global) (command : Command) → IsWordOf (string_bytes word) command → IsCommand (word ∷ []) command
@@ -114,6 +120,7 @@ of_word word (Play true true) is = absurd is
 of_word word Check is = ap (λ t. t ∷ []) is
 of_word word Compile is = ap (λ t. t ∷ []) is
 of_word word Upgrade is = ap (λ t. t ∷ []) is
+of_word word Verify is = ap (λ t. t ∷ []) is
 of_word word (Load s n) is = absurd is
 
 -- words are one, where there is a first and no second
@@ -146,6 +153,7 @@ pair_of word more (Play true true) is = (ap (text_at 0) is, ap (text_at 1) is)
 pair_of word more Check is = absurd (omega (arith, ap length is))
 pair_of word more Compile is = absurd (omega (arith, ap length is))
 pair_of word more Upgrade is = absurd (omega (arith, ap length is))
+pair_of word more Verify is = absurd (omega (arith, ap length is))
 pair_of word more (Load s n) is = absurd (omega (arith, ap length is.2))
 
 of_pair : (word more : String Global) (command : Command) → IsPairOf (string_bytes word) (string_bytes more) command → IsCommand (word ∷ more ∷ []) command
@@ -156,6 +164,7 @@ of_pair word more (Play true true) is = cc (is.0, is.1)
 of_pair word more Check is = absurd is
 of_pair word more Compile is = absurd is
 of_pair word more Upgrade is = absurd is
+of_pair word more Verify is = absurd is
 of_pair word more (Load s n) is = absurd is
 
 -- what two words say, of all words
@@ -186,6 +195,7 @@ no_service word name digits none (Play threads trace) is = is
 no_service word name digits none Check is = is
 no_service word name digits none Compile is = is
 no_service word name digits none Upgrade is = is
+no_service word name digits none Verify is = is
 no_service word name digits none (Load s n) is = none s is.1
 
 load_of : (word name digits : String Global) (command : Command) → IsCommand (word ∷ name ∷ digits ∷ []) command → IsLoadOf (string_bytes word) (string_bytes name) (string_bytes digits) command
@@ -194,6 +204,7 @@ load_of word name digits (Play threads true) is = absurd (omega (arith, ap lengt
 load_of word name digits Check is = absurd (omega (arith, ap length is))
 load_of word name digits Compile is = absurd (omega (arith, ap length is))
 load_of word name digits Upgrade is = absurd (omega (arith, ap length is))
+load_of word name digits Verify is = absurd (omega (arith, ap length is))
 load_of word name digits (Load s n) is = (ap (text_at 0) is.2, ap (text_at 1) is.2, subst (AreDigitsOf n) (sym (ap (text_at 2) is.2)) is.1)
 
 of_load : (word name digits : String Global) (command : Command) → IsLoadOf (string_bytes word) (string_bytes name) (string_bytes digits) command → IsCommand (word ∷ name ∷ digits ∷ []) command
@@ -201,6 +212,7 @@ of_load word name digits (Play threads trace) is = absurd is
 of_load word name digits Check is = absurd is
 of_load word name digits Compile is = absurd is
 of_load word name digits Upgrade is = absurd is
+of_load word name digits Verify is = absurd is
 of_load word name digits (Load s n) is = (string_bytes digits, is.2, cc (is.0, is.1))
 
 -- what three words say, of all words

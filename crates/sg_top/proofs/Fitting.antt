@@ -9,7 +9,7 @@ use Rattle.sg_facts.specs.Facts.{Facts}
 use Rattle.sg_facts.specs.Interface.{Declared}
 use Rattle.sg_input.specs.declared.input.Input.{Input}
 use Rattle.sg_input.specs.declared.input.Input.TheVariants.{Ready}
-use Rattle.sg_input.specs.Inputs.{IsInputOf, IsReady}
+use Rattle.sg_input.specs.Inputs.{IsInputOf, IsInterface, IsReady}
 use Rattle.sg_load.specs.Services.{facts_by}
 use Rattle.sg_load.specs.sg_lock.LockFacts.{lock_facts}
 use Rattle.sg_load.specs.sg_mm.MmFacts.{mm_facts}
@@ -77,10 +77,12 @@ ready_for bytes facts made i j script known is same all =
     let ready : IsReady facts bytes i script = subst (IsInputOf facts bytes) is all in
     subst (λ v. IsReady services bytes v script) (sym same) (subst (λ f. IsReady f bytes i script) known ready)
 
+pub interface_service : (text : List ℕ) (i : Declared) → IsInterface services text i → IsOneOfFive i.facts
+interface_service text i (tree, parses, accepted) =
+    subst IsOneOfFive (sym (ap (λ v. v.facts) accepted.declared)) (one_of tree.facts.service.bytes accepted.facts accepted.service)
+
 pub ready_service : (bytes : List ℕ) (i : Declared) (script : Script) → IsReady services bytes i script → IsOneOfFive i.facts
-ready_service bytes i script ready =
-    let accepted = ready.accepted.2 in
-    subst IsOneOfFive (sym (ap (λ v. v.facts) accepted.declared)) (one_of ready.accepted.0.facts.service.bytes accepted.facts accepted.service)
+ready_service bytes i script ready = interface_service ready.interface i ready.accepted
 
 pub ready_playable : (bytes : List ℕ) (i : Declared) (script : Script) → IsReady services bytes i script → IsPlayable i script
 ready_playable bytes i script ready = script_playable i ready.second script ready.reads

@@ -2,5 +2,6 @@ mod Digits
 pub mod Answers
 pub mod Commands
 pub mod Fitting
+pub mod Judging
 pub mod Refusals
 pub mod Running

@@ -9,9 +9,10 @@ use Rattle.sg_input.proofs.OneVerdict.{one_verdict}
 use Rattle.sg_input.specs.declared.input.Input.TheVariants.{Refused as refused_input}
 use Rattle.sg_input.specs.Inputs.{IsInputOf}
 use Rattle.sg_input.proofs.OneInput.{never_ready, not_refused}
+use Rattle.sg_input.proofs.OneRun.{never_ready as never_printed}
 use Rattle.sg_top.specs.Headline.{IsRunOfInput, played_services}
 use Rattle.sg_top.specs.declared.command.Command.{Command}
-use Rattle.sg_top.specs.declared.command.Command.TheVariants.{Play, Check, Compile, Upgrade, Load}
+use Rattle.sg_top.specs.declared.command.Command.TheVariants.{Play, Check, Compile, Upgrade, Verify, Load}
 use Rattle.sg_top.specs.declared.status.Status.{Status}
 use Rattle.sg_top.specs.declared.status.Status.TheVariants.{Refused}
 use Rattle.sg_top.specs.Answer.{IsOutput, IsPlayOutput, IsRefusal, IsRefusedAs, has_input, most_bytes, services}
@@ -44,9 +45,11 @@ good_alone (Play threads trace) bytes ended status output line good is bad = pla
 good_alone Check bytes ended status output line good (none, inl accepts) bad = not_both bytes line output accepts.1 bad
 good_alone Compile bytes ended status output line good (none, inl accepts) bad = not_untabled bytes line output accepts.1 bad
 good_alone Upgrade bytes ended status output line good (none, inl accepts) bad = not_unupgraded bytes line output accepts.1 bad
+good_alone Verify bytes ended status output line good (none, inl judged) bad = never_printed services bytes line judged.i judged.history bad judged.ready
 good_alone Check bytes ended status output line good (none, inr other) bad = good other.0
 good_alone Compile bytes ended status output line good (none, inr other) bad = good other.0
 good_alone Upgrade bytes ended status output line good (none, inr other) bad = good other.0
+good_alone Verify bytes ended status output line good (none, inr other) bad = good other.0
 good_alone (Load service number) bytes ended status output line good is bad = bad
 
 -- where an output for bytes doesn't refuse them, they aren't refused
@@ -61,5 +64,6 @@ refuses_nothing (Play threads trace) bytes line without is = cc without
 refuses_nothing Check bytes line without is = cc without
 refuses_nothing Compile bytes line without is = cc without
 refuses_nothing Upgrade bytes line without is = cc without
+refuses_nothing Verify bytes line without is = cc without
 refuses_nothing (Load service number) bytes line without (inl is) = is.1
 refuses_nothing (Load service number) bytes line without (inr is) = cc is.0

@@ -11,17 +11,25 @@ use Rattle.sg_report.specs.sg_hist.declared.ended.Ended.{Ended}
 use Rattle.sg_input.specs.declared.outcome.Verdict.TheVariants.{Accepted as accepted, Refused as refused}
 use Rattle.sg_input.specs.Verdicts.{IsCompiled, IsUpgraded, IsVerdict}
 use Rattle.sg_input.specs.declared.input.Input.TheVariants.{Refused as refused_input}
-use Rattle.sg_input.specs.Inputs.{IsInputOf, most_input, most_interface}
+use Rattle.sg_input.specs.Inputs.{IsInputOf, IsRunInputOf, IsRunReady, most_input, most_interface, most_run_input}
+use Rattle.sg_input.specs.declared.run_input.RunInput.TheVariants.{Refused as refused_run}
 use Rattle.sg_input.specs.Lines.{too_long_line}
 use Rattle.sg_input.specs.sg_lex.Table.{IsNumber}
 use Rattle.sg_load.specs.Services.{facts_by}
 use Rattle.sg_load.specs.sg_plain.Promises.{somebody_waits}
 use Rattle.sg_input.specs.sg_script.Numbers.{greatest_number, value_of_digits}
-use Rattle.sg_top.specs.Headline.{IsRunOfLoad, IsRunOfInput, played_services}
+use Rattle.sg_facts.specs.Interface.{Declared}
+use Rattle.sg_facts.specs.declared.entry.Entry.{Entry}
+use Rattle.sg_load.specs.declared.kind.ServiceKind.{ServiceKind}
+use Rattle.sg_verify.specs.Lines.{verdict_line_of}
+use Rattle.sg_verify.specs.Verdicts.{IsVerdictOf}
+use Rattle.sg_verify.specs.declared.verdict.Verdict.{Verdict as Judgement}
+use Rattle.sg_verify.specs.declared.verdict.Verdict.TheVariants.{Legal, BadSeq, BadReply}
+use Rattle.sg_top.specs.Headline.{IsRunOfLoad, IsRunOfInput, answering, played_services}
 use Rattle.sg_top.specs.declared.command.Command.{Command}
-use Rattle.sg_top.specs.declared.command.Command.TheVariants.{Play, Check, Compile, Upgrade, Load}
+use Rattle.sg_top.specs.declared.command.Command.TheVariants.{Play, Check, Compile, Upgrade, Verify, Load}
 use Rattle.sg_top.specs.declared.status.Status.{Status}
-use Rattle.sg_top.specs.declared.status.Status.TheVariants.{Done, Waits, OtherWords, Refused, ReadFault, WriteFault, NoMemory}
+use Rattle.sg_top.specs.declared.status.Status.TheVariants.{Done, Waits, OtherWords, Refused, ReadFault, WriteFault, NoMemory, Illegal}
 
 -- ---- words
 
@@ -39,6 +47,7 @@ IsCommand words (Play threads trace) = SayTexts ((if threads then codes "run" el
 IsCommand words Check = SayTexts (codes "check" ∷ []) words
 IsCommand words Compile = SayTexts (codes "compile" ∷ []) words
 IsCommand words Upgrade = SayTexts (codes "upgrade" ∷ []) words
+IsCommand words Verify = SayTexts (codes "verify" ∷ []) words
 IsCommand words (Load service number) =
     (digits : List ℕ) × AreDigitsOf number digits × SayTexts (codes "load" ∷ (facts_by service).name ∷ digits ∷ []) words
 
@@ -48,6 +57,7 @@ is_play (Play threads trace) = true
 is_play Check = false
 is_play Compile = false
 is_play Upgrade = false
+is_play Verify = false
 is_play (Load service number) = true
 
 -- whether a command is a play whose clients have threads of their own
@@ -56,6 +66,7 @@ is_in_threads (Play threads trace) = threads
 is_in_threads Check = false
 is_in_threads Compile = false
 is_in_threads Upgrade = false
+is_in_threads Verify = false
 is_in_threads (Load service number) = false
 
 -- the words say a command that one thread does
@@ -68,6 +79,7 @@ has_input (Play threads trace) = true
 has_input Check = true
 has_input Compile = true
 has_input Upgrade = true
+has_input Verify = true
 has_input (Load service number) = false
 
 -- ---- limits
@@ -78,6 +90,7 @@ most_bytes (Play threads trace) = most_input
 most_bytes Check = most_interface
 most_bytes Compile = most_interface
 most_bytes Upgrade = most_interface
+most_bytes Verify = most_run_input
 most_bytes (Load service number) = 0
 
 -- ---- outputs
@@ -112,12 +125,36 @@ abbrev pub IsUpgradeOf : List ℕ → Status → List ℕ → Type 0
 IsUpgradeOf text status output =
     ((status ≡ Done) × IsUpgraded services text (accepted output)) ⊎ ((status ≡ Refused) × IsUpgraded services text (refused output))
 
+-- the status of what is said of a history
+abbrev pub verdict_status : Judgement → Status
+verdict_status Legal = Done
+verdict_status (BadSeq at next) = Illegal
+verdict_status (BadReply at answered) = Illegal
+
+-- an input is an interface of one of the services and a history that a run of the service printed, and this is said of the history,
+-- with its status and line
+pub record IsJudgedAs (bytes : List ℕ) (status : Status) (output : List ℕ) : Type 0 where
+  pub i : Declared
+  pub history : List Entry
+  pub ready : IsRunReady services bytes i history
+  pub kind : ServiceKind
+  pub its : (answering kind).facts ≡ i.facts
+  pub said : Judgement
+  pub is : IsVerdictOf i (answering kind).ask history said
+  pub answered : status ≡ verdict_status said
+  pub line : output ≡ verdict_line_of i.facts history said
+
+-- the output of a verification, and its status: what is said of a history, or the line of an input that is refused
+abbrev pub IsVerified : List ℕ → Status → List ℕ → Type 0
+IsVerified bytes status output = IsJudgedAs bytes status output ⊎ ((status ≡ Refused) × IsRunInputOf services bytes (refused_run output))
+
 -- the output of a command for an input, its status, and the run where there was one: only a play has one
 abbrev pub IsOutput : Command → List ℕ → Option Ended → Status → List ℕ → Type 0
 IsOutput (Play threads trace) bytes ended status output = IsPlayOutput bytes threads trace ended status output
 IsOutput Check bytes ended status output = (ended ≡ None) × IsChecked bytes status output
 IsOutput Compile bytes ended status output = (ended ≡ None) × IsTabled bytes status output
 IsOutput Upgrade bytes ended status output = (ended ≡ None) × IsUpgradeOf bytes status output
+IsOutput Verify bytes ended status output = (ended ≡ None) × IsVerified bytes status output
 IsOutput (Load service number) bytes ended status output = ⊥
 
 -- the output of a command without an input, its status and its run
@@ -131,6 +168,7 @@ IsRefusedAs (Play threads trace) bytes output = IsInputOf services bytes (refuse
 IsRefusedAs Check bytes output = IsVerdict services bytes (refused output)
 IsRefusedAs Compile bytes output = IsVerdict services bytes (refused output)
 IsRefusedAs Upgrade bytes output = IsVerdict services bytes (refused output)
+IsRefusedAs Verify bytes output = IsRunInputOf services bytes (refused_run output)
 IsRefusedAs (Load service number) bytes output = ⊥
 
 -- the output of a command that refuses these bytes: as an input, or as more bytes than an input may have
@@ -144,6 +182,16 @@ abbrev pub SaysRefused : Command → Status → List ℕ → Type 0
 SaysRefused command status bytes =
     (output : List ℕ) → IsRefusal command bytes output
     → (status ≡ Refused) ⊎ (status ≡ ReadFault) ⊎ (status ≡ WriteFault) ⊎ (status ≡ NoMemory)
+
+-- bytes print a history that isn't legal, and a verification says so with this line
+abbrev pub IsIllegal : Command → List ℕ → List ℕ → Type 0
+IsIllegal command bytes output = (command ≡ Verify) × (length bytes ≤ most_run_input) × IsJudgedAs bytes Illegal output
+
+-- a status for bytes that may print a history which isn't legal: where they do the status says so, or that there was a fault or no memory
+abbrev pub SaysIllegal : Command → Status → List ℕ → Type 0
+SaysIllegal command status bytes =
+    (output : List ℕ) → IsIllegal command bytes output
+    → (status ≡ Illegal) ⊎ (status ≡ ReadFault) ⊎ (status ≡ WriteFault) ⊎ (status ≡ NoMemory)
 
 -- ---- answers
 
@@ -169,16 +217,21 @@ pub record IsAnswer (said : Command → Type 0) (source source' sink sink' : End
   -- other words: they are no command's, and nothing is read or written
   pub words : status ≡ OtherWords → ((command : Command) → said command → ⊥) × IsUntouched source source' × IsUntouched sink sink' × (ended ≡ None)
   pub other_words : ((command : Command) → said command → ⊥) → status ≡ OtherWords
-  -- done: the input is played and no client waits, or it is accepted, compiled or upgraded, and its report, line, tables or text are written
+  -- done: the input is played and no client waits, or it is accepted, compiled or upgraded, or its history is legal, and its report, line,
+  -- tables or text are written
   pub done : status ≡ Done → (command : Command) × said command × (output : List ℕ) × HasRead command source source' ended Done output × Appends sink.told sink'.told output
   -- waits: the input is played, some client waits at the end, and the report is written
   pub waits : status ≡ Waits → (command : Command) × said command × (output : List ℕ) × HasRead command source source' ended Waits output × Appends sink.told sink'.told output
+  -- illegal: the input's history isn't legal, and the line that says where is written
+  pub illegal : status ≡ Illegal → (command : Command) × said command × (output : List ℕ) × HasRead command source source' ended Illegal output × Appends sink.told sink'.told output
   -- refused: the input is refused, and the line that refuses it is written
   pub refused : status ≡ Refused → (ended ≡ None)
       × ((command : Command) × said command × (output : List ℕ) × HasRead command source source' ended Refused output × Appends sink.told sink'.told output
       × IfSome source.told (λ bytes. IsRefusal command bytes output))
   -- an input that is refused is never answered as played
   pub refuses : (command : Command) → said command → IfSome source.told (SaysRefused command status)
+  -- a history that isn't legal is never answered as one that is, nor as refused
+  pub judges : (command : Command) → said command → IfSome source.told (SaysIllegal command status)
   -- a read fault: a read failed, and nothing is written; no other status is answered where the source's count of faults rose
   pub read_fault : status ≡ ReadFault → (ended ≡ None) × Rose source.faults source'.faults × IsUntouched sink sink'
   pub only_read_fault : source.faults < source'.faults → status ≡ ReadFault

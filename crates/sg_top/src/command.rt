@@ -5,7 +5,7 @@ ghost use Rattle.std.specs.Prelude.{ℕ, ◌≡◌, MatchOption};
 ghost use Rattle.sg_top.specs.Answer.{AreDigitsOf};
 
 use crate::services::kind_named;
-use sg_input::{MOST_INPUT, MOST_INTERFACE};
+use sg_input::{MOST_INPUT, MOST_INTERFACE, MOST_RUN_INPUT};
 use sg_load::ServiceKind;
 
 /// A command of the program.
@@ -20,6 +20,8 @@ pub enum Command {
     Compile,
     /// `upgrade`: prints the text of an interface that is accepted as one of version 2.
     Upgrade,
+    /// `verify`: says whether the entries of a printed run are a history that a service which never failed could have given.
+    Verify,
     /// `load SERVICE NUMBER`: plays the script that is generated for a service from a number, and prints one line. It has no input.
     Load { service: ServiceKind, number: u64 },
 }
@@ -60,6 +62,7 @@ impl Command {
             "check" => Some(Command::Check),
             "compile" => Some(Command::Compile),
             "upgrade" => Some(Command::Upgrade),
+            "verify" => Some(Command::Verify),
             _ => None,
         }
     }
@@ -110,6 +113,7 @@ impl Command {
         match self {
             Command::Play { .. } => MOST_INPUT,
             Command::Check | Command::Compile | Command::Upgrade => MOST_INTERFACE,
+            Command::Verify => MOST_RUN_INPUT,
             Command::Load { .. } => 0,
         }
     }

@@ -4,7 +4,8 @@ ghost use Rattle.sg_report.specs.sg_hist.Recovered.{is_blocked};
 ghost use Rattle.sg_load.specs.sg_plain.Promises.{somebody_waits};
 ghost use Rattle.sg_load.specs.Generated.{generated};
 ghost use Rattle.sg_load.specs.Services.{standard};
-ghost use Rattle.sg_top.specs.Answer.{IsChecked, IsOutput, IsOwnOutput, IsPlayOutput, IsTabled, IsUpgradeOf, ended_status, has_input, is_in_threads};
+ghost use Rattle.sg_top.specs.Answer.{IsChecked, IsOutput, IsOwnOutput, IsPlayOutput, IsTabled, IsUpgradeOf, IsVerified, ended_status, has_input, is_in_threads, verdict_status};
+ghost use Rattle.sg_verify.specs.Lines.{verdict_line_of};
 ghost use Rattle.sg_report.specs.Report.{report_of};
 ghost use Rattle.sg_top.specs.Headline.{answering};
 ghost use Rattle.sg_shared.specs.Runs.{IsRunInOrder};
@@ -13,15 +14,19 @@ ghost use Rattle.sg_top.specs.declared.status.Status.TheVariants.{Refused as ref
 ghost use Rattle.sg_top.specs.Inside.Delivery.{IsSaid};
 
 use crate::command::Command;
-use crate::runs::{share_kind, simulate_kind};
+use crate::runs::{share_kind, simulate_kind, verify_kind};
 use crate::services::{kind_of, shapes};
 use crate::status::Status;
 use sg_edge::Gate;
-use sg_facts::{Bytes, NoMemory};
-use sg_input::{Input, Script, Verdict, compiled, read_input, upgraded, verdict};
+use sg_facts::{Bytes, Interface, NoMemory};
+use sg_input::{
+    History, Input, RunInput, Script, Verdict, compile, compiled, read_input, read_run, upgraded,
+    verdict,
+};
 use sg_load::{Accepted, ServiceKind, generate, standard};
 use sg_report::{End, load_line, text};
 use sg_shared::Played;
+use sg_verify::{Verdict as Judgement, verdict_line};
 use std::alloc::Global;
 use std::sync::Wait;
 use std::thread::Threads;
@@ -46,6 +51,7 @@ pub fn output_of(alloc: Global, command: Command, bytes: &[u8]) -> Result<Output
         Command::Check => checked(alloc, bytes),
         Command::Compile => tabled(alloc, bytes),
         Command::Upgrade => upgrade(alloc, bytes),
+        Command::Verify => verified(alloc, bytes),
         Command::Load { .. } => unreachable!(),
     }
 }
@@ -75,6 +81,51 @@ fn upgrade(alloc: Global, text: &[u8]) -> Result<Output, NoMemory>
 {
     let said = upgraded(alloc, text, &shapes())?;
     Ok(output_saying(said))
+}
+
+// What is said of the history that an input prints; or the line of an input that is refused.
+fn verified(alloc: Global, bytes: &[u8]) -> Result<Output, NoMemory>
+    ensures ended { IfOk result (λ o. o.ended ≡ None) }
+    ensures said { IfOk result (λ o. IsVerified bytes.now o.status o.text) }
+{
+    match read_run(alloc, bytes, &shapes())? {
+        RunInput::Ready(accepted, history) => {
+            let kind = kind_of(accepted.interface());
+            let tables = compile(alloc, &accepted)?;
+            let said = verify_kind(alloc, kind, &tables, &history)?;
+            judged(alloc, accepted.interface(), &history, &said)
+        }
+        RunInput::Refused(line) => Ok(refusing(line)),
+    }
+}
+
+// The output that says this of a history.
+fn judged(
+    alloc: Global,
+    iface: &Interface,
+    history: &History,
+    said: &Judgement,
+) -> Result<Output, NoMemory>
+    ensures ended { IfOk result (λ o. o.ended ≡ None) }
+    ensures status { IfOk result (λ o. o.status ≡ verdict_status said.now) }
+    ensures line { IfOk result (λ o. o.text ≡ verdict_line_of iface.now.facts history.now.items said.now) }
+{
+    let text = verdict_line(alloc, iface, history, said)?;
+    Ok(Output {
+        text,
+        status: status_saying(said),
+        ended: None,
+    })
+}
+
+// The status of what is said of a history.
+fn status_saying(said: &Judgement) -> Status
+    ensures { result ≡ verdict_status said.now }
+{
+    match said {
+        Judgement::Legal => Status::Done,
+        Judgement::BadSeq { .. } | Judgement::BadReply { .. } => Status::Illegal,
+    }
 }
 
 // The output that says this of a text, with the status that belongs to it.

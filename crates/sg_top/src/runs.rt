@@ -1,18 +1,23 @@
-// The runs of scripts on the services, in one thread or with a thread for each client.
-ghost use Rattle.std.specs.Prelude.{◌≡◌, IfOk};
+// The runs of scripts on the services, in one thread or with a thread for each client, and the judgement of their histories.
+ghost use Rattle.std.specs.Prelude.{◌≡◌, ◌≤◌, IfOk, length};
 ghost use Rattle.sg_edge.specs.Stops.{AscendsAbove};
+ghost use Rattle.sg_facts.specs.Limits.{most_script_calls};
+ghost use Rattle.sg_facts.specs.sg_base.Lists.{Each};
+ghost use Rattle.sg_verify.specs.sg_world_laws.Seats.{MayBeMade};
+ghost use Rattle.sg_verify.specs.Verdicts.{IsVerdictOf};
 ghost use Rattle.sg_load.specs.Services.{facts_by};
 ghost use Rattle.sg_load.specs.sg_plain.Playing.Playable.{IsPlayable};
 ghost use Rattle.sg_shared.specs.Runs.{IsRunInOrder, IsRunOf};
 ghost use Rattle.sg_top.specs.Headline.{answering};
 
 use sg_edge::Gate;
-use sg_facts::NoMemory;
-use sg_input::Script;
+use sg_facts::{NoMemory, Tables};
+use sg_input::{History, Script};
 use sg_load::{
     Accepted, EventService, LockService, MmService, RamfsService, SchedService, ServiceKind,
 };
 use sg_shared::{Played, share, simulate};
+use sg_verify::{Verdict, verify};
 use std::alloc::Global;
 use std::sync::Wait;
 use std::thread::Threads;
@@ -59,5 +64,27 @@ pub fn share_kind<R: Threads + Wait + Sync, G: Gate>(
         ServiceKind::Pages => share::<R, MmService, G>(rt, alloc, accepted, script, gate),
         ServiceKind::Files => share::<R, RamfsService, G>(rt, alloc, accepted, script, gate),
         ServiceKind::Threads => share::<R, SchedService, G>(rt, alloc, accepted, script, gate),
+    }
+}
+
+/// What is said of a history of a service's interface. Each call has to be one that a client may make, and there are no more than a
+/// script may have.
+pub fn verify_kind(
+    alloc: Global,
+    kind: ServiceKind,
+    tables: &Tables,
+    history: &History,
+) -> Result<Verdict, NoMemory>
+    requires service { tables.now.iface.facts ≡ facts_by kind }
+    requires calls { Each (λ e. MayBeMade tables.now.iface e.call) history.now.items }
+    requires few { length history.now.items ≤ most_script_calls }
+    ensures { IfOk result (IsVerdictOf tables.now.iface (answering kind).ask history.now.items) }
+{
+    match kind {
+        ServiceKind::Locks => verify::<LockService>(alloc, tables, history),
+        ServiceKind::Events => verify::<EventService>(alloc, tables, history),
+        ServiceKind::Pages => verify::<MmService>(alloc, tables, history),
+        ServiceKind::Files => verify::<RamfsService>(alloc, tables, history),
+        ServiceKind::Threads => verify::<SchedService>(alloc, tables, history),
     }
 }

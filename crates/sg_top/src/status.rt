@@ -4,7 +4,8 @@ use std::io::ErrorKind;
 /// How a call of the program ends.
 #[derive(Clone, Copy, Debug, PartialEq, Eq)]
 pub enum Status {
-    /// The input is played and no client waits at the end, or it is accepted, compiled or upgraded, and the whole output is written.
+    /// The input is played and no client waits at the end, or it is accepted, compiled or upgraded, or it prints a legal history, and the
+    /// whole output is written.
     Done,
     /// The words are no command's. Nothing is read or written.
     OtherWords,
@@ -18,13 +19,16 @@ pub enum Status {
     WriteFault,
     /// There was no memory. Nothing is written.
     NoMemory,
+    /// The input prints a history that isn't legal, and the whole line that says where is written.
+    Illegal,
 }
 
 impl Status {
     ghost use Rattle.std.specs.Prelude.{◌≡◌};
     ghost use Rattle.sg_top.specs.Status.{status_number, status_without_words};
 
-    /// The number that the process ends with: 0 done, 1 other words, 2 refused, 3 some client waits, 4 a read failed, 5 a write failed, 6 no memory.
+    /// The number that the process ends with: 0 done, 1 other words, 2 refused, 3 some client waits, 4 a read failed, 5 a write failed, 6 no memory, 7 a history isn't
+    /// legal.
     pub fn number(self) -> u8
         ensures { result ≡ status_number self }
     {
@@ -36,6 +40,7 @@ impl Status {
             Status::ReadFault => 4,
             Status::WriteFault => 5,
             Status::NoMemory => 6,
+            Status::Illegal => 7,
         }
     }
 

@@ -28,8 +28,9 @@ pub struct Answer {
 
 /// Does what the words after the program's name say: `sim` plays the input in one thread, `run` with a thread for each client,
 /// and `sim trace` and `run trace` print too what was done to the service; `check` says whether the input is the text of an
-/// interface that is accepted, `compile` prints the tables of such a text, `upgrade` prints it as one of version 2, `load SERVICE NUMBER` plays the script that is
-/// generated for a service from a number and prints one line, and any other words are answered by `OtherWords`.
+/// interface that is accepted, `compile` prints the tables of such a text, `upgrade` prints it as one of version 2, `verify` says whether the entries of a
+/// printed run are a legal history, `load SERVICE NUMBER` plays the script that is generated for a service from a number and prints one
+/// line, and any other words are answered by `OtherWords`.
 /// It reads nothing for a load, and else at most one byte more than the command's input may have, makes its whole output before it
 /// writes any of it, and answers with the status that says how it ended, and with the run of a play. For `run` each thread passes the
 /// gate before it offers a call of its client, and after the call was answered.
@@ -97,9 +98,11 @@ fn in_one_thread<I: Source, O: Sink>(
 {
     match command {
         Command::Load { service, number } => deliver_made(output, loaded(alloc, service, number)),
-        Command::Play { .. } | Command::Check | Command::Compile | Command::Upgrade => {
-            with_input(alloc, command, input, output)
-        }
+        Command::Play { .. }
+        | Command::Check
+        | Command::Compile
+        | Command::Upgrade
+        | Command::Verify => with_input(alloc, command, input, output),
     }
 }
 

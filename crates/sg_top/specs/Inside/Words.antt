@@ -3,7 +3,7 @@ use Rattle.std.specs.Prelude.{ℕ, ◌≡◌, true, false, List, codes}
 use Rattle.sg_load.specs.Services.{facts_by}
 use Rattle.sg_top.specs.Answer.{AreDigitsOf}
 use Rattle.sg_top.specs.declared.command.Command.{Command}
-use Rattle.sg_top.specs.declared.command.Command.TheVariants.{Play, Check, Compile, Upgrade, Load}
+use Rattle.sg_top.specs.declared.command.Command.TheVariants.{Play, Check, Compile, Upgrade, Verify, Load}
 
 -- a word alone says a command
 abbrev pub IsWordOf : List ℕ → Command → Type 0
@@ -12,6 +12,7 @@ IsWordOf word (Play true false) = word ≡ codes "run"
 IsWordOf word Check = word ≡ codes "check"
 IsWordOf word Compile = word ≡ codes "compile"
 IsWordOf word Upgrade = word ≡ codes "upgrade"
+IsWordOf word Verify = word ≡ codes "verify"
 IsWordOf word _ = ⊥
 
 -- a word and a second one say a command

@@ -1,0 +1,188 @@
+// What plays print is a legal history, and it isn't with one reply changed.
+use crate::asking::{ask, is_said};
+use sg_top::Status::{Done, Illegal};
+use std::alloc::{AllocError, Global};
+use std::process::Abort;
+use std::test::Fail;
+use test_interfaces::{EVENT, LOCK, MM, RAMFS, SCHED};
+
+// An interface and a script for it.
+type Play = (&'static [u8], &'static [u8]);
+
+// Plays with stops in calls and in walks, clients that wait, files, subtrees and ranks.
+static PLAYS: [Play; 19] = [
+    (
+        LOCK,
+        b"client 1 { lock_alloc(); lock_take($1); lock_release($1); lock_free($1); }",
+    ),
+    (LOCK, b""),
+    (
+        LOCK,
+        b"setup { lock_alloc(); } client 1 { lock_take(1); lock_release(1); } client 2 { lock_take(1); lock_release(1); } schedule 1 2 1 1;",
+    ),
+    (
+        LOCK,
+        b"setup { lock_alloc(); } client 1 { lock_take(1); } client 2 { lock_take(1); } schedule 1 2;",
+    ),
+    (
+        LOCK,
+        b"client 1 { lock_alloc(); lock_take($1); lock_release($1); lock_free($1); } stop 9;",
+    ),
+    (
+        LOCK,
+        b"client 1 { lock_alloc(); lock_take($1); lock_release($1); lock_free($1); } stop 8;",
+    ),
+    (
+        LOCK,
+        b"client 1 { lock_alloc(); lock_take($1); lock_release($1); lock_free($1); } stop 9 15;",
+    ),
+    (
+        EVENT,
+        b"setup { evt_split(); } client 1 { evt_trigger(1, 1); } client 2 { evt_wait(1); evt_wait(1); } schedule 1 2 2 2 2 2 1; stop 9;",
+    ),
+    (
+        EVENT,
+        b"client 1 { evt_split(); evt_trigger($1, 5); evt_wait($1); evt_wait($1); evt_wait($1); } stop 18;",
+    ),
+    (
+        EVENT,
+        b"setup { evt_split(); } client 1 { evt_trigger(1, 1); } client 2 { evt_wait(1); } schedule 2 1 1; stop 7;",
+    ),
+    (
+        MM,
+        b"client 1 { mman_get_page(4096); } client 2 { mman_alias_page(1, 2, 8192); mman_release_page($1); } schedule 1 1 2 2; stop 12;",
+    ),
+    (
+        MM,
+        b"client 1 { mman_get_page(4096); mman_get_page(4096); } stop 6;",
+    ),
+    (
+        MM,
+        b"client 1 { mman_get_page(4096); mman_alias_page($1, 1, 8192); mman_alias_page($1, 1, 12288); mman_release_page($1); mman_release_page($2); mman_release_page($3); } client 2 { mman_find(1, 8192); } schedule 1 1 1 1 1 1 2 2 2 2 1 1; stop 18;",
+    ),
+    (
+        RAMFS,
+        b"client 1 { tsplit(0, \"a\"); twrite($1, \"hello\"); tseek($1, 9); twrite($1, \"x\"); } client 2 { tsplit(0, \"a\"); tread($1, 16); } schedule 1 1 1 2 2 2 2 2 2; stop 10;",
+    ),
+    (
+        RAMFS,
+        b"client 1 { tsplit(0, \"a\"); tseek($1, 4); tread($1, 8); } client 2 { tread(1, 8); tsplit(0, \"b\"); } schedule 1 1 2 1 2 1; stop 9;",
+    ),
+    (
+        SCHED,
+        b"client 1 { sched_create_thd(5); sched_create_thd(5); sched_create_thd(5); sched_exit($1); sched_yield($2); sched_next(); } stop 24;",
+    ),
+    (
+        SCHED,
+        b"setup { sched_create_thd(3); } client 1 { sched_sleep(1); sched_wait(1); } client 2 { sched_wakeup(1); } schedule 1 1 1 2 2; stop 11;",
+    ),
+    (EVENT, b"client 1 { evt_split(); evt_wait($1); }"),
+    (
+        RAMFS,
+        b"client 1 { tsplit(0, \"\"); tsplit(0, \"a\"); twrite($2, \"\\\"\\\\\"); tseek($2, 0); tread($2, 2); }",
+    ),
+];
+
+// How many entries' lines a printed run begins with.
+fn entries_of(run: &str) -> usize {
+    run.lines()
+        .take_while(|line| line.starts_with("c1") || line.starts_with("c2"))
+        .count()
+}
+
+#[test]
+fn finds_plays_legal(rt: HostRuntime) -> Result<(), Fail> {
+    let alloc = rt.alloc();
+    for (interface, script) in &PLAYS {
+        for words in ["sim", "sim trace"] {
+            let run = ask(alloc, words, interface, script)?.1;
+            let count = entries_of(str::from_utf8(&run).unwrap_or(""));
+            let line = format!(in alloc; "legal {count}\n")?;
+            assert!(rt; is_said(alloc, interface, &run, Done, &line)?, "{script:?}");
+        }
+    }
+    Ok(())
+}
+
+// Answers of every form, and each refusal.
+static ANSWERS: [&str; 22] = [
+    "ok",
+    "ok #1",
+    "ok #2",
+    "ok #3 1",
+    "ok 0",
+    "ok 1",
+    "ok 2",
+    "ok 4096",
+    "ok 1 2 3 4",
+    "refused NoDesc",
+    "refused NoParent",
+    "refused BadState",
+    "refused HasChildren",
+    "refused Full",
+    "refused NotOwner",
+    "refused Held",
+    "refused Occupied",
+    "refused NotFound",
+    "refused Overflow",
+    "refused Gap",
+    "refused TooBig",
+    "refused BadName",
+];
+
+// An entry's line with another answer; an Ok of a read has bytes too.
+fn answered(alloc: Global, line: &str, answer: &str) -> Result<String, AllocError> {
+    let call = line.split_once(" = ").unwrap_or((line, "")).0;
+    let bytes = if line.contains("tread") && answer.starts_with("ok") {
+        " \"\""
+    } else {
+        ""
+    };
+    format!(in alloc; "{call} = {answer}{bytes}")
+}
+
+// A printed run with another answer in the line of this number, from 0.
+fn changed(alloc: Global, run: &str, place: usize, answer: &str) -> Result<String, AllocError> {
+    let mut text = String::new(alloc);
+    for (number, line) in run.lines().enumerate() {
+        if number == place {
+            text.push_str(answered(alloc, line, answer)?.as_str())?;
+        } else {
+            text.push_str(line)?;
+        }
+        text.push_str("\n")?;
+    }
+    Ok(text)
+}
+
+// Whether each other answer in the line of this number, from 0, is found, and the answer that belongs there is told.
+fn finds_changes(alloc: Global, interface: &[u8], run: &str, place: usize) -> Result<bool, Fail> {
+    let line = run.lines().nth(place).unwrap_or("");
+    let told = line.split_once(" = ").unwrap_or(("", "")).1;
+    let wanted = format!(in alloc; "illegal at entry {}: {told}\n", place + 1)?;
+    for answer in &ANSWERS {
+        let other = changed(alloc, run, place, answer)?;
+        if other.as_str() != run
+            && !is_said(alloc, interface, other.as_bytes(), Illegal, &wanted)?
+        {
+            return Ok(false);
+        }
+    }
+    Ok(true)
+}
+
+#[test]
+fn finds_changed_replies(rt: HostRuntime) -> Result<(), Fail> {
+    let alloc = rt.alloc();
+    for (interface, script) in &PLAYS {
+        let run = ask(alloc, "sim", interface, script)?.1;
+        let run = str::from_utf8(&run).unwrap_or("");
+        for place in 0..entries_of(run) {
+            assert!(rt;
+                finds_changes(alloc, interface, run, place)?,
+                "{script:?} {place}"
+            );
+        }
+    }
+    Ok(())
+}
