@@ -6,81 +6,39 @@ use std::process::Abort;
 use std::test::Fail;
 use test_interfaces::{EVENT, LOCK, MM, RAMFS, SCHED};
 
-// An interface and a script for it.
-type Play = (&'static [u8], &'static [u8]);
+// Scripts with stops in calls and in walks, clients that wait, files, subtrees and ranks.
+static LOCKS: [&[u8]; 7] = [
+    b"client 1 { lock_alloc(); lock_take($1); lock_release($1); lock_free($1); }",
+    b"",
+    b"setup { lock_alloc(); } client 1 { lock_take(1); lock_release(1); } client 2 { lock_take(1); lock_release(1); } schedule 1 2 1 1;",
+    b"setup { lock_alloc(); } client 1 { lock_take(1); } client 2 { lock_take(1); } schedule 1 2;",
+    b"client 1 { lock_alloc(); lock_take($1); lock_release($1); lock_free($1); } stop 9;",
+    b"client 1 { lock_alloc(); lock_take($1); lock_release($1); lock_free($1); } stop 8;",
+    b"client 1 { lock_alloc(); lock_take($1); lock_release($1); lock_free($1); } stop 9 15;",
+];
 
-// Plays with stops in calls and in walks, clients that wait, files, subtrees and ranks.
-static PLAYS: [Play; 19] = [
-    (
-        LOCK,
-        b"client 1 { lock_alloc(); lock_take($1); lock_release($1); lock_free($1); }",
-    ),
-    (LOCK, b""),
-    (
-        LOCK,
-        b"setup { lock_alloc(); } client 1 { lock_take(1); lock_release(1); } client 2 { lock_take(1); lock_release(1); } schedule 1 2 1 1;",
-    ),
-    (
-        LOCK,
-        b"setup { lock_alloc(); } client 1 { lock_take(1); } client 2 { lock_take(1); } schedule 1 2;",
-    ),
-    (
-        LOCK,
-        b"client 1 { lock_alloc(); lock_take($1); lock_release($1); lock_free($1); } stop 9;",
-    ),
-    (
-        LOCK,
-        b"client 1 { lock_alloc(); lock_take($1); lock_release($1); lock_free($1); } stop 8;",
-    ),
-    (
-        LOCK,
-        b"client 1 { lock_alloc(); lock_take($1); lock_release($1); lock_free($1); } stop 9 15;",
-    ),
-    (
-        EVENT,
-        b"setup { evt_split(); } client 1 { evt_trigger(1, 1); } client 2 { evt_wait(1); evt_wait(1); } schedule 1 2 2 2 2 2 1; stop 9;",
-    ),
-    (
-        EVENT,
-        b"client 1 { evt_split(); evt_trigger($1, 5); evt_wait($1); evt_wait($1); evt_wait($1); } stop 18;",
-    ),
-    (
-        EVENT,
-        b"setup { evt_split(); } client 1 { evt_trigger(1, 1); } client 2 { evt_wait(1); } schedule 2 1 1; stop 7;",
-    ),
-    (
-        MM,
-        b"client 1 { mman_get_page(4096); } client 2 { mman_alias_page(1, 2, 8192); mman_release_page($1); } schedule 1 1 2 2; stop 12;",
-    ),
-    (
-        MM,
-        b"client 1 { mman_get_page(4096); mman_get_page(4096); } stop 6;",
-    ),
-    (
-        MM,
-        b"client 1 { mman_get_page(4096); mman_alias_page($1, 1, 8192); mman_alias_page($1, 1, 12288); mman_release_page($1); mman_release_page($2); mman_release_page($3); } client 2 { mman_find(1, 8192); } schedule 1 1 1 1 1 1 2 2 2 2 1 1; stop 18;",
-    ),
-    (
-        RAMFS,
-        b"client 1 { tsplit(0, \"a\"); twrite($1, \"hello\"); tseek($1, 9); twrite($1, \"x\"); } client 2 { tsplit(0, \"a\"); tread($1, 16); } schedule 1 1 1 2 2 2 2 2 2; stop 10;",
-    ),
-    (
-        RAMFS,
-        b"client 1 { tsplit(0, \"a\"); tseek($1, 4); tread($1, 8); } client 2 { tread(1, 8); tsplit(0, \"b\"); } schedule 1 1 2 1 2 1; stop 9;",
-    ),
-    (
-        SCHED,
-        b"client 1 { sched_create_thd(5); sched_create_thd(5); sched_create_thd(5); sched_exit($1); sched_yield($2); sched_next(); } stop 24;",
-    ),
-    (
-        SCHED,
-        b"setup { sched_create_thd(3); } client 1 { sched_sleep(1); sched_wait(1); } client 2 { sched_wakeup(1); } schedule 1 1 1 2 2; stop 11;",
-    ),
-    (EVENT, b"client 1 { evt_split(); evt_wait($1); }"),
-    (
-        RAMFS,
-        b"client 1 { tsplit(0, \"\"); tsplit(0, \"a\"); twrite($2, \"\\\"\\\\\"); tseek($2, 0); tread($2, 2); }",
-    ),
+static EVENTS: [&[u8]; 4] = [
+    b"setup { evt_split(); } client 1 { evt_trigger(1, 1); } client 2 { evt_wait(1); evt_wait(1); } schedule 1 2 2 2 2 2 1; stop 9;",
+    b"client 1 { evt_split(); evt_trigger($1, 5); evt_wait($1); evt_wait($1); evt_wait($1); } stop 18;",
+    b"setup { evt_split(); } client 1 { evt_trigger(1, 1); } client 2 { evt_wait(1); } schedule 2 1 1; stop 7;",
+    b"client 1 { evt_split(); evt_wait($1); }",
+];
+
+static PAGES: [&[u8]; 3] = [
+    b"client 1 { mman_get_page(4096); } client 2 { mman_alias_page(1, 2, 8192); mman_release_page($1); } schedule 1 1 2 2; stop 12;",
+    b"client 1 { mman_get_page(4096); mman_get_page(4096); } stop 6;",
+    b"client 1 { mman_get_page(4096); mman_alias_page($1, 1, 8192); mman_alias_page($1, 1, 12288); mman_release_page($1); mman_release_page($2); mman_release_page($3); } client 2 { mman_find(1, 8192); } schedule 1 1 1 1 1 1 2 2 2 2 1 1; stop 18;",
+];
+
+static FILES: [&[u8]; 3] = [
+    b"client 1 { tsplit(0, \"a\"); twrite($1, \"hello\"); tseek($1, 9); twrite($1, \"x\"); } client 2 { tsplit(0, \"a\"); tread($1, 16); } schedule 1 1 1 2 2 2 2 2 2; stop 10;",
+    b"client 1 { tsplit(0, \"a\"); tseek($1, 4); tread($1, 8); } client 2 { tread(1, 8); tsplit(0, \"b\"); } schedule 1 1 2 1 2 1; stop 9;",
+    b"client 1 { tsplit(0, \"\"); tsplit(0, \"a\"); twrite($2, \"\\\"\\\\\"); tseek($2, 0); tread($2, 2); }",
+];
+
+static THREADS: [&[u8]; 2] = [
+    b"client 1 { sched_create_thd(5); sched_create_thd(5); sched_create_thd(5); sched_exit($1); sched_yield($2); sched_next(); } stop 24;",
+    b"setup { sched_create_thd(3); } client 1 { sched_sleep(1); sched_wait(1); } client 2 { sched_wakeup(1); } schedule 1 1 1 2 2; stop 11;",
 ];
 
 // How many entries' lines a printed run begins with.
@@ -90,10 +48,14 @@ fn entries_of(run: &str) -> usize {
         .count()
 }
 
-#[test]
-fn finds_plays_legal(rt: HostRuntime) -> Result<(), Fail> {
-    let alloc = rt.alloc();
-    for (interface, script) in &PLAYS {
+// What plays of these scripts print is legal, with and without a trace.
+fn try_plays(
+    rt: &impl Abort,
+    alloc: Global,
+    interface: &[u8],
+    scripts: &[&[u8]],
+) -> Result<(), Fail> {
+    for script in scripts {
         for words in ["sim", "sim trace"] {
             let run = ask(alloc, words, interface, script)?.1;
             let count = entries_of(str::from_utf8(&run).unwrap_or(""));
@@ -102,6 +64,16 @@ fn finds_plays_legal(rt: HostRuntime) -> Result<(), Fail> {
         }
     }
     Ok(())
+}
+
+#[test]
+fn finds_plays_legal(rt: HostRuntime) -> Result<(), Fail> {
+    let alloc = rt.alloc();
+    try_plays(&rt, alloc, LOCK, &LOCKS)?;
+    try_plays(&rt, alloc, EVENT, &EVENTS)?;
+    try_plays(&rt, alloc, MM, &PAGES)?;
+    try_plays(&rt, alloc, RAMFS, &FILES)?;
+    try_plays(&rt, alloc, SCHED, &THREADS)
 }
 
 // Answers of every form, and each refusal.
@@ -171,10 +143,14 @@ fn finds_changes(alloc: Global, interface: &[u8], run: &str, place: usize) -> Re
     Ok(true)
 }
 
-#[test]
-fn finds_changed_replies(rt: HostRuntime) -> Result<(), Fail> {
-    let alloc = rt.alloc();
-    for (interface, script) in &PLAYS {
+// Each other reply in what plays of these scripts print is found.
+fn try_changes(
+    rt: &impl Abort,
+    alloc: Global,
+    interface: &[u8],
+    scripts: &[&[u8]],
+) -> Result<(), Fail> {
+    for script in scripts {
         let run = ask(alloc, "sim", interface, script)?.1;
         let run = str::from_utf8(&run).unwrap_or("");
         for place in 0..entries_of(run) {
@@ -185,4 +161,14 @@ fn finds_changed_replies(rt: HostRuntime) -> Result<(), Fail> {
         }
     }
     Ok(())
+}
+
+#[test]
+fn finds_changed_replies(rt: HostRuntime) -> Result<(), Fail> {
+    let alloc = rt.alloc();
+    try_changes(&rt, alloc, LOCK, &LOCKS)?;
+    try_changes(&rt, alloc, EVENT, &EVENTS)?;
+    try_changes(&rt, alloc, MM, &PAGES)?;
+    try_changes(&rt, alloc, RAMFS, &FILES)?;
+    try_changes(&rt, alloc, SCHED, &THREADS)
 }
