@@ -170,7 +170,7 @@ has_fun i e none = at (declared_fun i e.name.bytes) refl none
           fits = subst (λ v. values_fit (takes_id i.facts v) (fun_at i.facts.funs v).kinds (map value_of e.args) ≡ true) (sym own) (is_true _ (not_flawed _ BadArgs e.name.at none));
         }
 
-args_words : (args : List WrittenArg) → flat_map arg_flaws args ≡ [] → AreWords (map value_of args)
+pub args_words : (args : List WrittenArg) → flat_map arg_flaws args ≡ [] → AreWords (map value_of args)
 args_words [] none = tt
 args_words (Number n ∷ args) none = (fits_bits 64 n (front_none (number_flaws 64 n) (flat_map arg_flaws args) none), args_words args (back_none (number_flaws 64 n) (flat_map arg_flaws args) none))
 args_words (text t ∷ args) none = args_words args (back_none (arg_flaws (text t)) (flat_map arg_flaws args) none)
