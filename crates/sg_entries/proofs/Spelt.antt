@@ -232,9 +232,11 @@ answer_shown f (good desc words bytes) is none =
     desc_small : (desc : Option Spelling) → optional_flaws word_flaws desc ≡ [] → desc_of desc < 2 ^ 64
     desc_small None none = omega arith
     desc_small (Some d) none = fits_bits 64 d none
+
     words_small : (words : List Spelling) → flat_map word_flaws words ≡ [] → Each (λ word. word < 2 ^ 64) (map number_of words)
     words_small [] none = tt
     words_small (w ∷ words) none = (fits_bits 64 w (front_none (word_flaws w) (flat_map word_flaws words) none), words_small words (back_none (word_flaws w) (flat_map word_flaws words) none))
+
     hidden : (shown : Bool) (bytes : Option Spelling) → AreShown shown bytes → shown ≡ false → bytes_of bytes ≡ []
     hidden true bytes are is = absurd cc
     hidden false None are is = refl
