@@ -1,22 +1,21 @@
 -- A text that prints a history is read to it.
-use Rattle.std.proofs.Common.{◌≡◌, inl, inr, ℕ, suc, ◌+◌, ◌≤◌, Bool, true, false, cond, not, List, [], ◌∷◌, ◌++◌, None, Some, Ok, length, map, refl, sym, ◌∙◌, ap, subst, append_assoc, arith}
+use Rattle.std.proofs.Common.{◌≡◌, inl, inr, ℕ, ◌+◌, ◌≤◌, Bool, true, false, cond, not, List, [], ◌∷◌, ◌++◌, None, Some, length, map, refl, sym, ◌∙◌, ap, subst, append_assoc, arith}
 use Rattle.std.specs.Prelude.{◌==◌, ◌&&◌, codes}
 use Rattle.std.specs.Char.{is_ascii_digit}
 use Rattle.std.specs.List.{flat_map, list_all, onto_first, slice_split}
 use Rattle.std.specs.declared.option.Option.{Option}
 use Rattle.std.proofs.lemmas.Bool.Decides.{nat_tests}
-use Rattle.std.proofs.lemmas.Grind.{flat_map-append}
 use Rattle.sg_entries.proofs.Flawless.{flawless_parts}
 use Rattle.sg_entries.proofs.Rewritten.{tree_flawless, tree_of, tree_stands, tree_well_formed}
 use Rattle.sg_entries.proofs.Spelt.{ended, line_printed, written}
-use Rattle.sg_entries.proofs.Within.{each_back, each_both, each_front}
-use Rattle.sg_entries.specs.Flaws.{entry_flaws, flaws_from, in_line, too_many_entries}
+use Rattle.sg_entries.proofs.Within.{each_both}
+use Rattle.sg_entries.specs.Flaws.{flaws_from, in_line, too_many_entries}
 use Rattle.sg_entries.specs.Lines.{begins_entry, entry_lines, entry_lines_of, front_lines, line_feed, lines_from, placed}
 use Rattle.sg_entries.specs.Printed.{HasNames, MayBePrinted, PrintsHistory}
 use Rattle.sg_entries.specs.Reads.{AreEntries, IsHistory}
 use Rattle.sg_entries.specs.Standing.{entry_of}
 use Rattle.sg_entry_parse.specs.Codes.{code_name}
-use Rattle.sg_entry_parse.specs.Entry.{IsEntry, IsWellFormed, answer_pieces, arg_pieces, args_pieces, bytes_pieces, desc_pieces, entry_bytes, entry_pieces, next_arg_pieces, word_pieces}
+use Rattle.sg_entry_parse.specs.Entry.{IsWellFormed, answer_pieces, arg_pieces, args_pieces, bytes_pieces, desc_pieces, entry_bytes, entry_pieces, next_arg_pieces, word_pieces}
 use Rattle.sg_entry_parse.specs.Pieces.{ArePlaced, EntryPiece, IsName, IsNumber, IsPiece, IsPositive, fixed, name, number, piece_bytes, positive, printable}
 use Rattle.sg_entry_parse.specs.Spelling.{Spelling}
 use Rattle.sg_entry_parse.specs.declared.tree.WrittenAnswer.{WrittenAnswer}

@@ -1,21 +1,20 @@
 -- An entry that may be printed, as it is written in its line.
-use Rattle.std.proofs.Common.{◌≡◌, inl, inr, ℕ, zero, suc, ◌+◌, ◌-◌, ◌^◌, ◌<◌, ◌≤◌, Bool, true, false, cond, not, List, [], ◌∷◌, ◌++◌, None, Some, Ok, length, length-append, get_or, map, refl, sym, ◌∙◌, ap, subst, append_assoc, arith}
-use Rattle.std.specs.Prelude.{◌==◌, ◌&&◌, ◌||◌, nat_le, codes, if◌then◌else◌, unwrap_or}
+use Rattle.std.proofs.Common.{◌≡◌, inl, inr, ℕ, zero, suc, ◌+◌, ◌-◌, ◌^◌, ◌<◌, ◌≤◌, Bool, true, false, not, List, [], ◌∷◌, ◌++◌, None, Some, length, length-append, get_or, map, refl, sym, ◌∙◌, ap, subst, arith}
+use Rattle.std.specs.Prelude.{◌==◌, ◌&&◌, ◌||◌, nat_le, codes, unwrap_or}
 use Rattle.std.specs.Char.{is_ascii_digit}
 use Rattle.std.specs.Fmt.{decimal}
 use Rattle.std.specs.List.{flat_map, list_all}
 use Rattle.std.specs.declared.option.Option.{Option}
 use Rattle.std.proofs.lemmas.Bool.Decides.{nat_tests}
 use Rattle.std.proofs.lemmas.Fmt.{decimal_digit, decimal_nonempty, digits_decimal, digits_value-decimal, first_decimal}
-use Rattle.std.proofs.lemmas.Grind.{flat_map-append}
 use Rattle.sg_entries.proofs.Spelt.{numeral, written}
 use Rattle.sg_entries.specs.Flaws.{answer_flaws, arg_flaws, client_flaws, entry_flaws, flaw_if, fun_flaws, number_flaws, optional_flaws, text_flaws, too_many_entries, values_fit, word_flaws}
-use Rattle.sg_entries.specs.Printed.{AreTexts, HasNames, IsShown, IsShownReply, MayBePrinted}
+use Rattle.sg_entries.specs.Printed.{AreTexts, HasNames, IsShownReply, MayBePrinted}
 use Rattle.sg_entries.specs.Standing.{args_in, bytes_of, desc_of, entry_of, fun_of, id_in, number_of, reply_of, value_of}
 use Rattle.sg_entries.specs.declared.error.EntriesKind.{EntriesKind}
 use Rattle.sg_entries.specs.declared.error.EntriesKind.TheVariants.{BadArgs, BadClient, Limit}
-use Rattle.sg_entry_parse.specs.Entry.{AreShown, IsAnswer, IsWellFormed, answer_pieces, arg_pieces, args_pieces, bytes_pieces, desc_pieces, entry_pieces, next_arg_pieces, word_pieces}
-use Rattle.sg_entry_parse.specs.Pieces.{ArePlaced, EntryPiece, IsNumber, IsPositive, fixed, is_first_digit, name, number, piece_bytes, positive, printable}
+use Rattle.sg_entry_parse.specs.Entry.{AreShown, IsAnswer, IsWellFormed, answer_pieces, arg_pieces, args_pieces, bytes_pieces, desc_pieces, next_arg_pieces, word_pieces}
+use Rattle.sg_entry_parse.specs.Pieces.{ArePlaced, EntryPiece, IsNumber, IsPositive, fixed, is_first_digit, piece_bytes}
 use Rattle.sg_entry_parse.specs.Spelling.{Spelling}
 use Rattle.sg_entry_parse.specs.declared.tree.WrittenAnswer.{WrittenAnswer}
 use Rattle.sg_entry_parse.specs.declared.tree.WrittenAnswer.TheVariants.{Refused as refused, Ok as good}
@@ -30,13 +29,12 @@ use Rattle.sg_facts.specs.declared.shape.Kind.{Kind}
 use Rattle.sg_facts.specs.sg_base.Lists.{Each}
 use Rattle.sg_facts.specs.sg_base.Text.{is_text_byte}
 use Rattle.sg_facts.specs.sg_base.declared.call.Call.{Call}
-use Rattle.sg_facts.specs.sg_base.declared.reply.Good.{Good}
 use Rattle.sg_facts.specs.sg_base.declared.reply.Reply.{Reply}
 use Rattle.sg_facts.specs.sg_base.declared.reply.Reply.TheVariants.{Refused, Ok as ok}
 use Rattle.sg_facts.specs.sg_base.declared.value.Value.{Value}
 use Rattle.sg_facts.specs.sg_base.declared.value.Value.TheVariants.{Word, Text}
 use Rattle.sg_report.specs.Report.{shows_bytes, takes_id}
-use Rattle.sg_script.specs.Numbers.{is_known_client, is_text, value_of_digits}
+use Rattle.sg_script.specs.Numbers.{is_known_client, is_text}
 use Rattle.sg_script.specs.Scripts.{declared_fun}
 
 right : (a b : Bool) → a && b ≡ true → b ≡ true

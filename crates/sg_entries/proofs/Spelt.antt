@@ -1,5 +1,5 @@
 -- An entry without a flaw is printed as it is written.
-use Rattle.std.proofs.Common.{◌≡◌, ◌≢◌, inl, inr, ℕ, suc, ◌+◌, ◌*◌, ◌-◌, ◌^◌, ◌<◌, ◌≤◌, Bool, true, false, cond, not, List, [], ◌∷◌, ◌++◌, None, Some, Ok, length, get_or, map, refl, sym, ◌∙◌, ap, subst, append_assoc, append-nil, arith}
+use Rattle.std.proofs.Common.{◌≡◌, inl, inr, ℕ, ◌+◌, ◌*◌, ◌-◌, ◌^◌, ◌<◌, ◌≤◌, Bool, true, false, cond, not, List, [], ◌∷◌, ◌++◌, None, Some, length, map, refl, sym, ◌∙◌, ap, subst, append_assoc, append-nil, arith}
 use Rattle.std.specs.Prelude.{◌==◌, ◌&&◌, nat_le, codes, if◌then◌else◌}
 use Rattle.std.specs.Char.{is_ascii_digit}
 use Rattle.std.specs.Fmt.{decimal}
@@ -13,15 +13,14 @@ use Rattle.std.proofs.lemmas.Str.Parse.{FoldsDigits, IsDigitsTest, IsNumeralMode
 use Rattle.sg_entries.proofs.Flawless.{IsFlawless, args_words, back_none, each_entry, entries_few, fits_bits, flawless_parts, front_none, has_fun, is_true, made_of, not_flawed}
 use Rattle.sg_entries.proofs.Halves.{unmapped}
 use Rattle.sg_entries.proofs.Within.{each_back, each_front}
-use Rattle.sg_entries.specs.Flaws.{answer_flaws, arg_flaws, entry_flaws, flaws_from, in_line, number_flaws, optional_flaws, text_flaws, values_fit, word_flaws}
+use Rattle.sg_entries.specs.Flaws.{answer_flaws, arg_flaws, entry_flaws, flaws_from, in_line, optional_flaws, text_flaws, values_fit, word_flaws}
 use Rattle.sg_entries.specs.Lines.{entry_lines_of}
 use Rattle.sg_entries.specs.Printed.{AreTexts, IsShownReply, MayBePrinted, PrintsHistory}
 use Rattle.sg_entries.specs.Reads.{AreEntries, IsHistory}
 use Rattle.sg_entries.specs.Standing.{args_in, bytes_of, desc_of, entry_of, fun_of, id_in, number_of, reply_of, value_of}
 use Rattle.sg_entries.specs.declared.error.EntriesKind.TheVariants.{Limit}
 use Rattle.sg_entry_parse.specs.Codes.{code_name as written_code}
-use Rattle.sg_entry_parse.specs.Entry.{AreShown, IsAnswer, IsEntry, answer_pieces, arg_pieces, args_pieces, bytes_pieces, desc_pieces, entry_bytes, entry_pieces, next_arg_pieces, shows_bytes as shows, word_pieces}
-use Rattle.sg_entry_parse.specs.Parses.{EntryParses}
+use Rattle.sg_entry_parse.specs.Entry.{AreShown, IsAnswer, IsEntry, answer_pieces, arg_pieces, args_pieces, bytes_pieces, desc_pieces, entry_pieces, next_arg_pieces, shows_bytes as shows, word_pieces}
 use Rattle.sg_entry_parse.specs.Pieces.{ArePlaced, EntryPiece, IsNumber, IsPiece, IsPositive, fixed, name, number, piece_bytes, positive, printable}
 use Rattle.sg_entry_parse.specs.Spelling.{Spelling}
 use Rattle.sg_entry_parse.specs.declared.tree.WrittenAnswer.{WrittenAnswer}
@@ -40,8 +39,8 @@ use Rattle.sg_facts.specs.sg_base.declared.reply.Code.{Code}
 use Rattle.sg_facts.specs.sg_base.declared.reply.Code.TheVariants.{NoDesc, NoParent, BadState, HasChildren, Full, NotOwner, Held, Occupied, NotFound, Overflow, Gap, TooBig, BadName}
 use Rattle.sg_facts.specs.sg_base.declared.value.Value.{Value}
 use Rattle.sg_facts.specs.sg_base.declared.value.Value.TheVariants.{Word, Text}
-use Rattle.sg_report.specs.Report.{call_text, code_name, entry_line, listed, next_value, quoted, reply_text, shows_bytes, takes_id, value_text}
-use Rattle.sg_script.specs.Numbers.{is_known_client, is_text, value_of_digits}
+use Rattle.sg_report.specs.Report.{code_name, entry_line, listed, next_value, quoted, reply_text, shows_bytes, takes_id, value_text}
+use Rattle.sg_script.specs.Numbers.{is_text, value_of_digits}
 
 -- ---- numbers
 
