@@ -3,6 +3,7 @@ pub mod Cutting
 pub mod Flawless
 pub mod Halves
 pub mod Made
+pub mod Ordered
 pub mod Rewritten
 pub mod Spelt
 pub mod Unique
