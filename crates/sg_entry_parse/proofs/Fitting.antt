@@ -1,5 +1,5 @@
 -- The states of a line fit: each can be ended, and its choices exclude one another.
-use Rattle.std.proofs.Common.{◌≡◌, ℕ, zero, suc, ◌+◌, inl, inr, ◌==◌, Bool, true, false, if◌then◌else◌, List, [], ◌∷◌, ◌++◌, refl, sym, ap, subst, ◌∙◌, eqb-true, eq-eqb, append_assoc}
+use Rattle.std.proofs.Common.{◌≡◌, ℕ, zero, suc, ◌+◌, inl, inr, ◌==◌, Bool, true, false, if◌then◌else◌, List, [], ◌∷◌, ◌++◌, refl, sym, ap, subst, ◌∙◌, eqb-true, eq-eqb}
 use Rattle.std.specs.Prelude.{None, Some, codes}
 use Rattle.std.specs.declared.option.Option.{Option}
 use Rattle.std.specs.Char.{is_ascii_digit}
@@ -15,13 +15,12 @@ use Rattle.sg_entry_parse.specs.declared.tree.WrittenAnswer.TheVariants.{Refused
 use Rattle.sg_entry_parse.specs.declared.tree.WrittenEntry.{WrittenEntry}
 use Rattle.sg_entry_parse.specs.Spelling.{Spelling}
 use Rattle.sg_entry_parse.specs.Codes.{code_name}
-use Rattle.sg_entry_parse.specs.Pieces.{fixed}
 use Rattle.sg_entry_parse.specs.Entry.{quote_byte, shows_bytes}
 use Rattle.sg_entry_parse.specs.Inside.CodeWords.{begins_code}
 use Rattle.sg_entry_parse.specs.Inside.States.{EntryState, done, first, orelse, run, listed, coded, byte, bytes, positive, number, name, text_rest, text, argument, bracketed, comma_rest, words, words_and_bytes, given, answered, call_rest, client_rest, entry_start, step}
 use Rattle.sg_entry_parse.proofs.Basics.{none_some, if_else, chosen, not_both}
 use Rattle.sg_entry_parse.proofs.Words.{begun_word}
-use Rattle.sg_entry_parse.proofs.Pieces.{Goes, fixed_join, none_fixed}
+use Rattle.sg_entry_parse.proofs.Front.{fixed_join, none_fixed}
 use Rattle.sg_entry_parse.proofs.Lang.{Lang, Blind, Fits}
 
 -- ---- no step by a byte of a class
@@ -87,10 +86,11 @@ fits_text k h = ((quote_byte, refl), λ at c t. fits_text_rest (at + 1) k h)
 
 fits_argument : (k : WrittenArg → EntryState) → ((a : WrittenArg) → Fits (k a) × Blind is_ascii_digit (k a)) → Fits (argument k)
 unfolding step
-fits_argument k h =
-    (λ at c t. fits_text_rest (at + 1) (λ t. k (text_arg t)) (λ t. (h (text_arg t)).0),
-    fits_number (λ n. k (number_arg n)) (λ n. h (number_arg n)),
-    blind_at quote_byte (number (λ n. k (number_arg n))) (λ at. refl))
+fits_argument k h = (
+  λ at c t. fits_text_rest (at + 1) (λ t. k (text_arg t)) (λ t. (h (text_arg t)).0),
+  fits_number (λ n. k (number_arg n)) (λ n. h (number_arg n)),
+  blind_at quote_byte (number (λ n. k (number_arg n))) (λ at. refl),
+)
 
 fits_comma : (args : List WrittenArg) (k : List WrittenArg → EntryState) → ((all : List WrittenArg) → Fits (k all)) → Fits (comma_rest args k)
 fits_comma args k h =
@@ -98,56 +98,64 @@ fits_comma args k h =
 
 fits_bracketed : (k : List WrittenArg → EntryState) → ((all : List WrittenArg) → Fits (k all)) → Fits (bracketed k)
 unfolding step
-fits_bracketed k h =
-    (λ at c t. h [], fits_argument (λ a. listed (a ∷ []) k) (λ a. (h, blind_listed (a ∷ []) k)),
-    blind_at close_bracket_byte (argument (λ a. listed (a ∷ []) k)) (λ at. refl))
+fits_bracketed k h = (
+  λ at c t. h [],
+  fits_argument (λ a. listed (a ∷ []) k) (λ a. (h, blind_listed (a ∷ []) k)),
+  blind_at close_bracket_byte (argument (λ a. listed (a ∷ []) k)) (λ at. refl),
+)
 
 -- ---- answers
 
 fits_words : (n : ℕ) (desc : Option Spelling) (read : List Spelling) (k : WrittenAnswer → WrittenEntry)
     → Fits (words n desc read k) × Blind is_ascii_digit (words n desc read k)
+unfolding words
 fits_words zero desc read k = (tt, blind_done is_ascii_digit (k (Ok desc read None)))
 fits_words (suc n) desc read k =
-    let d = done (k (Ok desc read None)) in
-    ((λ at c t. fits_number (λ w. words n desc (read ++ w ∷ []) k) (λ w. fits_words n desc (read ++ w ∷ []) k), tt, blind_done (λ c. c == 0x20) (k (Ok desc read None))),
-    blind_else is_ascii_digit 0x20 (λ place c. number (λ w. words n desc (read ++ w ∷ []) k)) d refl (blind_done is_ascii_digit (k (Ok desc read None))))
+    let d = done (k (Ok desc read None)) in (
+      (λ at c t. fits_number (λ w. words n desc (read ++ w ∷ []) k) (λ w. fits_words n desc (read ++ w ∷ []) k), tt, blind_done (λ c. c == 0x20) (k (Ok desc read None))),
+      blind_else is_ascii_digit 0x20 (λ place c. number (λ w. words n desc (read ++ w ∷ []) k)) d refl (blind_done is_ascii_digit (k (Ok desc read None))),
+    )
 
 fits_words_and_bytes : (n : ℕ) (desc : Option Spelling) (read : List Spelling) (k : WrittenAnswer → WrittenEntry) → Fits (words_and_bytes n desc read k)
-unfolding step
+unfolding step words_and_bytes
 fits_words_and_bytes zero desc read k = fits_text (λ t. done (k (Ok desc read (Some t)))) (λ t. tt)
 fits_words_and_bytes (suc n) desc read k =
-    let go : Spelling → EntryState = λ w. byte 0x20 (words_and_bytes n desc (read ++ w ∷ []) k) in
-    (λ at c t. fits_text_rest (at + 1) (λ t. done (k (Ok desc read (Some t)))) (λ t. tt),
-    fits_number go (λ w. (fits_byte 0x20 (words_and_bytes n desc (read ++ w ∷ []) k) (fits_words_and_bytes n desc (read ++ w ∷ []) k), blind_byte is_ascii_digit 0x20 _ refl)),
-    blind_at quote_byte (number go) (λ at. refl))
+    let go : Spelling → EntryState = λ w. byte 0x20 (words_and_bytes n desc (read ++ w ∷ []) k) in (
+      λ at c t. fits_text_rest (at + 1) (λ t. done (k (Ok desc read (Some t)))) (λ t. tt),
+      fits_number go (λ w. (fits_byte 0x20 (words_and_bytes n desc (read ++ w ∷ []) k) (fits_words_and_bytes n desc (read ++ w ∷ []) k), blind_byte is_ascii_digit 0x20 _ refl)),
+      blind_at quote_byte (number go) (λ at. refl),
+    )
 
 fits_given : (shown : Bool) (k : WrittenAnswer → WrittenEntry) → Fits (given shown k)
-unfolding step
+unfolding step given words words_and_bytes
 fits_given true k =
     let go : Spelling → EntryState = λ d. byte 0x20 (words_and_bytes 4 (Some d) [] k) in
     let each : (d : Spelling) → Fits (go d) × Blind is_ascii_digit (go d) =
-        λ d. (fits_byte 0x20 (words_and_bytes 4 (Some d) [] k) (fits_words_and_bytes 4 (Some d) [] k), blind_byte is_ascii_digit 0x20 (words_and_bytes 4 (Some d) [] k) refl) in
+    λ d. (fits_byte 0x20 (words_and_bytes 4 (Some d) [] k) (fits_words_and_bytes 4 (Some d) [] k), blind_byte is_ascii_digit 0x20 (words_and_bytes 4 (Some d) [] k) refl) in
     fits_byte 0x20 (orelse (λ c. c == 0x23) (λ place c. positive go) (words_and_bytes 4 None [] k))
     (λ at c t. fits_positive go each, fits_words_and_bytes 4 None [] k, blind_at 0x23 (words_and_bytes 4 None [] k) (λ at. refl))
 fits_given false k =
-    let go : Spelling → EntryState = λ w. words 3 None (w ∷ []) k in
-    (λ at c t. (λ at c t. fits_positive (λ d. words 4 (Some d) [] k) (λ d. fits_words 4 (Some d) [] k), fits_number go (λ w. fits_words 3 None (w ∷ []) k), blind_at 0x23 (number go) (λ at. refl)),
-    tt, blind_done (λ c. c == 0x20) (k (Ok None [] None)))
+    let go : Spelling → EntryState = λ w. words 3 None (w ∷ []) k in (
+      λ at c t. (λ at c t. fits_positive (λ d. words 4 (Some d) [] k) (λ d. fits_words 4 (Some d) [] k), fits_number go (λ w. fits_words 3 None (w ∷ []) k), blind_at 0x23 (number go) (λ at. refl)),
+      tt,
+      blind_done (λ c. c == 0x20) (k (Ok None [] None)),
+    )
 
 fits_answered : (shown : Bool) (k : WrittenAnswer → WrittenEntry) → Fits (answered shown k)
 unfolding step
 fits_answered shown k =
-    let coded_one = coded [] (λ code. k (Refused code)) in
-    (λ at c t. fits_byte 0x6B (given shown k) (fits_given shown k),
-    fits_bytes (codes "refused ") coded_one (NoDesc, code_name NoDesc, refl),
-    blind_at 0x6F (bytes (codes "refused ") coded_one) (λ at. refl))
+    let coded_one = coded [] (λ code. k (Refused code)) in (
+      λ at c t. fits_byte 0x6B (given shown k) (fits_given shown k),
+      fits_bytes (codes "refused ") coded_one (NoDesc, code_name NoDesc, refl),
+      blind_at 0x6F (bytes (codes "refused ") coded_one) (λ at. refl),
+    )
 
 -- ---- entries
 
 fits_call : (client seq function : Spelling) → Fits (call_rest client seq function)
 fits_call client seq function =
     let end : List WrittenArg → WrittenAnswer → WrittenEntry =
-        λ args answer. record { client = client; seq = seq; name = function; args = args; answer = answer } in
+    λ args answer. record { client = client; seq = seq; name = function; args = args; answer = answer } in
     let go : List WrittenArg → EntryState = λ args. bytes (codes " = ") (answered (shows_bytes function.bytes) (end args)) in
     fits_byte open_bracket_byte (bracketed go) (fits_bracketed go (λ args. fits_bytes (codes " = ") (answered (shows_bytes function.bytes) (end args)) (fits_answered (shows_bytes function.bytes) (end args))))
 
@@ -155,8 +163,10 @@ fits_client : (client : Spelling) → Fits (client_rest client)
 fits_client client =
     fits_byte 0x2E (number (λ seq. byte 0x20 (name (call_rest client seq))))
     (fits_number (λ seq. byte 0x20 (name (call_rest client seq)))
-    (λ seq. (fits_byte 0x20 (name (call_rest client seq)) (fits_name (call_rest client seq) (λ function. (fits_call client seq function, blind_byte is_in_word open_bracket_byte _ refl))),
-    blind_byte is_ascii_digit 0x20 _ refl)))
+    (λ seq. (
+      fits_byte 0x20 (name (call_rest client seq)) (fits_name (call_rest client seq) (λ function. (fits_call client seq function, blind_byte is_in_word open_bracket_byte _ refl))),
+      blind_byte is_ascii_digit 0x20 _ refl,
+    )))
 
 pub fits_start : Fits entry_start
 fits_start = fits_byte 0x63 (number client_rest) (fits_number client_rest (λ client. (fits_client client, blind_byte is_ascii_digit 0x2E _ refl)))

@@ -1,21 +1,16 @@
 -- What lines a state reads, and that a step goes on to just them.
-use Rattle.std.proofs.Common.{◌≡◌, ℕ, zero, suc, ◌+◌, ◌⊎◌, inl, inr, ◌==◌, Bool, true, false, List, [], ◌∷◌, ◌++◌, length, take, refl, sym, ap, subst, ◌∙◌, append_assoc, arith}
-use Rattle.std.specs.Prelude.{None, Some}
-use Rattle.std.specs.declared.option.Option.{Option}
-use Rattle.std.proofs.lemmas.List.{append-nil}
-use Rattle.std.proofs.lemmas.Bool.{cases_Bool, eqb-true}
+use Rattle.std.proofs.Common.{◌≡◌, ℕ, zero, suc, ◌+◌, ◌⊎◌, Bool, true, List, [], ◌∷◌, ◌++◌}
+use Rattle.std.specs.Prelude.{None}
 use Rattle.sg_base.specs.declared.reply.Code.{Code}
-use Rattle.sg_lex.specs.Marks.{open_bracket_byte, close_bracket_byte, comma_byte}
+use Rattle.sg_lex.specs.Marks.{close_bracket_byte}
 use Rattle.sg_entry_parse.specs.declared.tree.WrittenArg.{WrittenArg}
 use Rattle.sg_entry_parse.specs.declared.tree.WrittenEntry.{WrittenEntry}
 use Rattle.sg_entry_parse.specs.Spelling.{Spelling}
 use Rattle.sg_entry_parse.specs.Codes.{code_name}
-use Rattle.sg_entry_parse.specs.Pieces.{EntryPiece, fixed}
+use Rattle.sg_entry_parse.specs.Pieces.{fixed}
 use Rattle.sg_entry_parse.specs.Entry.{next_arg_pieces}
-use Rattle.sg_entry_parse.specs.Inside.CodeWords.{code_of, begins_code}
-use Rattle.sg_entry_parse.specs.Inside.States.{EntryState, done, first, orelse, run, listed, coded, comma_rest, step, entry_at}
-use Rattle.sg_entry_parse.proofs.Basics.{some_is, none_some, if_then, if_else, chosen, not_both}
-use Rattle.sg_entry_parse.proofs.Pieces.{Goes}
+use Rattle.sg_entry_parse.specs.Inside.States.{EntryState, done, first, orelse, run, listed, coded, step}
+use Rattle.sg_entry_parse.proofs.Front.{Goes}
 
 -- so many bytes of the class, and then this of them all
 abbrev pub Ran : (ℕ → Bool) → ℕ → (List ℕ → ℕ → List ℕ → Type 0) → List ℕ → ℕ → List ℕ → Type 0

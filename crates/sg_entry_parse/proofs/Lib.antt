@@ -1,9 +1,10 @@
-pub mod Answer
 pub mod Basics
+pub mod ByByte
 pub mod Fitting
+pub mod Front
 pub mod Lang
+pub mod OneAnswer
 pub mod Parts
-pub mod Pieces
 pub mod Reading
 pub mod Steps
 pub mod Whole

@@ -1,19 +1,19 @@
 -- The lines that a state reads which wants a part of an entry: they begin with the part's pieces.
-use Rattle.std.proofs.Common.{◌≡◌, ℕ, zero, suc, ◌+◌, ◌⊎◌, inl, inr, ◌==◌, Bool, true, false, List, [], ◌∷◌, ◌++◌, length, refl, sym, ap, subst, ◌∙◌, append_assoc, arith, eqb-true, eq-eqb}
+use Rattle.std.proofs.Common.{◌≡◌, ℕ, zero, suc, ◌+◌, inl, inr, ◌==◌, Bool, true, List, [], ◌∷◌, ◌++◌, length, refl, sym, ap, subst, append_assoc, arith, eqb-true, eq-eqb}
 use Rattle.std.specs.Char.{is_ascii_digit}
 use Rattle.std.specs.List.{list_all}
 use Rattle.std.proofs.lemmas.List.{append-nil}
 use Rattle.std.proofs.lemmas.Bool.{and_parts, and_from}
 use Rattle.sg_base.specs.Text.{is_text_byte}
-use Rattle.sg_lex.specs.Bytes.{begins_word, is_in_word}
+use Rattle.sg_lex.specs.Bytes.{is_in_word}
 use Rattle.sg_entry_parse.specs.declared.tree.WrittenArg.{WrittenArg}
 use Rattle.sg_entry_parse.specs.declared.tree.WrittenArg.TheVariants.{Number as number_arg, Text as text_arg}
 use Rattle.sg_entry_parse.specs.declared.tree.WrittenEntry.{WrittenEntry}
 use Rattle.sg_entry_parse.specs.Spelling.{Spelling}
-use Rattle.sg_entry_parse.specs.Pieces.{EntryPiece, fixed, number as number_piece, positive as positive_piece, name as name_piece, printable, IsNumber, IsPositive, IsName, IsPrintable}
+use Rattle.sg_entry_parse.specs.Pieces.{EntryPiece, fixed, number as number_piece, positive as positive_piece, name as name_piece, printable, IsNumber, IsPositive, IsName}
 use Rattle.sg_entry_parse.specs.Entry.{quote_byte, text_pieces, arg_pieces}
 use Rattle.sg_entry_parse.specs.Inside.States.{EntryState, orelse, byte, bytes, positive, number, name, text_rest, text, argument}
-use Rattle.sg_entry_parse.proofs.Pieces.{Goes, join, cut, over, one_goes, goes_one, fixed_cut, fixed_join, fixed_none, none_fixed}
+use Rattle.sg_entry_parse.proofs.Front.{Goes, join, cut, one_goes, goes_one, fixed_cut, fixed_join, fixed_none, none_fixed}
 use Rattle.sg_entry_parse.proofs.Lang.{Lang, Ran}
 
 -- what holds at a state holds in its lines
@@ -58,9 +58,13 @@ ran_to p zero R read at bs h =
 ran_to p (suc n) R read at [] h = absurd h
 ran_to p (suc n) R read at (b ∷ bs) h =
     let g = ran_to p n R (read ++ b ∷ []) (at + 1) bs h.1 in
-    let e : (at + 1) + length g.0 ≡ at + length (b ∷ g.0) = omega arith in
-    (b ∷ g.0, g.1, ap (λ v. b ∷ v) g.2, and_from (p b) (list_all p g.0) h.0 g.3,
-    subst (λ v. R v (at + length (b ∷ g.0)) g.1) (append_assoc read (b ∷ []) g.0) (subst (λ v. R ((read ++ b ∷ []) ++ g.0) v g.1) e g.4))
+    let e : (at + 1) + length g.0 ≡ at + length (b ∷ g.0) = omega arith in (
+      b ∷ g.0,
+      g.1,
+      ap (λ v. b ∷ v) g.2,
+      and_from (p b) (list_all p g.0) h.0 g.3,
+      subst (λ v. R v (at + length (b ∷ g.0)) g.1) (append_assoc read (b ∷ []) g.0) (subst (λ v. R ((read ++ b ∷ []) ++ g.0) v g.1) e g.4),
+    )
 
 pub ran_from : (p : ℕ → Bool) (more rest : List ℕ) (R : List ℕ → ℕ → List ℕ → Type 0) (read : List ℕ) (at : ℕ) → list_all p more ≡ true
     → R (read ++ more) (at + length more) rest → Ran p (length more) R read at (more ++ rest)
@@ -69,9 +73,11 @@ ran_from p [] rest R read at a h =
     subst (λ v. R v at rest) (append-nil read) (subst (λ v. R (read ++ []) v rest) (sym e) h)
 ran_from p (b ∷ more) rest R read at a h =
     let e : (at + 1) + length more ≡ at + length (b ∷ more) = omega arith in
-    let parts = and_parts (p b) (list_all p more) a in
-    (parts.0, ran_from p more rest R (read ++ b ∷ []) (at + 1) parts.1
-    (subst (λ v. R v ((at + 1) + length more) rest) (sym (append_assoc read (b ∷ []) more)) (subst (λ v. R (read ++ b ∷ more) v rest) (sym e) h)))
+    let parts = and_parts (p b) (list_all p more) a in (
+      parts.0,
+      ran_from p more rest R (read ++ b ∷ []) (at + 1) parts.1
+          (subst (λ v. R v ((at + 1) + length more) rest) (sym (append_assoc read (b ∷ []) more)) (subst (λ v. R (read ++ b ∷ more) v rest) (sym e) h)),
+    )
 
 -- ---- numbers and names
 
@@ -81,17 +87,24 @@ positive_to k v at [] h = absurd h
 positive_to k v at (c ∷ cs) h =
     let g = ran_to is_ascii_digit h.1.0 (λ ds. Lang (k (record { bytes = ds; at = at })) v) (c ∷ []) (at + 1) cs h.1.1 in
     let n : Spelling = record { bytes = c ∷ g.0; at = at } in
-    let e : (at + 1) + length g.0 ≡ at + length (c ∷ g.0) = omega arith in
-    (n, subst (λ x. Goes (positive_piece n ∷ []) (Lang (k n) v) at (c ∷ x)) (sym g.2)
-    (one_goes (positive_piece n) (Lang (k n) v) at g.1 ((h.0, g.3), refl) (subst (λ x. Lang (k n) v x g.1) e g.4)))
+    let e : (at + 1) + length g.0 ≡ at + length (c ∷ g.0) = omega arith in (
+      n,
+      subst (λ x. Goes (positive_piece n ∷ []) (Lang (k n) v) at (c ∷ x)) (sym g.2)
+          (one_goes (positive_piece n) (Lang (k n) v) at g.1 ((h.0, g.3), refl) (subst (λ x. Lang (k n) v x g.1) e g.4)),
+    )
 
 positive_of : (k : Spelling → EntryState) (v : WrittenEntry) (at : ℕ) (ds rest : List ℕ) → IsPositive ds
     → Lang (k (record { bytes = ds; at = at })) v (at + length ds) rest → Lang (positive k) v at (ds ++ rest)
 positive_of k v at [] rest is l = absurd is
 positive_of k v at (c ∷ more) rest is l =
-    let e : (at + 1) + length more ≡ at + length (c ∷ more) = omega arith in
-    (is.0, (length more, ran_from is_ascii_digit more rest (λ ds. Lang (k (record { bytes = ds; at = at })) v) (c ∷ []) (at + 1) is.1
-    (subst (λ x. Lang (k (record { bytes = c ∷ more; at = at })) v x rest) (sym e) l)))
+    let e : (at + 1) + length more ≡ at + length (c ∷ more) = omega arith in (
+      is.0,
+      (
+        length more,
+        ran_from is_ascii_digit more rest (λ ds. Lang (k (record { bytes = ds; at = at })) v) (c ∷ []) (at + 1) is.1
+            (subst (λ x. Lang (k (record { bytes = c ∷ more; at = at })) v x rest) (sym e) l),
+      ),
+    )
 
 number_of : (k : Spelling → EntryState) (v : WrittenEntry) (at : ℕ) (ds rest : List ℕ) → IsNumber ds
     → Lang (k (record { bytes = ds; at = at })) v (at + length ds) rest → Lang (number k) v at (ds ++ rest)
@@ -134,17 +147,24 @@ name_to k v at [] h = absurd h
 name_to k v at (c ∷ cs) h =
     let g = ran_to is_in_word h.1.0 (λ ds. Lang (k (record { bytes = ds; at = at })) v) (c ∷ []) (at + 1) cs h.1.1 in
     let n : Spelling = record { bytes = c ∷ g.0; at = at } in
-    let e : (at + 1) + length g.0 ≡ at + length (c ∷ g.0) = omega arith in
-    (n, subst (λ x. Goes (name_piece n ∷ []) (Lang (k n) v) at (c ∷ x)) (sym g.2)
-    (one_goes (name_piece n) (Lang (k n) v) at g.1 ((h.0, g.3), refl) (subst (λ x. Lang (k n) v x g.1) e g.4)))
+    let e : (at + 1) + length g.0 ≡ at + length (c ∷ g.0) = omega arith in (
+      n,
+      subst (λ x. Goes (name_piece n ∷ []) (Lang (k n) v) at (c ∷ x)) (sym g.2)
+          (one_goes (name_piece n) (Lang (k n) v) at g.1 ((h.0, g.3), refl) (subst (λ x. Lang (k n) v x g.1) e g.4)),
+    )
 
 name_of : (k : Spelling → EntryState) (v : WrittenEntry) (at : ℕ) (ds rest : List ℕ) → IsName ds
     → Lang (k (record { bytes = ds; at = at })) v (at + length ds) rest → Lang (name k) v at (ds ++ rest)
 name_of k v at [] rest is l = absurd is
 name_of k v at (c ∷ more) rest is l =
-    let e : (at + 1) + length more ≡ at + length (c ∷ more) = omega arith in
-    (is.0, (length more, ran_from is_in_word more rest (λ ds. Lang (k (record { bytes = ds; at = at })) v) (c ∷ []) (at + 1) is.1
-    (subst (λ x. Lang (k (record { bytes = c ∷ more; at = at })) v x rest) (sym e) l)))
+    let e : (at + 1) + length more ≡ at + length (c ∷ more) = omega arith in (
+      is.0,
+      (
+        length more,
+        ran_from is_in_word more rest (λ ds. Lang (k (record { bytes = ds; at = at })) v) (c ∷ []) (at + 1) is.1
+            (subst (λ x. Lang (k (record { bytes = c ∷ more; at = at })) v x rest) (sym e) l),
+      ),
+    )
 
 pub name_from : (k : Spelling → EntryState) (v : WrittenEntry) (n : Spelling) (R : ℕ → List ℕ → Type 0) (at : ℕ) (bs : List ℕ)
     → Goes (name_piece n ∷ []) R at bs → Into R (k n) v → Lang (name k) v at bs
@@ -162,30 +182,36 @@ pub closed_to : (k : Spelling → EntryState) (v : WrittenEntry) (at : ℕ) (bs 
     → (t : Spelling) × Goes (closed_pieces t) (Lang (k t) v) at bs
 closed_to k v at bs h =
     let g = ran_to is_text_byte h.0 (λ ds. Lang (byte quote_byte (k (record { bytes = ds; at = at }))) v) [] at bs h.1 in
-    let t : Spelling = record { bytes = g.0; at = at } in
-    (t, join (printable t ∷ []) (fixed (quote_byte ∷ []) ∷ []) (Lang (k t) v) at bs
-    (subst (Goes (printable t ∷ []) (Goes (fixed (quote_byte ∷ []) ∷ []) (Lang (k t) v)) at) (sym g.2)
-    (one_goes (printable t) (Goes (fixed (quote_byte ∷ []) ∷ []) (Lang (k t) v)) at g.1 (g.3, refl)
-    (byte_to quote_byte (k t) v (at + length g.0) g.1 g.4))))
+    let t : Spelling = record { bytes = g.0; at = at } in (
+      t,
+      join (printable t ∷ []) (fixed (quote_byte ∷ []) ∷ []) (Lang (k t) v) at bs
+          (subst (Goes (printable t ∷ []) (Goes (fixed (quote_byte ∷ []) ∷ []) (Lang (k t) v)) at) (sym g.2)
+          (one_goes (printable t) (Goes (fixed (quote_byte ∷ []) ∷ []) (Lang (k t) v)) at g.1 (g.3, refl)
+          (byte_to quote_byte (k t) v (at + length g.0) g.1 g.4))),
+    )
 
 pub closed_from : (k : Spelling → EntryState) (v : WrittenEntry) (t : Spelling) (R : ℕ → List ℕ → Type 0) (at : ℕ) (bs : List ℕ)
     → Goes (closed_pieces t) R at bs → Into R (k t) v → Lang (text_rest at k) v at bs
 closed_from k v t R at bs g f =
     let o = goes_one (printable t) (Goes (fixed (quote_byte ∷ []) ∷ []) R) at bs (cut (printable t ∷ []) (fixed (quote_byte ∷ []) ∷ []) R at bs g) in
     let l = byte_from quote_byte (k t) v R (at + length t.bytes) o.0 o.3 f in
-    subst (Lang (text_rest at k) v at) (sym o.1)
-    (length t.bytes, ran_from is_text_byte t.bytes o.0 (λ ds. Lang (byte quote_byte (k (record { bytes = ds; at = at }))) v) [] at o.2.0
-    (at_place (λ s. byte quote_byte (k s)) v t at (at + length t.bytes) o.0 o.2.1 l))
+    subst (Lang (text_rest at k) v at) (sym o.1) (
+      length t.bytes,
+      ran_from is_text_byte t.bytes o.0 (λ ds. Lang (byte quote_byte (k (record { bytes = ds; at = at }))) v) [] at o.2.0
+          (at_place (λ s. byte quote_byte (k s)) v t at (at + length t.bytes) o.0 o.2.1 l),
+    )
 
 -- a byte that is the first quote
 pub quoted_to : (k : Spelling → EntryState) (v : WrittenEntry) (at c : ℕ) (cs : List ℕ) → (c == quote_byte) ≡ true → Lang (text_rest (at + 1) k) v (at + 1) cs
     → (t : Spelling) × Goes (text_pieces t) (Lang (k t) v) at (c ∷ cs)
 quoted_to k v at c cs e h =
     let g = closed_to k v (at + 1) cs h in
-    let R : ℕ → List ℕ → Type 0 = Lang (k g.0) v in
-    (g.0, subst (λ x. Goes (text_pieces g.0) R at (x ∷ cs)) (sym (eqb-true c quote_byte e))
-    (join (fixed (quote_byte ∷ []) ∷ []) (closed_pieces g.0) R at (quote_byte ∷ cs)
-    (fixed_join quote_byte [] (Goes (closed_pieces g.0) R) at cs (none_fixed (Goes (closed_pieces g.0) R) (at + 1) cs g.1))))
+    let R : ℕ → List ℕ → Type 0 = Lang (k g.0) v in (
+      g.0,
+      subst (λ x. Goes (text_pieces g.0) R at (x ∷ cs)) (sym (eqb-true c quote_byte e))
+          (join (fixed (quote_byte ∷ []) ∷ []) (closed_pieces g.0) R at (quote_byte ∷ cs)
+          (fixed_join quote_byte [] (Goes (closed_pieces g.0) R) at cs (none_fixed (Goes (closed_pieces g.0) R) (at + 1) cs g.1))),
+    )
 
 pub text_to : (k : Spelling → EntryState) (v : WrittenEntry) (at : ℕ) (bs : List ℕ) → Lang (text k) v at bs
     → (t : Spelling) × Goes (text_pieces t) (Lang (k t) v) at bs

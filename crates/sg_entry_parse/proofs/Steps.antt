@@ -1,5 +1,5 @@
 -- A step of a state goes on to just the lines that the state reads, and the end to its entry.
-use Rattle.std.proofs.Common.{◌≡◌, ℕ, zero, suc, ◌+◌, ◌⊎◌, inl, inr, ◌==◌, Bool, true, false, List, [], ◌∷◌, ◌++◌, length, take, refl, sym, ap, subst, ◌∙◌, append_assoc, arith, eqb-true}
+use Rattle.std.proofs.Common.{◌≡◌, ℕ, zero, suc, ◌+◌, inl, inr, ◌==◌, List, [], ◌∷◌, ◌++◌, refl, sym, ap, subst, ◌∙◌, append_assoc, eqb-true}
 use Rattle.std.specs.Prelude.{None, Some}
 use Rattle.std.specs.declared.option.Option.{Option}
 use Rattle.std.specs.Option.{option_map}
@@ -9,16 +9,15 @@ use Rattle.sg_base.specs.declared.reply.Code.{Code}
 use Rattle.sg_lex.specs.Marks.{close_bracket_byte, comma_byte}
 use Rattle.sg_entry_parse.specs.declared.tree.WrittenArg.{WrittenArg}
 use Rattle.sg_entry_parse.specs.declared.tree.WrittenEntry.{WrittenEntry}
-use Rattle.sg_entry_parse.specs.Spelling.{Spelling}
 use Rattle.sg_entry_parse.specs.Codes.{code_name}
-use Rattle.sg_entry_parse.specs.Pieces.{EntryPiece, fixed}
-use Rattle.sg_entry_parse.specs.Entry.{arg_pieces, next_arg_pieces}
+use Rattle.sg_entry_parse.specs.Pieces.{fixed}
+use Rattle.sg_entry_parse.specs.Entry.{arg_pieces}
 use Rattle.sg_entry_parse.specs.Inside.CodeWords.{code_of, begins_code}
-use Rattle.sg_entry_parse.specs.Inside.States.{EntryState, done, first, orelse, run, listed, coded, byte, argument, comma_rest, step, entry_at}
-use Rattle.sg_entry_parse.proofs.Basics.{some_is, none_some, if_then, if_else, chosen, not_both}
-use Rattle.sg_entry_parse.proofs.Words.{begun_word, word_begun, word_read, read_word}
-use Rattle.sg_entry_parse.proofs.Pieces.{Goes, join, cut, over, fixed_cut, fixed_join, fixed_none, none_fixed}
-use Rattle.sg_entry_parse.proofs.Lang.{Lang, Ran, Listed, Blind, Fits}
+use Rattle.sg_entry_parse.specs.Inside.States.{EntryState, done, first, orelse, run, listed, coded, argument, comma_rest, step, entry_at}
+use Rattle.sg_entry_parse.proofs.Basics.{some_is, none_some, if_then, if_else, chosen}
+use Rattle.sg_entry_parse.proofs.Words.{word_begun, word_read, read_word}
+use Rattle.sg_entry_parse.proofs.Front.{Goes, join, cut, over, fixed_cut, fixed_join, fixed_none, none_fixed}
+use Rattle.sg_entry_parse.proofs.Lang.{Lang, Listed, Fits}
 use Rattle.sg_entry_parse.proofs.Parts.{byte_to, byte_from, argument_to, argument_from}
 
 -- ---- arguments
@@ -29,7 +28,7 @@ comma_to : (args : List WrittenArg) (k : List WrittenArg → EntryState) (v : Wr
 comma_to args k v at bs h =
     let go : WrittenArg → EntryState = λ a. listed (args ++ a ∷ []) k in
     let spaced = over (fixed (0x20 ∷ []) ∷ []) (Lang (argument go) v) (λ x xs. (a : WrittenArg) × Goes (arg_pieces a) (Lang (go a) v) x xs) (at + 1) bs (argument_to go v)
-        (byte_to 0x20 (argument go) v (at + 1) bs h) in
+    (byte_to 0x20 (argument go) v (at + 1) bs h) in
     let a = spaced.holds.0 in
     let more = spaced.holds.1.holds.0 in
     let R : ℕ → List ℕ → Type 0 = Listed more (λ all. Lang (k all) v) (args ++ a ∷ []) in
@@ -42,9 +41,12 @@ comma_from : (a : WrittenArg) (more args : List WrittenArg) (k : List WrittenArg
 comma_from a more args k v at bs h =
     let R : ℕ → List ℕ → Type 0 = Listed more (λ all. Lang (k all) v) (args ++ a ∷ []) in
     let go : WrittenArg → EntryState = λ a. listed (args ++ a ∷ []) k in
-    let c = fixed_cut comma_byte (0x20 ∷ []) (Goes (arg_pieces a) R) at bs (cut (fixed (comma_byte ∷ 0x20 ∷ []) ∷ []) (arg_pieces a) R at bs h) in
-    (c.0, c.1, byte_from 0x20 (argument go) v (Goes (arg_pieces a) R) (at + 1) c.0 c.2
-    (λ x xs g. argument_from go v a R x xs g (λ y ys l. (more, l))))
+    let c = fixed_cut comma_byte (0x20 ∷ []) (Goes (arg_pieces a) R) at bs (cut (fixed (comma_byte ∷ 0x20 ∷ []) ∷ []) (arg_pieces a) R at bs h) in (
+      c.0,
+      c.1,
+      byte_from 0x20 (argument go) v (Goes (arg_pieces a) R) (at + 1) c.0 c.2
+          (λ x xs g. argument_from go v a R x xs g (λ y ys l. (more, l))),
+    )
 
 closed_to : (args : List WrittenArg) (k : List WrittenArg → EntryState) (v : WrittenEntry) (at : ℕ) (bs : List ℕ) → Lang (k args) v (at + 1) bs
     → Lang (listed args k) v at (close_bracket_byte ∷ bs)

@@ -1,22 +1,20 @@
 -- The automaton reads just the lines of entries, so what it reads is what may be answered.
-use Rattle.std.proofs.Common.{◌≡◌, ◌≢◌, ◌≤◌, ◌⊎◌, inl, inr, ℕ, zero, suc, ◌+◌, ◌==◌, Bool, true, false, List, [], ◌∷◌, ◌++◌, length, refl, sym, ap, subst, ◌∙◌, append_assoc, arith, eqb-true}
-use Rattle.std.specs.Prelude.{None, Some, Ok, Err, codes}
+use Rattle.std.proofs.Common.{◌≡◌, ◌≤◌, inl, inr, ℕ, zero, suc, ◌+◌, ◌==◌, Bool, true, false, List, [], ◌∷◌, ◌++◌, length, refl, sym, ap, subst, ◌∙◌, append_assoc, arith, eqb-true}
+use Rattle.std.specs.Prelude.{None, Some, codes}
 use Rattle.std.specs.declared.option.Option.{Option}
-use Rattle.std.specs.declared.result.Result.{Result}
 use Rattle.std.specs.List.{flat_map}
 use Rattle.std.proofs.lemmas.List.{append-nil}
-use Rattle.sg_base.specs.declared.reply.Code.{Code}
-use Rattle.sg_lex.specs.Marks.{open_bracket_byte, close_bracket_byte, comma_byte}
+use Rattle.sg_lex.specs.Marks.{open_bracket_byte, close_bracket_byte}
 use Rattle.sg_entry_parse.specs.declared.tree.WrittenArg.{WrittenArg}
 use Rattle.sg_entry_parse.specs.declared.tree.WrittenAnswer.{WrittenAnswer}
 use Rattle.sg_entry_parse.specs.declared.tree.WrittenAnswer.TheVariants.{Refused as refused, Ok as gave}
 use Rattle.sg_entry_parse.specs.declared.tree.WrittenEntry.{WrittenEntry}
 use Rattle.sg_entry_parse.specs.Spelling.{Spelling}
 use Rattle.sg_entry_parse.specs.Codes.{code_name}
-use Rattle.sg_entry_parse.specs.Pieces.{EntryPiece, fixed, number as number_piece, positive as positive_piece, name as name_piece, printable, piece_bytes, ArePlaced}
+use Rattle.sg_entry_parse.specs.Pieces.{EntryPiece, fixed, number as number_piece, positive as positive_piece, name as name_piece}
 use Rattle.sg_entry_parse.specs.Entry.{quote_byte, text_pieces, arg_pieces, next_arg_pieces, args_pieces, desc_pieces, word_pieces, bytes_pieces, answer_pieces, entry_pieces, shows_bytes, AreShown, IsAnswer, IsEntry}
-use Rattle.sg_entry_parse.specs.Inside.States.{EntryState, done, first, orelse, run, listed, coded, byte, bytes, positive, number, name, text_rest, text, argument, bracketed, comma_rest, words, words_and_bytes, given, answered, call_rest, client_rest, entry_start}
-use Rattle.sg_entry_parse.proofs.Pieces.{Goes, flat, goes_none, none_goes, join, cut, over, one_goes, goes_one, fixed_cut, fixed_join, fixed_none, none_fixed}
+use Rattle.sg_entry_parse.specs.Inside.States.{EntryState, done, orelse, listed, coded, byte, bytes, positive, number, name, text_rest, argument, bracketed, words, words_and_bytes, given, answered, call_answer, call_rest, client_rest, entry_start}
+use Rattle.sg_entry_parse.proofs.Front.{Goes, flat, goes_none, none_goes, join, cut, over, one_goes, goes_one, fixed_cut, fixed_join, fixed_none, none_fixed}
 use Rattle.sg_entry_parse.proofs.Lang.{Lang, Listed}
 use Rattle.sg_entry_parse.proofs.Parts.{Into, byte_to, byte_from, bytes_to, bytes_from, positive_to, positive_from, number_to, number_from, name_to, name_from, text_to, text_from, quoted_to, quoted_from, argument_to, argument_from}
 
@@ -35,8 +33,8 @@ listed_to : (more args : List WrittenArg) (R : List WrittenArg → ℕ → List 
 listed_to [] args R at bs h = subst (λ v. Goes (fixed (close_bracket_byte ∷ []) ∷ []) (R v) at bs) (sym (append-nil args)) h
 listed_to (a ∷ more) args R at bs h =
     let g : Goes (next_arg_pieces a) (Goes (listed_pieces more) (R (args ++ a ∷ more))) at bs =
-        over (next_arg_pieces a) (Listed more R (args ++ a ∷ [])) (Goes (listed_pieces more) (R (args ++ a ∷ more))) at bs
-        (λ x xs l. subst (λ v. Goes (listed_pieces more) (R v) x xs) (append_assoc args (a ∷ []) more) (listed_to more (args ++ a ∷ []) R x xs l)) h in
+    over (next_arg_pieces a) (Listed more R (args ++ a ∷ [])) (Goes (listed_pieces more) (R (args ++ a ∷ more))) at bs
+    (λ x xs l. subst (λ v. Goes (listed_pieces more) (R v) x xs) (append_assoc args (a ∷ []) more) (listed_to more (args ++ a ∷ []) R x xs l)) h in
     subst (λ v. Goes v (R (args ++ a ∷ more)) at bs) (sym (append_assoc (next_arg_pieces a) (flat_map next_arg_pieces more) (fixed (close_bracket_byte ∷ []) ∷ [])))
     (join (next_arg_pieces a) (listed_pieces more) (R (args ++ a ∷ more)) at bs g)
 
@@ -63,9 +61,11 @@ bracketed_to k v at (c ∷ cs) (inr h) =
     let more = a.1.holds.0 in
     let R : ℕ → List ℕ → Type 0 = Lang (k (a.0 ∷ more)) v in
     let g : Goes (arg_pieces a.0) (Goes (listed_pieces more) R) at (c ∷ cs) =
-        record { placed = a.1.placed; rest = a.1.rest; all = a.1.all; holds = listed_to more (a.0 ∷ []) (λ all. Lang (k all) v) _ a.1.rest a.1.holds.1 } in
-    (a.0 ∷ more, subst (λ x. Goes x R at (c ∷ cs)) (sym (append_assoc (arg_pieces a.0) (flat_map next_arg_pieces more) (fixed (close_bracket_byte ∷ []) ∷ [])))
-    (join (arg_pieces a.0) (listed_pieces more) R at (c ∷ cs) g))
+    record { placed = a.1.placed; rest = a.1.rest; all = a.1.all; holds = listed_to more (a.0 ∷ []) (λ all. Lang (k all) v) _ a.1.rest a.1.holds.1 } in (
+      a.0 ∷ more,
+      subst (λ x. Goes x R at (c ∷ cs)) (sym (append_assoc (arg_pieces a.0) (flat_map next_arg_pieces more) (fixed (close_bracket_byte ∷ []) ∷ [])))
+          (join (arg_pieces a.0) (listed_pieces more) R at (c ∷ cs) g),
+    )
 
 -- what the last of a choice reads
 or_else : (s : EntryState) (p : ℕ → Bool) (g : ℕ → ℕ → EntryState) (v : WrittenEntry) (at : ℕ) (bs : List ℕ) → Lang s v at bs → Lang (orelse p g s) v at bs
@@ -85,7 +85,7 @@ bracketed_from k v [] R at bs g f =
     (inl (refl, f (at + 1) c.0 (fixed_none R (at + 1) c.0 c.2)))
 bracketed_from k v (a ∷ more) R at bs g f =
     let h = cut (arg_pieces a) (listed_pieces more) R at bs
-        (subst (λ x. Goes x R at bs) (append_assoc (arg_pieces a) (flat_map next_arg_pieces more) (fixed (close_bracket_byte ∷ []) ∷ [])) g) in
+    (subst (λ x. Goes x R at bs) (append_assoc (arg_pieces a) (flat_map next_arg_pieces more) (fixed (close_bracket_byte ∷ []) ∷ [])) g) in
     or_else (argument (λ a. listed (a ∷ []) k)) (λ c. c == close_bracket_byte) (λ place c. k []) v at bs
     (argument_from (λ a. listed (a ∷ []) k) v a (Goes (listed_pieces more) R) at bs h
     (λ x xs l. (more, listed_from more (a ∷ []) (λ all. Lang (k all) v) x xs (over (listed_pieces more) R (Lang (k (a ∷ more)) v) x xs f l))))
@@ -102,9 +102,6 @@ and_then : (ps qs : List EntryPiece) (P R : ℕ → List ℕ → Type 0) (at : �
 and_then ps qs P R at bs g h = join ps qs R at bs (onto ps P (Goes qs R) at bs g h)
 
 -- ---- words
-
-abbrev Final : WrittenEntry → WrittenEntry → ℕ → List ℕ → Type 0
-Final e v at bs = (bs ≡ []) × (e ≡ v)
 
 -- the pieces of words
 abbrev words_pieces : List Spelling → List EntryPiece
@@ -136,6 +133,7 @@ no_words n desc read k v at bs l =
 
 words_to : (n : ℕ) (desc : Option Spelling) (read : List Spelling) (k : WrittenAnswer → WrittenEntry) (v : WrittenEntry) (at : ℕ) (bs : List ℕ)
     → Lang (words n desc read k) v at bs → Words n desc read k v at bs
+unfolding words
 words_to zero desc read k v at bs l = no_words zero desc read k v at bs l
 words_to (suc n) desc read k v at [] l = no_words (suc n) desc read k v at [] l
 words_to (suc n) desc read k v at (c ∷ cs) (inr l) = no_words (suc n) desc read k v at (c ∷ cs) l
@@ -145,7 +143,7 @@ words_to (suc n) desc read k v at (c ∷ cs) (inl l) =
     let r = words_to n desc (read ++ w.0 ∷ []) k v place w.1.rest w.1.holds in
     let R : ℕ → List ℕ → Type 0 = Lang (done (k (gave desc (read ++ w.0 ∷ r.more) None))) v in
     let g : Goes (words_pieces r.more) R place w.1.rest =
-        subst (λ x. Goes (words_pieces r.more) (Lang (done (k (gave desc x None))) v) place w.1.rest) (append_assoc read (w.0 ∷ []) r.more) r.goes in
+    subst (λ x. Goes (words_pieces r.more) (Lang (done (k (gave desc x None))) v) place w.1.rest) (append_assoc read (w.0 ∷ []) r.more) r.goes in
     record {
       more = w.0 ∷ r.more;
       few = (let e = r.few in omega arith);
@@ -162,6 +160,7 @@ word_cut w ps R at bs g =
 words_from : (n : ℕ) (more : List Spelling) (desc : Option Spelling) (read : List Spelling) (k : WrittenAnswer → WrittenEntry) (v : WrittenEntry)
     (R : ℕ → List ℕ → Type 0) (at : ℕ) (bs : List ℕ) → length more ≤ n → Goes (words_pieces more) R at bs → Into R (done (k (gave desc (read ++ more) None))) v
     → Lang (words n desc read k) v at bs
+unfolding words
 words_from zero [] desc read k v R at bs few g f =
     subst (λ x. Lang (done (k (gave desc x None))) v at bs) (append-nil read) (f at bs (none_goes R at bs g))
 words_from zero (w ∷ more) desc read k v R at bs few g f = absurd (omega arith)
@@ -172,9 +171,12 @@ words_from (suc n) (w ∷ more) desc read k v R at bs few g f =
     let c = word_cut w (words_pieces more) R at bs g in
     let less : length more ≤ n = (let e : suc (length more) ≤ suc n = few in omega arith) in
     subst (Lang (words (suc n) desc read k) v at) (sym c.1)
-    (inl (refl, number_from (λ w. words n desc (read ++ w ∷ []) k) v w (Goes (words_pieces more) R) (at + 1) c.0 c.2
-    (λ x xs h. words_from n more desc (read ++ w ∷ []) k v R x xs less h
-    (subst (λ y. Into R (done (k (gave desc y None))) v) (sym (append_assoc read (w ∷ []) more)) f))))
+    (inl (
+      refl,
+      number_from (λ w. words n desc (read ++ w ∷ []) k) v w (Goes (words_pieces more) R) (at + 1) c.0 c.2
+          (λ x xs h. words_from n more desc (read ++ w ∷ []) k v R x xs less h
+          (subst (λ y. Into R (done (k (gave desc y None))) v) (sym (append_assoc read (w ∷ []) more)) f)),
+    ))
 
 -- ---- words and bytes
 
@@ -193,7 +195,7 @@ spaced_text : (n : ℕ) (desc : Option Spelling) (read : List Spelling) (k : Wri
 spaced_text n desc read k v at c cs e t =
     let R : ℕ → List ℕ → Type 0 = Lang (done (k (gave desc (read ++ []) (Some t.0)))) v in
     let g : Goes (text_pieces t.0) R (at + 1) cs =
-        subst (λ x. Goes (text_pieces t.0) (Lang (done (k (gave desc x (Some t.0)))) v) (at + 1) cs) (sym (append-nil read)) t.1 in
+    subst (λ x. Goes (text_pieces t.0) (Lang (done (k (gave desc x (Some t.0)))) v) (at + 1) cs) (sym (append-nil read)) t.1 in
     record {
       more = [];
       bytes = t.0;
@@ -205,6 +207,7 @@ spaced_text n desc read k v at c cs e t =
 
 shown_to : (n : ℕ) (desc : Option Spelling) (read : List Spelling) (k : WrittenAnswer → WrittenEntry) (v : WrittenEntry) (at : ℕ) (bs : List ℕ)
     → Lang (byte 0x20 (words_and_bytes n desc read k)) v at bs → Shown n desc read k v at bs
+unfolding words_and_bytes
 shown_to n desc read k v at [] l = absurd l
 shown_to zero desc read k v at (c ∷ cs) l =
     spaced_text zero desc read k v at c cs l.0 (text_to (λ t. done (k (gave desc read (Some t)))) v (at + 1) cs l.1)
@@ -218,7 +221,7 @@ shown_to (suc n) desc read k v at (c ∷ d ∷ ds) (e, inr l) =
     let r = shown_to n desc (read ++ w.0 ∷ []) k v place w.1.rest w.1.holds in
     let R : ℕ → List ℕ → Type 0 = Lang (done (k (gave desc (read ++ w.0 ∷ r.more) (Some r.bytes)))) v in
     let g : Goes (shown_pieces r.more r.bytes) R place w.1.rest =
-        subst (λ x. Goes (shown_pieces r.more r.bytes) (Lang (done (k (gave desc x (Some r.bytes)))) v) place w.1.rest) (append_assoc read (w.0 ∷ []) r.more) r.goes in
+    subst (λ x. Goes (shown_pieces r.more r.bytes) (Lang (done (k (gave desc x (Some r.bytes)))) v) place w.1.rest) (append_assoc read (w.0 ∷ []) r.more) r.goes in
     record {
       more = w.0 ∷ r.more;
       bytes = r.bytes;
@@ -229,12 +232,14 @@ shown_to (suc n) desc read k v at (c ∷ d ∷ ds) (e, inr l) =
 shown_from : (n : ℕ) (more : List Spelling) (t : Spelling) (desc : Option Spelling) (read : List Spelling) (k : WrittenAnswer → WrittenEntry) (v : WrittenEntry)
     (R : ℕ → List ℕ → Type 0) (at : ℕ) (bs : List ℕ) → length more ≤ n → Goes (shown_pieces more t) R at bs → Into R (done (k (gave desc (read ++ more) (Some t)))) v
     → Lang (byte 0x20 (words_and_bytes n desc read k)) v at bs
+unfolding words_and_bytes
 shown_from n [] t desc read k v R at bs few g f =
     byte_from 0x20 (words_and_bytes n desc read k) v (Goes (text_pieces t) R) at bs (cut (fixed (0x20 ∷ []) ∷ []) (text_pieces t) R at bs g)
     (by n)
   where
     f' : Into R (done (k (gave desc read (Some t)))) v
     f' = subst (λ y. Into R (done (k (gave desc y (Some t)))) v) (append-nil read) f
+
     by : (n : ℕ) → Into (Goes (text_pieces t) R) (words_and_bytes n desc read k) v
     by zero = λ x xs h. text_from (λ t. done (k (gave desc read (Some t)))) v t R x xs h f'
     by (suc n) = λ x xs h.
@@ -245,11 +250,13 @@ shown_from (suc n) (w ∷ more) t desc read k v R at bs few g f =
     let go : Spelling → EntryState = λ w. byte 0x20 (words_and_bytes n desc (read ++ w ∷ []) k) in
     let c = word_cut w (shown_pieces more t) R at bs g in
     let less : length more ≤ n = (let e : suc (length more) ≤ suc n = few in omega arith) in
-    subst (Lang (byte 0x20 (words_and_bytes (suc n) desc read k)) v at) (sym c.1)
-    (refl, or_else (number go) (λ c. c == quote_byte) (λ place c. text_rest (place + 1) (λ t. done (k (gave desc read (Some t))))) v (at + 1) c.0
-    (number_from go v w (Goes (shown_pieces more t) R) (at + 1) c.0 c.2
-    (λ x xs h. shown_from n more t desc (read ++ w ∷ []) k v R x xs less h
-    (subst (λ y. Into R (done (k (gave desc y (Some t)))) v) (sym (append_assoc read (w ∷ []) more)) f))))
+    subst (Lang (byte 0x20 (words_and_bytes (suc n) desc read k)) v at) (sym c.1) (
+      refl,
+      or_else (number go) (λ c. c == quote_byte) (λ place c. text_rest (place + 1) (λ t. done (k (gave desc read (Some t))))) v (at + 1) c.0
+          (number_from go v w (Goes (shown_pieces more t) R) (at + 1) c.0 c.2
+          (λ x xs h. shown_from n more t desc (read ++ w ∷ []) k v R x xs less h
+          (subst (λ y. Into R (done (k (gave desc y (Some t)))) v) (sym (append_assoc read (w ∷ []) more)) f))),
+    )
 
 -- ---- what an Ok gave
 
@@ -301,6 +308,7 @@ words_given k v at bs r =
     }
 
 given_to : (shown : Bool) (k : WrittenAnswer → WrittenEntry) (v : WrittenEntry) (at : ℕ) (bs : List ℕ) → Lang (given shown k) v at bs → Given shown k v at bs
+unfolding given words words_and_bytes
 given_to true k v at [] l = absurd l
 given_to true k v at (c ∷ []) l = shown_given None k v at (c ∷ []) refl (shown_to 4 None [] k v at (c ∷ []) l)
 given_to true k v at (c ∷ b ∷ cs) (t, inr l) = shown_given None k v at (c ∷ b ∷ cs) refl (shown_to 4 None [] k v at (c ∷ b ∷ cs) (t, l))
@@ -344,6 +352,7 @@ byte_more b c g s v at [] l = absurd l
 byte_more b c g s v at (x ∷ xs) l = (l.0, or_else s (λ x. x == c) g v (at + 1) xs l.1)
 
 given_words : (k : WrittenAnswer → WrittenEntry) (v : WrittenEntry) (at : ℕ) (bs : List ℕ) → Lang (words 4 None [] k) v at bs → Lang (given false k) v at bs
+unfolding given words
 given_words k v at [] l = l
 given_words k v at (c ∷ cs) (inr l) = inr l
 given_words k v at (c ∷ cs) (inl l) =
@@ -352,6 +361,7 @@ given_words k v at (c ∷ cs) (inl l) =
 given_from : (shown : Bool) (desc : Option Spelling) (read : List Spelling) (bytes : Option Spelling) (k : WrittenAnswer → WrittenEntry) (v : WrittenEntry)
     (R : ℕ → List ℕ → Type 0) (at : ℕ) (bs : List ℕ) → length read ≤ 4 → AreShown shown bytes → Goes (given_pieces desc read bytes) R at bs
     → Into R (done (k (gave desc read bytes))) v → Lang (given shown k) v at bs
+unfolding given
 given_from true desc read None k v R at bs few h g f = absurd h
 given_from false desc read (Some t) k v R at bs few h g f = absurd h
 given_from true None read (Some t) k v R at bs few h g f =
@@ -368,8 +378,14 @@ given_from false (Some d) read None k v R at bs few h g f =
     let go : Spelling → EntryState = λ d. words 4 (Some d) [] k in
     let c = desc_cut d (words_pieces read ++ []) R at bs g in
     subst (Lang (given false k) v at) (sym c.1)
-    (inl (refl, inl (refl, positive_from go v d (Goes (words_pieces read ++ []) R) ((at + 1) + 1) c.0 c.2
-    (λ x xs h. words_from 4 read (Some d) [] k v R x xs few (subst (λ y. Goes y R x xs) (append-nil (words_pieces read)) h) f))))
+    (inl (
+      refl,
+      inl (
+        refl,
+        positive_from go v d (Goes (words_pieces read ++ []) R) ((at + 1) + 1) c.0 c.2
+            (λ x xs h. words_from 4 read (Some d) [] k v R x xs few (subst (λ y. Goes y R x xs) (append-nil (words_pieces read)) h) f),
+      ),
+    ))
 
 -- ---- answers
 
@@ -387,8 +403,8 @@ refused_to shown k v at bs l =
     let R : ℕ → List ℕ → Type 0 = Lang (done (k (refused code))) v in
     let place = at + length (flat (fixed (codes "refused ") ∷ [])) in
     let c : Goes (fixed (code_name code) ∷ []) R place g.rest =
-        subst (Goes (fixed (code_name code) ∷ []) R place) (append-nil (code_name code) ∙ sym g.holds.1)
-        (one_goes (fixed (code_name code)) R place [] tt (refl, g.holds.2)) in
+    subst (Goes (fixed (code_name code) ∷ []) R place) (append-nil (code_name code) ∙ sym g.holds.1)
+    (one_goes (fixed (code_name code)) R place [] tt (refl, g.holds.2)) in
     record { answer = refused code; is = tt; goes = and_then (fixed (codes "refused ") ∷ []) (fixed (code_name code) ∷ []) (Lang s v) R at bs g c }
 
 answered_to : (shown : Bool) (k : WrittenAnswer → WrittenEntry) (v : WrittenEntry) (at : ℕ) (bs : List ℕ) → Lang (answered shown k) v at bs → Answered shown k v at bs
@@ -396,8 +412,8 @@ answered_to shown k v at [] l = absurd l
 answered_to shown k v at (c ∷ cs) (inr l) = refused_to shown k v at (c ∷ cs) l
 answered_to shown k v at (c ∷ cs) (inl l) =
     let g : Goes (fixed (0x6F ∷ 0x6B ∷ []) ∷ []) (Lang (given shown k) v) at (c ∷ cs) =
-        subst (λ x. Goes (fixed (0x6F ∷ 0x6B ∷ []) ∷ []) (Lang (given shown k) v) at (x ∷ cs)) (sym (eqb-true c 0x6F l.0))
-        (fixed_join 0x6F (0x6B ∷ []) (Lang (given shown k) v) at cs (byte_to 0x6B (given shown k) v (at + 1) cs l.1)) in
+    subst (λ x. Goes (fixed (0x6F ∷ 0x6B ∷ []) ∷ []) (Lang (given shown k) v) at (x ∷ cs)) (sym (eqb-true c 0x6F l.0))
+    (fixed_join 0x6F (0x6B ∷ []) (Lang (given shown k) v) at cs (byte_to 0x6B (given shown k) v (at + 1) cs l.1)) in
     let place = at + length (flat (fixed (0x6F ∷ 0x6B ∷ []) ∷ [])) in
     let r = given_to shown k v place g.rest g.holds in
     let a : WrittenAnswer = gave r.desc r.words r.bytes in
@@ -421,8 +437,11 @@ answered_from shown (gave desc read shows) k v R at bs is g f =
     let Q : ℕ → List ℕ → Type 0 = Goes (given_pieces desc read shows) R in
     let c = fixed_cut 0x6F (0x6B ∷ []) Q at bs (cut (fixed (0x6F ∷ 0x6B ∷ []) ∷ []) (given_pieces desc read shows) R at bs g) in
     subst (Lang (answered shown k) v at) (sym c.1)
-    (inl (refl, byte_from 0x6B (given shown k) v Q (at + 1) c.0 c.2
-    (λ x xs h. given_from shown desc read shows k v R x xs is.0 is.1 h f)))
+    (inl (
+      refl,
+      byte_from 0x6B (given shown k) v Q (at + 1) c.0 c.2
+          (λ x xs h. given_from shown desc read shows k v R x xs is.0 is.1 h f),
+    ))
 
 -- ---- entries
 
@@ -436,13 +455,13 @@ record Called (client seq function : Spelling) (v : WrittenEntry) (at : ℕ) (bs
   is : IsAnswer (shows_bytes function.bytes) answer
   goes : Goes (call_pieces args answer) (Lang (done (record { client = client; seq = seq; name = function; args = args; answer = answer })) v) at bs
 
--- the answer, after the arguments
-abbrev call_answer : Spelling → Spelling → Spelling → List WrittenArg → EntryState
-call_answer client seq function args =
-    bytes (codes " = ") (answered (shows_bytes function.bytes) (λ answer. record { client = client; seq = seq; name = function; args = args; answer = answer }))
-
 brackets : (args : List WrittenArg) (ps : List EntryPiece) → bracketed_pieces args ++ ps ≡ args_pieces args ++ fixed (codes ")") ∷ ps
 brackets args ps = append_assoc (args_pieces args) (fixed (close_bracket_byte ∷ []) ∷ []) ps
+
+-- arguments, the bracket, and further pieces
+bracket_goes : (args : List WrittenArg) (ps : List EntryPiece) (R : ℕ → List ℕ → Type 0) (at : ℕ) (bs : List ℕ) → Goes (bracketed_pieces args ++ ps) R at bs
+    → Goes (args_pieces args ++ fixed (codes ")") ∷ ps) R at bs
+bracket_goes args ps R at bs g = subst (λ x. Goes x R at bs) (brackets args ps) g
 
 call_to : (client seq function : Spelling) (v : WrittenEntry) (at : ℕ) (bs : List ℕ) → Lang (call_rest client seq function) v at bs → Called client seq function v at bs
 call_to client seq function v at bs l =
@@ -459,8 +478,7 @@ call_to client seq function v at bs l =
     let R : ℕ → List ℕ → Type 0 = Lang (done (k a.answer)) v in
     let ge = and_then (fixed (codes " = ") ∷ []) (answer_pieces a.answer) (Lang (answered (shows_bytes function.bytes) k) v) R place2 b.1.rest e a.goes in
     let gb = and_then (bracketed_pieces args) (fixed (codes " = ") ∷ answer_pieces a.answer) (Lang (go args) v) R place1 o.rest b.1 ge in
-    let gs : Goes (args_pieces args ++ fixed (codes ")") ∷ fixed (codes " = ") ∷ answer_pieces a.answer) R place1 o.rest =
-        subst (λ x. Goes x R place1 o.rest) (brackets args (fixed (codes " = ") ∷ answer_pieces a.answer)) gb in
+    let gs = bracket_goes args (fixed (codes " = ") ∷ answer_pieces a.answer) R place1 o.rest gb in
     record {
       args = args;
       answer = a.answer;
@@ -531,7 +549,7 @@ pub line_of : (v : WrittenEntry) (line : List ℕ) → IsEntry line v → Lang e
 line_of v line h =
     let R : ℕ → List ℕ → Type 0 = AtEnd in
     let g : Goes (entry_pieces v) R 0 line =
-        record { placed = h.0.0; rest = []; all = h.1 ∙ sym (append-nil (flat (entry_pieces v))); holds = refl } in
+    record { placed = h.0.0; rest = []; all = h.1 ∙ sym (append-nil (flat (entry_pieces v))); holds = refl } in
     let p6 = call_pieces v.args v.answer in
     let p5 = name_piece v.name ∷ p6 in
     let p4 = fixed (codes " ") ∷ p5 in

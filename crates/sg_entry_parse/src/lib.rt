@@ -3,11 +3,24 @@
 //!
 //! - `tree`: an entry (`WrittenEntry`), whose numbers, names and texts are lent from the line (`Spelled`)
 //! - `error`: why a line is no entry (`EntrySyntax`)
+//! - `laws`: a line has one entry, and one answer
+//! - `line`: what is still to be read of a line; `list`: lists of one
+//! - `pieces`, `call`, `code`, `answer`: the parts of an entry, as they are read
+//! - `parser`: the whole (`parse_entry`)
 #![tactic(auto)]
 
+mod answer;
+mod call;
+mod code;
 mod error;
+mod laws;
 mod line;
+mod list;
+mod parser;
+mod pieces;
 mod tree;
 
 pub use error::EntrySyntax;
+pub use laws::{one_answer, one_tree};
+pub use parser::parse_entry;
 pub use tree::{Spelled, SpelledList, WrittenAnswer, WrittenArg, WrittenArgList, WrittenEntry};

@@ -1,5 +1,5 @@
 // What is still to be read of a line.
-ghost use Rattle.std.specs.Prelude.{◌≡◌, ◌≤◌, length, MatchBool};
+ghost use Rattle.std.specs.Prelude.{◌≡◌, ◌≤◌, ◌+◌, length, MatchBool};
 ghost use Rattle.sg_entry_parse.specs.Inside.Ahead.{Came, Off, front_of, behind_of};
 
 use crate::error::EntrySyntax;
@@ -51,6 +51,14 @@ impl<'a> Line<'a> {
         ensures { result ≡ EntrySyntax.Syntax self.now.at }
     {
         EntrySyntax::Syntax { at: self.at }
+    }
+
+    /// The error after so many bytes.
+    pub fn fault_after(&self, len: usize) -> EntrySyntax
+        requires { len ≤ length self.now.rest }
+        ensures { result ≡ EntrySyntax.Syntax (self.now.at + len) }
+    {
+        EntrySyntax::Syntax { at: self.at + len }
     }
 
     /// Takes so many bytes.

@@ -1,5 +1,5 @@
 -- What is taken of what is still to be read of a line, and what is left.
-use Rattle.std.specs.Prelude.{◌≡◌, ◌+◌, ◌-◌, ◌==◌, ◌≤◌, ℕ, Bool, false, List, [], ◌∷◌, length, take, drop, if◌then◌else◌}
+use Rattle.std.specs.Prelude.{◌≡◌, ◌+◌, ◌==◌, ℕ, false, List, [], ◌∷◌, take, drop, if◌then◌else◌}
 use Rattle.std.specs.Char.{is_ascii_digit}
 use Rattle.std.specs.List.{prefix_len}
 use Rattle.sg_lex.specs.Bytes.{begins_word, is_in_word}

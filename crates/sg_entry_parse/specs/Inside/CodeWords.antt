@@ -1,5 +1,5 @@
 -- The words for codes, as tests.
-use Rattle.std.specs.Prelude.{ℕ, Bool, List, [], ◌∷◌, None, Some, find, take, length}
+use Rattle.std.specs.Prelude.{ℕ, Bool, List, [], ◌∷◌, find, take, length}
 use Rattle.std.specs.declared.option.Option.{Option}
 use Rattle.std.specs.List.{list_any}
 use Rattle.std.specs.Str.{bytes_eq}

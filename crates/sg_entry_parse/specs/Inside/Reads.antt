@@ -6,6 +6,7 @@ use Rattle.std.specs.Option.{option_map_or}
 use Rattle.sg_entry_parse.specs.declared.error.EntrySyntax.{EntrySyntax}
 use Rattle.sg_entry_parse.specs.declared.error.EntrySyntax.TheVariants.{NoMemory, Syntax}
 use Rattle.sg_entry_parse.specs.declared.tree.WrittenEntry.{WrittenEntry}
+use Rattle.sg_entry_parse.specs.Spelling.{Spelling}
 use Rattle.sg_entry_parse.specs.Inside.States.{EntryState, step, entry_at}
 
 -- what is still to be read of a line: its bytes, and the place of the first
@@ -37,3 +38,10 @@ Leads before (Err error) go new = error ≢ NoMemory → before ≡ Err error
 abbrev pub Ends : {X : Type 0} → Result WrittenEntry EntrySyntax → Result X EntrySyntax → (X → WrittenEntry) → Type 0
 Ends before (Ok value) go = before ≡ Ok (go value)
 Ends before (Err error) go = error ≢ NoMemory → before ≡ Err error
+
+-- a part of the parser that takes a further word where one comes, of so many that may, goes on with the word, or at the
+-- end without one
+abbrev pub LeadsOn : Result WrittenEntry EntrySyntax → Result (Option Spelling) EntrySyntax → (Spelling → EntryState) → EntryState → Ahead → Type 0
+LeadsOn before (Ok (Some word)) go end new = before ≡ read (go word) new
+LeadsOn before (Ok None) go end new = before ≡ read end new
+LeadsOn before (Err error) go end new = error ≢ NoMemory → before ≡ Err error

@@ -4,7 +4,6 @@ use Rattle.std.specs.Prelude.{ℕ, zero, suc, ◌+◌, ◌==◌, Bool, true, fal
 use Rattle.std.specs.declared.option.Option.{Option}
 use Rattle.std.specs.Option.{option_map}
 use Rattle.std.specs.Char.{is_ascii_digit}
-use Rattle.std.specs.List.{list_any}
 use Rattle.sg_base.specs.declared.reply.Code.{Code}
 use Rattle.sg_base.specs.Text.{is_text_byte}
 use Rattle.sg_lex.specs.Bytes.{begins_word, is_in_word}
@@ -78,38 +77,45 @@ abbrev pub comma_rest : List WrittenArg → (List WrittenArg → EntryState) →
 comma_rest args k = byte 0x20 (argument (λ a. listed (args ++ a ∷ []) k))
 
 -- up to so many further words, each with a space before it, and the end
-abbrev pub words : ℕ → Option Spelling → List Spelling → (WrittenAnswer → WrittenEntry) → EntryState
+unfoldable pub words : ℕ → Option Spelling → List Spelling → (WrittenAnswer → WrittenEntry) → EntryState
 words zero desc read k = done (k (Ok desc read None))
 words (suc n) desc read k =
     orelse (λ c. c == 0x20) (λ place c. number (λ w. words n desc (read ++ w ∷ []) k)) (done (k (Ok desc read None)))
 
 -- up to so many further words, each with a space after it, and then a text and the end
-abbrev pub words_and_bytes : ℕ → Option Spelling → List Spelling → (WrittenAnswer → WrittenEntry) → EntryState
+unfoldable pub words_and_bytes : ℕ → Option Spelling → List Spelling → (WrittenAnswer → WrittenEntry) → EntryState
 words_and_bytes zero desc read k = text (λ t. done (k (Ok desc read (Some t))))
 words_and_bytes (suc n) desc read k =
     orelse (λ c. c == quote_byte) (λ place c. text_rest (place + 1) (λ t. done (k (Ok desc read (Some t)))))
     (number (λ w. byte 0x20 (words_and_bytes n desc (read ++ w ∷ []) k)))
 
+-- after `ok` and a space, of a function that doesn't show its bytes
+abbrev pub spaced_rest : (WrittenAnswer → WrittenEntry) → EntryState
+spaced_rest k = orelse (λ c. c == 0x23) (λ place c. positive (λ d. words 4 (Some d) [] k)) (number (λ w. words 3 None (w ∷ []) k))
+
+-- after `ok` and a space, of the function that shows its bytes
+abbrev pub shown_rest : (WrittenAnswer → WrittenEntry) → EntryState
+shown_rest k = orelse (λ c. c == 0x23) (λ place c. positive (λ d. byte 0x20 (words_and_bytes 4 (Some d) [] k))) (words_and_bytes 4 None [] k)
+
 -- after `ok`, of a function that shows its bytes, or doesn't
-abbrev pub given : Bool → (WrittenAnswer → WrittenEntry) → EntryState
-given true k =
-    byte 0x20 (orelse (λ c. c == 0x23) (λ place c. positive (λ d. byte 0x20 (words_and_bytes 4 (Some d) [] k)))
-    (words_and_bytes 4 None [] k))
+unfoldable pub given : Bool → (WrittenAnswer → WrittenEntry) → EntryState
+given true k = byte 0x20 (shown_rest k)
 given false k =
-    orelse (λ c. c == 0x20) (λ place c. orelse (λ c. c == 0x23) (λ place c. positive (λ d. words 4 (Some d) [] k))
-    (number (λ w. words 3 None (w ∷ []) k)))
-    (done (k (Ok None [] None)))
+    orelse (λ c. c == 0x20) (λ place c. spaced_rest k) (done (k (Ok None [] None)))
 
 -- an answer and the end
 abbrev pub answered : Bool → (WrittenAnswer → WrittenEntry) → EntryState
 answered shown k =
     orelse (λ c. c == 0x6F) (λ place c. byte 0x6B (given shown k)) (bytes (codes "refused ") (coded [] (λ code. k (Refused code))))
 
+-- after the arguments: the answer
+abbrev pub call_answer : Spelling → Spelling → Spelling → List WrittenArg → EntryState
+call_answer client seq function args =
+    bytes (codes " = ") (answered (shows_bytes function.bytes) (λ answer. record { client = client; seq = seq; name = function; args = args; answer = answer }))
+
 -- after the name: the arguments and the answer
 abbrev pub call_rest : Spelling → Spelling → Spelling → EntryState
-call_rest client seq function =
-    byte open_bracket_byte (bracketed (λ args. bytes (codes " = ") (answered (shows_bytes function.bytes)
-    (λ answer. record { client = client; seq = seq; name = function; args = args; answer = answer }))))
+call_rest client seq function = byte open_bracket_byte (bracketed (call_answer client seq function))
 
 -- after the client's number: the number of the call, its name and the rest
 abbrev pub client_rest : Spelling → EntryState

@@ -20,13 +20,13 @@ place_zero at = omega arith
 
 -- ---- places
 
-placed_join : (ps qs : List EntryPiece) (at : ℕ) → ArePlaced at ps → ArePlaced (at + length (flat ps)) qs → ArePlaced at (ps ++ qs)
+pub placed_join : (ps qs : List EntryPiece) (at : ℕ) → ArePlaced at ps → ArePlaced (at + length (flat ps)) qs → ArePlaced at (ps ++ qs)
 placed_join [] qs at h g = subst (λ v. ArePlaced v qs) (sym (place_zero at)) g
 placed_join (p ∷ ps) qs at h g =
     let e : at + length (piece_bytes p ++ flat ps) ≡ (at + length (piece_bytes p)) + length (flat ps) = rw length-append (omega arith) in
     (h.0, placed_join ps qs (at + length (piece_bytes p)) h.1 (subst (λ v. ArePlaced v qs) e g))
 
-placed_cut : (ps qs : List EntryPiece) (at : ℕ) → ArePlaced at (ps ++ qs) → ArePlaced at ps × ArePlaced (at + length (flat ps)) qs
+pub placed_cut : (ps qs : List EntryPiece) (at : ℕ) → ArePlaced at (ps ++ qs) → ArePlaced at ps × ArePlaced (at + length (flat ps)) qs
 placed_cut [] qs at h = (tt, subst (λ v. ArePlaced v qs) (place_zero at) h)
 placed_cut (p ∷ ps) qs at h =
     let e : at + length (piece_bytes p ++ flat ps) ≡ (at + length (piece_bytes p)) + length (flat ps) = rw length-append (omega arith) in

@@ -1,16 +1,16 @@
 -- What is read of a line is the one answer that a parser may give, out of memory aside.
-use Rattle.std.proofs.Common.{◌≡◌, ◌≢◌, ◌⊎◌, ℕ, ◌+◌, inl, inr, List, [], ◌∷◌, ◌++◌, length, refl, sym, ap, subst, ◌∙◌, arith}
+use Rattle.std.proofs.Common.{◌≡◌, ◌≢◌, ◌⊎◌, ℕ, ◌+◌, inl, inr, List, [], ◌∷◌, ◌++◌, length, refl, sym, ap, ◌∙◌, arith}
 use Rattle.std.specs.Prelude.{Ok, Err}
 use Rattle.std.specs.declared.result.Result.{Result}
 use Rattle.sg_entry_parse.specs.declared.error.EntrySyntax.{EntrySyntax}
 use Rattle.sg_entry_parse.specs.declared.error.EntrySyntax.TheVariants.{NoMemory, Syntax}
 use Rattle.sg_entry_parse.specs.declared.tree.WrittenEntry.{WrittenEntry}
 use Rattle.sg_entry_parse.specs.Entry.{IsEntry}
-use Rattle.sg_entry_parse.specs.Parses.{BeginsEntry, IsStuck, FailsAt, EntryParses}
+use Rattle.sg_entry_parse.specs.Parses.{IsStuck, FailsAt, EntryParses}
 use Rattle.sg_entry_parse.specs.Inside.States.{entry_start}
 use Rattle.sg_entry_parse.specs.Inside.Reads.{read_from, Ends}
 use Rattle.sg_entry_parse.proofs.Fitting.{fits_start}
-use Rattle.sg_entry_parse.proofs.Reading.{Stuck, Fails, sound, complete, faults, only_fault, reads_no_memory}
+use Rattle.sg_entry_parse.proofs.Reading.{Stuck, Fails, sound, complete, faults, only_fault}
 use Rattle.sg_entry_parse.proofs.Whole.{entry_of, line_of}
 
 stuck_of : (front rest : List ℕ) → Stuck entry_start 0 front rest → IsStuck front rest
@@ -73,5 +73,6 @@ one_tree line one other h g =
   where
     answer : WrittenEntry → Result WrittenEntry EntrySyntax
     answer tree = Ok tree
+
     same : (one other : WrittenEntry) → Ok one ≡ answer other → one ≡ other
     same one other e = cc
