@@ -12,7 +12,7 @@ use Rattle.sg_entries.proofs.Halves.{not_too_many, unmapped}
 use Rattle.sg_entries.specs.Flaws.{answer_flaws, arg_flaws, client_flaws, entry_flaws, flaw_if, flaws_from, fun_flaws, in_line, number_flaws, too_many_entries, values_fit}
 use Rattle.sg_entries.specs.Lines.{entry_lines_of}
 use Rattle.sg_entries.specs.Reads.{AreEntries, IsHistory, IsReadOf, entries_read}
-use Rattle.sg_entries.specs.Standing.{args_in, entry_of, fun_of, id_in, number_of, reply_of, value_of}
+use Rattle.sg_entries.specs.Standing.{args_in, entry_of, fun_of, id_in, number_of, value_of}
 use Rattle.sg_entries.specs.declared.error.EntriesError.{EntriesError}
 use Rattle.sg_entries.specs.declared.error.EntriesKind.{EntriesKind}
 use Rattle.sg_entries.specs.declared.error.EntriesKind.TheVariants.{BadArgs, BadClient, Limit}
@@ -23,13 +23,12 @@ use Rattle.sg_entry_parse.specs.declared.tree.WrittenArg.TheVariants.{Number, Te
 use Rattle.sg_entry_parse.specs.declared.tree.WrittenEntry.{WrittenEntry}
 use Rattle.sg_facts.specs.Facts.{Fun, fun_at, no_fun, takes_desc, takes_parent}
 use Rattle.sg_facts.specs.Interface.{Declared, declares}
-use Rattle.sg_facts.specs.Kinds.{AreWords, FitsKinds, IsCall, kinds_fit}
+use Rattle.sg_facts.specs.Kinds.{AreWords, kinds_fit}
 use Rattle.sg_facts.specs.Limits.{last_client, most_script_calls}
 use Rattle.sg_facts.specs.declared.entry.Entry.{Entry}
 use Rattle.sg_facts.specs.declared.shape.Kind.{Kind}
 use Rattle.sg_facts.specs.sg_base.Lists.{Each}
 use Rattle.sg_facts.specs.sg_base.Room.{Roomy}
-use Rattle.sg_facts.specs.sg_base.declared.call.Call.{Call}
 use Rattle.sg_facts.specs.sg_base.declared.value.Value.{Value}
 use Rattle.sg_facts.specs.sg_base.declared.value.Value.TheVariants.{Word, Text}
 use Rattle.sg_report.specs.Report.{takes_id}
@@ -170,7 +169,7 @@ has_fun i e none = at (declared_fun i e.name.bytes) refl none
           fits = subst (λ v. values_fit (takes_id i.facts v) (fun_at i.facts.funs v).kinds (map value_of e.args) ≡ true) (sym own) (is_true _ (not_flawed _ BadArgs e.name.at none));
         }
 
-args_words : (args : List WrittenArg) → flat_map arg_flaws args ≡ [] → AreWords (map value_of args)
+pub args_words : (args : List WrittenArg) → flat_map arg_flaws args ≡ [] → AreWords (map value_of args)
 args_words [] none = tt
 args_words (Number n ∷ args) none = (fits_bits 64 n (front_none (number_flaws 64 n) (flat_map arg_flaws args) none), args_words args (back_none (number_flaws 64 n) (flat_map arg_flaws args) none))
 args_words (text t ∷ args) none = args_words args (back_none (arg_flaws (text t)) (flat_map arg_flaws args) none)

@@ -1,7 +1,10 @@
+pub mod Backwards
 pub mod Cutting
 pub mod Flawless
 pub mod Halves
 pub mod Made
+pub mod Ordered
+pub mod Rewritten
 pub mod Spelt
 pub mod Unique
 pub mod Within

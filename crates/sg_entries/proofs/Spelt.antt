@@ -1,5 +1,5 @@
 -- An entry without a flaw is printed as it is written.
-use Rattle.std.proofs.Common.{◌≡◌, ◌≢◌, inl, inr, ℕ, suc, ◌+◌, ◌*◌, ◌-◌, ◌^◌, ◌<◌, ◌≤◌, Bool, true, false, cond, not, List, [], ◌∷◌, ◌++◌, None, Some, Ok, length, get_or, map, refl, sym, ◌∙◌, ap, subst, append_assoc, append-nil, arith}
+use Rattle.std.proofs.Common.{◌≡◌, inl, inr, ℕ, ◌+◌, ◌*◌, ◌-◌, ◌^◌, ◌<◌, ◌≤◌, Bool, true, false, cond, not, List, [], ◌∷◌, ◌++◌, None, Some, length, map, refl, sym, ◌∙◌, ap, subst, append_assoc, append-nil, arith}
 use Rattle.std.specs.Prelude.{◌==◌, ◌&&◌, nat_le, codes, if◌then◌else◌}
 use Rattle.std.specs.Char.{is_ascii_digit}
 use Rattle.std.specs.Fmt.{decimal}
@@ -10,18 +10,17 @@ use Rattle.std.proofs.lemmas.Fmt.{decimal-digits_value}
 use Rattle.std.proofs.lemmas.Grind.{flat_map-append}
 use Rattle.std.proofs.lemmas.List.{length-map}
 use Rattle.std.proofs.lemmas.Str.Parse.{FoldsDigits, IsDigitsTest, IsNumeralModel, numerals_by_fold}
-use Rattle.sg_entries.proofs.Flawless.{IsFlawless, back_none, each_entry, entries_few, fits_bits, flawless_parts, front_none, has_fun, is_true, made_of, not_flawed}
+use Rattle.sg_entries.proofs.Flawless.{IsFlawless, args_words, back_none, each_entry, entries_few, fits_bits, flawless_parts, front_none, has_fun, is_true, made_of, not_flawed}
 use Rattle.sg_entries.proofs.Halves.{unmapped}
 use Rattle.sg_entries.proofs.Within.{each_back, each_front}
-use Rattle.sg_entries.specs.Flaws.{answer_flaws, arg_flaws, entry_flaws, flaws_from, in_line, number_flaws, optional_flaws, text_flaws, values_fit, word_flaws}
+use Rattle.sg_entries.specs.Flaws.{answer_flaws, arg_flaws, entry_flaws, flaws_from, in_line, optional_flaws, text_flaws, values_fit, word_flaws}
 use Rattle.sg_entries.specs.Lines.{entry_lines_of}
-use Rattle.sg_entries.specs.Printed.{IsShownReply, MayBePrinted, PrintsHistory}
+use Rattle.sg_entries.specs.Printed.{AreTexts, IsShownReply, MayBePrinted, PrintsHistory}
 use Rattle.sg_entries.specs.Reads.{AreEntries, IsHistory}
 use Rattle.sg_entries.specs.Standing.{args_in, bytes_of, desc_of, entry_of, fun_of, id_in, number_of, reply_of, value_of}
 use Rattle.sg_entries.specs.declared.error.EntriesKind.TheVariants.{Limit}
 use Rattle.sg_entry_parse.specs.Codes.{code_name as written_code}
-use Rattle.sg_entry_parse.specs.Entry.{AreShown, IsAnswer, IsEntry, answer_pieces, arg_pieces, args_pieces, bytes_pieces, desc_pieces, entry_bytes, entry_pieces, next_arg_pieces, shows_bytes as shows, word_pieces}
-use Rattle.sg_entry_parse.specs.Parses.{EntryParses}
+use Rattle.sg_entry_parse.specs.Entry.{AreShown, IsAnswer, IsEntry, answer_pieces, arg_pieces, args_pieces, bytes_pieces, desc_pieces, entry_pieces, next_arg_pieces, shows_bytes as shows, word_pieces}
 use Rattle.sg_entry_parse.specs.Pieces.{ArePlaced, EntryPiece, IsNumber, IsPiece, IsPositive, fixed, name, number, piece_bytes, positive, printable}
 use Rattle.sg_entry_parse.specs.Spelling.{Spelling}
 use Rattle.sg_entry_parse.specs.declared.tree.WrittenAnswer.{WrittenAnswer}
@@ -31,6 +30,7 @@ use Rattle.sg_entry_parse.specs.declared.tree.WrittenArg.TheVariants.{Number, Te
 use Rattle.sg_entry_parse.specs.declared.tree.WrittenEntry.{WrittenEntry}
 use Rattle.sg_facts.specs.Facts.{Fun, fun_at}
 use Rattle.sg_facts.specs.Interface.{Declared}
+use Rattle.sg_facts.specs.Kinds.{AreWords}
 use Rattle.sg_facts.specs.Words.{line_end}
 use Rattle.sg_facts.specs.declared.entry.Entry.{Entry}
 use Rattle.sg_facts.specs.declared.shape.Kind.{Kind}
@@ -39,8 +39,8 @@ use Rattle.sg_facts.specs.sg_base.declared.reply.Code.{Code}
 use Rattle.sg_facts.specs.sg_base.declared.reply.Code.TheVariants.{NoDesc, NoParent, BadState, HasChildren, Full, NotOwner, Held, Occupied, NotFound, Overflow, Gap, TooBig, BadName}
 use Rattle.sg_facts.specs.sg_base.declared.value.Value.{Value}
 use Rattle.sg_facts.specs.sg_base.declared.value.Value.TheVariants.{Word, Text}
-use Rattle.sg_report.specs.Report.{call_text, code_name, entry_line, listed, next_value, quoted, reply_text, shows_bytes, takes_id, value_text}
-use Rattle.sg_script.specs.Numbers.{is_known_client, is_text, value_of_digits}
+use Rattle.sg_report.specs.Report.{code_name, entry_line, listed, next_value, quoted, reply_text, shows_bytes, takes_id, value_text}
+use Rattle.sg_script.specs.Numbers.{is_text, value_of_digits}
 
 -- ---- numbers
 
@@ -74,7 +74,7 @@ after a digits = fold (λ a d. 10 * a + (d - 48)) a digits
 folds : FoldsDigits after
 folds = record { empty = λ n. refl; more = λ n c cs range. ap (λ m. after m cs) (omega arith) }
 
-numeral : IsNumeralModel (λ ds. list_all is_ascii_digit ds ≡ true) value_of_digits
+pub numeral : IsNumeralModel (λ ds. list_all is_ascii_digit ds ≡ true) value_of_digits
 numeral = numerals_by_fold (λ ds. list_all is_ascii_digit ds ≡ true) digits_test after folds
 
 first_isnt_zero : (b : ℕ) → is_ascii_digit b && not (b == 48) ≡ true → b ≡ 48 → ⊥
@@ -106,7 +106,7 @@ isnt_zero (b ∷ bs) is =
 
 -- ---- pieces
 
-abbrev written : List EntryPiece → List ℕ
+abbrev pub written : List EntryPiece → List ℕ
 written pieces = flat_map piece_bytes pieces
 
 -- what is spelt in a piece is what it is said to be
@@ -154,7 +154,7 @@ args_printed (a ∷ args) spelt none =
     ∙ two (written (arg_pieces a)) (value_text (value_of a)) (written (flat_map next_arg_pieces args)) (flat_map next_value (map value_of args)) own later
 
 -- what stands in a call's brackets, in its two parts
-values_in : (takes : Bool) (kinds : List Kind) (values : List Value) → values_fit takes kinds values ≡ true
+pub values_in : (takes : Bool) (kinds : List Kind) (values : List Value) → values_fit takes kinds values ≡ true
     → (if takes then Word (id_in takes values) ∷ args_in takes values else args_in takes values) ≡ values
 values_in false kinds values fits = refl
 values_in true kinds [] fits = absurd cc
@@ -216,12 +216,26 @@ answer_printed f (good desc words bytes) spelt is none =
 -- all that an answer gives is printed
 answer_shown : (f : Fun) (answer : WrittenAnswer) → IsAnswer (shows_bytes f) answer → answer_flaws answer ≡ [] → IsShownReply f (reply_of answer)
 answer_shown f (refused code) is none = tt
-answer_shown f (good desc words bytes) is none = record {
-  words = subst (λ n. n ≤ 4) (sym (length-map words number_of)) is.0;
-  hidden = hidden (shows_bytes f) bytes is.1;
-  text = shown bytes (back_none (optional_flaws word_flaws desc ++ flat_map word_flaws words) (optional_flaws text_flaws bytes) none);
-}
+answer_shown f (good desc words bytes) is none =
+    let d = optional_flaws word_flaws desc in
+    let w = flat_map word_flaws words in
+    let front = front_none (d ++ w) (optional_flaws text_flaws bytes) none in
+    record {
+      desc = desc_small desc (front_none d w front);
+      words = words_small words (back_none d w front);
+      few = subst (λ n. n ≤ 4) (sym (length-map words number_of)) is.0;
+      hidden = hidden (shows_bytes f) bytes is.1;
+      text = shown bytes (back_none (d ++ w) (optional_flaws text_flaws bytes) none);
+    }
   where
+    desc_small : (desc : Option Spelling) → optional_flaws word_flaws desc ≡ [] → desc_of desc < 2 ^ 64
+    desc_small None none = omega arith
+    desc_small (Some d) none = fits_bits 64 d none
+
+    words_small : (words : List Spelling) → flat_map word_flaws words ≡ [] → Each (λ word. word < 2 ^ 64) (map number_of words)
+    words_small [] none = tt
+    words_small (w ∷ words) none = (fits_bits 64 w (front_none (word_flaws w) (flat_map word_flaws words) none), words_small words (back_none (word_flaws w) (flat_map word_flaws words) none))
+
     hidden : (shown : Bool) (bytes : Option Spelling) → AreShown shown bytes → shown ≡ false → bytes_of bytes ≡ []
     hidden true bytes are is = absurd cc
     hidden false None are is = refl
@@ -232,6 +246,24 @@ answer_shown f (good desc words bytes) is none = record {
     shown (Some t) none = is_true (is_text t.bytes) (not_flawed _ Limit (t.at - 1) none)
 
 -- ---- entries
+
+id_small : (takes : Bool) (values : List Value) → AreWords values → id_in takes values < 2 ^ 64
+id_small false values are = omega arith
+id_small true [] are = omega arith
+id_small true (Word n ∷ values) are = are.0
+id_small true (Text t ∷ values) are = omega arith
+
+args_texts : (args : List WrittenArg) → flat_map arg_flaws args ≡ [] → AreTexts (map value_of args)
+args_texts [] none = tt
+args_texts (Number n ∷ args) none = args_texts args (back_none (arg_flaws (Number n)) (flat_map arg_flaws args) none)
+args_texts (text t ∷ args) none =
+    (is_true (is_text t.bytes) (not_flawed _ Limit (t.at - 1) (front_none (text_flaws t) (flat_map arg_flaws args) none)), args_texts args (back_none (text_flaws t) (flat_map arg_flaws args) none))
+
+rest_texts : (takes : Bool) (values : List Value) → AreTexts values → AreTexts (args_in takes values)
+rest_texts false values are = are
+rest_texts true [] are = are
+rest_texts true (Word n ∷ values) are = are
+rest_texts true (Text t ∷ values) are = are
 
 -- the parts of a line, one after the other
 abbrev body : List ℕ → List ℕ → List ℕ → List ℕ → List ℕ → List ℕ
@@ -286,13 +318,16 @@ module _ (i : Declared) (line : List ℕ) (e : WrittenEntry) (is : IsEntry line 
       let has = has_fun i e f.fun in
       record {
         made = made_of i e f;
+        seq = f.seq;
+        desc = id_small (takes_id i.facts (fun_of i e)) (map value_of e.args) (args_words e.args f.args);
+        texts = rest_texts (takes_id i.facts (fun_of i e)) (map value_of e.args) (args_texts e.args f.args);
         shown = answer_shown (fun_at i.facts.funs (fun_of i e)) e.answer (subst (λ n. IsAnswer (shows n) e.answer) (sym has.called) is.0.1) f.answer;
       }
 
 -- ---- histories
 
 -- a line and its end
-abbrev ended : Spelling → List ℕ
+abbrev pub ended : Spelling → List ℕ
 ended l = l.bytes ++ line_end
 
 lines_printed : (i : Declared) (nth : ℕ) (lines : List Spelling) (entries : List WrittenEntry) → AreEntries lines entries → flaws_from i nth lines entries ≡ []

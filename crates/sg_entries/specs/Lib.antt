@@ -1,6 +1,7 @@
 pub mod Flaws
 pub mod Inside
 pub mod Lines
+pub mod Order
 pub mod Printed
 pub mod Reads
 pub mod Standing

@@ -1,5 +1,5 @@
 -- What a written entry stands for.
-use Rattle.std.specs.Prelude.{ℕ, Bool, true, false, List, [], ◌∷◌, None, Some, map, unwrap_or}
+use Rattle.std.specs.Prelude.{ℕ, Bool, true, List, [], ◌∷◌, None, Some, map, unwrap_or}
 use Rattle.std.specs.declared.option.Option.{Option}
 use Rattle.sg_entry_parse.specs.Spelling.{Spelling}
 use Rattle.sg_entry_parse.specs.declared.tree.WrittenAnswer.{WrittenAnswer}

@@ -1,5 +1,5 @@
 // What a written entry stands for, or what is first wrong with it.
-ghost use Rattle.std.specs.Prelude.{◌≡◌, ◌==◌, ◌||◌, true, map, IfOk};
+ghost use Rattle.std.specs.Prelude.{◌≡◌, ◌==◌, ◌||◌, ◌++◌, ◌∷◌, [], true, map, IfOk, OnOk};
 ghost use Rattle.std.specs.List.{flat_map};
 ghost use Rattle.sg_entries.specs.Flaws.{answer_flaws, arg_flaws, client_flaws, entry_flaws, flaw_if, fun_flaws, number_flaws, optional_flaws, text_flaws, too_many_entries, values_fit, word_flaws};
 ghost use Rattle.sg_entries.specs.Inside.Making.{IsMade};
@@ -14,8 +14,8 @@ use crate::numbers::{is_text, number_of_digits};
 use crate::{EntriesError, EntriesKind};
 use sg_entry_parse::{Spelled, WrittenAnswer, WrittenArg, WrittenEntry};
 use sg_facts::{
-    Args, Bytes, Call, Entry, FunShape, Good, Interface, Kind, LAST_CLIENT, Reply, Text, Value,
-    Words,
+    Args, Bytes, Call, Entry, FunShape, Good, Interface, Kind, LAST_CLIENT, NoMemory, Reply, Text,
+    Value, Words,
 };
 use sg_script::text_of;
 use std::alloc::Global;
@@ -84,6 +84,23 @@ fn fault(kind: EntriesKind, at: usize) -> EntriesError
     EntriesError::Fault { kind, at }
 }
 
+// ---- lists
+
+// Room for so many elements and no more.
+fn room_for<T>(alloc: Global, many: usize) -> Result<Vec<T>, NoMemory>
+    ensures { IfOk result (λ made. made.items ≡ []) }
+{
+    Ok(Vec::with_capacity(alloc, many)?)
+}
+
+// Puts an element after others.
+fn put<T: Drop>(made: &mut Vec<T>, item: T) -> Result<(), NoMemory>
+    ensures { OnOk result (made.new.items ≡ made.old.items ++ item ∷ []) }
+{
+    made.push(item)?;
+    Ok(())
+}
+
 // ---- answers
 
 // What an answer stands for.
@@ -115,11 +132,11 @@ fn desc_of(desc: &Option<Spelled>) -> Result<u64, EntriesError>
 fn words_of(alloc: Global, numbers: &[Spelled]) -> Result<Words, EntriesError>
     ensures { IsMade (flat_map word_flaws numbers.now) (map number_of numbers.now) result }
 {
-    let mut made = Words::new(alloc);
+    let mut made = room_for(alloc, numbers.len())?;
     'each: for number in numbers {
-        made.push(word_of(number)?)?;
+        put(&mut made, word_of(number)?)?;
     }
-    Ok(made)
+    Ok(Words::from_vec(made))
 }
 
 // The bytes that are shown; none where none are.
@@ -151,11 +168,11 @@ fn value_of(alloc: Global, arg: &WrittenArg) -> Result<Value, EntriesError>
 fn values_of(alloc: Global, args: &[WrittenArg]) -> Result<Args, EntriesError>
     ensures { IsMade (flat_map arg_flaws args.now) (map value_of args.now) result }
 {
-    let mut made = Args::new(alloc);
+    let mut made = room_for(alloc, args.len())?;
     'each: for arg in args {
-        made.push(value_of(alloc, arg)?)?;
+        put(&mut made, value_of(alloc, arg)?)?;
     }
-    Ok(made)
+    Ok(Args::from_vec(made))
 }
 
 // What a call's brackets name as its descriptor or parent, where the function takes one, and the other arguments.

@@ -1,5 +1,5 @@
 -- What is left of a text, and its lines.
-use Rattle.std.specs.Prelude.{ℕ, ◌≡◌, ◌+◌, ◌<◌, ◌^◌, List, [], ◌∷◌, None, Some, length}
+use Rattle.std.specs.Prelude.{◌≡◌, ◌+◌, ◌<◌, ◌^◌, List, [], ◌∷◌, None, Some, length}
 use Rattle.std.specs.declared.option.Option.{Option}
 use Rattle.sg_entries.specs.Lines.{lines_from}
 use Rattle.sg_entries.specs.declared.rest.Rest.{Rest}

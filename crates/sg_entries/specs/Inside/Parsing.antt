@@ -1,5 +1,5 @@
 -- What a line is read to, by its place in the text.
-use Rattle.std.specs.Prelude.{ℕ, ◌≡◌, ◌+◌, List, ◌∷◌, Ok, Err}
+use Rattle.std.specs.Prelude.{ℕ, ◌≡◌, ◌+◌, List, Ok, Err}
 use Rattle.std.specs.declared.result.Result.{Result}
 use Rattle.sg_entries.specs.Reads.{AreEntries, IsNoEntry}
 use Rattle.sg_entries.specs.Lines.{entry_lines_of}

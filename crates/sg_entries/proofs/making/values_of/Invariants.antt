@@ -8,5 +8,5 @@ use Rattle.sg_entries.proofs.making.values_of.Given as goal
 abbrev pub invariant-each : goal.invariant-each
 invariant-each l = record {
   flawless : flat_map arg_flaws (take l.arg-index l.args) ≡ [];
-  made : l.made ≡ map value_of (take l.arg-index l.args);
+  made : l.made.items ≡ map value_of (take l.arg-index l.args);
 }

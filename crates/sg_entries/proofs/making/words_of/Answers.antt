@@ -10,6 +10,6 @@ use Rattle.sg_entries.proofs.making.words_of.Goals as goal
 pub returns-in_err-word_of : goal.returns-in_err-word_of
 returns-in_err-word_of c =
     let numbers = c.args.numbers.now in
-    passed (IsMade (flat_map word_flaws numbers) (map number_of numbers)) c.from_residual.result c.in_err-word_of.field-0.0 c.from_residual.ensures.1
+    passed (IsMade (flat_map word_flaws numbers) (map number_of numbers)) c.from_residual-in_err-word_of.result c.in_err-word_of.field-0.0 c.from_residual-in_err-word_of.ensures.1
     (not_made word_flaws numbers c.each.number-index c.number-item.result (number_of c.number-item.result) (map number_of numbers) c.in_err-word_of.field-0.0
     c.each-test.true c.number-item.is c.each.invariant.flawless c.in_err-word_of.ensures)

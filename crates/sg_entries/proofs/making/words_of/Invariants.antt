@@ -8,5 +8,5 @@ use Rattle.sg_entries.proofs.making.words_of.Given as goal
 abbrev pub invariant-each : goal.invariant-each
 invariant-each l = record {
   flawless : flat_map word_flaws (take l.number-index l.numbers) ≡ [];
-  made : l.made ≡ map number_of (take l.number-index l.numbers);
+  made : l.made.items ≡ map number_of (take l.number-index l.numbers);
 }

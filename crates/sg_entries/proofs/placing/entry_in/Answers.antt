@@ -1,5 +1,5 @@
 -- A flaw of an entry stands within its line.
-use Rattle.std.proofs.Common.{Err, ◌+◌, ◌<◌, arith, subst}
+use Rattle.std.proofs.Common.{Err, arith, subst}
 use Rattle.sg_entries.proofs.Within.{first_within}
 use Rattle.sg_entries.specs.Flaws.{entry_flaws}
 use Rattle.sg_entries.specs.Inside.Making.{IsMade}

@@ -1,6 +1,5 @@
 -- A text is cut at its first LF, where it has one.
-use Rattle.std.proofs.Common.{sym, ◌∙◌, arith}
-use Rattle.std.proofs.lemmas.Grind.{common_steps}
+use Rattle.std.proofs.Common.{sym, ◌∙◌}
 use Rattle.sg_entries.proofs.Cutting.{first_line, one_line}
 use Rattle.sg_entries.proofs.rest.Rest.cut.Goals as goal
 
