@@ -3,14 +3,14 @@ use crate::asking::{is_said, verified};
 use sg_top::Status::Done;
 use std::alloc::{AllocError, Global};
 use std::test::Fail;
-use test_interfaces::RAMFS;
+use test_interfaces::LOCK;
 
 // A legal run, in which each byte counts.
-const RUN: &[u8] = b"c2.1 tsplit(0, \"a\") = ok #1
-c1.1 twrite(1, \"xy\") = refused NotOwner
-c2.2 twrite(1, \"xy\") = ok 2
-c2.3 tread(1, 7) = ok 0 \"\"
-c2.4 tread(2, 7) = refused NoDesc
+const RUN: &[u8] = b"c2.1 lock_alloc() = ok #1
+c2.2 lock_take(1) = ok
+c1.1 lock_release(1) = refused NotOwner
+c2.3 lock_release(1) = ok
+c1.2 lock_take(1) = ok
 ";
 
 const LEGAL: &str = "legal 5\n";
@@ -38,11 +38,10 @@ fn changed(alloc: Global, run: &[u8], place: usize, change: Change) -> Result<Ve
 }
 
 // Each change of a byte at a place.
-static CHANGES: [Change; 7] = [
+static CHANGES: [Change; 6] = [
     Change::Dropped,
     Change::Doubled,
     Change::Swapped(b'!'),
-    Change::Swapped(b' '),
     Change::Swapped(b'\r'),
     Change::Swapped(0),
     Change::Swapped(0xFF),
@@ -51,12 +50,12 @@ static CHANGES: [Change; 7] = [
 #[test]
 fn reads_each_byte(rt: HostRuntime) -> Result<(), Fail> {
     let alloc = rt.alloc();
-    assert!(rt; is_said(alloc, RAMFS, RUN, Done, LEGAL)?);
+    assert!(rt; is_said(alloc, LOCK, RUN, Done, LEGAL)?);
     // the last byte is the end of a line, which needn't be there, or may stand before another line
     for place in 0..RUN.len() - 1 {
         for change in &CHANGES {
             let run = changed(alloc, RUN, place, *change)?;
-            let said = verified(alloc, RAMFS, &run)?;
+            let said = verified(alloc, LOCK, &run)?;
             assert!(rt; said.1.as_slice() != LEGAL.as_bytes(), "{place} {change:?}");
         }
     }

