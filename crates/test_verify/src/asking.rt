@@ -1,8 +1,10 @@
 // Inputs of an interface and a printed run, and what is said of them.
-use sg_edge::{MemSink, MemSource};
+use sg_edge::{MemSink, MemSource, OpenGate};
 use sg_facts::NoMemory;
-use sg_top::{Status, serial};
+use sg_top::{Status, serial, superglue};
 use std::alloc::{AllocError, Global};
+use std::sync::Wait;
+use std::thread::Threads;
 
 /// What a command came to: its status and what it printed.
 pub type Said = (Status, Vec<u8>);
@@ -21,17 +23,39 @@ pub fn input_of(alloc: Global, interface: &[u8], second: &[u8]) -> Result<Vec<u8
     Ok(bytes)
 }
 
+// Words that stand in one line.
+fn words_of(alloc: Global, line: &str) -> Result<Vec<String>, AllocError> {
+    let mut words = Vec::new(alloc);
+    for word in line.split_whitespace() {
+        words.push(word.to_string(alloc)?)?;
+    }
+    Ok(words)
+}
+
 /// What words say of an interface and a second text.
 pub fn ask(alloc: Global, words: &str, interface: &[u8], second: &[u8]) -> Result<Said, NoMemory> {
-    let mut list = Vec::new(alloc);
-    for word in words.split_whitespace() {
-        list.push(word.to_string(alloc)?)?;
-    }
+    let words = words_of(alloc, words)?;
     let input = input_of(alloc, interface, second)?;
     let mut source = MemSource::new(alloc, &input, MOST_READ, &[])?;
     let mut sink = MemSink::new(alloc, MOST_READ, &[])?;
-    let answer = serial(alloc, &list, &mut source, &mut sink);
+    let answer = serial(alloc, &words, &mut source, &mut sink);
     Ok((answer.status, Vec::from_slice(alloc, sink.written())?))
+}
+
+/// What words print of an interface and a script that is played with a thread for each client.
+pub fn ask_threads<R: Threads + Wait + Sync>(
+    rt: &R,
+    alloc: Global,
+    words: &str,
+    interface: &[u8],
+    script: &[u8],
+) -> Result<Vec<u8>, NoMemory> {
+    let words = words_of(alloc, words)?;
+    let input = input_of(alloc, interface, script)?;
+    let mut source = MemSource::new(alloc, &input, MOST_READ, &[])?;
+    let mut sink = MemSink::new(alloc, MOST_READ, &[])?;
+    superglue(rt, alloc, &words, &mut source, &mut sink, &OpenGate);
+    Ok(Vec::from_slice(alloc, sink.written())?)
 }
 
 /// What `verify` says of a printed run.

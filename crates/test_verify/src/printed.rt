@@ -1,5 +1,5 @@
 // What plays print is a legal history, and it isn't with one reply changed.
-use crate::asking::{ask, is_said};
+use crate::asking::{ask, ask_threads, is_said};
 use sg_top::Status::{Done, Illegal};
 use std::alloc::{AllocError, Global};
 use std::process::Abort;
@@ -74,6 +74,23 @@ fn finds_plays_legal(rt: HostRuntime) -> Result<(), Fail> {
     try_plays(&rt, alloc, MM, &PAGES)?;
     try_plays(&rt, alloc, RAMFS, &FILES)?;
     try_plays(&rt, alloc, SCHED, &THREADS)
+}
+
+// With a thread for each client the entries stand in whatever order the threads came.
+#[test]
+fn finds_threads_legal(rt: HostRuntime) -> Result<(), Fail> {
+    let alloc = rt.alloc();
+    for (interface, script, line) in [
+        (LOCK, LOCKS[0], "legal 4\n"),
+        (LOCK, LOCKS[2], "legal 5\n"),
+        (EVENT, EVENTS[3], "legal 1\n"),
+    ] {
+        for words in ["run", "run trace"] {
+            let run = ask_threads(&rt, alloc, words, interface, script)?;
+            assert!(rt; is_said(alloc, interface, &run, Done, line)?, "{script:?}");
+        }
+    }
+    Ok(())
 }
 
 // Answers of every form, and each refusal.
