@@ -369,7 +369,8 @@ desc_data_retval(int, a) f04(spdid_t s, long desc(id), long n);\n";
 const FOUR_PARAMS: &[u8] =
     b"(spdid_t s, long desc_data(a), long desc_data(b), long desc_data(c), long desc_data(d));\n";
 
-const EIGHT_PARAMS: &[u8] = b"(spdid_t s, long desc_data(a), long desc_data(b), long desc_data(c), long desc_data(d),\n\
+const EIGHT_PARAMS: &[u8] =
+    b"(spdid_t s, long desc_data(a), long desc_data(b), long desc_data(c), long desc_data(d),\n\
 long desc_data(e), long desc_data(f), long desc_data(g), long desc_data(h));\n";
 
 // The text of functions that set all fields by these parameters, with their transitions and recover steps.

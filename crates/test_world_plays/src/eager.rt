@@ -18,8 +18,10 @@ const LAST_OF_TWO: u32 = 40;
 
 // Scripts of client 1 alone.
 const LOCKS: &str = "client 1 { lock_alloc(); lock_take($1); lock_release($1); lock_free($1); }";
+
 const EVENTS: &str =
     "client 1 { evt_split(); evt_trigger($1, 5); evt_wait($1); evt_wait($1); evt_wait($1); }";
+
 const RANKS: &str =
     "client 1 { sched_create_thd(5); sched_create_thd(5); sched_create_thd(5); sched_exit($1); sched_yield($2); sched_next(); }";
 
