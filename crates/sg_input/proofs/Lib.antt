@@ -8,3 +8,4 @@ pub mod OneVerdict
 pub mod PlacedLine
 pub mod Said
 pub use Rattle.sg_print.proofs.sg_parse
+pub use Rattle.sg_entries.proofs as sg_entries

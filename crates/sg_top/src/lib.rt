@@ -6,12 +6,14 @@
 //! - `command`: what the words ask for (`Command`)
 //! - `output`: what a command makes of its input
 //! - `runs`: the runs of scripts
+//! - `laws`: what a run prints is read to its history (`printed_runs_are_read`)
 //! - `services`: the services whose interfaces may be accepted, and their names
 //!
 //! `specs/Headline.antt` says what a play promises, and `specs/Answer.antt` what an answer promises, status by status.
 #![tactic(auto)]
 
 mod command;
+mod laws;
 mod output;
 mod runs;
 mod services;
@@ -19,6 +21,7 @@ mod status;
 mod top;
 
 pub use command::Command;
+pub use laws::printed_runs_are_read;
 pub use sg_input::{
     Input, MOST_DIVIDER, MOST_INPUT, MOST_INTERFACE, MOST_SCRIPT, cut, one_cut, one_input, parse,
     read_input,
