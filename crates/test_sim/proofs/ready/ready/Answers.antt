@@ -9,4 +9,4 @@ pub returns-in-Ready-clause-playable : goal.returns-in-Ready-clause-playable
 returns-in-Ready-clause-playable c =
     let ready : IsReady (map facts_of (c.shape.result ∷ [])) c.as_slice.result.now c.in-Ready.accepted c.in-Ready.script =
     subst (IsInputOf (map facts_of (c.shape.result ∷ [])) c.as_slice.result.now) c.in-Ready.is c.in_ok-accepted.ensures.input in
-    script_playable c.in-Ready.accepted ready.script c.in-Ready.script ready.reads
+    script_playable c.in-Ready.accepted ready.second c.in-Ready.script ready.reads
