@@ -1,6 +1,5 @@
 // Inputs of an interface and a printed run, and what is said of them.
-use sg_edge::{MemSink, MemSource, OpenGate};
-use sg_facts::NoMemory;
+use sg_edge::{MemSink, MemSource, NoMemory, OpenGate};
 use sg_top::{Status, serial, superglue};
 use std::alloc::{AllocError, Global};
 use std::sync::Wait;

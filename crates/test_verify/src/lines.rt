@@ -288,12 +288,13 @@ fn judges_files(rt: HostRuntime) -> Result<(), Fail> {
 }
 
 // The most calls of a script.
-const MOST_CALLS: usize = 65_536;
+const MOST_CALLS: u32 = 65_536;
 
-// So many lines of one client that makes locks, each an entry that is refused for want of a lock.
-fn many_lines(alloc: Global, count: usize) -> Result<Vec<u8>, Fail> {
+// So many lines of one client, each an entry that is refused for want of a lock.
+fn many_lines(alloc: Global, count: u32) -> Result<Vec<u8>, Fail> {
     let mut run = Vec::new(alloc);
-    for number in 1..count + 1 {
+    for before in 0..count {
+        let number = u64::from(before) + 1;
         let line = format!(in alloc; "c1.{number} lock_take(1) = refused NoDesc\n")?;
         run.extend_from_slice(line.as_bytes())?;
     }

@@ -148,7 +148,8 @@ fn changed(alloc: Global, run: &str, place: usize, answer: &str) -> Result<Strin
 fn finds_changes(alloc: Global, interface: &[u8], run: &str, place: usize) -> Result<bool, Fail> {
     let line = run.lines().nth(place).unwrap_or("");
     let told = line.split_once(" = ").unwrap_or(("", "")).1;
-    let wanted = format!(in alloc; "illegal at entry {}: {told}\n", place + 1)?;
+    let entry = place.saturating_add(1);
+    let wanted = format!(in alloc; "illegal at entry {entry}: {told}\n")?;
     for answer in &ANSWERS {
         let other = changed(alloc, run, place, answer)?;
         if other.as_str() != run
