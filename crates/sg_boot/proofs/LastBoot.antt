@@ -6,7 +6,8 @@ use Rattle.sg_facts.specs.declared.trace.BootLog.{BootLog}
 use Rattle.sg_facts.specs.declared.trace.Item.{Item}
 use Rattle.sg_facts.specs.Trace.{Boot, boot_of}
 use Rattle.sg_hist.specs.Recovered.{ends_stopped, is_stopped}
-use Rattle.sg_hist.specs.Growing.{booted, last_items, last_stop, noted, struck}
+use Rattle.sg_hist.specs.Growing.{booted, last_stop, noted, struck}
+use Rattle.sg_hist.specs.Reading.{last_items}
 
 -- ---- boots with room
 

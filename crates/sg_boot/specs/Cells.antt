@@ -4,9 +4,9 @@ use Rattle.std.specs.declared.option.Option.{Option}
 use Rattle.sg_facts.specs.Facts.{Facts}
 use Rattle.sg_facts.specs.Object.{Object}
 use Rattle.sg_facts.specs.Trace.{Boot, Run}
-use Rattle.sg_hist.specs.Reading.{value_at}
+use Rattle.sg_hist.specs.Reading.{last_items, value_at}
 use Rattle.sg_hist.specs.Recovered.{ends_stopped}
-use Rattle.sg_hist.specs.Growing.{last_items, last_stop}
+use Rattle.sg_hist.specs.Growing.{last_stop}
 
 -- what contracts see of a cell: what the running service holds, None for one that failed; the trace of what was done to it; and
 -- how many items and boots more can be noted without memory

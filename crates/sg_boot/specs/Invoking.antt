@@ -26,19 +26,6 @@ use Rattle.sg_hist.specs.Growing.{noted, struck}
 abbrev pub item_of_call : Tag → Call → ℕ → ℕ → Outcome → Item
 item_of_call tag shown real points outcome = record { tag = tag; shown = shown; real = real; points = points; outcome = outcome }
 
--- the call of a load is of no function
-abbrev pub load_call : ℕ → Call
-load_call client = record { client = client; seq = 0; fun = 0; desc = 0; args = [] }
-
--- what a load gives: an Ok without words, and a patch of the whole file
-abbrev pub load_outcome : List ℕ → List ℕ → Outcome
-load_outcome key bytes = Replied (Ok (record { desc = 0; words = []; bytes = [] })) (Some (record { key = key; from = 0; bytes = bytes }))
-
--- the item of a load of a file, for a client
-abbrev pub item_of_load : ℕ → ℕ → List ℕ → List ℕ → Item
-item_of_load client points key bytes =
-    record { tag = Load key client; shown = load_call client; real = 0; points = points; outcome = load_outcome key bytes }
-
 -- an item more in the last boot, and the number of points asked
 abbrev pub with_item : Run → Item → ℕ → Run
 with_item run item points = record { boots = noted run.boots item; points = points }

@@ -6,7 +6,8 @@ ghost use Rattle.sg_facts.specs.Object.{Object, empty_object};
 ghost use Rattle.sg_facts.specs.Trace.{run_of};
 ghost use Rattle.sg_hist.specs.Growing.{booted};
 ghost use Rattle.sg_boot.specs.Cells.{IsCell};
-ghost use Rattle.sg_boot.specs.Invoking.{Invoked, MayInvoke, item_of_load, with_item, with_stop};
+ghost use Rattle.sg_boot.specs.Invoking.{Invoked, MayInvoke, with_item, with_stop};
+ghost use Rattle.sg_hist.specs.Recovered.{item_of_load};
 
 use crate::ask::ask;
 use crate::journal::Journal;

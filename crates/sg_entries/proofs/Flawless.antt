@@ -34,7 +34,7 @@ use Rattle.sg_facts.specs.sg_base.declared.value.Value.TheVariants.{Word, Text}
 use Rattle.sg_report.specs.Report.{takes_id}
 use Rattle.sg_script.specs.Numbers.{is_known_client}
 use Rattle.sg_script.specs.Scripts.{declared_from, declared_fun}
-use Rattle.sg_world_laws.specs.Seats.{MayBeMade}
+use Rattle.sg_report.specs.sg_hist.Clients.{MayBeMade}
 
 -- ---- lists without elements
 

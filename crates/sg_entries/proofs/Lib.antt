@@ -4,6 +4,7 @@ pub mod Flawless
 pub mod Halves
 pub mod Made
 pub mod Ordered
+pub mod Outlines
 pub mod Rewritten
 pub mod Spelt
 pub mod Unique

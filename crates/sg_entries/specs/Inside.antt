@@ -1,4 +1,5 @@
 -- What the contracts of private functions cite.
 pub mod Cutting
 pub mod Making
+pub mod Outlines
 pub mod Parsing

@@ -17,7 +17,7 @@ use Rattle.sg_facts.specs.sg_base.declared.value.Value.TheVariants.{Word, Text}
 use Rattle.sg_report.specs.Report.{entry_line, shows_bytes}
 use Rattle.sg_script.specs.Numbers.{is_text}
 use Rattle.sg_script.specs.Scripts.{declared_fun}
-use Rattle.sg_world_laws.specs.Seats.{MayBeMade}
+use Rattle.sg_report.specs.sg_hist.Clients.{MayBeMade}
 
 -- the texts among values are texts as calls take them
 abbrev pub AreTexts : List Value → Type 0

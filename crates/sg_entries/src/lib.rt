@@ -3,7 +3,8 @@
 //! - `reading`: the history that a text prints (`read_entries`)
 //! - `error`: why a text has none (`EntriesError`, `EntriesKind`)
 //! - `lines`: the lines in which entries stand; `rest`: what is left of a text
-//! - `placing`: what a line stands for, with places in its text; `making`: what a written entry stands for, or what is first wrong with it
+//! - `placing`: what a line stands for, with places in its text; `outline`: what is first wrong with an entry as its outline tells;
+//!   `making`: what a written entry stands for, or what is first wrong with it
 //! - `laws`: a text that prints a history is read to it (`printed_is_read`), and to nothing else (`one_reading`); the
 //!   first flaw comes before all others (`first_flaw_comes_first`)
 //! - `names`: functions by their names; `numbers`: what digits stand for
@@ -18,6 +19,7 @@ mod lines;
 mod making;
 mod names;
 mod numbers;
+mod outline;
 mod placing;
 mod reading;
 mod rest;

@@ -37,8 +37,8 @@ fn word_of(number: &Spelled) -> Result<u64, EntriesError>
     }
 }
 
-// The number of a call.
-fn seq_of(number: &Spelled) -> Result<u32, EntriesError>
+/// The number of a call.
+pub fn seq_of(number: &Spelled) -> Result<u32, EntriesError>
     ensures { IsMade (number_flaws 32 number.now) (number_of number.now) result }
 {
     match number_of_digits(number.slice) {
@@ -47,8 +47,8 @@ fn seq_of(number: &Spelled) -> Result<u32, EntriesError>
     }
 }
 
-// The number of a client.
-fn client_of(number: &Spelled) -> Result<u8, EntriesError>
+/// The number of a client.
+pub fn client_of(number: &Spelled) -> Result<u8, EntriesError>
     ensures { IsMade (client_flaws number.now) (number_of number.now) result }
 {
     match number_of_digits(number.slice) {
@@ -77,8 +77,8 @@ fn check_text(text: &Spelled) -> Result<(), EntriesError>
     }
 }
 
-// The error of a flaw.
-fn fault(kind: EntriesKind, at: usize) -> EntriesError
+/// The error of a flaw.
+pub fn fault(kind: EntriesKind, at: usize) -> EntriesError
     ensures { result ≡ EntriesError.Fault kind at }
 {
     EntriesError::Fault { kind, at }
@@ -198,8 +198,8 @@ fn args_of(alloc: Global, takes_id: bool, args: &[WrittenArg]) -> Result<(u64, A
     }
 }
 
-// Whether a function takes a descriptor or a parent.
-fn takes_id(fun: &FunShape) -> bool
+/// Whether a function takes a descriptor or a parent.
+pub fn takes_id(fun: &FunShape) -> bool
     ensures { result ≡ (takes_desc (fun_of_shape fun.now) || takes_parent (fun_of_shape fun.now)) }
 {
     fun.takes_desc() || fun.takes_parent()

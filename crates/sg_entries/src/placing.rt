@@ -2,13 +2,17 @@
 ghost use Rattle.std.specs.Prelude.{◌≡◌, ◌+◌, ◌<◌, ◌^◌, length, map, Ok};
 ghost use Rattle.sg_entries.specs.Flaws.{entry_flaws, in_line};
 ghost use Rattle.sg_entries.specs.Inside.Making.{IsMade};
-ghost use Rattle.sg_entries.specs.Inside.Parsing.{IsParsed};
+ghost use Rattle.sg_entries.specs.Inside.Outlines.{outline_flaws};
+ghost use Rattle.sg_entries.specs.Inside.Parsing.{IsOutlined, IsParsed};
 ghost use Rattle.sg_entries.specs.Standing.{entry_of};
-ghost use Rattle.sg_entry_parse.specs.Parses.{EntryParses};
+ghost use Rattle.sg_entry_parse.specs.Parses.{EntryParses, OutlineParses};
 
 use crate::making::entry_of;
+use crate::outline::check_outline;
 use crate::{EntriesError, EntriesKind};
-use sg_entry_parse::{EntrySyntax, Spelled, WrittenEntry, parse_entry};
+use sg_entry_parse::{
+    EntryOutline, EntrySyntax, Spelled, WrittenEntry, parse_entry, parse_outline,
+};
 use sg_facts::{Entry, Interface};
 use std::alloc::Global;
 
@@ -21,6 +25,35 @@ pub fn written_in<'a>(alloc: Global, line: &Spelled<'a>) -> Result<WrittenEntry<
         Ok(written) => Ok(written),
         Err(EntrySyntax::NoMemory) => Err(EntriesError::NoMemory),
         Err(EntrySyntax::Syntax { at }) => Err(fault_in(line, EntriesKind::Syntax, at)),
+    }
+}
+
+/// The outline of a line's entry, or where the line fails.
+pub fn outline_in<'a>(alloc: Global, line: &Spelled<'a>) -> Result<EntryOutline<'a>, EntriesError>
+    requires { line.now.at + length line.now.bytes < 2 ^ 64 }
+    ensures { IsOutlined line.now result }
+{
+    match parse_outline(alloc, line.slice) {
+        Ok(outline) => Ok(outline),
+        Err(EntrySyntax::NoMemory) => Err(EntriesError::NoMemory),
+        Err(EntrySyntax::Syntax { at }) => Err(fault_in(line, EntriesKind::Syntax, at)),
+    }
+}
+
+/// Looks whether a line's entry is right as far as its outline tells, and tells what first isn't, with its place in the text of its line.
+pub fn check_outline_in(
+    iface: &Interface,
+    line: &Spelled,
+    outline: &EntryOutline,
+) -> Result<(), EntriesError>
+    requires within { line.now.at + length line.now.bytes < 2 ^ 64 }
+    requires parsed { OutlineParses line.now.bytes (Ok outline.now) }
+    ensures { IsMade (map (in_line line.now) (outline_flaws iface.now outline.now)) tt result }
+{
+    match check_outline(iface, outline) {
+        Ok(()) => Ok(()),
+        Err(EntriesError::NoMemory) => Err(EntriesError::NoMemory),
+        Err(EntriesError::Fault { kind, at }) => Err(fault_in(line, kind, at)),
     }
 }
 

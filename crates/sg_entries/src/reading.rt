@@ -4,7 +4,7 @@ ghost use Rattle.std.specs.declared.result.Result.{Result as Answered};
 ghost use Rattle.sg_facts.specs.Limits.{most_script_calls};
 ghost use Rattle.sg_facts.specs.declared.entry.Entry.{Entry as IsEntry};
 ghost use Rattle.sg_facts.specs.sg_base.Lists.{Each};
-ghost use Rattle.sg_world_laws.specs.Seats.{MayBeMade};
+ghost use Rattle.sg_report.specs.sg_hist.Clients.{MayBeMade};
 ghost use Rattle.sg_entries.specs.declared.error.EntriesError.{EntriesError as Fault};
 ghost use Rattle.sg_entries.specs.Inside.Parsing.{HasEntries, IsChecked};
 ghost use Rattle.sg_entries.specs.Printed.{PrintsHistory};
@@ -12,7 +12,7 @@ ghost use Rattle.sg_entries.specs.Reads.{IsReadOf, entries_read};
 
 use crate::EntriesError;
 use crate::lines::EntryLines;
-use crate::placing::{entry_in, written_in};
+use crate::placing::{check_outline_in, entry_in, outline_in, written_in};
 use sg_facts::Interface;
 use sg_report::History;
 use std::alloc::Global;
@@ -48,7 +48,7 @@ fn check(alloc: Global, text: &[u8]) -> Result<(), EntriesError>
 {
     let mut lines = EntryLines::new(text);
     'lines: while let Some(line) = lines.next() {
-        written_in(alloc, &line)?;
+        outline_in(alloc, &line)?;
     }
     Ok(())
 }
@@ -61,6 +61,8 @@ fn history_of(alloc: Global, text: &[u8], iface: &Interface) -> Result<History, 
     let mut history = History::new(alloc);
     let mut lines = EntryLines::new(text);
     'lines: while let Some(line) = lines.next() {
+        let outline = outline_in(alloc, &line)?;
+        check_outline_in(iface, &line, &outline)?;
         let written = written_in(alloc, &line)?;
         let nth = history.len() as u64 + 1;
         let entry = entry_in(alloc, iface, nth, &line, &written)?;

@@ -4,11 +4,12 @@ use Rattle.std.specs.Prelude.{Ok, Err}
 use Rattle.std.specs.declared.result.Result.{Result}
 use Rattle.sg_entry_parse.specs.declared.error.EntrySyntax.{EntrySyntax}
 use Rattle.sg_entry_parse.specs.declared.error.EntrySyntax.TheVariants.{NoMemory, Syntax}
+use Rattle.sg_entry_parse.specs.declared.tree.EntryOutline.{EntryOutline}
 use Rattle.sg_entry_parse.specs.declared.tree.WrittenEntry.{WrittenEntry}
 use Rattle.sg_entry_parse.specs.Entry.{IsEntry}
-use Rattle.sg_entry_parse.specs.Parses.{IsStuck, FailsAt, EntryParses}
+use Rattle.sg_entry_parse.specs.Parses.{IsStuck, FailsAt, EntryParses, OutlineParses, outline_of}
 use Rattle.sg_entry_parse.specs.Inside.States.{entry_start}
-use Rattle.sg_entry_parse.specs.Inside.Reads.{read_from, Ends}
+use Rattle.sg_entry_parse.specs.Inside.Reads.{read_from, Ends, OutlineEnds}
 use Rattle.sg_entry_parse.proofs.Fitting.{fits_start}
 use Rattle.sg_entry_parse.proofs.Reading.{Stuck, Fails, sound, complete, faults, only_fault}
 use Rattle.sg_entry_parse.proofs.Whole.{entry_of, line_of}
@@ -76,3 +77,33 @@ one_tree line one other h g =
 
     same : (one other : WrittenEntry) → Ok one ≡ answer other → one ≡ other
     same one other e = cc
+
+-- ---- of a parser whose answer is the outline of what is read, or out of memory
+
+abbrev Read : Type 0
+Read = Result WrittenEntry EntrySyntax
+
+same_error : (one other : EntrySyntax) → ◌≡◌ {A = Read} (Err one) (Err other) → one ≡ other
+same_error one other e = cc
+
+not_both : (tree : WrittenEntry) (error : EntrySyntax) → ◌≡◌ {A = Read} (Ok tree) (Err error) → ⊥
+not_both tree error e = cc
+
+pub may_outline : (line : List ℕ) (answer : Result EntryOutline EntrySyntax) → OutlineEnds (read_from entry_start 0 line) answer → OutlineParses line answer
+may_outline line (Ok outline) h = (h.0, may_of line (Ok h.0) h.1, h.2)
+may_outline line (Err NoMemory) h = tt
+may_outline line (Err (Syntax place)) h = may_of line (Err (Syntax place)) (h (λ e. cc))
+
+pub only_outline : (line : List ℕ) (answer other : Result EntryOutline EntrySyntax) → OutlineEnds (read_from entry_start 0 line) answer
+    → OutlineParses line other → other ≢ Err NoMemory → (answer ≡ other) ⊎ (answer ≡ Err NoMemory)
+only_outline line (Err NoMemory) other h p n = inr refl
+only_outline line answer (Err NoMemory) h p n = absurd (n refl)
+only_outline line (Ok outline) (Ok other) h p n =
+    let same = one_tree line h.0 p.0 (may_of line (Ok h.0) h.1) p.1 in
+    inl (ap Ok (h.2 ∙ ap outline_of same ∙ sym p.2))
+only_outline line (Ok outline) (Err (Syntax place)) h p n =
+    absurd (not_both h.0 (Syntax place) (sym h.1 ∙ only_answer line (Err (Syntax place)) p (λ e. cc)))
+only_outline line (Err (Syntax place)) (Ok other) h p n =
+    absurd (not_both p.0 (Syntax place) (sym (only_answer line (Ok p.0) p.1 (λ e. cc)) ∙ h (λ e. cc)))
+only_outline line (Err (Syntax place)) (Err (Syntax other)) h p n =
+    inl (ap Err (same_error (Syntax place) (Syntax other) (sym (h (λ e. cc)) ∙ only_answer line (Err (Syntax other)) p (λ e. cc))))

@@ -3,6 +3,7 @@ use Rattle.std.specs.Prelude.{◌≡◌, ℕ, List, [], ◌∷◌, ◌++◌, Ok,
 use Rattle.std.specs.declared.result.Result.{Result}
 use Rattle.sg_entry_parse.specs.declared.error.EntrySyntax.{EntrySyntax}
 use Rattle.sg_entry_parse.specs.declared.error.EntrySyntax.TheVariants.{NoMemory, Syntax}
+use Rattle.sg_entry_parse.specs.declared.tree.EntryOutline.{EntryOutline}
 use Rattle.sg_entry_parse.specs.declared.tree.WrittenEntry.{WrittenEntry}
 use Rattle.sg_entry_parse.specs.Entry.{IsEntry}
 
@@ -29,3 +30,14 @@ abbrev pub EntryParses : List ℕ → Result WrittenEntry EntrySyntax → Type 0
 EntryParses line (Ok tree) = IsEntry line tree
 EntryParses line (Err NoMemory) = Unit {0}
 EntryParses line (Err (Syntax place)) = FailsAt line place
+
+-- ---- outlines
+
+-- the outline of an entry: its client, number and function, and how many arguments it has
+abbrev pub outline_of : WrittenEntry → EntryOutline
+outline_of e = record { client = e.client; seq = e.seq; name = e.name; args = length e.args }
+
+-- what a parser may answer that gives no more than the outline of a line's entry
+abbrev pub OutlineParses : List ℕ → Result EntryOutline EntrySyntax → Type 0
+OutlineParses line (Ok outline) = (tree : WrittenEntry) × EntryParses line (Ok tree) × (outline ≡ outline_of tree)
+OutlineParses line (Err error) = EntryParses line (Err error)

@@ -1,5 +1,5 @@
 // The pieces of a line: fixed bytes, numbers, names and texts, as they are read.
-ghost use Rattle.std.specs.Prelude.{◌≡◌, ◌≤◌, length, OnOk};
+ghost use Rattle.std.specs.Prelude.{◌≡◌, ◌≤◌, ◌<◌, ◌^◌, length, OnOk};
 ghost use Rattle.std.specs.Char.{is_ascii_digit};
 ghost use Rattle.std.specs.List.{prefix_len};
 ghost use Rattle.sg_base.specs.Text.{is_text_byte};
@@ -56,6 +56,7 @@ pub fn positive<'a>(line: &mut Line<'a>) -> Result<Spelled<'a>, EntrySyntax>
 pub fn number<'a>(line: &mut Line<'a>) -> Result<Spelled<'a>, EntrySyntax>
     ensures leads { (k : Spelling → EntryState) → Leads (read (number k) line.old) result k line.new }
     ensures fewer { OnOk result (length line.new.rest ≤ length line.old.rest) }
+    ensures short { OnOk result (length line.new.rest < 2 ^ 63) }
 {
     let len = number_len(line.rest());
     if len == 0 {
@@ -81,6 +82,7 @@ pub fn name<'a>(line: &mut Line<'a>) -> Result<Spelled<'a>, EntrySyntax>
 pub fn text_rest<'a>(line: &mut Line<'a>) -> Result<Spelled<'a>, EntrySyntax>
     ensures leads { (k : Spelling → EntryState) → Leads (read (text_rest line.old.at k) line.old) result k line.new }
     ensures fewer { OnOk result (length line.new.rest ≤ length line.old.rest) }
+    ensures short { OnOk result (length line.new.rest < 2 ^ 63) }
 {
     let len = text_len(line.rest());
     let text = line.take(len);

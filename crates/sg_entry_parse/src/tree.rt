@@ -61,3 +61,16 @@ pub struct WrittenEntry<'a> {
     pub args: WrittenArgList<'a>,
     pub answer: WrittenAnswer<'a>,
 }
+
+/// The outline of an entry: its client, number and function, and how many arguments it has.
+#[derive(Debug, Drop)]
+pub struct EntryOutline<'a> {
+    /// The number of the client.
+    pub client: Spelled<'a>,
+    /// The number of the call among those of the client.
+    pub seq: Spelled<'a>,
+    /// The name of the function.
+    pub name: Spelled<'a>,
+    /// How many arguments there are.
+    pub args: usize,
+}

@@ -14,7 +14,7 @@ use Rattle.sg_facts.specs.declared.trace.Tag.TheVariants.{Walk, Load, Client}
 use Rattle.sg_facts.specs.sg_base.declared.reply.Reply.TheVariants.{Ok, Refused}
 use Rattle.sg_facts.specs.Facts.{Facts, fun_at, is_visible}
 use Rattle.sg_facts.specs.Trace.{Boot, Run}
-use Rattle.sg_hist.specs.Reading.{Position, items_after, id_given, is_by_guard, is_item_of, item_of, names_at, places_of}
+use Rattle.sg_hist.specs.Reading.{Position, items_after, id_given, is_by_guard, is_item_of, item_of, names_at, older_items, places_of}
 use Rattle.sg_hist.specs.Recovered.{AskedAs, GivesEntry, IsDemanded, IsItsCall, IsRebooted, IsReplyOf, IsServed, IsTrackedAt, IsWalked, Stubs, asked_in, calls_made, ends_stopped}
 
 -- ---- boots and places
@@ -46,18 +46,6 @@ abbrev pub last_stop : List Boot → Option ℕ
 last_stop [] = None
 last_stop (b ∷ []) = b.stop
 last_stop (b ∷ c ∷ boots) = last_stop (c ∷ boots)
-
--- the items of the last boot
-abbrev pub last_items : List Boot → List Item
-last_items [] = []
-last_items (b ∷ []) = b.items
-last_items (b ∷ c ∷ boots) = last_items (c ∷ boots)
-
--- the items of the boots before the last, after others
-abbrev pub older_items : List Item → List Boot → List Item
-older_items before [] = before
-older_items before (b ∷ []) = before
-older_items before (b ∷ c ∷ boots) = older_items (before ++ b.items) (c ∷ boots)
 
 -- a place is the same but that an item more stands after it
 pub record IsGrown (item : Item) (p q : Position) : Type 0 where

@@ -1,4 +1,6 @@
 pub mod Clients
+pub mod Ending
 pub mod Growing
 pub mod Reading
 pub mod Recovered
+pub mod Wakes

@@ -60,6 +60,24 @@ places_from older (b ∷ boots) = places_in older [] b.items (items_of boots) ++
 abbrev pub places_of : Run → List Position
 places_of run = places_from [] run.boots
 
+-- ---- the last boot
+
+-- the items of the last boot
+abbrev pub last_items : List Boot → List Item
+last_items [] = []
+last_items (b ∷ []) = b.items
+last_items (b ∷ c ∷ boots) = last_items (c ∷ boots)
+
+-- the items of the boots before the last, after others
+abbrev pub older_items : List Item → List Boot → List Item
+older_items before [] = before
+older_items before (b ∷ []) = before
+older_items before (b ∷ c ∷ boots) = older_items (before ++ b.items) (c ∷ boots)
+
+-- the places in the last boot
+abbrev pub last_places : List Boot → List Position
+last_places boots = places_in (older_items [] boots) [] (last_items boots) []
+
 -- ---- items of entries
 
 -- whether an item is of the call of a number of a client

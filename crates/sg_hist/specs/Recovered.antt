@@ -26,13 +26,11 @@ use Rattle.sg_facts.specs.Interface.{Declared}
 use Rattle.sg_facts.specs.Legal.{Table}
 use Rattle.sg_facts.specs.Needs.{is_needed, needs, wanted}
 use Rattle.sg_facts.specs.Object.{Object, file_at, patch_of}
-use Rattle.sg_facts.specs.Tables.{AreTables}
 use Rattle.sg_facts.specs.Trace.{Boot, Run}
 use Rattle.sg_facts.specs.Track.{row_at}
 use Rattle.sg_facts.specs.Walks.{replayed_call}
 use Rattle.sg_hist.specs.declared.ended.End.{End}
 use Rattle.sg_hist.specs.declared.ended.End.TheVariants.{Done, Blocked}
-use Rattle.sg_hist.specs.Clients.{calls_of}
 use Rattle.sg_hist.specs.Reading.{Position, items_after, is_by_guard, is_made, is_item_of, is_whole_at, item_of, names_at, object_before, places_of, replied_of, service_call, stands_before, value_at, walk_in}
 
 -- ---- the calls of clients
@@ -223,16 +221,39 @@ IsWalked facts walks history p (Client client seq) = Unit {0}
 
 -- ---- on demand
 
--- a client's call that is under way at a place: its number is above those that were answered before, and not above those that
--- are answered later
-pub record IsUnderWay (history : List Entry) (unanswered : List Call) (p : Position) (client : ℕ) (call : Call) : Type 0 where
+-- whether an entry, which these follow in the history, was answered before a place: its item stands before the place, or that of a
+-- visible one after it does, which was answered with its item
+abbrev pub is_answered_before : Facts → Position → Entry → List Entry → Bool
+is_answered_before facts p e later = stands_before p e || list_any (λ x. is_visible facts x.call.fun && stands_before p x) later
+
+-- whether a client's entries that were answered before a place have smaller numbers than this
+abbrev pub is_above_earlier : Facts → Position → ℕ → ℕ → List Entry → Bool
+is_above_earlier facts p client seq [] = true
+is_above_earlier facts p client seq (e ∷ later) =
+    (not ((e.call.client == client) && is_answered_before facts p e later) || nat_lt e.call.seq seq) && is_above_earlier facts p client seq later
+
+-- whether the item of an entry doesn't stand before a place, so that it was answered later
+abbrev pub is_answered_later : Position → Entry → Bool
+is_answered_later p e = not (is_by_guard e.reply || stands_before p e)
+
+-- whether from the first entry on that was answered later than a place, or where one was before, a client's entries have no smaller
+-- numbers than this
+abbrev pub is_first_of_later : Position → ℕ → ℕ → Bool → List Entry → Bool
+is_first_of_later p client seq late [] = true
+is_first_of_later p client seq late (e ∷ history) =
+    (not ((e.call.client == client) && (late || is_answered_later p e)) || nat_le seq e.call.seq)
+    && is_first_of_later p client seq (late || is_answered_later p e) history
+
+-- a client's call that is under way at a place: its number is above those that were answered before, and not above those that are
+-- answered later. A refusal by the guard has no item: its time is that of the entries around it
+pub record IsUnderWay (facts : Facts) (history : List Entry) (unanswered : List Call) (p : Position) (client : ℕ) (call : Call) : Type 0 where
   pub its : IsCallOf history unanswered client call
-  pub above : list_all (λ e. not (stands_before p e) || nat_lt e.call.seq call.seq) (calls_of history client) ≡ true
-  pub first : list_all (λ e. is_by_guard e.reply || stands_before p e || nat_le call.seq e.call.seq) (calls_of history client) ≡ true
+  pub above : is_above_earlier facts p client call.seq history ≡ true
+  pub first : is_first_of_later p client call.seq false history ≡ true
 
 -- a client's call is admitted at a place: it is under way there, and the guard lets it pass
 pub record IsAdmitted (i : Declared) (history : List Entry) (unanswered : List Call) (p : Position) (client : ℕ) (call : Call) : Type 0 where
-  pub under_way : IsUnderWay history unanswered p client call
+  pub under_way : IsUnderWay i.facts history unanswered p client call
   pub guarded : guard i (object_before i.facts history p) call ≡ None
 
 -- whether an item brought a file into this boot: a load of it, or a write that was committed
@@ -243,13 +264,18 @@ is_patch_at key outcome = of (replied_of outcome)
     of (Some (reply, Some patch)) = bytes_eq patch.key key
     of _ = false
 
--- the whole file of a key is loaded
-abbrev pub IsLoad : Object → List ℕ → Outcome → Type 0
-IsLoad o key outcome = of (replied_of outcome)
-  where
-    of : Option (Reply × Option Patch) → Type 0
-    of (Some (reply, Some patch)) = (patch.key ≡ key) × (patch.from ≡ 0) × (patch.bytes ≡ file_at o.files key) × (patch.bytes ≢ [])
-    of _ = ⊥
+-- the call of a load is of no function
+abbrev pub load_call : ℕ → Call
+load_call client = record { client = client; seq = 0; fun = 0; desc = 0; args = [] }
+
+-- what a load gives: an Ok without words, and a patch of the whole file
+abbrev pub load_outcome : List ℕ → List ℕ → Outcome
+load_outcome key bytes = Replied (Ok (record { desc = 0; words = []; bytes = [] })) (Some (record { key = key; from = 0; bytes = bytes }))
+
+-- the item of a load of a file, for a client
+abbrev pub item_of_load : ℕ → ℕ → List ℕ → List ℕ → Item
+item_of_load client points key bytes =
+    record { tag = Load key client; shown = load_call client; real = 0; points = points; outcome = load_outcome key bytes }
 
 -- what is rebuilt is wanted for an admitted call of the client in whose turn it is rebuilt, and is the least that isn't whole
 pub record IsRebuiltFor (i : Declared) (walks : List WalkLine) (history : List Entry) (unanswered : List Call) (p : Position) (client id : ℕ) : Type 0 where
@@ -257,14 +283,15 @@ pub record IsRebuiltFor (i : Declared) (walks : List WalkLine) (history : List E
   pub admitted : IsAdmitted i history unanswered p client call
   pub least : find (λ id. not (is_whole_at i.facts walks history p id)) (wanted i (object_before i.facts history p) call).ids ≡ Some id
 
--- what is loaded is needed, once all wanted rows are whole, isn't empty, and isn't in this boot yet
+-- what is loaded is needed, once all wanted rows are whole, isn't empty, and isn't in this boot yet; and the item is just its load
 pub record IsLoadedFor (i : Declared) (walks : List WalkLine) (history : List Entry) (unanswered : List Call) (p : Position) (client : ℕ) (key : List ℕ) : Type 0 where
   pub call : Call
   pub admitted : IsAdmitted i history unanswered p client call
   pub rows : list_all (is_whole_at i.facts walks history p) (wanted i (object_before i.facts history p) call).ids ≡ true
   pub file : (needs i.facts (object_before i.facts history p) call).file ≡ Some key
   pub absent : list_any (λ item. is_patch_at key item.outcome) p.front ≡ false
-  pub whole : IsLoad (object_before i.facts history p) key p.item.outcome
+  pub some : file_at (object_before i.facts history p).files key ≢ []
+  pub load : p.item ≡ item_of_load client p.item.points key (file_at (object_before i.facts history p).files key)
 
 -- an item was due: a row or a file was brought back because a call that was admitted wants it, and a client's call is the one that
 -- was, so that each client's items stand in its own order
@@ -433,24 +460,3 @@ pub record IsRecovered (s : Stubs) (history : List Entry) (run : Run) (unanswere
   pub points : (nat_lt run.points last_count ≡ true) → ArePointsOf true s.interface.facts s.ask s.parts 0 run.boots run.points
   -- no reply that was held when the service stopped is committed afterwards
   pub held : AreInBoots run 0 history
-
--- ---- a run that ended
-
--- something was asked in a boot, or it was stopped
-abbrev pub IsUsed : Boot → Type 0
-IsUsed b = (b.items ≢ []) ⊎ IsSome b.stop
-
--- the last boot is used, where it isn't the first
-abbrev pub EndsUsed : List Boot → Type 0
-EndsUsed [] = Unit {0}
-EndsUsed (b ∷ []) = Unit {0}
-EndsUsed (b ∷ c ∷ []) = IsUsed c
-EndsUsed (b ∷ c ∷ d ∷ boots) = EndsUsed (c ∷ d ∷ boots)
-
--- a run that ended has recovered, where its clients ended so
-pub record HasRecovered (s : Stubs) (history : List Entry) (run : Run) (ends : List (ℕ × End)) : Type 0 where
-  -- no row is rebuilt by other walks than the shortest of an interface that can be recovered
-  pub tables : AreTables s.interface s.walks
-  pub recovered : IsRecovered s history run (waiting ends)
-  -- none is booted for nothing
-  pub used : EndsUsed run.boots

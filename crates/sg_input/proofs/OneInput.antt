@@ -19,12 +19,11 @@ use Rattle.sg_script.specs.declared.fault.ScriptError.{ScriptError}
 use Rattle.sg_script.specs.declared.fault.ScriptError.TheVariants.{NoMemory as no_room, Fault}
 use Rattle.sg_script.specs.declared.fault.ScriptFault.{ScriptFault}
 use Rattle.sg_script.specs.declared.script.Script.{Script}
-use Rattle.sg_script.specs.Reads.{IsReadingOf}
 use Rattle.sg_script.proofs.Unique.{one_reading}
 use Rattle.sg_input.specs.declared.input.Input.{Input}
 use Rattle.sg_input.specs.declared.input.Input.TheVariants.{Refused, Ready}
 use Rattle.sg_input.specs.Lines.{script_line}
-use Rattle.sg_input.specs.Inputs.{AreTexts, HasLongText, HasNoDivider, IsBadInterface, IsBadScript, IsBadSecond, IsInputOf, IsInterface, IsReadAs, IsReady, IsRefusedFront, IsRefusedInput, IsScript, most_interface, most_script}
+use Rattle.sg_input.specs.Inputs.{AreTexts, HasLongText, HasNoDivider, IsBadInterface, IsBadScript, IsInputOf, IsInterface, IsReadAs, IsReady, IsRefusedFront, IsRefusedInput, IsScript, most_interface, most_script}
 use Rattle.sg_input.proofs.OneCut.{one_cut}
 
 -- ---- the interface

@@ -1,5 +1,5 @@
 -- An input with a printed run is one thing.
-use Rattle.std.proofs.Common.{◌≡◌, ℕ, List, IfOk, refl, sym, ◌∙◌, ap}
+use Rattle.std.proofs.Common.{◌≡◌, ℕ, List, IfOk, sym, ◌∙◌, ap}
 use Rattle.std.specs.Prelude.{Ok, Err}
 use Rattle.std.specs.declared.result.Result.{Result}
 use Rattle.sg_facts.specs.sg_base.declared.memory.NoMemory.{NoMemory}

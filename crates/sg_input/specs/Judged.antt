@@ -1,6 +1,6 @@
 -- A history that may be judged.
 use Rattle.std.specs.Prelude.{◌≤◌, length}
-use Rattle.sg_entries.specs.sg_world_laws.Seats.{MayBeMade}
+use Rattle.sg_entries.specs.sg_report.sg_hist.Clients.{MayBeMade}
 use Rattle.sg_facts.specs.Limits.{most_script_calls}
 use Rattle.sg_facts.specs.sg_base.Lists.{Each}
 use Rattle.sg_input.specs.declared.run_input.RunInput.{RunInput}

@@ -1,19 +1,19 @@
 -- The play of a script without stops, turn by turn.
-use Rattle.std.specs.Prelude.{ℕ, zero, suc, ◌≡◌, ◌+◌, ◌-◌, ◌==◌, Bool, true, false, ◌&&◌, ◌||◌, nat_lt, if◌then◌else◌, List, [], ◌∷◌, ◌++◌, None, Some, length, map, slice_get, slice_set, unwrap_or}
+use Rattle.std.specs.Prelude.{ℕ, zero, suc, ◌≡◌, ◌+◌, ◌-◌, Bool, true, false, nat_lt, if◌then◌else◌, List, [], ◌∷◌, ◌++◌, None, Some, length, map, slice_get, slice_set, unwrap_or}
 use Rattle.std.specs.declared.option.Option.{Option}
 use Rattle.sg_facts.specs.sg_base.declared.call.Call.{Call}
 use Rattle.sg_facts.specs.sg_base.declared.reply.Code.{Code}
 use Rattle.sg_facts.specs.sg_base.declared.reply.Reply.{Reply}
-use Rattle.sg_facts.specs.sg_base.declared.reply.Reply.TheVariants.{Ok, Refused}
+use Rattle.sg_facts.specs.sg_base.declared.reply.Reply.TheVariants.{Refused}
 use Rattle.sg_facts.specs.declared.entry.Entry.{Entry}
 use Rattle.sg_facts.specs.declared.row.Row.{Row}
-use Rattle.sg_facts.specs.Facts.{Facts, fun_at, is_visible}
+use Rattle.sg_facts.specs.Facts.{Facts, is_visible}
 use Rattle.sg_facts.specs.Guard.{guard}
 use Rattle.sg_facts.specs.Interface.{Declared}
 use Rattle.sg_facts.specs.Legal.{Table}
 use Rattle.sg_facts.specs.Object.{object_of}
-use Rattle.sg_facts.specs.Track.{ends_with}
 use Rattle.sg_script.specs.declared.script.Script.{Script}
+use Rattle.sg_seat.specs.sg_hist.Wakes.{wakes}
 use Rattle.sg_plain.specs.Calls.{most_client, call_after, ascending_from, script_calls}
 
 -- ---- clients
@@ -62,12 +62,6 @@ abbrev pub with_player : Stage → ℕ → Player → Stage
 with_player s client p = record s { players = slice_set s.players (client - 1) p }
 
 -- ---- commits
-
--- whether an answered call wakes who waits on a descriptor: an Ok of a wake-up on it, or of a call that ends it
-abbrev pub wakes : Facts → List Row → Call → Reply → ℕ → Bool
-wakes facts rows call (Refused code) id = false
-wakes facts rows call (Ok good) id =
-    ((fun_at facts.funs call.fun).wakeup && (call.desc == id)) || ((fun_at facts.funs call.fun).terminal && ends_with facts rows call.desc id)
 
 -- the descriptor of the call that a client is at, 0 where it has none
 abbrev pub waits_on : Option Call → ℕ

@@ -3,21 +3,18 @@ use Rattle.std.specs.Prelude.{ℕ, ◌≡◌, ◌+◌, ◌==◌, Bool, true, fal
 use Rattle.std.specs.List.{list_all, list_any}
 use Rattle.sg_facts.specs.sg_base.Lists.{Each, When}
 use Rattle.sg_facts.specs.declared.entry.Entry.{Entry}
-use Rattle.sg_facts.specs.declared.outcome.Outcome.{Outcome}
-use Rattle.sg_facts.specs.declared.outcome.Outcome.TheVariants.{Replied, Blocks, Stopped, NoMemory}
-use Rattle.sg_facts.specs.declared.trace.Item.{Item}
 use Rattle.sg_facts.specs.declared.trace.Tag.{Tag}
 use Rattle.sg_facts.specs.declared.trace.Tag.TheVariants.{Walk, Load, Client}
 use Rattle.sg_facts.specs.Facts.{Facts, is_visible}
 use Rattle.sg_facts.specs.Trace.{Boot, Run}
 use Rattle.sg_seat.specs.sg_hist.declared.ended.End.{End}
 use Rattle.sg_seat.specs.sg_hist.Clients.{calls_of}
-use Rattle.sg_seat.specs.sg_hist.Reading.{Position, items_after, is_by_guard, is_item_of, is_tagged, items_of, object_before, places_in, places_of}
+use Rattle.sg_seat.specs.sg_hist.Reading.{Position, is_by_guard, is_item_of, is_tagged, items_of, places_in, places_of}
 use Rattle.sg_seat.specs.sg_hist.Recovered.{is_blocked, struck_in}
 use Rattle.sg_script.specs.declared.script.Script.{Script}
 use Rattle.sg_script.specs.declared.script.ScriptCall.{ScriptCall}
 use Rattle.sg_plain.specs.Calls.{callers, resolved_by, script_calls}
-use Rattle.sg_plain.specs.Plain.{wakes}
+use Rattle.sg_seat.specs.sg_hist.Wakes.{has_blocked, wakes_at}
 
 -- ---- each client's calls
 
@@ -70,19 +67,6 @@ abbrev pub GetsPlainAlone : Script → List Entry → List Entry → Type 0
 GetsPlainAlone script history plain = list_all (λ c. c == 1) (callers script) ≡ true → history ≡ plain
 
 -- ---- waits
-
--- whether a call had to wait
-abbrev pub has_blocked : Outcome → Bool
-has_blocked Blocks = true
-has_blocked (Replied reply patch) = false
-has_blocked Stopped = false
-has_blocked NoMemory = false
-
--- whether a place's item is that of an entry which wakes who waits on a descriptor
-abbrev pub wakes_at : Facts → List Entry → ℕ → Position → Bool
-wakes_at facts history id p =
-    list_any (λ e. not (is_by_guard e.reply) && is_item_of e p.item && not (list_any (is_item_of e) (items_after p))
-    && wakes facts (object_before facts history p).rows e.call e.reply id) history
 
 -- whether a call of a client waits at none of these places before one that wakes who waits on a descriptor
 abbrev pub is_woken_first : Facts → List Entry → ℕ → ℕ → ℕ → List Position → Bool

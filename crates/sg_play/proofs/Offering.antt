@@ -27,7 +27,7 @@ use Rattle.sg_plain.specs.Playing.Callers.{handed, is_receipted, is_setting_up}
 use Rattle.sg_plain.specs.Playing.Given.{GaveIds, given_in}
 use Rattle.sg_plain.specs.Playing.Plays.{IsPlaying}
 use Rattle.sg_plain.specs.Playing.Turns.{is_free_phase}
-use Rattle.sg_plain.proofs.Playing.Lines.{length_set, same_or_other, seat_here, seat_there}
+use Rattle.sg_plain.proofs.sg_seat.Lines.{length_set, same_or_other, seat_here, seat_there}
 use Rattle.sg_plain.proofs.Playing.Playing.{playing_offer}
 use Rattle.sg_plain.proofs.Playing.Resolving.{fits_at}
 

@@ -11,7 +11,8 @@ use Rattle.sg_world.specs.declared.did.Did.TheVariants.{Answered, Blocked as Wai
 use Rattle.sg_world.specs.Steps.{Boots, Commits, Loses, Skips, Steps}
 use Rattle.sg_world.specs.sg_world_laws.Setting.{Setting}
 use Rattle.sg_plain.specs.Playing.Callers.{EntersCall, EntersNothing, StepsOn, handed, is_receipted}
-use Rattle.sg_plain.proofs.Playing.Lines.{line_entered, line_same, line_set, line_woken, seat_here, length_map, seat_woken, handed_woken}
+use Rattle.sg_plain.proofs.Playing.Lines.{line_entered, line_same, line_set, line_woken, handed_woken}
+use Rattle.sg_plain.proofs.sg_seat.Lines.{seat_here, length_map, seat_woken}
 
 -- who offers a call has no receipt
 offers_none : (p : Phase) → is_offered p ≡ true → is_receipted p ≡ false

@@ -17,7 +17,8 @@ use Rattle.sg_plain.specs.Playing.Callers.{handed, is_receipted, is_setting_up}
 use Rattle.sg_plain.specs.Playing.Given.{HandsReply, given_in}
 use Rattle.sg_plain.specs.Playing.Plays.{IsPlaying}
 use Rattle.sg_plain.proofs.Playing.Calling.{callers_step, its_client, next_of}
-use Rattle.sg_plain.proofs.Playing.Lines.{line_set, seat_here}
+use Rattle.sg_plain.proofs.Playing.Lines.{line_set}
+use Rattle.sg_plain.proofs.sg_seat.Lines.{seat_here}
 use Rattle.sg_plain.proofs.Playing.Playing.{playing_step, playing_still}
 use Rattle.sg_play.specs.Turning.{behind_step, handed_by}
 use Rattle.sg_play.proofs.Stepping.{IsHandedTo, handed_step, quiet_step}

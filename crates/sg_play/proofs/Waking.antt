@@ -4,12 +4,8 @@ pub mod Boots
 pub mod Calls
 pub mod Items
 pub mod Private
-pub mod Seats
 pub mod Shapes
 pub mod Turned
-pub mod Used
-pub mod Using
 pub mod Waiting
 pub mod Waking
-pub mod Wakers
 pub mod Woken

@@ -215,11 +215,11 @@ named_refused facts h e guards (p ∷ ps) = (names_same facts h (h ++ e ∷ []) 
     all [] = tt
     all (i ∷ items) = (refused_same facts h e i guards, all items)
 
-pub refused_stays : (s : Stubs) (h : List Entry) (run : Run) (u u' : List Call) (e : Entry) → is_by_guard e.reply ≡ true → AreKept h u (h ++ e ∷ []) u'
+pub refused_stays : (s : Stubs) (h : List Entry) (run : Run) (u u' : List Call) (e : Entry) → is_by_guard e.reply ≡ true → IsLastCall h u e.call → AreKept h u (h ++ e ∷ []) u'
     → IsRecovering s h run u → IsRecovering s (h ++ e ∷ []) run u'
-refused_stays s h run u u' e guards kept r =
+refused_stays s h run u u' e guards last kept r =
     let h' : List Entry = h ++ e ∷ [] in
-    let same : (p : Position) → IsSame s.interface.facts s.walks h u h' u' p p.rest p.newer = λ p. same_refused s.interface.facts s.walks h u u' e p guards kept in
+    let same : (p : Position) → IsSame s.interface.facts s.walks h u h' u' p p.rest p.newer = λ p. same_refused s.interface.facts s.walks h u u' e p guards last kept in
     record {
       reboots = r.reboots;
       served = record {
@@ -322,7 +322,7 @@ made_stays s h run u u' kept r = record {
   tracked_state = r.tracked_state;
 }
   where
-    under : (p : Position) (client : ℕ) (call : Call) → IsUnderWay h u p client call → IsUnderWay h u' p client call
+    under : (p : Position) (client : ℕ) (call : Call) → IsUnderWay s.interface.facts h u p client call → IsUnderWay s.interface.facts h u' p client call
     under p client call w = record { its = record { its = w.its.its; made = kept call w.its.made }; above = w.above; first = w.first }
 
     admitted : (p : Position) (client : ℕ) (call : Call) → IsAdmitted s.interface h u p client call → IsAdmitted s.interface h u' p client call
@@ -339,7 +339,8 @@ made_stays s h run u u' kept r = record {
           rows = d.rows;
           file = d.file;
           absent = d.absent;
-          whole = d.whole;
+          some = d.some;
+          load = d.load;
         }
         by (Client client seq) d = admitted p client p.item.shown d
 

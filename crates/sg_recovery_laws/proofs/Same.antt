@@ -1,5 +1,5 @@
 -- What is said of an item in its place stays where more stands after it, as long as the same was committed before it.
-use Rattle.std.proofs.Common.{◌≡◌, ℕ, Bool, true, ◌==◌, not, ◌&&◌, ◌||◌, List, [], ◌∷◌, Option, None, Some, cond, refl, sym, ◌∙◌, ap, subst}
+use Rattle.std.proofs.Common.{◌≡◌, ◌≢◌, ℕ, Bool, true, ◌==◌, not, ◌&&◌, ◌||◌, List, [], ◌∷◌, Option, None, Some, cond, refl, sym, ◌∙◌, ap, subst}
 use Rattle.std.specs.List.{list_all, list_any}
 use Rattle.std.specs.Prelude.{filter, find}
 use Rattle.sg_facts.specs.sg_base.Lists.{Each}
@@ -15,11 +15,11 @@ use Rattle.sg_facts.specs.Facts.{Facts}
 use Rattle.sg_facts.specs.Guard.{guard}
 use Rattle.sg_facts.specs.Interface.{Declared}
 use Rattle.sg_facts.specs.Needs.{is_needed, needs, wanted}
-use Rattle.sg_facts.specs.Object.{object_of}
+use Rattle.sg_facts.specs.Object.{Object, file_at, object_of}
 use Rattle.sg_facts.specs.Track.{row_at}
 use Rattle.sg_hist.specs.Growing.{AreGrown, IsGrown}
 use Rattle.sg_hist.specs.Reading.{Position, entries_before, ends_walk, has_length, is_made, is_ok, is_rebuilt_at, is_whole_at, names_at, object_before, value_at, walk_in}
-use Rattle.sg_hist.specs.Recovered.{IsAdmitted, IsAlikeTo, IsCallOfRow, IsDemanded, IsLoad, IsTracked, IsTrackedAt, IsUnderWay, IsWalked}
+use Rattle.sg_hist.specs.Recovered.{IsAdmitted, IsAlikeTo, IsCallOfRow, IsDemanded, IsTracked, IsTrackedAt, IsUnderWay, IsWalked, item_of_load}
 
 -- ---- lists
 
@@ -55,7 +55,7 @@ pub record IsSame (facts : Facts) (walks : List WalkLine) (h : List Entry) (u : 
   pub names : names_at facts h' p.front ≡ names_at facts h p.front
   pub made : (id : ℕ) → list_any (is_made facts h' id) p.front ≡ list_any (is_made facts h id) p.front
   pub whole : (id : ℕ) → is_whole_at facts walks h' (again p r n) id ≡ is_whole_at facts walks h p id
-  pub under_way : (client : ℕ) (call : Call) → IsUnderWay h u p client call → IsUnderWay h' u' (again p r n) client call
+  pub under_way : (client : ℕ) (call : Call) → IsUnderWay facts h u p client call → IsUnderWay facts h' u' (again p r n) client call
 
 pub walked_same : (facts : Facts) (walks : List WalkLine) (h : List Entry) (u : List Call) (h' : List Entry) (u' : List Call) (p : Position) (r n : List Item)
     → IsSame facts walks h u h' u' p r n → IsWalked facts walks h p p.item.tag → IsWalked facts walks h' (again p r n) p.item.tag
@@ -103,7 +103,8 @@ demanded_same i walks h u h' u' p r n same d = by p.item.tag d
           (all_same (is_whole_at i.facts walks h' (again p r n)) (is_whole_at i.facts walks h p) (wanted i (object_before i.facts h p) d.call).ids same.whole ∙ d.rows);
       file = subst (λ o. (needs i.facts o d.call).file ≡ Some key) (sym same.object) d.file;
       absent = d.absent;
-      whole = subst (λ o. IsLoad o key p.item.outcome) (sym same.object) d.whole;
+      some = subst (λ (o : Object). file_at o.files key ≢ []) (sym same.object) d.some;
+      load = subst (λ (o : Object). p.item ≡ item_of_load client p.item.points key (file_at o.files key)) (sym same.object) d.load;
     }
     by (Client client seq) d = admitted client p.item.shown d
 

@@ -1,24 +1,23 @@
 -- What an item rests on stays: where an item is noted, with its entry or without, and where a refusal by the guard is appended.
-use Rattle.std.proofs.Common.{◌≡◌, ℕ, Bool, true, false, ◌==◌, ◌≤◌, not, ◌&&◌, ◌||◌, List, [], ◌∷◌, ◌++◌, cond, refl, sym, ◌∙◌, ap, append_assoc, arith}
+use Rattle.std.proofs.Common.{◌≡◌, ℕ, Bool, true, false, ◌==◌, ◌≤◌, ◌<◌, not, subst, ◌&&◌, ◌||◌, List, [], ◌∷◌, ◌++◌, refl, sym, ◌∙◌, ap, append_assoc, arith}
 use Rattle.std.proofs.lemmas.Bool.Decides.{nat_tests}
 use Rattle.std.proofs.lemmas.List.Folds.{list_any-append}
-use Rattle.std.specs.List.{Contains, list_all, list_any}
-use Rattle.std.specs.Prelude.{nat_le, nat_lt}
-use Rattle.sg_facts.specs.sg_base.Lists.{Each}
+use Rattle.std.specs.List.{list_any}
+use Rattle.sg_facts.specs.sg_base.Lists.{Each, When}
 use Rattle.sg_facts.specs.sg_base.declared.call.Call.{Call}
 use Rattle.sg_facts.specs.declared.entry.Entry.{Entry}
 use Rattle.sg_facts.specs.declared.tables.WalkLine.{WalkLine}
 use Rattle.sg_facts.specs.declared.trace.Item.{Item}
-use Rattle.sg_facts.specs.Facts.{Facts}
+use Rattle.sg_facts.specs.Facts.{Facts, is_visible}
 use Rattle.sg_facts.specs.Object.{object_of}
 use Rattle.sg_recovery_laws.proofs.Given.{IsGiven, given_same, made_same, names_same, refused_same}
 use Rattle.sg_hist.proofs.Growing.{entries_before-committed, entries_before-more, entries_before-not_yet, entries_before-refused, in_older, stands_before-more, stands_before-own}
 use Rattle.sg_recovery_laws.proofs.Lists.{each_map}
 use Rattle.sg_recovery_laws.proofs.Same.{IsSame, again, any_rebuilt, any_same, rebuilt_again}
-use Rattle.sg_hist.specs.Clients.{calls_of}
 use Rattle.sg_hist.specs.Growing.{AreKept, IsGrown, IsLastCall, IsOfNoEntry, IsSameId}
 use Rattle.sg_hist.specs.Reading.{Position, items_after, entries_before, is_by_guard, is_made, is_item_of, is_rebuilt_at, is_whole_at, past, places_in, stands_before}
-use Rattle.sg_hist.specs.Recovered.{IsUnderWay, calls_made}
+use Rattle.sg_hist.specs.Recovered.{IsUnderWay, is_answered_later}
+use Rattle.sg_recovery_laws.proofs.UnderWay.{AreBelow, AreFrom, below_of, from_of, of_below, of_from}
 
 -- ---- what is whole
 
@@ -35,76 +34,90 @@ whole_grown facts walks h h' item p r n id made same more =
 
 -- ---- calls that are under way
 
-all_calls : (f g : Entry → Bool) (client : ℕ) (h : List Entry) → Each (λ e. f e ≡ g e) h → list_all f (calls_of h client) ≡ list_all g (calls_of h client)
-all_calls f g client [] same = refl
-all_calls f g client (e ∷ h) same = by (all_calls f g client h same.1) (e.call.client == client)
-  where
-    by : list_all f (calls_of h client) ≡ list_all g (calls_of h client) → (b : Bool)
-        → list_all f (cond b (e ∷ calls_of h client) (calls_of h client)) ≡ list_all g (cond b (e ∷ calls_of h client) (calls_of h client))
-    by rest true = ap (λ b. b && list_all f (calls_of h client)) same.0 ∙ ap (λ b. g e && b) rest
-    by rest false = rest
-
-all_more : (f : Entry → Bool) (client : ℕ) (h : List Entry) (e : Entry) → (e.call.client == client ≡ true → f e ≡ true)
-    → list_all f (calls_of (h ++ e ∷ []) client) ≡ list_all f (calls_of h client)
-all_more f client [] e own = by (e.call.client == client) refl
-  where
-    by : (b : Bool) → e.call.client == client ≡ b → list_all f (cond b (e ∷ []) []) ≡ true
-    by true is = ap (λ b. b && true) (own is)
-    by false is = refl
-all_more f client (x ∷ h) e own = by (all_more f client h e own) (x.call.client == client)
-  where
-    by : list_all f (calls_of (h ++ e ∷ []) client) ≡ list_all f (calls_of h client) → (b : Bool)
-        → list_all f (cond b (x ∷ calls_of (h ++ e ∷ []) client) (calls_of (h ++ e ∷ []) client)) ≡ list_all f (cond b (x ∷ calls_of h client) (calls_of h client))
-    by rest true = ap (λ b. f x && b) rest
-    by rest false = rest
-
 -- entries stand before a place as they did before it grew
 pub stands_each : (item : Item) (p q : Position) (h : List Entry) → IsOfNoEntry item h → IsGrown item p q → Each (λ e. stands_before q e ≡ stands_before p e) h
 stands_each item p q [] none g = tt
 stands_each item p q (e ∷ h) none g = (stands_before-more item p q e g none.0, stands_each item p q h none.1 g)
 
-above_each : (p q : Position) (call : Call) (h : List Entry) → Each (λ e. stands_before q e ≡ stands_before p e) h
-    → Each (λ e. (not (stands_before q e) || nat_lt e.call.seq call.seq) ≡ (not (stands_before p e) || nat_lt e.call.seq call.seq)) h
-above_each p q call h same =
-    each_map (λ e. stands_before q e ≡ stands_before p e) (λ e. (not (stands_before q e) || nat_lt e.call.seq call.seq) ≡ (not (stands_before p e) || nat_lt e.call.seq call.seq)) h
-    (λ e is. ap (λ b. not b || nat_lt e.call.seq call.seq) is) same
+pub when_not : (b : Bool) (A : Type 0) → When (b && false) A
+when_not true A = tt
+when_not false A = tt
 
-first_each : (p q : Position) (call : Call) (h : List Entry) → Each (λ e. stands_before q e ≡ stands_before p e) h
-    → Each (λ e. (is_by_guard e.reply || stands_before q e || nat_le call.seq e.call.seq) ≡ (is_by_guard e.reply || stands_before p e || nat_le call.seq e.call.seq)) h
-first_each p q call h same =
-    each_map (λ e. stands_before q e ≡ stands_before p e) (λ e. (is_by_guard e.reply || stands_before q e || nat_le call.seq e.call.seq) ≡ (is_by_guard e.reply || stands_before p e || nat_le call.seq e.call.seq)) h
-    (λ e is. ap (λ b. is_by_guard e.reply || b || nat_le call.seq e.call.seq) is) same
+pub when_own : (b c : Bool) (A : Type 0) → (b ≡ true → A) → When (b && c) A
+when_own true true A own = own refl
+when_own true false A own = tt
+when_own false c A own = tt
 
-under_noted : (item : Item) (p q : Position) (h : List Entry) (u u' : List Call) → IsOfNoEntry item h → IsGrown item p q → AreKept h u h u'
-    → (client : ℕ) (call : Call) → IsUnderWay h u p client call → IsUnderWay h u' q client call
-under_noted item p q h u u' none g kept client call w =
+any_each : (facts : Facts) (p q : Position) (h : List Entry) → Each (λ e. stands_before q e ≡ stands_before p e) h
+    → list_any (λ x. is_visible facts x.call.fun && stands_before q x) h ≡ list_any (λ x. is_visible facts x.call.fun && stands_before p x) h
+any_each facts p q [] same = refl
+any_each facts p q (e ∷ h) same =
+    ap (λ b. (is_visible facts e.call.fun && b) || list_any (λ x. is_visible facts x.call.fun && stands_before q x) h) same.0
+    ∙ ap (λ b. (is_visible facts e.call.fun && stands_before p e) || b) (any_each facts p q h same.1)
+
+below_each : (facts : Facts) (p q : Position) (client seq : ℕ) (h : List Entry) → Each (λ e. stands_before q e ≡ stands_before p e) h
+    → AreBelow facts p client seq h → AreBelow facts q client seq h
+below_each facts p q client seq [] same are = tt
+below_each facts p q client seq (e ∷ h) same are = (
+  subst (λ b. When ((e.call.client == client) && b) (e.call.seq < seq))
+      (sym (ap (λ b. b || list_any (λ x. is_visible facts x.call.fun && stands_before q x) h) same.0 ∙ ap (λ b. stands_before p e || b) (any_each facts p q h same.1))) are.0,
+  below_each facts p q client seq h same.1 are.1,
+)
+
+from_each : (p q : Position) (client seq : ℕ) (late : Bool) (h : List Entry) → Each (λ e. stands_before q e ≡ stands_before p e) h
+    → AreFrom p client seq late h → AreFrom q client seq late h
+from_each p q client seq late [] same are = tt
+from_each p q client seq late (e ∷ h) same are =
+    let one : (late || is_answered_later q e) ≡ (late || is_answered_later p e) = ap (λ b. late || not (is_by_guard e.reply || b)) same.0 in (
+      subst (λ b. When ((e.call.client == client) && b) (seq ≤ e.call.seq)) (sym one) are.0,
+      subst (λ b. AreFrom q client seq b h) (sym one) (from_each p q client seq (late || is_answered_later p e) h same.1 are.1),
+    )
+
+under_noted : (facts : Facts) (item : Item) (p q : Position) (h : List Entry) (u u' : List Call) → IsOfNoEntry item h → IsGrown item p q → AreKept h u h u'
+    → (client : ℕ) (call : Call) → IsUnderWay facts h u p client call → IsUnderWay facts h u' q client call
+under_noted facts item p q h u u' none g kept client call w =
     let same = stands_each item p q h none g in
     record {
       its = record { its = w.its.its; made = kept call w.its.made };
-      above = all_calls (λ e. not (stands_before q e) || nat_lt e.call.seq call.seq) (λ e. not (stands_before p e) || nat_lt e.call.seq call.seq) client h
-          (above_each p q call h same) ∙ w.above;
-      first = all_calls (λ e. is_by_guard e.reply || stands_before q e || nat_le call.seq e.call.seq) (λ e. is_by_guard e.reply || stands_before p e || nat_le call.seq e.call.seq) client h
-          (first_each p q call h same) ∙ w.first;
+      above = of_below facts q client call.seq h (below_each facts p q client call.seq h same (below_of facts p client call.seq h w.above));
+      first = of_from q client call.seq false h (from_each p q client call.seq false h same (from_of p client call.seq false h w.first));
     }
 
--- with an entry more that stands before no place that was there
-under_more : (h : List Entry) (e : Entry) (u u' : List Call) (q : Position) → stands_before q e ≡ false
-    → ((call : Call) → Contains (calls_made h u) call → call.client ≡ e.call.client → is_by_guard e.reply || nat_le call.seq e.call.seq ≡ true)
-    → AreKept h u (h ++ e ∷ []) u' → (client : ℕ) (call : Call) → IsUnderWay h u q client call → IsUnderWay (h ++ e ∷ []) u' q client call
-under_more h e u u' q stands last kept client call w = record {
+-- an entry more that doesn't stand before the place
+pub any_push : (facts : Facts) (q : Position) (h : List Entry) (e : Entry) → stands_before q e ≡ false
+    → list_any (λ x. is_visible facts x.call.fun && stands_before q x) (h ++ e ∷ []) ≡ list_any (λ x. is_visible facts x.call.fun && stands_before q x) h
+any_push facts q [] e stands = ap (λ b. (is_visible facts e.call.fun && b) || false) stands ∙ none (is_visible facts e.call.fun)
+  where
+    none : (v : Bool) → (v && false) || false ≡ false
+    none true = refl
+    none false = refl
+any_push facts q (x ∷ h) e stands = ap (λ b. (is_visible facts x.call.fun && stands_before q x) || b) (any_push facts q h e stands)
+
+below_push : (facts : Facts) (q : Position) (client seq : ℕ) (h : List Entry) (e : Entry) → stands_before q e ≡ false → AreBelow facts q client seq h → AreBelow facts q client seq (h ++ e ∷ [])
+below_push facts q client seq [] e stands are =
+    (subst (λ b. When ((e.call.client == client) && (b || false)) (e.call.seq < seq)) (sym stands) (when_not (e.call.client == client) _), tt)
+below_push facts q client seq (x ∷ h) e stands are = (
+  subst (λ b. When ((x.call.client == client) && (stands_before q x || b)) (x.call.seq < seq)) (sym (any_push facts q h e stands)) are.0,
+  below_push facts q client seq h e stands are.1,
+)
+
+from_push : (q : Position) (client seq : ℕ) (late : Bool) (h : List Entry) (e : Entry) → ((e.call.client == client) ≡ true → seq ≤ e.call.seq) → AreFrom q client seq late h
+    → AreFrom q client seq late (h ++ e ∷ [])
+from_push q client seq late [] e own are = (when_own (e.call.client == client) (late || is_answered_later q e) _ own, tt)
+from_push q client seq late (x ∷ h) e own are = (are.0, from_push q client seq (late || is_answered_later q x) h e own are.1)
+
+-- with an entry more that stands before no place that was there, and is of its client's last call
+under_more : (facts : Facts) (h : List Entry) (e : Entry) (u u' : List Call) (q : Position) → stands_before q e ≡ false → IsLastCall h u e.call
+    → AreKept h u (h ++ e ∷ []) u' → (client : ℕ) (call : Call) → IsUnderWay facts h u q client call → IsUnderWay facts (h ++ e ∷ []) u' q client call
+under_more facts h e u u' q stands last kept client call w = record {
   its = record { its = w.its.its; made = kept call w.its.made };
-  above = all_more (λ x. not (stands_before q x) || nat_lt x.call.seq call.seq) client h e (λ own. ap (λ b. not b || nat_lt e.call.seq call.seq) stands) ∙ w.above;
-  first = all_more (λ x. is_by_guard x.reply || stands_before q x || nat_le call.seq x.call.seq) client h e
-      (λ own. or_last (is_by_guard e.reply) (stands_before q e) (nat_le call.seq e.call.seq) stands (last call w.its.made (same_client call.client e.call.client client w.its.its own))) ∙ w.first;
+  above = of_below facts q client call.seq (h ++ e ∷ []) (below_push facts q client call.seq h e stands (below_of facts q client call.seq h w.above));
+  first = of_from q client call.seq false (h ++ e ∷ [])
+      (from_push q client call.seq false h e (λ own. last call w.its.made (same_client call.client e.call.client client w.its.its own)) (from_of q client call.seq false h w.first));
 }
   where
     same_client : (a b c : ℕ) → a ≡ c → b == c ≡ true → a ≡ b
     same_client a b c is own = grind (arith, nat_tests, is, own)
-
-    or_last : (g s b : Bool) → s ≡ false → g || b ≡ true → g || s || b ≡ true
-    or_last true s b no_item is = refl
-    or_last false true b no_item is = refl
-    or_last false false b no_item is = is
 
 -- ---- what an item rests on
 
@@ -117,12 +130,12 @@ same_noted facts walks h u u' item p r n none more kept =
       names = refl;
       made = λ id. refl;
       whole = λ id. whole_grown facts walks h h item p r n id refl (λ x y is. entries_before-more item x y h is none) more;
-      under_way = under_noted item p (again p r n) h u u' none g kept;
+      under_way = under_noted facts item p (again p r n) h u u' none g kept;
     }
 
 pub same_committed : (facts : Facts) (walks : List WalkLine) (h : List Entry) (u u' : List Call) (e : Entry) (item : Item) (p : Position) (r n : List Item)
     → IsOfNoEntry item h → is_item_of e item ≡ true → r ++ n ≡ items_after p ++ item ∷ [] → AreKept h u (h ++ e ∷ []) u'
-    → ((call : Call) → Contains (calls_made h u) call → call.client ≡ e.call.client → call.seq ≤ e.call.seq)
+    → IsLastCall h u e.call
     → Each (IsGiven facts h) p.front → IsSame facts walks h u (h ++ e ∷ []) u' p r n
 same_committed facts walks h u u' e item p r n none own more kept last given =
     let g : IsGrown item p (again p r n) = record { older = refl; front = refl; own = refl; behind_it = more } in
@@ -133,18 +146,13 @@ same_committed facts walks h u u' e item p r n none own more kept last given =
       made = λ id. made_same facts h (h ++ e ∷ []) id p.front ids;
       whole = λ id. whole_grown facts walks h (h ++ e ∷ []) item p r n id (made_same facts h (h ++ e ∷ []) id p.front ids)
           (λ x y is. entries_before-committed item x y h e is none own) more;
-      under_way = λ client call w. under_more h e u u' (again p r n) (stands_before-own item p (again p r n) e g own)
-          (λ made has its. later (is_by_guard e.reply) made.seq e.call.seq (last made has its)) kept client call
-          (under_noted item p (again p r n) h u u none g (λ c has. has) client call w);
+      under_way = λ client call w. under_more facts h e u u' (again p r n) (stands_before-own item p (again p r n) e g own) last kept client call
+          (under_noted facts item p (again p r n) h u u none g (λ c has. has) client call w);
     }
-  where
-    later : (g : Bool) (a b : ℕ) → a ≤ b → g || nat_le a b ≡ true
-    later true a b le = refl
-    later false a b le = grind (arith, nat_tests, le)
 
 pub same_refused : (facts : Facts) (walks : List WalkLine) (h : List Entry) (u u' : List Call) (e : Entry) (p : Position)
-    → is_by_guard e.reply ≡ true → AreKept h u (h ++ e ∷ []) u' → IsSame facts walks h u (h ++ e ∷ []) u' p p.rest p.newer
-same_refused facts walks h u u' e p guards kept =
+    → is_by_guard e.reply ≡ true → IsLastCall h u e.call → AreKept h u (h ++ e ∷ []) u' → IsSame facts walks h u (h ++ e ∷ []) u' p p.rest p.newer
+same_refused facts walks h u u' e p guards last kept =
     let ids : Each (IsSameId facts h (h ++ e ∷ [])) p.front = all p.front in
     let made : (id : ℕ) → list_any (is_made facts (h ++ e ∷ []) id) p.front ≡ list_any (is_made facts h id) p.front = λ id. made_same facts h (h ++ e ∷ []) id p.front ids in
     record {
@@ -155,8 +163,7 @@ same_refused facts walks h u u' e p guards kept =
           ∙ ap (λ b. list_any (is_made facts h id) p.front || b)
           (any_same (is_rebuilt_at facts walks (h ++ e ∷ []) id) (is_rebuilt_at facts walks h id) (places_in p.older [] p.front (p.item ∷ items_after p))
           (λ x. rebuilt_again facts walks h (h ++ e ∷ []) id x x.rest x.newer (ap (object_of facts) (entries_before-refused x h e guards))));
-      under_way = under_more h e u u' p (ap (λ b. not b && list_any (is_item_of e) (past p) && not (list_any (is_item_of e) (p.item ∷ items_after p))) guards)
-          (λ made has its. ap (λ b. b || nat_le made.seq e.call.seq) guards) kept;
+      under_way = under_more facts h e u u' p (ap (λ b. not b && list_any (is_item_of e) (past p) && not (list_any (is_item_of e) (p.item ∷ items_after p))) guards) last kept;
     }
   where
     all : (items : List Item) → Each (IsSameId facts h (h ++ e ∷ [])) items
@@ -225,9 +232,5 @@ same_held facts walks h u u' e p behind_it kept last given =
       made = λ id. made_same facts h (h ++ e ∷ []) id p.front ids;
       whole = λ id. ap (λ b. b || list_any (is_rebuilt_at facts walks (h ++ e ∷ []) id) (places_in p.older [] p.front (p.item ∷ items_after p))) (made_same facts h (h ++ e ∷ []) id p.front ids)
           ∙ ap (λ b. list_any (is_made facts h id) p.front || b) (rebuilt_earlier facts walks h e id p.older [] p.front (p.item ∷ items_after p) behind_it);
-      under_way = under_more h e u u' p behind_it (λ made has its. later (is_by_guard e.reply) made.seq e.call.seq (last made has its)) kept;
+      under_way = under_more facts h e u u' p behind_it last kept;
     }
-  where
-    later : (g : Bool) (a b : ℕ) → a ≤ b → g || nat_le a b ≡ true
-    later true a b le = refl
-    later false a b le = grind (arith, nat_tests, le)

@@ -9,8 +9,8 @@ ghost use Rattle.sg_facts.specs.Interface.{Declared};
 ghost use Rattle.sg_facts.specs.Legal.{IsLegal, Table, answer};
 ghost use Rattle.sg_facts.specs.Object.{object_of};
 ghost use Rattle.sg_facts.specs.Trace.{Boot, Run};
-ghost use Rattle.sg_hist.specs.Growing.{AreKept, HasOneMore, IsGrown, IsHeldReply, IsInLast, IsItemOf, IsLastCall, IsNextItem, IsRecovering, IsSettled, IsOfNoEntry, asked_over, booted, last_items, last_stop, noted, place_after, struck};
-ghost use Rattle.sg_hist.specs.Reading.{Position, after_item, entries_before, is_by_guard, is_item_of, names_at, names_in, places_from, places_of, stands_before, value_at};
+ghost use Rattle.sg_hist.specs.Growing.{AreKept, HasOneMore, IsGrown, IsHeldReply, IsInLast, IsItemOf, IsLastCall, IsNextItem, IsRecovering, IsSettled, IsOfNoEntry, asked_over, booted, last_stop, noted, place_after, struck};
+ghost use Rattle.sg_hist.specs.Reading.{Position, after_item, entries_before, is_by_guard, is_item_of, last_items, names_at, names_in, places_from, places_of, stands_before, value_at};
 ghost use Rattle.sg_hist.specs.Recovered.{AreInBoots, ArePointsOf, IsCount, IsPointOf, Stubs, answer_to, asked_with_commit, ends_committed, is_stopped, is_visible_reply};
 
 /// A legal history stays so with an entry that is the answer after it.
@@ -66,7 +66,7 @@ pub fn recovering_goes_on()
         → IsNextItem s (h ++ e ∷ []) u' (place_after [] (b ∷ boots) item)
         → IsRecovering s h (record { boots = b ∷ boots; points = points }) u
         → IsRecovering s (h ++ e ∷ []) (record { boots = noted (b ∷ boots) item; points = later }) u' }
-    ensures refused { (s : Stubs) (h : List Entry) (run : Run) (u u' : List Call) (e : Entry) → is_by_guard e.reply ≡ true
+    ensures refused { (s : Stubs) (h : List Entry) (run : Run) (u u' : List Call) (e : Entry) → is_by_guard e.reply ≡ true → IsLastCall h u e.call
         → AreKept h u (h ++ e ∷ []) u' → IsRecovering s h run u → IsRecovering s (h ++ e ∷ []) run u' }
     ensures held { (s : Stubs) (h : List Entry) (run : Run) (u u' : List Call) (e : Entry) → IsHeldReply s.interface.facts h run e → IsLastCall h u e.call
         → AreKept h u (h ++ e ∷ []) u' → Each (λ p. stands_before p e ≡ true → IsSettled s (h ++ e ∷ []) u' p) (places_of run)

@@ -22,16 +22,17 @@ ghost use Rattle.sg_facts.specs.Laws.{is_none, names_after, slow};
 ghost use Rattle.sg_facts.specs.Legal.{LegalFrom};
 ghost use Rattle.sg_facts.specs.Limits.{end_of_counts};
 ghost use Rattle.sg_facts.specs.Needs.{is_needed, is_wanted, needs, wanted};
-ghost use Rattle.sg_facts.specs.Object.{Object, empty_object, object_of};
+ghost use Rattle.sg_facts.specs.Object.{Object, empty_object, file_at, object_of};
 ghost use Rattle.sg_facts.specs.Trace.{Boot};
 ghost use Rattle.sg_facts.specs.Track.{is_live, row_at};
 ghost use Rattle.sg_facts.specs.Walks.{replayed_call};
-ghost use Rattle.sg_hist.specs.Reading.{Position, entries_before, id_given, is_made, is_rebuilt_at, is_whole_at, names_at, names_in, object_before, value_at, walk_in};
-ghost use Rattle.sg_hist.specs.Recovered.{IsAdmitted, IsCallOf, IsCallOfRow, IsLoad, IsLoadedFor, IsOkOrStopped, IsTracked, is_patch_at, is_walk_of};
-ghost use Rattle.sg_hist.specs.Growing.{IsGrown, IsOfNoEntry, IsSameId, last_items, older_items, place_after};
+ghost use Rattle.sg_hist.specs.Reading.{Position, entries_before, id_given, is_made, is_rebuilt_at, is_whole_at, last_items, names_at, names_in, object_before, older_items, value_at, walk_in};
+ghost use Rattle.sg_hist.specs.Recovered.{IsAdmitted, IsCallOf, IsCallOfRow, IsLoadedFor, IsOkOrStopped, IsTracked, is_patch_at, is_walk_of, item_of_load};
+ghost use Rattle.sg_hist.specs.Growing.{IsGrown, IsOfNoEntry, IsSameId, place_after};
 ghost use Rattle.sg_recovery_laws.specs.Midway.Progress.{TellsCalls, IsNone, Told, complete, fresh, is_complete};
 ghost use Rattle.sg_recovery_laws.specs.Midway.Stepping.{told_after};
-ghost use Rattle.sg_recovery_laws.specs.LastItem.Asked.{IsClientsCall, IsComeTo};
+ghost use Rattle.sg_recovery_laws.specs.LastItem.Asked.{IsComeTo};
+ghost use Rattle.sg_hist.specs.Clients.{IsClientsCall};
 ghost use Rattle.sg_recovery_laws.specs.LastItem.LastPlace.{HaveItems, last_place};
 ghost use Rattle.sg_recovery_laws.specs.LastItem.Told.{IsKnown, IsRead, whole_behind};
 
@@ -77,7 +78,7 @@ pub fn items_settle()
         (present : List ℕ → Bool) (o : Object) (client : ℕ) (key : List ℕ) (call : Call) → IsKnown i.facts walks h older front item names told present o → IsCallOf h u client call
         → Each (λ e. (e.call.client == client) ≡ true → e.call.seq < call.seq) h
         → ((r : Row) → row_at o.rows r.id ≡ Some r → is_wanted i o.rows call r ≡ true → told r.id ≡ complete) → (needs i.facts o call).file ≡ Some key
-        → present key ≡ false → IsLoad o key item.outcome → guard i o call ≡ None → IsLoadedFor i walks h u (last_place older front item) client key }
+        → present key ≡ false → file_at o.files key ≢ [] → item ≡ item_of_load client item.points key (file_at o.files key) → guard i o call ≡ None → IsLoadedFor i walks h u (last_place older front item) client key }
 {}
 
 /// What is told stays what the trace tells: where an item is noted that gives no name and makes nothing whole, whose file, if it wrote

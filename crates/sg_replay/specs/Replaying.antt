@@ -20,8 +20,8 @@ use Rattle.sg_facts.specs.Needs.{Needs}
 use Rattle.sg_facts.specs.Object.{Object}
 use Rattle.sg_facts.specs.Track.{row_at}
 use Rattle.sg_boot.specs.sg_hist.Reading.{walk_in}
-use Rattle.sg_boot.specs.sg_hist.Recovered.{call_in}
-use Rattle.sg_boot.specs.Invoking.{NotesReply, NotesStop, item_of_load, with_item}
+use Rattle.sg_boot.specs.sg_hist.Recovered.{call_in, item_of_load}
+use Rattle.sg_boot.specs.Invoking.{NotesReply, NotesStop, with_item}
 use Rattle.sg_name.specs.Names.{named_at}
 use Rattle.sg_name.specs.declared.named.Named.{Named}
 use Rattle.sg_name.specs.declared.named.Named.TheVariants.{Partial, Live}

@@ -1,1 +1,2 @@
+pub mod Lines
 pub use Rattle.sg_hist.proofs as sg_hist

@@ -8,7 +8,7 @@ use Rattle.sg_facts.specs.Trace.{run_of}
 use Rattle.sg_facts.specs.declared.tables.WalkLine.{WalkLine}
 use Rattle.sg_plain.specs.Calls.{AreEnds}
 use Rattle.sg_plain.specs.Promises.{AreScriptsCalls, AreScriptsStops, AreWoken}
-use Rattle.sg_plain.specs.sg_hist.Recovered.{HasRecovered}
+use Rattle.sg_plain.specs.sg_hist.Ending.{HasRecovered}
 use Rattle.sg_plain.specs.sg_hist.declared.ended.Ended.{Ended}
 use Rattle.sg_plain.specs.sg_script.declared.script.Script.{Script}
 use Rattle.sg_sim.specs.Played.{FollowsSchedule}

@@ -1,15 +1,17 @@
 // The play that threads share. Each takes one turn at a time.
-ghost use Rattle.std.specs.Prelude.{◌≡◌, ◌&&◌, None, IfOk, not, true, false};
+ghost use Rattle.std.specs.Prelude.{◌≡◌, ◌↔◌, ◌+◌, ◌&&◌, ℕ, None, IsTrue, IfOk, not, true, false};
 ghost use Rattle.sg_edge.specs.Stops.{up_to};
 ghost use Rattle.sg_sim.specs.sg_plain.Playing.Callers.{is_setting_up};
-ghost use Rattle.sg_shared.specs.Inside.Next.{HasTurned, SomebodyGoes, takes_turn};
+ghost use Rattle.sg_shared.specs.Inside.Next.{HasTurned, IsThrough, SomebodyGoes, is_waiting, offers_call, takes_turn};
 ghost use Rattle.sg_sim.specs.Played.{IsPlayed};
 ghost use Rattle.sg_sim.specs.Playing.{can_step};
+ghost use Rattle.sg_sim.specs.sg_plain.Playing.Turns.{is_free_phase};
+ghost use Rattle.sg_sim.specs.sg_seat.WorldView.{seat_of};
 ghost use Rattle.sg_sim.specs.sg_world.Worlded.{setting_of};
 ghost use Rattle.sg_sim.specs.sg_world_laws.Setting.{stubs_of};
 
 use sg_edge::AtPoints;
-use sg_facts::{LAST_CLIENT, NoMemory, Service};
+use sg_facts::{NoMemory, Service};
 use sg_sim::{Phase, Play, Played};
 use std::alloc::Global;
 use std::marker::{Brand, PhantomData};
@@ -73,11 +75,15 @@ impl<S: Service, N: Naming> Shared<S, N> {
         }
     }
 
-    /// What a client is to do next: it takes a turn exactly where it can, and waits only where some other can. Where a turn wanted memory
-    /// every client is through.
+    /// What a client is to do next: it takes a turn exactly where it can, and offers its next call in it exactly where it has none under
+    /// way. One whose call waits is to wait while some other can take a turn. Where a turn wanted memory every client is through.
     pub fn next(&self, client: u8) -> Next
         ensures turns { takes_turn result ≡ (not self.now.short && can_step self.now.play client) }
+        ensures offers { takes_turn result ≡ true → offers_call result ≡ is_free_phase (seat_of self.now.play.view client).phase }
+        ensures number { (seq : ℕ) → result ≡ Next.Offers seq → seq ≡ (seat_of self.now.play.view client).seq + 1 }
         ensures waits { result ≡ Next.Waits → SomebodyGoes self.now.play }
+        ensures blocked { result ≡ Next.Waits → is_waiting self.now.play client ≡ true }
+        ensures through { result ≡ Next.Through → IsThrough self.now.short self.now.play client }
     {
         if self.short || !self.play.has(client) {
             return Next::Through;
@@ -86,7 +92,7 @@ impl<S: Service, N: Naming> Shared<S, N> {
         match world.phase(client) {
             Phase::Idle | Phase::Left => {
                 if self.play.can_step(client) {
-                    Next::Offers(world.seq(client).saturating_add(1))
+                    Next::Offers(self.play.next_number(client))
                 } else {
                     Next::Through
                 }
@@ -136,9 +142,9 @@ impl<S: Service, N: Naming> Shared<S, N> {
 
     // Whether some client can take a turn.
     fn somebody_goes(&self) -> bool
-        ensures { result ≡ true → SomebodyGoes self.now.play }
+        ensures { IsTrue result ↔ SomebodyGoes self.now.play }
     {
-        'clients: for before in 0..LAST_CLIENT {
+        'clients: for before in 0..self.play.clients() {
             if self.play.can_step(before + 1) {
                 return true;
             }

@@ -1,15 +1,14 @@
 -- Where a play begins.
-use Rattle.std.proofs.Common.{◌≡◌, ◌≢◌, ℕ, zero, suc, ◌-◌, ◌<◌, ◌≤◌, Bool, true, false, cond, List, [], ◌∷◌, length, map, refl, sym, ◌∙◌, ap, subst, arith, replicate, take}
-use Rattle.std.specs.Prelude.{nat_lt, slice_get, unwrap_or}
+use Rattle.std.proofs.Common.{◌≡◌, ℕ, zero, suc, ◌-◌, ◌≤◌, Bool, true, false, cond, List, [], ◌∷◌, length, map, refl, sym, ◌∙◌, ap, subst, arith, replicate, take}
+use Rattle.std.specs.Prelude.{slice_get, unwrap_or}
 use Rattle.std.proofs.lemmas.List.{length-replicate}
-use Rattle.sg_facts.specs.Facts.{Facts}
 use Rattle.sg_facts.specs.Interface.{Declared}
 use Rattle.sg_facts.specs.Limits.{last_client}
 use Rattle.sg_facts.specs.declared.entry.Entry.{Entry}
 use Rattle.sg_play.specs.sg_hist.Clients.{calls_of}
 use Rattle.sg_play.specs.sg_hist.Reading.{desc_of}
 use Rattle.sg_play.specs.sg_plain.Calls.{most_client}
-use Rattle.sg_play.specs.sg_plain.Playing.Callers.{AreCallers, IsCaller, SetsUpFirst, all_of_first, handed, is_receipted}
+use Rattle.sg_play.specs.sg_plain.Playing.Callers.{IsCaller, all_of_first, handed, is_receipted}
 use Rattle.sg_play.specs.sg_plain.Playing.Given.{given_in}
 use Rattle.sg_play.specs.sg_plain.Playing.Playable.{AreClients, IsPlayable}
 use Rattle.sg_play.specs.sg_plain.Playing.Plays.{IsPlaying}

@@ -1,8 +1,7 @@
 -- How clients end, one after the other; and what a play that ended promises.
-use Rattle.std.proofs.Common.{◌≡◌, ◌⊎◌, ℕ, zero, suc, ◌+◌, ◌-◌, ◌<◌, ◌≤◌, Bool, true, false, cond, not, List, [], ◌∷◌, ◌++◌, None, Some, length, map, refl, sym, ◌∙◌, ap, subst, inl, inr, arith, take, append-nil}
-use Rattle.std.specs.Prelude.{slice_get, unwrap_or, ◌==◌}
+use Rattle.std.proofs.Common.{◌≡◌, ℕ, zero, suc, ◌+◌, ◌-◌, ◌<◌, ◌≤◌, Bool, true, false, cond, List, [], ◌∷◌, ◌++◌, None, length, map, refl, sym, ◌∙◌, ap, subst, arith, take, append-nil}
+use Rattle.std.specs.Prelude.{slice_get, unwrap_or}
 use Rattle.std.specs.List.{flat_map}
-use Rattle.std.proofs.lemmas.Bool.Decides.{nat_tests}
 use Rattle.sg_facts.specs.Legal.{IsLegal}
 use Rattle.sg_facts.proofs.Legality.{IsLegal-from}
 use Rattle.sg_facts.specs.Trace.{run_of}
@@ -11,7 +10,8 @@ use Rattle.sg_facts.specs.Facts.{fun_at}
 use Rattle.sg_facts.specs.Object.{Object}
 use Rattle.sg_play.proofs.Following.Following.{following_end}
 use Rattle.sg_play.proofs.Following.Whose.{nobody_next}
-use Rattle.sg_play.specs.sg_hist.Recovered.{EndsUsed, HasRecovered, IsRecovered, struck_in}
+use Rattle.sg_play.specs.sg_hist.Recovered.{IsRecovered, struck_in}
+use Rattle.sg_play.specs.sg_hist.Ending.{HasRecovered}
 use Rattle.sg_play.specs.sg_hist.declared.ended.End.{End}
 use Rattle.sg_play.specs.sg_hist.declared.ended.Ended.{Ended}
 use Rattle.sg_play.specs.sg_plain.Calls.{AreEnds, most_client}
@@ -29,7 +29,8 @@ use Rattle.sg_play.specs.sg_seat.WorldView.{Seat, WorldView, no_seat, offered_by
 use Rattle.sg_sim.specs.Inside.Keeps.{KeepsPlay}
 use Rattle.sg_sim.proofs.Beginning.{clients_from_one}
 use Rattle.sg_sim.specs.Played.{FollowsSchedule, IsPlayed}
-use Rattle.sg_play.proofs.Waking.Waking.{waking_used, waking_woken}
+use Rattle.sg_play.proofs.Ends.{IsOver, over_by}
+use Rattle.sg_play.proofs.Waking.Waking.{waking_woken}
 use Rattle.sg_play.specs.sg_world_laws.Setting.{Setting, stubs_of}
 
 -- ---- ends
@@ -85,6 +86,10 @@ module _ (z : Setting) (test : ℕ → List ℕ → List ℕ → Type 0) (script
   blocks : (o : Object) (call : Call) → z.ask o call ≡ None → (fun_at z.iface.facts.funs call.fun).block ≡ true
   blocks = told.set.law.shape.blocks
 
+  -- how its run ends
+  over : IsOver z.iface.facts w.history w.run.boots (ends_from script 1 w.seats)
+  over = over_by z script w told.ending is.none_withdrawn nobody
+
   some : 1 ≤ most_client script.clients
   some = clients_from_one 0 script.clients is.playing.playable.clients
 
@@ -113,7 +118,9 @@ module _ (z : Setting) (test : ℕ → List ℕ → List ℕ → Type 0) (script
         (subst (λ r. HasRecovered (stubs_of z) w.history r ended.ends) (sym run) (subst (HasRecovered (stubs_of z) w.history w.run) (sym ends) (record {
           tables = told.set.tables;
           recovered = subst (IsRecovered (stubs_of z) w.history w.run) (not_withdrawn w is.none_withdrawn ∙ playing_waiting z.iface z.ask script w.history w.seats given is.playing nobody) recovered;
-          used = waking_used z script w is.waking nobody;
+          blocked = over.blocked;
+          used = over.used;
+          quiet = over.quiet;
         })));
     stops = subst (λ r. test r.points (struck_in r) plan) (sym run) stops;
     ends = subst (λ h. AreEnds z.iface z.ask h script ended.ends) (sym history) (subst (AreEnds z.iface z.ask w.history script) (sym ends)

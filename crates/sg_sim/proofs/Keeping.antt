@@ -1,5 +1,5 @@
 -- A play keeps what it keeps, at a turn in its order or out of it, and where a turn wants memory.
-use Rattle.std.proofs.Common.{◌≡◌, ◌⊎◌, ℕ, ◌-◌, ◌≤◌, Bool, true, false, cond, List, [], length, map, refl, sym, ◌∙◌, ap, subst, inl, inr, arith, replicate, None, Some}
+use Rattle.std.proofs.Common.{◌≡◌, ◌⊎◌, ℕ, ◌≤◌, Bool, true, false, cond, List, [], length, refl, sym, ◌∙◌, ap, subst, inl, inr, arith, replicate, None, Some}
 use Rattle.std.specs.declared.option.Option.{Option}
 use Rattle.std.specs.Prelude.{nat_lt}
 use Rattle.sg_facts.specs.sg_base.declared.call.Call.{Call}

@@ -4,6 +4,7 @@ mod Calls
 mod Ending
 mod Keeping
 mod Lists
+mod Others
 mod Taking
 mod Turning
 pub use Rattle.sg_play.proofs.sg_plain

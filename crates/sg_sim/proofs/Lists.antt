@@ -1,5 +1,5 @@
 -- Lists of descriptors, client by client.
-use Rattle.std.proofs.Common.{◌≡◌, ℕ, zero, suc, ◌+◌, ◌-◌, ◌<◌, ◌≤◌, List, [], ◌∷◌, ◌++◌, None, Some, length, map, refl, sym, ◌∙◌, ap, arith, get_or, slice_set}
+use Rattle.std.proofs.Common.{◌≡◌, ℕ, zero, suc, ◌-◌, ◌<◌, List, [], ◌∷◌, ◌++◌, Some, length, refl, ◌∙◌, ap, arith, get_or, slice_set}
 use Rattle.std.specs.Prelude.{slice_get, unwrap_or}
 use Rattle.sg_facts.specs.sg_base.Room.{Roomy}
 use Rattle.sg_play.specs.sg_plain.Playing.Given.{given_in}

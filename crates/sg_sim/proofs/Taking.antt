@@ -1,5 +1,5 @@
 -- A turn that was taken, and one that wasn't.
-use Rattle.std.proofs.Common.{◌≡◌, ◌⊎◌, ℕ, ◌≤◌, List, length, refl, sym, ◌∙◌, ap, subst, inl, inr, OnErr, OnOk, Ok, Err}
+use Rattle.std.proofs.Common.{◌≡◌, ◌⊎◌, ℕ, List, sym, subst, inl, inr, OnErr, Ok, Err}
 use Rattle.std.specs.declared.option.Option.{Option}
 use Rattle.std.specs.declared.result.Result.{Result}
 use Rattle.sg_play.specs.Recovering.{RecoversSoFar}

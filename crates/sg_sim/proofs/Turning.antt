@@ -1,10 +1,10 @@
 -- Whose turn it is.
-use Rattle.std.proofs.Common.{◌≡◌, ◌⊎◌, inl, inr, ℕ, zero, suc, ◌+◌, ◌<◌, ◌≤◌, true, false, List, [], ◌∷◌, None, Some, length, refl, sym, ◌∙◌, ap, subst, arith}
+use Rattle.std.proofs.Common.{◌≡◌, ◌⊎◌, inl, inr, ℕ, zero, suc, ◌+◌, ◌<◌, ◌≤◌, true, false, List, [], ◌∷◌, Some, length, sym, ◌∙◌, ap, arith}
 use Rattle.std.specs.Prelude.{slice_get}
 use Rattle.std.proofs.lemmas.Bool.{cases_lt}
-use Rattle.sg_play.proofs.Following.Turns.{turns_alike, turns_beyond}
-use Rattle.sg_play.proofs.Following.Whose.{next_around, next_behind, scheduled_turn, setup_turn}
-use Rattle.sg_play.specs.Following.Stages.{IsNextTurn, stage_of}
+use Rattle.sg_play.proofs.Following.Turns.{turns_alike}
+use Rattle.sg_play.proofs.Following.Whose.{next_around, next_behind, scheduled_turn}
+use Rattle.sg_play.specs.Following.Stages.{IsNextTurn}
 use Rattle.sg_facts.specs.Interface.{Declared}
 use Rattle.sg_play.specs.sg_plain.Playing.Callers.{is_setting_up}
 use Rattle.sg_play.specs.sg_plain.Playing.Plays.{IsPlaying}

@@ -1,16 +1,22 @@
 -- What a play promises of its run, whatever its stops and whoever took its turns, and what it promises where its turns were those of the
 -- play without stops.
-use Rattle.std.specs.Prelude.{ℕ, List}
+use Rattle.std.specs.Prelude.{ℕ, ◌≡◌, List}
 use Rattle.sg_facts.specs.Interface.{Declared}
 use Rattle.sg_facts.specs.Legal.{IsLegal, Table}
 use Rattle.sg_facts.specs.Trace.{Run, run_of}
 use Rattle.sg_facts.specs.declared.entry.Entry.{Entry}
 use Rattle.sg_play.specs.sg_hist.declared.ended.Ended.{Ended}
-use Rattle.sg_play.specs.sg_hist.Recovered.{HasRecovered, Stubs, struck_in}
+use Rattle.sg_play.specs.sg_hist.Recovered.{Stubs, struck_in}
+use Rattle.sg_play.specs.sg_hist.Ending.{HasRecovered}
 use Rattle.sg_play.specs.sg_plain.Calls.{AreEnds}
 use Rattle.sg_play.specs.sg_plain.Plain.{IsPlainPlay}
 use Rattle.sg_play.specs.sg_plain.Promises.{AreScriptsCalls, AreWoken, FollowsPlain, GetsPlainAlone}
 use Rattle.sg_play.specs.sg_script.declared.script.Script.{Script}
+use Rattle.sg_play.specs.sg_seat.WorldView.{WorldView}
+
+-- the history and the trace of an end are those of a world
+abbrev pub IsOfWorld : WorldView → Ended → Type 0
+IsOfWorld w ended = (ended.history.items ≡ w.history) × (run_of ended.trace ≡ w.run)
 
 -- the play of the script without stops ends; up to the last visible entry of the first boot the history is its, and wholly so where
 -- nothing stopped, or where client 1 alone has calls

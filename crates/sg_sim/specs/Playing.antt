@@ -1,9 +1,12 @@
 -- What contracts see of a play.
-use Rattle.std.specs.Prelude.{ℕ, Bool, ◌&&◌, nat_le, List, length}
+use Rattle.std.specs.Prelude.{ℕ, ◌≡◌, ◌⊎◌, Bool, ◌&&◌, nat_le, List, length}
 use Rattle.sg_facts.specs.Tables.{Compiled}
+use Rattle.sg_play.specs.Turning.{with_offer}
 use Rattle.sg_play.specs.sg_plain.Playing.Turns.{may_take_turn}
 use Rattle.sg_play.specs.sg_script.declared.script.Script.{Script}
-use Rattle.sg_play.specs.sg_seat.WorldView.{WorldView, seat_of}
+use Rattle.sg_play.specs.sg_seat.WorldView.{WorldView, happened, seat_of}
+use Rattle.sg_play.specs.sg_world.Steps.{WantsMemory}
+use Rattle.sg_play.specs.sg_world_laws.Setting.{Setting}
 
 -- its tables, its script and the plan of its stops, which don't change, its world, how many turns of the schedule were taken or passed
 -- over, the client of the last turn, 0 before the first, and whether each turn so far was that of the play without stops
@@ -19,3 +22,8 @@ pub record Playing : Type 0 where
 -- whether a client is one of the play's and can take a turn: it has a call under way that doesn't wait, or it has none and has more calls
 abbrev pub can_step : Playing → ℕ → Bool
 can_step p client = nat_le 1 client && nat_le client (length p.view.seats) && may_take_turn p.script client (seat_of p.view client)
+
+-- a client missed its turn for want of memory: nothing was done, its offer counts as an event and no more, or it offered its call and
+-- its step wanted memory
+abbrev pub HasMissed : Setting → Script → WorldView → ℕ → WorldView → Type 0
+HasMissed z script w client now = (now ≡ w) ⊎ (now ≡ happened w) ⊎ WantsMemory z (with_offer z.iface.facts script w client) client now

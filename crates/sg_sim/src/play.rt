@@ -1,19 +1,19 @@
 // A play: whose turn it is, and the play to its end.
-ghost use Rattle.std.specs.Prelude.{◌≡◌, ◌≤◌, ◌<◌, ◌++◌, ℕ, List, [], true, false, None, IfOk, IfSome, OnErr, OnOk, length, nat_lt, replicate};
+ghost use Rattle.std.specs.Prelude.{◌≡◌, ◌+◌, ◌≤◌, ◌<◌, ◌++◌, ℕ, List, [], true, false, None, IfOk, IfSome, OnErr, OnOk, length, nat_lt, replicate};
 ghost use Rattle.sg_play.specs.sg_clients.Clients.{IsClient};
-ghost use Rattle.sg_play.specs.sg_plain.Playing.Callers.{is_setting_up};
+ghost use Rattle.sg_play.specs.sg_plain.Playing.Callers.{handed, is_setting_up};
 ghost use Rattle.sg_play.specs.sg_plain.Playing.Ends.{end_of, ends_from};
 ghost use Rattle.sg_sim.specs.Inside.Ends.{end_by};
 ghost use Rattle.sg_play.specs.sg_plain.Playing.Playable.{IsPlayable};
-ghost use Rattle.sg_play.specs.sg_plain.Playing.Turns.{NobodyGoes, may_go};
+ghost use Rattle.sg_play.specs.sg_plain.Playing.Turns.{NobodyGoes, is_free_phase, may_go};
 ghost use Rattle.sg_facts.specs.Trace.{run_of};
 ghost use Rattle.sg_play.specs.sg_plain.Calls.{most_client, script_calls};
 ghost use Rattle.sg_play.specs.Turning.{StepsInTurn, with_offer};
 ghost use Rattle.sg_play.specs.Following.Stages.{IsNextTurn};
 ghost use Rattle.sg_sim.specs.Inside.Next.{IsFirstBehind, NoneBehind, NoneScheduled, may_go_next, stage_now};
 ghost use Rattle.sg_play.specs.sg_seat.WorldView.{is_blocked_phase, new_world, no_seat, seat_of};
-ghost use Rattle.sg_sim.specs.Played.{FollowsSchedule, IsPlayed};
-ghost use Rattle.sg_sim.specs.Playing.{can_step};
+ghost use Rattle.sg_sim.specs.Played.{FollowsSchedule, IsOfWorld, IsPlayed};
+ghost use Rattle.sg_sim.specs.Playing.{HasMissed, can_step};
 ghost use Rattle.sg_play.specs.Waking.Waking.{no_query_waits};
 ghost use Rattle.sg_play.specs.sg_world.Worlded.{setting_of};
 ghost use Rattle.sg_play.specs.sg_world_laws.Setting.{stubs_of};
@@ -102,9 +102,13 @@ impl<S: Service, T: Stops> Play<S, T> {
         })
     }
 
-    /// Plays the calls of the setup, which client 1 makes. After `NoMemory` it may be called again.
+    /// Plays the calls of the setup, which client 1 makes, and no other. After `NoMemory` it may be called again.
     pub fn setup(&mut self, alloc: Global) -> Result<(), NoMemory>
         ensures done { OnOk result (is_setting_up self.new.script self.new.view.seats ≡ false) }
+        ensures stays { is_setting_up self.old.script self.old.view.seats ≡ false → self.new ≡ self.old }
+        ensures calls { is_setting_up self.old.script self.old.view.seats ≡ true → handed (seat_of self.new.view 1) ≤ length self.old.script.setup }
+        ensures free { is_setting_up self.old.script self.old.view.seats ≡ true → OnOk result (is_free_phase (seat_of self.new.view 1).phase ≡ true) }
+        ensures others { (client : ℕ) → 2 ≤ client → seat_of self.new.view client ≡ seat_of self.old.view client }
         ensures tables { self.new.tables ≡ self.old.tables }
         ensures script { self.new.script ≡ self.old.script }
         ensures plan { self.new.plan ≡ self.old.plan }
@@ -118,6 +122,22 @@ impl<S: Service, T: Stops> Play<S, T> {
             self.take(alloc, turn)?;
         }
         Err(NoMemory)
+    }
+
+    /// The number of its clients, which are numbered from 1.
+    pub fn clients(&self) -> u8
+        ensures { result ≡ length self.now.view.seats }
+    {
+        most_client(self.script.clients.as_slice())
+    }
+
+    /// The number of the call that a client offers next, where it has none under way and has more calls.
+    pub fn next_number(&self, client: u8) -> u32
+        requires can { can_step self.now client ≡ true }
+        requires free { is_free_phase (seat_of self.now.view client).phase ≡ true }
+        ensures { result ≡ (seat_of self.now.view client).seq + 1 }
+    {
+        self.world.seq(client) + 1
     }
 
     /// Whether a client is one of the play's.
@@ -145,7 +165,11 @@ impl<S: Service, T: Stops> Play<S, T> {
         requires setup { is_setting_up self.old.script self.old.view.seats ≡ true → client ≡ 1 }
         ensures steps { let z = setting_of S.ask S.sound S.parts self.old.tables in
             IfOk result (λ handed. StepsInTurn z self.old.script (with_offer z.iface.facts self.old.script self.old.view client) client handed self.new.view) }
+        ensures missed { OnErr result (HasMissed (setting_of S.ask S.sound S.parts self.old.tables) self.old.script self.old.view client self.new.view) }
         ensures again { OnErr result (can_step self.new client ≡ true) }
+        ensures last { OnOk result (self.new.last ≡ client) }
+        ensures not_last { OnErr result (self.new.last ≡ self.old.last) }
+        ensures passed { self.new.passed ≡ self.old.passed }
         ensures settled { is_setting_up self.old.script self.old.view.seats ≡ false → is_setting_up self.new.script self.new.view.seats ≡ false }
         ensures clients { length self.new.view.seats ≡ length self.old.view.seats }
         ensures in_order { self.new.in_order ≡ false }
@@ -166,10 +190,11 @@ impl<S: Service, T: Stops> Play<S, T> {
     }
 
     /// Plays all that is left, to the end: until no client can take a turn. Where each turn before was that of the play without stops, so
-    /// are these. `NoMemory` also where a step of its world wanted memory.
+    /// are these. What it answers has the history and the trace of the play's world. `NoMemory` also where a step of that wanted memory.
     pub fn play(&mut self, alloc: Global) -> Result<Played, NoMemory>
         ensures played { IfOk result (IsPlayed (stubs_of (setting_of S.ask S.sound S.parts self.old.tables)) T.test self.old.script self.old.plan) }
         ensures schedule { self.old.in_order ≡ true → IfOk result (λ ended. FollowsSchedule self.old.tables.iface S.ask self.old.script (run_of ended.trace) ended.history.items) }
+        ensures world { IfOk result (IsOfWorld self.new.view) }
         ensures tables { self.new.tables ≡ self.old.tables }
         ensures script { self.new.script ≡ self.old.script }
         ensures plan { self.new.plan ≡ self.old.plan }
@@ -215,6 +240,9 @@ impl<S: Service, T: Stops> Play<S, T> {
         requires client { IsClient (length self.old.view.seats) turn.client }
         requires setup { is_setting_up self.old.script self.old.view.seats ≡ true → turn.client ≡ 1 }
         requires next { IsNextTurn self.old.script (stage_now self.old) turn.client turn.passed }
+        ensures free { is_setting_up self.old.script self.old.view.seats ≡ true → is_setting_up self.new.script self.new.view.seats ≡ false → is_free_phase (seat_of self.new.view 1).phase ≡ true }
+        ensures one { handed (seat_of self.new.view 1) ≤ handed (seat_of self.old.view 1) + 1 }
+        ensures others { is_setting_up self.old.script self.old.view.seats ≡ true → (client : ℕ) → 2 ≤ client → seat_of self.new.view client ≡ seat_of self.old.view client }
         ensures tables { self.new.tables ≡ self.old.tables }
         ensures script { self.new.script ≡ self.old.script }
         ensures plan { self.new.plan ≡ self.old.plan }
@@ -230,13 +258,6 @@ impl<S: Service, T: Stops> Play<S, T> {
         self.passed = turn.passed;
         self.last = turn.client;
         Ok(())
-    }
-
-    // The number of clients.
-    fn clients(&self) -> u8
-        ensures { result ≡ length self.now.view.seats }
-    {
-        most_client(self.script.clients.as_slice())
     }
 
     // Whether client 1 is still at the calls of the setup.
@@ -360,6 +381,7 @@ impl<S: Service, T: Stops> Play<S, T> {
         requires nobody { NobodyGoes self.now.script self.now.view.seats }
         ensures played { IfOk result (IsPlayed (stubs_of (setting_of S.ask S.sound S.parts self.now.tables)) T.test self.now.script self.now.plan) }
         ensures schedule { self.now.in_order ≡ true → IfOk result (λ ended. FollowsSchedule self.now.tables.iface S.ask self.now.script (run_of ended.trace) ended.history.items) }
+        ensures world { IfOk result (IsOfWorld self.now.view) }
     {
         if self.world.refused() > 0 {
             return Err(NoMemory);

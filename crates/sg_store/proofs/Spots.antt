@@ -76,6 +76,10 @@ module _ (old new : List Span) (key : List ℕ) (s : Span) (set : IsSet old new 
     | inr other ↦ ap span_stand (at_other k other.0)
   ]
 
+  -- place and room of each other file
+  pub others_set : (k : List ℕ) → k ≢ key → stand_in new k ≡ stand_in old k
+  others_set k other = elim (told k key) [ inl same ↦ absurd (other same.1) | inr apart ↦ ap span_stand (at_other k apart.0) ]
+
   -- each room stays or comes to twice as much, where that of the one does
   pub twice_set : 2 * span_room (span_at old key) ≤ s.room → (k : List ℕ) → GrowsTwice old new k
   twice_set more k = elim (told k key) [

@@ -1,5 +1,5 @@
 // The files in one buffer.
-ghost use Rattle.std.specs.Prelude.{◌≡◌, ◌+◌, ◌*◌, ◌≤◌, ℕ, List, [], None, Some, IsSome, IfSome, OnOk, length, min};
+ghost use Rattle.std.specs.Prelude.{◌≡◌, ◌≢◌, ◌+◌, ◌*◌, ◌≤◌, ℕ, List, [], None, Some, IsSome, IfSome, OnOk, length, min};
 ghost use Rattle.sg_facts.specs.Limits.{most_file, most_written};
 ghost use Rattle.sg_store.specs.Spans.{AreApart, FitsPatch, GrowsTwice, HasRoomIn, bytes_in, buffer_part, patched_at, room_in, shown_span, span_at, stand_in};
 ghost use Rattle.sg_store.specs.Inside.Places.{HasSpan};
@@ -92,6 +92,7 @@ impl Files {
         ensures room { OnOk result (HasRoomIn self.new key.now) }
         ensures rooms { (k : List ℕ) → HasRoomIn self.old k → HasRoomIn self.new k }
         ensures twice { (k : List ℕ) → GrowsTwice self.old.spans self.new.spans k }
+        ensures stays { (k : List ℕ) → HasRoomIn self.old k → stand_in self.new.spans k ≡ stand_in self.old.spans k }
     {
         if place_of(&self.places, key.as_slice()).is_none() {
             self.add(alloc, key)?;
@@ -105,6 +106,7 @@ impl Files {
         ensures files { (k : List ℕ) → bytes_in self.new k ≡ bytes_in self.old k }
         ensures there { OnOk result (IsSome (span_at self.new.spans key.now)) }
         ensures rooms { (k : List ℕ) → room_in self.new.spans k ≡ room_in self.old.spans k }
+        ensures others { (k : List ℕ) → k ≢ key.now → stand_in self.new.spans k ≡ stand_in self.old.spans k }
     {
         let place = FilePlace {
             from: 0,
@@ -121,6 +123,7 @@ impl Files {
         ensures room { OnOk result (HasRoomIn self.new key.now) }
         ensures rooms { (k : List ℕ) → HasRoomIn self.old k → HasRoomIn self.new k }
         ensures twice { (k : List ℕ) → GrowsTwice self.old.spans self.new.spans k }
+        ensures stays { (k : List ℕ) → HasRoomIn self.old k → stand_in self.new.spans k ≡ stand_in self.old.spans k }
     {
         match place_of(&self.places, key.as_slice()) {
             Some(place) => {
@@ -143,6 +146,7 @@ impl Files {
         ensures room { OnOk result (HasRoomIn self.new key.now) }
         ensures rooms { (k : List ℕ) → HasRoomIn self.old k → HasRoomIn self.new k }
         ensures twice { (k : List ℕ) → GrowsTwice self.old.spans self.new.spans k }
+        ensures others { (k : List ℕ) → k ≢ key.now → stand_in self.new.spans k ≡ stand_in self.old.spans k }
     {
         let from = self.buffer.len();
         add_copy(&mut self.buffer, place.from, place.len, room)?;

@@ -123,6 +123,7 @@ impl Storage {
         ensures room { OnOk result (IfSome key.entry (λ k. HasRoom self.new k.now)) }
         ensures rooms { (key : List ℕ) → HasRoom self.old key → HasRoom self.new key }
         ensures twice { (key : List ℕ) → GrowsTwice self.old.spans self.new.spans key }
+        ensures stays { (key : List ℕ) → HasRoom self.old key → stand_in self.new.spans key ≡ stand_in self.old.spans key }
         ensures clients { self.new.clients ≡ self.old.clients }
         ensures receipts { self.new.receipts ≡ self.old.receipts }
         ensures rows { self.new.rows ≡ self.old.rows }

@@ -10,6 +10,7 @@ use Rattle.std.specs.declared.result.Result.{Result}
 use Rattle.std.specs.declared.result.Result.TheVariants.{Ok, Err}
 use Rattle.sg_top.specs.declared.command.Command.{Command}
 use Rattle.sg_top.specs.declared.output.Output.{Output}
+use Rattle.sg_top.specs.declared.command.Shows.{Shows}
 use Rattle.sg_top.specs.declared.command.Command.TheVariants.{Play, Check, Compile, Upgrade, Verify, Load}
 use Rattle.sg_top.specs.declared.status.Status.{Status}
 use Rattle.sg_top.specs.declared.status.Status.TheVariants.{Done, Waits, OtherWords, Refused, ReadFault, WriteFault, NoMemory, Illegal}
@@ -85,8 +86,8 @@ ends_good ends is = by (somebody_waits ends) is
 -- an output of an input that is refused has its refusal, and no run came to its end
 refusal : (command : Command) (bytes : List ℕ) (ended : Option Ended) (status : Status) (output : List ℕ) → status ≡ Refused → length bytes ≤ most_bytes command
     → IsOutput command bytes ended status output → (ended ≡ None) × IsRefusal command bytes output
-refusal (Play threads trace) bytes None status output two short is = (refl, inl (short, is.1))
-refusal (Play threads trace) bytes (Some e) status output two short is = absurd (ends_good e.ends (sym is.0 ∙ two))
+refusal (Play threads shows) bytes None status output two short is = (refl, inl (short, is.1))
+refusal (Play threads shows) bytes (Some e) status output two short is = absurd (ends_good e.ends (sym is.0 ∙ two))
 refusal Check bytes ended status output two short (none, inl accepted) = absurd (cc (two, accepted.0))
 refusal Compile bytes ended status output two short (none, inl accepted) = absurd (cc (two, accepted.0))
 refusal Upgrade bytes ended status output two short (none, inl accepted) = absurd (cc (two, accepted.0))
@@ -101,7 +102,7 @@ refusal (Load service number) bytes ended status output two short is = absurd is
 own_good : (command : Command) (ended : Option Ended) (status : Status) (output : List ℕ) → IsOwnOutput command ended status output → status ≡ Refused → ⊥
 own_good (Load service number) (Some e) status output own two = ends_good e.ends (sym own.0 ∙ two)
 own_good (Load service number) None status output own two = own
-own_good (Play threads trace) ended status output own two = own
+own_good (Play threads shows) ended status output own two = own
 own_good Check ended status output own two = own
 own_good Compile ended status output own two = own
 own_good Upgrade ended status output own two = own
@@ -116,7 +117,7 @@ own_is (Load service number) (Some e) status output own = (by (ends_so e.ends), 
     by (inl done) = inl (own.0 ∙ done)
     by (inr waits) = inr (inl (own.0 ∙ waits))
 own_is (Load service number) None status output own = absurd own
-own_is (Play threads trace) ended status output own = absurd own
+own_is (Play threads shows) ended status output own = absurd own
 own_is Check ended status output own = absurd own
 own_is Compile ended status output own = absurd own
 own_is Upgrade ended status output own = absurd own
@@ -140,10 +141,10 @@ told_refused command source source' ended status output two has = refused_by com
 
 -- ---- statuses and runs
 
-played_status : (bytes : List ℕ) (in_threads with_trace : Bool) (ended : Option Ended) (status : Status) (output : List ℕ)
-    → IsPlayOutput bytes in_threads with_trace ended status output → IsMade status
-played_status bytes in_threads with_trace None status output is = inr (inr (inr is.0))
-played_status bytes in_threads with_trace (Some e) status output is = by (ends_so e.ends)
+played_status : (bytes : List ℕ) (in_threads : Bool) (shows : Shows) (ended : Option Ended) (status : Status) (output : List ℕ)
+    → IsPlayOutput bytes in_threads shows ended status output → IsMade status
+played_status bytes in_threads shows None status output is = inr (inr (inr is.0))
+played_status bytes in_threads shows (Some e) status output is = by (ends_so e.ends)
   where
     by : (ended_status e.ends ≡ Done) ⊎ (ended_status e.ends ≡ Waits) → IsMade status
     by (inl done) = inl (is.0 ∙ done)
@@ -151,7 +152,7 @@ played_status bytes in_threads with_trace (Some e) status output is = by (ends_s
 
 output_status : (command : Command) (bytes : List ℕ) (ended : Option Ended) (status : Status) (output : List ℕ)
     → IsOutput command bytes ended status output → IsMade status
-output_status (Play threads trace) bytes ended status output is = played_status bytes threads trace ended status output is
+output_status (Play threads shows) bytes ended status output is = played_status bytes threads shows ended status output is
 output_status Check bytes ended status output (none, inl accepted) = inl accepted.0
 output_status Compile bytes ended status output (none, inl accepted) = inl accepted.0
 output_status Upgrade bytes ended status output (none, inl accepted) = inl accepted.0
@@ -177,14 +178,14 @@ status_is : (command : Command) (source source' : Ends) (ended : Option Ended) (
     → HasRead command source source' ended status output → IsMade status
 status_is command source source' ended status output has = status_by command source source' ended status output has.read
 
-played_run : (bytes : List ℕ) (in_threads with_trace : Bool) (ended : Option Ended) (status : Status) (output : List ℕ) → (status ≡ Refused → ⊥)
-    → IsPlayOutput bytes in_threads with_trace ended status output → IsSome ended
-played_run bytes in_threads with_trace None status output good is = absurd (good is.0)
-played_run bytes in_threads with_trace (Some e) status output good is = refl
+played_run : (bytes : List ℕ) (in_threads : Bool) (shows : Shows) (ended : Option Ended) (status : Status) (output : List ℕ) → (status ≡ Refused → ⊥)
+    → IsPlayOutput bytes in_threads shows ended status output → IsSome ended
+played_run bytes in_threads shows None status output good is = absurd (good is.0)
+played_run bytes in_threads shows (Some e) status output good is = refl
 
 output_run : (command : Command) (bytes : List ℕ) (ended : Option Ended) (status : Status) (output : List ℕ) → (status ≡ Refused → ⊥) → is_play command ≡ true
     → IsOutput command bytes ended status output → IsSome ended
-output_run (Play threads trace) bytes ended status output good play is = played_run bytes threads trace ended status output good is
+output_run (Play threads shows) bytes ended status output good play is = played_run bytes threads shows ended status output good is
 output_run Check bytes ended status output good play is = absurd (cc play)
 output_run Compile bytes ended status output good play is = absurd (cc play)
 output_run Upgrade bytes ended status output good play is = absurd (cc play)
@@ -208,7 +209,7 @@ no_run (Some e) none some = cc
 
 output_play : (command : Command) (bytes : List ℕ) (ended : Option Ended) (status : Status) (output : List ℕ)
     → IsOutput command bytes ended status output → IsSome ended → is_play command ≡ true
-output_play (Play threads trace) bytes ended status output is some = refl
+output_play (Play threads shows) bytes ended status output is some = refl
 output_play Check bytes ended status output is some = absurd (no_run ended is.0 some)
 output_play Compile bytes ended status output is some = absurd (no_run ended is.0 some)
 output_play Upgrade bytes ended status output is some = absurd (no_run ended is.0 some)
@@ -299,7 +300,7 @@ no_fault status wanted same (inr (inr (inr two))) = (λ is. cc (is, same, two), 
 
 -- a command without an input has no output for bytes
 no_output : (command : Command) (bytes : List ℕ) (ended : Option Ended) (status : Status) (output : List ℕ) → has_input command ≡ false → IsOutput command bytes ended status output → ⊥
-no_output (Play threads trace) bytes ended status output without is = cc without
+no_output (Play threads shows) bytes ended status output without is = cc without
 no_output Check bytes ended status output without is = cc without
 no_output Compile bytes ended status output without is = cc without
 no_output Upgrade bytes ended status output without is = cc without
@@ -514,8 +515,8 @@ said_reads said told told' command one is_said (inl (c, is, has, consumed)) = in
 said_reads said told told' command one is_said (inr (without, same)) = inr (λ c said_c. without c (one c command said_c is_said), same)
 
 -- each command but a load has an input
-pub with_input : (c : Command) → ((threads : Bool) × (trace : Bool) × (c ≡ Play threads trace)) ⊎ ((c ≡ Check) ⊎ ((c ≡ Compile) ⊎ ((c ≡ Upgrade) ⊎ (c ≡ Verify)))) → has_input c ≡ true
-with_input c (inl (threads, trace, is)) = ap has_input is
+pub with_input : (c : Command) → ((threads : Bool) × (shows : Shows) × (c ≡ Play threads shows)) ⊎ ((c ≡ Check) ⊎ ((c ≡ Compile) ⊎ ((c ≡ Upgrade) ⊎ (c ≡ Verify)))) → has_input c ≡ true
+with_input c (inl (threads, shows, is)) = ap has_input is
 with_input c (inr (inl is)) = ap has_input is
 with_input c (inr (inr (inl is))) = ap has_input is
 with_input c (inr (inr (inr (inl is)))) = ap has_input is

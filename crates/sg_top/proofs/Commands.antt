@@ -12,6 +12,7 @@ use Rattle.sg_load.specs.declared.kind.ServiceKind.TheVariants.{Locks, Events, P
 use Rattle.sg_input.specs.sg_script.Numbers.{value_of_digits}
 use Rattle.sg_top.specs.declared.command.Command.{Command}
 use Rattle.sg_top.specs.declared.command.Command.TheVariants.{Play, Check, Compile, Upgrade, Verify, Load}
+use Rattle.sg_top.specs.declared.command.Shows.TheVariants.{Run, Trace, Costs}
 use Rattle.sg_top.specs.Answer.{AreDigitsOf, IsCommand, IsSerialCommand}
 use Rattle.sg_top.specs.Inside.Kinds.{kind_called}
 use Rattle.sg_top.specs.Inside.Words.{IsLoadOf, IsPairOf, IsWordOf}
@@ -30,7 +31,9 @@ called Threads = refl
 
 -- the texts of a command, with these digits
 abbrev texts_of : Command → List ℕ → List (List ℕ)
-texts_of (Play threads trace) digits = (if threads then codes "run" else codes "sim") ∷ (if trace then codes "trace" ∷ [] else [])
+texts_of (Play threads Run) digits = (if threads then codes "run" else codes "sim") ∷ []
+texts_of (Play threads Trace) digits = (if threads then codes "run" else codes "sim") ∷ codes "trace" ∷ []
+texts_of (Play threads Costs) digits = codes "cost" ∷ []
 texts_of Check digits = codes "check" ∷ []
 texts_of Compile digits = codes "compile" ∷ []
 texts_of Upgrade digits = codes "upgrade" ∷ []
@@ -40,10 +43,16 @@ texts_of (Load service number) digits = codes "load" ∷ (facts_by service).name
 -- the digits fit the command
 abbrev Digits : Command → List ℕ → Type 0
 Digits (Load service number) digits = AreDigitsOf number digits
+Digits (Play true Costs) digits = ⊥
 Digits _ digits = Unit {0}
 
 says : (words : List (String Global)) (c : Command) → IsCommand words c → (digits : List ℕ) × Digits c digits × (map string_bytes words ≡ texts_of c digits)
-says words (Play threads trace) is = ([], tt, is)
+says words (Play false Run) is = ([], tt, is)
+says words (Play true Run) is = ([], tt, is)
+says words (Play false Trace) is = ([], tt, is)
+says words (Play true Trace) is = ([], tt, is)
+says words (Play false Costs) is = ([], tt, is)
+says words (Play true Costs) is = absurd is
 says words Check is = ([], tt, is)
 says words Compile is = ([], tt, is)
 says words Upgrade is = ([], tt, is)
@@ -61,13 +70,16 @@ command_in texts =
     else if bytes_eq (text_at 0 texts) (codes "compile") then Compile
     else if bytes_eq (text_at 0 texts) (codes "upgrade") then Upgrade
     else if bytes_eq (text_at 0 texts) (codes "verify") then Verify
-    else Play (bytes_eq (text_at 0 texts) (codes "run")) (length texts == 2)
+    else if bytes_eq (text_at 0 texts) (codes "cost") then Play false Costs
+    else Play (bytes_eq (text_at 0 texts) (codes "run")) (if length texts == 2 then Trace else Run)
 
 it_is : (c : Command) (digits : List ℕ) → Digits c digits → command_in (texts_of c digits) ≡ c
-it_is (Play false false) digits fit = refl
-it_is (Play false true) digits fit = refl
-it_is (Play true false) digits fit = refl
-it_is (Play true true) digits fit = refl
+it_is (Play false Run) digits fit = refl
+it_is (Play false Trace) digits fit = refl
+it_is (Play false Costs) digits fit = refl
+it_is (Play true Run) digits fit = refl
+it_is (Play true Trace) digits fit = refl
+it_is (Play true Costs) digits fit = absurd fit
 it_is Check digits fit = refl
 it_is Compile digits fit = refl
 it_is Upgrade digits fit = refl
@@ -91,8 +103,9 @@ pub count_is : (words : List (String Global)) (c : Command) → IsCommand words 
 count_is words c is = let u = says words c is in by c u.0 (sym (length-map words string_bytes) ∙ ap length u.2)
   where
     by : (c : Command) (digits : List ℕ) → length words ≡ length (texts_of c digits) → (1 ≤ length words) × (length words ≤ 3)
-    by (Play threads false) digits l = (omega (arith, l), omega (arith, l))
-    by (Play threads true) digits l = (omega (arith, l), omega (arith, l))
+    by (Play threads Run) digits l = (omega (arith, l), omega (arith, l))
+    by (Play threads Trace) digits l = (omega (arith, l), omega (arith, l))
+    by (Play threads Costs) digits l = (omega (arith, l), omega (arith, l))
     by Check digits l = (omega (arith, l), omega (arith, l))
     by Compile digits l = (omega (arith, l), omega (arith, l))
     by Upgrade digits l = (omega (arith, l), omega (arith, l))
@@ -102,10 +115,12 @@ count_is words c is = let u = says words c is in by c u.0 (sym (length-map words
 -- ---- one word
 
 word_of : (word : String Global) (command : Command) → IsCommand (word ∷ []) command → IsWordOf (string_bytes word) command
-word_of word (Play false false) is = ap (text_at 0) is
-word_of word (Play true false) is = ap (text_at 0) is
-word_of word (Play false true) is = absurd (omega (arith, ap length is))
-word_of word (Play true true) is = absurd (omega (arith, ap length is))
+word_of word (Play false Run) is = ap (text_at 0) is
+word_of word (Play true Run) is = ap (text_at 0) is
+word_of word (Play false Trace) is = absurd (omega (arith, ap length is))
+word_of word (Play true Trace) is = absurd (omega (arith, ap length is))
+word_of word (Play false Costs) is = ap (text_at 0) is
+word_of word (Play true Costs) is = absurd is
 word_of word Check is = ap (text_at 0) is
 word_of word Compile is = ap (text_at 0) is
 word_of word Upgrade is = ap (text_at 0) is
@@ -113,10 +128,12 @@ word_of word Verify is = ap (text_at 0) is
 word_of word (Load s n) is = absurd (omega (arith, ap length is.2))
 
 of_word : (word : String Global) (command : Command) → IsWordOf (string_bytes word) command → IsCommand (word ∷ []) command
-of_word word (Play false false) is = ap (λ t. t ∷ []) is
-of_word word (Play true false) is = ap (λ t. t ∷ []) is
-of_word word (Play false true) is = absurd is
-of_word word (Play true true) is = absurd is
+of_word word (Play false Run) is = ap (λ t. t ∷ []) is
+of_word word (Play true Run) is = ap (λ t. t ∷ []) is
+of_word word (Play false Trace) is = absurd is
+of_word word (Play true Trace) is = absurd is
+of_word word (Play false Costs) is = ap (λ t. t ∷ []) is
+of_word word (Play true Costs) is = absurd is
 of_word word Check is = ap (λ t. t ∷ []) is
 of_word word Compile is = ap (λ t. t ∷ []) is
 of_word word Upgrade is = ap (λ t. t ∷ []) is
@@ -146,10 +163,12 @@ two_of (w ∷ v ∷ []) word more second third is isn't = cc (is, isn't)
 two_of (w ∷ v ∷ u ∷ words) word more second third is isn't = absurd (omega (arith, third))
 
 pair_of : (word more : String Global) (command : Command) → IsCommand (word ∷ more ∷ []) command → IsPairOf (string_bytes word) (string_bytes more) command
-pair_of word more (Play false false) is = absurd (omega (arith, ap length is))
-pair_of word more (Play true false) is = absurd (omega (arith, ap length is))
-pair_of word more (Play false true) is = (ap (text_at 0) is, ap (text_at 1) is)
-pair_of word more (Play true true) is = (ap (text_at 0) is, ap (text_at 1) is)
+pair_of word more (Play false Run) is = absurd (omega (arith, ap length is))
+pair_of word more (Play true Run) is = absurd (omega (arith, ap length is))
+pair_of word more (Play false Trace) is = (ap (text_at 0) is, ap (text_at 1) is)
+pair_of word more (Play true Trace) is = (ap (text_at 0) is, ap (text_at 1) is)
+pair_of word more (Play false Costs) is = absurd (omega (arith, ap length is))
+pair_of word more (Play true Costs) is = absurd is
 pair_of word more Check is = absurd (omega (arith, ap length is))
 pair_of word more Compile is = absurd (omega (arith, ap length is))
 pair_of word more Upgrade is = absurd (omega (arith, ap length is))
@@ -157,10 +176,12 @@ pair_of word more Verify is = absurd (omega (arith, ap length is))
 pair_of word more (Load s n) is = absurd (omega (arith, ap length is.2))
 
 of_pair : (word more : String Global) (command : Command) → IsPairOf (string_bytes word) (string_bytes more) command → IsCommand (word ∷ more ∷ []) command
-of_pair word more (Play false false) is = absurd is
-of_pair word more (Play true false) is = absurd is
-of_pair word more (Play false true) is = cc (is.0, is.1)
-of_pair word more (Play true true) is = cc (is.0, is.1)
+of_pair word more (Play false Run) is = absurd is
+of_pair word more (Play true Run) is = absurd is
+of_pair word more (Play false Trace) is = cc (is.0, is.1)
+of_pair word more (Play true Trace) is = cc (is.0, is.1)
+of_pair word more (Play false Costs) is = absurd is
+of_pair word more (Play true Costs) is = absurd is
 of_pair word more Check is = absurd is
 of_pair word more Compile is = absurd is
 of_pair word more Upgrade is = absurd is
@@ -191,7 +212,7 @@ three_of (w ∷ v ∷ u ∷ t ∷ words) word name digits third fourth a b c = a
 
 -- where no service has the name, or the digits stand for no number, nothing is said
 pub no_service : (word name digits : List ℕ) → ((kind : ServiceKind) → name ≡ (facts_by kind).name → ⊥) → (command : Command) → IsLoadOf word name digits command → ⊥
-no_service word name digits none (Play threads trace) is = is
+no_service word name digits none (Play threads shows) is = is
 no_service word name digits none Check is = is
 no_service word name digits none Compile is = is
 no_service word name digits none Upgrade is = is
@@ -199,8 +220,10 @@ no_service word name digits none Verify is = is
 no_service word name digits none (Load s n) is = none s is.1
 
 load_of : (word name digits : String Global) (command : Command) → IsCommand (word ∷ name ∷ digits ∷ []) command → IsLoadOf (string_bytes word) (string_bytes name) (string_bytes digits) command
-load_of word name digits (Play threads false) is = absurd (omega (arith, ap length is))
-load_of word name digits (Play threads true) is = absurd (omega (arith, ap length is))
+load_of word name digits (Play threads Run) is = absurd (omega (arith, ap length is))
+load_of word name digits (Play threads Trace) is = absurd (omega (arith, ap length is))
+load_of word name digits (Play false Costs) is = absurd (omega (arith, ap length is))
+load_of word name digits (Play true Costs) is = absurd is
 load_of word name digits Check is = absurd (omega (arith, ap length is))
 load_of word name digits Compile is = absurd (omega (arith, ap length is))
 load_of word name digits Upgrade is = absurd (omega (arith, ap length is))
@@ -208,7 +231,7 @@ load_of word name digits Verify is = absurd (omega (arith, ap length is))
 load_of word name digits (Load s n) is = (ap (text_at 0) is.2, ap (text_at 1) is.2, subst (AreDigitsOf n) (sym (ap (text_at 2) is.2)) is.1)
 
 of_load : (word name digits : String Global) (command : Command) → IsLoadOf (string_bytes word) (string_bytes name) (string_bytes digits) command → IsCommand (word ∷ name ∷ digits ∷ []) command
-of_load word name digits (Play threads trace) is = absurd is
+of_load word name digits (Play threads shows) is = absurd is
 of_load word name digits Check is = absurd is
 of_load word name digits Compile is = absurd is
 of_load word name digits Upgrade is = absurd is

@@ -13,7 +13,7 @@ use Rattle.sg_input.specs.Judged.{MayBeJudged}
 use Rattle.sg_verify.specs.Lines.{verdict_line_of}
 use Rattle.sg_verify.specs.Verdicts.{IsVerdictOf}
 use Rattle.sg_verify.specs.declared.verdict.Verdict.{Verdict}
-use Rattle.sg_verify.specs.sg_world_laws.Seats.{MayBeMade}
+use Rattle.sg_report.specs.sg_hist.Clients.{MayBeMade}
 use Rattle.sg_input.proofs.OneRun.{never_ready, one_ready}
 use Rattle.sg_verify.proofs.Verdicts.{one_said as one_verdict}
 use Rattle.sg_top.proofs.Commands.{called}

@@ -1,6 +1,7 @@
-mod Digits
 pub mod Answers
 pub mod Commands
+mod Costing
+mod Digits
 pub mod Fitting
 pub mod Judging
 pub mod Named

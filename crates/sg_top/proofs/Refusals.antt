@@ -12,6 +12,7 @@ use Rattle.sg_input.proofs.OneInput.{never_ready, not_refused}
 use Rattle.sg_input.proofs.OneRun.{never_ready as never_printed}
 use Rattle.sg_top.specs.Headline.{IsRunOfInput, played_services}
 use Rattle.sg_top.specs.declared.command.Command.{Command}
+use Rattle.sg_top.specs.declared.command.Shows.{Shows}
 use Rattle.sg_top.specs.declared.command.Command.TheVariants.{Play, Check, Compile, Upgrade, Verify, Load}
 use Rattle.sg_top.specs.declared.status.Status.{Status}
 use Rattle.sg_top.specs.declared.status.Status.TheVariants.{Refused}
@@ -31,17 +32,17 @@ not_unupgraded : (text line output : List ℕ) → IsUpgraded services text (acc
 not_unupgraded text line output (tree, i, parses, is, prints) bad = not_refused services text i line (tree, parses, is) bad
 
 -- an input that is played isn't refused
-not_unplayed : (bytes line output : List ℕ) (in_threads with_trace : Bool) (ended : Ended) → IsRunOfInput played_services bytes in_threads with_trace ended output → IsInputOf services bytes (refused_input line) → ⊥
-not_unplayed bytes line output in_threads with_trace ended run bad = never_ready services bytes line run.i run.script bad run.ready
+not_unplayed : (bytes line output : List ℕ) (in_threads : Bool) (shows : Shows) (ended : Ended) → IsRunOfInput played_services bytes in_threads shows ended output → IsInputOf services bytes (refused_input line) → ⊥
+not_unplayed bytes line output in_threads shows ended run bad = never_ready services bytes line run.i run.script bad run.ready
 
-played_alone : (bytes : List ℕ) (in_threads with_trace : Bool) (ended : Option Ended) (status : Status) (output line : List ℕ) → (status ≡ Refused → ⊥)
-    → IsPlayOutput bytes in_threads with_trace ended status output → IsInputOf services bytes (refused_input line) → ⊥
-played_alone bytes in_threads with_trace None status output line good is bad = good is.0
-played_alone bytes in_threads with_trace (Some e) status output line good is bad = not_unplayed bytes line output in_threads with_trace e is.1 bad
+played_alone : (bytes : List ℕ) (in_threads : Bool) (shows : Shows) (ended : Option Ended) (status : Status) (output line : List ℕ) → (status ≡ Refused → ⊥)
+    → IsPlayOutput bytes in_threads shows ended status output → IsInputOf services bytes (refused_input line) → ⊥
+played_alone bytes in_threads shows None status output line good is bad = good is.0
+played_alone bytes in_threads shows (Some e) status output line good is bad = not_unplayed bytes line output in_threads shows e is.1 bad
 
 good_alone : (command : Command) (bytes : List ℕ) (ended : Option Ended) (status : Status) (output line : List ℕ) → (status ≡ Refused → ⊥)
     → IsOutput command bytes ended status output → IsRefusedAs command bytes line → ⊥
-good_alone (Play threads trace) bytes ended status output line good is bad = played_alone bytes threads trace ended status output line good is bad
+good_alone (Play threads shows) bytes ended status output line good is bad = played_alone bytes threads shows ended status output line good is bad
 good_alone Check bytes ended status output line good (none, inl accepts) bad = not_both bytes line output accepts.1 bad
 good_alone Compile bytes ended status output line good (none, inl accepts) bad = not_untabled bytes line output accepts.1 bad
 good_alone Upgrade bytes ended status output line good (none, inl accepts) bad = not_unupgraded bytes line output accepts.1 bad
@@ -60,7 +61,7 @@ never_refused command bytes ended status output line good short is (inr (has, lo
 
 -- a command without an input refuses nothing
 pub refuses_nothing : (command : Command) (bytes line : List ℕ) → has_input command ≡ false → IsRefusal command bytes line → ⊥
-refuses_nothing (Play threads trace) bytes line without is = cc without
+refuses_nothing (Play threads shows) bytes line without is = cc without
 refuses_nothing Check bytes line without is = cc without
 refuses_nothing Compile bytes line without is = cc without
 refuses_nothing Upgrade bytes line without is = cc without

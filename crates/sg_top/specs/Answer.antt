@@ -28,6 +28,8 @@ use Rattle.sg_verify.specs.declared.verdict.Verdict.TheVariants.{Legal, BadSeq, 
 use Rattle.sg_top.specs.Headline.{IsRunOfLoad, IsRunOfInput, answering, played_services}
 use Rattle.sg_top.specs.declared.command.Command.{Command}
 use Rattle.sg_top.specs.declared.command.Command.TheVariants.{Play, Check, Compile, Upgrade, Verify, Load}
+use Rattle.sg_top.specs.declared.command.Shows.{Shows}
+use Rattle.sg_top.specs.declared.command.Shows.TheVariants.{Run, Trace, Costs}
 use Rattle.sg_top.specs.declared.status.Status.{Status}
 use Rattle.sg_top.specs.declared.status.Status.TheVariants.{Done, Waits, OtherWords, Refused, ReadFault, WriteFault, NoMemory, Illegal}
 
@@ -41,9 +43,16 @@ AreDigitsOf number digits = IsNumber digits × (value_of_digits digits ≡ numbe
 abbrev pub SayTexts : List (List ℕ) → List (String Global) → Type 0
 SayTexts texts words = map string_bytes words ≡ texts
 
+-- the words say a play, in threads or in one, of whose run this is printed
+abbrev pub SayPlay : Bool → Shows → List (String Global) → Type 0
+SayPlay threads Run words = SayTexts ((if threads then codes "run" else codes "sim") ∷ []) words
+SayPlay threads Trace words = SayTexts ((if threads then codes "run" else codes "sim") ∷ codes "trace" ∷ []) words
+SayPlay false Costs words = SayTexts (codes "cost" ∷ []) words
+SayPlay true Costs words = ⊥
+
 -- the words say a command
 abbrev pub IsCommand : List (String Global) → Command → Type 0
-IsCommand words (Play threads trace) = SayTexts ((if threads then codes "run" else codes "sim") ∷ (if trace then codes "trace" ∷ [] else [])) words
+IsCommand words (Play threads shows) = SayPlay threads shows words
 IsCommand words Check = SayTexts (codes "check" ∷ []) words
 IsCommand words Compile = SayTexts (codes "compile" ∷ []) words
 IsCommand words Upgrade = SayTexts (codes "upgrade" ∷ []) words
@@ -53,7 +62,7 @@ IsCommand words (Load service number) =
 
 -- whether a command is a play
 abbrev pub is_play : Command → Bool
-is_play (Play threads trace) = true
+is_play (Play threads shows) = true
 is_play Check = false
 is_play Compile = false
 is_play Upgrade = false
@@ -62,7 +71,7 @@ is_play (Load service number) = true
 
 -- whether a command is a play whose clients have threads of their own
 abbrev pub is_in_threads : Command → Bool
-is_in_threads (Play threads trace) = threads
+is_in_threads (Play threads shows) = threads
 is_in_threads Check = false
 is_in_threads Compile = false
 is_in_threads Upgrade = false
@@ -75,7 +84,7 @@ IsSerialCommand words command = IsCommand words command × (is_in_threads comman
 
 -- whether a command has an input
 abbrev pub has_input : Command → Bool
-has_input (Play threads trace) = true
+has_input (Play threads shows) = true
 has_input Check = true
 has_input Compile = true
 has_input Upgrade = true
@@ -86,7 +95,7 @@ has_input (Load service number) = false
 
 -- the greatest number of bytes of a command's input
 abbrev pub most_bytes : Command → ℕ
-most_bytes (Play threads trace) = most_input
+most_bytes (Play threads shows) = most_input
 most_bytes Check = most_interface
 most_bytes Compile = most_interface
 most_bytes Upgrade = most_interface
@@ -103,10 +112,10 @@ services = map (λ s. s.facts) played_services
 abbrev pub ended_status : List (ℕ × End) → Status
 ended_status ends = if somebody_waits ends then Waits else Done
 
--- the output of a play, and its status: the report of the run, or the line of an input that is refused
-abbrev pub IsPlayOutput : List ℕ → Bool → Bool → Option Ended → Status → List ℕ → Type 0
-IsPlayOutput bytes in_threads with_trace None status output = (status ≡ Refused) × IsInputOf services bytes (refused_input output)
-IsPlayOutput bytes in_threads with_trace (Some ended) status output = (status ≡ ended_status ended.ends) × IsRunOfInput played_services bytes in_threads with_trace ended output
+-- the output of a play, and its status: what is printed of the run, or the line of an input that is refused
+abbrev pub IsPlayOutput : List ℕ → Bool → Shows → Option Ended → Status → List ℕ → Type 0
+IsPlayOutput bytes in_threads shows None status output = (status ≡ Refused) × IsInputOf services bytes (refused_input output)
+IsPlayOutput bytes in_threads shows (Some ended) status output = (status ≡ ended_status ended.ends) × IsRunOfInput played_services bytes in_threads shows ended output
 
 -- the output of a check, and its status: the line of a text that is accepted, or of a text that is refused
 abbrev pub IsChecked : List ℕ → Status → List ℕ → Type 0
@@ -150,7 +159,7 @@ IsVerified bytes status output = IsJudgedAs bytes status output ⊎ ((status ≡
 
 -- the output of a command for an input, its status, and the run where there was one: only a play has one
 abbrev pub IsOutput : Command → List ℕ → Option Ended → Status → List ℕ → Type 0
-IsOutput (Play threads trace) bytes ended status output = IsPlayOutput bytes threads trace ended status output
+IsOutput (Play threads shows) bytes ended status output = IsPlayOutput bytes threads shows ended status output
 IsOutput Check bytes ended status output = (ended ≡ None) × IsChecked bytes status output
 IsOutput Compile bytes ended status output = (ended ≡ None) × IsTabled bytes status output
 IsOutput Upgrade bytes ended status output = (ended ≡ None) × IsUpgradeOf bytes status output
@@ -164,7 +173,7 @@ IsOwnOutput command ended status output = ⊥
 
 -- the line with which a command refuses bytes that aren't too many
 abbrev pub IsRefusedAs : Command → List ℕ → List ℕ → Type 0
-IsRefusedAs (Play threads trace) bytes output = IsInputOf services bytes (refused_input output)
+IsRefusedAs (Play threads shows) bytes output = IsInputOf services bytes (refused_input output)
 IsRefusedAs Check bytes output = IsVerdict services bytes (refused output)
 IsRefusedAs Compile bytes output = IsVerdict services bytes (refused output)
 IsRefusedAs Upgrade bytes output = IsVerdict services bytes (refused output)

@@ -1,10 +1,14 @@
 -- Which services are played, and what is promised of a run of an input and of a load.
-use Rattle.std.specs.Prelude.{ℕ, ◌≡◌, Bool, false, List, [], ◌∷◌, map}
+use Rattle.std.specs.Prelude.{ℕ, ◌≡◌, Bool, true, false, List, [], ◌∷◌, map}
 use Rattle.std.specs.List.{Contains}
 use Rattle.sg_load.specs.sg_event.EventFacts.{event_facts}
 use Rattle.sg_load.specs.sg_event.EventTable.{event_parts, event_table}
+use Rattle.sg_cost.specs.Costs.{AreFewInEach, costs_at}
+use Rattle.sg_cost.specs.Lines.{cost_text_of}
 use Rattle.sg_facts.specs.Interface.{Declared}
+use Rattle.sg_facts.specs.Tables.{AreTables}
 use Rattle.sg_facts.specs.Trace.{run_of}
+use Rattle.sg_facts.specs.declared.tables.WalkLine.{WalkLine}
 use Rattle.sg_report.specs.sg_hist.declared.ended.Ended.{Ended}
 use Rattle.sg_input.specs.Inputs.{IsReady}
 use Rattle.sg_load.specs.Generated.{generated}
@@ -23,6 +27,8 @@ use Rattle.sg_load.specs.sg_sched.SchedTable.{sched_parts, sched_table}
 use Rattle.sg_input.specs.sg_script.declared.script.Script.{Script}
 use Rattle.sg_shared.specs.Runs.{Answering, IsRunOf}
 use Rattle.sg_shared.specs.sg_sim.Played.{FollowsSchedule}
+use Rattle.sg_top.specs.declared.command.Shows.{Shows}
+use Rattle.sg_top.specs.declared.command.Shows.TheVariants.{Run, Trace, Costs}
 
 -- ---- services
 
@@ -38,10 +44,23 @@ answering Threads = record { facts = sched_facts; ask = sched_table; parts = sch
 abbrev pub played_services : List Answering
 played_services = map answering (Locks ∷ Events ∷ Pages ∷ Files ∷ Threads ∷ [])
 
+-- ---- what is printed
+
+-- the replayed calls of each boot of a run are few, by the walks of the interface's tables
+abbrev pub HasFewReplays : Declared → Ended → Type 0
+HasFewReplays i ended = (walks : List WalkLine) × AreTables i walks × AreFewInEach i walks ended.history.items (run_of ended.trace)
+
+-- this is printed of a run: its report, with what was done to the service or without, or what its calls could cost after one more stop
+abbrev pub IsShown : Shows → Declared → Ended → List ℕ → Type 0
+IsShown Run i ended written = written ≡ report_of i.facts ended false
+IsShown Trace i ended written = written ≡ report_of i.facts ended true
+IsShown Costs i ended written =
+    (walks : List WalkLine) × AreTables i walks × (written ≡ cost_text_of i.facts (costs_at i walks ended.history.items (run_of ended.trace)))
+
 -- ---- inputs
 
 -- an input is an interface of one of these services and a script for it, and this is a run of it, in threads or in one thread, with its output
-pub record IsRunOfInput (services : List Answering) (bytes : List ℕ) (in_threads with_trace : Bool) (ended : Ended) (written : List ℕ) : Type 0 where
+pub record IsRunOfInput (services : List Answering) (bytes : List ℕ) (in_threads : Bool) (shows : Shows) (ended : Ended) (written : List ℕ) : Type 0 where
   pub i : Declared
   pub script : Script
   pub ready : IsReady (map (λ s. s.facts) services) bytes i script
@@ -51,13 +70,17 @@ pub record IsRunOfInput (services : List Answering) (bytes : List ℕ) (in_threa
   pub run : IsRunOf i service script ended
   -- in one thread the turns are those of the play without stops until the service stops
   pub schedule : in_threads ≡ false → FollowsSchedule i service.ask script (run_of ended.trace) ended.history.items
-  -- the bytes written are the report of the play
-  pub output : written ≡ report_of i.facts ended with_trace
+  -- no boot needs more replayed calls than the walks of what was live when it began have
+  pub few : HasFewReplays i ended
+  -- the bytes written are what is to be printed of the play
+  pub output : IsShown shows i ended written
 
 -- this is a run of the script that is generated from a number for a service, under its standard interface, with its output
 pub record IsRunOfLoad (kind : ServiceKind) (number : ℕ) (ended : Ended) (written : List ℕ) : Type 0 where
   pub run : IsRunOf (standard kind) (answering kind) (generated kind number) ended
   -- the turns are those of the play without stops until the service stops
   pub schedule : FollowsSchedule (standard kind) (answering kind).ask (generated kind number) (run_of ended.trace) ended.history.items
+  -- no boot needs more replayed calls than the walks of what was live when it began have
+  pub few : HasFewReplays (standard kind) ended
   -- the bytes written are the line of the load
   pub output : written ≡ load_line_of (facts_by kind).name number ended

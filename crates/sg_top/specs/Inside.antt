@@ -1,4 +1,5 @@
 -- What the contracts of private functions cite.
 pub mod Delivery
 pub mod Kinds
+pub mod Plays
 pub mod Words

@@ -8,12 +8,23 @@ use crate::services::kind_named;
 use sg_input::{MOST_INPUT, MOST_INTERFACE, MOST_RUN_INPUT};
 use sg_load::ServiceKind;
 
+/// What is printed of a run.
+#[derive(Clone, Copy, Debug, PartialEq, Eq)]
+pub enum Shows {
+    /// Its report.
+    Run,
+    /// Its report, and what was done to the service.
+    Trace,
+    /// What its calls could cost after one more stop, in replayed calls, and what those of each boot cost.
+    Costs,
+}
+
 /// A command of the program.
 #[derive(Clone, Copy, Debug, PartialEq, Eq)]
 pub enum Command {
     /// `sim`, or `run` with a thread for each client: plays an input, and prints the report of its run; with `trace` after it too
-    /// what was done to the service.
-    Play { threads: bool, trace: bool },
+    /// what was done to the service. `cost`: plays it as `sim` does, and prints what its calls could cost after one more stop.
+    Play { threads: bool, shows: Shows },
     /// `check`: says whether an input is the text of an interface that is accepted.
     Check,
     /// `compile`: prints the tables of the text of an interface that is accepted.
@@ -53,11 +64,15 @@ impl Command {
         match word {
             "sim" => Some(Command::Play {
                 threads: false,
-                trace: false,
+                shows: Shows::Run,
             }),
             "run" => Some(Command::Play {
                 threads: true,
-                trace: false,
+                shows: Shows::Run,
+            }),
+            "cost" => Some(Command::Play {
+                threads: false,
+                shows: Shows::Costs,
             }),
             "check" => Some(Command::Check),
             "compile" => Some(Command::Compile),
@@ -77,11 +92,11 @@ impl Command {
         match word {
             "sim" => Some(Command::Play {
                 threads: false,
-                trace: true,
+                shows: Shows::Trace,
             }),
             "run" => Some(Command::Play {
                 threads: true,
-                trace: true,
+                shows: Shows::Trace,
             }),
             _ => None,
         }

@@ -20,7 +20,7 @@ mod services;
 mod status;
 mod top;
 
-pub use command::Command;
+pub use command::{Command, Shows};
 pub use laws::printed_runs_are_read;
 pub use sg_input::{
     Input, MOST_DIVIDER, MOST_INPUT, MOST_INTERFACE, MOST_SCRIPT, cut, one_cut, one_input, parse,

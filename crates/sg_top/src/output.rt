@@ -1,22 +1,25 @@
 // What a command makes of its input.
 ghost use Rattle.std.specs.Prelude.{◌≡◌, ℕ, List, true, false, IfOk, None, Some};
 ghost use Rattle.sg_report.specs.sg_hist.Recovered.{is_blocked};
+ghost use Rattle.sg_load.specs.sg_plain.Playing.Playable.{IsPlayable};
 ghost use Rattle.sg_load.specs.sg_plain.Promises.{somebody_waits};
 ghost use Rattle.sg_load.specs.Generated.{generated};
-ghost use Rattle.sg_load.specs.Services.{standard};
+ghost use Rattle.sg_load.specs.Services.{facts_by, standard};
 ghost use Rattle.sg_top.specs.Answer.{IsChecked, IsOutput, IsOwnOutput, IsPlayOutput, IsTabled, IsUpgradeOf, IsVerified, ended_status, has_input, is_in_threads, verdict_status};
 ghost use Rattle.sg_verify.specs.Lines.{verdict_line_of};
-ghost use Rattle.sg_report.specs.Report.{report_of};
-ghost use Rattle.sg_top.specs.Headline.{answering};
+ghost use Rattle.sg_top.specs.Headline.{IsShown, answering};
 ghost use Rattle.sg_shared.specs.Runs.{IsRunInOrder};
 ghost use Rattle.sg_top.specs.declared.command.Command.TheVariants.{Load as load};
 ghost use Rattle.sg_top.specs.declared.status.Status.TheVariants.{Refused as refused_status};
 ghost use Rattle.sg_top.specs.Inside.Delivery.{IsSaid};
+ghost use Rattle.sg_top.specs.Inside.Plays.{IsPlayOf};
+ghost use Rattle.sg_top.specs.declared.command.Shows.TheVariants.{Costs as shows_costs};
 
-use crate::command::Command;
-use crate::runs::{share_kind, simulate_kind, verify_kind};
+use crate::command::{Command, Shows};
+use crate::runs::{cost_kind, share_kind, simulate_kind, verify_kind};
 use crate::services::{kind_of, shapes};
 use crate::status::Status;
+use sg_cost::cost_text;
 use sg_edge::Gate;
 use sg_facts::{Bytes, Interface, NoMemory};
 use sg_input::{
@@ -47,7 +50,7 @@ pub fn output_of(alloc: Global, command: Command, bytes: &[u8]) -> Result<Output
     ensures { IfOk result (λ o. IsOutput command bytes.now o.ended o.status o.text) }
 {
     match command {
-        Command::Play { trace, .. } => simulated(alloc, bytes, trace),
+        Command::Play { shows, .. } => simulated(alloc, bytes, shows),
         Command::Check => checked(alloc, bytes),
         Command::Compile => tabled(alloc, bytes),
         Command::Upgrade => upgrade(alloc, bytes),
@@ -145,14 +148,14 @@ fn output_saying(said: Verdict) -> Output
 }
 
 // The run of an input in one thread, with its report; or the line of an input that is refused.
-fn simulated(alloc: Global, bytes: &[u8], with_trace: bool) -> Result<Output, NoMemory>
-    ensures { IfOk result (λ o. IsPlayOutput bytes.now false with_trace o.ended o.status o.text) }
+fn simulated(alloc: Global, bytes: &[u8], shows: Shows) -> Result<Output, NoMemory>
+    ensures { IfOk result (λ o. IsPlayOutput bytes.now false shows o.ended o.status o.text) }
 {
     match read_input(alloc, bytes, &shapes())? {
         Input::Ready(accepted, script) => {
             let kind = kind_of(accepted.interface());
             let played = simulate_kind(alloc, kind, &accepted, script)?;
-            reported(alloc, &accepted, played, with_trace)
+            reported(alloc, kind, &accepted, played, shows)
         }
         Input::Refused(line) => Ok(refusing(line)),
     }
@@ -163,16 +166,16 @@ pub fn output_of_threads<R: Threads + Wait + Sync, G: Gate>(
     rt: &R,
     alloc: Global,
     bytes: &[u8],
-    with_trace: bool,
+    shows: Shows,
     gate: &G,
 ) -> Result<Output, NoMemory>
-    ensures { IfOk result (λ o. IsPlayOutput bytes.now true with_trace o.ended o.status o.text) }
+    ensures { IfOk result (λ o. IsPlayOutput bytes.now true shows o.ended o.status o.text) }
 {
     match read_input(alloc, bytes, &shapes())? {
         Input::Ready(accepted, script) => {
             let kind = kind_of(accepted.interface());
             let played = share_kind(rt, alloc, kind, &accepted, script, gate)?;
-            reported(alloc, &accepted, played, with_trace)
+            reported(alloc, kind, &accepted, played, shows)
         }
         Input::Refused(line) => Ok(refusing(line)),
     }
@@ -191,19 +194,57 @@ fn refusing(line: Bytes) -> Output
     }
 }
 
-// The output of a run under an interface: its report.
+// The output of a run under an interface of a service: what is to be printed of it.
 fn reported(
     alloc: Global,
+    kind: ServiceKind,
     accepted: &Accepted,
     played: Played,
-    with_trace: bool,
+    shows: Shows,
 ) -> Result<Output, NoMemory>
-    ensures text { IfOk result (λ o. o.text ≡ report_of accepted.now.facts played with_trace) }
+    requires service { accepted.now.facts ≡ facts_by kind }
+    requires run { IsPlayOf accepted.now (answering kind) played }
+    ensures text { IfOk result (λ o. IsShown shows accepted.now played o.text) }
     ensures status { IfOk result (λ o. o.status ≡ ended_status played.ends) }
     ensures ended { IfOk result (λ o. o.ended ≡ Some played) }
 {
-    let text = text(alloc, accepted.interface(), played.ended(), with_trace)?;
+    let text = shown(alloc, kind, accepted, &played, shows)?;
     Ok(output_of_run(played, text))
+}
+
+// What is printed of a run under an interface of a service.
+fn shown(
+    alloc: Global,
+    kind: ServiceKind,
+    accepted: &Accepted,
+    played: &Played,
+    shows: Shows,
+) -> Result<Bytes, NoMemory>
+    requires service { accepted.now.facts ≡ facts_by kind }
+    requires run { IsPlayOf accepted.now (answering kind) played.now }
+    ensures { IfOk result (IsShown shows accepted.now played.now) }
+{
+    match shows {
+        Shows::Run => text(alloc, accepted.interface(), played.ended(), false),
+        Shows::Trace => text(alloc, accepted.interface(), played.ended(), true),
+        Shows::Costs => costs_shown(alloc, kind, accepted, played),
+    }
+}
+
+// What the calls of a run could cost after one more stop.
+fn costs_shown(
+    alloc: Global,
+    kind: ServiceKind,
+    accepted: &Accepted,
+    played: &Played,
+) -> Result<Bytes, NoMemory>
+    requires service { accepted.now.facts ≡ facts_by kind }
+    requires run { IsPlayOf accepted.now (answering kind) played.now }
+    ensures { IfOk result (IsShown shows_costs accepted.now played.now) }
+{
+    let tables = compile(alloc, accepted)?;
+    let costs = cost_kind(alloc, kind, &tables, played.ended())?;
+    cost_text(alloc, tables.interface(), &costs)
 }
 
 /// The run of the script that is generated for a service from a number, with its line.
@@ -217,7 +258,8 @@ pub fn loaded(alloc: Global, service: ServiceKind, number: u64) -> Result<Output
 
 // The run of the script that is generated for a service from a number.
 fn load_of(alloc: Global, service: ServiceKind, number: u64) -> Result<Played, NoMemory>
-    ensures { IfOk result (IsRunInOrder (standard service) (answering service) (generated service number)) }
+    ensures playable { IfOk result (λ ended. IsPlayable (standard service) (generated service number)) }
+    ensures run { IfOk result (IsRunInOrder (standard service) (answering service) (generated service number)) }
 {
     let accepted = standard(alloc, service)?;
     let script = generate(alloc, service, number)?;

@@ -1,21 +1,27 @@
-// The runs of scripts on the services, in one thread or with a thread for each client, and the judgement of their histories.
+// The runs of scripts on the services, in one thread or with a thread for each client, the judgement of their histories, and what they
+// cost.
 ghost use Rattle.std.specs.Prelude.{◌≡◌, ◌≤◌, IfOk, length};
 ghost use Rattle.sg_edge.specs.Stops.{AscendsAbove};
 ghost use Rattle.sg_facts.specs.Limits.{most_script_calls};
 ghost use Rattle.sg_facts.specs.sg_base.Lists.{Each};
-ghost use Rattle.sg_verify.specs.sg_world_laws.Seats.{MayBeMade};
+ghost use Rattle.sg_report.specs.sg_hist.Clients.{MayBeMade};
 ghost use Rattle.sg_verify.specs.Verdicts.{IsVerdictOf};
 ghost use Rattle.sg_load.specs.Services.{facts_by};
 ghost use Rattle.sg_load.specs.sg_plain.Playing.Playable.{IsPlayable};
 ghost use Rattle.sg_shared.specs.Runs.{IsRunInOrder, IsRunOf};
+ghost use Rattle.sg_cost.specs.Costs.{costs_at};
+ghost use Rattle.sg_facts.specs.Trace.{run_of};
 ghost use Rattle.sg_top.specs.Headline.{answering};
+ghost use Rattle.sg_top.specs.Inside.Plays.{IsPlayOf};
 
+use sg_cost::{Costs, costs_of};
 use sg_edge::Gate;
-use sg_facts::{NoMemory, Tables};
+use sg_facts::{NoMemory, Service, Tables};
 use sg_input::{History, Script};
 use sg_load::{
     Accepted, EventService, LockService, MmService, RamfsService, SchedService, ServiceKind,
 };
+use sg_report::Ended;
 use sg_shared::{Played, share, simulate};
 use sg_verify::{Verdict, verify};
 use std::alloc::Global;
@@ -87,4 +93,34 @@ pub fn verify_kind(
         ServiceKind::Files => verify::<RamfsService>(alloc, tables, history),
         ServiceKind::Threads => verify::<SchedService>(alloc, tables, history),
     }
+}
+
+/// What the calls of a run of a service could cost after one more stop.
+pub fn cost_kind(
+    alloc: Global,
+    kind: ServiceKind,
+    tables: &Tables,
+    ended: &Ended,
+) -> Result<Costs, NoMemory>
+    requires service { tables.now.iface.facts ≡ facts_by kind }
+    requires run { IsPlayOf tables.now.iface (answering kind) ended.now }
+    ensures { IfOk result (λ costs. costs ≡ costs_at tables.now.iface tables.now.walks ended.now.history.items (run_of ended.now.trace)) }
+{
+    match kind {
+        ServiceKind::Locks => cost_run::<LockService>(alloc, tables, ended),
+        ServiceKind::Events => cost_run::<EventService>(alloc, tables, ended),
+        ServiceKind::Pages => cost_run::<MmService>(alloc, tables, ended),
+        ServiceKind::Files => cost_run::<RamfsService>(alloc, tables, ended),
+        ServiceKind::Threads => cost_run::<SchedService>(alloc, tables, ended),
+    }
+}
+
+// What the calls of a run of one service could cost.
+fn cost_run<S: Service>(alloc: Global, tables: &Tables, ended: &Ended) -> Result<Costs, NoMemory>
+    requires service { tables.now.iface.facts ≡ S.facts }
+    requires run { IsPlayOf tables.now.iface (record { facts = S.facts; ask = S.ask; parts = S.parts }) ended.now }
+    ensures { IfOk result (λ costs. costs ≡ costs_at tables.now.iface tables.now.walks ended.now.history.items (run_of ended.now.trace)) }
+{
+    let _ = tables.lines();
+    costs_of::<S>(alloc, tables, ended)
 }

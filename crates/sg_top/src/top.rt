@@ -6,7 +6,7 @@ ghost use Rattle.sg_top.specs.Inside.Delivery.{IsWritten};
 ghost use Rattle.sg_top.specs.declared.command.Command.TheVariants.{Play as play};
 ghost use Rattle.sg_top.specs.declared.status.Status.TheVariants.{NoMemory as no_memory};
 
-use crate::command::Command;
+use crate::command::{Command, Shows};
 use crate::output::{Output, loaded, output_of, output_of_threads};
 use crate::status::Status;
 use sg_edge::{Gate, Intake, ReadError, Sink, Source, read_all, write_all};
@@ -27,7 +27,8 @@ pub struct Answer {
 }
 
 /// Does what the words after the program's name say: `sim` plays the input in one thread, `run` with a thread for each client,
-/// and `sim trace` and `run trace` print too what was done to the service; `check` says whether the input is the text of an
+/// and `sim trace` and `run trace` print too what was done to the service; `cost` plays the input as `sim` does, and prints what its
+/// calls could cost after one more stop; `check` says whether the input is the text of an
 /// interface that is accepted, `compile` prints the tables of such a text, `upgrade` prints it as one of version 2, `verify` says whether the entries of a
 /// printed run are a legal history, `load SERVICE NUMBER` plays the script that is generated for a service from a number and prints one
 /// line, and any other words are answered by `OtherWords`.
@@ -52,8 +53,8 @@ pub fn superglue<R: Threads + Wait + Sync, I: Source, O: Sink, G: Gate>(
         return without_run(Status::OtherWords);
     };
     match command {
-        Command::Play { threads, trace } if threads => {
-            with_threads(rt, alloc, trace, input, output, gate)
+        Command::Play { threads, shows } if threads => {
+            with_threads(rt, alloc, shows, input, output, gate)
         }
         _ => in_one_thread(alloc, command, input, output),
     }
@@ -110,20 +111,20 @@ fn in_one_thread<I: Source, O: Sink>(
 fn with_threads<R: Threads + Wait + Sync, I: Source, O: Sink, G: Gate>(
     rt: &R,
     alloc: Global,
-    trace: bool,
+    shows: Shows,
     input: &mut I,
     output: &mut O,
     gate: &G,
 ) -> Answer
-    ensures answer { IsAnswer (λ said. said ≡ play true trace)
+    ensures answer { IsAnswer (λ said. said ≡ play true shows)
         (record { told = I.left input.old; faults = I.faults input.old }) (record { told = I.left input.new; faults = I.faults input.new })
         (record { told = O.written output.old; faults = O.faults output.old }) (record { told = O.written output.new; faults = O.faults output.new })
         result.status result.ended }
-    ensures most_read { ReadsInput (λ said. said ≡ play true trace) (I.left input.old) (I.left input.new) }
+    ensures most_read { ReadsInput (λ said. said ≡ play true shows) (I.left input.old) (I.left input.new) }
 {
     match read_all(alloc, input, MOST_INPUT) {
         Ok(Intake::Whole(bytes)) => {
-            let made = output_of_threads(rt, alloc, bytes.as_slice(), trace, gate);
+            let made = output_of_threads(rt, alloc, bytes.as_slice(), shows, gate);
             deliver_made(output, made)
         }
         Ok(Intake::TooLong) => deliver(output, TOO_LONG, Status::Refused, None),

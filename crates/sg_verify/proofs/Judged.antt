@@ -31,7 +31,7 @@ use Rattle.sg_world_laws.proofs.Entering.{legal_push, settled_after, settled_ref
 use Rattle.sg_world_laws.proofs.Onseat.{seat_passes}
 use Rattle.sg_world_laws.proofs.Refusing.{by_the_guard}
 use Rattle.sg_world_laws.specs.Keeping.{IsSettledObject}
-use Rattle.sg_world_laws.specs.Seats.{MayBeMade}
+use Rattle.sg_report.specs.sg_hist.Clients.{MayBeMade}
 use Rattle.sg_world_laws.specs.Setting.{IsSetting, Setting}
 
 -- a service that keeps its laws, with tables of an interface of its own

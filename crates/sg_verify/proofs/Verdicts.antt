@@ -12,7 +12,7 @@ use Rattle.sg_verify.specs.Verdicts.{IsBadReply, IsBadSeq, IsRight, IsVerdictOf,
 use Rattle.sg_verify.specs.declared.verdict.Verdict.{Verdict}
 use Rattle.sg_verify.specs.declared.verdict.Verdict.TheVariants.{Legal, BadSeq, BadReply}
 use Rattle.sg_verify.proofs.Splits.{which}
-use Rattle.sg_world_laws.specs.Seats.{AreNumbered}
+use Rattle.sg_report.specs.sg_hist.Clients.{AreNumbered}
 
 -- the next number of a client, at an entry after others
 numbered_at : (acc before : List Entry) (e : Entry) (rest : List Entry) → AreNumbered acc (before ++ e ∷ rest) → e.call.seq ≡ next_seq (acc ++ before) e.call.client

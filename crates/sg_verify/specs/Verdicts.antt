@@ -6,10 +6,9 @@ use Rattle.sg_facts.specs.Interface.{Declared}
 use Rattle.sg_facts.specs.Legal.{IsLegal, Table, answer}
 use Rattle.sg_facts.specs.Object.{object_of}
 use Rattle.sg_facts.specs.declared.entry.Entry.{Entry}
-use Rattle.sg_report.specs.sg_hist.Clients.{calls_of}
+use Rattle.sg_report.specs.sg_hist.Clients.{AreNumbered, calls_of}
 use Rattle.sg_verify.specs.declared.verdict.Verdict.{Verdict}
 use Rattle.sg_verify.specs.declared.verdict.Verdict.TheVariants.{Legal, BadSeq, BadReply}
-use Rattle.sg_world_laws.specs.Seats.{AreNumbered}
 
 -- the number of a client's next call after a history
 abbrev pub next_seq : List Entry → ℕ → ℕ

@@ -26,6 +26,7 @@ use Rattle.sg_world_laws.proofs.Drawn.{object_behind}
 use Rattle.sg_world_laws.proofs.Entered.{seats_entered}
 use Rattle.sg_world_laws.proofs.LetIn.{none_held_by}
 use Rattle.sg_world_laws.proofs.Moves.{its_seat}
+use Rattle.sg_world_laws.proofs.Lasts.{own_last}
 use Rattle.sg_world_laws.proofs.Refusing.{refused}
 use Rattle.sg_world_laws.proofs.Seating.{HasSeat, has_seat, held_at, one_is, seat_is, still_offered}
 use Rattle.sg_world_laws.proofs.Turns.{seat_there}
@@ -93,7 +94,7 @@ module _ (z : Setting) (set : IsSetting z) (w : WorldView) (b : Boot) (boots : L
     seats = front ++ record st { phase = Idle; seq = st.call.seq; reply = no_reply } ∷ back;
     marks = marks;
   }) stub
-  keeps_denied = refused z set w b boots running stub k st.call code refuses (seated.may offers) none later refl refl refl held_same seats_now kept
+  keeps_denied = refused z set w b boots running stub k st.call code refuses (seated.may offers) none (own_last z (standing w b boots running) n k.seats front back st is offers) later refl refl refl held_same seats_now kept
 
 -- ---- a world
 

@@ -1,6 +1,9 @@
 pub mod Asking
+pub mod Blocking
 pub mod Counting
 pub mod Denying
+pub mod Ending
+pub mod Ends
 pub mod Engines
 pub mod Entering
 pub mod Events

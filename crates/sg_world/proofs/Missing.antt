@@ -13,7 +13,7 @@ use Rattle.sg_replay.specs.sg_name.declared.named.Named.{Named}
 use Rattle.sg_replay.specs.sg_name.declared.named.Named.TheVariants.{Live, Partial, Unnamed}
 use Rattle.sg_replay.specs.sg_name.declared.named.Standing.{Standing}
 use Rattle.sg_world_laws.proofs.sg_recovery_laws.Lists.{each_map}
-use Rattle.sg_replay.specs.sg_hist.Growing.{last_items, older_items}
+use Rattle.sg_replay.specs.sg_hist.Reading.{last_items, older_items}
 use Rattle.sg_replay.specs.Engined.{Engined}
 use Rattle.sg_replay.specs.Missing.{is_empty, is_whole, missing, missing_file, next_number, or_else, todo_of}
 use Rattle.sg_replay.specs.declared.todo.Todo.TheVariants.{Load, Walk}

@@ -21,7 +21,8 @@ use Rattle.sg_facts.specs.Legal.{answer, refused_or}
 use Rattle.sg_facts.specs.Object.{Object, object_of}
 use Rattle.sg_facts.specs.Trace.{Run}
 use Rattle.sg_replay.specs.sg_hist.Recovered.{IsStopInCall, answer_to, struck_in}
-use Rattle.sg_replay.specs.sg_hist.Growing.{IsNextItem, last_items, noted, place_after}
+use Rattle.sg_replay.specs.sg_hist.Growing.{IsNextItem, noted, place_after}
+use Rattle.sg_replay.specs.sg_hist.Reading.{last_items}
 use Rattle.sg_replay.specs.Engined.{Engined}
 use Rattle.sg_replay.specs.Missing.{missing}
 use Rattle.sg_replay.specs.Serving.{real_call}

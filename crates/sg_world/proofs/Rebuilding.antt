@@ -12,7 +12,8 @@ use Rattle.sg_facts.specs.sg_base.declared.reply.Reply.{Reply}
 use Rattle.sg_facts.specs.sg_base.declared.reply.Reply.TheVariants.{Ok, Refused}
 use Rattle.sg_replay.proofs.sg_boot.LastBoot.{begun_noted, stop_noted}
 use Rattle.sg_replay.specs.sg_boot.Cells.{IsRunning, IsUp}
-use Rattle.sg_replay.specs.sg_boot.Invoking.{item_of_call, item_of_load, with_item, with_stop}
+use Rattle.sg_replay.specs.sg_boot.Invoking.{item_of_call, with_item, with_stop}
+use Rattle.sg_replay.specs.sg_hist.Recovered.{IsStopInCall, answer_to, item_of_load, struck_in}
 use Rattle.sg_world.proofs.Engines.Advancing.{it, loads_next, loads_shown, may_advance, replayable, replays_next, replays_shown, struck_next, struck_shown, unchanged_shown}
 use Rattle.sg_world.proofs.Engines.Left.{left_to_load}
 use Rattle.sg_world.specs.Engines.Engines.{IsEngineOf, as_shown}
@@ -29,8 +30,8 @@ use Rattle.sg_facts.specs.Walks.{replayed_call}
 use Rattle.sg_facts.specs.declared.outcome.Outcome.TheVariants.{Replied, Stopped}
 use Rattle.sg_facts.specs.declared.trace.Item.{Item}
 use Rattle.sg_facts.specs.declared.trace.Tag.TheVariants.{Load, Walk}
-use Rattle.sg_replay.specs.sg_hist.Recovered.{IsStopInCall, answer_to, struck_in}
-use Rattle.sg_replay.specs.sg_hist.Growing.{IsNextItem, last_items, noted, place_after}
+use Rattle.sg_replay.specs.sg_hist.Growing.{IsNextItem, noted, place_after}
+use Rattle.sg_replay.specs.sg_hist.Reading.{last_items}
 use Rattle.sg_replay.specs.Engined.{Engined}
 use Rattle.sg_replay.specs.Missing.{missing}
 use Rattle.sg_replay.specs.Replaying.{IsStruck, IsUnchanged, KeepsPresent, Loads as LoadsFile, LoadsOne, MayAdvance, Replays as ReplaysCall, ReplaysOne, replay_of}

@@ -32,12 +32,12 @@ use Rattle.sg_facts.specs.Legal.{answer, refused_or}
 use Rattle.sg_facts.specs.Object.{Object, file_at, given_after, object_of, patch_of}
 use Rattle.sg_facts.specs.Trace.{Boot, Run}
 use Rattle.sg_facts.specs.Track.{track}
-use Rattle.sg_replay.specs.sg_hist.Reading.{after_item}
+use Rattle.sg_replay.specs.sg_hist.Reading.{after_item, last_items}
 use Rattle.sg_replay.specs.sg_hist.Recovered.{IsPointOfCall, answer_to, struck_in}
 use Rattle.sg_replay.specs.sg_name.Names.{named_at}
 use Rattle.sg_replay.specs.sg_name.declared.named.Named.TheVariants.{Live}
 use Rattle.sg_world_laws.proofs.sg_recovery_laws.Objects.Waiting.{hidden_is}
-use Rattle.sg_replay.specs.sg_hist.Growing.{IsNextItem, last_items, noted, place_after}
+use Rattle.sg_replay.specs.sg_hist.Growing.{IsNextItem, noted, place_after}
 use Rattle.sg_world_laws.specs.sg_recovery_laws.Midway.Progress.{IsNone}
 use Rattle.sg_replay.proofs.Fitting.{fits_stored}
 use Rattle.sg_replay.specs.Committing.{MayCommitAt, MayStore, is_written, name_left}

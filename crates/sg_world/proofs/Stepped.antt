@@ -17,7 +17,8 @@ use Rattle.sg_facts.specs.Object.{Object}
 use Rattle.sg_facts.specs.Trace.{Boot}
 use Rattle.sg_replay.specs.sg_hist.Recovered.{ArePointsOf, IsCount, IsPointOf, answer_to, asked_with_commit, asked_in, ends_committed, is_clients, is_replied, is_stopped, is_visible_reply}
 use Rattle.sg_world_laws.proofs.sg_recovery_laws.Points.{points_booted, points_counted, points_noted, points_stopped, points_struck}
-use Rattle.sg_replay.specs.sg_hist.Growing.{asked_over, booted, last_items, last_stop, noted, struck}
+use Rattle.sg_replay.specs.sg_hist.Growing.{asked_over, booted, last_stop, noted, struck}
+use Rattle.sg_replay.specs.sg_hist.Reading.{last_items}
 use Rattle.sg_clients.specs.sg_seat.WorldView.{WorldView, seat_of, struck_at, with_points}
 use Rattle.sg_world.proofs.Counting.{count_on, grows, point_of, sum_is, weak_of}
 use Rattle.sg_world.specs.declared.did.Did.{Did}

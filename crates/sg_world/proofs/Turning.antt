@@ -26,7 +26,8 @@ use Rattle.sg_world.specs.Worlded.{HaveRooms, IsWorld, Rooms, marks_left, marks_
 use Rattle.sg_world_laws.proofs.Moves.{its_seat}
 use Rattle.sg_world_laws.proofs.Turns.{counted_keeps, offer_keeps, leave_keeps, seat_there, withdraw_keeps, withdraw_none}
 use Rattle.sg_world_laws.specs.Keeping.{KeepsPromise}
-use Rattle.sg_world_laws.specs.Seats.{MayBeMade, IsSeated}
+use Rattle.sg_world_laws.specs.Seats.{IsSeated}
+use Rattle.sg_replay.specs.sg_hist.Clients.{MayBeMade}
 use Rattle.sg_world_laws.specs.Setting.{Setting, IsSetting}
 
 pub may_make : (z : Setting) (set : IsSetting z) (call : Call) → 1 ≤ call.client → call.client ≤ last_client → declares z.iface call.fun ≡ true → FitsKinds z.iface.facts call → AreWords call.args → MayBeMade z.iface call

@@ -12,6 +12,7 @@ ghost use Rattle.sg_facts.specs.Trace.{run_of};
 ghost use Rattle.sg_replay.specs.sg_hist.Clients.{calls_of};
 ghost use Rattle.sg_replay.specs.sg_hist.Recovered.{AreInBoots, IsRecovered, struck_in};
 ghost use Rattle.sg_replay.specs.sg_hist.Growing.{IsRecovering};
+ghost use Rattle.sg_world_laws.specs.Ending.{IsEnding};
 ghost use Rattle.sg_world_laws.specs.Setting.{IsSetting, stubs_of};
 ghost use Rattle.sg_world.specs.Steps.{AnswersLast, HasStepped, WantsMemory};
 ghost use Rattle.sg_world.specs.Worlded.{CountsAll, setting_of};
@@ -35,6 +36,7 @@ pub struct World<S: Service, T: Stops> {
 
 impl<S: Service, T: Stops> Model for World<S, T> {
     ghost use Rattle.std.specs.Prelude.{◌≡◌};
+    ghost use Rattle.sg_world_laws.specs.Ending.{IsEnding};
     ghost use Rattle.sg_world.specs.Inners.{IsInOrder, view_in};
     ghost use Rattle.sg_world.specs.Worlded.{CountsAll, Worlded, setting_of};
 
@@ -43,7 +45,8 @@ impl<S: Service, T: Stops> Model for World<S, T> {
     ghost view = { λ w. record { tables = w.inner.engine.tables; view = view_in w.inner; plan = T.plan w.inner.stops } };
 
     ghost invariant = { λ w. IsInOrder S.facts S.ask S.sound S.parts T.test T.asked T.struck T.plan w.inner
-        × CountsAll (setting_of S.ask S.sound S.parts w.inner.engine.tables) (view_in w.inner) };
+        × CountsAll (setting_of S.ask S.sound S.parts w.inner.engine.tables) (view_in w.inner)
+        × IsEnding (setting_of S.ask S.sound S.parts w.inner.engine.tables) (view_in w.inner) };
 }
 
 impl<S: Service, T: Stops> World<S, T> {
@@ -98,6 +101,7 @@ impl<S: Service, T: Stops> World<S, T> {
         ensures recovering { let z = setting_of S.ask S.sound S.parts self.now.tables in let w = self.now.view in IsRecovering (stubs_of z) w.history w.run (unanswered w) }
         ensures recovered { let z = setting_of S.ask S.sound S.parts self.now.tables in let w = self.now.view in w.refused ≡ 0 → IsRecovered (stubs_of z) w.history w.run (unanswered w) }
         ensures held { AreInBoots self.now.view.run 0 self.now.view.history }
+        ensures ending { IsEnding (setting_of S.ask S.sound S.parts self.now.tables) self.now.view }
         ensures stopped { let run = self.now.view.run in T.test run.points (struck_in run) self.now.plan }
         ensures points { CountsAll (setting_of S.ask S.sound S.parts self.now.tables) self.now.view }
     {

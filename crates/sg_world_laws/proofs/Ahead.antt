@@ -28,7 +28,7 @@ AllRecover s h ws run u = (es : List Entry) → AreDrawn ws es → IsRecovering 
 
 -- ---- what is drawn
 
-drawn_each : (P : Entry → Type 0) (ws es : List Entry) → Each P ws → AreDrawn ws es → Each P es
+pub drawn_each : (P : Entry → Type 0) (ws es : List Entry) → Each P ws → AreDrawn ws es → Each P es
 drawn_each P ws es all drawn = each_map (Contains ws) P es (λ e has. each_contains P ws e all has) drawn.each
 
 around : (pre post : List Entry) (p e : Entry) → Contains (pre ++ post) e → Contains (pre ++ p ∷ post) e
@@ -64,11 +64,11 @@ guard_nowhere e guards [] = tt
 guard_nowhere e guards (p ∷ ps) = (ap (λ b. not b && list_any (is_item_of e) (past p) && not (list_any (is_item_of e) (p.item ∷ items_after p))) guards, guard_nowhere e guards ps)
 
 pub refused_ahead : (s : Stubs) (h ws : List Entry) (e : Entry) (run : Run) (u u' : List Call) → is_by_guard e.reply ≡ true → NoneBy e.call.client ws → Each (λ x. is_visible s.interface.facts x.call.fun ≡ false) ws
-    → ((es : List Entry) → AreDrawn ws es → AreKept (h ++ es) u ((h ++ es) ++ e ∷ []) u') → AllRecover s h ws run u → AllRecover s (h ++ e ∷ []) ws run u'
+    → ((es : List Entry) → AreDrawn ws es → IsLastCall (h ++ es) u e.call × Each (λ x. IsLastCall (h ++ e ∷ es) u' x.call) es × AreKept (h ++ es) u ((h ++ es) ++ e ∷ []) u') → AllRecover s h ws run u → AllRecover s (h ++ e ∷ []) ws run u'
 refused_ahead s h ws e run u u' guards none hidden kept all es drawn =
     subst (λ l. IsRecovering s l run u') (sym (append_assoc h (e ∷ []) es))
-    (moved_front s h es e run u' (drawn_each (λ x. x.call.client ≢ e.call.client) ws es none drawn) (guard_nowhere e guards (places_of run)) (drawn_each (λ x. is_visible s.interface.facts x.call.fun ≡ false) ws es hidden drawn)
-    (refused_stays s (h ++ es) run u u' e guards (kept es drawn) (all es drawn)))
+    (moved_front s h es e run u' (drawn_each (λ x. x.call.client ≢ e.call.client) ws es none drawn) (guard_nowhere e guards (places_of run)) (drawn_each (λ x. is_visible s.interface.facts x.call.fun ≡ false) ws es hidden drawn) (kept es drawn).1
+    (refused_stays s (h ++ es) run u u' e guards (kept es drawn).0 (kept es drawn).2 (all es drawn)))
 
 -- ---- an item is noted
 
@@ -110,13 +110,13 @@ pub served_ahead : (s : Stubs) (h ws : List Entry) (b : Boot) (boots : List Boot
     → Each (λ x. is_visible s.interface.facts x.call.fun ≡ false) ws
     → ((es : List Entry) → AreDrawn ws es
     → IsOfNoEntry item (h ++ es) × IsItemOf s.interface.facts (h ++ es) (place_after [] (b ∷ boots) item) e × IsLastCall (h ++ es) u e.call × AreKept (h ++ es) u ((h ++ es) ++ e ∷ []) u'
-    × IsNextItem s ((h ++ es) ++ e ∷ []) u' (place_after [] (b ∷ boots) item))
+    × IsNextItem s ((h ++ es) ++ e ∷ []) u' (place_after [] (b ∷ boots) item) × Each (λ x. IsLastCall (h ++ e ∷ es) u' x.call) es)
     → AllRecover s h ws (record { boots = b ∷ boots; points = points }) u → AllRecover s (h ++ e ∷ []) ws (record { boots = noted (b ∷ boots) item; points = later }) u'
 served_ahead s h ws b boots points later u u' item e own none hidden each all es drawn =
     let so = each es drawn in
     let run' : Run = record { boots = noted (b ∷ boots) item; points = later } in
     subst (λ l. IsRecovering s l run' u') (sym (append_assoc h (e ∷ []) es))
-    (moved_front s h es e run' u' (drawn_each (λ x. x.call.client ≢ e.call.client) ws es none drawn) (own_nowhere b boots item e own) (drawn_each (λ x. is_visible s.interface.facts x.call.fun ≡ false) ws es hidden drawn)
+    (moved_front s h es e run' u' (drawn_each (λ x. x.call.client ≢ e.call.client) ws es none drawn) (own_nowhere b boots item e own) (drawn_each (λ x. is_visible s.interface.facts x.call.fun ≡ false) ws es hidden drawn) so.5
     (committed_stays s (h ++ es) b boots points later u u' item e so.0 so.1 so.2 so.3 so.4 (all es drawn)))
 
 -- ---- a reply more is held
@@ -132,13 +132,13 @@ record HasOne (ws es : List Entry) (p : Entry) : Type 0 where
 pub holds_ahead_with : (s : Stubs) (h front rest : List Entry) (p : Entry) (b : Boot) (boots : List Boot) (points : ℕ) (u : List Call) (item : Item) → is_item_of p item ≡ true → NoneBy p.call.client rest
     → Each (λ x. is_visible s.interface.facts x.call.fun ≡ false) rest → IsHeldReply s.interface.facts (h ++ (front ++ rest)) (record { boots = noted (b ∷ boots) item; points = points }) p → IsLastCall (h ++ (front ++ rest)) u p.call
     → AreKept (h ++ (front ++ rest)) u ((h ++ (front ++ rest)) ++ p ∷ []) u
-    → IsRecovering s (h ++ (front ++ rest)) (record { boots = noted (b ∷ boots) item; points = points }) u
+    → Each (λ x. IsLastCall ((h ++ front) ++ p ∷ rest) u x.call) rest → IsRecovering s (h ++ (front ++ rest)) (record { boots = noted (b ∷ boots) item; points = points }) u
     → IsRecovering s (h ++ (front ++ p ∷ rest)) (record { boots = noted (b ∷ boots) item; points = points }) u
-holds_ahead_with s h front rest p b boots points u item own none hidden held last kept r =
+holds_ahead_with s h front rest p b boots points u item own none hidden held last kept lasts r =
     let run' : Run = record { boots = noted (b ∷ boots) item; points = points } in
     let nowhere = own_nowhere b boots item p own in
     let behind_all : IsRecovering s ((h ++ (front ++ rest)) ++ p ∷ []) run' u
     = held_stays s (h ++ (front ++ rest)) run' u u p held last kept
     (each_map (λ q. stands_before q p ≡ false) (λ q. stands_before q p ≡ true → IsSettled s ((h ++ (front ++ rest)) ++ p ∷ []) u q) (places_of run') (λ q isn't is. absurd (cc (isn't, is))) nowhere) r in
     subst (λ l. IsRecovering s l run' u) (append_assoc h front (p ∷ rest))
-    (moved_front s (h ++ front) rest p run' u none nowhere hidden (subst (λ l. IsRecovering s (l ++ p ∷ []) run' u) (sym (append_assoc h front rest)) behind_all))
+    (moved_front s (h ++ front) rest p run' u none nowhere hidden lasts (subst (λ l. IsRecovering s (l ++ p ∷ []) run' u) (sym (append_assoc h front rest)) behind_all))

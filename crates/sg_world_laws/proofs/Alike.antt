@@ -16,7 +16,7 @@ use Rattle.sg_recovery_laws.proofs.Midway.Glue.{under_named}
 use Rattle.sg_recovery_laws.specs.Midway.Numbers.{AreNumbers, left_of, sum_told, unbegun}
 use Rattle.sg_recovery_laws.specs.Midway.Progress.{IsNone, TellsCalls, Told, is_complete}
 use Rattle.sg_recovery_laws.specs.sg_hist.Recovered.{is_walk_of}
-use Rattle.sg_recovery_laws.specs.sg_hist.Growing.{last_items, older_items}
+use Rattle.sg_recovery_laws.specs.sg_hist.Reading.{last_items, older_items}
 use Rattle.sg_seat.specs.WorldView.{WorldView, held_replies}
 use Rattle.sg_recovery_laws.specs.LastItem.Told.{IsRead}
 use Rattle.sg_world_laws.specs.Keeping.{KeepsPromise, Stands, StandsIn, Stub}

@@ -17,7 +17,7 @@ use Rattle.sg_facts.specs.declared.trace.Tag.{Tag}
 use Rattle.sg_facts.specs.declared.trace.Tag.TheVariants.{Client, Load, Walk}
 use Rattle.sg_recovery_laws.proofs.Midway.Served.{serves_it}
 use Rattle.sg_recovery_laws.specs.Midway.Progress.{IsNone, complete}
-use Rattle.sg_recovery_laws.specs.sg_hist.Reading.{is_tagged, service_call}
+use Rattle.sg_recovery_laws.specs.sg_hist.Reading.{is_tagged, last_items, older_items, service_call}
 use Rattle.sg_recovery_laws.specs.sg_hist.Recovered.{AskedAs, IsAdmitted, IsByTable, IsCallOf, IsDemanded, IsItsCall, IsTracked, IsTrackedAt, IsWalked}
 use Rattle.sg_recovery_laws.proofs.Objects.Apart.{Ascends}
 use Rattle.sg_recovery_laws.proofs.Objects.Room.{guard_behind}
@@ -26,7 +26,7 @@ use Rattle.sg_recovery_laws.proofs.Objects.Steady.{ascends}
 use Rattle.sg_recovery_laws.proofs.Objects.Waiting.{behind_same}
 use Rattle.sg_recovery_laws.proofs.InBoots.{place_is}
 use Rattle.sg_recovery_laws.proofs.Lists.{each_map}
-use Rattle.sg_recovery_laws.specs.sg_hist.Growing.{IsNextItem, IsOfNoEntry, last_items, older_items, place_after}
+use Rattle.sg_recovery_laws.specs.sg_hist.Growing.{IsNextItem, IsOfNoEntry, place_after}
 use Rattle.sg_seat.specs.WorldView.{WorldView, held_in, unanswered}
 use Rattle.sg_recovery_laws.proofs.LastItem.Noting.{admitted_last, client_tracked}
 use Rattle.sg_recovery_laws.specs.LastItem.LastPlace.{last_place}

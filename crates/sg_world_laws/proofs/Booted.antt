@@ -16,12 +16,12 @@ use Rattle.sg_facts.specs.declared.trace.Item.{Item}
 use Rattle.sg_recovery_laws.proofs.Midway.Numbers.{few_rows, sum_fresh}
 use Rattle.sg_recovery_laws.specs.Midway.Numbers.{AreNumbers, left_of, unbegun}
 use Rattle.sg_recovery_laws.specs.Midway.Progress.{HasFile, IsInRecovery, fresh}
-use Rattle.sg_recovery_laws.specs.sg_hist.Reading.{names_at}
+use Rattle.sg_recovery_laws.specs.sg_hist.Reading.{last_items, names_at, older_items}
 use Rattle.sg_recovery_laws.proofs.Objects.Steady.{ascends}
 use Rattle.sg_recovery_laws.specs.Objects.Waiting.{AreWaiting}
 use Rattle.sg_recovery_laws.proofs.InBoots.{boots_booted}
 use Rattle.sg_recovery_laws.proofs.Onward.{booted_stays}
-use Rattle.sg_recovery_laws.specs.sg_hist.Growing.{IsInLast, IsRecovering, booted, last_items, older_items}
+use Rattle.sg_recovery_laws.specs.sg_hist.Growing.{IsInLast, IsRecovering, booted}
 use Rattle.sg_seat.specs.WorldView.{Seat, WorldView, held_in, unanswered, woken_seat}
 use Rattle.sg_recovery_laws.specs.LastItem.LastPlace.{HaveItems}
 use Rattle.sg_recovery_laws.specs.LastItem.Told.{IsRead}

@@ -8,7 +8,7 @@ use Rattle.sg_facts.specs.Laws.{slow}
 use Rattle.sg_facts.specs.Legal.{answer}
 use Rattle.sg_facts.specs.Object.{object_of}
 use Rattle.sg_facts.specs.declared.entry.Entry.{Entry}
-use Rattle.sg_recovery_laws.specs.sg_hist.Clients.{calls_of}
+use Rattle.sg_recovery_laws.specs.sg_hist.Clients.{AreNumbered, MayBeMade, calls_of}
 use Rattle.sg_recovery_laws.proofs.Lists.{each_append, each_map, each_split}
 use Rattle.sg_seat.specs.WorldView.{Seat, wakes_seat, woken_seat}
 use Rattle.sg_seat.specs.declared.phase.Phase.{Phase}
@@ -21,7 +21,7 @@ use Rattle.sg_world_laws.proofs.Orders.{far}
 use Rattle.sg_world_laws.proofs.Seating.{gone_is, length_at, seat_is, seated_append, seated_split, seqs_at}
 use Rattle.sg_world_laws.proofs.Woken.{few_woken, length_woken, seq_woken, seqs_woken}
 use Rattle.sg_world_laws.specs.Keeping.{IsSettledObject}
-use Rattle.sg_world_laws.specs.Seats.{AreGone, AreNumbered, AreSeated, HaveSeats, IsSeated, MayBeMade, last_of}
+use Rattle.sg_world_laws.specs.Seats.{AreGone, AreSeated, HaveSeats, IsSeated, last_of}
 use Rattle.sg_world_laws.specs.Setting.{IsSetting, Setting}
 
 pub last_push : (xs : List Entry) (e : Entry) → last_of (xs ++ e ∷ []) ≡ Some e

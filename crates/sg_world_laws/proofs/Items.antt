@@ -10,10 +10,10 @@ use Rattle.sg_facts.proofs.Halving.{found}
 use Rattle.sg_facts.specs.Trace.{Boot, Run}
 use Rattle.sg_facts.specs.declared.entry.Entry.{Entry}
 use Rattle.sg_facts.specs.declared.trace.Item.{Item}
-use Rattle.sg_recovery_laws.specs.sg_hist.Reading.{Position, is_by_guard, is_item_of, items_of, places_from, places_in, places_of}
+use Rattle.sg_recovery_laws.specs.sg_hist.Reading.{Position, is_by_guard, is_item_of, items_of, last_items, older_items, places_from, places_in, places_of}
 use Rattle.sg_recovery_laws.proofs.Lists.{each_append}
 use Rattle.sg_recovery_laws.proofs.Served.{Has, each_reverse, found_has}
-use Rattle.sg_recovery_laws.specs.sg_hist.Growing.{IsInLast, last_items, older_items}
+use Rattle.sg_recovery_laws.specs.sg_hist.Growing.{IsInLast}
 use Rattle.sg_facts.proofs.Replaying.Found.{within}
 
 abbrev pub IsAmong : List Item → Position → Type 0

@@ -5,7 +5,6 @@
 -- what is held among seats is held by their clients, who offer it
 use Rattle.std.proofs.Common.{Bool, List, None, Option, Some, [], ap, arith, cond, false, flat_map, if◌then◌else◌, inl, inr, length, map, refl, subst, sym, true, ℕ, ◌&&◌, ◌++◌, ◌+◌, ◌<◌, ◌==◌, ◌||◌, ◌∙◌, ◌∷◌, ◌≡◌, ◌≢◌, ◌≤◌}
 use Rattle.std.proofs.lemmas.Bool.Decides.{nat_tests}
-use Rattle.std.proofs.lemmas.List.Elements.{Contains-append_cases}
 use Rattle.std.specs.List.{Contains}
 use Rattle.sg_facts.specs.sg_base.Lists.{Each}
 use Rattle.sg_facts.specs.sg_base.declared.call.Call.{Call}
@@ -25,20 +24,20 @@ use Rattle.sg_facts.specs.declared.shape.Parents.{Parents}
 use Rattle.sg_facts.specs.declared.shape.Parents.TheVariants.{Never, Same, Cross}
 use Rattle.sg_recovery_laws.specs.Midway.Progress.{IsNone}
 use Rattle.sg_recovery_laws.specs.sg_hist.Clients.{calls_of}
-use Rattle.sg_recovery_laws.specs.sg_hist.Reading.{items_after}
 use Rattle.sg_recovery_laws.proofs.Objects.Guarded.{IsLetPass, keeps, let_pass}
 use Rattle.sg_recovery_laws.specs.Objects.Waiting.{NoneBy}
-use Rattle.sg_recovery_laws.proofs.Lists.{each_append, each_contains, each_map}
-use Rattle.sg_seat.specs.WorldView.{Seat, WorldView, held_in, held_replies, is_held_in, is_held_phase, is_offered, offered, offered_by, unanswered}
+use Rattle.sg_recovery_laws.proofs.Lists.{each_append, each_map}
+use Rattle.sg_seat.specs.WorldView.{Seat, WorldView, held_in, held_replies, is_held_in, is_held_phase, is_offered, offered_by}
 use Rattle.sg_seat.specs.declared.phase.Phase.{Phase}
 use Rattle.sg_seat.specs.declared.phase.Phase.TheVariants.{Asked, Blocked, Held, Idle, Left, Receipted}
 use Rattle.sg_seat.specs.declared.withdrawn.Withdrawn.{Withdrawn}
 use Rattle.sg_world_laws.proofs.Entered.{numbers_below}
+use Rattle.sg_world_laws.proofs.Lasts.{last_offered}
 use Rattle.sg_world_laws.proofs.Onseat.{seat_passes}
 use Rattle.sg_world_laws.proofs.Orders.{far_now}
-use Rattle.sg_world_laws.proofs.Seating.{gone_is, held_at, offered_at, offered_other, one_is, own_offered, seat_is, seated_split}
+use Rattle.sg_world_laws.proofs.Seating.{held_at, own_offered, seat_is, seated_split}
 use Rattle.sg_world_laws.specs.Keeping.{KeepsPromise, Stub, standing}
-use Rattle.sg_world_laws.specs.Seats.{AreGone, AreSeated, HaveSeats, IsSeated}
+use Rattle.sg_world_laws.specs.Seats.{AreSeated, HaveSeats, IsSeated}
 use Rattle.sg_world_laws.specs.Setting.{IsSetting, Setting}
 use Rattle.sg_world_laws.specs.Turns.{IsLetIn}
 
@@ -103,7 +102,7 @@ module _ (z : Setting) (set : IsSetting z) (w : WorldView) (b : Boot) (boots : L
     above = each_append (λ e. e.call.client ≡ s.call.client → e.call.seq < s.call.seq) w.history (held_replies (standing w b boots running)) below (each_map (λ e. e.call.client ≢ length front + 1) (λ e. e.call.client ≡ s.call.client → e.call.seq < s.call.seq)
         (held_replies (standing w b boots running)) (λ e other same. absurd (other (same ∙ its))) none);
     made = subst (λ l. Contains (flat_map offered_by l ++ map (λ x. x.call) w.withdrawn) s.call) (sym is) (own_offered front back s (map (λ x. x.call) w.withdrawn) offers);
-    last = last;
+    last = λ x has own. last_offered z w.history w.withdrawn (length (b ∷ boots)) front back s have offers x (subst (λ l. Contains (flat_map offered_by l ++ map (λ y. y.call) w.withdrawn) x) is has) own;
   }
     where
       its : s.call.client ≡ length front + 1
@@ -115,28 +114,6 @@ module _ (z : Setting) (set : IsSetting z) (w : WorldView) (b : Boot) (boots : L
       below : Each (λ e. e.call.client ≡ s.call.client → e.call.seq < s.call.seq) w.history
       below = each_map (λ e. e.call.client ≡ length front + 1 → e.call.seq ≤ length (calls_of w.history (length front + 1))) (λ e. e.call.client ≡ s.call.client → e.call.seq < s.call.seq) w.history
           (λ e so same. let few = so (same ∙ its) in let count = seated.count in omega (arith, few, count, next)) (numbers_below [] w.history (length front + 1) have.numbered)
-
-      gone : (l : List Withdrawn) → AreGone l (length front + 1) s → (x : Call) → Contains (map (λ y. y.call) l) x → x.client ≡ length front + 1 → x.seq ≤ s.seq + 1
-      gone l are x has own = each_contains (λ (y : Call). y.client ≡ length front + 1 → y.seq ≤ s.seq + 1) (map (λ y. y.call) l) x (each_calls l are) has own
-        where
-          each_calls : (m : List Withdrawn) → AreGone m (length front + 1) s → Each (λ (y : Call). y.client ≡ length front + 1 → y.seq ≤ s.seq + 1) (map (λ y. y.call) m)
-          each_calls [] are = tt
-          each_calls (y ∷ m) are = (are.0, each_calls m are.1)
-
-      last : (x : Call) → Contains (unanswered (standing w b boots running)) x → x.client ≡ s.call.client → x.seq ≤ s.call.seq
-      last x has own = elim (Contains-append_cases (flat_map offered_by (front ++ s ∷ back)) (map (λ y. y.call) w.withdrawn) x (subst (λ l. Contains (flat_map offered_by l ++ map (λ y. y.call) w.withdrawn) x) is has)) [
-        | inl offered ↦ elim (Contains-append_cases (flat_map offered_by front) (offered_by s ++ flat_map offered_by back) x (subst (λ l. Contains l x) (offered_at front back s) offered)) [
-          | inl before ↦ absurd (offered_other z w.history w.withdrawn 1 (length front + 1) front parts.0 (inr (omega arith)) x before (own ∙ its))
-          | inr rest ↦ elim (Contains-append_cases (offered_by s) (flat_map offered_by back) x rest) [
-            | inl mine ↦ let one : x ≡ s.call = one_is s.call x (subst (λ q. Contains (if q then s.call ∷ [] else []) x) offers mine) in let same : x.seq ≡ s.call.seq = ap (λ y. y.seq) one in omega (arith, same)
-            | inr items_after ↦ absurd (offered_other z w.history w.withdrawn ((1 + length front) + 1) (length front + 1) back parts.1.2 (inl (omega arith)) x items_after (own ∙ its))
-          ]
-        ]
-        | inr withdrawn ↦ let few = gone w.withdrawn (gone_is z w.history w.withdrawn (length (b ∷ boots)) front back s have) x withdrawn (own ∙ its) in omega (arith, few, next)
-      ]
-        where
-          parts : AreSeated z w.history w.withdrawn 1 front × AreSeated z w.history w.withdrawn (1 + length front) (s ∷ back)
-          parts = seated_split z w.history w.withdrawn 1 front (s ∷ back) have.each
 
 -- ---- its descriptor
 

@@ -6,10 +6,12 @@ pub mod Begun
 pub mod Booted
 pub mod Committing
 pub mod Drawn
+pub mod Ending
 pub mod Entered
 pub mod Entering
 pub mod Given
 pub mod Items
+pub mod Lasts
 pub mod LetIn
 pub mod Moves
 pub mod Onseat
@@ -25,3 +27,4 @@ pub mod Turns
 pub mod Waits
 pub mod Woken
 pub use Rattle.sg_recovery_laws.proofs as sg_recovery_laws
+pub use Rattle.sg_seat.proofs as sg_seat

@@ -14,7 +14,7 @@ use Rattle.sg_facts.specs.Legal.{answer, refused_or}
 use Rattle.sg_facts.specs.Object.{after, empty_object, object_of}
 use Rattle.sg_facts.specs.declared.entry.Entry.{Entry}
 use Rattle.sg_recovery_laws.proofs.Midway.Tabled.{passes_whole}
-use Rattle.sg_recovery_laws.specs.sg_hist.Clients.{calls_of}
+use Rattle.sg_recovery_laws.specs.sg_hist.Clients.{MayBeMade, calls_of}
 use Rattle.sg_seat.specs.WorldView.{Seat, wakes_seat, woken_seat}
 use Rattle.sg_seat.specs.declared.phase.Phase.{Phase}
 use Rattle.sg_seat.specs.declared.phase.Phase.TheVariants.{Asked, Blocked, Held, Idle, Left, Receipted}
@@ -22,7 +22,7 @@ use Rattle.sg_facts.proofs.Replaying.Found.{other_test}
 use Rattle.sg_world_laws.proofs.Drawn.{object_behind}
 use Rattle.sg_world_laws.proofs.Waits.{still_waits, waits_both}
 use Rattle.sg_world_laws.specs.Keeping.{IsSettledObject}
-use Rattle.sg_world_laws.specs.Seats.{IsSeated, MayBeMade, last_of}
+use Rattle.sg_world_laws.specs.Seats.{IsSeated, last_of}
 use Rattle.sg_world_laws.specs.Setting.{IsSetting, Setting}
 
 pub seat_passes : (z : Setting) (set : IsSetting z) (h : List Entry) (call : Call) → IsSettledObject z h → slow + length h + 256 < 2 ^ 63 → MayBeMade z.iface call → guard z.iface (object_of z.iface.facts h) call ≡ None

@@ -27,7 +27,7 @@ use Rattle.sg_facts.specs.declared.row.Row.{Row}
 use Rattle.sg_facts.specs.declared.trace.Item.{Item}
 use Rattle.sg_recovery_laws.proofs.Midway.Least.{either_of, or_left, or_right}
 use Rattle.sg_recovery_laws.specs.Midway.Progress.{IsNone, complete}
-use Rattle.sg_recovery_laws.specs.sg_hist.Reading.{is_by_guard, is_item_of}
+use Rattle.sg_recovery_laws.specs.sg_hist.Reading.{is_by_guard, is_item_of, last_items, older_items}
 use Rattle.sg_recovery_laws.specs.sg_hist.Recovered.{IsCallOf}
 use Rattle.sg_recovery_laws.proofs.Objects.Guarded.{acts}
 use Rattle.sg_recovery_laws.proofs.Objects.Narrow.{guard_stays}
@@ -38,17 +38,17 @@ use Rattle.sg_recovery_laws.proofs.Objects.Waiting.{good_behind, hidden_is, less
 use Rattle.sg_recovery_laws.specs.Objects.Serving.{HasTime, IsAnsweredAt, IsLegalObject}
 use Rattle.sg_recovery_laws.specs.Objects.Waiting.{AreWaiting, NoneBy}
 use Rattle.sg_recovery_laws.proofs.Lists.{each_append, each_contains, each_map, each_split}
-use Rattle.sg_recovery_laws.specs.sg_hist.Growing.{IsInLast, IsOfNoEntry, last_items, older_items}
+use Rattle.sg_recovery_laws.specs.sg_hist.Growing.{IsInLast, IsOfNoEntry}
 use Rattle.sg_seat.specs.WorldView.{Seat, WorldView, held_in, held_replies, is_held_in, unanswered}
 use Rattle.sg_seat.specs.declared.withdrawn.Withdrawn.{Withdrawn}
 use Rattle.sg_recovery_laws.proofs.LastItem.Reached.{reach_all}
-use Rattle.sg_recovery_laws.specs.LastItem.Asked.{IsClientsCall}
+use Rattle.sg_recovery_laws.specs.sg_hist.Clients.{IsClientsCall, MayBeMade}
 use Rattle.sg_recovery_laws.specs.LastItem.LastPlace.{HaveItems}
 use Rattle.sg_recovery_laws.specs.LastItem.Told.{IsKnown, IsRead}
 use Rattle.sg_world_laws.proofs.Drawn.{drawn_waiting, object_behind, waiting_apart}
 use Rattle.sg_world_laws.proofs.Items.{has_item}
 use Rattle.sg_world_laws.specs.Keeping.{AreDrawn, KeepsPromise, MayEnter, Stands, Stub, standing}
-use Rattle.sg_world_laws.specs.Seats.{AreSeated, HaveSeats, MayBeMade, all_seqs}
+use Rattle.sg_world_laws.specs.Seats.{AreSeated, HaveSeats, all_seqs}
 use Rattle.sg_world_laws.specs.Setting.{IsSetting, Setting}
 use Rattle.sg_world_laws.specs.Turns.{HasAll, IsLetIn}
 

@@ -1,5 +1,5 @@
 -- The world keeps what it keeps where the guard refuses a call, whether the service is up or down: the refusal is an entry without an item.
-use Rattle.std.proofs.Common.{List, None, Option, Some, [], ap, append_assoc, arith, false, inl, inr, length, length-append, refl, subst, sym, true, ℕ, ◌*◌, ◌++◌, ◌+◌, ◌<◌, ◌==◌, ◌||◌, ◌∙◌, ◌∷◌, ◌≡◌, ◌≤◌, ◌⊎◌, Bool, if◌then◌else◌, not, ◌&&◌}
+use Rattle.std.proofs.Common.{◌≢◌, List, None, Option, Some, [], ap, append_assoc, arith, false, inl, inr, length, length-append, refl, subst, sym, true, ℕ, ◌*◌, ◌++◌, ◌+◌, ◌<◌, ◌==◌, ◌||◌, ◌∙◌, ◌∷◌, ◌≡◌, ◌≤◌, ◌⊎◌, Bool, if◌then◌else◌, not, ◌&&◌}
 use Rattle.std.specs.List.{Contains, list_any}
 use Rattle.std.specs.Prelude.{nat_le}
 use Rattle.sg_facts.specs.sg_base.Lists.{Each}
@@ -21,23 +21,25 @@ use Rattle.sg_facts.specs.Track.{is_live, has_child, row_at}
 use Rattle.sg_facts.specs.declared.entry.Entry.{Entry}
 use Rattle.sg_recovery_laws.specs.Midway.Numbers.{left_of, sum_told, unbegun}
 use Rattle.sg_recovery_laws.specs.Midway.Progress.{IsInRecovery}
-use Rattle.sg_recovery_laws.specs.sg_hist.Reading.{is_by_guard, is_item_of, is_made, is_rebuilt_at, names_at, places_in}
+use Rattle.sg_recovery_laws.specs.sg_hist.Reading.{is_by_guard, is_item_of, is_made, is_rebuilt_at, last_items, names_at, older_items, places_in}
 use Rattle.sg_recovery_laws.specs.Objects.Waiting.{AreWaiting, NoneBy}
 use Rattle.sg_recovery_laws.proofs.Given.{IsGiven, made_same, names_same}
 use Rattle.sg_recovery_laws.proofs.InBoots.{boots_refused}
 use Rattle.sg_recovery_laws.proofs.Lists.{each_append, each_map}
 use Rattle.sg_recovery_laws.proofs.Same.{any_same, rebuilt_again}
-use Rattle.sg_recovery_laws.specs.sg_hist.Growing.{IsInLast, IsSameId, last_items, older_items}
+use Rattle.sg_recovery_laws.specs.sg_hist.Growing.{IsInLast, IsLastCall, IsSameId}
 use Rattle.sg_seat.specs.WorldView.{WorldView, held_in, held_replies, unanswered}
 use Rattle.sg_recovery_laws.proofs.LastItem.Reading.{unnamed}
 use Rattle.sg_recovery_laws.specs.LastItem.Told.{IsRead, whole_behind}
 use Rattle.sg_recovery_laws.proofs.sg_track.KeptLists.{read}
 use Rattle.sg_facts.proofs.Replaying.Above.{up}
-use Rattle.sg_world_laws.proofs.Ahead.{refused_ahead}
+use Rattle.sg_world_laws.proofs.Ahead.{drawn_each, refused_ahead}
+use Rattle.sg_world_laws.proofs.Lasts.{held_drawn, held_lasts}
 use Rattle.sg_world_laws.proofs.Entering.{kept_with, legal_push, object_refused, settled_refused}
 use Rattle.sg_world_laws.proofs.Given.{before_same, given_any, given_now}
 use Rattle.sg_world_laws.specs.Keeping.{AreDrawn, KeepsPromise, MayEnter, StandsIn, Stub, standing}
-use Rattle.sg_world_laws.specs.Seats.{HaveSeats, MayBeMade}
+use Rattle.sg_world_laws.specs.Seats.{HaveSeats}
+use Rattle.sg_recovery_laws.specs.sg_hist.Clients.{MayBeMade}
 use Rattle.sg_world_laws.specs.Setting.{IsSetting, Setting, stubs_of}
 
 -- a code of the guard is one of its own
@@ -64,6 +66,7 @@ by_the_guard i o call code is =
 
 module _ (z : Setting) (set : IsSetting z) (w : WorldView) (b : Boot) (boots : List Boot) (running : Option Object) (stub : Stub) (k : KeepsPromise z (standing w b boots running) stub)
     (call : Call) (code : Code) (refuses : guard z.iface (object_of z.iface.facts w.history) call ≡ Some code) (may : MayBeMade z.iface call) (none : NoneBy call.client (held_replies (standing w b boots running)))
+    (last : (es : List Entry) → NoneBy call.client es → IsLastCall (w.history ++ es) (unanswered (standing w b boots running)) call)
     (w' : WorldView) (history : w'.history ≡ w.history ++ record { call = call; reply = Refused code } ∷ []) where
   abbrev e : Entry
   e = record { call = call; reply = Refused code }
@@ -148,7 +151,8 @@ module _ (z : Setting) (set : IsSetting z) (w : WorldView) (b : Boot) (boots : L
     held_items = subst (Each (IsInLast (standing w b boots running).run)) (sym held_later) k.held_items;
     in_boots = boots_refused (standing w b boots running).run w.history e guards k.in_boots;
     recovering = λ es drawn. refused_ahead (stubs_of z) w.history (held_replies (standing w b boots running)) e (standing w b boots running).run (unanswered (standing w b boots running)) (unanswered later) guards none
-        (hidden (held_replies (standing w b boots running)) k.waiting) (λ es' d. kept_with (w.history ++ es') e (unanswered (standing w b boots running)) (unanswered later) kept) k.recovering es (subst (λ l. AreDrawn l es) held_later drawn);
+        (hidden (held_replies (standing w b boots running)) k.waiting) (λ es' d. (last es' (drawn_each (λ x. x.call.client ≢ call.client) (held_replies (standing w b boots running)) es' none d), lasts es' d, kept_with (w.history ++ es') e (unanswered (standing w b boots running)) (unanswered later) kept))
+        k.recovering es (subst (λ l. AreDrawn l es) held_later drawn);
     cell = k.cell;
     stands = stands_on running held_later k.stands;
   })
@@ -160,3 +164,8 @@ module _ (z : Setting) (set : IsSetting z) (w : WorldView) (b : Boot) (boots : L
 
       held_later : held_replies later ≡ held_replies (standing w b boots running)
       held_later = ap held_replies (sym spelt) ∙ held
+
+      lasts : (es : List Entry) → AreDrawn (held_replies (standing w b boots running)) es → Each (λ x. IsLastCall (w.history ++ e ∷ es) (unanswered later) x.call) es
+      lasts es drawn =
+          subst (λ l. Each (λ x. IsLastCall l (unanswered later) x.call) es) (append_assoc w.history (e ∷ []) es)
+          (held_lasts z later (length (b ∷ boots)) seats es (held_drawn later running es (subst (λ l. AreDrawn l es) (sym held_later) drawn)))

@@ -19,7 +19,7 @@ use Rattle.sg_facts.specs.declared.row.Row.{Row}
 use Rattle.sg_recovery_laws.proofs.Midway.Dropped.{under_dropped}
 use Rattle.sg_recovery_laws.specs.Midway.Numbers.{AreNumbers, left_of, sum_told, unbegun}
 use Rattle.sg_recovery_laws.specs.Midway.Progress.{IsInRecovery, IsNone, TellsCalls, Told, is_complete}
-use Rattle.sg_recovery_laws.specs.sg_hist.Reading.{is_by_guard, is_item_of, names_at}
+use Rattle.sg_recovery_laws.specs.sg_hist.Reading.{is_by_guard, is_item_of, last_items, names_at, older_items}
 use Rattle.sg_recovery_laws.specs.sg_hist.Recovered.{is_walk_of}
 use Rattle.sg_recovery_laws.proofs.Objects.Serves.{fewer_behind}
 use Rattle.sg_recovery_laws.proofs.Objects.Steady.{after_good}
@@ -29,7 +29,7 @@ use Rattle.sg_recovery_laws.specs.Objects.Waiting.{AreWaiting, IsWaiting}
 use Rattle.sg_recovery_laws.proofs.InBoots.{boots_appended}
 use Rattle.sg_recovery_laws.proofs.Lists.{each_append, each_both, each_map, each_split}
 use Rattle.sg_recovery_laws.proofs.Onward.{made_stays}
-use Rattle.sg_recovery_laws.specs.sg_hist.Growing.{IsInLast, last_items, older_items}
+use Rattle.sg_recovery_laws.specs.sg_hist.Growing.{IsInLast}
 use Rattle.sg_seat.specs.WorldView.{WorldView, held_in, unanswered}
 use Rattle.sg_recovery_laws.specs.LastItem.Told.{IsRead}
 use Rattle.sg_facts.proofs.Replaying.Files.{told}
@@ -40,7 +40,8 @@ use Rattle.sg_world_laws.proofs.Entering.{kept_within, legal_push, settled_after
 use Rattle.sg_world_laws.proofs.Items.{has_item}
 use Rattle.sg_world_laws.proofs.Orders.{all_drawn, few_now, lets_after, sound_es, time_now}
 use Rattle.sg_world_laws.specs.Keeping.{ClientsDiffer, AreDrawn, KeepsPromise, MayEnter, Stands, Stub, standing}
-use Rattle.sg_world_laws.specs.Seats.{HaveSeats, MayBeMade}
+use Rattle.sg_world_laws.specs.Seats.{HaveSeats}
+use Rattle.sg_recovery_laws.specs.sg_hist.Clients.{MayBeMade}
 use Rattle.sg_world_laws.specs.Setting.{IsSetting, Setting, stubs_of}
 
 -- a sum of what is told of rows goes by what is told of each

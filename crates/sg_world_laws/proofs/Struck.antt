@@ -8,7 +8,8 @@ use Rattle.sg_facts.specs.declared.trace.Item.{Item}
 use Rattle.sg_recovery_laws.specs.sg_hist.Recovered.{AreInBoots}
 use Rattle.sg_recovery_laws.proofs.InBoots.{boots_struck}
 use Rattle.sg_recovery_laws.proofs.Onward.{struck_stays}
-use Rattle.sg_recovery_laws.specs.sg_hist.Growing.{IsRecovering, last_items, older_items, struck}
+use Rattle.sg_recovery_laws.specs.sg_hist.Growing.{IsRecovering, struck}
+use Rattle.sg_recovery_laws.specs.sg_hist.Reading.{last_items, older_items}
 use Rattle.sg_seat.specs.WorldView.{WorldView, held_replies, unanswered}
 use Rattle.sg_recovery_laws.specs.LastItem.LastPlace.{HaveItems}
 use Rattle.sg_recovery_laws.proofs.sg_track.Ascending.{later}

@@ -7,7 +7,7 @@ use Rattle.std.specs.List.{Contains}
 use Rattle.sg_facts.specs.sg_base.declared.call.Call.{Call}
 use Rattle.sg_facts.specs.sg_base.declared.reply.Reply.{Reply}
 use Rattle.sg_facts.specs.Object.{Object}
-use Rattle.sg_recovery_laws.specs.sg_hist.Clients.{calls_of}
+use Rattle.sg_recovery_laws.specs.sg_hist.Clients.{MayBeMade, calls_of}
 use Rattle.sg_recovery_laws.proofs.Lists.{each_append}
 use Rattle.sg_seat.specs.WorldView.{Seat, WorldView, is_held_phase, is_offered, no_seat, offered_by, seat_of, IsFree, MayWithdraw}
 use Rattle.sg_seat.specs.declared.mark.Mark.{Mark}
@@ -18,7 +18,7 @@ use Rattle.sg_world_laws.proofs.Moves.{HoldsNoneNow, its_boot, its_gone, its_sea
 use Rattle.sg_world_laws.proofs.Refusing.{refused}
 use Rattle.sg_world_laws.proofs.Reseated.{reseated}
 use Rattle.sg_world_laws.specs.Keeping.{KeepsPromise, Stub}
-use Rattle.sg_world_laws.specs.Seats.{AreGone, IsSeated, MayBeMade, last_of}
+use Rattle.sg_world_laws.specs.Seats.{AreGone, IsSeated, last_of}
 use Rattle.sg_world_laws.specs.Setting.{Setting}
 
 pub seat_there : (w : WorldView) (client : ℕ) → 1 ≤ client → client ≤ length w.seats → slice_get w.seats (client - 1) ≡ Some (seat_of w client)

@@ -16,15 +16,16 @@ use Rattle.sg_facts.specs.Trace.{Boot}
 use Rattle.sg_facts.specs.Track.{is_live}
 use Rattle.sg_recovery_laws.specs.Midway.Numbers.{AreNumbers}
 use Rattle.sg_recovery_laws.specs.Midway.Progress.{IsInRecovery, Told, complete}
-use Rattle.sg_recovery_laws.specs.sg_hist.Reading.{names_at}
+use Rattle.sg_recovery_laws.specs.sg_hist.Reading.{last_items, names_at, older_items}
 use Rattle.sg_recovery_laws.specs.sg_hist.Recovered.{AreInBoots}
 use Rattle.sg_recovery_laws.specs.Objects.Serving.{IsLegalObject}
 use Rattle.sg_recovery_laws.specs.Objects.Waiting.{AreWaiting, NoneBy}
-use Rattle.sg_recovery_laws.specs.sg_hist.Growing.{IsInLast, IsRecovering, last_items, older_items}
+use Rattle.sg_recovery_laws.specs.sg_hist.Growing.{IsInLast, IsRecovering}
 use Rattle.sg_seat.specs.WorldView.{WorldView, held_replies, unanswered}
 use Rattle.sg_recovery_laws.specs.LastItem.LastPlace.{HaveItems}
 use Rattle.sg_recovery_laws.specs.LastItem.Told.{IsRead}
-use Rattle.sg_world_laws.specs.Seats.{HaveSeats, MayBeMade}
+use Rattle.sg_world_laws.specs.Seats.{HaveSeats}
+use Rattle.sg_recovery_laws.specs.sg_hist.Clients.{MayBeMade}
 use Rattle.sg_world_laws.specs.Setting.{Setting, stubs_of}
 
 -- what stands in the stubs of the running boot: the service's ids, how far each row is, and which files are present

@@ -1,5 +1,6 @@
 pub mod Advancing
 pub mod Committing
+pub mod Ending
 pub mod Keeping
 pub mod Seats
 pub mod Setting

@@ -1,24 +1,16 @@
 -- The seats of a world's clients, and the numbers of their calls.
-use Rattle.std.specs.Prelude.{ℕ, ◌≡◌, ◌+◌, ◌^◌, ◌<◌, ◌≤◌, true, List, [], ◌∷◌, ◌++◌, None, Some, length}
+use Rattle.std.specs.Prelude.{ℕ, ◌≡◌, ◌+◌, ◌^◌, ◌<◌, ◌≤◌, true, List, [], ◌∷◌, None, Some, length}
 use Rattle.std.specs.declared.option.Option.{Option}
 use Rattle.sg_facts.specs.sg_base.Lists.{Each}
 use Rattle.sg_facts.specs.declared.entry.Entry.{Entry}
-use Rattle.sg_facts.specs.Interface.{Declared, declares}
 use Rattle.sg_facts.specs.Legal.{answer}
 use Rattle.sg_facts.specs.Limits.{last_client}
 use Rattle.sg_facts.specs.Object.{object_of}
-use Rattle.sg_facts.specs.sg_base.declared.call.Call.{Call}
-use Rattle.sg_recovery_laws.specs.sg_hist.Clients.{calls_of}
+use Rattle.sg_recovery_laws.specs.sg_hist.Clients.{AreNumbered, MayBeMade, calls_of}
 use Rattle.sg_seat.specs.WorldView.{Seat, is_offered}
 use Rattle.sg_seat.specs.declared.phase.Phase.TheVariants.{Blocked, Receipted}
 use Rattle.sg_seat.specs.declared.withdrawn.Withdrawn.{Withdrawn}
-use Rattle.sg_recovery_laws.specs.LastItem.Asked.{IsClientsCall}
 use Rattle.sg_world_laws.specs.Setting.{Setting}
-
--- a call that a client may make: of a declared function, with the arguments that it takes
-pub record MayBeMade (i : Declared) (call : Call) : Type 0 where
-  pub is_clients : IsClientsCall i.facts call
-  pub declared : declares i call.fun ≡ true
 
 -- the last of some entries
 abbrev pub last_of : List Entry → Option Entry
@@ -51,11 +43,6 @@ AreSeated z history withdrawn client (s ∷ seats) =
 abbrev pub all_seqs : List Seat → ℕ
 all_seqs [] = 0
 all_seqs (s ∷ seats) = s.seq + all_seqs seats
-
--- the calls of each client are numbered one after the other, after earlier entries
-abbrev pub AreNumbered : List Entry → List Entry → Type 0
-AreNumbered before [] = Unit {0}
-AreNumbered before (e ∷ history) = (e.call.seq ≡ length (calls_of before e.call.client) + 1) × AreNumbered (before ++ e ∷ []) history
 
 -- all seats of a world, with so many boots: each is as its phase says, no reply is of a boot that is yet to come, and each entry is a
 -- client's of theirs

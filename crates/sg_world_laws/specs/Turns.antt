@@ -23,7 +23,7 @@ use Rattle.sg_recovery_laws.specs.sg_hist.Recovered.{IsByTable}
 use Rattle.sg_recovery_laws.specs.Objects.Waiting.{NoneBy}
 use Rattle.sg_seat.specs.WorldView.{WorldView, held_replies, unanswered}
 use Rattle.sg_world_laws.specs.Keeping.{Stub}
-use Rattle.sg_world_laws.specs.Seats.{MayBeMade}
+use Rattle.sg_recovery_laws.specs.sg_hist.Clients.{MayBeMade}
 use Rattle.sg_world_laws.specs.Setting.{Setting}
 
 -- a call is let in: it is under way, is its client's last, and the guard lets it pass at the object of the history

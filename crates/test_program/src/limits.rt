@@ -1,7 +1,7 @@
 // The longest inputs, texts and scripts, and longer ones.
 use crate::answers::{DIVIDER, NOTHING, answers, joined};
 use sg_top::Status::{Done, Refused};
-use sg_top::{Command, MOST_DIVIDER, MOST_INPUT, MOST_INTERFACE, MOST_SCRIPT};
+use sg_top::{Command, MOST_DIVIDER, MOST_INPUT, MOST_INTERFACE, MOST_SCRIPT, Shows};
 use std::alloc::{AllocError, Global};
 use std::fmt::Write;
 use std::test::Fail;
@@ -33,7 +33,7 @@ fn takes_the_longest_input(rt: HostRuntime) -> Result<(), Fail> {
     assert_eq!(rt; MOST_INPUT, MOST_INTERFACE + MOST_DIVIDER + MOST_SCRIPT);
     let play = Command::Play {
         threads: false,
-        trace: false,
+        shows: Shows::Run,
     };
     assert_eq!(rt; play.most_bytes(), 4_259_844);
     assert_eq!(rt; Command::Check.most_bytes(), 65_536);

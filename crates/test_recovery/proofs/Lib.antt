@@ -1,5 +1,6 @@
 pub mod Apart
 pub mod EagerRuns
+pub mod EndRuns
 pub mod EventFaults
 pub mod EventRuns
 pub mod LockFaults

@@ -1,11 +1,9 @@
 -- The walks of locks are those of the tables of the interface that declares all of the lock service.
 use Rattle.std.proofs.Common.{◌≡◌, ◌⊎◌, inl, inr, ℕ, zero, suc, ◌+◌, ◌-◌, ◌<◌, ◌≤◌, Bool, true, false, ◌&&◌, ◌||◌, List, [], ◌∷◌, Some, None, refl, sym, ◌∙◌, ap, subst, arith, length}
-use Rattle.std.specs.Prelude.{◌==◌, ◌^◌, if◌then◌else◌, nat_le, nat_lt, not}
+use Rattle.std.specs.Prelude.{◌==◌, if◌then◌else◌, nat_le, nat_lt, not}
 use Rattle.std.specs.Int.{bit_at}
-use Rattle.std.specs.List.{Contains}
 use Rattle.std.proofs.lemmas.Bool.Decides.{nat_tests}
 use Rattle.std.proofs.lemmas.Nat.Bits.{bit_at_above}
-use Rattle.std.specs.declared.option.Option.{Option}
 use Rattle.sg_facts.specs.sg_base.Lists.{Each}
 use Rattle.sg_facts.specs.declared.tables.WalkLine.{WalkLine}
 use Rattle.sg_facts.specs.Facts.{fun_at, state_after}
@@ -13,8 +11,8 @@ use Rattle.sg_facts.specs.Fields.{number_of}
 use Rattle.sg_facts.specs.Fits.{Fits, IsReached, LeavesDeclared, move, needs_reach, step}
 use Rattle.sg_facts.specs.Interface.{Declared, declares, has_pair, moves_on, steps_on}
 use Rattle.sg_facts.specs.Laws.{whole}
-use Rattle.sg_facts.specs.Tables.{AreTables, IsAscending, line_order, walk_of}
-use Rattle.sg_facts.specs.Walks.{IsReachable, IsWalkOf, Spot, begin_of, first_spot, good, made, may_begin, may_go_on, may_lead, moved, most_calls, next_spot, no_later, no_worse, restores, restores_at, spot_from, spot_of, unset}
+use Rattle.sg_facts.specs.Tables.{AreTables, IsAscending, walk_of}
+use Rattle.sg_facts.specs.Walks.{IsReachable, IsWalkOf, begin_of, first_spot, made, may_go_on, may_lead, moved, most_calls, next_spot, no_later, no_worse, restores, restores_at}
 use Rattle.test_histories.specs.sg_lock.LockFacts.{lock_facts}
 use Rattle.sg_recovery_laws.proofs.Lists.{each_contains}
 use Rattle.test_recovery.specs.LockRuns.{lock_walks}

@@ -1,18 +1,19 @@
 -- Runs that one part alone refuses: what each of them lacks.
-use Rattle.std.proofs.Common.{◌≡◌, ◌∙◌, ap, arith, inl, inr, refl, subst, sym}
-use Rattle.std.specs.Prelude.{ℕ, ◌&&◌, ◌<◌, ◌⊎◌, ◌≢◌, IsSome, None, Some, [], ◌∷◌, false, nat_lt, true}
+use Rattle.std.proofs.Common.{◌≡◌, arith, inl, refl, subst, sym}
+use Rattle.std.specs.Prelude.{ℕ, ◌&&◌, ◌<◌, None, [], ◌∷◌, nat_lt, true}
 use Rattle.std.proofs.lemmas.Bool.Decides.{nat_tests}
 use Rattle.sg_facts.specs.sg_base.Lists.{Each}
 use Rattle.sg_facts.specs.Guard.{guard}
 use Rattle.sg_recovery_laws.specs.sg_hist.Reading.{Position, object_before}
-use Rattle.sg_recovery_laws.specs.sg_hist.Recovered.{HasRecovered, IsRebuiltFor, IsRecovered, IsUsed, calls_made}
+use Rattle.sg_recovery_laws.specs.sg_hist.Recovered.{IsRebuiltFor, IsRecovered, calls_made}
+use Rattle.sg_recovery_laws.specs.sg_hist.Ending.{HasRecovered}
 use Rattle.sg_recovery_laws.proofs.Lists.{each_contains}
 use Rattle.test_histories.specs.Written.{ok_at}
 use Rattle.test_recovery.specs.EventRuns.{event_stubs}
 use Rattle.test_recovery.specs.LockRuns.{lock_stubs}
 use Rattle.test_recovery.specs.RamfsRuns.{ramfs_stubs}
 use Rattle.test_recovery.specs.StrictRuns.{alloc, double_stubs, empty_boot_more, first_wait, free_of_taken, free_released, free_stopped_late, late_read, late_read_history, late_seek, late_seek_history, long_stubs, made_and_stopped, no_boot, one_event, one_made, one_made_ends, one_taken, other_take, rebuilt_for_refused, refusal_stopped_late, refused_at_once, refused_was_asked, second_take, seek_before_write, seek_then_write, stopped_where_blocked, two_boots_more, wait_stopped, write_before_seek, write_then_seek}
-use Rattle.test_recovery.specs.Written.{bare_call, boot, called, replied, walked}
+use Rattle.test_recovery.specs.Written.{bare_call, called, replied, walked}
 use Rattle.test_recovery.proofs.Apart.{false_true, some_none}
 use Rattle.test_recovery.proofs.LockTables.{lock_tables}
 
@@ -83,10 +84,6 @@ no_boot-wrong r = r.reboots.booted refl
 pub no_boot_for_a_refusal-wrong : IsRecovered lock_stubs refused_at_once no_boot [] → ⊥
 no_boot_for_a_refusal-wrong r = r.reboots.booted refl
 
-unused : IsUsed (boot [] None) → ⊥
-unused (inl some) = some refl
-unused (inr stop) = false_true stop
-
 pub empty_boot_more-recovered : IsRecovered lock_stubs one_made empty_boot_more []
 empty_boot_more-recovered = record {
   reboots = record { booted = λ is. absurd (cc is); table = ((refl, refl), tt); stopped = (refl, tt); last = (tt, tt) };
@@ -104,10 +101,10 @@ empty_boot_more-recovered = record {
 }
 
 pub empty_boot_more-wrong : HasRecovered lock_stubs one_made empty_boot_more one_made_ends → ⊥
-empty_boot_more-wrong r = unused r.used
+empty_boot_more-wrong r = r.used refl
 
 pub two_boots_more-wrong : HasRecovered lock_stubs one_made two_boots_more one_made_ends → ⊥
-two_boots_more-wrong r = unused r.used
+two_boots_more-wrong r = r.used refl
 
 -- ---- walks of other tables
 
@@ -138,5 +135,7 @@ made_and_stopped-recovered = record {
     points = λ below. ((refl, tt), inl (refl, refl), refl);
     held = (omega arith, tt);
   };
+  blocked = (tt, tt);
   used = tt;
+  quiet = (refl, refl);
 }

@@ -1,4 +1,5 @@
 pub mod EagerRuns
+pub mod EndRuns
 pub mod EventRuns
 pub mod LockRuns
 pub mod MmRuns

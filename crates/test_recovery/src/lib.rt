@@ -5,6 +5,7 @@
 #![tactic(auto)]
 
 mod eager;
+mod ends;
 mod events;
 mod files;
 mod locks;
@@ -13,6 +14,10 @@ mod strict;
 mod threads;
 
 pub use eager::{both_rebuilt, one_rebuilt, second_first};
+pub use ends::{
+    asked_early, asked_late, load_shows_a_call, slept_over_reboot, stopped_unasked, stopped_unused,
+    waits_asked, waits_unasked,
+};
 pub use events::{blocked_redone, earlier_value, present_value, trigger_not_twice};
 pub use files::{file_loaded, held_behind, held_lost, loaded_twice};
 pub use locks::{

@@ -1,6 +1,7 @@
 // Runs that one part alone refuses.
 ghost use Rattle.std.specs.Prelude.{◌∷◌, []};
-ghost use Rattle.sg_recovery_laws.specs.sg_hist.Recovered.{HasRecovered, IsRecovered};
+ghost use Rattle.sg_recovery_laws.specs.sg_hist.Recovered.{IsRecovered};
+ghost use Rattle.sg_recovery_laws.specs.sg_hist.Ending.{HasRecovered};
 ghost use Rattle.test_recovery.specs.EventRuns.{event_stubs};
 ghost use Rattle.test_recovery.specs.LockRuns.{lock_stubs};
 ghost use Rattle.test_recovery.specs.RamfsRuns.{ramfs_stubs};

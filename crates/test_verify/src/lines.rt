@@ -311,3 +311,30 @@ fn judges_the_longest_run(rt: HostRuntime) -> Result<(), Fail> {
     assert!(rt; is_said(alloc, LOCK, &run, Refused, line)?);
     Ok(())
 }
+
+// How many arguments a long line has.
+const MANY_ARGS: u32 = 1_000_000;
+
+// An entry of a function of this name with so many arguments, and one more.
+fn long_line(alloc: Global, name: &[u8], more: u32) -> Result<Vec<u8>, Fail> {
+    let mut run = Vec::from_slice(alloc, b"c1.1 ")?;
+    run.extend_from_slice(name)?;
+    run.extend_from_slice(b"(0")?;
+    for _ in 0..more {
+        run.extend_from_slice(b", 0")?;
+    }
+    run.extend_from_slice(b") = ok\n")?;
+    Ok(run)
+}
+
+#[test]
+fn judges_a_line_of_many_arguments(rt: HostRuntime) -> Result<(), Fail> {
+    let alloc = rt.alloc();
+    let run = long_line(alloc, b"lock_take", MANY_ARGS)?;
+    let line = "run refused at 1:6: BadArgs\n";
+    assert!(rt; is_said(alloc, LOCK, &run, Refused, line)?);
+    let run = long_line(alloc, b"lock_fly", MANY_ARGS)?;
+    let line = "run refused at 1:6: UnknownFunction\n";
+    assert!(rt; is_said(alloc, LOCK, &run, Refused, line)?);
+    Ok(())
+}

@@ -7,9 +7,10 @@ use Rattle.sg_entries.specs.declared.error.EntriesError.{EntriesError}
 use Rattle.sg_entries.specs.declared.error.EntriesError.TheVariants.{NoMemory, Fault}
 use Rattle.sg_entries.specs.declared.error.EntriesKind.{EntriesKind}
 use Rattle.sg_entries.specs.declared.error.EntriesKind.TheVariants.{Syntax}
-use Rattle.sg_entry_parse.specs.Parses.{EntryParses}
+use Rattle.sg_entry_parse.specs.Parses.{EntryParses, OutlineParses}
 use Rattle.sg_entry_parse.specs.Spelling.{Spelling}
 use Rattle.sg_entry_parse.specs.declared.error.EntrySyntax.TheVariants.{Syntax as syntax}
+use Rattle.sg_entry_parse.specs.declared.tree.EntryOutline.{EntryOutline}
 use Rattle.sg_entry_parse.specs.declared.tree.WrittenEntry.{WrittenEntry}
 
 -- a line is no entry's, and fails at this place of the text
@@ -24,6 +25,12 @@ abbrev pub IsParsed : Spelling → Result WrittenEntry EntriesError → Type 0
 IsParsed line (Ok e) = EntryParses line.bytes (Ok e)
 IsParsed line (Err NoMemory) = Unit {0}
 IsParsed line (Err (Fault kind at)) = FailsIn line kind at
+
+-- the outline of a line's entry, or where the line fails; out of memory may be told at any time
+abbrev pub IsOutlined : Spelling → Result EntryOutline EntriesError → Type 0
+IsOutlined line (Ok o) = OutlineParses line.bytes (Ok o)
+IsOutlined line (Err NoMemory) = Unit {0}
+IsOutlined line (Err (Fault kind at)) = FailsIn line kind at
 
 -- each entry line of a text is an entry's
 abbrev pub HasEntries : List ℕ → Type 0

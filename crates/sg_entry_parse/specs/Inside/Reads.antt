@@ -1,11 +1,14 @@
 -- What is read of a line from a state on, and what a part of the parser says of that.
-use Rattle.std.specs.Prelude.{◌≡◌, ◌≢◌, ℕ, ◌+◌, List, [], ◌∷◌, None, Some, Ok, Err}
+use Rattle.std.specs.Prelude.{◌≡◌, ◌≢◌, ℕ, ◌+◌, List, [], ◌∷◌, None, Some, Ok, Err, length}
 use Rattle.std.specs.declared.option.Option.{Option}
 use Rattle.std.specs.declared.result.Result.{Result}
 use Rattle.std.specs.Option.{option_map_or}
 use Rattle.sg_entry_parse.specs.declared.error.EntrySyntax.{EntrySyntax}
 use Rattle.sg_entry_parse.specs.declared.error.EntrySyntax.TheVariants.{NoMemory, Syntax}
+use Rattle.sg_entry_parse.specs.declared.tree.EntryOutline.{EntryOutline}
+use Rattle.sg_entry_parse.specs.declared.tree.WrittenArg.{WrittenArg}
 use Rattle.sg_entry_parse.specs.declared.tree.WrittenEntry.{WrittenEntry}
+use Rattle.sg_entry_parse.specs.Parses.{outline_of}
 use Rattle.sg_entry_parse.specs.Spelling.{Spelling}
 use Rattle.sg_entry_parse.specs.Inside.States.{EntryState, step, entry_at}
 
@@ -45,3 +48,13 @@ abbrev pub LeadsOn : Result WrittenEntry EntrySyntax → Result (Option Spelling
 LeadsOn before (Ok (Some word)) go end new = before ≡ read (go word) new
 LeadsOn before (Ok None) go end new = before ≡ read end new
 LeadsOn before (Err error) go end new = error ≢ NoMemory → before ≡ Err error
+
+-- a part of the parser that gave how many arguments it read goes on in the state of these arguments
+abbrev pub CountLeads : Result WrittenEntry EntrySyntax → Result ℕ EntrySyntax → (List WrittenArg → EntryState) → Ahead → Type 0
+CountLeads before (Ok count) go new = (args : List WrittenArg) × (count ≡ length args) × (before ≡ read (go args) new)
+CountLeads before (Err error) go new = error ≢ NoMemory → before ≡ Err error
+
+-- the whole of a parser that gave an outline: so it is of the entry that was to be read
+abbrev pub OutlineEnds : Result WrittenEntry EntrySyntax → Result EntryOutline EntrySyntax → Type 0
+OutlineEnds before (Ok outline) = (tree : WrittenEntry) × (before ≡ Ok tree) × (outline ≡ outline_of tree)
+OutlineEnds before (Err error) = error ≢ NoMemory → before ≡ Err error

@@ -20,7 +20,8 @@ use Rattle.sg_seat.specs.sg_hist.Clients.{calls_of}
 use Rattle.sg_seat.specs.sg_hist.declared.ended.End.{End}
 use Rattle.sg_seat.specs.sg_hist.declared.ended.End.TheVariants.{Done, Blocked}
 use Rattle.sg_plain.specs.Calls.{AreEnds, EachEnd, IsEnd, ascending_from, call_after, callers, most_client, resolved, resolved_by, script_calls}
-use Rattle.sg_plain.specs.Plain.{IsPlainPlay, PlainPhase, Player, Stage, after_call, after_guard, after_turn, after_wakes, appended, at_phase, blocked, first_stage, handed_over, holding, is_under_way, left_schedule, may_turn, next_stage, next_turn, player_at, player_of, ready, replied, served, stage_after, stage_from, through, turned, waits_on, wakes, woken_phase}
+use Rattle.sg_plain.specs.Plain.{IsPlainPlay, PlainPhase, Player, Stage, after_call, after_guard, after_turn, after_wakes, appended, at_phase, blocked, first_stage, handed_over, holding, is_under_way, left_schedule, may_turn, next_stage, next_turn, player_at, player_of, ready, replied, served, stage_after, stage_from, through, turned, waits_on, woken_phase}
+use Rattle.sg_seat.specs.sg_hist.Wakes.{wakes}
 use Rattle.sg_plain.specs.Promises.{AreFirstCalls, AreScriptsCalls, GetsPlainAlone}
 use Rattle.sg_plain.specs.Script.{call_fits, calls_fit}
 use Rattle.sg_plain.proofs.Ending.Plays.{first_is_stage, goes_on, has_next, next_is, nobody}

@@ -1,15 +1,14 @@
 -- A script without a flaw may be played, and its stops ascend.
-use Rattle.std.proofs.Common.{◌≡◌, ◌⊎◌, inl, inr, ℕ, zero, suc, ◌+◌, ◌<◌, ◌≤◌, Bool, true, false, not, List, [], ◌∷◌, ◌++◌, cond, length, map, refl, sym, ◌∙◌, ap, subst, arith, append-nil}
+use Rattle.std.proofs.Common.{◌≡◌, ℕ, ◌+◌, ◌<◌, ◌≤◌, Bool, true, false, not, List, [], ◌∷◌, ◌++◌, cond, length, map, refl, sym, ◌∙◌, ap, subst, arith, append-nil}
 use Rattle.std.proofs.lemmas.List.{length-map}
-use Rattle.std.specs.Prelude.{◌&&◌, ◌||◌, ◌==◌, nat_le}
+use Rattle.std.specs.Prelude.{◌==◌, nat_le}
 use Rattle.std.proofs.lemmas.Bool.Decides.{nat_tests}
 use Rattle.std.specs.List.{flat_map, list_all, list_any}
 use Rattle.sg_facts.specs.sg_base.Lists.{Each}
 use Rattle.sg_edge.specs.Stops.{AscendsAbove}
 use Rattle.sg_facts.specs.Facts.{fun_at}
 use Rattle.sg_facts.specs.Interface.{Declared}
-use Rattle.sg_facts.specs.Limits.{last_client}
-use Rattle.sg_plain.specs.Calls.{part_of, script_calls}
+use Rattle.sg_plain.specs.Calls.{part_of}
 use Rattle.sg_plain.specs.Script.{call_fits, calls_fit}
 use Rattle.sg_plain.specs.Playing.Playable.{IsPlayable}
 use Rattle.sg_script.specs.sg_script_parse.Grammar.Spelling.{Spelling}
@@ -18,10 +17,10 @@ use Rattle.sg_script.specs.sg_script_parse.declared.tree.Part.TheVariants.{Setup
 use Rattle.sg_script.specs.declared.fault.ScriptKind.TheVariants.{BadClient, NotAscending, Twice}
 use Rattle.sg_script.specs.declared.script.Script.{Script}
 use Rattle.sg_script.specs.declared.script.ScriptCall.{ScriptCall}
-use Rattle.sg_script.specs.Numbers.{counts_as, is_known_client}
+use Rattle.sg_script.specs.Numbers.{counts_as}
 use Rattle.sg_script.specs.Reads.{IsScript}
 use Rattle.sg_script.specs.Scripts.{calls_of_setup, clients_of, script_call_of, stops_of, turns_of}
-use Rattle.sg_script.specs.Flaws.{calls_before, calls_in, client_flaws, comes_again, flaws_behind, inner_flaws, is_setup, is_stop, part_flaws, stops_flaws}
+use Rattle.sg_script.specs.Flaws.{calls_before, calls_in, client_flaws, flaws_behind, is_setup, is_stop, part_flaws, stops_flaws}
 use Rattle.sg_script.proofs.Held.{back_none, behind_none, both, front_none, inner_none, is_true, not_flawed}
 use Rattle.sg_plain.proofs.Flawless.Parts.{Fit, IsRead, all_calls, all_counted, any_last, any_more, calls_all_fit, calls_all_go, left, parts_read, right}
 

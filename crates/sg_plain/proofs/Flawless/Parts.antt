@@ -1,5 +1,5 @@
 -- The calls of a script's parts, one part after the other.
-use Rattle.std.proofs.Common.{◌≡◌, ◌⊎◌, inl, inr, ℕ, zero, suc, ◌+◌, ◌<◌, ◌≤◌, Bool, true, false, not, List, [], ◌∷◌, ◌++◌, None, Some, cond, length, map, refl, sym, ◌∙◌, ap, subst, arith, append_assoc, length-append, append-nil}
+use Rattle.std.proofs.Common.{◌≡◌, ◌⊎◌, inl, inr, ℕ, ◌+◌, ◌<◌, ◌≤◌, Bool, true, false, not, List, [], ◌∷◌, ◌++◌, None, Some, cond, length, map, refl, sym, ◌∙◌, ap, subst, arith, append_assoc, length-append, append-nil}
 use Rattle.std.proofs.lemmas.Grind.{flat_map-append}
 use Rattle.std.proofs.lemmas.List.{length-map}
 use Rattle.std.specs.Prelude.{◌&&◌, ◌||◌, ◌==◌, nat_le, nat_lt, unwrap_or}
@@ -13,10 +13,8 @@ use Rattle.sg_facts.specs.declared.shape.Kind.TheVariants.{Desc, Parent, Word, T
 use Rattle.sg_facts.specs.Facts.{Fun, fun_at}
 use Rattle.sg_facts.specs.Interface.{Declared, declares}
 use Rattle.sg_facts.specs.Limits.{last_client}
-use Rattle.sg_plain.specs.Calls.{part_of}
 use Rattle.sg_plain.specs.Script.{args_fit, call_fits, calls_fit}
 use Rattle.sg_plain.specs.Playing.Playable.{AreClients}
-use Rattle.sg_script.specs.sg_script_parse.Grammar.Spelling.{Spelling}
 use Rattle.sg_script.specs.sg_script_parse.declared.tree.WrittenArg.{WrittenArg}
 use Rattle.sg_script.specs.sg_script_parse.declared.tree.WrittenArg.TheVariants.{Number, Text, Back}
 use Rattle.sg_script.specs.sg_script_parse.declared.tree.WrittenCall.{WrittenCall}
@@ -25,9 +23,9 @@ use Rattle.sg_script.specs.sg_script_parse.declared.tree.Part.TheVariants.{Setup
 use Rattle.sg_script.specs.declared.fault.ScriptKind.TheVariants.{BadClient, Blocking, Twice}
 use Rattle.sg_script.specs.declared.script.ScriptCall.{ScriptCall}
 use Rattle.sg_script.specs.Numbers.{counts_as, is_known_client}
-use Rattle.sg_script.specs.Scripts.{arg_of, script_call_of, calls_of_setup, clients_of, declared_fun, declared_from, placed, with_client}
-use Rattle.sg_script.specs.Flaws.{written_args_fit as written_fit, call_flaws, calls_before, calls_flaws, calls_in, client_flaws, comes_again, flaws_behind, fun_flaws, inner_flaws, is_of_client, part_flaws}
-use Rattle.sg_script.proofs.Held.{back_none, behind_none, both, calls_few, counted, front_none, inner_none, is_true, not_flawed, part_few}
+use Rattle.sg_script.specs.Scripts.{arg_of, script_call_of, calls_of_setup, declared_fun, declared_from, placed, with_client}
+use Rattle.sg_script.specs.Flaws.{written_args_fit as written_fit, call_flaws, calls_before, calls_flaws, calls_in, client_flaws, comes_again, flaws_behind, fun_flaws, is_of_client, part_flaws}
+use Rattle.sg_script.proofs.Held.{back_none, behind_none, both, counted, front_none, inner_none, is_true, not_flawed, part_few}
 
 -- ---- calls
 

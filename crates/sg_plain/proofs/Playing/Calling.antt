@@ -14,7 +14,7 @@ use Rattle.sg_script.specs.declared.script.Script.{Script}
 use Rattle.sg_script.specs.declared.script.ScriptCall.{ScriptCall}
 use Rattle.sg_seat.specs.WorldView.{Seat, seat_in}
 use Rattle.sg_plain.specs.Script.{desc_among, values_of}
-use Rattle.sg_plain.proofs.Playing.Lines.{same_or_other}
+use Rattle.sg_seat.proofs.Lines.{same_or_other}
 use Rattle.sg_facts.proofs.Replaying.Found.{other_test, same_test}
 use Rattle.sg_plain.specs.Playing.Callers.{AreCallers, EntersCall, EntersNothing, IsCaller, KeepsCall, StepsOn}
 use Rattle.sg_plain.specs.Playing.Playable.{IsPlayable}

@@ -1,9 +1,7 @@
 -- Where nobody can take a turn, each client with a call is done or waits, and the calls that wait are those that aren't answered.
-use Rattle.std.proofs.Common.{◌≡◌, ◌≢◌, ◌⊎◌, ℕ, zero, suc, ◌+◌, ◌-◌, ◌<◌, ◌≤◌, Bool, true, false, cond, not, List, [], ◌∷◌, ◌++◌, None, Some, filter, flat_map, length, map, refl, sym, ◌∙◌, ap, subst, inl, inr, arith}
+use Rattle.std.proofs.Common.{◌≡◌, ℕ, zero, suc, ◌+◌, ◌<◌, ◌≤◌, Bool, true, false, cond, not, List, [], ◌∷◌, ◌++◌, None, Some, filter, flat_map, length, map, refl, sym, ◌∙◌, ap, subst, arith}
 use Rattle.std.specs.Prelude.{◌==◌, nat_lt, slice_get, unwrap_or}
-use Rattle.std.specs.declared.option.Option.{Option}
 use Rattle.std.proofs.lemmas.Bool.Decides.{nat_tests}
-use Rattle.sg_facts.specs.sg_base.declared.call.Call.{Call}
 use Rattle.sg_facts.specs.declared.entry.Entry.{Entry}
 use Rattle.sg_facts.specs.Facts.{Facts}
 use Rattle.sg_facts.specs.Interface.{Declared}
@@ -11,9 +9,8 @@ use Rattle.sg_facts.specs.Legal.{Table, answer}
 use Rattle.sg_facts.specs.Object.{object_of}
 use Rattle.sg_seat.specs.sg_hist.Clients.{calls_of}
 use Rattle.sg_seat.specs.sg_hist.Recovered.{waiting, waiting_in}
-use Rattle.sg_seat.specs.sg_hist.declared.ended.End.{End}
 use Rattle.sg_seat.specs.sg_hist.declared.ended.End.TheVariants.{Done, Blocked as Waits}
-use Rattle.sg_plain.specs.Calls.{AreEnds, EachEnd, IsEnd, ascending_from, callers, most_client, script_calls}
+use Rattle.sg_plain.specs.Calls.{AreEnds, EachEnd, IsEnd, ascending_from, script_calls}
 use Rattle.sg_plain.specs.Promises.{AreFirstCalls}
 use Rattle.sg_script.specs.declared.script.Script.{Script}
 use Rattle.sg_script.specs.declared.script.ScriptCall.{ScriptCall}
@@ -24,7 +21,7 @@ use Rattle.sg_plain.specs.Playing.Callers.{IsCaller}
 use Rattle.sg_plain.specs.Playing.Ends.{end_of, ends_from, has_calls}
 use Rattle.sg_plain.specs.Playing.Plays.{IsPlaying}
 use Rattle.sg_plain.specs.Playing.Turns.{NobodyGoes, may_go, may_take_turn}
-use Rattle.sg_plain.proofs.Playing.Calling.{IsNext, next_of}
+use Rattle.sg_plain.proofs.Playing.Calling.{next_of}
 
 -- ---- one client
 

@@ -8,7 +8,7 @@ use Rattle.sg_seat.specs.sg_hist.Clients.{calls_of}
 use Rattle.sg_seat.specs.sg_hist.Reading.{desc_of}
 use Rattle.sg_seat.specs.WorldView.{Seat, seat_in}
 use Rattle.sg_script.specs.declared.script.Script.{Script}
-use Rattle.sg_plain.proofs.Playing.Lines.{same_or_other}
+use Rattle.sg_seat.proofs.Lines.{same_or_other}
 use Rattle.sg_plain.specs.Playing.Callers.{AreCallers, HandsOn, StepsOn, handed}
 use Rattle.sg_plain.specs.Playing.Given.{GaveIds, HandsToClient, HandsReply, HaveGiven, given_in, with_handed}
 use Rattle.sg_plain.specs.Playing.Playable.{IsPlayable}

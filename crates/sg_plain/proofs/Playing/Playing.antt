@@ -9,7 +9,7 @@ use Rattle.sg_plain.specs.Calls.{call_after}
 use Rattle.sg_plain.specs.Promises.{AreScriptsCalls}
 use Rattle.sg_script.specs.declared.script.Script.{Script}
 use Rattle.sg_seat.specs.WorldView.{Seat, is_offered, seat_in}
-use Rattle.sg_plain.proofs.Playing.Lines.{same_or_other}
+use Rattle.sg_seat.proofs.Lines.{same_or_other}
 use Rattle.sg_plain.specs.Playing.Callers.{EntersNothing, StepsOn, handed, is_setting_up}
 use Rattle.sg_plain.specs.Playing.Given.{HandsToClient, with_handed}
 use Rattle.sg_plain.specs.Playing.Plays.{IsPlaying}

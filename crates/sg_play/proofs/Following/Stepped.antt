@@ -26,7 +26,8 @@ use Rattle.sg_plain.specs.Playing.Callers.{handed}
 use Rattle.sg_plain.specs.Playing.Plays.{IsPlaying}
 use Rattle.sg_plain.specs.Playing.Turns.{is_free_phase}
 use Rattle.sg_plain.proofs.Playing.Calling.{its_client, next_of}
-use Rattle.sg_plain.proofs.Playing.Lines.{handed_woken, length_map, length_set, seat_here, seat_woken}
+use Rattle.sg_plain.proofs.Playing.Lines.{handed_woken}
+use Rattle.sg_plain.proofs.sg_seat.Lines.{length_map, length_set, seat_here, seat_woken}
 use Rattle.sg_plain.specs.sg_hist.Growing.{IsNextItem, noted, place_after, struck}
 use Rattle.sg_plain.specs.sg_script.declared.script.Script.{Script}
 use Rattle.sg_plain.specs.sg_seat.WorldView.{Seat, WorldView, answered_to, boot_number, committed, given_to, is_offered, item_noted, no_reply, rebooted, seat_in, seat_of, struck_at, unanswered, wakes_seat, woken_seat}

@@ -22,7 +22,7 @@ use Rattle.sg_facts.specs.Object.{Object, file_at, first_text, object_of, patch_
 use Rattle.sg_facts.specs.Track.{is_live, row_at}
 use Rattle.sg_facts.proofs.RowLists.{live_of_row}
 use Rattle.sg_plain.specs.sg_hist.Reading.{Position, desc_of, id_given, is_by_guard, is_item_of, is_made, is_ok, is_tagged, item_of, made_by, names_at, object_before, service_call, stands_before, value_at}
-use Rattle.sg_plain.specs.sg_hist.Recovered.{AskedAs, GivesEntry, HasItem, IsByTable, IsCallOfRow, IsDemanded, IsLoad, IsLoadedFor, IsRenamed, IsReplyOf, IsTracked, IsTrackedAt, IsWalked, Stubs, is_patch_at, is_replied}
+use Rattle.sg_plain.specs.sg_hist.Recovered.{AskedAs, GivesEntry, HasItem, IsByTable, IsCallOfRow, IsDemanded, IsLoadedFor, IsRenamed, IsReplyOf, IsTracked, IsTrackedAt, IsWalked, Stubs, is_patch_at, is_replied}
 use Rattle.sg_plain.specs.sg_hist.Growing.{IsNextItem, IsOfNoEntry}
 use Rattle.sg_world.proofs.sg_recovery_laws.Given.{is_numbered, made_visible}
 use Rattle.sg_plain.proofs.sg_hist.Growing.{entries_before-not_yet, object_of-more, places-more}
@@ -133,18 +133,11 @@ pub none_loaded : (s : Stubs) (history : List Entry) (left : List Call) (items :
     → HaveItems items history → item.tag ≡ Load key client → IsDemanded s.interface s.walks history left (last_place [] items item) item.tag → ⊥
 none_loaded s history left items item key client is has tag demanded =
     let loaded : IsLoadedFor s.interface s.walks history left (last_place [] items item) client key = subst (IsDemanded s.interface s.walks history left (last_place [] items item)) tag demanded in
-    let some : file_at before.files key ≢ [] = by item.outcome loaded.whole in
+    let some : file_at before.files key ≢ [] = loaded.some in
     cc (sym loaded.absent ∙ is.files key (λ none. some (ap (λ (o : Object). file_at o.files key) (object_there s.interface.facts history items item (load_of_none item key client history tag) has) ∙ none)))
   where
     before : Object
     before = object_before s.interface.facts history (last_place [] items item)
-
-    by : (outcome : Outcome) → IsLoad before key outcome → file_at before.files key ≢ []
-    by (Replied reply (Some patch)) whole = λ none. whole.3 (whole.2 ∙ none)
-    by (Replied reply None) whole = absurd whole
-    by Blocks whole = absurd whole
-    by Stopped whole = absurd whole
-    by NoMemory whole = absurd whole
 
 -- ---- a visible reply
 

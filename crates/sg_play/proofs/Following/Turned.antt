@@ -15,7 +15,7 @@ use Rattle.sg_plain.specs.Calls.{call_after, script_calls}
 use Rattle.sg_plain.specs.Plain.{PlainPhase, Player, Stage, after_call, after_guard, appended, at_phase, blocked, gone_on, handed_over, holding, player_at, player_of, ready, replied, served, through, turned}
 use Rattle.sg_plain.specs.Playing.Callers.{AreCallers, IsCaller, handed, is_receipted}
 use Rattle.sg_plain.specs.Playing.Turns.{is_free_phase}
-use Rattle.sg_plain.proofs.Playing.Lines.{length_map}
+use Rattle.sg_plain.proofs.sg_seat.Lines.{length_map}
 use Rattle.sg_plain.specs.sg_script.declared.script.Script.{Script}
 use Rattle.sg_plain.specs.sg_seat.WorldView.{Seat, is_offered, no_seat, seat_in, wakes_seat, woken_seat}
 use Rattle.sg_plain.specs.sg_seat.declared.phase.Phase.{Phase as SeatPhase}

@@ -9,11 +9,12 @@ use Rattle.sg_facts.specs.declared.trace.Tag.{Tag}
 use Rattle.sg_facts.specs.declared.trace.Tag.TheVariants.{Walk, Load, Client}
 use Rattle.sg_facts.specs.Facts.{Facts}
 use Rattle.sg_plain.specs.sg_hist.Reading.{Position, is_tagged, places_in}
-use Rattle.sg_plain.specs.Promises.{IsWokenBetween, has_blocked, is_woken_first, wakes_at}
+use Rattle.sg_plain.specs.Promises.{IsWokenBetween, is_woken_first}
+use Rattle.sg_plain.specs.sg_hist.Wakes.{has_blocked, wakes_at}
 use Rattle.sg_plain.proofs.sg_hist.Growing.{in_boot, in_older}
 use Rattle.sg_plain.specs.sg_hist.Growing.{AreGrown, IsGrown}
 use Rattle.sg_world.specs.sg_recovery_laws.LastItem.LastPlace.{last_place}
-use Rattle.sg_play.proofs.Waking.Wakers.{any_end, any_front}
+use Rattle.sg_world.proofs.sg_world_laws.Ending.Wakers.{any_end, any_front}
 use Rattle.sg_play.specs.Waking.Waking.{IsWokenSince, waits_at}
 use Rattle.sg_facts.proofs.Replaying.Found.{same_test}
 

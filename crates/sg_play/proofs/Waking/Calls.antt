@@ -1,20 +1,15 @@
 -- The calls of a play: entries have the numbers up to their clients', and the call under way of a client is of none of them and fits.
-use Rattle.std.proofs.Common.{◌≡◌, ℕ, ◌+◌, ◌<◌, ◌≤◌, Bool, true, false, cond, ◌&&◌, List, [], ◌∷◌, length, filter, refl, sym, ◌∙◌, ap, subst, inl, inr, arith}
+use Rattle.std.proofs.Common.{◌≡◌, ℕ, ◌+◌, ◌<◌, ◌≤◌, Bool, true, false, cond, List, [], ◌∷◌, length, filter, refl, sym, ap, subst, arith}
 use Rattle.std.specs.Prelude.{◌==◌, ◌-◌, nat_le}
 use Rattle.std.specs.Int.{bit_at}
 use Rattle.std.proofs.lemmas.Bool.{and_parts}
-use Rattle.std.proofs.lemmas.Bool.Decides.{eqb_tells, nat_tests}
+use Rattle.std.proofs.lemmas.Bool.Decides.{nat_tests}
 use Rattle.sg_facts.specs.sg_base.Lists.{Each}
 use Rattle.sg_facts.specs.declared.entry.Entry.{Entry}
-use Rattle.sg_facts.specs.declared.trace.Item.{Item}
-use Rattle.sg_facts.specs.declared.trace.Tag.{Tag}
-use Rattle.sg_facts.specs.declared.trace.Tag.TheVariants.{Walk, Load, Client}
 use Rattle.sg_facts.specs.Facts.{Facts, fun_at}
 use Rattle.sg_facts.specs.Fits.{Fits}
 use Rattle.sg_facts.specs.Interface.{Declared, declares}
 use Rattle.sg_plain.specs.sg_hist.Clients.{calls_of}
-use Rattle.sg_plain.specs.sg_hist.Reading.{is_tagged}
-use Rattle.sg_plain.specs.sg_hist.Recovered.{is_clients}
 use Rattle.sg_plain.specs.Calls.{script_calls}
 use Rattle.sg_plain.specs.Promises.{AreFirstCalls}
 use Rattle.sg_plain.specs.Script.{args_fit, calls_fit}
@@ -23,15 +18,10 @@ use Rattle.sg_plain.proofs.Playing.Resolving.{fits_at}
 use Rattle.sg_plain.specs.Playing.Callers.{IsCaller}
 use Rattle.sg_play.proofs.Offering.{no_desc}
 use Rattle.sg_world.proofs.sg_recovery_laws.Lists.{each_map}
-use Rattle.sg_plain.specs.sg_hist.Growing.{IsOfNoEntry}
 use Rattle.sg_plain.specs.sg_script.declared.script.Script.{Script}
 use Rattle.sg_plain.specs.sg_script.declared.script.ScriptCall.{ScriptCall}
 use Rattle.sg_plain.specs.sg_seat.WorldView.{Seat, is_offered}
 use Rattle.sg_play.proofs.Waking.Private.{IsFitCall}
-use Rattle.sg_facts.proofs.Replaying.Found.{other_test}
-
-pub test_same : (m n : ℕ) → (m == n) ≡ true → m ≡ n
-test_same m n is = elim (eqb_tells m n) [ inl same ↦ same.1 | inr apart ↦ absurd (cc (is, apart.0)) ]
 
 -- ---- numbers
 
@@ -61,28 +51,6 @@ entries_below facts script history client s is =
     unfiltered (λ e. e.call.seq ≤ s.seq) client history
     (each_map (λ e. e.call.seq < 1 + length (calls_of history client)) (λ e. e.call.seq ≤ s.seq) (calls_of history client) (λ e below. omega (arith, below, is.count))
     (numbers_below facts history client 1 (calls_of history client) (script_calls script client) is.made))
-
--- so an item of a greater number is of none
-pub none_of_next : (item : Item) (client seq last : ℕ) (history : List Entry) → item.tag ≡ Client client seq → last < seq → Each (λ e. (e.call.client == client) ≡ true → e.call.seq ≤ last) history → IsOfNoEntry item history
-none_of_next item client seq last [] tag more all = tt
-none_of_next item client seq last (e ∷ history) tag more all =
-    (ap (λ t. is_tagged e.call.client e.call.seq t) tag ∙ by (client == e.call.client) refl, none_of_next item client seq last history tag more all.1)
-  where
-    by : (b : Bool) → (client == e.call.client) ≡ b → (b && (seq == e.call.seq)) ≡ false
-    by false is = refl
-    by true is =
-        let own : (e.call.client == client) ≡ true = (let same : client ≡ e.call.client = test_same client e.call.client is in ap (λ n. n == client) (sym same) ∙ ap (λ n. client == n) same ∙ is) in
-        other_test seq e.call.seq (λ same. omega (arith, same, more, all.0 own))
-
--- what rebuilds or loads is of no client's call
-pub stub_tagged : (client seq : ℕ) (tag : Tag) → is_clients tag ≡ false → is_tagged client seq tag ≡ false
-stub_tagged client seq (Walk id k c) is = refl
-stub_tagged client seq (Load key c) is = refl
-stub_tagged client seq (Client c n) is = absurd (cc is)
-
-pub none_of_stub : (item : Item) (history : List Entry) → is_clients item.tag ≡ false → IsOfNoEntry item history
-none_of_stub item [] stub = tt
-none_of_stub item (e ∷ history) stub = (stub_tagged e.call.client e.call.seq item.tag stub, none_of_stub item history stub)
 
 -- ---- calls that fit
 

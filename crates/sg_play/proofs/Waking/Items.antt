@@ -8,11 +8,10 @@ use Rattle.sg_facts.specs.declared.entry.Entry.{Entry}
 use Rattle.sg_facts.specs.declared.trace.Item.{Item}
 use Rattle.sg_facts.specs.Facts.{Facts}
 use Rattle.sg_facts.specs.Trace.{Run}
-use Rattle.sg_plain.specs.sg_hist.Reading.{Position, is_by_guard, is_item_of, item_of, places_of}
+use Rattle.sg_plain.specs.sg_hist.Reading.{Position, is_by_guard, is_item_of, item_of, last_items, older_items, places_of}
 use Rattle.sg_plain.specs.sg_hist.Recovered.{GivesEntry, HasItem}
 use Rattle.sg_world.proofs.sg_recovery_laws.Lists.{each_map}
 use Rattle.sg_world.proofs.sg_recovery_laws.Served.{Has, each_reverse, found_has}
-use Rattle.sg_plain.specs.sg_hist.Growing.{last_items, older_items}
 use Rattle.sg_world.specs.sg_recovery_laws.LastItem.LastPlace.{HaveItems}
 use Rattle.sg_world.proofs.sg_world_laws.Items.{IsAmong, among_places, found_passes}
 

@@ -1,4 +1,4 @@
--- A play keeps its boots used and its waits woken, whatever happens in it.
+-- A play keeps its waits woken, whatever happens in it.
 use Rattle.std.proofs.Common.{◌≡◌, ℕ, ◌-◌, ◌≤◌, Bool, true, false, cond, ◌||◌, List, [], ◌∷◌, ◌++◌, length, refl, sym, ◌∙◌, ap, subst, inl, inr, arith, slice_set}
 use Rattle.sg_facts.specs.sg_base.Stops.{asked_after}
 use Rattle.sg_facts.specs.sg_base.declared.reply.Reply.{Reply}
@@ -9,7 +9,7 @@ use Rattle.sg_facts.specs.Object.{empty_object, object_of}
 use Rattle.sg_facts.specs.Trace.{Boot}
 use Rattle.sg_plain.specs.sg_hist.Recovered.{is_clients}
 use Rattle.sg_play.specs.Recovering.{RecoversSoFar}
-use Rattle.sg_plain.proofs.Playing.Lines.{length_set, seat_here}
+use Rattle.sg_plain.proofs.sg_seat.Lines.{length_set, seat_here}
 use Rattle.sg_plain.specs.Playing.Plays.{IsPlaying}
 use Rattle.sg_plain.specs.sg_hist.Growing.{noted}
 use Rattle.sg_plain.specs.sg_script.declared.script.Script.{Script}
@@ -17,10 +17,9 @@ use Rattle.sg_plain.specs.sg_seat.WorldView.{Seat, WorldView, happened, in_phase
 use Rattle.sg_plain.specs.sg_seat.declared.mark.MarkKind.TheVariants.{Leave}
 use Rattle.sg_plain.specs.sg_seat.declared.phase.Phase.{Phase}
 use Rattle.sg_plain.specs.sg_seat.declared.phase.Phase.TheVariants.{Idle, Asked, Held, Receipted, Blocked, Left}
-use Rattle.sg_play.proofs.Waking.Seats.{here_entered, length_entered, others_set}
-use Rattle.sg_play.proofs.Waking.Shapes.{answered_seats, call_is_own, entry_with, given_seats, seat_behind, woken}
-use Rattle.sg_play.proofs.Waking.Used.{used_kept}
-use Rattle.sg_play.proofs.Waking.Using.{used_step}
+use Rattle.sg_world.proofs.sg_world_laws.Ending.Seats.{here_entered, length_entered}
+use Rattle.sg_play.proofs.Waking.Shapes.{call_is_own}
+use Rattle.sg_world.proofs.sg_world_laws.Ending.Shapes.{answered_seats, entry_with, given_seats, seat_behind, woken}
 use Rattle.sg_play.proofs.Waking.Waiting.{legal_last, line_committed, line_noted, line_refused, line_returned, line_stopped, line_stub, woken_booted, woken_set, woken_struck}
 use Rattle.sg_play.proofs.Waking.Woken.{moves_free, moves_to, replied_goes, stopped_goes}
 use Rattle.sg_play.specs.Waking.Waking.{AreWokenSoFar, IsWaking, is_asking, no_query_waits}
@@ -113,7 +112,7 @@ module _ (z : Setting) (script : Script) (x : WorldView) (given : List (List ℕ
       (refl, refl) (λ asks. replied_goes l.asks.item.outcome l.outcome))
 
   pub stepped : (did : Did) (later now : WorldView) → LegalFrom z.iface z.ask empty_object later.history → Steps z x c did later → now ≡ happened later → IsWaking z now
-  stepped did later now legal steps counted = subst (IsWaking z) (sym counted) (record { used = used_step z x c first last its is.used did later steps; woken = λ queries. woken_step queries (is.woken queries) did later legal steps })
+  stepped did later now legal steps counted = subst (IsWaking z) (sym counted) (λ queries. woken_step queries (is queries) did later legal steps)
 
   -- who is handed its reply has no call under way then
   pub idle_step : (reply : Reply) (later : WorldView) → Steps z x c (Answered reply) later → (seat_of later c).phase ≡ Idle
@@ -150,9 +149,6 @@ waking_left z w c first last idle is = by (is_left_phase (seat_of w c).phase) re
     by : (b : Bool) → is_left_phase (seat_of w c).phase ≡ b → IsWaking z (happened (with_leave w c))
     by true left = absurd (let none : is_left_phase (seat_of w c).phase ≡ false = ap is_left_phase idle in cc (none, left))
     by false left =
-        subst (λ b. IsWaking z (happened (cond b w leaves))) (sym left) (record {
-          used = used_kept z.iface w.history w.history w.run.boots w.seats (slice_set w.seats (c - 1) new) c is.used (length_set w.seats (c - 1) new) (others_set w.seats c new first last) refl
-              (λ asked passes. cc (sym idle ∙ asked)) (λ holds. cc (ap (λ (t : Seat). t.phase) (sym (seat_here w.seats c new first last)) ∙ holds));
-          woken = λ queries. woken_set z.iface.facts w.history w.run.boots w.seats c new first last
-              (moves_free z.iface.facts (seat_of w c) new (omega arith) (λ offers. absurd (let none : is_offered (seat_of w c).phase ≡ false = ap is_offered idle in cc (none, offers))) refl refl) (is.woken queries);
-        })
+        subst (λ b. IsWaking z (happened (cond b w leaves))) (sym left)
+        (λ queries. woken_set z.iface.facts w.history w.run.boots w.seats c new first last
+        (moves_free z.iface.facts (seat_of w c) new (omega arith) (λ offers. absurd (let none : is_offered (seat_of w c).phase ≡ false = ap is_offered idle in cc (none, offers))) refl refl) (is queries))

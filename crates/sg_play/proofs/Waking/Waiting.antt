@@ -16,30 +16,34 @@ use Rattle.sg_facts.specs.Interface.{Declared}
 use Rattle.sg_facts.specs.Legal.{LegalFrom, Table, answer}
 use Rattle.sg_facts.specs.Object.{Object, after, object_from, object_of}
 use Rattle.sg_facts.specs.Trace.{Boot}
-use Rattle.sg_plain.specs.sg_hist.Reading.{Position, is_by_guard, is_item_of, is_tagged, places_from}
+use Rattle.sg_plain.specs.sg_hist.Reading.{Position, is_by_guard, is_item_of, is_tagged, last_items, older_items, places_from, last_places}
 use Rattle.sg_plain.specs.sg_hist.Recovered.{is_clients}
-use Rattle.sg_plain.specs.Plain.{wakes}
-use Rattle.sg_plain.specs.Promises.{IsWokenBetween, has_blocked, wakes_at}
+use Rattle.sg_plain.specs.sg_hist.Wakes.{has_blocked, wakes, wakes_at}
+use Rattle.sg_plain.specs.Promises.{IsWokenBetween}
 use Rattle.sg_play.specs.Recovering.{RecoversSoFar}
-use Rattle.sg_plain.proofs.Playing.Lines.{same_or_other}
+use Rattle.sg_plain.proofs.sg_seat.Lines.{same_or_other}
 use Rattle.sg_plain.specs.Playing.Callers.{IsCaller}
 use Rattle.sg_plain.specs.Playing.Plays.{IsPlaying}
 use Rattle.sg_plain.proofs.sg_hist.Growing.{places-booted, places-struck}
-use Rattle.sg_plain.specs.sg_hist.Growing.{IsGrown, IsOfNoEntry, booted, last_items, noted, older_items, struck}
+use Rattle.sg_plain.specs.sg_hist.Growing.{IsGrown, IsOfNoEntry, booted, noted, struck}
 use Rattle.sg_plain.specs.sg_script.declared.script.Script.{Script}
 use Rattle.sg_plain.specs.sg_seat.WorldView.{Seat, WorldView, is_blocked_phase, is_held_phase, is_offered, seat_in, seat_of, wakes_seat, woken_seat}
 use Rattle.sg_plain.specs.sg_seat.declared.phase.Phase.{Phase}
 use Rattle.sg_plain.specs.sg_seat.declared.phase.Phase.TheVariants.{Idle, Asked, Held, Receipted, Blocked, Left}
 use Rattle.sg_world.specs.sg_recovery_laws.LastItem.LastPlace.{last_place}
 use Rattle.sg_play.proofs.Waking.Between.{between_same, own_tag}
-use Rattle.sg_play.proofs.Waking.Calls.{entries_below, fit_call, none_of_next, none_of_stub, test_same}
+use Rattle.sg_play.proofs.Waking.Calls.{entries_below, fit_call}
+use Rattle.sg_world.proofs.sg_world_laws.Ending.Calls.{none_of_next, none_of_stub, test_same}
 use Rattle.sg_play.proofs.Waking.Items.{have_items}
 use Rattle.sg_play.proofs.Waking.Private.{unwoken}
-use Rattle.sg_play.proofs.Waking.Seats.{each_entered, each_set, each_woken}
-use Rattle.sg_play.proofs.Waking.Shapes.{call_is_next, call_is_own, entry_with, seat_behind, woken}
-use Rattle.sg_play.proofs.Waking.Wakers.{wakes_entered, wakes_last, wakes_noted, wakes_refused}
+use Rattle.sg_world.proofs.sg_world_laws.Ending.Seats.{each_entered, each_set, each_woken}
+use Rattle.sg_play.proofs.Waking.Shapes.{call_is_next, call_is_own}
+use Rattle.sg_world.proofs.sg_world_laws.Ending.Shapes.{entry_with, seat_behind, woken}
+use Rattle.sg_world.proofs.sg_world_laws.Ending.Wakers.{wakes_entered, wakes_last, wakes_noted, wakes_refused}
 use Rattle.sg_play.proofs.Waking.Woken.{Moves, all_noted, goes_on_waits, moves_free, moves_same, other_made, other_waits, seat_booted, seat_moved, seat_noted, seat_struck, seat_woken_by, stub_made, stub_waits}
-use Rattle.sg_play.specs.Waking.Waking.{AreWokenSoFar, EachSeat, IsMadeSoFar, IsWokenSeat, IsWokenSince, is_asking, last_places, no_query_waits, waking_entries}
+use Rattle.sg_play.specs.Waking.Waking.{AreWokenSoFar, IsMadeSoFar, IsWokenSeat, IsWokenSince, is_asking, no_query_waits}
+use Rattle.sg_world.specs.sg_world_laws.Ending.{EachSeat}
+use Rattle.sg_plain.specs.sg_hist.Ending.{waking_entries}
 use Rattle.sg_world.proofs.sg_world_laws.Refusing.{by_the_guard}
 use Rattle.sg_world.specs.sg_world_laws.Setting.{Setting}
 

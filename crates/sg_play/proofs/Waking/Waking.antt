@@ -1,6 +1,6 @@
--- What a play keeps so that who waits is woken before it waits again, and no service is booted for nothing: it holds of a new world, it is
--- kept by all that happens, and it gives both promises.
-use Rattle.std.proofs.Common.{◌≡◌, ◌⊎◌, ℕ, zero, suc, ◌+◌, ◌-◌, ◌≤◌, Bool, true, false, cond, List, [], None, Some, length, refl, sym, ◌∙◌, ap, subst, inl, inr, arith, slice_set}
+-- What a play keeps so that who waits is woken before it waits again: it holds of a new world, it is kept by all that happens, and it
+-- gives the promise.
+use Rattle.std.proofs.Common.{◌≡◌, ℕ, zero, suc, ◌+◌, ◌-◌, ◌≤◌, Bool, true, false, cond, List, [], None, Some, length, refl, sym, ◌∙◌, ap, subst, arith}
 use Rattle.std.specs.Prelude.{nat_lt, replicate, slice_get, unwrap_or}
 use Rattle.std.specs.declared.option.Option.{Option}
 use Rattle.sg_facts.specs.sg_base.declared.call.Call.{Call}
@@ -10,25 +10,23 @@ use Rattle.sg_facts.specs.Object.{empty_object}
 use Rattle.sg_facts.specs.sg_base.Lists.{Each}
 use Rattle.sg_plain.specs.sg_hist.Clients.{calls_of}
 use Rattle.sg_plain.specs.sg_hist.Reading.{places_from}
-use Rattle.sg_plain.specs.sg_hist.Recovered.{EndsUsed}
+use Rattle.sg_plain.specs.sg_hist.Ending.{waking_entries}
 use Rattle.sg_plain.specs.Calls.{call_after, script_calls}
 use Rattle.sg_plain.specs.Promises.{AreWoken, IsWokenBetween}
 use Rattle.sg_play.specs.Recovering.{RecoversSoFar}
 use Rattle.sg_play.specs.Turning.{StepsInTurn, behind_step, with_call, with_offer}
 use Rattle.sg_plain.proofs.Playing.Calling.{next_of}
-use Rattle.sg_plain.proofs.Playing.Lines.{length_set, seat_here}
 use Rattle.sg_plain.specs.Playing.Plays.{IsPlaying}
-use Rattle.sg_plain.specs.Playing.Turns.{NobodyGoes, is_free_phase, may_go}
+use Rattle.sg_plain.specs.Playing.Turns.{is_free_phase}
 use Rattle.sg_plain.specs.sg_script.declared.script.Script.{Script}
 use Rattle.sg_plain.specs.sg_seat.WorldView.{Seat, WorldView, happened, in_phase, is_held_phase, is_left_phase, is_offered, new_world, no_seat, seat_of, with_leave, with_mark}
 use Rattle.sg_plain.specs.sg_seat.declared.mark.MarkKind.TheVariants.{Leave}
 use Rattle.sg_plain.specs.sg_seat.declared.phase.Phase.{Phase}
 use Rattle.sg_plain.specs.sg_seat.declared.phase.Phase.TheVariants.{Idle, Asked, Held, Receipted, Blocked, Left}
 use Rattle.sg_play.proofs.Waking.Between.{between_none}
-use Rattle.sg_play.proofs.Waking.Seats.{each_set, others_set}
-use Rattle.sg_play.proofs.Waking.Used.{used_kept}
+use Rattle.sg_world.proofs.sg_world_laws.Ending.Seats.{each_set}
 use Rattle.sg_play.proofs.Waking.Woken.{seat_offered}
-use Rattle.sg_play.specs.Waking.Waking.{IsWaking, IsWokenSeat, SomebodyAsks, no_query_waits, waking_entries}
+use Rattle.sg_play.specs.Waking.Waking.{IsWaking, IsWokenSeat, no_query_waits}
 use Rattle.sg_world.specs.declared.did.Did.{Did}
 use Rattle.sg_world.specs.declared.did.Did.TheVariants.{Answered, Blocked as Waits, Booted, Loaded, Lost, Replayed, Served, Skipped, Struck}
 use Rattle.sg_world.specs.Steps.{Steps, WantsMemory}
@@ -90,16 +88,11 @@ waking_offer z script w given client playing first last is =
     asks call free next =
         let new : Seat = record (seat_of w client) { phase = Asked; call = call } in
         let entries : List Entry = waking_entries z.iface.facts w.history in
-        record {
-          used = used_kept z.iface w.history w.history w.run.boots w.seats (slice_set w.seats (client - 1) new) client is.used (length_set w.seats (client - 1) new) (others_set w.seats client new first last) refl
-              (λ asked passes. let wrong : is_free_phase (seat_of w client).phase ≡ false = ap is_free_phase asked in cc (wrong, free))
-              (λ holds. cc (ap (λ (t : Seat). t.phase) (sym (seat_here w.seats client new first last)) ∙ holds));
-          woken = λ queries. record {
-            woken = (is.woken queries).woken;
-            each = each_set (IsWokenSeat z.iface.facts entries w.run.boots) w.seats client new first last
-                (seat_offered z.iface.facts entries w.run.boots client (seat_of w client) call (free_offers (seat_of w client).phase free) next ((is.woken queries).each client first last))
-                (λ other from to apart. (is.woken queries).each other from to);
-          };
+        λ queries. record {
+          woken = (is queries).woken;
+          each = each_set (IsWokenSeat z.iface.facts entries w.run.boots) w.seats client new first last
+              (seat_offered z.iface.facts entries w.run.boots client (seat_of w client) call (free_offers (seat_of w client).phase free) next ((is queries).each client first last))
+              (λ other from to apart. (is queries).each other from to);
         }
 
     by : (b : Bool) → is_free_phase (seat_of w client).phase ≡ b → (o : Option Call) → call_after z.iface.facts script w.history client (length (calls_of w.history client)) ≡ o → IsWaking z (with_offer z.iface.facts script w client)
@@ -115,11 +108,11 @@ waking_offer z script w given client playing first last is =
 
 -- an event is counted
 pub waking_happened : (z : Setting) (w : WorldView) → IsWaking z w → IsWaking z (happened w)
-waking_happened z w is = record { used = is.used; woken = is.woken }
+waking_happened z w is = is
 
 -- a step wanted memory
 pub waking_wanted : (z : Setting) (x now : WorldView) (client : ℕ) → WantsMemory z x client now → IsWaking z x → IsWaking z now
-waking_wanted z x now client wants is = subst (IsWaking z) (sym wants.counted) (record { used = is.used; woken = is.woken })
+waking_wanted z x now client wants is = subst (IsWaking z) (sym wants.counted) is
 
 nobody_at : (n k : ℕ) → unwrap_or (slice_get (replicate n no_seat) k) no_seat ≡ no_seat
 nobody_at zero k = refl
@@ -128,31 +121,15 @@ nobody_at (suc n) (suc k) = nobody_at n k
 
 -- in a new world nothing was done
 pub waking_new : (z : Setting) (w : WorldView) (n : ℕ) → w ≡ new_world (replicate n no_seat) → IsWaking z w
-waking_new z w n new = subst (IsWaking z) (sym new) (record {
-  used = record {
-    used = inl tt;
-    held = λ client from to holds. cc (ap (λ (t : Seat). t.phase) (sym (nobody_at n (client - 1))) ∙ holds);
-  };
-  woken = λ queries. record {
-    woken = tt;
-    each = λ client from to. record { items = tt; since = λ asks. tt; visible = λ all. ap (λ (t : Seat). is_held_phase t.phase) (nobody_at n (client - 1)) };
-  };
+waking_new z w n new = subst (IsWaking z) (sym new) (λ queries. record {
+  woken = tt;
+  each = λ client from to. record { items = tt; since = λ asks. tt; visible = λ all. ap (λ (t : Seat). is_held_phase t.phase) (nobody_at n (client - 1)) };
 })
 
 -- between two waits of a call in one boot stands an entry that wakes it
 pub waking_woken : (z : Setting) (w : WorldView) → no_query_waits z.iface.facts ≡ true → IsWaking z w → AreWoken z.iface.facts w.history w.run
-waking_woken z w queries is = by z.iface.facts.global (is.woken queries).woken
+waking_woken z w queries is = by z.iface.facts.global (is queries).woken
   where
     by : (g : Bool) → Each (λ p. IsWokenBetween z.iface.facts (cond g w.history []) p p.item.tag) (places_from [] w.run.boots) → Each (λ p. IsWokenBetween z.iface.facts w.history p p.item.tag) (places_from [] w.run.boots)
     by true all = all
     by false all = between_none z.iface.facts w.history (places_from [] w.run.boots) all
-
--- where nobody may take a turn, no service was booted for nothing
-pub waking_used : (z : Setting) (script : Script) (w : WorldView) → IsWaking z w → NobodyGoes script w.seats → EndsUsed w.run.boots
-waking_used z script w is nobody = by is.used.used
-  where
-    by : EndsUsed w.run.boots ⊎ SomebodyAsks z.iface w.history w.seats → EndsUsed w.run.boots
-    by (inl used) = used
-    by (inr asks) =
-        let more = nat_lt (seat_of w asks.client).seq (length (script_calls script asks.client)) in
-        absurd (let goes : may_go (seat_of w asks.client).phase more ≡ true = ap (λ p. may_go p more) asks.phase in let none = nobody asks.client asks.first asks.last in cc (goes, none))

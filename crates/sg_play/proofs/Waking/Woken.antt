@@ -11,18 +11,20 @@ use Rattle.sg_facts.specs.declared.trace.Tag.{Tag}
 use Rattle.sg_facts.specs.declared.trace.Tag.TheVariants.{Walk, Load, Client}
 use Rattle.sg_facts.specs.Facts.{Facts}
 use Rattle.sg_facts.specs.Trace.{Boot}
-use Rattle.sg_plain.specs.sg_hist.Reading.{Position, is_tagged, places_from, places_in}
+use Rattle.sg_plain.specs.sg_hist.Reading.{Position, is_tagged, last_items, older_items, places_from, places_in, last_places}
 use Rattle.sg_plain.specs.sg_hist.Recovered.{is_clients, is_replied}
-use Rattle.sg_plain.specs.Promises.{IsWokenBetween, has_blocked, wakes_at}
+use Rattle.sg_plain.specs.Promises.{IsWokenBetween}
+use Rattle.sg_plain.specs.sg_hist.Wakes.{has_blocked, wakes_at}
 use Rattle.sg_world.proofs.sg_recovery_laws.Lists.{each_map, each_push}
-use Rattle.sg_plain.specs.sg_hist.Growing.{IsGrown, booted, last_items, noted, older_items, struck}
+use Rattle.sg_plain.specs.sg_hist.Growing.{IsGrown, booted, noted, struck}
 use Rattle.sg_plain.specs.sg_seat.WorldView.{Seat, is_held_phase, is_offered}
 use Rattle.sg_plain.specs.sg_seat.declared.phase.Phase.TheVariants.{Asked, Blocked}
 use Rattle.sg_world.specs.sg_recovery_laws.LastItem.LastPlace.{last_place}
 use Rattle.sg_play.proofs.Waking.Between.{since_more, since_same, since_woken}
-use Rattle.sg_play.proofs.Waking.Boots.{at_places, between_noted, items_booted, items_noted, items_struck, places_last_booted, places_last_struck, places_noted}
-use Rattle.sg_play.proofs.Waking.Calls.{stub_tagged, test_same}
-use Rattle.sg_play.specs.Waking.Waking.{IsItsOffer, IsMadeSoFar, IsWokenSeat, IsWokenSince, is_asking, last_places}
+use Rattle.sg_play.proofs.Waking.Boots.{at_places, between_noted}
+use Rattle.sg_world.proofs.sg_world_laws.Ending.Boots.{items_booted, items_noted, items_struck, places_last_booted, places_last_struck, places_noted}
+use Rattle.sg_world.proofs.sg_world_laws.Ending.Calls.{stub_tagged, test_same}
+use Rattle.sg_play.specs.Waking.Waking.{IsItsOffer, IsMadeSoFar, IsWokenSeat, IsWokenSince, is_asking}
 use Rattle.sg_facts.proofs.Replaying.Found.{other_test}
 
 -- ---- a seat that changes

@@ -1,5 +1,5 @@
--- What a play keeps of its boots and its waits: no service is booted for nothing, and who waits is woken before it waits again.
-use Rattle.std.specs.Prelude.{ℕ, ◌≡◌, ◌⊎◌, ◌≤◌, Bool, true, false, ◌&&◌, ◌||◌, not, if◌then◌else◌, List, [], ◌∷◌, ◌++◌, None, length}
+-- What a play keeps of its waits: who waits is woken before it waits again.
+use Rattle.std.specs.Prelude.{ℕ, ◌≡◌, ◌⊎◌, ◌≤◌, Bool, true, false, ◌&&◌, ◌||◌, not, List, [], ◌∷◌, ◌++◌}
 use Rattle.std.specs.List.{list_all, list_any}
 use Rattle.sg_facts.specs.sg_base.Lists.{Each}
 use Rattle.sg_facts.specs.sg_base.declared.call.Call.{Call}
@@ -7,48 +7,16 @@ use Rattle.sg_facts.specs.declared.entry.Entry.{Entry}
 use Rattle.sg_facts.specs.declared.trace.Tag.{Tag}
 use Rattle.sg_facts.specs.declared.trace.Tag.TheVariants.{Walk, Load, Client}
 use Rattle.sg_facts.specs.Facts.{Facts}
-use Rattle.sg_facts.specs.Guard.{guard}
-use Rattle.sg_facts.specs.Interface.{Declared}
-use Rattle.sg_facts.specs.Object.{object_of}
 use Rattle.sg_facts.specs.Trace.{Boot}
-use Rattle.sg_plain.specs.sg_hist.Reading.{Position, is_tagged, places_from, places_in}
-use Rattle.sg_plain.specs.sg_hist.Recovered.{EndsUsed}
-use Rattle.sg_plain.specs.Promises.{IsWokenBetween, has_blocked, wakes_at}
-use Rattle.sg_plain.specs.sg_hist.Growing.{last_items, older_items}
-use Rattle.sg_plain.specs.sg_seat.WorldView.{Seat, WorldView, is_held_phase, is_offered, seat_in}
+use Rattle.sg_plain.specs.sg_hist.Reading.{last_places, Position, is_tagged, last_items, places_from, places_in}
+use Rattle.sg_plain.specs.sg_hist.Ending.{waking_entries}
+use Rattle.sg_plain.specs.Promises.{IsWokenBetween}
+use Rattle.sg_plain.specs.sg_hist.Wakes.{has_blocked, wakes_at}
+use Rattle.sg_plain.specs.sg_seat.WorldView.{Seat, WorldView, is_held_phase, is_offered}
 use Rattle.sg_plain.specs.sg_seat.declared.phase.Phase.{Phase}
 use Rattle.sg_plain.specs.sg_seat.declared.phase.Phase.TheVariants.{Idle, Asked, Held, Receipted, Blocked, Left}
+use Rattle.sg_world.specs.sg_world_laws.Ending.{EachSeat}
 use Rattle.sg_world.specs.sg_world_laws.Setting.{Setting}
-
--- a fact of each client's seat
-abbrev pub EachSeat : (ℕ → Seat → Type 0) → List Seat → Type 0
-EachSeat P seats = (client : ℕ) → 1 ≤ client → client ≤ length seats → P client (seat_in seats client)
-
--- ---- boots
-
--- somebody will ask the service in its next turn: its call is asked, and the guard lets it pass
-pub record SomebodyAsks (i : Declared) (history : List Entry) (seats : List Seat) : Type 0 where
-  pub client : ℕ
-  pub first : 1 ≤ client
-  pub last : client ≤ length seats
-  pub phase : (seat_in seats client).phase ≡ Asked
-  pub passes : guard i (object_of i.facts history) (seat_in seats client).call ≡ None
-
--- a reply that is held was given in one of the boots, which is used if it is the last
-pub record IsHeldUsed (boots : List Boot) (s : Seat) : Type 0 where
-  pub within : s.boot ≤ length boots
-  pub used : s.boot ≡ length boots → EndsUsed boots
-
--- the last boot is used, where it isn't the first, or somebody will use it
-pub record IsUsedSoFar (i : Declared) (history : List Entry) (boots : List Boot) (seats : List Seat) : Type 0 where
-  pub used : EndsUsed boots ⊎ SomebodyAsks i history seats
-  pub held : EachSeat (λ client s. s.phase ≡ Held → IsHeldUsed boots s) seats
-
--- ---- waits
-
--- the entries that may wake who waits: in a private service none wakes another client, and who waits does so until the next boot
-abbrev pub waking_entries : Facts → List Entry → List Entry
-waking_entries facts history = if facts.global then history else []
 
 -- in a private service no query waits. It is on no descriptor, so that a reply of another client that is on none would wake it, also
 -- one that was held and whose item stands before the wait
@@ -63,10 +31,6 @@ waits_at client seq p = is_tagged client seq p.item.tag && has_blocked p.item.ou
 abbrev pub IsWokenSince : Facts → List Entry → ℕ → ℕ → Position → Type 0
 IsWokenSince facts history client seq p =
     waits_at client seq p ≡ true → list_any (wakes_at facts history p.item.shown.desc) (places_in p.older (p.front ++ p.item ∷ []) p.rest p.newer) ≡ true
-
--- the places in the last boot
-abbrev pub last_places : List Boot → List Position
-last_places boots = places_in (older_items [] boots) [] (last_items boots) []
 
 -- a call of a number is the one of a seat that isn't answered
 abbrev pub IsItsOffer : Seat → Call → ℕ → Type 0
@@ -99,7 +63,6 @@ pub record AreWokenSoFar (facts : Facts) (history : List Entry) (boots : List Bo
   pub woken : Each (λ p. IsWokenBetween facts (waking_entries facts history) p p.item.tag) (places_from [] boots)
   pub each : EachSeat (IsWokenSeat facts (waking_entries facts history) boots) seats
 
--- what a play keeps of both
-pub record IsWaking (z : Setting) (w : WorldView) : Type 0 where
-  pub used : IsUsedSoFar z.iface w.history w.run.boots w.seats
-  pub woken : no_query_waits z.iface.facts ≡ true → AreWokenSoFar z.iface.facts w.history w.run.boots w.seats
+-- what a play keeps of its waits
+abbrev pub IsWaking : Setting → WorldView → Type 0
+IsWaking z w = no_query_waits z.iface.facts ≡ true → AreWokenSoFar z.iface.facts w.history w.run.boots w.seats

@@ -1,10 +1,10 @@
 -- What each item owes when it is noted, from what stands in the service and is told: that it is settled at the object of the whole history.
-use Rattle.std.proofs.Common.{◌≡◌, ℕ, suc, ◌+◌, ◌-◌, ◌<◌, Bool, true, false, cond, not, List, [], ◌∷◌, ◌++◌, None, Some, length, map, filter, refl, sym, ◌∙◌, ap, subst, inl, inr, ◌⊎◌, arith}
-use Rattle.std.specs.Prelude.{◌==◌, ◌||◌, ◌&&◌, find, nat_le, nat_lt, slice_get}
+use Rattle.std.proofs.Common.{◌≡◌, ◌≢◌, ℕ, suc, ◌+◌, ◌-◌, ◌<◌, ◌≤◌, Bool, true, false, cond, not, List, [], ◌∷◌, ◌++◌, None, Some, length, map, filter, refl, sym, ◌∙◌, ap, subst, inl, inr, ◌⊎◌, arith}
+use Rattle.std.specs.Prelude.{◌==◌, ◌||◌, ◌&&◌, find, nat_lt, slice_get}
 use Rattle.std.specs.List.{list_all, list_any}
 use Rattle.std.specs.declared.option.Option.{Option}
 use Rattle.std.proofs.lemmas.Bool.Decides.{nat_tests}
-use Rattle.sg_facts.specs.sg_base.Lists.{Each}
+use Rattle.sg_facts.specs.sg_base.Lists.{Each, When}
 use Rattle.sg_facts.specs.sg_base.declared.call.Call.{Call}
 use Rattle.sg_facts.specs.declared.entry.Entry.{Entry}
 use Rattle.sg_facts.specs.declared.row.Row.{Row}
@@ -15,19 +15,20 @@ use Rattle.sg_facts.specs.Guard.{guard}
 use Rattle.sg_facts.specs.Interface.{Declared}
 use Rattle.sg_facts.specs.Laws.{is_none}
 use Rattle.sg_facts.specs.Needs.{is_needed, is_wanted, needs, wanted}
-use Rattle.sg_facts.specs.Object.{Object, object_of}
+use Rattle.sg_facts.specs.Object.{Object, file_at, object_of}
 use Rattle.sg_facts.specs.Sound.{IsRow, IsSound}
 use Rattle.sg_facts.specs.Track.{is_live, row_at}
 use Rattle.sg_facts.specs.Walks.{replayed_call}
 use Rattle.sg_facts.proofs.RowLists.{live_of_row}
-use Rattle.sg_hist.specs.Clients.{calls_of}
 use Rattle.sg_hist.specs.Reading.{Position, is_by_guard, is_made, is_item_of, is_rebuilt_at, is_whole_at, names_at, object_before, places_in, stands_before, value_at, walk_in}
-use Rattle.sg_hist.specs.Recovered.{IsAdmitted, IsAlikeTo, IsCallOf, IsCallOfRow, IsLoad, IsOkOrStopped, IsLoadedFor, IsTracked, IsUnderWay as IsMade, call_in, is_walk_of}
+use Rattle.sg_hist.specs.Recovered.{IsAdmitted, IsAlikeTo, IsCallOf, IsCallOfRow, IsOkOrStopped, IsLoadedFor, IsTracked, IsUnderWay as IsMade, is_answered_before, is_answered_later, call_in, is_walk_of, item_of_load}
 use Rattle.sg_hist.specs.Growing.{IsOfNoEntry}
 use Rattle.sg_recovery_laws.specs.Midway.Progress.{Told, fresh, begun, complete, TellsCalls, IsNone, is_complete}
 use Rattle.sg_recovery_laws.specs.LastItem.Told.{IsRead}
 use Rattle.sg_recovery_laws.proofs.Objects.Apart.{Ascends}
 use Rattle.sg_recovery_laws.specs.LastItem.LastPlace.{HaveItems, last_place}
+use Rattle.sg_recovery_laws.proofs.Stays.{when_not, when_own}
+use Rattle.sg_recovery_laws.proofs.UnderWay.{AreBelow, AreFrom, of_below, of_from}
 use Rattle.sg_recovery_laws.proofs.LastItem.Behind.{all_mapped, each_filtered, object_before_last, whole_last}
 use Rattle.sg_facts.proofs.Replaying.Found.{met, other_test, same_test}
 
@@ -113,45 +114,28 @@ module _ (i : Declared) (walks : List WalkLine) (history : List Entry) (u : List
       at false true true is has = absurd (cc is)
       at false false i is has = absurd (cc has)
 
-  all_of : (f : Entry → Bool) (client : ℕ) (h : List Entry) → Each (λ e. (e.call.client == client) ≡ true → f e ≡ true) h → list_all f (calls_of h client) ≡ true
-  all_of f client [] each = refl
-  all_of f client (e ∷ h) each = at (e.call.client == client) refl (all_of f client h each.1)
-    where
-      at : (b : Bool) → (e.call.client == client) ≡ b → list_all f (calls_of h client) ≡ true → list_all f (cond b (e ∷ calls_of h client) (calls_of h client)) ≡ true
-      at true is rest = ap (λ b. b && list_all f (calls_of h client)) (each.0 is) ∙ rest
-      at false is rest = rest
-
   pub under_way_last : (client : ℕ) (call : Call) → IsCallOf history u client call → Each (λ e. (e.call.client == client) ≡ true → e.call.seq < call.seq) history
-      → IsMade history u (last_place older front item) client call
+      → IsMade i.facts history u (last_place older front item) client call
   under_way_last client call its seqs = record {
     its = its;
-    above = all_of (λ e. not (stands_before (last_place older front item) e) || nat_lt e.call.seq call.seq) client history (above history seqs);
-    first = all_of (λ e. is_by_guard e.reply || stands_before (last_place older front item) e || nat_le call.seq e.call.seq) client history (first history (stands_all history none items));
+    above = of_below i.facts p client call.seq history (above history seqs);
+    first = of_from p client call.seq false history (first history (stands_all history none items));
   }
     where
-      or_true : (a b : Bool) → b ≡ true → (a || b) ≡ true
-      or_true true b is = refl
-      or_true false b is = is
+      p : Position
+      p = last_place older front item
 
-      above : (h : List Entry) → Each (λ e. (e.call.client == client) ≡ true → e.call.seq < call.seq) h
-          → Each (λ e. (e.call.client == client) ≡ true → (not (stands_before (last_place older front item) e) || nat_lt e.call.seq call.seq) ≡ true) h
+      above : (h : List Entry) → Each (λ e. (e.call.client == client) ≡ true → e.call.seq < call.seq) h → AreBelow i.facts p client call.seq h
       above [] each = tt
-      above (e ∷ h) each = (λ own. or_true (not (stands_before (last_place older front item) e)) (nat_lt e.call.seq call.seq) (let less = each.0 own in grind (arith, nat_tests, less)), above h each.1)
+      above (e ∷ h) each = (when_own (e.call.client == client) (is_answered_before i.facts p e h) _ each.0, above h each.1)
 
-      three : (a b c : Bool) → (a || b) ≡ true → (a || (b || c)) ≡ true
-      three true b c is = refl
-      three false true c is = refl
-      three false false c is = absurd (cc is)
-
-      first : (h : List Entry) → Each (λ e. (is_by_guard e.reply || stands_before (last_place older front item) e) ≡ true) h
-          → Each (λ e. (e.call.client == client) ≡ true → (is_by_guard e.reply || stands_before (last_place older front item) e || nat_le call.seq e.call.seq) ≡ true) h
+      first : (h : List Entry) → Each (λ e. (is_by_guard e.reply || stands_before p e) ≡ true) h → AreFrom p client call.seq false h
       first [] each = tt
-      first (e ∷ h) each = (λ own. assoc (is_by_guard e.reply) (stands_before (last_place older front item) e) (nat_le call.seq e.call.seq) each.0, first h each.1)
-        where
-          assoc : (a b c : Bool) → (a || b) ≡ true → (a || b || c) ≡ true
-          assoc true b c is = refl
-          assoc false true c is = refl
-          assoc false false c is = absurd (cc is)
+      first (e ∷ h) each =
+          let now : is_answered_later p e ≡ false = ap not each.0 in (
+            subst (λ b. When ((e.call.client == client) && b) (call.seq ≤ e.call.seq)) (sym now) (when_not (e.call.client == client) _),
+            subst (λ b. AreFrom p client call.seq b h) (sym now) (first h each.1),
+          )
 
   -- which the guard lets pass
   pub admitted_last : (client : ℕ) (call : Call) → IsCallOf history u client call → Each (λ e. (e.call.client == client) ≡ true → e.call.seq < call.seq) history → guard i o call ≡ None
@@ -222,13 +206,15 @@ module _ (i : Declared) (walks : List WalkLine) (history : List Entry) (u : List
 
   -- a load
   pub load_settled : (client : ℕ) (key : List ℕ) (call : Call) → IsCallOf history u client call → Each (λ e. (e.call.client == client) ≡ true → e.call.seq < call.seq) history
-      → ((r : Row) → row_at o.rows r.id ≡ Some r → is_wanted i o.rows call r ≡ true → told r.id ≡ complete) → (needs i.facts o call).file ≡ Some key → present key ≡ false → IsLoad o key item.outcome → guard i o call ≡ None
+      → ((r : Row) → row_at o.rows r.id ≡ Some r → is_wanted i o.rows call r ≡ true → told r.id ≡ complete) → (needs i.facts o call).file ≡ Some key → present key ≡ false
+      → file_at o.files key ≢ [] → item ≡ item_of_load client item.points key (file_at o.files key) → guard i o call ≡ None
       → IsLoadedFor i walks history u (last_place older front item) client key
-  load_settled client key call its seqs complete_told file absent load passes = record {
+  load_settled client key call its seqs complete_told file absent some load passes = record {
     call = call;
     admitted = admitted_last client call its seqs passes;
     rows = subst (λ x. list_all (is_whole_at i.facts walks history (last_place older front item)) (wanted i x call).ids ≡ true) (sym object_is) (wanted_whole call complete_told);
     file = subst (λ x. (needs i.facts x call).file ≡ Some key) (sym object_is) file;
     absent = read.files key ∙ absent;
-    whole = subst (λ x. IsLoad x key item.outcome) (sym object_is) load;
+    some = subst (λ (x : Object). file_at x.files key ≢ []) (sym object_is) some;
+    load = subst (λ (x : Object). item ≡ item_of_load client item.points key (file_at x.files key)) (sym object_is) load;
   }

@@ -33,7 +33,8 @@ use Rattle.sg_facts.proofs.RowLists.{changed}
 use Rattle.sg_facts.proofs.Replaying.Found.{all_found, met}
 use Rattle.sg_recovery_laws.proofs.Objects.Guarded.{acts, keeps as keeps_to_it, let_pass}
 use Rattle.sg_recovery_laws.proofs.Objects.Reachable.{IsNoText, made_reachable, moved_reachable}
-use Rattle.sg_recovery_laws.specs.LastItem.Asked.{IsClientsCall, IsComeTo}
+use Rattle.sg_recovery_laws.specs.LastItem.Asked.{IsComeTo}
+use Rattle.sg_hist.specs.Clients.{IsClientsCall}
 use Rattle.sg_recovery_laws.proofs.LastItem.Sound.{come_on, nothing_yet}
 
 -- ---- fields that effects change hold no text

@@ -1,5 +1,5 @@
 -- An entry that stands before no item yet may be put before held replies: the run recovers with it there as it does with it after them.
-use Rattle.std.proofs.Common.{◌≡◌, ℕ, Bool, true, false, cond, not, List, [], ◌∷◌, ◌++◌, None, Some, map, filter, refl, sym, ◌∙◌, ap, subst, inl, inr, ◌⊎◌, append_assoc, append-nil, arith}
+use Rattle.std.proofs.Common.{◌≡◌, ℕ, Bool, true, false, cond, not, List, [], ◌∷◌, ◌++◌, None, Some, map, filter, ◌≤◌, ◌<◌, refl, sym, ◌∙◌, ap, subst, inl, inr, ◌⊎◌, append_assoc, append-nil, arith}
 use Rattle.std.specs.Prelude.{◌==◌, ◌≢◌, ◌||◌, ◌&&◌, find}
 use Rattle.std.specs.List.{Contains, list_all, list_any}
 use Rattle.std.specs.declared.option.Option.{Option}
@@ -20,13 +20,14 @@ use Rattle.sg_facts.specs.Object.{object_of}
 use Rattle.sg_facts.specs.Trace.{Run}
 use Rattle.sg_hist.specs.Clients.{calls_of}
 use Rattle.sg_hist.specs.Reading.{Position, items_after, desc_in, entries_before, id_given, is_by_guard, is_made, is_item_of, is_ok, is_rebuilt_at, item_of, made_by, names_at, names_in, pair_of, places_in, places_of, stands_before}
-use Rattle.sg_hist.specs.Recovered.{AreInOrder, ComeBefore, HasItem, IsCommitted, IsDemanded, IsItsCall, IsTrackedAt, IsUnderWay, IsWalked, Stubs, calls_made, is_entered, is_visible_reply}
-use Rattle.sg_hist.specs.Growing.{IsRecovering}
+use Rattle.sg_hist.specs.Recovered.{AreInOrder, ComeBefore, HasItem, IsCommitted, IsDemanded, IsItsCall, IsTrackedAt, IsUnderWay, IsWalked, Stubs, calls_made, is_answered_later, is_entered, is_visible_reply}
+use Rattle.sg_hist.specs.Growing.{IsLastCall, IsRecovering}
 use Rattle.sg_recovery_laws.proofs.Lists.{each_append, each_both, each_map, each_split}
 use Rattle.sg_recovery_laws.proofs.Onward.{its_kept}
 use Rattle.sg_recovery_laws.proofs.Same.{IsSame, any_same, demanded_same, rebuilt_again, tracked_same, walked_same}
 use Rattle.sg_recovery_laws.proofs.Served.{has_same}
-use Rattle.sg_recovery_laws.proofs.Stays.{earlier_place}
+use Rattle.sg_recovery_laws.proofs.UnderWay.{AreBelow, AreFrom, below_of, from_of, of_below, of_from}
+use Rattle.sg_recovery_laws.proofs.Stays.{any_push, earlier_place, when_not, when_own}
 use Rattle.sg_recovery_laws.specs.Objects.Waiting.{NoneBy}
 
 module _ (h es : List Entry) (e : Entry) (none : NoneBy e.call.client es) where
@@ -157,21 +158,80 @@ module _ (h es : List Entry) (e : Entry) (none : NoneBy e.call.client es) where
         | inr one ↦ Contains-append_right (map (λ x. x.call) h) (map (λ x. x.call) (e ∷ es)) call (in_es (subst (λ l. Contains l call) (map-append (λ x. x.call) es (e ∷ [])) one))
       ]
 
-  under_moved : (u : List Call) (p : Position) (client : ℕ) (call : Call) → IsUnderWay (h ++ (es ++ e ∷ [])) u p client call → IsUnderWay (h ++ e ∷ es) u p client call
-  under_moved u p client call w = record {
-    its = record { its = w.its.its; made = contains_moved u call w.its.made };
-    above = ap (list_all _) (calls_moved client) ∙ w.above;
-    first = ap (list_all _) (calls_moved client) ∙ w.first;
-  }
+  module _ (facts : Facts) (u : List Call) (p : Position) (isn't : stands_before p e ≡ false) (hidden : Each (λ x. is_visible facts x.call.fun ≡ false) es)
+      (last : Each (λ x. IsLastCall (h ++ e ∷ es) u x.call) es) where
+    abbrev seen : Entry → Bool
+    seen x = is_visible facts x.call.fun && stands_before p x
 
-  same_moved : (facts : Facts) (walks : List WalkLine) (u : List Call) (p : Position) → stands_before p e ≡ false → IsSame facts walks (h ++ (es ++ e ∷ [])) u (h ++ e ∷ es) u p p.rest p.newer
-  same_moved facts walks u p isn't = record {
+    none_seen : (ys : List Entry) → Each (λ x. is_visible facts x.call.fun ≡ false) ys → list_any seen ys ≡ false
+    none_seen [] none = refl
+    none_seen (y ∷ ys) none = ap (λ v. (v && stands_before p y) || list_any seen ys) none.0 ∙ none_seen ys none.1
+
+    seen_front : (xs : List Entry) → list_any seen (xs ++ (es ++ e ∷ [])) ≡ list_any seen (xs ++ e ∷ es)
+    seen_front [] =
+        any_push facts p es e isn't ∙ none_seen es hidden
+        ∙ sym (ap (λ b. (is_visible facts e.call.fun && b) || list_any seen es) isn't ∙ at (is_visible facts e.call.fun) ∙ none_seen es hidden)
+      where
+        at : (v : Bool) → (v && false) || list_any seen es ≡ list_any seen es
+        at true = refl
+        at false = refl
+    seen_front (x ∷ xs) = ap (λ b. seen x || b) (seen_front xs)
+
+    below_front : (client seq : ℕ) (xs : List Entry) → AreBelow facts p client seq (xs ++ (es ++ e ∷ [])) → AreBelow facts p client seq (xs ++ e ∷ es)
+    below_front client seq [] are = (
+      subst (λ b. When ((e.call.client == client) && (b || list_any seen es)) (e.call.seq < seq)) (sym isn't)
+          (subst (λ b. When ((e.call.client == client) && b) (e.call.seq < seq)) (sym (none_seen es hidden)) (when_not (e.call.client == client) _)),
+      rest es are,
+    )
+      where
+        rest : (ys : List Entry) → AreBelow facts p client seq (ys ++ e ∷ []) → AreBelow facts p client seq ys
+        rest [] are = tt
+        rest (y ∷ ys) are = (subst (λ b. When ((y.call.client == client) && (stands_before p y || b)) (y.call.seq < seq)) (any_push facts p ys e isn't) are.0, rest ys are.1)
+    below_front client seq (x ∷ xs) are =
+        (subst (λ b. When ((x.call.client == client) && (stands_before p x || b)) (x.call.seq < seq)) (seen_front xs) are.0, below_front client seq xs are.1)
+
+    from_all : (client seq : ℕ) (late : Bool) (ys : List Entry) → Each (λ x. (x.call.client == client) ≡ true → seq ≤ x.call.seq) ys → AreFrom p client seq late ys
+    from_all client seq late [] all = tt
+    from_all client seq late (y ∷ ys) all = (when_own (y.call.client == client) (late || is_answered_later p y) _ all.0, from_all client seq (late || is_answered_later p y) ys all.1)
+
+    less_late : (own a b c : Bool) (A : Type 0) → When (own && ((a || b) || c)) A → When (own && (a || c)) A
+    less_late false a b c A is = tt
+    less_late true true b c A is = is
+    less_late true false true true A is = is
+    less_late true false true false A is = tt
+    less_late true false false c A is = is
+
+    own_late : (client seq : ℕ) (late : Bool) (ys : List Entry) → AreFrom p client seq late (ys ++ e ∷ []) → When ((e.call.client == client) && (late || is_answered_later p e)) (seq ≤ e.call.seq)
+    own_late client seq late [] are = are.0
+    own_late client seq late (y ∷ ys) are =
+        less_late (e.call.client == client) late (is_answered_later p y) (is_answered_later p e) (seq ≤ e.call.seq) (own_late client seq (late || is_answered_later p y) ys are.1)
+
+    from_front : (client seq : ℕ) (late : Bool) (xs : List Entry) → Each (λ x. (x.call.client == client) ≡ true → seq ≤ x.call.seq) es
+        → AreFrom p client seq late (xs ++ (es ++ e ∷ [])) → AreFrom p client seq late (xs ++ e ∷ es)
+    from_front client seq late [] all are = (own_late client seq late es are, from_all client seq (late || is_answered_later p e) es all)
+    from_front client seq late (x ∷ xs) all are = (are.0, from_front client seq (late || is_answered_later p x) xs all are.1)
+
+    under_moved : (client : ℕ) (call : Call) → IsUnderWay facts (h ++ (es ++ e ∷ [])) u p client call → IsUnderWay facts (h ++ e ∷ es) u p client call
+    under_moved client call w = record {
+      its = record { its = w.its.its; made = contains_moved u call w.its.made };
+      above = of_below facts p client call.seq (h ++ e ∷ es) (below_front client call.seq h (below_of facts p client call.seq (h ++ (es ++ e ∷ [])) w.above));
+      first = of_from p client call.seq false (h ++ e ∷ es) (from_front client call.seq false h
+          (each_map (λ x. IsLastCall (h ++ e ∷ es) u x.call) (λ x. (x.call.client == client) ≡ true → call.seq ≤ x.call.seq) es
+          (λ x last own. last call (contains_moved u call w.its.made) (same_client call.client x.call.client client w.its.its own)) last) (from_of p client call.seq false (h ++ (es ++ e ∷ [])) w.first));
+    }
+      where
+        same_client : (a b c : ℕ) → a ≡ c → b == c ≡ true → a ≡ b
+        same_client a b c is own = grind (arith, nat_tests, is, own)
+
+  same_moved : (facts : Facts) (walks : List WalkLine) (u : List Call) (p : Position) → Each (λ x. is_visible facts x.call.fun ≡ false) es
+      → Each (λ x. IsLastCall (h ++ e ∷ es) u x.call) es → stands_before p e ≡ false → IsSame facts walks (h ++ (es ++ e ∷ [])) u (h ++ e ∷ es) u p p.rest p.newer
+  same_moved facts walks u p hidden last isn't = record {
     object = ap (object_of facts) (entries_moved p isn't);
     names = names_moved facts p.front;
     made = λ id. made_moved facts id p.front;
     whole = λ id. ap (λ b. b || list_any (is_rebuilt_at facts walks (h ++ e ∷ es) id) (places_in p.older [] p.front (p.item ∷ items_after p))) (made_moved facts id p.front)
         ∙ ap (λ b. list_any (is_made facts (h ++ (es ++ e ∷ [])) id) p.front || b) (rebuilt_moved facts walks id p.older [] p.front (p.item ∷ items_after p) isn't);
-    under_way = under_moved u p;
+    under_way = under_moved facts u p isn't hidden last;
   }
 
   -- ---- the order of visible calls
@@ -220,8 +280,8 @@ module _ (h es : List Entry) (e : Entry) (none : NoneBy e.call.client es) where
   -- ---- all of it
 
   pub reordered : (s : Stubs) (run : Run) (u : List Call) → Each (λ p. stands_before p e ≡ false) (places_of run) → Each (λ x. is_visible s.interface.facts x.call.fun ≡ false) es
-      → IsRecovering s (h ++ (es ++ e ∷ [])) run u → IsRecovering s (h ++ e ∷ es) run u
-  reordered s run u isn't hidden r =
+      → Each (λ x. IsLastCall (h ++ e ∷ es) u x.call) es → IsRecovering s (h ++ (es ++ e ∷ [])) run u → IsRecovering s (h ++ e ∷ es) run u
+  reordered s run u isn't hidden last r =
       let ps : List Position = places_of run in
       let H : List Entry = h ++ (es ++ e ∷ []) in
       let H' : List Entry = h ++ e ∷ es in
@@ -239,12 +299,12 @@ module _ (h es : List Entry) (e : Entry) (none : NoneBy e.call.client es) where
           order = order_moved s.interface.facts run hidden r.served.order;
         };
         walks = each_map (λ p. (stands_before p e ≡ false) × IsWalked s.interface.facts s.walks H p p.item.tag) (λ p. IsWalked s.interface.facts s.walks H' p p.item.tag) ps
-            (λ p w. walked_same s.interface.facts s.walks H u H' u p p.rest p.newer (same_moved s.interface.facts s.walks u p w.0) w.1) (each_both (λ p. stands_before p e ≡ false) (λ p. IsWalked s.interface.facts s.walks H p p.item.tag) ps isn't r.walks);
+            (λ p w. walked_same s.interface.facts s.walks H u H' u p p.rest p.newer (same_moved s.interface.facts s.walks u p hidden last w.0) w.1) (each_both (λ p. stands_before p e ≡ false) (λ p. IsWalked s.interface.facts s.walks H p p.item.tag) ps isn't r.walks);
         on_demand = each_map (λ p. (stands_before p e ≡ false) × IsDemanded s.interface s.walks H u p p.item.tag) (λ p. IsDemanded s.interface s.walks H' u p p.item.tag) ps
-            (λ p w. demanded_same s.interface s.walks H u H' u p p.rest p.newer (same_moved s.interface.facts s.walks u p w.0) w.1)
+            (λ p w. demanded_same s.interface s.walks H u H' u p p.rest p.newer (same_moved s.interface.facts s.walks u p hidden last w.0) w.1)
             (each_both (λ p. stands_before p e ≡ false) (λ p. IsDemanded s.interface s.walks H u p p.item.tag) ps isn't r.on_demand);
         tracked_state = each_map (λ p. (stands_before p e ≡ false) × IsTrackedAt s.interface s.walks H p p.item.tag) (λ p. IsTrackedAt s.interface s.walks H' p p.item.tag) ps
-            (λ p w. tracked_same s.interface s.walks H u H' u p p.rest p.newer (same_moved s.interface.facts s.walks u p w.0) w.1)
+            (λ p w. tracked_same s.interface s.walks H u H' u p p.rest p.newer (same_moved s.interface.facts s.walks u p hidden last w.0) w.1)
             (each_both (λ p. stands_before p e ≡ false) (λ p. IsTrackedAt s.interface s.walks H p p.item.tag) ps isn't r.tracked_state);
       }
     where
@@ -267,5 +327,6 @@ module _ (h es : List Entry) (e : Entry) (none : NoneBy e.call.client es) where
 
 -- in the form that the laws of a run give
 pub moved_front : (s : Stubs) (h es : List Entry) (e : Entry) (run : Run) (u : List Call) → NoneBy e.call.client es → Each (λ p. stands_before p e ≡ false) (places_of run) → Each (λ x. is_visible s.interface.facts x.call.fun ≡ false) es
-    → IsRecovering s ((h ++ es) ++ e ∷ []) run u → IsRecovering s (h ++ e ∷ es) run u
-moved_front s h es e run u none isn't hidden r = reordered h es e none s run u isn't hidden (subst (λ l. IsRecovering s l run u) (append_assoc h es (e ∷ [])) r)
+    → Each (λ x. IsLastCall (h ++ e ∷ es) u x.call) es → IsRecovering s ((h ++ es) ++ e ∷ []) run u → IsRecovering s (h ++ e ∷ es) run u
+moved_front s h es e run u none isn't hidden last r =
+    reordered h es e none s run u isn't hidden last (subst (λ l. IsRecovering s l run u) (append_assoc h es (e ∷ [])) r)

@@ -19,7 +19,8 @@ use Rattle.sg_facts.specs.Legal.{LegalFrom, Table, answer, refused_or}
 use Rattle.sg_facts.specs.Limits.{end_of_counts}
 use Rattle.sg_facts.specs.Object.{Object, after, empty_object, object_from, object_of}
 use Rattle.sg_recovery_laws.proofs.Midway.Tabled.{passes_whole}
-use Rattle.sg_recovery_laws.specs.LastItem.Asked.{IsClientsCall, IsComeTo}
+use Rattle.sg_recovery_laws.specs.LastItem.Asked.{IsComeTo}
+use Rattle.sg_hist.specs.Clients.{IsClientsCall}
 
 module _ (i : Declared) (ask : Table) (sound : Object → Type 0) (fits : Fits i) (keeps : AnswersAndKeeps i.facts ask sound) (counts : CountsSlowly i.facts ask sound) where
   -- a call that passes is one of those that the laws speak of

@@ -1,6 +1,6 @@
 -- Whose turn it is.
 use Rattle.std.specs.Prelude.{ℕ, ◌≡◌, ◌<◌, ◌≤◌, Bool, true, false, Some, slice_get}
-use Rattle.sg_play.specs.Following.Stages.{IsNextTurn, stage_of}
+use Rattle.sg_play.specs.Following.Stages.{stage_of}
 use Rattle.sg_play.specs.sg_plain.Plain.{Stage, may_turn}
 use Rattle.sg_sim.specs.Playing.{Playing}
 

@@ -11,7 +11,7 @@ use Rattle.sg_verify.specs.Verdicts.{next_seq}
 use Rattle.sg_verify.specs.declared.verdict.Verdict.{Verdict}
 use Rattle.sg_verify.specs.declared.verdict.Verdict.TheVariants.{Legal, BadSeq, BadReply}
 use Rattle.sg_world_laws.specs.Keeping.{IsSettledObject}
-use Rattle.sg_world_laws.specs.Seats.{AreNumbered}
+use Rattle.sg_report.specs.sg_hist.Clients.{AreNumbered}
 use Rattle.sg_world_laws.specs.Setting.{Setting}
 
 -- a service by its table, its sound objects and its parts, with the interface and the walks of tables

@@ -8,7 +8,8 @@ use Rattle.sg_world_laws.proofs.Advancing.Rebuilding.{is_new}
 use Rattle.sg_world_laws.specs.Advancing.Advancing.{IsFirstLeft, IsLeftToLoad, IsLoadItem, IsRebuildable, IsReplayItem, loaded_stub, replayed_stub, stopped_within, with_noted}
 use Rattle.sg_facts.specs.sg_base.declared.call.Call.{Call}
 use Rattle.sg_facts.specs.sg_base.declared.reply.Reply.TheVariants.{Ok}
-use Rattle.sg_replay.specs.sg_boot.Invoking.{item_of_call, item_of_load, load_outcome, with_item, with_stop}
+use Rattle.sg_replay.specs.sg_boot.Invoking.{item_of_call, with_item, with_stop}
+use Rattle.sg_replay.specs.sg_hist.Recovered.{call_in, item_of_load}
 use Rattle.sg_world.proofs.Engines.Left.{first_left, left_to_load}
 use Rattle.sg_world.specs.Engines.Engines.{IsEngineOf, as_shown}
 use Rattle.sg_world.specs.Engines.Stubs.{stub_of, told_of}
@@ -28,7 +29,6 @@ use Rattle.sg_facts.specs.declared.trace.Tag.TheVariants.{Walk}
 use Rattle.sg_world_laws.specs.sg_recovery_laws.Midway.Progress.{TellsCalls, begun, fresh, is_complete}
 use Rattle.sg_world_laws.specs.sg_recovery_laws.Midway.Stepping.{so_far}
 use Rattle.sg_replay.specs.sg_hist.Reading.{walk_in}
-use Rattle.sg_replay.specs.sg_hist.Recovered.{call_in}
 use Rattle.sg_replay.specs.sg_name.Names.{named_at}
 use Rattle.sg_replay.specs.sg_name.declared.named.Named.{Named}
 use Rattle.sg_replay.specs.sg_name.declared.named.Named.TheVariants.{Live, Partial, Unnamed}
@@ -296,7 +296,7 @@ module _ (z : Setting) (set : IsSetting z) (w : WorldView) (b : Boot) (boots : L
     loaded_item = item_of_load call.client points key (bytes_of e.stored key)
 
     its_load : IsLoadItem call.client key (file_at (object_of z.iface.facts w.history).files key) loaded_item
-    its_load = record { tag = refl; outcome = ap (load_outcome key) (stands.files key) }
+    its_load = ap (item_of_load call.client points key) (stands.files key)
 
     -- its item is the next, and the world keeps what it keeps
     pub loads_next : IsNextItem (stubs_of z) w.history (unanswered (standing w b boots (Some v))) (place_after [] (b ∷ boots) loaded_item)

@@ -9,7 +9,8 @@ use Rattle.sg_facts.specs.Trace.{Boot}
 use Rattle.sg_facts.specs.declared.entry.Entry.{Entry}
 use Rattle.sg_facts.specs.declared.trace.Item.{Item}
 use Rattle.sg_recovery_laws.specs.sg_hist.Recovered.{IsAdmitted}
-use Rattle.sg_recovery_laws.specs.sg_hist.Growing.{IsOfNoEntry, last_items, older_items}
+use Rattle.sg_recovery_laws.specs.sg_hist.Growing.{IsOfNoEntry}
+use Rattle.sg_recovery_laws.specs.sg_hist.Reading.{last_items, older_items}
 use Rattle.sg_recovery_laws.proofs.Lists.{each_map}
 use Rattle.sg_recovery_laws.proofs.Objects.Apart.{Ascends}
 use Rattle.sg_recovery_laws.proofs.Objects.Room.{guard_behind}

@@ -176,7 +176,7 @@ module _ (z : Setting) (set : IsSetting z) (w : WorldView) (b : Boot) (boots : L
       → KeepsPromise z (with_noted (standing w b boots (Some v)) item points (loaded z.iface.facts v key (file_at (object_of z.iface.facts w.history).files key)) w.seats) (loaded_stub stub key)
   file_loaded points =
       keeps_noted z set w b boots v stub k item load_hidden_now load_due_now points (loaded z.iface.facts v key (file_at (object_of z.iface.facts w.history).files key)) w.seats (loaded_stub stub key) refl refl
-      (subst (λ n. HaveSeats z w.history w.withdrawn n w.seats) (sym (length_noted (b ∷ boots) item)) k.seats) (ap is_stopped is.outcome)
+      (subst (λ n. HaveSeats z w.history w.withdrawn n w.seats) (sym (length_noted (b ∷ boots) item)) k.seats) (ap is_stopped (ap (λ (x : Item). x.outcome) is))
       (load_makes z set w b boots v stub k call let_in key left item is) (load_stands z set w b boots v stub k call let_in key left item is)
 
 -- ---- a client's call gets no reply

@@ -7,11 +7,11 @@ use Rattle.sg_facts.specs.Object.{Object, empty_object, object_from, object_of}
 use Rattle.sg_facts.specs.Trace.{Boot}
 use Rattle.sg_facts.specs.declared.entry.Entry.{Entry}
 use Rattle.sg_recovery_laws.proofs.Lists.{each_append, each_map}
-use Rattle.sg_recovery_laws.specs.LastItem.Asked.{IsClientsCall, IsComeTo}
+use Rattle.sg_recovery_laws.specs.LastItem.Asked.{IsComeTo}
+use Rattle.sg_recovery_laws.specs.sg_hist.Clients.{IsClientsCall, MayBeMade}
 use Rattle.sg_recovery_laws.proofs.LastItem.Sound.{come_to}
 use Rattle.sg_seat.specs.WorldView.{WorldView, held_replies}
 use Rattle.sg_world_laws.specs.Keeping.{KeepsPromise, MayEnter, Stub, standing}
-use Rattle.sg_world_laws.specs.Seats.{MayBeMade}
 use Rattle.sg_world_laws.specs.Setting.{IsSetting, Setting}
 use Rattle.sg_world_laws.proofs.Drawn.{object_behind}
 use Rattle.sg_world_laws.proofs.Orders.{far_now, few_now, good_now, legal_append, legal_held, time_now}

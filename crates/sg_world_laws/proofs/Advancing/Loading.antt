@@ -1,5 +1,5 @@
 -- A file is loaded that a call needs: what its item owes, and what stands after it.
-use Rattle.std.proofs.Common.{Bool, List, None, Some, [], ap, cond, false, filter, find, length, map, not, refl, subst, sym, true, ℕ, ◌&&◌, ◌++◌, ◌==◌, ◌||◌, ◌∙◌, ◌∷◌, ◌≡◌, ◌≤◌}
+use Rattle.std.proofs.Common.{◌≢◌, Bool, List, None, Some, [], ap, cond, false, filter, find, length, map, not, refl, subst, sym, true, ℕ, ◌&&◌, ◌++◌, ◌==◌, ◌||◌, ◌∙◌, ◌∷◌, ◌≡◌, ◌≤◌}
 use Rattle.std.specs.Str.{bytes_eq}
 use Rattle.sg_facts.specs.sg_base.declared.call.Call.{Call}
 use Rattle.sg_facts.specs.Allowed.{implies, is_allowed}
@@ -14,11 +14,10 @@ use Rattle.sg_facts.specs.declared.entry.Entry.{Entry}
 use Rattle.sg_facts.specs.declared.row.Row.{Row}
 use Rattle.sg_facts.specs.declared.trace.Item.{Item}
 use Rattle.sg_facts.specs.declared.trace.Tag.TheVariants.{Load}
-use Rattle.sg_recovery_laws.specs.sg_hist.Reading.{after_item, given_by, is_tagged, service_call}
-use Rattle.sg_recovery_laws.specs.sg_hist.Recovered.{AskedAs, IsDemanded, IsItsCall, IsLoad, IsLoadedFor, IsTrackedAt, IsWalked, is_clients, is_patch_at, is_replied, is_visible_reply}
-use Rattle.sg_recovery_laws.specs.sg_hist.Growing.{IsNextItem, IsOfNoEntry, last_items, older_items}
+use Rattle.sg_recovery_laws.specs.sg_hist.Reading.{after_item, given_by, is_tagged, last_items, older_items, service_call}
+use Rattle.sg_recovery_laws.specs.sg_hist.Recovered.{AskedAs, IsDemanded, IsItsCall, IsLoadedFor, IsTrackedAt, IsWalked, is_clients, is_patch_at, is_replied, is_visible_reply, item_of_load, load_outcome}
+use Rattle.sg_recovery_laws.specs.sg_hist.Growing.{IsNextItem, IsOfNoEntry}
 use Rattle.sg_recovery_laws.proofs.InBoots.{place_is}
-use Rattle.sg_boot.specs.Invoking.{load_outcome}
 use Rattle.sg_recovery_laws.proofs.Objects.Waiting.{behind_same}
 use Rattle.sg_recovery_laws.specs.Midway.Progress.{IsInRecovery, Told, complete, is_complete}
 use Rattle.sg_recovery_laws.specs.LastItem.LastPlace.{last_place}
@@ -95,16 +94,18 @@ module _ (z : Setting) (set : IsSetting z) (w : WorldView) (b : Boot) (boots : L
 
   module _ (item : Item) (is : IsLoadItem call.client key (file_at (object_of z.iface.facts w.history).files key) item) where
     pub load_hidden : is_visible_reply z.iface.facts item ≡ false
-    load_hidden = ap (λ t. is_clients t && is_visible z.iface.facts item.shown.fun && is_replied item.outcome) is.tag
+    load_hidden = ap (λ t. is_clients t && is_visible z.iface.facts item.shown.fun && is_replied item.outcome) (ap (λ (x : Item). x.tag) is)
 
     module _ (es : List Entry) (drawn : AreDrawn (held_in (length (b ∷ boots)) w.seats) es) where
       none_of : IsOfNoEntry item (w.history ++ es)
-      none_of = none_of_load item key call.client is.tag (w.history ++ es)
+      none_of = none_of_load item key call.client (ap (λ (x : Item). x.tag) is) (w.history ++ es)
 
-      whole_file : IsLoad (object_from z.iface.facts (object_of z.iface.facts w.history) es) key item.outcome
+      whole_file : item ≡ item_of_load call.client item.points key (file_at (object_from z.iface.facts (object_of z.iface.facts w.history) es).files key)
       whole_file =
-          subst (IsLoad (object_from z.iface.facts (object_of z.iface.facts w.history) es) key) (sym is.outcome)
-          (refl, refl, ap (λ fs. file_at fs key) (sym (files_es es drawn)), left.some)
+          is ∙ ap (λ fs. item_of_load call.client item.points key (file_at fs key)) (sym (files_es es drawn))
+
+      some_file : file_at (object_from z.iface.facts (object_of z.iface.facts w.history) es).files key ≢ []
+      some_file = subst (λ fs. file_at fs key ≢ []) (sym (files_es es drawn)) left.some
 
       loaded_for : IsLoadedFor z.iface z.walks (w.history ++ es) (unanswered (standing w b boots (Some v))) (last_place (older_items [] (b ∷ boots)) (last_items (b ∷ boots)) item) call.client key
       loaded_for =
@@ -113,19 +114,19 @@ module _ (z : Setting) (set : IsSetting z) (w : WorldView) (b : Boot) (boots : L
           (object_from z.iface.facts (object_of z.iface.facts w.history) es) known.object known.sound (ascends_es z set w b boots v stub k call let_in item es drawn none_of) none_of known.items known.read
           call.client key call (call_es z set w b boots (Some v) stub k es drawn call let_in) (seqs_es z set w b boots v stub k call let_in item es drawn none_of)
           (told_es z set w b boots (Some v) stub k es drawn call let_in left.rows)
-          (ap (λ n. n.file) (needs_es z set w b boots (Some v) stub k es drawn call let_in) ∙ left.file) left.absent whole_file (lets_es z set w b boots v stub k call let_in item es drawn none_of)
+          (ap (λ n. n.file) (needs_es z set w b boots (Some v) stub k es drawn call let_in) ∙ left.file) left.absent some_file whole_file (lets_es z set w b boots v stub k call let_in item es drawn none_of)
 
       pub load_due : IsDue z (standing w b boots (Some v)) item es
       load_due = record {
         none = none_of;
         next = subst (IsNextItem (stubs_of z) (w.history ++ es) (unanswered (standing w b boots (Some v)))) (sym (place_is [] b boots item)) (record {
           running = k.cell.runs.unbroken;
-          table = subst (AskedAs z.iface.facts z.ask (last_place (older_items [] (b ∷ boots)) (last_items (b ∷ boots)) item)) (sym is.tag) tt;
-          call = subst (IsItsCall (w.history ++ es) (unanswered (standing w b boots (Some v))) item.shown) (sym is.tag) tt;
+          table = subst (AskedAs z.iface.facts z.ask (last_place (older_items [] (b ∷ boots)) (last_items (b ∷ boots)) item)) (sym (ap (λ (x : Item). x.tag) is)) tt;
+          call = subst (IsItsCall (w.history ++ es) (unanswered (standing w b boots (Some v))) item.shown) (sym (ap (λ (x : Item). x.tag) is)) tt;
           settled = record {
-            walk = subst (IsWalked z.iface.facts z.walks (w.history ++ es) (last_place (older_items [] (b ∷ boots)) (last_items (b ∷ boots)) item)) (sym is.tag) tt;
-            demand = subst (IsDemanded z.iface z.walks (w.history ++ es) (unanswered (standing w b boots (Some v))) (last_place (older_items [] (b ∷ boots)) (last_items (b ∷ boots)) item)) (sym is.tag) loaded_for;
-            state = subst (IsTrackedAt z.iface z.walks (w.history ++ es) (last_place (older_items [] (b ∷ boots)) (last_items (b ∷ boots)) item)) (sym is.tag) tt;
+            walk = subst (IsWalked z.iface.facts z.walks (w.history ++ es) (last_place (older_items [] (b ∷ boots)) (last_items (b ∷ boots)) item)) (sym (ap (λ (x : Item). x.tag) is)) tt;
+            demand = subst (IsDemanded z.iface z.walks (w.history ++ es) (unanswered (standing w b boots (Some v))) (last_place (older_items [] (b ∷ boots)) (last_items (b ∷ boots)) item)) (sym (ap (λ (x : Item). x.tag) is)) loaded_for;
+            state = subst (IsTrackedAt z.iface z.walks (w.history ++ es) (last_place (older_items [] (b ∷ boots)) (last_items (b ∷ boots)) item)) (sym (ap (λ (x : Item). x.tag) is)) tt;
           };
         });
       }
@@ -148,13 +149,13 @@ module _ (z : Setting) (set : IsSetting z) (w : WorldView) (b : Boot) (boots : L
     pub load_stands : StandsBehind z (standing w b boots (Some v)) item (loaded_stub stub key) (loaded z.iface.facts v key (file_at (object_of z.iface.facts w.history).files key))
     load_stands =
         subst (StandsBehind z (standing w b boots (Some v)) item (loaded_stub stub key)) (sym later_is)
-        (stands_plain z w b boots v stub k item load_due (loads_give_nothing z.iface.facts z.walks (older_items [] (b ∷ boots)) (last_items (b ∷ boots)) item call.client key is.tag)
-        (record v { files = set_file v.files key (file_at o.files key) }) (λ path. stub.present path || bytes_eq key path) (λ path. ap (λ x. stub.present path || is_patch_at path x) is.outcome)
+        (stands_plain z w b boots v stub k item load_due (loads_give_nothing z.iface.facts z.walks (older_items [] (b ∷ boots)) (last_items (b ∷ boots)) item call.client key (ap (λ (x : Item). x.tag) is))
+        (record v { files = set_file v.files key (file_at o.files key) }) (λ path. stub.present path || bytes_eq key path) (λ path. ap (λ x. stub.present path || is_patch_at path x) (ap (λ (x : Item). x.outcome) is))
         (record { given = up.numbers.given; counted = up.numbers.counted }) recovers_now)
 
     -- what its item makes of the service
     pub load_makes : loaded z.iface.facts v key (file_at (object_of z.iface.facts w.history).files key) ≡ after_item z.iface.facts v item
     load_makes =
         later_is
-        ∙ sym (ap (given_by z.iface.facts v item.tag (service_call item)) is.outcome
-        ∙ ap (λ t. given_by z.iface.facts v t (service_call item) (load_outcome key (file_at (object_of z.iface.facts w.history).files key))) is.tag)
+        ∙ sym (ap (given_by z.iface.facts v item.tag (service_call item)) (ap (λ (x : Item). x.outcome) is)
+        ∙ ap (λ t. given_by z.iface.facts v t (service_call item) (load_outcome key (file_at (object_of z.iface.facts w.history).files key))) (ap (λ (x : Item). x.tag) is))

@@ -7,9 +7,9 @@ use Rattle.sg_facts.specs.Object.{Object, object_from, object_of}
 use Rattle.sg_facts.specs.Trace.{Boot}
 use Rattle.sg_facts.specs.declared.entry.Entry.{Entry}
 use Rattle.sg_facts.specs.declared.trace.Item.{Item}
-use Rattle.sg_recovery_laws.specs.sg_hist.Reading.{after_item, is_by_guard, is_item_of, names_at, names_in}
+use Rattle.sg_recovery_laws.specs.sg_hist.Reading.{after_item, is_by_guard, is_item_of, last_items, names_at, names_in, older_items}
 use Rattle.sg_recovery_laws.specs.sg_hist.Recovered.{AreInBoots, is_stopped, is_visible_reply}
-use Rattle.sg_recovery_laws.specs.sg_hist.Growing.{IsInLast, IsNextItem, IsOfNoEntry, IsRecovering, last_items, noted, older_items, place_after}
+use Rattle.sg_recovery_laws.specs.sg_hist.Growing.{IsInLast, IsNextItem, IsOfNoEntry, IsRecovering, noted, place_after}
 use Rattle.sg_recovery_laws.proofs.sg_hist.Growing.{names_at-more}
 use Rattle.sg_recovery_laws.proofs.InBoots.{boots_noted, older_noted, still_last}
 use Rattle.sg_recovery_laws.proofs.Lists.{each_map}

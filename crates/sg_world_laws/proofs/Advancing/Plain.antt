@@ -9,9 +9,8 @@ use Rattle.sg_facts.specs.declared.outcome.Outcome.TheVariants.{Blocks}
 use Rattle.sg_facts.specs.declared.tables.WalkLine.{WalkLine}
 use Rattle.sg_facts.specs.declared.trace.Item.{Item}
 use Rattle.sg_facts.specs.declared.trace.Tag.TheVariants.{Client, Load}
-use Rattle.sg_recovery_laws.specs.sg_hist.Reading.{ends_walk, is_ok, made_by, names_in}
+use Rattle.sg_recovery_laws.specs.sg_hist.Reading.{ends_walk, is_ok, last_items, made_by, names_in, older_items}
 use Rattle.sg_recovery_laws.specs.sg_hist.Recovered.{is_patch_at, is_walk_of}
-use Rattle.sg_recovery_laws.specs.sg_hist.Growing.{last_items, older_items}
 use Rattle.sg_recovery_laws.specs.Midway.Numbers.{AreNumbers}
 use Rattle.sg_recovery_laws.specs.Midway.Progress.{IsInRecovery}
 use Rattle.sg_recovery_laws.specs.LastItem.LastPlace.{last_place}

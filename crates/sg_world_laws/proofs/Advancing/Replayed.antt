@@ -20,9 +20,9 @@ use Rattle.sg_facts.specs.declared.trace.Tag.TheVariants.{Client, Load, Walk}
 use Rattle.sg_facts.specs.declared.trace.Tag.{Tag}
 use Rattle.sg_facts.proofs.RowLists.{live_of_row}
 use Rattle.sg_facts.proofs.Replaying.Found.{other_test, within}
-use Rattle.sg_recovery_laws.specs.sg_hist.Reading.{after_item, given_by, is_tagged, names_in, pair_of, service_call}
+use Rattle.sg_recovery_laws.specs.sg_hist.Reading.{after_item, given_by, is_tagged, last_items, names_in, older_items, pair_of, service_call}
 use Rattle.sg_recovery_laws.specs.sg_hist.Recovered.{AskedAs, IsByTable, IsDemanded, IsItsCall, IsOkOrStopped, IsTrackedAt, IsWalked, is_clients, is_replied, is_visible_reply}
-use Rattle.sg_recovery_laws.specs.sg_hist.Growing.{IsNextItem, IsOfNoEntry, last_items, older_items, place_after}
+use Rattle.sg_recovery_laws.specs.sg_hist.Growing.{IsNextItem, IsOfNoEntry, place_after}
 use Rattle.sg_recovery_laws.proofs.InBoots.{place_is}
 use Rattle.sg_recovery_laws.proofs.Objects.Apart.{Ascends}
 use Rattle.sg_recovery_laws.proofs.Objects.Steady.{ascends}

@@ -9,6 +9,7 @@ use Rattle.sg_facts.specs.sg_base.declared.reply.Reply.{Reply}
 use Rattle.sg_world_laws.specs.Committing.Serving.{IsCommittedIn, IsServedCall}
 use Rattle.sg_world_laws.specs.Committing.Telling.{TellsAfter}
 use Rattle.sg_world_laws.proofs.Alike.{read_alike}
+use Rattle.sg_world_laws.proofs.Lasts.{held_lasts}
 use Rattle.sg_world_laws.proofs.Committing.Behind.{answered_it, live_all, moved, names_by, sound_all, told_by, wait_after}
 use Rattle.sg_world_laws.proofs.Committing.Noted.{cell_noted, held_noted, in_boots_noted, items_noted, last_noted, length_noted, own_noted, spelt_is}
 use Rattle.sg_world_laws.proofs.Committing.Numbers.{numbers_served}
@@ -30,17 +31,18 @@ use Rattle.sg_recovery_laws.specs.Midway.Progress.{IsInRecovery}
 use Rattle.sg_recovery_laws.specs.Midway.Stepping.{present_with}
 use Rattle.sg_recovery_laws.proofs.Midway.Dropped.{under_dropped}
 use Rattle.sg_recovery_laws.proofs.Midway.Glue.{under_named}
-use Rattle.sg_recovery_laws.specs.sg_hist.Reading.{is_by_guard, is_item_of, names_at}
+use Rattle.sg_recovery_laws.specs.sg_hist.Reading.{is_by_guard, is_item_of, last_items, names_at, older_items}
 use Rattle.sg_recovery_laws.specs.Objects.Waiting.{AreWaiting, NoneBy}
 use Rattle.sg_recovery_laws.proofs.Objects.Guarded.{acts}
 use Rattle.sg_recovery_laws.proofs.Objects.Waiting.{hidden_is}
-use Rattle.sg_recovery_laws.specs.sg_hist.Growing.{IsInLast, IsNextItem, last_items, noted, older_items, place_after}
+use Rattle.sg_recovery_laws.specs.sg_hist.Growing.{IsInLast, IsLastCall, IsNextItem, noted, place_after}
 use Rattle.sg_recovery_laws.proofs.InBoots.{boots_appended, older_noted}
 use Rattle.sg_recovery_laws.proofs.Lists.{each_append, each_map}
 use Rattle.sg_seat.specs.WorldView.{WorldView, held_in, unanswered}
 use Rattle.sg_recovery_laws.specs.LastItem.Told.{IsRead}
 use Rattle.sg_world_laws.specs.Keeping.{AreDrawn, KeepsPromise, MayEnter, Stands, Stub, standing}
-use Rattle.sg_world_laws.specs.Seats.{HaveSeats, MayBeMade}
+use Rattle.sg_world_laws.specs.Seats.{HaveSeats}
+use Rattle.sg_recovery_laws.specs.sg_hist.Clients.{MayBeMade}
 use Rattle.sg_world_laws.specs.Setting.{IsSetting, Setting, stubs_of}
 use Rattle.sg_world_laws.proofs.Drawn.{object_behind}
 use Rattle.sg_world_laws.proofs.Entering.{legal_push, settled_after}
@@ -162,6 +164,12 @@ module _ (z : Setting) (set : IsSetting z) (w : WorldView) (b : Boot) (boots : L
           (k.stands.rebuilt eager (λ none. some (same_held ∙ none))) id (ap (λ y. is_live y.rows id) (sym object_now) ∙ live);
     }
 
+    -- no call that the client of a held reply made has a greater number
+    lasts_now : (es : List Entry) → AreDrawn ws es → Each (λ x. IsLastCall (w.history ++ e ∷ es) (unanswered w') x.call) es
+    lasts_now es drawn =
+        subst (λ l. Each (λ x. IsLastCall l (unanswered w') x.call) es) (append_assoc w.history (e ∷ []) es)
+        (held_lasts z (record w' { history = w.history ++ e ∷ [] }) (length (b ∷ boots)) (subst (λ h. HaveSeats z h w'.withdrawn (length (b ∷ boots)) w'.seats) c.history c.seats) es (subst (λ l. AreDrawn l es) (sym c.held) drawn))
+
     -- the world keeps what it keeps
     pub committed_keeps : KeepsPromise z w' stub'
     committed_keeps = subst (λ x. KeepsPromise z x stub') (sym same_world) (record {
@@ -177,7 +185,7 @@ module _ (z : Setting) (set : IsSetting z) (w : WorldView) (b : Boot) (boots : L
       held_items = subst (Each (IsInLast (record { boots = noted (b ∷ boots) item; points = w'.run.points }))) (sym same_held) (held_noted z set w b boots v stub k call item reply other patch s w'.run.points);
       in_boots = boots_appended (record { boots = noted (b ∷ boots) item; points = w'.run.points }) w.history e (served_it z set w b boots v stub k call item reply other patch s)
           (own_noted z set w b boots v stub k call item reply other patch s w'.run.points) (in_boots_noted z set w b boots v stub k call item reply other patch s w'.run.points);
-      recovering = λ es drawn. served_recovers z set w b boots v stub k call item reply other patch s w'.run.points (unanswered w') c.left es (subst (λ l. AreDrawn l es) same_held drawn);
+      recovering = λ es drawn. served_recovers z set w b boots v stub k call item reply other patch s w'.run.points (unanswered w') c.left lasts_now es (subst (λ l. AreDrawn l es) same_held drawn);
       cell = cell_noted z set w b boots v stub k call item reply other patch s;
       stands = stands_now;
     })

@@ -33,11 +33,11 @@ use Rattle.sg_recovery_laws.specs.Midway.Progress.{IsInRecovery, complete}
 use Rattle.sg_recovery_laws.specs.Midway.Stepping.{present_with}
 use Rattle.sg_recovery_laws.proofs.Midway.Glue.{under_named}
 use Rattle.sg_recovery_laws.proofs.Midway.Least.{or_left}
-use Rattle.sg_recovery_laws.specs.sg_hist.Reading.{Position, entries_before, id_given, is_ok, item_of, names_at, pair_of}
-use Rattle.sg_recovery_laws.specs.sg_hist.Recovered.{GivesEntry, is_clients, is_patch_at, is_replied, is_visible_reply}
+use Rattle.sg_recovery_laws.specs.sg_hist.Reading.{Position, entries_before, id_given, is_ok, item_of, last_items, names_at, older_items, pair_of}
+use Rattle.sg_recovery_laws.specs.sg_hist.Recovered.{GivesEntry, calls_made, is_clients, is_patch_at, is_replied, is_visible_reply}
 use Rattle.sg_recovery_laws.specs.Objects.Waiting.{AreWaiting, IsWaiting, NoneBy}
 use Rattle.sg_recovery_laws.proofs.Objects.Waiting.{hidden_is}
-use Rattle.sg_recovery_laws.specs.sg_hist.Growing.{AreKept, IsGrown, IsInLast, IsNextItem, IsOfNoEntry, IsRecovering, last_items, noted, older_items, place_after}
+use Rattle.sg_recovery_laws.specs.sg_hist.Growing.{AreKept, IsGrown, IsInLast, IsLastCall, IsNextItem, IsOfNoEntry, IsRecovering, noted, place_after}
 use Rattle.sg_recovery_laws.proofs.Events.{own_item}
 use Rattle.sg_recovery_laws.proofs.sg_hist.Growing.{entries_before-more, names_at-more, places-more}
 use Rattle.sg_recovery_laws.proofs.InBoots.{older_noted}
@@ -54,6 +54,7 @@ use Rattle.sg_world_laws.proofs.Ahead.{holds_ahead_with, noted_ahead}
 use Rattle.sg_world_laws.proofs.Asked.{its_es, next_es, none_of}
 use Rattle.sg_world_laws.proofs.Drawn.{committed_same, waiting_apart, waiting_without}
 use Rattle.sg_world_laws.proofs.Entering.{kept_all, kept_with}
+use Rattle.sg_world_laws.proofs.Lasts.{held_lasts}
 use Rattle.sg_world_laws.proofs.Orders.{good_now, held_few, time_now}
 use Rattle.sg_world_laws.proofs.Split.{drawn_either}
 use Rattle.sg_world_laws.proofs.Struck.{no_drawn}
@@ -154,9 +155,9 @@ module _ (z : Setting) (set : IsSetting z) (w : WorldView) (b : Boot) (boots : L
   hidden_were : Each (λ x. is_visible facts x.call.fun ≡ false) (front ++ back)
   hidden_were = subst (Each (λ x. is_visible facts x.call.fun ≡ false)) c.held_before (hidden_held z set w b boots v stub k call item reply other patch s)
 
-  held_now : (xs ys : List Entry) → AreDrawn (front ++ back) (xs ++ ys) → NoneBy call.client (xs ++ ys) → Each (Contains (front ++ back)) (xs ++ ys)
+  held_now : (xs ys : List Entry) → AreDrawn (front ++ e ∷ back) (xs ++ e ∷ ys) → AreDrawn (front ++ back) (xs ++ ys) → NoneBy call.client (xs ++ ys) → Each (Contains (front ++ back)) (xs ++ ys)
       → IsRecovering (stubs_of z) (w.history ++ (xs ++ e ∷ ys)) run_now u
-  held_now xs ys drawn none among =
+  held_now xs ys all drawn none among =
       let d = drawn_was (xs ++ ys) drawn in
       let it = item_es z set w b boots v stub k call item reply other patch s (xs ++ ys) d in
       holds_ahead_with (stubs_of z) w.history xs ys e b boots w'.run.points u item (own z set w b boots v stub k call item reply other patch s) (each_split (λ x. x.call.client ≢ call.client) xs ys none).1
@@ -167,15 +168,24 @@ module _ (z : Setting) (set : IsSetting z) (w : WorldView) (b : Boot) (boots : L
         served = served_it z set w b boots v stub k call item reply other patch s;
         own = subst (GivesEntry facts ((w.history ++ (xs ++ ys)) ++ e ∷ []) e) (sym place_of_it) (it.shown, it.reply);
       })
-      (last_es z set w b boots v stub k call item reply other patch s (xs ++ ys) d) (kept_one (w.history ++ (xs ++ ys))) (noted_now (xs ++ ys) d)
+      (last_es z set w b boots v stub k call item reply other patch s (xs ++ ys) d) (kept_one (w.history ++ (xs ++ ys))) lasts (noted_now (xs ++ ys) d)
     where
       kept_one : (l : List Entry) → AreKept l u (l ++ e ∷ []) u
       kept_one l = kept_with l e u u (λ x has. inr has)
 
+      -- no call that the client of a held reply made has a greater number
+      lasts_later : Each (λ x. IsLastCall (w.history ++ (xs ++ e ∷ ys)) (unanswered w') x.call) (xs ++ e ∷ ys)
+      lasts_later = held_lasts z (record w' { history = w.history }) (length (b ∷ boots)) c.seats (xs ++ e ∷ ys) (subst (λ l. AreDrawn l (xs ++ e ∷ ys)) (sym c.held) all)
+
+      lasts : Each (λ x. IsLastCall ((w.history ++ xs) ++ e ∷ ys) u x.call) ys
+      lasts = each_map (λ x. IsLastCall (w.history ++ (xs ++ e ∷ ys)) (unanswered w') x.call) (λ x. IsLastCall ((w.history ++ xs) ++ e ∷ ys) u x.call) ys
+          (λ x last y made. last y (kept_all (w.history ++ (xs ++ e ∷ ys)) u (unanswered w') c.left y (subst (λ l. Contains (calls_made l u) y) (append_assoc w.history xs (e ∷ ys)) made)))
+          (each_split (λ x. IsLastCall (w.history ++ (xs ++ e ∷ ys)) (unanswered w') x.call) xs (e ∷ ys) lasts_later).1.1
+
   recover_now : (es : List Entry) → AreDrawn (front ++ e ∷ back) es → IsRecovering (stubs_of z) (w.history ++ es) run_now u
   recover_now es drawn = elim (drawn_either front back e es apart_now apart_was drawn) [
     | inl less ↦ noted_now es (drawn_was es less)
-    | inr x ↦ subst (λ l. IsRecovering (stubs_of z) (w.history ++ l) run_now u) (sym x.0.is) (held_now x.0.front x.0.rest x.1 x.0.none x.0.each)
+    | inr x ↦ subst (λ l. IsRecovering (stubs_of z) (w.history ++ l) run_now u) (sym x.0.is) (held_now x.0.front x.0.rest (subst (AreDrawn (front ++ e ∷ back)) x.0.is drawn) x.1 x.0.none x.0.each)
   ]
 
   recover_later : (es : List Entry) → AreDrawn (front ++ e ∷ back) es → IsRecovering (stubs_of z) (w.history ++ es) run_now (unanswered w')

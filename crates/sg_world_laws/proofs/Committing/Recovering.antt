@@ -21,10 +21,10 @@ use Rattle.sg_facts.specs.Object.{Object, object_of}
 use Rattle.sg_facts.specs.Trace.{Boot}
 use Rattle.sg_recovery_laws.specs.Midway.Progress.{IsNone}
 use Rattle.sg_recovery_laws.proofs.Midway.Back.{named_or_none}
-use Rattle.sg_recovery_laws.specs.sg_hist.Reading.{Position, desc_in, desc_of, id_given, is_by_guard, is_item_of, is_tagged, names_at, places_from}
+use Rattle.sg_recovery_laws.specs.sg_hist.Reading.{Position, desc_in, desc_of, id_given, is_by_guard, is_item_of, is_tagged, last_items, names_at, older_items, places_from}
 use Rattle.sg_recovery_laws.specs.sg_hist.Recovered.{IsCommitted, IsReplyOf}
 use Rattle.sg_recovery_laws.specs.Objects.Waiting.{AreWaiting}
-use Rattle.sg_recovery_laws.specs.sg_hist.Growing.{AreKept, IsItemOf, IsLastCall, IsNextItem, IsRecovering, IsSameId, IsSettled, last_items, noted, older_items, place_after}
+use Rattle.sg_recovery_laws.specs.sg_hist.Growing.{AreKept, IsItemOf, IsLastCall, IsNextItem, IsRecovering, IsSameId, IsSettled, noted, place_after}
 use Rattle.sg_recovery_laws.proofs.Given.{IsGiven, committed_given, given_same, is_numbered, names_same}
 use Rattle.sg_recovery_laws.proofs.InBoots.{place_is}
 use Rattle.sg_recovery_laws.proofs.Lists.{each_contains, each_map}
@@ -209,7 +209,8 @@ module _ (z : Setting) (set : IsSetting z) (w : WorldView) (b : Boot) (boots : L
 
   -- the run recovers with it, whichever held replies are committed first
   pub served_recovers : (later : ℕ) (u' : List Call) → ((x : Call) → Contains (unanswered (standing w b boots (Some v))) x → (x ≡ call) ⊎ Contains u' x)
+      → ((es : List Entry) → AreDrawn (held_in (length (b ∷ boots)) w.seats) es → Each (λ x. IsLastCall (w.history ++ (record { call = call; reply = reply }) ∷ es) u' x.call) es)
       → (es : List Entry) → AreDrawn (held_in (length (b ∷ boots)) w.seats) es
       → IsRecovering (stubs_of z) ((w.history ++ (record { call = call; reply = reply }) ∷ []) ++ es) (record { boots = noted (b ∷ boots) item; points = later }) u'
-  served_recovers later u' left = served_ahead (stubs_of z) w.history ws b boots w.run.points later u u' item e own s.let_in.none_by hidden_held
-      (λ es drawn. (none_of z set w b boots v stub k call s.let_in s.all item s.replied.asked es drawn, item_es es drawn, last_es es drawn, kept_es es drawn u' left, next_now es drawn u' left)) k.recovering
+  served_recovers later u' left lasts = served_ahead (stubs_of z) w.history ws b boots w.run.points later u u' item e own s.let_in.none_by hidden_held
+      (λ es drawn. (none_of z set w b boots v stub k call s.let_in s.all item s.replied.asked es drawn, item_es es drawn, last_es es drawn, kept_es es drawn u' left, next_now es drawn u' left, lasts es drawn)) k.recovering

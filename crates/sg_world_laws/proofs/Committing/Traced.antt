@@ -27,13 +27,13 @@ use Rattle.sg_facts.specs.Track.{is_live, new_row, row_at}
 use Rattle.sg_facts.proofs.RowLists.{live_of_row, row_of_live}
 use Rattle.sg_recovery_laws.specs.Midway.Progress.{Told, complete}
 use Rattle.sg_recovery_laws.specs.Midway.Stepping.{present_with, told_with}
-use Rattle.sg_recovery_laws.specs.sg_hist.Reading.{Position, desc_of, ends_walk, entries_before, id_given, is_ok, made_by, names_at, names_in, pair_of}
+use Rattle.sg_recovery_laws.specs.sg_hist.Reading.{Position, desc_of, ends_walk, entries_before, id_given, is_ok, last_items, made_by, names_at, names_in, older_items, pair_of}
 use Rattle.sg_recovery_laws.specs.sg_hist.Recovered.{is_patch_at, is_walk_of}
 use Rattle.sg_recovery_laws.proofs.Objects.Apart.{makes_row}
 use Rattle.sg_recovery_laws.proofs.Objects.Guarded.{acts, keeps}
 use Rattle.sg_recovery_laws.proofs.Objects.Serve.{names_served}
 use Rattle.sg_recovery_laws.proofs.Objects.Steady.{fewer_after}
-use Rattle.sg_recovery_laws.specs.sg_hist.Growing.{IsGrown, last_items, older_items}
+use Rattle.sg_recovery_laws.specs.sg_hist.Growing.{IsGrown}
 use Rattle.sg_recovery_laws.proofs.Given.{IsGiven, names_same}
 use Rattle.sg_recovery_laws.proofs.sg_hist.Growing.{names_at-more}
 use Rattle.sg_recovery_laws.proofs.Lists.{each_split}

@@ -17,11 +17,10 @@ use Rattle.sg_facts.specs.declared.entry.Entry.{Entry}
 use Rattle.sg_facts.specs.declared.row.Row.{Row}
 use Rattle.sg_facts.specs.declared.tables.WalkLine.{WalkLine}
 use Rattle.sg_facts.specs.declared.trace.Item.{Item}
-use Rattle.sg_facts.specs.declared.trace.Tag.TheVariants.{Load, Walk}
-use Rattle.sg_recovery_laws.specs.sg_hist.Reading.{is_made, is_rebuilt_at, names_in, walk_in}
-use Rattle.sg_recovery_laws.specs.sg_hist.Recovered.{call_in, is_walk_of}
-use Rattle.sg_recovery_laws.specs.sg_hist.Growing.{IsNextItem, IsOfNoEntry, last_items, noted, older_items, place_after, struck}
-use Rattle.sg_boot.specs.Invoking.{load_outcome}
+use Rattle.sg_facts.specs.declared.trace.Tag.TheVariants.{Walk}
+use Rattle.sg_recovery_laws.specs.sg_hist.Reading.{is_made, is_rebuilt_at, last_items, names_in, older_items, walk_in}
+use Rattle.sg_recovery_laws.specs.sg_hist.Recovered.{call_in, is_walk_of, item_of_load}
+use Rattle.sg_recovery_laws.specs.sg_hist.Growing.{IsNextItem, IsOfNoEntry, noted, place_after, struck}
 use Rattle.sg_recovery_laws.specs.Midway.Numbers.{AreNumbers}
 use Rattle.sg_recovery_laws.specs.Midway.Progress.{IsInRecovery, TellsCalls, complete, fresh, is_complete}
 use Rattle.sg_recovery_laws.specs.Midway.Stepping.{told_after}
@@ -109,9 +108,8 @@ pub record IsLeftToLoad (z : Setting) (w : WorldView) (stub : Stub) (call : Call
   pub some : file_at (object_of z.iface.facts w.history).files key ≢ []
 
 -- an item is of its load, in the turn of a client
-pub record IsLoadItem (client : ℕ) (key bytes : List ℕ) (item : Item) : Type 0 where
-  pub tag : item.tag ≡ Load key client
-  pub outcome : item.outcome ≡ load_outcome key bytes
+abbrev pub IsLoadItem : ℕ → List ℕ → List ℕ → Item → Type 0
+IsLoadItem client key bytes item = item ≡ item_of_load client item.points key bytes
 
 -- what the stubs tell after it
 abbrev pub loaded_stub : Stub → List ℕ → Stub

@@ -2,6 +2,7 @@
 use Rattle.std.proofs.Common.{◌+◌, [], sym, ap, subst}
 use Rattle.sg_entries.proofs.Halves.{IsReadUpTo, goes_on, none_read, stops}
 use Rattle.sg_entries.proofs.Made.{passed}
+use Rattle.sg_entries.proofs.Outlines.{stops_early}
 use Rattle.sg_entries.specs.Reads.{IsReadOf, entries_read}
 use Rattle.sg_entries.proofs.reading.history_of.Goals as goal
 
@@ -35,3 +36,12 @@ lines-preserved c =
     let r = subst (λ l. IsReadUpTo i text l c.lines.history.items) c.in-Some.ensures.0 c.lines.invariant in
     goes_on i text c.in-Some.line c.next.new.self c.lines.history.items c.push.new.self.items (c.len.result + 1) c.in_ok-written.written c.in_ok-entry.entry r c.in_ok-written.ensures
     (ap (λ n. n + 1) c.len.ensures) c.in_ok-entry.ensures c.in_ok-push.ensures.ok
+
+pub returns-in_err-check_outline_in : goal.returns-in_err-check_outline_in
+returns-in_err-check_outline_in c =
+    let i = c.args.iface.now in
+    let text = c.args.text.now in
+    let r = subst (λ l. IsReadUpTo i text l c.lines.history.items) c.in-Some.ensures.0 c.lines.invariant in
+    passed (λ r. IsReadOf i text (entries_read r)) c.from_residual-in_err-check_outline_in.result c.in_err-check_outline_in.field-0.0 c.from_residual-in_err-check_outline_in.ensures.1
+    (stops_early i text c.in-Some.line c.next.new.self c.lines.history.items c.in_ok-outline.outline c.in_err-check_outline_in.field-0.0 r c.in_ok-outline.ensures
+    c.requires c.in_err-check_outline_in.ensures)

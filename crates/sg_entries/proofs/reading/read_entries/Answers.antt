@@ -5,7 +5,7 @@ use Rattle.sg_entries.proofs.Spelt.{prints}
 use Rattle.sg_entries.specs.Printed.{PrintsHistory}
 use Rattle.sg_facts.specs.Limits.{most_script_calls}
 use Rattle.sg_facts.specs.sg_base.Lists.{Each}
-use Rattle.sg_world_laws.specs.Seats.{MayBeMade}
+use Rattle.sg_report.specs.sg_hist.Clients.{MayBeMade}
 use Rattle.sg_entries.proofs.reading.read_entries.Goals as goal
 
 pub returns-clause-printed : goal.returns-clause-printed

@@ -3,7 +3,7 @@ use Rattle.sg_entry_parse.proofs.OneAnswer.{may, only}
 use Rattle.sg_entry_parse.proofs.parser.parse_entry.Goals as goal
 
 pub returns-clause-answer : goal.returns-clause-answer
-returns-clause-answer c = may c.args.line.now c.entry_of.result c.entry_of.ensures.ends
+returns-clause-answer c = may c.args.line.now c.entry_in.result c.entry_in.ensures.ends
 
 pub returns-clause-only : goal.returns-clause-only
-returns-clause-only c = λ other. only c.args.line.now c.entry_of.result other c.entry_of.ensures.ends
+returns-clause-only c = λ other. only c.args.line.now c.entry_in.result other c.entry_in.ensures.ends

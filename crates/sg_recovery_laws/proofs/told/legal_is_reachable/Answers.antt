@@ -4,7 +4,7 @@ use Rattle.sg_facts.specs.Allowed.{is_allowed}
 use Rattle.sg_facts.specs.Held.{AreReachable}
 use Rattle.sg_facts.specs.Laws.{AnswersAndKeeps, CountsSlowly}
 use Rattle.sg_facts.specs.Object.{object_of}
-use Rattle.sg_recovery_laws.specs.LastItem.Asked.{IsClientsCall}
+use Rattle.sg_hist.specs.Clients.{IsClientsCall}
 use Rattle.sg_recovery_laws.proofs.LastItem.Reached.{reach_all}
 use Rattle.sg_recovery_laws.proofs.told.legal_is_reachable.Goals as goal
 

@@ -2,7 +2,8 @@ use Rattle.std.proofs.Common.{subst, sym, length}
 use Rattle.sg_facts.specs.sg_base.Lists.{Each}
 use Rattle.sg_facts.specs.Laws.{AnswersAndKeeps, CountsSlowly}
 use Rattle.sg_facts.specs.Object.{object_of}
-use Rattle.sg_recovery_laws.specs.LastItem.Asked.{IsClientsCall, IsComeTo}
+use Rattle.sg_recovery_laws.specs.LastItem.Asked.{IsComeTo}
+use Rattle.sg_hist.specs.Clients.{IsClientsCall}
 use Rattle.sg_recovery_laws.proofs.LastItem.Sound.{come_to}
 use Rattle.sg_recovery_laws.proofs.told.legal_is_sound.Goals as goal
 

@@ -1,5 +1,5 @@
 -- The turn was taken, or missed.
-use Rattle.std.proofs.Common.{◌≡◌, ◌∙◌, ◌≤◌, ℕ, None, Some, length, ap, sym, subst, arith}
+use Rattle.std.proofs.Common.{◌≡◌, ◌∙◌, ℕ, Some, ap, sym, subst, arith}
 use Rattle.std.specs.declared.option.Option.{Option}
 use Rattle.sg_facts.specs.Tables.{Compiled}
 use Rattle.sg_play.specs.Recovering.{RecoversSoFar}
@@ -8,7 +8,7 @@ use Rattle.sg_play.specs.sg_plain.Playing.Given.{with_handed}
 use Rattle.sg_play.specs.sg_plain.Playing.Plays.{IsPlaying}
 use Rattle.sg_sim.proofs.Taking.{missed_offer, missed_step, on_err, taken}
 use Rattle.sg_sim.specs.Inside.Givens.{lists_of}
-use Rattle.sg_sim.specs.Inside.Taken.{MissesTurn, TakesTurn}
+use Rattle.sg_sim.specs.Inside.Taken.{TakesTurn}
 use Rattle.sg_play.specs.sg_world.Steps.{WantsMemory}
 use Rattle.sg_play.specs.sg_world.Worlded.{setting_of}
 use Rattle.sg_play.specs.sg_world_laws.Setting.{Setting}

@@ -28,12 +28,27 @@ simulate_kind-requires-clause-stops c =
     ready_stops c.args.bytes.now c.in-Ready.accepted c.in-Ready.script
     (ready_for c.args.bytes.now (map facts_of c.shapes.result) c.in_ok-accepted.field-0 c.in-Ready.accepted c.in-Ready.accepted c.in-Ready.script c.shapes.ensures.facts c.in-Ready.is refl c.in_ok-accepted.ensures.input)
 
+pub reported-requires-clause-service : goal.reported-requires-clause-service
+reported-requires-clause-service c =
+    of_kind c.in-Ready.accepted.facts c.kind_of-kind.result
+    (ready_service c.args.bytes.now c.in-Ready.accepted c.in-Ready.script
+    (ready_for c.args.bytes.now (map facts_of c.shapes.result) c.in_ok-accepted.field-0 c.in-Ready.accepted c.in-Ready.accepted c.in-Ready.script c.shapes.ensures.facts c.in-Ready.is refl c.in_ok-accepted.ensures.input))
+    (c.kind_of-kind.ensures ∙ ap (λ (i : Declared). kind_by i.facts) c.interface.ensures.same)
+
+pub reported-requires-clause-run : goal.reported-requires-clause-run
+reported-requires-clause-run c = (
+  c.in-Ready.script,
+  ready_playable c.args.bytes.now c.in-Ready.accepted c.in-Ready.script
+      (ready_for c.args.bytes.now (map facts_of c.shapes.result) c.in_ok-accepted.field-0 c.in-Ready.accepted c.in-Ready.accepted c.in-Ready.script c.shapes.ensures.facts c.in-Ready.is refl c.in_ok-accepted.ensures.input),
+  c.in_ok-played-in-Ready.ensures.0,
+)
+
 pub returns-in_ok-played-in-Ready : goal.returns-in_ok-played-in-Ready
 returns-in_ok-played-in-Ready c =
     let ready : IsReady services c.args.bytes.now c.in-Ready.accepted c.in-Ready.script = ready_for c.args.bytes.now (map facts_of c.shapes.result) c.in_ok-accepted.field-0 c.in-Ready.accepted c.in-Ready.accepted c.in-Ready.script c.shapes.ensures.facts c.in-Ready.is refl c.in_ok-accepted.ensures.input in
     of_three c.reported.result _ _ _ _
     (λ o text status ended.
-    output_in_order c.args.bytes.now c.in-Ready.accepted c.in-Ready.script c.args.with_trace c.in_ok-played-in-Ready.played o.ended o.status o.text ready
+    output_in_order c.args.bytes.now c.in-Ready.accepted c.in-Ready.script c.args.shows c.in_ok-played-in-Ready.played o.ended o.status o.text ready
     (ready_service c.args.bytes.now c.in-Ready.accepted c.in-Ready.script ready)
     (subst (λ k. IsRunInOrder c.in-Ready.accepted (answering k) c.in-Ready.script c.in_ok-played-in-Ready.played)
     (c.kind_of-kind.ensures ∙ ap (λ (i : Declared). kind_by i.facts) c.interface.ensures.same) c.in_ok-played-in-Ready.ensures)

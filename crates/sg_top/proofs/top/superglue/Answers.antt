@@ -9,13 +9,13 @@ use Rattle.sg_top.proofs.top.superglue.Goals as goal
 
 pub returns-in-Play-clause-answer : goal.returns-in-Play-clause-answer
 returns-in-Play-clause-answer g c =
-    said_answer _ _ _ _ _ _ _ (Play true c.in-Play.trace) (one_command c.args.words.now)
-    (subst (IsCommand c.args.words.now) (c.in-Play.is ∙ ap (λ t. Play t c.in-Play.trace) c.if-threads.true) c.in-Some.ensures) c.with_threads.ensures.answer
+    said_answer _ _ _ _ _ _ _ (Play true c.in-Play.shows) (one_command c.args.words.now)
+    (subst (IsCommand c.args.words.now) (c.in-Play.is ∙ ap (λ t. Play t c.in-Play.shows) c.if-threads.true) c.in-Some.ensures) c.with_threads.ensures.answer
 
 pub returns-in-Play-clause-most_read : goal.returns-in-Play-clause-most_read
 returns-in-Play-clause-most_read g c =
-    said_reads _ _ _ (Play true c.in-Play.trace) (one_command c.args.words.now)
-    (subst (IsCommand c.args.words.now) (c.in-Play.is ∙ ap (λ t. Play t c.in-Play.trace) c.if-threads.true) c.in-Some.ensures) c.with_threads.ensures.most_read
+    said_reads _ _ _ (Play true c.in-Play.shows) (one_command c.args.words.now)
+    (subst (IsCommand c.args.words.now) (c.in-Play.is ∙ ap (λ t. Play t c.in-Play.shows) c.if-threads.true) c.in-Some.ensures) c.with_threads.ensures.most_read
 
 pub returns-in_default-command-clause-answer : goal.returns-in_default-command-clause-answer
 returns-in_default-command-clause-answer g c =

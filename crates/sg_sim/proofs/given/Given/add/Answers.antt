@@ -1,5 +1,5 @@
 -- The client's list has one more.
-use Rattle.std.proofs.Common.{[], ℕ, List, length, ◌≤◌, ◌<◌, ◌-◌, ◌+◌, ◌++◌, ◌∷◌, ◌∙◌, ap, arith, slice_set}
+use Rattle.std.proofs.Common.{[], ℕ, List, length, ◌<◌, ◌-◌, ◌++◌, ◌∷◌, ◌∙◌, ap, arith, slice_set}
 use Rattle.sg_facts.specs.sg_base.Room.{Roomy}
 use Rattle.sg_play.specs.sg_plain.Playing.Given.{given_in}
 use Rattle.sg_sim.proofs.Lists.{added}

@@ -1,5 +1,5 @@
 -- What the play came to.
-use Rattle.std.proofs.Common.{◌≡◌, ◌∙◌, ◌≤◌, ℕ, true, false, ap, sym, subst, arith}
+use Rattle.std.proofs.Common.{◌≡◌, ◌∙◌, true, false, ap, sym, subst}
 use Rattle.sg_facts.specs.Trace.{run_of}
 use Rattle.sg_play.specs.sg_hist.declared.ended.Ended.{Ended}
 use Rattle.sg_play.specs.sg_plain.Playing.Callers.{is_setting_up}
@@ -7,10 +7,9 @@ use Rattle.sg_play.specs.sg_plain.Playing.Ends.{ends_from}
 use Rattle.sg_play.specs.sg_plain.Playing.Turns.{NobodyGoes}
 use Rattle.sg_sim.proofs.Calls.{at_zero}
 use Rattle.sg_sim.proofs.Ending.{follows_plain, played}
-use Rattle.sg_sim.specs.Played.{FollowsSchedule, IsPlayed}
+use Rattle.sg_sim.specs.Played.{FollowsSchedule, IsOfWorld, IsPlayed}
 use Rattle.sg_play.specs.sg_world_laws.Setting.{Setting, stubs_of}
 use Rattle.sg_sim.specs.Inside.Givens.{lists_of}
-use Rattle.sg_sim.specs.Inside.Keeps.{KeepsPlay}
 use Rattle.sg_sim.specs.Playing.{Playing}
 use Rattle.sg_play.specs.sg_world.Worlded.{setting_of}
 use Rattle.sg_sim.proofs.play.Play.end.Goals as goal
@@ -25,10 +24,16 @@ returns-clause-played g c =
     subst (λ (q : Playing). IsPlayed (stubs_of (setting_of g.S.Service.ask g.S.Service.sound g.S.Service.parts q.tables)) g.T.Stops.test q.script q.plan c.new.result) c.self.view_is
     (subst (IsPlayed (stubs_of z) g.T.Stops.test x.script x.world.plan) (sym c.new.ensures)
     (played z g.T.Stops.test x.script x.world.plan x.world.view (lists_of x.given) x.passed x.last x.in_order c.self.invariant
-    (record { set = c.interface.ensures.set; legal = c.history.ensures.legal; recovering = c.trace.ensures.recovering; waits = c.history.ensures.waits })
+    (record { set = c.interface.ensures.set; legal = c.history.ensures.legal; recovering = c.trace.ensures.recovering; waits = c.history.ensures.waits; ending = c.trace.ensures.ending })
     settled nobody _
     (c.in_ok-copied.ensures ∙ c.history.ensures.items) (c.in_ok-copied-2.ensures ∙ c.trace.ensures.run) ends
     (c.trace.ensures.recovered (sym c.refused.ensures ∙ at_zero c.refused.result c.if-refused-gt0.false)) c.trace.ensures.stopped))
+
+pub returns-clause-world : goal.returns-clause-world
+returns-clause-world g c =
+    let x = c.self.inside in
+    subst (λ (q : Playing). IsOfWorld q.view c.new.result) c.self.view_is
+    (subst (IsOfWorld x.world.view) (sym c.new.ensures) (c.in_ok-copied.ensures ∙ c.history.ensures.items, c.in_ok-copied-2.ensures ∙ c.trace.ensures.run))
 
 pub returns-clause-schedule : goal.returns-clause-schedule
 returns-clause-schedule g c = λ so.
@@ -41,5 +46,5 @@ returns-clause-schedule g c = λ so.
     let run = ap (λ (e : Ended). run_of e.trace) c.new.ensures ∙ (c.in_ok-copied-2.ensures ∙ c.trace.ensures.run) in
     subst (λ (q : Playing). FollowsSchedule q.tables.iface g.S.Service.ask q.script (run_of c.new.result.trace) c.new.result.history.items) c.self.view_is
     (follows_plain z g.T.Stops.test x.script x.world.plan x.world.view (lists_of x.given) x.passed x.last x.in_order c.self.invariant
-    (record { set = c.interface.ensures.set; legal = c.history.ensures.legal; recovering = c.trace.ensures.recovering; waits = c.history.ensures.waits })
+    (record { set = c.interface.ensures.set; legal = c.history.ensures.legal; recovering = c.trace.ensures.recovering; waits = c.history.ensures.waits; ending = c.trace.ensures.ending })
     settled nobody ordered c.new.result history run)

@@ -1,5 +1,5 @@
 -- The ends of the clients so far.
-use Rattle.std.proofs.Common.{◌≡◌, ◌≤◌, length, take}
+use Rattle.std.proofs.Common.{◌≡◌, take}
 use Rattle.sg_play.specs.sg_plain.Playing.Ends.{ends_from}
 use Rattle.sg_sim.proofs.play.Play.ends.Given as goal
 

@@ -1,5 +1,5 @@
 -- A new play.
-use Rattle.std.proofs.Common.{◌≡◌, ◌∙◌, ◌≤◌, true, [], replicate, ap, sym, subst}
+use Rattle.std.proofs.Common.{◌∙◌, ◌≤◌, true, [], replicate, ap, sym, subst}
 use Rattle.sg_facts.specs.Limits.{last_client}
 use Rattle.sg_facts.specs.Tables.{Compiled}
 use Rattle.sg_play.specs.sg_plain.Calls.{most_client}
@@ -8,7 +8,6 @@ use Rattle.sg_sim.proofs.Beginning.{few_clients}
 use Rattle.sg_sim.proofs.Keeping.{kept_new}
 use Rattle.sg_sim.specs.Inside.Givens.{lists_of}
 use Rattle.sg_sim.specs.Inside.Keeps.{KeepsPlay}
-use Rattle.sg_sim.specs.Playing.{Playing}
 use Rattle.sg_play.specs.sg_world.Worlded.{setting_of}
 use Rattle.sg_play.specs.sg_world_laws.Setting.{Setting}
 use Rattle.sg_sim.proofs.play.Play.new.Goals as goal

@@ -1,5 +1,4 @@
 -- None of the clients so far can take a turn.
-use Rattle.std.proofs.Common.{◌≤◌, ◌<◌}
 use Rattle.sg_sim.specs.Inside.Next.{NoneBehind}
 use Rattle.sg_sim.proofs.play.Play.next_behind.Given as goal
 

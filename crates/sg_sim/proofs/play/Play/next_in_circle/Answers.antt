@@ -1,5 +1,5 @@
 -- The next after the client of the last turn, and then from 1 on.
-use Rattle.std.proofs.Common.{ℕ, ◌≡◌, ◌∙◌, length, ap, subst, sym}
+use Rattle.std.proofs.Common.{◌≡◌, ◌∙◌, length, ap, subst, sym}
 use Rattle.sg_play.specs.Following.Stages.{IsNextTurn}
 use Rattle.sg_sim.proofs.Turning.{from_around, from_behind, nobody}
 use Rattle.sg_sim.specs.Inside.Next.{IsFirstBehind, NoneBehind, stage_now}

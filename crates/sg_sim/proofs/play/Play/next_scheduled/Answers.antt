@@ -1,5 +1,5 @@
 -- The first of the schedule that may take its turn.
-use Rattle.std.proofs.Common.{ℕ, Some, length, ◌≡◌, ◌∙◌, ◌≤◌, ◌<◌, ap, sym, subst, arith, slice_get, slice_index_or}
+use Rattle.std.proofs.Common.{Some, ◌≡◌, ◌∙◌, ◌≤◌, ap, sym, subst, slice_get, slice_index_or}
 use Rattle.sg_play.proofs.Following.Whose.{from_one}
 use Rattle.sg_sim.proofs.Lists.{number_at}
 use Rattle.sg_sim.proofs.Turning.{from_schedule, more_scheduled}

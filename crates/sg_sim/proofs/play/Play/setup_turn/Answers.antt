@@ -1,5 +1,5 @@
 -- Client 1 takes the next turn while the setup goes on.
-use Rattle.std.proofs.Common.{ℕ, ◌≤◌, length, ap, subst, sym, arith}
+use Rattle.std.proofs.Common.{ℕ, ap, subst, sym, arith}
 use Rattle.sg_play.proofs.Following.Whose.{setup_turn}
 use Rattle.sg_play.specs.Following.Stages.{IsNextTurn}
 use Rattle.sg_sim.proofs.Beginning.{clients_from_one}

@@ -1,15 +1,15 @@
 -- The turn was taken, or may be taken again.
 use Rattle.std.proofs.Common.{true, false, length, ◌≡◌, ◌∙◌, ◌≤◌, ap, sym, subst}
-use Rattle.std.specs.Prelude.{◌&&◌, nat_le}
 use Rattle.sg_facts.specs.Tables.{Compiled}
 use Rattle.sg_play.specs.Turning.{StepsInTurn, with_offer}
 use Rattle.sg_play.specs.sg_plain.Playing.Callers.{is_setting_up}
 use Rattle.sg_sim.proofs.AnyTurn.{can_again, can_first, can_last, clients_missed, clients_taken, settled_missed, settled_taken}
 use Rattle.sg_sim.proofs.Keeping.{kept_aside, kept_miss, kept_turn}
+use Rattle.sg_sim.proofs.Others.{has_missed}
 use Rattle.sg_sim.proofs.Taking.{on_err}
 use Rattle.sg_sim.specs.Inside.Givens.{lists_of}
 use Rattle.sg_sim.specs.Inside.Keeps.{KeepsPlay}
-use Rattle.sg_sim.specs.Playing.{Playing, can_step}
+use Rattle.sg_sim.specs.Playing.{HasMissed, Playing, can_step}
 use Rattle.sg_play.specs.sg_world.Worlded.{setting_of}
 use Rattle.sg_play.specs.sg_world_laws.Setting.{Setting}
 use Rattle.sg_sim.proofs.play.Play.turn.Goals as goal
@@ -87,3 +87,12 @@ returns-clause-steps g c =
     let now = c.take_turn.new.world.view in
     let taken = c.in_ok-handed.ensures.taken in
     subst (λ (q : Playing). StepsInTurn (setting_of g.S.Service.ask g.S.Service.sound g.S.Service.parts q.tables) q.script (with_offer q.tables.iface.facts q.script q.view c.args.client) c.args.client c.in_ok-handed.handed now) c.self.view_is taken.steps
+
+pub returns-in_err-handed-clause-missed : goal.returns-in_err-handed-clause-missed
+returns-in_err-handed-clause-missed g c =
+    let x = c.self.inside in
+    let z : Setting = setting_of g.S.Service.ask g.S.Service.sound g.S.Service.parts x.world.tables in
+    let new = c.take_turn.new in
+    on_err _ c.from_residual.result
+    (subst (λ (q : Playing). HasMissed (setting_of g.S.Service.ask g.S.Service.sound g.S.Service.parts q.tables) q.script q.view c.args.client new.world.view) c.self.view_is
+    (has_missed z x.script x.world.view (lists_of x.given) c.args.client new.world.view (lists_of new.given) c.in_err-handed.ensures.missed))

@@ -26,4 +26,5 @@ returns c =
       room = m.room;
       rooms = m.rooms;
       twice = m.twice;
+      others = m.others;
     }

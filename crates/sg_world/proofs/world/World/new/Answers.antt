@@ -3,8 +3,9 @@ use Rattle.std.proofs.Common.{sym, ◌∙◌, ap, subst, arith, length}
 use Rattle.sg_facts.specs.Tables.{AreTables}
 use Rattle.sg_world_laws.specs.sg_recovery_laws.Objects.Serving.{IsService}
 use Rattle.sg_world_laws.specs.Setting.{IsSetting}
-use Rattle.sg_world.specs.Worlded.{Rooms, setting_of}
+use Rattle.sg_world.specs.Worlded.{Rooms, setting_of, view_of}
 use Rattle.sg_world.proofs.Starting.{IsNewEngine, as_many, is_setting, new_counted, new_is_world_of, new_points}
+use Rattle.sg_world.proofs.Ends.{ends_new}
 use Rattle.sg_world.proofs.world.World.new.Goals as goal
 
 pub invariant_of-result : goal.invariant_of-result
@@ -29,4 +30,5 @@ invariant_of-result g c =
         service = ap (λ t. t.iface.facts) made.tables ∙ c.requires.service;
       },
       new_counted (setting_of g.S.Service.ask g.S.Service.sound g.S.Service.parts e.tables) e c.new-3.result.items c.in_ok-seats.seats c.new-4.result.items c.reserve.new.self.items made.run,
+      ends_new (setting_of g.S.Service.ask g.S.Service.sound g.S.Service.parts e.tables) c.args.clients (view_of e c.new-3.result.items c.in_ok-seats.seats c.new-4.result.items c.reserve.new.self.items 0 0) c.new-3.ensures (ap (λ r. r.boots) made.run) c.new-4.ensures c.in_ok-seats.ensures,
     )

@@ -3,14 +3,15 @@ use Rattle.std.proofs.Common.{◌≡◌, ◌+◌, ◌++◌, ◌∷◌, [], ◌�
 use Rattle.sg_facts.specs.sg_base.declared.call.Call.{Call}
 use Rattle.sg_facts.specs.Interface.{declares}
 use Rattle.sg_facts.specs.Kinds.{FitsKinds}
-use Rattle.sg_clients.specs.sg_seat.WorldView.{IsFree, seat_of}
+use Rattle.sg_clients.specs.sg_seat.WorldView.{IsFree, happened, offered, seat_of}
 use Rattle.sg_clients.specs.sg_seat.declared.mark.MarkKind.TheVariants.{Offer}
-use Rattle.sg_world_laws.specs.Seats.{MayBeMade}
+use Rattle.sg_replay.specs.sg_hist.Clients.{MayBeMade}
 use Rattle.sg_clients.specs.sg_seat.declared.phase.Phase.TheVariants.{Asked}
 use Rattle.sg_world.proofs.Rooming.{length_set}
 use Rattle.sg_world.specs.Inners.{rooms_in, view_in}
 use Rattle.sg_world.specs.Worlded.{IsWorld, Rooms, setting_of}
 use Rattle.sg_world.proofs.Turning.{may_make, offered_again, only_counted_of}
+use Rattle.sg_world.proofs.Ends.{ends_same, kept_offered}
 use Rattle.sg_world.proofs.world.World.offer.Goals as goal
 
 pub invariant_of-self-2 : goal.invariant_of-self-2
@@ -39,6 +40,8 @@ invariant_of-self-2 g c =
         service = c.self.invariant.0.service;
       },
       c.self.invariant.1,
+      ends_same z (happened (offered w c.args.client call)) (record w { history = c.reserve.new.self.items; seats = c.offer.new.self; withdrawn = c.reserve-2.new.self.items; marks = c.add.new.self.items; events = c.saturating_add-self-inside.result }) c.reserve.ensures.items refl c.reserve-2.ensures.items c.in_ok-offer.ensures.ok
+          (kept_offered z w c.args.client c.requires.client.0 last c.self.invariant.2 call (subst (λ x. IsFree (seat_of x.view c.args.client).phase) (sym c.self.view_is) c.requires.free)),
     )
 
 pub invariant_of-self-in_err-reserve-2 : goal.invariant_of-self-in_err-reserve-2
@@ -55,6 +58,7 @@ invariant_of-self-in_err-reserve-2 g c =
         service = c.self.invariant.0.service;
       },
       c.self.invariant.1,
+      ends_same (setting_of g.S.Service.ask g.S.Service.sound g.S.Service.parts e.tables) w (record w { history = c.reserve.new.self.items; seats = w.seats; withdrawn = c.reserve-2.new.self.items; marks = w.marks; events = c.saturating_add-self-inside.result }) c.reserve.ensures.items refl c.reserve-2.ensures.items refl c.self.invariant.2,
     )
 
 pub invariant_of-self-in_err-reserve-3 : goal.invariant_of-self-in_err-reserve-3
@@ -71,6 +75,7 @@ invariant_of-self-in_err-reserve-3 g c =
         service = c.self.invariant.0.service;
       },
       c.self.invariant.1,
+      ends_same (setting_of g.S.Service.ask g.S.Service.sound g.S.Service.parts e.tables) w (record w { history = c.reserve.new.self.items; seats = w.seats; withdrawn = c.reserve-2.new.self.items; marks = c.reserve-3.new.self.items; events = c.saturating_add-self-inside.result }) c.reserve.ensures.items refl c.reserve-2.ensures.items refl c.self.invariant.2,
     )
 
 pub invariant_of-self-in_err-offer : goal.invariant_of-self-in_err-offer
@@ -89,4 +94,22 @@ invariant_of-self-in_err-offer g c =
         service = c.self.invariant.0.service;
       },
       c.self.invariant.1,
+      ends_same (setting_of g.S.Service.ask g.S.Service.sound g.S.Service.parts e.tables) w (record w { history = c.reserve.new.self.items; seats = c.offer.new.self; withdrawn = c.reserve-2.new.self.items; marks = c.reserve-3.new.self.items; events = c.saturating_add-self-inside.result }) c.reserve.ensures.items refl c.reserve-2.ensures.items c.in_err-offer.ensures.err c.self.invariant.2,
+    )
+
+pub invariant_of-self : goal.invariant_of-self
+invariant_of-self g c =
+    let e = c.self.inside.inner.engine in
+    let w = view_in c.self.inside.inner in
+    let rooms : Rooms = rooms_in c.self.inside.inner in
+    let later : Rooms = record { entries = c.reserve.new.self.room; withdrawals = c.self.inside.inner.withdrawn.room; marks = c.self.inside.inner.marks.room } in (
+      record {
+        world = only_counted_of (setting_of g.S.Service.ask g.S.Service.sound g.S.Service.parts e.tables) e w rooms later c.self.invariant.0.world c.reserve.new.self.items c.self.inside.inner.withdrawn.items c.self.inside.inner.marks.items
+            c.saturating_add-self-inside.result c.reserve.ensures.items refl refl c.reserve.ensures.room (omega arith) (omega arith);
+        points = record { asked_so = c.self.invariant.0.points.asked_so; struck_so = c.self.invariant.0.points.struck_so; tested = c.self.invariant.0.points.tested };
+        clients = c.self.invariant.0.clients;
+        service = c.self.invariant.0.service;
+      },
+      c.self.invariant.1,
+      ends_same (setting_of g.S.Service.ask g.S.Service.sound g.S.Service.parts e.tables) w (record w { history = c.reserve.new.self.items; events = c.saturating_add-self-inside.result }) c.reserve.ensures.items refl refl refl c.self.invariant.2,
     )

@@ -1,5 +1,5 @@
 -- A world keeps what it keeps after a step.
-use Rattle.std.proofs.Common.{ap, subst, ◌≤◌, sym, ◌∙◌, ◌≡◌, length}
+use Rattle.std.proofs.Common.{ap, refl, subst, ◌≤◌, sym, ◌∙◌, ◌≡◌, length}
 use Rattle.std.specs.Prelude.{OnErr}
 use Rattle.sg_facts.specs.Tables.{Compiled}
 use Rattle.sg_clients.specs.sg_seat.WorldView.{WorldView, happened, seat_of}
@@ -10,6 +10,8 @@ use Rattle.sg_world.specs.Worlded.{CountsAll, Worlded, setting_of}
 use Rattle.sg_world_laws.proofs.Moves.{its_seat}
 use Rattle.sg_world_laws.proofs.Turns.{seat_there}
 use Rattle.sg_world.specs.Engines.Stubs.{stub_of}
+use Rattle.sg_world.proofs.Ends.{ends_err, ends_ok, ends_same}
+use Rattle.sg_world_laws.specs.Ending.{IsEnding}
 use Rattle.sg_world.proofs.world.World.step.Goals as goal
 
 pub invariant_of-self : goal.invariant_of-self
@@ -29,6 +31,9 @@ invariant_of-self g c =
       subst (λ (t : Compiled). CountsAll (setting_of g.S.Service.ask g.S.Service.sound g.S.Service.parts t) (record (view_in mid) { events = c.saturating_add-self-inside.result; refused = c.saturating_add-self-inside-then-is_err.result })) (sym tables)
           (subst (λ n. CountsAll z (record (view_in mid) { refused = n })) (sym c.saturating_add-self-inside-then-is_err.ensures)
           (err_counted z w c.args.client c.self.invariant.0.world.keeps.cell c.self.invariant.1 (view_in mid) c.step-did.result (sym c.is_err.ensures.value ∙ c.if-is_err.true) c.step-did.ensures.err)),
+      subst (λ (t : Compiled). IsEnding (setting_of g.S.Service.ask g.S.Service.sound g.S.Service.parts t) (record (view_in mid) { events = c.saturating_add-self-inside.result; refused = c.saturating_add-self-inside-then-is_err.result })) (sym tables)
+          (ends_same z (view_in mid) (record (view_in mid) { events = c.saturating_add-self-inside.result; refused = c.saturating_add-self-inside-then-is_err.result }) refl refl refl refl
+          (ends_err z w c.args.client c.requires.client.0 (subst (λ (y : Worlded). c.args.client ≤ length y.view.seats) (sym c.self.view_is) c.requires.client.1) (stub_of x.engine) c.self.invariant.0.world.keeps c.self.invariant.2 (view_in mid) c.step-did.result (sym c.is_err.ensures.value ∙ c.if-is_err.true) c.step-did.ensures.err)),
     )
 
 pub invariant_of-self-else-is_err : goal.invariant_of-self-else-is_err
@@ -47,6 +52,9 @@ invariant_of-self-else-is_err g c =
       },
       subst (λ (t : Compiled). CountsAll (setting_of g.S.Service.ask g.S.Service.sound g.S.Service.parts t) (record (view_in mid) { events = c.saturating_add-self-inside.result; refused = mid.refused })) (sym tables)
           (ok_counted z w c.args.client c.self.invariant.0.world.keeps.cell c.self.invariant.1 (view_in mid) c.step-did.result (sym c.is_err.ensures.value ∙ c.if-is_err.false) c.step-did.ensures.did),
+      subst (λ (t : Compiled). IsEnding (setting_of g.S.Service.ask g.S.Service.sound g.S.Service.parts t) (record (view_in mid) { events = c.saturating_add-self-inside.result; refused = mid.refused })) (sym tables)
+          (ends_same z (view_in mid) (record (view_in mid) { events = c.saturating_add-self-inside.result; refused = mid.refused }) refl refl refl refl
+          (ends_ok z w c.args.client c.requires.client.0 (subst (λ (y : Worlded). c.args.client ≤ length y.view.seats) (sym c.self.view_is) c.requires.client.1) (stub_of x.engine) c.self.invariant.0.world.keeps c.self.invariant.2 (view_in mid) c.step-did.result (sym c.is_err.ensures.value ∙ c.if-is_err.false) c.step-did.ensures.did)),
     )
 
 pub returns-then-is_err-clause-err : goal.returns-then-is_err-clause-err

@@ -7,6 +7,7 @@ use Rattle.sg_clients.specs.sg_seat.WorldView.{unanswered}
 use Rattle.sg_world.proofs.Recovered.{recovered_now, recovering_now, tested_now}
 use Rattle.sg_world.specs.Inners.{view_in}
 use Rattle.sg_world.specs.Worlded.{CountsAll, Worlded, setting_of}
+use Rattle.sg_world_laws.specs.Ending.{IsEnding}
 use Rattle.sg_world_laws.specs.Setting.{stubs_of}
 use Rattle.sg_world.proofs.world.World.trace.Goals as goal
 
@@ -33,3 +34,6 @@ returns-clause-stopped g c =
 
 pub returns-clause-points : goal.returns-clause-points
 returns-clause-points g c = subst (λ (y : Worlded). CountsAll (setting_of g.S.Service.ask g.S.Service.sound g.S.Service.parts y.tables) y.view) c.self.view_is c.self.invariant.1
+
+pub returns-clause-ending : goal.returns-clause-ending
+returns-clause-ending g c = subst (λ (y : Worlded). IsEnding (setting_of g.S.Service.ask g.S.Service.sound g.S.Service.parts y.tables) y.view) c.self.view_is c.self.invariant.2

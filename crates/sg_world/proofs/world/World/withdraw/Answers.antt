@@ -6,6 +6,7 @@ use Rattle.sg_world.proofs.Rooming.{length_set}
 use Rattle.sg_world.specs.Inners.{rooms_in, view_in}
 use Rattle.sg_world.specs.Worlded.{Rooms, setting_of}
 use Rattle.sg_world.proofs.Turning.{may_withdraw, withdrawn_on}
+use Rattle.sg_world.proofs.Ends.{ends_withdrawn}
 use Rattle.sg_world.proofs.world.World.withdraw.Goals as goal
 
 pub add-requires : goal.add-requires
@@ -43,4 +44,6 @@ invariant_of-self g c =
         service = c.self.invariant.0.service;
       },
       c.self.invariant.1,
+      ends_withdrawn (setting_of g.S.Service.ask g.S.Service.sound g.S.Service.parts e.tables) w c.args.client c.requires.client.0 (subst (λ x. c.args.client ≤ length x.view.seats) (sym c.self.view_is) c.requires.client.1) c.self.invariant.2 c.withdraw-withdrawn.new.self c.withdraw-withdrawn.ensures.seats
+          c.add.new.self.items c.withdraw-withdrawn.result c.add.ensures.items c.add-2.new.self.items c.saturating_add-self-inside.result,
     )

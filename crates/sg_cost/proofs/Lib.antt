@@ -1,0 +1,17 @@
+pub mod AllWalks
+pub mod BootCosts
+pub mod BootLines
+pub mod CallCosts
+pub mod Few
+pub mod Fronts
+pub mod FunCosts
+pub mod Indexed
+pub mod KeptCosts
+pub mod LastBoots
+pub mod LineCosts
+pub mod RowFacts
+pub mod RowsAt
+pub mod Scripted
+pub mod Settled
+pub mod Tracking
+pub mod Within

@@ -1,0 +1,10 @@
+-- The first items are counted.
+use Rattle.std.proofs.Common.{◌≡◌, ◌≤◌, true, take}
+use Rattle.sg_cost.specs.Costs.{replays_for}
+use Rattle.sg_cost.proofs.boots.replays_in.Given as goal
+
+abbrev pub invariant-items : goal.invariant-items
+invariant-items l = record {
+  is : l.count ≡ replays_for (λ id. true) (take l.item-index l.items);
+  few : l.count ≤ l.item-index;
+}

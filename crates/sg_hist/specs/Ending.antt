@@ -1,0 +1,76 @@
+-- How a run ends, as its trace says, and what it means that a run which ended has recovered.
+use Rattle.std.specs.Prelude.{ℕ, ◌≡◌, ◌≢◌, Bool, true, false, ◌&&◌, ◌||◌, not, if◌then◌else◌, List, [], ◌∷◌, None, Some}
+use Rattle.std.specs.List.{list_any}
+use Rattle.std.specs.declared.option.Option.{Option}
+use Rattle.sg_facts.specs.sg_base.Lists.{Each}
+use Rattle.sg_facts.specs.sg_base.Stops.{asked_after}
+use Rattle.sg_facts.specs.sg_base.declared.call.Call.{Call}
+use Rattle.sg_facts.specs.declared.entry.Entry.{Entry}
+use Rattle.sg_facts.specs.declared.trace.Item.{Item}
+use Rattle.sg_facts.specs.Facts.{Facts}
+use Rattle.sg_facts.specs.Tables.{AreTables}
+use Rattle.sg_facts.specs.Trace.{Boot, Run}
+use Rattle.sg_hist.specs.declared.ended.End.{End}
+use Rattle.sg_hist.specs.declared.ended.End.TheVariants.{Done, Blocked}
+use Rattle.sg_hist.specs.Reading.{Position, is_tagged, last_places}
+use Rattle.sg_hist.specs.Recovered.{IsRecovered, Stubs, ends_committed, waiting}
+use Rattle.sg_hist.specs.Wakes.{has_blocked, wakes_at}
+
+-- ---- who waits
+
+-- whether a call had to wait at a place
+abbrev pub waits_in : Call → Position → Bool
+waits_in call p = is_tagged call.client call.seq p.item.tag && has_blocked p.item.outcome
+
+-- the entries that may wake who waits: in a private service none wakes another client, and who waits does so until the next boot
+abbrev pub waking_entries : Facts → List Entry → List Entry
+waking_entries facts history = if facts.global then history else []
+
+-- whether a call had to wait at one of these places, after which no entry's item wakes it
+abbrev pub is_still_blocked : Facts → List Entry → Call → List Position → Bool
+is_still_blocked facts entries call [] = false
+is_still_blocked facts entries call (p ∷ ps) = (waits_in call p && not (list_any (wakes_at facts entries call.desc) ps)) || is_still_blocked facts entries call ps
+
+-- a client that waits at its end had to wait in the last boot, and nothing woke it since
+abbrev pub IsStillBlocked : Facts → List Entry → List Boot → End → Type 0
+IsStillBlocked facts history boots Done = Unit {0}
+IsStillBlocked facts history boots (Blocked call) = is_still_blocked facts (waking_entries facts history) call (last_places boots) ≡ true
+
+-- ---- the last boot
+
+-- something was asked in the last boot, where it isn't the first
+abbrev pub EndsUsed : List Boot → Type 0
+EndsUsed [] = Unit {0}
+EndsUsed (b ∷ []) = Unit {0}
+EndsUsed (b ∷ c ∷ []) = c.items ≢ []
+EndsUsed (b ∷ c ∷ d ∷ boots) = EndsUsed (c ∷ d ∷ boots)
+
+-- the number of the last point of some items, where so many points were asked before
+abbrev pub last_point : ℕ → List Item → ℕ
+last_point asked [] = asked
+last_point asked (item ∷ items) = last_point item.points items
+
+-- a boot that stopped did so right after the commit of its last item: the stop is the next point
+abbrev pub IsQuietStop : Facts → List Item → Option ℕ → Type 0
+IsQuietStop facts items None = Unit {0}
+IsQuietStop facts items (Some stop) = (ends_committed facts items ≡ true) × (stop ≡ asked_after (last_point 0 items) 1)
+
+-- the last boot did, if it stopped
+abbrev pub EndsQuiet : Facts → List Boot → Type 0
+EndsQuiet facts [] = Unit {0}
+EndsQuiet facts (b ∷ []) = IsQuietStop facts b.items b.stop
+EndsQuiet facts (b ∷ c ∷ boots) = EndsQuiet facts (c ∷ boots)
+
+-- ---- a run that ended
+
+-- a run that ended has recovered, where its clients ended so
+pub record HasRecovered (s : Stubs) (history : List Entry) (run : Run) (ends : List (ℕ × End)) : Type 0 where
+  -- no row is rebuilt by other walks than the shortest of an interface that can be recovered
+  pub tables : AreTables s.interface s.walks
+  pub recovered : IsRecovered s history run (waiting ends)
+  -- no client waits that the service didn't let wait since its last boot, or that was woken since
+  pub blocked : Each (λ e. IsStillBlocked s.interface.facts history run.boots e.1) ends
+  -- none is booted for nothing
+  pub used : EndsUsed run.boots
+  -- in the end none stops at a point that no call asked
+  pub quiet : EndsQuiet s.interface.facts run.boots

@@ -1,0 +1,35 @@
+-- The costs are those of the run, by the tables of the interface.
+use Rattle.std.proofs.Common.{◌∙◌, ap, sym, subst}
+use Rattle.sg_cost.specs.Costs.{costs_at}
+use Rattle.sg_cost.specs.Lines.{cost_text_of}
+use Rattle.sg_facts.specs.Interface.{Declared}
+use Rattle.sg_facts.specs.Trace.{run_of}
+use Rattle.sg_report.specs.sg_hist.declared.ended.Ended.{Ended}
+use Rattle.sg_top.specs.Headline.{answering}
+use Rattle.sg_top.specs.Inside.Plays.{IsPlayOf}
+use Rattle.sg_top.proofs.Running.{of_one}
+use Rattle.sg_top.proofs.output.costs_shown.Goals as goal
+
+pub cost_kind-requires-clause-service : goal.cost_kind-requires-clause-service
+cost_kind-requires-clause-service c = ap (λ (i : Declared). i.facts) c.in_ok-tables.ensures.iface ∙ c.requires.service
+
+pub cost_kind-requires-clause-run : goal.cost_kind-requires-clause-run
+cost_kind-requires-clause-run c =
+    subst (λ i. IsPlayOf i (answering c.args.kind) c.ended.result.now) (sym c.in_ok-tables.ensures.iface)
+    (subst (IsPlayOf c.args.accepted.now (answering c.args.kind)) (sym c.ended.ensures) c.requires.run)
+
+pub returns : goal.returns
+returns c =
+    let i = c.args.accepted.now in
+    let walks = c.in_ok-tables.tables.walks in
+    let same = c.interface.ensures.same ∙ c.in_ok-tables.ensures.iface in
+    of_one c.cost_text.result _ _
+    (λ text is. (
+      walks,
+      c.in_ok-tables.ensures.lines,
+      is ∙ ap (λ (j : Declared). cost_text_of j.facts c.in_ok-costs.costs) same
+          ∙ ap (cost_text_of i.facts) (c.in_ok-costs.ensures
+          ∙ ap (λ j. costs_at j walks c.ended.result.now.history.items (run_of c.ended.result.now.trace)) c.in_ok-tables.ensures.iface
+          ∙ ap (λ (e : Ended). costs_at i walks e.history.items (run_of e.trace)) c.ended.ensures),
+    ))
+    c.cost_text.ensures

@@ -1,0 +1,60 @@
+-- What a world keeps of how its run would end, between its events.
+use Rattle.std.specs.Prelude.{ℕ, ◌≡◌, ◌⊎◌, ◌≤◌, true, false, List, [], None, length}
+use Rattle.sg_facts.specs.declared.entry.Entry.{Entry}
+use Rattle.sg_facts.specs.Facts.{Facts}
+use Rattle.sg_facts.specs.Guard.{guard}
+use Rattle.sg_facts.specs.Interface.{Declared}
+use Rattle.sg_facts.specs.Object.{object_of}
+use Rattle.sg_facts.specs.Trace.{Boot}
+use Rattle.sg_recovery_laws.specs.sg_hist.Ending.{EndsQuiet, EndsUsed, is_still_blocked, waking_entries}
+use Rattle.sg_recovery_laws.specs.sg_hist.Reading.{last_places}
+use Rattle.sg_seat.specs.WorldView.{Seat, WorldView, is_held_phase, seat_in}
+use Rattle.sg_seat.specs.declared.phase.Phase.TheVariants.{Asked, Blocked, Held}
+use Rattle.sg_world_laws.specs.Setting.{Setting}
+
+-- a fact of each client's seat
+abbrev pub EachSeat : (ℕ → Seat → Type 0) → List Seat → Type 0
+EachSeat P seats = (client : ℕ) → 1 ≤ client → client ≤ length seats → P client (seat_in seats client)
+
+-- ---- the last boot
+
+-- somebody will ask the service in its next turn: its call is asked, and the guard lets it pass
+pub record SomebodyAsks (i : Declared) (history : List Entry) (seats : List Seat) : Type 0 where
+  pub client : ℕ
+  pub first : 1 ≤ client
+  pub last : client ≤ length seats
+  pub phase : (seat_in seats client).phase ≡ Asked
+  pub passes : guard i (object_of i.facts history) (seat_in seats client).call ≡ None
+
+-- the last boot has an item, where it isn't the first, and it didn't stop at a point that no call asked
+abbrev pub EndsWell : Facts → List Boot → Type 0
+EndsWell facts boots = EndsUsed boots × EndsQuiet facts boots
+
+-- a reply that is held was given in one of the boots, in which something was asked if it is the last
+pub record IsHeldUsed (boots : List Boot) (s : Seat) : Type 0 where
+  pub within : s.boot ≤ length boots
+  pub used : s.boot ≡ length boots → EndsUsed boots
+
+-- the boots might end so, or somebody will use the service
+pub record IsEndingSoFar (i : Declared) (history : List Entry) (boots : List Boot) (seats : List Seat) : Type 0 where
+  pub ends : EndsWell i.facts boots ⊎ SomebodyAsks i history seats
+  pub held : EachSeat (λ client s. s.phase ≡ Held → IsHeldUsed boots s) seats
+
+-- ---- who waits
+
+-- who waits had to wait in the last boot, and no entry's item woke it since; and in a global service, where each call is visible, no
+-- reply is held
+pub record IsBlockedSeat (facts : Facts) (entries : List Entry) (boots : List Boot) (s : Seat) : Type 0 where
+  pub blocked : s.phase ≡ Blocked → is_still_blocked facts entries s.call (last_places boots) ≡ true
+  pub visible : facts.global ≡ true → is_held_phase s.phase ≡ false
+
+abbrev pub AreBlockedSoFar : Facts → List Entry → List Boot → List Seat → Type 0
+AreBlockedSoFar facts history boots seats = EachSeat (λ client s. IsBlockedSeat facts (waking_entries facts history) boots s) seats
+
+-- ---- a world
+
+-- what a world keeps of how its run would end: of its boots while no call was withdrawn, since whoever caused a stop or a boot may go;
+-- and of who waits
+pub record IsEnding (z : Setting) (w : WorldView) : Type 0 where
+  pub boots : w.withdrawn ≡ [] → IsEndingSoFar z.iface w.history w.run.boots w.seats
+  pub blocked : AreBlockedSoFar z.iface.facts w.history w.run.boots w.seats

@@ -1,0 +1,128 @@
+-- Runs that end as none may, or whose calls are under way at the wrong time; and one beside them that ended well.
+use Rattle.std.specs.Prelude.{ℕ, List, [], ◌∷◌, None, Some, codes}
+use Rattle.sg_facts.specs.sg_base.declared.call.Call.{Call}
+use Rattle.sg_facts.specs.sg_base.declared.reply.Code.TheVariants.{Held, NoDesc}
+use Rattle.sg_facts.specs.sg_base.declared.reply.Reply.TheVariants.{Refused}
+use Rattle.sg_facts.specs.declared.entry.Entry.{Entry}
+use Rattle.sg_facts.specs.declared.outcome.Outcome.TheVariants.{Blocks, Stopped}
+use Rattle.sg_facts.specs.declared.trace.Item.{Item}
+use Rattle.sg_facts.specs.declared.trace.Tag.TheVariants.{Load}
+use Rattle.sg_facts.specs.Trace.{Run}
+use Rattle.sg_recovery_laws.specs.sg_hist.declared.ended.End.{End}
+use Rattle.sg_recovery_laws.specs.sg_hist.declared.ended.End.TheVariants.{Blocked, Done}
+use Rattle.test_histories.specs.Written.{entry, ok, ok_at, ok_with}
+use Rattle.test_recovery.specs.StrictRuns.{alloc, in_one_boot, other_take, second_take}
+use Rattle.test_recovery.specs.Written.{bare_call, boot, call_with, called, replied, text, walked, word, written}
+
+-- ---- who waits
+
+-- client 2 waits in its take
+abbrev pub other_waits : List (ℕ × End)
+other_waits = (1, Done) ∷ (2, Blocked other_take) ∷ []
+
+-- client 1 makes a lock and takes it: the service was never asked for client 2's take
+abbrev pub waits_unasked : Run
+waits_unasked = in_one_boot (called alloc 0 4 (replied (ok_at 1)) ∷ called (bare_call 1 2 2 1) 1 8 (replied ok) ∷ []) 9
+
+-- the take had to wait
+abbrev pub waits_asked : Run
+waits_asked = in_one_boot (called alloc 0 4 (replied (ok_at 1)) ∷ called (bare_call 1 2 2 1) 1 8 (replied ok) ∷ called other_take 1 10 Blocks ∷ []) 10
+
+-- client 1 takes its lock twice
+abbrev pub taken_and_held : List Entry
+taken_and_held = entry alloc (ok_at 1) ∷ entry (bare_call 1 2 2 1) ok ∷ entry second_take (Refused Held) ∷ []
+
+-- the take had to wait in the first boot; the second, in which the lock is rebuilt for client 1, never heard of it
+abbrev pub slept_over_reboot : Run
+slept_over_reboot = record {
+  boots =
+      boot (called alloc 0 4 (replied (ok_at 1)) ∷ called (bare_call 1 2 2 1) 1 8 (replied ok) ∷ called other_take 1 10 Blocks ∷ []) (Some 11)
+      ∷ boot (
+      walked 1 1 1 (bare_call 1 0 1 0) 0 15 (replied (ok_at 1))
+      ∷ walked 1 2 1 (bare_call 1 0 2 1) 1 18 (replied ok)
+      ∷ called second_take 1 20 (replied (Refused Held))
+      ∷ []) None
+      ∷ [];
+  points = 21;
+}
+
+-- ---- the last boot
+
+-- the service stops at a point that no call asked
+abbrev pub stopped_unasked : Run
+stopped_unasked = record { boots = boot (called alloc 0 4 (replied (ok_at 1)) ∷ []) (Some 6) ∷ []; points = 6 }
+
+-- it stops once the lock is made, is booted, and stops again before it is used
+abbrev pub stopped_unused : Run
+stopped_unused = record { boots = boot (called alloc 0 4 (replied (ok_at 1)) ∷ []) (Some 5) ∷ boot [] (Some 6) ∷ []; points = 6 }
+
+-- ---- refusals by the guard
+
+-- client 2's take is refused before its lock is made
+abbrev pub refused_early : List Entry
+refused_early = entry (bare_call 2 1 2 1) (Refused NoDesc) ∷ entry alloc (ok_at 1) ∷ []
+
+-- the service is asked for it once the lock is there
+abbrev pub asked_late : Run
+asked_late = record {
+  boots = boot (called alloc 0 4 (replied (ok_at 1)) ∷ called (bare_call 2 1 2 1) 1 7 Stopped ∷ []) (Some 7) ∷ [];
+  points = 7;
+}
+
+-- client 2 takes lock 1 where client 1 owns it, after its call on a lock that isn't there
+abbrev pub take_after_refusal : Call
+take_after_refusal = bare_call 2 2 2 1
+
+abbrev pub refused_late : List Entry
+refused_late = entry alloc (ok_at 1) ∷ entry (bare_call 1 2 2 1) ok ∷ entry (bare_call 2 1 4 5) (Refused NoDesc) ∷ []
+
+-- the service is asked for the take before client 1 owns the lock, and so before client 2's earlier call was refused
+abbrev pub asked_early : Run
+asked_early = record {
+  boots =
+      boot (called alloc 0 4 (replied (ok_at 1)) ∷ called take_after_refusal 1 7 Stopped ∷ []) (Some 7)
+      ∷ boot (
+      walked 1 1 1 (bare_call 1 0 1 0) 0 11 (replied (ok_at 1))
+      ∷ called (bare_call 1 2 2 1) 1 14 (replied ok)
+      ∷ called take_after_refusal 1 16 Blocks
+      ∷ []) None
+      ∷ [];
+  points = 16;
+}
+
+-- ---- loads
+
+-- a client writes into its file, and reads it at its end
+abbrev pub written_and_read : List Entry
+written_and_read =
+    entry (call_with 1 1 1 0 (text (codes "a") ∷ [])) (ok_at 1)
+    ∷ entry (call_with 1 2 3 1 (text (codes "hi") ∷ [])) (ok_with 0 2)
+    ∷ entry (call_with 1 3 2 1 (word 8 ∷ [])) (ok_with 0 0)
+    ∷ []
+
+-- the item of the load shows the client's read
+abbrev pub load_of_read : Item
+load_of_read = record {
+  tag = Load (codes "/a") 1;
+  shown = call_with 1 3 2 1 (word 8 ∷ []);
+  real = 1;
+  points = 15;
+  outcome = written ok (codes "/a") 0 (codes "hi");
+}
+
+abbrev pub load_shows_a_call : Run
+load_shows_a_call = record {
+  boots =
+      boot (
+      called (call_with 1 1 1 0 (text (codes "a") ∷ [])) 0 4 (replied (ok_at 1))
+      ∷ called (call_with 1 2 3 1 (text (codes "hi") ∷ [])) 1 9 (written (ok_with 0 2) (codes "/a") 0 (codes "hi"))
+      ∷ []) (Some 10)
+      ∷ boot (
+      walked 1 1 1 (call_with 1 0 1 0 (text (codes "a") ∷ [])) 0 14 (replied (ok_at 1))
+      ∷ walked 1 2 1 (call_with 1 0 4 1 (word 2 ∷ [])) 1 17 (replied ok)
+      ∷ load_of_read
+      ∷ called (call_with 1 3 2 1 (word 8 ∷ [])) 1 21 (replied (ok_with 0 0))
+      ∷ []) None
+      ∷ [];
+  points = 21;
+}
