@@ -1,10 +1,10 @@
 -- What it means to ask the service of a cell.
 use Rattle.std.specs.Prelude.{ℕ, ◌≡◌, ◌≢◌, ◌+◌, ◌<◌, ◌≤◌, List, [], ◌∷◌, ◌++◌, None, Some}
 use Rattle.std.specs.declared.option.Option.{Option}
+use Rattle.sg_facts.specs.sg_base.Counts.{last_count}
 use Rattle.sg_facts.specs.sg_base.Stops.{asked_after}
 use Rattle.sg_facts.specs.sg_base.declared.call.Call.{Call}
 use Rattle.sg_facts.specs.sg_base.declared.reply.Reply.{Reply}
-use Rattle.sg_facts.specs.sg_base.declared.reply.Reply.TheVariants.{Ok}
 use Rattle.sg_boot.specs.Cells.{Celled}
 use Rattle.sg_facts.specs.declared.outcome.Outcome.{Outcome}
 use Rattle.sg_facts.specs.declared.outcome.Outcome.TheVariants.{Replied, Blocks, Stopped, NoMemory}
@@ -75,9 +75,10 @@ pub record NotesWait (ask : Table) (held : Object) (old : Celled) (tag : Tag) (s
   pub running : new.running ≡ Some held
   pub run : new.run ≡ with_item old.run (item_of_call tag shown call.desc points.asked Blocks) points.asked
 
--- the service stopped, and has failed: the item is noted, and the boot ended at the last point asked
+-- the service stopped, and has failed: the item is noted, and the boot ended at the last point asked, which can be counted
 pub record NotesStop (ask : Table) (parts : ℕ → ℕ) (held : Object) (old : Celled) (tag : Tag) (shown call : Call) (points : Points) (new : Celled) (later : Points) : Type 0 where
   pub stops : Stops ask parts held call points later
+  pub counted : later.asked ≤ last_count
   pub running : new.running ≡ None
   pub run : new.run ≡ with_stop (with_item old.run (item_of_call tag shown call.desc later.asked Stopped) later.asked) later.asked
 

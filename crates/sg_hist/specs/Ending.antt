@@ -1,19 +1,21 @@
 -- How a run ends, as its trace says, and what it means that a run which ended has recovered.
-use Rattle.std.specs.Prelude.{ℕ, ◌≡◌, ◌≢◌, Bool, true, false, ◌&&◌, ◌||◌, not, if◌then◌else◌, List, [], ◌∷◌, None, Some}
+use Rattle.std.specs.Prelude.{ℕ, ◌≡◌, ◌≢◌, ◌==◌, Bool, true, false, ◌&&◌, ◌||◌, not, if◌then◌else◌, List, [], ◌∷◌, ◌++◌, None, Some, IsSome}
 use Rattle.std.specs.List.{list_any}
 use Rattle.std.specs.declared.option.Option.{Option}
-use Rattle.sg_facts.specs.sg_base.Lists.{Each}
+use Rattle.sg_facts.specs.sg_base.Lists.{Each, When}
 use Rattle.sg_facts.specs.sg_base.Stops.{asked_after}
 use Rattle.sg_facts.specs.sg_base.declared.call.Call.{Call}
 use Rattle.sg_facts.specs.declared.entry.Entry.{Entry}
 use Rattle.sg_facts.specs.declared.trace.Item.{Item}
+use Rattle.sg_facts.specs.declared.trace.Tag.{Tag}
+use Rattle.sg_facts.specs.declared.trace.Tag.TheVariants.{Walk, Load, Client}
 use Rattle.sg_facts.specs.Facts.{Facts}
 use Rattle.sg_facts.specs.Tables.{AreTables}
 use Rattle.sg_facts.specs.Trace.{Boot, Run}
 use Rattle.sg_hist.specs.declared.ended.End.{End}
 use Rattle.sg_hist.specs.declared.ended.End.TheVariants.{Done, Blocked}
-use Rattle.sg_hist.specs.Reading.{Position, is_tagged, last_places}
-use Rattle.sg_hist.specs.Recovered.{IsRecovered, Stubs, ends_committed, waiting}
+use Rattle.sg_hist.specs.Reading.{Position, is_tagged, items_of, last_places, places_in}
+use Rattle.sg_hist.specs.Recovered.{IsRecovered, Stubs, ends_committed, is_clients, is_entered, is_replied, waiting}
 use Rattle.sg_hist.specs.Wakes.{has_blocked, wakes_at}
 
 -- ---- who waits
@@ -35,6 +37,27 @@ is_still_blocked facts entries call (p ∷ ps) = (waits_in call p && not (list_a
 abbrev pub IsStillBlocked : Facts → List Entry → List Boot → End → Type 0
 IsStillBlocked facts history boots Done = Unit {0}
 IsStillBlocked facts history boots (Blocked call) = is_still_blocked facts (waking_entries facts history) call (last_places boots) ≡ true
+
+-- ---- replies that were lost
+
+-- the client in whose turn an item was noted
+abbrev pub client_of : Tag → ℕ
+client_of (Walk id k client) = client
+client_of (Load key client) = client
+client_of (Client client seq) = client
+
+-- whether a place's item is of a client's call that was replied to, and is no entry's
+abbrev pub is_unentered : List Entry → Position → Bool
+is_unentered history p = is_clients p.item.tag && is_replied p.item.outcome && not (is_entered history p)
+
+-- a reply that is no entry's was lost: its boot was stopped, and nothing was noted in it for the client after the reply
+abbrev pub IsLost : List Entry → Option ℕ → Position → Type 0
+IsLost history stop p = When (is_unentered history p) (IsSome stop × (list_any (λ item. client_of item.tag == client_of p.item.tag) p.rest ≡ false))
+
+-- so is each such reply in boots, which stand after other items
+abbrev pub AreLost : List Entry → List Item → List Boot → Type 0
+AreLost history older [] = Unit {0}
+AreLost history older (b ∷ boots) = Each (IsLost history b.stop) (places_in older [] b.items (items_of boots)) × AreLost history (older ++ b.items) boots
 
 -- ---- the last boot
 
@@ -74,3 +97,5 @@ pub record HasRecovered (s : Stubs) (history : List Entry) (run : Run) (ends : L
   pub used : EndsUsed run.boots
   -- in the end none stops at a point that no call asked
   pub quiet : EndsQuiet s.interface.facts run.boots
+  -- no reply is given that no entry has, unless a stop took it; and none that was held is asked for twice in a boot
+  pub lost : AreLost history [] run.boots

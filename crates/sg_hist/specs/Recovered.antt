@@ -5,7 +5,7 @@ use Rattle.std.specs.declared.option.Option.{Option}
 use Rattle.std.specs.Option.{is_some}
 use Rattle.std.specs.List.{Contains, flat_map, list_all, list_any}
 use Rattle.sg_facts.specs.sg_base.Lists.{Each, When}
-use Rattle.sg_facts.specs.sg_base.Counts.{last_count}
+use Rattle.sg_facts.specs.sg_base.Stops.{asked_after}
 use Rattle.sg_facts.specs.sg_base.declared.call.Call.{Call}
 use Rattle.sg_facts.specs.sg_base.declared.reply.Reply.{Reply}
 use Rattle.sg_facts.specs.sg_base.declared.reply.Reply.TheVariants.{Ok, Refused}
@@ -323,8 +323,8 @@ IsTrackedAt i walks history p (Load key client) = Unit {0}
 
 -- ---- points
 
--- a number of points is a sum. It is only at least the sum where it isn't exact: where points were asked by a step that then got no
--- memory, and asked them again
+-- a number of points is a sum, which stands still at the greatest count. It is only at least the sum where it isn't exact: where
+-- points were asked by a step that then got no memory, and asked them again
 abbrev pub IsCount : Bool → ℕ → ℕ → Type 0
 IsCount true points sum = points ≡ sum
 IsCount false points sum = sum ≤ points
@@ -333,21 +333,21 @@ IsCount false points sum = sum ≤ points
 -- reply, and for a refusal the one for its reply
 abbrev pub IsStopInCall : Bool → ℕ → ℕ → Option Reply → ℕ → Type 0
 IsStopInCall exact parts asked None points = ⊥
-IsStopInCall exact parts asked (Some (Ok good)) points = (asked + 2 ≤ points) × When exact (points ≤ asked + 2 + parts)
-IsStopInCall exact parts asked (Some (Refused code)) points = IsCount exact points (asked + 2)
+IsStopInCall exact parts asked (Some (Ok good)) points = (asked_after asked 2 ≤ points) × When exact (points ≤ asked_after asked (2 + parts))
+IsStopInCall exact parts asked (Some (Refused code)) points = IsCount exact points (asked_after asked 2)
 
 -- the number of an item's last point, where so many were asked before: one for the use of the service; then the parts of an Ok
 -- and one for its reply
 abbrev pub IsPointOfCall : Bool → (ℕ → ℕ) → ℕ → Option Reply → ℕ → Outcome → ℕ → Type 0
-IsPointOfCall exact parts asked answer fun (Replied (Ok good) patch) points = IsCount exact points (asked + 2 + parts fun)
-IsPointOfCall exact parts asked answer fun (Replied (Refused code) patch) points = IsCount exact points (asked + 2)
-IsPointOfCall exact parts asked answer fun Blocks points = IsCount exact points (asked + 1)
+IsPointOfCall exact parts asked answer fun (Replied (Ok good) patch) points = IsCount exact points (asked_after asked (2 + parts fun))
+IsPointOfCall exact parts asked answer fun (Replied (Refused code) patch) points = IsCount exact points (asked_after asked 2)
+IsPointOfCall exact parts asked answer fun Blocks points = IsCount exact points (asked_after asked 1)
 IsPointOfCall exact parts asked answer fun Stopped points = IsStopInCall exact (parts fun) asked answer points
 IsPointOfCall exact parts asked answer fun NoMemory points = ⊥
 
 -- the number of an item's last point, by its tag: a load has one point, for the use of the service; a call has those of a call
 abbrev pub IsPointOf : Bool → (ℕ → ℕ) → ℕ → Option Reply → Tag → ℕ → Outcome → ℕ → Type 0
-IsPointOf exact parts asked answer (Load key client) fun outcome points = IsCount exact points (asked + 1)
+IsPointOf exact parts asked answer (Load key client) fun outcome points = IsCount exact points (asked_after asked 1)
 IsPointOf exact parts asked answer (Walk id k client) fun outcome points = IsPointOfCall exact parts asked answer fun outcome points
 IsPointOf exact parts asked answer (Client client seq) fun outcome points = IsPointOfCall exact parts asked answer fun outcome points
 
@@ -357,7 +357,7 @@ answer_to facts ask front item = ask (value_at facts front) (service_call item)
 
 -- how many points were asked after an item: one more where a visible call was committed
 abbrev pub asked_with_commit : Facts → Item → ℕ
-asked_with_commit facts item = if is_visible_reply facts item then item.points + 1 else item.points
+asked_with_commit facts item = if is_visible_reply facts item then asked_after item.points 1 else item.points
 
 -- the points of the items of a boot, one after the other, after others of it, where so many were asked before
 abbrev pub ArePoints : Bool → Facts → Table → (ℕ → ℕ) → ℕ → List Item → List Item → Type 0
@@ -395,7 +395,7 @@ ends_committed facts (item ∷ other ∷ items) = ends_committed facts (other �
 abbrev pub IsStopOf : Bool → Facts → List Item → ℕ → Option ℕ → Type 0
 IsStopOf exact facts items asked None = ends_stopped items ≡ false
 IsStopOf exact facts items asked (Some stop) =
-    ((ends_stopped items || ends_committed facts items ≡ true) × (stop ≡ asked)) ⊎ ((ends_stopped items ≡ false) × IsCount exact stop (asked + 1))
+    ((ends_stopped items || ends_committed facts items ≡ true) × (stop ≡ asked)) ⊎ ((ends_stopped items ≡ false) × IsCount exact stop (asked_after asked 1))
 
 -- the points of a run, boot by boot, where so many were asked before: each item has its points, each stop is at the last point
 -- asked, and the sum is the run's number of points
@@ -457,6 +457,6 @@ pub record IsRecovered (s : Stubs) (history : List Entry) (run : Run) (unanswere
   -- no call reaches the service where what it needs is missing there, or isn't as it is tracked
   pub tracked_state : Each (λ p. IsTrackedAt s.interface s.walks history p p.item.tag) (places_of run)
   -- no point is left out or asked twice, and no stop is at another than the last that was asked
-  pub points : (nat_lt run.points last_count ≡ true) → ArePointsOf true s.interface.facts s.ask s.parts 0 run.boots run.points
+  pub points : ArePointsOf true s.interface.facts s.ask s.parts 0 run.boots run.points
   -- no reply that was held when the service stopped is committed afterwards
   pub held : AreInBoots run 0 history

@@ -1,5 +1,5 @@
 -- Where nobody may take a turn, the run of a play ends as it should: its boots, and who waits.
-use Rattle.std.proofs.Common.{◌≡◌, ◌⊎◌, ℕ, zero, suc, ◌+◌, ◌-◌, ◌<◌, Bool, true, false, cond, List, [], ◌∷◌, length, refl, sym, ap, subst, inl, inr, arith}
+use Rattle.std.proofs.Common.{◌≡◌, ◌⊎◌, ℕ, zero, suc, ◌+◌, ◌-◌, ◌<◌, ◌≤◌, Bool, true, false, cond, List, [], ◌∷◌, length, refl, sym, ap, subst, inl, inr, arith}
 use Rattle.std.specs.Prelude.{nat_lt, slice_get, unwrap_or}
 use Rattle.sg_facts.specs.sg_base.Lists.{Each}
 use Rattle.sg_facts.specs.declared.entry.Entry.{Entry}
@@ -12,8 +12,9 @@ use Rattle.sg_plain.specs.sg_script.declared.script.Script.{Script}
 use Rattle.sg_plain.specs.sg_seat.WorldView.{Seat, WorldView, is_blocked_phase, no_seat, seat_of}
 use Rattle.sg_plain.specs.sg_seat.declared.phase.Phase.{Phase}
 use Rattle.sg_plain.specs.sg_seat.declared.phase.Phase.TheVariants.{Idle, Asked, Held, Receipted, Blocked, Left}
-use Rattle.sg_plain.specs.sg_hist.Ending.{EndsQuiet, EndsUsed, IsStillBlocked, waking_entries}
+use Rattle.sg_plain.specs.sg_hist.Ending.{AreLost, EndsQuiet, EndsUsed, IsStillBlocked, waking_entries}
 use Rattle.sg_plain.specs.sg_hist.declared.ended.End.{End}
+use Rattle.sg_world.proofs.Losing.{over_in}
 use Rattle.sg_world.specs.sg_world_laws.Ending.{EndsWell, IsBlockedSeat, IsEnding, SomebodyAsks}
 use Rattle.sg_world.specs.sg_world_laws.Setting.{Setting}
 
@@ -22,6 +23,7 @@ pub record IsOver (facts : Facts) (history : List Entry) (boots : List Boot) (en
   pub blocked : Each (λ e. IsStillBlocked facts history boots e.1) ends
   pub used : EndsUsed boots
   pub quiet : EndsQuiet facts boots
+  pub lost : AreLost history [] boots
 
 blocked_is : (p : Phase) → is_blocked_phase p ≡ true → p ≡ Blocked
 blocked_is Blocked is = refl
@@ -61,6 +63,7 @@ over_by z script w is none nobody =
           (is.blocked (k + 1) (omega arith) (omega (arith, below))));
       used = ends.0;
       quiet = ends.1;
+      lost = over_in w.history w.seats w.run.boots nobody_holds (is.lost none);
     }
   where
     by : EndsWell z.iface.facts w.run.boots ⊎ SomebodyAsks z.iface w.history w.seats → EndsWell z.iface.facts w.run.boots
@@ -68,3 +71,8 @@ over_by z script w is none nobody =
     by (inr asks) =
         let more = nat_lt (seat_of w asks.client).seq (length (script_calls script asks.client)) in
         absurd (let goes : may_go (seat_of w asks.client).phase more ≡ true = ap (λ p. may_go p more) asks.phase in let none = nobody asks.client asks.first asks.last in cc (goes, none))
+
+    nobody_holds : (client : ℕ) → 1 ≤ client → client ≤ length w.seats → (seat_of w client).phase ≡ Held → ⊥
+    nobody_holds client first last held =
+        let more = nat_lt (seat_of w client).seq (length (script_calls script client)) in
+        let goes : may_go (seat_of w client).phase more ≡ true = ap (λ p. may_go p more) held in let none = nobody client first last in cc (goes, none)

@@ -1,6 +1,7 @@
 -- Points stay counted, whatever comes next.
-use Rattle.std.proofs.Common.{◌≡◌, ◌⊎◌, inl, inr, ℕ, ◌+◌, Bool, true, false, ◌&&◌, ◌||◌, if◌then◌else◌, List, [], ◌∷◌, ◌++◌, None, refl, sym, ◌∙◌, ap, subst, arith, append-nil, append_assoc}
+use Rattle.std.proofs.Common.{◌≡◌, ◌⊎◌, inl, inr, ℕ, Bool, true, false, ◌&&◌, ◌||◌, if◌then◌else◌, List, [], ◌∷◌, ◌++◌, None, refl, sym, ◌∙◌, ap, subst, arith, append-nil, append_assoc}
 use Rattle.std.specs.Prelude.{unwrap_or}
+use Rattle.sg_facts.specs.sg_base.Stops.{asked_after}
 use Rattle.sg_facts.specs.declared.outcome.Outcome.{Outcome}
 use Rattle.sg_facts.specs.declared.outcome.Outcome.TheVariants.{Replied, Blocks, Stopped, NoMemory}
 use Rattle.sg_facts.specs.declared.trace.Item.{Item}
@@ -37,7 +38,7 @@ stopped_push (x ∷ y ∷ items) item = stopped_push (y ∷ items) item
 
 -- an item that stopped is no reply
 stopped_asked : (facts : Facts) (item : Item) → is_stopped item.outcome ≡ true → asked_with_commit facts item ≡ item.points
-stopped_asked facts item stopped = ap (λ b. if b then item.points + 1 else item.points) (hidden (is_clients item.tag) (is_visible facts item.shown.fun) item.outcome stopped)
+stopped_asked facts item stopped = ap (λ b. if b then asked_after item.points 1 else item.points) (hidden (is_clients item.tag) (is_visible facts item.shown.fun) item.outcome stopped)
   where
     hidden : (a b : Bool) (outcome : Outcome) → is_stopped outcome ≡ true → a && b && is_replied outcome ≡ false
     hidden true true Stopped is = refl
@@ -85,7 +86,7 @@ points_stopped exact facts ask parts asked b (c ∷ d ∷ boots) points later it
 -- a stop at the point of the commit before, or at the next, at which the service was about to be used
 pub points_struck : (exact : Bool) (facts : Facts) (ask : Table) (parts : ℕ → ℕ) (asked : ℕ) (b : Boot) (boots : List Boot) (points later stop : ℕ)
     → last_stop (b ∷ boots) ≡ None
-    → ((ends_committed facts (last_items (b ∷ boots)) ≡ true) × (stop ≡ asked_over facts asked (b ∷ boots))) ⊎ IsCount exact stop (asked_over facts asked (b ∷ boots) + 1)
+    → ((ends_committed facts (last_items (b ∷ boots)) ≡ true) × (stop ≡ asked_over facts asked (b ∷ boots))) ⊎ IsCount exact stop (asked_after (asked_over facts asked (b ∷ boots)) 1)
     → IsCount exact later stop
     → ArePointsOf exact facts ask parts asked (b ∷ boots) points → ArePointsOf exact facts ask parts asked (struck (b ∷ boots) stop) later
 points_struck exact facts ask parts asked b boots points later stop running at count all = from asked b boots running at all
@@ -95,7 +96,7 @@ points_struck exact facts ask parts asked b boots points later stop running at c
     n_or false = refl
 
     from : (asked : ℕ) (b : Boot) (boots : List Boot) → last_stop (b ∷ boots) ≡ None
-        → ((ends_committed facts (last_items (b ∷ boots)) ≡ true) × (stop ≡ asked_over facts asked (b ∷ boots))) ⊎ IsCount exact stop (asked_over facts asked (b ∷ boots) + 1)
+        → ((ends_committed facts (last_items (b ∷ boots)) ≡ true) × (stop ≡ asked_over facts asked (b ∷ boots))) ⊎ IsCount exact stop (asked_after (asked_over facts asked (b ∷ boots)) 1)
         → ArePointsOf exact facts ask parts asked (b ∷ boots) points → ArePointsOf exact facts ask parts asked (struck (b ∷ boots) stop) later
     from asked b [] running (inl both) all =
         let n : ℕ = asked_in facts asked b.items in (
@@ -105,7 +106,7 @@ points_struck exact facts ask parts asked b boots points later stop running at c
         )
     from asked b [] running (inr next) all =
         let n : ℕ = asked_in facts asked b.items in
-        (all.0, inr (subst (IsStopOf exact facts b.items n) running all.1, subst (λ v. IsCount exact stop (unwrap_or v n + 1)) running next), count)
+        (all.0, inr (subst (IsStopOf exact facts b.items n) running all.1, subst (λ v. IsCount exact stop (asked_after (unwrap_or v n) 1)) running next), count)
     from asked b (c ∷ []) running at all =
         (all.0, all.1, from (unwrap_or b.stop (asked_in facts asked b.items)) c [] running at all.2)
     from asked b (c ∷ d ∷ boots) running at all =

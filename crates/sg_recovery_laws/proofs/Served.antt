@@ -156,7 +156,7 @@ behind_more item p q e g none =
     or_none true = refl
     or_none false = refl
 
-entered_more : (item : Item) (p q : Position) (h : List Entry) → IsGrown item p q → IsOfNoEntry item h → is_entered h q ≡ is_entered h p
+pub entered_more : (item : Item) (p q : Position) (h : List Entry) → IsGrown item p q → IsOfNoEntry item h → is_entered h q ≡ is_entered h p
 entered_more item p q [] g none = refl
 entered_more item p q (e ∷ h) g none =
     ap (λ b. b || is_entered h q) (behind_more item p q e g none.0)

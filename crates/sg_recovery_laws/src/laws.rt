@@ -1,6 +1,7 @@
 // What stays as it is where a run grows: an entry more, an item more, a stop, a boot.
 ghost use Rattle.std.specs.Prelude.{◌≡◌, ◌⊎◌, ◌+◌, ◌++◌, ◌∷◌, [], ℕ, Bool, List, None, Some, IsSome, false, true};
 ghost use Rattle.sg_facts.specs.sg_base.Lists.{Each};
+ghost use Rattle.sg_facts.specs.sg_base.Stops.{asked_after};
 ghost use Rattle.sg_facts.specs.sg_base.declared.call.Call.{Call};
 ghost use Rattle.sg_facts.specs.declared.entry.Entry.{Entry};
 ghost use Rattle.sg_facts.specs.declared.trace.Item.{Item};
@@ -99,7 +100,7 @@ pub fn points_go_on()
     ensures between { (exact : Bool) (facts : Facts) (ask : Table) (parts : ℕ → ℕ) (asked : ℕ) (b : Boot) (boots : List Boot) (points later stop : ℕ)
         → last_stop (b ∷ boots) ≡ None
         → ((ends_committed facts (last_items (b ∷ boots)) ≡ true) × (stop ≡ asked_over facts asked (b ∷ boots)))
-        ⊎ IsCount exact stop (asked_over facts asked (b ∷ boots) + 1)
+        ⊎ IsCount exact stop (asked_after (asked_over facts asked (b ∷ boots)) 1)
         → IsCount exact later stop
         → ArePointsOf exact facts ask parts asked (b ∷ boots) points → ArePointsOf exact facts ask parts asked (struck (b ∷ boots) stop) later }
     ensures again { (exact : Bool) (facts : Facts) (ask : Table) (parts : ℕ → ℕ) (asked : ℕ) (b : Boot) (boots : List Boot) (points : ℕ)

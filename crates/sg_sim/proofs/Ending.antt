@@ -121,6 +121,7 @@ module _ (z : Setting) (test : ℕ → List ℕ → List ℕ → Type 0) (script
           blocked = over.blocked;
           used = over.used;
           quiet = over.quiet;
+          lost = over.lost;
         })));
     stops = subst (λ r. test r.points (struck_in r) plan) (sym run) stops;
     ends = subst (λ h. AreEnds z.iface z.ask h script ended.ends) (sym history) (subst (AreEnds z.iface z.ask w.history script) (sym ends)

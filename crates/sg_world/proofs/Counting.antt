@@ -1,6 +1,7 @@
 -- The points of a world are counted after every step.
 use Rattle.std.proofs.Common.{Bool, List, None, Option, Some, [], arith, false, inl, inr, subst, true, ℕ, ◌++◌, ◌+◌, ◌∷◌, ◌≡◌, ◌≤◌, ◌<◌}
 use Rattle.std.specs.Prelude.{unwrap_or}
+use Rattle.sg_facts.specs.sg_base.Stops.{asked_after}
 use Rattle.sg_facts.specs.sg_base.declared.reply.Reply.{Reply}
 use Rattle.sg_facts.specs.sg_base.declared.reply.Reply.TheVariants.{Ok, Refused}
 use Rattle.sg_facts.specs.Facts.{Facts}
@@ -27,7 +28,7 @@ at_least true points sum is = omega (arith, is)
 at_least false points sum is = is
 
 -- a number of points exactly after another that is counted
-pub count_on : (exact : Bool) (n points asked more : ℕ) → IsCount exact points n → asked ≡ points + more → IsCount exact asked (n + more)
+pub count_on : (exact : Bool) (n points asked more : ℕ) → IsCount exact points n → asked ≡ asked_after points more → IsCount exact asked (asked_after n more)
 count_on true n points asked more is next = omega (arith, is, next)
 count_on false n points asked more is next = omega (arith, is, next)
 
@@ -45,23 +46,8 @@ point_of_call false parts n points answer fun NoMemory own is one = absurd one
 pub point_of : (exact : Bool) (parts : ℕ → ℕ) (n points : ℕ) (answer : Option Reply) (tag : Tag) (fun : ℕ) (outcome : Outcome) (own : ℕ) → IsCount exact points n → IsPointOf true parts points answer tag fun outcome own → IsPointOf exact parts n answer tag fun outcome own
 point_of exact parts n points answer (Walk id k client) fun outcome own is one = point_of_call exact parts n points answer fun outcome own is one
 point_of exact parts n points answer (Client client seq) fun outcome own is one = point_of_call exact parts n points answer fun outcome own is one
-point_of true parts n points answer (Load key client) fun outcome own is one = subst (λ m. own ≡ m + 1) is one
+point_of true parts n points answer (Load key client) fun outcome own is one = subst (λ m. own ≡ asked_after m 1) is one
 point_of false parts n points answer (Load key client) fun outcome own is one = omega (arith, is, one)
-
--- no fewer points were asked after an item than before it
-grows_call : (parts : ℕ → ℕ) (points : ℕ) (answer : Option Reply) (fun : ℕ) (outcome : Outcome) (own : ℕ) → IsPointOfCall true parts points answer fun outcome own → points < own
-grows_call parts points answer fun (Replied (Ok good) patch) own one = omega (arith, one)
-grows_call parts points answer fun (Replied (Refused code) patch) own one = omega (arith, one)
-grows_call parts points answer fun Blocks own one = omega (arith, one)
-grows_call parts points None fun Stopped own one = absurd one
-grows_call parts points (Some (Ok good)) fun Stopped own one = let low = one.0 in omega (arith, low)
-grows_call parts points (Some (Refused code)) fun Stopped own one = omega (arith, one)
-grows_call parts points answer fun NoMemory own one = absurd one
-
-pub grows : (parts : ℕ → ℕ) (points : ℕ) (answer : Option Reply) (tag : Tag) (fun : ℕ) (outcome : Outcome) (own : ℕ) → IsPointOf true parts points answer tag fun outcome own → points < own
-grows parts points answer (Walk id k client) fun outcome own one = grows_call parts points answer fun outcome own one
-grows parts points answer (Client client seq) fun outcome own one = grows_call parts points answer fun outcome own one
-grows parts points answer (Load key client) fun outcome own one = omega (arith, one)
 
 -- what is counted exactly is counted at least
 weak_call : (parts : ℕ → ℕ) (n : ℕ) (answer : Option Reply) (fun : ℕ) (outcome : Outcome) (own : ℕ) → IsPointOfCall true parts n answer fun outcome own → IsPointOfCall false parts n answer fun outcome own

@@ -30,13 +30,14 @@ use Rattle.sg_world_laws.proofs.Ending.Ended.{ending_kept}
 use Rattle.sg_world.proofs.Ending.{ending_step}
 use Rattle.sg_world_laws.proofs.Ending.Seats.{others_set}
 use Rattle.sg_world.proofs.Blocking.{blocked_step, blocked_set}
-use Rattle.sg_world_laws.specs.Ending.{AreBlockedSoFar, IsEnding, IsEndingSoFar}
+use Rattle.sg_world.proofs.Losing.{lost_set, lost_step}
+use Rattle.sg_world_laws.specs.Ending.{AreBlockedSoFar, AreLostSoFar, IsEnding, IsEndingSoFar}
 use Rattle.sg_world.specs.declared.did.Did.{Did}
 use Rattle.sg_world.specs.declared.did.Did.TheVariants.{Answered, Blocked as Waits, Booted, Loaded, Lost, Replayed, Served, Skipped, Struck}
 use Rattle.sg_world.specs.Steps.{HasStepped, Steps, WantsMemory}
 use Rattle.sg_world_laws.proofs.Entered.{numbers_below}
 use Rattle.sg_world_laws.specs.Seats.{AreSeated, HaveSeats, IsSeated}
-use Rattle.sg_world_laws.specs.Setting.{Setting}
+use Rattle.sg_world_laws.specs.Setting.{IsSetting, Setting}
 
 -- it is so of another world with the same history, boots, seats and withdrawn calls
 pub ends_same : (z : Setting) (w later : WorldView) → later.history ≡ w.history → later.run.boots ≡ w.run.boots → later.withdrawn ≡ w.withdrawn → later.seats ≡ w.seats → IsEnding z w → IsEnding z later
@@ -47,6 +48,9 @@ ends_same z w later h b gone l is = record {
   blocked =
       subst (λ x. AreBlockedSoFar z.iface.facts x later.run.boots later.seats) (sym h) (subst (λ x. AreBlockedSoFar z.iface.facts w.history x later.seats) (sym b) (subst (AreBlockedSoFar z.iface.facts w.history w.run.boots) (sym l)
       is.blocked));
+  lost = λ empty.
+      subst (λ x. AreLostSoFar x later.seats (length later.run.boots) [] later.run.boots) (sym h) (subst (λ x. AreLostSoFar w.history later.seats (length x) [] x) (sym b)
+      (subst (λ x. AreLostSoFar w.history x (length w.run.boots) [] w.run.boots) (sym l) (is.lost (sym gone ∙ empty))));
 }
 
 -- what is used of what a world keeps
@@ -92,11 +96,12 @@ module _ (z : Setting) (w : WorldView) (c : ℕ) (first : 1 ≤ c) (last : c ≤
   s = seat_of w c
 
   -- a step was made
-  pub kept_stepped : (did : Did) (now : WorldView) → IsGround z w → HasStepped z w c did now → IsEnding z now
-  kept_stepped did now ground step =
+  pub kept_stepped : IsSetting z → (did : Did) (now : WorldView) → IsGround z w → HasStepped z w c did now → IsEnding z now
+  kept_stepped set did now ground step =
       subst (IsEnding z) (sym step.counted) (record {
         boots = λ none. ending_step z w c first last seat.its ground.cell (is.boots (sym (withdrawn_stays z w c did step.later step.steps) ∙ none)) did step.later step.steps;
         blocked = blocked_step z w c first last seat.its next ground.cell.begun ground.items is.blocked did step.later step.steps;
+        lost = λ none. lost_step z set w c first last seat.its next ground.cell (is.lost (sym (withdrawn_stays z w c did step.later step.steps) ∙ none)) did step.later step.steps;
       })
     where
       seat : IsSeated z w.history c (seat_of w c)
@@ -111,18 +116,22 @@ module _ (z : Setting) (w : WorldView) (c : ℕ) (first : 1 ≤ c) (last : c ≤
 
   -- or wanted memory
   pub kept_wanted : (now : WorldView) → WantsMemory z w c now → IsEnding z now
-  kept_wanted now wants = subst (IsEnding z) (sym wants.counted) (record { boots = is.boots; blocked = is.blocked })
+  kept_wanted now wants = subst (IsEnding z) (sym wants.counted) (record { boots = is.boots; blocked = is.blocked; lost = is.lost })
 
   -- the seat of a client is another, which neither waits nor holds a reply, and it wasn't asked
-  seat_changed : (later : WorldView) (new : Seat) → (s.phase ≡ Asked → ⊥) → (new.phase ≡ Held → ⊥) → (new.phase ≡ Blocked → ⊥) → is_held_phase new.phase ≡ false → later.history ≡ w.history → later.run.boots ≡ w.run.boots
+  seat_changed : (later : WorldView) (new : Seat) → (s.phase ≡ Asked → ⊥) → (s.phase ≡ Held → ⊥) → (new.phase ≡ Held → ⊥) → (new.phase ≡ Blocked → ⊥) → is_held_phase new.phase ≡ false → later.history ≡ w.history → later.run.boots ≡ w.run.boots
       → later.withdrawn ≡ w.withdrawn → later.seats ≡ slice_set w.seats (c - 1) new → IsEnding z later
-  seat_changed later new not none free held h b gone l = record {
+  seat_changed later new not unheld none free held h b gone l = record {
     boots = λ empty.
         subst (λ x. IsEndingSoFar z.iface x later.run.boots later.seats) (sym h) (subst (λ x. IsEndingSoFar z.iface w.history x later.seats) (sym b) (subst (IsEndingSoFar z.iface w.history w.run.boots) (sym l)
         (ending_set (sym gone ∙ empty))));
     blocked =
         subst (λ x. AreBlockedSoFar z.iface.facts x later.run.boots later.seats) (sym h) (subst (λ x. AreBlockedSoFar z.iface.facts w.history x later.seats) (sym b) (subst (AreBlockedSoFar z.iface.facts w.history w.run.boots) (sym l)
         (blocked_set z.iface.facts w.history w.run.boots w.seats c new first last free (λ all. held) is.blocked)));
+    lost = λ empty.
+        subst (λ x. AreLostSoFar x later.seats (length later.run.boots) [] later.run.boots) (sym h) (subst (λ x. AreLostSoFar w.history later.seats (length x) [] x) (sym b)
+        (subst (λ x. AreLostSoFar w.history x (length w.run.boots) [] w.run.boots) (sym l)
+        (lost_set w.history w.run.boots w.seats c new first unheld (is.lost (sym gone ∙ empty)))));
   }
     where
       ending_set : w.withdrawn ≡ [] → IsEndingSoFar z.iface w.history w.run.boots (slice_set w.seats (c - 1) new)
@@ -138,10 +147,18 @@ module _ (z : Setting) (w : WorldView) (c : ℕ) (first : 1 ≤ c) (last : c ≤
   free_asks Receipted free is = absurd free
   free_asks Blocked free is = absurd free
 
+  free_holds : (p : Phase) → IsFree p → p ≡ Held → ⊥
+  free_holds Idle free is = cc is
+  free_holds Left free is = cc is
+  free_holds Asked free is = absurd free
+  free_holds Held free is = absurd free
+  free_holds Receipted free is = absurd free
+  free_holds Blocked free is = absurd free
+
   -- a client offers a call
   pub kept_offered : (call : Call) → IsFree s.phase → IsEnding z (happened (offered w c call))
   kept_offered call free =
-      seat_changed (happened (offered w c call)) (record s { phase = Asked; call = call }) (free_asks s.phase free) (λ a. cc a) (λ a. cc a) refl refl refl refl refl
+      seat_changed (happened (offered w c call)) (record s { phase = Asked; call = call }) (free_asks s.phase free) (free_holds s.phase free) (λ a. cc a) (λ a. cc a) refl refl refl refl refl
 
   -- a client leaves
   pub kept_left : IsFree s.phase → IsEnding z (happened (with_leave w c))
@@ -151,10 +168,10 @@ module _ (z : Setting) (w : WorldView) (c : ℕ) (first : 1 ≤ c) (last : c ≤
       leaves = with_mark (in_phase w c Left) c Leave
 
       by : (b : Bool) → is_left_phase s.phase ≡ b → IsEnding z (happened (with_leave w c))
-      by true left = subst (λ b. IsEnding z (happened (cond b w leaves))) (sym left) (record { boots = is.boots; blocked = is.blocked })
+      by true left = subst (λ b. IsEnding z (happened (cond b w leaves))) (sym left) (record { boots = is.boots; blocked = is.blocked; lost = is.lost })
       by false left =
           subst (λ b. IsEnding z (happened (cond b w leaves))) (sym left)
-          (seat_changed (happened leaves) (record s { phase = Left }) (free_asks s.phase free) (λ a. cc a) (λ a. cc a) refl refl refl refl refl)
+          (seat_changed (happened leaves) (record s { phase = Left }) (free_asks s.phase free) (free_holds s.phase free) (λ a. cc a) (λ a. cc a) refl refl refl refl refl)
 
   some_gone : (xs : List Withdrawn) (x : Withdrawn) → xs ++ x ∷ [] ≢ []
   some_gone [] x none = cc none
@@ -165,6 +182,7 @@ module _ (z : Setting) (w : WorldView) (c : ℕ) (first : 1 ≤ c) (last : c ≤
   kept_withdrawn = record {
     boots = λ none. absurd (some_gone w.withdrawn (record { call = s.call; phases = map (λ t. t.phase) w.seats; at = length w.history }) none);
     blocked = blocked_set z.iface.facts w.history w.run.boots w.seats c (record s { phase = Idle }) first last (λ a. cc a) (λ all. refl) is.blocked;
+    lost = λ none. absurd (some_gone w.withdrawn (record { call = s.call; phases = map (λ t. t.phase) w.seats; at = length w.history }) none);
   }
 
 -- ---- a new world
@@ -182,18 +200,19 @@ kept_new z n = record {
     blocked = λ blocked. cc (ap (λ (t : Seat). t.phase) (sym (nobody_at n (client - 1))) ∙ blocked);
     visible = λ all. ap (λ (t : Seat). is_held_phase t.phase) (nobody_at n (client - 1));
   };
+  lost = λ none. tt;
 }
 
 -- ---- what a step answers
 
-module _ (z : Setting) (w : WorldView) (c : ℕ) (first : 1 ≤ c) (last : c ≤ length w.seats) (stub : Stub) (keeps : KeepsPromise z w stub) (is : IsEnding z w) where
+module _ (z : Setting) (w : WorldView) (c : ℕ) (first : 1 ≤ c) (last : c ≤ length w.seats) (stub : Stub) (set : IsSetting z) (keeps : KeepsPromise z w stub) (is : IsEnding z w) where
   ground : IsGround z w
   ground = record { seats = keeps.seats; items = keeps.items; cell = keeps.cell }
 
   -- a step was made
   pub ends_ok : (later : WorldView) (r : Result Did NoMemory) → is_err r ≡ false → IfOk r (λ did. Steps z w c did later) → IsEnding z later
   ends_ok later (Done did) ok steps =
-      ends_same z (happened later) later refl refl refl refl (kept_stepped z w c first last is did (happened later) ground (record { later = later; steps = steps; counted = refl }))
+      ends_same z (happened later) later refl refl refl refl (kept_stepped z w c first last is set did (happened later) ground (record { later = later; steps = steps; counted = refl }))
   ends_ok later (Err error) ok steps = absurd (cc ok)
 
   -- or wanted memory
@@ -222,6 +241,7 @@ pub ends_withdrawn : (z : Setting) (w : WorldView) (c : ℕ) (first : 1 ≤ c) (
 ends_withdrawn z w c first last is seats changed gone x more marks events = record {
   boots = λ none. absurd (some_gone z w c first last is w.withdrawn x (sym more ∙ none));
   blocked = subst (AreBlockedSoFar z.iface.facts w.history w.run.boots) (sym changed) (blocked_set z.iface.facts w.history w.run.boots w.seats c (record (seat_of w c) { phase = Idle }) first last (λ a. cc a) (λ all. refl) is.blocked);
+  lost = λ none. absurd (some_gone z w c first last is w.withdrawn x (sym more ∙ none));
 }
 
 -- nothing was done

@@ -8,6 +8,7 @@ pub mod Engines
 pub mod Entering
 pub mod Events
 pub mod Handing
+pub mod Losing
 pub mod Marking
 pub mod Missing
 pub mod Moving

@@ -148,7 +148,7 @@ module _ (z : Setting) (e : Engined) (w : WorldView) (rooms : Rooms) (is : IsWor
         asks = record { service = v; reaches = reaches_now asked; item = waiting; tag = ap (λ c. Client c call.seq) (own z e w rooms is run running walks client first last let_in v up); shown = refl };
         none = waits_at;
         outcome = refl;
-        noted = record { next = waits_next; points = λ less. use_next asked points points_are (ltb-true points last_count less) };
+        noted = record { next = waits_next; points = points_are };
         now = ap (λ (r : Run). record w { run = r; running = new.cell.running; seats = seats }) (grown ∙ ap (λ (r : Run). with_item r waiting points) run)
             ∙ ap (λ r. record w { run = with_item w.run waiting points; running = r; seats = seats }) (now ∙ sym up)
             ∙ ap (λ s. record w { run = with_item w.run waiting points; seats = s }) set;
@@ -208,8 +208,8 @@ module _ (z : Setting) (e : Engined) (w : WorldView) (rooms : Rooms) (is : IsWor
           outcome = refl;
           noted = record {
             next = stops_next later.asked some;
-            points = λ less. subst (λ x. IsStopInCall true (z.parts call.fun) asked x later.asked) (sym answered)
-                (stop_at z.parts asked start.asked later.asked call.fun s.stops.reply (real_call e call) refl start_is s.stops.first s.stops.last (ltb-true later.asked last_count less));
+            points = subst (λ x. IsStopInCall true (z.parts call.fun) asked x later.asked) (sym answered)
+                (stop_at z.parts asked start.asked later.asked call.fun s.stops.reply (real_call e call) refl start_is s.stops.first s.stops.last s.counted);
           };
           now = ap (λ (r : Run). record w { run = r; running = new.cell.running }) run_is ∙ ap (λ r. record w { run = with_stop (with_item w.run item later.asked) later.asked; running = r }) s.running;
         }

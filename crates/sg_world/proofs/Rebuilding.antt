@@ -60,22 +60,17 @@ use Rattle.sg_world_laws.specs.Turns.{IsLetIn}
 
 -- ---- numbers of points
 
--- below the end of the count a point more is the next
-pub use_next : (asked n : ℕ) → n ≡ asked_after asked 1 → n < last_count → n ≡ asked + 1
-use_next asked n is less = omega (arith, is, less)
-
-pub reply_next : (n parts later : ℕ) → later ≡ asked_after (asked_after n parts) 1 → later < last_count → later ≡ n + parts + 1
-reply_next n parts later is less = omega (arith, is, less)
+-- one point for the use of the service, and those of a reply after it
+pub reply_next : (asked n parts later : ℕ) → n ≡ asked_after asked 1 → later ≡ asked_after (asked_after n parts) 1 → later ≡ asked_after asked (2 + parts)
+reply_next asked n parts later use is = omega (arith, use, is)
 
 -- a call that stopped did so at a point of what it would have been answered
-pub stop_at : (parts : ℕ → ℕ) (asked n later fun : ℕ) (reply : Reply) (call : Call) → call.fun ≡ fun → n ≡ asked_after asked 1 → n < later → later ≤ n + parts_of parts call reply + 1 → later < last_count → IsStopInCall true (parts fun) asked (Some reply) later
-stop_at parts asked n later fun (Ok good) call its is above most less =
-    let next = use_next asked n is (omega (arith, above, less)) in
+pub stop_at : (parts : ℕ → ℕ) (asked n later fun : ℕ) (reply : Reply) (call : Call) → call.fun ≡ fun → n ≡ asked_after asked 1 → n < later → later ≤ n + parts_of parts call reply + 1 → later ≤ last_count → IsStopInCall true (parts fun) asked (Some reply) later
+stop_at parts asked n later fun (Ok good) call its is above most counted =
     let same : parts call.fun ≡ parts fun = ap parts its in
-    (omega (arith, next, above), omega (arith, next, most, same))
-stop_at parts asked n later fun (Refused code) call its is above most less =
-    let next = use_next asked n is (omega (arith, above, less)) in
-    let one : later ≡ asked + 2 = omega (arith, next, above, most) in one
+    (omega (arith, is, above, counted), omega (arith, is, above, most, same, counted))
+stop_at parts asked n later fun (Refused code) call its is above most counted =
+    let one : later ≡ asked_after asked 2 = omega (arith, is, above, most, counted) in one
 
 -- ---- what the engine has done
 
@@ -280,11 +275,7 @@ module _ (z : Setting) (e : Engined) (w : WorldView) (rooms : Rooms) (is : IsWor
             outcome = refl;
             noted = record {
               next = at_end item (replays_next z is.set w spelt.first spelt.others v e keeps_now engine_is (seat_of w client).call let_in_now t.id t.k t.is_due t.shown t.its start new later t.did t.present);
-              points = λ less.
-                  let below = ltb-true later.asked last_count less in
-                  let reply = reply_next start.asked (z.parts t.shown.fun) later.asked t.did.notes.answers.asked below in
-                  let step = use_next asked start.asked start_is (omega (arith, below, reply)) in
-                  omega (arith, step, reply);
+              points = reply_next asked start.asked (z.parts t.shown.fun) later.asked start_is t.did.notes.answers.asked;
             };
             now = ap (λ (r : Run). record w { run = r; running = new.cell.running }) (t.did.notes.run ∙ ap (λ (x : Run). with_item x item later.asked) run)
                 ∙ ap (λ r. record w { run = with_item w.run item later.asked; running = r }) t.did.notes.running;
@@ -303,7 +294,7 @@ module _ (z : Setting) (e : Engined) (w : WorldView) (rooms : Rooms) (is : IsWor
             outcome = refl;
             noted = record {
               next = at_end item (loads_next z is.set w spelt.first spelt.others v e keeps_now engine_is (seat_of w client).call let_in_now t.is_due t.key t.its start.asked);
-              points = λ less. use_next asked start.asked start_is (ltb-true start.asked last_count less);
+              points = start_is;
             };
             now = ap (λ (r : Run). record w { run = r; running = new.cell.running }) (t.did.run ∙ ap (λ (x : Run). with_item x item start.asked) run)
                 ∙ ap (λ r. record w { run = with_item w.run item start.asked; running = r })
@@ -326,8 +317,8 @@ module _ (z : Setting) (e : Engined) (w : WorldView) (rooms : Rooms) (is : IsWor
             outcome = refl;
             noted = record {
               next = at_end item (struck_next z is.set w spelt.first spelt.others v e keeps_now engine_is (seat_of w client).call let_in_now t.id t.k t.is_due t.shown t.its later.asked);
-              points = λ less. subst (λ x. IsStopInCall true (z.parts t.shown.fun) asked x later.asked) (sym answered)
-                  (stop_at z.parts asked start.asked later.asked t.shown.fun t.did.notes.stops.reply (real_call e t.shown) refl start_is t.did.notes.stops.first t.did.notes.stops.last (ltb-true later.asked last_count less));
+              points = subst (λ x. IsStopInCall true (z.parts t.shown.fun) asked x later.asked) (sym answered)
+                  (stop_at z.parts asked start.asked later.asked t.shown.fun t.did.notes.stops.reply (real_call e t.shown) refl start_is t.did.notes.stops.first t.did.notes.stops.last t.did.notes.counted);
             };
             now = ap (λ (r : Run). record w { run = r; running = new.cell.running }) (t.did.notes.run ∙ ap (λ (x : Run). with_stop (with_item x item later.asked) later.asked) run)
                 ∙ ap (λ r. record w { run = with_stop (with_item w.run item later.asked) later.asked; running = r }) t.did.notes.running;

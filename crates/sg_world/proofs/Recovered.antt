@@ -25,7 +25,7 @@ module _ (z : Setting) (w : WorldView) (stub : Stub) (k : KeepsPromise z w stub)
     walks = recovering_now.walks;
     on_demand = recovering_now.on_demand;
     tracked_state = recovering_now.tracked_state;
-    points = λ less. subst (λ n. ArePointsOf (n == 0) z.iface.facts z.ask z.parts 0 w.run.boots w.run.points) none (counts less);
+    points = subst (λ n. ArePointsOf (n == 0) z.iface.facts z.ask z.parts 0 w.run.boots w.run.points) none counts;
     held = k.in_boots;
   }
 

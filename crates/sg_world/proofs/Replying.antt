@@ -57,7 +57,7 @@ use Rattle.sg_world.proofs.Entering.{entered_rooms, entered_told}
 use Rattle.sg_world.proofs.Moving.{answered_seats, rooms_moved, told_moved}
 use Rattle.sg_world.proofs.Points.{stops_noted, stores_same}
 use Rattle.sg_world.proofs.Reaching.{all_there, k, reaches_now, sp}
-use Rattle.sg_world.proofs.Rebuilding.{let_in_now, own, reply_next, use_next}
+use Rattle.sg_world.proofs.Rebuilding.{let_in_now, own, reply_next}
 use Rattle.sg_world.proofs.Storing.{stored_on}
 use Rattle.sg_world.proofs.Waiting.{each_set, wait_on_live}
 use Rattle.sg_world.specs.Due.{needs_in}
@@ -75,18 +75,9 @@ use Rattle.sg_world_laws.specs.Setting.{Setting, stubs_of}
 
 -- the number of the last point of a call that was replied to
 points_at : (parts : ℕ → ℕ) (asked n later : ℕ) (call asks : Call) (reply : Reply) (patch : Option Patch) (there : Option Reply) → asks.fun ≡ call.fun → n ≡ asked_after asked 1
-    → later ≡ asked_after (asked_after n (parts_of parts asks reply)) 1 → nat_lt later last_count ≡ true → IsPointOfCall true parts asked there call.fun (Replied reply patch) later
-points_at parts asked n later call asks (Ok good) patch there same start is less =
-    let below = ltb-true later last_count less in
-    let reply = reply_next n (parts asks.fun) later is below in
-    let step = use_next asked n start (omega (arith, below, reply)) in
-    let its : parts asks.fun ≡ parts call.fun = ap parts same in
-    omega (arith, step, reply, its)
-points_at parts asked n later call asks (Refused code) patch there same start is less =
-    let below = ltb-true later last_count less in
-    let reply = reply_next n 0 later is below in
-    let step = use_next asked n start (omega (arith, below, reply)) in
-    omega (arith, step, reply)
+    → later ≡ asked_after (asked_after n (parts_of parts asks reply)) 1 → IsPointOfCall true parts asked there call.fun (Replied reply patch) later
+points_at parts asked n later call asks (Ok good) patch there same start is = reply_next asked n (parts asks.fun) later start is ∙ ap (λ fun. asked_after asked (2 + parts fun)) same
+points_at parts asked n later call asks (Refused code) patch there same start is = reply_next asked n 0 later start is
 
 module _ (z : Setting) (e : Engined) (w : WorldView) (rooms : Rooms) (is : IsWorld z e w rooms) (run : e.cell.run ≡ w.run) (running : e.cell.running ≡ w.running) (walks : e.tables.walks ≡ z.walks)
     (client : ℕ) (first : 1 ≤ client) (last : client ≤ length w.seats) (let_in : PassesGuard z w client) (v : Object) (up : w.running ≡ Some v)

@@ -101,4 +101,4 @@ new_points test w asked struck plan run none unstruck starts = record {
 
 -- and its points are counted
 pub new_counted : (z : Setting) (e : Engined) (history : List Entry) (seats : List Seat) (withdrawn : List Withdrawn) (marks : List Mark) → e.cell.run ≡ record { boots = booted []; points = 0 } → CountsAll z (view_of e history seats withdrawn marks 0 0)
-new_counted z e history seats withdrawn marks run less = subst (λ r. ArePointsOf true z.iface.facts z.ask z.parts 0 r.boots r.points) (sym run) (points_begin true z.iface.facts z.ask z.parts)
+new_counted z e history seats withdrawn marks run = subst (λ r. ArePointsOf true z.iface.facts z.ask z.parts 0 r.boots r.points) (sym run) (points_begin true z.iface.facts z.ask z.parts)

@@ -1,7 +1,6 @@
 -- The points of a world stay counted, whatever a step does.
 use Rattle.std.proofs.Common.{Bool, List, None, Some, [], ap, arith, false, inl, inr, refl, subst, sym, true, ℕ, ◌&&◌, ◌++◌, ◌+◌, ◌∙◌, ◌∷◌, ◌≡◌, ◌≢◌, ◌≤◌, ◌⊎◌, ◌<◌}
 use Rattle.std.specs.Prelude.{◌==◌, if◌then◌else◌, min, nat_lt, unwrap_or}
-use Rattle.std.proofs.lemmas.Bool.{lt-ltb, ltb-true}
 use Rattle.std.proofs.lemmas.Bool.Decides.{nat_tests}
 use Rattle.sg_facts.specs.sg_base.Counts.{last_count}
 use Rattle.sg_facts.specs.sg_base.Stops.{asked_after}
@@ -20,7 +19,7 @@ use Rattle.sg_world_laws.proofs.sg_recovery_laws.Points.{points_booted, points_c
 use Rattle.sg_replay.specs.sg_hist.Growing.{asked_over, booted, last_stop, noted, struck}
 use Rattle.sg_replay.specs.sg_hist.Reading.{last_items}
 use Rattle.sg_clients.specs.sg_seat.WorldView.{WorldView, seat_of, struck_at, with_points}
-use Rattle.sg_world.proofs.Counting.{count_on, grows, point_of, sum_is, weak_of}
+use Rattle.sg_world.proofs.Counting.{count_on, point_of, sum_is, weak_of}
 use Rattle.sg_world.specs.declared.did.Did.{Did}
 use Rattle.sg_world.specs.declared.did.Did.TheVariants.{Answered, Blocked as Waits, Booted, Loaded, Lost, Replayed, Served, Skipped, Struck}
 use Rattle.sg_world.specs.Steps.{Commits, IsNotedBy, Steps, StopsIdle}
@@ -42,7 +41,7 @@ stopped_on exact facts ask parts [] points later item begun running stopped one 
 stopped_on exact facts ask parts (b ∷ boots) points later item begun running stopped one count all = points_stopped exact facts ask parts 0 b boots points later item running stopped one count all
 
 struck_on : (exact : Bool) (facts : Facts) (ask : Table) (parts : ℕ → ℕ) (boots : List Boot) (points later stop : ℕ) → boots ≢ [] → last_stop boots ≡ None
-    → ((ends_committed facts (last_items boots) ≡ true) × (stop ≡ asked_over facts 0 boots)) ⊎ IsCount exact stop (asked_over facts 0 boots + 1)
+    → ((ends_committed facts (last_items boots) ≡ true) × (stop ≡ asked_over facts 0 boots)) ⊎ IsCount exact stop (asked_after (asked_over facts 0 boots) 1)
     → IsCount exact later stop → ArePointsOf exact facts ask parts 0 boots points → ArePointsOf exact facts ask parts 0 (struck boots stop) later
 struck_on exact facts ask parts [] points later stop begun running at count all = absurd (begun refl)
 struck_on exact facts ask parts (b ∷ boots) points later stop begun running at count all = points_struck exact facts ask parts 0 b boots points later stop running at count all
@@ -105,7 +104,7 @@ fun_hidden facts item call shown is = ap (λ t. is_clients item.tag && t && is_r
     none false b = refl
 
 behind_hidden : (facts : Facts) (item : Item) → is_visible_reply facts item ≡ false → asked_with_commit facts item ≡ item.points
-behind_hidden facts item is = ap (λ t. if t then item.points + 1 else item.points) is
+behind_hidden facts item is = ap (λ t. if t then asked_after item.points 1 else item.points) is
 
 reply_going : (outcome : Outcome) → is_replied outcome ≡ true → is_stopped outcome ≡ false
 reply_going (Replied reply patch) is = refl
@@ -126,41 +125,26 @@ module _ (z : Setting) (w : WorldView) (c : ℕ) (cell : IsCell z.iface.facts w.
   going : (v : Object) → w.running ≡ Some v → last_stop w.run.boots ≡ None
   going v up = (subst (IsRunning z.iface.facts w.run.boots) up cell.runs).unstopped
 
-  -- the points so far, where a later number can still be counted
-  so_far : (p : ℕ) → w.run.points ≤ p → nat_lt p last_count ≡ true → ArePointsOf (w.refused == 0) z.iface.facts z.ask z.parts 0 w.run.boots w.run.points
-  so_far p more less = was (lt-ltb w.run.points last_count (let below = ltb-true p last_count less in omega (arith, more, below)))
-
-  module _ (v : Object) (up : w.running ≡ Some v) (item : Item) (history : List Entry) (left : List Call) (n : IsNotedBy z w c item history left) (less : nat_lt item.points last_count ≡ true) where
-    all : ArePointsOf (w.refused == 0) z.iface.facts z.ask z.parts 0 w.run.boots w.run.points
-    all = so_far item.points (let more = grows z.parts w.run.points (answer_to z.iface.facts z.ask (last_items w.run.boots) item) item.tag item.shown.fun item.outcome item.points (n.points less) in omega (arith, more)) less
-
+  module _ (v : Object) (up : w.running ≡ Some v) (item : Item) (history : List Entry) (left : List Call) (n : IsNotedBy z w c item history left) where
     one : IsPointOf (w.refused == 0) z.parts (asked_over z.iface.facts 0 w.run.boots) (answer_to z.iface.facts z.ask (last_items w.run.boots) item) item.tag item.shown.fun item.outcome item.points
     one = point_of (w.refused == 0) z.parts (asked_over z.iface.facts 0 w.run.boots) w.run.points (answer_to z.iface.facts z.ask (last_items w.run.boots) item) item.tag item.shown.fun item.outcome item.points
-        (sum_is (w.refused == 0) z.iface.facts z.ask z.parts 0 w.run.boots w.run.points all) (n.points less)
+        (sum_is (w.refused == 0) z.iface.facts z.ask z.parts 0 w.run.boots w.run.points was) n.points
 
     noted_counts : is_stopped item.outcome ≡ false → (later : ℕ) → IsCount (w.refused == 0) later (asked_with_commit z.iface.facts item) → ArePointsOf (w.refused == 0) z.iface.facts z.ask z.parts 0 (noted w.run.boots item) later
-    noted_counts goes later count = noted_on (w.refused == 0) z.iface.facts z.ask z.parts w.run.boots w.run.points later item cell.begun (going v up) goes one count all
+    noted_counts goes later count = noted_on (w.refused == 0) z.iface.facts z.ask z.parts w.run.boots w.run.points later item cell.begun (going v up) goes one count was
 
     hidden_counts : is_stopped item.outcome ≡ false → is_visible_reply z.iface.facts item ≡ false → ArePointsOf (w.refused == 0) z.iface.facts z.ask z.parts 0 (noted w.run.boots item) item.points
     hidden_counts goes hidden = noted_counts goes item.points (same_count (w.refused == 0) item.points (asked_with_commit z.iface.facts item) (sym (behind_hidden z.iface.facts item hidden)))
 
     stopped_counts : is_stopped item.outcome ≡ true → ArePointsOf (w.refused == 0) z.iface.facts z.ask z.parts 0 (struck (noted w.run.boots item) item.points) item.points
-    stopped_counts stopped = stopped_on (w.refused == 0) z.iface.facts z.ask z.parts w.run.boots w.run.points item.points item cell.begun (going v up) stopped one (same_count (w.refused == 0) item.points item.points refl) all
-
-  asked_next : (n : ℕ) → nat_lt (asked_after n 1) last_count ≡ true → asked_after n 1 ≡ n + 1
-  asked_next n less = next (ltb-true (asked_after n 1) last_count less)
-    where
-      next : asked_after n 1 < last_count → asked_after n 1 ≡ n + 1
-      next below = omega (arith, below)
+    stopped_counts stopped = stopped_on (w.refused == 0) z.iface.facts z.ask z.parts w.run.boots w.run.points item.points item cell.begun (going v up) stopped one (same_count (w.refused == 0) item.points item.points refl) was
 
   -- a stop at the point before the service is used
   idle_counts : StopsIdle z w c (struck_at w (asked_after w.run.points 1)) → CountsAll z (struck_at w (asked_after w.run.points 1))
-  idle_counts s less =
-      let next = asked_next w.run.points less in
-      let sum = so_far (asked_after w.run.points 1) (omega (arith, next)) less in
+  idle_counts s =
       struck_on (w.refused == 0) z.iface.facts z.ask z.parts w.run.boots w.run.points (asked_after w.run.points 1) (asked_after w.run.points 1) cell.begun (going s.service s.uses.running)
-      (inr (count_on (w.refused == 0) (asked_over z.iface.facts 0 w.run.boots) w.run.points (asked_after w.run.points 1) 1 (sum_is (w.refused == 0) z.iface.facts z.ask z.parts 0 w.run.boots w.run.points sum) next))
-      (same_count (w.refused == 0) (asked_after w.run.points 1) (asked_after w.run.points 1) refl) sum
+      (inr (count_on (w.refused == 0) (asked_over z.iface.facts 0 w.run.boots) w.run.points (asked_after w.run.points 1) 1 (sum_is (w.refused == 0) z.iface.facts z.ask z.parts 0 w.run.boots w.run.points was) refl))
+      (same_count (w.refused == 0) (asked_after w.run.points 1) (asked_after w.run.points 1) refl) was
 
   -- a point after the commit of a visible call
   module _ (between : WorldView) (s : Commits z w c between) where
@@ -176,35 +160,28 @@ module _ (z : Setting) (w : WorldView) (c : ℕ) (cell : IsCell z.iface.facts w.
         both true false d p q r = absurd (cc q)
         both true true false p q r = absurd (cc r)
 
-    behind_one : asked_with_commit z.iface.facts s.asks.item ≡ s.asks.item.points + 1
-    behind_one = ap (λ t. if t then s.asks.item.points + 1 else s.asks.item.points) visible_reply
+    behind_one : asked_with_commit z.iface.facts s.asks.item ≡ asked_after s.asks.item.points 1
+    behind_one = ap (λ t. if t then asked_after s.asks.item.points 1 else s.asks.item.points) visible_reply
 
-    less_item : nat_lt (asked_after between.run.points 1) last_count ≡ true → (nat_lt s.asks.item.points last_count ≡ true) × (asked_after between.run.points 1 ≡ s.asks.item.points + 1)
-    less_item less =
-        let next = asked_next between.run.points less in
-        let same = between_run.1 in
-        let below = ltb-true (asked_after between.run.points 1) last_count less in
-        let its : asked_after between.run.points 1 ≡ s.asks.item.points + 1 = next ∙ ap (λ n. n + 1) same in
-        (lt-ltb s.asks.item.points last_count (omega (arith, its, below)), its)
+    behind_sum : asked_after between.run.points 1 ≡ asked_with_commit z.iface.facts s.asks.item
+    behind_sum = ap (λ n. asked_after n 1) between_run.1 ∙ sym behind_one
 
     goes_counts : CountsAll z (with_points between (asked_after between.run.points 1))
-    goes_counts less =
-        let its = less_item less in
+    goes_counts =
         subst (λ r. ArePointsOf (r == 0) z.iface.facts z.ask z.parts 0 between.run.boots (asked_after between.run.points 1)) (sym between_run.2)
         (subst (λ b. ArePointsOf (w.refused == 0) z.iface.facts z.ask z.parts 0 b (asked_after between.run.points 1)) (sym between_run.0)
-        (noted_counts s.asks.service s.asks.reaches.uses.running s.asks.item (w.history ++ record { call = (seat_of w c).call; reply = s.reply } ∷ []) _ s.noted its.0 (reply_going s.asks.item.outcome s.outcome) (asked_after between.run.points 1)
-        (same_count (w.refused == 0) (asked_after between.run.points 1) (asked_with_commit z.iface.facts s.asks.item) (its.1 ∙ sym behind_one))))
+        (noted_counts s.asks.service s.asks.reaches.uses.running s.asks.item (w.history ++ record { call = (seat_of w c).call; reply = s.reply } ∷ []) _ s.noted (reply_going s.asks.item.outcome s.outcome) (asked_after between.run.points 1)
+        (same_count (w.refused == 0) (asked_after between.run.points 1) (asked_with_commit z.iface.facts s.asks.item) behind_sum)))
 
     behind_counts : CountsAll z (struck_at between (asked_after between.run.points 1))
-    behind_counts less =
-        let its = less_item less in
-        let noted_all = noted_counts s.asks.service s.asks.reaches.uses.running s.asks.item (w.history ++ record { call = (seat_of w c).call; reply = s.reply } ∷ []) _ s.noted its.0 (reply_going s.asks.item.outcome s.outcome) (s.asks.item.points + 1)
-        (same_count (w.refused == 0) (s.asks.item.points + 1) (asked_with_commit z.iface.facts s.asks.item) (sym behind_one)) in
+    behind_counts =
+        let noted_all = noted_counts s.asks.service s.asks.reaches.uses.running s.asks.item (w.history ++ record { call = (seat_of w c).call; reply = s.reply } ∷ []) _ s.noted (reply_going s.asks.item.outcome s.outcome) (asked_with_commit z.iface.facts s.asks.item)
+        (same_count (w.refused == 0) (asked_with_commit z.iface.facts s.asks.item) (asked_with_commit z.iface.facts s.asks.item) refl) in
         subst (λ r. ArePointsOf (r == 0) z.iface.facts z.ask z.parts 0 (struck between.run.boots (asked_after between.run.points 1)) (asked_after between.run.points 1)) (sym between_run.2)
         (subst (λ b. ArePointsOf (w.refused == 0) z.iface.facts z.ask z.parts 0 (struck b (asked_after between.run.points 1)) (asked_after between.run.points 1)) (sym between_run.0)
-        (struck_on (w.refused == 0) z.iface.facts z.ask z.parts (noted w.run.boots s.asks.item) (s.asks.item.points + 1) (asked_after between.run.points 1) (asked_after between.run.points 1)
+        (struck_on (w.refused == 0) z.iface.facts z.ask z.parts (noted w.run.boots s.asks.item) (asked_with_commit z.iface.facts s.asks.item) (asked_after between.run.points 1) (asked_after between.run.points 1)
         (noted_begun w.run.boots s.asks.item cell.begun) (noted_stop w.run.boots s.asks.item ∙ going s.asks.service s.asks.reaches.uses.running)
-        (inl (committed_last z.iface.facts w.run.boots s.asks.item cell.begun visible_reply, its.1 ∙ sym behind_one ∙ sym (asked_noted z.iface.facts w.run.boots s.asks.item cell.begun (going s.asks.service s.asks.reaches.uses.running))))
+        (inl (committed_last z.iface.facts w.run.boots s.asks.item cell.begun visible_reply, behind_sum ∙ sym (asked_noted z.iface.facts w.run.boots s.asks.item cell.begun (going s.asks.service s.asks.reaches.uses.running))))
         (same_count (w.refused == 0) (asked_after between.run.points 1) (asked_after between.run.points 1) refl) noted_all))
 
   -- whatever a step does, the points are counted after it
@@ -214,28 +191,28 @@ module _ (z : Setting) (w : WorldView) (c : ℕ) (cell : IsCell z.iface.facts w.
   steps_counted (Answered reply) later (inr (inl s)) = subst (CountsAll z) (sym s.now) was
   steps_counted (Answered reply) later (inr (inr s)) = subst (CountsAll z) (sym s.now) was
   steps_counted Lost later s = subst (CountsAll z) (sym s.now) was
-  steps_counted Booted later s = subst (CountsAll z) (sym s.now) (λ less. booted_on (w.refused == 0) z.iface.facts z.ask z.parts w.run.boots w.run.points cell.begun (was less))
+  steps_counted Booted later s = subst (CountsAll z) (sym s.now) (booted_on (w.refused == 0) z.iface.facts z.ask z.parts w.run.boots w.run.points cell.begun was)
   steps_counted Struck later (inl s) = subst (CountsAll z) (sym s.now) (idle_counts (record { service = s.service; uses = s.uses; now = refl }))
   steps_counted Struck later (inr (inl s)) =
-      subst (CountsAll z) (sym s.now) (λ less. stopped_counts s.service s.uses.running s.item w.history _ s.noted less (ap is_stopped s.outcome))
+      subst (CountsAll z) (sym s.now) (stopped_counts s.service s.uses.running s.item w.history _ s.noted (ap is_stopped s.outcome))
   steps_counted Struck later (inr (inr (inl s))) =
-      subst (CountsAll z) (sym s.now) (λ less. stopped_counts s.asks.service s.asks.reaches.uses.running s.asks.item w.history _ s.noted less (ap is_stopped s.outcome))
+      subst (CountsAll z) (sym s.now) (stopped_counts s.asks.service s.asks.reaches.uses.running s.asks.item w.history _ s.noted (ap is_stopped s.outcome))
   steps_counted Struck later (inr (inr (inr s))) = subst (CountsAll z) (sym s.now) (behind_counts s.between s.commits)
   steps_counted Replayed later s =
-      subst (CountsAll z) (sym s.now) (λ less. hidden_counts s.service s.uses.running s.item w.history _ s.noted less s.outcome (tag_hidden z.iface.facts s.item (ap is_clients s.tag)))
+      subst (CountsAll z) (sym s.now) (hidden_counts s.service s.uses.running s.item w.history _ s.noted s.outcome (tag_hidden z.iface.facts s.item (ap is_clients s.tag)))
   steps_counted Loaded later s =
-      subst (CountsAll z) (sym s.now) (λ less. hidden_counts s.service s.uses.running s.item w.history _ s.noted less s.outcome (tag_hidden z.iface.facts s.item (ap is_clients s.tag)))
+      subst (CountsAll z) (sym s.now) (hidden_counts s.service s.uses.running s.item w.history _ s.noted s.outcome (tag_hidden z.iface.facts s.item (ap is_clients s.tag)))
   steps_counted Waits later s =
-      subst (CountsAll z) (sym s.now) (λ less. hidden_counts s.asks.service s.asks.reaches.uses.running s.asks.item w.history _ s.noted less (ap is_stopped s.outcome) (outcome_hidden z.iface.facts s.asks.item (ap is_replied s.outcome)))
+      subst (CountsAll z) (sym s.now) (hidden_counts s.asks.service s.asks.reaches.uses.running s.asks.item w.history _ s.noted (ap is_stopped s.outcome) (outcome_hidden z.iface.facts s.asks.item (ap is_replied s.outcome)))
   steps_counted Served later (inl s) = subst (CountsAll z) (sym s.now) (goes_counts s.between s.commits)
   steps_counted Served later (inr s) =
-      subst (CountsAll z) (sym s.now) (λ less. hidden_counts s.asks.service s.asks.reaches.uses.running s.asks.item w.history _ s.noted less (reply_going s.asks.item.outcome s.outcome) (fun_hidden z.iface.facts s.asks.item (seat_of w c).call s.asks.shown s.hidden))
+      subst (CountsAll z) (sym s.now) (hidden_counts s.asks.service s.asks.reaches.uses.running s.asks.item w.history _ s.noted (reply_going s.asks.item.outcome s.outcome) (fun_hidden z.iface.facts s.asks.item (seat_of w c).call s.asks.shown s.hidden))
 
   -- where a step gets no memory, they are counted at least
   pub wants_counted : (points : ℕ) → (points ≡ w.run.points) ⊎ (points ≡ asked_after w.run.points 1) → CountsAll z (record (with_points w points) { refused = min (w.refused + 1) last_count })
-  wants_counted points asked less =
+  wants_counted points asked =
       let more : w.run.points ≤ points = grown asked in
-      let all = weak_of (w.refused == 0) z.iface.facts z.ask z.parts 0 w.run.boots w.run.points (so_far points more less) in
+      let all = weak_of (w.refused == 0) z.iface.facts z.ask z.parts 0 w.run.boots w.run.points was in
       let sum = sum_is false z.iface.facts z.ask z.parts 0 w.run.boots w.run.points all in
       subst (λ e. ArePointsOf e z.iface.facts z.ask z.parts 0 w.run.boots points) (sym some_refused)
       (points_counted false z.iface.facts z.ask z.parts 0 w.run.boots w.run.points points (let now : asked_over z.iface.facts 0 w.run.boots ≤ points = omega (arith, sum, more) in now) all)

@@ -64,11 +64,10 @@ module _ (z : Setting) (w : WorldView) (c : ℕ) where
     pub shown : item.shown ≡ seat_now.call
 
   -- an item is what may be noted next, where the history and the calls that aren't answered come to these; and its number of points is
-  -- that of its call, up to the end of their count
+  -- that of its call
   pub record IsNotedBy (item : Item) (history : List Entry) (left : List Call) : Type 0 where
     pub next : IsNextItem (stubs_of z) history left (place_after [] w.run.boots item)
-    pub points : nat_lt item.points last_count ≡ true
-        → IsPointOf true z.parts w.run.points (answer_to z.iface.facts z.ask (last_items w.run.boots) item) item.tag item.shown.fun item.outcome item.points
+    pub points : IsPointOf true z.parts w.run.points (answer_to z.iface.facts z.ask (last_items w.run.boots) item) item.tag item.shown.fun item.outcome item.points
 
   -- ---- the lines
 

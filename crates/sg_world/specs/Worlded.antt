@@ -83,6 +83,6 @@ pub record IsWorld (z : Setting) (e : Engined) (w : WorldView) (rooms : Rooms) :
   pub rooms_are : HaveRooms w.seats rooms
   pub marked : TellsAll w
 
--- its points are counted exactly until a step wants memory, and then at least so, up to the end of their count
+-- its points are counted exactly until a step wants memory, and then at least so
 abbrev pub CountsAll : Setting → WorldView → Type 0
-CountsAll z w = nat_lt w.run.points last_count ≡ true → ArePointsOf (w.refused == 0) z.iface.facts z.ask z.parts 0 w.run.boots w.run.points
+CountsAll z w = ArePointsOf (w.refused == 0) z.iface.facts z.ask z.parts 0 w.run.boots w.run.points

@@ -3,6 +3,7 @@ pub mod Blocked
 pub mod Boots
 pub mod Calls
 pub mod Ended
+pub mod Lost
 pub mod Seats
 pub mod Shapes
 pub mod Wakers

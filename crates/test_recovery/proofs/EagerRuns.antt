@@ -43,7 +43,7 @@ both_rebuilt-recovered = record {
   walks = both_rebuilt-walks;
   on_demand = both_rebuilt-demanded;
   tracked_state = both_rebuilt-tracked;
-  points = λ below. both_rebuilt-points;
+  points = both_rebuilt-points;
   held = (omega arith, (omega arith, (omega arith, (omega arith, tt))));
 }
 
@@ -86,7 +86,7 @@ one_rebuilt-recovered = record {
   walks = one_rebuilt-walks;
   on_demand = one_rebuilt-demanded;
   tracked_state = one_rebuilt-tracked;
-  points = λ below. one_rebuilt-points;
+  points = one_rebuilt-points;
   held = (omega arith, (omega arith, (omega arith, (omega arith, tt))));
 }
 

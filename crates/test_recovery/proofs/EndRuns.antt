@@ -1,11 +1,12 @@
 -- Runs that end as none may, or whose calls are under way at the wrong time: what each of them lacks.
-use Rattle.std.proofs.Common.{◌≡◌, ap, arith, inr, refl}
+use Rattle.std.proofs.Common.{◌≡◌, ◌-◌, true, ap, arith, inr, refl}
 use Rattle.std.specs.Prelude.{[], ◌∷◌}
-use Rattle.sg_recovery_laws.specs.sg_hist.Recovered.{IsRecovered, waiting}
-use Rattle.sg_recovery_laws.specs.sg_hist.Ending.{HasRecovered}
+use Rattle.sg_facts.specs.sg_base.Counts.{last_count}
+use Rattle.sg_recovery_laws.specs.sg_hist.Recovered.{ArePointsOf, IsRecovered, waiting}
+use Rattle.sg_recovery_laws.specs.sg_hist.Ending.{AreLost, HasRecovered}
 use Rattle.test_recovery.specs.LockRuns.{lock_stubs}
-use Rattle.test_recovery.specs.RamfsRuns.{ramfs_stubs}
-use Rattle.test_recovery.specs.EndRuns.{asked_early, asked_late, load_shows_a_call, other_waits, refused_early, refused_late, slept_over_reboot, stopped_unasked, stopped_unused, take_after_refusal, taken_and_held, waits_asked, waits_unasked, written_and_read}
+use Rattle.test_recovery.specs.RamfsRuns.{held_behind, held_behind_history, held_lost, held_lost_history, ramfs_stubs}
+use Rattle.test_recovery.specs.EndRuns.{asked_early, asked_late, counted_for_nothing, held_asked_twice, load_shows_a_call, made_at_the_end, other_waits, refused_early, refused_late, slept_over_reboot, sought_and_read, sought_ends, stopped_unasked, stopped_unused, take_after_refusal, taken_and_held, waits_asked, waits_unasked, written_and_read}
 use Rattle.test_recovery.specs.StrictRuns.{one_made, one_made_ends, one_taken}
 use Rattle.test_recovery.proofs.Apart.{false_true}
 use Rattle.test_recovery.proofs.LockTables.{lock_tables}
@@ -33,7 +34,7 @@ waits_unasked-recovered = record {
     record { whole = refl; rows = tt; real = refl; file = tt },
     (record { whole = refl; rows = (record { id = refl; made = refl; parent = refl; state = refl; fields = refl }, tt); real = refl; file = tt }, tt),
   );
-  points = λ below. ((refl, (refl, tt)), refl, refl);
+  points = ((refl, (refl, tt)), refl, refl);
   held = (omega arith, (omega arith, tt));
 }
 
@@ -67,12 +68,13 @@ waits_asked-recovered = record {
         (record { whole = refl; rows = (record { id = refl; made = refl; parent = refl; state = refl; fields = refl }, tt); real = refl; file = tt }, tt),
       ),
     );
-    points = λ below. ((refl, (refl, (refl, tt))), refl, refl);
+    points = ((refl, (refl, (refl, tt))), refl, refl);
     held = (omega arith, (omega arith, tt));
   };
   blocked = (tt, (refl, tt));
   used = tt;
   quiet = tt;
+  lost = ((tt, (tt, (tt, tt))), tt);
 }
 
 pub slept_over_reboot-wrong : HasRecovered lock_stubs taken_and_held slept_over_reboot other_waits → ⊥
@@ -95,12 +97,74 @@ stopped_unasked-recovered = record {
   walks = (tt, tt);
   on_demand = (record { under_way = record { its = record { its = refl; made = (0, omega arith, refl) }; above = refl; first = refl }; guarded = refl }, tt);
   tracked_state = (record { whole = refl; rows = tt; real = refl; file = tt }, tt);
-  points = λ below. ((refl, tt), inr (refl, refl), refl);
+  points = ((refl, tt), inr (refl, refl), refl);
   held = (omega arith, tt);
 }
 
 pub stopped_unused-wrong : HasRecovered lock_stubs one_made stopped_unused one_made_ends → ⊥
 stopped_unused-wrong r = r.used refl
+
+-- ---- replies that were lost
+
+pub held_asked_twice-wrong : HasRecovered ramfs_stubs sought_and_read held_asked_twice sought_ends → ⊥
+held_asked_twice-wrong r = false_true r.lost.0.1.0.0
+
+pub held_asked_twice-recovered : IsRecovered ramfs_stubs sought_and_read held_asked_twice (waiting sought_ends)
+held_asked_twice-recovered = record {
+  reboots = record {
+    booted = λ is. absurd (cc is);
+    table = ((refl, refl), ((refl, refl), ((refl, refl), ((refl, refl), tt))));
+    stopped = tt;
+    last = (tt, (tt, (tt, (tt, tt))));
+  };
+  served = record {
+    calls = (
+      (record { its = refl; made = (0, omega arith, refl) }, refl),
+      ((record { its = refl; made = (1, omega arith, refl) }, refl), ((record { its = refl; made = (1, omega arith, refl) }, refl), ((record { its = refl; made = (2, omega arith, refl) }, refl), tt))),
+    );
+    items = ((refl, (refl, refl, refl)), ((refl, (refl, refl, refl)), ((refl, (refl, refl, refl)), tt)));
+    committed = (refl, (tt, (tt, (refl, tt))));
+    order = (refl, (tt, (refl, tt)));
+  };
+  walks = (tt, (tt, (tt, (tt, tt))));
+  on_demand = (
+    record { under_way = record { its = record { its = refl; made = (0, omega arith, refl) }; above = refl; first = refl }; guarded = refl },
+    (
+      record { under_way = record { its = record { its = refl; made = (1, omega arith, refl) }; above = refl; first = refl }; guarded = refl },
+      (
+        record { under_way = record { its = record { its = refl; made = (1, omega arith, refl) }; above = refl; first = refl }; guarded = refl },
+        (record { under_way = record { its = record { its = refl; made = (2, omega arith, refl) }; above = refl; first = refl }; guarded = refl }, tt),
+      ),
+    ),
+  );
+  tracked_state = (
+    record { whole = refl; rows = tt; real = refl; file = tt },
+    (
+      record { whole = refl; rows = (record { id = refl; made = refl; parent = refl; state = refl; fields = refl }, tt); real = refl; file = tt },
+      (
+        record { whole = refl; rows = (record { id = refl; made = refl; parent = refl; state = refl; fields = refl }, tt); real = refl; file = tt },
+        (record { whole = refl; rows = (record { id = refl; made = refl; parent = refl; state = refl; fields = refl }, tt); real = refl; file = (refl, refl) }, tt),
+      ),
+    ),
+  );
+  points = ((refl, (refl, (refl, (refl, tt)))), refl, refl);
+  held = (omega arith, (omega arith, (omega arith, tt)));
+}
+
+-- a reply that a stop took, and one that was held until its entry, are as they may be
+pub held_lost-lost : AreLost held_lost_history [] held_lost.boots
+held_lost-lost = ((tt, ((refl, refl), tt)), ((tt, (tt, (tt, (tt, tt)))), tt))
+
+pub held_behind-lost : AreLost held_behind_history [] held_behind.boots
+held_behind-lost = ((tt, (tt, (tt, (tt, tt)))), tt)
+
+-- ---- the end of the count of points
+
+pub counted_for_nothing-wrong : IsRecovered lock_stubs [] counted_for_nothing [] → ⊥
+counted_for_nothing-wrong r = let e : last_count ≡ 0 = r.points.2.1 in omega (arith, e)
+
+pub made_at_the_end-counted : ArePointsOf true lock_stubs.interface.facts lock_stubs.ask lock_stubs.parts (last_count - 1) made_at_the_end last_count
+made_at_the_end-counted = ((refl, tt), refl, refl)
 
 -- ---- refusals by the guard
 

@@ -41,7 +41,7 @@ trigger_not_twice-recovered = record {
   walks = trigger_not_twice-walks;
   on_demand = trigger_not_twice-demanded;
   tracked_state = trigger_not_twice-tracked;
-  points = λ below. trigger_not_twice-points;
+  points = trigger_not_twice-points;
   held = (omega arith, (omega arith, (omega arith, tt)));
 }
 
@@ -80,7 +80,7 @@ present_value-recovered = record {
   walks = present_value-walks;
   on_demand = present_value-demanded;
   tracked_state = present_value-tracked;
-  points = λ below. present_value-points;
+  points = present_value-points;
   held = (omega arith, (omega arith, (omega arith, (omega arith, (omega arith, tt)))));
 }
 
@@ -119,6 +119,6 @@ blocked_redone-recovered = record {
   walks = blocked_redone-walks;
   on_demand = blocked_redone-demanded;
   tracked_state = blocked_redone-tracked;
-  points = λ below. blocked_redone-points;
+  points = blocked_redone-points;
   held = (omega arith, (omega arith, (omega arith, tt)));
 }

@@ -77,16 +77,16 @@ pub half_a_walk-wrong : IsRecovered lock_stubs stop_after_take_history half_a_wa
 half_a_walk-wrong r = false_true r.tracked_state.1.1.1.0.whole
 
 pub stop_at_another_number-wrong : IsRecovered lock_stubs stop_after_take_history stop_at_another_number (waiting stop_after_take_ends) → ⊥
-stop_at_another_number-wrong r = neither (r.points refl).1
+stop_at_another_number-wrong r = neither r.points.1
 
 pub point_left_out-wrong : IsRecovered lock_stubs stop_after_take_history point_left_out (waiting stop_after_take_ends) → ⊥
-point_left_out-wrong r = let e : 3 ≡ 4 = (r.points refl).0.0 in omega (arith, e)
+point_left_out-wrong r = let e : 3 ≡ 4 = r.points.0.0 in omega (arith, e)
 
 pub rebuilt_needlessly-wrong : IsRecovered lock_stubs two_locks_history rebuilt_needlessly (waiting two_locks_ends) → ⊥
 rebuilt_needlessly-wrong r = not_least r.on_demand.1.1.0
 
 pub point_asked_in_vain-wrong : IsRecovered lock_stubs stop_after_take_history point_asked_in_vain (waiting stop_after_take_ends) → ⊥
-point_asked_in_vain-wrong r = let e : 9 ≡ 8 = (r.points refl).0.1.0 in omega (arith, e)
+point_asked_in_vain-wrong r = let e : 9 ≡ 8 = r.points.0.1.0 in omega (arith, e)
 
 pub point_asked_in_vain-counted : ArePointsOf false lock_stubs.interface.facts lock_stubs.ask lock_stubs.parts 0 point_asked_in_vain.boots point_asked_in_vain.points
 point_asked_in_vain-counted =

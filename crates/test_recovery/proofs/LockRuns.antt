@@ -41,7 +41,7 @@ stop_after_take-recovered = record {
   walks = stop_after_take-walks;
   on_demand = stop_after_take-demanded;
   tracked_state = stop_after_take-tracked;
-  points = λ below. stop_after_take-points;
+  points = stop_after_take-points;
   held = (omega arith, (omega arith, (omega arith, (omega arith, tt))));
 }
 
@@ -80,7 +80,7 @@ stop_before_storage-recovered = record {
   walks = stop_before_storage-walks;
   on_demand = stop_before_storage-demanded;
   tracked_state = stop_before_storage-tracked;
-  points = λ below. stop_before_storage-points;
+  points = stop_before_storage-points;
   held = (omega arith, (omega arith, (omega arith, (omega arith, tt))));
 }
 
@@ -119,6 +119,6 @@ stop_in_walk-recovered = record {
   walks = stop_in_walk-walks;
   on_demand = stop_in_walk-demanded;
   tracked_state = stop_in_walk-tracked;
-  points = λ below. stop_in_walk-points;
+  points = stop_in_walk-points;
   held = (omega arith, (omega arith, (omega arith, (omega arith, tt))));
 }

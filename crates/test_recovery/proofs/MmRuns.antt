@@ -42,7 +42,7 @@ parent_first-recovered = record {
   walks = parent_first-walks;
   on_demand = parent_first-demanded;
   tracked_state = parent_first-tracked;
-  points = λ below. parent_first-points;
+  points = parent_first-points;
   held = (omega arith, (omega arith, (omega arith, tt)));
 }
 
@@ -81,7 +81,7 @@ occupied_after_stop-recovered = record {
   walks = occupied_after_stop-walks;
   on_demand = occupied_after_stop-demanded;
   tracked_state = occupied_after_stop-tracked;
-  points = λ below. occupied_after_stop-points;
+  points = occupied_after_stop-points;
   held = (omega arith, (omega arith, tt));
 }
 
@@ -120,6 +120,6 @@ subtree-recovered = record {
   walks = subtree-walks;
   on_demand = subtree-demanded;
   tracked_state = subtree-tracked;
-  points = λ below. subtree-points;
+  points = subtree-points;
   held = (omega arith, (omega arith, (omega arith, (omega arith, (omega arith, (omega arith, (omega arith, tt)))))));
 }

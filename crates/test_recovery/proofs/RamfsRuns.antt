@@ -42,7 +42,7 @@ file_loaded-recovered = record {
   walks = file_loaded-walks;
   on_demand = file_loaded-demanded;
   tracked_state = file_loaded-tracked;
-  points = λ below. file_loaded-points;
+  points = file_loaded-points;
   held = (omega arith, (omega arith, (omega arith, (omega arith, (omega arith, (omega arith, tt))))));
 }
 
@@ -81,7 +81,7 @@ held_lost-recovered = record {
   walks = held_lost-walks;
   on_demand = held_lost-demanded;
   tracked_state = held_lost-tracked;
-  points = λ below. held_lost-points;
+  points = held_lost-points;
   held = (omega arith, (omega arith, (omega arith, (omega arith, (omega arith, tt)))));
 }
 
@@ -120,6 +120,6 @@ held_behind-recovered = record {
   walks = held_behind-walks;
   on_demand = held_behind-demanded;
   tracked_state = held_behind-tracked;
-  points = λ below. held_behind-points;
+  points = held_behind-points;
   held = (omega arith, (omega arith, (omega arith, (omega arith, tt))));
 }

@@ -41,7 +41,7 @@ ranks_kept-recovered = record {
   walks = ranks_kept-walks;
   on_demand = ranks_kept-demanded;
   tracked_state = ranks_kept-tracked;
-  points = λ below. ranks_kept-points;
+  points = ranks_kept-points;
   held = (omega arith, (omega arith, (omega arith, (omega arith, (omega arith, (omega arith, tt))))));
 }
 
@@ -80,6 +80,6 @@ one_walk_two_clients-recovered = record {
   walks = one_walk_two_clients-walks;
   on_demand = one_walk_two_clients-demanded;
   tracked_state = one_walk_two_clients-tracked;
-  points = λ below. one_walk_two_clients-points;
+  points = one_walk_two_clients-points;
   held = (omega arith, (omega arith, (omega arith, (omega arith, tt))));
 }

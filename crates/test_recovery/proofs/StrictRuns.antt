@@ -63,10 +63,10 @@ pub wait_stopped-wrong : IsRecovered event_stubs one_event wait_stopped (first_w
 wait_stopped-wrong r = false_true r.reboots.table.1.0
 
 pub refusal_stopped_late-wrong : IsRecovered lock_stubs one_taken refusal_stopped_late (second_take ∷ []) → ⊥
-refusal_stopped_late-wrong r = let e : 12 ≡ 11 = (r.points refl).0.1.1.0 in omega (arith, e)
+refusal_stopped_late-wrong r = let e : 12 ≡ 11 = r.points.0.1.1.0 in omega (arith, e)
 
 pub free_stopped_late-wrong : IsRecovered lock_stubs one_taken free_stopped_late (free_of_taken ∷ []) → ⊥
-free_stopped_late-wrong r = let e : 12 ≡ 11 = (r.points refl).0.1.1.0 in omega (arith, e)
+free_stopped_late-wrong r = let e : 12 ≡ 11 = r.points.0.1.1.0 in omega (arith, e)
 
 -- ---- the boot of a held reply
 
@@ -96,7 +96,7 @@ empty_boot_more-recovered = record {
   walks = (tt, tt);
   on_demand = (record { under_way = record { its = record { its = refl; made = (0, omega arith, refl) }; above = refl; first = refl }; guarded = refl }, tt);
   tracked_state = (record { whole = refl; rows = tt; real = refl; file = tt }, tt);
-  points = λ below. ((refl, tt), inl (refl, refl), (tt, refl, refl));
+  points = ((refl, tt), inl (refl, refl), (tt, refl, refl));
   held = (omega arith, tt);
 }
 
@@ -132,10 +132,11 @@ made_and_stopped-recovered = record {
     walks = (tt, tt);
     on_demand = (record { under_way = record { its = record { its = refl; made = (0, omega arith, refl) }; above = refl; first = refl }; guarded = refl }, tt);
     tracked_state = (record { whole = refl; rows = tt; real = refl; file = tt }, tt);
-    points = λ below. ((refl, tt), inl (refl, refl), refl);
+    points = ((refl, tt), inl (refl, refl), refl);
     held = (omega arith, tt);
   };
   blocked = (tt, tt);
   used = tt;
   quiet = (refl, refl);
+  lost = ((tt, tt), tt);
 }

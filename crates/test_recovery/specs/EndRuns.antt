@@ -7,7 +7,8 @@ use Rattle.sg_facts.specs.declared.entry.Entry.{Entry}
 use Rattle.sg_facts.specs.declared.outcome.Outcome.TheVariants.{Blocks, Stopped}
 use Rattle.sg_facts.specs.declared.trace.Item.{Item}
 use Rattle.sg_facts.specs.declared.trace.Tag.TheVariants.{Load}
-use Rattle.sg_facts.specs.Trace.{Run}
+use Rattle.sg_facts.specs.sg_base.Counts.{last_count}
+use Rattle.sg_facts.specs.Trace.{Boot, Run}
 use Rattle.sg_recovery_laws.specs.sg_hist.declared.ended.End.{End}
 use Rattle.sg_recovery_laws.specs.sg_hist.declared.ended.End.TheVariants.{Blocked, Done}
 use Rattle.test_histories.specs.Written.{entry, ok, ok_at, ok_with}
@@ -55,6 +56,38 @@ stopped_unasked = record { boots = boot (called alloc 0 4 (replied (ok_at 1)) �
 -- it stops once the lock is made, is booted, and stops again before it is used
 abbrev pub stopped_unused : Run
 stopped_unused = record { boots = boot (called alloc 0 4 (replied (ok_at 1)) ∷ []) (Some 5) ∷ boot [] (Some 6) ∷ []; points = 6 }
+
+-- ---- replies that were lost
+
+-- client 1 seeks to where its file is, and reads it
+abbrev pub sought_and_read : List Entry
+sought_and_read =
+    entry (call_with 1 1 1 0 (text (codes "a") ∷ [])) (ok_at 1)
+    ∷ entry (call_with 1 2 4 1 (word 0 ∷ [])) ok
+    ∷ entry (call_with 1 3 2 1 (word 8 ∷ [])) (ok_with 0 0)
+    ∷ []
+
+abbrev pub sought_ends : List (ℕ × End)
+sought_ends = (1, Done) ∷ []
+
+-- the seek is asked for twice in one boot, where its first reply was still held
+abbrev pub held_asked_twice : Run
+held_asked_twice = in_one_boot (
+  called (call_with 1 1 1 0 (text (codes "a") ∷ [])) 0 4 (replied (ok_at 1))
+  ∷ called (call_with 1 2 4 1 (word 0 ∷ [])) 1 8 (replied ok)
+  ∷ called (call_with 1 2 4 1 (word 0 ∷ [])) 1 11 (replied ok)
+  ∷ called (call_with 1 3 2 1 (word 8 ∷ [])) 1 14 (replied (ok_with 0 0))
+  ∷ []) 15
+
+-- ---- the end of the count of points
+
+-- nothing was asked, and all points that can be counted were
+abbrev pub counted_for_nothing : Run
+counted_for_nothing = in_one_boot [] last_count
+
+-- a lock is made where one point is left to be counted
+abbrev pub made_at_the_end : List Boot
+made_at_the_end = boot (called alloc 0 last_count (replied (ok_at 1)) ∷ []) None ∷ []
 
 -- ---- refusals by the guard
 

@@ -1,10 +1,11 @@
 // Runs that end as none may, or whose calls are under way at the wrong time.
-ghost use Rattle.std.specs.Prelude.{◌∷◌, []};
-ghost use Rattle.sg_recovery_laws.specs.sg_hist.Recovered.{IsRecovered, waiting};
-ghost use Rattle.sg_recovery_laws.specs.sg_hist.Ending.{HasRecovered};
+ghost use Rattle.std.specs.Prelude.{◌∷◌, ◌-◌, [], true};
+ghost use Rattle.sg_facts.specs.sg_base.Counts.{last_count};
+ghost use Rattle.sg_recovery_laws.specs.sg_hist.Recovered.{ArePointsOf, IsRecovered, waiting};
+ghost use Rattle.sg_recovery_laws.specs.sg_hist.Ending.{AreLost, HasRecovered};
 ghost use Rattle.test_recovery.specs.LockRuns.{lock_stubs};
-ghost use Rattle.test_recovery.specs.RamfsRuns.{ramfs_stubs};
-ghost use Rattle.test_recovery.specs.EndRuns.{asked_early, asked_late, load_shows_a_call, other_waits, refused_early, refused_late, slept_over_reboot, stopped_unasked, stopped_unused, take_after_refusal, taken_and_held, waits_asked, waits_unasked, written_and_read};
+ghost use Rattle.test_recovery.specs.RamfsRuns.{held_behind, held_behind_history, held_lost, held_lost_history, ramfs_stubs};
+ghost use Rattle.test_recovery.specs.EndRuns.{asked_early, asked_late, counted_for_nothing, held_asked_twice, load_shows_a_call, made_at_the_end, other_waits, refused_early, refused_late, slept_over_reboot, sought_and_read, sought_ends, stopped_unasked, stopped_unused, take_after_refusal, taken_and_held, waits_asked, waits_unasked, written_and_read};
 ghost use Rattle.test_recovery.specs.StrictRuns.{one_made, one_made_ends, one_taken};
 
 /// A run that ended hasn't recovered where a client waits in a call that the service was never asked for, though the run recovers so far.
@@ -32,6 +33,24 @@ pub fn stopped_unasked()
 /// It hasn't recovered where a boot more is empty but for a stop.
 pub fn stopped_unused()
     ensures wrong { HasRecovered lock_stubs one_made stopped_unused one_made_ends → ⊥ }
+{}
+
+/// It hasn't recovered where a call is asked for again though its reply is held, though the run recovers so far.
+pub fn held_asked_twice()
+    ensures wrong { HasRecovered ramfs_stubs sought_and_read held_asked_twice sought_ends → ⊥ }
+    ensures recovered { IsRecovered ramfs_stubs sought_and_read held_asked_twice (waiting sought_ends) }
+{}
+
+/// A reply that a stop took may be no entry's, and one that was held until its entry is its.
+pub fn held_or_lost()
+    ensures lost { AreLost held_lost_history [] held_lost.boots }
+    ensures held { AreLost held_behind_history [] held_behind.boots }
+{}
+
+/// A run doesn't recover that counts all points where none was asked, and the count of points stands still at its end.
+pub fn counted_to_the_end()
+    ensures wrong { IsRecovered lock_stubs [] counted_for_nothing [] → ⊥ }
+    ensures still { ArePointsOf true lock_stubs.interface.facts lock_stubs.ask lock_stubs.parts (last_count - 1) made_at_the_end last_count }
 {}
 
 /// A run doesn't recover where the service is asked for a call that the guard had refused before.

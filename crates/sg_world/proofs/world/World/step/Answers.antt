@@ -33,7 +33,7 @@ invariant_of-self g c =
           (err_counted z w c.args.client c.self.invariant.0.world.keeps.cell c.self.invariant.1 (view_in mid) c.step-did.result (sym c.is_err.ensures.value ∙ c.if-is_err.true) c.step-did.ensures.err)),
       subst (λ (t : Compiled). IsEnding (setting_of g.S.Service.ask g.S.Service.sound g.S.Service.parts t) (record (view_in mid) { events = c.saturating_add-self-inside.result; refused = c.saturating_add-self-inside-then-is_err.result })) (sym tables)
           (ends_same z (view_in mid) (record (view_in mid) { events = c.saturating_add-self-inside.result; refused = c.saturating_add-self-inside-then-is_err.result }) refl refl refl refl
-          (ends_err z w c.args.client c.requires.client.0 (subst (λ (y : Worlded). c.args.client ≤ length y.view.seats) (sym c.self.view_is) c.requires.client.1) (stub_of x.engine) c.self.invariant.0.world.keeps c.self.invariant.2 (view_in mid) c.step-did.result (sym c.is_err.ensures.value ∙ c.if-is_err.true) c.step-did.ensures.err)),
+          (ends_err z w c.args.client c.requires.client.0 (subst (λ (y : Worlded). c.args.client ≤ length y.view.seats) (sym c.self.view_is) c.requires.client.1) (stub_of x.engine) c.self.invariant.0.world.set c.self.invariant.0.world.keeps c.self.invariant.2 (view_in mid) c.step-did.result (sym c.is_err.ensures.value ∙ c.if-is_err.true) c.step-did.ensures.err)),
     )
 
 pub invariant_of-self-else-is_err : goal.invariant_of-self-else-is_err
@@ -54,7 +54,7 @@ invariant_of-self-else-is_err g c =
           (ok_counted z w c.args.client c.self.invariant.0.world.keeps.cell c.self.invariant.1 (view_in mid) c.step-did.result (sym c.is_err.ensures.value ∙ c.if-is_err.false) c.step-did.ensures.did),
       subst (λ (t : Compiled). IsEnding (setting_of g.S.Service.ask g.S.Service.sound g.S.Service.parts t) (record (view_in mid) { events = c.saturating_add-self-inside.result; refused = mid.refused })) (sym tables)
           (ends_same z (view_in mid) (record (view_in mid) { events = c.saturating_add-self-inside.result; refused = mid.refused }) refl refl refl refl
-          (ends_ok z w c.args.client c.requires.client.0 (subst (λ (y : Worlded). c.args.client ≤ length y.view.seats) (sym c.self.view_is) c.requires.client.1) (stub_of x.engine) c.self.invariant.0.world.keeps c.self.invariant.2 (view_in mid) c.step-did.result (sym c.is_err.ensures.value ∙ c.if-is_err.false) c.step-did.ensures.did)),
+          (ends_ok z w c.args.client c.requires.client.0 (subst (λ (y : Worlded). c.args.client ≤ length y.view.seats) (sym c.self.view_is) c.requires.client.1) (stub_of x.engine) c.self.invariant.0.world.set c.self.invariant.0.world.keeps c.self.invariant.2 (view_in mid) c.step-did.result (sym c.is_err.ensures.value ∙ c.if-is_err.false) c.step-did.ensures.did)),
     )
 
 pub returns-then-is_err-clause-err : goal.returns-then-is_err-clause-err
