@@ -172,7 +172,7 @@ module _ (facts : Facts) (ask : Table) (parts : ℕ → ℕ) (held : Object) (c0
   stop_moved notes =
       let a = subst (λ s. NotesStop ask parts held c0 tag s real points cell later) same notes in
       let b = subst (λ r. NotesStop ask parts held c0 tag shown' r points cell later) under a in
-      record { stops = b.stops; running = b.running; run = b.run ∙ ap (λ r. with_stop (with_item r (item_of_call tag shown' real'.desc later.asked Stopped) later.asked) later.asked) run }
+      record { stops = b.stops; counted = b.counted; running = b.running; run = b.run ∙ ap (λ r. with_stop (with_item r (item_of_call tag shown' real'.desc later.asked Stopped) later.asked) later.asked) run }
 
 -- the call of a walk is one
 pub same_call : (facts facts' : Facts) (walks walks' : List WalkLine) (row row' : Option Row) (k : ℕ) (a b : Call) → replay_of facts walks row k ≡ Some a → facts ≡ facts' → walks ≡ walks' → row ≡ row' → replay_of facts' walks' row' k ≡ Some b → a ≡ b

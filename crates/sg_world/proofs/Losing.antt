@@ -20,7 +20,7 @@ use Rattle.sg_replay.specs.sg_hist.Ending.{AreLost, client_of, is_unentered}
 use Rattle.sg_replay.specs.sg_hist.Growing.{IsGrown, IsOfNoEntry, booted, last_stop, noted, struck}
 use Rattle.sg_replay.specs.sg_hist.Reading.{Position, is_by_guard, is_item_of, is_tagged}
 use Rattle.sg_replay.specs.sg_hist.Recovered.{is_clients, is_replied}
-use Rattle.sg_world_laws.proofs.sg_seat.Lines.{length_map, length_set, same_or_other, seat_here, seat_there, seat_woken}
+use Rattle.sg_world_laws.proofs.sg_seat.Lines.{length_set, same_or_other, seat_here, seat_there, seat_woken}
 use Rattle.sg_world_laws.specs.sg_seat.WorldView.{Seat, WorldView, is_offered, no_reply, seat_in, seat_of, wakes_seat, woken_seat}
 use Rattle.sg_world_laws.specs.sg_seat.declared.phase.Phase.{Phase}
 use Rattle.sg_world_laws.specs.sg_seat.declared.phase.Phase.TheVariants.{Idle, Asked, Held, Receipted, Blocked}
@@ -28,7 +28,7 @@ use Rattle.sg_world_laws.proofs.Ending.Boots.{length_noted, length_struck}
 use Rattle.sg_world_laws.proofs.Ending.Calls.{none_of_stub, own_tag}
 use Rattle.sg_world_laws.proofs.Ending.Ended.{goes_on}
 use Rattle.sg_world_laws.proofs.Ending.Lost.{entered_own, fewer_committed, fewer_entered, fewer_noted, free_item, holds_on, last_at, lost_booted, lost_moved, lost_noted, lost_over, lost_struck, none_of_client, quiet_noted}
-use Rattle.sg_world_laws.proofs.Ending.Seats.{here_entered, length_entered}
+use Rattle.sg_world_laws.proofs.Ending.Seats.{length_entered}
 use Rattle.sg_world_laws.proofs.Ending.Shapes.{answered_seats, entry_with, given_seats, seat_behind, woken}
 use Rattle.sg_world_laws.proofs.Woken.{woken_is}
 use Rattle.sg_world_laws.specs.Ending.{AreLostSoFar, HoldsReply, IsHeldOrLost}
@@ -38,6 +38,9 @@ use Rattle.sg_world.specs.declared.did.Did.TheVariants.{Answered, Blocked as Wai
 use Rattle.sg_world.specs.Steps.{AsksService, Commits, PassesGuard, Steps, UsesService}
 
 -- ---- boots, however they are given
+
+abbrev no_stop : Option ℕ
+no_stop = None
 
 abbrev pub LostIn : List Entry → List Seat → List Boot → Type 0
 LostIn h seats boots = AreLostSoFar h seats (length boots) [] boots
@@ -118,7 +121,7 @@ module _ (h now : List Entry) (seats later : List Seat) (c : ℕ) (others : AreO
           → IsHeldOrLost later (length (b ∷ boots)) None (last_at older front x (rest ++ item ∷ []))
       keeps older front rest x old = by old.gone
         where
-          by : IsSome None ⊎ HoldsReply seats (length (b ∷ boots)) x.tag → IsHeldOrLost later (length (b ∷ boots)) None (last_at older front x (rest ++ item ∷ []))
+          by : IsSome no_stop ⊎ HoldsReply seats (length (b ∷ boots)) x.tag → IsHeldOrLost later (length (b ∷ boots)) None (last_at older front x (rest ++ item ∷ []))
           by (inl some) = absurd (cc some)
           by (inr holds) = record {
             quiet = quiet_noted rest item x.tag c holds.client its (ap client_of holds.its) (not_it holds.client holds.phase) old.quiet;
@@ -161,7 +164,7 @@ module _ (z : Setting) (set : IsSetting z) (w : WorldView) (c : ℕ) (first : 1 
   offers_by : (p : Phase) → s.phase ≡ p → is_offered p ≡ true → is_offered s.phase ≡ true
   offers_by p was offers = ap is_offered was ∙ offers
 
-  test_of : Reply → Call → Bool
+  abbrev test_of : Reply → Call → Bool
   test_of reply call = wakes_seat z.iface.facts (object_of z.iface.facts w.history).rows s.call reply call
 
   -- ---- no item is noted
@@ -330,7 +333,7 @@ module _ (z : Setting) (set : IsSetting z) (w : WorldView) (c : ℕ) (first : 1 
   -- it is kept by each step
   pub lost_step : (did : Did) (later : WorldView) → Steps z w c did later → Keeps later
   lost_step Skipped later l = subst Keeps (sym l.now) is
-  lost_step (Answered reply) later (inl l) = subst Keeps (sym l.now) (lost_set w.history boots w.seats c (record s { phase = Idle; reply = no_reply }) first (free_in Receipted l.phase (λ a. cc a)))
+  lost_step (Answered reply) later (inl l) = subst Keeps (sym l.now) (lost_set w.history boots w.seats c (record s { phase = Idle; reply = no_reply }) first (free_in Receipted l.phase (λ a. cc a)) is)
   lost_step (Answered reply) later (inr (inl l)) =
       lost_at later (w.history ++ entry_with z.iface.facts w c reply ∷ []) boots (slice_set (woken z.iface.facts w c reply) (c - 1) (seat_behind z.iface.facts w c reply Idle no_reply))
       (ap (λ x. x.history) l.now) (ap (λ x. x.run.boots) l.now) (ap (λ x. x.seats) l.now ∙ answered_seats z.iface.facts w c reply (its (offers_by Held l.phase refl)))

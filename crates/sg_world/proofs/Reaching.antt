@@ -1,10 +1,8 @@
 -- A client's call that has all that it needs reaches the service: what its world keeps where it waits, where the service stops, and where
 -- the service replies.
 use Rattle.std.proofs.Common.{IsSome, List, None, Some, [], ap, if◌then◌else◌, inl, length, refl, slice_set, subst, sym, true, ℕ, ◌++◌, ◌-◌, ◌∙◌, ◌∷◌, ◌≡◌, ◌≤◌}
-use Rattle.std.proofs.lemmas.Bool.{ltb-true}
 use Rattle.sg_world_laws.proofs.Advancing.Advances.{call_stopped, stopped_next, waited, waiting_next, would_wait}
 use Rattle.sg_world_laws.proofs.Advancing.Noted.{length_noted}
-use Rattle.sg_facts.specs.sg_base.Counts.{last_count}
 use Rattle.sg_facts.specs.sg_base.Stops.{asked_after}
 use Rattle.sg_facts.specs.sg_base.declared.call.Call.{Call}
 use Rattle.sg_replay.proofs.sg_boot.LastBoot.{begun_noted, stop_noted}
@@ -31,7 +29,7 @@ use Rattle.sg_clients.specs.sg_seat.declared.phase.Phase.TheVariants.{Blocked}
 use Rattle.sg_world.proofs.Missing.{due_is}
 use Rattle.sg_world.proofs.Moving.{rooms_moved, told_moved}
 use Rattle.sg_world.proofs.Points.{not_stopped, stops_noted, stops_struck}
-use Rattle.sg_world.proofs.Rebuilding.{engine_is, keeps_now, let_in_now, own, spelt, stop_at, use_next}
+use Rattle.sg_world.proofs.Rebuilding.{engine_is, keeps_now, let_in_now, own, spelt, stop_at}
 use Rattle.sg_world.proofs.Upright.{Upright}
 use Rattle.sg_world.specs.Due.{needs_in}
 use Rattle.sg_world.specs.Steps.{PassesGuard, ReachesService, StopsCall, WaitsNow}

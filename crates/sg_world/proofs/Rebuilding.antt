@@ -1,6 +1,5 @@
 -- One step more of what a call needs, as the engine does it: it may be done, the world keeps what it keeps after it, and it is the line of the step.
 use Rattle.std.proofs.Common.{List, Some, [], ap, arith, if◌then◌else◌, inl, inr, length, refl, subst, sym, true, ℕ, ◌++◌, ◌+◌, ◌-◌, ◌<◌, ◌∙◌, ◌∷◌, ◌≡◌, ◌≤◌}
-use Rattle.std.proofs.lemmas.Bool.{ltb-true}
 use Rattle.std.specs.declared.result.Result.{Result}
 use Rattle.std.specs.declared.result.Result.TheVariants.{Err, Ok as Done}
 use Rattle.std.specs.Prelude.{OnErr}
@@ -62,7 +61,7 @@ use Rattle.sg_world_laws.specs.Turns.{IsLetIn}
 
 -- one point for the use of the service, and those of a reply after it
 pub reply_next : (asked n parts later : ℕ) → n ≡ asked_after asked 1 → later ≡ asked_after (asked_after n parts) 1 → later ≡ asked_after asked (2 + parts)
-reply_next asked n parts later use is = omega (arith, use, is)
+reply_next asked n parts later one is = omega (arith, one, is)
 
 -- a call that stopped did so at a point of what it would have been answered
 pub stop_at : (parts : ℕ → ℕ) (asked n later fun : ℕ) (reply : Reply) (call : Call) → call.fun ≡ fun → n ≡ asked_after asked 1 → n < later → later ≤ n + parts_of parts call reply + 1 → later ≤ last_count → IsStopInCall true (parts fun) asked (Some reply) later

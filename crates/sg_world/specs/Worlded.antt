@@ -1,7 +1,6 @@
 -- What contracts see of a world, and what it keeps.
 use Rattle.std.specs.List.{flat_map}
-use Rattle.std.specs.Prelude.{ℕ, ◌≡◌, ◌+◌, ◌≤◌, List, [], ◌∷◌, length, true, ◌==◌, nat_lt}
-use Rattle.sg_facts.specs.sg_base.Counts.{last_count}
+use Rattle.std.specs.Prelude.{ℕ, ◌≡◌, ◌+◌, ◌≤◌, List, [], ◌∷◌, length, ◌==◌}
 use Rattle.sg_facts.specs.Facts.{Facts}
 use Rattle.sg_facts.specs.Legal.{Table}
 use Rattle.sg_facts.specs.Object.{Object, file_at, object_of}
