@@ -161,7 +161,7 @@ held_behind-lost = ((tt, (tt, (tt, (tt, tt)))), tt)
 -- ---- the end of the count of points
 
 pub counted_for_nothing-wrong : IsRecovered lock_stubs [] counted_for_nothing [] → ⊥
-counted_for_nothing-wrong r = let e : last_count ≡ 0 = r.points.2.1 in omega (arith, e)
+counted_for_nothing-wrong r = let e : last_count ≡ 0 = r.points.2 in omega (arith, e)
 
 pub made_at_the_end-counted : ArePointsOf true lock_stubs.interface.facts lock_stubs.ask lock_stubs.parts (last_count - 1) made_at_the_end last_count
 made_at_the_end-counted = ((refl, tt), refl, refl)
