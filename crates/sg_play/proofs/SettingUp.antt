@@ -67,7 +67,8 @@ first_more script items item is all = by (is_of_setup script item.tag) refl
     by true own = ap all_first (up_to_end test items item own) ∙ all own
     by false other = ap all_first (up_to_front test items (item ∷ []) (ap (λ b. b || false) other)) ∙ is
 
-was_on : (b later : Bool) → (b ≡ false → later ≡ false) → later ≡ true → b ≡ true
+-- what stays done was on before
+pub was_on : (b later : Bool) → (b ≡ false → later ≡ false) → later ≡ true → b ≡ true
 was_on true later off on = refl
 was_on false later off on = absurd (let not = off refl in cc (not, on))
 
