@@ -7,5 +7,5 @@ mod Lists
 mod Others
 mod Taking
 mod Turning
-mod Turns
+pub mod Turns
 pub use Rattle.sg_play.proofs.sg_plain

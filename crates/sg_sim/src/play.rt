@@ -109,6 +109,7 @@ impl<S: Service, T: Stops> Play<S, T> {
         ensures calls { is_setting_up self.old.script self.old.view.seats ≡ true → handed (seat_of self.new.view 1) ≤ length self.old.script.setup }
         ensures free { is_setting_up self.old.script self.old.view.seats ≡ true → OnOk result (is_free_phase (seat_of self.new.view 1).phase ≡ true) }
         ensures others { (client : ℕ) → 2 ≤ client → seat_of self.new.view client ≡ seat_of self.old.view client }
+        ensures turns { OnOk result (ComesTo (setting_of S.ask S.sound S.parts self.old.tables) self.old.script self.old.view self.new.view) }
         ensures tables { self.new.tables ≡ self.old.tables }
         ensures script { self.new.script ≡ self.old.script }
         ensures plan { self.new.plan ≡ self.old.plan }
