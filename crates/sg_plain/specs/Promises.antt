@@ -1,8 +1,9 @@
 -- What a play promises of its history, its trace and its clients' ends, for any number of clients and any stops.
-use Rattle.std.specs.Prelude.{ℕ, ◌≡◌, ◌+◌, ◌==◌, Bool, true, false, ◌&&◌, ◌||◌, not, nat_le, if◌then◌else◌, List, [], ◌∷◌, ◌++◌, filter, length, take}
+use Rattle.std.specs.Prelude.{ℕ, ◌≡◌, ◌+◌, ◌≤◌, ◌==◌, Bool, true, false, ◌&&◌, ◌||◌, not, nat_le, if◌then◌else◌, List, [], ◌∷◌, ◌++◌, filter, length, take}
 use Rattle.std.specs.List.{list_all, list_any}
 use Rattle.sg_facts.specs.sg_base.Lists.{Each, When}
 use Rattle.sg_facts.specs.declared.entry.Entry.{Entry}
+use Rattle.sg_facts.specs.declared.trace.Item.{Item}
 use Rattle.sg_facts.specs.declared.trace.Tag.{Tag}
 use Rattle.sg_facts.specs.declared.trace.Tag.TheVariants.{Walk, Load, Client}
 use Rattle.sg_facts.specs.Facts.{Facts, is_visible}
@@ -32,6 +33,34 @@ pub record AreScriptsCalls (facts : Facts) (script : Script) (history : List Ent
   pub none_else : list_all (λ e. list_any (λ c. c == e.call.client) (callers script)) history ≡ true
   pub setup : list_all (λ e. e.call.client == 1) (take (length script.setup) history) ≡ true
 
+-- ---- the setup
+
+-- the elements up to the last that meets a test, it taken in
+abbrev pub up_to_last : {A : Type 0} → (A → Bool) → List A → List A
+up_to_last test [] = []
+up_to_last test (x ∷ xs) = if test x || list_any test xs then x ∷ up_to_last test xs else []
+
+-- whether an item was noted in a turn of a client: for its call, or for what was rebuilt or loaded for that
+abbrev pub is_in_turn_of : ℕ → Tag → Bool
+is_in_turn_of client (Walk id k c) = c == client
+is_in_turn_of client (Load key c) = c == client
+is_in_turn_of client (Client c seq) = c == client
+
+-- whether an item is of a call of the setup: the setup has client 1's first calls
+abbrev pub is_of_setup : Script → Tag → Bool
+is_of_setup script (Walk id k c) = false
+is_of_setup script (Load key c) = false
+is_of_setup script (Client c seq) = (c == 1) && nat_le seq (length script.setup)
+
+-- whether all items up to the last of the setup were noted in turns of client 1
+abbrev pub is_setup_first : Script → List Item → Bool
+is_setup_first script items = list_all (λ item. is_in_turn_of 1 item.tag) (up_to_last (λ item. is_of_setup script item.tag) items)
+
+-- the calls of the setup are in the history, and no item of another client's turn stands before one of theirs
+pub record IsSetupFirst (script : Script) (history : List Entry) (run : Run) : Type 0 where
+  pub done : length script.setup ≤ length (calls_of history 1)
+  pub items : is_setup_first script (items_of run.boots) ≡ true
+
 -- ---- stops
 
 -- the service stopped at the script's points, as far as points were asked, and at no others
@@ -51,11 +80,6 @@ abbrev pub is_in_first_boot : Facts → List Boot → Entry → Bool
 is_in_first_boot facts [] e = false
 is_in_first_boot facts (b ∷ boots) e =
     is_visible facts e.call.fun && not (is_by_guard e.reply) && list_any (is_item_of e) b.items && not (list_any (is_item_of e) (items_of boots))
-
--- the entries up to the last that meets a test, it taken in
-abbrev pub up_to_last : (Entry → Bool) → List Entry → List Entry
-up_to_last test [] = []
-up_to_last test (e ∷ history) = if test e || list_any test history then e ∷ up_to_last test history else []
 
 -- a run follows the play without stops: up to the last entry of a visible function of the first boot, and wholly where nothing struck
 pub record FollowsPlain (facts : Facts) (run : Run) (history plain : List Entry) : Type 0 where

@@ -1,7 +1,6 @@
 -- That a play follows the play without stops until the service stops.
 pub mod Created
 pub mod Following
-pub mod Fronts
 pub mod Numbered
 pub mod Onward
 pub mod Players

@@ -1,8 +1,10 @@
 pub mod Ends
 pub mod Finding
 pub mod Following
+pub mod Fronts
 pub mod Given
 pub mod Offering
+pub mod SettingUp
 pub mod Stepping
 pub mod Turning
 pub mod Waking

@@ -1,5 +1,6 @@
 pub mod Following
 pub mod Recovering
+pub mod SettingUp
 pub mod Turning
 pub mod Waking
 pub use Rattle.sg_plain.specs.sg_hist

@@ -31,6 +31,7 @@ run_so : (i : Declared) (service : Answering) (walks : List WalkLine) (script : 
 run_so i service walks script ended tables ascend played = record {
   legal = played.legal;
   calls = played.calls;
+  setup = played.setup;
   recovered = (walks, tables, played.recovered);
   stops = played.stops ∙ listed 0 script.stops _ ascend;
   ends = played.ends;

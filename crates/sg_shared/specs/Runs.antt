@@ -7,7 +7,7 @@ use Rattle.sg_facts.specs.Tables.{AreTables}
 use Rattle.sg_facts.specs.Trace.{run_of}
 use Rattle.sg_facts.specs.declared.tables.WalkLine.{WalkLine}
 use Rattle.sg_plain.specs.Calls.{AreEnds}
-use Rattle.sg_plain.specs.Promises.{AreScriptsCalls, AreScriptsStops, AreWoken}
+use Rattle.sg_plain.specs.Promises.{AreScriptsCalls, AreScriptsStops, AreWoken, IsSetupFirst}
 use Rattle.sg_plain.specs.sg_hist.Ending.{HasRecovered}
 use Rattle.sg_plain.specs.sg_hist.declared.ended.Ended.{Ended}
 use Rattle.sg_plain.specs.sg_script.declared.script.Script.{Script}
@@ -25,6 +25,8 @@ pub record IsRunOf (i : Declared) (service : Answering) (script : Script) (ended
   pub legal : IsLegal i service.ask ended.history.items
   -- the history's entries are the script's calls, each once and in its client's order, and those of the setup come first
   pub calls : AreScriptsCalls i.facts script ended.history.items
+  -- the setup comes first: its calls are done, and no item of another client's turn stands before one of theirs
+  pub setup : IsSetupFirst script ended.history.items (run_of ended.trace)
   -- every reboot, walk and load is as it has to be, and each descriptor is in its tracked state when a call reaches the service; the
   -- walks are the least ones
   pub recovered : (walks : List WalkLine) × AreTables i walks × HasRecovered (record { interface = i; ask = service.ask; parts = service.parts; walks = walks }) ended.history.items (run_of ended.trace) ended.ends

@@ -86,7 +86,8 @@ length_taken es zero few = refl
 length_taken [] (suc n) few = absurd (omega (arith, few))
 length_taken (e ∷ es) (suc n) few = ap suc (length_taken es n (omega (arith, few)))
 
-few_handed : (s : Seat) → handed s ≤ s.seq
+-- no more replies are handed over than calls are made
+pub few_handed : (s : Seat) → handed s ≤ s.seq
 few_handed s = by (is_receipted s.phase)
   where
     by : (b : Bool) → cond b (s.seq - 1) s.seq ≤ s.seq

@@ -1,7 +1,8 @@
 -- How clients end, one after the other; and what a play that ended promises.
 use Rattle.std.proofs.Common.{◌≡◌, ℕ, zero, suc, ◌+◌, ◌-◌, ◌<◌, ◌≤◌, Bool, true, false, cond, List, [], ◌∷◌, ◌++◌, None, length, map, refl, sym, ◌∙◌, ap, subst, arith, take, append-nil}
-use Rattle.std.specs.Prelude.{slice_get, unwrap_or}
+use Rattle.std.specs.Prelude.{nat_lt, slice_get, unwrap_or}
 use Rattle.std.specs.List.{flat_map}
+use Rattle.std.proofs.lemmas.Bool.Decides.{nat_tests}
 use Rattle.sg_facts.specs.Legal.{IsLegal}
 use Rattle.sg_facts.proofs.Legality.{IsLegal-from}
 use Rattle.sg_facts.specs.Trace.{run_of}
@@ -10,6 +11,7 @@ use Rattle.sg_facts.specs.Facts.{fun_at}
 use Rattle.sg_facts.specs.Object.{Object}
 use Rattle.sg_play.proofs.Following.Following.{following_end}
 use Rattle.sg_play.proofs.Following.Whose.{nobody_next}
+use Rattle.sg_play.specs.sg_hist.Clients.{calls_of}
 use Rattle.sg_play.specs.sg_hist.Recovered.{IsRecovered, struck_in}
 use Rattle.sg_play.specs.sg_hist.Ending.{HasRecovered}
 use Rattle.sg_play.specs.sg_hist.declared.ended.End.{End}
@@ -17,8 +19,8 @@ use Rattle.sg_play.specs.sg_hist.declared.ended.Ended.{Ended}
 use Rattle.sg_play.specs.sg_plain.Calls.{AreEnds, most_client}
 use Rattle.sg_play.proofs.sg_plain.Ending.Alone.{plain_alone}
 use Rattle.sg_play.proofs.sg_plain.Ending.Plays.{plain_ends}
-use Rattle.sg_play.specs.sg_plain.Playing.Callers.{is_setting_up}
-use Rattle.sg_play.specs.sg_plain.Promises.{AreScriptsCalls, AreWoken}
+use Rattle.sg_play.specs.sg_plain.Playing.Callers.{handed, is_setting_up}
+use Rattle.sg_play.specs.sg_plain.Promises.{AreScriptsCalls, AreWoken, IsSetupFirst}
 use Rattle.sg_play.specs.Recovering.{RecoversSoFar}
 use Rattle.sg_play.proofs.sg_plain.Playing.Ending.{playing_ends, playing_waiting}
 use Rattle.sg_play.proofs.sg_plain.Playing.Playing.{playing_calls}
@@ -27,7 +29,7 @@ use Rattle.sg_play.specs.sg_plain.Playing.Turns.{NobodyGoes}
 use Rattle.sg_play.specs.sg_script.declared.script.Script.{Script}
 use Rattle.sg_play.specs.sg_seat.WorldView.{Seat, WorldView, no_seat, offered_by, seat_in, unanswered}
 use Rattle.sg_sim.specs.Inside.Keeps.{KeepsPlay}
-use Rattle.sg_sim.proofs.Beginning.{clients_from_one}
+use Rattle.sg_sim.proofs.Beginning.{clients_from_one, few_handed}
 use Rattle.sg_sim.specs.Played.{FollowsSchedule, IsPlayed}
 use Rattle.sg_play.proofs.Ends.{IsOver, over_by}
 use Rattle.sg_play.proofs.Waking.Waking.{waking_woken}
@@ -81,6 +83,10 @@ all_taken (s ∷ seats) = ap (λ l. s ∷ l) (all_taken seats)
 not_withdrawn : (w : WorldView) → w.withdrawn ≡ [] → unanswered w ≡ flat_map offered_by w.seats
 not_withdrawn w none = ap (λ l. flat_map offered_by w.seats ++ map (λ x. x.call) l) none ∙ append-nil (flat_map offered_by w.seats)
 
+-- as many as are handed over are made
+setup_done : (a n : ℕ) → nat_lt a n ≡ false → n ≤ a
+setup_done a n not = grind (arith, nat_tests)
+
 module _ (z : Setting) (test : ℕ → List ℕ → List ℕ → Type 0) (script : Script) (plan : List ℕ) (w : WorldView) (given : List (List ℕ)) (passed last : ℕ) (in_order : Bool)
     (is : KeepsPlay z script w given passed last in_order) (told : RecoversSoFar z w) (settled : is_setting_up script w.seats ≡ false) (nobody : NobodyGoes script w.seats) where
   blocks : (o : Object) (call : Call) → z.ask o call ≡ None → (fun_at z.iface.facts.funs call.fun).block ≡ true
@@ -92,6 +98,16 @@ module _ (z : Setting) (test : ℕ → List ℕ → List ℕ → Type 0) (script
 
   some : 1 ≤ most_client script.clients
   some = clients_from_one 0 script.clients is.playing.playable.clients
+
+  -- the setup came first
+  sets_up : IsSetupFirst script w.history w.run
+  sets_up =
+      let there : 1 ≤ length w.seats = subst (λ n. 1 ≤ n) (sym is.playing.clients) some in
+      let made : (seat_in w.seats 1).seq ≡ length (calls_of w.history 1) = (is.playing.callers.each 1 (omega arith) there).count in
+      record {
+        done = omega (arith, setup_done (handed (seat_in w.seats 1)) (length script.setup) settled, few_handed (seat_in w.seats 1), made);
+        items = is.setting_up.front;
+      }
 
   follows : in_order ≡ true → FollowsSchedule z.iface z.ask script w.run w.history
   follows so =
@@ -114,6 +130,7 @@ module _ (z : Setting) (test : ℕ → List ℕ → List ℕ → Type 0) (script
   played ended history run ends recovered stops = record {
     legal = subst (IsLegal z.iface z.ask) (sym history) (IsLegal-from z.iface z.ask w.history told.legal);
     calls = subst (λ h. AreScriptsCalls z.iface.facts script h) (sym history) (playing_calls z.iface script w.history w.seats given is.playing);
+    setup = subst (λ h. IsSetupFirst script h (run_of ended.trace)) (sym history) (subst (IsSetupFirst script w.history) (sym run) sets_up);
     recovered = subst (λ h. HasRecovered (stubs_of z) h (run_of ended.trace) ended.ends) (sym history)
         (subst (λ r. HasRecovered (stubs_of z) w.history r ended.ends) (sym run) (subst (HasRecovered (stubs_of z) w.history w.run) (sym ends) (record {
           tables = told.set.tables;

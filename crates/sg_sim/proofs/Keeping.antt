@@ -7,7 +7,11 @@ use Rattle.sg_facts.specs.Facts.{Facts}
 use Rattle.sg_play.proofs.Following.Following.{following_happened, following_new, following_offer, following_taken, following_wanted}
 use Rattle.sg_play.specs.Following.Follows.{IsFollowing}
 use Rattle.sg_play.specs.Following.Stages.{IsNextTurn, stage_of}
+use Rattle.sg_play.proofs.SettingUp.{offer_notes_none, setting_up_new, setting_up_still, setting_up_turn, was_on}
+use Rattle.sg_play.specs.SettingUp.{IsSettingUpFirst}
 use Rattle.sg_play.specs.sg_hist.Clients.{calls_of}
+use Rattle.sg_play.specs.sg_hist.Reading.{items_of}
+use Rattle.sg_play.specs.sg_plain.Playing.Callers.{is_setting_up}
 use Rattle.sg_play.specs.sg_plain.Calls.{call_after, most_client, script_calls}
 use Rattle.sg_play.specs.Turning.{StepsInTurn, behind_step, with_call, with_offer, with_leaving}
 use Rattle.sg_play.specs.sg_plain.Playing.Playable.{IsPlayable}
@@ -17,6 +21,7 @@ use Rattle.sg_play.specs.sg_script.declared.script.Script.{Script}
 use Rattle.sg_play.specs.sg_seat.WorldView.{WorldView, happened, in_phase, is_left_phase, new_world, no_seat, seat_of, with_mark}
 use Rattle.sg_play.specs.sg_seat.declared.mark.MarkKind.TheVariants.{Leave}
 use Rattle.sg_play.specs.sg_seat.declared.phase.Phase.TheVariants.{Left}
+use Rattle.sg_sim.proofs.AnyTurn.{settled_missed, settled_taken, still_settled}
 use Rattle.sg_sim.proofs.Beginning.{playing_new}
 use Rattle.sg_sim.specs.Inside.Keeps.{KeepsPlay}
 use Rattle.sg_sim.specs.Inside.Taken.{MissesTurn, TakesTurn, behind_offer}
@@ -90,6 +95,40 @@ none_stepped z script w client handed now steps =
 none_wanted : (z : Setting) (w : WorldView) (client : ℕ) (now : WorldView) → WantsMemory z w client now → now.withdrawn ≡ w.withdrawn
 none_wanted z w client now wants = ap (λ x. x.withdrawn) wants.counted
 
+-- ---- the setup
+
+module _ (z : Setting) (script : Script) (w : WorldView) (given : List (List ℕ)) (client : ℕ) (playing : IsPlaying z.iface script w.history w.seats given) where
+  abbrev x : WorldView
+  x = behind_offer z script w given client
+
+  -- it is done behind an offer where it was before, and the other way round
+  done_offered : IsPlaying z.iface script x.history x.seats given → is_setting_up script w.seats ≡ false → is_setting_up script x.seats ≡ false
+  done_offered offered = still_settled z.iface script w.history x.history w.seats x.seats given given playing offered (omega arith)
+
+  done_before : IsPlaying z.iface script x.history x.seats given → is_setting_up script x.seats ≡ false → is_setting_up script w.seats ≡ false
+  done_before offered = still_settled z.iface script x.history w.history x.seats w.seats given given offered playing (omega arith)
+
+  set_up_offered : IsPlaying z.iface script x.history x.seats given → IsSettingUpFirst script w → IsSettingUpFirst script x
+  set_up_offered offered is = setting_up_still script w x (done_offered offered) is (ap (λ r. items_of r.boots) (offer_notes_none z.iface.facts script w client))
+
+  -- a turn, which client 1 takes while the setup isn't done
+  set_up_taken : 1 ≤ client → client ≤ length w.seats → (is_setting_up script w.seats ≡ true → client ≡ 1) → (handed : Option ℕ) (now : WorldView) (gave : List (List ℕ)) → TakesTurn z script w given client handed now gave
+      → IsSettingUpFirst script w → IsSettingUpFirst script now
+  set_up_taken first there its handed now gave t is =
+      setting_up_turn z script x given client first (subst (λ n. client ≤ n) (playing.clients ∙ sym t.offered.clients) there) t.offered handed now
+      (λ on. its (was_on (is_setting_up script w.seats) (is_setting_up script x.seats) (done_offered t.offered) on))
+      (λ off. settled_taken z script w given client playing handed now gave t (done_before t.offered off))
+      (set_up_offered t.offered is) t.steps
+
+  -- a turn that wanted memory
+  set_up_missed : (now : WorldView) (gave : List (List ℕ)) → MissesTurn z script w given client now gave → IsSettingUpFirst script w → IsSettingUpFirst script now
+  set_up_missed now gave m is = setting_up_still script w now (settled_missed z script w given client playing now gave m) is (ap items_of (by m.missed))
+    where
+      by : (now ≡ w) ⊎ (now ≡ happened w) ⊎ (IsPlaying z.iface script x.history x.seats given × WantsMemory z x client now) → now.run.boots ≡ w.run.boots
+      by (inl same) = ap (λ v. v.run.boots) same
+      by (inr (inl same)) = ap (λ v. v.run.boots) same
+      by (inr (inr both)) = ap (λ v. v.run.boots) both.1.counted ∙ ap (λ r. r.boots) (offer_notes_none z.iface.facts script w client)
+
 -- ---- what is kept
 
 -- as many clients
@@ -104,6 +143,7 @@ kept_new z script playable none_waits w new = subst (λ x. KeepsPlay z script x 
   none_withdrawn = refl;
   last_there = omega arith;
   following = λ ordered. following_new z script (new_world (replicate (most_client script.clients) no_seat)) refl;
+  setting_up = setting_up_new script (new_world (replicate (most_client script.clients) no_seat)) (most_client script.clients) refl;
   waking = waking_new z (new_world (replicate (most_client script.clients) no_seat)) (most_client script.clients) refl;
   none_waits = none_waits;
 })
@@ -116,18 +156,20 @@ module _ (z : Setting) (script : Script) (w : WorldView) (given : List (List ℕ
     none_withdrawn = is.none_withdrawn;
     last_there = is.last_there;
     following = λ ordered. absurd (cc ordered);
+    setting_up = is.setting_up;
     waking = is.waking;
     none_waits = is.none_waits;
   }
 
   -- a client took its turn, of which so many turns of the schedule are after it then, and which may have been the next
-  pub kept_turn : (client : ℕ) → 1 ≤ client → client ≤ length w.seats → (later : ℕ) (ordered : Bool) → (ordered ≡ true → (in_order ≡ true) × IsNextTurn script (stage_of script w passed last) client later)
+  pub kept_turn : (client : ℕ) → 1 ≤ client → client ≤ length w.seats → (is_setting_up script w.seats ≡ true → client ≡ 1) → (later : ℕ) (ordered : Bool) → (ordered ≡ true → (in_order ≡ true) × IsNextTurn script (stage_of script w passed last) client later)
       → (handed : Option ℕ) (now : WorldView) (gave : List (List ℕ)) → TakesTurn z script w given client handed now gave → KeepsPlay z script now gave later client ordered
-  kept_turn client first there later ordered next handed now gave t = record {
+  kept_turn client first there its later ordered next handed now gave t = record {
     playing = t.playing;
     none_withdrawn = none_stepped z script (behind_offer z script w given client) client handed now t.steps ∙ none_offered z.iface.facts script w client ∙ is.none_withdrawn;
     last_there = omega (arith, there, as_many z script w now given gave is.playing t.playing);
     following = λ so. following_taken z script w given client passed last is.playing first there (is.following (next so).0) now later handed (next so).1 t.offered t.told_before t.told t.steps;
+    setting_up = set_up_taken z script w given client is.playing first there its handed now gave t is.setting_up;
     waking = waking_turn z script (behind_offer z script w given client) now given client handed t.offered t.told_before t.told first
         (subst (λ n. client ≤ n) (sym (as_many z script w (behind_offer z script w given client) given given is.playing t.offered)) there)
         (waking_offer z script w given client is.playing first there is.waking) t.steps;
@@ -141,6 +183,7 @@ module _ (z : Setting) (script : Script) (w : WorldView) (given : List (List ℕ
     none_withdrawn = by m.missed ∙ is.none_withdrawn;
     last_there = omega (arith, is.last_there, as_many z script w now given given is.playing m.playing);
     following = λ so. following (is.following so) m.missed;
+    setting_up = set_up_missed z script w given client is.playing now gave m is.setting_up;
     waking = waking m.missed;
     none_waits = is.none_waits;
   })

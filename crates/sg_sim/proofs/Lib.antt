@@ -7,4 +7,5 @@ mod Lists
 mod Others
 mod Taking
 mod Turning
+pub mod Turns
 pub use Rattle.sg_play.proofs.sg_plain

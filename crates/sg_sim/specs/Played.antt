@@ -10,7 +10,7 @@ use Rattle.sg_play.specs.sg_hist.Recovered.{Stubs, struck_in}
 use Rattle.sg_play.specs.sg_hist.Ending.{HasRecovered}
 use Rattle.sg_play.specs.sg_plain.Calls.{AreEnds}
 use Rattle.sg_play.specs.sg_plain.Plain.{IsPlainPlay}
-use Rattle.sg_play.specs.sg_plain.Promises.{AreScriptsCalls, AreWoken, FollowsPlain, GetsPlainAlone}
+use Rattle.sg_play.specs.sg_plain.Promises.{AreScriptsCalls, AreWoken, FollowsPlain, GetsPlainAlone, IsSetupFirst}
 use Rattle.sg_play.specs.sg_script.declared.script.Script.{Script}
 use Rattle.sg_play.specs.sg_seat.WorldView.{WorldView}
 
@@ -32,6 +32,8 @@ pub record IsPlayed (s : Stubs) (test : ℕ → List ℕ → List ℕ → Type 0
   pub legal : IsLegal s.interface s.ask ended.history.items
   -- the history's entries are the script's calls, each once and in its client's order, and those of the setup come first
   pub calls : AreScriptsCalls s.interface.facts script ended.history.items
+  -- the setup comes first: its calls are done, and no item of another client's turn stands before one of theirs
+  pub setup : IsSetupFirst script ended.history.items (run_of ended.trace)
   -- every reboot, walk and load is as it has to be, and each descriptor is in its tracked state when a call reaches the service
   pub recovered : HasRecovered s ended.history.items (run_of ended.trace) ended.ends
   -- the service stopped where its stops say

@@ -13,7 +13,7 @@ ghost use Rattle.sg_play.specs.Following.Stages.{IsNextTurn};
 ghost use Rattle.sg_sim.specs.Inside.Next.{IsFirstBehind, NoneBehind, NoneScheduled, may_go_next, stage_now};
 ghost use Rattle.sg_play.specs.sg_seat.WorldView.{is_blocked_phase, new_world, no_seat, seat_of};
 ghost use Rattle.sg_sim.specs.Played.{FollowsSchedule, IsOfWorld, IsPlayed};
-ghost use Rattle.sg_sim.specs.Playing.{HasMissed, can_step};
+ghost use Rattle.sg_sim.specs.Playing.{ComesTo, EndsAs, HasMissed, IsTurnOf, can_step};
 ghost use Rattle.sg_play.specs.Waking.Waking.{no_query_waits};
 ghost use Rattle.sg_play.specs.sg_world.Worlded.{setting_of};
 ghost use Rattle.sg_play.specs.sg_world_laws.Setting.{stubs_of};
@@ -109,6 +109,7 @@ impl<S: Service, T: Stops> Play<S, T> {
         ensures calls { is_setting_up self.old.script self.old.view.seats ≡ true → handed (seat_of self.new.view 1) ≤ length self.old.script.setup }
         ensures free { is_setting_up self.old.script self.old.view.seats ≡ true → OnOk result (is_free_phase (seat_of self.new.view 1).phase ≡ true) }
         ensures others { (client : ℕ) → 2 ≤ client → seat_of self.new.view client ≡ seat_of self.old.view client }
+        ensures turns { OnOk result (ComesTo (setting_of S.ask S.sound S.parts self.old.tables) self.old.script self.old.view self.new.view) }
         ensures tables { self.new.tables ≡ self.old.tables }
         ensures script { self.new.script ≡ self.old.script }
         ensures plan { self.new.plan ≡ self.old.plan }
@@ -195,6 +196,7 @@ impl<S: Service, T: Stops> Play<S, T> {
         ensures played { IfOk result (IsPlayed (stubs_of (setting_of S.ask S.sound S.parts self.old.tables)) T.test self.old.script self.old.plan) }
         ensures schedule { self.old.in_order ≡ true → IfOk result (λ ended. FollowsSchedule self.old.tables.iface S.ask self.old.script (run_of ended.trace) ended.history.items) }
         ensures world { IfOk result (IsOfWorld self.new.view) }
+        ensures turns { OnOk result (ComesTo (setting_of S.ask S.sound S.parts self.old.tables) self.old.script self.old.view self.new.view) }
         ensures tables { self.new.tables ≡ self.old.tables }
         ensures script { self.new.script ≡ self.old.script }
         ensures plan { self.new.plan ≡ self.old.plan }
@@ -209,10 +211,12 @@ impl<S: Service, T: Stops> Play<S, T> {
         Err(NoMemory)
     }
 
-    /// Plays all that is left, to the end, as `play` does, and ends the play.
+    /// Plays all that is left, to the end, as `play` does, and ends the play. What it answers has the history and the trace of the world
+    /// to which the play's comes by turns of its clients.
     pub fn finish(self, alloc: Global) -> Result<Played, NoMemory>
         ensures played { IfOk result (IsPlayed (stubs_of (setting_of S.ask S.sound S.parts self.tables)) T.test self.script self.plan) }
         ensures schedule { self.in_order ≡ true → IfOk result (λ ended. FollowsSchedule self.tables.iface S.ask self.script (run_of ended.trace) ended.history.items) }
+        ensures world { IfOk result (EndsAs (setting_of S.ask S.sound S.parts self.tables) self.script self.view) }
     {
         let mut play = self;
         let played = play.play(alloc);
@@ -240,6 +244,7 @@ impl<S: Service, T: Stops> Play<S, T> {
         requires client { IsClient (length self.old.view.seats) turn.client }
         requires setup { is_setting_up self.old.script self.old.view.seats ≡ true → turn.client ≡ 1 }
         requires next { IsNextTurn self.old.script (stage_now self.old) turn.client turn.passed }
+        ensures steps { OnOk result (IsTurnOf (setting_of S.ask S.sound S.parts self.old.tables) self.old.script self.old.view turn.client self.new.view) }
         ensures free { is_setting_up self.old.script self.old.view.seats ≡ true → is_setting_up self.new.script self.new.view.seats ≡ false → is_free_phase (seat_of self.new.view 1).phase ≡ true }
         ensures one { handed (seat_of self.new.view 1) ≤ handed (seat_of self.old.view 1) + 1 }
         ensures others { is_setting_up self.old.script self.old.view.seats ≡ true → (client : ℕ) → 2 ≤ client → seat_of self.new.view client ≡ seat_of self.old.view client }

@@ -112,3 +112,50 @@ asked_in_vain = record {
       ∷ [];
   points = 7;
 }
+
+-- two events are made in the setup; client 2 waits for the first, and client 1 triggers it
+abbrev pub setup_first_script : Script
+setup_first_script = record {
+  setup = made 1 [] ∷ made 1 [] ∷ [];
+  clients = (1, made 3 (Back 1 ∷ Number 1 ∷ []) ∷ []) ∷ (2, made 2 (Number 1 ∷ []) ∷ []) ∷ [];
+  schedule = 2 ∷ [];
+  stops = [];
+}
+
+abbrev pub setup_first_history : List Entry
+setup_first_history =
+    entry (bare_call 1 1 1 0) (ok_at 1)
+    ∷ entry (bare_call 1 2 1 0) (ok_at 2)
+    ∷ entry (call_with 1 3 3 1 (word 1 ∷ [])) ok
+    ∷ entry (bare_call 2 1 2 1) ok
+    ∷ []
+
+-- client 2 waits once both are made
+abbrev pub setup_first : Run
+setup_first = record {
+  boots =
+      boot (
+      called (bare_call 1 1 1 0) 0 4 (replied (ok_at 1))
+      ∷ called (bare_call 1 2 1 0) 0 9 (replied (ok_at 2))
+      ∷ called (bare_call 2 1 2 1) 1 11 Blocks
+      ∷ called (call_with 1 3 3 1 (word 1 ∷ [])) 1 14 (replied ok)
+      ∷ called (bare_call 2 1 2 1) 1 18 (replied ok)
+      ∷ []) None
+      ∷ [];
+  points = 19;
+}
+
+-- it waits as soon as the first is made, in the middle of the setup
+abbrev pub turn_in_setup : Run
+turn_in_setup = record {
+  boots =
+      boot (
+      called (bare_call 1 1 1 0) 0 4 (replied (ok_at 1))
+      ∷ waits
+      ∷ called (bare_call 1 2 1 0) 0 10 (replied (ok_at 2))
+      ∷ called (call_with 1 3 3 1 (word 1 ∷ [])) 1 14 (replied ok)
+      ∷ called (bare_call 2 1 2 1) 1 18 (replied ok)
+      ∷ []) None
+      ∷ [];
+  points = 19;
+}

@@ -13,6 +13,6 @@ mod stops;
 pub use files::held_reply;
 pub use locks::{four_lock_calls, own_backs, second_first, stays_blocked, wait_and_wake};
 pub use stops::{
-    blocked_redone, stop_after_take, stop_before_storage, stop_in_walk, taken_by_another,
-    trigger_not_twice, wrong_plays,
+    blocked_redone, setup_first, stop_after_take, stop_before_storage, stop_in_walk,
+    taken_by_another, trigger_not_twice, turn_in_setup, wrong_plays,
 };

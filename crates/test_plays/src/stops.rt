@@ -7,9 +7,9 @@ ghost use Rattle.test_histories.specs.sg_lock.LockFacts.{lock_facts};
 ghost use Rattle.test_histories.specs.sg_lock.LockTable.{lock_table};
 ghost use Rattle.sg_plain.specs.Calls.{AreEnds};
 ghost use Rattle.sg_plain.specs.Plain.{IsPlainPlay};
-ghost use Rattle.sg_plain.specs.Promises.{AreScriptsCalls, AreScriptsStops, AreWoken, FollowsPlain, GetsPlainAlone, somebody_waits};
+ghost use Rattle.sg_plain.specs.Promises.{AreScriptsCalls, AreScriptsStops, AreWoken, FollowsPlain, GetsPlainAlone, IsSetupFirst, somebody_waits};
 ghost use Rattle.test_plays.specs.LockPlays.{four_lock_calls};
-ghost use Rattle.test_plays.specs.StopPlays.{asked_in_vain, blocked_redone_script, call_left_out, calls_exchanged, stop_after_take_script, stop_before_storage_script, stop_in_walk_script, taken_by_another, taken_by_another_history, taken_by_another_script, trigger_not_twice_script};
+ghost use Rattle.test_plays.specs.StopPlays.{asked_in_vain, blocked_redone_script, call_left_out, calls_exchanged, setup_first, setup_first_history, setup_first_script, stop_after_take_script, stop_before_storage_script, stop_in_walk_script, taken_by_another, taken_by_another_history, taken_by_another_script, trigger_not_twice_script, turn_in_setup};
 ghost use Rattle.test_recovery.specs.EventRuns.{blocked_redone, blocked_redone_ends, blocked_redone_history, trigger_not_twice, trigger_not_twice_ends, trigger_not_twice_history};
 ghost use Rattle.test_recovery.specs.LockRuns.{boot_without_a_stop, stop_after_take, stop_after_take_ends, stop_after_take_history, stop_before_storage, stop_before_storage_history, stop_in_walk, stop_in_walk_history};
 
@@ -61,6 +61,7 @@ pub fn blocked_redone()
     ensures plain { IsPlainPlay (whole event_facts) event_table blocked_redone_script blocked_redone_history }
     ensures follows { FollowsPlain event_facts blocked_redone blocked_redone_history blocked_redone_history }
     ensures woken { AreWoken event_facts blocked_redone_history blocked_redone }
+    ensures setup { IsSetupFirst blocked_redone_script blocked_redone_history blocked_redone }
 {}
 
 /// A client that waits twice in one boot, as another took what woke it.
@@ -72,12 +73,31 @@ pub fn taken_by_another()
     ensures woken { AreWoken event_facts taken_by_another_history taken_by_another }
 {}
 
-/// What no play may come to: calls in another order than the script's, or one left out; a stop that the script doesn't have, or one of
+/// Two setup calls, and a client that waits once both are done.
+pub fn setup_first()
+    ensures calls { AreScriptsCalls event_facts setup_first_script setup_first_history }
+    ensures setup { IsSetupFirst setup_first_script setup_first_history setup_first }
+    ensures stops { AreScriptsStops setup_first_script setup_first }
+    ensures plain { IsPlainPlay (whole event_facts) event_table setup_first_script setup_first_history }
+    ensures follows { FollowsPlain event_facts setup_first setup_first_history setup_first_history }
+    ensures woken { AreWoken event_facts setup_first_history setup_first }
+{}
+
+/// The client waits in the middle of the setup: the history is the same, so that nothing but the promise of the setup tells it.
+pub fn turn_in_setup()
+    ensures stops { AreScriptsStops setup_first_script turn_in_setup }
+    ensures follows { FollowsPlain event_facts turn_in_setup setup_first_history setup_first_history }
+    ensures woken { AreWoken event_facts setup_first_history turn_in_setup }
+    ensures not_first { IsSetupFirst setup_first_script setup_first_history turn_in_setup → ⊥ }
+{}
+
+/// What no play may come to: calls in another order than the script's, or one left out; a setup whose calls aren't all done; a stop that the script doesn't have, or one of
 /// its stops left out; a client that is done although a call of its isn't answered; another history than the play's, of a client that
 /// is alone; and a call that waits twice in a boot though nobody woke it.
 pub fn wrong_plays()
     ensures exchanged { AreScriptsCalls lock_facts four_lock_calls calls_exchanged → ⊥ }
     ensures left_out { AreScriptsCalls lock_facts four_lock_calls call_left_out → ⊥ }
+    ensures not_set_up { IsSetupFirst blocked_redone_script [] blocked_redone → ⊥ }
     ensures no_such_stop { AreScriptsStops four_lock_calls stop_after_take → ⊥ }
     ensures not_stopped { AreScriptsStops stop_after_take_script boot_without_a_stop → ⊥ }
     ensures not_done { AreEnds (whole lock_facts) lock_table call_left_out four_lock_calls stop_after_take_ends → ⊥ }

@@ -33,7 +33,7 @@ use Rattle.sg_world.specs.Steps.{Steps, WantsMemory}
 use Rattle.sg_world.specs.sg_world_laws.Setting.{Setting}
 use Rattle.sg_play.specs.Following.Follows.{IsPastStop, HoldsSo, IsFollowing, NeverStopped}
 use Rattle.sg_play.specs.Following.Stages.{IsNextTurn, player_by, stage_of}
-use Rattle.sg_play.proofs.Following.Fronts.{up_to_front, up_to_takes}
+use Rattle.sg_play.proofs.Fronts.{up_to_front, up_to_takes}
 use Rattle.sg_play.proofs.Following.Onward.{front_of_play, whole_play}
 use Rattle.sg_play.proofs.Following.Players.{new_players, same_players}
 use Rattle.sg_play.proofs.Following.Seats.{each_set, plain_holds}

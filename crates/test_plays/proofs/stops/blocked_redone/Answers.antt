@@ -1,4 +1,4 @@
-use Rattle.std.proofs.Common.{refl}
+use Rattle.std.proofs.Common.{arith, refl}
 use Rattle.test_plays.proofs.stops.blocked_redone.Goals as goal
 
 pub returns : goal.returns
@@ -10,4 +10,5 @@ returns c = record {
   plain = record { turns = 7; over = refl; is = refl };
   follows = record { first_boot = refl; whole = λ none. refl };
   woken = (tt, (refl, (tt, (tt, (tt, tt)))));
+  setup = record { done = omega arith; items = refl };
 }

@@ -8,6 +8,7 @@ pub returns : goal.returns
 returns c = record {
   exchanged = λ r. let e : 4 ≡ 2 = ap (λ call. call.fun) r.each.0.1.0 in omega (arith, e);
   left_out = λ r. let e : 4 ≡ 3 = ap (λ call. call.fun) r.each.0.1.1.0 in omega (arith, e);
+  not_set_up = λ r. omega (arith, r.done);
   no_such_stop = λ r. let e : 1 ≡ 0 = ap length r in omega (arith, e);
   not_stopped = λ r. let e : 0 ≡ 1 = ap length r in omega (arith, e);
   not_done = λ r. let e : 3 ≡ 4 = r.each.0 in omega (arith, e);

@@ -3,6 +3,8 @@ use Rattle.std.proofs.Common.{◌≡◌, ◌≤◌, ℕ, true, false, length}
 use Rattle.sg_play.specs.sg_plain.Playing.Callers.{handed, is_setting_up}
 use Rattle.sg_play.specs.sg_plain.Playing.Turns.{is_free_phase}
 use Rattle.sg_play.specs.sg_seat.WorldView.{seat_of}
+use Rattle.sg_play.specs.sg_world.Worlded.{setting_of}
+use Rattle.sg_sim.specs.Playing.{ComesTo}
 use Rattle.sg_sim.proofs.play.Play.setup.Given as goal
 
 abbrev pub invariant-loop : goal.invariant-loop
@@ -12,3 +14,4 @@ invariant-loop g l =
     × (is_setting_up l.fn.self.script l.fn.self.view.seats ≡ true → handed (seat_of l.self.view 1) ≤ length l.fn.self.script.setup)
     × (is_setting_up l.fn.self.script l.fn.self.view.seats ≡ true → is_setting_up l.self.script l.self.view.seats ≡ false → is_free_phase (seat_of l.self.view 1).phase ≡ true)
     × ((client : ℕ) → 2 ≤ client → seat_of l.self.view client ≡ seat_of l.fn.self.view client)
+    × ComesTo (setting_of g.S.Service.ask g.S.Service.sound g.S.Service.parts l.fn.self.tables) l.fn.self.script l.fn.self.view l.self.view

@@ -33,7 +33,8 @@ invariant_of-self-2 g c =
     = subst (λ (q : Playing). IsNextTurn q.script (stage_now q) c.args.turn.client c.args.turn.passed) (sym c.self.view_is) c.requires.next in
     let new = c.take_turn.new in
     subst (λ (t : Compiled). KeepsPlay (setting_of g.S.Service.ask g.S.Service.sound g.S.Service.parts t) x.script new.world.view (lists_of new.given) c.args.turn.passed c.args.turn.client x.in_order) (sym c.take_turn.ensures.tables)
-    (kept_turn z x.script x.world.view (lists_of x.given) x.passed x.last x.in_order c.self.invariant c.args.turn.client c.requires.client.0 there c.args.turn.passed x.in_order (λ so. (so, next))
+    (kept_turn z x.script x.world.view (lists_of x.given) x.passed x.last x.in_order c.self.invariant c.args.turn.client c.requires.client.0 there
+    (λ on. c.requires.setup (subst (λ (q : Playing). is_setting_up q.script q.view.seats ≡ true) c.self.view_is on)) c.args.turn.passed x.in_order (λ so. (so, next))
     c.in_ok-take_turn.field-0 new.world.view (lists_of new.given) c.in_ok-take_turn.ensures.taken)
 
 pub returns-in_err-take_turn-clause-one : goal.returns-in_err-take_turn-clause-one

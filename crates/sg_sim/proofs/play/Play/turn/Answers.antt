@@ -39,7 +39,8 @@ invariant_of-self-2 g c =
     let there : c.args.client ≤ length x.world.view.seats = subst (λ (q : Playing). c.args.client ≤ length q.view.seats) (sym c.self.view_is) (can_last c.args.self.now c.args.client c.requires.can) in
     let new = c.take_turn.new in
     subst (λ (t : Compiled). KeepsPlay (setting_of g.S.Service.ask g.S.Service.sound g.S.Service.parts t) x.script new.world.view (lists_of new.given) x.passed c.args.client false) (sym c.take_turn.ensures.tables)
-    (kept_turn z x.script x.world.view (lists_of x.given) x.passed x.last x.in_order c.self.invariant c.args.client first there x.passed false (λ so. absurd (cc so))
+    (kept_turn z x.script x.world.view (lists_of x.given) x.passed x.last x.in_order c.self.invariant c.args.client first there
+    (λ on. c.requires.setup (subst (λ (q : Playing). is_setting_up q.script q.view.seats ≡ true) c.self.view_is on)) x.passed false (λ so. absurd (cc so))
     c.in_ok-handed.handed new.world.view (lists_of new.given) c.in_ok-handed.ensures.taken)
 
 pub returns-in_err-handed-clause-settled : goal.returns-in_err-handed-clause-settled
