@@ -10,6 +10,7 @@ use Rattle.sg_facts.specs.Facts.{Facts, is_visible}
 use Rattle.sg_facts.specs.Trace.{Boot, Run}
 use Rattle.sg_seat.specs.sg_hist.declared.ended.End.{End}
 use Rattle.sg_seat.specs.sg_hist.Clients.{calls_of}
+use Rattle.sg_seat.specs.sg_hist.Ending.{client_of}
 use Rattle.sg_seat.specs.sg_hist.Reading.{Position, is_by_guard, is_item_of, is_tagged, items_of, places_in, places_of}
 use Rattle.sg_seat.specs.sg_hist.Recovered.{is_blocked, struck_in}
 use Rattle.sg_script.specs.declared.script.Script.{Script}
@@ -40,12 +41,6 @@ abbrev pub up_to_last : {A : Type 0} → (A → Bool) → List A → List A
 up_to_last test [] = []
 up_to_last test (x ∷ xs) = if test x || list_any test xs then x ∷ up_to_last test xs else []
 
--- whether an item was noted in a turn of a client: for its call, or for what was rebuilt or loaded for that
-abbrev pub is_in_turn_of : ℕ → Tag → Bool
-is_in_turn_of client (Walk id k c) = c == client
-is_in_turn_of client (Load key c) = c == client
-is_in_turn_of client (Client c seq) = c == client
-
 -- whether an item is of a call of the setup: the setup has client 1's first calls
 abbrev pub is_of_setup : Script → Tag → Bool
 is_of_setup script (Walk id k c) = false
@@ -54,7 +49,7 @@ is_of_setup script (Client c seq) = (c == 1) && nat_le seq (length script.setup)
 
 -- whether all items up to the last of the setup were noted in turns of client 1
 abbrev pub is_setup_first : Script → List Item → Bool
-is_setup_first script items = list_all (λ item. is_in_turn_of 1 item.tag) (up_to_last (λ item. is_of_setup script item.tag) items)
+is_setup_first script items = list_all (λ item. client_of item.tag == 1) (up_to_last (λ item. is_of_setup script item.tag) items)
 
 -- the calls of the setup are in the history, and no item of another client's turn stands before one of theirs
 pub record IsSetupFirst (script : Script) (history : List Entry) (run : Run) : Type 0 where

@@ -20,7 +20,8 @@ use Rattle.sg_plain.specs.Calls.{call_after, script_calls}
 use Rattle.sg_plain.specs.Playing.Callers.{handed, is_receipted, is_setting_up}
 use Rattle.sg_plain.specs.Playing.Plays.{IsPlaying}
 use Rattle.sg_plain.specs.Playing.Turns.{is_free_phase}
-use Rattle.sg_plain.specs.Promises.{is_in_turn_of, is_of_setup, is_setup_first}
+use Rattle.sg_plain.specs.sg_hist.Ending.{client_of}
+use Rattle.sg_plain.specs.Promises.{is_of_setup, is_setup_first}
 use Rattle.sg_plain.specs.sg_script.declared.script.Script.{Script}
 use Rattle.sg_plain.specs.sg_seat.WorldView.{Seat, WorldView, happened, in_phase, is_left_phase, is_offered, new_world, no_seat, seat_in, seat_of, with_mark}
 use Rattle.sg_plain.specs.sg_seat.declared.mark.MarkKind.TheVariants.{Leave}
@@ -39,11 +40,11 @@ use Rattle.sg_world.specs.sg_world_laws.Setting.{Setting}
 
 -- whether all items were noted in turns of client 1
 abbrev all_first : List Item → Bool
-all_first items = list_all (λ item. is_in_turn_of 1 item.tag) items
+all_first items = list_all (λ item. client_of item.tag == 1) items
 
 -- an item may be noted in a turn of a client: it is of that turn, and where it is of the setup the setup isn't done
 record MayBeNoted (script : Script) (w : WorldView) (c : ℕ) (item : Item) : Type 0 where
-  pub own : is_in_turn_of c item.tag ≡ true
+  pub own : (client_of item.tag == c) ≡ true
   pub setup : is_of_setup script item.tag ≡ true → is_setting_up script w.seats ≡ true
 
 -- a world's run has the items of another's, or one more
@@ -51,9 +52,9 @@ abbrev NotesOne : Script → WorldView → ℕ → WorldView → Type 0
 NotesOne script w c later =
     (items_of later.run.boots ≡ items_of w.run.boots) ⊎ ((item : Item) × MayBeNoted script w c item × (items_of later.run.boots ≡ items_of w.run.boots ++ item ∷ []))
 
-all_more : (items : List Item) (item : Item) → all_first items ≡ true → is_in_turn_of 1 item.tag ≡ true → all_first (items ++ item ∷ []) ≡ true
+all_more : (items : List Item) (item : Item) → all_first items ≡ true → (client_of item.tag == 1) ≡ true → all_first (items ++ item ∷ []) ≡ true
 all_more items item all own =
-    list_all-append (λ x. is_in_turn_of 1 x.tag) items (item ∷ []) ∙ ap (λ b. b && (is_in_turn_of 1 item.tag && true)) all ∙ ap (λ b. b && true) own
+    list_all-append (λ x. client_of x.tag == 1) items (item ∷ []) ∙ ap (λ b. b && ((client_of item.tag == 1) && true)) all ∙ ap (λ b. b && true) own
 
 -- what isn't of the setup stands after it
 first_more : (script : Script) (items : List Item) (item : Item) → is_setup_first script items ≡ true → (is_of_setup script item.tag ≡ true → all_first (items ++ item ∷ []) ≡ true)
@@ -87,7 +88,7 @@ module _ (script : Script) (w now : WorldView) (settled : is_setting_up script w
   setting_up_noted c turn (inl same) = setting_up_still same
   setting_up_noted c turn (inr (item, its, more)) =
       let all : is_setting_up script w.seats ≡ true → all_first (items_of w.run.boots ++ item ∷ []) ≡ true
-      = λ on. all_more (items_of w.run.boots) item (is.all on) (subst (λ n. is_in_turn_of n item.tag ≡ true) (turn on) its.own) in
+      = λ on. all_more (items_of w.run.boots) item (is.all on) (subst (λ n. (client_of item.tag == n) ≡ true) (turn on) its.own) in
       record {
         front = ap (is_setup_first script) more ∙ first_more script (items_of w.run.boots) item is.front (λ own. all (its.setup own));
         all = λ on. ap all_first more ∙ all (before on);
@@ -127,14 +128,14 @@ module _ (z : Setting) (script : Script) (w : WorldView) (given : List (List ℕ
   none_of_setup item tag is none own = absurd (let not = ap (is_of_setup script) is ∙ none in cc (not, own))
 
   walked : (item : Item) (id k : ℕ) → item.tag ≡ Walk id k c → MayBeNoted script w c item
-  walked item id k tag = record { own = ap (is_in_turn_of c) tag ∙ same_test c c refl; setup = none_of_setup item (Walk id k c) tag refl }
+  walked item id k tag = record { own = ap (λ t. client_of t == c) tag ∙ same_test c c refl; setup = none_of_setup item (Walk id k c) tag refl }
 
   loaded : (item : Item) (key : List ℕ) → item.tag ≡ Load key c → MayBeNoted script w c item
-  loaded item key tag = record { own = ap (is_in_turn_of c) tag ∙ same_test c c refl; setup = none_of_setup item (Load key c) tag refl }
+  loaded item key tag = record { own = ap (λ t. client_of t == c) tag ∙ same_test c c refl; setup = none_of_setup item (Load key c) tag refl }
 
   asked : (a : AsksService z w c) → MayBeNoted script w c a.item
   asked a = record {
-    own = ap (is_in_turn_of c) a.tag ∙ same_test c c refl;
+    own = ap (λ t. client_of t == c) a.tag ∙ same_test c c refl;
     setup = λ own. still_on a.reaches.uses.let_in.phase (sym (ap (is_of_setup script) a.tag) ∙ own);
   }
 
