@@ -5,9 +5,9 @@ use Rattle.std.specs.Result.{IfOk, OnOk}
 use Rattle.std.specs.declared.result.Result.{Result}
 use Rattle.sg_plain.specs.sg_hist.declared.ended.Ended.{Ended}
 use Rattle.sg_plain.specs.sg_script.declared.script.Script.{Script}
-use Rattle.sg_shared.specs.Inside.Reached.{IsReached, IsReachedEnd, new_of}
+use Rattle.sg_shared.specs.Reached.{IsReached, IsReachedEnd}
 use Rattle.sg_sim.proofs.Turns.{ends_behind, turn_more}
-use Rattle.sg_sim.specs.Playing.{ComesTo, EndsAs, IsTurnOf}
+use Rattle.sg_sim.specs.Playing.{ComesTo, EndsAs, IsTurnOf, new_of}
 use Rattle.sg_sim.specs.sg_seat.WorldView.{WorldView}
 use Rattle.sg_sim.specs.sg_world_laws.Setting.{Setting}
 

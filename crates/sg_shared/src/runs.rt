@@ -3,7 +3,7 @@ ghost use Rattle.std.specs.Prelude.{◌≡◌, [], true, IfOk};
 ghost use Rattle.sg_edge.specs.Stops.{AscendsAbove, struck_of, up_to};
 ghost use Rattle.sg_sim.specs.sg_plain.Playing.Playable.{IsPlayable};
 ghost use Rattle.sg_sim.specs.Played.{IsPlayed};
-ghost use Rattle.sg_shared.specs.Inside.Reached.{IsReachedEnd};
+ghost use Rattle.sg_shared.specs.Reached.{IsReachedEnd};
 ghost use Rattle.sg_sim.specs.sg_play.Waking.Waking.{no_query_waits};
 ghost use Rattle.sg_sim.specs.sg_world.Worlded.{setting_of};
 ghost use Rattle.sg_sim.specs.sg_world_laws.Setting.{stubs_of};

@@ -4,7 +4,7 @@ ghost use Rattle.sg_edge.specs.Stops.{up_to};
 ghost use Rattle.sg_sim.specs.sg_plain.Playing.Callers.{is_setting_up};
 ghost use Rattle.sg_shared.specs.Inside.Next.{HasTurned, IsThrough, SomebodyGoes, is_waiting, offers_call, takes_turn};
 ghost use Rattle.sg_sim.specs.Played.{IsPlayed};
-ghost use Rattle.sg_shared.specs.Inside.Reached.{IsReached, IsReachedEnd};
+ghost use Rattle.sg_shared.specs.Reached.{IsReached, IsReachedEnd};
 ghost use Rattle.sg_sim.specs.Playing.{can_step};
 ghost use Rattle.sg_sim.specs.sg_plain.Playing.Turns.{is_free_phase};
 ghost use Rattle.sg_sim.specs.sg_seat.WorldView.{seat_of};

@@ -4,8 +4,7 @@ use Rattle.std.specs.Result.{OnOk}
 use Rattle.sg_facts.specs.Tables.{Compiled}
 use Rattle.sg_plain.specs.sg_script.declared.script.Script.{Script}
 use Rattle.sg_shared.proofs.Reaching.{reached_setup}
-use Rattle.sg_shared.specs.Inside.Reached.{new_of}
-use Rattle.sg_sim.specs.Playing.{ComesTo}
+use Rattle.sg_sim.specs.Playing.{ComesTo, new_of}
 use Rattle.sg_sim.specs.sg_world.Worlded.{setting_of}
 use Rattle.sg_sim.specs.sg_world_laws.Setting.{Setting}
 use Rattle.sg_shared.proofs.runs.run_named.Goals as goal

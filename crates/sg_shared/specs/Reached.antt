@@ -1,15 +1,9 @@
 -- What turns of clients make of a new world.
-use Rattle.std.specs.Prelude.{replicate}
 use Rattle.sg_plain.specs.sg_hist.declared.ended.Ended.{Ended}
 use Rattle.sg_plain.specs.sg_script.declared.script.Script.{Script}
-use Rattle.sg_plain.specs.Calls.{most_client}
-use Rattle.sg_sim.specs.Playing.{ComesTo, EndsAs}
-use Rattle.sg_sim.specs.sg_seat.WorldView.{WorldView, new_world, no_seat}
+use Rattle.sg_sim.specs.Playing.{ComesTo, EndsAs, new_of}
+use Rattle.sg_sim.specs.sg_seat.WorldView.{WorldView}
 use Rattle.sg_sim.specs.sg_world_laws.Setting.{Setting}
-
--- the new world of a script's clients
-abbrev pub new_of : Script → WorldView
-new_of script = new_world (replicate (most_client script.clients) no_seat)
 
 -- there are turns of clients by which the new world comes to this one
 abbrev pub IsReached : Setting → Script → WorldView → Type 0
