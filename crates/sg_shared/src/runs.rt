@@ -6,7 +6,6 @@ ghost use Rattle.sg_sim.specs.Played.{IsPlayed};
 ghost use Rattle.sg_shared.specs.Reached.{IsReachedEnd};
 ghost use Rattle.sg_sim.specs.sg_play.Waking.Waking.{no_query_waits};
 ghost use Rattle.sg_sim.specs.sg_world.Worlded.{setting_of};
-ghost use Rattle.sg_sim.specs.sg_world_laws.Setting.{stubs_of};
 
 use crate::shared::{Naming, Shared};
 use crate::threads::play_clients;

@@ -7,7 +7,7 @@ ghost use Rattle.sg_sim.specs.Inside.Ends.{end_by};
 ghost use Rattle.sg_play.specs.sg_plain.Playing.Playable.{IsPlayable};
 ghost use Rattle.sg_play.specs.sg_plain.Playing.Turns.{NobodyGoes, is_free_phase, may_go};
 ghost use Rattle.sg_facts.specs.Trace.{run_of};
-ghost use Rattle.sg_play.specs.sg_plain.Calls.{most_client, script_calls};
+ghost use Rattle.sg_play.specs.sg_plain.Calls.{script_calls};
 ghost use Rattle.sg_play.specs.Turning.{StepsInTurn, with_offer};
 ghost use Rattle.sg_play.specs.Following.Stages.{IsNextTurn};
 ghost use Rattle.sg_sim.specs.Inside.Next.{IsFirstBehind, NoneBehind, NoneScheduled, may_go_next, stage_now};
