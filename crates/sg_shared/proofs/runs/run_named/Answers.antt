@@ -1,5 +1,5 @@
 -- The setup is played in a new world.
-use Rattle.std.proofs.Common.{◌∙◌, ap, subst, sym}
+use Rattle.std.proofs.Common.{◌∙◌, ap, subst₂, sym}
 use Rattle.std.specs.Result.{OnOk}
 use Rattle.sg_facts.specs.Tables.{Compiled}
 use Rattle.sg_plain.specs.sg_script.declared.script.Script.{Script}
@@ -15,5 +15,4 @@ new-requires-2-clause-turns g c = λ made.
     let is = c.in_ok-play.ensures in
     let later = c.setup.new.self.view in
     reached_setup z g.N.Naming.script (is.view ∙ ap (λ (s : Script). new_of s) c.requires.script) c.setup.result later (sym c.is_err-short.ensures.value ∙ made)
-    (subst (λ (t : Compiled). OnOk c.setup.result (ComesTo (setting_of g.S.Service.ask g.S.Service.sound g.S.Service.parts t) g.N.Naming.script c.in_ok-play.play.view later)) (is.tables ∙ c.requires.tables)
-    (subst (λ (s : Script). OnOk c.setup.result (ComesTo (setting_of g.S.Service.ask g.S.Service.sound g.S.Service.parts c.in_ok-play.play.tables) s c.in_ok-play.play.view later)) (is.script ∙ c.requires.script) c.setup.ensures.turns))
+    (subst₂ (λ (t : Compiled) (s : Script). OnOk c.setup.result (ComesTo (setting_of g.S.Service.ask g.S.Service.sound g.S.Service.parts t) s c.in_ok-play.play.view later)) (is.tables ∙ c.requires.tables) (is.script ∙ c.requires.script) c.setup.ensures.turns)

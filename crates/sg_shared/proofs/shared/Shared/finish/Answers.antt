@@ -1,5 +1,5 @@
 -- What is left is played after the turns of before.
-use Rattle.std.proofs.Common.{subst}
+use Rattle.std.proofs.Common.{subst₂}
 use Rattle.std.specs.Result.{IfOk}
 use Rattle.sg_facts.specs.Tables.{Compiled}
 use Rattle.sg_plain.specs.sg_script.declared.script.Script.{Script}
@@ -14,5 +14,4 @@ returns-clause-world g c =
     let x = c.args.self in
     let z : Setting = setting_of g.S.Service.ask g.S.Service.sound g.S.Service.parts g.N.Naming.tables in
     reached_end z g.N.Naming.script x.play.view c.finish.result (x.turns c.if-short.false)
-    (subst (λ (t : Compiled). IfOk c.finish.result (EndsAs (setting_of g.S.Service.ask g.S.Service.sound g.S.Service.parts t) g.N.Naming.script x.play.view)) x.tables
-    (subst (λ (s : Script). IfOk c.finish.result (EndsAs (setting_of g.S.Service.ask g.S.Service.sound g.S.Service.parts x.play.tables) s x.play.view)) x.script c.finish.ensures.world))
+    (subst₂ (λ (t : Compiled) (s : Script). IfOk c.finish.result (EndsAs (setting_of g.S.Service.ask g.S.Service.sound g.S.Service.parts t) s x.play.view)) x.tables x.script c.finish.ensures.world)

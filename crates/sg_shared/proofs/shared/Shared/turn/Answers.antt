@@ -1,5 +1,5 @@
 -- One turn more was made.
-use Rattle.std.proofs.Common.{◌∙◌, subst}
+use Rattle.std.proofs.Common.{◌∙◌, subst₂}
 use Rattle.sg_facts.specs.Tables.{Compiled}
 use Rattle.sg_plain.specs.sg_script.declared.script.Script.{Script}
 use Rattle.sg_shared.proofs.Reaching.{reached_more}
@@ -15,8 +15,7 @@ invariant_of-self g c =
     let later = c.turn.new.self.view in
     let z : Setting = setting_of g.S.Service.ask g.S.Service.sound g.S.Service.parts g.N.Naming.tables in
     let made : IsTurnOf (setting_of g.S.Service.ask g.S.Service.sound g.S.Service.parts x.play.tables) x.play.script x.play.view client later = record { handed = c.in-Ok.handed; steps = c.in-Ok.ensures.steps } in
-    let turn : IsTurnOf z g.N.Naming.script x.play.view client later = subst (λ (t : Compiled). IsTurnOf (setting_of g.S.Service.ask g.S.Service.sound g.S.Service.parts t) g.N.Naming.script x.play.view client later) x.tables
-    (subst (λ (s : Script). IsTurnOf (setting_of g.S.Service.ask g.S.Service.sound g.S.Service.parts x.play.tables) s x.play.view client later) x.script made) in
+    let turn : IsTurnOf z g.N.Naming.script x.play.view client later = subst₂ (λ (t : Compiled) (s : Script). IsTurnOf (setting_of g.S.Service.ask g.S.Service.sound g.S.Service.parts t) s x.play.view client later) x.tables x.script made in
     record {
       tables = c.turn.ensures.tables ∙ x.tables;
       script = c.turn.ensures.script ∙ x.script;
