@@ -1,1 +1,2 @@
+mod Reaching
 mod Running

@@ -3,9 +3,9 @@ ghost use Rattle.std.specs.Prelude.{◌≡◌, [], true, IfOk};
 ghost use Rattle.sg_edge.specs.Stops.{AscendsAbove, struck_of, up_to};
 ghost use Rattle.sg_sim.specs.sg_plain.Playing.Playable.{IsPlayable};
 ghost use Rattle.sg_sim.specs.Played.{IsPlayed};
+ghost use Rattle.sg_shared.specs.Reached.{IsReachedEnd};
 ghost use Rattle.sg_sim.specs.sg_play.Waking.Waking.{no_query_waits};
 ghost use Rattle.sg_sim.specs.sg_world.Worlded.{setting_of};
-ghost use Rattle.sg_sim.specs.sg_world_laws.Setting.{stubs_of};
 
 use crate::shared::{Naming, Shared};
 use crate::threads::play_clients;
@@ -31,7 +31,8 @@ pub fn run<R: Threads + Wait + Sync, S: Service + Send, G: Gate>(
     requires playable { IsPlayable tables.iface script }
     requires waits { no_query_waits tables.iface.facts ≡ true }
     requires stops { AscendsAbove 0 script.stops }
-    ensures { IfOk result (IsPlayed (record { interface = tables.iface; ask = S.ask; parts = S.parts; walks = tables.walks }) (λ asked struck plan. struck ≡ up_to asked plan) script script.stops) }
+    ensures played { IfOk result (IsPlayed (record { interface = tables.iface; ask = S.ask; parts = S.parts; walks = tables.walks }) (λ asked struck plan. struck ≡ up_to asked plan) script script.stops) }
+    ensures world { IfOk result (IsReachedEnd (setting_of S.ask S.sound S.parts tables) script) }
 {
     let stops = AtPoints::new(script.stops.copy(alloc)?);
     run_named::<R, S, G, Brand>(rt, alloc, tables, script, stops, gate)
@@ -54,7 +55,8 @@ fn run_named<R: Threads + Wait + Sync, S: Service + Send, G: Gate, N: Naming + S
     requires plan { stops.plan ≡ script.stops }
     requires asked { stops.asked ≡ 0 }
     requires struck { struck_of stops ≡ [] }
-    ensures { IfOk result (IsPlayed (record { interface = N.tables.iface; ask = S.ask; parts = S.parts; walks = N.tables.walks }) (λ asked struck plan. struck ≡ up_to asked plan) N.script N.script.stops) }
+    ensures played { IfOk result (IsPlayed (record { interface = N.tables.iface; ask = S.ask; parts = S.parts; walks = N.tables.walks }) (λ asked struck plan. struck ≡ up_to asked plan) N.script N.script.stops) }
+    ensures world { IfOk result (IsReachedEnd (setting_of S.ask S.sound S.parts N.tables) N.script) }
 {
     let mut play = Play::<S, AtPoints>::new(alloc, tables, script, stops)?;
     let short = play.setup(alloc).is_err();

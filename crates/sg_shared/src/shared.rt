@@ -4,6 +4,7 @@ ghost use Rattle.sg_edge.specs.Stops.{up_to};
 ghost use Rattle.sg_sim.specs.sg_plain.Playing.Callers.{is_setting_up};
 ghost use Rattle.sg_shared.specs.Inside.Next.{HasTurned, IsThrough, SomebodyGoes, is_waiting, offers_call, takes_turn};
 ghost use Rattle.sg_sim.specs.Played.{IsPlayed};
+ghost use Rattle.sg_shared.specs.Reached.{IsReached, IsReachedEnd};
 ghost use Rattle.sg_sim.specs.Playing.{can_step};
 ghost use Rattle.sg_sim.specs.sg_plain.Playing.Turns.{is_free_phase};
 ghost use Rattle.sg_sim.specs.sg_seat.WorldView.{seat_of};
@@ -47,7 +48,8 @@ pub enum Next {
     Through,
 }
 
-/// A play of the script that is shared, and whether some turn wanted memory. Until then its setup is done.
+/// A play of the script that is shared, and whether some turn wanted memory. Until then its setup is done, and its world comes of a new
+/// one by turns of clients.
 pub struct Shared<S: Service, N: Naming> {
     pub play: Play<S, AtPoints>,
     pub short: bool,
@@ -56,6 +58,7 @@ pub struct Shared<S: Service, N: Naming> {
     ghost script: { play.script ≡ N.script },
     ghost plan: { play.plan ≡ N.script.stops },
     ghost settled: { short ≡ false → is_setting_up play.script play.view.seats ≡ false },
+    ghost turns: { short ≡ false → IsReached (setting_of S.ask S.sound S.parts N.tables) N.script play.view },
 }
 
 impl<S: Service, N: Naming> Shared<S, N> {
@@ -65,6 +68,7 @@ impl<S: Service, N: Naming> Shared<S, N> {
         requires script { play.script ≡ N.script }
         requires plan { play.plan ≡ N.script.stops }
         requires settled { short ≡ false → is_setting_up play.script play.view.seats ≡ false }
+        requires turns { short ≡ false → IsReached (setting_of S.ask S.sound S.parts N.tables) N.script play.view }
         ensures play { result.play ≡ play }
         ensures short { result.short ≡ short }
     {
@@ -118,19 +122,24 @@ impl<S: Service, N: Naming> Shared<S, N> {
         if self.short || !self.play.can_step(client) {
             return None;
         }
+        // It counts as one that wanted memory until it is made.
+        self.short = true;
         match self.play.turn(alloc, client) {
-            Ok(Some(_)) => Some(self.play.world().seq(client)),
-            Ok(None) => None,
-            Err(NoMemory) => {
-                self.short = true;
-                None
+            Ok(handed) => {
+                self.short = false;
+                match handed {
+                    Some(_) => Some(self.play.world().seq(client)),
+                    None => None,
+                }
             }
+            Err(NoMemory) => None,
         }
     }
 
     /// Plays what is left of the play, and ends it. `NoMemory` also where some turn wanted memory.
     pub fn finish(self, alloc: Global) -> Result<Played, NoMemory>
-        ensures { IfOk result (IsPlayed (stubs_of (setting_of S.ask S.sound S.parts N.tables)) (λ asked struck plan. struck ≡ up_to asked plan) N.script N.script.stops) }
+        ensures played { IfOk result (IsPlayed (stubs_of (setting_of S.ask S.sound S.parts N.tables)) (λ asked struck plan. struck ≡ up_to asked plan) N.script N.script.stops) }
+        ensures world { IfOk result (IsReachedEnd (setting_of S.ask S.sound S.parts N.tables) N.script) }
     {
         let Shared { play, short, of: _ } = self;
         if short {

@@ -1,12 +1,13 @@
 -- What contracts see of a play.
-use Rattle.std.specs.Prelude.{ℕ, ◌≡◌, ◌⊎◌, Bool, ◌&&◌, nat_le, List, [], ◌∷◌, length}
+use Rattle.std.specs.Prelude.{ℕ, ◌≡◌, ◌⊎◌, Bool, ◌&&◌, nat_le, List, [], ◌∷◌, length, replicate}
 use Rattle.std.specs.declared.option.Option.{Option}
 use Rattle.sg_facts.specs.Tables.{Compiled}
 use Rattle.sg_play.specs.Turning.{StepsInTurn, with_offer}
 use Rattle.sg_play.specs.sg_hist.declared.ended.Ended.{Ended}
+use Rattle.sg_play.specs.sg_plain.Calls.{most_client}
 use Rattle.sg_play.specs.sg_plain.Playing.Turns.{may_take_turn}
 use Rattle.sg_play.specs.sg_script.declared.script.Script.{Script}
-use Rattle.sg_play.specs.sg_seat.WorldView.{WorldView, happened, seat_of}
+use Rattle.sg_play.specs.sg_seat.WorldView.{WorldView, happened, new_world, no_seat, seat_of}
 use Rattle.sg_play.specs.sg_world.Steps.{WantsMemory}
 use Rattle.sg_play.specs.sg_world_laws.Setting.{Setting}
 use Rattle.sg_sim.specs.Played.{IsOfWorld}
@@ -32,6 +33,10 @@ abbrev pub HasMissed : Setting → Script → WorldView → ℕ → WorldView �
 HasMissed z script w client now = (now ≡ w) ⊎ (now ≡ happened w) ⊎ WantsMemory z (with_offer z.iface.facts script w client) client now
 
 -- ---- turns
+
+-- the new world of a script's clients
+abbrev pub new_of : Script → WorldView
+new_of script = new_world (replicate (most_client script.clients) no_seat)
 
 -- a client took its turn: it offered its next call where it had none under way, made a step, and left after its last call
 pub record IsTurnOf (z : Setting) (script : Script) (w : WorldView) (client : ℕ) (now : WorldView) : Type 0 where

@@ -1,5 +1,5 @@
 // A play: whose turn it is, and the play to its end.
-ghost use Rattle.std.specs.Prelude.{◌≡◌, ◌+◌, ◌≤◌, ◌<◌, ◌++◌, ℕ, List, [], true, false, None, IfOk, IfSome, OnErr, OnOk, length, nat_lt, replicate};
+ghost use Rattle.std.specs.Prelude.{◌≡◌, ◌+◌, ◌≤◌, ◌<◌, ◌++◌, ℕ, List, [], true, false, None, IfOk, IfSome, OnErr, OnOk, length, nat_lt};
 ghost use Rattle.sg_play.specs.sg_clients.Clients.{IsClient};
 ghost use Rattle.sg_play.specs.sg_plain.Playing.Callers.{handed, is_setting_up};
 ghost use Rattle.sg_play.specs.sg_plain.Playing.Ends.{end_of, ends_from};
@@ -7,13 +7,13 @@ ghost use Rattle.sg_sim.specs.Inside.Ends.{end_by};
 ghost use Rattle.sg_play.specs.sg_plain.Playing.Playable.{IsPlayable};
 ghost use Rattle.sg_play.specs.sg_plain.Playing.Turns.{NobodyGoes, is_free_phase, may_go};
 ghost use Rattle.sg_facts.specs.Trace.{run_of};
-ghost use Rattle.sg_play.specs.sg_plain.Calls.{most_client, script_calls};
+ghost use Rattle.sg_play.specs.sg_plain.Calls.{script_calls};
 ghost use Rattle.sg_play.specs.Turning.{StepsInTurn, with_offer};
 ghost use Rattle.sg_play.specs.Following.Stages.{IsNextTurn};
 ghost use Rattle.sg_sim.specs.Inside.Next.{IsFirstBehind, NoneBehind, NoneScheduled, may_go_next, stage_now};
-ghost use Rattle.sg_play.specs.sg_seat.WorldView.{is_blocked_phase, new_world, no_seat, seat_of};
+ghost use Rattle.sg_play.specs.sg_seat.WorldView.{is_blocked_phase, seat_of};
 ghost use Rattle.sg_sim.specs.Played.{FollowsSchedule, IsOfWorld, IsPlayed};
-ghost use Rattle.sg_sim.specs.Playing.{ComesTo, EndsAs, HasMissed, IsTurnOf, can_step};
+ghost use Rattle.sg_sim.specs.Playing.{ComesTo, EndsAs, HasMissed, IsTurnOf, can_step, new_of};
 ghost use Rattle.sg_play.specs.Waking.Waking.{no_query_waits};
 ghost use Rattle.sg_play.specs.sg_world.Worlded.{setting_of};
 ghost use Rattle.sg_play.specs.sg_world_laws.Setting.{stubs_of};
@@ -84,7 +84,7 @@ impl<S: Service, T: Stops> Play<S, T> {
         ensures tables { IfOk result (λ p. p.tables ≡ tables) }
         ensures script { IfOk result (λ p. p.script ≡ script) }
         ensures plan { IfOk result (λ p. p.plan ≡ T.plan stops) }
-        ensures view { IfOk result (λ p. p.view ≡ new_world (replicate (most_client script.clients) no_seat)) }
+        ensures view { IfOk result (λ p. p.view ≡ new_of script) }
         ensures passed { IfOk result (λ p. p.passed ≡ 0) }
         ensures last { IfOk result (λ p. p.last ≡ 0) }
         ensures in_order { IfOk result (λ p. p.in_order ≡ true) }

@@ -1,12 +1,10 @@
 // Plays a script.
-ghost use Rattle.std.specs.Prelude.{◌≡◌, [], true, IfOk, replicate};
+ghost use Rattle.std.specs.Prelude.{◌≡◌, [], true, IfOk};
 ghost use Rattle.sg_facts.specs.Trace.{run_of};
 ghost use Rattle.sg_play.specs.sg_plain.Playing.Playable.{IsPlayable};
-ghost use Rattle.sg_play.specs.sg_plain.Calls.{most_client};
-ghost use Rattle.sg_play.specs.sg_seat.WorldView.{new_world, no_seat};
 ghost use Rattle.sg_play.specs.sg_world.Worlded.{setting_of};
 ghost use Rattle.sg_sim.specs.Played.{FollowsSchedule, IsPlayed};
-ghost use Rattle.sg_sim.specs.Playing.{EndsAs};
+ghost use Rattle.sg_sim.specs.Playing.{EndsAs, new_of};
 ghost use Rattle.sg_play.specs.Waking.Waking.{no_query_waits};
 
 use crate::{Play, Played};
@@ -30,7 +28,7 @@ pub fn play_script<S: Service, T: Stops>(
     requires unstruck { T.struck stops ≡ [] }
     ensures played { IfOk result (IsPlayed (record { interface = tables.iface; ask = S.ask; parts = S.parts; walks = tables.walks }) T.test script (T.plan stops)) }
     ensures schedule { IfOk result (λ ended. FollowsSchedule tables.iface S.ask script (run_of ended.trace) ended.history.items) }
-    ensures world { IfOk result (EndsAs (setting_of S.ask S.sound S.parts tables) script (new_world (replicate (most_client script.clients) no_seat))) }
+    ensures world { IfOk result (EndsAs (setting_of S.ask S.sound S.parts tables) script (new_of script)) }
 {
     let play = Play::<S, T>::new(alloc, tables, script, stops)?;
     play.finish(alloc)

@@ -1,5 +1,5 @@
 -- One turn more of the setup.
-use Rattle.std.proofs.Common.{rules, subst}
+use Rattle.std.proofs.Common.{rules, subst₂}
 use Rattle.sg_facts.specs.Tables.{Compiled}
 use Rattle.sg_play.specs.sg_script.declared.script.Script.{Script}
 use Rattle.sg_play.specs.sg_world.Worlded.{setting_of}
@@ -17,6 +17,5 @@ loop-preserved g c =
     let taken = c.in_ok-take.ensures in
     let client = c.setup_turn-turn.result.client in
     let z : Setting = setting_of g.S.Service.ask g.S.Service.sound g.S.Service.parts begun.tables in
-    let turn : IsTurnOf z begun.script x.view client now = subst (λ (t : Compiled). IsTurnOf (setting_of g.S.Service.ask g.S.Service.sound g.S.Service.parts t) begun.script x.view client now) is.0
-    (subst (λ (s : Script). IsTurnOf (setting_of g.S.Service.ask g.S.Service.sound g.S.Service.parts x.tables) s x.view client now) is.1 taken.steps) in
+    let turn : IsTurnOf z begun.script x.view client now = subst₂ (λ (t : Compiled) (s : Script). IsTurnOf (setting_of g.S.Service.ask g.S.Service.sound g.S.Service.parts t) s x.view client now) is.0 is.1 taken.steps in
     (search rules, search rules, search rules, search rules, search rules, search rules, search rules, search rules, turn_more z begun.script client begun.view x.view now is.8 turn)
