@@ -16,6 +16,7 @@ use Rattle.sg_recovery_laws.specs.sg_hist.Growing.{IsGrown, IsOfNoEntry, booted,
 use Rattle.sg_recovery_laws.specs.sg_hist.Reading.{Position, is_by_guard, is_item_of, is_tagged, items_of, places_in}
 use Rattle.sg_recovery_laws.specs.sg_hist.Recovered.{is_clients, is_entered, is_replied}
 use Rattle.sg_recovery_laws.proofs.Lists.{each_map}
+use Rattle.sg_recovery_laws.proofs.sg_hist.Growing.{items_booted, items_more, items_struck}
 use Rattle.sg_recovery_laws.proofs.Served.{entered_later, entered_more}
 use Rattle.sg_seat.specs.WorldView.{Seat, seat_in}
 use Rattle.sg_world_laws.specs.Ending.{AreLostSoFar, HoldsReply, IsHeldOrLost}
@@ -58,21 +59,6 @@ grown_last older front rest x item = record {
   own = refl;
   behind_it = append-nil (rest ++ item ∷ []) ∙ ap (λ l. l ++ item ∷ []) (sym (append-nil rest));
 }
-
--- ---- the items of boots
-
-items_noted : (b : Boot) (boots : List Boot) (item : Item) → items_of (noted (b ∷ boots) item) ≡ items_of (b ∷ boots) ++ item ∷ []
-items_noted b [] item = append-nil (b.items ++ item ∷ []) ∙ ap (λ l. l ++ item ∷ []) (sym (append-nil b.items))
-items_noted b (c ∷ boots) item = ap (λ l. b.items ++ l) (items_noted c boots item) ∙ sym (append_assoc b.items (items_of (c ∷ boots)) (item ∷ []))
-
-items_struck : (boots : List Boot) (stop : ℕ) → items_of (struck boots stop) ≡ items_of boots
-items_struck [] stop = refl
-items_struck (b ∷ []) stop = refl
-items_struck (b ∷ c ∷ boots) stop = ap (λ l. b.items ++ l) (items_struck (c ∷ boots) stop)
-
-items_booted : (boots : List Boot) → items_of (booted boots) ≡ items_of boots
-items_booted [] = refl
-items_booted (b ∷ boots) = ap (λ l. b.items ++ l) (items_booted boots)
 
 -- ---- which replies are no entry's
 
@@ -175,11 +161,11 @@ module _ (h now : List Entry) (seats later : List Seat) (boot : ℕ) (item : Ite
       (fewer (last_at older front x rest) (last_at older front x (rest ++ item ∷ [])) (grown_last older front rest x item)) (λ is. keeps older front rest x)) (own older)
       (subst (λ s. Each (λ p. When (is_unentered h p) (IsHeldOrLost seats boot s p)) (places_in older [] b.items [])) running all))
   lost_noted older b (c ∷ []) running all = (
-    subst (λ l. Each (IsLost now b.stop) (places_in older [] b.items l)) (sym (items_noted c [] item)) (before b.stop older b.items (items_of (c ∷ [])) all.0),
+    subst (λ l. Each (IsLost now b.stop) (places_in older [] b.items l)) (sym (items_more c [] item)) (before b.stop older b.items (items_of (c ∷ [])) all.0),
     lost_noted (older ++ b.items) c [] running all.1,
   )
   lost_noted older b (c ∷ d ∷ boots) running all = (
-    subst (λ l. Each (IsLost now b.stop) (places_in older [] b.items l)) (sym (items_noted c (d ∷ boots) item)) (before b.stop older b.items (items_of (c ∷ d ∷ boots)) all.0),
+    subst (λ l. Each (IsLost now b.stop) (places_in older [] b.items l)) (sym (items_more c (d ∷ boots) item)) (before b.stop older b.items (items_of (c ∷ d ∷ boots)) all.0),
     lost_noted (older ++ b.items) c (d ∷ boots) running all.1,
   )
 
