@@ -5,16 +5,17 @@ use Rattle.std.specs.Map.{remove_entry}
 use Rattle.std.proofs.Math.ListN.{set}
 use Rattle.std.proofs.lemmas.Bool.{cases_lt}
 use Rattle.std.proofs.lemmas.Bool.Decides.{eqb_tells, nat_tests}
+use Rattle.std.proofs.lemmas.List.Elements.{filter_agree}
 use Rattle.std.proofs.lemmas.List.{get_or-set_other, get_or-set_same}
 use Rattle.sg_facts.specs.declared.row.Row.{Row}
 use Rattle.sg_facts.specs.Sound.{AreRows}
-use Rattle.sg_facts.specs.Track.{row_at}
+use Rattle.sg_facts.specs.Track.{has_child, is_ancestor, row_at}
 use Rattle.sg_facts.proofs.RowLists.{id_of_row}
 use Rattle.sg_track.specs.declared.kept.Kept.{Kept}
 use Rattle.sg_facts.specs.sg_base.Lists.{Each}
 use Rattle.sg_track.specs.Kept.{AreKeyed, HasRow, IsTold, TellsAt, ends_below, rows_in, rows_of}
 use Rattle.sg_track.specs.Tracked.{HasLowerParent}
-use Rattle.sg_track.proofs.Above.{ends_child, ends_itself, ends_nowhere, ends_root}
+use Rattle.sg_track.proofs.Above.{childless, ends_child, ends_itself, ends_lower, ends_nowhere, ends_root}
 use Rattle.sg_track.proofs.Ascending.{found, later, other_test, same_test}
 use Rattle.sg_track.proofs.Counts.{rows_same}
 use Rattle.sg_track.proofs.KeptLists.{read, row_read}
@@ -40,6 +41,9 @@ module _ (high : ℕ) (kept : List Kept) (are : AreRows HasLowerParent 0 high (r
 
   pub tells_child : (r.parent ≡ 0 → ⊥) → r.parent ≡ id → TellsAt id kept at true
   tells_child child same = ends_as true (λ k. sym (ends_child 0 high (rows_of kept) are id r (at_its_id k) other (other_test r.parent 0 child) ∙ ends_itself 0 high (rows_of kept) are id r.parent (same_test r.parent id same)))
+
+  pub tells_earlier : (r.parent ≡ 0 → ⊥) → r.parent < id → TellsAt id kept at false
+  tells_earlier child less = ends_as false (λ k. sym (ends_child 0 high (rows_of kept) are id r (at_its_id k) other (other_test r.parent 0 child) ∙ ends_lower id 0 high (rows_of kept) are r.parent less))
 
   pub tells_orphan : (r.parent ≡ 0 → ⊥) → (r.parent ≡ id → ⊥) → row_at (rows_of kept) r.parent ≡ None → TellsAt id kept at false
   tells_orphan child apart none =
@@ -103,6 +107,12 @@ told_each test [] told = tt
 told_each test (k ∷ kept) told = (told zero (omega arith) k, told_each test kept (λ n within d. told (suc n) (omega (arith, within)) d))
 
 -- ---- what is left
+
+-- an id without children ends alone
+pub ends_alone : (id : ℕ) (rows some : List Row) → has_child rows id ≡ false
+    → filter (λ r. not ((r.id == id) || (false && is_ancestor rows id r.id))) some ≡ filter (λ r. not (ends_below rows id r.id)) some
+ends_alone id rows some none =
+    filter_agree _ (λ r. not (ends_below rows id r.id)) (λ r. ap (λ b. not ((r.id == id) || b)) (sym (childless id rows r.id none))) some
 
 -- those that are told to end go
 pub rows-left : (test : ℕ → Bool) (kept : List Kept) → Each (λ k. k.ends ≡ test k.row.id) kept

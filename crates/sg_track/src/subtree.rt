@@ -8,7 +8,8 @@ ghost use Rattle.sg_track.specs.Kept.{AreKeyed, Ascends, Counts, IsTold, TellsAt
 use crate::kept::{Kept, KeptRows};
 use crate::places::place_of;
 
-/// Tells of each row whether it ends with an id: it is the id's, or below it. Each row is looked at once, after its parent.
+/// Tells of each row whether it ends with an id: it is the id's, or below it. Each row is looked at once, after its parent,
+/// and no parent is looked up for the rows that were made before the id's.
 pub(crate) fn mark_below(kept: &mut KeptRows, id: u64)
     requires { Ascends kept.old.entries }
     ensures spare { spare kept.new ≡ spare kept.old }
@@ -34,10 +35,11 @@ fn ends_below(kept: &KeptRows, at: usize, id: u64) -> bool
     row.id == id
         || (row.parent != 0
             && (row.parent == id
-                || match place_of(kept, row.parent) {
-                    Some(place) => kept[place].ends,
-                    None => false,
-                }))
+                || (id < row.parent
+                    && match place_of(kept, row.parent) {
+                        Some(place) => kept[place].ends,
+                        None => false,
+                    })))
 }
 
 /// Removes the rows that end.
