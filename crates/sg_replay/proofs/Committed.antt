@@ -14,14 +14,14 @@ use Rattle.sg_facts.specs.sg_base.declared.reply.Reply.{Reply}
 use Rattle.sg_facts.specs.sg_base.declared.reply.Reply.TheVariants.{Ok, Refused}
 use Rattle.sg_facts.specs.declared.row.Row.{Row}
 use Rattle.sg_facts.specs.Facts.{Facts, fun_at}
-use Rattle.sg_facts.specs.Object.{Object}
+use Rattle.sg_facts.specs.Object.{Object, given_after}
 use Rattle.sg_facts.specs.Track.{ancestors, ends_with, has_child, is_ancestor, is_live, new_row, parent_in, row_after, row_at, track}
 use Rattle.sg_facts.specs.Walks.{most_calls}
 use Rattle.sg_name.specs.Names.{name_by, name_of, named_at, real_at, real_of}
 use Rattle.sg_name.specs.declared.named.Named.{Named}
 use Rattle.sg_name.specs.declared.named.Named.TheVariants.{Unnamed, Partial}
 use Rattle.sg_name.specs.declared.named.Standing.{Standing}
-use Rattle.sg_needs.specs.sg_track.Tracked.{AreTracked}
+use Rattle.sg_needs.specs.sg_track.Tracked.{AreTracked, MayTrack, Tracked}
 use Rattle.sg_needs.specs.sg_track.Kept.{ends_below}
 use Rattle.sg_needs.proofs.sg_track.Above.{childless, ends_lower, from_parent, up_from}
 use Rattle.sg_replay.specs.Committing.{name_left}
@@ -64,7 +64,7 @@ or_or : (a b c : Bool) → (a || (b || c)) ≡ ((a || b) || c)
 or_or true b c = refl
 or_or false b c = refl
 
-one_id : (a b : ℕ) → (a == b) ≡ true → a ≡ b
+pub one_id : (a b : ℕ) → (a == b) ≡ true → a ≡ b
 one_id a b is = elim (eqb_tells a b) [ inl same ↦ same.1 | inr apart ↦ absurd (let wrong : true ≡ false = sym is ∙ apart.0 in cc wrong) ]
 
 -- an id is live among the rows that are left where it was live and is left
@@ -140,6 +140,45 @@ module _ (facts : Facts) (rows : List Row) (call : Call) (good : Good) (id : ℕ
       twice true false = refl
       twice false b = refl
 
+live_end : (rows : List Row) (r : Row) (x : ℕ) → (r.id == x) ≡ false → is_live (rows ++ r ∷ []) x ≡ is_live rows x
+live_end [] r x apart = ap (λ b. b || false) apart
+live_end (y ∷ rows) r x apart = ap (λ b. (y.id == x) || b) (live_end rows r x apart)
+
+module _ (facts : Facts) (rows : List Row) (call : Call) (good : Good) (x : ℕ) where
+  live_by : (q c t : Bool) → (c ≡ true → (good.desc == x) ≡ false) → is_live (after_by facts rows call good x q c t) x ≡ true → is_live rows x ≡ true
+  live_by true c t new live = live
+  live_by false true t new live = sym (live_end rows (new_row facts call good) x (new refl)) ∙ live
+  live_by false false true new live = both (is_live rows x) (not (ends_with facts rows call.desc x)) (sym (live_left (λ y. not (ends_with facts rows call.desc y)) rows x) ∙ live)
+    where
+      both : (a b : Bool) → (a && b) ≡ true → a ≡ true
+      both true b is = refl
+      both false b is = absurd (cc is)
+  live_by false false false new live = sym (live_changed (λ r. cond (r.id == call.desc) (row_after facts call good r) r) keeps rows x) ∙ live
+    where
+      by : (b : Bool) (r : Row) → (cond b (row_after facts call good r) r).id ≡ r.id
+      by true r = refl
+      by false r = refl
+
+      keeps : (r : Row) → (cond (r.id == call.desc) (row_after facts call good r) r).id ≡ r.id
+      keeps r = by (r.id == call.desc) r
+
+-- an id that was given is live after a call where it was before
+pub was_live : (facts : Facts) (t : Tracked) (call : Call) (reply : Reply) → MayTrack facts t call reply → (x : ℕ) → x ≤ t.given → is_live (track facts t.rows call reply) x ≡ true → is_live t.rows x ≡ true
+was_live facts t call (Ok good) may x given live =
+    let f = fun_at facts.funs call.fun in
+    live_by facts t.rows call good x f.query f.creation f.terminal
+    (λ made. let next = (may.makes made).place.next in grind (arith, nat_tests, next, given)) live
+was_live facts t call (Refused code) may x given live = live
+
+-- no id is taken back
+pub given_grows : (facts : Facts) (given : ℕ) (call : Call) (reply : Reply) → given ≤ given_after facts given call reply
+given_grows facts given call (Ok good) = at (fun_at facts.funs call.fun).creation
+  where
+    at : (b : Bool) → given ≤ cond b (given + 1) given
+    at true = omega arith
+    at false = omega arith
+given_grows facts given call (Refused code) = omega arith
+
 -- a call that ends no row takes no id its name
 pub none_left : (facts : Facts) (rows : List Row) (call : Call) (reply : Reply) (id : ℕ) (named : Named) → ends_rows facts call reply ≡ false
     → named ≡ name_left rows (track facts rows call reply) id named
@@ -193,17 +232,17 @@ live_suc [] at id is x = absurd (cc is)
 live_suc (r ∷ rows) zero id is x = let same : r.id ≡ id = cc is in ap (λ n. (n == x) || false) same ∙ or_false (id == x)
 live_suc (r ∷ rows) (suc at) id is x = ap (λ b. (r.id == x) || b) (live_suc rows at id is x) ∙ or_or (r.id == x) (is_live (take at rows) x) (id == x)
 
-live_step : (rows : List Row) (at id : ℕ) → option_map (λ r. r.id) (slice_get rows at) ≡ Some id → (x : ℕ) → is_live (take (at + 1) rows) x ≡ (is_live (take at rows) x || (id == x))
+pub live_step : (rows : List Row) (at id : ℕ) → option_map (λ r. r.id) (slice_get rows at) ≡ Some id → (x : ℕ) → is_live (take (at + 1) rows) x ≡ (is_live (take at rows) x || (id == x))
 live_step rows at id is x = let next : at + 1 ≡ suc at = omega arith in ap (λ n. is_live (take n rows) x) next ∙ live_suc rows at id is x
 
-take_all : (rows : List Row) (at : ℕ) → length rows ≤ at → take at rows ≡ rows
+pub take_all : (rows : List Row) (at : ℕ) → length rows ≤ at → take at rows ≡ rows
 take_all [] zero all = refl
 take_all [] (suc at) all = refl
 take_all (r ∷ rows) zero all = absurd (omega (arith, all))
 take_all (r ∷ rows) (suc at) all = ap (λ l. r ∷ l) (take_all rows at (omega (arith, all)))
 
 -- ids before an id's place are smaller
-before_is : (id : ℕ) (front : List Row) → Each (λ r. r.id < id) front → (x : ℕ) → is_live front x ≡ true → x < id
+pub before_is : (id : ℕ) (front : List Row) → Each (λ r. r.id < id) front → (x : ℕ) → is_live front x ≡ true → x < id
 before_is id [] all x live = absurd (cc live)
 before_is id (r ∷ front) all x live = at (r.id == x) refl live (before_is id front all.1 x)
   where

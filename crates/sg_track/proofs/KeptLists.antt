@@ -145,3 +145,10 @@ smaller P low high id (k ∷ kept) (suc n) are there within = elim (eqb_tells k.
       let its = id_of_row (rows_of kept) id (get_or kept n k).row (there_too ∙ read kept n k (omega arith)) in
       (omega (arith, above P k.row.id high kept n k are.3 (omega arith), its), smaller P k.row.id high id kept n are.3 there_too (omega arith))
 ]
+
+-- an id that isn't given yet is greater than all
+pub beyond : (P : Row → Type 0) (low high id : ℕ) (rows : List Row) (n : ℕ) → AreRows P low high rows → high < id → Each (λ r. r.id < id) (take n rows)
+beyond P low high id [] zero are less = tt
+beyond P low high id [] (suc n) are less = tt
+beyond P low high id (r ∷ rows) zero are less = tt
+beyond P low high id (r ∷ rows) (suc n) are less = (omega (arith, are.1, less), beyond P r.id high id rows n are.3 less)

@@ -187,12 +187,14 @@ impl Tracker {
         }
     }
 
-    /// The place of an id's row among the live rows, from 0; 0 where it has none. All rows before it have smaller ids.
+    /// The place of an id's row among the live rows, from 0; after the last where the id isn't given yet, 0 where it has no row.
+    /// All rows before it have smaller ids.
     pub fn place(&self, id: u64) -> usize
         ensures { Each (λ r. r.id < id) (take result self.now.rows) }
     {
         match place_of(&self.kept, id) {
             Some(place) => place,
+            None if self.given < id => self.kept.len(),
             None => 0,
         }
     }
