@@ -1,12 +1,11 @@
 -- Lists of kept rows.
-use Rattle.std.proofs.Common.{◌≡◌, ℕ, zero, suc, ◌<◌, ◌≤◌, Bool, true, false, cond, ◌||◌, List, [], ◌∷◌, ◌++◌, None, Some, is_some, length, map, get_or, take, refl, sym, ◌∙◌, ap, inl, inr, arith}
+use Rattle.std.proofs.Common.{◌≡◌, ℕ, zero, suc, ◌<◌, ◌≤◌, Bool, true, false, cond, ◌||◌, List, [], ◌∷◌, ◌++◌, None, Some, is_some, length, map, get_or, refl, sym, ◌∙◌, ap, arith}
 use Rattle.std.specs.Prelude.{◌==◌, if◌then◌else◌, slice_get}
 use Rattle.std.specs.List.{list_any}
 use Rattle.std.proofs.Math.ListN.{set}
-use Rattle.std.proofs.lemmas.Bool.Decides.{eqb_tells, nat_tests}
+use Rattle.std.proofs.lemmas.Bool.Decides.{nat_tests}
 use Rattle.sg_facts.specs.declared.row.Row.{Row}
 use Rattle.sg_facts.specs.Sound.{AreRows}
-use Rattle.sg_facts.specs.sg_base.Lists.{Each}
 use Rattle.sg_facts.specs.sg_base.declared.call.Call.{Call}
 use Rattle.sg_facts.specs.sg_base.declared.reply.Good.{Good}
 use Rattle.sg_facts.specs.Facts.{Facts, fun_at, takes_parent}
@@ -15,7 +14,7 @@ use Rattle.sg_track.specs.Tracked.{AreTracked, HasLowerParent, HasPlace, Tracked
 use Rattle.sg_facts.proofs.RowLists.{changed as keep_changed, id_of_row}
 use Rattle.sg_track.specs.declared.kept.Kept.{Kept}
 use Rattle.sg_track.specs.Kept.{HasRow, rows_of}
-use Rattle.sg_track.proofs.Ascending.{above, at_head}
+use Rattle.sg_track.proofs.Ascending.{above}
 
 pub read : (kept : List Kept) (n : ℕ) (d : Kept) → n < length kept → slice_get (rows_of kept) n ≡ Some (get_or kept n d).row
 read [] n d within = absurd (omega arith)
@@ -128,27 +127,3 @@ live_if (r ∷ rows) id = at (r.id == id) (live_if rows id)
     at : (b : Bool) → is_some (row_at rows id) ≡ is_live rows id → is_some (cond b (Some r) (row_at rows id)) ≡ (b || is_live rows id)
     at true rest = refl
     at false rest = rest
-
--- rows before the place of an id have smaller ids
-pub smaller : (P : Row → Type 0) (low high id : ℕ) (kept : List Kept) (n : ℕ) → AreRows P low high (rows_of kept) → row_at (rows_of kept) id ≡ slice_get (rows_of kept) n → n < length kept
-    → Each (λ r. r.id < id) (take n (rows_of kept))
-smaller P low high id [] n are there within = absurd (omega arith)
-smaller P low high id (k ∷ kept) zero are there within = tt
-smaller P low high id (k ∷ kept) (suc n) are there within = elim (eqb_tells k.row.id id) [
-  | inl same ↦
-      let after = above P k.row.id high kept n k are.3 (omega arith) in
-      let one : Some k.row ≡ Some (get_or kept n k).row = sym (at_head P true k kept id same.0) ∙ there ∙ read kept n k (omega arith) in
-      let rows : k.row ≡ (get_or kept n k).row = cc one in
-      absurd (omega (arith, after, ap (λ r. r.id) rows))
-  | inr other ↦
-      let there_too : row_at (rows_of kept) id ≡ slice_get (rows_of kept) n = sym (at_head P false k kept id other.0) ∙ there in
-      let its = id_of_row (rows_of kept) id (get_or kept n k).row (there_too ∙ read kept n k (omega arith)) in
-      (omega (arith, above P k.row.id high kept n k are.3 (omega arith), its), smaller P k.row.id high id kept n are.3 there_too (omega arith))
-]
-
--- an id that isn't given yet is greater than all
-pub beyond : (P : Row → Type 0) (low high id : ℕ) (rows : List Row) (n : ℕ) → AreRows P low high rows → high < id → Each (λ r. r.id < id) (take n rows)
-beyond P low high id [] zero are less = tt
-beyond P low high id [] (suc n) are less = tt
-beyond P low high id (r ∷ rows) zero are less = tt
-beyond P low high id (r ∷ rows) (suc n) are less = (omega (arith, are.1, less), beyond P r.id high id rows n are.3 less)

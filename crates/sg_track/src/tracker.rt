@@ -1,5 +1,5 @@
 // The tracked rows of all descriptors.
-ghost use Rattle.std.specs.Prelude.{◌≡◌, ◌≤◌, ◌<◌, ◌+◌, ◌-◌, ◌^◌, [], Some, length, map, slice_get, take, IfOk, OnOk, OnErr};
+ghost use Rattle.std.specs.Prelude.{◌≡◌, ◌≤◌, ◌<◌, ◌+◌, ◌-◌, ◌^◌, [], Some, drop, length, map, slice_get, take, IfOk, OnOk, OnErr};
 ghost use Rattle.std.specs.Option.{option_copied, option_map};
 ghost use Rattle.sg_facts.specs.sg_base.Lists.{Each};
 ghost use Rattle.sg_facts.specs.Object.{given_after};
@@ -8,7 +8,7 @@ ghost use Rattle.sg_track.specs.Tracked.{AreTracked, MayChange, MayMake, MayTrac
 
 use crate::kept::{KeptRows, add_row, change_row};
 use crate::make::made_row;
-use crate::places::{ancestors_in, has_child, ids_in, place_of};
+use crate::places::{ancestors_in, first_from, has_child, ids_in, place_of};
 use crate::room::RowRoom;
 use crate::subtree::{close_up, mark_below, remove_row};
 use crate::tally::{count_child, discount_row};
@@ -131,7 +131,7 @@ impl Tracker {
         discount_row(&mut self.kept, id);
         if all {
             mark_below(&mut self.kept, id);
-            close_up(&mut self.kept);
+            close_up(&mut self.kept, id);
         } else {
             remove_row(&mut self.kept, id);
         }
@@ -187,16 +187,13 @@ impl Tracker {
         }
     }
 
-    /// The place of an id's row among the live rows, from 0; after the last where the id isn't given yet, 0 where it has no row.
-    /// All rows before it have smaller ids.
+    /// The place among the live rows, from 0, of the first whose id is this or greater; the number of live rows where there is none.
     pub fn place(&self, id: u64) -> usize
-        ensures { Each (λ r. r.id < id) (take result self.now.rows) }
+        ensures within { result ≤ length self.now.rows }
+        ensures before { Each (λ r. r.id < id) (take result self.now.rows) }
+        ensures after { Each (λ r. id ≤ r.id) (drop result self.now.rows) }
     {
-        match place_of(&self.kept, id) {
-            Some(place) => place,
-            None if self.given < id => self.kept.len(),
-            None => 0,
-        }
+        first_from(&self.kept, id)
     }
 
     /// The id of the row at a place.

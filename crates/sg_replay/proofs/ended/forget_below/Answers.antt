@@ -12,7 +12,7 @@ pub places-init : goal.places-init
 places-init c =
     let rows = c.args.rows.now in
     record {
-      names = gone_none rows.given rows.rows c.live-place-end.ensures.tracked c.args.gone c.args.names.now.known c.place-place.result c.place-place.ensures;
+      names = gone_none rows.given rows.rows c.live-place-end.ensures.tracked c.args.gone c.args.names.now.known c.place-place.result c.place-place.ensures.before;
       spare = omega arith;
     }
 

@@ -11,7 +11,7 @@ use Rattle.sg_replay.proofs.hole.hole_from.Goals as goal
 
 pub places-init : goal.places-init
 places-init c = λ x live.
-    c.requires x (before_is c.args.below _ c.place-place.ensures x live) (live_first c.args.rows.now.rows c.place-place.result x live)
+    c.requires x (before_is c.args.below _ c.place-place.ensures.before x live) (live_first c.args.rows.now.rows c.place-place.result x live)
 
 pub places-preserved : goal.places-preserved
 places-preserved c =

@@ -29,7 +29,7 @@ returns-in-Some c =
     let parent = c.index-in-Some.result.now in
     let at = tells_below c.requires.ascends.most kept c.requires.ascends.tracked c.args.at c.args.id within row is in
     let lower = subst (λ r. r.parent < r.id) (sym (is parent)) (lower_at 0 c.requires.ascends.most kept c.args.at parent c.requires.ascends.tracked within) in
-    at c.if-row-id.false c.if-row-ne0.true c.in-Some.place parent c.in-Some.ensures (read_any kept c.in-Some.place parent parent c.index-in-Some.ensures) lower c.requires.before
+    at c.if-row-id.false c.if-row-ne0.true c.in-Some.place parent c.in-Some.ensures (read_any kept c.in-Some.place parent parent c.index-in-Some.ensures) lower c.if-id-row.true c.requires.before
 
 pub returns-in-None : goal.returns-in-None
 returns-in-None c =

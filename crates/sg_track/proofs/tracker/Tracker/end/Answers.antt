@@ -3,7 +3,7 @@ use Rattle.std.proofs.Common.{◌≡◌, ◌∙◌, ap, subst, sym, arith, true,
 use Rattle.std.specs.Map.{values_of}
 use Rattle.sg_facts.specs.sg_base.Lists.{Each}
 use Rattle.sg_facts.specs.Track.{is_ancestor}
-use Rattle.sg_track.specs.Kept.{ends_below, others_of, rows_in, rows_of}
+use Rattle.sg_track.specs.Kept.{ends_below, is_marked, others_of, rows_in, rows_of}
 use Rattle.sg_track.specs.Tracked.{AreTracked, left_rows}
 use Rattle.sg_track.proofs.Ends.{ends_alone, removed, rows-left}
 use Rattle.sg_track.proofs.Entries.{values-filter}
@@ -17,7 +17,7 @@ invariant_of-self c =
     let rows = rows_in s.kept.entries in
     let same = c.discount_row.ensures.rows in
     let marked = c.mark_below.new.kept.entries in
-    let ends = subst (λ rows. Each (λ k. k.ends ≡ ends_below rows c.args.id k.row.id) (values_of marked)) same c.mark_below.ensures.marked in
+    let ends = subst (λ rows. Each (λ k. is_marked c.args.id k ≡ ends_below rows c.args.id k.row.id) (values_of marked)) same c.mark_below.ensures.marked in
     let counts = c.mark_below.ensures.counts (others_of c.args.id rows) (c.discount_row.ensures.counts c.self-2.invariant.counted) in
     let are = subst (AreKept s.given) (sym c.close_up.ensures.entries)
     (kept_below s.given c.args.id rows marked c.self-2.invariant.tracked (c.mark_below.ensures.rows ∙ same) c.mark_below.ensures.keyed ends counts) in
@@ -49,8 +49,8 @@ returns-then-all-clause-rows c =
     let marked = c.mark_below.new.kept.entries in
     let test = ends_below (rows_in c.discount_row.new.kept.entries) c.args.id in
     ap rows_in c.close_up.ensures.entries
-    ∙ ap rows_of (values-filter (λ k. not k.ends) marked)
-    ∙ rows-left test (values_of marked) c.mark_below.ensures.marked
+    ∙ ap rows_of (values-filter (λ k. not (is_marked c.args.id k)) marked)
+    ∙ rows-left (is_marked c.args.id) test (values_of marked) c.mark_below.ensures.marked
     ∙ ap (filter (λ r. not (test r.id))) (c.mark_below.ensures.rows ∙ same)
     ∙ ap (λ rows. filter (λ r. not (ends_below rows c.args.id r.id)) (rows_in s.kept.entries)) same
     ∙ ap (λ t. filter (λ r. not (ends_below t.rows c.args.id r.id)) t.rows) c.self-2.view_is
