@@ -1,27 +1,29 @@
 -- What the commit of an answered call keeps.
-use Rattle.std.proofs.Common.{◌≡◌, ℕ, Bool, true, false, cond, List, [], ◌∷◌, ◌++◌, None, Some, filter, is_some, map, refl, sym, ◌∙◌, ap, inl, inr}
-use Rattle.std.specs.Prelude.{◌==◌, ◌||◌, ◌&&◌, ◌<◌, nat_eq, not}
+use Rattle.std.proofs.Common.{◌≡◌, ℕ, zero, suc, ◌+◌, ◌≤◌, Bool, true, false, cond, List, [], ◌∷◌, ◌++◌, None, Some, filter, is_some, length, map, take, refl, sym, ◌∙◌, ap, inl, inr, arith}
+use Rattle.std.specs.Prelude.{◌==◌, ◌||◌, ◌&&◌, ◌<◌, nat_eq, not, slice_get}
 use Rattle.std.specs.Borrow.{Bor}
 use Rattle.std.specs.List.{list_any}
 use Rattle.std.specs.Map.{lookup}
 use Rattle.std.specs.Option.{option_copied, option_map}
 use Rattle.std.specs.declared.option.Option.{Option}
-use Rattle.std.proofs.lemmas.Bool.Decides.{eqb_tells}
+use Rattle.std.proofs.lemmas.Bool.Decides.{eqb_tells, nat_tests}
+use Rattle.sg_facts.specs.sg_base.Lists.{Each}
 use Rattle.sg_facts.specs.sg_base.declared.call.Call.{Call}
 use Rattle.sg_facts.specs.sg_base.declared.reply.Good.{Good}
 use Rattle.sg_facts.specs.sg_base.declared.reply.Reply.{Reply}
 use Rattle.sg_facts.specs.sg_base.declared.reply.Reply.TheVariants.{Ok, Refused}
 use Rattle.sg_facts.specs.declared.row.Row.{Row}
 use Rattle.sg_facts.specs.Facts.{Facts, fun_at}
-use Rattle.sg_facts.specs.Object.{Object}
-use Rattle.sg_facts.specs.Track.{ancestors, ends_with, is_ancestor, is_live, new_row, parent_in, row_after, row_at, track}
+use Rattle.sg_facts.specs.Object.{Object, given_after}
+use Rattle.sg_facts.specs.Track.{ancestors, ends_with, has_child, is_ancestor, is_live, new_row, parent_in, row_after, row_at, track}
 use Rattle.sg_facts.specs.Walks.{most_calls}
 use Rattle.sg_name.specs.Names.{name_by, name_of, named_at, real_at, real_of}
 use Rattle.sg_name.specs.declared.named.Named.{Named}
 use Rattle.sg_name.specs.declared.named.Named.TheVariants.{Unnamed, Partial}
 use Rattle.sg_name.specs.declared.named.Standing.{Standing}
-use Rattle.sg_needs.specs.sg_track.Tracked.{AreTracked}
-use Rattle.sg_needs.proofs.sg_track.Above.{from_parent, up_from}
+use Rattle.sg_needs.specs.sg_track.Tracked.{AreTracked, MayTrack, Tracked}
+use Rattle.sg_needs.specs.sg_track.Kept.{ends_below}
+use Rattle.sg_needs.proofs.sg_track.Above.{childless, ends_lower, from_parent, up_from}
 use Rattle.sg_replay.specs.Committing.{name_left}
 use Rattle.sg_replay.specs.Engined.{AreGiven, AreInWalks}
 use Rattle.sg_replay.specs.Inside.Ends.{ends_rows, is_ended}
@@ -50,7 +52,19 @@ and_false : (b : Bool) → (b && false) ≡ false
 and_false true = refl
 and_false false = refl
 
-one_id : (a b : ℕ) → (a == b) ≡ true → a ≡ b
+or_true : (b : Bool) → (b || true) ≡ true
+or_true true = refl
+or_true false = refl
+
+or_false : (b : Bool) → (b || false) ≡ b
+or_false true = refl
+or_false false = refl
+
+or_or : (a b c : Bool) → (a || (b || c)) ≡ ((a || b) || c)
+or_or true b c = refl
+or_or false b c = refl
+
+pub one_id : (a b : ℕ) → (a == b) ≡ true → a ≡ b
 one_id a b is = elim (eqb_tells a b) [ inl same ↦ same.1 | inr apart ↦ absurd (let wrong : true ≡ false = sym is ∙ apart.0 in cc wrong) ]
 
 -- an id is live among the rows that are left where it was live and is left
@@ -126,6 +140,45 @@ module _ (facts : Facts) (rows : List Row) (call : Call) (good : Good) (id : ℕ
       twice true false = refl
       twice false b = refl
 
+live_end : (rows : List Row) (r : Row) (x : ℕ) → (r.id == x) ≡ false → is_live (rows ++ r ∷ []) x ≡ is_live rows x
+live_end [] r x apart = ap (λ b. b || false) apart
+live_end (y ∷ rows) r x apart = ap (λ b. (y.id == x) || b) (live_end rows r x apart)
+
+module _ (facts : Facts) (rows : List Row) (call : Call) (good : Good) (x : ℕ) where
+  live_by : (q c t : Bool) → (c ≡ true → (good.desc == x) ≡ false) → is_live (after_by facts rows call good x q c t) x ≡ true → is_live rows x ≡ true
+  live_by true c t new live = live
+  live_by false true t new live = sym (live_end rows (new_row facts call good) x (new refl)) ∙ live
+  live_by false false true new live = both (is_live rows x) (not (ends_with facts rows call.desc x)) (sym (live_left (λ y. not (ends_with facts rows call.desc y)) rows x) ∙ live)
+    where
+      both : (a b : Bool) → (a && b) ≡ true → a ≡ true
+      both true b is = refl
+      both false b is = absurd (cc is)
+  live_by false false false new live = sym (live_changed (λ r. cond (r.id == call.desc) (row_after facts call good r) r) keeps rows x) ∙ live
+    where
+      by : (b : Bool) (r : Row) → (cond b (row_after facts call good r) r).id ≡ r.id
+      by true r = refl
+      by false r = refl
+
+      keeps : (r : Row) → (cond (r.id == call.desc) (row_after facts call good r) r).id ≡ r.id
+      keeps r = by (r.id == call.desc) r
+
+-- an id that was given is live after a call where it was before
+pub was_live : (facts : Facts) (t : Tracked) (call : Call) (reply : Reply) → MayTrack facts t call reply → (x : ℕ) → x ≤ t.given → is_live (track facts t.rows call reply) x ≡ true → is_live t.rows x ≡ true
+was_live facts t call (Ok good) may x given live =
+    let f = fun_at facts.funs call.fun in
+    live_by facts t.rows call good x f.query f.creation f.terminal
+    (λ made. let next = (may.makes made).place.next in grind (arith, nat_tests, next, given)) live
+was_live facts t call (Refused code) may x given live = live
+
+-- no id is taken back
+pub given_grows : (facts : Facts) (given : ℕ) (call : Call) (reply : Reply) → given ≤ given_after facts given call reply
+given_grows facts given call (Ok good) = at (fun_at facts.funs call.fun).creation
+  where
+    at : (b : Bool) → given ≤ cond b (given + 1) given
+    at true = omega arith
+    at false = omega arith
+given_grows facts given call (Refused code) = omega arith
+
 -- a call that ends no row takes no id its name
 pub none_left : (facts : Facts) (rows : List Row) (call : Call) (reply : Reply) (id : ℕ) (named : Named) → ends_rows facts call reply ≡ false
     → named ≡ name_left rows (track facts rows call reply) id named
@@ -160,10 +213,111 @@ one_higher given rows tracked above id some other =
     two : (a b : ℕ) → (a ≡ b → ⊥) → (a == b) ≡ false
     two a b no_one = elim (eqb_tells a b) [ inl same ↦ absurd (no_one same.1) | inr apart ↦ apart.0 ]
 
--- what a test doesn't keep goes
-pub not_kept : (b : Bool) (named : Named) → cond (not b) named Unnamed ≡ cond b Unnamed named
-not_kept true named = refl
-not_kept false named = refl
+-- the way up is past an id, or at it
+pub past : (given : ℕ) (rows : List Row) → AreTracked given rows → (above id : ℕ) → (above < id → ⊥) → list_any (λ a. a == above) (up_from rows id) ≡ (not (id == 0) && (id == above))
+past given rows tracked above id most = at (id == 0) (id == above) refl
+  where
+    at : (z s : Bool) → (id == above) ≡ s → list_any (λ a. a == above) (cond z [] (id ∷ ancestors rows id)) ≡ (not z && s)
+    at true s is = refl
+    at false true is = ap (λ b. b || is_ancestor rows above id) is
+    at false false is =
+        let less : id < above = grind (arith, nat_tests) in
+        ends_lower above 0 given rows tracked id less
+
+-- ---- names that go, row by row
+
+-- one more row
+live_suc : (rows : List Row) (at id : ℕ) → option_map (λ r. r.id) (slice_get rows at) ≡ Some id → (x : ℕ) → is_live (take (suc at) rows) x ≡ (is_live (take at rows) x || (id == x))
+live_suc [] at id is x = absurd (cc is)
+live_suc (r ∷ rows) zero id is x = let same : r.id ≡ id = cc is in ap (λ n. (n == x) || false) same ∙ or_false (id == x)
+live_suc (r ∷ rows) (suc at) id is x = ap (λ b. (r.id == x) || b) (live_suc rows at id is x) ∙ or_or (r.id == x) (is_live (take at rows) x) (id == x)
+
+pub live_step : (rows : List Row) (at id : ℕ) → option_map (λ r. r.id) (slice_get rows at) ≡ Some id → (x : ℕ) → is_live (take (at + 1) rows) x ≡ (is_live (take at rows) x || (id == x))
+live_step rows at id is x = let next : at + 1 ≡ suc at = omega arith in ap (λ n. is_live (take n rows) x) next ∙ live_suc rows at id is x
+
+pub take_all : (rows : List Row) (at : ℕ) → length rows ≤ at → take at rows ≡ rows
+take_all [] zero all = refl
+take_all [] (suc at) all = refl
+take_all (r ∷ rows) zero all = absurd (omega (arith, all))
+take_all (r ∷ rows) (suc at) all = ap (λ l. r ∷ l) (take_all rows at (omega (arith, all)))
+
+-- ids before an id's place are smaller
+pub before_is : (id : ℕ) (front : List Row) → Each (λ r. r.id < id) front → (x : ℕ) → is_live front x ≡ true → x < id
+before_is id [] all x live = absurd (cc live)
+before_is id (r ∷ front) all x live = at (r.id == x) refl live (before_is id front all.1 x)
+  where
+    at : (b : Bool) → (r.id == x) ≡ b → (b || is_live front x) ≡ true → (is_live front x ≡ true → x < id) → x < id
+    at true is live rest = omega (arith, all.0, one_id r.id x is)
+    at false is live rest = rest live
+
+-- the names of the first rows that end are gone
+abbrev pub AreGone : List Row → ℕ → List (ℕ × Standing) → ℕ → List (ℕ × Standing) → Type 0
+AreGone rows gone old at known = (x : ℕ) → named_at known x ≡ cond (is_live (take at rows) x && ends_below rows gone x) Unnamed (named_at old x)
+
+module _ (given : ℕ) (rows : List Row) (tracked : AreTracked given rows) (gone : ℕ) (old : List (ℕ × Standing)) where
+  -- those before the id's place don't end
+  pub gone_none : (at : ℕ) → Each (λ r. r.id < gone) (take at rows) → AreGone rows gone old at old
+  gone_none at before x = ap (λ b. cond b Unnamed (named_at old x)) (sym (by (is_live (take at rows) x) refl))
+    where
+      by : (b : Bool) → is_live (take at rows) x ≡ b → (b && ends_below rows gone x) ≡ false
+      by true is = ends_lower gone 0 given rows tracked x (before_is gone (take at rows) before x is)
+      by false is = refl
+
+  module _ (at id : ℕ) (known : List (ℕ × Standing)) (here : option_map (λ r. r.id) (slice_get rows at) ≡ Some id) (so_far : AreGone rows gone old at known) where
+    -- a row that ends
+    pub gone_more : (new : List (ℕ × Standing)) → ends_below rows gone id ≡ true → ((x : ℕ) → named_at new x ≡ cond (x == id) Unnamed (named_at known x)) → AreGone rows gone old (at + 1) new
+    gone_more new ends names x =
+        names x ∙ ap (λ named. cond (x == id) Unnamed named) (so_far x)
+        ∙ by (x == id) refl (is_live (take at rows) x)
+        ∙ ap (λ b. cond (b && ends_below rows gone x) Unnamed (named_at old x)) (sym (live_step rows at id here x))
+      where
+        by : (s : Bool) → (x == id) ≡ s → (l : Bool) → cond s Unnamed (cond (l && ends_below rows gone x) Unnamed (named_at old x)) ≡ cond ((l || (id == x)) && ends_below rows gone x) Unnamed (named_at old x)
+        by true is l =
+            let same : x ≡ id = one_id x id is in
+            let ends_x : ends_below rows gone x ≡ true = ap (ends_below rows gone) same ∙ ends in
+            let turned : (id == x) ≡ true = grind (arith, nat_tests, same) in
+            ap (λ b. cond b Unnamed (named_at old x)) (sym (ap (λ b. (l || b) && ends_below rows gone x) turned ∙ ap (λ b. (l || true) && b) ends_x ∙ and_true (l || true) ∙ or_true l))
+        by false is l =
+            let apart : (id == x) ≡ false = grind (arith, nat_tests) in
+            ap (λ b. cond (b && ends_below rows gone x) Unnamed (named_at old x)) (sym (ap (λ b. l || b) apart ∙ or_false l))
+
+    -- a row that stays
+    pub gone_same : ends_below rows gone id ≡ false → AreGone rows gone old (at + 1) known
+    gone_same stays x =
+        so_far x ∙ ap (λ b. cond b Unnamed (named_at old x)) (by (id == x) refl (is_live (take at rows) x))
+        ∙ ap (λ b. cond (b && ends_below rows gone x) Unnamed (named_at old x)) (sym (live_step rows at id here x))
+      where
+        by : (s : Bool) → (id == x) ≡ s → (l : Bool) → (l && ends_below rows gone x) ≡ ((l || s) && ends_below rows gone x)
+        by true is l =
+            let stays_x : ends_below rows gone x ≡ false = ap (ends_below rows gone) (sym (one_id id x is)) ∙ stays in
+            ap (λ b. l && b) stays_x ∙ and_false l ∙ sym (ap (λ b. (l || true) && b) stays_x ∙ and_false (l || true))
+        by false is l = ap (λ b. b && ends_below rows gone x) (sym (or_false l))
+
+  -- each row was looked at
+  pub gone_all : (at : ℕ) (known : List (ℕ × Standing)) → length rows ≤ at → AreGone rows gone old at known → (x : ℕ) → named_at known x ≡ cond (is_ended true rows gone x) Unnamed (named_at old x)
+  gone_all at known all so_far x = so_far x ∙ ap (λ l. cond (is_live l x && ends_below rows gone x) Unnamed (named_at old x)) (take_all rows at all)
+
+module _ (rows : List Row) (gone x : ℕ) (named : Named) where
+  -- a live id ends with itself
+  pub itself_goes : is_live rows gone ≡ true → cond (x == gone) Unnamed named ≡ cond (is_ended false rows gone x) Unnamed named
+  itself_goes live = ap (λ b. cond b Unnamed named) (at (x == gone) refl)
+    where
+      at : (b : Bool) → (x == gone) ≡ b → b ≡ (is_live rows x && (b || false))
+      at true is = sym (and_true (is_live rows x) ∙ ap (is_live rows) (one_id x gone is) ∙ live)
+      at false is = sym (and_false (is_live rows x))
+
+  -- one that isn't live takes none with it
+  pub none_goes : is_live rows gone ≡ false → named ≡ cond (is_ended false rows gone x) Unnamed named
+  none_goes none = ap (λ b. cond b Unnamed named) (sym (at (x == gone) refl))
+    where
+      at : (b : Bool) → (x == gone) ≡ b → (is_live rows x && (b || false)) ≡ false
+      at true is = and_true (is_live rows x) ∙ ap (is_live rows) (one_id x gone is) ∙ none
+      at false is = and_false (is_live rows x)
+
+-- under subtree an id without children ends alone
+pub alone : (rows : List Row) (gone : ℕ) (subtree : Bool) → (subtree ≡ true → has_child rows gone ≡ false) → (x : ℕ) → is_ended false rows gone x ≡ is_ended subtree rows gone x
+alone rows gone false none x = refl
+alone rows gone true none x = ap (λ b. is_live rows x && ((x == gone) || b)) (sym (childless gone rows x (none refl)))
 
 -- ---- names that go
 

@@ -1,3 +1,4 @@
+pub mod AllWhole
 pub mod Committed
 pub mod Due
 pub mod Fitting

@@ -9,6 +9,7 @@ ghost use Rattle.sg_facts.specs.Walks.{most_calls};
 ghost use Rattle.sg_replay.specs.Replaying.{KeepsPresent, LoadsOne, MayAdvance, MayReplay, ReplaysOne, name_after, real_after, replay_of, walk_length};
 
 use crate::engine::Engine;
+use crate::hole::lesser;
 use crate::names::real_call;
 use crate::todo::Todo;
 use sg_facts::{Call, NoMemory, Outcome, Path, Reply, Row, Service, Stops, Tables, Tag};
@@ -133,6 +134,7 @@ impl<S: Service> Engine<S> {
                     Reply::Ok(good) => {
                         let named = named_after(self.names.get(id), k, last, good.desc);
                         self.names.set(id, named);
+                        self.whole_below = lesser(self.whole_below, id);
                         Ok(Advanced::Replayed)
                     }
                     Reply::Refused(_) => unreachable!(),

@@ -1,5 +1,5 @@
 // The names of ended rows.
-ghost use Rattle.std.specs.Prelude.{◌≡◌, ◌≤◌, ℕ, true, not, if◌then◌else◌};
+ghost use Rattle.std.specs.Prelude.{◌≡◌, ◌≤◌, ℕ, true, if◌then◌else◌};
 ghost use Rattle.sg_facts.specs.Track.{is_ancestor, is_live, parent_in, row_at, track};
 ghost use Rattle.sg_name.specs.Names.{named_at};
 ghost use Rattle.sg_name.specs.declared.named.Named.TheVariants.{Unnamed};
@@ -44,46 +44,37 @@ fn forget_with(names: &mut Names, rows: &Tracker, subtree: bool, gone: u64)
     ensures names { (id : ℕ) → named_at names.new.known id ≡ (if is_ended subtree rows.now.rows gone id then Unnamed else named_at names.old.known id) }
     ensures spare { names.old.spare ≤ names.new.spare }
 {
-    if subtree {
+    if subtree && rows.has_children(gone) {
         forget_below(names, rows, gone);
     } else if is_tracked(rows, gone) {
         names.drop_id(gone);
     }
 }
 
-// Drops the names of an id and of those below it, where they are live.
+// Drops the names of an id and of those below it, where they are live. No row before the id's own is looked at.
 fn forget_below(names: &mut Names, rows: &Tracker, gone: u64)
     ensures names { (id : ℕ) → named_at names.new.known id ≡ (if is_ended true rows.now.rows gone id then Unnamed else named_at names.old.known id) }
     ensures spare { names.old.spare ≤ names.new.spare }
 {
-    names.keep(
-        |id: u64| -> bool
-            ensures { result ≡ not (is_ended true rows.entry.now.rows gone id) }
-        { !is_ended(rows, gone, id) },
-    );
+    'places: for place in rows.place(gone)..rows.live() {
+        let id = rows.id_at(place);
+        if id == gone || is_below(rows, gone, id) {
+            names.drop_id(id);
+        }
+    }
 }
 
-// Whether an id is live, and another or below it.
-fn is_ended(rows: &Tracker, gone: u64, id: u64) -> bool
-    ensures { result ≡ is_ended true rows.now.rows gone id }
-{
-    is_tracked(rows, id) && (id == gone || is_below(rows, gone, id))
-}
-
-// Whether an id is below another. Each parent is below its child, so the way up ends.
+// Whether an id is below another. Each parent is below its child, so the way up ends, at the latest where it is past the other.
 fn is_below(rows: &Tracker, above: u64, id: u64) -> bool
     ensures { result ≡ is_ancestor rows.now.rows above id }
 {
     // Nothing is done: the proof takes what this call promises.
     let _tracked = rows.live();
     let mut parent = parent_of(rows, id);
-    'up: while parent != 0 {
-        if parent == above {
-            return true;
-        }
+    'up: while parent > above {
         parent = parent_of(rows, parent);
     }
-    false
+    parent != 0 && parent == above
 }
 
 // The parent of an id; 0 where there is no row.

@@ -32,16 +32,19 @@ pub struct Engine<S: Service> {
     pub(crate) rows: Tracker,
     pub(crate) names: Names,
     pub(crate) present: Present,
+    /// Each tracked row of a smaller id is whole.
+    pub(crate) whole_below: u64,
 }
 
 impl<S: Service> Model for Engine<S> {
-    ghost use Rattle.sg_replay.specs.Engined.{Engined, IsEngine};
+    ghost use Rattle.sg_replay.specs.Engined.{Engined};
+    ghost use Rattle.sg_replay.specs.Inside.Whole.{IsWholeBelow};
 
     ghost Value = { Engined };
 
     ghost view = { λ e. record { tables = e.tables; cell = e.cell; stored = e.storage; tracked = e.rows; names = e.names; present = e.present } };
 
-    ghost invariant = { λ e. IsEngine S.facts (record { tables = e.tables; cell = e.cell; stored = e.storage; tracked = e.rows; names = e.names; present = e.present }) };
+    ghost invariant = { λ e. IsWholeBelow S.facts (record { tables = e.tables; cell = e.cell; stored = e.storage; tracked = e.rows; names = e.names; present = e.present }) e.whole_below };
 }
 
 impl<S: Service> Engine<S> {
@@ -68,6 +71,7 @@ impl<S: Service> Engine<S> {
             rows: Tracker::new(alloc),
             names: Names::new(alloc),
             present: Present::new(alloc),
+            whole_below: 0,
         })
     }
 
@@ -193,5 +197,6 @@ impl<S: Service> Engine<S> {
         self.cell.boot(alloc);
         self.names.clear();
         self.present = Present::new(alloc);
+        self.whole_below = 0;
     }
 }

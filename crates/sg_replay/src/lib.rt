@@ -2,6 +2,7 @@
 //!
 //! - `engine`: the parts, and what each of them tells (`Engine`)
 //! - `todo`: what is still to be done before a call may be served (`Todo`)
+//! - `hole`: the first row that isn't whole
 //! - `advance`: one step of that: a call of a walk, or the load of a file (`Advanced`)
 //! - `serve`: a call that needs nothing any more
 //! - `commit`: memory that is taken ahead for a call, and the commit of its answer; `ended`: the names of ended rows
@@ -13,6 +14,7 @@ mod advance;
 mod commit;
 mod ended;
 mod engine;
+mod hole;
 mod names;
 mod present;
 mod serve;

@@ -43,8 +43,8 @@ pub(crate) fn missing_row(names: &Names, ids: &[u64]) -> Option<Todo>
     }
 }
 
-// Whether a descriptor is whole.
-fn is_whole(named: Named) -> bool
+/// Whether a descriptor is whole.
+pub(crate) fn is_whole(named: Named) -> bool
     ensures { result ≡ is_whole named }
 {
     matches!(named, Named::Live { .. })

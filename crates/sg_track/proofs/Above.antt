@@ -1,11 +1,11 @@
 -- Ancestors, one by one: a parent is below its child, so the ancestors of a row are its parent and those of its parent.
-use Rattle.std.proofs.Common.{◌≡◌, ℕ, zero, suc, ◌-◌, ◌≤◌, Bool, true, false, cond, ◌||◌, List, [], ◌∷◌, ◌++◌, None, Some, refl, sym, ◌∙◌, ap, arith, append_assoc}
+use Rattle.std.proofs.Common.{◌≡◌, ℕ, zero, suc, ◌-◌, ◌<◌, ◌≤◌, Bool, true, false, cond, ◌||◌, List, [], ◌∷◌, ◌++◌, None, Some, refl, sym, ◌∙◌, ap, arith, append_assoc}
 use Rattle.std.specs.Prelude.{◌==◌}
 use Rattle.std.specs.List.{list_any}
 use Rattle.std.proofs.lemmas.Bool.Decides.{nat_tests}
 use Rattle.sg_facts.specs.declared.row.Row.{Row}
 use Rattle.sg_facts.specs.Sound.{AreRows}
-use Rattle.sg_facts.specs.Track.{ancestors, is_ancestor, nearest, parent_in, row_at}
+use Rattle.sg_facts.specs.Track.{ancestors, has_child, is_ancestor, nearest, parent_in, row_at}
 use Rattle.sg_track.specs.Kept.{ends_below}
 use Rattle.sg_track.specs.Tracked.{HasLowerParent}
 
@@ -88,6 +88,47 @@ module _ (low high : ℕ) (rows : List Row) (are : AreRows HasLowerParent low hi
   -- an id ends with itself
   pub ends_itself : (id other : ℕ) → (other == id) ≡ true → ends_below rows id other ≡ true
   ends_itself id other same = ap (λ b. b || is_ancestor rows id other) same
+
+-- ---- ids that end with none
+
+module _ (id : ℕ) where
+  parent_apart : (rows : List Row) (other : ℕ) → has_child rows id ≡ false → (parent_in (row_at rows other) == 0) ≡ false → (parent_in (row_at rows other) == id) ≡ false
+  parent_apart [] other none some = absurd (cc some)
+  parent_apart (r ∷ rows) other none some = at (r.parent == id) refl (r.id == other) none some (parent_apart rows other)
+    where
+      at : (p : Bool) → (r.parent == id) ≡ p → (b : Bool) → (p || has_child rows id) ≡ false → (parent_in (cond b (Some r) (row_at rows other)) == 0) ≡ false
+          → (has_child rows id ≡ false → (parent_in (row_at rows other) == 0) ≡ false → (parent_in (row_at rows other) == id) ≡ false)
+          → (parent_in (cond b (Some r) (row_at rows other)) == id) ≡ false
+      at true is b none some rest = absurd (cc none)
+      at false is true none some rest = is
+      at false is false none some rest = rest none some
+
+  apart_or : (b : Bool) (l : List ℕ) (n : ℕ) → (b ≡ false → (n == id) ≡ false) → list_any (λ a. a == id) l ≡ false → list_any (λ a. a == id) (cond b [] (n ∷ l)) ≡ false
+  apart_or true l n apart rest = refl
+  apart_or false l n apart rest = ap (λ b. b || list_any (λ a. a == id) l) (apart refl) ∙ rest
+
+  far : (rows : List Row) → has_child rows id ≡ false → (most one : ℕ) → list_any (λ a. a == id) (nearest rows most one) ≡ false
+  far rows none zero one = refl
+  far rows none (suc most) one =
+      let parent = parent_in (row_at rows one) in
+      apart_or (parent == 0) (nearest rows most parent) parent (parent_apart rows one none) (far rows none most parent)
+
+  -- an id without children is no ancestor
+  pub childless : (rows : List Row) (other : ℕ) → has_child rows id ≡ false → is_ancestor rows id other ≡ false
+  childless rows other none = far rows none other other
+
+  lower : (low high : ℕ) (rows : List Row) → AreRows HasLowerParent low high rows → (most one : ℕ) → one < id → list_any (λ a. a == id) (nearest rows most one) ≡ false
+  lower low high rows are zero one less = refl
+  lower low high rows are (suc most) one less =
+      let parent = parent_in (row_at rows one) in
+      let below : parent < id = omega (arith, parent_below low high one rows are, less) in
+      apart_or (parent == 0) (nearest rows most parent) parent (λ some. grind (arith, nat_tests, below)) (lower low high rows are most parent below)
+
+  -- an id ends with no greater one
+  pub ends_lower : (low high : ℕ) (rows : List Row) → AreRows HasLowerParent low high rows → (other : ℕ) → other < id → ends_below rows id other ≡ false
+  ends_lower low high rows are other less =
+      let apart : (other == id) ≡ false = grind (arith, nat_tests, less) in
+      ap (λ b. b || is_ancestor rows id other) apart ∙ lower low high rows are other other less
 
 -- an id and its ancestors; none for 0
 abbrev pub up_from : List Row → ℕ → List ℕ

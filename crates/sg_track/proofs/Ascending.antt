@@ -33,7 +33,7 @@ module _ (P : Row → Type 0) where
   later low high (k ∷ kept) zero (suc j) d are less within = above k.row.id high kept j d are.3 (omega arith)
   later low high (k ∷ kept) (suc i) (suc j) d are less within = later k.row.id high kept i j d are.3 (omega arith) (omega arith)
 
-  at_head : (b : Bool) (k : Kept) (kept : List Kept) (id : ℕ) → (k.row.id == id) ≡ b → row_at (rows_of (k ∷ kept)) id ≡ cond b (Some k.row) (row_at (rows_of kept) id)
+  pub at_head : (b : Bool) (k : Kept) (kept : List Kept) (id : ℕ) → (k.row.id == id) ≡ b → row_at (rows_of (k ∷ kept)) id ≡ cond b (Some k.row) (row_at (rows_of kept) id)
   at_head b k kept id is = ap (λ t. cond t (Some k.row) (row_at (rows_of kept) id)) is
 
   -- the row at the place of an id is the one that it has

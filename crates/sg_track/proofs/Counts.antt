@@ -342,12 +342,12 @@ children-removed high id other test rows are =
     (each_other HasLowerParent _ (λ r lower. one_goes id other test r) 0 high rows are)
 
 -- the counts of those that stay
-pub counts_left : (number told : ℕ → ℕ) (test : ℕ → Bool) (low high : ℕ) (kept : List Kept) → AreRows HasLowerParent low high (rows_of kept) → Each (λ k. k.ends ≡ test k.row.id) kept
-    → ((id : ℕ) → low < id → test id ≡ false → number id ≡ told id) → Counts number kept → Counts told (filter (λ k. not k.ends) kept)
-counts_left number told test low high [] are ends same counts = tt
-counts_left number told test low high (k ∷ kept) are ends same counts =
-    at k.ends (sym ends.0) (counts_left number told test k.row.id high kept are.3 ends.1 (λ id more. same id (omega (arith, more, are.0))) counts.1)
+pub counts_left : (mark : Kept → Bool) (number told : ℕ → ℕ) (test : ℕ → Bool) (low high : ℕ) (kept : List Kept) → AreRows HasLowerParent low high (rows_of kept)
+    → Each (λ k. mark k ≡ test k.row.id) kept → ((id : ℕ) → low < id → test id ≡ false → number id ≡ told id) → Counts number kept → Counts told (filter (λ k. not (mark k)) kept)
+counts_left mark number told test low high [] are ends same counts = tt
+counts_left mark number told test low high (k ∷ kept) are ends same counts =
+    at (mark k) (sym ends.0) (counts_left mark number told test k.row.id high kept are.3 ends.1 (λ id more. same id (omega (arith, more, are.0))) counts.1)
   where
-    at : (b : Bool) → test k.row.id ≡ b → Counts told (filter (λ x. not x.ends) kept) → Counts told (cond (not b) (k ∷ filter (λ x. not x.ends) kept) (filter (λ x. not x.ends) kept))
+    at : (b : Bool) → test k.row.id ≡ b → Counts told (filter (λ x. not (mark x)) kept) → Counts told (cond (not b) (k ∷ filter (λ x. not (mark x)) kept) (filter (λ x. not (mark x)) kept))
     at true is rest = rest
     at false is rest = (counts.0 ∙ same k.row.id are.0 is, rest)

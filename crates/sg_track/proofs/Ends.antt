@@ -1,23 +1,41 @@
 -- Which kept rows end with an id, and what is left of the rest.
-use Rattle.std.proofs.Common.{◌≡◌, ℕ, zero, suc, ◌+◌, ◌<◌, ◌≤◌, Bool, true, false, cond, not, ◌&&◌, ◌||◌, List, [], ◌∷◌, None, Some, length, filter, get_or, refl, sym, ◌∙◌, ap, inl, inr, arith}
-use Rattle.std.specs.Prelude.{◌==◌, nat_eq}
+use Rattle.std.proofs.Common.{◌≡◌, ℕ, zero, suc, ◌+◌, ◌<◌, ◌≤◌, Bool, true, false, cond, not, ◌&&◌, ◌||◌, List, [], ◌∷◌, None, Some, length, filter, get_or, take, refl, sym, ◌∙◌, ap, inl, inr, arith}
+use Rattle.std.specs.Prelude.{◌==◌, nat_eq, nat_le}
 use Rattle.std.specs.Map.{remove_entry}
 use Rattle.std.proofs.Math.ListN.{set}
 use Rattle.std.proofs.lemmas.Bool.{cases_lt}
 use Rattle.std.proofs.lemmas.Bool.Decides.{eqb_tells, nat_tests}
+use Rattle.std.proofs.lemmas.List.Elements.{filter_agree}
 use Rattle.std.proofs.lemmas.List.{get_or-set_other, get_or-set_same}
 use Rattle.sg_facts.specs.declared.row.Row.{Row}
 use Rattle.sg_facts.specs.Sound.{AreRows}
-use Rattle.sg_facts.specs.Track.{row_at}
+use Rattle.sg_facts.specs.Track.{has_child, is_ancestor, row_at}
 use Rattle.sg_facts.proofs.RowLists.{id_of_row}
 use Rattle.sg_track.specs.declared.kept.Kept.{Kept}
 use Rattle.sg_facts.specs.sg_base.Lists.{Each}
-use Rattle.sg_track.specs.Kept.{AreKeyed, HasRow, IsTold, TellsAt, ends_below, rows_in, rows_of}
+use Rattle.sg_track.specs.Kept.{AreKeyed, HasRow, IsTold, TellsAt, ends_below, is_marked, rows_in, rows_of}
 use Rattle.sg_track.specs.Tracked.{HasLowerParent}
-use Rattle.sg_track.proofs.Above.{ends_child, ends_itself, ends_nowhere, ends_root}
+use Rattle.sg_track.proofs.Above.{childless, ends_child, ends_itself, ends_lower, ends_nowhere, ends_root}
 use Rattle.sg_track.proofs.Ascending.{found, later, other_test, same_test}
 use Rattle.sg_track.proofs.Counts.{rows_same}
 use Rattle.sg_track.proofs.KeptLists.{read, row_read}
+
+-- ---- marks
+
+-- the mark of an id's own row counts, and of those after it
+mark_of : (id : ℕ) (k : Kept) → id ≤ k.row.id → is_marked id k ≡ k.ends
+mark_of id k from = let test : nat_le id k.row.id ≡ true = grind (arith, nat_tests, from) in ap (λ b. b && k.ends) test
+
+-- no mark of a row before it does
+no_mark : (id : ℕ) (k : Kept) → k.row.id < id → is_marked id k ≡ false
+no_mark id k less = let test : nat_le id k.row.id ≡ false = grind (arith, nat_tests, less) in ap (λ b. b && k.ends) test
+
+-- a row among the first has a smaller id where each of them has
+at_lower : (id : ℕ) (kept : List Kept) (from n : ℕ) (d : Kept) → Each (λ r. r.id < id) (take from (rows_of kept)) → n < from → n < length kept → (get_or kept n d).row.id < id
+at_lower id [] from n d before less within = absurd (omega arith)
+at_lower id (k ∷ kept) zero n d before less within = absurd (omega arith)
+at_lower id (k ∷ kept) (suc from) zero d before less within = before.0
+at_lower id (k ∷ kept) (suc from) (suc n) d before less within = at_lower id kept from n d before.1 (omega (arith, less)) (omega (arith, within))
 
 -- ---- what is told of a row
 
@@ -41,13 +59,16 @@ module _ (high : ℕ) (kept : List Kept) (are : AreRows HasLowerParent 0 high (r
   pub tells_child : (r.parent ≡ 0 → ⊥) → r.parent ≡ id → TellsAt id kept at true
   tells_child child same = ends_as true (λ k. sym (ends_child 0 high (rows_of kept) are id r (at_its_id k) other (other_test r.parent 0 child) ∙ ends_itself 0 high (rows_of kept) are id r.parent (same_test r.parent id same)))
 
+  pub tells_earlier : (r.parent ≡ 0 → ⊥) → r.parent < id → TellsAt id kept at false
+  tells_earlier child less = ends_as false (λ k. sym (ends_child 0 high (rows_of kept) are id r (at_its_id k) other (other_test r.parent 0 child) ∙ ends_lower id 0 high (rows_of kept) are r.parent less))
+
   pub tells_orphan : (r.parent ≡ 0 → ⊥) → (r.parent ≡ id → ⊥) → row_at (rows_of kept) r.parent ≡ None → TellsAt id kept at false
   tells_orphan child apart none =
       ends_as false (λ k. sym (ends_child 0 high (rows_of kept) are id r (at_its_id k) other (other_test r.parent 0 child) ∙ ends_nowhere 0 high (rows_of kept) are id r.parent none (other_test r.parent id apart)))
 
-  pub tells_below : (r.parent ≡ 0 → ⊥) → (place : ℕ) (k : Kept) → HasRow kept place r.parent → k ≡ get_or kept place k → r.parent < r.id
+  pub tells_below : (r.parent ≡ 0 → ⊥) → (place : ℕ) (k : Kept) → HasRow kept place r.parent → k ≡ get_or kept place k → r.parent < r.id → id < r.parent
       → ((n : ℕ) → n < at → IsTold id kept n) → TellsAt id kept at k.ends
-  tells_below child place k has read_is lower before =
+  tells_below child place k has read_is lower later_parent before =
       let its = id_of_row (rows_of kept) r.parent k.row (row_read kept place r.parent k k has read_is) in
       let first : place < at = elim (cases_lt place at) [
         | inl less ↦ less
@@ -63,7 +84,7 @@ module _ (high : ℕ) (kept : List Kept) (are : AreRows HasLowerParent 0 high (r
               absurd (omega (arith, after, its, ids, ids_too, lower))
         ]
       ] in
-      ends_as k.ends (λ d. ap (λ x. x.ends) read_is ∙ before place first k ∙ ap (λ x. ends_below (rows_of kept) id x.row.id) (sym read_is)
+      ends_as k.ends (λ d. sym (mark_of id k (omega (arith, its, later_parent))) ∙ ap (is_marked id) read_is ∙ before place first k ∙ ap (λ x. ends_below (rows_of kept) id x.row.id) (sym read_is)
       ∙ ap (ends_below (rows_of kept) id) its ∙ sym (ends_child 0 high (rows_of kept) are id r (at_its_id d) other (other_test r.parent 0 child)))
 
 -- a row is above its parent
@@ -74,19 +95,26 @@ lower_at low high (k ∷ kept) (suc n) d are within = lower_at k.row.id high kep
 
 -- ---- what is told of each row
 
+-- rows before the id's place end with others
+pub told_before : (high id : ℕ) (kept : List Kept) → AreRows HasLowerParent 0 high (rows_of kept) → (from : ℕ) → from ≤ length kept → Each (λ r. r.id < id) (take from (rows_of kept))
+    → (n : ℕ) → n < from → IsTold id kept n
+told_before high id kept are from within before n less d =
+    let lower = at_lower id kept from n d before less (omega (arith, less, within)) in
+    no_mark id (get_or kept n d) lower ∙ sym (ends_lower id 0 high (rows_of kept) are (get_or kept n d).row.id lower)
+
 -- one more row is told
-pub told_more : (id : ℕ) (kept : List Kept) (at : ℕ) (new k : Kept) → at < length kept → k ≡ get_or kept at k → new.row ≡ k.row → TellsAt id kept at new.ends → ((n : ℕ) → n < at → IsTold id kept n)
-    → (n : ℕ) → n < at + 1 → IsTold id (set kept at new) n
-told_more id kept at new k within is same tells before n less e = elim (eqb_tells n at) [
+pub told_more : (high id : ℕ) (kept : List Kept) → AreRows HasLowerParent 0 high (rows_of kept) → (at : ℕ) (new k : Kept) → at < length kept → k ≡ get_or kept at k → new.row ≡ k.row
+    → TellsAt id kept at new.ends → ((n : ℕ) → n < at → IsTold id kept n) → (n : ℕ) → n < at + 1 → IsTold id (set kept at new) n
+told_more high id kept are at new k within is same tells before n less e = elim (eqb_tells n at) [
   | inl here ↦
       let there = get_or-set_same kept at new e within in
-      ap (λ i. (get_or changed i e).ends) here.1 ∙ ap (λ x. x.ends) there ∙ tells k
+      ap (λ i. is_marked id (get_or changed i e)) here.1 ∙ ap (is_marked id) there ∙ counts (nat_le id new.row.id) refl ∙ tells k
       ∙ ap (λ rows. ends_below rows id (get_or kept at k).row.id) (sym rows_is)
       ∙ ap (λ x. ends_below (rows_of changed) id x.row.id) (sym is) ∙ ap (λ r. ends_below (rows_of changed) id r.id) (sym same)
       ∙ ap (λ x. ends_below (rows_of changed) id x.row.id) (sym there) ∙ ap (λ i. ends_below (rows_of changed) id (get_or changed i e).row.id) (sym here.1)
   | inr other ↦
       let there = get_or-set_other kept at n new e other.1 in
-      ap (λ x. x.ends) there ∙ before n (omega (arith, less, other.1)) e
+      ap (is_marked id) there ∙ before n (omega (arith, less, other.1)) e
       ∙ ap (λ rows. ends_below rows id (get_or kept n e).row.id) (sym rows_is) ∙ ap (λ x. ends_below (rows_of changed) id x.row.id) (sym there)
 ]
   where
@@ -96,22 +124,36 @@ told_more id kept at new k within is same tells before n less e = elim (eqb_tell
     rows_is : rows_of changed ≡ rows_of kept
     rows_is = rows_same kept at new k (same ∙ ap (λ x. x.row) is)
 
+    -- a row that was made before the id's isn't told to end
+    counts : (b : Bool) → nat_le id new.row.id ≡ b → (b && new.ends) ≡ new.ends
+    counts true from = refl
+    counts false from =
+        let ids : (get_or kept at k).row.id ≡ new.row.id = ap (λ x. x.row.id) (sym is) ∙ ap (λ r. r.id) (sym same) in
+        let less : new.row.id < id = grind (arith, nat_tests, from) in
+        sym (tells k ∙ ap (ends_below (rows_of kept) id) ids ∙ ends_lower id 0 high (rows_of kept) are new.row.id less)
+
 -- each is told
-pub told_each : (test : ℕ → Bool) (kept : List Kept) → ((n : ℕ) → n < length kept → (d : Kept) → (get_or kept n d).ends ≡ test (get_or kept n d).row.id)
-    → Each (λ k. k.ends ≡ test k.row.id) kept
-told_each test [] told = tt
-told_each test (k ∷ kept) told = (told zero (omega arith) k, told_each test kept (λ n within d. told (suc n) (omega (arith, within)) d))
+pub told_each : (mark : Kept → Bool) (test : ℕ → Bool) (kept : List Kept) → ((n : ℕ) → n < length kept → (d : Kept) → mark (get_or kept n d) ≡ test (get_or kept n d).row.id)
+    → Each (λ k. mark k ≡ test k.row.id) kept
+told_each mark test [] told = tt
+told_each mark test (k ∷ kept) told = (told zero (omega arith) k, told_each mark test kept (λ n within d. told (suc n) (omega (arith, within)) d))
 
 -- ---- what is left
 
--- those that are told to end go
-pub rows-left : (test : ℕ → Bool) (kept : List Kept) → Each (λ k. k.ends ≡ test k.row.id) kept
-    → rows_of (filter (λ k. not k.ends) kept) ≡ filter (λ r. not (test r.id)) (rows_of kept)
-rows-left test [] told = refl
-rows-left test (k ∷ kept) told = at k.ends (rows-left test kept told.1) ∙ ap (λ b. cond (not b) (k.row ∷ filter (λ r. not (test r.id)) (rows_of kept)) (filter (λ r. not (test r.id)) (rows_of kept))) told.0
+-- an id without children ends alone
+pub ends_alone : (id : ℕ) (rows some : List Row) → has_child rows id ≡ false
+    → filter (λ r. not ((r.id == id) || (false && is_ancestor rows id r.id))) some ≡ filter (λ r. not (ends_below rows id r.id)) some
+ends_alone id rows some none =
+    filter_agree _ (λ r. not (ends_below rows id r.id)) (λ r. ap (λ b. not ((r.id == id) || b)) (sym (childless id rows r.id none))) some
+
+-- those that are marked go
+pub rows-left : (mark : Kept → Bool) (test : ℕ → Bool) (kept : List Kept) → Each (λ k. mark k ≡ test k.row.id) kept
+    → rows_of (filter (λ k. not (mark k)) kept) ≡ filter (λ r. not (test r.id)) (rows_of kept)
+rows-left mark test [] told = refl
+rows-left mark test (k ∷ kept) told = at (mark k) (rows-left mark test kept told.1) ∙ ap (λ b. cond (not b) (k.row ∷ filter (λ r. not (test r.id)) (rows_of kept)) (filter (λ r. not (test r.id)) (rows_of kept))) told.0
   where
-    at : (b : Bool) → rows_of (filter (λ x. not x.ends) kept) ≡ filter (λ r. not (test r.id)) (rows_of kept)
-        → rows_of (cond (not b) (k ∷ filter (λ x. not x.ends) kept) (filter (λ x. not x.ends) kept)) ≡ cond (not b) (k.row ∷ filter (λ r. not (test r.id)) (rows_of kept)) (filter (λ r. not (test r.id)) (rows_of kept))
+    at : (b : Bool) → rows_of (filter (λ x. not (mark x)) kept) ≡ filter (λ r. not (test r.id)) (rows_of kept)
+        → rows_of (cond (not b) (k ∷ filter (λ x. not (mark x)) kept) (filter (λ x. not (mark x)) kept)) ≡ cond (not b) (k.row ∷ filter (λ r. not (test r.id)) (rows_of kept)) (filter (λ r. not (test r.id)) (rows_of kept))
     at true rest = rest
     at false rest = ap (λ l. k.row ∷ l) rest
 

@@ -8,7 +8,7 @@ use Rattle.sg_facts.specs.declared.row.Row.{Row}
 use Rattle.sg_facts.proofs.RowLists.{left, more}
 use Rattle.sg_track.specs.declared.kept.Kept.{Kept}
 use Rattle.sg_facts.specs.sg_base.Lists.{Each}
-use Rattle.sg_track.specs.Kept.{AreKeyed, Counts, HasRow, children_of, ends_below, more_at, others_of, rows_in, rows_of}
+use Rattle.sg_track.specs.Kept.{AreKeyed, Counts, HasRow, children_of, ends_below, is_marked, more_at, others_of, rows_in, rows_of}
 use Rattle.sg_track.specs.Tracked.{AreTracked, HasLowerParent}
 use Rattle.sg_track.proofs.Counts.{children-changed, children-left, children-more, children-removed, counts_as, counts_beside, counts_left, each_more, more_other, no_children}
 use Rattle.sg_track.proofs.Ends.{removed, rows-left}
@@ -84,24 +84,24 @@ kept_changed change id same_id same_parent given es n new k are has is made coun
 
 -- ---- rows end
 
-counted_below : (given id : ℕ) (rows : List Row) (kept : List Kept) → AreTracked given rows → rows_of kept ≡ rows → Each (λ k. k.ends ≡ ends_below rows id k.row.id) kept
-    → Counts (others_of id rows) kept → AreCounted given (filter (λ k. not k.ends) kept)
+counted_below : (given id : ℕ) (rows : List Row) (kept : List Kept) → AreTracked given rows → rows_of kept ≡ rows → Each (λ k. is_marked id k ≡ ends_below rows id k.row.id) kept
+    → Counts (others_of id rows) kept → AreCounted given (filter (λ k. not (is_marked id k)) kept)
 counted_below given id rows kept are same ends counts =
-    let rows_is = rows-left (ends_below rows id) kept ends ∙ ap (filter (λ r. not (ends_below rows id r.id))) same in
+    let rows_is = rows-left (is_marked id) (ends_below rows id) kept ends ∙ ap (filter (λ r. not (ends_below rows id r.id))) same in
     record {
       tracked = subst (AreTracked given) (sym rows_is) (left HasLowerParent (λ r. not (ends_below rows id r.id)) 0 given rows are);
-      counted = counts_left (others_of id rows) (children_of (rows_of (filter (λ k. not k.ends) kept))) (ends_below rows id) 0 given kept
+      counted = counts_left (is_marked id) (others_of id rows) (children_of (rows_of (filter (λ k. not (is_marked id k)) kept))) (ends_below rows id) 0 given kept
           (subst (AreTracked given) (sym same) are) ends
           (λ other some stays. children-left given id other rows are some stays ∙ ap (λ l. children_of l other) (sym rows_is)) counts;
     }
 
 -- an id ends with all below it, and was taken out of its parent's count
 pub kept_below : (given id : ℕ) (rows : List Row) (es : List (ℕ × Kept)) → AreTracked given rows → rows_in es ≡ rows → AreKeyed es
-    → Each (λ k. k.ends ≡ ends_below rows id k.row.id) (values_of es) → Counts (others_of id rows) (values_of es) → AreKept given (filter (λ e. not e.1.ends) es)
+    → Each (λ k. is_marked id k ≡ ends_below rows id k.row.id) (values_of es) → Counts (others_of id rows) (values_of es) → AreKept given (filter (λ e. not (is_marked id e.1)) es)
 kept_below given id rows es are same keyed ends counts =
-    under given (filter (λ e. not e.1.ends) es) (filter (λ k. not k.ends) (values_of es)) (values-filter (λ k. not k.ends) es)
+    under given (filter (λ e. not (is_marked id e.1)) es) (filter (λ k. not (is_marked id k)) (values_of es)) (values-filter (λ k. not (is_marked id k)) es)
     (counted_below given id rows (values_of es) are same ends counts)
-    (keyed-filter (λ e. not e.1.ends) es keyed)
+    (keyed-filter (λ e. not (is_marked id e.1)) es keyed)
 
 -- an id ends alone, and was taken out of its parent's count
 pub kept_removed : (given id : ℕ) (rows : List Row) (es : List (ℕ × Kept)) → AreTracked given rows → rows_in es ≡ rows → AreKeyed es

@@ -1,5 +1,6 @@
 pub mod DraftLists
 pub mod Ascending
+pub mod FirstFrom
 pub mod Entries
 pub mod KeptLists
 pub mod Above

@@ -1,5 +1,5 @@
 -- What a tracker keeps.
-use Rattle.std.specs.Prelude.{ℕ, ◌≡◌, ◌+◌, ◌-◌, ◌<◌, ◌==◌, ◌&&◌, ◌||◌, not, Bool, true, if◌then◌else◌, List, [], ◌∷◌, length, map, slice_get, slice_index_or, ◌≤◌}
+use Rattle.std.specs.Prelude.{ℕ, ◌≡◌, ◌+◌, ◌-◌, ◌<◌, ◌==◌, ◌&&◌, ◌||◌, not, Bool, true, if◌then◌else◌, List, [], ◌∷◌, length, map, nat_le, slice_get, slice_index_or, ◌≤◌}
 use Rattle.std.specs.declared.option.Option.{Option}
 use Rattle.std.specs.Option.{is_some}
 use Rattle.std.specs.Map.{values_of}
@@ -82,6 +82,10 @@ ends_below rows id other = (other == id) || is_ancestor rows id other
 abbrev pub TellsAt : ℕ → List Kept → ℕ → Bool → Type 0
 TellsAt id kept at test = (d : Kept) → test ≡ ends_below (rows_of kept) id (slice_index_or kept at d).row.id
 
--- what was told of the row at a place
+-- whether a row is marked to end with an id: the marks of rows that were made before the id's don't count
+abbrev pub is_marked : ℕ → Kept → Bool
+is_marked id k = nat_le id k.row.id && k.ends
+
+-- the mark of the row at a place tells whether it ends with an id
 abbrev pub IsTold : ℕ → List Kept → ℕ → Type 0
-IsTold id kept at = (d : Kept) → (slice_index_or kept at d).ends ≡ ends_below (rows_of kept) id (slice_index_or kept at d).row.id
+IsTold id kept at = (d : Kept) → is_marked id (slice_index_or kept at d) ≡ ends_below (rows_of kept) id (slice_index_or kept at d).row.id

@@ -16,7 +16,7 @@ pub(crate) struct Kept {
     pub(crate) row: Row,
     /// The number of live rows with its id as their parent.
     pub(crate) children: u64,
-    /// Whether it ends with the descriptor that ends; told at each end.
+    /// Whether it ends with the descriptor that ends; told at the end of each that has children, of the rows from its own on.
     pub(crate) ends: bool,
 }
 

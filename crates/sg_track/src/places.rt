@@ -1,11 +1,12 @@
 // Where a row stands among those that are kept.
-ghost use Rattle.std.specs.Prelude.{◌≡◌, ◌==◌, None, map, IfOk, MatchOption};
+ghost use Rattle.std.specs.Prelude.{◌≡◌, ◌<◌, ◌≤◌, ◌==◌, None, drop, length, map, nat_lt, take, IfOk, MatchOption};
 ghost use Rattle.std.specs.List.{list_any};
 ghost use Rattle.std.specs.Map.{values_of};
+ghost use Rattle.sg_facts.specs.sg_base.Lists.{Each};
 ghost use Rattle.sg_facts.specs.Track.{ancestors, parent_in, row_at};
 ghost use Rattle.sg_track.specs.Kept.{AreKeyed, Ascends, HasRow, rows_in};
 
-use crate::kept::KeptRows;
+use crate::kept::{Kept, KeptRows};
 use sg_facts::{IdList, NoMemory};
 use std::alloc::Global;
 
@@ -15,6 +16,20 @@ pub(crate) fn place_of(kept: &KeptRows, id: u64) -> Option<usize>
     ensures { MatchOption result (row_at (rows_in kept.now.entries) id ≡ None) (λ at. HasRow (values_of kept.now.entries) at id) }
 {
     kept.get_index_of(&id)
+}
+
+/// The place of the first row whose id is this or greater; the number of rows where there is none.
+pub(crate) fn first_from(kept: &KeptRows, id: u64) -> usize
+    requires { Ascends kept.now.entries }
+    ensures within { result ≤ length kept.now.entries }
+    ensures before { Each (λ r. r.id < id) (take result (rows_in kept.now.entries)) }
+    ensures after { Each (λ r. id ≤ r.id) (drop result (rows_in kept.now.entries)) }
+{
+    kept.partition_point(
+        |_id: &u64, one: &Kept| -> bool
+            ensures { result ≡ nat_lt one.now.row.id id }
+        { one.row.id < id },
+    )
 }
 
 /// The parent of an id; 0 where there is no row.

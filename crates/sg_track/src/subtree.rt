@@ -3,21 +3,22 @@ ghost use Rattle.std.specs.Prelude.{◌≡◌, ◌<◌, ◌≤◌, ℕ, filter, 
 ghost use Rattle.std.specs.Map.{remove_entry, values_of};
 ghost use Rattle.indexmap.specs.IndexMap.{spare};
 ghost use Rattle.sg_facts.specs.sg_base.Lists.{Each};
-ghost use Rattle.sg_track.specs.Kept.{AreKeyed, Ascends, Counts, IsTold, TellsAt, ends_below, rows_in};
+ghost use Rattle.sg_track.specs.Kept.{AreKeyed, Ascends, Counts, IsTold, TellsAt, ends_below, is_marked, rows_in};
 
 use crate::kept::{Kept, KeptRows};
-use crate::places::place_of;
+use crate::places::{first_from, place_of};
 
-/// Tells of each row whether it ends with an id: it is the id's, or below it. Each row is looked at once, after its parent.
+/// Marks each row that ends with an id: it is the id's, or below it. The first row that is looked at is the id's own, since those
+/// below it were made after it; each is looked at once, after its parent.
 pub(crate) fn mark_below(kept: &mut KeptRows, id: u64)
     requires { Ascends kept.old.entries }
     ensures spare { spare kept.new ≡ spare kept.old }
     ensures keyed { AreKeyed kept.new.entries }
     ensures rows { rows_in kept.new.entries ≡ rows_in kept.old.entries }
-    ensures marked { Each (λ k. k.ends ≡ ends_below (rows_in kept.old.entries) id k.row.id) (values_of kept.new.entries) }
+    ensures marked { Each (λ k. is_marked id k ≡ ends_below (rows_in kept.old.entries) id k.row.id) (values_of kept.new.entries) }
     ensures counts { (number : ℕ → ℕ) → Counts number (values_of kept.old.entries) → Counts number (values_of kept.new.entries) }
 {
-    'rows: for at in 0..kept.len() {
+    'rows: for at in first_from(kept, id)..kept.len() {
         let ends = ends_below(kept, at, id);
         kept[at].ends = ends;
     }
@@ -34,21 +35,22 @@ fn ends_below(kept: &KeptRows, at: usize, id: u64) -> bool
     row.id == id
         || (row.parent != 0
             && (row.parent == id
-                || match place_of(kept, row.parent) {
-                    Some(place) => kept[place].ends,
-                    None => false,
-                }))
+                || (id < row.parent
+                    && match place_of(kept, row.parent) {
+                        Some(place) => kept[place].ends,
+                        None => false,
+                    })))
 }
 
-/// Removes the rows that end.
-pub(crate) fn close_up(kept: &mut KeptRows)
-    ensures entries { kept.new.entries ≡ filter (λ e. not e.1.ends) kept.old.entries }
+/// Removes the rows that are marked to end with an id.
+pub(crate) fn close_up(kept: &mut KeptRows, id: u64)
+    ensures entries { kept.new.entries ≡ filter (λ e. not (is_marked id e.1)) kept.old.entries }
     ensures spare { spare kept.old ≤ spare kept.new }
 {
     kept.retain(
         |_id: &u64, one: &mut Kept| -> bool
-            ensures { (result ≡ not one.old.ends) × (one.new ≡ one.old) }
-        { !one.ends },
+            ensures { (result ≡ not (is_marked id one.old)) × (one.new ≡ one.old) }
+        { !(id <= one.row.id && one.ends) },
     );
 }
 

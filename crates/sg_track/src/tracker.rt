@@ -1,13 +1,14 @@
 // The tracked rows of all descriptors.
-ghost use Rattle.std.specs.Prelude.{◌≡◌, ◌≤◌, ◌<◌, ◌+◌, ◌-◌, ◌^◌, [], length, map, IfOk, OnOk, OnErr};
-ghost use Rattle.std.specs.Option.{option_copied};
+ghost use Rattle.std.specs.Prelude.{◌≡◌, ◌≤◌, ◌<◌, ◌+◌, ◌-◌, ◌^◌, [], Some, drop, length, map, slice_get, take, IfOk, OnOk, OnErr};
+ghost use Rattle.std.specs.Option.{option_copied, option_map};
+ghost use Rattle.sg_facts.specs.sg_base.Lists.{Each};
 ghost use Rattle.sg_facts.specs.Object.{given_after};
 ghost use Rattle.sg_facts.specs.Track.{ancestors, has_child, row_at, rows_after, track};
 ghost use Rattle.sg_track.specs.Tracked.{AreTracked, MayChange, MayMake, MayTrack, MayTrackOk, changed_rows, left_rows, made_rows, spare_after};
 
 use crate::kept::{KeptRows, add_row, change_row};
 use crate::make::made_row;
-use crate::places::{ancestors_in, has_child, ids_in, place_of};
+use crate::places::{ancestors_in, first_from, has_child, ids_in, place_of};
 use crate::room::RowRoom;
 use crate::subtree::{close_up, mark_below, remove_row};
 use crate::tally::{count_child, discount_row};
@@ -120,16 +121,17 @@ impl Tracker {
         }
     }
 
-    // Removes the row of an id, and under subtree all below it.
+    // Removes the row of an id, and under subtree all below it. Other rows are looked at where it has children.
     fn end(&mut self, subtree: bool, id: u64)
         ensures rows { self.new.rows ≡ left_rows subtree self.old.rows id }
         ensures given { self.new.given ≡ self.old.given }
         ensures spare { self.new.spare ≡ self.old.spare }
     {
+        let all = subtree && self.has_children(id);
         discount_row(&mut self.kept, id);
-        if subtree {
+        if all {
             mark_below(&mut self.kept, id);
-            close_up(&mut self.kept);
+            close_up(&mut self.kept, id);
         } else {
             remove_row(&mut self.kept, id);
         }
@@ -183,6 +185,23 @@ impl Tracker {
             Some(one) => one.children > 0,
             None => has_child(&self.kept, id),
         }
+    }
+
+    /// The place among the live rows, from 0, of the first whose id is this or greater; the number of live rows where there is none.
+    pub fn place(&self, id: u64) -> usize
+        ensures within { result ≤ length self.now.rows }
+        ensures before { Each (λ r. r.id < id) (take result self.now.rows) }
+        ensures after { Each (λ r. id ≤ r.id) (drop result self.now.rows) }
+    {
+        first_from(&self.kept, id)
+    }
+
+    /// The id of the row at a place.
+    pub fn id_at(&self, place: usize) -> u64
+        requires { place < length self.now.rows }
+        ensures { option_map (λ r. r.id) (slice_get self.now.rows place) ≡ Some result }
+    {
+        self.kept[place].row.id
     }
 
     /// The ids of the live rows, ascending.

@@ -1,9 +1,10 @@
--- One step up, to a smaller id.
-use Rattle.std.proofs.Common.{sym, ◌∙◌, ap, arith}
-use Rattle.std.specs.Prelude.{◌==◌}
+-- One step up, to a smaller id, until it isn't greater than the other.
+use Rattle.std.proofs.Common.{◌≡◌, true, false, sym, ◌∙◌, ap, arith}
+use Rattle.std.specs.Prelude.{◌==◌, ◌&&◌, not}
 use Rattle.std.specs.List.{list_any}
+use Rattle.std.proofs.lemmas.Bool.Decides.{nat_tests}
 use Rattle.sg_needs.proofs.sg_track.Above.{from_parent, parent_below, up_from}
-use Rattle.sg_replay.proofs.Committed.{one_higher}
+use Rattle.sg_replay.proofs.Committed.{one_higher, past}
 use Rattle.sg_replay.proofs.ended.is_below.Goals as goal
 
 pub up-init : goal.up-init
@@ -21,5 +22,20 @@ pub up-preserved : goal.up-preserved
 up-preserved c =
     let rows = c.args.rows.now.rows in
     ap (λ p. list_any (λ a. a == c.args.above) (up_from rows p)) c.parent_of-parent-in-up.ensures
-    ∙ sym (one_higher c.args.rows.now.given rows c.live-tracked.ensures.tracked c.args.above c.up.parent c.up-test.true c.if-parent-above.false)
+    ∙ sym (one_higher c.args.rows.now.given rows c.live-tracked.ensures.tracked c.args.above c.up.parent (λ none. omega (arith, c.up-test.true, none)) (λ same. omega (arith, c.up-test.true, same)))
+    ∙ c.up.invariant
+
+pub returns-then-parent-ne0 : goal.returns-then-parent-ne0
+returns-then-parent-ne0 c =
+    let test : (c.up.parent == 0) ≡ false = grind (arith, nat_tests, c.if-parent-ne0.true) in
+    ap (λ b. not b && (c.up.parent == c.args.above)) (sym test)
+    ∙ sym (past c.args.rows.now.given c.args.rows.now.rows c.live-tracked.ensures.tracked c.args.above c.up.parent (λ more. omega (arith, more, c.up-test.false)))
+    ∙ c.up.invariant
+
+pub returns-else-parent-ne0 : goal.returns-else-parent-ne0
+returns-else-parent-ne0 c =
+    let test : (c.up.parent == 0) ≡ true = grind (arith, nat_tests, c.if-parent-ne0.false) in
+    ap not test
+    ∙ ap (λ b. not b && (c.up.parent == c.args.above)) (sym test)
+    ∙ sym (past c.args.rows.now.given c.args.rows.now.rows c.live-tracked.ensures.tracked c.args.above c.up.parent (λ more. omega (arith, more, c.up-test.false)))
     ∙ c.up.invariant
