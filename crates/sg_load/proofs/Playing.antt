@@ -11,7 +11,6 @@ use Rattle.sg_facts.specs.Limits.{most_script_calls}
 use Rattle.sg_load.specs.declared.kind.ServiceKind.{ServiceKind}
 use Rattle.sg_load.specs.declared.kind.ServiceKind.TheVariants.{Locks, Events, Pages, Files, Threads}
 use Rattle.sg_load.specs.Drawn.{after_draws, drawn, stops_from, upper}
-use Rattle.sg_load.specs.Functions.{evt_split_number, lock_alloc_number}
 use Rattle.sg_load.specs.Generated.{calls_of_client, clients_from, generated, groups_from, groups_of, setup_count}
 use Rattle.sg_plain.specs.sg_script.Flaws.{calls_before}
 use Rattle.sg_load.specs.Groups.{call, group_of, group_size, setup_of, times}
@@ -63,22 +62,22 @@ times_all test c is zero = refl
 times_all test c is (suc count) = both (test c) (list_all test (times count c)) is (times_all test c is count)
 
 setup_fits : (service : ServiceKind) → calls_fit (standard service) 1 (setup_of service) ≡ true
-setup_fits Locks = times_fit (standard Locks) (call lock_alloc_number []) (λ n. refl) 1 lock_count
-setup_fits Events = times_fit (standard Events) (call evt_split_number []) (λ n. refl) 1 event_count
+setup_fits Locks = times_fit (standard Locks) (call 1 []) (λ n. refl) 1 lock_count
+setup_fits Events = times_fit (standard Events) (call 1 []) (λ n. refl) 1 event_count
 setup_fits Pages = refl
 setup_fits Files = refl
 setup_fits Threads = refl
 
 setup_length : (service : ServiceKind) → length (setup_of service) ≡ setup_count service
-setup_length Locks = times_length (call lock_alloc_number []) lock_count
-setup_length Events = times_length (call evt_split_number []) event_count
+setup_length Locks = times_length (call 1 []) lock_count
+setup_length Events = times_length (call 1 []) event_count
 setup_length Pages = refl
 setup_length Files = refl
 setup_length Threads = refl
 
 setup_goes_on : (service : ServiceKind) → list_all (λ c. not (fun_at (standard service).facts.funs c.fun).block) (setup_of service) ≡ true
-setup_goes_on Locks = times_all (λ c. not (fun_at (standard Locks).facts.funs c.fun).block) (call lock_alloc_number []) refl lock_count
-setup_goes_on Events = times_all (λ c. not (fun_at (standard Events).facts.funs c.fun).block) (call evt_split_number []) refl event_count
+setup_goes_on Locks = times_all (λ c. not (fun_at (standard Locks).facts.funs c.fun).block) (call 1 []) refl lock_count
+setup_goes_on Events = times_all (λ c. not (fun_at (standard Events).facts.funs c.fun).block) (call 1 []) refl event_count
 setup_goes_on Pages = refl
 setup_goes_on Files = refl
 setup_goes_on Threads = refl

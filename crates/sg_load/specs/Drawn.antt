@@ -2,19 +2,9 @@
 use Rattle.std.specs.Prelude.{ℕ, zero, suc, ◌+◌, ◌*◌, ◌/◌, ◌%◌, ◌^◌, List, [], ◌∷◌}
 use Rattle.sg_load.specs.Sizes.{most_distance}
 
--- the factor and the summand of a draw
-
--- what the state is multiplied by at a draw
-abbrev pub draw_factor : ℕ
-draw_factor = 6364136223846793005
-
--- what is added at a draw, after the state was multiplied
-abbrev pub draw_summand : ℕ
-draw_summand = 1442695040888963407
-
--- the state of 64 bits after a draw
+-- the state of 64 bits after a draw: multiplied by one number, and another is added
 abbrev pub drawn : ℕ → ℕ
-drawn x = (x * draw_factor + draw_summand) % 2 ^ 64
+drawn x = (x * 6364136223846793005 + 1442695040888963407) % 2 ^ 64
 
 -- the number of a draw: the upper 32 bits of the state after it
 abbrev pub upper : ℕ → ℕ

@@ -1,5 +1,4 @@
 pub mod Drawn
-pub mod Functions
 pub mod Generated
 pub mod Groups
 pub mod Sizes
