@@ -73,11 +73,11 @@ sought_ends = (1, Done) ∷ []
 -- the seek is asked for twice in one boot, where its first reply was still held
 abbrev pub held_asked_twice : Run
 held_asked_twice = in_one_boot (
-  called (call_with 1 1 1 0 (text (codes "a") ∷ [])) 0 4 (replied (ok_at 1))
-  ∷ called (call_with 1 2 4 1 (word 0 ∷ [])) 1 8 (replied ok)
-  ∷ called (call_with 1 2 4 1 (word 0 ∷ [])) 1 11 (replied ok)
-  ∷ called (call_with 1 3 2 1 (word 8 ∷ [])) 1 14 (replied (ok_with 0 0))
-  ∷ []) 15
+    called (call_with 1 1 1 0 (text (codes "a") ∷ [])) 0 4 (replied (ok_at 1))
+    ∷ called (call_with 1 2 4 1 (word 0 ∷ [])) 1 8 (replied ok)
+    ∷ called (call_with 1 2 4 1 (word 0 ∷ [])) 1 11 (replied ok)
+    ∷ called (call_with 1 3 2 1 (word 8 ∷ [])) 1 14 (replied (ok_with 0 0))
+    ∷ []) 15
 
 -- ---- the end of the count of points
 
