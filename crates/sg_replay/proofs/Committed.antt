@@ -19,14 +19,14 @@ use Rattle.sg_facts.specs.Track.{ancestors, ends_with, has_child, is_ancestor, i
 use Rattle.sg_facts.specs.Walks.{most_calls}
 use Rattle.sg_name.specs.Names.{name_by, name_of, named_at, real_at, real_of}
 use Rattle.sg_name.specs.declared.named.Named.{Named}
-use Rattle.sg_name.specs.declared.named.Named.TheVariants.{Unnamed, Partial}
+use Rattle.sg_name.specs.declared.named.Named.TheVariants.{Unnamed, Partial, Live}
 use Rattle.sg_name.specs.declared.named.Standing.{Standing}
 use Rattle.sg_needs.specs.sg_track.Tracked.{AreTracked, MayTrack, Tracked}
 use Rattle.sg_needs.specs.sg_track.Kept.{ends_below}
 use Rattle.sg_needs.proofs.sg_track.Above.{childless, ends_lower, from_parent, up_from}
 use Rattle.sg_replay.specs.Committing.{name_left}
 use Rattle.sg_replay.specs.Engined.{AreGiven, AreInWalks}
-use Rattle.sg_replay.specs.Inside.Ends.{ends_rows, is_ended}
+use Rattle.sg_replay.specs.Inside.Ends.{ends_rows, is_ended, is_named}
 
 -- what is lent is there where what it shows is
 pub copied_some : {A : Type 0} (o : Option (Bor A)) → is_some o ≡ is_some (option_copied o)
@@ -282,7 +282,7 @@ module _ (given : ℕ) (rows : List Row) (tracked : AreTracked given rows) (gone
             ap (λ b. cond (b && ends_below rows gone x) Unnamed (named_at old x)) (sym (ap (λ b. l || b) apart ∙ or_false l))
 
     -- a row that stays
-    pub gone_same : ends_below rows gone id ≡ false → AreGone rows gone old (at + 1) known
+    gone_same : ends_below rows gone id ≡ false → AreGone rows gone old (at + 1) known
     gone_same stays x =
         so_far x ∙ ap (λ b. cond b Unnamed (named_at old x)) (by (id == x) refl (is_live (take at rows) x))
         ∙ ap (λ b. cond (b && ends_below rows gone x) Unnamed (named_at old x)) (sym (live_step rows at id here x))
@@ -292,6 +292,30 @@ module _ (given : ℕ) (rows : List Row) (tracked : AreTracked given rows) (gone
             let stays_x : ends_below rows gone x ≡ false = ap (ends_below rows gone) (sym (one_id id x is)) ∙ stays in
             ap (λ b. l && b) stays_x ∙ and_false l ∙ sym (ap (λ b. (l || true) && b) stays_x ∙ and_false (l || true))
         by false is l = ap (λ b. b && ends_below rows gone x) (sym (or_false l))
+
+    -- a row that ends and has no name
+    gone_unnamed : ends_below rows gone id ≡ true → named_at known id ≡ Unnamed → AreGone rows gone old (at + 1) known
+    gone_unnamed ends none x =
+        by (id == x) refl (is_live (take at rows) x) (so_far x)
+        ∙ ap (λ b. cond (b && ends_below rows gone x) Unnamed (named_at old x)) (sym (live_step rows at id here x))
+      where
+        by : (s : Bool) → (id == x) ≡ s → (l : Bool) → named_at known x ≡ cond (l && ends_below rows gone x) Unnamed (named_at old x)
+            → named_at known x ≡ cond ((l || s) && ends_below rows gone x) Unnamed (named_at old x)
+        by true is l so =
+            let same : x ≡ id = sym (one_id id x is) in
+            let ends_x : ends_below rows gone x ≡ true = ap (ends_below rows gone) same ∙ ends in
+            ap (named_at known) same ∙ none ∙ ap (λ b. cond b Unnamed (named_at old x)) (sym (ap (λ b. (l || true) && b) ends_x ∙ and_true (l || true) ∙ or_true l))
+        by false is l so = so ∙ ap (λ b. cond (b && ends_below rows gone x) Unnamed (named_at old x)) (sym (or_false l))
+
+    -- a row that stays, or has no name
+    pub gone_kept : (is_named (named_at known id) && ends_below rows gone id) ≡ false → AreGone rows gone old (at + 1) known
+    gone_kept kept = by (named_at known id) refl (ends_below rows gone id) refl kept
+      where
+        by : (named : Named) → named_at known id ≡ named → (e : Bool) → ends_below rows gone id ≡ e → (is_named named && e) ≡ false → AreGone rows gone old (at + 1) known
+        by named is false ends test = gone_same ends
+        by Unnamed is true ends test = gone_unnamed ends is
+        by (Partial real done) is true ends test = absurd (cc test)
+        by (Live real) is true ends test = absurd (cc test)
 
   -- each row was looked at
   pub gone_all : (at : ℕ) (known : List (ℕ × Standing)) → length rows ≤ at → AreGone rows gone old at known → (x : ℕ) → named_at known x ≡ cond (is_ended true rows gone x) Unnamed (named_at old x)

@@ -7,6 +7,7 @@ pub mod Naming
 pub mod Serving
 pub mod Stepped
 pub mod Telling
+pub mod Unnamed
 pub use Rattle.sg_boot.proofs as sg_boot
 pub use Rattle.sg_name.proofs as sg_name
 pub use Rattle.sg_needs.proofs.sg_track

@@ -1,13 +1,14 @@
 // The names of ended rows.
-ghost use Rattle.std.specs.Prelude.{◌≡◌, ◌≤◌, ℕ, true, if◌then◌else◌};
+ghost use Rattle.std.specs.Prelude.{◌≡◌, ◌≤◌, ◌&&◌, ℕ, true, if◌then◌else◌};
 ghost use Rattle.sg_facts.specs.Track.{is_ancestor, is_live, parent_in, row_at, track};
 ghost use Rattle.sg_name.specs.Names.{named_at};
 ghost use Rattle.sg_name.specs.declared.named.Named.TheVariants.{Unnamed};
 ghost use Rattle.sg_replay.specs.Committing.{name_left};
-ghost use Rattle.sg_replay.specs.Inside.Ends.{ends_rows, is_ended};
+ghost use Rattle.sg_needs.specs.sg_track.Kept.{ends_below};
+ghost use Rattle.sg_replay.specs.Inside.Ends.{AreUnnamed, ends_rows, is_ended, is_named};
 
 use sg_facts::{Call, Interface, Reply};
-use sg_name::Names;
+use sg_name::{Named, Names};
 use sg_needs::Tracker;
 
 /// Drops the names of the ids whose rows an answered call ends. It takes no memory.
@@ -58,23 +59,43 @@ fn forget_below(names: &mut Names, rows: &Tracker, gone: u64)
 {
     'places: for place in rows.place(gone)..rows.live() {
         let id = rows.id_at(place);
-        if id == gone || is_below(rows, gone, id) {
+        if loses_name(names, rows, gone, id) {
             names.drop_id(id);
         }
     }
 }
 
-// Whether an id is below another. Each parent is below its child, so the way up ends, at the latest where it is past the other.
-fn is_below(rows: &Tracker, above: u64, id: u64) -> bool
+// Whether an id has a name and ends with another, where the ids between that end have none any more.
+fn loses_name(names: &Names, rows: &Tracker, gone: u64, id: u64) -> bool
+    requires { AreUnnamed rows.now.rows names.now.known gone id }
+    ensures { result ≡ (is_named (named_at names.now.known id) && ends_below rows.now.rows gone id) }
+{
+    is_named(names.get(id)) && (id == gone || is_below(names, rows, gone, id))
+}
+
+// Whether an id is below another, where the ids between that are so have no name. Each parent is below its child, so the way up
+// ends: at the latest where it is past the other, and before that at an id with a name.
+fn is_below(names: &Names, rows: &Tracker, above: u64, id: u64) -> bool
+    requires { AreUnnamed rows.now.rows names.now.known above id }
     ensures { result ≡ is_ancestor rows.now.rows above id }
 {
     // Nothing is done: the proof takes what this call promises.
     let _tracked = rows.live();
     let mut parent = parent_of(rows, id);
     'up: while parent > above {
+        if is_named(names.get(parent)) {
+            return false;
+        }
         parent = parent_of(rows, parent);
     }
     parent != 0 && parent == above
+}
+
+// Whether something stands for an id.
+fn is_named(named: Named) -> bool
+    ensures { result ≡ is_named named }
+{
+    !matches!(named, Named::Unnamed)
 }
 
 // The parent of an id; 0 where there is no row.
