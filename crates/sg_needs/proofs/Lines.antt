@@ -1,17 +1,10 @@
 -- The ids that are needed, found along the line to an id.
-use Rattle.std.proofs.Common.{◌≡◌, ◌⊎◌, ℕ, zero, suc, ◌-◌, ◌<◌, ◌≤◌, Bool, true, false, cond, ◌||◌, List, [], ◌∷◌, map, filter, None, Some, is_some, Bor, inl, inr, refl, sym, ◌∙◌, ap, subst, arith, Result, Ok, Err, IfOk}
-use Rattle.std.specs.Prelude.{◌==◌, if◌then◌else◌, nat_lt}
+use Rattle.std.proofs.Common.{◌≡◌, ◌⊎◌, ℕ, zero, suc, ◌-◌, ◌<◌, ◌≤◌, Bool, true, false, cond, ◌||◌, List, [], ◌∷◌, map, filter, inl, inr, refl, sym, ◌∙◌, ap, arith}
+use Rattle.std.specs.Prelude.{◌==◌, nat_lt}
 use Rattle.std.specs.List.{list_any}
-use Rattle.std.specs.Option.{option_copied}
-use Rattle.std.specs.declared.option.Option.{Option}
 use Rattle.std.proofs.lemmas.Bool.Decides.{eqb_tells, nat_tests}
 use mathlib.Core.List.{reverse_aux}
-use Rattle.sg_facts.specs.sg_base.declared.call.Call.{Call}
 use Rattle.sg_facts.specs.declared.row.Row.{Row}
-use Rattle.sg_facts.specs.Facts.{fun_at}
-use Rattle.sg_facts.specs.Interface.{Declared}
-use Rattle.sg_facts.specs.Needs.{Needs, is_needed, is_wanted, wanted}
-use Rattle.sg_facts.specs.Object.{Object, path_of}
 use Rattle.sg_facts.specs.Sound.{AreRows}
 use Rattle.sg_facts.specs.Track.{ancestors, is_ancestor, is_live, nearest, parent_in, row_at}
 use Rattle.sg_track.specs.Tracked.{AreTracked, HasLowerParent}
@@ -232,50 +225,10 @@ line_needed given rows id are =
     ∙ sym (chosen (λ r. (r.id == id) || is_ancestor rows r.id id) (among (line_to rows id)) rows (in_line rows id))
 
 -- all rows pass where all are looked at
-pub all_pass : (rows : List Row) → filter (λ r. true) rows ≡ rows
+all_pass : (rows : List Row) → filter (λ r. true) rows ≡ rows
 all_pass [] = refl
 all_pass (r ∷ rows) = ap (λ l. r ∷ l) (all_pass rows)
 
--- an id is live exactly where its row is found
-found_live : (rows : List Row) (id : ℕ) → is_some (row_at rows id) ≡ is_live rows id
-found_live [] id = refl
-found_live (r ∷ rows) id = at (r.id == id) (found_live rows id)
-  where
-    at : (b : Bool) → is_some (row_at rows id) ≡ is_live rows id → is_some (cond b (Some r) (row_at rows id)) ≡ (b || is_live rows id)
-    at true rest = refl
-    at false rest = rest
-
-pub live_if_found : (rows : List Row) (id : ℕ) (found : Option (Bor Row)) → option_copied found ≡ row_at rows id → is_some found ≡ is_live rows id
-live_if_found rows id None is = ap is_some is ∙ found_live rows id
-live_if_found rows id (Some row) is = ap is_some is ∙ found_live rows id
-
--- so what is needed is told: of all rows, or along the line
-pub needed_of_all : {E : Type 0} (all : Bool) (rows : List Row) (id : ℕ) (told : Result (List ℕ) E) → all ≡ true → IfOk told (λ ids. ids ≡ map (λ r. r.id) rows) → IfOk told (λ ids. ids ≡ ids_in all rows id)
-needed_of_all all rows id (Err e) is told = tt
-needed_of_all all rows id (Ok ids) is told =
-    subst (λ b. ids ≡ ids_in b rows id) (sym is) (told ∙ ap (map (λ r. r.id)) (sym (all_pass rows)))
-
-pub needed_in_line : {E : Type 0} (all : Bool) (given : ℕ) (rows : List Row) (id : ℕ) (told : Result (List ℕ) E) → all ≡ false → AreTracked given rows
-    → IfOk told (λ ids. ids ≡ filter (is_live rows) (line_to rows id)) → IfOk told (λ ids. ids ≡ ids_in all rows id)
-needed_in_line all given rows id (Err e) is are told = tt
-needed_in_line all given rows id (Ok ids) is are told = subst (λ b. ids ≡ ids_in b rows id) (sym is) (told ∙ line_needed given rows id are)
-
--- ---- what is wanted for a call
-
-abbrev needs_with : List ℕ → Option (List ℕ) → Needs
-needs_with ids file = record { ids = ids; file = file }
-
--- the ids of all rows, where every row is rebuilt first, and else of those that the call needs
-wanted_ids : (i : Declared) (rows : List Row) (call : Call) → ids_in (i.eager || (fun_at i.facts.funs call.fun).all) rows call.desc ≡ map (λ r. r.id) (filter (is_wanted i rows call) rows)
-wanted_ids i rows call = at i.eager
-  where
-    at : (t : Bool) → ids_in (t || (fun_at i.facts.funs call.fun).all) rows call.desc ≡ map (λ r. r.id) (filter (λ r. t || is_needed i.facts rows call r) rows)
-    at true = refl
-    at false = refl
-
-pub wanted_of : (i : Declared) (o : Object) (call : Call) (rows : List Row) (all : Bool) (ids : List ℕ) (file : Option (List ℕ)) → o.rows ≡ rows → all ≡ (i.eager || (fun_at i.facts.funs call.fun).all)
-    → ids ≡ ids_in all rows call.desc → file ≡ (if (fun_at i.facts.funs call.fun).uses_file then Some (path_of rows call.desc) else None) → needs_with ids file ≡ wanted i o call
-wanted_of i o call rows all ids file same is found path =
-    ap (λ l. needs_with l file) (found ∙ ap (λ b. ids_in b rows call.desc) is ∙ wanted_ids i rows call)
-    ∙ ap (needs_with (map (λ r. r.id) (filter (is_wanted i rows call) rows))) path
-    ∙ sym (ap (λ r. wanted i (record o { rows = r }) call) same)
+-- the ids of all rows, where all are wanted
+pub wanted_all : (rows : List Row) (id : ℕ) → ids_in true rows id ≡ map (λ r. r.id) rows
+wanted_all rows id = ap (map (λ r. r.id)) (all_pass rows)

@@ -2,7 +2,7 @@
 //! the calls that rebuild a row.
 //!
 //! - `refusals`: the refusals that the rows alone give (`guard`)
-//! - `needs`: the rows and the file that a call needs (`Needs`, `needs_of`); `line`: an id with its ancestors, and its path
+//! - `needs`: what has to be there before a call (`wants_all`, `file_needed`); `line`: the path of an id
 //! - `replayed`: the calls of a row's walk (`walk_of_row`, `replayed_call`)
 #![tactic(auto)]
 
@@ -11,7 +11,7 @@ mod needs;
 mod refusals;
 mod replayed;
 
-pub use needs::{Needs, needs_of};
+pub use needs::{file_needed, wants_all};
 pub use refusals::guard;
 pub use replayed::{replayed_call, walk_of_row};
 pub use sg_track::Tracker;

@@ -69,7 +69,7 @@ live_first (r ∷ rows) (suc n) x live = at (r.id == x) live (live_first rows n 
     at true live rest = refl
     at false live rest = rest live
 
-live_above : (low high : ℕ) (rows : List Row) → AreRows HasLowerParent low high rows → (x : ℕ) → is_live rows x ≡ true → low < x
+pub live_above : (low high : ℕ) (rows : List Row) → AreRows HasLowerParent low high rows → (x : ℕ) → is_live rows x ≡ true → low < x
 live_above low high [] are x live = absurd (cc live)
 live_above low high (r ∷ rows) are x live = at (r.id == x) refl live (live_above r.id high rows are.3 x)
   where

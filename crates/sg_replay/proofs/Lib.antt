@@ -8,6 +8,7 @@ pub mod Serving
 pub mod Stepped
 pub mod Telling
 pub mod Unnamed
+pub mod Upwards
 pub use Rattle.sg_boot.proofs as sg_boot
 pub use Rattle.sg_name.proofs as sg_name
 pub use Rattle.sg_needs.proofs.sg_track

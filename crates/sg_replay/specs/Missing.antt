@@ -23,8 +23,6 @@ next_number Unnamed = 1
 next_number (Partial real done) = done + 1
 next_number (Live real) = 1
 
--- the next call of the walk of the first of these ids that isn't whole
-
 -- the next call of the walk of an id; None where there is no id
 abbrev pub todo_of : List (ℕ × Standing) → Option ℕ → Option Todo
 todo_of known None = None

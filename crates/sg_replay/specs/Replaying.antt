@@ -16,7 +16,6 @@ use Rattle.sg_facts.specs.Facts.{Facts}
 use Rattle.sg_facts.specs.Invoke.{Points, loaded}
 use Rattle.sg_facts.specs.Kinds.{MayAsk}
 use Rattle.sg_facts.specs.Legal.{Table}
-use Rattle.sg_facts.specs.Needs.{Needs}
 use Rattle.sg_facts.specs.Object.{Object}
 use Rattle.sg_facts.specs.Track.{row_at}
 use Rattle.sg_boot.specs.sg_hist.Reading.{walk_in}
@@ -126,11 +125,12 @@ LoadsOne facts held old client key points (Err error) new later = IsUnchanged ol
 
 -- ---- one step
 
--- what is to be done next may be done: it is what is missing, the service is up, a row may be rebuilt by the next call of its walk,
--- and a file is loaded into a service that has files
-pub record MayAdvance (facts : Facts) (ask : Table) (e : Engined) (needs : Needs) (todo : Todo) : Type 0 where
+-- what is to be done next may be done: it is what is missing of some rows and the needed file, the service is up, a row may be
+-- rebuilt by the next call of its walk, and a file is loaded into a service that has files
+pub record MayAdvance (facts : Facts) (ask : Table) (e : Engined) (file : Option (List ℕ)) (todo : Todo) : Type 0 where
   pub held : Object
   pub up : e.cell.running ≡ Some held
-  pub due : missing e needs ≡ Some todo
+  pub ids : List ℕ
+  pub due : missing e (record { ids = ids; file = file }) ≡ Some todo
   pub walk : (id k : ℕ) → todo ≡ ToWalk id k → (shown : Call) × IsReplayable facts ask e held id k shown
   pub load : todo ≡ Load → facts.resc_data ≡ true

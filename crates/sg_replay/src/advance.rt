@@ -14,7 +14,7 @@ use crate::names::real_call;
 use crate::todo::Todo;
 use sg_facts::{Call, NoMemory, Outcome, Path, Reply, Row, Service, Stops, Tables, Tag};
 use sg_name::Named;
-use sg_needs::{Needs, replayed_call, walk_of_row};
+use sg_needs::{replayed_call, walk_of_row};
 use std::alloc::Global;
 
 /// What one step has done for what a call needs.
@@ -29,24 +29,24 @@ pub enum Advanced {
 }
 
 impl<S: Service> Engine<S> {
-    /// Does what is to be done next for a call with these needs, for a client: replays the next call of a row's walk, or loads
-    /// the needed file. Its room is taken first, and after `NoMemory` nothing changed but room, of which the cell lost none.
+    /// Does what is to be done next for a call that needs this file, for a client: replays the next call of a row's walk, or loads
+    /// the file. Its room is taken first, and after `NoMemory` nothing changed but room, of which the cell lost none.
     /// `Struck` comes where the service stopped within the call. What stubs and storage keep stays.
     pub fn advance<T: Stops>(
         &mut self,
         alloc: Global,
         stops: &mut T,
         client: u8,
-        needs: &Needs,
+        file: &Option<Path>,
         todo: Todo,
     ) -> Result<Advanced, NoMemory>
-        requires { MayAdvance S.facts S.ask self.old needs.now todo }
+        requires { MayAdvance S.facts S.ask self.old file.now todo }
         ensures walk { (held : Object) (id k : ℕ) (shown : IsCall) → self.old.cell.running ≡ Some held → todo ≡ Todo.Walk id k
             → replay_of S.facts self.old.tables.walks (row_at self.old.tracked.rows id) k ≡ Some shown
             → ReplaysOne S.facts S.ask S.parts held self.old id k client shown
             (record { asked = T.asked stops.old; struck = T.struck stops.old }) result
             self.new (record { asked = T.asked stops.new; struck = T.struck stops.new }) × KeepsPresent self.old self.new }
-        ensures load { (held : Object) (key : List ℕ) → self.old.cell.running ≡ Some held → todo ≡ Todo.Load → needs.now.file ≡ Some key
+        ensures load { (held : Object) (key : List ℕ) → self.old.cell.running ≡ Some held → todo ≡ Todo.Load → file.now ≡ Some key
             → LoadsOne S.facts held self.old client key
             (record { asked = T.asked stops.old; struck = T.struck stops.old }) result
             self.new (record { asked = T.asked stops.new; struck = T.struck stops.new }) }
@@ -60,7 +60,7 @@ impl<S: Service> Engine<S> {
     {
         match todo {
             Todo::Walk { id, k } => self.replay(alloc, stops, client, id, k),
-            Todo::Load => self.load(alloc, client, stops.asked(), &needs.file),
+            Todo::Load => self.load(alloc, client, stops.asked(), file),
         }
     }
 

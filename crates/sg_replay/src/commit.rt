@@ -15,20 +15,24 @@ use crate::ended::forget_ended;
 use crate::engine::Engine;
 use crate::present::Present;
 use sg_facts::{Call, NoMemory, Patch, Path, Reply, Service, Tables};
-use sg_needs::Needs;
 use sg_store::Storage;
 use std::alloc::Global;
 
 impl<S: Service> Engine<S> {
-    /// Takes the memory for one boot, or for one `serve` and `commit` of a call with these needs. What was done, what is stored,
+    /// Takes the memory for one boot, or for one `serve` and `commit` of a call that needs this file. What was done, what is stored,
     /// the rows, the names, and which files are present stay, the parts agree, and the cell loses no room, whatever the answer.
-    pub fn reserve(&mut self, alloc: Global, call: &Call, needs: &Needs) -> Result<(), NoMemory>
+    pub fn reserve(
+        &mut self,
+        alloc: Global,
+        call: &Call,
+        file: &Option<Path>,
+    ) -> Result<(), NoMemory>
         ensures cell_room { OnOk result (1 ≤ self.new.cell.room) }
         ensures row_room { OnOk result (1 ≤ self.new.tracked.spare) }
         ensures name_room { OnOk result (1 ≤ self.new.names.spare) }
         ensures stored_room { OnOk result (1 ≤ self.new.stored.spare) }
-        ensures file_room { OnOk result (IfSome needs.now.file (HasRoom self.new.stored)) }
-        ensures mark { OnOk result (IfSome needs.now.file (HasMark self.new.present)) }
+        ensures file_room { OnOk result (IfSome file.now (HasRoom self.new.stored)) }
+        ensures mark { OnOk result (IfSome file.now (HasMark self.new.present)) }
         ensures agrees { IsEngine S.facts self.new }
         ensures cell_kept { self.old.cell.room ≤ self.new.cell.room }
         ensures rooms { (key : List ℕ) → HasRoom self.old.stored key → HasRoom self.new.stored key }
@@ -49,8 +53,8 @@ impl<S: Service> Engine<S> {
         self.cell.reserve(alloc)?;
         self.rows.reserve(alloc)?;
         self.names.reserve()?;
-        reserve_stored(&mut self.storage, alloc, call.client, &needs.file)?;
-        prepare_file(&mut self.present, alloc, &needs.file)
+        reserve_stored(&mut self.storage, alloc, call.client, file)?;
+        prepare_file(&mut self.present, alloc, file)
     }
 
     /// Commits an answered call. The stubs' rows follow it, and the ids whose rows it ended lose their names. A

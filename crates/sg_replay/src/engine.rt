@@ -13,11 +13,11 @@ ghost use Rattle.sg_replay.specs.Missing.{missing, missing_file};
 ghost use Rattle.sg_replay.specs.Present.{is_present};
 
 use crate::present::Present;
-use crate::todo::{Todo, missing_row};
+use crate::todo::{Todo, next_walk};
 use sg_boot::Cell;
 use sg_facts::{Call, Code, Interface, NoMemory, Path, Reply, Row, Service, Tables, Trace};
 use sg_name::Names;
-use sg_needs::{Needs, Tracker, guard, needs_of};
+use sg_needs::{Tracker, file_needed, guard};
 use sg_store::Storage;
 use std::alloc::Global;
 use std::marker::Model;
@@ -131,21 +131,25 @@ impl<S: Service> Engine<S> {
         guard(self.tables.interface(), &self.rows, call)
     }
 
-    /// The rows and the file that have to be there before a call is served.
-    pub fn needs(&self, alloc: Global, call: &Call) -> Result<Needs, NoMemory>
-        ensures { IfOk result (λ needed. (o : Object) → o.rows ≡ self.now.tracked.rows → needed ≡ wanted self.now.tables.iface o call.now) }
+    /// The path of the file that has to be there before a call is served; None where its function uses none, which takes no memory.
+    pub fn file_needed(&self, alloc: Global, call: &Call) -> Result<Option<Path>, NoMemory>
+        ensures { IfOk result (λ file. (o : Object) → o.rows ≡ self.now.tracked.rows → file ≡ (wanted self.now.tables.iface o call.now).file) }
     {
-        needs_of(alloc, self.tables.interface(), &self.rows, call)
+        file_needed(alloc, self.tables.interface(), &self.rows, call)
     }
 
-    /// What is still to be done before a call with these needs may be served: the next call of the walk of the first needed row
-    /// that isn't whole, else the load of the needed file, where that has bytes and isn't present; None where nothing is.
-    pub fn missing(&self, needs: &Needs) -> Option<Todo>
-        ensures { result ≡ missing self.now needs.now }
+    /// What is still to be done before a call that needs this file may be served: the next call of the walk of the first wanted
+    /// row that isn't whole, else the load of the file, where that has bytes and isn't present; None where nothing is. It takes no
+    /// memory, and nothing that contracts see changes.
+    pub fn missing(&mut self, call: &Call, file: &Option<Path>) -> Option<Todo>
+        ensures todo { (o : Object) → o.rows ≡ self.old.tracked.rows → file.now ≡ (wanted self.old.tables.iface o call.now).file
+            → result ≡ missing self.old (wanted self.old.tables.iface o call.now) }
+        ensures same { self.new ≡ self.old }
     {
-        match missing_row(&self.names, needs.ids.as_slice()) {
+        let hole = self.hole_for(call);
+        match next_walk(&self.names, hole) {
             Some(todo) => Some(todo),
-            None => self.missing_file(&needs.file),
+            None => self.missing_file(file),
         }
     }
 

@@ -1,27 +1,46 @@
-// The first row that isn't whole.
-ghost use Rattle.std.specs.Prelude.{◌≡◌, ◌<◌, ◌≤◌, ◌+◌, ◌^◌, ℕ, true, find, map, not, MatchOption};
+// The first row that is wanted and isn't whole.
+ghost use Rattle.std.specs.Prelude.{◌≡◌, ◌<◌, ◌≤◌, ◌||◌, ℕ, false, true, Some, find, map, not, MatchOption, if◌then◌else◌};
+ghost use Rattle.sg_facts.specs.Facts.{fun_at};
 ghost use Rattle.sg_facts.specs.Track.{is_live};
 ghost use Rattle.sg_name.specs.Names.{named_at};
+ghost use Rattle.sg_needs.specs.Inside.Lines.{ids_in};
 ghost use Rattle.sg_replay.specs.Missing.{is_whole};
 
 use crate::engine::Engine;
 use crate::todo::is_whole;
-use sg_facts::Service;
+use sg_facts::{Call, Service};
 use sg_name::Names;
-use sg_needs::Tracker;
+use sg_needs::{Tracker, wants_all};
 
 impl<S: Service> Engine<S> {
-    /// The id of the first live row that isn't whole; None where all are. Rows that were found whole aren't looked at again before
-    /// the next boot.
-    pub fn first_hole(&mut self) -> Option<u64>
-        requires { self.old.stored.given + 1 < 2 ^ 64 }
+    /// The first id that is wanted for a call and isn't whole; None where there is none. Where all live rows are wanted, those that
+    /// were found whole aren't looked at again before the next boot; else its ancestors are looked at alone.
+    pub(crate) fn hole_for(&mut self, call: &Call) -> Option<u64>
+        ensures hole { let i = self.old.tables.iface in let all = i.eager || (fun_at i.facts.funs call.now.fun).all in
+            result ≡ find (λ id. not (is_whole (named_at self.old.names.known id))) (ids_in all self.old.tracked.rows call.now.desc) }
+        ensures same { self.new ≡ self.old }
+    {
+        if wants_all(self.tables.interface(), call.fun) {
+            self.first_hole()
+        } else {
+            hole_in_line(&self.rows, &self.names, call.desc)
+        }
+    }
+
+    // The id of the first live row that isn't whole; None where all are.
+    fn first_hole(&mut self) -> Option<u64>
         ensures hole { result ≡ find (λ id. not (is_whole (named_at self.old.names.known id))) (map (λ r. r.id) self.old.tracked.rows) }
         ensures same { self.new ≡ self.old }
     {
+        // Nothing is done: the proof takes what this call promises.
+        let _tracked = self.rows.live();
+        if self.whole_below > self.storage.given() {
+            return None;
+        }
         let hole = hole_from(&self.rows, &self.names, self.whole_below);
         self.whole_below = match hole {
             Some(id) => id,
-            None => self.storage.next_id(),
+            None => self.storage.given().saturating_add(1),
         };
         hole
     }
@@ -41,6 +60,33 @@ fn hole_from(rows: &Tracker, names: &Names, below: u64) -> Option<u64>
         }
     }
     None
+}
+
+// The first id of a live row, from the root of an id to it, that isn't whole; None where all are. The way goes up from the id, so
+// the last one that is found is the first.
+fn hole_in_line(rows: &Tracker, names: &Names, id: u64) -> Option<u64>
+    ensures { result ≡ find (λ id. not (is_whole (named_at names.now.known id))) (ids_in false rows.now.rows id) }
+{
+    // Nothing is done: the proof takes what this call promises.
+    let _tracked = rows.live();
+    let mut hole = None;
+    let mut at = id;
+    'up: while let Some(row) = rows.row(at) {
+        hole = hole_at(names, at, hole);
+        at = row.parent;
+    }
+    hole
+}
+
+// An id where it isn't whole, else what was found below it.
+fn hole_at(names: &Names, id: u64, below: Option<u64>) -> Option<u64>
+    ensures { result ≡ (if is_whole (named_at names.now.known id) then below else Some id) }
+{
+    if is_whole(names.get(id)) {
+        below
+    } else {
+        Some(id)
+    }
 }
 
 /// The lesser of two ids.

@@ -2,7 +2,7 @@
 //!
 //! - `engine`: the parts, and what each of them tells (`Engine`)
 //! - `todo`: what is still to be done before a call may be served (`Todo`)
-//! - `hole`: the first row that isn't whole
+//! - `hole`: the first row that is wanted and isn't whole
 //! - `advance`: one step of that: a call of a walk, or the load of a file (`Advanced`)
 //! - `serve`: a call that needs nothing any more
 //! - `commit`: memory that is taken ahead for a call, and the commit of its answer; `ended`: the names of ended rows
@@ -23,5 +23,4 @@ mod todo;
 pub use advance::Advanced;
 pub use engine::Engine;
 pub use sg_boot::History;
-pub use sg_needs::Needs;
 pub use todo::Todo;

@@ -4,7 +4,7 @@ ghost use Rattle.sg_name.specs.Names.{named_at};
 ghost use Rattle.sg_name.specs.declared.named.Named.TheVariants.{Partial};
 ghost use Rattle.sg_facts.specs.Walks.{most_calls};
 ghost use Rattle.sg_replay.specs.Engined.{AreInWalks};
-ghost use Rattle.sg_replay.specs.Missing.{is_whole, missing_row, next_number};
+ghost use Rattle.sg_replay.specs.Missing.{is_whole, next_number, todo_of};
 
 use sg_name::{Named, Names};
 
@@ -22,24 +22,17 @@ pub enum Todo {
     Load,
 }
 
-/// The next call of the walk of the first of the ids that isn't whole; None where all are whole.
-pub(crate) fn missing_row(names: &Names, ids: &[u64]) -> Option<Todo>
+/// The next call of the walk of an id; None where there is no id.
+pub(crate) fn next_walk(names: &Names, id: Option<u64>) -> Option<Todo>
     requires { AreInWalks names.now.known }
-    ensures { result ≡ missing_row names.now.known ids.now }
+    ensures { result ≡ todo_of names.now.known id }
 {
-    match ids {
-        [] => None,
-        [id, rest @ ..] => {
-            let named = names.get(*id);
-            if is_whole(named) {
-                missing_row(names, rest)
-            } else {
-                Some(Todo::Walk {
-                    id: *id,
-                    k: next_number(named),
-                })
-            }
-        }
+    match id {
+        Some(id) => Some(Todo::Walk {
+            id,
+            k: next_number(names.get(id)),
+        }),
+        None => None,
     }
 }
 

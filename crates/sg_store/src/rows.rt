@@ -56,6 +56,13 @@ impl Rows {
         self.given + 1
     }
 
+    /// The number of ids given.
+    pub(crate) fn given(&self) -> u64
+        ensures { result ≡ self.now.given }
+    {
+        self.given
+    }
+
     /// Takes the memory for one more row. Rows and ids stay, whatever the answer.
     pub(crate) fn reserve(&mut self, alloc: Global) -> Result<(), NoMemory>
         ensures ok { OnOk result (1 ≤ self.new.spare) }

@@ -77,6 +77,13 @@ impl Storage {
         self.rows.next_id()
     }
 
+    /// The number of ids given, which is the last of them.
+    pub fn given(&self) -> u64
+        ensures { result ≡ self.now.given }
+    {
+        self.rows.given()
+    }
+
     /// The bytes of a file from a place up to another, lent from the buffer; None exactly where `from` is above `to`, or `to`
     /// past the file's length. A file that was never written has length 0.
     pub fn lend(&self, key: &Path, from: u32, to: u32) -> Option<&[u8]>
