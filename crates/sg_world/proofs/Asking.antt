@@ -55,15 +55,15 @@ missing_same e new needs same =
         ∙ ap (λ b. if is_empty (bytes_of e.stored key) || b then None else Some Load) (same.present key)
 
 -- the service of parts that stand in order may be asked a client's call, by an engine that shows the same and has taken its memory
-pub record MayBeServed {S T : Type 0} (facts : Facts) (ask : Table) (sound : Object → Type 0) (parts : ℕ → ℕ) (test : ℕ → List ℕ → List ℕ → Type 0) (asked : T → ℕ) (struck plan : T → List ℕ) (x : Inner S T) (client : ℕ) (needs : Needs)
+pub record MayBeServed {S T : Type 0} (facts : Facts) (ask : Table) (sound : Object → Type 0) (parts : ℕ → ℕ) (test : ℕ → List ℕ → List ℕ → Type 0) (asked : T → ℕ) (struck plan : T → List ℕ) (x : Inner S T) (client : ℕ) (file : Option (List ℕ))
     (e : Engined) : Type 0 where
   pub order : IsInOrder facts ask sound parts test asked struck plan x
   pub first : 1 ≤ client
   pub last : client ≤ length x.clients
   pub let_in : PassesGuard (setting_of ask sound parts x.engine.tables) (view_in x) client
   pub up : IsSome x.engine.cell.running
-  pub needs_are : needs ≡ needs_in (setting_of ask sound parts x.engine.tables) (view_in x) (seat_in x.clients client).call
-  pub whole : missing x.engine needs ≡ None
+  pub file_is : file ≡ (needs_in (setting_of ask sound parts x.engine.tables) (view_in x) (seat_in x.clients client).call).file
+  pub whole : missing x.engine (needs_in (setting_of ask sound parts x.engine.tables) (view_in x) (seat_in x.clients client).call) ≡ None
   pub same : ShowsSame x.engine e
   pub tables : e.tables ≡ x.engine.tables
   pub places : e.stored.clients ≡ x.engine.stored.clients
@@ -77,9 +77,9 @@ pub record HasAsked {T : Type 0} (test : ℕ → List ℕ → List ℕ → Type 
   pub plan_kept : plan stops ≡ plan before
   pub tested : test (asked stops) (struck stops) (plan stops)
 
-module _ {S T : Type 0} {facts : Facts} {ask : Table} {sound : Object → Type 0} {parts : ℕ → ℕ} {test : ℕ → List ℕ → List ℕ → Type 0} {asked : T → ℕ} {struck plan : T → List ℕ} {x : Inner S T} {client : ℕ} {needs : Needs} {e : Engined}
-    (m : MayBeServed facts ask sound parts test asked struck plan x client needs e) where
-  open m use {order, first, last, let_in, up, needs_are, whole, same, tables, places}
+module _ {S T : Type 0} {facts : Facts} {ask : Table} {sound : Object → Type 0} {parts : ℕ → ℕ} {test : ℕ → List ℕ → List ℕ → Type 0} {asked : T → ℕ} {struck plan : T → List ℕ} {x : Inner S T} {client : ℕ} {file : Option (List ℕ)} {e : Engined}
+    (m : MayBeServed facts ask sound parts test asked struck plan x client file e) where
+  open m use {order, first, last, let_in, up, file_is, whole, same, tables, places}
 
   abbrev z : Setting
   z = setting_of ask sound parts x.engine.tables
@@ -104,7 +104,7 @@ module _ {S T : Type 0} {facts : Facts} {ask : Table} {sound : Object → Type 0
   passes = record { phase = let_in.phase; passes = let_in.passes }
 
   pub all_whole : missing e (needs_in (setting_of ask sound parts x.engine.tables) (view_with e x) (seat_in x.clients client).call) ≡ None
-  all_whole = ap (missing e) (sym needs_are) ∙ missing_same x.engine e needs same ∙ whole
+  all_whole = missing_same x.engine e (needs_in (setting_of ask sound parts x.engine.tables) (view_in x) (seat_in x.clients client).call) same ∙ whole
 
   pub walks_are : e.tables.walks ≡ x.engine.tables.walks
   walks_are = ap (λ t. t.walks) tables
@@ -231,7 +231,7 @@ module _ {S T : Type 0} {facts : Facts} {ask : Table} {sound : Object → Type 0
 
     -- the service replied
     module _ (reply : Reply) (patch : Option Patch) (engine : IsEngine facts e) (fits : FitsRoom held (Replied reply patch)) (row_room : 1 ≤ e.tracked.spare) (stored_room : 1 ≤ e.stored.spare)
-        (file_room : IfSome needs.file (HasRoom e.stored)) (mark : IfSome needs.file (HasMark e.present))
+        (file_room : IfSome file (HasRoom e.stored)) (mark : IfSome file (HasMark e.present))
         (s : ServesOne x.engine.tables.iface.facts ask parts held e (seat_in x.clients client).call (record { asked = asked x.stops; struck = struck x.stops }) (Replied reply patch) new (record { asked = asked stops; struck = struck stops })) where
       abbrev pub has_served : HasServed (setting_of ask sound parts x.engine.tables) test asked struck plan (record x { engine = new; stops = stops }) client reply patch
       has_served = record {
@@ -251,8 +251,8 @@ module _ {S T : Type 0} {facts : Facts} {ask : Table} {sound : Object → Type 0
         rooms = record {
           row = row_room;
           stored = stored_room;
-          room = subst (λ n. IfSome n.file (HasRoom e.stored)) needs_are file_room;
-          mark = subst (λ n. IfSome n.file (HasMark e.present)) needs_are mark;
+          room = subst (λ f. IfSome f (HasRoom e.stored)) file_is file_room;
+          mark = subst (λ f. IfSome f (HasMark e.present)) file_is mark;
         };
         tables_same = tables_kept;
         stored_same = stored_kept;

@@ -1,5 +1,6 @@
 -- One step more of what a call needs, as the engine does it: it may be done, the world keeps what it keeps after it, and it is the line of the step.
 use Rattle.std.proofs.Common.{List, Some, [], ap, arith, if◌then◌else◌, inl, inr, length, refl, subst, sym, true, ℕ, ◌++◌, ◌+◌, ◌-◌, ◌<◌, ◌∙◌, ◌∷◌, ◌≡◌, ◌≤◌}
+use Rattle.std.specs.declared.option.Option.{Option}
 use Rattle.std.specs.declared.result.Result.{Result}
 use Rattle.std.specs.declared.result.Result.TheVariants.{Err, Ok as Done}
 use Rattle.std.specs.Prelude.{OnErr}
@@ -82,10 +83,10 @@ on_err_map (Done x) P Q turn on = tt
 on_err_map (Err e) P Q turn on = turn on
 
 -- as its contract says
-pub record Advances (facts : Facts) (ask : Table) (parts : ℕ → ℕ) (e : Engined) (client : ℕ) (needs : Needs) (todo : Todo) (start : Points) (result : Result Advanced NoMemory) (new : Engined) (later : Points) : Type 0 where
+pub record Advances (facts : Facts) (ask : Table) (parts : ℕ → ℕ) (e : Engined) (client : ℕ) (file : Option (List ℕ)) (todo : Todo) (start : Points) (result : Result Advanced NoMemory) (new : Engined) (later : Points) : Type 0 where
   pub walk : (held : Object) (id k : ℕ) (shown : Call) → e.cell.running ≡ Some held → todo ≡ ToWalk id k → replay_of facts e.tables.walks (row_at e.tracked.rows id) k ≡ Some shown
       → ReplaysOne facts ask parts held e id k client shown start result new later × KeepsPresent e new
-  pub load : (held : Object) (key : List ℕ) → e.cell.running ≡ Some held → todo ≡ ToLoad → needs.file ≡ Some key → LoadsOne facts held e client key start result new later
+  pub load : (held : Object) (key : List ℕ) → e.cell.running ≡ Some held → todo ≡ ToLoad → file ≡ Some key → LoadsOne facts held e client key start result new later
   pub stored : new.stored ≡ e.stored
   pub tracked : new.tracked ≡ e.tracked
 
@@ -160,12 +161,12 @@ module _ (z : Setting) (e : Engined) (w : WorldView) (rooms : Rooms) (is : IsWor
   run_now = run ∙ ap (λ x. x.run) spelt.is
 
   -- what is missing may be done
-  pub may : (todo : Todo) → missing e needed ≡ Some todo → MayAdvance z.iface.facts z.ask e needed todo
+  pub may : (todo : Todo) → missing e needed ≡ Some todo → MayAdvance z.iface.facts z.ask e needed.file todo
   may todo due = may_advance z is.set w spelt.first spelt.others v e keeps_now engine_is (seat_of w client).call let_in_now todo (running ∙ up) due
 
   -- what was done
   pub turn : (todo : Todo) → missing e needed ≡ Some todo → (start : Points) (result : Result Advanced NoMemory) (new : Engined) (later : Points)
-      → Advances z.iface.facts z.ask z.parts e (seat_of w client).call.client needed todo start result new later → IsTurn z e needed (seat_of w client).call.client v start result new later
+      → Advances z.iface.facts z.ask z.parts e (seat_of w client).call.client needed.file todo start result new later → IsTurn z e needed (seat_of w client).call.client v start result new later
   turn todo due start result new later a = by todo refl
     where
       by_walk : (id k : ℕ) → missing e needed ≡ Some (ToWalk id k) → (shown : Call) → replay_of z.iface.facts e.tables.walks (row_at e.tracked.rows id) k ≡ Some shown → (r : Result Advanced NoMemory)
@@ -194,18 +195,18 @@ module _ (z : Setting) (e : Engined) (w : WorldView) (rooms : Rooms) (is : IsWor
           let file = left_to_load z is.set (standing w spelt.first spelt.others (Some v)) e engine_is (seat_of w client).call now in
           by_load now file.0 file.1.file result (a.load v file.0 (running ∙ up) todo_is file.1.file)
 
-  -- so by the engine's contract, which speaks of the service, of the client and of the needs that it was given
-  module _ (facts : Facts) (same : z.iface.facts ≡ facts) (needs : Needs) (needs_are : needs ≡ needed) (todo : Todo) (due : missing e needs ≡ Some todo) where
-    pub may_of : MayAdvance facts z.ask e needs todo
-    may_of = subst (λ f. MayAdvance f z.ask e needs todo) same (subst (λ n. MayAdvance z.iface.facts z.ask e n todo) (sym needs_are) (may todo (ap (missing e) (sym needs_are) ∙ due)))
+  -- so by the engine's contract, which speaks of the service, of the client and of the file that it was given
+  module _ (facts : Facts) (same : z.iface.facts ≡ facts) (file : Option (List ℕ)) (file_is : file ≡ needed.file) (todo : Todo) (due : missing e needed ≡ Some todo) where
+    pub may_of : MayAdvance facts z.ask e file todo
+    may_of = subst (λ f. MayAdvance f z.ask e file todo) same (subst (λ f. MayAdvance z.iface.facts z.ask e f todo) (sym file_is) (may todo due))
 
-    pub turn_of : (start : Points) (result : Result Advanced NoMemory) (new : Engined) (later : Points) → Advances facts z.ask z.parts e client needs todo start result new later
+    pub turn_of : (start : Points) (result : Result Advanced NoMemory) (new : Engined) (later : Points) → Advances facts z.ask z.parts e client file todo start result new later
         → IsTurn z e needed (seat_of w client).call.client v start result new later
     turn_of start result new later a =
-        turn todo (ap (missing e) (sym needs_are) ∙ due) start result new later
-        (subst (λ f. Advances f z.ask z.parts e (seat_of w client).call.client needed todo start result new later) (sym same)
-        (subst (λ n. Advances facts z.ask z.parts e n needed todo start result new later) (sym own)
-        (subst (λ n. Advances facts z.ask z.parts e client n todo start result new later) needs_are a)))
+        turn todo due start result new later
+        (subst (λ f. Advances f z.ask z.parts e (seat_of w client).call.client needed.file todo start result new later) (sym same)
+        (subst (λ n. Advances facts z.ask z.parts e n needed.file todo start result new later) (sym own)
+        (subst (λ f. Advances facts z.ask z.parts e client f todo start result new later) file_is a)))
 
   module _ (start : Points) (new : Engined) (later : Points) where
     -- the world keeps what it keeps

@@ -11,8 +11,8 @@ ghost use Rattle.sg_world.specs.Worlded.{setting_of};
 
 use crate::did::Did;
 use crate::inner::Inner;
-use sg_facts::{NoMemory, Point, Service, Stops};
-use sg_replay::{Advanced, Needs, Todo};
+use sg_facts::{NoMemory, Path, Point, Service, Stops};
+use sg_replay::{Advanced, Todo};
 use std::alloc::Global;
 
 impl<S: Service, T: Stops> Inner<S, T> {
@@ -36,7 +36,12 @@ impl<S: Service, T: Stops> Inner<S, T> {
 
     /// Boots the service that failed afresh, for a client whose call needs this; whoever waits is asked again. After `NoMemory` the
     /// world is as before.
-    pub(crate) fn boot(&mut self, alloc: Global, client: u8, needs: &Needs) -> Result<(), NoMemory>
+    pub(crate) fn boot(
+        &mut self,
+        alloc: Global,
+        client: u8,
+        file: &Option<Path>,
+    ) -> Result<(), NoMemory>
         requires order { IsInOrder S.facts S.ask S.sound S.parts T.test T.asked T.struck T.plan self.old }
         requires client { IsClient (length self.old.clients) client }
         requires failed { self.old.engine.cell.running ≡ None }
@@ -46,27 +51,27 @@ impl<S: Service, T: Stops> Inner<S, T> {
         ensures rest { KeepsRest T.plan self.old self.new }
     {
         self.engine
-            .reserve(alloc, self.clients.call(client), needs)?;
+            .reserve(alloc, self.clients.call(client), file)?;
         self.engine.boot(alloc);
         self.clients.wake_all();
         Ok(())
     }
 
-    /// Does what is to be done next for a client's call with these needs, where the point before was asked already. After `NoMemory`
+    /// Does what is to be done next for a client's call that needs this file, where the point before was asked already. After `NoMemory`
     /// the world is as before.
     pub(crate) fn advance(
         &mut self,
         alloc: Global,
         client: u8,
-        needs: &Needs,
+        file: &Option<Path>,
         todo: Todo,
     ) -> Result<Did, NoMemory>
         requires order { IsInOrder S.facts S.ask S.sound S.parts T.test T.asked T.struck T.plan self.old }
         requires client { IsClient (length self.old.clients) client }
         requires let_in { PassesGuard (setting_of S.ask S.sound S.parts self.old.engine.tables) (view_in self.old) client }
         requires up { IsSome self.old.engine.cell.running }
-        requires needs { needs.now ≡ needs_in (setting_of S.ask S.sound S.parts self.old.engine.tables) (view_in self.old) (seat_in self.old.clients client).call }
-        requires due { missing self.old.engine needs.now ≡ Some todo }
+        requires file { file.now ≡ (needs_in (setting_of S.ask S.sound S.parts self.old.engine.tables) (view_in self.old) (seat_in self.old.clients client).call).file }
+        requires due { missing self.old.engine (needs_in (setting_of S.ask S.sound S.parts self.old.engine.tables) (view_in self.old) (seat_in self.old.clients client).call) ≡ Some todo }
         ensures order { IsInOrder S.facts S.ask S.sound S.parts T.test T.asked T.struck T.plan self.new }
         ensures did { (asked : ℕ) → (view_in self.old).run.points ≡ asked_after asked 1
             → IfOk result (λ did. Steps (setting_of S.ask S.sound S.parts self.old.engine.tables) (with_points (view_in self.old) asked) client did (view_in self.new)) }
@@ -75,7 +80,7 @@ impl<S: Service, T: Stops> Inner<S, T> {
     {
         match self
             .engine
-            .advance(alloc, &mut self.stops, client, needs, todo)?
+            .advance(alloc, &mut self.stops, client, file, todo)?
         {
             Advanced::Replayed => Ok(Did::Replayed),
             Advanced::Loaded => Ok(Did::Loaded),

@@ -17,25 +17,24 @@ use crate::did::Did;
 use crate::inner::Inner;
 use crate::waking::wake;
 use sg_clients::{Mark, MarkKind};
-use sg_facts::{NoMemory, Outcome, Patch, Point, Reply, Service, Stops};
-use sg_replay::Needs;
+use sg_facts::{NoMemory, Outcome, Patch, Path, Point, Reply, Service, Stops};
 use std::alloc::Global;
 
 impl<S: Service, T: Stops> Inner<S, T> {
-    /// Serves a client's call that has all that it needs, where the point before was asked already. After `NoMemory` the world is as
+    /// Serves a client's call that has all that it needs, with this file, where the point before was asked already. After `NoMemory` the world is as
     /// before.
     pub(crate) fn serve(
         &mut self,
         alloc: Global,
         client: u8,
-        needs: &Needs,
+        file: &Option<Path>,
     ) -> Result<Did, NoMemory>
         requires order { IsInOrder S.facts S.ask S.sound S.parts T.test T.asked T.struck T.plan self.old }
         requires client { IsClient (length self.old.clients) client }
         requires let_in { PassesGuard (setting_of S.ask S.sound S.parts self.old.engine.tables) (view_in self.old) client }
         requires up { IsSome self.old.engine.cell.running }
-        requires needs { needs.now ≡ needs_in (setting_of S.ask S.sound S.parts self.old.engine.tables) (view_in self.old) (seat_in self.old.clients client).call }
-        requires whole { missing self.old.engine needs.now ≡ None }
+        requires file { file.now ≡ (needs_in (setting_of S.ask S.sound S.parts self.old.engine.tables) (view_in self.old) (seat_in self.old.clients client).call).file }
+        requires whole { missing self.old.engine (needs_in (setting_of S.ask S.sound S.parts self.old.engine.tables) (view_in self.old) (seat_in self.old.clients client).call) ≡ None }
         ensures order { IsInOrder S.facts S.ask S.sound S.parts T.test T.asked T.struck T.plan self.new }
         ensures did { (asked : ℕ) → (view_in self.old).run.points ≡ asked_after asked 1
             → IfOk result (λ did. Steps (setting_of S.ask S.sound S.parts self.old.engine.tables) (with_points (view_in self.old) asked) client did (view_in self.new)) }
@@ -43,7 +42,7 @@ impl<S: Service, T: Stops> Inner<S, T> {
         ensures rest { KeepsRest T.plan self.old self.new }
     {
         self.engine
-            .reserve(alloc, self.clients.call(client), needs)?;
+            .reserve(alloc, self.clients.call(client), file)?;
         match self
             .engine
             .serve(alloc, &mut self.stops, self.clients.call(client))

@@ -13,8 +13,7 @@ ghost use Rattle.sg_world.specs.Worlded.{setting_of};
 use crate::did::Did;
 use crate::inner::Inner;
 use sg_clients::Phase;
-use sg_facts::{NoMemory, Point, Service, Stops};
-use sg_replay::Needs;
+use sg_facts::{NoMemory, Path, Point, Service, Stops};
 use std::alloc::Global;
 
 impl<S: Service, T: Stops> Inner<S, T> {
@@ -79,33 +78,38 @@ impl<S: Service, T: Stops> Inner<S, T> {
         ensures err { OnErr result (NoMemoryLeft (setting_of S.ask S.sound S.parts self.old.engine.tables) (view_in self.old) client (view_in self.new)) }
         ensures rest { KeepsRest T.plan self.old self.new }
     {
-        let needs = self.engine.needs(alloc, self.clients.call(client))?;
+        let file = self.engine.file_needed(alloc, self.clients.call(client))?;
         if !self.engine.is_up() {
-            self.boot(alloc, client, &needs)?;
+            self.boot(alloc, client, &file)?;
             return Ok(Did::Booted);
         }
         if self.strikes(Point::Idle) {
             return Ok(Did::Struck);
         }
-        self.use_service(alloc, client, &needs)
+        self.use_service(alloc, client, &file)
     }
 
     // Rebuilds what the call still needs by one step, or serves it.
-    fn use_service(&mut self, alloc: Global, client: u8, needs: &Needs) -> Result<Did, NoMemory>
+    fn use_service(
+        &mut self,
+        alloc: Global,
+        client: u8,
+        file: &Option<Path>,
+    ) -> Result<Did, NoMemory>
         requires order { IsInOrder S.facts S.ask S.sound S.parts T.test T.asked T.struck T.plan self.old }
         requires client { IsClient (length self.old.clients) client }
         requires let_in { PassesGuard (setting_of S.ask S.sound S.parts self.old.engine.tables) (view_in self.old) client }
         requires up { IsSome self.old.engine.cell.running }
-        requires needs { needs.now ≡ needs_in (setting_of S.ask S.sound S.parts self.old.engine.tables) (view_in self.old) (seat_in self.old.clients client).call }
+        requires file { file.now ≡ (needs_in (setting_of S.ask S.sound S.parts self.old.engine.tables) (view_in self.old) (seat_in self.old.clients client).call).file }
         ensures order { IsInOrder S.facts S.ask S.sound S.parts T.test T.asked T.struck T.plan self.new }
         ensures did { (asked : ℕ) → (view_in self.old).run.points ≡ asked_after asked 1
             → IfOk result (λ did. Steps (setting_of S.ask S.sound S.parts self.old.engine.tables) (with_points (view_in self.old) asked) client did (view_in self.new)) }
         ensures err { OnErr result (view_in self.new ≡ view_in self.old) }
         ensures rest { KeepsRest T.plan self.old self.new }
     {
-        match self.engine.missing(needs) {
-            Some(todo) => self.advance(alloc, client, needs, todo),
-            None => self.serve(alloc, client, needs),
+        match self.engine.missing(self.clients.call(client), file) {
+            Some(todo) => self.advance(alloc, client, file, todo),
+            None => self.serve(alloc, client, file),
         }
     }
 }

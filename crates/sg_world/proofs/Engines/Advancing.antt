@@ -324,10 +324,11 @@ module _ (z : Setting) (set : IsSetting z) (w : WorldView) (b : Boot) (boots : L
 
   -- ---- what is missing may be done
 
-  pub may_advance : (todo : Todo) → e.cell.running ≡ Some v → missing e needs_now ≡ Some todo → MayAdvance z.iface.facts z.ask e needs_now todo
+  pub may_advance : (todo : Todo) → e.cell.running ≡ Some v → missing e needs_now ≡ Some todo → MayAdvance z.iface.facts z.ask e needs_now.file todo
   may_advance todo up due = record {
     held = v;
     up = up;
+    ids = needs_now.ids;
     due = due;
     walk = λ id n is. let now = due ∙ ap (λ t. Some t) is in
         (replayed_call z.iface.facts (it id n now).row (is_none (it id n now).done) (it id n now).fun, replayable id n now);

@@ -26,7 +26,7 @@ advance-requires g c =
     let z = setting_of g.S.Service.ask g.S.Service.sound g.S.Service.parts x.engine.tables in
     let held = some_is x.engine.cell.running c.requires.up in
     may_of z x.engine (view_in x) (rooms_in x) c.requires.order.world refl refl refl c.args.client c.requires.client.0 c.requires.client.1 c.requires.let_in held.0 held.1
-    g.S.Service.facts c.requires.order.service c.args.needs.now c.requires.needs c.args.todo c.requires.due
+    g.S.Service.facts c.requires.order.service c.args.file.now c.requires.file c.args.todo c.requires.due
 
 -- the engine did the step
 module _ (g : Given.Over) (c : After-advance g) where
@@ -51,7 +51,7 @@ module _ (g : Given.Over) (c : After-advance g) where
   turn result is =
       subst (λ r. IsTurn z c.args.self.now.engine (needs_in z w (seat_of w c.args.client).call) (seat_of w c.args.client).call.client held.0 start r c.advance.new.self later) is
       (turn_of z c.args.self.now.engine w (rooms_in c.args.self.now) c.requires.order.world refl refl refl c.args.client c.requires.client.0 c.requires.client.1 c.requires.let_in held.0 held.1
-      g.S.Service.facts c.requires.order.service c.args.needs.now c.requires.needs c.args.todo c.requires.due start c.advance.result c.advance.new.self later
+      g.S.Service.facts c.requires.order.service c.args.file.now c.requires.file c.args.todo c.requires.due start c.advance.result c.advance.new.self later
       (record { walk = c.advance.ensures.walk; load = c.advance.ensures.load; stored = c.advance.ensures.stored; tracked = c.advance.ensures.tracked }))
 
   order : IsInOrder g.S.Service.facts g.S.Service.ask g.S.Service.sound g.S.Service.parts g.T.Stops.test g.T.Stops.asked g.T.Stops.struck g.T.Stops.plan (record c.args.self.now { engine = c.advance.new.self; stops = c.advance.new.stops })

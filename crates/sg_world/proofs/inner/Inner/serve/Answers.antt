@@ -20,14 +20,14 @@ use Rattle.sg_world.proofs.inner.Inner.serve.Goals as goal
 
 -- the engine took its memory
 module _ (g : Given.Over) (c : After-reserve g) where
-  may : MayBeServed g.S.Service.facts g.S.Service.ask g.S.Service.sound g.S.Service.parts g.T.Stops.test g.T.Stops.asked g.T.Stops.struck g.T.Stops.plan c.args.self.now c.args.client c.args.needs.now c.reserve.new.self
+  may : MayBeServed g.S.Service.facts g.S.Service.ask g.S.Service.sound g.S.Service.parts g.T.Stops.test g.T.Stops.asked g.T.Stops.struck g.T.Stops.plan c.args.self.now c.args.client c.args.file.now c.reserve.new.self
   may = record {
     order = c.requires.order;
     first = c.requires.client.0;
     last = c.requires.client.1;
     let_in = c.requires.let_in;
     up = c.requires.up;
-    needs_are = c.requires.needs;
+    file_is = c.requires.file;
     whole = c.requires.whole;
     same = record {
       running = c.reserve.ensures.running;
@@ -44,7 +44,7 @@ module _ (g : Given.Over) (c : After-reserve g) where
 
 -- and asked the call
 module _ (g : Given.Over) (c : After-serve g) where
-  ready : MayBeServed g.S.Service.facts g.S.Service.ask g.S.Service.sound g.S.Service.parts g.T.Stops.test g.T.Stops.asked g.T.Stops.struck g.T.Stops.plan c.args.self.now c.args.client c.args.needs.now c.reserve.new.self
+  ready : MayBeServed g.S.Service.facts g.S.Service.ask g.S.Service.sound g.S.Service.parts g.T.Stops.test g.T.Stops.asked g.T.Stops.struck g.T.Stops.plan c.args.self.now c.args.client c.args.file.now c.reserve.new.self
   ready = may g (goal.at.After-serve g c).After-reserve
 
   kept : HasAsked g.T.Stops.test g.T.Stops.asked g.T.Stops.struck g.T.Stops.plan c.reserve.new.self c.args.self.now.stops c.serve.new.self c.serve.new.stops
