@@ -1,5 +1,5 @@
 -- Up to where all rows are whole.
-use Rattle.std.proofs.Common.{◌≡◌, ℕ, zero, suc, ◌<◌, ◌≤◌, ◌+◌, Bool, true, false, cond, ◌||◌, ◌&&◌, List, [], ◌∷◌, None, Some, find, map, take, refl, sym, ◌∙◌, ap, arith}
+use Rattle.std.proofs.Common.{◌≡◌, ℕ, zero, suc, ◌<◌, ◌≤◌, ◌+◌, Bool, true, false, cond, ◌||◌, ◌&&◌, List, [], ◌∷◌, None, Some, filter, find, map, take, refl, sym, ◌∙◌, ap, arith}
 use Rattle.std.specs.Prelude.{◌==◌, not, slice_get}
 use Rattle.std.specs.Option.{option_map}
 use Rattle.std.proofs.lemmas.Bool.Decides.{nat_tests}
@@ -41,6 +41,18 @@ module _ (P : ℕ → Bool) where
       or_live : (a b : Bool) → b ≡ true → (a || b) ≡ true
       or_live true b is = refl
       or_live false b is = is
+
+  -- where none is found among all, none is among some
+  pub find_fewer : (some : Row → Bool) (rows : List Row) → find (λ id. not (P id)) (map (λ r. r.id) rows) ≡ None → find (λ id. not (P id)) (map (λ r. r.id) (filter some rows)) ≡ None
+  find_fewer some [] none = refl
+  find_fewer some (r ∷ rows) none = at (not (P r.id)) refl (some r) none (find_fewer some rows)
+    where
+      at : (b : Bool) → not (P r.id) ≡ b → (s : Bool) → cond b (Some r.id) (find (λ id. not (P id)) (map (λ x. x.id) rows)) ≡ None
+          → (find (λ id. not (P id)) (map (λ x. x.id) rows) ≡ None → find (λ id. not (P id)) (map (λ x. x.id) (filter some rows)) ≡ None)
+          → find (λ id. not (P id)) (map (λ x. x.id) (cond s (r ∷ filter some rows) (filter some rows))) ≡ None
+      at true is s none rest = absurd (cc none)
+      at false is true none rest = ap (λ b. cond b (Some r.id) (find (λ id. not (P id)) (map (λ x. x.id) (filter some rows)))) is ∙ rest none
+      at false is false none rest = rest none
 
   -- the first that doesn't pass is found
   pub find_at : (rows : List Row) (at id : ℕ) → option_map (λ r. r.id) (slice_get rows at) ≡ Some id → ((x : ℕ) → is_live (take at rows) x ≡ true → P x ≡ true) → P id ≡ false

@@ -8,23 +8,29 @@ ghost use Rattle.sg_replay.specs.Missing.{is_whole};
 
 use crate::engine::Engine;
 use crate::todo::is_whole;
-use sg_facts::{Call, Service};
+use sg_facts::{Call, Interface, Service};
 use sg_name::Names;
 use sg_needs::{Tracker, wants_all};
 
 impl<S: Service> Engine<S> {
-    /// The first id that is wanted for a call and isn't whole; None where there is none. Where all live rows are wanted, those that
-    /// were found whole aren't looked at again before the next boot; else its ancestors are looked at alone.
+    /// The first id that is wanted for a call and isn't whole; None where there is none. Where all live rows are whole none is
+    /// looked at. Else those that were found whole aren't looked at again before the next boot, and a call that doesn't want all
+    /// looks up from its descriptor.
     pub(crate) fn hole_for(&mut self, call: &Call) -> Option<u64>
         ensures hole { let i = self.old.tables.iface in let all = i.eager || (fun_at i.facts.funs call.now.fun).all in
             result ≡ find (λ id. not (is_whole (named_at self.old.names.known id))) (ids_in all self.old.tracked.rows call.now.desc) }
         ensures same { self.new ≡ self.old }
     {
-        if wants_all(self.tables.interface(), call.fun) {
-            self.first_hole()
-        } else {
-            hole_in_line(&self.rows, &self.names, call.desc)
-        }
+        let Some(first) = self.first_hole() else {
+            return None;
+        };
+        wanted_hole(
+            self.tables.interface(),
+            &self.rows,
+            &self.names,
+            call,
+            first,
+        )
     }
 
     // The id of the first live row that isn't whole; None where all are.
@@ -60,6 +66,19 @@ fn hole_from(rows: &Tracker, names: &Names, below: u64) -> Option<u64>
         }
     }
     None
+}
+
+// The first id that is wanted for a call and isn't whole, where the first of all live rows is known.
+fn wanted_hole(iface: &Interface, rows: &Tracker, names: &Names, call: &Call, first: u64) -> Option<u64>
+    requires { find (λ id. not (is_whole (named_at names.now.known id))) (map (λ r. r.id) rows.now.rows) ≡ Some first }
+    ensures { let all = iface.now.eager || (fun_at iface.now.facts.funs call.now.fun).all in
+        result ≡ find (λ id. not (is_whole (named_at names.now.known id))) (ids_in all rows.now.rows call.now.desc) }
+{
+    if wants_all(iface, call.fun) {
+        Some(first)
+    } else {
+        hole_in_line(rows, names, call.desc)
+    }
 }
 
 // The first id of a live row, from the root of an id to it, that isn't whole; None where all are. The way goes up from the id, so

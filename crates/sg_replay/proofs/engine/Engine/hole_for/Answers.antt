@@ -1,20 +1,17 @@
--- All rows are wanted, or those in the line to the call's descriptor.
-use Rattle.std.proofs.Common.{◌≡◌, ◌∙◌, ◌||◌, true, find, ap, sym}
-use Rattle.std.specs.Prelude.{not}
+-- Where all rows are whole, those that are wanted are.
+use Rattle.std.proofs.Common.{◌∙◌, ◌||◌, sym}
+use Rattle.std.specs.Prelude.{◌==◌}
 use Rattle.sg_facts.specs.Facts.{fun_at}
+use Rattle.sg_facts.specs.Track.{is_ancestor}
 use Rattle.sg_name.specs.Names.{named_at}
-use Rattle.sg_needs.proofs.Lines.{wanted_all}
-use Rattle.sg_needs.specs.Inside.Lines.{ids_in}
 use Rattle.sg_replay.specs.Missing.{is_whole}
+use Rattle.sg_replay.proofs.AllWhole.{find_fewer}
 use Rattle.sg_replay.proofs.engine.Engine.hole_for.Goals as goal
 
-pub returns-then-wants_all-clause-hole : goal.returns-then-wants_all-clause-hole
-returns-then-wants_all-clause-hole g c =
+pub returns-in_default-clause-hole : goal.returns-in_default-clause-hole
+returns-in_default-clause-hole g c =
     let e = c.args.self.now in
+    let rows = e.tracked.rows in
     let call = c.args.call.now in
-    let all : (e.tables.iface.eager || (fun_at e.tables.iface.facts.funs call.fun).all) ≡ true =
-        ap (λ x. x.tables.iface.eager || (fun_at x.tables.iface.facts.funs call.fun).all) (sym c.self.view_is)
-        ∙ ap (λ i. i.eager || (fun_at i.facts.funs call.fun).all) (sym c.interface.ensures.same)
-        ∙ sym c.wants_all.ensures ∙ c.if-wants_all.true in
-    c.first_hole.ensures.hole
-    ∙ ap (find (λ id. not (is_whole (named_at e.names.known id)))) (sym (wanted_all e.tracked.rows call.desc) ∙ ap (λ b. ids_in b e.tracked.rows call.desc) (sym all))
+    let all = e.tables.iface.eager || (fun_at e.tables.iface.facts.funs call.fun).all in
+    sym (find_fewer (λ id. is_whole (named_at e.names.known id)) (λ r. all || (r.id == call.desc) || is_ancestor rows r.id call.desc) rows (sym c.first_hole.ensures.hole ∙ c.in_default.is))
