@@ -1,9 +1,9 @@
 // What is refused, and what is needed.
 use crate::rows::{ALLOC, add_lock, call};
 use sg_facts::Code;
-use sg_needs::{Tracker, guard, needs_of};
+use sg_needs::{Tracker, file_needed, guard, wants_all};
 use std::test::Fail;
-use test_tables::{lock_tables, ramfs_tables};
+use test_tables::{lock_tables, ramfs_tables, sched_tables};
 
 // The functions that are called on a lock.
 const TAKE: u8 = 2;
@@ -11,6 +11,9 @@ const TAKE: u8 = 2;
 const RELEASE: u8 = 3;
 
 const FREE: u8 = 4;
+
+// The function that puts a thread at the end of the queue.
+const YIELD: u8 = 2;
 
 #[test]
 fn locks_are_guarded(rt: HostRuntime) -> Result<(), Fail> {
@@ -34,17 +37,14 @@ fn locks_are_guarded(rt: HostRuntime) -> Result<(), Fail> {
 }
 
 #[test]
-fn a_call_needs_its_row(rt: HostRuntime) -> Result<(), Fail> {
+fn a_take_needs_no_file(rt: HostRuntime) -> Result<(), Fail> {
     let alloc = rt.alloc();
     let tables = lock_tables(alloc)?;
     let mut rows = Tracker::new(alloc);
     add_lock(alloc, &mut rows, &tables, 2, 1)?;
-    add_lock(alloc, &mut rows, &tables, 1, 2)?;
-    let needed = needs_of(alloc, tables.interface(), &rows, &call(alloc, 1, TAKE, 2))?;
-    assert!(rt; needed.ids.as_slice() == [2].as_slice());
-    assert!(rt; needed.file.is_none());
-    let needed = needs_of(alloc, tables.interface(), &rows, &call(alloc, 1, ALLOC, 0))?;
-    assert!(rt; needed.ids.is_empty());
+    assert!(rt; !wants_all(tables.interface(), TAKE));
+    let file = file_needed(alloc, tables.interface(), &rows, &call(alloc, 1, TAKE, 1))?;
+    assert!(rt; file.is_none());
     Ok(())
 }
 
@@ -53,9 +53,14 @@ fn a_write_needs_its_file(rt: HostRuntime) -> Result<(), Fail> {
     let alloc = rt.alloc();
     let tables = ramfs_tables(alloc)?;
     let rows = Tracker::new(alloc);
-    let write = call(alloc, 1, 3, 7);
-    let needed = needs_of(alloc, tables.interface(), &rows, &write)?;
-    assert!(rt; needed.ids.is_empty());
-    assert!(rt; needed.file.is_some_and(|path| path.is_empty()));
+    let file = file_needed(alloc, tables.interface(), &rows, &call(alloc, 1, 3, 7))?;
+    assert!(rt; file.is_some_and(|path| path.is_empty()));
+    Ok(())
+}
+
+#[test]
+fn a_yield_looks_at_all_threads(rt: HostRuntime) -> Result<(), Fail> {
+    let tables = sched_tables(rt.alloc())?;
+    assert!(rt; wants_all(tables.interface(), YIELD));
     Ok(())
 }

@@ -172,12 +172,13 @@ may_rebuild e walks fresh first = record {
 }
 
 pub may_advance : (e : Engined) (needed : Needs) (todo : Todo) → WalksLocks e.tables → IsFresh e → HasFirst e → missing e needed ≡ Some todo → missing e needed ≡ Some (ToWalk 1 1)
-    → MayAdvance lock_facts lock_table e needed todo
+    → MayAdvance lock_facts lock_table e needed.file todo
 may_advance e needed todo walks fresh first due its =
     let same : ToWalk 1 1 ≡ todo = cc (sym its ∙ due) in
-    subst (λ t. MayAdvance lock_facts lock_table e needed t) same (record {
+    subst (λ t. MayAdvance lock_facts lock_table e needed.file t) same (record {
       held = empty_object;
       up = fresh.up;
+      ids = needed.ids;
       due = its;
       walk = λ id k is.
           let ids : 1 ≡ id = cc is in

@@ -1,5 +1,5 @@
 // A lock that is lost in a stop is rebuilt for the next call.
-ghost use Rattle.std.specs.Prelude.{◌≤◌};
+ghost use Rattle.std.specs.Prelude.{◌≡◌, ◌≤◌};
 ghost use Rattle.test_replay.specs.Turns.{HasNone, IsFresh, WalksLocks};
 
 use crate::turns::{first_take, lose, make, rebuild, take, walked_tables};
@@ -14,11 +14,13 @@ use test_tables::LockService;
 // What is missing for a call.
 fn missing(
     alloc: Global,
-    engine: &Engine<LockService>,
+    engine: &mut Engine<LockService>,
     call: &Call,
-) -> Result<Option<Todo>, NoMemory> {
-    let needs = engine.needs(alloc, call)?;
-    Ok(engine.missing(&needs))
+) -> Result<Option<Todo>, NoMemory>
+    ensures { engine.new ≡ engine.old }
+{
+    let file = engine.file_needed(alloc, call)?;
+    Ok(engine.missing(call, &file))
 }
 
 // The owner of the first lock; None where it isn't tracked.

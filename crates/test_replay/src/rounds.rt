@@ -29,11 +29,13 @@ fn failed_at<S: Service>(engine: &Engine<S>, point: u64) -> bool {
 // Whether a call may be served at once: the guard lets it pass, and nothing is missing.
 fn may_be_served<S: Service>(
     alloc: Global,
-    engine: &Engine<S>,
+    engine: &mut Engine<S>,
     call: &Call,
-) -> Result<bool, NoMemory> {
-    let needs = engine.needs(alloc, call)?;
-    Ok(engine.guard(call).is_none() && engine.missing(&needs).is_none())
+) -> Result<bool, NoMemory>
+    ensures { engine.new ≡ engine.old }
+{
+    let file = engine.file_needed(alloc, call)?;
+    Ok(engine.guard(call).is_none() && engine.missing(call, &file).is_none())
 }
 
 // Takes the room for a call, and stops the service at the third point.
@@ -42,8 +44,8 @@ fn stop<S: Service>(alloc: Global, engine: &mut Engine<S>, call: &Call) -> Resul
     ensures failed { OnOk result (engine.new.cell.running ≡ None) }
     ensures room { OnOk result (1 ≤ engine.new.cell.room) }
 {
-    let needs = engine.needs(alloc, call)?;
-    engine.reserve(alloc, call, &needs)?;
+    let file = engine.file_needed(alloc, call)?;
+    engine.reserve(alloc, call, &file)?;
     engine.strike(3);
     Ok(())
 }

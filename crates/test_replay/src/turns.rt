@@ -63,8 +63,8 @@ pub(crate) fn make(
     ensures tables { engine.new.tables ≡ engine.old.tables }
 {
     let alloc_call = call(alloc, 1, ALLOC, 0);
-    let needs = engine.needs(alloc, &alloc_call)?;
-    engine.reserve(alloc, &alloc_call, &needs)?;
+    let file = engine.file_needed(alloc, &alloc_call)?;
+    engine.reserve(alloc, &alloc_call, &file)?;
     match engine.serve(alloc, stops, &alloc_call) {
         Outcome::Replied { reply, patch } => {
             engine.commit(&alloc_call, reply, patch);
@@ -83,8 +83,8 @@ pub(crate) fn lose(alloc: Global, engine: &mut Engine<LockService>, call: &Call)
     ensures clients { engine.new.stored.clients ≡ engine.old.stored.clients }
     ensures tables { engine.new.tables ≡ engine.old.tables }
 {
-    let needs = engine.needs(alloc, call)?;
-    engine.reserve(alloc, call, &needs)?;
+    let file = engine.file_needed(alloc, call)?;
+    engine.reserve(alloc, call, &file)?;
     engine.strike(9);
     engine.boot(alloc);
     Ok(())
@@ -105,9 +105,9 @@ pub(crate) fn rebuild(
     ensures tracked { engine.new.tracked ≡ engine.old.tracked }
     ensures stored { engine.new.stored ≡ engine.old.stored }
 {
-    let needs = engine.needs(alloc, take)?;
-    match engine.missing(&needs) {
-        Some(todo) => Ok(engine.advance(alloc, stops, 2, &needs, todo)?),
+    let file = engine.file_needed(alloc, take)?;
+    match engine.missing(take, &file) {
+        Some(todo) => Ok(engine.advance(alloc, stops, 2, &file, todo)?),
         None => Err(Fail::new("nothing is missing")),
     }
 }
@@ -124,8 +124,8 @@ pub(crate) fn take(
     requires rebuilt { IsRebuilt engine.old }
     requires first { HasFirst engine.old }
 {
-    let needs = engine.needs(alloc, take)?;
-    engine.reserve(alloc, take, &needs)?;
+    let file = engine.file_needed(alloc, take)?;
+    engine.reserve(alloc, take, &file)?;
     match engine.serve(alloc, stops, take) {
         Outcome::Replied { reply, patch } => {
             engine.commit(take, reply, patch);
