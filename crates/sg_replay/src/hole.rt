@@ -69,7 +69,13 @@ fn hole_from(rows: &Tracker, names: &Names, below: u64) -> Option<u64>
 }
 
 // The first id that is wanted for a call and isn't whole, where the first of all live rows is known.
-fn wanted_hole(iface: &Interface, rows: &Tracker, names: &Names, call: &Call, first: u64) -> Option<u64>
+fn wanted_hole(
+    iface: &Interface,
+    rows: &Tracker,
+    names: &Names,
+    call: &Call,
+    first: u64,
+) -> Option<u64>
     requires { find (λ id. not (is_whole (named_at names.now.known id))) (map (λ r. r.id) rows.now.rows) ≡ Some first }
     ensures { let all = iface.now.eager || (fun_at iface.now.facts.funs call.now.fun).all in
         result ≡ find (λ id. not (is_whole (named_at names.now.known id))) (ids_in all rows.now.rows call.now.desc) }

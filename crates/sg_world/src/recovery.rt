@@ -50,8 +50,7 @@ impl<S: Service, T: Stops> Inner<S, T> {
         ensures err { OnErr result (view_in self.new ≡ view_in self.old) }
         ensures rest { KeepsRest T.plan self.old self.new }
     {
-        self.engine
-            .reserve(alloc, self.clients.call(client), file)?;
+        self.engine.reserve(alloc, self.clients.call(client), file)?;
         self.engine.boot(alloc);
         self.clients.wake_all();
         Ok(())
