@@ -4,7 +4,12 @@ use Rattle.std.specs.Prelude.{◌==◌, nat_lt}
 use Rattle.std.specs.List.{list_any}
 use Rattle.std.proofs.lemmas.Bool.Decides.{eqb_tells, nat_tests}
 use mathlib.Core.List.{reverse_aux}
+use Rattle.sg_facts.specs.sg_base.declared.call.Call.{Call}
 use Rattle.sg_facts.specs.declared.row.Row.{Row}
+use Rattle.sg_facts.specs.Facts.{fun_at}
+use Rattle.sg_facts.specs.Interface.{Declared}
+use Rattle.sg_facts.specs.Needs.{is_needed, wanted}
+use Rattle.sg_facts.specs.Object.{Object}
 use Rattle.sg_facts.specs.Sound.{AreRows}
 use Rattle.sg_facts.specs.Track.{ancestors, is_ancestor, is_live, nearest, parent_in, row_at}
 use Rattle.sg_track.specs.Tracked.{AreTracked, HasLowerParent}
@@ -232,3 +237,11 @@ all_pass (r ∷ rows) = ap (λ l. r ∷ l) (all_pass rows)
 -- the ids of all rows, where all are wanted
 pub wanted_all : (rows : List Row) (id : ℕ) → ids_in true rows id ≡ map (λ r. r.id) rows
 wanted_all rows id = ap (map (λ r. r.id)) (all_pass rows)
+
+-- the ids that are wanted for a call are those of all rows, or of those that it needs
+pub wanted_ids : (i : Declared) (o : Object) (call : Call) (rows : List Row) → o.rows ≡ rows → (wanted i o call).ids ≡ ids_in (i.eager || (fun_at i.facts.funs call.fun).all) rows call.desc
+wanted_ids i o call rows same = at i.eager ∙ ap (λ l. ids_in (i.eager || (fun_at i.facts.funs call.fun).all) l call.desc) same
+  where
+    at : (t : Bool) → map (λ r. r.id) (filter (λ r. t || is_needed i.facts o.rows call r) o.rows) ≡ ids_in (t || (fun_at i.facts.funs call.fun).all) o.rows call.desc
+    at true = refl
+    at false = refl

@@ -28,9 +28,13 @@ abbrev pub todo_of : List (ℕ × Standing) → Option ℕ → Option Todo
 todo_of known None = None
 todo_of known (Some id) = Some (Walk id (next_number (named_at known id)))
 
--- the next call of the walk of the first of some ids that isn't whole; None where all are
+-- the first of some ids that isn't whole; None where all are
+abbrev pub first_hole : List (ℕ × Standing) → List ℕ → Option ℕ
+first_hole known ids = find (λ id. not (is_whole (named_at known id))) ids
+
+-- the next call of its walk
 abbrev pub missing_row : List (ℕ × Standing) → List ℕ → Option Todo
-missing_row known ids = todo_of known (find (λ id. not (is_whole (named_at known id))) ids)
+missing_row known ids = todo_of known (first_hole known ids)
 
 -- whether a file has no bytes
 abbrev pub is_empty : List ℕ → Bool

@@ -1,10 +1,11 @@
 // The first row that is wanted and isn't whole.
-ghost use Rattle.std.specs.Prelude.{◌≡◌, ◌<◌, ◌≤◌, ◌||◌, ℕ, false, true, Some, find, map, not, MatchOption, if◌then◌else◌};
-ghost use Rattle.sg_facts.specs.Facts.{fun_at};
+ghost use Rattle.std.specs.Prelude.{◌≡◌, ◌<◌, ◌≤◌, ℕ, false, true, Some, map, MatchOption, if◌then◌else◌};
+ghost use Rattle.sg_facts.specs.Needs.{wanted};
+ghost use Rattle.sg_facts.specs.Object.{Object};
 ghost use Rattle.sg_facts.specs.Track.{is_live};
 ghost use Rattle.sg_name.specs.Names.{named_at};
 ghost use Rattle.sg_needs.specs.Inside.Lines.{ids_in};
-ghost use Rattle.sg_replay.specs.Missing.{is_whole};
+ghost use Rattle.sg_replay.specs.Missing.{first_hole, is_whole};
 
 use crate::engine::Engine;
 use crate::todo::is_whole;
@@ -17,8 +18,7 @@ impl<S: Service> Engine<S> {
     /// looked at. Else those that were found whole aren't looked at again before the next boot, and a call that doesn't want all
     /// looks up from its descriptor.
     pub(crate) fn hole_for(&mut self, call: &Call) -> Option<u64>
-        ensures hole { let i = self.old.tables.iface in let all = i.eager || (fun_at i.facts.funs call.now.fun).all in
-            result ≡ find (λ id. not (is_whole (named_at self.old.names.known id))) (ids_in all self.old.tracked.rows call.now.desc) }
+        ensures hole { (o : Object) → o.rows ≡ self.old.tracked.rows → result ≡ first_hole self.old.names.known (wanted self.old.tables.iface o call.now).ids }
         ensures same { self.new ≡ self.old }
     {
         let Some(first) = self.first_hole() else {
@@ -35,7 +35,7 @@ impl<S: Service> Engine<S> {
 
     // The id of the first live row that isn't whole; None where all are.
     fn first_hole(&mut self) -> Option<u64>
-        ensures hole { result ≡ find (λ id. not (is_whole (named_at self.old.names.known id))) (map (λ r. r.id) self.old.tracked.rows) }
+        ensures hole { result ≡ first_hole self.old.names.known (map (λ r. r.id) self.old.tracked.rows) }
         ensures same { self.new ≡ self.old }
     {
         // Nothing is done: the proof takes what this call promises.
@@ -55,7 +55,7 @@ impl<S: Service> Engine<S> {
 // The id of the first live row that isn't whole, where all below an id are.
 fn hole_from(rows: &Tracker, names: &Names, below: u64) -> Option<u64>
     requires { (id : ℕ) → id < below → is_live rows.now.rows id ≡ true → is_whole (named_at names.now.known id) ≡ true }
-    ensures hole { result ≡ find (λ id. not (is_whole (named_at names.now.known id))) (map (λ r. r.id) rows.now.rows) }
+    ensures hole { result ≡ first_hole names.now.known (map (λ r. r.id) rows.now.rows) }
     ensures before { MatchOption result ((x : ℕ) → is_live rows.now.rows x ≡ true → is_whole (named_at names.now.known x) ≡ true)
         (λ id. (id ≤ rows.now.given) × ((x : ℕ) → x < id → is_live rows.now.rows x ≡ true → is_whole (named_at names.now.known x) ≡ true)) }
 {
@@ -68,7 +68,7 @@ fn hole_from(rows: &Tracker, names: &Names, below: u64) -> Option<u64>
     None
 }
 
-// The first id that is wanted for a call and isn't whole, where the first of all live rows is known.
+// The first id that is wanted for a call and isn't whole, where the first of all live rows that isn't is known.
 fn wanted_hole(
     iface: &Interface,
     rows: &Tracker,
@@ -76,9 +76,8 @@ fn wanted_hole(
     call: &Call,
     first: u64,
 ) -> Option<u64>
-    requires { find (λ id. not (is_whole (named_at names.now.known id))) (map (λ r. r.id) rows.now.rows) ≡ Some first }
-    ensures { let all = iface.now.eager || (fun_at iface.now.facts.funs call.now.fun).all in
-        result ≡ find (λ id. not (is_whole (named_at names.now.known id))) (ids_in all rows.now.rows call.now.desc) }
+    requires { first_hole names.now.known (map (λ r. r.id) rows.now.rows) ≡ Some first }
+    ensures { (o : Object) → o.rows ≡ rows.now.rows → result ≡ first_hole names.now.known (wanted iface.now o call.now).ids }
 {
     if wants_all(iface, call.fun) {
         Some(first)
@@ -90,7 +89,7 @@ fn wanted_hole(
 // The first id of a live row, from the root of an id to it, that isn't whole; None where all are. The way goes up from the id, so
 // the last one that is found is the first.
 fn hole_in_line(rows: &Tracker, names: &Names, id: u64) -> Option<u64>
-    ensures { result ≡ find (λ id. not (is_whole (named_at names.now.known id))) (ids_in false rows.now.rows id) }
+    ensures { result ≡ first_hole names.now.known (ids_in false rows.now.rows id) }
 {
     // Nothing is done: the proof takes what this call promises.
     let _tracked = rows.live();

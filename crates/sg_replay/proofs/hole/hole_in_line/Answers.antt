@@ -1,11 +1,10 @@
 -- One step up, to a smaller id, until there is no row.
-use Rattle.std.proofs.Common.{◌≡◌, ℕ, Bool, ◌∷◌, None, Some, arith, find, is_some, true, false, sym, ◌∙◌, ap, subst, option_copied}
-use Rattle.std.specs.Prelude.{not}
+use Rattle.std.proofs.Common.{◌≡◌, ℕ, Bool, ◌∷◌, None, Some, arith, is_some, true, false, sym, ◌∙◌, ap, subst, option_copied}
 use Rattle.sg_facts.specs.Track.{ancestors, is_live, parent_in, row_at}
 use Rattle.sg_name.specs.Names.{named_at}
 use Rattle.sg_needs.proofs.sg_track.Above.{parent_below}
 use Rattle.sg_needs.specs.Inside.Lines.{ids_in}
-use Rattle.sg_replay.specs.Missing.{is_whole}
+use Rattle.sg_replay.specs.Missing.{first_hole, is_whole}
 use Rattle.sg_replay.proofs.Committed.{row_live}
 use Rattle.sg_replay.proofs.Upwards.{ends_up, last_hole, some_live, step_up, way_up}
 use Rattle.sg_replay.proofs.hole.hole_in_line.Goals as goal
@@ -29,7 +28,7 @@ up-preserved c =
     let whole : ℕ → Bool = λ x. is_whole (named_at c.args.names.now.known x) in
     let there : row_at rows.rows c.up.at ≡ Some c.in-Some.row.now = sym c.in-Some.ensures in
     let live : is_live rows.rows c.up.at ≡ true = sym (row_live rows.rows c.up.at) ∙ ap is_some there in
-    subst (λ p. last_hole whole rows.rows (p ∷ ancestors rows.rows p) c.hole_at-hole.result ≡ find (λ x. not (whole x)) (ids_in false rows.rows c.args.id)) (ap parent_in there)
+    subst (λ p. last_hole whole rows.rows (p ∷ ancestors rows.rows p) c.hole_at-hole.result ≡ first_hole c.args.names.now.known (ids_in false rows.rows c.args.id)) (ap parent_in there)
     (ap (last_hole whole rows.rows (parent_in (row_at rows.rows c.up.at) ∷ ancestors rows.rows (parent_in (row_at rows.rows c.up.at)))) c.hole_at-hole.ensures
     ∙ step_up whole rows.rows rows.given c.live-tracked.ensures.tracked c.up.at c.up.hole live
     ∙ c.up.invariant)

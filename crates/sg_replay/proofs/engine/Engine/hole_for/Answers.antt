@@ -1,17 +1,13 @@
 -- Where all rows are whole, those that are wanted are.
-use Rattle.std.proofs.Common.{◌∙◌, ◌||◌, sym}
-use Rattle.std.specs.Prelude.{◌==◌}
-use Rattle.sg_facts.specs.Facts.{fun_at}
-use Rattle.sg_facts.specs.Track.{is_ancestor}
+use Rattle.std.proofs.Common.{filter, map, ap, sym, ◌∙◌}
+use Rattle.sg_facts.specs.Needs.{is_wanted}
 use Rattle.sg_name.specs.Names.{named_at}
-use Rattle.sg_replay.specs.Missing.{is_whole}
+use Rattle.sg_replay.specs.Missing.{first_hole, is_whole}
 use Rattle.sg_replay.proofs.AllWhole.{find_fewer}
 use Rattle.sg_replay.proofs.engine.Engine.hole_for.Goals as goal
 
 pub returns-in_default-clause-hole : goal.returns-in_default-clause-hole
-returns-in_default-clause-hole g c =
+returns-in_default-clause-hole g c = λ o same.
     let e = c.args.self.now in
-    let rows = e.tracked.rows in
-    let call = c.args.call.now in
-    let all = e.tables.iface.eager || (fun_at e.tables.iface.facts.funs call.fun).all in
-    sym (find_fewer (λ id. is_whole (named_at e.names.known id)) (λ r. all || (r.id == call.desc) || is_ancestor rows r.id call.desc) rows (sym c.first_hole.ensures.hole ∙ c.in_default.is))
+    sym (ap (λ rows. first_hole e.names.known (map (λ r. r.id) (filter (is_wanted e.tables.iface rows c.args.call.now) rows))) same
+    ∙ find_fewer (λ id. is_whole (named_at e.names.known id)) (is_wanted e.tables.iface e.tracked.rows c.args.call.now) e.tracked.rows (sym c.first_hole.ensures.hole ∙ c.in_default.is))
