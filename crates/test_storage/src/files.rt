@@ -6,6 +6,7 @@ use crate::calls::{call, done};
 use sg_facts::{Bytes, NoMemory, Patch, Path, Tables};
 use sg_store::Storage;
 use std::alloc::Global;
+use std::process::Abort;
 use std::test::Fail;
 use test_tables::ramfs_tables;
 
@@ -113,29 +114,52 @@ fn filled(alloc: Global, byte: u8) -> Result<Vec<u8>, NoMemory>
 }
 
 // Three files, written by turns in 200 commits of 256 bytes at the end of each.
-fn by_turns(alloc: Global, tables: &Tables, plain: &mut Vec<Plain>) -> Result<Storage, NoMemory>
-    requires { tables.now.iface.facts ≡ ramfs_facts }
+fn by_turns(
+    alloc: Global,
+    storage: &mut Storage,
+    tables: &Tables,
+    plain: &mut Vec<Plain>,
+) -> Result<(), NoMemory>
+    requires files { tables.now.iface.facts ≡ ramfs_facts }
+    requires client { 1 ≤ storage.old.clients }
 {
-    let mut storage = Storage::new(alloc, 1)?;
     'turns: for turn in 0u8..200 {
         let key = path(alloc, turn % 3)?;
         let bytes = filled(alloc, turn)?;
         add_plain(plain, &key, bytes.as_slice())?;
-        append(alloc, &mut storage, tables, key, bytes.as_slice())?;
+        append(alloc, storage, tables, key, bytes.as_slice())?;
     }
-    Ok(storage)
+    Ok(())
+}
+
+// Files that are written by turns are as plain pairs.
+fn write_by_turns(
+    rt: &impl Abort,
+    alloc: Global,
+    storage: &mut Storage,
+    tables: &Tables,
+) -> Result<(), Fail>
+    requires files { tables.now.iface.facts ≡ ramfs_facts }
+    requires client { 1 ≤ storage.old.clients }
+{
+    let mut plain = three_plain(alloc)?;
+    by_turns(alloc, storage, tables, &mut plain)?;
+    let lengths = [67 * 256, 67 * 256, 66 * 256];
+    assert!(rt;
+        plain
+            .iter()
+            .zip(lengths)
+            .all(|(file, len)| storage.len(&file.key) == len)
+    );
+    assert!(rt; plain.iter().all(|file| is_stored(storage, file)));
+    Ok(())
 }
 
 #[test]
 fn files_by_turns_are_as_plain_pairs(rt: HostRuntime) -> Result<(), Fail> {
-    let alloc = rt.alloc();
-    let tables = ramfs_tables(alloc)?;
-    let mut plain = three_plain(alloc)?;
-    let storage = by_turns(alloc, &tables, &mut plain)?;
-    assert_eq!(rt; storage.len(&path(alloc, 0)?), 67 * 256);
-    assert_eq!(rt; storage.len(&path(alloc, 2)?), 66 * 256);
-    assert!(rt; plain.iter().all(|file| is_stored(&storage, file)));
-    Ok(())
+    let tables = ramfs_tables(rt.alloc())?;
+    let mut storage = Storage::new(rt.alloc(), 1)?;
+    write_by_turns(&rt, rt.alloc(), &mut storage, &tables)
 }
 
 // Whether a part of one file is that of another, both lent at once.
@@ -150,28 +174,32 @@ fn are_same(storage: &Storage, one: &Path, other: &Path, from: u32, to: u32) -> 
 }
 
 // Two files that begin alike and end differently.
-fn two_files(alloc: Global, tables: &Tables) -> Result<Storage, NoMemory>
-    requires { tables.now.iface.facts ≡ ramfs_facts }
+fn lend_parts(
+    rt: &impl Abort,
+    alloc: Global,
+    storage: &mut Storage,
+    tables: &Tables,
+) -> Result<(), Fail>
+    requires files { tables.now.iface.facts ≡ ramfs_facts }
+    requires client { 1 ≤ storage.old.clients }
 {
-    let mut storage = Storage::new(alloc, 1)?;
-    append(alloc, &mut storage, tables, path(alloc, 0)?, b"same, one")?;
-    append(alloc, &mut storage, tables, path(alloc, 1)?, b"same, two")?;
-    Ok(storage)
+    append(alloc, storage, tables, path(alloc, 0)?, b"same, one")?;
+    append(alloc, storage, tables, path(alloc, 1)?, b"same, two")?;
+    let one = path(alloc, 0)?;
+    let two = path(alloc, 1)?;
+    assert!(rt; are_same(storage, &one, &two, 0, 6));
+    assert!(rt; !are_same(storage, &one, &two, 0, 9));
+    assert!(rt; are_same(storage, &one, &one, 9, 9));
+    assert!(rt; !are_same(storage, &one, &one, 9, 10));
+    assert!(rt; !are_same(storage, &one, &one, 3, 2));
+    Ok(())
 }
 
 #[test]
 fn parts_of_two_files_are_lent_at_once(rt: HostRuntime) -> Result<(), Fail> {
-    let alloc = rt.alloc();
-    let tables = ramfs_tables(alloc)?;
-    let storage = two_files(alloc, &tables)?;
-    let one = path(alloc, 0)?;
-    let two = path(alloc, 1)?;
-    assert!(rt; are_same(&storage, &one, &two, 0, 6));
-    assert!(rt; !are_same(&storage, &one, &two, 0, 9));
-    assert!(rt; are_same(&storage, &one, &one, 9, 9));
-    assert!(rt; !are_same(&storage, &one, &one, 9, 10));
-    assert!(rt; !are_same(&storage, &one, &one, 3, 2));
-    Ok(())
+    let tables = ramfs_tables(rt.alloc())?;
+    let mut storage = Storage::new(rt.alloc(), 1)?;
+    lend_parts(&rt, rt.alloc(), &mut storage, &tables)
 }
 
 // Whether a file has these bytes.
@@ -182,38 +210,46 @@ fn has(storage: &Storage, key: &Path, bytes: &[u8]) -> bool {
     }
 }
 
-// A file that is written at its end, in its middle, and over its end.
-fn written_over(alloc: Global, tables: &Tables) -> Result<Storage, NoMemory>
-    requires { tables.now.iface.facts ≡ ramfs_facts }
+// A file is written at its end, in its middle, and over its end; room for more changes nothing.
+fn write_over(
+    rt: &impl Abort,
+    alloc: Global,
+    storage: &mut Storage,
+    tables: &Tables,
+) -> Result<(), Fail>
+    requires files { tables.now.iface.facts ≡ ramfs_facts }
+    requires client { 1 ≤ storage.old.clients }
 {
-    let mut storage = Storage::new(alloc, 1)?;
-    append(alloc, &mut storage, tables, path(alloc, 0)?, b"abcdef")?;
-    write(alloc, &mut storage, tables, path(alloc, 0)?, 1, b"XY")?;
-    write(alloc, &mut storage, tables, path(alloc, 0)?, 4, b"Z12")?;
-    Ok(storage)
+    append(alloc, storage, tables, path(alloc, 0)?, b"abcdef")?;
+    write(alloc, storage, tables, path(alloc, 0)?, 1, b"XY")?;
+    write(alloc, storage, tables, path(alloc, 0)?, 4, b"Z12")?;
+    let key = path(alloc, 0)?;
+    assert!(rt; has(storage, &key, b"aXYdZ12"));
+    storage.reserve(alloc, 1, Some(&key))?;
+    assert!(rt; has(storage, &key, b"aXYdZ12"));
+    Ok(())
 }
 
 #[test]
 fn a_file_is_written_over(rt: HostRuntime) -> Result<(), Fail> {
-    let alloc = rt.alloc();
-    let tables = ramfs_tables(alloc)?;
-    let mut storage = written_over(alloc, &tables)?;
+    let tables = ramfs_tables(rt.alloc())?;
+    let mut storage = Storage::new(rt.alloc(), 1)?;
+    write_over(&rt, rt.alloc(), &mut storage, &tables)
+}
+
+// A file that was never written is empty, with room for it and without.
+fn read_nothing(rt: &impl Abort, alloc: Global, storage: &mut Storage) -> Result<(), Fail> {
     let key = path(alloc, 0)?;
-    assert!(rt; has(&storage, &key, b"aXYdZ12"));
-    storage.reserve(alloc, 1, Some(&key))?;
-    assert!(rt; has(&storage, &key, b"aXYdZ12"));
+    assert!(rt; storage.buffer().is_empty() && storage.len(&key) == 0);
+    assert!(rt; storage.span(&key).is_none() && has(storage, &key, b""));
+    storage.reserve(alloc, 64, Some(&key))?;
+    assert!(rt; storage.len(&key) == 0 && storage.lend(&key, 0, 1).is_none());
+    assert!(rt; storage.span(&key).is_none() && has(storage, &key, b""));
     Ok(())
 }
 
 #[test]
 fn a_file_that_was_never_written_is_empty(rt: HostRuntime) -> Result<(), Fail> {
-    let alloc = rt.alloc();
-    let mut storage = Storage::new(alloc, 64)?;
-    let key = path(alloc, 0)?;
-    assert!(rt; storage.buffer().is_empty() && storage.len(&key) == 0);
-    assert!(rt; storage.span(&key).is_none() && has(&storage, &key, b""));
-    storage.reserve(alloc, 64, Some(&key))?;
-    assert!(rt; storage.len(&key) == 0 && storage.lend(&key, 0, 1).is_none());
-    assert!(rt; storage.span(&key).is_none() && has(&storage, &key, b""));
-    Ok(())
+    let mut storage = Storage::new(rt.alloc(), 64)?;
+    read_nothing(&rt, rt.alloc(), &mut storage)
 }

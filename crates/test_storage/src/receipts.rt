@@ -1,5 +1,5 @@
 // Receipts, rows and ids.
-ghost use Rattle.std.specs.Prelude.{◌≡◌, ◌+◌, ◌≤◌, IfOk, OnOk};
+ghost use Rattle.std.specs.Prelude.{◌≡◌, ◌+◌, ◌≤◌, OnOk};
 ghost use Rattle.test_tables.specs.sg_lock.LockFacts.{lock_facts};
 ghost use Rattle.test_tables.specs.sg_ramfs.RamfsFacts.{ramfs_facts};
 
@@ -7,6 +7,7 @@ use crate::calls::{call, done};
 use sg_facts::{Code, NoMemory, Reply, Tables};
 use sg_store::Storage;
 use std::alloc::Global;
+use std::process::Abort;
 use std::test::Fail;
 use test_tables::{lock_tables, ramfs_tables};
 
@@ -83,30 +84,32 @@ fn receipt(storage: &Storage, client: u8) -> Option<(u32, u64)> {
     }
 }
 
-#[test]
-fn a_private_service_counts_ids_and_keeps_no_row(rt: HostRuntime) -> Result<(), Fail> {
-    let alloc = rt.alloc();
-    let tables = ramfs_tables(alloc)?;
-    let mut storage = Storage::new(alloc, 2)?;
+// Ids are counted and no row is kept where two clients make a descriptor each, and a call is refused.
+fn count_ids(
+    rt: &impl Abort,
+    alloc: Global,
+    storage: &mut Storage,
+    tables: &Tables,
+) -> Result<(), Fail>
+    requires files { tables.now.iface.facts ≡ ramfs_facts }
+    requires clients { storage.old.clients ≡ 2 }
+    requires none { storage.old.given ≡ 0 }
+{
     assert_eq!(rt; storage.next_id(), 1);
-    split(alloc, &mut storage, &tables, 1, 1, 1)?;
+    split(alloc, storage, tables, 1, 1, 1)?;
     assert_eq!(rt; storage.next_id(), 2);
-    split(alloc, &mut storage, &tables, 2, 1, 2)?;
-    refuse(alloc, &mut storage, &tables, 1, 2, Code::BadName)?;
+    split(alloc, storage, tables, 2, 1, 2)?;
+    refuse(alloc, storage, tables, 1, 2, Code::BadName)?;
     assert_eq!(rt; storage.next_id(), 3);
     assert!(rt; storage.row(1).is_none() && storage.row(2).is_none());
     Ok(())
 }
 
-// Storage for three clients, of whom the first and the third have made a descriptor.
-fn two_made(alloc: Global, tables: &Tables) -> Result<Storage, NoMemory>
-    requires { tables.now.iface.facts ≡ ramfs_facts }
-    ensures { IfOk result (λ storage. storage.clients ≡ 3) }
-{
-    let mut storage = Storage::new(alloc, 3)?;
-    split(alloc, &mut storage, tables, 1, 5, 1)?;
-    split(alloc, &mut storage, tables, 3, 7, 2)?;
-    Ok(storage)
+#[test]
+fn a_private_service_counts_ids_and_keeps_no_row(rt: HostRuntime) -> Result<(), Fail> {
+    let tables = ramfs_tables(rt.alloc())?;
+    let mut storage = Storage::new(rt.alloc(), 2)?;
+    count_ids(&rt, rt.alloc(), &mut storage, &tables)
 }
 
 // Whether the first and the third client's last receipts have these numbers and descriptors, and no other client has one.
@@ -118,27 +121,55 @@ fn have(storage: &Storage, first: (u32, u64), third: (u32, u64)) -> bool {
         && storage.receipt(4).is_none()
 }
 
-#[test]
-fn each_client_has_its_last_receipt(rt: HostRuntime) -> Result<(), Fail> {
-    let alloc = rt.alloc();
-    let tables = ramfs_tables(alloc)?;
-    let mut storage = two_made(alloc, &tables)?;
-    assert!(rt; have(&storage, (5, 1), (7, 2)));
-    refuse(alloc, &mut storage, &tables, 1, 6, Code::TooBig)?;
-    assert!(rt; have(&storage, (6, 0), (7, 2)));
+// The first and the third client make a descriptor each, and then a call of the first is refused.
+fn keep_receipts(
+    rt: &impl Abort,
+    alloc: Global,
+    storage: &mut Storage,
+    tables: &Tables,
+) -> Result<(), Fail>
+    requires files { tables.now.iface.facts ≡ ramfs_facts }
+    requires clients { storage.old.clients ≡ 3 }
+    requires none { storage.old.given ≡ 0 }
+{
+    split(alloc, storage, tables, 1, 5, 1)?;
+    split(alloc, storage, tables, 3, 7, 2)?;
+    assert!(rt; have(storage, (5, 1), (7, 2)));
+    refuse(alloc, storage, tables, 1, 6, Code::TooBig)?;
+    assert!(rt; have(storage, (6, 0), (7, 2)));
     Ok(())
 }
 
 #[test]
-fn a_global_service_keeps_its_rows(rt: HostRuntime) -> Result<(), Fail> {
-    let alloc = rt.alloc();
-    let tables = lock_tables(alloc)?;
-    let mut storage = Storage::new(alloc, 2)?;
-    make(alloc, &mut storage, &tables, 2, 1, 1)?;
-    make(alloc, &mut storage, &tables, 1, 1, 2)?;
+fn each_client_has_its_last_receipt(rt: HostRuntime) -> Result<(), Fail> {
+    let tables = ramfs_tables(rt.alloc())?;
+    let mut storage = Storage::new(rt.alloc(), 3)?;
+    keep_receipts(&rt, rt.alloc(), &mut storage, &tables)
+}
+
+// Two clients make a lock each.
+fn keep_rows(
+    rt: &impl Abort,
+    alloc: Global,
+    storage: &mut Storage,
+    tables: &Tables,
+) -> Result<(), Fail>
+    requires locks { tables.now.iface.facts ≡ lock_facts }
+    requires clients { storage.old.clients ≡ 2 }
+    requires none { storage.old.given ≡ 0 }
+{
+    make(alloc, storage, tables, 2, 1, 1)?;
+    make(alloc, storage, tables, 1, 1, 2)?;
     assert_eq!(rt; storage.next_id(), 3);
     assert!(rt; storage.row(1).is_some_and(|row| row.creator == 2));
     assert!(rt; storage.row(2).is_some_and(|row| row.creator == 1));
     assert!(rt; storage.row(3).is_none());
     Ok(())
+}
+
+#[test]
+fn a_global_service_keeps_its_rows(rt: HostRuntime) -> Result<(), Fail> {
+    let tables = lock_tables(rt.alloc())?;
+    let mut storage = Storage::new(rt.alloc(), 2)?;
+    keep_rows(&rt, rt.alloc(), &mut storage, &tables)
 }

@@ -7,6 +7,7 @@ use crate::calls::{call, done};
 use sg_facts::{NoMemory, Tables, Value};
 use sg_track::Tracker;
 use std::alloc::Global;
+use std::process::Abort;
 use std::test::Fail;
 use test_tables::lock_tables;
 
@@ -134,15 +135,15 @@ fn taken_by(owner: u64, creator: u8) -> Option<LockRow> {
 }
 
 // Two locks, of clients 1 and 64.
-fn two(alloc: Global, tables: &Tables) -> Result<Tracker, Fail>
-    requires { tables.now.iface.facts ≡ lock_facts }
+fn make_two(alloc: Global, tracker: &mut Tracker, tables: &Tables) -> Result<(), Fail>
+    requires locks { tables.now.iface.facts ≡ lock_facts }
+    requires none { tracker.old.given ≡ 0 }
 {
-    let mut tracker = Tracker::new(alloc);
     tracker.reserve(alloc)?;
-    make(alloc, &mut tracker, tables, 1, 1)?;
+    make(alloc, tracker, tables, 1, 1)?;
     tracker.reserve(alloc)?;
-    make(alloc, &mut tracker, tables, 64, 2)?;
-    Ok(tracker)
+    make(alloc, tracker, tables, 64, 2)?;
+    Ok(())
 }
 
 // What is seen of the first lock when it is made, taken, released and taken by another client.
@@ -162,28 +163,56 @@ fn first_seen(
     Ok([made, taken, released, seen(tracker, 1)])
 }
 
-#[test]
-fn locks_are_taken_and_released(rt: HostRuntime) -> Result<(), Fail> {
-    let tables = lock_tables(rt.alloc())?;
-    let mut tracker = two(rt.alloc(), &tables)?;
-    let [made, taken, released, again] = first_seen(rt.alloc(), &mut tracker, &tables)?;
+// Of two locks the first is taken and released, and the second stays.
+fn take_first(
+    rt: &impl Abort,
+    alloc: Global,
+    tracker: &mut Tracker,
+    tables: &Tables,
+) -> Result<(), Fail>
+    requires locks { tables.now.iface.facts ≡ lock_facts }
+    requires none { tracker.old.given ≡ 0 }
+{
+    make_two(alloc, tracker, tables)?;
+    let [made, taken, released, again] = first_seen(alloc, tracker, tables)?;
     assert_eq!(rt; made, free_of(1));
     assert_eq!(rt; taken, taken_by(2, 1));
     assert_eq!(rt; released, free_of(1));
     assert_eq!(rt; again, taken_by(64, 1));
-    assert_eq!(rt; seen(&tracker, 2), free_of(64));
+    assert_eq!(rt; seen(tracker, 2), free_of(64));
+    Ok(())
+}
+
+#[test]
+fn locks_are_taken_and_released(rt: HostRuntime) -> Result<(), Fail> {
+    let tables = lock_tables(rt.alloc())?;
+    let mut tracker = Tracker::new(rt.alloc());
+    take_first(&rt, rt.alloc(), &mut tracker, &tables)
+}
+
+// Of two locks the first ends.
+fn end_first(
+    rt: &impl Abort,
+    alloc: Global,
+    tracker: &mut Tracker,
+    tables: &Tables,
+) -> Result<(), Fail>
+    requires locks { tables.now.iface.facts ≡ lock_facts }
+    requires none { tracker.old.given ≡ 0 }
+{
+    make_two(alloc, tracker, tables)?;
+    free(alloc, tracker, tables, 3, 1)?;
+    assert!(rt; seen(tracker, 1).is_none());
+    assert_eq!(rt; seen(tracker, 2), free_of(64));
+    assert_eq!(rt; tracker.live(), 1);
+    assert!(rt; !tracker.has_children(2));
+    assert!(rt; tracker.ancestors(alloc, 2)?.is_empty());
     Ok(())
 }
 
 #[test]
 fn locks_end_alone(rt: HostRuntime) -> Result<(), Fail> {
     let tables = lock_tables(rt.alloc())?;
-    let mut tracker = two(rt.alloc(), &tables)?;
-    free(rt.alloc(), &mut tracker, &tables, 3, 1)?;
-    assert!(rt; seen(&tracker, 1).is_none());
-    assert_eq!(rt; seen(&tracker, 2), free_of(64));
-    assert_eq!(rt; tracker.live(), 1);
-    assert!(rt; !tracker.has_children(2));
-    assert!(rt; tracker.ancestors(rt.alloc(), 2)?.is_empty());
-    Ok(())
+    let mut tracker = Tracker::new(rt.alloc());
+    end_first(&rt, rt.alloc(), &mut tracker, &tables)
 }

@@ -6,6 +6,7 @@ use crate::calls::{call, done};
 use sg_facts::{Code, NoMemory, Reply, Tables, Value};
 use sg_track::Tracker;
 use std::alloc::Global;
+use std::process::Abort;
 use std::test::Fail;
 use test_tables::mm_tables;
 
@@ -74,20 +75,20 @@ fn find(alloc: Global, tracker: &mut Tracker, tables: &Tables, id: u64) -> Resul
 }
 
 // Four pages: 2 below 1, 3 below 2, and 4 beside.
-fn four(alloc: Global, tables: &Tables) -> Result<Tracker, Fail>
-    requires { tables.now.iface.facts ≡ mm_facts }
-    ensures { IfOk result (λ tracker. tracker.given ≡ 4) }
+fn make_four(alloc: Global, tracker: &mut Tracker, tables: &Tables) -> Result<(), Fail>
+    requires pages { tables.now.iface.facts ≡ mm_facts }
+    requires none { tracker.old.given ≡ 0 }
+    ensures { OnOk result (tracker.new.given ≡ 4) }
 {
-    let mut tracker = Tracker::new(alloc);
     tracker.reserve(alloc)?;
-    get(alloc, &mut tracker, tables, 7, 4096, 1)?;
+    get(alloc, tracker, tables, 7, 4096, 1)?;
     tracker.reserve(alloc)?;
-    alias(alloc, &mut tracker, tables, 1, 8, 0, 2)?;
+    alias(alloc, tracker, tables, 1, 8, 0, 2)?;
     tracker.reserve(alloc)?;
-    alias(alloc, &mut tracker, tables, 2, 0, 8192, 3)?;
+    alias(alloc, tracker, tables, 2, 0, 8192, 3)?;
     tracker.reserve(alloc)?;
-    get(alloc, &mut tracker, tables, 64, u64::MAX, 4)?;
-    Ok(tracker)
+    get(alloc, tracker, tables, 64, u64::MAX, 4)?;
+    Ok(())
 }
 
 // Whether the row of an id has a function and a client as its maker, a parent, a space and an address, and that set of
@@ -129,58 +130,82 @@ fn is_below(alloc: Global, tracker: &Tracker, id: u64, want: &[u64]) -> Result<b
     Ok(above.as_slice() == want)
 }
 
-#[test]
-fn pages_stand_below_others(rt: HostRuntime) -> Result<(), Fail> {
-    let tables = mm_tables(rt.alloc())?;
-    let tracker = four(rt.alloc(), &tables)?;
-    assert!(rt; are_four(&tracker));
-    assert!(rt; is_below(rt.alloc(), &tracker, 3, &[2, 1])?);
-    assert!(rt; is_below(rt.alloc(), &tracker, 4, &[])?);
+// The four, and what stands above and below them.
+fn look_at_four(
+    rt: &impl Abort,
+    alloc: Global,
+    tracker: &mut Tracker,
+    tables: &Tables,
+) -> Result<(), Fail>
+    requires pages { tables.now.iface.facts ≡ mm_facts }
+    requires none { tracker.old.given ≡ 0 }
+{
+    make_four(alloc, tracker, tables)?;
+    assert!(rt; are_four(tracker));
+    assert!(rt; is_below(alloc, tracker, 3, &[2, 1])?);
+    assert!(rt; is_below(alloc, tracker, 4, &[])?);
     assert!(rt; tracker.has_children(1) && tracker.has_children(2));
     assert!(rt; !tracker.has_children(3) && !tracker.has_children(4));
     Ok(())
 }
 
+#[test]
+fn pages_stand_below_others(rt: HostRuntime) -> Result<(), Fail> {
+    let tables = mm_tables(rt.alloc())?;
+    let mut tracker = Tracker::new(rt.alloc());
+    look_at_four(&rt, rt.alloc(), &mut tracker, &tables)
+}
+
 // The four, after the end of the first.
-fn one_left(alloc: Global, tables: &Tables) -> Result<Tracker, Fail>
-    requires { tables.now.iface.facts ≡ mm_facts }
+fn leave_one(
+    rt: &impl Abort,
+    alloc: Global,
+    tracker: &mut Tracker,
+    tables: &Tables,
+) -> Result<(), Fail>
+    requires pages { tables.now.iface.facts ≡ mm_facts }
+    requires none { tracker.old.given ≡ 0 }
 {
-    let mut tracker = four(alloc, tables)?;
-    release(alloc, &mut tracker, tables, 1)?;
-    Ok(tracker)
+    make_four(alloc, tracker, tables)?;
+    release(alloc, tracker, tables, 1)?;
+    assert_eq!(rt; tracker.live(), 1);
+    assert!(rt; is_page(tracker, 4, (1, 64), 0, [64, u64::MAX], 3));
+    assert!(rt; tracker.row(1).is_none() && tracker.row(2).is_none() && tracker.row(3).is_none());
+    Ok(())
 }
 
 #[test]
 fn pages_end_with_all_below_them(rt: HostRuntime) -> Result<(), Fail> {
     let tables = mm_tables(rt.alloc())?;
-    let tracker = one_left(rt.alloc(), &tables)?;
-    assert_eq!(rt; tracker.live(), 1);
-    assert!(rt; is_page(&tracker, 4, (1, 64), 0, [64, u64::MAX], 3));
-    assert!(rt; tracker.row(1).is_none() && tracker.row(2).is_none() && tracker.row(3).is_none());
-    Ok(())
+    let mut tracker = Tracker::new(rt.alloc());
+    leave_one(&rt, rt.alloc(), &mut tracker, &tables)
 }
 
-// The four, after a refusal and a query, with room that was taken twice.
-fn four_with_room(alloc: Global, tables: &Tables) -> Result<Tracker, Fail>
-    requires { tables.now.iface.facts ≡ mm_facts }
-    ensures room { IfOk result (λ tracker. 1 ≤ tracker.spare) }
-    ensures given { IfOk result (λ tracker. tracker.given ≡ 4) }
+// The four, after a refusal and a query, and one page more, in room that was taken twice.
+fn look_again(
+    rt: &impl Abort,
+    alloc: Global,
+    tracker: &mut Tracker,
+    tables: &Tables,
+) -> Result<(), Fail>
+    requires pages { tables.now.iface.facts ≡ mm_facts }
+    requires none { tracker.old.given ≡ 0 }
 {
-    let mut tracker = four(alloc, tables)?;
+    make_four(alloc, tracker, tables)?;
     tracker.reserve(alloc)?;
     tracker.reserve(alloc)?;
     let again = call(alloc, 7, 1, 0, &[4096])?;
     tracker.track(tables, &again, &Reply::Refused(Code::Occupied));
-    find(alloc, &mut tracker, tables, 2)?;
-    Ok(tracker)
+    find(alloc, tracker, tables, 2)?;
+    assert!(rt; are_four(tracker));
+    get(alloc, tracker, tables, 7, 0, 5)?;
+    assert!(rt; is_page(tracker, 5, (1, 7), 0, [7, 0], 1));
+    Ok(())
 }
 
 #[test]
 fn refusals_and_queries_leave_the_rows(rt: HostRuntime) -> Result<(), Fail> {
     let tables = mm_tables(rt.alloc())?;
-    let mut tracker = four_with_room(rt.alloc(), &tables)?;
-    assert!(rt; are_four(&tracker));
-    get(rt.alloc(), &mut tracker, &tables, 7, 0, 5)?;
-    assert!(rt; is_page(&tracker, 5, (1, 7), 0, [7, 0], 1));
-    Ok(())
+    let mut tracker = Tracker::new(rt.alloc());
+    look_again(&rt, rt.alloc(), &mut tracker, &tables)
 }
