@@ -5,7 +5,8 @@ use Rattle.sg_facts.specs.sg_base.declared.call.Call.{Call}
 use Rattle.sg_boot.proofs.LastBoot.{begun_booted, begun_noted, begun_struck, items_booted, items_noted, stop_booted, stop_noted, stop_struck, stopped_at_end}
 use Rattle.sg_boot.specs.Cells.{IsCell}
 use Rattle.sg_boot.specs.Invoking.{item_of_call}
-use Rattle.sg_hist.specs.Recovered.{ends_stopped, is_stopped, item_of_load}
+use Rattle.sg_hist.specs.Recovered.{ends_stopped, item_of_load}
+use Rattle.sg_hist.specs.Inside.Parts.{is_stopped}
 use Rattle.sg_boot.specs.Inside.Asking.{Asks}
 use Rattle.sg_facts.specs.declared.outcome.Outcome.{Outcome}
 use Rattle.sg_facts.specs.declared.outcome.Outcome.TheVariants.{Replied, Blocks, Stopped, NoMemory}
@@ -17,7 +18,8 @@ use Rattle.sg_facts.specs.Invoke.{Points, loaded}
 use Rattle.sg_facts.specs.Legal.{Table}
 use Rattle.sg_facts.specs.Object.{Object, after, empty_object, set_file}
 use Rattle.sg_facts.specs.Trace.{Boot}
-use Rattle.sg_hist.specs.Reading.{after_item, last_items, value_at}
+use Rattle.sg_hist.specs.Reading.{last_items, value_at}
+use Rattle.sg_hist.specs.Inside.Reads.{after_item}
 use Rattle.sg_hist.proofs.Growing.{value_at-more}
 use Rattle.sg_hist.specs.Growing.{booted, noted, struck}
 

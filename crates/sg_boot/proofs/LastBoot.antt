@@ -4,8 +4,10 @@ use Rattle.std.specs.Prelude.{map}
 use Rattle.sg_boot.specs.Inside.Journals.{last_room}
 use Rattle.sg_facts.specs.declared.trace.BootLog.{BootLog}
 use Rattle.sg_facts.specs.declared.trace.Item.{Item}
-use Rattle.sg_facts.specs.Trace.{Boot, boot_of}
-use Rattle.sg_hist.specs.Recovered.{ends_stopped, is_stopped}
+use Rattle.sg_facts.specs.Trace.{Boot}
+use Rattle.sg_facts.specs.Inside.Rows.{boot_of}
+use Rattle.sg_hist.specs.Recovered.{ends_stopped}
+use Rattle.sg_hist.specs.Inside.Parts.{is_stopped}
 use Rattle.sg_hist.specs.Growing.{booted, last_stop, noted, struck}
 use Rattle.sg_hist.specs.Reading.{last_items}
 

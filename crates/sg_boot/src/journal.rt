@@ -1,6 +1,7 @@
 // What was done to a service, with room for more.
 ghost use Rattle.std.specs.Prelude.{◌≡◌, ◌≢◌, ◌≤◌, [], length, map, IfOk, OnOk};
-ghost use Rattle.sg_facts.specs.Trace.{boot_of, run_of};
+ghost use Rattle.sg_facts.specs.Trace.{run_of};
+ghost use Rattle.sg_facts.specs.Inside.Rows.{boot_of};
 ghost use Rattle.sg_hist.specs.Growing.{booted, noted, struck};
 ghost use Rattle.sg_boot.specs.Invoking.{item_of_call, with_item, with_stop};
 ghost use Rattle.sg_boot.specs.Inside.Journals.{last_room};

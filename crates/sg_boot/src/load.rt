@@ -1,6 +1,7 @@
 // The item of a load.
 ghost use Rattle.std.specs.Prelude.{◌≡◌, IfOk};
-ghost use Rattle.sg_hist.specs.Recovered.{item_of_load, load_call, load_outcome};
+ghost use Rattle.sg_hist.specs.Recovered.{item_of_load};
+ghost use Rattle.sg_hist.specs.Inside.Parts.{load_call, load_outcome};
 
 use sg_facts::{
     Args, Bytes, Call, Good, Item, NoMemory, Outcome, Patch, Path, Reply, Tag, TryCopy, Words,

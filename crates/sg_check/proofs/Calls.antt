@@ -10,7 +10,7 @@ use Rattle.sg_facts.specs.Fits.{IsReached, move, needs_reach, step}
 use Rattle.sg_facts.specs.Interface.{Declared, has_pair}
 use Rattle.sg_facts.specs.Walks.{IsReachable}
 use Rattle.sg_walk.specs.declared.place.Triple.{Triple}
-use Rattle.sg_check_statements.specs.Flaws.{IsUnreached}
+use Rattle.sg_check_statements.specs.Inside.Pieces.{IsUnreached}
 use Rattle.sg_check.specs.Inside.Numbers.{GainsNumber, has_number}
 use Rattle.sg_check.specs.Inside.Reached.{AreStates, AreTriples, AreUnreached, is_reached, is_unreached}
 

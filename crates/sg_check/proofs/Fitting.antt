@@ -9,21 +9,26 @@ use Rattle.std.proofs.lemmas.Bool.Decides.{nat_tests}
 use Rattle.std.proofs.lemmas.Slice.Eq.{bytes_eq-Decides}
 use Rattle.sg_facts.specs.declared.shape.Leaves.{Leaves}
 use Rattle.sg_facts.specs.declared.shape.Leaves.TheVariants.{Own, Same, Of}
-use Rattle.sg_facts.specs.Facts.{Facts, Fun, fun_at, left_by}
-use Rattle.sg_facts.specs.Fits.{Fits, LeavesDeclared, needs_reach}
+use Rattle.sg_facts.specs.Facts.{Facts, Fun, fun_at}
+use Rattle.sg_facts.specs.Inside.Rows.{left_by}
+use Rattle.sg_facts.specs.Fits.{Fits, needs_reach}
+use Rattle.sg_facts.specs.Inside.Walking.{LeavesDeclared}
 use Rattle.sg_facts.specs.Interface.{Declared, declares, has_pair, moves_on, steps_on}
 use Rattle.sg_facts.specs.Walks.{IsReachable, made, moved}
-use Rattle.sg_check_statements.specs.sg_parse.Grammar.Named.{Named}
+use Rattle.sg_check_statements.specs.sg_parse.sg_lex.Lexeme.{Spelling as Named}
 use Rattle.sg_check_statements.specs.sg_parse.declared.tree.Param.{Param}
 use Rattle.sg_check_statements.specs.sg_parse.declared.tree.Ret.{Ret}
 use Rattle.sg_check_statements.specs.sg_parse.declared.tree.Statement.{Statement}
 use Rattle.sg_check_statements.specs.sg_parse.declared.tree.Statement.TheVariants.{One, Two, Proto}
 use Rattle.sg_check_statements.specs.sg_parse.declared.tree.Tree.{Tree}
 use Rattle.sg_check_statements.specs.declared.fault.CheckKind.TheVariants.{NoCreation, NoWalk, UnknownFunction, Unreached, WrongFlag}
-use Rattle.sg_check_statements.specs.Faults.{IsFirstStatement, NoStatement, interface_of}
-use Rattle.sg_check_statements.specs.Flaws.{HasNoWalk, IsProtoWhere, IsUnreached, fit_flags, fit_leaves, place_if, fun_of_name, is_declared, leaves_another, names_two, first_place, unknown, wrong_flag}
+use Rattle.sg_check_statements.specs.Faults.{IsFirstStatement, interface_of}
+use Rattle.sg_check_statements.specs.Inside.Pieces.{NoStatement, IsUnreached, fit_flags, names_two, unknown, wrong_flag}
+use Rattle.sg_check_statements.specs.Flaws.{fit_leaves, leaves_another, HasNoWalk, IsProtoWhere, fun_of_name, is_declared}
+use Rattle.sg_check_statements.specs.Says.{is_proto, is_two, has_proto, fun_number_from, fun_number, says, says_of}
+use Rattle.std.specs.Bool.{then_some}
+use Rattle.std.specs.Option.{option_or}
 use Rattle.sg_check_statements.specs.NameSet.{has_name}
-use Rattle.sg_check_statements.specs.Says.{has_proto, is_proto, is_two, fun_number_from, fun_number, says, says_of}
 use Rattle.sg_check_statements.specs.Stages.{IsClear}
 use Rattle.sg_check_statements.proofs.Firsts.{none_at_all, none_more}
 use Rattle.sg_check.specs.Inside.Candidates.{HasReach, HasWalks}
@@ -168,11 +173,11 @@ within_number count (suc m) is =
     let few : suc m ≤ count = grind (arith, nat_tests, (and_parts (nat_le 1 (suc m)) (nat_le (suc m) count) is).1) in
     (m, refl, omega (arith, few))
 
-no_place : (b : Bool) (at : ℕ) → ((place : ℕ) → place_if (not b) at ≡ Some place → ⊥) → b ≡ true
+no_place : (b : Bool) (at : ℕ) → ((place : ℕ) → then_some (not b) at ≡ Some place → ⊥) → b ≡ true
 no_place true at none = refl
 no_place false at none = absurd (none at refl)
 
-two_places : (a b c : Bool) (here there : ℕ) → ((place : ℕ) → first_place (place_if (not a) here) (place_if (b && not c) there) ≡ Some place → ⊥) → b ≡ true → (a ≡ true) × (c ≡ true)
+two_places : (a b c : Bool) (here there : ℕ) → ((place : ℕ) → option_or (then_some (not a) here) (then_some (b && not c) there) ≡ Some place → ⊥) → b ≡ true → (a ≡ true) × (c ≡ true)
 two_places false b c here there none is = absurd (none here refl)
 two_places true true true here there none is = (refl, refl)
 two_places true true false here there none is = absurd (none there refl)

@@ -6,8 +6,10 @@ use Rattle.std.specs.Str.{bytes_eq}
 use Rattle.sg_facts.specs.Facts.{Facts, Fun}
 use Rattle.sg_check_statements.specs.sg_parse.declared.tree.Statement.{Statement}
 use Rattle.sg_check_statements.specs.sg_parse.declared.tree.Statement.TheVariants.{One, Two, Proto}
-use Rattle.sg_check_statements.specs.Faults.{IsFirstStatement, NoStatement}
-use Rattle.sg_check_statements.specs.Flaws.{IsProtoWhere, place_if}
+use Rattle.sg_check_statements.specs.Faults.{IsFirstStatement}
+use Rattle.sg_check_statements.specs.Inside.Pieces.{NoStatement}
+use Rattle.sg_check_statements.specs.Flaws.{IsProtoWhere}
+use Rattle.std.specs.Bool.{then_some}
 use Rattle.sg_check_statements.specs.Says.{fun_number_from, fun_number}
 use Rattle.sg_check.specs.Inside.Numbers.{has_number, marked}
 
@@ -29,7 +31,7 @@ small_or_none (Some n) most small = let l = small n refl in omega (arith, l)
 pub number_within : (funs : List Fun) (name : List ℕ) → unwrap_or (fun_number funs name) 0 ≤ length funs
 number_within funs name = small_or_none (fun_number funs name) (length funs) (number_small 1 funs name)
 
-if_place : (b : Bool) (at place : ℕ) → place_if b at ≡ Some place → (b ≡ true) × (at ≡ place)
+if_place : (b : Bool) (at place : ℕ) → then_some b at ≡ Some place → (b ≡ true) × (at ≡ place)
 if_place true at place is = (refl, cc is)
 if_place false at place is = absurd (cc is)
 
@@ -47,7 +49,7 @@ module _ (facts : Facts) (numbers : List ℕ) (P : ℕ → Type 0) (same : (n : 
   back (Two word first second) place is = absurd is
   back (Proto ret name params) place (at, holds) =
       let n = unwrap_or (fun_number facts.funs name.bytes) 0 in
-      ap (λ b. place_if b name.at) ((same n (number_within facts.funs name.bytes)).1 holds) ∙ ap Some at
+      ap (λ b. then_some b name.at) ((same n (number_within facts.funs name.bytes)).1 holds) ∙ ap Some at
 
   -- the first prototype in the set is the first of which it holds
   pub first_where : (found : Option ℕ) (statements : List Statement)

@@ -22,9 +22,10 @@ use Rattle.sg_check_statements.specs.declared.fault.CheckError.{CheckError}
 use Rattle.sg_check_statements.specs.declared.fault.CheckError.TheVariants.{NoMemory, Fault}
 use Rattle.sg_check_statements.specs.declared.fault.CheckKind.{CheckKind}
 use Rattle.sg_check_statements.specs.declared.fault.CheckKind.TheVariants.{UnknownService, DuplicateName, UnknownFunction, BadParams, WrongFact, WrongFlag, WrongEffect, ForeignTransition, ForeignRecover, NoCreation, Unreached, NoWalk}
-use Rattle.sg_check_statements.specs.Faults.{FirstOf, IsAccepted, IsFault, IsFirstStatement, NoStatement, interface_of, kind_rank}
+use Rattle.sg_check_statements.specs.Faults.{FirstOf, IsAccepted, IsFault, IsFirstStatement, interface_of, kind_rank}
+use Rattle.sg_check_statements.specs.Inside.Pieces.{NoStatement, IsUnreached}
 use Rattle.sg_check_statements.proofs.Clear.{clear_more, each_statement}
-use Rattle.sg_check_statements.specs.Flaws.{HasNoWalk, IsProtoWhere, IsUnreached}
+use Rattle.sg_check_statements.specs.Flaws.{HasNoWalk, IsProtoWhere}
 use Rattle.sg_check_statements.specs.Says.{service_of}
 use Rattle.sg_check_statements.specs.Stages.{IsFirstFault}
 use Rattle.sg_check.specs.declared.candidate.Candidate.{Candidate}

@@ -10,8 +10,9 @@ use Rattle.sg_check_statements.specs.sg_parse.declared.tree.Statement.TheVariant
 use Rattle.sg_check_statements.specs.sg_parse.declared.tree.Tree.{Tree}
 use Rattle.sg_check_statements.specs.declared.fault.CheckKind.{CheckKind}
 use Rattle.sg_check_statements.specs.declared.fault.CheckKind.TheVariants.{UnknownService, DuplicateName, UnknownFunction, BadParams, WrongFact, WrongFlag, WrongEffect, ForeignTransition, ForeignRecover, NoCreation, Unreached, NoWalk}
-use Rattle.sg_check_statements.specs.Faults.{FirstOf, IsFault, IsFirstStatement, IsOf, interface_of, kind_rank}
-use Rattle.sg_check_statements.specs.Flaws.{HasNoWalk, IsProtoWhere, IsUnreached, bad_params, duplicate, foreign, no_creation, unknown, wrong_effect, wrong_fact, wrong_flag}
+use Rattle.sg_check_statements.specs.Faults.{FirstOf, IsFault, IsFirstStatement, interface_of, kind_rank}
+use Rattle.sg_check_statements.specs.Inside.Pieces.{IsOf, IsUnreached, bad_params, no_creation, unknown, wrong_effect, wrong_flag}
+use Rattle.sg_check_statements.specs.Flaws.{HasNoWalk, IsProtoWhere, duplicate, foreign, wrong_fact}
 use Rattle.sg_check_statements.proofs.Clear.{one_service, same_kind}
 
 -- two places at which one list is split are one, or one is before the other

@@ -1,7 +1,8 @@
 // The first prototype of one of some functions.
 ghost use Rattle.std.specs.Prelude.{◌≡◌, Some, MatchOption};
 ghost use Rattle.sg_facts.specs.Facts.{facts_of};
-ghost use Rattle.sg_check_statements.specs.Faults.{IsFirstStatement, NoStatement};
+ghost use Rattle.sg_check_statements.specs.Faults.{IsFirstStatement};
+ghost use Rattle.sg_check_statements.specs.Inside.Pieces.{NoStatement};
 ghost use Rattle.sg_check.specs.Inside.Numbers.{marked};
 
 use crate::numbers::Numbers;

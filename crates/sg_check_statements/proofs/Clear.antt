@@ -12,7 +12,8 @@ use Rattle.sg_check_statements.specs.declared.fault.CheckError.{CheckError}
 use Rattle.sg_check_statements.specs.declared.fault.CheckError.TheVariants.{Fault}
 use Rattle.sg_check_statements.specs.declared.fault.CheckKind.{CheckKind}
 use Rattle.sg_check_statements.specs.declared.fault.CheckKind.TheVariants.{UnknownService, DuplicateName, UnknownFunction, BadParams, WrongFact, WrongFlag, WrongEffect, ForeignTransition, ForeignRecover, NoCreation, Unreached, NoWalk}
-use Rattle.sg_check_statements.specs.Faults.{FirstOf, IsFirstStatement, IsOf, NoStatement, kind_rank}
+use Rattle.sg_check_statements.specs.Faults.{FirstOf, IsFirstStatement, kind_rank}
+use Rattle.sg_check_statements.specs.Inside.Pieces.{IsOf, NoStatement}
 use Rattle.sg_check_statements.specs.Stages.{IsClear, IsFirstFault}
 use Rattle.sg_check_statements.proofs.Firsts.{not_none}
 

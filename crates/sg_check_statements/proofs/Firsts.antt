@@ -2,7 +2,8 @@
 use Rattle.std.proofs.Common.{◌≡◌, ◌⊎◌, ℕ, ◌+◌, ◌<◌, List, [], ◌∷◌, ◌++◌, length, take, drop, get_or, refl, sym, ◌∙◌, ap, subst, inl, inr, append_assoc}
 use Rattle.std.proofs.lemmas.List.{take_more, take-append-drop}
 use Rattle.sg_parse.specs.declared.tree.Statement.{Statement}
-use Rattle.sg_check_statements.specs.Faults.{IsFirstStatement, NoStatement}
+use Rattle.sg_check_statements.specs.Faults.{IsFirstStatement}
+use Rattle.sg_check_statements.specs.Inside.Pieces.{NoStatement}
 
 -- a list that ends in one more: the end is that one, or stands before
 last_split : (xs before after : List Statement) (x s : Statement) → xs ++ x ∷ [] ≡ before ++ s ∷ after

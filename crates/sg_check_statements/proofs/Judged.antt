@@ -9,10 +9,12 @@ use Rattle.sg_parse.specs.declared.tree.Param.{Param}
 use Rattle.sg_parse.specs.declared.tree.Ret.{Ret}
 use Rattle.sg_parse.specs.declared.tree.Statement.{Statement}
 use Rattle.sg_parse.specs.declared.tree.Statement.TheVariants.{Proto}
-use Rattle.sg_parse.specs.Grammar.Named.{Named}
-use Rattle.sg_check_statements.specs.Flaws.{place_if, fun_of_name, wrong_effect}
+use Rattle.sg_parse.specs.sg_lex.Lexeme.{Spelling as Named}
+use Rattle.sg_check_statements.specs.Flaws.{fun_of_name}
+use Rattle.sg_check_statements.specs.Inside.Pieces.{wrong_effect, Named_effect, caller_effects, later_effects, ret_effects, service_effects, statement_effects}
+use Rattle.std.specs.Bool.{then_some}
 use Rattle.sg_facts.specs.Words.{field_name}
-use Rattle.sg_check_statements.specs.Effects.{Named_effect, caller_effects, declared_effects, has_effect, later_effects, ret_effects, same_effect, same_effects, service_effects, statement_effects}
+use Rattle.sg_check_statements.specs.Effects.{declared_effects, same_effect, same_effects, has_effect}
 
 -- ---- lists
 
@@ -73,11 +75,11 @@ all_of_service p facts f effects is =
 pub judged : (facts : Facts) (statements : List Statement) (ret : Ret) (name : Named) (params : List Param) (s : Statement) (f : Fun) (fit : Bool) (slice : List ℕ) (at : ℕ) (own : List Param)
     → s ≡ Proto ret name params → record { bytes = slice; at = at } ≡ name → own ≡ params → f ≡ fun_of_name facts slice
     → fit ≡ same_effects (declared_effects statements slice ret own) (service_effects facts f)
-    → place_if (not fit) at ≡ wrong_effect facts statements s
+    → then_some (not fit) at ≡ wrong_effect facts statements s
 judged facts statements ret name params s f fit slice at own is told lent found same =
     let named : s ≡ Proto ret (record { bytes = slice; at = at }) own =
     is ∙ ap (λ n. Proto ret n params) (sym told) ∙ ap (λ l. Proto ret (record { bytes = slice; at = at }) l) (sym lent) in
-    ap (λ b. place_if (not b) at) (same ∙ ap (λ g. same_effects (declared_effects statements slice ret own) (service_effects facts g)) found)
+    ap (λ b. then_some (not b) at) (same ∙ ap (λ g. same_effects (declared_effects statements slice ret own) (service_effects facts g)) found)
     ∙ ap (wrong_effect facts statements) (sym named)
 
 -- ---- pairs

@@ -10,13 +10,15 @@ use Rattle.std.proofs.lemmas.Bool.Decides.{same_from_decides}
 use Rattle.std.proofs.lemmas.Slice.Eq.{bytes_eq-Decides}
 use Rattle.std.proofs.lemmas.List.Folds.{list_any-append}
 use Rattle.sg_parse.specs.declared.tree.Statement.{Statement}
-use Rattle.sg_parse.specs.Grammar.Named.{Named}
+use Rattle.sg_parse.specs.sg_lex.Lexeme.{Spelling as Named}
 use Rattle.sg_parse.specs.declared.tree.Param.{Param}
 use Rattle.sg_parse.specs.declared.tree.Ret.{Ret}
 use Rattle.sg_parse.specs.declared.tree.Statement.TheVariants.{Proto, Two}
-use Rattle.sg_check_statements.specs.Flaws.{duplicate, place_if, names_two, first_place, unknown}
+use Rattle.sg_check_statements.specs.Flaws.{duplicate}
+use Rattle.sg_check_statements.specs.Inside.Pieces.{names_two, unknown}
+use Rattle.sg_check_statements.specs.Says.{is_proto, has_proto}
+use Rattle.std.specs.Bool.{then_some}
 use Rattle.sg_check_statements.specs.NameSet.{AreOf, has_name}
-use Rattle.sg_check_statements.specs.Says.{has_proto, is_proto}
 
 other_way : (xs ys : List ℕ) → bytes_eq xs ys ≡ bytes_eq ys xs
 other_way xs ys =
@@ -61,24 +63,24 @@ of_more names new before s are more f =
 -- a prototype of a function that is among the names of those before
 pub second : (names : List (List ℕ)) (before : List Statement) (s : Statement) (ret : Ret) (name : Named) (params : List Param) (slice : List ℕ) (at : ℕ) (r : Bool)
     → AreOf names before → s ≡ Proto ret name params → record { bytes = slice; at = at } ≡ name → r ≡ has_name names slice
-    → place_if r at ≡ duplicate before s
+    → then_some r at ≡ duplicate before s
 second names before s ret name params slice at r are is told same =
-    ap (λ b. place_if b at) (same ∙ are slice)
+    ap (λ b. then_some b at) (same ∙ are slice)
     ∙ ap (duplicate before) (ap (λ n. Proto ret n params) told ∙ sym is)
 
 -- ---- unknown names
 
-either : (a b : Option ℕ) → option_or a b ≡ first_place a b
+either : (a b : Option ℕ) → option_or a b ≡ option_or a b
 either None b = refl
 either (Some x) b = refl
 
 -- the first of two names that has no prototype
 pub two_names : (facts : Facts) (statements : List Statement) (s : Statement) (word first last : Named) (slice : List ℕ) (at : ℕ) (r one other : Option ℕ)
-    → r ≡ option_or one other → one ≡ place_if (not (has_proto statements first.bytes)) first.at
-    → other ≡ place_if (names_two slice && not (has_proto statements last.bytes)) last.at → record { bytes = slice; at = at } ≡ word → s ≡ Two word first last
+    → r ≡ option_or one other → one ≡ then_some (not (has_proto statements first.bytes)) first.at
+    → other ≡ then_some (names_two slice && not (has_proto statements last.bytes)) last.at → record { bytes = slice; at = at } ≡ word → s ≡ Two word first last
     → r ≡ unknown facts statements s
 two_names facts statements s word first last slice at r one other both here there told is =
     let same : slice ≡ word.bytes = ap (λ n. n.bytes) told in
-    both ∙ either one other ∙ ap (λ a. first_place a other) here
-    ∙ ap (λ b. first_place (place_if (not (has_proto statements first.bytes)) first.at) b) (there ∙ ap (λ w. place_if (names_two w && not (has_proto statements last.bytes)) last.at) same)
+    both ∙ either one other ∙ ap (λ a. option_or a other) here
+    ∙ ap (λ b. option_or (then_some (not (has_proto statements first.bytes)) first.at) b) (there ∙ ap (λ w. then_some (names_two w && not (has_proto statements last.bytes)) last.at) same)
     ∙ ap (unknown facts statements) (sym is)

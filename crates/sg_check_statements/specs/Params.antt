@@ -1,28 +1,17 @@
 -- Which parameters a function's prototype is to have.
-use Rattle.std.specs.Prelude.{ℕ, ◌-◌, ◌==◌, Bool, true, false, ◌&&◌, ◌||◌, not, List, [], ◌∷◌, None, Some, codes, length, slice_get}
+use Rattle.std.specs.Prelude.{ℕ, ◌-◌, ◌==◌, Bool, true, false, ◌&&◌, ◌||◌, not, List, [], ◌∷◌, codes, length, slice_get}
 use Rattle.std.specs.declared.option.Option.{Option}
+use Rattle.std.specs.Option.{option_map_or}
 use Rattle.std.specs.Str.{bytes_eq}
 use Rattle.sg_facts.specs.declared.shape.Kind.{Kind}
 use Rattle.sg_facts.specs.declared.shape.Kind.TheVariants.{Desc, Parent, Word, Text}
 use Rattle.sg_facts.specs.Facts.{Fun}
 use Rattle.sg_parse.specs.declared.tree.Param.{Param}
-use Rattle.sg_parse.specs.declared.tree.TypeName.{TypeName}
-use Rattle.sg_parse.specs.Grammar.Named.{Named}
+use Rattle.sg_parse.specs.sg_lex.Lexeme.{Spelling as Named}
 
 -- whether a name, where there is one, is this word
 abbrev pub has_word : Option Named → List ℕ → Bool
-has_word None w = false
-has_word (Some n) w = bytes_eq n.bytes w
-
--- a client type has no star, and its last name is one of these
-abbrev pub is_client_type : TypeName → Bool
-is_client_type ty =
-    let last = slice_get ty.names (length ty.names - 1) in
-    (ty.stars == 0) && (has_word last (codes "spdid_t") || has_word last (codes "componentid_t"))
-
--- the first parameter is a client, and is neither descriptor nor parent, nor added to a field
-abbrev pub is_caller : Param → Bool
-is_caller p = is_client_type p.ty && not (has_word p.form (codes "desc") || has_word p.form (codes "parent_desc") || has_word p.form (codes "desc_data_add"))
+has_word name w = option_map_or (λ n. bytes_eq n.bytes w) name false
 
 -- whether a later parameter is of a kind: a descriptor or a parent by its form, and then no text; else a text exactly
 -- where its type has a star
@@ -35,11 +24,15 @@ is_of_kind p Text = not (has_word p.form (codes "desc")) && not (has_word p.form
 -- whether later parameters are of these kinds, one by one
 abbrev pub are_of_kinds : List Param → List Kind → Bool
 are_of_kinds [] [] = true
-are_of_kinds [] (k ∷ kinds) = false
-are_of_kinds (p ∷ params) [] = false
 are_of_kinds (p ∷ params) (k ∷ kinds) = is_of_kind p k && are_of_kinds params kinds
+are_of_kinds _ _ = false
 
--- whether parameters are those of a function
+-- whether parameters are those of a function: the first is a client, whose type has no star and ends in one of two names, and is neither
+-- descriptor nor parent, nor added to a field
 abbrev pub fit_params : Fun → List Param → Bool
 fit_params f [] = false
-fit_params f (p ∷ params) = is_caller p && are_of_kinds params f.kinds
+fit_params f (p ∷ params) =
+    let last = slice_get p.ty.names (length p.ty.names - 1) in
+    ((p.ty.stars == 0) && (has_word last (codes "spdid_t") || has_word last (codes "componentid_t")))
+    && not (has_word p.form (codes "desc") || has_word p.form (codes "parent_desc") || has_word p.form (codes "desc_data_add"))
+    && are_of_kinds params f.kinds

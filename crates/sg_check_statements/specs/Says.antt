@@ -1,5 +1,5 @@
 -- What the statements of a text say of functions, by their names.
-use Rattle.std.specs.Prelude.{ℕ, ◌+◌, Bool, false, ◌&&◌, if◌then◌else◌, List, [], ◌∷◌, None, Some}
+use Rattle.std.specs.Prelude.{ℕ, ◌+◌, Bool, false, ◌&&◌, if◌then◌else◌, List, [], ◌∷◌, None, Some, find}
 use Rattle.std.specs.declared.option.Option.{Option}
 use Rattle.std.specs.List.{list_any}
 use Rattle.std.specs.Str.{bytes_eq}
@@ -9,21 +9,15 @@ use Rattle.sg_parse.specs.declared.tree.Statement.TheVariants.{One, Two, Proto}
 
 -- whether a statement is a prototype of a function
 abbrev pub is_proto : List ℕ → Statement → Bool
-is_proto f (One word fun) = false
-is_proto f (Two word first second) = false
-is_proto f (Proto ret name params) = bytes_eq name.bytes f
+is_proto f s = elim s [ Proto ret name params ↦ bytes_eq name.bytes f | _ ↦ false ]
 
 -- whether a statement says a word of a function
 abbrev pub is_one : List ℕ → List ℕ → Statement → Bool
-is_one w f (One word fun) = bytes_eq word.bytes w && bytes_eq fun.bytes f
-is_one w f (Two word first second) = false
-is_one w f (Proto ret name params) = false
+is_one w f s = elim s [ One word fun ↦ bytes_eq word.bytes w && bytes_eq fun.bytes f | _ ↦ false ]
 
 -- whether a statement says a word of a function and another name
 abbrev pub is_two : List ℕ → List ℕ → List ℕ → Statement → Bool
-is_two w f g (One word fun) = false
-is_two w f g (Two word first second) = bytes_eq word.bytes w && bytes_eq first.bytes f && bytes_eq second.bytes g
-is_two w f g (Proto ret name params) = false
+is_two w f g s = elim s [ Two word first second ↦ bytes_eq word.bytes w && bytes_eq first.bytes f && bytes_eq second.bytes g | _ ↦ false ]
 
 -- whether some statement is a prototype of a function
 abbrev pub has_proto : List Statement → List ℕ → Bool
@@ -48,5 +42,4 @@ fun_number funs name = fun_number_from 1 funs name
 
 -- the service of a name
 abbrev pub service_of : List Facts → List ℕ → Option Facts
-service_of [] name = None
-service_of (s ∷ services) name = if bytes_eq s.name name then Some s else service_of services name
+service_of services name = find (λ s. bytes_eq s.name name) services

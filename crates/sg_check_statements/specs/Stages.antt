@@ -5,7 +5,8 @@ use Rattle.sg_parse.specs.declared.tree.Tree.{Tree}
 use Rattle.sg_check_statements.specs.declared.fault.CheckError.{CheckError}
 use Rattle.sg_check_statements.specs.declared.fault.CheckError.TheVariants.{NoMemory, Fault}
 use Rattle.sg_check_statements.specs.declared.fault.CheckKind.{CheckKind}
-use Rattle.sg_check_statements.specs.Faults.{FirstOf, IsFault, IsOf, kind_rank}
+use Rattle.sg_check_statements.specs.Faults.{FirstOf, IsFault, kind_rank}
+use Rattle.sg_check_statements.specs.Inside.Pieces.{IsOf}
 
 -- a text is of this service, and nothing is wrong with it of the first kinds, so many of them
 pub record IsClear (services : List Facts) (tree : Tree) (facts : Facts) (kinds : ℕ) : Type 0 where

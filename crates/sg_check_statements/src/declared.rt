@@ -1,7 +1,8 @@
 // The effects that a text declares for a function, gone over one by one.
 ghost use Rattle.std.specs.Prelude.{◌≡◌, ◌+◌, ◌||◌, if◌then◌else◌, false, [], ◌∷◌, codes, Bool};
 ghost use Rattle.std.specs.List.{list_any, flat_map};
-ghost use Rattle.sg_check_statements.specs.Effects.{Named_effect, arg_effects, caller_effects, declared_effects, later_effects, ret_effects, statement_effects};
+ghost use Rattle.sg_check_statements.specs.Effects.{arg_effects, declared_effects};
+ghost use Rattle.sg_check_statements.specs.Inside.Pieces.{Named_effect, caller_effects, later_effects, ret_effects, statement_effects};
 ghost use Rattle.sg_check_statements.specs.Inside.Changes.{change_effect};
 ghost use Rattle.sg_check_statements.specs.Params.{has_word};
 ghost use Rattle.sg_facts.specs.declared.shape.Effect.TheVariants.{SetArg, AddArg};

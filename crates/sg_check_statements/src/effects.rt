@@ -1,13 +1,13 @@
 // Whether the effects of a function are declared as the service has them.
 ghost use Rattle.std.specs.Prelude.{◌≡◌, ◌&&◌, Some, MatchOption};
-ghost use Rattle.sg_check_statements.specs.Faults.{IsFirstStatement, NoStatement};
-ghost use Rattle.sg_check_statements.specs.Flaws.{wrong_effect};
+ghost use Rattle.sg_check_statements.specs.Faults.{IsFirstStatement};
+ghost use Rattle.sg_check_statements.specs.Inside.Pieces.{NoStatement, wrong_effect, service_effects};
 ghost use Rattle.std.specs.List.{list_any, list_all};
 ghost use Rattle.std.specs.Str.{bytes_eq};
 ghost use Rattle.sg_facts.specs.Facts.{facts_of, fun_of_shape};
 ghost use Rattle.sg_check_statements.specs.Inside.Changes.{change_effect};
 ghost use Rattle.sg_facts.specs.Words.{field_name};
-ghost use Rattle.sg_check_statements.specs.Effects.{declared_effects, has_effect, same_effect, same_effects, service_effects};
+ghost use Rattle.sg_check_statements.specs.Effects.{declared_effects, same_effect, same_effects, has_effect};
 
 use crate::change::Change;
 use crate::declared::{Proto, Test, any_declared};

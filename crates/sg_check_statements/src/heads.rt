@@ -1,7 +1,8 @@
 // Whether the facts at the head of a text are the service's.
 ghost use Rattle.std.specs.Prelude.{◌≡◌};
 ghost use Rattle.sg_facts.specs.Facts.{facts_of};
-ghost use Rattle.sg_check_statements.specs.Flaws.{other_value, wrong_fact};
+ghost use Rattle.sg_check_statements.specs.Flaws.{wrong_fact};
+ghost use Rattle.sg_check_statements.specs.Inside.Pieces.{other_value};
 
 use sg_facts::{Shape, close_word, flag_word, parents_word};
 use sg_parse::{Facts, Name};

@@ -2,7 +2,8 @@
 ghost use Rattle.std.specs.Prelude.{◌≡◌, ℕ, List, Some, MatchOption};
 ghost use Rattle.std.specs.declared.option.Option.{Option as Maybe};
 ghost use Rattle.sg_parse.specs.declared.tree.Statement.{Statement as One};
-ghost use Rattle.sg_check_statements.specs.Faults.{IsFirstStatement, NoStatement};
+ghost use Rattle.sg_check_statements.specs.Faults.{IsFirstStatement};
+ghost use Rattle.sg_check_statements.specs.Inside.Pieces.{NoStatement};
 
 use sg_parse::Statement;
 

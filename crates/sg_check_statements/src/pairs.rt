@@ -1,9 +1,10 @@
 // Whether the transitions, or the recover steps, that statements name are the service's.
 ghost use Rattle.std.specs.Prelude.{◌≡◌, Some, MatchOption, codes};
-ghost use Rattle.sg_check_statements.specs.Faults.{IsFirstStatement, NoStatement};
+ghost use Rattle.sg_check_statements.specs.Faults.{IsFirstStatement};
+ghost use Rattle.sg_check_statements.specs.Inside.Pieces.{NoStatement, has_pair_at};
 ghost use Rattle.sg_facts.specs.Facts.{facts_of};
 ghost use Rattle.sg_facts.specs.Interface.{has_pair};
-ghost use Rattle.sg_check_statements.specs.Flaws.{foreign, has_pair_at};
+ghost use Rattle.sg_check_statements.specs.Flaws.{foreign};
 
 use crate::funs::fun_number;
 use crate::judge::{Judge, first_flaw};

@@ -1,9 +1,9 @@
 // Whether a prototype has the parameters of its function.
 ghost use Rattle.std.specs.Prelude.{◌≡◌, Some, MatchOption, codes};
 ghost use Rattle.sg_facts.specs.Facts.{facts_of, fun_of_shape};
-ghost use Rattle.sg_check_statements.specs.Faults.{IsFirstStatement, NoStatement};
-ghost use Rattle.sg_check_statements.specs.Flaws.{bad_params};
-ghost use Rattle.sg_check_statements.specs.Params.{are_of_kinds, fit_params, is_caller, is_client_type, is_of_kind, has_word};
+ghost use Rattle.sg_check_statements.specs.Faults.{IsFirstStatement};
+ghost use Rattle.sg_check_statements.specs.Inside.Pieces.{NoStatement, bad_params, is_caller, is_client_type};
+ghost use Rattle.sg_check_statements.specs.Params.{is_of_kind, are_of_kinds, fit_params, has_word};
 
 use crate::funs::fun_of_name;
 use crate::judge::{Judge, first_flaw};

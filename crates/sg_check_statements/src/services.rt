@@ -3,7 +3,7 @@ ghost use Rattle.std.specs.Prelude.{◌≡◌, ◌&&◌, map};
 ghost use Rattle.std.specs.List.{list_any};
 ghost use Rattle.std.specs.Option.{option_copied, option_map};
 ghost use Rattle.sg_facts.specs.Facts.{facts_of, fun_of_shape};
-ghost use Rattle.sg_check_statements.specs.Flaws.{no_creation};
+ghost use Rattle.sg_check_statements.specs.Inside.Pieces.{no_creation};
 ghost use Rattle.sg_check_statements.specs.Says.{has_proto, service_of};
 
 use crate::says::has_proto;

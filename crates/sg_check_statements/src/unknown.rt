@@ -1,8 +1,9 @@
 // Whether the functions that statements name are declared, and those that are declared the service's.
 ghost use Rattle.std.specs.Prelude.{◌≡◌, ◌&&◌, not, Some, IfOk, MatchOption, codes};
-ghost use Rattle.sg_check_statements.specs.Faults.{IsFirstStatement, NoStatement};
+ghost use Rattle.sg_check_statements.specs.Faults.{IsFirstStatement};
+ghost use Rattle.sg_check_statements.specs.Inside.Pieces.{NoStatement, names_two, unknown};
 ghost use Rattle.sg_facts.specs.Facts.{facts_of};
-ghost use Rattle.sg_check_statements.specs.Flaws.{place_if, names_two, unknown};
+ghost use Rattle.std.specs.Bool.{then_some};
 ghost use Rattle.sg_check_statements.specs.Says.{has_proto};
 
 use crate::funs::fun_number;
@@ -40,7 +41,7 @@ impl Judge for Unknown<'_, '_, '_> {
 
 // The place of the name of a function that has no prototype.
 fn bare(protos: &Protos, name: &Name) -> Option<usize>
-    ensures { result ≡ place_if (not (has_proto protos.now name.now.bytes)) name.now.at }
+    ensures { result ≡ then_some (not (has_proto protos.now name.now.bytes)) name.now.at }
 {
     if protos.has(name.slice) {
         None
@@ -51,7 +52,7 @@ fn bare(protos: &Protos, name: &Name) -> Option<usize>
 
 // The place of a second name, where a word says that this is a function's, and the function has no prototype.
 fn bare_second(protos: &Protos, word: &[u8], name: &Name) -> Option<usize>
-    ensures { result ≡ place_if (names_two word.now && not (has_proto protos.now name.now.bytes)) name.now.at }
+    ensures { result ≡ then_some (names_two word.now && not (has_proto protos.now name.now.bytes)) name.now.at }
 {
     if names_two(word) {
         bare(protos, name)

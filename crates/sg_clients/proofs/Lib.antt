@@ -1,4 +1,3 @@
 pub mod Phases
 pub mod Seats
-pub mod UnderWay
 pub mod Waking

@@ -1,21 +1,9 @@
 -- Seats by their clients, of which one has changed.
-use Rattle.std.proofs.Common.{List, [], ◌∷◌, ap, arith, length, map, refl, slice_get, slice_set, suc, sym, unwrap_or, zero, ℕ, ◌-◌, ◌<◌, ◌≤◌, ◌≡◌, ◌∙◌, get_or-set_same, get_or-set_other}
+use Rattle.std.proofs.Common.{List, [], ◌∷◌, ap, arith, get_or, length, map, refl, slice_set, suc, sym, zero, ℕ, ◌-◌, ◌<◌, ◌≤◌, ◌≡◌, ◌∙◌}
 use Rattle.std.specs.Prelude.{slice_index_or}
 use Rattle.std.proofs.lemmas.List.{get_or_default}
 use Rattle.std.proofs.lemmas.Option.{unwrap_or-slice_get}
 use Rattle.sg_seat.specs.WorldView.{Seat, no_seat, seat_in}
-
--- the client whose seat it is
-pub seat_here : (seats : List Seat) (client : ℕ) (new : Seat) → 1 ≤ client → client ≤ length seats → seat_in (slice_set seats (client - 1) new) client ≡ new
-seat_here seats client new first last =
-    unwrap_or-slice_get (slice_set seats (client - 1) new) (client - 1) no_seat ∙ get_or-set_same seats (client - 1) new no_seat (omega (arith, first, last))
-
--- another
-pub seat_elsewhere : (seats : List Seat) (client other : ℕ) (new : Seat) → 1 ≤ client → 1 ≤ other → (other ≡ client → ⊥) → seat_in (slice_set seats (client - 1) new) other ≡ seat_in seats other
-seat_elsewhere seats client other new first its apart =
-    unwrap_or-slice_get (slice_set seats (client - 1) new) (other - 1) no_seat
-    ∙ get_or-set_other seats (client - 1) (other - 1) new no_seat (λ same. apart (omega (arith, first, its, same)))
-    ∙ sym (unwrap_or-slice_get seats (other - 1) no_seat)
 
 -- a client's seat is read at a place
 pub record Reads (inside seats : List Seat) (at client : ℕ) (x : Seat) : Type 0 where
@@ -38,13 +26,13 @@ is_changed {inside} {seats} {at} {client} {x} r change new changed =
     ap (λ l. slice_set l (at - 1) new) r.same ∙ ap (λ n. slice_set seats (n - 1) new) r.is ∙ ap (slice_set seats (client - 1)) (changed ∙ ap change (is_read r))
 
 -- a change that a function does not see
-pub set_unseen : (f : Seat → Seat) (seats : List Seat) (at : ℕ) (new : Seat) → f new ≡ f (unwrap_or (slice_get seats at) no_seat) → map f (slice_set seats at new) ≡ map f seats
+pub set_unseen : (f : Seat → Seat) (seats : List Seat) (at : ℕ) (new : Seat) → f new ≡ f (get_or seats at no_seat) → map f (slice_set seats at new) ≡ map f seats
 set_unseen f [] at new is = refl
 set_unseen f (s ∷ seats) zero new is = ap (λ x. x ∷ map f seats) is
 set_unseen f (s ∷ seats) (suc at) new is = ap (λ l. f s ∷ l) (set_unseen f seats at new is)
 
 -- a function that changes no seat
-pub all_kept : (f : Seat → Seat) (seats : List Seat) → ((at : ℕ) → at < length seats → f (unwrap_or (slice_get seats at) no_seat) ≡ unwrap_or (slice_get seats at) no_seat) → seats ≡ map f seats
+pub all_kept : (f : Seat → Seat) (seats : List Seat) → ((at : ℕ) → at < length seats → f (get_or seats at no_seat) ≡ get_or seats at no_seat) → seats ≡ map f seats
 all_kept f [] kept = refl
 all_kept f (s ∷ seats) kept =
     ap (λ x. x ∷ seats) (sym (kept zero (omega arith))) ∙ ap (λ l. f s ∷ l) (all_kept f seats (λ at less. kept (suc at) (omega (arith, less))))

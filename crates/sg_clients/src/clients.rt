@@ -3,7 +3,7 @@ ghost use Rattle.std.specs.Prelude.{◌≡◌, ◌<◌, ◌≤◌, ◌-◌, ◌+
 ghost use Rattle.sg_clients.specs.Clients.{IsClient};
 ghost use Rattle.std.specs.List.{list_all};
 ghost use Rattle.sg_facts.specs.sg_base.Reply.{FitsReplyRoom};
-ghost use Rattle.sg_clients.specs.Inside.Waiting.{AreUnderWay};
+ghost use Rattle.sg_clients.specs.Inside.Waiting.{count_if_waits, waiting_in};
 ghost use Rattle.sg_clients.specs.Rooms.{FitsSeatRoom};
 ghost use Rattle.sg_facts.specs.Limits.{last_client};
 ghost use Rattle.sg_name.specs.Names.{AnswersBy};
@@ -11,19 +11,17 @@ ghost use Rattle.sg_seat.specs.WorldView.{IsFree, is_at_rest, is_left_phase, is_
 ghost use Rattle.sg_seat.specs.declared.phase.Phase.TheVariants.{Idle, Asked, Held, Receipted, Blocked, Left};
 
 use crate::seat::{ClientSeat, Returned, SeatRoom};
-use crate::under_way::{UnderWay, add, take_out};
 use sg_facts::{Call, Entry, ListOf, NoMemory, Reply};
 use sg_seat::{Phase, Withdrawn};
 use std::alloc::Global;
-use std::collections::BTreeSet;
 use std::marker::Model;
 
-/// The clients of a world, in ascending numbers from 1. Contracts see the list of their seats. An index has each call that
-/// isn't answered, by its descriptor; a call whose client left stays in it until the client offers the next.
+/// The clients of a world, in ascending numbers from 1. Contracts see the list of their seats. Beside them stands the number of
+/// those that wait, so that nobody is looked for where nobody waits.
 #[derive(Debug, Drop)]
 pub struct Clients {
     seats: Vec<ClientSeat>,
-    waiting: BTreeSet<UnderWay>,
+    waiting: usize,
 }
 
 impl Model for Clients {
@@ -34,9 +32,10 @@ impl Model for Clients {
 
     ghost view = { λ s. s.seats.items };
 
-    ghost use Rattle.sg_clients.specs.Inside.Waiting.{AreUnderWay};
+    ghost use Rattle.std.specs.Prelude.{◌≡◌};
+    ghost use Rattle.sg_clients.specs.Inside.Waiting.{waiting_in};
 
-    ghost invariant = { λ s. AreUnderWay s.seats.items s.waiting };
+    ghost invariant = { λ s. s.waiting ≡ waiting_in s.seats.items };
 }
 
 impl Clients {
@@ -46,7 +45,7 @@ impl Clients {
     {
         Ok(Clients {
             seats: new_seats(alloc, clients)?,
-            waiting: BTreeSet::new(alloc),
+            waiting: 0,
         })
     }
 
@@ -106,22 +105,7 @@ impl Clients {
         ensures err { OnErr result (self.new ≡ self.old) }
     {
         let client = call.client;
-        let left_in = self.call(client).desc;
         let room = SeatRoom::new(alloc, &call)?;
-        take_out(
-            &mut self.waiting,
-            UnderWay {
-                desc: left_in,
-                client,
-            },
-        );
-        add(
-            &mut self.waiting,
-            UnderWay {
-                desc: call.desc,
-                client,
-            },
-        )?;
         self.seats[usize::from(client) - 1].offer(call, room);
         Ok(())
     }
@@ -132,6 +116,7 @@ impl Clients {
         requires offers { is_offered (seat_in self.old client).phase ≡ true }
         ensures { self.new ≡ slice_set self.old (client - 1) (record (seat_in self.old client) { phase = Blocked }) }
     {
+        self.waiting = self.waiting_without(client) + 1;
         self.seats[usize::from(client) - 1].block();
     }
 
@@ -142,6 +127,7 @@ impl Clients {
         requires fits { FitsReplyRoom reply }
         ensures { self.new ≡ slice_set self.old (client - 1) (record (seat_in self.old client) { phase = Held; boot = boot; reply = reply }) }
     {
+        self.waiting = self.waiting_without(client);
         self.seats[usize::from(client) - 1].hold(boot, reply);
     }
 
@@ -151,6 +137,7 @@ impl Clients {
         requires offers { is_offered (seat_in self.old client).phase ≡ true }
         ensures { self.new ≡ slice_set self.old (client - 1) (record (seat_in self.old client) { phase = Asked }) }
     {
+        self.waiting = self.waiting_without(client);
         self.seats[usize::from(client) - 1].ask_again();
     }
 
@@ -164,8 +151,7 @@ impl Clients {
         ensures number { result.call.seq < 2 ^ 32 }
         ensures seats { let s = seat_in self.old client in self.new ≡ slice_set self.old (client - 1) (record s { phase = Receipted; seq = s.call.seq; reply = reply.now }) }
     {
-        let desc = self.call(client).desc;
-        take_out(&mut self.waiting, UnderWay { desc, client });
+        self.waiting = self.waiting_without(client);
         self.seats[usize::from(client) - 1].give(reply)
     }
 
@@ -180,8 +166,7 @@ impl Clients {
         ensures answer { result.answer ≡ (seat_in self.old client).reply }
         ensures seats { let s = seat_in self.old client in self.new ≡ slice_set self.old (client - 1) (record s { phase = Idle; seq = s.call.seq; reply = no_reply }) }
     {
-        let desc = self.call(client).desc;
-        take_out(&mut self.waiting, UnderWay { desc, client });
+        self.waiting = self.waiting_without(client);
         self.seats[usize::from(client) - 1].give_back(alloc)
     }
 
@@ -194,8 +179,7 @@ impl Clients {
         ensures number { result.seq < 2 ^ 32 }
         ensures seats { let s = seat_in self.old client in self.new ≡ slice_set self.old (client - 1) (record s { phase = Idle; seq = s.call.seq; reply = no_reply }) }
     {
-        let desc = self.call(client).desc;
-        take_out(&mut self.waiting, UnderWay { desc, client });
+        self.waiting = self.waiting_without(client);
         self.seats[usize::from(client) - 1].refuse(alloc)
     }
 
@@ -235,8 +219,7 @@ impl Clients {
         ensures room { FitsSeatRoom (seat_in self.old client).call result }
         ensures seats { self.new ≡ slice_set self.old (client - 1) (record (seat_in self.old client) { phase = Idle }) }
     {
-        let desc = self.call(client).desc;
-        take_out(&mut self.waiting, UnderWay { desc, client });
+        self.waiting = self.waiting_without(client);
         self.seats[usize::from(client) - 1].withdraw()
     }
 
@@ -245,7 +228,17 @@ impl Clients {
         requires client { IsClient (length self.old) client }
         ensures { self.new ≡ slice_set self.old (client - 1) (record (seat_in self.old client) { phase = Left }) }
     {
+        self.waiting = self.waiting_without(client);
         self.seats[usize::from(client) - 1].leave();
+    }
+
+    // The number of who waits, without this client.
+    fn waiting_without(&self, client: u8) -> usize
+        requires client { IsClient (length self.now) client }
+        ensures others { result + count_if_waits (seat_in self.now client) ≡ waiting_in self.now }
+        ensures fewer { result < length self.now }
+    {
+        self.waiting - usize::from(self.seats[usize::from(client) - 1].is_blocked())
     }
 
     /// Whether every client waits or has left.
@@ -255,24 +248,29 @@ impl Clients {
         self.seats.iter().all(|seat| seat.is_at_rest())
     }
 
-    /// Whoever waits in a call on a descriptor is asked again. It takes time that grows with the number of the calls on the descriptor
-    /// in the index, and with the logarithm of all: it does not go over all clients.
+    /// Whoever waits in a call on a descriptor is asked again. Where nobody waits, it looks at no client; else it goes once over all.
     pub fn wake(&mut self, desc: u64)
         ensures { self.new ≡ map (woken_seat (λ call. desc == call.desc)) self.old }
     {
-        wake_on(self.seats.as_mut_slice(), &self.waiting, desc);
+        self.wake_where(
+            |waited: u64| -> bool
+                ensures { result ≡ (desc == waited) }
+            { desc == waited },
+        );
     }
 
-    /// Whoever waits in a call on a descriptor that meets a test is asked again. The test is asked once for each call in
-    /// the index.
+    /// Whoever waits in a call on a descriptor that meets a test is asked again. The test is asked once for each client that waits.
     pub fn wake_where<F: Fn(u64) -> bool>(&mut self, test: F)
         requires { F.IsAlwaysCallable test }
         ensures { (meets : ℕ → Bool) → AnswersBy (F.post test) meets → self.new ≡ map (woken_seat (λ call. meets call.desc)) self.old }
     {
-        wake_those(self.seats.as_mut_slice(), &self.waiting, test);
+        if self.waiting == 0 {
+            return;
+        }
+        self.waiting = wake_those(self.seats.as_mut_slice(), test);
     }
 
-    /// Whoever waits is asked again. It goes over the calls in the index.
+    /// Whoever waits is asked again.
     pub fn wake_all(&mut self)
         ensures { self.new ≡ map (woken_seat (λ call. true)) self.old }
     {
@@ -295,33 +293,21 @@ fn new_seats(alloc: Global, clients: u8) -> Result<Vec<ClientSeat>, NoMemory>
     Ok(seats)
 }
 
-// Whoever waits in a call on a descriptor is asked again.
-fn wake_on(seats: &mut [ClientSeat], waiting: &BTreeSet<UnderWay>, desc: u64)
-    requires { AreUnderWay seats.old waiting.now }
-    ensures calls { AreUnderWay seats.new waiting.now }
-    ensures woken { seats.new ≡ map (woken_seat (λ call. desc == call.desc)) seats.old }
-{
-    let first = UnderWay { desc, client: 0 };
-    let last = UnderWay {
-        desc,
-        client: u8::MAX,
-    };
-    for one in waiting.range(first..=last) {
-        seats[usize::from(one.client) - 1].wake(true);
-    }
-}
-
-// Whoever waits in a call on a descriptor that meets a test is asked again.
-fn wake_those<F: Fn(u64) -> bool>(seats: &mut [ClientSeat], waiting: &BTreeSet<UnderWay>, test: F)
-    requires calls { AreUnderWay seats.old waiting.now }
-    requires test { F.IsAlwaysCallable test }
-    ensures calls { AreUnderWay seats.new waiting.now }
+// Whoever waits in a call on a descriptor that meets a test is asked again; gives how many still wait.
+fn wake_those<F: Fn(u64) -> bool>(seats: &mut [ClientSeat], test: F) -> usize
+    requires { F.IsAlwaysCallable test }
+    ensures waiting { result ≡ waiting_in seats.new }
     ensures woken { (meets : ℕ → Bool) → AnswersBy (F.post test) meets → seats.new ≡ map (woken_seat (λ call. meets call.desc)) seats.old }
 {
-    for one in waiting.iter() {
-        let meets = test(one.desc);
-        seats[usize::from(one.client) - 1].wake(meets);
+    let mut waiting = 0;
+    for seat in seats.iter_mut() {
+        if seat.is_blocked() {
+            let meets = test(seat.call().desc);
+            seat.wake(meets);
+            waiting += usize::from(!meets);
+        }
     }
+    waiting
 }
 
 // The phases of all seats, in the room that there is.

@@ -1,7 +1,6 @@
 //! The clients of a world: how far each has come with its call, and the memory that was taken for the call.
 //!
 //! - `seat`: one client (`ClientSeat`)
-//! - `under_way`: the index of the calls under way, by their descriptors
 //! - `clients`: all clients (`Clients`)
 //!
 //! `sg_seat` has their seats as plain data, and the small changes of these.
@@ -9,7 +8,6 @@
 
 mod clients;
 mod seat;
-mod under_way;
 
 pub use clients::Clients;
 pub use seat::Returned;

@@ -106,6 +106,13 @@ impl ClientSeat {
         matches!(self.phase, Phase::Blocked | Phase::Left)
     }
 
+    /// Whether it waits.
+    pub(crate) fn is_blocked(&self) -> bool
+        ensures { result ≡ is_blocked_phase self.now.phase }
+    {
+        matches!(self.phase, Phase::Blocked)
+    }
+
     /// Whether it has left.
     pub(crate) fn has_left(&self) -> bool
         ensures { result ≡ is_left_phase self.now.phase }
@@ -164,7 +171,7 @@ impl ClientSeat {
     pub(crate) fn wake(&mut self, meets: bool)
         ensures { self.new ≡ woken_seat (λ call. meets) self.old }
     {
-        if meets && matches!(self.phase, Phase::Blocked) {
+        if meets && self.is_blocked() {
             self.phase = Phase::Asked;
         }
     }

@@ -1,10 +1,10 @@
 -- The walks of all rows, together.
-use Rattle.std.proofs.Common.{◌≡◌, ◌+◌, List, [], ◌∷◌, map, refl, ap}
-use Rattle.sg_cost.specs.Costs.{all_lengths, row_cost, walk_length}
+use Rattle.std.proofs.Common.{◌≡◌, ◌+◌, List, [], ◌∷◌, map, refl, ap, Some}
+use Rattle.sg_cost.specs.Costs.{all_lengths, walk_length}
+use Rattle.sg_cost.specs.Inside.Pieces.{row_cost}
 use Rattle.sg_cost.specs.Inside.Lines.{total}
 use Rattle.sg_facts.specs.declared.row.Row.{Row}
 use Rattle.sg_facts.specs.declared.tables.WalkLine.{WalkLine}
-use Rattle.std.proofs.Common.{Some}
 
 pub total_rows : (walks : List WalkLine) (rows : List Row) → total (map (row_cost walks) rows) ≡ all_lengths walks rows
 total_rows walks [] = refl

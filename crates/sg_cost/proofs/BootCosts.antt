@@ -5,7 +5,9 @@ use Rattle.std.specs.List.{list_all}
 use Rattle.std.proofs.lemmas.List.{drop_more, length-take-le}
 use Rattle.sg_cost.proofs.Fronts.{front_opens}
 use Rattle.sg_cost.proofs.Indexed.{divided, one_more}
-use Rattle.sg_cost.specs.Costs.{all_lengths, boot_cost, boot_costs, opening, replays_for}
+use Rattle.sg_cost.specs.Costs.{all_lengths, boot_costs, opening}
+use Rattle.sg_cost.specs.Inside.Pieces.{boot_cost}
+use Rattle.sg_report.specs.Report.{replays_for}
 use Rattle.sg_cost.specs.Inside.Fronts.{AreInRun, IsFront}
 use Rattle.sg_cost.specs.Inside.LastBoots.{AreLastBoots, is_over}
 use Rattle.sg_cost.specs.declared.costs.BootCost.{BootCost}

@@ -1,6 +1,7 @@
 -- A boot is printed after others.
 use Rattle.std.proofs.Common.{◌≡◌, ℕ, ◌+◌, List, [], ◌∷◌, ◌++◌, length, sym, ◌∙◌, ap, append-nil, append_assoc, arith}
-use Rattle.sg_cost.specs.Lines.{boot_line, boot_lines}
+use Rattle.sg_cost.specs.Lines.{boot_lines}
+use Rattle.sg_cost.specs.Inside.Pieces.{boot_line}
 use Rattle.sg_cost.specs.declared.costs.BootCost.{BootCost}
 
 pub boot_lines_more : (n : ℕ) (costs : List BootCost) (c : BootCost) → boot_lines n (costs ++ c ∷ []) ≡ boot_lines n costs ++ boot_line (n + length costs) c

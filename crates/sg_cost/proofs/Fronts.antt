@@ -9,18 +9,21 @@ use Rattle.sg_cost.proofs.Few.Lists.{any_reverse, both_true, find_behind, last_o
 use Rattle.sg_cost.proofs.Few.Openings.{none_opens}
 use Rattle.sg_cost.proofs.Few.Places.{item_at, items_append, last_boot as last_having, none_in, place_at}
 use Rattle.sg_cost.proofs.LastBoots.{StandsLater, counts_stands, stands_later}
-use Rattle.sg_cost.specs.Costs.{opening, stands_in}
+use Rattle.sg_cost.specs.Costs.{opening}
+use Rattle.sg_cost.specs.Inside.Pieces.{stands_in}
 use Rattle.sg_cost.specs.Inside.Fronts.{AreInRun}
 use Rattle.sg_cost.specs.Inside.LastBoots.{AreLastBoots, counts_by, is_over, last_boot}
 use Rattle.sg_facts.specs.Facts.{Facts}
-use Rattle.sg_facts.specs.Object.{Object, after, empty_object, object_from, object_of}
+use Rattle.sg_facts.specs.Object.{Object, after, empty_object, object_of}
+use Rattle.sg_facts.specs.Inside.Rows.{object_from}
 use Rattle.sg_facts.specs.Trace.{Boot, Run}
 use Rattle.sg_facts.specs.declared.entry.Entry.{Entry}
 use Rattle.sg_facts.specs.sg_base.Lists.{Each, When}
 use Rattle.sg_facts.specs.sg_base.declared.reply.Reply.{Reply}
 use Rattle.sg_facts.specs.sg_base.declared.reply.Reply.TheVariants.{Ok, Refused}
 use Rattle.sg_report.specs.sg_hist.Reading.{Position, is_by_guard, is_item_of, item_of, items_of, places_of}
-use Rattle.sg_report.specs.sg_hist.Recovered.{AreInBoots, GivesEntry, HasItem, boot_start, start_of}
+use Rattle.sg_report.specs.sg_hist.Recovered.{AreInBoots, start_of}
+use Rattle.sg_report.specs.sg_hist.Inside.Parts.{GivesEntry, HasItem, boot_start}
 use Rattle.sg_world_laws.proofs.sg_recovery_laws.Lists.{each_split}
 
 -- the entries after some others are in boots too

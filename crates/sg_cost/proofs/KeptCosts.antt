@@ -9,11 +9,13 @@ use Rattle.std.proofs.lemmas.List.Folds.{list_any-append}
 use Rattle.sg_cost.proofs.Indexed.{greatest_more}
 use Rattle.sg_cost.proofs.LineCosts.{line_none, line_step, line_within, no_parent}
 use Rattle.sg_cost.proofs.RowsAt.{RowHere}
-use Rattle.sg_cost.specs.Costs.{all_lengths, greatest, row_cost, walk_length}
+use Rattle.sg_cost.specs.Costs.{all_lengths, greatest, walk_length}
+use Rattle.sg_cost.specs.Inside.Pieces.{row_cost}
 use Rattle.sg_cost.specs.Inside.Lines.{AreLineCosts, kept_cost, line_cost}
 use Rattle.sg_cost.specs.declared.costs.RowCost.{RowCost}
 use Rattle.sg_facts.proofs.Replaying.Found.{met, other_test, same_test}
-use Rattle.sg_facts.specs.Track.{parent_in, row_at}
+use Rattle.sg_facts.specs.Track.{row_at}
+use Rattle.sg_facts.specs.Inside.Rows.{parent_in}
 use Rattle.sg_facts.specs.declared.row.Row.{Row}
 use Rattle.sg_facts.specs.declared.tables.WalkLine.{WalkLine}
 use Rattle.sg_needs.specs.sg_track.Tracked.{AreTracked, HasLowerParent}

@@ -5,7 +5,7 @@ use Rattle.std.specs.List.{list_any}
 use Rattle.std.proofs.lemmas.Bool.Decides.{nat_tests}
 use Rattle.std.proofs.lemmas.List.Folds.{list_any-append}
 use Rattle.sg_cost.proofs.Few.Lists.{both_true, neither}
-use Rattle.sg_cost.specs.Costs.{stands_in}
+use Rattle.sg_cost.specs.Inside.Pieces.{stands_in}
 use Rattle.sg_cost.specs.Inside.LastBoots.{has_call, last_boot}
 use Rattle.sg_facts.specs.Trace.{Boot}
 use Rattle.sg_facts.specs.declared.entry.Entry.{Entry}

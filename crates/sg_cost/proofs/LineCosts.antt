@@ -10,7 +10,8 @@ use Rattle.sg_cost.specs.Inside.Lines.{line_cost}
 use Rattle.sg_facts.proofs.Replaying.Found.{all_found, other_test}
 use Rattle.sg_facts.proofs.RowLists.{left}
 use Rattle.sg_facts.specs.Sound.{AreRows}
-use Rattle.sg_facts.specs.Track.{ancestors, is_ancestor, is_live, parent_in, row_at}
+use Rattle.sg_facts.specs.Track.{ancestors, is_ancestor, is_live, row_at}
+use Rattle.sg_facts.specs.Inside.Rows.{parent_in}
 use Rattle.sg_facts.specs.declared.row.Row.{Row}
 use Rattle.sg_facts.specs.declared.tables.WalkLine.{WalkLine}
 use Rattle.sg_facts.specs.sg_base.Lists.{Each}

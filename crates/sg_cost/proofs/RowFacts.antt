@@ -7,8 +7,9 @@ use Rattle.sg_cost.specs.Costs.{most_entries}
 use Rattle.sg_cost.specs.Inside.Fronts.{AreFewRows, IsFront}
 use Rattle.sg_facts.specs.Facts.{Facts, fun_at}
 use Rattle.sg_facts.specs.Limits.{most_fields}
-use Rattle.sg_facts.specs.Object.{Object, after, empty_object, object_from, object_of}
-use Rattle.sg_facts.specs.Track.{empty_field, ends_with, new_row, row_after, row_at, track}
+use Rattle.sg_facts.specs.Object.{Object, after, empty_object, object_of}
+use Rattle.sg_facts.specs.Inside.Rows.{object_from, empty_field, row_after, track}
+use Rattle.sg_facts.specs.Track.{ends_with, new_row, row_at}
 use Rattle.sg_facts.specs.declared.entry.Entry.{Entry}
 use Rattle.sg_facts.specs.declared.row.Row.{Row}
 use Rattle.sg_facts.specs.sg_base.Lists.{Each}

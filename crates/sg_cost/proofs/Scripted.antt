@@ -8,7 +8,8 @@ use Rattle.std.proofs.lemmas.List.Elements.{filter-append}
 use Rattle.sg_cost.proofs.Few.Lists.{both_true}
 use Rattle.sg_cost.specs.Costs.{IsClients, most_entries}
 use Rattle.sg_facts.proofs.Replaying.Found.{same_test}
-use Rattle.sg_facts.specs.Facts.{Facts, fun_at, is_desc, is_parent}
+use Rattle.sg_facts.specs.Facts.{Facts, fun_at}
+use Rattle.sg_facts.specs.Inside.Rows.{is_desc, is_parent}
 use Rattle.sg_facts.specs.Fits.{Fits}
 use Rattle.sg_facts.specs.Interface.{Declared, declares}
 use Rattle.sg_facts.specs.Kinds.{IsCall, kinds_fit}

@@ -5,7 +5,8 @@ use Rattle.sg_cost.specs.Costs.{IsClients, most_entries}
 use Rattle.sg_cost.specs.Inside.Fronts.{AreRowsOf, MayBeTracked}
 use Rattle.sg_facts.specs.Guard.{guard}
 use Rattle.sg_facts.specs.Kinds.{AreWords}
-use Rattle.sg_facts.specs.Legal.{IsLegal, answer, refused_or}
+use Rattle.sg_facts.specs.Legal.{IsLegal, answer}
+use Rattle.sg_facts.specs.Inside.Rows.{refused_or}
 use Rattle.sg_facts.specs.Object.{Object, object_of}
 use Rattle.sg_facts.specs.declared.entry.Entry.{Entry}
 use Rattle.sg_facts.specs.sg_base.Lists.{Each}

@@ -4,8 +4,8 @@ use Rattle.std.specs.Prelude.{slice_index_or}
 use Rattle.sg_cost.proofs.Indexed.{divided, one_more}
 use Rattle.sg_cost.specs.Inside.Fronts.{IsFront, MayBeTracked}
 use Rattle.sg_facts.specs.Facts.{Facts}
-use Rattle.sg_facts.specs.Object.{after, empty_object, given_after, object_of}
-use Rattle.sg_facts.specs.Track.{track}
+use Rattle.sg_facts.specs.Object.{after, empty_object, object_of}
+use Rattle.sg_facts.specs.Inside.Rows.{given_after, track}
 use Rattle.sg_facts.specs.declared.entry.Entry.{Entry}
 use Rattle.sg_needs.specs.sg_track.Tracked.{MayTrack, Tracked}
 use Rattle.sg_world_laws.proofs.Drawn.{object_behind}

@@ -1,7 +1,7 @@
 -- No boot needs more than its bound.
 use Rattle.std.proofs.Common.{◌≡◌, ℕ, ◌≤◌, true, List, [], ◌∷◌, ◌++◌, IfOk, Result, Ok, Err, append_assoc, refl, subst, sym, ◌∙◌}
 use Rattle.sg_cost.proofs.Few.Bounds.{are_few}
-use Rattle.sg_cost.specs.Costs.{AreFewInEach, IsClients, boot_costs, costs_at}
+use Rattle.sg_cost.specs.Costs.{IsClients, boot_costs, costs_at, AreFewInEach}
 use Rattle.sg_cost.specs.declared.costs.Costs.{Costs}
 use Rattle.sg_facts.specs.Allowed.{is_allowed}
 use Rattle.sg_facts.specs.Kinds.{IsCall}

@@ -1,13 +1,13 @@
 -- What replayed calls a stop can cost, and how many there were.
-use Rattle.std.specs.Prelude.{ℕ, zero, suc, ◌≡◌, ◌+◌, ◌*◌, ◌^◌, ◌≤◌, ◌==◌, Bool, true, false, ◌&&◌, ◌||◌, not, if◌then◌else◌, max, List, [], ◌∷◌, ◌++◌, None, Some, filter, length, map}
+use Rattle.std.specs.Prelude.{ℕ, ◌≡◌, zero, suc, ◌+◌, ◌*◌, ◌^◌, ◌≤◌, ◌==◌, true, ◌&&◌, ◌||◌, not, if◌then◌else◌, max, List, [], ◌∷◌, ◌++◌, Some, filter, length, map}
 use Rattle.std.specs.declared.option.Option.{Option}
+use Rattle.std.specs.Option.{option_map_or}
 use Rattle.std.specs.List.{list_any}
 use Rattle.sg_facts.specs.sg_base.declared.call.Call.{Call}
-use Rattle.sg_facts.specs.Facts.{Facts, Fun, fun_at, takes_desc, takes_parent}
+use Rattle.sg_facts.specs.Facts.{Facts, fun_at, takes_desc, takes_parent}
 use Rattle.sg_cost.specs.declared.costs.BootCost.{BootCost}
 use Rattle.sg_cost.specs.declared.costs.Costs.{Costs}
 use Rattle.sg_cost.specs.declared.costs.FunCost.{FunCost}
-use Rattle.sg_cost.specs.declared.costs.RowCost.{RowCost}
 use Rattle.sg_facts.specs.Interface.{Declared, declares}
 use Rattle.sg_facts.specs.Kinds.{IsCall}
 use Rattle.sg_facts.specs.Limits.{last_client, most_funs}
@@ -16,14 +16,10 @@ use Rattle.sg_facts.specs.Object.{Object, object_of}
 use Rattle.sg_facts.specs.Trace.{Boot, Run}
 use Rattle.sg_facts.specs.Track.{row_at}
 use Rattle.sg_facts.specs.declared.entry.Entry.{Entry}
-use Rattle.sg_facts.specs.declared.outcome.Outcome.{Outcome}
 use Rattle.sg_facts.specs.declared.row.Row.{Row}
 use Rattle.sg_facts.specs.declared.tables.WalkLine.{WalkLine}
-use Rattle.sg_facts.specs.declared.trace.Item.{Item}
-use Rattle.sg_facts.specs.declared.trace.Tag.{Tag}
-use Rattle.sg_facts.specs.declared.trace.Tag.TheVariants.{Walk, Load, Client}
 use Rattle.sg_report.specs.sg_hist.Reading.{is_by_guard, is_item_of, items_of, walk_in}
-use Rattle.sg_report.specs.sg_hist.Recovered.{is_replied}
+use Rattle.sg_report.specs.Report.{replays_for}
 
 -- ---- histories
 
@@ -37,14 +33,9 @@ IsClients facts call = IsCall facts call × (1 ≤ call.client) × (call.client 
 
 -- ---- walks
 
--- the number of calls of a walk, 0 where there is none
-abbrev pub calls_in : Option (List ℕ) → ℕ
-calls_in None = 0
-calls_in (Some walk) = length walk
-
--- the number of calls of a row's walk, 0 where there is no row
+-- the number of calls of a row's walk, 0 where there is no row, or no walk
 abbrev pub walk_length : List WalkLine → Option Row → ℕ
-walk_length walks row = calls_in (walk_in walks row)
+walk_length walks row = option_map_or length (walk_in walks row) 0
 
 -- the calls of the walks of all rows, together
 abbrev pub all_lengths : List WalkLine → List Row → ℕ
@@ -57,23 +48,11 @@ cost_of i walks rows call = all_lengths walks (filter (is_wanted i rows call) ro
 
 -- ---- boots
 
--- whether an entry's item stands in these boots, and in none of those after them
-abbrev pub stands_in : List Boot → List Boot → Entry → Bool
-stands_in boots later e = not (is_by_guard e.reply) && list_any (is_item_of e) (items_of boots) && not (list_any (is_item_of e) (items_of later))
-
--- the object at which the first of some boots opens: that of the entries, in the history's order, whose items stand in the boots before
+-- the object at which the first of some boots opens: that of the entries, in the history's order, whose items stand in the boots before, and
+-- in none of those after them
 abbrev pub opening : Facts → List Entry → List Boot → List Boot → Object
-opening facts history before boots = object_of facts (filter (stands_in before boots) history)
-
--- whether an item is a replayed call that was answered, of a descriptor whose id meets a test
-abbrev pub is_replay_for : (ℕ → Bool) → Tag → Outcome → Bool
-is_replay_for test (Walk id k client) outcome = test id && is_replied outcome
-is_replay_for test (Load key client) outcome = false
-is_replay_for test (Client client seq) outcome = false
-
--- how many items are
-abbrev pub replays_for : (ℕ → Bool) → List Item → ℕ
-replays_for test items = length (filter (λ item. is_replay_for test item.tag item.outcome) items)
+opening facts history before boots = object_of facts
+    (filter (λ e. not (is_by_guard e.reply) && list_any (is_item_of e) (items_of before) && not (list_any (is_item_of e) (items_of boots))) history)
 
 -- the replayed calls of a boot, which stands between others, are few
 pub record AreFew (i : Declared) (walks : List WalkLine) (history : List Entry) (before : List Boot) (b : Boot) (later : List Boot) : Type 0 where
@@ -91,54 +70,40 @@ AreFewInEach i walks history run = (before : List Boot) (b : Boot) (later : List
 
 -- ---- what is told
 
--- a live descriptor, with the number of calls of its walk
-abbrev pub row_cost : List WalkLine → Row → RowCost
-row_cost walks r = record { id = r.id; walk = walk_length walks (Some r) }
-
--- a call of a function on a descriptor, or on none where that is 0. What a call costs depends on nothing else of it
-abbrev pub call_on : ℕ → ℕ → Call
-call_on fun desc = record { client = 0; seq = 0; fun = fun; desc = desc; args = [] }
-
--- on what a function may be called: on none, and where it takes a descriptor or a parent on each that is live
-abbrev pub callable_on : Fun → List Row → List ℕ
-callable_on f rows = 0 ∷ (if takes_desc f || takes_parent f then map (λ r. r.id) rows else [])
-
 -- the greatest of some numbers, 0 where there is none
 abbrev pub greatest : List ℕ → ℕ
 greatest [] = 0
 greatest (n ∷ ns) = max n (greatest ns)
 
--- a function, with the most that one of its calls can cost
+-- a function, with the most that one of its calls can cost: it is called on no descriptor, and where it takes a descriptor or a parent on each
+-- that is live. What a call costs depends on nothing else of it
 abbrev pub fun_cost : Declared → List WalkLine → List Row → ℕ → FunCost
-fun_cost i walks rows fun = record { fun = fun; cost = greatest (map (λ id. cost_of i walks rows (call_on fun id)) (callable_on (fun_at i.facts.funs fun) rows)) }
+fun_cost i walks rows fun =
+    let ids : List ℕ = 0 ∷ (if takes_desc (fun_at i.facts.funs fun) || takes_parent (fun_at i.facts.funs fun) then map (λ r. r.id) rows else []) in
+    let cost : ℕ → ℕ = λ id. cost_of i walks rows (record { client = 0; seq = 0; fun = fun; desc = id; args = [] }) in
+    record { fun = fun; cost = greatest (map cost ids) }
 
 -- the numbers of the declared functions among so many from one on, ascending
 abbrev pub declared_from : Declared → ℕ → ℕ → List ℕ
 declared_from i fun zero = []
 declared_from i fun (suc more) = if declares i fun then fun ∷ declared_from i (fun + 1) more else declared_from i (fun + 1) more
 
--- the numbers of the declared functions, ascending
-abbrev pub declared_funs : Declared → List ℕ
-declared_funs i = declared_from i 1 most_funs
-
--- the replayed calls of a boot that were answered, beside the calls of the walks of all rows at its opening
-abbrev pub boot_cost : Facts → List WalkLine → List Entry → List Boot → Boot → List Boot → BootCost
-boot_cost facts walks history before b later = record { walks = replays_for (λ id. true) b.items; bound = all_lengths walks (opening facts history before (b ∷ later)).rows }
-
--- those of boots, after others
+-- for each of some boots, which stand after others, the replayed calls that were answered, beside the calls of the walks of all rows at its
+-- opening
 abbrev pub boot_costs : Facts → List WalkLine → List Entry → List Boot → List Boot → List BootCost
 boot_costs facts walks history before [] = []
-boot_costs facts walks history before (b ∷ boots) = boot_cost facts walks history before b boots ∷ boot_costs facts walks history (before ++ b ∷ []) boots
+boot_costs facts walks history before (b ∷ boots) =
+    (record { walks = replays_for (λ id. true) b.items; bound = all_lengths walks (opening facts history before (b ∷ boots)).rows })
+    ∷ boot_costs facts walks history (before ++ b ∷ []) boots
 
--- what calls could cost after a stop where these rows are live, with what the boots cost
-abbrev pub costs_with : Declared → List WalkLine → List Row → List BootCost → Costs
-costs_with i walks rows boots = record {
-  rows = map (row_cost walks) rows;
-  functions = map (fun_cost i walks rows) (declared_funs i);
-  all = all_lengths walks rows;
-  boots = boots;
-}
-
--- what the calls of a run could cost after one more stop, with what those of each boot cost
+-- what the calls of a run could cost after one more stop: the live descriptors, each with the number of calls of its walk; the functions; and
+-- all descriptors together; with what the calls of each boot cost
 abbrev pub costs_at : Declared → List WalkLine → List Entry → Run → Costs
-costs_at i walks history run = costs_with i walks (object_of i.facts history).rows (boot_costs i.facts walks history [] run.boots)
+costs_at i walks history run =
+    let live : List Row = (object_of i.facts history).rows in
+    record {
+      rows = map (λ r. record { id = r.id; walk = walk_length walks (Some r) }) live;
+      functions = map (fun_cost i walks live) (declared_from i 1 most_funs);
+      all = all_lengths walks live;
+      boots = boot_costs i.facts walks history [] run.boots;
+    }

@@ -1,3 +1,4 @@
 pub mod Fronts
 pub mod LastBoots
 pub mod Lines
+pub mod Pieces

@@ -1,6 +1,7 @@
 // What the calls of a run could cost after one more stop.
 ghost use Rattle.std.specs.Prelude.{◌≡◌, ◌≤◌, [], IfOk, length};
-ghost use Rattle.sg_cost.specs.Costs.{AreFewInEach, IsClients, costs_at, costs_with, most_entries};
+ghost use Rattle.sg_cost.specs.Costs.{IsClients, costs_at, most_entries, AreFewInEach};
+ghost use Rattle.sg_cost.specs.Inside.Pieces.{costs_with};
 ghost use Rattle.sg_cost.specs.Inside.Fronts.{AreFewRows, AreInRun, MayBeTracked};
 ghost use Rattle.sg_facts.specs.Interface.{HasFewFields};
 ghost use Rattle.sg_facts.specs.Legal.{IsLegal};

@@ -3,8 +3,7 @@ ghost use Rattle.std.specs.Prelude.{◌≡◌, ◌<◌, ◌≤◌, ◌+◌, ◌^
 ghost use Rattle.std.specs.List.{list_all};
 ghost use Rattle.sg_cost.specs.Inside.Fronts.{IsFront, MayBeTracked};
 ghost use Rattle.sg_cost.specs.Inside.LastBoots.{is_over};
-ghost use Rattle.sg_facts.specs.Object.{given_after};
-ghost use Rattle.sg_facts.specs.Track.{track};
+ghost use Rattle.sg_facts.specs.Inside.Rows.{given_after, track};
 ghost use Rattle.sg_facts.specs.declared.entry.Entry.{Entry as IsEntry};
 ghost use Rattle.sg_needs.specs.sg_track.Tracked.{MayTrack, Tracked};
 

@@ -1,6 +1,7 @@
 // What calls of functions can cost.
 ghost use Rattle.std.specs.Prelude.{◌≡◌, ◌||◌, IfOk, List, map};
-ghost use Rattle.sg_cost.specs.Costs.{all_lengths, declared_funs, fun_cost, greatest};
+ghost use Rattle.sg_cost.specs.Costs.{all_lengths, fun_cost, greatest};
+ghost use Rattle.sg_cost.specs.Inside.Pieces.{declared_funs};
 ghost use Rattle.sg_cost.specs.Inside.Fronts.{AreFewRows};
 ghost use Rattle.sg_cost.specs.Inside.Lines.{line_cost};
 ghost use Rattle.sg_facts.specs.Facts.{fun_of_shape, takes_desc, takes_parent};

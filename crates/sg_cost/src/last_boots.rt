@@ -1,7 +1,7 @@
 // The last boots in which the service was asked calls.
 ghost use Rattle.std.specs.Prelude.{◌≡◌, if◌then◌else◌, ℕ, IfOk, OnOk, map};
 ghost use Rattle.sg_cost.specs.Inside.LastBoots.{AreLastBoots, has_call, kept_boot, same_call};
-ghost use Rattle.sg_facts.specs.Trace.{boot_of};
+ghost use Rattle.sg_facts.specs.Inside.Rows.{boot_of};
 
 use indexmap::IndexMap;
 use sg_facts::{BootLog, Item, NoMemory, Tag};

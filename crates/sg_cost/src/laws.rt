@@ -1,6 +1,6 @@
 // That replayed calls are few.
 ghost use Rattle.std.specs.Prelude.{◌≡◌, ◌≤◌, [], ℕ, List, length, true};
-ghost use Rattle.sg_cost.specs.Costs.{AreFewInEach, IsClients, cost_of, fun_cost, most_entries};
+ghost use Rattle.sg_cost.specs.Costs.{IsClients, cost_of, fun_cost, most_entries, AreFewInEach};
 ghost use Rattle.sg_facts.specs.sg_base.Lists.{Each};
 ghost use Rattle.sg_facts.specs.Allowed.{is_allowed};
 ghost use Rattle.sg_facts.specs.Fits.{Fits};

@@ -4,7 +4,7 @@ ghost use Rattle.std.specs.Option.{option_copied};
 ghost use Rattle.sg_cost.specs.Costs.{all_lengths, greatest, walk_length};
 ghost use Rattle.sg_cost.specs.Inside.Fronts.{AreFewRows};
 ghost use Rattle.sg_cost.specs.Inside.Lines.{kept_cost, line_cost};
-ghost use Rattle.sg_facts.specs.Track.{parent_in};
+ghost use Rattle.sg_facts.specs.Inside.Rows.{parent_in};
 
 use crate::rows::walk_length;
 use indexmap::IndexMap;

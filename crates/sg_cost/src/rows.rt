@@ -1,7 +1,8 @@
 // The walks of live rows.
 ghost use Rattle.std.specs.Prelude.{◌≡◌, ◌≤◌, Some, IfOk, length, map};
 ghost use Rattle.std.specs.Option.{option_copied};
-ghost use Rattle.sg_cost.specs.Costs.{all_lengths, most_entries, row_cost, walk_length};
+ghost use Rattle.sg_cost.specs.Costs.{all_lengths, most_entries, walk_length};
+ghost use Rattle.sg_cost.specs.Inside.Pieces.{row_cost};
 ghost use Rattle.sg_cost.specs.Inside.Fronts.{AreFewRows};
 ghost use Rattle.sg_cost.specs.Inside.Lines.{total};
 ghost use Rattle.sg_facts.specs.Limits.{most_fields};

@@ -2,8 +2,10 @@
 ghost use Rattle.std.specs.Prelude.{◌≡◌, ◌++◌, IfOk, OnOk, codes};
 ghost use Rattle.std.specs.Fmt.{decimal};
 ghost use Rattle.std.specs.List.{flat_map};
-ghost use Rattle.sg_cost.specs.Lines.{boot_line, boot_lines, cost_text_of, fun_line, row_line};
+ghost use Rattle.sg_cost.specs.Lines.{boot_lines, cost_text_of};
+ghost use Rattle.sg_cost.specs.Inside.Pieces.{boot_line, fun_line};
 ghost use Rattle.sg_facts.specs.Words.{line_end};
+ghost use Rattle.sg_facts.specs.Facts.{fun_at};
 
 use crate::{BootCost, Costs, FunCost, RowCost};
 use sg_facts::{Bytes, Interface, NoMemory};
@@ -26,7 +28,7 @@ pub fn cost_text(alloc: Global, iface: &Interface, costs: &Costs) -> Result<Byte
 
 // A line for each live descriptor.
 fn push_rows(out: &mut Bytes, alloc: Global, costs: &[RowCost]) -> Result<(), NoMemory>
-    ensures { OnOk result (out.new ≡ out.old ++ flat_map row_line costs.now) }
+    ensures { OnOk result (out.new ≡ out.old ++ flat_map (λ c. codes "row " ++ decimal c.id ++ codes " walk " ++ decimal c.walk ++ line_end) costs.now) }
 {
     for cost in costs {
         out.extend_from_slice(b"row ")?;
@@ -45,7 +47,7 @@ fn push_funs(
     iface: &Interface,
     costs: &[FunCost],
 ) -> Result<(), NoMemory>
-    ensures { OnOk result (out.new ≡ out.old ++ flat_map (fun_line iface.now.facts) costs.now) }
+    ensures { OnOk result (out.new ≡ out.old ++ flat_map (λ c. codes "cost " ++ (fun_at iface.now.facts.funs c.fun).name ++ codes " " ++ decimal c.cost ++ line_end) costs.now) }
 {
     for cost in costs {
         push_fun(out, alloc, iface, *cost)?;

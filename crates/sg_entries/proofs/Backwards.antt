@@ -9,15 +9,20 @@ use Rattle.sg_entries.proofs.Flawless.{flawless_parts}
 use Rattle.sg_entries.proofs.Rewritten.{tree_flawless, tree_of, tree_stands, tree_well_formed}
 use Rattle.sg_entries.proofs.Spelt.{ended, line_printed, written}
 use Rattle.sg_entries.proofs.Within.{each_both}
-use Rattle.sg_entries.specs.Flaws.{flaws_from, in_line, too_many_entries}
-use Rattle.sg_entries.specs.Lines.{begins_entry, entry_lines, entry_lines_of, front_lines, line_feed, lines_from, placed}
+use Rattle.sg_entries.specs.Flaws.{flaws_from}
+use Rattle.sg_entries.specs.Inside.Flaws.{in_line, too_many_entries}
+use Rattle.sg_entries.specs.Lines.{begins_entry, entry_lines, entry_lines_of, front_lines, placed}
+use Rattle.sg_entries.specs.Inside.Cutting.{line_feed, lines_from}
 use Rattle.sg_entries.specs.Printed.{HasNames, MayBePrinted, PrintsHistory}
-use Rattle.sg_entries.specs.Reads.{AreEntries, IsHistory}
+use Rattle.sg_entries.specs.Reads.{AreEntries}
+use Rattle.sg_entries.specs.Inside.Parsing.{IsHistory}
 use Rattle.sg_entries.specs.Standing.{entry_of}
 use Rattle.sg_entry_parse.specs.Codes.{code_name}
-use Rattle.sg_entry_parse.specs.Entry.{IsWellFormed, answer_pieces, arg_pieces, args_pieces, bytes_pieces, desc_pieces, entry_bytes, entry_pieces, next_arg_pieces, word_pieces}
-use Rattle.sg_entry_parse.specs.Pieces.{ArePlaced, EntryPiece, IsName, IsNumber, IsPiece, IsPositive, fixed, name, number, piece_bytes, positive, printable}
-use Rattle.sg_entry_parse.specs.Spelling.{Spelling}
+use Rattle.sg_entry_parse.specs.Entry.{answer_pieces, arg_pieces, entry_pieces}
+use Rattle.sg_entry_parse.specs.Inside.Forms.{IsWellFormed, args_pieces, bytes_pieces, desc_pieces, entry_bytes, next_arg_pieces, word_pieces}
+use Rattle.sg_entry_parse.specs.Pieces.{ArePlaced, EntryPiece, IsPiece, IsPositive, fixed, name, number, piece_bytes, positive, printable}
+use Rattle.sg_entry_parse.specs.Inside.Classes.{IsName, IsNumber}
+use Rattle.sg_entry_parse.specs.sg_lex.Lexeme.{Spelling}
 use Rattle.sg_entry_parse.specs.declared.tree.WrittenAnswer.{WrittenAnswer}
 use Rattle.sg_entry_parse.specs.declared.tree.WrittenAnswer.TheVariants.{Refused as refused, Ok as good}
 use Rattle.sg_entry_parse.specs.declared.tree.WrittenArg.{WrittenArg}
@@ -280,4 +285,4 @@ pub has_history : (i : Declared) (bytes : List ℕ) (history : List Entry) → H
 has_history i bytes history names prints =
     let few = prints.few in
     let trees = trees_of i names 1 (entry_lines_of bytes) history (lines_within bytes) prints.entries (omega (arith, few)) prints.lines in
-    record { entries = trees.entries; parsed = trees.parsed; flawless = trees.flawless; is = trees.is }
+    (trees.entries, trees.parsed, trees.flawless, trees.is)

@@ -5,7 +5,8 @@ use Rattle.std.specs.List.{onto_first, position_or_len, slice_split}
 use Rattle.std.proofs.lemmas.Bool.Decides.{nat_tests}
 use Rattle.std.proofs.lemmas.List.{length-take-le, take_all}
 use Rattle.std.proofs.lemmas.List.Splits.{slice_split-cons_no, slice_split_first}
-use Rattle.sg_entries.specs.Lines.{line_feed, lines_from, placed}
+use Rattle.sg_entries.specs.Lines.{placed}
+use Rattle.sg_entries.specs.Inside.Cutting.{line_feed, lines_from}
 
 -- where no element passes, the list is the one part
 no_cut : {A : Type 0} (p : A → Bool) (xs : List A) → length xs ≤ position_or_len p xs → slice_split p xs ≡ xs ∷ []

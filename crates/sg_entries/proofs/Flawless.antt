@@ -9,15 +9,18 @@ use Rattle.std.proofs.lemmas.Bool.Decides.{nat_tests}
 use Rattle.std.proofs.lemmas.Option.{unwrap_or-slice_get}
 use Rattle.std.proofs.lemmas.Slice.Eq.{bytes_eq-Decides}
 use Rattle.sg_entries.proofs.Halves.{not_too_many, unmapped}
-use Rattle.sg_entries.specs.Flaws.{answer_flaws, arg_flaws, client_flaws, entry_flaws, flaw_if, flaws_from, fun_flaws, in_line, number_flaws, too_many_entries, values_fit}
+use Rattle.sg_entries.specs.Flaws.{entry_flaws, flaw_if, flaws_from, number_flaws, values_fit}
+use Rattle.sg_entries.specs.Inside.Flaws.{answer_flaws, arg_flaws, client_flaws, fun_flaws, in_line, too_many_entries}
 use Rattle.sg_entries.specs.Lines.{entry_lines_of}
-use Rattle.sg_entries.specs.Reads.{AreEntries, IsHistory, IsReadOf, entries_read}
-use Rattle.sg_entries.specs.Standing.{args_in, entry_of, fun_of, id_in, number_of, value_of}
+use Rattle.sg_entries.specs.Reads.{AreEntries, IsReadOf, entries_read}
+use Rattle.sg_entries.specs.Inside.Parsing.{IsHistory}
+use Rattle.sg_entries.specs.Standing.{args_in, entry_of, id_in, number_of, value_of}
+use Rattle.sg_entries.specs.Inside.Standing.{fun_of}
 use Rattle.sg_entries.specs.declared.error.EntriesError.{EntriesError}
 use Rattle.sg_entries.specs.declared.error.EntriesKind.{EntriesKind}
 use Rattle.sg_entries.specs.declared.error.EntriesKind.TheVariants.{BadArgs, BadClient, Limit}
 use Rattle.sg_entry_parse.specs.Parses.{EntryParses}
-use Rattle.sg_entry_parse.specs.Spelling.{Spelling}
+use Rattle.sg_entry_parse.specs.sg_lex.Lexeme.{Spelling}
 use Rattle.sg_entry_parse.specs.declared.tree.WrittenArg.{WrittenArg}
 use Rattle.sg_entry_parse.specs.declared.tree.WrittenArg.TheVariants.{Number, Text as text}
 use Rattle.sg_entry_parse.specs.declared.tree.WrittenEntry.{WrittenEntry}
@@ -229,8 +232,8 @@ each_entry i P holds nth (l ∷ lines) (e ∷ entries) are none =
 
 pub calls_made : (i : Declared) (bytes : List ℕ) (history : List Entry) → IsHistory i bytes history → Each (λ e. MayBeMade i e.call) history
 calls_made i bytes history is =
-    subst (Each (λ e. MayBeMade i e.call)) (sym is.is)
-    (each_entry i (λ e. MayBeMade i e.call) (λ line e parses f. made_of i e f) 1 (entry_lines_of bytes) is.entries is.parsed is.flawless)
+    subst (Each (λ e. MayBeMade i e.call)) (sym is.3)
+    (each_entry i (λ e. MayBeMade i e.call) (λ line e parses f. made_of i e f) 1 (entry_lines_of bytes) is.0 is.1 is.2)
 
 -- ---- how many there are
 
@@ -251,8 +254,8 @@ few_from i nth (l ∷ lines) (e ∷ entries) are none le =
 
 pub entries_few : (i : Declared) (bytes : List ℕ) (history : List Entry) → IsHistory i bytes history → length history ≤ most_script_calls
 entries_few i bytes history is =
-    let many = few_from i 1 (entry_lines_of bytes) is.entries is.parsed is.flawless (omega arith) in
-    let same = ap length is.is in
+    let many = few_from i 1 (entry_lines_of bytes) is.0 is.1 is.2 (omega arith) in
+    let same = ap length is.3 in
     omega (arith, many, same)
 
 -- a fact of each history that a text has holds of what is read

@@ -3,18 +3,19 @@ use Rattle.std.proofs.Common.{◌≡◌, ℕ, suc, ◌+◌, ◌≤◌, Bool, tru
 use Rattle.std.specs.Prelude.{◌==◌}
 use Rattle.std.proofs.lemmas.Bool.Decides.{nat_tests}
 use Rattle.std.specs.List.{flat_map}
-use Rattle.sg_entries.specs.Flaws.{Flaw, IsFirst, answer_flaws, arg_flaws, client_flaws, entry_flaws, flaw_if, flaws_from, fun_flaws, in_line, number_flaws, too_many_entries}
-use Rattle.sg_entries.specs.Inside.Making.{IsMade}
-use Rattle.sg_entries.specs.Inside.Parsing.{FailsIn, HasEntries}
+use Rattle.sg_entries.specs.Flaws.{Flaw, entry_flaws, flaw_if, flaws_from, number_flaws}
+use Rattle.sg_entries.specs.Inside.Making.{IsFirst, IsMade}
+use Rattle.sg_entries.specs.Inside.Flaws.{answer_flaws, arg_flaws, client_flaws, fun_flaws, in_line, too_many_entries}
+use Rattle.sg_entries.specs.Inside.Parsing.{FailsIn, HasEntries, IsHistory, IsNoEntry}
 use Rattle.sg_entries.specs.Lines.{entry_lines_of}
-use Rattle.sg_entries.specs.Reads.{AreEntries, IsFlawed, IsHistory, IsNoEntry, IsReadOf}
+use Rattle.sg_entries.specs.Reads.{AreEntries, IsReadOf}
 use Rattle.sg_entries.specs.Standing.{entry_of}
 use Rattle.sg_entries.specs.declared.error.EntriesError.{EntriesError}
 use Rattle.sg_entries.specs.declared.error.EntriesError.TheVariants.{NoMemory, Fault}
 use Rattle.sg_entries.specs.declared.error.EntriesKind.{EntriesKind}
 use Rattle.sg_entries.specs.declared.error.EntriesKind.TheVariants.{Limit}
 use Rattle.sg_entry_parse.specs.Parses.{EntryParses}
-use Rattle.sg_entry_parse.specs.Spelling.{Spelling}
+use Rattle.sg_entry_parse.specs.sg_lex.Lexeme.{Spelling}
 use Rattle.sg_entry_parse.specs.declared.tree.WrittenEntry.{WrittenEntry}
 use Rattle.sg_facts.specs.Interface.{Declared}
 use Rattle.sg_facts.specs.Limits.{most_script_calls}
@@ -93,18 +94,8 @@ all_parsed text u = (u.entries, subst (λ lines. AreEntries lines u.entries) (sy
 
 -- the next line is none
 pub no_entry : (text : List ℕ) (l : Spelling) (left : List Spelling) (kind : EntriesKind) (at : ℕ) → IsUpTo text (l ∷ left) → FailsIn l kind at → IsNoEntry text kind at
-no_entry text l left kind at u fails = record {
-  is_syntax = fails.is_syntax;
-  before = u.before;
-  line = l;
-  rest = left;
-  lines = u.all;
-  entries = u.entries;
-  parsed = u.parsed;
-  place = fails.place;
-  fails = fails.fails;
-  at_is = fails.at_is;
-}
+no_entry text l left kind at u fails =
+    (u.before, l, left, u.entries, fails.place, u.all, u.parsed, fails.fails, fails.is_syntax, fails.at_is)
 
 -- ---- flaws
 
@@ -119,6 +110,12 @@ front_none (x ∷ xs) ys e = absurd cc
 not_flawed : (b : Bool) (kind : EntriesKind) (at : ℕ) → flaw_if b kind at ≡ [] → b ≡ false
 not_flawed true kind at e = absurd cc
 not_flawed false kind at e = refl
+
+-- each entry line of a text is an entry's, and this is the first that is wrong with these
+abbrev pub IsFlawed : Declared → List ℕ → EntriesKind → ℕ → Type 0
+IsFlawed i text kind at =
+    (entries : List WrittenEntry) × (others : List Flaw) × AreEntries (entry_lines_of text) entries
+    × (flaws_from i 1 (entry_lines_of text) entries ≡ record { kind = kind; at = at } ∷ others)
 
 -- an entry without a flaw isn't the first that is one too many
 pub not_too_many : (i : Declared) (nth : ℕ) (e : WrittenEntry) → entry_flaws i nth e ≡ [] → nth == too_many_entries ≡ false
@@ -169,17 +166,14 @@ module _ (i : Declared) (text : List ℕ) (l : Spelling) (left : List Spelling) 
   -- the next entry has the first flaw
   pub flawed : (kind : EntriesKind) (at : ℕ) → HasEntries text → IsFirst own (record { kind = kind; at = at }) → IsFlawed i text kind at
   flawed kind at all first =
-      let later = rest_of (r.so_far.before ++ l ∷ []) left all.0 (subst (λ lines. AreEntries lines all.0) (r.so_far.all ∙ sym (append_assoc r.so_far.before (l ∷ []) left)) all.1) in
-      record {
-        entries = r.so_far.entries ++ e ∷ later.0;
-        parsed = subst (λ lines. AreEntries lines (r.so_far.entries ++ e ∷ later.0)) (sym r.so_far.all)
-            (are_more r.so_far.before (l ∷ left) r.so_far.entries (e ∷ later.0) r.so_far.parsed (parses, later.1));
-        first = record {
-          others = first.others ++ flaws_from i (length history + 1 + 1) left later.0;
-          is = ap (λ lines. flaws_from i 1 lines (r.so_far.entries ++ e ∷ later.0)) r.so_far.all ∙ flaws_then later.0 left
-              ∙ ap (λ f. f ++ flaws_from i (length history + 1 + 1) left later.0) first.is;
-        };
-      }
+      let later = rest_of (r.so_far.before ++ l ∷ []) left all.0 (subst (λ lines. AreEntries lines all.0) (r.so_far.all ∙ sym (append_assoc r.so_far.before (l ∷ []) left)) all.1) in (
+        r.so_far.entries ++ e ∷ later.0,
+        first.others ++ flaws_from i (length history + 1 + 1) left later.0,
+        subst (λ lines. AreEntries lines (r.so_far.entries ++ e ∷ later.0)) (sym r.so_far.all)
+            (are_more r.so_far.before (l ∷ left) r.so_far.entries (e ∷ later.0) r.so_far.parsed (parses, later.1)),
+        ap (λ lines. flaws_from i 1 lines (r.so_far.entries ++ e ∷ later.0)) r.so_far.all ∙ flaws_then later.0 left
+            ∙ ap (λ f. f ++ flaws_from i (length history + 1 + 1) left later.0) first.is,
+      )
 
 -- the next entry is made, and so one more is read
 pub goes_on : (i : Declared) (text : List ℕ) (l : Spelling) (left : List Spelling) (history new : List Entry) (nth : ℕ) (e : WrittenEntry) (made : Entry) → IsReadUpTo i text (l ∷ left) history
@@ -198,10 +192,9 @@ stops i text l left history nth e (Fault kind at) r parses count all is =
 -- all is read
 pub all_read : (i : Declared) (text : List ℕ) (history : List Entry) → IsReadUpTo i text [] history → IsHistory i text history
 all_read i text history r =
-    let lines : entry_lines_of text ≡ r.so_far.before = r.so_far.all ∙ append-nil r.so_far.before in
-    record {
-      entries = r.so_far.entries;
-      parsed = subst (λ l. AreEntries l r.so_far.entries) (sym lines) r.so_far.parsed;
-      flawless = ap (λ l. flaws_from i 1 l r.so_far.entries) lines ∙ r.flawless;
-      is = r.is;
-    }
+    let lines : entry_lines_of text ≡ r.so_far.before = r.so_far.all ∙ append-nil r.so_far.before in (
+      r.so_far.entries,
+      subst (λ l. AreEntries l r.so_far.entries) (sym lines) r.so_far.parsed,
+      ap (λ l. flaws_from i 1 l r.so_far.entries) lines ∙ r.flawless,
+      r.is,
+    )

@@ -6,15 +6,20 @@ use Rattle.std.specs.declared.option.Option.{Option}
 use Rattle.std.proofs.lemmas.Grind.{flat_map-append}
 use Rattle.sg_entries.proofs.Spelt.{written}
 use Rattle.sg_entries.proofs.Within.{each_both}
-use Rattle.sg_entries.specs.Flaws.{Flaw, IsFirst, answer_flaws, arg_flaws, client_flaws, entry_flaws, flaw_if, flaws_from, fun_flaws, in_line, number_flaws, optional_flaws, text_flaws, too_many_entries, word_flaws}
-use Rattle.sg_entries.specs.Lines.{begins_entry, entry_lines, entry_lines_of, front_lines, line_feed, lines_from, placed}
+use Rattle.sg_entries.specs.Flaws.{Flaw, entry_flaws, flaw_if, flaws_from, number_flaws, text_flaws}
+use Rattle.sg_entries.specs.Inside.Making.{IsFirst}
+use Rattle.sg_entries.specs.Inside.Flaws.{answer_flaws, arg_flaws, client_flaws, fun_flaws, in_line, optional_flaws, too_many_entries, word_flaws}
+use Rattle.sg_entries.specs.Lines.{begins_entry, entry_lines, entry_lines_of, front_lines, placed}
+use Rattle.sg_entries.specs.Inside.Cutting.{line_feed, lines_from}
 use Rattle.sg_entries.specs.Order.{IsNotAfter}
 use Rattle.sg_entries.specs.Reads.{AreEntries}
 use Rattle.sg_entries.specs.declared.error.EntriesKind.{EntriesKind}
 use Rattle.sg_entries.specs.declared.error.EntriesKind.TheVariants.{BadArgs, BadClient, Limit}
-use Rattle.sg_entry_parse.specs.Entry.{IsEntry, answer_pieces, arg_pieces, args_pieces, bytes_pieces, desc_pieces, next_arg_pieces, word_pieces}
-use Rattle.sg_entry_parse.specs.Pieces.{ArePlaced, EntryPiece, IsName, IsNumber, IsPositive, fixed, number, piece_bytes}
-use Rattle.sg_entry_parse.specs.Spelling.{Spelling}
+use Rattle.sg_entry_parse.specs.Entry.{IsEntry, answer_pieces, arg_pieces}
+use Rattle.sg_entry_parse.specs.Inside.Forms.{args_pieces, bytes_pieces, desc_pieces, next_arg_pieces, word_pieces}
+use Rattle.sg_entry_parse.specs.Pieces.{ArePlaced, EntryPiece, IsPositive, fixed, number, piece_bytes}
+use Rattle.sg_entry_parse.specs.Inside.Classes.{IsName, IsNumber}
+use Rattle.sg_entry_parse.specs.sg_lex.Lexeme.{Spelling}
 use Rattle.sg_entry_parse.specs.declared.tree.WrittenAnswer.{WrittenAnswer}
 use Rattle.sg_entry_parse.specs.declared.tree.WrittenAnswer.TheVariants.{Refused, Ok as good}
 use Rattle.sg_entry_parse.specs.declared.tree.WrittenArg.{WrittenArg}

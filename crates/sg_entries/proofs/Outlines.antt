@@ -7,8 +7,9 @@ use Rattle.std.proofs.lemmas.Bool.{cases_Bool, eqb-false}
 use Rattle.std.proofs.lemmas.List.{length-map}
 use Rattle.std.proofs.lemmas.List.Recursion.{is_count_by}
 use Rattle.sg_entries.proofs.Halves.{IsReadUpTo, flawed}
-use Rattle.sg_entries.specs.Flaws.{Flaw, IsFirst, answer_flaws, arg_flaws, client_flaws, entry_flaws, flaw_if, fun_flaws, in_line, number_flaws, too_many_entries, values_fit}
-use Rattle.sg_entries.specs.Inside.Making.{IsMade}
+use Rattle.sg_entries.specs.Flaws.{Flaw, entry_flaws, flaw_if, number_flaws, values_fit}
+use Rattle.sg_entries.specs.Inside.Making.{IsFirst, IsMade}
+use Rattle.sg_entries.specs.Inside.Flaws.{answer_flaws, arg_flaws, client_flaws, fun_flaws, in_line, too_many_entries}
 use Rattle.sg_entries.specs.Inside.Outlines.{bracket_count, count_flaws, is_value, outline_flaws}
 use Rattle.sg_entries.specs.Inside.Parsing.{HasEntries}
 use Rattle.sg_entries.specs.Reads.{IsReadOf}
@@ -17,7 +18,7 @@ use Rattle.sg_entries.specs.declared.error.EntriesError.{EntriesError}
 use Rattle.sg_entries.specs.declared.error.EntriesError.TheVariants.{NoMemory, Fault}
 use Rattle.sg_entries.specs.declared.error.EntriesKind.TheVariants.{BadArgs, Limit}
 use Rattle.sg_entry_parse.specs.Parses.{OutlineParses, outline_of}
-use Rattle.sg_entry_parse.specs.Spelling.{Spelling}
+use Rattle.sg_entry_parse.specs.sg_lex.Lexeme.{Spelling}
 use Rattle.sg_entry_parse.specs.declared.tree.EntryOutline.{EntryOutline}
 use Rattle.sg_entry_parse.specs.declared.tree.WrittenEntry.{WrittenEntry}
 use Rattle.sg_facts.specs.Allowed.{count_args}

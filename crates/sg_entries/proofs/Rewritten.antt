@@ -8,14 +8,18 @@ use Rattle.std.specs.declared.option.Option.{Option}
 use Rattle.std.proofs.lemmas.Bool.Decides.{nat_tests}
 use Rattle.std.proofs.lemmas.Fmt.{decimal_digit, decimal_nonempty, digits_decimal, digits_value-decimal, first_decimal}
 use Rattle.sg_entries.proofs.Spelt.{numeral, written}
-use Rattle.sg_entries.specs.Flaws.{answer_flaws, arg_flaws, client_flaws, entry_flaws, flaw_if, fun_flaws, number_flaws, optional_flaws, text_flaws, too_many_entries, values_fit, word_flaws}
+use Rattle.sg_entries.specs.Flaws.{entry_flaws, flaw_if, number_flaws, text_flaws, values_fit}
+use Rattle.sg_entries.specs.Inside.Flaws.{answer_flaws, arg_flaws, client_flaws, fun_flaws, optional_flaws, too_many_entries, word_flaws}
 use Rattle.sg_entries.specs.Printed.{AreTexts, HasNames, IsShownReply, MayBePrinted}
-use Rattle.sg_entries.specs.Standing.{args_in, bytes_of, desc_of, entry_of, fun_of, id_in, number_of, reply_of, value_of}
+use Rattle.sg_entries.specs.Standing.{args_in, entry_of, id_in, number_of, value_of}
+use Rattle.sg_entries.specs.Inside.Standing.{bytes_of, desc_of, fun_of, reply_of}
 use Rattle.sg_entries.specs.declared.error.EntriesKind.{EntriesKind}
 use Rattle.sg_entries.specs.declared.error.EntriesKind.TheVariants.{BadArgs, BadClient, Limit}
-use Rattle.sg_entry_parse.specs.Entry.{AreShown, IsAnswer, IsWellFormed, answer_pieces, arg_pieces, args_pieces, bytes_pieces, desc_pieces, next_arg_pieces, word_pieces}
-use Rattle.sg_entry_parse.specs.Pieces.{ArePlaced, EntryPiece, IsNumber, IsPositive, fixed, is_first_digit, piece_bytes}
-use Rattle.sg_entry_parse.specs.Spelling.{Spelling}
+use Rattle.sg_entry_parse.specs.Entry.{AreShown, IsAnswer, answer_pieces, arg_pieces}
+use Rattle.sg_entry_parse.specs.Inside.Forms.{IsWellFormed, args_pieces, bytes_pieces, desc_pieces, next_arg_pieces, word_pieces}
+use Rattle.sg_entry_parse.specs.Pieces.{ArePlaced, EntryPiece, IsPositive, fixed, piece_bytes}
+use Rattle.sg_entry_parse.specs.Inside.Classes.{IsNumber, is_first_digit}
+use Rattle.sg_entry_parse.specs.sg_lex.Lexeme.{Spelling}
 use Rattle.sg_entry_parse.specs.declared.tree.WrittenAnswer.{WrittenAnswer}
 use Rattle.sg_entry_parse.specs.declared.tree.WrittenAnswer.TheVariants.{Refused as refused, Ok as good}
 use Rattle.sg_entry_parse.specs.declared.tree.WrittenArg.{WrittenArg}
@@ -33,7 +37,8 @@ use Rattle.sg_facts.specs.sg_base.declared.reply.Reply.{Reply}
 use Rattle.sg_facts.specs.sg_base.declared.reply.Reply.TheVariants.{Refused, Ok as ok}
 use Rattle.sg_facts.specs.sg_base.declared.value.Value.{Value}
 use Rattle.sg_facts.specs.sg_base.declared.value.Value.TheVariants.{Word, Text}
-use Rattle.sg_report.specs.Report.{shows_bytes, takes_id}
+use Rattle.sg_report.specs.Report.{takes_id}
+use Rattle.sg_report.specs.Inside.Pieces.{shows_bytes}
 use Rattle.sg_script.specs.Numbers.{is_known_client, is_text}
 use Rattle.sg_script.specs.Scripts.{declared_fun}
 

@@ -13,16 +13,21 @@ use Rattle.std.proofs.lemmas.Str.Parse.{FoldsDigits, IsDigitsTest, IsNumeralMode
 use Rattle.sg_entries.proofs.Flawless.{IsFlawless, args_words, back_none, each_entry, entries_few, fits_bits, flawless_parts, front_none, has_fun, is_true, made_of, not_flawed}
 use Rattle.sg_entries.proofs.Halves.{unmapped}
 use Rattle.sg_entries.proofs.Within.{each_back, each_front}
-use Rattle.sg_entries.specs.Flaws.{answer_flaws, arg_flaws, entry_flaws, flaws_from, in_line, optional_flaws, text_flaws, values_fit, word_flaws}
+use Rattle.sg_entries.specs.Flaws.{entry_flaws, flaws_from, text_flaws, values_fit}
+use Rattle.sg_entries.specs.Inside.Flaws.{answer_flaws, arg_flaws, in_line, optional_flaws, word_flaws}
 use Rattle.sg_entries.specs.Lines.{entry_lines_of}
 use Rattle.sg_entries.specs.Printed.{AreTexts, IsShownReply, MayBePrinted, PrintsHistory}
-use Rattle.sg_entries.specs.Reads.{AreEntries, IsHistory}
-use Rattle.sg_entries.specs.Standing.{args_in, bytes_of, desc_of, entry_of, fun_of, id_in, number_of, reply_of, value_of}
+use Rattle.sg_entries.specs.Reads.{AreEntries}
+use Rattle.sg_entries.specs.Inside.Parsing.{IsHistory}
+use Rattle.sg_entries.specs.Standing.{args_in, entry_of, id_in, number_of, value_of}
+use Rattle.sg_entries.specs.Inside.Standing.{bytes_of, desc_of, fun_of, reply_of}
 use Rattle.sg_entries.specs.declared.error.EntriesKind.TheVariants.{Limit}
 use Rattle.sg_entry_parse.specs.Codes.{code_name as written_code}
-use Rattle.sg_entry_parse.specs.Entry.{AreShown, IsAnswer, IsEntry, answer_pieces, arg_pieces, args_pieces, bytes_pieces, desc_pieces, entry_pieces, next_arg_pieces, shows_bytes as shows, word_pieces}
-use Rattle.sg_entry_parse.specs.Pieces.{ArePlaced, EntryPiece, IsNumber, IsPiece, IsPositive, fixed, name, number, piece_bytes, positive, printable}
-use Rattle.sg_entry_parse.specs.Spelling.{Spelling}
+use Rattle.sg_entry_parse.specs.Entry.{AreShown, IsAnswer, IsEntry, answer_pieces, arg_pieces, entry_pieces}
+use Rattle.sg_entry_parse.specs.Inside.Forms.{args_pieces, bytes_pieces, desc_pieces, next_arg_pieces, shows_bytes as shows, word_pieces}
+use Rattle.sg_entry_parse.specs.Pieces.{ArePlaced, EntryPiece, IsPiece, IsPositive, fixed, name, number, piece_bytes, positive, printable}
+use Rattle.sg_entry_parse.specs.Inside.Classes.{IsNumber}
+use Rattle.sg_entry_parse.specs.sg_lex.Lexeme.{Spelling}
 use Rattle.sg_entry_parse.specs.declared.tree.WrittenAnswer.{WrittenAnswer}
 use Rattle.sg_entry_parse.specs.declared.tree.WrittenAnswer.TheVariants.{Refused as refused, Ok as good}
 use Rattle.sg_entry_parse.specs.declared.tree.WrittenArg.{WrittenArg}
@@ -39,7 +44,8 @@ use Rattle.sg_facts.specs.sg_base.declared.reply.Code.{Code}
 use Rattle.sg_facts.specs.sg_base.declared.reply.Code.TheVariants.{NoDesc, NoParent, BadState, HasChildren, Full, NotOwner, Held, Occupied, NotFound, Overflow, Gap, TooBig, BadName}
 use Rattle.sg_facts.specs.sg_base.declared.value.Value.{Value}
 use Rattle.sg_facts.specs.sg_base.declared.value.Value.TheVariants.{Word, Text}
-use Rattle.sg_report.specs.Report.{code_name, entry_line, listed, next_value, quoted, reply_text, shows_bytes, takes_id, value_text}
+use Rattle.sg_report.specs.Report.{code_name, entry_line, listed, reply_text, takes_id, value_text}
+use Rattle.sg_report.specs.Inside.Pieces.{quoted, shows_bytes}
 use Rattle.sg_script.specs.Numbers.{is_text, value_of_digits}
 
 -- ---- numbers
@@ -137,13 +143,13 @@ arg_printed : (a : WrittenArg) → Each IsSpelt (arg_pieces a) → arg_flaws a �
 arg_printed (Number n) spelt none = append-nil n.bytes ∙ sym (number_printed n spelt.0 (fits_bits 64 n none))
 arg_printed (text t) spelt none = refl
 
-next_args_printed : (args : List WrittenArg) → Each IsSpelt (flat_map next_arg_pieces args) → flat_map arg_flaws args ≡ [] → written (flat_map next_arg_pieces args) ≡ flat_map next_value (map value_of args)
+next_args_printed : (args : List WrittenArg) → Each IsSpelt (flat_map next_arg_pieces args) → flat_map arg_flaws args ≡ [] → written (flat_map next_arg_pieces args) ≡ flat_map (λ v. codes ", " ++ value_text v) (map value_of args)
 next_args_printed [] spelt none = refl
 next_args_printed (a ∷ args) spelt none =
     let own = arg_printed a (each_front IsSpelt (arg_pieces a) (flat_map next_arg_pieces args) spelt.1) (front_none (arg_flaws a) (flat_map arg_flaws args) none) in
     let later = next_args_printed args (each_back IsSpelt (arg_pieces a) (flat_map next_arg_pieces args) spelt.1) (back_none (arg_flaws a) (flat_map arg_flaws args) none) in
     ap (λ l. codes ", " ++ l) (flat_map-append piece_bytes (arg_pieces a) (flat_map next_arg_pieces args)
-    ∙ two (written (arg_pieces a)) (value_text (value_of a)) (written (flat_map next_arg_pieces args)) (flat_map next_value (map value_of args)) own later)
+    ∙ two (written (arg_pieces a)) (value_text (value_of a)) (written (flat_map next_arg_pieces args)) (flat_map (λ v. codes ", " ++ value_text v) (map value_of args)) own later)
 
 args_printed : (args : List WrittenArg) → Each IsSpelt (args_pieces args) → flat_map arg_flaws args ≡ [] → written (args_pieces args) ≡ listed (map value_of args)
 args_printed [] spelt none = refl
@@ -151,7 +157,7 @@ args_printed (a ∷ args) spelt none =
     let own = arg_printed a (each_front IsSpelt (arg_pieces a) (flat_map next_arg_pieces args) spelt) (front_none (arg_flaws a) (flat_map arg_flaws args) none) in
     let later = next_args_printed args (each_back IsSpelt (arg_pieces a) (flat_map next_arg_pieces args) spelt) (back_none (arg_flaws a) (flat_map arg_flaws args) none) in
     flat_map-append piece_bytes (arg_pieces a) (flat_map next_arg_pieces args)
-    ∙ two (written (arg_pieces a)) (value_text (value_of a)) (written (flat_map next_arg_pieces args)) (flat_map next_value (map value_of args)) own later
+    ∙ two (written (arg_pieces a)) (value_text (value_of a)) (written (flat_map next_arg_pieces args)) (flat_map (λ v. codes ", " ++ value_text v) (map value_of args)) own later
 
 -- what stands in a call's brackets, in its two parts
 pub values_in : (takes : Bool) (kinds : List Kind) (values : List Value) → values_fit takes kinds values ≡ true
@@ -344,7 +350,7 @@ lines_printed i nth (l ∷ lines) (e ∷ entries) are none =
 -- a text prints the history that it has
 pub prints : (i : Declared) (bytes : List ℕ) (history : List Entry) → IsHistory i bytes history → PrintsHistory i bytes history
 prints i bytes history is = record {
-  lines = lines_printed i 1 (entry_lines_of bytes) is.entries is.parsed is.flawless ∙ ap (flat_map (entry_line i.facts)) (sym is.is);
-  entries = subst (Each (MayBePrinted i)) (sym is.is) (each_entry i (MayBePrinted i) (λ line e parses f. may_be_printed i line e parses f) 1 (entry_lines_of bytes) is.entries is.parsed is.flawless);
+  lines = lines_printed i 1 (entry_lines_of bytes) is.0 is.1 is.2 ∙ ap (flat_map (entry_line i.facts)) (sym is.3);
+  entries = subst (Each (MayBePrinted i)) (sym is.3) (each_entry i (MayBePrinted i) (λ line e parses f. may_be_printed i line e parses f) 1 (entry_lines_of bytes) is.0 is.1 is.2);
   few = entries_few i bytes history is;
 }

@@ -1,17 +1,18 @@
 -- A text has one answer, want of memory aside.
 use Rattle.std.proofs.Common.{◌≡◌, ◌≢◌, ◌⊎◌, inl, inr, ℕ, ◌+◌, List, [], ◌∷◌, ◌++◌, map, Ok, Err, refl, sym, ◌∙◌, ap, subst}
 use Rattle.std.specs.declared.result.Result.{Result}
-use Rattle.sg_entries.proofs.Halves.{rest_of}
+use Rattle.sg_entries.proofs.Halves.{IsFlawed, rest_of}
 use Rattle.sg_entries.specs.Flaws.{Flaw, flaws_from}
 use Rattle.sg_entries.specs.Lines.{entry_lines_of}
-use Rattle.sg_entries.specs.Reads.{AreEntries, IsFlawed, IsHistory, IsNoEntry, IsReadOf}
+use Rattle.sg_entries.specs.Reads.{AreEntries, IsReadOf}
+use Rattle.sg_entries.specs.Inside.Parsing.{IsHistory, IsNoEntry}
 use Rattle.sg_entries.specs.Standing.{entry_of}
 use Rattle.sg_entries.specs.declared.error.EntriesError.{EntriesError}
 use Rattle.sg_entries.specs.declared.error.EntriesError.TheVariants.{NoMemory, Fault}
 use Rattle.sg_entries.specs.declared.error.EntriesKind.{EntriesKind}
 use Rattle.sg_entry_parse.proofs.OneAnswer.{one_tree, only_answer}
 use Rattle.sg_entry_parse.specs.Parses.{EntryParses}
-use Rattle.sg_entry_parse.specs.Spelling.{Spelling}
+use Rattle.sg_entry_parse.specs.sg_lex.Lexeme.{Spelling}
 use Rattle.sg_entry_parse.specs.declared.error.EntrySyntax.{EntrySyntax}
 use Rattle.sg_entry_parse.specs.declared.error.EntrySyntax.TheVariants.{NoMemory as no_memory, Syntax as syntax}
 use Rattle.sg_entry_parse.specs.declared.tree.WrittenEntry.{WrittenEntry}
@@ -80,35 +81,35 @@ same_fault kind other at there k a = ap (λ x. Fault x at) k ∙ ap (Fault other
 
 not_history : (i : Declared) (text : List ℕ) (history : List Entry) (kind : EntriesKind) (at : ℕ) → IsHistory i text history → IsNoEntry text kind at ⊎ IsFlawed i text kind at → ⊥
 not_history i text history kind at good (inl bad) =
-    not_among bad.before bad.rest bad.line good.entries bad.place (subst (λ lines. AreEntries lines good.entries) bad.lines good.parsed) bad.fails
+    not_among bad.0 bad.2 bad.1 good.0 bad.4 (subst (λ lines. AreEntries lines good.0) bad.5 good.1) bad.7
 not_history i text history kind at good (inr bad) =
-    let same = one_list (entry_lines_of text) good.entries bad.entries good.parsed bad.parsed in
-    let both : record { kind = kind; at = at } ∷ bad.first.others ≡ [] = sym bad.first.is ∙ ap (flaws_from i 1 (entry_lines_of text)) (sym same) ∙ good.flawless in
+    let same = one_list (entry_lines_of text) good.0 bad.0 good.1 bad.2 in
+    let both : record { kind = kind; at = at } ∷ bad.1 ≡ [] = sym bad.3 ∙ ap (flaws_from i 1 (entry_lines_of text)) (sym same) ∙ good.2 in
     absurd cc
 
 one_fault : (i : Declared) (text : List ℕ) (kind other : EntriesKind) (at there : ℕ) → IsNoEntry text kind at ⊎ IsFlawed i text kind at → IsNoEntry text other there ⊎ IsFlawed i text other there
     → Fault kind at ≡ Fault other there
 one_fault i text kind other at there (inl a) (inl b) =
-    let line = one_line a.before b.before a.line b.line a.rest b.rest a.entries b.entries a.place b.place (sym a.lines ∙ b.lines) a.parsed b.parsed a.fails b.fails in
-    let place = one_place b.line.bytes a.place b.place (subst (λ l. EntryParses l.bytes (Err (syntax a.place))) line a.fails) b.fails in
-    same_fault kind other at there (a.is_syntax ∙ sym b.is_syntax) (a.at_is ∙ ap (λ l. l.at + a.place) line ∙ ap (λ p. b.line.at + p) place ∙ sym b.at_is)
+    let line = one_line a.0 b.0 a.1 b.1 a.2 b.2 a.3 b.3 a.4 b.4 (sym a.5 ∙ b.5) a.6 b.6 a.7 b.7 in
+    let place = one_place b.1.bytes a.4 b.4 (subst (λ l. EntryParses l.bytes (Err (syntax a.4))) line a.7) b.7 in
+    same_fault kind other at there (a.8 ∙ sym b.8) (a.9 ∙ ap (λ l. l.at + a.4) line ∙ ap (λ p. b.1.at + p) place ∙ sym b.9)
 one_fault i text kind other at there (inl a) (inr b) =
-    absurd (not_among a.before a.rest a.line b.entries a.place (subst (λ lines. AreEntries lines b.entries) a.lines b.parsed) a.fails)
+    absurd (not_among a.0 a.2 a.1 b.0 a.4 (subst (λ lines. AreEntries lines b.0) a.5 b.2) a.7)
 one_fault i text kind other at there (inr a) (inl b) =
-    absurd (not_among b.before b.rest b.line a.entries b.place (subst (λ lines. AreEntries lines a.entries) b.lines a.parsed) b.fails)
+    absurd (not_among b.0 b.2 b.1 a.0 b.4 (subst (λ lines. AreEntries lines a.0) b.5 a.2) b.7)
 one_fault i text kind other at there (inr a) (inr b) =
-    let same = one_list (entry_lines_of text) a.entries b.entries a.parsed b.parsed in
+    let same = one_list (entry_lines_of text) a.0 b.0 a.2 b.2 in
     let first : Flaw = record { kind = kind; at = at } in
     let second : Flaw = record { kind = other; at = there } in
-    let both : first ∷ a.first.others ≡ second ∷ b.first.others = sym a.first.is ∙ ap (flaws_from i 1 (entry_lines_of text)) same ∙ b.first.is in
+    let both : first ∷ a.1 ≡ second ∷ b.1 = sym a.3 ∙ ap (flaws_from i 1 (entry_lines_of text)) same ∙ b.3 in
     let head : first ≡ second = cc both in
     same_fault kind other at there (ap (λ f. f.kind) head) (ap (λ f. f.at) head)
 
 -- two answers on one text are one
 pub one_reading : (i : Declared) (text : List ℕ) (one other : Result (List Entry) EntriesError) → IsReadOf i text one → IsReadOf i text other → one ≢ Err NoMemory → other ≢ Err NoMemory → one ≡ other
 one_reading i text (Ok h) (Ok g) a b n m =
-    let same = one_list (entry_lines_of text) a.entries b.entries a.parsed b.parsed in
-    ap Ok (a.is ∙ ap (map (entry_of i)) same ∙ sym b.is)
+    let same = one_list (entry_lines_of text) a.0 b.0 a.1 b.1 in
+    ap Ok (a.3 ∙ ap (map (entry_of i)) same ∙ sym b.3)
 one_reading i text (Ok h) (Err NoMemory) a b n m = absurd (m refl)
 one_reading i text (Ok h) (Err (Fault kind at)) a b n m = absurd (not_history i text h kind at a b)
 one_reading i text (Err NoMemory) other a b n m = absurd (n refl)

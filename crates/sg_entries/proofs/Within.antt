@@ -3,12 +3,15 @@ use Rattle.std.proofs.Common.{◌≡◌, ℕ, ◌+◌, ◌-◌, ◌≤◌, Bool,
 use Rattle.std.specs.Prelude.{◌==◌, codes}
 use Rattle.std.specs.List.{flat_map}
 use Rattle.std.specs.declared.option.Option.{Option}
-use Rattle.sg_entries.specs.Flaws.{Flaw, IsFirst, answer_flaws, arg_flaws, client_flaws, entry_flaws, flaw_if, fun_flaws, number_flaws, optional_flaws, text_flaws, too_many_entries, word_flaws}
+use Rattle.sg_entries.specs.Flaws.{Flaw, entry_flaws, flaw_if, number_flaws, text_flaws}
+use Rattle.sg_entries.specs.Inside.Making.{IsFirst}
+use Rattle.sg_entries.specs.Inside.Flaws.{answer_flaws, arg_flaws, client_flaws, fun_flaws, optional_flaws, too_many_entries, word_flaws}
 use Rattle.sg_entries.specs.declared.error.EntriesKind.{EntriesKind}
 use Rattle.sg_entries.specs.declared.error.EntriesKind.TheVariants.{Limit}
-use Rattle.sg_entry_parse.specs.Entry.{IsEntry, answer_pieces, arg_pieces, args_pieces, desc_pieces, bytes_pieces, entry_pieces, next_arg_pieces, word_pieces}
+use Rattle.sg_entry_parse.specs.Entry.{IsEntry, answer_pieces, arg_pieces, entry_pieces}
+use Rattle.sg_entry_parse.specs.Inside.Forms.{args_pieces, desc_pieces, bytes_pieces, next_arg_pieces, word_pieces}
 use Rattle.sg_entry_parse.specs.Pieces.{ArePlaced, EntryPiece, IsPiece, fixed, name, number, piece_bytes, positive, printable}
-use Rattle.sg_entry_parse.specs.Spelling.{Spelling}
+use Rattle.sg_entry_parse.specs.sg_lex.Lexeme.{Spelling}
 use Rattle.sg_entry_parse.specs.declared.tree.WrittenAnswer.{WrittenAnswer}
 use Rattle.sg_entry_parse.specs.declared.tree.WrittenAnswer.TheVariants.{Refused, Ok}
 use Rattle.sg_entry_parse.specs.declared.tree.WrittenArg.{WrittenArg}

@@ -2,26 +2,17 @@
 use Rattle.std.specs.Prelude.{ℕ, ◌+◌, ◌==◌, ◌&&◌, Bool, false, if◌then◌else◌, List, [], ◌∷◌, length}
 use Rattle.std.specs.Char.{is_ascii_digit}
 use Rattle.std.specs.List.{slice_split}
-use Rattle.sg_entry_parse.specs.Spelling.{Spelling}
-
--- the byte at which a line ends
-abbrev pub line_feed : ℕ
-line_feed = 10
+use Rattle.sg_entry_parse.specs.sg_lex.Lexeme.{Spelling}
 
 -- lines that follow one another, each with its place; the first stands at this one
 abbrev pub placed : ℕ → List (List ℕ) → List Spelling
 placed at [] = []
 placed at (l ∷ lines) = record { bytes = l; at = at } ∷ placed (at + length l + 1) lines
 
--- the lines of a text from this place on: it is cut at each LF, and what stands after the last, maybe nothing, is a line too
-abbrev pub lines_from : ℕ → List ℕ → List Spelling
-lines_from at text = placed at (slice_split (λ b. b == line_feed) text)
-
 -- whether a line begins as an entry's does: with `c` and a digit
 abbrev pub begins_entry : List ℕ → Bool
-begins_entry [] = false
-begins_entry (b ∷ []) = false
 begins_entry (b ∷ d ∷ rest) = (b == 0x63) && is_ascii_digit d
+begins_entry _ = false
 
 -- these lines up to the first that doesn't begin as an entry's does
 abbrev pub front_lines : List Spelling → List Spelling
@@ -33,6 +24,6 @@ abbrev pub entry_lines : List Spelling → List Spelling
 entry_lines [] = []
 entry_lines (l ∷ lines) = if begins_entry l.bytes then l ∷ front_lines lines else entry_lines lines
 
--- the entry lines of a text
+-- the entry lines of a text, which is cut at each LF; what stands after the last, maybe nothing, is a line too
 abbrev pub entry_lines_of : List ℕ → List Spelling
-entry_lines_of text = entry_lines (lines_from 0 text)
+entry_lines_of text = entry_lines (placed 0 (slice_split (λ b. b == 10) text))

@@ -2,7 +2,7 @@
 use Rattle.std.specs.Prelude.{◌≡◌, ◌++◌, ◌^◌, ◌<◌, ◌≤◌, ℕ, false, true, List, [], ◌∷◌, Some, length}
 use Rattle.std.specs.List.{flat_map}
 use Rattle.sg_entries.specs.Lines.{entry_lines_of}
-use Rattle.sg_entry_parse.specs.Pieces.{IsName}
+use Rattle.sg_entry_parse.specs.Inside.Classes.{IsName}
 use Rattle.sg_facts.specs.Facts.{Fun, fun_at}
 use Rattle.sg_facts.specs.Interface.{Declared, declares}
 use Rattle.sg_facts.specs.Limits.{most_script_calls}
@@ -14,7 +14,8 @@ use Rattle.sg_facts.specs.sg_base.declared.reply.Reply.{Reply}
 use Rattle.sg_facts.specs.sg_base.declared.reply.Reply.TheVariants.{Refused, Ok}
 use Rattle.sg_facts.specs.sg_base.declared.value.Value.{Value}
 use Rattle.sg_facts.specs.sg_base.declared.value.Value.TheVariants.{Word, Text}
-use Rattle.sg_report.specs.Report.{entry_line, shows_bytes}
+use Rattle.sg_report.specs.Report.{entry_line}
+use Rattle.sg_report.specs.Inside.Pieces.{shows_bytes}
 use Rattle.sg_script.specs.Numbers.{is_text}
 use Rattle.sg_script.specs.Scripts.{declared_fun}
 use Rattle.sg_report.specs.sg_hist.Clients.{MayBeMade}

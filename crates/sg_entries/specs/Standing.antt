@@ -1,15 +1,13 @@
 -- What a written entry stands for.
-use Rattle.std.specs.Prelude.{ℕ, Bool, true, List, [], ◌∷◌, None, Some, map, unwrap_or}
-use Rattle.std.specs.declared.option.Option.{Option}
-use Rattle.sg_entry_parse.specs.Spelling.{Spelling}
-use Rattle.sg_entry_parse.specs.declared.tree.WrittenAnswer.{WrittenAnswer}
+use Rattle.std.specs.Prelude.{ℕ, Bool, true, List, [], ◌∷◌, map, unwrap_or}
+use Rattle.std.specs.Option.{option_map_or}
+use Rattle.sg_entry_parse.specs.sg_lex.Lexeme.{Spelling}
 use Rattle.sg_entry_parse.specs.declared.tree.WrittenAnswer.TheVariants.{Refused as refused, Ok as ok}
 use Rattle.sg_entry_parse.specs.declared.tree.WrittenArg.{WrittenArg}
 use Rattle.sg_entry_parse.specs.declared.tree.WrittenArg.TheVariants.{Number, Text as text}
 use Rattle.sg_entry_parse.specs.declared.tree.WrittenEntry.{WrittenEntry}
 use Rattle.sg_facts.specs.Interface.{Declared}
 use Rattle.sg_facts.specs.declared.entry.Entry.{Entry}
-use Rattle.sg_facts.specs.sg_base.declared.reply.Reply.{Reply}
 use Rattle.sg_facts.specs.sg_base.declared.reply.Reply.TheVariants.{Refused, Ok}
 use Rattle.sg_facts.specs.sg_base.declared.value.Value.{Value}
 use Rattle.sg_facts.specs.sg_base.declared.value.Value.TheVariants.{Word, Text}
@@ -36,37 +34,18 @@ abbrev pub args_in : Bool → List Value → List Value
 args_in true (Word n ∷ values) = values
 args_in _ values = values
 
--- the number of a descriptor; 0 where there is none
-abbrev pub desc_of : Option Spelling → ℕ
-desc_of None = 0
-desc_of (Some d) = number_of d
-
--- the bytes that are shown; none where none are
-abbrev pub bytes_of : Option Spelling → List ℕ
-bytes_of None = []
-bytes_of (Some t) = t.bytes
-
--- what an answer stands for
-abbrev pub reply_of : WrittenAnswer → Reply
-reply_of (refused code) = Refused code
-reply_of (ok desc words bytes) = Ok (record { desc = desc_of desc; words = map number_of words; bytes = bytes_of bytes })
-
--- the number of an entry's function; 0 where the interface declares none of its name
-abbrev pub fun_of : Declared → WrittenEntry → ℕ
-fun_of i e = unwrap_or (declared_fun i e.name.bytes) 0
-
--- what an entry stands for
+-- what an entry stands for; its function is 0 where the interface declares none of its name, as is a descriptor that isn't there
 abbrev pub entry_of : Declared → WrittenEntry → Entry
 entry_of i e =
-    let fun = fun_of i e in
+    let fun = unwrap_or (declared_fun i e.name.bytes) 0 in
+    let takes = takes_id i.facts fun in
     let values = map value_of e.args in
     record {
-      call = record {
-        client = number_of e.client;
-        seq = number_of e.seq;
-        fun = fun;
-        desc = id_in (takes_id i.facts fun) values;
-        args = args_in (takes_id i.facts fun) values;
-      };
-      reply = reply_of e.answer;
+      call = record { client = number_of e.client; seq = number_of e.seq; fun = fun; desc = id_in takes values; args = args_in takes values };
+      reply = elim e.answer [
+        | refused code ↦ Refused code
+        | ok desc words bytes ↦
+            let shown = option_map_or (λ (t : Spelling). t.bytes) bytes [] in
+            Ok (record { desc = option_map_or number_of desc 0; words = map number_of words; bytes = shown })
+      ];
     }

@@ -1,7 +1,8 @@
 // Laws of what is read of a text.
 ghost use Rattle.std.specs.Prelude.{◌≡◌, ◌≢◌, ℕ, List, Ok as done, Err as failed};
 ghost use Rattle.std.specs.declared.result.Result.{Result};
-ghost use Rattle.sg_entries.specs.Flaws.{Flaw, IsFirst, flaws_from};
+ghost use Rattle.sg_entries.specs.Flaws.{Flaw, flaws_from};
+ghost use Rattle.sg_entries.specs.Inside.Making.{IsFirst};
 ghost use Rattle.sg_entries.specs.Lines.{entry_lines_of};
 ghost use Rattle.sg_entries.specs.Order.{IsNotAfter};
 ghost use Rattle.sg_entries.specs.Printed.{HasNames, PrintsHistory};

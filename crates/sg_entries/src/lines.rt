@@ -1,7 +1,7 @@
 // The lines of a text in which its entries stand.
 ghost use Rattle.std.specs.Prelude.{◌≡◌, ◌+◌, ◌<◌, ◌^◌, ◌==◌, ◌∷◌, length, position};
-ghost use Rattle.sg_entries.specs.Inside.Cutting.{IsNext, lines_left};
-ghost use Rattle.sg_entries.specs.Lines.{begins_entry, entry_lines_of, line_feed, lines_from};
+ghost use Rattle.sg_entries.specs.Inside.Cutting.{IsNext, line_feed, lines_from, lines_left};
+ghost use Rattle.sg_entries.specs.Lines.{begins_entry, entry_lines_of};
 
 use crate::rest::Rest;
 use sg_entry_parse::Spelled;
@@ -37,7 +37,7 @@ pub struct EntryLines<'a> {
 
 impl<'a> Model for EntryLines<'a> {
     ghost use Rattle.std.specs.Prelude.{List};
-    ghost use Rattle.sg_entry_parse.specs.Spelling.{Spelling};
+    ghost use Rattle.sg_entry_parse.specs.sg_lex.Lexeme.{Spelling};
     ghost use Rattle.sg_entries.specs.Inside.Cutting.{lines_left};
     ghost use Rattle.sg_entries.specs.Lines.{front_lines};
 

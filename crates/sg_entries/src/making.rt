@@ -1,9 +1,11 @@
 // What a written entry stands for, or what is first wrong with it.
 ghost use Rattle.std.specs.Prelude.{◌≡◌, ◌==◌, ◌||◌, ◌++◌, ◌∷◌, [], true, map, IfOk, OnOk};
 ghost use Rattle.std.specs.List.{flat_map};
-ghost use Rattle.sg_entries.specs.Flaws.{answer_flaws, arg_flaws, client_flaws, entry_flaws, flaw_if, fun_flaws, number_flaws, optional_flaws, text_flaws, too_many_entries, values_fit, word_flaws};
+ghost use Rattle.sg_entries.specs.Flaws.{entry_flaws, flaw_if, number_flaws, text_flaws, values_fit};
+ghost use Rattle.sg_entries.specs.Inside.Flaws.{answer_flaws, arg_flaws, client_flaws, fun_flaws, optional_flaws, too_many_entries, word_flaws};
 ghost use Rattle.sg_entries.specs.Inside.Making.{IsMade};
-ghost use Rattle.sg_entries.specs.Standing.{args_in, bytes_of, desc_of, entry_of, fun_of, id_in, number_of, reply_of, value_of};
+ghost use Rattle.sg_entries.specs.Standing.{args_in, entry_of, id_in, number_of, value_of};
+ghost use Rattle.sg_entries.specs.Inside.Standing.{bytes_of, desc_of, fun_of, reply_of};
 ghost use Rattle.sg_facts.specs.Facts.{fun_of_shape, takes_desc, takes_parent};
 ghost use Rattle.sg_facts.specs.Kinds.{kinds_fit};
 ghost use Rattle.sg_script.specs.Numbers.{is_text};

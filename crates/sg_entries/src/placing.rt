@@ -1,6 +1,7 @@
 // What a line stands for, with places in its text.
 ghost use Rattle.std.specs.Prelude.{◌≡◌, ◌+◌, ◌<◌, ◌^◌, length, map, Ok};
-ghost use Rattle.sg_entries.specs.Flaws.{entry_flaws, in_line};
+ghost use Rattle.sg_entries.specs.Flaws.{entry_flaws};
+ghost use Rattle.sg_entries.specs.Inside.Flaws.{in_line};
 ghost use Rattle.sg_entries.specs.Inside.Making.{IsMade};
 ghost use Rattle.sg_entries.specs.Inside.Outlines.{outline_flaws};
 ghost use Rattle.sg_entries.specs.Inside.Parsing.{IsOutlined, IsParsed};

@@ -11,7 +11,7 @@ use Rattle.std.proofs.lemmas.Bool.{cases_Bool}
 use Rattle.sg_base.specs.declared.reply.Code.{Code}
 use Rattle.sg_base.specs.Text.{is_text_byte}
 use Rattle.sg_lex.specs.Bytes.{begins_word, is_in_word}
-use Rattle.sg_lex.specs.Marks.{close_bracket_byte, comma_byte}
+use Rattle.sg_lex.specs.Inside.Marks.{close_bracket_byte, comma_byte}
 use Rattle.sg_entry_parse.specs.declared.error.EntrySyntax.{EntrySyntax}
 use Rattle.sg_entry_parse.specs.declared.error.EntrySyntax.TheVariants.{Syntax}
 use Rattle.sg_entry_parse.specs.declared.tree.WrittenArg.{WrittenArg}
@@ -19,9 +19,9 @@ use Rattle.sg_entry_parse.specs.declared.tree.WrittenArg.TheVariants.{Number as 
 use Rattle.sg_entry_parse.specs.declared.tree.WrittenAnswer.{WrittenAnswer}
 use Rattle.sg_entry_parse.specs.declared.tree.WrittenAnswer.TheVariants.{Refused as refused, Ok as gave}
 use Rattle.sg_entry_parse.specs.declared.tree.WrittenEntry.{WrittenEntry}
-use Rattle.sg_entry_parse.specs.Spelling.{Spelling}
-use Rattle.sg_entry_parse.specs.Pieces.{is_first_digit}
-use Rattle.sg_entry_parse.specs.Entry.{quote_byte}
+use Rattle.sg_lex.specs.Lexeme.{Spelling}
+use Rattle.sg_entry_parse.specs.Inside.Classes.{is_first_digit}
+use Rattle.sg_entry_parse.specs.Inside.Forms.{quote_byte}
 use Rattle.sg_entry_parse.specs.Inside.Ahead.{Came, Off, front_of, behind_of, positive_len, number_len, name_len}
 use Rattle.sg_entry_parse.specs.Inside.CodeWords.{code_of, begins_code}
 use Rattle.sg_entry_parse.specs.Inside.States.{EntryState, done, first, orelse, run, listed, coded, byte, bytes, positive, number, name, text_rest, text, argument, bracketed, comma_rest, words, words_and_bytes, spaced_rest, shown_rest, given, answered, step, entry_at}

@@ -7,15 +7,15 @@ use Rattle.std.proofs.lemmas.Bool.{cases_Bool}
 use Rattle.sg_base.specs.declared.reply.Code.TheVariants.{NoDesc}
 use Rattle.sg_base.specs.Text.{is_text_byte}
 use Rattle.sg_lex.specs.Bytes.{is_in_word}
-use Rattle.sg_lex.specs.Marks.{open_bracket_byte, close_bracket_byte, comma_byte}
+use Rattle.sg_lex.specs.Inside.Marks.{open_bracket_byte, close_bracket_byte, comma_byte}
 use Rattle.sg_entry_parse.specs.declared.tree.WrittenArg.{WrittenArg}
 use Rattle.sg_entry_parse.specs.declared.tree.WrittenArg.TheVariants.{Number as number_arg, Text as text_arg}
 use Rattle.sg_entry_parse.specs.declared.tree.WrittenAnswer.{WrittenAnswer}
 use Rattle.sg_entry_parse.specs.declared.tree.WrittenAnswer.TheVariants.{Refused, Ok}
 use Rattle.sg_entry_parse.specs.declared.tree.WrittenEntry.{WrittenEntry}
-use Rattle.sg_entry_parse.specs.Spelling.{Spelling}
+use Rattle.sg_lex.specs.Lexeme.{Spelling}
 use Rattle.sg_entry_parse.specs.Codes.{code_name}
-use Rattle.sg_entry_parse.specs.Entry.{quote_byte, shows_bytes}
+use Rattle.sg_entry_parse.specs.Inside.Forms.{quote_byte, shows_bytes}
 use Rattle.sg_entry_parse.specs.Inside.CodeWords.{begins_code}
 use Rattle.sg_entry_parse.specs.Inside.States.{EntryState, done, first, orelse, run, listed, coded, byte, bytes, positive, number, name, text_rest, text, argument, bracketed, comma_rest, words, words_and_bytes, given, answered, call_rest, client_rest, entry_start, step}
 use Rattle.sg_entry_parse.proofs.Basics.{none_some, if_else, chosen, not_both}

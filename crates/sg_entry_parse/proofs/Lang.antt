@@ -2,13 +2,13 @@
 use Rattle.std.proofs.Common.{◌≡◌, ℕ, zero, suc, ◌+◌, ◌⊎◌, Bool, true, List, [], ◌∷◌, ◌++◌}
 use Rattle.std.specs.Prelude.{None}
 use Rattle.sg_base.specs.declared.reply.Code.{Code}
-use Rattle.sg_lex.specs.Marks.{close_bracket_byte}
+use Rattle.sg_lex.specs.Inside.Marks.{close_bracket_byte}
 use Rattle.sg_entry_parse.specs.declared.tree.WrittenArg.{WrittenArg}
 use Rattle.sg_entry_parse.specs.declared.tree.WrittenEntry.{WrittenEntry}
-use Rattle.sg_entry_parse.specs.Spelling.{Spelling}
+use Rattle.sg_lex.specs.Lexeme.{Spelling}
 use Rattle.sg_entry_parse.specs.Codes.{code_name}
 use Rattle.sg_entry_parse.specs.Pieces.{fixed}
-use Rattle.sg_entry_parse.specs.Entry.{next_arg_pieces}
+use Rattle.sg_entry_parse.specs.Inside.Forms.{next_arg_pieces}
 use Rattle.sg_entry_parse.specs.Inside.States.{EntryState, done, first, orelse, run, listed, coded, step}
 use Rattle.sg_entry_parse.proofs.Front.{Goes}
 

@@ -7,31 +7,26 @@ use Rattle.sg_entry_parse.specs.declared.error.EntrySyntax.TheVariants.{NoMemory
 use Rattle.sg_entry_parse.specs.declared.tree.EntryOutline.{EntryOutline}
 use Rattle.sg_entry_parse.specs.declared.tree.WrittenEntry.{WrittenEntry}
 use Rattle.sg_entry_parse.specs.Entry.{IsEntry}
-use Rattle.sg_entry_parse.specs.Parses.{IsStuck, FailsAt, EntryParses, OutlineParses, outline_of}
+use Rattle.sg_entry_parse.specs.Parses.{EntryParses, OutlineParses, outline_of}
+use Rattle.sg_lex.specs.Sentences.{IsStuck}
 use Rattle.sg_entry_parse.specs.Inside.States.{entry_start}
 use Rattle.sg_entry_parse.specs.Inside.Reads.{read_from, Ends, OutlineEnds}
 use Rattle.sg_entry_parse.proofs.Fitting.{fits_start}
 use Rattle.sg_entry_parse.proofs.Reading.{Stuck, Fails, sound, complete, faults, only_fault}
 use Rattle.sg_entry_parse.proofs.Whole.{entry_of, line_of}
 
-stuck_of : (front rest : List ℕ) → Stuck entry_start 0 front rest → IsStuck front rest
+stuck_of : (front rest : List ℕ) → Stuck entry_start 0 front rest → IsStuck IsEntry front rest
 stuck_of front [] h = λ tree is. h tree (line_of tree front is)
 stuck_of front (b ∷ rest) h = λ begins. h begins.0 begins.1 (line_of begins.1 ((front ++ b ∷ []) ++ begins.0) begins.2)
 
-of_stuck : (front rest : List ℕ) → IsStuck front rest → Stuck entry_start 0 front rest
+of_stuck : (front rest : List ℕ) → IsStuck IsEntry front rest → Stuck entry_start 0 front rest
 of_stuck front [] h = λ tree l. h tree (entry_of tree front l)
 of_stuck front (b ∷ rest) h = λ more tree l. h (more, tree, entry_of tree ((front ++ b ∷ []) ++ more) l)
 
-fails_of : (line : List ℕ) (place : ℕ) → Fails entry_start 0 line place → FailsAt line place
+fails_of : (line : List ℕ) (place : ℕ) → Fails entry_start 0 line place → EntryParses line (Err (Syntax place))
 fails_of line place f =
-    record {
-      front = f.front;
-      rest = f.rest;
-      all = f.all;
-      place_of = (let e = f.place_of in omega arith);
-      begin = (f.begin.0, f.begin.1, entry_of f.begin.1 (f.front ++ f.begin.0) f.begin.2);
-      stuck = stuck_of f.front f.rest f.stuck;
-    }
+    let at : place ≡ length f.front = (let e = f.place_of in omega arith) in
+    (f.front, f.rest, f.all, at, (f.begin.0, f.begin.1, entry_of f.begin.1 (f.front ++ f.begin.0) f.begin.2), stuck_of f.front f.rest f.stuck)
 
 -- what is read may be answered
 may_of : (line : List ℕ) (answer : Result WrittenEntry EntrySyntax) → read_from entry_start 0 line ≡ answer → EntryParses line answer
@@ -47,10 +42,10 @@ pub only_answer : (line : List ℕ) (other : Result WrittenEntry EntrySyntax) �
 only_answer line (Ok tree) h n = complete line entry_start tree 0 fits_start (line_of tree line h)
 only_answer line (Err NoMemory) h n = absurd (n refl)
 only_answer line (Err (Syntax place)) h n =
-    let begin = h.begin in
-    let e : 0 + length h.front ≡ place = (let g = h.place_of in omega arith) in
-    ap (read_from entry_start 0) h.all
-    ∙ only_fault h.front h.rest entry_start 0 fits_start begin.0 begin.1 (line_of begin.1 (h.front ++ begin.0) begin.2) (of_stuck h.front h.rest h.stuck)
+    let begin = h.4 in
+    let e : 0 + length h.0 ≡ place = (let g = h.3 in omega arith) in
+    ap (read_from entry_start 0) h.2
+    ∙ only_fault h.0 h.1 entry_start 0 fits_start begin.0 begin.1 (line_of begin.1 (h.0 ++ begin.0) begin.2) (of_stuck h.0 h.1 h.5)
     ∙ ap (λ x. Err (Syntax x)) e
 
 -- ---- of a parser whose answer is what is read, or out of memory

@@ -9,9 +9,11 @@ use Rattle.sg_lex.specs.Bytes.{is_in_word}
 use Rattle.sg_entry_parse.specs.declared.tree.WrittenArg.{WrittenArg}
 use Rattle.sg_entry_parse.specs.declared.tree.WrittenArg.TheVariants.{Number as number_arg, Text as text_arg}
 use Rattle.sg_entry_parse.specs.declared.tree.WrittenEntry.{WrittenEntry}
-use Rattle.sg_entry_parse.specs.Spelling.{Spelling}
-use Rattle.sg_entry_parse.specs.Pieces.{EntryPiece, fixed, number as number_piece, positive as positive_piece, name as name_piece, printable, IsNumber, IsPositive, IsName}
-use Rattle.sg_entry_parse.specs.Entry.{quote_byte, text_pieces, arg_pieces}
+use Rattle.sg_lex.specs.Lexeme.{Spelling}
+use Rattle.sg_entry_parse.specs.Pieces.{EntryPiece, fixed, number as number_piece, positive as positive_piece, name as name_piece, printable, IsPositive}
+use Rattle.sg_entry_parse.specs.Inside.Classes.{IsNumber, IsName}
+use Rattle.sg_entry_parse.specs.Entry.{text_pieces, arg_pieces}
+use Rattle.sg_entry_parse.specs.Inside.Forms.{quote_byte}
 use Rattle.sg_entry_parse.specs.Inside.States.{EntryState, orelse, byte, bytes, positive, number, name, text_rest, text, argument}
 use Rattle.sg_entry_parse.proofs.Front.{Goes, join, cut, one_goes, goes_one, fixed_cut, fixed_join, fixed_none, none_fixed}
 use Rattle.sg_entry_parse.proofs.Lang.{Lang, Ran}

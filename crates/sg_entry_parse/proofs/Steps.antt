@@ -6,7 +6,7 @@ use Rattle.std.specs.Option.{option_map}
 use Rattle.std.proofs.lemmas.List.{append-nil}
 use Rattle.std.proofs.lemmas.Bool.{cases_Bool}
 use Rattle.sg_base.specs.declared.reply.Code.{Code}
-use Rattle.sg_lex.specs.Marks.{close_bracket_byte, comma_byte}
+use Rattle.sg_lex.specs.Inside.Marks.{close_bracket_byte, comma_byte}
 use Rattle.sg_entry_parse.specs.declared.tree.WrittenArg.{WrittenArg}
 use Rattle.sg_entry_parse.specs.declared.tree.WrittenEntry.{WrittenEntry}
 use Rattle.sg_entry_parse.specs.Codes.{code_name}

@@ -4,15 +4,16 @@ use Rattle.std.specs.Prelude.{None, Some, codes}
 use Rattle.std.specs.declared.option.Option.{Option}
 use Rattle.std.specs.List.{flat_map}
 use Rattle.std.proofs.lemmas.List.{append-nil}
-use Rattle.sg_lex.specs.Marks.{open_bracket_byte, close_bracket_byte}
+use Rattle.sg_lex.specs.Inside.Marks.{open_bracket_byte, close_bracket_byte}
 use Rattle.sg_entry_parse.specs.declared.tree.WrittenArg.{WrittenArg}
 use Rattle.sg_entry_parse.specs.declared.tree.WrittenAnswer.{WrittenAnswer}
 use Rattle.sg_entry_parse.specs.declared.tree.WrittenAnswer.TheVariants.{Refused as refused, Ok as gave}
 use Rattle.sg_entry_parse.specs.declared.tree.WrittenEntry.{WrittenEntry}
-use Rattle.sg_entry_parse.specs.Spelling.{Spelling}
+use Rattle.sg_lex.specs.Lexeme.{Spelling}
 use Rattle.sg_entry_parse.specs.Codes.{code_name}
 use Rattle.sg_entry_parse.specs.Pieces.{EntryPiece, fixed, number as number_piece, positive as positive_piece, name as name_piece}
-use Rattle.sg_entry_parse.specs.Entry.{quote_byte, text_pieces, arg_pieces, next_arg_pieces, args_pieces, desc_pieces, word_pieces, bytes_pieces, answer_pieces, entry_pieces, shows_bytes, AreShown, IsAnswer, IsEntry}
+use Rattle.sg_entry_parse.specs.Entry.{text_pieces, arg_pieces, answer_pieces, entry_pieces, AreShown, IsAnswer, IsEntry}
+use Rattle.sg_entry_parse.specs.Inside.Forms.{quote_byte, next_arg_pieces, args_pieces, desc_pieces, word_pieces, bytes_pieces, shows_bytes}
 use Rattle.sg_entry_parse.specs.Inside.States.{EntryState, done, orelse, listed, coded, byte, bytes, positive, number, name, text_rest, argument, bracketed, words, words_and_bytes, given, answered, call_answer, call_rest, client_rest, entry_start}
 use Rattle.sg_entry_parse.proofs.Front.{Goes, flat, goes_none, none_goes, join, cut, over, one_goes, goes_one, fixed_cut, fixed_join, fixed_none, none_fixed}
 use Rattle.sg_entry_parse.proofs.Lang.{Lang, Listed}

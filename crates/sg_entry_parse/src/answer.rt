@@ -1,7 +1,7 @@
 // What a call was answered, as it is read up to the end of the line.
 ghost use Rattle.std.specs.Prelude.{◌<◌, ◌-◌, List, [], ◌∷◌, ◌++◌, None, Some, IfOk, IfSome};
 ghost use Rattle.std.specs.declared.option.Option.{Option as Maybe};
-ghost use Rattle.sg_entry_parse.specs.Spelling.{Spelling};
+ghost use Rattle.sg_lex.specs.Lexeme.{Spelling};
 ghost use Rattle.sg_entry_parse.specs.declared.tree.WrittenAnswer.{WrittenAnswer as Answer};
 ghost use Rattle.sg_entry_parse.specs.declared.tree.WrittenAnswer.TheVariants.{Ok as gave};
 ghost use Rattle.sg_entry_parse.specs.declared.tree.WrittenEntry.{WrittenEntry as Entry};

@@ -1,7 +1,7 @@
 // The whole of an entry's line.
 ghost use Rattle.std.specs.Prelude.{◌≡◌, ◌≢◌, ◌⊎◌, Err as failed, codes};
 ghost use Rattle.std.specs.declared.result.Result.{Result as Answered};
-ghost use Rattle.sg_entry_parse.specs.Entry.{shows_bytes};
+ghost use Rattle.sg_entry_parse.specs.Inside.Forms.{shows_bytes};
 ghost use Rattle.sg_entry_parse.specs.Parses.{EntryParses, OutlineParses};
 ghost use Rattle.sg_entry_parse.specs.declared.error.EntrySyntax.{EntrySyntax as Fault};
 ghost use Rattle.sg_entry_parse.specs.declared.tree.EntryOutline.{EntryOutline as Outline};

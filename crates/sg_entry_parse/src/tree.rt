@@ -12,7 +12,7 @@ pub struct Spelled<'a> {
 }
 
 impl<'a> Model for Spelled<'a> {
-    ghost use Rattle.sg_entry_parse.specs.Spelling.{Spelling};
+    ghost use Rattle.sg_lex.specs.Lexeme.{Spelling};
 
     ghost Value = { Spelling };
 

@@ -16,7 +16,8 @@ use Rattle.sg_slots.proofs.Rows.{row_at-rows_of}
 use Rattle.sg_slots.proofs.Deciding.{plain, refuse_right, block_right, set_right, set_word_right, remove_right}
 use Rattle.sg_event.specs.declared.event.Event.{Event}
 use Rattle.sg_event.specs.EventFacts.{event_facts}
-use Rattle.sg_event.specs.EventTable.{event_table, event_parts, count_in, most_count, event_wait_answer, take_answer, trigger_answer}
+use Rattle.sg_event.specs.EventTable.{event_table, event_parts}
+use Rattle.sg_event.specs.Inside.EventAnswer.{count_in, most_count, event_wait_answer, take_answer, trigger_answer}
 use Rattle.sg_event.specs.EventRow.{event_body}
 use Rattle.sg_event.specs.Inside.EventDecision.{set_count, on_event_wait, on_take, on_trigger}
 

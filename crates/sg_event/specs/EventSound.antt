@@ -5,7 +5,7 @@ use Rattle.sg_facts.specs.Track.{word_of, field_at}
 use Rattle.sg_facts.specs.Object.{Object}
 use Rattle.sg_facts.specs.Sound.{IsSound, AreRows}
 use Rattle.sg_event.specs.EventFacts.{event_facts}
-use Rattle.sg_event.specs.EventTable.{most_count}
+use Rattle.sg_event.specs.Inside.EventAnswer.{most_count}
 
 -- a count is at most the greatest
 abbrev pub IsCounted : Row → Type 0

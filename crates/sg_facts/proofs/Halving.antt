@@ -9,7 +9,8 @@ use Rattle.std.specs.Ordering.{nat_cmp, ordering_index, ordering_then}
 use Rattle.std.proofs.lemmas.Bool.{cases_lt}
 use Rattle.std.proofs.lemmas.Bool.Decides.{eqb_tells}
 use Rattle.sg_facts.specs.declared.tables.WalkLine.{WalkLine}
-use Rattle.sg_facts.specs.Tables.{IsAscending, is_for, line_order, walk_of}
+use Rattle.sg_facts.specs.Tables.{walk_of}
+use Rattle.sg_facts.specs.Inside.Walking.{IsAscending, is_for, line_order}
 
 -- ---- one number after the other
 

@@ -2,7 +2,8 @@
 use Rattle.std.proofs.Common.{◌≡◌, List, [], ◌∷◌, ◌++◌, Some, refl, ap, subst}
 use Rattle.sg_facts.specs.declared.entry.Entry.{Entry}
 use Rattle.sg_facts.specs.Interface.{Declared}
-use Rattle.sg_facts.specs.Object.{Object, after, empty_object, object_from}
+use Rattle.sg_facts.specs.Object.{Object, after, empty_object}
+use Rattle.sg_facts.specs.Inside.Rows.{object_from}
 use Rattle.sg_facts.specs.Legal.{Table, answer, IsLegal, LegalFrom}
 
 module _ (i : Declared) (ask : Table) where

@@ -149,35 +149,17 @@ abbrev pub fun_at : List Fun → ℕ → Fun
 fun_at funs zero = no_fun
 fun_at funs (suc n) = unwrap_or (slice_get funs n) no_fun
 
--- whether a parameter is the descriptor that its function is called on
-abbrev pub is_desc : Kind → Bool
-is_desc Desc = true
-is_desc _ = false
-
--- whether a parameter is the parent of the descriptor that its function makes
-abbrev pub is_parent : Kind → Bool
-is_parent Parent = true
-is_parent _ = false
-
--- whether a function is called on a descriptor, or takes a parent
-
 -- whether a function is called on a descriptor
 abbrev pub takes_desc : Fun → Bool
-takes_desc f = list_any is_desc f.kinds
+takes_desc f = list_any (λ kind. elim kind [ Desc ↦ true | _ ↦ false ]) f.kinds
 
 -- whether a function takes a parent
 abbrev pub takes_parent : Fun → Bool
-takes_parent f = list_any is_parent f.kinds
-
--- the state after a function that is called in a state
-abbrev pub left_by : Leaves → ℕ → ℕ → ℕ
-left_by Own fun state = fun
-left_by Same fun state = state
-left_by (Of other) fun state = other
+takes_parent f = list_any (λ kind. elim kind [ Parent ↦ true | _ ↦ false ]) f.kinds
 
 -- the state of a row after a function of a service that was called in a state
 abbrev pub state_after : Facts → ℕ → ℕ → ℕ
-state_after facts fun state = left_by (fun_at facts.funs fun).leaves fun state
+state_after facts fun state = elim (fun_at facts.funs fun).leaves [ Own ↦ fun | Same ↦ state | Of other ↦ other ]
 
 -- whether a call of the function is visible to other clients before it returns
 abbrev pub is_visible : Facts → ℕ → Bool

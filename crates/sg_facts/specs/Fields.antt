@@ -1,5 +1,5 @@
 -- Which fields of a row are set.
-use Rattle.std.specs.Prelude.{ℕ, zero, suc, ◌+◌, ◌*◌, Bool, true, false, if◌then◌else◌, List, [], ◌∷◌, map}
+use Rattle.std.specs.Prelude.{ℕ, zero, suc, ◌+◌, ◌*◌, Bool, true, false, if◌then◌else◌, List, [], ◌∷◌}
 use Rattle.sg_base.specs.declared.value.Value.{Value}
 use Rattle.sg_base.specs.declared.value.Value.TheVariants.{Word, Text}
 
@@ -14,7 +14,3 @@ is_set (Text (b ∷ bs)) = true
 abbrev pub number_of : List Bool → ℕ
 number_of [] = 0
 number_of (b ∷ bs) = (if b then 1 else 0) + 2 * number_of bs
-
--- the fields that are set, as a number
-abbrev pub mask_of : List Value → ℕ
-mask_of fields = number_of (map is_set fields)

@@ -1,16 +1,9 @@
 -- Interfaces that can be recovered.
 use Rattle.std.specs.Prelude.{ℕ, ◌≡◌, ◌≤◌, Bool, true, ◌||◌, not, List, length}
-use Rattle.sg_facts.specs.declared.shape.Leaves.{Leaves}
-use Rattle.sg_facts.specs.declared.shape.Leaves.TheVariants.{Own, Same, Of}
+use Rattle.sg_facts.specs.declared.shape.Leaves.TheVariants.{Of}
 use Rattle.sg_facts.specs.Facts.{fun_at}
 use Rattle.sg_facts.specs.Interface.{Declared, declares, has_pair, moves_on, steps_on}
 use Rattle.sg_facts.specs.Walks.{IsReachable, begin_of, restores, most_calls}
-
--- the function whose state another leaves is declared
-abbrev pub LeavesDeclared : Declared → Leaves → Type 0
-LeavesDeclared i Own = Unit {0}
-LeavesDeclared i Same = Unit {0}
-LeavesDeclared i (Of other) = declares i other ≡ true
 
 -- a function needs to be reached: it neither makes a descriptor nor is a query
 abbrev pub needs_reach : Declared → ℕ → Bool
@@ -29,7 +22,7 @@ pub record Fits (i : Declared) : Type 0 where
   pub steps : (state fun : ℕ) → steps_on i state fun ≡ true → has_pair i.facts.steps state fun ≡ true
   pub moves_declared : (state fun : ℕ) → moves_on i state fun ≡ true → (declares i state ≡ true) × (declares i fun ≡ true)
   pub steps_declared : (state fun : ℕ) → steps_on i state fun ≡ true → (declares i state ≡ true) × (declares i fun ≡ true)
-  pub leaves_declared : (fun : ℕ) → declares i fun ≡ true → LeavesDeclared i (fun_at i.facts.funs fun).leaves
+  pub leaves_declared : (fun : ℕ) → declares i fun ≡ true → elim (fun_at i.facts.funs fun).leaves as (λ leaves. Type 0) [ Of other ↦ declares i other ≡ true | _ ↦ Unit {0} ]
   pub creation : (fun : ℕ) × (declares i fun ≡ true) × ((fun_at i.facts.funs fun).creation ≡ true)
   pub reached : (fun : ℕ) → declares i fun ≡ true → needs_reach i fun ≡ true → IsReached i fun
   pub walks : (by state : ℕ) (set : List Bool) → IsReachable i by state set

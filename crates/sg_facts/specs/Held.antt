@@ -5,7 +5,8 @@ use Rattle.sg_base.specs.declared.value.Value.TheVariants.{Word, Text}
 use Rattle.sg_facts.specs.declared.row.Row.{Row}
 use Rattle.sg_facts.specs.Fields.{is_set}
 use Rattle.sg_facts.specs.Interface.{Declared}
-use Rattle.sg_facts.specs.Track.{row_at, cleared}
+use Rattle.sg_facts.specs.Track.{row_at}
+use Rattle.sg_facts.specs.Inside.Rows.{cleared}
 use Rattle.sg_facts.specs.Object.{Object}
 use Rattle.sg_facts.specs.Walks.{Mark, unset, good, unknown, Spot, spot_of, IsReachable, IsWalkOf}
 use Rattle.sg_facts.specs.Sound.{IsSound}

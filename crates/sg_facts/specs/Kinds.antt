@@ -9,7 +9,8 @@ use Rattle.sg_facts.specs.declared.shape.Parents.{Parents}
 use Rattle.sg_facts.specs.declared.shape.Parents.TheVariants.{Never, Same, Cross}
 use Rattle.sg_facts.specs.Facts.{Facts, fun_at, takes_desc, takes_parent}
 use Rattle.sg_facts.specs.Limits.{end_of_counts, last_client}
-use Rattle.sg_facts.specs.Track.{is_live, has_child}
+use Rattle.sg_facts.specs.Track.{is_live}
+use Rattle.sg_facts.specs.Inside.Rows.{has_child}
 use Rattle.sg_facts.specs.Object.{Object}
 use Rattle.sg_facts.specs.Counted.{CountedBelow}
 

@@ -1,8 +1,8 @@
 -- Legal histories: those of a service that never failed.
-use Rattle.std.specs.Prelude.{ℕ, ◌≡◌, List, [], ◌∷◌, ◌++◌, None, Some}
+use Rattle.std.specs.Prelude.{ℕ, ◌≡◌, List, [], ◌∷◌, ◌++◌, Some}
+use Rattle.std.specs.Option.{option_map_or}
 use Rattle.std.specs.declared.option.Option.{Option}
 use Rattle.sg_base.specs.declared.call.Call.{Call}
-use Rattle.sg_base.specs.declared.reply.Code.{Code}
 use Rattle.sg_base.specs.declared.reply.Reply.{Reply}
 use Rattle.sg_base.specs.declared.reply.Reply.TheVariants.{Ok, Refused}
 use Rattle.sg_facts.specs.declared.entry.Entry.{Entry}
@@ -18,14 +18,9 @@ Table = Object → Call → Option Reply
 abbrev pub done : ℕ → Option Reply
 done desc = Some (Ok (record { desc = desc; words = []; bytes = [] }))
 
--- a refusal where there is one, else an answer
-abbrev pub refused_or : Option Code → Option Reply → Option Reply
-refused_or (Some code) asked = Some (Refused code)
-refused_or None asked = asked
-
 -- the guard's refusal where there is one, else the service's answer
 abbrev pub answer : Declared → Table → Object → Call → Option Reply
-answer i ask o call = refused_or (guard i o call) (ask o call)
+answer i ask o call = option_map_or (λ code. Some (Refused code)) (guard i o call) (ask o call)
 
 -- a history is legal: the reply at each place is the answer at the object of the entries before it
 abbrev pub IsLegal : Declared → Table → List Entry → Type 0

@@ -6,6 +6,7 @@ pub mod Fields
 pub mod Fits
 pub mod Guard
 pub mod Held
+pub mod Inside
 pub mod Interface
 pub mod Invoke
 pub mod Kinds

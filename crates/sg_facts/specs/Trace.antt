@@ -1,7 +1,6 @@
 -- What a trace tells: the items of each boot and its stop, without the room that is kept for more.
 use Rattle.std.specs.Prelude.{ℕ, List, map}
 use Rattle.std.specs.declared.option.Option.{Option}
-use Rattle.sg_facts.specs.declared.trace.BootLog.{BootLog}
 use Rattle.sg_facts.specs.declared.trace.Item.{Item}
 use Rattle.sg_facts.specs.declared.trace.Trace.{Trace}
 
@@ -15,10 +14,6 @@ pub record Run : Type 0 where
   pub boots : List Boot
   pub points : ℕ
 
--- a boot of a trace as plain data
-abbrev pub boot_of : BootLog → Boot
-boot_of log = record { items = log.items.items; stop = log.stop }
-
 -- a trace as plain data
 abbrev pub run_of : Trace → Run
-run_of trace = record { boots = map boot_of trace.boots.items; points = trace.points }
+run_of trace = record { boots = map (λ log. record { items = log.items.items; stop = log.stop }) trace.boots.items; points = trace.points }

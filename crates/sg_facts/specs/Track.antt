@@ -1,17 +1,16 @@
 -- The tracked rows, and what an answered call makes of them.
-use Rattle.std.specs.Prelude.{ℕ, zero, suc, ◌+◌, ◌-◌, ◌==◌, Bool, ◌&&◌, ◌||◌, not, if◌then◌else◌, List, [], ◌∷◌, ◌++◌, None, Some, map, filter, find, unwrap_or, slice_get, slice_set}
+use Rattle.std.specs.Prelude.{ℕ, zero, suc, ◌+◌, ◌-◌, ◌==◌, Bool, ◌&&◌, ◌||◌, not, if◌then◌else◌, List, [], ◌∷◌, ◌++◌, map, filter, find, unwrap_or, slice_get, slice_set}
+use Rattle.std.specs.Option.{option_map_or}
 use Rattle.std.specs.declared.option.Option.{Option}
 use Rattle.std.specs.List.{list_any}
 use Rattle.sg_base.specs.declared.value.Value.{Value}
 use Rattle.sg_base.specs.declared.value.Value.TheVariants.{Word, Text}
 use Rattle.sg_base.specs.declared.call.Call.{Call}
 use Rattle.sg_base.specs.declared.reply.Good.{Good}
-use Rattle.sg_base.specs.declared.reply.Reply.{Reply}
-use Rattle.sg_base.specs.declared.reply.Reply.TheVariants.{Ok, Refused}
 use Rattle.sg_facts.specs.declared.row.Row.{Row}
 use Rattle.sg_facts.specs.declared.shape.Effect.{Effect}
 use Rattle.sg_facts.specs.declared.shape.Effect.TheVariants.{SetCaller, SetArg, AddArg, SetRet, AddRet, Clear, SubOne, SubRet}
-use Rattle.sg_facts.specs.Facts.{Facts, Field, fun_at, takes_parent, state_after}
+use Rattle.sg_facts.specs.Facts.{Facts, fun_at, takes_parent, state_after}
 
 -- ---- look-ups
 
@@ -23,20 +22,11 @@ row_at rows id = find (λ r. r.id == id) rows
 abbrev pub is_live : List Row → ℕ → Bool
 is_live rows id = list_any (λ r. r.id == id) rows
 
--- whether a live row has the id as its parent
-abbrev pub has_child : List Row → ℕ → Bool
-has_child rows id = list_any (λ r. r.parent == id) rows
-
--- the parent of a row, 0 where there is no row
-abbrev pub parent_in : Option Row → ℕ
-parent_in None = 0
-parent_in (Some r) = r.parent
-
 -- the nearest ancestors of an id, at most so many, nearest first
 abbrev pub nearest : List Row → ℕ → ℕ → List ℕ
 nearest rows zero id = []
 nearest rows (suc most) id =
-    let parent = parent_in (row_at rows id) in
+    let parent = option_map_or (λ r. r.parent) (row_at rows id) 0 in
     if parent == 0 then [] else parent ∷ nearest rows most parent
 
 -- the ancestors of an id, nearest first. A parent has a smaller id than its child, so there are fewer than the id
@@ -62,11 +52,6 @@ arg_at call k = unwrap_or (slice_get call.args k) (Word 0)
 abbrev pub first_word : Good → ℕ
 first_word good = unwrap_or (slice_get good.words 0) 0
 
--- 0, or the empty text
-abbrev pub cleared : Value → Value
-cleared (Word n) = Word 0
-cleared (Text bytes) = Text []
-
 -- a field after an effect
 abbrev pub effect_of : Call → Good → Effect → Value → Value
 effect_of call good SetCaller old = Word call.client
@@ -74,7 +59,7 @@ effect_of call good (SetArg k) old = arg_at call k
 effect_of call good (AddArg k) old = Word (word_of old + word_of (arg_at call k))
 effect_of call good SetRet old = Word (first_word good)
 effect_of call good AddRet old = Word (word_of old + first_word good)
-effect_of call good Clear old = cleared old
+effect_of call good Clear old = elim old [ Word n ↦ Word 0 | Text bytes ↦ Text [] ]
 effect_of call good SubOne old = Word (word_of old - 1)
 effect_of call good SubRet old = Word (word_of old - first_word good)
 
@@ -90,11 +75,7 @@ fields_after call good (e ∷ es) fields =
 
 -- ---- rows
 
--- 0, or the empty text, as a field is when its row is made
-abbrev pub empty_field : Field → Value
-empty_field f = if f.text then Text [] else Word 0
-
--- the row that a creation makes
+-- the row that a creation makes; a field is 0 or the empty text before the effects
 abbrev pub new_row : Facts → Call → Good → Row
 new_row facts call good = record {
   id = good.desc;
@@ -102,14 +83,7 @@ new_row facts call good = record {
   creator = call.client;
   parent = if takes_parent (fun_at facts.funs call.fun) then call.desc else 0;
   state = state_after facts call.fun call.fun;
-  fields = fields_after call good (fun_at facts.funs call.fun).effects (map empty_field facts.fields);
-}
-
--- its row after a call of a function that neither makes nor ends it
-abbrev pub row_after : Facts → Call → Good → Row → Row
-row_after facts call good r = record r {
-  state = state_after facts call.fun r.state;
-  fields = fields_after call good (fun_at facts.funs call.fun).effects r.fields;
+  fields = fields_after call good (fun_at facts.funs call.fun).effects (map (λ f. if f.text then Text [] else Word 0) facts.fields);
 }
 
 -- whether the end of a descriptor ends another: its own, and under subtree those below it
@@ -124,9 +98,4 @@ rows_after facts rows call good =
     if f.query then rows
     else if f.creation then rows ++ new_row facts call good ∷ []
     else if f.terminal then filter (λ r. not (ends_with facts rows call.desc r.id)) rows
-    else map (λ r. if r.id == call.desc then row_after facts call good r else r) rows
-
--- the rows after an answered call; a refusal leaves them
-abbrev pub track : Facts → List Row → Call → Reply → List Row
-track facts rows call (Ok good) = rows_after facts rows call good
-track facts rows call (Refused code) = rows
+    else map {A = Row} {B = Row} (λ r. if r.id == call.desc then record r { state = state_after facts call.fun r.state; fields = fields_after call good f.effects r.fields } else r) rows

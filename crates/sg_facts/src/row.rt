@@ -1,7 +1,8 @@
 // A tracked descriptor.
 ghost use Rattle.std.specs.Prelude.{◌≡◌, ◌↔◌, ◌^◌, ◌<◌, ◌≤◌, [], ◌∷◌, ◌++◌, length, take, IsTrue, IfSome, IfNone, IfOk, OnOk, OnErr, slice_get, slice_set, vec_capacity};
 ghost use Rattle.std.specs.Option.{option_copied};
-ghost use Rattle.sg_facts.specs.Fields.{is_set, mask_of};
+ghost use Rattle.sg_facts.specs.Fields.{is_set};
+ghost use Rattle.sg_facts.specs.Inside.Rows.{mask_of};
 
 use sg_base::{ListOf, NoMemory, Text, TextRoom, TryCopy, Value};
 use std::alloc::Global;

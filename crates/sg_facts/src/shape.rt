@@ -1,6 +1,7 @@
 // The finite facts of a service.
 ghost use Rattle.std.specs.Prelude.{◌≡◌, ◌+◌, ◌<◌, ◌^◌, map};
-ghost use Rattle.sg_facts.specs.Facts.{facts_of, fun_at, fun_of_shape, left_by, takes_desc, takes_parent};
+ghost use Rattle.sg_facts.specs.Facts.{facts_of, fun_at, fun_of_shape, takes_desc, takes_parent};
+ghost use Rattle.sg_facts.specs.Inside.Rows.{left_by};
 
 use crate::interface::has_flag;
 

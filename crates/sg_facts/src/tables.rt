@@ -2,7 +2,8 @@
 ghost use Rattle.std.specs.Prelude.{◌≡◌};
 ghost use Rattle.std.specs.Option.{option_copied};
 ghost use Rattle.sg_facts.specs.Fits.{Fits};
-ghost use Rattle.sg_facts.specs.Tables.{AreTables, IsAscending, line_order, walk_of};
+ghost use Rattle.sg_facts.specs.Tables.{AreTables, walk_of};
+ghost use Rattle.sg_facts.specs.Inside.Walking.{IsAscending, line_order};
 
 use crate::{Interface, Walk};
 use sg_base::ListOf;

@@ -1,6 +1,7 @@
 // What was done to a service, boot by boot.
 ghost use Rattle.std.specs.Prelude.{◌≡◌, ◌++◌, ◌∷◌, [], IfOk, OnOk, map};
-ghost use Rattle.sg_facts.specs.Trace.{boot_of, run_of};
+ghost use Rattle.sg_facts.specs.Trace.{run_of};
+ghost use Rattle.sg_facts.specs.Inside.Rows.{boot_of};
 
 use crate::Outcome;
 use sg_base::{Call, NoMemory, Path, RoomyList, TryCopy};

@@ -8,11 +8,13 @@ use Rattle.sg_facts.specs.declared.trace.Item.{Item}
 use Rattle.sg_facts.specs.Facts.{Facts}
 use Rattle.sg_facts.specs.Interface.{Declared}
 use Rattle.sg_facts.specs.Legal.{IsLegal, LegalFrom, Table, answer}
-use Rattle.sg_facts.specs.Object.{Object, after, empty_object, object_from, object_of}
+use Rattle.sg_facts.specs.Object.{Object, after, empty_object, object_of}
+use Rattle.sg_facts.specs.Inside.Rows.{object_from}
 use Rattle.sg_facts.proofs.Legality.{IsLegal-from, LegalFrom-is}
 use Rattle.sg_facts.specs.Trace.{Boot}
 use Rattle.sg_hist.specs.Growing.{AreGrown, HasOneMore, IsGrown, IsOfNoEntry, booted, noted, place_after, struck}
-use Rattle.sg_hist.specs.Reading.{Position, after_item, items_after, entries_before, is_by_guard, is_item_of, items_of, names_at, names_in, past, places_from, places_in, stands_before, value_at}
+use Rattle.sg_hist.specs.Reading.{Position, items_after, is_by_guard, is_item_of, items_of, names_at, places_from, places_in, stands_before, value_at}
+use Rattle.sg_hist.specs.Inside.Reads.{after_item, entries_before, names_in, past}
 
 -- ---- an entry more
 

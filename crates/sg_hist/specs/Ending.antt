@@ -1,7 +1,6 @@
 -- How a run ends, as its trace says, and what it means that a run which ended has recovered.
 use Rattle.std.specs.Prelude.{ℕ, ◌≡◌, ◌≢◌, ◌==◌, Bool, true, false, ◌&&◌, ◌||◌, not, if◌then◌else◌, List, [], ◌∷◌, ◌++◌, None, Some, IsSome}
 use Rattle.std.specs.List.{list_any}
-use Rattle.std.specs.declared.option.Option.{Option}
 use Rattle.sg_facts.specs.sg_base.Lists.{Each, When}
 use Rattle.sg_facts.specs.sg_base.Stops.{asked_after}
 use Rattle.sg_facts.specs.sg_base.declared.call.Call.{Call}
@@ -20,23 +19,10 @@ use Rattle.sg_hist.specs.Wakes.{has_blocked, wakes_at}
 
 -- ---- who waits
 
--- whether a call had to wait at a place
-abbrev pub waits_in : Call → Position → Bool
-waits_in call p = is_tagged call.client call.seq p.item.tag && has_blocked p.item.outcome
-
--- the entries that may wake who waits: in a private service none wakes another client, and who waits does so until the next boot
-abbrev pub waking_entries : Facts → List Entry → List Entry
-waking_entries facts history = if facts.global then history else []
-
 -- whether a call had to wait at one of these places, after which no entry's item wakes it
 abbrev pub is_still_blocked : Facts → List Entry → Call → List Position → Bool
 is_still_blocked facts entries call [] = false
-is_still_blocked facts entries call (p ∷ ps) = (waits_in call p && not (list_any (wakes_at facts entries call.desc) ps)) || is_still_blocked facts entries call ps
-
--- a client that waits at its end had to wait in the last boot, and nothing woke it since
-abbrev pub IsStillBlocked : Facts → List Entry → List Boot → End → Type 0
-IsStillBlocked facts history boots Done = Unit {0}
-IsStillBlocked facts history boots (Blocked call) = is_still_blocked facts (waking_entries facts history) call (last_places boots) ≡ true
+is_still_blocked facts entries call (p ∷ ps) = (is_tagged call.client call.seq p.item.tag && has_blocked p.item.outcome && not (list_any (wakes_at facts entries call.desc) ps)) || is_still_blocked facts entries call ps
 
 -- ---- replies that were lost
 
@@ -46,18 +32,15 @@ client_of (Walk id k client) = client
 client_of (Load key client) = client
 client_of (Client client seq) = client
 
--- whether a place's item is of a client's call that was replied to, and is no entry's
-abbrev pub is_unentered : List Entry → Position → Bool
-is_unentered history p = is_clients p.item.tag && is_replied p.item.outcome && not (is_entered history p)
-
--- a reply that is no entry's was lost: its boot was stopped, and nothing was noted in it for the client after the reply
-abbrev pub IsLost : List Entry → Option ℕ → Position → Type 0
-IsLost history stop p = When (is_unentered history p) (IsSome stop × (list_any (λ item. client_of item.tag == client_of p.item.tag) p.rest ≡ false))
-
--- so is each such reply in boots, which stand after other items
+-- each reply to a client's call that is no entry's was lost, in boots which stand after other items: its boot was stopped, and nothing
+-- was noted in it for the client after the reply
 abbrev pub AreLost : List Entry → List Item → List Boot → Type 0
 AreLost history older [] = Unit {0}
-AreLost history older (b ∷ boots) = Each (IsLost history b.stop) (places_in older [] b.items (items_of boots)) × AreLost history (older ++ b.items) boots
+AreLost history older (b ∷ boots) =
+    Each (λ p. When (is_clients p.item.tag && is_replied p.item.outcome && not (is_entered history p))
+    (IsSome b.stop × (list_any (λ item. client_of item.tag == client_of p.item.tag) p.rest ≡ false)))
+    (places_in older [] b.items (items_of boots))
+    × AreLost history (older ++ b.items) boots
 
 -- ---- the last boot
 
@@ -73,15 +56,10 @@ abbrev pub last_point : ℕ → List Item → ℕ
 last_point asked [] = asked
 last_point asked (item ∷ items) = last_point item.points items
 
--- a boot that stopped did so right after the commit of its last item: the stop is the next point
-abbrev pub IsQuietStop : Facts → List Item → Option ℕ → Type 0
-IsQuietStop facts items None = Unit {0}
-IsQuietStop facts items (Some stop) = (ends_committed facts items ≡ true) × (stop ≡ asked_after (last_point 0 items) 1)
-
--- the last boot did, if it stopped
+-- if the last boot stopped, it did so right after the commit of its last item: the stop is the next point
 abbrev pub EndsQuiet : Facts → List Boot → Type 0
 EndsQuiet facts [] = Unit {0}
-EndsQuiet facts (b ∷ []) = IsQuietStop facts b.items b.stop
+EndsQuiet facts (b ∷ []) = elim b.stop [ Some stop ↦ (ends_committed facts b.items ≡ true) × (stop ≡ asked_after (last_point 0 b.items) 1) | None ↦ Unit {0} ]
 EndsQuiet facts (b ∷ c ∷ boots) = EndsQuiet facts (c ∷ boots)
 
 -- ---- a run that ended
@@ -91,8 +69,13 @@ pub record HasRecovered (s : Stubs) (history : List Entry) (run : Run) (ends : L
   -- no row is rebuilt by other walks than the shortest of an interface that can be recovered
   pub tables : AreTables s.interface s.walks
   pub recovered : IsRecovered s history run (waiting ends)
-  -- no client waits that the service didn't let wait since its last boot, or that was woken since
-  pub blocked : Each (λ e. IsStillBlocked s.interface.facts history run.boots e.1) ends
+  -- no client waits that the service didn't let wait since its last boot, or that was woken since; in a private service no entry wakes
+  -- another client, and who waits does so until the next boot
+  pub blocked : Each (λ e. elim e.1 [
+    | Blocked call ↦ is_still_blocked s.interface.facts (if s.interface.facts.global then history else []) call (last_places run.boots) ≡ true
+    | Done ↦ Unit {0}
+  ])
+      ends
   -- none is booted for nothing
   pub used : EndsUsed run.boots
   -- in the end none stops at a point that no call asked

@@ -15,7 +15,8 @@ use Rattle.sg_facts.specs.sg_base.declared.reply.Reply.TheVariants.{Ok, Refused}
 use Rattle.sg_facts.specs.Facts.{Facts, fun_at, is_visible}
 use Rattle.sg_facts.specs.Trace.{Boot, Run}
 use Rattle.sg_hist.specs.Reading.{Position, items_after, id_given, is_by_guard, is_item_of, item_of, names_at, older_items, places_of}
-use Rattle.sg_hist.specs.Recovered.{AskedAs, GivesEntry, IsDemanded, IsItsCall, IsRebooted, IsReplyOf, IsServed, IsTrackedAt, IsWalked, Stubs, asked_in, calls_made, ends_stopped}
+use Rattle.sg_hist.specs.Recovered.{IsRebooted, IsReplyOf, IsServed, Stubs, asked_in, ends_stopped}
+use Rattle.sg_hist.specs.Inside.Parts.{AskedAs, GivesEntry, IsDemanded, IsItsCall, IsTrackedAt, IsWalked, calls_made}
 
 -- ---- boots and places
 

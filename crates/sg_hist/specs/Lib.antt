@@ -1,6 +1,7 @@
 pub mod Clients
 pub mod Ending
 pub mod Growing
+pub mod Inside
 pub mod Reading
 pub mod Recovered
 pub mod Wakes

@@ -1,7 +1,8 @@
 -- How the trace of a run is read: which item is whose, what was committed before an item, and what the service held at it.
-use Rattle.std.specs.Prelude.{ℕ, ◌==◌, Bool, true, false, ◌&&◌, ◌||◌, not, if◌then◌else◌, List, [], ◌∷◌, ◌++◌, None, Some, length, filter, find, reverse}
+use Rattle.std.specs.Prelude.{ℕ, ◌==◌, Bool, true, false, ◌&&◌, ◌||◌, not, if◌then◌else◌, List, [], ◌∷◌, ◌++◌, None, Some, length, filter, find, map, reverse}
 use Rattle.std.specs.declared.option.Option.{Option}
 use Rattle.std.specs.List.{flat_map, fold, list_any}
+use Rattle.std.specs.Option.{option_map_or}
 use Rattle.sg_facts.specs.sg_base.declared.call.Call.{Call}
 use Rattle.sg_facts.specs.sg_base.declared.reply.Reply.{Reply}
 use Rattle.sg_facts.specs.sg_base.declared.reply.Reply.TheVariants.{Ok, Refused}
@@ -15,7 +16,7 @@ use Rattle.sg_facts.specs.declared.trace.Item.{Item}
 use Rattle.sg_facts.specs.declared.trace.Tag.{Tag}
 use Rattle.sg_facts.specs.declared.trace.Tag.TheVariants.{Walk, Load, Client}
 use Rattle.sg_facts.specs.Facts.{Facts, fun_at}
-use Rattle.sg_facts.specs.Fields.{mask_of}
+use Rattle.sg_facts.specs.Fields.{is_set, number_of}
 use Rattle.sg_facts.specs.Guard.{is_guards}
 use Rattle.sg_facts.specs.Object.{Object, after, empty_object, object_of, set_file}
 use Rattle.sg_facts.specs.Tables.{walk_of}
@@ -32,10 +33,6 @@ pub record Position : Type 0 where
   pub item : Item
   pub rest : List Item
   pub newer : List Item
-
--- all items before a place: of the boots before, and the earlier ones of its boot
-abbrev pub past : Position → List Item
-past p = p.older ++ p.front
 
 -- all items after a place, without its own: the later ones of its boot, and all of the boots after
 abbrev pub items_after : Position → List Item
@@ -101,15 +98,11 @@ is_by_guard (Refused code) = is_guards code
 
 -- whether an entry's item stands before a place
 abbrev pub stands_before : Position → Entry → Bool
-stands_before p e = not (is_by_guard e.reply) && list_any (is_item_of e) (past p) && not (list_any (is_item_of e) (p.item ∷ items_after p))
+stands_before p e = not (is_by_guard e.reply) && list_any (is_item_of e) (p.older ++ p.front) && not (list_any (is_item_of e) (p.item ∷ items_after p))
 
--- the entries whose items stand before a place, in the order of the history
-abbrev pub entries_before : List Entry → Position → List Entry
-entries_before history p = filter (stands_before p) history
-
--- the fault-free object that these entries make
+-- the fault-free object that the entries make whose items stand before a place
 abbrev pub object_before : Facts → List Entry → Position → Object
-object_before facts history p = object_of facts (entries_before history p)
+object_before facts history p = object_of facts (filter (stands_before p) history)
 
 -- ---- replies
 
@@ -126,39 +119,25 @@ replied_of NoMemory = None
 abbrev pub service_call : Item → Call
 service_call item = record item.shown { desc = item.real }
 
--- a loaded file is set whole
-abbrev pub with_file : Object → Option Patch → Object
-with_file o None = o
-with_file o (Some p) = record o { files = set_file o.files p.key p.bytes }
-
--- a load sets its file, and a call does what its reply says; what has no reply changes nothing that is known
+-- a load sets its file whole, and a call does what its reply says; what has no reply changes nothing that is known
 abbrev pub given_by : Facts → Object → Tag → Call → Outcome → Object
-given_by facts o (Load key client) call (Replied reply patch) = with_file o patch
+given_by facts o (Load key client) call (Replied reply patch) = option_map_or (λ p. record o { files = set_file o.files p.key p.bytes }) patch o
 given_by facts o (Walk id k client) call (Replied reply patch) = after facts o call reply
 given_by facts o (Client client seq) call (Replied reply patch) = after facts o call reply
 given_by facts o tag call Blocks = o
 given_by facts o tag call Stopped = o
 given_by facts o tag call NoMemory = o
 
--- what the service holds after an item, from what it held before the item
-abbrev pub after_item : Facts → Object → Item → Object
-after_item facts o item = given_by facts o item.tag (service_call item) item.outcome
-
 -- what the service holds after items of one boot
 abbrev pub value_at : Facts → List Item → Object
-value_at facts front = fold (after_item facts) empty_object front
+value_at facts front = fold (λ o item. given_by facts o item.tag (service_call item) item.outcome) empty_object front
 
 -- ---- names
 
--- the descriptor of a reply, 0 for none
-abbrev pub desc_of : Reply → ℕ
-desc_of (Ok good) = good.desc
-desc_of (Refused code) = 0
-
--- the descriptor of an entry's reply, 0 where there is no entry
+-- the descriptor of an entry's reply, 0 where there is no entry, or the entry was refused
 abbrev pub desc_in : Option Entry → ℕ
 desc_in None = 0
-desc_in (Some e) = desc_of e.reply
+desc_in (Some e) = elim e.reply [ Ok good ↦ good.desc | Refused code ↦ 0 ]
 
 -- the descriptor that the call of a number was given
 abbrev pub id_given : List Entry → ℕ → ℕ → ℕ
@@ -166,66 +145,43 @@ id_given history client seq = desc_in (find (λ e. (e.call.client == client) && 
 
 -- a client's id with the service's id, where the service replied an Ok
 abbrev pub pair_of : ℕ → Outcome → List (ℕ × ℕ)
-pair_of id outcome = of (replied_of outcome)
-  where
-    of : Option (Reply × Option Patch) → List (ℕ × ℕ)
-    of (Some (Ok good, patch)) = (id, good.desc) ∷ []
-    of _ = []
+pair_of id (Replied (Ok good) patch) = (id, good.desc) ∷ []
+pair_of id _ = []
 
--- the pair that an item gives: the first call of a walk, and a creation
-abbrev pub names_in : Facts → List Entry → ℕ → Tag → Outcome → List (ℕ × ℕ)
-names_in facts history fun (Walk id k client) outcome = if k == 1 then pair_of id outcome else []
-names_in facts history fun (Load key client) outcome = []
-names_in facts history fun (Client client seq) outcome =
-    if (fun_at facts.funs fun).creation then pair_of (id_given history client seq) outcome else []
-
--- the pairs of client ids and service ids after items of one boot
+-- the pairs of client ids and service ids after items of one boot: the first call of a walk gives one, and a creation
 abbrev pub names_at : Facts → List Entry → List Item → List (ℕ × ℕ)
-names_at facts history front = flat_map (λ item. names_in facts history item.shown.fun item.tag item.outcome) front
+names_at facts history front = flat_map (λ item. elim item.tag [
+  | Walk id k client ↦ if k == 1 then pair_of id item.outcome else []
+  | Load key client ↦ []
+  | Client client seq ↦ if (fun_at facts.funs item.shown.fun).creation then pair_of (id_given history client seq) item.outcome else []
+])
+    front
 
 -- ---- what is whole
 
 -- whether an outcome is an Ok
 abbrev pub is_ok : Outcome → Bool
-is_ok outcome = of (replied_of outcome)
-  where
-    of : Option (Reply × Option Patch) → Bool
-    of (Some (Ok good, patch)) = true
-    of _ = false
-
--- whether an item made an id for an entry
-abbrev pub made_by : Facts → List Entry → ℕ → ℕ → Tag → Bool
-made_by facts history id fun (Walk i k client) = false
-made_by facts history id fun (Load key client) = false
-made_by facts history id fun (Client client seq) = (fun_at facts.funs fun).creation && (id_given history client seq == id)
+is_ok (Replied (Ok good) patch) = true
+is_ok _ = false
 
 -- whether an item is an Ok of the creation that an id was given for
 abbrev pub is_made : Facts → List Entry → ℕ → Item → Bool
-is_made facts history id item = is_ok item.outcome && made_by facts history id item.shown.fun item.tag
+is_made facts history id item = is_ok item.outcome && elim item.tag [
+  | Client client seq ↦ (fun_at facts.funs item.shown.fun).creation && (id_given history client seq == id)
+  | _ ↦ false
+]
 
 -- the walk of a row
 abbrev pub walk_in : List WalkLine → Option Row → Option (List ℕ)
 walk_in walks None = None
-walk_in walks (Some r) = walk_of walks r.made r.state (mask_of r.fields)
-
--- whether there is a walk, and the walk has so many calls
-abbrev pub has_length : ℕ → Option (List ℕ) → Bool
-has_length n None = false
-has_length n (Some walk) = length walk == n
-
--- whether an item is the last call of the walk of an id
-abbrev pub ends_walk : Facts → List WalkLine → List Entry → ℕ → Position → Tag → Bool
-ends_walk facts walks history id p (Walk i k client) =
-    (i == id) && has_length k (walk_in walks (row_at (object_before facts history p).rows id))
-ends_walk facts walks history id p (Load key client) = false
-ends_walk facts walks history id p (Client client seq) = false
-
--- whether the item at a place is an Ok of the last call of the walk of an id
-abbrev pub is_rebuilt_at : Facts → List WalkLine → List Entry → ℕ → Position → Bool
-is_rebuilt_at facts walks history id p = is_ok p.item.outcome && ends_walk facts walks history id p p.item.tag
+walk_in walks (Some r) = walk_of walks r.made r.state (number_of (map is_set r.fields))
 
 -- whether an id is whole at a place: earlier in the boot an item made it for an entry, or all calls of its walk replied
 abbrev pub is_whole_at : Facts → List WalkLine → List Entry → Position → ℕ → Bool
 is_whole_at facts walks history p id =
     list_any (is_made facts history id) p.front
-    || list_any (is_rebuilt_at facts walks history id) (places_in p.older [] p.front (p.item ∷ items_after p))
+    || list_any (λ q. is_ok q.item.outcome && elim q.item.tag [
+      | Walk i k client ↦ (i == id) && option_map_or (λ walk. length walk == k) (walk_in walks (row_at (object_before facts history q).rows id)) false
+      | _ ↦ false
+    ])
+    (places_in p.older [] p.front (p.item ∷ items_after p))

@@ -3,7 +3,8 @@ use Rattle.std.proofs.Common.{◌≡◌, ◌≢◌, ◌⊎◌, inl, inr, ℕ, su
 use Rattle.std.proofs.Math.Nat.{eq-or-lt_of_le}
 use Rattle.std.proofs.Math.Seq.{drop-append_seam, get_or-append_seam, take-suc}
 use Rattle.std.proofs.lemmas.List.{take-append-drop, length-append, get_or-drop, length-drop}
-use Rattle.sg_input.specs.Divider.{AreLines, Divides, IsCut, IsDivider}
+use Rattle.sg_input.specs.Divider.{Divides, IsCut}
+use Rattle.sg_input.specs.Inside.Dividing.{AreLines, IsDivider}
 
 -- no line of `%%` alone stands at a place
 abbrev NoneAt : List ℕ → ℕ → Type 0

@@ -2,7 +2,7 @@
 use Rattle.std.proofs.Common.{◌≡◌, ◌≢◌, inl, inr, ℕ, List, [], ◌++◌, refl, sym, ap, ◌∙◌, Bor}
 use Rattle.std.specs.Prelude.{codes, MatchOption, None, Some}
 use Rattle.std.specs.declared.option.Option.{Option}
-use Rattle.sg_input.specs.Divider.{IsDivider}
+use Rattle.sg_input.specs.Inside.Dividing.{IsDivider}
 
 -- no line of `%%` alone stands in front, where none of the three does
 pub no_divider : (rest line behind : List ℕ)

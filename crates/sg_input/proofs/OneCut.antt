@@ -2,7 +2,8 @@
 use Rattle.std.proofs.Common.{◌≡◌, inl, inr, ℕ, List, ◌++◌, sym, ap, ◌∙◌, length, take, drop, get_or, arith}
 use Rattle.std.specs.Prelude.{codes}
 use Rattle.std.proofs.Math.Seq.{take-append_seam}
-use Rattle.sg_input.specs.Divider.{Divides, IsCut, IsDivider}
+use Rattle.sg_input.specs.Divider.{Divides, IsCut}
+use Rattle.sg_input.specs.Inside.Dividing.{IsDivider}
 use Rattle.sg_input.proofs.Cuts.{behind_lines}
 
 -- the same bytes are one line of `%%` alone with one rest

@@ -13,17 +13,19 @@ use Rattle.sg_input.proofs.sg_parse.Grammar.Readings.{only_answer}
 use Rattle.sg_input.specs.sg_check_statements.Faults.{IsAccepted, interface_of}
 use Rattle.sg_input.specs.declared.outcome.Verdict.{Verdict}
 use Rattle.sg_input.specs.declared.outcome.Verdict.TheVariants.{Accepted as accepted, Refused as refused}
-use Rattle.sg_input.specs.Verdicts.{IsVerdict, accepted_line}
+use Rattle.sg_input.specs.Verdicts.{IsVerdict}
+use Rattle.sg_input.specs.Inside.Said.{accepted_line, script_line}
 use Rattle.sg_input.proofs.OneVerdict.{one_verdict}
 use Rattle.sg_script.specs.declared.fault.ScriptError.{ScriptError}
 use Rattle.sg_script.specs.declared.fault.ScriptError.TheVariants.{NoMemory as no_room, Fault}
 use Rattle.sg_script.specs.declared.fault.ScriptFault.{ScriptFault}
 use Rattle.sg_script.specs.declared.script.Script.{Script}
+use Rattle.sg_script.specs.Reads.{IsReadingOf}
 use Rattle.sg_script.proofs.Unique.{one_reading}
 use Rattle.sg_input.specs.declared.input.Input.{Input}
 use Rattle.sg_input.specs.declared.input.Input.TheVariants.{Refused, Ready}
-use Rattle.sg_input.specs.Lines.{script_line}
-use Rattle.sg_input.specs.Inputs.{AreTexts, HasLongText, HasNoDivider, IsBadInterface, IsBadScript, IsInputOf, IsInterface, IsReadAs, IsReady, IsRefusedFront, IsRefusedInput, IsScript, most_interface, most_script}
+use Rattle.sg_input.specs.Inputs.{AreTexts, IsInputOf, IsInterface, IsReadAs, IsReady, IsRefusedInput, most_interface, most_script}
+use Rattle.sg_input.specs.Inside.Fronts.{HasLongText, HasNoDivider, IsBadInterface, IsRefusedFront}
 use Rattle.sg_input.proofs.OneCut.{one_cut}
 
 -- ---- the interface
@@ -69,36 +71,36 @@ module _ (most : ℕ) (services : List Facts) (input : List ℕ) where
 
   not_long : (a b : List ℕ) → HasLongText most input → AreTexts most input a b → ⊥
   not_long a b long t =
-      let both = one_cut input long.interface long.second a b long.cut t.cut in
-      elim long.long [
-        | inl gt ↦ too_long (length long.interface) (length a) most_interface (ap length both.0) gt t.interface_fits
-        | inr gt ↦ too_long (length long.second) (length b) most (ap length both.1) gt t.second_fits
+      let both = one_cut input long.0 long.1 a b long.2 t.cut in
+      elim long.3 [
+        | inl gt ↦ too_long (length long.0) (length a) most_interface (ap length both.0) gt t.interface_fits
+        | inr gt ↦ too_long (length long.1) (length b) most (ap length both.1) gt t.second_fits
       ]
 
   bad_interfaces : (line line' : List ℕ) → IsBadInterface most services input line → IsBadInterface most services input line' → line ≡ line'
   bad_interfaces line line' a b =
-      let said = subst (λ v. IsVerdict services v (refused line')) (sym (same_interface a.interface a.second b.interface b.second a.texts b.texts)) b.verdict in
-      let same : ◌≡◌ {A = Verdict} (refused line) (refused line') = one_verdict services a.interface (refused line) (refused line') a.verdict said in cc same
+      let said = subst (λ v. IsVerdict services v (refused line')) (sym (same_interface a.0 a.1 b.0 b.1 a.2 b.2)) b.3 in
+      let same : ◌≡◌ {A = Verdict} (refused line) (refused line') = one_verdict services a.0 (refused line) (refused line') a.3 said in cc same
 
   -- an input that is refused whatever its second text is has no accepted interface beside a text that fits
   pub not_front : (line a b : List ℕ) (i : Declared) → IsRefusedFront most services input line → AreTexts most input a b → IsInterface services a i → ⊥
   not_front line a b i (inl (none, said)) t is = none a b t.cut.divides
   not_front line a b i (inr (inl (long, said))) t is = not_long a b long t
   not_front line a b i (inr (inr bad)) t is =
-      not_refused services a i line is (subst (λ v. IsVerdict services v (refused line)) (same_interface bad.interface bad.second a b bad.texts t) bad.verdict)
+      not_refused services a i line is (subst (λ v. IsVerdict services v (refused line)) (same_interface bad.0 bad.1 a b bad.2 t) bad.3)
 
   not_divided : (line : List ℕ) → HasNoDivider input → IsBadInterface most services input line → ⊥
-  not_divided line none bad = none bad.interface bad.second bad.texts.cut.divides
+  not_divided line none bad = none bad.0 bad.1 bad.2.cut.divides
 
   one_front : (line line' : List ℕ) → IsRefusedFront most services input line → IsRefusedFront most services input line' → line ≡ line'
   one_front line line' (inl (none, is)) (inl (none', is')) = is ∙ sym is'
-  one_front line line' (inl (none, is)) (inr (inl (long, is'))) = absurd (none long.interface long.second long.cut.divides)
+  one_front line line' (inl (none, is)) (inr (inl (long, is'))) = absurd (none long.0 long.1 long.2.divides)
   one_front line line' (inl (none, is)) (inr (inr bad)) = absurd (not_divided line' none bad)
-  one_front line line' (inr (inl (long, is))) (inl (none, is')) = absurd (none long.interface long.second long.cut.divides)
+  one_front line line' (inr (inl (long, is))) (inl (none, is')) = absurd (none long.0 long.1 long.2.divides)
   one_front line line' (inr (inl (long, is))) (inr (inl (long', is'))) = is ∙ sym is'
-  one_front line line' (inr (inl (long, is))) (inr (inr bad)) = absurd (not_long bad.interface bad.second long bad.texts)
+  one_front line line' (inr (inl (long, is))) (inr (inr bad)) = absurd (not_long bad.0 bad.1 long bad.2)
   one_front line line' (inr (inr bad)) (inl (none, is')) = absurd (not_divided line none bad)
-  one_front line line' (inr (inr bad)) (inr (inl (long, is'))) = absurd (not_long bad.interface bad.second long bad.texts)
+  one_front line line' (inr (inr bad)) (inr (inl (long, is'))) = absurd (not_long bad.0 bad.1 long bad.2)
   one_front line line' (inr (inr bad)) (inr (inr bad')) = bad_interfaces line line' bad bad'
 
   -- ---- the input, where a text of the second kind stands for one thing or has one fault, and not both
@@ -120,17 +122,17 @@ module _ (most : ℕ) (services : List Facts) (input : List ℕ) where
     pub never_read : (line : List ℕ) (i : Declared) (read : A) → IsRefusedInput most Bad services input line → IsReadAs most Reads services input i read → ⊥
     never_read line i read (inl front) ready = not_front line ready.interface ready.second i front ready.texts ready.accepted
     never_read line i read (inr bad) ready =
-        not_both bad.i bad.second read line
-        (moved bad.interface bad.second ready.interface ready.second bad.i i read bad.texts ready.texts bad.accepted ready.accepted ready.reads)
-        bad.bad
+        not_both bad.3 bad.1 read line
+        (moved bad.0 bad.1 ready.interface ready.second bad.3 i read bad.2 ready.texts bad.4 ready.accepted ready.reads)
+        bad.5
 
     -- it is refused with one line
     pub one_line : (line line' : List ℕ) → IsRefusedInput most Bad services input line → IsRefusedInput most Bad services input line' → line ≡ line'
     one_line line line' (inl a) (inl b) = one_front line line' a b
-    one_line line line' (inl a) (inr b) = absurd (not_front line b.interface b.second b.i a b.texts b.accepted)
-    one_line line line' (inr a) (inl b) = absurd (not_front line' a.interface a.second a.i b a.texts a.accepted)
+    one_line line line' (inl a) (inr b) = absurd (not_front line b.0 b.1 b.3 a b.2 b.4)
+    one_line line line' (inr a) (inl b) = absurd (not_front line' a.0 a.1 a.3 b a.2 a.4)
     one_line line line' (inr a) (inr b) =
-        one_fault a.i a.second line line' a.bad (moved_bad a.interface a.second b.interface b.second a.i b.i line' a.texts b.texts a.accepted b.accepted b.bad)
+        one_fault a.3 a.1 line line' a.5 (moved_bad a.0 a.1 b.0 b.1 a.3 b.3 line' a.2 b.2 a.4 b.4 b.5)
 
     -- it is read as one thing
     pub one_read : (i j : Declared) (read read' : A) → IsReadAs most Reads services input i read → IsReadAs most Reads services input j read' → (i ≡ j) × (read ≡ read')
@@ -140,6 +142,14 @@ module _ (most : ℕ) (services : List Facts) (input : List ℕ) where
     )
 
 -- ---- scripts
+
+-- a text is a script
+abbrev IsScript : Declared → List ℕ → Script → Type 0
+IsScript i text script = IsReadingOf i text (Ok script)
+
+-- a text has this fault of a script first, and the line says so
+abbrev IsBadScript : Declared → List ℕ → List ℕ → Type 0
+IsBadScript i text line = (fault : ScriptFault) × IsReadingOf i text (Err (Fault fault)) × (line ≡ script_line text fault)
 
 abbrev Answer : Type 0
 Answer = Result Script ScriptError

@@ -7,17 +7,26 @@ use Rattle.sg_facts.specs.Facts.{Facts}
 use Rattle.sg_facts.specs.Interface.{Declared}
 use Rattle.sg_facts.specs.declared.entry.Entry.{Entry}
 use Rattle.sg_entries.proofs.Unique.{one_reading}
+use Rattle.sg_entries.specs.Reads.{IsReadOf}
 use Rattle.sg_entries.specs.declared.error.EntriesError.{EntriesError}
 use Rattle.sg_entries.specs.declared.error.EntriesError.TheVariants.{NoMemory as no_room, Fault}
 use Rattle.sg_entries.specs.declared.error.EntriesKind.{EntriesKind}
 use Rattle.sg_input.specs.declared.run_input.RunInput.{RunInput}
 use Rattle.sg_input.specs.declared.run_input.RunInput.TheVariants.{Refused, Ready}
-use Rattle.sg_input.specs.Inputs.{IsBadRun, IsPrinted, IsRunInputOf, IsRunReady, IsSameRun, most_run}
-use Rattle.sg_input.specs.Lines.{run_line}
+use Rattle.sg_input.specs.Inputs.{IsRunInputOf, IsRunReady, IsSameRun, most_run}
+use Rattle.sg_input.specs.Inside.Said.{run_line}
 use Rattle.sg_input.proofs.OneInput.{never_read, one_line, one_read}
 
 abbrev Answer : Type 0
 Answer = Result (List Entry) EntriesError
+
+-- a text prints a history
+abbrev IsPrinted : Declared → List ℕ → List Entry → Type 0
+IsPrinted i text history = IsReadOf i text (Ok history)
+
+-- a text has this fault of a printed run first, and the line says so
+abbrev IsBadRun : Declared → List ℕ → List ℕ → Type 0
+IsBadRun i text line = (kind : EntriesKind) × (at : ℕ) × IsReadOf i text (Err (Fault kind at)) × (line ≡ run_line text kind at)
 
 read_well : (history : List Entry) → ◌≡◌ {A = Answer} (Ok history) (Err no_room) → ⊥
 read_well history e = absurd cc

@@ -25,7 +25,8 @@ use Rattle.sg_input.specs.declared.outcome.Verdict.{Verdict}
 use Rattle.sg_input.specs.declared.outcome.Verdict.TheVariants.{Accepted, Refused}
 use Rattle.sg_input.specs.declared.refusal.RefusalKind.{RefusalKind}
 use Rattle.sg_input.specs.declared.refusal.RefusalKind.TheVariants.{Lex, Syntax, Check}
-use Rattle.sg_input.specs.Verdicts.{IsCompiled, IsRefused, IsUpgraded, IsVerdict, accepted_line, refusal_line}
+use Rattle.sg_input.specs.Verdicts.{IsCompiled, IsRefused, IsUpgraded, IsVerdict}
+use Rattle.sg_input.specs.Inside.Said.{accepted_line, refusal_line}
 
 -- a text has one answer of the parser, want of memory aside
 one_answer : (text : List ℕ) (one other : Result Tree ParseError) → Parses text one → Parses text other

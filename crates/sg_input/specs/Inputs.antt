@@ -1,6 +1,7 @@
 -- What an input is, or why it is refused.
-use Rattle.std.specs.Prelude.{ℕ, ◌≡◌, ◌+◌, ◌<◌, ◌≤◌, ◌⊎◌, List, Ok, Err, length}
+use Rattle.std.specs.Prelude.{ℕ, ◌≡◌, ◌+◌, ◌<◌, ◌≤◌, ◌⊎◌, List, ◌++◌, Ok, Err, codes, length}
 use Rattle.sg_facts.specs.Facts.{Facts}
+use Rattle.sg_facts.specs.Words.{line_end}
 use Rattle.sg_facts.specs.Interface.{Declared}
 use Rattle.sg_input.specs.sg_parse.declared.tree.Tree.{Tree}
 use Rattle.sg_input.specs.sg_parse.Grammar.Parses.{Parses}
@@ -20,44 +21,29 @@ use Rattle.sg_input.specs.declared.input.Input.TheVariants.{Refused, Ready}
 use Rattle.sg_input.specs.declared.run_input.RunInput.{RunInput}
 use Rattle.sg_input.specs.declared.run_input.RunInput.TheVariants.{Refused as RunRefused, Ready as RunReady}
 use Rattle.sg_input.specs.Divider.{Divides, IsCut}
-use Rattle.sg_input.specs.Lines.{no_divider_line, run_line, script_line, too_long_line}
+use Rattle.sg_input.specs.Lines.{entries_kind_name, refused_line, script_kind_name, too_long_line}
 
 -- the greatest number of bytes of an interface
 abbrev pub most_interface : ℕ
 most_interface = 65536
 
--- the greatest number of bytes of the line that divides an input: `%%`, CR and LF
-abbrev pub most_divider : ℕ
-most_divider = 4
-
 -- the greatest number of bytes of a script
 abbrev pub most_script : ℕ
 most_script = 4194304
-
--- the greatest number of bytes of an input
-abbrev pub most_input : ℕ
-most_input = most_interface + most_divider + most_script
 
 -- the greatest number of bytes of a printed run
 abbrev pub most_run : ℕ
 most_run = 67108864
 
+-- the greatest number of bytes of an input: the line that divides it has at most 4, `%%`, CR and LF
+abbrev pub most_input : ℕ
+most_input = most_interface + 4 + most_script
+
 -- the greatest number of bytes of an input whose second text is a printed run
 abbrev pub most_run_input : ℕ
-most_run_input = most_interface + most_divider + most_run
+most_run_input = most_interface + 4 + most_run
 
 -- ---- the two texts: the text of an interface, and after the divider a second one, which has so many bytes at most
-
--- no line of an input is `%%` alone
-abbrev pub HasNoDivider : List ℕ → Type 0
-HasNoDivider input = (before behind : List ℕ) → Divides input before behind → ⊥
-
--- an input is divided, and one of the two texts is too long
-pub record HasLongText (most : ℕ) (input : List ℕ) : Type 0 where
-  pub interface : List ℕ
-  pub second : List ℕ
-  pub cut : IsCut input interface second
-  pub long : (most_interface < length interface) ⊎ (most < length second)
 
 -- an input is divided into these two texts, and neither is too long
 pub record AreTexts (most : ℕ) (input interface second : List ℕ) : Type 0 where
@@ -65,27 +51,9 @@ pub record AreTexts (most : ℕ) (input interface second : List ℕ) : Type 0 wh
   pub interface_fits : length interface ≤ most_interface
   pub second_fits : length second ≤ most
 
--- ---- what they are
-
 -- a text is accepted, with this interface
 abbrev pub IsInterface : List Facts → List ℕ → Declared → Type 0
 IsInterface services text i = (tree : Tree) × Parses text (Ok tree) × IsAccepted services tree i
-
--- an interface is refused with this line
-pub record IsBadInterface (most : ℕ) (services : List Facts) (input line : List ℕ) : Type 0 where
-  pub interface : List ℕ
-  pub second : List ℕ
-  pub texts : AreTexts most input interface second
-  pub verdict : IsVerdict services interface (refused line)
-
--- an interface is accepted, and under it the second text is bad, as this line says
-pub record IsBadSecond (most : ℕ) (Bad : Declared → List ℕ → List ℕ → Type 0) (services : List Facts) (input line : List ℕ) : Type 0 where
-  pub interface : List ℕ
-  pub second : List ℕ
-  pub texts : AreTexts most input interface second
-  pub i : Declared
-  pub accepted : IsInterface services interface i
-  pub bad : Bad i second line
 
 -- an interface is accepted, and under it the second text stands for this
 pub record IsReadAs {A : Type 0} (most : ℕ) (Reads : Declared → List ℕ → A → Type 0) (services : List Facts) (input : List ℕ) (i : Declared) (read : A) : Type 0 where
@@ -95,52 +63,45 @@ pub record IsReadAs {A : Type 0} (most : ℕ) (Reads : Declared → List ℕ →
   pub accepted : IsInterface services interface i
   pub reads : Reads i second read
 
--- this line refuses an input whatever its second text is: it isn't divided, or a text is too long, or the interface is refused
-abbrev pub IsRefusedFront : ℕ → List Facts → List ℕ → List ℕ → Type 0
-IsRefusedFront most services input line =
-    (HasNoDivider input × (line ≡ no_divider_line)) ⊎ ((HasLongText most input × (line ≡ too_long_line)) ⊎ IsBadInterface most services input line)
-
 -- this line refuses an input, by the first of its faults
 abbrev pub IsRefusedInput : ℕ → (Declared → List ℕ → List ℕ → Type 0) → List Facts → List ℕ → List ℕ → Type 0
-IsRefusedInput most Bad services input line = IsRefusedFront most services input line ⊎ IsBadSecond most Bad services input line
+IsRefusedInput most Bad services input line =
+    -- no line of it is `%%` alone
+    ((((before behind : List ℕ) → Divides input before behind → ⊥) × (line ≡ codes "input refused: NoDivider" ++ line_end))
+    -- or it is divided, and one of the two texts is too long
+    ⊎ ((((interface : List ℕ) × (second : List ℕ) × IsCut input interface second
+    × ((most_interface < length interface) ⊎ (most < length second))) × (line ≡ too_long_line))
+    -- or the interface is refused with this line
+    ⊎ ((interface : List ℕ) × (second : List ℕ) × AreTexts most input interface second × IsVerdict services interface (refused line))))
+    -- or an interface is accepted, and under it the second text is bad, as this line says
+    ⊎ ((interface : List ℕ) × (second : List ℕ) × AreTexts most input interface second
+    × (i : Declared) × IsInterface services interface i × Bad i second line)
 
 -- ---- scripts
 
--- a text has this fault of a script first, and the line says so
-abbrev pub IsBadScript : Declared → List ℕ → List ℕ → Type 0
-IsBadScript i text line = (fault : ScriptFault) × IsReadingOf i text (Err (Fault fault)) × (line ≡ script_line text fault)
-
--- a text is a script
-abbrev pub IsScript : Declared → List ℕ → Script → Type 0
-IsScript i text script = IsReadingOf i text (Ok script)
-
 -- an interface is accepted, and this is a script for it
 abbrev pub IsReady : List Facts → List ℕ → Declared → Script → Type 0
-IsReady services input i script = IsReadAs most_script IsScript services input i script
+IsReady services input i script = IsReadAs most_script (λ i text script. IsReadingOf i text (Ok script)) services input i script
 
--- an input is refused with this line, or ready with this interface and script
+-- an input is ready with this interface and script, or it is refused with this line, which tells the script's first fault where it is that
 abbrev pub IsInputOf : List Facts → List ℕ → Input → Type 0
-IsInputOf services input (Refused line) = IsRefusedInput most_script IsBadScript services input line
 IsInputOf services input (Ready i script) = IsReady services input i script
+IsInputOf services input (Refused line) =
+    IsRefusedInput most_script (λ i text line. (fault : ScriptFault) × IsReadingOf i text (Err (Fault fault))
+    × (line ≡ refused_line (codes "script refused at ") text fault.at (script_kind_name fault.kind))) services input line
 
 -- ---- printed runs
 
--- a text has this fault of a printed run first, and the line says so
-abbrev pub IsBadRun : Declared → List ℕ → List ℕ → Type 0
-IsBadRun i text line = (kind : EntriesKind) × (at : ℕ) × IsReadOf i text (Err (EntriesFault kind at)) × (line ≡ run_line text kind at)
-
--- a text prints a history
-abbrev pub IsPrinted : Declared → List ℕ → List Entry → Type 0
-IsPrinted i text history = IsReadOf i text (Ok history)
-
 -- an interface is accepted, and this is the history that a run of its service printed
 abbrev pub IsRunReady : List Facts → List ℕ → Declared → List Entry → Type 0
-IsRunReady services input i history = IsReadAs most_run IsPrinted services input i history
+IsRunReady services input i history = IsReadAs most_run (λ i text history. IsReadOf i text (Ok history)) services input i history
 
--- an input is refused with this line, or ready with this interface and history
+-- an input is ready with this interface and history, or it is refused with this line, which tells the run's first fault where it is that
 abbrev pub IsRunInputOf : List Facts → List ℕ → RunInput → Type 0
-IsRunInputOf services input (RunRefused line) = IsRefusedInput most_run IsBadRun services input line
 IsRunInputOf services input (RunReady i history) = IsRunReady services input i history.items
+IsRunInputOf services input (RunRefused line) =
+    IsRefusedInput most_run (λ i text line. (kind : EntriesKind) × (at : ℕ) × IsReadOf i text (Err (EntriesFault kind at))
+    × (line ≡ refused_line (codes "run refused at ") text at (entries_kind_name kind))) services input line
 
 -- two answers are the same: both refuse with one line, or both have one interface and one history
 abbrev pub IsSameRun : RunInput → RunInput → Type 0

@@ -1,2 +1,5 @@
 -- What the contracts of private functions cite.
+pub mod Dividing
 pub mod Fronts
+pub mod Places
+pub mod Said

@@ -4,7 +4,6 @@ pub mod Inside
 pub mod Judged
 pub mod Inputs
 pub mod Lines
-pub mod Places
 pub mod Verdicts
 pub use Rattle.sg_entries.specs as sg_entries
 pub use Rattle.sg_print.specs.sg_parse

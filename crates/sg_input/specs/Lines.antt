@@ -1,21 +1,25 @@
 -- The lines that refuse an input.
 use Rattle.sg_facts.specs.Words.{line_end}
-use Rattle.std.specs.Prelude.{ℕ, List, ◌++◌, codes}
+use Rattle.std.specs.Prelude.{ℕ, ◌+◌, ◌==◌, List, ◌++◌, codes, count_by, length, take}
 use Rattle.std.specs.Fmt.{decimal}
+use Rattle.std.specs.List.{after_last}
 use Rattle.sg_entries.specs.declared.error.EntriesKind.{EntriesKind}
 use Rattle.sg_entries.specs.declared.error.EntriesKind.TheVariants.{Syntax as EntriesSyntax, UnknownFunction as EntriesFunction, BadArgs as EntriesArgs, BadClient as EntriesClient, Limit as EntriesLimit}
 use Rattle.sg_script.specs.declared.fault.ScriptKind.{ScriptKind}
 use Rattle.sg_script.specs.declared.fault.ScriptKind.TheVariants.{Syntax, UnknownFunction, BadArgs, BadClient, Twice, NotAscending, Blocking, Limit}
-use Rattle.sg_script.specs.declared.fault.ScriptFault.{ScriptFault}
-use Rattle.sg_input.specs.Places.{line_of, column_of}
 
--- no line is `%%` alone
-abbrev pub no_divider_line : List ℕ
-no_divider_line = codes "input refused: NoDivider" ++ line_end
-
--- the input, its interface or its script is too long
+-- the input, its interface, its script or its printed run is too long
 abbrev pub too_long_line : List ℕ
 too_long_line = codes "input refused: TooLong" ++ line_end
+
+-- the line that refuses a text at a place, by its first words and the name of what is wrong there. Places are counted in bytes from 0.
+-- The line of a place is one more than the LFs before it; its byte in that line is one more than the bytes between the last LF before
+-- it, or the beginning of the text, and the place
+abbrev pub refused_line : List ℕ → List ℕ → ℕ → List ℕ → List ℕ
+refused_line words text at name =
+    let before = take at text in
+    words ++ decimal (count_by (λ b. b == 10) before + 1) ++ codes ":" ++ decimal (length (after_last (λ b. b == 10) before) + 1)
+    ++ codes ": " ++ name ++ line_end
 
 -- the name of a kind of fault of a script
 abbrev pub script_kind_name : ScriptKind → List ℕ
@@ -28,12 +32,6 @@ script_kind_name NotAscending = codes "NotAscending"
 script_kind_name Blocking = codes "Blocking"
 script_kind_name Limit = codes "Limit"
 
--- a fault of a script, with the line of its place and the byte in that line
-abbrev pub script_line : List ℕ → ScriptFault → List ℕ
-script_line script f =
-    codes "script refused at " ++ decimal (line_of script f.at) ++ codes ":" ++ decimal (column_of script f.at)
-    ++ codes ": " ++ script_kind_name f.kind ++ line_end
-
 -- the name of a kind of fault of the entries of a printed run
 abbrev pub entries_kind_name : EntriesKind → List ℕ
 entries_kind_name EntriesSyntax = codes "Syntax"
@@ -41,9 +39,3 @@ entries_kind_name EntriesFunction = codes "UnknownFunction"
 entries_kind_name EntriesArgs = codes "BadArgs"
 entries_kind_name EntriesClient = codes "BadClient"
 entries_kind_name EntriesLimit = codes "Limit"
-
--- a fault of the entries of a printed run, with the line of its place and the byte in that line
-abbrev pub run_line : List ℕ → EntriesKind → ℕ → List ℕ
-run_line run kind at =
-    codes "run refused at " ++ decimal (line_of run at) ++ codes ":" ++ decimal (column_of run at)
-    ++ codes ": " ++ entries_kind_name kind ++ line_end

@@ -1,6 +1,5 @@
 -- What is said of a text.
 use Rattle.std.specs.Prelude.{ℕ, ◌≡◌, List, ◌++◌, Ok, Err, codes}
-use Rattle.std.specs.Fmt.{decimal}
 use Rattle.sg_facts.specs.Words.{line_end}
 use Rattle.sg_facts.specs.Facts.{Facts}
 use Rattle.sg_facts.specs.Interface.{Declared}
@@ -11,49 +10,30 @@ use Rattle.sg_print.specs.sg_parse.declared.error.ParseError.TheVariants.{Lex as
 use Rattle.sg_print.specs.sg_parse.declared.tree.Tree.{Tree}
 use Rattle.sg_print.specs.sg_parse.Grammar.Parses.{Parses}
 use Rattle.sg_print.specs.sg_parse.Grammar.Upgraded.{upgraded}
-use Rattle.sg_stub.specs.sg_check_statements.declared.fault.CheckKind.{CheckKind}
 use Rattle.sg_stub.specs.sg_check_statements.declared.fault.CheckKind.TheVariants.{UnknownService, DuplicateName, UnknownFunction, BadParams, WrongFact, WrongFlag, WrongEffect, ForeignTransition, ForeignRecover, NoCreation, Unreached, NoWalk}
 use Rattle.sg_stub.specs.sg_check_statements.Faults.{IsAccepted, IsFault}
 use Rattle.sg_input.specs.declared.outcome.Verdict.{Verdict}
 use Rattle.sg_input.specs.declared.outcome.Verdict.TheVariants.{Accepted, Refused}
 use Rattle.sg_input.specs.declared.refusal.RefusalKind.{RefusalKind}
 use Rattle.sg_input.specs.declared.refusal.RefusalKind.TheVariants.{Lex, Syntax, Check}
-use Rattle.sg_input.specs.Places.{line_of, column_of}
-
--- ---- lines
-
--- the name of a kind of fault of the checker
-abbrev pub check_name : CheckKind → List ℕ
-check_name UnknownService = codes "UnknownService"
-check_name DuplicateName = codes "DuplicateName"
-check_name UnknownFunction = codes "UnknownFunction"
-check_name BadParams = codes "BadParams"
-check_name WrongFact = codes "WrongFact"
-check_name WrongFlag = codes "WrongFlag"
-check_name WrongEffect = codes "WrongEffect"
-check_name ForeignTransition = codes "ForeignTransition"
-check_name ForeignRecover = codes "ForeignRecover"
-check_name NoCreation = codes "NoCreation"
-check_name Unreached = codes "Unreached"
-check_name NoWalk = codes "NoWalk"
+use Rattle.sg_input.specs.Lines.{refused_line}
 
 -- the name of a kind of refusal
 abbrev pub refusal_name : RefusalKind → List ℕ
 refusal_name Lex = codes "Lex"
 refusal_name Syntax = codes "Syntax"
-refusal_name (Check kind) = check_name kind
-
--- the line of a text that is accepted, by its service's name
-abbrev pub accepted_line : List ℕ → List ℕ
-accepted_line service = codes "accepted " ++ service ++ line_end
-
--- the line of a text that is refused for a kind at a place
-abbrev pub refusal_line : List ℕ → RefusalKind → ℕ → List ℕ
-refusal_line text kind at =
-    codes "interface refused at " ++ decimal (line_of text at) ++ codes ":" ++ decimal (column_of text at) ++ codes ": "
-    ++ refusal_name kind ++ line_end
-
--- ---- verdicts
+refusal_name (Check UnknownService) = codes "UnknownService"
+refusal_name (Check DuplicateName) = codes "DuplicateName"
+refusal_name (Check UnknownFunction) = codes "UnknownFunction"
+refusal_name (Check BadParams) = codes "BadParams"
+refusal_name (Check WrongFact) = codes "WrongFact"
+refusal_name (Check WrongFlag) = codes "WrongFlag"
+refusal_name (Check WrongEffect) = codes "WrongEffect"
+refusal_name (Check ForeignTransition) = codes "ForeignTransition"
+refusal_name (Check ForeignRecover) = codes "ForeignRecover"
+refusal_name (Check NoCreation) = codes "NoCreation"
+refusal_name (Check Unreached) = codes "Unreached"
+refusal_name (Check NoWalk) = codes "NoWalk"
 
 -- what a text is refused for, and where: no token begins at the place; or the tokens don't go on to a sentence there; or the
 -- text is a sentence, and that is first wrong with its tree. A text is refused for one kind at one place at most.
@@ -66,8 +46,10 @@ IsRefused services text (Check kind) at = (tree : Tree) × Parses text (Ok tree)
 -- line says for what and where
 abbrev pub IsVerdict : List Facts → List ℕ → Verdict → Type 0
 IsVerdict services text (Accepted line) =
-    (tree : Tree) × (i : Declared) × Parses text (Ok tree) × IsAccepted services tree i × (line ≡ accepted_line i.facts.name)
-IsVerdict services text (Refused line) = (kind : RefusalKind) × (at : ℕ) × IsRefused services text kind at × (line ≡ refusal_line text kind at)
+    (tree : Tree) × (i : Declared) × Parses text (Ok tree) × IsAccepted services tree i × (line ≡ codes "accepted " ++ i.facts.name ++ line_end)
+IsVerdict services text (Refused line) =
+    (kind : RefusalKind) × (at : ℕ) × IsRefused services text kind at
+    × (line ≡ refused_line (codes "interface refused at ") text at (refusal_name kind))
 
 -- what is said of a text by its tables: it is a sentence whose tree is accepted, and this is the text of the tables of its
 -- interface; or it is refused, as by its verdict

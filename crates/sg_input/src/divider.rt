@@ -1,6 +1,7 @@
 // The line that divides an input.
 ghost use Rattle.std.specs.Prelude.{◌≡◌, ◌≢◌, ◌≤◌, ◌<◌, ◌++◌, ◌+◌, ◌⊎◌, ℕ, List, [], codes, length, take, drop, slice_index, MatchOption};
-ghost use Rattle.sg_input.specs.Divider.{AreLines, Divides, IsCut, IsDivider};
+ghost use Rattle.sg_input.specs.Divider.{Divides, IsCut};
+ghost use Rattle.sg_input.specs.Inside.Dividing.{AreLines, IsDivider};
 
 /// What stands before and after the first line that is `%%` alone, ended by LF, by CR LF, or by the end of the input;
 /// None exactly where there is no such line. Lines are looked for before any token is, within comments too.

@@ -16,9 +16,9 @@
 //! - `lines`: the lines that are said of a text, and those that refuse an input
 //! - `laws`: of a text one thing alone can be said; what is upgraded is accepted; an input is divided in one way, and is one thing
 //!
-//! `specs/Verdicts.antt` says when which line is the right one for a text, and `specs/Places.antt` what lines and columns are;
-//! `specs/Divider.antt` says where an input is divided, `specs/Lines.antt` which lines refuse one, and `specs/Inputs.antt` when
-//! which is the right one.
+//! `specs/Verdicts.antt` says when which line is the right one for a text, and `specs/Lines.antt` how the lines read that refuse a text
+//! or an input, with the line and the column of a place; `specs/Divider.antt` says where an input is divided, and `specs/Inputs.antt` when
+//! which line is the right one for it.
 #![tactic(auto)]
 
 mod divider;

@@ -1,7 +1,7 @@
 // The lines that are said of a text, and those that refuse an input.
 ghost use Rattle.std.specs.Prelude.{◌≡◌, IfOk};
-ghost use Rattle.sg_input.specs.Lines.{entries_kind_name, run_line, script_kind_name, script_line};
-ghost use Rattle.sg_input.specs.Verdicts.{accepted_line, refusal_line};
+ghost use Rattle.sg_input.specs.Lines.{entries_kind_name, script_kind_name};
+ghost use Rattle.sg_input.specs.Inside.Said.{accepted_line, refusal_line, run_line, script_line};
 
 use crate::places::{column_of, line_of};
 use crate::refusal::{RefusalKind, name_of};

@@ -1,7 +1,7 @@
 // The line of a place in a text, and the byte in its line.
 ghost use Rattle.std.specs.Prelude.{◌≡◌, ◌<◌, ◌^◌, take, not, count_by};
 ghost use Rattle.std.specs.List.{suffix_len};
-ghost use Rattle.sg_input.specs.Places.{line_of, column_of, ends_line};
+ghost use Rattle.sg_input.specs.Inside.Places.{line_of, column_of, ends_line};
 
 /// The line of a place, counted from 1. The place is counted in bytes from 0; the text's length is the place after its last
 /// byte.

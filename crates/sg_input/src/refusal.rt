@@ -1,6 +1,7 @@
 // Why a text is refused.
 ghost use Rattle.std.specs.Prelude.{◌≡◌};
-ghost use Rattle.sg_input.specs.Verdicts.{check_name, refusal_name};
+ghost use Rattle.sg_input.specs.Verdicts.{refusal_name};
+ghost use Rattle.sg_input.specs.Inside.Said.{check_name};
 
 use sg_stub::CheckKind;
 

@@ -8,8 +8,7 @@ use Rattle.std.proofs.lemmas.List.{append-nil}
 use Rattle.sg_lex.specs.declared.token.LexFault.{LexFault}
 use Rattle.sg_lex.specs.Lexeme.{Lexeme}
 use Rattle.sg_lex.specs.Tokens.{Answer}
-use Rattle.sg_lex.specs.Sentences.{answered}
-use Rattle.sg_lex.specs.Inside.Ahead.{Off}
+use Rattle.sg_lex.specs.Inside.Ahead.{answered, Off}
 use Rattle.sg_lex.specs.Inside.Automata.{Automaton, Reading, ended, read_from, read, read_on, Leads}
 
 -- ---- one answer of the lexer

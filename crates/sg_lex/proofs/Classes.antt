@@ -5,7 +5,8 @@ use Rattle.std.specs.List.{list_any}
 use Rattle.std.specs.Char.{is_ascii_digit, is_ascii_alphabetic}
 use Rattle.std.specs.Int.{is_in_range}
 use Rattle.std.proofs.lemmas.Bool.{or_cases, and_parts, eqb-true, leb-true, false_from_ne_true, false≢true}
-use Rattle.sg_lex.specs.Bytes.{is_blank, begins_word, is_mark}
+use Rattle.sg_lex.specs.Bytes.{begins_word}
+use Rattle.sg_lex.specs.Table.{is_blank, is_mark}
 
 -- a byte among some has what each of them has
 abbrev AllHave : (ℕ → Type 0) → List ℕ → Type 0

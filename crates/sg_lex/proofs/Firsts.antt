@@ -4,8 +4,8 @@ use Rattle.std.specs.Char.{is_ascii_digit}
 use Rattle.std.proofs.lemmas.Bool.{and_parts, both_ways}
 use Rattle.sg_lex.specs.declared.token.TokenKind.{TokenKind}
 use Rattle.sg_lex.specs.declared.token.TokenKind.TheVariants.{Word, Number, Text, Mark}
-use Rattle.sg_lex.specs.Bytes.{begins_word, is_mark}
-use Rattle.sg_lex.specs.Table.{IsToken, AtMost}
+use Rattle.sg_lex.specs.Bytes.{begins_word}
+use Rattle.sg_lex.specs.Table.{is_mark, IsToken, AtMost}
 use Rattle.sg_lex.proofs.Classes.{word_not_digit, mark_not_word, mark_not_digit}
 
 -- a kind's tokens begin with this byte

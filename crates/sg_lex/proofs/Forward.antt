@@ -10,8 +10,8 @@ use Rattle.sg_base.specs.Text.{is_text_byte}
 use Rattle.sg_lex.specs.declared.token.TokenKind.{TokenKind}
 use Rattle.sg_lex.specs.declared.token.TokenKind.TheVariants.{Word, Number, Text, Mark}
 use Rattle.sg_lex.specs.declared.front.Front.TheVariants.{Gap, Token}
-use Rattle.sg_lex.specs.Bytes.{is_blank, begins_word, is_in_word, is_mark}
-use Rattle.sg_lex.specs.Table.{IsToken, IsGap, AtMost, EndsLine, HasNoClose}
+use Rattle.sg_lex.specs.Bytes.{begins_word, is_in_word}
+use Rattle.sg_lex.specs.Table.{is_blank, is_mark, IsToken, IsGap, AtMost, EndsLine, HasNoClose}
 use Rattle.sg_lex.specs.Fronts.{front_of, closed_after}
 use Rattle.sg_lex.proofs.Classes.{word_not_blank, digit_not_blank, digit_not_word, mark_not_blank, mark_not_word, mark_not_digit}
 use Rattle.sg_lex.proofs.Runs.{all_front, all_longest, all_exact, line_exact}

@@ -7,8 +7,10 @@ use Rattle.std.specs.Char.{is_ascii_digit}
 use Rattle.sg_base.specs.Text.{is_text_byte}
 use Rattle.sg_lex.specs.declared.front.Front.{Front}
 use Rattle.sg_lex.specs.declared.front.Front.TheVariants.{Ended, Gap, Token, Fault}
-use Rattle.sg_lex.specs.Bytes.{is_blank, begins_word, is_mark}
-use Rattle.sg_lex.specs.Fronts.{front_of, quote_front, slash_front, block_front, closed_after}
+use Rattle.sg_lex.specs.Bytes.{begins_word}
+use Rattle.sg_lex.specs.Table.{is_blank, is_mark}
+use Rattle.sg_lex.specs.Fronts.{front_of, closed_after}
+use Rattle.sg_lex.specs.Inside.Fronts.{quote_front, slash_front, block_front}
 
 -- a choice has what either side has under its test
 pub pick : (P : Front → Type 0) (t : Bool) (x y : Front) → (t ≡ true → P x) → (t ≡ false → P y) → P (if t then x else y)

@@ -3,7 +3,8 @@ use Rattle.std.proofs.Common.{ℕ, zero, suc, ◌+◌, ◌-◌, ◌≤◌, List,
 use Rattle.sg_lex.specs.declared.front.Front.{Front}
 use Rattle.sg_lex.specs.declared.front.Front.TheVariants.{Ended, Gap, Token, Fault}
 use Rattle.sg_lex.specs.Fronts.{front_of}
-use Rattle.sg_lex.specs.Tokens.{Answer, answers_at, later_answers, answers_of}
+use Rattle.sg_lex.specs.Tokens.{Answer, later_answers, answers_of}
+use Rattle.sg_lex.specs.Inside.Fronts.{answers_at}
 
 at_most : (front : Front) (at : ℕ) (text : List ℕ) (n : ℕ) (behind : ℕ → List Answer) → ((k : ℕ) → length (behind k) ≤ n) → length (answers_at front at text behind) ≤ suc n
 at_most Ended at text n behind h = omega arith

@@ -11,9 +11,10 @@ use Rattle.sg_lex.specs.declared.token.TokenKind.{TokenKind}
 use Rattle.sg_lex.specs.declared.token.TokenKind.TheVariants.{Word, Number, Text, Mark}
 use Rattle.sg_lex.specs.declared.front.Front.{Front}
 use Rattle.sg_lex.specs.declared.front.Front.TheVariants.{Ended, Gap, Token, Fault}
-use Rattle.sg_lex.specs.Bytes.{is_blank, begins_word, is_in_word, is_mark}
-use Rattle.sg_lex.specs.Table.{IsToken, IsGap, AtMost, BeginsNothing}
-use Rattle.sg_lex.specs.Fronts.{front_of, quote_front, slash_front, block_front, closed_after}
+use Rattle.sg_lex.specs.Bytes.{begins_word, is_in_word}
+use Rattle.sg_lex.specs.Table.{is_blank, is_mark, IsToken, IsGap, AtMost, BeginsNothing}
+use Rattle.sg_lex.specs.Fronts.{front_of, closed_after}
+use Rattle.sg_lex.specs.Inside.Fronts.{quote_front, slash_front, block_front}
 use Rattle.sg_lex.proofs.Runs.{take_one, all_front, all_longest, all_exact, line_ends}
 use Rattle.sg_lex.proofs.Comments.{IsClosed, closed_is, closed_somewhere}
 use Rattle.sg_lex.proofs.Firsts.{head_same, tail_same, not_empty, token_starts, at_most, no_token}

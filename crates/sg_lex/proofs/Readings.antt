@@ -5,7 +5,8 @@ use Rattle.sg_lex.specs.declared.front.Front.{Front}
 use Rattle.sg_lex.specs.declared.front.Front.TheVariants.{Ended, Gap, Token, Fault}
 use Rattle.sg_lex.specs.Fronts.{front_of}
 use Rattle.sg_lex.specs.Table.{IsToken, AtMost, BeginsNothing}
-use Rattle.sg_lex.specs.Tokens.{Answer, answers_at, later_answers, answers_of}
+use Rattle.sg_lex.specs.Tokens.{Answer, later_answers, answers_of}
+use Rattle.sg_lex.specs.Inside.Fronts.{answers_at}
 use Rattle.sg_lex.specs.Reading.{IsReading, ends, passes, gives, faults, AreSlices}
 use Rattle.sg_lex.proofs.Fronts.{HasBytes, has_bytes}
 use Rattle.sg_lex.proofs.Firsts.{not_empty, no_empty_token}

@@ -5,7 +5,8 @@ use Rattle.sg_lex.specs.declared.token.TokenKind.{TokenKind}
 use Rattle.sg_lex.specs.declared.front.Front.{Front}
 use Rattle.sg_lex.specs.declared.front.Front.TheVariants.{Ended, Gap, Token, Fault}
 use Rattle.sg_lex.specs.Fronts.{front_of}
-use Rattle.sg_lex.specs.Tokens.{Answer, answers_at, later_answers}
+use Rattle.sg_lex.specs.Tokens.{Answer, later_answers}
+use Rattle.sg_lex.specs.Inside.Fronts.{answers_at}
 use Rattle.sg_lex.proofs.Fronts.{HasBytes, has_bytes}
 
 drop_nil : (n at : ℕ) → later_answers 0 (at + n) (drop n []) ≡ []

@@ -1,51 +1,50 @@
--- What a parser has to answer on tokens, for any grammar over them: which tokens are a sentence, and what value a
--- sentence has, is the grammar's.
+-- What a parser has to answer, for any grammar: which items are a sentence, and what value a sentence has, is the grammar's.
 use Rattle.std.specs.Prelude.{◌≡◌, ℕ, List, [], ◌∷◌, ◌++◌, Ok, Err, map}
+use Rattle.std.specs.List.{flat_map}
 use Rattle.sg_lex.specs.Lexeme.{Lexeme}
 use Rattle.sg_lex.specs.Tokens.{Answer}
 
--- these tokens, as a lexer answers them
-abbrev pub answered : List Lexeme → List Answer
-answered tokens = map Ok tokens
+-- ---- the pieces that a grammar wants
 
 -- tokens are the pieces that a grammar wants, one by one
 abbrev pub ArePieces : {P : Type 0} → (Lexeme → P → Type 0) → List Lexeme → List P → Type 0
 ArePieces IsPiece [] [] = Unit {0}
 ArePieces IsPiece (token ∷ tokens) (piece ∷ pieces) = IsPiece token piece × ArePieces IsPiece tokens pieces
-ArePieces IsPiece [] (piece ∷ pieces) = ⊥
-ArePieces IsPiece (token ∷ tokens) [] = ⊥
+ArePieces IsPiece tokens pieces = ⊥
 
--- the tokens begin a sentence: with some tokens after them they are one
-abbrev pub Begins : {V : Type 0} → (List Lexeme → V → Type 0) → List Lexeme → Type 0
-Begins {V = V} IsSentence tokens = (more : List Lexeme) × (value : V) × IsSentence (tokens ++ more) value
+-- the pieces of each, with one between each two, as a comma
+abbrev pub separated : {A P : Type 0} → P → (A → List P) → List A → List P
+separated between pieces_of [] = []
+separated between pieces_of (a ∷ more) = pieces_of a ++ flat_map (λ b. between ∷ pieces_of b) more
 
--- a lexer answers a sentence's tokens, and this is the sentence's value
-pub record Accepts (V : Type 0) (IsSentence : List Lexeme → V → Type 0) (answers : List Answer) (value : V) : Type 0 where
-  pub tokens : List Lexeme
-  pub all : answers ≡ answered tokens
-  pub sentence : IsSentence tokens value
+-- ---- over any items
 
--- a lexer answers tokens that begin a sentence, and then its fault at this place
-pub record FailsAtByte (V : Type 0) (IsSentence : List Lexeme → V → Type 0) (answers : List Answer) (place : ℕ) : Type 0 where
+-- the items begin a sentence: with some items after them they are one
+abbrev pub Begins : {I V : Type 0} → (List I → V → Type 0) → List I → Type 0
+Begins {I = I} {V = V} IsSentence items = (more : List I) × (value : V) × IsSentence (items ++ more) value
+
+-- no sentence goes on so: with the next item the front begins none; or no item is left, and the front is none
+abbrev pub IsStuck : {I V : Type 0} → (List I → V → Type 0) → List I → List I → Type 0
+IsStuck {V = V} IsSentence front [] = (value : V) → IsSentence front value → ⊥
+IsStuck IsSentence front (next ∷ rest) = Begins IsSentence (front ++ next ∷ []) → ⊥
+
+-- ---- over tokens
+
+-- a lexer answers tokens that begin a sentence, and after them what can't follow
+pub record Fails (V : Type 0) (IsSentence : List Lexeme → V → Type 0) (answers : List Answer) (Stops : List Lexeme → List Answer → Type 0) : Type 0 where
   pub tokens : List Lexeme
   pub behind : List Answer
-  pub all : answers ≡ answered tokens ++ Err (record { at = place }) ∷ behind
+  pub all : answers ≡ map Ok tokens ++ behind
   pub begin : Begins IsSentence tokens
+  pub stop : Stops tokens behind
 
--- a lexer answers tokens that begin a sentence, and then a token at this place, with which they don't
-pub record FailsAtToken (V : Type 0) (IsSentence : List Lexeme → V → Type 0) (answers : List Answer) (place : ℕ) : Type 0 where
-  pub tokens : List Lexeme
-  pub token : Lexeme
-  pub behind : List Answer
-  pub all : answers ≡ answered tokens ++ Ok token ∷ behind
-  pub place_of : token.at ≡ place
-  pub begin : Begins IsSentence tokens
-  pub ends : Begins IsSentence (tokens ++ token ∷ []) → ⊥
+-- after the tokens comes the lexer's fault at this place
+abbrev pub IsNoToken : ℕ → List Lexeme → List Answer → Type 0
+IsNoToken place tokens behind = (more : List Answer) × (behind ≡ Err (record { at = place }) ∷ more)
 
--- a lexer answers tokens that begin a sentence, and are none; they fail at the end of the text, which is this place
-pub record FailsAtEnd (V : Type 0) (IsSentence : List Lexeme → V → Type 0) (answers : List Answer) (end : ℕ) (place : ℕ) : Type 0 where
-  pub tokens : List Lexeme
-  pub all : answers ≡ answered tokens
-  pub place_of : place ≡ end
-  pub begin : Begins IsSentence tokens
-  pub none : (value : V) → IsSentence tokens value → ⊥
+-- after the tokens comes a token at this place, with which no sentence goes on so; or the end of the text, which is this place, and the
+-- tokens are none
+abbrev pub EndsAt : {V : Type 0} → (List Lexeme → V → Type 0) → (end place : ℕ) → List Lexeme → List Answer → Type 0
+EndsAt IsSentence end place tokens [] = (place ≡ end) × IsStuck IsSentence tokens []
+EndsAt IsSentence end place tokens (Ok token ∷ more) = (token.at ≡ place) × IsStuck IsSentence tokens (token ∷ [])
+EndsAt IsSentence end place tokens (Err fault ∷ more) = ⊥

@@ -1,11 +1,11 @@
 -- The table of tokens, and of what stands between them.
-use Rattle.std.specs.Prelude.{ℕ, ◌≡◌, ◌≤◌, ◌==◌, ◌⊎◌, not, List, [], ◌∷◌, ◌++◌, IsTrue, length}
-use Rattle.std.specs.List.{list_all}
+use Rattle.std.specs.Prelude.{ℕ, ◌≡◌, ◌≤◌, ◌==◌, ◌||◌, ◌⊎◌, Bool, not, List, [], ◌∷◌, ◌++◌, IsTrue, codes, length}
+use Rattle.std.specs.List.{list_all, list_any}
 use Rattle.std.specs.Char.{is_ascii_digit}
 use Rattle.sg_base.specs.Text.{is_text_byte}
 use Rattle.sg_lex.specs.declared.token.TokenKind.{TokenKind}
 use Rattle.sg_lex.specs.declared.token.TokenKind.TheVariants.{Word, Number, Text, Mark}
-use Rattle.sg_lex.specs.Bytes.{is_blank, begins_word, is_in_word, is_mark}
+use Rattle.sg_lex.specs.Bytes.{begins_word, is_in_word}
 
 -- a letter or an underscore, and then letters, digits and underscores
 abbrev pub IsWord : List ℕ → Type 0
@@ -21,6 +21,10 @@ IsNumber (b ∷ bs) = IsTrue (list_all is_ascii_digit (b ∷ bs))
 abbrev pub IsQuoted : List ℕ → Type 0
 IsQuoted bs = (inner : List ℕ) × (bs ≡ 0x22 ∷ inner ++ 0x22 ∷ []) × IsTrue (list_all is_text_byte inner)
 
+-- a mark is one of these bytes
+abbrev pub is_mark : ℕ → Bool
+is_mark b = list_any (λ mark. mark == b) (codes "{}()=,;*$")
+
 -- one of the marks
 abbrev pub IsMark : List ℕ → Type 0
 IsMark bs = (b : ℕ) × (bs ≡ b ∷ []) × IsTrue (is_mark b)
@@ -33,6 +37,10 @@ IsToken Text bs = IsQuoted bs
 IsToken Mark bs = IsMark bs
 
 -- ---- between tokens
+
+-- space, tab, carriage return and line feed stand between tokens
+abbrev pub is_blank : ℕ → Bool
+is_blank b = (b == 0x20) || (b == 0x09) || (b == 0x0D) || (b == 0x0A)
 
 -- one blank
 abbrev pub IsBlank : List ℕ → Type 0

@@ -2,7 +2,6 @@
 use Rattle.std.specs.Prelude.{ℕ, zero, suc, ◌+◌, ◌-◌, List, [], ◌∷◌, Ok, Err, take}
 use Rattle.std.specs.declared.result.Result.{Result}
 use Rattle.sg_lex.specs.declared.token.LexFault.{LexFault}
-use Rattle.sg_lex.specs.declared.front.Front.{Front}
 use Rattle.sg_lex.specs.declared.front.Front.TheVariants.{Ended, Gap, Token, Fault}
 use Rattle.sg_lex.specs.Fronts.{front_of}
 use Rattle.sg_lex.specs.Lexeme.{Lexeme}
@@ -11,20 +10,18 @@ use Rattle.sg_lex.specs.Lexeme.{Lexeme}
 abbrev pub Answer : Type 0
 Answer = Result Lexeme LexFault
 
--- what is answered where this stands at the front of a text at a place, if `behind n` is answered after its first byte
--- and n more
-abbrev pub answers_at : Front → ℕ → List ℕ → (ℕ → List Answer) → List Answer
-answers_at Ended at text behind = []
-answers_at (Gap n) at text behind = behind (n - 1)
-answers_at (Token kind n) at text behind = Ok (record { kind = kind; bytes = take n text; at = at }) ∷ behind (n - 1)
-answers_at Fault at text behind = Err (record { at = at }) ∷ []
-
--- what is answered on a text whose first byte is at a place, after so many bytes of it
+-- what is answered on a text whose first byte is at a place, after so many bytes of it: a token for each that stands at the
+-- front, nothing for what stands between tokens, and a fault as the last
 abbrev pub later_answers : ℕ → ℕ → List ℕ → List Answer
 later_answers passed at [] = []
 later_answers (suc n) at (b ∷ bs) = later_answers n (at + 1) bs
 later_answers zero at (b ∷ bs) =
-    answers_at (front_of (b ∷ bs)) at (b ∷ bs) (λ n. later_answers n (at + 1) bs)
+    elim (front_of (b ∷ bs)) [
+      | Ended ↦ []
+      | Gap n ↦ later_answers (n - 1) (at + 1) bs
+      | Token kind n ↦ Ok (record { kind = kind; bytes = take n (b ∷ bs); at = at }) ∷ later_answers (n - 1) (at + 1) bs
+      | Fault ↦ Err (record { at = at }) ∷ []
+    ]
 
 -- the answers of a lexer on a text: its tokens in order, and a fault at the end where there is one
 abbrev pub answers_of : List ℕ → List Answer

@@ -3,7 +3,8 @@ ghost use Rattle.std.specs.Prelude.{◌≡◌, ◌==◌, ◌≤◌, length, not}
 ghost use Rattle.std.specs.List.{prefix_len};
 ghost use Rattle.std.specs.Char.{is_ascii_digit};
 ghost use Rattle.sg_base.specs.Text.{is_text_byte};
-ghost use Rattle.sg_lex.specs.Bytes.{is_blank, begins_word, is_in_word, is_mark};
+ghost use Rattle.sg_lex.specs.Bytes.{begins_word, is_in_word};
+ghost use Rattle.sg_lex.specs.Table.{is_blank, is_mark};
 
 use sg_base::is_text_byte;
 

@@ -1,7 +1,8 @@
 // What stands at the front of a text.
 ghost use Rattle.std.specs.Prelude.{◌≡◌, ◌+◌, ◌≤◌, ℕ, length, option_map};
 ghost use Rattle.std.specs.Option.{IfSome};
-ghost use Rattle.sg_lex.specs.Fronts.{front_of, quote_front, slash_front, closed_after, front_len};
+ghost use Rattle.sg_lex.specs.Fronts.{front_of, closed_after};
+ghost use Rattle.sg_lex.specs.Inside.Fronts.{quote_front, slash_front, front_len};
 
 use crate::{TokenKind, bytes};
 

@@ -1,7 +1,8 @@
 // What gives the tokens of a text in order.
 ghost use Rattle.std.specs.Prelude.{◌≡◌, ◌+◌, ◌≤◌, ℕ, length, drop, take, slice_get};
 ghost use Rattle.std.specs.Iterator.{YieldsFirst, item_count};
-ghost use Rattle.sg_lex.specs.Fronts.{front_of, front_len, IsNoGap};
+ghost use Rattle.sg_lex.specs.Fronts.{front_of};
+ghost use Rattle.sg_lex.specs.Inside.Fronts.{front_len, IsNoGap};
 ghost use Rattle.sg_lex.specs.Tokens.{answers_of, later_answers};
 
 use crate::front::{Front, front_of};

@@ -8,9 +8,10 @@ use Rattle.std.proofs.lemmas.Bool.Decides.{nat_tests}
 use Rattle.std.proofs.lemmas.Nat.Bits.{bit_at_ones_above}
 use Rattle.sg_facts.specs.declared.shape.Effect.{Effect}
 use Rattle.sg_facts.specs.Facts.{fun_at, state_after}
-use Rattle.sg_facts.specs.Fits.{Fits, IsReached, LeavesDeclared, needs_reach}
+use Rattle.sg_facts.specs.Fits.{Fits, IsReached, needs_reach}
+use Rattle.sg_facts.specs.Inside.Walking.{LeavesDeclared, none_set}
 use Rattle.sg_facts.specs.Interface.{Declared, declares, has_pair, moves_on}
-use Rattle.sg_facts.specs.Walks.{IsReachable, begin_of, made, may_lead, moved, most_calls, none_set, restores}
+use Rattle.sg_facts.specs.Walks.{IsReachable, begin_of, made, may_lead, moved, most_calls, restores}
 
 -- ---- tests
 

@@ -1,6 +1,6 @@
 -- A generated script is played, and its stops ascend.
 use Rattle.std.proofs.Common.{◌≡◌, ◌⊎◌, inl, inr, ℕ, zero, suc, ◌+◌, ◌-◌, ◌*◌, ◌/◌, ◌%◌, ◌<◌, ◌≤◌, Bool, true, false, ◌&&◌, List, [], ◌∷◌, ◌++◌, length, refl, sym, ap, subst, arith, length-append}
-use Rattle.std.specs.Prelude.{◌==◌, if◌then◌else◌, nat_le, nat_lt, not}
+use Rattle.std.specs.Prelude.{◌==◌, if◌then◌else◌, nat_le, nat_lt, not, replicate}
 use Rattle.std.specs.List.{list_all}
 use Rattle.std.proofs.lemmas.Bool.{and_parts}
 use Rattle.std.proofs.lemmas.Bool.Decides.{eqb_tells, nat_tests}
@@ -10,11 +10,11 @@ use Rattle.sg_facts.specs.Interface.{Declared}
 use Rattle.sg_facts.specs.Limits.{most_script_calls}
 use Rattle.sg_load.specs.declared.kind.ServiceKind.{ServiceKind}
 use Rattle.sg_load.specs.declared.kind.ServiceKind.TheVariants.{Locks, Events, Pages, Files, Threads}
-use Rattle.sg_load.specs.Drawn.{after_draws, drawn, stops_from, upper}
-use Rattle.sg_load.specs.Generated.{calls_of_client, clients_from, generated, groups_from, groups_of, setup_count}
+use Rattle.sg_load.specs.Drawn.{after_draws, drawn, stops_from}
+use Rattle.sg_load.specs.Inside.{calls_each, calls_of_client, client_count, event_count, groups_of, lock_count, most_distance, setup_of, stop_count, upper}
+use Rattle.sg_load.specs.Generated.{clients_from, generated, groups_from, setup_count}
 use Rattle.sg_plain.specs.sg_script.Flaws.{calls_before}
-use Rattle.sg_load.specs.Groups.{call, group_of, group_size, setup_of, times}
-use Rattle.sg_load.specs.Sizes.{calls_each, client_count, lock_count, event_count, most_distance, stop_count}
+use Rattle.sg_load.specs.Groups.{call, group_of, group_size}
 use Rattle.sg_load.specs.Services.{standard}
 use Rattle.sg_plain.specs.Calls.{part_of, script_calls}
 use Rattle.sg_plain.specs.Script.{call_fits, calls_fit}
@@ -46,20 +46,17 @@ fit_both i n (x ∷ xs) ys one two =
 
 -- ---- the setup
 
-times_fit : (i : Declared) (c : ScriptCall) → ((n : ℕ) → call_fits i n c ≡ true) → (n count : ℕ) → calls_fit i n (times count c) ≡ true
-unfolding times
+times_fit : (i : Declared) (c : ScriptCall) → ((n : ℕ) → call_fits i n c ≡ true) → (n count : ℕ) → calls_fit i n (replicate count c) ≡ true
 times_fit i c fits n zero = refl
-times_fit i c fits n (suc count) = both (call_fits i n c) (calls_fit i (n + 1) (times count c)) (fits n) (times_fit i c fits (n + 1) count)
+times_fit i c fits n (suc count) = both (call_fits i n c) (calls_fit i (n + 1) (replicate count c)) (fits n) (times_fit i c fits (n + 1) count)
 
-times_length : (c : ScriptCall) (count : ℕ) → length (times count c) ≡ count
-unfolding times
+times_length : (c : ScriptCall) (count : ℕ) → length (replicate count c) ≡ count
 times_length c zero = refl
 times_length c (suc count) = ap suc (times_length c count)
 
-times_all : (test : ScriptCall → Bool) (c : ScriptCall) → test c ≡ true → (count : ℕ) → list_all test (times count c) ≡ true
-unfolding times
+times_all : (test : ScriptCall → Bool) (c : ScriptCall) → test c ≡ true → (count : ℕ) → list_all test (replicate count c) ≡ true
 times_all test c is zero = refl
-times_all test c is (suc count) = both (test c) (list_all test (times count c)) is (times_all test c is count)
+times_all test c is (suc count) = both (test c) (list_all test (replicate count c)) is (times_all test c is count)
 
 setup_fits : (service : ServiceKind) → calls_fit (standard service) 1 (setup_of service) ≡ true
 setup_fits Locks = times_fit (standard Locks) (call 1 []) (λ n. refl) 1 lock_count

@@ -7,7 +7,7 @@ use Rattle.std.proofs.lemmas.Bool.{and_parts}
 use Rattle.std.proofs.lemmas.Bool.Decides.{nat_tests}
 use Rattle.std.proofs.lemmas.Fmt.{decimal_by_steps, length-decimal-le}
 use Rattle.sg_facts.specs.sg_base.Text.{is_text_byte}
-use Rattle.sg_load.specs.Groups.{file_name, file_text}
+use Rattle.sg_load.specs.Inside.{file_name, file_text}
 use Rattle.sg_plain.specs.sg_script.Numbers.{is_text}
 
 both : (a b : Bool) → a ≡ true → b ≡ true → (a && b) ≡ true

@@ -1,10 +1,11 @@
 -- What one more draw, stop, group or client makes of a script so far.
 use Rattle.std.proofs.Common.{◌≡◌, ℕ, zero, suc, ◌+◌, ◌-◌, ◌%◌, ◌<◌, ◌≤◌, List, [], ◌∷◌, ◌++◌, refl, sym, ◌∙◌, ap, subst, arith, append_assoc}
+use Rattle.std.specs.Prelude.{replicate}
 use Rattle.sg_load.specs.declared.kind.ServiceKind.{ServiceKind}
-use Rattle.sg_load.specs.Drawn.{after_draws, drawn, stops_from, upper}
-use Rattle.sg_load.specs.Generated.{calls_of_client, clients_from, groups_from, groups_of}
-use Rattle.sg_load.specs.Groups.{group_of, group_size, times}
-use Rattle.sg_load.specs.Sizes.{most_distance}
+use Rattle.sg_load.specs.Drawn.{after_draws, drawn, stops_from}
+use Rattle.sg_load.specs.Inside.{calls_of_client, groups_of, most_distance, upper}
+use Rattle.sg_load.specs.Generated.{clients_from, groups_from}
+use Rattle.sg_load.specs.Groups.{group_of, group_size}
 use Rattle.sg_plain.specs.sg_script.declared.script.ScriptCall.{ScriptCall}
 
 append_none : {A : Type 0} (xs : List A) → xs ++ [] ≡ xs
@@ -19,16 +20,14 @@ none_left n done all = omega (arith, all)
 
 -- ---- calls so many times
 
-pub times_none : (c : ScriptCall) → [] ≡ times 0 c
-unfolding times
+pub times_none : (c : ScriptCall) → [] ≡ replicate 0 c
 times_none c = refl
 
-pub times_more : (c : ScriptCall) (count : ℕ) → times (count + 1) c ≡ times count c ++ c ∷ []
-unfolding times
+pub times_more : (c : ScriptCall) (count : ℕ) → replicate (count + 1) c ≡ replicate count c ++ c ∷ []
 times_more c zero = refl
 times_more c (suc count) =
     let e : suc count + 1 ≡ suc (count + 1) = omega arith in
-    subst (λ k. times k c ≡ times (suc count) c ++ c ∷ []) (sym e) (ap (λ cs. c ∷ cs) (times_more c count))
+    subst (λ k. replicate k c ≡ replicate (suc count) c ++ c ∷ []) (sym e) (ap (λ cs. c ∷ cs) (times_more c count))
 
 -- ---- draws
 

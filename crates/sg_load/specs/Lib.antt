@@ -1,7 +1,7 @@
 pub mod Drawn
 pub mod Generated
 pub mod Groups
-pub mod Sizes
+pub mod Inside
 pub mod Services
 pub use Rattle.sg_check.specs as sg_check
 pub use Rattle.sg_check.specs.sg_check_statements

@@ -1,6 +1,7 @@
 // Numbers that are drawn one after the other.
 ghost use Rattle.std.specs.Prelude.{◌≡◌};
-ghost use Rattle.sg_load.specs.Drawn.{drawn, upper};
+ghost use Rattle.sg_load.specs.Drawn.{drawn};
+ghost use Rattle.sg_load.specs.Inside.{upper};
 
 use std::marker::Model;
 

@@ -1,6 +1,7 @@
 // The calls of the setup, and the groups of calls that clients make.
-ghost use Rattle.std.specs.Prelude.{◌≡◌, ◌+◌, ◌*◌, ◌%◌, ◌<◌, ◌≤◌, ◌^◌, [], ◌∷◌, ◌++◌, OnOk, IfOk};
-ghost use Rattle.sg_load.specs.Groups.{call, event_group, file_group, group_of, group_size, lock_group, most_group, page_group, setup_of, thread_group, times};
+ghost use Rattle.std.specs.Prelude.{◌≡◌, ◌+◌, ◌*◌, ◌%◌, ◌<◌, ◌≤◌, ◌^◌, [], ◌∷◌, ◌++◌, OnOk, IfOk, replicate};
+ghost use Rattle.sg_load.specs.Groups.{call, group_of, group_size};
+ghost use Rattle.sg_load.specs.Inside.{event_group, file_group, lock_group, most_group, page_group, setup_of, thread_group};
 
 use crate::ServiceKind;
 use crate::functions::{
@@ -42,7 +43,7 @@ pub(crate) fn setup(alloc: Global, service: ServiceKind) -> Result<CallList, NoM
 // So many calls of a function without arguments.
 #[tactic(auto, using(crate::proofs::Steps::times_none, crate::proofs::Steps::times_more))]
 fn times(alloc: Global, count: u32, fun: u8) -> Result<CallList, NoMemory>
-    ensures { IfOk result (λ calls. calls ≡ times count (call fun [])) }
+    ensures { IfOk result (λ calls. calls ≡ replicate count (call fun [])) }
 {
     let mut calls = CallList::new(alloc);
     'each: for done in 0..count {

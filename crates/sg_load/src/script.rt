@@ -2,9 +2,9 @@
 ghost use Rattle.std.specs.Prelude.{◌≡◌, ◌+◌, ◌<◌, ◌≤◌, OnOk, IfOk};
 ghost use Rattle.sg_plain.specs.sg_edge.Stops.{AscendsAbove};
 ghost use Rattle.sg_load.specs.Drawn.{after_draws, stops_from};
-ghost use Rattle.sg_load.specs.Generated.{calls_of_client, clients_from, generated, groups_from, groups_of, setup_count};
+ghost use Rattle.sg_load.specs.Generated.{clients_from, generated, groups_from, setup_count};
+ghost use Rattle.sg_load.specs.Inside.{calls_of_client, client_count, groups_of, stop_count};
 ghost use Rattle.sg_plain.specs.sg_script.Flaws.{calls_before};
-ghost use Rattle.sg_load.specs.Sizes.{client_count, stop_count};
 ghost use Rattle.sg_load.specs.Services.{standard};
 ghost use Rattle.sg_plain.specs.Playing.Playable.{IsPlayable};
 

@@ -1,6 +1,6 @@
 // The texts of the calls on files.
 ghost use Rattle.std.specs.Prelude.{◌≡◌, IfOk};
-ghost use Rattle.sg_load.specs.Groups.{file_name, file_text};
+ghost use Rattle.sg_load.specs.Inside.{file_name, file_text};
 
 use sg_facts::{NoMemory, Text};
 use sg_plain::text_of;

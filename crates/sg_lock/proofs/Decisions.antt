@@ -18,7 +18,8 @@ use Rattle.sg_slots.proofs.Deciding.{plain, refuse_right, block_right, set_right
 use Rattle.sg_slots.proofs.Rows.{row_at-rows_of}
 use Rattle.sg_lock.specs.declared.lock.Lock.{Lock}
 use Rattle.sg_lock.specs.LockFacts.{lock_facts}
-use Rattle.sg_lock.specs.LockTable.{lock_table, lock_parts, owner_in, take_answer, release_answer, free_answer}
+use Rattle.sg_lock.specs.LockTable.{lock_table, lock_parts}
+use Rattle.sg_lock.specs.Inside.LockAnswer.{owner_in, take_answer, release_answer, free_answer}
 use Rattle.sg_lock.specs.LockRow.{lock_body}
 use Rattle.sg_lock.specs.Inside.LockDecision.{set_owner, on_take, on_release, on_free}
 

@@ -10,7 +10,8 @@ use Rattle.std.specs.Ordering.{nat_cmp}
 use Rattle.std.proofs.lemmas.Bool.{cases_Bool}
 use Rattle.std.proofs.lemmas.Bool.Decides.{nat_tests}
 use Rattle.sg_facts.specs.declared.row.Row.{Row}
-use Rattle.sg_facts.specs.Track.{ancestors, ends_with, is_live, nearest, parent_in, row_at}
+use Rattle.sg_facts.specs.Track.{ancestors, ends_with, is_live, nearest, row_at}
+use Rattle.sg_facts.specs.Inside.Rows.{parent_in}
 use Rattle.sg_facts.proofs.RowLists.{live_of_row}
 use Rattle.sg_slots.specs.Slots.{AreIds, Held, entry_at, row_with, without}
 use Rattle.sg_slots.proofs.Rows.{is_live-rows_of, row_at-rows_of}

@@ -29,7 +29,8 @@ use Rattle.sg_mm.specs.Inside.MmIndex.{AreAscending, AreIndexed, ArePlaced, Gain
 use Rattle.sg_mm.specs.Inside.MmPlaces.{first_at, first_passes, none_left, own_left, own_more, page_is_first, place_of_test, some_first, two_apart}
 use Rattle.sg_mm.specs.MmRow.{page_body}
 use Rattle.sg_mm.specs.MmSound.{HaveOwnAddresses}
-use Rattle.sg_mm.specs.MmTable.{addr_of, is_at, page_at, space_of}
+use Rattle.sg_mm.specs.MmTable.{is_at}
+use Rattle.sg_mm.specs.Inside.MmAnswer.{addr_of, page_at, space_of}
 use Rattle.sg_mm.proofs.Children.{below_left, below_more}
 use Rattle.sg_mm.proofs.Places.{one_place}
 

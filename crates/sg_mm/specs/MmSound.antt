@@ -6,7 +6,8 @@ use Rattle.sg_facts.specs.Object.{Object}
 use Rattle.sg_facts.specs.Sound.{IsSound, AreRows}
 use Rattle.sg_facts.specs.Allowed.{implies}
 use Rattle.sg_mm.specs.MmFacts.{mm_facts}
-use Rattle.sg_mm.specs.MmTable.{space_of, addr_of, is_at}
+use Rattle.sg_mm.specs.MmTable.{is_at}
+use Rattle.sg_mm.specs.Inside.MmAnswer.{space_of, addr_of}
 
 -- the space of a page that mman_get_page made is a client
 abbrev pub IsOfClient : Row → Type 0

@@ -7,7 +7,7 @@ ghost use Rattle.sg_mm.specs.Inside.Children.{HangsOne};
 ghost use Rattle.sg_mm.specs.Inside.MmDoes.{Does, MayHang, after_new, held_with, held_without, hung, new_parts, new_reply, ok_about, parts_of_new};
 ghost use Rattle.sg_mm.specs.Inside.MmIndex.{id_in, Gains, Keeps};
 ghost use Rattle.sg_mm.specs.MmRow.{page_body};
-ghost use Rattle.sg_mm.specs.MmTable.{page_at};
+ghost use Rattle.sg_mm.specs.Inside.MmAnswer.{page_at};
 
 use crate::child::{Child, hang, take_off, take_off_all};
 use crate::place::{free, free_all, id_in, put};

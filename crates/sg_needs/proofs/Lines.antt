@@ -11,7 +11,8 @@ use Rattle.sg_facts.specs.Interface.{Declared}
 use Rattle.sg_facts.specs.Needs.{is_needed, wanted}
 use Rattle.sg_facts.specs.Object.{Object}
 use Rattle.sg_facts.specs.Sound.{AreRows}
-use Rattle.sg_facts.specs.Track.{ancestors, is_ancestor, is_live, nearest, parent_in, row_at}
+use Rattle.sg_facts.specs.Track.{ancestors, is_ancestor, is_live, nearest, row_at}
+use Rattle.sg_facts.specs.Inside.Rows.{parent_in}
 use Rattle.sg_track.specs.Tracked.{AreTracked, HasLowerParent}
 use Rattle.sg_track.proofs.Above.{parent_below}
 use Rattle.sg_needs.specs.Inside.Lines.{ids_in, line_to}

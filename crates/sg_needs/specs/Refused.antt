@@ -5,7 +5,7 @@ use Rattle.sg_facts.specs.sg_base.declared.call.Call.{Call}
 use Rattle.sg_facts.specs.sg_base.declared.reply.Code.{Code}
 use Rattle.sg_facts.specs.declared.row.Row.{Row}
 use Rattle.sg_facts.specs.Facts.{Fun}
-use Rattle.sg_facts.specs.Guard.{refusal}
+use Rattle.sg_facts.specs.Inside.Guards.{refusal}
 use Rattle.sg_facts.specs.Interface.{Declared}
 
 -- the first cause that applies, as the rows tell it without files and ids

@@ -1,12 +1,12 @@
 // The path of an id, along its ancestors.
-ghost use Rattle.std.specs.Prelude.{◌≡◌, ◌++◌, IfOk, OnOk};
+ghost use Rattle.std.specs.Prelude.{◌≡◌, ◌++◌, IfOk, OnOk, reverse};
 ghost use Rattle.std.specs.List.{flat_map};
 ghost use Rattle.std.specs.Option.{option_copied};
-ghost use Rattle.sg_facts.specs.Object.{first_text, path_of, step_to};
+ghost use Rattle.sg_facts.specs.Object.{first_text, path_of};
+ghost use Rattle.sg_facts.specs.Inside.Rows.{step_to};
 ghost use Rattle.sg_facts.specs.Track.{row_at};
-ghost use Rattle.sg_needs.specs.Inside.Lines.{line_to};
 
-use sg_facts::{IdList, NoMemory, Path, Row, Value};
+use sg_facts::{NoMemory, Path, Row, Value};
 use sg_track::Tracker;
 use std::alloc::Global;
 
@@ -14,29 +14,18 @@ use std::alloc::Global;
 pub(crate) fn path_to(alloc: Global, rows: &Tracker, id: u64) -> Result<Path, NoMemory>
     ensures { IfOk result (λ path. path ≡ path_of rows.now.rows id) }
 {
-    let line = line_to(alloc, rows, id)?;
-    path_along(alloc, rows, line.as_slice())
-}
-
-// An id with its ancestors: the root first, the id last.
-fn line_to(alloc: Global, rows: &Tracker, id: u64) -> Result<IdList, NoMemory>
-    ensures { IfOk result (λ line. line ≡ line_to rows.now.rows id) }
-{
     let above = rows.ancestors(alloc, id)?;
-    let mut line = IdList::new(alloc);
-    'above: for one in above.as_slice().iter().rev() {
-        line.push(*one)?;
-    }
-    line.push(id)?;
-    Ok(line)
+    let mut path = path_down(alloc, rows, above.as_slice())?;
+    push_step(&mut path, rows.row(id))?;
+    Ok(path)
 }
 
-// The path along a line: a slash and the name of each live row.
-fn path_along(alloc: Global, rows: &Tracker, line: &[u64]) -> Result<Path, NoMemory>
-    ensures { IfOk result (λ path. path ≡ flat_map (λ a. step_to (row_at rows.now.rows a)) line.now) }
+// The path along some ids, the last of them first.
+fn path_down(alloc: Global, rows: &Tracker, ids: &[u64]) -> Result<Path, NoMemory>
+    ensures { IfOk result (λ path. path ≡ flat_map (λ a. step_to (row_at rows.now.rows a)) (reverse ids.now)) }
 {
     let mut path = Path::new(alloc);
-    'line: for id in line {
+    'ids: for id in ids.iter().rev() {
         push_step(&mut path, rows.row(*id))?;
     }
     Ok(path)

@@ -2,7 +2,8 @@
 ghost use Rattle.std.specs.Prelude.{◌≡◌};
 ghost use Rattle.std.specs.Option.{option_copied};
 ghost use Rattle.sg_facts.specs.Facts.{fun_of_shape};
-ghost use Rattle.sg_facts.specs.Guard.{guard as the_guard, in_state, may_be_parent, may_use, is_own};
+ghost use Rattle.sg_facts.specs.Guard.{guard as the_guard};
+ghost use Rattle.sg_facts.specs.Inside.Guards.{in_state, may_be_parent, may_use, is_own};
 ghost use Rattle.sg_facts.specs.Object.{Object};
 ghost use Rattle.sg_needs.specs.Refused.{refused_by_rows};
 

@@ -3,7 +3,7 @@ use Rattle.std.proofs.Common.{◌≡◌, ℕ, zero, suc, ◌+◌, ◌==◌, if�
 use Rattle.std.specs.Prelude.{None, Some, Ok, Err, codes, IfErr, IsErrAnd, MatchResult}
 use Rattle.std.specs.declared.result.Result.{Result}
 use Rattle.sg_lex.specs.declared.token.LexFault.{LexFault}
-use Rattle.sg_lex.specs.Lexeme.{Lexeme}
+use Rattle.sg_lex.specs.Lexeme.{Lexeme, Spelling as Named}
 use Rattle.sg_lex.specs.Tokens.{Answer}
 use Rattle.sg_parse.specs.declared.error.ParseError.{ParseError}
 use Rattle.sg_parse.specs.declared.error.ParseError.TheVariants.{Lex, Syntax}
@@ -19,8 +19,7 @@ use Rattle.sg_parse.specs.declared.tree.TypeName.{TypeName}
 use Rattle.sg_parse.specs.declared.tree.Param.{Param}
 use Rattle.sg_parse.specs.declared.words.Sort.{Sort}
 use Rattle.sg_parse.specs.declared.words.Sort.TheVariants.{Name, Form, One as one_word, Two as two_word}
-use Rattle.sg_parse.specs.Grammar.Sentence.{star, comma, close_bracket}
-use Rattle.sg_parse.specs.Grammar.Named.{Named}
+use Rattle.sg_parse.specs.Grammar.Inside.Forms.{star, comma, close_bracket}
 use Rattle.sg_parse.specs.Grammar.Words.{is_of}
 use Rattle.sg_parse.specs.Grammar.Pieces.{Piece, word, kept}
 use Rattle.sg_parse.specs.Inside.{named_token}

@@ -6,10 +6,10 @@ use Rattle.sg_lex.specs.Tokens.{answers_of}
 use Rattle.sg_parse.specs.declared.error.ParseError.{ParseError}
 use Rattle.sg_parse.specs.declared.error.ParseError.TheVariants.{NoMemory, Lex, Syntax}
 use Rattle.sg_parse.specs.declared.tree.Tree.{Tree}
-use Rattle.sg_parse.specs.Grammar.Parses.{Parses, ParsesTo}
+use Rattle.sg_parse.specs.Grammar.Parses.{Parses}
 use Rattle.sg_parse.specs.Grammar.Inside.States.{start, trees}
 use Rattle.sg_lex.specs.Inside.Automata.{read, Answers}
-use Rattle.sg_parse.proofs.Grammar.Readings.{may_answer, only_answer}
+use Rattle.sg_parse.proofs.Grammar.Readings.{ParsesTo, may_answer, only_answer}
 
 pub may : (text : List ℕ) (answer : Result Tree ParseError) → Answers trees (read trees start (record { rest = answers_of text; end = length text })) answer → Parses text answer
 may text (Ok tree) h = subst (ParsesTo (answers_of text) (length text)) (h (λ e. cc)) (may_answer (length text) (answers_of text))

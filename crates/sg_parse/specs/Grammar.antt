@@ -1,6 +1,5 @@
 -- The grammar of the interface language.
 pub mod Inside
-pub mod Named
 pub mod Parses
 pub mod Pieces
 pub mod Plain

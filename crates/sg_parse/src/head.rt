@@ -1,11 +1,10 @@
 // The facts at the head of a text.
 ghost use Rattle.std.specs.Prelude.{Bool, List, [], codes, true, false};
-ghost use Rattle.sg_parse.specs.Grammar.Named.{Named};
+ghost use Rattle.sg_lex.specs.Lexeme.{Spelling as Named};
 ghost use Rattle.sg_parse.specs.Grammar.Pieces.{mark, two, word};
-ghost use Rattle.sg_parse.specs.Grammar.Sentence.{comma, equals, open_brace, semicolon};
+ghost use Rattle.sg_parse.specs.Grammar.Inside.Forms.{comma, equals, open_brace, semicolon};
 ghost use Rattle.sg_parse.specs.Grammar.Inside.States.{State, due, fact, first_end, fork, head0, in_newer, second_end, start, statements, trees, want};
 ghost use Rattle.sg_lex.specs.Inside.Automata.{read, Leads};
-ghost use Rattle.sg_lex.specs.Marks.{close_brace_byte};
 
 use crate::error::ParseError;
 use crate::reader::{fixed, forked, mark, two, word_of};
@@ -156,7 +155,7 @@ fn recovery(reader: &mut Reader<'_>) -> Result<bool, ParseError>
 
 // The end of the head.
 fn end(reader: &mut Reader<'_>) -> Result<(), ParseError>
-    ensures { (k : State) → Leads trees (read trees (due (mark close_brace_byte) (due semicolon k)) reader.old) result (λ _. k) reader.new }
+    ensures { (k : State) → Leads trees (read trees (due (mark (codes "}")) (due semicolon k)) reader.old) result (λ _. k) reader.new }
 {
     mark(reader, b'}')?;
     mark(reader, b';')

@@ -2,8 +2,8 @@
 ghost use Rattle.std.specs.Prelude.{◌≡◌, ◌≤◌, List, [], ◌∷◌, ◌++◌, length, OnOk, Some as with_form, None as without};
 ghost use Rattle.sg_parse.specs.declared.tree.Param.{Param as Declared};
 ghost use Rattle.sg_parse.specs.declared.words.Sort.TheVariants.{Name as a_name};
-ghost use Rattle.sg_parse.specs.Grammar.Named.{Named};
-ghost use Rattle.sg_parse.specs.Grammar.Sentence.{open_bracket, close_bracket};
+ghost use Rattle.sg_lex.specs.Lexeme.{Spelling as Named};
+ghost use Rattle.sg_parse.specs.Grammar.Inside.Forms.{open_bracket, close_bracket};
 ghost use Rattle.sg_parse.specs.Grammar.Inside.States.{State, due, want, either, listed, declared, param, param_behind, with_param, type_of, trees};
 ghost use Rattle.sg_lex.specs.Inside.Automata.{read, Leads};
 ghost use Rattle.sg_parse.specs.Inside.{either_of};

@@ -1,7 +1,7 @@
 // What a tree is read by: the tokens of a text, and the errors where they don't come.
 ghost use Rattle.std.specs.Prelude.{◌≡◌, ◌≤◌, [], ◌∷◌, length, true, IfOk, IfErr, OnOk, MatchOption, MatchBool, Ok as answered};
 ghost use Rattle.sg_parse.specs.Grammar.Words.{is_of};
-ghost use Rattle.sg_parse.specs.Grammar.Named.{Named};
+ghost use Rattle.sg_lex.specs.Lexeme.{Spelling as Named};
 ghost use Rattle.sg_parse.specs.Grammar.Inside.States.{State, dead, due, fork, want, has_sort, fits, named_by, trees};
 ghost use Rattle.sg_parse.specs.Grammar.Pieces.{mark, word, two, kept, are_two};
 ghost use Rattle.sg_lex.specs.Inside.Automata.{read, Leads};
@@ -39,8 +39,8 @@ pub fn take_word<'a>(reader: &mut Reader<'a>, sort: Sort) -> Result<Option<Name<
 
 /// Takes the next token where it is this mark, and says whether it was; else nothing is taken.
 pub fn take_mark(reader: &mut Reader<'_>, byte: u8) -> Result<bool, ParseError>
-    ensures mark { IfOk result (λ taken. MatchBool taken (Came (fits (mark byte)) reader.old.rest reader.new.rest)
-        ((reader.new ≡ reader.old) × Off (fits (mark byte)) reader.old.rest)) }
+    ensures mark { IfOk result (λ taken. MatchBool taken (Came (fits (mark (byte ∷ []))) reader.old.rest reader.new.rest)
+        ((reader.new ≡ reader.old) × Off (fits (mark (byte ∷ []))) reader.old.rest)) }
     ensures fault { IfErr result (λ error. (s : State) → read trees s reader.old ≡ Err error) }
     ensures end { reader.new.end ≡ reader.old.end }
 {
@@ -53,7 +53,7 @@ pub fn take_mark(reader: &mut Reader<'_>, byte: u8) -> Result<bool, ParseError>
 /// Takes this mark.
 #[tactic(auto, using(crate::proofs::ByToken::due_came, crate::proofs::ByToken::due_missing))]
 pub fn mark(reader: &mut Reader<'_>, byte: u8) -> Result<(), ParseError>
-    ensures leads { (k : State) → Leads trees (read trees (due (mark byte) k) reader.old) result (λ _. k) reader.new }
+    ensures leads { (k : State) → Leads trees (read trees (due (mark (byte ∷ [])) k) reader.old) result (λ _. k) reader.new }
     ensures fewer { OnOk result (length reader.new.rest ≤ length reader.old.rest) }
 {
     if take_mark(reader, byte)? {

@@ -4,7 +4,7 @@ ghost use Rattle.sg_parse.specs.declared.tree.Ret.{Ret as Returned};
 ghost use Rattle.sg_parse.specs.declared.tree.Statement.{Statement as Stated};
 ghost use Rattle.sg_parse.specs.declared.tree.TypeName.{TypeName as Typed};
 ghost use Rattle.sg_parse.specs.declared.words.Sort.TheVariants.{Name as a_name};
-ghost use Rattle.sg_parse.specs.Grammar.Named.{Named};
+ghost use Rattle.sg_lex.specs.Lexeme.{Spelling as Named};
 ghost use Rattle.sg_parse.specs.Grammar.Inside.States.{State, want, statements, statement_behind, one_rest, two_rest, proto_rest, plain_rest, returned_rest, trees};
 ghost use Rattle.sg_lex.specs.Inside.Automata.{read, Leads, Answers, read_on};
 

@@ -3,8 +3,8 @@ ghost use Rattle.std.specs.Prelude.{◌≡◌, ◌≤◌, [], ◌∷◌, length,
 ghost use Rattle.std.specs.Cmp.Lexicographic.{pointwise};
 ghost use Rattle.sg_lex.specs.Tokens.{answers_of};
 ghost use Rattle.sg_lex.specs.Inside.Ahead.{Off};
-ghost use Rattle.sg_parse.specs.Grammar.Pieces.{kept_word, turned, kind_seen};
-ghost use Rattle.sg_parse.specs.Inside.{seen_answer, token_seen};
+ghost use Rattle.sg_parse.specs.Grammar.Pieces.{kept_word};
+ghost use Rattle.sg_parse.specs.Inside.{turned, kind_seen, seen_answer, token_seen};
 
 use sg_lex::{LexFault, Reader as TextReader, Token, TokenKind, TokenTest};
 use std::marker::Model;

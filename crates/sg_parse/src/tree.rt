@@ -12,9 +12,9 @@ pub struct Name<'a> {
 }
 
 impl<'a> Model for Name<'a> {
-    ghost use Rattle.sg_parse.specs.Grammar.Named.{Named};
+    ghost use Rattle.sg_lex.specs.Lexeme.{Spelling};
 
-    ghost Value = { Named };
+    ghost Value = { Spelling };
 
     ghost view = { λ n. record { bytes = n.slice.now; at = n.at } };
 }

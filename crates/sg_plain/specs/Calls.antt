@@ -1,8 +1,9 @@
 -- The calls of a script's clients, and how clients end.
-use Rattle.std.specs.Prelude.{ℕ, zero, suc, ◌≡◌, ◌+◌, ◌==◌, not, if◌then◌else◌, List, [], ◌∷◌, ◌++◌, None, Some, filter, length, map, slice_get}
+use Rattle.std.specs.Prelude.{ℕ, zero, suc, ◌≡◌, ◌+◌, ◌==◌, not, if◌then◌else◌, List, [], ◌∷◌, ◌++◌, Some, None, filter, length, map, slice_get, option_map}
 use Rattle.std.specs.declared.option.Option.{Option}
 use Rattle.sg_facts.specs.sg_base.declared.call.Call.{Call}
 use Rattle.sg_facts.specs.declared.entry.Entry.{Entry}
+use Rattle.sg_facts.specs.sg_base.Lists.{Each}
 use Rattle.sg_facts.specs.Facts.{Facts, fun_at}
 use Rattle.sg_facts.specs.Interface.{Declared}
 use Rattle.sg_facts.specs.Legal.{Table, answer}
@@ -35,14 +36,9 @@ resolved_by facts history client seq c = record {
   args = values_of (calls_of history client) (fun_at facts.funs c.fun).kinds c.args;
 }
 
--- a call of a client with its number, where the client has one more
-abbrev pub resolved : Facts → List Entry → ℕ → ℕ → Option ScriptCall → Option Call
-resolved facts history client seq None = None
-resolved facts history client seq (Some c) = Some (resolved_by facts history client seq c)
-
 -- the call that a client makes when so many of its calls are done
 abbrev pub call_after : Facts → Script → List Entry → ℕ → ℕ → Option Call
-call_after facts script history client done = resolved facts history client (done + 1) (slice_get (script_calls script client) done)
+call_after facts script history client done = option_map (resolved_by facts history client (done + 1)) (slice_get (script_calls script client) done)
 
 -- ---- how clients end
 
@@ -67,12 +63,7 @@ IsEnd i ask history script client Done = length (calls_of history client) ≡ le
 IsEnd i ask history script client (Blocked call) =
     (call_after i.facts script history client (length (calls_of history client)) ≡ Some call) × (answer i ask (object_of i.facts history) call ≡ None)
 
--- each of these clients has ended as is told: its calls are done, or it waits in the call that is named
-abbrev pub EachEnd : Declared → Table → List Entry → Script → List (ℕ × End) → Type 0
-EachEnd i ask history script [] = Unit {0}
-EachEnd i ask history script (e ∷ ends) = IsEnd i ask history script e.0 e.1 × EachEnd i ask history script ends
-
 -- each client with a call has its end, and no other client has one
 pub record AreEnds (i : Declared) (ask : Table) (history : List Entry) (script : Script) (ends : List (ℕ × End)) : Type 0 where
   pub clients : map (λ e. e.0) ends ≡ callers script
-  pub each : EachEnd i ask history script ends
+  pub each : Each (λ e. IsEnd i ask history script e.0 e.1) ends

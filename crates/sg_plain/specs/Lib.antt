@@ -1,5 +1,6 @@
 pub mod Calls
 pub mod Ending
+pub mod Inside
 pub mod Plain
 pub mod Playing
 pub mod Promises

@@ -3,8 +3,6 @@ use Rattle.std.specs.Prelude.{ℕ, ◌≡◌, ◌+◌, ◌≤◌, ◌==◌, Bool
 use Rattle.std.specs.List.{list_all, list_any}
 use Rattle.sg_facts.specs.sg_base.Lists.{Each, When}
 use Rattle.sg_facts.specs.declared.entry.Entry.{Entry}
-use Rattle.sg_facts.specs.declared.trace.Item.{Item}
-use Rattle.sg_facts.specs.declared.trace.Tag.{Tag}
 use Rattle.sg_facts.specs.declared.trace.Tag.TheVariants.{Walk, Load, Client}
 use Rattle.sg_facts.specs.Facts.{Facts, is_visible}
 use Rattle.sg_facts.specs.Trace.{Boot, Run}
@@ -41,20 +39,12 @@ abbrev pub up_to_last : {A : Type 0} → (A → Bool) → List A → List A
 up_to_last test [] = []
 up_to_last test (x ∷ xs) = if test x || list_any test xs then x ∷ up_to_last test xs else []
 
--- whether an item is of a call of the setup: the setup has client 1's first calls
-abbrev pub is_of_setup : Script → Tag → Bool
-is_of_setup script (Walk id k c) = false
-is_of_setup script (Load key c) = false
-is_of_setup script (Client c seq) = (c == 1) && nat_le seq (length script.setup)
-
--- whether all items up to the last of the setup were noted in turns of client 1
-abbrev pub is_setup_first : Script → List Item → Bool
-is_setup_first script items = list_all (λ item. client_of item.tag == 1) (up_to_last (λ item. is_of_setup script item.tag) items)
-
--- the calls of the setup are in the history, and no item of another client's turn stands before one of theirs
+-- the calls of the setup, which are client 1's first, are in the history, and no item of another client's turn stands before one of theirs
 pub record IsSetupFirst (script : Script) (history : List Entry) (run : Run) : Type 0 where
   pub done : length script.setup ≤ length (calls_of history 1)
-  pub items : is_setup_first script (items_of run.boots) ≡ true
+  pub items : list_all (λ item. client_of item.tag == 1)
+      (up_to_last (λ item. elim item.tag [ Client c seq ↦ (c == 1) && nat_le seq (length script.setup) | Walk id k c ↦ false | Load key c ↦ false ]) (items_of run.boots))
+      ≡ true
 
 -- ---- stops
 
@@ -81,10 +71,6 @@ pub record FollowsPlain (facts : Facts) (run : Run) (history plain : List Entry)
   pub first_boot : up_to_last (is_in_first_boot facts run.boots) history ≡ take (length (up_to_last (is_in_first_boot facts run.boots) history)) plain
   pub whole : struck_in run ≡ [] → history ≡ plain
 
--- where client 1 alone has calls, it gets the play without stops, whatever the stops
-abbrev pub GetsPlainAlone : Script → List Entry → List Entry → Type 0
-GetsPlainAlone script history plain = list_all (λ c. c == 1) (callers script) ≡ true → history ≡ plain
-
 -- ---- waits
 
 -- whether a call of a client waits at none of these places before one that wakes who waits on a descriptor
@@ -93,14 +79,12 @@ is_woken_first facts history client seq id [] = true
 is_woken_first facts history client seq id (p ∷ ps) =
     wakes_at facts history id p || (not (is_tagged client seq p.item.tag && has_blocked p.item.outcome) && is_woken_first facts history client seq id ps)
 
--- a call that waits at a place doesn't wait again in that boot before it was woken
-abbrev pub IsWokenBetween : Facts → List Entry → Position → Tag → Type 0
-IsWokenBetween facts history p (Walk id k client) = Unit {0}
-IsWokenBetween facts history p (Load key client) = Unit {0}
-IsWokenBetween facts history p (Client client seq) =
-    When (has_blocked p.item.outcome)
-    (is_woken_first facts history client seq p.item.shown.desc (places_in p.older (p.front ++ p.item ∷ []) p.rest p.newer) ≡ true)
-
 -- between two waits of one call in a boot stands an entry that wakes it
 abbrev pub AreWoken : Facts → List Entry → Run → Type 0
-AreWoken facts history run = Each (λ p. IsWokenBetween facts history p p.item.tag) (places_of run)
+AreWoken facts history run = Each (λ p. elim p.item.tag [
+  | Client client seq ↦ When (has_blocked p.item.outcome)
+      (is_woken_first facts history client seq p.item.shown.desc (places_in p.older (p.front ++ p.item ∷ []) p.rest p.newer) ≡ true)
+  | Walk id k client ↦ Unit {0}
+  | Load key client ↦ Unit {0}
+])
+    (places_of run)

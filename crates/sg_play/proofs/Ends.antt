@@ -12,7 +12,8 @@ use Rattle.sg_plain.specs.sg_script.declared.script.Script.{Script}
 use Rattle.sg_plain.specs.sg_seat.WorldView.{Seat, WorldView, is_blocked_phase, no_seat, seat_of}
 use Rattle.sg_plain.specs.sg_seat.declared.phase.Phase.{Phase}
 use Rattle.sg_plain.specs.sg_seat.declared.phase.Phase.TheVariants.{Idle, Asked, Held, Receipted, Blocked, Left}
-use Rattle.sg_plain.specs.sg_hist.Ending.{AreLost, EndsQuiet, EndsUsed, IsStillBlocked, waking_entries}
+use Rattle.sg_plain.specs.sg_hist.Ending.{AreLost, EndsQuiet, EndsUsed}
+use Rattle.sg_plain.specs.sg_hist.Inside.Parts.{IsStillBlocked, waking_entries}
 use Rattle.sg_plain.specs.sg_hist.declared.ended.End.{End}
 use Rattle.sg_world.proofs.Losing.{over_in}
 use Rattle.sg_world.specs.sg_world_laws.Ending.{EndsWell, IsBlockedSeat, IsEnding, SomebodyAsks}

@@ -10,11 +10,13 @@ use Rattle.sg_facts.specs.sg_base.declared.value.Value.{Value}
 use Rattle.sg_facts.specs.declared.entry.Entry.{Entry}
 use Rattle.sg_facts.specs.declared.shape.Kind.{Kind}
 use Rattle.sg_facts.specs.declared.shape.Kind.TheVariants.{Desc, Parent, Word as IsWord, Text as IsText}
-use Rattle.sg_facts.specs.Facts.{fun_at, is_desc, is_parent}
+use Rattle.sg_facts.specs.Facts.{fun_at}
+use Rattle.sg_facts.specs.Inside.Rows.{is_desc, is_parent}
 use Rattle.sg_facts.specs.Interface.{Declared, declares}
 use Rattle.sg_facts.specs.Kinds.{FitsKinds, kinds_fit}
 use Rattle.sg_plain.specs.sg_hist.Clients.{calls_of}
-use Rattle.sg_plain.specs.Calls.{call_after, resolved, script_calls}
+use Rattle.sg_plain.specs.Calls.{call_after, script_calls}
+use Rattle.sg_plain.specs.Inside.Turns.{resolved}
 use Rattle.sg_plain.specs.sg_script.declared.script.Arg.{Arg}
 use Rattle.sg_plain.specs.sg_script.declared.script.Arg.TheVariants.{Number, Text, Back}
 use Rattle.sg_plain.specs.sg_script.declared.script.Script.{Script}

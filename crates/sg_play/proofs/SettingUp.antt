@@ -21,7 +21,7 @@ use Rattle.sg_plain.specs.Playing.Callers.{handed, is_receipted, is_setting_up}
 use Rattle.sg_plain.specs.Playing.Plays.{IsPlaying}
 use Rattle.sg_plain.specs.Playing.Turns.{is_free_phase}
 use Rattle.sg_plain.specs.sg_hist.Ending.{client_of}
-use Rattle.sg_plain.specs.Promises.{is_of_setup, is_setup_first}
+use Rattle.sg_plain.specs.Inside.Kept.{is_of_setup, is_setup_first}
 use Rattle.sg_plain.specs.sg_script.declared.script.Script.{Script}
 use Rattle.sg_plain.specs.sg_seat.WorldView.{Seat, WorldView, happened, in_phase, is_left_phase, is_offered, new_world, no_seat, seat_in, seat_of, with_mark}
 use Rattle.sg_plain.specs.sg_seat.declared.mark.MarkKind.TheVariants.{Leave}

@@ -4,7 +4,7 @@ use Rattle.std.specs.List.{list_all}
 use Rattle.sg_plain.specs.sg_hist.Reading.{items_of}
 use Rattle.sg_plain.specs.Playing.Callers.{is_setting_up}
 use Rattle.sg_plain.specs.sg_hist.Ending.{client_of}
-use Rattle.sg_plain.specs.Promises.{is_setup_first}
+use Rattle.sg_plain.specs.Inside.Kept.{is_setup_first}
 use Rattle.sg_plain.specs.sg_script.declared.script.Script.{Script}
 use Rattle.sg_plain.specs.sg_seat.WorldView.{WorldView}
 

@@ -4,7 +4,7 @@ use Rattle.std.specs.declared.option.Option.{Option}
 use Rattle.sg_facts.specs.sg_base.declared.call.Call.{Call}
 use Rattle.sg_facts.specs.Facts.{Facts}
 use Rattle.sg_plain.specs.sg_hist.Clients.{calls_of}
-use Rattle.sg_plain.specs.sg_hist.Reading.{desc_of}
+use Rattle.sg_plain.specs.sg_hist.Inside.Reads.{desc_of}
 use Rattle.sg_plain.specs.Calls.{call_after, script_calls}
 use Rattle.sg_plain.specs.Playing.Turns.{is_free_phase}
 use Rattle.sg_plain.specs.sg_script.declared.script.Script.{Script}

@@ -1,7 +1,7 @@
 // What a client does in its turn: it offers its next call, makes a step, and leaves after its last call.
 ghost use Rattle.std.specs.Prelude.{◌≡◌, ◌⊎◌, ◌≤◌, ℕ, List, true, None, IfOk, OnOk, OnErr, length};
 ghost use Rattle.sg_world.specs.sg_clients.Clients.{IsClient};
-ghost use Rattle.sg_plain.specs.sg_hist.Reading.{desc_of};
+ghost use Rattle.sg_plain.specs.sg_hist.Inside.Reads.{desc_of};
 ghost use Rattle.sg_plain.specs.Playing.Callers.{is_setting_up};
 ghost use Rattle.sg_plain.specs.Playing.Given.{given_in, with_handed};
 ghost use Rattle.sg_plain.specs.Playing.Playable.{AreClients};

@@ -4,7 +4,7 @@ use Rattle.std.specs.Prelude.{All, ◌==◌}
 use Rattle.std.specs.List.{flat_map}
 use Rattle.std.specs.Option.{option_map}
 use Rattle.std.proofs.lemmas.List.Elements.{All-head, All-tail, All-cons}
-use Rattle.sg_parse.specs.sg_lex.Lexeme.{Lexeme}
+use Rattle.sg_parse.specs.sg_lex.Lexeme.{Lexeme, Spelling as Named}
 use Rattle.sg_parse.specs.declared.tree.Facts.{Facts}
 use Rattle.sg_parse.specs.declared.tree.Statement.{Statement}
 use Rattle.sg_parse.specs.declared.tree.Statement.TheVariants.{One, Two, Proto}
@@ -15,11 +15,11 @@ use Rattle.sg_parse.specs.declared.tree.Param.{Param}
 use Rattle.sg_parse.specs.declared.tree.Tree.{Tree}
 use Rattle.sg_parse.specs.declared.words.Sort.{Sort}
 use Rattle.sg_parse.specs.declared.words.Sort.TheVariants.{Name, One as one_word, Two as two_word, Form, Parents, Closing, Flag}
-use Rattle.sg_parse.specs.Grammar.Named.{Named}
 use Rattle.sg_parse.specs.Grammar.Words.{is_of}
 use Rattle.sg_parse.specs.Grammar.Pieces.{Piece, word, mark, name, two, kept, newer, seen, IsPiece}
 use Rattle.sg_parse.specs.sg_lex.Sentences.{ArePieces}
-use Rattle.sg_parse.specs.Grammar.Sentence.{open_brace, equals, open_bracket, close_bracket, comma, semicolon, star, fact_pieces, last_pieces, recovery_word, type_pieces, form_pieces, param_pieces, more_params, params_pieces, returned_pieces, ret_pieces, statement_pieces, tree_pieces, IsType, IsRet, IsStatement, IsHead, IsWellFormed}
+use Rattle.sg_parse.specs.Grammar.Sentence.{recovery_word, type_pieces, param_pieces, ret_pieces, statement_pieces, tree_pieces, IsStatement}
+use Rattle.sg_parse.specs.Grammar.Inside.Forms.{open_brace, equals, open_bracket, close_bracket, comma, semicolon, star, fact_pieces, last_pieces, form_pieces, more_params, params_pieces, returned_pieces, IsType, IsRet, IsHead, IsWellFormed}
 use Rattle.sg_parse.specs.Grammar.Plain.{plain_name, plain_type, plain_param, plain_ret, plain_statement, plain_facts, plain}
 use Rattle.sg_print.proofs.Heads.{shared_pieces, end_by, behind_brace}
 use Rattle.sg_print.proofs.Leads.{AreLike, IsLike}
@@ -51,8 +51,8 @@ fixed_back p is more (t ∷ ts) l = record { behind = ts; left = l.1; back = λ 
 word_back : (w : List ℕ) (more : List Piece) (tokens : List Lexeme) → AreLike tokens (word w ∷ more) → Past (word w ∷ []) tokens more
 word_back w more tokens l = fixed_back (word w) (λ token h. h) more tokens l
 
-mark_back : (m : ℕ) (more : List Piece) (tokens : List Lexeme) → AreLike tokens (mark m ∷ more) → Past (mark m ∷ []) tokens more
-mark_back m more tokens l = fixed_back (mark m) (λ token h. h) more tokens l
+mark_back : (m : ℕ) (more : List Piece) (tokens : List Lexeme) → AreLike tokens (mark (m ∷ []) ∷ more) → Past (mark (m ∷ []) ∷ []) tokens more
+mark_back m more tokens l = fixed_back (mark (m ∷ [])) (λ token h. h) more tokens l
 
 stars_back : (k : ℕ) (more : List Piece) (tokens : List Lexeme) → AreLike tokens (replicate k star ++ more) → Past (replicate k star) tokens more
 stars_back zero more tokens l = record { behind = tokens; left = l; back = λ ps h. h }
@@ -383,22 +383,22 @@ record AgainFact (what : List ℕ) (sort : Sort) (end : ℕ) (value : Named) (to
   again : Named
   behind : List Lexeme
   left : AreLike behind more
-  back : (ps : List Piece) → ArePieces IsPiece behind ps → ArePieces IsPiece tokens (fact_pieces what sort again (mark end) ps)
+  back : (ps : List Piece) → ArePieces IsPiece behind ps → ArePieces IsPiece tokens (fact_pieces what sort again (mark (end ∷ [])) ps)
   same : plain_name again ≡ plain_name value
 
 fact_back : (what : List ℕ) (sort : Sort) (end : ℕ) (value : Named) (more : List Piece) (tokens : List Lexeme)
-    → AreLike tokens (fact_pieces what sort value (mark end) more) → AgainFact what sort end value tokens more
+    → AreLike tokens (fact_pieces what sort value (mark (end ∷ [])) more) → AgainFact what sort end value tokens more
 fact_back what sort end value more tokens l =
-    let w = word_back what (equals ∷ name sort value ∷ mark end ∷ more) tokens l in
-    let q = mark_back 0x3D (name sort value ∷ mark end ∷ more) w.behind w.left in
-    let v = name_back sort value (mark end ∷ more) q.behind q.left in
+    let w = word_back what (equals ∷ name sort value ∷ mark (end ∷ []) ∷ more) tokens l in
+    let q = mark_back 0x3D (name sort value ∷ mark (end ∷ []) ∷ more) w.behind w.left in
+    let v = name_back sort value (mark (end ∷ []) ∷ more) q.behind q.left in
     let e = mark_back end more v.behind v.left in
     record {
       again = v.again;
       behind = e.behind;
       left = e.left;
-      back = λ ps h. w.back (equals ∷ name sort v.again ∷ mark end ∷ ps) (q.back (name sort v.again ∷ mark end ∷ ps)
-          (v.back (mark end ∷ ps) (e.back ps h)));
+      back = λ ps h. w.back (equals ∷ name sort v.again ∷ mark (end ∷ []) ∷ ps) (q.back (name sort v.again ∷ mark (end ∷ []) ∷ ps)
+          (v.back (mark (end ∷ []) ∷ ps) (e.back ps h)));
       same = v.same;
     }
 

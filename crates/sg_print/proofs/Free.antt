@@ -13,10 +13,11 @@ use Rattle.sg_parse.specs.declared.tree.TypeName.{TypeName}
 use Rattle.sg_parse.specs.declared.tree.Param.{Param}
 use Rattle.sg_parse.specs.declared.words.Sort.{Sort}
 use Rattle.sg_parse.specs.declared.words.Sort.TheVariants.{Name, One as one_word, Two as two_word, Form, Parents, Closing, Flag}
-use Rattle.sg_parse.specs.Grammar.Named.{Named}
+use Rattle.sg_parse.specs.sg_lex.Lexeme.{Spelling as Named}
 use Rattle.sg_parse.specs.Grammar.Words.{is_of}
 use Rattle.sg_parse.specs.Grammar.Pieces.{Piece, word, mark, name, two, kept, newer, kept_word}
-use Rattle.sg_parse.specs.Grammar.Sentence.{comma, close_bracket, equals, semicolon, star, fact_pieces, end_pieces, last_pieces, type_pieces, form_pieces, param_pieces, more_params, params_pieces, returned_pieces, ret_pieces, statement_pieces}
+use Rattle.sg_parse.specs.Grammar.Sentence.{type_pieces, param_pieces, ret_pieces, statement_pieces}
+use Rattle.sg_parse.specs.Grammar.Inside.Forms.{comma, close_bracket, equals, semicolon, star, fact_pieces, end_pieces, last_pieces, form_pieces, more_params, params_pieces, returned_pieces}
 use Rattle.sg_parse.specs.Grammar.Upgraded.{IsFreeName, IsFreeType, IsFreeParam, IsFreeRet, IsFreeStatement}
 use Rattle.sg_parse.proofs.Grammar.Basics.{same_bytes}
 use Rattle.sg_print.proofs.Heads.{shared_pieces}

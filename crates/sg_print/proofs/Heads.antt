@@ -2,7 +2,8 @@
 use Rattle.std.proofs.Common.{Bool, if◌then◌else◌, List, ◌∷◌, map, codes}
 use Rattle.sg_parse.specs.declared.tree.Facts.{Facts}
 use Rattle.sg_parse.specs.Grammar.Pieces.{Piece, word, two, newer}
-use Rattle.sg_parse.specs.Grammar.Sentence.{comma, equals, head_pieces, last_pieces, recovery_word}
+use Rattle.sg_parse.specs.Grammar.Sentence.{recovery_word}
+use Rattle.sg_parse.specs.Grammar.Inside.Forms.{comma, equals, head_pieces, last_pieces}
 
 -- the facts that texts of both versions have, and what follows them
 abbrev pub shared_pieces : Facts → List Piece → List Piece

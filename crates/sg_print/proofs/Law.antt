@@ -9,14 +9,17 @@ use Rattle.sg_parse.specs.sg_lex.declared.token.TokenKind.TheVariants.{Word, Num
 use Rattle.sg_parse.specs.sg_lex.Lexeme.{Lexeme}
 use Rattle.sg_parse.specs.sg_lex.Table.{IsToken}
 use Rattle.sg_parse.specs.sg_lex.Tokens.{Answer, answers_of}
-use Rattle.sg_parse.specs.sg_lex.Sentences.{Accepts, answered, ArePieces}
+use Rattle.sg_parse.specs.sg_lex.Sentences.{ArePieces}
+use Rattle.sg_parse.specs.sg_lex.Inside.Ahead.{answered}
 use Rattle.sg_parse.specs.sg_lex.Reading.{IsReading, ends, passes, gives, faults}
 use Rattle.sg_parse.proofs.sg_lex.Readings.{reads}
+use Rattle.sg_parse.proofs.sg_lex.Answers.{Accepts}
 use Rattle.sg_parse.specs.declared.tree.Tree.{Tree}
-use Rattle.sg_parse.specs.Grammar.Pieces.{Piece, word, mark, name, two, kept, newer, kept_word, kind_seen, seen, turned, IsPiece}
-use Rattle.sg_parse.specs.Grammar.Sentence.{of_version, end_pieces, last_pieces, statement_pieces, tree_pieces, IsHead, IsSentence, IsWellFormed}
+use Rattle.sg_parse.specs.Grammar.Pieces.{Piece, word, mark, name, two, kept, newer, kept_word, seen, IsPiece}
+use Rattle.sg_parse.specs.Inside.{kind_seen, turned, token_seen}
+use Rattle.sg_parse.specs.Grammar.Sentence.{statement_pieces, tree_pieces, IsSentence}
+use Rattle.sg_parse.specs.Grammar.Inside.Forms.{of_version, end_pieces, last_pieces, IsHead, IsWellFormed}
 use Rattle.sg_parse.specs.Grammar.Upgraded.{IsFree, upgraded}
-use Rattle.sg_parse.specs.Inside.{token_seen}
 use Rattle.sg_parse.proofs.Grammar.Basics.{not_both, same_bytes, seen_back}
 use Rattle.sg_print.specs.Printed.{printed}
 use Rattle.sg_print.specs.PrintsBack.{PrintsBack}
@@ -104,7 +107,7 @@ proper (t ∷ ts) [] h l = absurd l
 proper (t ∷ ts) (p ∷ ps) h l = (piece_proper false t p h.0 l.0, proper ts ps h.1 l.1)
 
 tree_proper : (text : List ℕ) (tree : Tree) → Accepts Tree IsSentence (answers_of text) tree → AreProper false (tree_pieces tree)
-tree_proper text tree a = proper a.tokens (tree_pieces tree) (tokens_are (reads text) a.tokens a.all) a.sentence.pieces
+tree_proper text tree a = proper a.0 (tree_pieces tree) (tokens_are (reads text) a.0 a.1) a.2.pieces
 
 -- ---- the law
 
@@ -114,11 +117,7 @@ proper_back tree ok h =
     let back : AgainTree tree (led.tokens 0) = tree_back tree (led.tokens 0) (plain_like (led.tokens 0) (tree_pieces tree) (led.like 0)) in
     record {
       again = back.again;
-      parses = record {
-        tokens = led.tokens 0;
-        all = led.answers 0;
-        sentence = record { pieces = back.pieces; well_formed = back.kept ok };
-      };
+      parses = (led.tokens 0, led.answers 0, record { pieces = back.pieces; well_formed = back.kept ok });
       same = back.same;
     }
   where
@@ -129,12 +128,12 @@ proper_back tree ok h =
     plain_like (t ∷ ts) (p ∷ ps) l = (l.0, plain_like ts ps l.1)
 
 pub prints_back : (text : List ℕ) (tree : Tree) → Accepts Tree IsSentence (answers_of text) tree → PrintsBack tree
-prints_back text tree a = proper_back tree a.sentence.well_formed (tree_proper text tree a)
+prints_back text tree a = proper_back tree a.2.well_formed (tree_proper text tree a)
 
 -- ---- as a text of version 2
 
 pub upgrades_back : (text : List ℕ) (tree : Tree) → Accepts Tree IsSentence (answers_of text) tree → IsFree tree → PrintsBack (upgraded tree)
-upgrades_back text tree a free = by a.sentence.well_formed.0
+upgrades_back text tree a free = by a.2.well_formed.0
   where
     by : IsHead tree.facts → PrintsBack (upgraded tree)
     by (inl first) =
@@ -143,7 +142,7 @@ upgrades_back text tree a free = by a.sentence.well_formed.0
         let more = flat_map statement_pieces tree.statements in
         let h : AreProper false (ps (last_pieces more))
         = subst (λ n. AreProper false (of_version n (ps (end_pieces (record q { version = n }) more)))) first.0 (tree_proper text tree a).1.1.1 in
-        proper_back (upgraded tree) (inr refl, a.sentence.well_formed.1)
+        proper_back (upgraded tree) (inr refl, a.2.well_formed.1)
         (tt, (tt, (tt, (tt, (tt, (tt, (tt, newer_proper (ps (end_pieces (record q { version = 2 }) more)) (upgraded_head q more free.0 (statements_free tree.statements free.1) h))))))))
     by (inr second) =
         subst PrintsBack (ap (λ n. let t : Tree = record { facts = record tree.facts { version = n }; statements = tree.statements } in t) second) (prints_back text tree a)

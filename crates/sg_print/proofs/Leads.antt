@@ -6,16 +6,15 @@ use Rattle.std.proofs.lemmas.List.{drop_at, take_at}
 use Rattle.sg_parse.specs.sg_lex.declared.token.TokenKind.{TokenKind}
 use Rattle.sg_parse.specs.sg_lex.declared.token.TokenKind.TheVariants.{Word, Number, Mark}
 use Rattle.sg_parse.specs.sg_lex.declared.front.Front.TheVariants.{Token}
-use Rattle.sg_parse.specs.sg_lex.Lexeme.{Lexeme}
-use Rattle.sg_parse.specs.sg_lex.Bytes.{is_blank, is_in_word, is_mark}
-use Rattle.sg_parse.specs.sg_lex.Table.{IsWord}
+use Rattle.sg_parse.specs.sg_lex.Lexeme.{Lexeme, Spelling as Named}
+use Rattle.sg_parse.specs.sg_lex.Bytes.{is_in_word}
+use Rattle.sg_parse.specs.sg_lex.Table.{is_blank, is_mark, IsWord}
 use Rattle.sg_parse.specs.sg_lex.Fronts.{front_of}
 use Rattle.sg_parse.specs.sg_lex.Tokens.{later_answers}
 use Rattle.sg_parse.proofs.sg_lex.Steps.{answers_after, answers_step}
 use Rattle.sg_parse.proofs.sg_lex.Forward.{front_word, front_number, front_mark, front_blank}
 use Rattle.sg_parse.proofs.sg_lex.Runs.{all_exact, all_whole}
 use Rattle.sg_parse.specs.declared.words.Sort.{Sort}
-use Rattle.sg_parse.specs.Grammar.Named.{Named}
 use Rattle.sg_parse.specs.Grammar.Words.{is_of}
 use Rattle.sg_parse.specs.Grammar.Pieces.{Piece, word, mark, name, two, kept, newer, are_two, kept_word, seen}
 use Rattle.sg_parse.specs.Inside.{token_seen}
@@ -23,7 +22,7 @@ use Rattle.sg_parse.specs.Inside.{token_seen}
 -- a token is such a piece, but for its place
 abbrev pub IsLike : Lexeme → Piece → Type 0
 IsLike token (word bytes) = (token.kind ≡ Word) × (token.bytes ≡ bytes)
-IsLike token (mark byte) = (token.kind ≡ Mark) × (token.bytes ≡ byte ∷ [])
+IsLike token (mark bytes) = (token.kind ≡ Mark) × (token.bytes ≡ bytes)
 IsLike token (name sort n) = (token.kind ≡ Word) × (token.bytes ≡ n.bytes) × (is_of sort n.bytes ≡ true)
 IsLike token two = (token.kind ≡ Number) × (are_two token.bytes ≡ true)
 IsLike token kept = (token.kind ≡ Mark) × (token.bytes ≡ kept_word)
@@ -72,7 +71,7 @@ token_leads kind w rest piece pieces front l k = record {
 }
 
 -- a mark is the same in texts of both versions
-mark_like : (b : Bool) (m at : ℕ) → IsLike (token_seen b (record { kind = Mark; bytes = m ∷ []; at = at })) (mark m)
+mark_like : (b : Bool) (m at : ℕ) → IsLike (token_seen b (record { kind = Mark; bytes = m ∷ []; at = at })) (mark (m ∷ []))
 mark_like false m at = (refl, refl)
 mark_like true m at = (longer (nat_eq m 0x64), refl)
   where
@@ -80,8 +79,8 @@ mark_like true m at = (longer (nat_eq m 0x64), refl)
     longer true = refl
     longer false = refl
 
-pub mark_leads : {b : Bool} (m : ℕ) (rest : List ℕ) (pieces : List Piece) → is_mark m ≡ true → Leads b rest pieces → Leads b (m ∷ rest) (mark m ∷ pieces)
-mark_leads {b = b} m rest pieces e k = token_leads Mark (m ∷ []) rest (mark m) pieces (front_mark m rest e) (mark_like b m) k
+pub mark_leads : {b : Bool} (m : ℕ) (rest : List ℕ) (pieces : List Piece) → is_mark m ≡ true → Leads b rest pieces → Leads b (m ∷ rest) (mark (m ∷ []) ∷ pieces)
+mark_leads {b = b} m rest pieces e k = token_leads Mark (m ∷ []) rest (mark (m ∷ [])) pieces (front_mark m rest e) (mark_like b m) k
 
 -- the front of a text that begins with a word which goes no further
 word_first : (w rest : List ℕ) → IsWord w → Stops rest → front_of (w ++ rest) ≡ Token Word (length w)

@@ -1,7 +1,7 @@
 -- Numbers of functions one after the other, and lists of parts.
 use Rattle.std.proofs.Common.{◌≡◌, ℕ, zero, suc, ◌+◌, ◌-◌, ◌/◌, ◌%◌, ◌<◌, ◌≤◌, Bool, true, false, List, [], ◌∷◌, ◌++◌, length, map, drop, get_or, Bor, refl, sym, ◌∙◌, ap, inl, inr, arith, append-nil, append_assoc, codes}
 use Rattle.std.specs.Prelude.{◌==◌, if◌then◌else◌}
-use Rattle.std.specs.List.{flat_map}
+use Rattle.std.specs.List.{flat_map, range_with_len}
 use Rattle.std.proofs.lemmas.Bool.Decides.{eqb_tells}
 use Rattle.std.proofs.lemmas.Grind.{flat_map-append}
 use Rattle.std.proofs.lemmas.List.Folds.{flat_map-map}
@@ -10,31 +10,32 @@ use Rattle.sg_facts.specs.declared.shape.Effect.{Effect}
 use Rattle.sg_facts.specs.declared.shape.FieldShape.{FieldShape}
 use Rattle.sg_facts.specs.declared.shape.FunShape.{FunShape}
 use Rattle.sg_facts.specs.Facts.{Field, fun_of_shape}
-use Rattle.sg_print.specs.TablesText.{effect_piece, effects_text, numbers, fun_numbers_from, set_names, set_word}
+use Rattle.sg_print.specs.TablesText.{numbers, set_names, effects_text, set_word}
+use Rattle.sg_print.specs.Inside.Pieces.{effect_piece}
 
-numbers_last : (n k : ℕ) → fun_numbers_from n (suc k) ≡ fun_numbers_from n k ++ (n + k) ∷ []
+numbers_last : (n k : ℕ) → range_with_len n (suc k) ≡ range_with_len n k ++ (n + k) ∷ []
 numbers_last n zero = let none : n ≡ n + 0 = omega arith in ap (λ m. m ∷ []) none
-numbers_last n (suc k) = let next : (n + 1) + k ≡ n + suc k = omega arith in ap (λ l. n ∷ l) (numbers_last (n + 1) k) ∙ ap (λ m. n ∷ fun_numbers_from (n + 1) k ++ m ∷ []) next
+numbers_last n (suc k) = let next : (n + 1) + k ≡ n + suc k = omega arith in ap (λ l. n ∷ l) (numbers_last (n + 1) k) ∙ ap (λ m. n ∷ range_with_len (n + 1) k ++ m ∷ []) next
 
 module _ (part : ℕ → List ℕ) (initial : List ℕ) where
   -- the parts of the first numbers stand after what was there
   abbrev pub Stands : List ℕ → ℕ → Type 0
-  Stands out n = out ≡ initial ++ flat_map part (fun_numbers_from 1 (n - 1))
+  Stands out n = out ≡ initial ++ flat_map part (range_with_len 1 (n - 1))
 
   -- one part more
   pub one_more : (old new : List ℕ) (n : ℕ) → 1 ≤ n → Stands old n → new ≡ old ++ part n → Stands new (n + 1)
   one_more old new n least stands more =
       let count : (n + 1) - 1 ≡ suc (n - 1) = omega arith in
       let here : 1 + (n - 1) ≡ n = omega arith in
-      let longer : flat_map part (fun_numbers_from 1 ((n + 1) - 1)) ≡ flat_map part (fun_numbers_from 1 (n - 1)) ++ part n =
-      ap (λ k. flat_map part (fun_numbers_from 1 k)) count ∙ ap (flat_map part) (numbers_last 1 (n - 1)) ∙ flat_map-append part (fun_numbers_from 1 (n - 1)) ((1 + (n - 1)) ∷ [])
-      ∙ ap (λ m. flat_map part (fun_numbers_from 1 (n - 1)) ++ (part m ++ [])) here ∙ ap (λ l. flat_map part (fun_numbers_from 1 (n - 1)) ++ l) (append-nil (part n)) in
-      more ∙ ap (λ l. l ++ part n) stands ∙ append_assoc initial (flat_map part (fun_numbers_from 1 (n - 1))) (part n) ∙ ap (λ l. initial ++ l) (sym longer)
+      let longer : flat_map part (range_with_len 1 ((n + 1) - 1)) ≡ flat_map part (range_with_len 1 (n - 1)) ++ part n =
+      ap (λ k. flat_map part (range_with_len 1 k)) count ∙ ap (flat_map part) (numbers_last 1 (n - 1)) ∙ flat_map-append part (range_with_len 1 (n - 1)) ((1 + (n - 1)) ∷ [])
+      ∙ ap (λ m. flat_map part (range_with_len 1 (n - 1)) ++ (part m ++ [])) here ∙ ap (λ l. flat_map part (range_with_len 1 (n - 1)) ++ l) (append-nil (part n)) in
+      more ∙ ap (λ l. l ++ part n) stands ∙ append_assoc initial (flat_map part (range_with_len 1 (n - 1))) (part n) ∙ ap (λ l. initial ++ l) (sym longer)
 
   -- all parts
   pub all_stand : (out : List ℕ) (n : ℕ) → n ≡ 33 → Stands out n → out ≡ initial ++ flat_map part numbers
   unfolding numbers
-  all_stand out n end stands = stands ∙ ap (λ k. initial ++ flat_map part (fun_numbers_from 1 (k - 1))) end
+  all_stand out n end stands = stands ∙ ap (λ k. initial ++ flat_map part (range_with_len 1 (k - 1))) end
 
 -- a part that is there where a test passes
 pub there : (b : Bool) (line : List ℕ) → b ≡ true → line ≡ (if b then line else [])

@@ -10,9 +10,10 @@ use Rattle.sg_parse.specs.declared.tree.Ret.TheVariants.{Plain, Set, Add, Sub}
 use Rattle.sg_parse.specs.declared.tree.TypeName.{TypeName}
 use Rattle.sg_parse.specs.declared.tree.Param.{Param}
 use Rattle.sg_parse.specs.declared.tree.Tree.{Tree}
-use Rattle.sg_parse.specs.Grammar.Named.{Named}
+use Rattle.sg_parse.specs.sg_lex.Lexeme.{Spelling as Named}
 use Rattle.sg_parse.specs.Grammar.Plain.{plain_name, plain_type, plain_param, plain_ret, plain_statement, plain}
-use Rattle.sg_print.specs.Printed.{names_text, stars_text, type_text, type_before_comma, form_text, param_text, params_text, returned_text, ret_text, statement_text, facts_text, shared_text, printed}
+use Rattle.sg_print.specs.Printed.{type_text, ret_text, statement_text, shared_text, printed, form_text, param_text, returned_text}
+use Rattle.sg_print.specs.Inside.Pieces.{names_text, stars_text, type_before_comma, params_text, facts_text}
 
 -- a list of parts has one text where each part has
 same_flat : {X : Type 0} (text : X → List ℕ) (change : X → X) → ((x : X) → text (change x) ≡ text x) → (xs : List X)

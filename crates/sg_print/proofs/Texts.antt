@@ -13,10 +13,12 @@ use Rattle.sg_parse.specs.declared.tree.TypeName.{TypeName}
 use Rattle.sg_parse.specs.declared.tree.Param.{Param}
 use Rattle.sg_parse.specs.declared.tree.Tree.{Tree}
 use Rattle.sg_parse.specs.declared.words.Sort.TheVariants.{Name, One as one_word, Two as two_word, Form, Parents, Closing, Flag}
-use Rattle.sg_parse.specs.Grammar.Named.{Named}
+use Rattle.sg_parse.specs.sg_lex.Lexeme.{Spelling as Named}
 use Rattle.sg_parse.specs.Grammar.Pieces.{Piece, word, mark, name, two, kept, kept_word}
-use Rattle.sg_parse.specs.Grammar.Sentence.{open_brace, equals, open_bracket, close_bracket, comma, semicolon, star, type_pieces, form_pieces, param_pieces, more_params, params_pieces, returned_pieces, ret_pieces, statement_pieces, last_pieces, recovery_word, tree_pieces, IsType, IsRet, IsStatement, IsWellFormed}
-use Rattle.sg_print.specs.Printed.{names_text, stars_text, type_text, type_before_comma, form_text, param_text, params_text, returned_text, ret_text, statement_text, shared_text, printed}
+use Rattle.sg_parse.specs.Grammar.Sentence.{type_pieces, param_pieces, ret_pieces, statement_pieces, recovery_word, tree_pieces, IsStatement}
+use Rattle.sg_parse.specs.Grammar.Inside.Forms.{open_brace, equals, open_bracket, close_bracket, comma, semicolon, star, form_pieces, more_params, params_pieces, returned_pieces, last_pieces, IsType, IsRet, IsWellFormed}
+use Rattle.sg_print.specs.Printed.{type_text, ret_text, statement_text, shared_text, printed, form_text, param_text, returned_text}
+use Rattle.sg_print.specs.Inside.Pieces.{names_text, stars_text, type_before_comma, params_text}
 use Rattle.sg_facts.specs.Words.{line_end as line_feed}
 use Rattle.sg_print.proofs.Heads.{shared_pieces, end_by, behind_brace}
 use Rattle.sg_print.proofs.Leads.{Leads, Stops, IsFixed, end_leads, blank_leads, mark_leads, fixed_leads, name_leads, kept_leads, two_leads, newer_leads, AreProper, proper_left, proper_right, proper_newer}
@@ -181,7 +183,7 @@ statements_lead {b = b} (s ∷ ss) ok h =
 
 -- four spaces, the word of a fact, ` = `, its value, and what follows
 fact_leads : {b : Bool} (what : List ℕ) (value : Piece) (rest : List ℕ) (pieces : List Piece) → IsFixed what → Leads b rest (value ∷ pieces)
-    → Leads b (0x20 ∷ 0x20 ∷ 0x20 ∷ 0x20 ∷ (what ++ 0x20 ∷ 0x3D ∷ 0x20 ∷ rest)) (word what ∷ mark 0x3D ∷ value ∷ pieces)
+    → Leads b (0x20 ∷ 0x20 ∷ 0x20 ∷ 0x20 ∷ (what ++ 0x20 ∷ 0x3D ∷ 0x20 ∷ rest)) (word what ∷ mark (codes "=") ∷ value ∷ pieces)
 fact_leads what value rest pieces w k =
     blank_leads 0x20 _ _ refl (blank_leads 0x20 _ _ refl (blank_leads 0x20 _ _ refl (blank_leads 0x20 _ _ refl
     (fixed_leads what _ _ w refl (blank_leads 0x20 _ _ refl (mark_leads 0x3D _ _ refl (blank_leads 0x20 _ _ refl k)))))))

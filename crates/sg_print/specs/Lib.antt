@@ -1,3 +1,4 @@
+pub mod Inside
 pub mod Printed
 pub mod PrintsBack
 pub mod TablesText

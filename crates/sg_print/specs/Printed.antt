@@ -1,5 +1,5 @@
 -- The canonical text of a tree.
-use Rattle.std.specs.Prelude.{ℕ, Bool, ◌==◌, if◌then◌else◌, List, [], ◌∷◌, ◌++◌, None, Some, codes, replicate}
+use Rattle.std.specs.Prelude.{ℕ, ◌==◌, if◌then◌else◌, List, [], ◌∷◌, ◌++◌, None, Some, codes, replicate}
 use Rattle.std.specs.List.{concat, flat_map, join_by}
 use Rattle.std.specs.declared.option.Option.{Option}
 use Rattle.sg_parse.specs.declared.tree.Facts.{Facts}
@@ -10,25 +10,13 @@ use Rattle.sg_parse.specs.declared.tree.Ret.TheVariants.{Plain, Set, Add, Sub}
 use Rattle.sg_parse.specs.declared.tree.TypeName.{TypeName}
 use Rattle.sg_parse.specs.declared.tree.Param.{Param}
 use Rattle.sg_parse.specs.declared.tree.Tree.{Tree}
-use Rattle.sg_parse.specs.Grammar.Named.{Named}
+use Rattle.sg_parse.specs.sg_lex.Lexeme.{Spelling as Named}
 use Rattle.sg_parse.specs.Grammar.Sentence.{recovery_word}
 use Rattle.sg_facts.specs.Words.{line_end}
 
--- names, with a space between two
-abbrev pub names_text : List Named → List ℕ
-names_text names = join_by (λ n. n.bytes) (codes " ") names
-
--- a space, and then stars
-abbrev pub stars_text : ℕ → List ℕ
-stars_text n = 0x20 ∷ replicate n 0x2A
-
 -- a type before a name or a form: a space stands after its names, and its stars directly before what follows
 abbrev pub type_text : TypeName → List ℕ
-type_text ty = names_text ty.names ++ stars_text ty.stars
-
--- a type before a comma: no space stands after its names where it has no stars
-abbrev pub type_before_comma : TypeName → List ℕ
-type_before_comma ty = names_text ty.names ++ (if ty.stars == 0 then [] else stars_text ty.stars)
+type_text ty = join_by (λ n. n.bytes) (codes " ") ty.names ++ 0x20 ∷ replicate ty.stars 0x2A
 
 -- a name, in the brackets of its form where it has one
 abbrev pub form_text : Option Named → Named → List ℕ
@@ -39,13 +27,12 @@ form_text (Some form) n = concat (form.bytes ∷ codes "(" ∷ n.bytes ∷ codes
 abbrev pub param_text : Param → List ℕ
 param_text p = type_text p.ty ++ form_text p.form p.name
 
--- parameters, with a comma and a space between two
-abbrev pub params_text : List Param → List ℕ
-params_text params = join_by param_text (codes ", ") params
-
--- what becomes of a returned word, with its type and its field; a space stands after it
+-- what becomes of a returned word, with its type and its field, and a space after it: none stands after the names of a type without
+-- stars
 abbrev pub returned_text : List ℕ → TypeName → Named → List ℕ
-returned_text what ty field = concat (what ∷ codes "(" ∷ type_before_comma ty ∷ codes ", " ∷ field.bytes ∷ codes ") " ∷ [])
+returned_text what ty field =
+    let type_before_comma = join_by (λ n. n.bytes) (codes " ") ty.names ++ (if ty.stars == 0 then [] else 0x20 ∷ replicate ty.stars 0x2A) in
+    concat (what ∷ codes "(" ∷ type_before_comma ∷ codes ", " ∷ field.bytes ∷ codes ") " ∷ [])
 
 -- what stands before a prototype's name: a type, or what becomes of the returned word
 abbrev pub ret_text : Ret → List ℕ
@@ -60,16 +47,7 @@ statement_text (One word fun) = concat (word.bytes ∷ codes "(" ∷ fun.bytes �
 statement_text (Two word first second) =
     concat (word.bytes ∷ codes "(" ∷ first.bytes ∷ codes ", " ∷ second.bytes ∷ codes ");" ∷ line_end ∷ [])
 statement_text (Proto ret n params) =
-    concat (ret_text ret ∷ n.bytes ∷ codes "(" ∷ params_text params ∷ codes ");" ∷ line_end ∷ [])
-
--- the line of the version, which a text of version 2 has
-abbrev pub version_line : ℕ → List ℕ
-version_line version = if version == 2 then codes "    version = 2," ++ line_end else []
-
--- after the last fact that texts of both versions have, one of version 2 says when descriptors are rebuilt
-abbrev pub recovery_text : (version : ℕ) (eager : Bool) → List ℕ
-recovery_text version eager =
-    if version == 2 then codes "," ++ (line_end ++ (codes "    desc_recover = " ++ recovery_word eager)) else []
+    concat (ret_text ret ∷ n.bytes ∷ codes "(" ∷ join_by param_text (codes ", ") params ∷ codes ");" ∷ line_end ∷ [])
 
 -- the facts that texts of both versions have, up to the value of the last: each stands after four spaces
 unfoldable pub shared_text : Facts → List ℕ
@@ -82,12 +60,12 @@ shared_text f = concat (
     ∷ codes "    desc_has_data = " ∷ f.has_data.bytes ∷ codes "," ∷ line_end
     ∷ codes "    resc_has_data = " ∷ f.resc_data.bytes ∷ [])
 
--- the lines of the facts
-abbrev pub facts_text : Facts → List ℕ
-facts_text f = concat (
-    codes "service_global_info = {" ∷ line_end ∷ version_line f.version ∷ shared_text f ∷ recovery_text f.version f.eager ∷ line_end
-    ∷ codes "};" ∷ line_end ∷ [])
-
--- the facts, and then each statement on a line of its own, in order
+-- the facts, of which a text of version 2 has the version first, and says last when descriptors are rebuilt; and then each statement on a
+-- line of its own, in order
 abbrev pub printed : Tree → List ℕ
-printed tree = facts_text tree.facts ++ flat_map statement_text tree.statements
+printed tree =
+    concat (
+    codes "service_global_info = {" ∷ line_end ∷ (if tree.facts.version == 2 then codes "    version = 2," ++ line_end else []) ∷ shared_text tree.facts
+    ∷ (if tree.facts.version == 2 then codes "," ++ (line_end ++ (codes "    desc_recover = " ++ recovery_word tree.facts.eager)) else [])
+    ∷ line_end ∷ codes "};" ∷ line_end ∷ [])
+    ++ flat_map statement_text tree.statements

@@ -2,60 +2,53 @@
 ghost use Rattle.std.specs.Prelude.{◌≡◌, ◌++◌, ◌+◌, ◌<◌, ◌^◌, length, map, OnOk};
 ghost use Rattle.std.specs.Fmt.{decimal};
 ghost use Rattle.sg_facts.specs.Facts.{facts_of, fun_at, fun_of_shape};
-ghost use Rattle.sg_print.specs.TablesText.{called_text, effect_piece, effect_word, effects_text, flag_piece, flag_pieces, fun_line, kind_word, kinds_text, left_text, param_number, state_word};
+ghost use Rattle.sg_print.specs.TablesText.{effect_word, fun_line, param_number, effects_text, flag_pieces, state_word, kind_word};
+ghost use Rattle.sg_print.specs.Inside.Pieces.{called_text, effect_piece, flag_piece, kinds_text, left_text};
 
 use crate::parts::put;
+use itoa::Buffer;
 use sg_facts::{Bytes, Effect, FieldShape, FunShape, Kind, Leaves, NoMemory, Shape, field_name};
-use std::alloc::Global;
 
 /// Adds the line of the function of a number.
-pub fn put_fun(out: &mut Bytes, alloc: Global, shape: &Shape, number: u8) -> Result<(), NoMemory>
+pub fn put_fun(out: &mut Bytes, shape: &Shape, number: u8) -> Result<(), NoMemory>
     ensures { let facts = facts_of shape.now in OnOk result (out.new ≡ out.old ++ fun_line facts number (fun_at facts.funs number)) }
 {
-    put_fun_line(out, alloc, shape, number, &shape.fun(number))
+    put_fun_line(out, shape, number, &shape.fun(number))
 }
 
 // Adds the line of a function with its number.
-fn put_fun_line(
-    out: &mut Bytes,
-    alloc: Global,
-    shape: &Shape,
-    number: u8,
-    fun: &FunShape,
-) -> Result<(), NoMemory>
+fn put_fun_line(out: &mut Bytes, shape: &Shape, number: u8, fun: &FunShape) -> Result<(), NoMemory>
     ensures { OnOk result (out.new ≡ out.old ++ fun_line (facts_of shape.now) number (fun_of_shape fun.now)) }
 {
-    put_called(out, alloc, number, fun)?;
-    put_left(out, alloc, shape, fun)
+    put_called(out, number, fun)?;
+    put_left(out, shape, fun)
 }
 
 // Adds what a function is called with.
-fn put_called(out: &mut Bytes, alloc: Global, number: u8, fun: &FunShape) -> Result<(), NoMemory>
+fn put_called(out: &mut Bytes, number: u8, fun: &FunShape) -> Result<(), NoMemory>
     ensures { OnOk result (out.new ≡ out.old ++ called_text number (fun_of_shape fun.now)) }
 {
     put(out, &[b"fun "])?;
-    put_number(out, alloc, usize::from(number))?;
+    put_number(out, usize::from(number))?;
     put(out, &[b" ", fun.name])?;
     put_kinds(out, fun.kinds)?;
     put_flags(out, fun)
 }
 
 // Adds what a function leaves.
-fn put_left(out: &mut Bytes, alloc: Global, shape: &Shape, fun: &FunShape) -> Result<(), NoMemory>
+fn put_left(out: &mut Bytes, shape: &Shape, fun: &FunShape) -> Result<(), NoMemory>
     ensures { OnOk result (out.new ≡ out.old ++ left_text (facts_of shape.now) (fun_of_shape fun.now)) }
 {
     put(out, &[b" -> ", state_word(shape, fun)])?;
-    put_effects(out, alloc, shape.fields, fun)?;
+    put_effects(out, shape.fields, fun)?;
     put(out, &[b"\n"])
 }
 
 // Adds a number in decimal.
-fn put_number(out: &mut Bytes, alloc: Global, number: usize) -> Result<(), NoMemory>
+fn put_number(out: &mut Bytes, number: usize) -> Result<(), NoMemory>
     ensures { OnOk result (out.new ≡ out.old ++ decimal number) }
 {
-    let digits = number.to_string(alloc)?;
-    out.extend_from_slice(digits.as_bytes())?;
-    Ok(())
+    out.extend_from_slice(Buffer::new().format(number).as_bytes())
 }
 
 // Adds what parameters are, each after a space.
@@ -120,16 +113,11 @@ fn state_word(shape: &Shape, fun: &FunShape) -> &'static [u8]
 }
 
 // Adds what a function does to fields.
-fn put_effects(
-    out: &mut Bytes,
-    alloc: Global,
-    fields: &[FieldShape],
-    fun: &FunShape,
-) -> Result<(), NoMemory>
+fn put_effects(out: &mut Bytes, fields: &[FieldShape], fun: &FunShape) -> Result<(), NoMemory>
     ensures { OnOk result (out.new ≡ out.old ++ effects_text (map (λ f. record { name = f.name.now; text = f.text }) fields.now) (fun_of_shape fun.now)) }
 {
     for effect in fun.effects {
-        put_effect(out, alloc, fields, fun.kinds, *effect)?;
+        put_effect(out, fields, fun.kinds, *effect)?;
     }
     Ok(())
 }
@@ -137,7 +125,6 @@ fn put_effects(
 // Adds what is done to one field.
 fn put_effect(
     out: &mut Bytes,
-    alloc: Global,
     fields: &[FieldShape],
     kinds: &[Kind],
     effect: (u8, Effect),
@@ -146,22 +133,17 @@ fn put_effect(
 {
     let (field, change) = effect;
     put(out, &[b" ", field_name(fields, field)])?;
-    put_change(out, alloc, kinds, change)
+    put_change(out, kinds, change)
 }
 
 // Adds what is done to a field.
-fn put_change(
-    out: &mut Bytes,
-    alloc: Global,
-    kinds: &[Kind],
-    change: Effect,
-) -> Result<(), NoMemory>
+fn put_change(out: &mut Bytes, kinds: &[Kind], change: Effect) -> Result<(), NoMemory>
     ensures { OnOk result (out.new ≡ out.old ++ effect_word kinds.now change) }
 {
     match change {
         Effect::SetCaller => put(out, &[b"=caller"]),
-        Effect::SetArg(arg) => put_arg(out, alloc, b"=arg", kinds, arg),
-        Effect::AddArg(arg) => put_arg(out, alloc, b"+arg", kinds, arg),
+        Effect::SetArg(arg) => put_arg(out, b"=arg", kinds, arg),
+        Effect::AddArg(arg) => put_arg(out, b"+arg", kinds, arg),
         Effect::SetRet => put(out, &[b"=ret"]),
         Effect::AddRet => put(out, &[b"+ret"]),
         Effect::Clear => put(out, &[b"=0"]),
@@ -171,17 +153,11 @@ fn put_change(
 }
 
 // Adds an argument after a word, by its number among the parameters.
-fn put_arg(
-    out: &mut Bytes,
-    alloc: Global,
-    word: &[u8],
-    kinds: &[Kind],
-    arg: u8,
-) -> Result<(), NoMemory>
+fn put_arg(out: &mut Bytes, word: &[u8], kinds: &[Kind], arg: u8) -> Result<(), NoMemory>
     ensures { OnOk result (out.new ≡ out.old ++ (word.now ++ decimal (param_number 1 kinds.now arg))) }
 {
     put(out, &[word])?;
-    put_number(out, alloc, param_number(1, kinds, arg))
+    put_number(out, param_number(1, kinds, arg))
 }
 
 // The number among parameters, of which the first has a number, of an argument that counts from 0 without descriptor and

@@ -1,6 +1,7 @@
 // The text of a tree.
 ghost use Rattle.std.specs.Prelude.{◌≡◌, ◌++◌, OnOk, IfOk};
-ghost use Rattle.sg_print.specs.Printed.{statement_text, facts_text, printed, recovery_text, shared_text, version_line};
+ghost use Rattle.sg_print.specs.Printed.{statement_text, printed, shared_text};
+ghost use Rattle.sg_print.specs.Inside.Pieces.{facts_text, recovery_text, version_line};
 
 use crate::parts::put;
 use crate::types::{put_params, put_ret};

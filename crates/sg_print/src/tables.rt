@@ -1,9 +1,11 @@
 // The text of tables.
-ghost use Rattle.std.specs.Prelude.{◌≡◌, ◌++◌, map, OnOk, IfOk};
+ghost use Rattle.std.specs.Prelude.{◌≡◌, ◌++◌, ◌==◌, if◌then◌else◌, [], codes, map, OnOk, IfOk};
 ghost use Rattle.std.specs.List.{flat_map};
 ghost use Rattle.sg_facts.specs.Facts.{facts_of, fun_at, fun_of_shape};
 ghost use Rattle.sg_facts.specs.Interface.{has_pair};
-ghost use Rattle.sg_print.specs.TablesText.{facts_lines, fun_lines, walk_names, pair_line, pair_lines, pairs_from, set_names, recover_piece, service_lines, set_word, tables_text, walk_line};
+ghost use Rattle.sg_parse.specs.Grammar.Sentence.{recovery_word};
+ghost use Rattle.sg_print.specs.TablesText.{facts_lines, fun_lines, pair_lines, service_lines, set_names, set_word, tables_text, walk_line, walk_names};
+ghost use Rattle.sg_print.specs.Inside.Pieces.{pair_line, pairs_from};
 
 use crate::funs::put_fun;
 use crate::parts::put;
@@ -22,7 +24,7 @@ pub fn print_tables(alloc: Global, tables: &Tables) -> Result<Bytes, NoMemory>
     let iface = tables.interface();
     let mut out = Bytes::new(alloc);
     put_facts(&mut out, iface)?;
-    put_funs(&mut out, alloc, iface)?;
+    put_funs(&mut out, iface)?;
     put_pairs(&mut out, b"move", &iface.shape, iface.moves.as_slice())?;
     put_pairs(&mut out, b"step", &iface.shape, iface.steps.as_slice())?;
     put_walks(&mut out, alloc, &iface.shape, tables.lines())?;
@@ -65,7 +67,7 @@ fn put_service(out: &mut Bytes, shape: &Shape) -> Result<(), NoMemory>
 
 // Adds when descriptors are rebuilt, which an interface of version 2 says.
 fn put_recover(out: &mut Bytes, version: u8, eager: bool) -> Result<(), NoMemory>
-    ensures { OnOk result (out.new ≡ out.old ++ recover_piece version eager) }
+    ensures { OnOk result (out.new ≡ out.old ++ (if version == 2 then codes " recover=" ++ recovery_word eager else [])) }
 {
     if version == 2 {
         put(out, &[b" recover=", recovery_word(eager)])
@@ -75,12 +77,12 @@ fn put_recover(out: &mut Bytes, version: u8, eager: bool) -> Result<(), NoMemory
 }
 
 // Adds the lines of the declared functions.
-fn put_funs(out: &mut Bytes, alloc: Global, iface: &Interface) -> Result<(), NoMemory>
+fn put_funs(out: &mut Bytes, iface: &Interface) -> Result<(), NoMemory>
     ensures { OnOk result (out.new ≡ out.old ++ fun_lines iface.now) }
 {
     'funs: for number in 1..END_OF_FUNS {
         if iface.declares(number) {
-            put_fun(out, alloc, &iface.shape, number)?;
+            put_fun(out, &iface.shape, number)?;
         }
     }
     Ok(())

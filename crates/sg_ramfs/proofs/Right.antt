@@ -20,9 +20,10 @@ use Rattle.sg_facts.specs.Facts.{fun_at}
 use Rattle.sg_facts.specs.Invoke.{FitsRoom, Invokes, Points, parts_of}
 use Rattle.sg_facts.specs.Kinds.{kinds_fit}
 use Rattle.sg_facts.specs.Legal.{done}
-use Rattle.sg_facts.specs.Limits.{most_path}
+use Rattle.sg_facts.specs.Limits.{most_path, most_file}
 use Rattle.sg_facts.specs.Object.{Object, after, file_at, first_text, patch_of, path_of, place_of}
-use Rattle.sg_facts.specs.Track.{arg_at, row_after, word_of}
+use Rattle.sg_facts.specs.Track.{arg_at, word_of}
+use Rattle.sg_facts.specs.Inside.Rows.{row_after}
 use Rattle.sg_slots.specs.declared.decision.Decision.{Decision}
 use Rattle.sg_slots.specs.declared.decision.Decision.TheVariants.{Refuse, Block, Make, Set, Keep, Remove}
 use Rattle.sg_slots.specs.Carry.{Carries, IsCut, held_after, ok_reply, parts_in, reply_to}
@@ -31,11 +32,11 @@ use Rattle.sg_slots.proofs.Rows.{rows_of-more, rows_of-set, rows_of-without}
 use Rattle.sg_ramfs.specs.declared.open_file.OpenFile.{OpenFile}
 use Rattle.sg_ramfs.specs.declared.plan.ReadPlan.{ReadPlan}
 use Rattle.sg_ramfs.specs.Inside.RamfsDecision.{on_open, on_read, on_seek, with_bytes, CarriesBytes}
-use Rattle.sg_ramfs.specs.RamfsFacts.{ramfs_facts, tread}
+use Rattle.sg_ramfs.specs.RamfsFacts.{ramfs_facts}
+use Rattle.sg_ramfs.specs.Inside.RamfsAnswer.{tread, most_read, read_answer}
 use Rattle.sg_ramfs.specs.RamfsObject.{object_with}
 use Rattle.sg_ramfs.specs.RamfsRow.{file_body}
-use Rattle.sg_ramfs.specs.RamfsTable.{is_bad_name, most_read, moved, ramfs_parts, ramfs_table, read_answer}
-use Rattle.sg_facts.specs.Limits.{most_file}
+use Rattle.sg_ramfs.specs.RamfsTable.{is_bad_name, moved, ramfs_parts, ramfs_table}
 use Rattle.sg_ramfs.specs.Inside.RamfsTree.{IsTree, tree_rows}
 use Rattle.sg_ramfs.proofs.Trees.{file_row}
 

@@ -16,16 +16,17 @@ use Rattle.sg_facts.specs.declared.outcome.Outcome.TheVariants.{Replied, Blocks,
 use Rattle.sg_facts.specs.declared.outcome.Patch.{Patch}
 use Rattle.sg_facts.specs.Invoke.{FitsFile, IfPatch, Points}
 use Rattle.sg_facts.specs.Limits.{most_file}
-use Rattle.sg_facts.specs.Object.{Object, first_text, patch_at, patch_of, patched, place_of}
-use Rattle.sg_facts.specs.Track.{row_after}
+use Rattle.sg_facts.specs.Object.{Object, first_text, patch_of, place_of}
+use Rattle.sg_facts.specs.Inside.Rows.{patch_at, patched, row_after}
 use Rattle.sg_slots.specs.Carry.{IsSame}
 use Rattle.sg_slots.specs.Slots.{Held, entry_at}
 use Rattle.sg_ramfs.specs.declared.open_file.OpenFile.{OpenFile}
 use Rattle.sg_ramfs.specs.declared.plan.WritePlan.TheVariants.{Refuse as RefuseWrite}
 use Rattle.sg_ramfs.specs.Inside.RamfsDecision.{on_write, put_at, IsCutShort, IsMoved, WritesFile}
-use Rattle.sg_ramfs.specs.RamfsFacts.{ramfs_facts, twrite}
+use Rattle.sg_ramfs.specs.RamfsFacts.{ramfs_facts}
+use Rattle.sg_ramfs.specs.Inside.RamfsAnswer.{twrite, write_answer}
 use Rattle.sg_ramfs.specs.RamfsObject.{object_with}
-use Rattle.sg_ramfs.specs.RamfsTable.{moved as moved_by, ramfs_table, write_answer}
+use Rattle.sg_ramfs.specs.RamfsTable.{moved as moved_by, ramfs_table}
 use Rattle.sg_ramfs.specs.Inside.RamfsTree.{IsTree, tree_rows}
 use Rattle.sg_ramfs.proofs.Right.{Does, call_of, file, moves, path}
 use Rattle.sg_ramfs.proofs.Trees.{file_nested, file_row}

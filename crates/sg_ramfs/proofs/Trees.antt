@@ -12,7 +12,8 @@ use Rattle.sg_facts.specs.Invoke.{Points}
 use Rattle.sg_facts.specs.Limits.{most_path}
 use Rattle.sg_facts.specs.Object.{first_text, path_of}
 use Rattle.sg_facts.specs.Sound.{AreRows}
-use Rattle.sg_facts.specs.Track.{row_at, has_child}
+use Rattle.sg_facts.specs.Track.{row_at}
+use Rattle.sg_facts.specs.Inside.Rows.{has_child}
 use Rattle.sg_facts.proofs.RowLists.{more, changed, left, other}
 use Rattle.sg_slots.specs.declared.decision.Decision.{Decision}
 use Rattle.sg_slots.specs.declared.decision.Decision.TheVariants.{Refuse, Block, Make, Set, Keep, Remove}

@@ -14,7 +14,8 @@ use Rattle.sg_recovery_laws.proofs.Lists.{each_append, each_push, each_split}
 use Rattle.sg_recovery_laws.proofs.Same.{again, again_is}
 use Rattle.sg_hist.specs.Growing.{AreGrown, HasOneMore, IsGrown, booted, last_stop, noted, place_after, struck}
 use Rattle.sg_hist.specs.Reading.{Position, items_after, items_of, places_from, places_in}
-use Rattle.sg_hist.specs.Recovered.{AreStopped, AskedAs, IsLastIfStopped, IsRebooted, ends_stopped, is_stopped}
+use Rattle.sg_hist.specs.Recovered.{AreStopped, IsRebooted, ends_stopped}
+use Rattle.sg_hist.specs.Inside.Parts.{AskedAs, IsLastIfStopped, is_stopped}
 
 -- ---- the place of the item that is noted last
 

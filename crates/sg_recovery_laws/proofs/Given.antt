@@ -18,8 +18,10 @@ use Rattle.sg_facts.specs.Facts.{Facts, fun_at, is_visible}
 use Rattle.sg_facts.specs.Trace.{Boot}
 use Rattle.sg_hist.specs.Growing.{IsSameFor, IsSameId}
 use Rattle.sg_recovery_laws.proofs.Lists.{each_append, each_push, each_split}
-use Rattle.sg_hist.specs.Reading.{Position, items_after, desc_in, desc_of, id_given, is_by_guard, is_made, is_item_of, is_ok, is_tagged, items_of, made_by, names_at, names_in, pair_of, places_from, places_in}
-use Rattle.sg_hist.specs.Recovered.{IsCommitted, is_clients, is_entered, is_replied, is_visible_reply}
+use Rattle.sg_hist.specs.Reading.{Position, items_after, desc_in, id_given, is_by_guard, is_made, is_item_of, is_ok, is_tagged, items_of, names_at, pair_of, places_from, places_in}
+use Rattle.sg_hist.specs.Inside.Reads.{desc_of, made_by, names_in}
+use Rattle.sg_hist.specs.Recovered.{is_clients, is_entered, is_replied, is_visible_reply}
+use Rattle.sg_hist.specs.Inside.Parts.{IsCommitted}
 
 -- whether an entry has the number of a client's call
 abbrev pub is_numbered : ℕ → ℕ → Entry → Bool

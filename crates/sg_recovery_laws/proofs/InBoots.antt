@@ -6,7 +6,8 @@ use Rattle.sg_facts.specs.declared.entry.Entry.{Entry}
 use Rattle.sg_facts.specs.declared.trace.Item.{Item}
 use Rattle.sg_facts.specs.Trace.{Boot, Run}
 use Rattle.sg_hist.specs.Reading.{Position, is_by_guard, is_item_of, item_of, items_of, last_items, older_items, places_from, places_in, places_of}
-use Rattle.sg_hist.specs.Recovered.{AreInBoots, boot_start, start_of}
+use Rattle.sg_hist.specs.Recovered.{AreInBoots, start_of}
+use Rattle.sg_hist.specs.Inside.Parts.{boot_start}
 use Rattle.sg_hist.specs.Growing.{IsInLast, IsOfNoEntry, booted, noted, place_after, struck}
 use Rattle.sg_recovery_laws.proofs.Events.{own_item}
 use Rattle.sg_hist.proofs.Growing.{places-booted, places-more, places-struck}

@@ -20,8 +20,10 @@ use Rattle.sg_recovery_laws.proofs.Same.{IsSame, again_is, demanded_same, tracke
 use Rattle.sg_recovery_laws.proofs.Served.{IsNamed, committed_stay, entered_later, item_of-own, items_stay, committed_later, has_same, order_push, order_stays}
 use Rattle.sg_recovery_laws.proofs.Stays.{same_committed, same_held, same_noted, same_refused}
 use Rattle.sg_hist.specs.Growing.{AreKept, HasOneMore, IsGrown, IsHeldReply, IsItemOf, IsLastCall, IsNextItem, IsRecovering, IsSettled, IsOfNoEntry, booted, last_stop, noted, place_after, struck, IsSameId}
-use Rattle.sg_hist.specs.Reading.{Position, items_after, is_by_guard, is_item_of, item_of, items_of, past, places_from, places_in, places_of, stands_before}
-use Rattle.sg_hist.specs.Recovered.{AreInOrder, AreStopped, ComeBefore, HasItem, GivesEntry, IsCommitted, AskedAs, IsAdmitted, IsDemanded, IsItsCall, IsLastIfStopped, IsTrackedAt, IsUnderWay, IsWalked, Stubs, is_entered, is_visible_reply}
+use Rattle.sg_hist.specs.Reading.{Position, items_after, is_by_guard, is_item_of, item_of, items_of, places_from, places_in, places_of, stands_before}
+use Rattle.sg_hist.specs.Inside.Reads.{past}
+use Rattle.sg_hist.specs.Recovered.{AreInOrder, AreStopped, IsAdmitted, IsUnderWay, Stubs, is_entered, is_visible_reply}
+use Rattle.sg_hist.specs.Inside.Parts.{ComeBefore, HasItem, GivesEntry, IsCommitted, AskedAs, IsDemanded, IsItsCall, IsLastIfStopped, IsTrackedAt, IsWalked}
 
 -- ---- calls
 

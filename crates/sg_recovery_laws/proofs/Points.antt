@@ -10,7 +10,8 @@ use Rattle.sg_facts.specs.Legal.{Table}
 use Rattle.sg_facts.specs.Trace.{Boot}
 use Rattle.sg_hist.specs.Growing.{asked_over, booted, last_stop, noted, struck}
 use Rattle.sg_hist.specs.Reading.{last_items}
-use Rattle.sg_hist.specs.Recovered.{ArePoints, ArePointsOf, IsCount, IsPointOf, IsStopOf, answer_to, asked_with_commit, asked_in, ends_committed, ends_stopped, is_clients, is_replied, is_stopped}
+use Rattle.sg_hist.specs.Recovered.{ArePoints, ArePointsOf, IsCount, IsStopOf, asked_with_commit, asked_in, ends_committed, ends_stopped, is_clients, is_replied}
+use Rattle.sg_hist.specs.Inside.Parts.{IsPointOf, answer_to, is_stopped}
 
 -- ---- an item more in a boot
 

@@ -18,8 +18,10 @@ use Rattle.sg_facts.specs.Needs.{is_needed, needs, wanted}
 use Rattle.sg_facts.specs.Object.{Object, file_at, object_of}
 use Rattle.sg_facts.specs.Track.{row_at}
 use Rattle.sg_hist.specs.Growing.{AreGrown, IsGrown}
-use Rattle.sg_hist.specs.Reading.{Position, entries_before, ends_walk, has_length, is_made, is_ok, is_rebuilt_at, is_whole_at, names_at, object_before, value_at, walk_in}
-use Rattle.sg_hist.specs.Recovered.{IsAdmitted, IsAlikeTo, IsCallOfRow, IsDemanded, IsTracked, IsTrackedAt, IsUnderWay, IsWalked, item_of_load}
+use Rattle.sg_hist.specs.Reading.{Position, is_made, is_ok, is_whole_at, names_at, object_before, value_at, walk_in}
+use Rattle.sg_hist.specs.Inside.Reads.{entries_before, ends_walk, has_length, is_rebuilt_at}
+use Rattle.sg_hist.specs.Recovered.{IsAdmitted, IsTracked, IsUnderWay, item_of_load}
+use Rattle.sg_hist.specs.Inside.Parts.{IsAlikeTo, IsCallOfRow, IsDemanded, IsTrackedAt, IsWalked}
 
 -- ---- lists
 

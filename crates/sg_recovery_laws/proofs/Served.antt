@@ -14,7 +14,8 @@ use Rattle.sg_recovery_laws.proofs.Lists.{each_push}
 use Rattle.sg_recovery_laws.proofs.Stays.{stands_each}
 use Rattle.sg_hist.specs.Growing.{AreGrown, HasOneMore, IsGrown, IsOfNoEntry}
 use Rattle.sg_hist.specs.Reading.{Position, items_after, is_by_guard, is_item_of, item_of, names_at, places_of, stands_before}
-use Rattle.sg_hist.specs.Recovered.{AreInOrder, ComeBefore, HasItem, GivesEntry, IsCommitted, IsReplyOf, is_entered, is_visible_reply}
+use Rattle.sg_hist.specs.Recovered.{AreInOrder, IsReplyOf, is_entered, is_visible_reply}
+use Rattle.sg_hist.specs.Inside.Parts.{ComeBefore, HasItem, GivesEntry, IsCommitted}
 
 -- ---- lists from after
 

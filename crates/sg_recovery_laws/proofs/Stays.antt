@@ -15,7 +15,8 @@ use Rattle.sg_hist.proofs.Growing.{entries_before-committed, entries_before-more
 use Rattle.sg_recovery_laws.proofs.Lists.{each_map}
 use Rattle.sg_recovery_laws.proofs.Same.{IsSame, again, any_rebuilt, any_same, rebuilt_again}
 use Rattle.sg_hist.specs.Growing.{AreKept, IsGrown, IsLastCall, IsOfNoEntry, IsSameId}
-use Rattle.sg_hist.specs.Reading.{Position, items_after, entries_before, is_by_guard, is_made, is_item_of, is_rebuilt_at, is_whole_at, past, places_in, stands_before}
+use Rattle.sg_hist.specs.Reading.{Position, items_after, is_by_guard, is_made, is_item_of, is_whole_at, places_in, stands_before}
+use Rattle.sg_hist.specs.Inside.Reads.{entries_before, is_rebuilt_at, past}
 use Rattle.sg_hist.specs.Recovered.{IsUnderWay, is_answered_later}
 use Rattle.sg_recovery_laws.proofs.UnderWay.{AreBelow, AreFrom, below_of, from_of, of_below, of_from}
 

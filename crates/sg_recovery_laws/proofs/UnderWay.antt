@@ -7,7 +7,8 @@ use Rattle.sg_facts.specs.sg_base.Lists.{When}
 use Rattle.sg_facts.specs.declared.entry.Entry.{Entry}
 use Rattle.sg_facts.specs.Facts.{Facts}
 use Rattle.sg_hist.specs.Reading.{Position}
-use Rattle.sg_hist.specs.Recovered.{is_above_earlier, is_answered_before, is_answered_later, is_first_of_later}
+use Rattle.sg_hist.specs.Recovered.{is_above_earlier, is_answered_later, is_first_of_later}
+use Rattle.sg_hist.specs.Inside.Parts.{is_answered_before}
 
 -- a client's entries that were answered before a place have smaller numbers
 abbrev pub AreBelow : Facts → Position → ℕ → ℕ → List Entry → Type 0

@@ -11,8 +11,10 @@ ghost use Rattle.sg_facts.specs.Legal.{IsLegal, Table, answer};
 ghost use Rattle.sg_facts.specs.Object.{object_of};
 ghost use Rattle.sg_facts.specs.Trace.{Boot, Run};
 ghost use Rattle.sg_hist.specs.Growing.{AreKept, HasOneMore, IsGrown, IsHeldReply, IsInLast, IsItemOf, IsLastCall, IsNextItem, IsRecovering, IsSettled, IsOfNoEntry, asked_over, booted, last_stop, noted, place_after, struck};
-ghost use Rattle.sg_hist.specs.Reading.{Position, after_item, entries_before, is_by_guard, is_item_of, last_items, names_at, names_in, places_from, places_of, stands_before, value_at};
-ghost use Rattle.sg_hist.specs.Recovered.{AreInBoots, ArePointsOf, IsCount, IsPointOf, Stubs, answer_to, asked_with_commit, ends_committed, is_stopped, is_visible_reply};
+ghost use Rattle.sg_hist.specs.Reading.{Position, is_by_guard, is_item_of, last_items, names_at, places_from, places_of, stands_before, value_at};
+ghost use Rattle.sg_hist.specs.Inside.Reads.{after_item, entries_before, names_in};
+ghost use Rattle.sg_hist.specs.Recovered.{AreInBoots, ArePointsOf, IsCount, Stubs, asked_with_commit, ends_committed, is_visible_reply};
+ghost use Rattle.sg_hist.specs.Inside.Parts.{IsPointOf, answer_to, is_stopped};
 
 /// A legal history stays so with an entry that is the answer after it.
 pub fn legal_stays()

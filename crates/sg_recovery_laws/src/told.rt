@@ -26,8 +26,10 @@ ghost use Rattle.sg_facts.specs.Object.{Object, empty_object, file_at, object_of
 ghost use Rattle.sg_facts.specs.Trace.{Boot};
 ghost use Rattle.sg_facts.specs.Track.{is_live, row_at};
 ghost use Rattle.sg_facts.specs.Walks.{replayed_call};
-ghost use Rattle.sg_hist.specs.Reading.{Position, entries_before, id_given, is_made, is_rebuilt_at, is_whole_at, last_items, names_at, names_in, object_before, older_items, value_at, walk_in};
-ghost use Rattle.sg_hist.specs.Recovered.{IsAdmitted, IsCallOf, IsCallOfRow, IsLoadedFor, IsOkOrStopped, IsTracked, is_patch_at, is_walk_of, item_of_load};
+ghost use Rattle.sg_hist.specs.Reading.{Position, id_given, is_made, is_whole_at, last_items, names_at, object_before, older_items, value_at, walk_in};
+ghost use Rattle.sg_hist.specs.Inside.Reads.{entries_before, is_rebuilt_at, names_in};
+ghost use Rattle.sg_hist.specs.Recovered.{IsAdmitted, IsCallOf, IsLoadedFor, IsTracked, item_of_load};
+ghost use Rattle.sg_hist.specs.Inside.Parts.{IsCallOfRow, IsOkOrStopped, is_patch_at, is_walk_of};
 ghost use Rattle.sg_hist.specs.Growing.{IsGrown, IsOfNoEntry, IsSameId, place_after};
 ghost use Rattle.sg_recovery_laws.specs.Midway.Progress.{TellsCalls, IsNone, Told, complete, fresh, is_complete};
 ghost use Rattle.sg_recovery_laws.specs.Midway.Stepping.{told_after};

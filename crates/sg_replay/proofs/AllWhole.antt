@@ -29,6 +29,15 @@ pub still_whole : (now old : Named) (b : Bool) (real : ℕ) → now ≡ cond b (
 still_whole now old true real is whole = ap is_whole is
 still_whole now old false real is whole = ap is_whole is ∙ whole
 
+-- what is live is above the least
+pub live_above : (low high : ℕ) (rows : List Row) → AreRows HasLowerParent low high rows → (x : ℕ) → is_live rows x ≡ true → low < x
+live_above low high [] are x live = absurd (cc live)
+live_above low high (r ∷ rows) are x live = at (r.id == x) refl live (live_above r.id high rows are.3 x)
+  where
+    at : (b : Bool) → (r.id == x) ≡ b → (b || is_live rows x) ≡ true → (is_live rows x ≡ true → r.id < x) → low < x
+    at true is live rest = omega (arith, one_id r.id x is, are.0)
+    at false is live rest = omega (arith, rest live, are.0)
+
 module _ (P : ℕ → Bool) where
   -- none is found where all pass
   pub find_none : (rows : List Row) → ((x : ℕ) → is_live rows x ≡ true → P x ≡ true) → find (λ id. not (P id)) (map (λ r. r.id) rows) ≡ None
@@ -41,6 +50,19 @@ module _ (P : ℕ → Bool) where
       or_live : (a b : Bool) → b ≡ true → (a || b) ≡ true
       or_live true b is = refl
       or_live false b is = is
+
+  -- all before the first that is found pass
+  pub find_before : (low high : ℕ) (rows : List Row) → AreRows HasLowerParent low high rows → (first : ℕ) → find (λ id. not (P id)) (map (λ r. r.id) rows) ≡ Some first
+      → (x : ℕ) → x < first → is_live rows x ≡ true → P x ≡ true
+  find_before low high [] are first found x less live = absurd (cc live)
+  find_before low high (r ∷ rows) are first found x less live = at (P r.id) refl (r.id == x) refl found live (λ found live. find_before r.id high rows are.3 first found x less live)
+    where
+      at : (b : Bool) → P r.id ≡ b → (s : Bool) → (r.id == x) ≡ s → cond (not b) (Some r.id) (find (λ id. not (P id)) (map (λ y. y.id) rows)) ≡ Some first → (s || is_live rows x) ≡ true
+          → (find (λ id. not (P id)) (map (λ y. y.id) rows) ≡ Some first → is_live rows x ≡ true → P x ≡ true) → P x ≡ true
+      at true passes true same found live rest = ap P (sym (one_id r.id x same)) ∙ passes
+      at true passes false same found live rest = rest found live
+      at false fails true same found live rest = let is : r.id ≡ first = cc found in absurd (let one = one_id r.id x same in omega (arith, one, is, less))
+      at false fails false same found live rest = let is : r.id ≡ first = cc found in absurd (let above = live_above r.id high rows are.3 x live in omega (arith, above, is, less))
 
   -- where none is found among all, none is among some
   pub find_fewer : (some : Row → Bool) (rows : List Row) → find (λ id. not (P id)) (map (λ r. r.id) rows) ≡ None → find (λ id. not (P id)) (map (λ r. r.id) (filter some rows)) ≡ None
@@ -80,14 +102,6 @@ live_first (r ∷ rows) (suc n) x live = at (r.id == x) live (live_first rows n 
     at : (b : Bool) → (b || is_live (take n rows) x) ≡ true → (is_live (take n rows) x ≡ true → is_live rows x ≡ true) → (b || is_live rows x) ≡ true
     at true live rest = refl
     at false live rest = rest live
-
-pub live_above : (low high : ℕ) (rows : List Row) → AreRows HasLowerParent low high rows → (x : ℕ) → is_live rows x ≡ true → low < x
-live_above low high [] are x live = absurd (cc live)
-live_above low high (r ∷ rows) are x live = at (r.id == x) refl live (live_above r.id high rows are.3 x)
-  where
-    at : (b : Bool) → (r.id == x) ≡ b → (b || is_live rows x) ≡ true → (is_live rows x ≡ true → r.id < x) → low < x
-    at true is live rest = omega (arith, one_id r.id x is, are.0)
-    at false is live rest = omega (arith, rest live, are.0)
 
 -- what is live below the id at a place is live among those before it
 pub live_before : (low high : ℕ) (rows : List Row) → AreRows HasLowerParent low high rows → (at id : ℕ) → option_map (λ r. r.id) (slice_get rows at) ≡ Some id

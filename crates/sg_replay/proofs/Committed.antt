@@ -14,8 +14,9 @@ use Rattle.sg_facts.specs.sg_base.declared.reply.Reply.{Reply}
 use Rattle.sg_facts.specs.sg_base.declared.reply.Reply.TheVariants.{Ok, Refused}
 use Rattle.sg_facts.specs.declared.row.Row.{Row}
 use Rattle.sg_facts.specs.Facts.{Facts, fun_at}
-use Rattle.sg_facts.specs.Object.{Object, given_after}
-use Rattle.sg_facts.specs.Track.{ancestors, ends_with, has_child, is_ancestor, is_live, new_row, parent_in, row_after, row_at, track}
+use Rattle.sg_facts.specs.Object.{Object}
+use Rattle.sg_facts.specs.Inside.Rows.{given_after, has_child, parent_in, row_after, track}
+use Rattle.sg_facts.specs.Track.{ancestors, ends_with, is_ancestor, is_live, new_row, row_at}
 use Rattle.sg_facts.specs.Walks.{most_calls}
 use Rattle.sg_name.specs.Names.{name_by, name_of, named_at, real_at, real_of}
 use Rattle.sg_name.specs.declared.named.Named.{Named}

@@ -1,13 +1,14 @@
 -- The first id of a line that isn't whole, found on the way up.
-use Rattle.std.proofs.Common.{◌≡◌, ℕ, ◌<◌, Bool, true, false, cond, List, [], ◌∷◌, None, Some, find, filter, is_some, refl, sym, ◌∙◌, ap, arith}
+use Rattle.std.proofs.Common.{◌≡◌, ℕ, zero, suc, ◌≤◌, ◌<◌, Bool, true, false, cond, List, [], ◌∷◌, None, Some, find, filter, is_some, refl, sym, ◌∙◌, ap, arith}
 use Rattle.std.specs.Prelude.{◌==◌, not}
 use Rattle.std.specs.declared.option.Option.{Option}
 use Rattle.std.proofs.lemmas.Bool.Decides.{nat_tests}
 use mathlib.Core.List.{reverse_aux}
 use Rattle.sg_facts.specs.declared.row.Row.{Row}
-use Rattle.sg_facts.specs.Track.{ancestors, is_live, parent_in, row_at}
+use Rattle.sg_facts.specs.Track.{ancestors, is_live, row_at}
+use Rattle.sg_facts.specs.Inside.Rows.{parent_in}
 use Rattle.sg_needs.proofs.Lines.{line_needed}
-use Rattle.sg_needs.proofs.sg_track.Above.{child, root}
+use Rattle.sg_needs.proofs.sg_track.Above.{child, parent_below, root}
 use Rattle.sg_needs.specs.Inside.Lines.{ids_in}
 use Rattle.sg_needs.specs.sg_track.Tracked.{AreTracked}
 use Rattle.sg_replay.proofs.AllWhole.{live_above}
@@ -76,3 +77,25 @@ module _ (whole : ℕ → Bool) (rows : List Row) where
     ends_up id hole none =
         ap (λ l. last_hole l (found_at id hole)) (root 0 given rows tracked id (ap parent_in none))
         ∙ ap (λ b. cond b (cond (whole id) hole (Some id)) hole) (sym (row_live rows id) ∙ ap is_some none)
+
+    live_there : (id : ℕ) (r : Row) → row_at rows id ≡ Some r → is_live rows id ≡ true
+    live_there id r there = sym (row_live rows id) ∙ ap is_some there
+
+    -- and below the first that isn't whole there is nothing to find
+    pub whole_up : (first : ℕ) → ((x : ℕ) → x < first → is_live rows x ≡ true → whole x ≡ true) → (most id : ℕ) (hole : Option ℕ) → id ≤ most → id < first → last_hole (id ∷ ancestors rows id) hole ≡ hole
+    whole_up first all zero id hole few less = at (row_at rows id) refl
+      where
+        at : (row : Option Row) → row_at rows id ≡ row → last_hole (id ∷ ancestors rows id) hole ≡ hole
+        at None there = ends_up id hole there
+        at (Some r) there = absurd (let some = some_live id (live_there id r there) in omega (arith, some, few))
+    whole_up first all (suc most) id hole few less =
+        let below = parent_below 0 given id rows tracked in
+        at (row_at rows id) refl (λ some. whole_up first all most (parent_in (row_at rows id)) hole (omega (arith, below, some, few)) (omega (arith, below, less)))
+      where
+        at : (row : Option Row) → row_at rows id ≡ row → (0 < id → last_hole (parent_in (row_at rows id) ∷ ancestors rows (parent_in (row_at rows id))) hole ≡ hole) → last_hole (id ∷ ancestors rows id) hole ≡ hole
+        at None there rest = ends_up id hole there
+        at (Some r) there rest =
+            let live = live_there id r there in
+            sym (step_up id hole live)
+            ∙ ap (λ b. last_hole (parent_in (row_at rows id) ∷ ancestors rows (parent_in (row_at rows id))) (cond b hole (Some id))) (all id less live)
+            ∙ rest (some_live id live)

@@ -19,7 +19,8 @@ use Rattle.sg_facts.specs.Legal.{Table}
 use Rattle.sg_facts.specs.Object.{Object}
 use Rattle.sg_facts.specs.Track.{row_at}
 use Rattle.sg_boot.specs.sg_hist.Reading.{walk_in}
-use Rattle.sg_boot.specs.sg_hist.Recovered.{call_in, item_of_load}
+use Rattle.sg_boot.specs.sg_hist.Recovered.{item_of_load}
+use Rattle.sg_boot.specs.sg_hist.Inside.Parts.{call_in}
 use Rattle.sg_boot.specs.Invoking.{NotesReply, NotesStop, with_item}
 use Rattle.sg_name.specs.Names.{named_at}
 use Rattle.sg_name.specs.declared.named.Named.{Named}

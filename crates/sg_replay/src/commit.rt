@@ -1,8 +1,7 @@
 // Memory that is taken ahead for a call, and the commit of its answer.
 ghost use Rattle.std.specs.Prelude.{◌≡◌, ◌≤◌, ◌==◌, ◌&&◌, ◌||◌, ℕ, List, false, Some, IfSome, OnOk, if◌then◌else◌};
 ghost use Rattle.sg_facts.specs.Facts.{is_visible};
-ghost use Rattle.sg_facts.specs.Object.{given_after};
-ghost use Rattle.sg_facts.specs.Track.{track};
+ghost use Rattle.sg_facts.specs.Inside.Rows.{given_after, track};
 ghost use Rattle.sg_name.specs.Names.{named_at};
 ghost use Rattle.sg_store.specs.Spans.{patched_at, stand_in};
 ghost use Rattle.sg_store.specs.Stored.{HasRoom, bytes_of, receipt_at};
@@ -19,8 +18,9 @@ use sg_store::Storage;
 use std::alloc::Global;
 
 impl<S: Service> Engine<S> {
-    /// Takes the memory for one boot, or for one `serve` and `commit` of a call that needs this file. What was done, what is stored,
-    /// the rows, the names, and which files are present stay, the parts agree, and the cell loses no room, whatever the answer.
+    /// Takes the memory for one boot, or for one `serve` and `commit` of a call that needs this file. What was done, what is
+    /// stored, the rows, the names, and which files are present stay, the parts agree, and the cell loses no room, whatever the
+    /// answer.
     pub fn reserve(
         &mut self,
         alloc: Global,

@@ -1,6 +1,7 @@
 // The names of ended rows.
 ghost use Rattle.std.specs.Prelude.{◌≡◌, ◌≤◌, ◌&&◌, ℕ, true, if◌then◌else◌};
-ghost use Rattle.sg_facts.specs.Track.{is_ancestor, is_live, parent_in, row_at, track};
+ghost use Rattle.sg_facts.specs.Track.{is_ancestor, is_live, row_at};
+ghost use Rattle.sg_facts.specs.Inside.Rows.{parent_in, track};
 ghost use Rattle.sg_name.specs.Names.{named_at};
 ghost use Rattle.sg_name.specs.declared.named.Named.TheVariants.{Unnamed};
 ghost use Rattle.sg_replay.specs.Committing.{name_left};

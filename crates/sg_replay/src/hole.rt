@@ -82,20 +82,25 @@ fn wanted_hole(
     if wants_all(iface, call.fun) {
         Some(first)
     } else {
-        hole_in_line(rows, names, call.desc)
+        hole_in_line(rows, names, call.desc, first)
     }
 }
 
-// The first id of a live row, from the root of an id to it, that isn't whole; None where all are. The way goes up from the id, so
-// the last one that is found is the first.
-fn hole_in_line(rows: &Tracker, names: &Names, id: u64) -> Option<u64>
+// The first id of a live row, from the root of an id to it, that isn't whole, where the first of all live rows that isn't is
+// known; None where all are. The way goes up from the id, so the last one that is found is the first. It ends below the first of
+// all, where the rows are whole.
+fn hole_in_line(rows: &Tracker, names: &Names, id: u64, first: u64) -> Option<u64>
+    requires { first_hole names.now.known (map (λ r. r.id) rows.now.rows) ≡ Some first }
     ensures { result ≡ first_hole names.now.known (ids_in false rows.now.rows id) }
 {
     // Nothing is done: the proof takes what this call promises.
     let _tracked = rows.live();
     let mut hole = None;
     let mut at = id;
-    'up: while let Some(row) = rows.row(at) {
+    'up: while at >= first {
+        let Some(row) = rows.row(at) else {
+            return hole;
+        };
         hole = hole_at(names, at, hole);
         at = row.parent;
     }

@@ -2,7 +2,8 @@
 use Rattle.std.proofs.Common.{◌≡◌, ℕ, ◌+◌, List, [], ◌∷◌, ◌++◌, length, sym, ◌∙◌, ap, append-nil, append_assoc, arith}
 use Rattle.sg_facts.specs.Facts.{Facts}
 use Rattle.sg_facts.specs.Trace.{Boot}
-use Rattle.sg_report.specs.Report.{boot_lines, boots_lines}
+use Rattle.sg_report.specs.Report.{boots_lines}
+use Rattle.sg_report.specs.Inside.Pieces.{boot_lines}
 
 pub boots_push : (facts : Facts) (n : ℕ) (bs : List Boot) (b : Boot) → boots_lines facts n (bs ++ b ∷ []) ≡ boots_lines facts n bs ++ boot_lines facts (n + length bs) b
 boots_push facts n [] b =

@@ -1,2 +1,3 @@
+pub mod Inside
 pub mod Report
 pub use Rattle.sg_hist.specs as sg_hist

@@ -1,13 +1,12 @@
 -- The printed run.
-use Rattle.std.specs.Prelude.{ℕ, ◌+◌, ◌-◌, ◌^◌, ◌==◌, Bool, true, false, ◌||◌, if◌then◌else◌, List, [], ◌∷◌, ◌++◌, None, Some, length, filter, min, codes}
-use Rattle.std.specs.declared.option.Option.{Option}
+use Rattle.std.specs.Prelude.{ℕ, ◌+◌, ◌==◌, Bool, true, false, ◌&&◌, ◌||◌, if◌then◌else◌, List, [], ◌∷◌, ◌++◌, None, Some, length, filter, min, codes}
 use Rattle.std.specs.Fmt.{decimal}
 use Rattle.std.specs.List.{flat_map}
 use Rattle.std.specs.Str.{bytes_eq}
+use Rattle.sg_facts.specs.sg_base.Counts.{last_count}
 use Rattle.sg_facts.specs.sg_base.declared.call.Call.{Call}
 use Rattle.sg_facts.specs.sg_base.declared.reply.Code.{Code}
 use Rattle.sg_facts.specs.sg_base.declared.reply.Code.TheVariants.{NoDesc, NoParent, BadState, HasChildren, Full, NotOwner, Held, Occupied, NotFound, Overflow, Gap, TooBig, BadName}
-use Rattle.sg_facts.specs.sg_base.declared.reply.Good.{Good}
 use Rattle.sg_facts.specs.sg_base.declared.reply.Reply.{Reply}
 use Rattle.sg_facts.specs.sg_base.declared.reply.Reply.TheVariants.{Ok, Refused}
 use Rattle.sg_facts.specs.sg_base.declared.value.Value.{Value}
@@ -25,31 +24,30 @@ use Rattle.sg_hist.specs.declared.ended.End.{End}
 use Rattle.sg_hist.specs.declared.ended.End.TheVariants.{Done, Blocked}
 use Rattle.sg_hist.specs.declared.ended.Ended.{Ended}
 use Rattle.sg_hist.specs.Reading.{items_of}
-use Rattle.sg_hist.specs.Recovered.{is_blocked}
+use Rattle.sg_hist.specs.Recovered.{is_blocked, is_replied}
 
--- ---- words
-
--- bytes in double quotes
-abbrev pub quoted : List ℕ → List ℕ
-quoted bytes = 34 ∷ bytes ++ 34 ∷ []
+-- ---- calls and replies
 
 -- a number in decimal, or a text in double quotes
 abbrev pub value_text : Value → List ℕ
 value_text (Word n) = decimal n
-value_text (Text bytes) = quoted bytes
-
--- a value after others
-abbrev pub next_value : Value → List ℕ
-next_value v = codes ", " ++ value_text v
+value_text (Text bytes) = 34 ∷ bytes ++ 34 ∷ []
 
 -- values with a comma and a space between them
 abbrev pub listed : List Value → List ℕ
 listed [] = []
-listed (v ∷ values) = value_text v ++ flat_map next_value values
+listed (v ∷ values) = value_text v ++ flat_map (λ w. codes ", " ++ value_text w) values
 
 -- whether a function takes a descriptor or a parent
 abbrev pub takes_id : Facts → ℕ → Bool
 takes_id facts fun = takes_desc (fun_at facts.funs fun) || takes_parent (fun_at facts.funs fun)
+
+-- a call: its function's name, and in brackets the descriptor or parent, where the function takes one, and the arguments
+abbrev pub call_text : Facts → Call → List ℕ
+call_text facts call =
+    (fun_at facts.funs call.fun).name ++ codes "("
+    ++ listed (if takes_id facts call.fun then Word call.desc ∷ call.args else call.args)
+    ++ codes ")"
 
 -- the name of a code
 abbrev pub code_name : Code → List ℕ
@@ -67,45 +65,19 @@ code_name Gap = codes "Gap"
 code_name TooBig = codes "TooBig"
 code_name BadName = codes "BadName"
 
--- ---- calls and replies
-
--- a call: its function's name, and in brackets the descriptor or parent, where the function takes one, and the arguments
-abbrev pub call_text : Facts → Call → List ℕ
-call_text facts call =
-    (fun_at facts.funs call.fun).name ++ codes "("
-    ++ listed (if takes_id facts call.fun then Word call.desc ∷ call.args else call.args)
-    ++ codes ")"
-
--- whether a function's Ok shows its bytes: the one that reads a file
-abbrev pub shows_bytes : Fun → Bool
-shows_bytes f = bytes_eq f.name (codes "tread")
-
--- an Ok of a function: its descriptor, where it has one, its words, and its bytes where they are shown
-abbrev pub good_text : Fun → Good → List ℕ
-good_text f good =
-    codes "ok" ++ (if good.desc == 0 then [] else codes " #" ++ decimal good.desc)
-    ++ flat_map (λ word. codes " " ++ decimal word) good.words
-    ++ (if shows_bytes f then codes " " ++ quoted good.bytes else [])
-
--- a reply to a function
+-- a reply to a function: of an Ok its descriptor, where it has one, its words, and its bytes, which the function that reads a file shows
 abbrev pub reply_text : Fun → Reply → List ℕ
 reply_text f (Refused code) = codes "refused " ++ code_name code
-reply_text f (Ok good) = good_text f good
+reply_text f (Ok good) =
+    codes "ok" ++ (if good.desc == 0 then [] else codes " #" ++ decimal good.desc)
+    ++ flat_map (λ word. codes " " ++ decimal word) good.words
+    ++ (if bytes_eq f.name (codes "tread") then codes " " ++ value_text (Text good.bytes) else [])
 
 -- the line of an entry
 abbrev pub entry_line : Facts → Entry → List ℕ
 entry_line facts e =
     codes "c" ++ decimal e.call.client ++ codes "." ++ decimal e.call.seq ++ codes " "
     ++ call_text facts e.call ++ codes " = " ++ reply_text (fun_at facts.funs e.call.fun) e.reply ++ line_end
-
--- how a client ended
-abbrev pub end_text : Facts → End → List ℕ
-end_text facts Done = codes " done"
-end_text facts (Blocked call) = codes " blocked " ++ call_text facts call
-
--- the line of how a client ended
-abbrev pub end_line : Facts → ℕ × End → List ℕ
-end_line facts e = codes "client " ++ decimal e.0 ++ end_text facts e.1 ++ line_end
 
 -- ---- the trace
 
@@ -125,65 +97,48 @@ item_text facts (Load key client) shown outcome = codes "load " ++ key ++ codes 
 item_text facts (Client client seq) shown outcome =
     codes "call c" ++ decimal client ++ codes "." ++ decimal seq ++ codes " " ++ call_text facts shown ++ outcome_text outcome
 
--- the line of an item
-abbrev pub item_line : Facts → Item → List ℕ
-item_line facts item = item_text facts item.tag item.shown item.outcome ++ line_end
-
--- the line of a stop, where a boot had one
-abbrev pub stop_line : Option ℕ → List ℕ
-stop_line None = []
-stop_line (Some point) = codes "stop " ++ decimal point ++ line_end
-
--- a boot under its number
-abbrev pub boot_lines : Facts → ℕ → Boot → List ℕ
-boot_lines facts number b = codes "boot " ++ decimal number ++ line_end ++ flat_map (item_line facts) b.items ++ stop_line b.stop
-
--- boots, numbered from this one on
+-- boots, numbered from this one on: the items of each, and its stop, where it had one
 abbrev pub boots_lines : Facts → ℕ → List Boot → List ℕ
 boots_lines facts number [] = []
-boots_lines facts number (b ∷ boots) = boot_lines facts number b ++ boots_lines facts (number + 1) boots
-
--- the trace: the boots, and the number of points that were asked
-abbrev pub trace_lines : Facts → Run → List ℕ
-trace_lines facts run = boots_lines facts 1 run.boots ++ codes "points " ++ decimal run.points ++ line_end
+boots_lines facts number (b ∷ boots) =
+    (codes "boot " ++ decimal number ++ line_end ++ flat_map (λ item. item_text facts item.tag item.shown item.outcome ++ line_end) b.items
+    ++ (elim b.stop [ None ↦ [] | Some point ↦ codes "stop " ++ decimal point ++ line_end ]))
+    ++ boots_lines facts (number + 1) boots
 
 -- ---- the run
 
--- whether an item is a call of a walk that replied
-abbrev pub is_replay : Tag → Outcome → Bool
-is_replay (Walk id k client) (Replied reply patch) = true
-is_replay tag outcome = false
+-- whether an item is a replayed call that was answered, of a descriptor whose id meets a test
+abbrev pub is_replay_for : (ℕ → Bool) → Tag → Outcome → Bool
+is_replay_for test (Walk id k client) outcome = test id && is_replied outcome
+is_replay_for test (Load key client) outcome = false
+is_replay_for test (Client client seq) outcome = false
 
--- the greatest number of 64 bits, at which counts stand still
-abbrev pub greatest_count : ℕ
-greatest_count = 2 ^ 64 - 1
+-- how many items are
+abbrev pub replays_for : (ℕ → Bool) → List Item → ℕ
+replays_for test items = length (filter (λ item. is_replay_for test item.tag item.outcome) items)
 
--- how many calls of walks replied, up to the greatest number of 64 bits
-abbrev pub replays_of : List Item → ℕ
-replays_of items = min (length (filter (λ item. is_replay item.tag item.outcome) items)) greatest_count
-
--- the counts: entries, boots, and calls of walks that replied
+-- the counts: entries, boots, and calls of walks that replied, which are counted up to the greatest number of 64 bits
 abbrev pub counts_text : List Entry → Run → List ℕ
 counts_text history run =
     codes "calls " ++ decimal (length history) ++ codes " boots " ++ decimal (length run.boots)
-    ++ codes " replays " ++ decimal (replays_of (items_of run.boots))
+    ++ codes " replays " ++ decimal (min (replays_for (λ id. true) (items_of run.boots)) last_count)
 
--- a run: a line for each entry, a line for each client that has a call, the counts, and the trace where it is asked for
+-- how a client ended
+abbrev pub end_text : Facts → End → List ℕ
+end_text facts Done = codes " done"
+end_text facts (Blocked call) = codes " blocked " ++ call_text facts call
+
+-- a run: a line for each entry, a line for each client that has a call, the counts, and the trace where it is asked for: the boots, and the
+-- number of points that were asked
 abbrev pub report_of : Facts → Ended → Bool → List ℕ
 report_of facts ended with_trace =
     flat_map (entry_line facts) ended.history.items
-    ++ flat_map (end_line facts) ended.ends
+    ++ flat_map (λ e. codes "client " ++ decimal e.0 ++ end_text facts e.1 ++ line_end) ended.ends
     ++ counts_text ended.history.items (run_of ended.trace) ++ line_end
-    ++ (if with_trace then trace_lines facts (run_of ended.trace) else [])
-
--- ---- generated loads
-
--- how many of these ends are those of clients that wait
-abbrev pub blocked_among : List (ℕ × End) → ℕ
-blocked_among ends = length (filter (λ e. is_blocked e.1) ends)
+    ++ (if with_trace then boots_lines facts 1 (run_of ended.trace).boots ++ codes "points " ++ decimal (run_of ended.trace).points ++ line_end else [])
 
 -- the line of a generated load: its service's name and the number that it was generated from, the counts, and how many clients wait
 abbrev pub load_line_of : List ℕ → ℕ → Ended → List ℕ
 load_line_of name number ended =
     codes "load " ++ name ++ codes " " ++ decimal number ++ codes ": " ++ counts_text ended.history.items (run_of ended.trace)
-    ++ codes " blocked " ++ decimal (blocked_among ended.ends) ++ line_end
+    ++ codes " blocked " ++ decimal (length (filter (λ e. is_blocked e.1) ended.ends)) ++ line_end

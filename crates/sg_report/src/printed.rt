@@ -5,7 +5,8 @@ ghost use Rattle.std.specs.List.{flat_map};
 ghost use Rattle.sg_facts.specs.Trace.{run_of};
 ghost use Rattle.sg_facts.specs.Words.{line_end};
 ghost use Rattle.sg_facts.specs.Facts.{facts_of};
-ghost use Rattle.sg_report.specs.Report.{blocked_among, counts_text, end_line, end_text, entry_line, load_line_of, report_of};
+ghost use Rattle.sg_report.specs.Report.{counts_text, entry_line, load_line_of, report_of, end_text};
+ghost use Rattle.sg_report.specs.Inside.Pieces.{blocked_among};
 
 use crate::traced::{push_trace, replays_in};
 use crate::words::{push_answer, push_call, push_number};
@@ -112,7 +113,7 @@ fn push_ends(
     iface: &Interface,
     ends: &[(u8, End)],
 ) -> Result<(), NoMemory>
-    ensures { OnOk result (out.new ≡ out.old ++ flat_map (end_line iface.now.facts) ends.now) }
+    ensures { OnOk result (out.new ≡ out.old ++ flat_map (λ e. codes "client " ++ decimal e.0 ++ end_text iface.now.facts e.1 ++ line_end) ends.now) }
 {
     for (client, end) in ends {
         out.extend_from_slice(b"client ")?;

@@ -1,10 +1,14 @@
 // The trace, boot by boot.
-ghost use Rattle.std.specs.Prelude.{◌≡◌, ◌++◌, ◌+◌, [], OnOk, filter, length, map, min, codes};
+ghost use Rattle.std.specs.Prelude.{◌≡◌, ◌++◌, ◌+◌, [], OnOk, filter, length, map, min, codes, true};
 ghost use Rattle.std.specs.Fmt.{decimal};
 ghost use Rattle.std.specs.List.{flat_map};
-ghost use Rattle.sg_facts.specs.Trace.{boot_of, run_of};
+ghost use Rattle.sg_facts.specs.Trace.{run_of};
+ghost use Rattle.sg_facts.specs.Inside.Rows.{boot_of};
 ghost use Rattle.sg_hist.specs.Reading.{items_of};
-ghost use Rattle.sg_report.specs.Report.{boot_lines, boots_lines, call_text, greatest_count, is_replay, item_line, item_text, outcome_text, replays_of, stop_line, trace_lines};
+ghost use Rattle.sg_report.specs.Report.{boots_lines, call_text, is_replay_for, item_text, outcome_text};
+ghost use Rattle.sg_report.specs.Inside.Pieces.{boot_lines, replays_of, stop_line, trace_lines};
+ghost use Rattle.sg_facts.specs.sg_base.Counts.{last_count};
+ghost use Rattle.sg_facts.specs.Words.{line_end};
 
 use crate::words::{push_call, push_number};
 use sg_facts::{BootLog, Bytes, Call, Interface, Item, NoMemory, Outcome, Tag, Trace};
@@ -64,7 +68,7 @@ fn push_items(
     iface: &Interface,
     items: &[Item],
 ) -> Result<(), NoMemory>
-    ensures { OnOk result (out.new ≡ out.old ++ flat_map (item_line iface.now.facts) items.now) }
+    ensures { OnOk result (out.new ≡ out.old ++ flat_map (λ item. item_text iface.now.facts item.tag item.shown item.outcome ++ line_end) items.now) }
 {
     for item in items {
         push_item(out, alloc, iface, item)?;
@@ -174,7 +178,7 @@ pub fn replays_in(boots: &[BootLog]) -> u64
 
 // How many calls of walks replied, where so many did before these items.
 fn replays_after(before: u64, items: &[Item]) -> u64
-    ensures { result ≡ min (before + length (filter (λ item. is_replay item.tag item.outcome) items.now)) greatest_count }
+    ensures { result ≡ min (before + length (filter (λ item. is_replay_for (λ id. true) item.tag item.outcome) items.now)) last_count }
 {
     let mut count = before;
     'items: for item in items {
@@ -187,7 +191,7 @@ fn replays_after(before: u64, items: &[Item]) -> u64
 
 // Whether an item is a call of a walk that replied.
 fn is_replay(item: &Item) -> bool
-    ensures { result ≡ is_replay item.now.tag item.now.outcome }
+    ensures { result ≡ is_replay_for (λ id. true) item.now.tag item.now.outcome }
 {
     matches!(item.tag, Tag::Walk { .. }) && matches!(item.outcome, Outcome::Replied { .. })
 }

@@ -5,8 +5,10 @@ ghost use Rattle.std.specs.List.{flat_map};
 ghost use Rattle.std.specs.Str.{bytes_eq};
 ghost use Rattle.sg_facts.specs.sg_base.declared.value.Value.TheVariants.{Word};
 ghost use Rattle.sg_facts.specs.Facts.{fun_at, fun_of_shape, takes_desc, takes_parent};
-ghost use Rattle.sg_report.specs.Report.{call_text, code_name, good_text, listed, next_value, quoted, reply_text, value_text};
+ghost use Rattle.sg_report.specs.Report.{call_text, code_name, listed, reply_text, value_text};
+ghost use Rattle.sg_report.specs.Inside.Pieces.{good_text, quoted};
 
+use itoa::Buffer;
 use sg_facts::{Bytes, Call, Code, FunShape, Good, Interface, NoMemory, Reply, Value};
 use std::alloc::Global;
 
@@ -53,7 +55,7 @@ fn push_listed(out: &mut Bytes, alloc: Global, values: &[Value]) -> Result<(), N
 
 // Values after others.
 fn push_more(out: &mut Bytes, alloc: Global, values: &[Value]) -> Result<(), NoMemory>
-    ensures { OnOk result (out.new ≡ out.old ++ flat_map next_value values.now) }
+    ensures { OnOk result (out.new ≡ out.old ++ flat_map (λ v. codes ", " ++ value_text v) values.now) }
 {
     for value in values {
         out.extend_from_slice(b", ")?;
@@ -128,11 +130,10 @@ fn push_words(out: &mut Bytes, alloc: Global, words: &[u64]) -> Result<(), NoMem
 }
 
 /// A number in decimal.
-pub fn push_number(out: &mut Bytes, alloc: Global, number: u64) -> Result<(), NoMemory>
+pub fn push_number(out: &mut Bytes, _alloc: Global, number: u64) -> Result<(), NoMemory>
     ensures { OnOk result (out.new ≡ out.old ++ decimal number) }
 {
-    let digits = number.to_string(alloc)?;
-    out.extend_from_slice(digits.as_bytes())
+    out.extend_from_slice(Buffer::new().format(number).as_bytes())
 }
 
 // The name of a code.

@@ -12,7 +12,8 @@ use Rattle.sg_facts.specs.sg_base.declared.reply.Reply.TheVariants.{Ok, Refused}
 use Rattle.sg_facts.specs.declared.row.Row.{Row}
 use Rattle.sg_facts.specs.Facts.{fun_at, takes_desc}
 use Rattle.sg_facts.specs.Laws.{state_in}
-use Rattle.sg_facts.specs.Track.{row_at, row_after, arg_at}
+use Rattle.sg_facts.specs.Track.{row_at, arg_at}
+use Rattle.sg_facts.specs.Inside.Rows.{row_after}
 use Rattle.sg_facts.specs.Object.{Object, patch_of}
 use Rattle.sg_slots.specs.declared.decision.Decision.{Decision}
 use Rattle.sg_slots.specs.declared.decision.Decision.TheVariants.{Block, Keep, Remove}
@@ -22,7 +23,8 @@ use Rattle.sg_slots.proofs.Rows.{row_at-rows_of, rows_of-more, rows_of-set, rows
 use Rattle.sg_slots.proofs.SoundRows.{change}
 use Rattle.sg_sched.specs.declared.thread.Thread.{Thread}
 use Rattle.sg_sched.specs.SchedFacts.{sched_facts}
-use Rattle.sg_sched.specs.SchedTable.{sched_table, sched_parts, sched_wait_answer, next_answer, next_rank, first_ready}
+use Rattle.sg_sched.specs.SchedTable.{sched_table, sched_parts, next_rank, first_ready}
+use Rattle.sg_sched.specs.Inside.SchedAnswer.{sched_wait_answer, next_answer}
 use Rattle.sg_sched.specs.SchedRow.{thread_body}
 use Rattle.sg_sched.specs.Inside.SchedDecision.{on_create, on_yield, on_sleep, on_wakeup, on_thread_wait, on_next, on_place}
 

@@ -22,7 +22,8 @@ use Rattle.sg_sched.specs.declared.thread.Thread.{Thread}
 use Rattle.sg_sched.specs.Inside.SchedKeys.{key_cmp, has}
 use Rattle.sg_sched.specs.Inside.SchedIndex.{Indexes, is_queued, is_ranked}
 use Rattle.sg_sched.specs.SchedRow.{thread_body}
-use Rattle.sg_sched.specs.SchedTable.{goes_before, first_ready, is_ready, rank_of}
+use Rattle.sg_sched.specs.SchedTable.{goes_before, first_ready, rank_of}
+use Rattle.sg_sched.specs.Inside.SchedAnswer.{is_ready}
 use Rattle.sg_sched.specs.Inside.SchedFirst.{by, by_same, by_more, sides, first_meets, is_first}
 use Rattle.sg_sched.specs.Inside.SchedRanks.{most, most_within, found_most}
 

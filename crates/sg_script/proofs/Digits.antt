@@ -3,7 +3,8 @@ use Rattle.std.proofs.Common.{◌≡◌, ℕ, ◌+◌, ◌*◌, ◌-◌, ◌<◌
 use Rattle.std.proofs.lemmas.Bool.Decides.{nat_tests}
 use Rattle.std.proofs.lemmas.List.{at_drop_more}
 use Rattle.std.specs.List.{fold}
-use Rattle.sg_script.specs.Numbers.{bounded, greatest_number, value_of_digits}
+use Rattle.sg_facts.specs.sg_base.Counts.{last_count}
+use Rattle.sg_script.specs.Numbers.{bounded, value_of_digits}
 
 abbrev pub after : ℕ → List ℕ → ℕ
 after a digits = fold (λ b d. 10 * b + (d - 48)) a digits
@@ -13,19 +14,19 @@ grows : (digits : List ℕ) (a : ℕ) → a ≤ after a digits
 grows [] a = omega arith
 grows (d ∷ digits) a = omega (arith, grows digits (10 * a + (d - 48)))
 
-pub is_bounded : (n : ℕ) → n ≤ greatest_number → Some n ≡ bounded n
+pub is_bounded : (n : ℕ) → n ≤ last_count → Some n ≡ bounded n
 is_bounded n le = grind (arith, nat_tests)
 
-from_none : (n : ℕ) → None ≡ bounded n → greatest_number < n
+from_none : (n : ℕ) → None ≡ bounded n → last_count < n
 from_none n none = grind (arith, nat_tests)
 
-to_none : (n : ℕ) → greatest_number < n → None ≡ bounded n
+to_none : (n : ℕ) → last_count < n → None ≡ bounded n
 to_none n above = grind (arith, nat_tests)
 
 pub from_some : (n m : ℕ) → Some m ≡ bounded n → m ≡ n
 from_some n m some = grind (arith, nat_tests)
 
-pub fits_some : (n m : ℕ) → Some m ≡ bounded n → m ≤ greatest_number
+pub fits_some : (n m : ℕ) → Some m ≡ bounded n → m ≤ last_count
 fits_some n m some = grind (arith, nat_tests)
 
 module _ (digits : List ℕ) (i value : ℕ) (within : i < length digits) where

@@ -1,5 +1,5 @@
 -- The first of flaws: it is what is kept, and there is one at most.
-use Rattle.std.proofs.Common.{◌≡◌, ◌⊎◌, ℕ, suc, zero, true, false, if◌then◌else◌, ◌==◌, List, [], ◌∷◌, None, Some, Option, refl, sym, ◌∙◌, ap, subst, inl, inr, arith}
+use Rattle.std.proofs.Common.{◌≡◌, ◌⊎◌, ℕ, ◌<◌, ◌≤◌, suc, zero, true, false, if◌then◌else◌, ◌==◌, List, [], ◌∷◌, None, Some, Option, refl, sym, ◌∙◌, ap, subst, inl, inr, arith}
 use Rattle.std.specs.Prelude.{MatchOption}
 use Rattle.std.specs.List.{Contains}
 use Rattle.std.proofs.lemmas.Bool.{cases_order}
@@ -8,9 +8,13 @@ use Rattle.sg_script.specs.declared.fault.ScriptFault.{ScriptFault}
 use Rattle.sg_script.specs.declared.fault.ScriptKind.{ScriptKind}
 use Rattle.sg_script.specs.declared.fault.ScriptKind.TheVariants.{Syntax, UnknownFunction, BadArgs, BadClient, Twice, NotAscending, Blocking, Limit}
 use Rattle.sg_script.specs.Inside.Firsts.{first_behind, is_not_after}
-use Rattle.sg_script.specs.Flaws.{IsFirstFlaw, IsNotAfter, script_kind_rank}
+use Rattle.sg_script.specs.Flaws.{IsFirstFlaw, script_kind_rank}
 
 -- ---- the order
+
+-- a flaw comes before another, or is the same: at an earlier place, or at one place and of no later kind
+abbrev IsNotAfter : ScriptFault → ScriptFault → Type 0
+IsNotAfter f g = (f.at < g.at) ⊎ ((f.at ≡ g.at) × (script_kind_rank f.kind ≤ script_kind_rank g.kind))
 
 -- of two flaws one isn't after the other
 one_first : (f g : ScriptFault) → ((is_not_after f g ≡ true) × IsNotAfter f g) ⊎ ((is_not_after f g ≡ false) × IsNotAfter g f)

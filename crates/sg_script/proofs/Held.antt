@@ -9,7 +9,7 @@ use Rattle.sg_facts.specs.declared.shape.Kind.{Kind}
 use Rattle.sg_facts.specs.declared.shape.Kind.TheVariants.{Desc, Parent, Word, Text as IsText}
 use Rattle.sg_facts.specs.Facts.{fun_at}
 use Rattle.sg_facts.specs.Interface.{Declared}
-use Rattle.sg_script_parse.specs.Grammar.Spelling.{Spelling}
+use Rattle.sg_script_parse.specs.sg_lex.Lexeme.{Spelling}
 use Rattle.sg_script_parse.specs.declared.tree.WrittenArg.{WrittenArg}
 use Rattle.sg_script_parse.specs.declared.tree.WrittenArg.TheVariants.{Number, Text, Back}
 use Rattle.sg_script_parse.specs.declared.tree.WrittenCall.{WrittenCall}
@@ -19,7 +19,9 @@ use Rattle.sg_script.specs.declared.fault.ScriptKind.{ScriptKind}
 use Rattle.sg_script.specs.declared.fault.ScriptKind.TheVariants.{BadClient, Limit}
 use Rattle.sg_script.specs.Numbers.{counts_as, is_text}
 use Rattle.sg_script.specs.Scripts.{calls_of_setup, declared_fun}
-use Rattle.sg_script.specs.Flaws.{written_arg_fits, arg_flaws, written_args_fit, call_flaws, calls_before, calls_flaws, calls_in, client_flaws, script_flaw_if, flaws_behind, flaws_of, fun_flaws, inner_flaws, part_flaws}
+use Rattle.sg_script.specs.Flaws.{written_arg_fits, written_args_fit, call_flaws, calls_before, calls_flaws, calls_in, client_flaws, script_flaw_if, flaws_behind, flaws_of, part_flaws}
+use Rattle.sg_script.specs.Inside.Parts.{arg_flaws, fun_flaws, inner_flaws}
+use Rattle.sg_script.proofs.Parts.{by_part}
 use Rattle.sg_script.specs.Inside.Held.{is_client_number, is_held, is_held_arg, is_held_call}
 
 -- ---- texts
@@ -117,7 +119,8 @@ counted front p =
 pub inner_none : (i : Declared) (setup : ℕ) (front : List Part) (p : Part) (parts : List Part) → flaws_behind i setup front (p ∷ parts) ≡ []
     → inner_flaws i setup (length (flat_map calls_in front)) p ≡ []
 inner_none i setup front p parts e =
-    back_none _ (inner_flaws i setup (length (flat_map calls_in front)) p) (front_none (part_flaws i setup front p) (flaws_behind i setup (front ++ p ∷ []) parts) e)
+    back_none _ (inner_flaws i setup (length (flat_map calls_in front)) p)
+    (sym (by_part i setup front p) ∙ front_none (part_flaws i setup front p) (flaws_behind i setup (front ++ p ∷ []) parts) e)
 
 pub behind_none : (i : Declared) (setup : ℕ) (front : List Part) (p : Part) (parts : List Part) → flaws_behind i setup front (p ∷ parts) ≡ []
     → flaws_behind i setup (front ++ p ∷ []) parts ≡ []

@@ -2,4 +2,5 @@ pub mod Digits
 pub mod Earliest
 pub mod Held
 pub mod Naming
+pub mod Parts
 pub mod Unique

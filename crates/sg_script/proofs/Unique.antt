@@ -12,9 +12,10 @@ use Rattle.sg_script_parse.proofs.Grammar.Readings.{only_answer}
 use Rattle.sg_script.specs.declared.script.Script.{Script}
 use Rattle.sg_script.specs.declared.fault.ScriptFault.{ScriptFault}
 use Rattle.sg_script.specs.declared.fault.ScriptError.{ScriptError}
+use Rattle.sg_script.specs.declared.fault.ScriptKind.TheVariants.{Syntax}
 use Rattle.sg_script.specs.declared.fault.ScriptError.TheVariants.{NoMemory, Fault}
 use Rattle.sg_script.specs.Flaws.{IsFirstFlaw, flaws_of}
-use Rattle.sg_script.specs.Reads.{IsFlawed, IsNoScript, IsScript, IsReadingOf}
+use Rattle.sg_script.specs.Reads.{IsReadingOf}
 use Rattle.sg_script.specs.Scripts.{script_of}
 use Rattle.sg_script.proofs.Earliest.{one_at_most}
 
@@ -45,32 +46,40 @@ not_both text parts at h g =
 none_there : (f : ScriptFault) → Contains [] f → ⊥
 none_there f (k, within, is) = omega (arith, within)
 
-not_flawless : (i : Declared) (text : List ℕ) (script : Script) (f : ScriptFault) → IsScript i text script → IsFlawed i text f → ⊥
+-- a text is no script of the grammar, and fails at this place
+abbrev IsNoScript : List ℕ → ScriptFault → Type 0
+IsNoScript text f = (f.kind ≡ Syntax) × ScriptParses text (Err (syntax f.at))
+
+-- a text is a script of the grammar, and this is the first that is wrong with it
+abbrev IsFlawed : Declared → List ℕ → ScriptFault → Type 0
+IsFlawed i text f = (parts : List Part) × ScriptParses text (Ok parts) × IsFirstFlaw (flaws_of i parts) f
+
+not_flawless : (i : Declared) (text : List ℕ) (script : Script) (f : ScriptFault) → IsReadingOf i text (Ok script) → IsFlawed i text f → ⊥
 not_flawless i text script f good bad =
-    let same : good.parts ≡ bad.parts = one_list text good.parts bad.parts good.parses bad.parses in
-    none_there f (subst (λ flaws. Contains flaws f) (ap (flaws_of i) (sym same) ∙ good.flawless) bad.first.there)
+    let same : good.0 ≡ bad.0 = one_list text good.0 bad.0 good.1 bad.1 in
+    none_there f (subst (λ flaws. Contains flaws f) (ap (flaws_of i) (sym same) ∙ good.2) bad.2.there)
 
 same_fault : (f g : ScriptFault) → f.kind ≡ g.kind → f.at ≡ g.at → f ≡ g
 same_fault f g kind at = ap (λ a. record { at = a; kind = f.kind }) at ∙ ap (λ k. record { at = g.at; kind = k }) kind
 
 one_fault : (i : Declared) (text : List ℕ) (f g : ScriptFault) → IsNoScript text f ⊎ IsFlawed i text f → IsNoScript text g ⊎ IsFlawed i text g → f ≡ g
-one_fault i text f g (inl a) (inl b) = same_fault f g (a.kind ∙ sym b.kind) (one_place text f.at g.at a.parses b.parses)
-one_fault i text f g (inl a) (inr b) = absurd (not_both text b.parts f.at b.parses a.parses)
-one_fault i text f g (inr a) (inl b) = absurd (not_both text a.parts g.at a.parses b.parses)
+one_fault i text f g (inl a) (inl b) = same_fault f g (a.0 ∙ sym b.0) (one_place text f.at g.at a.1 b.1)
+one_fault i text f g (inl a) (inr b) = absurd (not_both text b.0 f.at b.1 a.1)
+one_fault i text f g (inr a) (inl b) = absurd (not_both text a.0 g.at a.1 b.1)
 one_fault i text f g (inr a) (inr b) =
-    let same : a.parts ≡ b.parts = one_list text a.parts b.parts a.parses b.parses in
-    one_at_most (flaws_of i b.parts) f g (subst (λ parts. IsFirstFlaw (flaws_of i parts) f) same a.first) b.first
+    let same : a.0 ≡ b.0 = one_list text a.0 b.0 a.1 b.1 in
+    one_at_most (flaws_of i b.0) f g (subst (λ parts. IsFirstFlaw (flaws_of i parts) f) same a.2) b.2
 
-not_fault : (i : Declared) (text : List ℕ) (script : Script) (f : ScriptFault) → IsScript i text script → IsNoScript text f ⊎ IsFlawed i text f → ⊥
-not_fault i text script f good (inl bad) = not_both text good.parts f.at good.parses bad.parses
+not_fault : (i : Declared) (text : List ℕ) (script : Script) (f : ScriptFault) → IsReadingOf i text (Ok script) → IsNoScript text f ⊎ IsFlawed i text f → ⊥
+not_fault i text script f good (inl bad) = not_both text good.0 f.at good.1 bad.1
 not_fault i text script f good (inr bad) = not_flawless i text script f good bad
 
 -- two answers on one text are one
 pub one_reading : (i : Declared) (text : List ℕ) (one other : Result Script ScriptError) → IsReadingOf i text one → IsReadingOf i text other
     → one ≢ Err NoMemory → other ≢ Err NoMemory → one ≡ other
 one_reading i text (Ok s) (Ok t) a b n m =
-    let same : a.parts ≡ b.parts = one_list text a.parts b.parts a.parses b.parses in
-    ap Ok (a.is ∙ ap (script_of i) same ∙ sym b.is)
+    let same : a.0 ≡ b.0 = one_list text a.0 b.0 a.1 b.1 in
+    ap Ok (a.3 ∙ ap (script_of i) same ∙ sym b.3)
 one_reading i text (Ok s) (Err NoMemory) a b n m = absurd (m refl)
 one_reading i text (Ok s) (Err (Fault f)) a b n m = absurd (not_fault i text s f a b)
 one_reading i text (Err NoMemory) other a b n m = absurd (n refl)

@@ -2,3 +2,4 @@
 pub mod Firsts
 pub mod Fronts
 pub mod Held
+pub mod Parts

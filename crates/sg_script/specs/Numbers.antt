@@ -1,7 +1,8 @@
 -- What numbers and texts of a script stand for.
-use Rattle.std.specs.Prelude.{ℕ, ◌+◌, ◌*◌, ◌-◌, ◌^◌, Bool, ◌&&◌, not, nat_le, if◌then◌else◌, List, None, Some, length, take, drop}
+use Rattle.std.specs.Prelude.{ℕ, ◌+◌, ◌*◌, ◌-◌, Bool, ◌&&◌, nat_le, if◌then◌else◌, List, None, Some, length, min, take, drop}
 use Rattle.std.specs.declared.option.Option.{Option}
 use Rattle.std.specs.List.{fold, list_all}
+use Rattle.sg_facts.specs.sg_base.Counts.{last_count}
 use Rattle.sg_facts.specs.sg_base.Text.{is_text_byte}
 use Rattle.sg_facts.specs.Limits.{last_client}
 
@@ -9,21 +10,13 @@ use Rattle.sg_facts.specs.Limits.{last_client}
 abbrev pub value_of_digits : List ℕ → ℕ
 value_of_digits digits = fold (λ a d. 10 * a + (d - 48)) 0 digits
 
--- the greatest number of 64 bits
-abbrev pub greatest_number : ℕ
-greatest_number = 2 ^ 64 - 1
-
--- whether digits stand for a number above the greatest
-abbrev pub is_above : List ℕ → Bool
-is_above digits = not (nat_le (value_of_digits digits) greatest_number)
-
--- what digits count as: a number above the greatest counts as the greatest
+-- what digits count as: a number above the greatest of 64 bits counts as the greatest
 abbrev pub counts_as : List ℕ → ℕ
-counts_as digits = if is_above digits then greatest_number else value_of_digits digits
+counts_as digits = min (value_of_digits digits) last_count
 
 -- a number; None where it is above the greatest of 64 bits
 abbrev pub bounded : ℕ → Option ℕ
-bounded n = if nat_le n greatest_number then Some n else None
+bounded n = if nat_le n last_count then Some n else None
 
 -- what digits stand for; None where that is above the greatest number
 abbrev pub number_of_digits : List ℕ → Option ℕ

@@ -5,13 +5,11 @@ use Rattle.std.specs.List.{flat_map, fold}
 use Rattle.std.specs.Str.{bytes_eq}
 use Rattle.sg_facts.specs.Facts.{Fun}
 use Rattle.sg_facts.specs.Interface.{Declared, declares}
-use Rattle.sg_script_parse.specs.Grammar.Spelling.{Spelling}
 use Rattle.sg_script_parse.specs.declared.tree.WrittenArg.{WrittenArg}
 use Rattle.sg_script_parse.specs.declared.tree.WrittenArg.TheVariants.{Number as number, Text as text, Back as back}
 use Rattle.sg_script_parse.specs.declared.tree.WrittenCall.{WrittenCall}
 use Rattle.sg_script_parse.specs.declared.tree.Part.{Part}
 use Rattle.sg_script_parse.specs.declared.tree.Part.TheVariants.{Setup, Client, Schedule, Stop}
-use Rattle.sg_script.specs.declared.script.Arg.{Arg}
 use Rattle.sg_script.specs.declared.script.Arg.TheVariants.{Number, Text, Back}
 use Rattle.sg_script.specs.declared.script.ScriptCall.{ScriptCall}
 use Rattle.sg_script.specs.declared.script.Script.{Script}
@@ -30,62 +28,37 @@ declared_fun i name = declared_from i name 1 i.facts.funs
 
 -- ---- calls
 
--- what a written argument stands for
-abbrev pub arg_of : WrittenArg → Arg
-arg_of (number n) = Number (counts_as n.bytes)
-arg_of (text t) = Text (unquoted t.bytes)
-arg_of (back n) = Back (counts_as n.bytes)
-
 -- what a written call stands for; the function is 0 where the interface declares none of its name
 abbrev pub script_call_of : Declared → WrittenCall → ScriptCall
-script_call_of i c = record { fun = unwrap_or (declared_fun i c.name.bytes) 0; args = map arg_of c.args }
+script_call_of i c = record {
+  fun = unwrap_or (declared_fun i c.name.bytes) 0;
+  args = map (λ (a : WrittenArg). elim a [
+    | number n ↦ Number (counts_as n.bytes)
+    | text t ↦ Text (unquoted t.bytes)
+    | back n ↦ Back (counts_as n.bytes)
+  ]) c.args;
+}
 
 -- ---- parts
 
 -- the calls of a part that is a setup
 abbrev pub calls_of_setup : Part → List WrittenCall
 calls_of_setup (Setup at calls) = calls
-calls_of_setup (Client at n calls) = []
-calls_of_setup (Schedule at numbers) = []
-calls_of_setup (Stop at numbers) = []
-
--- the turns that a part gives, and its stops
-
--- the turns that a part gives: the clients of a schedule
-abbrev pub turns_of : Part → List Spelling
-turns_of (Setup at calls) = []
-turns_of (Client at n calls) = []
-turns_of (Schedule at numbers) = numbers
-turns_of (Stop at numbers) = []
-
--- the stops that a part gives
-abbrev pub stops_of : Part → List Spelling
-stops_of (Setup at calls) = []
-stops_of (Client at n calls) = []
-stops_of (Schedule at numbers) = []
-stops_of (Stop at numbers) = numbers
+calls_of_setup _ = []
 
 -- a client with its calls, in its place among others in ascending numbers
 abbrev pub placed : ℕ → List ScriptCall → List (ℕ × List ScriptCall) → List (ℕ × List ScriptCall)
 placed n calls [] = (n, calls) ∷ []
 placed n calls (c ∷ clients) = if nat_lt c.0 n then c ∷ placed n calls clients else (n, calls) ∷ c ∷ clients
 
--- with the client of a part among them
-abbrev pub with_client : Declared → Part → List (ℕ × List ScriptCall) → List (ℕ × List ScriptCall)
-with_client i (Setup at calls) clients = clients
-with_client i (Client at n calls) clients = placed (counts_as n.bytes) (map (script_call_of i) calls) clients
-with_client i (Schedule at numbers) clients = clients
-with_client i (Stop at numbers) clients = clients
-
--- the clients of parts, in ascending numbers
-abbrev pub clients_of : Declared → List Part → List (ℕ × List ScriptCall)
-clients_of i parts = fold (λ clients p. with_client i p clients) [] parts
-
--- the script of parts for an interface
+-- the script of parts for an interface; its clients stand in ascending numbers
 abbrev pub script_of : Declared → List Part → Script
 script_of i parts = record {
   setup = map (script_call_of i) (flat_map calls_of_setup parts);
-  clients = clients_of i parts;
-  schedule = map (λ n. counts_as n.bytes) (flat_map turns_of parts);
-  stops = map (λ n. counts_as n.bytes) (flat_map stops_of parts);
+  clients = fold (λ clients (p : Part). elim p [
+    | Client _ n calls ↦ placed (counts_as n.bytes) (map (script_call_of i) calls) clients
+    | _ ↦ clients
+  ]) [] parts;
+  schedule = map (λ n. counts_as n.bytes) (flat_map (λ (p : Part). elim p [ Schedule _ numbers ↦ numbers | _ ↦ [] ]) parts);
+  stops = map (λ n. counts_as n.bytes) (flat_map (λ (p : Part). elim p [ Stop _ numbers ↦ numbers | _ ↦ [] ]) parts);
 }

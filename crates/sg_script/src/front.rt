@@ -1,7 +1,7 @@
 // The parts of a script that were judged, as far as later ones depend on them.
 ghost use Rattle.std.specs.Prelude.{◌≡◌, ◌≤◌, ◌<◌, ◌+◌, ◌++◌, ◌∷◌, ◌^◌, ◌&&◌, [], List, false, true, slice_index_or, slice_set};
 ghost use Rattle.sg_script_parse.specs.declared.tree.Part.{Part as OnePart};
-ghost use Rattle.sg_script.specs.Flaws.{comes_again};
+ghost use Rattle.sg_script.specs.Inside.Parts.{comes_again};
 ghost use Rattle.sg_script.specs.Numbers.{is_known_client};
 ghost use Rattle.sg_script.specs.Inside.Fronts.{IsFront};
 

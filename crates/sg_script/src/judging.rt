@@ -4,7 +4,8 @@ ghost use Rattle.std.specs.List.{flat_map};
 ghost use Rattle.sg_script_parse.specs.declared.tree.Part.{Part as OnePart};
 ghost use Rattle.sg_script.specs.Inside.Firsts.{first_behind};
 ghost use Rattle.sg_script.specs.Inside.Fronts.{IsFront};
-ghost use Rattle.sg_script.specs.Flaws.{IsFirstFlaw, written_arg_fits, arg_flaws, written_args_fit, call_flaws, calls_before, calls_flaws, client_flaws, flaws_behind, flaws_of, fun_flaws, inner_flaws, number_flaws, part_flaws, part_place, stops_flaws};
+ghost use Rattle.sg_script.specs.Flaws.{IsFirstFlaw, written_arg_fits, written_args_fit, call_flaws, calls_before, calls_flaws, client_flaws, flaws_behind, flaws_of, number_flaws, part_flaws, stops_flaws};
+ghost use Rattle.sg_script.specs.Inside.Parts.{arg_flaws, fun_flaws, inner_flaws, part_place};
 ghost use Rattle.sg_script.specs.Scripts.{calls_of_setup, declared_fun};
 ghost use Rattle.sg_script.specs.Numbers.{counts_as};
 

@@ -4,7 +4,8 @@ ghost use Rattle.std.specs.List.{flat_map, insert, list_all};
 ghost use Rattle.sg_script.specs.declared.script.ScriptCall.{ScriptCall as OneCall};
 ghost use Rattle.sg_script.specs.Inside.Held.{is_client_number, is_held, is_held_arg, is_held_call};
 ghost use Rattle.sg_script.specs.Numbers.{counts_as, is_text};
-ghost use Rattle.sg_script.specs.Scripts.{arg_of, script_call_of, calls_of_setup, clients_of, placed, script_of, stops_of, turns_of, with_client};
+ghost use Rattle.sg_script.specs.Scripts.{script_call_of, calls_of_setup, placed, script_of};
+ghost use Rattle.sg_script.specs.Inside.Parts.{arg_of, clients_of, stops_of, turns_of, with_client};
 
 use crate::names::declared_fun;
 use crate::numbers::{counts_as, unquoted};

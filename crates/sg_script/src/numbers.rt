@@ -1,7 +1,8 @@
 // What numbers and texts of a script stand for.
-ghost use Rattle.std.specs.Prelude.{◌≡◌, ◌+◌, ◌*◌, ◌-◌};
+ghost use Rattle.std.specs.Prelude.{◌≡◌, ◌+◌, ◌*◌, ◌-◌, nat_lt};
 ghost use Rattle.std.specs.List.{list_all};
-ghost use Rattle.sg_script.specs.Numbers.{bounded, counts_as, is_above, is_known_client, is_text, number_of_digits, unquoted};
+ghost use Rattle.sg_script.specs.Numbers.{bounded, counts_as, is_known_client, is_text, number_of_digits, unquoted, value_of_digits};
+ghost use Rattle.sg_facts.specs.sg_base.Counts.{last_count};
 ghost use Rattle.sg_facts.specs.sg_base.Text.{is_text_byte};
 
 use sg_facts::{LAST_CLIENT, Text, is_text_byte};
@@ -15,7 +16,7 @@ pub fn counts_as(digits: &[u8]) -> u64
 
 /// Whether digits stand for a number above the greatest of 64 bits.
 pub fn is_above(digits: &[u8]) -> bool
-    ensures { result ≡ is_above digits.now }
+    ensures { result ≡ nat_lt last_count (value_of_digits digits.now) }
 {
     number_of_digits(digits).is_none()
 }

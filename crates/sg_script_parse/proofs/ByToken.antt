@@ -3,14 +3,13 @@ use Rattle.std.proofs.Common.{◌≡◌, ℕ, if◌then◌else◌, true, false, 
 use Rattle.std.specs.Prelude.{None, Some, Ok, Err, codes}
 use Rattle.sg_lex.specs.declared.token.LexFault.{LexFault}
 use Rattle.sg_lex.specs.declared.token.TokenKind.TheVariants.{Word, Number, Text}
-use Rattle.sg_lex.specs.Lexeme.{Lexeme}
+use Rattle.sg_lex.specs.Lexeme.{Lexeme, Spelling}
 use Rattle.sg_lex.specs.Tokens.{Answer}
 use Rattle.sg_script_parse.specs.declared.error.ScriptSyntax.TheVariants.{Syntax}
 use Rattle.sg_script_parse.specs.declared.tree.WrittenArg.{WrittenArg}
 use Rattle.sg_script_parse.specs.declared.tree.WrittenArg.TheVariants.{Number as number_arg, Text as text_arg, Back as back_arg}
 use Rattle.sg_script_parse.specs.declared.tree.WrittenCall.{WrittenCall}
 use Rattle.sg_script_parse.specs.declared.tree.Part.{Part}
-use Rattle.sg_script_parse.specs.Grammar.Spelling.{Spelling}
 use Rattle.sg_script_parse.specs.Grammar.Inside.States.{ScriptState, dead, due, want, argument, bracketed, listed, body, counts, script, spelt_by, argument_behind, call_rest, setup_rest, client_rest, schedule_rest, stop_rest, part_behind, with_part, step, parts_at, scripts}
 use Rattle.sg_lex.specs.Inside.Tests.{has_kind, is_this_mark, is_fixed}
 use Rattle.sg_lex.specs.Inside.Automata.{Reading, read, read_on}
@@ -18,7 +17,7 @@ use Rattle.sg_script_parse.proofs.Grammar.Basics.{if_then, if_else}
 use Rattle.sg_lex.proofs.Automata.{read_failed, read_next, read_end, goes_on, alike}
 use Rattle.sg_script_parse.specs.Inside.{spelt_token}
 use Rattle.sg_lex.specs.Inside.Ahead.{Off, Came}
-use Rattle.sg_lex.specs.Marks.{dollar_byte, close_bracket_byte, comma_byte, close_brace_byte, semicolon_byte}
+use Rattle.sg_lex.specs.Inside.Marks.{dollar_byte, close_bracket_byte, comma_byte, close_brace_byte, semicolon_byte}
 
 -- ---- no token comes
 

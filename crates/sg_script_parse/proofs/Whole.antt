@@ -6,10 +6,10 @@ use Rattle.sg_lex.specs.Tokens.{answers_of}
 use Rattle.sg_script_parse.specs.declared.error.ScriptSyntax.{ScriptSyntax}
 use Rattle.sg_script_parse.specs.declared.error.ScriptSyntax.TheVariants.{NoMemory, Syntax}
 use Rattle.sg_script_parse.specs.declared.tree.Part.{Part}
-use Rattle.sg_script_parse.specs.Grammar.Parses.{ScriptParses, ScriptParsesTo}
+use Rattle.sg_script_parse.specs.Grammar.Parses.{ScriptParses}
 use Rattle.sg_script_parse.specs.Grammar.Inside.States.{script_start, scripts}
 use Rattle.sg_lex.specs.Inside.Automata.{read, Answers}
-use Rattle.sg_script_parse.proofs.Grammar.Readings.{may_answer, only_answer}
+use Rattle.sg_script_parse.proofs.Grammar.Readings.{ScriptParsesTo, may_answer, only_answer}
 
 pub may : (text : List ℕ) (answer : Result (List Part) ScriptSyntax) → Answers scripts (read scripts script_start (record { rest = answers_of text; end = length text })) answer → ScriptParses text answer
 may text (Ok parts) h = subst (ScriptParsesTo (answers_of text) (length text)) (h (λ e. cc)) (may_answer (length text) (answers_of text))

@@ -3,4 +3,3 @@ pub mod Inside
 pub mod Parses
 pub mod Pieces
 pub mod Sentence
-pub mod Spelling

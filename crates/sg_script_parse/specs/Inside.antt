@@ -1,7 +1,6 @@
 -- What the parser's own clauses cite beside the automaton of scripts.
 use Rattle.sg_lex.specs.declared.token.TokenKind.{TokenKind}
-use Rattle.sg_lex.specs.Lexeme.{Lexeme}
-use Rattle.sg_script_parse.specs.Grammar.Spelling.{Spelling}
+use Rattle.sg_lex.specs.Lexeme.{Lexeme, Spelling}
 
 -- the token of a kind that is spelt so
 abbrev pub spelt_token : TokenKind → Spelling → Lexeme

@@ -1,7 +1,7 @@
 // The parts of a script.
 ghost use Rattle.std.specs.Prelude.{◌≡◌, ◌≤◌, List, [], length, OnOk};
 ghost use Rattle.sg_script_parse.specs.declared.tree.Part.{Part as Written};
-ghost use Rattle.sg_script_parse.specs.Grammar.Spelling.{Spelling};
+ghost use Rattle.sg_lex.specs.Lexeme.{Spelling};
 ghost use Rattle.sg_script_parse.specs.Grammar.Inside.States.{ScriptState, script, counts, part_behind, setup_rest, client_rest, schedule_rest, stop_rest, scripts};
 ghost use Rattle.sg_lex.specs.Inside.Automata.{read, Leads, Answers, read_on};
 

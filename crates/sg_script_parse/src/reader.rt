@@ -1,6 +1,6 @@
 // What a script's parts are read by: the tokens of a text, and the errors where they don't come.
 ghost use Rattle.std.specs.Prelude.{◌≡◌, ◌≤◌, [], ◌∷◌, length, IfOk, IfErr, OnOk, MatchOption, MatchBool, Ok as answered};
-ghost use Rattle.sg_script_parse.specs.Grammar.Spelling.{Spelling};
+ghost use Rattle.sg_lex.specs.Lexeme.{Spelling};
 ghost use Rattle.sg_script_parse.specs.Grammar.Inside.States.{ScriptState, dead, due, want, spelt_by, scripts};
 ghost use Rattle.sg_lex.specs.Inside.Automata.{read, Leads};
 ghost use Rattle.sg_lex.specs.Inside.Ahead.{Off, Came};

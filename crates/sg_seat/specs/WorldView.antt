@@ -11,7 +11,7 @@ use Rattle.sg_facts.specs.declared.row.Row.{Row}
 use Rattle.sg_facts.specs.declared.trace.Item.{Item}
 use Rattle.sg_facts.specs.Facts.{Facts, fun_at}
 use Rattle.sg_facts.specs.Object.{Object, empty_object, object_of}
-use Rattle.sg_facts.specs.Trace.{Boot, Run}
+use Rattle.sg_facts.specs.Trace.{Run}
 use Rattle.sg_facts.specs.Track.{ends_with}
 use Rattle.sg_hist.specs.Growing.{booted, noted, struck}
 use Rattle.sg_seat.specs.declared.mark.Mark.{Mark}

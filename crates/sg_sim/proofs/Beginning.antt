@@ -6,7 +6,7 @@ use Rattle.sg_facts.specs.Interface.{Declared}
 use Rattle.sg_facts.specs.Limits.{last_client}
 use Rattle.sg_facts.specs.declared.entry.Entry.{Entry}
 use Rattle.sg_play.specs.sg_hist.Clients.{calls_of}
-use Rattle.sg_play.specs.sg_hist.Reading.{desc_of}
+use Rattle.sg_play.specs.sg_hist.Inside.Reads.{desc_of}
 use Rattle.sg_play.specs.sg_plain.Calls.{most_client}
 use Rattle.sg_play.specs.sg_plain.Playing.Callers.{IsCaller, all_of_first, handed, is_receipted}
 use Rattle.sg_play.specs.sg_plain.Playing.Given.{given_in}

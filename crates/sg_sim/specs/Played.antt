@@ -1,6 +1,7 @@
 -- What a play promises of its run, whatever its stops and whoever took its turns, and what it promises where its turns were those of the
 -- play without stops.
-use Rattle.std.specs.Prelude.{ℕ, ◌≡◌, List}
+use Rattle.std.specs.Prelude.{ℕ, ◌≡◌, ◌==◌, true, List}
+use Rattle.std.specs.List.{list_all}
 use Rattle.sg_facts.specs.Interface.{Declared}
 use Rattle.sg_facts.specs.Legal.{IsLegal, Table}
 use Rattle.sg_facts.specs.Trace.{Run, run_of}
@@ -8,9 +9,9 @@ use Rattle.sg_facts.specs.declared.entry.Entry.{Entry}
 use Rattle.sg_play.specs.sg_hist.declared.ended.Ended.{Ended}
 use Rattle.sg_play.specs.sg_hist.Recovered.{Stubs, struck_in}
 use Rattle.sg_play.specs.sg_hist.Ending.{HasRecovered}
-use Rattle.sg_play.specs.sg_plain.Calls.{AreEnds}
+use Rattle.sg_play.specs.sg_plain.Calls.{AreEnds, callers}
 use Rattle.sg_play.specs.sg_plain.Plain.{IsPlainPlay}
-use Rattle.sg_play.specs.sg_plain.Promises.{AreScriptsCalls, AreWoken, FollowsPlain, GetsPlainAlone, IsSetupFirst}
+use Rattle.sg_play.specs.sg_plain.Promises.{AreScriptsCalls, AreWoken, FollowsPlain, IsSetupFirst}
 use Rattle.sg_play.specs.sg_script.declared.script.Script.{Script}
 use Rattle.sg_play.specs.sg_seat.WorldView.{WorldView}
 
@@ -24,7 +25,7 @@ pub record FollowsSchedule (i : Declared) (ask : Table) (script : Script) (run :
   pub plain : List Entry
   pub is_plain : IsPlainPlay i ask script plain
   pub follows : FollowsPlain i.facts run history plain
-  pub alone : GetsPlainAlone script history plain
+  pub alone : list_all (λ c. c == 1) (callers script) ≡ true → history ≡ plain
 
 -- a play came to this end, where its stops' test is told of the points asked, of those at which the service stopped, and of a plan
 pub record IsPlayed (s : Stubs) (test : ℕ → List ℕ → List ℕ → Type 0) (script : Script) (plan : List ℕ) (ended : Ended) : Type 0 where

@@ -18,10 +18,12 @@ use Rattle.sg_facts.specs.Facts.{Facts, Fun, fun_at, no_fun, takes_desc, takes_p
 use Rattle.sg_facts.specs.Allowed.{wants_word}
 use Rattle.sg_facts.specs.Interface.{has_pair}
 use Rattle.sg_facts.specs.Limits.{most_live}
-use Rattle.sg_facts.specs.Track.{row_at, is_live, has_child, ends_with, is_ancestor, row_after, word_of}
+use Rattle.sg_facts.specs.Track.{row_at, is_live, ends_with, is_ancestor, word_of}
+use Rattle.sg_facts.specs.Inside.Rows.{has_child, row_after}
 use Rattle.sg_facts.specs.Object.{Object, after}
 use Rattle.sg_facts.specs.Legal.{Table}
-use Rattle.sg_facts.specs.Guard.{may_be_parent, may_use, in_state, refusal, is_guards}
+use Rattle.sg_facts.specs.Guard.{is_guards}
+use Rattle.sg_facts.specs.Inside.Guards.{may_be_parent, may_use, in_state, refusal}
 use Rattle.sg_facts.specs.Sound.{IsSound, IsRow, AreRows, AreFields}
 use Rattle.sg_facts.specs.Alike.{named, Serves, SameReply}
 use Rattle.sg_facts.specs.Counted.{raises_by_word, most_in, most_counted}

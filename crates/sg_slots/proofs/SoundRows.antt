@@ -7,7 +7,8 @@ use Rattle.sg_facts.specs.sg_base.declared.reply.Code.{Code}
 use Rattle.sg_facts.specs.sg_base.declared.reply.Good.{Good}
 use Rattle.sg_facts.specs.declared.row.Row.{Row}
 use Rattle.sg_facts.specs.Facts.{Facts, fun_at}
-use Rattle.sg_facts.specs.Track.{row_at, is_live, has_child, is_ancestor, ends_with, row_after, fields_after}
+use Rattle.sg_facts.specs.Track.{row_at, is_live, is_ancestor, ends_with, fields_after}
+use Rattle.sg_facts.specs.Inside.Rows.{has_child, row_after}
 use Rattle.sg_facts.specs.Object.{Object}
 use Rattle.sg_facts.specs.Sound.{IsSound, IsRow, AreRows, AreFields}
 use Rattle.sg_facts.proofs.RowLists.{more, changed, left, other, none_pass, is_live-more, is_live-changed, is_live-left}

@@ -3,7 +3,8 @@ ghost use Rattle.std.specs.Prelude.{◌≡◌, ◌<◌, ℕ, false, length, IsSo
 ghost use Rattle.std.specs.Option.{option_map, option_copied};
 ghost use Rattle.sg_facts.specs.Facts.{facts_of};
 ghost use Rattle.sg_facts.specs.Kinds.{MayAsk};
-ghost use Rattle.sg_facts.specs.Track.{has_child, row_at};
+ghost use Rattle.sg_facts.specs.Track.{row_at};
+ghost use Rattle.sg_facts.specs.Inside.Rows.{has_child};
 ghost use Rattle.sg_slots.specs.Decide.{Decides};
 ghost use Rattle.sg_slots.specs.RowModel.{RowModel};
 ghost use Rattle.sg_slots.specs.Slots.{object_of, row_with, rows_of};

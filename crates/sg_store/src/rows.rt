@@ -1,8 +1,8 @@
 // The rows of a global service, and the number of ids given.
 ghost use Rattle.std.specs.Prelude.{◌≡◌, ◌+◌, ◌≤◌, ◌<◌, ◌^◌, [], false, OnOk, if◌then◌else◌};
 ghost use Rattle.std.specs.Option.{option_copied};
-ghost use Rattle.sg_facts.specs.Object.{given_after};
-ghost use Rattle.sg_facts.specs.Track.{row_at, track};
+ghost use Rattle.sg_facts.specs.Inside.Rows.{given_after, track};
+ghost use Rattle.sg_facts.specs.Track.{row_at};
 ghost use Rattle.sg_store.specs.Committing.{MayFollow, NamesNext};
 ghost use Rattle.sg_track.specs.Tracked.{spare_after};
 

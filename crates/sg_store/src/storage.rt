@@ -1,8 +1,8 @@
 // What outlives a stop.
 ghost use Rattle.std.specs.Prelude.{◌≡◌, ◌+◌, ◌≤◌, ◌<◌, ◌^◌, ◌==◌, ℕ, List, [], None, Some, IfSome, IfOk, MatchOption, OnOk, length, if◌then◌else◌};
 ghost use Rattle.std.specs.Option.{option_copied};
-ghost use Rattle.sg_facts.specs.Object.{given_after};
-ghost use Rattle.sg_facts.specs.Track.{row_at, track};
+ghost use Rattle.sg_facts.specs.Inside.Rows.{given_after, track};
+ghost use Rattle.sg_facts.specs.Track.{row_at};
 ghost use Rattle.sg_store.specs.Committing.{MayCommit};
 ghost use Rattle.sg_store.specs.Spans.{AreApart, GrowsTwice, cut, buffer_part, patched_at, shown_span, span_at, stand_in};
 ghost use Rattle.sg_store.specs.Stored.{HasRoom, bytes_of, receipt_at};

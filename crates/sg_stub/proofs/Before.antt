@@ -1,7 +1,6 @@
 -- Lines, made one after the other.
 use Rattle.std.proofs.Common.{◌≡◌, ◌⊎◌, ℕ, ◌+◌, ◌^◌, ◌<◌, ◌≤◌, Bool, true, false, List, [], ◌∷◌, ◌++◌, None, Some, length, get_or, refl, sym, ◌∙◌, ap, subst, inl, inr, arith}
-use Rattle.std.specs.Prelude.{◌==◌, if◌then◌else◌, nat_le}
-use Rattle.std.specs.Prelude.{IfSome}
+use Rattle.std.specs.Prelude.{◌==◌, if◌then◌else◌, nat_le, IfSome}
 use Rattle.std.specs.declared.option.Option.{Option}
 use Rattle.std.specs.declared.cmp.Ordering.TheVariants.{Less}
 use Rattle.std.proofs.lemmas.Bool.{and_parts, cases_Bool}
@@ -12,11 +11,13 @@ use Rattle.std.proofs.lemmas.Option.{slice_get-get_or}
 use Rattle.sg_facts.specs.declared.shape.Leaves.{Leaves}
 use Rattle.sg_facts.specs.declared.shape.Leaves.TheVariants.{Own, Same, Of}
 use Rattle.sg_facts.specs.declared.tables.WalkLine.{WalkLine}
-use Rattle.sg_facts.specs.Facts.{fun_at, left_by}
+use Rattle.sg_facts.specs.Facts.{fun_at}
+use Rattle.sg_facts.specs.Inside.Rows.{left_by}
 use Rattle.sg_facts.specs.Fields.{number_of}
-use Rattle.sg_facts.specs.Fits.{Fits, LeavesDeclared}
+use Rattle.sg_facts.specs.Fits.{Fits}
+use Rattle.sg_facts.specs.Inside.Walking.{LeavesDeclared, is_for, line_order}
 use Rattle.sg_facts.specs.Interface.{Declared, declares}
-use Rattle.sg_facts.specs.Tables.{AreTables, is_for, line_order, walk_of}
+use Rattle.sg_facts.specs.Tables.{AreTables, walk_of}
 use Rattle.sg_facts.specs.Walks.{IsReachable, IsWalkOf, made, moved}
 use Rattle.sg_facts.proofs.Halving.{not_found, of_before}
 use Rattle.sg_check.proofs.sg_walk.ReachedStates.Closure.{there}

@@ -12,8 +12,9 @@ use Rattle.std.proofs.lemmas.Cmp.{nat_cmp_total, on_total, then_total}
 use Rattle.sg_facts.specs.declared.tables.WalkLine.{WalkLine}
 use Rattle.sg_facts.specs.Fields.{number_of}
 use Rattle.sg_facts.specs.Interface.{Declared}
-use Rattle.sg_facts.specs.Tables.{AreTables, is_for, line_order, walk_of}
-use Rattle.sg_facts.specs.Walks.{IsReachable, IsWalkOf, no_later, no_worse}
+use Rattle.sg_facts.specs.Tables.{AreTables, walk_of}
+use Rattle.sg_facts.specs.Inside.Walking.{is_for, line_order, no_worse}
+use Rattle.sg_facts.specs.Walks.{IsReachable, IsWalkOf, no_later}
 use Rattle.sg_check.proofs.sg_walk.ReachedStates.Triples.{none_in}
 use Rattle.sg_check.proofs.Seeking.{walked_set}
 

@@ -16,7 +16,8 @@ use Rattle.sg_top.specs.declared.status.Status.{Status}
 use Rattle.sg_top.specs.declared.status.Status.TheVariants.{Done, Waits, OtherWords, Refused, ReadFault, WriteFault, NoMemory, Illegal}
 use Rattle.sg_input.specs.Lines.{too_long_line}
 use Rattle.sg_load.specs.sg_plain.Promises.{somebody_waits}
-use Rattle.sg_top.specs.Answer.{Ends, HasRead, IsAnswer, IsOutput, IsOwnOutput, IsPlayOutput, IsIllegal, IsRefusal, IsUntouched, ReadsInput, SaysIllegal, SaysRefused, ended_status, has_input, is_play, most_bytes, verdict_status}
+use Rattle.sg_top.specs.Answer.{Ends, HasRead, IsAnswer, IsOutput, IsOwnOutput, IsRefusal, IsUntouched, ReadsInput, ended_status, has_input, is_play, most_bytes, IsPlayOutput}
+use Rattle.sg_top.specs.Inside.Pieces.{IsIllegal, SaysIllegal, SaysRefused, verdict_status}
 use Rattle.sg_verify.specs.declared.verdict.Verdict.{Verdict as Judgement}
 use Rattle.sg_verify.specs.declared.verdict.Verdict.TheVariants.{Legal, BadSeq, BadReply}
 use Rattle.sg_top.specs.Inside.Delivery.{IsDelivered, IsWritten}

@@ -13,9 +13,9 @@ use Rattle.sg_input.specs.sg_script.Numbers.{value_of_digits}
 use Rattle.sg_top.specs.declared.command.Command.{Command}
 use Rattle.sg_top.specs.declared.command.Command.TheVariants.{Play, Check, Compile, Upgrade, Verify, Load}
 use Rattle.sg_top.specs.declared.command.Shows.TheVariants.{Run, Trace, Costs}
-use Rattle.sg_top.specs.Answer.{AreDigitsOf, IsCommand, IsSerialCommand}
+use Rattle.sg_top.specs.Answer.{IsCommand, IsSerialCommand}
+use Rattle.sg_top.specs.Inside.Words.{AreDigitsOf, IsLoadOf, IsPairOf, IsWordOf}
 use Rattle.sg_top.specs.Inside.Kinds.{kind_called}
-use Rattle.sg_top.specs.Inside.Words.{IsLoadOf, IsPairOf, IsWordOf}
 
 -- ---- names
 

@@ -19,7 +19,8 @@ use Rattle.sg_verify.proofs.Verdicts.{one_said as one_verdict}
 use Rattle.sg_top.proofs.Commands.{called}
 use Rattle.sg_top.proofs.Fitting.{interface_service, its_facts, kind_is}
 use Rattle.sg_load.specs.declared.kind.ServiceKind.{ServiceKind}
-use Rattle.sg_top.specs.Answer.{IsIllegal, IsJudgedAs, IsOutput, IsVerified, services, verdict_status}
+use Rattle.sg_top.specs.Answer.{IsJudgedAs, IsOutput, services}
+use Rattle.sg_top.specs.Inside.Pieces.{IsIllegal, IsVerified, verdict_status}
 use Rattle.sg_top.specs.Headline.{answering}
 use Rattle.sg_top.specs.Inside.Kinds.{IsOneOfFive, kind_by}
 use Rattle.std.specs.declared.option.Option.{Option}

@@ -16,7 +16,8 @@ use Rattle.sg_top.specs.declared.command.Shows.{Shows}
 use Rattle.sg_top.specs.declared.command.Command.TheVariants.{Play, Check, Compile, Upgrade, Verify, Load}
 use Rattle.sg_top.specs.declared.status.Status.{Status}
 use Rattle.sg_top.specs.declared.status.Status.TheVariants.{Refused}
-use Rattle.sg_top.specs.Answer.{IsOutput, IsPlayOutput, IsRefusal, IsRefusedAs, has_input, most_bytes, services}
+use Rattle.sg_top.specs.Answer.{IsOutput, IsRefusal, has_input, most_bytes, services, IsPlayOutput}
+use Rattle.sg_top.specs.Inside.Pieces.{IsRefusedAs}
 
 -- a text isn't accepted and refused
 not_both : (text line output : List ℕ) → IsVerdict services text (accepted output) → IsVerdict services text (refused line) → ⊥

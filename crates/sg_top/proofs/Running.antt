@@ -16,7 +16,7 @@ use Rattle.sg_load.specs.sg_plain.Playing.Playable.{IsPlayable}
 use Rattle.sg_report.specs.Report.{load_line_of}
 use Rattle.sg_top.proofs.Costing.{few_of_load, few_replays}
 use Rattle.sg_top.proofs.Fitting.{is_served, kind_is, ready_playable}
-use Rattle.sg_top.specs.Answer.{IsOwnOutput, IsPlayOutput, ended_status, services}
+use Rattle.sg_top.specs.Answer.{IsOwnOutput, ended_status, services, IsPlayOutput}
 use Rattle.sg_top.specs.declared.command.Command.TheVariants.{Load}
 use Rattle.sg_top.specs.declared.command.Shows.{Shows}
 use Rattle.sg_top.specs.declared.status.Status.{Status}

@@ -8,6 +8,7 @@ use Rattle.sg_facts.specs.Facts.{Facts}
 use Rattle.sg_edge.specs.Edge.{Rose, ConsumesAtMost}
 use Rattle.sg_report.specs.sg_hist.declared.ended.End.{End}
 use Rattle.sg_report.specs.sg_hist.declared.ended.Ended.{Ended}
+use Rattle.sg_input.specs.declared.outcome.Verdict.{Verdict}
 use Rattle.sg_input.specs.declared.outcome.Verdict.TheVariants.{Accepted as accepted, Refused as refused}
 use Rattle.sg_input.specs.Verdicts.{IsCompiled, IsUpgraded, IsVerdict}
 use Rattle.sg_input.specs.declared.input.Input.TheVariants.{Refused as refused_input}
@@ -17,14 +18,15 @@ use Rattle.sg_input.specs.Lines.{too_long_line}
 use Rattle.sg_input.specs.sg_lex.Table.{IsNumber}
 use Rattle.sg_load.specs.Services.{facts_by}
 use Rattle.sg_load.specs.sg_plain.Promises.{somebody_waits}
-use Rattle.sg_input.specs.sg_script.Numbers.{greatest_number, value_of_digits}
+use Rattle.sg_facts.specs.sg_base.Counts.{last_count}
+use Rattle.sg_input.specs.sg_script.Numbers.{value_of_digits}
 use Rattle.sg_facts.specs.Interface.{Declared}
 use Rattle.sg_facts.specs.declared.entry.Entry.{Entry}
 use Rattle.sg_load.specs.declared.kind.ServiceKind.{ServiceKind}
 use Rattle.sg_verify.specs.Lines.{verdict_line_of}
 use Rattle.sg_verify.specs.Verdicts.{IsVerdictOf}
 use Rattle.sg_verify.specs.declared.verdict.Verdict.{Verdict as Judgement}
-use Rattle.sg_verify.specs.declared.verdict.Verdict.TheVariants.{Legal, BadSeq, BadReply}
+use Rattle.sg_verify.specs.declared.verdict.Verdict.TheVariants.{Legal}
 use Rattle.sg_top.specs.Headline.{IsRunOfLoad, IsRunOfInput, answering, played_services}
 use Rattle.sg_top.specs.declared.command.Command.{Command}
 use Rattle.sg_top.specs.declared.command.Command.TheVariants.{Play, Check, Compile, Upgrade, Verify, Load}
@@ -35,48 +37,26 @@ use Rattle.sg_top.specs.declared.status.Status.TheVariants.{Done, Waits, OtherWo
 
 -- ---- words
 
--- digits, at least one, stand for a number of 64 bits
-abbrev pub AreDigitsOf : ℕ → List ℕ → Type 0
-AreDigitsOf number digits = IsNumber digits × (value_of_digits digits ≡ number) × (number ≤ greatest_number)
-
--- words are these texts, one by one
-abbrev pub SayTexts : List (List ℕ) → List (String Global) → Type 0
-SayTexts texts words = map string_bytes words ≡ texts
-
--- the words say a play, in threads or in one, of whose run this is printed
-abbrev pub SayPlay : Bool → Shows → List (String Global) → Type 0
-SayPlay threads Run words = SayTexts ((if threads then codes "run" else codes "sim") ∷ []) words
-SayPlay threads Trace words = SayTexts ((if threads then codes "run" else codes "sim") ∷ codes "trace" ∷ []) words
-SayPlay false Costs words = SayTexts (codes "cost" ∷ []) words
-SayPlay true Costs words = ⊥
-
--- the words say a command
+-- the words say a command, by their texts: those of a load end in digits, at least one, that stand for a number of 64 bits
 abbrev pub IsCommand : List (String Global) → Command → Type 0
-IsCommand words (Play threads shows) = SayPlay threads shows words
-IsCommand words Check = SayTexts (codes "check" ∷ []) words
-IsCommand words Compile = SayTexts (codes "compile" ∷ []) words
-IsCommand words Upgrade = SayTexts (codes "upgrade" ∷ []) words
-IsCommand words Verify = SayTexts (codes "verify" ∷ []) words
-IsCommand words (Load service number) =
-    (digits : List ℕ) × AreDigitsOf number digits × SayTexts (codes "load" ∷ (facts_by service).name ∷ digits ∷ []) words
+IsCommand words (Play threads Run) = map string_bytes words ≡ (if threads then codes "run" else codes "sim") ∷ []
+IsCommand words (Play threads Trace) = map string_bytes words ≡ (if threads then codes "run" else codes "sim") ∷ codes "trace" ∷ []
+IsCommand words (Play false Costs) = map string_bytes words ≡ codes "cost" ∷ []
+IsCommand words (Play true Costs) = ⊥
+IsCommand words Check = map string_bytes words ≡ codes "check" ∷ []
+IsCommand words Compile = map string_bytes words ≡ codes "compile" ∷ []
+IsCommand words Upgrade = map string_bytes words ≡ codes "upgrade" ∷ []
+IsCommand words Verify = map string_bytes words ≡ codes "verify" ∷ []
+IsCommand words (Load service number) = (digits : List ℕ) × (IsNumber digits × (value_of_digits digits ≡ number) × (number ≤ last_count))
+    × (map string_bytes words ≡ codes "load" ∷ (facts_by service).name ∷ digits ∷ [])
 
 -- whether a command is a play
 abbrev pub is_play : Command → Bool
-is_play (Play threads shows) = true
-is_play Check = false
-is_play Compile = false
-is_play Upgrade = false
-is_play Verify = false
-is_play (Load service number) = true
+is_play command = elim command [ Play threads shows ↦ true | Load service number ↦ true | _ ↦ false ]
 
 -- whether a command is a play whose clients have threads of their own
 abbrev pub is_in_threads : Command → Bool
-is_in_threads (Play threads shows) = threads
-is_in_threads Check = false
-is_in_threads Compile = false
-is_in_threads Upgrade = false
-is_in_threads Verify = false
-is_in_threads (Load service number) = false
+is_in_threads command = elim command [ Play threads shows ↦ threads | _ ↦ false ]
 
 -- the words say a command that one thread does
 abbrev pub IsSerialCommand : List (String Global) → Command → Type 0
@@ -84,23 +64,13 @@ IsSerialCommand words command = IsCommand words command × (is_in_threads comman
 
 -- whether a command has an input
 abbrev pub has_input : Command → Bool
-has_input (Play threads shows) = true
-has_input Check = true
-has_input Compile = true
-has_input Upgrade = true
-has_input Verify = true
-has_input (Load service number) = false
+has_input command = elim command [ Load service number ↦ false | _ ↦ true ]
 
 -- ---- limits
 
 -- the greatest number of bytes of a command's input
 abbrev pub most_bytes : Command → ℕ
-most_bytes (Play threads shows) = most_input
-most_bytes Check = most_interface
-most_bytes Compile = most_interface
-most_bytes Upgrade = most_interface
-most_bytes Verify = most_run_input
-most_bytes (Load service number) = 0
+most_bytes command = elim command [ Play threads shows ↦ most_input | Verify ↦ most_run_input | Load service number ↦ 0 | _ ↦ most_interface ]
 
 -- ---- outputs
 
@@ -112,34 +82,6 @@ services = map (λ s. s.facts) played_services
 abbrev pub ended_status : List (ℕ × End) → Status
 ended_status ends = if somebody_waits ends then Waits else Done
 
--- the output of a play, and its status: what is printed of the run, or the line of an input that is refused
-abbrev pub IsPlayOutput : List ℕ → Bool → Shows → Option Ended → Status → List ℕ → Type 0
-IsPlayOutput bytes in_threads shows None status output = (status ≡ Refused) × IsInputOf services bytes (refused_input output)
-IsPlayOutput bytes in_threads shows (Some ended) status output = (status ≡ ended_status ended.ends) × IsRunOfInput played_services bytes in_threads shows ended output
-
--- the output of a check, and its status: the line of a text that is accepted, or of a text that is refused
-abbrev pub IsChecked : List ℕ → Status → List ℕ → Type 0
-IsChecked text status output =
-    ((status ≡ Done) × IsVerdict services text (accepted output)) ⊎ ((status ≡ Refused) × IsVerdict services text (refused output))
-
--- the output of a compilation, and its status: the text of the tables of an interface that is accepted, or the line of a text
--- that is refused
-abbrev pub IsTabled : List ℕ → Status → List ℕ → Type 0
-IsTabled text status output =
-    ((status ≡ Done) × IsCompiled services text (accepted output)) ⊎ ((status ≡ Refused) × IsCompiled services text (refused output))
-
--- the output of an upgrade, and its status: the text of an interface that is accepted, as one of version 2, or the line of a
--- text that is refused
-abbrev pub IsUpgradeOf : List ℕ → Status → List ℕ → Type 0
-IsUpgradeOf text status output =
-    ((status ≡ Done) × IsUpgraded services text (accepted output)) ⊎ ((status ≡ Refused) × IsUpgraded services text (refused output))
-
--- the status of what is said of a history
-abbrev pub verdict_status : Judgement → Status
-verdict_status Legal = Done
-verdict_status (BadSeq at next) = Illegal
-verdict_status (BadReply at answered) = Illegal
-
 -- an input is an interface of one of the services and a history that a run of the service printed, and this is said of the history,
 -- with its status and line
 pub record IsJudgedAs (bytes : List ℕ) (status : Status) (output : List ℕ) : Type 0 where
@@ -150,20 +92,27 @@ pub record IsJudgedAs (bytes : List ℕ) (status : Status) (output : List ℕ) :
   pub its : (answering kind).facts ≡ i.facts
   pub said : Judgement
   pub is : IsVerdictOf i (answering kind).ask history said
-  pub answered : status ≡ verdict_status said
+  pub answered : status ≡ (elim said as (λ v. Status) [ Legal ↦ Done | _ ↦ Illegal ])
   pub line : output ≡ verdict_line_of i.facts history said
 
--- the output of a verification, and its status: what is said of a history, or the line of an input that is refused
-abbrev pub IsVerified : List ℕ → Status → List ℕ → Type 0
-IsVerified bytes status output = IsJudgedAs bytes status output ⊎ ((status ≡ Refused) × IsRunInputOf services bytes (refused_run output))
+-- the output of a play, and its status: what is printed of the run, or the line of an input that is refused
+abbrev pub IsPlayOutput : List ℕ → Bool → Shows → Option Ended → Status → List ℕ → Type 0
+IsPlayOutput bytes in_threads shows None status output = (status ≡ Refused) × IsInputOf services bytes (refused_input output)
+IsPlayOutput bytes in_threads shows (Some ended) status output = (status ≡ ended_status ended.ends) × IsRunOfInput played_services bytes in_threads shows ended output
 
--- the output of a command for an input, its status, and the run where there was one: only a play has one
+-- the output of a command that judges a text, and its status: of a text that is accepted, or of one that is refused
+abbrev pub IsOfText : (Verdict → Type 0) → Status → List ℕ → Type 0
+IsOfText Is status output = ((status ≡ Done) × Is (accepted output)) ⊎ ((status ≡ Refused) × Is (refused output))
+
+-- the output of a command for an input, its status, and the run where there was one, which only a play has: what is printed of the run; the
+-- line of a text that is accepted, its tables, or its text in version 2; what is said of a history; or the line of what is refused
 abbrev pub IsOutput : Command → List ℕ → Option Ended → Status → List ℕ → Type 0
 IsOutput (Play threads shows) bytes ended status output = IsPlayOutput bytes threads shows ended status output
-IsOutput Check bytes ended status output = (ended ≡ None) × IsChecked bytes status output
-IsOutput Compile bytes ended status output = (ended ≡ None) × IsTabled bytes status output
-IsOutput Upgrade bytes ended status output = (ended ≡ None) × IsUpgradeOf bytes status output
-IsOutput Verify bytes ended status output = (ended ≡ None) × IsVerified bytes status output
+IsOutput Check bytes ended status output = (ended ≡ None) × IsOfText (IsVerdict services bytes) status output
+IsOutput Compile bytes ended status output = (ended ≡ None) × IsOfText (IsCompiled services bytes) status output
+IsOutput Upgrade bytes ended status output = (ended ≡ None) × IsOfText (IsUpgraded services bytes) status output
+IsOutput Verify bytes ended status output =
+    (ended ≡ None) × (IsJudgedAs bytes status output ⊎ ((status ≡ Refused) × IsRunInputOf services bytes (refused_run output)))
 IsOutput (Load service number) bytes ended status output = ⊥
 
 -- the output of a command without an input, its status and its run
@@ -171,36 +120,16 @@ abbrev pub IsOwnOutput : Command → Option Ended → Status → List ℕ → Ty
 IsOwnOutput (Load service number) (Some ended) status output = (status ≡ ended_status ended.ends) × IsRunOfLoad service number ended output
 IsOwnOutput command ended status output = ⊥
 
--- the line with which a command refuses bytes that aren't too many
-abbrev pub IsRefusedAs : Command → List ℕ → List ℕ → Type 0
-IsRefusedAs (Play threads shows) bytes output = IsInputOf services bytes (refused_input output)
-IsRefusedAs Check bytes output = IsVerdict services bytes (refused output)
-IsRefusedAs Compile bytes output = IsVerdict services bytes (refused output)
-IsRefusedAs Upgrade bytes output = IsVerdict services bytes (refused output)
-IsRefusedAs Verify bytes output = IsRunInputOf services bytes (refused_run output)
-IsRefusedAs (Load service number) bytes output = ⊥
-
--- the output of a command that refuses these bytes: as an input, or as more bytes than an input may have
+-- the output of a command that refuses these bytes: the line of an input or text that is refused, or that of more bytes than an input may have
 abbrev pub IsRefusal : Command → List ℕ → List ℕ → Type 0
 IsRefusal command bytes output =
-    ((length bytes ≤ most_bytes command) × IsRefusedAs command bytes output)
+    ((length bytes ≤ most_bytes command) × (elim command as (λ c. Type 0) [
+      | Play threads shows ↦ IsInputOf services bytes (refused_input output)
+      | Verify ↦ IsRunInputOf services bytes (refused_run output)
+      | Load service number ↦ ⊥
+      | _ ↦ IsVerdict services bytes (refused output)
+    ]))
     ⊎ ((has_input command ≡ true) × (most_bytes command < length bytes) × (output ≡ too_long_line))
-
--- a status for bytes that a command may refuse: where it refuses them the status says so, or that there was a fault or no memory
-abbrev pub SaysRefused : Command → Status → List ℕ → Type 0
-SaysRefused command status bytes =
-    (output : List ℕ) → IsRefusal command bytes output
-    → (status ≡ Refused) ⊎ (status ≡ ReadFault) ⊎ (status ≡ WriteFault) ⊎ (status ≡ NoMemory)
-
--- bytes print a history that isn't legal, and a verification says so with this line
-abbrev pub IsIllegal : Command → List ℕ → List ℕ → Type 0
-IsIllegal command bytes output = (command ≡ Verify) × (length bytes ≤ most_run_input) × IsJudgedAs bytes Illegal output
-
--- a status for bytes that may print a history which isn't legal: where they do the status says so, or that there was a fault or no memory
-abbrev pub SaysIllegal : Command → Status → List ℕ → Type 0
-SaysIllegal command status bytes =
-    (output : List ℕ) → IsIllegal command bytes output
-    → (status ≡ Illegal) ⊎ (status ≡ ReadFault) ⊎ (status ≡ WriteFault) ⊎ (status ≡ NoMemory)
 
 -- ---- answers
 
@@ -237,10 +166,13 @@ pub record IsAnswer (said : Command → Type 0) (source source' sink sink' : End
   pub refused : status ≡ Refused → (ended ≡ None)
       × ((command : Command) × said command × (output : List ℕ) × HasRead command source source' ended Refused output × Appends sink.told sink'.told output
       × IfSome source.told (λ bytes. IsRefusal command bytes output))
-  -- an input that is refused is never answered as played
-  pub refuses : (command : Command) → said command → IfSome source.told (SaysRefused command status)
-  -- a history that isn't legal is never answered as one that is, nor as refused
-  pub judges : (command : Command) → said command → IfSome source.told (SaysIllegal command status)
+  -- an input that is refused is never answered as played: the status says that it is refused, or that there was a fault or no memory
+  pub refuses : (command : Command) → said command → IfSome source.told (λ bytes. (output : List ℕ) → IsRefusal command bytes output
+      → (status ≡ Refused) ⊎ (status ≡ ReadFault) ⊎ (status ≡ WriteFault) ⊎ (status ≡ NoMemory))
+  -- a history that isn't legal is never answered as one that is, nor as refused: the status says so, or that there was a fault or no memory
+  pub judges : (command : Command) → said command → IfSome source.told (λ bytes. (output : List ℕ)
+      → (command ≡ Verify) × (length bytes ≤ most_run_input) × IsJudgedAs bytes Illegal output
+      → (status ≡ Illegal) ⊎ (status ≡ ReadFault) ⊎ (status ≡ WriteFault) ⊎ (status ≡ NoMemory))
   -- a read fault: a read failed, and nothing is written; no other status is answered where the source's count of faults rose
   pub read_fault : status ≡ ReadFault → (ended ≡ None) × Rose source.faults source'.faults × IsUntouched sink sink'
   pub only_read_fault : source.faults < source'.faults → status ≡ ReadFault

@@ -1,13 +1,13 @@
 -- Which services are played, and what is promised of a run of an input and of a load.
-use Rattle.std.specs.Prelude.{ℕ, ◌≡◌, Bool, true, false, List, [], ◌∷◌, map}
+use Rattle.std.specs.Prelude.{ℕ, ◌≡◌, Bool, true, false, List, [], ◌∷◌, ◌++◌, map}
 use Rattle.std.specs.List.{Contains}
 use Rattle.sg_load.specs.sg_event.EventFacts.{event_facts}
 use Rattle.sg_load.specs.sg_event.EventTable.{event_parts, event_table}
-use Rattle.sg_cost.specs.Costs.{AreFewInEach, costs_at}
+use Rattle.sg_cost.specs.Costs.{AreFew, costs_at}
 use Rattle.sg_cost.specs.Lines.{cost_text_of}
 use Rattle.sg_facts.specs.Interface.{Declared}
 use Rattle.sg_facts.specs.Tables.{AreTables}
-use Rattle.sg_facts.specs.Trace.{run_of}
+use Rattle.sg_facts.specs.Trace.{Boot, run_of}
 use Rattle.sg_facts.specs.declared.tables.WalkLine.{WalkLine}
 use Rattle.sg_report.specs.sg_hist.declared.ended.Ended.{Ended}
 use Rattle.sg_input.specs.Inputs.{IsReady}
@@ -48,7 +48,8 @@ played_services = map answering (Locks ∷ Events ∷ Pages ∷ Files ∷ Thread
 
 -- the replayed calls of each boot of a run are few, by the walks of the interface's tables
 abbrev pub HasFewReplays : Declared → Ended → Type 0
-HasFewReplays i ended = (walks : List WalkLine) × AreTables i walks × AreFewInEach i walks ended.history.items (run_of ended.trace)
+HasFewReplays i ended = (walks : List WalkLine) × AreTables i walks
+    × ((before : List Boot) (b : Boot) (later : List Boot) → (run_of ended.trace).boots ≡ before ++ b ∷ later → AreFew i walks ended.history.items before b later)
 
 -- this is printed of a run: its report, with what was done to the service or without, or what its calls could cost after one more stop
 abbrev pub IsShown : Shows → Declared → Ended → List ℕ → Type 0

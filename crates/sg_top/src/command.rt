@@ -2,7 +2,7 @@
 ghost use Rattle.std.specs.Char.{is_ascii_digit};
 ghost use Rattle.std.specs.List.{list_all};
 ghost use Rattle.std.specs.Prelude.{ℕ, ◌≡◌, MatchOption};
-ghost use Rattle.sg_top.specs.Answer.{AreDigitsOf};
+ghost use Rattle.sg_top.specs.Inside.Words.{AreDigitsOf};
 
 use crate::services::kind_named;
 use sg_input::{MOST_INPUT, MOST_INTERFACE, MOST_RUN_INPUT};

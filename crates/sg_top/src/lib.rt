@@ -22,6 +22,7 @@ mod top;
 
 pub use command::{Command, Shows};
 pub use laws::printed_runs_are_read;
+pub use sg_edge::{MemSink, MemSource, OpenGate, StdSink, StdSource};
 pub use sg_input::{
     Input, MOST_DIVIDER, MOST_INPUT, MOST_INTERFACE, MOST_SCRIPT, cut, one_cut, one_input, parse,
     read_input,

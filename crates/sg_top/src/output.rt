@@ -3,9 +3,11 @@ ghost use Rattle.std.specs.Prelude.{◌≡◌, ℕ, List, true, false, IfOk, Non
 ghost use Rattle.sg_report.specs.sg_hist.Recovered.{is_blocked};
 ghost use Rattle.sg_load.specs.sg_plain.Playing.Playable.{IsPlayable};
 ghost use Rattle.sg_load.specs.sg_plain.Promises.{somebody_waits};
+ghost use Rattle.sg_input.specs.Verdicts.{IsCompiled, IsUpgraded, IsVerdict};
 ghost use Rattle.sg_load.specs.Generated.{generated};
 ghost use Rattle.sg_load.specs.Services.{facts_by, standard};
-ghost use Rattle.sg_top.specs.Answer.{IsChecked, IsOutput, IsOwnOutput, IsPlayOutput, IsTabled, IsUpgradeOf, IsVerified, ended_status, has_input, is_in_threads, verdict_status};
+ghost use Rattle.sg_top.specs.Answer.{IsOfText, IsOutput, IsOwnOutput, ended_status, has_input, is_in_threads, services, IsPlayOutput};
+ghost use Rattle.sg_top.specs.Inside.Pieces.{IsVerified, verdict_status};
 ghost use Rattle.sg_verify.specs.Lines.{verdict_line_of};
 ghost use Rattle.sg_top.specs.Headline.{IsShown, answering};
 ghost use Rattle.sg_shared.specs.Runs.{IsRunInOrder};
@@ -62,7 +64,7 @@ pub fn output_of(alloc: Global, command: Command, bytes: &[u8]) -> Result<Output
 // The line of a text, which says that it is accepted or why it is refused.
 fn checked(alloc: Global, text: &[u8]) -> Result<Output, NoMemory>
     ensures ended { IfOk result (λ o. o.ended ≡ None) }
-    ensures line { IfOk result (λ o. IsChecked text.now o.status o.text) }
+    ensures line { IfOk result (λ o. IsOfText (IsVerdict services text.now) o.status o.text) }
 {
     let said = verdict(alloc, text, &shapes())?;
     Ok(output_saying(said))
@@ -71,7 +73,7 @@ fn checked(alloc: Global, text: &[u8]) -> Result<Output, NoMemory>
 // The text of the tables of an interface that is accepted, or else the line that refuses it.
 fn tabled(alloc: Global, text: &[u8]) -> Result<Output, NoMemory>
     ensures ended { IfOk result (λ o. o.ended ≡ None) }
-    ensures tables { IfOk result (λ o. IsTabled text.now o.status o.text) }
+    ensures tables { IfOk result (λ o. IsOfText (IsCompiled services text.now) o.status o.text) }
 {
     let said = compiled(alloc, text, &shapes())?;
     Ok(output_saying(said))
@@ -80,7 +82,7 @@ fn tabled(alloc: Global, text: &[u8]) -> Result<Output, NoMemory>
 // The text of an interface that is accepted, as one of version 2, or else the line that refuses it.
 fn upgrade(alloc: Global, text: &[u8]) -> Result<Output, NoMemory>
     ensures ended { IfOk result (λ o. o.ended ≡ None) }
-    ensures text { IfOk result (λ o. IsUpgradeOf text.now o.status o.text) }
+    ensures text { IfOk result (λ o. IsOfText (IsUpgraded services text.now) o.status o.text) }
 {
     let said = upgraded(alloc, text, &shapes())?;
     Ok(output_saying(said))

@@ -5,7 +5,8 @@ use Rattle.std.specs.List.{list_any}
 use Rattle.std.proofs.lemmas.Bool.Decides.{nat_tests}
 use Rattle.sg_facts.specs.declared.row.Row.{Row}
 use Rattle.sg_facts.specs.Sound.{AreRows}
-use Rattle.sg_facts.specs.Track.{ancestors, has_child, is_ancestor, nearest, parent_in, row_at}
+use Rattle.sg_facts.specs.Track.{ancestors, is_ancestor, nearest, row_at}
+use Rattle.sg_facts.specs.Inside.Rows.{has_child, parent_in}
 use Rattle.sg_track.specs.Kept.{ends_below}
 use Rattle.sg_track.specs.Tracked.{HasLowerParent}
 

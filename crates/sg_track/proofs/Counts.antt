@@ -6,7 +6,8 @@ use Rattle.std.proofs.lemmas.Bool.{cases_lt}
 use Rattle.std.proofs.lemmas.Bool.Decides.{eqb_tells, nat_tests}
 use Rattle.sg_facts.specs.declared.row.Row.{Row}
 use Rattle.sg_facts.specs.Sound.{AreRows}
-use Rattle.sg_facts.specs.Track.{has_child, is_ancestor, parent_in, row_at}
+use Rattle.sg_facts.specs.Track.{is_ancestor, row_at}
+use Rattle.sg_facts.specs.Inside.Rows.{has_child, parent_in}
 use Rattle.sg_facts.proofs.RowLists.{id_of_row, other as each_other}
 use Rattle.sg_track.specs.declared.kept.Kept.{Kept}
 use Rattle.sg_facts.specs.sg_base.Lists.{Each}

@@ -9,7 +9,8 @@ use Rattle.sg_facts.specs.Sound.{AreRows}
 use Rattle.sg_facts.specs.sg_base.declared.call.Call.{Call}
 use Rattle.sg_facts.specs.sg_base.declared.reply.Good.{Good}
 use Rattle.sg_facts.specs.Facts.{Facts, fun_at, takes_parent}
-use Rattle.sg_facts.specs.Track.{has_child, is_live, new_row, row_at}
+use Rattle.sg_facts.specs.Track.{is_live, new_row, row_at}
+use Rattle.sg_facts.specs.Inside.Rows.{has_child}
 use Rattle.sg_track.specs.Tracked.{AreTracked, HasLowerParent, HasPlace, Tracked}
 use Rattle.sg_facts.proofs.RowLists.{changed as keep_changed, id_of_row}
 use Rattle.sg_track.specs.declared.kept.Kept.{Kept}

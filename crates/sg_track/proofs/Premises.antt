@@ -15,7 +15,8 @@ use Rattle.sg_facts.specs.declared.shape.Effect.{Effect}
 use Rattle.sg_facts.specs.Allowed.{acts_on_one, each_replays_well, steps_make_none, implies, is_allowed, is_text_field, keeps_private, keeps_to, leaves_own, replays_all, sets_once}
 use Rattle.sg_facts.specs.Facts.{Facts, Field, Fun, fun_at, no_fun, takes_desc, takes_parent}
 use Rattle.sg_facts.specs.Sound.{AreFields, AreRows, IsOfField, IsRow}
-use Rattle.sg_facts.specs.Track.{effect_of, empty_field, field_at, fields_after, new_row, row_after, row_at, rows_after}
+use Rattle.sg_facts.specs.Track.{effect_of, field_at, fields_after, new_row, row_at, rows_after}
+use Rattle.sg_facts.specs.Inside.Rows.{empty_field, row_after}
 use Rattle.sg_track.specs.Drafts.{EachNew, IsDraftWord, IsValue}
 use Rattle.sg_track.specs.Tracked.{HasPlace, MayTrackOk, Tracked, changed_rows}
 use Rattle.sg_track.proofs.Ascending.{same_test}

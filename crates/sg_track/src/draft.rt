@@ -1,6 +1,7 @@
 // The fields of a row before it is made.
 ghost use Rattle.std.specs.Prelude.{◌≡◌, ◌<◌, length, map, slice_set};
-ghost use Rattle.sg_facts.specs.Track.{cleared, effect_of, field_at, fields_after, word_of};
+ghost use Rattle.sg_facts.specs.Track.{effect_of, field_at, fields_after, word_of};
+ghost use Rattle.sg_facts.specs.Inside.Rows.{cleared};
 ghost use Rattle.sg_track.specs.Drafts.{EachNew, IsValue, drafted};
 
 use crate::words::{arg_word, first_word};

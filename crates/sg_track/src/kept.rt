@@ -2,7 +2,8 @@
 ghost use Rattle.std.specs.Prelude.{◌≡◌, ◌≤◌, ◌++◌, false, None, [], ◌∷◌};
 ghost use Rattle.indexmap.specs.IndexMap.{spare};
 ghost use Rattle.sg_facts.specs.Facts.{fun_at};
-ghost use Rattle.sg_facts.specs.Track.{row_after, row_at};
+ghost use Rattle.sg_facts.specs.Track.{row_at};
+ghost use Rattle.sg_facts.specs.Inside.Rows.{row_after};
 ghost use Rattle.sg_track.specs.Drafts.{EachNew, IsDraftWord};
 ghost use Rattle.sg_track.specs.Kept.{AreKeyed, rows_in};
 

@@ -3,7 +3,8 @@ ghost use Rattle.std.specs.Prelude.{◌≡◌, ◌<◌, ◌≤◌, ◌==◌, Non
 ghost use Rattle.std.specs.List.{list_any};
 ghost use Rattle.std.specs.Map.{values_of};
 ghost use Rattle.sg_facts.specs.sg_base.Lists.{Each};
-ghost use Rattle.sg_facts.specs.Track.{ancestors, parent_in, row_at};
+ghost use Rattle.sg_facts.specs.Track.{ancestors, row_at};
+ghost use Rattle.sg_facts.specs.Inside.Rows.{parent_in};
 ghost use Rattle.sg_track.specs.Kept.{AreKeyed, Ascends, HasRow, rows_in};
 
 use crate::kept::{Kept, KeptRows};

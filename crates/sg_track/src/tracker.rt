@@ -2,8 +2,8 @@
 ghost use Rattle.std.specs.Prelude.{◌≡◌, ◌≤◌, ◌<◌, ◌+◌, ◌-◌, ◌^◌, [], Some, drop, length, map, slice_get, take, IfOk, OnOk, OnErr};
 ghost use Rattle.std.specs.Option.{option_copied, option_map};
 ghost use Rattle.sg_facts.specs.sg_base.Lists.{Each};
-ghost use Rattle.sg_facts.specs.Object.{given_after};
-ghost use Rattle.sg_facts.specs.Track.{ancestors, has_child, row_at, rows_after, track};
+ghost use Rattle.sg_facts.specs.Inside.Rows.{given_after, has_child, track};
+ghost use Rattle.sg_facts.specs.Track.{ancestors, row_at, rows_after};
 ghost use Rattle.sg_track.specs.Tracked.{AreTracked, MayChange, MayMake, MayTrack, MayTrackOk, changed_rows, left_rows, made_rows, spare_after};
 
 use crate::kept::{KeptRows, add_row, change_row};

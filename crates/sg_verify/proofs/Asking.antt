@@ -5,7 +5,7 @@ use Rattle.std.specs.declared.option.Option.{Option}
 use Rattle.sg_facts.specs.sg_base.declared.call.Call.{Call}
 use Rattle.sg_facts.proofs.RowLists.{live_of_row}
 use Rattle.sg_facts.specs.Facts.{Facts, fun_at, takes_desc, takes_parent}
-use Rattle.sg_facts.specs.Guard.{is_own, is_there, may_be_parent}
+use Rattle.sg_facts.specs.Inside.Guards.{is_own, is_there, may_be_parent}
 use Rattle.sg_facts.specs.Kinds.{MayAsk, may_be_root}
 use Rattle.sg_facts.specs.Laws.{Passes, whole}
 use Rattle.sg_facts.specs.Legal.{Table}

@@ -11,7 +11,8 @@ use Rattle.sg_facts.specs.Facts.{Facts}
 use Rattle.sg_facts.specs.Guard.{guard}
 use Rattle.sg_facts.specs.Kinds.{MayAsk}
 use Rattle.sg_facts.specs.Laws.{Passes}
-use Rattle.sg_facts.specs.Legal.{Table, answer, refused_or}
+use Rattle.sg_facts.specs.Legal.{Table, answer}
+use Rattle.sg_facts.specs.Inside.Rows.{refused_or}
 use Rattle.sg_facts.specs.Limits.{most_script_calls}
 use Rattle.sg_facts.specs.Object.{Object, after, empty_object, object_of}
 use Rattle.sg_facts.specs.Tables.{AreTables, Compiled}
@@ -96,14 +97,14 @@ right_so_far z h o counts entries is = record { legal = IsLegal-from z.iface z.a
 -- what is said of an entry is said of the history
 pub said_of : (z : Setting) (h : List Entry) (e : Entry) (rest history : List Entry) (v : Verdict) → history ≡ h ++ e ∷ rest → IsRight z.iface z.ask h → IsWrongAfter z h e v → IsVerdictOf z.iface z.ask history v
 said_of z h e rest history Legal is right wrong = absurd wrong
-said_of z h e rest history (BadSeq at next) is right wrong = record {
-  first = record { before = h; entry = e; rest = rest; is = is; place = wrong.0; right = right };
-  next_is = wrong.1;
-  other = wrong.2;
-}
-said_of z h e rest history (BadReply at answered) is right wrong = record {
-  first = record { before = h; entry = e; rest = rest; is = is; place = wrong.0; right = right };
-  numbered = wrong.1;
-  answer_is = wrong.2;
-  other = wrong.3;
-}
+said_of z h e rest history (BadSeq at next) is right wrong = (
+  record { before = h; entry = e; rest = rest; is = is; place = wrong.0; right = right },
+  wrong.1,
+  wrong.2,
+)
+said_of z h e rest history (BadReply at answered) is right wrong = (
+  record { before = h; entry = e; rest = rest; is = is; place = wrong.0; right = right },
+  wrong.1,
+  wrong.2,
+  wrong.3,
+)

@@ -8,7 +8,7 @@ use Rattle.sg_facts.specs.Legal.{Table, answer}
 use Rattle.sg_facts.specs.Object.{object_of}
 use Rattle.sg_facts.specs.declared.entry.Entry.{Entry}
 use Rattle.sg_facts.proofs.Replaying.Found.{other_test, same_test}
-use Rattle.sg_verify.specs.Verdicts.{IsBadReply, IsBadSeq, IsRight, IsVerdictOf, next_seq}
+use Rattle.sg_verify.specs.Verdicts.{IsRight, IsVerdictOf, next_seq}
 use Rattle.sg_verify.specs.declared.verdict.Verdict.{Verdict}
 use Rattle.sg_verify.specs.declared.verdict.Verdict.TheVariants.{Legal, BadSeq, BadReply}
 use Rattle.sg_verify.proofs.Splits.{which}
@@ -47,33 +47,33 @@ module _ (i : Declared) (ask : Table) where
     wrong : IsRightAt before entry → ⊥
     said : v ≡ says before entry
 
-  bad_seq : (history : List Entry) (at next : ℕ) → IsBadSeq i ask history at next → HasWrong history (BadSeq at next)
+  bad_seq : (history : List Entry) (at next : ℕ) → IsVerdictOf i ask history (BadSeq at next) → HasWrong history (BadSeq at next)
   bad_seq history at next bad =
-      let f = bad.first in
-      let apart : (f.entry.call.seq == next_seq f.before f.entry.call.client) ≡ false = other_test f.entry.call.seq (next_seq f.before f.entry.call.client) (λ same. bad.other (same ∙ sym bad.next_is)) in
+      let f = bad.0 in
+      let apart : (f.entry.call.seq == next_seq f.before f.entry.call.client) ≡ false = other_test f.entry.call.seq (next_seq f.before f.entry.call.client) (λ same. bad.2 (same ∙ sym bad.1)) in
       record {
         before = f.before;
         entry = f.entry;
         rest = f.rest;
         is = f.is;
         right = f.right;
-        wrong = λ right. bad.other (right.seq ∙ sym bad.next_is);
-        said = ap (λ n. BadSeq n next) f.place ∙ ap (λ n. BadSeq (length f.before + 1) n) bad.next_is
+        wrong = λ right. bad.2 (right.seq ∙ sym bad.1);
+        said = ap (λ n. BadSeq n next) f.place ∙ ap (λ n. BadSeq (length f.before + 1) n) bad.1
             ∙ sym (ap (λ b. cond b (BadReply (length f.before + 1) (answer i ask (object_of i.facts f.before) f.entry.call)) (BadSeq (length f.before + 1) (next_seq f.before f.entry.call.client))) apart);
       }
 
-  bad_reply : (history : List Entry) (at : ℕ) (answered : Option Reply) → IsBadReply i ask history at answered → HasWrong history (BadReply at answered)
+  bad_reply : (history : List Entry) (at : ℕ) (answered : Option Reply) → IsVerdictOf i ask history (BadReply at answered) → HasWrong history (BadReply at answered)
   bad_reply history at answered bad =
-      let f = bad.first in
-      let same : (f.entry.call.seq == next_seq f.before f.entry.call.client) ≡ true = same_test f.entry.call.seq (next_seq f.before f.entry.call.client) bad.numbered in
+      let f = bad.0 in
+      let same : (f.entry.call.seq == next_seq f.before f.entry.call.client) ≡ true = same_test f.entry.call.seq (next_seq f.before f.entry.call.client) bad.1 in
       record {
         before = f.before;
         entry = f.entry;
         rest = f.rest;
         is = f.is;
         right = f.right;
-        wrong = λ right. bad.other (bad.answer_is ∙ right.reply);
-        said = ap (λ n. BadReply n answered) f.place ∙ ap (λ a. BadReply (length f.before + 1) a) bad.answer_is
+        wrong = λ right. bad.3 (bad.2 ∙ right.reply);
+        said = ap (λ n. BadReply n answered) f.place ∙ ap (λ a. BadReply (length f.before + 1) a) bad.2
             ∙ sym (ap (λ b. cond b (BadReply (length f.before + 1) (answer i ask (object_of i.facts f.before) f.entry.call)) (BadSeq (length f.before + 1) (next_seq f.before f.entry.call.client))) same);
       }
 

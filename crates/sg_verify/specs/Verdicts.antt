@@ -1,7 +1,5 @@
 -- What is said of a history: that it is legal, or which entry is the first that is wrong.
 use Rattle.std.specs.Prelude.{ℕ, ◌≡◌, ◌≢◌, ◌+◌, List, [], ◌∷◌, ◌++◌, Some, length}
-use Rattle.std.specs.declared.option.Option.{Option}
-use Rattle.sg_facts.specs.sg_base.declared.reply.Reply.{Reply}
 use Rattle.sg_facts.specs.Interface.{Declared}
 use Rattle.sg_facts.specs.Legal.{IsLegal, Table, answer}
 use Rattle.sg_facts.specs.Object.{object_of}
@@ -29,21 +27,12 @@ pub record IsRightUpTo (i : Declared) (ask : Table) (history : List Entry) (at :
   pub place : at ≡ length before + 1
   pub right : IsRight i ask before
 
--- the first wrong entry has another number than its client's next
-pub record IsBadSeq (i : Declared) (ask : Table) (history : List Entry) (at next : ℕ) : Type 0 where
-  pub first : IsRightUpTo i ask history at
-  pub next_is : next ≡ next_seq first.before first.entry.call.client
-  pub other : first.entry.call.seq ≢ next
-
--- the first wrong entry has its client's next number, and another reply than what is answered there
-pub record IsBadReply (i : Declared) (ask : Table) (history : List Entry) (at : ℕ) (answered : Option Reply) : Type 0 where
-  pub first : IsRightUpTo i ask history at
-  pub numbered : first.entry.call.seq ≡ next_seq first.before first.entry.call.client
-  pub answer_is : answered ≡ answer i ask (object_of i.facts first.before) first.entry.call
-  pub other : answered ≢ Some first.entry.reply
-
--- this is said of a history
+-- this is said of a history: it is right; or the first wrong entry has another number than its client's next; or it has that number, and
+-- another reply than what is answered there
 abbrev pub IsVerdictOf : Declared → Table → List Entry → Verdict → Type 0
 IsVerdictOf i ask history Legal = IsRight i ask history
-IsVerdictOf i ask history (BadSeq at next) = IsBadSeq i ask history at next
-IsVerdictOf i ask history (BadReply at answered) = IsBadReply i ask history at answered
+IsVerdictOf i ask history (BadSeq at next) =
+    (first : IsRightUpTo i ask history at) × (next ≡ next_seq first.before first.entry.call.client) × (first.entry.call.seq ≢ next)
+IsVerdictOf i ask history (BadReply at answered) =
+    (first : IsRightUpTo i ask history at) × (first.entry.call.seq ≡ next_seq first.before first.entry.call.client)
+    × (answered ≡ answer i ask (object_of i.facts first.before) first.entry.call) × (answered ≢ Some first.entry.reply)

@@ -3,7 +3,8 @@ ghost use Rattle.std.specs.Prelude.{◌≡◌, ◌++◌, ◌-◌, [], IfOk, OnOk
 ghost use Rattle.std.specs.Fmt.{decimal};
 ghost use Rattle.sg_facts.specs.Facts.{fun_at, fun_of_shape};
 ghost use Rattle.sg_facts.specs.Words.{line_end};
-ghost use Rattle.sg_verify.specs.Lines.{answered_text, fun_of_entry, verdict_line_of};
+ghost use Rattle.sg_verify.specs.Lines.{verdict_line_of};
+ghost use Rattle.sg_verify.specs.Inside.Answered.{answered_text, fun_of_entry};
 
 use crate::Verdict;
 use sg_facts::{Bytes, Entry, FunShape, Interface, NoMemory, Reply};

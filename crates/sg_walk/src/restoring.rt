@@ -1,7 +1,7 @@
 // Whether a walk restores a state and a set of fields.
 ghost use Rattle.std.specs.Prelude.{◌≡◌, ◌↔◌, Bool, List, length, IsTrue};
 ghost use Rattle.sg_facts.specs.Fields.{number_of};
-ghost use Rattle.sg_facts.specs.Walks.{Restores};
+ghost use Rattle.sg_facts.specs.Inside.Walking.{Restores};
 ghost use Rattle.sg_facts.specs.Interface.{HasFewFields};
 ghost use Rattle.sg_walk.specs.Inside.Spots.{shown, leads, reaches};
 

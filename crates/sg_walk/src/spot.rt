@@ -1,6 +1,7 @@
 // Where a walk has come to.
 ghost use Rattle.std.specs.Prelude.{◌≡◌, ◌≤◌, length, map};
-ghost use Rattle.sg_facts.specs.Walks.{mark_after, marks_after, restores_field};
+ghost use Rattle.sg_facts.specs.Walks.{mark_after, marks_after};
+ghost use Rattle.sg_facts.specs.Inside.Walking.{restores_field};
 ghost use Rattle.sg_walk.specs.Inside.Spots.{known_of, shown_marks, restores_number};
 
 use sg_facts::Effect;

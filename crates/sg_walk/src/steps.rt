@@ -1,8 +1,8 @@
 // How a walk begins and goes on.
 ghost use Rattle.std.specs.Prelude.{◌≡◌, true, false, length, map, MatchOption};
-ghost use Rattle.sg_facts.specs.Interface.{steps_on};
-ghost use Rattle.sg_facts.specs.Walks.{unset, may_begin, may_go_on, first_spot, next_spot};
-ghost use Rattle.sg_facts.specs.Interface.{HasFewFields};
+ghost use Rattle.sg_facts.specs.Interface.{steps_on, HasFewFields};
+ghost use Rattle.sg_facts.specs.Walks.{unset};
+ghost use Rattle.sg_facts.specs.Inside.Walking.{may_begin, may_go_on, first_spot, next_spot};
 ghost use Rattle.sg_walk.specs.Inside.Spots.{shown, shown_marks, is_goal};
 
 use crate::spot::{FieldState, Goal, Spot, marked, restores_number};

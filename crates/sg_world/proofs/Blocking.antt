@@ -13,26 +13,23 @@ use Rattle.sg_facts.specs.Facts.{Facts, fun_at, is_visible}
 use Rattle.sg_facts.specs.Guard.{guard}
 use Rattle.sg_facts.specs.Object.{object_of}
 use Rattle.sg_facts.specs.Trace.{Boot}
-use Rattle.sg_replay.specs.sg_hist.Reading.{Position, is_by_guard, is_item_of, is_tagged}
+use Rattle.sg_replay.specs.sg_hist.Reading.{Position, is_by_guard, is_item_of, is_tagged, last_items, older_items, last_places}
 use Rattle.sg_replay.specs.sg_hist.Recovered.{is_clients}
 use Rattle.sg_replay.specs.sg_hist.Wakes.{has_blocked, wakes_at}
 use Rattle.sg_replay.specs.sg_hist.Growing.{IsGrown, IsOfNoEntry, booted, noted, struck}
-use Rattle.sg_replay.specs.sg_hist.Reading.{last_items, older_items}
 use Rattle.sg_world_laws.specs.sg_seat.WorldView.{Seat, WorldView, is_held_phase, is_offered, no_reply, seat_in, seat_of, wakes_seat, woken_seat}
 use Rattle.sg_world_laws.specs.sg_seat.declared.phase.Phase.{Phase}
 use Rattle.sg_world_laws.specs.sg_seat.declared.phase.Phase.TheVariants.{Idle, Asked, Held, Receipted, Blocked}
 use Rattle.sg_world_laws.specs.sg_recovery_laws.LastItem.LastPlace.{HaveItems, last_place}
-use Rattle.sg_world_laws.proofs.Ending.Calls.{own_tag}
+use Rattle.sg_world_laws.proofs.Ending.Calls.{own_tag, none_of_stub}
 use Rattle.sg_world_laws.proofs.Ending.Boots.{places_last_struck}
-use Rattle.sg_world_laws.proofs.Ending.Calls.{none_of_stub}
 use Rattle.sg_world_laws.proofs.Ending.Seats.{each_entered, each_set, each_woken}
 use Rattle.sg_world_laws.proofs.Ending.Shapes.{answered_seats, entry_with, given_seats, seat_behind, woken}
 use Rattle.sg_world_laws.proofs.Ending.Blocked.{blocked_noted, blocked_same, blocked_waiting, unwoken_by, waits_on, wakes_nobody, wakes_only}
 use Rattle.sg_world_laws.proofs.Ending.Wakers.{wakes_entered, wakes_noted, wakes_refused}
 use Rattle.sg_world_laws.specs.Ending.{AreBlockedSoFar, IsBlockedSeat}
 use Rattle.sg_replay.specs.sg_hist.Ending.{is_still_blocked}
-use Rattle.sg_replay.specs.sg_hist.Reading.{last_places}
-use Rattle.sg_replay.specs.sg_hist.Ending.{waking_entries}
+use Rattle.sg_replay.specs.sg_hist.Inside.Parts.{waking_entries}
 use Rattle.sg_world.specs.declared.did.Did.{Did}
 use Rattle.sg_world.specs.declared.did.Did.TheVariants.{Answered, Blocked as Waits, Booted, Loaded, Lost, Replayed, Served, Skipped, Struck}
 use Rattle.sg_world.specs.Steps.{AsksService, Commits, Steps}

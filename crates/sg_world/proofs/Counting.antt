@@ -12,7 +12,8 @@ use Rattle.sg_facts.specs.declared.outcome.Outcome.TheVariants.{Blocks, NoMemory
 use Rattle.sg_facts.specs.declared.trace.Item.{Item}
 use Rattle.sg_facts.specs.declared.trace.Tag.{Tag}
 use Rattle.sg_facts.specs.declared.trace.Tag.TheVariants.{Client, Load, Walk}
-use Rattle.sg_replay.specs.sg_hist.Recovered.{ArePoints, ArePointsOf, IsCount, IsPointOf, IsPointOfCall, IsStopOf, answer_to, asked_with_commit, asked_in}
+use Rattle.sg_replay.specs.sg_hist.Recovered.{ArePoints, ArePointsOf, IsCount, IsPointOfCall, IsStopOf, asked_with_commit, asked_in}
+use Rattle.sg_replay.specs.sg_hist.Inside.Parts.{IsPointOf, answer_to}
 use Rattle.sg_replay.specs.sg_hist.Growing.{asked_over}
 
 -- ---- counts

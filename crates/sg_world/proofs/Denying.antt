@@ -6,7 +6,7 @@ use Rattle.sg_facts.specs.sg_base.declared.reply.Code.{Code}
 use Rattle.sg_facts.specs.sg_base.declared.reply.Reply.TheVariants.{Refused}
 use Rattle.sg_world.specs.Engines.Stubs.{stub_of}
 use Rattle.sg_facts.specs.Guard.{guard}
-use Rattle.sg_facts.specs.Legal.{refused_or}
+use Rattle.sg_facts.specs.Inside.Rows.{refused_or}
 use Rattle.sg_facts.specs.Object.{Object, empty_object, file_at, object_of}
 use Rattle.sg_facts.specs.Trace.{Boot}
 use Rattle.sg_facts.specs.declared.entry.Entry.{Entry}

@@ -12,11 +12,13 @@ use Rattle.sg_facts.specs.declared.entry.Entry.{Entry}
 use Rattle.sg_facts.specs.declared.trace.Item.{Item}
 use Rattle.sg_facts.specs.declared.trace.Tag.{Tag}
 use Rattle.sg_facts.specs.declared.trace.Tag.TheVariants.{Client}
-use Rattle.sg_facts.specs.Legal.{answer, refused_or}
+use Rattle.sg_facts.specs.Legal.{answer}
+use Rattle.sg_facts.specs.Inside.Rows.{refused_or}
 use Rattle.sg_facts.specs.Object.{Object, object_of}
 use Rattle.sg_facts.specs.Trace.{Boot}
 use Rattle.sg_replay.specs.sg_boot.Cells.{IsCell, IsRunning}
-use Rattle.sg_replay.specs.sg_hist.Ending.{AreLost, client_of, is_unentered}
+use Rattle.sg_replay.specs.sg_hist.Ending.{AreLost, client_of}
+use Rattle.sg_replay.specs.sg_hist.Inside.Parts.{is_unentered}
 use Rattle.sg_replay.specs.sg_hist.Growing.{IsGrown, IsOfNoEntry, booted, last_stop, noted, struck}
 use Rattle.sg_replay.specs.sg_hist.Reading.{Position, is_by_guard, is_item_of, is_tagged}
 use Rattle.sg_replay.specs.sg_hist.Recovered.{is_clients, is_replied}

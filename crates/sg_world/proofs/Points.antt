@@ -9,7 +9,7 @@ use Rattle.sg_facts.specs.Object.{Object}
 use Rattle.sg_facts.specs.Trace.{Boot}
 use Rattle.sg_facts.specs.declared.entry.Entry.{Entry}
 use Rattle.sg_facts.specs.declared.trace.Item.{Item}
-use Rattle.sg_replay.specs.sg_hist.Recovered.{stop_in}
+use Rattle.sg_replay.specs.sg_hist.Inside.Parts.{stop_in}
 use Rattle.sg_replay.specs.sg_hist.Growing.{booted, last_stop, noted, struck}
 use Rattle.sg_replay.specs.Engined.{Engined}
 use Rattle.sg_clients.specs.sg_seat.WorldView.{WorldView, with_points}

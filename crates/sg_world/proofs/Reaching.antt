@@ -15,10 +15,12 @@ use Rattle.sg_facts.specs.declared.outcome.Outcome.TheVariants.{Blocks, Stopped}
 use Rattle.sg_facts.specs.declared.trace.Item.{Item}
 use Rattle.sg_facts.specs.declared.trace.Tag.TheVariants.{Client}
 use Rattle.sg_facts.specs.Invoke.{Points}
-use Rattle.sg_facts.specs.Legal.{answer, refused_or}
+use Rattle.sg_facts.specs.Legal.{answer}
+use Rattle.sg_facts.specs.Inside.Rows.{refused_or}
 use Rattle.sg_facts.specs.Object.{Object, object_of}
 use Rattle.sg_facts.specs.Trace.{Run}
-use Rattle.sg_replay.specs.sg_hist.Recovered.{IsStopInCall, answer_to, struck_in}
+use Rattle.sg_replay.specs.sg_hist.Recovered.{IsPointOfCall, struck_in}
+use Rattle.sg_replay.specs.sg_hist.Inside.Parts.{answer_to}
 use Rattle.sg_replay.specs.sg_hist.Growing.{IsNextItem, noted, place_after}
 use Rattle.sg_replay.specs.sg_hist.Reading.{last_items}
 use Rattle.sg_replay.specs.Engined.{Engined}
@@ -206,7 +208,7 @@ module _ (z : Setting) (e : Engined) (w : WorldView) (rooms : Rooms) (is : IsWor
           outcome = refl;
           noted = record {
             next = stops_next later.asked some;
-            points = subst (λ x. IsStopInCall true (z.parts call.fun) asked x later.asked) (sym answered)
+            points = subst (λ x. IsPointOfCall true z.parts asked x call.fun Stopped later.asked) (sym answered)
                 (stop_at z.parts asked start.asked later.asked call.fun s.stops.reply (real_call e call) refl start_is s.stops.first s.stops.last s.counted);
           };
           now = ap (λ (r : Run). record w { run = r; running = new.cell.running }) run_is ∙ ap (λ r. record w { run = with_stop (with_item w.run item later.asked) later.asked; running = r }) s.running;

@@ -13,7 +13,8 @@ use Rattle.sg_facts.specs.sg_base.declared.reply.Reply.TheVariants.{Ok, Refused}
 use Rattle.sg_replay.proofs.sg_boot.LastBoot.{begun_noted, stop_noted}
 use Rattle.sg_replay.specs.sg_boot.Cells.{IsRunning, IsUp}
 use Rattle.sg_replay.specs.sg_boot.Invoking.{item_of_call, with_item, with_stop}
-use Rattle.sg_replay.specs.sg_hist.Recovered.{IsStopInCall, answer_to, item_of_load, struck_in}
+use Rattle.sg_replay.specs.sg_hist.Recovered.{IsPointOfCall, item_of_load, struck_in}
+use Rattle.sg_replay.specs.sg_hist.Inside.Parts.{answer_to}
 use Rattle.sg_world.proofs.Engines.Advancing.{it, loads_next, loads_shown, may_advance, replayable, replays_next, replays_shown, struck_next, struck_shown, unchanged_shown}
 use Rattle.sg_world.proofs.Engines.Left.{left_to_load}
 use Rattle.sg_world.specs.Engines.Engines.{IsEngineOf, as_shown}
@@ -65,7 +66,7 @@ pub reply_next : (asked n parts later : ℕ) → n ≡ asked_after asked 1 → l
 reply_next asked n parts later one is = omega (arith, one, is)
 
 -- a call that stopped did so at a point of what it would have been answered
-pub stop_at : (parts : ℕ → ℕ) (asked n later fun : ℕ) (reply : Reply) (call : Call) → call.fun ≡ fun → n ≡ asked_after asked 1 → n < later → later ≤ n + parts_of parts call reply + 1 → later ≤ last_count → IsStopInCall true (parts fun) asked (Some reply) later
+pub stop_at : (parts : ℕ → ℕ) (asked n later fun : ℕ) (reply : Reply) (call : Call) → call.fun ≡ fun → n ≡ asked_after asked 1 → n < later → later ≤ n + parts_of parts call reply + 1 → later ≤ last_count → IsPointOfCall true parts asked (Some reply) fun Stopped later
 stop_at parts asked n later fun (Ok good) call its is above most counted =
     let same : parts call.fun ≡ parts fun = ap parts its in
     (omega (arith, is, above, counted), omega (arith, is, above, most, same, counted))
@@ -317,7 +318,7 @@ module _ (z : Setting) (e : Engined) (w : WorldView) (rooms : Rooms) (is : IsWor
             outcome = refl;
             noted = record {
               next = at_end item (struck_next z is.set w spelt.first spelt.others v e keeps_now engine_is (seat_of w client).call let_in_now t.id t.k t.is_due t.shown t.its later.asked);
-              points = subst (λ x. IsStopInCall true (z.parts t.shown.fun) asked x later.asked) (sym answered)
+              points = subst (λ x. IsPointOfCall true z.parts asked x t.shown.fun Stopped later.asked) (sym answered)
                   (stop_at z.parts asked start.asked later.asked t.shown.fun t.did.notes.stops.reply (real_call e t.shown) refl start_is t.did.notes.stops.first t.did.notes.stops.last t.did.notes.counted);
             };
             now = ap (λ (r : Run). record w { run = r; running = new.cell.running }) (t.did.notes.run ∙ ap (λ (x : Run). with_stop (with_item x item later.asked) later.asked) run)

@@ -26,12 +26,14 @@ use Rattle.sg_facts.specs.declared.trace.Tag.TheVariants.{Client}
 use Rattle.sg_facts.specs.Alike.{SameFile, Serves, named}
 use Rattle.sg_facts.specs.Facts.{fun_at, is_visible}
 use Rattle.sg_facts.specs.Invoke.{FitsRoom, Points, parts_of}
-use Rattle.sg_facts.specs.Legal.{answer, refused_or}
-use Rattle.sg_facts.specs.Object.{Object, file_at, given_after, object_of, patch_of}
+use Rattle.sg_facts.specs.Legal.{answer}
+use Rattle.sg_facts.specs.Inside.Rows.{refused_or, given_after, track}
+use Rattle.sg_facts.specs.Object.{Object, file_at, object_of, patch_of}
 use Rattle.sg_facts.specs.Trace.{Boot, Run}
-use Rattle.sg_facts.specs.Track.{track}
-use Rattle.sg_replay.specs.sg_hist.Reading.{after_item, last_items}
-use Rattle.sg_replay.specs.sg_hist.Recovered.{IsPointOfCall, answer_to, struck_in}
+use Rattle.sg_replay.specs.sg_hist.Reading.{last_items}
+use Rattle.sg_replay.specs.sg_hist.Inside.Reads.{after_item}
+use Rattle.sg_replay.specs.sg_hist.Recovered.{IsPointOfCall, struck_in}
+use Rattle.sg_replay.specs.sg_hist.Inside.Parts.{answer_to}
 use Rattle.sg_replay.specs.sg_name.Names.{named_at}
 use Rattle.sg_replay.specs.sg_name.declared.named.Named.TheVariants.{Live}
 use Rattle.sg_world_laws.proofs.sg_recovery_laws.Objects.Waiting.{hidden_is}

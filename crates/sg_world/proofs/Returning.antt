@@ -1,8 +1,8 @@
 -- A world keeps what it keeps where a held reply is committed and handed over.
-use Rattle.std.proofs.Common.{Bool, List, None, Option, Some, [], ap, arith, cond, false, flat_map, if◌then◌else◌, inl, inr, length, map, not, refl, slice_get, slice_set, subst, sym, true, ℕ, ◌&&◌, ◌++◌, ◌+◌, ◌-◌, ◌<◌, ◌==◌, ◌^◌, ◌∙◌, ◌∷◌, ◌≡◌, ◌≤◌, ◌⊎◌}
+use Rattle.std.proofs.Common.{Bool, List, None, Option, Some, [], ap, arith, cond, false, flat_map, if◌then◌else◌, inl, inr, length, map, not, refl, slice_get, slice_set, subst, sym, true, ℕ, ◌&&◌, ◌++◌, ◌+◌, ◌-◌, ◌<◌, ◌==◌, ◌^◌, ◌∙◌, ◌∷◌, ◌≡◌, ◌≤◌, ◌⊎◌, unwrap_or}
 use Rattle.std.proofs.Math.Path.{fun_ext}
 use Rattle.std.specs.List.{Contains}
-use Rattle.std.specs.Prelude.{◌||◌}
+use Rattle.std.specs.Prelude.{◌||◌, IsSome}
 use Rattle.sg_facts.specs.sg_base.declared.call.Call.{Call}
 use Rattle.sg_facts.specs.sg_base.declared.reply.Reply.{Reply}
 use Rattle.sg_facts.specs.sg_base.declared.reply.Reply.TheVariants.{Ok, Refused}
@@ -12,8 +12,9 @@ use Rattle.sg_facts.specs.Facts.{Facts, fun_at}
 use Rattle.sg_facts.specs.Legal.{Table}
 use Rattle.sg_facts.specs.Object.{Object, after, object_of, patch_of}
 use Rattle.sg_facts.specs.Sound.{AreRows, IsRow}
-use Rattle.sg_facts.specs.Trace.{Boot}
-use Rattle.sg_facts.specs.Track.{is_live, rows_after, track}
+use Rattle.sg_facts.specs.Trace.{Boot, Run}
+use Rattle.sg_facts.specs.Track.{is_live, rows_after}
+use Rattle.sg_facts.specs.Inside.Rows.{track, given_after}
 use Rattle.sg_facts.specs.declared.entry.Entry.{Entry}
 use Rattle.sg_facts.specs.declared.outcome.Patch.{Patch}
 use Rattle.sg_facts.specs.declared.row.Row.{Row}
@@ -28,18 +29,13 @@ use Rattle.sg_replay.proofs.Naming.{named_in_pairs, real_or_zero}
 use Rattle.sg_replay.specs.Committing.{MayCommitAt, is_written, name_left}
 use Rattle.sg_replay.specs.Engined.{Engined}
 use Rattle.sg_replay.specs.Present.{is_present}
-use Rattle.sg_clients.specs.sg_seat.WorldView.{Seat, WorldView, held_in, is_held_in, is_held_phase, is_offered, no_reply, offered_by, unanswered, wakes_seat, woken_seat}
+use Rattle.sg_clients.specs.sg_seat.WorldView.{Seat, WorldView, held_in, is_held_in, is_held_phase, is_offered, no_reply, offered_by, unanswered, wakes_seat, woken_seat, answered_to, boot_number, committed, is_blocked_phase, no_seat, seat_in, seat_of}
 use Rattle.sg_clients.specs.sg_seat.declared.phase.Phase.TheVariants.{Held, Idle}
 use Rattle.sg_replay.proofs.sg_track.Premises.{may_track}
 use Rattle.sg_replay.specs.sg_track.Tracked.{MayTrack, Tracked}
 use Rattle.sg_facts.proofs.Replaying.Found.{same_test}
-use Rattle.std.proofs.Common.{unwrap_or}
-use Rattle.std.specs.Prelude.{IsSome}
 use Rattle.sg_facts.specs.sg_base.Lists.{Each}
-use Rattle.sg_facts.specs.Object.{given_after}
-use Rattle.sg_facts.specs.Trace.{Run}
 use Rattle.sg_world_laws.specs.sg_recovery_laws.Midway.Progress.{IsNone}
-use Rattle.sg_clients.specs.sg_seat.WorldView.{answered_to, boot_number, committed, is_blocked_phase, no_seat, seat_in, seat_of}
 use Rattle.sg_clients.specs.sg_seat.declared.mark.Mark.{Mark}
 use Rattle.sg_clients.specs.sg_seat.declared.mark.MarkKind.TheVariants.{Answer, Entry as IsEntered}
 use Rattle.sg_replay.specs.sg_store.Spans.{patched_at}
@@ -53,12 +49,11 @@ use Rattle.sg_world.specs.Inside.Waiting.{WaitOnLive}
 use Rattle.sg_world.specs.Marked.{TellsAll}
 use Rattle.sg_world.specs.Worlded.{HaveRooms, IsWorld, Rooms, StoresObject}
 use Rattle.sg_world_laws.proofs.Moves.{its_seat}
-use Rattle.sg_world_laws.proofs.Seating.{HasSeat, has_seat, woken_at}
+use Rattle.sg_world_laws.proofs.Seating.{HasSeat, has_seat, woken_at, held_at, offered_at, one_is, seat_is, still_offered}
 use Rattle.sg_world_laws.proofs.Turns.{seat_there}
 use Rattle.sg_world_laws.proofs.Drawn.{waiting_one}
 use Rattle.sg_world_laws.proofs.Entered.{seats_entered}
 use Rattle.sg_world_laws.proofs.Returned.{answer_held, returned}
-use Rattle.sg_world_laws.proofs.Seating.{held_at, offered_at, one_is, seat_is, still_offered}
 use Rattle.sg_world_laws.proofs.Woken.{held_woken, offered_woken}
 use Rattle.sg_world_laws.specs.Keeping.{KeepsPromise, standing}
 use Rattle.sg_world_laws.specs.Seats.{HaveSeats, IsSeated}

@@ -14,7 +14,8 @@ use Rattle.sg_facts.specs.Facts.{Facts, is_visible}
 use Rattle.sg_facts.specs.Legal.{Table}
 use Rattle.sg_facts.specs.Object.{Object}
 use Rattle.sg_facts.specs.Trace.{Boot}
-use Rattle.sg_replay.specs.sg_hist.Recovered.{ArePointsOf, IsCount, IsPointOf, answer_to, asked_with_commit, asked_in, ends_committed, is_clients, is_replied, is_stopped, is_visible_reply}
+use Rattle.sg_replay.specs.sg_hist.Recovered.{ArePointsOf, IsCount, asked_with_commit, asked_in, ends_committed, is_clients, is_replied, is_visible_reply}
+use Rattle.sg_replay.specs.sg_hist.Inside.Parts.{IsPointOf, answer_to, is_stopped}
 use Rattle.sg_world_laws.proofs.sg_recovery_laws.Points.{points_booted, points_counted, points_noted, points_stopped, points_struck}
 use Rattle.sg_replay.specs.sg_hist.Growing.{asked_over, booted, last_stop, noted, struck}
 use Rattle.sg_replay.specs.sg_hist.Reading.{last_items}

@@ -7,8 +7,8 @@ use Rattle.sg_facts.specs.sg_base.declared.reply.Reply.{Reply}
 use Rattle.sg_facts.specs.declared.entry.Entry.{Entry}
 use Rattle.sg_facts.specs.declared.outcome.Patch.{Patch}
 use Rattle.sg_facts.specs.Facts.{Facts}
-use Rattle.sg_facts.specs.Object.{after, empty_object, file_at, given_after, object_of, over, patch_of, patched}
-use Rattle.sg_facts.specs.Track.{track}
+use Rattle.sg_facts.specs.Object.{after, empty_object, file_at, object_of, over, patch_of}
+use Rattle.sg_facts.specs.Inside.Rows.{given_after, patched, track}
 use Rattle.sg_world_laws.proofs.sg_recovery_laws.Objects.Files.{set_other, set_own}
 use Rattle.sg_replay.specs.Engined.{Engined}
 use Rattle.sg_replay.specs.sg_store.Spans.{patched_at}

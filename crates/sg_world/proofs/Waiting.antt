@@ -5,7 +5,7 @@ use Rattle.sg_facts.specs.sg_base.declared.reply.Code.{Code}
 use Rattle.sg_facts.specs.sg_base.declared.reply.Reply.{Reply}
 use Rattle.sg_facts.specs.declared.entry.Entry.{Entry}
 use Rattle.sg_facts.specs.Guard.{guard}
-use Rattle.sg_facts.specs.Legal.{refused_or}
+use Rattle.sg_facts.specs.Inside.Rows.{refused_or}
 use Rattle.sg_facts.specs.Object.{object_of}
 use Rattle.sg_world_laws.specs.sg_recovery_laws.Midway.Progress.{IsNone}
 use Rattle.sg_clients.specs.sg_seat.WorldView.{Seat, is_blocked_phase, is_offered}

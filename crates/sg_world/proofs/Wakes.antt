@@ -2,7 +2,7 @@
 use Rattle.std.proofs.Common.{Bool, List, [], ap, arith, cond, false, filter, inl, inr, map, not, refl, subst, suc, sym, true, zero, ℕ, ◌&&◌, ◌++◌, ◌==◌, ◌||◌, ◌∙◌, ◌∷◌, ◌≡◌, ◌<◌}
 use Rattle.std.specs.List.{list_any}
 use Rattle.std.specs.Prelude.{nat_lt}
-use Rattle.std.proofs.lemmas.Bool.Decides.{eqb_tells}
+use Rattle.std.proofs.lemmas.Bool.Decides.{eqb_tells, nat_tests}
 use Rattle.sg_clients.specs.sg_seat.declared.phase.Phase.TheVariants.{Asked}
 use Rattle.sg_facts.specs.sg_base.Lists.{Each}
 use Rattle.sg_facts.specs.sg_base.declared.call.Call.{Call}
@@ -14,11 +14,11 @@ use Rattle.sg_facts.proofs.RowLists.{is_live-left}
 use Rattle.sg_facts.specs.Allowed.{is_allowed}
 use Rattle.sg_facts.specs.Facts.{Facts, Fun, fun_at}
 use Rattle.sg_facts.specs.Kinds.{IsCall}
-use Rattle.sg_facts.specs.Track.{ends_with, is_ancestor, is_live, nearest, new_row, parent_in, row_after, row_at, rows_after, track}
+use Rattle.sg_facts.specs.Track.{ends_with, is_ancestor, is_live, nearest, new_row, row_at, rows_after}
+use Rattle.sg_facts.specs.Inside.Rows.{parent_in, row_after, track}
 use Rattle.sg_facts.specs.declared.row.Row.{Row}
 use Rattle.sg_world_laws.specs.sg_recovery_laws.Midway.Progress.{IsNone}
 use Rattle.sg_world_laws.proofs.sg_recovery_laws.Objects.Guarded.{acts, keeps}
-use Rattle.std.proofs.lemmas.Bool.Decides.{nat_tests}
 use Rattle.sg_world_laws.proofs.sg_recovery_laws.Lists.{each_map}
 use Rattle.sg_clients.specs.sg_seat.WorldView.{Seat, is_blocked_phase, wakes_seat, woken_seat}
 use Rattle.sg_facts.proofs.Replaying.Found.{other_test, same_test}

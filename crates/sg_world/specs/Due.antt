@@ -6,7 +6,7 @@ use Rattle.std.specs.declared.option.Option.{Option}
 use Rattle.sg_facts.specs.sg_base.declared.call.Call.{Call}
 use Rattle.sg_facts.specs.Needs.{Needs, wanted}
 use Rattle.sg_facts.specs.Object.{Object, file_at, object_of}
-use Rattle.sg_replay.specs.sg_hist.Recovered.{is_patch_at, is_walk_of}
+use Rattle.sg_replay.specs.sg_hist.Inside.Parts.{is_patch_at, is_walk_of}
 use Rattle.sg_replay.specs.sg_hist.Reading.{last_items, older_items}
 use Rattle.sg_replay.specs.declared.todo.Todo.{Todo}
 use Rattle.sg_replay.specs.declared.todo.Todo.TheVariants.{Walk, Load}

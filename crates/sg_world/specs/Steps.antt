@@ -15,8 +15,10 @@ use Rattle.sg_facts.specs.Guard.{guard}
 use Rattle.sg_facts.specs.Legal.{answer}
 use Rattle.sg_facts.specs.Object.{Object, object_of}
 use Rattle.sg_replay.specs.sg_hist.Clients.{calls_of}
-use Rattle.sg_replay.specs.sg_hist.Reading.{after_item, last_items}
-use Rattle.sg_replay.specs.sg_hist.Recovered.{IsPointOf, answer_to, is_replied, is_stopped}
+use Rattle.sg_replay.specs.sg_hist.Reading.{last_items}
+use Rattle.sg_replay.specs.sg_hist.Inside.Reads.{after_item}
+use Rattle.sg_replay.specs.sg_hist.Recovered.{is_replied}
+use Rattle.sg_replay.specs.sg_hist.Inside.Parts.{IsPointOf, answer_to, is_stopped}
 use Rattle.sg_replay.specs.sg_hist.Growing.{IsNextItem, place_after}
 use Rattle.sg_replay.specs.declared.todo.Todo.TheVariants.{Load as ToLoad, Walk as ToWalk}
 use Rattle.sg_clients.specs.sg_seat.WorldView.{Seat, WorldView, answered_to, boot_number, committed, given_to, happened, in_phase, item_noted, rebooted, reply_handed_over, seat_of, service_is, struck_at, unanswered, with_points, with_seat}

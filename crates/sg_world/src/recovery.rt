@@ -56,8 +56,8 @@ impl<S: Service, T: Stops> Inner<S, T> {
         Ok(())
     }
 
-    /// Does what is to be done next for a client's call that needs this file, where the point before was asked already. After `NoMemory`
-    /// the world is as before.
+    /// Does what is to be done next for a client's call that needs this file, where the point before was asked already. After
+    /// `NoMemory` the world is as before.
     pub(crate) fn advance(
         &mut self,
         alloc: Global,

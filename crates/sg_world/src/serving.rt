@@ -21,8 +21,8 @@ use sg_facts::{NoMemory, Outcome, Patch, Path, Point, Reply, Service, Stops};
 use std::alloc::Global;
 
 impl<S: Service, T: Stops> Inner<S, T> {
-    /// Serves a client's call that has all that it needs, with this file, where the point before was asked already. After `NoMemory` the world is as
-    /// before.
+    /// Serves a client's call that has all that it needs, this file with it, where the point before was asked already. After
+    /// `NoMemory` the world is as before.
     pub(crate) fn serve(
         &mut self,
         alloc: Global,

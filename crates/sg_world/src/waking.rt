@@ -1,6 +1,7 @@
 // Who waits is asked again where an answered call may have given it what it waits for.
 ghost use Rattle.std.specs.Prelude.{◌≡◌, ◌&&◌, List, map, nat_lt, not};
-ghost use Rattle.sg_facts.specs.Track.{is_live, track};
+ghost use Rattle.sg_facts.specs.Track.{is_live};
+ghost use Rattle.sg_facts.specs.Inside.Rows.{track};
 ghost use Rattle.sg_clients.specs.sg_seat.WorldView.{wakes_seat, woken_seat};
 ghost use Rattle.sg_facts.specs.declared.row.Row.{Row as IsRow};
 ghost use Rattle.sg_world.specs.Inside.Waiting.{WaitOnLive};

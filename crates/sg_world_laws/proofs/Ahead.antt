@@ -10,7 +10,8 @@ use Rattle.sg_facts.specs.declared.entry.Entry.{Entry}
 use Rattle.sg_facts.specs.declared.trace.Item.{Item}
 use Rattle.sg_facts.specs.Facts.{is_visible}
 use Rattle.sg_facts.specs.Trace.{Boot, Run}
-use Rattle.sg_recovery_laws.specs.sg_hist.Reading.{Position, items_after, is_by_guard, is_item_of, past, places_from, places_of, stands_before}
+use Rattle.sg_recovery_laws.specs.sg_hist.Reading.{Position, items_after, is_by_guard, is_item_of, places_from, places_of, stands_before}
+use Rattle.sg_recovery_laws.specs.sg_hist.Inside.Reads.{past}
 use Rattle.sg_recovery_laws.specs.sg_hist.Recovered.{Stubs, is_visible_reply}
 use Rattle.sg_recovery_laws.specs.sg_hist.Growing.{AreKept, IsHeldReply, IsItemOf, IsLastCall, IsNextItem, IsRecovering, IsSettled, IsOfNoEntry, noted, place_after}
 use Rattle.sg_recovery_laws.proofs.sg_hist.Growing.{places-more, stands_before-own}

@@ -1,7 +1,7 @@
 -- Only look-ups count: a world keeps what it keeps under stubs that tell the same.
 use Rattle.std.proofs.Common.{◌≡◌, ℕ, ◌+◌, ◌*◌, ◌≤◌, Bool, true, List, [], ◌∷◌, ◌++◌, None, Some, length, filter, refl, sym, ◌∙◌, ap, subst, inl, inr}
 use Rattle.std.specs.declared.option.Option.{Option}
-use Rattle.sg_world_laws.specs.Keeping.{TellSame}
+use Rattle.sg_world_laws.specs.Keeping.{TellSame, KeepsPromise, Stands, StandsIn, Stub}
 use Rattle.sg_facts.specs.declared.entry.Entry.{Entry}
 use Rattle.sg_facts.specs.declared.row.Row.{Row}
 use Rattle.sg_facts.specs.declared.tables.WalkLine.{WalkLine}
@@ -10,16 +10,16 @@ use Rattle.sg_facts.specs.Alike.{named}
 use Rattle.sg_facts.specs.Counted.{most_counted}
 use Rattle.sg_facts.specs.Facts.{Facts}
 use Rattle.sg_facts.specs.Laws.{slow}
-use Rattle.sg_facts.specs.Object.{Object, object_from, object_of}
+use Rattle.sg_facts.specs.Object.{Object, object_of}
+use Rattle.sg_facts.specs.Inside.Rows.{object_from}
 use Rattle.sg_facts.specs.Track.{is_live}
 use Rattle.sg_recovery_laws.proofs.Midway.Glue.{under_named}
 use Rattle.sg_recovery_laws.specs.Midway.Numbers.{AreNumbers, left_of, sum_told, unbegun}
 use Rattle.sg_recovery_laws.specs.Midway.Progress.{IsNone, TellsCalls, Told, is_complete}
-use Rattle.sg_recovery_laws.specs.sg_hist.Recovered.{is_walk_of}
+use Rattle.sg_recovery_laws.specs.sg_hist.Inside.Parts.{is_walk_of}
 use Rattle.sg_recovery_laws.specs.sg_hist.Reading.{last_items, older_items}
 use Rattle.sg_seat.specs.WorldView.{WorldView, held_replies}
 use Rattle.sg_recovery_laws.specs.LastItem.Told.{IsRead}
-use Rattle.sg_world_laws.specs.Keeping.{KeepsPromise, Stands, StandsIn, Stub}
 use Rattle.sg_world_laws.specs.Setting.{Setting}
 
 -- what is told of each row comes to the same sum

@@ -7,7 +7,8 @@ use Rattle.sg_facts.proofs.RowLists.{live_of_row, row_of_live}
 use Rattle.sg_facts.specs.Alike.{HasAlike, SameFile, Serves, named}
 use Rattle.sg_facts.specs.Guard.{guard}
 use Rattle.sg_facts.specs.Needs.{is_needed, is_wanted, needs}
-use Rattle.sg_facts.specs.Object.{Object, file_at, object_from, object_of}
+use Rattle.sg_facts.specs.Object.{Object, file_at, object_of}
+use Rattle.sg_facts.specs.Inside.Rows.{object_from}
 use Rattle.sg_facts.specs.Trace.{Boot}
 use Rattle.sg_facts.specs.Track.{is_live, row_at}
 use Rattle.sg_facts.specs.declared.entry.Entry.{Entry}
@@ -18,7 +19,8 @@ use Rattle.sg_facts.specs.declared.trace.Tag.TheVariants.{Client, Load, Walk}
 use Rattle.sg_recovery_laws.proofs.Midway.Served.{serves_it}
 use Rattle.sg_recovery_laws.specs.Midway.Progress.{IsNone, complete}
 use Rattle.sg_recovery_laws.specs.sg_hist.Reading.{is_tagged, last_items, older_items, service_call}
-use Rattle.sg_recovery_laws.specs.sg_hist.Recovered.{AskedAs, IsAdmitted, IsByTable, IsCallOf, IsDemanded, IsItsCall, IsTracked, IsTrackedAt, IsWalked}
+use Rattle.sg_recovery_laws.specs.sg_hist.Recovered.{IsAdmitted, IsByTable, IsCallOf, IsTracked}
+use Rattle.sg_recovery_laws.specs.sg_hist.Inside.Parts.{AskedAs, IsDemanded, IsItsCall, IsTrackedAt, IsWalked}
 use Rattle.sg_recovery_laws.proofs.Objects.Apart.{Ascends}
 use Rattle.sg_recovery_laws.proofs.Objects.Room.{guard_behind}
 use Rattle.sg_recovery_laws.proofs.Objects.Serves.{its_own}

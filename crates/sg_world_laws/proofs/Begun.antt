@@ -6,7 +6,8 @@ use Rattle.std.proofs.Math.ListN.{set}
 use Rattle.sg_facts.specs.sg_base.Lists.{Each}
 use Rattle.sg_boot.proofs.Keeping.{kept_booted}
 use Rattle.sg_facts.specs.Limits.{last_client}
-use Rattle.sg_facts.specs.Object.{empty_object, object_from}
+use Rattle.sg_facts.specs.Object.{empty_object}
+use Rattle.sg_facts.specs.Inside.Rows.{object_from}
 use Rattle.sg_recovery_laws.specs.Midway.Numbers.{AreNumbers}
 use Rattle.sg_recovery_laws.specs.Midway.Progress.{fresh}
 use Rattle.sg_recovery_laws.specs.Objects.Waiting.{AreWaiting}

@@ -7,7 +7,8 @@ use Rattle.sg_facts.specs.sg_base.Lists.{Each}
 use Rattle.sg_boot.proofs.Keeping.{kept_booted}
 use Rattle.sg_boot.proofs.LastBoot.{items_booted}
 use Rattle.sg_facts.specs.Interface.{Declared}
-use Rattle.sg_facts.specs.Object.{Object, empty_object, object_from, object_of}
+use Rattle.sg_facts.specs.Object.{Object, empty_object, object_of}
+use Rattle.sg_facts.specs.Inside.Rows.{object_from}
 use Rattle.sg_facts.specs.Sound.{IsSound}
 use Rattle.sg_facts.specs.Trace.{Boot}
 use Rattle.sg_facts.specs.declared.entry.Entry.{Entry}

@@ -6,7 +6,8 @@ use Rattle.sg_facts.specs.sg_base.Lists.{Each}
 use Rattle.sg_facts.specs.declared.entry.Entry.{Entry}
 use Rattle.sg_facts.specs.Facts.{Facts}
 use Rattle.sg_facts.specs.Legal.{Table}
-use Rattle.sg_facts.specs.Object.{Object, after, object_from}
+use Rattle.sg_facts.specs.Object.{Object, after}
+use Rattle.sg_facts.specs.Inside.Rows.{object_from}
 use Rattle.sg_recovery_laws.proofs.Lists.{each_append, each_contains, each_map, each_split}
 use Rattle.sg_world_laws.specs.Keeping.{ClientsDiffer, AreDrawn}
 use Rattle.sg_recovery_laws.specs.Objects.Serving.{HasTime, IsLegalObject, IsService}

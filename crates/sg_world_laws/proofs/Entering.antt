@@ -11,7 +11,8 @@ use Rattle.sg_facts.specs.Facts.{fun_at}
 use Rattle.sg_facts.specs.Interface.{Declared}
 use Rattle.sg_facts.specs.Laws.{slow}
 use Rattle.sg_facts.specs.Legal.{LegalFrom, Table, answer}
-use Rattle.sg_facts.specs.Object.{Object, after, empty_object, given_after, object_from, object_of}
+use Rattle.sg_facts.specs.Object.{Object, after, empty_object, object_of}
+use Rattle.sg_facts.specs.Inside.Rows.{given_after, object_from}
 use Rattle.sg_facts.specs.declared.entry.Entry.{Entry}
 use Rattle.sg_recovery_laws.specs.sg_hist.Reading.{is_by_guard}
 use Rattle.sg_recovery_laws.proofs.Objects.Steady.{after_good}

@@ -15,8 +15,10 @@ use Rattle.sg_facts.specs.declared.outcome.Outcome.TheVariants.{Blocks, NoMemory
 use Rattle.sg_facts.specs.declared.trace.Item.{Item}
 use Rattle.sg_facts.specs.declared.trace.Tag.{Tag}
 use Rattle.sg_facts.specs.declared.trace.Tag.TheVariants.{Client, Load, Walk}
-use Rattle.sg_recovery_laws.specs.sg_hist.Reading.{Position, desc_in, entries_before, id_given, is_by_guard, is_item_of, items_of, last_items, places_from, places_in, stands_before}
-use Rattle.sg_recovery_laws.specs.sg_hist.Recovered.{IsCommitted, is_clients, is_replied}
+use Rattle.sg_recovery_laws.specs.sg_hist.Reading.{Position, desc_in, id_given, is_by_guard, is_item_of, items_of, last_items, places_from, places_in, stands_before}
+use Rattle.sg_recovery_laws.specs.sg_hist.Inside.Reads.{entries_before}
+use Rattle.sg_recovery_laws.specs.sg_hist.Recovered.{is_clients, is_replied}
+use Rattle.sg_recovery_laws.specs.sg_hist.Inside.Parts.{IsCommitted}
 use Rattle.sg_recovery_laws.proofs.Given.{HasEntry, IsGiven, committed_given, is_numbered, made_visible}
 use Rattle.sg_recovery_laws.proofs.Lists.{each_map, each_split}
 use Rattle.sg_recovery_laws.specs.sg_hist.Growing.{IsSameFor, IsSameId}

@@ -11,7 +11,8 @@ use Rattle.sg_facts.specs.sg_base.declared.call.Call.{Call}
 use Rattle.sg_facts.proofs.RowLists.{live_of_row}
 use Rattle.sg_facts.specs.Allowed.{is_allowed}
 use Rattle.sg_facts.specs.Facts.{fun_at, takes_desc, takes_parent}
-use Rattle.sg_facts.specs.Guard.{guard, is_own, is_there, may_be_parent}
+use Rattle.sg_facts.specs.Guard.{guard}
+use Rattle.sg_facts.specs.Inside.Guards.{is_own, is_there, may_be_parent}
 use Rattle.sg_facts.specs.Interface.{Declared}
 use Rattle.sg_facts.specs.Kinds.{IsCall}
 use Rattle.sg_facts.specs.Object.{Object, object_of}

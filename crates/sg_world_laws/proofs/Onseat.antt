@@ -10,7 +10,8 @@ use Rattle.sg_facts.specs.sg_base.declared.reply.Reply.{Reply}
 use Rattle.sg_facts.specs.sg_base.declared.reply.Reply.TheVariants.{Ok, Refused}
 use Rattle.sg_facts.specs.Guard.{guard}
 use Rattle.sg_facts.specs.Laws.{Passes, slow}
-use Rattle.sg_facts.specs.Legal.{answer, refused_or}
+use Rattle.sg_facts.specs.Legal.{answer}
+use Rattle.sg_facts.specs.Inside.Rows.{refused_or}
 use Rattle.sg_facts.specs.Object.{after, empty_object, object_of}
 use Rattle.sg_facts.specs.declared.entry.Entry.{Entry}
 use Rattle.sg_recovery_laws.proofs.Midway.Tabled.{passes_whole}

@@ -15,10 +15,11 @@ use Rattle.sg_facts.specs.Guard.{guard}
 use Rattle.sg_facts.specs.Held.{AreReachable}
 use Rattle.sg_facts.specs.Interface.{Declared, declares}
 use Rattle.sg_facts.specs.Laws.{slow}
-use Rattle.sg_facts.specs.Legal.{LegalFrom, Table, refused_or}
+use Rattle.sg_facts.specs.Legal.{LegalFrom, Table}
+use Rattle.sg_facts.specs.Inside.Rows.{refused_or, object_from}
 use Rattle.sg_facts.specs.Limits.{last_client}
 use Rattle.sg_facts.specs.Needs.{Needs, is_needed, is_wanted, needs, wanted}
-use Rattle.sg_facts.specs.Object.{Object, after, empty_object, object_from, object_of, path_of}
+use Rattle.sg_facts.specs.Object.{Object, after, empty_object, object_of, path_of}
 use Rattle.sg_facts.specs.Sound.{IsSound}
 use Rattle.sg_facts.specs.Trace.{Boot}
 use Rattle.sg_facts.specs.Track.{is_live, row_at}

@@ -10,18 +10,20 @@ use Rattle.sg_facts.specs.sg_base.declared.reply.Reply.TheVariants.{Refused}
 use Rattle.sg_facts.specs.Alike.{named}
 use Rattle.sg_facts.specs.Counted.{most_counted}
 use Rattle.sg_facts.specs.Facts.{is_visible, fun_at, takes_desc, takes_parent}
-use Rattle.sg_facts.specs.Guard.{guard, in_state, is_guards, may_be_parent, may_use}
+use Rattle.sg_facts.specs.Guard.{guard, is_guards}
+use Rattle.sg_facts.specs.Inside.Guards.{in_state, may_be_parent, may_use}
 use Rattle.sg_facts.specs.Interface.{Declared}
 use Rattle.sg_facts.specs.Laws.{slow}
-use Rattle.sg_facts.specs.Legal.{refused_or}
+use Rattle.sg_facts.specs.Inside.Rows.{refused_or, object_from, has_child}
 use Rattle.sg_facts.specs.Limits.{most_live}
-use Rattle.sg_facts.specs.Object.{Object, empty_object, object_from, object_of}
+use Rattle.sg_facts.specs.Object.{Object, empty_object, object_of}
 use Rattle.sg_facts.specs.Trace.{Boot}
-use Rattle.sg_facts.specs.Track.{is_live, has_child, row_at}
+use Rattle.sg_facts.specs.Track.{is_live, row_at}
 use Rattle.sg_facts.specs.declared.entry.Entry.{Entry}
 use Rattle.sg_recovery_laws.specs.Midway.Numbers.{left_of, sum_told, unbegun}
 use Rattle.sg_recovery_laws.specs.Midway.Progress.{IsInRecovery}
-use Rattle.sg_recovery_laws.specs.sg_hist.Reading.{is_by_guard, is_item_of, is_made, is_rebuilt_at, last_items, names_at, older_items, places_in}
+use Rattle.sg_recovery_laws.specs.sg_hist.Reading.{is_by_guard, is_item_of, is_made, last_items, names_at, older_items, places_in}
+use Rattle.sg_recovery_laws.specs.sg_hist.Inside.Reads.{is_rebuilt_at}
 use Rattle.sg_recovery_laws.specs.Objects.Waiting.{AreWaiting, NoneBy}
 use Rattle.sg_recovery_laws.proofs.Given.{IsGiven, made_same, names_same}
 use Rattle.sg_recovery_laws.proofs.InBoots.{boots_refused}

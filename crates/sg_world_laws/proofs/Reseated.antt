@@ -4,7 +4,8 @@ use Rattle.std.proofs.Common.{None, Option, Some, ap, length, refl, subst, sym, 
 use Rattle.std.specs.List.{Contains}
 use Rattle.sg_facts.specs.sg_base.Lists.{Each}
 use Rattle.sg_facts.specs.sg_base.declared.call.Call.{Call}
-use Rattle.sg_facts.specs.Object.{Object, object_from, object_of}
+use Rattle.sg_facts.specs.Object.{Object, object_of}
+use Rattle.sg_facts.specs.Inside.Rows.{object_from}
 use Rattle.sg_recovery_laws.specs.Midway.Numbers.{AreNumbers}
 use Rattle.sg_recovery_laws.specs.Midway.Progress.{IsInRecovery}
 use Rattle.sg_recovery_laws.specs.Objects.Waiting.{AreWaiting}

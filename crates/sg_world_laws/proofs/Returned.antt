@@ -9,8 +9,9 @@ use Rattle.sg_facts.proofs.RowLists.{row_of_live}
 use Rattle.sg_facts.specs.Alike.{named}
 use Rattle.sg_facts.specs.Facts.{fun_at}
 use Rattle.sg_facts.specs.Guard.{guard}
-use Rattle.sg_facts.specs.Legal.{answer, refused_or}
-use Rattle.sg_facts.specs.Object.{Object, after, empty_object, given_after, object_from, object_of}
+use Rattle.sg_facts.specs.Legal.{answer}
+use Rattle.sg_facts.specs.Inside.Rows.{refused_or, given_after, object_from}
+use Rattle.sg_facts.specs.Object.{Object, after, empty_object, object_of}
 use Rattle.sg_facts.specs.Sound.{IsSound}
 use Rattle.sg_facts.specs.Trace.{Boot}
 use Rattle.sg_facts.specs.Track.{is_live}
@@ -20,7 +21,7 @@ use Rattle.sg_recovery_laws.proofs.Midway.Dropped.{under_dropped}
 use Rattle.sg_recovery_laws.specs.Midway.Numbers.{AreNumbers, left_of, sum_told, unbegun}
 use Rattle.sg_recovery_laws.specs.Midway.Progress.{IsInRecovery, IsNone, TellsCalls, Told, is_complete}
 use Rattle.sg_recovery_laws.specs.sg_hist.Reading.{is_by_guard, is_item_of, last_items, names_at, older_items}
-use Rattle.sg_recovery_laws.specs.sg_hist.Recovered.{is_walk_of}
+use Rattle.sg_recovery_laws.specs.sg_hist.Inside.Parts.{is_walk_of}
 use Rattle.sg_recovery_laws.proofs.Objects.Serves.{fewer_behind}
 use Rattle.sg_recovery_laws.proofs.Objects.Steady.{after_good}
 use Rattle.sg_recovery_laws.proofs.Objects.Waiting.{hidden_is, time_after}

@@ -11,7 +11,8 @@ use Rattle.sg_facts.specs.Counted.{most_counted}
 use Rattle.sg_facts.specs.Guard.{guard}
 use Rattle.sg_facts.specs.Laws.{slow}
 use Rattle.sg_facts.specs.Legal.{LegalFrom}
-use Rattle.sg_facts.specs.Object.{Object, empty_object, object_from, object_of}
+use Rattle.sg_facts.specs.Object.{Object, empty_object, object_of}
+use Rattle.sg_facts.specs.Inside.Rows.{object_from}
 use Rattle.sg_facts.specs.Trace.{Boot}
 use Rattle.sg_facts.specs.Track.{is_live}
 use Rattle.sg_recovery_laws.specs.Midway.Numbers.{AreNumbers}

@@ -2,8 +2,7 @@
 //! status that is answered.
 #![tactic(auto)]
 
-use sg_edge::{OpenGate, StdSink, StdSource};
-use sg_top::{Status, superglue};
+use sg_top::{OpenGate, Status, StdSink, StdSource, superglue};
 use std::env;
 use std::io::Error;
 use std::process::ExitCode;

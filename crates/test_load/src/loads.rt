@@ -1,7 +1,6 @@
 // The lines of loads, and words that are no load.
-use sg_edge::{MemSink, MemSource};
 use sg_facts::NoMemory;
-use sg_top::serial;
+use sg_top::{MemSink, MemSource, serial};
 use std::alloc::Global;
 use std::process::Abort;
 use std::test::Fail;

@@ -4,7 +4,7 @@ use Rattle.sg_facts.specs.sg_base.declared.call.Call.{Call}
 use Rattle.sg_facts.specs.sg_base.declared.reply.Reply.{Reply}
 use Rattle.sg_facts.specs.sg_base.declared.value.Value.{Value}
 use Rattle.sg_facts.specs.sg_base.declared.value.Value.TheVariants.{Word, Text}
-use Rattle.sg_recovery_laws.specs.sg_hist.Reading.{desc_of}
+use Rattle.sg_recovery_laws.specs.sg_hist.Inside.Reads.{desc_of}
 
 pub false_true : false ≡ true → ⊥
 false_true e = absurd cc

@@ -2,7 +2,8 @@
 use Rattle.std.proofs.Common.{◌≡◌, ap, inl, refl, arith, true}
 use Rattle.sg_facts.specs.sg_base.Lists.{Each}
 use Rattle.sg_recovery_laws.specs.sg_hist.Reading.{places_of}
-use Rattle.sg_recovery_laws.specs.sg_hist.Recovered.{ArePointsOf, IsDemanded, IsRebooted, IsRecovered, IsServed, IsTrackedAt, IsWalked, waiting}
+use Rattle.sg_recovery_laws.specs.sg_hist.Recovered.{ArePointsOf, IsRebooted, IsRecovered, IsServed, waiting}
+use Rattle.sg_recovery_laws.specs.sg_hist.Inside.Parts.{IsDemanded, IsTrackedAt, IsWalked}
 use Rattle.test_recovery.specs.EagerRuns.{both_rebuilt, eager_ends, eager_history, eager_stubs, one_rebuilt, second_first}
 use Rattle.test_recovery.specs.LockRuns.{lock_stubs}
 use Rattle.test_recovery.specs.Written.{bare_call}

@@ -3,7 +3,8 @@ use Rattle.std.proofs.Common.{inl, refl, arith, true}
 use Rattle.sg_facts.specs.sg_base.Lists.{Each}
 use Rattle.test_recovery.specs.LockRuns.{lock_stubs, stop_after_take, stop_after_take_ends, stop_after_take_history, stop_before_storage, stop_before_storage_ends, stop_before_storage_history, stop_in_walk, stop_in_walk_ends, stop_in_walk_history}
 use Rattle.sg_recovery_laws.specs.sg_hist.Reading.{places_of}
-use Rattle.sg_recovery_laws.specs.sg_hist.Recovered.{ArePointsOf, IsDemanded, IsRebooted, IsRecovered, IsServed, IsTrackedAt, IsWalked, waiting}
+use Rattle.sg_recovery_laws.specs.sg_hist.Recovered.{ArePointsOf, IsRebooted, IsRecovered, IsServed, waiting}
+use Rattle.sg_recovery_laws.specs.sg_hist.Inside.Parts.{IsDemanded, IsTrackedAt, IsWalked}
 use Rattle.test_recovery.specs.Written.{bare_call}
 
 stop_after_take-reboots : IsRebooted lock_stubs.interface.facts lock_stubs.ask stop_after_take

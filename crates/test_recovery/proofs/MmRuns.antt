@@ -4,7 +4,8 @@ use Rattle.sg_facts.specs.sg_base.Lists.{Each}
 use Rattle.std.specs.Prelude.{[], ◌∷◌}
 use Rattle.test_recovery.specs.MmRuns.{mm_stubs, parent_first, parent_first_ends, parent_first_history, occupied_after_stop, occupied_after_stop_ends, occupied_after_stop_history, subtree, subtree_ends, subtree_history}
 use Rattle.sg_recovery_laws.specs.sg_hist.Reading.{places_of}
-use Rattle.sg_recovery_laws.specs.sg_hist.Recovered.{ArePointsOf, IsDemanded, IsRebooted, IsRecovered, IsServed, IsTrackedAt, IsWalked, waiting}
+use Rattle.sg_recovery_laws.specs.sg_hist.Recovered.{ArePointsOf, IsRebooted, IsRecovered, IsServed, waiting}
+use Rattle.sg_recovery_laws.specs.sg_hist.Inside.Parts.{IsDemanded, IsTrackedAt, IsWalked}
 use Rattle.test_recovery.specs.Written.{bare_call, call_with, word}
 
 parent_first-reboots : IsRebooted mm_stubs.interface.facts mm_stubs.ask parent_first

@@ -4,7 +4,8 @@ use Rattle.sg_facts.specs.sg_base.Lists.{Each}
 use Rattle.std.specs.Prelude.{[], ◌∷◌}
 use Rattle.test_recovery.specs.RamfsRuns.{ramfs_stubs, file_loaded, file_loaded_ends, file_loaded_history, held_behind, held_behind_ends, held_behind_history, held_lost, held_lost_ends, held_lost_history}
 use Rattle.sg_recovery_laws.specs.sg_hist.Reading.{places_of}
-use Rattle.sg_recovery_laws.specs.sg_hist.Recovered.{ArePointsOf, IsDemanded, IsRebooted, IsRecovered, IsServed, IsTrackedAt, IsWalked, waiting}
+use Rattle.sg_recovery_laws.specs.sg_hist.Recovered.{ArePointsOf, IsRebooted, IsRecovered, IsServed, waiting}
+use Rattle.sg_recovery_laws.specs.sg_hist.Inside.Parts.{IsDemanded, IsTrackedAt, IsWalked}
 use Rattle.test_recovery.specs.Written.{call_with, word}
 
 file_loaded-reboots : IsRebooted ramfs_stubs.interface.facts ramfs_stubs.ask file_loaded

@@ -5,7 +5,8 @@ use Rattle.std.proofs.lemmas.Bool.Decides.{nat_tests}
 use Rattle.sg_facts.specs.sg_base.Lists.{Each}
 use Rattle.sg_facts.specs.Guard.{guard}
 use Rattle.sg_recovery_laws.specs.sg_hist.Reading.{Position, object_before}
-use Rattle.sg_recovery_laws.specs.sg_hist.Recovered.{IsRebuiltFor, IsRecovered, calls_made}
+use Rattle.sg_recovery_laws.specs.sg_hist.Recovered.{IsRebuiltFor, IsRecovered}
+use Rattle.sg_recovery_laws.specs.sg_hist.Inside.Parts.{calls_made}
 use Rattle.sg_recovery_laws.specs.sg_hist.Ending.{HasRecovered}
 use Rattle.sg_recovery_laws.proofs.Lists.{each_contains}
 use Rattle.test_histories.specs.Written.{ok_at}

@@ -15,7 +15,7 @@ use Rattle.sg_facts.specs.Interface.{Declared}
 use Rattle.sg_facts.specs.Needs.{Needs, wanted}
 use Rattle.sg_facts.specs.Object.{Object, after, empty_object, patch_of}
 use Rattle.sg_facts.specs.Track.{row_at}
-use Rattle.sg_replay.specs.sg_hist.Recovered.{call_in}
+use Rattle.sg_replay.specs.sg_hist.Inside.Parts.{call_in}
 use Rattle.test_tables.specs.sg_lock.LockFacts.{lock_facts}
 use Rattle.test_tables.specs.sg_lock.LockTable.{lock_parts, lock_table}
 use Rattle.sg_replay.specs.sg_name.Names.{named_at}

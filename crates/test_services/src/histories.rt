@@ -2,6 +2,7 @@
 use sg_boot::{End, EndList, History};
 use sg_facts::{Args, Call, Code, Entry, NoMemory, Reply, TryCopy};
 use std::alloc::Global;
+use std::process::Abort;
 use std::test::Fail;
 
 // As many calls as a script may have.
@@ -37,22 +38,36 @@ fn entries(alloc: Global, count: u32) -> Result<History, NoMemory> {
     Ok(history)
 }
 
-#[test]
-fn entries_are_kept(rt: HostRuntime) -> Result<(), Fail> {
-    let alloc = rt.alloc();
-    let mut history = entries(alloc, 3)?;
+// How many entries of a history are a client's.
+fn own_count(alloc: Global, history: &History, client: u8) -> Result<usize, NoMemory> {
+    let own = history.of_client(alloc, client)?;
+    Ok(own.len())
+}
+
+// How many entries are kept of so many.
+fn kept_count(alloc: Global, count: u32) -> Result<usize, NoMemory> {
+    let history = entries(alloc, count)?;
+    Ok(history.len())
+}
+
+// Three entries of two clients in turn are told by client and by place, and the last is taken off.
+fn tells_three(rt: &impl Abort, alloc: Global, history: &mut History) -> Result<(), Fail> {
     for (client, calls) in [(1, 2), (2, 1), (3, 0)] {
-        let own = history.of_client(alloc, client)?;
-        assert_eq!(rt; own.len(), calls);
-        assert_eq!(rt; own.is_empty(), calls == 0);
+        assert_eq!(rt; own_count(alloc, history, client)?, calls);
     }
     assert_eq!(rt; history.get(1), Some(&refused(alloc, 2, 1)));
     assert_eq!(rt; history.get(3), None);
     assert_eq!(rt; history.pop(), Some(refused(alloc, 1, 2)));
     assert_eq!(rt; history.as_slice().len(), 2);
-    let many = entries(alloc, MOST_CALLS)?;
-    assert_eq!(rt; many.len(), 65_536);
     Ok(())
+}
+
+#[test]
+fn entries_are_kept(rt: HostRuntime) -> Result<(), Fail> {
+    let alloc = rt.alloc();
+    assert_eq!(rt; kept_count(alloc, MOST_CALLS)?, 65_536);
+    let mut history = entries(alloc, 3)?;
+    tells_three(&rt, alloc, &mut history)
 }
 
 #[test]

@@ -4,9 +4,10 @@ ghost use Rattle.sg_facts.specs.Object.{empty_object};
 ghost use Rattle.sg_lock.specs.sg_slots.Slots.{object_of};
 ghost use Rattle.sg_lock.specs.LockRow.{lock_body};
 
-use sg_facts::{Code, Good, Outcome, Path, Reply, Service, Stops};
+use sg_facts::{Code, Good, NoMemory, Outcome, Path, Reply, Service, Stops};
 use sg_lock::{Lock, LockService};
 use std::alloc::Global;
+use std::process::Abort;
 use std::test::Fail;
 use test_asking::{Once, ask, call};
 
@@ -94,12 +95,15 @@ fn refusal(
     }
 }
 
-#[test]
-fn serves_one_lock(rt: HostRuntime) -> Result<(), Fail> {
-    let alloc = rt.alloc();
-    let mut stops = Once::new(0);
-    let mut service = LockService::fresh(alloc);
-    service.load(alloc, &Path::new(alloc), b"a file")?;
+// The calls on one lock are answered, from a fresh service on.
+fn answers_on_one_lock(
+    rt: &impl Abort,
+    alloc: Global,
+    service: &mut LockService,
+    stops: &mut Once,
+) -> Result<(), Fail>
+    requires fresh { object_of lock_body service.old.slots ≡ empty_object }
+{
     let free = Lock {
         creator: 1,
         owner: 0,
@@ -108,29 +112,38 @@ fn serves_one_lock(rt: HostRuntime) -> Result<(), Fail> {
         creator: 1,
         owner: 2,
     };
-    assert_eq!(rt; make(&mut service, alloc, &mut stops, 1)?.desc, 1);
-    let code = refusal(&mut service, alloc, &mut stops, 1, 3, free)?;
+    assert_eq!(rt; make(service, alloc, stops, 1)?.desc, 1);
+    let code = refusal(service, alloc, stops, 1, 3, free)?;
     assert_eq!(rt; code, Some(Code::NotOwner), "released while free");
-    assert_eq!(rt;
-        change(&mut service, alloc, &mut stops, 2, 2, free)?.desc,
-        0
-    );
-    let code = refusal(&mut service, alloc, &mut stops, 2, 2, taken)?;
+    assert_eq!(rt; change(service, alloc, stops, 2, 2, free)?.desc, 0);
+    let code = refusal(service, alloc, stops, 2, 2, taken)?;
     assert_eq!(rt; code, Some(Code::Held), "taken by its owner");
-    let code = refusal(&mut service, alloc, &mut stops, 1, 2, taken)?;
+    let code = refusal(service, alloc, stops, 1, 2, taken)?;
     assert_eq!(rt; code, None, "taken by another");
-    let code = refusal(&mut service, alloc, &mut stops, 1, 3, taken)?;
+    let code = refusal(service, alloc, stops, 1, 3, taken)?;
     assert_eq!(rt; code, Some(Code::NotOwner), "released by another");
-    let code = refusal(&mut service, alloc, &mut stops, 2, 4, taken)?;
+    let code = refusal(service, alloc, stops, 2, 4, taken)?;
     assert_eq!(rt; code, Some(Code::Held), "freed while it is owned");
-    assert_eq!(rt;
-        change(&mut service, alloc, &mut stops, 2, 3, taken)?.desc,
-        0
-    );
-    assert_eq!(rt;
-        change(&mut service, alloc, &mut stops, 64, 4, free)?.desc,
-        0
-    );
+    assert_eq!(rt; change(service, alloc, stops, 2, 3, taken)?.desc, 0);
+    assert_eq!(rt; change(service, alloc, stops, 64, 4, free)?.desc, 0);
+    Ok(())
+}
+
+// Locks have no files, so a load changes nothing.
+fn load_file(alloc: Global, service: &mut LockService) -> Result<(), NoMemory>
+    ensures { object_of lock_body service.new.slots ≡ object_of lock_body service.old.slots }
+{
+    let path = Path::new(alloc);
+    service.load(alloc, &path, b"a file")
+}
+
+#[test]
+fn serves_one_lock(rt: HostRuntime) -> Result<(), Fail> {
+    let alloc = rt.alloc();
+    let mut stops = Once::new(0);
+    let mut service = LockService::fresh(alloc);
+    load_file(alloc, &mut service)?;
+    answers_on_one_lock(&rt, alloc, &mut service, &mut stops)?;
     assert_eq!(rt; stops.asked(), 5);
     Ok(())
 }

@@ -12,7 +12,8 @@ use Rattle.sg_facts.specs.Facts.{fun_at, takes_desc, takes_parent}
 use Rattle.sg_facts.specs.Kinds.{MayAsk, IsWithin, kinds_fit}
 use Rattle.sg_facts.specs.Laws.{most_set}
 use Rattle.sg_facts.specs.Object.{Object, after}
-use Rattle.sg_facts.specs.Track.{row_at, is_live, has_child, arg_at, word_of}
+use Rattle.sg_facts.specs.Track.{row_at, is_live, arg_at, word_of}
+use Rattle.sg_facts.specs.Inside.Rows.{has_child}
 use Rattle.sg_facts.proofs.RowLists.{live_of_row}
 use Rattle.sg_sched.specs.SchedFacts.{sched_facts}
 use Rattle.sg_sched.specs.SchedTable.{sched_table}

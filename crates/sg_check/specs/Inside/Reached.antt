@@ -6,7 +6,7 @@ use Rattle.sg_facts.specs.Interface.{Declared}
 use Rattle.sg_facts.specs.Limits.{most_funs}
 use Rattle.sg_walk.specs.declared.place.Triple.{Triple}
 use Rattle.sg_walk.specs.ReachedStates.Triples.{IsReachedTriple}
-use Rattle.sg_check_statements.specs.Flaws.{IsUnreached}
+use Rattle.sg_check_statements.specs.Inside.Pieces.{IsUnreached}
 use Rattle.sg_check.specs.Inside.Numbers.{has_number}
 
 -- these are all triples that descriptors can come to

@@ -10,8 +10,9 @@ use Rattle.sg_parse.specs.Grammar.Plain.{plain, plain_statement}
 use Rattle.sg_parse.specs.Grammar.Upgraded.{upgraded}
 use Rattle.sg_check_statements.specs.declared.fault.CheckKind.{CheckKind}
 use Rattle.sg_check_statements.specs.declared.fault.CheckKind.TheVariants.{UnknownService, DuplicateName, UnknownFunction, BadParams, WrongFact, WrongFlag, WrongEffect, ForeignTransition, ForeignRecover, NoCreation, Unreached, NoWalk}
-use Rattle.sg_check_statements.specs.Faults.{FirstOf, IsAccepted, IsOf, interface_of}
-use Rattle.sg_check_statements.specs.Flaws.{HasNoWalk, IsUnreached, bad_params, duplicate, foreign, no_creation, unknown, wrong_effect, wrong_fact, wrong_flag}
+use Rattle.sg_check_statements.specs.Faults.{FirstOf, IsAccepted, interface_of}
+use Rattle.sg_check_statements.specs.Inside.Pieces.{IsOf, IsUnreached, bad_params, no_creation, unknown, wrong_effect, wrong_flag}
+use Rattle.sg_check_statements.specs.Flaws.{HasNoWalk, duplicate, foreign, wrong_fact}
 use Rattle.sg_check_statements.specs.Says.{has_proto, says_of, service_of}
 use Rattle.sg_check_statements.proofs.Anywhere.Flawed.{bad_params_same, duplicate_same, foreign_same, no_creation_same, unknown_same, wrong_effect_same, wrong_fact_same, wrong_flag_same}
 use Rattle.sg_check_statements.proofs.Anywhere.Said.{proto_same, says_of_same}

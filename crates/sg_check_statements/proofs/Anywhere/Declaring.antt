@@ -16,10 +16,11 @@ use Rattle.sg_parse.specs.declared.tree.Ret.TheVariants.{Plain, Set, Add, Sub}
 use Rattle.sg_parse.specs.declared.tree.Statement.{Statement}
 use Rattle.sg_parse.specs.declared.tree.Statement.TheVariants.{One, Two, Proto}
 use Rattle.sg_parse.specs.declared.tree.TypeName.{TypeName}
-use Rattle.sg_parse.specs.Grammar.Named.{Named}
+use Rattle.sg_parse.specs.sg_lex.Lexeme.{Spelling as Named}
 use Rattle.sg_parse.specs.Grammar.Plain.{plain_name, plain_param, plain_ret, plain_statement, plain_type}
-use Rattle.sg_check_statements.specs.Effects.{Named_effect, arg_effects, caller_effects, declared_effects, later_effects, ret_effects, statement_effects}
-use Rattle.sg_check_statements.specs.Params.{are_of_kinds, fit_params, has_word, is_caller, is_client_type, is_of_kind}
+use Rattle.sg_check_statements.specs.Effects.{arg_effects, declared_effects}
+use Rattle.sg_check_statements.specs.Inside.Pieces.{Named_effect, caller_effects, later_effects, ret_effects, statement_effects, is_caller, is_client_type}
+use Rattle.sg_check_statements.specs.Params.{is_of_kind, are_of_kinds, fit_params, has_word}
 
 -- ---- parameters
 

@@ -3,7 +3,7 @@ use Rattle.std.proofs.Common.{◌≡◌, ℕ, Bool, true, false, ◌&&◌, ◌||
 use Rattle.std.specs.Prelude.{codes}
 use Rattle.std.specs.declared.option.Option.{Option}
 use Rattle.std.specs.List.{list_any}
-use Rattle.std.specs.Option.{is_some}
+use Rattle.std.specs.Option.{is_some, option_or}
 use Rattle.sg_facts.specs.declared.shape.Leaves.{Leaves}
 use Rattle.sg_facts.specs.declared.shape.Leaves.TheVariants.{Own, Same, Of}
 use Rattle.sg_facts.specs.Facts.{Facts, Fun, fun_at}
@@ -11,10 +11,12 @@ use Rattle.sg_facts.specs.Words.{close_word, flag_word, parents_word}
 use Rattle.sg_parse.specs.declared.tree.Facts.{Facts as Head}
 use Rattle.sg_parse.specs.declared.tree.Statement.{Statement}
 use Rattle.sg_parse.specs.declared.tree.Statement.TheVariants.{One, Two, Proto}
-use Rattle.sg_parse.specs.Grammar.Named.{Named}
+use Rattle.sg_parse.specs.sg_lex.Lexeme.{Spelling as Named}
 use Rattle.sg_parse.specs.Grammar.Plain.{plain_facts, plain_name, plain_param, plain_ret, plain_statement}
-use Rattle.sg_check_statements.specs.Effects.{Named_effect, declared_effects, same_effects, service_effects}
-use Rattle.sg_check_statements.specs.Flaws.{agree, bad_params, duplicate, first_place, fit_flags, fit_leaves, foreign, fun_of_name, is_declared, leaves_another, leaves_some, names_two, no_creation, other_value, place_if, unknown, wrong_effect, wrong_fact, wrong_flag}
+use Rattle.sg_check_statements.specs.Effects.{declared_effects, same_effects}
+use Rattle.sg_check_statements.specs.Inside.Pieces.{Named_effect, service_effects, agree, bad_params, fit_flags, names_two, no_creation, other_value, unknown, wrong_effect, wrong_flag}
+use Rattle.sg_check_statements.specs.Flaws.{fit_leaves, leaves_another, leaves_some, duplicate, foreign, fun_of_name, is_declared, wrong_fact}
+use Rattle.std.specs.Bool.{then_some}
 use Rattle.sg_check_statements.specs.Params.{fit_params}
 use Rattle.sg_check_statements.specs.Says.{has_proto, says, says_of}
 use Rattle.sg_check_statements.proofs.Anywhere.Declaring.{declared_same, fit_same}
@@ -22,19 +24,19 @@ use Rattle.sg_check_statements.proofs.Anywhere.Said.{any_same, proto_same, says_
 
 -- ---- places
 
-told : (b : Bool) (at : ℕ) → is_some (place_if b at) ≡ b
+told : (b : Bool) (at : ℕ) → is_some (then_some b at) ≡ b
 told true at = refl
 told false at = refl
 
 -- of two tests that agree, both have a place or none
-placed : (a b : Bool) (here there : ℕ) → a ≡ b → is_some (place_if a here) ≡ is_some (place_if b there)
+placed : (a b : Bool) (here there : ℕ) → a ≡ b → is_some (then_some a here) ≡ is_some (then_some b there)
 placed a b here there same = told a here ∙ same ∙ sym (told b there)
 
-some_first : (a b : Option ℕ) → is_some (first_place a b) ≡ (is_some a || is_some b)
+some_first : (a b : Option ℕ) → is_some (option_or a b) ≡ (is_some a || is_some b)
 some_first None b = refl
 some_first (Some at) b = refl
 
-both : (a b c d : Option ℕ) → is_some a ≡ is_some c → is_some b ≡ is_some d → is_some (first_place a b) ≡ is_some (first_place c d)
+both : (a b c d : Option ℕ) → is_some a ≡ is_some c → is_some b ≡ is_some d → is_some (option_or a b) ≡ is_some (option_or c d)
 both a b c d one other = some_first a b ∙ ap (λ x. x || is_some b) one ∙ ap (λ x. is_some c || x) other ∙ sym (some_first c d)
 
 -- ---- names
@@ -49,8 +51,8 @@ pub unknown_same : (facts : Facts) (ss : List Statement) (s : Statement) → is_
 unknown_same facts ss (One word fun) =
     placed (not (has_proto (map plain_statement ss) fun.bytes)) (not (has_proto ss fun.bytes)) 0 fun.at (ap (λ (has : List ℕ → Bool). not (has fun.bytes)) (proto_same ss))
 unknown_same facts ss (Two word first second) =
-    both (place_if (not (has_proto (map plain_statement ss) first.bytes)) 0) (place_if (names_two word.bytes && not (has_proto (map plain_statement ss) second.bytes)) 0)
-    (place_if (not (has_proto ss first.bytes)) first.at) (place_if (names_two word.bytes && not (has_proto ss second.bytes)) second.at)
+    both (then_some (not (has_proto (map plain_statement ss) first.bytes)) 0) (then_some (names_two word.bytes && not (has_proto (map plain_statement ss) second.bytes)) 0)
+    (then_some (not (has_proto ss first.bytes)) first.at) (then_some (names_two word.bytes && not (has_proto ss second.bytes)) second.at)
     (placed (not (has_proto (map plain_statement ss) first.bytes)) (not (has_proto ss first.bytes)) 0 first.at (ap (λ (has : List ℕ → Bool). not (has first.bytes)) (proto_same ss)))
     (placed (names_two word.bytes && not (has_proto (map plain_statement ss) second.bytes)) (names_two word.bytes && not (has_proto ss second.bytes)) 0 second.at
     (ap (λ (has : List ℕ → Bool). names_two word.bytes && not (has second.bytes)) (proto_same ss)))
@@ -70,7 +72,7 @@ value_same value word = placed _ _ 0 value.at refl
 
 -- the first of two values that isn't its word
 more_same : (value : Named) (word : List ℕ) (rest others : Option ℕ) → is_some rest ≡ is_some others
-    → is_some (first_place (other_value (plain_name value) word) rest) ≡ is_some (first_place (other_value value word) others)
+    → is_some (option_or (other_value (plain_name value) word) rest) ≡ is_some (option_or (other_value value word) others)
 more_same value word rest others same = both (other_value (plain_name value) word) rest (other_value value word) others (value_same value word) same
 
 pub wrong_fact_same : (facts : Facts) (head : Head) → is_some (wrong_fact facts (plain_facts head)) ≡ is_some (wrong_fact facts head)
@@ -142,4 +144,4 @@ foreign_same w pairs facts (Two word first second) = placed _ _ 0 first.at refl
 foreign_same w pairs facts (Proto ret name params) = refl
 
 pub no_creation_same : (facts : Facts) (ss : List Statement) → no_creation facts (map plain_statement ss) ≡ no_creation facts ss
-no_creation_same facts ss = ap (λ (has : List ℕ → Bool). place_if (not (list_any (λ f. f.creation && has f.name) facts.funs)) 0) (proto_same ss)
+no_creation_same facts ss = ap (λ (has : List ℕ → Bool). then_some (not (list_any (λ f. f.creation && has f.name) facts.funs)) 0) (proto_same ss)

@@ -7,7 +7,8 @@ use Rattle.sg_facts.specs.Facts.{Facts}
 use Rattle.sg_parse.specs.declared.tree.Statement.{Statement}
 use Rattle.sg_parse.specs.declared.tree.Statement.TheVariants.{One, Two, Proto}
 use Rattle.sg_parse.specs.Grammar.Plain.{plain_statement}
-use Rattle.sg_check_statements.specs.Faults.{IsFirstStatement, NoStatement}
+use Rattle.sg_check_statements.specs.Faults.{IsFirstStatement}
+use Rattle.sg_check_statements.specs.Inside.Pieces.{NoStatement}
 use Rattle.sg_check_statements.specs.Flaws.{IsProtoWhere}
 
 -- where a changed list is split, so is the list

@@ -4,10 +4,12 @@ use Rattle.std.specs.Prelude.{if◌then◌else◌}
 use Rattle.sg_facts.specs.declared.shape.Leaves.{Leaves}
 use Rattle.sg_facts.specs.declared.shape.Leaves.TheVariants.{Own, Same, Of}
 use Rattle.sg_facts.specs.Facts.{fun_at}
-use Rattle.sg_facts.specs.Fits.{Fits, IsReached, LeavesDeclared, step, move}
+use Rattle.sg_facts.specs.Fits.{Fits, IsReached, step, move}
+use Rattle.sg_facts.specs.Inside.Walking.{LeavesDeclared, first_spot, may_begin, may_go_on, next_spot, restores_at}
 use Rattle.sg_facts.specs.Interface.{Declared}
-use Rattle.sg_facts.specs.Walks.{IsReachable, Spot, first_spot, made, may_begin, may_go_on, moved, next_spot, restores, restores_at, spot_from, spot_of}
-use Rattle.sg_check_statements.specs.Flaws.{HasNoWalk, IsUnreached}
+use Rattle.sg_facts.specs.Walks.{IsReachable, Spot, made, moved, restores, spot_from, spot_of}
+use Rattle.sg_check_statements.specs.Flaws.{HasNoWalk}
+use Rattle.sg_check_statements.specs.Inside.Pieces.{IsUnreached}
 
 abbrev pub of_version : ℕ → Declared → Declared
 of_version v i = record i { version = v }

@@ -21,16 +21,19 @@ use Rattle.sg_facts.specs.declared.trace.Item.{Item}
 use Rattle.sg_facts.specs.declared.trace.Tag.{Tag}
 use Rattle.sg_facts.specs.declared.trace.Tag.TheVariants.{Walk, Load, Client}
 use Rattle.sg_report.specs.sg_hist.Reading.{walk_in}
-use Rattle.sg_report.specs.sg_hist.Recovered.{IsRecovered, Stubs, call_in, is_replied, is_walk_of}
+use Rattle.sg_report.specs.sg_hist.Recovered.{IsRecovered, Stubs, is_replied}
+use Rattle.sg_report.specs.sg_hist.Inside.Parts.{call_in, is_walk_of}
 use Rattle.sg_report.specs.sg_hist.Clients.{AreNumbered}
-use Rattle.sg_cost.specs.Costs.{AreFew, calls_in, is_replay_for, opening, replays_for, walk_length}
+use Rattle.sg_cost.specs.Costs.{AreFew, opening, walk_length}
+use Rattle.std.specs.Option.{option_map_or}
+use Rattle.sg_report.specs.Report.{is_replay_for, replays_for}
 use Rattle.sg_cost.proofs.Few.Counting.{among_first, fewer, over_rows}
 use Rattle.sg_cost.proofs.Few.Lists.{both_true}
 use Rattle.sg_cost.proofs.Few.Numbered.{given_own}
 use Rattle.sg_cost.proofs.Few.Rows.{has_row, next_call, row_then}
 
 -- a call of a walk is one of as many as the walk has
-within_walk : (facts : Facts) (r : Row) (k : ℕ) (shown : Call) (walk : Option (List ℕ)) → 1 ≤ k → call_in facts r k walk ≡ Some shown → k ≤ calls_in walk
+within_walk : (facts : Facts) (r : Row) (k : ℕ) (shown : Call) (walk : Option (List ℕ)) → 1 ≤ k → call_in facts r k walk ≡ Some shown → k ≤ option_map_or length walk 0
 within_walk facts r k shown None first is = absurd (cc is)
 within_walk facts r k shown (Some walk) first is = by (slice_get walk (k - 1)) refl
   where

@@ -6,7 +6,8 @@ use Rattle.std.proofs.lemmas.Bool.Decides.{nat_tests}
 use Rattle.sg_facts.specs.sg_base.Lists.{Each}
 use Rattle.sg_facts.specs.declared.entry.Entry.{Entry}
 use Rattle.sg_report.specs.sg_hist.Clients.{AreNumbered, calls_of}
-use Rattle.sg_report.specs.sg_hist.Reading.{desc_in, desc_of, id_given}
+use Rattle.sg_report.specs.sg_hist.Reading.{desc_in, id_given}
+use Rattle.sg_report.specs.sg_hist.Inside.Reads.{desc_of}
 use Rattle.sg_facts.proofs.Replaying.Found.{same_test}
 use Rattle.sg_world_laws.proofs.Entered.{numbers_below}
 use Rattle.sg_cost.proofs.Few.Lists.{both_true, find_behind}

@@ -6,8 +6,9 @@ use Rattle.sg_facts.specs.Trace.{Boot, Run}
 use Rattle.sg_facts.specs.declared.entry.Entry.{Entry}
 use Rattle.sg_facts.specs.declared.trace.Item.{Item}
 use Rattle.sg_report.specs.sg_hist.Reading.{Position, is_by_guard, is_item_of, item_of, items_of, stands_before}
-use Rattle.sg_report.specs.sg_hist.Recovered.{AreInBoots, boot_start, start_of}
-use Rattle.sg_cost.specs.Costs.{stands_in}
+use Rattle.sg_report.specs.sg_hist.Recovered.{AreInBoots, start_of}
+use Rattle.sg_report.specs.sg_hist.Inside.Parts.{boot_start}
+use Rattle.sg_cost.specs.Inside.Pieces.{stands_in}
 use Rattle.sg_cost.proofs.Few.Lists.{any_left, both_true, last_of, none_all, none_both}
 use Rattle.sg_cost.proofs.Few.Places.{item_at, items_append, last_boot, place_at}
 

@@ -8,7 +8,8 @@ use Rattle.sg_facts.specs.Trace.{Boot, Run}
 use Rattle.sg_facts.specs.declared.entry.Entry.{Entry}
 use Rattle.sg_facts.specs.declared.tables.WalkLine.{WalkLine}
 use Rattle.sg_facts.specs.declared.trace.Item.{Item}
-use Rattle.sg_report.specs.sg_hist.Reading.{Position, is_item_of, is_made, is_rebuilt_at, is_whole_at, item_of, items_of, places_from, places_in, places_of}
+use Rattle.sg_report.specs.sg_hist.Reading.{Position, is_item_of, is_made, is_whole_at, item_of, items_of, places_from, places_in, places_of}
+use Rattle.sg_report.specs.sg_hist.Inside.Reads.{is_rebuilt_at}
 use Rattle.sg_world_laws.proofs.sg_recovery_laws.Lists.{each_split}
 use Rattle.sg_cost.proofs.Few.Lists.{any_left, find_last, none_all, none_both}
 

@@ -12,12 +12,14 @@ use Rattle.sg_facts.specs.sg_base.declared.reply.Reply.TheVariants.{Ok, Refused}
 use Rattle.sg_facts.proofs.RowLists.{row_at-changed}
 use Rattle.sg_facts.specs.Allowed.{is_allowed}
 use Rattle.sg_facts.specs.Facts.{Facts, fun_at}
-use Rattle.sg_facts.specs.Guard.{guard, is_own, is_there}
+use Rattle.sg_facts.specs.Guard.{guard}
+use Rattle.sg_facts.specs.Inside.Guards.{is_own, is_there}
 use Rattle.sg_facts.specs.Kinds.{IsCall}
 use Rattle.sg_facts.specs.Needs.{is_wanted}
-use Rattle.sg_facts.specs.Object.{Object, after, empty_object, object_from, object_of}
+use Rattle.sg_facts.specs.Object.{Object, after, empty_object, object_of}
+use Rattle.sg_facts.specs.Inside.Rows.{object_from, row_after, track}
 use Rattle.sg_facts.specs.Trace.{Boot, Run}
-use Rattle.sg_facts.specs.Track.{ends_with, is_ancestor, new_row, row_after, row_at, track}
+use Rattle.sg_facts.specs.Track.{ends_with, is_ancestor, new_row, row_at}
 use Rattle.sg_facts.specs.declared.entry.Entry.{Entry}
 use Rattle.sg_facts.specs.declared.outcome.Outcome.{Outcome}
 use Rattle.sg_facts.specs.declared.outcome.Outcome.TheVariants.{Replied, Blocks, Stopped, NoMemory}
@@ -25,8 +27,10 @@ use Rattle.sg_facts.specs.declared.row.Row.{Row}
 use Rattle.sg_facts.specs.declared.trace.Item.{Item}
 use Rattle.sg_facts.specs.declared.trace.Tag.{Tag}
 use Rattle.sg_facts.specs.declared.trace.Tag.TheVariants.{Walk, Load, Client}
-use Rattle.sg_report.specs.sg_hist.Reading.{Position, desc_of, id_given, is_made, is_ok, is_tagged, is_whole_at, item_of, items_of, made_by, object_before}
-use Rattle.sg_report.specs.sg_hist.Recovered.{GivesEntry, IsCallOfRow, IsWalked, HasItem, IsAdmitted, IsDemanded, IsNextCall, IsRebuiltFor, IsRecovered, IsReplyOf, IsTracked, IsTrackedAt, Stubs}
+use Rattle.sg_report.specs.sg_hist.Reading.{Position, id_given, is_made, is_ok, is_tagged, is_whole_at, item_of, items_of, object_before}
+use Rattle.sg_report.specs.sg_hist.Inside.Reads.{desc_of, made_by}
+use Rattle.sg_report.specs.sg_hist.Recovered.{IsAdmitted, IsNextCall, IsRebuiltFor, IsRecovered, IsReplyOf, IsTracked, Stubs}
+use Rattle.sg_report.specs.sg_hist.Inside.Parts.{GivesEntry, IsCallOfRow, IsWalked, HasItem, IsDemanded, IsTrackedAt}
 use Rattle.sg_world_laws.proofs.sg_recovery_laws.Objects.Guarded.{acts, let_pass}
 use Rattle.sg_facts.proofs.Replaying.Found.{from_left, from_more, other_test, same_test}
 use Rattle.sg_world_laws.proofs.Drawn.{object_behind}

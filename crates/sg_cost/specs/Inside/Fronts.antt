@@ -8,7 +8,8 @@ use Rattle.sg_facts.specs.Trace.{Run}
 use Rattle.sg_facts.specs.declared.entry.Entry.{Entry}
 use Rattle.sg_facts.specs.declared.row.Row.{Row}
 use Rattle.sg_facts.specs.sg_base.Lists.{Each}
-use Rattle.sg_report.specs.sg_hist.Recovered.{AreInBoots, HasItem}
+use Rattle.sg_report.specs.sg_hist.Recovered.{AreInBoots}
+use Rattle.sg_report.specs.sg_hist.Inside.Parts.{HasItem}
 use Rattle.sg_needs.specs.sg_track.Tracked.{MayTrack, Tracked}
 
 -- the rows and the number of ids given that entries come to

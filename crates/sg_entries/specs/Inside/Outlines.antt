@@ -1,7 +1,8 @@
 -- What the outline of an entry tells of what is wrong with it.
 use Rattle.std.specs.Prelude.{ℕ, ◌+◌, ◌==◌, Bool, true, false, not, if◌then◌else◌, List, ◌++◌, None, Some}
 use Rattle.std.specs.declared.option.Option.{Option}
-use Rattle.sg_entries.specs.Flaws.{Flaw, client_flaws, flaw_if, number_flaws}
+use Rattle.sg_entries.specs.Flaws.{Flaw, flaw_if, number_flaws}
+use Rattle.sg_entries.specs.Inside.Flaws.{client_flaws}
 use Rattle.sg_entries.specs.declared.error.EntriesKind.TheVariants.{UnknownFunction, BadArgs}
 use Rattle.sg_entry_parse.specs.declared.tree.EntryOutline.{EntryOutline}
 use Rattle.sg_facts.specs.Allowed.{count_args}

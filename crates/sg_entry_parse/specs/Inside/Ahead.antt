@@ -3,8 +3,8 @@ use Rattle.std.specs.Prelude.{◌≡◌, ◌+◌, ◌==◌, ℕ, false, List, []
 use Rattle.std.specs.Char.{is_ascii_digit}
 use Rattle.std.specs.List.{prefix_len}
 use Rattle.sg_lex.specs.Bytes.{begins_word, is_in_word}
-use Rattle.sg_entry_parse.specs.Spelling.{Spelling}
-use Rattle.sg_entry_parse.specs.Pieces.{is_first_digit}
+use Rattle.sg_lex.specs.Lexeme.{Spelling}
+use Rattle.sg_entry_parse.specs.Inside.Classes.{is_first_digit}
 use Rattle.sg_entry_parse.specs.Inside.Reads.{Ahead}
 
 -- this byte came first

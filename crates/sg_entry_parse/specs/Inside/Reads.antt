@@ -9,7 +9,7 @@ use Rattle.sg_entry_parse.specs.declared.tree.EntryOutline.{EntryOutline}
 use Rattle.sg_entry_parse.specs.declared.tree.WrittenArg.{WrittenArg}
 use Rattle.sg_entry_parse.specs.declared.tree.WrittenEntry.{WrittenEntry}
 use Rattle.sg_entry_parse.specs.Parses.{outline_of}
-use Rattle.sg_entry_parse.specs.Spelling.{Spelling}
+use Rattle.sg_lex.specs.Lexeme.{Spelling}
 use Rattle.sg_entry_parse.specs.Inside.States.{EntryState, step, entry_at}
 
 -- what is still to be read of a line: its bytes, and the place of the first

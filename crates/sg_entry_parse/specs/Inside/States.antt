@@ -7,15 +7,15 @@ use Rattle.std.specs.Char.{is_ascii_digit}
 use Rattle.sg_base.specs.declared.reply.Code.{Code}
 use Rattle.sg_base.specs.Text.{is_text_byte}
 use Rattle.sg_lex.specs.Bytes.{begins_word, is_in_word}
-use Rattle.sg_lex.specs.Marks.{open_bracket_byte, close_bracket_byte, comma_byte}
+use Rattle.sg_lex.specs.Inside.Marks.{open_bracket_byte, close_bracket_byte, comma_byte}
 use Rattle.sg_entry_parse.specs.declared.tree.WrittenArg.{WrittenArg}
 use Rattle.sg_entry_parse.specs.declared.tree.WrittenArg.TheVariants.{Number, Text}
 use Rattle.sg_entry_parse.specs.declared.tree.WrittenAnswer.{WrittenAnswer}
 use Rattle.sg_entry_parse.specs.declared.tree.WrittenAnswer.TheVariants.{Refused, Ok}
 use Rattle.sg_entry_parse.specs.declared.tree.WrittenEntry.{WrittenEntry}
-use Rattle.sg_entry_parse.specs.Spelling.{Spelling}
-use Rattle.sg_entry_parse.specs.Pieces.{is_first_digit}
-use Rattle.sg_entry_parse.specs.Entry.{quote_byte, shows_bytes}
+use Rattle.sg_lex.specs.Lexeme.{Spelling}
+use Rattle.sg_entry_parse.specs.Inside.Classes.{is_first_digit}
+use Rattle.sg_entry_parse.specs.Inside.Forms.{quote_byte, shows_bytes}
 use Rattle.sg_entry_parse.specs.Inside.CodeWords.{code_of, begins_code}
 
 -- ---- states

@@ -4,7 +4,7 @@ use Rattle.sg_facts.specs.sg_base.declared.reply.Code.TheVariants.{Overflow}
 use Rattle.sg_slots.specs.declared.decision.Decision.{Decision}
 use Rattle.sg_slots.specs.declared.decision.Decision.TheVariants.{Refuse, Block, Make, Set}
 use Rattle.sg_event.specs.declared.event.Event.{Event}
-use Rattle.sg_event.specs.EventTable.{most_count}
+use Rattle.sg_event.specs.Inside.EventAnswer.{most_count}
 
 -- an event with another count
 abbrev pub set_count : Event → ℕ → Decision Event

@@ -11,8 +11,8 @@ use Rattle.sg_facts.specs.Alike.{named, Serves, SameReply}
 use Rattle.sg_facts.specs.Laws.{AnswersAlike, Passes}
 use Rattle.sg_slots.proofs.RowLaws.{row_of_call, alike_row, same_either, same_done}
 use Rattle.sg_event.specs.EventFacts.{event_facts}
-use Rattle.sg_event.specs.EventTable.{event_table, count_in, most_count, event_wait_answer, take_answer, trigger_answer}
-use Rattle.sg_event.specs.Inside.EventAnswer.{event_answer}
+use Rattle.sg_event.specs.EventTable.{event_table, event_answer}
+use Rattle.sg_event.specs.Inside.EventAnswer.{count_in, most_count, event_wait_answer, take_answer, trigger_answer}
 use Rattle.sg_event.specs.EventSound.{IsEventSound}
 
 module _ (names : List (ℕ × ℕ)) (o held : Object) (client seq desc : ℕ) (args : List Value) where

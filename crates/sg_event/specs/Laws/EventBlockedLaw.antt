@@ -11,15 +11,16 @@ use Rattle.sg_facts.specs.sg_base.declared.reply.Reply.{Reply}
 use Rattle.sg_facts.specs.sg_base.declared.reply.Reply.TheVariants.{Ok, Refused}
 use Rattle.sg_facts.specs.declared.row.Row.{Row}
 use Rattle.sg_facts.specs.Facts.{fun_at, takes_desc}
-use Rattle.sg_facts.specs.Track.{row_at, row_after, fields_after, field_at, new_row, ends_with, word_of, arg_at}
+use Rattle.sg_facts.specs.Track.{row_at, fields_after, field_at, new_row, ends_with, word_of, arg_at}
+use Rattle.sg_facts.specs.Inside.Rows.{row_after}
 use Rattle.sg_facts.specs.Object.{Object, after}
 use Rattle.sg_facts.specs.Laws.{BlockedStays, Passes, state_in, leaves_blocked}
 use Rattle.sg_facts.proofs.RowLists.{row_at-more, row_at-changed, row_at-left}
 use Rattle.sg_facts.proofs.Replaying.Found.{to_map}
 use Rattle.sg_slots.proofs.RowLaws.{row_of_call, two_rows, on_another}
 use Rattle.sg_event.specs.EventFacts.{event_facts}
-use Rattle.sg_event.specs.EventTable.{event_table, count_in, event_wait_answer, most_count}
-use Rattle.sg_event.specs.Inside.EventAnswer.{event_answer}
+use Rattle.sg_event.specs.EventTable.{event_table, event_answer}
+use Rattle.sg_event.specs.Inside.EventAnswer.{count_in, event_wait_answer, most_count}
 use Rattle.sg_event.specs.EventSound.{IsEventSound}
 
 abbrev done_ok : Option Reply

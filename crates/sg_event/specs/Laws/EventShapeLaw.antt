@@ -10,8 +10,8 @@ use Rattle.sg_facts.specs.Track.{row_at, word_of, arg_at}
 use Rattle.sg_facts.specs.Laws.{ShapeAllows, CountsSlowly}
 use Rattle.sg_slots.proofs.RowLaws.{NotGuards, never_counts}
 use Rattle.sg_event.specs.EventFacts.{event_facts}
-use Rattle.sg_event.specs.EventTable.{event_table, count_in, most_count}
-use Rattle.sg_event.specs.Inside.EventAnswer.{event_answer}
+use Rattle.sg_event.specs.EventTable.{event_table, event_answer}
+use Rattle.sg_event.specs.Inside.EventAnswer.{count_in, most_count}
 use Rattle.sg_event.specs.EventSound.{IsEventSound}
 
 -- its one refusal is no refusal of the guard's

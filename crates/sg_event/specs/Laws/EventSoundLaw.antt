@@ -15,8 +15,8 @@ use Rattle.sg_facts.specs.Sound.{AreFields}
 use Rattle.sg_facts.specs.Laws.{AnswersAndKeeps, Passes}
 use Rattle.sg_slots.proofs.RowLaws.{childless, next_of_first, sound_more, sound_changed, sound_left}
 use Rattle.sg_event.specs.EventFacts.{event_facts}
-use Rattle.sg_event.specs.EventTable.{event_table, count_in, most_count, trigger_answer}
-use Rattle.sg_event.specs.Inside.EventAnswer.{event_answer}
+use Rattle.sg_event.specs.EventTable.{event_table, event_answer}
+use Rattle.sg_event.specs.Inside.EventAnswer.{count_in, most_count, trigger_answer}
 use Rattle.sg_event.specs.EventSound.{IsEventSound, IsCounted}
 
 -- ---- the fields of an event's row after a wait, a trigger and a take

@@ -17,10 +17,13 @@ use Rattle.sg_facts.specs.Kinds.{kinds_fit}
 use Rattle.sg_facts.specs.Laws.{WalkGoesOn, next_call}
 use Rattle.sg_facts.specs.Object.{Object}
 use Rattle.sg_facts.specs.Sound.{AreFields, IsRow}
-use Rattle.sg_facts.specs.Track.{empty_field, field_at, fields_after, row_at, word_of}
-use Rattle.sg_facts.specs.Walks.{restores_fields, Mark, Spot, good, may_go_on, next_spot, unknown, unset}
+use Rattle.sg_facts.specs.Track.{field_at, fields_after, row_at, word_of}
+use Rattle.sg_facts.specs.Inside.Rows.{empty_field}
+use Rattle.sg_facts.specs.Walks.{restores_fields, Mark, Spot, good, unknown, unset}
+use Rattle.sg_facts.specs.Inside.Walking.{may_go_on, next_spot}
 use Rattle.sg_event.specs.EventFacts.{event_facts}
-use Rattle.sg_event.specs.EventTable.{count_in, event_table, most_count, trigger_answer}
+use Rattle.sg_event.specs.EventTable.{event_table}
+use Rattle.sg_event.specs.Inside.EventAnswer.{count_in, most_count, trigger_answer}
 use Rattle.sg_event.specs.EventSound.{IsCounted, IsEventSound}
 use Rattle.sg_event.specs.Laws.EventSoundLaw.{event_answers_and_keeps}
 use Rattle.sg_slots.proofs.RowLaws.{first_makes, one_pair}

@@ -10,7 +10,8 @@ use Rattle.sg_facts.specs.Held.{whole, partly, HoldsPart, IsHeldFor, ParentIsWho
 use Rattle.sg_facts.specs.Interface.{Declared}
 use Rattle.sg_facts.specs.Object.{Object}
 use Rattle.sg_facts.specs.Sound.{IsRow, IsSound}
-use Rattle.sg_facts.specs.Track.{is_live, nearest, parent_in, row_at}
+use Rattle.sg_facts.specs.Track.{is_live, nearest, row_at}
+use Rattle.sg_facts.specs.Inside.Rows.{parent_in}
 use Rattle.sg_facts.proofs.RowLists.{id_of_row}
 use Rattle.sg_facts.proofs.Replaying.Found.{above, held_at, met, other_test, same_test}
 

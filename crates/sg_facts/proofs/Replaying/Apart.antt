@@ -19,7 +19,8 @@ use Rattle.sg_facts.specs.Kinds.{may_be_root}
 use Rattle.sg_facts.specs.Object.{Object}
 use Rattle.sg_facts.specs.Sound.{IsRow, IsSound}
 use Rattle.sg_facts.specs.Track.{row_at}
-use Rattle.sg_facts.specs.Walks.{IsWalkOf, Mark, good, no_later, mark_after, marks_after, restores_field, unknown, unset, restores_at, restores_fields, spot_of}
+use Rattle.sg_facts.specs.Walks.{IsWalkOf, Mark, good, no_later, mark_after, marks_after, unknown, unset, restores_fields, spot_of}
+use Rattle.sg_facts.specs.Inside.Walking.{restores_field, restores_at}
 use Rattle.sg_facts.specs.Fits.{Fits}
 use Rattle.sg_facts.proofs.Replaying.Found.{above, met, same_test}
 use Rattle.sg_facts.proofs.Replaying.Steps.{begins, both_true, declared_within, first_replayed, goes_on_with, replayed_fun, spots_meet, step_replayed}

@@ -10,7 +10,8 @@ use Rattle.sg_facts.specs.declared.row.Row.{Row}
 use Rattle.sg_facts.specs.Alike.{named}
 use Rattle.sg_facts.specs.Held.{HoldsPart, ParentIsWhole}
 use Rattle.sg_facts.specs.Interface.{Declared}
-use Rattle.sg_facts.specs.Object.{Object, first_text, path_of, step_to}
+use Rattle.sg_facts.specs.Object.{Object, first_text, path_of}
+use Rattle.sg_facts.specs.Inside.Rows.{step_to}
 use Rattle.sg_facts.specs.Sound.{AreRows, IsRow, IsSound}
 use Rattle.sg_facts.specs.Track.{nearest, row_at}
 use Rattle.sg_facts.proofs.RowLists.{id_of_row}

@@ -4,7 +4,8 @@ use Rattle.std.specs.Prelude.{◌==◌}
 use Rattle.std.proofs.lemmas.Bool.Decides.{nat_tests}
 use Rattle.sg_facts.specs.Facts.{Facts, fun_at}
 use Rattle.sg_facts.specs.Interface.{Declared, has_pair}
-use Rattle.sg_facts.specs.Walks.{IsWalkOf, Spot, may_go_on, restores_at, restores_fields, spot_of}
+use Rattle.sg_facts.specs.Walks.{IsWalkOf, Spot, restores_fields, spot_of}
+use Rattle.sg_facts.specs.Inside.Walking.{may_go_on, restores_at}
 use Rattle.sg_facts.specs.Fits.{Fits}
 use Rattle.sg_facts.proofs.Replaying.Steps.{begins, both_true, first_of, goes_on_with, some_restored}
 

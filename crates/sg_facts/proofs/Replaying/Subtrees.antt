@@ -8,7 +8,8 @@ use Rattle.sg_facts.specs.declared.row.Row.{Row}
 use Rattle.sg_facts.specs.Facts.{Facts}
 use Rattle.sg_facts.specs.Object.{Object}
 use Rattle.sg_facts.specs.Sound.{AreRows, IsRow, IsSound}
-use Rattle.sg_facts.specs.Track.{ancestors, ends_with, is_ancestor, is_live, nearest, parent_in, row_at}
+use Rattle.sg_facts.specs.Track.{ancestors, ends_with, is_ancestor, is_live, nearest, row_at}
+use Rattle.sg_facts.specs.Inside.Rows.{parent_in}
 use Rattle.sg_facts.proofs.RowLists.{id_of_row, is_live-left, left}
 use Rattle.sg_facts.proofs.Replaying.Found.{above, all_found, from_left, met}
 use Rattle.sg_facts.proofs.Replaying.Above.{one_above}

@@ -17,8 +17,10 @@ use Rattle.sg_facts.specs.Legal.{Table}
 use Rattle.sg_facts.specs.Limits.{end_of_counts, last_client}
 use Rattle.sg_facts.specs.Object.{Object}
 use Rattle.sg_facts.specs.Sound.{AreFields}
-use Rattle.sg_facts.specs.Track.{empty_field, fields_after, row_at}
-use Rattle.sg_facts.specs.Walks.{IsWalkOf, may_go_on}
+use Rattle.sg_facts.specs.Track.{fields_after, row_at}
+use Rattle.sg_facts.specs.Inside.Rows.{empty_field}
+use Rattle.sg_facts.specs.Walks.{IsWalkOf}
+use Rattle.sg_facts.specs.Inside.Walking.{may_go_on}
 
 -- a replayed call has a client, has arguments of their kinds, and is answered Ok; its Ok leaves fields of the service
 pub record IsAnsweredOk (facts : Facts) (ask : Table) (held : Object) (call : Call) (old : List Value) : Type 0 where

@@ -1,8 +1,12 @@
 -- What is to come after a token that was looked at, and tests of what is to come.
-use Rattle.std.specs.Prelude.{◌≡◌, Bool, true, false, List, [], ◌∷◌, None, Some, Ok, Err}
+use Rattle.std.specs.Prelude.{◌≡◌, Bool, true, false, List, [], ◌∷◌, None, Some, Ok, Err, map}
 use Rattle.std.specs.declared.option.Option.{Option}
 use Rattle.sg_lex.specs.Lexeme.{Lexeme}
 use Rattle.sg_lex.specs.Tokens.{Answer}
+
+-- these tokens, as a lexer answers them
+abbrev pub answered : List Lexeme → List Answer
+answered tokens = map Ok tokens
 
 -- the token that was looked at and left comes first
 abbrev pub with_ahead : Option Lexeme → List Answer → List Answer

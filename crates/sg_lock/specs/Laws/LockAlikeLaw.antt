@@ -8,13 +8,13 @@ use Rattle.sg_facts.specs.declared.row.Row.{Row}
 use Rattle.sg_facts.specs.Facts.{fun_at}
 use Rattle.sg_facts.specs.Track.{row_at, word_of, field_at}
 use Rattle.sg_facts.specs.Object.{Object}
-use Rattle.sg_facts.specs.Guard.{is_there}
+use Rattle.sg_facts.specs.Inside.Guards.{is_there}
 use Rattle.sg_facts.specs.Alike.{named, Serves, SameReply}
 use Rattle.sg_facts.specs.Laws.{AnswersAlike, Passes}
 use Rattle.sg_slots.proofs.RowLaws.{row_of_call, alike_row, same_either, same_done}
 use Rattle.sg_lock.specs.LockFacts.{lock_facts}
-use Rattle.sg_lock.specs.LockTable.{lock_table, owner_in, take_answer, release_answer, free_answer}
-use Rattle.sg_lock.specs.Inside.LockAnswer.{lock_answer}
+use Rattle.sg_lock.specs.LockTable.{lock_table, lock_answer}
+use Rattle.sg_lock.specs.Inside.LockAnswer.{owner_in, take_answer, release_answer, free_answer}
 use Rattle.sg_lock.specs.LockSound.{IsLockSound}
 
 -- the first cause of a refusal that looks at the row doesn't apply to a call that passes

@@ -9,14 +9,15 @@ use Rattle.sg_facts.specs.sg_base.declared.reply.Good.{Good}
 use Rattle.sg_facts.specs.sg_base.declared.reply.Reply.{Reply}
 use Rattle.sg_facts.specs.sg_base.declared.reply.Reply.TheVariants.{Ok, Refused}
 use Rattle.sg_facts.specs.declared.row.Row.{Row}
-use Rattle.sg_facts.specs.Track.{row_at, row_after, new_row, ends_with}
+use Rattle.sg_facts.specs.Track.{row_at, new_row, ends_with}
+use Rattle.sg_facts.specs.Inside.Rows.{row_after}
 use Rattle.sg_facts.specs.Object.{Object, after}
 use Rattle.sg_facts.specs.Laws.{BlockedStays, state_in, leaves_blocked}
 use Rattle.sg_facts.proofs.RowLists.{row_at-more, row_at-changed, row_at-left}
 use Rattle.sg_slots.proofs.RowLaws.{two_rows, on_another}
 use Rattle.sg_lock.specs.LockFacts.{lock_facts}
-use Rattle.sg_lock.specs.LockTable.{lock_table, take_answer, owner_in}
-use Rattle.sg_lock.specs.Inside.LockAnswer.{lock_answer}
+use Rattle.sg_lock.specs.LockTable.{lock_table, lock_answer}
+use Rattle.sg_lock.specs.Inside.LockAnswer.{take_answer, owner_in}
 use Rattle.sg_lock.specs.LockSound.{IsLockSound}
 
 abbrev done_ok : Option Reply

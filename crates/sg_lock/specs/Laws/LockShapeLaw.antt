@@ -10,8 +10,8 @@ use Rattle.sg_facts.specs.Track.{row_at}
 use Rattle.sg_facts.specs.Laws.{ShapeAllows, CountsSlowly}
 use Rattle.sg_slots.proofs.RowLaws.{NotGuards, none_counted, wants_none, never_counts}
 use Rattle.sg_lock.specs.LockFacts.{lock_facts}
-use Rattle.sg_lock.specs.LockTable.{lock_table, owner_in}
-use Rattle.sg_lock.specs.Inside.LockAnswer.{lock_answer}
+use Rattle.sg_lock.specs.LockTable.{lock_table, lock_answer}
+use Rattle.sg_lock.specs.Inside.LockAnswer.{owner_in}
 use Rattle.sg_lock.specs.LockSound.{IsLockSound}
 
 -- none of its refusals is the guard's

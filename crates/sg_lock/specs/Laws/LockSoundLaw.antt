@@ -14,8 +14,8 @@ use Rattle.sg_facts.specs.Sound.{AreFields}
 use Rattle.sg_facts.specs.Laws.{AnswersAndKeeps, Passes}
 use Rattle.sg_slots.proofs.RowLaws.{childless, next_of_first, sound_more, sound_changed, sound_left}
 use Rattle.sg_lock.specs.LockFacts.{lock_facts}
-use Rattle.sg_lock.specs.LockTable.{lock_table, owner_in}
-use Rattle.sg_lock.specs.Inside.LockAnswer.{lock_answer}
+use Rattle.sg_lock.specs.LockTable.{lock_table, lock_answer}
+use Rattle.sg_lock.specs.Inside.LockAnswer.{owner_in}
 use Rattle.sg_lock.specs.LockSound.{IsLockSound, IsOwned, is_owner_in}
 
 -- ---- the fields of a lock's row after a take and a release

@@ -16,10 +16,13 @@ use Rattle.sg_facts.specs.Interface.{Declared, has_pair}
 use Rattle.sg_facts.specs.Laws.{WalkGoesOn, next_call}
 use Rattle.sg_facts.specs.Object.{Object}
 use Rattle.sg_facts.specs.Sound.{AreFields, IsRow}
-use Rattle.sg_facts.specs.Track.{empty_field, field_at, fields_after, word_of}
-use Rattle.sg_facts.specs.Walks.{Mark, Spot, first_spot, good, may_go_on, next_spot, spot_of, unknown, unset}
+use Rattle.sg_facts.specs.Track.{field_at, fields_after, word_of}
+use Rattle.sg_facts.specs.Inside.Rows.{empty_field}
+use Rattle.sg_facts.specs.Walks.{Mark, Spot, good, spot_of, unknown, unset}
+use Rattle.sg_facts.specs.Inside.Walking.{first_spot, may_go_on, next_spot}
 use Rattle.sg_lock.specs.LockFacts.{lock_facts}
-use Rattle.sg_lock.specs.LockTable.{lock_table, owner_in, take_answer}
+use Rattle.sg_lock.specs.LockTable.{lock_table}
+use Rattle.sg_lock.specs.Inside.LockAnswer.{owner_in, take_answer}
 use Rattle.sg_lock.specs.LockSound.{IsLockSound, IsOwned, is_owner_in}
 use Rattle.sg_lock.specs.Laws.LockSoundLaw.{lock_answers_and_keeps}
 use Rattle.sg_slots.proofs.RowLaws.{first_makes, one_pair}

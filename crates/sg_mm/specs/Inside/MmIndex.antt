@@ -14,7 +14,7 @@ use Rattle.sg_mm.specs.Inside.Children.{AreChildren, has_id}
 use Rattle.sg_mm.specs.MmRow.{page_body}
 use Rattle.sg_facts.proofs.Replaying.Subtrees.{IsAboveParent}
 use Rattle.sg_mm.specs.MmSound.{HaveOwnAddresses}
-use Rattle.sg_mm.specs.MmTable.{page_at}
+use Rattle.sg_mm.specs.Inside.MmAnswer.{page_at}
 
 -- the order of places: by the space, then by the address
 abbrev pub place_cmp : PageKey → PageKey → Ordering

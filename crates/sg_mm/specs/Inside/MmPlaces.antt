@@ -12,7 +12,8 @@ use Rattle.sg_facts.specs.Sound.{AreRows}
 use Rattle.sg_facts.specs.Track.{row_at}
 use Rattle.sg_facts.proofs.Replaying.Found.{other_test, same_test}
 use Rattle.sg_mm.specs.MmSound.{HaveOwnAddresses}
-use Rattle.sg_mm.specs.MmTable.{addr_of, is_at, page_at, space_of}
+use Rattle.sg_mm.specs.MmTable.{is_at}
+use Rattle.sg_mm.specs.Inside.MmAnswer.{addr_of, page_at, space_of}
 
 -- ---- the first page in a place
 

@@ -20,8 +20,8 @@ use Rattle.sg_facts.proofs.Replaying.Served.{row_held, row_live}
 use Rattle.sg_mm.specs.MmFacts.{mm_facts}
 use Rattle.sg_mm.specs.Inside.MmPlaces.{first_at, first_passes, none_passes_it, page_is_first, place_of_test, some_first, two_apart}
 use Rattle.sg_mm.specs.MmSound.{IsMmSound}
-use Rattle.sg_mm.specs.MmTable.{find_answer, is_at, mm_table, number_at, page_at}
-use Rattle.sg_mm.specs.Inside.MmAnswer.{mm_answer}
+use Rattle.sg_mm.specs.MmTable.{is_at, mm_table, number_at, mm_answer}
+use Rattle.sg_mm.specs.Inside.MmAnswer.{find_answer, page_at}
 
 -- a new page, or a refusal, under either service's next id
 same_page : (names : List (ℕ × ℕ)) (given given' : ℕ) (b c : Bool) → c ≡ b

@@ -10,8 +10,8 @@ use Rattle.sg_facts.specs.Object.{Object}
 use Rattle.sg_facts.specs.Laws.{BlockedStays}
 use Rattle.sg_mm.specs.MmFacts.{mm_facts}
 use Rattle.sg_mm.specs.MmSound.{IsMmSound}
-use Rattle.sg_mm.specs.MmTable.{find_answer, is_at, mm_table, number_at, page_answer, page_at}
-use Rattle.sg_mm.specs.Inside.MmAnswer.{mm_answer}
+use Rattle.sg_mm.specs.MmTable.{is_at, mm_table, number_at, page_answer, mm_answer}
+use Rattle.sg_mm.specs.Inside.MmAnswer.{find_answer, page_at}
 
 page_is_told : (rows : List Row) (given space addr : ℕ) → page_answer rows given space addr ≡ None → ⊥
 page_is_told rows given space addr is = at (list_any (is_at space addr) rows) is

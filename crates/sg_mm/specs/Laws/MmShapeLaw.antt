@@ -12,8 +12,8 @@ use Rattle.sg_slots.proofs.RowLaws.{NotGuards, never_counts, wants_none}
 use Rattle.sg_mm.specs.Laws.MmBlockedLaw.{never_waits}
 use Rattle.sg_mm.specs.MmFacts.{mm_facts}
 use Rattle.sg_mm.specs.MmSound.{IsMmSound}
-use Rattle.sg_mm.specs.MmTable.{find_answer, is_at, mm_table, number_at, page_answer, page_at}
-use Rattle.sg_mm.specs.Inside.MmAnswer.{mm_answer}
+use Rattle.sg_mm.specs.MmTable.{is_at, mm_table, number_at, page_answer, mm_answer}
+use Rattle.sg_mm.specs.Inside.MmAnswer.{find_answer, page_at}
 
 -- its refusals are none of the guard's
 page_refuses : (rows : List Row) (given space addr : ℕ) → NotGuards (page_answer rows given space addr)

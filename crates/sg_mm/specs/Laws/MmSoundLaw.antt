@@ -12,7 +12,7 @@ use Rattle.sg_facts.specs.sg_base.declared.reply.Good.{Good}
 use Rattle.sg_facts.specs.sg_base.declared.reply.Reply.TheVariants.{Ok, Refused}
 use Rattle.sg_facts.specs.declared.row.Row.{Row}
 use Rattle.sg_facts.specs.Facts.{fun_at}
-use Rattle.sg_facts.specs.Guard.{is_there}
+use Rattle.sg_facts.specs.Inside.Guards.{is_there}
 use Rattle.sg_facts.specs.Kinds.{AreWords, kinds_fit}
 use Rattle.sg_facts.specs.Limits.{most_live}
 use Rattle.sg_facts.specs.Track.{arg_at, ends_with, is_live, new_row, row_at}
@@ -27,8 +27,7 @@ use Rattle.sg_facts.proofs.Replaying.Subtrees.{sound_without}
 use Rattle.sg_mm.specs.MmFacts.{mm_facts}
 use Rattle.sg_mm.specs.Inside.MmPlaces.{own_left, own_more}
 use Rattle.sg_mm.specs.MmSound.{IsMmSound, IsOfClient}
-use Rattle.sg_mm.specs.MmTable.{is_at, mm_table, number_at, page_answer}
-use Rattle.sg_mm.specs.Inside.MmAnswer.{mm_answer}
+use Rattle.sg_mm.specs.MmTable.{is_at, mm_table, number_at, page_answer, mm_answer}
 
 -- an Ok of a new page: its place was free, and its id is the next one
 new_page : (rows : List Row) (given space addr : ℕ) (good : Good) → page_answer rows given space addr ≡ Some (Ok good)

@@ -17,10 +17,13 @@ use Rattle.sg_facts.specs.Kinds.{kinds_fit}
 use Rattle.sg_facts.specs.Laws.{WalkGoesOn, next_call}
 use Rattle.sg_facts.specs.Object.{Object}
 use Rattle.sg_facts.specs.Sound.{AreFields, AreRows, IsRow}
-use Rattle.sg_facts.specs.Track.{empty_field, field_at, row_at, word_of}
-use Rattle.sg_facts.specs.Walks.{Mark, Spot, first_spot, good, may_go_on, spot_of}
+use Rattle.sg_facts.specs.Track.{field_at, row_at, word_of}
+use Rattle.sg_facts.specs.Inside.Rows.{empty_field}
+use Rattle.sg_facts.specs.Walks.{Mark, Spot, good, spot_of}
+use Rattle.sg_facts.specs.Inside.Walking.{first_spot, may_go_on}
 use Rattle.sg_mm.specs.MmFacts.{mm_facts}
-use Rattle.sg_mm.specs.MmTable.{addr_of, is_at, mm_table, space_of}
+use Rattle.sg_mm.specs.MmTable.{is_at, mm_table}
+use Rattle.sg_mm.specs.Inside.MmAnswer.{addr_of, space_of}
 use Rattle.sg_mm.specs.Inside.MmPlaces.{two_apart}
 use Rattle.sg_mm.specs.MmSound.{IsMmSound, IsOfClient}
 use Rattle.sg_mm.specs.Laws.MmSoundLaw.{mm_answers_and_keeps}

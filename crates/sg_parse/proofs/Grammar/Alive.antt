@@ -7,7 +7,7 @@ use Rattle.std.proofs.Math.Dec.{eqb-suc-zero}
 use Rattle.std.proofs.lemmas.List.{append-nil}
 use Rattle.std.proofs.lemmas.List.Elements.{All-nil}
 use Rattle.sg_lex.specs.declared.token.TokenKind.TheVariants.{Word, Number, Mark}
-use Rattle.sg_lex.specs.Lexeme.{Lexeme}
+use Rattle.sg_lex.specs.Lexeme.{Lexeme, Spelling as Named}
 use Rattle.sg_parse.specs.declared.tree.Statement.{Statement}
 use Rattle.sg_parse.specs.declared.tree.Ret.{Ret}
 use Rattle.sg_parse.specs.declared.tree.Ret.TheVariants.{Plain, Set, Add, Sub}
@@ -16,11 +16,11 @@ use Rattle.sg_parse.specs.declared.tree.Param.{Param}
 use Rattle.sg_parse.specs.declared.tree.Tree.{Tree}
 use Rattle.sg_parse.specs.declared.words.Sort.{Sort}
 use Rattle.sg_parse.specs.declared.words.Sort.TheVariants.{Name, One, Two, Form, Parents, Closing, Flag}
-use Rattle.sg_parse.specs.Grammar.Named.{Named}
 use Rattle.sg_parse.specs.Grammar.Words.{is_of}
 use Rattle.sg_parse.specs.Grammar.Pieces.{Piece, word, mark, name, two, kept, newer, kept_word, seen, IsPiece}
 use Rattle.sg_lex.specs.Sentences.{ArePieces}
-use Rattle.sg_parse.specs.Grammar.Sentence.{star, comma, close_bracket, IsType, IsStatement}
+use Rattle.sg_parse.specs.Grammar.Sentence.{IsStatement}
+use Rattle.sg_parse.specs.Grammar.Inside.Forms.{star, comma, close_bracket, IsType}
 use Rattle.sg_parse.specs.Grammar.Inside.States.{State, dead, due, fork, want, names, stars, either, listed, statements, in_newer, has_sort, fits, named_by, type_of, declared, with_param, param, one_rest, two_rest, proto_rest, returned_behind, returned_rest, plain_rest, statement_behind, with_statement, fact, head_end, first_end, second_end, head0, head1, head2, head3, head4, head5, head6, start, step}
 use Rattle.sg_parse.proofs.Grammar.Basics.{some_is, none_is, by_test, if_then, if_else, mark-fits_mark, seen_back}
 use Rattle.sg_parse.proofs.Grammar.Rests.{Off, Rest, closed-star, name-star}
@@ -30,7 +30,7 @@ use Rattle.sg_parse.proofs.Grammar.Protos.{head_is}
 -- a token that is a piece
 abbrev pub token_of : Piece → Lexeme
 token_of (word w) = record { kind = Word; bytes = w; at = 0 }
-token_of (mark b) = record { kind = Mark; bytes = b ∷ []; at = 0 }
+token_of (mark b) = record { kind = Mark; bytes = b; at = 0 }
 token_of (name sort n) = record { kind = Word; bytes = n.bytes; at = n.at }
 token_of two = record { kind = Number; bytes = codes "2"; at = 0 }
 token_of kept = record { kind = Mark; bytes = kept_word; at = 0 }
@@ -275,14 +275,14 @@ param_alive k params h first = (
 )
 
 proto_alive : (go : Statement → State) → ((s : Statement) → Alive false (go s)) → (ret : Ret) (n : Named) → Alive false (proto_rest go ret n)
-proto_alive go h ret n = ((refl, refl), param_alive (λ params. due (mark 0x3B) (go (Statement.Proto ret n params))) [] (λ params. ((refl, refl), h (Statement.Proto ret n params))))
+proto_alive go h ret n = ((refl, refl), param_alive (λ params. due (mark (codes ";")) (go (Statement.Proto ret n params))) [] (λ params. ((refl, refl), h (Statement.Proto ret n params))))
 
 returned_alive : (go : Statement → State) → ((s : Statement) → Alive false (go s)) → (make : TypeName → Named → Ret) → Alive false (returned_rest go make)
 returned_alive go h make = (
   (refl, refl),
   λ first. (
     (λ front last n. behind front last n),
-    (λ front last n. (behind_false front last (suc n), λ token is. mark-fits_mark 0x2C 0x2A token is refl)),
+    (λ front last n. (behind_false front last (suc n), λ token is. mark-fits_mark (codes ",") (codes "*") token is refl)),
   ),
 )
   where

@@ -7,14 +7,15 @@ use Rattle.std.specs.Cmp.Lexicographic.{pointwise, bytes_decides}
 use Rattle.std.proofs.lemmas.Bool.{eq-eqb, eqb-true}
 use Rattle.sg_lex.specs.declared.token.TokenKind.{TokenKind}
 use Rattle.sg_lex.specs.declared.token.TokenKind.TheVariants.{Word, Number, Text, Mark}
-use Rattle.sg_lex.specs.Lexeme.{Lexeme}
+use Rattle.sg_lex.specs.Lexeme.{Lexeme, Spelling as Named}
 use Rattle.sg_lex.specs.Inside.Tests.{same_kind, has_kind}
 use Rattle.sg_lex.proofs.SameKinds.{kind_is}
 use Rattle.sg_parse.specs.declared.words.Sort.{Sort}
 use Rattle.sg_parse.specs.declared.words.Sort.TheVariants.{Name}
-use Rattle.sg_parse.specs.Grammar.Named.{Named}
-use Rattle.sg_parse.specs.Grammar.Words.{is_in, is_of, reserved_words}
-use Rattle.sg_parse.specs.Grammar.Pieces.{Piece, word, mark, name, two, kept, newer, are_two, kept_word, turned, kind_seen, seen, IsPiece}
+use Rattle.sg_parse.specs.Grammar.Words.{is_of}
+use Rattle.sg_parse.specs.Grammar.Inside.Words.{is_in, reserved_words}
+use Rattle.sg_parse.specs.Grammar.Pieces.{Piece, word, mark, name, two, kept, newer, are_two, kept_word, seen, IsPiece}
+use Rattle.sg_parse.specs.Inside.{turned, kind_seen}
 use Rattle.sg_parse.specs.Grammar.Inside.States.{has_sort, fits, named_by}
 
 -- ---- tests
@@ -128,7 +129,7 @@ pub fits-is : (p : Piece) (token : Lexeme) → fits p token ≡ true → IsPiece
 fits-is (word w) token h =
     (kind_is token.kind Word (both_left _ _ h), same_bytes token.bytes w (both_right (has_kind Word token) _ h))
 fits-is (mark b) token h =
-    (kind_is token.kind Mark (both_left _ _ h), same_bytes token.bytes (b ∷ []) (both_right (has_kind Mark token) _ h))
+    (kind_is token.kind Mark (both_left _ _ h), same_bytes token.bytes b (both_right (has_kind Mark token) _ h))
 fits-is (name sort n) token h =
     let s = both_left (has_sort sort token) _ h in
     let r = both_right (has_sort sort token) (pointwise nat_eq token.bytes n.bytes && (token.at == n.at)) h in
@@ -143,7 +144,7 @@ fits-is (newer p) token h = fits-is p (seen token) h
 
 pub is-fits : (p : Piece) (token : Lexeme) → IsPiece token p → fits p token ≡ true
 is-fits (word w) token h = both _ _ (ap (λ k. same_kind k Word) h.0) (bytes_same token.bytes w h.1)
-is-fits (mark b) token h = both _ _ (ap (λ k. same_kind k Mark) h.0) (bytes_same token.bytes (b ∷ []) h.1)
+is-fits (mark b) token h = both _ _ (ap (λ k. same_kind k Mark) h.0) (bytes_same token.bytes b h.1)
 is-fits (name sort n) token h =
     both _ _ (is-has_sort sort token n h) (both _ _ (bytes_same token.bytes n.bytes h.1) (eq-eqb token.at n.at h.2))
 is-fits two token h = both _ _ (ap (λ k. same_kind k Number) h.0) h.1
@@ -154,15 +155,15 @@ is-fits (newer p) token h = is-fits p (seen token) h
 pub mark-has_sort : (sort : Sort) (token : Lexeme) → token.kind ≡ Mark → has_sort sort token ≡ false
 mark-has_sort sort token h = ap (λ k. same_kind k Word && is_of sort token.bytes) h
 
-pub word-fits_mark : (b : ℕ) (token : Lexeme) → token.kind ≡ Word → fits (mark b) token ≡ false
-word-fits_mark b token h = ap (λ k. same_kind k Mark && pointwise nat_eq token.bytes (b ∷ [])) h
+pub word-fits_mark : (b : List ℕ) (token : Lexeme) → token.kind ≡ Word → fits (mark b) token ≡ false
+word-fits_mark b token h = ap (λ k. same_kind k Mark && pointwise nat_eq token.bytes b) h
 
 pub mark-fits_word : (w : List ℕ) (token : Lexeme) → token.kind ≡ Mark → fits (word w) token ≡ false
 mark-fits_word w token h = ap (λ k. same_kind k Word && pointwise nat_eq token.bytes w) h
 
 -- another mark
-pub mark-fits_mark : (a b : ℕ) (token : Lexeme) → IsPiece token (mark a) → pointwise nat_eq (a ∷ []) (b ∷ []) ≡ false → fits (mark b) token ≡ false
-mark-fits_mark a b token h g = ap (λ k. same_kind k Mark && pointwise nat_eq token.bytes (b ∷ [])) h.0 ∙ ap (λ v. pointwise nat_eq v (b ∷ [])) h.1 ∙ g
+pub mark-fits_mark : (a b : List ℕ) (token : Lexeme) → IsPiece token (mark a) → pointwise nat_eq a b ≡ false → fits (mark b) token ≡ false
+mark-fits_mark a b token h g = ap (λ k. same_kind k Mark && pointwise nat_eq token.bytes b) h.0 ∙ ap (λ v. pointwise nat_eq v b) h.1 ∙ g
 
 -- a word of a sort has no other sort whose words are apart, nor is it another word
 pub sort-has_sort : (sort other : Sort) (token : Lexeme) (n : Named) → IsPiece token (name sort n) → is_of other n.bytes ≡ false → has_sort other token ≡ false
@@ -228,8 +229,8 @@ tests_alike p test none one other h g e =
 pub alike-has_sort : (sort : Sort) (p : Piece) (one other : Lexeme) → IsPiece one p → IsPiece other p → has_sort sort one ≡ false → has_sort sort other ≡ false
 alike-has_sort sort p one other h g e = tests_alike p (λ k v. same_kind k Word && is_of sort v) (λ v. refl) one other h g e
 
-pub alike-fits_mark : (b : ℕ) (p : Piece) (one other : Lexeme) → IsPiece one p → IsPiece other p → fits (mark b) one ≡ false → fits (mark b) other ≡ false
-alike-fits_mark b p one other h g e = tests_alike p (λ k v. same_kind k Mark && pointwise nat_eq v (b ∷ [])) (λ v. refl) one other h g e
+pub alike-fits_mark : (b : List ℕ) (p : Piece) (one other : Lexeme) → IsPiece one p → IsPiece other p → fits (mark b) one ≡ false → fits (mark b) other ≡ false
+alike-fits_mark b p one other h g e = tests_alike p (λ k v. same_kind k Mark && pointwise nat_eq v b) (λ v. refl) one other h g e
 
 pub alike-fits_word : (w : List ℕ) (p : Piece) (one other : Lexeme) → IsPiece one p → IsPiece other p → fits (word w) one ≡ false → fits (word w) other ≡ false
 alike-fits_word w p one other h g e = tests_alike p (λ k v. same_kind k Word && pointwise nat_eq v w) (λ v. refl) one other h g e

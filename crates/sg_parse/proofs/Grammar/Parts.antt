@@ -9,9 +9,10 @@ use Rattle.sg_parse.specs.declared.tree.TypeName.{TypeName}
 use Rattle.sg_parse.specs.declared.tree.Param.{Param}
 use Rattle.sg_parse.specs.declared.tree.Tree.{Tree}
 use Rattle.sg_parse.specs.declared.words.Sort.TheVariants.{Name, Form}
-use Rattle.sg_parse.specs.Grammar.Named.{Named}
+use Rattle.sg_lex.specs.Lexeme.{Spelling as Named}
 use Rattle.sg_parse.specs.Grammar.Pieces.{Piece, name}
-use Rattle.sg_parse.specs.Grammar.Sentence.{star, open_bracket, close_bracket, type_pieces, param_pieces, form_pieces, more_params, IsType}
+use Rattle.sg_parse.specs.Grammar.Sentence.{type_pieces, param_pieces}
+use Rattle.sg_parse.specs.Grammar.Inside.Forms.{star, open_bracket, close_bracket, form_pieces, more_params, IsType}
 use Rattle.sg_parse.specs.Grammar.Inside.States.{State, dead, want, names, listed, has_sort, type_of, declared, param_behind, with_param, param}
 use Rattle.sg_parse.proofs.Grammar.Basics.{by_test, if_then, if_else}
 use Rattle.sg_parse.proofs.Grammar.Rests.{Off, Rest, Whole, whole_of, type_rest_of, Closed, closed-star, closed-sort, name-star, name-form, form-name, front_of, last_of, front-last}

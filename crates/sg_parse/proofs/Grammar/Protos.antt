@@ -3,7 +3,7 @@ use Rattle.std.proofs.Common.{◌≡◌, ◌≢◌, true, if◌then◌else◌, L
 use Rattle.std.specs.Prelude.{None, Some, All, codes}
 use Rattle.std.specs.declared.option.Option.{Option}
 use Rattle.std.proofs.lemmas.List.Elements.{All-cons, All-head, All-tail}
-use Rattle.sg_lex.specs.Lexeme.{Lexeme}
+use Rattle.sg_lex.specs.Lexeme.{Lexeme, Spelling as Named}
 use Rattle.sg_parse.specs.declared.tree.Statement.{Statement}
 use Rattle.sg_parse.specs.declared.tree.Statement.TheVariants.{One, Two, Proto}
 use Rattle.sg_parse.specs.declared.tree.Ret.{Ret}
@@ -12,10 +12,10 @@ use Rattle.sg_parse.specs.declared.tree.TypeName.{TypeName}
 use Rattle.sg_parse.specs.declared.tree.Param.{Param}
 use Rattle.sg_parse.specs.declared.tree.Tree.{Tree}
 use Rattle.sg_parse.specs.declared.words.Sort.TheVariants.{Name, One as one_word, Two as two_word}
-use Rattle.sg_parse.specs.Grammar.Named.{Named}
-use Rattle.sg_parse.specs.Grammar.Words.{one_words, two_words}
+use Rattle.sg_parse.specs.Grammar.Inside.Words.{one_words, two_words}
 use Rattle.sg_parse.specs.Grammar.Pieces.{Piece, word, name, kept, IsPiece}
-use Rattle.sg_parse.specs.Grammar.Sentence.{comma, semicolon, open_bracket, close_bracket, type_pieces, param_pieces, more_params, params_pieces, returned_pieces, ret_pieces, statement_pieces, IsType, IsRet, IsStatement}
+use Rattle.sg_parse.specs.Grammar.Sentence.{type_pieces, param_pieces, ret_pieces, statement_pieces, IsStatement}
+use Rattle.sg_parse.specs.Grammar.Inside.Forms.{comma, semicolon, open_bracket, close_bracket, more_params, params_pieces, returned_pieces, IsType, IsRet}
 use Rattle.sg_parse.specs.Grammar.Inside.States.{State, due, want, has_sort, fits, named_by, type_of, declared, param, one_rest, two_rest, proto_rest, returned_behind, returned_rest, plain_rest, statement_behind}
 use Rattle.sg_parse.proofs.Grammar.Basics.{some_is, none_is, by_test, if_then, if_else, has_sort-is, is-has_sort, named, fits-is, is-fits, sort-has_sort, sort-fits_word, word-has_sort, word-fits_word, word-fits_kept, mark-has_sort, mark-fits_word, apart, name_apart}
 use Rattle.sg_parse.proofs.Grammar.Rests.{Rest, Whole, whole_of, closed-star, closed-sort}

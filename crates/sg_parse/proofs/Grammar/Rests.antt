@@ -1,18 +1,18 @@
 -- From each state, what the rest of a sentence is.
 use Rattle.std.proofs.Common.{◌≡◌, ℕ, ◌+◌, ◌⊎◌, Bool, false, List, [], ◌∷◌, ◌++◌, map, refl, sym, ap, subst, ◌∙◌, nat_eq, append_assoc}
-use Rattle.std.specs.Prelude.{replicate, All}
+use Rattle.std.specs.Prelude.{codes, replicate, All}
 use Rattle.std.specs.List.{flat_map}
 use Rattle.std.specs.Cmp.Lexicographic.{pointwise}
-use Rattle.sg_lex.specs.Lexeme.{Lexeme}
+use Rattle.sg_lex.specs.Lexeme.{Lexeme, Spelling as Named}
 use Rattle.sg_parse.specs.declared.tree.Statement.{Statement}
 use Rattle.sg_parse.specs.declared.tree.Param.{Param}
 use Rattle.sg_parse.specs.declared.tree.Tree.{Tree}
 use Rattle.sg_parse.specs.declared.words.Sort.{Sort}
 use Rattle.sg_parse.specs.declared.words.Sort.TheVariants.{Name, Form}
-use Rattle.sg_parse.specs.Grammar.Named.{Named}
-use Rattle.sg_parse.specs.Grammar.Words.{form_words}
+use Rattle.sg_parse.specs.Grammar.Inside.Words.{form_words}
 use Rattle.sg_parse.specs.Grammar.Pieces.{Piece, word, mark, name, two, kept, newer, IsPiece}
-use Rattle.sg_parse.specs.Grammar.Sentence.{star, close_bracket, type_pieces, more_params, statement_pieces, IsType, IsStatement}
+use Rattle.sg_parse.specs.Grammar.Sentence.{type_pieces, statement_pieces, IsStatement}
+use Rattle.sg_parse.specs.Grammar.Inside.Forms.{star, close_bracket, more_params, IsType}
 use Rattle.sg_parse.specs.Grammar.Inside.States.{State, dead, due, fork, want, names, stars, either, listed, statements, in_newer, has_sort, fits, type_of}
 use Rattle.sg_parse.proofs.Grammar.Basics.{mark-has_sort, word-fits_mark, mark-fits_mark, sort-has_sort, name_apart, reserved_apart}
 
@@ -177,14 +177,14 @@ type_rest_of P first ps w = by w.front refl
 abbrev pub Closed : List Piece → Type 0
 Closed [] = ⊥
 Closed (word w ∷ ps) = ⊥
-Closed (mark b ∷ ps) = pointwise nat_eq (b ∷ []) (0x2A ∷ []) ≡ false
+Closed (mark b ∷ ps) = pointwise nat_eq b (codes "*") ≡ false
 Closed (name sort n ∷ ps) = ⊥
 Closed (two ∷ ps) = ⊥
 Closed (kept ∷ ps) = ⊥
 Closed (newer p ∷ ps) = ⊥
 
 pub closed-star : (ps : List Piece) → Closed ps → Off (fits star) ps
-closed-star (mark b ∷ ps) h = λ token is. mark-fits_mark b 0x2A token is h
+closed-star (mark b ∷ ps) h = λ token is. mark-fits_mark b (codes "*") token is h
 closed-star [] h = absurd h
 closed-star (word w ∷ ps) h = absurd h
 closed-star (name sort n ∷ ps) h = absurd h
@@ -202,7 +202,7 @@ closed-sort sort (kept ∷ ps) h = absurd h
 closed-sort sort (newer p ∷ ps) h = absurd h
 
 pub name-star : (sort : Sort) (n : Named) (ps : List Piece) → Off (fits star) (name sort n ∷ ps)
-name-star sort n ps token is = word-fits_mark 0x2A token is.0
+name-star sort n ps token is = word-fits_mark (codes "*") token is.0
 
 pub name-form : (n : Named) (ps : List Piece) → Off (has_sort Form) (name Name n ∷ ps)
 name-form n ps token is = sort-has_sort Name Form token n is (name_apart form_words n.bytes refl is.3)

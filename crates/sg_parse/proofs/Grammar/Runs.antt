@@ -4,8 +4,7 @@ use Rattle.std.specs.Prelude.{None, Some, All, codes, replicate}
 use Rattle.std.specs.List.{flat_map}
 use Rattle.std.proofs.lemmas.List.{append-nil}
 use Rattle.std.proofs.lemmas.List.Elements.{All-nil}
-use Rattle.sg_lex.specs.Lexeme.{Lexeme}
-use Rattle.sg_lex.specs.Marks.{close_brace_byte}
+use Rattle.sg_lex.specs.Lexeme.{Lexeme, Spelling as Named}
 use Rattle.sg_lex.specs.Sentences.{Begins, ArePieces}
 use Rattle.sg_lex.proofs.Automata.{Runs}
 use Rattle.sg_lex.proofs.Answers.{Reached, ReadsJust}
@@ -15,9 +14,9 @@ use Rattle.sg_parse.specs.declared.tree.Statement.{Statement}
 use Rattle.sg_parse.specs.declared.tree.Tree.{Tree}
 use Rattle.sg_parse.specs.declared.words.Sort.{Sort}
 use Rattle.sg_parse.specs.declared.words.Sort.TheVariants.{Name, Form, Parents, Closing, Flag}
-use Rattle.sg_parse.specs.Grammar.Named.{Named}
 use Rattle.sg_parse.specs.Grammar.Pieces.{Piece, word, mark, name, two, newer, IsPiece}
-use Rattle.sg_parse.specs.Grammar.Sentence.{star, comma, close_bracket, open_brace, equals, semicolon, more_params, fact_pieces, head_pieces, last_pieces, recovery_word, end_pieces, facts_pieces, of_version, tree_pieces, statement_pieces, ret_pieces, IsStatement, IsHead, IsWellFormed, IsSentence}
+use Rattle.sg_parse.specs.Grammar.Sentence.{recovery_word, facts_pieces, tree_pieces, statement_pieces, ret_pieces, IsStatement, IsSentence}
+use Rattle.sg_parse.specs.Grammar.Inside.Forms.{star, comma, close_bracket, open_brace, equals, semicolon, more_params, fact_pieces, head_pieces, last_pieces, end_pieces, of_version, IsHead, IsWellFormed}
 use Rattle.sg_parse.specs.Grammar.Inside.States.{State, dead, due, fork, want, names, stars, either, listed, statements, in_newer, fact, head_end, first_end, second_end, head0, head1, head2, head3, head4, head5, head6, start, tree_at, trees}
 use Rattle.sg_parse.proofs.Grammar.Basics.{word-fits_word}
 use Rattle.sg_parse.proofs.Grammar.Rests.{Rest, front_of, last_of}
@@ -267,10 +266,10 @@ end_back : (version : ℕ) (eager : Bool) (a b c d e f g : Named) (tree : Tree) 
     → LastRest (facts_by version eager a b c d e f g) ps tree
 end_back version eager a b c d e f g tree ps r =
     let s = r.rest.rest in
-    record { statements = s.more; all = r.all ∙ ap (λ v. mark close_brace_byte ∷ v) (r.rest.all ∙ ap (λ v. semicolon ∷ v) s.all); each = s.each; is = s.is }
+    record { statements = s.more; all = r.all ∙ ap (λ v. mark (codes "}") ∷ v) (r.rest.all ∙ ap (λ v. semicolon ∷ v) s.all); each = s.each; is = s.is }
 
 end_forth : (facts : Facts) (tree : Tree) → tree.facts ≡ facts → All IsStatement tree.statements
-    → Rest (due (mark close_brace_byte) (due semicolon (statements facts []))) (last_pieces (flat_map statement_pieces tree.statements)) tree
+    → Rest (due (mark (codes "}")) (due semicolon (statements facts []))) (last_pieces (flat_map statement_pieces tree.statements)) tree
 end_forth facts tree is h = record {
   behind = semicolon ∷ flat_map statement_pieces tree.statements;
   all = refl;

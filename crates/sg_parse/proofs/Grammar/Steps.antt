@@ -1,19 +1,19 @@
 -- One token: from the state before it, and from the state after it.
 use Rattle.std.proofs.Common.{◌≡◌, ℕ, zero, suc, ◌+◌, inl, inr, false, if◌then◌else◌, List, [], ◌∷◌, ◌++◌, map, refl, sym, ap, subst, ◌∙◌, append_assoc, arith}
-use Rattle.std.specs.Prelude.{None, Some, replicate, All}
+use Rattle.std.specs.Prelude.{codes, None, Some, replicate, All}
 use Rattle.std.specs.List.{flat_map}
 use Rattle.std.specs.declared.option.Option.{Option}
 use Rattle.std.specs.Option.{option_map}
 use Rattle.std.proofs.lemmas.List.{append-nil}
 use Rattle.std.proofs.lemmas.List.Elements.{All-cons, All-head, All-tail, All-nil}
-use Rattle.sg_lex.specs.Lexeme.{Lexeme}
+use Rattle.sg_lex.specs.Lexeme.{Lexeme, Spelling as Named}
 use Rattle.sg_parse.specs.declared.tree.Statement.{Statement}
 use Rattle.sg_parse.specs.declared.tree.Param.{Param}
 use Rattle.sg_parse.specs.declared.tree.Tree.{Tree}
 use Rattle.sg_parse.specs.declared.words.Sort.TheVariants.{Name, Form}
-use Rattle.sg_parse.specs.Grammar.Named.{Named}
 use Rattle.sg_parse.specs.Grammar.Pieces.{Piece, word, mark, name, newer, seen, IsPiece}
-use Rattle.sg_parse.specs.Grammar.Sentence.{star, comma, close_bracket, param_pieces, more_params, statement_pieces, IsType, IsStatement}
+use Rattle.sg_parse.specs.Grammar.Sentence.{param_pieces, statement_pieces, IsStatement}
+use Rattle.sg_parse.specs.Grammar.Inside.Forms.{star, comma, close_bracket, more_params, IsType}
 use Rattle.sg_parse.specs.Grammar.Inside.States.{State, dead, due, fork, want, names, stars, either, listed, statements, in_newer, has_sort, fits, named_by, param, with_statement, step}
 use Rattle.sg_parse.proofs.Grammar.Basics.{some_is, none_is, by_test, if_then, if_else, has_sort-is, is-has_sort, named, fits-is, is-fits, alike-has_sort, alike-fits_mark, alike-fits_word, mark-has_sort, mark-fits_mark}
 use Rattle.sg_parse.proofs.Grammar.Rests.{Off, Rest, front_of, last_of}
@@ -27,7 +27,7 @@ pub record Comes (s : State) (token : Lexeme) (ps : List Piece) (tree : Tree) : 
   pub rest : Rest s (piece ∷ ps) tree
 
 -- where a test of a token fails it fails of the piece that the token is
-off_mark : (b : ℕ) (p : Piece) (ps : List Piece) (token : Lexeme) → IsPiece token p → fits (mark b) token ≡ false → Off (fits (mark b)) (p ∷ ps)
+off_mark : (b : List ℕ) (p : Piece) (ps : List Piece) (token : Lexeme) → IsPiece token p → fits (mark b) token ≡ false → Off (fits (mark b)) (p ∷ ps)
 off_mark b p ps token is h = λ other g. alike-fits_mark b p token other is g h
 
 pub back : (s : State) (token : Lexeme) (next : State) (ps : List Piece) (tree : Tree) → step s token ≡ Some next → Rest next ps tree → Comes s token ps tree
@@ -104,7 +104,7 @@ back (names front last k) token next ps tree e r =
         count = 0;
         behind = c.piece ∷ ps;
         all = refl;
-        off_star = off_mark 0x2A c.piece ps token c.is h2;
+        off_star = off_mark (codes "*") c.piece ps token c.is h2;
         off_name = λ _ other g. alike-has_sort Name c.piece token other c.is g h1;
         rest = c.rest;
       };
@@ -134,7 +134,7 @@ back (stars front last n k) token next ps tree e r =
         count = 0;
         behind = c.piece ∷ ps;
         all = refl;
-        off_star = off_mark 0x2A c.piece ps token c.is h2;
+        off_star = off_mark (codes "*") c.piece ps token c.is h2;
         rest = subst (λ v. Rest (k front last v) (c.piece ∷ ps) tree) (let f : n ≡ n + 0 = omega arith in f) c.rest;
       };
     })
@@ -330,7 +330,7 @@ forth (listed params k) token p ps tree is r = by r.more refl
         let is1 = subst (IsPiece token) (head_is all) is in
         record {
           next = k params;
-          is = if_else (fits comma token) _ _ (mark-fits_mark 0x29 0x2C token is1 refl) ∙ if_then (fits close_bracket token) _ _ (is-fits close_bracket token is1);
+          is = if_else (fits comma token) _ _ (mark-fits_mark (codes ")") (codes ",") token is1 refl) ∙ if_then (fits close_bracket token) _ _ (is-fits close_bracket token is1);
           rest = subst (λ v. Rest (k params) v tree) (sym (tail_is all))
               (subst (λ v. Rest (k v) r.behind tree) (ap (λ v. params ++ v) e ∙ append-nil params) r.rest);
         }

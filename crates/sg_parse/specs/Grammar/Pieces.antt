@@ -2,29 +2,21 @@
 use Rattle.std.specs.Prelude.{◌≡◌, ℕ, Bool, true, false, ◌==◌, if◌then◌else◌, List, [], ◌∷◌, codes, nat_eq}
 use Rattle.std.specs.Cmp.Lexicographic.{pointwise}
 use Rattle.sg_lex.specs.declared.token.TokenKind.{TokenKind}
-use Rattle.sg_lex.specs.declared.token.TokenKind.TheVariants.{Word, Number, Mark}
-use Rattle.sg_lex.specs.Lexeme.{Lexeme}
+use Rattle.sg_lex.specs.declared.token.TokenKind.TheVariants.{Word, Number, Text, Mark}
+use Rattle.sg_lex.specs.Lexeme.{Lexeme, Spelling}
 use Rattle.sg_parse.specs.declared.words.Sort.{Sort}
-use Rattle.sg_parse.specs.Grammar.Named.{Named}
 use Rattle.sg_parse.specs.Grammar.Words.{is_of}
 
 -- the word that a text of version 2 keeps for itself
 abbrev pub kept_word : List ℕ
 kept_word = codes "desc_data_retval_sub"
 
--- the other kind of the kept word: it's a mark in a text of version 2, and a word in one of version 1
-abbrev pub turned : TokenKind → TokenKind
-turned Word = Mark
-turned Mark = Word
-turned kind = kind
-
--- the kind of a token of these bytes in a text of version 2
-abbrev pub kind_seen : List ℕ → TokenKind → TokenKind
-kind_seen bytes kind = if pointwise nat_eq bytes kept_word then turned kind else kind
-
--- a token as a text of version 2 has it
+-- a token as a text of version 2 has it: there the kept word is a mark, which is a word in one of version 1; what is seen so twice is as
+-- it was
 abbrev pub seen : Lexeme → Lexeme
-seen token = record token { kind = kind_seen token.bytes token.kind }
+seen token =
+    let turned : TokenKind = elim token.kind [ Word ↦ Mark | Number ↦ Number | Text ↦ Text | Mark ↦ Word ] in
+    record token { kind = if pointwise nat_eq token.bytes kept_word then turned else token.kind }
 
 -- whether digits are those of 2; zeros may come first
 abbrev pub are_two : List ℕ → Bool
@@ -36,8 +28,8 @@ are_two (digit ∷ next ∷ digits) = if digit == 0x30 then are_two (next ∷ di
 -- it
 pub data Piece : Type 0 where
   word : List ℕ → Piece
-  mark : ℕ → Piece
-  name : Sort → Named → Piece
+  mark : List ℕ → Piece
+  name : Sort → Spelling → Piece
   two : Piece
   kept : Piece
   newer : Piece → Piece
@@ -45,9 +37,8 @@ pub data Piece : Type 0 where
 -- a token is such a piece
 abbrev pub IsPiece : Lexeme → Piece → Type 0
 IsPiece token (word bytes) = (token.kind ≡ Word) × (token.bytes ≡ bytes)
-IsPiece token (mark byte) = (token.kind ≡ Mark) × (token.bytes ≡ byte ∷ [])
-IsPiece token (name sort n) =
-    (token.kind ≡ Word) × (token.bytes ≡ n.bytes) × (token.at ≡ n.at) × (is_of sort n.bytes ≡ true)
+IsPiece token (mark bytes) = (token.kind ≡ Mark) × (token.bytes ≡ bytes)
+IsPiece token (name sort n) = (token.kind ≡ Word) × (token.bytes ≡ n.bytes) × (token.at ≡ n.at) × (is_of sort n.bytes ≡ true)
 IsPiece token two = (token.kind ≡ Number) × (are_two token.bytes ≡ true)
 IsPiece token kept = (token.kind ≡ Mark) × (token.bytes ≡ kept_word)
 IsPiece token (newer p) = IsPiece (seen token) p

@@ -9,12 +9,12 @@ use Rattle.sg_parse.specs.declared.tree.Ret.TheVariants.{Plain, Set, Add, Sub}
 use Rattle.sg_parse.specs.declared.tree.TypeName.{TypeName}
 use Rattle.sg_parse.specs.declared.tree.Param.{Param}
 use Rattle.sg_parse.specs.declared.tree.Tree.{Tree}
-use Rattle.sg_parse.specs.Grammar.Named.{Named}
+use Rattle.sg_lex.specs.Lexeme.{Spelling}
 
 -- a name at place 0, and so each name of what follows
 
 -- a name at place 0
-abbrev pub plain_name : Named → Named
+abbrev pub plain_name : Spelling → Spelling
 plain_name n = record { bytes = n.bytes; at = 0 }
 
 -- a type with each name at place 0

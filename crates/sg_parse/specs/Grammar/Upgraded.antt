@@ -7,7 +7,7 @@ use Rattle.sg_parse.specs.declared.tree.Statement.{Statement}
 use Rattle.sg_parse.specs.declared.tree.Statement.TheVariants.{One, Two, Proto}
 use Rattle.sg_parse.specs.declared.tree.Tree.{Tree}
 use Rattle.sg_parse.specs.declared.tree.TypeName.{TypeName}
-use Rattle.sg_parse.specs.Grammar.Named.{Named}
+use Rattle.sg_lex.specs.Lexeme.{Spelling}
 use Rattle.sg_parse.specs.Grammar.Pieces.{kept_word}
 
 -- the same tree of version 2: one of version 1 rebuilds descriptors on demand, and one of version 2 keeps its word
@@ -15,7 +15,7 @@ abbrev pub upgraded : Tree → Tree
 upgraded tree = record { facts = record tree.facts { version = 2 }; statements = tree.statements }
 
 -- a name isn't the word that version 2 keeps for itself; and so each name of what follows
-abbrev pub IsFreeName : Named → Type 0
+abbrev pub IsFreeName : Spelling → Type 0
 IsFreeName n = n.bytes ≢ kept_word
 
 -- no name of a type is the kept word

@@ -5,37 +5,23 @@ use Rattle.std.specs.Cmp.Lexicographic.{pointwise}
 use Rattle.sg_parse.specs.declared.words.Sort.{Sort}
 use Rattle.sg_parse.specs.declared.words.Sort.TheVariants.{Name, One, Two, Form, Parents, Closing, Flag}
 
--- whether a word is one of these
-abbrev pub is_in : List (List ℕ) → List ℕ → Bool
-is_in words word = list_any (λ other. pointwise nat_eq word other) words
-
+-- the words of each sort. A name may be any word but those of statements and forms, and these
+abbrev pub words_of : Sort → List (List ℕ)
+words_of Name = codes "service_global_info" ∷ codes "desc_data_retval" ∷ codes "desc_data_retval_add" ∷ []
 -- the words of the statements over one function
-abbrev pub one_words : List (List ℕ)
-one_words =
+words_of One =
     codes "sm_creation" ∷ codes "sm_terminal" ∷ codes "sm_block" ∷ codes "sm_wakeup" ∷ codes "sm_query"
     ∷ codes "sm_keep" ∷ codes "sm_needs_all" ∷ codes "resc_data" ∷ []
-
 -- the words of the statements over two functions, or over a function and a field
-abbrev pub two_words : List (List ℕ)
-two_words =
+words_of Two =
     codes "sm_state" ∷ codes "sm_transition" ∷ codes "sm_recover" ∷ codes "desc_data_clear" ∷ codes "desc_data_sub" ∷ []
-
 -- the words of the forms that a parameter can have
-abbrev pub form_words : List (List ℕ)
-form_words = codes "desc" ∷ codes "parent_desc" ∷ codes "desc_data" ∷ codes "desc_data_add" ∷ []
+words_of Form = codes "desc" ∷ codes "parent_desc" ∷ codes "desc_data" ∷ codes "desc_data_add" ∷ []
+words_of Parents = codes "none" ∷ codes "same" ∷ codes "cross" ∷ []
+words_of Closing = codes "refuse" ∷ codes "subtree" ∷ []
+words_of Flag = codes "true" ∷ codes "false" ∷ []
 
--- the words that no name may be
-abbrev pub reserved_words : List (List ℕ)
-reserved_words =
-    codes "service_global_info" ∷ codes "desc_data_retval" ∷ codes "desc_data_retval_add"
-    ∷ (one_words ++ (two_words ++ form_words))
-
--- the words of a sort; a name is any word that isn't reserved
+-- whether a word is of a sort
 abbrev pub is_of : Sort → List ℕ → Bool
-is_of Name word = not (is_in reserved_words word)
-is_of One word = is_in one_words word
-is_of Two word = is_in two_words word
-is_of Form word = is_in form_words word
-is_of Parents word = is_in (codes "none" ∷ codes "same" ∷ codes "cross" ∷ []) word
-is_of Closing word = is_in (codes "refuse" ∷ codes "subtree" ∷ []) word
-is_of Flag word = is_in (codes "true" ∷ codes "false" ∷ []) word
+is_of Name word = not (list_any (pointwise nat_eq word) (words_of Name ++ (words_of One ++ (words_of Two ++ words_of Form))))
+is_of sort word = list_any (pointwise nat_eq word) (words_of sort)

@@ -14,8 +14,9 @@ use Rattle.sg_facts.specs.Interface.{Declared}
 use Rattle.sg_facts.specs.Legal.{Table}
 use Rattle.sg_facts.specs.Object.{Object, object_of}
 use Rattle.sg_facts.specs.declared.entry.Entry.{Entry}
-use Rattle.sg_plain.specs.Calls.{ascending_from, call_after, most_client, part_of, resolved, resolved_by, script_calls}
-use Rattle.sg_plain.specs.Plain.{IsPlainPlay, PlainPhase, Player, Stage, after_call, after_guard, after_turn, appended, at_phase, blocked, left_after_first, first_of, first_stage, gone_on, handed_over, holding, in_a_circle, is_under_way, left_schedule, may_turn, next_stage, next_turn, player_at, player_of, ready, replied, served, some_or, stage_after, stage_from, through, turned, woken_phase}
+use Rattle.sg_plain.specs.Calls.{ascending_from, call_after, most_client, part_of, resolved_by, script_calls}
+use Rattle.sg_plain.specs.Inside.Turns.{resolved, after_call, after_guard, after_turn, first_of, handed_over, in_a_circle, is_under_way, served, some_or, stage_after}
+use Rattle.sg_plain.specs.Plain.{IsPlainPlay, PlainPhase, Player, Stage, appended, at_phase, blocked, left_after_first, first_stage, gone_on, holding, left_schedule, may_turn, next_stage, next_turn, player_at, player_of, ready, replied, stage_from, through, turned, woken_phase}
 use Rattle.sg_plain.specs.Ending.Left.{FitScript, FitsCalls, IsPlayStage, all_before, all_to_come, entries_to_come, turns_before, turns_left}
 use Rattle.sg_plain.proofs.Ending.Players.{before_set, fit_at, fit_set, fit_woken, length_set, length_woken, to_come_set, to_come_woken, woken_at, woken_from}
 use Rattle.sg_script.specs.declared.script.Script.{Script}

@@ -1,5 +1,5 @@
 -- A script without a flaw may be played, and its stops ascend.
-use Rattle.std.proofs.Common.{◌≡◌, ℕ, ◌+◌, ◌<◌, ◌≤◌, Bool, true, false, not, List, [], ◌∷◌, ◌++◌, cond, length, map, refl, sym, ◌∙◌, ap, subst, arith, append-nil}
+use Rattle.std.proofs.Common.{◌≡◌, ℕ, ◌+◌, ◌<◌, ◌≤◌, Bool, true, false, not, List, [], ◌∷◌, ◌++◌, cond, length, map, Ok, refl, sym, ◌∙◌, ap, subst, arith, append-nil}
 use Rattle.std.proofs.lemmas.List.{length-map}
 use Rattle.std.specs.Prelude.{◌==◌, nat_le}
 use Rattle.std.proofs.lemmas.Bool.Decides.{nat_tests}
@@ -11,16 +11,17 @@ use Rattle.sg_facts.specs.Interface.{Declared}
 use Rattle.sg_plain.specs.Calls.{part_of}
 use Rattle.sg_plain.specs.Script.{call_fits, calls_fit}
 use Rattle.sg_plain.specs.Playing.Playable.{IsPlayable}
-use Rattle.sg_script.specs.sg_script_parse.Grammar.Spelling.{Spelling}
+use Rattle.sg_script.specs.sg_script_parse.sg_lex.Lexeme.{Spelling}
 use Rattle.sg_script.specs.sg_script_parse.declared.tree.Part.{Part}
 use Rattle.sg_script.specs.sg_script_parse.declared.tree.Part.TheVariants.{Setup, Client, Schedule, Stop}
 use Rattle.sg_script.specs.declared.fault.ScriptKind.TheVariants.{BadClient, NotAscending, Twice}
 use Rattle.sg_script.specs.declared.script.Script.{Script}
 use Rattle.sg_script.specs.declared.script.ScriptCall.{ScriptCall}
 use Rattle.sg_script.specs.Numbers.{counts_as}
-use Rattle.sg_script.specs.Reads.{IsScript}
-use Rattle.sg_script.specs.Scripts.{calls_of_setup, clients_of, script_call_of, stops_of, turns_of}
-use Rattle.sg_script.specs.Flaws.{calls_before, calls_in, client_flaws, flaws_behind, is_setup, is_stop, part_flaws, stops_flaws}
+use Rattle.sg_script.specs.Reads.{IsReadingOf}
+use Rattle.sg_script.specs.Scripts.{calls_of_setup, script_call_of}
+use Rattle.sg_script.specs.Inside.Parts.{clients_of, is_setup, is_stop, stops_of, turns_of}
+use Rattle.sg_script.specs.Flaws.{calls_before, calls_in, client_flaws, flaws_behind, part_flaws, stops_flaws}
 use Rattle.sg_script.proofs.Held.{back_none, behind_none, both, front_none, inner_none, is_true, not_flawed}
 use Rattle.sg_plain.proofs.Flawless.Parts.{Fit, IsRead, all_calls, all_counted, any_last, any_more, calls_all_fit, calls_all_go, left, parts_read, right}
 
@@ -129,40 +130,40 @@ length_two [] ys = omega arith
 length_two (x ∷ xs) ys = omega (arith, length_two xs ys)
 
 -- a script without a flaw may be played
-module _ (i : Declared) (text : List ℕ) (script : Script) (is : IsScript i text script) where
+module _ (i : Declared) (text : List ℕ) (script : Script) (is : IsReadingOf i text (Ok script)) where
   pub script_stops : AscendsAbove 0 script.stops
-  script_stops = subst (λ (s : Script). AscendsAbove 0 s.stops) (sym is.is) (all_stops i (length (flat_map calls_of_setup is.parts)) [] is.parts is.flawless)
+  script_stops = subst (λ (s : Script). AscendsAbove 0 s.stops) (sym is.3) (all_stops i (length (flat_map calls_of_setup is.0)) [] is.0 is.2)
 
   pub script_playable : IsPlayable i script
-  script_playable = subst (IsPlayable i) (sym is.is) (record {
+  script_playable = subst (IsPlayable i) (sym is.3) (record {
     fit = λ client. fit client;
     few = λ client. few client;
     clients = read.ascend;
     setup = setup.goes;
-    turns = all_turns i (length (flat_map calls_of_setup is.parts)) [] is.parts is.flawless;
+    turns = all_turns i (length (flat_map calls_of_setup is.0)) [] is.0 is.2;
   })
     where
-      setup : IsGoodSetup i (map (script_call_of i) (flat_map calls_of_setup is.parts))
-      setup = setup_good i (length (flat_map calls_of_setup is.parts)) [] is.parts is.flawless
+      setup : IsGoodSetup i (map (script_call_of i) (flat_map calls_of_setup is.0))
+      setup = setup_good i (length (flat_map calls_of_setup is.0)) [] is.0 is.2
 
-      read : IsRead i (length (flat_map calls_of_setup is.parts)) is.parts (clients_of i is.parts)
-      read = parts_read i (length (flat_map calls_of_setup is.parts)) [] is.parts [] is.flawless (record { ascend = tt; fit = tt; from_parts = λ m has. absurd (cc has); few = omega arith })
+      read : IsRead i (length (flat_map calls_of_setup is.0)) is.0 (clients_of i is.0)
+      read = parts_read i (length (flat_map calls_of_setup is.0)) [] is.0 [] is.2 (record { ascend = tt; fit = tt; from_parts = λ m has. absurd (cc has); few = omega arith })
 
-      most : length (flat_map calls_in is.parts) ≤ 65536
-      most = all_counted i (length (flat_map calls_of_setup is.parts)) [] is.parts (omega arith) is.flawless
+      most : length (flat_map calls_in is.0) ≤ 65536
+      most = all_counted i (length (flat_map calls_of_setup is.0)) [] is.0 (omega arith) is.2
 
-      fit : (client : ℕ) → calls_fit i 1 (cond (client == 1) (map (script_call_of i) (flat_map calls_of_setup is.parts)) [] ++ part_of client (clients_of i is.parts)) ≡ true
-      fit client = by (client == 1) (fit_of i (length (flat_map calls_of_setup is.parts)) client (clients_of i is.parts) read.fit)
+      fit : (client : ℕ) → calls_fit i 1 (cond (client == 1) (map (script_call_of i) (flat_map calls_of_setup is.0)) [] ++ part_of client (clients_of i is.0)) ≡ true
+      fit client = by (client == 1) (fit_of i (length (flat_map calls_of_setup is.0)) client (clients_of i is.0) read.fit)
         where
-          by : (b : Bool) → calls_fit i (cond b (length (flat_map calls_of_setup is.parts)) 0 + 1) (part_of client (clients_of i is.parts)) ≡ true
-              → calls_fit i 1 (cond b (map (script_call_of i) (flat_map calls_of_setup is.parts)) [] ++ part_of client (clients_of i is.parts)) ≡ true
-          by true own = fit_two i 1 (map (script_call_of i) (flat_map calls_of_setup is.parts)) (part_of client (clients_of i is.parts)) setup.fit
-              (subst (λ m. calls_fit i (m + 1) (part_of client (clients_of i is.parts)) ≡ true) (sym (length-map (flat_map calls_of_setup is.parts) (script_call_of i))) own)
-          by false own = subst (λ m. calls_fit i m (part_of client (clients_of i is.parts)) ≡ true) (omega arith) own
+          by : (b : Bool) → calls_fit i (cond b (length (flat_map calls_of_setup is.0)) 0 + 1) (part_of client (clients_of i is.0)) ≡ true
+              → calls_fit i 1 (cond b (map (script_call_of i) (flat_map calls_of_setup is.0)) [] ++ part_of client (clients_of i is.0)) ≡ true
+          by true own = fit_two i 1 (map (script_call_of i) (flat_map calls_of_setup is.0)) (part_of client (clients_of i is.0)) setup.fit
+              (subst (λ m. calls_fit i (m + 1) (part_of client (clients_of i is.0)) ≡ true) (sym (length-map (flat_map calls_of_setup is.0) (script_call_of i))) own)
+          by false own = subst (λ m. calls_fit i m (part_of client (clients_of i is.0)) ≡ true) (omega arith) own
 
-      few : (client : ℕ) → length (cond (client == 1) (map (script_call_of i) (flat_map calls_of_setup is.parts)) [] ++ part_of client (clients_of i is.parts)) ≤ 65536
+      few : (client : ℕ) → length (cond (client == 1) (map (script_call_of i) (flat_map calls_of_setup is.0)) [] ++ part_of client (clients_of i is.0)) ≤ 65536
       few client = by (client == 1)
         where
-          by : (b : Bool) → length (cond b (map (script_call_of i) (flat_map calls_of_setup is.parts)) [] ++ part_of client (clients_of i is.parts)) ≤ 65536
-          by true = omega (arith, read.few, most, few_of client (clients_of i is.parts), length-map (flat_map calls_of_setup is.parts) (script_call_of i), length_two (map (script_call_of i) (flat_map calls_of_setup is.parts)) (part_of client (clients_of i is.parts)))
-          by false = omega (arith, read.few, most, few_of client (clients_of i is.parts))
+          by : (b : Bool) → length (cond b (map (script_call_of i) (flat_map calls_of_setup is.0)) [] ++ part_of client (clients_of i is.0)) ≤ 65536
+          by true = omega (arith, read.few, most, few_of client (clients_of i is.0), length-map (flat_map calls_of_setup is.0) (script_call_of i), length_two (map (script_call_of i) (flat_map calls_of_setup is.0)) (part_of client (clients_of i is.0)))
+          by false = omega (arith, read.few, most, few_of client (clients_of i is.0))

@@ -23,8 +23,9 @@ use Rattle.sg_script.specs.sg_script_parse.declared.tree.Part.TheVariants.{Setup
 use Rattle.sg_script.specs.declared.fault.ScriptKind.TheVariants.{BadClient, Blocking, Twice}
 use Rattle.sg_script.specs.declared.script.ScriptCall.{ScriptCall}
 use Rattle.sg_script.specs.Numbers.{counts_as, is_known_client}
-use Rattle.sg_script.specs.Scripts.{arg_of, script_call_of, calls_of_setup, declared_fun, declared_from, placed, with_client}
-use Rattle.sg_script.specs.Flaws.{written_args_fit as written_fit, call_flaws, calls_before, calls_flaws, calls_in, client_flaws, comes_again, flaws_behind, fun_flaws, is_of_client, part_flaws}
+use Rattle.sg_script.specs.Scripts.{script_call_of, calls_of_setup, declared_fun, declared_from, placed}
+use Rattle.sg_script.specs.Inside.Parts.{arg_of, comes_again, fun_flaws, is_of_client, with_client}
+use Rattle.sg_script.specs.Flaws.{written_args_fit as written_fit, call_flaws, calls_before, calls_flaws, calls_in, client_flaws, flaws_behind, part_flaws}
 use Rattle.sg_script.proofs.Held.{back_none, behind_none, both, counted, front_none, inner_none, is_true, not_flawed, part_few}
 
 -- ---- calls

@@ -8,7 +8,8 @@ use Rattle.sg_facts.specs.declared.entry.Entry.{Entry}
 use Rattle.sg_facts.specs.Facts.{Facts, fun_at}
 use Rattle.sg_facts.specs.Interface.{Declared}
 use Rattle.sg_seat.specs.sg_hist.Clients.{calls_of}
-use Rattle.sg_plain.specs.Calls.{call_after, resolved, resolved_by, script_calls}
+use Rattle.sg_plain.specs.Calls.{call_after, resolved_by, script_calls}
+use Rattle.sg_plain.specs.Inside.Turns.{resolved}
 use Rattle.sg_plain.specs.Promises.{AreFirstCalls}
 use Rattle.sg_script.specs.declared.script.Script.{Script}
 use Rattle.sg_script.specs.declared.script.ScriptCall.{ScriptCall}

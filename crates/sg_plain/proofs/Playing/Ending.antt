@@ -8,9 +8,11 @@ use Rattle.sg_facts.specs.Interface.{Declared}
 use Rattle.sg_facts.specs.Legal.{Table, answer}
 use Rattle.sg_facts.specs.Object.{object_of}
 use Rattle.sg_seat.specs.sg_hist.Clients.{calls_of}
-use Rattle.sg_seat.specs.sg_hist.Recovered.{waiting, waiting_in}
+use Rattle.sg_seat.specs.sg_hist.Recovered.{waiting}
+use Rattle.sg_seat.specs.sg_hist.Inside.Parts.{waiting_in}
 use Rattle.sg_seat.specs.sg_hist.declared.ended.End.TheVariants.{Done, Blocked as Waits}
-use Rattle.sg_plain.specs.Calls.{AreEnds, EachEnd, IsEnd, ascending_from, script_calls}
+use Rattle.sg_plain.specs.Calls.{AreEnds, IsEnd, ascending_from, script_calls}
+use Rattle.sg_plain.specs.Inside.Kept.{EachEnd}
 use Rattle.sg_plain.specs.Promises.{AreFirstCalls}
 use Rattle.sg_script.specs.declared.script.Script.{Script}
 use Rattle.sg_script.specs.declared.script.ScriptCall.{ScriptCall}

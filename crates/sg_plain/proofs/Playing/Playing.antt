@@ -4,7 +4,7 @@ use Rattle.std.specs.declared.option.Option.{Option}
 use Rattle.sg_facts.specs.declared.entry.Entry.{Entry}
 use Rattle.sg_facts.specs.Interface.{Declared}
 use Rattle.sg_seat.specs.sg_hist.Clients.{calls_of}
-use Rattle.sg_seat.specs.sg_hist.Reading.{desc_of}
+use Rattle.sg_seat.specs.sg_hist.Inside.Reads.{desc_of}
 use Rattle.sg_plain.specs.Calls.{call_after}
 use Rattle.sg_plain.specs.Promises.{AreScriptsCalls}
 use Rattle.sg_script.specs.declared.script.Script.{Script}

@@ -3,7 +3,7 @@ use Rattle.std.specs.Prelude.{ℕ, ◌≡◌, ◌+◌, ◌-◌, ◌≤◌, List,
 use Rattle.std.specs.declared.option.Option.{Option}
 use Rattle.sg_facts.specs.declared.entry.Entry.{Entry}
 use Rattle.sg_seat.specs.sg_hist.Clients.{calls_of}
-use Rattle.sg_seat.specs.sg_hist.Reading.{desc_of}
+use Rattle.sg_seat.specs.sg_hist.Inside.Reads.{desc_of}
 use Rattle.sg_plain.specs.Playing.Callers.{handed}
 use Rattle.sg_seat.specs.WorldView.{Seat, seat_in}
 

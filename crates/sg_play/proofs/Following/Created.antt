@@ -18,10 +18,12 @@ use Rattle.sg_facts.specs.declared.trace.Item.{Item}
 use Rattle.sg_facts.specs.declared.trace.Tag.{Tag}
 use Rattle.sg_facts.specs.declared.trace.Tag.TheVariants.{Walk, Load, Client}
 use Rattle.sg_facts.specs.Facts.{Facts, fun_at}
-use Rattle.sg_facts.specs.Object.{Object, file_at, first_text, over, patch_at, patch_of, patched, path_of, place_of, writes}
-use Rattle.sg_facts.specs.Track.{is_live, new_row, row_at, rows_after, track}
+use Rattle.sg_facts.specs.Object.{Object, file_at, first_text, over, patch_of, path_of, place_of}
+use Rattle.sg_facts.specs.Inside.Rows.{patch_at, patched, writes, track}
+use Rattle.sg_facts.specs.Track.{is_live, new_row, row_at, rows_after}
 use Rattle.sg_facts.proofs.RowLists.{row_of_live}
-use Rattle.sg_plain.specs.sg_hist.Reading.{desc_in, id_given, is_made, is_ok, made_by}
+use Rattle.sg_plain.specs.sg_hist.Reading.{desc_in, id_given, is_made, is_ok}
+use Rattle.sg_plain.specs.sg_hist.Inside.Reads.{made_by}
 use Rattle.sg_world.proofs.sg_recovery_laws.Objects.Apart.{makes_row, query_keeps}
 use Rattle.sg_world.proofs.sg_recovery_laws.Objects.Files.{set_other}
 use Rattle.sg_world.proofs.sg_recovery_laws.Objects.Steady.{fewer_after}

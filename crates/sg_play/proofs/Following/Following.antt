@@ -11,9 +11,11 @@ use Rattle.sg_facts.specs.declared.entry.Entry.{Entry}
 use Rattle.sg_facts.specs.Facts.{Facts}
 use Rattle.sg_facts.specs.Trace.{Boot, Run}
 use Rattle.sg_plain.specs.sg_hist.Clients.{calls_of}
-use Rattle.sg_plain.specs.sg_hist.Recovered.{HasItem, stop_in, struck_in}
-use Rattle.sg_plain.specs.Calls.{call_after, most_client, resolved, script_calls}
-use Rattle.sg_plain.specs.Plain.{IsPlainPlay, Stage, left_schedule, next_turn, player_at, stage_after}
+use Rattle.sg_plain.specs.sg_hist.Recovered.{struck_in}
+use Rattle.sg_plain.specs.sg_hist.Inside.Parts.{HasItem, stop_in}
+use Rattle.sg_plain.specs.Calls.{call_after, most_client, script_calls}
+use Rattle.sg_plain.specs.Inside.Turns.{resolved, stage_after}
+use Rattle.sg_plain.specs.Plain.{IsPlainPlay, Stage, left_schedule, next_turn, player_at}
 use Rattle.sg_plain.specs.Promises.{FollowsPlain, is_in_first_boot, up_to_last}
 use Rattle.sg_play.specs.Recovering.{RecoversSoFar}
 use Rattle.sg_play.specs.Turning.{StepsInTurn, behind_step, with_call, with_leaving, with_offer}

@@ -11,8 +11,9 @@ use Rattle.sg_facts.specs.declared.trace.Tag.TheVariants.{Walk, Load, Client}
 use Rattle.sg_facts.specs.Facts.{Facts}
 use Rattle.sg_facts.specs.Trace.{Run}
 use Rattle.sg_plain.specs.sg_hist.Clients.{calls_of}
-use Rattle.sg_plain.specs.sg_hist.Reading.{Position, desc_in, desc_of, id_given, is_by_guard, is_item_of, is_tagged, item_of, places_in, places_of}
-use Rattle.sg_plain.specs.sg_hist.Recovered.{GivesEntry, HasItem}
+use Rattle.sg_plain.specs.sg_hist.Reading.{Position, desc_in, id_given, is_by_guard, is_item_of, is_tagged, item_of, places_in, places_of}
+use Rattle.sg_plain.specs.sg_hist.Inside.Reads.{desc_of}
+use Rattle.sg_plain.specs.sg_hist.Inside.Parts.{GivesEntry, HasItem}
 use Rattle.sg_plain.specs.Promises.{AreFirstCalls}
 use Rattle.sg_world.proofs.sg_world_laws.Items.{IsAmong, among_in, found_passes}
 use Rattle.sg_plain.specs.sg_hist.Growing.{IsOfNoEntry}

@@ -13,7 +13,8 @@ use Rattle.sg_facts.specs.Interface.{Declared}
 use Rattle.sg_facts.specs.Legal.{Table}
 use Rattle.sg_facts.specs.Object.{object_of}
 use Rattle.sg_plain.specs.Calls.{call_after}
-use Rattle.sg_plain.specs.Plain.{IsPlainPlay, PlainPhase, Stage, after_call, after_guard, after_turn, appended, at_phase, blocked, first_stage, handed_over, holding, left_schedule, next_stage, next_turn, player_of, ready, replied, served, stage_after, stage_from, through, turned}
+use Rattle.sg_plain.specs.Plain.{IsPlainPlay, PlainPhase, Stage, appended, at_phase, blocked, first_stage, holding, left_schedule, next_stage, next_turn, player_of, ready, replied, stage_from, through, turned}
+use Rattle.sg_plain.specs.Inside.Turns.{after_call, after_guard, after_turn, handed_over, served, stage_after}
 use Rattle.sg_plain.specs.sg_script.declared.script.Script.{Script}
 
 -- a list begins with another

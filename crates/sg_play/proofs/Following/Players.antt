@@ -9,7 +9,8 @@ use Rattle.sg_facts.specs.declared.entry.Entry.{Entry}
 use Rattle.sg_facts.specs.declared.row.Row.{Row}
 use Rattle.sg_facts.specs.Facts.{Facts}
 use Rattle.sg_plain.specs.Calls.{ascending_from, call_after, script_calls}
-use Rattle.sg_plain.specs.Plain.{Player, after_wakes, blocked, holding, player_at, ready, replied, through, waits_on, woken_phase}
+use Rattle.sg_plain.specs.Plain.{Player, after_wakes, blocked, holding, player_at, ready, replied, through, woken_phase}
+use Rattle.sg_plain.specs.Inside.Turns.{waits_on}
 use Rattle.sg_plain.specs.sg_hist.Wakes.{wakes}
 use Rattle.sg_plain.specs.Playing.Callers.{IsCaller, handed}
 use Rattle.sg_plain.proofs.Playing.Calling.{IsNext, next_of}

@@ -13,14 +13,17 @@ use Rattle.sg_facts.specs.declared.trace.Item.{Item}
 use Rattle.sg_facts.specs.declared.trace.Tag.TheVariants.{Client}
 use Rattle.sg_facts.specs.Facts.{fun_at, is_visible}
 use Rattle.sg_facts.specs.Guard.{guard}
-use Rattle.sg_facts.specs.Legal.{answer, refused_or}
+use Rattle.sg_facts.specs.Legal.{answer}
+use Rattle.sg_facts.specs.Inside.Rows.{refused_or}
 use Rattle.sg_facts.specs.Object.{Object, object_of}
 use Rattle.sg_facts.specs.Trace.{Boot, Run}
 use Rattle.sg_plain.specs.sg_hist.Clients.{calls_of}
-use Rattle.sg_plain.specs.sg_hist.Reading.{after_item, is_by_guard, is_item_of, is_tagged}
-use Rattle.sg_plain.specs.sg_hist.Recovered.{HasItem}
+use Rattle.sg_plain.specs.sg_hist.Reading.{is_by_guard, is_item_of, is_tagged}
+use Rattle.sg_plain.specs.sg_hist.Inside.Reads.{after_item}
+use Rattle.sg_plain.specs.sg_hist.Inside.Parts.{HasItem}
 use Rattle.sg_plain.specs.Calls.{script_calls}
-use Rattle.sg_plain.specs.Plain.{Stage, after_turn, blocked, holding, left_schedule, next_turn, player_at, player_of, replied, stage_after, turned}
+use Rattle.sg_plain.specs.Plain.{Stage, blocked, holding, left_schedule, next_turn, player_at, player_of, replied, turned}
+use Rattle.sg_plain.specs.Inside.Turns.{after_turn, stage_after}
 use Rattle.sg_play.specs.Recovering.{RecoversSoFar}
 use Rattle.sg_plain.specs.Playing.Callers.{handed}
 use Rattle.sg_plain.specs.Playing.Plays.{IsPlaying}

@@ -10,7 +10,7 @@ use Rattle.sg_facts.specs.Facts.{Facts, is_visible}
 use Rattle.sg_facts.specs.Object.{Object}
 use Rattle.sg_facts.specs.Trace.{Boot}
 use Rattle.sg_plain.specs.sg_hist.Reading.{is_by_guard, is_item_of, items_of}
-use Rattle.sg_plain.specs.Plain.{stage_after}
+use Rattle.sg_plain.specs.Inside.Turns.{stage_after}
 use Rattle.sg_plain.specs.Promises.{is_in_first_boot}
 use Rattle.sg_plain.proofs.sg_hist.Growing.{items_booted, items_more, items_struck}
 use Rattle.sg_plain.specs.sg_hist.Growing.{booted, noted, struck}

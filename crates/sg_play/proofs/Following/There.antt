@@ -18,11 +18,14 @@ use Rattle.sg_facts.specs.declared.trace.Item.{Item}
 use Rattle.sg_facts.specs.declared.trace.Tag.TheVariants.{Walk, Load, Client}
 use Rattle.sg_facts.specs.Alike.{SameFile}
 use Rattle.sg_facts.specs.Facts.{Facts, fun_at, is_visible}
-use Rattle.sg_facts.specs.Object.{Object, file_at, first_text, object_of, patch_of, path_of, writes}
+use Rattle.sg_facts.specs.Object.{Object, file_at, first_text, object_of, patch_of, path_of}
+use Rattle.sg_facts.specs.Inside.Rows.{writes}
 use Rattle.sg_facts.specs.Track.{is_live, row_at}
 use Rattle.sg_facts.proofs.RowLists.{live_of_row}
-use Rattle.sg_plain.specs.sg_hist.Reading.{Position, desc_of, id_given, is_by_guard, is_item_of, is_made, is_ok, is_tagged, item_of, made_by, names_at, object_before, service_call, stands_before, value_at}
-use Rattle.sg_plain.specs.sg_hist.Recovered.{AskedAs, GivesEntry, HasItem, IsByTable, IsCallOfRow, IsDemanded, IsLoadedFor, IsRenamed, IsReplyOf, IsTracked, IsTrackedAt, IsWalked, Stubs, is_patch_at, is_replied}
+use Rattle.sg_plain.specs.sg_hist.Reading.{Position, id_given, is_by_guard, is_item_of, is_made, is_ok, is_tagged, item_of, names_at, object_before, service_call, stands_before, value_at}
+use Rattle.sg_plain.specs.sg_hist.Inside.Reads.{desc_of, made_by}
+use Rattle.sg_plain.specs.sg_hist.Recovered.{IsByTable, IsLoadedFor, IsRenamed, IsReplyOf, IsTracked, Stubs, is_replied}
+use Rattle.sg_plain.specs.sg_hist.Inside.Parts.{AskedAs, GivesEntry, HasItem, IsCallOfRow, IsDemanded, IsTrackedAt, IsWalked, is_patch_at}
 use Rattle.sg_plain.specs.sg_hist.Growing.{IsNextItem, IsOfNoEntry}
 use Rattle.sg_world.proofs.sg_recovery_laws.Given.{is_numbered, made_visible}
 use Rattle.sg_plain.proofs.sg_hist.Growing.{entries_before-not_yet, object_of-more, places-more}

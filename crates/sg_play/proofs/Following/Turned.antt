@@ -12,7 +12,8 @@ use Rattle.sg_facts.specs.Interface.{Declared}
 use Rattle.sg_facts.specs.Legal.{Table}
 use Rattle.sg_facts.specs.Object.{object_of}
 use Rattle.sg_plain.specs.Calls.{call_after, script_calls}
-use Rattle.sg_plain.specs.Plain.{PlainPhase, Player, Stage, after_call, after_guard, appended, at_phase, blocked, gone_on, handed_over, holding, player_at, player_of, ready, replied, served, through, turned}
+use Rattle.sg_plain.specs.Plain.{PlainPhase, Player, Stage, appended, at_phase, blocked, gone_on, holding, player_at, player_of, ready, replied, through, turned}
+use Rattle.sg_plain.specs.Inside.Turns.{after_call, after_guard, handed_over, served}
 use Rattle.sg_plain.specs.Playing.Callers.{AreCallers, IsCaller, handed, is_receipted}
 use Rattle.sg_plain.specs.Playing.Turns.{is_free_phase}
 use Rattle.sg_plain.proofs.sg_seat.Lines.{length_map}

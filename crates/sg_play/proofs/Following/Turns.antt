@@ -6,7 +6,8 @@ use Rattle.sg_facts.specs.sg_base.declared.call.Call.{Call}
 use Rattle.sg_facts.specs.sg_base.declared.reply.Reply.{Reply}
 use Rattle.sg_facts.specs.Interface.{Declared}
 use Rattle.sg_plain.specs.Calls.{call_after, script_calls}
-use Rattle.sg_plain.specs.Plain.{Player, is_under_way, may_turn, player_of, ready, through}
+use Rattle.sg_plain.specs.Plain.{Player, may_turn, player_of, ready, through}
+use Rattle.sg_plain.specs.Inside.Turns.{is_under_way}
 use Rattle.sg_plain.specs.Playing.Callers.{IsCaller, is_setting_up}
 use Rattle.sg_plain.specs.Playing.Plays.{IsPlaying}
 use Rattle.sg_plain.specs.Playing.Turns.{may_go, may_take_turn}

@@ -6,7 +6,8 @@ use Rattle.std.proofs.lemmas.Bool.{and_parts, cases_lt}
 use Rattle.std.proofs.lemmas.Bool.Decides.{nat_tests}
 use Rattle.sg_facts.specs.Interface.{Declared}
 use Rattle.sg_plain.specs.Calls.{ascending_from}
-use Rattle.sg_plain.specs.Plain.{Stage, left_after_first, first_of, in_a_circle, left_schedule, may_turn, next_turn, player_of, some_or}
+use Rattle.sg_plain.specs.Plain.{Stage, left_after_first, left_schedule, may_turn, next_turn, player_of}
+use Rattle.sg_plain.specs.Inside.Turns.{first_of, in_a_circle, some_or}
 use Rattle.sg_plain.specs.Playing.Callers.{is_setting_up}
 use Rattle.sg_plain.specs.Playing.Plays.{IsPlaying}
 use Rattle.sg_plain.specs.Playing.Turns.{NobodyGoes}

@@ -9,7 +9,8 @@ use Rattle.sg_facts.specs.declared.trace.Tag.{Tag}
 use Rattle.sg_facts.specs.declared.trace.Tag.TheVariants.{Walk, Load, Client}
 use Rattle.sg_facts.specs.Facts.{Facts}
 use Rattle.sg_plain.specs.sg_hist.Reading.{Position, is_tagged, places_in}
-use Rattle.sg_plain.specs.Promises.{IsWokenBetween, is_woken_first}
+use Rattle.sg_plain.specs.Promises.{is_woken_first}
+use Rattle.sg_plain.specs.Inside.Kept.{IsWokenBetween}
 use Rattle.sg_plain.specs.sg_hist.Wakes.{has_blocked, wakes_at}
 use Rattle.sg_plain.proofs.sg_hist.Growing.{in_boot, in_older}
 use Rattle.sg_plain.specs.sg_hist.Growing.{AreGrown, IsGrown}

@@ -6,7 +6,7 @@ use Rattle.sg_facts.specs.declared.trace.Item.{Item}
 use Rattle.sg_facts.specs.Facts.{Facts}
 use Rattle.sg_facts.specs.Trace.{Boot}
 use Rattle.sg_plain.specs.sg_hist.Reading.{Position, is_tagged, items_of, last_items, older_items, places_from, places_in}
-use Rattle.sg_plain.specs.Promises.{IsWokenBetween}
+use Rattle.sg_plain.specs.Inside.Kept.{IsWokenBetween}
 use Rattle.sg_plain.specs.sg_hist.Wakes.{has_blocked, wakes_at}
 use Rattle.sg_plain.proofs.sg_hist.Growing.{items_more}
 use Rattle.sg_world.proofs.sg_recovery_laws.Lists.{each_append, each_split}

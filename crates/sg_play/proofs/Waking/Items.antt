@@ -9,7 +9,7 @@ use Rattle.sg_facts.specs.declared.trace.Item.{Item}
 use Rattle.sg_facts.specs.Facts.{Facts}
 use Rattle.sg_facts.specs.Trace.{Run}
 use Rattle.sg_plain.specs.sg_hist.Reading.{Position, is_by_guard, is_item_of, item_of, last_items, older_items, places_of}
-use Rattle.sg_plain.specs.sg_hist.Recovered.{GivesEntry, HasItem}
+use Rattle.sg_plain.specs.sg_hist.Inside.Parts.{GivesEntry, HasItem}
 use Rattle.sg_world.proofs.sg_recovery_laws.Lists.{each_map}
 use Rattle.sg_world.proofs.sg_recovery_laws.Served.{Has, each_reverse, found_has}
 use Rattle.sg_world.specs.sg_recovery_laws.LastItem.LastPlace.{HaveItems}

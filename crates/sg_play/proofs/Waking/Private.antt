@@ -13,9 +13,10 @@ use Rattle.sg_facts.specs.declared.row.Row.{Row}
 use Rattle.sg_facts.specs.Facts.{Facts, Fun, fun_at, no_fun, takes_desc, takes_parent}
 use Rattle.sg_facts.specs.Guard.{guard}
 use Rattle.sg_facts.specs.Interface.{Declared}
-use Rattle.sg_facts.specs.Legal.{LegalFrom, Table, answer, refused_or}
-use Rattle.sg_facts.specs.Object.{Object, after, empty_object, object_from, object_of}
-use Rattle.sg_facts.specs.Track.{is_ancestor, nearest, new_row, parent_in, row_at, rows_after}
+use Rattle.sg_facts.specs.Legal.{LegalFrom, Table, answer}
+use Rattle.sg_facts.specs.Inside.Rows.{refused_or, object_from, parent_in}
+use Rattle.sg_facts.specs.Object.{Object, after, empty_object, object_of}
+use Rattle.sg_facts.specs.Track.{is_ancestor, nearest, new_row, row_at, rows_after}
 use Rattle.sg_world.proofs.sg_recovery_laws.Objects.Apart.{IsOwnRow, changes_row, ends_rows, makes_row, query_keeps}
 use Rattle.sg_world.proofs.sg_recovery_laws.Objects.Changed.{change_at, same_parent_at}
 use Rattle.sg_world.proofs.sg_recovery_laws.Objects.Commute.{given_with, same_creator_at, same_id_at}

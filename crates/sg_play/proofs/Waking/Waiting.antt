@@ -14,12 +14,13 @@ use Rattle.sg_facts.specs.Facts.{Facts}
 use Rattle.sg_facts.specs.Guard.{guard}
 use Rattle.sg_facts.specs.Interface.{Declared}
 use Rattle.sg_facts.specs.Legal.{LegalFrom, Table, answer}
-use Rattle.sg_facts.specs.Object.{Object, after, object_from, object_of}
+use Rattle.sg_facts.specs.Object.{Object, after, object_of}
+use Rattle.sg_facts.specs.Inside.Rows.{object_from}
 use Rattle.sg_facts.specs.Trace.{Boot}
 use Rattle.sg_plain.specs.sg_hist.Reading.{Position, is_by_guard, is_item_of, is_tagged, last_items, older_items, places_from, last_places}
 use Rattle.sg_plain.specs.sg_hist.Recovered.{is_clients}
 use Rattle.sg_plain.specs.sg_hist.Wakes.{has_blocked, wakes, wakes_at}
-use Rattle.sg_plain.specs.Promises.{IsWokenBetween}
+use Rattle.sg_plain.specs.Inside.Kept.{IsWokenBetween}
 use Rattle.sg_play.specs.Recovering.{RecoversSoFar}
 use Rattle.sg_plain.proofs.sg_seat.Lines.{same_or_other}
 use Rattle.sg_plain.specs.Playing.Callers.{IsCaller}
@@ -43,7 +44,7 @@ use Rattle.sg_world.proofs.sg_world_laws.Ending.Wakers.{wakes_entered, wakes_las
 use Rattle.sg_play.proofs.Waking.Woken.{Moves, all_noted, goes_on_waits, moves_free, moves_same, other_made, other_waits, seat_booted, seat_moved, seat_noted, seat_struck, seat_woken_by, stub_made, stub_waits}
 use Rattle.sg_play.specs.Waking.Waking.{AreWokenSoFar, IsMadeSoFar, IsWokenSeat, IsWokenSince, is_asking, no_query_waits}
 use Rattle.sg_world.specs.sg_world_laws.Ending.{EachSeat}
-use Rattle.sg_plain.specs.sg_hist.Ending.{waking_entries}
+use Rattle.sg_plain.specs.sg_hist.Inside.Parts.{waking_entries}
 use Rattle.sg_world.proofs.sg_world_laws.Refusing.{by_the_guard}
 use Rattle.sg_world.specs.sg_world_laws.Setting.{Setting}
 

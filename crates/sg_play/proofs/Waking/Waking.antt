@@ -10,9 +10,10 @@ use Rattle.sg_facts.specs.Object.{empty_object}
 use Rattle.sg_facts.specs.sg_base.Lists.{Each}
 use Rattle.sg_plain.specs.sg_hist.Clients.{calls_of}
 use Rattle.sg_plain.specs.sg_hist.Reading.{places_from}
-use Rattle.sg_plain.specs.sg_hist.Ending.{waking_entries}
+use Rattle.sg_plain.specs.sg_hist.Inside.Parts.{waking_entries}
 use Rattle.sg_plain.specs.Calls.{call_after, script_calls}
-use Rattle.sg_plain.specs.Promises.{AreWoken, IsWokenBetween}
+use Rattle.sg_plain.specs.Promises.{AreWoken}
+use Rattle.sg_plain.specs.Inside.Kept.{IsWokenBetween}
 use Rattle.sg_play.specs.Recovering.{RecoversSoFar}
 use Rattle.sg_play.specs.Turning.{StepsInTurn, behind_step, with_call, with_offer}
 use Rattle.sg_plain.proofs.Playing.Calling.{next_of}

@@ -13,7 +13,7 @@ use Rattle.sg_facts.specs.Facts.{Facts}
 use Rattle.sg_facts.specs.Trace.{Boot}
 use Rattle.sg_plain.specs.sg_hist.Reading.{Position, is_tagged, last_items, older_items, places_from, places_in, last_places}
 use Rattle.sg_plain.specs.sg_hist.Recovered.{is_clients, is_replied}
-use Rattle.sg_plain.specs.Promises.{IsWokenBetween}
+use Rattle.sg_plain.specs.Inside.Kept.{IsWokenBetween}
 use Rattle.sg_plain.specs.sg_hist.Wakes.{has_blocked, wakes_at}
 use Rattle.sg_world.proofs.sg_recovery_laws.Lists.{each_map, each_push}
 use Rattle.sg_plain.specs.sg_hist.Growing.{IsGrown, booted, noted, struck}

@@ -10,8 +10,9 @@ use Rattle.sg_facts.specs.Object.{Object, file_at, object_of}
 use Rattle.sg_facts.specs.Trace.{Boot}
 use Rattle.sg_facts.specs.Track.{is_live}
 use Rattle.sg_plain.specs.sg_hist.Reading.{is_made}
-use Rattle.sg_plain.specs.sg_hist.Recovered.{is_patch_at}
-use Rattle.sg_plain.specs.Plain.{Stage, stage_after}
+use Rattle.sg_plain.specs.sg_hist.Inside.Parts.{is_patch_at}
+use Rattle.sg_plain.specs.Plain.{Stage}
+use Rattle.sg_plain.specs.Inside.Turns.{stage_after}
 use Rattle.sg_plain.specs.Promises.{is_in_first_boot}
 use Rattle.sg_plain.specs.sg_script.declared.script.Script.{Script}
 use Rattle.sg_plain.specs.sg_seat.WorldView.{Seat, WorldView, seat_in}

@@ -9,8 +9,8 @@ use Rattle.sg_facts.specs.declared.trace.Tag.TheVariants.{Walk, Load, Client}
 use Rattle.sg_facts.specs.Facts.{Facts}
 use Rattle.sg_facts.specs.Trace.{Boot}
 use Rattle.sg_plain.specs.sg_hist.Reading.{last_places, Position, is_tagged, last_items, places_from, places_in}
-use Rattle.sg_plain.specs.sg_hist.Ending.{waking_entries}
-use Rattle.sg_plain.specs.Promises.{IsWokenBetween}
+use Rattle.sg_plain.specs.sg_hist.Inside.Parts.{waking_entries}
+use Rattle.sg_plain.specs.Inside.Kept.{IsWokenBetween}
 use Rattle.sg_plain.specs.sg_hist.Wakes.{has_blocked, wakes_at}
 use Rattle.sg_plain.specs.sg_seat.WorldView.{Seat, WorldView, is_held_phase, is_offered}
 use Rattle.sg_plain.specs.sg_seat.declared.phase.Phase.{Phase}

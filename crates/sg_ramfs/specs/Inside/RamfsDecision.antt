@@ -21,7 +21,8 @@ use Rattle.sg_ramfs.specs.declared.plan.WritePlan.{WritePlan}
 use Rattle.sg_ramfs.specs.declared.plan.WritePlan.TheVariants.{Refuse as RefuseWrite, Move, Put}
 use Rattle.sg_ramfs.specs.declared.moves.Moved.{Moved}
 use Rattle.sg_ramfs.specs.declared.moves.Moved.TheVariants.{Done, Stopped as MoveStopped, NoMemory as NoMoveMemory}
-use Rattle.sg_ramfs.specs.RamfsTable.{is_bad_name, most_read}
+use Rattle.sg_ramfs.specs.RamfsTable.{is_bad_name}
+use Rattle.sg_ramfs.specs.Inside.RamfsAnswer.{most_read}
 use Rattle.sg_ramfs.specs.Inside.RamfsTree.{tree_rows}
 
 -- ---- decisions

@@ -6,9 +6,10 @@ use Rattle.std.specs.declared.option.Option.{Option}
 use Rattle.std.proofs.lemmas.Bool.Decides.{eqb_tells}
 use Rattle.std.proofs.lemmas.Grind.{flat_map-append, reverse_onto}
 use Rattle.sg_facts.specs.declared.row.Row.{Row}
-use Rattle.sg_facts.specs.Object.{first_text, path_of, step_to}
+use Rattle.sg_facts.specs.Object.{first_text, path_of}
+use Rattle.sg_facts.specs.Inside.Rows.{step_to, has_child, parent_in}
 use Rattle.sg_facts.specs.Sound.{AreRows}
-use Rattle.sg_facts.specs.Track.{has_child, nearest, parent_in, row_at}
+use Rattle.sg_facts.specs.Track.{nearest, row_at}
 use Rattle.sg_facts.proofs.RowLists.{id_of_row, none_pass, row_at-left}
 use Rattle.sg_facts.proofs.Replaying.Found.{above, from_map, last_found, met, other_test, same_test, to_map}
 

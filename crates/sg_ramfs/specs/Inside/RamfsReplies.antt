@@ -13,9 +13,9 @@ use Rattle.sg_facts.specs.Legal.{done}
 use Rattle.sg_facts.specs.Limits.{most_file, most_path}
 use Rattle.sg_facts.specs.Object.{Object, first_text, path_of, place_of}
 use Rattle.sg_facts.specs.Track.{arg_at, row_at, word_of}
-use Rattle.sg_ramfs.specs.RamfsFacts.{ramfs_facts, tread, twrite}
-use Rattle.sg_ramfs.specs.RamfsTable.{file_of, is_bad_name, most_read, moved, ramfs_table, read_answer, seek_answer, split_answer, write_answer}
-use Rattle.sg_ramfs.specs.Inside.RamfsAnswer.{ramfs_answer}
+use Rattle.sg_ramfs.specs.RamfsFacts.{ramfs_facts}
+use Rattle.sg_ramfs.specs.Inside.RamfsAnswer.{tread, twrite, most_read, read_answer, seek_answer, split_answer, write_answer}
+use Rattle.sg_ramfs.specs.RamfsTable.{file_of, is_bad_name, moved, ramfs_table, ramfs_answer}
 
 -- a reply, which is no refusal of the guard's, and has a word where one is wanted
 abbrev pub IsGiven : Bool → Option Reply → Type 0

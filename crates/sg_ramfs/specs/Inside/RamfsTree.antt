@@ -4,7 +4,7 @@ use Rattle.sg_facts.specs.declared.row.Row.{Row}
 use Rattle.sg_facts.specs.Limits.{most_path}
 use Rattle.sg_facts.specs.Object.{path_of}
 use Rattle.sg_facts.specs.Sound.{AreRows}
-use Rattle.sg_facts.specs.Track.{has_child}
+use Rattle.sg_facts.specs.Inside.Rows.{has_child}
 use Rattle.sg_slots.specs.declared.decision.Decision.{Decision}
 use Rattle.sg_slots.specs.declared.decision.Decision.TheVariants.{Make, Set, Remove}
 use Rattle.sg_slots.specs.Slots.{AreIds, Held, entry_at, rows_of}

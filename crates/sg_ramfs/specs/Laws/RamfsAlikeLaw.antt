@@ -13,20 +13,21 @@ use Rattle.sg_facts.specs.Facts.{fun_at}
 use Rattle.sg_facts.specs.Laws.{AnswersAlike, Passes}
 use Rattle.sg_facts.specs.Legal.{done}
 use Rattle.sg_facts.specs.Limits.{most_file, most_path}
-use Rattle.sg_facts.specs.Object.{Object, file_at, first_text, path_of, place_in, place_of, step_to}
+use Rattle.sg_facts.specs.Object.{Object, file_at, first_text, path_of, place_in, place_of}
+use Rattle.sg_facts.specs.Inside.Rows.{step_to, parent_in}
 use Rattle.sg_facts.specs.Sound.{AreRows, IsRow}
-use Rattle.sg_facts.specs.Track.{arg_at, is_ancestor, nearest, parent_in, row_at, word_of}
+use Rattle.sg_facts.specs.Track.{arg_at, is_ancestor, nearest, row_at, word_of}
 use Rattle.sg_facts.proofs.RowLists.{id_of_row, row_of_live}
 use Rattle.sg_slots.proofs.RowLaws.{alike_row, row_of_call, same_done}
 use Rattle.sg_slots.proofs.SoundRows.{none_applies}
 use Rattle.sg_facts.proofs.Replaying.Found.{above, met, other_test, same_test}
 use Rattle.sg_facts.proofs.Replaying.Above.{one_above}
-use Rattle.sg_ramfs.specs.RamfsFacts.{ramfs_facts, tread, twrite}
+use Rattle.sg_ramfs.specs.RamfsFacts.{ramfs_facts}
+use Rattle.sg_ramfs.specs.Inside.RamfsAnswer.{tread, twrite, most_read, read_answer, seek_answer, split_answer, write_answer}
 use Rattle.sg_ramfs.specs.Inside.RamfsPaths.{IsBelow, SameStep, below, no_path, same_path}
 use Rattle.sg_ramfs.specs.RamfsSound.{IsRamfsSound}
 use Rattle.sg_ramfs.specs.Laws.RamfsSoundLaw.{parent_lives, parent_row, rows_below}
-use Rattle.sg_ramfs.specs.RamfsTable.{file_of, is_bad_name, most_read, moved, ramfs_table, read_answer, seek_answer, split_answer, write_answer}
-use Rattle.sg_ramfs.specs.Inside.RamfsAnswer.{ramfs_answer}
+use Rattle.sg_ramfs.specs.RamfsTable.{file_of, is_bad_name, moved, ramfs_table, ramfs_answer}
 
 -- ---- answers that say the same
 

@@ -18,7 +18,8 @@ use Rattle.sg_facts.specs.Laws.{CountsSlowly, ShapeAllows, most_set, slow}
 use Rattle.sg_facts.specs.Limits.{most_file}
 use Rattle.sg_facts.specs.Object.{Object, after}
 use Rattle.sg_facts.specs.Sound.{AreFields, AreRows, IsRow}
-use Rattle.sg_facts.specs.Track.{arg_at, field_at, new_row, row_after, word_of}
+use Rattle.sg_facts.specs.Track.{arg_at, field_at, new_row, word_of}
+use Rattle.sg_facts.specs.Inside.Rows.{row_after}
 use Rattle.sg_facts.proofs.RowLists.{both}
 use Rattle.sg_ramfs.specs.RamfsFacts.{ramfs_facts}
 use Rattle.sg_ramfs.specs.Inside.RamfsReplies.{IsGiven, always_answered, is_given}

@@ -14,11 +14,12 @@ use Rattle.sg_facts.specs.sg_base.declared.reply.Good.{Good}
 use Rattle.sg_facts.specs.sg_base.declared.reply.Reply.TheVariants.{Ok, Refused}
 use Rattle.sg_facts.specs.declared.row.Row.{Row}
 use Rattle.sg_facts.specs.Facts.{Field, fun_at}
-use Rattle.sg_facts.specs.Guard.{is_own}
+use Rattle.sg_facts.specs.Inside.Guards.{is_own}
 use Rattle.sg_facts.specs.Kinds.{AreWords, kinds_fit}
 use Rattle.sg_facts.specs.Limits.{most_file, most_path}
-use Rattle.sg_facts.specs.Track.{row_at, is_live, has_child, ends_with, row_after, new_row, arg_at, field_at, fields_after, first_word, word_of}
-use Rattle.sg_facts.specs.Object.{Object, after, file_at, first_text, over, path_of, patch_at, patched, place_of, set_file}
+use Rattle.sg_facts.specs.Track.{row_at, is_live, ends_with, new_row, arg_at, field_at, fields_after, first_word, word_of}
+use Rattle.sg_facts.specs.Inside.Rows.{has_child, row_after, patch_at, patched}
+use Rattle.sg_facts.specs.Object.{Object, after, file_at, first_text, over, path_of, place_of, set_file}
 use Rattle.sg_facts.specs.Sound.{AreFields, AreRows, IsOfField, IsRow, IsSound}
 use Rattle.sg_facts.specs.Laws.{AnswersAndKeeps, Passes}
 use Rattle.sg_facts.proofs.RowLists.{more, changed, id_of_row, is_live-more, live_of_row}
@@ -28,11 +29,11 @@ use Rattle.sg_slots.proofs.SoundRows.{change, change_id, none_applies, sound_mor
 use Rattle.sg_facts.proofs.Replaying.Creating.{below_it}
 use Rattle.sg_facts.proofs.Replaying.Files.{are_files_patched}
 use Rattle.sg_facts.proofs.Replaying.Found.{above, from_left, met, within}
-use Rattle.sg_ramfs.specs.RamfsFacts.{ramfs_facts, tread, twrite}
+use Rattle.sg_ramfs.specs.RamfsFacts.{ramfs_facts}
+use Rattle.sg_ramfs.specs.Inside.RamfsAnswer.{tread, twrite, most_read, read_answer, seek_answer, split_answer, write_answer}
 use Rattle.sg_ramfs.specs.Inside.RamfsPaths.{IsBelow, path_changed, path_last, path_left, path_more}
 use Rattle.sg_ramfs.specs.RamfsSound.{IsFile, IsPlaced, IsRamfsSound}
-use Rattle.sg_ramfs.specs.RamfsTable.{file_of, is_bad_name, moved, most_read, ramfs_table, read_answer, seek_answer, split_answer, write_answer}
-use Rattle.sg_ramfs.specs.Inside.RamfsAnswer.{ramfs_answer}
+use Rattle.sg_ramfs.specs.RamfsTable.{file_of, is_bad_name, moved, ramfs_table, ramfs_answer}
 
 -- ---- what an Ok tells
 

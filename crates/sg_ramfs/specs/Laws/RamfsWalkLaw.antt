@@ -15,13 +15,14 @@ use Rattle.sg_facts.specs.Interface.{Declared, has_pair}
 use Rattle.sg_facts.specs.Kinds.{kinds_fit}
 use Rattle.sg_facts.specs.Laws.{WalkGoesOn, next_call}
 use Rattle.sg_facts.specs.Limits.{most_file, most_path}
-use Rattle.sg_facts.specs.Object.{Object}
+use Rattle.sg_facts.specs.Object.{Object, first_text, path_of}
 use Rattle.sg_facts.specs.Sound.{AreFields, IsRow}
-use Rattle.sg_facts.specs.Track.{empty_field, field_at, fields_after, row_at, word_of}
+use Rattle.sg_facts.specs.Track.{field_at, fields_after, row_at, word_of}
+use Rattle.sg_facts.specs.Inside.Rows.{empty_field}
 use Rattle.sg_facts.specs.sg_base.declared.reply.Code.TheVariants.{BadName, TooBig}
-use Rattle.sg_facts.specs.Object.{first_text, path_of}
 use Rattle.sg_ramfs.specs.RamfsFacts.{ramfs_facts}
-use Rattle.sg_ramfs.specs.RamfsTable.{is_bad_name, ramfs_table, seek_answer, split_answer}
+use Rattle.sg_ramfs.specs.RamfsTable.{is_bad_name, ramfs_table}
+use Rattle.sg_ramfs.specs.Inside.RamfsAnswer.{seek_answer, split_answer}
 use Rattle.sg_ramfs.specs.RamfsSound.{IsPlaced, IsRamfsSound}
 use Rattle.sg_ramfs.specs.Laws.RamfsSoundLaw.{ramfs_answers_and_keeps}
 use Rattle.sg_slots.proofs.RowLaws.{first_makes, one_pair}

@@ -11,7 +11,8 @@ use Rattle.sg_facts.specs.declared.row.Row.{Row}
 use Rattle.sg_facts.specs.declared.tables.WalkLine.{WalkLine}
 use Rattle.sg_facts.specs.declared.trace.Item.{Item}
 use Rattle.sg_facts.specs.Facts.{Facts}
-use Rattle.sg_facts.specs.Object.{Object, after, object_from, object_of, empty_object}
+use Rattle.sg_facts.specs.Object.{Object, after, object_of, empty_object}
+use Rattle.sg_facts.specs.Inside.Rows.{object_from}
 use Rattle.sg_facts.specs.Track.{row_at}
 use Rattle.sg_hist.specs.Reading.{is_by_guard, is_item_of, is_made, is_whole_at, object_before, places_in, stands_before}
 use Rattle.sg_hist.specs.Growing.{IsOfNoEntry}

@@ -18,8 +18,9 @@ use Rattle.sg_facts.specs.declared.trace.Tag.TheVariants.{Client}
 use Rattle.sg_facts.specs.Alike.{named}
 use Rattle.sg_facts.specs.Facts.{Facts, fun_at}
 use Rattle.sg_facts.specs.Track.{is_live}
-use Rattle.sg_hist.specs.Reading.{Position, ends_walk, entries_before, desc_in, id_given, is_made, is_item_of, is_ok, is_rebuilt_at, made_by, names_at, names_in, pair_of, places_in, stands_before}
-use Rattle.sg_hist.specs.Recovered.{is_patch_at, is_walk_of}
+use Rattle.sg_hist.specs.Reading.{Position, desc_in, id_given, is_made, is_item_of, is_ok, names_at, pair_of, places_in, stands_before}
+use Rattle.sg_hist.specs.Inside.Reads.{ends_walk, entries_before, is_rebuilt_at, made_by, names_in}
+use Rattle.sg_hist.specs.Inside.Parts.{is_patch_at, is_walk_of}
 use Rattle.sg_hist.specs.Growing.{IsGrown, IsOfNoEntry, IsSameId}
 use Rattle.sg_recovery_laws.proofs.Given.{is_numbered, made_same, names_same}
 use Rattle.sg_hist.proofs.Growing.{entries_before-more, in_boot, names_at-more, stands_before-own}

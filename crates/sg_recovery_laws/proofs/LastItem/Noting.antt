@@ -20,8 +20,10 @@ use Rattle.sg_facts.specs.Sound.{IsRow, IsSound}
 use Rattle.sg_facts.specs.Track.{is_live, row_at}
 use Rattle.sg_facts.specs.Walks.{replayed_call}
 use Rattle.sg_facts.proofs.RowLists.{live_of_row}
-use Rattle.sg_hist.specs.Reading.{Position, is_by_guard, is_made, is_item_of, is_rebuilt_at, is_whole_at, names_at, object_before, places_in, stands_before, value_at, walk_in}
-use Rattle.sg_hist.specs.Recovered.{IsAdmitted, IsAlikeTo, IsCallOf, IsCallOfRow, IsOkOrStopped, IsLoadedFor, IsTracked, IsUnderWay as IsMade, is_answered_before, is_answered_later, call_in, is_walk_of, item_of_load}
+use Rattle.sg_hist.specs.Reading.{Position, is_by_guard, is_made, is_item_of, is_whole_at, names_at, object_before, places_in, stands_before, value_at, walk_in}
+use Rattle.sg_hist.specs.Inside.Reads.{is_rebuilt_at}
+use Rattle.sg_hist.specs.Recovered.{IsAdmitted, IsCallOf, IsLoadedFor, IsTracked, IsUnderWay as IsMade, is_answered_later, item_of_load}
+use Rattle.sg_hist.specs.Inside.Parts.{IsAlikeTo, IsCallOfRow, IsOkOrStopped, is_answered_before, call_in, is_walk_of}
 use Rattle.sg_hist.specs.Growing.{IsOfNoEntry}
 use Rattle.sg_recovery_laws.specs.Midway.Progress.{Told, fresh, begun, complete, TellsCalls, IsNone, is_complete}
 use Rattle.sg_recovery_laws.specs.LastItem.Told.{IsRead}

@@ -18,16 +18,18 @@ use Rattle.sg_facts.specs.declared.shape.Effect.{Effect}
 use Rattle.sg_facts.specs.Allowed.{is_allowed, is_text_field}
 use Rattle.sg_facts.specs.Facts.{Field, fun_at}
 use Rattle.sg_facts.specs.Fits.{Fits}
-use Rattle.sg_facts.specs.Guard.{guard, in_state}
+use Rattle.sg_facts.specs.Guard.{guard}
+use Rattle.sg_facts.specs.Inside.Guards.{in_state}
 use Rattle.sg_facts.specs.Held.{AreReachable, set_of}
 use Rattle.sg_facts.specs.Interface.{Declared, declares, moves_on}
 use Rattle.sg_facts.specs.Kinds.{IsCall}
 use Rattle.sg_facts.specs.Laws.{AnswersAndKeeps, CountsSlowly, slow}
-use Rattle.sg_facts.specs.Legal.{LegalFrom, Table, answer, refused_or}
+use Rattle.sg_facts.specs.Legal.{LegalFrom, Table, answer}
+use Rattle.sg_facts.specs.Inside.Rows.{refused_or, object_from, row_after}
 use Rattle.sg_facts.specs.Limits.{end_of_counts}
-use Rattle.sg_facts.specs.Object.{Object, after, empty_object, object_from, object_of}
+use Rattle.sg_facts.specs.Object.{Object, after, empty_object, object_of}
 use Rattle.sg_facts.specs.Sound.{AreFields, AreRows, IsRow, IsSound}
-use Rattle.sg_facts.specs.Track.{ends_with, field_at, new_row, row_after, row_at, rows_after}
+use Rattle.sg_facts.specs.Track.{ends_with, field_at, new_row, row_at, rows_after}
 use Rattle.sg_facts.specs.Walks.{IsReachable, effect_on}
 use Rattle.sg_facts.proofs.RowLists.{changed}
 use Rattle.sg_facts.proofs.Replaying.Found.{all_found, met}

@@ -19,8 +19,9 @@ use Rattle.sg_facts.specs.Alike.{named}
 use Rattle.sg_facts.specs.Facts.{Facts, fun_at}
 use Rattle.sg_facts.specs.Laws.{names_after}
 use Rattle.sg_facts.specs.Track.{is_live, row_at}
-use Rattle.sg_hist.specs.Reading.{ends_walk, has_length, id_given, is_made, is_ok, is_rebuilt_at, made_by, names_at, names_in, object_before, pair_of, places_in, walk_in}
-use Rattle.sg_hist.specs.Recovered.{is_patch_at, is_walk_of}
+use Rattle.sg_hist.specs.Reading.{id_given, is_made, is_ok, names_at, object_before, pair_of, places_in, walk_in}
+use Rattle.sg_hist.specs.Inside.Reads.{ends_walk, has_length, is_rebuilt_at, made_by, names_in}
+use Rattle.sg_hist.specs.Inside.Parts.{is_patch_at, is_walk_of}
 use Rattle.sg_hist.specs.Growing.{IsOfNoEntry}
 use Rattle.sg_hist.proofs.Growing.{entries_before-more, in_boot, names_at-more}
 use Rattle.sg_recovery_laws.proofs.Same.{any_rebuilt}

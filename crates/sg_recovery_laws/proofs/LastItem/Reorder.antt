@@ -19,8 +19,10 @@ use Rattle.sg_facts.specs.Facts.{Facts, fun_at, is_visible}
 use Rattle.sg_facts.specs.Object.{object_of}
 use Rattle.sg_facts.specs.Trace.{Run}
 use Rattle.sg_hist.specs.Clients.{calls_of}
-use Rattle.sg_hist.specs.Reading.{Position, items_after, desc_in, entries_before, id_given, is_by_guard, is_made, is_item_of, is_ok, is_rebuilt_at, item_of, made_by, names_at, names_in, pair_of, places_in, places_of, stands_before}
-use Rattle.sg_hist.specs.Recovered.{AreInOrder, ComeBefore, HasItem, IsCommitted, IsDemanded, IsItsCall, IsTrackedAt, IsUnderWay, IsWalked, Stubs, calls_made, is_answered_later, is_entered, is_visible_reply}
+use Rattle.sg_hist.specs.Reading.{Position, items_after, desc_in, id_given, is_by_guard, is_made, is_item_of, is_ok, item_of, names_at, pair_of, places_in, places_of, stands_before}
+use Rattle.sg_hist.specs.Inside.Reads.{entries_before, is_rebuilt_at, made_by, names_in}
+use Rattle.sg_hist.specs.Recovered.{AreInOrder, IsUnderWay, Stubs, is_answered_later, is_entered, is_visible_reply}
+use Rattle.sg_hist.specs.Inside.Parts.{ComeBefore, HasItem, IsCommitted, IsDemanded, IsItsCall, IsTrackedAt, IsWalked, calls_made}
 use Rattle.sg_hist.specs.Growing.{IsLastCall, IsRecovering}
 use Rattle.sg_recovery_laws.proofs.Lists.{each_append, each_both, each_map, each_split}
 use Rattle.sg_recovery_laws.proofs.Onward.{its_kept}

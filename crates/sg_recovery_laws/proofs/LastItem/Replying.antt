@@ -15,8 +15,10 @@ use Rattle.sg_facts.specs.declared.trace.Item.{Item}
 use Rattle.sg_facts.specs.declared.trace.Tag.TheVariants.{Client}
 use Rattle.sg_facts.specs.Alike.{SameReply, named}
 use Rattle.sg_facts.specs.Facts.{Facts, fun_at}
-use Rattle.sg_hist.specs.Reading.{desc_of, id_given, names_at, names_in, pair_of}
-use Rattle.sg_hist.specs.Recovered.{IsRenamed, IsReplyOf, is_renamed}
+use Rattle.sg_hist.specs.Reading.{id_given, names_at, pair_of}
+use Rattle.sg_hist.specs.Inside.Reads.{desc_of, names_in}
+use Rattle.sg_hist.specs.Recovered.{IsRenamed, IsReplyOf}
+use Rattle.sg_hist.specs.Inside.Parts.{is_renamed}
 use Rattle.sg_hist.proofs.Growing.{names_at-more}
 use Rattle.sg_facts.proofs.Replaying.Found.{same_test}
 use Rattle.sg_recovery_laws.proofs.LastItem.Reading.{named_push}

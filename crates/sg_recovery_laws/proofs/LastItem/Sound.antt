@@ -15,9 +15,10 @@ use Rattle.sg_facts.specs.Fits.{Fits}
 use Rattle.sg_facts.specs.Guard.{guard}
 use Rattle.sg_facts.specs.Interface.{Declared}
 use Rattle.sg_facts.specs.Laws.{AnswersAndKeeps, CountsSlowly, Passes, slow}
-use Rattle.sg_facts.specs.Legal.{LegalFrom, Table, answer, refused_or}
+use Rattle.sg_facts.specs.Legal.{LegalFrom, Table, answer}
+use Rattle.sg_facts.specs.Inside.Rows.{refused_or, object_from}
 use Rattle.sg_facts.specs.Limits.{end_of_counts}
-use Rattle.sg_facts.specs.Object.{Object, after, empty_object, object_from, object_of}
+use Rattle.sg_facts.specs.Object.{Object, after, empty_object, object_of}
 use Rattle.sg_recovery_laws.proofs.Midway.Tabled.{passes_whole}
 use Rattle.sg_recovery_laws.specs.LastItem.Asked.{IsComeTo}
 use Rattle.sg_hist.specs.Clients.{IsClientsCall}

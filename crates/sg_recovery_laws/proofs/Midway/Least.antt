@@ -11,7 +11,8 @@ use Rattle.sg_facts.specs.Interface.{Declared}
 use Rattle.sg_facts.specs.Needs.{is_needed, is_wanted, wanted}
 use Rattle.sg_facts.specs.Object.{Object}
 use Rattle.sg_facts.specs.Sound.{IsRow, IsSound}
-use Rattle.sg_facts.specs.Track.{is_ancestor, is_live, nearest, parent_in, row_at}
+use Rattle.sg_facts.specs.Track.{is_ancestor, is_live, nearest, row_at}
+use Rattle.sg_facts.specs.Inside.Rows.{parent_in}
 use Rattle.sg_facts.proofs.RowLists.{id_of_row, row_of_live}
 use Rattle.sg_recovery_laws.specs.Midway.Progress.{Told, is_complete}
 use Rattle.sg_facts.proofs.Replaying.Above.{one_above}

@@ -12,7 +12,8 @@ use Rattle.sg_facts.specs.Held.{HoldsPart, IsAt}
 use Rattle.sg_facts.specs.Interface.{Declared}
 use Rattle.sg_facts.specs.Object.{Object}
 use Rattle.sg_facts.specs.Sound.{IsSound}
-use Rattle.sg_facts.specs.Track.{new_row, row_after, row_at, rows_after}
+use Rattle.sg_facts.specs.Track.{new_row, row_at, rows_after}
+use Rattle.sg_facts.specs.Inside.Rows.{row_after}
 use Rattle.sg_facts.proofs.RowLists.{id_of_row, row_at-left, row_at-more}
 use Rattle.sg_recovery_laws.specs.Midway.Progress.{IsSoFar, Told, fresh, begun, complete}
 use Rattle.sg_facts.proofs.Replaying.Above.{held_as, low_real}

@@ -17,19 +17,19 @@ use Rattle.sg_facts.specs.Held.{AreReachable, HoldsPart, IsAt, ParentIsWhole, se
 use Rattle.sg_facts.specs.Interface.{Declared}
 use Rattle.sg_facts.specs.Laws.{GoesOn, names_after, next_call}
 use Rattle.sg_facts.specs.Legal.{Table}
-use Rattle.sg_facts.specs.Object.{Object, after, file_at, first_text, patch_at, patch_of, patched, path_of, place_of, writes}
+use Rattle.sg_facts.specs.Object.{Object, after, file_at, first_text, patch_of, path_of, place_of}
+use Rattle.sg_facts.specs.Inside.Rows.{patch_at, patched, writes}
 use Rattle.sg_facts.specs.Sound.{IsSound}
 use Rattle.sg_facts.specs.Track.{new_row, row_at}
 use Rattle.sg_facts.specs.Walks.{IsWalkOf}
 use Rattle.sg_facts.proofs.RowLists.{id_of_row, row_at-more}
 use Rattle.sg_hist.specs.Reading.{walk_in}
-use Rattle.sg_recovery_laws.proofs.Objects.Guarded.{well_allowed, writes_none}
+use Rattle.sg_recovery_laws.proofs.Objects.Guarded.{well_allowed, writes_none, both_true}
 use Rattle.sg_recovery_laws.specs.Midway.Progress.{HasFile, IsSoFar, IsInRecovery, Told}
 use Rattle.sg_recovery_laws.specs.Objects.Serving.{IsLegalObject, IsService}
 use Rattle.sg_recovery_laws.specs.Midway.Stepping.{IsStepped, so_far, told_after}
 use Rattle.sg_facts.proofs.Replaying.Above.{low_id, low_real}
 use Rattle.sg_recovery_laws.proofs.Objects.Apart.{makes_row}
-use Rattle.sg_recovery_laws.proofs.Objects.Guarded.{both_true}
 use Rattle.sg_recovery_laws.proofs.Midway.Rest.{kept_beside, parent_named, so_far_more, so_far_same}
 use Rattle.sg_recovery_laws.proofs.Midway.Walking.{MayReplay, at_end, declared_within, may_replay, replayed_is, writes_no}
 

@@ -13,15 +13,18 @@ use Rattle.sg_facts.specs.declared.tables.WalkLine.{WalkLine}
 use Rattle.sg_facts.specs.Facts.{Field, Fun, fun_at, takes_desc, takes_parent}
 use Rattle.sg_facts.specs.Fields.{number_of}
 use Rattle.sg_facts.specs.Fits.{Fits}
-use Rattle.sg_facts.specs.Guard.{guard, in_state, may_be_parent, may_use, refusal}
+use Rattle.sg_facts.specs.Guard.{guard}
+use Rattle.sg_facts.specs.Inside.Guards.{in_state, may_be_parent, may_use, refusal}
 use Rattle.sg_facts.specs.Limits.{most_live}
 use Rattle.sg_facts.specs.Held.{set_of}
 use Rattle.sg_facts.specs.Interface.{Declared}
 use Rattle.sg_facts.specs.Laws.{whole}
 use Rattle.sg_facts.specs.Object.{Object}
-use Rattle.sg_facts.specs.Tables.{AreTables, is_for, walk_of}
-use Rattle.sg_facts.specs.Track.{has_child, row_at}
-use Rattle.sg_facts.specs.Walks.{IsReachable, IsWalkOf, effect_on, made, may_lead, may_leave, moved, none_set}
+use Rattle.sg_facts.specs.Tables.{AreTables, walk_of}
+use Rattle.sg_facts.specs.Inside.Walking.{is_for, none_set}
+use Rattle.sg_facts.specs.Track.{row_at}
+use Rattle.sg_facts.specs.Inside.Rows.{has_child}
+use Rattle.sg_facts.specs.Walks.{IsReachable, IsWalkOf, effect_on, made, may_lead, may_leave, moved}
 use Rattle.sg_hist.specs.Reading.{walk_in}
 use Rattle.sg_recovery_laws.proofs.Objects.Guarded.{both_true}
 

@@ -15,10 +15,11 @@ use Rattle.sg_facts.specs.Fields.{is_set}
 use Rattle.sg_facts.specs.Fits.{Fits}
 use Rattle.sg_facts.specs.Held.{FieldHolds, FieldsHold, IsAt, IsPartOf, set_of}
 use Rattle.sg_facts.specs.Interface.{Declared, declares, has_pair, steps_on}
-use Rattle.sg_facts.specs.Object.{Object, writes}
-use Rattle.sg_facts.specs.Walks.{IsWalkOf, Mark, good, unknown, unset, Spot, may_begin, may_go_on, next_spot, first_spot, restores_at, restores_field, restores_fields, spot_from, spot_of}
-use Rattle.sg_recovery_laws.proofs.Objects.Guarded.{writes_none}
-use Rattle.sg_recovery_laws.proofs.Objects.Guarded.{both_true}
+use Rattle.sg_facts.specs.Object.{Object}
+use Rattle.sg_facts.specs.Inside.Rows.{writes}
+use Rattle.sg_facts.specs.Walks.{IsWalkOf, Mark, good, unknown, unset, Spot, restores_fields, spot_from, spot_of}
+use Rattle.sg_facts.specs.Inside.Walking.{may_begin, may_go_on, next_spot, first_spot, restores_at, restores_field}
+use Rattle.sg_recovery_laws.proofs.Objects.Guarded.{writes_none, both_true}
 
 -- ---- a walk that is done
 

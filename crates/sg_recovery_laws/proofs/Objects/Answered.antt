@@ -9,8 +9,9 @@ use Rattle.sg_facts.specs.sg_base.declared.call.Call.{Call}
 use Rattle.sg_facts.specs.declared.row.Row.{Row}
 use Rattle.sg_facts.specs.Facts.{Facts, fun_at}
 use Rattle.sg_facts.specs.Needs.{is_needed}
-use Rattle.sg_facts.specs.Object.{path_of, step_to}
-use Rattle.sg_facts.specs.Track.{ancestors, has_child, is_ancestor, nearest, row_at}
+use Rattle.sg_facts.specs.Object.{path_of}
+use Rattle.sg_facts.specs.Inside.Rows.{step_to, has_child}
+use Rattle.sg_facts.specs.Track.{ancestors, is_ancestor, nearest, row_at}
 use Rattle.sg_facts.proofs.RowLists.{id_of_row}
 use Rattle.sg_recovery_laws.proofs.Lists.{each_push}
 use Rattle.sg_recovery_laws.specs.Objects.Apart.{AreOwn, SameFor}

@@ -10,7 +10,8 @@ use Rattle.sg_facts.specs.sg_base.declared.reply.Good.{Good}
 use Rattle.sg_facts.specs.declared.row.Row.{Row}
 use Rattle.sg_facts.specs.Facts.{Facts, fun_at}
 use Rattle.sg_facts.specs.Sound.{AreRows}
-use Rattle.sg_facts.specs.Track.{ancestors, is_ancestor, nearest, new_row, row_after, row_at, rows_after}
+use Rattle.sg_facts.specs.Track.{ancestors, is_ancestor, nearest, new_row, row_at, rows_after}
+use Rattle.sg_facts.specs.Inside.Rows.{row_after}
 use Rattle.sg_facts.proofs.RowLists.{id_of_row, row_at-left, row_at-more}
 use Rattle.sg_recovery_laws.specs.Objects.Apart.{AreOwn, HasOwnParent, SameFor}
 use Rattle.sg_facts.proofs.Replaying.Above.{one_above}

@@ -10,12 +10,14 @@ use Rattle.sg_facts.specs.sg_base.declared.reply.Reply.TheVariants.{Ok}
 use Rattle.sg_facts.specs.declared.row.Row.{Row}
 use Rattle.sg_facts.specs.Allowed.{implies}
 use Rattle.sg_facts.specs.Facts.{Facts, fun_at, takes_desc, takes_parent}
-use Rattle.sg_facts.specs.Guard.{guard, in_state, may_be_parent, may_use, refusal}
+use Rattle.sg_facts.specs.Guard.{guard}
+use Rattle.sg_facts.specs.Inside.Guards.{in_state, may_be_parent, may_use, refusal}
 use Rattle.sg_facts.specs.Limits.{most_live}
 use Rattle.sg_facts.specs.Interface.{Declared, moves_on}
 use Rattle.sg_facts.specs.Laws.{leaves_blocked, state_in}
 use Rattle.sg_facts.specs.Object.{Object, after}
-use Rattle.sg_facts.specs.Track.{ends_with, has_child, new_row, row_at, rows_after}
+use Rattle.sg_facts.specs.Track.{ends_with, new_row, row_at, rows_after}
+use Rattle.sg_facts.specs.Inside.Rows.{has_child}
 use Rattle.sg_facts.proofs.RowLists.{row_at-left, row_at-more}
 use Rattle.sg_recovery_laws.proofs.Objects.Apart.{changes_row, ends_rows, makes_row, query_keeps}
 use Rattle.sg_recovery_laws.proofs.Objects.Changed.{change_at}

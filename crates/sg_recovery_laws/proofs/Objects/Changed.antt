@@ -11,7 +11,8 @@ use Rattle.sg_facts.specs.Held.{whole, HoldsPart, IsHeld, ParentIsWhole}
 use Rattle.sg_facts.specs.Interface.{Declared}
 use Rattle.sg_facts.specs.Object.{Object}
 use Rattle.sg_facts.specs.Sound.{AreFields, AreFiles, AreRows, IsRow, IsSound}
-use Rattle.sg_facts.specs.Track.{is_live, row_after, row_at}
+use Rattle.sg_facts.specs.Track.{is_live, row_at}
+use Rattle.sg_facts.specs.Inside.Rows.{row_after}
 use Rattle.sg_facts.proofs.RowLists.{changed, id_of_row, is_live-changed}
 use Rattle.sg_facts.proofs.Replaying.Above.{name_of_held}
 use Rattle.sg_recovery_laws.proofs.Objects.Above.{same_id}

@@ -8,7 +8,8 @@ use Rattle.sg_facts.specs.declared.row.Row.{Row}
 use Rattle.sg_facts.specs.Facts.{Facts, fun_at, takes_parent}
 use Rattle.sg_facts.specs.Object.{Object}
 use Rattle.sg_facts.specs.Sound.{IsSound}
-use Rattle.sg_facts.specs.Track.{has_child, new_row, row_after, row_at, rows_after}
+use Rattle.sg_facts.specs.Track.{new_row, row_at, rows_after}
+use Rattle.sg_facts.specs.Inside.Rows.{has_child, row_after}
 use Rattle.sg_facts.proofs.RowLists.{changed, id_of_row, left, more, row_at-left, row_at-more, wider}
 use Rattle.sg_recovery_laws.specs.Objects.Apart.{AreOwn, HasOwnParent, SameFor}
 use Rattle.sg_recovery_laws.proofs.Objects.Apart.{Ascends, IsOnOwn, IsOwnRow, acts_alike, changes_row, ends_rows, found_same, leaves_others, makes_row, query_keeps, rows_same, same_back, same_on}

@@ -8,7 +8,8 @@ use Rattle.sg_facts.specs.Held.{HoldsPart, IsHeld, ParentIsWhole}
 use Rattle.sg_facts.specs.Interface.{Declared}
 use Rattle.sg_facts.specs.Object.{Object}
 use Rattle.sg_facts.specs.Sound.{AreFiles, AreRows, IsRow, IsSound}
-use Rattle.sg_facts.specs.Track.{ends_with, has_child, is_ancestor, is_live, row_at}
+use Rattle.sg_facts.specs.Track.{ends_with, is_ancestor, is_live, row_at}
+use Rattle.sg_facts.specs.Inside.Rows.{has_child}
 use Rattle.sg_facts.proofs.RowLists.{id_of_row, left, live_of_row, other, row_at-left}
 use Rattle.sg_track.proofs.Above.{ends_child}
 use Rattle.sg_track.specs.Kept.{ends_below}

@@ -7,12 +7,14 @@ use Rattle.sg_facts.specs.sg_base.declared.reply.Code.{Code}
 use Rattle.sg_facts.specs.sg_base.declared.reply.Code.TheVariants.{NoDesc, NoParent, BadState, HasChildren, Full}
 use Rattle.sg_facts.specs.declared.row.Row.{Row}
 use Rattle.sg_facts.specs.Facts.{Fun, fun_at, takes_desc, takes_parent}
-use Rattle.sg_facts.specs.Guard.{guard, in_state, may_be_parent, may_use, refusal}
+use Rattle.sg_facts.specs.Guard.{guard}
+use Rattle.sg_facts.specs.Inside.Guards.{in_state, may_be_parent, may_use, refusal}
 use Rattle.sg_facts.specs.Limits.{most_live}
 use Rattle.sg_facts.specs.Interface.{Declared}
 use Rattle.sg_facts.specs.Legal.{Table}
 use Rattle.sg_facts.specs.Object.{Object}
-use Rattle.sg_facts.specs.Track.{has_child, row_at}
+use Rattle.sg_facts.specs.Track.{row_at}
+use Rattle.sg_facts.specs.Inside.Rows.{has_child}
 use Rattle.sg_recovery_laws.specs.Objects.Apart.{SameFor}
 use Rattle.sg_recovery_laws.specs.Objects.Serving.{IsLegalObject, IsService}
 use Rattle.sg_recovery_laws.proofs.Objects.Answered.{child_same}

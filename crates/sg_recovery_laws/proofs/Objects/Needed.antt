@@ -10,7 +10,8 @@ use Rattle.sg_facts.specs.Facts.{Facts, fun_at}
 use Rattle.sg_facts.specs.Laws.{Passes}
 use Rattle.sg_facts.specs.Legal.{Table}
 use Rattle.sg_facts.specs.Needs.{Needs, is_needed, needs}
-use Rattle.sg_facts.specs.Object.{Object, object_from, path_of}
+use Rattle.sg_facts.specs.Object.{Object, path_of}
+use Rattle.sg_facts.specs.Inside.Rows.{object_from}
 use Rattle.sg_facts.specs.Track.{ancestors, is_ancestor, nearest, row_at}
 use Rattle.sg_facts.proofs.RowLists.{id_of_row, left, row_at-left}
 use Rattle.sg_recovery_laws.specs.Objects.Apart.{SameFor}

@@ -12,12 +12,14 @@ use Rattle.sg_facts.specs.declared.shape.Parents.{Parents}
 use Rattle.sg_facts.specs.declared.shape.Parents.TheVariants.{Never, Same, Cross}
 use Rattle.sg_facts.specs.Allowed.{is_cross, is_never}
 use Rattle.sg_facts.specs.Facts.{Facts, fun_at, takes_desc, takes_parent}
-use Rattle.sg_facts.specs.Guard.{guard, in_state, is_own, may_be_parent, may_use, refusal}
+use Rattle.sg_facts.specs.Guard.{guard}
+use Rattle.sg_facts.specs.Inside.Guards.{in_state, is_own, may_be_parent, may_use, refusal}
 use Rattle.sg_facts.specs.Limits.{most_live}
 use Rattle.sg_facts.specs.Interface.{Declared}
 use Rattle.sg_facts.specs.Legal.{Table}
-use Rattle.sg_facts.specs.Object.{Object, after, object_from}
-use Rattle.sg_facts.specs.Track.{ends_with, has_child, row_after, row_at, rows_after}
+use Rattle.sg_facts.specs.Object.{Object, after}
+use Rattle.sg_facts.specs.Inside.Rows.{object_from, has_child, row_after}
+use Rattle.sg_facts.specs.Track.{ends_with, row_at, rows_after}
 use Rattle.sg_recovery_laws.specs.Objects.Apart.{SameFor}
 use Rattle.sg_recovery_laws.specs.Objects.Serving.{HasTime, IsLegalObject, IsService}
 use Rattle.sg_recovery_laws.specs.Objects.Waiting.{AreWaiting, NoneBy}

@@ -11,7 +11,8 @@ use Rattle.sg_facts.specs.Held.{EachHeld, HoldsPart, IsHeld, ParentIsWhole}
 use Rattle.sg_facts.specs.Interface.{Declared}
 use Rattle.sg_facts.specs.Object.{Object, after, patch_of}
 use Rattle.sg_facts.specs.Sound.{AreFields, AreFiles, AreRows, IsRow, IsSound}
-use Rattle.sg_facts.specs.Track.{has_child, new_row, row_after, row_at}
+use Rattle.sg_facts.specs.Track.{new_row, row_at}
+use Rattle.sg_facts.specs.Inside.Rows.{has_child, row_after}
 use Rattle.sg_facts.proofs.RowLists.{id_of_row, row_at-more}
 use Rattle.sg_facts.proofs.Replaying.Above.{low_real}
 use Rattle.sg_recovery_laws.proofs.Objects.Apart.{changes_row, ends_rows, makes_row, query_keeps}

@@ -15,13 +15,14 @@ use Rattle.sg_facts.specs.declared.entry.Entry.{Entry}
 use Rattle.sg_facts.specs.declared.row.Row.{Row}
 use Rattle.sg_facts.specs.Alike.{EachStands, HasAlike, SameFile, Serves, named}
 use Rattle.sg_facts.specs.Facts.{Facts, fun_at, takes_desc, takes_parent}
-use Rattle.sg_facts.specs.Guard.{is_own, is_there}
+use Rattle.sg_facts.specs.Inside.Guards.{is_own, is_there}
 use Rattle.sg_facts.specs.Held.{EachHeld, HoldsPart}
 use Rattle.sg_facts.specs.Interface.{Declared}
 use Rattle.sg_facts.specs.Laws.{Passes, whole}
 use Rattle.sg_facts.specs.Legal.{Table}
 use Rattle.sg_facts.specs.Needs.{is_needed}
-use Rattle.sg_facts.specs.Object.{Object, after, file_at, first_text, object_from, path_of, step_to}
+use Rattle.sg_facts.specs.Object.{Object, after, file_at, first_text, path_of}
+use Rattle.sg_facts.specs.Inside.Rows.{object_from, step_to}
 use Rattle.sg_facts.specs.Sound.{IsSound}
 use Rattle.sg_facts.specs.Track.{ancestors, is_ancestor, is_live, row_at}
 use Rattle.sg_facts.proofs.RowLists.{id_of_row, live_of_row, row_of_live}

@@ -10,13 +10,15 @@ use Rattle.sg_facts.specs.sg_base.declared.reply.Reply.{Reply}
 use Rattle.sg_facts.specs.sg_base.declared.reply.Reply.TheVariants.{Ok, Refused}
 use Rattle.sg_facts.specs.declared.row.Row.{Row}
 use Rattle.sg_facts.specs.Facts.{Facts, Fun, fun_at, takes_desc, takes_parent}
-use Rattle.sg_facts.specs.Guard.{guard, in_state, may_be_parent, may_use, refusal}
+use Rattle.sg_facts.specs.Guard.{guard}
+use Rattle.sg_facts.specs.Inside.Guards.{in_state, may_be_parent, may_use, refusal}
 use Rattle.sg_facts.specs.Limits.{most_live}
 use Rattle.sg_facts.specs.Laws.{Passes, whole}
 use Rattle.sg_facts.specs.Legal.{Table}
 use Rattle.sg_facts.specs.Object.{Object, after, path_of}
 use Rattle.sg_facts.specs.Sound.{IsRow, IsSound}
-use Rattle.sg_facts.specs.Track.{has_child, is_live, new_row, row_at, rows_after}
+use Rattle.sg_facts.specs.Track.{is_live, new_row, row_at, rows_after}
+use Rattle.sg_facts.specs.Inside.Rows.{has_child}
 use Rattle.sg_facts.proofs.RowLists.{id_of_row, live_of_row, row_at-more, other}
 use Rattle.sg_recovery_laws.specs.Objects.Apart.{AreOwn, SameFor}
 use Rattle.sg_recovery_laws.specs.Objects.Serving.{HasTime, IsAnsweredAt, IsLegalObject, IsService}

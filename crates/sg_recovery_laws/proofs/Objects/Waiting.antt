@@ -11,7 +11,8 @@ use Rattle.sg_facts.specs.declared.row.Row.{Row}
 use Rattle.sg_facts.specs.Facts.{Facts, fun_at, is_visible, takes_desc}
 use Rattle.sg_facts.specs.Kinds.{IsCall}
 use Rattle.sg_facts.specs.Legal.{Table}
-use Rattle.sg_facts.specs.Object.{Object, after, first_text, given_after, is_text_kind, object_from, patch_at, patch_of, patched, path_of, place_of, writes}
+use Rattle.sg_facts.specs.Object.{Object, after, first_text, patch_of, path_of, place_of}
+use Rattle.sg_facts.specs.Inside.Rows.{given_after, is_text_kind, object_from, patch_at, patched, writes}
 use Rattle.sg_facts.specs.Track.{row_at, rows_after}
 use Rattle.sg_recovery_laws.specs.Objects.Apart.{AreOwn, SameFor}
 use Rattle.sg_recovery_laws.specs.Objects.Serving.{HasTime, IsAnsweredAt, IsLegalObject, IsService}

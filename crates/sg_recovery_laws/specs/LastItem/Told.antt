@@ -12,8 +12,9 @@ use Rattle.sg_facts.specs.Sound.{IsSound}
 use Rattle.sg_facts.specs.Track.{is_live}
 use Rattle.sg_hist.specs.Growing.{IsOfNoEntry}
 use Rattle.sg_recovery_laws.specs.LastItem.LastPlace.{HaveItems}
-use Rattle.sg_hist.specs.Reading.{is_made, is_rebuilt_at, names_at, places_in}
-use Rattle.sg_hist.specs.Recovered.{is_patch_at, is_walk_of}
+use Rattle.sg_hist.specs.Reading.{is_made, names_at, places_in}
+use Rattle.sg_hist.specs.Inside.Reads.{is_rebuilt_at}
+use Rattle.sg_hist.specs.Inside.Parts.{is_patch_at, is_walk_of}
 use Rattle.sg_recovery_laws.specs.Midway.Progress.{TellsCalls, IsNone, Told, is_complete}
 
 -- whether an id is whole after the items of a boot

@@ -8,7 +8,8 @@ use Rattle.std.proofs.lemmas.Bool.Decides.{nat_tests}
 use Rattle.sg_facts.specs.declared.row.Row.{Row}
 use Rattle.sg_facts.specs.Sound.{AreRows}
 use Rattle.sg_facts.specs.Track.{row_at}
-use Rattle.sg_sched.specs.SchedTable.{prio_of, rank_of, goes_before, next_of, is_ready, first_ready}
+use Rattle.sg_sched.specs.SchedTable.{rank_of, goes_before, first_ready}
+use Rattle.sg_sched.specs.Inside.SchedAnswer.{prio_of, next_of, is_ready}
 
 -- one number decides, and where it is the same a further test
 abbrev pub by : ℕ → ℕ → Bool → Bool

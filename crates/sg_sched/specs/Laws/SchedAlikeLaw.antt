@@ -8,7 +8,7 @@ use Rattle.sg_facts.specs.sg_base.declared.reply.Code.TheVariants.{NoDesc, BadSt
 use Rattle.sg_facts.specs.sg_base.declared.reply.Reply.TheVariants.{Ok}
 use Rattle.sg_facts.specs.declared.row.Row.{Row}
 use Rattle.sg_facts.specs.Facts.{fun_at}
-use Rattle.sg_facts.specs.Guard.{is_there}
+use Rattle.sg_facts.specs.Inside.Guards.{is_there}
 use Rattle.sg_facts.specs.Track.{row_at, is_ancestor, word_of, field_at}
 use Rattle.sg_facts.specs.Object.{Object}
 use Rattle.sg_facts.specs.Sound.{AreRows, IsRow}
@@ -17,8 +17,8 @@ use Rattle.sg_facts.specs.Laws.{AnswersAlike, Passes, state_in}
 use Rattle.sg_facts.proofs.RowLists.{id_of_row, row_of_live}
 use Rattle.sg_slots.proofs.SoundRows.{none_applies}
 use Rattle.sg_sched.specs.SchedFacts.{sched_facts}
-use Rattle.sg_sched.specs.SchedTable.{sched_table, sched_wait_answer, next_answer, first_ready, next_rank, prio_of, rank_of, is_ready}
-use Rattle.sg_sched.specs.Inside.SchedAnswer.{sched_answer}
+use Rattle.sg_sched.specs.SchedTable.{sched_table, first_ready, next_rank, rank_of, sched_answer}
+use Rattle.sg_sched.specs.Inside.SchedAnswer.{sched_wait_answer, next_answer, prio_of, is_ready}
 use Rattle.sg_sched.specs.SchedSound.{IsSchedSound}
 use Rattle.sg_slots.proofs.FoundRows.{all_rows, same_test}
 use Rattle.sg_sched.specs.Inside.SchedFirst.{first_meets, first_least, none_ready, neither_by_rank}

@@ -8,14 +8,15 @@ use Rattle.sg_facts.specs.sg_base.declared.call.Call.{Call}
 use Rattle.sg_facts.specs.sg_base.declared.reply.Good.{Good}
 use Rattle.sg_facts.specs.sg_base.declared.reply.Reply.TheVariants.{Ok}
 use Rattle.sg_facts.specs.declared.row.Row.{Row}
-use Rattle.sg_facts.specs.Track.{row_at, row_after, new_row, ends_with}
+use Rattle.sg_facts.specs.Track.{row_at, new_row, ends_with}
+use Rattle.sg_facts.specs.Inside.Rows.{row_after}
 use Rattle.sg_facts.specs.Object.{Object, after}
 use Rattle.sg_facts.specs.Laws.{BlockedStays, state_in, leaves_blocked}
 use Rattle.sg_facts.proofs.RowLists.{id_of_row, row_at-more, row_at-left}
 use Rattle.sg_slots.proofs.SoundRows.{change, change_id, found_changed}
 use Rattle.sg_sched.specs.SchedFacts.{sched_facts}
-use Rattle.sg_sched.specs.SchedTable.{sched_table, sched_wait_answer, next_answer, first_ready}
-use Rattle.sg_sched.specs.Inside.SchedAnswer.{sched_answer}
+use Rattle.sg_sched.specs.SchedTable.{sched_table, first_ready, sched_answer}
+use Rattle.sg_sched.specs.Inside.SchedAnswer.{sched_wait_answer, next_answer}
 use Rattle.sg_sched.specs.SchedSound.{IsSchedSound}
 
 -- a wait that blocks finds its thread asleep

@@ -15,13 +15,14 @@ use Rattle.sg_facts.specs.Facts.{fun_at}
 use Rattle.sg_facts.specs.Allowed.{wants_word}
 use Rattle.sg_facts.specs.Guard.{is_guards}
 use Rattle.sg_facts.specs.Counted.{most_in, most_counted}
-use Rattle.sg_facts.specs.Track.{row_at, row_after, new_row, ends_with, fields_after, first_word, arg_at, word_of}
+use Rattle.sg_facts.specs.Track.{row_at, new_row, ends_with, fields_after, first_word, arg_at, word_of}
+use Rattle.sg_facts.specs.Inside.Rows.{row_after}
 use Rattle.sg_facts.specs.Object.{Object, after}
 use Rattle.sg_facts.specs.Laws.{ShapeAllows, CountsSlowly, Passes, state_in, slow, most_set}
 use Rattle.sg_slots.proofs.SoundRows.{change}
 use Rattle.sg_sched.specs.SchedFacts.{sched_facts}
-use Rattle.sg_sched.specs.SchedTable.{sched_table, sched_wait_answer, next_answer, first_ready, next_rank}
-use Rattle.sg_sched.specs.Inside.SchedAnswer.{sched_answer}
+use Rattle.sg_sched.specs.SchedTable.{sched_table, first_ready, next_rank, sched_answer}
+use Rattle.sg_sched.specs.Inside.SchedAnswer.{sched_wait_answer, next_answer}
 use Rattle.sg_sched.specs.SchedSound.{IsSchedSound}
 use Rattle.sg_sched.specs.Laws.SchedBlockedLaw.{next_told}
 use Rattle.sg_sched.specs.Laws.SchedSoundLaw.{most_is_counted, never_placed}

@@ -10,11 +10,12 @@ use Rattle.sg_facts.specs.sg_base.declared.reply.Good.{Good}
 use Rattle.sg_facts.specs.sg_base.declared.reply.Reply.TheVariants.{Ok}
 use Rattle.sg_facts.specs.declared.row.Row.{Row}
 use Rattle.sg_facts.specs.Facts.{fun_at}
-use Rattle.sg_facts.specs.Guard.{in_state}
+use Rattle.sg_facts.specs.Inside.Guards.{in_state}
 use Rattle.sg_facts.specs.Interface.{moves_on}
 use Rattle.sg_facts.specs.Kinds.{AreWords, kinds_fit}
 use Rattle.sg_facts.specs.Counted.{CountedBelow, most_counted, most_in}
-use Rattle.sg_facts.specs.Track.{row_at, ends_with, row_after, new_row, arg_at, fields_after, word_of, field_at}
+use Rattle.sg_facts.specs.Track.{row_at, ends_with, new_row, arg_at, fields_after, word_of, field_at}
+use Rattle.sg_facts.specs.Inside.Rows.{row_after}
 use Rattle.sg_facts.specs.Object.{Object, after}
 use Rattle.sg_facts.specs.Sound.{IsOfField, IsRow, AreRows, AreFields}
 use Rattle.sg_facts.specs.Laws.{AnswersAndKeeps, Passes, whole}
@@ -22,8 +23,8 @@ use Rattle.sg_facts.proofs.RowLists.{more, changed, left, other}
 use Rattle.sg_slots.proofs.SoundRows.{none_applies, change, change_id, sound_more, sound_changed, sound_left}
 use Rattle.sg_slots.proofs.RowLaws.{next_of_first}
 use Rattle.sg_sched.specs.SchedFacts.{sched_facts}
-use Rattle.sg_sched.specs.SchedTable.{sched_table, sched_wait_answer, next_rank, rank_of}
-use Rattle.sg_sched.specs.Inside.SchedAnswer.{sched_answer}
+use Rattle.sg_sched.specs.SchedTable.{sched_table, next_rank, rank_of, sched_answer}
+use Rattle.sg_sched.specs.Inside.SchedAnswer.{sched_wait_answer}
 use Rattle.sg_sched.specs.SchedSound.{IsSchedSound, IsRanked}
 use Rattle.sg_sched.specs.Inside.SchedRanks.{most, own_more, own_left, own_changed, own_set}
 

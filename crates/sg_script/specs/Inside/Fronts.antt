@@ -3,7 +3,8 @@ use Rattle.std.specs.Prelude.{ℕ, ◌≡◌, ◌≤◌, false, List, length, sl
 use Rattle.std.specs.List.{flat_map, list_any}
 use Rattle.sg_script_parse.specs.declared.tree.Part.{Part}
 use Rattle.sg_script.specs.declared.front.SeenParts.{SeenParts}
-use Rattle.sg_script.specs.Flaws.{calls_in, is_of_client, is_schedule, is_setup, is_stop}
+use Rattle.sg_script.specs.Flaws.{calls_in}
+use Rattle.sg_script.specs.Inside.Parts.{is_of_client, is_schedule, is_setup, is_stop}
 
 -- what is kept of these parts: whether there was a setup, schedule or stop part among them, which clients had one, and how many
 -- calls they have

@@ -1,7 +1,7 @@
 -- Parts whose numbers and texts have room in the types of a script.
 use Rattle.std.specs.Prelude.{◌&&◌, ◌^◌, Bool, true, nat_lt}
 use Rattle.std.specs.List.{list_all}
-use Rattle.sg_script_parse.specs.Grammar.Spelling.{Spelling}
+use Rattle.sg_script_parse.specs.sg_lex.Lexeme.{Spelling}
 use Rattle.sg_script_parse.specs.declared.tree.WrittenArg.{WrittenArg}
 use Rattle.sg_script_parse.specs.declared.tree.WrittenArg.TheVariants.{Number, Text, Back}
 use Rattle.sg_script_parse.specs.declared.tree.WrittenCall.{WrittenCall}

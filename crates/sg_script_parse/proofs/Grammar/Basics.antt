@@ -4,10 +4,10 @@ use Rattle.std.specs.Prelude.{None, Some}
 use Rattle.std.specs.declared.option.Option.{Option}
 use Rattle.std.specs.Cmp.Lexicographic.{pointwise, bytes_decides}
 use Rattle.sg_lex.specs.declared.token.TokenKind.{TokenKind}
-use Rattle.sg_lex.specs.declared.token.TokenKind.TheVariants.{Word, Number, Text, Mark}
-use Rattle.sg_lex.specs.Lexeme.{Lexeme}
-use Rattle.sg_script_parse.specs.Grammar.Spelling.{Spelling}
-use Rattle.sg_script_parse.specs.Grammar.Pieces.{ScriptPiece, fixed, word, number, quoted, mark, IsSpelt, IsScriptPiece}
+use Rattle.sg_lex.specs.declared.token.TokenKind.TheVariants.{Word, Mark}
+use Rattle.sg_lex.specs.Lexeme.{Lexeme, Spelling}
+use Rattle.sg_script_parse.specs.Grammar.Pieces.{ScriptPiece, spelt, mark, IsScriptPiece}
+use Rattle.sg_script_parse.specs.Grammar.Inside.Pieces.{fixed, IsSpelt}
 use Rattle.sg_script_parse.specs.Grammar.Inside.States.{spelt_by}
 use Rattle.sg_lex.proofs.SameKinds.{kind_is}
 use Rattle.sg_lex.specs.Inside.Tests.{has_kind, is_this_mark, is_fixed}
@@ -55,7 +55,7 @@ bytes_same a = (bytes_decides a a).1 refl
 pub of-is : (kind : TokenKind) (token : Lexeme) → has_kind kind token ≡ true → IsSpelt kind token (spelt_by token)
 of-is kind token h = (kind_is token.kind kind h, refl, refl)
 
-pub mark-is : (byte : ℕ) (token : Lexeme) → is_this_mark byte token ≡ true → IsScriptPiece token (mark byte)
+pub mark-is : (byte : ℕ) (token : Lexeme) → is_this_mark byte token ≡ true → IsScriptPiece token (mark (byte ∷ []))
 mark-is byte token h =
     (kind_is token.kind Mark (both_left _ _ h), same_bytes token.bytes (byte ∷ []) (both_right (has_kind Mark token) _ h))
 
@@ -65,18 +65,12 @@ fixed-is bytes token h =
 
 -- the token that is a piece; a mark may stand at any place
 abbrev pub made : ScriptPiece → ℕ → Lexeme
-made (fixed bytes at) place = record { kind = Word; bytes = bytes; at = at }
-made (word s) place = record { kind = Word; bytes = s.bytes; at = s.at }
-made (number s) place = record { kind = Number; bytes = s.bytes; at = s.at }
-made (quoted s) place = record { kind = Text; bytes = s.bytes; at = s.at }
-made (mark byte) place = record { kind = Mark; bytes = byte ∷ []; at = place }
+made (spelt kind s) place = record { kind = kind; bytes = s.bytes; at = s.at }
+made (mark bytes) place = record { kind = Mark; bytes = bytes; at = place }
 
 spelt_made : (kind : TokenKind) (token : Lexeme) (s : Spelling) → IsSpelt kind token s → token ≡ record { kind = kind; bytes = s.bytes; at = s.at }
 spelt_made kind token s h = let a = h.0 in let b = h.1 in let c = h.2 in let e : record { kind = token.kind; bytes = token.bytes; at = token.at } ≡ record { kind = kind; bytes = s.bytes; at = s.at } = cc in e
 
 pub is_made : (token : Lexeme) (p : ScriptPiece) → IsScriptPiece token p → token ≡ made p token.at
-is_made token (fixed bytes at) h = spelt_made Word token (record { bytes = bytes; at = at }) h
-is_made token (word s) h = spelt_made Word token s h
-is_made token (number s) h = spelt_made Number token s h
-is_made token (quoted s) h = spelt_made Text token s h
-is_made token (mark byte) h = spelt_made Mark token (record { bytes = byte ∷ []; at = token.at }) (h.0, h.1, refl)
+is_made token (spelt kind s) h = spelt_made kind token s h
+is_made token (mark bytes) h = spelt_made Mark token (record { bytes = bytes; at = token.at }) (h.0, h.1, refl)

@@ -2,21 +2,21 @@
 use Rattle.std.proofs.Common.{◌≡◌, ℕ, List, [], ◌∷◌, ◌++◌, refl, sym, ap, subst, append_assoc}
 use Rattle.std.specs.Prelude.{None, Some, codes}
 use Rattle.std.proofs.lemmas.List.{append-nil}
-use Rattle.sg_lex.specs.Lexeme.{Lexeme}
+use Rattle.sg_lex.specs.Lexeme.{Lexeme, Spelling}
 use Rattle.sg_lex.proofs.Automata.{Runs}
 use Rattle.sg_script_parse.specs.declared.tree.WrittenArg.{WrittenArg}
 use Rattle.sg_script_parse.specs.declared.tree.WrittenArg.TheVariants.{Number as number_arg, Text as text_arg, Back as back_arg}
 use Rattle.sg_script_parse.specs.declared.tree.WrittenCall.{WrittenCall}
 use Rattle.sg_script_parse.specs.declared.tree.Part.{Part}
 use Rattle.sg_script_parse.specs.declared.tree.Part.TheVariants.{Setup, Client, Schedule, Stop}
-use Rattle.sg_script_parse.specs.Grammar.Spelling.{Spelling}
-use Rattle.sg_script_parse.specs.Grammar.Pieces.{ScriptPiece, fixed, word, number, quoted, mark, IsScriptPiece}
+use Rattle.sg_script_parse.specs.Grammar.Pieces.{ScriptPiece, mark, IsScriptPiece}
+use Rattle.sg_script_parse.specs.Grammar.Inside.Pieces.{fixed, word, number, quoted}
 use Rattle.sg_lex.specs.Sentences.{ArePieces}
 use Rattle.sg_script_parse.specs.Grammar.Sentence.{arg_pieces}
 use Rattle.sg_script_parse.specs.Grammar.Inside.States.{ScriptState, due, want, argument, bracketed, listed, body, counts, script, with_part, call_rest, braced, setup_rest, client_rest, schedule_rest, stop_rest, step, scripts}
 use Rattle.sg_script_parse.proofs.Grammar.Basics.{made, is_made, if_then, bytes_same}
 use Rattle.sg_script_parse.proofs.Grammar.Thens.{listed_then, args_then, calls_then, numbers_then, part_then, parts_then}
-use Rattle.sg_lex.specs.Marks.{dollar_byte, close_bracket_byte, comma_byte, close_brace_byte, semicolon_byte, open_bracket_byte, open_brace_byte}
+use Rattle.sg_lex.specs.Inside.Marks.{dollar_byte, close_bracket_byte, comma_byte, close_brace_byte, semicolon_byte, open_bracket_byte, open_brace_byte}
 
 -- reading tokens that are these pieces leads from the one state to the other
 abbrev pub Goes : ScriptState → List ScriptPiece → ScriptState → Type 0
@@ -27,10 +27,10 @@ one : (s mid end : ScriptState) (p : ScriptPiece) (ps : List ScriptPiece) → ((
 one s mid end p ps h g [] a = absurd a
 one s mid end p ps h g (t ∷ ts) a = (mid, subst (λ v. step s v ≡ Some mid) (sym (is_made t p a.0)) (h t.at), g ts a.1)
 
-due_goes : (byte : ℕ) (s end : ScriptState) (ps : List ScriptPiece) → Goes s ps end → Goes (due byte s) (mark byte ∷ ps) end
+due_goes : (byte : ℕ) (s end : ScriptState) (ps : List ScriptPiece) → Goes s ps end → Goes (due byte s) (mark (byte ∷ []) ∷ ps) end
 unfolding step
 due_goes byte s end ps g =
-    one (due byte s) s end (mark byte) ps (λ place. if_then _ (Some s) None (bytes_same (byte ∷ []))) g
+    one (due byte s) s end (mark (byte ∷ [])) ps (λ place. if_then _ (Some s) None (bytes_same (byte ∷ []))) g
 
 want_goes : (k : Spelling → ScriptState) (n : Spelling) (end : ScriptState) (ps : List ScriptPiece) → Goes (k n) ps end → Goes (want k) (number n ∷ ps) end
 unfolding step
@@ -41,22 +41,22 @@ unfolding step
 argument_goes k (number_arg n) end ps g = one (argument k) (k (number_arg n)) end (number n) ps (λ place. refl) g
 argument_goes k (text_arg t) end ps g = one (argument k) (k (text_arg t)) end (quoted t) ps (λ place. refl) g
 argument_goes k (back_arg n) end ps g =
-    one (argument k) (want (λ m. k (back_arg m))) end (mark dollar_byte) (number n ∷ ps) (λ place. refl) (want_goes (λ m. k (back_arg m)) n end ps g)
+    one (argument k) (want (λ m. k (back_arg m))) end (mark (dollar_byte ∷ [])) (number n ∷ ps) (λ place. refl) (want_goes (λ m. k (back_arg m)) n end ps g)
 
 listed_goes : (more args : List WrittenArg) (k : List WrittenArg → ScriptState) (end : ScriptState) (ps : List ScriptPiece) → Goes (k (args ++ more)) ps end
     → Goes (listed args k) (listed_then more ps) end
 unfolding step
 listed_goes [] args k end ps g =
-    one (listed args k) (k args) end (mark close_bracket_byte) ps (λ place. refl) (subst (λ v. Goes (k v) ps end) (append-nil args) g)
+    one (listed args k) (k args) end (mark (close_bracket_byte ∷ [])) ps (λ place. refl) (subst (λ v. Goes (k v) ps end) (append-nil args) g)
 listed_goes (a ∷ more) args k end ps g =
-    one (listed args k) (argument (λ b. listed (args ++ b ∷ []) k)) end (mark comma_byte) (arg_pieces a ++ listed_then more ps) (λ place. refl)
+    one (listed args k) (argument (λ b. listed (args ++ b ∷ []) k)) end (mark (comma_byte ∷ [])) (arg_pieces a ++ listed_then more ps) (λ place. refl)
     (argument_goes (λ b. listed (args ++ b ∷ []) k) a end (listed_then more ps)
     (listed_goes more (args ++ a ∷ []) k end ps (subst (λ v. Goes (k v) ps end) (sym (append_assoc args (a ∷ []) more)) g)))
 
 bracketed_goes : (args : List WrittenArg) (k : List WrittenArg → ScriptState) (end : ScriptState) (ps : List ScriptPiece) → Goes (k args) ps end
     → Goes (bracketed k) (args_then args ps) end
 unfolding step
-bracketed_goes [] k end ps g = one (bracketed k) (k []) end (mark close_bracket_byte) ps (λ place. refl) g
+bracketed_goes [] k end ps g = one (bracketed k) (k []) end (mark (close_bracket_byte ∷ [])) ps (λ place. refl) g
 bracketed_goes (number_arg n ∷ more) k end ps g =
     one (bracketed k) (listed (number_arg n ∷ []) k) end (number n) (listed_then more ps) (λ place. refl)
     (listed_goes more (number_arg n ∷ []) k end ps g)
@@ -64,32 +64,32 @@ bracketed_goes (text_arg t ∷ more) k end ps g =
     one (bracketed k) (listed (text_arg t ∷ []) k) end (quoted t) (listed_then more ps) (λ place. refl)
     (listed_goes more (text_arg t ∷ []) k end ps g)
 bracketed_goes (back_arg n ∷ more) k end ps g =
-    one (bracketed k) (want (λ m. listed (back_arg m ∷ []) k)) end (mark dollar_byte) (number n ∷ listed_then more ps) (λ place. refl)
+    one (bracketed k) (want (λ m. listed (back_arg m ∷ []) k)) end (mark (dollar_byte ∷ [])) (number n ∷ listed_then more ps) (λ place. refl)
     (want_goes (λ m. listed (back_arg m ∷ []) k) n end (listed_then more ps) (listed_goes more (back_arg n ∷ []) k end ps g))
 
 body_goes : (more calls : List WrittenCall) (k : List WrittenCall → ScriptState) (end : ScriptState) (ps : List ScriptPiece) → Goes (k (calls ++ more)) ps end
     → Goes (body calls k) (calls_then more ps) end
 unfolding step
 body_goes [] calls k end ps g =
-    one (body calls k) (k calls) end (mark close_brace_byte) ps (λ place. refl) (subst (λ v. Goes (k v) ps end) (append-nil calls) g)
+    one (body calls k) (k calls) end (mark (close_brace_byte ∷ [])) ps (λ place. refl) (subst (λ v. Goes (k v) ps end) (append-nil calls) g)
 body_goes (c ∷ more) calls k end ps g =
     let go : WrittenCall → ScriptState = λ d. body (calls ++ d ∷ []) k in
     let tail = λ (args : List WrittenArg). due semicolon_byte (go (record { name = c.name; args = args })) in
-    one (body calls k) (call_rest go c.name) end (word c.name) (mark open_bracket_byte ∷ args_then c.args (mark semicolon_byte ∷ calls_then more ps)) (λ place. refl)
-    (due_goes open_bracket_byte (bracketed tail) end (args_then c.args (mark semicolon_byte ∷ calls_then more ps))
-    (bracketed_goes c.args tail end (mark semicolon_byte ∷ calls_then more ps)
+    one (body calls k) (call_rest go c.name) end (word c.name) (mark (open_bracket_byte ∷ []) ∷ args_then c.args (mark (semicolon_byte ∷ []) ∷ calls_then more ps)) (λ place. refl)
+    (due_goes open_bracket_byte (bracketed tail) end (args_then c.args (mark (semicolon_byte ∷ []) ∷ calls_then more ps))
+    (bracketed_goes c.args tail end (mark (semicolon_byte ∷ []) ∷ calls_then more ps)
     (due_goes semicolon_byte (go c) end (calls_then more ps)
     (body_goes more (calls ++ c ∷ []) k end ps (subst (λ v. Goes (k v) ps end) (sym (append_assoc calls (c ∷ []) more)) g)))))
 
 braced_goes : (calls : List WrittenCall) (k : List WrittenCall → ScriptState) (end : ScriptState) (ps : List ScriptPiece) → Goes (k calls) ps end
-    → Goes (braced k) (mark open_brace_byte ∷ calls_then calls ps) end
+    → Goes (braced k) (mark (open_brace_byte ∷ []) ∷ calls_then calls ps) end
 braced_goes calls k end ps g = due_goes open_brace_byte (body [] k) end (calls_then calls ps) (body_goes calls [] k end ps g)
 
 counts_goes : (more numbers : List Spelling) (k : List Spelling → ScriptState) (end : ScriptState) (ps : List ScriptPiece) → Goes (k (numbers ++ more)) ps end
     → Goes (counts numbers k) (numbers_then more ps) end
 unfolding step
 counts_goes [] numbers k end ps g =
-    one (counts numbers k) (k numbers) end (mark semicolon_byte) ps (λ place. refl) (subst (λ v. Goes (k v) ps end) (append-nil numbers) g)
+    one (counts numbers k) (k numbers) end (mark (semicolon_byte ∷ [])) ps (λ place. refl) (subst (λ v. Goes (k v) ps end) (append-nil numbers) g)
 counts_goes (n ∷ more) numbers k end ps g =
     one (counts numbers k) (counts (numbers ++ n ∷ []) k) end (number n) (numbers_then more ps) (λ place. refl)
     (counts_goes more (numbers ++ n ∷ []) k end ps (subst (λ v. Goes (k v) ps end) (sym (append_assoc numbers (n ∷ []) more)) g))
@@ -97,11 +97,11 @@ counts_goes (n ∷ more) numbers k end ps g =
 part_goes : (p : Part) (parts : List Part) (end : ScriptState) (ps : List ScriptPiece) → Goes (with_part parts p) ps end → Goes (script parts) (part_then p ps) end
 unfolding step
 part_goes (Setup at calls) parts end ps g =
-    one (script parts) (setup_rest (with_part parts) at) end (fixed (codes "setup") at) (mark open_brace_byte ∷ calls_then calls ps) (λ place. refl)
+    one (script parts) (setup_rest (with_part parts) at) end (fixed (codes "setup") at) (mark (open_brace_byte ∷ []) ∷ calls_then calls ps) (λ place. refl)
     (braced_goes calls (λ v. with_part parts (Setup at v)) end ps g)
 part_goes (Client at n calls) parts end ps g =
-    one (script parts) (client_rest (with_part parts) at) end (fixed (codes "client") at) (number n ∷ mark open_brace_byte ∷ calls_then calls ps) (λ place. refl)
-    (want_goes (λ m. braced (λ v. with_part parts (Client at m v))) n end (mark open_brace_byte ∷ calls_then calls ps)
+    one (script parts) (client_rest (with_part parts) at) end (fixed (codes "client") at) (number n ∷ mark (open_brace_byte ∷ []) ∷ calls_then calls ps) (λ place. refl)
+    (want_goes (λ m. braced (λ v. with_part parts (Client at m v))) n end (mark (open_brace_byte ∷ []) ∷ calls_then calls ps)
     (braced_goes calls (λ v. with_part parts (Client at n v)) end ps g))
 part_goes (Schedule at numbers) parts end ps g =
     one (script parts) (schedule_rest (with_part parts) at) end (fixed (codes "schedule") at) (numbers_then numbers ps) (λ place. refl)

@@ -3,25 +3,25 @@ use Rattle.std.proofs.Common.{◌≡◌, List, [], ◌∷◌, ◌++◌, sym, sub
 use Rattle.std.specs.Prelude.{None, Some, codes}
 use Rattle.std.proofs.lemmas.List.{append-nil}
 use Rattle.sg_lex.specs.declared.token.TokenKind.TheVariants.{Word, Number, Text}
-use Rattle.sg_lex.specs.Lexeme.{Lexeme}
+use Rattle.sg_lex.specs.Lexeme.{Lexeme, Spelling}
 use Rattle.sg_script_parse.specs.declared.tree.WrittenArg.{WrittenArg}
 use Rattle.sg_script_parse.specs.declared.tree.WrittenArg.TheVariants.{Number as number_arg, Text as text_arg, Back as back_arg}
 use Rattle.sg_script_parse.specs.declared.tree.WrittenCall.{WrittenCall}
 use Rattle.sg_script_parse.specs.declared.tree.Part.{Part}
 use Rattle.sg_script_parse.specs.declared.tree.Part.TheVariants.{Setup, Client, Schedule, Stop}
-use Rattle.sg_script_parse.specs.Grammar.Spelling.{Spelling}
-use Rattle.sg_script_parse.specs.Grammar.Pieces.{ScriptPiece, fixed, word, number, quoted, mark, IsScriptPiece}
+use Rattle.sg_script_parse.specs.Grammar.Pieces.{ScriptPiece, mark, IsScriptPiece}
+use Rattle.sg_script_parse.specs.Grammar.Inside.Pieces.{fixed, word, number, quoted}
 use Rattle.sg_script_parse.specs.Grammar.Sentence.{arg_pieces}
 use Rattle.sg_script_parse.specs.Grammar.Inside.States.{ScriptState, dead, due, want, argument, bracketed, listed, body, counts, script, spelt_by, argument_behind, part_behind, with_part, call_rest, setup_rest, client_rest, schedule_rest, stop_rest, step}
 use Rattle.sg_lex.specs.Inside.Tests.{has_kind, is_this_mark, is_fixed}
 use Rattle.sg_script_parse.proofs.Grammar.Basics.{none_some, chosen, of-is, mark-is, fixed-is}
 use Rattle.sg_script_parse.proofs.Grammar.Thens.{listed_then, args_then, calls_then, numbers_then, part_then, parts_then, parts_snoc}
-use Rattle.sg_lex.specs.Marks.{dollar_byte, close_bracket_byte, comma_byte, close_brace_byte, semicolon_byte}
+use Rattle.sg_lex.specs.Inside.Marks.{dollar_byte, close_bracket_byte, comma_byte, close_brace_byte, semicolon_byte}
 
 -- with what the state wants, and whatever follows, the pieces are those of the parts
 abbrev pub HasRead : ScriptState → (List ScriptPiece → List ScriptPiece) → Type 0
 HasRead dead f = ⊥
-HasRead (due byte s) f = HasRead s (λ r. f (mark byte ∷ r))
+HasRead (due byte s) f = HasRead s (λ r. f (mark (byte ∷ []) ∷ r))
 HasRead (want k) f = (n : Spelling) → HasRead (k n) (λ r. f (number n ∷ r))
 HasRead (argument k) f = (a : WrittenArg) → HasRead (k a) (λ r. f (arg_pieces a ++ r))
 HasRead (bracketed k) f = (args : List WrittenArg) → HasRead (k args) (λ r. f (args_then args r))
@@ -45,7 +45,7 @@ argument_grown : (k : WrittenArg → ScriptState) (f : List ScriptPiece → List
     → ((a : WrittenArg) → HasRead (k a) (λ r. f (arg_pieces a ++ r))) → argument_behind k token ≡ Some next → Grown f token next
 argument_grown k f token next h e =
     chosen (Grown f token next) (is_this_mark dollar_byte token) (want (λ n. k (back_arg n))) _ next e
-    (λ t g. one_more f token (want (λ n. k (back_arg n))) next (mark dollar_byte) (mark-is dollar_byte token t) g (λ n. h (back_arg n)))
+    (λ t g. one_more f token (want (λ n. k (back_arg n))) next (mark (dollar_byte ∷ [])) (mark-is dollar_byte token t) g (λ n. h (back_arg n)))
     (λ _ e1. chosen (Grown f token next) (has_kind Text token) (k (text_arg (spelt_by token))) _ next e1
     (λ t g. one_more f token (k (text_arg (spelt_by token))) next (quoted (spelt_by token)) (of-is Text token t) g (h (text_arg (spelt_by token))))
     (λ _ e2. chosen (Grown f token next) (has_kind Number token) (k (number_arg (spelt_by token))) None next e2
@@ -77,7 +77,7 @@ unfolding step
 grown dead f token next h e = absurd h
 grown (due byte s) f token next h e =
     chosen (Grown f token next) (is_this_mark byte token) s None next e
-    (λ t g. one_more f token s next (mark byte) (mark-is byte token t) g h)
+    (λ t g. one_more f token s next (mark (byte ∷ [])) (mark-is byte token t) g h)
     (λ _ e1. none_some (Grown f token next) next e1)
 grown (want k) f token next h e =
     chosen (Grown f token next) (has_kind Number token) (k (spelt_by token)) None next e
@@ -86,15 +86,15 @@ grown (want k) f token next h e =
 grown (argument k) f token next h e = argument_grown k f token next h e
 grown (bracketed k) f token next h e =
     chosen (Grown f token next) (is_this_mark close_bracket_byte token) (k []) _ next e
-    (λ t g. one_more f token (k []) next (mark close_bracket_byte) (mark-is close_bracket_byte token t) g (h []))
+    (λ t g. one_more f token (k []) next (mark (close_bracket_byte ∷ [])) (mark-is close_bracket_byte token t) g (h []))
     (λ _ e1. argument_grown (λ a. listed (a ∷ []) k) f token next (λ a more. h (a ∷ more)) e1)
 grown (listed args k) f token next h e =
     chosen (Grown f token next) (is_this_mark comma_byte token) (argument (λ a. listed (args ++ a ∷ []) k)) _ next e
-    (λ t g. one_more f token (argument (λ a. listed (args ++ a ∷ []) k)) next (mark comma_byte) (mark-is comma_byte token t) g
+    (λ t g. one_more f token (argument (λ a. listed (args ++ a ∷ []) k)) next (mark (comma_byte ∷ [])) (mark-is comma_byte token t) g
     (λ a more. subst (λ v. HasRead (k v) (λ r. f (listed_then (a ∷ more) r))) (sym (append_assoc args (a ∷ []) more)) (h (a ∷ more))))
     (λ _ e1. chosen (Grown f token next) (is_this_mark close_bracket_byte token) (k args) None next e1
-    (λ t g. one_more f token (k args) next (mark close_bracket_byte) (mark-is close_bracket_byte token t) g
-    (subst (λ v. HasRead (k v) (λ r. f (mark close_bracket_byte ∷ r))) (append-nil args) (h [])))
+    (λ t g. one_more f token (k args) next (mark (close_bracket_byte ∷ [])) (mark-is close_bracket_byte token t) g
+    (subst (λ v. HasRead (k v) (λ r. f (mark (close_bracket_byte ∷ []) ∷ r))) (append-nil args) (h [])))
     (λ _ e2. none_some (Grown f token next) next e2))
 grown (body calls k) f token next h e =
     chosen (Grown f token next) (has_kind Word token) (call_rest (λ c. body (calls ++ c ∷ []) k) (spelt_by token)) _ next e
@@ -103,8 +103,8 @@ grown (body calls k) f token next h e =
     let c : WrittenCall = record { name = spelt_by token; args = args } in
     subst (λ v. HasRead (k v) (λ r. f (calls_then (c ∷ more) r))) (sym (append_assoc calls (c ∷ []) more)) (h (c ∷ more))))
     (λ _ e1. chosen (Grown f token next) (is_this_mark close_brace_byte token) (k calls) None next e1
-    (λ t g. one_more f token (k calls) next (mark close_brace_byte) (mark-is close_brace_byte token t) g
-    (subst (λ v. HasRead (k v) (λ r. f (mark close_brace_byte ∷ r))) (append-nil calls) (h [])))
+    (λ t g. one_more f token (k calls) next (mark (close_brace_byte ∷ [])) (mark-is close_brace_byte token t) g
+    (subst (λ v. HasRead (k v) (λ r. f (mark (close_brace_byte ∷ []) ∷ r))) (append-nil calls) (h [])))
     (λ _ e2. none_some (Grown f token next) next e2))
 grown (counts numbers k) f token next h e =
     chosen (Grown f token next) (has_kind Number token) (counts (numbers ++ spelt_by token ∷ []) k) _ next e
@@ -112,7 +112,7 @@ grown (counts numbers k) f token next h e =
     (λ more. subst (λ v. HasRead (k v) (λ r. f (numbers_then (spelt_by token ∷ more) r))) (sym (append_assoc numbers (spelt_by token ∷ []) more))
     (h (spelt_by token ∷ more))))
     (λ _ e1. chosen (Grown f token next) (is_this_mark semicolon_byte token) (k numbers) None next e1
-    (λ t g. one_more f token (k numbers) next (mark semicolon_byte) (mark-is semicolon_byte token t) g
-    (subst (λ v. HasRead (k v) (λ r. f (mark semicolon_byte ∷ r))) (append-nil numbers) (h [])))
+    (λ t g. one_more f token (k numbers) next (mark (semicolon_byte ∷ [])) (mark-is semicolon_byte token t) g
+    (subst (λ v. HasRead (k v) (λ r. f (mark (semicolon_byte ∷ []) ∷ r))) (append-nil numbers) (h [])))
     (λ _ e2. none_some (Grown f token next) next e2))
 grown (script parts) f token next h e = part_grown parts f token next h e

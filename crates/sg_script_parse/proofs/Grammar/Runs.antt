@@ -2,22 +2,22 @@
 use Rattle.std.proofs.Common.{◌≡◌, List, [], ◌∷◌, ◌++◌, refl, sym, ap, subst, ◌∙◌}
 use Rattle.std.specs.Prelude.{None, Some}
 use Rattle.std.proofs.lemmas.List.{append-nil}
-use Rattle.sg_lex.specs.Lexeme.{Lexeme}
+use Rattle.sg_lex.specs.Lexeme.{Lexeme, Spelling}
 use Rattle.sg_lex.specs.Sentences.{Begins, ArePieces}
 use Rattle.sg_lex.proofs.Automata.{Runs, runs-append}
 use Rattle.sg_lex.proofs.Answers.{ReadsJust}
 use Rattle.sg_script_parse.specs.declared.error.ScriptSyntax.{ScriptSyntax}
 use Rattle.sg_script_parse.specs.declared.tree.WrittenArg.TheVariants.{Number as number_arg}
 use Rattle.sg_script_parse.specs.declared.tree.Part.{Part}
-use Rattle.sg_script_parse.specs.Grammar.Spelling.{Spelling}
-use Rattle.sg_script_parse.specs.Grammar.Pieces.{ScriptPiece, number, mark, IsScriptPiece}
+use Rattle.sg_script_parse.specs.Grammar.Pieces.{ScriptPiece, mark, IsScriptPiece}
+use Rattle.sg_script_parse.specs.Grammar.Inside.Pieces.{number}
 use Rattle.sg_script_parse.specs.Grammar.Sentence.{IsScriptSentence}
 use Rattle.sg_script_parse.specs.Grammar.Inside.States.{ScriptState, dead, due, want, argument, bracketed, listed, body, counts, script, script_start, step, parts_at, scripts}
 use Rattle.sg_script_parse.proofs.Grammar.Basics.{none_some, some_is, made, if_then, bytes_same}
 use Rattle.sg_script_parse.proofs.Grammar.Thens.{parts_are}
 use Rattle.sg_script_parse.proofs.Grammar.Grown.{HasRead, grown}
 use Rattle.sg_script_parse.proofs.Grammar.Goes.{parts_go}
-use Rattle.sg_lex.specs.Marks.{close_bracket_byte, close_brace_byte, semicolon_byte}
+use Rattle.sg_lex.specs.Inside.Marks.{close_bracket_byte, close_brace_byte, semicolon_byte}
 
 -- ---- at the end
 
@@ -73,17 +73,17 @@ completed : (s : ScriptState) (f : List ScriptPiece → List ScriptPiece) → Ha
 unfolding step
 completed dead f h = absurd h
 completed (due byte s) f h =
-    then_piece (due byte s) s (mark byte) (if_then _ (Some s) None (bytes_same (byte ∷ []))) (completed s _ h)
+    then_piece (due byte s) s (mark (byte ∷ [])) (if_then _ (Some s) None (bytes_same (byte ∷ []))) (completed s _ h)
 completed (want k) f h = then_piece (want k) (k any_number) (number any_number) refl (completed (k any_number) _ (h any_number))
 completed (argument k) f h =
     then_piece (argument k) (k (number_arg any_number)) (number any_number) refl (completed (k (number_arg any_number)) _ (h (number_arg any_number)))
-completed (bracketed k) f h = then_piece (bracketed k) (k []) (mark close_bracket_byte) refl (completed (k []) _ (h []))
+completed (bracketed k) f h = then_piece (bracketed k) (k []) (mark (close_bracket_byte ∷ [])) refl (completed (k []) _ (h []))
 completed (listed args k) f h =
-    then_piece (listed args k) (k args) (mark close_bracket_byte) refl (subst (λ v. Completed (k v)) (append-nil args) (completed (k (args ++ [])) _ (h [])))
+    then_piece (listed args k) (k args) (mark (close_bracket_byte ∷ [])) refl (subst (λ v. Completed (k v)) (append-nil args) (completed (k (args ++ [])) _ (h [])))
 completed (body calls k) f h =
-    then_piece (body calls k) (k calls) (mark close_brace_byte) refl (subst (λ v. Completed (k v)) (append-nil calls) (completed (k (calls ++ [])) _ (h [])))
+    then_piece (body calls k) (k calls) (mark (close_brace_byte ∷ [])) refl (subst (λ v. Completed (k v)) (append-nil calls) (completed (k (calls ++ [])) _ (h [])))
 completed (counts numbers k) f h =
-    then_piece (counts numbers k) (k numbers) (mark semicolon_byte) refl (subst (λ v. Completed (k v)) (append-nil numbers) (completed (k (numbers ++ [])) _ (h [])))
+    then_piece (counts numbers k) (k numbers) (mark (semicolon_byte ∷ [])) refl (subst (λ v. Completed (k v)) (append-nil numbers) (completed (k (numbers ++ [])) _ (h [])))
 completed (script parts) f h = record { tokens = []; parts = parts; runs = refl }
 
 -- ---- sentences

@@ -1,2 +1,4 @@
--- The automaton that the proofs rest on, and no public clause cites.
+-- The automaton and the names that the proofs rest on, and no public clause cites.
+pub mod Forms
+pub mod Pieces
 pub mod States

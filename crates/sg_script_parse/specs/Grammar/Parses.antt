@@ -1,20 +1,19 @@
 -- What a parser has to answer on the text of a script.
-use Rattle.std.specs.Prelude.{◌⊎◌, ℕ, List, Ok, Err, length}
+use Rattle.std.specs.Prelude.{◌≡◌, ◌⊎◌, ℕ, List, Ok, Err, length, map}
 use Rattle.std.specs.declared.result.Result.{Result}
-use Rattle.sg_lex.specs.Sentences.{Accepts, FailsAtByte, FailsAtToken, FailsAtEnd}
-use Rattle.sg_lex.specs.Tokens.{Answer, answers_of}
+use Rattle.sg_lex.specs.Lexeme.{Lexeme}
+use Rattle.sg_lex.specs.Sentences.{Fails, IsNoToken, EndsAt}
+use Rattle.sg_lex.specs.Tokens.{answers_of}
 use Rattle.sg_script_parse.specs.declared.error.ScriptSyntax.{ScriptSyntax}
 use Rattle.sg_script_parse.specs.declared.error.ScriptSyntax.TheVariants.{NoMemory, Syntax}
 use Rattle.sg_script_parse.specs.declared.tree.Part.{Part}
 use Rattle.sg_script_parse.specs.Grammar.Sentence.{IsScriptSentence}
 
--- what may be answered where a lexer answers so on a text of that length; out of memory may be answered at any time
-abbrev pub ScriptParsesTo : List Answer → ℕ → Result (List Part) ScriptSyntax → Type 0
-ScriptParsesTo answers end (Ok parts) = Accepts (List Part) IsScriptSentence answers parts
-ScriptParsesTo answers end (Err NoMemory) = Unit {0}
-ScriptParsesTo answers end (Err (Syntax place)) =
-    FailsAtByte (List Part) IsScriptSentence answers place ⊎ (FailsAtToken (List Part) IsScriptSentence answers place ⊎ FailsAtEnd (List Part) IsScriptSentence answers end place)
-
--- what a parser may answer on a text
+-- what a parser may answer on a text: the parts of the script that its tokens are, or the place up to which they begin one and at which none goes on; out of memory
+-- may be answered at any time
 abbrev pub ScriptParses : List ℕ → Result (List Part) ScriptSyntax → Type 0
-ScriptParses text answer = ScriptParsesTo (answers_of text) (length text) answer
+ScriptParses text (Ok parts) = (tokens : List Lexeme) × (answers_of text ≡ map Ok tokens) × IsScriptSentence tokens parts
+ScriptParses text (Err NoMemory) = Unit {0}
+ScriptParses text (Err (Syntax place)) =
+    Fails (List Part) IsScriptSentence (answers_of text) (IsNoToken place)
+    ⊎ Fails (List Part) IsScriptSentence (answers_of text) (EndsAt IsScriptSentence (length text) place)

@@ -1,48 +1,40 @@
 -- Which tokens are a script, and of which parts.
 use Rattle.std.specs.Prelude.{List, [], ◌∷◌, ◌++◌, codes, map}
 use Rattle.std.specs.List.{flat_map}
+use Rattle.sg_lex.specs.declared.token.TokenKind.TheVariants.{Word, Number as a_number, Text as a_text}
 use Rattle.sg_lex.specs.Lexeme.{Lexeme}
+use Rattle.sg_lex.specs.Sentences.{ArePieces, separated}
 use Rattle.sg_script_parse.specs.declared.tree.WrittenArg.{WrittenArg}
 use Rattle.sg_script_parse.specs.declared.tree.WrittenArg.TheVariants.{Number, Text, Back}
 use Rattle.sg_script_parse.specs.declared.tree.WrittenCall.{WrittenCall}
 use Rattle.sg_script_parse.specs.declared.tree.Part.{Part}
 use Rattle.sg_script_parse.specs.declared.tree.Part.TheVariants.{Setup, Client, Schedule, Stop}
-use Rattle.sg_script_parse.specs.Grammar.Spelling.{Spelling}
-use Rattle.sg_script_parse.specs.Grammar.Pieces.{ScriptPiece, fixed, word, number, quoted, mark, IsScriptPiece}
-use Rattle.sg_lex.specs.Sentences.{ArePieces}
-use Rattle.sg_lex.specs.Marks.{dollar_byte, comma_byte, open_bracket_byte, close_bracket_byte, semicolon_byte, open_brace_byte, close_brace_byte}
+use Rattle.sg_script_parse.specs.Grammar.Pieces.{ScriptPiece, spelt, mark, IsScriptPiece}
 
 -- ---- the pieces of a script, in order
 
 -- a number, a text, or `$` and a number
 abbrev pub arg_pieces : WrittenArg → List ScriptPiece
-arg_pieces (Number n) = number n ∷ []
-arg_pieces (Text t) = quoted t ∷ []
-arg_pieces (Back n) = mark dollar_byte ∷ number n ∷ []
-
--- arguments, with commas between them
-abbrev pub args_pieces : List WrittenArg → List ScriptPiece
-args_pieces [] = []
-args_pieces (a ∷ args) = arg_pieces a ++ flat_map (λ more. mark comma_byte ∷ arg_pieces more) args
+arg_pieces (Number n) = spelt a_number n ∷ []
+arg_pieces (Text t) = spelt a_text t ∷ []
+arg_pieces (Back n) = mark (codes "$") ∷ spelt a_number n ∷ []
 
 -- a name, and arguments in brackets
 abbrev pub call_pieces : WrittenCall → List ScriptPiece
-call_pieces c = word c.name ∷ mark open_bracket_byte ∷ (args_pieces c.args ++ mark close_bracket_byte ∷ mark semicolon_byte ∷ [])
+call_pieces c =
+    spelt Word c.name ∷ mark (codes "(") ∷ (separated (mark (codes ",")) arg_pieces c.args ++ mark (codes ")") ∷ mark (codes ";") ∷ [])
 
--- calls in braces
-abbrev pub body_pieces : List WrittenCall → List ScriptPiece
-body_pieces calls = mark open_brace_byte ∷ (flat_map call_pieces calls ++ mark close_brace_byte ∷ [])
-
--- numbers up to a semicolon
-abbrev pub numbers_pieces : List Spelling → List ScriptPiece
-numbers_pieces numbers = map number numbers ++ mark semicolon_byte ∷ []
-
--- a part: its first word, and then calls or numbers; of a client its number comes before its calls
+-- a part: its first word, and then calls in braces, or numbers up to a semicolon; of a client its number comes before its calls
 abbrev pub part_pieces : Part → List ScriptPiece
-part_pieces (Setup at calls) = fixed (codes "setup") at ∷ body_pieces calls
-part_pieces (Client at n calls) = fixed (codes "client") at ∷ number n ∷ body_pieces calls
-part_pieces (Schedule at numbers) = fixed (codes "schedule") at ∷ numbers_pieces numbers
-part_pieces (Stop at numbers) = fixed (codes "stop") at ∷ numbers_pieces numbers
+part_pieces (Setup at calls) =
+    spelt Word (record { bytes = codes "setup"; at = at }) ∷ mark (codes "{") ∷ (flat_map call_pieces calls ++ mark (codes "}") ∷ [])
+part_pieces (Client at n calls) =
+    spelt Word (record { bytes = codes "client"; at = at }) ∷ spelt a_number n
+    ∷ mark (codes "{") ∷ (flat_map call_pieces calls ++ mark (codes "}") ∷ [])
+part_pieces (Schedule at numbers) =
+    spelt Word (record { bytes = codes "schedule"; at = at }) ∷ (map (spelt a_number) numbers ++ mark (codes ";") ∷ [])
+part_pieces (Stop at numbers) =
+    spelt Word (record { bytes = codes "stop"; at = at }) ∷ (map (spelt a_number) numbers ++ mark (codes ";") ∷ [])
 
 -- ---- scripts
 

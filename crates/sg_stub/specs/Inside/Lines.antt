@@ -4,7 +4,8 @@ use Rattle.std.specs.List.{Contains}
 use Rattle.sg_facts.specs.declared.tables.WalkLine.{WalkLine}
 use Rattle.sg_facts.specs.Fields.{number_of}
 use Rattle.sg_facts.specs.Interface.{Declared}
-use Rattle.sg_facts.specs.Tables.{IsAscending, walk_of}
+use Rattle.sg_facts.specs.Tables.{walk_of}
+use Rattle.sg_facts.specs.Inside.Walking.{IsAscending}
 use Rattle.sg_facts.specs.Walks.{IsReachable, IsWalkOf}
 
 -- a line is good: its walk is that of what descriptors can come to

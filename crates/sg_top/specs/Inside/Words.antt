@@ -1,10 +1,16 @@
 -- Commands of one word, of two, and of three.
-use Rattle.std.specs.Prelude.{ℕ, ◌≡◌, true, false, List, codes}
+use Rattle.std.specs.Prelude.{ℕ, ◌≡◌, ◌≤◌, true, false, List, codes}
 use Rattle.sg_load.specs.Services.{facts_by}
-use Rattle.sg_top.specs.Answer.{AreDigitsOf}
+use Rattle.sg_input.specs.sg_lex.Table.{IsNumber}
+use Rattle.sg_facts.specs.sg_base.Counts.{last_count}
+use Rattle.sg_input.specs.sg_script.Numbers.{value_of_digits}
 use Rattle.sg_top.specs.declared.command.Command.{Command}
 use Rattle.sg_top.specs.declared.command.Command.TheVariants.{Play, Check, Compile, Upgrade, Verify, Load}
 use Rattle.sg_top.specs.declared.command.Shows.TheVariants.{Run, Trace, Costs}
+
+-- digits, at least one, stand for a number of 64 bits
+abbrev pub AreDigitsOf : ℕ → List ℕ → Type 0
+AreDigitsOf number digits = IsNumber digits × (value_of_digits digits ≡ number) × (number ≤ last_count)
 
 -- a word alone says a command
 abbrev pub IsWordOf : List ℕ → Command → Type 0

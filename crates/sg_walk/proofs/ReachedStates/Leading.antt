@@ -1,7 +1,8 @@
 -- The places to which effects lead, mask by mask.
 use Rattle.std.proofs.Common.{◌≡◌, ℕ, ◌+◌, ◌^◌, ◌<◌, true, false, List, length, sym, ◌∙◌, ap, subst, inl, inr, arith}
 use Rattle.sg_facts.specs.declared.shape.Effect.{Effect}
-use Rattle.sg_facts.specs.Facts.{Fun, fun_at, left_by}
+use Rattle.sg_facts.specs.Facts.{Fun, fun_at}
+use Rattle.sg_facts.specs.Inside.Rows.{left_by}
 use Rattle.sg_facts.specs.Interface.{Declared, declares, moves_on}
 use Rattle.sg_facts.specs.Walks.{may_lead}
 use Rattle.sg_walk.specs.declared.place.Place.{Place}

@@ -4,7 +4,8 @@ use Rattle.std.specs.List.{Contains}
 use Rattle.sg_facts.specs.Facts.{Field, fun_at, state_after}
 use Rattle.sg_facts.specs.Fields.{number_of}
 use Rattle.sg_facts.specs.Interface.{Declared, declares}
-use Rattle.sg_facts.specs.Walks.{IsReachable, made, moved, may_lead, none_set}
+use Rattle.sg_facts.specs.Walks.{IsReachable, made, moved, may_lead}
+use Rattle.sg_facts.specs.Inside.Walking.{none_set}
 use Rattle.sg_walk.specs.declared.place.Place.{Place}
 use Rattle.sg_walk.specs.declared.place.Triple.{Triple}
 use Rattle.sg_walk.specs.ReachedStates.Inside.Bits.{bits, set_numbered}

@@ -6,7 +6,8 @@ use Rattle.std.proofs.lemmas.Bool.Decides.{nat_tests}
 use Rattle.sg_facts.specs.declared.shape.Effect.{Effect}
 use Rattle.sg_facts.specs.Facts.{Field}
 use Rattle.sg_facts.specs.Fields.{number_of}
-use Rattle.sg_facts.specs.Walks.{may_lead, none_set}
+use Rattle.sg_facts.specs.Walks.{may_lead}
+use Rattle.sg_facts.specs.Inside.Walking.{none_set}
 use Rattle.sg_walk.specs.ReachedStates.Inside.Bits.{bits}
 
 bit : (m : ℕ) → (if (m % 2 == 1) then 1 else 0) ≡ m % 2

@@ -2,7 +2,8 @@
 use Rattle.std.specs.Prelude.{ℕ, ◌≡◌, ◌+◌, ◌≤◌, true, false, List, ◌∷◌, ◌++◌, length}
 use Rattle.std.specs.List.{Contains}
 use Rattle.sg_facts.specs.Interface.{Declared}
-use Rattle.sg_facts.specs.Walks.{Spot as Place, no_later, no_worse, begin_of, most_calls}
+use Rattle.sg_facts.specs.Walks.{Spot as Place, no_later, begin_of, most_calls}
+use Rattle.sg_facts.specs.Inside.Walking.{no_worse}
 use Rattle.sg_walk.specs.declared.spot.Goal.{Goal}
 use Rattle.sg_walk.specs.declared.ends.DeadEnd.{DeadEnd}
 use Rattle.sg_walk.specs.Inside.Spots.{shown, leads, reaches}

@@ -9,7 +9,8 @@ use Rattle.sg_world_laws.specs.Advancing.Advancing.{IsFirstLeft, IsLeftToLoad, I
 use Rattle.sg_facts.specs.sg_base.declared.call.Call.{Call}
 use Rattle.sg_facts.specs.sg_base.declared.reply.Reply.TheVariants.{Ok}
 use Rattle.sg_replay.specs.sg_boot.Invoking.{item_of_call, with_item, with_stop}
-use Rattle.sg_replay.specs.sg_hist.Recovered.{call_in, item_of_load}
+use Rattle.sg_replay.specs.sg_hist.Recovered.{item_of_load}
+use Rattle.sg_replay.specs.sg_hist.Inside.Parts.{call_in}
 use Rattle.sg_world.proofs.Engines.Left.{first_left, left_to_load}
 use Rattle.sg_world.specs.Engines.Engines.{IsEngineOf, as_shown}
 use Rattle.sg_world.specs.Engines.Stubs.{stub_of, told_of}

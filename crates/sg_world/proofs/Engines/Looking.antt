@@ -9,7 +9,7 @@ use Rattle.sg_facts.specs.sg_base.declared.reply.Good.{Good}
 use Rattle.sg_facts.specs.sg_base.declared.reply.Reply.{Reply}
 use Rattle.sg_facts.specs.sg_base.declared.reply.Reply.TheVariants.{Ok, Refused}
 use Rattle.sg_world_laws.specs.Committing.Telling.{IsDescToldBy, IsToldBy, TellsAfter, has_ended, makes_id}
-use Rattle.sg_world_laws.specs.Keeping.{TellSame}
+use Rattle.sg_world_laws.specs.Keeping.{TellSame, Stub}
 use Rattle.sg_world_laws.proofs.Committing.Behind.{apart_ok, apart_refused}
 use Rattle.sg_facts.specs.declared.outcome.Patch.{Patch}
 use Rattle.sg_facts.specs.Alike.{SameReply, named}
@@ -17,7 +17,7 @@ use Rattle.sg_facts.specs.Facts.{Facts, fun_at}
 use Rattle.sg_facts.specs.Object.{Object, after, patch_of}
 use Rattle.sg_world_laws.specs.sg_recovery_laws.Midway.Progress.{Told, complete, fresh}
 use Rattle.sg_world_laws.specs.sg_recovery_laws.Midway.Stepping.{present_with}
-use Rattle.sg_replay.specs.sg_hist.Reading.{desc_of}
+use Rattle.sg_replay.specs.sg_hist.Inside.Reads.{desc_of}
 use Rattle.sg_replay.specs.sg_name.Names.{named_at, real_at, real_of}
 use Rattle.sg_replay.specs.sg_name.declared.named.Named.{Named}
 use Rattle.sg_replay.specs.sg_name.declared.named.Named.TheVariants.{Unnamed, Partial, Live}
@@ -26,7 +26,6 @@ use Rattle.sg_replay.specs.Committing.{is_written, name_left}
 use Rattle.sg_replay.specs.Serving.{IsDescTold, IsReplyTold, is_named_by, pairs_of, real_in}
 use Rattle.sg_replay.proofs.Naming.{named_in_pairs, real_in_named, real_or_zero}
 use Rattle.sg_facts.proofs.Replaying.Files.{told as which}
-use Rattle.sg_world_laws.specs.Keeping.{Stub}
 
 -- ---- service ids
 

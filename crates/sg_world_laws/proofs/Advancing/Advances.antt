@@ -12,7 +12,8 @@ use Rattle.sg_facts.specs.Fields.{is_set}
 use Rattle.sg_facts.specs.Held.{set_of}
 use Rattle.sg_facts.specs.Invoke.{loaded}
 use Rattle.sg_facts.specs.Laws.{is_none, next_call}
-use Rattle.sg_facts.specs.Object.{Object, after, file_at, first_text, object_of, patch_at, patch_of, path_of, place_of, writes}
+use Rattle.sg_facts.specs.Object.{Object, after, file_at, first_text, object_of, patch_of, path_of, place_of}
+use Rattle.sg_facts.specs.Inside.Rows.{patch_at, writes}
 use Rattle.sg_facts.specs.Trace.{Boot}
 use Rattle.sg_facts.specs.Track.{row_at}
 use Rattle.sg_facts.specs.Walks.{replayed_call}
@@ -22,7 +23,8 @@ use Rattle.sg_facts.specs.declared.trace.Item.{Item}
 use Rattle.sg_facts.proofs.Replaying.Found.{other_test}
 use Rattle.sg_facts.proofs.Replaying.Steps.{declared_within}
 use Rattle.sg_recovery_laws.specs.sg_hist.Reading.{service_call}
-use Rattle.sg_recovery_laws.specs.sg_hist.Recovered.{IsByTable, IsOkOrStopped, call_in, is_replied, is_stopped, is_visible_reply}
+use Rattle.sg_recovery_laws.specs.sg_hist.Recovered.{IsByTable, is_replied, is_visible_reply}
+use Rattle.sg_recovery_laws.specs.sg_hist.Inside.Parts.{IsOkOrStopped, call_in, is_stopped}
 use Rattle.sg_recovery_laws.specs.sg_hist.Growing.{IsNextItem, noted, place_after}
 use Rattle.sg_recovery_laws.proofs.Objects.Guarded.{both_true, first_four, well_allowed, writes_none}
 use Rattle.sg_recovery_laws.proofs.Midway.Tabled.{reach_length}

@@ -3,7 +3,8 @@ use Rattle.std.proofs.Common.{List, None, Option, ap, arith, length, length-appe
 use Rattle.sg_facts.specs.Counted.{most_counted}
 use Rattle.sg_facts.specs.Guard.{guard}
 use Rattle.sg_facts.specs.Laws.{slow}
-use Rattle.sg_facts.specs.Object.{Object, empty_object, object_from, object_of}
+use Rattle.sg_facts.specs.Object.{Object, empty_object, object_of}
+use Rattle.sg_facts.specs.Inside.Rows.{object_from}
 use Rattle.sg_facts.specs.Trace.{Boot}
 use Rattle.sg_facts.specs.declared.entry.Entry.{Entry}
 use Rattle.sg_recovery_laws.proofs.Lists.{each_append, each_map}

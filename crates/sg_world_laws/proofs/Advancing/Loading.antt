@@ -7,15 +7,18 @@ use Rattle.sg_facts.specs.Facts.{Facts, fun_at, is_visible, takes_desc}
 use Rattle.sg_facts.specs.Invoke.{loaded}
 use Rattle.sg_facts.specs.Interface.{Declared}
 use Rattle.sg_facts.specs.Needs.{is_wanted, wanted}
-use Rattle.sg_facts.specs.Object.{Object, file_at, object_from, object_of, path_of, set_file}
+use Rattle.sg_facts.specs.Object.{Object, file_at, object_of, path_of, set_file}
+use Rattle.sg_facts.specs.Inside.Rows.{object_from}
 use Rattle.sg_facts.specs.Trace.{Boot}
 use Rattle.sg_facts.specs.Track.{row_at}
 use Rattle.sg_facts.specs.declared.entry.Entry.{Entry}
 use Rattle.sg_facts.specs.declared.row.Row.{Row}
 use Rattle.sg_facts.specs.declared.trace.Item.{Item}
 use Rattle.sg_facts.specs.declared.trace.Tag.TheVariants.{Load}
-use Rattle.sg_recovery_laws.specs.sg_hist.Reading.{after_item, given_by, is_tagged, last_items, older_items, service_call}
-use Rattle.sg_recovery_laws.specs.sg_hist.Recovered.{AskedAs, IsDemanded, IsItsCall, IsLoadedFor, IsTrackedAt, IsWalked, is_clients, is_patch_at, is_replied, is_visible_reply, item_of_load, load_outcome}
+use Rattle.sg_recovery_laws.specs.sg_hist.Reading.{given_by, is_tagged, last_items, older_items, service_call}
+use Rattle.sg_recovery_laws.specs.sg_hist.Inside.Reads.{after_item}
+use Rattle.sg_recovery_laws.specs.sg_hist.Recovered.{IsLoadedFor, is_clients, is_replied, is_visible_reply, item_of_load}
+use Rattle.sg_recovery_laws.specs.sg_hist.Inside.Parts.{AskedAs, IsDemanded, IsItsCall, IsTrackedAt, IsWalked, is_patch_at, load_outcome}
 use Rattle.sg_recovery_laws.specs.sg_hist.Growing.{IsNextItem, IsOfNoEntry}
 use Rattle.sg_recovery_laws.proofs.InBoots.{place_is}
 use Rattle.sg_recovery_laws.proofs.Objects.Waiting.{behind_same}

@@ -3,12 +3,15 @@ use Rattle.std.proofs.Common.{Bool, List, Some, [], ap, append-nil, append_assoc
 use Rattle.std.proofs.lemmas.List.Folds.{list_any-append}
 use Rattle.std.specs.List.{list_any}
 use Rattle.sg_facts.specs.sg_base.Lists.{Each}
-use Rattle.sg_facts.specs.Object.{Object, object_from, object_of}
+use Rattle.sg_facts.specs.Object.{Object, object_of}
+use Rattle.sg_facts.specs.Inside.Rows.{object_from}
 use Rattle.sg_facts.specs.Trace.{Boot}
 use Rattle.sg_facts.specs.declared.entry.Entry.{Entry}
 use Rattle.sg_facts.specs.declared.trace.Item.{Item}
-use Rattle.sg_recovery_laws.specs.sg_hist.Reading.{after_item, is_by_guard, is_item_of, last_items, names_at, names_in, older_items}
-use Rattle.sg_recovery_laws.specs.sg_hist.Recovered.{AreInBoots, is_stopped, is_visible_reply}
+use Rattle.sg_recovery_laws.specs.sg_hist.Reading.{is_by_guard, is_item_of, last_items, names_at, older_items}
+use Rattle.sg_recovery_laws.specs.sg_hist.Inside.Reads.{after_item, names_in}
+use Rattle.sg_recovery_laws.specs.sg_hist.Recovered.{AreInBoots, is_visible_reply}
+use Rattle.sg_recovery_laws.specs.sg_hist.Inside.Parts.{is_stopped}
 use Rattle.sg_recovery_laws.specs.sg_hist.Growing.{IsInLast, IsNextItem, IsOfNoEntry, IsRecovering, noted, place_after}
 use Rattle.sg_recovery_laws.proofs.sg_hist.Growing.{names_at-more}
 use Rattle.sg_recovery_laws.proofs.InBoots.{boots_noted, older_noted, still_last}

@@ -2,15 +2,17 @@
 use Rattle.std.proofs.Common.{Bool, List, Some, [], ap, cond, false, length, refl, true, ℕ, ◌&&◌, ◌++◌, ◌==◌, ◌||◌, ◌∙◌, ◌∷◌, ◌≡◌}
 use Rattle.std.specs.List.{list_any}
 use Rattle.sg_facts.specs.Facts.{Facts, fun_at}
-use Rattle.sg_facts.specs.Object.{Object, object_from, object_of}
+use Rattle.sg_facts.specs.Object.{Object, object_of}
+use Rattle.sg_facts.specs.Inside.Rows.{object_from}
 use Rattle.sg_facts.specs.Trace.{Boot}
 use Rattle.sg_facts.specs.declared.entry.Entry.{Entry}
 use Rattle.sg_facts.specs.declared.outcome.Outcome.TheVariants.{Blocks}
 use Rattle.sg_facts.specs.declared.tables.WalkLine.{WalkLine}
 use Rattle.sg_facts.specs.declared.trace.Item.{Item}
 use Rattle.sg_facts.specs.declared.trace.Tag.TheVariants.{Client, Load}
-use Rattle.sg_recovery_laws.specs.sg_hist.Reading.{ends_walk, is_ok, last_items, made_by, names_in, older_items}
-use Rattle.sg_recovery_laws.specs.sg_hist.Recovered.{is_patch_at, is_walk_of}
+use Rattle.sg_recovery_laws.specs.sg_hist.Reading.{is_ok, last_items, older_items}
+use Rattle.sg_recovery_laws.specs.sg_hist.Inside.Reads.{ends_walk, made_by, names_in}
+use Rattle.sg_recovery_laws.specs.sg_hist.Inside.Parts.{is_patch_at, is_walk_of}
 use Rattle.sg_recovery_laws.specs.Midway.Numbers.{AreNumbers}
 use Rattle.sg_recovery_laws.specs.Midway.Progress.{IsInRecovery}
 use Rattle.sg_recovery_laws.specs.LastItem.LastPlace.{last_place}

@@ -8,7 +8,8 @@ use Rattle.sg_facts.specs.Held.{AreReachable, IsAt, ParentIsWhole, set_of}
 use Rattle.sg_facts.specs.Interface.{Declared}
 use Rattle.sg_facts.specs.Laws.{slow}
 use Rattle.sg_facts.specs.Needs.{is_needed, is_wanted, wanted}
-use Rattle.sg_facts.specs.Object.{Object, object_from, object_of}
+use Rattle.sg_facts.specs.Object.{Object, object_of}
+use Rattle.sg_facts.specs.Inside.Rows.{object_from}
 use Rattle.sg_facts.specs.Sound.{IsSound}
 use Rattle.sg_facts.specs.Trace.{Boot}
 use Rattle.sg_facts.specs.Track.{is_live, row_at}

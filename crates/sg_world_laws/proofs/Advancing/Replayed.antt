@@ -8,7 +8,8 @@ use Rattle.sg_facts.specs.sg_base.declared.reply.Reply.TheVariants.{Ok}
 use Rattle.sg_facts.specs.Alike.{named, under_names}
 use Rattle.sg_facts.specs.Facts.{is_visible}
 use Rattle.sg_facts.specs.Laws.{is_none, names_after, next_call}
-use Rattle.sg_facts.specs.Object.{Object, after, object_from, object_of}
+use Rattle.sg_facts.specs.Object.{Object, after, object_of}
+use Rattle.sg_facts.specs.Inside.Rows.{object_from}
 use Rattle.sg_facts.specs.Sound.{IsRow}
 use Rattle.sg_facts.specs.Trace.{Boot}
 use Rattle.sg_facts.specs.Track.{is_live, row_at}
@@ -20,8 +21,10 @@ use Rattle.sg_facts.specs.declared.trace.Tag.TheVariants.{Client, Load, Walk}
 use Rattle.sg_facts.specs.declared.trace.Tag.{Tag}
 use Rattle.sg_facts.proofs.RowLists.{live_of_row}
 use Rattle.sg_facts.proofs.Replaying.Found.{other_test, within}
-use Rattle.sg_recovery_laws.specs.sg_hist.Reading.{after_item, given_by, is_tagged, last_items, names_in, older_items, pair_of, service_call}
-use Rattle.sg_recovery_laws.specs.sg_hist.Recovered.{AskedAs, IsByTable, IsDemanded, IsItsCall, IsOkOrStopped, IsTrackedAt, IsWalked, is_clients, is_replied, is_visible_reply}
+use Rattle.sg_recovery_laws.specs.sg_hist.Reading.{given_by, is_tagged, last_items, older_items, pair_of, service_call}
+use Rattle.sg_recovery_laws.specs.sg_hist.Inside.Reads.{after_item, names_in}
+use Rattle.sg_recovery_laws.specs.sg_hist.Recovered.{IsByTable, is_clients, is_replied, is_visible_reply}
+use Rattle.sg_recovery_laws.specs.sg_hist.Inside.Parts.{AskedAs, IsDemanded, IsItsCall, IsOkOrStopped, IsTrackedAt, IsWalked}
 use Rattle.sg_recovery_laws.specs.sg_hist.Growing.{IsNextItem, IsOfNoEntry, place_after}
 use Rattle.sg_recovery_laws.proofs.InBoots.{place_is}
 use Rattle.sg_recovery_laws.proofs.Objects.Apart.{Ascends}

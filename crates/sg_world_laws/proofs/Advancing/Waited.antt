@@ -8,8 +8,10 @@ use Rattle.sg_facts.specs.Trace.{Boot}
 use Rattle.sg_facts.specs.declared.entry.Entry.{Entry}
 use Rattle.sg_facts.specs.declared.outcome.Outcome.TheVariants.{Blocks}
 use Rattle.sg_facts.specs.declared.trace.Item.{Item}
-use Rattle.sg_recovery_laws.specs.sg_hist.Reading.{after_item, given_by, last_items, older_items, service_call}
-use Rattle.sg_recovery_laws.specs.sg_hist.Recovered.{IsByTable, is_clients, is_patch_at, is_replied, is_visible_reply}
+use Rattle.sg_recovery_laws.specs.sg_hist.Reading.{given_by, last_items, older_items, service_call}
+use Rattle.sg_recovery_laws.specs.sg_hist.Inside.Reads.{after_item}
+use Rattle.sg_recovery_laws.specs.sg_hist.Recovered.{IsByTable, is_clients, is_replied, is_visible_reply}
+use Rattle.sg_recovery_laws.specs.sg_hist.Inside.Parts.{is_patch_at}
 use Rattle.sg_recovery_laws.proofs.Midway.Served.{blocks_alike}
 use Rattle.sg_seat.specs.WorldView.{WorldView, held_in, unanswered}
 use Rattle.sg_world_laws.specs.Keeping.{KeepsPromise, Stands, Stub, standing}

@@ -22,8 +22,8 @@ use Rattle.sg_facts.specs.declared.trace.Item.{Item}
 use Rattle.sg_facts.specs.Alike.{named, under_names}
 use Rattle.sg_facts.specs.Facts.{Facts}
 use Rattle.sg_facts.specs.Guard.{guard}
-use Rattle.sg_facts.specs.Legal.{refused_or}
-use Rattle.sg_facts.specs.Object.{Object, after, empty_object, object_from, object_of, patch_of}
+use Rattle.sg_facts.specs.Inside.Rows.{refused_or, object_from}
+use Rattle.sg_facts.specs.Object.{Object, after, empty_object, object_of, patch_of}
 use Rattle.sg_facts.specs.Trace.{Boot}
 use Rattle.sg_facts.specs.Track.{is_live}
 use Rattle.sg_recovery_laws.specs.Midway.Numbers.{AreNumbers}

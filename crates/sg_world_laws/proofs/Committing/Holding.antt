@@ -25,7 +25,8 @@ use Rattle.sg_facts.specs.Facts.{Facts, fun_at, is_visible}
 use Rattle.sg_facts.specs.Legal.{Table}
 use Rattle.sg_facts.specs.Limits.{last_client}
 use Rattle.sg_facts.specs.Needs.{is_needed}
-use Rattle.sg_facts.specs.Object.{Object, after, object_from, object_of, patch_of}
+use Rattle.sg_facts.specs.Object.{Object, after, object_of, patch_of}
+use Rattle.sg_facts.specs.Inside.Rows.{object_from}
 use Rattle.sg_facts.specs.Trace.{Boot, Run}
 use Rattle.sg_facts.specs.Track.{row_at}
 use Rattle.sg_recovery_laws.specs.Midway.Numbers.{AreNumbers}
@@ -33,8 +34,10 @@ use Rattle.sg_recovery_laws.specs.Midway.Progress.{IsInRecovery, complete}
 use Rattle.sg_recovery_laws.specs.Midway.Stepping.{present_with}
 use Rattle.sg_recovery_laws.proofs.Midway.Glue.{under_named}
 use Rattle.sg_recovery_laws.proofs.Midway.Least.{or_left}
-use Rattle.sg_recovery_laws.specs.sg_hist.Reading.{Position, entries_before, id_given, is_ok, item_of, last_items, names_at, older_items, pair_of}
-use Rattle.sg_recovery_laws.specs.sg_hist.Recovered.{GivesEntry, calls_made, is_clients, is_patch_at, is_replied, is_visible_reply}
+use Rattle.sg_recovery_laws.specs.sg_hist.Reading.{Position, id_given, is_ok, item_of, last_items, names_at, older_items, pair_of}
+use Rattle.sg_recovery_laws.specs.sg_hist.Inside.Reads.{entries_before}
+use Rattle.sg_recovery_laws.specs.sg_hist.Recovered.{is_clients, is_replied, is_visible_reply}
+use Rattle.sg_recovery_laws.specs.sg_hist.Inside.Parts.{GivesEntry, calls_made, is_patch_at}
 use Rattle.sg_recovery_laws.specs.Objects.Waiting.{AreWaiting, IsWaiting, NoneBy}
 use Rattle.sg_recovery_laws.proofs.Objects.Waiting.{hidden_is}
 use Rattle.sg_recovery_laws.specs.sg_hist.Growing.{AreKept, IsGrown, IsInLast, IsLastCall, IsNextItem, IsOfNoEntry, IsRecovering, noted, place_after}

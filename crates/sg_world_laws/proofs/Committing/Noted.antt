@@ -22,7 +22,8 @@ use Rattle.sg_facts.specs.Alike.{under_names}
 use Rattle.sg_facts.specs.Object.{Object, after}
 use Rattle.sg_facts.specs.Trace.{Boot}
 use Rattle.sg_recovery_laws.specs.sg_hist.Reading.{given_by, is_by_guard, is_item_of, last_items, older_items}
-use Rattle.sg_recovery_laws.specs.sg_hist.Recovered.{AreInBoots, is_stopped}
+use Rattle.sg_recovery_laws.specs.sg_hist.Recovered.{AreInBoots}
+use Rattle.sg_recovery_laws.specs.sg_hist.Inside.Parts.{is_stopped}
 use Rattle.sg_recovery_laws.specs.sg_hist.Growing.{IsInLast, IsOfNoEntry, noted}
 use Rattle.sg_recovery_laws.proofs.InBoots.{boots_noted, older_noted, own_last, still_last}
 use Rattle.sg_seat.specs.WorldView.{WorldView, held_in}

@@ -17,7 +17,8 @@ use Rattle.sg_facts.specs.Counted.{most_counted}
 use Rattle.sg_facts.specs.Facts.{Facts, fun_at}
 use Rattle.sg_facts.specs.Laws.{slow}
 use Rattle.sg_facts.specs.Needs.{is_needed}
-use Rattle.sg_facts.specs.Object.{Object, after, object_from, object_of}
+use Rattle.sg_facts.specs.Object.{Object, after, object_of}
+use Rattle.sg_facts.specs.Inside.Rows.{object_from}
 use Rattle.sg_facts.specs.Sound.{IsSound}
 use Rattle.sg_facts.specs.Trace.{Boot}
 use Rattle.sg_facts.specs.Track.{is_ancestor, is_live, row_at, rows_after}

@@ -21,8 +21,10 @@ use Rattle.sg_facts.specs.Object.{Object, object_of}
 use Rattle.sg_facts.specs.Trace.{Boot}
 use Rattle.sg_recovery_laws.specs.Midway.Progress.{IsNone}
 use Rattle.sg_recovery_laws.proofs.Midway.Back.{named_or_none}
-use Rattle.sg_recovery_laws.specs.sg_hist.Reading.{Position, desc_in, desc_of, id_given, is_by_guard, is_item_of, is_tagged, last_items, names_at, older_items, places_from}
-use Rattle.sg_recovery_laws.specs.sg_hist.Recovered.{IsCommitted, IsReplyOf}
+use Rattle.sg_recovery_laws.specs.sg_hist.Reading.{Position, desc_in, id_given, is_by_guard, is_item_of, is_tagged, last_items, names_at, older_items, places_from}
+use Rattle.sg_recovery_laws.specs.sg_hist.Inside.Reads.{desc_of}
+use Rattle.sg_recovery_laws.specs.sg_hist.Recovered.{IsReplyOf}
+use Rattle.sg_recovery_laws.specs.sg_hist.Inside.Parts.{IsCommitted}
 use Rattle.sg_recovery_laws.specs.Objects.Waiting.{AreWaiting}
 use Rattle.sg_recovery_laws.specs.sg_hist.Growing.{AreKept, IsItemOf, IsLastCall, IsNextItem, IsRecovering, IsSameId, IsSettled, noted, place_after}
 use Rattle.sg_recovery_laws.proofs.Given.{IsGiven, committed_given, given_same, is_numbered, names_same}

@@ -19,15 +19,16 @@ use Rattle.sg_facts.specs.declared.trace.Item.{Item}
 use Rattle.sg_facts.specs.declared.trace.Tag.TheVariants.{Client}
 use Rattle.sg_facts.specs.Alike.{HasAlike, SameReply, Serves, named, under_names}
 use Rattle.sg_facts.specs.Facts.{Fun, fun_at, takes_desc, takes_parent}
-use Rattle.sg_facts.specs.Guard.{is_own, is_there, may_be_parent}
+use Rattle.sg_facts.specs.Inside.Guards.{is_own, is_there, may_be_parent}
 use Rattle.sg_facts.specs.Held.{whole, partly, EachHeld, IsHeldFor}
 use Rattle.sg_facts.specs.Kinds.{MayAsk, may_be_root}
 use Rattle.sg_facts.specs.Laws.{whole as whole_interface}
 use Rattle.sg_facts.specs.Needs.{is_needed}
-use Rattle.sg_facts.specs.Object.{Object, object_from, object_of, patch_of}
+use Rattle.sg_facts.specs.Object.{Object, object_of, patch_of}
+use Rattle.sg_facts.specs.Inside.Rows.{object_from, has_child}
 use Rattle.sg_facts.specs.Sound.{IsRow}
 use Rattle.sg_facts.specs.Trace.{Boot}
-use Rattle.sg_facts.specs.Track.{has_child, is_ancestor, is_live, row_at}
+use Rattle.sg_facts.specs.Track.{is_ancestor, is_live, row_at}
 use Rattle.sg_facts.proofs.RowLists.{id_of_row, live_of_row}
 use Rattle.sg_recovery_laws.proofs.Midway.Back.{named_or_none}
 use Rattle.sg_recovery_laws.proofs.Midway.Numbers.{counted_below}

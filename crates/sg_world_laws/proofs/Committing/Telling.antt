@@ -14,7 +14,7 @@ use Rattle.sg_facts.specs.Facts.{Facts, fun_at}
 use Rattle.sg_facts.specs.Object.{Object, after}
 use Rattle.sg_facts.specs.Track.{is_live, new_row, rows_after}
 use Rattle.sg_recovery_laws.specs.Midway.Progress.{Told, complete, fresh}
-use Rattle.sg_recovery_laws.specs.sg_hist.Reading.{desc_of}
+use Rattle.sg_recovery_laws.specs.sg_hist.Inside.Reads.{desc_of}
 use Rattle.sg_recovery_laws.proofs.Objects.Apart.{makes_row}
 use Rattle.sg_recovery_laws.proofs.Objects.Guarded.{ActsOnOne}
 use Rattle.sg_recovery_laws.proofs.Objects.Steady.{fewer_after}

@@ -20,15 +20,17 @@ use Rattle.sg_facts.specs.declared.row.Row.{Row}
 use Rattle.sg_facts.specs.declared.trace.Item.{Item}
 use Rattle.sg_facts.specs.Alike.{SameReply, named}
 use Rattle.sg_facts.specs.Facts.{Facts, fun_at, takes_desc}
-use Rattle.sg_facts.specs.Object.{Object, after, given_after, object_of, patch_of}
+use Rattle.sg_facts.specs.Object.{Object, after, object_of, patch_of}
+use Rattle.sg_facts.specs.Inside.Rows.{given_after}
 use Rattle.sg_facts.specs.Sound.{IsRow, IsSound}
 use Rattle.sg_facts.specs.Trace.{Boot}
 use Rattle.sg_facts.specs.Track.{is_live, new_row, row_at}
 use Rattle.sg_facts.proofs.RowLists.{live_of_row, row_of_live}
 use Rattle.sg_recovery_laws.specs.Midway.Progress.{Told, complete}
 use Rattle.sg_recovery_laws.specs.Midway.Stepping.{present_with, told_with}
-use Rattle.sg_recovery_laws.specs.sg_hist.Reading.{Position, desc_of, ends_walk, entries_before, id_given, is_ok, last_items, made_by, names_at, names_in, older_items, pair_of}
-use Rattle.sg_recovery_laws.specs.sg_hist.Recovered.{is_patch_at, is_walk_of}
+use Rattle.sg_recovery_laws.specs.sg_hist.Reading.{Position, id_given, is_ok, last_items, names_at, older_items, pair_of}
+use Rattle.sg_recovery_laws.specs.sg_hist.Inside.Reads.{desc_of, ends_walk, entries_before, made_by, names_in}
+use Rattle.sg_recovery_laws.specs.sg_hist.Inside.Parts.{is_patch_at, is_walk_of}
 use Rattle.sg_recovery_laws.proofs.Objects.Apart.{makes_row}
 use Rattle.sg_recovery_laws.proofs.Objects.Guarded.{acts, keeps}
 use Rattle.sg_recovery_laws.proofs.Objects.Serve.{names_served}

@@ -10,7 +10,7 @@ use Rattle.sg_facts.specs.declared.trace.Item.{Item}
 use Rattle.sg_facts.specs.Facts.{Facts}
 use Rattle.sg_facts.specs.Object.{object_of}
 use Rattle.sg_facts.specs.Trace.{Boot}
-use Rattle.sg_recovery_laws.specs.sg_hist.Reading.{Position, is_by_guard, is_item_of, is_tagged, items_after, last_items, object_before, older_items, places_in}
+use Rattle.sg_recovery_laws.specs.sg_hist.Reading.{Position, is_by_guard, is_item_of, is_tagged, items_after, last_items, object_before, older_items, places_in, last_places}
 use Rattle.sg_recovery_laws.specs.sg_hist.Wakes.{has_blocked, wakes, wakes_at}
 use Rattle.sg_recovery_laws.proofs.sg_hist.Growing.{entries_before-not_yet}
 use Rattle.sg_recovery_laws.specs.sg_hist.Growing.{IsGrown, IsOfNoEntry, noted}
@@ -20,8 +20,8 @@ use Rattle.sg_recovery_laws.proofs.LastItem.Behind.{object_before_last}
 use Rattle.sg_recovery_laws.specs.LastItem.LastPlace.{HaveItems, last_place}
 use Rattle.sg_world_laws.proofs.Ending.Boots.{places_noted}
 use Rattle.sg_world_laws.proofs.Ending.Wakers.{not_before}
-use Rattle.sg_recovery_laws.specs.sg_hist.Ending.{is_still_blocked, waits_in}
-use Rattle.sg_recovery_laws.specs.sg_hist.Reading.{last_places}
+use Rattle.sg_recovery_laws.specs.sg_hist.Ending.{is_still_blocked}
+use Rattle.sg_recovery_laws.specs.sg_hist.Inside.Parts.{waits_in}
 
 -- ---- an item is noted
 

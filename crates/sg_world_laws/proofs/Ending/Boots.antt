@@ -2,10 +2,9 @@
 use Rattle.std.proofs.Common.{◌≡◌, ◌≢◌, ℕ, suc, length, List, [], ◌∷◌, ◌++◌, refl, ◌∙◌, ap}
 use Rattle.sg_facts.specs.declared.trace.Item.{Item}
 use Rattle.sg_facts.specs.Trace.{Boot}
-use Rattle.sg_recovery_laws.specs.sg_hist.Reading.{last_items, older_items, places_in}
+use Rattle.sg_recovery_laws.specs.sg_hist.Reading.{last_items, older_items, places_in, last_places}
 use Rattle.sg_recovery_laws.proofs.InBoots.{older_noted}
 use Rattle.sg_recovery_laws.specs.sg_hist.Growing.{booted, noted, struck}
-use Rattle.sg_recovery_laws.specs.sg_hist.Reading.{last_places}
 
 -- ---- the last boot
 

@@ -11,7 +11,8 @@ use Rattle.sg_facts.specs.declared.trace.Tag.{Tag}
 use Rattle.sg_facts.specs.declared.trace.Tag.TheVariants.{Walk, Load, Client}
 use Rattle.sg_facts.specs.Trace.{Boot}
 use Rattle.sg_facts.proofs.Replaying.Found.{other_test}
-use Rattle.sg_recovery_laws.specs.sg_hist.Ending.{AreLost, IsLost, client_of, is_unentered}
+use Rattle.sg_recovery_laws.specs.sg_hist.Ending.{AreLost, client_of}
+use Rattle.sg_recovery_laws.specs.sg_hist.Inside.Parts.{IsLost, is_unentered}
 use Rattle.sg_recovery_laws.specs.sg_hist.Growing.{IsGrown, IsOfNoEntry, booted, last_stop, noted, struck}
 use Rattle.sg_recovery_laws.specs.sg_hist.Reading.{Position, is_by_guard, is_item_of, is_tagged, items_of, places_in}
 use Rattle.sg_recovery_laws.specs.sg_hist.Recovered.{is_clients, is_entered, is_replied}

@@ -10,7 +10,8 @@ use Rattle.sg_facts.specs.Facts.{Facts, fun_at}
 use Rattle.sg_facts.specs.Kinds.{MayAsk}
 use Rattle.sg_facts.specs.Laws.{is_none, names_after, next_call}
 use Rattle.sg_facts.specs.Needs.{is_wanted, needs, wanted}
-use Rattle.sg_facts.specs.Object.{Object, file_at, object_from, object_of, patch_of}
+use Rattle.sg_facts.specs.Object.{Object, file_at, object_of, patch_of}
+use Rattle.sg_facts.specs.Inside.Rows.{object_from}
 use Rattle.sg_facts.specs.Track.{is_live, row_at}
 use Rattle.sg_facts.specs.Walks.{replayed_call}
 use Rattle.sg_facts.specs.declared.entry.Entry.{Entry}
@@ -18,8 +19,10 @@ use Rattle.sg_facts.specs.declared.row.Row.{Row}
 use Rattle.sg_facts.specs.declared.tables.WalkLine.{WalkLine}
 use Rattle.sg_facts.specs.declared.trace.Item.{Item}
 use Rattle.sg_facts.specs.declared.trace.Tag.TheVariants.{Walk}
-use Rattle.sg_recovery_laws.specs.sg_hist.Reading.{is_made, is_rebuilt_at, last_items, names_in, older_items, walk_in}
-use Rattle.sg_recovery_laws.specs.sg_hist.Recovered.{call_in, is_walk_of, item_of_load}
+use Rattle.sg_recovery_laws.specs.sg_hist.Reading.{is_made, last_items, older_items, walk_in}
+use Rattle.sg_recovery_laws.specs.sg_hist.Inside.Reads.{is_rebuilt_at, names_in}
+use Rattle.sg_recovery_laws.specs.sg_hist.Recovered.{item_of_load}
+use Rattle.sg_recovery_laws.specs.sg_hist.Inside.Parts.{call_in, is_walk_of}
 use Rattle.sg_recovery_laws.specs.sg_hist.Growing.{IsNextItem, IsOfNoEntry, noted, place_after, struck}
 use Rattle.sg_recovery_laws.specs.Midway.Numbers.{AreNumbers}
 use Rattle.sg_recovery_laws.specs.Midway.Progress.{IsInRecovery, TellsCalls, complete, fresh, is_complete}

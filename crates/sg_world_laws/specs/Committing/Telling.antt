@@ -10,7 +10,7 @@ use Rattle.sg_facts.specs.Object.{Object, after, patch_of}
 use Rattle.sg_facts.specs.Track.{is_live}
 use Rattle.sg_recovery_laws.specs.Midway.Progress.{complete, fresh}
 use Rattle.sg_recovery_laws.specs.Midway.Stepping.{present_with}
-use Rattle.sg_recovery_laws.specs.sg_hist.Reading.{desc_of}
+use Rattle.sg_recovery_laws.specs.sg_hist.Inside.Reads.{desc_of}
 use Rattle.sg_world_laws.specs.Keeping.{Stub}
 
 -- ---- after an answered call

@@ -1,7 +1,8 @@
 -- None is foreign.
 use Rattle.std.proofs.Common.{not, sym, ◌∙◌, ap}
 use Rattle.sg_facts.specs.Facts.{facts_of, fun_of_shape}
-use Rattle.sg_check_statements.specs.Effects.{declared_effects, has_effect, service_effects}
+use Rattle.sg_check_statements.specs.Effects.{declared_effects, has_effect}
+use Rattle.sg_check_statements.specs.Inside.Pieces.{service_effects}
 use Rattle.sg_check_statements.proofs.Judged.{all_by_any}
 use Rattle.sg_check_statements.proofs.effects.are_known.Goals as goal
 

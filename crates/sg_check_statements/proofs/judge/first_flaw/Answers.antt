@@ -1,7 +1,7 @@
 -- Statement by statement.
 use Rattle.std.proofs.Common.{◌≡◌, None, Some, take, sym, ◌∙◌, ap, subst}
 use Rattle.std.proofs.lemmas.List.{take_more, take_all}
-use Rattle.sg_check_statements.specs.Faults.{NoStatement}
+use Rattle.sg_check_statements.specs.Inside.Pieces.{NoStatement}
 use Rattle.sg_check_statements.proofs.Firsts.{none_more, none_at_all, first_here}
 use Rattle.sg_check_statements.proofs.judge.first_flaw.Goals as goal
 

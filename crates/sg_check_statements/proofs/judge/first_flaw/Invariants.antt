@@ -1,6 +1,6 @@
 -- No statement so far has a flaw.
 use Rattle.std.proofs.Common.{◌≡◌, Some, take}
-use Rattle.sg_check_statements.specs.Faults.{NoStatement}
+use Rattle.sg_check_statements.specs.Inside.Pieces.{NoStatement}
 use Rattle.sg_check_statements.proofs.judge.first_flaw.Given as goal
 
 abbrev pub invariant-statements : goal.invariant-statements

@@ -2,7 +2,8 @@
 use Rattle.std.proofs.Common.{◌≡◌, Some, codes, sym, subst}
 use Rattle.std.specs.Prelude.{MatchOption}
 use Rattle.sg_facts.specs.Facts.{facts_of}
-use Rattle.sg_check_statements.specs.Faults.{IsFirstStatement, NoStatement}
+use Rattle.sg_check_statements.specs.Faults.{IsFirstStatement}
+use Rattle.sg_check_statements.specs.Inside.Pieces.{NoStatement}
 use Rattle.sg_check_statements.specs.Flaws.{foreign}
 use Rattle.sg_check_statements.proofs.Judged.{same_pairs}
 use Rattle.sg_check_statements.proofs.pairs.foreign_recover.Goals as goal

@@ -2,8 +2,8 @@
 use Rattle.std.proofs.Common.{◌≡◌, Some, subst}
 use Rattle.std.specs.Prelude.{MatchOption}
 use Rattle.sg_facts.specs.Facts.{facts_of}
-use Rattle.sg_check_statements.specs.Faults.{IsFirstStatement, NoStatement}
-use Rattle.sg_check_statements.specs.Flaws.{unknown}
+use Rattle.sg_check_statements.specs.Faults.{IsFirstStatement}
+use Rattle.sg_check_statements.specs.Inside.Pieces.{NoStatement, unknown}
 use Rattle.sg_check_statements.proofs.unknown.unknown_in.Goals as goal
 
 pub returns : goal.returns

@@ -1,14 +1,16 @@
--- Once the calls that are left have woken their clients, all are awake that are to be.
-use Rattle.std.proofs.Common.{◌≡◌, ℕ, Bool, length, map}
+-- The seats so far are asked again where they are to be, and those of them that still wait are counted.
+use Rattle.std.proofs.Common.{◌≡◌, ◌<◌, ◌≤◌, ℕ, Bool, get_or, map, take}
 use Rattle.sg_name.specs.Names.{AnswersBy}
-use Rattle.sg_seat.specs.WorldView.{woken_seat}
-use Rattle.sg_clients.specs.Inside.Waiting.{AreAmong, AreUnderWay, woken_by}
+use Rattle.sg_seat.specs.WorldView.{no_seat, woken_seat}
+use Rattle.sg_clients.specs.Inside.Waiting.{waiting_in}
 use Rattle.sg_clients.proofs.clients.wake_those.Given as goal
 
-abbrev pub invariant-loop-one : goal.invariant-loop-one
-invariant-loop-one g l = record {
-  calls : AreUnderWay l.seats l.waiting;
-  among : AreAmong (length l.seats) l.one-iterator;
+abbrev pub invariant-loop-seat : goal.invariant-loop-seat
+invariant-loop-seat g l = record {
+  few : l.waiting ≤ l.seat-index;
+  count : l.waiting ≡ waiting_in (take l.seat-index l.seats);
+  done : (meets : ℕ → Bool) → AnswersBy (λ id passes. g.F.Fn.post l.fn.test (id, tt) passes) meets
+      → (k : ℕ) → k < l.seat-index → woken_seat (λ call. meets call.desc) (get_or l.seats k no_seat) ≡ get_or l.seats k no_seat;
   rest : (meets : ℕ → Bool) → AnswersBy (λ id passes. g.F.Fn.post l.fn.test (id, tt) passes) meets
-      → woken_by meets l.one-iterator l.seats ≡ map (woken_seat (λ call. meets call.desc)) l.initial.seats;
+      → map (woken_seat (λ call. meets call.desc)) l.seats ≡ map (woken_seat (λ call. meets call.desc)) l.initial.seats;
 }

@@ -5,9 +5,10 @@ use Rattle.std.proofs.lemmas.List.{length-map}
 use Rattle.sg_cost.proofs.BootCosts.{boot_more, mapped_at}
 use Rattle.sg_cost.proofs.Fronts.{over_more}
 use Rattle.sg_cost.proofs.RowFacts.{front_rows}
-use Rattle.sg_cost.specs.Costs.{replays_for}
+use Rattle.sg_report.specs.Report.{replays_for}
 use Rattle.sg_cost.specs.Inside.LastBoots.{AreLastBoots}
-use Rattle.sg_facts.specs.Trace.{boot_of, run_of}
+use Rattle.sg_facts.specs.Trace.{run_of}
+use Rattle.sg_facts.specs.Inside.Rows.{boot_of}
 use Rattle.sg_cost.proofs.boots.boot_costs.Goals as goal
 
 pub all_walks-requires : goal.all_walks-requires

@@ -1,6 +1,6 @@
 -- The first items are counted.
 use Rattle.std.proofs.Common.{◌≡◌, ◌≤◌, true, take}
-use Rattle.sg_cost.specs.Costs.{replays_for}
+use Rattle.sg_report.specs.Report.{replays_for}
 use Rattle.sg_cost.proofs.boots.replays_in.Given as goal
 
 abbrev pub invariant-items : goal.invariant-items

@@ -2,7 +2,8 @@
 use Rattle.std.proofs.Common.{◌≡◌, ℕ, ◌≤◌, List, length, map, sym, ◌∙◌, ap, subst}
 use Rattle.std.proofs.lemmas.List.{length-map}
 use Rattle.sg_cost.proofs.AllWalks.{total_rows}
-use Rattle.sg_cost.specs.Costs.{all_lengths, declared_funs, fun_cost, most_entries, row_cost}
+use Rattle.sg_cost.specs.Costs.{all_lengths, fun_cost, most_entries}
+use Rattle.sg_cost.specs.Inside.Pieces.{declared_funs, row_cost}
 use Rattle.sg_cost.specs.Inside.Lines.{total}
 use Rattle.sg_cost.specs.declared.costs.BootCost.{BootCost}
 use Rattle.sg_cost.specs.declared.costs.Costs.{Costs}

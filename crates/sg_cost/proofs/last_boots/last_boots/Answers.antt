@@ -4,7 +4,8 @@ use Rattle.std.proofs.lemmas.List.{length-map, length-take-le, map-append}
 use Rattle.sg_cost.proofs.Indexed.{one_more}
 use Rattle.sg_cost.proofs.LastBoots.{last_boot_more}
 use Rattle.sg_cost.specs.Inside.LastBoots.{has_call, kept_boot, last_boot}
-use Rattle.sg_facts.specs.Trace.{Boot, boot_of}
+use Rattle.sg_facts.specs.Trace.{Boot}
+use Rattle.sg_facts.specs.Inside.Rows.{boot_of}
 use Rattle.sg_cost.proofs.last_boots.last_boots.Goals as goal
 
 pub boots-preserved : goal.boots-preserved

@@ -5,7 +5,7 @@ use Rattle.sg_cost.proofs.RowFacts.{each_row}
 use Rattle.sg_cost.proofs.RowsAt.{row_here}
 use Rattle.sg_cost.specs.Costs.{walk_length}
 use Rattle.sg_facts.specs.Limits.{most_fields}
-use Rattle.sg_facts.specs.Track.{parent_in}
+use Rattle.sg_facts.specs.Inside.Rows.{parent_in}
 use Rattle.sg_cost.proofs.lines.deepest_line.Goals as goal
 
 pub walk_length-requires : goal.walk_length-requires

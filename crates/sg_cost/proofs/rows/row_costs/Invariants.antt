@@ -1,6 +1,6 @@
 -- The walks of the first rows are told.
 use Rattle.std.proofs.Common.{◌≡◌, ◌≤◌, map, take}
-use Rattle.sg_cost.specs.Costs.{row_cost}
+use Rattle.sg_cost.specs.Inside.Pieces.{row_cost}
 use Rattle.sg_facts.specs.Walks.{most_calls}
 use Rattle.sg_facts.specs.sg_base.Lists.{Each}
 use Rattle.sg_cost.proofs.rows.row_costs.Given as goal

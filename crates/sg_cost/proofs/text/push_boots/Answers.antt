@@ -3,7 +3,8 @@ use Rattle.std.proofs.Common.{◌≡◌, ◌+◌, ◌++◌, length, take, sym, �
 use Rattle.std.specs.Prelude.{slice_index_or}
 use Rattle.std.proofs.lemmas.List.{length-take-le, take_more}
 use Rattle.sg_cost.proofs.BootLines.{boot_lines_more}
-use Rattle.sg_cost.specs.Lines.{boot_line, boot_lines}
+use Rattle.sg_cost.specs.Lines.{boot_lines}
+use Rattle.sg_cost.specs.Inside.Pieces.{boot_line}
 use Rattle.sg_cost.specs.declared.costs.BootCost.{BootCost}
 use Rattle.sg_cost.proofs.text.push_boots.Goals as goal
 

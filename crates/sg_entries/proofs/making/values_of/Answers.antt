@@ -2,7 +2,7 @@
 use Rattle.std.proofs.Common.{map}
 use Rattle.std.specs.List.{flat_map}
 use Rattle.sg_entries.proofs.Made.{not_made, passed}
-use Rattle.sg_entries.specs.Flaws.{arg_flaws}
+use Rattle.sg_entries.specs.Inside.Flaws.{arg_flaws}
 use Rattle.sg_entries.specs.Inside.Making.{IsMade}
 use Rattle.sg_entries.specs.Standing.{value_of}
 use Rattle.sg_entries.proofs.making.values_of.Goals as goal

@@ -2,7 +2,7 @@
 use Rattle.std.proofs.Common.{map}
 use Rattle.std.specs.List.{flat_map}
 use Rattle.sg_entries.proofs.Made.{not_made, passed}
-use Rattle.sg_entries.specs.Flaws.{word_flaws}
+use Rattle.sg_entries.specs.Inside.Flaws.{word_flaws}
 use Rattle.sg_entries.specs.Inside.Making.{IsMade}
 use Rattle.sg_entries.specs.Standing.{number_of}
 use Rattle.sg_entries.proofs.making.words_of.Goals as goal

@@ -1,7 +1,7 @@
 -- Nothing is wrong with the words so far, and they are made.
 use Rattle.std.proofs.Common.{◌≡◌, [], take, map}
 use Rattle.std.specs.List.{flat_map}
-use Rattle.sg_entries.specs.Flaws.{word_flaws}
+use Rattle.sg_entries.specs.Inside.Flaws.{word_flaws}
 use Rattle.sg_entries.specs.Standing.{number_of}
 use Rattle.sg_entries.proofs.making.words_of.Given as goal
 

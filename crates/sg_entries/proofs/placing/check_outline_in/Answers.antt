@@ -2,8 +2,8 @@
 use Rattle.std.proofs.Common.{Err, arith, subst}
 use Rattle.sg_entries.proofs.Outlines.{outline_first}
 use Rattle.sg_entries.proofs.Within.{first_within}
-use Rattle.sg_entries.specs.Flaws.{Flaw, IsFirst}
-use Rattle.sg_entries.specs.Inside.Making.{IsMade}
+use Rattle.sg_entries.specs.Flaws.{Flaw}
+use Rattle.sg_entries.specs.Inside.Making.{IsFirst, IsMade}
 use Rattle.sg_entries.specs.Inside.Outlines.{outline_flaws}
 use Rattle.sg_entries.proofs.placing.check_outline_in.Goals as goal
 

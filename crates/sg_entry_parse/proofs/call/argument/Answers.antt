@@ -3,7 +3,7 @@ use Rattle.std.proofs.Common.{◌≡◌, ◌∙◌}
 use Rattle.std.proofs.lemmas.Result.{err_from_is_err_and}
 use Rattle.sg_lex.proofs.Chains.{on_true}
 use Rattle.sg_entry_parse.specs.declared.tree.WrittenArg.TheVariants.{Text}
-use Rattle.sg_entry_parse.specs.Entry.{quote_byte}
+use Rattle.sg_entry_parse.specs.Inside.Forms.{quote_byte}
 use Rattle.sg_entry_parse.specs.Inside.Ahead.{Came, Off}
 use Rattle.sg_entry_parse.proofs.ByByte.{quote_came}
 use Rattle.sg_entry_parse.proofs.call.argument.Goals as goal

@@ -2,7 +2,7 @@
 use Rattle.std.proofs.Common.{◌≡◌, ◌∙◌, ◌∷◌, [], ◌++◌, ap, sym}
 use Rattle.std.proofs.lemmas.Result.{err_from_is_err_and}
 use Rattle.sg_lex.proofs.Chains.{on_true}
-use Rattle.sg_lex.specs.Marks.{comma_byte}
+use Rattle.sg_lex.specs.Inside.Marks.{comma_byte}
 use Rattle.sg_entry_parse.specs.Inside.Ahead.{Came, Off}
 use Rattle.sg_entry_parse.specs.Inside.States.{argument, listed}
 use Rattle.sg_entry_parse.specs.Inside.Reads.{read}

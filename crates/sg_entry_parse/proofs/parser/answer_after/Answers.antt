@@ -2,7 +2,7 @@
 use Rattle.std.proofs.Common.{◌∙◌, ap, sym}
 use Rattle.std.specs.Prelude.{codes}
 use Rattle.std.proofs.lemmas.Result.{err_from_is_err_and}
-use Rattle.sg_entry_parse.specs.Entry.{shows_bytes}
+use Rattle.sg_entry_parse.specs.Inside.Forms.{shows_bytes}
 use Rattle.sg_entry_parse.specs.Inside.States.{answered, bytes}
 use Rattle.sg_entry_parse.specs.Inside.Reads.{read}
 use Rattle.sg_entry_parse.proofs.ByByte.{ends_along}

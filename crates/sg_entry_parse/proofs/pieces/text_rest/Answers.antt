@@ -3,7 +3,7 @@ use Rattle.std.proofs.Common.{◌∙◌, ap, sym}
 use Rattle.std.specs.List.{prefix_len}
 use Rattle.std.proofs.lemmas.Result.{err_from_is_err_and}
 use Rattle.sg_base.specs.Text.{is_text_byte}
-use Rattle.sg_entry_parse.specs.Entry.{quote_byte}
+use Rattle.sg_entry_parse.specs.Inside.Forms.{quote_byte}
 use Rattle.sg_entry_parse.specs.Inside.Ahead.{front_of}
 use Rattle.sg_entry_parse.specs.Inside.States.{byte}
 use Rattle.sg_entry_parse.specs.Inside.Reads.{read}

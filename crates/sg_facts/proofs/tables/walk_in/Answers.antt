@@ -1,7 +1,7 @@
 -- Halving finds the line, or none is there.
 use Rattle.std.proofs.Common.{sym}
 use Rattle.std.proofs.lemmas.Fn.{always_returns_same}
-use Rattle.sg_facts.specs.Tables.{line_order}
+use Rattle.sg_facts.specs.Inside.Walking.{line_order}
 use Rattle.sg_facts.proofs.Halving.{found, not_found, rises}
 use Rattle.sg_facts.proofs.tables.walk_in.Goals as goal
 

@@ -1,7 +1,8 @@
 -- Line by line.
 use Rattle.std.proofs.Common.{◌+◌, ◌≤◌, sym, subst, length, take, ℕ, List}
 use Rattle.std.specs.Prelude.{MatchOption}
-use Rattle.sg_input.specs.Divider.{AreLines, Divides, IsCut}
+use Rattle.sg_input.specs.Divider.{Divides, IsCut}
+use Rattle.sg_input.specs.Inside.Dividing.{AreLines}
 use Rattle.sg_input.proofs.Cuts.{cut_at, no_cut, next_line}
 use Rattle.sg_input.proofs.divider.cut.Goals as goal
 

@@ -1,6 +1,7 @@
 -- A line begins at the place, and no line of `%%` alone stands before it.
 use Rattle.std.proofs.Common.{ℕ, ◌≤◌, ◌-◌, List, length, take}
-use Rattle.sg_input.specs.Divider.{AreLines, Divides}
+use Rattle.sg_input.specs.Divider.{Divides}
+use Rattle.sg_input.specs.Inside.Dividing.{AreLines}
 use Rattle.sg_input.proofs.divider.cut.Given as goal
 
 abbrev pub invariant-lines : goal.invariant-lines

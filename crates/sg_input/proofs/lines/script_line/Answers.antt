@@ -3,7 +3,7 @@ use Rattle.std.proofs.Common.{◌∙◌, ap}
 use Rattle.std.specs.Prelude.{codes}
 use Rattle.std.specs.Fmt.{decimal}
 use Rattle.sg_input.specs.Lines.{script_kind_name}
-use Rattle.sg_input.specs.Places.{line_of, column_of}
+use Rattle.sg_input.specs.Inside.Places.{line_of, column_of}
 use Rattle.sg_input.proofs.PlacedLine.{regrouped, same_line}
 use Rattle.sg_input.proofs.lines.script_line.Goals as goal
 

@@ -1,7 +1,8 @@
 -- The calls so far.
 use Rattle.std.proofs.Common.{◌≡◌, []}
-use Rattle.sg_load.specs.Groups.{call, times}
+use Rattle.std.specs.Prelude.{replicate}
+use Rattle.sg_load.specs.Groups.{call}
 use Rattle.sg_load.proofs.groups.times.Given as goal
 
 abbrev pub invariant-each : goal.invariant-each
-invariant-each l = l.calls ≡ times l.done (call l.fun [])
+invariant-each l = l.calls ≡ replicate l.done (call l.fun [])

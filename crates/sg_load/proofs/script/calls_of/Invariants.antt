@@ -1,9 +1,8 @@
 -- The groups so far, with those that are left.
 use Rattle.std.proofs.Common.{◌≡◌, ◌+◌, ◌*◌, ◌-◌, ◌≤◌, ◌++◌}
 use Rattle.sg_load.specs.Drawn.{after_draws}
-use Rattle.sg_load.specs.Generated.{calls_of_client, groups_from, groups_of}
-use Rattle.sg_load.specs.Groups.{most_group}
-use Rattle.sg_load.specs.Sizes.{lock_count}
+use Rattle.sg_load.specs.Generated.{groups_from}
+use Rattle.sg_load.specs.Inside.{calls_of_client, groups_of, lock_count, most_group}
 use Rattle.sg_load.proofs.script.calls_of.Given as goal
 
 abbrev pub invariant-each : goal.invariant-each

@@ -1,7 +1,7 @@
 -- One client more, and all of them.
 use Rattle.std.proofs.Common.{◌≡◌, ℕ, ◌+◌, ◌-◌, List, [], ◌∷◌, ◌++◌, sym, ◌∙◌, ap}
-use Rattle.sg_load.specs.Generated.{calls_of_client, clients_from}
-use Rattle.sg_load.specs.Sizes.{client_count}
+use Rattle.sg_load.specs.Generated.{clients_from}
+use Rattle.sg_load.specs.Inside.{calls_of_client, client_count}
 use Rattle.sg_load.proofs.Steps.{clients_more, clients_none}
 use Rattle.sg_load.proofs.script.clients.Goals as goal
 use Rattle.sg_plain.specs.sg_script.declared.script.ScriptCall.{ScriptCall}

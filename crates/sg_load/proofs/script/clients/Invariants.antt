@@ -1,7 +1,7 @@
 -- The clients so far, with those that are left.
 use Rattle.std.proofs.Common.{◌≡◌, ◌+◌, ◌-◌, ◌++◌}
 use Rattle.sg_load.specs.Generated.{clients_from}
-use Rattle.sg_load.specs.Sizes.{client_count}
+use Rattle.sg_load.specs.Inside.{client_count}
 use Rattle.sg_load.proofs.script.clients.Given as goal
 
 abbrev pub invariant-each : goal.invariant-each

@@ -1,7 +1,7 @@
 -- The stops so far, with those that are left.
 use Rattle.std.proofs.Common.{◌≡◌, ◌*◌, ◌-◌, ◌≤◌, ◌++◌}
 use Rattle.sg_load.specs.Drawn.{after_draws, stops_from}
-use Rattle.sg_load.specs.Sizes.{most_distance, stop_count}
+use Rattle.sg_load.specs.Inside.{most_distance, stop_count}
 use Rattle.sg_load.proofs.script.stops.Given as goal
 
 abbrev pub invariant-each : goal.invariant-each

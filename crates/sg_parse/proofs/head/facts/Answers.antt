@@ -5,7 +5,7 @@ use Rattle.std.proofs.lemmas.Result.{err_from_is_err_and}
 use Rattle.sg_lex.specs.Inside.Automata.{read}
 use Rattle.sg_lex.proofs.Automata.{leads_along}
 use Rattle.sg_parse.specs.Grammar.Pieces.{two}
-use Rattle.sg_parse.specs.Grammar.Sentence.{comma, equals}
+use Rattle.sg_parse.specs.Grammar.Inside.Forms.{comma, equals}
 use Rattle.sg_parse.specs.Grammar.Inside.States.{State, due, first_end, fork, head0, in_newer, second_end, statements, trees}
 use Rattle.sg_parse.specs.Inside.{one_of}
 use Rattle.sg_parse.proofs.head.facts.Goals as goal

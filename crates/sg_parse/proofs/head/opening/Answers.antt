@@ -2,7 +2,7 @@
 use Rattle.std.proofs.Common.{◌∙◌}
 use Rattle.std.proofs.lemmas.Result.{err_from_is_err_and}
 use Rattle.sg_lex.proofs.Automata.{leads_along}
-use Rattle.sg_parse.specs.Grammar.Sentence.{equals, open_brace}
+use Rattle.sg_parse.specs.Grammar.Inside.Forms.{equals, open_brace}
 use Rattle.sg_parse.specs.Grammar.Inside.States.{due, trees}
 use Rattle.sg_parse.proofs.head.opening.Goals as goal
 

@@ -4,7 +4,7 @@ use Rattle.std.specs.Prelude.{codes}
 use Rattle.std.proofs.lemmas.Result.{err_from_is_err_and}
 use Rattle.sg_lex.specs.Inside.Automata.{read}
 use Rattle.sg_parse.specs.Grammar.Pieces.{word}
-use Rattle.sg_parse.specs.Grammar.Sentence.{equals}
+use Rattle.sg_parse.specs.Grammar.Inside.Forms.{equals}
 use Rattle.sg_parse.specs.Grammar.Inside.States.{due, fork, trees}
 use Rattle.sg_parse.specs.Inside.{one_of}
 use Rattle.sg_parse.proofs.head.recovery.Goals as goal

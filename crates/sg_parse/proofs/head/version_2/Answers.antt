@@ -1,7 +1,7 @@
 -- The number and its marks, and then the text as version 2 has it.
 use Rattle.std.proofs.Common.{◌∙◌}
 use Rattle.sg_parse.specs.Grammar.Pieces.{two}
-use Rattle.sg_parse.specs.Grammar.Sentence.{comma}
+use Rattle.sg_parse.specs.Grammar.Inside.Forms.{comma}
 use Rattle.sg_parse.specs.Grammar.Inside.States.{due, in_newer}
 use Rattle.sg_parse.proofs.Seen.{turned_read}
 use Rattle.sg_parse.proofs.head.version_2.Goals as goal

@@ -2,8 +2,8 @@
 use Rattle.std.proofs.Common.{◌∙◌, ap}
 use Rattle.std.specs.Prelude.{None, Some}
 use Rattle.sg_parse.specs.declared.words.Sort.TheVariants.{Name}
-use Rattle.sg_parse.specs.Grammar.Named.{Named}
-use Rattle.sg_parse.specs.Grammar.Sentence.{open_bracket, close_bracket}
+use Rattle.sg_lex.specs.Lexeme.{Spelling as Named}
+use Rattle.sg_parse.specs.Grammar.Inside.Forms.{open_bracket, close_bracket}
 use Rattle.sg_parse.specs.Grammar.Inside.States.{due, want, declared, with_param, type_of, trees}
 use Rattle.sg_lex.specs.Inside.Automata.{read}
 use Rattle.sg_parse.specs.Inside.{either_of}

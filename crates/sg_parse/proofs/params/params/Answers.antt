@@ -1,7 +1,7 @@
 -- The parameters so far, a comma, and the next.
 use Rattle.std.proofs.Common.{◌≡◌, ◌∙◌}
 use Rattle.std.proofs.lemmas.Result.{err_from_is_err_and}
-use Rattle.sg_parse.specs.Grammar.Sentence.{comma}
+use Rattle.sg_parse.specs.Grammar.Inside.Forms.{comma}
 use Rattle.sg_parse.specs.Grammar.Inside.States.{fits}
 use Rattle.sg_lex.specs.Inside.Ahead.{Came, Off}
 use Rattle.sg_parse.proofs.ByToken.{comma_came}

@@ -1,6 +1,6 @@
 -- The names so far were read.
 use Rattle.std.proofs.Common.{◌≡◌, ◌≤◌, List, [], ℕ, length}
-use Rattle.sg_parse.specs.Grammar.Named.{Named}
+use Rattle.sg_lex.specs.Lexeme.{Spelling as Named}
 use Rattle.sg_parse.specs.Grammar.Inside.States.{State, names, trees}
 use Rattle.sg_lex.specs.Inside.Automata.{read}
 use Rattle.sg_parse.proofs.types.names.Given as goal

@@ -5,9 +5,9 @@ use Rattle.std.specs.declared.option.Option.{Option}
 use Rattle.std.specs.Option.{option_map}
 use Rattle.std.specs.Cmp.Lexicographic.{pointwise}
 use Rattle.sg_lex.specs.declared.token.TokenKind.TheVariants.{Word, Number, Mark}
-use Rattle.sg_lex.specs.Lexeme.{Lexeme}
+use Rattle.sg_lex.specs.Lexeme.{Lexeme, Spelling}
 use Rattle.sg_lex.specs.Inside.Automata.{Automaton}
-use Rattle.sg_lex.specs.Inside.Tests.{has_kind, is_this_mark, is_fixed}
+use Rattle.sg_lex.specs.Inside.Tests.{has_kind, is_fixed}
 use Rattle.sg_parse.specs.declared.error.ParseError.{ParseError}
 use Rattle.sg_parse.specs.declared.error.ParseError.TheVariants.{NoMemory, Lex, Syntax}
 use Rattle.sg_parse.specs.declared.tree.Facts.{Facts}
@@ -20,11 +20,9 @@ use Rattle.sg_parse.specs.declared.tree.Param.{Param}
 use Rattle.sg_parse.specs.declared.tree.Tree.{Tree}
 use Rattle.sg_parse.specs.declared.words.Sort.{Sort}
 use Rattle.sg_parse.specs.declared.words.Sort.TheVariants.{Name, One as one_word, Two as two_word, Form, Parents, Closing, Flag}
-use Rattle.sg_parse.specs.Grammar.Named.{Named}
 use Rattle.sg_parse.specs.Grammar.Words.{is_of}
-use Rattle.sg_lex.specs.Marks.{close_brace_byte}
 use Rattle.sg_parse.specs.Grammar.Pieces.{Piece, word, mark, name, two, kept, newer, are_two, kept_word, seen}
-use Rattle.sg_parse.specs.Grammar.Sentence.{open_brace, open_bracket, close_bracket, equals, comma, semicolon, star}
+use Rattle.sg_parse.specs.Grammar.Inside.Forms.{open_brace, open_bracket, close_bracket, equals, comma, semicolon, star}
 
 -- ---- tests of tokens
 
@@ -35,21 +33,21 @@ has_sort sort token = has_kind Word token && is_of sort token.bytes
 -- a token is this piece
 abbrev pub fits : Piece → Lexeme → Bool
 fits (word bytes) token = is_fixed bytes token
-fits (mark byte) token = is_this_mark byte token
+fits (mark bytes) token = has_kind Mark token && pointwise nat_eq token.bytes bytes
 fits (name sort n) token = has_sort sort token && (pointwise nat_eq token.bytes n.bytes && (token.at == n.at))
 fits two token = has_kind Number token && are_two token.bytes
 fits kept token = has_kind Mark token && pointwise nat_eq token.bytes kept_word
 fits (newer p) token = fits p (seen token)
 
 -- the name that a token is
-abbrev pub named_by : Lexeme → Named
+abbrev pub named_by : Lexeme → Spelling
 named_by token = record { bytes = token.bytes; at = token.at }
 
 -- ---- states
 
 -- what follows a type whose names are so many and a last one, and that has so many stars
 abbrev pub Behind : Type 0 → Type 0
-Behind State = List Named → Named → ℕ → State
+Behind State = List Spelling → Spelling → ℕ → State
 
 -- how far a text has been read: what may come next, with the tree so far
 pub data State : Type 0 where
@@ -60,13 +58,13 @@ pub data State : Type 0 where
   -- this word and then the state, or as the second state
   fork : List ℕ → State → State → State
   -- a word of a sort, and then the state of it
-  want : Sort → (Named → State) → State
+  want : Sort → (Spelling → State) → State
   -- in a type, after its names so far: a further name, a star, or what follows the type
-  names : List Named → Named → (List Named → Named → ℕ → State) → State
+  names : List Spelling → Spelling → (List Spelling → Spelling → ℕ → State) → State
   -- in a type, after so many stars: a further star, or what follows the type
-  stars : List Named → Named → ℕ → (List Named → Named → ℕ → State) → State
+  stars : List Spelling → Spelling → ℕ → (List Spelling → Spelling → ℕ → State) → State
   -- a form and then the state of it, or as the second state
-  either : (Named → State) → State → State
+  either : (Spelling → State) → State → State
   -- after a parameter: a comma and a further one, or the end of the parameters and then the state of them all
   listed : List Param → (List Param → State) → State
   -- before a statement or the end
@@ -75,22 +73,22 @@ pub data State : Type 0 where
   in_newer : State → State
 
 -- all names of a type
-abbrev pub type_of : List Named → Named → ℕ → TypeName
+abbrev pub type_of : List Spelling → Spelling → ℕ → TypeName
 type_of front last n = record { names = front ++ last ∷ []; stars = n }
 
 -- a type and a name: without stars the last of at least two names is that name
-abbrev pub declared : (TypeName → Named → State) → List Named → Named → ℕ → State
+abbrev pub declared : (TypeName → Spelling → State) → List Spelling → Spelling → ℕ → State
 declared go front last n =
     if n == 0
     then (if length front == 0 then dead else go (record { names = front; stars = 0 }) last)
     else want Name (λ n'. go (type_of front last n) n')
 
 -- a parameter after others
-abbrev pub with_param : (List Param → State) → List Param → TypeName → Option Named → Named → State
+abbrev pub with_param : (List Param → State) → List Param → TypeName → Option Spelling → Spelling → State
 with_param go params ty form n = listed (params ++ record { ty = ty; form = form; name = n } ∷ []) go
 
 -- after the names and stars of the type of a parameter: its name, or a form with its name in brackets
-abbrev pub param_behind : (List Param → State) → List Param → List Named → Named → ℕ → State
+abbrev pub param_behind : (List Param → State) → List Param → List Spelling → Spelling → ℕ → State
 param_behind go params front last n =
     either
     (λ form. due open_bracket (want Name (λ n'. due close_bracket (with_param go params (type_of front last n) (Some form) n'))))
@@ -101,31 +99,31 @@ abbrev pub param : (List Param → State) → List Param → State
 param go params = want Name (λ first. names [] first (param_behind go params))
 
 -- after the word of a statement over one function
-abbrev pub one_rest : (Statement → State) → Named → State
+abbrev pub one_rest : (Statement → State) → Spelling → State
 one_rest go w = due open_bracket (want Name (λ fun. due close_bracket (due semicolon (go (One w fun)))))
 
 -- after the word of a statement over two names
-abbrev pub two_rest : (Statement → State) → Named → State
+abbrev pub two_rest : (Statement → State) → Spelling → State
 two_rest go w =
     due open_bracket (want Name (λ first. due comma (want Name (λ second.
     due close_bracket (due semicolon (go (Two w first second)))))))
 
 -- after the name of a function
-abbrev pub proto_rest : (Statement → State) → Ret → Named → State
+abbrev pub proto_rest : (Statement → State) → Ret → Spelling → State
 proto_rest go ret n = due open_bracket (param (λ params. due semicolon (go (Proto ret n params))) [])
 
 -- after the type of a returned word that goes into a field: the field, and then the prototype's name and parameters
-abbrev pub returned_behind : (Statement → State) → (TypeName → Named → Ret) → List Named → Named → ℕ → State
+abbrev pub returned_behind : (Statement → State) → (TypeName → Spelling → Ret) → List Spelling → Spelling → ℕ → State
 returned_behind go make front last n =
     due comma (want Name (λ field. due close_bracket (want Name (λ n'.
     proto_rest go (make (type_of front last n) field) n'))))
 
 -- after the word that says what becomes of a returned word: its type and its field in brackets, and then the prototype
-abbrev pub returned_rest : (Statement → State) → (TypeName → Named → Ret) → State
+abbrev pub returned_rest : (Statement → State) → (TypeName → Spelling → Ret) → State
 returned_rest go make = due open_bracket (want Name (λ first. names [] first (returned_behind go make)))
 
 -- after the first name of a plain return
-abbrev pub plain_rest : (Statement → State) → Named → State
+abbrev pub plain_rest : (Statement → State) → Spelling → State
 plain_rest go first = names [] first (declared (λ ty n. proto_rest go (Plain ty) n))
 
 -- after the first token of a statement
@@ -144,43 +142,43 @@ abbrev pub with_statement : Facts → List Statement → Statement → State
 with_statement facts before statement = statements facts (before ++ statement ∷ [])
 
 -- a fact of the head, and what follows it
-abbrev pub fact : List ℕ → Sort → Piece → (Named → State) → State
+abbrev pub fact : List ℕ → Sort → Piece → (Spelling → State) → State
 fact what sort end go = due (word what) (due equals (want sort (λ value. due end (go value))))
 
 -- the end of the head, which says the version and when descriptors are rebuilt
-abbrev pub head_end : (version : ℕ) (eager : Bool) (a b c d e f g : Named) → State
+abbrev pub head_end : (version : ℕ) (eager : Bool) (a b c d e f g : Spelling) → State
 head_end version eager a b c d e f g =
-    due (mark close_brace_byte) (due semicolon
+    due (mark (codes "}")) (due semicolon
     (statements (record { version = version; service = a; parent = b; close = c; global = d; block = e; has_data = f; resc_data = g; eager = eager }) []))
 
 -- after the last fact that texts of both versions have
-abbrev pub first_end : (a b c d e f g : Named) → State
+abbrev pub first_end : (a b c d e f g : Spelling) → State
 first_end a b c d e f g = head_end 1 false a b c d e f g
 
 -- after those facts in a text of version 2: when descriptors are rebuilt, and the end
-abbrev pub second_end : (a b c d e f g : Named) → State
+abbrev pub second_end : (a b c d e f g : Spelling) → State
 second_end a b c d e f g =
     due comma (due (word (codes "desc_recover")) (due equals
     (fork (codes "eager") (head_end 2 true a b c d e f g) (due (word (codes "demand")) (head_end 2 false a b c d e f g)))))
 
 -- the states after each fact of the head, from the last to the first, where these follow them all
-module _ (end : (a b c d e f g : Named) → State) where
-  abbrev pub head6 : (a b c d e f : Named) → State
+module _ (end : (a b c d e f g : Spelling) → State) where
+  abbrev pub head6 : (a b c d e f : Spelling) → State
   head6 a b c d e f = due (word (codes "resc_has_data")) (due equals (want Flag (end a b c d e f)))
 
-  abbrev pub head5 : (a b c d e : Named) → State
+  abbrev pub head5 : (a b c d e : Spelling) → State
   head5 a b c d e = fact (codes "desc_has_data") Flag comma (head6 a b c d e)
 
-  abbrev pub head4 : (a b c d : Named) → State
+  abbrev pub head4 : (a b c d : Spelling) → State
   head4 a b c d = fact (codes "desc_block") Flag comma (head5 a b c d)
 
-  abbrev pub head3 : (a b c : Named) → State
+  abbrev pub head3 : (a b c : Spelling) → State
   head3 a b c = fact (codes "desc_is_global") Flag comma (head4 a b c)
 
-  abbrev pub head2 : (a b : Named) → State
+  abbrev pub head2 : (a b : Spelling) → State
   head2 a b = fact (codes "desc_close") Closing comma (head3 a b)
 
-  abbrev pub head1 : Named → State
+  abbrev pub head1 : Spelling → State
   head1 a = fact (codes "desc_has_parent") Parents comma (head2 a)
 
   abbrev pub head0 : State

@@ -1,6 +1,6 @@
 -- A step hands a reply over or nothing; after its last reply a client leaves.
 use Rattle.std.proofs.Common.{[], Some, slice_set, ◌++◌, ◌-◌, ◌∷◌, ap, subst, sym}
-use Rattle.sg_plain.specs.sg_hist.Reading.{desc_of}
+use Rattle.sg_plain.specs.sg_hist.Inside.Reads.{desc_of}
 use Rattle.sg_plain.specs.Playing.Given.{given_in}
 use Rattle.sg_plain.specs.Playing.Plays.{IsPlaying}
 use Rattle.sg_world.specs.declared.did.Did.TheVariants.{Answered}

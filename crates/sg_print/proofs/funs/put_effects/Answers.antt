@@ -2,7 +2,7 @@
 use Rattle.std.proofs.Common.{◌++◌, map, ◌∙◌, ap}
 use Rattle.std.specs.List.{flat_map}
 use Rattle.std.proofs.lemmas.List.{take_all}
-use Rattle.sg_print.specs.TablesText.{effect_piece}
+use Rattle.sg_print.specs.Inside.Pieces.{effect_piece}
 use Rattle.sg_print.proofs.Numbers.{effects_shown}
 use Rattle.sg_print.proofs.funs.put_effects.Goals as goal
 

@@ -1,6 +1,6 @@
 use Rattle.std.proofs.Common.{◌≡◌, ◌++◌, take, map}
 use Rattle.std.specs.List.{flat_map}
-use Rattle.sg_print.specs.TablesText.{effect_piece}
+use Rattle.sg_print.specs.Inside.Pieces.{effect_piece}
 use Rattle.sg_print.proofs.funs.put_effects.Given as goal
 
 -- the effects so far

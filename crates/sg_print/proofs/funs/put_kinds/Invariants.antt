@@ -1,5 +1,5 @@
 use Rattle.std.proofs.Common.{◌≡◌, ◌++◌, take}
-use Rattle.sg_print.specs.TablesText.{kinds_text}
+use Rattle.sg_print.specs.Inside.Pieces.{kinds_text}
 use Rattle.sg_print.proofs.funs.put_kinds.Given as goal
 
 -- the parameters so far

@@ -1,6 +1,7 @@
 -- The parts of the facts, one after the other.
 use Rattle.std.proofs.Common.{codes}
-use Rattle.sg_print.specs.Printed.{recovery_text, shared_text, version_line}
+use Rattle.sg_print.specs.Printed.{shared_text}
+use Rattle.sg_print.specs.Inside.Pieces.{recovery_text, version_line}
 use Rattle.sg_print.proofs.Rows.{on_ok, four_parts}
 use Rattle.sg_print.proofs.statements.put_facts.Goals as goal
 

@@ -1,7 +1,7 @@
 -- Number by number.
 use Rattle.std.proofs.Common.{◌≡◌, arith}
 use Rattle.sg_facts.specs.Facts.{facts_of}
-use Rattle.sg_print.specs.TablesText.{pairs_from}
+use Rattle.sg_print.specs.Inside.Pieces.{pairs_from}
 use Rattle.sg_print.proofs.Numbers.{all_stand, one_more}
 use Rattle.sg_print.proofs.tables.put_pairs.Goals as goal
 

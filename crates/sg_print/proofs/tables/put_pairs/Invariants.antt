@@ -1,6 +1,6 @@
 -- The lines of the first numbers.
 use Rattle.sg_facts.specs.Facts.{facts_of}
-use Rattle.sg_print.specs.TablesText.{pairs_from}
+use Rattle.sg_print.specs.Inside.Pieces.{pairs_from}
 use Rattle.sg_print.proofs.Numbers.{Stands}
 use Rattle.sg_print.proofs.tables.put_pairs.Given as goal
 

@@ -3,7 +3,7 @@ use Rattle.std.proofs.Common.{◌≡◌, ℕ, [], ◌++◌, List, sym, ◌∙◌
 use Rattle.std.specs.Prelude.{if◌then◌else◌}
 use Rattle.sg_facts.specs.Facts.{facts_of}
 use Rattle.sg_facts.specs.Interface.{has_pair}
-use Rattle.sg_print.specs.TablesText.{pair_line}
+use Rattle.sg_print.specs.Inside.Pieces.{pair_line}
 use Rattle.sg_print.proofs.Numbers.{all_stand, not_there, one_more, there}
 use Rattle.sg_print.proofs.tables.put_pairs_behind.Goals.{then-has_pair+in_ok-put_pair, else-has_pair}
 use Rattle.sg_print.proofs.tables.put_pairs_behind.Goals as goal

@@ -3,7 +3,7 @@ use Rattle.std.proofs.Common.{[]}
 use Rattle.std.specs.Prelude.{if◌then◌else◌}
 use Rattle.sg_facts.specs.Facts.{facts_of}
 use Rattle.sg_facts.specs.Interface.{has_pair}
-use Rattle.sg_print.specs.TablesText.{pair_line}
+use Rattle.sg_print.specs.Inside.Pieces.{pair_line}
 use Rattle.sg_print.proofs.Numbers.{Stands}
 use Rattle.sg_print.proofs.tables.put_pairs_behind.Given as goal
 

@@ -1,6 +1,6 @@
 -- An id without children ends alone.
 use Rattle.std.proofs.Common.{◌≡◌, ◌∙◌, ap, cond, false, true, sym}
-use Rattle.sg_facts.specs.Track.{has_child}
+use Rattle.sg_facts.specs.Inside.Rows.{has_child}
 use Rattle.sg_name.specs.declared.named.Named.TheVariants.{Unnamed}
 use Rattle.sg_name.specs.Names.{named_at}
 use Rattle.sg_replay.proofs.Committed.{alone, itself_goes, none_goes}

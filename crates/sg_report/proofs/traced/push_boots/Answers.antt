@@ -2,9 +2,11 @@
 use Rattle.std.proofs.Common.{◌≡◌, ◌+◌, ◌++◌, [], ◌∷◌, ℕ, List, length, map, take, sym, ◌∙◌, ap, append_assoc, arith}
 use Rattle.std.proofs.lemmas.List.{length-map, length-take, map-append, take_more}
 use Rattle.sg_facts.specs.declared.trace.BootLog.{BootLog}
-use Rattle.sg_facts.specs.Trace.{Boot, boot_of}
+use Rattle.sg_facts.specs.Trace.{Boot}
+use Rattle.sg_facts.specs.Inside.Rows.{boot_of}
 use Rattle.sg_report.proofs.Boots.{boots_push}
-use Rattle.sg_report.specs.Report.{boot_lines, boots_lines}
+use Rattle.sg_report.specs.Report.{boots_lines}
+use Rattle.sg_report.specs.Inside.Pieces.{boot_lines}
 use Rattle.sg_report.proofs.traced.push_boots.Goals as goal
 
 pub boots-preserved : goal.boots-preserved

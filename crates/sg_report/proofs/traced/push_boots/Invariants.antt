@@ -1,6 +1,6 @@
 -- The first boots are printed.
 use Rattle.std.proofs.Common.{◌≡◌, ◌++◌, map, take}
-use Rattle.sg_facts.specs.Trace.{boot_of}
+use Rattle.sg_facts.specs.Inside.Rows.{boot_of}
 use Rattle.sg_report.specs.Report.{boots_lines}
 use Rattle.sg_report.proofs.traced.push_boots.Given as goal
 

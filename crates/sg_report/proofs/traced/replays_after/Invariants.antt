@@ -1,8 +1,8 @@
 -- The first items are counted.
 use Rattle.std.proofs.Common.{◌≡◌, ◌+◌, length, take}
-use Rattle.std.specs.Prelude.{filter, min}
-use Rattle.sg_report.specs.Report.{is_replay}
+use Rattle.std.specs.Prelude.{filter, min, true}
+use Rattle.sg_report.specs.Report.{is_replay_for}
 use Rattle.sg_report.proofs.traced.replays_after.Given as goal
 
 abbrev pub invariant-items : goal.invariant-items
-invariant-items l = l.count ≡ min (l.before + length (filter (λ item. is_replay item.tag item.outcome) (take l.item-index l.items))) 18446744073709551615
+invariant-items l = l.count ≡ min (l.before + length (filter (λ item. is_replay_for (λ id. true) item.tag item.outcome) (take l.item-index l.items))) 18446744073709551615

@@ -2,7 +2,7 @@
 use Rattle.std.proofs.Common.{◌≡◌, drop}
 use Rattle.std.specs.List.{flat_map}
 use Rattle.sg_script.specs.Inside.Firsts.{first_behind}
-use Rattle.sg_script.specs.Flaws.{arg_flaws}
+use Rattle.sg_script.specs.Inside.Parts.{arg_flaws}
 use Rattle.sg_script.proofs.judging.judge_args.Given as goal
 
 abbrev pub invariant-each : goal.invariant-each

@@ -1,7 +1,7 @@
 -- The arguments so far.
 use Rattle.std.proofs.Common.{◌≡◌, true, drop, map, take}
 use Rattle.std.specs.List.{list_all}
-use Rattle.sg_script.specs.Scripts.{arg_of}
+use Rattle.sg_script.specs.Inside.Parts.{arg_of}
 use Rattle.sg_script.specs.Inside.Held.{is_held_arg}
 use Rattle.sg_script.proofs.making.args_of.Given as goal
 

@@ -1,7 +1,7 @@
 -- What the parts that are left add to the clients so far.
 use Rattle.std.proofs.Common.{◌≡◌, true, drop}
 use Rattle.std.specs.List.{fold, list_all}
-use Rattle.sg_script.specs.Scripts.{clients_of, with_client}
+use Rattle.sg_script.specs.Inside.Parts.{clients_of, with_client}
 use Rattle.sg_script.specs.Inside.Held.{is_held}
 use Rattle.sg_script.proofs.making.clients_of.Given as goal
 

@@ -2,7 +2,7 @@
 use Rattle.std.proofs.Common.{◌≡◌, true, drop, map, take}
 use Rattle.std.specs.List.{flat_map, list_all}
 use Rattle.sg_script.specs.Numbers.{counts_as}
-use Rattle.sg_script.specs.Scripts.{turns_of}
+use Rattle.sg_script.specs.Inside.Parts.{turns_of}
 use Rattle.sg_script.specs.Inside.Held.{is_held}
 use Rattle.sg_script.proofs.making.schedule_of.Given as goal
 

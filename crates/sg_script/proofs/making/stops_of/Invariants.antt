@@ -2,7 +2,7 @@
 use Rattle.std.proofs.Common.{◌≡◌, map, take}
 use Rattle.std.specs.List.{flat_map}
 use Rattle.sg_script.specs.Numbers.{counts_as}
-use Rattle.sg_script.specs.Scripts.{stops_of}
+use Rattle.sg_script.specs.Inside.Parts.{stops_of}
 use Rattle.sg_script.proofs.making.stops_of.Given as goal
 
 abbrev pub invariant-each : goal.invariant-each

@@ -6,7 +6,7 @@ use Rattle.sg_lex.specs.Inside.Tests.{is_this_mark}
 use Rattle.sg_lex.specs.Inside.Ahead.{Came, Off}
 use Rattle.sg_script_parse.proofs.ByToken.{dollar_came}
 use Rattle.sg_lex.proofs.Chains.{on_true}
-use Rattle.sg_lex.specs.Marks.{dollar_byte}
+use Rattle.sg_lex.specs.Inside.Marks.{dollar_byte}
 use Rattle.sg_script_parse.proofs.calls.argument.Goals as goal
 
 pub returns-in_err-number-clause-leads : goal.returns-in_err-number-clause-leads

@@ -4,7 +4,7 @@ use Rattle.std.specs.Prelude.{Ok}
 use Rattle.std.proofs.lemmas.Grind.{common_steps}
 use Rattle.std.proofs.lemmas.Result.{err_from_is_err_and}
 use Rattle.sg_lex.specs.declared.token.TokenKind.TheVariants.{Word}
-use Rattle.sg_script_parse.specs.Grammar.Spelling.{Spelling}
+use Rattle.sg_lex.specs.Lexeme.{Spelling}
 use Rattle.sg_script_parse.specs.Grammar.Inside.States.{body, scripts}
 use Rattle.sg_lex.specs.Inside.Tests.{has_kind}
 use Rattle.sg_lex.specs.Inside.Automata.{read}

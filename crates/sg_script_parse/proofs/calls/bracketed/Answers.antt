@@ -8,7 +8,7 @@ use Rattle.sg_lex.specs.Inside.Automata.{read}
 use Rattle.sg_lex.specs.Inside.Ahead.{Came, Off}
 use Rattle.sg_script_parse.proofs.ByToken.{comma_came}
 use Rattle.sg_lex.proofs.Chains.{on_true}
-use Rattle.sg_lex.specs.Marks.{comma_byte}
+use Rattle.sg_lex.specs.Inside.Marks.{comma_byte}
 use Rattle.sg_script_parse.proofs.calls.bracketed.Goals as goal
 
 pub returns-in_err-argument-2-clause-leads : goal.returns-in_err-argument-2-clause-leads

@@ -1,6 +1,6 @@
 -- The numbers so far were read.
 use Rattle.std.proofs.Common.{◌≡◌, ◌≤◌, List, [], length}
-use Rattle.sg_script_parse.specs.Grammar.Spelling.{Spelling}
+use Rattle.sg_lex.specs.Lexeme.{Spelling}
 use Rattle.sg_script_parse.specs.Grammar.Inside.States.{ScriptState, counts, scripts}
 use Rattle.sg_lex.specs.Inside.Automata.{read}
 use Rattle.sg_script_parse.proofs.parts.numbers.Given as goal

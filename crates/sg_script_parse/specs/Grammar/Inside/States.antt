@@ -3,7 +3,7 @@
 use Rattle.std.specs.Prelude.{ℕ, if◌then◌else◌, List, [], ◌∷◌, ◌++◌, None, Some, codes}
 use Rattle.std.specs.declared.option.Option.{Option}
 use Rattle.sg_lex.specs.declared.token.TokenKind.TheVariants.{Word, Number, Text}
-use Rattle.sg_lex.specs.Lexeme.{Lexeme}
+use Rattle.sg_lex.specs.Lexeme.{Lexeme, Spelling}
 use Rattle.sg_lex.specs.Inside.Automata.{Automaton}
 use Rattle.sg_lex.specs.Inside.Tests.{has_kind, is_this_mark, is_fixed}
 use Rattle.sg_script_parse.specs.declared.error.ScriptSyntax.{ScriptSyntax}
@@ -13,8 +13,7 @@ use Rattle.sg_script_parse.specs.declared.tree.WrittenArg.TheVariants.{Number as
 use Rattle.sg_script_parse.specs.declared.tree.WrittenCall.{WrittenCall}
 use Rattle.sg_script_parse.specs.declared.tree.Part.{Part}
 use Rattle.sg_script_parse.specs.declared.tree.Part.TheVariants.{Setup, Client, Schedule, Stop}
-use Rattle.sg_script_parse.specs.Grammar.Spelling.{Spelling}
-use Rattle.sg_lex.specs.Marks.{dollar_byte, open_bracket_byte, semicolon_byte, open_brace_byte, close_bracket_byte, comma_byte, close_brace_byte}
+use Rattle.sg_lex.specs.Inside.Marks.{dollar_byte, open_bracket_byte, semicolon_byte, open_brace_byte, close_bracket_byte, comma_byte, close_brace_byte}
 
 -- what a token spells
 abbrev pub spelt_by : Lexeme → Spelling

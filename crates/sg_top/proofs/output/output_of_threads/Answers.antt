@@ -1,10 +1,11 @@
 -- A script that is ready is played, with a thread for each client.
-use Rattle.std.proofs.Common.{◌∙◌, ap, map, refl, subst}
+use Rattle.std.proofs.Common.{◌∙◌, ap, map, refl, subst, sym, true}
 use Rattle.sg_facts.specs.Facts.{facts_of}
 use Rattle.sg_facts.specs.Interface.{Declared}
-use Rattle.sg_input.specs.Inputs.{IsReady}
+use Rattle.sg_input.specs.Inputs.{IsInputOf, IsReady}
+use Rattle.sg_input.specs.declared.input.Input.TheVariants.{Refused as refused_input}
 use Rattle.sg_shared.specs.Runs.{IsRunOf}
-use Rattle.sg_top.specs.Answer.{services}
+use Rattle.sg_top.specs.Answer.{IsPlayOutput, services}
 use Rattle.sg_top.specs.Headline.{answering}
 use Rattle.sg_top.specs.Inside.Kinds.{kind_by}
 use Rattle.sg_top.proofs.Fitting.{of_kind, ready_for, ready_playable, ready_service, ready_stops}
@@ -54,3 +55,12 @@ returns-in_ok-played-in-Ready g c =
     (c.kind_of-kind.ensures ∙ ap (λ (i : Declared). kind_by i.facts) c.interface.ensures.same) c.in_ok-played-in-Ready.ensures)
     ended status text)
     c.reported.ensures.text c.reported.ensures.status c.reported.ensures.ended
+
+pub returns-in-Refused : goal.returns-in-Refused
+returns-in-Refused g c =
+    subst (λ e. IsPlayOutput c.args.bytes.now true c.args.shows e c.refusing.result.status c.refusing.result.text) (sym c.refusing.ensures.ended) (
+      c.refusing.ensures.status,
+      subst (λ t. IsInputOf services c.args.bytes.now (refused_input t)) (sym c.refusing.ensures.line)
+          (subst (λ x. IsInputOf services c.args.bytes.now x) c.in-Refused.is
+          (subst (λ known. IsInputOf known c.args.bytes.now c.in_ok-accepted.field-0) c.shapes.ensures.facts c.in_ok-accepted.ensures.input)),
+    )

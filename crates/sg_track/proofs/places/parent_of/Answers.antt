@@ -1,6 +1,6 @@
 -- What the look-up finds is the row of the id.
 use Rattle.std.proofs.Common.{ap, sym}
-use Rattle.sg_facts.specs.Track.{parent_in}
+use Rattle.sg_facts.specs.Inside.Rows.{parent_in}
 use Rattle.sg_track.proofs.Entries.{row_found, row_missed}
 use Rattle.sg_track.proofs.places.parent_of.Goals as goal
 

@@ -1,7 +1,7 @@
 -- Name by name.
 use Rattle.std.proofs.Common.{sym, ◌∙◌, ap}
 use Rattle.sg_facts.specs.Facts.{facts_of}
-use Rattle.sg_check_statements.specs.Flaws.{unknown}
+use Rattle.sg_check_statements.specs.Inside.Pieces.{unknown}
 use Rattle.sg_check_statements.proofs.Sets.{two_names}
 use Rattle.sg_check_statements.proofs.unknown.UnknownJudge.flaw_in.Goals as goal
 

@@ -1,19 +1,18 @@
--- The client's call is no longer under way.
+-- The client no longer waits.
 use Rattle.std.proofs.Common.{ap, subst}
-use Rattle.sg_seat.specs.WorldView.{is_offered}
+use Rattle.sg_seat.specs.WorldView.{is_blocked_phase}
 use Rattle.sg_seat.specs.declared.phase.Phase.TheVariants.{Idle}
 use Rattle.sg_clients.specs.Rooms.{FitsSeatRoom}
 use Rattle.sg_clients.proofs.Seats.{Reads, is_changed, is_read}
-use Rattle.sg_clients.proofs.UnderWay.{ended}
+use Rattle.sg_clients.proofs.Waking.{rests}
 use Rattle.sg_clients.proofs.clients.Clients.take_room.Goals as goal
 
 -- the seat that is read is the client's
-reads : (c : goal.After-self-1) → Reads c.self.inside.seats.items c.args.self.now c.from.result c.args.client c.index_mut.result.now
+reads : (c : goal.After-self-2-1) → Reads c.self.inside.seats.items c.args.self.now c.from.result c.args.client c.index_mut.result.now
 reads c = record { same = c.self.view_is; is = c.from.ensures; first = c.requires.client.0; last = c.requires.client.1; read = c.index_mut.ensures.value }
 
 pub invariant_of-self : goal.invariant_of-self
-invariant_of-self c =
-    ended (reads c) c.self.inside.waiting c.take_out.new.waiting c.call.result.now c.withdraw.new.self c.self.invariant c.call.ensures c.take_out.ensures (ap (λ s. is_offered s.phase) c.withdraw.ensures.seat)
+invariant_of-self c = rests (reads c) c.waiting_without-self-inside.result c.withdraw.new.self c.waiting_without-self-inside.ensures.others (ap (λ s. is_blocked_phase s.phase) c.withdraw.ensures.seat)
 
 pub returns-clause-room : goal.returns-clause-room
 returns-clause-room c = subst (λ s. FitsSeatRoom s.call c.withdraw.result) (is_read (reads c)) c.withdraw.ensures.room

@@ -1,6 +1,6 @@
 -- The boots copied so far are the first ones.
 use Rattle.std.proofs.Common.{◌≡◌, map, take}
-use Rattle.sg_facts.specs.Trace.{boot_of}
+use Rattle.sg_facts.specs.Inside.Rows.{boot_of}
 use Rattle.sg_facts.proofs.trace.Trace.copied.Given as goal
 
 abbrev pub invariant-loop-boot : goal.invariant-loop-boot

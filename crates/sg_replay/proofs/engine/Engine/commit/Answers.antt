@@ -1,8 +1,8 @@
 -- The parts agree after a commit.
 use Rattle.std.proofs.Common.{◌≡◌, ℕ, Bool, true, cond, sym, ◌∙◌, ap, arith, subst}
 use Rattle.std.specs.Prelude.{◌&&◌, not}
-use Rattle.sg_facts.specs.Object.{given_after}
-use Rattle.sg_facts.specs.Track.{is_live, track}
+use Rattle.sg_facts.specs.Inside.Rows.{given_after, track}
+use Rattle.sg_facts.specs.Track.{is_live}
 use Rattle.sg_replay.specs.Engined.{IsEngine}
 use Rattle.sg_replay.proofs.Committed.{given_grows, given_left, walks_left, was_live}
 use Rattle.sg_replay.proofs.AllWhole.{stays_whole}

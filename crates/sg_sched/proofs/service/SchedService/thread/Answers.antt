@@ -3,7 +3,7 @@ use Rattle.std.proofs.Common.{◌≡◌, ℕ, ◌<◌, true, false, List, [], �
 use Rattle.std.specs.declared.option.Option.{Option}
 use Rattle.std.specs.Option.{option_map, option_copied, is_some}
 use Rattle.std.proofs.lemmas.Bool.Decides.{nat_tests}
-use Rattle.sg_facts.specs.Track.{has_child}
+use Rattle.sg_facts.specs.Inside.Rows.{has_child}
 use Rattle.sg_slots.specs.Slots.{row_with, rows_of}
 use Rattle.sg_slots.proofs.Ids.{above_low}
 use Rattle.sg_slots.proofs.Rows.{row_at-rows_of}

@@ -2,7 +2,8 @@
 use Rattle.std.proofs.Common.{◌∙◌, ap, sym, refl, map}
 use Rattle.std.specs.Prelude.{◌==◌, if◌then◌else◌}
 use Rattle.std.specs.Map.{values_of}
-use Rattle.sg_facts.specs.Track.{row_after, row_at}
+use Rattle.sg_facts.specs.Track.{row_at}
+use Rattle.sg_facts.specs.Inside.Rows.{row_after}
 use Rattle.sg_track.specs.declared.kept.Kept.{Kept}
 use Rattle.sg_track.specs.Kept.{rows_of}
 use Rattle.sg_track.specs.Tracked.{HasLowerParent}

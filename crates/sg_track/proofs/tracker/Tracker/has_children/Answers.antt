@@ -2,7 +2,7 @@
 use Rattle.std.proofs.Common.{◌∙◌, ap}
 use Rattle.std.specs.Prelude.{nat_lt}
 use Rattle.std.specs.Map.{values_of}
-use Rattle.sg_facts.specs.Track.{has_child}
+use Rattle.sg_facts.specs.Inside.Rows.{has_child}
 use Rattle.sg_track.specs.Kept.{children_of, rows_in}
 use Rattle.sg_track.proofs.Counts.{has-children}
 use Rattle.sg_track.proofs.Entries.{count_found}

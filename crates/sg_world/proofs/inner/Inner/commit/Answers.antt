@@ -3,9 +3,9 @@ use Rattle.std.proofs.Common.{IsSome, [], ap, arith, length, map, refl, subst, s
 use Rattle.std.proofs.lemmas.List.{length-map}
 use Rattle.sg_facts.specs.Invoke.{Points}
 use Rattle.std.specs.Prelude.{slice_set}
-use Rattle.sg_facts.specs.Object.{given_after, object_of}
+use Rattle.sg_facts.specs.Object.{object_of}
+use Rattle.sg_facts.specs.Inside.Rows.{given_after, track}
 use Rattle.sg_replay.specs.sg_hist.Recovered.{struck_in}
-use Rattle.sg_facts.specs.Track.{track}
 use Rattle.sg_facts.specs.declared.entry.Entry.{Entry}
 use Rattle.sg_replay.specs.Committing.{MayCommitAt}
 use Rattle.sg_clients.specs.sg_seat.WorldView.{Seat, is_offered, seat_in, wakes_seat, woken_seat}

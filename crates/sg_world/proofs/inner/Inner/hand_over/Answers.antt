@@ -1,6 +1,5 @@
 -- A world keeps what it keeps where a reply is handed over.
-use Rattle.std.proofs.Common.{arith}
-use Rattle.std.proofs.Common.{ap, length, arith, ◌∙◌, ◌-◌}
+use Rattle.std.proofs.Common.{arith, ap, length, ◌∙◌, ◌-◌}
 use Rattle.sg_clients.specs.sg_seat.WorldView.{no_reply, seat_in}
 use Rattle.sg_clients.specs.sg_seat.declared.phase.Phase.TheVariants.{Idle}
 use Rattle.sg_world.proofs.Rooming.{length_set}

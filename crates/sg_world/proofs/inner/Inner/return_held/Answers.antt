@@ -1,16 +1,14 @@
 -- A world keeps what it keeps where a held reply is committed and handed over.
 use Rattle.std.proofs.Common.{length, ◌-◌, ◌≤◌, None, ap, arith, map, subst, sym, ◌++◌, ◌∙◌, ◌∷◌, [], ◌≡◌, ◌<◌, ◌^◌, refl}
-use Rattle.sg_facts.specs.Object.{given_after}
-use Rattle.sg_facts.specs.Track.{track}
+use Rattle.sg_facts.specs.Inside.Rows.{given_after, track}
 use Rattle.sg_replay.specs.sg_hist.Recovered.{struck_in}
 use Rattle.sg_replay.specs.Committing.{MayCommitAt}
-use Rattle.sg_clients.specs.sg_seat.WorldView.{wakes_seat, woken_seat, seat_in}
+use Rattle.sg_clients.specs.sg_seat.WorldView.{wakes_seat, woken_seat, seat_in, Seat, no_reply}
 use Rattle.sg_clients.specs.sg_seat.declared.mark.MarkKind.TheVariants.{Answer, Entry as IsEntered}
 use Rattle.sg_world.specs.Inners.{rooms_in, view_in}
 use Rattle.sg_world.specs.Worlded.{IsWorld, Rooms, setting_of}
 use Rattle.sg_world.proofs.Returning.{has_rooms, may_return, returned_on, returned_view, waits_live}
 use Rattle.sg_world.specs.Inside.Waiting.{WaitOnLive}
-use Rattle.sg_clients.specs.sg_seat.WorldView.{Seat, no_reply}
 use Rattle.std.proofs.lemmas.List.{length-map}
 use Rattle.sg_world.proofs.Rooming.{length_set}
 use Rattle.sg_clients.specs.sg_seat.declared.phase.Phase.TheVariants.{Idle}

@@ -1,0 +1,3 @@
+-- What the proofs about runs name, and no clause that the program's callers see.
+pub mod Parts
+pub mod Reads

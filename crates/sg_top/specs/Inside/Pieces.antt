@@ -1,0 +1,47 @@
+-- The parts of what a command makes, by themselves.
+use Rattle.std.specs.Prelude.{ℕ, ◌≡◌, ◌≤◌, ◌⊎◌, List, length}
+use Rattle.sg_input.specs.declared.input.Input.TheVariants.{Refused as refused_input}
+use Rattle.sg_input.specs.declared.outcome.Verdict.TheVariants.{Refused as refused}
+use Rattle.sg_input.specs.declared.run_input.RunInput.TheVariants.{Refused as refused_run}
+use Rattle.sg_input.specs.Inputs.{IsInputOf, IsRunInputOf, most_run_input}
+use Rattle.sg_input.specs.Verdicts.{IsVerdict}
+use Rattle.sg_verify.specs.declared.verdict.Verdict.{Verdict as Judgement}
+use Rattle.sg_verify.specs.declared.verdict.Verdict.TheVariants.{Legal}
+use Rattle.sg_top.specs.Answer.{IsJudgedAs, IsRefusal, services}
+use Rattle.sg_top.specs.declared.command.Command.{Command}
+use Rattle.sg_top.specs.declared.command.Command.TheVariants.{Play, Verify, Load}
+use Rattle.sg_top.specs.declared.status.Status.{Status}
+use Rattle.sg_top.specs.declared.status.Status.TheVariants.{Done, Refused, ReadFault, WriteFault, NoMemory, Illegal}
+
+-- the status of what is said of a history
+abbrev pub verdict_status : Judgement → Status
+verdict_status said = elim said as (λ v. Status) [ Legal ↦ Done | _ ↦ Illegal ]
+
+-- the output of a verification, and its status: what is said of a history, or the line of an input that is refused
+abbrev pub IsVerified : List ℕ → Status → List ℕ → Type 0
+IsVerified bytes status output = IsJudgedAs bytes status output ⊎ ((status ≡ Refused) × IsRunInputOf services bytes (refused_run output))
+
+-- the line with which a command refuses bytes that aren't too many
+abbrev pub IsRefusedAs : Command → List ℕ → List ℕ → Type 0
+IsRefusedAs command bytes output = elim command as (λ c. Type 0) [
+  | Play threads shows ↦ IsInputOf services bytes (refused_input output)
+  | Verify ↦ IsRunInputOf services bytes (refused_run output)
+  | Load service number ↦ ⊥
+  | _ ↦ IsVerdict services bytes (refused output)
+]
+
+-- a status for bytes that a command may refuse: where it refuses them the status says so, or that there was a fault or no memory
+abbrev pub SaysRefused : Command → Status → List ℕ → Type 0
+SaysRefused command status bytes =
+    (output : List ℕ) → IsRefusal command bytes output
+    → (status ≡ Refused) ⊎ (status ≡ ReadFault) ⊎ (status ≡ WriteFault) ⊎ (status ≡ NoMemory)
+
+-- bytes print a history that isn't legal, and a verification says so with this line
+abbrev pub IsIllegal : Command → List ℕ → List ℕ → Type 0
+IsIllegal command bytes output = (command ≡ Verify) × (length bytes ≤ most_run_input) × IsJudgedAs bytes Illegal output
+
+-- a status for bytes that may print a history which isn't legal: where they do the status says so, or that there was a fault or no memory
+abbrev pub SaysIllegal : Command → Status → List ℕ → Type 0
+SaysIllegal command status bytes =
+    (output : List ℕ) → IsIllegal command bytes output
+    → (status ≡ Illegal) ⊎ (status ≡ ReadFault) ⊎ (status ≡ WriteFault) ⊎ (status ≡ NoMemory)
