@@ -1,3 +1,4 @@
+pub mod Codes
 pub mod Counts
 pub mod Lists
 pub mod Reply

@@ -1,12 +1,3 @@
--- Facts of the elements of a list, in a form that computes.
-use Rattle.std.specs.Prelude.{Bool, true, false, List, [], ◌∷◌}
-
--- a fact of each
-abbrev pub Each : {A : Type 0} → (A → Type 0) → List A → Type 0
-Each P [] = Unit {0}
-Each P (x ∷ xs) = P x × Each P xs
-
--- a fact that is asked for in one case alone
-abbrev pub When : Bool → Type 0 → Type 0
-When true P = P
-When false P = Unit {0}
+-- Facts of the elements of a list, in a form that computes, and facts that are asked for in one case alone.
+pub use Rattle.std.specs.List.{AllByRecursion as Each}
+pub use Rattle.std.specs.Bool.{OnTrue as When}

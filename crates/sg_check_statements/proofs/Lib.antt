@@ -1,4 +1,5 @@
 pub mod Firsts
+pub mod FirstFact
 pub mod Clear
 pub mod Judged
 pub mod Sets

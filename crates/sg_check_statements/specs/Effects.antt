@@ -1,9 +1,10 @@
 -- Which effects a text declares for a function, by the names of the fields.
-use Rattle.std.specs.Prelude.{ℕ, ◌+◌, ◌==◌, Bool, true, false, ◌&&◌, ◌||◌, if◌then◌else◌, List, [], ◌∷◌, ◌++◌, codes}
+use Rattle.std.specs.Prelude.{ℕ, ◌+◌, Bool, ◌&&◌, ◌||◌, if◌then◌else◌, List, [], ◌∷◌, ◌++◌, codes}
 use Rattle.std.specs.List.{list_any, list_all, flat_map}
 use Rattle.std.specs.Str.{bytes_eq}
 use Rattle.sg_facts.specs.declared.shape.Effect.{Effect}
 use Rattle.sg_facts.specs.declared.shape.Effect.TheVariants.{SetCaller, SetArg, AddArg, SetRet, AddRet, Clear, SubOne, SubRet}
+use Rattle.sg_facts.specs.contracts.shape.EffectPartialEq.TheImpl.{eq-value}
 use Rattle.sg_parse.specs.declared.tree.Param.{Param}
 use Rattle.sg_parse.specs.declared.tree.Ret.{Ret}
 use Rattle.sg_parse.specs.declared.tree.Ret.TheVariants.{Plain, Set, Add, Sub}
@@ -35,17 +36,9 @@ declared_effects statements f ret params =
       | _ ↦ []
     ]) statements
 
--- whether two effects are one
+-- whether two effects are one: `==` of the Rust type
 abbrev pub same_effect : Effect → Effect → Bool
-same_effect SetCaller SetCaller = true
-same_effect (SetArg j) (SetArg k) = j == k
-same_effect (AddArg j) (AddArg k) = j == k
-same_effect SetRet SetRet = true
-same_effect AddRet AddRet = true
-same_effect Clear Clear = true
-same_effect SubOne SubOne = true
-same_effect SubRet SubRet = true
-same_effect _ _ = false
+same_effect a b = eq-value.it a b
 
 -- whether an effect on a field of this name is among these
 abbrev pub has_effect : List (List ℕ × Effect) → List ℕ × Effect → Bool

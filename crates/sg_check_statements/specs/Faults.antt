@@ -1,7 +1,7 @@
 -- Which interface a text declares, and what is first wrong with it.
-use Rattle.std.specs.Prelude.{ℕ, ◌≡◌, ◌<◌, true, ◌&&◌, not, List, ◌∷◌, ◌++◌, None, Some, codes, filter, map}
+use Rattle.std.specs.Prelude.{ℕ, ◌≡◌, ◌<◌, true, ◌&&◌, not, List, ◌∷◌, ◌++◌, None, Some, codes, filter, map, []}
 use Rattle.std.specs.Bool.{then_some}
-use Rattle.std.specs.List.{list_any}
+use Rattle.std.specs.List.{list_any, position_or_len}
 use Rattle.sg_facts.specs.Facts.{Facts, fun_at}
 use Rattle.sg_facts.specs.Fields.{number_of as number_of_bits}
 use Rattle.sg_facts.specs.Fits.{Fits, IsReached, needs_reach}
@@ -12,6 +12,7 @@ use Rattle.sg_check_statements.specs.declared.fault.CheckKind.{CheckKind}
 use Rattle.sg_check_statements.specs.declared.fault.CheckKind.TheVariants.{UnknownService, DuplicateName, UnknownFunction, BadParams, WrongFact, WrongFlag, WrongEffect, ForeignTransition, ForeignRecover, NoCreation, Unreached, NoWalk}
 use Rattle.sg_check_statements.specs.Says.{has_proto, says_of, service_of}
 use Rattle.sg_check_statements.specs.Flaws.{duplicate, flaw_of, wrong_fact, IsProtoWhere, HasNoWalk}
+use Rattle.sg_check_statements.specs.contracts.fault.CheckKindPartialEq.TheImpl.{eq-value as same_kind}
 
 -- the interface that a text declares of a service: the functions that have a prototype, the version of its language, whether
 -- it is eager, and those of the service's transitions and recover steps that a statement names
@@ -50,20 +51,17 @@ FirstOf services tree UnknownService at = (service_of services tree.facts.servic
 FirstOf services tree DuplicateName at = IsFirstStatement (λ before s p. duplicate before s ≡ Some p) tree.statements at
 FirstOf services tree kind at = (facts : Facts) × (service_of services tree.facts.service.bytes ≡ Some facts) × FirstIn facts tree kind at
 
--- the place of a kind in the order in which kinds are looked for
+-- the kinds in the order in which they are looked for, each with its name
+abbrev pub check_kinds : List (CheckKind × List ℕ)
+check_kinds =
+    (UnknownService, codes "UnknownService") ∷ (DuplicateName, codes "DuplicateName") ∷ (UnknownFunction, codes "UnknownFunction")
+    ∷ (BadParams, codes "BadParams") ∷ (WrongFact, codes "WrongFact") ∷ (WrongFlag, codes "WrongFlag") ∷ (WrongEffect, codes "WrongEffect")
+    ∷ (ForeignTransition, codes "ForeignTransition") ∷ (ForeignRecover, codes "ForeignRecover") ∷ (NoCreation, codes "NoCreation")
+    ∷ (Unreached, codes "Unreached") ∷ (NoWalk, codes "NoWalk") ∷ []
+
+-- the place of a kind in that order
 abbrev pub kind_rank : CheckKind → ℕ
-kind_rank UnknownService = 0
-kind_rank DuplicateName = 1
-kind_rank UnknownFunction = 2
-kind_rank BadParams = 3
-kind_rank WrongFact = 4
-kind_rank WrongFlag = 5
-kind_rank WrongEffect = 6
-kind_rank ForeignTransition = 7
-kind_rank ForeignRecover = 8
-kind_rank NoCreation = 9
-kind_rank Unreached = 10
-kind_rank NoWalk = 11
+kind_rank kind = position_or_len (λ p. same_kind.it p.0 kind) check_kinds
 
 -- what is first wrong with a text: of the kinds that are wrong the earliest, at its first place
 pub record IsFault (services : List Facts) (tree : Tree) (kind : CheckKind) (at : ℕ) : Type 0 where

@@ -1,9 +1,9 @@
 -- What can be wrong with a statement, or with the facts, of a text, and at which place.
-use Rattle.std.specs.Prelude.{ℕ, ◌≡◌, ◌≤◌, Bool, true, false, ◌&&◌, ◌||◌, not, if◌then◌else◌, List, None, codes, length, map, unwrap_or}
+use Rattle.std.specs.Prelude.{ℕ, ◌≡◌, ◌≤◌, Bool, true, false, ◌&&◌, ◌||◌, not, if◌then◌else◌, List, None, codes, length, map, unwrap_or, [], ◌∷◌, find}
 use Rattle.std.specs.declared.option.Option.{Option}
 use Rattle.std.specs.Bool.{then_some}
 use Rattle.std.specs.List.{list_any}
-use Rattle.std.specs.Option.{is_none, option_map_or, option_or}
+use Rattle.std.specs.Option.{is_none, option_map_or, option_or, option_map}
 use Rattle.std.specs.Str.{bytes_eq}
 use Rattle.sg_facts.specs.declared.shape.Effect.{Effect}
 use Rattle.sg_facts.specs.declared.shape.Leaves.{Leaves}
@@ -12,10 +12,10 @@ use Rattle.sg_facts.specs.Facts.{Facts, Fun, fun_at}
 use Rattle.sg_facts.specs.Interface.{Declared, has_pair}
 use Rattle.sg_facts.specs.Words.{close_word, field_name, flag_word, parents_word}
 use Rattle.sg_facts.specs.Walks.{IsReachable, begin_of, most_calls, restores}
-use Rattle.sg_parse.specs.sg_lex.Lexeme.{Spelling as Named}
 use Rattle.sg_parse.specs.declared.tree.Facts.{Facts as Head}
 use Rattle.sg_parse.specs.declared.tree.Statement.{Statement}
 use Rattle.sg_parse.specs.declared.tree.Statement.TheVariants.{One, Two, Proto}
+use Rattle.sg_parse.specs.sg_lex.Lexeme.{Spelling as Named}
 use Rattle.sg_check_statements.specs.declared.fault.CheckKind.{CheckKind}
 use Rattle.sg_check_statements.specs.declared.fault.CheckKind.TheVariants.{UnknownFunction, BadParams, WrongFlag, WrongEffect, ForeignTransition, ForeignRecover}
 use Rattle.sg_check_statements.specs.Says.{has_proto, fun_number, says, says_of}
@@ -29,13 +29,9 @@ fun_of_name facts name = fun_at facts.funs (unwrap_or (fun_number facts.funs nam
 -- the first fact that isn't the service's
 abbrev pub wrong_fact : Facts → Head → Option ℕ
 wrong_fact facts head =
-    let other : Named → List ℕ → Option ℕ = λ value word. then_some (not (bytes_eq value.bytes word)) value.at in
-    option_or (other head.parent (parents_word facts.parents))
-    (option_or (other head.close (close_word facts.subtree))
-    (option_or (other head.global (flag_word facts.global))
-    (option_or (other head.block (flag_word facts.block))
-    (option_or (other head.has_data (flag_word facts.has_data))
-    (other head.resc_data (flag_word facts.resc_data))))))
+    option_map (λ (p : Named × List ℕ). p.0.at) (find (λ (p : Named × List ℕ). not (bytes_eq p.0.bytes p.1)) (
+    (head.parent, parents_word facts.parents) ∷ (head.close, close_word facts.subtree) ∷ (head.global, flag_word facts.global)
+    ∷ (head.block, flag_word facts.block) ∷ (head.has_data, flag_word facts.has_data) ∷ (head.resc_data, flag_word facts.resc_data) ∷ []))
 
 -- whether a statement names a state that a function leaves
 abbrev pub leaves_some : List ℕ → Statement → Bool

@@ -1,8 +1,9 @@
 -- Which parameters a function's prototype is to have.
-use Rattle.std.specs.Prelude.{ℕ, ◌-◌, ◌==◌, Bool, true, false, ◌&&◌, ◌||◌, not, List, [], ◌∷◌, codes, length, slice_get}
+use Rattle.std.specs.Prelude.{ℕ, ◌-◌, ◌==◌, Bool, false, ◌&&◌, ◌||◌, not, List, [], ◌∷◌, codes, length, slice_get}
 use Rattle.std.specs.declared.option.Option.{Option}
 use Rattle.std.specs.Option.{option_map_or}
 use Rattle.std.specs.Str.{bytes_eq}
+use Rattle.std.specs.Cmp.Lexicographic.{pointwise}
 use Rattle.sg_facts.specs.declared.shape.Kind.{Kind}
 use Rattle.sg_facts.specs.declared.shape.Kind.TheVariants.{Desc, Parent, Word, Text}
 use Rattle.sg_facts.specs.Facts.{Fun}
@@ -21,18 +22,12 @@ is_of_kind p Parent = has_word p.form (codes "parent_desc") && (p.ty.stars == 0)
 is_of_kind p Word = not (has_word p.form (codes "desc")) && not (has_word p.form (codes "parent_desc")) && (p.ty.stars == 0)
 is_of_kind p Text = not (has_word p.form (codes "desc")) && not (has_word p.form (codes "parent_desc")) && not (p.ty.stars == 0)
 
--- whether later parameters are of these kinds, one by one
-abbrev pub are_of_kinds : List Param → List Kind → Bool
-are_of_kinds [] [] = true
-are_of_kinds (p ∷ params) (k ∷ kinds) = is_of_kind p k && are_of_kinds params kinds
-are_of_kinds _ _ = false
-
 -- whether parameters are those of a function: the first is a client, whose type has no star and ends in one of two names, and is neither
--- descriptor nor parent, nor added to a field
+-- descriptor nor parent, nor added to a field; the later ones are of the kinds, one by one
 abbrev pub fit_params : Fun → List Param → Bool
 fit_params f [] = false
 fit_params f (p ∷ params) =
     let last = slice_get p.ty.names (length p.ty.names - 1) in
     ((p.ty.stars == 0) && (has_word last (codes "spdid_t") || has_word last (codes "componentid_t")))
     && not (has_word p.form (codes "desc") || has_word p.form (codes "parent_desc") || has_word p.form (codes "desc_data_add"))
-    && are_of_kinds params f.kinds
+    && pointwise is_of_kind params f.kinds

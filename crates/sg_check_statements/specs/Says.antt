@@ -7,29 +7,19 @@ use Rattle.sg_facts.specs.Facts.{Facts, Fun}
 use Rattle.sg_parse.specs.declared.tree.Statement.{Statement}
 use Rattle.sg_parse.specs.declared.tree.Statement.TheVariants.{One, Two, Proto}
 
--- whether a statement is a prototype of a function
-abbrev pub is_proto : List ℕ → Statement → Bool
-is_proto f s = elim s [ Proto ret name params ↦ bytes_eq name.bytes f | _ ↦ false ]
-
--- whether a statement says a word of a function
-abbrev pub is_one : List ℕ → List ℕ → Statement → Bool
-is_one w f s = elim s [ One word fun ↦ bytes_eq word.bytes w && bytes_eq fun.bytes f | _ ↦ false ]
-
--- whether a statement says a word of a function and another name
-abbrev pub is_two : List ℕ → List ℕ → List ℕ → Statement → Bool
-is_two w f g s = elim s [ Two word first second ↦ bytes_eq word.bytes w && bytes_eq first.bytes f && bytes_eq second.bytes g | _ ↦ false ]
-
 -- whether some statement is a prototype of a function
 abbrev pub has_proto : List Statement → List ℕ → Bool
-has_proto statements f = list_any (is_proto f) statements
+has_proto statements f = list_any (λ (s : Statement). elim s [ Proto ret name params ↦ bytes_eq name.bytes f | _ ↦ false ]) statements
 
 -- whether some statement says a word of a function
 abbrev pub says : List Statement → List ℕ → List ℕ → Bool
-says statements w f = list_any (is_one w f) statements
+says statements w f =
+    list_any (λ (s : Statement). elim s [ One word fun ↦ bytes_eq word.bytes w && bytes_eq fun.bytes f | _ ↦ false ]) statements
 
 -- whether some statement says a word of a function and another name
 abbrev pub says_of : List Statement → List ℕ → List ℕ → List ℕ → Bool
-says_of statements w f g = list_any (is_two w f g) statements
+says_of statements w f g =
+    list_any (λ (s : Statement). elim s [ Two word first second ↦ bytes_eq word.bytes w && bytes_eq first.bytes f && bytes_eq second.bytes g | _ ↦ false ]) statements
 
 -- the number, from one on, of the first function with a name
 abbrev pub fun_number_from : ℕ → List Fun → List ℕ → Option ℕ

@@ -2,7 +2,7 @@
 ghost use Rattle.std.specs.Prelude.{◌≡◌};
 ghost use Rattle.sg_facts.specs.Facts.{facts_of};
 ghost use Rattle.sg_check_statements.specs.Flaws.{wrong_fact};
-ghost use Rattle.sg_check_statements.specs.Inside.Pieces.{other_value};
+ghost use Rattle.sg_check_statements.specs.Inside.Pieces.{first_other, other_value};
 
 use sg_facts::{Shape, close_word, flag_word, parents_word};
 use sg_parse::{Facts, Name};
@@ -10,6 +10,13 @@ use sg_parse::{Facts, Name};
 /// The place of the first fact that isn't the service's.
 pub fn wrong_fact(shape: &Shape, facts: &Facts) -> Option<usize>
     ensures { result ≡ wrong_fact (facts_of shape.now) facts.now }
+{
+    first_other(shape, facts)
+}
+
+// The same, one fact after the other.
+fn first_other(shape: &Shape, facts: &Facts) -> Option<usize>
+    ensures { result ≡ first_other (facts_of shape.now) facts.now }
 {
     let parent = other_value(&facts.parent, parents_word(shape.parents));
     let close = other_value(&facts.close, close_word(shape.subtree));

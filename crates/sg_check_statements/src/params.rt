@@ -1,9 +1,10 @@
 // Whether a prototype has the parameters of its function.
 ghost use Rattle.std.specs.Prelude.{◌≡◌, Some, MatchOption, codes};
 ghost use Rattle.sg_facts.specs.Facts.{facts_of, fun_of_shape};
+ghost use Rattle.std.specs.Cmp.Lexicographic.{pointwise};
 ghost use Rattle.sg_check_statements.specs.Faults.{IsFirstStatement};
 ghost use Rattle.sg_check_statements.specs.Inside.Pieces.{NoStatement, bad_params, is_caller, is_client_type};
-ghost use Rattle.sg_check_statements.specs.Params.{is_of_kind, are_of_kinds, fit_params, has_word};
+ghost use Rattle.sg_check_statements.specs.Params.{is_of_kind, fit_params, has_word};
 
 use crate::funs::fun_of_name;
 use crate::judge::{Judge, first_flaw};
@@ -90,7 +91,7 @@ pub fn has_word(name: &Option<Name>, word: &[u8]) -> bool
 
 // Whether later parameters are of these kinds.
 fn are_of_kinds(params: &[Param], kinds: &[Kind]) -> bool
-    ensures { result ≡ are_of_kinds params.now kinds.now }
+    ensures { result ≡ pointwise is_of_kind params.now kinds.now }
 {
     match params {
         [] => kinds.is_empty(),

@@ -1,8 +1,8 @@
 // The functions that have a prototype.
 ghost use Rattle.std.specs.Prelude.{◌≡◌, ◌||◌, ℕ, List, Some, IfOk, OnOk, MatchOption};
 ghost use Rattle.sg_check_statements.specs.Faults.{IsFirstStatement};
-ghost use Rattle.sg_check_statements.specs.Inside.Pieces.{NoStatement};
-ghost use Rattle.sg_check_statements.specs.Says.{is_proto, has_proto};
+ghost use Rattle.sg_check_statements.specs.Inside.Pieces.{NoStatement, is_proto};
+ghost use Rattle.sg_check_statements.specs.Says.{has_proto};
 ghost use Rattle.sg_check_statements.specs.Flaws.{duplicate};
 ghost use Rattle.sg_check_statements.specs.NameSet.{AreOf, has_name};
 ghost use Rattle.sg_parse.specs.declared.tree.Statement.{Statement as One};

@@ -1,6 +1,7 @@
 // What the statements of a text say of functions.
 ghost use Rattle.std.specs.Prelude.{◌≡◌, codes};
-ghost use Rattle.sg_check_statements.specs.Says.{has_proto, says, says_of, is_one, is_proto, is_two};
+ghost use Rattle.sg_check_statements.specs.Says.{has_proto, says, says_of};
+ghost use Rattle.sg_check_statements.specs.Inside.Pieces.{is_one, is_proto, is_two};
 
 use sg_parse::Statement;
 

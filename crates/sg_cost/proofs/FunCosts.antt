@@ -2,8 +2,8 @@
 use Rattle.std.proofs.Common.{◌≡◌, ℕ, zero, suc, ◌+◌, ◌≤◌, Bool, true, false, cond, ◌||◌, List, [], ◌∷◌, ◌++◌, filter, map, max, refl, ◌∙◌, ap, arith}
 use Rattle.std.specs.Prelude.{◌==◌}
 use Rattle.sg_cost.proofs.LineCosts.{line_zero}
-use Rattle.sg_cost.specs.Costs.{all_lengths, cost_of, declared_from, fun_cost, greatest}
-use Rattle.sg_cost.specs.Inside.Pieces.{call_on}
+use Rattle.sg_cost.specs.Costs.{all_lengths, cost_of, fun_cost, greatest}
+use Rattle.sg_cost.specs.Inside.Pieces.{call_on, declared_from}
 use Rattle.sg_cost.specs.Inside.Lines.{line_cost}
 use Rattle.sg_facts.specs.Facts.{Fun, fun_at, takes_desc, takes_parent}
 use Rattle.sg_facts.specs.Interface.{Declared, declares}

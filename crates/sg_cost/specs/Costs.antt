@@ -1,8 +1,8 @@
 -- What replayed calls a stop can cost, and how many there were.
-use Rattle.std.specs.Prelude.{ℕ, ◌≡◌, zero, suc, ◌+◌, ◌*◌, ◌^◌, ◌≤◌, ◌==◌, true, ◌&&◌, ◌||◌, not, if◌then◌else◌, max, List, [], ◌∷◌, ◌++◌, Some, filter, length, map}
+use Rattle.std.specs.Prelude.{ℕ, ◌≡◌, ◌+◌, ◌*◌, ◌^◌, ◌≤◌, ◌==◌, true, ◌&&◌, ◌||◌, not, if◌then◌else◌, max, List, [], ◌∷◌, ◌++◌, Some, filter, length, map}
 use Rattle.std.specs.declared.option.Option.{Option}
 use Rattle.std.specs.Option.{option_map_or}
-use Rattle.std.specs.List.{list_any}
+use Rattle.std.specs.List.{list_any, range_with_len}
 use Rattle.sg_facts.specs.sg_base.declared.call.Call.{Call}
 use Rattle.sg_facts.specs.Facts.{Facts, fun_at, takes_desc, takes_parent}
 use Rattle.sg_cost.specs.declared.costs.BootCost.{BootCost}
@@ -83,11 +83,6 @@ fun_cost i walks rows fun =
     let cost : ℕ → ℕ = λ id. cost_of i walks rows (record { client = 0; seq = 0; fun = fun; desc = id; args = [] }) in
     record { fun = fun; cost = greatest (map cost ids) }
 
--- the numbers of the declared functions among so many from one on, ascending
-abbrev pub declared_from : Declared → ℕ → ℕ → List ℕ
-declared_from i fun zero = []
-declared_from i fun (suc more) = if declares i fun then fun ∷ declared_from i (fun + 1) more else declared_from i (fun + 1) more
-
 -- for each of some boots, which stand after others, the replayed calls that were answered, beside the calls of the walks of all rows at its
 -- opening
 abbrev pub boot_costs : Facts → List WalkLine → List Entry → List Boot → List Boot → List BootCost
@@ -103,7 +98,7 @@ costs_at i walks history run =
     let live : List Row = (object_of i.facts history).rows in
     record {
       rows = map (λ r. record { id = r.id; walk = walk_length walks (Some r) }) live;
-      functions = map (fun_cost i walks live) (declared_from i 1 most_funs);
+      functions = map (fun_cost i walks live) (filter (declares i) (range_with_len 1 most_funs));
       all = all_lengths walks live;
       boots = boot_costs i.facts walks history [] run.boots;
     }

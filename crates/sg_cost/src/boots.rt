@@ -1,7 +1,8 @@
 // What the boots of a run cost.
 ghost use Rattle.std.specs.Prelude.{◌≡◌, ◌≤◌, [], IfOk, OnOk, length, true};
 ghost use Rattle.sg_cost.specs.Costs.{boot_costs, most_entries};
-ghost use Rattle.sg_report.specs.Report.{is_replay_for, replays_for};
+ghost use Rattle.sg_report.specs.Inside.Pieces.{is_replay_for};
+ghost use Rattle.sg_report.specs.Report.{replays_for};
 ghost use Rattle.sg_cost.specs.Inside.Fronts.{AreInRun, IsFront, MayBeTracked};
 ghost use Rattle.sg_facts.specs.Interface.{HasFewFields};
 ghost use Rattle.sg_facts.specs.Trace.{run_of};

@@ -17,7 +17,7 @@ use Rattle.sg_entries.specs.Printed.{HasNames, MayBePrinted, PrintsHistory}
 use Rattle.sg_entries.specs.Reads.{AreEntries}
 use Rattle.sg_entries.specs.Inside.Parsing.{IsHistory}
 use Rattle.sg_entries.specs.Standing.{entry_of}
-use Rattle.sg_entry_parse.specs.Codes.{code_name}
+use Rattle.sg_facts.specs.sg_base.Codes.{code_name}
 use Rattle.sg_entry_parse.specs.Entry.{answer_pieces, arg_pieces, entry_pieces}
 use Rattle.sg_entry_parse.specs.Inside.Forms.{IsWellFormed, args_pieces, bytes_pieces, desc_pieces, entry_bytes, next_arg_pieces, word_pieces}
 use Rattle.sg_entry_parse.specs.Pieces.{ArePlaced, EntryPiece, IsPiece, IsPositive, fixed, name, number, piece_bytes, positive, printable}

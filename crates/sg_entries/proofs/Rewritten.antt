@@ -7,6 +7,7 @@ use Rattle.std.specs.List.{flat_map, list_all}
 use Rattle.std.specs.declared.option.Option.{Option}
 use Rattle.std.proofs.lemmas.Bool.Decides.{nat_tests}
 use Rattle.std.proofs.lemmas.Fmt.{decimal_digit, decimal_nonempty, digits_decimal, digits_value-decimal, first_decimal}
+use Rattle.std.specs.Option.{is_some}
 use Rattle.sg_entries.proofs.Spelt.{numeral, written}
 use Rattle.sg_entries.specs.Flaws.{entry_flaws, flaw_if, number_flaws, text_flaws, values_fit}
 use Rattle.sg_entries.specs.Inside.Flaws.{answer_flaws, arg_flaws, client_flaws, fun_flaws, optional_flaws, too_many_entries, word_flaws}
@@ -15,7 +16,7 @@ use Rattle.sg_entries.specs.Standing.{args_in, entry_of, id_in, number_of, value
 use Rattle.sg_entries.specs.Inside.Standing.{bytes_of, desc_of, fun_of, reply_of}
 use Rattle.sg_entries.specs.declared.error.EntriesKind.{EntriesKind}
 use Rattle.sg_entries.specs.declared.error.EntriesKind.TheVariants.{BadArgs, BadClient, Limit}
-use Rattle.sg_entry_parse.specs.Entry.{AreShown, IsAnswer, answer_pieces, arg_pieces}
+use Rattle.sg_entry_parse.specs.Entry.{IsAnswer, answer_pieces, arg_pieces}
 use Rattle.sg_entry_parse.specs.Inside.Forms.{IsWellFormed, args_pieces, bytes_pieces, desc_pieces, next_arg_pieces, word_pieces}
 use Rattle.sg_entry_parse.specs.Pieces.{ArePlaced, EntryPiece, IsPositive, fixed, piece_bytes}
 use Rattle.sg_entry_parse.specs.Inside.Classes.{IsNumber, is_first_digit}
@@ -242,9 +243,9 @@ bytes_flawless : (at : ℕ) (shown : Bool) (bytes : List ℕ) → is_text bytes 
 bytes_flawless at true bytes is = text_flawless (record { bytes = bytes; at = at + 1 + 1 }) is
 bytes_flawless at false bytes is = refl
 
-bytes_shown : (at : ℕ) (shown : Bool) (bytes : List ℕ) → AreShown shown (bytes_at at shown bytes)
-bytes_shown at true bytes = tt
-bytes_shown at false bytes = tt
+bytes_shown : (at : ℕ) (shown : Bool) (bytes : List ℕ) → is_some (bytes_at at shown bytes) ≡ shown
+bytes_shown at true bytes = refl
+bytes_shown at false bytes = refl
 
 pub answer_placed : (at : ℕ) (f : Fun) (r : Reply) → IsShownReply f r → ArePlaced at (answer_pieces (answer_at at f r))
 answer_placed at f (Refused code) is = (tt, (tt, tt))

@@ -10,6 +10,7 @@ use Rattle.std.proofs.lemmas.Fmt.{decimal-digits_value}
 use Rattle.std.proofs.lemmas.Grind.{flat_map-append}
 use Rattle.std.proofs.lemmas.List.{length-map}
 use Rattle.std.proofs.lemmas.Str.Parse.{FoldsDigits, IsDigitsTest, IsNumeralModel, numerals_by_fold}
+use Rattle.std.specs.Option.{is_some}
 use Rattle.sg_entries.proofs.Flawless.{IsFlawless, args_words, back_none, each_entry, entries_few, fits_bits, flawless_parts, front_none, has_fun, is_true, made_of, not_flawed}
 use Rattle.sg_entries.proofs.Halves.{unmapped}
 use Rattle.sg_entries.proofs.Within.{each_back, each_front}
@@ -22,8 +23,8 @@ use Rattle.sg_entries.specs.Inside.Parsing.{IsHistory}
 use Rattle.sg_entries.specs.Standing.{args_in, entry_of, id_in, number_of, value_of}
 use Rattle.sg_entries.specs.Inside.Standing.{bytes_of, desc_of, fun_of, reply_of}
 use Rattle.sg_entries.specs.declared.error.EntriesKind.TheVariants.{Limit}
-use Rattle.sg_entry_parse.specs.Codes.{code_name as written_code}
-use Rattle.sg_entry_parse.specs.Entry.{AreShown, IsAnswer, IsEntry, answer_pieces, arg_pieces, entry_pieces}
+use Rattle.sg_facts.specs.sg_base.Codes.{code_name, code_name as written_code}
+use Rattle.sg_entry_parse.specs.Entry.{IsAnswer, IsEntry, answer_pieces, arg_pieces, entry_pieces}
 use Rattle.sg_entry_parse.specs.Inside.Forms.{args_pieces, bytes_pieces, desc_pieces, next_arg_pieces, shows_bytes as shows, word_pieces}
 use Rattle.sg_entry_parse.specs.Pieces.{ArePlaced, EntryPiece, IsPiece, IsPositive, fixed, name, number, piece_bytes, positive, printable}
 use Rattle.sg_entry_parse.specs.Inside.Classes.{IsNumber}
@@ -44,7 +45,7 @@ use Rattle.sg_facts.specs.sg_base.declared.reply.Code.{Code}
 use Rattle.sg_facts.specs.sg_base.declared.reply.Code.TheVariants.{NoDesc, NoParent, BadState, HasChildren, Full, NotOwner, Held, Occupied, NotFound, Overflow, Gap, TooBig, BadName}
 use Rattle.sg_facts.specs.sg_base.declared.value.Value.{Value}
 use Rattle.sg_facts.specs.sg_base.declared.value.Value.TheVariants.{Word, Text}
-use Rattle.sg_report.specs.Report.{code_name, entry_line, listed, reply_text, takes_id, value_text}
+use Rattle.sg_report.specs.Report.{entry_line, listed, reply_text, takes_id, value_text}
 use Rattle.sg_report.specs.Inside.Pieces.{quoted, shows_bytes}
 use Rattle.sg_script.specs.Numbers.{is_text, value_of_digits}
 
@@ -199,10 +200,10 @@ words_printed (w ∷ words) spelt none =
     let later = words_printed words spelt.1.1 (back_none (word_flaws w) (flat_map word_flaws words) none) in
     ap (λ l. codes " " ++ l) (two w.bytes (decimal (number_of w)) (written (flat_map word_pieces words)) (flat_map (λ word. codes " " ++ decimal word) (map number_of words)) (sym own) later)
 
-bytes_printed : (shown : Bool) (bytes : Option Spelling) → AreShown shown bytes → written (bytes_pieces bytes) ≡ (if shown then codes " " ++ quoted (bytes_of bytes) else [])
+bytes_printed : (shown : Bool) (bytes : Option Spelling) → is_some bytes ≡ shown → written (bytes_pieces bytes) ≡ (if shown then codes " " ++ quoted (bytes_of bytes) else [])
 bytes_printed true (Some t) are = refl
-bytes_printed true None are = absurd are
-bytes_printed false (Some t) are = absurd are
+bytes_printed true None are = absurd (cc are)
+bytes_printed false (Some t) are = absurd (cc are)
 bytes_printed false None are = refl
 
 answer_printed : (f : Fun) (answer : WrittenAnswer) → Each IsSpelt (answer_pieces answer) → IsAnswer (shows_bytes f) answer → answer_flaws answer ≡ [] → written (answer_pieces answer) ≡ reply_text f (reply_of answer)
@@ -242,10 +243,10 @@ answer_shown f (good desc words bytes) is none =
     words_small [] none = tt
     words_small (w ∷ words) none = (fits_bits 64 w (front_none (word_flaws w) (flat_map word_flaws words) none), words_small words (back_none (word_flaws w) (flat_map word_flaws words) none))
 
-    hidden : (shown : Bool) (bytes : Option Spelling) → AreShown shown bytes → shown ≡ false → bytes_of bytes ≡ []
-    hidden true bytes are is = absurd cc
+    hidden : (shown : Bool) (bytes : Option Spelling) → is_some bytes ≡ shown → shown ≡ false → bytes_of bytes ≡ []
+    hidden true bytes are is = absurd (cc is)
     hidden false None are is = refl
-    hidden false (Some t) are is = absurd are
+    hidden false (Some t) are is = absurd (cc are)
 
     shown : (bytes : Option Spelling) → optional_flaws text_flaws bytes ≡ [] → is_text (bytes_of bytes) ≡ true
     shown None none = refl

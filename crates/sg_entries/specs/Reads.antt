@@ -1,5 +1,6 @@
 -- What is answered on the text of a printed run for an interface.
 use Rattle.std.specs.Prelude.{ℕ, ◌≡◌, ◌⊎◌, ◌+◌, List, [], ◌∷◌, ◌++◌, map, Ok, Err}
+use Rattle.std.specs.List.{AllZip}
 use Rattle.std.specs.declared.result.Result.{Result}
 use Rattle.sg_entries.specs.Flaws.{Flaw, flaws_from}
 use Rattle.sg_entries.specs.Lines.{entry_lines_of}
@@ -17,9 +18,7 @@ use Rattle.sg_facts.specs.sg_base.Room.{Roomy}
 
 -- each line is an entry's, one for each of these entries
 abbrev pub AreEntries : List Spelling → List WrittenEntry → Type 0
-AreEntries [] [] = Unit {0}
-AreEntries (l ∷ lines) (e ∷ entries) = EntryParses l.bytes (Ok e) × AreEntries lines entries
-AreEntries _ _ = ⊥
+AreEntries lines entries = AllZip (λ (l : Spelling) e. EntryParses l.bytes (Ok e)) lines entries
 
 -- what may be answered: the history that the entry lines of a text stand for, where each is an entry's and nothing is wrong with these; the
 -- place at which the first line fails that is none; or what is first wrong with the entries. Want of memory may come at any time

@@ -14,7 +14,7 @@ use Rattle.sg_entry_parse.specs.declared.tree.WrittenAnswer.{WrittenAnswer}
 use Rattle.sg_entry_parse.specs.declared.tree.WrittenAnswer.TheVariants.{Refused, Ok}
 use Rattle.sg_entry_parse.specs.declared.tree.WrittenEntry.{WrittenEntry}
 use Rattle.sg_lex.specs.Lexeme.{Spelling}
-use Rattle.sg_entry_parse.specs.Codes.{code_name}
+use Rattle.sg_base.specs.Codes.{code_name}
 use Rattle.sg_entry_parse.specs.Inside.Forms.{quote_byte, shows_bytes}
 use Rattle.sg_entry_parse.specs.Inside.CodeWords.{begins_code}
 use Rattle.sg_entry_parse.specs.Inside.States.{EntryState, done, first, orelse, run, listed, coded, byte, bytes, positive, number, name, text_rest, text, argument, bracketed, comma_rest, words, words_and_bytes, given, answered, call_rest, client_rest, entry_start, step}

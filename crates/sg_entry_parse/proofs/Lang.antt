@@ -6,7 +6,7 @@ use Rattle.sg_lex.specs.Inside.Marks.{close_bracket_byte}
 use Rattle.sg_entry_parse.specs.declared.tree.WrittenArg.{WrittenArg}
 use Rattle.sg_entry_parse.specs.declared.tree.WrittenEntry.{WrittenEntry}
 use Rattle.sg_lex.specs.Lexeme.{Spelling}
-use Rattle.sg_entry_parse.specs.Codes.{code_name}
+use Rattle.sg_base.specs.Codes.{code_name}
 use Rattle.sg_entry_parse.specs.Pieces.{fixed}
 use Rattle.sg_entry_parse.specs.Inside.Forms.{next_arg_pieces}
 use Rattle.sg_entry_parse.specs.Inside.States.{EntryState, done, first, orelse, run, listed, coded, step}

@@ -9,7 +9,7 @@ use Rattle.sg_base.specs.declared.reply.Code.{Code}
 use Rattle.sg_lex.specs.Inside.Marks.{close_bracket_byte, comma_byte}
 use Rattle.sg_entry_parse.specs.declared.tree.WrittenArg.{WrittenArg}
 use Rattle.sg_entry_parse.specs.declared.tree.WrittenEntry.{WrittenEntry}
-use Rattle.sg_entry_parse.specs.Codes.{code_name}
+use Rattle.sg_base.specs.Codes.{code_name}
 use Rattle.sg_entry_parse.specs.Pieces.{fixed}
 use Rattle.sg_entry_parse.specs.Entry.{arg_pieces}
 use Rattle.sg_entry_parse.specs.Inside.CodeWords.{code_of, begins_code}

@@ -4,15 +4,16 @@ use Rattle.std.specs.Prelude.{None, Some, codes}
 use Rattle.std.specs.declared.option.Option.{Option}
 use Rattle.std.specs.List.{flat_map}
 use Rattle.std.proofs.lemmas.List.{append-nil}
+use Rattle.std.specs.Option.{is_some}
 use Rattle.sg_lex.specs.Inside.Marks.{open_bracket_byte, close_bracket_byte}
 use Rattle.sg_entry_parse.specs.declared.tree.WrittenArg.{WrittenArg}
 use Rattle.sg_entry_parse.specs.declared.tree.WrittenAnswer.{WrittenAnswer}
 use Rattle.sg_entry_parse.specs.declared.tree.WrittenAnswer.TheVariants.{Refused as refused, Ok as gave}
 use Rattle.sg_entry_parse.specs.declared.tree.WrittenEntry.{WrittenEntry}
 use Rattle.sg_lex.specs.Lexeme.{Spelling}
-use Rattle.sg_entry_parse.specs.Codes.{code_name}
+use Rattle.sg_base.specs.Codes.{code_name}
 use Rattle.sg_entry_parse.specs.Pieces.{EntryPiece, fixed, number as number_piece, positive as positive_piece, name as name_piece}
-use Rattle.sg_entry_parse.specs.Entry.{text_pieces, arg_pieces, answer_pieces, entry_pieces, AreShown, IsAnswer, IsEntry}
+use Rattle.sg_entry_parse.specs.Entry.{text_pieces, arg_pieces, answer_pieces, entry_pieces, IsAnswer, IsEntry}
 use Rattle.sg_entry_parse.specs.Inside.Forms.{quote_byte, next_arg_pieces, args_pieces, desc_pieces, word_pieces, bytes_pieces, shows_bytes}
 use Rattle.sg_entry_parse.specs.Inside.States.{EntryState, done, orelse, listed, coded, byte, bytes, positive, number, name, text_rest, argument, bracketed, words, words_and_bytes, given, answered, call_answer, call_rest, client_rest, entry_start}
 use Rattle.sg_entry_parse.proofs.Front.{Goes, flat, goes_none, none_goes, join, cut, over, one_goes, goes_one, fixed_cut, fixed_join, fixed_none, none_fixed}
@@ -269,7 +270,7 @@ record Given (shown : Bool) (k : WrittenAnswer → WrittenEntry) (v : WrittenEnt
   words : List Spelling
   bytes : Option Spelling
   few : length words ≤ 4
-  showing : AreShown shown bytes
+  showing : is_some bytes ≡ shown
   goes : Goes (given_pieces desc words bytes) (Lang (done (k (gave desc words bytes))) v) at bs
 
 -- a space, `#` and a number
@@ -295,7 +296,7 @@ desc_cut d ps R at bs g =
     (b.0, c.1 ∙ ap (λ x. 0x20 ∷ x) b.1, cut (positive_piece d ∷ []) ps R ((at + 1) + 1) b.0 (fixed_none Q ((at + 1) + 1) b.0 b.2))
 
 shown_given : (desc : Option Spelling) (k : WrittenAnswer → WrittenEntry) (v : WrittenEntry) (at : ℕ) (bs : List ℕ) → desc ≡ None → Shown 4 None [] k v at bs → Given true k v at bs
-shown_given desc k v at bs e r = record { desc = None; words = r.more; bytes = Some r.bytes; few = r.few; showing = tt; goes = r.goes }
+shown_given desc k v at bs e r = record { desc = None; words = r.more; bytes = Some r.bytes; few = r.few; showing = refl; goes = r.goes }
 
 words_given : (k : WrittenAnswer → WrittenEntry) (v : WrittenEntry) (at : ℕ) (bs : List ℕ) → Words 4 None [] k v at bs → Given false k v at bs
 words_given k v at bs r =
@@ -304,7 +305,7 @@ words_given k v at bs r =
       words = r.more;
       bytes = None;
       few = r.few;
-      showing = tt;
+      showing = refl;
       goes = subst (λ x. Goes x (Lang (done (k (gave None r.more None))) v) at bs) (sym (append-nil (words_pieces r.more))) r.goes;
     }
 
@@ -323,7 +324,7 @@ given_to true k v at (c ∷ b ∷ cs) (t, inl l) =
       words = r.more;
       bytes = Some r.bytes;
       few = r.few;
-      showing = tt;
+      showing = refl;
       goes = desc_join c b d.0 (shown_pieces r.more r.bytes) (Lang (go d.0) v) (Lang (done (k (gave (Some d.0) r.more (Some r.bytes)))) v) at cs t l.0 d.1 r.goes;
     }
 given_to false k v at [] l = words_given k v at [] (words_to 4 None [] k v at [] l)
@@ -341,7 +342,7 @@ given_to false k v at (c ∷ b ∷ cs) (inl (t, inl l)) =
       words = r.more;
       bytes = None;
       few = r.few;
-      showing = tt;
+      showing = refl;
       goes = desc_join c b d.0 (words_pieces r.more ++ []) (Lang (go d.0) v) R at cs t l.0 d.1
           (subst (λ x. Goes x R place d.1.rest) (sym (append-nil (words_pieces r.more))) r.goes);
     }
@@ -360,11 +361,11 @@ given_words k v at (c ∷ cs) (inl l) =
     inl (l.0, or_else (number (λ w. words 3 None (w ∷ []) k)) (λ x. x == 0x23) (λ place c. positive (λ d. words 4 (Some d) [] k)) v (at + 1) cs l.1)
 
 given_from : (shown : Bool) (desc : Option Spelling) (read : List Spelling) (bytes : Option Spelling) (k : WrittenAnswer → WrittenEntry) (v : WrittenEntry)
-    (R : ℕ → List ℕ → Type 0) (at : ℕ) (bs : List ℕ) → length read ≤ 4 → AreShown shown bytes → Goes (given_pieces desc read bytes) R at bs
+    (R : ℕ → List ℕ → Type 0) (at : ℕ) (bs : List ℕ) → length read ≤ 4 → is_some bytes ≡ shown → Goes (given_pieces desc read bytes) R at bs
     → Into R (done (k (gave desc read bytes))) v → Lang (given shown k) v at bs
 unfolding given
-given_from true desc read None k v R at bs few h g f = absurd h
-given_from false desc read (Some t) k v R at bs few h g f = absurd h
+given_from true desc read None k v R at bs few h g f = absurd (cc h)
+given_from false desc read (Some t) k v R at bs few h g f = absurd (cc h)
 given_from true None read (Some t) k v R at bs few h g f =
     byte_more 0x20 0x23 (λ place c. positive (λ d. byte 0x20 (words_and_bytes 4 (Some d) [] k))) (words_and_bytes 4 None [] k) v at bs
     (shown_from 4 read t None [] k v R at bs few g f)

@@ -1,8 +1,8 @@
 -- Which bytes are the line of an entry, and of which one.
-use Rattle.std.specs.Prelude.{◌≡◌, ◌≤◌, ℕ, Bool, true, false, List, [], ◌∷◌, ◌++◌, None, Some, length, codes}
-use Rattle.std.specs.declared.option.Option.{Option}
+use Rattle.std.specs.Prelude.{◌≡◌, ◌≤◌, ℕ, Bool, List, [], ◌∷◌, ◌++◌, None, Some, length, codes}
 use Rattle.std.specs.List.{flat_map}
 use Rattle.std.specs.Str.{bytes_eq}
+use Rattle.std.specs.Option.{is_some}
 use Rattle.sg_lex.specs.Lexeme.{Spelling}
 use Rattle.sg_lex.specs.Sentences.{separated}
 use Rattle.sg_entry_parse.specs.declared.tree.WrittenArg.{WrittenArg}
@@ -10,7 +10,7 @@ use Rattle.sg_entry_parse.specs.declared.tree.WrittenArg.TheVariants.{Number, Te
 use Rattle.sg_entry_parse.specs.declared.tree.WrittenAnswer.{WrittenAnswer}
 use Rattle.sg_entry_parse.specs.declared.tree.WrittenAnswer.TheVariants.{Refused, Ok}
 use Rattle.sg_entry_parse.specs.declared.tree.WrittenEntry.{WrittenEntry}
-use Rattle.sg_entry_parse.specs.Codes.{code_name}
+use Rattle.sg_base.specs.Codes.{code_name}
 use Rattle.sg_entry_parse.specs.Pieces.{EntryPiece, fixed, number, positive, name, printable, piece_bytes, ArePlaced}
 
 -- ---- the pieces of an entry, in order
@@ -21,8 +21,7 @@ text_pieces t = fixed (0x22 ∷ []) ∷ printable t ∷ fixed (0x22 ∷ []) ∷ 
 
 -- a number, or a text in double quotes
 abbrev pub arg_pieces : WrittenArg → List EntryPiece
-arg_pieces (Number n) = number n ∷ []
-arg_pieces (Text t) = text_pieces t
+arg_pieces arg = elim arg [ Number n ↦ number n ∷ [] | Text t ↦ text_pieces t ]
 
 -- an answer: `refused` and a code; or `ok`, its descriptor where it has one, its words, and its bytes where they are shown
 abbrev pub answer_pieces : WrittenAnswer → List EntryPiece
@@ -41,16 +40,9 @@ entry_pieces e =
 
 -- ---- lines
 
--- bytes are there just where they are to be
-abbrev pub AreShown : Bool → Option Spelling → Type 0
-AreShown true (Some t) = Unit {0}
-AreShown false None = Unit {0}
-AreShown shown bytes = ⊥
-
 -- an answer of a function that shows its bytes, or doesn't: an Ok has at most four words, and bytes just where they are shown
 abbrev pub IsAnswer : Bool → WrittenAnswer → Type 0
-IsAnswer shown (Refused code) = Unit {0}
-IsAnswer shown (Ok desc words bytes) = (length words ≤ 4) × AreShown shown bytes
+IsAnswer shown answer = elim answer [ Refused code ↦ Unit {0} | Ok desc words bytes ↦ (length words ≤ 4) × (is_some bytes ≡ shown) ]
 
 -- the line is that of this entry: each of its pieces is what it is said to be and stands at its place; the answer is one of its
 -- function, which shows its bytes where it is the one that reads a file; and the line has the bytes of the pieces, without a line's end

@@ -1,4 +1,3 @@
-pub mod Codes
 pub mod Entry
 pub mod Inside
 pub mod Parses

@@ -16,11 +16,7 @@ pub data EntryPiece : Type 0 where
 
 -- the bytes of a piece
 abbrev pub piece_bytes : EntryPiece → List ℕ
-piece_bytes (fixed bytes) = bytes
-piece_bytes (number s) = s.bytes
-piece_bytes (positive s) = s.bytes
-piece_bytes (name s) = s.bytes
-piece_bytes (printable s) = s.bytes
+piece_bytes p = elim p [ fixed bytes ↦ bytes | number s ↦ s.bytes | positive s ↦ s.bytes | name s ↦ s.bytes | printable s ↦ s.bytes ]
 
 -- a byte of a class, and then bytes of another
 abbrev pub IsRun : (ℕ → Bool) → (ℕ → Bool) → List ℕ → Type 0

@@ -2,7 +2,7 @@
 ghost use Rattle.std.specs.Prelude.{◌≡◌, []};
 ghost use Rattle.sg_base.specs.declared.reply.Code.{Code as Refusal};
 ghost use Rattle.sg_entry_parse.specs.declared.tree.WrittenEntry.{WrittenEntry as Entry};
-ghost use Rattle.sg_entry_parse.specs.Codes.{code_name};
+ghost use Rattle.sg_base.specs.Codes.{code_name};
 ghost use Rattle.sg_entry_parse.specs.Inside.CodeWords.{code_of, begins_code};
 ghost use Rattle.sg_entry_parse.specs.Inside.States.{coded};
 ghost use Rattle.sg_entry_parse.specs.Inside.Reads.{read, Ends};

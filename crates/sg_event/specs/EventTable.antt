@@ -1,5 +1,5 @@
 -- What the event service answers.
-use Rattle.std.specs.Prelude.{ℕ, zero, suc, ◌+◌, ◌==◌, min, nat_lt, if◌then◌else◌, [], ◌∷◌, None, Some}
+use Rattle.std.specs.Prelude.{ℕ, zero, suc, ◌+◌, ◌==◌, min, nat_lt, if◌then◌else◌, [], ◌∷◌, None, Some, slice_get, unwrap_or}
 use Rattle.std.specs.Option.{option_map_or}
 use Rattle.std.specs.declared.option.Option.{Option}
 use Rattle.sg_facts.specs.sg_base.declared.reply.Code.TheVariants.{NotFound, Overflow}
@@ -30,6 +30,4 @@ event_table o call =
 
 -- the parts of an Ok: two of evt_split, one of the others
 abbrev pub event_parts : ℕ → ℕ
-event_parts zero = 0
-event_parts (suc zero) = 2
-event_parts (suc (suc n)) = 1
+event_parts fun = unwrap_or (slice_get (0 ∷ 2 ∷ []) fun) 1

@@ -149,6 +149,10 @@ abbrev pub fun_at : List Fun → ℕ → Fun
 fun_at funs zero = no_fun
 fun_at funs (suc n) = unwrap_or (slice_get funs n) no_fun
 
+-- whether a kind is of the descriptor or the parent, and so of no argument
+abbrev pub is_id : Kind → Bool
+is_id kind = elim kind [ Desc ↦ true | Parent ↦ true | _ ↦ false ]
+
 -- whether a function is called on a descriptor
 abbrev pub takes_desc : Fun → Bool
 takes_desc f = list_any (λ kind. elim kind [ Desc ↦ true | _ ↦ false ]) f.kinds

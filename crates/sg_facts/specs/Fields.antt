@@ -1,14 +1,11 @@
 -- Which fields of a row are set.
-use Rattle.std.specs.Prelude.{ℕ, zero, suc, ◌+◌, ◌*◌, Bool, true, false, if◌then◌else◌, List, [], ◌∷◌}
+use Rattle.std.specs.Prelude.{ℕ, ◌+◌, ◌*◌, Bool, if◌then◌else◌, List, [], ◌∷◌, ◌==◌, not, length}
 use Rattle.sg_base.specs.declared.value.Value.{Value}
 use Rattle.sg_base.specs.declared.value.Value.TheVariants.{Word, Text}
 
 -- a value that isn't 0 or empty
 abbrev pub is_set : Value → Bool
-is_set (Word zero) = false
-is_set (Word (suc n)) = true
-is_set (Text []) = false
-is_set (Text (b ∷ bs)) = true
+is_set value = elim value [ Word n ↦ not (n == 0) | Text bytes ↦ not (length bytes == 0) ]
 
 -- a set of fields as a number: bit i for field i
 abbrev pub number_of : List Bool → ℕ

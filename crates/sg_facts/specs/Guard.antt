@@ -37,12 +37,7 @@ guard i o call =
 
 -- whether a code is one of the guard's
 abbrev pub is_guards : Code → Bool
-is_guards NoDesc = true
-is_guards NoParent = true
-is_guards BadState = true
-is_guards HasChildren = true
-is_guards Full = true
-is_guards _ = false
+is_guards code = elim code [ NoDesc ↦ true | NoParent ↦ true | BadState ↦ true | HasChildren ↦ true | Full ↦ true | _ ↦ false ]
 
 -- a reply is a refusal by the guard
 abbrev pub IsGuardRefusal : Reply → Type 0

@@ -1,13 +1,14 @@
 -- Which calls are of a service's functions, and which of them it may be asked.
-use Rattle.std.specs.Prelude.{◌≡◌, ◌^◌, ◌<◌, ◌≤◌, ◌==◌, Bool, true, false, ◌&&◌, ◌||◌, List, [], ◌∷◌, length}
+use Rattle.std.specs.Prelude.{◌≡◌, ◌^◌, ◌<◌, ◌≤◌, ◌==◌, Bool, true, false, ◌&&◌, ◌||◌, List, [], ◌∷◌, length, filter, not}
+use Rattle.std.specs.Cmp.Lexicographic.{pointwise}
 use Rattle.sg_base.specs.declared.value.Value.{Value}
 use Rattle.sg_base.specs.declared.value.Value.TheVariants.{Word, Text}
 use Rattle.sg_base.specs.declared.call.Call.{Call}
 use Rattle.sg_facts.specs.declared.shape.Kind.{Kind}
-use Rattle.sg_facts.specs.declared.shape.Kind.TheVariants.{Desc, Parent, Word as IsWord, Text as IsText}
+use Rattle.sg_facts.specs.declared.shape.Kind.TheVariants.{Word as IsWord, Text as IsText}
 use Rattle.sg_facts.specs.declared.shape.Parents.{Parents}
 use Rattle.sg_facts.specs.declared.shape.Parents.TheVariants.{Never, Same, Cross}
-use Rattle.sg_facts.specs.Facts.{Facts, fun_at, takes_desc, takes_parent}
+use Rattle.sg_facts.specs.Facts.{Facts, fun_at, takes_desc, takes_parent, is_id}
 use Rattle.sg_facts.specs.Limits.{end_of_counts, last_client}
 use Rattle.sg_facts.specs.Track.{is_live}
 use Rattle.sg_facts.specs.Inside.Rows.{has_child}
@@ -16,13 +17,9 @@ use Rattle.sg_facts.specs.Counted.{CountedBelow}
 
 -- whether values are those that kinds ask for, beside descriptor and parent
 abbrev pub kinds_fit : List Kind → List Value → Bool
-kinds_fit [] [] = true
-kinds_fit [] (v ∷ vs) = false
-kinds_fit (Desc ∷ kinds) vs = kinds_fit kinds vs
-kinds_fit (Parent ∷ kinds) vs = kinds_fit kinds vs
-kinds_fit (IsWord ∷ kinds) (Word n ∷ vs) = kinds_fit kinds vs
-kinds_fit (IsText ∷ kinds) (Text bytes ∷ vs) = kinds_fit kinds vs
-kinds_fit (_ ∷ kinds) _ = false
+kinds_fit kinds values = pointwise
+    (λ kind value. elim value [ Word n ↦ elim kind [ IsWord ↦ true | _ ↦ false ] | Text bytes ↦ elim kind [ IsText ↦ true | _ ↦ false ] ])
+    (filter (λ kind. not (is_id kind)) kinds) values
 
 -- the arguments fit the function, and the descriptor is 0 where the function takes neither descriptor nor parent
 pub record FitsKinds (facts : Facts) (call : Call) : Type 0 where

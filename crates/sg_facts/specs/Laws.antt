@@ -2,6 +2,7 @@
 -- narrower interface lets pass passes there too.
 use Rattle.std.specs.Prelude.{ℕ, ◌≡◌, ◌+◌, ◌-◌, ◌^◌, ◌<◌, ◌≤◌, ◌==◌, Bool, true, false, ◌&&◌, not, if◌then◌else◌, max, List, [], ◌∷◌, ◌++◌, None, Some, length}
 use Rattle.std.specs.declared.option.Option.{Option}
+use Rattle.std.specs.Option.{option_map_or}
 use Rattle.sg_base.specs.declared.call.Call.{Call}
 use Rattle.sg_base.specs.declared.reply.Code.{Code}
 use Rattle.sg_base.specs.declared.reply.Good.{Good}
@@ -90,8 +91,7 @@ pub record WalkGoesOn (facts : Facts) (ask : Table) (sound : Object → Type 0) 
 
 -- the state of the row of an id, 0 where there is none
 abbrev pub state_in : Option Row → ℕ
-state_in None = 0
-state_in (Some r) = r.state
+state_in row = option_map_or (λ r. r.state) row 0
 
 -- a call leaves another blocked, as far as its flags tell: it is no wake-up on the other's descriptor, and doesn't end it
 abbrev pub leaves_blocked : Facts → Object → Call → Call → Bool

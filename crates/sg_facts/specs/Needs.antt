@@ -30,7 +30,4 @@ is_wanted i rows call r = i.eager || is_needed i.facts rows call r
 
 -- what has to be there before a call is served
 abbrev pub wanted : Declared → Object → Call → Needs
-wanted i o call = record {
-  ids = map (λ r. r.id) (filter (is_wanted i o.rows call) o.rows);
-  file = if (fun_at i.facts.funs call.fun).uses_file then Some (path_of o.rows call.desc) else None;
-}
+wanted i o call = record (needs i.facts o call) { ids = map (λ r. r.id) (filter (is_wanted i o.rows call) o.rows) }

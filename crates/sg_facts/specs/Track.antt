@@ -41,8 +41,7 @@ is_ancestor rows above below = list_any (λ id. id == above) (ancestors rows bel
 
 -- the number in a value
 abbrev pub word_of : Value → ℕ
-word_of (Word n) = n
-word_of (Text bytes) = 0
+word_of value = elim value [ Word n ↦ n | Text bytes ↦ 0 ]
 
 -- the argument of a number, from 0
 abbrev pub arg_at : Call → ℕ → Value

@@ -1,16 +1,17 @@
 -- How a row is rebuilt: the states that rows can come to, and the walks of calls that restore them.
-use Rattle.std.specs.Prelude.{ℕ, ◌≡◌, ◌+◌, ◌≤◌, ◌==◌, Bool, true, false, ◌&&◌, ◌||◌, not, nat_lt, if◌then◌else◌, List, [], ◌∷◌, None, Some, length, map, unwrap_or, slice_get, slice_set}
+use Rattle.std.specs.Prelude.{ℕ, ◌≡◌, ◌+◌, ◌≤◌, ◌==◌, Bool, true, false, ◌&&◌, ◌||◌, not, nat_lt, if◌then◌else◌, List, [], ◌∷◌, None, Some, length, map, unwrap_or, slice_get, slice_set, filter}
 use Rattle.std.specs.Option.{option_map_or}
 use Rattle.std.specs.declared.option.Option.{Option}
+use Rattle.std.specs.Cmp.Lexicographic.{pointwise}
+use Rattle.std.specs.List.{enumerate_from}
 use Rattle.sg_base.specs.declared.value.Value.{Value}
 use Rattle.sg_base.specs.declared.value.Value.TheVariants.{Word}
 use Rattle.sg_base.specs.declared.call.Call.{Call}
 use Rattle.sg_facts.specs.declared.row.Row.{Row}
 use Rattle.sg_facts.specs.declared.shape.Kind.{Kind}
-use Rattle.sg_facts.specs.declared.shape.Kind.TheVariants.{Desc, Parent, Word as IsWord, Text as IsText}
 use Rattle.sg_facts.specs.declared.shape.Effect.{Effect}
 use Rattle.sg_facts.specs.declared.shape.Effect.TheVariants.{SetCaller, SetArg, AddArg, SetRet, AddRet, Clear, SubOne, SubRet}
-use Rattle.sg_facts.specs.Facts.{Facts, fun_at, state_after}
+use Rattle.sg_facts.specs.Facts.{Facts, fun_at, state_after, is_id}
 use Rattle.sg_facts.specs.Interface.{Declared, declares, moves_on, steps_on}
 use Rattle.sg_facts.specs.Track.{word_of, field_at}
 
@@ -37,8 +38,7 @@ may_leave (Some SubRet) old new = old || not new
 abbrev pub may_lead : List (ℕ × Effect) → ℕ → List Bool → List Bool → Bool
 may_lead effects x [] [] = true
 may_lead effects x (old ∷ olds) (new ∷ news) = may_leave (effect_on effects x) old new && may_lead effects (x + 1) olds news
-may_lead effects x [] (new ∷ news) = false
-may_lead effects x (old ∷ olds) [] = false
+may_lead effects x _ _ = false
 
 -- a descriptor that a function made can be in a state with a set of fields: made with none set, and then by effects and transitions
 pub data IsReachable (i : Declared) : ℕ → ℕ → List Bool → Type 0 where
@@ -60,16 +60,8 @@ pub data Mark : Type 0 where
 
 -- a mark after an effect
 abbrev pub mark_after : Effect → Mark → Mark
-mark_after SetCaller mark = good
-mark_after (SetArg k) mark = good
-mark_after (AddArg k) unset = good
-mark_after (AddArg k) good = unknown
-mark_after (AddArg k) unknown = unknown
-mark_after SetRet mark = unknown
-mark_after AddRet mark = unknown
-mark_after Clear mark = unset
-mark_after SubOne mark = unknown
-mark_after SubRet mark = unknown
+mark_after effect mark =
+    elim effect [ SetCaller ↦ good | SetArg k ↦ good | AddArg k ↦ elim mark [ unset ↦ good | _ ↦ unknown ] | Clear ↦ unset | _ ↦ unknown ]
 
 -- the marks after a function's effects
 abbrev pub marks_after : List (ℕ × Effect) → List Mark → List Mark
@@ -102,10 +94,7 @@ spot_of i (fun ∷ walk) =
 -- whether marks restore fields: there is a mark for each field, a field that is set has the row's value, and one that isn't is 0 or
 -- empty, or has the row's value
 abbrev pub restores_fields : List Mark → List Bool → Bool
-restores_fields [] [] = true
-restores_fields (m ∷ marks) (b ∷ set) = elim m [ good ↦ true | unset ↦ not b | unknown ↦ false ] && restores_fields marks set
-restores_fields [] (b ∷ set) = false
-restores_fields (m ∷ marks) [] = false
+restores_fields marks set = pointwise (λ mark b. elim mark [ good ↦ true | unset ↦ not b | unknown ↦ false ]) marks set
 
 -- whether a walk restores a state with a set of fields
 abbrev pub restores : Declared → List ℕ → ℕ → List Bool → Bool
@@ -149,11 +138,7 @@ replay_arg (e ∷ es) r k = if elim e.1 [ SetArg j ↦ j == k | AddArg j ↦ j =
 
 -- the arguments for kinds, numbered from a place on
 abbrev pub replay_args : List (ℕ × Effect) → Row → ℕ → List Kind → List Value
-replay_args effects r k [] = []
-replay_args effects r k (Desc ∷ kinds) = replay_args effects r k kinds
-replay_args effects r k (Parent ∷ kinds) = replay_args effects r k kinds
-replay_args effects r k (IsWord ∷ kinds) = replay_arg effects r k ∷ replay_args effects r (k + 1) kinds
-replay_args effects r k (IsText ∷ kinds) = replay_arg effects r k ∷ replay_args effects r (k + 1) kinds
+replay_args effects r k kinds = map (λ p. replay_arg effects r p.0) (enumerate_from k (filter (λ kind. not (is_id kind)) kinds))
 
 -- the call of a row's walk that has this function: with the row's present values, on its parent for the creation and on
 -- its id after that. It has no number among its caller's calls

@@ -1,6 +1,6 @@
 -- How a run ends, as its trace says, and what it means that a run which ended has recovered.
-use Rattle.std.specs.Prelude.{ℕ, ◌≡◌, ◌≢◌, ◌==◌, Bool, true, false, ◌&&◌, ◌||◌, not, if◌then◌else◌, List, [], ◌∷◌, ◌++◌, None, Some, IsSome}
-use Rattle.std.specs.List.{list_any}
+use Rattle.std.specs.Prelude.{ℕ, ◌≡◌, ◌≢◌, ◌≤◌, ◌==◌, Bool, true, false, ◌&&◌, ◌||◌, not, if◌then◌else◌, List, [], ◌∷◌, ◌++◌, None, IfSome, IsSome, length}
+use Rattle.std.specs.List.{fold, last_or, list_any}
 use Rattle.sg_facts.specs.sg_base.Lists.{Each, When}
 use Rattle.sg_facts.specs.sg_base.Stops.{asked_after}
 use Rattle.sg_facts.specs.sg_base.declared.call.Call.{Call}
@@ -12,8 +12,7 @@ use Rattle.sg_facts.specs.Facts.{Facts}
 use Rattle.sg_facts.specs.Tables.{AreTables}
 use Rattle.sg_facts.specs.Trace.{Boot, Run}
 use Rattle.sg_hist.specs.declared.ended.End.{End}
-use Rattle.sg_hist.specs.declared.ended.End.TheVariants.{Done, Blocked}
-use Rattle.sg_hist.specs.Reading.{Position, is_tagged, items_of, last_places, places_in}
+use Rattle.sg_hist.specs.Reading.{Position, is_tagged, items_of, last_items, last_places, places_in}
 use Rattle.sg_hist.specs.Recovered.{IsRecovered, Stubs, ends_committed, is_clients, is_entered, is_replied, waiting}
 use Rattle.sg_hist.specs.Wakes.{has_blocked, wakes_at}
 
@@ -28,9 +27,7 @@ is_still_blocked facts entries call (p ∷ ps) = (is_tagged call.client call.seq
 
 -- the client in whose turn an item was noted
 abbrev pub client_of : Tag → ℕ
-client_of (Walk id k client) = client
-client_of (Load key client) = client
-client_of (Client client seq) = client
+client_of tag = elim tag [ Walk id k client ↦ client | Load key client ↦ client | Client client seq ↦ client ]
 
 -- each reply to a client's call that is no entry's was lost, in boots which stand after other items: its boot was stopped, and nothing
 -- was noted in it for the client after the reply
@@ -42,26 +39,6 @@ AreLost history older (b ∷ boots) =
     (places_in older [] b.items (items_of boots))
     × AreLost history (older ++ b.items) boots
 
--- ---- the last boot
-
--- something was asked in the last boot, where it isn't the first
-abbrev pub EndsUsed : List Boot → Type 0
-EndsUsed [] = Unit {0}
-EndsUsed (b ∷ []) = Unit {0}
-EndsUsed (b ∷ c ∷ []) = c.items ≢ []
-EndsUsed (b ∷ c ∷ d ∷ boots) = EndsUsed (c ∷ d ∷ boots)
-
--- the number of the last point of some items, where so many points were asked before
-abbrev pub last_point : ℕ → List Item → ℕ
-last_point asked [] = asked
-last_point asked (item ∷ items) = last_point item.points items
-
--- if the last boot stopped, it did so right after the commit of its last item: the stop is the next point
-abbrev pub EndsQuiet : Facts → List Boot → Type 0
-EndsQuiet facts [] = Unit {0}
-EndsQuiet facts (b ∷ []) = elim b.stop [ Some stop ↦ (ends_committed facts b.items ≡ true) × (stop ≡ asked_after (last_point 0 b.items) 1) | None ↦ Unit {0} ]
-EndsQuiet facts (b ∷ c ∷ boots) = EndsQuiet facts (c ∷ boots)
-
 -- ---- a run that ended
 
 -- a run that ended has recovered, where its clients ended so
@@ -71,14 +48,12 @@ pub record HasRecovered (s : Stubs) (history : List Entry) (run : Run) (ends : L
   pub recovered : IsRecovered s history run (waiting ends)
   -- no client waits that the service didn't let wait since its last boot, or that was woken since; in a private service no entry wakes
   -- another client, and who waits does so until the next boot
-  pub blocked : Each (λ e. elim e.1 [
-    | Blocked call ↦ is_still_blocked s.interface.facts (if s.interface.facts.global then history else []) call (last_places run.boots) ≡ true
-    | Done ↦ Unit {0}
-  ])
-      ends
-  -- none is booted for nothing
-  pub used : EndsUsed run.boots
-  -- in the end none stops at a point that no call asked
-  pub quiet : EndsQuiet s.interface.facts run.boots
+  pub blocked : Each (λ call. is_still_blocked s.interface.facts (if s.interface.facts.global then history else []) call (last_places run.boots) ≡ true) (waiting ends)
+  -- none is booted for nothing: something was asked in the last boot, where it isn't the first
+  pub used : 2 ≤ length run.boots → last_items run.boots ≢ []
+  -- in the end none stops at a point that no call asked: if the last boot stopped, it did so right after the commit of its last item, at
+  -- the next point
+  pub quiet : IfSome (last_or None run.boots) (λ b. IfSome b.stop (λ stop. (ends_committed s.interface.facts b.items ≡ true)
+      × (stop ≡ asked_after (fold (λ asked item. item.points) 0 b.items) 1)))
   -- no reply is given that no entry has, unless a stop took it; and none that was held is asked for twice in a boot
   pub lost : AreLost history [] run.boots

@@ -1,15 +1,14 @@
 -- How the trace of a run is read: which item is whose, what was committed before an item, and what the service held at it.
-use Rattle.std.specs.Prelude.{ℕ, ◌==◌, Bool, true, false, ◌&&◌, ◌||◌, not, if◌then◌else◌, List, [], ◌∷◌, ◌++◌, None, Some, length, filter, find, map, reverse}
+use Rattle.std.specs.Prelude.{ℕ, ◌==◌, Bool, true, false, ◌&&◌, ◌||◌, not, if◌then◌else◌, List, [], ◌∷◌, ◌++◌, None, length, filter, find, map, reverse}
 use Rattle.std.specs.declared.option.Option.{Option}
-use Rattle.std.specs.List.{flat_map, fold, list_any}
-use Rattle.std.specs.Option.{option_map_or}
+use Rattle.std.specs.List.{flat_map, fold, last_or, list_any}
+use Rattle.std.specs.Option.{option_and_then, option_map_or}
 use Rattle.sg_facts.specs.sg_base.declared.call.Call.{Call}
 use Rattle.sg_facts.specs.sg_base.declared.reply.Reply.{Reply}
 use Rattle.sg_facts.specs.sg_base.declared.reply.Reply.TheVariants.{Ok, Refused}
 use Rattle.sg_facts.specs.declared.entry.Entry.{Entry}
 use Rattle.sg_facts.specs.declared.outcome.Outcome.{Outcome}
-use Rattle.sg_facts.specs.declared.outcome.Outcome.TheVariants.{Replied, Blocks, Stopped, NoMemory}
-use Rattle.sg_facts.specs.declared.outcome.Patch.{Patch}
+use Rattle.sg_facts.specs.declared.outcome.Outcome.TheVariants.{Replied}
 use Rattle.sg_facts.specs.declared.row.Row.{Row}
 use Rattle.sg_facts.specs.declared.tables.WalkLine.{WalkLine}
 use Rattle.sg_facts.specs.declared.trace.Item.{Item}
@@ -61,9 +60,7 @@ places_of run = places_from [] run.boots
 
 -- the items of the last boot
 abbrev pub last_items : List Boot → List Item
-last_items [] = []
-last_items (b ∷ []) = b.items
-last_items (b ∷ c ∷ boots) = last_items (c ∷ boots)
+last_items boots = option_map_or (λ b. b.items) (last_or None boots) []
 
 -- the items of the boots before the last, after others
 abbrev pub older_items : List Item → List Boot → List Item
@@ -79,9 +76,7 @@ last_places boots = places_in (older_items [] boots) [] (last_items boots) []
 
 -- whether an item is of the call of a number of a client
 abbrev pub is_tagged : ℕ → ℕ → Tag → Bool
-is_tagged client seq (Walk id k c) = false
-is_tagged client seq (Load key c) = false
-is_tagged client seq (Client c s) = (c == client) && (s == seq)
+is_tagged client seq tag = elim tag [ Client c s ↦ (c == client) && (s == seq) | _ ↦ false ]
 
 -- whether an item is of an entry's call
 abbrev pub is_item_of : Entry → Item → Bool
@@ -93,8 +88,7 @@ item_of run e = find (λ p. is_item_of e p.item) (reverse (places_of run))
 
 -- whether a reply is a refusal by the guard, which the service wasn't asked for
 abbrev pub is_by_guard : Reply → Bool
-is_by_guard (Ok good) = false
-is_by_guard (Refused code) = is_guards code
+is_by_guard reply = elim reply [ Ok good ↦ false | Refused code ↦ is_guards code ]
 
 -- whether an entry's item stands before a place
 abbrev pub stands_before : Position → Entry → Bool
@@ -106,13 +100,6 @@ object_before facts history p = object_of facts (filter (stands_before p) histor
 
 -- ---- replies
 
--- the reply of an outcome, with the bytes that it wrote; None where the service didn't reply
-abbrev pub replied_of : Outcome → Option (Reply × Option Patch)
-replied_of (Replied reply patch) = Some (reply, patch)
-replied_of Blocks = None
-replied_of Stopped = None
-replied_of NoMemory = None
-
 -- ---- what the service holds
 
 -- the call that the service was asked, under its own ids
@@ -121,12 +108,9 @@ service_call item = record item.shown { desc = item.real }
 
 -- a load sets its file whole, and a call does what its reply says; what has no reply changes nothing that is known
 abbrev pub given_by : Facts → Object → Tag → Call → Outcome → Object
-given_by facts o (Load key client) call (Replied reply patch) = option_map_or (λ p. record o { files = set_file o.files p.key p.bytes }) patch o
-given_by facts o (Walk id k client) call (Replied reply patch) = after facts o call reply
-given_by facts o (Client client seq) call (Replied reply patch) = after facts o call reply
-given_by facts o tag call Blocks = o
-given_by facts o tag call Stopped = o
-given_by facts o tag call NoMemory = o
+given_by facts o tag call (Replied reply patch) =
+    elim tag [ Load key client ↦ option_map_or (λ p. record o { files = set_file o.files p.key p.bytes }) patch o | _ ↦ after facts o call reply ]
+given_by facts o tag call _ = o
 
 -- what the service holds after items of one boot
 abbrev pub value_at : Facts → List Item → Object
@@ -136,8 +120,7 @@ value_at facts front = fold (λ o item. given_by facts o item.tag (service_call 
 
 -- the descriptor of an entry's reply, 0 where there is no entry, or the entry was refused
 abbrev pub desc_in : Option Entry → ℕ
-desc_in None = 0
-desc_in (Some e) = elim e.reply [ Ok good ↦ good.desc | Refused code ↦ 0 ]
+desc_in entry = option_map_or (λ e. elim e.reply [ Ok good ↦ good.desc | Refused code ↦ 0 ]) entry 0
 
 -- the descriptor that the call of a number was given
 abbrev pub id_given : List Entry → ℕ → ℕ → ℕ
@@ -145,8 +128,7 @@ id_given history client seq = desc_in (find (λ e. (e.call.client == client) && 
 
 -- a client's id with the service's id, where the service replied an Ok
 abbrev pub pair_of : ℕ → Outcome → List (ℕ × ℕ)
-pair_of id (Replied (Ok good) patch) = (id, good.desc) ∷ []
-pair_of id _ = []
+pair_of id outcome = elim outcome [ Replied reply patch ↦ elim reply [ Ok good ↦ (id, good.desc) ∷ [] | Refused code ↦ [] ] | _ ↦ [] ]
 
 -- the pairs of client ids and service ids after items of one boot: the first call of a walk gives one, and a creation
 abbrev pub names_at : Facts → List Entry → List Item → List (ℕ × ℕ)
@@ -161,20 +143,16 @@ names_at facts history front = flat_map (λ item. elim item.tag [
 
 -- whether an outcome is an Ok
 abbrev pub is_ok : Outcome → Bool
-is_ok (Replied (Ok good) patch) = true
-is_ok _ = false
+is_ok outcome = elim outcome [ Replied reply patch ↦ elim reply [ Ok good ↦ true | Refused code ↦ false ] | _ ↦ false ]
 
 -- whether an item is an Ok of the creation that an id was given for
 abbrev pub is_made : Facts → List Entry → ℕ → Item → Bool
-is_made facts history id item = is_ok item.outcome && elim item.tag [
-  | Client client seq ↦ (fun_at facts.funs item.shown.fun).creation && (id_given history client seq == id)
-  | _ ↦ false
-]
+is_made facts history id item =
+    is_ok item.outcome && elim item.tag [ Client client seq ↦ (fun_at facts.funs item.shown.fun).creation && (id_given history client seq == id) | _ ↦ false ]
 
 -- the walk of a row
 abbrev pub walk_in : List WalkLine → Option Row → Option (List ℕ)
-walk_in walks None = None
-walk_in walks (Some r) = walk_of walks r.made r.state (number_of (map is_set r.fields))
+walk_in walks row = option_and_then (λ r. walk_of walks r.made r.state (number_of (map is_set r.fields))) row
 
 -- whether an id is whole at a place: earlier in the boot an item made it for an entry, or all calls of its walk replied
 abbrev pub is_whole_at : Facts → List WalkLine → List Entry → Position → ℕ → Bool

@@ -1,9 +1,9 @@
 -- What it means that a run recovers: seven things that hold of its history, of what its trace tells, and of the calls that aren't
 -- answered in it.
-use Rattle.std.specs.Prelude.{ℕ, ◌≡◌, ◌≢◌, ◌⊎◌, ◌+◌, ◌-◌, ◌≤◌, ◌==◌, Bool, true, false, ◌&&◌, ◌||◌, not, nat_le, nat_lt, if◌then◌else◌, List, [], ◌∷◌, ◌++◌, None, Some, IsSome, length, filter, find, map, slice_get, unwrap_or}
+use Rattle.std.specs.Prelude.{ℕ, ◌≡◌, ◌≢◌, ◌⊎◌, ◌+◌, ◌-◌, ◌≤◌, ◌==◌, Bool, true, false, ◌&&◌, ◌||◌, not, nat_le, nat_lt, if◌then◌else◌, List, [], ◌∷◌, ◌++◌, None, Some, IsSome, length, filter, find, map, slice_get, unwrap_or, IfSome, IsSomeAnd}
 use Rattle.std.specs.declared.option.Option.{Option}
-use Rattle.std.specs.Option.{is_some, option_and_then, option_map, option_map_or}
-use Rattle.std.specs.List.{Contains, flat_map, list_all, list_any}
+use Rattle.std.specs.Option.{option_and_then, option_map, option_map_or}
+use Rattle.std.specs.List.{Contains, flat_map, list_all, list_any, fold, last_or}
 use Rattle.sg_facts.specs.sg_base.Lists.{Each, When}
 use Rattle.sg_facts.specs.sg_base.Stops.{asked_after}
 use Rattle.sg_facts.specs.sg_base.declared.call.Call.{Call}
@@ -30,14 +30,13 @@ use Rattle.sg_facts.specs.Track.{row_at}
 use Rattle.sg_facts.specs.Walks.{replayed_call}
 use Rattle.sg_hist.specs.declared.ended.End.{End}
 use Rattle.sg_hist.specs.declared.ended.End.TheVariants.{Done, Blocked}
-use Rattle.sg_hist.specs.Reading.{Position, items_after, is_by_guard, is_made, is_item_of, is_whole_at, item_of, names_at, object_before, places_of, replied_of, service_call, stands_before, value_at, walk_in}
+use Rattle.sg_hist.specs.Reading.{Position, items_after, is_by_guard, is_made, is_item_of, is_whole_at, item_of, names_at, object_before, places_of, service_call, stands_before, value_at, walk_in}
 
 -- ---- the calls of clients
 
 -- whether a client waits at its end
 abbrev pub is_blocked : End → Bool
-is_blocked Done = false
-is_blocked (Blocked call) = true
+is_blocked end = elim end [ Done ↦ false | Blocked call ↦ true ]
 
 -- the calls in which clients wait
 abbrev pub waiting : List (ℕ × End) → List Call
@@ -69,11 +68,7 @@ AreStopped (b ∷ c ∷ boots) = IsSome b.stop × AreStopped (c ∷ boots)
 -- after a stop, and nothing is asked after a stop
 pub record IsRebooted (facts : Facts) (ask : Table) (run : Run) : Type 0 where
   pub booted : run.boots ≢ []
-  pub table : Each (λ p. elim p.item.tag [
-    | Load key client ↦ Unit {0}
-    | Walk id k client ↦ IsByTable facts ask (value_at facts p.front) (service_call p.item) p.item.outcome
-    | Client client seq ↦ IsByTable facts ask (value_at facts p.front) (service_call p.item) p.item.outcome
-  ])
+  pub table : Each (λ p. elim p.item.tag [ Load key client ↦ Unit {0} | _ ↦ IsByTable facts ask (value_at facts p.front) (service_call p.item) p.item.outcome ])
       (places_of run)
   pub stopped : AreStopped run.boots
   pub last : Each (λ p. elim p.item.outcome [ Stopped ↦ p.rest ≡ [] | _ ↦ Unit {0} ]) (places_of run)
@@ -84,23 +79,19 @@ pub record IsRebooted (facts : Facts) (ask : Table) (run : Run) : Type 0 where
 abbrev pub IsRenamed : List (ℕ × ℕ) → Reply → Reply → Type 0
 IsRenamed names (Ok real) (Ok good) = (good.words ≡ real.words) × (good.bytes ≡ real.bytes) × ((if real.desc == 0 then good.desc == 0 else named names good.desc == real.desc) ≡ true)
 IsRenamed names (Refused real) (Refused code) = code ≡ real
-IsRenamed names (Ok real) (Refused code) = ⊥
-IsRenamed names (Refused real) (Ok good) = ⊥
+IsRenamed names _ _ = ⊥
 
 -- an outcome is the reply of an entry, under the client's ids
 abbrev pub IsReplyOf : List (ℕ × ℕ) → Outcome → Reply → Type 0
-IsReplyOf names (Replied real patch) reply = IsRenamed names real reply
-IsReplyOf names _ reply = ⊥
+IsReplyOf names outcome reply = elim outcome as (λ o. Type 0) [ Replied real patch ↦ IsRenamed names real reply | _ ↦ ⊥ ]
 
 -- whether the service replied
 abbrev pub is_replied : Outcome → Bool
-is_replied outcome = is_some (replied_of outcome)
+is_replied outcome = elim outcome [ Replied reply patch ↦ true | _ ↦ false ]
 
 -- whether an item is of a client's call
 abbrev pub is_clients : Tag → Bool
-is_clients (Client client seq) = true
-is_clients (Walk id k client) = false
-is_clients (Load key client) = false
+is_clients tag = elim tag [ Client client seq ↦ true | _ ↦ false ]
 
 -- whether an item is of a client's visible call that replied
 abbrev pub is_visible_reply : Facts → Item → Bool
@@ -114,10 +105,8 @@ is_entered history p = list_any (λ e. not (is_by_guard e.reply) && is_item_of e
 abbrev pub AreInOrder : Facts → Run → List Entry → List Entry → Type 0
 AreInOrder facts run earlier [] = Unit {0}
 AreInOrder facts run earlier (e ∷ later) =
-    When (is_visible facts e.call.fun && not (is_by_guard e.reply)) (elim (item_of run e) [
-      | Some p ↦ list_all (λ before. is_by_guard before.reply || stands_before p before) earlier ≡ true
-      | None ↦ Unit {0}
-    ])
+    When (is_visible facts e.call.fun && not (is_by_guard e.reply))
+    (IfSome (item_of run e) (λ p. list_all (λ before. is_by_guard before.reply || stands_before p before) earlier ≡ true))
     × AreInOrder facts run (earlier ++ e ∷ []) later
 
 -- clients are served
@@ -126,11 +115,8 @@ pub record IsServed (facts : Facts) (history : List Entry) (run : Run) (unanswer
   pub calls : Each (λ p. elim p.item.tag [ Client client seq ↦ IsCallOf history unanswered client p.item.shown × (p.item.shown.seq ≡ seq) | _ ↦ Unit {0} ])
       (places_of run)
   -- an entry has its item, with its call and its reply, unless the guard refused its call: no reply is given that the service didn't give
-  pub items : Each (λ e. When (not (is_by_guard e.reply)) (elim (item_of run e) [
-    | Some p ↦ (p.item.shown ≡ e.call) × IsReplyOf (names_at facts history (p.front ++ p.item ∷ [])) p.item.outcome e.reply
-    | None ↦ ⊥
-  ]))
-      history
+  pub items : Each (λ e. When (not (is_by_guard e.reply)) (IsSomeAnd (item_of run e) (λ p. (p.item.shown ≡ e.call)
+      × IsReplyOf (names_at facts history (p.front ++ p.item ∷ [])) p.item.outcome e.reply))) history
   -- a visible reply is committed: none is given twice, and none is lost
   pub committed : Each (λ p. When (is_visible_reply facts p.item) (is_entered history p ≡ true)) (places_of run)
   -- visible items stand in the order of the history
@@ -214,10 +200,7 @@ pub record IsLoadedFor (i : Declared) (walks : List WalkLine) (history : List En
 pub record IsTracked (i : Declared) (walks : List WalkLine) (history : List Entry) (p : Position) : Type 0 where
   pub whole : list_all (is_whole_at i.facts walks history p) (wanted i (object_before i.facts history p) p.item.shown).ids ≡ true
   -- the service has a row for each that is needed, and it is as that is
-  pub rows : Each (λ r. elim (row_at (value_at i.facts p.front).rows (named (names_at i.facts history p.front) r.id)) [
-    | Some v ↦ IsAlike (names_at i.facts history p.front) r v
-    | None ↦ ⊥
-  ])
+  pub rows : Each (λ r. IsSomeAnd (row_at (value_at i.facts p.front).rows (named (names_at i.facts history p.front) r.id)) (IsAlike (names_at i.facts history p.front) r))
       (filter (is_needed i.facts (object_before i.facts history p).rows p.item.shown) (object_before i.facts history p).rows)
   pub real : p.item.real ≡ named (names_at i.facts history p.front) p.item.shown.desc
   pub file : SameFile (object_before i.facts history p) (value_at i.facts p.front) p.item.shown.desc p.item.real (needs i.facts (object_before i.facts history p) p.item.shown).file
@@ -239,8 +222,7 @@ IsPointOfCall exact parts asked answer fun (Replied (Refused code) patch) points
 IsPointOfCall exact parts asked answer fun Blocks points = IsCount exact points (asked_after asked 1)
 IsPointOfCall exact parts asked (Some (Ok good)) fun Stopped points = (asked_after asked 2 ≤ points) × When exact (points ≤ asked_after asked (2 + parts fun))
 IsPointOfCall exact parts asked (Some (Refused code)) fun Stopped points = IsCount exact points (asked_after asked 2)
-IsPointOfCall exact parts asked None fun Stopped points = ⊥
-IsPointOfCall exact parts asked answer fun NoMemory points = ⊥
+IsPointOfCall exact parts asked answer fun _ points = ⊥
 
 -- how many points were asked after an item: one more where a visible call was committed
 abbrev pub asked_with_commit : Facts → Item → ℕ
@@ -252,29 +234,20 @@ abbrev pub ArePoints : Bool → Facts → Table → (ℕ → ℕ) → ℕ → Li
 ArePoints exact facts ask parts asked front [] = Unit {0}
 ArePoints exact facts ask parts asked front (item ∷ items) =
     let answer : Option Reply = ask (value_at facts front) (service_call item) in
-    elim item.tag [
-      | Load key client ↦ IsCount exact item.points (asked_after asked 1)
-      | Walk id k client ↦ IsPointOfCall exact parts asked answer item.shown.fun item.outcome item.points
-      | Client client seq ↦ IsPointOfCall exact parts asked answer item.shown.fun item.outcome item.points
-    ]
+    elim item.tag [ Load key client ↦ IsCount exact item.points (asked_after asked 1) | _ ↦ IsPointOfCall exact parts asked answer item.shown.fun item.outcome item.points ]
     × ArePoints exact facts ask parts (asked_with_commit facts item) (front ++ item ∷ []) items
 
 -- how many points were asked after the items of a boot
 abbrev pub asked_in : Facts → ℕ → List Item → ℕ
-asked_in facts asked [] = asked
-asked_in facts asked (item ∷ items) = asked_in facts (asked_with_commit facts item) items
+asked_in facts asked items = fold (λ n item. asked_with_commit facts item) asked items
 
 -- whether the service stopped within the last item of a boot
 abbrev pub ends_stopped : List Item → Bool
-ends_stopped [] = false
-ends_stopped (item ∷ []) = elim item.outcome [ Stopped ↦ true | _ ↦ false ]
-ends_stopped (item ∷ other ∷ items) = ends_stopped (other ∷ items)
+ends_stopped items = option_map_or (λ item. elim item.outcome [ Stopped ↦ true | _ ↦ false ]) (last_or None items) false
 
 -- whether the last item of a boot is a visible reply
 abbrev pub ends_committed : Facts → List Item → Bool
-ends_committed facts [] = false
-ends_committed facts (item ∷ []) = is_visible_reply facts item
-ends_committed facts (item ∷ other ∷ items) = ends_committed facts (other ∷ items)
+ends_committed facts items = option_map_or (is_visible_reply facts) (last_or None items) false
 
 -- a boot stopped at its last point: that of the item that stopped; that of the commit before; or the next, at which the service
 -- was about to be used
@@ -328,7 +301,7 @@ pub record IsRecovered (s : Stubs) (history : List Entry) (run : Run) (unanswere
   pub served : IsServed s.interface.facts history run unanswered
   -- no row is rebuilt by other calls, from other values, for another caller or before its parent
   pub walks : Each (λ p. elim p.item.tag [
-    | Walk id k client ↦ elim (row_at (object_before s.interface.facts history p).rows id) [ Some r ↦ IsNextCall s.interface.facts s.walks history p id k r | None ↦ ⊥ ]
+    | Walk id k client ↦ IsSomeAnd (row_at (object_before s.interface.facts history p).rows id) (IsNextCall s.interface.facts s.walks history p id k)
     | _ ↦ Unit {0}
   ])
       (places_of run)

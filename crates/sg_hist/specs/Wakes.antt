@@ -6,7 +6,7 @@ use Rattle.sg_facts.specs.sg_base.declared.reply.Reply.{Reply}
 use Rattle.sg_facts.specs.sg_base.declared.reply.Reply.TheVariants.{Ok, Refused}
 use Rattle.sg_facts.specs.declared.entry.Entry.{Entry}
 use Rattle.sg_facts.specs.declared.outcome.Outcome.{Outcome}
-use Rattle.sg_facts.specs.declared.outcome.Outcome.TheVariants.{Replied, Blocks, Stopped, NoMemory}
+use Rattle.sg_facts.specs.declared.outcome.Outcome.TheVariants.{Blocks}
 use Rattle.sg_facts.specs.declared.row.Row.{Row}
 use Rattle.sg_facts.specs.Facts.{Facts, fun_at}
 use Rattle.sg_facts.specs.Track.{ends_with}
@@ -20,10 +20,7 @@ wakes facts rows call (Ok good) id =
 
 -- whether a call had to wait
 abbrev pub has_blocked : Outcome → Bool
-has_blocked Blocks = true
-has_blocked (Replied reply patch) = false
-has_blocked Stopped = false
-has_blocked NoMemory = false
+has_blocked outcome = elim outcome [ Blocks ↦ true | _ ↦ false ]
 
 -- whether a place's item is that of an entry which wakes who waits on a descriptor
 abbrev pub wakes_at : Facts → List Entry → ℕ → Position → Bool

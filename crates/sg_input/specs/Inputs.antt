@@ -35,14 +35,6 @@ most_script = 4194304
 abbrev pub most_run : ℕ
 most_run = 67108864
 
--- the greatest number of bytes of an input: the line that divides it has at most 4, `%%`, CR and LF
-abbrev pub most_input : ℕ
-most_input = most_interface + 4 + most_script
-
--- the greatest number of bytes of an input whose second text is a printed run
-abbrev pub most_run_input : ℕ
-most_run_input = most_interface + 4 + most_run
-
 -- ---- the two texts: the text of an interface, and after the divider a second one, which has so many bytes at most
 
 -- an input is divided into these two texts, and neither is too long

@@ -1,12 +1,13 @@
 -- The lines that refuse an input.
 use Rattle.sg_facts.specs.Words.{line_end}
-use Rattle.std.specs.Prelude.{ℕ, ◌+◌, ◌==◌, List, ◌++◌, codes, count_by, length, take}
+use Rattle.std.specs.Prelude.{ℕ, ◌+◌, ◌==◌, List, ◌++◌, codes, count_by, length, take, [], slice_get}
 use Rattle.std.specs.Fmt.{decimal}
 use Rattle.std.specs.List.{after_last}
+use Rattle.std.specs.Option.{option_map_or}
 use Rattle.sg_entries.specs.declared.error.EntriesKind.{EntriesKind}
 use Rattle.sg_entries.specs.declared.error.EntriesKind.TheVariants.{Syntax as EntriesSyntax, UnknownFunction as EntriesFunction, BadArgs as EntriesArgs, BadClient as EntriesClient, Limit as EntriesLimit}
 use Rattle.sg_script.specs.declared.fault.ScriptKind.{ScriptKind}
-use Rattle.sg_script.specs.declared.fault.ScriptKind.TheVariants.{Syntax, UnknownFunction, BadArgs, BadClient, Twice, NotAscending, Blocking, Limit}
+use Rattle.sg_script.specs.Flaws.{script_kinds, script_kind_rank}
 
 -- the input, its interface, its script or its printed run is too long
 abbrev pub too_long_line : List ℕ
@@ -23,14 +24,7 @@ refused_line words text at name =
 
 -- the name of a kind of fault of a script
 abbrev pub script_kind_name : ScriptKind → List ℕ
-script_kind_name Syntax = codes "Syntax"
-script_kind_name UnknownFunction = codes "UnknownFunction"
-script_kind_name BadArgs = codes "BadArgs"
-script_kind_name BadClient = codes "BadClient"
-script_kind_name Twice = codes "Twice"
-script_kind_name NotAscending = codes "NotAscending"
-script_kind_name Blocking = codes "Blocking"
-script_kind_name Limit = codes "Limit"
+script_kind_name kind = option_map_or (λ p. p.1) (slice_get script_kinds (script_kind_rank kind)) []
 
 -- the name of a kind of fault of the entries of a printed run
 abbrev pub entries_kind_name : EntriesKind → List ℕ

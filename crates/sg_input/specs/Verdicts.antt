@@ -1,5 +1,6 @@
 -- What is said of a text.
-use Rattle.std.specs.Prelude.{ℕ, ◌≡◌, List, ◌++◌, Ok, Err, codes}
+use Rattle.std.specs.Prelude.{ℕ, ◌≡◌, List, ◌++◌, Ok, Err, codes, [], slice_get}
+use Rattle.std.specs.Option.{option_map_or}
 use Rattle.sg_facts.specs.Words.{line_end}
 use Rattle.sg_facts.specs.Facts.{Facts}
 use Rattle.sg_facts.specs.Interface.{Declared}
@@ -10,8 +11,7 @@ use Rattle.sg_print.specs.sg_parse.declared.error.ParseError.TheVariants.{Lex as
 use Rattle.sg_print.specs.sg_parse.declared.tree.Tree.{Tree}
 use Rattle.sg_print.specs.sg_parse.Grammar.Parses.{Parses}
 use Rattle.sg_print.specs.sg_parse.Grammar.Upgraded.{upgraded}
-use Rattle.sg_stub.specs.sg_check_statements.declared.fault.CheckKind.TheVariants.{UnknownService, DuplicateName, UnknownFunction, BadParams, WrongFact, WrongFlag, WrongEffect, ForeignTransition, ForeignRecover, NoCreation, Unreached, NoWalk}
-use Rattle.sg_stub.specs.sg_check_statements.Faults.{IsAccepted, IsFault}
+use Rattle.sg_stub.specs.sg_check_statements.Faults.{IsAccepted, IsFault, check_kinds, kind_rank}
 use Rattle.sg_input.specs.declared.outcome.Verdict.{Verdict}
 use Rattle.sg_input.specs.declared.outcome.Verdict.TheVariants.{Accepted, Refused}
 use Rattle.sg_input.specs.declared.refusal.RefusalKind.{RefusalKind}
@@ -22,18 +22,7 @@ use Rattle.sg_input.specs.Lines.{refused_line}
 abbrev pub refusal_name : RefusalKind → List ℕ
 refusal_name Lex = codes "Lex"
 refusal_name Syntax = codes "Syntax"
-refusal_name (Check UnknownService) = codes "UnknownService"
-refusal_name (Check DuplicateName) = codes "DuplicateName"
-refusal_name (Check UnknownFunction) = codes "UnknownFunction"
-refusal_name (Check BadParams) = codes "BadParams"
-refusal_name (Check WrongFact) = codes "WrongFact"
-refusal_name (Check WrongFlag) = codes "WrongFlag"
-refusal_name (Check WrongEffect) = codes "WrongEffect"
-refusal_name (Check ForeignTransition) = codes "ForeignTransition"
-refusal_name (Check ForeignRecover) = codes "ForeignRecover"
-refusal_name (Check NoCreation) = codes "NoCreation"
-refusal_name (Check Unreached) = codes "Unreached"
-refusal_name (Check NoWalk) = codes "NoWalk"
+refusal_name (Check kind) = option_map_or (λ p. p.1) (slice_get check_kinds (kind_rank kind)) []
 
 -- what a text is refused for, and where: no token begins at the place; or the tokens don't go on to a sentence there; or the
 -- text is a sentence, and that is first wrong with its tree. A text is refused for one kind at one place at most.

@@ -3,14 +3,10 @@ use Rattle.std.specs.Prelude.{◌≡◌, ℕ, List, [], ◌∷◌, ◌++◌, Ok,
 use Rattle.std.specs.List.{flat_map}
 use Rattle.sg_lex.specs.Lexeme.{Lexeme}
 use Rattle.sg_lex.specs.Tokens.{Answer}
-
 -- ---- the pieces that a grammar wants
 
 -- tokens are the pieces that a grammar wants, one by one
-abbrev pub ArePieces : {P : Type 0} → (Lexeme → P → Type 0) → List Lexeme → List P → Type 0
-ArePieces IsPiece [] [] = Unit {0}
-ArePieces IsPiece (token ∷ tokens) (piece ∷ pieces) = IsPiece token piece × ArePieces IsPiece tokens pieces
-ArePieces IsPiece tokens pieces = ⊥
+pub use Rattle.std.specs.List.{AllZip as ArePieces}
 
 -- the pieces of each, with one between each two, as a comma
 abbrev pub separated : {A P : Type 0} → P → (A → List P) → List A → List P

@@ -10,9 +10,7 @@ use Rattle.sg_plain.specs.sg_script.declared.script.ScriptCall.{ScriptCall}
 
 -- the number of the calls of the setup: it makes 16 locks by lock_alloc, or 16 events by evt_split, each of them function 1
 abbrev pub setup_count : ServiceKind → ℕ
-setup_count Locks = 16
-setup_count Events = 16
-setup_count _ = 0
+setup_count kind = elim kind [ Locks ↦ 16 | Events ↦ 16 | _ ↦ 0 ]
 
 -- so many groups of a client, a draw for each, from the group on that begins with the client's call of a number
 unfoldable pub groups_from : ServiceKind → ℕ → ℕ → ℕ → ℕ → ℕ → List ScriptCall

@@ -37,7 +37,4 @@ group_of Threads client first group u =
 
 -- the number of calls of a group of a service
 abbrev pub group_size : ServiceKind → ℕ
-group_size Pages = 4
-group_size Files = 5
-group_size Threads = 5
-group_size _ = 2
+group_size kind = elim kind [ Locks ↦ 2 | Events ↦ 2 | Pages ↦ 4 | Files ↦ 5 | Threads ↦ 5 ]

@@ -13,11 +13,7 @@ use Rattle.sg_sched.specs.SchedFacts.{sched_facts}
 
 -- the facts of a service
 abbrev pub facts_by : ServiceKind → Facts
-facts_by Locks = lock_facts
-facts_by Events = event_facts
-facts_by Pages = mm_facts
-facts_by Files = ramfs_facts
-facts_by Threads = sched_facts
+facts_by kind = elim kind [ Locks ↦ lock_facts | Events ↦ event_facts | Pages ↦ mm_facts | Files ↦ ramfs_facts | Threads ↦ sched_facts ]
 
 -- the standard interface of a service: it declares each function that version 1 of its text declares, with all transitions and
 -- recover steps of these. So of events it leaves out the fifth function, evt_take, which only version 2 of the text declares

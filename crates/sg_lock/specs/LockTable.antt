@@ -1,5 +1,5 @@
 -- What the lock service answers.
-use Rattle.std.specs.Prelude.{ℕ, zero, suc, ◌+◌, ◌==◌, if◌then◌else◌, None, Some}
+use Rattle.std.specs.Prelude.{ℕ, zero, suc, ◌+◌, ◌==◌, if◌then◌else◌, [], ◌∷◌, None, Some, slice_get, unwrap_or}
 use Rattle.std.specs.Option.{option_map_or}
 use Rattle.std.specs.declared.option.Option.{Option}
 use Rattle.sg_facts.specs.sg_base.declared.reply.Code.TheVariants.{Held, NotOwner, NotFound}
@@ -26,6 +26,4 @@ lock_table o call = lock_answer call.fun o.given (option_map_or (λ r. word_of (
 
 -- the parts of an Ok: two of lock_alloc, one of the others
 abbrev pub lock_parts : ℕ → ℕ
-lock_parts zero = 0
-lock_parts (suc zero) = 2
-lock_parts (suc (suc n)) = 1
+lock_parts fun = unwrap_or (slice_get (0 ∷ 2 ∷ []) fun) 1

@@ -1,5 +1,5 @@
 -- What the memory mapping service answers.
-use Rattle.std.specs.Prelude.{ℕ, zero, suc, ◌+◌, ◌==◌, Bool, ◌&&◌, if◌then◌else◌, min, List, Some, map, filter}
+use Rattle.std.specs.Prelude.{ℕ, zero, suc, ◌+◌, ◌==◌, Bool, ◌&&◌, if◌then◌else◌, min, List, Some, map, filter, [], ◌∷◌, slice_get, unwrap_or}
 use Rattle.std.specs.Option.{option_map_or}
 use Rattle.std.specs.declared.option.Option.{Option}
 use Rattle.std.specs.List.{list_any, reduce}
@@ -43,7 +43,4 @@ mm_table o call = mm_answer call.fun o call
 
 -- the parts of an Ok: three of mman_alias_page, none of mman_find, two of the others
 abbrev pub mm_parts : ℕ → ℕ
-mm_parts (suc zero) = 2
-mm_parts (suc (suc zero)) = 3
-mm_parts (suc (suc (suc zero))) = 2
-mm_parts _ = 0
+mm_parts fun = unwrap_or (slice_get (0 ∷ 2 ∷ 3 ∷ 2 ∷ []) fun) 0

@@ -1,6 +1,8 @@
 -- The calls of a script's clients, and how clients end.
-use Rattle.std.specs.Prelude.{ℕ, zero, suc, ◌≡◌, ◌+◌, ◌==◌, not, if◌then◌else◌, List, [], ◌∷◌, ◌++◌, Some, None, filter, length, map, slice_get, option_map}
+use Rattle.std.specs.Prelude.{ℕ, ◌≡◌, ◌+◌, ◌==◌, not, if◌then◌else◌, List, [], ◌∷◌, ◌++◌, Some, None, filter, length, map, slice_get, option_map}
 use Rattle.std.specs.declared.option.Option.{Option}
+use Rattle.std.specs.Option.{option_map_or}
+use Rattle.std.specs.List.{last_or}
 use Rattle.sg_facts.specs.sg_base.declared.call.Call.{Call}
 use Rattle.sg_facts.specs.declared.entry.Entry.{Entry}
 use Rattle.sg_facts.specs.sg_base.Lists.{Each}
@@ -14,6 +16,8 @@ use Rattle.sg_seat.specs.sg_hist.Clients.{calls_of}
 use Rattle.sg_script.specs.declared.script.Script.{Script}
 use Rattle.sg_script.specs.declared.script.ScriptCall.{ScriptCall}
 use Rattle.sg_plain.specs.Script.{desc_among, values_of}
+-- numbers from one on
+pub use Rattle.std.specs.List.{range_with_len as ascending_from}
 
 -- ---- the calls of a client
 
@@ -44,14 +48,7 @@ call_after facts script history client done = option_map (resolved_by facts hist
 
 -- the greatest number of a client that has a part, at least 1
 abbrev pub most_client : List (ℕ × List ScriptCall) → ℕ
-most_client [] = 1
-most_client (c ∷ []) = c.0
-most_client (c ∷ other ∷ clients) = most_client (other ∷ clients)
-
--- numbers from one on
-abbrev pub ascending_from : ℕ → ℕ → List ℕ
-ascending_from n zero = []
-ascending_from n (suc count) = n ∷ ascending_from (n + 1) count
+most_client clients = option_map_or (λ c. c.0) (last_or None clients) 1
 
 -- the clients that have a call, ascending
 abbrev pub callers : Script → List ℕ

@@ -6,11 +6,10 @@ use Rattle.sg_facts.specs.declared.entry.Entry.{Entry}
 use Rattle.sg_facts.specs.declared.trace.Tag.TheVariants.{Walk, Load, Client}
 use Rattle.sg_facts.specs.Facts.{Facts, is_visible}
 use Rattle.sg_facts.specs.Trace.{Boot, Run}
-use Rattle.sg_seat.specs.sg_hist.declared.ended.End.{End}
 use Rattle.sg_seat.specs.sg_hist.Clients.{calls_of}
 use Rattle.sg_seat.specs.sg_hist.Ending.{client_of}
 use Rattle.sg_seat.specs.sg_hist.Reading.{Position, is_by_guard, is_item_of, is_tagged, items_of, places_in, places_of}
-use Rattle.sg_seat.specs.sg_hist.Recovered.{is_blocked, struck_in}
+use Rattle.sg_seat.specs.sg_hist.Recovered.{struck_in}
 use Rattle.sg_script.specs.declared.script.Script.{Script}
 use Rattle.sg_script.specs.declared.script.ScriptCall.{ScriptCall}
 use Rattle.sg_plain.specs.Calls.{callers, resolved_by, script_calls}
@@ -54,10 +53,6 @@ AreScriptsStops script run = struck_in run ≡ filter (λ stop. nat_le stop run.
 
 -- ---- ends
 
--- whether some client waits at its end
-abbrev pub somebody_waits : List (ℕ × End) → Bool
-somebody_waits ends = list_any (λ e. is_blocked e.1) ends
-
 -- ---- the play without stops
 
 -- whether an entry is of a visible function, and its item stands in the first boot
@@ -84,7 +79,6 @@ abbrev pub AreWoken : Facts → List Entry → Run → Type 0
 AreWoken facts history run = Each (λ p. elim p.item.tag [
   | Client client seq ↦ When (has_blocked p.item.outcome)
       (is_woken_first facts history client seq p.item.shown.desc (places_in p.older (p.front ++ p.item ∷ []) p.rest p.newer) ≡ true)
-  | Walk id k client ↦ Unit {0}
-  | Load key client ↦ Unit {0}
+  | _ ↦ Unit {0}
 ])
     (places_of run)

@@ -1,12 +1,15 @@
 -- The calls of a script: which of them fit an interface, and what they come to when they are made.
-use Rattle.std.specs.Prelude.{ℕ, zero, suc, ◌+◌, ◌&&◌, Bool, true, false, nat_le, nat_lt, List, [], ◌∷◌, slice_get}
+use Rattle.std.specs.Prelude.{ℕ, zero, suc, ◌+◌, ◌&&◌, Bool, true, false, nat_le, nat_lt, List, [], ◌∷◌, slice_get, filter, map, find, not}
+use Rattle.std.specs.Option.{option_map_or}
+use Rattle.std.specs.List.{zip}
 use Rattle.sg_facts.specs.sg_base.declared.value.Value.{Value}
 use Rattle.sg_facts.specs.sg_base.declared.value.Value.TheVariants.{Word as word, Text as text}
 use Rattle.sg_facts.specs.declared.entry.Entry.{Entry}
 use Rattle.sg_facts.specs.declared.shape.Kind.{Kind}
-use Rattle.sg_facts.specs.declared.shape.Kind.TheVariants.{Desc, Parent, Word, Text as IsText}
-use Rattle.sg_facts.specs.Facts.{fun_at}
+use Rattle.sg_facts.specs.declared.shape.Kind.TheVariants.{Text as IsText}
+use Rattle.sg_facts.specs.Facts.{fun_at, is_id}
 use Rattle.sg_facts.specs.Interface.{Declared, declares}
+use Rattle.sg_facts.specs.Track.{word_of}
 use Rattle.sg_seat.specs.sg_hist.Reading.{desc_in}
 use Rattle.sg_script.specs.declared.script.Arg.{Arg}
 use Rattle.sg_script.specs.declared.script.Arg.TheVariants.{Number, Text, Back}
@@ -47,32 +50,18 @@ abbrev pub id_of_call : List Entry → ℕ → ℕ
 id_of_call history zero = 0
 id_of_call history (suc k) = desc_in (slice_get history k)
 
--- an argument as a number: `$k` is the descriptor that the k-th call was given
-abbrev pub arg_value : List Entry → Arg → ℕ
-arg_value history (Number n) = n
-arg_value history (Text t) = 0
-arg_value history (Back k) = id_of_call history k
-
 -- an argument as a value
 abbrev pub value_of : List Entry → Arg → Value
-value_of history (Number n) = word n
-value_of history (Text t) = text t
-value_of history (Back k) = word (id_of_call history k)
+value_of history arg = elim arg [ Number n ↦ word n | Text t ↦ text t | Back k ↦ word (id_of_call history k) ]
+
+-- an argument as a number, 0 for a text: `$k` is the descriptor that the k-th call was given
+abbrev pub arg_value : List Entry → Arg → ℕ
+arg_value history arg = word_of (value_of history arg)
 
 -- the descriptor or parent among arguments, 0 where no parameter is one
 abbrev pub desc_among : List Entry → List Kind → List Arg → ℕ
-desc_among history [] args = 0
-desc_among history (k ∷ kinds) [] = 0
-desc_among history (Desc ∷ kinds) (a ∷ args) = arg_value history a
-desc_among history (Parent ∷ kinds) (a ∷ args) = arg_value history a
-desc_among history (Word ∷ kinds) (a ∷ args) = desc_among history kinds args
-desc_among history (IsText ∷ kinds) (a ∷ args) = desc_among history kinds args
+desc_among history kinds args = option_map_or (λ p. arg_value history p.1) (find (λ p. is_id p.0) (zip kinds args)) 0
 
 -- the other arguments, in their order
 abbrev pub values_of : List Entry → List Kind → List Arg → List Value
-values_of history [] args = []
-values_of history (k ∷ kinds) [] = []
-values_of history (Desc ∷ kinds) (a ∷ args) = values_of history kinds args
-values_of history (Parent ∷ kinds) (a ∷ args) = values_of history kinds args
-values_of history (Word ∷ kinds) (a ∷ args) = value_of history a ∷ values_of history kinds args
-values_of history (IsText ∷ kinds) (a ∷ args) = value_of history a ∷ values_of history kinds args
+values_of history kinds args = map (λ p. value_of history p.1) (filter (λ p. not (is_id p.0)) (zip kinds args))

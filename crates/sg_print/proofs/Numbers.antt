@@ -10,8 +10,8 @@ use Rattle.sg_facts.specs.declared.shape.Effect.{Effect}
 use Rattle.sg_facts.specs.declared.shape.FieldShape.{FieldShape}
 use Rattle.sg_facts.specs.declared.shape.FunShape.{FunShape}
 use Rattle.sg_facts.specs.Facts.{Field, fun_of_shape}
-use Rattle.sg_print.specs.TablesText.{numbers, set_names, effects_text, set_word}
-use Rattle.sg_print.specs.Inside.Pieces.{effect_piece}
+use Rattle.sg_print.specs.TablesText.{numbers, set_names, set_word}
+use Rattle.sg_print.specs.Inside.Pieces.{effect_piece, effects_text}
 
 numbers_last : (n k : ℕ) → range_with_len n (suc k) ≡ range_with_len n k ++ (n + k) ∷ []
 numbers_last n zero = let none : n ≡ n + 0 = omega arith in ap (λ m. m ∷ []) none
@@ -50,7 +50,6 @@ same_effects [] = refl
 same_effects (e ∷ effects) = ap (λ l. e ∷ l) (same_effects effects)
 
 pub effects_shown : (fields : List Field) (f : FunShape) → flat_map (effect_piece fields f.kinds.now) f.effects.now ≡ effects_text fields (fun_of_shape f)
-unfolding effects_text
 effects_shown fields f = ap (flat_map (effect_piece fields f.kinds.now)) (sym (same_effects f.effects.now))
 
 abbrev pub plain_field : FieldShape → Field

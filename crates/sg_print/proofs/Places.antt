@@ -12,8 +12,8 @@ use Rattle.sg_parse.specs.declared.tree.Param.{Param}
 use Rattle.sg_parse.specs.declared.tree.Tree.{Tree}
 use Rattle.sg_parse.specs.sg_lex.Lexeme.{Spelling as Named}
 use Rattle.sg_parse.specs.Grammar.Plain.{plain_name, plain_type, plain_param, plain_ret, plain_statement, plain}
-use Rattle.sg_print.specs.Printed.{type_text, ret_text, statement_text, shared_text, printed, form_text, param_text, returned_text}
-use Rattle.sg_print.specs.Inside.Pieces.{names_text, stars_text, type_before_comma, params_text, facts_text}
+use Rattle.sg_print.specs.Printed.{type_text, ret_text, statement_text, shared_text, printed, param_text, returned_text}
+use Rattle.sg_print.specs.Inside.Pieces.{names_text, stars_text, type_before_comma, params_text, facts_text, form_text}
 
 -- a list of parts has one text where each part has
 same_flat : {X : Type 0} (text : X → List ℕ) (change : X → X) → ((x : X) → text (change x) ≡ text x) → (xs : List X)

@@ -17,8 +17,8 @@ use Rattle.sg_parse.specs.sg_lex.Lexeme.{Spelling as Named}
 use Rattle.sg_parse.specs.Grammar.Pieces.{Piece, word, mark, name, two, kept, kept_word}
 use Rattle.sg_parse.specs.Grammar.Sentence.{type_pieces, param_pieces, ret_pieces, statement_pieces, recovery_word, tree_pieces, IsStatement}
 use Rattle.sg_parse.specs.Grammar.Inside.Forms.{open_brace, equals, open_bracket, close_bracket, comma, semicolon, star, form_pieces, more_params, params_pieces, returned_pieces, last_pieces, IsType, IsRet, IsWellFormed}
-use Rattle.sg_print.specs.Printed.{type_text, ret_text, statement_text, shared_text, printed, form_text, param_text, returned_text}
-use Rattle.sg_print.specs.Inside.Pieces.{names_text, stars_text, type_before_comma, params_text}
+use Rattle.sg_print.specs.Printed.{type_text, ret_text, statement_text, shared_text, printed, param_text, returned_text}
+use Rattle.sg_print.specs.Inside.Pieces.{names_text, stars_text, type_before_comma, params_text, form_text}
 use Rattle.sg_facts.specs.Words.{line_end as line_feed}
 use Rattle.sg_print.proofs.Heads.{shared_pieces, end_by, behind_brace}
 use Rattle.sg_print.proofs.Leads.{Leads, Stops, IsFixed, end_leads, blank_leads, mark_leads, fixed_leads, name_leads, kept_leads, two_leads, newer_leads, AreProper, proper_left, proper_right, proper_newer}

@@ -1,7 +1,6 @@
 -- The canonical text of a tree.
 use Rattle.std.specs.Prelude.{ℕ, ◌==◌, if◌then◌else◌, List, [], ◌∷◌, ◌++◌, None, Some, codes, replicate}
 use Rattle.std.specs.List.{concat, flat_map, join_by}
-use Rattle.std.specs.declared.option.Option.{Option}
 use Rattle.sg_parse.specs.declared.tree.Facts.{Facts}
 use Rattle.sg_parse.specs.declared.tree.Statement.{Statement}
 use Rattle.sg_parse.specs.declared.tree.Statement.TheVariants.{One, Two, Proto}
@@ -18,14 +17,10 @@ use Rattle.sg_facts.specs.Words.{line_end}
 abbrev pub type_text : TypeName → List ℕ
 type_text ty = join_by (λ n. n.bytes) (codes " ") ty.names ++ 0x20 ∷ replicate ty.stars 0x2A
 
--- a name, in the brackets of its form where it has one
-abbrev pub form_text : Option Named → Named → List ℕ
-form_text None n = n.bytes
-form_text (Some form) n = concat (form.bytes ∷ codes "(" ∷ n.bytes ∷ codes ")" ∷ [])
-
 -- a parameter: its type, and its name with or without a form
 abbrev pub param_text : Param → List ℕ
-param_text p = type_text p.ty ++ form_text p.form p.name
+param_text p =
+    type_text p.ty ++ (elim p.form [ None ↦ p.name.bytes | Some form ↦ concat (form.bytes ∷ codes "(" ∷ p.name.bytes ∷ codes ")" ∷ []) ])
 
 -- what becomes of a returned word, with its type and its field, and a space after it: none stands after the names of a type without
 -- stars

@@ -6,7 +6,6 @@ use Rattle.sg_facts.specs.declared.shape.Effect.{Effect}
 use Rattle.sg_facts.specs.declared.shape.Effect.TheVariants.{SetCaller, SetArg, AddArg, SetRet, AddRet, Clear, SubOne, SubRet}
 use Rattle.sg_facts.specs.declared.shape.Kind.{Kind}
 use Rattle.sg_facts.specs.declared.shape.Kind.TheVariants.{Desc, Parent, Word, Text}
-use Rattle.sg_facts.specs.declared.shape.Leaves.{Leaves}
 use Rattle.sg_facts.specs.declared.shape.Leaves.TheVariants.{Own, Same, Of}
 use Rattle.sg_facts.specs.declared.tables.WalkLine.{WalkLine}
 use Rattle.sg_facts.specs.Facts.{Facts, Field, Fun, fun_at}
@@ -61,32 +60,19 @@ flag_pieces f =
     flag f.creation (codes "creation") ∷ flag f.terminal (codes "terminal") ∷ flag f.block (codes "block") ∷ flag f.wakeup (codes "wakeup")
     ∷ flag f.query (codes "query") ∷ flag f.all (codes "all") ∷ flag f.uses_file (codes "data") ∷ [])
 
--- the state that a function leaves, by its name
-abbrev pub leaves_word : List Fun → Fun → Leaves → List ℕ
-leaves_word funs f Own = f.name
-leaves_word funs f Same = codes "same"
-leaves_word funs f (Of other) = (fun_at funs other).name
-
 -- a terminal function leaves none, since it ends its descriptor, and a query changes none
 unfoldable pub state_word : List Fun → Fun → List ℕ
-state_word funs f = if f.terminal then codes "end" else (if f.query then codes "none" else leaves_word funs f f.leaves)
-
--- what a function does to fields, each after a space
-unfoldable pub effects_text : List Field → Fun → List ℕ
-effects_text fields f = flat_map (λ e. concat (codes " " ∷ field_name fields e.0 ∷ effect_word f.kinds e.1 ∷ [])) f.effects
+state_word funs f = if f.terminal then codes "end" else (if f.query then codes "none" else elim f.leaves [ Own ↦ f.name | Same ↦ codes "same" | Of other ↦ (fun_at funs other).name ])
 
 -- what a parameter is
 abbrev pub kind_word : Kind → List ℕ
-kind_word Desc = codes "desc"
-kind_word Parent = codes "parent"
-kind_word Word = codes "word"
-kind_word Text = codes "text"
+kind_word kind = elim kind [ Desc ↦ codes "desc" | Parent ↦ codes "parent" | Word ↦ codes "word" | Text ↦ codes "text" ]
 
 -- the line of a function with its number: what it is called with, its flags, the state that it leaves, and what it does to fields
 abbrev pub fun_line : Facts → ℕ → Fun → List ℕ
 fun_line facts n f =
     concat (codes "fun " ∷ decimal n ∷ codes " " ∷ f.name ∷ flat_map (λ kind. codes " " ++ kind_word kind) f.kinds ∷ flag_pieces f ∷ [])
-    ++ concat (codes " -> " ∷ state_word facts.funs f ∷ effects_text facts.fields f ∷ line_end ∷ [])
+    ++ concat (codes " -> " ∷ state_word facts.funs f ∷ flat_map (λ e. concat (codes " " ∷ field_name facts.fields e.0 ∷ effect_word f.kinds e.1 ∷ [])) f.effects ∷ line_end ∷ [])
 
 -- ---- all lines
 

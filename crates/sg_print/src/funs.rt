@@ -2,8 +2,8 @@
 ghost use Rattle.std.specs.Prelude.{◌≡◌, ◌++◌, ◌+◌, ◌<◌, ◌^◌, length, map, OnOk};
 ghost use Rattle.std.specs.Fmt.{decimal};
 ghost use Rattle.sg_facts.specs.Facts.{facts_of, fun_at, fun_of_shape};
-ghost use Rattle.sg_print.specs.TablesText.{effect_word, fun_line, param_number, effects_text, flag_pieces, state_word, kind_word};
-ghost use Rattle.sg_print.specs.Inside.Pieces.{called_text, effect_piece, flag_piece, kinds_text, left_text};
+ghost use Rattle.sg_print.specs.TablesText.{effect_word, fun_line, param_number, flag_pieces, state_word, kind_word};
+ghost use Rattle.sg_print.specs.Inside.Pieces.{called_text, effect_piece, effects_text, flag_piece, kinds_text, left_text};
 
 use crate::parts::put;
 use itoa::Buffer;

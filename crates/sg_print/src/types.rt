@@ -1,7 +1,7 @@
 // The texts of types, parameters and returns.
 ghost use Rattle.std.specs.Prelude.{◌≡◌, ◌++◌, OnOk, codes, List, ℕ};
 ghost use Rattle.std.specs.List.{flat_map};
-ghost use Rattle.sg_print.specs.Printed.{type_text, ret_text, form_text, param_text, returned_text};
+ghost use Rattle.sg_print.specs.Printed.{type_text, ret_text, param_text, returned_text};
 ghost use Rattle.sg_print.specs.Inside.Pieces.{names_text, type_before_comma, params_text};
 
 use crate::parts::{put, put_stars};

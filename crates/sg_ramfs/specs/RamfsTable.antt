@@ -1,5 +1,5 @@
 -- What the file service answers.
-use Rattle.std.specs.Prelude.{ℕ, zero, suc, ◌+◌, ◌==◌, Bool, ◌||◌, nat_lt, if◌then◌else◌, List, [], ◌∷◌, ◌++◌, Some, length, take, drop}
+use Rattle.std.specs.Prelude.{ℕ, zero, suc, ◌+◌, ◌==◌, Bool, ◌||◌, nat_lt, if◌then◌else◌, List, [], ◌∷◌, ◌++◌, Some, length, take, drop, slice_get, unwrap_or}
 use Rattle.std.specs.declared.option.Option.{Option}
 use Rattle.std.specs.List.{list_any}
 use Rattle.sg_facts.specs.sg_base.declared.call.Call.{Call}
@@ -54,8 +54,4 @@ ramfs_table o call = ramfs_answer call.fun o call
 
 -- the parts of an Ok: two of tsplit and twrite, one of the others
 abbrev pub ramfs_parts : ℕ → ℕ
-ramfs_parts zero = 0
-ramfs_parts (suc zero) = 2
-ramfs_parts (suc (suc zero)) = 1
-ramfs_parts (suc (suc (suc zero))) = 2
-ramfs_parts (suc (suc (suc (suc n)))) = 1
+ramfs_parts fun = unwrap_or (slice_get (0 ∷ 2 ∷ 1 ∷ 2 ∷ []) fun) 1

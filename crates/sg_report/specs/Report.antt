@@ -5,8 +5,6 @@ use Rattle.std.specs.List.{flat_map}
 use Rattle.std.specs.Str.{bytes_eq}
 use Rattle.sg_facts.specs.sg_base.Counts.{last_count}
 use Rattle.sg_facts.specs.sg_base.declared.call.Call.{Call}
-use Rattle.sg_facts.specs.sg_base.declared.reply.Code.{Code}
-use Rattle.sg_facts.specs.sg_base.declared.reply.Code.TheVariants.{NoDesc, NoParent, BadState, HasChildren, Full, NotOwner, Held, Occupied, NotFound, Overflow, Gap, TooBig, BadName}
 use Rattle.sg_facts.specs.sg_base.declared.reply.Reply.{Reply}
 use Rattle.sg_facts.specs.sg_base.declared.reply.Reply.TheVariants.{Ok, Refused}
 use Rattle.sg_facts.specs.sg_base.declared.value.Value.{Value}
@@ -20,6 +18,7 @@ use Rattle.sg_facts.specs.declared.trace.Tag.{Tag}
 use Rattle.sg_facts.specs.declared.trace.Tag.TheVariants.{Walk, Load, Client}
 use Rattle.sg_facts.specs.Facts.{Facts, Fun, fun_at, takes_desc, takes_parent}
 use Rattle.sg_facts.specs.Trace.{Boot, Run, run_of}
+use Rattle.sg_facts.specs.sg_base.Codes.{code_name}
 use Rattle.sg_hist.specs.declared.ended.End.{End}
 use Rattle.sg_hist.specs.declared.ended.End.TheVariants.{Done, Blocked}
 use Rattle.sg_hist.specs.declared.ended.Ended.{Ended}
@@ -30,8 +29,7 @@ use Rattle.sg_hist.specs.Recovered.{is_blocked, is_replied}
 
 -- a number in decimal, or a text in double quotes
 abbrev pub value_text : Value → List ℕ
-value_text (Word n) = decimal n
-value_text (Text bytes) = 34 ∷ bytes ++ 34 ∷ []
+value_text value = elim value [ Word n ↦ decimal n | Text bytes ↦ 34 ∷ bytes ++ 34 ∷ [] ]
 
 -- values with a comma and a space between them
 abbrev pub listed : List Value → List ℕ
@@ -45,25 +43,7 @@ takes_id facts fun = takes_desc (fun_at facts.funs fun) || takes_parent (fun_at 
 -- a call: its function's name, and in brackets the descriptor or parent, where the function takes one, and the arguments
 abbrev pub call_text : Facts → Call → List ℕ
 call_text facts call =
-    (fun_at facts.funs call.fun).name ++ codes "("
-    ++ listed (if takes_id facts call.fun then Word call.desc ∷ call.args else call.args)
-    ++ codes ")"
-
--- the name of a code
-abbrev pub code_name : Code → List ℕ
-code_name NoDesc = codes "NoDesc"
-code_name NoParent = codes "NoParent"
-code_name BadState = codes "BadState"
-code_name HasChildren = codes "HasChildren"
-code_name Full = codes "Full"
-code_name NotOwner = codes "NotOwner"
-code_name Held = codes "Held"
-code_name Occupied = codes "Occupied"
-code_name NotFound = codes "NotFound"
-code_name Overflow = codes "Overflow"
-code_name Gap = codes "Gap"
-code_name TooBig = codes "TooBig"
-code_name BadName = codes "BadName"
+    (fun_at facts.funs call.fun).name ++ codes "(" ++ listed (if takes_id facts call.fun then Word call.desc ∷ call.args else call.args) ++ codes ")"
 
 -- a reply to a function: of an Ok its descriptor, where it has one, its words, and its bytes, which the function that reads a file shows
 abbrev pub reply_text : Fun → Reply → List ℕ
@@ -83,10 +63,8 @@ entry_line facts e =
 
 -- how an item ended
 abbrev pub outcome_text : Outcome → List ℕ
-outcome_text (Replied reply patch) = codes " replied"
-outcome_text Blocks = codes " blocked"
-outcome_text Stopped = codes " stopped"
-outcome_text NoMemory = codes " without memory"
+outcome_text outcome =
+    elim outcome [ Replied reply patch ↦ codes " replied" | Blocks ↦ codes " blocked" | Stopped ↦ codes " stopped" | NoMemory ↦ codes " without memory" ]
 
 -- an item: a call of a walk, with the client in whose turn and the one in whose name it was made; a load; or a client's call
 abbrev pub item_text : Facts → Tag → Call → Outcome → List ℕ
@@ -107,15 +85,9 @@ boots_lines facts number (b ∷ boots) =
 
 -- ---- the run
 
--- whether an item is a replayed call that was answered, of a descriptor whose id meets a test
-abbrev pub is_replay_for : (ℕ → Bool) → Tag → Outcome → Bool
-is_replay_for test (Walk id k client) outcome = test id && is_replied outcome
-is_replay_for test (Load key client) outcome = false
-is_replay_for test (Client client seq) outcome = false
-
 -- how many items are
 abbrev pub replays_for : (ℕ → Bool) → List Item → ℕ
-replays_for test items = length (filter (λ item. is_replay_for test item.tag item.outcome) items)
+replays_for test items = length (filter (λ item. elim item.tag [ Walk id k client ↦ test id && is_replied item.outcome | _ ↦ false ]) items)
 
 -- the counts: entries, boots, and calls of walks that replied, which are counted up to the greatest number of 64 bits
 abbrev pub counts_text : List Entry → Run → List ℕ
@@ -125,8 +97,7 @@ counts_text history run =
 
 -- how a client ended
 abbrev pub end_text : Facts → End → List ℕ
-end_text facts Done = codes " done"
-end_text facts (Blocked call) = codes " blocked " ++ call_text facts call
+end_text facts end = elim end [ Done ↦ codes " done" | Blocked call ↦ codes " blocked " ++ call_text facts call ]
 
 -- a run: a line for each entry, a line for each client that has a call, the counts, and the trace where it is asked for: the boots, and the
 -- number of points that were asked

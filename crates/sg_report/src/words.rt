@@ -5,7 +5,8 @@ ghost use Rattle.std.specs.List.{flat_map};
 ghost use Rattle.std.specs.Str.{bytes_eq};
 ghost use Rattle.sg_facts.specs.sg_base.declared.value.Value.TheVariants.{Word};
 ghost use Rattle.sg_facts.specs.Facts.{fun_at, fun_of_shape, takes_desc, takes_parent};
-ghost use Rattle.sg_report.specs.Report.{call_text, code_name, listed, reply_text, value_text};
+ghost use Rattle.sg_facts.specs.sg_base.Codes.{code_name};
+ghost use Rattle.sg_report.specs.Report.{call_text, listed, reply_text, value_text};
 ghost use Rattle.sg_report.specs.Inside.Pieces.{good_text, quoted};
 
 use itoa::Buffer;

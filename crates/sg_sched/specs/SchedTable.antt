@@ -1,5 +1,5 @@
 -- What the thread service answers.
-use Rattle.std.specs.Prelude.{ℕ, zero, suc, ◌+◌, ◌==◌, Bool, ◌&&◌, ◌||◌, nat_lt, if◌then◌else◌, max, List, [], ◌∷◌, None, Some, map, filter}
+use Rattle.std.specs.Prelude.{ℕ, zero, suc, ◌+◌, ◌==◌, Bool, ◌&&◌, ◌||◌, nat_lt, if◌then◌else◌, max, List, [], ◌∷◌, None, Some, map, filter, slice_get, unwrap_or}
 use Rattle.std.specs.Option.{option_map_or}
 use Rattle.std.specs.declared.option.Option.{Option}
 use Rattle.std.specs.List.{fold, reduce}
@@ -10,7 +10,6 @@ use Rattle.sg_facts.specs.sg_base.declared.reply.Reply.TheVariants.{Ok, Refused}
 use Rattle.sg_facts.specs.declared.row.Row.{Row}
 use Rattle.sg_facts.specs.Track.{row_at, word_of, field_at}
 use Rattle.sg_facts.specs.Object.{Object}
-use Rattle.sg_facts.specs.Laws.{state_in}
 use Rattle.sg_facts.specs.Legal.{Table, done}
 
 -- the rank of a thread in the queue; of one priority a smaller rank goes before
@@ -45,7 +44,7 @@ sched_answer (suc (suc zero)) o call = ranked 0 (next_rank o.rows)
 sched_answer (suc (suc (suc zero))) o call = done 0
 sched_answer (suc (suc (suc (suc zero)))) o call = done 0
 -- sched_wait blocks in the state that sched_sleep leaves
-sched_answer (suc (suc (suc (suc (suc zero))))) o call = if state_in (row_at o.rows call.desc) == 3 then None else done 0
+sched_answer (suc (suc (suc (suc (suc zero))))) o call = if option_map_or (λ r. r.state) (row_at o.rows call.desc) 0 == 3 then None else done 0
 -- sched_next answers the thread that is next, if there is one
 sched_answer (suc (suc (suc (suc (suc (suc zero)))))) o call = option_map_or (λ r. done r.id) (first_ready o.rows) (Some (Refused NotFound))
 -- sched_place and sched_exit
@@ -59,8 +58,4 @@ sched_table o call = sched_answer call.fun o call
 
 -- the parts of an Ok: two of sched_create_thd, none of sched_wait and sched_next, one of the others
 abbrev pub sched_parts : ℕ → ℕ
-sched_parts zero = 0
-sched_parts (suc zero) = 2
-sched_parts (suc (suc (suc (suc (suc zero))))) = 0
-sched_parts (suc (suc (suc (suc (suc (suc zero)))))) = 0
-sched_parts (suc n) = 1
+sched_parts fun = unwrap_or (slice_get (0 ∷ 2 ∷ 1 ∷ 1 ∷ 1 ∷ 0 ∷ 0 ∷ []) fun) 1

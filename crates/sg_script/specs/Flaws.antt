@@ -1,6 +1,7 @@
 -- What can be wrong with a script for an interface, and at which place.
-use Rattle.std.specs.Prelude.{ℕ, ◌≡◌, ◌<◌, ◌≤◌, ◌+◌, ◌==◌, ◌&&◌, ◌⊎◌, Bool, true, false, not, nat_le, nat_lt, if◌then◌else◌, List, [], ◌∷◌, ◌++◌, length, None, Some}
-use Rattle.std.specs.List.{Contains, flat_map, list_any}
+use Rattle.std.specs.Prelude.{ℕ, ◌≡◌, ◌<◌, ◌≤◌, ◌+◌, ◌==◌, ◌&&◌, ◌⊎◌, Bool, true, false, not, nat_le, nat_lt, if◌then◌else◌, List, [], ◌∷◌, ◌++◌, length, None, Some, codes}
+use Rattle.std.specs.List.{Contains, flat_map, list_any, position_or_len}
+use Rattle.std.specs.Cmp.Lexicographic.{pointwise}
 use Rattle.sg_facts.specs.declared.shape.Kind.{Kind}
 use Rattle.sg_facts.specs.declared.shape.Kind.TheVariants.{Text as IsText}
 use Rattle.sg_facts.specs.Facts.{fun_at}
@@ -18,6 +19,7 @@ use Rattle.sg_script.specs.declared.fault.ScriptKind.TheVariants.{Syntax, Unknow
 use Rattle.sg_script.specs.declared.fault.ScriptFault.{ScriptFault}
 use Rattle.sg_script.specs.Numbers.{counts_as, is_known_client, is_text, unquoted, value_of_digits}
 use Rattle.sg_script.specs.Scripts.{calls_of_setup, declared_fun}
+use Rattle.sg_script.specs.contracts.fault.ScriptKindPartialEq.TheImpl.{eq-value as same_kind}
 
 -- a flaw of a kind at a place, where there is one
 abbrev pub script_flaw_if : Bool → ScriptKind → ℕ → List ScriptFault
@@ -46,9 +48,7 @@ written_arg_fits own _ (Back n) = nat_le 1 (counts_as n.bytes) && nat_lt (counts
 
 -- whether arguments may stand for parameters, one for each
 abbrev pub written_args_fit : ℕ → List Kind → List WrittenArg → Bool
-written_args_fit own [] [] = true
-written_args_fit own (k ∷ kinds) (a ∷ args) = written_arg_fits own k a && written_args_fit own kinds args
-written_args_fit own _ _ = false
+written_args_fit own kinds args = pointwise (written_arg_fits own) kinds args
 
 -- a call: whether it stands in a setup, its number among all calls of the text, and its number among its client's. It is judged by its
 -- function, where the interface declares one of its name; as one call too many; and by each argument by itself
@@ -61,11 +61,7 @@ call_flaws i in_setup nth own c =
           ++ script_flaw_if (in_setup && (fun_at i.facts.funs f).block) Blocking c.name.at
     ])
     ++ script_flaw_if (nth == most_script_calls + 1) Limit c.name.at
-    ++ flat_map (λ (a : WrittenArg). elim a [
-      | Number n ↦ number_flaws n
-      | Back n ↦ number_flaws n
-      | Text t ↦ script_flaw_if (not (is_text (unquoted t.bytes))) Limit t.at
-    ]) c.args
+    ++ flat_map (λ (a : WrittenArg). elim a [ Text t ↦ script_flaw_if (not (is_text (unquoted t.bytes))) Limit t.at | Number n ↦ number_flaws n | Back n ↦ number_flaws n ]) c.args
 
 -- calls that follow one another, the first of which has these numbers
 abbrev pub calls_flaws : Declared → Bool → ℕ → ℕ → List WrittenCall → List ScriptFault
@@ -86,9 +82,7 @@ stops_flaws nth before (n ∷ numbers) =
 
 -- the calls of a part, whosever they are
 abbrev pub calls_in : Part → List WrittenCall
-calls_in (Setup at calls) = calls
-calls_in (Client at n calls) = calls
-calls_in _ = []
+calls_in part = elim part [ Setup at calls ↦ calls | Client at n calls ↦ calls | _ ↦ [] ]
 
 -- how many calls of client 1 come before the calls of its own part: those of the setup; none for any other client
 abbrev pub calls_before : ℕ → ℕ → ℕ
@@ -121,16 +115,15 @@ flaws_of i parts = flaws_behind i (length (flat_map calls_of_setup parts)) [] pa
 
 -- ---- the first of them
 
--- the order of kinds at one place
+-- the kinds in their order at one place, each with its name
+abbrev pub script_kinds : List (ScriptKind × List ℕ)
+script_kinds =
+    (Syntax, codes "Syntax") ∷ (UnknownFunction, codes "UnknownFunction") ∷ (BadArgs, codes "BadArgs") ∷ (BadClient, codes "BadClient")
+    ∷ (Twice, codes "Twice") ∷ (NotAscending, codes "NotAscending") ∷ (Blocking, codes "Blocking") ∷ (Limit, codes "Limit") ∷ []
+
+-- the place of a kind in that order
 abbrev pub script_kind_rank : ScriptKind → ℕ
-script_kind_rank Syntax = 0
-script_kind_rank UnknownFunction = 1
-script_kind_rank BadArgs = 2
-script_kind_rank BadClient = 3
-script_kind_rank Twice = 4
-script_kind_rank NotAscending = 5
-script_kind_rank Blocking = 6
-script_kind_rank Limit = 7
+script_kind_rank kind = position_or_len (λ p. same_kind.it p.0 kind) script_kinds
 
 -- a flaw is the first of some: none stands at an earlier place, and none of an earlier kind at its own
 pub record IsFirstFlaw (flaws : List ScriptFault) (f : ScriptFault) : Type 0 where

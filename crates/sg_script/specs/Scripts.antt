@@ -32,19 +32,14 @@ declared_fun i name = declared_from i name 1 i.facts.funs
 abbrev pub script_call_of : Declared → WrittenCall → ScriptCall
 script_call_of i c = record {
   fun = unwrap_or (declared_fun i c.name.bytes) 0;
-  args = map (λ (a : WrittenArg). elim a [
-    | number n ↦ Number (counts_as n.bytes)
-    | text t ↦ Text (unquoted t.bytes)
-    | back n ↦ Back (counts_as n.bytes)
-  ]) c.args;
+  args = map (λ (a : WrittenArg). elim a [ number n ↦ Number (counts_as n.bytes) | text t ↦ Text (unquoted t.bytes) | back n ↦ Back (counts_as n.bytes) ]) c.args;
 }
 
 -- ---- parts
 
 -- the calls of a part that is a setup
 abbrev pub calls_of_setup : Part → List WrittenCall
-calls_of_setup (Setup at calls) = calls
-calls_of_setup _ = []
+calls_of_setup part = elim part [ Setup at calls ↦ calls | _ ↦ [] ]
 
 -- a client with its calls, in its place among others in ascending numbers
 abbrev pub placed : ℕ → List ScriptCall → List (ℕ × List ScriptCall) → List (ℕ × List ScriptCall)

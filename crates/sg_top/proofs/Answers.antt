@@ -15,8 +15,8 @@ use Rattle.sg_top.specs.declared.command.Command.TheVariants.{Play, Check, Compi
 use Rattle.sg_top.specs.declared.status.Status.{Status}
 use Rattle.sg_top.specs.declared.status.Status.TheVariants.{Done, Waits, OtherWords, Refused, ReadFault, WriteFault, NoMemory, Illegal}
 use Rattle.sg_input.specs.Lines.{too_long_line}
-use Rattle.sg_load.specs.sg_plain.Promises.{somebody_waits}
-use Rattle.sg_top.specs.Answer.{Ends, HasRead, IsAnswer, IsOutput, IsOwnOutput, IsRefusal, IsUntouched, ReadsInput, ended_status, has_input, is_play, most_bytes, IsPlayOutput}
+use Rattle.sg_load.specs.sg_plain.Inside.Kept.{somebody_waits}
+use Rattle.sg_top.specs.Answer.{Ends, HasRead, IsAnswer, IsOutput, IsOwnOutput, IsRefusal, ReadsInput, ended_status, has_input, is_play, most_bytes, IsPlayOutput}
 use Rattle.sg_top.specs.Inside.Pieces.{IsIllegal, SaysIllegal, SaysRefused, verdict_status}
 use Rattle.sg_verify.specs.declared.verdict.Verdict.{Verdict as Judgement}
 use Rattle.sg_verify.specs.declared.verdict.Verdict.TheVariants.{Legal, BadSeq, BadReply}
@@ -46,7 +46,7 @@ abbrev Read : Command → Ends → Ends → Option Ended → Status → List ℕ
 Read command source source' ended status output =
     ((bytes : List ℕ) × (length bytes ≤ most_bytes command) × Consumes source.told source'.told bytes × IsAtEnd source'.told × IsOutput command bytes ended status output)
     ⊎ ((bytes : List ℕ) × (has_input command ≡ true) × (length bytes ≡ most_bytes command + 1) × Consumes source.told source'.told bytes × (ended ≡ None) × (status ≡ Refused) × (output ≡ too_long_line))
-    ⊎ (IsUntouched source source' × IsOwnOutput command ended status output)
+    ⊎ ((source' ≡ source) × IsOwnOutput command ended status output)
 
 -- ---- refusals
 
@@ -309,14 +309,14 @@ no_output Verify bytes ended status output without is = cc without
 no_output (Load service number) bytes ended status output without is = is
 
 read_nothing : (command : Command) (source source' : Ends) (ended : Option Ended) (status : Status) (output : List ℕ) → has_input command ≡ false
-    → Read command source source' ended status output → IsUntouched source source'
+    → Read command source source' ended status output → (source' ≡ source)
 read_nothing command source source' ended status output without (inl (bytes, short, consumed, at_end, is)) = absurd (no_output command bytes ended status output without is)
 read_nothing command source source' ended status output without (inr (inl (bytes, has, count, consumed, none, is_two, line))) = absurd (cc (without, has))
 read_nothing command source source' ended status output without (inr (inr (same, own))) = same
 
 -- nothing was read where the command that is said has no input
 untouched : (said : Command → Type 0) (source source' : Ends) (ended : Option Ended) (command c : Command) (wanted : Status) (output : List ℕ) → IsOne said → said command
-    → HasRead command source source' ended wanted output → said c → has_input c ≡ false → IsUntouched source source'
+    → HasRead command source source' ended wanted output → said c → has_input c ≡ false → (source' ≡ source)
 untouched said source source' ended command c wanted output one is_said has said_c without =
     read_nothing command source source' ended wanted output (ap has_input (one command c is_said said_c) ∙ without) has.read
 
@@ -332,9 +332,7 @@ answered said source source' sink sink' status ended command wanted output one i
     let has_as : (s : Status) → status ≡ s → HasRead command source source' ended s output = λ s is. subst (λ w. HasRead command source source' ended w output) (sym same ∙ is) has in record {
       words = λ is. absurd (no.0 is);
       other_words = λ other. absurd (other command is_said);
-      done = λ is. (command, is_said, output, has_as Done is, appended);
-      waits = λ is. (command, is_said, output, has_as Waits is, appended);
-      illegal = λ is. (command, is_said, output, has_as Illegal is, appended);
+      answered = λ is. (command, is_said, output, has_as status refl, appended);
       refused = λ is. let no_run = told_refused command source source' ended wanted output (sym same ∙ is) has in (no_run.0, (command, is_said, output, has_as Refused is, appended, no_run.1));
       refuses = λ c said_c. subst (λ v. IfSome source.told (SaysRefused v status)) (one command c is_said said_c) (says_whole command source source' ended status wanted output same so has);
       judges = λ c said_c. subst (λ v. IfSome source.told (SaysIllegal v status)) (one command c is_said said_c) (judges_whole command source source' ended status wanted output same has);
@@ -352,9 +350,7 @@ answered said source source' sink sink' status ended command wanted output one i
 answered said source source' sink sink' status ended command wanted output one is_said has (inr cut) steady writes so = record {
   words = λ is. absurd (cc (is, cut.0));
   other_words = λ other. absurd (other command is_said);
-  done = λ is. absurd (cc (is, cut.0));
-  waits = λ is. absurd (cc (is, cut.0));
-  illegal = λ is. absurd (cc (is, cut.0));
+  answered = λ is. absurd (elim is [ inl done ↦ cc (done, cut.0) | inr more ↦ elim more [ inl waits ↦ cc (waits, cut.0) | inr illegal ↦ cc (illegal, cut.0) ] ]);
   refused = λ is. absurd (cc (is, cut.0));
   refuses = λ c said_c. says_refused c source.told status (inr (inr (inl cut.0)));
   judges = λ c said_c. says_illegal c source.told status (inr (inr (inl cut.0)));
@@ -374,11 +370,9 @@ answered said source source' sink sink' status ended command wanted output one i
 pub other_answer : (said : Command → Type 0) (source sink : Ends) (status : Status) (ended : Option Ended) → ((command : Command) → said command → ⊥)
     → status ≡ OtherWords → ended ≡ None → IsAnswer said source source sink sink status ended
 other_answer said source sink status ended nothing other none = record {
-  words = λ is. (nothing, record { told = refl; faults = refl }, record { told = refl; faults = refl }, none);
+  words = λ is. (nothing, refl, refl, none);
   other_words = λ unsaid. other;
-  done = λ is. absurd (cc (is, other));
-  waits = λ is. absurd (cc (is, other));
-  illegal = λ is. absurd (cc (is, other));
+  answered = λ is. absurd (elim is [ inl done ↦ cc (done, other) | inr more ↦ elim more [ inl waits ↦ cc (waits, other) | inr illegal ↦ cc (illegal, other) ] ]);
   refused = λ is. absurd (cc (is, other));
   refuses = λ c said_c. absurd (nothing c said_c);
   judges = λ c said_c. absurd (nothing c said_c);
@@ -400,13 +394,11 @@ pub read_failed : (said : Command → Type 0) (source source' sink : Ends) (stat
 read_failed said source source' sink status ended command one is_said has failed none rose reads = record {
   words = λ is. absurd (cc (is, failed));
   other_words = λ other. absurd (other command is_said);
-  done = λ is. absurd (cc (is, failed));
-  waits = λ is. absurd (cc (is, failed));
-  illegal = λ is. absurd (cc (is, failed));
+  answered = λ is. absurd (elim is [ inl done ↦ cc (done, failed) | inr more ↦ elim more [ inl waits ↦ cc (waits, failed) | inr illegal ↦ cc (illegal, failed) ] ]);
   refused = λ is. absurd (cc (is, failed));
   refuses = λ c said_c. says_refused c source.told status (inr (inl failed));
   judges = λ c said_c. says_illegal c source.told status (inr (inl failed));
-  read_fault = λ is. (none, rose, record { told = refl; faults = refl });
+  read_fault = λ is. (none, rose, refl);
   only_read_fault = λ more. failed;
   no_read = λ c said_c without. absurd (cc (ap has_input (one command c is_said said_c), without, has));
   write_fault = λ is. absurd (cc (is, failed));
@@ -420,13 +412,11 @@ read_failed said source source' sink status ended command one is_said has failed
 
 -- there was no memory
 pub without_memory : (said : Command → Type 0) (source source' sink sink' : Ends) (status : Status) (ended : Option Ended) (command : Command) → IsOne said → said command
-    → (has_input command ≡ false → IsUntouched source source') → (status ≡ NoMemory) × (ended ≡ None) × IsUntouched sink sink' → source'.faults ≡ source.faults → IsAnswer said source source' sink sink' status ended
+    → (has_input command ≡ false → (source' ≡ source)) → (status ≡ NoMemory) × (ended ≡ None) × (sink' ≡ sink) → source'.faults ≡ source.faults → IsAnswer said source source' sink sink' status ended
 without_memory said source source' sink sink' status ended command one is_said unread without steady = record {
   words = λ is. absurd (cc (is, without.0));
   other_words = λ other. absurd (other command is_said);
-  done = λ is. absurd (cc (is, without.0));
-  waits = λ is. absurd (cc (is, without.0));
-  illegal = λ is. absurd (cc (is, without.0));
+  answered = λ is. absurd (elim is [ inl done ↦ cc (done, without.0) | inr more ↦ elim more [ inl waits ↦ cc (waits, without.0) | inr illegal ↦ cc (illegal, without.0) ] ]);
   refused = λ is. absurd (cc (is, without.0));
   refuses = λ c said_c. says_refused c source.told status (inr (inr (inr without.0)));
   judges = λ c said_c. says_illegal c source.told status (inr (inr (inr without.0)));
@@ -434,12 +424,12 @@ without_memory said source source' sink sink' status ended command one is_said u
   only_read_fault = λ rose. no_rise source.faults source'.faults steady rose;
   no_read = λ c said_c lacks. (unread (ap has_input (one command c is_said said_c) ∙ lacks), λ is. cc (is, without.0));
   write_fault = λ is. absurd (cc (is, without.0));
-  only_write_fault = λ rose. no_rise sink.faults sink'.faults without.2.faults rose;
+  only_write_fault = λ rose. no_rise sink.faults sink'.faults (ap (λ (e : Ends). e.faults) without.2) rose;
   no_memory = λ is. (without.1, without.2);
   played = λ is c said_c play. absurd (elim is [ inl done ↦ cc (done, without.0) | inr waits ↦ cc (waits, without.0) ]);
   only_played = λ some. absurd (no_run ended without.1 some);
   reads = omega (arith, steady);
-  writes = omega (arith, without.2.faults);
+  writes = let still = ap (λ (e : Ends). e.faults) without.2 in omega (arith, still);
 }
 
 -- an input that was read, and what was done with it, make the answer
@@ -475,9 +465,9 @@ pub own_answer : (said : Command → Type 0) (source sink sink' : Ends) (status 
     → IsDelivered (IsOwnOutput command) sink sink' status ended → sink.faults ≤ sink'.faults → IsAnswer said source source sink sink' status ended
 own_answer said source sink sink' status ended command one is_said (inl (output, wanted, own, written)) writes =
     answered said source source sink sink' status ended command wanted output one is_said
-    (record { read = inr (inr (record { told = refl; faults = refl }, own)) }) written refl writes (own_is command ended wanted output own).0
+    (record { read = inr (inr (refl, own)) }) written refl writes (own_is command ended wanted output own).0
 own_answer said source sink sink' status ended command one is_said (inr without) writes =
-    without_memory said source source sink sink' status ended command one is_said (λ lacks. record { told = refl; faults = refl }) without refl
+    without_memory said source source sink sink' status ended command one is_said (λ lacks. refl) without refl
 
 -- ---- other words for a command
 
@@ -487,9 +477,7 @@ pub said_answer : (said : Command → Type 0) (source source' sink sink' : Ends)
 said_answer said source source' sink sink' status ended command one is_said a = record {
   words = λ is. absurd ((a.words is).0 command refl);
   other_words = λ other. absurd (other command is_said);
-  done = λ is. let d = a.done is in (d.0, subst said (sym d.1) is_said, d.2, d.3, d.4);
-  waits = λ is. let d = a.waits is in (d.0, subst said (sym d.1) is_said, d.2, d.3, d.4);
-  illegal = λ is. let d = a.illegal is in (d.0, subst said (sym d.1) is_said, d.2, d.3, d.4);
+  answered = λ is. let d = a.answered is in (d.0, subst said (sym d.1) is_said, d.2, d.3, d.4);
   refused = λ is. let d = a.refused is in (d.0, (d.1.0, subst said (sym d.1.1) is_said, d.1.2, d.1.3, d.1.4, d.1.5));
   refuses = λ c said_c. a.refuses c (one c command said_c is_said);
   judges = λ c said_c. a.judges c (one c command said_c is_said);
@@ -525,9 +513,17 @@ with_input c (inr (inr (inr (inr is)))) = ap has_input is
 
 -- ---- deliveries
 
+-- an end by its parts
+abbrev ends_of : Option (List ℕ) → ℕ → Ends
+ends_of told faults = record { told = told; faults = faults }
+
+-- ends with the same parts are the same
+same_ends : (e f : Ends) → e.told ≡ f.told → e.faults ≡ f.faults → e ≡ f
+same_ends e f told faults = ap (λ t. ends_of t e.faults) told ∙ ap (ends_of f.told) faults
+
 -- what a command made is one of these, and was delivered; or nothing was made, and nothing is written
 pub delivered : {E : Type 0} (IsOne : Option Ended → Status → List ℕ → Type 0) (sink sink' : Ends) (status : Status) (ended : Option Ended) (made : Result Output E)
     → IfOk made (λ o. IsOne o.ended o.status o.text) → IfOk made (λ o. (ended ≡ o.ended) × IsWritten sink sink' o.text o.status status)
     → OnErr made ((status ≡ NoMemory) × (ended ≡ None) × (sink'.told ≡ sink.told) × (sink'.faults ≡ sink.faults)) → IsDelivered IsOne sink sink' status ended
 delivered IsOne sink sink' status ended (Ok o) one written unmade = inl (o.text, o.status, subst (λ e. IsOne e o.status o.text) (sym written.0) one, written.1)
-delivered IsOne sink sink' status ended (Err e) one written unmade = inr (unmade.0, unmade.1, record { told = unmade.2; faults = unmade.3 })
+delivered IsOne sink sink' status ended (Err e) one written unmade = inr (unmade.0, unmade.1, same_ends sink' sink unmade.2 unmade.3)

@@ -4,6 +4,7 @@ use Rattle.std.specs.declared.option.Option.{Option}
 use Rattle.std.specs.Io.KnownBytes.{Appends, Consumes, IsAtEnd}
 use Rattle.std.specs.declared.string.String.{String}
 use Rattle.std.specs.declared.alloc.Global.{Global}
+use Rattle.std.specs.List.{list_any}
 use Rattle.sg_facts.specs.Facts.{Facts}
 use Rattle.sg_edge.specs.Edge.{Rose, ConsumesAtMost}
 use Rattle.sg_report.specs.sg_hist.declared.ended.End.{End}
@@ -12,12 +13,12 @@ use Rattle.sg_input.specs.declared.outcome.Verdict.{Verdict}
 use Rattle.sg_input.specs.declared.outcome.Verdict.TheVariants.{Accepted as accepted, Refused as refused}
 use Rattle.sg_input.specs.Verdicts.{IsCompiled, IsUpgraded, IsVerdict}
 use Rattle.sg_input.specs.declared.input.Input.TheVariants.{Refused as refused_input}
-use Rattle.sg_input.specs.Inputs.{IsInputOf, IsRunInputOf, IsRunReady, most_input, most_interface, most_run_input}
+use Rattle.sg_input.specs.Inputs.{IsInputOf, IsRunInputOf, IsRunReady, most_interface, most_run, most_script}
 use Rattle.sg_input.specs.declared.run_input.RunInput.TheVariants.{Refused as refused_run}
 use Rattle.sg_input.specs.Lines.{too_long_line}
 use Rattle.sg_input.specs.sg_lex.Table.{IsNumber}
 use Rattle.sg_load.specs.Services.{facts_by}
-use Rattle.sg_load.specs.sg_plain.Promises.{somebody_waits}
+use Rattle.sg_report.specs.sg_hist.Recovered.{is_blocked}
 use Rattle.sg_facts.specs.sg_base.Counts.{last_count}
 use Rattle.sg_input.specs.sg_script.Numbers.{value_of_digits}
 use Rattle.sg_facts.specs.Interface.{Declared}
@@ -70,7 +71,7 @@ has_input command = elim command [ Load service number ↦ false | _ ↦ true ]
 
 -- the greatest number of bytes of a command's input
 abbrev pub most_bytes : Command → ℕ
-most_bytes command = elim command [ Play threads shows ↦ most_input | Verify ↦ most_run_input | Load service number ↦ 0 | _ ↦ most_interface ]
+most_bytes command = elim command [ Play threads shows ↦ most_interface + 4 + most_script | Verify ↦ most_interface + 4 + most_run | Load service number ↦ 0 | _ ↦ most_interface ]
 
 -- ---- outputs
 
@@ -80,7 +81,7 @@ services = map (λ s. s.facts) played_services
 
 -- the status of a play that came to its end: whether some client waits there
 abbrev pub ended_status : List (ℕ × End) → Status
-ended_status ends = if somebody_waits ends then Waits else Done
+ended_status ends = if list_any (λ e. is_blocked e.1) ends then Waits else Done
 
 -- an input is an interface of one of the services and a history that a run of the service printed, and this is said of the history,
 -- with its status and line
@@ -138,30 +139,22 @@ pub record Ends : Type 0 where
   pub told : Option (List ℕ)
   pub faults : ℕ
 
--- a source or sink is as it was
-pub record IsUntouched (before after : Ends) : Type 0 where
-  pub told : after.told ≡ before.told
-  pub faults : after.faults ≡ before.faults
-
 -- an input was read to its end, and an output for it is to be written with this status; or one byte more than an input may
 -- have was read, and the input is refused; or the command has no input, nothing was read, and its output is to be written
 pub record HasRead (command : Command) (before after : Ends) (ended : Option Ended) (status : Status) (output : List ℕ) : Type 0 where
   pub read : ((bytes : List ℕ) × (length bytes ≤ most_bytes command) × Consumes before.told after.told bytes × IsAtEnd after.told × IsOutput command bytes ended status output)
       ⊎ ((bytes : List ℕ) × (has_input command ≡ true) × (length bytes ≡ most_bytes command + 1) × Consumes before.told after.told bytes × (ended ≡ None) × (status ≡ Refused) × (output ≡ too_long_line))
-      ⊎ (IsUntouched before after × IsOwnOutput command ended status output)
+      ⊎ ((after ≡ before) × IsOwnOutput command ended status output)
 
 -- what an answer says, by its status, where the words say this command
 pub record IsAnswer (said : Command → Type 0) (source source' sink sink' : Ends) (status : Status) (ended : Option Ended) : Type 0 where
   -- other words: they are no command's, and nothing is read or written
-  pub words : status ≡ OtherWords → ((command : Command) → said command → ⊥) × IsUntouched source source' × IsUntouched sink sink' × (ended ≡ None)
+  pub words : status ≡ OtherWords → ((command : Command) → said command → ⊥) × (source' ≡ source) × (sink' ≡ sink) × (ended ≡ None)
   pub other_words : ((command : Command) → said command → ⊥) → status ≡ OtherWords
-  -- done: the input is played and no client waits, or it is accepted, compiled or upgraded, or its history is legal, and its report, line,
-  -- tables or text are written
-  pub done : status ≡ Done → (command : Command) × said command × (output : List ℕ) × HasRead command source source' ended Done output × Appends sink.told sink'.told output
-  -- waits: the input is played, some client waits at the end, and the report is written
-  pub waits : status ≡ Waits → (command : Command) × said command × (output : List ℕ) × HasRead command source source' ended Waits output × Appends sink.told sink'.told output
-  -- illegal: the input's history isn't legal, and the line that says where is written
-  pub illegal : status ≡ Illegal → (command : Command) × said command × (output : List ℕ) × HasRead command source source' ended Illegal output × Appends sink.told sink'.told output
+  -- done: the input is played and no client waits, or it is accepted, compiled or upgraded, or its history is legal; waits: it is played,
+  -- and some client waits at the end; illegal: its history isn't legal. Its report, line, tables or text are written
+  pub answered : (status ≡ Done) ⊎ (status ≡ Waits) ⊎ (status ≡ Illegal)
+      → (command : Command) × said command × (output : List ℕ) × HasRead command source source' ended status output × Appends sink.told sink'.told output
   -- refused: the input is refused, and the line that refuses it is written
   pub refused : status ≡ Refused → (ended ≡ None)
       × ((command : Command) × said command × (output : List ℕ) × HasRead command source source' ended Refused output × Appends sink.told sink'.told output
@@ -171,13 +164,13 @@ pub record IsAnswer (said : Command → Type 0) (source source' sink sink' : End
       → (status ≡ Refused) ⊎ (status ≡ ReadFault) ⊎ (status ≡ WriteFault) ⊎ (status ≡ NoMemory))
   -- a history that isn't legal is never answered as one that is, nor as refused: the status says so, or that there was a fault or no memory
   pub judges : (command : Command) → said command → IfSome source.told (λ bytes. (output : List ℕ)
-      → (command ≡ Verify) × (length bytes ≤ most_run_input) × IsJudgedAs bytes Illegal output
+      → (command ≡ Verify) × (length bytes ≤ most_bytes command) × IsJudgedAs bytes Illegal output
       → (status ≡ Illegal) ⊎ (status ≡ ReadFault) ⊎ (status ≡ WriteFault) ⊎ (status ≡ NoMemory))
   -- a read fault: a read failed, and nothing is written; no other status is answered where the source's count of faults rose
-  pub read_fault : status ≡ ReadFault → (ended ≡ None) × Rose source.faults source'.faults × IsUntouched sink sink'
+  pub read_fault : status ≡ ReadFault → (ended ≡ None) × Rose source.faults source'.faults × (sink' ≡ sink)
   pub only_read_fault : source.faults < source'.faults → status ≡ ReadFault
   -- a command without an input reads nothing, and so no read of it fails
-  pub no_read : (command : Command) → said command → has_input command ≡ false → IsUntouched source source' × (status ≡ ReadFault → ⊥)
+  pub no_read : (command : Command) → said command → has_input command ≡ false → (source' ≡ source) × (status ≡ ReadFault → ⊥)
   -- a write fault: a write failed, and what is written is a proper prefix of the output; no other status is answered where the
   -- sink's count of faults rose
   pub write_fault : status ≡ WriteFault → Rose sink.faults sink'.faults
@@ -185,7 +178,7 @@ pub record IsAnswer (said : Command → Type 0) (source source' sink sink' : End
       × (written < length output) × Appends sink.told sink'.told (take written output))
   pub only_write_fault : sink.faults < sink'.faults → status ≡ WriteFault
   -- no memory: nothing is written
-  pub no_memory : status ≡ NoMemory → (ended ≡ None) × IsUntouched sink sink'
+  pub no_memory : status ≡ NoMemory → (ended ≡ None) × (sink' ≡ sink)
   -- a run is there where a play came to its end, and never of another command
   pub played : (status ≡ Done) ⊎ (status ≡ Waits) → (command : Command) → said command → is_play command ≡ true → IsSome ended
   pub only_played : IsSome ended → (command : Command) × said command × (is_play command ≡ true)

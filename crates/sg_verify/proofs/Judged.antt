@@ -21,9 +21,9 @@ use Rattle.sg_report.specs.sg_hist.Reading.{is_by_guard}
 use Rattle.sg_world_laws.specs.sg_recovery_laws.Objects.Serving.{IsLegalObject, IsService}
 use Rattle.sg_needs.specs.sg_track.Tracked.{MayTrack, Tracked}
 use Rattle.sg_verify.proofs.Asking.{may_ask}
-use Rattle.sg_verify.specs.Inside.Counting.{AreCounts}
+use Rattle.sg_verify.specs.Inside.Counting.{AreCounts, next_seq}
 use Rattle.sg_verify.specs.Inside.Judging.{IsSettled, IsSoFar, IsWrongAfter, setting_for}
-use Rattle.sg_verify.specs.Verdicts.{IsRight, IsVerdictOf, next_seq}
+use Rattle.sg_verify.specs.Verdicts.{IsRight, IsVerdictOf}
 use Rattle.sg_verify.specs.declared.verdict.Verdict.{Verdict}
 use Rattle.sg_verify.specs.declared.verdict.Verdict.TheVariants.{Legal, BadSeq, BadReply}
 use Rattle.sg_world_laws.proofs.Drawn.{object_behind}

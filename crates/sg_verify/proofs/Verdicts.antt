@@ -8,7 +8,8 @@ use Rattle.sg_facts.specs.Legal.{Table, answer}
 use Rattle.sg_facts.specs.Object.{object_of}
 use Rattle.sg_facts.specs.declared.entry.Entry.{Entry}
 use Rattle.sg_facts.proofs.Replaying.Found.{other_test, same_test}
-use Rattle.sg_verify.specs.Verdicts.{IsRight, IsVerdictOf, next_seq}
+use Rattle.sg_verify.specs.Inside.Counting.{next_seq}
+use Rattle.sg_verify.specs.Verdicts.{IsRight, IsVerdictOf}
 use Rattle.sg_verify.specs.declared.verdict.Verdict.{Verdict}
 use Rattle.sg_verify.specs.declared.verdict.Verdict.TheVariants.{Legal, BadSeq, BadReply}
 use Rattle.sg_verify.proofs.Splits.{which}

@@ -8,10 +8,6 @@ use Rattle.sg_report.specs.sg_hist.Clients.{AreNumbered, calls_of}
 use Rattle.sg_verify.specs.declared.verdict.Verdict.{Verdict}
 use Rattle.sg_verify.specs.declared.verdict.Verdict.TheVariants.{Legal, BadSeq, BadReply}
 
--- the number of a client's next call after a history
-abbrev pub next_seq : List Entry → ℕ → ℕ
-next_seq history client = length (calls_of history client) + 1
-
 -- a history is right: a service that never failed could have given each reply, and each client's calls are numbered from 1 on, one
 -- after the other
 pub record IsRight (i : Declared) (ask : Table) (history : List Entry) : Type 0 where
@@ -32,7 +28,7 @@ pub record IsRightUpTo (i : Declared) (ask : Table) (history : List Entry) (at :
 abbrev pub IsVerdictOf : Declared → Table → List Entry → Verdict → Type 0
 IsVerdictOf i ask history Legal = IsRight i ask history
 IsVerdictOf i ask history (BadSeq at next) =
-    (first : IsRightUpTo i ask history at) × (next ≡ next_seq first.before first.entry.call.client) × (first.entry.call.seq ≢ next)
+    (first : IsRightUpTo i ask history at) × (next ≡ length (calls_of first.before first.entry.call.client) + 1) × (first.entry.call.seq ≢ next)
 IsVerdictOf i ask history (BadReply at answered) =
-    (first : IsRightUpTo i ask history at) × (first.entry.call.seq ≡ next_seq first.before first.entry.call.client)
+    (first : IsRightUpTo i ask history at) × (first.entry.call.seq ≡ length (calls_of first.before first.entry.call.client) + 1)
     × (answered ≡ answer i ask (object_of i.facts first.before) first.entry.call) × (answered ≢ Some first.entry.reply)

@@ -23,7 +23,7 @@ use Rattle.sg_world_laws.proofs.Ending.Seats.{here_entered, length_entered, othe
 use Rattle.sg_world_laws.proofs.Ending.Shapes.{answered_seats, entry_with, given_seats, seat_behind, woken}
 use Rattle.sg_world_laws.proofs.Ending.Boots.{length_noted, length_struck}
 use Rattle.sg_world_laws.specs.Ending.{EndsWell, IsEndingSoFar}
-use Rattle.sg_replay.specs.sg_hist.Ending.{EndsUsed}
+use Rattle.sg_replay.specs.sg_hist.Inside.Parts.{EndsUsed}
 use Rattle.sg_world.specs.declared.did.Did.{Did}
 use Rattle.sg_world.specs.declared.did.Did.TheVariants.{Answered, Blocked as Waits, Booted, Loaded, Lost, Replayed, Served, Skipped, Struck}
 use Rattle.sg_world.specs.Steps.{AsksService, Commits, PassesGuard, Refuses, Returns, Steps, UsesService}

@@ -1,5 +1,5 @@
 -- Runs that end as none may, or whose calls are under way at the wrong time: what each of them lacks.
-use Rattle.std.proofs.Common.{◌≡◌, ◌-◌, true, ap, arith, inr, refl}
+use Rattle.std.proofs.Common.{◌≡◌, ◌≤◌, ◌-◌, true, ap, arith, inr, refl}
 use Rattle.std.specs.Prelude.{[], ◌∷◌}
 use Rattle.sg_facts.specs.sg_base.Counts.{last_count}
 use Rattle.sg_recovery_laws.specs.sg_hist.Recovered.{ArePointsOf, IsRecovered, waiting}
@@ -14,7 +14,7 @@ use Rattle.test_recovery.proofs.LockTables.{lock_tables}
 -- ---- who waits
 
 pub waits_unasked-wrong : HasRecovered lock_stubs one_taken waits_unasked other_waits → ⊥
-waits_unasked-wrong r = false_true r.blocked.1.0
+waits_unasked-wrong r = false_true r.blocked.0
 
 pub waits_unasked-recovered : IsRecovered lock_stubs one_taken waits_unasked (waiting other_waits)
 waits_unasked-recovered = record {
@@ -71,14 +71,14 @@ waits_asked-recovered = record {
     points = ((refl, (refl, (refl, tt))), refl, refl);
     held = (omega arith, (omega arith, tt));
   };
-  blocked = (tt, (refl, tt));
-  used = tt;
+  blocked = (refl, tt);
+  used = λ few. let two : 2 ≤ 1 = few in absurd (omega (arith, two));
   quiet = tt;
   lost = ((tt, (tt, (tt, tt))), tt);
 }
 
 pub slept_over_reboot-wrong : HasRecovered lock_stubs taken_and_held slept_over_reboot other_waits → ⊥
-slept_over_reboot-wrong r = false_true r.blocked.1.0
+slept_over_reboot-wrong r = false_true r.blocked.0
 
 -- ---- the last boot
 
@@ -102,7 +102,7 @@ stopped_unasked-recovered = record {
 }
 
 pub stopped_unused-wrong : HasRecovered lock_stubs one_made stopped_unused one_made_ends → ⊥
-stopped_unused-wrong r = r.used refl
+stopped_unused-wrong r = r.used (omega arith) refl
 
 -- ---- replies that were lost
 

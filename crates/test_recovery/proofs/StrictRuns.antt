@@ -1,5 +1,5 @@
 -- Runs that one part alone refuses: what each of them lacks.
-use Rattle.std.proofs.Common.{◌≡◌, arith, inl, refl, subst, sym}
+use Rattle.std.proofs.Common.{◌≡◌, ◌≤◌, arith, inl, refl, subst, sym}
 use Rattle.std.specs.Prelude.{ℕ, ◌&&◌, ◌<◌, None, [], ◌∷◌, nat_lt, true}
 use Rattle.std.proofs.lemmas.Bool.Decides.{nat_tests}
 use Rattle.sg_facts.specs.sg_base.Lists.{Each}
@@ -102,10 +102,10 @@ empty_boot_more-recovered = record {
 }
 
 pub empty_boot_more-wrong : HasRecovered lock_stubs one_made empty_boot_more one_made_ends → ⊥
-empty_boot_more-wrong r = r.used refl
+empty_boot_more-wrong r = r.used (omega arith) refl
 
 pub two_boots_more-wrong : HasRecovered lock_stubs one_made two_boots_more one_made_ends → ⊥
-two_boots_more-wrong r = r.used refl
+two_boots_more-wrong r = r.used (omega arith) refl
 
 -- ---- walks of other tables
 
@@ -136,8 +136,8 @@ made_and_stopped-recovered = record {
     points = ((refl, tt), inl (refl, refl), refl);
     held = (omega arith, tt);
   };
-  blocked = (tt, tt);
-  used = tt;
+  blocked = tt;
+  used = λ few. let two : 2 ≤ 1 = few in absurd (omega (arith, two));
   quiet = (refl, refl);
   lost = ((tt, tt), tt);
 }

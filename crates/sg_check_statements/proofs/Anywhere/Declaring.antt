@@ -6,6 +6,7 @@ use Rattle.std.specs.List.{flat_map}
 use Rattle.std.specs.Option.{option_map}
 use Rattle.std.proofs.lemmas.List.{length-map}
 use Rattle.std.proofs.lemmas.Option.{slice_get-map}
+use Rattle.std.specs.Cmp.Lexicographic.{pointwise}
 use Rattle.sg_facts.specs.declared.shape.Effect.TheVariants.{SetCaller, SetArg, AddArg}
 use Rattle.sg_facts.specs.declared.shape.Kind.{Kind}
 use Rattle.sg_facts.specs.declared.shape.Kind.TheVariants.{Desc, Parent, Word, Text}
@@ -20,7 +21,7 @@ use Rattle.sg_parse.specs.sg_lex.Lexeme.{Spelling as Named}
 use Rattle.sg_parse.specs.Grammar.Plain.{plain_name, plain_param, plain_ret, plain_statement, plain_type}
 use Rattle.sg_check_statements.specs.Effects.{arg_effects, declared_effects}
 use Rattle.sg_check_statements.specs.Inside.Pieces.{Named_effect, caller_effects, later_effects, ret_effects, statement_effects, is_caller, is_client_type}
-use Rattle.sg_check_statements.specs.Params.{is_of_kind, are_of_kinds, fit_params, has_word}
+use Rattle.sg_check_statements.specs.Params.{is_of_kind, fit_params, has_word}
 
 -- ---- parameters
 
@@ -47,15 +48,15 @@ kind_same p Parent = ap (λ (has : List ℕ → Bool). has (codes "parent_desc")
 kind_same p Word = ap (λ (has : List ℕ → Bool). not (has (codes "desc")) && not (has (codes "parent_desc")) && (p.ty.stars == 0)) (word_same p.form)
 kind_same p Text = ap (λ (has : List ℕ → Bool). not (has (codes "desc")) && not (has (codes "parent_desc")) && not (p.ty.stars == 0)) (word_same p.form)
 
-kinds_same : (ps : List Param) (ks : List Kind) → are_of_kinds (map plain_param ps) ks ≡ are_of_kinds ps ks
+kinds_same : (ps : List Param) (ks : List Kind) → pointwise is_of_kind (map plain_param ps) ks ≡ pointwise is_of_kind ps ks
 kinds_same [] [] = refl
 kinds_same [] (k ∷ ks) = refl
 kinds_same (p ∷ ps) [] = refl
-kinds_same (p ∷ ps) (k ∷ ks) = ap (λ b. b && are_of_kinds (map plain_param ps) ks) (kind_same p k) ∙ ap (λ b. is_of_kind p k && b) (kinds_same ps ks)
+kinds_same (p ∷ ps) (k ∷ ks) = ap (λ b. b && pointwise is_of_kind (map plain_param ps) ks) (kind_same p k) ∙ ap (λ b. is_of_kind p k && b) (kinds_same ps ks)
 
 pub fit_same : (f : Fun) (ps : List Param) → fit_params f (map plain_param ps) ≡ fit_params f ps
 fit_same f [] = refl
-fit_same f (p ∷ ps) = ap (λ b. b && are_of_kinds (map plain_param ps) f.kinds) (caller_same p) ∙ ap (λ b. is_caller p && b) (kinds_same ps f.kinds)
+fit_same f (p ∷ ps) = ap (λ b. b && pointwise is_of_kind (map plain_param ps) f.kinds) (caller_same p) ∙ ap (λ b. is_caller p && b) (kinds_same ps f.kinds)
 
 -- ---- effects
 

@@ -21,6 +21,7 @@ use Rattle.sg_check_statements.specs.Params.{fit_params}
 use Rattle.sg_check_statements.specs.Says.{has_proto, says, says_of}
 use Rattle.sg_check_statements.proofs.Anywhere.Declaring.{declared_same, fit_same}
 use Rattle.sg_check_statements.proofs.Anywhere.Said.{any_same, proto_same, says_of_same, says_same}
+use Rattle.sg_check_statements.proofs.FirstFact.{by_turns}
 
 -- ---- places
 
@@ -77,12 +78,14 @@ more_same value word rest others same = both (other_value (plain_name value) wor
 
 pub wrong_fact_same : (facts : Facts) (head : Head) → is_some (wrong_fact facts (plain_facts head)) ≡ is_some (wrong_fact facts head)
 wrong_fact_same facts head =
-    more_same head.parent (parents_word facts.parents) _ _
+    ap is_some (by_turns facts (plain_facts head))
+    ∙ more_same head.parent (parents_word facts.parents) _ _
     (more_same head.close (close_word facts.subtree) _ _
     (more_same head.global (flag_word facts.global) _ _
     (more_same head.block (flag_word facts.block) _ _
     (more_same head.has_data (flag_word facts.has_data) _ _
     (value_same head.resc_data (flag_word facts.resc_data))))))
+    ∙ sym (ap is_some (by_turns facts head))
 
 -- ---- flags, states and effects
 

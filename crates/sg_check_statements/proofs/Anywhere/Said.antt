@@ -5,7 +5,8 @@ use Rattle.std.specs.List.{list_any}
 use Rattle.sg_parse.specs.declared.tree.Statement.{Statement}
 use Rattle.sg_parse.specs.declared.tree.Statement.TheVariants.{One, Two, Proto}
 use Rattle.sg_parse.specs.Grammar.Plain.{plain_statement}
-use Rattle.sg_check_statements.specs.Says.{has_proto, says, says_of, is_one, is_proto, is_two}
+use Rattle.sg_check_statements.specs.Says.{has_proto, says, says_of}
+use Rattle.sg_check_statements.specs.Inside.Pieces.{is_one, is_proto, is_two}
 
 -- some item passes a test that a change of items doesn't alter
 pub any_same : {X : Type 0} (test : X → Bool) (change : X → X) → ((x : X) → test (change x) ≡ test x) → (xs : List X) → list_any test (map change xs) ≡ list_any test xs

@@ -10,7 +10,7 @@ use Rattle.sg_facts.specs.declared.shape.Effect.TheVariants.{SetCaller, SetRet, 
 use Rattle.sg_facts.specs.Facts.{Facts, Fun}
 use Rattle.sg_facts.specs.Fits.{IsReached, needs_reach}
 use Rattle.sg_facts.specs.Interface.{Declared, has_pair}
-use Rattle.sg_facts.specs.Words.{field_name}
+use Rattle.sg_facts.specs.Words.{field_name, close_word, flag_word, parents_word}
 use Rattle.sg_parse.specs.declared.tree.Param.{Param}
 use Rattle.sg_parse.specs.declared.tree.Ret.{Ret}
 use Rattle.sg_parse.specs.declared.tree.Ret.TheVariants.{Plain, Set, Add, Sub}
@@ -19,12 +19,25 @@ use Rattle.sg_parse.specs.declared.tree.Statement.TheVariants.{One, Two, Proto}
 use Rattle.sg_parse.specs.declared.tree.Tree.{Tree}
 use Rattle.sg_parse.specs.declared.tree.TypeName.{TypeName}
 use Rattle.sg_parse.specs.sg_lex.Lexeme.{Spelling as Named}
+use Rattle.sg_parse.specs.declared.tree.Facts.{Facts as Head}
 use Rattle.sg_check_statements.specs.Effects.{arg_effects, declared_effects, same_effects}
 use Rattle.sg_check_statements.specs.Flaws.{fun_of_name, is_declared}
 use Rattle.sg_check_statements.specs.Params.{fit_params, has_word}
 use Rattle.sg_check_statements.specs.Says.{fun_number, has_proto, says, service_of}
 
 -- ---- what statements say
+
+-- whether a statement is a prototype of a function
+abbrev pub is_proto : List ℕ → Statement → Bool
+is_proto f s = elim s [ Proto ret name params ↦ bytes_eq name.bytes f | _ ↦ false ]
+
+-- whether a statement says a word of a function
+abbrev pub is_one : List ℕ → List ℕ → Statement → Bool
+is_one w f s = elim s [ One word fun ↦ bytes_eq word.bytes w && bytes_eq fun.bytes f | _ ↦ false ]
+
+-- whether a statement says a word of a function and another name
+abbrev pub is_two : List ℕ → List ℕ → List ℕ → Statement → Bool
+is_two w f g s = elim s [ Two word first second ↦ bytes_eq word.bytes w && bytes_eq first.bytes f && bytes_eq second.bytes g | _ ↦ false ]
 
 -- the service of a text's name is one of these services
 abbrev pub IsOf : List Facts → Tree → Facts → Type 0
@@ -70,6 +83,16 @@ bad_params facts (Proto ret name params) = then_some (not (fit_params (fun_of_na
 -- a value that isn't this word
 abbrev pub other_value : Named → List ℕ → Option ℕ
 other_value value word = then_some (not (bytes_eq value.bytes word)) value.at
+
+-- the place of the first fact that isn't the service's, one fact after the other
+abbrev pub first_other : Facts → Head → Option ℕ
+first_other facts head =
+    option_or (other_value head.parent (parents_word facts.parents))
+    (option_or (other_value head.close (close_word facts.subtree))
+    (option_or (other_value head.global (flag_word facts.global))
+    (option_or (other_value head.block (flag_word facts.block))
+    (option_or (other_value head.has_data (flag_word facts.has_data))
+    (other_value head.resc_data (flag_word facts.resc_data))))))
 
 -- ---- flags and states
 

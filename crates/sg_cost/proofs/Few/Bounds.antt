@@ -26,7 +26,8 @@ use Rattle.sg_report.specs.sg_hist.Inside.Parts.{call_in, is_walk_of}
 use Rattle.sg_report.specs.sg_hist.Clients.{AreNumbered}
 use Rattle.sg_cost.specs.Costs.{AreFew, opening, walk_length}
 use Rattle.std.specs.Option.{option_map_or}
-use Rattle.sg_report.specs.Report.{is_replay_for, replays_for}
+use Rattle.sg_report.specs.Inside.Pieces.{is_replay_for}
+use Rattle.sg_report.specs.Report.{replays_for}
 use Rattle.sg_cost.proofs.Few.Counting.{among_first, fewer, over_rows}
 use Rattle.sg_cost.proofs.Few.Lists.{both_true}
 use Rattle.sg_cost.proofs.Few.Numbered.{given_own}

@@ -13,7 +13,8 @@ use Rattle.sg_facts.specs.declared.trace.Tag.TheVariants.{Walk, Load, Client}
 use Rattle.sg_report.specs.sg_hist.Recovered.{is_replied}
 use Rattle.sg_facts.proofs.Replaying.Found.{same_test}
 use Rattle.sg_cost.specs.Costs.{all_lengths, walk_length}
-use Rattle.sg_report.specs.Report.{is_replay_for, replays_for}
+use Rattle.sg_report.specs.Inside.Pieces.{is_replay_for}
+use Rattle.sg_report.specs.Report.{replays_for}
 use Rattle.sg_cost.proofs.Few.Lists.{both_true}
 
 -- ---- elements that pass

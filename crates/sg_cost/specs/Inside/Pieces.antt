@@ -1,15 +1,15 @@
 -- The parts of what is told of costs, and of its lines, by themselves.
-use Rattle.std.specs.Prelude.{ℕ, Bool, true, ◌&&◌, not, List, [], ◌∷◌, ◌++◌, Some, map, codes}
+use Rattle.std.specs.Prelude.{ℕ, Bool, true, ◌&&◌, not, List, [], ◌∷◌, ◌++◌, Some, map, codes, filter}
 use Rattle.std.specs.Fmt.{decimal}
-use Rattle.std.specs.List.{list_any}
-use Rattle.sg_cost.specs.Costs.{all_lengths, declared_from, fun_cost, opening, walk_length}
+use Rattle.std.specs.List.{list_any, range_with_len}
+use Rattle.sg_cost.specs.Costs.{all_lengths, fun_cost, opening, walk_length}
 use Rattle.sg_cost.specs.declared.costs.BootCost.{BootCost}
 use Rattle.sg_cost.specs.declared.costs.Costs.{Costs}
 use Rattle.sg_cost.specs.declared.costs.FunCost.{FunCost}
 use Rattle.sg_cost.specs.declared.costs.RowCost.{RowCost}
 use Rattle.sg_facts.specs.sg_base.declared.call.Call.{Call}
 use Rattle.sg_facts.specs.Facts.{Facts, fun_at}
-use Rattle.sg_facts.specs.Interface.{Declared}
+use Rattle.sg_facts.specs.Interface.{Declared, declares}
 use Rattle.sg_facts.specs.Limits.{most_funs}
 use Rattle.sg_facts.specs.Trace.{Boot}
 use Rattle.sg_facts.specs.Words.{line_end}
@@ -30,6 +30,10 @@ row_cost walks r = record { id = r.id; walk = walk_length walks (Some r) }
 -- a call of a function on a descriptor, or on none where that is 0. What a call costs depends on nothing else of it
 abbrev pub call_on : ℕ → ℕ → Call
 call_on fun desc = record { client = 0; seq = 0; fun = fun; desc = desc; args = [] }
+
+-- the numbers of the declared functions among so many from one on, ascending
+abbrev pub declared_from : Declared → ℕ → ℕ → List ℕ
+declared_from i fun more = filter (declares i) (range_with_len fun more)
 
 -- the numbers of the declared functions, ascending
 abbrev pub declared_funs : Declared → List ℕ

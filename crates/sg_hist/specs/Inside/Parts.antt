@@ -1,13 +1,13 @@
 -- The parts of what it means that a run recovers, one by one, as the proofs name them.
-use Rattle.std.specs.Prelude.{ℕ, ◌≡◌, ◌+◌, ◌-◌, ◌≤◌, ◌==◌, Bool, true, false, ◌&&◌, ◌||◌, not, if◌then◌else◌, List, [], ◌∷◌, ◌++◌, None, Some, IsSome, length, map, slice_get}
+use Rattle.std.specs.Prelude.{ℕ, ◌≡◌, ◌≢◌, ◌-◌, ◌==◌, Bool, true, false, ◌&&◌, ◌||◌, not, if◌then◌else◌, List, [], ◌∷◌, ◌++◌, None, Some, IfSome, IsSome, IsSomeAnd, length, map, slice_get}
 use Rattle.std.specs.declared.option.Option.{Option}
 use Rattle.std.specs.Option.{option_and_then, option_map, option_map_or}
-use Rattle.std.specs.List.{list_all, list_any}
+use Rattle.std.specs.List.{fold, last_or, list_all, list_any}
 use Rattle.sg_facts.specs.sg_base.Lists.{When}
 use Rattle.sg_facts.specs.sg_base.Stops.{asked_after}
 use Rattle.sg_facts.specs.sg_base.declared.call.Call.{Call}
 use Rattle.sg_facts.specs.sg_base.declared.reply.Reply.{Reply}
-use Rattle.sg_facts.specs.sg_base.declared.reply.Reply.TheVariants.{Ok, Refused}
+use Rattle.sg_facts.specs.sg_base.declared.reply.Reply.TheVariants.{Ok}
 use Rattle.std.specs.Str.{bytes_eq}
 use Rattle.sg_facts.specs.declared.entry.Entry.{Entry}
 use Rattle.sg_facts.specs.declared.outcome.Outcome.{Outcome}
@@ -26,7 +26,7 @@ use Rattle.sg_facts.specs.Track.{row_at}
 use Rattle.sg_facts.specs.Walks.{replayed_call}
 use Rattle.sg_hist.specs.declared.ended.End.{End}
 use Rattle.sg_hist.specs.declared.ended.End.TheVariants.{Done, Blocked}
-use Rattle.sg_hist.specs.Ending.{client_of, is_still_blocked, last_point}
+use Rattle.sg_hist.specs.Ending.{client_of, is_still_blocked}
 use Rattle.sg_hist.specs.Reading.{Position, is_by_guard, is_tagged, item_of, last_places, names_at, object_before, service_call, stands_before, value_at}
 use Rattle.sg_hist.specs.Recovered.{IsAdmitted, IsByTable, IsCallOf, IsCount, IsLoadedFor, IsNextCall, IsPointOfCall, IsRebuiltFor, IsReplyOf, IsTracked, ends_committed, is_clients, is_entered, is_replied, is_visible_reply}
 use Rattle.sg_hist.specs.Wakes.{has_blocked}
@@ -47,8 +47,7 @@ waiting_in end = elim end [ Done ↦ [] | Blocked call ↦ call ∷ [] ]
 abbrev pub AskedAs : Facts → Table → Position → Tag → Type 0
 AskedAs facts ask p tag = elim tag [
   | Load key client ↦ Unit {0}
-  | Walk id k client ↦ IsByTable facts ask (value_at facts p.front) (service_call p.item) p.item.outcome
-  | Client client seq ↦ IsByTable facts ask (value_at facts p.front) (service_call p.item) p.item.outcome
+  | _ ↦ IsByTable facts ask (value_at facts p.front) (service_call p.item) p.item.outcome
 ]
 
 -- nothing is asked of a service that stopped
@@ -67,10 +66,8 @@ is_renamed names id real = if real == 0 then id == 0 else named names id == real
 
 -- the item at a place has the call and the reply of an entry
 abbrev pub GivesEntry : Facts → List Entry → Entry → Option Position → Type 0
-GivesEntry facts history e place = elim place [
-  | Some p ↦ (p.item.shown ≡ e.call) × IsReplyOf (names_at facts history (p.front ++ p.item ∷ [])) p.item.outcome e.reply
-  | None ↦ ⊥
-]
+GivesEntry facts history e place =
+    IsSomeAnd place (λ p. (p.item.shown ≡ e.call) × IsReplyOf (names_at facts history (p.front ++ p.item ∷ [])) p.item.outcome e.reply)
 
 -- an entry has its item, unless the guard refused its call
 abbrev pub HasItem : Facts → List Entry → Run → Entry → Type 0
@@ -82,7 +79,7 @@ IsCommitted facts history p = When (is_visible_reply facts p.item) (is_entered h
 
 -- the items of earlier entries stand before the place of a later one
 abbrev pub ComeBefore : List Entry → Option Position → Type 0
-ComeBefore earlier place = elim place [ Some p ↦ list_all (λ before. is_by_guard before.reply || stands_before p before) earlier ≡ true | None ↦ Unit {0} ]
+ComeBefore earlier place = IfSome place (λ p. list_all (λ before. is_by_guard before.reply || stands_before p before) earlier ≡ true)
 
 -- ---- walks
 
@@ -100,7 +97,7 @@ IsOkOrStopped outcome = elim outcome [ Replied (Ok good) patch ↦ Unit {0} | St
 
 -- an item is the next call of the walk of a row, which is live
 abbrev pub IsCallOfRow : Facts → List WalkLine → List Entry → Position → ℕ → ℕ → Option Row → Type 0
-IsCallOfRow facts walks history p id k row = elim row [ Some r ↦ IsNextCall facts walks history p id k r | None ↦ ⊥ ]
+IsCallOfRow facts walks history p id k row = IsSomeAnd row (IsNextCall facts walks history p id k)
 
 -- an item that rebuilds a row is the next call of that row's walk
 abbrev pub IsWalked : Facts → List WalkLine → List Entry → Position → Tag → Type 0
@@ -136,7 +133,7 @@ IsDemanded i walks history unanswered p tag = elim tag [
 
 -- the service has a row for a tracked one, and it is as that is
 abbrev pub IsAlikeTo : List (ℕ × ℕ) → Row → Option Row → Type 0
-IsAlikeTo names r row = elim row [ Some v ↦ IsAlike names r v | None ↦ ⊥ ]
+IsAlikeTo names r row = IsSomeAnd row (IsAlike names r)
 
 -- an item of a client reached the service where what it needs is as tracked
 abbrev pub IsTrackedAt : Declared → List WalkLine → List Entry → Position → Tag → Type 0
@@ -144,18 +141,11 @@ IsTrackedAt i walks history p tag = elim tag [ Client client seq ↦ IsTracked i
 
 -- ---- points
 
--- the number of the point at which a call stopped, by what would have been answered
-abbrev pub IsStopInCall : Bool → ℕ → ℕ → Option Reply → ℕ → Type 0
-IsStopInCall exact parts asked (Some (Ok good)) points = (asked_after asked 2 ≤ points) × When exact (points ≤ asked_after asked (2 + parts))
-IsStopInCall exact parts asked (Some (Refused code)) points = IsCount exact points (asked_after asked 2)
-IsStopInCall exact parts asked None points = ⊥
-
 -- the number of an item's last point, by its tag
 abbrev pub IsPointOf : Bool → (ℕ → ℕ) → ℕ → Option Reply → Tag → ℕ → Outcome → ℕ → Type 0
 IsPointOf exact parts asked answer tag fun outcome points = elim tag [
   | Load key client ↦ IsCount exact points (asked_after asked 1)
-  | Walk id k client ↦ IsPointOfCall exact parts asked answer fun outcome points
-  | Client client seq ↦ IsPointOfCall exact parts asked answer fun outcome points
+  | _ ↦ IsPointOfCall exact parts asked answer fun outcome points
 ]
 
 -- what the service answers an item after others of its boot
@@ -186,12 +176,9 @@ waits_in call p = is_tagged call.client call.seq p.item.tag && has_blocked p.ite
 abbrev pub waking_entries : Facts → List Entry → List Entry
 waking_entries facts history = if facts.global then history else []
 
--- a client that waits at its end had to wait in the last boot, and nothing woke it since
-abbrev pub IsStillBlocked : Facts → List Entry → List Boot → End → Type 0
-IsStillBlocked facts history boots end = elim end [
-  | Blocked call ↦ is_still_blocked facts (waking_entries facts history) call (last_places boots) ≡ true
-  | Done ↦ Unit {0}
-]
+-- a call in which a client waits at its end had to wait in the last boot, and nothing woke it since
+abbrev pub IsStillBlocked : Facts → List Entry → List Boot → Call → Type 0
+IsStillBlocked facts history boots call = is_still_blocked facts (waking_entries facts history) call (last_places boots) ≡ true
 
 -- whether a place's item is of a client's call that was replied to, and is no entry's
 abbrev pub is_unentered : List Entry → Position → Bool
@@ -201,6 +188,21 @@ is_unentered history p = is_clients p.item.tag && is_replied p.item.outcome && n
 abbrev pub IsLost : List Entry → Option ℕ → Position → Type 0
 IsLost history stop p = When (is_unentered history p) (IsSome stop × (list_any (λ item. client_of item.tag == client_of p.item.tag) p.rest ≡ false))
 
+-- something was asked in the last boot, where it isn't the first
+abbrev pub EndsUsed : List Boot → Type 0
+EndsUsed [] = Unit {0}
+EndsUsed (b ∷ []) = Unit {0}
+EndsUsed (b ∷ c ∷ []) = c.items ≢ []
+EndsUsed (b ∷ c ∷ d ∷ boots) = EndsUsed (c ∷ d ∷ boots)
+
+-- the number of the last point of some items, where so many points were asked before
+abbrev pub last_point : ℕ → List Item → ℕ
+last_point asked items = fold (λ asked item. item.points) asked items
+
 -- a boot that stopped did so right after the commit of its last item: the stop is the next point
 abbrev pub IsQuietStop : Facts → List Item → Option ℕ → Type 0
-IsQuietStop facts items stop = elim stop [ Some s ↦ (ends_committed facts items ≡ true) × (s ≡ asked_after (last_point 0 items) 1) | None ↦ Unit {0} ]
+IsQuietStop facts items stop = IfSome stop (λ s. (ends_committed facts items ≡ true) × (s ≡ asked_after (last_point 0 items) 1))
+
+-- the last boot, if it stopped, did so
+abbrev pub EndsQuiet : Facts → List Boot → Type 0
+EndsQuiet facts boots = IfSome (last_or None boots) (λ b. IsQuietStop facts b.items b.stop)

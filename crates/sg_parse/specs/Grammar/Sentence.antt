@@ -1,5 +1,5 @@
 -- Which tokens are a sentence of the grammar, and of which tree.
-use Rattle.std.specs.Prelude.{◌≡◌, ◌≢◌, ◌⊎◌, ◌==◌, Bool, true, false, if◌then◌else◌, ℕ, List, [], ◌∷◌, ◌++◌, None, Some, codes, map, replicate, All}
+use Rattle.std.specs.Prelude.{◌≡◌, ◌≢◌, ◌⊎◌, ◌==◌, Bool, false, if◌then◌else◌, ℕ, List, [], ◌∷◌, ◌++◌, None, Some, codes, map, replicate, All}
 use Rattle.std.specs.List.{flat_map}
 use Rattle.sg_lex.specs.Lexeme.{Lexeme, Spelling}
 use Rattle.sg_lex.specs.Sentences.{ArePieces, separated}
@@ -19,8 +19,7 @@ use Rattle.sg_parse.specs.Grammar.Pieces.{Piece, word, mark, name, two, kept, ne
 
 -- when descriptors are rebuilt
 abbrev pub recovery_word : Bool → List ℕ
-recovery_word true = codes "eager"
-recovery_word false = codes "demand"
+recovery_word eager = if eager then codes "eager" else codes "demand"
 
 -- the head: its facts in order, each with its value, and what follows it. A text of version 2 also says when descriptors are rebuilt
 abbrev pub facts_pieces : Facts → List Piece → List Piece

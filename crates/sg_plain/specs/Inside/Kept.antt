@@ -1,6 +1,6 @@
 -- The parts of what a play promises, one by one.
 use Rattle.std.specs.Prelude.{ℕ, ◌≡◌, ◌==◌, Bool, true, false, ◌&&◌, nat_le, List, [], ◌∷◌, ◌++◌, length}
-use Rattle.std.specs.List.{list_all}
+use Rattle.std.specs.List.{list_all, list_any}
 use Rattle.sg_facts.specs.sg_base.Lists.{Each, When}
 use Rattle.sg_facts.specs.declared.entry.Entry.{Entry}
 use Rattle.sg_facts.specs.declared.trace.Item.{Item}
@@ -13,6 +13,7 @@ use Rattle.sg_seat.specs.sg_hist.declared.ended.End.{End}
 use Rattle.sg_seat.specs.sg_hist.Ending.{client_of}
 use Rattle.sg_seat.specs.sg_hist.Reading.{Position, places_in}
 use Rattle.sg_seat.specs.sg_hist.Wakes.{has_blocked}
+use Rattle.sg_seat.specs.sg_hist.Recovered.{is_blocked}
 use Rattle.sg_script.specs.declared.script.Script.{Script}
 use Rattle.sg_plain.specs.Calls.{IsEnd, callers}
 use Rattle.sg_plain.specs.Promises.{is_woken_first, up_to_last}
@@ -41,3 +42,7 @@ IsWokenBetween facts history p tag = elim tag [
   | Walk id k client ↦ Unit {0}
   | Load key client ↦ Unit {0}
 ]
+
+-- whether some client waits at its end
+abbrev pub somebody_waits : List (ℕ × End) → Bool
+somebody_waits ends = list_any (λ e. is_blocked e.1) ends

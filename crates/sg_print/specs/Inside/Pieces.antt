@@ -1,7 +1,8 @@
 -- The parts of a printed tree, and of the text of tables, by themselves.
-use Rattle.std.specs.Prelude.{ℕ, ◌==◌, Bool, if◌then◌else◌, List, [], ◌∷◌, ◌++◌, codes, replicate}
+use Rattle.std.specs.Prelude.{ℕ, ◌==◌, Bool, if◌then◌else◌, List, [], ◌∷◌, ◌++◌, codes, replicate, None, Some}
 use Rattle.std.specs.Fmt.{decimal}
 use Rattle.std.specs.List.{concat, flat_map, join_by}
+use Rattle.std.specs.declared.option.Option.{Option}
 use Rattle.sg_facts.specs.declared.shape.Effect.{Effect}
 use Rattle.sg_facts.specs.declared.shape.Kind.{Kind}
 use Rattle.sg_facts.specs.Facts.{Facts, Field, Fun, fun_at}
@@ -13,7 +14,7 @@ use Rattle.sg_parse.specs.declared.tree.TypeName.{TypeName}
 use Rattle.sg_parse.specs.sg_lex.Lexeme.{Spelling as Named}
 use Rattle.sg_parse.specs.Grammar.Sentence.{recovery_word}
 use Rattle.sg_print.specs.Printed.{param_text, shared_text}
-use Rattle.sg_print.specs.TablesText.{effect_word, effects_text, flag_pieces, kind_word, numbers, state_word}
+use Rattle.sg_print.specs.TablesText.{effect_word, flag_pieces, kind_word, numbers, state_word}
 
 -- ---- trees
 
@@ -50,6 +51,10 @@ facts_text f = concat (
 
 -- ---- tables
 
+-- a name, in the brackets of its form where it has one
+abbrev pub form_text : Option Named → Named → List ℕ
+form_text form n = elim form [ None ↦ n.bytes | Some f ↦ concat (f.bytes ∷ codes "(" ∷ n.bytes ∷ codes ")" ∷ []) ]
+
 -- what parameters are, each after a space
 abbrev pub kinds_text : List Kind → List ℕ
 kinds_text kinds = flat_map (λ kind. codes " " ++ kind_word kind) kinds
@@ -61,6 +66,10 @@ flag_piece has word = if has then codes " " ++ word else []
 -- what is done to one field, after a space
 abbrev pub effect_piece : List Field → List Kind → ℕ × Effect → List ℕ
 effect_piece fields kinds e = concat (codes " " ∷ field_name fields e.0 ∷ effect_word kinds e.1 ∷ [])
+
+-- what a function does to fields, each after a space
+abbrev pub effects_text : List Field → Fun → List ℕ
+effects_text fields f = flat_map (λ e. concat (codes " " ∷ field_name fields e.0 ∷ effect_word f.kinds e.1 ∷ [])) f.effects
 
 -- what a function of a number is called with, and its flags
 abbrev pub called_text : ℕ → Fun → List ℕ

@@ -24,9 +24,18 @@ use Rattle.sg_facts.specs.Walks.{IsReachable, effect_on, made, may_lead, may_lea
 use Rattle.sg_facts.specs.Inside.Walking.{none_set}
 use Rattle.sg_track.proofs.Premises.{length_after, set_other, set_same, untouched}
 
+pub none_not_more : (n : ℕ) → (suc n == 0) ≡ false
+none_not_more n = elim (eqb_tells (suc n) 0) [ inl same ↦ absurd (omega (arith, same.1)) | inr apart ↦ apart.0 ]
+
+set_more : (n : ℕ) → not (suc n == 0) ≡ true
+set_more n = ap not (none_not_more n)
+
 set_word : (n : ℕ) → 0 < n → is_set (Word n) ≡ true
 set_word zero some = absurd (omega (arith, some))
-set_word (suc n) some = refl
+set_word (suc n) some = set_more n
+
+or_left : (a b : Bool) → a ≡ true → (a || b) ≡ true
+or_left a b is = ap (λ c. c || b) is
 
 -- no text that isn't empty
 abbrev pub IsNoText : Value → Type 0
@@ -40,7 +49,7 @@ adds (Word zero) a plain = or_true (is_set (Word (0 + a)))
     or_true : (b : Bool) → (b || true) ≡ true
     or_true true = refl
     or_true false = refl
-adds (Word (suc n)) a plain = ap (λ b. b || false) (set_word (suc n + a) (omega arith))
+adds (Word (suc n)) a plain = or_left (is_set (Word (suc n + a))) (not (is_set (Word (suc n)))) (set_word (suc n + a) (omega arith))
 adds (Text []) a plain = or_true (is_set (Word (0 + a)))
   where
     or_true : (b : Bool) → (b || true) ≡ true
@@ -51,9 +60,9 @@ adds (Text (b ∷ bs)) a plain = absurd plain
 -- what is subtracted from a field leaves one that isn't set so
 subtracts : (v : Value) (a : ℕ) → (is_set v || not (is_set (Word (word_of v - a)))) ≡ true
 subtracts (Word zero) a = ap (λ n. not (is_set (Word n))) (let none : 0 - a ≡ 0 = omega arith in none)
-subtracts (Word (suc n)) a = refl
+subtracts (Word (suc n)) a = or_left (is_set (Word (suc n))) (not (is_set (Word (suc n - a)))) (set_more n)
 subtracts (Text []) a = ap (λ n. not (is_set (Word n))) (let none : 0 - a ≡ 0 = omega arith in none)
-subtracts (Text (b ∷ bs)) a = refl
+subtracts (Text (b ∷ bs)) a = or_left (is_set (Text (b ∷ bs))) (not (is_set (Word (0 - a)))) (set_more (length bs))
 
 module _ (call : Call) (good : Good) (client : 1 ≤ call.client) where
   -- an effect leaves its field as it may
@@ -66,9 +75,9 @@ module _ (call : Call) (good : Good) (client : 1 ≤ call.client) where
   leaves Clear (Word n) plain = refl
   leaves Clear (Text bs) plain = refl
   leaves SubOne (Word zero) plain = refl
-  leaves SubOne (Word (suc n)) plain = refl
+  leaves SubOne (Word (suc n)) plain = or_left (is_set (Word (suc n))) (not (is_set (Word (suc n - 1)))) (set_more n)
   leaves SubOne (Text []) plain = refl
-  leaves SubOne (Text (b ∷ bs)) plain = refl
+  leaves SubOne (Text (b ∷ bs)) plain = or_left (is_set (Text (b ∷ bs))) (not (is_set (Word (0 - 1)))) (set_more (length bs))
   leaves SubRet v plain = subtracts v (first_word good)
 
   -- what a field comes to

@@ -1,5 +1,5 @@
 -- The parts of the printed run, by themselves.
-use Rattle.std.specs.Prelude.{ℕ, ◌==◌, Bool, true, if◌then◌else◌, List, [], ◌∷◌, ◌++◌, None, Some, length, filter, min, codes}
+use Rattle.std.specs.Prelude.{ℕ, ◌==◌, Bool, true, if◌then◌else◌, List, [], ◌∷◌, ◌++◌, None, Some, length, filter, min, codes, false, ◌&&◌}
 use Rattle.std.specs.declared.option.Option.{Option}
 use Rattle.std.specs.Fmt.{decimal}
 use Rattle.std.specs.List.{flat_map}
@@ -10,8 +10,11 @@ use Rattle.sg_facts.specs.Words.{line_end}
 use Rattle.sg_facts.specs.declared.trace.Item.{Item}
 use Rattle.sg_facts.specs.Facts.{Facts, Fun}
 use Rattle.sg_facts.specs.Trace.{Boot, Run}
+use Rattle.sg_facts.specs.declared.trace.Tag.{Tag}
+use Rattle.sg_facts.specs.declared.trace.Tag.TheVariants.{Walk}
+use Rattle.sg_facts.specs.declared.outcome.Outcome.{Outcome}
 use Rattle.sg_hist.specs.declared.ended.End.{End}
-use Rattle.sg_hist.specs.Recovered.{is_blocked}
+use Rattle.sg_hist.specs.Recovered.{is_blocked, is_replied}
 use Rattle.sg_report.specs.Report.{boots_lines, item_text, replays_for}
 
 -- ---- calls and replies
@@ -19,6 +22,10 @@ use Rattle.sg_report.specs.Report.{boots_lines, item_text, replays_for}
 -- bytes in double quotes
 abbrev pub quoted : List ℕ → List ℕ
 quoted bytes = 34 ∷ bytes ++ 34 ∷ []
+
+-- whether an item is a replayed call that was answered, of a descriptor whose id meets a test
+abbrev pub is_replay_for : (ℕ → Bool) → Tag → Outcome → Bool
+is_replay_for test tag outcome = elim tag [ Walk id k client ↦ test id && is_replied outcome | _ ↦ false ]
 
 -- whether a function's Ok shows its bytes: the one that reads a file
 abbrev pub shows_bytes : Fun → Bool

@@ -8,7 +8,7 @@ use Rattle.sg_input.specs.declared.outcome.Verdict.{Verdict}
 use Rattle.sg_input.specs.declared.outcome.Verdict.TheVariants.{Accepted as accepted, Refused as refused}
 use Rattle.sg_top.specs.declared.status.Status.{Status}
 use Rattle.sg_top.specs.declared.status.Status.TheVariants.{Done, Refused, WriteFault, NoMemory}
-use Rattle.sg_top.specs.Answer.{Ends, IsUntouched}
+use Rattle.sg_top.specs.Answer.{Ends}
 
 -- an output says this of a text, with the status that belongs to it
 abbrev pub IsSaid : Verdict → Status → List ℕ → Type 0
@@ -26,4 +26,4 @@ IsWritten sink sink' output wanted status =
 abbrev pub IsDelivered : (Option Ended → Status → List ℕ → Type 0) → Ends → Ends → Status → Option Ended → Type 0
 IsDelivered IsOne sink sink' status ended =
     ((output : List ℕ) × (wanted : Status) × IsOne ended wanted output × IsWritten sink sink' output wanted status)
-    ⊎ ((status ≡ NoMemory) × (ended ≡ None) × IsUntouched sink sink')
+    ⊎ ((status ≡ NoMemory) × (ended ≡ None) × (sink' ≡ sink))

@@ -3,11 +3,11 @@ use Rattle.std.specs.Prelude.{ℕ, ◌≡◌, ◌≤◌, ◌⊎◌, List, length
 use Rattle.sg_input.specs.declared.input.Input.TheVariants.{Refused as refused_input}
 use Rattle.sg_input.specs.declared.outcome.Verdict.TheVariants.{Refused as refused}
 use Rattle.sg_input.specs.declared.run_input.RunInput.TheVariants.{Refused as refused_run}
-use Rattle.sg_input.specs.Inputs.{IsInputOf, IsRunInputOf, most_run_input}
+use Rattle.sg_input.specs.Inputs.{IsInputOf, IsRunInputOf}
 use Rattle.sg_input.specs.Verdicts.{IsVerdict}
 use Rattle.sg_verify.specs.declared.verdict.Verdict.{Verdict as Judgement}
 use Rattle.sg_verify.specs.declared.verdict.Verdict.TheVariants.{Legal}
-use Rattle.sg_top.specs.Answer.{IsJudgedAs, IsRefusal, services}
+use Rattle.sg_top.specs.Answer.{IsJudgedAs, IsRefusal, services, most_bytes}
 use Rattle.sg_top.specs.declared.command.Command.{Command}
 use Rattle.sg_top.specs.declared.command.Command.TheVariants.{Play, Verify, Load}
 use Rattle.sg_top.specs.declared.status.Status.{Status}
@@ -38,7 +38,7 @@ SaysRefused command status bytes =
 
 -- bytes print a history that isn't legal, and a verification says so with this line
 abbrev pub IsIllegal : Command → List ℕ → List ℕ → Type 0
-IsIllegal command bytes output = (command ≡ Verify) × (length bytes ≤ most_run_input) × IsJudgedAs bytes Illegal output
+IsIllegal command bytes output = (command ≡ Verify) × (length bytes ≤ most_bytes command) × IsJudgedAs bytes Illegal output
 
 -- a status for bytes that may print a history which isn't legal: where they do the status says so, or that there was a fault or no memory
 abbrev pub SaysIllegal : Command → Status → List ℕ → Type 0

@@ -6,8 +6,7 @@ use Rattle.sg_facts.specs.Legal.{LegalFrom, Table, answer}
 use Rattle.sg_facts.specs.Limits.{most_script_calls}
 use Rattle.sg_facts.specs.Object.{Object, empty_object, object_of}
 use Rattle.sg_facts.specs.Tables.{Compiled}
-use Rattle.sg_verify.specs.Inside.Counting.{AreCounts}
-use Rattle.sg_verify.specs.Verdicts.{next_seq}
+use Rattle.sg_verify.specs.Inside.Counting.{AreCounts, next_seq}
 use Rattle.sg_verify.specs.declared.verdict.Verdict.{Verdict}
 use Rattle.sg_verify.specs.declared.verdict.Verdict.TheVariants.{Legal, BadSeq, BadReply}
 use Rattle.sg_world_laws.specs.Keeping.{IsSettledObject}

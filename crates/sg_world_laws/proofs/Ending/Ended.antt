@@ -18,8 +18,7 @@ use Rattle.sg_seat.specs.declared.phase.Phase.TheVariants.{Asked, Held}
 use Rattle.sg_world_laws.proofs.Ending.Seats.{OthersStay, each_woken, others_same, stays_woken}
 use Rattle.sg_world_laws.proofs.Ending.Boots.{some_item}
 use Rattle.sg_world_laws.specs.Ending.{EndsWell, IsEndingSoFar, IsHeldUsed, EachSeat, SomebodyAsks}
-use Rattle.sg_recovery_laws.specs.sg_hist.Ending.{EndsUsed, EndsQuiet, last_point}
-use Rattle.sg_recovery_laws.specs.sg_hist.Inside.Parts.{IsQuietStop}
+use Rattle.sg_recovery_laws.specs.sg_hist.Inside.Parts.{EndsUsed, EndsQuiet, IsQuietStop, last_point}
 
 -- ---- boots
 

@@ -1,8 +1,7 @@
 -- Statement by statement.
 use Rattle.std.proofs.Common.{◌≡◌, ◌||◌, None, Some, take, get_or, sym, ◌∙◌, ap, subst}
 use Rattle.std.proofs.lemmas.List.{take_more}
-use Rattle.sg_check_statements.specs.Inside.Pieces.{NoStatement}
-use Rattle.sg_check_statements.specs.Says.{is_proto}
+use Rattle.sg_check_statements.specs.Inside.Pieces.{NoStatement, is_proto}
 use Rattle.sg_check_statements.specs.Flaws.{duplicate}
 use Rattle.sg_check_statements.specs.NameSet.{AreOf, has_name}
 use Rattle.sg_check_statements.proofs.Firsts.{none_more, first_here}

@@ -2,8 +2,9 @@
 use Rattle.std.proofs.Common.{◌≡◌, ℕ, suc, ◌+◌, ◌-◌, ◌≤◌, true, false, cond, List, [], ◌∷◌, ◌++◌, append-nil, map, sym, ◌∙◌, ap, arith}
 use Rattle.std.proofs.lemmas.List.{map-append}
 use Rattle.sg_cost.proofs.FunCosts.{declared_more}
-use Rattle.sg_cost.specs.Costs.{declared_from, fun_cost}
+use Rattle.sg_cost.specs.Costs.{fun_cost}
 use Rattle.sg_cost.specs.declared.costs.FunCost.{FunCost}
+use Rattle.sg_cost.specs.Inside.Pieces.{declared_from}
 use Rattle.sg_facts.specs.Interface.{Declared, declares}
 use Rattle.sg_cost.proofs.funs.fun_costs.Goals.{then-declares+in_ok-push, else-declares}
 use Rattle.sg_cost.proofs.funs.fun_costs.Goals as goal

@@ -1,6 +1,7 @@
 -- The first functions are told.
 use Rattle.std.proofs.Common.{◌≡◌, ◌-◌, ◌≤◌, map}
-use Rattle.sg_cost.specs.Costs.{declared_from, fun_cost}
+use Rattle.sg_cost.specs.Costs.{fun_cost}
+use Rattle.sg_cost.specs.Inside.Pieces.{declared_from}
 use Rattle.sg_cost.proofs.funs.fun_costs.Given as goal
 
 abbrev pub invariant-funs : goal.invariant-funs

@@ -1,7 +1,7 @@
 -- The first items are counted.
 use Rattle.std.proofs.Common.{◌≡◌, ◌+◌, length, take}
 use Rattle.std.specs.Prelude.{filter, min, true}
-use Rattle.sg_report.specs.Report.{is_replay_for}
+use Rattle.sg_report.specs.Inside.Pieces.{is_replay_for}
 use Rattle.sg_report.proofs.traced.replays_after.Given as goal
 
 abbrev pub invariant-items : goal.invariant-items

@@ -6,7 +6,7 @@ use Rattle.sg_facts.specs.Object.{after, object_of}
 use Rattle.sg_facts.specs.Legal.{answer}
 use Rattle.sg_verify.proofs.Judged.{is_setting, so_far_next}
 use Rattle.sg_verify.specs.Inside.Judging.{setting_for}
-use Rattle.sg_verify.specs.Verdicts.{next_seq}
+use Rattle.sg_verify.specs.Inside.Counting.{next_seq}
 use Rattle.sg_verify.proofs.judge.Judge.judge.Goals as goal
 
 pub returns : goal.returns
