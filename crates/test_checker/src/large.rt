@@ -3,10 +3,10 @@ ghost use Rattle.std.specs.Prelude.{◌≡◌, false, true};
 ghost use Rattle.sg_facts.specs.Facts.{facts_of};
 ghost use Rattle.sg_input.specs.sg_check.Shapes.{is_shape};
 
-use crate::answers::answer;
+use crate::answers::{Answer, accepted, answer};
 use sg_facts::{Effect, FieldShape, FunShape, Kind, Leaves, Parents, Service, Shape};
 use sg_input::CheckKind::NoWalk;
-use sg_input::{check, compile, parse};
+use sg_input::compile;
 use sg_lock::LockService;
 use std::alloc::{AllocError, Global};
 use std::test::Fail;
@@ -393,8 +393,7 @@ fn setting_text(alloc: Global, funs: &[FunShape], params: &[u8]) -> Result<Vec<u
 fn lines_of(alloc: Global, text: &[u8], shape: Shape) -> Result<usize, Fail>
     requires { is_shape (facts_of shape) ≡ true }
 {
-    let tree = parse(alloc, text)?;
-    let accepted = check(alloc, &tree, &[shape])?;
+    let accepted = accepted(alloc, text, &[shape])?;
     let tables = compile(alloc, &accepted)?;
     Ok(tables.lines().len())
 }
@@ -417,19 +416,38 @@ fn is_accepted(alloc: Global, bytes: usize) -> Result<bool, Fail> {
     Ok(given.is_none())
 }
 
+// The answer on functions that do nothing to descriptors but move them on.
+fn answer_on_plain(alloc: Global) -> Result<Answer, Fail> {
+    let text = large_text(alloc, b"", &PLAIN[1..], &PLAIN)?;
+    answer(alloc, text.as_slice(), &[plain_shape()])
+}
+
+// The answer on functions two of which set fields.
+fn answer_on_marking(alloc: Global) -> Result<Answer, Fail> {
+    let text = large_text(alloc, MARKS, &MARKING[4..], &MARKING)?;
+    answer(alloc, text.as_slice(), &[marking_shape()])
+}
+
+// The number of lines where each of 32 functions makes descriptors and sets all four fields.
+fn lines_of_setting(alloc: Global) -> Result<usize, Fail> {
+    let text = setting_text(alloc, &SETTING, FOUR_PARAMS)?;
+    lines_of(alloc, &text, setting_shape())
+}
+
+// The number of lines where each of two functions makes descriptors and sets all eight fields.
+fn lines_of_eight(alloc: Global) -> Result<usize, Fail> {
+    let text = setting_text(alloc, &SETTING_EIGHT, EIGHT_PARAMS)?;
+    lines_of(alloc, &text, eight_shape())
+}
+
 #[test]
 fn large_services_and_long_texts(rt: HostRuntime) -> Result<(), Fail> {
     let alloc = rt.alloc();
-    let plain = large_text(alloc, b"", &PLAIN[1..], &PLAIN)?;
-    assert_eq!(rt; answer(alloc, plain.as_slice(), &[plain_shape()])?, None);
-    let marking = large_text(alloc, MARKS, &MARKING[4..], &MARKING)?;
-    let given = answer(alloc, marking.as_slice(), &[marking_shape()])?;
-    assert_eq!(rt; given, Some((NoWalk, 7, 26)));
+    assert_eq!(rt; answer_on_plain(alloc)?, None);
+    assert_eq!(rt; answer_on_marking(alloc)?, Some((NoWalk, 7, 26)));
     // 32 creations, 32 states and 16 sets of fields; 2 creations, 2 states and 256 sets
-    let widest = setting_text(alloc, &SETTING, FOUR_PARAMS)?;
-    assert_eq!(rt; lines_of(alloc, &widest, setting_shape())?, 16_384);
-    let eight = setting_text(alloc, &SETTING_EIGHT, EIGHT_PARAMS)?;
-    assert_eq!(rt; lines_of(alloc, &eight, eight_shape())?, 1_024);
+    assert_eq!(rt; lines_of_setting(alloc)?, 16_384);
+    assert_eq!(rt; lines_of_eight(alloc)?, 1_024);
     assert_eq!(rt; nine_shape().fields.len(), 9);
     for bytes in [16_384, 32_768, 65_536] {
         assert!(rt; is_accepted(alloc, bytes)?, "of {bytes} bytes");

@@ -1,10 +1,14 @@
 // What an accepted text declares: its functions, and of the service's transitions and recover steps those that it names, in
 // the service's order.
+ghost use Rattle.std.specs.Prelude.{◌≡◌, true, map};
+ghost use Rattle.sg_facts.specs.Facts.{facts_of};
+ghost use Rattle.sg_input.specs.sg_check.Shapes.{are_shapes};
+
+use crate::answers::accepted;
 use crate::edits::Edit::{self, Front, Then, Twice, Without};
 use crate::edits::edited;
 use crate::shapes::standard_shapes;
-use sg_facts::Interface;
-use sg_input::{check, parse};
+use sg_facts::{Interface, Shape};
 use std::alloc::Global;
 use std::process::Abort;
 use std::test::Fail;
@@ -25,15 +29,21 @@ fn is_that(iface: &Interface, case: &Narrower) -> bool {
         && iface.steps.as_slice() == case.steps
 }
 
+// Whether a text with changes is accepted, and declares just that.
+fn declares(alloc: Global, base: &[u8], case: &Narrower, shapes: &[Shape]) -> Result<bool, Fail>
+    requires { are_shapes (map facts_of shapes.now) ≡ true }
+{
+    let text = edited(alloc, base, case.edits)?;
+    let accepted = accepted(alloc, text.as_slice(), shapes)?;
+    Ok(is_that(accepted.interface(), case))
+}
+
 // Each is accepted, and declares just that.
 fn declare(rt: &impl Abort, alloc: Global, base: &[u8], cases: &[Narrower]) -> Result<(), Fail> {
     let shapes = standard_shapes();
     for case in cases {
-        let text = edited(alloc, base, case.edits)?;
-        let tree = parse(alloc, text.as_slice())?;
-        let accepted = check(alloc, &tree, &shapes)?;
         assert!(rt;
-            is_that(accepted.interface(), case),
+            declares(alloc, base, case, &shapes)?,
             "with {:?}",
             case.edits
         );

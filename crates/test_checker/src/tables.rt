@@ -1,7 +1,8 @@
 // The tables of the standard interfaces, and their text.
+use crate::answers::accepted;
 use crate::shapes::standard_shapes;
 use sg_facts::Tables;
-use sg_input::{Verdict, check, compile, compiled, parse};
+use sg_input::{Verdict, compile, compiled};
 use std::alloc::Global;
 use std::process::Abort;
 use std::test::Fail;
@@ -160,6 +161,24 @@ fn is_found(tables: &Tables, line: Line) -> bool {
     }
 }
 
+// The tables of a standard text.
+fn tables_of(alloc: Global, text: &[u8]) -> Result<Tables, Fail> {
+    let accepted = accepted(alloc, text, &standard_shapes())?;
+    Ok(compile(alloc, &accepted)?)
+}
+
+// Tables have just these lines, and each is found.
+fn have_lines(rt: &impl Abort, tables: &Tables, want: &'static [Line]) {
+    assert_eq!(rt; tables.lines().len(), want.len());
+    for (at, line) in want.iter().enumerate() {
+        assert!(rt; stands_at(tables, at, *line));
+        assert!(rt; is_found(tables, *line));
+    }
+    assert!(rt; tables.walk(0, 0, 0).is_none());
+    assert!(rt; tables.walk(1, 2, 2).is_none());
+    assert!(rt; tables.walk(255, 255, 255).is_none());
+}
+
 // The tables of a text have just these lines, and each is found.
 fn has_lines(
     rt: &impl Abort,
@@ -167,17 +186,8 @@ fn has_lines(
     text: &[u8],
     want: &'static [Line],
 ) -> Result<(), Fail> {
-    let tree = parse(alloc, text)?;
-    let accepted = check(alloc, &tree, &standard_shapes())?;
-    let tables = compile(alloc, &accepted)?;
-    assert_eq!(rt; tables.lines().len(), want.len());
-    for (at, line) in want.iter().enumerate() {
-        assert!(rt; stands_at(&tables, at, *line));
-        assert!(rt; is_found(&tables, *line));
-    }
-    assert!(rt; tables.walk(0, 0, 0).is_none());
-    assert!(rt; tables.walk(1, 2, 2).is_none());
-    assert!(rt; tables.walk(255, 255, 255).is_none());
+    let tables = tables_of(alloc, text)?;
+    have_lines(rt, &tables, want);
     Ok(())
 }
 

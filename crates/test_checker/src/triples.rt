@@ -1,10 +1,14 @@
 // What descriptors come to: the creation, the state and the set of fields.
+ghost use Rattle.sg_facts.specs.Interface.{HasFewFields};
+
 use crate::interfaces::{Pairs, interface};
 use sg_event::event_shape;
-use sg_facts::{Service, Shape};
+use sg_facts::{Interface, NoMemory, Service, Shape};
 use sg_input::{Triple, reachable};
 use sg_lock::LockService;
 use sg_ramfs::ramfs_shape;
+use std::alloc::Global;
+use std::process::Abort;
 use std::test::Fail;
 
 // A shape, the functions and transitions that are declared, and all that descriptors come to.
@@ -13,6 +17,35 @@ type Case = (Shape, u32, Pairs, &'static [(u8, u8, u8)]);
 // Whether a triple is that of a creation, a state and a set of fields.
 fn is_that(triple: &Triple, of: &(u8, u8, u8)) -> bool {
     (triple.made, triple.state, triple.mask) == *of
+}
+
+// Triples are just these, in their order.
+fn are_those(rt: &impl Abort, found: &[Triple], all: &[(u8, u8, u8)]) {
+    assert_eq!(rt; found.len(), all.len());
+    for (triple, of) in found.iter().zip(all) {
+        assert!(rt; is_that(triple, of));
+    }
+}
+
+// The descriptors of an interface come to just these.
+fn come_to(
+    rt: &impl Abort,
+    alloc: Global,
+    declared: &Interface,
+    all: &[(u8, u8, u8)],
+) -> Result<(), NoMemory>
+    requires { HasFewFields declared.now }
+{
+    let found = reachable(alloc, declared)?;
+    are_those(rt, found.as_slice(), all);
+    Ok(())
+}
+
+// Those of a case do.
+fn try_case(rt: &impl Abort, alloc: Global, case: Case) -> Result<(), Fail> {
+    let (shape, declared, moves, all) = case;
+    let declared = interface(alloc, shape, declared, moves, &[])?;
+    Ok(come_to(rt, alloc, &declared, all)?)
 }
 
 #[test]
@@ -34,13 +67,8 @@ fn triples_that_descriptors_come_to(rt: HostRuntime) -> Result<(), Fail> {
         // Only freed.
         (files, 0b10001, &[(1, 5)], &[(1, 1, 0), (1, 1, 1)]),
     ];
-    for (shape, declared, moves, all) in cases {
-        let declared = interface(rt.alloc(), shape, declared, moves, &[])?;
-        let found = reachable(rt.alloc(), &declared)?;
-        assert_eq!(rt; found.len(), all.len());
-        for (triple, of) in found.as_slice().iter().zip(all) {
-            assert!(rt; is_that(triple, of));
-        }
+    for case in cases {
+        try_case(&rt, rt.alloc(), case)?;
     }
     Ok(())
 }

@@ -5,26 +5,38 @@ use std::alloc::Global;
 use std::test::Fail;
 use test_interfaces::{LOCK, SCHED};
 
-// Whether a text is refused by a line, whatever is asked of it.
+// Whether it is said that a text is accepted, by a line.
+fn accepts(said: &Verdict, line: &[u8]) -> bool {
+    match said {
+        Verdict::Accepted(said) => said.as_slice() == line,
+        Verdict::Refused(_) => false,
+    }
+}
+
+// Whether it is said that a text is refused, by a line.
+fn refuses(said: &Verdict, line: &[u8]) -> bool {
+    match said {
+        Verdict::Accepted(_) => false,
+        Verdict::Refused(said) => said.as_slice() == line,
+    }
+}
+
+// Whether a text is refused by a line, where it is asked whether it is accepted.
 fn is_refused(alloc: Global, text: &[u8], line: &[u8]) -> Result<bool, Fail> {
-    let shapes = standard_shapes();
-    let said = match verdict(alloc, text, &shapes)? {
-        Verdict::Accepted(_) => false,
-        Verdict::Refused(said) => said.as_slice() == line,
-    };
-    let told = match compiled(alloc, text, &shapes)? {
-        Verdict::Accepted(_) => false,
-        Verdict::Refused(said) => said.as_slice() == line,
-    };
-    Ok(said && told)
+    let said = verdict(alloc, text, &standard_shapes())?;
+    Ok(refuses(&said, line))
+}
+
+// Whether a text is refused by a line, where its tables are asked for.
+fn is_uncompiled(alloc: Global, text: &[u8], line: &[u8]) -> Result<bool, Fail> {
+    let said = compiled(alloc, text, &standard_shapes())?;
+    Ok(refuses(&said, line))
 }
 
 // Whether a text is accepted by a line.
 fn is_accepted(alloc: Global, text: &[u8], line: &[u8]) -> Result<bool, Fail> {
-    match verdict(alloc, text, &standard_shapes())? {
-        Verdict::Accepted(said) => Ok(said.as_slice() == line),
-        Verdict::Refused(_) => Ok(false),
-    }
+    let said = verdict(alloc, text, &standard_shapes())?;
+    Ok(accepts(&said, line))
 }
 
 // The name of the service of a text that is accepted.
@@ -74,6 +86,7 @@ static REFUSED: [(&[u8], &[u8]); 7] = [
 fn what_is_said_of_a_text(rt: HostRuntime) -> Result<(), Fail> {
     for (text, line) in &REFUSED {
         assert!(rt; is_refused(rt.alloc(), text, line)?);
+        assert!(rt; is_uncompiled(rt.alloc(), text, line)?);
     }
     assert!(rt; is_accepted(rt.alloc(), LOCK, b"accepted lock\n")?);
     assert!(rt; is_accepted(rt.alloc(), SCHED, b"accepted sched\n")?);

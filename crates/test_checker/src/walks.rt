@@ -1,12 +1,16 @@
 // The walks by which descriptors are rebuilt.
+ghost use Rattle.sg_facts.specs.Interface.{HasFewFields};
+
 use crate::interfaces::{Pairs, interface};
 use sg_event::event_shape;
-use sg_facts::{FunShape, Leaves, NoMemory, Parents, Service, Shape, Walk};
+use sg_facts::{FunShape, Interface, Leaves, NoMemory, Parents, Service, Shape, Walk};
 use sg_input::{restores, shortest};
 use sg_lock::LockService;
 use sg_mm::mm_shape;
 use sg_ramfs::ramfs_shape;
 use sg_sched::sched_shape;
+use std::alloc::Global;
+use std::process::Abort;
 use std::test::Fail;
 
 // What was made, its state, the set of fields, and the walk that is to be found.
@@ -172,6 +176,51 @@ static RESTORED: [(&[u8], u8, u8, bool); 11] = [
     (&[2], 2, 1, false),
 ];
 
+// Of an interface each case finds its walk.
+fn try_cases(
+    rt: &impl Abort,
+    alloc: Global,
+    declared: &Interface,
+    cases: &[Case],
+) -> Result<(), NoMemory>
+    requires { HasFewFields declared.now }
+{
+    for (made, state, mask, want) in cases {
+        let found = shortest(alloc, declared, *made, *state, *mask)?;
+        let calls = found.as_ref().map(|walk| walk.as_slice());
+        assert_eq!(rt; calls, *want, "made by {made}, in {state}, with {mask}");
+    }
+    Ok(())
+}
+
+// Each case of a table finds its walk.
+fn try_table(rt: &impl Abort, alloc: Global, table: Table) -> Result<(), Fail> {
+    let (shape, declared, steps, cases) = table;
+    let declared = interface(alloc, shape, declared, &[], steps)?;
+    Ok(try_cases(rt, alloc, &declared, cases)?)
+}
+
+// Whether a walk restores what is asked for.
+fn restores_by(declared: &Interface, funs: &[u8], state: u8, mask: u8) -> Result<bool, NoMemory>
+    requires { HasFewFields declared.now }
+{
+    let walk = walk(funs)?;
+    Ok(restores(declared, &walk, state, mask))
+}
+
+// Each walk of locks restores what it should.
+fn try_restored(rt: &impl Abort, locks: &Interface) -> Result<(), NoMemory>
+    requires { HasFewFields locks.now }
+{
+    for (funs, state, mask, want) in &RESTORED {
+        if funs.len() <= Walk::MOST {
+            let got = restores_by(locks, funs, *state, *mask)?;
+            assert_eq!(rt; got, *want, "{funs:?} in {state} with {mask}");
+        }
+    }
+    Ok(())
+}
+
 #[test]
 fn the_least_walk_is_found(rt: HostRuntime) -> Result<(), Fail> {
     let chain = bare(&CHAIN);
@@ -193,20 +242,14 @@ fn the_least_walk_is_found(rt: HostRuntime) -> Result<(), Fail> {
         (forks, u32::MAX, &SHORTER_STEPS, &SHORTER_CASES),
         (forks, u32::MAX, &BARRED_STEPS, &BARRED_CASES),
     ];
-    for (shape, declared, steps, cases) in tables {
-        let declared = interface(rt.alloc(), shape, declared, &[], steps)?;
-        for (made, state, mask, want) in cases {
-            let found = shortest(rt.alloc(), &declared, *made, *state, *mask)?;
-            let calls = found.as_ref().map(|walk| walk.as_slice());
-            assert_eq!(rt; calls, *want, "made by {made}, in {state}, with {mask}");
-        }
-    }
-    let locks = interface(rt.alloc(), LockService::shape(), 0b1111, &[], &LOCK_STEPS)?;
-    for (funs, state, mask, want) in &RESTORED {
-        if funs.len() <= Walk::MOST {
-            let got = restores(&locks, &walk(funs)?, *state, *mask);
-            assert_eq!(rt; got, *want, "{funs:?} in {state} with {mask}");
-        }
+    for table in tables {
+        try_table(&rt, rt.alloc(), table)?;
     }
     Ok(())
+}
+
+#[test]
+fn walks_restore_what_they_restore(rt: HostRuntime) -> Result<(), Fail> {
+    let locks = interface(rt.alloc(), LockService::shape(), 0b1111, &[], &LOCK_STEPS)?;
+    Ok(try_restored(&rt, &locks)?)
 }

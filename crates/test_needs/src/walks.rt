@@ -7,6 +7,7 @@ use crate::rows::ALLOC;
 use sg_facts::{Call, Fields, NoMemory, Row, Tables, Value};
 use sg_needs::{replayed_call, walk_of_row};
 use std::alloc::Global;
+use std::process::Abort;
 use std::test::Fail;
 use test_tables::lock_tables;
 
@@ -47,26 +48,43 @@ fn replayed(
     }
 }
 
-#[test]
-fn a_lock_is_made_and_taken(rt: HostRuntime) -> Result<(), Fail> {
-    let alloc = rt.alloc();
-    let tables = lock_tables(alloc)?;
-    let owned = lock_of(alloc, 5)?;
-    let walk = walk_of_row(&tables, &owned);
-    assert!(rt; walk.is_some_and(|walk| walk.as_slice() == [ALLOC, TAKE].as_slice()));
-    let free = lock_of(alloc, 0)?;
-    let walk = walk_of_row(&tables, &free);
-    assert!(rt; walk.is_some_and(|walk| walk.as_slice() == [ALLOC].as_slice()));
+// Whether the walk of a lock is this.
+fn is_walk(alloc: Global, tables: &Tables, owner: u8, walk: &[u8]) -> Result<bool, NoMemory>
+    requires { tables.now.iface.facts ≡ lock_facts }
+{
+    let lock = lock_of(alloc, owner)?;
+    let found = walk_of_row(tables, &lock);
+    Ok(found.is_some_and(|found| found.as_slice() == walk))
+}
+
+// Whether a call of the walk of a lock that client 5 owns is a client's, of a function, on a descriptor.
+fn is_replayed(
+    alloc: Global,
+    tables: &Tables,
+    is_first: bool,
+    fun: u8,
+    client: u8,
+    desc: u64,
+) -> Result<bool, NoMemory>
+    requires { tables.now.iface.facts ≡ lock_facts }
+{
+    let call = replayed(alloc, tables, 5, is_first, fun)?;
+    Ok((call.client, call.fun, call.desc) == (client, fun, desc))
+}
+
+// A lock is made, and taken where it is owned; its maker makes it and its owner takes it.
+fn walk_locks(rt: &impl Abort, alloc: Global, tables: &Tables) -> Result<(), NoMemory>
+    requires { tables.now.iface.facts ≡ lock_facts }
+{
+    assert!(rt; is_walk(alloc, tables, 5, &[ALLOC, TAKE])?);
+    assert!(rt; is_walk(alloc, tables, 0, &[ALLOC])?);
+    assert!(rt; is_replayed(alloc, tables, true, ALLOC, 2, 0)?);
+    assert!(rt; is_replayed(alloc, tables, false, TAKE, 5, 9)?);
     Ok(())
 }
 
 #[test]
-fn its_maker_makes_it_and_its_owner_takes_it(rt: HostRuntime) -> Result<(), Fail> {
-    let alloc = rt.alloc();
-    let tables = lock_tables(alloc)?;
-    let made = replayed(alloc, &tables, 5, true, ALLOC)?;
-    assert_eq!(rt; (made.client, made.fun, made.desc), (2, ALLOC, 0));
-    let taken = replayed(alloc, &tables, 5, false, TAKE)?;
-    assert_eq!(rt; (taken.client, taken.fun, taken.desc), (5, TAKE, 9));
-    Ok(())
+fn a_lock_is_made_by_its_maker_and_taken_by_its_owner(rt: HostRuntime) -> Result<(), Fail> {
+    let tables = lock_tables(rt.alloc())?;
+    Ok(walk_locks(&rt, rt.alloc(), &tables)?)
 }

@@ -2,7 +2,7 @@
 use sg_edge::{MemSink, MemSource};
 use sg_facts::NoMemory;
 use sg_top::Status::{Done, ReadFault, Refused, Waits, WriteFault};
-use sg_top::{Status, serial};
+use sg_top::{Answer, Ended, Status, serial};
 use std::alloc::{AllocError, Global};
 use std::process::Abort;
 use std::test::Fail;
@@ -43,11 +43,42 @@ pub fn joined(alloc: Global, front: &[u8], back: &[u8]) -> Result<Vec<u8>, Alloc
     Ok(bytes)
 }
 
-/// A list of one word.
-pub fn one_word(alloc: Global, word: &str) -> Result<Vec<String>, AllocError> {
+/// An input: an interface, the divider, and a script.
+pub fn input_of(alloc: Global, interface: &[u8], script: &[u8]) -> Result<Vec<u8>, AllocError> {
+    let front = joined(alloc, interface, DIVIDER)?;
+    joined(alloc, &front, script)
+}
+
+/// The words that aren't empty.
+pub fn words_of(alloc: Global, texts: &[&str]) -> Result<Vec<String>, AllocError> {
     let mut words = Vec::new(alloc);
-    words.push(word.to_string(alloc)?)?;
+    for text in texts {
+        if !text.is_empty() {
+            words.push(text.to_string(alloc)?)?;
+        }
+    }
     Ok(words)
+}
+
+/// How many entries, boots and clients a run has.
+pub type Sizes = (usize, usize, usize);
+
+// The sizes of a run.
+fn sizes_of(ended: &Ended) -> Sizes {
+    (
+        ended.history.len(),
+        ended.trace.boots.len(),
+        ended.ends.len(),
+    )
+}
+
+/// What is looked at of an answer: its status, and the sizes of its run, if it has one. The answer is dropped here alone.
+pub fn said(answer: Answer) -> (Status, Option<Sizes>) {
+    let sizes = match &answer.ended {
+        Some(played) => Some(sizes_of(played.ended())),
+        None => None,
+    };
+    (answer.status, sizes)
 }
 
 // A command, and the numbers of the read and the write that fail, from 1; 0 for none.
@@ -62,12 +93,12 @@ fn comes_to(
     written: &[u8],
 ) -> Result<bool, NoMemory> {
     let (command, read, write) = ask;
+    let words = words_of(alloc, &[command])?;
     let mut source = MemSource::new(alloc, input, 400, &[read])?;
     let mut sink = MemSink::new(alloc, 10, &[write])?;
-    let words = one_word(alloc, command)?;
-    let answer = serial(alloc, &words, &mut source, &mut sink);
+    let (given, run) = said(serial(alloc, &words, &mut source, &mut sink));
     let ran = command == "sim" && matches!(status, Done | Waits | WriteFault);
-    Ok(answer.status == status && answer.ended.is_some() == ran && sink.written() == written)
+    Ok(given == status && run.is_some() == ran && sink.written() == written)
 }
 
 /// Whether an input comes to this status and this output by a command whose reads and writes don't fail.
@@ -81,6 +112,13 @@ pub fn answers(
     comes_to(alloc, (command, 0, 0), input, status, written)
 }
 
+// Whether a case after this text comes to its status and its output.
+fn answers_after(alloc: Global, command: &str, text: &[u8], case: &Case) -> Result<bool, NoMemory> {
+    let (after, status, written) = case;
+    let input = joined(alloc, text, after)?;
+    answers(alloc, command, &input, *status, written)
+}
+
 // Each case after this text comes to its status and its output.
 fn try_each(
     rt: &impl Abort,
@@ -88,12 +126,12 @@ fn try_each(
     command: &str,
     text: &[u8],
     cases: &[Case],
-) -> Result<(), Fail> {
-    for (behind, status, written) in cases {
-        let input = joined(alloc, text, behind)?;
+) -> Result<(), NoMemory> {
+    for case in cases {
+        let (after, _, _) = case;
         assert!(rt;
-            answers(alloc, command, &input, *status, written)?,
-            "{command} {behind:?}"
+            answers_after(alloc, command, text, case)?,
+            "{command} {after:?}"
         );
     }
     Ok(())
@@ -277,13 +315,24 @@ static REFUSED_FIRST: [Case; 5] = [
     ),
 ];
 
+// Each script under an interface comes to its status and its output.
+fn try_scripts(
+    rt: &impl Abort,
+    alloc: Global,
+    interface: &[u8],
+    cases: &[Case],
+) -> Result<(), NoMemory> {
+    let front = joined(alloc, interface, DIVIDER)?;
+    try_each(rt, alloc, "sim", &front, cases)
+}
+
 #[test]
 fn plays_inputs(rt: HostRuntime) -> Result<(), Fail> {
     let alloc = rt.alloc();
-    let front = joined(alloc, LOCK, DIVIDER)?;
-    try_each(&rt, alloc, "sim", &front, &SCRIPTS)?;
+    try_scripts(&rt, alloc, LOCK, &SCRIPTS)?;
     try_each(&rt, alloc, "sim", LOCK, &DIVIDED)?;
-    try_each(&rt, alloc, "sim", b"", &REFUSED_FIRST)
+    try_each(&rt, alloc, "sim", b"", &REFUSED_FIRST)?;
+    Ok(())
 }
 
 // Whole texts that are refused, whatever is asked of them.
@@ -340,7 +389,7 @@ static NARROWER_SCRIPTS: [Case; 2] = [
 ];
 
 // The interface of locks without the lines in which a word stands.
-fn text_without(alloc: Global, word: &[u8]) -> Result<Vec<u8>, Fail> {
+fn text_without(alloc: Global, word: &[u8]) -> Result<Vec<u8>, AllocError> {
     let word = str::from_utf8(word).unwrap_or("");
     let mut text = String::new(alloc);
     for line in str::from_utf8(LOCK).unwrap_or("").lines() {
@@ -352,24 +401,39 @@ fn text_without(alloc: Global, word: &[u8]) -> Result<Vec<u8>, Fail> {
     Ok(text.into_bytes())
 }
 
+// Whether the text of locks without the lines in which a word stands comes to its status and its output.
+fn answers_without(alloc: Global, case: &Case) -> Result<bool, NoMemory> {
+    let (word, status, written) = case;
+    let text = text_without(alloc, word)?;
+    answers(alloc, "check", &text, *status, written)
+}
+
+// Whether no service is known by another name.
+fn is_door_unknown(alloc: Global) -> Result<bool, NoMemory> {
+    let door = joined(alloc, DOOR, LOCK.get(DOOR.len()..).unwrap_or(b""))?;
+    let line = b"interface refused at 2:15: UnknownService\n";
+    answers(alloc, "check", &door, Refused, line)
+}
+
+// Scripts under the interface of locks without `lock_free`.
+fn try_narrower(rt: &impl Abort, alloc: Global) -> Result<(), NoMemory> {
+    let text = text_without(alloc, b"lock_free")?;
+    try_scripts(rt, alloc, &text, &NARROWER_SCRIPTS)
+}
+
 #[test]
 fn checks_texts(rt: HostRuntime) -> Result<(), Fail> {
     let alloc = rt.alloc();
     try_each(&rt, alloc, "check", b"", &TEXTS)?;
     try_each(&rt, alloc, "compile", b"", &TEXTS)?;
     try_each(&rt, alloc, "check", LOCK, &CHECKED)?;
-    for (word, status, written) in &NARROWER {
-        let text = text_without(alloc, word)?;
-        assert!(rt;
-            answers(alloc, "check", &text, *status, written)?,
-            "{word:?}"
-        );
+    for case in &NARROWER {
+        let (word, _, _) = case;
+        assert!(rt; answers_without(alloc, case)?, "{word:?}");
     }
-    let door = joined(alloc, DOOR, LOCK.get(DOOR.len()..).unwrap_or(b""))?;
-    let line = b"interface refused at 2:15: UnknownService\n";
-    assert!(rt; answers(alloc, "check", &door, Refused, line)?);
-    let front = joined(alloc, &text_without(alloc, b"lock_free")?, DIVIDER)?;
-    try_each(&rt, alloc, "sim", &front, &NARROWER_SCRIPTS)
+    assert!(rt; is_door_unknown(alloc)?);
+    try_narrower(&rt, alloc)?;
+    Ok(())
 }
 
 const TABLES: &[u8] = b"service lock
@@ -402,6 +466,19 @@ walk evt_split evt_split - : evt_split
 walk evt_split evt_split count : evt_split evt_trigger
 ";
 
+// Whether a text is accepted with this line, and a script without calls is played under it.
+fn is_known(alloc: Global, text: &[u8], line: &[u8]) -> Result<bool, NoMemory> {
+    let input = joined(alloc, text, DIVIDER)?;
+    Ok(answers(alloc, "check", text, Done, line)? && answers(alloc, "sim", &input, Done, NOTHING)?)
+}
+
+// Whether a call that isn't one of events is refused.
+fn is_steal_unknown(alloc: Global) -> Result<bool, NoMemory> {
+    let input = input_of(alloc, EVENT, b"client 1 { evt_steal(); }")?;
+    let line = b"script refused at 1:12: UnknownFunction\n";
+    answers(alloc, "sim", &input, Refused, line)
+}
+
 #[test]
 fn knows_every_service(rt: HostRuntime) -> Result<(), Fail> {
     let alloc = rt.alloc();
@@ -412,23 +489,17 @@ fn knows_every_service(rt: HostRuntime) -> Result<(), Fail> {
         (SCHED, b"accepted sched\n"),
     ];
     for (text, line) in others {
-        assert!(rt; answers(alloc, "check", text, Done, line)?, "{text:?}");
-        let input = joined(alloc, text, DIVIDER)?;
-        assert!(rt; answers(alloc, "sim", &input, Done, NOTHING)?, "{text:?}");
+        assert!(rt; is_known(alloc, text, line)?, "{text:?}");
     }
     assert!(rt; answers(alloc, "compile", EVENT, Done, EVENT_TABLES)?);
-    let flawed = joined(
-        alloc,
-        &joined(alloc, EVENT, DIVIDER)?,
-        b"client 1 { evt_steal(); }",
-    )?;
-    let line = b"script refused at 1:12: UnknownFunction\n";
-    assert!(rt; answers(alloc, "sim", &flawed, Refused, line)?);
+    assert!(rt; is_steal_unknown(alloc)?);
     Ok(())
 }
 
 // A command, the numbers of the read and the write that fail, and the status and the output.
-static FAULTS: [(&str, u32, u32, Status, &[u8]); 16] = [
+type Fault = (&'static str, u32, u32, Status, &'static [u8]);
+
+static FAULTS: [Fault; 16] = [
     ("sim", 0, 0, Done, REPORT),
     ("sim", 1, 0, ReadFault, b""),
     ("sim", 3, 0, ReadFault, b""),
@@ -447,17 +518,10 @@ static FAULTS: [(&str, u32, u32, Status, &[u8]); 16] = [
     ("compile", 0, 2, WriteFault, b"service lo"),
 ];
 
-#[test]
-fn answers_faults(rt: HostRuntime) -> Result<(), Fail> {
-    let alloc = rt.alloc();
-    let front = joined(alloc, LOCK, DIVIDER)?;
-    let play = joined(alloc, &front, SCRIPT)?;
+// Each of these faults comes to its status and its output, where a play has this input.
+fn try_faults(rt: &impl Abort, alloc: Global, play: &[u8]) -> Result<(), NoMemory> {
     for (command, read, write, status, written) in &FAULTS {
-        let input = if *command == "sim" {
-            play.as_slice()
-        } else {
-            LOCK
-        };
+        let input = if *command == "sim" { play } else { LOCK };
         let ask = (*command, *read, *write);
         assert!(rt;
             comes_to(alloc, ask, input, *status, written)?,
@@ -465,4 +529,10 @@ fn answers_faults(rt: HostRuntime) -> Result<(), Fail> {
         );
     }
     Ok(())
+}
+
+#[test]
+fn answers_faults(rt: HostRuntime) -> Result<(), Fail> {
+    let play = input_of(rt.alloc(), LOCK, SCRIPT)?;
+    Ok(try_faults(&rt, rt.alloc(), &play)?)
 }

@@ -1,10 +1,13 @@
 // Other words, a run as it is given, and the numbers of statuses.
-use crate::answers::{DIVIDER, REPORT, SCRIPT, joined, one_word};
+use crate::answers::{REPORT, SCRIPT, Sizes, input_of, said, words_of};
 use sg_edge::{MemSink, MemSource, OpenGate};
+use sg_facts::NoMemory;
 use sg_top::{Command, Status, serial, superglue};
-use std::alloc::{AllocError, Global};
+use std::alloc::Global;
 use std::io::ErrorKind;
+use std::sync::Wait;
 use std::test::Fail;
+use std::thread::Threads;
 use test_interfaces::LOCK;
 
 // Words that are no command's, up to two of them; an empty one isn't given.
@@ -20,28 +23,30 @@ static OTHER_WORDS: [[&str; 2]; 9] = [
     ["check", "check"],
 ];
 
-// The words that aren't empty.
-fn words_of(alloc: Global, texts: &[&str]) -> Result<Vec<String>, AllocError> {
-    let mut words = Vec::new(alloc);
-    for text in texts {
-        if !text.is_empty() {
-            words.push(text.to_string(alloc)?)?;
-        }
-    }
-    Ok(words)
+// Whether words come to `OtherWords` in one thread, without a run and with nothing written; with a source whose first read fails, so
+// nothing is read.
+fn touch_nothing(
+    alloc: Global,
+    words: &[String],
+    source: &mut MemSource,
+    sink: &mut MemSink,
+) -> bool {
+    let (status, run) = said(serial(alloc, words, source, sink));
+    status == Status::OtherWords && run.is_none() && sink.written().is_empty()
+}
+
+// Whether words are no command's, and touch nothing.
+fn are_other(alloc: Global, texts: &[&str]) -> Result<bool, NoMemory> {
+    let words = words_of(alloc, texts)?;
+    let mut source = MemSource::new(alloc, LOCK, 400, &[1])?;
+    let mut sink = MemSink::new(alloc, 400, &[1])?;
+    Ok(Command::of_words(&words).is_none() && touch_nothing(alloc, &words, &mut source, &mut sink))
 }
 
 #[test]
 fn touches_nothing_at_other_words(rt: HostRuntime) -> Result<(), Fail> {
-    let alloc = rt.alloc();
     for texts in &OTHER_WORDS {
-        let words = words_of(alloc, texts)?;
-        assert!(rt; Command::of_words(&words).is_none());
-        let mut source = MemSource::new(alloc, LOCK, 400, &[1])?;
-        let mut sink = MemSink::new(alloc, 400, &[1])?;
-        let answer = serial(alloc, &words, &mut source, &mut sink);
-        assert_eq!(rt; answer.status, Status::OtherWords, "{texts:?}");
-        assert!(rt; answer.ended.is_none() && sink.written().is_empty());
+        assert!(rt; are_other(rt.alloc(), texts)?, "{texts:?}");
     }
     Ok(())
 }
@@ -49,40 +54,62 @@ fn touches_nothing_at_other_words(rt: HostRuntime) -> Result<(), Fail> {
 // The words of plays with a thread for each client.
 static THREAD_WORDS: [[&str; 2]; 2] = [["run", ""], ["run", "trace"]];
 
+// What the whole call says.
+fn said_by_all<R: Threads + Wait + Sync>(
+    rt: &R,
+    alloc: Global,
+    words: &[String],
+    source: &mut MemSource,
+    sink: &mut MemSink,
+) -> (Status, Option<Sizes>) {
+    said(superglue(rt, alloc, words, source, sink, &OpenGate))
+}
+
+// Whether words are a command's which touches nothing in one thread, and whose first read the whole call makes.
+fn are_for_threads<R: Threads + Wait + Sync>(
+    rt: &R,
+    alloc: Global,
+    texts: &[&str],
+) -> Result<bool, NoMemory> {
+    let words = words_of(alloc, texts)?;
+    let mut source = MemSource::new(alloc, LOCK, 400, &[1])?;
+    let mut sink = MemSink::new(alloc, 400, &[1])?;
+    if Command::of_words(&words).is_none()
+        || !touch_nothing(alloc, &words, &mut source, &mut sink)
+    {
+        return Ok(false);
+    }
+    let (status, _) = said_by_all(rt, alloc, &words, &mut source, &mut sink);
+    Ok(status == Status::ReadFault)
+}
+
 #[test]
 fn leaves_threads_to_the_whole_call(rt: HostRuntime) -> Result<(), Fail> {
-    let alloc = rt.alloc();
     for texts in &THREAD_WORDS {
-        let words = words_of(alloc, texts)?;
-        assert!(rt; Command::of_words(&words).is_some());
-        let mut source = MemSource::new(alloc, LOCK, 400, &[1])?;
-        let mut sink = MemSink::new(alloc, 400, &[1])?;
-        let answer = serial(alloc, &words, &mut source, &mut sink);
-        assert_eq!(rt; answer.status, Status::OtherWords, "{texts:?}");
-        assert!(rt; answer.ended.is_none() && sink.written().is_empty());
-        let answer = superglue(&rt, alloc, &words, &mut source, &mut sink, &OpenGate);
-        assert_eq!(rt; answer.status, Status::ReadFault, "{texts:?}");
+        assert!(rt; are_for_threads(&rt, rt.alloc(), texts)?, "{texts:?}");
     }
     Ok(())
 }
 
+// What the whole call says of an input, and whether it writes this.
+fn said_of<R: Threads + Wait + Sync>(
+    rt: &R,
+    alloc: Global,
+    input: &[u8],
+    written: &[u8],
+) -> Result<(Status, Option<Sizes>, bool), NoMemory> {
+    let words = words_of(alloc, &["sim"])?;
+    let mut source = MemSource::new(alloc, input, 7, &[])?;
+    let mut sink = MemSink::new(alloc, 5, &[])?;
+    let (status, run) = said_by_all(rt, alloc, &words, &mut source, &mut sink);
+    Ok((status, run, sink.written() == written))
+}
+
 #[test]
 fn gives_the_run(rt: HostRuntime) -> Result<(), Fail> {
-    let alloc = rt.alloc();
-    let input = joined(alloc, &joined(alloc, LOCK, DIVIDER)?, SCRIPT)?;
-    let mut source = MemSource::new(alloc, &input, 7, &[])?;
-    let mut sink = MemSink::new(alloc, 5, &[])?;
-    let words = one_word(alloc, "sim")?;
-    let answer = superglue(&rt, alloc, &words, &mut source, &mut sink, &OpenGate);
-    assert_eq!(rt; answer.status, Status::Done);
-    assert!(rt; sink.written() == REPORT);
-    let Some(played) = answer.ended else {
-        return Err("no run")?;
-    };
-    let ended = played.ended();
-    assert_eq!(rt; ended.history.len(), 4);
-    assert_eq!(rt; ended.trace.boots.len(), 1);
-    assert_eq!(rt; ended.ends.len(), 1);
+    let input = input_of(rt.alloc(), LOCK, SCRIPT)?;
+    let given = said_of(&rt, rt.alloc(), &input, REPORT)?;
+    assert_eq!(rt; given, (Status::Done, Some((4, 1, 1)), true));
     Ok(())
 }
 

@@ -1,7 +1,8 @@
 // The longest inputs, texts and scripts, and longer ones.
-use crate::answers::{DIVIDER, NOTHING, answers, joined};
+use crate::answers::{NOTHING, answers, input_of, joined};
+use sg_facts::NoMemory;
 use sg_top::Status::{Done, Refused};
-use sg_top::{Command, MOST_DIVIDER, MOST_INPUT, MOST_INTERFACE, MOST_SCRIPT, Shows};
+use sg_top::{Command, MOST_DIVIDER, MOST_INPUT, MOST_INTERFACE, MOST_SCRIPT, Shows, Status};
 use std::alloc::{AllocError, Global};
 use std::fmt::Write;
 use std::test::Fail;
@@ -21,10 +22,27 @@ fn padded(alloc: Global, bytes: &[u8], length: usize) -> Result<Vec<u8>, AllocEr
 }
 
 // An interface of so many bytes, a divider of 4, and so many blanks.
-fn input_of(alloc: Global, interface: usize, script: usize) -> Result<Vec<u8>, AllocError> {
+fn padded_input(alloc: Global, interface: usize, script: usize) -> Result<Vec<u8>, AllocError> {
     let text = padded(alloc, LOCK, interface.saturating_sub(1))?;
     let front = joined(alloc, &text, b"\n%%\r\n")?;
     padded(alloc, &front, front.len().saturating_add(script))
+}
+
+// Whether an input of these parts is of a length, and is played.
+fn plays_padded(
+    alloc: Global,
+    interface: usize,
+    script: usize,
+    length: usize,
+) -> Result<bool, NoMemory> {
+    let input = padded_input(alloc, interface, script)?;
+    Ok(input.len() == length && answers(alloc, "sim", &input, Done, NOTHING)?)
+}
+
+// Whether the interface of locks is accepted, with blanks up to this length.
+fn accepts_padded(alloc: Global, length: usize) -> Result<bool, NoMemory> {
+    let text = padded(alloc, LOCK, length)?;
+    answers(alloc, "check", &text, Done, b"accepted lock\n")
 }
 
 #[test]
@@ -37,35 +55,46 @@ fn takes_the_longest_input(rt: HostRuntime) -> Result<(), Fail> {
     };
     assert_eq!(rt; play.most_bytes(), 4_259_844);
     assert_eq!(rt; Command::Check.most_bytes(), 65_536);
-    let longest = input_of(alloc, 65_536, 4_194_304)?;
-    assert_eq!(rt; longest.len(), 4_259_844);
-    assert!(rt; answers(alloc, "sim", &longest, Done, NOTHING)?);
-    let text = padded(alloc, LOCK, 65_536)?;
-    assert!(rt; answers(alloc, "check", &text, Done, b"accepted lock\n")?);
+    assert!(rt; plays_padded(alloc, 65_536, 4_194_304, 4_259_844)?);
+    assert!(rt; accepts_padded(alloc, 65_536)?);
     Ok(())
+}
+
+// Whether an input of these parts is too long.
+fn refuses_input(alloc: Global, interface: usize, script: usize) -> Result<bool, NoMemory> {
+    let input = padded_input(alloc, interface, script)?;
+    answers(alloc, "sim", &input, Refused, TOO_LONG)
+}
+
+// Whether a command refuses the interface of locks with this line, with blanks up to this length.
+fn refuses_padded(
+    alloc: Global,
+    command: &str,
+    length: usize,
+    line: &[u8],
+) -> Result<bool, NoMemory> {
+    let input = padded(alloc, LOCK, length)?;
+    answers(alloc, command, &input, Refused, line)
 }
 
 #[test]
 fn refuses_longer_inputs(rt: HostRuntime) -> Result<(), Fail> {
     let alloc = rt.alloc();
     for (interface, script) in [(65_536, 4_194_305), (1_000, 4_194_305), (65_537, 0)] {
-        let input = input_of(alloc, interface, script)?;
         assert!(rt;
-            answers(alloc, "sim", &input, Refused, TOO_LONG)?,
+            refuses_input(alloc, interface, script)?,
             "{interface} {script}"
         );
     }
-    let undivided = padded(alloc, LOCK, 4_259_844)?;
-    assert!(rt; answers(alloc, "sim", &undivided, Refused, NO_DIVIDER)?);
-    for (command, length) in [
-        ("sim", 4_259_845),
-        ("check", 65_537),
-        ("compile", 65_537),
-        ("check", 70_000),
+    for (command, length, line) in [
+        ("sim", 4_259_844, NO_DIVIDER),
+        ("sim", 4_259_845, TOO_LONG),
+        ("check", 65_537, TOO_LONG),
+        ("compile", 65_537, TOO_LONG),
+        ("check", 70_000, TOO_LONG),
     ] {
-        let input = padded(alloc, LOCK, length)?;
         assert!(rt;
-            answers(alloc, command, &input, Refused, TOO_LONG)?,
+            refuses_padded(alloc, command, length, line)?,
             "{command} {length}"
         );
     }
@@ -74,40 +103,63 @@ fn refuses_longer_inputs(rt: HostRuntime) -> Result<(), Fail> {
 
 // The input of a call so many times, each on a line of its own after the first.
 fn input_of_calls(alloc: Global, call: &[u8], calls: usize) -> Result<Vec<u8>, AllocError> {
-    let front = joined(alloc, LOCK, DIVIDER)?;
-    let mut input = joined(alloc, &front, b"client 1 {\n")?;
+    let mut input = input_of(alloc, LOCK, b"client 1 {\n")?;
     for _ in 0..calls {
         input.extend_from_slice(call)?;
     }
-    joined(alloc, &input, b"}\n")
+    input.extend_from_slice(b"}\n")?;
+    Ok(input)
 }
 
-#[test]
-fn takes_65536_calls(rt: HostRuntime) -> Result<(), Fail> {
-    let alloc = rt.alloc();
+// Whether a call so many times comes to this status and this output.
+fn calls_come_to(
+    alloc: Global,
+    call: &[u8],
+    calls: usize,
+    status: Status,
+    written: &[u8],
+) -> Result<bool, NoMemory> {
+    let input = input_of_calls(alloc, call, calls)?;
+    answers(alloc, "sim", &input, status, written)
+}
+
+// The report of 65,536 calls that are refused.
+fn report_of_most(alloc: Global) -> Result<String, Fail> {
     let mut report = String::new(alloc);
     for call in 1..65_537 {
         writeln!(report, "c1.{call} lock_free(1) = refused NoDesc")?;
     }
     report.push_str("client 1 done\ncalls 65536 boots 1 replays 0\n")?;
-    let most = input_of_calls(alloc, b"lock_free(1);\n", 65_536)?;
-    assert!(rt; answers(alloc, "sim", &most, Done, report.as_bytes())?);
-    let more = input_of_calls(alloc, b"lock_free(1);\n", 65_537)?;
-    let line = b"script refused at 65538:1: Limit\n";
-    assert!(rt; answers(alloc, "sim", &more, Refused, line)?);
-    Ok(())
+    Ok(report)
 }
 
 #[test]
-fn refuses_the_1025th_lock(rt: HostRuntime) -> Result<(), Fail> {
+fn takes_65536_calls(rt: HostRuntime) -> Result<(), Fail> {
     let alloc = rt.alloc();
+    let call = b"lock_free(1);\n";
+    let line = b"script refused at 65538:1: Limit\n";
+    assert!(rt; calls_come_to(alloc, call, 65_537, Refused, line)?);
+    let report = report_of_most(alloc)?;
+    assert!(rt; calls_come_to(alloc, call, 65_536, Done, report.as_bytes())?);
+    Ok(())
+}
+
+// The report of 1,025 locks, the last of which isn't made.
+fn report_of_locks(alloc: Global) -> Result<String, Fail> {
     let mut report = String::new(alloc);
     for call in 1..1_025 {
         writeln!(report, "c1.{call} lock_alloc() = ok #{call}")?;
     }
     report.push_str("c1.1025 lock_alloc() = refused Full\n")?;
     report.push_str("client 1 done\ncalls 1025 boots 1 replays 0\n")?;
-    let input = input_of_calls(alloc, b"lock_alloc();\n", 1_025)?;
-    assert!(rt; answers(alloc, "sim", &input, Done, report.as_bytes())?);
+    Ok(report)
+}
+
+#[test]
+fn refuses_the_1025th_lock(rt: HostRuntime) -> Result<(), Fail> {
+    let alloc = rt.alloc();
+    let report = report_of_locks(alloc)?;
+    let call = b"lock_alloc();\n";
+    assert!(rt; calls_come_to(alloc, call, 1_025, Done, report.as_bytes())?);
     Ok(())
 }

@@ -70,165 +70,288 @@ fn files(alloc: Global) -> Interface {
     }
 }
 
-// A call without other arguments.
-fn call(alloc: Global, client: u8, seq: u32, fun: u8, desc: u64) -> Call {
-    Call {
+// An argument of a call, beside its descriptor.
+#[derive(Clone, Copy, Debug)]
+enum Arg {
+    Nothing,
+    Word(u64),
+    Text(&'static [u8]),
+}
+
+// The client of a call, its number, its function, its descriptor, and its other argument.
+type CallOf = (u8, u32, u8, u64, Arg);
+
+// What is replied: an Ok with a descriptor, words and bytes, or a refusal.
+#[derive(Clone, Copy, Debug)]
+enum ReplyOf {
+    Ok(u64, &'static [u64], &'static [u8]),
+    Refused(Code),
+}
+
+// What an item of the trace was asked for.
+#[derive(Clone, Copy, Debug)]
+enum Asked {
+    Client { client: u8, seq: u32 },
+    Walk { id: u64, k: u8, client: u8 },
+    Load { key: &'static [u8], client: u8 },
+}
+
+// What became of it: an Ok with a descriptor, or none.
+#[derive(Clone, Copy, Debug)]
+enum Became {
+    Replied(u64),
+    Stopped,
+    Blocked,
+}
+
+// A boot with one item, and its stop.
+struct BootOf {
+    asked: Asked,
+    call: CallOf,
+    became: Became,
+    stop: Option<u64>,
+}
+
+// Entries of two clients, one of which waits.
+static ENTRIES: [(CallOf, ReplyOf); 4] = [
+    ((1, 1, 1, 0, Arg::Text(b"a")), ReplyOf::Ok(1, &[], b"")),
+    ((2, 1, 2, 1, Arg::Word(16)), ReplyOf::Ok(0, &[5], b"hello")),
+    ((1, 2, 3, 1, Arg::Text(b"x")), ReplyOf::Refused(Code::Gap)),
+    (
+        (1, 3, 5, 0, Arg::Nothing),
+        ReplyOf::Ok(0, &[7, 8], b"unseen"),
+    ),
+];
+
+// What client 2 waits for.
+const WAITED: CallOf = (2, 2, 2, 1, Arg::Word(16));
+
+// Boots of one item each: a call, a call of a walk that replied and one that stopped, a load, and a call that blocks. All but the last end
+// by a stop.
+static BOOTS: [BootOf; 5] = [
+    BootOf {
+        asked: Asked::Client { client: 1, seq: 1 },
+        call: (1, 1, 1, 0, Arg::Text(b"a")),
+        became: Became::Replied(1),
+        stop: Some(10),
+    },
+    BootOf {
+        asked: Asked::Walk {
+            id: 1,
+            k: 2,
+            client: 2,
+        },
+        call: (1, 0, 4, 1, Arg::Word(5)),
+        became: Became::Replied(0),
+        stop: Some(11),
+    },
+    BootOf {
+        asked: Asked::Walk {
+            id: 1,
+            k: 1,
+            client: 1,
+        },
+        call: (1, 0, 1, 0, Arg::Text(b"a")),
+        became: Became::Stopped,
+        stop: Some(12),
+    },
+    BootOf {
+        asked: Asked::Load {
+            key: b"/a",
+            client: 2,
+        },
+        call: (2, 0, 0, 0, Arg::Nothing),
+        became: Became::Replied(0),
+        stop: Some(13),
+    },
+    BootOf {
+        asked: Asked::Client { client: 2, seq: 1 },
+        call: (2, 1, 2, 1, Arg::Word(16)),
+        became: Became::Blocked,
+        stop: None,
+    },
+];
+
+// Adds an argument, if there is one.
+fn add_arg(alloc: Global, args: &mut Args, arg: Arg) -> Result<(), Fail> {
+    match arg {
+        Arg::Nothing => Ok(()),
+        Arg::Word(word) => Ok(args.push(Value::Word(word))?),
+        Arg::Text(text) => Ok(args.push(Value::Text(Text::new(alloc, text)?))?),
+    }
+}
+
+// The call of a row.
+fn call_of(alloc: Global, row: CallOf) -> Result<Call, Fail> {
+    let (client, seq, fun, desc, arg) = row;
+    let mut args = Args::new(alloc);
+    add_arg(alloc, &mut args, arg)?;
+    Ok(Call {
         client,
         seq,
         fun,
         desc,
-        args: Args::new(alloc),
-    }
-}
-
-// A call with a word.
-fn with_word(mut call: Call, word: u64) -> Result<Call, NoMemory> {
-    call.args.push(Value::Word(word))?;
-    Ok(call)
-}
-
-// A call with a text.
-fn with_text(alloc: Global, mut call: Call, text: &[u8]) -> Result<Call, Fail> {
-    call.args.push(Value::Text(Text::new(alloc, text)?))?;
-    Ok(call)
+        args,
+    })
 }
 
 // An Ok with these words and bytes.
 fn ok(alloc: Global, desc: u64, words: &[u64], bytes: &[u8]) -> Result<Reply, NoMemory> {
-    Ok(Reply::Ok(Good {
-        desc,
-        words: Words::from_slice(alloc, words)?,
-        bytes: Bytes::from_slice(alloc, bytes)?,
-    }))
+    let words = Words::from_slice(alloc, words)?;
+    let bytes = Bytes::from_slice(alloc, bytes)?;
+    Ok(Reply::Ok(Good { desc, words, bytes }))
 }
 
-// The item of a client's call, or of another asking.
-fn item(tag: Tag, shown: Call, outcome: Outcome) -> Item {
-    Item {
+// The reply of a row.
+fn reply_of(alloc: Global, row: ReplyOf) -> Result<Reply, NoMemory> {
+    match row {
+        ReplyOf::Ok(desc, words, bytes) => ok(alloc, desc, words, bytes),
+        ReplyOf::Refused(code) => Ok(Reply::Refused(code)),
+    }
+}
+
+// Adds the entry of a row.
+fn add_entry(
+    alloc: Global,
+    history: &mut History,
+    call: CallOf,
+    reply: ReplyOf,
+) -> Result<(), Fail> {
+    let call = call_of(alloc, call)?;
+    let reply = reply_of(alloc, reply)?;
+    Ok(history.push(Entry { call, reply })?)
+}
+
+// The history of the entries.
+fn all_entries(alloc: Global) -> Result<History, Fail> {
+    let mut history = History::new(alloc);
+    for (call, reply) in &ENTRIES {
+        add_entry(alloc, &mut history, *call, *reply)?;
+    }
+    Ok(history)
+}
+
+// Client 1 is done, and client 2 waits.
+fn both_ends(alloc: Global) -> Result<EndList, Fail> {
+    let waited = call_of(alloc, WAITED)?;
+    let mut ends = EndList::new(alloc);
+    ends.push((1, End::Done))?;
+    ends.push((2, End::Blocked(waited)))?;
+    Ok(ends)
+}
+
+// Who asked, by a row.
+fn tag_of(alloc: Global, row: Asked) -> Result<Tag, NoMemory> {
+    match row {
+        Asked::Client { client, seq } => Ok(Tag::Client { client, seq }),
+        Asked::Walk { id, k, client } => Ok(Tag::Walk { id, k, client }),
+        Asked::Load { key, client } => Ok(Tag::Load {
+            key: Path::from_slice(alloc, key)?,
+            client,
+        }),
+    }
+}
+
+// What became of it, by a row.
+fn outcome_of(alloc: Global, row: Became) -> Result<Outcome, NoMemory> {
+    match row {
+        Became::Replied(desc) => Ok(Outcome::Replied {
+            reply: ok(alloc, desc, &[], b"")?,
+            patch: None,
+        }),
+        Became::Stopped => Ok(Outcome::Stopped),
+        Became::Blocked => Ok(Outcome::Blocks),
+    }
+}
+
+// The item of a boot.
+fn item_of(alloc: Global, row: &BootOf) -> Result<Item, Fail> {
+    let tag = tag_of(alloc, row.asked)?;
+    let shown = call_of(alloc, row.call)?;
+    let outcome = outcome_of(alloc, row.became)?;
+    Ok(Item {
         tag,
         real: shown.desc,
         shown,
         points: 0,
         outcome,
-    }
-}
-
-// An outcome with a reply.
-fn replied(reply: Reply) -> Outcome {
-    Outcome::Replied { reply, patch: None }
-}
-
-// A boot with an item, and its stop.
-fn boot(alloc: Global, item: Item, stop: Option<u64>) -> Result<BootLog, NoMemory> {
-    let mut items = ItemList::new(alloc);
-    items.reserve(1)?;
-    items.add(item);
-    Ok(BootLog { items, stop })
-}
-
-// A run of these entries and boots.
-fn run(
-    alloc: Global,
-    entries: Vec<Entry>,
-    logs: Vec<BootLog>,
-    ends: EndList,
-) -> Result<Ended, NoMemory> {
-    let mut history = History::new(alloc);
-    for entry in entries {
-        history.push(entry)?;
-    }
-    let mut boots = BootList::new(alloc);
-    for log in logs {
-        boots.reserve(1)?;
-        boots.add(log);
-    }
-    Ok(Ended {
-        history,
-        trace: Trace { boots, points: 33 },
-        ends,
     })
 }
 
-// Entries of two clients, one of which waits.
-fn entries(alloc: Global) -> Result<Vec<Entry>, Fail> {
-    let mut entries = Vec::new(alloc);
-    entries.push(Entry {
-        call: with_text(alloc, call(alloc, 1, 1, 1, 0), b"a")?,
-        reply: ok(alloc, 1, &[], b"")?,
-    })?;
-    entries.push(Entry {
-        call: with_word(call(alloc, 2, 1, 2, 1), 16)?,
-        reply: ok(alloc, 0, &[5], b"hello")?,
-    })?;
-    entries.push(Entry {
-        call: with_text(alloc, call(alloc, 1, 2, 3, 1), b"x")?,
-        reply: Reply::Refused(Code::Gap),
-    })?;
-    entries.push(Entry {
-        call: call(alloc, 1, 3, 5, 0),
-        reply: ok(alloc, 0, &[7, 8], b"unseen")?,
-    })?;
-    Ok(entries)
+// A list of that item.
+fn items_of(alloc: Global, row: &BootOf) -> Result<ItemList, Fail> {
+    let mut items = ItemList::new(alloc);
+    items.reserve(1)?;
+    items.add(item_of(alloc, row)?);
+    Ok(items)
 }
 
-// Client 1 is done, and client 2 waits.
-fn ends(alloc: Global) -> Result<EndList, NoMemory> {
-    let mut ends = EndList::new(alloc);
-    ends.push((1, End::Done))?;
-    ends.push((2, End::Blocked(with_word(call(alloc, 2, 2, 2, 1), 16)?)))?;
-    Ok(ends)
+// Adds the boot of a row.
+fn add_boot(alloc: Global, boots: &mut BootList, row: &BootOf) -> Result<(), Fail> {
+    boots.reserve(1)?;
+    let items = items_of(alloc, row)?;
+    boots.add(BootLog {
+        items,
+        stop: row.stop,
+    });
+    Ok(())
 }
 
-// The items of a run: a call, a call of a walk that replied and one that stopped, a load, and a call that blocks.
-fn items(alloc: Global) -> Result<[Item; 5], Fail> {
-    Ok([
-        item(
-            Tag::Client { client: 1, seq: 1 },
-            with_text(alloc, call(alloc, 1, 1, 1, 0), b"a")?,
-            replied(ok(alloc, 1, &[], b"")?),
-        ),
-        item(
-            Tag::Walk {
-                id: 1,
-                k: 2,
-                client: 2,
-            },
-            with_word(call(alloc, 1, 0, 4, 1), 5)?,
-            replied(ok(alloc, 0, &[], b"")?),
-        ),
-        item(
-            Tag::Walk {
-                id: 1,
-                k: 1,
-                client: 1,
-            },
-            with_text(alloc, call(alloc, 1, 0, 1, 0), b"a")?,
-            Outcome::Stopped,
-        ),
-        item(
-            Tag::Load {
-                key: Path::from_slice(alloc, b"/a")?,
-                client: 2,
-            },
-            call(alloc, 2, 0, 0, 0),
-            replied(ok(alloc, 0, &[], b"")?),
-        ),
-        item(
-            Tag::Client { client: 2, seq: 1 },
-            with_word(call(alloc, 2, 1, 2, 1), 16)?,
-            Outcome::Blocks,
-        ),
-    ])
-}
-
-// The boots of a trace: one for each item, and all but the last end by a stop.
-fn logs(alloc: Global) -> Result<Vec<BootLog>, Fail> {
-    let mut logs = Vec::new(alloc);
-    for (at, item) in items(alloc)?.into_iter().enumerate() {
-        let stop = if at < 4 { Some(10 + at as u64) } else { None };
-        logs.push(boot(alloc, item, stop)?)?;
+// All boots.
+fn all_boots(alloc: Global) -> Result<BootList, Fail> {
+    let mut boots = BootList::new(alloc);
+    for row in &BOOTS {
+        add_boot(alloc, &mut boots, row)?;
     }
-    Ok(logs)
+    Ok(boots)
+}
+
+// A run of these parts.
+fn run(history: History, boots: BootList, ends: EndList) -> Ended {
+    Ended {
+        history,
+        trace: Trace { boots, points: 33 },
+        ends,
+    }
+}
+
+// A run of the entries, without boots.
+fn run_of_entries(alloc: Global) -> Result<Ended, Fail> {
+    let history = all_entries(alloc)?;
+    let ends = both_ends(alloc)?;
+    Ok(run(history, BootList::new(alloc), ends))
+}
+
+// A run of the boots, without entries.
+fn run_of_boots(alloc: Global) -> Result<Ended, Fail> {
+    let boots = all_boots(alloc)?;
+    Ok(run(History::new(alloc), boots, EndList::new(alloc)))
+}
+
+// A run of nothing.
+fn run_of_nothing(alloc: Global) -> Ended {
+    run(
+        History::new(alloc),
+        BootList::new(alloc),
+        EndList::new(alloc),
+    )
+}
+
+// Whether a run is printed so, with its trace or without.
+fn prints(alloc: Global, ended: &Ended, with_trace: bool, wanted: &[u8]) -> Result<bool, NoMemory> {
+    let iface = files(alloc);
+    let printed = text(alloc, &iface, ended, with_trace)?;
+    Ok(printed.as_slice() == wanted)
+}
+
+// The same of a run that is dropped then.
+fn is_printed(
+    alloc: Global,
+    ended: Ended,
+    with_trace: bool,
+    wanted: &[u8],
+) -> Result<bool, NoMemory> {
+    prints(alloc, &ended, with_trace, wanted)
 }
 
 static REPLIES: &[u8] = b"c1.1 tsplit(0, \"a\") = ok #1
@@ -263,15 +386,8 @@ static COUNTS: &[u8] = b"calls 0 boots 0 replays 0\npoints 33\n";
 #[test]
 fn prints_runs(rt: HostRuntime) -> Result<(), Fail> {
     let alloc = rt.alloc();
-    let replies = run(alloc, entries(alloc)?, Vec::new(alloc), ends(alloc)?)?;
-    let trace = run(alloc, Vec::new(alloc), logs(alloc)?, EndList::new(alloc))?;
-    let nothing = run(alloc, Vec::new(alloc), Vec::new(alloc), EndList::new(alloc))?;
-    let iface = files(alloc);
-    let printed = text(alloc, &iface, &replies, false)?;
-    assert!(rt; printed.as_slice() == REPLIES);
-    let printed = text(alloc, &iface, &trace, true)?;
-    assert!(rt; printed.as_slice() == TRACE);
-    let printed = text(alloc, &iface, &nothing, true)?;
-    assert!(rt; printed.as_slice() == COUNTS);
+    assert!(rt; is_printed(alloc, run_of_entries(alloc)?, false, REPLIES)?);
+    assert!(rt; is_printed(alloc, run_of_boots(alloc)?, true, TRACE)?);
+    assert!(rt; is_printed(alloc, run_of_nothing(alloc), true, COUNTS)?);
     Ok(())
 }

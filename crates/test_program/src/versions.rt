@@ -1,9 +1,11 @@
 // Texts of both versions: what they are upgraded to, and plays under them. No clause says that a text is upgraded where there is memory.
-use crate::answers::{DIVIDER, answers, joined};
+use crate::answers::{answers, input_of, joined, said, words_of};
 use sg_edge::{MemSink, MemSource};
+use sg_facts::NoMemory;
 use sg_top::Status::{self, Done, Refused};
 use sg_top::serial;
 use std::alloc::{AllocError, Global};
+use std::process::Abort;
 use std::test::Fail;
 use test_interfaces::{EVENT, EVENT2, LOCK, MM, RAMFS, SCHED, in_version_2};
 
@@ -17,28 +19,42 @@ fn changed(alloc: Global, text: &[u8], old: &str, new: &str) -> Result<Vec<u8>, 
     Ok(bytes)
 }
 
+// Whether a text is upgraded to another.
+fn becomes(alloc: Global, text: &[u8], newer: &[u8]) -> Result<bool, NoMemory> {
+    answers(alloc, "upgrade", text, Done, newer)
+}
+
+// Whether a standard text is upgraded to itself in version 2, and that is left as it is, whenever descriptors are rebuilt.
+fn is_upgraded(alloc: Global, text: &[u8]) -> Result<bool, NoMemory> {
+    let newer = in_version_2(alloc, text, "demand")?;
+    let eager = in_version_2(alloc, text, "eager")?;
+    Ok(
+        becomes(alloc, text, &newer)?
+            && becomes(alloc, &newer, &newer)?
+            && becomes(alloc, &eager, &eager)?,
+    )
+}
+
 #[test]
 fn upgrades_texts(rt: HostRuntime) -> Result<(), Fail> {
     let alloc = rt.alloc();
     for text in [LOCK, EVENT, MM, RAMFS, SCHED] {
-        let newer = in_version_2(alloc, text, "demand")?;
-        assert!(rt; answers(alloc, "upgrade", text, Done, &newer)?, "{text:?}");
-        assert!(rt;
-            answers(alloc, "upgrade", &newer, Done, &newer)?,
-            "{text:?}"
-        );
-        let eager = in_version_2(alloc, text, "eager")?;
-        assert!(rt;
-            answers(alloc, "upgrade", &eager, Done, &eager)?,
-            "{text:?}"
-        );
+        assert!(rt; is_upgraded(alloc, text)?, "{text:?}");
     }
-    assert!(rt; answers(alloc, "upgrade", EVENT2, Done, EVENT2)?);
+    assert!(rt; becomes(alloc, EVENT2, EVENT2)?);
     Ok(())
 }
 
 // A command, a word of a text of locks in version 2 and what stands in its place, and the status and the output.
-static HEADS: [(&str, &str, &str, Status, &[u8]); 7] = [
+type Head = (
+    &'static str,
+    &'static str,
+    &'static str,
+    Status,
+    &'static [u8],
+);
+
+static HEADS: [Head; 7] = [
     ("check", "2", "002", Done, b"accepted lock\n"),
     ("check", "demand", "eager", Done, b"accepted lock\n"),
     (
@@ -78,18 +94,26 @@ static HEADS: [(&str, &str, &str, Status, &[u8]); 7] = [
     ),
 ];
 
-#[test]
-fn reads_heads_of_version_2(rt: HostRuntime) -> Result<(), Fail> {
-    let alloc = rt.alloc();
-    let text = in_version_2(alloc, LOCK, "demand")?;
-    for (command, old, new, status, written) in &HEADS {
-        let text = changed(alloc, &text, old, new)?;
-        assert!(rt;
-            answers(alloc, command, &text, *status, written)?,
-            "{old} {new}"
-        );
+// Whether a text of locks in version 2 with a change comes to its status and its output.
+fn answers_changed(alloc: Global, text: &[u8], head: &Head) -> Result<bool, NoMemory> {
+    let (command, old, new, status, written) = head;
+    let text = changed(alloc, text, old, new)?;
+    answers(alloc, command, &text, *status, written)
+}
+
+// Each change of a text of locks in version 2 comes to its status and its output.
+fn try_heads(rt: &impl Abort, alloc: Global, text: &[u8]) -> Result<(), NoMemory> {
+    for head in &HEADS {
+        let (_, old, new, _, _) = head;
+        assert!(rt; answers_changed(alloc, text, head)?, "{old} {new}");
     }
     Ok(())
+}
+
+#[test]
+fn reads_heads_of_version_2(rt: HostRuntime) -> Result<(), Fail> {
+    let text = in_version_2(rt.alloc(), LOCK, "demand")?;
+    Ok(try_heads(&rt, rt.alloc(), &text)?)
 }
 
 // Events in version 1 with a function that only version 2 can declare.
@@ -102,38 +126,49 @@ const TAKE_2: &[u8] =
     b"desc_data_retval_sub(long, count) evt_take(spdid_t spdid, unsigned long desc(id), unsigned long n);
 ";
 
+// Whether the text of events with more at its end is refused with this line.
+fn refuses_events_with(alloc: Global, more: &[u8], line: &[u8]) -> Result<bool, NoMemory> {
+    let text = joined(alloc, EVENT, more)?;
+    answers(alloc, "check", &text, Refused, line)
+}
+
+// Whether a text is accepted in version 1, and written in version 2, where it is no sentence.
+fn is_no_sentence_then(alloc: Global, text: &[u8]) -> Result<bool, NoMemory> {
+    let newer = in_version_2(alloc, text, "demand")?;
+    let line = b"interface refused at 23:34: Syntax\n";
+    Ok(
+        answers(alloc, "check", text, Done, b"accepted lock\n")?
+            && becomes(alloc, text, &newer)?
+            && answers(alloc, "check", &newer, Refused, line)?,
+    )
+}
+
 #[test]
 fn keeps_a_word_for_version_2(rt: HostRuntime) -> Result<(), Fail> {
     let alloc = rt.alloc();
-    let text = joined(alloc, EVENT, TAKE)?;
     let line = b"interface refused at 27:5: WrongEffect\n";
-    assert!(rt; answers(alloc, "check", &text, Refused, line)?);
-    let text = joined(alloc, EVENT, TAKE_2)?;
+    assert!(rt; refuses_events_with(alloc, TAKE, line)?);
     let line = b"interface refused at 25:21: Syntax\n";
-    assert!(rt; answers(alloc, "check", &text, Refused, line)?);
+    assert!(rt; refuses_events_with(alloc, TAKE_2, line)?);
     // a name of version 1 that is the word of version 2 is written all the same, and then no sentence
     let text = changed(alloc, LOCK, "spdid_t spdid", "spdid_t desc_data_retval_sub")?;
-    assert!(rt; answers(alloc, "check", &text, Done, b"accepted lock\n")?);
-    let newer = in_version_2(alloc, &text, "demand")?;
-    assert!(rt; answers(alloc, "upgrade", &text, Done, &newer)?);
-    let line = b"interface refused at 23:34: Syntax\n";
-    assert!(rt; answers(alloc, "check", &newer, Refused, line)?);
+    assert!(rt; is_no_sentence_then(alloc, &text)?);
     Ok(())
 }
 
-// What a script comes to under an interface, with its trace.
-fn traced(alloc: Global, interface: &[u8], script: &[u8]) -> Result<Vec<u8>, Fail> {
-    let mut words = Vec::new(alloc);
-    words.push("sim".to_string(alloc)?)?;
-    words.push("trace".to_string(alloc)?)?;
-    let input = joined(alloc, &joined(alloc, interface, DIVIDER)?, script)?;
-    let mut source = MemSource::new(alloc, &input, 4_096, &[])?;
+// Whether an input is played so, with its trace.
+fn is_traced(alloc: Global, input: &[u8], printed: &[u8]) -> Result<bool, NoMemory> {
+    let words = words_of(alloc, &["sim", "trace"])?;
+    let mut source = MemSource::new(alloc, input, 4_096, &[])?;
     let mut sink = MemSink::new(alloc, 4_096, &[])?;
-    let answer = serial(alloc, &words, &mut source, &mut sink);
-    if answer.status != Done {
-        return Err("not done")?;
-    }
-    Ok(Vec::from_slice(alloc, sink.written())?)
+    let (status, _) = said(serial(alloc, &words, &mut source, &mut sink));
+    Ok(status == Done && sink.written() == printed)
+}
+
+// Whether a script is played so under an interface, with its trace.
+fn plays(alloc: Global, interface: &[u8], script: &[u8], printed: &[u8]) -> Result<bool, NoMemory> {
+    let input = input_of(alloc, interface, script)?;
+    is_traced(alloc, &input, printed)
 }
 
 const TAKES: &[u8] =
@@ -199,14 +234,18 @@ call c1.4 lock_release(1) replied
 points 25
 ";
 
+// Whether two locks are recovered so under the interface of locks in version 2.
+fn plays_locks(alloc: Global, recover: &str, printed: &[u8]) -> Result<bool, NoMemory> {
+    let text = in_version_2(alloc, LOCK, recover)?;
+    plays(alloc, &text, TWO_LOCKS, printed)
+}
+
 #[test]
 fn plays_texts_of_version_2(rt: HostRuntime) -> Result<(), Fail> {
     let alloc = rt.alloc();
-    assert!(rt; traced(alloc, EVENT2, TAKES)?.as_slice() == TAKEN);
-    let demand = in_version_2(alloc, LOCK, "demand")?;
-    assert!(rt; traced(alloc, &demand, TWO_LOCKS)?.as_slice() == ON_DEMAND);
-    let eager = in_version_2(alloc, LOCK, "eager")?;
-    assert!(rt; traced(alloc, &eager, TWO_LOCKS)?.as_slice() == EAGER);
+    assert!(rt; plays(alloc, EVENT2, TAKES, TAKEN)?);
+    assert!(rt; plays_locks(alloc, "demand", ON_DEMAND)?);
+    assert!(rt; plays_locks(alloc, "eager", EAGER)?);
     Ok(())
 }
 

@@ -1,6 +1,7 @@
 -- What is served, replayed and committed of the first lock.
 use Rattle.std.proofs.Common.{◌≡◌, ℕ, ◌+◌, ◌≤◌, ◌<◌, Bool, true, false, List, [], ◌∷◌, None, Some, length, refl, sym, ◌∙◌, ap, subst, inl, arith}
-use Rattle.std.specs.Prelude.{◌^◌}
+use Rattle.std.specs.Prelude.{◌^◌, IsSome}
+use Rattle.std.specs.Option.{is_some}
 use Rattle.std.specs.declared.option.Option.{Option}
 use Rattle.std.specs.declared.result.Result.TheVariants.{Ok as Done}
 use Rattle.sg_facts.specs.sg_base.declared.call.Call.{Call}
@@ -8,12 +9,14 @@ use Rattle.sg_facts.specs.sg_base.declared.reply.Good.{Good}
 use Rattle.sg_facts.specs.sg_base.declared.reply.Reply.{Reply}
 use Rattle.sg_facts.specs.sg_base.declared.reply.Reply.TheVariants.{Ok, Refused}
 use Rattle.sg_facts.specs.declared.outcome.Patch.{Patch}
+use Rattle.sg_facts.specs.declared.row.Row.{Row}
 use Rattle.sg_facts.specs.Alike.{under_names}
 use Rattle.sg_facts.specs.Invoke.{Points}
 use Rattle.sg_facts.specs.Kinds.{MayAsk}
 use Rattle.sg_facts.specs.Interface.{Declared}
 use Rattle.sg_facts.specs.Needs.{Needs, wanted}
 use Rattle.sg_facts.specs.Object.{Object, after, empty_object, patch_of}
+use Rattle.sg_facts.specs.Inside.Rows.{given_after, track}
 use Rattle.sg_facts.specs.Track.{row_at}
 use Rattle.sg_replay.specs.sg_hist.Inside.Parts.{call_in}
 use Rattle.test_tables.specs.sg_lock.LockFacts.{lock_facts}
@@ -135,6 +138,19 @@ may_commit_make e call told patch is its room given stored_room stored_given cli
       };
       marked = tt;
     })))
+
+-- where nothing was tracked, the first lock is then
+pub first_made : (rows : List Row) (given : ℕ) (call : Call) (told : Reply) → rows ≡ [] → given ≡ 0 → call ≡ make_call → told ≡ ok_at 1
+    → (track lock_facts rows call told ≡ first_lock ∷ []) × (given_after lock_facts given call told ≡ 1)
+first_made rows given call told none zero is its = (
+  ap (λ r. track lock_facts r call told) none ∙ ap (λ c. track lock_facts [] c told) is ∙ ap (λ r. track lock_facts [] make_call r) its,
+  ap (λ n. given_after lock_facts n call told) zero ∙ ap (λ c. given_after lock_facts 0 c told) is ∙ ap (λ r. given_after lock_facts 0 make_call r) its,
+)
+
+-- and the service that told it goes on
+pub goes_on : (old e new : Engined) (call : Call) (points later : Points) (told : Reply) (patch : Option Patch)
+    → TellsReply lock_facts lock_table lock_parts empty_object old call points told patch e later → new.cell ≡ e.cell → IsSome new.cell.running
+goes_on old e new call points later told patch tells same = ap is_some (ap (λ c. c.running) same ∙ tells.notes.running)
 
 -- ---- it is rebuilt
 

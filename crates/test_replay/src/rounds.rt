@@ -1,7 +1,8 @@
 // A stop, a boot, and what an engine tells then.
 ghost use Rattle.std.specs.Prelude.{◌≡◌, ◌≤◌, None, IsSome, OnOk};
 
-use sg_facts::{Call, NoMemory, Service};
+use crate::ending::discard;
+use sg_facts::{Call, NoMemory, Service, Tables};
 use sg_replay::Engine;
 use std::alloc::Global;
 use std::process::Abort;
@@ -51,52 +52,61 @@ fn stop<S: Service>(alloc: Global, engine: &mut Engine<S>, call: &Call) -> Resul
 }
 
 // An engine that was just made stops once and boots again. The first call makes a descriptor.
-fn round<S: Service>(rt: &impl Abort, alloc: Global, engine: &mut Engine<S>) -> Result<(), Fail>
+fn round<S: Service>(
+    rt: &impl Abort,
+    alloc: Global,
+    engine: &mut Engine<S>,
+    first: &Call,
+) -> Result<(), Fail>
     requires { IsSome engine.old.cell.running }
 {
-    let first = call(alloc, 1, 1, 0);
     assert!(rt; is_empty_in(engine, 1, 0));
-    assert!(rt; may_be_served(alloc, engine, &first)?);
-    stop(alloc, engine, &first)?;
+    assert!(rt; may_be_served(alloc, engine, first)?);
+    stop(alloc, engine, first)?;
     assert!(rt; failed_at(engine, 3));
     engine.boot(alloc);
     engine.count(4);
     assert!(rt; is_empty_in(engine, 2, 4));
-    assert!(rt; may_be_served(alloc, engine, &first)?);
+    assert!(rt; may_be_served(alloc, engine, first)?);
     Ok(())
+}
+
+// A round of a service under its tables.
+fn stops_and_boots<S: Service>(rt: &impl Abort, alloc: Global, tables: Tables) -> Result<(), Fail>
+    requires { tables.iface.facts ≡ S.facts }
+{
+    let mut engine = Engine::<S>::new(alloc, tables, 2)?;
+    let done = round(rt, alloc, &mut engine, &call(alloc, 1, 1, 0));
+    discard(engine);
+    done
 }
 
 #[test]
 fn locks_stop_and_boot(rt: HostRuntime) -> Result<(), Fail> {
     let tables = lock_tables(rt.alloc())?;
-    let mut engine = Engine::<LockService>::new(rt.alloc(), tables, 2)?;
-    round(&rt, rt.alloc(), &mut engine)
+    stops_and_boots::<LockService>(&rt, rt.alloc(), tables)
 }
 
 #[test]
 fn events_stop_and_boot(rt: HostRuntime) -> Result<(), Fail> {
     let tables = event_tables(rt.alloc())?;
-    let mut engine = Engine::<EventService>::new(rt.alloc(), tables, 2)?;
-    round(&rt, rt.alloc(), &mut engine)
+    stops_and_boots::<EventService>(&rt, rt.alloc(), tables)
 }
 
 #[test]
 fn pages_stop_and_boot(rt: HostRuntime) -> Result<(), Fail> {
     let tables = mm_tables(rt.alloc())?;
-    let mut engine = Engine::<MmService>::new(rt.alloc(), tables, 2)?;
-    round(&rt, rt.alloc(), &mut engine)
+    stops_and_boots::<MmService>(&rt, rt.alloc(), tables)
 }
 
 #[test]
 fn files_stop_and_boot(rt: HostRuntime) -> Result<(), Fail> {
     let tables = ramfs_tables(rt.alloc())?;
-    let mut engine = Engine::<RamfsService>::new(rt.alloc(), tables, 2)?;
-    round(&rt, rt.alloc(), &mut engine)
+    stops_and_boots::<RamfsService>(&rt, rt.alloc(), tables)
 }
 
 #[test]
 fn threads_stop_and_boot(rt: HostRuntime) -> Result<(), Fail> {
     let tables = sched_tables(rt.alloc())?;
-    let mut engine = Engine::<SchedService>::new(rt.alloc(), tables, 2)?;
-    round(&rt, rt.alloc(), &mut engine)
+    stops_and_boots::<SchedService>(&rt, rt.alloc(), tables)
 }

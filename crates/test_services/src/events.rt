@@ -64,22 +64,17 @@ fn with_number(alloc: Global, fun: u8, n: u64) -> Result<Call, NoMemory>
     })
 }
 
-// A service with one event.
-fn one_event(alloc: Global) -> Result<EventService, Outcome>
-    ensures { IfOk result (λ service. object_of event_body service.slots
+// Makes the first event.
+fn make(service: &mut EventService, alloc: Global) -> Result<(), Outcome>
+    requires { object_of event_body service.old.slots ≡ empty_object }
+    ensures { OnOk result (object_of event_body service.new.slots
         ≡ object_of event_body (record { entries = (1, record { creator = 1; count = 0 }) ∷ []; given = 1 })) }
 {
-    let mut service = EventService::fresh(alloc);
-    match ask(
-        &mut service,
-        alloc,
-        &mut Once::new(0),
-        &call(alloc, 1, 1, 0),
-    ) {
+    match ask(service, alloc, &mut Once::new(0), &call(alloc, 1, 1, 0)) {
         Outcome::Replied {
             reply: Reply::Ok(_),
             ..
-        } => Ok(service),
+        } => Ok(()),
         other => Err(other),
     }
 }
@@ -120,12 +115,25 @@ fn outcome(service: &mut EventService, alloc: Global, count: u32, asked: Asked) 
     }
 }
 
-// What an event of a count answers, and the count then; None where the event has ended.
-fn answered(alloc: Global, count: u32, asked: Asked) -> Result<(Answer, Option<u32>), Outcome> {
-    let mut service = one_event(alloc)?;
-    raise(&mut service, alloc, count)?;
-    let answer = answer_of(outcome(&mut service, alloc, count, asked))?;
+// What an event of a count answers, from a fresh service on, and the count then; None where the event has ended.
+fn answered_by(
+    service: &mut EventService,
+    alloc: Global,
+    count: u32,
+    asked: Asked,
+) -> Result<(Answer, Option<u32>), Outcome>
+    requires { object_of event_body service.old.slots ≡ empty_object }
+{
+    make(service, alloc)?;
+    raise(service, alloc, count)?;
+    let answer = answer_of(outcome(service, alloc, count, asked))?;
     Ok((answer, service.get(1).map(|event| event.count)))
+}
+
+// The same of a service of its own.
+fn answered(alloc: Global, count: u32, asked: Asked) -> Result<(Answer, Option<u32>), Outcome> {
+    let mut service = EventService::fresh(alloc);
+    answered_by(&mut service, alloc, count, asked)
 }
 
 #[test]

@@ -81,77 +81,124 @@ fn interface(alloc: Global, global: bool, declared: u32) -> Result<Interface, No
     })
 }
 
+// An interface declares these functions, and no others.
+fn declare(rt: &impl Abort, iface: &Interface, cases: &[(u8, bool)]) {
+    for (fun, want) in cases {
+        assert_eq!(rt; iface.declares(*fun), *want, "function {fun}");
+    }
+}
+
+// An interface moves on so.
+fn move_on(rt: &impl Abort, iface: &Interface, cases: &[(u8, u8, bool)]) {
+    for (state, fun, want) in cases {
+        assert_eq!(rt; iface.moves_on(*state, *fun), *want, "{state} to {fun}");
+    }
+}
+
+// Which of some functions are declared.
+static DECLARED: [(u8, bool); 7] = [
+    (0, false),
+    (1, true),
+    (2, true),
+    (3, false),
+    (4, true),
+    (5, false),
+    (255, false),
+];
+
+// Which are where all are.
+static ALL_DECLARED: [(u8, bool); 4] = [(0, false), (1, true), (32, true), (33, false)];
+
+// Which functions move a state on.
+static MOVED: [(u8, u8, bool); 5] = [
+    (1, 2, true),
+    (1, 3, true),
+    (2, 1, false),
+    (1, 1, false),
+    (0, 0, false),
+];
+
 #[test]
 fn reads_declarations(rt: HostRuntime) -> Result<(), Fail> {
     let some = interface(rt.alloc(), false, 0b1011)?;
-    for (fun, want) in [
-        (0, false),
-        (1, true),
-        (2, true),
-        (3, false),
-        (4, true),
-        (5, false),
-        (255, false),
-    ] {
-        assert_eq!(rt; some.declares(fun), want, "function {fun}");
-    }
-    let all = interface(rt.alloc(), false, u32::MAX)?;
-    for (fun, want) in [(0, false), (1, true), (32, true), (33, false)] {
-        assert_eq!(rt; all.declares(fun), want, "function {fun} of all");
-    }
-    for (state, fun, want) in [
-        (1, 2, true),
-        (1, 3, true),
-        (2, 1, false),
-        (1, 1, false),
-        (0, 0, false),
-    ] {
-        assert_eq!(rt; some.moves_on(state, fun), want, "{state} to {fun}");
-    }
+    declare(&rt, &some, &DECLARED);
+    move_on(&rt, &some, &MOVED);
     Ok(())
 }
+
+#[test]
+fn reads_that_all_are_declared(rt: HostRuntime) -> Result<(), Fail> {
+    let all = interface(rt.alloc(), false, u32::MAX)?;
+    declare(&rt, &all, &ALL_DECLARED);
+    Ok(())
+}
+
+// Which functions are visible where descriptors are a client's own.
+static VISIBLE: [(u8, bool); 7] = [
+    (0, false),
+    (1, true),
+    (2, true),
+    (3, false),
+    (4, false),
+    (5, false),
+    (255, false),
+];
 
 #[test]
 fn tells_visible_functions(rt: HostRuntime) -> Result<(), Fail> {
     let private = interface(rt.alloc(), false, 0b1111)?;
-    let global = interface(rt.alloc(), true, 0b1111)?;
-    for (fun, want) in [
-        (0, false),
-        (1, true),
-        (2, true),
-        (3, false),
-        (4, false),
-        (5, false),
-        (255, false),
-    ] {
-        assert_eq!(rt; private.visible(fun), want, "function {fun}");
-        assert!(rt; global.visible(fun), "function {fun}, seen by all");
+    for (fun, want) in &VISIBLE {
+        assert_eq!(rt; private.visible(*fun), *want, "function {fun}");
     }
     Ok(())
 }
 
 #[test]
-fn keeps_fields_in_order(rt: HostRuntime) -> Result<(), Fail> {
-    let mut fields = Fields::new(rt.alloc());
+fn tells_that_all_are_visible(rt: HostRuntime) -> Result<(), Fail> {
+    let global = interface(rt.alloc(), true, 0b1111)?;
+    for (fun, _) in &VISIBLE {
+        assert!(rt; global.visible(*fun), "function {fun}, seen by all");
+    }
+    Ok(())
+}
+
+// Whether a value is this text.
+fn is_text(value: Option<Value>, text: &[u8]) -> bool {
+    match value {
+        Some(Value::Text(it)) => it.bytes() == text,
+        Some(Value::Word(_)) | None => false,
+    }
+}
+
+// Whether fields are one word.
+fn is_one_word(alloc: Global, fields: &Fields, word: u64) -> Result<bool, NoMemory> {
+    let one = Vec::from_array(alloc, [Value::Word(word)])?;
+    Ok(*fields == Fields::from_vec(one))
+}
+
+// A word and a text are kept in an empty list, the text is taken away, and the word is changed.
+fn keep_two(rt: &impl Abort, alloc: Global, fields: &mut Fields) -> Result<(), Fail> {
     assert!(rt; fields.is_empty());
-    assert_eq!(rt; fields.pop(), None);
+    assert!(rt; fields.pop().is_none());
     fields.push(Value::Word(7))?;
-    fields.push(Value::Text(Text::new(rt.alloc(), b"a")?))?;
+    fields.push(Value::Text(Text::new(alloc, b"a")?))?;
     assert!(rt; !fields.is_empty());
     assert_eq!(rt; fields.len(), 2);
     assert_eq!(rt; fields.as_slice().len(), 2);
     assert!(rt; matches!(fields.get(0), Some(Value::Word(7))));
     assert!(rt; matches!(fields.get(1), Some(Value::Text(_))));
     assert!(rt; fields.get(2).is_none());
-    assert_eq!(rt;
-        fields.pop(),
-        Some(Value::Text(Text::new(rt.alloc(), b"a")?))
-    );
+    assert!(rt; is_text(fields.pop(), b"a"));
     assert_eq!(rt; fields.len(), 1);
     fields.set(0, Value::Word(9));
-    let one = Vec::from_array(rt.alloc(), [Value::Word(9)])?;
-    assert_eq!(rt; fields, Fields::from_vec(one));
+    assert!(rt; is_one_word(alloc, fields, 9)?);
     Ok(())
+}
+
+#[test]
+fn keeps_fields_in_order(rt: HostRuntime) -> Result<(), Fail> {
+    let mut fields = Fields::new(rt.alloc());
+    keep_two(&rt, rt.alloc(), &mut fields)
 }
 
 // A row with these words as its fields.
@@ -170,6 +217,20 @@ fn row(alloc: Global, words: &[u64]) -> Result<Row, NoMemory> {
     })
 }
 
+// The set of these words, where they are a row's fields.
+fn mask_of(alloc: Global, words: &[u64]) -> Result<u8, NoMemory> {
+    let row = row(alloc, words)?;
+    Ok(row.mask())
+}
+
+// Adds texts to a row's fields.
+fn add_texts(alloc: Global, row: &mut Row, texts: &[&[u8]]) -> Result<(), Fail> {
+    for text in texts {
+        row.fields.push(Value::Text(Text::new(alloc, text)?))?;
+    }
+    Ok(())
+}
+
 #[test]
 fn masks_the_fields_that_are_set(rt: HostRuntime) -> Result<(), Fail> {
     for (words, want) in [
@@ -181,14 +242,15 @@ fn masks_the_fields_that_are_set(rt: HostRuntime) -> Result<(), Fail> {
         (&[1, 1, 1, 1, 1, 1, 1, 1], 255),
         (&[0, 0, 0, 0, 0, 0, 0, 0, 1], 0),
     ] {
-        assert_eq!(rt; row(rt.alloc(), words)?.mask(), want, "{words:?}");
+        assert_eq!(rt; mask_of(rt.alloc(), words)?, want, "{words:?}");
     }
+    Ok(())
+}
+
+#[test]
+fn masks_no_empty_text(rt: HostRuntime) -> Result<(), Fail> {
     let mut texts = row(rt.alloc(), &[])?;
-    for text in [b"".as_slice(), b"a", b""] {
-        texts
-            .fields
-            .push(Value::Text(Text::new(rt.alloc(), text)?))?;
-    }
+    add_texts(rt.alloc(), &mut texts, &[b"".as_slice(), b"a", b""])?;
     assert_eq!(rt; texts.mask(), 2, "an empty text isn't set");
     Ok(())
 }
@@ -229,27 +291,69 @@ fn patch(alloc: Global) -> Result<Patch, NoMemory> {
     })
 }
 
+// A row and its fields are copied.
+fn copies_a_row(rt: &impl Abort, alloc: Global) -> Result<(), NoMemory> {
+    let row = row(alloc, &[5, 0, 7])?;
+    copies(rt, alloc, &row.fields)?;
+    copies(rt, alloc, &row)
+}
+
+// An entry is copied.
+fn copies_an_entry(rt: &impl Abort, alloc: Global) -> Result<(), NoMemory> {
+    let entry = entry(alloc)?;
+    copies(rt, alloc, &entry)
+}
+
+// A patch is copied.
+fn copies_a_patch(rt: &impl Abort, alloc: Global) -> Result<(), NoMemory> {
+    let patch = patch(alloc)?;
+    copies(rt, alloc, &patch)
+}
+
 #[test]
 fn copies_are_equal(rt: HostRuntime) -> Result<(), Fail> {
-    let alloc = rt.alloc();
-    let row = row(alloc, &[5, 0, 7])?;
-    copies(&rt, alloc, &row.fields)?;
-    copies(&rt, alloc, &row)?;
-    copies(&rt, alloc, &entry(alloc)?)?;
-    copies(&rt, alloc, &patch(alloc)?)?;
+    copies_a_row(&rt, rt.alloc())?;
+    copies_an_entry(&rt, rt.alloc())?;
+    copies_a_patch(&rt, rt.alloc())?;
     Ok(())
+}
+
+// Whether fields fill the room that is taken for them.
+fn fill_room(alloc: Global, fields: &Fields) -> Result<bool, NoMemory> {
+    if fields.len() > Fields::MOST {
+        return Ok(false);
+    }
+    let filled = Fields::room(alloc)?.fill(fields);
+    Ok(filled == *fields)
+}
+
+// Whether a patch fills the room that is taken for it.
+fn fills_room(alloc: Global, patch: &Patch) -> Result<bool, NoMemory> {
+    if patch.key.len() > 256 || patch.bytes.len() > 256 {
+        return Ok(false);
+    }
+    let filled = Patch::room(alloc)?.fill(patch);
+    Ok(filled == *patch)
+}
+
+// Words and a text.
+fn words_and_text(alloc: Global) -> Result<Fields, Fail> {
+    let mut fields = row(alloc, &[5, 0, 7])?.fields;
+    fields.push(Value::Text(Text::new(alloc, b"name")?))?;
+    Ok(fields)
 }
 
 #[test]
 fn fills_the_room_that_it_takes(rt: HostRuntime) -> Result<(), Fail> {
-    let alloc = rt.alloc();
-    let mut fields = row(alloc, &[5, 0, 7])?.fields;
-    fields.push(Value::Text(Text::new(alloc, b"name")?))?;
-    assert!(rt; fields.len() <= Fields::MOST);
-    assert_eq!(rt; Fields::room(alloc)?.fill(&fields), fields);
-    let patch = patch(alloc)?;
-    assert!(rt; patch.key.len() <= 256 && patch.bytes.len() <= 256);
-    assert_eq!(rt; Patch::room(alloc)?.fill(&patch), patch);
+    let fields = words_and_text(rt.alloc())?;
+    assert!(rt; fill_room(rt.alloc(), &fields)?);
+    Ok(())
+}
+
+#[test]
+fn fills_the_room_of_a_patch(rt: HostRuntime) -> Result<(), Fail> {
+    let patch = patch(rt.alloc())?;
+    assert!(rt; fills_room(rt.alloc(), &patch)?);
     Ok(())
 }
 
@@ -276,16 +380,29 @@ fn keeps_functions_in_order(rt: HostRuntime) -> Result<(), Fail> {
 }
 
 #[test]
-fn tells_flags_and_recover_steps(rt: HostRuntime) -> Result<(), Fail> {
+fn tells_flags(rt: HostRuntime) {
     assert!(rt; FUNS[0].is_creation() && !FUNS[0].is_terminal() && !FUNS[0].is_query());
     assert!(rt; !FUNS[2].is_creation() && FUNS[2].is_terminal() && !FUNS[2].is_query());
     assert!(rt; !FUNS[3].is_creation() && !FUNS[3].is_terminal() && FUNS[3].is_query());
+}
+
+// Which functions are recover steps of a state.
+static STEPPED: [(u8, u8, bool); 4] = [(1, 2, true), (2, 2, true), (2, 1, false), (1, 1, false)];
+
+// An interface steps on so.
+fn step_on(rt: &impl Abort, iface: &Interface) {
+    for (state, fun, want) in &STEPPED {
+        assert_eq!(rt; iface.steps_on(*state, *fun), *want, "{state} to {fun}");
+    }
+}
+
+#[test]
+fn tells_recover_steps(rt: HostRuntime) -> Result<(), Fail> {
+    let steps = PairList::from_slice(rt.alloc(), &[(1, 2), (2, 2)])?;
     let mut some = interface(rt.alloc(), false, 0b1011)?;
     assert!(rt; !some.steps_on(1, 2));
-    some.steps = PairList::from_slice(rt.alloc(), &[(1, 2), (2, 2)])?;
-    for (state, fun, want) in [(1, 2, true), (2, 2, true), (2, 1, false), (1, 1, false)] {
-        assert_eq!(rt; some.steps_on(state, fun), want, "{state} to {fun}");
-    }
+    some.steps = steps;
+    step_on(&rt, &some);
     Ok(())
 }
 

@@ -4,20 +4,20 @@ ghost use Rattle.sg_facts.specs.Object.{empty_object};
 ghost use Rattle.sg_lock.specs.sg_slots.Slots.{object_of};
 ghost use Rattle.sg_lock.specs.LockRow.{lock_body};
 
-use sg_facts::{Code, Good, NoMemory, Outcome, Path, Reply, Service, Stops};
+use sg_facts::{Code, NoMemory, Outcome, Path, Reply, Service, Stops};
 use sg_lock::{Lock, LockService};
 use std::alloc::Global;
 use std::process::Abort;
 use std::test::Fail;
 use test_asking::{Once, ask, call};
 
-// Makes the first lock.
+// Makes the first lock, and tells its descriptor.
 fn make(
     service: &mut LockService,
     alloc: Global,
     stops: &mut Once,
     client: u8,
-) -> Result<Good, Outcome>
+) -> Result<u64, Outcome>
     requires fresh { object_of lock_body service.old.slots ≡ empty_object }
     requires client_first { 1 ≤ client }
     requires client_last { client ≤ 64 }
@@ -27,7 +27,7 @@ fn make(
     let call = call(alloc, client, 1, 0);
     match ask(service, alloc, stops, &call) {
         Outcome::Replied { reply, patch } => match reply {
-            Reply::Ok(good) => Ok(good),
+            Reply::Ok(good) => Ok(good.desc),
             refused => Err(Outcome::Replied {
                 reply: refused,
                 patch,
@@ -37,7 +37,7 @@ fn make(
     }
 }
 
-// Asks for a change of the one lock, which is as told.
+// Asks for a change of the one lock, which is as told, and tells the descriptor of the reply.
 fn change(
     service: &mut LockService,
     alloc: Global,
@@ -45,7 +45,7 @@ fn change(
     client: u8,
     fun: u8,
     lock: Lock,
-) -> Result<Good, Outcome>
+) -> Result<u64, Outcome>
     requires lock { object_of lock_body service.old.slots ≡ object_of lock_body (record { entries = (1, lock) ∷ []; given = 1 }) }
     requires client_first { 1 ≤ client }
     requires client_last { client ≤ 64 }
@@ -57,7 +57,7 @@ fn change(
     let call = call(alloc, client, fun, 1);
     match ask(service, alloc, stops, &call) {
         Outcome::Replied { reply, patch } => match reply {
-            Reply::Ok(good) => Ok(good),
+            Reply::Ok(good) => Ok(good.desc),
             refused => Err(Outcome::Replied {
                 reply: refused,
                 patch,
@@ -112,10 +112,10 @@ fn answers_on_one_lock(
         creator: 1,
         owner: 2,
     };
-    assert_eq!(rt; make(service, alloc, stops, 1)?.desc, 1);
+    assert_eq!(rt; make(service, alloc, stops, 1)?, 1);
     let code = refusal(service, alloc, stops, 1, 3, free)?;
     assert_eq!(rt; code, Some(Code::NotOwner), "released while free");
-    assert_eq!(rt; change(service, alloc, stops, 2, 2, free)?.desc, 0);
+    assert_eq!(rt; change(service, alloc, stops, 2, 2, free)?, 0);
     let code = refusal(service, alloc, stops, 2, 2, taken)?;
     assert_eq!(rt; code, Some(Code::Held), "taken by its owner");
     let code = refusal(service, alloc, stops, 1, 2, taken)?;
@@ -124,8 +124,8 @@ fn answers_on_one_lock(
     assert_eq!(rt; code, Some(Code::NotOwner), "released by another");
     let code = refusal(service, alloc, stops, 2, 4, taken)?;
     assert_eq!(rt; code, Some(Code::Held), "freed while it is owned");
-    assert_eq!(rt; change(service, alloc, stops, 2, 3, taken)?.desc, 0);
-    assert_eq!(rt; change(service, alloc, stops, 64, 4, free)?.desc, 0);
+    assert_eq!(rt; change(service, alloc, stops, 2, 3, taken)?, 0);
+    assert_eq!(rt; change(service, alloc, stops, 64, 4, free)?, 0);
     Ok(())
 }
 
@@ -148,24 +148,48 @@ fn serves_one_lock(rt: HostRuntime) -> Result<(), Fail> {
     Ok(())
 }
 
-#[test]
-fn stops_at_each_part(rt: HostRuntime) -> Result<(), Fail> {
-    let alloc = rt.alloc();
-    for point in [1, 2] {
-        let mut stops = Once::new(point);
-        let mut service = LockService::fresh(alloc);
-        let stopped = make(&mut service, alloc, &mut stops, 1).err();
-        assert!(rt; matches!(stopped, Some(Outcome::Stopped)), "at {point}");
-        assert_eq!(rt; stops.asked(), point);
+// Whether an answer is that the service stopped.
+fn has_stopped(answer: Result<u64, Outcome>) -> bool {
+    match answer {
+        Err(Outcome::Stopped) => true,
+        Ok(_) | Err(_) => false,
     }
-    let mut stops = Once::new(3);
+}
+
+// A lock isn't made where one of the parts of that is stopped.
+fn stops_while_making(rt: &impl Abort, alloc: Global, point: u64) {
+    let mut stops = Once::new(point);
     let mut service = LockService::fresh(alloc);
-    make(&mut service, alloc, &mut stops, 1)?;
+    assert!(rt;
+        has_stopped(make(&mut service, alloc, &mut stops, 1)),
+        "at {point}"
+    );
+    assert_eq!(rt; stops.asked(), point);
+}
+
+// A lock that is made, from a fresh service on, isn't taken where that is stopped; whether that is so.
+fn stops_while_taking(
+    alloc: Global,
+    service: &mut LockService,
+    stops: &mut Once,
+) -> Result<bool, Outcome>
+    requires fresh { object_of lock_body service.old.slots ≡ empty_object }
+{
     let free = Lock {
         creator: 1,
         owner: 0,
     };
-    let stopped = change(&mut service, alloc, &mut stops, 2, 2, free).err();
-    assert!(rt; matches!(stopped, Some(Outcome::Stopped)));
+    make(service, alloc, stops, 1)?;
+    Ok(has_stopped(change(service, alloc, stops, 2, 2, free)))
+}
+
+#[test]
+fn stops_at_each_part(rt: HostRuntime) -> Result<(), Fail> {
+    for point in [1, 2] {
+        stops_while_making(&rt, rt.alloc(), point);
+    }
+    let mut service = LockService::fresh(rt.alloc());
+    let stopped = stops_while_taking(rt.alloc(), &mut service, &mut Once::new(3));
+    assert!(rt; matches!(stopped, Ok(true)));
     Ok(())
 }

@@ -1,4 +1,6 @@
 // Copies of each kind of value, with memory and without.
+ghost use Rattle.sg_base.specs.Reply.{FitsReplyRoom};
+
 use sg_base::{
     Args, Bytes, Call, Code, Good, NoMemory, PairList, Reply, Text, TryCopy, Value, Words,
 };
@@ -18,15 +20,23 @@ fn copies<T: TryCopy + PartialEq + Debug + Drop>(
     Ok(())
 }
 
-#[test]
-fn copies_are_equal(rt: HostRuntime) -> Result<(), Fail> {
-    let alloc = rt.alloc();
-    copies(&rt, alloc, &200u8)?;
-    copies(&rt, alloc, &u64::MAX)?;
-    copies(&rt, alloc, &PairList::from_slice(alloc, &[(1, 2), (2, 1)])?)?;
+// Pairs are copied.
+fn copies_pairs(rt: &impl Abort, alloc: Global) -> Result<(), NoMemory> {
+    let pairs = PairList::from_slice(alloc, &[(1, 2), (2, 1)])?;
+    copies(rt, alloc, &pairs)
+}
+
+// A word and a text.
+fn word_and_text(alloc: Global) -> Result<Args, Fail> {
     let mut args = Args::new(alloc);
     args.push(Value::Word(12))?;
     args.push(Value::Text(Text::new(alloc, b"/log")?))?;
+    Ok(args)
+}
+
+// A call is copied.
+fn copies_a_call(rt: &impl Abort, alloc: Global) -> Result<(), Fail> {
+    let args = word_and_text(alloc)?;
     let call = Call {
         client: 3,
         seq: 4,
@@ -34,14 +44,37 @@ fn copies_are_equal(rt: HostRuntime) -> Result<(), Fail> {
         desc: 6,
         args,
     };
-    copies(&rt, alloc, &call)?;
-    Ok(())
+    Ok(copies(rt, alloc, &call)?)
 }
 
 #[test]
-fn fills_the_room_of_the_longest_reply(rt: HostRuntime) -> Result<(), Fail> {
+fn copies_are_equal(rt: HostRuntime) -> Result<(), Fail> {
     let alloc = rt.alloc();
-    let room = Reply::room(alloc)?;
+    copies(&rt, alloc, &200u8)?;
+    copies(&rt, alloc, &u64::MAX)?;
+    copies_pairs(&rt, alloc)?;
+    copies_a_call(&rt, alloc)
+}
+
+// Whether a reply fills the room that is taken for it.
+fn fills(alloc: Global, reply: &Reply) -> Result<bool, NoMemory>
+    requires { FitsReplyRoom reply.now }
+{
+    let filled = Reply::room(alloc)?.fill(reply);
+    Ok(filled == *reply)
+}
+
+// A reply is copied, and fills the room that is taken for it.
+fn copies_and_fills(rt: &impl Abort, alloc: Global, reply: &Reply) -> Result<(), NoMemory>
+    requires { FitsReplyRoom reply.now }
+{
+    copies(rt, alloc, reply)?;
+    assert!(rt; fills(alloc, reply)?);
+    Ok(())
+}
+
+// The longest reply.
+fn fills_the_most(rt: &impl Abort, alloc: Global) -> Result<(), NoMemory> {
     let words = Words::from_slice(alloc, &[5, 6, 7, u64::MAX])?;
     let bytes = Bytes::from_slice(alloc, &[0xAB; 256])?;
     assert!(rt; words.len() == 4 && bytes.len() == 256);
@@ -50,13 +83,22 @@ fn fills_the_room_of_the_longest_reply(rt: HostRuntime) -> Result<(), Fail> {
         words,
         bytes,
     });
-    copies(&rt, alloc, &most)?;
-    assert_eq!(rt; room.fill(&most), most);
-    let refusal = Reply::Refused(Code::Gap);
-    copies(&rt, alloc, &refusal)?;
-    assert_eq!(rt; Reply::room(alloc)?.fill(&refusal), refusal);
+    copies_and_fills(rt, alloc, &most)
+}
+
+// Whether the longest text fills the room that is taken for it.
+fn longest_text_fills(alloc: Global) -> Result<bool, Fail> {
     let text = Text::new(alloc, [b'z'; 256].as_slice())?;
-    assert_eq!(rt; Text::room(alloc)?.fill(&text), text);
+    let filled = Text::room(alloc)?.fill(&text);
+    Ok(filled == text)
+}
+
+#[test]
+fn fills_the_room_of_the_longest_reply(rt: HostRuntime) -> Result<(), Fail> {
+    let alloc = rt.alloc();
+    fills_the_most(&rt, alloc)?;
+    copies_and_fills(&rt, alloc, &Reply::Refused(Code::Gap))?;
+    assert!(rt; longest_text_fills(alloc)?);
     Ok(())
 }
 

@@ -63,8 +63,8 @@ fn written(alloc: Global, values: &[Value]) -> Result<String, NoMemory> {
     Ok(text)
 }
 
-/// Whether the entries of a play come again in a world of so many clients.
-pub fn come_again<S: Service>(
+// Whether the entries of a play come again in a world of so many clients.
+fn come_again<S: Service>(
     alloc: Global,
     tables: Tables,
     clients: u8,
@@ -74,4 +74,22 @@ pub fn come_again<S: Service>(
 {
     let entries = played.ended().history.as_slice();
     judged::<S, _, _>(alloc, tables, clients, Never::new(), &Again { entries })?
+}
+
+/// Whether a play comes again in a world of so many clients. It is dropped here alone, since all parts of a run are written out
+/// wherever one is dropped.
+pub fn plays_again<S: Service>(
+    alloc: Global,
+    tables: Tables,
+    clients: u8,
+    played: Played,
+) -> Result<bool, Fail>
+    requires { tables.iface.facts ≡ S.facts }
+{
+    come_again::<S>(alloc, tables, clients, &played)
+}
+
+/// Whether a play has the entries of another.
+pub fn is_like(played: Played, other: &Played) -> bool {
+    played.ended().history.as_slice() == other.ended().history.as_slice()
 }

@@ -1,14 +1,13 @@
 // Plays under interfaces that rebuild all descriptors before any call is served, with one stop at each point and with each two: where
 // one client is alone the entries are those of the play without stops, and else they come again.
-use crate::again::come_again;
-use crate::replays::played;
+use crate::again::is_like;
+use crate::replays::{played, replays};
+use sg_top::Played;
 use std::alloc::{AllocError, Global};
+use std::process::Abort;
 use std::test::Fail;
 use test_interfaces::{EVENT, LOCK, MM, RAMFS, SCHED, in_version_2};
 use test_tables::{MmService, RamfsService, SchedService, mm_tables, ramfs_tables, sched_tables};
-
-/// The number of clients of each play.
-const CLIENTS: u8 = 2;
 
 /// The last point of a stop alone.
 const LAST: u32 = 60;
@@ -55,60 +54,111 @@ fn all_stops(alloc: Global) -> Result<Vec<(u32, u32)>, AllocError> {
     Ok(stops)
 }
 
+// A script of client 1 alone has the entries of its play without stops, at each of these stops.
+fn has_its_entries(
+    rt: &impl Abort,
+    alloc: Global,
+    interface: &[u8],
+    script: &str,
+    all: &[(u32, u32)],
+    whole: &Played,
+) -> Result<(), Fail> {
+    for stops in all {
+        let played = played(alloc, interface, script, *stops)?;
+        assert!(rt; is_like(played, whole), "{script} {stops:?}");
+    }
+    Ok(())
+}
+
+// A script of client 1 alone gets what it gets without stops.
+fn gets_the_same(
+    rt: &impl Abort,
+    alloc: Global,
+    interface: &[u8],
+    script: &str,
+    all: &[(u32, u32)],
+) -> Result<(), Fail> {
+    let eager = in_version_2(alloc, interface, "eager")?;
+    let whole = played(alloc, &eager, script, (0, 0))?;
+    has_its_entries(rt, alloc, &eager, script, all, &whole)
+}
+
 #[test]
 fn a_client_alone_gets_what_it_gets_without_stops(rt: HostRuntime) -> Result<(), Fail> {
-    let alloc = rt.alloc();
+    let all = all_stops(rt.alloc())?;
     for (interface, script) in [(LOCK, LOCKS), (EVENT, EVENTS), (SCHED, RANKS)] {
-        let eager = in_version_2(alloc, interface, "eager")?;
-        let whole = played(alloc, &eager, script, (0, 0))?;
-        for stops in all_stops(alloc)? {
-            let played = played(alloc, &eager, script, stops)?;
-            let (one, other) = (played.ended(), whole.ended());
-            assert!(rt;
-                one.history.as_slice() == other.history.as_slice(),
-                "{script} {stops:?}"
-            );
-        }
+        gets_the_same(&rt, rt.alloc(), interface, script, &all)?;
+    }
+    Ok(())
+}
+
+// The play of a script of pages comes again, at each of these stops.
+fn replays_pages(
+    rt: &impl Abort,
+    alloc: Global,
+    script: &str,
+    all: &[(u32, u32)],
+) -> Result<(), Fail> {
+    let eager = in_version_2(alloc, MM, "eager")?;
+    for stops in all {
+        let tables = mm_tables(alloc)?;
+        let again = replays::<MmService>(alloc, tables, &eager, script, *stops)?;
+        assert!(rt; again, "{script} {stops:?}");
     }
     Ok(())
 }
 
 #[test]
 fn pages_come_again(rt: HostRuntime) -> Result<(), Fail> {
-    let alloc = rt.alloc();
-    let eager = in_version_2(alloc, MM, "eager")?;
-    for script in [ALIAS, SUBTREE] {
-        for stops in all_stops(alloc)? {
-            let played = played(alloc, &eager, script, stops)?;
-            let again = come_again::<MmService>(alloc, mm_tables(alloc)?, CLIENTS, &played)?;
-            assert!(rt; again, "{script} {stops:?}");
-        }
+    let all = all_stops(rt.alloc())?;
+    replays_pages(&rt, rt.alloc(), ALIAS, &all)?;
+    replays_pages(&rt, rt.alloc(), SUBTREE, &all)?;
+    Ok(())
+}
+
+// The play of a script of files comes again, at each of these stops.
+fn replays_files(
+    rt: &impl Abort,
+    alloc: Global,
+    script: &str,
+    all: &[(u32, u32)],
+) -> Result<(), Fail> {
+    let eager = in_version_2(alloc, RAMFS, "eager")?;
+    for stops in all {
+        let tables = ramfs_tables(alloc)?;
+        let again = replays::<RamfsService>(alloc, tables, &eager, script, *stops)?;
+        assert!(rt; again, "{script} {stops:?}");
     }
     Ok(())
 }
 
 #[test]
 fn files_come_again(rt: HostRuntime) -> Result<(), Fail> {
-    let alloc = rt.alloc();
-    let eager = in_version_2(alloc, RAMFS, "eager")?;
-    for script in [WRITTEN, HELD] {
-        for stops in all_stops(alloc)? {
-            let played = played(alloc, &eager, script, stops)?;
-            let again = come_again::<RamfsService>(alloc, ramfs_tables(alloc)?, CLIENTS, &played)?;
-            assert!(rt; again, "{script} {stops:?}");
-        }
+    let all = all_stops(rt.alloc())?;
+    replays_files(&rt, rt.alloc(), WRITTEN, &all)?;
+    replays_files(&rt, rt.alloc(), HELD, &all)?;
+    Ok(())
+}
+
+// The play of a script of threads comes again, at each of these stops.
+fn replays_threads(
+    rt: &impl Abort,
+    alloc: Global,
+    script: &str,
+    all: &[(u32, u32)],
+) -> Result<(), Fail> {
+    let eager = in_version_2(alloc, SCHED, "eager")?;
+    for stops in all {
+        let tables = sched_tables(alloc)?;
+        let again = replays::<SchedService>(alloc, tables, &eager, script, *stops)?;
+        assert!(rt; again, "{script} {stops:?}");
     }
     Ok(())
 }
 
 #[test]
 fn threads_come_again(rt: HostRuntime) -> Result<(), Fail> {
-    let alloc = rt.alloc();
-    let eager = in_version_2(alloc, SCHED, "eager")?;
-    for stops in all_stops(alloc)? {
-        let played = played(alloc, &eager, ASLEEP, stops)?;
-        let again = come_again::<SchedService>(alloc, sched_tables(alloc)?, CLIENTS, &played)?;
-        assert!(rt; again, "{stops:?}");
-    }
+    let all = all_stops(rt.alloc())?;
+    replays_threads(&rt, rt.alloc(), ASLEEP, &all)?;
     Ok(())
 }

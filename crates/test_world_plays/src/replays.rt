@@ -1,6 +1,9 @@
 // Plays in one thread with a stop at each point: their entries come again.
-use crate::again::come_again;
-use sg_edge::{MemSink, MemSource};
+ghost use Rattle.std.specs.Prelude.{◌≡◌};
+
+use crate::again::plays_again;
+use sg_edge::{MemSink, MemSource, NoMemory};
+use sg_facts::{Service, Tables};
 use sg_top::{Answer, Played, serial};
 use std::alloc::Global;
 use std::test::Fail;
@@ -32,15 +35,13 @@ const FILES: &str =
 const THREADS: &str =
     "setup { sched_create_thd(3); } client 1 { sched_sleep(1); sched_wait(1); sched_yield(1); } client 2 { sched_wakeup(1); sched_next(); } schedule 1 1 1 2 2;";
 
-/// The run of a script with a stop at a point, and at a second one; at 0 none is.
-pub fn played(
+// An input: an interface, and a script with a stop at a point, and at a second one; at 0 none is.
+fn input_of(
     alloc: Global,
     interface: &[u8],
     script: &str,
     stops: (u32, u32),
-) -> Result<Played, Fail> {
-    let mut words = Vec::new(alloc);
-    words.push("sim".to_string(alloc)?)?;
+) -> Result<Vec<u8>, Fail> {
     let text = match stops {
         (0, _) => format!(in alloc; "%%\n{script}\n")?,
         (point, 0) => format!(in alloc; "%%\n{script} stop {point};\n")?,
@@ -48,18 +49,59 @@ pub fn played(
     };
     let mut input = Vec::from_slice(alloc, interface)?;
     input.extend_from_slice(text.as_bytes())?;
-    let mut source = MemSource::new(alloc, &input, 4_096, &[])?;
+    Ok(input)
+}
+
+/// A list of one word.
+pub fn one_word(alloc: Global, word: &str) -> Result<Vec<String>, NoMemory> {
+    let mut words = Vec::new(alloc);
+    words.push(word.to_string(alloc)?)?;
+    Ok(words)
+}
+
+// The run of an input.
+fn run_of(alloc: Global, input: &[u8]) -> Result<Option<Played>, NoMemory> {
+    let words = one_word(alloc, "sim")?;
+    let mut source = MemSource::new(alloc, input, 4_096, &[])?;
     let mut sink = MemSink::new(alloc, 4_096, &[])?;
     let Answer { ended, .. } = serial(alloc, &words, &mut source, &mut sink);
-    Ok(ended.ok_or("no run")?)
+    Ok(ended)
+}
+
+/// The run of a script with a stop at a point, and at a second one; at 0 none is.
+pub fn played(
+    alloc: Global,
+    interface: &[u8],
+    script: &str,
+    stops: (u32, u32),
+) -> Result<Played, Fail> {
+    let input = input_of(alloc, interface, script, stops)?;
+    match run_of(alloc, input.as_slice())? {
+        Some(played) => Ok(played),
+        None => Err(Fail::new("no run")),
+    }
+}
+
+/// Whether the run of a script with such stops comes again.
+pub fn replays<S: Service>(
+    alloc: Global,
+    tables: Tables,
+    interface: &[u8],
+    script: &str,
+    stops: (u32, u32),
+) -> Result<bool, Fail>
+    requires { tables.iface.facts ≡ S.facts }
+{
+    let played = played(alloc, interface, script, stops)?;
+    plays_again::<S>(alloc, tables, CLIENTS, played)
 }
 
 #[test]
 fn locks_come_again(rt: HostRuntime) -> Result<(), Fail> {
     let alloc = rt.alloc();
     for point in 1..=LAST {
-        let played = played(alloc, LOCK, LOCKS, (point, 0))?;
-        let again = come_again::<LockService>(alloc, lock_tables(alloc)?, CLIENTS, &played)?;
+        let tables = lock_tables(alloc)?;
+        let again = replays::<LockService>(alloc, tables, LOCK, LOCKS, (point, 0))?;
         assert!(rt; again, "stop {point}");
     }
     Ok(())
@@ -69,8 +111,8 @@ fn locks_come_again(rt: HostRuntime) -> Result<(), Fail> {
 fn pages_come_again(rt: HostRuntime) -> Result<(), Fail> {
     let alloc = rt.alloc();
     for point in 1..=LAST {
-        let played = played(alloc, MM, PAGES, (point, 0))?;
-        let again = come_again::<MmService>(alloc, mm_tables(alloc)?, CLIENTS, &played)?;
+        let tables = mm_tables(alloc)?;
+        let again = replays::<MmService>(alloc, tables, MM, PAGES, (point, 0))?;
         assert!(rt; again, "stop {point}");
     }
     Ok(())
@@ -80,8 +122,8 @@ fn pages_come_again(rt: HostRuntime) -> Result<(), Fail> {
 fn files_come_again(rt: HostRuntime) -> Result<(), Fail> {
     let alloc = rt.alloc();
     for point in 1..=LAST {
-        let played = played(alloc, RAMFS, FILES, (point, 0))?;
-        let again = come_again::<RamfsService>(alloc, ramfs_tables(alloc)?, CLIENTS, &played)?;
+        let tables = ramfs_tables(alloc)?;
+        let again = replays::<RamfsService>(alloc, tables, RAMFS, FILES, (point, 0))?;
         assert!(rt; again, "stop {point}");
     }
     Ok(())
@@ -91,8 +133,8 @@ fn files_come_again(rt: HostRuntime) -> Result<(), Fail> {
 fn threads_come_again(rt: HostRuntime) -> Result<(), Fail> {
     let alloc = rt.alloc();
     for point in 1..=LAST {
-        let played = played(alloc, SCHED, THREADS, (point, 0))?;
-        let again = come_again::<SchedService>(alloc, sched_tables(alloc)?, CLIENTS, &played)?;
+        let tables = sched_tables(alloc)?;
+        let again = replays::<SchedService>(alloc, tables, SCHED, THREADS, (point, 0))?;
         assert!(rt; again, "stop {point}");
     }
     Ok(())

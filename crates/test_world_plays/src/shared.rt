@@ -1,6 +1,10 @@
 // Plays with a thread for each of 8 clients and two stops, 200 of each service: their entries come again.
-use crate::again::come_again;
-use sg_edge::{MemSink, MemSource, OpenGate};
+ghost use Rattle.std.specs.Prelude.{◌≡◌};
+
+use crate::again::plays_again;
+use crate::replays::one_word;
+use sg_edge::{MemSink, MemSource, NoMemory, OpenGate};
+use sg_facts::{Service, Tables};
 use sg_top::{Answer, Played, superglue};
 use std::alloc::Global;
 use std::sync::Wait;
@@ -64,6 +68,28 @@ fn script_of(alloc: Global, calls: Calls, round: u32) -> Result<String, Fail> {
     Ok(text)
 }
 
+// The input of a round.
+fn input_of(alloc: Global, interface: &[u8], calls: Calls, round: u32) -> Result<Vec<u8>, Fail> {
+    let script = script_of(alloc, calls, round)?;
+    let mut input = Vec::from_slice(alloc, interface)?;
+    input.extend_from_slice(b"%%\n")?;
+    input.extend_from_slice(script.as_bytes())?;
+    Ok(input)
+}
+
+// The run of an input.
+fn run_of<R: Threads + Wait + Sync>(
+    rt: &R,
+    alloc: Global,
+    input: &[u8],
+) -> Result<Option<Played>, NoMemory> {
+    let words = one_word(alloc, "run")?;
+    let mut source = MemSource::new(alloc, input, 4_096, &[])?;
+    let mut sink = MemSink::new(alloc, 4_096, &[])?;
+    let Answer { ended, .. } = superglue(rt, alloc, &words, &mut source, &mut sink, &OpenGate);
+    Ok(ended)
+}
+
 // The play of a round.
 fn played<R: Threads + Wait + Sync>(
     rt: &R,
@@ -72,23 +98,34 @@ fn played<R: Threads + Wait + Sync>(
     calls: Calls,
     round: u32,
 ) -> Result<Played, Fail> {
-    let mut words = Vec::new(alloc);
-    words.push("run".to_string(alloc)?)?;
-    let mut input = Vec::from_slice(alloc, interface)?;
-    input.extend_from_slice(b"%%\n")?;
-    input.extend_from_slice(script_of(alloc, calls, round)?.as_bytes())?;
-    let mut source = MemSource::new(alloc, &input, 4_096, &[])?;
-    let mut sink = MemSink::new(alloc, 4_096, &[])?;
-    let Answer { ended, .. } = superglue(rt, alloc, &words, &mut source, &mut sink, &OpenGate);
-    Ok(ended.ok_or("no run")?)
+    let input = input_of(alloc, interface, calls, round)?;
+    match run_of(rt, alloc, input.as_slice())? {
+        Some(played) => Ok(played),
+        None => Err(Fail::new("no run")),
+    }
+}
+
+// Whether the play of a round comes again.
+fn shares<R: Threads + Wait + Sync, S: Service>(
+    rt: &R,
+    alloc: Global,
+    tables: Tables,
+    interface: &[u8],
+    calls: Calls,
+    round: u32,
+) -> Result<bool, Fail>
+    requires { tables.iface.facts ≡ S.facts }
+{
+    let played = played(rt, alloc, interface, calls, round)?;
+    plays_again::<S>(alloc, tables, CLIENTS, played)
 }
 
 #[test]
 fn locks_come_again(rt: HostRuntime) -> Result<(), Fail> {
     let alloc = rt.alloc();
     for round in 0..ROUNDS {
-        let played = played(&rt, alloc, LOCK, LOCKS, round)?;
-        let again = come_again::<LockService>(alloc, lock_tables(alloc)?, CLIENTS, &played)?;
+        let tables = lock_tables(alloc)?;
+        let again = shares::<_, LockService>(&rt, alloc, tables, LOCK, LOCKS, round)?;
         assert!(rt; again, "round {round}");
     }
     Ok(())
@@ -98,8 +135,8 @@ fn locks_come_again(rt: HostRuntime) -> Result<(), Fail> {
 fn events_come_again(rt: HostRuntime) -> Result<(), Fail> {
     let alloc = rt.alloc();
     for round in 0..ROUNDS {
-        let played = played(&rt, alloc, EVENT, EVENTS, round)?;
-        let again = come_again::<EventService>(alloc, event_tables(alloc)?, CLIENTS, &played)?;
+        let tables = event_tables(alloc)?;
+        let again = shares::<_, EventService>(&rt, alloc, tables, EVENT, EVENTS, round)?;
         assert!(rt; again, "round {round}");
     }
     Ok(())
@@ -109,8 +146,8 @@ fn events_come_again(rt: HostRuntime) -> Result<(), Fail> {
 fn pages_come_again(rt: HostRuntime) -> Result<(), Fail> {
     let alloc = rt.alloc();
     for round in 0..ROUNDS {
-        let played = played(&rt, alloc, MM, PAGES, round)?;
-        let again = come_again::<MmService>(alloc, mm_tables(alloc)?, CLIENTS, &played)?;
+        let tables = mm_tables(alloc)?;
+        let again = shares::<_, MmService>(&rt, alloc, tables, MM, PAGES, round)?;
         assert!(rt; again, "round {round}");
     }
     Ok(())
@@ -120,8 +157,8 @@ fn pages_come_again(rt: HostRuntime) -> Result<(), Fail> {
 fn files_come_again(rt: HostRuntime) -> Result<(), Fail> {
     let alloc = rt.alloc();
     for round in 0..ROUNDS {
-        let played = played(&rt, alloc, RAMFS, FILES, round)?;
-        let again = come_again::<RamfsService>(alloc, ramfs_tables(alloc)?, CLIENTS, &played)?;
+        let tables = ramfs_tables(alloc)?;
+        let again = shares::<_, RamfsService>(&rt, alloc, tables, RAMFS, FILES, round)?;
         assert!(rt; again, "round {round}");
     }
     Ok(())
@@ -131,8 +168,8 @@ fn files_come_again(rt: HostRuntime) -> Result<(), Fail> {
 fn threads_come_again(rt: HostRuntime) -> Result<(), Fail> {
     let alloc = rt.alloc();
     for round in 0..ROUNDS {
-        let played = played(&rt, alloc, SCHED, THREADS, round)?;
-        let again = come_again::<SchedService>(alloc, sched_tables(alloc)?, CLIENTS, &played)?;
+        let tables = sched_tables(alloc)?;
+        let again = shares::<_, SchedService>(&rt, alloc, tables, SCHED, THREADS, round)?;
         assert!(rt; again, "round {round}");
     }
     Ok(())
