@@ -2,7 +2,7 @@
 //! of a run at which a service may stop.
 //!
 //! - `memory`: want of memory (`NoMemory`), and copies that may want it (`TryCopy`)
-//! - `list`: the list (`ListOf`) and the names of its kinds; `room`: lists that grow without memory
+//! - `list`: the list (`ListOf`) and the names of its kinds; `room`: lists that grow without memory; `spare`: room that is kept
 //! - `text`, `value`, `call`, `reply`: what a client hands over and what it gets back
 //! - `stops`: the points of a run (`Point`), and who says at which the service stops (`Stops`)
 #![tactic(auto)]
@@ -12,6 +12,7 @@ mod list;
 mod memory;
 mod reply;
 mod room;
+mod spare;
 mod stops;
 mod text;
 mod value;
@@ -21,6 +22,7 @@ pub use list::{Args, Bytes, IdList, ListOf, PairList, Path, PointList, Words};
 pub use memory::{NoMemory, TryCopy};
 pub use reply::{Code, Good, Reply, ReplyRoom};
 pub use room::{ListRoom, RoomyList};
+pub use spare::{SpareList, SpareReply};
 pub use stops::{Point, Stops};
 pub use text::{Text, TextFault, TextRoom, is_text_byte};
 pub use value::Value;

@@ -4,6 +4,12 @@ ghost use Rattle.std.specs.Prelude.{◌≡◌, ◌≤◌, IfOk};
 use crate::{Bytes, ListRoom, NoMemory, TryCopy, Words};
 use std::alloc::Global;
 
+/// The greatest number of words of a reply.
+pub(crate) const MOST_WORDS: usize = 4;
+
+/// The greatest number of bytes of a reply.
+pub(crate) const MOST_BYTES: usize = 256;
+
 /// What a call that was done gives: a descriptor (0 for none), words and bytes.
 #[derive(Debug, PartialEq, Eq, Drop)]
 pub struct Good {
@@ -86,8 +92,8 @@ impl Reply {
         ensures bytes { IfOk result (λ room. 256 ≤ room.bytes) }
     {
         Ok(ReplyRoom {
-            words: ListRoom::new(alloc, 4)?,
-            bytes: ListRoom::new(alloc, 256)?,
+            words: ListRoom::new(alloc, MOST_WORDS)?,
+            bytes: ListRoom::new(alloc, MOST_BYTES)?,
         })
     }
 }

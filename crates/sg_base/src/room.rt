@@ -33,7 +33,7 @@ impl<E: Copy> ListRoom<E> {
         })
     }
 
-    /// A list of these elements, without memory.
+    /// A list of these elements, without memory. It keeps no room that it doesn't need.
     pub fn fill(self, from: &[E]) -> ListOf<E>
         requires { length from.now ≤ self }
         ensures { result ≡ from.now }
@@ -141,14 +141,17 @@ impl<E: TryCopy + Drop> RoomyList<E> {
     }
 }
 
-// The elements in a vector that has the room for them.
-fn filled<E: Copy>(mut items: Vec<E>, from: &[E]) -> Vec<E>
+/// The elements in a vector that has the room for them, and gives back what they don't need.
+pub(crate) fn filled<E: Copy>(mut items: Vec<E>, from: &[E]) -> Vec<E>
     requires empty { items.items ≡ [] }
     requires room { length from.now ≤ vec_capacity items }
     ensures { result.items ≡ from.now }
 {
     match items.extend_from_slice(from) {
-        Ok(()) => items,
+        Ok(()) => {
+            items.shrink_to_fit();
+            items
+        }
         Err(_) => unreachable!(),
     }
 }

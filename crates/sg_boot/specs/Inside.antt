@@ -1,3 +1,4 @@
 pub mod Asking
 pub mod Journals
 pub mod Rooms
+pub mod Spare

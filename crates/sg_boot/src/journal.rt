@@ -12,23 +12,27 @@ use sg_facts::{BootList, BootLog, Call, Item, ItemList, NoMemory, Outcome, Tag, 
 use std::alloc::Global;
 use std::marker::Model;
 
-/// A trace that has begun. Contracts see what it tells, and for how many items and boots more there is room.
+/// A trace that has begun. Contracts see what it tells, and for how many items and boots more there is room. Room for what an item holds
+/// is kept from one to the next.
 #[derive(Debug, Drop)]
 pub(crate) struct Journal {
     trace: Trace,
-    room: Option<ItemRoom>,
+    room: ItemRoom,
+    // Whether the room is enough for one item.
+    ready: bool,
 }
 
 impl Model for Journal {
-    ghost use Rattle.std.specs.Prelude.{◌≢◌, []};
+    ghost use Rattle.std.specs.Prelude.{◌≡◌, ◌≢◌, true, []};
     ghost use Rattle.sg_boot.specs.Inside.Journals.{Journaled, room_of};
+    ghost use Rattle.sg_boot.specs.Inside.Spare.{HasItemRoom};
     ghost use Rattle.sg_facts.specs.Trace.{run_of};
 
     ghost Value = { Journaled };
 
-    ghost view = { λ j. record { run = run_of j.trace; room = room_of j.room j.trace.boots } };
+    ghost view = { λ j. record { run = run_of j.trace; room = room_of j.ready j.trace.boots } };
 
-    ghost invariant = { λ j. j.trace.boots.items ≢ [] };
+    ghost invariant = { λ j. (j.trace.boots.items ≢ []) × (j.ready ≡ true → HasItemRoom j.room) };
 }
 
 impl Journal {
@@ -41,7 +45,8 @@ impl Journal {
         boots.add(empty_boot(alloc));
         Ok(Journal {
             trace: Trace { boots, points: 0 },
-            room: None,
+            room: ItemRoom::new(alloc),
+            ready: false,
         })
     }
 
@@ -67,8 +72,9 @@ impl Journal {
     {
         self.trace.boots.reserve(1)?;
         reserve_item(&mut self.trace.boots)?;
-        if self.room.is_none() {
-            self.room = Some(ItemRoom::new(alloc)?);
+        if !self.ready {
+            self.room.reserve(alloc)?;
+            self.ready = true;
         }
         Ok(())
     }
@@ -86,23 +92,19 @@ impl Journal {
         requires fits { FitsItemRoom outcome.now }
         ensures { self.new.run ≡ with_item self.old.run (item_of_call tag shown real points outcome.now) points }
     {
-        match self.room.take() {
-            Some(room) => {
-                let outcome = room.fill(outcome);
-                note(
-                    &mut self.trace.boots,
-                    Item {
-                        tag,
-                        shown,
-                        real,
-                        points,
-                        outcome,
-                    },
-                );
-                self.trace.points = points;
-            }
-            None => unreachable!(),
-        }
+        self.ready = false;
+        let outcome = self.room.fill(outcome);
+        note(
+            &mut self.trace.boots,
+            Item {
+                tag,
+                shown,
+                real,
+                points,
+                outcome,
+            },
+        );
+        self.trace.points = points;
     }
 
     /// Notes an item, whose number of points is the number asked.

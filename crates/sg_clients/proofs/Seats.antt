@@ -1,7 +1,7 @@
 -- Seats by their clients, of which one has changed.
 use Rattle.std.proofs.Common.{List, [], ◌∷◌, ap, arith, get_or, length, map, refl, slice_set, suc, sym, zero, ℕ, ◌-◌, ◌<◌, ◌≤◌, ◌≡◌, ◌∙◌}
 use Rattle.std.specs.Prelude.{slice_index_or}
-use Rattle.std.proofs.lemmas.List.{get_or_default}
+use Rattle.std.proofs.lemmas.List.{get_or_default, set-get_or}
 use Rattle.std.proofs.lemmas.Option.{unwrap_or-slice_get}
 use Rattle.sg_seat.specs.WorldView.{Seat, no_seat, seat_in}
 
@@ -24,6 +24,10 @@ pub is_changed : {inside seats : List Seat} {at client : ℕ} {x : Seat} → Rea
     → slice_set inside (at - 1) new ≡ slice_set seats (client - 1) (change (seat_in seats client))
 is_changed {inside} {seats} {at} {client} {x} r change new changed =
     ap (λ l. slice_set l (at - 1) new) r.same ∙ ap (λ n. slice_set seats (n - 1) new) r.is ∙ ap (slice_set seats (client - 1)) (changed ∙ ap change (is_read r))
+
+-- and is written back as it was
+pub set_again : (seats : List Seat) (client : ℕ) → slice_set seats (client - 1) (seat_in seats client) ≡ seats
+set_again seats client = ap (slice_set seats (client - 1)) (unwrap_or-slice_get seats (client - 1) no_seat) ∙ set-get_or seats (client - 1) no_seat
 
 -- a change that a function does not see
 pub set_unseen : (f : Seat → Seat) (seats : List Seat) (at : ℕ) (new : Seat) → f new ≡ f (get_or seats at no_seat) → map f (slice_set seats at new) ≡ map f seats

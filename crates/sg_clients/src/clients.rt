@@ -1,12 +1,11 @@
 // The clients of a world.
 ghost use Rattle.std.specs.Prelude.{◌≡◌, ◌<◌, ◌≤◌, ◌-◌, ◌+◌, ◌^◌, ◌==◌, ◌∷◌, ◌++◌, ℕ, Bool, true, [], length, map, replicate, vec_capacity, IfOk, OnOk, OnErr, slice_set};
-ghost use Rattle.sg_clients.specs.Clients.{IsClient};
+ghost use Rattle.sg_clients.specs.Clients.{AnswersBy, IsClient};
 ghost use Rattle.std.specs.List.{list_all};
 ghost use Rattle.sg_facts.specs.sg_base.Reply.{FitsReplyRoom};
 ghost use Rattle.sg_clients.specs.Inside.Waiting.{count_if_waits, waiting_in};
 ghost use Rattle.sg_clients.specs.Rooms.{FitsSeatRoom};
 ghost use Rattle.sg_facts.specs.Limits.{last_client};
-ghost use Rattle.sg_name.specs.Names.{AnswersBy};
 ghost use Rattle.sg_seat.specs.WorldView.{IsFree, is_at_rest, is_left_phase, is_offered, no_reply, no_seat, seat_in, woken_seat};
 ghost use Rattle.sg_seat.specs.declared.phase.Phase.TheVariants.{Idle, Asked, Held, Receipted, Blocked, Left};
 
@@ -105,8 +104,7 @@ impl Clients {
         ensures err { OnErr result (self.new ≡ self.old) }
     {
         let client = call.client;
-        let room = SeatRoom::new(alloc, &call)?;
-        self.seats[usize::from(client) - 1].offer(call, room);
+        self.seats[usize::from(client) - 1].offer(alloc, call)?;
         Ok(())
     }
 
@@ -212,7 +210,7 @@ impl Clients {
         }
     }
 
-    // A client withdraws its call, and gives the memory back that was taken for it.
+    // A client withdraws its call, and gives what was taken for that.
     fn take_room(&mut self, client: u8) -> SeatRoom
         requires client { IsClient (length self.old) client }
         requires offers { is_offered (seat_in self.old client).phase ≡ true }
@@ -310,7 +308,7 @@ fn wake_those<F: Fn(u64) -> bool>(seats: &mut [ClientSeat], test: F) -> usize
     waiting
 }
 
-// The phases of all seats, in the room that there is.
+// The phases of all seats, in the room that there is, which they give back where they don't need it.
 fn with_phases(mut phases: Vec<Phase>, seats: &[ClientSeat]) -> Vec<Phase>
     requires empty { phases.items ≡ [] }
     requires room { length seats.now ≤ vec_capacity phases }
@@ -319,5 +317,6 @@ fn with_phases(mut phases: Vec<Phase>, seats: &[ClientSeat]) -> Vec<Phase>
     for seat in seats {
         phases.push_reserved(seat.phase());
     }
+    phases.shrink_to_fit();
     phases
 }

@@ -1,13 +1,13 @@
 // One client, with its call and the memory that was taken for it.
-ghost use Rattle.std.specs.Prelude.{◌≡◌, ◌≤◌, ◌+◌, ◌<◌, ◌^◌, true, length, IfOk};
+ghost use Rattle.std.specs.Prelude.{◌≡◌, ◌<◌, ◌^◌, true, Some, IsSome, OnErr, OnOk};
 ghost use Rattle.sg_facts.specs.sg_base.Reply.{FitsReplyRoom};
-ghost use Rattle.sg_clients.specs.Rooms.{FitsSeatRoom};
-ghost use Rattle.sg_facts.specs.Limits.{last_client};
+ghost use Rattle.sg_clients.specs.Rooms.{FitsSeatRoom, HasSeatRoom};
 ghost use Rattle.sg_seat.specs.WorldView.{is_at_rest, is_blocked_phase, is_left_phase, is_offered, no_reply, no_seat, woken_seat};
 ghost use Rattle.sg_seat.specs.declared.phase.Phase.TheVariants.{Idle, Asked, Held, Receipted, Blocked, Left};
 
 use sg_facts::{
-    Args, Bytes, Call, Entry, Good, LAST_CLIENT, NoMemory, Reply, ReplyRoom, TryCopy, Words,
+    Args, Bytes, Call, Entry, Good, LAST_CLIENT, NoMemory, Reply, SpareList, SpareReply, TryCopy,
+    Words,
 };
 use sg_seat::Phase;
 use std::alloc::Global;
@@ -17,28 +17,42 @@ use std::mem;
 /// The greatest number of clients.
 const MOST_CLIENTS: usize = LAST_CLIENT as usize;
 
-/// Memory that was taken when a call was offered: a copy of the call for its entry or its withdrawal, room for the entry's reply, for
-/// the reply that is handed over, and for the phases at a withdrawal.
+/// Room that is kept from one call to the next: for the entry's reply, for the reply that is handed over, and for the phases at a
+/// withdrawal.
+#[derive(Debug, Drop)]
+pub(crate) struct SeatSpare {
+    pub(crate) entry: SpareReply,
+    pub(crate) answer: SpareReply,
+    pub(crate) phases: SpareList<Phase>,
+}
+
+impl SeatSpare {
+    // No room yet. It takes no memory.
+    fn new(alloc: Global) -> SeatSpare {
+        SeatSpare {
+            entry: SpareReply::new(alloc),
+            answer: SpareReply::new(alloc),
+            phases: SpareList::new(alloc),
+        }
+    }
+
+    // Takes the memory for one call, where it isn't there. Room is never lost, whatever the answer.
+    fn reserve(&mut self, alloc: Global) -> Result<(), NoMemory>
+        ensures ok { OnOk result (HasSeatRoom self.new) }
+        ensures kept { HasSeatRoom self.old → HasSeatRoom self.new }
+    {
+        self.entry.reserve(alloc)?;
+        self.answer.reserve(alloc)?;
+        self.phases.reserve(alloc, MOST_CLIENTS)?;
+        Ok(())
+    }
+}
+
+/// What a withdrawal takes: the copy of the call that was made when it was offered, and room for the phases.
 #[derive(Debug, Drop)]
 pub(crate) struct SeatRoom {
     pub(crate) call: Call,
-    pub(crate) entry: ReplyRoom,
-    pub(crate) answer: ReplyRoom,
     pub(crate) phases: Vec<Phase>,
-}
-
-impl SeatRoom {
-    /// Memory for this call.
-    pub(crate) fn new(alloc: Global, call: &Call) -> Result<SeatRoom, NoMemory>
-        ensures { IfOk result (FitsSeatRoom call.now) }
-    {
-        Ok(SeatRoom {
-            call: call.copy(alloc)?,
-            entry: Reply::room(alloc)?,
-            answer: Reply::room(alloc)?,
-            phases: Vec::with_capacity(alloc, MOST_CLIENTS)?,
-        })
-    }
 }
 
 /// An answered call whose reply was held: its entry, its reply for storage, and its reply for the client.
@@ -57,7 +71,9 @@ pub(crate) struct ClientSeat {
     seq: u32,
     boot: u64,
     reply: Reply,
-    room: Option<SeatRoom>,
+    // While its call isn't answered, a copy of it, for its entry or its withdrawal.
+    copy: Option<Call>,
+    spare: SeatSpare,
 }
 
 impl Model for ClientSeat {
@@ -68,7 +84,7 @@ impl Model for ClientSeat {
 
     ghost view = { λ s. record { phase = s.phase; call = s.call; seq = s.seq; boot = s.boot; reply = s.reply } };
 
-    ghost invariant = { λ s. KeepsRoom s.phase s.call s.reply s.room };
+    ghost invariant = { λ s. KeepsRoom s.phase s.call s.reply s.copy s.spare };
 }
 
 impl ClientSeat {
@@ -88,7 +104,8 @@ impl ClientSeat {
             seq: 0,
             boot: 0,
             reply: empty_reply(alloc),
-            room: None,
+            copy: None,
+            spare: SeatSpare::new(alloc),
         }
     }
 
@@ -141,14 +158,16 @@ impl ClientSeat {
         &self.call
     }
 
-    /// Offers a call, with the memory that was taken for it.
-    pub(crate) fn offer(&mut self, call: Call, room: SeatRoom)
-        requires { FitsSeatRoom call room }
-        ensures { self.new ≡ record self.old { phase = Asked; call = call } }
+    /// Offers a call, and takes the memory that answering or withdrawing it takes. After `NoMemory` it is as before.
+    pub(crate) fn offer(&mut self, alloc: Global, call: Call) -> Result<(), NoMemory>
+        ensures ok { OnOk result (self.new ≡ record self.old { phase = Asked; call = call }) }
+        ensures err { OnErr result (self.new ≡ self.old) }
     {
+        self.spare.reserve(alloc)?;
+        self.copy = Some(call.copy(alloc)?);
         self.phase = Phase::Asked;
         self.call = call;
-        self.room = Some(room);
+        Ok(())
     }
 
     /// Waits in its call.
@@ -195,13 +214,12 @@ impl ClientSeat {
         ensures number { result.call.seq < 2 ^ 32 }
         ensures seat { self.new ≡ record self.old { phase = Receipted; seq = self.old.call.seq; reply = reply.now } }
     {
-        let room = self.take_room();
         self.phase = Phase::Receipted;
         self.seq = self.call.seq;
-        self.reply = room.answer.fill(reply);
+        self.reply = self.spare.answer.fill(reply);
         Entry {
-            call: room.call,
-            reply: room.entry.fill(reply),
+            call: take_copy(&mut self.copy),
+            reply: self.spare.entry.fill(reply),
         }
     }
 
@@ -214,16 +232,15 @@ impl ClientSeat {
         ensures answer { result.answer ≡ self.old.reply }
         ensures seat { self.new ≡ record self.old { phase = Idle; seq = self.old.call.seq; reply = no_reply } }
     {
-        let room = self.take_room();
         let reply = mem::replace(&mut self.reply, empty_reply(alloc));
         self.phase = Phase::Idle;
         self.seq = self.call.seq;
         Returned {
             entry: Entry {
-                call: room.call,
-                reply: room.entry.fill(&reply),
+                call: take_copy(&mut self.copy),
+                reply: self.spare.entry.fill(&reply),
             },
-            answer: room.answer.fill(&reply),
+            answer: self.spare.answer.fill(&reply),
             reply,
         }
     }
@@ -235,11 +252,10 @@ impl ClientSeat {
         ensures number { result.seq < 2 ^ 32 }
         ensures seat { self.new ≡ record self.old { phase = Idle; seq = self.old.call.seq; reply = no_reply } }
     {
-        let room = self.take_room();
         self.reply = empty_reply(alloc);
         self.phase = Phase::Idle;
         self.seq = self.call.seq;
-        room.call
+        take_copy(&mut self.copy)
     }
 
     /// Hands its reply over.
@@ -259,28 +275,28 @@ impl ClientSeat {
         self.phase = Phase::Left;
     }
 
-    /// Withdraws its call, and gives the memory back that was taken for it.
+    /// Withdraws its call, and gives what was taken for that.
     pub(crate) fn withdraw(&mut self) -> SeatRoom
         requires { is_offered self.old.phase ≡ true }
         ensures room { FitsSeatRoom self.old.call result }
         ensures seat { self.new ≡ record self.old { phase = Idle } }
     {
-        let room = self.take_room();
         self.phase = Phase::Idle;
-        room
-    }
-
-    // Takes the memory that was taken for its call; it has no call under way then.
-    fn take_room(&mut self) -> SeatRoom
-        requires { is_offered self.old.phase ≡ true }
-        ensures room { FitsSeatRoom self.old.call result }
-        ensures seat { self.new ≡ record self.old { phase = Idle } }
-    {
-        self.phase = Phase::Idle;
-        match self.room.take() {
-            Some(room) => room,
-            None => unreachable!(),
+        SeatRoom {
+            call: take_copy(&mut self.copy),
+            phases: self.spare.phases.take(),
         }
+    }
+}
+
+// The copy of a call, which is given away.
+fn take_copy(copy: &mut Option<Call>) -> Call
+    requires { IsSome copy.old }
+    ensures { copy.old ≡ Some result }
+{
+    match copy.take() {
+        Some(call) => call,
+        None => unreachable!(),
     }
 }
 

@@ -19,87 +19,77 @@ pub fn cost_text(alloc: Global, iface: &Interface, costs: &Costs) -> Result<Byte
     ensures { IfOk result (λ text. text ≡ cost_text_of iface.now.facts costs.now) }
 {
     let mut out = Bytes::new(alloc);
-    push_rows(&mut out, alloc, costs.rows.as_slice())?;
-    push_funs(&mut out, alloc, iface, costs.functions.as_slice())?;
-    push_all(&mut out, alloc, costs.all)?;
-    push_boots(&mut out, alloc, costs.boots.as_slice())?;
+    push_rows(&mut out, costs.rows.as_slice())?;
+    push_funs(&mut out, iface, costs.functions.as_slice())?;
+    push_all(&mut out, costs.all)?;
+    push_boots(&mut out, costs.boots.as_slice())?;
     Ok(out)
 }
 
 // A line for each live descriptor.
-fn push_rows(out: &mut Bytes, alloc: Global, costs: &[RowCost]) -> Result<(), NoMemory>
+fn push_rows(out: &mut Bytes, costs: &[RowCost]) -> Result<(), NoMemory>
     ensures { OnOk result (out.new ≡ out.old ++ flat_map (λ c. codes "row " ++ decimal c.id ++ codes " walk " ++ decimal c.walk ++ line_end) costs.now) }
 {
     for cost in costs {
         out.extend_from_slice(b"row ")?;
-        push_number(out, alloc, cost.id)?;
+        push_number(out, cost.id)?;
         out.extend_from_slice(b" walk ")?;
-        push_number(out, alloc, cost.walk)?;
+        push_number(out, cost.walk)?;
         out.extend_from_slice(b"\n")?;
     }
     Ok(())
 }
 
 // A line for each function.
-fn push_funs(
-    out: &mut Bytes,
-    alloc: Global,
-    iface: &Interface,
-    costs: &[FunCost],
-) -> Result<(), NoMemory>
+fn push_funs(out: &mut Bytes, iface: &Interface, costs: &[FunCost]) -> Result<(), NoMemory>
     ensures { OnOk result (out.new ≡ out.old ++ flat_map (λ c. codes "cost " ++ (fun_at iface.now.facts.funs c.fun).name ++ codes " " ++ decimal c.cost ++ line_end) costs.now) }
 {
     for cost in costs {
-        push_fun(out, alloc, iface, *cost)?;
+        push_fun(out, iface, *cost)?;
     }
     Ok(())
 }
 
 // The line of a function.
-fn push_fun(
-    out: &mut Bytes,
-    alloc: Global,
-    iface: &Interface,
-    cost: FunCost,
-) -> Result<(), NoMemory>
+fn push_fun(out: &mut Bytes, iface: &Interface, cost: FunCost) -> Result<(), NoMemory>
     ensures { OnOk result (out.new ≡ out.old ++ fun_line iface.now.facts cost) }
 {
     let fun = iface.fun(cost.fun);
     out.extend_from_slice(b"cost ")?;
     out.extend_from_slice(fun.name)?;
     out.extend_from_slice(b" ")?;
-    push_number(out, alloc, cost.cost)?;
+    push_number(out, cost.cost)?;
     out.extend_from_slice(b"\n")
 }
 
 // The line of all descriptors together.
-fn push_all(out: &mut Bytes, alloc: Global, all: u64) -> Result<(), NoMemory>
+fn push_all(out: &mut Bytes, all: u64) -> Result<(), NoMemory>
     ensures { OnOk result (out.new ≡ out.old ++ codes "all " ++ decimal all ++ line_end) }
 {
     out.extend_from_slice(b"all ")?;
-    push_number(out, alloc, all)?;
+    push_number(out, all)?;
     out.extend_from_slice(b"\n")
 }
 
 // A line for each boot, numbered from 1.
-fn push_boots(out: &mut Bytes, alloc: Global, costs: &[BootCost]) -> Result<(), NoMemory>
+fn push_boots(out: &mut Bytes, costs: &[BootCost]) -> Result<(), NoMemory>
     ensures { OnOk result (out.new ≡ out.old ++ boot_lines 1 costs.now) }
 {
     'boots: for (at, cost) in costs.iter().enumerate() {
-        push_boot(out, alloc, at as u64 + 1, *cost)?;
+        push_boot(out, at as u64 + 1, *cost)?;
     }
     Ok(())
 }
 
 // The line of a boot.
-fn push_boot(out: &mut Bytes, alloc: Global, number: u64, cost: BootCost) -> Result<(), NoMemory>
+fn push_boot(out: &mut Bytes, number: u64, cost: BootCost) -> Result<(), NoMemory>
     ensures { OnOk result (out.new ≡ out.old ++ boot_line number cost) }
 {
     out.extend_from_slice(b"boot ")?;
-    push_number(out, alloc, number)?;
+    push_number(out, number)?;
     out.extend_from_slice(b" walks ")?;
-    push_number(out, alloc, cost.walks)?;
+    push_number(out, cost.walks)?;
     out.extend_from_slice(b" bound ")?;
-    push_number(out, alloc, cost.bound)?;
+    push_number(out, cost.bound)?;
     out.extend_from_slice(b"\n")
 }

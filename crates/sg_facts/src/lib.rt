@@ -46,8 +46,8 @@ pub use row::{Fields, FieldsRoom, Row};
 pub use service::Service;
 pub use sg_base::{
     Args, Bytes, Call, Code, Good, IdList, ListOf, NoMemory, PairList, Path, Point, PointList,
-    Reply, ReplyRoom, RoomyList, Stops, Text, TextFault, TextRoom, TryCopy, Value, Words,
-    is_text_byte,
+    Reply, ReplyRoom, RoomyList, SpareList, SpareReply, Stops, Text, TextFault, TextRoom, TryCopy,
+    Value, Words, is_text_byte,
 };
 pub use shape::{Effect, FieldShape, FunShape, Kind, Leaves, Parents, Shape};
 pub use tables::{Tables, WalkLine, WalkList};

@@ -1,5 +1,5 @@
 -- The first entries of a map.
-use Rattle.std.proofs.Common.{◌≡◌, ℕ, Bool, true, false, cond, List, [], ◌∷◌, ◌++◌, None, Some, filter, map, refl, sym, ◌∙◌, ap, inl, inr}
+use Rattle.std.proofs.Common.{◌≡◌, ℕ, Bool, true, false, cond, List, [], ◌∷◌, ◌++◌, None, Some, map, refl, sym, ◌∙◌, ap, inl, inr}
 use Rattle.std.specs.Prelude.{nat_eq}
 use Rattle.std.specs.declared.option.Option.{Option}
 use Rattle.std.specs.List.{AllByRecursion, IsDistinct}
@@ -9,12 +9,10 @@ use Rattle.std.specs.Map.{keys_of, lookup}
 use Rattle.std.specs.Map.Iter.{TakesFirst, deref_pair}
 use Rattle.std.specs.Option.{option_map}
 use Rattle.std.proofs.lemmas.Bool.Decides.{eqb_tells}
-use Rattle.std.proofs.lemmas.Map.Entries.{lookup-filter-keys}
 use Rattle.std.proofs.lemmas.Map.Iter.{rest_more, rest_so_far}
 use Rattle.std.proofs.lemmas.Map.Keys.{IsDistinct-head, IsDistinct-tail}
 use Rattle.sg_name.specs.declared.named.Standing.{Standing}
-use Rattle.sg_name.specs.declared.named.Named.TheVariants.{Unnamed}
-use Rattle.sg_name.specs.Names.{IsOneToOne, name_of, named_at, real_at}
+use Rattle.sg_name.specs.Names.{IsOneToOne, real_at}
 use Rattle.sg_name.specs.Inside.Both.{GoesBack}
 use Rattle.sg_name.proofs.Directions.{back_added, turned}
 
@@ -118,34 +116,3 @@ module _ (front : List (ℕ × Standing)) (e : ℕ × Standing) (rest : List (�
       let new = none_before front e rest distinct in
       back_added (λ x. lookup (nat_eq x) front) (λ x. lookup (nat_eq x) (front ++ e ∷ [])) (λ r. lookup (nat_eq r) ids) (λ r. lookup (nat_eq r) ids') e.0 e.1
       back new free_real (λ q. lookup_more q front e new) points
-
--- ---- names that are kept
-
-module _ (test : ℕ → Bool) (known : List (ℕ × Standing)) where
-  -- what stands for an id is kept where the test passes the id
-  pub kept_at : (id : ℕ) → lookup (nat_eq id) (filter (λ e. test e.0) known) ≡ cond (test id) (lookup (nat_eq id) known) None
-  kept_at id = lookup-filter-keys (nat_eq id) test (test id) same known
-    where
-      same : (k : ℕ) → nat_eq id k ≡ true → test k ≡ test id
-      same k is = elim (eqb_tells id k) [
-        | inl one ↦ ap test (sym one.1)
-        | inr apart ↦ absurd (let wrong : true ≡ false = sym is ∙ apart.0 in cc wrong)
-      ]
-
-  pub name_kept : (id : ℕ) → named_at (filter (λ e. test e.0) known) id ≡ cond (test id) (named_at known id) Unnamed
-  name_kept id = ap name_of (kept_at id) ∙ at (test id)
-    where
-      at : (b : Bool) → name_of (cond b (lookup (nat_eq id) known) None) ≡ cond b (named_at known id) Unnamed
-      at true = refl
-      at false = refl
-
-  -- no two of those that are kept have one service id
-  pub kept_apart : IsOneToOne known → IsOneToOne (filter (λ e. test e.0) known)
-  kept_apart one a b real at_a at_b = one a b real (before a at_a) (before b at_b)
-    where
-      at : (x : ℕ) (t : Bool) → option_map (λ s. s.real) (cond t (lookup (nat_eq x) known) None) ≡ Some real → real_at known x ≡ Some real
-      at x true is = is
-      at x false is = absurd (cc is)
-
-      before : (x : ℕ) → real_at (filter (λ e. test e.0) known) x ≡ Some real → real_at known x ≡ Some real
-      before x is = at x (test x) (sym (ap (option_map (λ s. s.real)) (kept_at x)) ∙ is)

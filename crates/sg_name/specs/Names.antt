@@ -1,5 +1,5 @@
 -- What contracts see of names.
-use Rattle.std.specs.Prelude.{ℕ, ◌≡◌, Bool, List, None, Some, nat_eq}
+use Rattle.std.specs.Prelude.{ℕ, ◌≡◌, List, None, Some, nat_eq}
 use Rattle.std.specs.declared.option.Option.{Option}
 use Rattle.std.specs.Map.{lookup}
 use Rattle.std.specs.Option.{option_map}
@@ -43,7 +43,3 @@ real_at known id = option_map (λ s. s.real) (lookup (nat_eq id) known)
 -- no two ids have one service id
 abbrev pub IsOneToOne : List (ℕ × Standing) → Type 0
 IsOneToOne known = (a b real : ℕ) → real_at known a ≡ Some real → real_at known b ≡ Some real → a ≡ b
-
--- a test of ids answers by a function
-abbrev pub AnswersBy : (ℕ → Bool → Type 0) → (ℕ → Bool) → Type 0
-AnswersBy answers test = (id : ℕ) (passes : Bool) → answers id passes → passes ≡ test id

@@ -1,7 +1,7 @@
 // The two maps of names, each by itself.
-ghost use Rattle.std.specs.Prelude.{◌≡◌, ◌≤◌, ◌+◌, ℕ, Bool, None, Some, IsSome, IfNone, filter, nat_eq};
+ghost use Rattle.std.specs.Prelude.{◌≡◌, ◌≤◌, ◌+◌, None, Some, IsSome, IfNone, nat_eq};
 ghost use Rattle.indexmap.specs.IndexMap.{IsUnchanged, Updates, get, index_map_len, spare};
-ghost use Rattle.sg_name.specs.Names.{AnswersBy, IsOneToOne, real_at};
+ghost use Rattle.sg_name.specs.Names.{IsOneToOne, real_at};
 ghost use Rattle.sg_name.specs.Inside.Both.{GoesBack};
 
 use crate::named::Standing;
@@ -41,21 +41,6 @@ pub(crate) fn exchange(
         }
         None => None,
     }
-}
-
-/// Keeps what stands for the ids that a test passes, in its order. It takes no memory.
-pub(crate) fn keep_each<F: Fn(u64) -> bool>(standings: &mut IndexMap<u64, Standing>, keep: F)
-    requires { F.IsAlwaysCallable keep }
-    ensures entries { (test : ℕ → Bool) → AnswersBy (F.post keep) test → standings.new.entries ≡ filter (λ e. test e.0) standings.old.entries }
-    ensures len { index_map_len standings.new ≤ index_map_len standings.old }
-    ensures spare { spare standings.old ≤ spare standings.new }
-{
-    standings.retain(
-        |id: &u64, standing: &mut Standing| -> bool
-            requires { F.IsAlwaysCallable keep }
-            ensures { F.post keep id.now result × (standing.new ≡ standing.old) }
-        { keep(*id) },
-    );
 }
 
 /// Makes the map of service ids anew: each goes back to the id that it stands for. It takes no memory.

@@ -1,9 +1,9 @@
 // The service ids of the clients' ids, in both directions.
-ghost use Rattle.std.specs.Prelude.{◌≡◌, ◌≢◌, ◌==◌, ◌≤◌, ◌+◌, ◌↔◌, ℕ, Bool, [], None, Some, OnOk, if◌then◌else◌, nat_eq};
+ghost use Rattle.std.specs.Prelude.{◌≡◌, ◌≢◌, ◌==◌, ◌≤◌, ◌+◌, ◌↔◌, ℕ, [], None, Some, OnOk, if◌then◌else◌, nat_eq};
 ghost use Rattle.std.specs.Map.{lookup};
-ghost use Rattle.sg_name.specs.Names.{AnswersBy, IsOneToOne, named_at, real_at, real_of};
+ghost use Rattle.sg_name.specs.Names.{IsOneToOne, named_at, real_at, real_of};
 
-use crate::both::{add, exchange, keep_each, refill};
+use crate::both::{add, exchange, refill};
 use crate::named::{Named, Standing};
 use indexmap::IndexMap;
 use sg_base::NoMemory;
@@ -116,17 +116,6 @@ impl Names {
         if let Some(standing) = self.standings.swap_remove(&id) {
             self.ids.swap_remove(&standing.real);
         }
-    }
-
-    /// Keeps the names of the ids that a test passes; all others go. It takes no memory, and time in proportion to the names.
-    pub fn keep<F: Fn(u64) -> bool>(&mut self, keep: F)
-        requires callable { F.IsAlwaysCallable keep }
-        requires answers { (test : ℕ → Bool) × AnswersBy (F.post keep) test }
-        ensures names { (test : ℕ → Bool) → AnswersBy (F.post keep) test → (x : ℕ) → named_at self.new.known x ≡ (if test x then named_at self.old.known x else Named.Unnamed) }
-        ensures spare { self.old.spare ≤ self.new.spare }
-    {
-        keep_each(&mut self.standings, keep);
-        refill(&mut self.ids, &self.standings);
     }
 
     /// Drops all names. It takes no memory.

@@ -26,12 +26,12 @@ pub fn text(
     ensures { IfOk result (λ bytes. bytes ≡ report_of iface.now.facts ended.now with_trace) }
 {
     let mut out = Bytes::new(alloc);
-    push_entries(&mut out, alloc, iface, ended.history.as_slice())?;
-    push_ends(&mut out, alloc, iface, ended.ends.as_slice())?;
-    push_counts(&mut out, alloc, ended.history.as_slice(), &ended.trace)?;
+    push_entries(&mut out, iface, ended.history.as_slice())?;
+    push_ends(&mut out, iface, ended.ends.as_slice())?;
+    push_counts(&mut out, ended.history.as_slice(), &ended.trace)?;
     out.extend_from_slice(b"\n")?;
     if with_trace {
-        push_trace(&mut out, alloc, iface, &ended.trace)?;
+        push_trace(&mut out, iface, &ended.trace)?;
     }
     Ok(out)
 }
@@ -50,11 +50,11 @@ pub fn load_line(
     out.extend_from_slice(b"load ")?;
     out.extend_from_slice(service.name)?;
     out.extend_from_slice(b" ")?;
-    push_number(&mut out, alloc, number)?;
+    push_number(&mut out, number)?;
     out.extend_from_slice(b": ")?;
-    push_counts(&mut out, alloc, ended.history.as_slice(), &ended.trace)?;
+    push_counts(&mut out, ended.history.as_slice(), &ended.trace)?;
     out.extend_from_slice(b" blocked ")?;
-    push_number(&mut out, alloc, blocked_among(ended.ends.as_slice()) as u64)?;
+    push_number(&mut out, blocked_among(ended.ends.as_slice()) as u64)?;
     out.extend_from_slice(b"\n")?;
     Ok(out)
 }
@@ -72,85 +72,65 @@ fn blocked_among(ends: &[(u8, End)]) -> usize
 }
 
 // A line for each entry.
-fn push_entries(
-    out: &mut Bytes,
-    alloc: Global,
-    iface: &Interface,
-    history: &[Entry],
-) -> Result<(), NoMemory>
+fn push_entries(out: &mut Bytes, iface: &Interface, history: &[Entry]) -> Result<(), NoMemory>
     ensures { OnOk result (out.new ≡ out.old ++ flat_map (entry_line iface.now.facts) history.now) }
 {
     for entry in history {
-        push_entry(out, alloc, iface, entry)?;
+        push_entry(out, iface, entry)?;
     }
     Ok(())
 }
 
 // The line of an entry.
-fn push_entry(
-    out: &mut Bytes,
-    alloc: Global,
-    iface: &Interface,
-    entry: &Entry,
-) -> Result<(), NoMemory>
+fn push_entry(out: &mut Bytes, iface: &Interface, entry: &Entry) -> Result<(), NoMemory>
     ensures { OnOk result (out.new ≡ out.old ++ entry_line iface.now.facts entry.now) }
 {
     out.extend_from_slice(b"c")?;
-    push_number(out, alloc, u64::from(entry.call.client))?;
+    push_number(out, u64::from(entry.call.client))?;
     out.extend_from_slice(b".")?;
-    push_number(out, alloc, u64::from(entry.call.seq))?;
+    push_number(out, u64::from(entry.call.seq))?;
     out.extend_from_slice(b" ")?;
-    push_call(out, alloc, iface, &entry.call)?;
+    push_call(out, iface, &entry.call)?;
     out.extend_from_slice(b" = ")?;
-    push_answer(out, alloc, &iface.fun(entry.call.fun), &entry.reply)?;
+    push_answer(out, &iface.fun(entry.call.fun), &entry.reply)?;
     out.extend_from_slice(b"\n")
 }
 
 // A line for each client.
-fn push_ends(
-    out: &mut Bytes,
-    alloc: Global,
-    iface: &Interface,
-    ends: &[(u8, End)],
-) -> Result<(), NoMemory>
+fn push_ends(out: &mut Bytes, iface: &Interface, ends: &[(u8, End)]) -> Result<(), NoMemory>
     ensures { OnOk result (out.new ≡ out.old ++ flat_map (λ e. codes "client " ++ decimal e.0 ++ end_text iface.now.facts e.1 ++ line_end) ends.now) }
 {
     for (client, end) in ends {
         out.extend_from_slice(b"client ")?;
-        push_number(out, alloc, u64::from(*client))?;
-        push_end(out, alloc, iface, end)?;
+        push_number(out, u64::from(*client))?;
+        push_end(out, iface, end)?;
         out.extend_from_slice(b"\n")?;
     }
     Ok(())
 }
 
 // How a client ended.
-fn push_end(out: &mut Bytes, alloc: Global, iface: &Interface, end: &End) -> Result<(), NoMemory>
+fn push_end(out: &mut Bytes, iface: &Interface, end: &End) -> Result<(), NoMemory>
     ensures { OnOk result (out.new ≡ out.old ++ end_text iface.now.facts end.now) }
 {
     match end {
         End::Done => out.extend_from_slice(b" done"),
         End::Blocked(call) => {
             out.extend_from_slice(b" blocked ")?;
-            push_call(out, alloc, iface, call)
+            push_call(out, iface, call)
         }
     }
 }
 
 // The counts of entries, boots and replayed calls.
-fn push_counts(
-    out: &mut Bytes,
-    alloc: Global,
-    history: &[Entry],
-    trace: &Trace,
-) -> Result<(), NoMemory>
+fn push_counts(out: &mut Bytes, history: &[Entry], trace: &Trace) -> Result<(), NoMemory>
     ensures { OnOk result (out.new ≡ out.old ++ counts_text history.now (run_of trace.now)) }
 {
     let boots = trace.boots.as_slice();
     out.extend_from_slice(b"calls ")?;
-    push_number(out, alloc, history.len() as u64)?;
+    push_number(out, history.len() as u64)?;
     out.extend_from_slice(b" boots ")?;
-    push_number(out, alloc, boots.len() as u64)?;
+    push_number(out, boots.len() as u64)?;
     out.extend_from_slice(b" replays ")?;
-    push_number(out, alloc, replays_in(boots))
+    push_number(out, replays_in(boots))
 }

@@ -13,34 +13,23 @@ ghost use Rattle.sg_facts.specs.Words.{line_end};
 
 use crate::words::{push_call, push_number};
 use sg_facts::{BootLog, Bytes, Call, Interface, Item, NoMemory, Outcome, Tag, Trace};
-use std::alloc::Global;
 
 /// What was done to the service, boot by boot, and the number of points asked.
-pub fn push_trace(
-    out: &mut Bytes,
-    alloc: Global,
-    iface: &Interface,
-    trace: &Trace,
-) -> Result<(), NoMemory>
+pub fn push_trace(out: &mut Bytes, iface: &Interface, trace: &Trace) -> Result<(), NoMemory>
     ensures { OnOk result (out.new ≡ out.old ++ trace_lines iface.now.facts (run_of trace.now)) }
 {
-    push_boots(out, alloc, iface, trace.boots.as_slice())?;
+    push_boots(out, iface, trace.boots.as_slice())?;
     out.extend_from_slice(b"points ")?;
-    push_number(out, alloc, trace.points)?;
+    push_number(out, trace.points)?;
     out.extend_from_slice(b"\n")
 }
 
 // The boots, numbered from 1.
-fn push_boots(
-    out: &mut Bytes,
-    alloc: Global,
-    iface: &Interface,
-    boots: &[BootLog],
-) -> Result<(), NoMemory>
+fn push_boots(out: &mut Bytes, iface: &Interface, boots: &[BootLog]) -> Result<(), NoMemory>
     ensures { OnOk result (out.new ≡ out.old ++ boots_lines iface.now.facts 1 (map boot_of boots.now)) }
 {
     'boots: for (at, boot) in boots.iter().enumerate() {
-        push_boot(out, alloc, iface, at as u64 + 1, boot)?;
+        push_boot(out, iface, at as u64 + 1, boot)?;
     }
     Ok(())
 }
@@ -48,7 +37,6 @@ fn push_boots(
 // A boot under its number.
 fn push_boot(
     out: &mut Bytes,
-    alloc: Global,
     iface: &Interface,
     number: u64,
     boot: &BootLog,
@@ -56,79 +44,66 @@ fn push_boot(
     ensures { OnOk result (out.new ≡ out.old ++ boot_lines iface.now.facts number (boot_of boot.now)) }
 {
     out.extend_from_slice(b"boot ")?;
-    push_number(out, alloc, number)?;
+    push_number(out, number)?;
     out.extend_from_slice(b"\n")?;
-    push_items(out, alloc, iface, boot.items.as_slice())?;
-    push_stop(out, alloc, boot.stop)
+    push_items(out, iface, boot.items.as_slice())?;
+    push_stop(out, boot.stop)
 }
 
 // A line for each item.
-fn push_items(
-    out: &mut Bytes,
-    alloc: Global,
-    iface: &Interface,
-    items: &[Item],
-) -> Result<(), NoMemory>
+fn push_items(out: &mut Bytes, iface: &Interface, items: &[Item]) -> Result<(), NoMemory>
     ensures { OnOk result (out.new ≡ out.old ++ flat_map (λ item. item_text iface.now.facts item.tag item.shown item.outcome ++ line_end) items.now) }
 {
     for item in items {
-        push_item(out, alloc, iface, item)?;
+        push_item(out, iface, item)?;
         out.extend_from_slice(b"\n")?;
     }
     Ok(())
 }
 
 // An item: why the service was asked, for whom, and how it ended.
-fn push_item(out: &mut Bytes, alloc: Global, iface: &Interface, item: &Item) -> Result<(), NoMemory>
+fn push_item(out: &mut Bytes, iface: &Interface, item: &Item) -> Result<(), NoMemory>
     ensures { OnOk result (out.new ≡ out.old ++ item_text iface.now.facts item.now.tag item.now.shown item.now.outcome) }
 {
     match &item.tag {
         Tag::Walk { id, k, client } => {
-            push_walk(out, alloc, *id, *k, *client, item.shown.client)?;
-            push_asked(out, alloc, iface, &item.shown, &item.outcome)
+            push_walk(out, *id, *k, *client, item.shown.client)?;
+            push_asked(out, iface, &item.shown, &item.outcome)
         }
         Tag::Load { key, client } => {
             out.extend_from_slice(b"load ")?;
             out.extend_from_slice(key.as_slice())?;
             out.extend_from_slice(b" for c")?;
-            push_number(out, alloc, u64::from(*client))
+            push_number(out, u64::from(*client))
         }
         Tag::Client { client, seq } => {
             out.extend_from_slice(b"call c")?;
-            push_number(out, alloc, u64::from(*client))?;
+            push_number(out, u64::from(*client))?;
             out.extend_from_slice(b".")?;
-            push_number(out, alloc, u64::from(*seq))?;
-            push_asked(out, alloc, iface, &item.shown, &item.outcome)
+            push_number(out, u64::from(*seq))?;
+            push_asked(out, iface, &item.shown, &item.outcome)
         }
     }
 }
 
 // A call of a walk: its row and place in it, in whose turn and in whose name it was made.
-fn push_walk(
-    out: &mut Bytes,
-    alloc: Global,
-    id: u64,
-    k: u8,
-    client: u8,
-    caller: u8,
-) -> Result<(), NoMemory>
+fn push_walk(out: &mut Bytes, id: u64, k: u8, client: u8, caller: u8) -> Result<(), NoMemory>
     ensures { OnOk result (out.new ≡ out.old ++ codes "walk " ++ decimal id ++ codes "." ++ decimal k ++ codes " for c" ++ decimal client
         ++ codes " by c" ++ decimal caller) }
 {
     out.extend_from_slice(b"walk ")?;
-    push_number(out, alloc, id)?;
+    push_number(out, id)?;
     out.extend_from_slice(b".")?;
-    push_number(out, alloc, u64::from(k))?;
+    push_number(out, u64::from(k))?;
     out.extend_from_slice(b" for c")?;
-    push_number(out, alloc, u64::from(client))?;
+    push_number(out, u64::from(client))?;
     out.extend_from_slice(b" by c")?;
-    push_number(out, alloc, u64::from(caller))
+    push_number(out, u64::from(caller))
 }
 
 // A call after a space, and how it ended.
 fn push_asked(
     out: &mut Bytes,
-    alloc: Global,
     iface: &Interface,
     shown: &Call,
     outcome: &Outcome,
@@ -136,7 +111,7 @@ fn push_asked(
     ensures { OnOk result (out.new ≡ out.old ++ codes " " ++ call_text iface.now.facts shown.now ++ outcome_text outcome.now) }
 {
     out.extend_from_slice(b" ")?;
-    push_call(out, alloc, iface, shown)?;
+    push_call(out, iface, shown)?;
     out.extend_from_slice(outcome_word(outcome))
 }
 
@@ -153,14 +128,14 @@ fn outcome_word(outcome: &Outcome) -> &'static [u8]
 }
 
 // The line of a stop.
-fn push_stop(out: &mut Bytes, alloc: Global, stop: Option<u64>) -> Result<(), NoMemory>
+fn push_stop(out: &mut Bytes, stop: Option<u64>) -> Result<(), NoMemory>
     ensures { OnOk result (out.new ≡ out.old ++ stop_line stop) }
 {
     match stop {
         None => Ok(()),
         Some(point) => {
             out.extend_from_slice(b"stop ")?;
-            push_number(out, alloc, point)?;
+            push_number(out, point)?;
             out.extend_from_slice(b"\n")
         }
     }

@@ -11,25 +11,19 @@ ghost use Rattle.sg_report.specs.Inside.Pieces.{good_text, quoted};
 
 use itoa::Buffer;
 use sg_facts::{Bytes, Call, Code, FunShape, Good, Interface, NoMemory, Reply, Value};
-use std::alloc::Global;
 
 /// A call: its function's name, and in brackets its descriptor or parent, where the function takes one, and its arguments.
-pub fn push_call(
-    out: &mut Bytes,
-    alloc: Global,
-    iface: &Interface,
-    call: &Call,
-) -> Result<(), NoMemory>
+pub fn push_call(out: &mut Bytes, iface: &Interface, call: &Call) -> Result<(), NoMemory>
     ensures { OnOk result (out.new ≡ out.old ++ call_text iface.now.facts call.now) }
 {
     let fun = iface.fun(call.fun);
     out.extend_from_slice(fun.name)?;
     out.extend_from_slice(b"(")?;
     if takes_id(&fun) {
-        push_number(out, alloc, call.desc)?;
-        push_more(out, alloc, call.args.as_slice())?;
+        push_number(out, call.desc)?;
+        push_more(out, call.args.as_slice())?;
     } else {
-        push_listed(out, alloc, call.args.as_slice())?;
+        push_listed(out, call.args.as_slice())?;
     }
     out.extend_from_slice(b")")
 }
@@ -42,35 +36,35 @@ fn takes_id(fun: &FunShape) -> bool
 }
 
 // Values with a comma and a space between them.
-fn push_listed(out: &mut Bytes, alloc: Global, values: &[Value]) -> Result<(), NoMemory>
+fn push_listed(out: &mut Bytes, values: &[Value]) -> Result<(), NoMemory>
     ensures { OnOk result (out.new ≡ out.old ++ listed values.now) }
 {
     match values {
         [] => Ok(()),
         [first, more @ ..] => {
-            push_value(out, alloc, first)?;
-            push_more(out, alloc, more)
+            push_value(out, first)?;
+            push_more(out, more)
         }
     }
 }
 
 // Values after others.
-fn push_more(out: &mut Bytes, alloc: Global, values: &[Value]) -> Result<(), NoMemory>
+fn push_more(out: &mut Bytes, values: &[Value]) -> Result<(), NoMemory>
     ensures { OnOk result (out.new ≡ out.old ++ flat_map (λ v. codes ", " ++ value_text v) values.now) }
 {
     for value in values {
         out.extend_from_slice(b", ")?;
-        push_value(out, alloc, value)?;
+        push_value(out, value)?;
     }
     Ok(())
 }
 
 // A number in decimal, or a text in double quotes.
-fn push_value(out: &mut Bytes, alloc: Global, value: &Value) -> Result<(), NoMemory>
+fn push_value(out: &mut Bytes, value: &Value) -> Result<(), NoMemory>
     ensures { OnOk result (out.new ≡ out.old ++ value_text value.now) }
 {
     match value {
-        Value::Word(word) => push_number(out, alloc, *word),
+        Value::Word(word) => push_number(out, *word),
         Value::Text(text) => push_quoted(out, text.bytes()),
     }
 }
@@ -85,12 +79,7 @@ fn push_quoted(out: &mut Bytes, bytes: &[u8]) -> Result<(), NoMemory>
 }
 
 /// A reply to a function.
-pub fn push_answer(
-    out: &mut Bytes,
-    alloc: Global,
-    fun: &FunShape,
-    reply: &Reply,
-) -> Result<(), NoMemory>
+pub fn push_answer(out: &mut Bytes, fun: &FunShape, reply: &Reply) -> Result<(), NoMemory>
     ensures { OnOk result (out.new ≡ out.old ++ reply_text (fun_of_shape fun.now) reply.now) }
 {
     match reply {
@@ -98,20 +87,20 @@ pub fn push_answer(
             out.extend_from_slice(b"refused ")?;
             out.extend_from_slice(code_name(*code))
         }
-        Reply::Ok(good) => push_good(out, alloc, fun, good),
+        Reply::Ok(good) => push_good(out, fun, good),
     }
 }
 
 // An Ok: its descriptor, where it has one, its words, and its bytes, where the function shows them.
-fn push_good(out: &mut Bytes, alloc: Global, fun: &FunShape, good: &Good) -> Result<(), NoMemory>
+fn push_good(out: &mut Bytes, fun: &FunShape, good: &Good) -> Result<(), NoMemory>
     ensures { OnOk result (out.new ≡ out.old ++ good_text (fun_of_shape fun.now) good.now) }
 {
     out.extend_from_slice(b"ok")?;
     if good.desc != 0 {
         out.extend_from_slice(b" #")?;
-        push_number(out, alloc, good.desc)?;
+        push_number(out, good.desc)?;
     }
-    push_words(out, alloc, good.words.as_slice())?;
+    push_words(out, good.words.as_slice())?;
     if fun.name == b"tread".as_slice() {
         out.extend_from_slice(b" ")?;
         push_quoted(out, good.bytes.as_slice())?;
@@ -120,18 +109,18 @@ fn push_good(out: &mut Bytes, alloc: Global, fun: &FunShape, good: &Good) -> Res
 }
 
 // Words, each after a space.
-fn push_words(out: &mut Bytes, alloc: Global, words: &[u64]) -> Result<(), NoMemory>
+fn push_words(out: &mut Bytes, words: &[u64]) -> Result<(), NoMemory>
     ensures { OnOk result (out.new ≡ out.old ++ flat_map (λ word. codes " " ++ decimal word) words.now) }
 {
     for word in words {
         out.extend_from_slice(b" ")?;
-        push_number(out, alloc, *word)?;
+        push_number(out, *word)?;
     }
     Ok(())
 }
 
 /// A number in decimal.
-pub fn push_number(out: &mut Bytes, _alloc: Global, number: u64) -> Result<(), NoMemory>
+pub fn push_number(out: &mut Bytes, number: u64) -> Result<(), NoMemory>
     ensures { OnOk result (out.new ≡ out.old ++ decimal number) }
 {
     out.extend_from_slice(Buffer::new().format(number).as_bytes())

@@ -8,3 +8,4 @@ pub mod Counts
 pub mod Ends
 pub mod Keeps
 pub mod Premises
+pub mod Ready

@@ -1,7 +1,5 @@
 -- What a tracker keeps.
-use Rattle.std.specs.Prelude.{ℕ, ◌≡◌, ◌+◌, ◌-◌, ◌<◌, ◌==◌, ◌&&◌, ◌||◌, not, Bool, true, if◌then◌else◌, List, [], ◌∷◌, length, map, nat_le, slice_get, slice_index_or, ◌≤◌}
-use Rattle.std.specs.declared.option.Option.{Option}
-use Rattle.std.specs.Option.{is_some}
+use Rattle.std.specs.Prelude.{ℕ, ◌≡◌, ◌+◌, ◌-◌, ◌<◌, ◌==◌, ◌&&◌, ◌||◌, not, Bool, true, if◌then◌else◌, List, [], ◌∷◌, length, map, nat_le, slice_get, slice_index_or, vec_capacity, ◌≤◌}
 use Rattle.std.specs.Map.{values_of}
 use Rattle.indexmap.specs.IndexMap.{spare}
 use Rattle.sg_facts.specs.sg_base.Lists.{Each}
@@ -24,9 +22,15 @@ rows_in entries = rows_of (values_of entries)
 abbrev pub AreKeyed : List (ℕ × Kept) → Type 0
 AreKeyed entries = Each (λ e. e.0 ≡ e.1.row.id) entries
 
+-- room for the fields of one row, with a text in each
+pub record HasRowRoom (room : RowRoom) : Type 0 where
+  pub empty : room.values.items ≡ []
+  pub values : 8 ≤ vec_capacity room.values
+  pub texts : 8 ≤ length room.texts.items
+
 -- room for one row, or for none
-abbrev pub spare_of : Option RowRoom → ℕ
-spare_of room = if is_some room then 1 else 0
+abbrev pub spare_of : Bool → ℕ
+spare_of ready = if ready then 1 else 0
 
 -- rows in ascending ids, each under its own
 pub record Ascends (entries : List (ℕ × Kept)) : Type 0 where
@@ -66,13 +70,14 @@ more_at one number id = if id == one then number id + 1 else number id
 abbrev pub less_at : ℕ → (ℕ → ℕ) → ℕ → ℕ
 less_at one number id = if id == one then number id - 1 else number id
 
--- the rows are tracked, each under its id and with the number of its children, and where there is room for a row, the map has a
--- place for it
+-- the rows are tracked, each under its id and with the number of its children, and where there is room for a row, there is some for
+-- its fields, and the map has a place for it
 pub record IsKept (t : Inside) : Type 0 where
   pub tracked : AreTracked t.given (rows_in t.kept.entries)
   pub keyed : AreKeyed t.kept.entries
   pub counted : Counts (children_of (rows_in t.kept.entries)) (values_of t.kept.entries)
-  pub room : is_some t.room ≡ true → 1 ≤ spare t.kept
+  pub room : t.ready ≡ true → 1 ≤ spare t.kept
+  pub fields : t.ready ≡ true → HasRowRoom t.room
 
 -- whether an id ends with another, under subtree
 abbrev pub ends_below : List Row → ℕ → ℕ → Bool

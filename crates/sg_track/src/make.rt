@@ -4,13 +4,15 @@ ghost use Rattle.sg_facts.specs.Facts.{fun_at, fun_of_shape};
 ghost use Rattle.sg_facts.specs.Track.{fields_after, new_row};
 ghost use Rattle.sg_facts.specs.Inside.Rows.{empty_field};
 ghost use Rattle.sg_track.specs.Drafts.{EachNew, IsValue, blank_draft, empty_shape};
+ghost use Rattle.sg_track.specs.Kept.{HasRowRoom};
 
 use crate::draft::{Draft, draft_each};
 use crate::room::RowRoom;
 use sg_facts::{Call, FieldShape, Fields, FunShape, Good, Interface, Row};
 
 /// The row that an Ok of a creation makes, in the room for it.
-pub(crate) fn made_row(interface: &Interface, call: &Call, good: &Good, room: RowRoom) -> Row
+pub(crate) fn made_row(interface: &Interface, call: &Call, good: &Good, room: &mut RowRoom) -> Row
+    requires room { HasRowRoom room.old }
     requires few { length interface.now.facts.fields ≤ 8 }
     requires values { EachNew IsValue call.now good.now (fun_at interface.now.facts.funs call.now.fun).effects (map empty_field interface.now.facts.fields) }
     ensures { result ≡ new_row interface.now.facts call.now good.now }
@@ -34,8 +36,9 @@ fn made_fields(
     fun: &FunShape,
     call: &Call,
     good: &Good,
-    room: RowRoom,
+    room: &mut RowRoom,
 ) -> Fields
+    requires room { HasRowRoom room.old }
     requires few { length fields.now ≤ 8 }
     requires values { EachNew IsValue call.now good.now (fun_of_shape fun.now).effects (map empty_shape fields.now) }
     ensures { result ≡ fields_after call.now good.now (fun_of_shape fun.now).effects (map empty_shape fields.now) }

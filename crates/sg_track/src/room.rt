@@ -1,86 +1,107 @@
 // Room for a row.
-ghost use Rattle.std.specs.Prelude.{◌≡◌, ◌≤◌, [], length, map, IfOk, vec_capacity};
+ghost use Rattle.std.specs.Prelude.{◌≡◌, ◌+◌, ◌≤◌, [], length, map, OnOk, vec_capacity};
 ghost use Rattle.sg_track.specs.Drafts.{drafted};
 
 use crate::draft::Draft;
 use sg_facts::{Call, Fields, NoMemory, Text, TextRoom, Value};
 use std::alloc::Global;
+use std::mem;
 
-/// Room for the fields of one row, with a text of 256 bytes in each, which is used up when the fields are made.
+/// Room for the fields of one row after another, with a text of 256 bytes in each. The fields of a row use up the room for them, and each
+/// of its texts that for one.
 #[derive(Debug, Drop)]
 pub(crate) struct RowRoom {
-    values: Vec<Value>,
-    texts: Vec<TextRoom>,
-    blank: Text,
-    ghost is_empty: { values.items ≡ [] },
-    ghost has_room: { 8 ≤ vec_capacity values },
-    ghost has_texts: { length texts.items ≡ 8 },
-    ghost is_blank: { blank ≡ [] },
+    pub(crate) values: Vec<Value>,
+    pub(crate) texts: Vec<TextRoom>,
 }
 
 impl RowRoom {
-    /// Room for the fields of a row.
-    pub(crate) fn new(alloc: Global) -> Result<RowRoom, NoMemory> {
-        Ok(RowRoom {
-            values: Vec::with_capacity(alloc, Fields::MOST)?,
-            texts: text_rooms(alloc)?,
-            blank: blank(alloc)?,
-        })
+    ghost use Rattle.sg_track.specs.Kept.{HasRowRoom};
+
+    /// No room yet. It takes no memory.
+    pub(crate) fn new(alloc: Global) -> RowRoom {
+        RowRoom {
+            values: Vec::new(alloc),
+            texts: Vec::new(alloc),
+        }
     }
 
-    /// The fields as they were drafted, without memory.
-    pub(crate) fn fill(self, drafts: &[Draft], call: &Call) -> Fields
-        requires { length drafts.now ≤ 8 }
+    /// Takes the memory for the fields of a row, where it isn't there.
+    pub(crate) fn reserve(&mut self, alloc: Global) -> Result<(), NoMemory>
+        ensures { OnOk result (HasRowRoom self.new) }
+    {
+        self.values = Vec::with_capacity(alloc, Fields::MOST)?;
+        add_text_rooms(alloc, &mut self.texts)?;
+        Ok(())
+    }
+
+    /// The fields as they were drafted, without memory. They keep no room that they don't need.
+    pub(crate) fn fill(&mut self, drafts: &[Draft], call: &Call) -> Fields
+        requires room { HasRowRoom self.old }
+        requires few { length drafts.now ≤ 8 }
         ensures { result ≡ map (drafted call.now) drafts.now }
     {
-        let RowRoom {
-            mut values,
-            mut texts,
-            blank,
-        } = self;
-        for draft in drafts {
-            match texts.pop() {
-                Some(room) => values.push_reserved(filled(*draft, call, &blank, room)),
-                None => unreachable!(),
-            }
-        }
-        Fields::from_vec(values)
+        let none = Vec::new(*self.values.allocator());
+        let values = mem::replace(&mut self.values, none);
+        Fields::from_vec(filled(values, &mut self.texts, drafts, call))
     }
 }
 
+// The values of fields as they were drafted, in a vector that has the room for them.
+fn filled(
+    mut values: Vec<Value>,
+    texts: &mut Vec<TextRoom>,
+    drafts: &[Draft],
+    call: &Call,
+) -> Vec<Value>
+    requires empty { values.items ≡ [] }
+    requires room { 8 ≤ vec_capacity values }
+    requires texts { 8 ≤ length texts.old.items }
+    requires few { length drafts.now ≤ 8 }
+    ensures { result.items ≡ map (drafted call.now) drafts.now }
+{
+    for draft in drafts {
+        values.push_reserved(filled_value(*draft, texts, call));
+    }
+    values.shrink_to_fit();
+    values
+}
+
 // The value of a field, in the room for its text.
-fn filled(draft: Draft, call: &Call, blank: &Text, room: TextRoom) -> Value
-    requires { blank.now ≡ [] }
-    ensures { result ≡ drafted call.now draft }
+fn filled_value(draft: Draft, texts: &mut Vec<TextRoom>, call: &Call) -> Value
+    requires { 1 ≤ length texts.old.items }
+    ensures value { result ≡ drafted call.now draft }
+    ensures texts { length texts.old.items ≤ length texts.new.items + 1 }
 {
     match draft {
         Draft::Number(word) => Value::Word(word),
-        Draft::Blank => Value::Text(room.fill(blank)),
+        Draft::Blank => Value::Text(Text::empty(*texts.allocator())),
         Draft::Arg(at) => match call.args.get(usize::from(at)) {
             Some(Value::Word(word)) => Value::Word(*word),
-            Some(Value::Text(text)) => Value::Text(room.fill(text)),
+            Some(Value::Text(text)) => Value::Text(filled_text(texts, text)),
             None => Value::Word(0),
         },
     }
 }
 
-// Room for as many texts as a row has fields.
-fn text_rooms(alloc: Global) -> Result<Vec<TextRoom>, NoMemory>
-    ensures { IfOk result (λ rooms. length rooms.items ≡ 8) }
+// A text, in one of the rooms for texts.
+fn filled_text(texts: &mut Vec<TextRoom>, text: &Text) -> Text
+    requires { 1 ≤ length texts.old.items }
+    ensures text { result ≡ text.now }
+    ensures texts { length texts.old.items ≤ length texts.new.items + 1 }
 {
-    let mut rooms = Vec::with_capacity(alloc, Fields::MOST)?;
-    'rooms: for _ in 0..Fields::MOST {
-        rooms.push(Text::room(alloc)?)?;
+    match texts.pop() {
+        Some(room) => room.fill(text),
+        None => unreachable!(),
     }
-    Ok(rooms)
 }
 
-// The empty text.
-fn blank(alloc: Global) -> Result<Text, NoMemory>
-    ensures { IfOk result (λ text. text ≡ []) }
+// Makes up the rooms for as many texts as a row has fields.
+fn add_text_rooms(alloc: Global, rooms: &mut Vec<TextRoom>) -> Result<(), NoMemory>
+    ensures { OnOk result (8 ≤ length rooms.new.items) }
 {
-    match Text::new(alloc, b"") {
-        Ok(text) => Ok(text),
-        Err(_) => Err(NoMemory),
+    'rooms: for _ in rooms.len()..Fields::MOST {
+        rooms.push(Text::room(alloc)?)?;
     }
+    Ok(())
 }

@@ -23,7 +23,9 @@ use std::marker::Model;
 pub struct Tracker {
     pub(crate) kept: KeptRows,
     pub(crate) given: u64,
-    pub(crate) room: Option<RowRoom>,
+    pub(crate) room: RowRoom,
+    /// Whether there is room for one more row.
+    pub(crate) ready: bool,
 }
 
 impl Model for Tracker {
@@ -33,7 +35,7 @@ impl Model for Tracker {
 
     ghost use Rattle.sg_track.specs.Kept.{rows_in, spare_of, IsKept};
 
-    ghost view = { λ t. record { rows = rows_in t.kept.entries; given = t.given; spare = spare_of t.room } };
+    ghost view = { λ t. record { rows = rows_in t.kept.entries; given = t.given; spare = spare_of t.ready } };
 
     ghost invariant = { λ t. IsKept t };
 }
@@ -48,7 +50,8 @@ impl Tracker {
         Tracker {
             kept: IndexMap::new(alloc),
             given: 0,
-            room: None,
+            room: RowRoom::new(alloc),
+            ready: false,
         }
     }
 
@@ -59,9 +62,10 @@ impl Tracker {
         ensures ok { OnOk result (1 ≤ self.new.spare) }
         ensures err { OnErr result (self.new.spare ≡ self.old.spare) }
     {
-        if self.room.is_none() {
+        if !self.ready {
             self.kept.reserve(1)?;
-            self.room = Some(RowRoom::new(alloc)?);
+            self.room.reserve(alloc)?;
+            self.ready = true;
         }
         Ok(())
     }
@@ -108,16 +112,12 @@ impl Tracker {
         ensures given { self.new.given ≡ self.old.given + 1 }
         ensures spare { self.new.spare ≡ self.old.spare - 1 }
     {
-        match self.room.take() {
-            Some(room) => {
-                self.given = good.desc;
-                if !interface.fun(call.fun).is_query() {
-                    let row = made_row(interface, call, good, room);
-                    count_child(&mut self.kept, row.parent);
-                    add_row(&mut self.kept, row);
-                }
-            }
-            None => unreachable!(),
+        self.ready = false;
+        self.given = good.desc;
+        if !interface.fun(call.fun).is_query() {
+            let row = made_row(interface, call, good, &mut self.room);
+            count_child(&mut self.kept, row.parent);
+            add_row(&mut self.kept, row);
         }
     }
 

@@ -26,17 +26,17 @@ pub fn verdict_line(
     match verdict {
         Verdict::Legal => {
             out.extend_from_slice(b"legal ")?;
-            push_number(&mut out, alloc, history.as_slice().len() as u64)?;
+            push_number(&mut out, history.as_slice().len() as u64)?;
         }
         Verdict::BadSeq { at, next } => {
-            push_place(&mut out, alloc, *at)?;
+            push_place(&mut out, *at)?;
             out.extend_from_slice(b"seq ")?;
-            push_number(&mut out, alloc, u64::from(*next))?;
+            push_number(&mut out, u64::from(*next))?;
         }
         Verdict::BadReply { at, answer } => {
-            push_place(&mut out, alloc, *at)?;
+            push_place(&mut out, *at)?;
             let fun = iface.fun(fun_of(history.as_slice(), *at));
-            push_answered(&mut out, alloc, &fun, answer)?;
+            push_answered(&mut out, &fun, answer)?;
         }
     }
     out.extend_from_slice(b"\n")?;
@@ -44,11 +44,11 @@ pub fn verdict_line(
 }
 
 // The place of the first wrong entry.
-fn push_place(out: &mut Bytes, alloc: Global, at: u64) -> Result<(), NoMemory>
+fn push_place(out: &mut Bytes, at: u64) -> Result<(), NoMemory>
     ensures { OnOk result (out.new ≡ out.old ++ codes "illegal at entry " ++ decimal at ++ codes ": ") }
 {
     out.extend_from_slice(b"illegal at entry ")?;
-    push_number(out, alloc, at)?;
+    push_number(out, at)?;
     out.extend_from_slice(b": ")
 }
 
@@ -63,16 +63,11 @@ fn fun_of(history: &[Entry], at: u64) -> u8
 }
 
 // A reply to a function, or that the caller has to wait.
-fn push_answered(
-    out: &mut Bytes,
-    alloc: Global,
-    fun: &FunShape,
-    answer: &Option<Reply>,
-) -> Result<(), NoMemory>
+fn push_answered(out: &mut Bytes, fun: &FunShape, answer: &Option<Reply>) -> Result<(), NoMemory>
     ensures { OnOk result (out.new ≡ out.old ++ answered_text (fun_of_shape fun.now) answer.now) }
 {
     match answer {
-        Some(reply) => push_answer(out, alloc, fun, reply),
+        Some(reply) => push_answer(out, fun, reply),
         None => out.extend_from_slice(b"blocked"),
     }
 }

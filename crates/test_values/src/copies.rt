@@ -2,7 +2,8 @@
 ghost use Rattle.sg_base.specs.Reply.{FitsReplyRoom};
 
 use sg_base::{
-    Args, Bytes, Call, Code, Good, NoMemory, PairList, Reply, Text, TryCopy, Value, Words,
+    Args, Bytes, Call, Code, Good, NoMemory, PairList, Reply, SpareReply, Text, TryCopy, Value,
+    Words,
 };
 use std::alloc::Global;
 use std::fmt::Debug;
@@ -73,6 +74,16 @@ fn copies_and_fills(rt: &impl Abort, alloc: Global, reply: &Reply) -> Result<(),
     Ok(())
 }
 
+// Whether a refusal and the longest reply fill the same room, one after the other.
+fn refusal_and_most_fill(alloc: Global, most: &Reply) -> Result<bool, NoMemory>
+    requires { FitsReplyRoom most.now }
+{
+    let refusal = Reply::Refused(Code::Gap);
+    let mut spare = SpareReply::new(alloc);
+    spare.reserve(alloc)?;
+    Ok(spare.fill(&refusal) == refusal && spare.fill(most) == *most)
+}
+
 // The longest reply.
 fn fills_the_most(rt: &impl Abort, alloc: Global) -> Result<(), NoMemory> {
     let words = Words::from_slice(alloc, &[5, 6, 7, u64::MAX])?;
@@ -83,7 +94,9 @@ fn fills_the_most(rt: &impl Abort, alloc: Global) -> Result<(), NoMemory> {
         words,
         bytes,
     });
-    copies_and_fills(rt, alloc, &most)
+    copies_and_fills(rt, alloc, &most)?;
+    assert!(rt; refusal_and_most_fill(alloc, &most)?);
+    Ok(())
 }
 
 // Whether the longest text fills the room that is taken for it.
@@ -93,12 +106,19 @@ fn longest_text_fills(alloc: Global) -> Result<bool, Fail> {
     Ok(filled == text)
 }
 
+// Whether the empty text is that of no bytes.
+fn empty_text_is_empty(alloc: Global) -> Result<bool, Fail> {
+    let text = Text::new(alloc, b"")?;
+    Ok(Text::empty(alloc) == text)
+}
+
 #[test]
 fn fills_the_room_of_the_longest_reply(rt: HostRuntime) -> Result<(), Fail> {
     let alloc = rt.alloc();
     fills_the_most(&rt, alloc)?;
     copies_and_fills(&rt, alloc, &Reply::Refused(Code::Gap))?;
     assert!(rt; longest_text_fills(alloc)?);
+    assert!(rt; empty_text_is_empty(alloc)?);
     Ok(())
 }
 

@@ -1,5 +1,5 @@
 // Lists, and lists that take memory ahead.
-use sg_base::{ListOf, ListRoom, NoMemory, RoomyList, Words};
+use sg_base::{ListOf, ListRoom, NoMemory, RoomyList, SpareList, Words};
 use std::alloc::Global;
 use std::process::Abort;
 use std::test::Fail;
@@ -71,5 +71,16 @@ fn fills_the_room_of_a_list(rt: HostRuntime) -> Result<(), Fail> {
     let room = ListRoom::new(rt.alloc(), 3)?;
     let filled = room.fill(&[4u64, 5, 6]);
     assert_eq!(rt; filled.as_slice(), [4, 5, 6].as_slice());
+    Ok(())
+}
+
+#[test]
+fn keeps_room_from_one_list_to_the_next(rt: HostRuntime) -> Result<(), Fail> {
+    let mut room = SpareList::<u64>::new(rt.alloc());
+    room.reserve(rt.alloc(), 3)?;
+    assert!(rt; room.fill(&[]).is_empty());
+    assert_eq!(rt; room.fill(&[4, 5, 6]).as_slice(), [4, 5, 6].as_slice());
+    room.reserve(rt.alloc(), 2)?;
+    assert!(rt; room.take().is_empty());
     Ok(())
 }

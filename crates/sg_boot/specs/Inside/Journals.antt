@@ -1,8 +1,6 @@
 -- What a journal keeps.
-use Rattle.std.specs.Prelude.{ℕ, List, [], ◌∷◌, None, Some, min}
-use Rattle.std.specs.declared.option.Option.{Option}
+use Rattle.std.specs.Prelude.{ℕ, Bool, true, false, List, [], ◌∷◌, min}
 use Rattle.sg_facts.specs.sg_base.Room.{Roomy}
-use Rattle.sg_boot.specs.declared.room.ItemRoom.{ItemRoom}
 use Rattle.sg_facts.specs.declared.trace.BootLog.{BootLog}
 use Rattle.sg_facts.specs.Trace.{Run}
 
@@ -18,6 +16,6 @@ last_room (b ∷ []) = b.items.room
 last_room (b ∷ c ∷ boots) = last_room (c ∷ boots)
 
 -- the places that there are for boots and for items of the last boot, where there is room for what an item holds
-abbrev pub room_of : Option ItemRoom → Roomy BootLog → ℕ
-room_of None boots = 0
-room_of (Some room) boots = min boots.room (last_room boots.items)
+abbrev pub room_of : Bool → Roomy BootLog → ℕ
+room_of false boots = 0
+room_of true boots = min boots.room (last_room boots.items)

@@ -20,7 +20,7 @@ invariant_of-self c =
     let is = read_value (values_of s.kept.entries) c.in-Some.place k c.index_mut.ensures.value in
     let are = kept_changed change c.args.call.now.desc (λ r. refl) (λ r. refl) s.given s.kept.entries c.in-Some.place _ k
     (record { tracked = c.self.invariant.tracked; keyed = c.self.invariant.keyed; counted = c.self.invariant.counted }) c.in-Some.ensures is c.change_row.ensures refl in
-    record { tracked = are.tracked; keyed = are.keyed; counted = are.counted; room = c.self.invariant.room }
+    record { tracked = are.tracked; keyed = are.keyed; counted = are.counted; room = c.self.invariant.room; fields = c.self.invariant.fields }
 
 pub returns-in-Some-clause-rows : goal.returns-in-Some-clause-rows
 returns-in-Some-clause-rows c =

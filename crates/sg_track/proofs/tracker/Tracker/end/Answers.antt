@@ -26,6 +26,7 @@ invariant_of-self c =
       keyed = are.keyed;
       counted = are.counted;
       room = λ there. omega (arith, c.self-2.invariant.room there, c.close_up.ensures.spare, c.mark_below.ensures.spare, c.discount_row.ensures.spare);
+      fields = c.self-2.invariant.fields;
     }
 
 pub invariant_of-self-else-all : goal.invariant_of-self-else-all
@@ -40,6 +41,7 @@ invariant_of-self-else-all c =
       keyed = are.keyed;
       counted = are.counted;
       room = λ there. omega (arith, c.self-2.invariant.room there, c.remove_row.ensures.spare, c.discount_row.ensures.spare);
+      fields = c.self-2.invariant.fields;
     }
 
 pub returns-then-all-clause-rows : goal.returns-then-all-clause-rows

@@ -1,14 +1,19 @@
 -- The new id is above all that are there, and above its parent.
-use Rattle.std.proofs.Common.{◌≡◌, ◌<◌, ◌+◌, ◌^◌, ◌∙◌, ap, subst, sym, refl, true, false, is_some, arith}
+use Rattle.std.proofs.Common.{◌≡◌, ◌<◌, ◌≤◌, ◌+◌, ◌^◌, ◌∙◌, ap, subst, sym, refl, false, arith}
 use Rattle.std.specs.Map.{values_of}
 use Rattle.sg_facts.specs.Track.{row_at}
 use Rattle.sg_track.specs.Kept.{children_of, rows_in}
-use Rattle.sg_track.specs.Tracked.{AreTracked, HasLowerParent}
+use Rattle.sg_track.specs.Tracked.{AreTracked, HasLowerParent, Tracked}
 use Rattle.sg_facts.proofs.RowLists.{wider}
 use Rattle.sg_track.proofs.Counts.{each_as, few_children}
 use Rattle.sg_track.proofs.Keeps.{AreKept, kept_more}
 use Rattle.sg_track.proofs.KeptLists.{below_next, none_beyond}
+use Rattle.sg_track.proofs.Ready.{is_ready, unready}
 use Rattle.sg_track.proofs.tracker.Tracker.make.Goals as goal
+
+pub made_row-row-requires-clause-room : goal.made_row-row-requires-clause-room
+made_row-row-requires-clause-room c =
+    c.self.invariant.fields (is_ready c.self.inside.ready (subst (λ (t : Tracked). 1 ≤ t.spare) (sym c.self.view_is) c.requires.place.room))
 
 pub count_child-requires-clause-few : goal.count_child-requires-clause-few
 count_child-requires-clause-few c =
@@ -41,7 +46,8 @@ invariant_of-self c =
       tracked = subst (λ n. AreTracked n (rows_in c.add_row.new.kept.entries)) id are.tracked;
       keyed = are.keyed;
       counted = are.counted;
-      room = λ there. absurd (let gone : false ≡ true = sym (ap is_some c.take.ensures.after) ∙ there in cc gone);
+      room = λ there. absurd (unready there);
+      fields = λ there. absurd (unready there);
     }
 
 pub invariant_of-self-else-not-is_query : goal.invariant_of-self-else-not-is_query
@@ -52,5 +58,6 @@ invariant_of-self-else-not-is_query c = record {
       wider HasLowerParent 0 0 s.given c.args.good.now.desc (rows_in s.kept.entries) (omega arith) (omega (arith, given, c.requires.place.next)) c.self.invariant.tracked;
   keyed = c.self.invariant.keyed;
   counted = c.self.invariant.counted;
-  room = λ there. absurd (let gone : false ≡ true = sym (ap is_some c.take.ensures.after) ∙ there in cc gone);
+  room = λ there. absurd (unready there);
+  fields = λ there. absurd (unready there);
 }

@@ -13,4 +13,5 @@ invariant_of-self c =
       keyed = c.self.invariant.keyed;
       counted = c.self.invariant.counted;
       room = c.self.invariant.room;
+      fields = c.self.invariant.fields;
     }

@@ -1,7 +1,7 @@
 -- The first values are made, and there is room for the rest.
 use Rattle.std.proofs.Common.{◌≡◌, ◌+◌, ◌≤◌, length, map, take, vec_capacity}
 use Rattle.sg_track.specs.Drafts.{drafted}
-use Rattle.sg_track.proofs.room.RowRoom.fill.Given as goal
+use Rattle.sg_track.proofs.room.filled.Given as goal
 
 abbrev pub invariant-loop-draft : goal.invariant-loop-draft
 invariant-loop-draft l = record {
