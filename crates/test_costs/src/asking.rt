@@ -1,7 +1,6 @@
 // The texts of standard interfaces, and what `cost` prints of an interface and a script.
-use sg_edge::{MemSink, MemSource, NoMemory};
 use sg_load::ServiceKind;
-use sg_top::{Status, serial};
+use sg_top::{MemSink, MemSource, NoMemory, Status, serial};
 use std::alloc::Global;
 use test_interfaces::{EVENT, LOCK, MM, RAMFS, SCHED};
 

@@ -1,8 +1,8 @@
 // No boot of a generated script of each service needs more than its bound, and all boots together need what the load's line says.
 use crate::asking::{costs, text_of};
-use sg_edge::NoMemory;
 use sg_load::{ServiceKind, generate};
 use sg_script::{Arg, Script, ScriptCall};
+use sg_top::NoMemory;
 use sg_top::Status::Done;
 use std::alloc::Global;
 use std::fmt::Write;

@@ -1,7 +1,7 @@
 // What plays cost that were worked out by hand, line by line. For each service one boot needs exactly its bound.
 use crate::asking::{Said, costs, text_of};
-use sg_edge::NoMemory;
 use sg_load::ServiceKind;
+use sg_top::NoMemory;
 use sg_top::Status::{self, Done, Refused, Waits};
 use std::alloc::Global;
 use std::test::Fail;

@@ -1,6 +1,6 @@
 // Two clients in threads of their own.
 use crate::runs::{input_of, played_with};
-use sg_edge::Gate;
+use sg_top::Gate;
 use std::sync::atomic::{AtomicBool, Ordering};
 use std::test::Fail;
 use std::thread;

@@ -1,6 +1,6 @@
 // Runs whose inputs are made: long ones, other interfaces, and what is refused.
 use crate::runs::{comes_to, input_of};
-use sg_edge::NoMemory;
+use sg_top::NoMemory;
 use std::alloc::Global;
 use std::test::Fail;
 use test_interfaces::{LOCK, RAMFS};

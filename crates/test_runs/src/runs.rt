@@ -1,7 +1,6 @@
 // Whether each run comes out as it is written.
 use crate::texts::{EVENTS, FILES, LOCKS, PAGES, THREADS};
-use sg_edge::{Gate, MemSink, MemSource, NoMemory, OpenGate};
-use sg_top::superglue;
+use sg_top::{Gate, MemSink, MemSource, NoMemory, OpenGate, superglue};
 use std::alloc::Global;
 use std::process::Abort;
 use std::sync::Wait;

@@ -1,6 +1,5 @@
 // Inputs of an interface and a printed run, and what is said of them.
-use sg_edge::{MemSink, MemSource, NoMemory, OpenGate};
-use sg_top::{Status, serial, superglue};
+use sg_top::{MemSink, MemSource, NoMemory, OpenGate, Status, serial, superglue};
 use std::alloc::{AllocError, Global};
 use std::sync::Wait;
 use std::thread::Threads;
