@@ -71,6 +71,13 @@ impl<S: Service> Cell<S> {
         self.journal.trace()
     }
 
+    /// What was done to the service, given away; the service is let go.
+    pub fn into_trace(self) -> Trace
+        ensures { run_of result ≡ self.run }
+    {
+        self.journal.into_trace()
+    }
+
     /// The running service, lent; None exactly where the service failed.
     pub fn service(&self) -> Option<&S>
         ensures { option_map S.object (option_copied result) ≡ self.now.running }

@@ -57,6 +57,13 @@ impl Journal {
         &self.trace
     }
 
+    /// What was done, given away.
+    pub(crate) fn into_trace(self) -> Trace
+        ensures { run_of result ≡ self.run }
+    {
+        self.trace
+    }
+
     /// The number of boots.
     pub(crate) fn boots(&self) -> u64
         ensures { result ≡ length self.now.run.boots }

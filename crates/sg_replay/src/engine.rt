@@ -103,6 +103,13 @@ impl<S: Service> Engine<S> {
         self.cell.trace()
     }
 
+    /// What was done to the service, given away; all else is let go.
+    pub fn into_trace(self) -> Trace
+        ensures { run_of result ≡ self.cell.run }
+    {
+        self.cell.into_trace()
+    }
+
     /// The running service, lent; None exactly where it failed.
     pub fn service(&self) -> Option<&S>
         ensures { option_map S.object (option_copied result) ≡ self.now.cell.running }

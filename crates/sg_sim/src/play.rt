@@ -3,7 +3,7 @@ ghost use Rattle.std.specs.Prelude.{◌≡◌, ◌+◌, ◌≤◌, ◌<◌, ◌+
 ghost use Rattle.sg_play.specs.sg_clients.Clients.{IsClient};
 ghost use Rattle.sg_play.specs.sg_plain.Playing.Callers.{handed, is_setting_up};
 ghost use Rattle.sg_play.specs.sg_plain.Playing.Ends.{end_of, ends_from};
-ghost use Rattle.sg_sim.specs.Inside.Ends.{end_by};
+ghost use Rattle.sg_sim.specs.Inside.Ends.{HasEnded, end_by};
 ghost use Rattle.sg_play.specs.sg_plain.Playing.Playable.{IsPlayable};
 ghost use Rattle.sg_play.specs.sg_plain.Playing.Turns.{NobodyGoes, is_free_phase, may_go};
 ghost use Rattle.sg_facts.specs.Trace.{run_of};
@@ -202,26 +202,25 @@ impl<S: Service, T: Stops> Play<S, T> {
         ensures plan { self.new.plan ≡ self.old.plan }
         ensures in_order { self.new.in_order ≡ self.old.in_order }
     {
-        for _ in 0..MOST_TURNS {
-            match self.next_turn() {
-                Some(turn) => self.take(alloc, turn)?,
-                None => return self.end(alloc),
-            }
-        }
-        Err(NoMemory)
+        let ends = self.come_to_end(alloc)?;
+        self.copied(alloc, ends)
     }
 
     /// Plays all that is left, to the end, as `play` does, and ends the play. What it answers has the history and the trace of the world
-    /// to which the play's comes by turns of its clients.
+    /// to which the play's comes by turns of its clients; they are moved out of it.
     pub fn finish(self, alloc: Global) -> Result<Played, NoMemory>
         ensures played { IfOk result (IsPlayed (stubs_of (setting_of S.ask S.sound S.parts self.tables)) T.test self.script self.plan) }
         ensures schedule { self.in_order ≡ true → IfOk result (λ ended. FollowsSchedule self.tables.iface S.ask self.script (run_of ended.trace) ended.history.items) }
         ensures world { IfOk result (EndsAs (setting_of S.ask S.sound S.parts self.tables) self.script self.view) }
     {
         let mut play = self;
-        let played = play.play(alloc);
-        play.abandon();
-        played
+        match play.come_to_end(alloc) {
+            Ok(ends) => Ok(play.into_played(ends)),
+            Err(NoMemory) => {
+                play.abandon();
+                Err(NoMemory)
+            }
+        }
     }
 
     /// Ends the play where it stands.
@@ -237,6 +236,24 @@ impl<S: Service, T: Stops> Play<S, T> {
         ensures plan { result.now.plan ≡ self.now.plan }
     {
         &self.world
+    }
+
+    // Makes the turns that are left, and gives how the clients ended. `NoMemory` also where a step of the world wanted memory.
+    fn come_to_end(&mut self, alloc: Global) -> Result<EndList, NoMemory>
+        ensures ended { IfOk result (HasEnded self.new) }
+        ensures turns { OnOk result (ComesTo (setting_of S.ask S.sound S.parts self.old.tables) self.old.script self.old.view self.new.view) }
+        ensures tables { self.new.tables ≡ self.old.tables }
+        ensures script { self.new.script ≡ self.old.script }
+        ensures plan { self.new.plan ≡ self.old.plan }
+        ensures in_order { self.new.in_order ≡ self.old.in_order }
+    {
+        for _ in 0..MOST_TURNS {
+            match self.next_turn() {
+                Some(turn) => self.take(alloc, turn)?,
+                None => return self.ends_of_all(alloc),
+            }
+        }
+        Err(NoMemory)
     }
 
     // A client takes its turn, which is the next. After `NoMemory` it has still to take it.
@@ -380,24 +397,62 @@ impl<S: Service, T: Stops> Play<S, T> {
         script_call(&self.script, client, done).is_some()
     }
 
-    // What the play came to, where nobody can take a turn.
-    fn end(&self, alloc: Global) -> Result<Played, NoMemory>
+    // How the clients ended, where nobody can take a turn.
+    fn ends_of_all(&self, alloc: Global) -> Result<EndList, NoMemory>
         requires settled { is_setting_up self.now.script self.now.view.seats ≡ false }
         requires nobody { NobodyGoes self.now.script self.now.view.seats }
-        ensures played { IfOk result (IsPlayed (stubs_of (setting_of S.ask S.sound S.parts self.now.tables)) T.test self.now.script self.now.plan) }
-        ensures schedule { self.now.in_order ≡ true → IfOk result (λ ended. FollowsSchedule self.now.tables.iface S.ask self.now.script (run_of ended.trace) ended.history.items) }
-        ensures world { IfOk result (IsOfWorld self.now.view) }
+        ensures { IfOk result (HasEnded self.now) }
     {
         if self.world.refused() > 0 {
             return Err(NoMemory);
         }
-        // Nothing is done: the proof takes what this call promises.
+        Ok(self.ends(alloc)?)
+    }
+
+    // What the play promises of a run that ends so, for the proof: nothing is done, and it takes what these calls promise.
+    fn tell_end(&self, ends: &EndList)
+        requires { HasEnded self.now ends.now }
+        ensures played { (ended : _) → IsOfWorld self.now.view ended → ended.ends ≡ ends.now
+            → IsPlayed (stubs_of (setting_of S.ask S.sound S.parts self.now.tables)) T.test self.now.script self.now.plan ended }
+        ensures schedule { (ended : _) → IsOfWorld self.now.view ended → self.now.in_order ≡ true
+            → FollowsSchedule self.now.tables.iface S.ask self.now.script (run_of ended.trace) ended.history.items }
+    {
+        let _ = ends;
         let _ = self.world.interface();
+        let _ = self.world.history();
+        let _ = self.world.trace();
+    }
+
+    // What the play came to, with copies of its history and its trace.
+    fn copied(&self, alloc: Global, ends: EndList) -> Result<Played, NoMemory>
+        requires { HasEnded self.now ends }
+        ensures played { IfOk result (IsPlayed (stubs_of (setting_of S.ask S.sound S.parts self.now.tables)) T.test self.now.script self.now.plan) }
+        ensures schedule { self.now.in_order ≡ true → IfOk result (λ ended. FollowsSchedule self.now.tables.iface S.ask self.now.script (run_of ended.trace) ended.history.items) }
+        ensures world { IfOk result (IsOfWorld self.now.view) }
+    {
+        self.tell_end(&ends);
         Ok(Played::new(Ended {
             history: self.world.history().copied(alloc)?,
             trace: self.world.trace().copied(alloc)?,
-            ends: self.ends(alloc)?,
+            ends,
         }))
+    }
+
+    // What the play came to, with its history and its trace themselves. It takes no memory.
+    fn into_played(self, ends: EndList) -> Played
+        requires { HasEnded self ends }
+        ensures played { IsPlayed (stubs_of (setting_of S.ask S.sound S.parts self.tables)) T.test self.script self.plan result }
+        ensures schedule { self.in_order ≡ true → FollowsSchedule self.tables.iface S.ask self.script (run_of result.trace) result.history.items }
+        ensures world { IsOfWorld self.view result }
+    {
+        self.tell_end(&ends);
+        let Play { world, .. } = self;
+        let (history, trace) = world.into_run();
+        Played::new(Ended {
+            history,
+            trace,
+            ends,
+        })
     }
 
     // How the clients with a call ended.

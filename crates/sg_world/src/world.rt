@@ -108,6 +108,19 @@ impl<S: Service, T: Stops> World<S, T> {
         self.inner.engine.trace()
     }
 
+    /// The calls that were done and what was done to the service, given away; all else of the world ends.
+    pub fn into_run(self) -> (History, Trace)
+        ensures history { result.0.items ≡ self.view.history }
+        ensures run { run_of result.1 ≡ self.view.run }
+    {
+        let Inner {
+            engine,
+            history,
+            ..
+        } = self.inner;
+        (history, engine.into_trace())
+    }
+
     /// The running service, lent; None exactly where it failed.
     pub fn service(&self) -> Option<&S>
         ensures { option_map S.object (option_copied result) ≡ self.now.view.running }

@@ -2,7 +2,7 @@
 use Rattle.std.proofs.Common.{◌≡◌}
 use Rattle.sg_play.specs.sg_world.Worlded.{setting_of}
 use Rattle.sg_sim.specs.Playing.{ComesTo}
-use Rattle.sg_sim.proofs.play.Play.play.Given as goal
+use Rattle.sg_sim.proofs.play.Play.come_to_end.Given as goal
 
 abbrev pub invariant-loop : goal.invariant-loop
 invariant-loop g l =

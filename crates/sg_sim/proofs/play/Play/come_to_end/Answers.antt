@@ -6,7 +6,7 @@ use Rattle.sg_play.specs.sg_world.Worlded.{setting_of}
 use Rattle.sg_play.specs.sg_world_laws.Setting.{Setting}
 use Rattle.sg_sim.proofs.Turns.{turn_more}
 use Rattle.sg_sim.specs.Playing.{IsTurnOf}
-use Rattle.sg_sim.proofs.play.Play.play.Goals as goal
+use Rattle.sg_sim.proofs.play.Play.come_to_end.Goals as goal
 
 pub loop-preserved : goal.loop-preserved
 loop-preserved g c =
