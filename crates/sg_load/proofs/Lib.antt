@@ -1,6 +1,7 @@
 mod Checked
 pub mod Playing
 pub mod Printable
+mod Repeats
 pub mod Services
 pub mod Steps
 pub mod Wholes

@@ -1,23 +1,19 @@
 -- A generated script is played, and its stops ascend.
-use Rattle.std.proofs.Common.{◌≡◌, ◌⊎◌, inl, inr, ℕ, zero, suc, ◌+◌, ◌-◌, ◌*◌, ◌/◌, ◌%◌, ◌<◌, ◌≤◌, Bool, true, false, ◌&&◌, List, [], ◌∷◌, ◌++◌, length, refl, sym, ap, subst, arith, length-append}
-use Rattle.std.specs.Prelude.{◌==◌, if◌then◌else◌, nat_le, nat_lt, not, replicate}
-use Rattle.std.specs.List.{list_all}
-use Rattle.std.proofs.lemmas.Bool.{and_parts}
-use Rattle.std.proofs.lemmas.Bool.Decides.{eqb_tells, nat_tests}
+use Rattle.std.proofs.Common.{◌≡◌, ◌⊎◌, inl, inr, ℕ, zero, suc, ◌+◌, ◌-◌, ◌*◌, ◌/◌, ◌%◌, ◌<◌, ◌≤◌, Bool, true, false, List, [], ◌++◌, length, refl, sym, ap, subst, arith, length-append}
+use Rattle.std.specs.Prelude.{◌==◌, if◌then◌else◌}
+use Rattle.std.proofs.lemmas.Bool.Decides.{eqb_tells}
 use Rattle.sg_plain.specs.sg_edge.Stops.{AscendsAbove}
-use Rattle.sg_facts.specs.Facts.{fun_at}
-use Rattle.sg_facts.specs.Interface.{Declared}
 use Rattle.sg_facts.specs.Limits.{most_script_calls}
 use Rattle.sg_load.specs.declared.kind.ServiceKind.{ServiceKind}
-use Rattle.sg_load.specs.declared.kind.ServiceKind.TheVariants.{Locks, Events, Pages, Files, Threads}
 use Rattle.sg_load.specs.Drawn.{after_draws, drawn, stops_from}
-use Rattle.sg_load.specs.Inside.{calls_each, calls_of_client, client_count, event_count, groups_of, lock_count, most_distance, setup_of, stop_count, upper}
-use Rattle.sg_load.specs.Generated.{clients_from, generated, groups_from, setup_count}
+use Rattle.sg_load.specs.Inside.{calls_each, calls_of_client, client_count, groups_of, most_distance, most_setup, setup_of, stop_count, upper}
+use Rattle.sg_load.specs.Generated.{clients_from, generated, groups_from}
 use Rattle.sg_plain.specs.sg_script.Flaws.{calls_before}
-use Rattle.sg_load.specs.Groups.{call, group_of, group_size}
-use Rattle.sg_load.specs.Services.{standard}
+use Rattle.sg_load.specs.Services.{group_of, group_size, setup_count, standard}
+use Rattle.sg_load.proofs.Repeats.{fit_both}
+use Rattle.sg_load.proofs.Services.{group_fits, group_length, setup_few, setup_fits, setup_goes_on, setup_length, some_size}
 use Rattle.sg_plain.specs.Calls.{part_of, script_calls}
-use Rattle.sg_plain.specs.Script.{call_fits, calls_fit}
+use Rattle.sg_plain.specs.Script.{calls_fit}
 use Rattle.sg_plain.specs.Playing.Playable.{AreClients, IsPlayable}
 use Rattle.sg_plain.specs.sg_script.declared.script.ScriptCall.{ScriptCall}
 
@@ -30,86 +26,7 @@ stops_ascend x stop (suc count) =
     let next = stop + (1 + upper (drawn x) % most_distance) in
     (omega arith, stops_ascend (drawn x) next count)
 
--- ---- calls, one after the other
-
-both : (a b : Bool) → a ≡ true → b ≡ true → (a && b) ≡ true
-both true b one other = other
-both false b one other = absurd (cc one)
-
--- calls fit after others
-fit_both : (i : Declared) (n : ℕ) (xs ys : List ScriptCall) → calls_fit i n xs ≡ true → calls_fit i (n + length xs) ys ≡ true → calls_fit i n (xs ++ ys) ≡ true
-fit_both i n [] ys one two = let e : n + 0 ≡ n = omega arith in subst (λ m. calls_fit i m ys ≡ true) e two
-fit_both i n (x ∷ xs) ys one two =
-    let parts = and_parts (call_fits i n x) (calls_fit i (n + 1) xs) one in
-    let e : n + length (x ∷ xs) ≡ n + 1 + length xs = omega arith in
-    both (call_fits i n x) (calls_fit i (n + 1) (xs ++ ys)) parts.0 (fit_both i (n + 1) xs ys parts.1 (subst (λ m. calls_fit i m ys ≡ true) e two))
-
--- ---- the setup
-
-times_fit : (i : Declared) (c : ScriptCall) → ((n : ℕ) → call_fits i n c ≡ true) → (n count : ℕ) → calls_fit i n (replicate count c) ≡ true
-times_fit i c fits n zero = refl
-times_fit i c fits n (suc count) = both (call_fits i n c) (calls_fit i (n + 1) (replicate count c)) (fits n) (times_fit i c fits (n + 1) count)
-
-times_length : (c : ScriptCall) (count : ℕ) → length (replicate count c) ≡ count
-times_length c zero = refl
-times_length c (suc count) = ap suc (times_length c count)
-
-times_all : (test : ScriptCall → Bool) (c : ScriptCall) → test c ≡ true → (count : ℕ) → list_all test (replicate count c) ≡ true
-times_all test c is zero = refl
-times_all test c is (suc count) = both (test c) (list_all test (replicate count c)) is (times_all test c is count)
-
-setup_fits : (service : ServiceKind) → calls_fit (standard service) 1 (setup_of service) ≡ true
-setup_fits Locks = times_fit (standard Locks) (call 1 []) (λ n. refl) 1 lock_count
-setup_fits Events = times_fit (standard Events) (call 1 []) (λ n. refl) 1 event_count
-setup_fits Pages = refl
-setup_fits Files = refl
-setup_fits Threads = refl
-
-setup_length : (service : ServiceKind) → length (setup_of service) ≡ setup_count service
-setup_length Locks = times_length (call 1 []) lock_count
-setup_length Events = times_length (call 1 []) event_count
-setup_length Pages = refl
-setup_length Files = refl
-setup_length Threads = refl
-
-setup_goes_on : (service : ServiceKind) → list_all (λ c. not (fun_at (standard service).facts.funs c.fun).block) (setup_of service) ≡ true
-setup_goes_on Locks = times_all (λ c. not (fun_at (standard Locks).facts.funs c.fun).block) (call 1 []) refl lock_count
-setup_goes_on Events = times_all (λ c. not (fun_at (standard Events).facts.funs c.fun).block) (call 1 []) refl event_count
-setup_goes_on Pages = refl
-setup_goes_on Files = refl
-setup_goes_on Threads = refl
-
 -- ---- groups
-
-module _ (first : ℕ) (low : 1 ≤ first) where
-  begun : nat_le 1 first ≡ true
-  begun = grind (arith, nat_tests, low)
-
-  below_1 : nat_lt first (first + 1) ≡ true
-  below_1 = grind (arith, nat_tests)
-
-  below_2 : nat_lt first (first + 1 + 1) ≡ true
-  below_2 = grind (arith, nat_tests)
-
-  below_3 : nat_lt first (first + 1 + 1 + 1) ≡ true
-  below_3 = grind (arith, nat_tests)
-
-  below_4 : nat_lt first (first + 1 + 1 + 1 + 1) ≡ true
-  below_4 = grind (arith, nat_tests)
-
-  group_fits : (service : ServiceKind) (client group u : ℕ) → calls_fit (standard service) first (group_of service client first group u) ≡ true
-  group_fits Locks client group u = refl
-  group_fits Events client group u = refl
-  group_fits Pages client group u = rw (begun, below_1, below_3) refl
-  group_fits Files client group u = rw (begun, below_1, below_2, below_3, below_4) refl
-  group_fits Threads client group u = rw (begun, below_1, below_3, below_4) refl
-
-group_length : (service : ServiceKind) (client first group u : ℕ) → length (group_of service client first group u) ≡ group_size service
-group_length Locks client first group u = refl
-group_length Events client first group u = refl
-group_length Pages client first group u = refl
-group_length Files client first group u = refl
-group_length Threads client first group u = refl
 
 groups_fit : (service : ServiceKind) (client x first group count : ℕ) → 1 ≤ first
     → calls_fit (standard service) first (groups_from service client x first group count) ≡ true
@@ -170,26 +87,15 @@ first_length service c = at (c == 1)
     at true = setup_length service
     at false = refl
 
-few_before : (service : ServiceKind) (c : ℕ) → calls_before (setup_count service) c ≤ 16
-few_before service c = at service (c == 1)
+few_before : (service : ServiceKind) (c : ℕ) → calls_before (setup_count service) c ≤ most_setup
+few_before service c = at (c == 1)
   where
-    at : (s : ServiceKind) (b : Bool) → (if b then setup_count s else 0) ≤ 16
-    at Locks true = omega arith
-    at Events true = omega arith
-    at Pages true = omega arith
-    at Files true = omega arith
-    at Threads true = omega arith
-    at s false = omega arith
+    at : (b : Bool) → (if b then setup_count service else 0) ≤ most_setup
+    at true = setup_few service
+    at false = omega arith
 
 few_in : (size calls : ℕ) → 0 < size → size * (calls / size) ≤ calls
 few_in size calls some = omega arith
-
-some_size : (service : ServiceKind) → 0 < group_size service
-some_size Locks = omega arith
-some_size Events = omega arith
-some_size Pages = omega arith
-some_size Files = omega arith
-some_size Threads = omega arith
 
 part_length : (service : ServiceKind) (c y : ℕ) → length (calls_of_client service c y) ≤ calls_each
 part_length service c y =

@@ -1,20 +1,18 @@
 -- Decimal numbers are printable.
-use Rattle.std.proofs.Common.{◌≡◌, ℕ, ◌+◌, ◌%◌, ◌^◌, ◌<◌, ◌≤◌, Bool, true, false, ◌&&◌, List, [], ◌∷◌, ◌++◌, length, refl, arith, length-append}
-use Rattle.std.specs.Prelude.{◌==◌, codes, nat_le}
+use Rattle.std.proofs.Common.{◌≡◌, ℕ, ◌+◌, ◌%◌, ◌^◌, ◌<◌, ◌≤◌, Bool, true, false, ◌&&◌, List, [], ◌∷◌, ◌++◌, length, refl, arith}
+use Rattle.std.specs.Prelude.{◌==◌, nat_le}
 use Rattle.std.specs.Fmt.{decimal}
 use Rattle.std.specs.List.{list_all}
 use Rattle.std.proofs.lemmas.Bool.{and_parts}
 use Rattle.std.proofs.lemmas.Bool.Decides.{nat_tests}
-use Rattle.std.proofs.lemmas.Fmt.{decimal_by_steps, length-decimal-le}
+use Rattle.std.proofs.lemmas.Fmt.{decimal_by_steps}
 use Rattle.sg_facts.specs.sg_base.Text.{is_text_byte}
-use Rattle.sg_load.specs.Inside.{file_name, file_text}
-use Rattle.sg_plain.specs.sg_script.Numbers.{is_text}
 
-both : (a b : Bool) → a ≡ true → b ≡ true → (a && b) ≡ true
+pub both : (a b : Bool) → a ≡ true → b ≡ true → (a && b) ≡ true
 both true b one other = other
 both false b one other = absurd (cc one)
 
-all_both : (test : ℕ → Bool) (xs ys : List ℕ) → list_all test xs ≡ true → list_all test ys ≡ true → list_all test (xs ++ ys) ≡ true
+pub all_both : (test : ℕ → Bool) (xs ys : List ℕ) → list_all test xs ≡ true → list_all test ys ≡ true → list_all test (xs ++ ys) ≡ true
 all_both test [] ys one other = other
 all_both test (x ∷ xs) ys one other = let parts = and_parts (test x) (list_all test xs) one in both (test x) (list_all test (xs ++ ys)) parts.0 (all_both test xs ys parts.1 other)
 
@@ -25,26 +23,10 @@ digit_is d low =
     let other : ((48 + d) == 0x22) ≡ false = grind (arith, nat_tests) in
     rw (above, below, other) refl
 
-decimal_is : (n : ℕ) → n < 2 ^ 64 → list_all is_text_byte (decimal n) ≡ true
+pub decimal_is : (n : ℕ) → n < 2 ^ 64 → list_all is_text_byte (decimal n) ≡ true
 decimal_is = decimal_by_steps (λ n ds. list_all is_text_byte ds ≡ true)
     (λ n low. both (is_text_byte (48 + n)) true (digit_is n low) refl)
     (λ n ds high front. all_both is_text_byte ds ((48 + n % 10) ∷ []) front (both (is_text_byte (48 + n % 10)) true (digit_is (n % 10) (omega arith)) refl))
 
-short : (bytes : List ℕ) → length bytes ≤ 256 → nat_le (length bytes) 256 ≡ true
+pub short : (bytes : List ℕ) → length bytes ≤ 256 → nat_le (length bytes) 256 ≡ true
 short bytes most = grind (arith, nat_tests, most)
-
-pub name_is_text : (file : ℕ) → file < 2 ^ 32 → is_text (file_name file) ≡ true
-name_is_text file small =
-    let digits : length (decimal file) ≤ 10 = length-decimal-le 10 file (omega arith) (omega (arith, small)) (omega (arith, small)) in
-    let joined = length-append (codes "f") (decimal file) in
-    both _ _ (short (file_name file) (omega (arith, joined, digits))) (all_both is_text_byte (codes "f") (decimal file) refl (decimal_is file (omega (arith, small))))
-
-pub text_is_text : (client group : ℕ) → client < 2 ^ 8 → group < 2 ^ 32 → is_text (file_text client group) ≡ true
-text_is_text client group few small =
-    let one : length (decimal client) ≤ 10 = length-decimal-le 10 client (omega arith) (omega (arith, few)) (omega (arith, few)) in
-    let other : length (decimal group) ≤ 10 = length-decimal-le 10 group (omega arith) (omega (arith, small)) (omega (arith, small)) in
-    let joined = length-append (decimal client) (codes ":" ++ decimal group) in
-    let back = length-append (codes ":") (decimal group) in
-    both _ _ (short (file_text client group) (omega (arith, joined, back, one, other)))
-    (all_both is_text_byte (decimal client) (codes ":" ++ decimal group) (decimal_is client (omega (arith, few)))
-    (all_both is_text_byte (codes ":") (decimal group) refl (decimal_is group (omega (arith, small)))))

@@ -5,7 +5,7 @@ use Rattle.sg_load.specs.declared.kind.ServiceKind.{ServiceKind}
 use Rattle.sg_load.specs.Drawn.{after_draws, drawn, stops_from}
 use Rattle.sg_load.specs.Inside.{calls_of_client, groups_of, most_distance, upper}
 use Rattle.sg_load.specs.Generated.{clients_from, groups_from}
-use Rattle.sg_load.specs.Groups.{group_of, group_size}
+use Rattle.sg_load.specs.Services.{group_of, group_size}
 use Rattle.sg_plain.specs.sg_script.declared.script.ScriptCall.{ScriptCall}
 
 append_none : {A : Type 0} (xs : List A) → xs ++ [] ≡ xs

@@ -1,13 +1,10 @@
 -- An interface that declares the first functions of a shape is its standard interface.
-use Rattle.std.proofs.Common.{◌≡◌, ◌⊎◌, inl, inr, ℕ, ◌-◌, ◌^◌, false, List, [], ◌∷◌, length, map, refl, sym, ◌∙◌, ap, subst, Result, Ok, Err, IfOk}
+use Rattle.std.proofs.Common.{◌≡◌, ℕ, ◌-◌, ◌^◌, false, List, [], ◌∷◌, length, map, refl, sym, ◌∙◌, ap}
 use Rattle.std.proofs.lemmas.List.{length-map}
 use Rattle.sg_facts.specs.declared.shape.Shape.{Shape}
 use Rattle.sg_facts.specs.Facts.{Facts, facts_of, fun_of_shape}
 use Rattle.sg_facts.specs.Interface.{Declared}
 use Rattle.sg_facts.specs.Laws.{whole}
-use Rattle.sg_load.specs.declared.kind.ServiceKind.{ServiceKind}
-use Rattle.sg_load.specs.declared.kind.ServiceKind.TheVariants.{Locks, Pages, Files, Threads}
-use Rattle.sg_load.specs.Services.{facts_by, standard}
 
 same_pairs : (ps : List (ℕ × ℕ)) → map (λ p. (p.0, p.1)) ps ≡ ps
 same_pairs [] = refl
@@ -25,25 +22,9 @@ declares_first shape count declared given moves steps all moved stepped =
     ∙ ap (λ s. declaring (facts_of shape) (2 ^ count - 1) given s) (stepped ∙ sym (same_pairs shape.steps.now))
 
 -- all of them, with all transitions
-whole_is : (shape : Shape) (facts : Facts) → facts_of shape ≡ facts
+pub whole_is : (shape : Shape) (facts : Facts) → facts_of shape ≡ facts
     → record (whole (facts_of shape)) { declared = 2 ^ length shape.funs.now - 1; moves = shape.moves.now } ≡ whole facts
 whole_is shape facts is =
     ap (λ n. declaring (facts_of shape) (2 ^ n - 1) shape.moves.now (facts_of shape).steps) (sym (length-map shape.funs.now fun_of_shape))
     ∙ ap (λ m. declaring (facts_of shape) (whole (facts_of shape)).declared m (facts_of shape).steps) (sym (same_pairs shape.moves.now))
     ∙ ap whole is
-
--- of each service but that of events
-abbrev IsOther : ServiceKind → Type 0
-IsOther kind = (kind ≡ Locks) ⊎ ((kind ≡ Pages) ⊎ ((kind ≡ Files) ⊎ (kind ≡ Threads)))
-
-declares_all : (kind : ServiceKind) → IsOther kind → whole (facts_by kind) ≡ standard kind
-declares_all kind (inl is) = subst (λ k. whole (facts_by k) ≡ standard k) (sym is) refl
-declares_all kind (inr (inl is)) = subst (λ k. whole (facts_by k) ≡ standard k) (sym is) refl
-declares_all kind (inr (inr (inl is))) = subst (λ k. whole (facts_by k) ≡ standard k) (sym is) refl
-declares_all kind (inr (inr (inr is))) = subst (λ k. whole (facts_by k) ≡ standard k) (sym is) refl
-
-pub standard_is : {E : Type 0} (kind : ServiceKind) (shape : Shape) → IsOther kind → facts_of shape ≡ facts_by kind → (made : Result Declared E)
-    → IfOk made (λ iface. iface ≡ record (whole (facts_of shape)) { declared = 2 ^ length shape.funs.now - 1; moves = shape.moves.now })
-    → IfOk made (λ iface. iface ≡ standard kind)
-standard_is kind shape other is (Err e) all = tt
-standard_is kind shape other is (Ok iface) all = all ∙ whole_is shape (facts_by kind) is ∙ declares_all kind other

@@ -1,16 +1,11 @@
 -- The script that is generated for a service from a number.
 use Rattle.std.specs.Prelude.{ℕ, zero, suc, ◌+◌, ◌-◌, ◌/◌, ◌^◌, List, [], ◌∷◌, ◌++◌, replicate}
 use Rattle.sg_load.specs.declared.kind.ServiceKind.{ServiceKind}
-use Rattle.sg_load.specs.declared.kind.ServiceKind.TheVariants.{Locks, Events}
 use Rattle.sg_load.specs.Drawn.{after_draws, drawn, stops_from}
-use Rattle.sg_load.specs.Groups.{call, group_of, group_size}
+use Rattle.sg_load.specs.Services.{call, group_of, group_size, setup_count}
 use Rattle.sg_plain.specs.sg_script.Flaws.{calls_before}
 use Rattle.sg_plain.specs.sg_script.declared.script.Script.{Script}
 use Rattle.sg_plain.specs.sg_script.declared.script.ScriptCall.{ScriptCall}
-
--- the number of the calls of the setup: it makes 16 locks by lock_alloc, or 16 events by evt_split, each of them function 1
-abbrev pub setup_count : ServiceKind → ℕ
-setup_count kind = elim kind [ Locks ↦ 16 | Events ↦ 16 | _ ↦ 0 ]
 
 -- so many groups of a client, a draw for each, from the group on that begins with the client's call of a number
 unfoldable pub groups_from : ServiceKind → ℕ → ℕ → ℕ → ℕ → ℕ → List ScriptCall

@@ -1,24 +1,13 @@
 // The standard interface of a service.
-ghost use Rattle.std.specs.Prelude.{◌≡◌, ◌-◌, ◌<◌, ◌≤◌, ◌^◌, IfOk};
+ghost use Rattle.std.specs.Prelude.{◌≡◌, ◌-◌, ◌<◌, ◌^◌, IfOk};
 ghost use Rattle.sg_facts.specs.Facts.{facts_of};
 ghost use Rattle.sg_facts.specs.Laws.{whole};
 ghost use Rattle.sg_load.specs.Services.{facts_by, standard};
 
 use crate::ServiceKind;
-use crate::functions::{EVT_FREE, EVT_SPLIT, EVT_TRIGGER, EVT_WAIT};
 use sg_check::Accepted;
 use sg_facts::{Interface, NoMemory, PairList, Shape};
 use std::alloc::Global;
-
-// The functions that version 1 of the events' text declares: the first four, without evt_take.
-const EVENT_FUNS: usize = 4;
-
-// The transitions that it declares.
-const EVENT_MOVES: [(u8, u8); 3] = [
-    (EVT_SPLIT, EVT_WAIT),
-    (EVT_SPLIT, EVT_TRIGGER),
-    (EVT_SPLIT, EVT_FREE),
-];
 
 /// The standard interface of a service: each function that version 1 of its text declares, with all transitions and recover steps
 /// of these.
@@ -26,25 +15,12 @@ pub fn standard(alloc: Global, service: ServiceKind) -> Result<Accepted, NoMemor
     ensures standard { IfOk result (λ accepted. accepted ≡ standard service) }
     ensures facts { IfOk result (λ accepted. accepted.facts ≡ facts_by service) }
 {
-    let iface = standard_interface(alloc, service)?;
+    let iface = service.standard_interface(alloc)?;
     Ok(Accepted::new(iface))
 }
 
-// The standard interface of a service, before it is known to fit.
-fn standard_interface(alloc: Global, service: ServiceKind) -> Result<Interface, NoMemory>
-    ensures { IfOk result (λ iface. iface ≡ standard service) }
-{
-    let shape = service.shape();
-    match service {
-        ServiceKind::Events => declaring(alloc, shape, EVENT_FUNS, &EVENT_MOVES),
-        ServiceKind::Locks | ServiceKind::Pages | ServiceKind::Files | ServiceKind::Threads => {
-            declaring(alloc, shape, shape.funs.len(), shape.moves)
-        }
-    }
-}
-
-// The interface of a shape that declares so many functions, the first ones, with these transitions and all recover steps.
-fn declaring(
+/// The interface of a shape that declares so many functions, the first ones, with these transitions and all recover steps.
+pub(crate) fn declaring(
     alloc: Global,
     shape: Shape,
     count: usize,

@@ -1,32 +1,26 @@
-//! The generated load: for each of the five services a script of many calls and stops, from a number, on the service's
-//! standard interface.
+//! The generated load: for each of the services a script of many calls and stops, from a number, on the service's standard
+//! interface.
 //!
-//! - `kind`: the five services (`ServiceKind`)
+//! - `kind`: the services (`ServiceKind`), and what a load knows of each
 //! - `interface`: the standard interface of a service (`standard`)
-//! - `functions`, `sizes`: the numbers of the functions that are called, and how large a script is
+//! - `sizes`: how large a script is
 //! - `draws`: the numbers that are drawn (`Draws`)
-//! - `texts`, `groups`: the texts of calls on files, and the groups of calls of each service
+//! - `calls`: calls that are added to a script
 //! - `script`: the script (`generate`)
 //!
-//! `specs/Generated.antt` has the script apart from the code, by the groups in `specs/Groups.antt` and the draws in
+//! `specs/Generated.antt` has the script apart from the code, by the groups in `specs/Services.antt` and the draws in
 //! `specs/Drawn.antt`.
 #![tactic(auto)]
 
+mod calls;
 mod draws;
-mod functions;
-mod groups;
 mod interface;
-mod kind;
+pub mod kind;
 mod script;
 mod sizes;
-mod texts;
 
 pub use interface::standard;
 pub use kind::ServiceKind;
 pub use script::generate;
 pub use sg_check::{Accepted, check};
-pub use sg_event::EventService;
-pub use sg_lock::LockService;
-pub use sg_mm::MmService;
-pub use sg_ramfs::RamfsService;
-pub use sg_sched::SchedService;
+pub use sg_plain::{Arg, Script, ScriptCall};

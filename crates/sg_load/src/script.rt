@@ -2,16 +2,16 @@
 ghost use Rattle.std.specs.Prelude.{◌≡◌, ◌+◌, ◌<◌, ◌≤◌, OnOk, IfOk};
 ghost use Rattle.sg_plain.specs.sg_edge.Stops.{AscendsAbove};
 ghost use Rattle.sg_load.specs.Drawn.{after_draws, stops_from};
-ghost use Rattle.sg_load.specs.Generated.{clients_from, generated, groups_from, setup_count};
-ghost use Rattle.sg_load.specs.Inside.{calls_of_client, client_count, groups_of, stop_count};
+ghost use Rattle.sg_load.specs.Generated.{clients_from, generated, groups_from};
+ghost use Rattle.sg_load.specs.Inside.{calls_of_client, client_count, groups_of, most_setup, setup_of, stop_count};
 ghost use Rattle.sg_plain.specs.sg_script.Flaws.{calls_before};
-ghost use Rattle.sg_load.specs.Services.{standard};
+ghost use Rattle.sg_load.specs.Services.{setup_count, standard};
 ghost use Rattle.sg_plain.specs.Playing.Playable.{IsPlayable};
 
 use crate::ServiceKind;
+use crate::calls::{GroupState, times};
 use crate::draws::Draws;
-use crate::groups::{GroupState, add_group, group_size, setup};
-use crate::sizes::{CALLS_EACH, CLIENTS, EVENTS, LOCKS, MOST_DISTANCE, STOPS};
+use crate::sizes::{CALLS_EACH, CLIENTS, FIRST_FUN, MOST_DISTANCE, STOPS};
 use sg_facts::{NoMemory, PointList};
 use sg_plain::{CallList, ClientList, Script, TurnList};
 use std::alloc::Global;
@@ -39,6 +39,13 @@ fn script_of(alloc: Global, service: ServiceKind, number: u64) -> Result<Script,
         schedule: TurnList::new(alloc),
         stops,
     })
+}
+
+// The calls of the setup.
+fn setup(alloc: Global, service: ServiceKind) -> Result<CallList, NoMemory>
+    ensures { IfOk result (λ calls. calls ≡ setup_of service) }
+{
+    times(alloc, service.setup_count(), FIRST_FUN)
 }
 
 // The stops.
@@ -88,8 +95,8 @@ fn calls_of(
             first,
             group: done + 1,
         };
-        add_group(&mut calls, alloc, service, at, draws.draw())?;
-        first += group_size(service);
+        service.add_group(&mut calls, alloc, at, draws.draw())?;
+        first += service.group_size();
     }
     Ok(calls)
 }
@@ -97,20 +104,12 @@ fn calls_of(
 // How many calls a client has before its groups.
 fn calls_before(service: ServiceKind, client: u8) -> u32
     ensures count { result ≡ calls_before (setup_count service) client }
-    ensures few { result ≤ LOCKS }
+    ensures few { result ≤ most_setup }
 {
-    if client == 1 { setup_count(service) } else { 0 }
-}
-
-// The number of the calls of the setup.
-fn setup_count(service: ServiceKind) -> u32
-    ensures count { result ≡ setup_count service }
-    ensures few { result ≤ LOCKS }
-{
-    match service {
-        ServiceKind::Locks => LOCKS,
-        ServiceKind::Events => EVENTS,
-        ServiceKind::Pages | ServiceKind::Files | ServiceKind::Threads => 0,
+    if client == 1 {
+        service.setup_count()
+    } else {
+        0
     }
 }
 
@@ -119,5 +118,5 @@ fn groups_of(service: ServiceKind, client: u8) -> u32
     ensures count { result ≡ groups_of service client }
     ensures few { result ≤ CALLS_EACH }
 {
-    (CALLS_EACH - calls_before(service, client)) / group_size(service)
+    (CALLS_EACH - calls_before(service, client)) / service.group_size()
 }

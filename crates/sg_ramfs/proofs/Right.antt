@@ -25,7 +25,7 @@ use Rattle.sg_facts.specs.Object.{Object, after, file_at, first_text, patch_of, 
 use Rattle.sg_facts.specs.Track.{arg_at, word_of}
 use Rattle.sg_facts.specs.Inside.Rows.{row_after}
 use Rattle.sg_slots.specs.declared.decision.Decision.{Decision}
-use Rattle.sg_slots.specs.declared.decision.Decision.TheVariants.{Refuse, Block, Make, Set, Keep, Remove}
+use Rattle.sg_slots.specs.declared.decision.Decision.TheVariants.{Refuse, Block, Make, Enlist, Set, Keep, Remove}
 use Rattle.sg_slots.specs.Carry.{Carries, IsCut, held_after, ok_reply, parts_in, reply_to}
 use Rattle.sg_slots.specs.Slots.{Held, entry_at, row_with}
 use Rattle.sg_slots.proofs.Rows.{rows_of-more, rows_of-set, rows_of-without}
@@ -61,6 +61,7 @@ module _ (held : Held OpenFile) (files : List (List ℕ × List ℕ)) (call : Ca
   answers_ok (Refuse code) parts = absurd (omega (arith, parts))
   answers_ok Block parts = absurd (omega (arith, parts))
   answers_ok (Make f word) parts = (_, refl)
+  answers_ok (Enlist f word) parts = (_, refl)
   answers_ok (Set f word) parts = (_, refl)
   answers_ok (Keep desc word) parts = absurd (omega (arith, parts))
   answers_ok Remove parts = (_, refl)
@@ -110,6 +111,7 @@ module _ (held : Held OpenFile) (files : List (List ℕ × List ℕ)) (call : Ca
   no_bytes (Refuse code) reply is = let one : Refused code ≡ reply = cc is in subst (λ r. r ≡ with_bytes r []) one refl
   no_bytes Block reply is = absurd (cc is)
   no_bytes (Make f word) reply is = let one : ok_reply (held.given + 1) word ≡ reply = cc is in subst (λ r. r ≡ with_bytes r []) one refl
+  no_bytes (Enlist f word) reply is = let one : ok_reply (held.given + 1) word ≡ reply = cc is in subst (λ r. r ≡ with_bytes r []) one refl
   no_bytes (Set f word) reply is = let one : ok_reply 0 word ≡ reply = cc is in subst (λ r. r ≡ with_bytes r []) one refl
   no_bytes (Keep desc word) reply is = let one : ok_reply desc word ≡ reply = cc is in subst (λ r. r ≡ with_bytes r []) one refl
   no_bytes Remove reply is = let one : ok_reply 0 None ≡ reply = cc is in subst (λ r. r ≡ with_bytes r []) one refl

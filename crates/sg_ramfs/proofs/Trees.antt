@@ -16,7 +16,7 @@ use Rattle.sg_facts.specs.Track.{row_at}
 use Rattle.sg_facts.specs.Inside.Rows.{has_child}
 use Rattle.sg_facts.proofs.RowLists.{more, changed, left, other}
 use Rattle.sg_slots.specs.declared.decision.Decision.{Decision}
-use Rattle.sg_slots.specs.declared.decision.Decision.TheVariants.{Refuse, Block, Make, Set, Keep, Remove}
+use Rattle.sg_slots.specs.declared.decision.Decision.TheVariants.{Refuse, Block, Make, Enlist, Set, Keep, Remove}
 use Rattle.sg_slots.specs.Carry.{Carries, IsAbout, held_after}
 use Rattle.sg_slots.specs.Slots.{Held, entry_at, row_with, set_entry, without}
 use Rattle.sg_slots.proofs.FoundRows.{all_rows}
@@ -173,6 +173,7 @@ module _ (held : Held OpenFile) (tree : IsTree held) where
   tree_after id (Refuse code) about fits = tree
   tree_after id Block about fits = tree
   tree_after id (Make f word) about fits = tree_more f fits.0 fits.1
+  tree_after id (Enlist f word) about fits = tree_more f fits.0 fits.1
   tree_after id (Set f word) about fits = at (entry_at held.entries id) refl about fits
     where
       at : (found : Option OpenFile) → entry_at held.entries id ≡ found → IsSome found → IfSome found (λ old. (f.parent ≡ old.parent) × (f.name ≡ old.name)) → IsTree (held_after held id (Set f word))

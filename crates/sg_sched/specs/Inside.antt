@@ -1,7 +1,5 @@
 -- What private clauses and proofs speak of.
 pub mod SchedAnswer
 pub mod SchedDecision
-pub mod SchedFirst
-pub mod SchedIndex
-pub mod SchedKeys
+pub mod SchedOrders
 pub mod SchedRanks

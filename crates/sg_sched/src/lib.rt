@@ -2,15 +2,11 @@
 //!
 //! - `functions`: the numbers of the service's functions
 //! - `shape`: the facts of the service, those of its standard interface
-//! - `thread`: one thread (`Thread`)
-//! - `key`, `index`, `queue`: the threads, and the indexes that tell which is next and the greatest rank
+//! - `thread`: one thread (`Thread`), and where it stands in the queue
 //! - `service`: the service (`SchedService`)
 #![tactic(auto)]
 
 pub mod functions;
-mod index;
-mod key;
-mod queue;
 mod service;
 mod shape;
 mod thread;

@@ -6,8 +6,8 @@ ghost use Rattle.sg_facts.specs.declared.shape.Kind.TheVariants.{Word as IsWord}
 ghost use Rattle.sg_facts.specs.Kinds.{MayAsk, kinds_fit};
 ghost use Rattle.sg_facts.specs.Track.{row_at, arg_at};
 ghost use Rattle.sg_facts.specs.Inside.Rows.{has_child};
-ghost use Rattle.sg_slots.specs.Slots.{row_with, object_of, rows_of};
-ghost use Rattle.sg_slots.specs.Decide.{Decides};
+ghost use Rattle.sg_queues.specs.sg_slots.Slots.{row_with, object_of, rows_of};
+ghost use Rattle.sg_queues.specs.sg_slots.Decide.{Decides};
 ghost use Rattle.sg_sched.specs.Laws.SchedWalkLaw.{sched_walk_goes_on};
 ghost use Rattle.sg_sched.specs.SchedFacts.{sched_facts};
 ghost use Rattle.sg_sched.specs.SchedTable.{sched_table, sched_parts, next_rank, first_ready};
@@ -21,17 +21,16 @@ ghost use Rattle.sg_sched.specs.Inside.SchedDecision.{on_create, on_yield, on_sl
 
 use crate::Thread;
 use crate::functions::{CREATE, NEXT, PLACE, SLEEP, WAIT, WAKEUP, YIELD};
-use crate::queue::Queue;
 use crate::shape::sched_shape;
 use sg_facts::{Call, Code, NoMemory, Outcome, Path, Service, Shape, Stops, Value};
-use sg_slots::Decision;
+use sg_queues::{Decision, Queue};
 use std::alloc::Global;
 
 /// The thread service: it makes and ends threads, puts them to sleep, wakes them, and tells which is next; who waits for
 /// a thread that is asleep is blocked.
 #[derive(Debug, Drop)]
 pub struct SchedService {
-    queue: Queue,
+    queue: Queue<Thread>,
 }
 
 impl SchedService {
@@ -100,7 +99,7 @@ impl Service for SchedService {
 }
 
 // What to do with a call.
-fn decide(queue: &Queue, call: &Call) -> Decision<Thread>
+fn decide(queue: &Queue<Thread>, call: &Call) -> Decision<Thread>
     requires { MayAsk sched_facts (object_of thread_body queue.now) call.now }
     ensures { Decides sched_facts sched_table sched_parts thread_body queue.now call.now result }
 {
@@ -134,12 +133,30 @@ fn argument(call: &Call) -> u64
     }
 }
 
+// The id of the ready thread that goes before all others; None where no thread is ready.
+fn first_thread(queue: &Queue<Thread>) -> Option<u64>
+    ensures { result ≡ option_map (λ r. r.id) (first_ready (rows_of thread_body queue.now.entries)) }
+{
+    queue.first()
+}
+
+// One more than the greatest rank, 1 where there is no thread.
+fn rank_at_end(queue: &Queue<Thread>) -> u64
+    requires { next_rank (rows_of thread_body queue.now.entries) < 2 ^ 64 }
+    ensures { result ≡ next_rank (rows_of thread_body queue.now.entries) }
+{
+    match queue.greatest() {
+        Some(rank) => rank + 1,
+        None => 1,
+    }
+}
+
 // Makes a ready thread, at the end of the queue.
-fn create(queue: &Queue, client: u8, prio: u64) -> Decision<Thread>
+fn create(queue: &Queue<Thread>, client: u8, prio: u64) -> Decision<Thread>
     requires { next_rank (rows_of thread_body queue.now.entries) < 2 ^ 64 }
     ensures { result ≡ on_create client prio (next_rank (rows_of thread_body queue.now.entries)) }
 {
-    let rank = queue.next_rank();
+    let rank = rank_at_end(queue);
     Decision::Make {
         entry: Thread {
             creator: client,
@@ -152,11 +169,11 @@ fn create(queue: &Queue, client: u8, prio: u64) -> Decision<Thread>
 }
 
 // Puts a thread at the end of the queue.
-fn give_way(queue: &Queue, thread: &Thread) -> Decision<Thread>
+fn give_way(queue: &Queue<Thread>, thread: &Thread) -> Decision<Thread>
     requires { next_rank (rows_of thread_body queue.now.entries) < 2 ^ 64 }
     ensures { result ≡ on_yield thread.now (next_rank (rows_of thread_body queue.now.entries)) }
 {
-    let rank = queue.next_rank();
+    let rank = rank_at_end(queue);
     Decision::Set {
         entry: Thread { rank, ..*thread },
         word: Some(rank),
@@ -204,10 +221,10 @@ fn wait(thread: &Thread) -> Decision<Thread>
 }
 
 // Tells which thread is next.
-fn next(queue: &Queue) -> Decision<Thread>
+fn next(queue: &Queue<Thread>) -> Decision<Thread>
     ensures { result ≡ on_next (option_map (λ r. r.id) (first_ready (rows_of thread_body queue.now.entries))) }
 {
-    match queue.next() {
+    match first_thread(queue) {
         Some(desc) => Decision::Keep { desc, word: None },
         None => Decision::Refuse(Code::NotFound),
     }

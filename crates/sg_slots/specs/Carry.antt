@@ -8,7 +8,7 @@ use Rattle.sg_facts.specs.declared.outcome.Outcome.{Outcome}
 use Rattle.sg_facts.specs.declared.outcome.Outcome.TheVariants.{Replied, Blocks, Stopped, NoMemory}
 use Rattle.sg_facts.specs.Invoke.{Points}
 use Rattle.sg_slots.specs.declared.decision.Decision.{Decision}
-use Rattle.sg_slots.specs.declared.decision.Decision.TheVariants.{Refuse, Block, Make, Set, Keep, Remove}
+use Rattle.sg_slots.specs.declared.decision.Decision.TheVariants.{Refuse, Block, Make, Enlist, Set, Keep, Remove}
 use Rattle.sg_slots.specs.Slots.{Held, entry_at, set_entry, without}
 
 -- a word, or none
@@ -34,6 +34,7 @@ module _ {E : Type 0} where
   reply_to held (Refuse code) = Some (Refused code)
   reply_to held Block = None
   reply_to held (Make e word) = Some (ok_reply (held.given + 1) word)
+  reply_to held (Enlist e word) = Some (ok_reply (held.given + 1) word)
   reply_to held (Set e word) = Some (ok_reply 0 word)
   reply_to held (Keep desc word) = Some (ok_reply desc word)
   reply_to held Remove = Some (ok_reply 0 None)
@@ -43,6 +44,7 @@ module _ {E : Type 0} where
   held_after held id (Refuse code) = held
   held_after held id Block = held
   held_after held id (Make e word) = record { entries = held.entries ++ (held.given + 1, e) ∷ []; given = held.given + 1 }
+  held_after held id (Enlist e word) = record { entries = held.entries ++ (held.given + 1, e) ∷ []; given = held.given + 1 }
   held_after held id (Set e word) = record { entries = set_entry held.entries id e; given = held.given }
   held_after held id (Keep desc word) = held
   held_after held id Remove = record { entries = without held.entries id; given = held.given }
@@ -52,6 +54,7 @@ module _ {E : Type 0} where
   parts_in (Refuse code) = 0
   parts_in Block = 0
   parts_in (Make e word) = 2
+  parts_in (Enlist e word) = 3
   parts_in (Set e word) = 1
   parts_in (Keep desc word) = 0
   parts_in Remove = 1

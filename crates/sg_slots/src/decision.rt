@@ -1,6 +1,6 @@
 // What a service decides, and how it is done.
 ghost use Rattle.std.specs.Prelude.{◌≡◌, ◌<◌, ◌^◌, ℕ, IfOk, IsSome};
-ghost use Rattle.sg_slots.specs.declared.decision.Decision.TheVariants.{Make, Set, Remove};
+ghost use Rattle.sg_slots.specs.declared.decision.Decision.TheVariants.{Make, Enlist, Set, Remove};
 ghost use Rattle.sg_slots.specs.Slots.{entry_at, set_entry, AreIds};
 ghost use Rattle.sg_slots.specs.Carry.{Adds, Carries, AnswersOnly, IsAbout, words_of, ok_reply};
 
@@ -19,6 +19,9 @@ pub enum Decision<E> {
     Block,
     /// Make a descriptor with this entry, in two parts, and answer its id and the word.
     Make { entry: E, word: Option<u64> },
+    /// Make a descriptor with this entry, in three parts, and answer its id and the word. The third part is its place in an
+    /// order that the caller keeps.
+    Enlist { entry: E, word: Option<u64> },
     /// Set the descriptor's entry, in one part, and answer the word.
     Set { entry: E, word: Option<u64> },
     /// Answer a descriptor and the word, and change nothing.
@@ -49,6 +52,7 @@ pub fn carry_out<E: Drop, T: Stops>(
         Decision::Refuse(code) => replied(Reply::Refused(code)),
         Decision::Block => Outcome::Blocks,
         Decision::Make { entry, word } => make(slots, alloc, stops, entry, word),
+        Decision::Enlist { entry, word } => enlist(slots, alloc, stops, entry, word),
         Decision::Set { entry, word } => set(slots, alloc, stops, id, entry, word),
         Decision::Keep { desc, word } => keep(alloc, desc, word),
         Decision::Remove => remove(slots, alloc, stops, id),
@@ -74,6 +78,35 @@ fn make<E: Drop, T: Stops>(
     match good(alloc, slots.given + 1, word) {
         Ok(reply) => add(&mut slots.entries, &mut slots.given, stops, entry, reply),
         Err(_) => Outcome::NoMemory,
+    }
+}
+
+// Makes a descriptor that stands in an order: the third part is its place there, which the caller keeps.
+fn enlist<E: Drop, T: Stops>(
+    slots: &mut Slots<E>,
+    alloc: Global,
+    stops: &mut T,
+    entry: E,
+    word: Option<u64>,
+) -> Outcome
+    requires { slots.old.given < 2 ^ 63 }
+    ensures outcome { (id : ℕ) → Carries slots.old id (Enlist entry word)
+        (record { asked = T.asked stops.old; struck = T.struck stops.old }) result
+        slots.new (record { asked = T.asked stops.new; struck = T.struck stops.new }) }
+    ensures plan { T.plan stops.new ≡ T.plan stops.old }
+    ensures test { T.test (T.asked stops.old) (T.struck stops.old) (T.plan stops.old)
+        → T.test (T.asked stops.new) (T.struck stops.new) (T.plan stops.new) }
+{
+    match make(slots, alloc, stops, entry, word) {
+        Outcome::Replied { reply, patch } => {
+            if stops.strikes(Point::Part(3)) {
+                return Outcome::Stopped;
+            }
+            Outcome::Replied { reply, patch }
+        }
+        Outcome::Blocks => Outcome::Blocks,
+        Outcome::Stopped => Outcome::Stopped,
+        Outcome::NoMemory => Outcome::NoMemory,
     }
 }
 

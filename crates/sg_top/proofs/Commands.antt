@@ -8,24 +8,13 @@ use Rattle.std.specs.declared.string.String.{String}
 use Rattle.std.specs.declared.alloc.Global.{Global}
 use Rattle.sg_load.specs.Services.{facts_by}
 use Rattle.sg_load.specs.declared.kind.ServiceKind.{ServiceKind}
-use Rattle.sg_load.specs.declared.kind.ServiceKind.TheVariants.{Locks, Events, Pages, Files, Threads}
 use Rattle.sg_input.specs.sg_script.Numbers.{value_of_digits}
 use Rattle.sg_top.specs.declared.command.Command.{Command}
 use Rattle.sg_top.specs.declared.command.Command.TheVariants.{Play, Check, Compile, Upgrade, Verify, Load}
 use Rattle.sg_top.specs.declared.command.Shows.TheVariants.{Run, Trace, Costs}
 use Rattle.sg_top.specs.Answer.{IsCommand, IsSerialCommand}
 use Rattle.sg_top.specs.Inside.Words.{AreDigitsOf, IsLoadOf, IsPairOf, IsWordOf}
-use Rattle.sg_top.specs.Inside.Kinds.{kind_called}
-
--- ---- names
-
--- the kind of a service is the one that its name says
-pub called : (kind : ServiceKind) → kind_called (facts_by kind).name ≡ kind
-called Locks = refl
-called Events = refl
-called Pages = refl
-called Files = refl
-called Threads = refl
+use Rattle.sg_top.proofs.EachKind.{called, kind_called}
 
 -- ---- texts
 

@@ -1,18 +1,16 @@
 -- What a play of an input costs: its replayed calls are few, and what is asked for of a run whose costs are told.
-use Rattle.std.proofs.Common.{◌≡◌, ◌≤◌, [], List, true, inl, inr, length, refl, sym, subst}
+use Rattle.std.proofs.Common.{◌≡◌, ◌≤◌, [], List, true, length, subst}
 use Rattle.sg_cost.proofs.Few.Bounds.{are_few}
 use Rattle.sg_cost.proofs.Scripted.{scripts_are_calls, scripts_are_clients, scripts_few, scripts_numbered}
 use Rattle.sg_cost.specs.Costs.{IsClients, most_entries}
 use Rattle.sg_facts.specs.Allowed.{is_allowed}
-use Rattle.sg_facts.specs.Facts.{Facts}
 use Rattle.sg_facts.specs.Interface.{Declared}
 use Rattle.sg_facts.specs.Tables.{AreTables}
 use Rattle.sg_facts.specs.Trace.{run_of}
 use Rattle.sg_facts.specs.declared.tables.WalkLine.{WalkLine}
 use Rattle.sg_input.specs.sg_script.declared.script.Script.{Script}
-use Rattle.sg_load.specs.Services.{standard}
+use Rattle.sg_load.specs.Services.{facts_by, standard}
 use Rattle.sg_load.specs.declared.kind.ServiceKind.{ServiceKind}
-use Rattle.sg_load.specs.declared.kind.ServiceKind.TheVariants.{Locks, Events, Pages, Files, Threads}
 use Rattle.sg_load.specs.sg_plain.Playing.Playable.{IsPlayable}
 use Rattle.sg_report.specs.sg_hist.Recovered.{Stubs, waiting}
 use Rattle.sg_report.specs.sg_hist.Ending.{HasRecovered}
@@ -20,18 +18,10 @@ use Rattle.sg_report.specs.sg_hist.declared.ended.Ended.{Ended}
 use Rattle.sg_shared.specs.Runs.{Answering, IsRunOf}
 use Rattle.sg_top.specs.Headline.{HasFewReplays, answering}
 use Rattle.sg_stub.proofs.OneTable.{one_table}
-use Rattle.sg_top.specs.Inside.Kinds.{IsOneOfFive, kind_by}
+use Rattle.sg_top.proofs.EachKind.{allowed_kind, allowed_standard}
 use Rattle.sg_top.specs.Inside.Plays.{IsPlayOf}
 use Rattle.sg_report.specs.sg_hist.Clients.{AreNumbered}
 use Rattle.sg_facts.specs.sg_base.Lists.{Each}
-
--- each of the services has a shape that is allowed
-allowed : (facts : Facts) → IsOneOfFive facts → is_allowed facts ≡ true
-allowed facts (inl is) = subst (λ f. is_allowed f ≡ true) (sym is) refl
-allowed facts (inr (inl is)) = subst (λ f. is_allowed f ≡ true) (sym is) refl
-allowed facts (inr (inr (inl is))) = subst (λ f. is_allowed f ≡ true) (sym is) refl
-allowed facts (inr (inr (inr (inl is)))) = subst (λ f. is_allowed f ≡ true) (sym is) refl
-allowed facts (inr (inr (inr (inr is)))) = subst (λ f. is_allowed f ≡ true) (sym is) refl
 
 -- the replayed calls of a play are few
 few_of : (i : Declared) (service : Answering) (script : Script) (ended : Ended) → IsPlayable i script → is_allowed i.facts ≡ true → IsRunOf i service script ended → HasFewReplays i ended
@@ -44,16 +34,8 @@ few_of i service script ended playable allowed run =
           (scripts_numbered i script ended.history.items playable run.calls) (scripts_are_calls i script ended.history.items playable run.calls run.recovered.2.tables.fits),
     )
 
-pub few_replays : (i : Declared) (script : Script) (ended : Ended) → IsPlayable i script → IsOneOfFive i.facts → IsRunOf i (answering (kind_by i.facts)) script ended → HasFewReplays i ended
-few_replays i script ended playable one = few_of i (answering (kind_by i.facts)) script ended playable (allowed i.facts one)
-
--- the standard interface of each service has its shape
-allowed_standard : (kind : ServiceKind) → is_allowed (standard kind).facts ≡ true
-allowed_standard Locks = refl
-allowed_standard Events = refl
-allowed_standard Pages = refl
-allowed_standard Files = refl
-allowed_standard Threads = refl
+pub few_replays : (i : Declared) (kind : ServiceKind) (script : Script) (ended : Ended) → IsPlayable i script → facts_by kind ≡ i.facts → IsRunOf i (answering kind) script ended → HasFewReplays i ended
+few_replays i kind script ended playable its = few_of i (answering kind) script ended playable (allowed_kind i.facts kind its)
 
 pub few_of_load : (kind : ServiceKind) (script : Script) (ended : Ended) → IsPlayable (standard kind) script → IsRunOf (standard kind) (answering kind) script ended → HasFewReplays (standard kind) ended
 few_of_load kind script ended playable = few_of (standard kind) (answering kind) script ended playable (allowed_standard kind)

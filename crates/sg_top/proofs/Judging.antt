@@ -16,13 +16,14 @@ use Rattle.sg_verify.specs.declared.verdict.Verdict.{Verdict}
 use Rattle.sg_report.specs.sg_hist.Clients.{MayBeMade}
 use Rattle.sg_input.proofs.OneRun.{never_ready, one_ready}
 use Rattle.sg_verify.proofs.Verdicts.{one_said as one_verdict}
-use Rattle.sg_top.proofs.Commands.{called}
-use Rattle.sg_top.proofs.Fitting.{interface_service, its_facts, kind_is}
+use Rattle.sg_top.proofs.Fitting.{interface_service}
+use Rattle.sg_top.proofs.EachKind.{its_facts, same_name}
+use Rattle.sg_load.specs.Services.{facts_by}
 use Rattle.sg_load.specs.declared.kind.ServiceKind.{ServiceKind}
 use Rattle.sg_top.specs.Answer.{IsJudgedAs, IsOutput, services}
 use Rattle.sg_top.specs.Inside.Pieces.{IsIllegal, IsVerified, verdict_status}
 use Rattle.sg_top.specs.Headline.{answering}
-use Rattle.sg_top.specs.Inside.Kinds.{IsOneOfFive, kind_by}
+use Rattle.sg_top.specs.Inside.Plays.{IsPlayed}
 use Rattle.std.specs.declared.option.Option.{Option}
 use Rattle.sg_report.specs.sg_hist.declared.ended.Ended.{Ended}
 use Rattle.sg_top.specs.declared.command.Command.{Command}
@@ -33,11 +34,8 @@ use Rattle.sg_top.specs.declared.status.Status.TheVariants.{Illegal}
 -- ---- one thing is said of an input
 
 -- a service's facts tell its kind
-its_kind : (kind : ServiceKind) → kind_by (answering kind).facts ≡ kind
-its_kind kind = sym (ap kind_by (its_facts kind)) ∙ called kind
-
 one_kind : (a b : ServiceKind) (facts facts' : Facts) → (answering a).facts ≡ facts → (answering b).facts ≡ facts' → facts ≡ facts' → a ≡ b
-one_kind a b facts facts' its its' same = sym (its_kind a) ∙ ap kind_by (its ∙ same ∙ sym its') ∙ its_kind b
+one_kind a b facts facts' its its' same = same_name a b (ap (λ (f : Facts). f.name) (its_facts a ∙ its ∙ same ∙ sym its' ∙ sym (its_facts b)))
 
 one_said : (bytes : List ℕ) (status status' : Status) (output output' : List ℕ) (a : IsJudgedAs bytes status output) (b : IsJudgedAs bytes status' output') → a.said ≡ b.said
 one_said bytes status status' output output' a b =
@@ -75,7 +73,7 @@ refused_for bytes facts made line written known is same all =
     let bad : IsRunInputOf facts bytes (Refused line) = subst (IsRunInputOf facts bytes) is all in
     subst (λ l. IsRunInputOf services bytes (Refused l)) (sym same) (subst (λ f. IsRunInputOf f bytes (Refused line)) known bad)
 
-pub printed_service : (bytes : List ℕ) (i : Declared) (history : List Entry) → IsRunReady services bytes i history → IsOneOfFive i.facts
+pub printed_service : (bytes : List ℕ) (i : Declared) (history : List Entry) → IsRunReady services bytes i history → IsPlayed i.facts
 printed_service bytes i history ready = interface_service ready.interface i ready.accepted
 
 -- its calls may be judged
@@ -84,15 +82,15 @@ pub may_be : (made : RunInput) (i : Declared) (history : Roomy Entry) → made �
 may_be made i history is all = subst MayBeJudged is all
 
 -- what is said of it
-pub judged_output : (bytes : List ℕ) (i : Declared) (history : List Entry) (said : Verdict) (status : Status) (written : List ℕ)
-    → IsRunReady services bytes i history → IsOneOfFive i.facts → IsVerdictOf i (answering (kind_by i.facts)).ask history said
+pub judged_output : (bytes : List ℕ) (i : Declared) (kind : ServiceKind) (history : List Entry) (said : Verdict) (status : Status) (written : List ℕ)
+    → IsRunReady services bytes i history → facts_by kind ≡ i.facts → IsVerdictOf i (answering kind).ask history said
     → status ≡ verdict_status said → written ≡ verdict_line_of i.facts history said → IsVerified bytes status written
-judged_output bytes i history said status written ready one is its_status line = inl (record {
+judged_output bytes i kind history said status written ready its is its_status line = inl (record {
   i = i;
   history = history;
   ready = ready;
-  kind = kind_by i.facts;
-  its = kind_is i.facts one;
+  kind = kind;
+  its = sym (its_facts kind) ∙ its;
   said = said;
   is = is;
   answered = its_status;

@@ -2,6 +2,7 @@ pub mod Answers
 pub mod Commands
 mod Costing
 mod Digits
+pub mod EachKind
 pub mod Fitting
 pub mod Judging
 pub mod Named

@@ -1,10 +1,10 @@
 -- Each declared function of one of the services is found by its name, which is one as entries are written with.
-use Rattle.std.proofs.Common.{◌≡◌, ℕ, zero, suc, ◌+◌, ◌<◌, ◌≤◌, inl, inr, Bool, true, false, ◌&&◌, ◌||◌, not, List, [], ◌∷◌, Some, length, map, refl, sym, ◌∙◌, ap, subst, arith}
+use Rattle.std.proofs.Common.{◌≡◌, ℕ, zero, suc, ◌+◌, ◌<◌, ◌≤◌, inl, inr, Bool, true, false, ◌&&◌, ◌||◌, not, List, [], ◌∷◌, Some, length, map, refl, sym, ◌∙◌, ap, arith}
 use Rattle.std.specs.Prelude.{if◌then◌else◌}
 use Rattle.std.specs.Str.{bytes_eq}
 use Rattle.std.proofs.lemmas.Bool.{and_parts, cases_Bool}
 use Rattle.std.proofs.lemmas.Slice.Eq.{bytes_eq-Decides}
-use Rattle.sg_facts.specs.Facts.{Facts, Fun, fun_at}
+use Rattle.sg_facts.specs.Facts.{Fun, fun_at}
 use Rattle.sg_facts.specs.Fits.{Fits}
 use Rattle.sg_facts.specs.Interface.{Declared, declares}
 use Rattle.sg_facts.specs.sg_base.Lists.{Each}
@@ -13,7 +13,8 @@ use Rattle.sg_input.specs.sg_entries.Printed.{HasNames}
 use Rattle.sg_input.specs.sg_script.Scripts.{declared_from}
 use Rattle.sg_load.specs.sg_check.Shapes.{all_differ}
 use Rattle.sg_load.specs.sg_check_statements.NameSet.{has_name}
-use Rattle.sg_top.specs.Inside.Kinds.{IsOneOfFive}
+use Rattle.sg_top.specs.Inside.Plays.{IsPlayed}
+use Rattle.sg_top.proofs.EachKind.{AreNamed, named_played}
 
 -- ---- functions whose names differ are found by them
 
@@ -63,18 +64,6 @@ at P (f ∷ funs) (suc n) within each = at P funs n (omega (arith, within)) each
 
 -- ---- the services
 
--- the names of a service's functions differ, and are names as entries are written with
-pub record AreNamed (funs : List Fun) : Type 0 where
-  pub differ : all_differ (map (λ f. f.name) funs) ≡ true
-  pub each : Each (λ f. IsName f.name) funs
-
-named : (facts : Facts) → IsOneOfFive facts → AreNamed facts.funs
-named facts (inl is) = subst (λ (f : Facts). AreNamed f.funs) (sym is) (record { differ = refl; each = ((refl, refl), ((refl, refl), ((refl, refl), ((refl, refl), tt)))) })
-named facts (inr (inl is)) = subst (λ (f : Facts). AreNamed f.funs) (sym is) (record { differ = refl; each = ((refl, refl), ((refl, refl), ((refl, refl), ((refl, refl), ((refl, refl), tt))))) })
-named facts (inr (inr (inl is))) = subst (λ (f : Facts). AreNamed f.funs) (sym is) (record { differ = refl; each = ((refl, refl), ((refl, refl), ((refl, refl), ((refl, refl), tt)))) })
-named facts (inr (inr (inr (inl is)))) = subst (λ (f : Facts). AreNamed f.funs) (sym is) (record { differ = refl; each = ((refl, refl), ((refl, refl), ((refl, refl), ((refl, refl), ((refl, refl), tt))))) })
-named facts (inr (inr (inr (inr is)))) = subst (λ (f : Facts). AreNamed f.funs) (sym is) (record { differ = refl; each = ((refl, refl), ((refl, refl), ((refl, refl), ((refl, refl), ((refl, refl), ((refl, refl), ((refl, refl), ((refl, refl), tt)))))))) })
-
 -- a declared function has a number from one on
 numbered : (i : Declared) (fun : ℕ) → declares i fun ≡ true → 1 ≤ fun
 numbered i zero declared = absurd (cc declared)
@@ -90,5 +79,5 @@ has_names i are fits (suc n) declared =
     )
 
 -- an interface of one of the services tells its functions by their names
-pub names_of : (i : Declared) → IsOneOfFive i.facts → Fits i → HasNames i
-names_of i one fits = has_names i (named i.facts one) fits
+pub names_of : (i : Declared) → IsPlayed i.facts → Fits i → HasNames i
+names_of i played fits = has_names i (named_played i.facts played) fits

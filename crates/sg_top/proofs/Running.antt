@@ -1,5 +1,5 @@
 -- What a play promises is what the headline says of it.
-use Rattle.std.proofs.Common.{◌≡◌, ℕ, Bool, true, false, List, Some, Ok, Err, sym, subst}
+use Rattle.std.proofs.Common.{◌≡◌, ℕ, Bool, true, false, List, Some, Ok, Err, sym, ◌∙◌, subst}
 use Rattle.std.specs.Result.{IfOk}
 use Rattle.std.specs.declared.option.Option.{Option}
 use Rattle.std.specs.declared.result.Result.{Result}
@@ -15,14 +15,14 @@ use Rattle.sg_load.specs.declared.kind.ServiceKind.{ServiceKind}
 use Rattle.sg_load.specs.sg_plain.Playing.Playable.{IsPlayable}
 use Rattle.sg_report.specs.Report.{load_line_of}
 use Rattle.sg_top.proofs.Costing.{few_of_load, few_replays}
-use Rattle.sg_top.proofs.Fitting.{is_served, kind_is, ready_playable}
+use Rattle.sg_top.proofs.Fitting.{ready_playable}
+use Rattle.sg_top.proofs.EachKind.{is_served, its_facts}
 use Rattle.sg_top.specs.Answer.{IsOwnOutput, ended_status, services, IsPlayOutput}
 use Rattle.sg_top.specs.declared.command.Command.TheVariants.{Load}
 use Rattle.sg_top.specs.declared.command.Shows.{Shows}
 use Rattle.sg_top.specs.declared.status.Status.{Status}
 use Rattle.sg_shared.specs.Runs.{IsRunInOrder, IsRunOf}
 use Rattle.sg_top.specs.Headline.{IsRunOfInput, IsShown, answering, played_services}
-use Rattle.sg_top.specs.Inside.Kinds.{IsOneOfFive, kind_by}
 
 -- what a fact of an outcome makes
 pub of_one : {A E : Type 0} (r : Result A E) (P Q : A → Type 0) → ((a : A) → P a → Q a) → IfOk r P → IfOk r Q
@@ -35,47 +35,47 @@ of_three (Ok a) P Q R S make p q r = make a p q r
 of_three (Err e) P Q R S make p q r = tt
 
 -- a run of an input that is ready, with its report
-run_ready : (bytes : List ℕ) (i : Declared) (script : Script) (in_threads : Bool) (shows : Shows) (ended : Ended) (written : List ℕ) → IsReady services bytes i script → IsOneOfFive i.facts
-    → IsRunOf i (answering (kind_by i.facts)) script ended
-    → (in_threads ≡ false → FollowsSchedule i (answering (kind_by i.facts)).ask script (run_of ended.trace) ended.history.items)
+run_ready : (bytes : List ℕ) (i : Declared) (kind : ServiceKind) (script : Script) (in_threads : Bool) (shows : Shows) (ended : Ended) (written : List ℕ)
+    → IsReady services bytes i script → facts_by kind ≡ i.facts → IsRunOf i (answering kind) script ended
+    → (in_threads ≡ false → FollowsSchedule i (answering kind).ask script (run_of ended.trace) ended.history.items)
     → IsShown shows i ended written → IsRunOfInput played_services bytes in_threads shows ended written
-run_ready bytes i script in_threads shows ended written ready one run follows is = record {
+run_ready bytes i kind script in_threads shows ended written ready its run follows is = record {
   i = i;
   script = script;
   ready = ready;
-  service = answering (kind_by i.facts);
-  is_served = is_served (kind_by i.facts);
-  its = kind_is i.facts one;
+  service = answering kind;
+  is_served = is_served kind;
+  its = sym (its_facts kind) ∙ its;
   run = run;
   schedule = follows;
-  few = few_replays i script ended (ready_playable bytes i script ready) one run;
+  few = few_replays i kind script ended (ready_playable bytes i script ready) its run;
   output = is;
 }
 
 -- what is made of an input that is ready and was played
-play_output : (bytes : List ℕ) (i : Declared) (script : Script) (in_threads : Bool) (shows : Shows) (played : Ended) (ended : Option Ended) (status : Status) (written : List ℕ)
-    → IsReady services bytes i script → IsOneOfFive i.facts → IsRunOf i (answering (kind_by i.facts)) script played
-    → (in_threads ≡ false → FollowsSchedule i (answering (kind_by i.facts)).ask script (run_of played.trace) played.history.items)
+play_output : (bytes : List ℕ) (i : Declared) (kind : ServiceKind) (script : Script) (in_threads : Bool) (shows : Shows) (played : Ended) (ended : Option Ended) (status : Status) (written : List ℕ)
+    → IsReady services bytes i script → facts_by kind ≡ i.facts → IsRunOf i (answering kind) script played
+    → (in_threads ≡ false → FollowsSchedule i (answering kind).ask script (run_of played.trace) played.history.items)
     → ended ≡ Some played → status ≡ ended_status played.ends → IsShown shows i played written
     → IsPlayOutput bytes in_threads shows ended status written
-play_output bytes i script in_threads shows played ended status written ready one run follows is its_status text =
+play_output bytes i kind script in_threads shows played ended status written ready its run follows is its_status text =
     subst (λ e. IsPlayOutput bytes in_threads shows e status written) (sym is)
-    (its_status, run_ready bytes i script in_threads shows played written ready one run follows text)
+    (its_status, run_ready bytes i kind script in_threads shows played written ready its run follows text)
 
 -- in one thread, and with a thread for each client
-pub output_in_order : (bytes : List ℕ) (i : Declared) (script : Script) (shows : Shows) (played : Ended) (ended : Option Ended) (status : Status) (written : List ℕ)
-    → IsReady services bytes i script → IsOneOfFive i.facts → IsRunInOrder i (answering (kind_by i.facts)) script played
+pub output_in_order : (bytes : List ℕ) (i : Declared) (kind : ServiceKind) (script : Script) (shows : Shows) (played : Ended) (ended : Option Ended) (status : Status) (written : List ℕ)
+    → IsReady services bytes i script → facts_by kind ≡ i.facts → IsRunInOrder i (answering kind) script played
     → ended ≡ Some played → status ≡ ended_status played.ends → IsShown shows i played written
     → IsPlayOutput bytes false shows ended status written
-output_in_order bytes i script shows played ended status written ready one run is its_status text =
-    play_output bytes i script false shows played ended status written ready one run.0 (λ alone. run.1) is its_status text
+output_in_order bytes i kind script shows played ended status written ready its run is its_status text =
+    play_output bytes i kind script false shows played ended status written ready its run.0 (λ alone. run.1) is its_status text
 
-pub output_in_threads : (bytes : List ℕ) (i : Declared) (script : Script) (shows : Shows) (played : Ended) (ended : Option Ended) (status : Status) (written : List ℕ)
-    → IsReady services bytes i script → IsOneOfFive i.facts → IsRunOf i (answering (kind_by i.facts)) script played
+pub output_in_threads : (bytes : List ℕ) (i : Declared) (kind : ServiceKind) (script : Script) (shows : Shows) (played : Ended) (ended : Option Ended) (status : Status) (written : List ℕ)
+    → IsReady services bytes i script → facts_by kind ≡ i.facts → IsRunOf i (answering kind) script played
     → ended ≡ Some played → status ≡ ended_status played.ends → IsShown shows i played written
     → IsPlayOutput bytes true shows ended status written
-output_in_threads bytes i script shows played ended status written ready one run is its_status text =
-    play_output bytes i script true shows played ended status written ready one run (λ alone. absurd (cc alone)) is its_status text
+output_in_threads bytes i kind script shows played ended status written ready its run is its_status text =
+    play_output bytes i kind script true shows played ended status written ready its run (λ alone. absurd (cc alone)) is its_status text
 
 -- what is made of a load
 pub own_output : (kind : ServiceKind) (number : ℕ) (played : Ended) (ended : Option Ended) (status : Status) (written : List ℕ)

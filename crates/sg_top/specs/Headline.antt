@@ -1,8 +1,8 @@
 -- Which services are played, and what is promised of a run of an input and of a load.
 use Rattle.std.specs.Prelude.{ℕ, ◌≡◌, Bool, true, false, List, [], ◌∷◌, ◌++◌, map}
 use Rattle.std.specs.List.{Contains}
-use Rattle.sg_load.specs.sg_event.EventFacts.{event_facts}
-use Rattle.sg_load.specs.sg_event.EventTable.{event_parts, event_table}
+use Rattle.sg_load.specs.Services.sg_event.EventFacts.{event_facts}
+use Rattle.sg_load.specs.Services.sg_event.EventTable.{event_parts, event_table}
 use Rattle.sg_cost.specs.Costs.{AreFew, costs_at}
 use Rattle.sg_cost.specs.Lines.{cost_text_of}
 use Rattle.sg_facts.specs.Interface.{Declared}
@@ -14,16 +14,18 @@ use Rattle.sg_input.specs.Inputs.{IsReady}
 use Rattle.sg_load.specs.Generated.{generated}
 use Rattle.sg_load.specs.Services.{facts_by, standard}
 use Rattle.sg_load.specs.declared.kind.ServiceKind.{ServiceKind}
-use Rattle.sg_load.specs.declared.kind.ServiceKind.TheVariants.{Locks, Events, Pages, Files, Threads}
-use Rattle.sg_load.specs.sg_lock.LockFacts.{lock_facts}
-use Rattle.sg_load.specs.sg_lock.LockTable.{lock_parts, lock_table}
-use Rattle.sg_load.specs.sg_mm.MmFacts.{mm_facts}
-use Rattle.sg_load.specs.sg_mm.MmTable.{mm_parts, mm_table}
-use Rattle.sg_load.specs.sg_ramfs.RamfsFacts.{ramfs_facts}
-use Rattle.sg_load.specs.sg_ramfs.RamfsTable.{ramfs_parts, ramfs_table}
+use Rattle.sg_load.specs.declared.kind.ServiceKind.TheVariants.{Locks, Events, Pages, Files, Threads, Timers}
+use Rattle.sg_load.specs.Services.sg_lock.LockFacts.{lock_facts}
+use Rattle.sg_load.specs.Services.sg_lock.LockTable.{lock_parts, lock_table}
+use Rattle.sg_load.specs.Services.sg_mm.MmFacts.{mm_facts}
+use Rattle.sg_load.specs.Services.sg_mm.MmTable.{mm_parts, mm_table}
+use Rattle.sg_load.specs.Services.sg_ramfs.RamfsFacts.{ramfs_facts}
+use Rattle.sg_load.specs.Services.sg_ramfs.RamfsTable.{ramfs_parts, ramfs_table}
 use Rattle.sg_report.specs.Report.{load_line_of, report_of}
-use Rattle.sg_load.specs.sg_sched.SchedFacts.{sched_facts}
-use Rattle.sg_load.specs.sg_sched.SchedTable.{sched_parts, sched_table}
+use Rattle.sg_load.specs.Services.sg_sched.SchedFacts.{sched_facts}
+use Rattle.sg_load.specs.Services.sg_sched.SchedTable.{sched_parts, sched_table}
+use Rattle.sg_load.specs.Services.sg_timer.TimerFacts.{timer_facts}
+use Rattle.sg_load.specs.Services.sg_timer.TimerTable.{timer_parts, timer_table}
 use Rattle.sg_input.specs.sg_script.declared.script.Script.{Script}
 use Rattle.sg_shared.specs.Runs.{Answering, IsRunOf}
 use Rattle.sg_shared.specs.sg_sim.Played.{FollowsSchedule}
@@ -39,10 +41,11 @@ answering Events = record { facts = event_facts; ask = event_table; parts = even
 answering Pages = record { facts = mm_facts; ask = mm_table; parts = mm_parts }
 answering Files = record { facts = ramfs_facts; ask = ramfs_table; parts = ramfs_parts }
 answering Threads = record { facts = sched_facts; ask = sched_table; parts = sched_parts }
+answering Timers = record { facts = timer_facts; ask = timer_table; parts = timer_parts }
 
 -- the services that are played
 abbrev pub played_services : List Answering
-played_services = map answering (Locks ∷ Events ∷ Pages ∷ Files ∷ Threads ∷ [])
+played_services = map answering (Locks ∷ Events ∷ Pages ∷ Files ∷ Threads ∷ Timers ∷ [])
 
 -- ---- what is printed
 

@@ -1,6 +1,5 @@
 -- What the contracts of private functions cite.
 pub mod Delivery
-pub mod Kinds
 pub mod Pieces
 pub mod Plays
 pub mod Words

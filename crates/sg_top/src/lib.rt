@@ -5,9 +5,8 @@
 //! - `status`: how a call ends, and the number of that (`Status`)
 //! - `command`: what the words ask for (`Command`)
 //! - `output`: what a command makes of its input
-//! - `runs`: the runs of scripts
 //! - `laws`: what a run prints is read to its history (`printed_runs_are_read`)
-//! - `services`: the services whose interfaces may be accepted, and their names
+//! - `services`: the services, their shapes and names, and the runs of scripts on them
 //!
 //! `specs/Headline.antt` says what a play promises, and `specs/Answer.antt` what an answer promises, status by status.
 #![tactic(auto)]
@@ -15,19 +14,19 @@
 mod command;
 mod laws;
 mod output;
-mod runs;
 mod services;
 mod status;
 mod top;
 
 pub use command::{Command, Shows};
 pub use laws::printed_runs_are_read;
-pub use sg_edge::{MemSink, MemSource, OpenGate, StdSink, StdSource};
+pub use sg_edge::{Gate, MemSink, MemSource, NoMemory, OpenGate, StdSink, StdSource};
+pub use sg_facts::{Interface, MOST_FUNS};
 pub use sg_input::{
     Input, MOST_DIVIDER, MOST_INPUT, MOST_INTERFACE, MOST_SCRIPT, cut, one_cut, one_input, parse,
     read_input,
 };
-pub use sg_load::{ServiceKind, check, standard};
+pub use sg_load::{Arg, Script, ScriptCall, ServiceKind, check, generate, standard};
 pub use sg_report::{End, EndList, Ended, History, text};
 pub use sg_shared::Played;
 pub use status::Status;

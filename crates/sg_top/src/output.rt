@@ -18,8 +18,7 @@ ghost use Rattle.sg_top.specs.Inside.Plays.{IsPlayOf};
 ghost use Rattle.sg_top.specs.declared.command.Shows.TheVariants.{Costs as shows_costs};
 
 use crate::command::{Command, Shows};
-use crate::runs::{cost_kind, share_kind, simulate_kind, verify_kind};
-use crate::services::{kind_of, shapes};
+use crate::services::{cost_kind, kind_of, shapes, share_kind, simulate_kind, verify_kind};
 use crate::status::Status;
 use sg_cost::cost_text;
 use sg_edge::Gate;

@@ -3,34 +3,47 @@ use crate::answers::{Case, try_each};
 use crate::edits::Layout;
 use crate::{effects, facts, flags, layout, left_out, names, pairs, prototypes, reach, standard};
 use std::test::Fail;
-use test_interfaces::{EVENT, LOCK, MM, RAMFS, SCHED};
+use test_interfaces::{EVENT, LOCK, MM, RAMFS, SCHED, TIMER};
 
 // A standard text, how its changed texts are laid out, and the changes with their answers.
 type Table = (&'static [u8], Layout, &'static [Case]);
 
 #[test]
-fn statements_left_out_or_twice(rt: HostRuntime) -> Result<(), Fail> {
-    let tables: [Table; 21] = [
+fn standard_interfaces_are_accepted(rt: HostRuntime) -> Result<(), Fail> {
+    let tables: [Table; 12] = [
         (LOCK, Layout::Lines, &standard::AS_IT_IS),
         (EVENT, Layout::Lines, &standard::AS_IT_IS),
         (MM, Layout::Lines, &standard::AS_IT_IS),
         (RAMFS, Layout::Lines, &standard::AS_IT_IS),
         (SCHED, Layout::Lines, &standard::AS_IT_IS),
+        (TIMER, Layout::Lines, &standard::AS_IT_IS),
+        (LOCK, Layout::OneLine, &standard::AS_IT_IS),
+        (EVENT, Layout::OneLine, &standard::AS_IT_IS),
+        (MM, Layout::OneLine, &standard::AS_IT_IS),
+        (RAMFS, Layout::OneLine, &standard::AS_IT_IS),
+        (SCHED, Layout::OneLine, &standard::AS_IT_IS),
+        (TIMER, Layout::OneLine, &standard::AS_IT_IS),
+    ];
+    for (base, layout, cases) in tables {
+        try_each(&rt, rt.alloc(), base, layout, cases)?;
+    }
+    Ok(())
+}
+
+#[test]
+fn statements_left_out_or_twice(rt: HostRuntime) -> Result<(), Fail> {
+    let tables: [Table; 12] = [
         (LOCK, Layout::Lines, &standard::LEFT_OUT),
         (LOCK, Layout::Lines, &standard::DOUBLED),
         (EVENT, Layout::Lines, &left_out::OF_EVENTS),
         (MM, Layout::Lines, &left_out::OF_PAGES),
         (RAMFS, Layout::Lines, &left_out::OF_FILES),
         (SCHED, Layout::Lines, &left_out::OF_THREADS),
+        (TIMER, Layout::Lines, &left_out::OF_TIMERS),
         (LOCK, Layout::Lines, &layout::OF_LOCKS),
         (LOCK, Layout::Lines, &layout::TURNED),
         (LOCK, Layout::Returns, &standard::LEFT_OUT),
         (LOCK, Layout::Returns, &standard::DOUBLED),
-        (LOCK, Layout::OneLine, &standard::AS_IT_IS),
-        (EVENT, Layout::OneLine, &standard::AS_IT_IS),
-        (MM, Layout::OneLine, &standard::AS_IT_IS),
-        (RAMFS, Layout::OneLine, &standard::AS_IT_IS),
-        (SCHED, Layout::OneLine, &standard::AS_IT_IS),
         (LOCK, Layout::OneLine, &layout::ON_ONE_LINE),
     ];
     for (base, layout, cases) in tables {

@@ -4,10 +4,9 @@ ghost use Rattle.sg_facts.specs.Facts.{facts_of};
 ghost use Rattle.sg_input.specs.sg_check.Shapes.{is_shape};
 
 use crate::answers::answer;
-use sg_event::event_shape;
 use sg_facts::{Service, Shape};
 use sg_input::CheckKind::{UnknownFunction, UnknownService};
-use sg_lock::LockService;
+use sg_load::kind::{EventService, LockService};
 use std::test::Fail;
 use test_interfaces::{EVENT, LOCK};
 
@@ -17,7 +16,7 @@ fn events_as_locks() -> Shape
 {
     Shape {
         name: b"lock",
-        ..event_shape()
+        ..EventService::shape()
     }
 }
 

@@ -7,7 +7,7 @@ use crate::answers::{Answer, accepted, answer};
 use sg_facts::{Effect, FieldShape, FunShape, Kind, Leaves, Parents, Service, Shape};
 use sg_input::CheckKind::NoWalk;
 use sg_input::compile;
-use sg_lock::LockService;
+use sg_load::kind::LockService;
 use std::alloc::{AllocError, Global};
 use std::test::Fail;
 use test_interfaces::LOCK;

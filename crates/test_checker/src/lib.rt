@@ -1,7 +1,7 @@
 //! The checker, tried on texts: the standard interfaces, and what is wrong with texts that are made from them. And what stands
 //! on the checker: what descriptors come to, their walks, tables, and what is said of a text.
 //!
-//! - `shapes`: the shapes of the five standard services, against which a text may be checked (`standard_shapes`)
+//! - `shapes`: the shapes of the six standard services, against which a text may be checked (`standard_shapes`)
 //!
 //! The tests:
 //! - `changes`: the standard interfaces with changes, each with its answer. `edits` makes the texts (`Edit`, `Layout`), and

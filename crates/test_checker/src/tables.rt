@@ -6,7 +6,7 @@ use sg_input::{Verdict, compile, compiled};
 use std::alloc::Global;
 use std::process::Abort;
 use std::test::Fail;
-use test_interfaces::{EVENT, LOCK, MM, RAMFS, SCHED};
+use test_interfaces::{EVENT, LOCK, MM, RAMFS, SCHED, TIMER};
 
 // A creation, a state, the number of a set of fields, and the walk.
 type Line = (u8, u8, u8, &'static [u8]);
@@ -43,6 +43,26 @@ static SCHED_LINES: [Line; 8] = [
     (1, 3, 1, &[1, 7, 3]),
     (1, 3, 2, &[1, 7, 3]),
     (1, 3, 3, &[1, 7, 3]),
+];
+
+// A timer has an owner always; its clock is advanced where it had ticks, and when it is due is set in any case.
+static TIMER_LINES: [Line; 16] = [
+    (1, 1, 1, &[1, 4]),
+    (1, 1, 3, &[1, 4]),
+    (1, 1, 5, &[1, 4]),
+    (1, 1, 7, &[1, 4]),
+    (1, 1, 9, &[1, 2, 4]),
+    (1, 1, 11, &[1, 2, 4]),
+    (1, 1, 13, &[1, 2, 4]),
+    (1, 1, 15, &[1, 2, 4]),
+    (1, 1, 17, &[1, 4]),
+    (1, 1, 19, &[1, 4]),
+    (1, 1, 21, &[1, 4]),
+    (1, 1, 23, &[1, 4]),
+    (1, 1, 25, &[1, 2, 4]),
+    (1, 1, 27, &[1, 2, 4]),
+    (1, 1, 29, &[1, 2, 4]),
+    (1, 1, 31, &[1, 2, 4]),
 ];
 
 static LOCK_TEXT: &[u8] = b"service lock
@@ -138,6 +158,39 @@ walk sched_create_thd sched_sleep rank : sched_create_thd sched_place sched_slee
 walk sched_create_thd sched_sleep prio,rank : sched_create_thd sched_place sched_sleep
 ";
 
+static TIMER_TEXT: &[u8] = b"service timer
+facts parent=none close=refuse global=true block=true desc_data=true resc_data=false recover=demand
+fun 1 tmr_create word word creation all -> tmr_create owner=caller period=arg1 tag=arg2 due=ret
+fun 2 tmr_tick desc word wakeup -> same now+arg2
+fun 3 tmr_wait desc block -> same due+ret
+fun 4 tmr_place desc word -> same due=arg2
+fun 5 tmr_first query all -> none
+fun 6 tmr_skip desc -> same due+ret
+fun 7 tmr_free desc terminal -> end
+move tmr_create tmr_tick
+move tmr_create tmr_wait
+move tmr_create tmr_skip
+move tmr_create tmr_free
+step tmr_create tmr_tick
+step tmr_create tmr_place
+walk tmr_create tmr_create owner : tmr_create tmr_place
+walk tmr_create tmr_create owner,period : tmr_create tmr_place
+walk tmr_create tmr_create owner,tag : tmr_create tmr_place
+walk tmr_create tmr_create owner,period,tag : tmr_create tmr_place
+walk tmr_create tmr_create owner,now : tmr_create tmr_tick tmr_place
+walk tmr_create tmr_create owner,period,now : tmr_create tmr_tick tmr_place
+walk tmr_create tmr_create owner,tag,now : tmr_create tmr_tick tmr_place
+walk tmr_create tmr_create owner,period,tag,now : tmr_create tmr_tick tmr_place
+walk tmr_create tmr_create owner,due : tmr_create tmr_place
+walk tmr_create tmr_create owner,period,due : tmr_create tmr_place
+walk tmr_create tmr_create owner,tag,due : tmr_create tmr_place
+walk tmr_create tmr_create owner,period,tag,due : tmr_create tmr_place
+walk tmr_create tmr_create owner,now,due : tmr_create tmr_tick tmr_place
+walk tmr_create tmr_create owner,period,now,due : tmr_create tmr_tick tmr_place
+walk tmr_create tmr_create owner,tag,now,due : tmr_create tmr_tick tmr_place
+walk tmr_create tmr_create owner,period,tag,now,due : tmr_create tmr_tick tmr_place
+";
+
 // Whether a line stands at a place of tables, from 0.
 fn stands_at(tables: &Tables, at: usize, line: Line) -> bool {
     let (made, state, mask, walk) = line;
@@ -201,12 +254,13 @@ fn prints(alloc: Global, text: &[u8], want: &[u8]) -> Result<bool, Fail> {
 
 #[test]
 fn tables_of_the_standard_interfaces(rt: HostRuntime) -> Result<(), Fail> {
-    let tables: [Table; 5] = [
+    let tables: [Table; 6] = [
         (LOCK, &LOCK_LINES, LOCK_TEXT),
         (EVENT, &EVENT_LINES, EVENT_TEXT),
         (MM, &MM_LINES, MM_TEXT),
         (RAMFS, &RAMFS_LINES, RAMFS_TEXT),
         (SCHED, &SCHED_LINES, SCHED_TEXT),
+        (TIMER, &TIMER_LINES, TIMER_TEXT),
     ];
     for (text, lines, printed) in tables {
         has_lines(&rt, rt.alloc(), text, lines)?;

@@ -2,11 +2,9 @@
 ghost use Rattle.sg_facts.specs.Interface.{HasFewFields};
 
 use crate::interfaces::{Pairs, interface};
-use sg_event::event_shape;
 use sg_facts::{Interface, NoMemory, Service, Shape};
 use sg_input::{Triple, reachable};
-use sg_lock::LockService;
-use sg_ramfs::ramfs_shape;
+use sg_load::kind::{EventService, LockService, RamfsService};
 use std::alloc::Global;
 use std::process::Abort;
 use std::test::Fail;
@@ -51,13 +49,13 @@ fn try_case(rt: &impl Abort, alloc: Global, case: Case) -> Result<(), Fail> {
 #[test]
 fn triples_that_descriptors_come_to(rt: HostRuntime) -> Result<(), Fail> {
     let locks = LockService::shape();
-    let files = ramfs_shape();
+    let files = RamfsService::shape();
     let cases: [Case; 6] = [
         (locks, 0b1111, locks.moves, &[(1, 1, 0), (1, 2, 1)]),
         // Never taken, and never made.
         (locks, 0b1001, &[(1, 4)], &[(1, 1, 0)]),
         (locks, 0b1110, &[(2, 3)], &[]),
-        (event_shape(), 0b1111, &[(1, 2)], &[(1, 1, 0)]),
+        (EventService::shape(), 0b1111, &[(1, 2)], &[(1, 1, 0)]),
         (
             files,
             0b11111,

@@ -3,7 +3,7 @@ use crate::shapes::standard_shapes;
 use sg_input::{Examined, Verdict, compiled, examine, verdict};
 use std::alloc::Global;
 use std::test::Fail;
-use test_interfaces::{LOCK, SCHED};
+use test_interfaces::{LOCK, SCHED, TIMER};
 
 // Whether it is said that a text is accepted, by a line.
 fn accepts(said: &Verdict, line: &[u8]) -> bool {
@@ -90,6 +90,7 @@ fn what_is_said_of_a_text(rt: HostRuntime) -> Result<(), Fail> {
     }
     assert!(rt; is_accepted(rt.alloc(), LOCK, b"accepted lock\n")?);
     assert!(rt; is_accepted(rt.alloc(), SCHED, b"accepted sched\n")?);
+    assert!(rt; is_accepted(rt.alloc(), TIMER, b"accepted timer\n")?);
     assert!(rt; service_of(rt.alloc(), LOCK)? == Some(b"lock".as_slice()));
     assert!(rt; service_of(rt.alloc(), HEAD)?.is_none());
     Ok(())

@@ -2,13 +2,11 @@
 ghost use Rattle.sg_facts.specs.Interface.{HasFewFields};
 
 use crate::interfaces::{Pairs, interface};
-use sg_event::event_shape;
 use sg_facts::{FunShape, Interface, Leaves, NoMemory, Parents, Service, Shape, Walk};
 use sg_input::{restores, shortest};
-use sg_lock::LockService;
-use sg_mm::mm_shape;
-use sg_ramfs::ramfs_shape;
-use sg_sched::sched_shape;
+use sg_load::kind::{
+    EventService, LockService, MmService, RamfsService, SchedService, TimerService,
+};
 use std::alloc::Global;
 use std::process::Abort;
 use std::test::Fail;
@@ -61,6 +59,14 @@ static SCHED_CASES: [Case; 4] = [
 
 // Where no function places it, nothing is found.
 static UNPLACED_CASES: [Case; 3] = [(1, 1, 3, None), (1, 1, 1, None), (1, 3, 3, None)];
+
+// When a timer is due is a returned value too; its clock is advanced only where it had ticks.
+static TIMER_CASES: [Case; 4] = [
+    (1, 1, 23, Some(&[1, 4])),
+    (1, 1, 1, Some(&[1, 4])),
+    (1, 1, 31, Some(&[1, 2, 4])),
+    (1, 2, 1, None),
+];
 
 // A function without a name and parameters.
 macro_rules! fun {
@@ -222,21 +228,42 @@ fn try_restored(rt: &impl Abort, locks: &Interface) -> Result<(), NoMemory>
 }
 
 #[test]
-fn the_least_walk_is_found(rt: HostRuntime) -> Result<(), Fail> {
-    let chain = bare(&CHAIN);
-    let forks = bare(&FORKS);
-    let tables: [Table; 10] = [
+fn the_least_walk_of_a_service_is_found(rt: HostRuntime) -> Result<(), Fail> {
+    let tables: [Table; 7] = [
         (LockService::shape(), 0b1111, &[(1, 2)], &LOCK_CASES),
-        (event_shape(), 0b1111, &[(1, 3)], &EVENT_CASES),
-        (mm_shape(), 0b1111, &[], &MM_CASES),
-        (ramfs_shape(), 0b11111, &[(1, 4)], &RAMFS_CASES),
-        (sched_shape(), 0b1111_1111, &[(1, 3), (1, 7)], &SCHED_CASES),
+        (EventService::shape(), 0b1111, &[(1, 3)], &EVENT_CASES),
+        (MmService::shape(), 0b1111, &[], &MM_CASES),
+        (RamfsService::shape(), 0b11111, &[(1, 4)], &RAMFS_CASES),
         (
-            sched_shape(),
+            SchedService::shape(),
+            0b1111_1111,
+            &[(1, 3), (1, 7)],
+            &SCHED_CASES,
+        ),
+        (
+            SchedService::shape(),
             0b1011_1111,
             &[(1, 3), (1, 7)],
             &UNPLACED_CASES,
         ),
+        (
+            TimerService::shape(),
+            0b111_1111,
+            &[(1, 2), (1, 4)],
+            &TIMER_CASES,
+        ),
+    ];
+    for table in tables {
+        try_table(&rt, rt.alloc(), table)?;
+    }
+    Ok(())
+}
+
+#[test]
+fn the_least_walk_is_found(rt: HostRuntime) -> Result<(), Fail> {
+    let chain = bare(&CHAIN);
+    let forks = bare(&FORKS);
+    let tables: [Table; 4] = [
         (chain, u32::MAX, &CHAIN_STEPS, &CHAIN_CASES),
         (forks, u32::MAX, &TWO_STEPS, &TWO_CASES),
         (forks, u32::MAX, &SHORTER_STEPS, &SHORTER_CASES),

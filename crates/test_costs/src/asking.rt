@@ -1,8 +1,7 @@
 // The texts of standard interfaces, and what `cost` prints of an interface and a script.
-use sg_load::ServiceKind;
-use sg_top::{MemSink, MemSource, NoMemory, Status, serial};
+use sg_top::{MemSink, MemSource, NoMemory, ServiceKind, Status, serial};
 use std::alloc::Global;
-use test_interfaces::{EVENT, LOCK, MM, RAMFS, SCHED};
+use test_interfaces::{EVENT, LOCK, MM, RAMFS, SCHED, TIMER};
 
 /// What a command came to: its status and what it printed.
 pub type Said = (Status, Vec<u8>);
@@ -31,5 +30,6 @@ pub fn text_of(service: ServiceKind) -> &'static [u8] {
         ServiceKind::Pages => MM,
         ServiceKind::Files => RAMFS,
         ServiceKind::Threads => SCHED,
+        ServiceKind::Timers => TIMER,
     }
 }

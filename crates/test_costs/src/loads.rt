@@ -1,9 +1,7 @@
 // No boot of a generated script of each service needs more than its bound, and all boots together need what the load's line says.
 use crate::asking::{costs, text_of};
-use sg_load::{ServiceKind, generate};
-use sg_script::{Arg, Script, ScriptCall};
-use sg_top::NoMemory;
 use sg_top::Status::Done;
+use sg_top::{Arg, NoMemory, Script, ScriptCall, ServiceKind, generate};
 use std::alloc::Global;
 use std::fmt::Write;
 use std::process::Abort;
@@ -13,12 +11,13 @@ use std::test::Fail;
 type Load = (ServiceKind, u64);
 
 // The counts of replays are those of two other programs.
-static LOADS: [Load; 5] = [
+static LOADS: [Load; 6] = [
     (ServiceKind::Locks, 579),
     (ServiceKind::Events, 594),
     (ServiceKind::Pages, 281),
     (ServiceKind::Files, 358),
     (ServiceKind::Threads, 453),
+    (ServiceKind::Timers, 537),
 ];
 
 // An argument, as it is written.

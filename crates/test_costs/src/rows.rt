@@ -1,8 +1,7 @@
 // What plays cost that were worked out by hand, line by line. For each service one boot needs exactly its bound.
 use crate::asking::{Said, costs, text_of};
-use sg_load::ServiceKind;
-use sg_top::NoMemory;
 use sg_top::Status::{self, Done, Refused, Waits};
+use sg_top::{NoMemory, ServiceKind};
 use std::alloc::Global;
 use std::test::Fail;
 use test_interfaces::{LOCK, in_version_2};
@@ -10,7 +9,7 @@ use test_interfaces::{LOCK, in_version_2};
 // A service, a script for it, and the status and the output that they come to.
 type Case = (ServiceKind, &'static [u8], Status, &'static [u8]);
 
-static CASES: [Case; 9] = [
+static CASES: [Case; 10] = [
     // an event whose count is replayed, too
     (
         ServiceKind::Events,
@@ -44,6 +43,24 @@ cost sched_exit 2
 all 4
 boot 1 walks 0 bound 0
 boot 2 walks 4 bound 4
+",
+    ),
+    // a timer, whose clock is advanced and which is placed again
+    (
+        ServiceKind::Timers,
+        b"client 1 { tmr_create(5, 7); tmr_tick($1, 22); tmr_wait($1); tmr_skip($1); tmr_first(); } stop 14;",
+        Done,
+        b"row 1 walk 3
+cost tmr_create 3
+cost tmr_tick 3
+cost tmr_wait 3
+cost tmr_place 3
+cost tmr_first 3
+cost tmr_skip 3
+cost tmr_free 3
+all 3
+boot 1 walks 0 bound 0
+boot 2 walks 3 bound 3
 ",
     ),
     // a lock that is held when the service stops, and free at the end

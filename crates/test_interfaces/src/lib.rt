@@ -1,7 +1,7 @@
 //! The standard interfaces of the services, as texts; and tests of what reads and prints the interface language.
 //!
-//! - `texts`: the texts of version 1 (`LOCK`, `EVENT`, `MM`, `RAMFS`, `SCHED`), events in version 2 (`EVENT2`), and a text of
-//!   version 1 in version 2 (`in_version_2`)
+//! - `texts`: the texts of version 1 (`LOCK`, `EVENT`, `MM`, `RAMFS`, `SCHED`), events in version 2 (`EVENT2`) and timers
+//!   (`TIMER`), and a text of version 1 in version 2 (`in_version_2`)
 //!
 //! The tests:
 //! - `tokens`: the tokens of texts
@@ -17,4 +17,4 @@ mod tokens;
 #[cfg(test)]
 mod trees;
 
-pub use texts::{EVENT, EVENT2, LOCK, MM, RAMFS, SCHED, in_version_2};
+pub use texts::{EVENT, EVENT2, LOCK, MM, RAMFS, SCHED, TIMER, in_version_2};

@@ -1,6 +1,6 @@
 // Which texts are sentences of the interface language, and where the others fail.
 use crate::sentences::Answer::{Lex, NoMemory, Syntax, Tree};
-use crate::{EVENT, EVENT2, LOCK, MM, RAMFS, SCHED};
+use crate::{EVENT, EVENT2, LOCK, MM, RAMFS, SCHED, TIMER};
 use sg_print::{ParseError, parse};
 use std::alloc::Global;
 use std::process::Abort;
@@ -184,7 +184,7 @@ fn ends_a_statement(front: &[u8]) -> bool {
 
 #[test]
 fn fronts_are_sentences_where_a_statement_ends(rt: HostRuntime) -> Result<(), Fail> {
-    for text in [LOCK, EVENT, EVENT2, MM, RAMFS, SCHED] {
+    for text in [LOCK, EVENT, EVENT2, MM, RAMFS, SCHED, TIMER] {
         for at in 0..text.len() + 1 {
             let front = text.get(..at).ok_or("no front")?;
             match answer_on(rt.alloc(), front) {

@@ -191,3 +191,40 @@ int evt_free(spdid_t spdid, unsigned long desc(id));\n\
 sm_keep(evt_take);\n\
 sm_transition(evt_split, evt_take);\n\
 desc_data_retval_sub(long, count) evt_take(spdid_t spdid, unsigned long desc(id), unsigned long n);\n";
+
+/// Timers, which have five fields; their text is one of version 2.
+pub static TIMER: &[u8] = b"service_global_info = {\n\
+\x20   version = 2,\n\
+\x20   service = timer,\n\
+\x20   desc_has_parent = none,\n\
+\x20   desc_close = refuse,\n\
+\x20   desc_is_global = true,\n\
+\x20   desc_block = true,\n\
+\x20   desc_has_data = true,\n\
+\x20   resc_has_data = false,\n\
+\x20   desc_recover = demand\n\
+};\n\
+sm_creation(tmr_create);\n\
+sm_terminal(tmr_free);\n\
+sm_block(tmr_wait);\n\
+sm_wakeup(tmr_tick);\n\
+sm_query(tmr_first);\n\
+sm_needs_all(tmr_create);\n\
+sm_needs_all(tmr_first);\n\
+sm_keep(tmr_tick);\n\
+sm_keep(tmr_wait);\n\
+sm_keep(tmr_place);\n\
+sm_keep(tmr_skip);\n\
+sm_transition(tmr_create, tmr_tick);\n\
+sm_transition(tmr_create, tmr_wait);\n\
+sm_transition(tmr_create, tmr_skip);\n\
+sm_transition(tmr_create, tmr_free);\n\
+sm_recover(tmr_create, tmr_tick);\n\
+sm_recover(tmr_create, tmr_place);\n\
+desc_data_retval(long, due) tmr_create(spdid_t desc_data(owner), unsigned long desc_data(period), unsigned long desc_data(tag));\n\
+int tmr_tick(spdid_t spdid, unsigned long desc(id), unsigned long desc_data_add(now));\n\
+desc_data_retval_add(long, due) tmr_wait(spdid_t spdid, unsigned long desc(id));\n\
+int tmr_place(spdid_t spdid, unsigned long desc(id), unsigned long desc_data(due));\n\
+int tmr_first(spdid_t spdid);\n\
+desc_data_retval_add(long, due) tmr_skip(spdid_t spdid, unsigned long desc(id));\n\
+int tmr_free(spdid_t spdid, unsigned long desc(id));\n";

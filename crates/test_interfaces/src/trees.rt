@@ -1,5 +1,5 @@
 // What the tree of a text keeps, and texts that are printed as they stand.
-use crate::{EVENT, EVENT2, LOCK, MM, RAMFS, SCHED, in_version_2};
+use crate::{EVENT, EVENT2, LOCK, MM, RAMFS, SCHED, TIMER, in_version_2};
 use sg_print::{Ret, Statement, parse, print};
 use std::test::Fail;
 
@@ -30,6 +30,7 @@ fn canonical_texts_come_back(rt: HostRuntime) -> Result<(), Fail> {
         (MM, 13),
         (RAMFS, 17),
         (SCHED, 29),
+        (TIMER, 24),
     ] {
         let tree = parse(rt.alloc(), text)?;
         assert!(rt;

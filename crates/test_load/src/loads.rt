@@ -1,6 +1,5 @@
 // The lines of loads, and words that are no load.
-use sg_facts::NoMemory;
-use sg_top::{MemSink, MemSource, serial};
+use sg_top::{MemSink, MemSource, NoMemory, serial};
 use std::alloc::Global;
 use std::process::Abort;
 use std::test::Fail;
@@ -9,7 +8,7 @@ use std::test::Fail;
 type Load = (&'static str, &'static str);
 
 // The counts of replays are those of two other programs.
-static LOADS: [Load; 10] = [
+static LOADS: [Load; 12] = [
     (
         "load lock 0",
         "load lock 0: calls 20000 boots 33 replays 586 blocked 0\n",
@@ -49,6 +48,14 @@ static LOADS: [Load; 10] = [
     (
         "load sched 7",
         "load sched 7: calls 20000 boots 33 replays 453 blocked 0\n",
+    ),
+    (
+        "load timer 0",
+        "load timer 0: calls 20000 boots 33 replays 575 blocked 0\n",
+    ),
+    (
+        "load timer 7",
+        "load timer 7: calls 20000 boots 33 replays 537 blocked 0\n",
     ),
 ];
 

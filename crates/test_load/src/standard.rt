@@ -3,13 +3,12 @@ ghost use Rattle.std.specs.Prelude.{◌≡◌, true};
 ghost use Rattle.sg_top.specs.sg_check.Shapes.{is_shape};
 ghost use Rattle.sg_top.specs.sg_load.Services.{facts_by};
 
-use sg_facts::{Interface, MOST_FUNS};
-use sg_top::ServiceKind::{Events, Files, Locks, Pages, Threads};
-use sg_top::{ServiceKind, check, parse, standard};
+use sg_top::ServiceKind::{Events, Files, Locks, Pages, Threads, Timers};
+use sg_top::{Interface, MOST_FUNS, ServiceKind, check, parse, standard};
 use std::alloc::Global;
 use std::process::Abort;
 use std::test::Fail;
-use test_interfaces::{EVENT, LOCK, MM, RAMFS, SCHED};
+use test_interfaces::{EVENT, LOCK, MM, RAMFS, SCHED, TIMER};
 
 // Whether two interfaces declare the same of a function.
 fn agree_on(one: &Interface, other: &Interface, fun: u8) -> bool {
@@ -47,5 +46,6 @@ fn standard_interfaces_are_declared(rt: HostRuntime) -> Result<(), Fail> {
     is_declared(&rt, alloc, Events, EVENT)?;
     is_declared(&rt, alloc, Pages, MM)?;
     is_declared(&rt, alloc, Files, RAMFS)?;
-    is_declared(&rt, alloc, Threads, SCHED)
+    is_declared(&rt, alloc, Threads, SCHED)?;
+    is_declared(&rt, alloc, Timers, TIMER)
 }

@@ -3,12 +3,12 @@ use Rattle.std.proofs.Common.{◌≡◌, ℕ, ◌<◌, ◌≤◌, true, List, []
 use Rattle.std.specs.Prelude.{◌==◌, ◌&&◌, ◌||◌}
 use Rattle.std.specs.declared.option.Option.{Option}
 use Rattle.std.specs.Option.{is_some, option_copied, option_map}
-use Rattle.sg_facts.specs.sg_base.declared.value.Value.TheVariants.{Word}
-use Rattle.sg_facts.specs.declared.row.Row.{Row}
-use Rattle.sg_facts.specs.Kinds.{MayAsk, may_be_root}
-use Rattle.sg_facts.specs.Object.{Object}
-use Rattle.sg_facts.specs.Track.{is_live, row_at}
-use Rattle.sg_facts.proofs.RowLists.{live_of_row}
+use Rattle.test_asking.specs.sg_facts.sg_base.declared.value.Value.TheVariants.{Word}
+use Rattle.test_asking.specs.sg_facts.declared.row.Row.{Row}
+use Rattle.test_asking.specs.sg_facts.Kinds.{MayAsk, may_be_root}
+use Rattle.test_asking.specs.sg_facts.Object.{Object}
+use Rattle.test_asking.specs.sg_facts.Track.{is_live, row_at}
+use Rattle.test_asking.proofs.sg_facts.RowLists.{live_of_row}
 use Rattle.sg_mm.proofs.sg_slots.RowLaws.{none_counted}
 use Rattle.sg_mm.specs.declared.page.Page.{Page}
 use Rattle.sg_mm.specs.MmFacts.{mm_facts}

@@ -1,11 +1,11 @@
 // What no clause says: that calls on pages are answered where there is memory.
 ghost use Rattle.std.specs.Prelude.{◌≡◌, [], ◌∷◌, IfOk};
-ghost use Rattle.sg_facts.specs.sg_base.declared.value.Value.TheVariants.{Word};
+ghost use Rattle.test_asking.specs.sg_facts.sg_base.declared.value.Value.TheVariants.{Word};
 
-use sg_facts::{Args, Call, Code, NoMemory, Outcome, Reply, Service, Stops, Value};
 use sg_mm::MmService;
 use std::alloc::Global;
 use std::test::Fail;
+use test_asking::facts::{Args, Call, Code, NoMemory, Outcome, Reply, Service, Stops, Value};
 use test_asking::{Once, ask, call};
 
 // What is asked.

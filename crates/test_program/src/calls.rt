@@ -1,8 +1,7 @@
 // Other words, a run as it is given, and the numbers of statuses.
 use crate::answers::{REPORT, SCRIPT, Sizes, input_of, said, words_of};
-use sg_edge::{MemSink, MemSource, OpenGate};
 use sg_facts::NoMemory;
-use sg_top::{Command, Status, serial, superglue};
+use sg_top::{Command, MemSink, MemSource, OpenGate, Status, serial, superglue};
 use std::alloc::Global;
 use std::io::ErrorKind;
 use std::sync::Wait;

@@ -22,8 +22,7 @@ mod reports;
 #[cfg(test)]
 mod versions;
 
-use sg_edge::{OpenGate, StdSink, StdSource};
-use sg_top::{Status, superglue};
+use sg_top::{OpenGate, Status, StdSink, StdSource, superglue};
 use std::env;
 use std::io::Error;
 use std::process::ExitCode;

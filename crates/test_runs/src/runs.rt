@@ -1,12 +1,12 @@
 // Whether each run comes out as it is written.
-use crate::texts::{EVENTS, FILES, LOCKS, PAGES, THREADS};
+use crate::texts::{EVENTS, FILES, LOCKS, PAGES, THREADS, TIMERS};
 use sg_top::{Gate, MemSink, MemSource, NoMemory, OpenGate, superglue};
 use std::alloc::Global;
 use std::process::Abort;
 use std::sync::Wait;
 use std::test::Fail;
 use std::thread::Threads;
-use test_interfaces::{EVENT, LOCK, MM, RAMFS, SCHED};
+use test_interfaces::{EVENT, LOCK, MM, RAMFS, SCHED, TIMER};
 
 /// What words and an input come to: the number of the status, and what is printed.
 pub fn played<R: Threads + Wait + Sync>(
@@ -146,6 +146,11 @@ fn plays_files(rt: HostRuntime) -> Result<(), Fail> {
 #[test]
 fn plays_threads(rt: HostRuntime) -> Result<(), Fail> {
     try_each(&rt, rt.alloc(), SCHED, THREADS)
+}
+
+#[test]
+fn plays_timers(rt: HostRuntime) -> Result<(), Fail> {
+    try_each(&rt, rt.alloc(), TIMER, TIMERS)
 }
 
 // Runs with stops, of locks, of files and of threads: each with lines of its trace.

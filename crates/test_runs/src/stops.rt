@@ -5,7 +5,7 @@ use std::process::Abort;
 use std::sync::Wait;
 use std::test::Fail;
 use std::thread::Threads;
-use test_interfaces::{EVENT, LOCK, RAMFS, SCHED};
+use test_interfaces::{EVENT, LOCK, RAMFS, SCHED, TIMER};
 
 const LOCKS: &str = "client 1 { lock_alloc(); lock_take($1); lock_release($1); lock_free($1); }";
 
@@ -17,6 +17,9 @@ const FILES: &str =
 
 const THREADS: &str =
     "client 1 { sched_create_thd(5); sched_create_thd(5); sched_create_thd(5); sched_exit($1); sched_yield($2); sched_next(); }";
+
+const TIMERS: &str =
+    "client 1 { tmr_create(5, 7); tmr_tick($1, 22); tmr_wait($1); tmr_skip($1); tmr_create(5, 7); tmr_first(); tmr_free($1); tmr_create(0, 7); }";
 
 // The greatest point of one stop, and of two.
 const MOST: u32 = 60;
@@ -95,6 +98,11 @@ fn files_stop_once(rt: HostRuntime) -> Result<(), Fail> {
 #[test]
 fn threads_stop_once(rt: HostRuntime) -> Result<(), Fail> {
     try_each(&rt, rt.alloc(), SCHED, THREADS)
+}
+
+#[test]
+fn timers_stop_once(rt: HostRuntime) -> Result<(), Fail> {
+    try_each(&rt, rt.alloc(), TIMER, TIMERS)
 }
 
 #[test]

@@ -476,3 +476,56 @@ call c2.1 sched_wakeup(1) replied
 call c1.3 sched_wait(1) replied
 points 28
 ";
+
+/// Runs of timers.
+pub const TIMERS: &str = "\
+sim: 0
+client 1 { tmr_create(5, 7); tmr_tick($1, 22); tmr_wait($1); tmr_skip($1); tmr_first(); tmr_free($1); } stop 14;
+c1.1 tmr_create(5, 7) = ok #1 5
+c1.2 tmr_tick(1, 22) = ok
+c1.3 tmr_wait(1) = ok 5
+c1.4 tmr_skip(1) = ok 15
+c1.5 tmr_first() = ok #1
+c1.6 tmr_free(1) = ok
+client 1 done
+calls 6 boots 2 replays 3
+
+sim trace: 0
+client 1 { tmr_create(5, 7); tmr_tick($1, 22); tmr_wait($1); tmr_skip($1); tmr_first(); tmr_free($1); } stop 14;
+..
+calls 6 boots 2 replays 3
+..
+boot 2
+walk 1.1 for c1 by c1 tmr_create(5, 7) replied
+walk 1.2 for c1 by c1 tmr_tick(1, 22) replied
+walk 1.3 for c1 by c1 tmr_place(1, 10) replied
+..
+points 36
+
+sim: 3
+setup { tmr_create(3, 1); } client 1 { tmr_create(4, 1); tmr_tick(1, 2); } client 2 { tmr_wait(1); }
+c1.1 tmr_create(3, 1) = ok #1 3
+c1.2 tmr_create(4, 1) = refused Occupied
+c1.3 tmr_tick(1, 2) = ok
+client 1 done
+client 2 blocked tmr_wait(1)
+calls 3 boots 1 replays 0
+
+sim: 0
+client 1 { tmr_first(); tmr_create(4294967296, 1); tmr_create(9, 1); tmr_create(2, 5); tmr_create(1, 1); tmr_first(); tmr_tick($3, 8); tmr_first(); tmr_skip($4); tmr_tick($3, 4294967288); tmr_place($3, 1); tmr_free($3); tmr_first(); }
+c1.1 tmr_first() = refused NotFound
+c1.2 tmr_create(4294967296, 1) = refused TooBig
+c1.3 tmr_create(9, 1) = ok #1 9
+c1.4 tmr_create(2, 5) = ok #2 2
+c1.5 tmr_create(1, 1) = refused Occupied
+c1.6 tmr_first() = ok #2
+c1.7 tmr_tick(1, 8) = ok
+c1.8 tmr_first() = ok #1
+c1.9 tmr_skip(2) = ok 0
+c1.10 tmr_tick(1, 4294967288) = refused Overflow
+c1.11 tmr_place(1, 1) = refused BadState
+c1.12 tmr_free(1) = ok
+c1.13 tmr_first() = ok #2
+client 1 done
+calls 13 boots 1 replays 0
+";

@@ -3,18 +3,18 @@ use Rattle.std.proofs.Common.{◌≡◌, ℕ, zero, suc, ◌+◌, ◌^◌, ◌<�
 use Rattle.std.specs.Prelude.{◌&&◌}
 use Rattle.std.specs.declared.option.Option.{Option}
 use Rattle.std.specs.Option.{option_map, option_copied, is_some}
-use Rattle.sg_facts.specs.sg_base.declared.value.Value.TheVariants.{Word}
-use Rattle.sg_facts.specs.sg_base.declared.call.Call.{Call}
-use Rattle.sg_facts.specs.sg_base.declared.reply.Reply.{Reply}
-use Rattle.sg_facts.specs.sg_base.declared.reply.Reply.TheVariants.{Ok, Refused}
-use Rattle.sg_facts.specs.declared.row.Row.{Row}
-use Rattle.sg_facts.specs.Facts.{fun_at, takes_desc, takes_parent}
-use Rattle.sg_facts.specs.Kinds.{MayAsk, IsWithin, kinds_fit}
-use Rattle.sg_facts.specs.Laws.{most_set}
-use Rattle.sg_facts.specs.Object.{Object, after}
-use Rattle.sg_facts.specs.Track.{row_at, is_live, arg_at, word_of}
-use Rattle.sg_facts.specs.Inside.Rows.{has_child}
-use Rattle.sg_facts.proofs.RowLists.{live_of_row}
+use Rattle.test_asking.specs.sg_facts.sg_base.declared.value.Value.TheVariants.{Word}
+use Rattle.test_asking.specs.sg_facts.sg_base.declared.call.Call.{Call}
+use Rattle.test_asking.specs.sg_facts.sg_base.declared.reply.Reply.{Reply}
+use Rattle.test_asking.specs.sg_facts.sg_base.declared.reply.Reply.TheVariants.{Ok, Refused}
+use Rattle.test_asking.specs.sg_facts.declared.row.Row.{Row}
+use Rattle.test_asking.specs.sg_facts.Facts.{fun_at, takes_desc, takes_parent}
+use Rattle.test_asking.specs.sg_facts.Kinds.{MayAsk, IsWithin, kinds_fit}
+use Rattle.test_asking.specs.sg_facts.Laws.{most_set}
+use Rattle.test_asking.specs.sg_facts.Object.{Object, after}
+use Rattle.test_asking.specs.sg_facts.Track.{row_at, is_live, arg_at, word_of}
+use Rattle.test_asking.specs.sg_facts.Inside.Rows.{has_child}
+use Rattle.test_asking.proofs.sg_facts.RowLists.{live_of_row}
 use Rattle.sg_sched.specs.SchedFacts.{sched_facts}
 use Rattle.sg_sched.specs.SchedTable.{sched_table}
 use Rattle.sg_sched.specs.Laws.SchedShapeLaw.{replays_at}

@@ -1,13 +1,13 @@
 -- Calls on threads that were asked little.
 use Rattle.std.specs.Prelude.{ℕ, ◌+◌, ◌≤◌, Bool, ◌&&◌, List, [], ◌∷◌, None, Some}
 use Rattle.std.specs.declared.option.Option.{Option}
-use Rattle.sg_facts.specs.sg_base.declared.value.Value.{Value}
-use Rattle.sg_facts.specs.sg_base.declared.value.Value.TheVariants.{Word}
-use Rattle.sg_facts.specs.Counted.{most_counted}
-use Rattle.sg_facts.specs.Facts.{fun_at, takes_desc}
-use Rattle.sg_facts.specs.Kinds.{kinds_fit}
-use Rattle.sg_facts.specs.Laws.{slow}
-use Rattle.sg_facts.specs.Object.{Object}
+use Rattle.test_asking.specs.sg_facts.sg_base.declared.value.Value.{Value}
+use Rattle.test_asking.specs.sg_facts.sg_base.declared.value.Value.TheVariants.{Word}
+use Rattle.test_asking.specs.sg_facts.Counted.{most_counted}
+use Rattle.test_asking.specs.sg_facts.Facts.{fun_at, takes_desc}
+use Rattle.test_asking.specs.sg_facts.Kinds.{kinds_fit}
+use Rattle.test_asking.specs.sg_facts.Laws.{slow}
+use Rattle.test_asking.specs.sg_facts.Object.{Object}
 use Rattle.sg_sched.specs.SchedFacts.{sched_facts}
 
 -- after so few calls the ranks and the ids are far from their ends

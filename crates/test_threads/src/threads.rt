@@ -1,17 +1,17 @@
 // What no clause says: that calls on threads are answered where there is memory, and stopped where a point strikes.
 ghost use Rattle.std.specs.Prelude.{◌≡◌, ◌+◌, ◌^◌, ◌<◌, ◌≤◌, true, IfOk, OnOk};
-ghost use Rattle.sg_facts.specs.Kinds.{MayAsk};
-ghost use Rattle.sg_facts.specs.Track.{arg_at, word_of};
+ghost use Rattle.test_asking.specs.sg_facts.Kinds.{MayAsk};
+ghost use Rattle.test_asking.specs.sg_facts.Track.{arg_at, word_of};
 ghost use Rattle.sg_sched.specs.SchedFacts.{sched_facts};
 ghost use Rattle.sg_sched.specs.SchedObject.{sched_object};
 ghost use Rattle.test_threads.specs.Small.{AreSmall, args_of, is_on};
 
-use sg_facts::{Args, Call, Code, Outcome, Reply, Service, Stops, Value};
 use sg_sched::SchedService;
 use std::alloc::Global;
 use std::process::Abort;
 use std::test::Fail;
 use test_asking::Once;
+use test_asking::facts::{Args, Call, Code, Outcome, Reply, Service, Stops, Value};
 
 // A call on threads, each named by its id.
 #[derive(Clone, Copy, Debug)]

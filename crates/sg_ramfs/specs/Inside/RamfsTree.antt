@@ -6,7 +6,7 @@ use Rattle.sg_facts.specs.Object.{path_of}
 use Rattle.sg_facts.specs.Sound.{AreRows}
 use Rattle.sg_facts.specs.Inside.Rows.{has_child}
 use Rattle.sg_slots.specs.declared.decision.Decision.{Decision}
-use Rattle.sg_slots.specs.declared.decision.Decision.TheVariants.{Make, Set, Remove}
+use Rattle.sg_slots.specs.declared.decision.Decision.TheVariants.{Make, Enlist, Set, Remove}
 use Rattle.sg_slots.specs.Slots.{AreIds, Held, entry_at, rows_of}
 use Rattle.sg_ramfs.specs.declared.open_file.OpenFile.{OpenFile}
 use Rattle.sg_ramfs.specs.RamfsRow.{file_body}
@@ -29,6 +29,7 @@ pub record IsTree (held : Held OpenFile) : Type 0 where
 -- isn't too long; one that is set keeps its parent and its name; one that ends has nothing below it
 abbrev pub FitsTree : Held OpenFile → ℕ → Decision OpenFile → Type 0
 FitsTree held id (Make f word) = (f.parent ≤ held.given) × (length (path_of (tree_rows held) f.parent ++ 47 ∷ f.name) ≤ most_path)
+FitsTree held id (Enlist f word) = (f.parent ≤ held.given) × (length (path_of (tree_rows held) f.parent ++ 47 ∷ f.name) ≤ most_path)
 FitsTree held id (Set f word) = IfSome (entry_at held.entries id) (λ old. (f.parent ≡ old.parent) × (f.name ≡ old.name))
 FitsTree held id Remove = has_child (tree_rows held) id ≡ false
 FitsTree held id _ = Unit {0}

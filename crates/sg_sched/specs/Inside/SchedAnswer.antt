@@ -1,4 +1,4 @@
--- The order of threads and the answers of the thread service by their functions, as its proofs name them.
+-- The numbers of threads and the answers of the thread service by their functions, as its proofs name them.
 use Rattle.std.specs.Prelude.{ℕ, ◌==◌, Bool, if◌then◌else◌, None, Some}
 use Rattle.std.specs.Option.{option_map_or}
 use Rattle.std.specs.declared.option.Option.{Option}
@@ -8,15 +8,10 @@ use Rattle.sg_facts.specs.sg_base.declared.reply.Reply.TheVariants.{Refused}
 use Rattle.sg_facts.specs.declared.row.Row.{Row}
 use Rattle.sg_facts.specs.Track.{word_of, field_at}
 use Rattle.sg_facts.specs.Legal.{done}
-use Rattle.sg_sched.specs.SchedTable.{goes_before}
 
 -- the priority of a thread; a smaller one goes before
 abbrev pub prio_of : Row → ℕ
 prio_of r = word_of (field_at r.fields 0)
-
--- the one of two threads that goes before the other
-abbrev pub next_of : Row → Row → Row
-next_of r s = if goes_before s r then s else r
 
 -- whether a thread is ready: in the state that sched_create_thd leaves
 abbrev pub is_ready : Row → Bool

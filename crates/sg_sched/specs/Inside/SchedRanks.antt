@@ -1,4 +1,4 @@
--- The greatest rank, and rows that have ranks of their own, when a row comes, is changed or goes.
+-- The greatest rank, and rows that have ranks of their own, when a row comes or gets a rank.
 use Rattle.std.proofs.Common.{◌≡◌, ℕ, ◌<◌, ◌≤◌, Bool, true, false, cond, ◌||◌, List, [], ◌∷◌, ◌++◌, Some, map, filter, max, refl, sym, ◌∙◌, ap, subst, inl, inr, arith}
 use Rattle.std.specs.Prelude.{◌==◌, fold, if◌then◌else◌}
 use Rattle.std.specs.List.{list_any}
@@ -7,8 +7,9 @@ use Rattle.std.proofs.lemmas.Bool.Decides.{nat_tests}
 use Rattle.sg_facts.specs.declared.row.Row.{Row}
 use Rattle.sg_facts.specs.Sound.{AreRows}
 use Rattle.sg_facts.specs.Track.{row_at}
+use Rattle.sg_queues.specs.Apart.{AreApart}
+use Rattle.sg_queues.proofs.Apart.{apart_more}
 use Rattle.sg_sched.specs.SchedTable.{rank_of}
-use Rattle.sg_sched.specs.SchedSound.{HaveOwnRanks}
 
 -- the greatest rank of rows, or a number that is greater
 abbrev pub most : ℕ → List Row → ℕ
@@ -50,36 +51,6 @@ none_above n (r ∷ rows) above =
     let other : (rank_of r == n) ≡ false = grind (arith, nat_tests, base, above) in
     ap (λ b. b || list_any (λ s. rank_of s == n) rows) other ∙ none_above n rows (omega (arith, rest, above))
 
--- ---- a test that no row passes
-
--- a row comes
-none_more : (test : Row → Bool) (rows : List Row) (new : Row) → list_any test rows ≡ false → test new ≡ false → list_any test (rows ++ new ∷ []) ≡ false
-none_more test [] new none other = ap (λ b. b || false) other
-none_more test (r ∷ rows) new none other = at (test r) none (none_more test rows new)
-  where
-    at : (b : Bool) → (b || list_any test rows) ≡ false → (list_any test rows ≡ false → test new ≡ false → list_any test (rows ++ new ∷ []) ≡ false) → (b || list_any test (rows ++ new ∷ [])) ≡ false
-    at true none rest = absurd (cc none)
-    at false none rest = rest none other
-
--- rows go
-none_left : (test keep : Row → Bool) (rows : List Row) → list_any test rows ≡ false → list_any test (filter keep rows) ≡ false
-none_left test keep [] none = refl
-none_left test keep (r ∷ rows) none = at (keep r) (test r) refl none (none_left test keep rows)
-  where
-    at : (k b : Bool) → test r ≡ b → (b || list_any test rows) ≡ false → (list_any test rows ≡ false → list_any test (filter keep rows) ≡ false) → list_any test (cond k (r ∷ filter keep rows) (filter keep rows)) ≡ false
-    at k true is none rest = absurd (cc none)
-    at true false is none rest = ap (λ b. b || list_any test (filter keep rows)) is ∙ rest none
-    at false false is none rest = rest none
-
--- rows are changed, and the test with them
-none_changed : (test test' : Row → Bool) (change : Row → Row) → ((r : Row) → test' (change r) ≡ test r) → (rows : List Row) → list_any test rows ≡ false → list_any test' (map change rows) ≡ false
-none_changed test test' change same [] none = refl
-none_changed test test' change same (r ∷ rows) none = ap (λ b. b || list_any test' (map change rows)) (same r) ∙ at (test r) none (none_changed test test' change same rows)
-  where
-    at : (b : Bool) → (b || list_any test rows) ≡ false → (list_any test rows ≡ false → list_any test' (map change rows) ≡ false) → (b || list_any test' (map change rows)) ≡ false
-    at true none rest = absurd (cc none)
-    at false none rest = rest none
-
 -- a row is changed to one that fails the test
 none_set : (test : Row → Bool) (change : Row → Row) (id low high : ℕ) (rows : List Row) → AreRows (λ r. test (change r) ≡ false) low high rows → list_any test rows ≡ false
     → list_any test (map (λ r. if r.id == id then change r else r) rows) ≡ false
@@ -97,30 +68,8 @@ none_set test change id low high (r ∷ rows) are none = at (r.id == id) (test r
 -- ---- ranks of their own
 
 -- a row comes with a rank above all
-pub own_more : (rows : List Row) (new : Row) → most 0 rows < rank_of new → HaveOwnRanks rows → HaveOwnRanks (rows ++ new ∷ [])
-own_more [] new above own = (refl, tt)
-own_more (r ∷ rows) new above own =
-    let base = most_base (max 0 (rank_of r)) rows in
-    let rest = most_from 0 (max 0 (rank_of r)) rows (omega arith) in
-    let other : (rank_of new == rank_of r) ≡ false = grind (arith, nat_tests, base, above) in
-    (none_more (λ s. rank_of s == rank_of r) rows new own.0 other, own_more rows new (omega (arith, rest, above)) own.1)
-
--- rows go
-pub own_left : (keep : Row → Bool) (rows : List Row) → HaveOwnRanks rows → HaveOwnRanks (filter keep rows)
-own_left keep [] own = tt
-own_left keep (r ∷ rows) own = at (keep r) (own_left keep rows own.1)
-  where
-    at : (b : Bool) → HaveOwnRanks (filter keep rows) → HaveOwnRanks (cond b (r ∷ filter keep rows) (filter keep rows))
-    at true rest = (none_left (λ s. rank_of s == rank_of r) keep rows own.0, rest)
-    at false rest = rest
-
--- rows are changed under their ranks
-pub own_changed : (change : Row → Row) → ((r : Row) → rank_of (change r) ≡ rank_of r) → (rows : List Row) → HaveOwnRanks rows → HaveOwnRanks (map change rows)
-own_changed change same [] own = tt
-own_changed change same (r ∷ rows) own = (
-  none_changed (λ s. rank_of s == rank_of r) (λ s. rank_of s == rank_of (change r)) change (λ s. ap (λ n. n == rank_of (change r)) (same s) ∙ ap (λ n. rank_of s == n) (same r)) rows own.0,
-  own_changed change same rows own.1,
-)
+pub own_more : (rows : List Row) (new : Row) → most 0 rows < rank_of new → AreApart rank_of rows → AreApart rank_of (rows ++ new ∷ [])
+own_more rows new above own = apart_more rank_of rows new (none_above (rank_of new) rows above) own
 
 -- rows above an id stay when that of the id is changed
 stay : (P : Row → Type 0) (change : Row → Row) (id low high : ℕ) (rows : List Row) → id ≤ low → AreRows P low high rows → map (λ r. if r.id == id then change r else r) rows ≡ rows
@@ -130,8 +79,8 @@ stay P change id low high (r ∷ rows) less are =
     ap (λ b. cond b (change r) r ∷ map (λ x. if x.id == id then change x else x) rows) other ∙ ap (λ l. r ∷ l) (stay P change id r.id high rows (omega (arith, are.0)) are.3)
 
 -- a row's rank is set above all
-pub own_set : (change : Row → Row) (id n low high : ℕ) (rows : List Row) → AreRows (λ r. rank_of (change r) ≡ n) low high rows → most 0 rows < n → HaveOwnRanks rows
-    → HaveOwnRanks (map (λ r. if r.id == id then change r else r) rows)
+pub own_set : (change : Row → Row) (id n low high : ℕ) (rows : List Row) → AreRows (λ r. rank_of (change r) ≡ n) low high rows → most 0 rows < n → AreApart rank_of rows
+    → AreApart rank_of (map (λ r. if r.id == id then change r else r) rows)
 own_set change id n low high [] are above own = tt
 own_set change id n low high (r ∷ rows) are above own = elim (cases_Bool (r.id == id)) [
   | inl here ↦
@@ -139,10 +88,10 @@ own_set change id n low high (r ∷ rows) are above own = elim (cases_Bool (r.id
       let same : rank_of (change r) ≡ n = are.2 in
       let kept = stay (λ x. rank_of (change x) ≡ n) change id r.id high rows (omega (arith, one)) are.3 in
       let apart : list_any (λ s. rank_of s == rank_of (change r)) rows ≡ false = subst (λ k. list_any (λ s. rank_of s == k) rows ≡ false) (sym same) (none_above n rows above_rest) in
-      subst (λ b. HaveOwnRanks (cond b (change r) r ∷ set)) (sym here) (subst (λ l. HaveOwnRanks (change r ∷ l)) (sym kept) (apart, own.1))
+      subst (λ b. AreApart rank_of (cond b (change r) r ∷ set)) (sym here) (subst (λ l. AreApart rank_of (change r ∷ l)) (sym kept) (apart, own.1))
   | inr other ↦
       let each = all_other rows r.id are.3 in
-      subst (λ b. HaveOwnRanks (cond b (change r) r ∷ set)) (sym other)
+      subst (λ b. AreApart rank_of (cond b (change r) r ∷ set)) (sym other)
       (none_set (λ s. rank_of s == rank_of r) change id r.id high rows each own.0, own_set change id n r.id high rows are.3 above_rest own.1)
 ]
   where
@@ -161,34 +110,3 @@ own_set change id n low high (r ∷ rows) are above own = elim (cases_Bool (r.id
         let is : rank_of (change x) ≡ n = are.2 in
         let other : (rank_of (change x) == rank_of r) ≡ false = grind (arith, nat_tests, first_below) in
         (are.0, are.1, other, all_other xs x.id are.3)
-
--- a row of a rank that none has isn't there
-missed : (x y : Row) (id : ℕ) (rows : List Row) → list_any (λ z. rank_of z == rank_of x) rows ≡ false → rank_of y ≡ rank_of x → row_at rows id ≡ Some y → ⊥
-missed x y id [] none same found = cc found
-missed x y id (z ∷ rows) none same found = at (z.id == id) (rank_of z == rank_of x) refl none found (missed x y id rows)
-  where
-    at : (b t : Bool) → (rank_of z == rank_of x) ≡ t → (t || list_any (λ v. rank_of v == rank_of x) rows) ≡ false → cond b (Some z) (row_at rows id) ≡ Some y
-        → (list_any (λ v. rank_of v == rank_of x) rows ≡ false → rank_of y ≡ rank_of x → row_at rows id ≡ Some y → ⊥) → ⊥
-    at b true is none found rest = cc none
-    at true false is none found rest =
-        let one : z ≡ y = cc found in
-        let even : rank_of z ≡ rank_of x = ap (λ v. rank_of v) one ∙ same in
-        let test : (rank_of z == rank_of x) ≡ true = grind (arith, nat_tests) in
-        let clash : true ≡ false = sym test ∙ is in
-        cc clash
-    at false false is none found rest = rest none same found
-
--- one rank is one row
-pub one_row : (rows : List Row) (m n : ℕ) (r s : Row) → HaveOwnRanks rows → row_at rows m ≡ Some r → row_at rows n ≡ Some s → rank_of r ≡ rank_of s → r ≡ s
-one_row [] m n r s own there there' same = absurd (cc there)
-one_row (x ∷ rows) m n r s own there there' same = at (x.id == m) (x.id == n) there there' (one_row rows m n r s own.1)
-  where
-    no_other : (y : Row) (id : ℕ) → rank_of y ≡ rank_of x → row_at rows id ≡ Some y → ⊥
-    no_other y id same found = missed x y id rows own.0 same found
-
-    at : (a b : Bool) → cond a (Some x) (row_at rows m) ≡ Some r → cond b (Some x) (row_at rows n) ≡ Some s
-        → (row_at rows m ≡ Some r → row_at rows n ≡ Some s → rank_of r ≡ rank_of s → r ≡ s) → r ≡ s
-    at true true there there' rest = let one : x ≡ r = cc there in let two : x ≡ s = cc there' in sym one ∙ two
-    at true false there there' rest = let one : x ≡ r = cc there in absurd (no_other s n (sym same ∙ ap (λ v. rank_of v) (sym one)) there')
-    at false true there there' rest = let two : x ≡ s = cc there' in absurd (no_other r m (same ∙ ap (λ v. rank_of v) (sym two)) there)
-    at false false there there' rest = rest there there' same

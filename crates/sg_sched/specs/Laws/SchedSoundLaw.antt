@@ -22,11 +22,12 @@ use Rattle.sg_facts.specs.Laws.{AnswersAndKeeps, Passes, whole}
 use Rattle.sg_facts.proofs.RowLists.{more, changed, left, other}
 use Rattle.sg_slots.proofs.SoundRows.{none_applies, change, change_id, sound_more, sound_changed, sound_left}
 use Rattle.sg_slots.proofs.RowLaws.{next_of_first}
+use Rattle.sg_queues.proofs.Apart.{apart_left, apart_changed}
 use Rattle.sg_sched.specs.SchedFacts.{sched_facts}
 use Rattle.sg_sched.specs.SchedTable.{sched_table, next_rank, rank_of, sched_answer}
 use Rattle.sg_sched.specs.Inside.SchedAnswer.{sched_wait_answer}
 use Rattle.sg_sched.specs.SchedSound.{IsSchedSound, IsRanked}
-use Rattle.sg_sched.specs.Inside.SchedRanks.{most, own_more, own_left, own_changed, own_set}
+use Rattle.sg_sched.specs.Inside.SchedRanks.{most, own_more, own_set}
 
 -- ---- ranks are counted words
 
@@ -117,7 +118,7 @@ module _ (o : Object) (client seq desc : ℕ) (args : List Value) where
   keeps_ranks fun good fields same sound = record {
     general = sound_changed sched_facts o (call_of fun) good fields sound.general;
     ranked = changed IsRanked IsRanked (change sched_facts (call_of fun) good) (change_id sched_facts (call_of fun) good) (λ r is. subst (λ n. 1 ≤ n) (sym (same_rank r)) is) 0 o.given o.rows sound.ranked;
-    apart = own_changed (change sched_facts (call_of fun) good) same_rank o.rows sound.apart;
+    apart = apart_changed rank_of (change sched_facts (call_of fun) good) same_rank o.rows sound.apart;
   }
     where
       same_rank : (r : Row) → rank_of (change sched_facts (call_of fun) good r) ≡ rank_of r
@@ -200,7 +201,7 @@ module _ (o : Object) (client seq desc : ℕ) (args : List Value) where
       record {
         general = sound_left sched_facts o desc refl childless.2 sound.general;
         ranked = left IsRanked (λ r. not (ends_with sched_facts o.rows desc r.id)) 0 o.given o.rows sound.ranked;
-        apart = own_left (λ r. not (ends_with sched_facts o.rows desc r.id)) o.rows sound.apart;
+        apart = apart_left rank_of (λ r. not (ends_with sched_facts o.rows desc r.id)) o.rows sound.apart;
       }
   keeps_at (suc (suc (suc (suc (suc (suc (suc (suc (suc n))))))))) good sound passes is = absurd (cc is)
 

@@ -1,10 +1,25 @@
--- Runs of scripts that may be played.
+-- Services that are played, runs of scripts that may be played, and what is said of a history.
+use Rattle.std.specs.Prelude.{List}
+use Rattle.std.specs.List.{Contains}
+use Rattle.sg_facts.specs.Facts.{Facts}
 use Rattle.sg_facts.specs.Interface.{Declared}
+use Rattle.sg_facts.specs.declared.entry.Entry.{Entry}
 use Rattle.sg_input.specs.sg_script.declared.script.Script.{Script}
 use Rattle.sg_load.specs.sg_plain.Playing.Playable.{IsPlayable}
 use Rattle.sg_report.specs.sg_hist.declared.ended.Ended.{Ended}
 use Rattle.sg_shared.specs.Runs.{Answering, IsRunOf}
+use Rattle.sg_top.specs.Answer.{services}
+use Rattle.sg_verify.specs.Verdicts.{IsVerdictOf}
+use Rattle.sg_verify.specs.declared.verdict.Verdict.{Verdict}
+
+-- facts are those of one of the services that are played
+abbrev pub IsPlayed : Facts → Type 0
+IsPlayed facts = Contains services facts
 
 -- a run of some script that may be played
 abbrev pub IsPlayOf : Declared → Answering → Ended → Type 0
 IsPlayOf i service ended = (script : Script) × IsPlayable i script × IsRunOf i service script ended
+
+-- this is said of a history, by what a service answers
+pub record IsVerdictBy (i : Declared) (service : Answering) (history : List Entry) (said : Verdict) : Type 0 where
+  pub is : IsVerdictOf i service.ask history said

@@ -4,20 +4,20 @@ use Rattle.sg_facts.specs.Facts.{facts_of}
 use Rattle.sg_facts.specs.Interface.{Declared}
 use Rattle.sg_input.specs.Inputs.{IsInputOf, IsReady}
 use Rattle.sg_input.specs.declared.input.Input.TheVariants.{Refused as refused_input}
-use Rattle.sg_shared.specs.Runs.{IsRunOf}
 use Rattle.sg_top.specs.Answer.{IsPlayOutput, services}
-use Rattle.sg_top.specs.Headline.{answering}
-use Rattle.sg_top.specs.Inside.Kinds.{kind_by}
-use Rattle.sg_top.proofs.Fitting.{of_kind, ready_for, ready_playable, ready_service, ready_stops}
+use Rattle.sg_top.specs.Inside.Plays.{IsPlayed}
+use Rattle.sg_top.proofs.Fitting.{ready_for, ready_playable, ready_service, ready_stops}
 use Rattle.sg_top.proofs.Running.{of_three, output_in_threads}
 use Rattle.sg_top.proofs.output.output_of_threads.Goals as goal
 
-pub share_kind-requires-clause-service : goal.share_kind-requires-clause-service
-share_kind-requires-clause-service g c = λ lifetimes longer.
-    of_kind c.in-Ready.accepted.facts c.kind_of-kind.result
+pub kind_of-kind-requires : goal.kind_of-kind-requires
+kind_of-kind-requires g c =
+    subst (λ (i : Declared). IsPlayed i.facts) (sym c.interface.ensures.same)
     (ready_service c.args.bytes.now c.in-Ready.accepted c.in-Ready.script
     (ready_for c.args.bytes.now (map facts_of c.shapes.result) c.in_ok-accepted.field-0 c.in-Ready.accepted c.in-Ready.accepted c.in-Ready.script c.shapes.ensures.facts c.in-Ready.is refl c.in_ok-accepted.ensures.input))
-    (c.kind_of-kind.ensures ∙ ap (λ (i : Declared). kind_by i.facts) c.interface.ensures.same)
+
+pub share_kind-requires-clause-service : goal.share_kind-requires-clause-service
+share_kind-requires-clause-service g c = λ lifetimes longer. sym (c.kind_of-kind.ensures ∙ ap (λ (i : Declared). i.facts) c.interface.ensures.same)
 
 pub share_kind-requires-clause-playable : goal.share_kind-requires-clause-playable
 share_kind-requires-clause-playable g c = λ lifetimes longer.
@@ -30,11 +30,7 @@ share_kind-requires-clause-stops g c = λ lifetimes longer.
     (ready_for c.args.bytes.now (map facts_of c.shapes.result) c.in_ok-accepted.field-0 c.in-Ready.accepted c.in-Ready.accepted c.in-Ready.script c.shapes.ensures.facts c.in-Ready.is refl c.in_ok-accepted.ensures.input)
 
 pub reported-requires-clause-service : goal.reported-requires-clause-service
-reported-requires-clause-service g c =
-    of_kind c.in-Ready.accepted.facts c.kind_of-kind.result
-    (ready_service c.args.bytes.now c.in-Ready.accepted c.in-Ready.script
-    (ready_for c.args.bytes.now (map facts_of c.shapes.result) c.in_ok-accepted.field-0 c.in-Ready.accepted c.in-Ready.accepted c.in-Ready.script c.shapes.ensures.facts c.in-Ready.is refl c.in_ok-accepted.ensures.input))
-    (c.kind_of-kind.ensures ∙ ap (λ (i : Declared). kind_by i.facts) c.interface.ensures.same)
+reported-requires-clause-service g c = sym (c.kind_of-kind.ensures ∙ ap (λ (i : Declared). i.facts) c.interface.ensures.same)
 
 pub reported-requires-clause-run : goal.reported-requires-clause-run
 reported-requires-clause-run g c = (
@@ -49,10 +45,8 @@ returns-in_ok-played-in-Ready g c =
     let ready : IsReady services c.args.bytes.now c.in-Ready.accepted c.in-Ready.script = ready_for c.args.bytes.now (map facts_of c.shapes.result) c.in_ok-accepted.field-0 c.in-Ready.accepted c.in-Ready.accepted c.in-Ready.script c.shapes.ensures.facts c.in-Ready.is refl c.in_ok-accepted.ensures.input in
     of_three c.reported.result _ _ _ _
     (λ o text status ended.
-    output_in_threads c.args.bytes.now c.in-Ready.accepted c.in-Ready.script c.args.shows c.in_ok-played-in-Ready.played o.ended o.status o.text ready
-    (ready_service c.args.bytes.now c.in-Ready.accepted c.in-Ready.script ready)
-    (subst (λ k. IsRunOf c.in-Ready.accepted (answering k) c.in-Ready.script c.in_ok-played-in-Ready.played)
-    (c.kind_of-kind.ensures ∙ ap (λ (i : Declared). kind_by i.facts) c.interface.ensures.same) c.in_ok-played-in-Ready.ensures)
+    output_in_threads c.args.bytes.now c.in-Ready.accepted c.kind_of-kind.result c.in-Ready.script c.args.shows c.in_ok-played-in-Ready.played o.ended o.status o.text ready
+    (c.kind_of-kind.ensures ∙ ap (λ (i : Declared). i.facts) c.interface.ensures.same) c.in_ok-played-in-Ready.ensures
     ended status text)
     c.reported.ensures.text c.reported.ensures.status c.reported.ensures.ended
 

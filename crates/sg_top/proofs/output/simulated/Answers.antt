@@ -1,22 +1,22 @@
 -- A script that is ready is played in one thread.
-use Rattle.std.proofs.Common.{◌∙◌, ap, map, refl, subst}
+use Rattle.std.proofs.Common.{◌∙◌, ap, map, refl, subst, sym}
 use Rattle.sg_facts.specs.Facts.{facts_of}
 use Rattle.sg_facts.specs.Interface.{Declared}
 use Rattle.sg_input.specs.Inputs.{IsReady}
-use Rattle.sg_shared.specs.Runs.{IsRunInOrder}
 use Rattle.sg_top.specs.Answer.{services}
-use Rattle.sg_top.specs.Headline.{answering}
-use Rattle.sg_top.specs.Inside.Kinds.{kind_by}
-use Rattle.sg_top.proofs.Fitting.{of_kind, ready_for, ready_playable, ready_service, ready_stops}
+use Rattle.sg_top.specs.Inside.Plays.{IsPlayed}
+use Rattle.sg_top.proofs.Fitting.{ready_for, ready_playable, ready_service, ready_stops}
 use Rattle.sg_top.proofs.Running.{of_three, output_in_order}
 use Rattle.sg_top.proofs.output.simulated.Goals as goal
 
-pub simulate_kind-requires-clause-service : goal.simulate_kind-requires-clause-service
-simulate_kind-requires-clause-service c =
-    of_kind c.in-Ready.accepted.facts c.kind_of-kind.result
+pub kind_of-kind-requires : goal.kind_of-kind-requires
+kind_of-kind-requires c =
+    subst (λ (i : Declared). IsPlayed i.facts) (sym c.interface.ensures.same)
     (ready_service c.args.bytes.now c.in-Ready.accepted c.in-Ready.script
     (ready_for c.args.bytes.now (map facts_of c.shapes.result) c.in_ok-accepted.field-0 c.in-Ready.accepted c.in-Ready.accepted c.in-Ready.script c.shapes.ensures.facts c.in-Ready.is refl c.in_ok-accepted.ensures.input))
-    (c.kind_of-kind.ensures ∙ ap (λ (i : Declared). kind_by i.facts) c.interface.ensures.same)
+
+pub simulate_kind-requires-clause-service : goal.simulate_kind-requires-clause-service
+simulate_kind-requires-clause-service c = sym (c.kind_of-kind.ensures ∙ ap (λ (i : Declared). i.facts) c.interface.ensures.same)
 
 pub simulate_kind-requires-clause-playable : goal.simulate_kind-requires-clause-playable
 simulate_kind-requires-clause-playable c =
@@ -29,11 +29,7 @@ simulate_kind-requires-clause-stops c =
     (ready_for c.args.bytes.now (map facts_of c.shapes.result) c.in_ok-accepted.field-0 c.in-Ready.accepted c.in-Ready.accepted c.in-Ready.script c.shapes.ensures.facts c.in-Ready.is refl c.in_ok-accepted.ensures.input)
 
 pub reported-requires-clause-service : goal.reported-requires-clause-service
-reported-requires-clause-service c =
-    of_kind c.in-Ready.accepted.facts c.kind_of-kind.result
-    (ready_service c.args.bytes.now c.in-Ready.accepted c.in-Ready.script
-    (ready_for c.args.bytes.now (map facts_of c.shapes.result) c.in_ok-accepted.field-0 c.in-Ready.accepted c.in-Ready.accepted c.in-Ready.script c.shapes.ensures.facts c.in-Ready.is refl c.in_ok-accepted.ensures.input))
-    (c.kind_of-kind.ensures ∙ ap (λ (i : Declared). kind_by i.facts) c.interface.ensures.same)
+reported-requires-clause-service c = sym (c.kind_of-kind.ensures ∙ ap (λ (i : Declared). i.facts) c.interface.ensures.same)
 
 pub reported-requires-clause-run : goal.reported-requires-clause-run
 reported-requires-clause-run c = (
@@ -48,9 +44,7 @@ returns-in_ok-played-in-Ready c =
     let ready : IsReady services c.args.bytes.now c.in-Ready.accepted c.in-Ready.script = ready_for c.args.bytes.now (map facts_of c.shapes.result) c.in_ok-accepted.field-0 c.in-Ready.accepted c.in-Ready.accepted c.in-Ready.script c.shapes.ensures.facts c.in-Ready.is refl c.in_ok-accepted.ensures.input in
     of_three c.reported.result _ _ _ _
     (λ o text status ended.
-    output_in_order c.args.bytes.now c.in-Ready.accepted c.in-Ready.script c.args.shows c.in_ok-played-in-Ready.played o.ended o.status o.text ready
-    (ready_service c.args.bytes.now c.in-Ready.accepted c.in-Ready.script ready)
-    (subst (λ k. IsRunInOrder c.in-Ready.accepted (answering k) c.in-Ready.script c.in_ok-played-in-Ready.played)
-    (c.kind_of-kind.ensures ∙ ap (λ (i : Declared). kind_by i.facts) c.interface.ensures.same) c.in_ok-played-in-Ready.ensures)
+    output_in_order c.args.bytes.now c.in-Ready.accepted c.kind_of-kind.result c.in-Ready.script c.args.shows c.in_ok-played-in-Ready.played o.ended o.status o.text ready
+    (c.kind_of-kind.ensures ∙ ap (λ (i : Declared). i.facts) c.interface.ensures.same) c.in_ok-played-in-Ready.ensures
     ended status text)
     c.reported.ensures.text c.reported.ensures.status c.reported.ensures.ended

@@ -9,19 +9,21 @@ use Rattle.sg_verify.specs.Verdicts.{IsVerdictOf}
 use Rattle.sg_report.specs.sg_hist.Clients.{MayBeMade}
 use Rattle.sg_top.specs.Answer.{services}
 use Rattle.sg_top.specs.Headline.{answering}
-use Rattle.sg_top.specs.Inside.Kinds.{kind_by}
-use Rattle.sg_top.proofs.Fitting.{of_kind}
+use Rattle.sg_top.specs.Inside.Plays.{IsPlayed}
 use Rattle.sg_top.proofs.Judging.{judged_output, may_be, printed_for, printed_service, refused_for}
 use Rattle.sg_top.proofs.Running.{of_three}
 use Rattle.sg_top.proofs.output.verified.Goals as goal
 
+pub kind_of-kind-requires : goal.kind_of-kind-requires
+kind_of-kind-requires c =
+    subst (λ (i : Declared). IsPlayed i.facts) (sym c.interface.ensures.same)
+    (printed_service c.args.bytes.now c.in-Ready.accepted c.in-Ready.history.items
+    (printed_for c.args.bytes.now (map facts_of c.shapes.result) c.in_ok-accepted.field-0 c.in-Ready.accepted c.in-Ready.history c.shapes.ensures.facts c.in-Ready.is c.in_ok-accepted.ensures.input))
+
 pub verify_kind-requires-clause-service : goal.verify_kind-requires-clause-service
 verify_kind-requires-clause-service c =
     ap (λ (i : Declared). i.facts) c.in_ok-tables-in-Ready.ensures.iface
-    ∙ of_kind c.in-Ready.accepted.facts c.kind_of-kind.result
-    (printed_service c.args.bytes.now c.in-Ready.accepted c.in-Ready.history.items
-    (printed_for c.args.bytes.now (map facts_of c.shapes.result) c.in_ok-accepted.field-0 c.in-Ready.accepted c.in-Ready.history c.shapes.ensures.facts c.in-Ready.is c.in_ok-accepted.ensures.input))
-    (c.kind_of-kind.ensures ∙ ap (λ (i : Declared). kind_by i.facts) c.interface.ensures.same)
+    ∙ sym (c.kind_of-kind.ensures ∙ ap (λ (i : Declared). i.facts) c.interface.ensures.same)
 
 pub verify_kind-requires-clause-calls : goal.verify_kind-requires-clause-calls
 verify_kind-requires-clause-calls c =
@@ -34,11 +36,10 @@ returns-in_ok-said-in-Ready-clause-said c =
     printed_for c.args.bytes.now (map facts_of c.shapes.result) c.in_ok-accepted.field-0 c.in-Ready.accepted c.in-Ready.history c.shapes.ensures.facts c.in-Ready.is c.in_ok-accepted.ensures.input in
     of_three c.judged.result _ _ _ _
     (λ o ended status line.
-    judged_output c.args.bytes.now c.in-Ready.accepted c.in-Ready.history.items c.in_ok-said-in-Ready.said o.status o.text ready
-    (printed_service c.args.bytes.now c.in-Ready.accepted c.in-Ready.history.items ready)
-    (subst (λ i. IsVerdictOf i (answering (kind_by c.in-Ready.accepted.facts)).ask c.in-Ready.history.items c.in_ok-said-in-Ready.said) c.in_ok-tables-in-Ready.ensures.iface
-    (subst (λ k. IsVerdictOf c.in_ok-tables-in-Ready.tables.iface (answering k).ask c.in-Ready.history.items c.in_ok-said-in-Ready.said)
-    (c.kind_of-kind.ensures ∙ ap (λ (i : Declared). kind_by i.facts) c.interface.ensures.same) c.in_ok-said-in-Ready.ensures))
+    judged_output c.args.bytes.now c.in-Ready.accepted c.kind_of-kind.result c.in-Ready.history.items c.in_ok-said-in-Ready.said o.status o.text ready
+    (c.kind_of-kind.ensures ∙ ap (λ (i : Declared). i.facts) c.interface.ensures.same)
+    (subst (λ i. IsVerdictOf i (answering c.kind_of-kind.result).ask c.in-Ready.history.items c.in_ok-said-in-Ready.said) c.in_ok-tables-in-Ready.ensures.iface
+    c.in_ok-said-in-Ready.ensures.is)
     status
     (line ∙ ap (λ (i : Declared). verdict_line_of i.facts c.in-Ready.history.items c.in_ok-said-in-Ready.said) c.interface-in-Ready.ensures.same))
     c.judged.ensures.ended c.judged.ensures.status c.judged.ensures.line

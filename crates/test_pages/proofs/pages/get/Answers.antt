@@ -1,6 +1,6 @@
 -- A client may ask for a page.
 use Rattle.std.proofs.Common.{◌<◌, ◌≤◌, sym, subst, arith}
-use Rattle.sg_facts.specs.Kinds.{MayAsk}
+use Rattle.test_asking.specs.sg_facts.Kinds.{MayAsk}
 use Rattle.sg_mm.specs.MmFacts.{mm_facts}
 use Rattle.sg_mm.specs.MmObject.{mm_object}
 use Rattle.test_pages.proofs.MayAsk.{may_get}

@@ -1,6 +1,6 @@
 -- A page that is there may be ended.
 use Rattle.std.proofs.Common.{◌≡◌, ◌<◌, true, not, sym, ◌∙◌, ap, subst, arith}
-use Rattle.sg_facts.specs.Kinds.{MayAsk}
+use Rattle.test_asking.specs.sg_facts.Kinds.{MayAsk}
 use Rattle.sg_mm.specs.sg_slots.Slots.{row_with}
 use Rattle.sg_mm.specs.MmFacts.{mm_facts}
 use Rattle.sg_mm.specs.MmObject.{mm_object}

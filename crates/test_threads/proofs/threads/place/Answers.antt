@@ -1,7 +1,7 @@
 -- The thread is there, so it may be placed.
 use Rattle.std.proofs.Common.{◌≡◌, true, sym, subst, rules}
 use Rattle.std.specs.Option.{option_copied, is_some}
-use Rattle.sg_facts.specs.Kinds.{MayAsk}
+use Rattle.test_asking.specs.sg_facts.Kinds.{MayAsk}
 use Rattle.sg_sched.specs.sg_slots.Slots.{row_with}
 use Rattle.sg_sched.specs.SchedFacts.{sched_facts}
 use Rattle.sg_sched.specs.SchedObject.{sched_object}

@@ -1,6 +1,0 @@
--- The services but that of events declare all of their shapes.
-use Rattle.sg_load.proofs.Wholes.{standard_is}
-use Rattle.sg_load.proofs.interface.standard_interface.Goals as goal
-
-pub returns-in-Locks : goal.returns-in-Locks
-returns-in-Locks c = standard_is c.args.service c.shape-shape.result c.in-Locks.is c.shape-shape.ensures c.declaring-in-Locks.result c.declaring-in-Locks.ensures

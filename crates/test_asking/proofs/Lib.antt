@@ -1,0 +1,1 @@
+pub use Rattle.sg_facts.proofs as sg_facts
